@@ -1,0 +1,6 @@
+pub mod Equal
+pub mod Lists
+pub mod Tables
+pub mod Sorts
+pub mod Splits
+pub mod Children

@@ -1,0 +1,104 @@
+-- The trees of a table.
+use Rattle.std.proofs.Common.{◌≡◌, ℕ, zero, suc, ◌+◌, ◌<◌, ◌≤◌, List, [], ◌∷◌, ◌++◌, length, get_or, refl, sym, ◌∙◌, ap, subst, arith, append_assoc, length-append}
+use Rattle.std.proofs.lemmas.List.{append-nil}
+use Rattle.candidate_ir.specs.Trees.{Tree, height}
+use Rattle.candidate_ir.specs.Kinds.{numbers}
+use Rattle.candidate_ir.specs.Nodes.{tree_at, node_tree, Fits, children_of, Extends}
+use Rattle.candidate_ir.specs.Table.{trees_after, IsRow, AreRows, Below, IsNodeOf}
+use Rattle.candidate_ir.specs.declared.ir.node.Row.{Row}
+use Rattle.candidate_ir.proofs.Lists.{Fits-below, Fits-append, node_tree-append, tree_at-append, tree_at-last}
+
+pub trees_after-push : (ts : List Tree) (rs : List Row) (r : Row) → trees_after ts (rs ++ r ∷ []) ≡ trees_after ts rs ++ node_tree (trees_after ts rs) r.node ∷ []
+trees_after-push ts [] r = refl
+trees_after-push ts (q ∷ rs) r = trees_after-push (ts ++ node_tree ts q.node ∷ []) rs r
+
+pub AreRows-push : (ts : List Tree) (rs : List Row) (r : Row) → AreRows ts rs → IsRow (trees_after ts rs) r → AreRows ts (rs ++ r ∷ [])
+AreRows-push ts [] r a i = (i, tt)
+AreRows-push ts (q ∷ rs) r a i = (a.0, AreRows-push (ts ++ node_tree ts q.node ∷ []) rs r a.1 i)
+
+pub trees_after-length : (ts : List Tree) (rs : List Row) → length (trees_after ts rs) ≡ length ts + length rs
+trees_after-length ts [] = omega arith
+trees_after-length ts (q ∷ rs) =
+    omega (arith, trees_after-length (ts ++ node_tree ts q.node ∷ []) rs, length-append ts (node_tree ts q.node ∷ []))
+
+pub trees_after-extends : (ts : List Tree) (rs : List Row) → Extends ts (trees_after ts rs)
+trees_after-extends ts [] = record { added = []; is = sym (append-nil ts) }
+trees_after-extends ts (q ∷ rs) =
+    let x = node_tree ts q.node in
+    let e : Extends (ts ++ x ∷ []) (trees_after (ts ++ x ∷ []) rs) = trees_after-extends (ts ++ x ∷ []) rs in
+    record { added = x ∷ e.added; is = e.is ∙ append_assoc ts (x ∷ []) e.added }
+
+-- what the row of number n says
+pub record RowAt (ts : List Tree) (n : ℕ) (r : Row) : Type 0 where
+  pub fits : Fits ts r.node
+  pub tree : tree_at ts n ≡ node_tree ts r.node
+  pub below : Below n (numbers (children_of r.node))
+  pub height_is : r.height ≡ height (tree_at ts n)
+  pub low : r.height ≤ 1024
+
+RowAt-grown : (ts us : List Tree) (n : ℕ) (r : Row) → n < length ts → RowAt ts n r → RowAt (ts ++ us) n r
+RowAt-grown ts us n r h a =
+    let t = tree_at-append ts us n h in
+    record {
+      fits = Fits-append ts us r.node a.fits;
+      tree = t ∙ (a.tree ∙ sym (node_tree-append ts us r.node a.fits));
+      below = a.below;
+      height_is = a.height_is ∙ ap height (sym t);
+      low = a.low;
+    }
+
+RowAt-last : (ts : List Tree) (r : Row) → IsRow ts r → RowAt (ts ++ node_tree ts r.node ∷ []) (length ts) r
+RowAt-last ts r i =
+    let x = node_tree ts r.node in
+    let t = tree_at-last ts x in
+    record {
+      fits = Fits-append ts (x ∷ []) r.node i.fits;
+      tree = t ∙ sym (node_tree-append ts (x ∷ []) r.node i.fits);
+      below = Fits-below ts r.node i.fits;
+      height_is = i.height_is ∙ ap height (sym t);
+      low = i.low;
+    }
+
+pub row_at : (ts : List Tree) (rs : List Row) (k n : ℕ) (r : Row) → AreRows ts rs → k < length rs → r ≡ get_or rs k r → n ≡ length ts + k → RowAt (trees_after ts rs) n r
+row_at ts [] k n r a h e m = absurd (omega arith)
+row_at ts (q ∷ rs) zero n r a h e m =
+    let x = node_tree ts q.node in
+    let g : Extends (ts ++ x ∷ []) (trees_after (ts ++ x ∷ []) rs) = trees_after-extends (ts ++ x ∷ []) rs in
+    let l : n ≡ length ts = omega arith in
+    let P : List Tree → Type 0 = λ us. RowAt us n r in
+    let Q : Row → Type 0 = λ p. RowAt (ts ++ x ∷ []) n p in
+    let R : ℕ → Type 0 = λ i. RowAt (ts ++ x ∷ []) i q in
+    subst P (sym g.is)
+    (RowAt-grown (ts ++ x ∷ []) g.added n r (omega (arith, length-append ts (x ∷ [])))
+    (subst Q (sym e) (subst R (sym l) (RowAt-last ts q a.0))))
+row_at ts (q ∷ rs) (suc k) n r a h e m =
+    row_at (ts ++ node_tree ts q.node ∷ []) rs k n r a.1 (omega arith) e
+    (omega (arith, length-append ts (node_tree ts q.node ∷ [])))
+
+pub table_length : (ts : List Tree) (rs : List Row) → trees_after [] rs ≡ ts → length ts ≡ length rs
+table_length ts rs e = ap length (sym e) ∙ (trees_after-length [] rs ∙ omega arith)
+
+pub table_row : (ts : List Tree) (rs : List Row) (n : ℕ) (r : Row) → trees_after [] rs ≡ ts → AreRows [] rs → n < length ts → r ≡ get_or rs n r → RowAt ts n r
+table_row ts rs n r e a h i =
+    let P : List Tree → Type 0 = λ us. RowAt us n r in
+    subst P e (row_at [] rs n n r a (omega (arith, table_length ts rs e)) i (omega arith))
+
+pub RowAt-node : (ts : List Tree) (n : ℕ) (r : Row) → RowAt ts n r → IsNodeOf ts n r.node
+RowAt-node ts n r a = record { fits = a.fits; tree = a.tree; below = a.below }
+
+pub record Pushed (ts : List Tree) (us : List Row) (r : Row) : Type 0 where
+  pub rows : AreRows [] us
+  pub trees : trees_after [] us ≡ ts ++ node_tree ts r.node ∷ []
+  pub count : length us ≡ length ts + 1
+
+pub pushed : (ts : List Tree) (rs us : List Row) (r : Row) → trees_after [] rs ≡ ts → us ≡ rs ++ r ∷ [] → AreRows [] rs → IsRow ts r → Pushed ts us r
+pushed ts rs us r e f a i =
+    let P : List Tree → Type 0 = λ xs. IsRow xs r in
+    let Q : List Row → Type 0 = λ xs. Pushed ts xs r in
+    let F : List Tree → List Tree = λ xs. xs ++ node_tree xs r.node ∷ [] in
+    subst Q (sym f)
+    (record {
+      rows = AreRows-push [] rs r a (subst P (sym e) i);
+      trees = trees_after-push [] rs r ∙ ap F e;
+      count = omega (arith, length-append rs (r ∷ []), table_length ts rs e);
+    })

@@ -1,0 +1,11 @@
+use Rattle.std.proofs.Common.{arith}
+use Rattle.candidate_ir.proofs.Tables.{table_length}
+use Rattle.candidate_ir.proofs.ir.nodes.Nodes.len.Goals as goal
+
+pub returns : goal.returns
+returns c =
+    let l = table_length c.args.self.now c.self.inside.rows.items c.self.view_is in
+    record {
+      is = omega (arith, l, c.self.inside.rows.ok.0, c.len.ensures);
+      most = omega (arith, l, c.self.inside.rows.ok.0, c.len.ensures, c.self.invariant.1);
+    }

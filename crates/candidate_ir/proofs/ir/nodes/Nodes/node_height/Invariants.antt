@@ -1,0 +1,9 @@
+use Rattle.std.proofs.Common.{◌≡◌, ◌≤◌, max, drop}
+use Rattle.candidate_ir.specs.Kinds.{numbers}
+use Rattle.candidate_ir.specs.Nodes.{tallest, trees_at, children_of}
+use Rattle.candidate_ir.proofs.ir.nodes.Nodes.node_height.Given as goal
+
+abbrev pub invariant-loop-i : goal.invariant-loop-i
+invariant-loop-i l =
+    let ks = numbers (children_of l.node) in
+    (l.highest ≤ 1024) × (max l.highest (tallest (trees_at l.self (drop l.i ks))) ≡ tallest (trees_at l.self ks))

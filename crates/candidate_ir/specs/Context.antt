@@ -1,0 +1,86 @@
+-- What is declared, and the trees of the numbers given so far.
+use Rattle.std.specs.Prelude.{◌≡◌, ℕ, Bool, true, false, not, ◌&&◌, ◌||◌, ◌==◌, nat_lt, Option, Some, None, List, [], ◌∷◌, ◌++◌, length, map, if◌then◌else◌}
+use Rattle.std.specs.List.{list_any}
+use Rattle.std.specs.Coded.{Coded, code_by, coded×, coded_ℕ, coded_list}
+use Rattle.candidate_ir.specs.declared.ir.kinds.VarKind.{VarKind}
+use Rattle.candidate_ir.specs.declared.ir.kinds.VarKind.TheVariants as V
+use Rattle.candidate_ir.specs.declared.decl.definition.CrateId.{CrateId}
+use Rattle.candidate_ir.specs.declared.decl.definition.DefinitionKind.{DefinitionKind}
+use Rattle.candidate_ir.specs.declared.decl.definition.DefinitionKind.TheVariants as D
+use Rattle.candidate_ir.specs.declared.decl.builder.DeclFault.{DeclFault}
+use Rattle.candidate_ir.specs.declared.decl.builder.DeclFault.TheVariants as F
+use Rattle.candidate_ir.specs.Trees.{Kind, TypeKind, ConstantKind, RegionKind, Tree}
+use Rattle.candidate_ir.specs.Nodes.{Extends}
+use Rattle.candidate_ir.specs.Worlds.{World, Definition, DefinitionSort, AdtSort, TraitSort}
+use Rattle.candidate_ir.specs.Declaration.{Declaration}
+
+pub record Context : Type 0 where
+  -- how many crates there are: they are numbered from 0
+  pub crates : ℕ
+  pub local : CrateId
+  -- the declarations by the numbers of their definitions
+  pub declarations : List Declaration
+  -- the trees by their numbers
+  pub trees : List Tree
+
+abbrev pub parameter_kind : VarKind → Kind
+parameter_kind V.Ty = TypeKind
+parameter_kind V.Const = ConstantKind
+parameter_kind V.Region = RegionKind
+
+abbrev pub sort_of : DefinitionKind → DefinitionSort
+sort_of (D.Adt shape flags) = AdtSort
+sort_of (D.Trait flags) = TraitSort
+
+abbrev pub fundamental_of : DefinitionKind → Bool
+fundamental_of (D.Adt shape flags) = flags.fundamental
+fundamental_of (D.Trait flags) = flags.fundamental
+
+abbrev pub definition_of : Declaration → Definition
+definition_of d = record {
+  sort = sort_of d.kind;
+  crate = d.crate.0;
+  parameters = map parameter_kind d.parameters;
+  is_fundamental = fundamental_of d.kind;
+}
+
+-- The world that the declarations make.
+abbrev pub world : Context → World
+world c = map definition_of c.declarations
+
+-- the context with one more declaration
+abbrev pub declared : Context → Declaration → Context
+declared c d = record c { declarations = c.declarations ++ d ∷ [] }
+
+-- The declarations stay, and every number has its tree still.
+pub record Grows (old new : Context) : Type 0 where
+  pub same : new ≡ record old { trees = new.trees }
+  pub kept : Extends old.trees new.trees
+
+-- whether the first parameter is a type
+abbrev pub begins_with_type : List VarKind → Bool
+begins_with_type (V.Ty ∷ ks) = true
+begins_with_type _ = false
+
+abbrev pub is_empty : List VarKind → Bool
+is_empty [] = true
+is_empty (k ∷ ks) = false
+
+abbrev pub is_unknown : ℕ → CrateId → Bool
+is_unknown crates c = not (nat_lt c.0 crates)
+
+-- The marker type has a type parameter first, and an auto trait has none besides `Self`.
+abbrev pub has_wrong_arity : DefinitionKind → List VarKind → Bool
+has_wrong_arity (D.Adt shape flags) ks = flags.phantom_data && not (begins_with_type ks)
+has_wrong_arity (D.Trait flags) ks = flags.auto && not (is_empty ks)
+
+-- whether a crate is named that was never given
+abbrev pub has_unknown_id : Context → Bool
+has_unknown_id c = is_unknown c.crates c.local || list_any (λ d. is_unknown c.crates d.crate) c.declarations
+
+abbrev pub has_arity_fault : Context → Bool
+has_arity_fault c = list_any (λ d. has_wrong_arity d.kind d.parameters) c.declarations
+
+-- The fault with the lowest number, if there is any.
+abbrev pub lowest_fault : Context → Option DeclFault
+lowest_fault c = if has_unknown_id c then Some F.UnknownId else (if has_arity_fault c then Some F.WrongArity else None)

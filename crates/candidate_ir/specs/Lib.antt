@@ -1,0 +1,11 @@
+pub mod Trees
+pub mod TreeCode
+pub mod Kinds
+pub mod Flags
+pub mod Nodes
+pub mod Table
+pub mod Words
+pub mod Worlds
+pub mod Declaration
+pub mod Context
+pub mod Names

@@ -1,0 +1,50 @@
+-- Which crate a definition belongs to, and which crates a reference names.
+use Rattle.std.specs.Prelude.{ℕ, Bool, true, false, Option, Some, None, slice_get, ◌==◌, ◌||◌}
+use Rattle.candidate_ir.specs.declared.ir.heads.Head.{Head}
+use Rattle.candidate_ir.specs.declared.ir.heads.Head.TheVariants as H
+use Rattle.candidate_ir.specs.declared.ir.heads.ConstHead.TheVariants as C
+use Rattle.candidate_ir.specs.declared.ir.heads.PartHead.TheVariants as P
+use Rattle.candidate_ir.specs.declared.ir.heads.PredHead.TheVariants as PH
+use Rattle.candidate_ir.specs.Trees.{holds, erase}
+use Rattle.candidate_ir.specs.Worlds.{World, Definition, Reference}
+
+-- The crate that counts as local, if any.
+abbrev pub CrateTest : Type 0
+CrateTest = Option ℕ
+
+abbrev pub passes_test : CrateTest → ℕ → Bool
+passes_test None crate = false
+passes_test (Some c) crate = crate == c
+
+abbrev pub crate_passes : CrateTest → Option Definition → Bool
+crate_passes test None = false
+crate_passes test (Some d) = passes_test test d.crate
+
+-- whether the definition belongs to the crate that counts as local
+abbrev pub is_local : World → CrateTest → ℕ → Bool
+is_local w test i = crate_passes test (slice_get w i)
+
+abbrev pub fundamental_flag : Option Definition → Bool
+fundamental_flag None = false
+fundamental_flag (Some d) = d.is_fundamental
+
+-- whether the definition has the flag `fundamental`
+abbrev pub is_fundamental : World → ℕ → Bool
+is_fundamental w i = fundamental_flag (slice_get w i)
+
+-- whether a definition in the head belongs to the crate
+abbrev pub names_here : World → CrateTest → Head → Bool
+names_here w test (H.Adt i) = is_local w test i.0
+names_here w test (H.Foreign i) = is_local w test i.0
+names_here w test (H.FnDef i) = is_local w test i.0
+names_here w test (H.Closure i k) = is_local w test i.0
+names_here w test (H.Alias k i) = is_local w test i.0
+names_here w test (H.Const (C.Unevaluated i)) = is_local w test i.0
+names_here w test (H.Part (P.Pred (PH.Trait i))) = is_local w test i.0
+names_here w test (H.Part (P.Pred (PH.Projection i))) = is_local w test i.0
+names_here w test (H.Part (P.Pred (PH.AutoTrait i))) = is_local w test i.0
+names_here w test _ = false
+
+-- A reference names a crate where its trait, or a definition in its erased trees, belongs to the crate.
+abbrev pub names : World → Reference → ℕ → Bool
+names w r c = is_local w (Some c) r.trait || holds (names_here w (Some c)) (erase r.arguments)

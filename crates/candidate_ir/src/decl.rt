@@ -1,0 +1,10 @@
+//! Declarations: a builder that takes them, and the context that types are made in.
+
+pub mod builder;
+pub mod context;
+pub mod definition;
+pub mod make;
+
+pub use builder::{DeclFault, Decls, DeclsBuilder};
+pub use context::Cx;
+pub use definition::{AdtFlags, AdtShape, CrateId, TraitFlags};

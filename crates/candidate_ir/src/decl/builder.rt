@@ -1,0 +1,224 @@
+//! The builder of declarations.
+
+ghost use Rattle.std.specs.Prelude.{◌≡◌, ◌+◌, ◌<◌, None, Some, [], length, IfOk, IfErr, MatchResult};
+ghost use Rattle.std.specs.List.{list_any};
+ghost use Rattle.candidate_ir.specs.Context.{declared, lowest_fault, has_unknown_id, has_arity_fault, is_unknown};
+ghost use Rattle.candidate_ir.specs.declared.decl.builder.DeclFault.TheVariants.{Memory};
+
+use crate::decl::definition::{
+    AdtFlags, AdtShape, CrateId, Declaration, DefinitionKind, TraitFlags,
+};
+use crate::ir::kinds::{AdtId, TraitId, VarKind};
+use crate::ir::nodes::Nodes;
+use std::alloc::{AllocError, AllocFailed, Global};
+use std::marker::Model;
+
+/// Why declarations were refused. `fault as u8` is its number, and of several faults the lowest is
+/// answered.
+#[derive(Clone, Copy, Debug, PartialEq, Eq)]
+pub enum DeclFault {
+    /// A number is named that the builder never gave.
+    UnknownId = 1,
+    /// An auto trait has parameters, or a marker type has no type parameter first.
+    WrongArity = 2,
+    /// Something of another kind stands where a type, a constant or a region should.
+    WrongKind = 3,
+    /// A trait is its own supertrait.
+    SupertraitCycle = 4,
+    /// A type with unsizing parameters isn't a struct with a field.
+    NoTail = 5,
+    /// A lang item's trait has the wrong parameters.
+    LangArity = 6,
+    /// A growth was refused.
+    Memory = 7,
+}
+
+impl From<AllocError> for DeclFault {
+    ghost from_gives = { λ _ e. e ≡ Memory };
+
+    fn from(_: AllocError) -> Self {
+        DeclFault::Memory
+    }
+}
+
+impl<T: Drop> From<AllocFailed<T>> for DeclFault {
+    ghost from_gives = { λ _ e. e ≡ Memory };
+
+    fn from(_: AllocFailed<T>) -> Self {
+        DeclFault::Memory
+    }
+}
+
+/// Takes declarations one after the other. A call that is refused leaves it as it was.
+#[derive(Drop)]
+pub struct DeclsBuilder {
+    crates: u32,
+    local: CrateId,
+    definitions: Vec<Declaration>,
+    nodes: Nodes,
+}
+
+impl Model for DeclsBuilder {
+    ghost use Rattle.std.specs.Coded.{codes};
+    ghost use Rattle.candidate_ir.specs.contracts.ir.heads.Head as head;
+    ghost use Rattle.candidate_ir.specs.TreeCode.{tree_code};
+    ghost use Rattle.candidate_ir.specs.Context as seen;
+    ghost Value = { seen.Context };
+
+    ghost coded = { Prim.hlevel (codes, tree_code head.the_row.coded) };
+
+    ghost view = { λ b. record { crates = b.crates; local = b.local; declarations = b.definitions.items; trees = b.nodes } };
+}
+
+/// Declarations without a fault.
+#[derive(Drop)]
+pub struct Decls {
+    pub(crate) crates: u32,
+    pub(crate) local: CrateId,
+    pub(crate) definitions: Vec<Declaration>,
+    pub(crate) nodes: Nodes,
+}
+
+impl Model for Decls {
+    ghost use Rattle.std.specs.Coded.{codes};
+    ghost use Rattle.candidate_ir.specs.contracts.ir.heads.Head as head;
+    ghost use Rattle.candidate_ir.specs.TreeCode.{tree_code};
+    ghost use Rattle.candidate_ir.specs.Context as seen;
+
+    ghost Value = { seen.Context };
+
+    ghost coded = { Prim.hlevel (codes, tree_code head.the_row.coded) };
+
+    ghost view = { λ b. record { crates = b.crates; local = b.local; declarations = b.definitions.items; trees = b.nodes } };
+}
+
+impl DeclsBuilder {
+    /// A builder without declarations. Crate 0 is the local one until another is set.
+    pub fn new(alloc: Global) -> Self
+        ensures { result ≡ record { crates = 0; local = record { 0 = 0 }; declarations = []; trees = [] } }
+    {
+        DeclsBuilder {
+            crates: 0,
+            local: CrateId(0),
+            definitions: Vec::new(alloc),
+            nodes: Nodes::new(alloc),
+        }
+    }
+
+    /// Adds a crate, with the next number.
+    ///
+    /// The only error is `DeclFault::Memory`, which comes where no number is left.
+    pub fn add_crate(&mut self) -> Result<CrateId, DeclFault>
+        ensures ok { IfOk result (λ c. (c.0 ≡ self.old.crates) × (self.new ≡ record self.old { crates = self.old.crates + 1 })) }
+        ensures unchanged { IfErr result (λ _. self.new ≡ self.old) }
+        ensures cause { IfErr result (λ e. (e ≡ DeclFault.Memory) × (self.old.crates ≡ 4294967295)) }
+    {
+        let number = self.crates;
+        if number == u32::MAX {
+            return Err(DeclFault::Memory);
+        }
+        self.crates = number + 1;
+        Ok(CrateId(number))
+    }
+
+    /// Makes the crate the local one.
+    pub fn set_local(&mut self, local: CrateId)
+        ensures { self.new ≡ record self.old { local = local } }
+    {
+        self.local = local;
+    }
+
+    fn add(&mut self, declaration: Declaration) -> Result<u32, DeclFault>
+        ensures number { IfOk result (λ n. n ≡ length self.old.declarations) }
+        ensures added { IfOk result (λ _. self.new ≡ declared self.old declaration) }
+        ensures unchanged { IfErr result (λ _. self.new ≡ self.old) }
+        ensures cause { IfErr result (λ e. e ≡ DeclFault.Memory) }
+    {
+        let number = self.definitions.len();
+        if number > u32::MAX as usize {
+            return Err(DeclFault::Memory);
+        }
+        self.definitions.push(declaration)?;
+        Ok(number as u32)
+    }
+
+    /// Declares an algebraic data type of the crate, with parameters of these kinds.
+    ///
+    /// The only error is `DeclFault::Memory`.
+    pub fn add_adt(
+        &mut self,
+        krate: CrateId,
+        shape: AdtShape,
+        parameters: &[VarKind],
+        flags: AdtFlags,
+    ) -> Result<AdtId, DeclFault>
+        ensures id { IfOk result (λ i. i.0 ≡ length self.old.declarations) }
+        ensures added { IfOk result (λ _. self.new ≡ declared self.old (record { crate = krate; parameters = parameters.now; kind = DefinitionKind.Adt shape flags })) }
+        ensures unchanged { IfErr result (λ _. self.new ≡ self.old) }
+        ensures cause { IfErr result (λ e. e ≡ DeclFault.Memory) }
+    {
+        let parameters = parameters.to_vec(*self.definitions.allocator())?;
+        Ok(AdtId(self.add(Declaration {
+            krate,
+            parameters,
+            kind: DefinitionKind::Adt(shape, flags),
+        })?))
+    }
+
+    /// Declares a trait of the crate, with parameters of these kinds after `Self`.
+    ///
+    /// The only error is `DeclFault::Memory`.
+    pub fn add_trait(
+        &mut self,
+        krate: CrateId,
+        parameters: &[VarKind],
+        flags: TraitFlags,
+    ) -> Result<TraitId, DeclFault>
+        ensures id { IfOk result (λ i. i.0 ≡ length self.old.declarations) }
+        ensures added { IfOk result (λ _. self.new ≡ declared self.old (record { crate = krate; parameters = parameters.now; kind = DefinitionKind.Trait flags })) }
+        ensures unchanged { IfErr result (λ _. self.new ≡ self.old) }
+        ensures cause { IfErr result (λ e. e ≡ DeclFault.Memory) }
+    {
+        let parameters = parameters.to_vec(*self.definitions.allocator())?;
+        Ok(TraitId(self.add(Declaration {
+            krate,
+            parameters,
+            kind: DefinitionKind::Trait(flags),
+        })?))
+    }
+
+    fn has_unknown_id(&self) -> bool
+        ensures { result ≡ has_unknown_id self.now }
+    {
+        self.local.is_unknown(self.crates)
+            || any_is_unknown(self.definitions.as_slice(), self.crates)
+    }
+
+    fn has_arity_fault(&self) -> bool
+        ensures { result ≡ has_arity_fault self.now }
+    {
+        self.definitions.iter().any(|definition| definition.has_wrong_arity())
+    }
+
+    /// The declarations, if they have no fault; else the fault with the lowest number. The builder
+    /// is spent in both cases.
+    pub fn finish(self) -> Result<Decls, DeclFault>
+        ensures { MatchResult result (λ d. (lowest_fault self ≡ None) × (d ≡ self)) (λ e. lowest_fault self ≡ Some e) }
+    {
+        if self.has_unknown_id() {
+            return Err(DeclFault::UnknownId);
+        }
+        if self.has_arity_fault() {
+            return Err(DeclFault::WrongArity);
+        }
+        let DeclsBuilder { crates, local, definitions, nodes } = self;
+        Ok(Decls { crates, local, definitions, nodes })
+    }
+}
+
+/// Whether some definition is of none of the first so many crates.
+fn any_is_unknown(definitions: &[Declaration], crates: u32) -> bool
+    ensures { result ≡ list_any (λ d. is_unknown crates d.crate) definitions.now }
+{
+    definitions.iter().any(|definition| definition.krate().is_unknown(crates))
+}

@@ -1,0 +1,178 @@
+//! The context: declarations, and the table in which types are made.
+
+ghost use Rattle.std.specs.Prelude.{◌≡◌, ◌<◌, ◌↔◌, IsTrue, IfOk, IfErr, Some, None};
+ghost use Rattle.candidate_ir.specs.Context.{world, Grows};
+ghost use Rattle.candidate_ir.specs.Trees.{height, heights, tree_holds, holds};
+ghost use Rattle.candidate_ir.specs.Flags.{mark};
+ghost use Rattle.candidate_ir.specs.Names.{is_local, is_fundamental};
+ghost use Rattle.candidate_ir.specs.Words.{IsTy, IsRegion, IsArgs, ty_tree, region_tree, args_forest, KindFits, ListFits, kind_tree, region_kind_tree, list_forest, IsMkStop};
+
+use crate::decl::builder::Decls;
+use crate::decl::definition::{CrateId, Declaration};
+use crate::ir::heads::Flag;
+use crate::ir::kinds::{
+    AdtId, Args, ForeignId, GenericArg, Region, RegionKind, TraitId, Ty, TyKind,
+};
+use crate::ir::nodes::Nodes;
+use crate::ir::stop::Stop;
+use std::marker::Model;
+
+/// Declarations without a fault, and the types, constants, regions and lists made so far.
+///
+/// A number stands for one tree for good.
+#[derive(Drop)]
+pub struct Cx {
+    crates: u32,
+    local: CrateId,
+    definitions: Vec<Declaration>,
+    nodes: Nodes,
+}
+
+impl Model for Cx {
+    ghost use Rattle.std.specs.Coded.{codes};
+    ghost use Rattle.candidate_ir.specs.contracts.ir.heads.Head as head;
+    ghost use Rattle.candidate_ir.specs.TreeCode.{tree_code};
+    ghost use Rattle.candidate_ir.specs.Context as seen;
+
+    ghost Value = { seen.Context };
+
+    ghost coded = { Prim.hlevel (codes, tree_code head.the_row.coded) };
+
+    ghost view = { λ b. record { crates = b.crates; local = b.local; declarations = b.definitions.items; trees = b.nodes } };
+}
+
+impl Cx {
+    /// A context over the declarations; the numbers that their builder gave stay.
+    pub fn new(decls: Decls) -> Self
+        ensures { result ≡ decls }
+    {
+        let Decls { crates, local, definitions, nodes } = decls;
+        Cx { crates, local, definitions, nodes }
+    }
+
+    fn is_local(&self, definition: u32) -> bool
+        ensures { result ≡ is_local (world self.now) (Some self.now.local.0) definition }
+    {
+        match self.definitions.get(definition as usize) {
+            Some(declaration) => declaration.krate() == self.local,
+            None => false,
+        }
+    }
+
+    fn is_fundamental(&self, definition: u32) -> bool
+        ensures { result ≡ is_fundamental (world self.now) definition }
+    {
+        match self.definitions.get(definition as usize) {
+            Some(declaration) => declaration.is_fundamental(),
+            None => false,
+        }
+    }
+
+    /// Whether the type belongs to the local crate.
+    pub fn adt_is_local(&self, id: AdtId) -> bool
+        ensures { result ≡ is_local (world self.now) (Some self.now.local.0) id.0 }
+    {
+        self.is_local(id.0)
+    }
+
+    /// Whether the type has the flag `fundamental`.
+    pub fn adt_is_fundamental(&self, id: AdtId) -> bool
+        ensures { result ≡ is_fundamental (world self.now) id.0 }
+    {
+        self.is_fundamental(id.0)
+    }
+
+    /// Whether the foreign type belongs to the local crate.
+    pub fn foreign_is_local(&self, id: ForeignId) -> bool
+        ensures { result ≡ is_local (world self.now) (Some self.now.local.0) id.0 }
+    {
+        self.is_local(id.0)
+    }
+
+    /// Whether the trait belongs to the local crate.
+    pub fn trait_is_local(&self, id: TraitId) -> bool
+        ensures { result ≡ is_local (world self.now) (Some self.now.local.0) id.0 }
+    {
+        self.is_local(id.0)
+    }
+
+    /// Whether the trait has the flag `fundamental`.
+    pub fn trait_is_fundamental(&self, id: TraitId) -> bool
+        ensures { result ≡ is_fundamental (world self.now) id.0 }
+    {
+        self.is_fundamental(id.0)
+    }
+
+    /// The type of that kind.
+    ///
+    /// `Stop::Memory` comes where a growth was refused, `Stop::NodesFull` where no number is left or
+    /// the tree would be higher than 1,024. Neither changes the context.
+    pub fn mk_ty(&mut self, kind: TyKind) -> Result<Ty, Stop>
+        requires { KindFits self.old.trees kind }
+        ensures kept { Grows self.old self.new }
+        ensures sort { IfOk result (λ t. IsTy self.new.trees t) }
+        ensures tree { IfOk result (λ t. ty_tree self.new.trees t ≡ kind_tree self.old.trees kind) }
+        ensures unchanged { IfErr result (λ _. self.new ≡ self.old) }
+        ensures cause { IfErr result (λ s. IsMkStop self.old.trees (height (kind_tree self.old.trees kind)) s) }
+    {
+        self.nodes.mk_ty(kind)
+    }
+
+    /// The region of that kind; it stops as `mk_ty` does.
+    pub fn mk_region(&mut self, kind: RegionKind) -> Result<Region, Stop>
+        ensures kept { Grows self.old self.new }
+        ensures sort { IfOk result (λ r. IsRegion self.new.trees r) }
+        ensures tree { IfOk result (λ r. region_tree self.new.trees r ≡ region_kind_tree kind) }
+        ensures unchanged { IfErr result (λ _. self.new ≡ self.old) }
+        ensures cause { IfErr result (λ s. IsMkStop self.old.trees (height (region_kind_tree kind)) s) }
+    {
+        self.nodes.mk_region(kind)
+    }
+
+    /// The list of these arguments, which adds nothing to a height; it stops as `mk_ty` does.
+    pub fn mk_args(&mut self, list: &[GenericArg]) -> Result<Args, Stop>
+        requires { ListFits self.old.trees list.now }
+        ensures kept { Grows self.old self.new }
+        ensures sort { IfOk result (λ a. IsArgs self.new.trees a) }
+        ensures tree { IfOk result (λ a. args_forest self.new.trees a ≡ list_forest self.old.trees list.now) }
+        ensures unchanged { IfErr result (λ _. self.new ≡ self.old) }
+        ensures cause { IfErr result (λ s. IsMkStop self.old.trees (heights (list_forest self.old.trees list.now)) s) }
+    {
+        self.nodes.mk_args(list)
+    }
+
+    /// The kind of a type: making it again gives an equal tree.
+    pub fn kind(&self, ty: Ty) -> TyKind
+        requires { IsTy self.now.trees ty }
+        ensures fits { KindFits self.now.trees result }
+        ensures tree { kind_tree self.now.trees result ≡ ty_tree self.now.trees ty }
+    {
+        self.nodes.kind(ty)
+    }
+
+    /// The arguments of a list.
+    pub fn args(&self, args: Args) -> &[GenericArg]
+        requires { IsArgs self.now.trees args }
+        ensures fits { ListFits self.now.trees result.now }
+        ensures tree { list_forest self.now.trees result.now ≡ args_forest self.now.trees args }
+    {
+        self.nodes.args(args)
+    }
+
+    /// Whether two types are equal as trees.
+    pub fn same(&self, a: Ty, b: Ty) -> bool
+        requires a { IsTy self.now.trees a }
+        requires b { IsTy self.now.trees b }
+        ensures { IsTrue result ↔ (ty_tree self.now.trees a ≡ ty_tree self.now.trees b) }
+    {
+        self.nodes.same(a, b)
+    }
+
+    /// Whether a head with the flag's mark stands anywhere in the type.
+    pub fn has(&self, ty: Ty, flag: Flag) -> bool
+        requires { IsTy self.now.trees ty }
+        ensures { result ≡ tree_holds (mark flag) (ty_tree self.now.trees ty) }
+    {
+        self.nodes.has(ty, flag)
+    }
+}

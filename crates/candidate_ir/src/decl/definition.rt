@@ -1,0 +1,133 @@
+//! What a definition is: its crate, the kinds of its parameters, its flags.
+
+ghost use Rattle.std.specs.Prelude.{◌≡◌};
+ghost use Rattle.candidate_ir.specs.Context.{begins_with_type as begins};
+
+use crate::ir::kinds::VarKind;
+use std::marker::Model;
+
+/// A crate of the object language, numbered from 0 in the order in which crates are added.
+#[derive(Clone, Copy, Debug, PartialEq, Eq)]
+pub struct CrateId(pub u32);
+
+impl CrateId {
+    ghost use Rattle.std.specs.Prelude.{◌≡◌};
+    ghost use Rattle.candidate_ir.specs.Context.{is_unknown};
+
+    /// Whether it is none of the first so many crates.
+    pub(crate) fn is_unknown(self, crates: u32) -> bool
+        ensures { result ≡ is_unknown crates self }
+    {
+        self.0 >= crates
+    }
+}
+
+/// What an algebraic data type was declared as.
+#[derive(Clone, Copy, Debug, PartialEq, Eq)]
+pub enum AdtShape {
+    Struct,
+    Enum,
+    Union,
+}
+
+/// The flags of an algebraic data type; by default none is set.
+#[derive(Clone, Copy, Debug, Default, PartialEq, Eq)]
+pub struct AdtFlags {
+    /// The orphan check looks through it, as through `Box`.
+    pub fundamental: bool,
+    /// It is the marker type that owns a value of its first parameter.
+    pub phantom_data: bool,
+    /// Its field isn't dropped.
+    pub manually_drop: bool,
+    /// Some of its fields are unsafe.
+    pub unsafe_fields: bool,
+}
+
+/// The flags of a trait; by default none is set.
+#[derive(Clone, Copy, Debug, Default, PartialEq, Eq)]
+pub struct TraitFlags {
+    /// It holds of a type whose parts meet it, unless an impl says otherwise.
+    pub auto: bool,
+    /// It stands for its where clauses.
+    pub alias: bool,
+    /// Its impls are unsafe.
+    pub unsafe_: bool,
+    /// Adding an impl of it for all types is a breaking change.
+    pub fundamental: bool,
+    /// It can be the principal of a `dyn` type.
+    pub dyn_compatible: bool,
+    /// It is a bound that types have by default.
+    pub default: bool,
+}
+
+/// A definition besides its crate and its parameters.
+#[derive(Clone, Copy)]
+pub enum DefinitionKind {
+    Adt(AdtShape, AdtFlags),
+    Trait(TraitFlags),
+}
+
+impl DefinitionKind {
+    ghost use Rattle.std.specs.Prelude.{◌≡◌};
+    ghost use Rattle.candidate_ir.specs.Context.{fundamental_of};
+
+    pub(crate) fn is_fundamental(self) -> bool
+        ensures { result ≡ fundamental_of self }
+    {
+        match self {
+            DefinitionKind::Adt(_, flags) => flags.fundamental,
+            DefinitionKind::Trait(flags) => flags.fundamental,
+        }
+    }
+}
+
+/// One definition. Clauses see its parameters as a list.
+#[derive(Drop)]
+pub struct Declaration {
+    pub(crate) krate: CrateId,
+    pub(crate) parameters: Vec<VarKind>,
+    pub(crate) kind: DefinitionKind,
+}
+
+impl Model for Declaration {
+    ghost use Rattle.candidate_ir.specs.Declaration as seen;
+
+    ghost Value = { seen.Declaration };
+
+    ghost view = { λ d. record { crate = d.krate; parameters = d.parameters.items; kind = d.kind } };
+}
+
+impl Declaration {
+    ghost use Rattle.std.specs.Prelude.{◌≡◌};
+    ghost use Rattle.candidate_ir.specs.Context.{fundamental_of, has_wrong_arity};
+
+    pub(crate) fn krate(&self) -> CrateId
+        ensures { result ≡ self.now.crate }
+    {
+        self.krate
+    }
+
+    pub(crate) fn is_fundamental(&self) -> bool
+        ensures { result ≡ fundamental_of self.now.kind }
+    {
+        self.kind.is_fundamental()
+    }
+
+    /// Whether it has parameters that its flags don't allow.
+    pub(crate) fn has_wrong_arity(&self) -> bool
+        ensures { result ≡ has_wrong_arity self.now.kind self.now.parameters }
+    {
+        match self.kind {
+            DefinitionKind::Adt(_, flags) => {
+                flags.phantom_data && !begins_with_type(self.parameters.as_slice())
+            }
+            DefinitionKind::Trait(flags) => flags.auto && !self.parameters.is_empty(),
+        }
+    }
+}
+
+fn begins_with_type(parameters: &[VarKind]) -> bool
+    ensures { result ≡ begins parameters.now }
+{
+    matches!(parameters, [VarKind::Ty, ..])
+}

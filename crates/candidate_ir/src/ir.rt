@@ -1,0 +1,7 @@
+//! Types, constants and regions: their kinds, the heads of their trees, and the table that holds them.
+
+pub mod heads;
+pub mod kinds;
+pub mod node;
+pub mod nodes;
+pub mod stop;

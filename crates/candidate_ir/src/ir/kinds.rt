@@ -1,0 +1,468 @@
+//! Numbers of nodes, and the kinds of types, constants and regions over them.
+
+ghost use Rattle.std.specs.Prelude.{◌≡◌, ◌<◌, Some, length, slice_get};
+ghost use Rattle.candidate_ir.specs.Kinds.{arg_number, variable_of, ty_head, const_head, pred_head, ty_children, pred_children, numbers};
+
+use crate::ir::heads::{
+    Builtin, ConstHead, Head, PatternShape, PredHead, Signature, Variable, VariableSort,
+};
+
+/// A type of a context.
+#[derive(Clone, Copy, PartialEq, Eq)]
+pub struct Ty(pub u32);
+
+/// A constant of a context.
+#[derive(Clone, Copy, PartialEq, Eq)]
+pub struct Const(pub u32);
+
+/// A region of a context.
+#[derive(Clone, Copy, PartialEq, Eq)]
+pub struct Region(pub u32);
+
+/// A list of generic arguments of a context.
+#[derive(Clone, Copy, PartialEq, Eq)]
+pub struct Args(pub u32);
+
+/// A list of bounds of a `dyn` type of a context.
+#[derive(Clone, Copy, PartialEq, Eq)]
+pub struct Preds(pub u32);
+
+/// One bound of a `dyn` type, under its binder.
+#[derive(Clone, Copy, PartialEq, Eq)]
+pub struct Pred(pub u32);
+
+/// The signature of a closure, under its binder.
+#[derive(Clone, Copy, PartialEq, Eq)]
+pub struct Sig(pub u32);
+
+/// The variables of a binder.
+#[derive(Clone, Copy, PartialEq, Eq)]
+pub struct Vars(pub u32);
+
+/// One variable of a binder.
+#[derive(Clone, Copy, PartialEq, Eq)]
+pub struct Var(pub u32);
+
+#[derive(Clone, Copy, PartialEq, Eq)]
+pub enum GenericArg {
+    Ty(Ty),
+    Const(Const),
+    Region(Region),
+}
+
+#[derive(Clone, Copy, PartialEq, Eq)]
+pub struct AdtId(pub u32);
+
+#[derive(Clone, Copy, PartialEq, Eq)]
+pub struct ForeignId(pub u32);
+
+#[derive(Clone, Copy, PartialEq, Eq)]
+pub struct FnId(pub u32);
+
+#[derive(Clone, Copy, PartialEq, Eq)]
+pub struct ClosureId(pub u32);
+
+#[derive(Clone, Copy, PartialEq, Eq)]
+pub struct TraitId(pub u32);
+
+#[derive(Clone, Copy, PartialEq, Eq)]
+pub struct AssocId(pub u32);
+
+#[derive(Clone, Copy, PartialEq, Eq)]
+pub struct AliasId(pub u32);
+
+#[derive(Clone, Copy, PartialEq, Eq)]
+pub enum IntTy {
+    I8,
+    I16,
+    I32,
+    I64,
+    I128,
+    Isize,
+}
+
+#[derive(Clone, Copy, PartialEq, Eq)]
+pub enum UintTy {
+    U8,
+    U16,
+    U32,
+    U64,
+    U128,
+    Usize,
+}
+
+#[derive(Clone, Copy, PartialEq, Eq)]
+pub enum FloatTy {
+    F16,
+    F32,
+    F64,
+    F128,
+}
+
+#[derive(Clone, Copy, PartialEq, Eq)]
+pub enum Mutability {
+    Not,
+    Mut,
+}
+
+#[derive(Clone, Copy, PartialEq, Eq)]
+pub enum AliasKind {
+    Projection,
+    Opaque,
+    Inherent,
+    Free,
+}
+
+#[derive(Clone, Copy, PartialEq, Eq)]
+pub enum ClosureKind {
+    Fn,
+    FnMut,
+    FnOnce,
+}
+
+/// What a variable of a binder stands for.
+#[derive(Clone, Copy, PartialEq, Eq)]
+pub enum VarKind {
+    Ty,
+    Const,
+    Region,
+}
+
+#[derive(Clone, Copy, PartialEq, Eq)]
+pub enum InferTy {
+    TyVar(u32),
+    IntVar(u32),
+    FloatVar(u32),
+}
+
+#[derive(Clone, Copy, PartialEq, Eq)]
+pub struct Placeholder {
+    pub universe: u32,
+    pub index: u32,
+}
+
+/// A variable bound by the binder that is `depth` binders out, counted from 0.
+#[derive(Clone, Copy, PartialEq, Eq)]
+pub struct BoundVar {
+    pub depth: u32,
+    pub index: u32,
+}
+
+/// A value under a binder of these variables.
+#[derive(Clone, Copy)]
+pub struct Binder<T> {
+    pub vars: Vars,
+    pub value: T,
+}
+
+#[derive(Clone, Copy)]
+pub struct FnSig {
+    pub inputs: Args,
+    pub output: Ty,
+    pub safe: bool,
+    pub rust_abi: bool,
+    pub variadic: bool,
+}
+
+/// The inputs of a closure as a tuple type, and its output.
+#[derive(Clone, Copy)]
+pub struct ClosureSig {
+    pub inputs: Ty,
+    pub output: Ty,
+}
+
+#[derive(Clone, Copy)]
+pub struct ClosureArgs {
+    pub parent: Args,
+    pub kind: Option<ClosureKind>,
+    pub sig: Sig,
+    pub upvars: Ty,
+}
+
+#[derive(Clone, Copy)]
+pub struct AliasTy {
+    pub kind: AliasKind,
+    pub id: AliasId,
+    pub args: Args,
+}
+
+#[derive(Clone, Copy)]
+pub enum Pattern {
+    NotNull,
+    Range(Const, Const),
+}
+
+#[derive(Clone, Copy)]
+pub enum ExistentialPredicate {
+    Trait(TraitId, Args),
+    Projection(AssocId, Args, Ty),
+    AutoTrait(TraitId),
+}
+
+#[derive(Clone, Copy)]
+pub enum TyKind {
+    Bool,
+    Char,
+    Int(IntTy),
+    Uint(UintTy),
+    Float(FloatTy),
+    Str,
+    Never,
+    Adt(AdtId, Args),
+    Foreign(ForeignId),
+    Array(Ty, Const),
+    Slice(Ty),
+    Pat(Ty, Pattern),
+    RawPtr(Ty, Mutability),
+    Ref(Region, Ty, Mutability),
+    FnDef(FnId, Args),
+    FnPtr(Binder<FnSig>),
+    UnsafeBinder(Binder<Ty>),
+    Dynamic(Preds, Region),
+    Closure(ClosureId, ClosureArgs),
+    Tuple(Args),
+    Alias(AliasTy),
+    Param(u32),
+    Placeholder(Placeholder),
+    Bound(BoundVar),
+    Infer(InferTy),
+    Error,
+}
+
+#[derive(Clone, Copy)]
+pub enum ConstKind {
+    Value(u64),
+    Param(u32),
+    Placeholder(Placeholder),
+    Bound(BoundVar),
+    Infer(u32),
+    Unevaluated(AssocId, Args),
+    Error,
+}
+
+#[derive(Clone, Copy, PartialEq, Eq)]
+pub enum RegionKind {
+    Static,
+    Error,
+    Bound(BoundVar),
+    Placeholder(Placeholder),
+    Var(u32),
+}
+
+impl GenericArg {
+    pub(crate) fn number(self) -> u32
+        ensures { result ≡ arg_number self }
+    {
+        match self {
+            GenericArg::Ty(ty) => ty.0,
+            GenericArg::Const(constant) => constant.0,
+            GenericArg::Region(region) => region.0,
+        }
+    }
+}
+
+impl InferTy {
+    pub(crate) fn variable(self) -> Variable
+        ensures { result ≡ variable_of self }
+    {
+        match self {
+            InferTy::TyVar(number) => Variable {
+                sort: VariableSort::General,
+                number,
+            },
+            InferTy::IntVar(number) => Variable {
+                sort: VariableSort::Integer,
+                number,
+            },
+            InferTy::FloatVar(number) => Variable {
+                sort: VariableSort::Floating,
+                number,
+            },
+        }
+    }
+}
+
+impl TyKind {
+    pub(crate) fn head(self) -> Head
+        ensures { result ≡ ty_head self }
+    {
+        match self {
+            TyKind::Bool => Head::Builtin(Builtin::Bool),
+            TyKind::Char => Head::Builtin(Builtin::Char),
+            TyKind::Int(width) => Head::Builtin(Builtin::Int(width)),
+            TyKind::Uint(width) => Head::Builtin(Builtin::Uint(width)),
+            TyKind::Float(width) => Head::Builtin(Builtin::Float(width)),
+            TyKind::Str => Head::Builtin(Builtin::Str),
+            TyKind::Never => Head::Builtin(Builtin::Never),
+            TyKind::Adt(id, _) => Head::Adt(id),
+            TyKind::Foreign(id) => Head::Foreign(id),
+            TyKind::Array(_, _) => Head::Builtin(Builtin::Array),
+            TyKind::Slice(_) => Head::Builtin(Builtin::Slice),
+            TyKind::Pat(_, Pattern::NotNull) => Head::Builtin(Builtin::Pat(PatternShape::NotNull)),
+            TyKind::Pat(_, Pattern::Range(_, _)) => {
+                Head::Builtin(Builtin::Pat(PatternShape::Range))
+            }
+            TyKind::RawPtr(_, mutability) => Head::Builtin(Builtin::RawPtr(mutability)),
+            TyKind::Ref(_, _, mutability) => Head::Ref(mutability),
+            TyKind::FnDef(id, _) => Head::FnDef(id),
+            TyKind::FnPtr(sig) => Head::Builtin(Builtin::FnPtr(Signature {
+                safe: sig.value.safe,
+                rust_abi: sig.value.rust_abi,
+                variadic: sig.value.variadic,
+            })),
+            TyKind::UnsafeBinder(_) => Head::Builtin(Builtin::UnsafeBinder),
+            TyKind::Dynamic(_, _) => Head::Dynamic,
+            TyKind::Closure(id, args) => Head::Closure(id, args.kind),
+            TyKind::Tuple(_) => Head::Builtin(Builtin::Tuple),
+            TyKind::Alias(alias) => Head::Alias(alias.kind, alias.id),
+            TyKind::Param(index) => Head::Param(index),
+            TyKind::Placeholder(placeholder) => Head::Placeholder(placeholder),
+            TyKind::Bound(var) => Head::Bound(var),
+            TyKind::Infer(var) => Head::Infer(var.variable()),
+            TyKind::Error => Head::Error,
+        }
+    }
+
+    pub(crate) fn child_count(self) -> usize
+        ensures { result ≡ length (ty_children self) }
+    {
+        match self {
+            TyKind::Closure(_, _)
+            | TyKind::FnPtr(_)
+            | TyKind::Pat(_, Pattern::Range(_, _)) => 3,
+            TyKind::Ref(_, _, _)
+            | TyKind::Array(_, _)
+            | TyKind::UnsafeBinder(_)
+            | TyKind::Dynamic(_, _) => 2,
+            TyKind::Adt(_, _)
+            | TyKind::Slice(_)
+            | TyKind::Pat(_, Pattern::NotNull)
+            | TyKind::RawPtr(_, _)
+            | TyKind::FnDef(_, _)
+            | TyKind::Tuple(_)
+            | TyKind::Alias(_) => 1,
+            TyKind::Bool
+            | TyKind::Char
+            | TyKind::Int(_)
+            | TyKind::Uint(_)
+            | TyKind::Float(_)
+            | TyKind::Str
+            | TyKind::Never
+            | TyKind::Foreign(_)
+            | TyKind::Param(_)
+            | TyKind::Placeholder(_)
+            | TyKind::Bound(_)
+            | TyKind::Infer(_)
+            | TyKind::Error => 0,
+        }
+    }
+
+    pub(crate) fn child(self, i: usize) -> u32
+        requires { i < length (ty_children self) }
+        ensures { slice_get (numbers (ty_children self)) i ≡ Some result }
+    {
+        match self {
+            TyKind::Adt(_, args) | TyKind::FnDef(_, args) | TyKind::Tuple(args) => args.0,
+            TyKind::Array(ty, len) => if i == 0 { ty.0 } else { len.0 },
+            TyKind::Slice(ty) | TyKind::Pat(ty, Pattern::NotNull) | TyKind::RawPtr(ty, _) => ty.0,
+            TyKind::Pat(ty, Pattern::Range(from, to)) => if i == 0 {
+                ty.0
+            } else if i == 1 {
+                from.0
+            } else {
+                to.0
+            },
+            TyKind::Ref(region, ty, _) => if i == 0 { region.0 } else { ty.0 },
+            TyKind::FnPtr(sig) => if i == 0 {
+                sig.vars.0
+            } else if i == 1 {
+                sig.value.inputs.0
+            } else {
+                sig.value.output.0
+            },
+            TyKind::UnsafeBinder(inner) => if i == 0 { inner.vars.0 } else { inner.value.0 },
+            TyKind::Dynamic(preds, region) => if i == 0 { preds.0 } else { region.0 },
+            TyKind::Closure(_, args) => if i == 0 {
+                args.parent.0
+            } else if i == 1 {
+                args.sig.0
+            } else {
+                args.upvars.0
+            },
+            TyKind::Alias(alias) => alias.args.0,
+            TyKind::Bool
+            | TyKind::Char
+            | TyKind::Int(_)
+            | TyKind::Uint(_)
+            | TyKind::Float(_)
+            | TyKind::Str
+            | TyKind::Never
+            | TyKind::Foreign(_)
+            | TyKind::Param(_)
+            | TyKind::Placeholder(_)
+            | TyKind::Bound(_)
+            | TyKind::Infer(_)
+            | TyKind::Error => unreachable!(),
+        }
+    }
+}
+
+impl ConstKind {
+    pub(crate) fn head(self) -> Head
+        ensures { result ≡ const_head self }
+    {
+        match self {
+            ConstKind::Value(value) => Head::Const(ConstHead::Value(value)),
+            ConstKind::Param(index) => Head::Const(ConstHead::Param(index)),
+            ConstKind::Placeholder(placeholder) => {
+                Head::Const(ConstHead::Placeholder(placeholder))
+            }
+            ConstKind::Bound(var) => Head::Const(ConstHead::Bound(var)),
+            ConstKind::Infer(number) => Head::Infer(Variable {
+                sort: VariableSort::Constant,
+                number,
+            }),
+            ConstKind::Unevaluated(id, _) => Head::Const(ConstHead::Unevaluated(id)),
+            ConstKind::Error => Head::Const(ConstHead::Error),
+        }
+    }
+}
+
+impl Binder<ExistentialPredicate> {
+    pub(crate) fn head(self) -> PredHead
+        ensures { result ≡ pred_head self }
+    {
+        match self.value {
+            ExistentialPredicate::Trait(id, _) => PredHead::Trait(id),
+            ExistentialPredicate::Projection(id, _, _) => PredHead::Projection(id),
+            ExistentialPredicate::AutoTrait(id) => PredHead::AutoTrait(id),
+        }
+    }
+
+    pub(crate) fn child_count(self) -> usize
+        ensures { result ≡ length (pred_children self) }
+    {
+        match self.value {
+            ExistentialPredicate::Trait(_, _) => 2,
+            ExistentialPredicate::Projection(_, _, _) => 3,
+            ExistentialPredicate::AutoTrait(_) => 1,
+        }
+    }
+
+    pub(crate) fn child(self, i: usize) -> u32
+        requires { i < length (pred_children self) }
+        ensures { slice_get (numbers (pred_children self)) i ≡ Some result }
+    {
+        match self.value {
+            ExistentialPredicate::Trait(_, args) => if i == 0 { self.vars.0 } else { args.0 },
+            ExistentialPredicate::Projection(_, args, term) => if i == 0 {
+                self.vars.0
+            } else if i == 1 {
+                args.0
+            } else {
+                term.0
+            },
+            ExistentialPredicate::AutoTrait(_) => self.vars.0,
+        }
+    }
+}

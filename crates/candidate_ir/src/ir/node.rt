@@ -1,0 +1,96 @@
+//! One node of the table.
+
+ghost use Rattle.std.specs.Prelude.{◌≡◌, ◌<◌, Some, length, slice_get, IsTrue, ◌↔◌};
+ghost use Rattle.candidate_ir.specs.Kinds.{numbers};
+ghost use Rattle.candidate_ir.specs.Nodes.{head_of, children_of};
+
+use crate::ir::heads::{Head, ListHead, PartHead};
+use crate::ir::kinds::{
+    Binder, ClosureSig, ConstKind, ExistentialPredicate, GenericArg, Pred, RegionKind, TyKind, Var,
+    VarKind,
+};
+
+#[derive(Drop)]
+pub enum Node {
+    Ty(TyKind),
+    Const(ConstKind),
+    Region(RegionKind),
+    Args(Vec<GenericArg>),
+    Preds(Vec<Pred>),
+    Pred(Binder<ExistentialPredicate>),
+    Sig(Binder<ClosureSig>),
+    Vars(Vec<Var>),
+    Var(VarKind),
+}
+
+/// A node, with the height of its tree.
+#[derive(Drop)]
+pub struct Row {
+    pub node: Node,
+    pub height: u32,
+}
+
+impl Node {
+    pub(crate) fn head(&self) -> Head
+        ensures { result ≡ head_of self.now }
+    {
+        match self {
+            Node::Ty(kind) => kind.head(),
+            Node::Const(kind) => kind.head(),
+            Node::Region(kind) => Head::Region(*kind),
+            Node::Args(_) => Head::List(ListHead::Args),
+            Node::Preds(_) => Head::List(ListHead::Preds),
+            Node::Pred(bound) => Head::Part(PartHead::Pred(bound.head())),
+            Node::Sig(_) => Head::Part(PartHead::Sig),
+            Node::Vars(_) => Head::Part(PartHead::Vars),
+            Node::Var(kind) => Head::Part(PartHead::Var(*kind)),
+        }
+    }
+
+    pub(crate) fn child_count(&self) -> usize
+        ensures { result ≡ length (children_of self.now) }
+    {
+        match self {
+            Node::Ty(kind) => kind.child_count(),
+            Node::Const(ConstKind::Unevaluated(_, _)) => 1,
+            Node::Const(_) | Node::Region(_) | Node::Var(_) => 0,
+            Node::Args(list) => list.len(),
+            Node::Preds(list) => list.len(),
+            Node::Pred(bound) => bound.child_count(),
+            Node::Sig(_) => 3,
+            Node::Vars(list) => list.len(),
+        }
+    }
+
+    pub(crate) fn child(&self, i: usize) -> u32
+        requires { i < length (children_of self.now) }
+        ensures { slice_get (numbers (children_of self.now)) i ≡ Some result }
+    {
+        match self {
+            Node::Ty(kind) => kind.child(i),
+            Node::Const(ConstKind::Unevaluated(_, args)) => args.0,
+            Node::Const(_) | Node::Region(_) | Node::Var(_) => unreachable!(),
+            Node::Args(list) => list[i].number(),
+            Node::Preds(list) => list[i].0,
+            Node::Pred(bound) => bound.child(i),
+            Node::Sig(sig) => if i == 0 {
+                sig.vars.0
+            } else if i == 1 {
+                sig.value.inputs.0
+            } else {
+                sig.value.output.0
+            },
+            Node::Vars(list) => list[i].0,
+        }
+    }
+
+    /// Whether two nodes have one head and equally many children.
+    pub(crate) fn has_root_of(&self, other: &Node) -> bool
+        ensures { IsTrue result ↔ (head_of self.now ≡ head_of other.now) × (length (children_of self.now) ≡ length (children_of other.now)) }
+    {
+        if !self.head().is_same(other.head()) {
+            return false;
+        }
+        self.child_count() == other.child_count()
+    }
+}

@@ -1,0 +1,43 @@
+//! Why a call gave up.
+
+ghost use Rattle.std.specs.Prelude.{◌≡◌};
+ghost use Rattle.candidate_ir.specs.declared.ir.stop.Stop.TheVariants.{Memory};
+
+use std::alloc::{AllocError, AllocFailed};
+
+/// Why a call gave up; it is never an answer.
+///
+/// `stop as u8` is its number.
+#[derive(Clone, Copy, Debug, PartialEq, Eq)]
+pub enum Stop {
+    /// A growth was refused.
+    Memory = 1,
+    /// The orphan walk would visit a type inside 256 others.
+    WalkDepth = 2,
+    /// An alias chain has a 65th alias.
+    AliasDepth = 3,
+    /// A constant stands inside 128 others.
+    ConstDepth = 4,
+    /// A function's type, a closure or a parameter came to the orphan walk.
+    Unnameable = 5,
+    /// All 2^32 - 1 numbers are given, or a tree would be higher than 1,024.
+    NodesFull = 6,
+    /// The evaluator's own limit.
+    EvaluatorLimit = 7,
+}
+
+impl From<AllocError> for Stop {
+    ghost from_gives = { λ _ e. e ≡ Memory };
+
+    fn from(_: AllocError) -> Self {
+        Stop::Memory
+    }
+}
+
+impl<T: Drop> From<AllocFailed<T>> for Stop {
+    ghost from_gives = { λ _ e. e ≡ Memory };
+
+    fn from(_: AllocFailed<T>) -> Self {
+        Stop::Memory
+    }
+}
