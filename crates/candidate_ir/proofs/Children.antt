@@ -9,15 +9,16 @@ use Rattle.candidate_ir.specs.declared.ir.heads.Head.TheVariants as H
 use Rattle.candidate_ir.specs.declared.ir.kinds.GenericArg.{GenericArg}
 use Rattle.candidate_ir.specs.declared.ir.kinds.Pred.{Pred}
 use Rattle.candidate_ir.specs.declared.ir.kinds.Var.{Var}
-use Rattle.candidate_ir.specs.Trees.{Kind, PredicateKind, VariableKind, Tree, weight, heights, height, holds, tree_holds}
+use Rattle.candidate_ir.specs.Trees.{Kind, ArgumentsKind, is_list, is_list_kind, Tree, weight, heights, height, holds, tree_holds}
 use Rattle.candidate_ir.specs.Kinds.{Child, numbers, sorts, arg_child, arg_number, arg_kind}
 use Rattle.candidate_ir.specs.declared.ir.node.Node.{Node}
-use Rattle.candidate_ir.specs.Nodes.{tree_at, trees_at, rows, tallest, any_holds, children_of, node_tree, head_of, pred_child, var_child, Fits}
+use Rattle.candidate_ir.specs.Nodes.{kind_at, tree_at, trees_at, rows, tallest, any_holds, children_of, node_tree, head_of, pred_child, var_child, Fits}
 use Rattle.candidate_ir.specs.Table.{Below, IsNodeOf}
 use Rattle.candidate_ir.specs.Flags.{mark}
 use Rattle.candidate_ir.specs.declared.ir.heads.Flag.{Flag}
 use Rattle.candidate_ir.specs.declared.ir.heads.Flag.TheVariants as F
-use Rattle.candidate_ir.proofs.Splits.{nodes-agree, rows-holds, rows-height}
+use Rattle.candidate_ir.proofs.Lists.{below_kind, kind_of-tree_at}
+use Rattle.candidate_ir.proofs.Splits.{list-head, nodes-agree, rows-holds, rows-height}
 
 pub Below-get : (n : ℕ) (ks : List ℕ) (i k : ℕ) → Below n ks → slice_get ks i ≡ Some k → k < n
 Below-get n [] i k b e = absurd cc
@@ -170,3 +171,12 @@ mark-list F.ConstBound l = refl
 mark-list F.Param l = refl
 mark-list F.Alias l = refl
 mark-list F.Error l = refl
+
+-- what is marked in a list stands among its members
+pub list-holds : (ts : List Tree) (n : ℕ) (f : Flag) → kind_at ts n ≡ ArgumentsKind
+    → tree_holds (mark f) (tree_at ts n) ≡ holds (mark f) (tree_at ts n).children
+list-holds ts n f e =
+    let t = tree_at ts n in
+    let k : is_list t.head ≡ true = ap is_list_kind (sym (kind_of-tree_at ts n (below_kind ts n ArgumentsKind refl e)) ∙ e) in
+    let l = list-head t.head k in
+    or-false (mark f t.head) (holds (mark f) t.children) (ap (mark f) l.1 ∙ mark-list f l.0)

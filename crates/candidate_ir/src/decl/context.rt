@@ -2,7 +2,7 @@
 
 ghost use Rattle.std.specs.Prelude.{◌≡◌, ◌<◌, ◌↔◌, IsTrue, IfOk, IfErr, Some, None};
 ghost use Rattle.candidate_ir.specs.Context.{world, Grows};
-ghost use Rattle.candidate_ir.specs.Trees.{height, heights, tree_holds, holds};
+ghost use Rattle.candidate_ir.specs.Trees.{height, heights, tree_holds, holds, is_param};
 ghost use Rattle.candidate_ir.specs.Flags.{mark};
 ghost use Rattle.candidate_ir.specs.Names.{is_local, is_fundamental};
 ghost use Rattle.candidate_ir.specs.Words.{IsTy, IsRegion, IsArgs, ty_tree, region_tree, args_forest, KindFits, ListFits, kind_tree, region_kind_tree, list_forest, IsMkStop};
@@ -11,7 +11,7 @@ use crate::decl::builder::Decls;
 use crate::decl::definition::{CrateId, Declaration};
 use crate::ir::heads::Flag;
 use crate::ir::kinds::{
-    AdtId, Args, ForeignId, GenericArg, Region, RegionKind, TraitId, Ty, TyKind,
+    AdtId, Args, ForeignId, GenericArg, Region, RegionKind, TraitId, TraitRef, Ty, TyKind,
 };
 use crate::ir::nodes::Nodes;
 use crate::ir::stop::Stop;
@@ -174,5 +174,13 @@ impl Cx {
         ensures { result ≡ tree_holds (mark flag) (ty_tree self.now.trees ty) }
     {
         self.nodes.has(ty, flag)
+    }
+
+    /// Whether a parameter stands anywhere in the reference.
+    pub fn has_param(&self, trait_ref: TraitRef) -> bool
+        requires { IsArgs self.now.trees trait_ref.args }
+        ensures { result ≡ holds is_param (args_forest self.now.trees trait_ref.args) }
+    {
+        self.nodes.args_have(trait_ref.args, Flag::Param)
     }
 }

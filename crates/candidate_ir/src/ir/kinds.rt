@@ -8,67 +8,68 @@ use crate::ir::heads::{
 };
 
 /// A type of a context.
-#[derive(Clone, Copy, PartialEq, Eq)]
+#[derive(Clone, Copy, Debug, PartialEq, Eq)]
 pub struct Ty(pub u32);
 
 /// A constant of a context.
-#[derive(Clone, Copy, PartialEq, Eq)]
+#[derive(Clone, Copy, Debug, PartialEq, Eq)]
 pub struct Const(pub u32);
 
 /// A region of a context.
-#[derive(Clone, Copy, PartialEq, Eq)]
+#[derive(Clone, Copy, Debug, PartialEq, Eq)]
 pub struct Region(pub u32);
 
 /// A list of generic arguments of a context.
-#[derive(Clone, Copy, PartialEq, Eq)]
+#[derive(Clone, Copy, Debug, PartialEq, Eq)]
 pub struct Args(pub u32);
 
 /// A list of bounds of a `dyn` type of a context.
-#[derive(Clone, Copy, PartialEq, Eq)]
+#[derive(Clone, Copy, Debug, PartialEq, Eq)]
 pub struct Preds(pub u32);
 
 /// One bound of a `dyn` type, under its binder.
-#[derive(Clone, Copy, PartialEq, Eq)]
+#[derive(Clone, Copy, Debug, PartialEq, Eq)]
 pub struct Pred(pub u32);
 
 /// The signature of a closure, under its binder.
-#[derive(Clone, Copy, PartialEq, Eq)]
+#[derive(Clone, Copy, Debug, PartialEq, Eq)]
 pub struct Sig(pub u32);
 
 /// The variables of a binder.
-#[derive(Clone, Copy, PartialEq, Eq)]
+#[derive(Clone, Copy, Debug, PartialEq, Eq)]
 pub struct Vars(pub u32);
 
 /// One variable of a binder.
-#[derive(Clone, Copy, PartialEq, Eq)]
+#[derive(Clone, Copy, Debug, PartialEq, Eq)]
 pub struct Var(pub u32);
 
-#[derive(Clone, Copy, PartialEq, Eq)]
+/// A type, a constant or a region of a context.
+#[derive(Clone, Copy, Debug, PartialEq, Eq)]
 pub enum GenericArg {
     Ty(Ty),
     Const(Const),
     Region(Region),
 }
 
-#[derive(Clone, Copy, PartialEq, Eq)]
+#[derive(Clone, Copy, Debug, PartialEq, Eq)]
 pub struct AdtId(pub u32);
 
-#[derive(Clone, Copy, PartialEq, Eq)]
+#[derive(Clone, Copy, Debug, PartialEq, Eq)]
 pub struct ForeignId(pub u32);
 
-#[derive(Clone, Copy, PartialEq, Eq)]
+#[derive(Clone, Copy, Debug, PartialEq, Eq)]
 pub struct FnId(pub u32);
 
-#[derive(Clone, Copy, PartialEq, Eq)]
+#[derive(Clone, Copy, Debug, PartialEq, Eq)]
 pub struct ClosureId(pub u32);
 
-#[derive(Clone, Copy, PartialEq, Eq)]
+#[derive(Clone, Copy, Debug, PartialEq, Eq)]
 pub struct TraitId(pub u32);
 
-#[derive(Clone, Copy, PartialEq, Eq)]
+#[derive(Clone, Copy, Debug, PartialEq, Eq)]
 pub struct AssocId(pub u32);
 
-#[derive(Clone, Copy, PartialEq, Eq)]
+#[derive(Clone, Copy, Debug, PartialEq, Eq)]
 pub struct AliasId(pub u32);
 
 #[derive(Clone, Copy, PartialEq, Eq)]
@@ -146,6 +147,13 @@ pub struct Placeholder {
 pub struct BoundVar {
     pub depth: u32,
     pub index: u32,
+}
+
+/// A trait with its arguments, of which the first is the self type.
+#[derive(Clone, Copy, Debug, PartialEq, Eq)]
+pub struct TraitRef {
+    pub def_id: TraitId,
+    pub args: Args,
 }
 
 /// A value under a binder of these variables.

@@ -1,7 +1,7 @@
 //! The table of nodes, which contracts see as the list of their trees.
 
 ghost use Rattle.std.specs.Prelude.{◌≡◌, ◌++◌, ◌∷◌, [], ◌+◌, ◌<◌, ◌≤◌, length, IfOk, IfErr, IsTrue, ◌↔◌};
-ghost use Rattle.candidate_ir.specs.Trees.{height, heights, tree_holds, kind_of};
+ghost use Rattle.candidate_ir.specs.Trees.{height, heights, holds, tree_holds, kind_of};
 ghost use Rattle.candidate_ir.specs.Flags.{mark};
 ghost use Rattle.candidate_ir.specs.Nodes.{tree_at, kind_at, node_tree, head_of, Fits, Extends};
 ghost use Rattle.candidate_ir.specs.Table.{IsNodeOf, IsRow};
@@ -345,5 +345,13 @@ impl Nodes {
         ensures { result ≡ tree_holds (mark flag) (ty_tree self.now ty) }
     {
         self.number_has(ty.0, flag)
+    }
+
+    /// Whether what the flag says stands anywhere in a list of arguments.
+    pub(crate) fn args_have(&self, args: Args, flag: Flag) -> bool
+        requires { IsArgs self.now args }
+        ensures { result ≡ holds (mark flag) (args_forest self.now args) }
+    {
+        self.number_has(args.0, flag)
     }
 }

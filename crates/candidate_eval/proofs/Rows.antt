@@ -1,0 +1,268 @@
+use Rattle.std.proofs.Common.{◌≡◌, ℕ, zero, suc, Bool, true, false, List, [], ◌∷◌, Some, None, refl, ◌==◌, if◌then◌else◌}
+use Rattle.candidate_ir.specs.declared.ir.stop.Stop.TheVariants.{WalkDepth, EvaluatorLimit}
+use Rattle.candidate_ir.specs.declared.ir.heads.Head.{Head}
+use Rattle.candidate_ir.specs.declared.ir.heads.Head.TheVariants as H
+use Rattle.candidate_ir.specs.declared.ir.heads.Builtin.TheVariants as B
+use Rattle.candidate_ir.specs.declared.ir.heads.PartHead.TheVariants as Part
+use Rattle.candidate_ir.specs.declared.ir.heads.PredHead.TheVariants as PH
+use Rattle.candidate_ir.specs.declared.ir.heads.VariableSort.TheVariants as V
+use Rattle.candidate_ir.specs.declared.ir.kinds.UintTy.{UintTy}
+use Rattle.candidate_ir.specs.declared.ir.kinds.UintTy.TheVariants as U
+use Rattle.candidate_ir.specs.declared.ir.kinds.RegionKind.TheVariants as R
+use Rattle.candidate_ir.specs.declared.ir.kinds.Mutability.TheVariants as M
+use Rattle.candidate_ir.specs.declared.ir.kinds.AliasKind.TheVariants as AK
+use Rattle.candidate_ir.specs.Trees.{Kind, TypeKind, Forest, none, tree, Tree}
+use Rattle.candidate_ir.specs.Worlds.{AdtSort, TraitSort, AssociatedTypeSort, ForeignSort, Definition, DefinitionSort, World}
+use Rattle.candidate_eval.specs.Orphan.{plain_check, plain_knowability, Knowability, Knowable, Upstream, Downstream, Answer, Passes, NonLocalInput, UncoveredInput, Faulty, Stopped, Refused, Local, Remote, Proper, Compat, orphan_answer, knowability, View, Sees, Fails, Entry}
+
+abbrev pub def : DefinitionSort → ℕ → List Kind → Bool → Definition
+def s c ks f = record { sort = s; crate = c; parameters = ks; is_fundamental = f }
+
+abbrev pub P : World
+P = def AdtSort 1 (TypeKind ∷ []) false  -- 0 Vec
+    ∷ def AdtSort 1 (TypeKind ∷ []) true  -- 1 Box
+    ∷ def AdtSort 1 (TypeKind ∷ TypeKind ∷ []) true  -- 2 Pair
+    ∷ def AdtSort 1 [] true  -- 3 Unit0
+    ∷ def AdtSort 0 [] false  -- 4 LocalType
+    ∷ def AdtSort 0 (TypeKind ∷ []) false  -- 5 Wrap
+    ∷ def TraitSort 1 [] false  -- 6 Trait
+    ∷ def TraitSort 0 [] false  -- 7 LocalTrait
+    ∷ def AssociatedTypeSort 1 (TypeKind ∷ []) false  -- 8 Out
+    ∷ def ForeignSort 0 [] false  -- 9 LF
+    ∷ def AdtSort 0 (TypeKind ∷ []) true  -- 10 LBox
+    ∷ []
+
+infixr 20 ◌&◌
+abbrev pub ◌&◌ : Forest → Forest → Forest
+none & b = b
+tree h a rest & b = tree h a (rest & b)
+
+abbrev pub one : Head → Forest → Forest
+one h a = tree h a none
+
+abbrev pub Vec : Forest → Forest
+Vec a = one (H.Adt (record { 0 = 0 })) a
+
+abbrev pub Box : Forest → Forest
+Box a = one (H.Adt (record { 0 = 1 })) a
+
+abbrev pub Pair : Forest → Forest → Forest
+Pair a b = one (H.Adt (record { 0 = 2 })) (a & b)
+
+abbrev pub Unit0 : Forest
+Unit0 = one (H.Adt (record { 0 = 3 })) none
+
+abbrev pub LocalType : Forest
+LocalType = one (H.Adt (record { 0 = 4 })) none
+
+abbrev pub Wrap : Forest → Forest
+Wrap a = one (H.Adt (record { 0 = 5 })) a
+
+abbrev pub Out : Forest → Forest
+Out a = one (H.Alias AK.Projection (record { 0 = 8 })) a
+
+abbrev pub u8 : Forest
+u8 = one (H.Builtin (B.Uint U.U8)) none
+
+abbrev pub u16 : Forest
+u16 = one (H.Builtin (B.Uint U.U16)) none
+
+abbrev pub var : ℕ → Forest
+var n = one (H.Infer (record { sort = V.General; number = n })) none
+
+abbrev pub empty : Forest
+empty = one (H.Builtin B.Tuple) none
+
+abbrev pub ref : Forest → Forest
+ref a = one (H.Ref M.Not) (one (H.Region R.Static) none & a)
+
+abbrev pub it : Forest → Tree
+it (tree h a rest) = record { head = h; children = a }
+it none = record { head = H.Error; children = none }
+
+abbrev pub no : Forest → Bool → Entry
+no a b = record { type = it a; is_first_input = b }
+
+abbrev pub local : Forest → Answer (Unit {0})
+local a = plain_check P 0 (Local Proper) 256 a
+
+abbrev pub compat : Forest → Answer (Unit {0})
+compat a = plain_check P 0 (Local Compat) 256 a
+
+abbrev pub remote : Forest → Answer (Unit {0})
+remote a = plain_check P 0 Remote 256 a
+
+row1 : local (Pair (Vec empty) (Box LocalType)) ≡ Passes
+row1 = refl
+
+row2 : local (Vec LocalType) ≡ NonLocalInput (no (Vec LocalType) true ∷ [])
+row2 = refl
+
+row3a : local (Vec (var 0) & LocalType) ≡ Passes
+row3a = refl
+
+row3b : local (Box (var 0) & LocalType) ≡ UncoveredInput (it (var 0)) (Some (it LocalType))
+row3b = refl
+
+row4a : local (Pair (Wrap (var 0)) (var 0)) ≡ Passes
+row4a = refl
+
+row4b : local (Wrap (Vec (var 0))) ≡ Passes
+row4b = refl
+
+row4c : local (Box (Vec (Wrap (var 0)))) ≡ NonLocalInput (no (Vec (Wrap (var 0))) true ∷ [])
+row4c = refl
+
+row5 : local (Pair u8 u16) ≡ NonLocalInput (no u8 true ∷ no u16 false ∷ [])
+row5 = refl
+
+row6 : local Unit0 ≡ NonLocalInput []
+row6 = refl
+
+row7a : local (Out (var 0) & LocalType) ≡ UncoveredInput (it (Out (var 0))) (Some (it LocalType))
+row7a = refl
+
+row7b : compat (Out (var 0) & LocalType) ≡ Passes
+row7b = refl
+
+abbrev pub know : ℕ → Forest → Knowability (Unit {0})
+know t a = plain_knowability P 0 256 (record { trait = t; arguments = a })
+
+row8a : know 6 (var 0) ≡ Downstream
+row8a = refl
+
+row8b : know 6 (Vec (var 0)) ≡ Upstream
+row8b = refl
+
+row8c : know 6 LocalType ≡ Knowable
+row8c = refl
+
+row9a : know 7 (Box (var 0)) ≡ Downstream
+row9a = refl
+
+row9b : know 7 (Vec (var 0)) ≡ Knowable
+row9b = refl
+
+-- a normaliser that answers `& u8` for `u8`
+abbrev pub is_u8 : Head → Bool
+is_u8 (H.Builtin (B.Uint U.U8)) = true
+is_u8 _ = false
+
+abbrev pub grow : View (Unit {0}) ℕ
+grow s t = record { seen = if is_u8 t.head then Sees (it (ref u8)) else Sees t; after = s }
+
+row10a : (orphan_answer P 0 (Local Proper) grow 256 tt u8).answer ≡ Faulty (Stopped WalkDepth)
+row10a = refl
+
+row10b : (orphan_answer P 0 (Local Proper) grow 256 tt (LocalType & u8)).answer ≡ Passes
+row10b = refl
+
+abbrev pub fail : View (Unit {0}) ℕ
+fail s t = record { seen = if is_u8 t.head then Fails (Refused 7) else Sees t; after = s }
+
+row11 : (orphan_answer P 0 (Local Proper) fail 256 tt (Box (var 0) & u8 & LocalType)).answer ≡ UncoveredInput (it (var 0)) None
+row11 = refl
+
+abbrev pub refs : ℕ → Forest → Forest
+refs zero a = a
+refs (suc n) a = ref (refs n a)
+
+row12a : local (refs 255 LocalType) ≡ Passes
+row12a = refl
+
+row12b : local (refs 256 LocalType) ≡ Faulty (Stopped WalkDepth)
+row12b = refl
+
+row13a : remote (Wrap u8 & Vec (var 0)) ≡ NonLocalInput (no (Wrap u8) true ∷ no (Vec (var 0)) false ∷ [])
+row13a = refl
+
+row13b : local (one H.Error none) ≡ Passes
+row13b = refl
+
+-- rows of the second stage
+rowR2_1 : local (Unit0 & u8) ≡ NonLocalInput (no u8 false ∷ [])
+rowR2_1 = refl
+
+rowR2_2 : compat (Out (var 0)) ≡ NonLocalInput []
+rowR2_2 = refl
+
+rowR2_3a : local (one (H.Foreign (record { 0 = 9 })) none) ≡ Passes
+rowR2_3a = refl
+
+rowR2_3b : remote (one (H.Foreign (record { 0 = 9 })) none) ≡ NonLocalInput (no (one (H.Foreign (record { 0 = 9 })) none) true ∷ [])
+rowR2_3b = refl
+
+rowR2_4a : local (one H.Dynamic (one (H.Part (Part.Pred (PH.Trait (record { 0 = 7 })))) (one (H.Part Part.Vars) none) & one (H.Region R.Static) none)) ≡ Passes
+rowR2_4a = refl
+
+rowR2_5 : know 6 (one (H.Adt (record { 0 = 10 })) (var 0)) ≡ Downstream
+rowR2_5 = refl
+
+rowR2_6a : know 6 (Out u8) ≡ Upstream
+rowR2_6a = refl
+
+rowR2_6b : know 7 (one H.Error none) ≡ Downstream
+rowR2_6b = refl
+
+rowR2_7 : remote (Box LocalType) ≡ NonLocalInput (no LocalType true ∷ [])
+rowR2_7 = refl
+
+-- a normaliser that counts its calls in the context, and answers a local type from the second `u16` on
+abbrev pub is_u16 : Head → Bool
+is_u16 (H.Builtin (B.Uint U.U16)) = true
+is_u16 _ = false
+
+abbrev pub changing : View ℕ ℕ
+changing s t =
+    if is_u16 t.head then record { seen = if s == 0 then Sees (it u8) else Sees (it LocalType); after = suc s }
+    else record { seen = Sees t; after = s }
+
+rowR13_2 : (orphan_answer P 0 (Local Proper) changing 256 0 (Pair u16 u16)).answer ≡ Passes
+rowR13_2 = refl
+
+rowR13_3 : (knowability P 0 changing 256 0 (record { trait = 6; arguments = u16 })).answer ≡ Knowable
+rowR13_3 = refl
+
+abbrev pub stops : View (Unit {0}) ℕ
+stops s t = record { seen = if is_u16 t.head then Fails (Stopped EvaluatorLimit) else Sees t; after = s }
+
+rowR13_4 : (orphan_answer P 0 (Local Proper) stops 256 tt (Box (var 0) & u16)).answer ≡ Faulty (Stopped EvaluatorLimit)
+rowR13_4 = refl
+
+abbrev pub counts : View ℕ ℕ
+counts s t = record { seen = Sees (it (Pair u8 u8)); after = suc s }
+
+-- the crates 1, 2 and 3 of row 14: La, Lb, Pair, T, and New of crate 4
+abbrev pub Q : World
+Q = def AdtSort 1 [] false ∷ def AdtSort 2 [] false ∷ def AdtSort 3 (TypeKind ∷ TypeKind ∷ []) true ∷ def TraitSort 3 [] false
+    ∷ def AdtSort 4 [] false ∷ []
+
+abbrev pub La : Forest
+La = one (H.Adt (record { 0 = 0 })) none
+
+abbrev pub Lb : Forest
+Lb = one (H.Adt (record { 0 = 1 })) none
+
+abbrev pub New : Forest
+New = one (H.Adt (record { 0 = 4 })) none
+
+row14a : plain_check Q 2 (Local Proper) 256 (Pair La (var 0)) ≡ UncoveredInput (it (var 0)) None
+row14a = refl
+
+row14b : plain_check Q 2 (Local Proper) 256 (Pair (var 0) Lb) ≡ UncoveredInput (it (var 0)) (Some (it Lb))
+row14b = refl
+
+row14c : plain_check Q 2 (Local Proper) 256 (Pair Lb (var 0)) ≡ Passes
+row14c = refl
+
+rowR4_1a : plain_check Q 1 (Local Proper) 256 (Pair La (var 0)) ≡ Passes
+rowR4_1a = refl
+
+rowR4_1b : plain_check Q 2 (Local Proper) 256 (Pair La Lb) ≡ Passes
+rowR4_1b = refl
+
+rowR4_4a : plain_knowability Q 2 256 (record { trait = 3; arguments = Pair La (var 0) }) ≡ Downstream
+rowR4_4a = refl
+
+rowR4_4b : plain_check Q 4 (Local Proper) 256 (Pair La New) ≡ Passes
+rowR4_4b = refl

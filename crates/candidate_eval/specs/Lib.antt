@@ -1,0 +1,5 @@
+pub mod Answers
+pub mod Substitutions
+pub mod Orphan
+pub mod Unify
+pub mod Laws

@@ -1,0 +1,20 @@
+//! What the layers above know of an evaluator.
+
+ghost use Rattle.std.specs.Prelude.{◌≡◌};
+ghost use Rattle.candidate_ir.specs.Trees.{Tree};
+ghost use Rattle.candidate_ir.specs.Words.{IsTy, ty_tree};
+
+use candidate_ir::decl::make::Make;
+use candidate_ir::ir::kinds::Ty;
+
+/// A context whose variables may have values.
+pub trait InferCtxtLike: Make {
+    /// The tree with the value in place of a variable that is its root.
+    ghost resolved: { Self → Tree → Tree };
+
+    /// The type with the value in place of a variable at its root; another type is its own answer.
+    fn shallow_resolve(&self, ty: Ty) -> Ty
+        requires { IsTy (Self.context self.now).trees ty }
+        ensures sort { IsTy (Self.context self.now).trees result }
+        ensures tree { ty_tree (Self.context self.now).trees result ≡ resolved self.now (ty_tree (Self.context self.now).trees ty) };
+}
