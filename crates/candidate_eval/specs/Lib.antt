@@ -1,3 +1,4 @@
+pub mod Normalizer
 pub mod Answers
 pub mod Substitutions
 pub mod Orphan

@@ -3,3 +3,4 @@
 
 pub mod coherence;
 pub mod eval;
+mod walk;

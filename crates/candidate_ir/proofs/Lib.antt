@@ -4,3 +4,5 @@ pub mod Tables
 pub mod Sorts
 pub mod Splits
 pub mod Children
+pub mod Principals
+pub mod Kept

@@ -1,11 +1,12 @@
 -- Which crate a definition belongs to, and which crates a reference names.
 use Rattle.std.specs.Prelude.{ℕ, Bool, true, false, Option, Some, None, slice_get, ◌==◌, ◌||◌}
+use Rattle.candidate_ir.specs.declared.ir.kinds.TraitId.{TraitId}
 use Rattle.candidate_ir.specs.declared.ir.heads.Head.{Head}
 use Rattle.candidate_ir.specs.declared.ir.heads.Head.TheVariants as H
 use Rattle.candidate_ir.specs.declared.ir.heads.ConstHead.TheVariants as C
 use Rattle.candidate_ir.specs.declared.ir.heads.PartHead.TheVariants as P
 use Rattle.candidate_ir.specs.declared.ir.heads.PredHead.TheVariants as PH
-use Rattle.candidate_ir.specs.Trees.{holds, erase}
+use Rattle.candidate_ir.specs.Trees.{Forest, none, tree, holds, erase}
 use Rattle.candidate_ir.specs.Worlds.{World, Definition, Reference}
 
 -- The crate that counts as local, if any.
@@ -48,3 +49,12 @@ names_here w test _ = false
 -- A reference names a crate where its trait, or a definition in its erased trees, belongs to the crate.
 abbrev pub names : World → Reference → ℕ → Bool
 names w r c = is_local w (Some c) r.trait || holds (names_here w (Some c)) (erase r.arguments)
+
+abbrev pub by_bound : Head → Option TraitId → Option TraitId
+by_bound (H.Part (P.Pred (PH.Trait i))) others = Some i
+by_bound _ others = others
+
+-- the trait of the first bound among the trees that has one
+abbrev pub principal_of : Forest → Option TraitId
+principal_of none = None
+principal_of (tree h below rest) = by_bound h (principal_of rest)

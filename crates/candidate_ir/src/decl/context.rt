@@ -4,14 +4,14 @@ ghost use Rattle.std.specs.Prelude.{◌≡◌, ◌<◌, ◌↔◌, IsTrue, IfOk,
 ghost use Rattle.candidate_ir.specs.Context.{world, Grows};
 ghost use Rattle.candidate_ir.specs.Trees.{height, heights, tree_holds, holds, is_param};
 ghost use Rattle.candidate_ir.specs.Flags.{mark};
-ghost use Rattle.candidate_ir.specs.Names.{is_local, is_fundamental};
-ghost use Rattle.candidate_ir.specs.Words.{IsTy, IsRegion, IsArgs, ty_tree, region_tree, args_forest, KindFits, ListFits, kind_tree, region_kind_tree, list_forest, IsMkStop};
+ghost use Rattle.candidate_ir.specs.Names.{is_local, is_fundamental, principal_of};
+ghost use Rattle.candidate_ir.specs.Words.{IsTy, IsRegion, IsArgs, IsPreds, preds_forest, ty_tree, region_tree, args_forest, KindFits, ListFits, kind_tree, region_kind_tree, list_forest, IsMkStop};
 
 use crate::decl::builder::Decls;
 use crate::decl::definition::{CrateId, Declaration};
 use crate::ir::heads::Flag;
 use crate::ir::kinds::{
-    AdtId, Args, ForeignId, GenericArg, Region, RegionKind, TraitId, TraitRef, Ty, TyKind,
+    AdtId, Args, ForeignId, GenericArg, Preds, Region, RegionKind, TraitId, TraitRef, Ty, TyKind,
 };
 use crate::ir::nodes::Nodes;
 use crate::ir::stop::Stop;
@@ -182,5 +182,13 @@ impl Cx {
         ensures { result ≡ holds is_param (args_forest self.now.trees trait_ref.args) }
     {
         self.nodes.args_have(trait_ref.args, Flag::Param)
+    }
+
+    /// The principal of the bounds of a `dyn` type, if they have one.
+    pub fn principal(&self, preds: Preds) -> Option<TraitId>
+        requires { IsPreds self.now.trees preds }
+        ensures { result ≡ principal_of (preds_forest self.now.trees preds) }
+    {
+        self.nodes.principal(preds)
     }
 }

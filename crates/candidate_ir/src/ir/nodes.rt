@@ -3,6 +3,7 @@
 ghost use Rattle.std.specs.Prelude.{◌≡◌, ◌++◌, ◌∷◌, [], ◌+◌, ◌<◌, ◌≤◌, length, IfOk, IfErr, IsTrue, ◌↔◌};
 ghost use Rattle.candidate_ir.specs.Trees.{height, heights, holds, tree_holds, kind_of};
 ghost use Rattle.candidate_ir.specs.Flags.{mark};
+ghost use Rattle.candidate_ir.specs.Names.{principal_of};
 ghost use Rattle.candidate_ir.specs.Nodes.{tree_at, kind_at, node_tree, head_of, Fits, Extends};
 ghost use Rattle.candidate_ir.specs.Table.{IsNodeOf, IsRow};
 ghost use Rattle.candidate_ir.specs.Words.{IsTy, IsConst, IsRegion, IsArgs, IsPreds, IsPred, IsSig, IsVars, IsVar, ty_tree, const_tree, region_tree, args_forest, preds_forest, pred_tree, sig_tree, vars_tree, var_tree, KindFits, ConstKindFits, ListFits, PredListFits, VarListFits, PredFits, SigFits, kind_tree, const_kind_tree, region_kind_tree, list_forest, pred_list_forest, pred_kind_tree, sig_kind_tree, vars_kind_tree, var_kind_tree, IsMkStop};
@@ -14,7 +15,7 @@ use std::marker::Model;
 use crate::ir::heads::Flag;
 use crate::ir::kinds::{
     Args, Binder, ClosureSig, Const, ConstKind, ExistentialPredicate, GenericArg, Pred, Preds,
-    Region, RegionKind, Sig, Ty, TyKind, Var, VarKind, Vars,
+    Region, RegionKind, Sig, TraitId, Ty, TyKind, Var, VarKind, Vars,
 };
 
 #[derive(Drop)]
@@ -353,5 +354,19 @@ impl Nodes {
         ensures { result ≡ holds (mark flag) (args_forest self.now args) }
     {
         self.number_has(args.0, flag)
+    }
+
+    /// The trait of the first bound that has one, which is the principal.
+    pub(crate) fn principal(&self, preds: Preds) -> Option<TraitId>
+        requires { IsPreds self.now preds }
+        ensures { result ≡ principal_of (preds_forest self.now preds) }
+    {
+        let bounds = self.preds(preds);
+        for i in 0..bounds.len() {
+            if let ExistentialPredicate::Trait(id, _) = self.pred(bounds[i]).value {
+                return Some(id);
+            }
+        }
+        None
     }
 }

@@ -1,0 +1,46 @@
+-- What is asked of a normaliser, a closure that may change a context, and what is known of its calls.
+use Rattle.std.specs.Prelude.{◌≡◌, ℕ, ◌<◌, ◌^◌, List, Result, Ok, Err, IfOk}
+use Rattle.std.specs.Fn.{Mut, Called}
+use Rattle.std.specs.Borrow.{MutBor}
+use Rattle.candidate_ir.specs.declared.ir.kinds.Ty.{Ty}
+use Rattle.candidate_ir.specs.Trees.{Tree}
+use Rattle.candidate_ir.specs.Context.{Context, Grows}
+use Rattle.candidate_ir.specs.Words.{IsTy, ty_tree}
+use Rattle.candidate_eval.specs.declared.coherence.NormalizeErr.{NormalizeErr}
+use Rattle.candidate_eval.specs.declared.coherence.NormalizeErr.TheVariants as N
+use Rattle.candidate_eval.specs.Orphan.{Fault, Refused, Stopped, Seen, Sees, Fails, Sight, View}
+
+-- what an answer shows, in the context that the call leaves
+abbrev pub shown_fault : {E : Type 0} → NormalizeErr E → Fault E
+shown_fault (N.Failed e) = Refused e
+shown_fault (N.Stop s) = Stopped s
+
+abbrev pub shown : {E : Type 0} → List Tree → Result Ty (NormalizeErr E) → Seen E
+shown ts (Ok t) = Sees (ty_tree ts t)
+shown ts (Err e) = Fails (shown_fault e)
+
+module _ {C F E : Type 0} (context : C → Context) (g : Mut F (MutBor C × (Ty × Unit {0})) (Result Ty (NormalizeErr E) × (MutBor C × Unit {0}))) where
+  -- Called as f at a context c and a type, the normaliser may answer r, and is then d with the context f'.
+  pub record Normalizes (f : F) (c : C) (t : Ty) (r : Result Ty (NormalizeErr E)) (f' : F) (c' : C) : Type 0 where
+    pub lent : MutBor C
+    pub lends : lent.now ≡ c
+    pub left : MutBor C
+    pub called : Called g f (lent, (t, tt)) (r, (left, tt)) f'
+    pub leaves : left.now ≡ c'
+
+  -- It may be called at every context that keeps the numbers of this one.
+  pub record MayNormalize (c0 : C) : Type 0 where
+    pub at : (f : F) (c : C) (t : Ty) (lent : MutBor C) → lent.now ≡ c → Grows (context c0) (context c)
+        → IsTy (context c).trees t → t.0 < 2 ^ 32 → g.pre f (lent, (t, tt))
+
+  -- It keeps the numbers itself, and answers a type of the context.
+  pub record KeepsNumbers (c0 : C) : Type 0 where
+    pub at : (f : F) (c : C) (t : Ty) (r : Result Ty (NormalizeErr E)) (f' : F) (c' : C) → Grows (context c0) (context c)
+        → IsTy (context c).trees t → t.0 < 2 ^ 32 → Normalizes f c t r f' c'
+        → Grows (context c) (context c') × IfOk r (λ u. IsTy (context c').trees u)
+
+  -- Its answers and effects are functions of the tree and of what it and the context are.
+  pub record IsFunction (c0 : C) (normal : View (F × C) E) : Type 0 where
+    pub at : (f : F) (c : C) (t : Ty) (r : Result Ty (NormalizeErr E)) (f' : F) (c' : C) → Grows (context c0) (context c)
+        → IsTy (context c).trees t → t.0 < 2 ^ 32 → Normalizes f c t r f' c'
+        → normal (f, c) (ty_tree (context c).trees t) ≡ record { seen = shown (context c').trees r; after = (f', c') }

@@ -1,0 +1,45 @@
+-- What a growing context keeps.
+use Rattle.std.proofs.Common.{◌≡◌, ℕ, ◌<◌, List, [], ◌∷◌, ◌++◌, length, map, refl, sym, ◌∙◌, ap, arith, append_assoc}
+use Rattle.std.proofs.lemmas.List.{append-nil}
+use Rattle.std.specs.Prelude.{All}
+use Rattle.candidate_ir.specs.declared.ir.kinds.Ty.{Ty}
+use Rattle.candidate_ir.specs.declared.ir.kinds.Args.{Args}
+use Rattle.candidate_ir.specs.declared.ir.kinds.GenericArg.{GenericArg}
+use Rattle.candidate_ir.specs.Trees.{Tree, TypeKind, ArgumentsKind}
+use Rattle.candidate_ir.specs.Nodes.{tree_at, kind_at, Extends}
+use Rattle.candidate_ir.specs.Context.{Context, Grows, world}
+use Rattle.candidate_ir.specs.Words.{IsTy, IsArgs, ty_tree, args_forest}
+use Rattle.candidate_ir.proofs.Lists.{below_kind, kind_at-append, tree_at-append}
+
+number-kept : (old new : List Tree) (n : ℕ) → Extends old new → n < length old
+    → (kind_at new n ≡ kind_at old n) × (tree_at new n ≡ tree_at old n)
+number-kept old new n e h = (
+  ap (λ (ts : List Tree). kind_at ts n) e.is ∙ kind_at-append old e.added n h,
+  ap (λ (ts : List Tree). tree_at ts n) e.is ∙ tree_at-append old e.added n h,
+)
+
+-- a type stays a type, with its tree
+pub ty-kept : (old new : Context) (t : Ty) → Grows old new → IsTy old.trees t
+    → IsTy new.trees t × (ty_tree new.trees t ≡ ty_tree old.trees t)
+ty-kept old new t g h =
+    let k = number-kept old.trees new.trees t.0 g.kept (below_kind old.trees t.0 TypeKind refl h) in
+    (k.0 ∙ h, k.1)
+
+-- a list stays a list, with its members
+pub args-kept : (old new : Context) (a : Args) → Grows old new → IsArgs old.trees a
+    → IsArgs new.trees a × (args_forest new.trees a ≡ args_forest old.trees a)
+args-kept old new a g h =
+    let k = number-kept old.trees new.trees a.0 g.kept (below_kind old.trees a.0 ArgumentsKind refl h) in
+    (k.0 ∙ h, ap (λ (t : Tree). t.children) k.1)
+
+pub grows-refl : (c : Context) → Grows c c
+grows-refl c = record { same = refl; kept = record { added = []; is = sym (append-nil c.trees) } }
+
+pub grows-trans : (a b c : Context) → Grows a b → Grows b c → Grows a c
+grows-trans a b c g h = record {
+  same = h.same ∙ ap (λ (x : Context). let y : Context = record x { trees = c.trees } in y) g.same;
+  kept = record { added = g.kept.added ++ h.kept.added; is = h.kept.is ∙ (ap (λ (ts : List Tree). ts ++ h.kept.added) g.kept.is ∙ append_assoc a.trees g.kept.added h.kept.added) };
+}
+
+pub world-kept : (old new : Context) → Grows old new → (world new ≡ world old) × (new.local ≡ old.local)
+world-kept old new g = (ap world g.same, ap (λ (c : Context). c.local) g.same)
