@@ -4,3 +4,5 @@ pub mod Substitutions
 pub mod Orphan
 pub mod Unify
 pub mod Laws
+pub mod Table
+pub mod Shapes

@@ -3,4 +3,5 @@
 
 pub mod coherence;
 pub mod eval;
+mod table;
 mod walk;

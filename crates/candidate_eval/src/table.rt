@@ -1,18 +1,20 @@
 //! How the orphan check takes a view: as an item of a class, or by a walk below it.
 
-ghost use Rattle.std.specs.Prelude.{◌≡◌, ◌∷◌, [], Some};
+ghost use Rattle.std.specs.Prelude.{◌≡◌};
 ghost use Rattle.candidate_ir.specs.Context.{world};
 ghost use Rattle.candidate_ir.specs.Names.{is_local};
 ghost use Rattle.candidate_ir.specs.Trees.{tree_holds, is_loose};
-ghost use Rattle.candidate_ir.specs.Words.{IsTy, ty_tree, KindFits, kind_tree};
-ghost use Rattle.candidate_eval.specs.Orphan.{crate_test};
-ghost use Rattle.candidate_eval.specs.Table.{loose_in, projection_in, loose_alias_in, owned_in};
+ghost use Rattle.candidate_ir.specs.Words.{IsTy, IsPreds, ty_tree, preds_forest, KindFits, kind_tree};
+ghost use Rattle.candidate_eval.specs.Orphan.{crate_test, principal_passes};
+ghost use Rattle.candidate_eval.specs.Table.{loose_in, loose_alias_in, owned_in};
 ghost use Rattle.candidate_eval.specs.Shapes.{IsShape};
 
 use crate::coherence::{InCrate, OrphanCheckMode};
 use candidate_ir::decl::Cx;
 use candidate_ir::ir::heads::Flag;
-use candidate_ir::ir::kinds::{AdtId, AliasKind, Args, ForeignId, TraitId, Ty, TyKind};
+use candidate_ir::ir::kinds::{
+    AdtId, AliasKind, Args, ForeignId, Pattern, Preds, TraitId, Ty, TyKind,
+};
 
 /// The classes of the items of a frontier.
 #[derive(Clone, Copy, PartialEq, Eq)]
@@ -90,4 +92,87 @@ fn trait_is_local(cx: &Cx, in_crate: InCrate, id: TraitId) -> bool
         InCrate::Local { .. } => cx.trait_is_local(id),
         InCrate::Remote => false,
     }
+}
+
+fn shape_of_adt(cx: &Cx, in_crate: InCrate, id: AdtId, args: Args) -> Shape
+    requires { KindFits cx.now.trees (TyKind.Adt id args) }
+    ensures { IsShape cx.now in_crate (kind_tree cx.now.trees (TyKind.Adt id args)) result }
+{
+    if adt_is_local(cx, in_crate, id) {
+        Shape::Item(ViewClass::Local)
+    } else if cx.adt_is_fundamental(id) {
+        Shape::Arguments(args)
+    } else {
+        Shape::Item(ViewClass::NonLocal)
+    }
+}
+
+fn principal_class(cx: &Cx, in_crate: InCrate, preds: Preds) -> ViewClass
+    requires { IsPreds cx.now.trees preds }
+    ensures { result ≡ owned_in (principal_passes (world cx.now) (crate_test in_crate cx.now.local.0) (preds_forest cx.now.trees preds)) }
+{
+    match cx.principal(preds) {
+        Some(id) => owned_class(trait_is_local(cx, in_crate, id)),
+        None => ViewClass::NonLocal,
+    }
+}
+
+/// Whether a type variable, a type placeholder or a bound type stands in the type.
+#[tactic(auto, using(crate::proofs::Loose::loose_is))]
+fn has_loose(cx: &Cx, ty: Ty) -> bool
+    requires { IsTy cx.now.trees ty }
+    ensures { result ≡ tree_holds is_loose (ty_tree cx.now.trees ty) }
+{
+    cx.has(ty, Flag::TyInfer) || cx.has(ty, Flag::TyPlaceholder) || cx.has(ty, Flag::TyBound)
+}
+
+/// The shape of a view of that kind.
+fn shape_of_kind(cx: &Cx, in_crate: InCrate, ty: Ty, kind: TyKind) -> Shape
+    requires ty { IsTy cx.now.trees ty }
+    requires fits { KindFits cx.now.trees kind }
+    requires same { kind_tree cx.now.trees kind ≡ ty_tree cx.now.trees ty }
+    ensures { IsShape cx.now in_crate (kind_tree cx.now.trees kind) result }
+{
+    match kind {
+        TyKind::Bool
+        | TyKind::Char
+        | TyKind::Int(_)
+        | TyKind::Uint(_)
+        | TyKind::Float(_)
+        | TyKind::Str
+        | TyKind::Never
+        | TyKind::Array(_, _)
+        | TyKind::Slice(_)
+        | TyKind::RawPtr(_, _)
+        | TyKind::FnPtr(_)
+        | TyKind::UnsafeBinder(_)
+        | TyKind::Tuple(_) => Shape::Item(ViewClass::NonLocal),
+        TyKind::Pat(_, Pattern::NotNull) | TyKind::Pat(_, Pattern::Range(_, _)) => {
+            Shape::Item(ViewClass::NonLocal)
+        }
+        TyKind::Adt(id, args) => shape_of_adt(cx, in_crate, id, args),
+        TyKind::Foreign(id) => Shape::Item(owned_class(foreign_is_local(cx, in_crate, id))),
+        TyKind::Dynamic(preds, _) => Shape::Item(principal_class(cx, in_crate, preds)),
+        TyKind::Ref(_, target, _) => Shape::Target(target),
+        TyKind::Alias(alias) => if has_loose(cx, ty) {
+            Shape::Item(loose_alias_class(in_crate, alias.kind))
+        } else {
+            Shape::Item(ViewClass::NonLocal)
+        },
+        TyKind::Placeholder(_) | TyKind::Bound(_) | TyKind::Infer(_) => {
+            Shape::Item(loose_class(in_crate))
+        }
+        TyKind::Error => Shape::Item(ViewClass::Local),
+        TyKind::FnDef(_, _) | TyKind::Closure(_, _) | TyKind::Param(_) => {
+            Shape::Item(ViewClass::Unnameable)
+        }
+    }
+}
+
+/// The shape of a view.
+pub(crate) fn shape_of(cx: &Cx, in_crate: InCrate, ty: Ty) -> Shape
+    requires { IsTy cx.now.trees ty }
+    ensures { IsShape cx.now in_crate (ty_tree cx.now.trees ty) result }
+{
+    shape_of_kind(cx, in_crate, ty, cx.kind(ty))
 }

@@ -6,3 +6,4 @@ pub mod Splits
 pub mod Children
 pub mod Principals
 pub mod Kept
+pub mod Rows

@@ -1,0 +1,25 @@
+-- The children of a kind, one tree after the other.
+use Rattle.std.proofs.Common.{◌≡◌, ℕ, List, [], ◌∷◌, Bool, true, false, refl, sym, ◌∙◌, ap}
+use Rattle.candidate_ir.specs.Trees.{Kind, TypeKind, ArgumentsKind, RegionKind, Forest, none, tree, Tree, kind_of, is_list, is_list_kind, put, row, join}
+use Rattle.candidate_ir.specs.Nodes.{tree_at, kind_at}
+use Rattle.candidate_ir.proofs.Lists.{there, below_kind, kind_of-tree_at}
+
+pub join-none : (a : Forest) → join a none ≡ a
+join-none none = refl
+join-none (tree h below rest) = ap (tree h below) (join-none rest)
+
+pub kind-of : (ts : List Tree) (n : ℕ) (k : Kind) → there k ≡ true → kind_at ts n ≡ k → kind_of (tree_at ts n).head ≡ k
+kind-of ts n k h e = sym (kind_of-tree_at ts n (below_kind ts n k h e)) ∙ e
+
+list-kind : (ts : List Tree) (n : ℕ) (k : Kind) → there k ≡ true → kind_at ts n ≡ k → is_list (tree_at ts n).head ≡ is_list_kind k
+list-kind ts n k h e = ap is_list_kind (kind-of ts n k h e)
+
+-- what is no list is one tree
+pub row-single : (ts : List Tree) (n : ℕ) (k : Kind) (f : Forest) → there k ≡ true → is_list_kind k ≡ false → kind_at ts n ≡ k
+    → row (tree_at ts n) f ≡ tree (tree_at ts n).head (tree_at ts n).children f
+row-single ts n k f h l e = ap (λ (b : Bool). put b (tree_at ts n) f) (list-kind ts n k h e ∙ l)
+
+-- a list is its members
+pub row-list : (ts : List Tree) (n : ℕ) (k : Kind) (f : Forest) → there k ≡ true → is_list_kind k ≡ true → kind_at ts n ≡ k
+    → row (tree_at ts n) f ≡ join (tree_at ts n).children f
+row-list ts n k f h l e = ap (λ (b : Bool). put b (tree_at ts n) f) (list-kind ts n k h e ∙ l)
