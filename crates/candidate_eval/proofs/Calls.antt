@@ -1,0 +1,40 @@
+-- Calls of a normaliser.
+use Rattle.std.proofs.Common.{◌≡◌, ℕ, ◌<◌, ◌^◌, Result, IfOk, refl}
+use Rattle.std.specs.Fn.{Mut, Called}
+use Rattle.std.specs.Borrow.{MutBor}
+use Rattle.candidate_ir.specs.declared.ir.kinds.Ty.{Ty}
+use Rattle.candidate_ir.specs.Context.{Context, Grows}
+use Rattle.candidate_ir.specs.Words.{IsTy, ty_tree}
+use Rattle.candidate_ir.proofs.Kept.{grows-refl, grows-trans}
+use Rattle.candidate_eval.specs.declared.coherence.NormalizeErr.{NormalizeErr}
+use Rattle.candidate_eval.specs.Orphan.{View}
+use Rattle.candidate_eval.specs.Normalizer.{shown, Normalizes, MayNormalize, KeepsNumbers, IsFunction}
+
+module _ {C F E : Type 0} (context : C → Context) (g : Mut F (MutBor C × (Ty × Unit {0})) (Result Ty (NormalizeErr E) × (MutBor C × Unit {0}))) where
+  normalizes : (f : F) (lent : MutBor C) (t : Ty) (r : Result Ty (NormalizeErr E)) (left : MutBor C) (f' : F)
+      → Called g f (lent, (t, tt)) (r, (left, tt)) f' → Normalizes context g f lent.now t r f' left.now
+  normalizes f lent t r left f' h = record { lent = lent; lends = refl; left = left; called = h; leaves = refl }
+
+  -- what a call leaves and answers
+  pub call-keeps : (f : F) (lent : MutBor C) (t : Ty) (r : Result Ty (NormalizeErr E)) (left : MutBor C) (f' : F)
+      → KeepsNumbers context g lent.now → IsTy (context lent.now).trees t → t.0 < 2 ^ 32 → Called g f (lent, (t, tt)) (r, (left, tt)) f'
+      → Grows (context lent.now) (context left.now) × IfOk r (λ u. IsTy (context left.now).trees u)
+  call-keeps f lent t r left f' k s n h =
+      k.at f lent.now t r f' left.now (grows-refl (context lent.now)) s n (normalizes f lent t r left f' h)
+
+  pub call-shows : (f : F) (lent : MutBor C) (t : Ty) (r : Result Ty (NormalizeErr E)) (left : MutBor C) (f' : F)
+      → IsTy (context lent.now).trees t → t.0 < 2 ^ 32 → Called g f (lent, (t, tt)) (r, (left, tt)) f'
+      → (normal : View (F × C) E) → IsFunction context g lent.now normal
+      → normal (f, lent.now) (ty_tree (context lent.now).trees t) ≡ record { seen = shown (context left.now).trees r; after = (f', left.now) }
+  call-shows f lent t r left f' s n h normal k =
+      k.at f lent.now t r f' left.now (grows-refl (context lent.now)) s n (normalizes f lent t r left f' h)
+
+  -- what is asked of a normaliser at a context is asked at each that keeps its numbers
+  pub may-later : (c d : C) → Grows (context c) (context d) → MayNormalize context g c → MayNormalize context g d
+  may-later c d h m = record { at = λ f x t lent l k s n. m.at f x t lent l (grows-trans (context c) (context d) (context x) h k) s n }
+
+  pub keeps-later : (c d : C) → Grows (context c) (context d) → KeepsNumbers context g c → KeepsNumbers context g d
+  keeps-later c d h m = record { at = λ f x t r f' x' k s n w. m.at f x t r f' x' (grows-trans (context c) (context d) (context x) h k) s n w }
+
+  pub function-later : (c d : C) (normal : View (F × C) E) → Grows (context c) (context d) → IsFunction context g c normal → IsFunction context g d normal
+  function-later c d normal h m = record { at = λ f x t r f' x' k s n w. m.at f x t r f' x' (grows-trans (context c) (context d) (context x) h k) s n w }

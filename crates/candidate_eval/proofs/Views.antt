@@ -1,0 +1,13 @@
+-- The view of a type by its resolved form and the normaliser's answer.
+use Rattle.std.proofs.Common.{◌≡◌, Bool, true, false, refl, sym, ◌∙◌, ap, if◌then◌else◌}
+use Rattle.candidate_ir.specs.Trees.{Tree}
+use Rattle.candidate_eval.specs.Orphan.{Seen, Sees, Sight, View, view, is_general, unless_general}
+
+pub view-general : {S E : Type 0} (resolve : S → Tree → Tree) (normal : View S E) (s after : S) (t u v w : Tree)
+    → u ≡ resolve s t → normal s u ≡ record { seen = Sees v; after = after } → true ≡ is_general v.head → w ≡ u
+    → view resolve normal s t ≡ record { seen = Sees w; after = after }
+view-general {S} {E} resolve normal s after t u v w r n g k =
+    ap (λ (x : Tree). let y : Sight S E = record { seen = unless_general x (normal s x).seen; after = (normal s x).after } in y) (sym r)
+    ∙ (ap (λ (x : Sight S E). let y : Sight S E = record { seen = unless_general u x.seen; after = x.after } in y) n
+    ∙ (ap (λ (b : Bool). let y : Sight S E = record { seen = if b then Sees u else Sees v; after = after } in y) (sym g)
+    ∙ ap (λ (x : Tree). let y : Sight S E = record { seen = Sees x; after = after } in y) (sym k)))
