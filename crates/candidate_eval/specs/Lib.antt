@@ -6,3 +6,5 @@ pub mod Unify
 pub mod Laws
 pub mod Table
 pub mod Shapes
+pub mod Walk
+pub mod Exits

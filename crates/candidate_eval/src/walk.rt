@@ -1,15 +1,53 @@
 //! The walk of the orphan check.
 
-ghost use Rattle.std.specs.Prelude.{◌≡◌, ◌<◌, ◌^◌, IfOk};
+ghost use Rattle.std.specs.Prelude.{◌≡◌, ◌<◌, ◌^◌, true, false, OnOk, IfOk, IfErr};
 ghost use Rattle.candidate_ir.specs.Context.{Grows};
-ghost use Rattle.candidate_ir.specs.Words.{IsTy, ty_tree};
+ghost use Rattle.candidate_ir.specs.Words.{IsTy, IsArgs, ty_tree, args_forest};
 ghost use Rattle.candidate_eval.specs.Orphan.{View, view, is_general};
 ghost use Rattle.candidate_eval.specs.Normalizer.{MayNormalize, KeepsNumbers, IsFunction, shown};
+ghost use Rattle.candidate_eval.specs.Walk.{AreTypes, IsExit, Outcome, SameWalk, still, setting, classes, type_steps, list_steps};
 
-use crate::coherence::NormalizeErr;
+use crate::coherence::{InCrate, IsFirstInputType, NormalizeErr, OrphanStop};
 use crate::eval::InferCtxtLike;
+use crate::table::{Shape, ViewClass, shape_of};
 use candidate_ir::decl::Cx;
-use candidate_ir::ir::kinds::{InferTy, Ty, TyKind};
+use candidate_ir::ir::kinds::{Args, GenericArg, InferTy, Ty, TyKind};
+use candidate_ir::ir::stop::Stop;
+use std::alloc::AllocFailed;
+
+/// How a walk goes on, and what it has recorded.
+#[derive(Drop)]
+pub struct Walk {
+    pub in_crate: InCrate,
+    /// Whether uncovered views are passed over, in search of a local type.
+    pub seeks_local: bool,
+    /// Whether no visit has returned yet.
+    pub is_first: bool,
+    /// The views that aren't local, in order.
+    pub non_local: Vec<(Ty, IsFirstInputType)>,
+}
+
+/// What breaks a walk off.
+#[derive(Drop)]
+pub enum EarlyExit<E> {
+    Local(Ty),
+    Uncovered(Ty),
+    Broken(OrphanStop<E>),
+}
+
+impl<E> From<NormalizeErr<E>> for EarlyExit<E> {
+    ghost use Rattle.std.specs.Prelude.{◌≡◌};
+    ghost use Rattle.candidate_eval.specs.Exits.{broken_by};
+
+    ghost from_gives = { λ e x. x ≡ broken_by e };
+
+    fn from(error: NormalizeErr<E>) -> Self {
+        match error {
+            NormalizeErr::Failed(error) => EarlyExit::Broken(OrphanStop::Normalize(error)),
+            NormalizeErr::Stop(stop) => EarlyExit::Broken(OrphanStop::Stop(stop)),
+        }
+    }
+}
 
 fn is_general_variable(cx: &Cx, ty: Ty) -> bool
     requires { IsTy cx.now.trees ty }
@@ -50,4 +88,110 @@ where
         return Ok(ty);
     }
     Ok(normal)
+}
+
+impl Walk {
+    ghost use Rattle.std.specs.Prelude.{◌≡◌, ◌++◌, ◌≢◌, OnOk, IfErr, ℕ, List};
+    ghost use Rattle.candidate_ir.specs.Trees.{Tree};
+    ghost use Rattle.candidate_ir.specs.Words.{ty_tree};
+    ghost use Rattle.candidate_eval.specs.Walk.{AreTypes, IsExit, SameWalk};
+    ghost use Rattle.candidate_eval.specs.Exits.{IsTaken};
+
+    /// Takes an item: records it, passes over it, or breaks the walk off.
+    fn take<E>(&mut self, class: ViewClass, ty: Ty) -> Result<(), EarlyExit<E>>
+        ensures same { SameWalk self.old self.new }
+        ensures first { self.new.is_first ≡ self.old.is_first }
+        ensures taken { IsTaken self.old self.new class ty result }
+    {
+        match class {
+            ViewClass::NonLocal => {
+                let is_first = IsFirstInputType::from(self.is_first);
+                if self.non_local.push((ty, is_first)).is_err() {
+                    return Err(EarlyExit::Broken(OrphanStop::Stop(Stop::Memory)));
+                }
+                Ok(())
+            }
+            ViewClass::Skipped => Ok(()),
+            ViewClass::Local => Err(EarlyExit::Local(ty)),
+            ViewClass::Uncovered => if self.seeks_local {
+                Ok(())
+            } else {
+                Err(EarlyExit::Uncovered(ty))
+            },
+            ViewClass::Unnameable => {
+                Err(EarlyExit::Broken(OrphanStop::Stop(Stop::Unnameable)))
+            }
+        }
+    }
+}
+
+/// Visits a type, with so many levels left.
+#[cycle(walk)]
+#[tactic(none)]
+fn visit_ty<C, E, F>(
+    infcx: &mut C,
+    normalize: &mut F,
+    walk: &mut Walk,
+    ty: Ty,
+    levels: u16,
+) -> Result<(), EarlyExit<E>>
+where
+    C: InferCtxtLike,
+    F: FnMut(&mut C, Ty) -> Result<Ty, NormalizeErr<E>>,
+    requires ty { IsTy (C.context infcx.old).trees ty }
+    requires callable { MayNormalize C.context F.FnMut infcx.old }
+    requires keeps { KeepsNumbers C.context F.FnMut infcx.old }
+    requires recorded { AreTypes (C.context infcx.old).trees walk.old.non_local.items }
+    ensures grows { Grows (C.context infcx.old) (C.context infcx.new) }
+    ensures recorded { AreTypes (C.context infcx.new).trees walk.new.non_local.items }
+    ensures exit { IfErr result (λ x. IsExit (C.context infcx.new).trees x) }
+    ensures same { SameWalk walk.old walk.new }
+    ensures first { OnOk result (walk.new.is_first ≡ false) }
+    ensures some { (normal : View (F × C) E) → IsFunction C.context F.FnMut infcx.old normal → OnOk result (still true (type_steps (setting (C.context infcx.old) walk.old.in_crate) (view (λ s t. C.resolved s.1 t) normal) levels (normalize.old, infcx.old) (ty_tree (C.context infcx.old).trees ty)) ≡ false) }
+    ensures outcome { (normal : View (F × C) E) → IsFunction C.context F.FnMut infcx.old normal → Outcome (C.context infcx.new).trees (classes (setting (C.context infcx.old) walk.old.in_crate)) walk.old walk.new (normalize.old, infcx.old) (normalize.new, infcx.new) (type_steps (setting (C.context infcx.old) walk.old.in_crate) (view (λ s t. C.resolved s.1 t) normal) levels (normalize.old, infcx.old) (ty_tree (C.context infcx.old).trees ty)) result }
+{
+    if levels == 0 {
+        return Err(EarlyExit::Broken(OrphanStop::Stop(Stop::WalkDepth)));
+    }
+    let view = view_of(infcx, normalize, ty)?;
+    let outcome = match shape_of(infcx.cx(), walk.in_crate, view) {
+        Shape::Item(class) => walk.take(class, view),
+        Shape::Target(target) => visit_ty(infcx, normalize, walk, target, levels - 1),
+        Shape::Arguments(args) => visit_args(infcx, normalize, walk, args, levels - 1),
+    };
+    walk.is_first = false;
+    outcome
+}
+
+/// Visits the types of a list in order, each with so many levels left.
+#[cycle(walk)]
+#[tactic(none)]
+pub(crate) fn visit_args<C, E, F>(
+    infcx: &mut C,
+    normalize: &mut F,
+    walk: &mut Walk,
+    args: Args,
+    levels: u16,
+) -> Result<(), EarlyExit<E>>
+where
+    C: InferCtxtLike,
+    F: FnMut(&mut C, Ty) -> Result<Ty, NormalizeErr<E>>,
+    requires args { IsArgs (C.context infcx.old).trees args }
+    requires callable { MayNormalize C.context F.FnMut infcx.old }
+    requires keeps { KeepsNumbers C.context F.FnMut infcx.old }
+    requires recorded { AreTypes (C.context infcx.old).trees walk.old.non_local.items }
+    ensures grows { Grows (C.context infcx.old) (C.context infcx.new) }
+    ensures recorded { AreTypes (C.context infcx.new).trees walk.new.non_local.items }
+    ensures exit { IfErr result (λ x. IsExit (C.context infcx.new).trees x) }
+    ensures same { SameWalk walk.old walk.new }
+    ensures outcome { (normal : View (F × C) E) → IsFunction C.context F.FnMut infcx.old normal → Outcome (C.context infcx.new).trees (classes (setting (C.context infcx.old) walk.old.in_crate)) walk.old walk.new (normalize.old, infcx.old) (normalize.new, infcx.new) (list_steps (setting (C.context infcx.old) walk.old.in_crate) (view (λ s t. C.resolved s.1 t) normal) levels (normalize.old, infcx.old) (args_forest (C.context infcx.old).trees args)) result }
+{
+    let count = infcx.cx().args(args).len();
+    for i in 0..count {
+        let arg = infcx.cx().args(args)[i];
+        if let GenericArg::Ty(ty) = arg {
+            visit_ty(infcx, normalize, walk, ty, levels)?;
+        }
+    }
+    Ok(())
 }

@@ -7,3 +7,4 @@ pub mod Children
 pub mod Principals
 pub mod Kept
 pub mod Rows
+pub mod Members
