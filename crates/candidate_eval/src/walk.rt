@@ -127,7 +127,6 @@ impl Walk {
 
 /// Visits a type, with so many levels left.
 #[cycle(walk)]
-#[tactic(none)]
 fn visit_ty<C, E, F>(
     infcx: &mut C,
     normalize: &mut F,
@@ -165,7 +164,6 @@ where
 
 /// Visits the types of a list in order, each with so many levels left.
 #[cycle(walk)]
-#[tactic(none)]
 pub(crate) fn visit_args<C, E, F>(
     infcx: &mut C,
     normalize: &mut F,

@@ -1,15 +1,19 @@
 use Rattle.std.proofs.Common.{◌≡◌, ◌-◌, suc, arith, refl, sym, ◌∙◌, ap, subst}
 use Rattle.std.proofs.lemmas.Result.{err_from_is_err_and}
 use Rattle.candidate_ir.specs.Context.{Context, Grows}
-use Rattle.candidate_ir.specs.Words.{ty_tree}
-use Rattle.candidate_ir.proofs.Kept.{grows-refl, grows-trans, ty-kept}
+use Rattle.candidate_ir.specs.Trees.{count}
+use Rattle.candidate_ir.specs.Words.{IsArgs, ty_tree, args_forest}
+use Rattle.candidate_ir.proofs.Members.{skip, skip-all, count-members}
+use Rattle.candidate_ir.proofs.Kept.{grows-refl, grows-trans, args-kept}
+use Rattle.candidate_eval.proofs.Lists.{sofar-begin, sofar-end, type-at}
+use Rattle.candidate_eval.proofs.Loops.{index-below, next-skip, next-visit, next-found}
 use Rattle.candidate_eval.specs.Orphan.{View, view}
 use Rattle.candidate_eval.specs.Walk.{Setting, setting, Outcome}
 use Rattle.candidate_eval.proofs.Calls.{may-later, keeps-later, function-later}
 use Rattle.candidate_eval.proofs.Walking.{setting-kept, too-deep, types-kept, item-types, item-exit}
 use Rattle.candidate_eval.proofs.Visits.{visited-nothing, visited-item, visited-target, visited-arguments, item-some, target-some, arguments-some}
 use Rattle.candidate_eval.proofs.walk.+walk.Goals as goal
-use Rattle.candidate_eval.proofs.walk.+walk.Goals.{visit_ty-in-Item, visit_ty-in-Target, visit_ty-in-Arguments}
+use Rattle.candidate_eval.proofs.walk.+walk.Goals.{visit_ty-in-Item, visit_ty-in-Target, visit_ty-in-Arguments, visit_args-in-Ty+in_ok-visit_ty, visit_args-in_default}
 
 pub visit_ty-returns-then-levels-eq0-clause-outcome : goal.visit_ty-returns-then-levels-eq0-clause-outcome
 visit_ty-returns-then-levels-eq0-clause-outcome g t c = λ normal h ne.
@@ -125,3 +129,108 @@ visit_ty-returns-clause-exit g t c =
     | visit_ty-in-Target w ↦ rw (w.infcx-is, w.outcome-is) w.visit_ty-outcome.ensures.exit
     | visit_ty-in-Arguments w ↦ rw (w.infcx-is, w.outcome-is) w.visit_args-outcome.ensures.exit
     ]
+
+pub visit_args-loop-i-init : goal.visit_args-loop-i-init
+visit_args-loop-i-init g t c =
+    let c0 = g.C.Make.context c.args.infcx.now in
+    let ensures = rw c.cx.ensures at c.args-count.ensures in
+    record {
+      grows = grows-refl c0;
+      same = record { in_crate = refl; seeks_local = refl };
+      recorded = c.requires.recorded;
+      count_is = sym (count-members c0.trees c.args-count.result.now ensures.fits) ∙ ap count ensures.tree;
+      sofar = λ normal h.
+          sofar-begin (setting c0 c.args.walk.now.in_crate) (view (λ s u. g.C.InferCtxtLike.resolved s.1 u) normal) c.args.levels c0.trees c.args.walk.now
+          (c.args.normalize.now, c.args.infcx.now) (args_forest c0.trees c.args.args);
+    }
+
+pub visit_args-args-requires : goal.visit_args-args-requires
+visit_args-args-requires g t c =
+    let P : Context → Type 0 = λ x. IsArgs x.trees c.args.args in
+    subst P (sym c.cx-in-loop-i.ensures) (args-kept _ _ c.args.args c.loop-i.invariant.grows c.requires.args).0
+
+pub visit_args-bounds-args-i : goal.visit_args-bounds-args-i
+visit_args-bounds-args-i g t c =
+    let ensures = rw c.cx-in-loop-i.ensures at c.args-in-loop-i.ensures in
+    index-below (g.C.Make.context c.args.infcx.now) (g.C.Make.context c.loop-i.infcx) c.args.args c.args-in-loop-i.result.now c.loop-i.i _
+    c.loop-i.invariant.grows c.requires.args ensures.fits ensures.tree c.loop-i.invariant.count_is c.loop-i-test.true
+
+pub visit_args-visit_ty-requires : goal.visit_args-visit_ty-requires
+visit_args-visit_ty-requires g t c κs within =
+    let ensures = rw c.cx-in-loop-i.ensures at c.args-in-loop-i.ensures in
+    let here = c.loop-i.invariant in
+    let below = index-below (g.C.Make.context c.args.infcx.now) (g.C.Make.context c.loop-i.infcx) c.args.args c.args-in-loop-i.result.now c.loop-i.i _
+    here.grows c.requires.args ensures.fits ensures.tree here.count_is c.loop-i-test.true in
+    (omega arith,
+    (within.0, (within.1.0, (within.1.1,
+    ((type-at (g.C.Make.context c.loop-i.infcx).trees c.args-in-loop-i.result.now c.loop-i.i _ c.in-Ty.ty ensures.fits below c.in-Ty.is).0,
+    (may-later g.C.Make.context g.F.FnMut _ _ here.grows c.requires.callable,
+    (keeps-later g.C.Make.context g.F.FnMut _ _ here.grows c.requires.keeps,
+    here.recorded)))))))
+
+pub visit_args-loop-i-preserved : goal.visit_args-loop-i-preserved
+visit_args-loop-i-preserved g t c =
+    let c0 = g.C.Make.context c.args.infcx.now in
+    let c1 = g.C.Make.context c.loop-i.infcx in
+    let ensures = rw c.cx-in-loop-i.ensures at c.args-in-loop-i.ensures in
+    let here = c.loop-i.invariant in
+    let xs = c.args-in-loop-i.result.now in
+    let below = index-below c0 c1 c.args.args xs c.loop-i.i _ here.grows c.requires.args ensures.fits ensures.tree here.count_is c.loop-i-test.true in
+    let s0 : g.row.F.Denot × g.row.C.Denot = (c.args.normalize.now, c.args.infcx.now) in
+    let s1 : g.row.F.Denot × g.row.C.Denot = (c.loop-i.normalize, c.loop-i.infcx) in
+    elim c.match-arg.branch [
+      visit_args-in-Ty+in_ok-visit_ty w ↦ rw (w.infcx-is, w.normalize-is, w.walk-is)
+        (record {
+          grows = grows-trans _ _ _ here.grows w.in_ok-visit_ty.ensures.grows;
+          same = record {
+            in_crate = w.in_ok-visit_ty.ensures.same.in_crate ∙ here.same.in_crate;
+            seeks_local = w.in_ok-visit_ty.ensures.same.seeks_local ∙ here.same.seeks_local;
+          };
+          recorded = w.in_ok-visit_ty.ensures.recorded;
+          count_is = here.count_is;
+          sofar = λ normal h.
+              let later = function-later g.C.Make.context g.F.FnMut c.args.infcx.now c.loop-i.infcx normal here.grows h in
+              next-visit (view (λ s u. g.C.InferCtxtLike.resolved s.1 u) normal) c.args.levels c0 c1 here.grows c.args.args c.requires.args xs c.loop-i.i _
+              ensures.fits ensures.tree below c.args.walk.now c.loop-i.walk here.same s0 s1 w.in-Ty.ty w.in-Ty.is
+              (g.C.Make.context w.visit_ty.new.infcx) w.in_ok-visit_ty.ensures.grows w.visit_ty.new.walk (w.visit_ty.new.normalize, w.visit_ty.new.infcx)
+              c.requires.recorded here.recorded w.in_ok-visit_ty.ensures.first (w.in_ok-visit_ty.ensures.some normal later) (w.in_ok-visit_ty.ensures.outcome normal later)
+              (here.sofar normal h);
+        })
+    | visit_args-in_default w ↦ rw (w.infcx-is, w.normalize-is, w.walk-is)
+        (record {
+          grows = here.grows;
+          same = here.same;
+          recorded = here.recorded;
+          count_is = here.count_is;
+          sofar = λ normal h.
+              next-skip (view (λ s u. g.C.InferCtxtLike.resolved s.1 u) normal) c.args.levels c0 c1 here.grows c.args.args c.requires.args xs c.loop-i.i _
+              ensures.fits ensures.tree below c.args.walk.now c.loop-i.walk here.same s0 s1 w.in_default.not-Ty (here.sofar normal h);
+        })
+    ]
+
+pub visit_args-returns-in_err-visit_ty-clause-outcome : goal.visit_args-returns-in_err-visit_ty-clause-outcome
+visit_args-returns-in_err-visit_ty-clause-outcome g t c = λ normal h.
+    let c0 = g.C.Make.context c.args.infcx.now in
+    let c1 = g.C.Make.context c.loop-i.infcx in
+    let ensures = rw c.cx-in-loop-i.ensures at c.args-in-loop-i.ensures in
+    let here = c.loop-i.invariant in
+    let xs = c.args-in-loop-i.result.now in
+    let below = index-below c0 c1 c.args.args xs c.loop-i.i _ here.grows c.requires.args ensures.fits ensures.tree here.count_is c.loop-i-test.true in
+    let s0 : g.row.F.Denot × g.row.C.Denot = (c.args.normalize.now, c.args.infcx.now) in
+    let s1 : g.row.F.Denot × g.row.C.Denot = (c.loop-i.normalize, c.loop-i.infcx) in
+    let later = function-later g.C.Make.context g.F.FnMut c.args.infcx.now c.loop-i.infcx normal here.grows h in
+    let p = err_from_is_err_and c.from_residual.result c.from_residual.ensures.1 in
+    next-found (view (λ s u. g.C.InferCtxtLike.resolved s.1 u) normal) c.args.levels c0 c1 here.grows c.args.args c.requires.args xs c.loop-i.i _
+    ensures.fits ensures.tree below c.args.walk.now c.loop-i.walk here.same s0 s1 c.in-Ty.ty c.in-Ty.is
+    (g.C.Make.context c.visit_ty.new.infcx).trees c.visit_ty.new.walk (c.visit_ty.new.normalize, c.visit_ty.new.infcx) _ p.0 c.from_residual.result p.1 p.2
+    (c.in_err-visit_ty.ensures.outcome normal later) (here.sofar normal h)
+
+pub visit_args-returns-clause-outcome : goal.visit_args-returns-clause-outcome
+visit_args-returns-clause-outcome g t c = λ normal h.
+    let c0 = g.C.Make.context c.args.infcx.now in
+    let p = setting c0 c.args.walk.now.in_crate in
+    let all = args_forest c0.trees c.args.args in
+    let end : c.loop-i.i ≡ count all = omega (arith, c.loop-i.invariant.count_is) in
+    sofar-end p (view (λ s u. g.C.InferCtxtLike.resolved s.1 u) normal) c.args.levels (g.C.Make.context c.loop-i.infcx).trees c.args.walk.now c.loop-i.walk
+    (c.args.normalize.now, c.args.infcx.now) (c.loop-i.normalize, c.loop-i.infcx) all (skip c.loop-i.i all) (skip-all all c.loop-i.i end)
+    (c.loop-i.invariant.sofar normal h)
