@@ -8,3 +8,4 @@ pub mod Table
 pub mod Shapes
 pub mod Walk
 pub mod Exits
+pub mod Second

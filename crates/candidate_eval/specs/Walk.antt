@@ -1,5 +1,5 @@
 -- A walk over types in the words of the frontier: what was passed over and recorded, or what broke it off.
-use Rattle.std.specs.Prelude.{◌≡◌, ◌≢◌, ℕ, Bool, true, false, Option, Some, None, Result, Ok, Err, List, [], ◌∷◌, ◌++◌, All, map}
+use Rattle.std.specs.Prelude.{◌≡◌, ◌≢◌, ℕ, Bool, true, false, Option, Some, None, Result, Ok, Err, List, [], ◌∷◌, ◌++◌, All}
 use Rattle.candidate_ir.specs.declared.ir.kinds.Ty.{Ty}
 use Rattle.candidate_ir.specs.declared.ir.stop.Stop.TheVariants.{Memory, Unnameable}
 use Rattle.candidate_ir.specs.Context.{Context, world}
@@ -13,8 +13,8 @@ use Rattle.candidate_eval.specs.declared.table.ViewClass.TheVariants as V
 use Rattle.candidate_eval.specs.declared.walk.EarlyExit.{EarlyExit}
 use Rattle.candidate_eval.specs.declared.walk.EarlyExit.TheVariants as X
 use Rattle.candidate_eval.specs.declared.walk.Walk.{Walk}
-use Rattle.candidate_eval.specs.Answers.{is_first_input}
-use Rattle.candidate_eval.specs.Orphan.{InCrate, CrateTest, crate_test, View, Item, Step, Class, IsNonLocal, IsSkipped, IsLocal, IsUncovered, IsBroken, Refused, Stopped, Entry, class_of, visit, frontier, left, first_step, decides, decides_again, entries}
+pub use Rattle.candidate_eval.specs.Answers.{entries_of}
+use Rattle.candidate_eval.specs.Orphan.{InCrate, CrateTest, crate_test, View, Item, Step, Class, IsNonLocal, IsSkipped, IsLocal, IsUncovered, IsBroken, Refused, Stopped, class_of, visit, frontier, left, first_step, decides, decides_again, entries}
 
 -- Where a walk takes place: the world, the local crate, and for which crate is checked.
 pub record Setting : Type 0 where
@@ -54,9 +54,6 @@ deciding true c = decides_again c
 abbrev pub still : {S E : Type 0} → Bool → List (Step S E) → Bool
 still first [] = first
 still first (x ∷ xs) = false
-
-abbrev pub entries_of : List Tree → List (Ty × IsFirstInputType) → List Entry
-entries_of ts es = map (λ e. let n : Entry = record { type = ty_tree ts e.0; is_first_input = is_first_input e.1 } in n) es
 
 abbrev pub AreTypes : List Tree → List (Ty × IsFirstInputType) → Type 0
 AreTypes ts es = All (λ e. IsTy ts e.0) es

@@ -1,9 +1,20 @@
 //! The orphan check.
 
-ghost use Rattle.candidate_eval.specs.Laws.{LinkSafety};
+ghost use Rattle.std.specs.Prelude.{◌≡◌, ◌≢◌, false, IfOk, IfSome};
+ghost use Rattle.candidate_ir.specs.Context.{Grows, world};
+ghost use Rattle.candidate_ir.specs.Trees.{Tree, holds, is_param};
+ghost use Rattle.candidate_ir.specs.Words.{IsTy, IsArgs, args_forest};
+ghost use Rattle.candidate_eval.specs.Orphan.{View, view, orphan_answer};
+ghost use Rattle.candidate_eval.specs.Normalizer.{MayNormalize, KeepsNumbers, IsFunction};
+ghost use Rattle.candidate_eval.specs.Answers.{AreAnswerTypes, OutOfMemory, IsAnswer, second_answer};
+ghost use Rattle.candidate_eval.specs.Walk.{setting};
+ghost use Rattle.candidate_eval.specs.Second.{IsSecond};
 
-use candidate_ir::ir::kinds::Ty;
+use crate::eval::InferCtxtLike;
+use crate::walk::{EarlyExit, Walk, visit_args};
+use candidate_ir::ir::kinds::{Args, TraitRef, Ty};
 use candidate_ir::ir::stop::Stop;
+use std::alloc::Global;
 
 /// How projections that hold variables count.
 #[derive(Clone, Copy, Debug, PartialEq, Eq)]
@@ -79,6 +90,92 @@ pub enum OrphanStop<E> {
     Stop(Stop),
 }
 
-pub fn link_safety()
-    ensures { LinkSafety }
-{}
+/// How many visits may be nested.
+const WALK_DEPTH: u16 = 256;
+
+/// The first local type of a walk that passes over uncovered views.
+fn first_local_ty<C, E, F>(
+    alloc: Global,
+    infcx: &mut C,
+    args: Args,
+    in_crate: InCrate,
+    normalize: &mut F,
+) -> Result<Option<Ty>, Stop>
+where
+    C: InferCtxtLike,
+    E: Drop,
+    F: FnMut(&mut C, Ty) -> Result<Ty, NormalizeErr<E>>,
+    requires args { IsArgs (C.context infcx.old).trees args }
+    requires callable { MayNormalize C.context F.FnMut infcx.old }
+    requires keeps { KeepsNumbers C.context F.FnMut infcx.old }
+    ensures grows { Grows (C.context infcx.old) (C.context infcx.new) }
+    ensures types { IfOk result (λ o. IfSome o (λ t. IsTy (C.context infcx.new).trees t)) }
+    ensures answer { (normal : View (F × C) E) → IsFunction C.context F.FnMut infcx.old normal → result ≢ Err Stop.Memory → (t : Tree) → IsSecond (setting (C.context infcx.old) in_crate) (view (λ s t. C.resolved s.1 t) normal) 256 (normalize.old, infcx.old) (args_forest (C.context infcx.old).trees args) t (record { answer = second_answer (C.context infcx.new).trees t result; after = (normalize.new, infcx.new) }) }
+{
+    let mut walk = Walk {
+        in_crate,
+        seeks_local: true,
+        is_first: true,
+        non_local: Vec::new(alloc),
+    };
+    match visit_args(infcx, normalize, &mut walk, args, WALK_DEPTH) {
+        Err(EarlyExit::Local(ty)) => Ok(Some(ty)),
+        Err(EarlyExit::Broken(OrphanStop::Stop(stop))) => Err(stop),
+        Ok(()) | Err(EarlyExit::Uncovered(_)) | Err(EarlyExit::Broken(OrphanStop::Normalize(_))) => Ok(None),
+    }
+}
+
+/// Whether the crate may write a header with the trait reference, by the types that a walk meets.
+///
+/// The walk goes through the types of the reference in order, the self type first, and below
+/// references and fundamental types of other crates. Each type is resolved at its root and
+/// normalised first. The first local or uncovered type decides: `Ok(())` for a local one. For an
+/// uncovered one a second walk looks for the first local type. Where neither comes, the types that
+/// were met are the error.
+///
+/// `OrphanStop::Normalize` is a failure of the normaliser. `OrphanStop::Stop` is a stop of the
+/// normaliser, `Memory` where a growth was refused, `WalkDepth` where a type is nested in 256
+/// others, `Unnameable` where a function's type, a closure or a parameter is met. The context is
+/// changed by the normaliser alone.
+pub fn orphan_check_trait_ref<C, E, F>(
+    alloc: Global,
+    infcx: &mut C,
+    trait_ref: TraitRef,
+    in_crate: InCrate,
+    mut normalize: F,
+) -> Result<Result<(), OrphanCheckErr<Ty>>, OrphanStop<E>>
+where
+    C: InferCtxtLike,
+    E: Drop,
+    F: FnMut(&mut C, Ty) -> Result<Ty, NormalizeErr<E>> + Drop,
+    requires args { IsArgs (C.context infcx.old).trees trait_ref.args }
+    requires no_param { holds is_param (args_forest (C.context infcx.old).trees trait_ref.args) ≡ false }
+    requires callable { MayNormalize C.context F.FnMut infcx.old }
+    requires keeps { KeepsNumbers C.context F.FnMut infcx.old }
+    ensures grows { Grows (C.context infcx.old) (C.context infcx.new) }
+    ensures types { AreAnswerTypes (C.context infcx.new).trees result }
+
+    // For a normaliser whose answers and effects are functions of the tree and the context.
+    ensures answer { (normal : View (F × C) E) → IsFunction C.context F.FnMut infcx.old normal → ¬ (OutOfMemory result) → IsAnswer (C.context infcx.new).trees result infcx.new (orphan_answer (world (C.context infcx.old)) (C.context infcx.old).local.0 in_crate (view (λ s t. C.resolved s.1 t) normal) 256 (normalize, infcx.old) (args_forest (C.context infcx.old).trees trait_ref.args)) }
+{
+    let mut walk = Walk {
+        in_crate,
+        seeks_local: false,
+        is_first: true,
+        non_local: Vec::new(alloc),
+    };
+    match visit_args(infcx, &mut normalize, &mut walk, trait_ref.args, WALK_DEPTH) {
+        Ok(()) => Ok(Err(OrphanCheckErr::NonLocalInputType(walk.non_local))),
+        Err(EarlyExit::Local(_)) => Ok(Ok(())),
+        Err(EarlyExit::Uncovered(uncovered)) => {
+            match first_local_ty(alloc, infcx, trait_ref.args, in_crate, &mut normalize) {
+                Ok(local_ty) => Ok(Err(OrphanCheckErr::UncoveredTyParams(UncoveredTyParams {
+                    uncovered,
+                    local_ty,
+                }))),
+                Err(stop) => Err(OrphanStop::Stop(stop)),
+            }
+        }
+        Err(EarlyExit::Broken(stop)) => Err(stop),
+    }
+}

@@ -1,0 +1,51 @@
+use Rattle.std.proofs.Common.{◌≡◌, ◌≢◌, refl, sym, ◌∙◌, ap, Ok, Err}
+use Rattle.candidate_ir.specs.Trees.{Tree}
+use Rattle.candidate_ir.proofs.Kept.{args-kept, ty-kept}
+use Rattle.candidate_ir.specs.declared.ir.stop.Stop.TheVariants.{Memory}
+use Rattle.candidate_eval.specs.declared.coherence.OrphanStop.TheVariants as O
+use Rattle.candidate_eval.specs.Answers.{second_answer}
+use Rattle.candidate_eval.specs.Orphan.{Answer, Checked, view}
+use Rattle.candidate_eval.proofs.Calls.{keeps-later, function-later}
+use Rattle.candidate_eval.proofs.Checks.{uncovered-checked}
+use Rattle.candidate_eval.proofs.coherence.orphan_check_trait_ref.Goals as goal
+
+pub first_local_ty-requires-clause-args : goal.first_local_ty-requires-clause-args
+first_local_ty-requires-clause-args g c = (args-kept _ _ c.args.trait_ref.args c.visit_args.ensures.grows c.requires.args).0
+
+pub first_local_ty-requires-clause-keeps : goal.first_local_ty-requires-clause-keeps
+first_local_ty-requires-clause-keeps g c = keeps-later g.C.Make.context g.F.FnMut _ _ c.visit_args.ensures.grows c.requires.keeps
+
+pub returns-in-Ok-first_local_ty-clause-types : goal.returns-in-Ok-first_local_ty-clause-types
+returns-in-Ok-first_local_ty-clause-types g c =
+    let first = rw c.in-Err-Uncovered.field-0-is at c.in-Err-Uncovered.ensures in
+    ((ty-kept _ _ c.in-Err-Uncovered.uncovered c.first_local_ty.ensures.grows first.exit).0, c.in-Ok-first_local_ty.ensures.types)
+
+pub returns-in-Ok-first_local_ty-clause-answer : goal.returns-in-Ok-first_local_ty-clause-answer
+returns-in-Ok-first_local_ty-clause-answer g c = λ normal h ne.
+    let see = view (λ s u. g.C.InferCtxtLike.resolved s.1 u) normal in
+    let later = function-later g.C.Make.context g.F.FnMut c.args.infcx.now c.visit_args.new.infcx normal c.visit_args.ensures.grows h in
+    let last = g.C.Make.context c.first_local_ty.new.infcx in
+    let first = rw c.in-Err-Uncovered.field-0-is at c.in-Err-Uncovered.ensures in
+    let checked : Tree → Checked (g.row.F.Denot × g.row.C.Denot) (Answer g.row.E.Denot) =
+    λ t. record { answer = second_answer last.trees t (Ok c.in-Ok-first_local_ty.local_ty); after = (c.first_local_ty.new.normalize, c.first_local_ty.new.infcx) } in
+    let e = uncovered-checked (g.C.Make.context c.args.infcx.now) (g.C.Make.context c.visit_args.new.infcx) last
+        c.visit_args.ensures.grows c.first_local_ty.ensures.grows c.args.in_crate see 256 c.args.trait_ref.args c.requires.args
+        (c.args.normalize, c.args.infcx.now) (c.visit_args.new.normalize, c.visit_args.new.infcx) c.in-Err-Uncovered.uncovered first.exit
+        (first.outcome normal h (λ x. cc)) checked
+        (λ t. c.in-Ok-first_local_ty.ensures.answer normal later (λ x. cc) t) in
+    record { answer = ap (λ x. x.answer) e; leaves = ap (λ x. x.after.1) e }
+
+pub returns-in-Err-Uncovered-clause-answer : goal.returns-in-Err-Uncovered-clause-answer
+returns-in-Err-Uncovered-clause-answer g c = λ normal h ne.
+    let see = view (λ s u. g.C.InferCtxtLike.resolved s.1 u) normal in
+    let later = function-later g.C.Make.context g.F.FnMut c.args.infcx.now c.visit_args.new.infcx normal c.visit_args.ensures.grows h in
+    let last = g.C.Make.context c.first_local_ty.new.infcx in
+    let first = rw c.in-Err-Uncovered.field-0-is at c.in-Err-Uncovered.ensures in
+    let checked : Tree → Checked (g.row.F.Denot × g.row.C.Denot) (Answer g.row.E.Denot) =
+    λ t. record { answer = second_answer last.trees t (Err c.in-Err.stop); after = (c.first_local_ty.new.normalize, c.first_local_ty.new.infcx) } in
+    let e = uncovered-checked (g.C.Make.context c.args.infcx.now) (g.C.Make.context c.visit_args.new.infcx) last
+        c.visit_args.ensures.grows c.first_local_ty.ensures.grows c.args.in_crate see 256 c.args.trait_ref.args c.requires.args
+        (c.args.normalize, c.args.infcx.now) (c.visit_args.new.normalize, c.visit_args.new.infcx) c.in-Err-Uncovered.uncovered first.exit
+        (first.outcome normal h (λ x. cc)) checked
+        (λ t. c.in-Err.ensures.answer normal later (λ x. ne (let y : c.in-Err.stop ≡ Memory = cc in ap (λ z. Err (O.Stop z)) y)) t) in
+    record { answer = ap (λ x. x.answer) e; leaves = ap (λ x. x.after.1) e }
