@@ -4,14 +4,18 @@ use Rattle.candidate_ir.specs.declared.ir.kinds.Ty.{Ty}
 use Rattle.candidate_ir.specs.declared.ir.stop.Stop.{Stop}
 use Rattle.candidate_ir.specs.declared.ir.stop.Stop.TheVariants.{Memory}
 use Rattle.candidate_ir.specs.Trees.{Tree}
-use Rattle.candidate_ir.specs.Words.{IsTy, ty_tree}
+use Rattle.candidate_ir.specs.Words.{IsTy, ty_tree, args_forest}
 use Rattle.candidate_eval.specs.declared.coherence.IsFirstInputType.{IsFirstInputType}
 use Rattle.candidate_eval.specs.declared.coherence.IsFirstInputType.TheVariants as F
 use Rattle.candidate_eval.specs.declared.coherence.OrphanCheckErr.{OrphanCheckErr}
 use Rattle.candidate_eval.specs.declared.coherence.OrphanCheckErr.TheVariants as C
 use Rattle.candidate_eval.specs.declared.coherence.OrphanStop.{OrphanStop}
 use Rattle.candidate_eval.specs.declared.coherence.OrphanStop.TheVariants as O
-use Rattle.candidate_eval.specs.Orphan.{Answer, Passes, NonLocalInput, UncoveredInput, Faulty, Refused, Stopped, Entry, Checked}
+use Rattle.candidate_eval.specs.Orphan.{Answer, Passes, NonLocalInput, UncoveredInput, Faulty, Refused, Stopped, Entry, Checked, Knowability, Knowable, Upstream, Downstream, Unknown}
+use Rattle.candidate_ir.specs.declared.ir.kinds.TraitRef.{TraitRef}
+use Rattle.candidate_ir.specs.Worlds.{Reference}
+use Rattle.candidate_eval.specs.declared.coherence.Conflict.{Conflict}
+use Rattle.candidate_eval.specs.declared.coherence.Conflict.TheVariants as K
 
 abbrev pub is_first_input : IsFirstInputType → Bool
 is_first_input F.Yes = true
@@ -52,3 +56,23 @@ pub record IsAnswer {F C E : Type 0} (ts : List Tree) (result : CheckResult E) (
 abbrev pub second_answer : {E : Type 0} → List Tree → Tree → Result (Option Ty) Stop → Answer E
 second_answer ts t (Ok o) = UncoveredInput t (option_map (ty_tree ts) o)
 second_answer ts t (Err s) = Faulty (Stopped s)
+
+-- The reference of a context.
+abbrev pub reference_of : List Tree → TraitRef → Reference
+reference_of ts r = record { trait = r.def_id.0; arguments = args_forest ts r.args }
+
+-- What the test for all impls answers.
+abbrev pub KnownResult : Type 0 → Type 0
+KnownResult E = Result (Result (Unit {0}) Conflict) (OrphanStop E)
+
+abbrev pub knowledge_of : {E : Type 0} → KnownResult E → Knowability E
+knowledge_of (Ok (Ok u)) = Knowable
+knowledge_of (Ok (Err K.Upstream)) = Upstream
+knowledge_of (Ok (Err K.Downstream)) = Downstream
+knowledge_of (Err (O.Normalize e)) = Unknown (Refused e)
+knowledge_of (Err (O.Stop s)) = Unknown (Stopped s)
+
+-- The result and the context that is left are those of the definition.
+pub record IsKnowledge {F C E : Type 0} (result : KnownResult E) (left : C) (checked : Checked (F × C) (Knowability E)) : Type 0 where
+  pub answer : checked.answer ≡ knowledge_of result
+  pub leaves : checked.after.1 ≡ left

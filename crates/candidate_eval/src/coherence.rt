@@ -4,14 +4,15 @@ ghost use Rattle.std.specs.Prelude.{◌≡◌, ◌≢◌, false, IfOk, IfSome};
 ghost use Rattle.candidate_ir.specs.Context.{Grows, world};
 ghost use Rattle.candidate_ir.specs.Trees.{Tree, holds, is_param};
 ghost use Rattle.candidate_ir.specs.Words.{IsTy, IsArgs, args_forest};
-ghost use Rattle.candidate_eval.specs.Orphan.{View, view, orphan_answer};
+ghost use Rattle.candidate_eval.specs.Orphan.{View, view, orphan_answer, knowability, local_or_fundamental};
 ghost use Rattle.candidate_eval.specs.Normalizer.{MayNormalize, KeepsNumbers, IsFunction};
-ghost use Rattle.candidate_eval.specs.Answers.{AreAnswerTypes, OutOfMemory, IsAnswer, second_answer};
+ghost use Rattle.candidate_eval.specs.Answers.{AreAnswerTypes, OutOfMemory, IsAnswer, IsKnowledge, answer_of, reference_of, second_answer};
 ghost use Rattle.candidate_eval.specs.Walk.{setting};
 ghost use Rattle.candidate_eval.specs.Second.{IsSecond};
 
 use crate::eval::InferCtxtLike;
 use crate::walk::{EarlyExit, Walk, visit_args};
+use candidate_ir::decl::Cx;
 use candidate_ir::ir::kinds::{Args, TraitRef, Ty};
 use candidate_ir::ir::stop::Stop;
 use std::alloc::Global;
@@ -125,6 +126,47 @@ where
     }
 }
 
+/// The orphan check, by a normaliser that is used again.
+fn check<C, E, F>(
+    alloc: Global,
+    infcx: &mut C,
+    trait_ref: TraitRef,
+    in_crate: InCrate,
+    normalize: &mut F,
+) -> Result<Result<(), OrphanCheckErr<Ty>>, OrphanStop<E>>
+where
+    C: InferCtxtLike,
+    E: Drop,
+    F: FnMut(&mut C, Ty) -> Result<Ty, NormalizeErr<E>>,
+    requires args { IsArgs (C.context infcx.old).trees trait_ref.args }
+    requires callable { MayNormalize C.context F.FnMut infcx.old }
+    requires keeps { KeepsNumbers C.context F.FnMut infcx.old }
+    ensures grows { Grows (C.context infcx.old) (C.context infcx.new) }
+    ensures types { AreAnswerTypes (C.context infcx.new).trees result }
+    ensures answer { (normal : View (F × C) E) → IsFunction C.context F.FnMut infcx.old normal → ¬ (OutOfMemory result) → orphan_answer (world (C.context infcx.old)) (C.context infcx.old).local.0 in_crate (view (λ s t. C.resolved s.1 t) normal) 256 (normalize.old, infcx.old) (args_forest (C.context infcx.old).trees trait_ref.args) ≡ record { answer = answer_of (C.context infcx.new).trees result; after = (normalize.new, infcx.new) } }
+{
+    let mut walk = Walk {
+        in_crate,
+        seeks_local: false,
+        is_first: true,
+        non_local: Vec::new(alloc),
+    };
+    match visit_args(infcx, normalize, &mut walk, trait_ref.args, WALK_DEPTH) {
+        Ok(()) => Ok(Err(OrphanCheckErr::NonLocalInputType(walk.non_local))),
+        Err(EarlyExit::Local(_)) => Ok(Ok(())),
+        Err(EarlyExit::Uncovered(uncovered)) => {
+            match first_local_ty(alloc, infcx, trait_ref.args, in_crate, normalize) {
+                Ok(local_ty) => Ok(Err(OrphanCheckErr::UncoveredTyParams(UncoveredTyParams {
+                    uncovered,
+                    local_ty,
+                }))),
+                Err(stop) => Err(OrphanStop::Stop(stop)),
+            }
+        }
+        Err(EarlyExit::Broken(stop)) => Err(stop),
+    }
+}
+
 /// Whether the crate may write a header with the trait reference, by the types that a walk meets.
 ///
 /// The walk goes through the types of the reference in order, the self type first, and below
@@ -158,24 +200,64 @@ where
     // For a normaliser whose answers and effects are functions of the tree and the context.
     ensures answer { (normal : View (F × C) E) → IsFunction C.context F.FnMut infcx.old normal → ¬ (OutOfMemory result) → IsAnswer (C.context infcx.new).trees result infcx.new (orphan_answer (world (C.context infcx.old)) (C.context infcx.old).local.0 in_crate (view (λ s t. C.resolved s.1 t) normal) 256 (normalize, infcx.old) (args_forest (C.context infcx.old).trees trait_ref.args)) }
 {
-    let mut walk = Walk {
-        in_crate,
-        seeks_local: false,
-        is_first: true,
-        non_local: Vec::new(alloc),
+    check(alloc, infcx, trait_ref, in_crate, &mut normalize)
+}
+
+/// Whether the trait belongs to the local crate or has the flag `fundamental`.
+pub fn trait_ref_is_local_or_fundamental(cx: &Cx, trait_ref: TraitRef) -> bool
+    ensures { result ≡ local_or_fundamental (world cx.now) cx.now.local.0 trait_ref.def_id.0 }
+{
+    cx.trait_is_local(trait_ref.def_id) || cx.trait_is_fundamental(trait_ref.def_id)
+}
+
+/// Who may write impls of a reference that aren't known here.
+#[derive(Clone, Copy, Debug, PartialEq, Eq)]
+pub enum Conflict {
+    /// A crate that this one depends on may add one later.
+    Upstream,
+    /// A crate that isn't known may have one.
+    Downstream,
+}
+
+/// Whether all impls of a trait reference are known here.
+///
+/// A crate that isn't known may have one where the reference passes the `Remote` check:
+/// `Conflict::Downstream`. Else they are known where the trait is local or fundamental, or where the
+/// local crate may write the header: `Ok(())`. Else a crate above may add one: `Conflict::Upstream`.
+/// It stops as the orphan check does.
+pub fn trait_ref_is_knowable<C, E, F>(
+    alloc: Global,
+    infcx: &mut C,
+    trait_ref: TraitRef,
+    mut normalize: F,
+) -> Result<Result<(), Conflict>, OrphanStop<E>>
+where
+    C: InferCtxtLike,
+    E: Drop,
+    F: FnMut(&mut C, Ty) -> Result<Ty, NormalizeErr<E>> + Drop,
+    requires args { IsArgs (C.context infcx.old).trees trait_ref.args }
+    requires no_param { holds is_param (args_forest (C.context infcx.old).trees trait_ref.args) ≡ false }
+    requires callable { MayNormalize C.context F.FnMut infcx.old }
+    requires keeps { KeepsNumbers C.context F.FnMut infcx.old }
+    ensures grows { Grows (C.context infcx.old) (C.context infcx.new) }
+
+    // For a normaliser whose answers and effects are functions of the tree and the context.
+    ensures answer { (normal : View (F × C) E) → IsFunction C.context F.FnMut infcx.old normal → result ≢ Err (OrphanStop.Stop Stop.Memory) → IsKnowledge result infcx.new (knowability (world (C.context infcx.old)) (C.context infcx.old).local.0 (view (λ s t. C.resolved s.1 t) normal) 256 (normalize, infcx.old) (reference_of (C.context infcx.old).trees trait_ref)) }
+{
+    let remote = check(alloc, infcx, trait_ref, InCrate::Remote, &mut normalize)?;
+    if remote.is_ok() {
+        return Ok(Err(Conflict::Downstream));
+    }
+    if trait_ref_is_local_or_fundamental(infcx.cx(), trait_ref) {
+        return Ok(Ok(()));
+    }
+    let in_crate = InCrate::Local {
+        mode: OrphanCheckMode::Proper,
     };
-    match visit_args(infcx, &mut normalize, &mut walk, trait_ref.args, WALK_DEPTH) {
-        Ok(()) => Ok(Err(OrphanCheckErr::NonLocalInputType(walk.non_local))),
-        Err(EarlyExit::Local(_)) => Ok(Ok(())),
-        Err(EarlyExit::Uncovered(uncovered)) => {
-            match first_local_ty(alloc, infcx, trait_ref.args, in_crate, &mut normalize) {
-                Ok(local_ty) => Ok(Err(OrphanCheckErr::UncoveredTyParams(UncoveredTyParams {
-                    uncovered,
-                    local_ty,
-                }))),
-                Err(stop) => Err(OrphanStop::Stop(stop)),
-            }
-        }
-        Err(EarlyExit::Broken(stop)) => Err(stop),
+    let local = check(alloc, infcx, trait_ref, in_crate, &mut normalize)?;
+    if local.is_ok() {
+        Ok(Ok(()))
+    } else {
+        Ok(Err(Conflict::Upstream))
     }
 }

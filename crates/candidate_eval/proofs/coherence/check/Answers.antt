@@ -7,7 +7,7 @@ use Rattle.candidate_eval.specs.Answers.{second_answer}
 use Rattle.candidate_eval.specs.Orphan.{Answer, Checked, view}
 use Rattle.candidate_eval.proofs.Calls.{keeps-later, function-later}
 use Rattle.candidate_eval.proofs.Checks.{uncovered-checked}
-use Rattle.candidate_eval.proofs.coherence.orphan_check_trait_ref.Goals as goal
+use Rattle.candidate_eval.proofs.coherence.check.Goals as goal
 
 pub first_local_ty-requires-clause-args : goal.first_local_ty-requires-clause-args
 first_local_ty-requires-clause-args g c = (args-kept _ _ c.args.trait_ref.args c.visit_args.ensures.grows c.requires.args).0
@@ -30,10 +30,10 @@ returns-in-Ok-first_local_ty-clause-answer g c = λ normal h ne.
     λ t. record { answer = second_answer last.trees t (Ok c.in-Ok-first_local_ty.local_ty); after = (c.first_local_ty.new.normalize, c.first_local_ty.new.infcx) } in
     let e = uncovered-checked (g.C.Make.context c.args.infcx.now) (g.C.Make.context c.visit_args.new.infcx) last
         c.visit_args.ensures.grows c.first_local_ty.ensures.grows c.args.in_crate see 256 c.args.trait_ref.args c.requires.args
-        (c.args.normalize, c.args.infcx.now) (c.visit_args.new.normalize, c.visit_args.new.infcx) c.in-Err-Uncovered.uncovered first.exit
+        (c.args.normalize.now, c.args.infcx.now) (c.visit_args.new.normalize, c.visit_args.new.infcx) c.in-Err-Uncovered.uncovered first.exit
         (first.outcome normal h (λ x. cc)) checked
         (λ t. c.in-Ok-first_local_ty.ensures.answer normal later (λ x. cc) t) in
-    record { answer = ap (λ x. x.answer) e; leaves = ap (λ x. x.after.1) e }
+    e
 
 pub returns-in-Err-Uncovered-clause-answer : goal.returns-in-Err-Uncovered-clause-answer
 returns-in-Err-Uncovered-clause-answer g c = λ normal h ne.
@@ -45,7 +45,7 @@ returns-in-Err-Uncovered-clause-answer g c = λ normal h ne.
     λ t. record { answer = second_answer last.trees t (Err c.in-Err.stop); after = (c.first_local_ty.new.normalize, c.first_local_ty.new.infcx) } in
     let e = uncovered-checked (g.C.Make.context c.args.infcx.now) (g.C.Make.context c.visit_args.new.infcx) last
         c.visit_args.ensures.grows c.first_local_ty.ensures.grows c.args.in_crate see 256 c.args.trait_ref.args c.requires.args
-        (c.args.normalize, c.args.infcx.now) (c.visit_args.new.normalize, c.visit_args.new.infcx) c.in-Err-Uncovered.uncovered first.exit
+        (c.args.normalize.now, c.args.infcx.now) (c.visit_args.new.normalize, c.visit_args.new.infcx) c.in-Err-Uncovered.uncovered first.exit
         (first.outcome normal h (λ x. cc)) checked
         (λ t. c.in-Err.ensures.answer normal later (λ x. ne (let y : c.in-Err.stop ≡ Memory = cc in ap (λ z. Err (O.Stop z)) y)) t) in
-    record { answer = ap (λ x. x.answer) e; leaves = ap (λ x. x.after.1) e }
+    e
