@@ -1,5 +1,5 @@
 -- What stays of a context that grows.
-use Rattle.std.proofs.Common.{◌≡◌, ℕ, List, [], ◌∷◌, ◌++◌, refl, sym, ◌∙◌, ap, append_assoc}
+use Rattle.std.proofs.Common.{◌≡◌, ℕ, zero, suc, ◌<◌, List, [], ◌∷◌, ◌++◌, length, get_or, refl, sym, ◌∙◌, ap, subst, append_assoc, arith}
 use Rattle.std.specs.Prelude.{map, true}
 use Rattle.std.proofs.lemmas.List.{append-nil}
 use Rattle.candidate_ir.specs.Trees.{Kind, Tree}
@@ -56,3 +56,12 @@ ListFits-ty ts (x ∷ xs) t e h =
     let tail : ListFits ts xs = cc in
     let more : ListFits ts (xs ++ A.Ty t ∷ []) = ListFits-ty ts xs t tail h in
     cc
+
+-- a type in a list that fits is a type
+pub IsTy-listed : (ts : List Tree) (xs : List GenericArg) (i : ℕ) (d : GenericArg) (t : Ty) → i < length xs → get_or xs i d ≡ A.Ty t → ListFits ts xs → IsTy ts t
+IsTy-listed ts [] i d t b e f = absurd (omega arith)
+IsTy-listed ts (x ∷ xs) zero d t b e f =
+    let Head : GenericArg → Type 0 = λ y. ListFits ts (y ∷ xs) in
+    let fits : ListFits ts (A.Ty t ∷ xs) = subst Head e f in
+    cc
+IsTy-listed ts (x ∷ xs) (suc i) d t b e f = let tail : ListFits ts xs = cc in IsTy-listed ts xs i d t (omega arith) e tail

@@ -1,13 +1,26 @@
 //! Reads declarations and queries, a line each, and prints the answers.
 #![tactic(auto)]
 
+mod asking;
+mod declaring;
 mod faults;
+mod lines;
 mod names;
 mod notation;
+mod orphan_stub;
 mod plain;
+mod run;
 mod types;
 mod words;
 
-fn main(rt: HostRuntime) -> std::process::ExitCode {
-    std::process::ExitCode::from(0)
+use run::{Status, run_text};
+use std::io;
+use std::process::ExitCode;
+
+fn main(rt: HostRuntime) -> ExitCode {
+    let status = run_text(rt.alloc(), rt.stdin(), rt.stdout());
+    if status == Status::DeviceFailed {
+        let _ = eprintln!(rt; "input or output failed");
+    }
+    ExitCode::from(status as u8)
 }
