@@ -12,7 +12,6 @@ use Rattle.candidate_ir.specs.declared.ir.kinds.Region.{Region}
 use Rattle.candidate_ir.specs.declared.ir.kinds.Args.{Args}
 use Rattle.candidate_ir.specs.declared.ir.kinds.GenericArg.{GenericArg}
 use Rattle.candidate_ir.specs.declared.ir.kinds.GenericArg.TheVariants as A
-
 use Rattle.candidate_ir.proofs.Lists.{there, all_there, kind_at-append, below_kind, kinds_at-append, Below-there}
 
 -- a context grows to itself
@@ -24,8 +23,8 @@ Grows-then a b c g h = record {
   same = h.same ∙ ap (λ (x : Context). let y : Context = record x { trees = c.trees } in y) g.same;
   kept = record {
     added = g.kept.added ++ h.kept.added;
-    is = h.kept.is ∙ ap (λ (ts : List Tree). ts ++ h.kept.added) g.kept.is ∙ append_assoc a.trees g.kept.added h.kept.added
-  }
+    is = h.kept.is ∙ ap (λ (ts : List Tree). ts ++ h.kept.added) g.kept.is ∙ append_assoc a.trees g.kept.added h.kept.added;
+  };
 }
 
 -- a number that has a kind keeps it
@@ -46,7 +45,7 @@ pub ListFits-grows : (a b : Context) (xs : List GenericArg) → Grows a b → Li
 ListFits-grows a b xs g e =
     rw g.kept.is
     (kinds_at-append a.trees g.kept.added (numbers (map arg_child xs))
-        (Below-there a.trees (numbers (map arg_child xs)) (sorts (map arg_child xs)) e (there-args xs))
+    (Below-there a.trees (numbers (map arg_child xs)) (sorts (map arg_child xs)) e (there-args xs))
     ∙ e)
 
 -- a list that fits still does with one more type

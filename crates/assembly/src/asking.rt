@@ -126,7 +126,8 @@ impl Asking {
         requires local { IfSome found.now.local_ty (IsTy self.old.scope.maker.cx.trees) }
     {
         self.answer.push_str("uncovered ")?;
-        self.scope.print_type(found.uncovered, DEEPEST, &mut self.answer)?;
+        self.scope
+            .print_type(found.uncovered, DEEPEST, &mut self.answer)?;
         self.answer.push_str(" local ")?;
         match found.local_ty {
             Some(ty) => self.scope.print_type(ty, DEEPEST, &mut self.answer)?,
@@ -140,7 +141,9 @@ impl Asking {
 /// For which crate the word says that a reference is checked, else `Fault::BadFlag`.
 fn in_crate<'a>(word: &'a str) -> Result<InCrate, Fault<'a>> {
     match word {
-        "local" => Ok(InCrate::Local { mode: OrphanCheckMode::Proper }),
+        "local" => Ok(InCrate::Local {
+            mode: OrphanCheckMode::Proper,
+        }),
         _ => Err(Fault::BadFlag(word)),
     }
 }

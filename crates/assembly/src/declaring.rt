@@ -58,7 +58,11 @@ impl Declaring {
 
     /// What can be asked once all is declared. It has an error where the declarations have a fault.
     pub fn finish(self) -> Result<Asking, DeclFault> {
-        let Declaring { alloc, names, builder } = self;
+        let Declaring {
+            alloc,
+            names,
+            builder,
+        } = self;
         Ok(Asking::new(alloc, names, Cx::new(builder.finish()?)))
     }
 
@@ -75,7 +79,9 @@ impl Declaring {
         let arity = words.number(u16::MAX)?;
         let (shape, flags) = adt_flags(words)?;
         let parameters = self.type_parameters(arity)?;
-        let id = self.builder.add_adt(krate, shape, parameters.as_slice(), flags)?;
+        let id = self
+            .builder
+            .add_adt(krate, shape, parameters.as_slice(), flags)?;
         self.names.add_definition(name, Item::Adt(id, arity))?;
         Ok(())
     }

@@ -10,6 +10,8 @@ mod notation;
 mod orphan_stub;
 mod plain;
 mod run;
+#[cfg(test)]
+mod tests;
 mod types;
 mod words;
 

@@ -75,7 +75,8 @@ impl Names {
     /// Gives the name to the next definition.
     pub fn add_definition(&mut self, name: &str, item: Item) -> Result<(), AllocError> {
         self.definitions.push(String::from_str(self.alloc, name)?)?;
-        self.items.insert(String::from_str(self.alloc, name)?, item)?;
+        self.items
+            .insert(String::from_str(self.alloc, name)?, item)?;
         Ok(())
     }
 
@@ -92,6 +93,8 @@ impl Names {
 fn is_name(word: &str) -> bool {
     word.len() <= LONGEST
         && word.starts_with(|first: char| first.is_ascii_alphabetic())
-        && word.bytes().all(|byte| byte.is_ascii_alphanumeric() || byte == b'_')
+        && word
+            .bytes()
+            .all(|byte| byte.is_ascii_alphanumeric() || byte == b'_')
         && crate::notation::leaf(word).is_none()
 }

@@ -44,10 +44,7 @@ fn run<R: Read, W: Write>(alloc: Global, input: &mut R, output: &mut W) -> io::R
 }
 
 /// Adds all that the input has to the text. The inner error comes where the text can't grow.
-fn read_to_end<R: Read>(
-    input: &mut R,
-    text: &mut Vec<u8>,
-) -> io::Result<Result<(), AllocError>> {
+fn read_to_end<R: Read>(input: &mut R, text: &mut Vec<u8>) -> io::Result<Result<(), AllocError>> {
     let mut buffer = [0u8; 8192];
     for _ in 0..MOST_READS {
         match input.read(&mut buffer) {

@@ -19,5 +19,5 @@ read_types-loop-preserved g t c =
     record {
       grows = Grows-then _ _ _ c.loop.invariant.grows c.read_type.ensures.grows;
       fits = rw one_more
-          (ListFits-ty _ _ _ (ListFits-grows _ _ _ c.read_type.ensures.grows c.loop.invariant.fits) c.in_ok-read_type.ensures.sort)
+          (ListFits-ty _ _ _ (ListFits-grows _ _ _ c.read_type.ensures.grows c.loop.invariant.fits) c.in_ok-read_type.ensures.sort);
     }
