@@ -4,12 +4,10 @@ use Rattle.std.specs.Prelude.{map, true}
 use Rattle.std.proofs.lemmas.List.{append-nil}
 use Rattle.candidate_ir.specs.Trees.{Kind, Tree}
 use Rattle.candidate_ir.specs.Kinds.{numbers, sorts, arg_child}
-use Rattle.candidate_ir.specs.Nodes.{Extends, kind_at, kinds_at}
+use Rattle.candidate_ir.specs.Nodes.{kind_at}
 use Rattle.candidate_ir.specs.Context.{Context, Grows}
-use Rattle.candidate_ir.specs.Words.{IsTy, IsRegion, IsArgs, ListFits}
+use Rattle.candidate_ir.specs.Words.{IsTy, ListFits}
 use Rattle.candidate_ir.specs.declared.ir.kinds.Ty.{Ty}
-use Rattle.candidate_ir.specs.declared.ir.kinds.Region.{Region}
-use Rattle.candidate_ir.specs.declared.ir.kinds.Args.{Args}
 use Rattle.candidate_ir.specs.declared.ir.kinds.GenericArg.{GenericArg}
 use Rattle.candidate_ir.specs.declared.ir.kinds.GenericArg.TheVariants as A
 use Rattle.candidate_ir.proofs.Lists.{there, all_there, kind_at-append, below_kind, kinds_at-append, Below-there}

@@ -73,6 +73,25 @@ const TYPES: &[&str] = &[
     "Vec error",
 ];
 
+/// How many words `&` stand before a local type, and the answer.
+const DEPTHS: &[(usize, &str)] = &[(255, "ok\n"), (256, "stop 2\n"), (1023, "stop 2\n")];
+
+#[test]
+fn goes_on_after_a_stop(rt: HostRuntime) -> Result<(), Fail> {
+    for (references, want) in DEPTHS {
+        let mut text = declared(rt.alloc(), "orphan local Trait")?;
+        for _ in 0..*references {
+            text.push_str(" &")?;
+        }
+        text.push_str(" LocalType\norphan local Trait error\n")?;
+        let wanted = format!(in rt.alloc(); "{want}ok\n")?;
+        let (status, written) = run_on(rt.alloc(), text.as_bytes());
+        assert_eq!(rt; status, Status::Done, "{references}");
+        assert_eq!(rt; written.as_slice(), wanted.as_bytes(), "{references}");
+    }
+    Ok(())
+}
+
 #[test]
 fn answers(rt: HostRuntime) -> Result<(), Fail> {
     for (lines, want) in ANSWERS {

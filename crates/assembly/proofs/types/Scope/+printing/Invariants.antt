@@ -1,4 +1,4 @@
-use Rattle.std.proofs.Common.{ℕ, ◌+◌, ◌*◌}
+use Rattle.std.proofs.Common.{◌+◌, ◌*◌}
 use Rattle.candidate_ir.specs.Words.{ListFits}
 use Rattle.assembly.proofs.types.Scope.+printing.Given as goal
 
