@@ -135,10 +135,6 @@ impl<M: Make> Scope<M> {
             return Err(Stop::NodesFull);
         };
         let kind = self.maker.cx().kind(ty);
-        if let Some(word) = leaf_word(kind) {
-            text.push_str(word)?;
-            return Ok(());
-        }
         match kind {
             TyKind::Ref(_, target, mutability) => {
                 text.push_str(reference_word(mutability))?;
@@ -164,7 +160,7 @@ impl<M: Make> Scope<M> {
                 text.push_str(name)?;
                 self.print_types(args, below, text)
             }
-            _ => print_mark(kind, text),
+            _ => print_leaf(kind, text),
         }
     }
 
@@ -198,7 +194,12 @@ fn pointer_word(mutability: Mutability) -> &'static str {
     }
 }
 
-fn print_mark(kind: TyKind, text: &mut String) -> Result<(), Stop> {
+/// Adds a type that one word stands for.
+fn print_leaf(kind: TyKind, text: &mut String) -> Result<(), Stop> {
+    if let Some(word) = leaf_word(kind) {
+        text.push_str(word)?;
+        return Ok(());
+    }
     match kind {
         TyKind::Infer(InferTy::TyVar(number)) => write!(text, "${number}")?,
         TyKind::Param(index) => write!(text, "#{index}")?,
