@@ -1,0 +1,149 @@
+//! The commands that ask.
+
+ghost use Rattle.std.specs.Prelude.{◌≡◌, All, IfSome};
+ghost use Rattle.candidate_ir.specs.Words.{IsTy};
+ghost use Rattle.assembly.specs.Answers.{AreTypes, AreTypesOf};
+
+use crate::faults::Fault;
+use crate::names::Names;
+use crate::orphan_stub::orphan_check_trait_ref;
+use crate::plain::PlainContext;
+use crate::types::{DEEPEST, Scope};
+use crate::words::Words;
+use candidate_eval::coherence::{
+    InCrate, IsFirstInputType, NormalizeErr, OrphanCheckErr, OrphanCheckMode, OrphanStop,
+    UncoveredTyParams,
+};
+use candidate_ir::decl::context::Cx;
+use candidate_ir::ir::kinds::Ty;
+use candidate_ir::ir::stop::Stop;
+use std::alloc::Global;
+use std::convert::Infallible;
+
+/// A command that asks.
+#[derive(Clone, Copy)]
+pub enum Query {
+    Orphan,
+}
+
+/// What is declared, and the answer that was made last.
+#[derive(Drop)]
+pub struct Asking {
+    scope: Scope<PlainContext>,
+    answer: String,
+}
+
+impl Asking {
+    /// Over what is declared under these names.
+    pub fn new(alloc: Global, names: Names, cx: Cx) -> Self {
+        Asking {
+            scope: Scope {
+                alloc,
+                names,
+                maker: PlainContext { cx },
+            },
+            answer: String::new(alloc),
+        }
+    }
+
+    /// The answer to the line, whose command was read; or why it can't be given.
+    ///
+    /// The error is a fault of the line.
+    pub fn ask<'a>(
+        &mut self,
+        query: Query,
+        words: Words<'a>,
+    ) -> Result<Result<&str, Stop>, Fault<'a>> {
+        self.answer.clear();
+        let made = match query {
+            Query::Orphan => self.orphan(words)?,
+        };
+        match made {
+            Ok(()) => Ok(Ok(self.answer.as_str())),
+            Err(stop) => Ok(Err(stop)),
+        }
+    }
+
+    fn orphan<'a>(&mut self, mut words: Words<'a>) -> Result<Result<(), Stop>, Fault<'a>> {
+        let in_crate = in_crate(words.word()?)?;
+        let trait_ref = self.scope.read_trait_ref(&mut words)?;
+        words.end()?;
+        if self.scope.maker.cx.has_param(trait_ref) {
+            return Err(Fault::Parameter);
+        }
+        let checked = orphan_check_trait_ref(
+            self.scope.alloc,
+            &mut self.scope.maker,
+            trait_ref,
+            in_crate,
+            |_, ty| -> Result<Ty, NormalizeErr<Infallible>> { Ok(ty) },
+        );
+        Ok(self.print_orphan(checked))
+    }
+
+    fn print_orphan(
+        &mut self,
+        checked: Result<Result<(), OrphanCheckErr<Ty>>, OrphanStop<Infallible>>,
+    ) -> Result<(), Stop>
+        requires { AreTypes self.old.scope.maker.cx.trees checked }
+    {
+        match checked {
+            Ok(Ok(())) => self.answer.push_str("ok\n")?,
+            Ok(Err(err)) => self.print_orphan_err(&err)?,
+            Err(OrphanStop::Stop(stop)) => return Err(stop),
+            Err(OrphanStop::Normalize(never)) => match never {},
+        }
+        Ok(())
+    }
+
+    fn print_orphan_err(&mut self, err: &OrphanCheckErr<Ty>) -> Result<(), Stop>
+        requires { AreTypesOf self.old.scope.maker.cx.trees err.now }
+    {
+        match err {
+            OrphanCheckErr::NonLocalInputType(entries) => self.print_nonlocal(entries.as_slice()),
+            OrphanCheckErr::UncoveredTyParams(found) => self.print_uncovered(found),
+        }
+    }
+
+    fn print_nonlocal(&mut self, entries: &[(Ty, IsFirstInputType)]) -> Result<(), Stop>
+        requires { All (λ e. IsTy self.old.scope.maker.cx.trees e.0) entries.now }
+    {
+        self.answer.push_str("nonlocal")?;
+        for (ty, is_first) in entries {
+            self.answer.push_str(" (")?;
+            self.scope.print_type(*ty, DEEPEST, &mut self.answer)?;
+            self.answer.push_str(match is_first {
+                IsFirstInputType::Yes => ", Yes)",
+                IsFirstInputType::No => ", No)",
+            })?;
+        }
+        self.answer.push('\n')?;
+        Ok(())
+    }
+
+    fn print_uncovered(&mut self, found: &UncoveredTyParams<Ty>) -> Result<(), Stop>
+        requires uncovered { IsTy self.old.scope.maker.cx.trees found.now.uncovered }
+        requires local { IfSome found.now.local_ty (IsTy self.old.scope.maker.cx.trees) }
+    {
+        self.answer.push_str("uncovered ")?;
+        self.scope
+            .print_type(found.uncovered, DEEPEST, &mut self.answer)?;
+        self.answer.push_str(" local ")?;
+        match found.local_ty {
+            Some(ty) => self.scope.print_type(ty, DEEPEST, &mut self.answer)?,
+            None => self.answer.push_str("none")?,
+        }
+        self.answer.push('\n')?;
+        Ok(())
+    }
+}
+
+/// For which crate the word says that a reference is checked, else `Fault::BadFlag`.
+fn in_crate<'a>(word: &'a str) -> Result<InCrate, Fault<'a>> {
+    match word {
+        "local" => Ok(InCrate::Local {
+            mode: OrphanCheckMode::Proper,
+        }),
+        _ => Err(Fault::BadFlag(word)),
+    }
+}

@@ -1,0 +1,140 @@
+//! The commands that declare.
+
+use crate::asking::Asking;
+use crate::faults::Fault;
+use crate::names::{Item, Names};
+use crate::words::Words;
+use candidate_ir::decl::builder::{DeclFault, DeclsBuilder};
+use candidate_ir::decl::context::Cx;
+use candidate_ir::decl::definition::{AdtFlags, AdtShape, CrateId, TraitFlags};
+use candidate_ir::ir::kinds::VarKind;
+use std::alloc::Global;
+
+/// How many crates there are.
+const CRATES: u16 = 10;
+
+/// A command that declares.
+#[derive(Clone, Copy)]
+pub enum Declaration {
+    Local,
+    Adt,
+    Trait,
+}
+
+/// What is declared so far.
+#[derive(Drop)]
+pub struct Declaring {
+    alloc: Global,
+    names: Names,
+    builder: DeclsBuilder,
+}
+
+impl Declaring {
+    /// Nothing but the crates. The only error is `DeclFault::Memory`.
+    pub fn new(alloc: Global) -> Result<Self, DeclFault> {
+        let mut builder = DeclsBuilder::new(alloc);
+        for _ in 0..CRATES {
+            builder.add_crate()?;
+        }
+        Ok(Declaring {
+            alloc,
+            names: Names::new(alloc),
+            builder,
+        })
+    }
+
+    /// Does what the line asks, whose command was read.
+    pub fn declare<'a>(
+        &mut self,
+        declaration: Declaration,
+        words: Words<'a>,
+    ) -> Result<(), Fault<'a>> {
+        match declaration {
+            Declaration::Local => self.local(words),
+            Declaration::Adt => self.adt(words),
+            Declaration::Trait => self.trait_line(words),
+        }
+    }
+
+    /// What can be asked once all is declared. It has an error where the declarations have a fault.
+    pub fn finish(self) -> Result<Asking, DeclFault> {
+        let Declaring {
+            alloc,
+            names,
+            builder,
+        } = self;
+        Ok(Asking::new(alloc, names, Cx::new(builder.finish()?)))
+    }
+
+    fn local<'a>(&mut self, mut words: Words<'a>) -> Result<(), Fault<'a>> {
+        let local = crate_id(&mut words)?;
+        words.end()?;
+        self.builder.set_local(local);
+        Ok(())
+    }
+
+    fn adt<'a>(&mut self, mut words: Words<'a>) -> Result<(), Fault<'a>> {
+        let krate = crate_id(&mut words)?;
+        let name = self.names.unused(words.word()?)?;
+        let arity = words.number(u16::MAX)?;
+        let (shape, flags) = adt_flags(words)?;
+        let parameters = self.type_parameters(arity)?;
+        let id = self
+            .builder
+            .add_adt(krate, shape, parameters.as_slice(), flags)?;
+        self.names.add_definition(name, Item::Adt(id, arity))?;
+        Ok(())
+    }
+
+    fn trait_line<'a>(&mut self, mut words: Words<'a>) -> Result<(), Fault<'a>> {
+        let krate = crate_id(&mut words)?;
+        let name = self.names.unused(words.word()?)?;
+        let arity = words.number(u16::MAX)?;
+        let flags = trait_flags(words)?;
+        let parameters = self.type_parameters(arity)?;
+        let id = self.builder.add_trait(krate, parameters.as_slice(), flags)?;
+        self.names.add_definition(name, Item::Trait(id, arity))?;
+        Ok(())
+    }
+
+    fn type_parameters<'a>(&self, count: u16) -> Result<Vec<VarKind>, Fault<'a>> {
+        Ok(vec![in self.alloc; VarKind::Ty; usize::from(count)]?)
+    }
+}
+
+fn crate_id<'a>(words: &mut Words<'a>) -> Result<CrateId, Fault<'a>> {
+    Ok(CrateId(u32::from(words.number(CRATES - 1)?)))
+}
+
+fn adt_flags<'a>(words: Words<'a>) -> Result<(AdtShape, AdtFlags), Fault<'a>> {
+    let mut shape = AdtShape::Struct;
+    let mut flags = AdtFlags::default();
+    for word in words.others() {
+        match word {
+            "fundamental" => flags.fundamental = true,
+            "phantom" => flags.phantom_data = true,
+            "manually_drop" => flags.manually_drop = true,
+            "unsafe_fields" => flags.unsafe_fields = true,
+            "enum" => shape = AdtShape::Enum,
+            "union" => shape = AdtShape::Union,
+            _ => return Err(Fault::BadFlag(word)),
+        }
+    }
+    Ok((shape, flags))
+}
+
+fn trait_flags<'a>(words: Words<'a>) -> Result<TraitFlags, Fault<'a>> {
+    let mut flags = TraitFlags::default();
+    for word in words.others() {
+        match word {
+            "auto" => flags.auto = true,
+            "alias" => flags.alias = true,
+            "unsafe" => flags.unsafe_ = true,
+            "fundamental" => flags.fundamental = true,
+            "dyn" => flags.dyn_compatible = true,
+            "default" => flags.default = true,
+            _ => return Err(Fault::BadFlag(word)),
+        }
+    }
+    Ok(flags)
+}

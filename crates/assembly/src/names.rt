@@ -1,0 +1,100 @@
+//! The names that were declared.
+
+ghost use Rattle.std.specs.Prelude.{◌≡◌, ◌↔◌, ◌⊎◌, IfOk, IfErr, OnOk, Some, None};
+ghost use Rattle.std.specs.HashMap.{get_by_text};
+
+use crate::faults::Fault;
+use candidate_ir::ir::kinds::{AdtId, TraitId};
+use std::alloc::{AllocError, Global};
+use std::collections::HashMap;
+
+const LONGEST: usize = 64;
+
+/// What a name stands for, with how many arguments it takes.
+#[derive(Clone, Copy)]
+pub enum Item {
+    Adt(AdtId, u16),
+    Trait(TraitId, u16),
+}
+
+/// The names declared so far.
+#[derive(Drop)]
+pub struct Names {
+    alloc: Global,
+    items: HashMap<String, Item>,
+    /// The names of the definitions by their numbers.
+    definitions: Vec<String>,
+}
+
+impl Names {
+    /// No names.
+    pub fn new(alloc: Global) -> Self {
+        Names {
+            alloc,
+            items: HashMap::new(alloc),
+            definitions: Vec::new(alloc),
+        }
+    }
+
+    /// The word, if it can be the name of something new.
+    ///
+    /// `Fault::BadName` comes if it can't be a name, `Fault::NameTwice` if it is taken.
+    pub fn unused<'a>(&self, word: &'a str) -> Result<&'a str, Fault<'a>>
+        ensures word { IfOk result (λ name. name.now ≡ word.entry.now) }
+        ensures cause { IfErr result (λ e. (e ≡ Fault.BadName word.entry) ⊎ (e ≡ Fault.NameTwice word.entry)) }
+    {
+        if !is_name(word) {
+            return Err(Fault::BadName(word));
+        }
+        if self.items.contains_key(word) {
+            return Err(Fault::NameTwice(word));
+        }
+        Ok(word)
+    }
+
+    /// The data type of that name and how many arguments it takes, else `Fault::UnknownName`.
+    pub fn adt<'a>(&self, word: &'a str) -> Result<(AdtId, u16), Fault<'a>>
+        ensures { IfErr result (λ e. e ≡ Fault.UnknownName word.entry) }
+    {
+        match self.items.get(word) {
+            Some(Item::Adt(id, arity)) => Ok((*id, *arity)),
+            _ => Err(Fault::UnknownName(word)),
+        }
+    }
+
+    /// The trait of that name and how many arguments it takes after `Self`, else `Fault::UnknownName`.
+    pub fn trait_named<'a>(&self, word: &'a str) -> Result<(TraitId, u16), Fault<'a>>
+        ensures { IfErr result (λ e. e ≡ Fault.UnknownName word.entry) }
+    {
+        match self.items.get(word) {
+            Some(Item::Trait(id, arity)) => Ok((*id, *arity)),
+            _ => Err(Fault::UnknownName(word)),
+        }
+    }
+
+    /// Gives the name to the next definition.
+    pub fn add_definition(&mut self, name: &str, item: Item) -> Result<(), AllocError> {
+        self.definitions.push(String::from_str(self.alloc, name)?)?;
+        self.items
+            .insert(String::from_str(self.alloc, name)?, item)?;
+        Ok(())
+    }
+
+    /// The name of the definition of that number.
+    pub fn definition(&self, number: u32) -> Option<&str> {
+        match self.definitions.get(number as usize) {
+            Some(name) => Some(name.as_str()),
+            None => None,
+        }
+    }
+}
+
+/// Whether the word is a letter and then letters, digits and `_`, not too long, and no type.
+fn is_name(word: &str) -> bool {
+    word.len() <= LONGEST
+        && word.starts_with(|first: char| first.is_ascii_alphabetic())
+        && word
+            .bytes()
+            .all(|byte| byte.is_ascii_alphanumeric() || byte == b'_')
+        && crate::notation::leaf(word).is_none()
+}

@@ -1,0 +1,87 @@
+//! A run over a text.
+
+use crate::faults::Fault;
+use crate::lines::{Halt, Stage};
+use candidate_ir::ir::stop::Stop;
+use std::alloc::{AllocError, Global};
+use std::io;
+use std::io::{ErrorKind, Read, Write};
+
+/// After how many reads an input without an end is given up.
+const MOST_READS: u64 = 1 << 32;
+
+/// How a run ended; `status as u8` is the number that a process answers.
+#[derive(Clone, Copy, Debug, PartialEq, Eq)]
+pub enum Status {
+    /// All lines were read.
+    Done = 0,
+    /// A line is bad.
+    BadLine = 2,
+    /// The input or the output failed.
+    DeviceFailed = 3,
+}
+
+/// Reads the whole input, and writes the answers of its lines.
+pub fn run_text<R: Read + Drop, W: Write + Drop>(
+    alloc: Global,
+    mut input: R,
+    mut output: W,
+) -> Status {
+    match run(alloc, &mut input, &mut output) {
+        Ok(status) => status,
+        Err(_) => Status::DeviceFailed,
+    }
+}
+
+fn run<R: Read, W: Write>(alloc: Global, input: &mut R, output: &mut W) -> io::Result<Status> {
+    let mut text = Vec::new(alloc);
+    let status = match read_to_end(input, &mut text)? {
+        Ok(()) => answer_lines(alloc, text.as_slice(), output)?,
+        Err(_) => refuse(1, Fault::Stop(Stop::Memory), output)?,
+    };
+    output.flush()?;
+    Ok(status)
+}
+
+/// Adds all that the input has to the text. The inner error comes where the text can't grow.
+fn read_to_end<R: Read>(input: &mut R, text: &mut Vec<u8>) -> io::Result<Result<(), AllocError>> {
+    let mut buffer = [0u8; 8192];
+    for _ in 0..MOST_READS {
+        match input.read(&mut buffer) {
+            Ok(0) => return Ok(Ok(())),
+            Ok(count) => {
+                if text.extend_from_slice(&buffer[..count]).is_err() {
+                    return Ok(Err(AllocError));
+                }
+            }
+            Err(error) => {
+                if error.kind() != ErrorKind::Interrupted {
+                    return Err(error);
+                }
+            }
+        }
+    }
+    Err(io::Error::from(ErrorKind::TimedOut))
+}
+
+fn answer_lines<W: Write>(alloc: Global, text: &[u8], output: &mut W) -> io::Result<Status> {
+    let mut stage = match Stage::new(alloc) {
+        Ok(stage) => stage,
+        Err(fault) => return refuse(1, fault, output),
+    };
+    let mut number = 0u64;
+    for line in text.split(|byte| *byte == b'\n') {
+        number = number.saturating_add(1);
+        stage = match stage.take(line, output) {
+            Ok(next) => next,
+            Err(Halt::Device(error)) => return Err(error),
+            Err(Halt::Line(fault)) => return refuse(number, fault, output),
+        };
+    }
+    Ok(Status::Done)
+}
+
+fn refuse<W: Write>(number: u64, fault: Fault<'_>, output: &mut W) -> io::Result<Status> {
+    writeln!(output, "line {number}: {fault}")?;
+    Ok(Status::BadLine)
+}

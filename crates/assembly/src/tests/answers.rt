@@ -1,0 +1,117 @@
+//! Texts without a bad line.
+
+use crate::run::Status;
+use crate::tests::memory::{declared, run_on};
+use std::test::Fail;
+
+/// Queries after the declarations, and their answers.
+const ANSWERS: &[(&str, &str)] = &[
+    ("orphan local Trait Pair Vec (0) Box LocalType", "ok\n"),
+    (
+        "orphan local Trait Vec LocalType",
+        "nonlocal (Vec LocalType, Yes)\n",
+    ),
+    (
+        "orphan local Trait1 Vec $0 LocalType\norphan local Trait1 Box $0 LocalType\n",
+        "ok\nuncovered $0 local LocalType\n",
+    ),
+    (
+        "orphan local Trait Pair Wrap $0 $0\norphan local Trait Wrap Vec $0\norphan local Trait Box Vec Wrap $0",
+        "ok\nok\nnonlocal (Vec Wrap $0, Yes)\n",
+    ),
+    (
+        "orphan local Trait Pair u8 u16",
+        "nonlocal (u8, Yes) (u16, No)\n",
+    ),
+    ("orphan local Trait Unit0", "nonlocal\n"),
+    ("orphan local Trait error", "ok\n"),
+];
+
+/// Whole texts, and their answers.
+const TEXTS: &[(&str, &str)] = &[
+    ("", ""),
+    ("\n  \n// anything\n//\n", ""),
+    (
+        "local 2\nadt 1 La 0\nadt 2 Lb 0\nadt 3 Pair 2 fundamental\ntrait 3 T 0\norphan local T Pair La $0\norphan local T Pair $0 Lb\norphan local T Pair Lb $0",
+        "uncovered $0 local none\nuncovered $0 local Lb\nok\n",
+    ),
+    (
+        "local 3\nlocal 002\n  trait  1 T 0 \nadt 2 L 0 enum enum\n\norphan local T L",
+        "ok\n",
+    ),
+];
+
+/// Types of other crates, as they are read and printed.
+const TYPES: &[&str] = &[
+    "bool",
+    "char",
+    "str",
+    "!",
+    "i8",
+    "i16",
+    "i32",
+    "i64",
+    "i128",
+    "isize",
+    "u8",
+    "u16",
+    "u32",
+    "u64",
+    "u128",
+    "usize",
+    "f16",
+    "f32",
+    "f64",
+    "f128",
+    "Vec & u8",
+    "Vec &mut u8",
+    "*const u8",
+    "*mut [] char",
+    "(0)",
+    "(2) Vec u8 (1) !65535",
+    "Vec $255",
+    "Vec error",
+];
+
+/// How many words `&` stand before a local type, and the answer.
+const DEPTHS: &[(usize, &str)] = &[(255, "ok\n"), (256, "stop 2\n"), (1023, "stop 2\n")];
+
+#[test]
+fn goes_on_after_a_stop(rt: HostRuntime) -> Result<(), Fail> {
+    for (references, want) in DEPTHS {
+        let mut text = declared(rt.alloc(), "orphan local Trait")?;
+        for _ in 0..*references {
+            text.push_str(" &")?;
+        }
+        text.push_str(" LocalType\norphan local Trait error\n")?;
+        let wanted = format!(in rt.alloc(); "{want}ok\n")?;
+        let (status, written) = run_on(rt.alloc(), text.as_bytes());
+        assert_eq!(rt; status, Status::Done, "{references}");
+        assert_eq!(rt; written.as_slice(), wanted.as_bytes(), "{references}");
+    }
+    Ok(())
+}
+
+#[test]
+fn answers(rt: HostRuntime) -> Result<(), Fail> {
+    for (lines, want) in ANSWERS {
+        let text = declared(rt.alloc(), lines)?;
+        let (status, written) = run_on(rt.alloc(), text.as_bytes());
+        assert_eq!(rt; status, Status::Done, "{lines}");
+        assert_eq!(rt; written.as_slice(), want.as_bytes(), "{lines}");
+    }
+    for (text, want) in TEXTS {
+        let (status, written) = run_on(rt.alloc(), text.as_bytes());
+        assert_eq!(rt; status, Status::Done, "{text}");
+        assert_eq!(rt; written.as_slice(), want.as_bytes(), "{text}");
+    }
+    for name in TYPES {
+        let line = format!(in rt.alloc(); "orphan local Trait {name}")?;
+        let text = declared(rt.alloc(), line.as_str())?;
+        let want = format!(in rt.alloc(); "nonlocal ({name}, Yes)\n")?;
+        let (status, written) = run_on(rt.alloc(), text.as_bytes());
+        assert_eq!(rt; status, Status::Done, "{name}");
+        assert_eq!(rt; written.as_slice(), want.as_bytes(), "{name}");
+    }
+    Ok(())
+}

@@ -1,0 +1,44 @@
+//! Texts that are cut, and devices that fail.
+
+use crate::run::Status;
+use crate::tests::memory::{declared, run_on, run_with};
+use std::test::Fail;
+
+const QUERIES: &str =
+    "orphan local Trait Pair Vec (0) Box LocalType\norphan local Trait Vec LocalType\n";
+
+#[test]
+fn ends_wherever_the_text_is_cut(rt: HostRuntime) -> Result<(), Fail> {
+    let text = declared(rt.alloc(), QUERIES)?;
+    for end in 0..text.len() {
+        let (status, _) = run_on(rt.alloc(), &text.as_bytes()[..end]);
+        assert!(rt; status != Status::DeviceFailed, "{end}");
+    }
+    Ok(())
+}
+
+#[test]
+fn says_that_a_device_failed(rt: HostRuntime) -> Result<(), Fail> {
+    let text = declared(rt.alloc(), QUERIES)?;
+    let (status, whole) = run_on(rt.alloc(), text.as_bytes());
+    assert_eq!(rt; status, Status::Done);
+    for reads in 0..text.len().div_ceil(50) + 1 {
+        let (status, written) = run_with(rt.alloc(), text.as_bytes(), reads, usize::MAX);
+        assert_eq!(rt; status, Status::DeviceFailed, "{reads} reads");
+        assert!(rt; written.is_empty(), "{reads} reads");
+    }
+    for writes in 0..100 {
+        let (status, written) = run_with(rt.alloc(), text.as_bytes(), usize::MAX, writes);
+        assert!(rt;
+            whole.as_slice().starts_with(written.as_slice()),
+            "{writes} writes"
+        );
+        if status == Status::Done {
+            assert!(rt; whole.len() < 5 * writes, "{writes} writes");
+            return Ok(());
+        }
+        assert_eq!(rt; status, Status::DeviceFailed, "{writes} writes");
+    }
+    assert!(rt; false, "a hundred writes are too few");
+    Ok(())
+}

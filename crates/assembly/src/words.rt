@@ -1,0 +1,85 @@
+//! The words of a line, from left to right.
+
+ghost use Rattle.std.specs.Prelude.{◌≡◌, ◌≤◌, IfOk, IfErr};
+
+use crate::faults::Fault;
+use std::str::{self, SplitWhitespace};
+
+/// The words of a line that are still to be read.
+#[derive(Drop)]
+pub struct Words<'a> {
+    rest: SplitWhitespace<'a>,
+}
+
+impl<'a> Words<'a> {
+    /// The words of a line, or none where the line is passed over: it has no word, or begins with `//`.
+    ///
+    /// A byte other than a space and the visible ASCII characters is `Fault::BadByte`.
+    pub fn of_line(line: &'a [u8]) -> Result<Option<(&'a str, Words<'a>)>, Fault<'a>> {
+        if line.starts_with(b"//") {
+            return Ok(None);
+        }
+        let Ok(text) = str::from_utf8(line) else {
+            return Err(Fault::BadByte);
+        };
+        if !text.bytes().all(|byte| matches!(byte, b' '..=b'~')) {
+            return Err(Fault::BadByte);
+        }
+        let mut rest = text.split_whitespace();
+        Ok(rest.next().map(|first| (first, Words { rest })))
+    }
+
+    /// The next word. Its only error is `Fault::ShortLine`.
+    pub fn word(&mut self) -> Result<&'a str, Fault<'a>>
+        ensures { IfErr result (λ e. e ≡ Fault.ShortLine) }
+    {
+        match self.rest.next() {
+            Some(word) => Ok(word),
+            None => Err(Fault::ShortLine),
+        }
+    }
+
+    /// The next word as a number of at most that size.
+    ///
+    /// Its errors are `Fault::ShortLine` and `Fault::BadNumber`.
+    pub fn number(&mut self, most: u16) -> Result<u16, Fault<'a>>
+        ensures { IfOk result (λ n. n ≤ most) }
+    {
+        let word = self.word()?;
+        number_in(word, word, most)
+    }
+
+    /// Nothing if no word is left, else `Fault::LongLine`.
+    pub fn end(&mut self) -> Result<(), Fault<'a>>
+        ensures { IfErr result (λ e. e ≡ Fault.LongLine) }
+    {
+        match self.rest.next() {
+            Some(_) => Err(Fault::LongLine),
+            None => Ok(()),
+        }
+    }
+
+    /// All words that are left.
+    pub fn others(self) -> SplitWhitespace<'a> {
+        self.rest
+    }
+}
+
+/// Whether the text is decimal digits, at least one.
+pub fn is_digits(text: &str) -> bool {
+    !text.is_empty() && text.bytes().all(|byte| byte.is_ascii_digit())
+}
+
+/// The number of at most that size whose digits stand in the word, else `Fault::BadNumber` with the word.
+pub fn number_in<'a>(word: &'a str, digits: &str, most: u16) -> Result<u16, Fault<'a>>
+    ensures value { IfOk result (λ n. n ≤ most) }
+    ensures cause { IfErr result (λ e. e ≡ Fault.BadNumber word.entry) }
+{
+    if is_digits(digits) {
+        match digits.parse::<u16>() {
+            Ok(number) if number <= most => return Ok(number),
+            _ => {}
+        }
+    }
+    Err(Fault::BadNumber(word))
+}
