@@ -2,17 +2,16 @@
 
 ghost use Rattle.std.specs.Prelude.{◌≡◌, All, IfSome};
 ghost use Rattle.candidate_ir.specs.Words.{IsTy};
-ghost use Rattle.assembly.specs.Answers.{AreTypes, AreTypesOf};
+ghost use Rattle.candidate_eval.specs.Answers.{AreAnswerTypes, AreErrorTypes};
 
 use crate::faults::Fault;
 use crate::names::Names;
-use crate::orphan_stub::orphan_check_trait_ref;
 use crate::plain::PlainContext;
 use crate::types::{DEEPEST, Scope};
 use crate::words::Words;
 use candidate_eval::coherence::{
     InCrate, IsFirstInputType, NormalizeErr, OrphanCheckErr, OrphanCheckMode, OrphanStop,
-    UncoveredTyParams,
+    UncoveredTyParams, orphan_check_trait_ref,
 };
 use candidate_ir::decl::context::Cx;
 use candidate_ir::ir::kinds::Ty;
@@ -85,7 +84,7 @@ impl Asking {
         &mut self,
         checked: Result<Result<(), OrphanCheckErr<Ty>>, OrphanStop<Infallible>>,
     ) -> Result<(), Stop>
-        requires { AreTypes self.old.scope.maker.cx.trees checked }
+        requires { AreAnswerTypes self.old.scope.maker.cx.trees checked }
     {
         match checked {
             Ok(Ok(())) => self.answer.push_str("ok\n")?,
@@ -97,7 +96,7 @@ impl Asking {
     }
 
     fn print_orphan_err(&mut self, err: &OrphanCheckErr<Ty>) -> Result<(), Stop>
-        requires { AreTypesOf self.old.scope.maker.cx.trees err.now }
+        requires { AreErrorTypes self.old.scope.maker.cx.trees err.now }
     {
         match err {
             OrphanCheckErr::NonLocalInputType(entries) => self.print_nonlocal(entries.as_slice()),

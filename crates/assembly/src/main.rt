@@ -7,7 +7,6 @@ mod faults;
 mod lines;
 mod names;
 mod notation;
-mod orphan_stub;
 mod plain;
 mod run;
 #[cfg(test)]

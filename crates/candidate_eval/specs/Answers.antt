@@ -37,11 +37,14 @@ answer_of ts (Ok (Err (C.UncoveredTyParams u))) = UncoveredInput (ty_tree ts u.u
 answer_of ts (Err (O.Normalize e)) = Faulty (Refused e)
 answer_of ts (Err (O.Stop s)) = Faulty (Stopped s)
 
--- The types of an answer are types of the context.
+-- The types in an answer are types of the context.
+abbrev pub AreErrorTypes : List Tree → OrphanCheckErr Ty → Type 0
+AreErrorTypes ts (C.NonLocalInputType v) = All (λ e. IsTy ts e.0) v.items
+AreErrorTypes ts (C.UncoveredTyParams u) = IsTy ts u.uncovered × IfSome u.local_ty (λ t. IsTy ts t)
+
 abbrev pub AreAnswerTypes : {E : Type 0} → List Tree → CheckResult E → Type 0
 AreAnswerTypes ts (Ok (Ok u)) = Unit {0}
-AreAnswerTypes ts (Ok (Err (C.NonLocalInputType v))) = All (λ e. IsTy ts e.0) v.items
-AreAnswerTypes ts (Ok (Err (C.UncoveredTyParams u))) = IsTy ts u.uncovered × IfSome u.local_ty (λ t. IsTy ts t)
+AreAnswerTypes ts (Ok (Err e)) = AreErrorTypes ts e
 AreAnswerTypes ts (Err o) = Unit {0}
 
 abbrev pub OutOfMemory : {E : Type 0} → CheckResult E → Type 0
