@@ -2,7 +2,6 @@ use Rattle.std.specs.Prelude.{◌≡◌, ℕ, true, false, Option, Some, List, [
 use Rattle.candidate_ir.specs.Trees.{Forest, Tree, holds, is_alias, is_error}
 use Rattle.candidate_ir.specs.Worlds.{IsOf, World, Reference, Extends}
 
-use Rattle.candidate_eval.specs.Unify.{may_unify}
 use Rattle.candidate_eval.specs.Substitutions.{Universes, Overlap}
 use Rattle.candidate_eval.specs.Orphan.{MayWrite, IsCovered, IsPlainForest, plain_check, View, InCrate, Local, Proper, Compat, Remote, Passes, NonLocalInput, UncoveredInput, Entry, orphan_answer, Step, Viewed, is_general, remote_decision, names, plain_knowability, Knowable, Downstream, local_or_fundamental}
 
@@ -100,8 +99,3 @@ WorldLaw =
     (declared w : World) (local limit : ℕ) (m : InCrate) (r : Reference)
     → Extends declared w → IsOf declared r
     → plain_check declared local m limit r.arguments ≡ plain_check w local m limit r.arguments
-
--- Where the quick test says no, there is no common instance.
-abbrev pub NoCommonInstance : Type 0
-NoCommonInstance =
-    (u v : Universes) (a b : Reference) → may_unify a.arguments b.arguments ≡ false → Overlap u v a b → ⊥

@@ -1,12 +1,13 @@
 //! The orphan check.
 
-ghost use Rattle.std.specs.Prelude.{◌≡◌, ◌≢◌, false, IfOk, IfSome};
+ghost use Rattle.std.specs.Prelude.{◌≡◌, ◌≢◌, ℕ, false, IfOk, IfSome};
 ghost use Rattle.candidate_ir.specs.Context.{Grows, world};
 ghost use Rattle.candidate_ir.specs.Trees.{Tree, holds, is_param};
 ghost use Rattle.candidate_ir.specs.Words.{IsTy, IsArgs, args_forest};
-ghost use Rattle.candidate_eval.specs.Orphan.{View, view, orphan_answer, knowability, local_or_fundamental};
+ghost use Rattle.candidate_eval.specs.Orphan.{View, view, orphan_answer, Passes, knowability, local_or_fundamental};
 ghost use Rattle.candidate_eval.specs.Normalizer.{MayNormalize, KeepsNumbers, IsFunction};
-ghost use Rattle.candidate_eval.specs.Answers.{AreAnswerTypes, OutOfMemory, IsAnswer, IsKnowledge, answer_of, reference_of, second_answer};
+ghost use Rattle.candidate_eval.specs.Laws.{OnlyFirst};
+ghost use Rattle.candidate_eval.specs.Answers.{entries_of, IsUncoveredResult, IfNonLocal, AreAnswerTypes, OutOfMemory, IsAnswer, IsKnowledge, answer_of, reference_of, second_answer};
 ghost use Rattle.candidate_eval.specs.Walk.{setting};
 ghost use Rattle.candidate_eval.specs.Second.{IsSecond};
 
@@ -199,6 +200,16 @@ where
 
     // For a normaliser whose answers and effects are functions of the tree and the context.
     ensures answer { (normal : View (F × C) E) → IsFunction C.context F.FnMut infcx.old normal → ¬ (OutOfMemory result) → IsAnswer (C.context infcx.new).trees result infcx.new (orphan_answer (world (C.context infcx.old)) (C.context infcx.old).local.0 in_crate (view (λ s t. C.resolved s.1 t) normal) 256 (normalize, infcx.old) (args_forest (C.context infcx.old).trees trait_ref.args)) }
+
+    // What passes in `Proper` passes in `Compat`.
+    ensures proper_passes_compat { (normal : View (F × C) E) → IsFunction C.context F.FnMut infcx.old normal → in_crate ≡ InCrate.Local OrphanCheckMode.Proper → result ≡ Ok (Ok tt) → (orphan_answer (world (C.context infcx.old)) (C.context infcx.old).local.0 (InCrate.Local OrphanCheckMode.Compat) (view (λ s t. C.resolved s.1 t) normal) 256 (normalize, infcx.old) (args_forest (C.context infcx.old).trees trait_ref.args)).answer ≡ Passes }
+
+    // In `Remote` the answer is the same whichever crate is local, and nothing is uncovered.
+    ensures remote_ignores_the_local_crate { (normal : View (F × C) E) → IsFunction C.context F.FnMut infcx.old normal → in_crate ≡ InCrate.Remote → ¬ (OutOfMemory result) → (local : ℕ) → IsAnswer (C.context infcx.new).trees result infcx.new (orphan_answer (world (C.context infcx.old)) local InCrate.Remote (view (λ s t. C.resolved s.1 t) normal) 256 (normalize, infcx.old) (args_forest (C.context infcx.old).trees trait_ref.args)) }
+    ensures remote_covers { (normal : View (F × C) E) → IsFunction C.context F.FnMut infcx.old normal → in_crate ≡ InCrate.Remote → ¬ (IsUncoveredResult result) }
+
+    // At most one entry is the first input, and then it is the first one.
+    ensures first_input_once { (normal : View (F × C) E) → IsFunction C.context F.FnMut infcx.old normal → IfNonLocal result (λ v. OnlyFirst (entries_of (C.context infcx.new).trees v)) }
 {
     check(alloc, infcx, trait_ref, in_crate, &mut normalize)
 }

@@ -3,5 +3,6 @@
 
 pub mod coherence;
 pub mod eval;
+pub mod laws;
 mod table;
 mod walk;

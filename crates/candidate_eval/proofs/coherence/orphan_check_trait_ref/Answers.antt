@@ -1,0 +1,33 @@
+use Rattle.std.proofs.Common.{◌≡◌, refl, sym, ◌∙◌, ap}
+use Rattle.candidate_ir.specs.Context.{world}
+use Rattle.candidate_ir.specs.Words.{args_forest}
+use Rattle.candidate_eval.specs.Answers.{answer_of}
+use Rattle.candidate_eval.specs.Orphan.{view}
+use Rattle.candidate_eval.proofs.CheckLaws.{compat-passes, any-local, never-uncovered, first-once}
+use Rattle.candidate_eval.proofs.coherence.orphan_check_trait_ref.Goals as goal
+
+pub returns-clause-proper_passes_compat : goal.returns-clause-proper_passes_compat
+returns-clause-proper_passes_compat g c = λ normal h m r.
+    let e = c.check.ensures.answer normal h (λ x. cc) in
+    compat-passes (world (g.C.Make.context c.args.infcx.now)) (g.C.Make.context c.args.infcx.now).local.0 256 (view (λ s u. g.C.InferCtxtLike.resolved s.1 u) normal)
+    (c.args.normalize, c.args.infcx.now) (args_forest (g.C.Make.context c.args.infcx.now).trees c.args.trait_ref.args) c.args.in_crate m
+    (ap (λ x. x.answer) e ∙ ap (λ x. answer_of (g.C.Make.context c.check.new.infcx).trees x) r)
+
+pub returns-clause-remote_ignores_the_local_crate : goal.returns-clause-remote_ignores_the_local_crate
+returns-clause-remote_ignores_the_local_crate g c = λ normal h m ne d.
+    let e = any-local (world (g.C.Make.context c.args.infcx.now)) (g.C.Make.context c.args.infcx.now).local.0 256 (view (λ s u. g.C.InferCtxtLike.resolved s.1 u) normal)
+        (c.args.normalize, c.args.infcx.now) (args_forest (g.C.Make.context c.args.infcx.now).trees c.args.trait_ref.args) c.args.in_crate m d
+        ∙ c.check.ensures.answer normal h ne in
+    record { answer = ap (λ x. x.answer) e; leaves = ap (λ x. x.after.1) e }
+
+pub returns-clause-remote_covers : goal.returns-clause-remote_covers
+returns-clause-remote_covers g c = λ normal h m.
+    never-uncovered (world (g.C.Make.context c.args.infcx.now)) (g.C.Make.context c.args.infcx.now).local.0 256 (view (λ s u. g.C.InferCtxtLike.resolved s.1 u) normal)
+    (c.args.normalize, c.args.infcx.now) (args_forest (g.C.Make.context c.args.infcx.now).trees c.args.trait_ref.args) c.args.in_crate m
+    (g.C.Make.context c.check.new.infcx).trees c.check.result (λ ne. ap (λ x. x.answer) (c.check.ensures.answer normal h ne))
+
+pub returns-clause-first_input_once : goal.returns-clause-first_input_once
+returns-clause-first_input_once g c = λ normal h.
+    first-once (world (g.C.Make.context c.args.infcx.now)) (g.C.Make.context c.args.infcx.now).local.0 256 (view (λ s u. g.C.InferCtxtLike.resolved s.1 u) normal)
+    (c.args.normalize, c.args.infcx.now) (args_forest (g.C.Make.context c.args.infcx.now).trees c.args.trait_ref.args) c.args.in_crate
+    (g.C.Make.context c.check.new.infcx).trees c.check.result (λ ne. ap (λ x. x.answer) (c.check.ensures.answer normal h ne))
