@@ -1,3 +1,4 @@
+-- Why the premises of the laws stand.
 use Rattle.std.proofs.Common.{◌≡◌, ℕ, true, false, [], ◌∷◌, refl}
 use Rattle.candidate_ir.specs.declared.ir.heads.Head.{Head}
 use Rattle.candidate_ir.specs.declared.ir.heads.Head.TheVariants as H
@@ -14,7 +15,7 @@ use Rattle.candidate_ir.specs.Trees.{none, Forest}
 use Rattle.candidate_ir.specs.Worlds.{Reference}
 use Rattle.candidate_eval.specs.Substitutions.{escapes, Overlap, Universes, Binding}
 use Rattle.candidate_eval.specs.Orphan.{MayWrite, IsCovered, names, plain_knowability, Knowable}
-use Rattle.candidate_eval.proofs.Rows.{one, ◌&◌, u8, P, Q, La, Lb, Pair, var, it, LocalType, ref}
+use Rattle.candidate_eval.proofs.Examples.{one, ◌&◌, u8, P, Q, La, Lb, Pair, var, it, LocalType, ref}
 
 -- Why the premises stand: each pair of headers overlaps.
 abbrev goes : ℕ → Forest → Binding

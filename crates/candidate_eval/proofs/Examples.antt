@@ -1,3 +1,4 @@
+-- Examples of the definitions, by computation: a wrong definition would show here.
 use Rattle.std.proofs.Common.{◌≡◌, ℕ, zero, suc, Bool, true, false, List, [], ◌∷◌, Some, None, refl, ◌==◌, if◌then◌else◌}
 use Rattle.candidate_ir.specs.declared.ir.stop.Stop.TheVariants.{WalkDepth, EvaluatorLimit}
 use Rattle.candidate_ir.specs.declared.ir.heads.Head.{Head}
@@ -92,56 +93,56 @@ compat a = plain_check P 0 (Local Compat) 256 a
 abbrev pub remote : Forest → Answer (Unit {0})
 remote a = plain_check P 0 Remote 256 a
 
-row1 : local (Pair (Vec empty) (Box LocalType)) ≡ Passes
-row1 = refl
+local_inside_fundamental_pair : local (Pair (Vec empty) (Box LocalType)) ≡ Passes
+local_inside_fundamental_pair = refl
 
-row2 : local (Vec LocalType) ≡ NonLocalInput (no (Vec LocalType) true ∷ [])
-row2 = refl
+local_inside_other_type : local (Vec LocalType) ≡ NonLocalInput (no (Vec LocalType) true ∷ [])
+local_inside_other_type = refl
 
-row3a : local (Vec (var 0) & LocalType) ≡ Passes
-row3a = refl
+variable_covered_before_local : local (Vec (var 0) & LocalType) ≡ Passes
+variable_covered_before_local = refl
 
-row3b : local (Box (var 0) & LocalType) ≡ UncoveredInput (it (var 0)) (Some (it LocalType))
-row3b = refl
+variable_uncovered_before_local : local (Box (var 0) & LocalType) ≡ UncoveredInput (it (var 0)) (Some (it LocalType))
+variable_uncovered_before_local = refl
 
-row4a : local (Pair (Wrap (var 0)) (var 0)) ≡ Passes
-row4a = refl
+local_before_variable : local (Pair (Wrap (var 0)) (var 0)) ≡ Passes
+local_before_variable = refl
 
-row4b : local (Wrap (Vec (var 0))) ≡ Passes
-row4b = refl
+variable_inside_local : local (Wrap (Vec (var 0))) ≡ Passes
+variable_inside_local = refl
 
-row4c : local (Box (Vec (Wrap (var 0)))) ≡ NonLocalInput (no (Vec (Wrap (var 0))) true ∷ [])
-row4c = refl
+local_inside_covered : local (Box (Vec (Wrap (var 0)))) ≡ NonLocalInput (no (Vec (Wrap (var 0))) true ∷ [])
+local_inside_covered = refl
 
-row5 : local (Pair u8 u16) ≡ NonLocalInput (no u8 true ∷ no u16 false ∷ [])
-row5 = refl
+two_foreign_types : local (Pair u8 u16) ≡ NonLocalInput (no u8 true ∷ no u16 false ∷ [])
+two_foreign_types = refl
 
-row6 : local Unit0 ≡ NonLocalInput []
-row6 = refl
+fundamental_without_arguments : local Unit0 ≡ NonLocalInput []
+fundamental_without_arguments = refl
 
-row7a : local (Out (var 0) & LocalType) ≡ UncoveredInput (it (Out (var 0))) (Some (it LocalType))
-row7a = refl
+projection_uncovered : local (Out (var 0) & LocalType) ≡ UncoveredInput (it (Out (var 0))) (Some (it LocalType))
+projection_uncovered = refl
 
-row7b : compat (Out (var 0) & LocalType) ≡ Passes
-row7b = refl
+projection_skipped_in_compat : compat (Out (var 0) & LocalType) ≡ Passes
+projection_skipped_in_compat = refl
 
 abbrev pub know : ℕ → Forest → Knowability (Unit {0})
 know t a = plain_knowability P 0 256 (record { trait = t; arguments = a })
 
-row8a : know 6 (var 0) ≡ Downstream
-row8a = refl
+variable_is_downstream : know 6 (var 0) ≡ Downstream
+variable_is_downstream = refl
 
-row8b : know 6 (Vec (var 0)) ≡ Upstream
-row8b = refl
+covered_variable_is_upstream : know 6 (Vec (var 0)) ≡ Upstream
+covered_variable_is_upstream = refl
 
-row8c : know 6 LocalType ≡ Knowable
-row8c = refl
+local_is_knowable : know 6 LocalType ≡ Knowable
+local_is_knowable = refl
 
-row9a : know 7 (Box (var 0)) ≡ Downstream
-row9a = refl
+local_trait_of_boxed_variable : know 7 (Box (var 0)) ≡ Downstream
+local_trait_of_boxed_variable = refl
 
-row9b : know 7 (Vec (var 0)) ≡ Knowable
-row9b = refl
+local_trait_of_covered_variable : know 7 (Vec (var 0)) ≡ Knowable
+local_trait_of_covered_variable = refl
 
 -- a normaliser that answers `& u8` for `u8`
 abbrev pub is_u8 : Head → Bool
@@ -151,61 +152,60 @@ is_u8 _ = false
 abbrev pub grow : View (Unit {0}) ℕ
 grow s t = record { seen = if is_u8 t.head then Sees (it (ref u8)) else Sees t; after = s }
 
-row10a : (orphan_answer P 0 (Local Proper) grow 256 tt u8).answer ≡ Faulty (Stopped WalkDepth)
-row10a = refl
+endless_normaliser : (orphan_answer P 0 (Local Proper) grow 256 tt u8).answer ≡ Faulty (Stopped WalkDepth)
+endless_normaliser = refl
 
-row10b : (orphan_answer P 0 (Local Proper) grow 256 tt (LocalType & u8)).answer ≡ Passes
-row10b = refl
+local_before_endless_normaliser : (orphan_answer P 0 (Local Proper) grow 256 tt (LocalType & u8)).answer ≡ Passes
+local_before_endless_normaliser = refl
 
 abbrev pub fail : View (Unit {0}) ℕ
 fail s t = record { seen = if is_u8 t.head then Fails (Refused 7) else Sees t; after = s }
 
-row11 : (orphan_answer P 0 (Local Proper) fail 256 tt (Box (var 0) & u8 & LocalType)).answer ≡ UncoveredInput (it (var 0)) None
-row11 = refl
+failing_normaliser_after_variable : (orphan_answer P 0 (Local Proper) fail 256 tt (Box (var 0) & u8 & LocalType)).answer ≡ UncoveredInput (it (var 0)) None
+failing_normaliser_after_variable = refl
 
 abbrev pub refs : ℕ → Forest → Forest
 refs zero a = a
 refs (suc n) a = ref (refs n a)
 
-row12a : local (refs 255 LocalType) ≡ Passes
-row12a = refl
+deepest_walk : local (refs 255 LocalType) ≡ Passes
+deepest_walk = refl
 
-row12b : local (refs 256 LocalType) ≡ Faulty (Stopped WalkDepth)
-row12b = refl
+too_deep_walk : local (refs 256 LocalType) ≡ Faulty (Stopped WalkDepth)
+too_deep_walk = refl
 
-row13a : remote (Wrap u8 & Vec (var 0)) ≡ NonLocalInput (no (Wrap u8) true ∷ no (Vec (var 0)) false ∷ [])
-row13a = refl
+remote_records_in_order : remote (Wrap u8 & Vec (var 0)) ≡ NonLocalInput (no (Wrap u8) true ∷ no (Vec (var 0)) false ∷ [])
+remote_records_in_order = refl
 
-row13b : local (one H.Error none) ≡ Passes
-row13b = refl
+error_is_local : local (one H.Error none) ≡ Passes
+error_is_local = refl
 
--- rows of the second stage
-rowR2_1 : local (Unit0 & u8) ≡ NonLocalInput (no u8 false ∷ [])
-rowR2_1 = refl
+second_input_is_not_first : local (Unit0 & u8) ≡ NonLocalInput (no u8 false ∷ [])
+second_input_is_not_first = refl
 
-rowR2_2 : compat (Out (var 0)) ≡ NonLocalInput []
-rowR2_2 = refl
+skipped_in_compat_alone : compat (Out (var 0)) ≡ NonLocalInput []
+skipped_in_compat_alone = refl
 
-rowR2_3a : local (one (H.Foreign (record { 0 = 9 })) none) ≡ Passes
-rowR2_3a = refl
+local_foreign_type : local (one (H.Foreign (record { 0 = 9 })) none) ≡ Passes
+local_foreign_type = refl
 
-rowR2_3b : remote (one (H.Foreign (record { 0 = 9 })) none) ≡ NonLocalInput (no (one (H.Foreign (record { 0 = 9 })) none) true ∷ [])
-rowR2_3b = refl
+remote_foreign_type : remote (one (H.Foreign (record { 0 = 9 })) none) ≡ NonLocalInput (no (one (H.Foreign (record { 0 = 9 })) none) true ∷ [])
+remote_foreign_type = refl
 
-rowR2_4a : local (one H.Dynamic (one (H.Part (Part.Pred (PH.Trait (record { 0 = 7 })))) (one (H.Part Part.Vars) none) & one (H.Region R.Static) none)) ≡ Passes
-rowR2_4a = refl
+local_principal : local (one H.Dynamic (one (H.Part (Part.Pred (PH.Trait (record { 0 = 7 })))) (one (H.Part Part.Vars) none) & one (H.Region R.Static) none)) ≡ Passes
+local_principal = refl
 
-rowR2_5 : know 6 (one (H.Adt (record { 0 = 10 })) (var 0)) ≡ Downstream
-rowR2_5 = refl
+local_fundamental_of_variable : know 6 (one (H.Adt (record { 0 = 10 })) (var 0)) ≡ Downstream
+local_fundamental_of_variable = refl
 
-rowR2_6a : know 6 (Out u8) ≡ Upstream
-rowR2_6a = refl
+projection_of_known_type : know 6 (Out u8) ≡ Upstream
+projection_of_known_type = refl
 
-rowR2_6b : know 7 (one H.Error none) ≡ Downstream
-rowR2_6b = refl
+error_is_downstream : know 7 (one H.Error none) ≡ Downstream
+error_is_downstream = refl
 
-rowR2_7 : remote (Box LocalType) ≡ NonLocalInput (no LocalType true ∷ [])
-rowR2_7 = refl
+remote_walks_fundamental : remote (Box LocalType) ≡ NonLocalInput (no LocalType true ∷ [])
+remote_walks_fundamental = refl
 
 -- a normaliser that counts its calls in the context, and answers a local type from the second `u16` on
 abbrev pub is_u16 : Head → Bool
@@ -217,22 +217,22 @@ changing s t =
     if is_u16 t.head then record { seen = if s == 0 then Sees (it u8) else Sees (it LocalType); after = suc s }
     else record { seen = Sees t; after = s }
 
-rowR13_2 : (orphan_answer P 0 (Local Proper) changing 256 0 (Pair u16 u16)).answer ≡ Passes
-rowR13_2 = refl
+changing_normaliser : (orphan_answer P 0 (Local Proper) changing 256 0 (Pair u16 u16)).answer ≡ Passes
+changing_normaliser = refl
 
-rowR13_3 : (knowability P 0 changing 256 0 (record { trait = 6; arguments = u16 })).answer ≡ Knowable
-rowR13_3 = refl
+changing_normaliser_is_knowable : (knowability P 0 changing 256 0 (record { trait = 6; arguments = u16 })).answer ≡ Knowable
+changing_normaliser_is_knowable = refl
 
 abbrev pub stops : View (Unit {0}) ℕ
 stops s t = record { seen = if is_u16 t.head then Fails (Stopped EvaluatorLimit) else Sees t; after = s }
 
-rowR13_4 : (orphan_answer P 0 (Local Proper) stops 256 tt (Box (var 0) & u16)).answer ≡ Faulty (Stopped EvaluatorLimit)
-rowR13_4 = refl
+stopping_normaliser : (orphan_answer P 0 (Local Proper) stops 256 tt (Box (var 0) & u16)).answer ≡ Faulty (Stopped EvaluatorLimit)
+stopping_normaliser = refl
 
 abbrev pub counts : View ℕ ℕ
 counts s t = record { seen = Sees (it (Pair u8 u8)); after = suc s }
 
--- the crates 1, 2 and 3 of row 14: La, Lb, Pair, T, and New of crate 4
+-- La of crate 1, Lb of crate 2, Pair and a trait of crate 3, and New of crate 4
 abbrev pub Q : World
 Q = def AdtSort 1 [] false ∷ def AdtSort 2 [] false ∷ def AdtSort 3 (TypeKind ∷ TypeKind ∷ []) true ∷ def TraitSort 3 [] false
     ∷ def AdtSort 4 [] false ∷ []
@@ -246,23 +246,23 @@ Lb = one (H.Adt (record { 0 = 1 })) none
 abbrev pub New : Forest
 New = one (H.Adt (record { 0 = 4 })) none
 
-row14a : plain_check Q 2 (Local Proper) 256 (Pair La (var 0)) ≡ UncoveredInput (it (var 0)) None
-row14a = refl
+foreign_pair_uncovered : plain_check Q 2 (Local Proper) 256 (Pair La (var 0)) ≡ UncoveredInput (it (var 0)) None
+foreign_pair_uncovered = refl
 
-row14b : plain_check Q 2 (Local Proper) 256 (Pair (var 0) Lb) ≡ UncoveredInput (it (var 0)) (Some (it Lb))
-row14b = refl
+foreign_pair_uncovered_then_local : plain_check Q 2 (Local Proper) 256 (Pair (var 0) Lb) ≡ UncoveredInput (it (var 0)) (Some (it Lb))
+foreign_pair_uncovered_then_local = refl
 
-row14c : plain_check Q 2 (Local Proper) 256 (Pair Lb (var 0)) ≡ Passes
-row14c = refl
+foreign_pair_passes : plain_check Q 2 (Local Proper) 256 (Pair Lb (var 0)) ≡ Passes
+foreign_pair_passes = refl
 
-rowR4_1a : plain_check Q 1 (Local Proper) 256 (Pair La (var 0)) ≡ Passes
-rowR4_1a = refl
+first_of_two_crates_passes : plain_check Q 1 (Local Proper) 256 (Pair La (var 0)) ≡ Passes
+first_of_two_crates_passes = refl
 
-rowR4_1b : plain_check Q 2 (Local Proper) 256 (Pair La Lb) ≡ Passes
-rowR4_1b = refl
+second_of_two_crates_passes : plain_check Q 2 (Local Proper) 256 (Pair La Lb) ≡ Passes
+second_of_two_crates_passes = refl
 
-rowR4_4a : plain_knowability Q 2 256 (record { trait = 3; arguments = Pair La (var 0) }) ≡ Downstream
-rowR4_4a = refl
+pair_of_two_crates_is_downstream : plain_knowability Q 2 256 (record { trait = 3; arguments = Pair La (var 0) }) ≡ Downstream
+pair_of_two_crates_is_downstream = refl
 
-rowR4_4b : plain_check Q 4 (Local Proper) 256 (Pair La New) ≡ Passes
-rowR4_4b = refl
+newcomer_passes : plain_check Q 4 (Local Proper) 256 (Pair La New) ≡ Passes
+newcomer_passes = refl
