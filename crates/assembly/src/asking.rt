@@ -1,7 +1,8 @@
 //! The commands that ask.
 
-ghost use Rattle.std.specs.Prelude.{◌≡◌, All, IfSome};
-ghost use Rattle.candidate_ir.specs.Words.{IsTy};
+ghost use Rattle.std.specs.Prelude.{◌≡◌, false, All, IfOk, IfSome};
+ghost use Rattle.candidate_ir.specs.Trees.{holds, is_param};
+ghost use Rattle.candidate_ir.specs.Words.{IsTy, IsArgs, args_forest};
 ghost use Rattle.candidate_eval.specs.Answers.{AreAnswerTypes, AreErrorTypes};
 
 use crate::faults::Fault;
@@ -10,11 +11,11 @@ use crate::plain::PlainContext;
 use crate::types::{DEEPEST, Scope};
 use crate::words::Words;
 use candidate_eval::coherence::{
-    InCrate, IsFirstInputType, NormalizeErr, OrphanCheckErr, OrphanCheckMode, OrphanStop,
-    UncoveredTyParams, orphan_check_trait_ref,
+    Conflict, InCrate, IsFirstInputType, NormalizeErr, OrphanCheckErr, OrphanCheckMode, OrphanStop,
+    UncoveredTyParams, orphan_check_trait_ref, trait_ref_is_knowable,
 };
 use candidate_ir::decl::context::Cx;
-use candidate_ir::ir::kinds::Ty;
+use candidate_ir::ir::kinds::{TraitRef, Ty};
 use candidate_ir::ir::stop::Stop;
 use std::alloc::Global;
 use std::convert::Infallible;
@@ -23,6 +24,7 @@ use std::convert::Infallible;
 #[derive(Clone, Copy)]
 pub enum Query {
     Orphan,
+    Knowable,
 }
 
 /// What is declared, and the answer that was made last.
@@ -56,6 +58,7 @@ impl Asking {
         self.answer.clear();
         let made = match query {
             Query::Orphan => self.orphan(words)?,
+            Query::Knowable => self.knowable(words)?,
         };
         match made {
             Ok(()) => Ok(Ok(self.answer.as_str())),
@@ -63,13 +66,48 @@ impl Asking {
         }
     }
 
-    fn orphan<'a>(&mut self, mut words: Words<'a>) -> Result<Result<(), Stop>, Fault<'a>> {
-        let in_crate = in_crate(words.word()?)?;
+    /// The trait reference that ends the line.
+    fn last_trait_ref<'a>(&mut self, mut words: Words<'a>) -> Result<TraitRef, Fault<'a>>
+        ensures sort { IfOk result (λ r. IsArgs self.new.scope.maker.cx.trees r.args) }
+        ensures no_param { IfOk result (λ r. holds is_param (args_forest self.new.scope.maker.cx.trees r.args) ≡ false) }
+    {
         let trait_ref = self.scope.read_trait_ref(&mut words)?;
         words.end()?;
         if self.scope.maker.cx.has_param(trait_ref) {
             return Err(Fault::Parameter);
         }
+        Ok(trait_ref)
+    }
+
+    fn knowable<'a>(&mut self, words: Words<'a>) -> Result<Result<(), Stop>, Fault<'a>> {
+        let trait_ref = self.last_trait_ref(words)?;
+        let known = trait_ref_is_knowable(
+            self.scope.alloc,
+            &mut self.scope.maker,
+            trait_ref,
+            |_, ty| -> Result<Ty, NormalizeErr<Infallible>> { Ok(ty) },
+        );
+        Ok(self.print_known(known))
+    }
+
+    fn print_known(
+        &mut self,
+        known: Result<Result<(), Conflict>, OrphanStop<Infallible>>,
+    ) -> Result<(), Stop> {
+        let word = match known {
+            Ok(Ok(())) => "ok\n",
+            Ok(Err(Conflict::Downstream)) => "downstream\n",
+            Ok(Err(Conflict::Upstream)) => "upstream\n",
+            Err(OrphanStop::Stop(stop)) => return Err(stop),
+            Err(OrphanStop::Normalize(never)) => match never {},
+        };
+        self.answer.push_str(word)?;
+        Ok(())
+    }
+
+    fn orphan<'a>(&mut self, mut words: Words<'a>) -> Result<Result<(), Stop>, Fault<'a>> {
+        let in_crate = in_crate(words.word()?)?;
+        let trait_ref = self.last_trait_ref(words)?;
         let checked = orphan_check_trait_ref(
             self.scope.alloc,
             &mut self.scope.maker,
@@ -143,6 +181,10 @@ fn in_crate<'a>(word: &'a str) -> Result<InCrate, Fault<'a>> {
         "local" => Ok(InCrate::Local {
             mode: OrphanCheckMode::Proper,
         }),
+        "compat" => Ok(InCrate::Local {
+            mode: OrphanCheckMode::Compat,
+        }),
+        "remote" => Ok(InCrate::Remote),
         _ => Err(Fault::BadFlag(word)),
     }
 }

@@ -96,6 +96,7 @@ fn command_named<'a>(word: &str) -> Result<Command, Fault<'a>> {
         "adt" => Ok(Command::Declaration(Declaration::Adt)),
         "trait" => Ok(Command::Declaration(Declaration::Trait)),
         "orphan" => Ok(Command::Query(Query::Orphan)),
+        "knowable" => Ok(Command::Query(Query::Knowable)),
         _ => Err(Fault::UnknownWord),
     }
 }
