@@ -63,6 +63,7 @@ impl Model for DeclsBuilder {
     ghost use Rattle.candidate_ir.specs.contracts.ir.heads.Head as head;
     ghost use Rattle.candidate_ir.specs.TreeCode.{tree_code};
     ghost use Rattle.candidate_ir.specs.Context as seen;
+
     ghost Value = { seen.Context };
 
     ghost coded = { Prim.hlevel (codes, tree_code head.the_row.coded) };
@@ -197,7 +198,9 @@ impl DeclsBuilder {
     fn has_arity_fault(&self) -> bool
         ensures { result ≡ has_arity_fault self.now }
     {
-        self.definitions.iter().any(|definition| definition.has_wrong_arity())
+        self.definitions
+            .iter()
+            .any(|definition| definition.has_wrong_arity())
     }
 
     /// The declarations, if they have no fault; else the fault with the lowest number. The builder
@@ -211,8 +214,18 @@ impl DeclsBuilder {
         if self.has_arity_fault() {
             return Err(DeclFault::WrongArity);
         }
-        let DeclsBuilder { crates, local, definitions, nodes } = self;
-        Ok(Decls { crates, local, definitions, nodes })
+        let DeclsBuilder {
+            crates,
+            local,
+            definitions,
+            nodes,
+        } = self;
+        Ok(Decls {
+            crates,
+            local,
+            definitions,
+            nodes,
+        })
     }
 }
 
@@ -220,5 +233,7 @@ impl DeclsBuilder {
 fn any_is_unknown(definitions: &[Declaration], crates: u32) -> bool
     ensures { result ≡ list_any (λ d. is_unknown crates d.crate) definitions.now }
 {
-    definitions.iter().any(|definition| definition.krate().is_unknown(crates))
+    definitions
+        .iter()
+        .any(|definition| definition.krate().is_unknown(crates))
 }

@@ -335,9 +335,7 @@ impl TyKind {
         ensures { result ≡ length (ty_children self) }
     {
         match self {
-            TyKind::Closure(_, _)
-            | TyKind::FnPtr(_)
-            | TyKind::Pat(_, Pattern::Range(_, _)) => 3,
+            TyKind::Closure(_, _) | TyKind::FnPtr(_) | TyKind::Pat(_, Pattern::Range(_, _)) => 3,
             TyKind::Ref(_, _, _)
             | TyKind::Array(_, _)
             | TyKind::UnsafeBinder(_)
