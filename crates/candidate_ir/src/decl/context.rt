@@ -46,8 +46,18 @@ impl Cx {
     pub fn new(decls: Decls) -> Self
         ensures { result ≡ decls }
     {
-        let Decls { crates, local, definitions, nodes } = decls;
-        Cx { crates, local, definitions, nodes }
+        let Decls {
+            crates,
+            local,
+            definitions,
+            nodes,
+        } = decls;
+        Cx {
+            crates,
+            local,
+            definitions,
+            nodes,
+        }
     }
 
     fn is_local(&self, definition: u32) -> bool

@@ -8,15 +8,15 @@ ghost use Rattle.candidate_ir.specs.Nodes.{tree_at, kind_at, node_tree, head_of,
 ghost use Rattle.candidate_ir.specs.Table.{IsNodeOf, IsRow};
 ghost use Rattle.candidate_ir.specs.Words.{IsTy, IsConst, IsRegion, IsArgs, IsPreds, IsPred, IsSig, IsVars, IsVar, ty_tree, const_tree, region_tree, args_forest, preds_forest, pred_tree, sig_tree, vars_tree, var_tree, KindFits, ConstKindFits, ListFits, PredListFits, VarListFits, PredFits, SigFits, kind_tree, const_kind_tree, region_kind_tree, list_forest, pred_list_forest, pred_kind_tree, sig_kind_tree, vars_kind_tree, var_kind_tree, IsMkStop};
 
-use crate::ir::node::{Node, Row};
-use crate::ir::stop::Stop;
-use std::alloc::Global;
-use std::marker::Model;
 use crate::ir::heads::Flag;
 use crate::ir::kinds::{
     Args, Binder, ClosureSig, Const, ConstKind, ExistentialPredicate, GenericArg, Pred, Preds,
     Region, RegionKind, Sig, TraitId, Ty, TyKind, Var, VarKind, Vars,
 };
+use crate::ir::node::{Node, Row};
+use crate::ir::stop::Stop;
+use std::alloc::Global;
+use std::marker::Model;
 
 #[derive(Drop)]
 pub(crate) struct Nodes {
