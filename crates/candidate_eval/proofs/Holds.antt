@@ -2,7 +2,6 @@ use Rattle.std.proofs.Common.{◌≡◌, Bool, true, false, ◌||◌, refl}
 use Rattle.candidate_ir.specs.Trees.{Forest, none, tree, erase, erased_head, holds}
 use Rattle.candidate_ir.specs.declared.ir.heads.Head.{Head}
 
-
 pub or_false : (a b : Bool) → (a || b) ≡ false → (a ≡ false) × (b ≡ false)
 or_false true b e = cc
 or_false false b e = (refl, e)

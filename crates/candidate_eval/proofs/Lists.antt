@@ -79,14 +79,14 @@ module _ {S E : Type 0} (p : Setting) (see : View S E) (n : ℕ) where
         decision = so.decision ∙ (ap (first_step (deciding old.seeks_local) (classes p)) l ∙ first-append (deciding old.seeks_local) (classes p) xs ys none-of);
         leaves = so.leaves ∙ (ap (left s) l ∙ (left-append s xs ys ∙ ap (λ (x : S). left x ys) after-is));
         recorded =
-        ap (λ (es : List Entry). es ++ entries old.is_first (classes p) (list_steps p see n start all)) k1
-        ∙ (so.recorded
-        ∙ (ap (λ (zs : List (Step S E)). entries_of ts now.non_local.items ++ entries now.is_first (classes p) zs) l
-        ∙ (ap (λ (es : List Entry). entries_of ts now.non_local.items ++ es) (entries-append (deciding old.seeks_local) (classes p) now.is_first xs ys)
-        ∙ (sym (append_assoc (entries_of ts now.non_local.items) (entries now.is_first (classes p) xs) (entries (still now.is_first xs) (classes p) ys))
-        ∙ (ap (λ (es : List Entry). (es ++ entries now.is_first (classes p) xs) ++ entries (still now.is_first xs) (classes p) ys) (sym k2)
-        ∙ (ap (λ (es : List Entry). es ++ entries (still now.is_first xs) (classes p) ys) (sym f.recorded)
-        ∙ ap (λ (b : Bool). entries_of us next.non_local.items ++ entries b (classes p) ys) (still-some now.is_first xs some ∙ sym first)))))));
+            ap (λ (es : List Entry). es ++ entries old.is_first (classes p) (list_steps p see n start all)) k1
+            ∙ (so.recorded
+            ∙ (ap (λ (zs : List (Step S E)). entries_of ts now.non_local.items ++ entries now.is_first (classes p) zs) l
+            ∙ (ap (λ (es : List Entry). entries_of ts now.non_local.items ++ es) (entries-append (deciding old.seeks_local) (classes p) now.is_first xs ys)
+            ∙ (sym (append_assoc (entries_of ts now.non_local.items) (entries now.is_first (classes p) xs) (entries (still now.is_first xs) (classes p) ys))
+            ∙ (ap (λ (es : List Entry). (es ++ entries now.is_first (classes p) xs) ++ entries (still now.is_first xs) (classes p) ys) (sym k2)
+            ∙ (ap (λ (es : List Entry). es ++ entries (still now.is_first xs) (classes p) ys) (sym f.recorded)
+            ∙ ap (λ (b : Bool). entries_of us next.non_local.items ++ entries b (classes p) ys) (still-some now.is_first xs some ∙ sym first)))))));
       }
 
   -- a type broke the walk off

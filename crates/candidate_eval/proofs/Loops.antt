@@ -78,5 +78,5 @@ module _ {S E : Type 0} (see : View S E) (n : ℕ) (c0 c1 : Context) (g : Grows 
       let R : Result (Unit {0}) (EarlyExit E) → Type 0 = λ z. Outcome ts (classes p) old next start after (list_steps p see n start (args_forest c0.trees a)) z in
       let f = subst P place o in
       subst R (sym (j ∙ ap Err k)) (λ ne.
-          sofar-found p see n c1.trees old now start here after (args_forest c0.trees a) (skip i (args_forest c0.trees a)) (skip (i + 1) (args_forest c0.trees a))
-          (ty_tree c1.trees u) (exit_class ts x) (type-here u e) (type-at c1.trees xs i d u fits below e).2 same.seeks_local (f ne) so)
+      sofar-found p see n c1.trees old now start here after (args_forest c0.trees a) (skip i (args_forest c0.trees a)) (skip (i + 1) (args_forest c0.trees a))
+      (ty_tree c1.trees u) (exit_class ts x) (type-here u e) (type-at c1.trees xs i d u fits below e).2 same.seeks_local (f ne) so)

@@ -1,7 +1,6 @@
 use Rattle.std.proofs.Common.{ap, ◌≡◌, ℕ, Bool, true, false, Some, None, refl, sym, ◌∙◌}
 use Rattle.candidate_ir.specs.Trees.{Forest, holds}
 use Rattle.candidate_ir.specs.Worlds.{World, Reference}
-
 use Rattle.candidate_eval.specs.Orphan.{names, names_here, plain_check, plain, Local, Proper, Answer, Passes, NonLocalInput, UncoveredInput, Faulty, Checked, by_remote_check, by_proper_check, by_answer, Knowable, plain_knowability, local_or_fundamental, orphan_answer}
 use Rattle.candidate_eval.specs.Laws.{LinkSafety, OpenWorld, DownstreamWorld, CoveredWorld, OwnHeader, WorldLaw}
 use Rattle.candidate_eval.proofs.OrphanLaws.{remote_covers}

@@ -49,8 +49,8 @@ reference-shape ts r t m f =
       lifetime = tree_at ts r.0;
       is_no_type = ap is_type_kind (kind-of ts r.0 RegionKind refl e);
       is = ap (λ (x : Forest). let u : Tree = record { head = H.Ref m; children = x } in u)
-      (row-single ts r.0 RegionKind (row (tree_at ts t.0) none) refl refl e
-      ∙ ap (tree (tree_at ts r.0).head (tree_at ts r.0).children) (row-single ts t.0 TypeKind none refl refl g));
+          (row-single ts r.0 RegionKind (row (tree_at ts t.0) none) refl refl e
+          ∙ ap (tree (tree_at ts r.0).head (tree_at ts r.0).children) (row-single ts t.0 TypeKind none refl refl g));
     }
 
 abbrev passes : World → CrateTest → Option TraitId → Bool

@@ -37,7 +37,6 @@ visited-nothing {S} {E} p see ts n m h s s1 t e old r y i j k =
 
 module _ {S E : Type 0} (c0 c1 : Context) (m : InCrate) (g : Grows c0 c1) (see : View S E) (n l : ℕ) (h : n ≡ suc l) (s s1 : S) (t : Tree) (v : Ty)
     (seen : see s t ≡ record { seen = Sees (ty_tree c1.trees v); after = s1 }) where
-
   shape-there : (k : ViewClass) → IsShape c1 m (ty_tree c1.trees v) (Sh.Item k) → IsShape c0 m (ty_tree c1.trees v) (Sh.Item k)
   shape-there k i =
       let P : Setting → Type 0 = λ p. (is_walked p.definitions (test_of p) (ty_tree c1.trees v).head ≡ false) × (table p.definitions (test_of p) p.in_crate (ty_tree c1.trees v).head (ty_tree c1.trees v).children ≡ k) in

@@ -226,7 +226,7 @@ module _ {S E : Type 0} (p : Setting) (see : View S E) (ts : List Tree) (n m : �
       opened p see n m s s1 t (ty_tree ts v) e seen
       ∙ (ap (λ (x : Tree). walked p.definitions (test_of p) (list_steps p see m) s1 x.head x.children) r.is
       ∙ (ap (λ (b : Bool). if b then type_steps p see m s1 r.lifetime ++ list_steps p see m (left s1 (type_steps p see m s1 r.lifetime)) (tree (ty_tree ts u).head (ty_tree ts u).children none)
-          else list_steps p see m s1 (tree (ty_tree ts u).head (ty_tree ts u).children none)) r.is_no_type
+      else list_steps p see m s1 (tree (ty_tree ts u).head (ty_tree ts u).children none)) r.is_no_type
       ∙ (ap (λ (b : Bool). if b then w ++ [] else []) (is-type ts u r.sort) ∙ append-nil w)))
 
   arguments-if : (l f : Bool) (a b : List (Step S E)) → l ≡ false → f ≡ true → (if l then a else (if f then b else a)) ≡ b
@@ -284,7 +284,7 @@ entries-kept old new (e ∷ es) g a =
     let here : ty_tree new.trees e.0 ≡ ty_tree old.trees e.0 = (ty-kept old new e.0 g (a 0 e (omega arith))).1 in
     let others = entries-kept old new es g (λ k d h. a (suc k) d (omega arith)) in
     let first : (let n : Entry = record { type = ty_tree new.trees e.0; is_first_input = is_first_input e.1 } in n)
-        ≡ record { type = ty_tree old.trees e.0; is_first_input = is_first_input e.1 } =
+    ≡ record { type = ty_tree old.trees e.0; is_first_input = is_first_input e.1 } =
     ap (λ (t : Tree). let n : Entry = record { type = t; is_first_input = is_first_input e.1 } in n) here in
     cc
 

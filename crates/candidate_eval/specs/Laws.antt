@@ -1,7 +1,6 @@
 use Rattle.std.specs.Prelude.{◌≡◌, ℕ, true, false, Option, Some, List, [], ◌∷◌}
 use Rattle.candidate_ir.specs.Trees.{Forest, Tree, holds, is_alias, is_error}
 use Rattle.candidate_ir.specs.Worlds.{IsOf, World, Reference, Extends}
-
 use Rattle.candidate_eval.specs.Substitutions.{Universes, Overlap}
 use Rattle.candidate_eval.specs.Orphan.{MayWrite, IsCovered, IsPlainForest, plain_check, View, InCrate, Local, Proper, Compat, Remote, Passes, NonLocalInput, UncoveredInput, Entry, orphan_answer, Step, Viewed, is_general, remote_decision, names, plain_knowability, Knowable, Downstream, local_or_fundamental}
 

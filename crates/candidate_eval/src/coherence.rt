@@ -123,7 +123,8 @@ where
     match visit_args(infcx, normalize, &mut walk, args, WALK_DEPTH) {
         Err(EarlyExit::Local(ty)) => Ok(Some(ty)),
         Err(EarlyExit::Broken(OrphanStop::Stop(stop))) => Err(stop),
-        Ok(()) | Err(EarlyExit::Uncovered(_)) | Err(EarlyExit::Broken(OrphanStop::Normalize(_))) => Ok(None),
+        Ok(()) | Err(EarlyExit::Uncovered(_)) | Err(EarlyExit::Broken(OrphanStop::Normalize(_))) =>
+            Ok(None),
     }
 }
 

@@ -50,9 +50,12 @@ fn loose_alias_class(in_crate: InCrate, kind: AliasKind) -> ViewClass
     ensures { result ≡ loose_alias_in in_crate kind }
 {
     match (kind, in_crate) {
-        (AliasKind::Projection, InCrate::Local { mode: OrphanCheckMode::Compat }) => {
-            ViewClass::Skipped
-        }
+        (
+            AliasKind::Projection,
+            InCrate::Local {
+                mode: OrphanCheckMode::Compat,
+            },
+        ) => { ViewClass::Skipped }
         _ => loose_class(in_crate),
     }
 }

@@ -71,7 +71,11 @@ where
 }
 
 /// The normaliser's answer at the resolved type, or that type where the answer is a general variable.
-pub(crate) fn view_of<C, E, F>(infcx: &mut C, normalize: &mut F, ty: Ty) -> Result<Ty, NormalizeErr<E>>
+pub(crate) fn view_of<C, E, F>(
+    infcx: &mut C,
+    normalize: &mut F,
+    ty: Ty,
+) -> Result<Ty, NormalizeErr<E>>
 where
     C: InferCtxtLike,
     F: FnMut(&mut C, Ty) -> Result<Ty, NormalizeErr<E>>,
@@ -118,9 +122,7 @@ impl Walk {
             } else {
                 Err(EarlyExit::Uncovered(ty))
             },
-            ViewClass::Unnameable => {
-                Err(EarlyExit::Broken(OrphanStop::Stop(Stop::Unnameable)))
-            }
+            ViewClass::Unnameable => { Err(EarlyExit::Broken(OrphanStop::Stop(Stop::Unnameable))) }
         }
     }
 }

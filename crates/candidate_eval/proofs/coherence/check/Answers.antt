@@ -29,10 +29,10 @@ returns-in-Ok-first_local_ty-clause-answer g c = λ normal h ne.
     let checked : Tree → Checked (g.row.F.Denot × g.row.C.Denot) (Answer g.row.E.Denot) =
     λ t. record { answer = second_answer last.trees t (Ok c.in-Ok-first_local_ty.local_ty); after = (c.first_local_ty.new.normalize, c.first_local_ty.new.infcx) } in
     let e = uncovered-checked (g.C.Make.context c.args.infcx.now) (g.C.Make.context c.visit_args.new.infcx) last
-        c.visit_args.ensures.grows c.first_local_ty.ensures.grows c.args.in_crate see 256 c.args.trait_ref.args c.requires.args
-        (c.args.normalize.now, c.args.infcx.now) (c.visit_args.new.normalize, c.visit_args.new.infcx) c.in-Err-Uncovered.uncovered first.exit
-        (first.outcome normal h (λ x. cc)) checked
-        (λ t. c.in-Ok-first_local_ty.ensures.answer normal later (λ x. cc) t) in
+    c.visit_args.ensures.grows c.first_local_ty.ensures.grows c.args.in_crate see 256 c.args.trait_ref.args c.requires.args
+    (c.args.normalize.now, c.args.infcx.now) (c.visit_args.new.normalize, c.visit_args.new.infcx) c.in-Err-Uncovered.uncovered first.exit
+    (first.outcome normal h (λ x. cc)) checked
+    (λ t. c.in-Ok-first_local_ty.ensures.answer normal later (λ x. cc) t) in
     e
 
 pub returns-in-Err-Uncovered-clause-answer : goal.returns-in-Err-Uncovered-clause-answer
@@ -44,8 +44,8 @@ returns-in-Err-Uncovered-clause-answer g c = λ normal h ne.
     let checked : Tree → Checked (g.row.F.Denot × g.row.C.Denot) (Answer g.row.E.Denot) =
     λ t. record { answer = second_answer last.trees t (Err c.in-Err.stop); after = (c.first_local_ty.new.normalize, c.first_local_ty.new.infcx) } in
     let e = uncovered-checked (g.C.Make.context c.args.infcx.now) (g.C.Make.context c.visit_args.new.infcx) last
-        c.visit_args.ensures.grows c.first_local_ty.ensures.grows c.args.in_crate see 256 c.args.trait_ref.args c.requires.args
-        (c.args.normalize.now, c.args.infcx.now) (c.visit_args.new.normalize, c.visit_args.new.infcx) c.in-Err-Uncovered.uncovered first.exit
-        (first.outcome normal h (λ x. cc)) checked
-        (λ t. c.in-Err.ensures.answer normal later (λ x. ne (let y : c.in-Err.stop ≡ Memory = cc in ap (λ z. Err (O.Stop z)) y)) t) in
+    c.visit_args.ensures.grows c.first_local_ty.ensures.grows c.args.in_crate see 256 c.args.trait_ref.args c.requires.args
+    (c.args.normalize.now, c.args.infcx.now) (c.visit_args.new.normalize, c.visit_args.new.infcx) c.in-Err-Uncovered.uncovered first.exit
+    (first.outcome normal h (λ x. cc)) checked
+    (λ t. c.in-Err.ensures.answer normal later (λ x. ne (let y : c.in-Err.stop ≡ Memory = cc in ap (λ z. Err (O.Stop z)) y)) t) in
     e

@@ -16,8 +16,8 @@ returns-clause-proper_passes_compat g c = λ normal h m r.
 pub returns-clause-remote_ignores_the_local_crate : goal.returns-clause-remote_ignores_the_local_crate
 returns-clause-remote_ignores_the_local_crate g c = λ normal h m ne d.
     let e = any-local (world (g.C.Make.context c.args.infcx.now)) (g.C.Make.context c.args.infcx.now).local.0 256 (view (λ s u. g.C.InferCtxtLike.resolved s.1 u) normal)
-        (c.args.normalize, c.args.infcx.now) (args_forest (g.C.Make.context c.args.infcx.now).trees c.args.trait_ref.args) c.args.in_crate m d
-        ∙ c.check.ensures.answer normal h ne in
+    (c.args.normalize, c.args.infcx.now) (args_forest (g.C.Make.context c.args.infcx.now).trees c.args.trait_ref.args) c.args.in_crate m d
+    ∙ c.check.ensures.answer normal h ne in
     record { answer = ap (λ x. x.answer) e; leaves = ap (λ x. x.after.1) e }
 
 pub returns-clause-remote_covers : goal.returns-clause-remote_covers

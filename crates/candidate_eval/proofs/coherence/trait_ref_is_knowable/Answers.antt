@@ -25,10 +25,10 @@ returns-in_err-local-clause-answer g c = λ normal h ne.
     ap (λ (x : Context). local_or_fundamental (world x) x.local.0 c.args.trait_ref.def_id.0) (sym c.cx.ensures)
     ∙ (sym c.trait_ref_is_local_or_fundamental.ensures ∙ c.if-trait_ref_is_local_or_fundamental.false) in
     let e = knows-locally (g.C.Make.context c.args.infcx.now) c1 c.check.ensures.grows see 256
-        (c.args.normalize, c.args.infcx.now) (c.check.new.normalize, c.check.new.infcx) (c.check-2.new.normalize, c.check-2.new.infcx)
-        c.args.trait_ref c.requires.args (g.C.Make.context c.check-2.new.infcx).trees c.in_ok-remote.remote (Err c.in_err-local.field-0.0)
-        (sym c.is_ok.ensures.value ∙ c.if-is_ok.false) own
-        (c.in_ok-remote.ensures.answer normal h (λ x. cc)) (c.in_err-local.ensures.answer normal later (λ x. let z : c.in_err-local.field-0.0 ≡ O.Stop Memory = cc in ne (p.1 ∙ ap Err (p.2 ∙ z)))) in
+    (c.args.normalize, c.args.infcx.now) (c.check.new.normalize, c.check.new.infcx) (c.check-2.new.normalize, c.check-2.new.infcx)
+    c.args.trait_ref c.requires.args (g.C.Make.context c.check-2.new.infcx).trees c.in_ok-remote.remote (Err c.in_err-local.field-0.0)
+    (sym c.is_ok.ensures.value ∙ c.if-is_ok.false) own
+    (c.in_ok-remote.ensures.answer normal h (λ x. cc)) (c.in_err-local.ensures.answer normal later (λ x. let z : c.in_err-local.field-0.0 ≡ O.Stop Memory = cc in ne (p.1 ∙ ap Err (p.2 ∙ z)))) in
     rw (p.1, p.2) (record { answer = ap (λ x. x.answer) e ∙ local-stops (g.C.Make.context c.check-2.new.infcx).trees c.in_err-local.field-0.0; leaves = ap (λ x. x.after.1) e })
 
 pub returns-then-is_ok-2-clause-answer : goal.returns-then-is_ok-2-clause-answer
@@ -40,10 +40,10 @@ returns-then-is_ok-2-clause-answer g c = λ normal h ne.
     ap (λ (x : Context). local_or_fundamental (world x) x.local.0 c.args.trait_ref.def_id.0) (sym c.cx.ensures)
     ∙ (sym c.trait_ref_is_local_or_fundamental.ensures ∙ c.if-trait_ref_is_local_or_fundamental.false) in
     let e = knows-locally (g.C.Make.context c.args.infcx.now) c1 c.check.ensures.grows see 256
-        (c.args.normalize, c.args.infcx.now) (c.check.new.normalize, c.check.new.infcx) (c.check-2.new.normalize, c.check-2.new.infcx)
-        c.args.trait_ref c.requires.args (g.C.Make.context c.check-2.new.infcx).trees c.in_ok-remote.remote (Ok c.in_ok-local.local)
-        (sym c.is_ok.ensures.value ∙ c.if-is_ok.false) own
-        (c.in_ok-remote.ensures.answer normal h (λ x. cc)) (c.in_ok-local.ensures.answer normal later (λ x. cc)) in
+    (c.args.normalize, c.args.infcx.now) (c.check.new.normalize, c.check.new.infcx) (c.check-2.new.normalize, c.check-2.new.infcx)
+    c.args.trait_ref c.requires.args (g.C.Make.context c.check-2.new.infcx).trees c.in_ok-remote.remote (Ok c.in_ok-local.local)
+    (sym c.is_ok.ensures.value ∙ c.if-is_ok.false) own
+    (c.in_ok-remote.ensures.answer normal h (λ x. cc)) (c.in_ok-local.ensures.answer normal later (λ x. cc)) in
     record { answer = ap (λ x. x.answer) e ∙ local-passes (g.C.Make.context c.check-2.new.infcx).trees c.in_ok-local.local (sym c.is_ok-2.ensures.value ∙ c.if-is_ok-2.true); leaves = ap (λ x. x.after.1) e }
 
 pub returns-clause-answer : goal.returns-clause-answer
@@ -55,8 +55,8 @@ returns-clause-answer g c = λ normal h ne.
     ap (λ (x : Context). local_or_fundamental (world x) x.local.0 c.args.trait_ref.def_id.0) (sym c.cx.ensures)
     ∙ (sym c.trait_ref_is_local_or_fundamental.ensures ∙ c.if-trait_ref_is_local_or_fundamental.false) in
     let e = knows-locally (g.C.Make.context c.args.infcx.now) c1 c.check.ensures.grows see 256
-        (c.args.normalize, c.args.infcx.now) (c.check.new.normalize, c.check.new.infcx) (c.check-2.new.normalize, c.check-2.new.infcx)
-        c.args.trait_ref c.requires.args (g.C.Make.context c.check-2.new.infcx).trees c.in_ok-remote.remote (Ok c.in_ok-local.local)
-        (sym c.is_ok.ensures.value ∙ c.if-is_ok.false) own
-        (c.in_ok-remote.ensures.answer normal h (λ x. cc)) (c.in_ok-local.ensures.answer normal later (λ x. cc)) in
+    (c.args.normalize, c.args.infcx.now) (c.check.new.normalize, c.check.new.infcx) (c.check-2.new.normalize, c.check-2.new.infcx)
+    c.args.trait_ref c.requires.args (g.C.Make.context c.check-2.new.infcx).trees c.in_ok-remote.remote (Ok c.in_ok-local.local)
+    (sym c.is_ok.ensures.value ∙ c.if-is_ok.false) own
+    (c.in_ok-remote.ensures.answer normal h (λ x. cc)) (c.in_ok-local.ensures.answer normal later (λ x. cc)) in
     record { answer = ap (λ x. x.answer) e ∙ local-fails (g.C.Make.context c.check-2.new.infcx).trees c.in_ok-local.local (sym c.is_ok-2.ensures.value ∙ c.if-is_ok-2.false); leaves = ap (λ x. x.after.1) e }

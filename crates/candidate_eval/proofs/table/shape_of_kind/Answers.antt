@@ -21,7 +21,8 @@ returns-in-Dynamic c =
     let cx = c.args.cx.now in
     let P : TyKind → Type 0 = λ k. IsShape cx c.args.in_crate (kind_tree cx.trees k) (S.Item c.principal_class.result) in
     let Q : TyKind → Type 0 = λ k. KindFits cx.trees k in
-    subst P (sym c.in-Dynamic.is)
-    (refl,
-    ap owned_in (dynamic-principal (world cx) (crate_test c.args.in_crate cx.local.0) cx.trees c.in-Dynamic.preds c.in-Dynamic.field-1 (subst Q c.in-Dynamic.is c.requires.fits))
-    ∙ sym c.principal_class.ensures)
+    subst P (sym c.in-Dynamic.is) (
+      refl,
+      ap owned_in (dynamic-principal (world cx) (crate_test c.args.in_crate cx.local.0) cx.trees c.in-Dynamic.preds c.in-Dynamic.field-1 (subst Q c.in-Dynamic.is c.requires.fits))
+          ∙ sym c.principal_class.ensures,
+    )

@@ -33,23 +33,53 @@ visit_ty-returns-in_err-view-clause-outcome g t c = λ normal h.
 
 pub visit_ty-visit_ty-outcome-requires : goal.visit_ty-visit_ty-outcome-requires
 visit_ty-visit_ty-outcome-requires g t c κs within =
-    let r = rw c.cx.ensures at c.in-Target.ensures in
-    (omega arith,
-    (within.0, (within.1.0, (within.1.1,
-    (r.sort,
-    (may-later g.C.Make.context g.F.FnMut _ _ c.view_of.ensures.grows c.requires.callable,
-    (keeps-later g.C.Make.context g.F.FnMut _ _ c.view_of.ensures.grows c.requires.keeps,
-    types-kept _ _ c.args.walk.now.non_local.items c.view_of.ensures.grows c.requires.recorded)))))))
+    let r = rw c.cx.ensures at c.in-Target.ensures in (
+      omega arith,
+      (
+        within.0,
+        (
+          within.1.0,
+          (
+            within.1.1,
+            (
+              r.sort,
+              (
+                may-later g.C.Make.context g.F.FnMut _ _ c.view_of.ensures.grows c.requires.callable,
+                (
+                  keeps-later g.C.Make.context g.F.FnMut _ _ c.view_of.ensures.grows c.requires.keeps,
+                  types-kept _ _ c.args.walk.now.non_local.items c.view_of.ensures.grows c.requires.recorded,
+                ),
+              ),
+            ),
+          ),
+        ),
+      ),
+    )
 
 pub visit_ty-visit_args-outcome-requires : goal.visit_ty-visit_args-outcome-requires
 visit_ty-visit_args-outcome-requires g t c κs within =
-    let r = rw c.cx.ensures at c.in-Arguments.ensures in
-    (omega arith,
-    (within.0, (within.1.0, (within.1.1,
-    (r.sort,
-    (may-later g.C.Make.context g.F.FnMut _ _ c.view_of.ensures.grows c.requires.callable,
-    (keeps-later g.C.Make.context g.F.FnMut _ _ c.view_of.ensures.grows c.requires.keeps,
-    types-kept _ _ c.args.walk.now.non_local.items c.view_of.ensures.grows c.requires.recorded)))))))
+    let r = rw c.cx.ensures at c.in-Arguments.ensures in (
+      omega arith,
+      (
+        within.0,
+        (
+          within.1.0,
+          (
+            within.1.1,
+            (
+              r.sort,
+              (
+                may-later g.C.Make.context g.F.FnMut _ _ c.view_of.ensures.grows c.requires.callable,
+                (
+                  keeps-later g.C.Make.context g.F.FnMut _ _ c.view_of.ensures.grows c.requires.keeps,
+                  types-kept _ _ c.args.walk.now.non_local.items c.view_of.ensures.grows c.requires.recorded,
+                ),
+              ),
+            ),
+          ),
+        ),
+      ),
+    )
 
 pub visit_ty-returns-clause-outcome : goal.visit_ty-returns-clause-outcome
 visit_ty-returns-clause-outcome g t c = λ normal h.
@@ -65,17 +95,17 @@ visit_ty-returns-clause-outcome g t c = λ normal h.
     let seen = c.in_ok-view.ensures.view normal h in
     let later = function-later g.C.Make.context g.F.FnMut c.args.infcx.now c.view_of.new.infcx normal grows h in
     elim c.match-shape_of.branch [
-      visit_ty-in-Item w ↦ rw (w.infcx-is, w.normalize-is, w.walk-is, w.outcome-is)
-        (visited-item c0 c1 m grows see c.args.levels (c.args.levels - 1) levels s0 s1 tree c.in_ok-view.view seen w.in-Item.class
-        c.args.walk.now w.take-outcome.new.self _ w.take-outcome.result (rw c.cx.ensures at w.in-Item.ensures) refl w.take-outcome.ensures.taken)
-    | visit_ty-in-Target w ↦ rw (w.infcx-is, w.normalize-is, w.walk-is, w.outcome-is)
-        (visited-target c0 c1 m grows see c.args.levels (c.args.levels - 1) levels s0 s1 tree c.in_ok-view.view seen w.in-Target.target
-        c.args.walk.now w.visit_ty-outcome.new.walk _ _ _ w.visit_ty-outcome.result (rw c.cx.ensures at w.in-Target.ensures) refl
-        (w.visit_ty-outcome.ensures.some normal later) (w.visit_ty-outcome.ensures.outcome normal later))
-    | visit_ty-in-Arguments w ↦ rw (w.infcx-is, w.normalize-is, w.walk-is, w.outcome-is)
-        (visited-arguments c0 c1 m grows see c.args.levels (c.args.levels - 1) levels s0 s1 tree c.in_ok-view.view seen w.in-Arguments.args
-        c.args.walk.now w.visit_args-outcome.new.walk _ _ _ w.visit_args-outcome.result (rw c.cx.ensures at w.in-Arguments.ensures) refl
-        (w.visit_args-outcome.ensures.outcome normal later))
+      | visit_ty-in-Item w ↦ rw (w.infcx-is, w.normalize-is, w.walk-is, w.outcome-is)
+          (visited-item c0 c1 m grows see c.args.levels (c.args.levels - 1) levels s0 s1 tree c.in_ok-view.view seen w.in-Item.class
+          c.args.walk.now w.take-outcome.new.self _ w.take-outcome.result (rw c.cx.ensures at w.in-Item.ensures) refl w.take-outcome.ensures.taken)
+      | visit_ty-in-Target w ↦ rw (w.infcx-is, w.normalize-is, w.walk-is, w.outcome-is)
+          (visited-target c0 c1 m grows see c.args.levels (c.args.levels - 1) levels s0 s1 tree c.in_ok-view.view seen w.in-Target.target
+          c.args.walk.now w.visit_ty-outcome.new.walk _ _ _ w.visit_ty-outcome.result (rw c.cx.ensures at w.in-Target.ensures) refl
+          (w.visit_ty-outcome.ensures.some normal later) (w.visit_ty-outcome.ensures.outcome normal later))
+      | visit_ty-in-Arguments w ↦ rw (w.infcx-is, w.normalize-is, w.walk-is, w.outcome-is)
+          (visited-arguments c0 c1 m grows see c.args.levels (c.args.levels - 1) levels s0 s1 tree c.in_ok-view.view seen w.in-Arguments.args
+          c.args.walk.now w.visit_args-outcome.new.walk _ _ _ w.visit_args-outcome.result (rw c.cx.ensures at w.in-Arguments.ensures) refl
+          (w.visit_args-outcome.ensures.outcome normal later))
     ]
 
 pub visit_ty-returns-clause-some : goal.visit_ty-returns-clause-some
@@ -92,42 +122,42 @@ visit_ty-returns-clause-some g t c = λ normal h.
     let seen = c.in_ok-view.ensures.view normal h in
     let later = function-later g.C.Make.context g.F.FnMut c.args.infcx.now c.view_of.new.infcx normal grows h in
     elim c.match-shape_of.branch [
-      visit_ty-in-Item w ↦ rw w.outcome-is
-        (item-some c0 c1 m grows see c.args.levels (c.args.levels - 1) levels s0 s1 tree c.in_ok-view.view seen w.in-Item.class
-        w.take-outcome.result (rw c.cx.ensures at w.in-Item.ensures))
-    | visit_ty-in-Target w ↦ rw w.outcome-is
-        (target-some c0 c1 m grows see c.args.levels (c.args.levels - 1) levels s0 s1 tree c.in_ok-view.view seen w.in-Target.target
-        w.visit_ty-outcome.result (rw c.cx.ensures at w.in-Target.ensures) (w.visit_ty-outcome.ensures.some normal later))
-    | visit_ty-in-Arguments w ↦ rw w.outcome-is
-        (arguments-some c0 c1 m grows see c.args.levels (c.args.levels - 1) levels s0 s1 tree c.in_ok-view.view seen w.in-Arguments.args
-        w.visit_args-outcome.result (rw c.cx.ensures at w.in-Arguments.ensures))
+      | visit_ty-in-Item w ↦ rw w.outcome-is
+          (item-some c0 c1 m grows see c.args.levels (c.args.levels - 1) levels s0 s1 tree c.in_ok-view.view seen w.in-Item.class
+          w.take-outcome.result (rw c.cx.ensures at w.in-Item.ensures))
+      | visit_ty-in-Target w ↦ rw w.outcome-is
+          (target-some c0 c1 m grows see c.args.levels (c.args.levels - 1) levels s0 s1 tree c.in_ok-view.view seen w.in-Target.target
+          w.visit_ty-outcome.result (rw c.cx.ensures at w.in-Target.ensures) (w.visit_ty-outcome.ensures.some normal later))
+      | visit_ty-in-Arguments w ↦ rw w.outcome-is
+          (arguments-some c0 c1 m grows see c.args.levels (c.args.levels - 1) levels s0 s1 tree c.in_ok-view.view seen w.in-Arguments.args
+          w.visit_args-outcome.result (rw c.cx.ensures at w.in-Arguments.ensures))
     ]
 
 pub visit_ty-returns-clause-grows : goal.visit_ty-returns-clause-grows
 visit_ty-returns-clause-grows g t c =
     elim c.match-shape_of.branch [
-      visit_ty-in-Item w ↦ rw w.infcx-is c.view_of.ensures.grows
-    | visit_ty-in-Target w ↦ rw w.infcx-is (grows-trans _ _ _ c.view_of.ensures.grows w.visit_ty-outcome.ensures.grows)
-    | visit_ty-in-Arguments w ↦ rw w.infcx-is (grows-trans _ _ _ c.view_of.ensures.grows w.visit_args-outcome.ensures.grows)
+      | visit_ty-in-Item w ↦ rw w.infcx-is c.view_of.ensures.grows
+      | visit_ty-in-Target w ↦ rw w.infcx-is (grows-trans _ _ _ c.view_of.ensures.grows w.visit_ty-outcome.ensures.grows)
+      | visit_ty-in-Arguments w ↦ rw w.infcx-is (grows-trans _ _ _ c.view_of.ensures.grows w.visit_args-outcome.ensures.grows)
     ]
 
 pub visit_ty-returns-clause-recorded : goal.visit_ty-returns-clause-recorded
 visit_ty-returns-clause-recorded g t c =
     elim c.match-shape_of.branch [
-      visit_ty-in-Item w ↦ rw (w.infcx-is, w.walk-is)
-        (item-types _ w.in-Item.class c.args.walk.now w.take-outcome.new.self c.in_ok-view.view w.take-outcome.result c.in_ok-view.ensures.sort
-        (types-kept _ _ c.args.walk.now.non_local.items c.view_of.ensures.grows c.requires.recorded) w.take-outcome.ensures.taken)
-    | visit_ty-in-Target w ↦ rw (w.infcx-is, w.walk-is) w.visit_ty-outcome.ensures.recorded
-    | visit_ty-in-Arguments w ↦ rw (w.infcx-is, w.walk-is) w.visit_args-outcome.ensures.recorded
+      | visit_ty-in-Item w ↦ rw (w.infcx-is, w.walk-is)
+          (item-types _ w.in-Item.class c.args.walk.now w.take-outcome.new.self c.in_ok-view.view w.take-outcome.result c.in_ok-view.ensures.sort
+          (types-kept _ _ c.args.walk.now.non_local.items c.view_of.ensures.grows c.requires.recorded) w.take-outcome.ensures.taken)
+      | visit_ty-in-Target w ↦ rw (w.infcx-is, w.walk-is) w.visit_ty-outcome.ensures.recorded
+      | visit_ty-in-Arguments w ↦ rw (w.infcx-is, w.walk-is) w.visit_args-outcome.ensures.recorded
     ]
 
 pub visit_ty-returns-clause-exit : goal.visit_ty-returns-clause-exit
 visit_ty-returns-clause-exit g t c =
     elim c.match-shape_of.branch [
-      visit_ty-in-Item w ↦ rw (w.infcx-is, w.outcome-is)
-        (item-exit _ w.in-Item.class c.args.walk.now w.take-outcome.new.self c.in_ok-view.view w.take-outcome.result c.in_ok-view.ensures.sort w.take-outcome.ensures.taken)
-    | visit_ty-in-Target w ↦ rw (w.infcx-is, w.outcome-is) w.visit_ty-outcome.ensures.exit
-    | visit_ty-in-Arguments w ↦ rw (w.infcx-is, w.outcome-is) w.visit_args-outcome.ensures.exit
+      | visit_ty-in-Item w ↦ rw (w.infcx-is, w.outcome-is)
+          (item-exit _ w.in-Item.class c.args.walk.now w.take-outcome.new.self c.in_ok-view.view w.take-outcome.result c.in_ok-view.ensures.sort w.take-outcome.ensures.taken)
+      | visit_ty-in-Target w ↦ rw (w.infcx-is, w.outcome-is) w.visit_ty-outcome.ensures.exit
+      | visit_ty-in-Arguments w ↦ rw (w.infcx-is, w.outcome-is) w.visit_args-outcome.ensures.exit
     ]
 
 pub visit_args-loop-i-init : goal.visit_args-loop-i-init
@@ -160,13 +190,28 @@ visit_args-visit_ty-requires g t c κs within =
     let ensures = rw c.cx-in-loop-i.ensures at c.args-in-loop-i.ensures in
     let here = c.loop-i.invariant in
     let below = index-below (g.C.Make.context c.args.infcx.now) (g.C.Make.context c.loop-i.infcx) c.args.args c.args-in-loop-i.result.now c.loop-i.i _
-    here.grows c.requires.args ensures.fits ensures.tree here.count_is c.loop-i-test.true in
-    (omega arith,
-    (within.0, (within.1.0, (within.1.1,
-    ((type-at (g.C.Make.context c.loop-i.infcx).trees c.args-in-loop-i.result.now c.loop-i.i _ c.in-Ty.ty ensures.fits below c.in-Ty.is).0,
-    (may-later g.C.Make.context g.F.FnMut _ _ here.grows c.requires.callable,
-    (keeps-later g.C.Make.context g.F.FnMut _ _ here.grows c.requires.keeps,
-    here.recorded)))))))
+    here.grows c.requires.args ensures.fits ensures.tree here.count_is c.loop-i-test.true in (
+      omega arith,
+      (
+        within.0,
+        (
+          within.1.0,
+          (
+            within.1.1,
+            (
+              (type-at (g.C.Make.context c.loop-i.infcx).trees c.args-in-loop-i.result.now c.loop-i.i _ c.in-Ty.ty ensures.fits below c.in-Ty.is).0,
+              (
+                may-later g.C.Make.context g.F.FnMut _ _ here.grows c.requires.callable,
+                (
+                  keeps-later g.C.Make.context g.F.FnMut _ _ here.grows c.requires.keeps,
+                  here.recorded,
+                ),
+              ),
+            ),
+          ),
+        ),
+      ),
+    )
 
 pub visit_args-loop-i-preserved : goal.visit_args-loop-i-preserved
 visit_args-loop-i-preserved g t c =
@@ -179,33 +224,33 @@ visit_args-loop-i-preserved g t c =
     let s0 : g.row.F.Denot × g.row.C.Denot = (c.args.normalize.now, c.args.infcx.now) in
     let s1 : g.row.F.Denot × g.row.C.Denot = (c.loop-i.normalize, c.loop-i.infcx) in
     elim c.match-arg.branch [
-      visit_args-in-Ty+in_ok-visit_ty w ↦ rw (w.infcx-is, w.normalize-is, w.walk-is)
-        (record {
-          grows = grows-trans _ _ _ here.grows w.in_ok-visit_ty.ensures.grows;
-          same = record {
-            in_crate = w.in_ok-visit_ty.ensures.same.in_crate ∙ here.same.in_crate;
-            seeks_local = w.in_ok-visit_ty.ensures.same.seeks_local ∙ here.same.seeks_local;
-          };
-          recorded = w.in_ok-visit_ty.ensures.recorded;
-          count_is = here.count_is;
-          sofar = λ normal h.
-              let later = function-later g.C.Make.context g.F.FnMut c.args.infcx.now c.loop-i.infcx normal here.grows h in
-              next-visit (view (λ s u. g.C.InferCtxtLike.resolved s.1 u) normal) c.args.levels c0 c1 here.grows c.args.args c.requires.args xs c.loop-i.i _
-              ensures.fits ensures.tree below c.args.walk.now c.loop-i.walk here.same s0 s1 w.in-Ty.ty w.in-Ty.is
-              (g.C.Make.context w.visit_ty.new.infcx) w.in_ok-visit_ty.ensures.grows w.visit_ty.new.walk (w.visit_ty.new.normalize, w.visit_ty.new.infcx)
-              c.requires.recorded here.recorded w.in_ok-visit_ty.ensures.first (w.in_ok-visit_ty.ensures.some normal later) (w.in_ok-visit_ty.ensures.outcome normal later)
-              (here.sofar normal h);
-        })
-    | visit_args-in_default w ↦ rw (w.infcx-is, w.normalize-is, w.walk-is)
-        (record {
-          grows = here.grows;
-          same = here.same;
-          recorded = here.recorded;
-          count_is = here.count_is;
-          sofar = λ normal h.
-              next-skip (view (λ s u. g.C.InferCtxtLike.resolved s.1 u) normal) c.args.levels c0 c1 here.grows c.args.args c.requires.args xs c.loop-i.i _
-              ensures.fits ensures.tree below c.args.walk.now c.loop-i.walk here.same s0 s1 w.in_default.not-Ty (here.sofar normal h);
-        })
+      | visit_args-in-Ty+in_ok-visit_ty w ↦ rw (w.infcx-is, w.normalize-is, w.walk-is)
+          (record {
+            grows = grows-trans _ _ _ here.grows w.in_ok-visit_ty.ensures.grows;
+            same = record {
+              in_crate = w.in_ok-visit_ty.ensures.same.in_crate ∙ here.same.in_crate;
+              seeks_local = w.in_ok-visit_ty.ensures.same.seeks_local ∙ here.same.seeks_local;
+            };
+            recorded = w.in_ok-visit_ty.ensures.recorded;
+            count_is = here.count_is;
+            sofar = λ normal h.
+                let later = function-later g.C.Make.context g.F.FnMut c.args.infcx.now c.loop-i.infcx normal here.grows h in
+                next-visit (view (λ s u. g.C.InferCtxtLike.resolved s.1 u) normal) c.args.levels c0 c1 here.grows c.args.args c.requires.args xs c.loop-i.i _
+                ensures.fits ensures.tree below c.args.walk.now c.loop-i.walk here.same s0 s1 w.in-Ty.ty w.in-Ty.is
+                (g.C.Make.context w.visit_ty.new.infcx) w.in_ok-visit_ty.ensures.grows w.visit_ty.new.walk (w.visit_ty.new.normalize, w.visit_ty.new.infcx)
+                c.requires.recorded here.recorded w.in_ok-visit_ty.ensures.first (w.in_ok-visit_ty.ensures.some normal later) (w.in_ok-visit_ty.ensures.outcome normal later)
+                (here.sofar normal h);
+          })
+      | visit_args-in_default w ↦ rw (w.infcx-is, w.normalize-is, w.walk-is)
+          (record {
+            grows = here.grows;
+            same = here.same;
+            recorded = here.recorded;
+            count_is = here.count_is;
+            sofar = λ normal h.
+                next-skip (view (λ s u. g.C.InferCtxtLike.resolved s.1 u) normal) c.args.levels c0 c1 here.grows c.args.args c.requires.args xs c.loop-i.i _
+                ensures.fits ensures.tree below c.args.walk.now c.loop-i.walk here.same s0 s1 w.in_default.not-Ty (here.sofar normal h);
+          })
     ]
 
 pub visit_args-returns-in_err-visit_ty-clause-outcome : goal.visit_args-returns-in_err-visit_ty-clause-outcome
