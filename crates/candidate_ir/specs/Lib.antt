@@ -9,3 +9,4 @@ pub mod Worlds
 pub mod Declaration
 pub mod Context
 pub mod Names
+pub mod TypeFlags

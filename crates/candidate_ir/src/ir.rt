@@ -1,5 +1,6 @@
 //! Types, constants and regions: their kinds, the heads of their trees, and the table that holds them.
 
+pub mod flags;
 pub mod heads;
 pub mod kinds;
 pub mod node;

@@ -4,11 +4,13 @@ ghost use Rattle.std.specs.Prelude.{◌≡◌, ◌<◌, ◌↔◌, IsTrue, IfOk,
 ghost use Rattle.candidate_ir.specs.Context.{world, Grows};
 ghost use Rattle.candidate_ir.specs.Trees.{height, heights, tree_holds, holds, is_param};
 ghost use Rattle.candidate_ir.specs.Flags.{mark};
+ghost use Rattle.candidate_ir.specs.TypeFlags.{type_flags};
 ghost use Rattle.candidate_ir.specs.Names.{is_local, is_fundamental, principal_of};
 ghost use Rattle.candidate_ir.specs.Words.{IsTy, IsRegion, IsArgs, IsPreds, preds_forest, ty_tree, region_tree, args_forest, KindFits, ListFits, kind_tree, region_kind_tree, list_forest, IsMkStop};
 
 use crate::decl::builder::Decls;
 use crate::decl::definition::{CrateId, Declaration};
+use crate::ir::flags::{TypeFlags, bit_if};
 use crate::ir::heads::Flag;
 use crate::ir::kinds::{
     AdtId, Args, ForeignId, GenericArg, Preds, Region, RegionKind, TraitId, TraitRef, Ty, TyKind,
@@ -200,5 +202,25 @@ impl Cx {
         ensures { result ≡ principal_of (preds_forest self.now.trees preds) }
     {
         self.nodes.principal(preds)
+    }
+
+    /// The flags whose marks stand anywhere in the type.
+    pub fn flags(&self, ty: Ty) -> TypeFlags
+        requires { IsTy self.now.trees ty }
+        ensures { result ≡ type_flags (ty_tree self.now.trees ty) }
+    {
+        let infer = bit_if(self.has(ty, Flag::TyInfer), 1)
+            + bit_if(self.has(ty, Flag::RegionInfer), 2)
+            + bit_if(self.has(ty, Flag::ConstInfer), 4);
+        let placeholder = bit_if(self.has(ty, Flag::TyPlaceholder), 8)
+            + bit_if(self.has(ty, Flag::RegionPlaceholder), 16)
+            + bit_if(self.has(ty, Flag::ConstPlaceholder), 32);
+        let bound = bit_if(self.has(ty, Flag::TyBound), 64)
+            + bit_if(self.has(ty, Flag::RegionBound), 128)
+            + bit_if(self.has(ty, Flag::ConstBound), 256);
+        let other = bit_if(self.has(ty, Flag::Param), 512)
+            + bit_if(self.has(ty, Flag::Alias), 1024)
+            + bit_if(self.has(ty, Flag::Error), 2048);
+        TypeFlags(infer + placeholder + bound + other)
     }
 }

@@ -1,0 +1,58 @@
+//! The flags of a tree as a set.
+
+ghost use Rattle.std.specs.Prelude.{◌≡◌, ◌≤◌, ⊤, [], ◌∷◌, codes, if◌then◌else◌};
+
+use bitflags::{Flag as Named, Flags, bitflag_items};
+
+/// Which marks stand anywhere in a tree, inner binders included.
+#[derive(Clone, Copy, Debug, PartialEq, Eq)]
+pub struct TypeFlags(pub u16);
+
+bitflag_items! {
+    impl TypeFlags: u16 {
+        const HAS_TY_INFER = 1;
+        const HAS_RE_INFER = 2;
+        const HAS_CT_INFER = 4;
+        const HAS_TY_PLACEHOLDER = 8;
+        const HAS_RE_PLACEHOLDER = 16;
+        const HAS_CT_PLACEHOLDER = 32;
+        const HAS_TY_BOUND = 64;
+        const HAS_RE_BOUND = 128;
+        const HAS_CT_BOUND = 256;
+        const HAS_PARAM = 512;
+        const HAS_ALIAS = 1024;
+        const HAS_ERROR = 2048;
+        const HAS_INFER = 7;
+        const HAS_PLACEHOLDER = 56;
+    }
+}
+
+impl Flags for TypeFlags {
+    type Bits = u16;
+
+    ghost exact = { ⊤ };
+
+    ghost table = { (codes "HAS_TY_INFER", 1) ∷ (codes "HAS_RE_INFER", 2) ∷ (codes "HAS_CT_INFER", 4) ∷ (codes "HAS_TY_PLACEHOLDER", 8) ∷ (codes "HAS_RE_PLACEHOLDER", 16) ∷ (codes "HAS_CT_PLACEHOLDER", 32) ∷ (codes "HAS_TY_BOUND", 64) ∷ (codes "HAS_RE_BOUND", 128) ∷ (codes "HAS_CT_BOUND", 256) ∷ (codes "HAS_PARAM", 512) ∷ (codes "HAS_ALIAS", 1024) ∷ (codes "HAS_ERROR", 2048) ∷ (codes "HAS_INFER", 7) ∷ (codes "HAS_PLACEHOLDER", 56) ∷ [] };
+
+    ghost set_of = { λ f. f.0 };
+
+    fn flags<'a>() -> &'a [Named<TypeFlags>] {
+        TypeFlags::FLAGS
+    }
+
+    fn bits(&self) -> u16 {
+        self.0
+    }
+
+    fn from_bits_retain(bits: u16) -> TypeFlags {
+        TypeFlags(bits)
+    }
+}
+
+/// The bit if the flag is set, else 0.
+pub(crate) fn bit_if(is_set: bool, bit: u16) -> u16
+    ensures value { result ≡ (if is_set then bit else 0) }
+    ensures most { result ≤ bit }
+{
+    if is_set { bit } else { 0 }
+}
