@@ -8,6 +8,7 @@ use crate::ir::kinds::{
     IntTy, Mutability, Placeholder, RegionKind, TraitId, UintTy, VarKind,
 };
 
+/// What a function pointer has besides its types.
 #[derive(Clone, Copy, PartialEq, Eq)]
 pub struct Signature {
     pub safe: bool,
@@ -15,6 +16,7 @@ pub struct Signature {
     pub variadic: bool,
 }
 
+/// The shape of a pattern type.
 #[derive(Clone, Copy, PartialEq, Eq)]
 pub enum PatternShape {
     NotNull,
@@ -40,6 +42,7 @@ pub enum Builtin {
     Tuple,
 }
 
+/// What a variable to be solved stands for.
 #[derive(Clone, Copy, PartialEq, Eq)]
 pub enum VariableSort {
     General,
@@ -55,6 +58,7 @@ pub struct Variable {
     pub number: u32,
 }
 
+/// The heads of constants.
 #[derive(Clone, Copy, PartialEq, Eq)]
 pub enum ConstHead {
     Value(u64),
@@ -65,6 +69,7 @@ pub enum ConstHead {
     Error,
 }
 
+/// The heads of the bounds of a `dyn` type.
 #[derive(Clone, Copy, PartialEq, Eq)]
 pub enum PredHead {
     Trait(TraitId),
@@ -81,6 +86,7 @@ pub enum PartHead {
     Var(VarKind),
 }
 
+/// The heads of lists.
 #[derive(Clone, Copy, PartialEq, Eq)]
 pub enum ListHead {
     Args,

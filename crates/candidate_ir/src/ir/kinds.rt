@@ -51,27 +51,35 @@ pub enum GenericArg {
     Region(Region),
 }
 
+/// An algebraic data type.
 #[derive(Clone, Copy, Debug, PartialEq, Eq)]
 pub struct AdtId(pub u32);
 
+/// A foreign type.
 #[derive(Clone, Copy, Debug, PartialEq, Eq)]
 pub struct ForeignId(pub u32);
 
+/// A function.
 #[derive(Clone, Copy, Debug, PartialEq, Eq)]
 pub struct FnId(pub u32);
 
+/// A closure.
 #[derive(Clone, Copy, Debug, PartialEq, Eq)]
 pub struct ClosureId(pub u32);
 
+/// A trait.
 #[derive(Clone, Copy, Debug, PartialEq, Eq)]
 pub struct TraitId(pub u32);
 
+/// An associated item of a trait.
 #[derive(Clone, Copy, Debug, PartialEq, Eq)]
 pub struct AssocId(pub u32);
 
+/// What an alias stands for: of a projection its associated type.
 #[derive(Clone, Copy, Debug, PartialEq, Eq)]
 pub struct AliasId(pub u32);
 
+/// The signed integer types.
 #[derive(Clone, Copy, PartialEq, Eq)]
 pub enum IntTy {
     I8,
@@ -82,6 +90,7 @@ pub enum IntTy {
     Isize,
 }
 
+/// The unsigned integer types.
 #[derive(Clone, Copy, PartialEq, Eq)]
 pub enum UintTy {
     U8,
@@ -92,6 +101,7 @@ pub enum UintTy {
     Usize,
 }
 
+/// The floating-point types.
 #[derive(Clone, Copy, PartialEq, Eq)]
 pub enum FloatTy {
     F16,
@@ -100,12 +110,14 @@ pub enum FloatTy {
     F128,
 }
 
+/// Whether what is pointed to may be written.
 #[derive(Clone, Copy, PartialEq, Eq)]
 pub enum Mutability {
     Not,
     Mut,
 }
 
+/// The kinds of aliases.
 #[derive(Clone, Copy, PartialEq, Eq)]
 pub enum AliasKind {
     Projection,
@@ -114,6 +126,7 @@ pub enum AliasKind {
     Free,
 }
 
+/// How a closure may be called.
 #[derive(Clone, Copy, PartialEq, Eq)]
 pub enum ClosureKind {
     Fn,
@@ -129,6 +142,7 @@ pub enum VarKind {
     Region,
 }
 
+/// A type variable to be solved: of any type, of integer types, of floating-point types.
 #[derive(Clone, Copy, PartialEq, Eq)]
 pub enum InferTy {
     TyVar(u32),
@@ -136,6 +150,7 @@ pub enum InferTy {
     FloatVar(u32),
 }
 
+/// A rigid variable of a universe.
 #[derive(Clone, Copy, PartialEq, Eq)]
 pub struct Placeholder {
     pub universe: u32,
@@ -163,6 +178,7 @@ pub struct Binder<T> {
     pub value: T,
 }
 
+/// The signature of a function pointer.
 #[derive(Clone, Copy)]
 pub struct FnSig {
     pub inputs: Args,
@@ -179,6 +195,7 @@ pub struct ClosureSig {
     pub output: Ty,
 }
 
+/// What a closure type has besides its definition.
 #[derive(Clone, Copy)]
 pub struct ClosureArgs {
     pub parent: Args,
@@ -187,6 +204,7 @@ pub struct ClosureArgs {
     pub upvars: Ty,
 }
 
+/// An alias with its arguments; of a projection the self type comes first.
 #[derive(Clone, Copy)]
 pub struct AliasTy {
     pub kind: AliasKind,
@@ -207,12 +225,14 @@ impl AliasTy {
     }
 }
 
+/// What a pattern type allows: pointers that are not null, or a range of constants.
 #[derive(Clone, Copy)]
 pub enum Pattern {
     NotNull,
     Range(Const, Const),
 }
 
+/// A bound of a `dyn` type, without the self type.
 #[derive(Clone, Copy)]
 pub enum ExistentialPredicate {
     Trait(TraitId, Args),
@@ -220,6 +240,7 @@ pub enum ExistentialPredicate {
     AutoTrait(TraitId),
 }
 
+/// A type by its parts, which are numbers of a context.
 #[derive(Clone, Copy)]
 pub enum TyKind {
     Bool,
@@ -250,6 +271,7 @@ pub enum TyKind {
     Error,
 }
 
+/// A constant by its parts.
 #[derive(Clone, Copy)]
 pub enum ConstKind {
     Value(u64),
@@ -261,6 +283,7 @@ pub enum ConstKind {
     Error,
 }
 
+/// A region.
 #[derive(Clone, Copy, PartialEq, Eq)]
 pub enum RegionKind {
     Static,
