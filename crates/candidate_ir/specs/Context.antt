@@ -63,15 +63,15 @@ abbrev pub declared : Context → Declaration → Context
 declared c d = record c { declarations = c.declarations ++ d ∷ [] }
 
 abbrev pub crate_of : Option Declaration → CrateId
-crate_of None = record { 0 = 0 }
+crate_of None = record { 0 = 4294967295 }
 crate_of (Some d) = d.crate
 
 abbrev pub parameters_of : Option Declaration → List VarKind
 parameters_of None = []
 parameters_of (Some d) = d.parameters
 
--- An associated item has the crate and the parameters of its trait, and crate 0 and no parameters
--- where the number isn't declared.
+-- An associated item has the crate and the parameters of its trait; where the number is not declared yet, a
+-- crate that no builder gives and no parameters, so that the declarations have a fault for good.
 abbrev pub assoc_declaration : Context → TraitId → AssocKind → Bool → Declaration
 assoc_declaration c of kind sized = record {
   crate = crate_of (slice_get c.declarations of.0);

@@ -49,6 +49,9 @@ impl<T: Drop> From<AllocFailed<T>> for DeclFault {
     }
 }
 
+/// A crate that no builder gives, so that `finish` refuses what is of it.
+const NO_CRATE: CrateId = CrateId(u32::MAX);
+
 /// Takes declarations one after the other. A call that is refused leaves it as it was.
 #[derive(Drop)]
 pub struct DeclsBuilder {
@@ -222,7 +225,7 @@ impl DeclsBuilder {
         let alloc = *self.definitions.allocator();
         let (krate, parameters) = match self.definitions.get(of.0 as usize) {
             Some(declaration) => (declaration.krate, declaration.parameters.to_vec(alloc)?),
-            None => (CrateId(0), Vec::new(alloc)),
+            None => (NO_CRATE, Vec::new(alloc)),
         };
         Ok(AssocId(self.add(Declaration {
             krate,
