@@ -1,6 +1,8 @@
-//! Runs over texts in memory.
+//! Runs over texts in memory, and calls of the libraries.
 
 mod answers;
 mod bad_lines;
+mod calls;
 mod devices;
 mod memory;
+mod values;
