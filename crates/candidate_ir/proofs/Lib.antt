@@ -8,3 +8,4 @@ pub mod Principals
 pub mod Kept
 pub mod Rows
 pub mod Members
+pub mod Growing

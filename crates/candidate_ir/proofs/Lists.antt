@@ -90,11 +90,11 @@ there-args (A.Ty t ∷ xs) = there-args xs
 there-args (A.Const t ∷ xs) = there-args xs
 there-args (A.Region t ∷ xs) = there-args xs
 
-there-preds : (xs : List Pred) → all_there (sorts (map pred_child xs)) ≡ true
+pub there-preds : (xs : List Pred) → all_there (sorts (map pred_child xs)) ≡ true
 there-preds [] = refl
 there-preds (p ∷ xs) = there-preds xs
 
-there-vars : (xs : List Var) → all_there (sorts (map var_child xs)) ≡ true
+pub there-vars : (xs : List Var) → all_there (sorts (map var_child xs)) ≡ true
 there-vars [] = refl
 there-vars (p ∷ xs) = there-vars xs
 

@@ -1,17 +1,20 @@
 -- What is declared, and the trees of the numbers given so far.
-use Rattle.std.specs.Prelude.{◌≡◌, ℕ, Bool, true, false, not, ◌&&◌, ◌||◌, ◌==◌, nat_lt, Option, Some, None, List, [], ◌∷◌, ◌++◌, length, map, if◌then◌else◌}
+use Rattle.std.specs.Prelude.{◌≡◌, ℕ, Bool, true, false, not, ◌&&◌, ◌||◌, ◌==◌, nat_lt, Option, Some, None, List, [], ◌∷◌, ◌++◌, length, map, slice_get, if◌then◌else◌}
 use Rattle.std.specs.List.{list_any}
 use Rattle.std.specs.Coded.{Coded, code_by, coded×, coded_ℕ, coded_list}
 use Rattle.candidate_ir.specs.declared.ir.kinds.VarKind.{VarKind}
 use Rattle.candidate_ir.specs.declared.ir.kinds.VarKind.TheVariants as V
 use Rattle.candidate_ir.specs.declared.decl.definition.CrateId.{CrateId}
+use Rattle.candidate_ir.specs.declared.ir.kinds.TraitId.{TraitId}
+use Rattle.candidate_ir.specs.declared.decl.definition.AssocKind.{AssocKind}
+use Rattle.candidate_ir.specs.declared.decl.definition.AssocKind.TheVariants as A
 use Rattle.candidate_ir.specs.declared.decl.definition.DefinitionKind.{DefinitionKind}
 use Rattle.candidate_ir.specs.declared.decl.definition.DefinitionKind.TheVariants as D
 use Rattle.candidate_ir.specs.declared.decl.builder.DeclFault.{DeclFault}
 use Rattle.candidate_ir.specs.declared.decl.builder.DeclFault.TheVariants as F
 use Rattle.candidate_ir.specs.Trees.{Kind, TypeKind, ConstantKind, RegionKind, Tree}
 use Rattle.candidate_ir.specs.Nodes.{Extends}
-use Rattle.candidate_ir.specs.Worlds.{World, Definition, DefinitionSort, AdtSort, TraitSort}
+use Rattle.candidate_ir.specs.Worlds.{World, Definition, DefinitionSort, AdtSort, ForeignSort, TraitSort, AssociatedTypeSort, AssociatedConstantSort}
 use Rattle.candidate_ir.specs.Declaration.{Declaration}
 
 pub record Context : Type 0 where
@@ -28,13 +31,20 @@ parameter_kind V.Ty = TypeKind
 parameter_kind V.Const = ConstantKind
 parameter_kind V.Region = RegionKind
 
+abbrev pub assoc_sort : AssocKind → DefinitionSort
+assoc_sort A.Type = AssociatedTypeSort
+assoc_sort A.Const = AssociatedConstantSort
+
 abbrev pub sort_of : DefinitionKind → DefinitionSort
 sort_of (D.Adt shape flags) = AdtSort
 sort_of (D.Trait flags) = TraitSort
+sort_of D.Foreign = ForeignSort
+sort_of (D.Assoc of kind sized) = assoc_sort kind
 
 abbrev pub fundamental_of : DefinitionKind → Bool
 fundamental_of (D.Adt shape flags) = flags.fundamental
 fundamental_of (D.Trait flags) = flags.fundamental
+fundamental_of _ = false
 
 abbrev pub definition_of : Declaration → Definition
 definition_of d = record {
@@ -51,6 +61,23 @@ world c = map definition_of c.declarations
 -- the context with one more declaration
 abbrev pub declared : Context → Declaration → Context
 declared c d = record c { declarations = c.declarations ++ d ∷ [] }
+
+abbrev pub crate_of : Option Declaration → CrateId
+crate_of None = record { 0 = 0 }
+crate_of (Some d) = d.crate
+
+abbrev pub parameters_of : Option Declaration → List VarKind
+parameters_of None = []
+parameters_of (Some d) = d.parameters
+
+-- An associated item has the crate and the parameters of its trait, and crate 0 and no parameters
+-- where the number isn't declared.
+abbrev pub assoc_declaration : Context → TraitId → AssocKind → Bool → Declaration
+assoc_declaration c of kind sized = record {
+  crate = crate_of (slice_get c.declarations of.0);
+  parameters = parameters_of (slice_get c.declarations of.0);
+  kind = D.Assoc of kind sized;
+}
 
 -- The declarations stay, and every number has its tree still.
 pub record Grows (old new : Context) : Type 0 where
@@ -73,10 +100,27 @@ is_unknown crates c = not (nat_lt c.0 crates)
 abbrev pub has_wrong_arity : DefinitionKind → List VarKind → Bool
 has_wrong_arity (D.Adt shape flags) ks = flags.phantom_data && not (begins_with_type ks)
 has_wrong_arity (D.Trait flags) ks = flags.auto && not (is_empty ks)
+has_wrong_arity _ ks = false
 
--- whether a crate is named that was never given
+abbrev pub is_trait : DefinitionKind → Bool
+is_trait (D.Trait flags) = true
+is_trait _ = false
+
+abbrev pub is_declared_trait : Option Declaration → Bool
+is_declared_trait None = false
+is_declared_trait (Some d) = is_trait d.kind
+
+-- whether it is an associated item of what is none of the declared traits
+abbrev pub lacks_trait : List Declaration → DefinitionKind → Bool
+lacks_trait ds (D.Assoc of kind sized) = not (is_declared_trait (slice_get ds of.0))
+lacks_trait ds _ = false
+
+-- whether a crate is named that was never given, or an associated item is of no trait
 abbrev pub has_unknown_id : Context → Bool
-has_unknown_id c = is_unknown c.crates c.local || list_any (λ d. is_unknown c.crates d.crate) c.declarations
+has_unknown_id c =
+    is_unknown c.crates c.local
+    || (list_any (λ d. is_unknown c.crates d.crate) c.declarations
+    || list_any (λ d. lacks_trait c.declarations d.kind) c.declarations)
 
 abbrev pub has_arity_fault : Context → Bool
 has_arity_fault c = list_any (λ d. has_wrong_arity d.kind d.parameters) c.declarations

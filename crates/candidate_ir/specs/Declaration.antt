@@ -6,6 +6,6 @@ use Rattle.candidate_ir.specs.declared.decl.definition.DefinitionKind.{Definitio
 
 pub record Declaration : Type 0 where
   pub crate : CrateId
-  -- the kinds of its parameters; of a trait's, those after `Self`
+  -- the kinds of its parameters; of a trait's and of its items', those after `Self`
   pub parameters : List VarKind
   pub kind : DefinitionKind

@@ -1,5 +1,5 @@
 -- the words of the context's contracts
-use Rattle.std.specs.Prelude.{◌≡◌, ℕ, ◌⊎◌, ◌<◌, List, length, map}
+use Rattle.std.specs.Prelude.{◌≡◌, ℕ, ◌⊎◌, ◌+◌, ◌<◌, ◌≤◌, Bool, true, false, List, length, map, All, count_by}
 use Rattle.candidate_ir.specs.declared.ir.kinds.Ty.{Ty}
 use Rattle.candidate_ir.specs.declared.ir.kinds.Const.{Const}
 use Rattle.candidate_ir.specs.declared.ir.kinds.Region.{Region}
@@ -12,6 +12,7 @@ use Rattle.candidate_ir.specs.declared.ir.kinds.Var.{Var}
 use Rattle.candidate_ir.specs.declared.ir.kinds.VarKind.{VarKind}
 use Rattle.candidate_ir.specs.declared.ir.kinds.Binder.{Binder}
 use Rattle.candidate_ir.specs.declared.ir.kinds.ExistentialPredicate.{ExistentialPredicate}
+use Rattle.candidate_ir.specs.declared.ir.kinds.ExistentialPredicate.TheVariants as E
 use Rattle.candidate_ir.specs.declared.ir.kinds.ClosureSig.{ClosureSig}
 use Rattle.candidate_ir.specs.declared.ir.kinds.GenericArg.{GenericArg}
 use Rattle.candidate_ir.specs.declared.ir.kinds.TyKind.{TyKind}
@@ -105,6 +106,17 @@ PredListFits ts xs = kinds_at ts (numbers (map pred_child xs)) ≡ sorts (map pr
 abbrev pub VarListFits : List Tree → List Var → Type 0
 VarListFits ts xs = kinds_at ts (numbers (map var_child xs)) ≡ sorts (map var_child xs)
 
+abbrev pub BoundsFit : List Tree → List (Binder ExistentialPredicate) → Type 0
+BoundsFit ts bs = All (PredFits ts) bs
+
+abbrev pub names_trait : ExistentialPredicate → Bool
+names_trait (E.Trait _ _) = true
+names_trait _ = false
+
+-- One bound at most names a trait with arguments, which is the principal.
+abbrev pub AtMostOnePrincipal : List (Binder ExistentialPredicate) → Type 0
+AtMostOnePrincipal bs = count_by (λ b. names_trait b.value) bs ≤ 1
+
 -- and their trees
 abbrev pub kind_tree : List Tree → TyKind → Tree
 kind_tree ts k = node_tree ts (N.Ty k)
@@ -133,6 +145,18 @@ pred_list_forest ts xs = rows (trees_at ts (numbers (map pred_child xs)))
 abbrev pub vars_kind_tree : List Tree → List Var → Tree
 vars_kind_tree ts xs = record { head = H.Part P.Vars; children = rows (trees_at ts (numbers (map var_child xs))) }
 
+-- the bounds in a row
+abbrev pub bounds_forest : List Tree → List (Binder ExistentialPredicate) → Forest
+bounds_forest ts bs = rows (map (pred_kind_tree ts) bs)
+
+-- a binder over a leaf for each of its variables
+abbrev pub binder_tree : List VarKind → Tree
+binder_tree ks = record { head = H.Part P.Vars; children = rows (map var_kind_tree ks) }
+
 -- why a tree of the height was not added: memory, no number is left, or it is too high
 abbrev pub IsMkStop : List Tree → ℕ → Stop → Type 0
 IsMkStop ts high s = (s ≡ Memory) ⊎ ((s ≡ NodesFull) × ((length ts ≡ 4294967295) ⊎ (1024 < high)))
+
+-- why a tree of the height was not added with so many nodes: memory, fewer numbers are left, or it is too high
+abbrev pub IsMkListStop : List Tree → ℕ → ℕ → Stop → Type 0
+IsMkListStop ts nodes high s = (s ≡ Memory) ⊎ ((s ≡ NodesFull) × ((4294967295 < length ts + nodes) ⊎ (1024 < high)))

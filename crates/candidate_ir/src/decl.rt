@@ -7,4 +7,4 @@ pub mod make;
 
 pub use builder::{DeclFault, Decls, DeclsBuilder};
 pub use context::Cx;
-pub use definition::{AdtFlags, AdtShape, CrateId, TraitFlags};
+pub use definition::{AdtFlags, AdtShape, AssocKind, CrateId, TraitFlags};

@@ -2,6 +2,5 @@
 //! declarations that the types name.
 #![tactic(auto)]
 
-
 pub mod decl;
 pub mod ir;

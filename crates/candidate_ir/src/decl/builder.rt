@@ -2,13 +2,13 @@
 
 ghost use Rattle.std.specs.Prelude.{◌≡◌, ◌+◌, ◌<◌, None, Some, [], length, IfOk, IfErr, MatchResult};
 ghost use Rattle.std.specs.List.{list_any};
-ghost use Rattle.candidate_ir.specs.Context.{declared, lowest_fault, has_unknown_id, has_arity_fault, is_unknown};
+ghost use Rattle.candidate_ir.specs.Context.{declared, assoc_declaration, lowest_fault, has_unknown_id, has_arity_fault, is_unknown, lacks_trait};
 ghost use Rattle.candidate_ir.specs.declared.decl.builder.DeclFault.TheVariants.{Memory};
 
 use crate::decl::definition::{
-    AdtFlags, AdtShape, CrateId, Declaration, DefinitionKind, TraitFlags,
+    AdtFlags, AdtShape, AssocKind, CrateId, Declaration, DefinitionKind, TraitFlags,
 };
-use crate::ir::kinds::{AdtId, TraitId, VarKind};
+use crate::ir::kinds::{AdtId, AssocId, ForeignId, TraitId, VarKind};
 use crate::ir::nodes::Nodes;
 use std::alloc::{AllocError, AllocFailed, Global};
 use std::marker::Model;
@@ -17,7 +17,7 @@ use std::marker::Model;
 /// answered.
 #[derive(Clone, Copy, Debug, PartialEq, Eq)]
 pub enum DeclFault {
-    /// A number is named that the builder never gave.
+    /// A number is named that the builder never gave, or an associated item is of no trait.
     UnknownId = 1,
     /// An auto trait has parameters, or a marker type has no type parameter first.
     WrongArity = 2,
@@ -63,6 +63,7 @@ impl Model for DeclsBuilder {
     ghost use Rattle.candidate_ir.specs.contracts.ir.heads.Head as head;
     ghost use Rattle.candidate_ir.specs.TreeCode.{tree_code};
     ghost use Rattle.candidate_ir.specs.Context as seen;
+
     ghost Value = { seen.Context };
 
     ghost coded = { Prim.hlevel (codes, tree_code head.the_row.coded) };
@@ -187,17 +188,63 @@ impl DeclsBuilder {
         })?))
     }
 
+    /// Declares a foreign type of the crate, which has no parameters.
+    ///
+    /// The only error is `DeclFault::Memory`.
+    pub fn add_foreign(&mut self, krate: CrateId) -> Result<ForeignId, DeclFault>
+        ensures id { IfOk result (λ i. i.0 ≡ length self.old.declarations) }
+        ensures added { IfOk result (λ _. self.new ≡ declared self.old (record { crate = krate; parameters = []; kind = DefinitionKind.Foreign })) }
+        ensures unchanged { IfErr result (λ _. self.new ≡ self.old) }
+        ensures cause { IfErr result (λ e. e ≡ DeclFault.Memory) }
+    {
+        let parameters = Vec::new(*self.definitions.allocator());
+        Ok(ForeignId(self.add(Declaration {
+            krate,
+            parameters,
+            kind: DefinitionKind::Foreign,
+        })?))
+    }
+
+    /// Declares an associated item of the trait, whose crate and parameters it has.
+    ///
+    /// The only error is `DeclFault::Memory`.
+    pub fn add_assoc(
+        &mut self,
+        of: TraitId,
+        kind: AssocKind,
+        requires_sized_self: bool,
+    ) -> Result<AssocId, DeclFault>
+        ensures id { IfOk result (λ i. i.0 ≡ length self.old.declarations) }
+        ensures added { IfOk result (λ _. self.new ≡ declared self.old (assoc_declaration self.old of kind requires_sized_self)) }
+        ensures unchanged { IfErr result (λ _. self.new ≡ self.old) }
+        ensures cause { IfErr result (λ e. e ≡ DeclFault.Memory) }
+    {
+        let alloc = *self.definitions.allocator();
+        let (krate, parameters) = match self.definitions.get(of.0 as usize) {
+            Some(declaration) => (declaration.krate, declaration.parameters.to_vec(alloc)?),
+            None => (CrateId(0), Vec::new(alloc)),
+        };
+        Ok(AssocId(self.add(Declaration {
+            krate,
+            parameters,
+            kind: DefinitionKind::Assoc(of, kind, requires_sized_self),
+        })?))
+    }
+
     fn has_unknown_id(&self) -> bool
         ensures { result ≡ has_unknown_id self.now }
     {
         self.local.is_unknown(self.crates)
             || any_is_unknown(self.definitions.as_slice(), self.crates)
+            || any_lacks_trait(self.definitions.as_slice())
     }
 
     fn has_arity_fault(&self) -> bool
         ensures { result ≡ has_arity_fault self.now }
     {
-        self.definitions.iter().any(|definition| definition.has_wrong_arity())
+        self.definitions
+            .iter()
+            .any(|definition| definition.has_wrong_arity())
     }
 
     /// The declarations, if they have no fault; else the fault with the lowest number. The builder
@@ -211,8 +258,18 @@ impl DeclsBuilder {
         if self.has_arity_fault() {
             return Err(DeclFault::WrongArity);
         }
-        let DeclsBuilder { crates, local, definitions, nodes } = self;
-        Ok(Decls { crates, local, definitions, nodes })
+        let DeclsBuilder {
+            crates,
+            local,
+            definitions,
+            nodes,
+        } = self;
+        Ok(Decls {
+            crates,
+            local,
+            definitions,
+            nodes,
+        })
     }
 }
 
@@ -220,5 +277,16 @@ impl DeclsBuilder {
 fn any_is_unknown(definitions: &[Declaration], crates: u32) -> bool
     ensures { result ≡ list_any (λ d. is_unknown crates d.crate) definitions.now }
 {
-    definitions.iter().any(|definition| definition.krate().is_unknown(crates))
+    definitions
+        .iter()
+        .any(|definition| definition.krate().is_unknown(crates))
+}
+
+/// Whether some definition is an associated item of what is no trait among them.
+fn any_lacks_trait(definitions: &[Declaration]) -> bool
+    ensures { result ≡ list_any (λ d. lacks_trait definitions.now d.kind) definitions.now }
+{
+    definitions
+        .iter()
+        .any(|definition| definition.lacks_trait(definitions))
 }

@@ -1,17 +1,18 @@
 //! The context: declarations, and the table in which types are made.
 
-ghost use Rattle.std.specs.Prelude.{◌≡◌, ◌<◌, ◌↔◌, IsTrue, IfOk, IfErr, Some, None};
+ghost use Rattle.std.specs.Prelude.{◌≡◌, ◌+◌, ◌<◌, ◌↔◌, IsTrue, length, IfOk, IfErr, Some, None};
 ghost use Rattle.candidate_ir.specs.Context.{world, Grows};
 ghost use Rattle.candidate_ir.specs.Trees.{height, heights, tree_holds, holds, is_param};
 ghost use Rattle.candidate_ir.specs.Flags.{mark};
 ghost use Rattle.candidate_ir.specs.Names.{is_local, is_fundamental, principal_of};
-ghost use Rattle.candidate_ir.specs.Words.{IsTy, IsRegion, IsArgs, IsPreds, preds_forest, ty_tree, region_tree, args_forest, KindFits, ListFits, kind_tree, region_kind_tree, list_forest, IsMkStop};
+ghost use Rattle.candidate_ir.specs.Words.{IsTy, IsConst, IsRegion, IsArgs, IsPreds, IsPred, IsVars, ty_tree, const_tree, region_tree, args_forest, preds_forest, pred_tree, vars_tree, KindFits, ConstKindFits, ListFits, PredListFits, PredFits, BoundsFit, AtMostOnePrincipal, kind_tree, const_kind_tree, region_kind_tree, list_forest, pred_list_forest, pred_kind_tree, bounds_forest, binder_tree, IsMkStop, IsMkListStop};
 
 use crate::decl::builder::Decls;
 use crate::decl::definition::{CrateId, Declaration};
 use crate::ir::heads::Flag;
 use crate::ir::kinds::{
-    AdtId, Args, ForeignId, GenericArg, Preds, Region, RegionKind, TraitId, TraitRef, Ty, TyKind,
+    AdtId, Args, Binder, Const, ConstKind, ExistentialPredicate, ForeignId, GenericArg, Pred,
+    Preds, Region, RegionKind, TraitId, TraitRef, Ty, TyKind, VarKind, Vars,
 };
 use crate::ir::nodes::Nodes;
 use crate::ir::stop::Stop;
@@ -46,8 +47,18 @@ impl Cx {
     pub fn new(decls: Decls) -> Self
         ensures { result ≡ decls }
     {
-        let Decls { crates, local, definitions, nodes } = decls;
-        Cx { crates, local, definitions, nodes }
+        let Decls {
+            crates,
+            local,
+            definitions,
+            nodes,
+        } = decls;
+        Cx {
+            crates,
+            local,
+            definitions,
+            nodes,
+        }
     }
 
     fn is_local(&self, definition: u32) -> bool
@@ -118,6 +129,18 @@ impl Cx {
         self.nodes.mk_ty(kind)
     }
 
+    /// The constant of that kind; it stops as `mk_ty` does.
+    pub fn mk_const(&mut self, kind: ConstKind) -> Result<Const, Stop>
+        requires { ConstKindFits self.old.trees kind }
+        ensures kept { Grows self.old self.new }
+        ensures sort { IfOk result (λ c. IsConst self.new.trees c) }
+        ensures tree { IfOk result (λ c. const_tree self.new.trees c ≡ const_kind_tree self.old.trees kind) }
+        ensures unchanged { IfErr result (λ _. self.new ≡ self.old) }
+        ensures cause { IfErr result (λ s. IsMkStop self.old.trees (height (const_kind_tree self.old.trees kind)) s) }
+    {
+        self.nodes.mk_const(kind)
+    }
+
     /// The region of that kind; it stops as `mk_ty` does.
     pub fn mk_region(&mut self, kind: RegionKind) -> Result<Region, Stop>
         ensures kept { Grows self.old self.new }
@@ -141,6 +164,33 @@ impl Cx {
         self.nodes.mk_args(list)
     }
 
+    /// The variables of a binder, by their kinds. They take a number each, and one more.
+    ///
+    /// `Stop::NodesFull` comes where fewer numbers are left; else it stops as `mk_ty` does.
+    pub fn mk_vars(&mut self, kinds: &[VarKind]) -> Result<Vars, Stop>
+        ensures kept { Grows self.old self.new }
+        ensures sort { IfOk result (λ v. IsVars self.new.trees v) }
+        ensures tree { IfOk result (λ v. vars_tree self.new.trees v ≡ binder_tree kinds.now) }
+        ensures unchanged { IfErr result (λ _. self.new ≡ self.old) }
+        ensures cause { IfErr result (λ s. IsMkListStop self.old.trees (length kinds.now + 1) (height (binder_tree kinds.now)) s) }
+    {
+        self.nodes.mk_vars(kinds)
+    }
+
+    /// The bounds of a `dyn` type, of which one at most has a trait with arguments. They take a
+    /// number each, and one more, and add nothing to a height; it stops as `mk_vars` does.
+    pub fn mk_preds(&mut self, bounds: &[Binder<ExistentialPredicate>]) -> Result<Preds, Stop>
+        requires fit { BoundsFit self.old.trees bounds.now }
+        requires principal { AtMostOnePrincipal bounds.now }
+        ensures kept { Grows self.old self.new }
+        ensures sort { IfOk result (λ p. IsPreds self.new.trees p) }
+        ensures tree { IfOk result (λ p. preds_forest self.new.trees p ≡ bounds_forest self.old.trees bounds.now) }
+        ensures unchanged { IfErr result (λ _. self.new ≡ self.old) }
+        ensures cause { IfErr result (λ s. IsMkListStop self.old.trees (length bounds.now + 1) (heights (bounds_forest self.old.trees bounds.now)) s) }
+    {
+        self.nodes.mk_preds(bounds)
+    }
+
     /// The kind of a type: making it again gives an equal tree.
     pub fn kind(&self, ty: Ty) -> TyKind
         requires { IsTy self.now.trees ty }
@@ -157,6 +207,24 @@ impl Cx {
         ensures tree { list_forest self.now.trees result.now ≡ args_forest self.now.trees args }
     {
         self.nodes.args(args)
+    }
+
+    /// The bounds of a list, of which each is read by `pred`.
+    pub fn preds(&self, preds: Preds) -> &[Pred]
+        requires { IsPreds self.now.trees preds }
+        ensures fits { PredListFits self.now.trees result.now }
+        ensures tree { pred_list_forest self.now.trees result.now ≡ preds_forest self.now.trees preds }
+    {
+        self.nodes.preds(preds)
+    }
+
+    /// One bound.
+    pub fn pred(&self, pred: Pred) -> Binder<ExistentialPredicate>
+        requires { IsPred self.now.trees pred }
+        ensures fits { PredFits self.now.trees result }
+        ensures tree { pred_kind_tree self.now.trees result ≡ pred_tree self.now.trees pred }
+    {
+        self.nodes.pred(pred)
     }
 
     /// Whether two types are equal as trees.

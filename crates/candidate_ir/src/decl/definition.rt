@@ -3,7 +3,7 @@
 ghost use Rattle.std.specs.Prelude.{◌≡◌};
 ghost use Rattle.candidate_ir.specs.Context.{begins_with_type as begins};
 
-use crate::ir::kinds::VarKind;
+use crate::ir::kinds::{TraitId, VarKind};
 use std::marker::Model;
 
 /// A crate of the object language, numbered from 0 in the order in which crates are added.
@@ -60,11 +60,22 @@ pub struct TraitFlags {
     pub default: bool,
 }
 
+/// What an associated item is.
+#[derive(Clone, Copy, Debug, PartialEq, Eq)]
+pub enum AssocKind {
+    Type,
+    Const,
+}
+
 /// A definition besides its crate and its parameters.
 #[derive(Clone, Copy)]
 pub enum DefinitionKind {
     Adt(AdtShape, AdtFlags),
     Trait(TraitFlags),
+    /// A type that is known by its name alone.
+    Foreign,
+    /// An item of the trait, and whether it requires that `Self` is sized.
+    Assoc(TraitId, AssocKind, bool),
 }
 
 impl DefinitionKind {
@@ -77,6 +88,7 @@ impl DefinitionKind {
         match self {
             DefinitionKind::Adt(_, flags) => flags.fundamental,
             DefinitionKind::Trait(flags) => flags.fundamental,
+            DefinitionKind::Foreign | DefinitionKind::Assoc(_, _, _) => false,
         }
     }
 }
@@ -99,7 +111,7 @@ impl Model for Declaration {
 
 impl Declaration {
     ghost use Rattle.std.specs.Prelude.{◌≡◌};
-    ghost use Rattle.candidate_ir.specs.Context.{fundamental_of, has_wrong_arity};
+    ghost use Rattle.candidate_ir.specs.Context.{fundamental_of, has_wrong_arity, is_trait, lacks_trait};
 
     pub(crate) fn krate(&self) -> CrateId
         ensures { result ≡ self.now.crate }
@@ -113,6 +125,25 @@ impl Declaration {
         self.kind.is_fundamental()
     }
 
+    pub(crate) fn is_trait(&self) -> bool
+        ensures { result ≡ is_trait self.now.kind }
+    {
+        matches!(self.kind, DefinitionKind::Trait(_))
+    }
+
+    /// Whether it is an associated item of what is none of the traits among the definitions.
+    pub(crate) fn lacks_trait(&self, definitions: &[Declaration]) -> bool
+        ensures { result ≡ lacks_trait definitions.now self.now.kind }
+    {
+        match self.kind {
+            DefinitionKind::Assoc(of, _, _) => match definitions.get(of.0 as usize) {
+                Some(declaration) => !declaration.is_trait(),
+                None => true,
+            },
+            _ => false,
+        }
+    }
+
     /// Whether it has parameters that its flags don't allow.
     pub(crate) fn has_wrong_arity(&self) -> bool
         ensures { result ≡ has_wrong_arity self.now.kind self.now.parameters }
@@ -122,6 +153,7 @@ impl Declaration {
                 flags.phantom_data && !begins_with_type(self.parameters.as_slice())
             }
             DefinitionKind::Trait(flags) => flags.auto && !self.parameters.is_empty(),
+            DefinitionKind::Foreign | DefinitionKind::Assoc(_, _, _) => false,
         }
     }
 }

@@ -1,12 +1,15 @@
 //! What makes nodes.
 
-ghost use Rattle.std.specs.Prelude.{◌≡◌, IfOk, IfErr};
+ghost use Rattle.std.specs.Prelude.{◌≡◌, ◌+◌, length, IfOk, IfErr};
 ghost use Rattle.candidate_ir.specs.Context.{Context, Grows};
 ghost use Rattle.candidate_ir.specs.Trees.{height, heights};
-ghost use Rattle.candidate_ir.specs.Words.{IsTy, IsRegion, IsArgs, ty_tree, region_tree, args_forest, KindFits, ListFits, kind_tree, region_kind_tree, list_forest, IsMkStop};
+ghost use Rattle.candidate_ir.specs.Words.{IsTy, IsConst, IsRegion, IsArgs, IsPreds, IsVars, ty_tree, const_tree, region_tree, args_forest, preds_forest, vars_tree, KindFits, ConstKindFits, ListFits, BoundsFit, AtMostOnePrincipal, kind_tree, const_kind_tree, region_kind_tree, list_forest, bounds_forest, binder_tree, IsMkStop, IsMkListStop};
 
 use crate::decl::context::Cx;
-use crate::ir::kinds::{Args, GenericArg, Region, RegionKind, Ty, TyKind};
+use crate::ir::kinds::{
+    Args, Binder, Const, ConstKind, ExistentialPredicate, GenericArg, Preds, Region, RegionKind,
+    Ty, TyKind, VarKind, Vars,
+};
 use crate::ir::stop::Stop;
 
 /// A context, or something over one, that nodes can be added to. Its `mk_*` calls change nothing
@@ -35,6 +38,16 @@ pub trait Make {
         ensures unchanged { IfErr result (λ _. context self.new ≡ context self.old) }
         ensures cause { IfErr result (λ s. IsMkStop (context self.old).trees (height (kind_tree (context self.old).trees kind)) s) };
 
+    /// The constant of that kind.
+    fn mk_const(&mut self, kind: ConstKind) -> Result<Const, Stop>
+        requires { ConstKindFits (context self.old).trees kind }
+        ensures kept { Grows (context self.old) (context self.new) }
+        ensures rest { rest self.new ≡ rest self.old }
+        ensures sort { IfOk result (λ c. IsConst (context self.new).trees c) }
+        ensures tree { IfOk result (λ c. const_tree (context self.new).trees c ≡ const_kind_tree (context self.old).trees kind) }
+        ensures unchanged { IfErr result (λ _. context self.new ≡ context self.old) }
+        ensures cause { IfErr result (λ s. IsMkStop (context self.old).trees (height (const_kind_tree (context self.old).trees kind)) s) };
+
     /// The region of that kind.
     fn mk_region(&mut self, kind: RegionKind) -> Result<Region, Stop>
         ensures kept { Grows (context self.old) (context self.new) }
@@ -53,6 +66,26 @@ pub trait Make {
         ensures tree { IfOk result (λ a. args_forest (context self.new).trees a ≡ list_forest (context self.old).trees list.now) }
         ensures unchanged { IfErr result (λ _. context self.new ≡ context self.old) }
         ensures cause { IfErr result (λ s. IsMkStop (context self.old).trees (heights (list_forest (context self.old).trees list.now)) s) };
+
+    /// The variables of a binder, by their kinds.
+    fn mk_vars(&mut self, kinds: &[VarKind]) -> Result<Vars, Stop>
+        ensures kept { Grows (context self.old) (context self.new) }
+        ensures rest { rest self.new ≡ rest self.old }
+        ensures sort { IfOk result (λ v. IsVars (context self.new).trees v) }
+        ensures tree { IfOk result (λ v. vars_tree (context self.new).trees v ≡ binder_tree kinds.now) }
+        ensures unchanged { IfErr result (λ _. context self.new ≡ context self.old) }
+        ensures cause { IfErr result (λ s. IsMkListStop (context self.old).trees (length kinds.now + 1) (height (binder_tree kinds.now)) s) };
+
+    /// The bounds of a `dyn` type.
+    fn mk_preds(&mut self, bounds: &[Binder<ExistentialPredicate>]) -> Result<Preds, Stop>
+        requires fit { BoundsFit (context self.old).trees bounds.now }
+        requires principal { AtMostOnePrincipal bounds.now }
+        ensures kept { Grows (context self.old) (context self.new) }
+        ensures rest { rest self.new ≡ rest self.old }
+        ensures sort { IfOk result (λ p. IsPreds (context self.new).trees p) }
+        ensures tree { IfOk result (λ p. preds_forest (context self.new).trees p ≡ bounds_forest (context self.old).trees bounds.now) }
+        ensures unchanged { IfErr result (λ _. context self.new ≡ context self.old) }
+        ensures cause { IfErr result (λ s. IsMkListStop (context self.old).trees (length bounds.now + 1) (heights (bounds_forest (context self.old).trees bounds.now)) s) };
 }
 
 impl Make for Cx {
@@ -70,11 +103,23 @@ impl Make for Cx {
         Cx::mk_ty(self, kind)
     }
 
+    fn mk_const(&mut self, kind: ConstKind) -> Result<Const, Stop> {
+        Cx::mk_const(self, kind)
+    }
+
     fn mk_region(&mut self, kind: RegionKind) -> Result<Region, Stop> {
         Cx::mk_region(self, kind)
     }
 
     fn mk_args(&mut self, list: &[GenericArg]) -> Result<Args, Stop> {
         Cx::mk_args(self, list)
+    }
+
+    fn mk_vars(&mut self, kinds: &[VarKind]) -> Result<Vars, Stop> {
+        Cx::mk_vars(self, kinds)
+    }
+
+    fn mk_preds(&mut self, bounds: &[Binder<ExistentialPredicate>]) -> Result<Preds, Stop> {
+        Cx::mk_preds(self, bounds)
     }
 }

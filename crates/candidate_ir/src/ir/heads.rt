@@ -149,7 +149,10 @@ impl Head {
             Flag::ConstBound => matches!(self, Head::Const(ConstHead::Bound(_))),
             Flag::Param => matches!(self, Head::Param(_) | Head::Const(ConstHead::Param(_))),
             Flag::Alias => {
-                matches!(self, Head::Alias(_, _) | Head::Const(ConstHead::Unevaluated(_)))
+                matches!(
+                    self,
+                    Head::Alias(_, _) | Head::Const(ConstHead::Unevaluated(_))
+                )
             }
             Flag::Error => matches!(
                 self,

@@ -194,6 +194,19 @@ pub struct AliasTy {
     pub args: Args,
 }
 
+impl AliasTy {
+    /// The associated type, of the self type and the trait's parameters that the arguments say.
+    pub fn projection(id: AssocId, args: Args) -> AliasTy
+        ensures { result ≡ record { kind = AliasKind.Projection; id = record { 0 = id.0 }; args = args } }
+    {
+        AliasTy {
+            kind: AliasKind::Projection,
+            id: AliasId(id.0),
+            args,
+        }
+    }
+}
+
 #[derive(Clone, Copy)]
 pub enum Pattern {
     NotNull,
@@ -335,9 +348,7 @@ impl TyKind {
         ensures { result ≡ length (ty_children self) }
     {
         match self {
-            TyKind::Closure(_, _)
-            | TyKind::FnPtr(_)
-            | TyKind::Pat(_, Pattern::Range(_, _)) => 3,
+            TyKind::Closure(_, _) | TyKind::FnPtr(_) | TyKind::Pat(_, Pattern::Range(_, _)) => 3,
             TyKind::Ref(_, _, _)
             | TyKind::Array(_, _)
             | TyKind::UnsafeBinder(_)

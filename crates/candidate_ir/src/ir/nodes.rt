@@ -1,22 +1,22 @@
 //! The table of nodes, which contracts see as the list of their trees.
 
-ghost use Rattle.std.specs.Prelude.{◌≡◌, ◌++◌, ◌∷◌, [], ◌+◌, ◌<◌, ◌≤◌, length, IfOk, IfErr, IsTrue, ◌↔◌};
+ghost use Rattle.std.specs.Prelude.{◌≡◌, ◌++◌, ◌∷◌, [], ◌+◌, ◌<◌, ◌≤◌, length, take, IfOk, IfErr, IsTrue, ◌↔◌};
 ghost use Rattle.candidate_ir.specs.Trees.{height, heights, holds, tree_holds, kind_of};
 ghost use Rattle.candidate_ir.specs.Flags.{mark};
 ghost use Rattle.candidate_ir.specs.Names.{principal_of};
 ghost use Rattle.candidate_ir.specs.Nodes.{tree_at, kind_at, node_tree, head_of, Fits, Extends};
 ghost use Rattle.candidate_ir.specs.Table.{IsNodeOf, IsRow};
-ghost use Rattle.candidate_ir.specs.Words.{IsTy, IsConst, IsRegion, IsArgs, IsPreds, IsPred, IsSig, IsVars, IsVar, ty_tree, const_tree, region_tree, args_forest, preds_forest, pred_tree, sig_tree, vars_tree, var_tree, KindFits, ConstKindFits, ListFits, PredListFits, VarListFits, PredFits, SigFits, kind_tree, const_kind_tree, region_kind_tree, list_forest, pred_list_forest, pred_kind_tree, sig_kind_tree, vars_kind_tree, var_kind_tree, IsMkStop};
+ghost use Rattle.candidate_ir.specs.Words.{IsTy, IsConst, IsRegion, IsArgs, IsPreds, IsPred, IsSig, IsVars, IsVar, ty_tree, const_tree, region_tree, args_forest, preds_forest, pred_tree, sig_tree, vars_tree, var_tree, KindFits, ConstKindFits, ListFits, PredListFits, VarListFits, PredFits, SigFits, kind_tree, const_kind_tree, region_kind_tree, list_forest, pred_list_forest, pred_kind_tree, sig_kind_tree, vars_kind_tree, var_kind_tree, BoundsFit, bounds_forest, binder_tree, IsMkStop, IsMkListStop};
 
-use crate::ir::node::{Node, Row};
-use crate::ir::stop::Stop;
-use std::alloc::Global;
-use std::marker::Model;
 use crate::ir::heads::Flag;
 use crate::ir::kinds::{
     Args, Binder, ClosureSig, Const, ConstKind, ExistentialPredicate, GenericArg, Pred, Preds,
     Region, RegionKind, Sig, TraitId, Ty, TyKind, Var, VarKind, Vars,
 };
+use crate::ir::node::{Node, Row};
+use crate::ir::stop::Stop;
+use std::alloc::Global;
+use std::marker::Model;
 
 #[derive(Drop)]
 pub(crate) struct Nodes {
@@ -103,6 +103,13 @@ impl Nodes {
         Ok(number as u32)
     }
 
+    /// Cuts the table back to the first so many nodes.
+    fn truncate(&mut self, len: usize)
+        ensures { self.new ≡ take len self.old }
+    {
+        self.rows.truncate(len);
+    }
+
     pub(crate) fn len(&self) -> usize
         ensures is { result ≡ length self.now }
         ensures most { result ≤ 4294967295 }
@@ -113,6 +120,7 @@ impl Nodes {
     pub(crate) fn add(&mut self, node: Node) -> Result<u32, Stop>
         requires { Fits self.old node }
         ensures kept { Extends self.old self.new }
+        ensures one { IfOk result (λ _. length self.new ≡ length self.old + 1) }
         ensures sort { IfOk result (λ n. kind_at self.new n ≡ kind_of (head_of node)) }
         ensures tree { IfOk result (λ n. tree_at self.new n ≡ node_tree self.old node) }
         ensures unchanged { IfErr result (λ _. self.new ≡ self.old) }
@@ -177,28 +185,65 @@ impl Nodes {
     }
 
     /// The list of these bounds of a `dyn` type.
-    pub(crate) fn mk_preds(&mut self, list: &[Pred]) -> Result<Preds, Stop>
-        requires { PredListFits self.old list.now }
+    fn mk_pred_list(&mut self, list: Vec<Pred>) -> Result<Preds, Stop>
+        requires { PredListFits self.old list.items }
         ensures kept { Extends self.old self.new }
         ensures sort { IfOk result (λ p. IsPreds self.new p) }
-        ensures tree { IfOk result (λ p. preds_forest self.new p ≡ pred_list_forest self.old list.now) }
+        ensures tree { IfOk result (λ p. preds_forest self.new p ≡ pred_list_forest self.old list.items) }
         ensures unchanged { IfErr result (λ _. self.new ≡ self.old) }
-        ensures cause { IfErr result (λ s. IsMkStop self.old (heights (pred_list_forest self.old list.now)) s) }
+        ensures cause { IfErr result (λ s. IsMkStop self.old (heights (pred_list_forest self.old list.items)) s) }
     {
-        let list = list.to_vec(*self.rows.allocator())?;
         Ok(Preds(self.add(Node::Preds(list))?))
     }
 
     /// The bound of a `dyn` type.
-    pub(crate) fn mk_pred(&mut self, bound: Binder<ExistentialPredicate>) -> Result<Pred, Stop>
+    fn mk_pred(&mut self, bound: Binder<ExistentialPredicate>) -> Result<Pred, Stop>
         requires { PredFits self.old bound }
         ensures kept { Extends self.old self.new }
+        ensures one { IfOk result (λ _. length self.new ≡ length self.old + 1) }
         ensures sort { IfOk result (λ p. IsPred self.new p) }
         ensures tree { IfOk result (λ p. pred_tree self.new p ≡ pred_kind_tree self.old bound) }
         ensures unchanged { IfErr result (λ _. self.new ≡ self.old) }
         ensures cause { IfErr result (λ s. IsMkStop self.old (height (pred_kind_tree self.old bound)) s) }
     {
         Ok(Pred(self.add(Node::Pred(bound))?))
+    }
+
+    fn add_preds(&mut self, bounds: &[Binder<ExistentialPredicate>]) -> Result<Preds, Stop>
+        requires { BoundsFit self.old bounds.now }
+        ensures kept { Extends self.old self.new }
+        ensures sort { IfOk result (λ p. IsPreds self.new p) }
+        ensures tree { IfOk result (λ p. preds_forest self.new p ≡ bounds_forest self.old bounds.now) }
+        ensures cause { IfErr result (λ s. IsMkListStop self.old (length bounds.now + 1) (heights (bounds_forest self.old bounds.now)) s) }
+    {
+        let mut list = Vec::new(*self.rows.allocator());
+        for bound in bounds {
+            let pred = self.mk_pred(*bound)?;
+            list.push(pred)?;
+        }
+        self.mk_pred_list(list)
+    }
+
+    /// The bounds of a `dyn` type, with a node for each and one for the list.
+    pub(crate) fn mk_preds(
+        &mut self,
+        bounds: &[Binder<ExistentialPredicate>],
+    ) -> Result<Preds, Stop>
+        requires { BoundsFit self.old bounds.now }
+        ensures kept { Extends self.old self.new }
+        ensures sort { IfOk result (λ p. IsPreds self.new p) }
+        ensures tree { IfOk result (λ p. preds_forest self.new p ≡ bounds_forest self.old bounds.now) }
+        ensures unchanged { IfErr result (λ _. self.new ≡ self.old) }
+        ensures cause { IfErr result (λ s. IsMkListStop self.old (length bounds.now + 1) (heights (bounds_forest self.old bounds.now)) s) }
+    {
+        let len = self.len();
+        match self.add_preds(bounds) {
+            Ok(preds) => Ok(preds),
+            Err(stop) => {
+                self.truncate(len);
+                Err(stop)
+            }
+        }
     }
 
     /// The signature of a closure.
@@ -213,28 +258,60 @@ impl Nodes {
         Ok(Sig(self.add(Node::Sig(sig))?))
     }
 
-    /// The variables of a binder.
-    pub(crate) fn mk_vars(&mut self, list: &[Var]) -> Result<Vars, Stop>
-        requires { VarListFits self.old list.now }
+    /// The list of these variables of a binder.
+    fn mk_var_list(&mut self, list: Vec<Var>) -> Result<Vars, Stop>
+        requires { VarListFits self.old list.items }
         ensures kept { Extends self.old self.new }
         ensures sort { IfOk result (λ v. IsVars self.new v) }
-        ensures tree { IfOk result (λ v. vars_tree self.new v ≡ vars_kind_tree self.old list.now) }
+        ensures tree { IfOk result (λ v. vars_tree self.new v ≡ vars_kind_tree self.old list.items) }
         ensures unchanged { IfErr result (λ _. self.new ≡ self.old) }
-        ensures cause { IfErr result (λ s. IsMkStop self.old (height (vars_kind_tree self.old list.now)) s) }
+        ensures cause { IfErr result (λ s. IsMkStop self.old (height (vars_kind_tree self.old list.items)) s) }
     {
-        let list = list.to_vec(*self.rows.allocator())?;
         Ok(Vars(self.add(Node::Vars(list))?))
     }
 
     /// One variable of a binder.
-    pub(crate) fn mk_var(&mut self, kind: VarKind) -> Result<Var, Stop>
+    fn mk_var(&mut self, kind: VarKind) -> Result<Var, Stop>
         ensures kept { Extends self.old self.new }
+        ensures one { IfOk result (λ _. length self.new ≡ length self.old + 1) }
         ensures sort { IfOk result (λ v. IsVar self.new v) }
         ensures tree { IfOk result (λ v. var_tree self.new v ≡ var_kind_tree kind) }
         ensures unchanged { IfErr result (λ _. self.new ≡ self.old) }
         ensures cause { IfErr result (λ s. IsMkStop self.old (height (var_kind_tree kind)) s) }
     {
         Ok(Var(self.add(Node::Var(kind))?))
+    }
+
+    fn add_vars(&mut self, kinds: &[VarKind]) -> Result<Vars, Stop>
+        ensures kept { Extends self.old self.new }
+        ensures sort { IfOk result (λ v. IsVars self.new v) }
+        ensures tree { IfOk result (λ v. vars_tree self.new v ≡ binder_tree kinds.now) }
+        ensures cause { IfErr result (λ s. IsMkListStop self.old (length kinds.now + 1) (height (binder_tree kinds.now)) s) }
+    {
+        let mut list = Vec::new(*self.rows.allocator());
+        for kind in kinds {
+            let var = self.mk_var(*kind)?;
+            list.push(var)?;
+        }
+        self.mk_var_list(list)
+    }
+
+    /// The variables of a binder, with a node for each and one for the list.
+    pub(crate) fn mk_vars(&mut self, kinds: &[VarKind]) -> Result<Vars, Stop>
+        ensures kept { Extends self.old self.new }
+        ensures sort { IfOk result (λ v. IsVars self.new v) }
+        ensures tree { IfOk result (λ v. vars_tree self.new v ≡ binder_tree kinds.now) }
+        ensures unchanged { IfErr result (λ _. self.new ≡ self.old) }
+        ensures cause { IfErr result (λ s. IsMkListStop self.old (length kinds.now + 1) (height (binder_tree kinds.now)) s) }
+    {
+        let len = self.len();
+        match self.add_vars(kinds) {
+            Ok(vars) => Ok(vars),
+            Err(stop) => {
+                self.truncate(len);
+                Err(stop)
+            }
+        }
     }
 
     /// The kind of a type.

@@ -44,6 +44,6 @@ returns-then-not-has_root_of t c = (
   (λ h. absurd cc),
   (λ h.
       let x = c.has_root_of.ensures.1 (root-agree c.args.self.now c.node-left.result.now c.node-right.result.now c.node-left.ensures.fits c.node-right.ensures.fits
-        (sym c.node-left.ensures.tree ∙ (h ∙ c.node-right.ensures.tree))) in
+      (sym c.node-left.ensures.tree ∙ (h ∙ c.node-right.ensures.tree))) in
       let y = c.if-not-has_root_of.true in absurd cc),
 )

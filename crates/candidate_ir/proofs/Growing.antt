@@ -1,0 +1,148 @@
+-- Nodes that are added one by one, and a table that is cut back.
+use Rattle.std.proofs.Common.{◌≡◌, ℕ, zero, suc, ◌+◌, ◌<◌, ◌≤◌, List, [], ◌∷◌, ◌++◌, length, get_or, take, true, refl, sym, ◌∙◌, ap, subst, arith, append_assoc, length-append, ◌⊎◌, inl, inr}
+use Rattle.std.proofs.lemmas.List.{append-nil, map_push, map_more, take_at, take_all, length-map, length-take-le}
+use Rattle.std.specs.Prelude.{map}
+use Rattle.candidate_ir.specs.declared.ir.node.Row.{Row}
+use Rattle.candidate_ir.specs.declared.ir.node.Node.TheVariants as N
+use Rattle.candidate_ir.specs.declared.ir.kinds.Var.{Var}
+use Rattle.candidate_ir.specs.declared.ir.kinds.VarKind.{VarKind}
+use Rattle.candidate_ir.specs.declared.ir.kinds.Pred.{Pred}
+use Rattle.candidate_ir.specs.declared.ir.kinds.Binder.{Binder}
+use Rattle.candidate_ir.specs.declared.ir.kinds.ExistentialPredicate.{ExistentialPredicate}
+use Rattle.candidate_ir.specs.declared.ir.stop.Stop.{Stop}
+use Rattle.candidate_ir.specs.Trees.{Kind, VariableKind, PredicateKind, Tree, height, heights}
+use Rattle.candidate_ir.specs.Kinds.{Child, numbers, sorts}
+use Rattle.candidate_ir.specs.Nodes.{tree_at, kind_at, trees_at, kinds_at, node_tree, tallest, pred_child, var_child, Extends}
+use Rattle.candidate_ir.specs.Table.{trees_after, AreRows, Below}
+use Rattle.candidate_ir.specs.Words.{IsVar, IsPred, PredFits, BoundsFit, var_tree, pred_tree, var_kind_tree, pred_kind_tree, bounds_forest, IsMkStop, IsMkListStop}
+use Rattle.candidate_ir.proofs.Lists.{all_there, there-preds, there-vars, Below-there, kinds_at-append, trees_at-append, Fits-append, node_tree-append}
+use Rattle.candidate_ir.proofs.Splits.{rows-height}
+use Rattle.candidate_ir.proofs.Tables.{trees_after-extends}
+
+trees_after-take : (ts : List Tree) (rs : List Row) (n : ℕ) → trees_after ts (take n rs) ≡ take (length ts + n) (trees_after ts rs)
+trees_after-take ts rs zero =
+    let e = trees_after-extends ts rs in
+    sym (ap (take (length ts + 0)) e.is ∙ take_at ts e.added (length ts + 0) (omega arith))
+trees_after-take ts [] (suc n) = sym (take_all (length ts + suc n) ts (omega arith))
+trees_after-take ts (q ∷ rs) (suc n) =
+    let x = node_tree ts q.node in
+    let m : length (ts ++ x ∷ []) + n ≡ length ts + suc n = omega (arith, length-append ts (x ∷ [])) in
+    trees_after-take (ts ++ x ∷ []) rs n ∙ ap (λ (k : ℕ). take k (trees_after (ts ++ x ∷ []) rs)) m
+
+-- the trees of the first rows are the first trees
+pub front-trees : (rs : List Row) (n : ℕ) → trees_after [] (take n rs) ≡ take n (trees_after [] rs)
+front-trees rs n =
+    let m : 0 + n ≡ n = omega arith in
+    trees_after-take [] rs n ∙ ap (λ (k : ℕ). take k (trees_after [] rs)) m
+
+pub front-rows : (ts : List Tree) (rs : List Row) (n : ℕ) → AreRows ts rs → AreRows ts (take n rs)
+front-rows ts rs zero a = tt
+front-rows ts [] (suc n) a = tt
+front-rows ts (q ∷ rs) (suc n) a = (a.0, front-rows (ts ++ node_tree ts q.node ∷ []) rs n a.1)
+
+extends-refl : (ts : List Tree) → Extends ts ts
+extends-refl ts = record { added = []; is = sym (append-nil ts) }
+
+pub extends-trans : (a b c : List Tree) → Extends a b → Extends b c → Extends a c
+extends-trans a b c g h = record {
+  added = g.added ++ h.added;
+  is = h.is ∙ (ap (λ (ts : List Tree). ts ++ h.added) g.is ∙ append_assoc a g.added h.added);
+}
+
+-- a table that nodes were added to: their numbers, with what they stand for, and their trees
+pub record Made (old new : List Tree) (cs : List Child) (ts : List Tree) : Type 0 where
+  pub kept : Extends old new
+  pub count : length new ≡ length old + length cs
+  pub fits : kinds_at new (numbers cs) ≡ sorts cs
+  pub trees : trees_at new (numbers cs) ≡ ts
+
+pub made-none : (ts : List Tree) → Made ts ts [] []
+made-none ts = record { kept = extends-refl ts; count = omega arith; fits = refl; trees = refl }
+
+pub made-one : (old now new : List Tree) (cs : List Child) (ts : List Tree) (n : ℕ) (k : Kind) (t : Tree)
+    → Made old now cs ts → all_there (sorts cs) ≡ true
+    → Extends now new → length new ≡ length now + 1 → kind_at new n ≡ k → tree_at new n ≡ t
+    → Made old new (cs ++ (n, k) ∷ []) (ts ++ t ∷ [])
+made-one old now new cs ts n k t m p e l f g =
+    let ks = numbers cs in
+    let c : Child = (n, k) in
+    let b : Below (length now) ks = Below-there now ks (sorts cs) m.fits p in
+    let nums : numbers (cs ++ c ∷ []) ≡ ks ++ n ∷ [] = map_push (λ (x : Child). x.0) cs c in
+    let kinds : kinds_at new ks ≡ sorts cs = ap (λ (us : List Tree). kinds_at us ks) e.is ∙ (kinds_at-append now e.added ks b ∙ m.fits) in
+    let trees : trees_at new ks ≡ ts = ap (λ (us : List Tree). trees_at us ks) e.is ∙ (trees_at-append now e.added ks b ∙ m.trees) in
+    let last-kind : kinds_at new (ks ++ n ∷ []) ≡ kinds_at new ks ++ kind_at new n ∷ [] = map_push (kind_at new) ks n in
+    let last-tree : trees_at new (ks ++ n ∷ []) ≡ trees_at new ks ++ tree_at new n ∷ [] = map_push (tree_at new) ks n in
+    let all : sorts (cs ++ c ∷ []) ≡ sorts cs ++ k ∷ [] = map_push (λ (x : Child). x.1) cs c in
+    record {
+      kept = extends-trans old now new m.kept e;
+      count = omega (arith, m.count, length-append cs (c ∷ []));
+      fits = ap (kinds_at new) nums ∙ (last-kind ∙ cc);
+      trees = ap (trees_at new) nums ∙ (last-tree ∙ cc);
+    }
+
+pub tallest-at : {X : Type 0} → (f : X → Tree) (xs : List X) (i : ℕ) (d : X) → i < length xs → height (f (get_or xs i d)) ≤ tallest (map f xs)
+tallest-at f [] i d h = absurd (omega arith)
+tallest-at f (x ∷ xs) zero d h = omega arith
+tallest-at f (x ∷ xs) (suc i) d h = omega (arith, tallest-at f xs i d (omega arith))
+
+made-length : (old new : List Tree) (cs : List Child) (ts : List Tree) → Made old new cs ts → length cs ≡ length ts
+made-length old new cs ts m =
+    sym (length-map cs (λ (x : Child). x.0)) ∙ (sym (length-map (numbers cs) (tree_at new)) ∙ ap length m.trees)
+
+-- one more variable
+pub made-var : (old now new : List Tree) (vs us : List Var) (ks : List VarKind) (i : ℕ) (d : VarKind) (v : Var)
+    → Made old now (map var_child vs) (map var_kind_tree (take i ks)) → i < length ks
+    → Extends now new → length new ≡ length now + 1 → IsVar new v → var_tree new v ≡ var_kind_tree (get_or ks i d)
+    → us ≡ vs ++ v ∷ []
+    → Made old new (map var_child us) (map var_kind_tree (take (i + 1) ks))
+made-var old now new vs us ks i d v m h e l f g u =
+    let P : List Child → Type 0 = λ cs. Made old new cs (map var_kind_tree (take (i + 1) ks)) in
+    let Q : List Tree → Type 0 = λ ts. Made old new (map var_child vs ++ var_child v ∷ []) ts in
+    subst P (sym (ap (map var_child) u ∙ map_push var_child vs v))
+    (subst Q (sym (map_more var_kind_tree ks i d h))
+    (made-one old now new (map var_child vs) (map var_kind_tree (take i ks)) v.0 VariableKind (var_kind_tree (get_or ks i d)) m (there-vars vs) e l f g))
+
+-- a bound that fits a table fits the grown one, with its tree
+pub pred-fits-grown : (old new : List Tree) (b : Binder ExistentialPredicate) → Extends old new → PredFits old b → PredFits new b
+pred-fits-grown old new b e f =
+    let P : List Tree → Type 0 = λ ts. PredFits ts b in
+    subst P (sym e.is) (Fits-append old e.added (N.Pred b) f)
+
+pub pred-tree-grown : (old new : List Tree) (b : Binder ExistentialPredicate) → Extends old new → PredFits old b → pred_kind_tree new b ≡ pred_kind_tree old b
+pred-tree-grown old new b e f =
+    ap (λ (ts : List Tree). pred_kind_tree ts b) e.is ∙ node_tree-append old e.added (N.Pred b) f
+
+-- one more bound
+pub made-pred : (old now new : List Tree) (ps us : List Pred) (bs : List (Binder ExistentialPredicate)) (i : ℕ) (d : Binder ExistentialPredicate) (p : Pred)
+    → Made old now (map pred_child ps) (map (pred_kind_tree old) (take i bs)) → BoundsFit old bs → i < length bs
+    → Extends now new → length new ≡ length now + 1 → IsPred new p → pred_tree new p ≡ pred_kind_tree now (get_or bs i d)
+    → us ≡ ps ++ p ∷ []
+    → Made old new (map pred_child us) (map (pred_kind_tree old) (take (i + 1) bs))
+made-pred old now new ps us bs i d p m q h e l f g u =
+    let P : List Child → Type 0 = λ cs. Made old new cs (map (pred_kind_tree old) (take (i + 1) bs)) in
+    let Q : List Tree → Type 0 = λ ts. Made old new (map pred_child ps ++ pred_child p ∷ []) ts in
+    let t = g ∙ pred-tree-grown old now (get_or bs i d) m.kept (q i d h) in
+    subst P (sym (ap (map pred_child) u ∙ map_push pred_child ps p))
+    (subst Q (sym (map_more (pred_kind_tree old) bs i d h))
+    (made-one old now new (map pred_child ps) (map (pred_kind_tree old) (take i bs)) p.0 PredicateKind (pred_kind_tree old (get_or bs i d)) m (there-preds ps) e l f t))
+
+-- why a bound was not added
+pub pred-stop : (old now : List Tree) (ps : List Pred) (bs : List (Binder ExistentialPredicate)) (i : ℕ) (d : Binder ExistentialPredicate) (s : Stop)
+    → Made old now (map pred_child ps) (map (pred_kind_tree old) (take i bs)) → BoundsFit old bs → i < length bs
+    → IsMkStop now (height (pred_kind_tree now (get_or bs i d))) s
+    → IsMkListStop old (length bs + 1) (heights (bounds_forest old bs)) s
+pred-stop old now ps bs i d s m q h (inl x) = inl x
+pred-stop old now ps bs i d s m q h (inr x) = inr (x.0, at x.1)
+  where
+    at : (length now ≡ 4294967295) ⊎ (1024 < height (pred_kind_tree now (get_or bs i d)))
+        → (4294967295 < length old + (length bs + 1)) ⊎ (1024 < heights (bounds_forest old bs))
+    at (inl e) =
+        let n = made-length old now (map pred_child ps) (map (pred_kind_tree old) (take i bs)) m in
+        let k = length-map (take i bs) (pred_kind_tree old) in
+        let j : length (take i bs) ≡ i = length-take-le i bs (omega arith) in
+        inl (omega (arith, m.count, n, k, j, e))
+    at (inr e) =
+        let t = ap height (pred-tree-grown old now (get_or bs i d) m.kept (q i d h)) in
+        let a = tallest-at (pred_kind_tree old) bs i d h in
+        let r = rows-height (map (pred_kind_tree old) bs) in
+        inr (omega (arith, t, a, r, e))
