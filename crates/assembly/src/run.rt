@@ -5,7 +5,7 @@ use crate::lines::{Halt, Stage};
 use candidate_ir::ir::stop::Stop;
 use std::alloc::{AllocError, Global};
 use std::io;
-use std::io::{ErrorKind, Read, Write};
+use std::io::{BufWriter, ErrorKind, Read, Write};
 
 /// After how many reads an input without an end is given up.
 const MOST_READS: u64 = 1 << 32;
@@ -35,10 +35,25 @@ pub fn run_text<R: Read + Drop, W: Write + Drop>(
 
 fn run<R: Read, W: Write>(alloc: Global, input: &mut R, output: &mut W) -> io::Result<Status> {
     let mut text = Vec::new(alloc);
-    let status = match read_to_end(input, &mut text)? {
-        Ok(()) => answer_lines(alloc, text.as_slice(), output)?,
-        Err(_) => refuse(1, Fault::Stop(Stop::Memory), output)?,
+    match read_to_end(input, &mut text)? {
+        Ok(()) => answer_text(alloc, text.as_slice(), output),
+        Err(_) => refuse_memory(output),
+    }
+}
+
+/// Writes the answers by way of a buffer, which is taken before the first line.
+fn answer_text<W: Write>(alloc: Global, text: &[u8], output: &mut W) -> io::Result<Status> {
+    let Some(mut buffer) = BufWriter::new(alloc, &mut *output).ok() else {
+        return refuse_memory(output);
     };
+    let status = answer_lines(alloc, text, &mut buffer)?;
+    buffer.flush()?;
+    Ok(status)
+}
+
+/// Says that there was no memory to begin with.
+fn refuse_memory<W: Write>(output: &mut W) -> io::Result<Status> {
+    let status = refuse(1, Fault::Stop(Stop::Memory), output)?;
     output.flush()?;
     Ok(status)
 }

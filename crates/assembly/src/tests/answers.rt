@@ -4,7 +4,7 @@ use crate::run::Status;
 use crate::tests::memory::{declared, run_on};
 use std::test::Fail;
 
-/// Queries after the declarations, and their answers.
+/// Lines after the declarations, and their answers.
 const ANSWERS: &[(&str, &str)] = &[
     ("orphan local Trait Pair Vec (0) Box LocalType", "ok\n"),
     (
@@ -25,6 +25,23 @@ const ANSWERS: &[(&str, &str)] = &[
     ),
     ("orphan local Trait Unit0", "nonlocal\n"),
     ("orphan local Trait error", "ok\n"),
+    ("orphan local Trait1 Unit0 u8", "nonlocal (u8, No)\n"),
+    (
+        "orphan remote Trait1 Wrap u8 Vec $0\norphan remote Trait Box LocalType",
+        "nonlocal (Wrap u8, Yes) (Vec $0, No)\nnonlocal (LocalType, Yes)\n",
+    ),
+    (
+        "knowable Trait $0\nknowable Trait Vec $0\nknowable Trait LocalType",
+        "downstream\nupstream\nok\n",
+    ),
+    (
+        "knowable LocalTrait Box $0\nknowable LocalTrait Vec $0\nknowable LocalTrait error",
+        "downstream\nok\ndownstream\n",
+    ),
+    (
+        "adt 0 LBox 1 fundamental\nknowable Trait LBox $0",
+        "downstream\n",
+    ),
 ];
 
 /// Whole texts, and their answers.
@@ -32,8 +49,8 @@ const TEXTS: &[(&str, &str)] = &[
     ("", ""),
     ("\n  \n// anything\n//\n", ""),
     (
-        "local 2\nadt 1 La 0\nadt 2 Lb 0\nadt 3 Pair 2 fundamental\ntrait 3 T 0\norphan local T Pair La $0\norphan local T Pair $0 Lb\norphan local T Pair Lb $0",
-        "uncovered $0 local none\nuncovered $0 local Lb\nok\n",
+        "local 2\nadt 1 La 0\nadt 2 Lb 0\nadt 3 Pair 2 fundamental\ntrait 3 T 0\norphan local T Pair La $0\norphan local T Pair $0 Lb\norphan local T Pair Lb $0\nknowable T Pair La $0",
+        "uncovered $0 local none\nuncovered $0 local Lb\nok\ndownstream\n",
     ),
     (
         "local 3\nlocal 002\n  trait  1 T 0 \nadt 2 L 0 enum enum\n\norphan local T L",

@@ -42,3 +42,38 @@ fn says_that_a_device_failed(rt: HostRuntime) -> Result<(), Fail> {
     assert!(rt; false, "a hundred writes are too few");
     Ok(())
 }
+
+/// How many answers are asked for where one buffer is not to hold them.
+const MANY: usize = 400;
+
+/// After how many calls the output fails, before that buffer is full, while it is written, and later.
+const WRITES: &[usize] = &[0, 1, 1000, 1637, 1638, 1639, 2000, 2405];
+
+#[test]
+fn writes_the_answers_before_a_fault(rt: HostRuntime) -> Result<(), Fail> {
+    let mut text = declared(rt.alloc(), "")?;
+    let mut want = String::new(rt.alloc());
+    for _ in 0..MANY {
+        text.push_str("orphan local Trait Vec LocalType\n")?;
+        want.push_str("nonlocal (Vec LocalType, Yes)\n")?;
+    }
+    text.push_str("foo\n")?;
+    want.push_str("line 412: unknown word\n")?;
+    let (status, written) = run_on(rt.alloc(), text.as_bytes());
+    assert_eq!(rt; status, Status::BadLine);
+    assert_eq!(rt; written.as_slice(), want.as_bytes());
+    for writes in WRITES {
+        let (status, written) = run_with(rt.alloc(), text.as_bytes(), usize::MAX, *writes);
+        assert_eq!(rt; status, Status::DeviceFailed, "{writes} writes");
+        assert!(rt;
+            want.as_bytes().starts_with(written.as_slice()),
+            "{writes} writes"
+        );
+        assert_eq!(rt;
+            written.len(),
+            want.len().min(writes.saturating_mul(5)),
+            "{writes} writes"
+        );
+    }
+    Ok(())
+}

@@ -1,0 +1,239 @@
+#!/usr/bin/env python3
+"""How fast the program `assembly` answers, and how much memory it takes.
+
+`python3 bench/run.py` builds the program with its proofs, makes 100,000 declarations and 100,000
+queries, and a tenth of both, and runs the program on each. It prints queries a second, the peak of
+memory, the time beside that of only reading the same input and writing the same output, and how
+time and memory grow from the smaller text to the larger one. It judges nothing.
+"""
+
+import argparse
+import os
+import random
+import subprocess
+import sys
+import tempfile
+import time
+
+ROOT = os.path.dirname(os.path.dirname(os.path.abspath(__file__)))
+CRATE = os.path.join(ROOT, "crates", "assembly")
+PROGRAM = os.path.join(CRATE, "out", "assembly")
+
+PRIMITIVES = ["bool", "char", "str", "!", "u8", "i32", "u64", "usize", "f64"]
+POINTERS = ["&", "&mut", "*const", "*mut", "[]"]
+SELDOM_FLAGS = ["phantom", "manually_drop", "unsafe_fields", "enum", "union"]
+TRAIT_FLAGS = ["auto", "alias", "unsafe", "fundamental", "dyn", "default"]
+QUERIES = ["orphan local", "orphan compat", "orphan remote", "knowable"]
+
+
+class Text:
+    """Declarations and queries, the same ones for the same seed and size."""
+
+    def __init__(self, size, seed):
+        self.random = random.Random(seed)
+        self.local = []
+        self.fundamental = []
+        self.others = []
+        self.traits = []
+        self.declarations = [self.declaration(i) for i in range(size)]
+        self.queries = [self.query() for _ in range(size)]
+
+    def declaration(self, i):
+        krate = self.random.randrange(10)
+        # The first one is a trait, so that each query has one to ask for.
+        if i == 0 or self.random.random() < 0.3:
+            return self.trait(krate, "Trait%d" % i)
+        return self.adt(krate, "Type%d" % i)
+
+    def trait(self, krate, name):
+        auto = self.random.random() < 0.05
+        arity = 0 if auto else self.random.choice([0, 0, 0, 1, 1, 2])
+        flags = ["auto"] if auto else []
+        if self.random.random() < 0.1:
+            flags.append(self.random.choice(TRAIT_FLAGS[1:]))
+        self.traits.append((name, arity))
+        return " ".join(["trait", str(krate), name, str(arity)] + flags)
+
+    def adt(self, krate, name):
+        fundamental = self.random.random() < 0.15
+        arity = self.random.choice([0, 0, 1, 1, 2, 3])
+        flags = ["fundamental"] if fundamental else []
+        if arity > 0 and self.random.random() < 0.1:
+            flags.append(self.random.choice(SELDOM_FLAGS))
+        if krate == 0:
+            kind = self.local
+        elif fundamental:
+            kind = self.fundamental
+        else:
+            kind = self.others
+        kind.append((name, arity))
+        return " ".join(["adt", str(krate), name, str(arity)] + flags)
+
+    def query(self):
+        trait, arity = self.random.choice(self.traits)
+        words = [self.random.choice(QUERIES), trait]
+        for _ in range(1 + arity):
+            # Most types are flat, some are deep, and few are a long chain of references.
+            chance = self.random.random()
+            if chance < 0.01:
+                words.extend(["&"] * self.random.randrange(1, 300))
+            self.add_type(words, 0 if chance < 0.3 else self.random.randrange(1, 7))
+        return " ".join(words)
+
+    def add_type(self, words, depth):
+        if depth == 0:
+            words.append(self.leaf())
+            return
+        chance = self.random.random()
+        if chance < 0.25:
+            words.append(self.random.choice(POINTERS))
+            self.add_type(words, depth - 1)
+        elif chance < 0.4:
+            count = self.random.randrange(4)
+            words.append("(%d)" % count)
+            self.add_types(words, count, depth - 1)
+        elif chance < 0.7 and self.fundamental:
+            self.add_adt(words, self.fundamental, depth)
+        elif chance < 0.9 and self.others:
+            self.add_adt(words, self.others, depth)
+        elif self.local:
+            self.add_adt(words, self.local, depth)
+        else:
+            words.append(self.leaf())
+
+    def add_adt(self, words, kind, depth):
+        name, arity = self.random.choice(kind)
+        words.append(name)
+        self.add_types(words, arity, depth - 1)
+
+    def add_types(self, words, count, depth):
+        for i in range(count):
+            # One argument goes all the way down, so that no tree has very many nodes.
+            self.add_type(words, depth if i == 0 else self.random.randrange(min(depth, 1) + 1))
+
+    def leaf(self):
+        chance = self.random.random()
+        if chance < 0.15:
+            return "$%d" % self.random.randrange(256)
+        if chance < 0.2:
+            return "!%d" % self.random.randrange(256)
+        if chance < 0.22:
+            return "error"
+        return self.random.choice(PRIMITIVES)
+
+
+def build():
+    """Leaves the proved program in its place."""
+    with open(os.path.join(CRATE, "stdin"), "rb") as given:
+        done = subprocess.run(
+            ["rt", "run"],
+            cwd=CRATE,
+            stdin=given,
+            stdout=subprocess.DEVNULL,
+            stderr=subprocess.PIPE,
+        )
+    if done.returncode != 0:
+        sys.stderr.write(done.stderr.decode(errors="replace")[-2000:])
+        sys.exit("the program can't be built")
+
+
+def start(text, answers):
+    with open(text, "rb") as given, open(answers, "wb") as taken:
+        return subprocess.Popen([PROGRAM], stdin=given, stdout=taken)
+
+
+def seconds_of_run(text, answers):
+    begin = time.perf_counter()
+    status = start(text, answers).wait()
+    end = time.perf_counter()
+    if status != 0:
+        sys.exit("the program ended with status %d" % status)
+    return end - begin
+
+
+def peak_of(pid):
+    """The most memory, in KiB, that the process has had so far, or 0 once it has ended."""
+    try:
+        with open("/proc/%d/status" % pid) as lines:
+            for line in lines:
+                if line.startswith("VmHWM:"):
+                    return int(line.split()[1])
+    except (FileNotFoundError, ProcessLookupError):
+        pass
+    return 0
+
+
+def memory_of_run(text, answers):
+    """The peak of a run in KiB. It is looked at all the time, since the end of a run takes it away."""
+    child = start(text, answers)
+    peak = 0
+    while child.poll() is None:
+        peak = max(peak, peak_of(child.pid))
+    return peak
+
+
+def seconds_of_copy(text, answers, to):
+    """The time that reading the text and writing the answers takes by themselves."""
+    with open(answers, "rb") as given:
+        output = given.read()
+    begin = time.perf_counter()
+    with open(text, "rb", buffering=0) as given:
+        while given.read(8192):
+            pass
+    with open(to, "wb", buffering=0) as taken:
+        for at in range(0, len(output), 8192):
+            taken.write(output[at : at + 8192])
+    return time.perf_counter() - begin
+
+
+def measure(folder, size, seed, rounds):
+    """Runs the program over that many declarations and queries, and prints what it took."""
+    made = Text(size, seed)
+    text = os.path.join(folder, "text")
+    declared = os.path.join(folder, "declared")
+    answers = os.path.join(folder, "answers")
+    with open(text, "w") as taken:
+        for line in made.declarations + made.queries:
+            taken.write(line + "\n")
+    # One query ends the declarations, so that they are finished in this run too.
+    with open(declared, "w") as taken:
+        for line in made.declarations + made.queries[:1]:
+            taken.write(line + "\n")
+    del made
+    before = min(seconds_of_run(declared, os.devnull) for _ in range(rounds))
+    whole = min(seconds_of_run(text, answers) for _ in range(rounds))
+    memory = max(memory_of_run(text, answers) for _ in range(rounds))
+    copy = min(seconds_of_copy(text, answers, os.path.join(folder, "copy")) for _ in range(rounds))
+    in_queries = max(whole - before, 1e-9)
+    print("%d declarations and %d queries" % (size, size))
+    print("  input and output   %d and %d bytes" % (os.path.getsize(text), os.path.getsize(answers)))
+    print("  time               %.3f s, of which queries %.3f s" % (whole, in_queries))
+    print("  queries a second   %.0f (%.0f with the declarations counted in)" % (size / in_queries, size / whole))
+    print("  beside a copy      %.1f times as long (a copy takes %.4f s)" % (whole / copy, copy))
+    print("  peak of memory     %.1f MiB, %.0f bytes a line" % (memory / 1024, memory * 1024 / (2 * size)))
+    return whole, memory, os.path.getsize(text)
+
+
+def growth(name, small, large, ratio):
+    grown = large / small
+    verdict = "linear" if grown <= 1.3 * ratio else "more than linear"
+    print("%s: %.1f times as much for a text %.1f times as long: %s" % (name, grown, ratio, verdict))
+
+
+def main():
+    options = argparse.ArgumentParser(description=__doc__.splitlines()[0])
+    options.add_argument("--size", type=int, default=100000, help="how many declarations, and how many queries")
+    options.add_argument("--seed", type=int, default=1)
+    options.add_argument("--rounds", type=int, default=5, help="of so many runs the fastest counts")
+    given = options.parse_args()
+    build()
+    with tempfile.TemporaryDirectory() as folder:
+        small = measure(folder, max(given.size // 10, 10), given.seed, given.rounds)
+        large = measure(folder, given.size, given.seed, given.rounds)
+    ratio = large[2] / small[2]
+    growth("time", small[0], large[0], ratio)
+    growth("memory", small[1], large[1], ratio)
+
+
+if __name__ == "__main__":
+    main()
