@@ -35,14 +35,22 @@ class Text:
         self.fundamental = []
         self.others = []
         self.traits = []
+        self.auto_traits = []
+        self.principals = []
+        self.associated = []
         self.declarations = [self.declaration(i) for i in range(size)]
         self.queries = [self.query() for _ in range(size)]
 
     def declaration(self, i):
         krate = self.random.randrange(10)
         # The first one is a trait, so that each query has one to ask for.
-        if i == 0 or self.random.random() < 0.3:
+        chance = self.random.random()
+        if i == 0 or chance < 0.25:
             return self.trait(krate, "Trait%d" % i)
+        if chance < 0.3:
+            return self.foreign(krate, "Foreign%d" % i)
+        if chance < 0.4:
+            return self.assoc("Item%d" % i)
         return self.adt(krate, "Type%d" % i)
 
     def trait(self, krate, name):
@@ -52,7 +60,18 @@ class Text:
         if self.random.random() < 0.1:
             flags.append(self.random.choice(TRAIT_FLAGS[1:]))
         self.traits.append((name, arity))
+        (self.auto_traits if auto else self.principals).append((name, arity))
         return " ".join(["trait", str(krate), name, str(arity)] + flags)
+
+    def foreign(self, krate, name):
+        (self.local if krate == 0 else self.others).append((name, 0))
+        return "foreign %d %s" % (krate, name)
+
+    def assoc(self, name):
+        trait, arity = self.random.choice(self.traits)
+        self.associated.append((name, arity))
+        flag = " sized_self" if self.random.random() < 0.2 else ""
+        return "assoc %s %s%s" % (trait, name, flag)
 
     def adt(self, krate, name):
         fundamental = self.random.random() < 0.15
@@ -92,19 +111,38 @@ class Text:
             count = self.random.randrange(4)
             words.append("(%d)" % count)
             self.add_types(words, count, depth - 1)
-        elif chance < 0.7 and self.fundamental:
-            self.add_adt(words, self.fundamental, depth)
+        elif chance < 0.45:
+            self.add_dyn(words, depth)
+        elif chance < 0.5 and self.associated:
+            name, arity = self.random.choice(self.associated)
+            words.append(name)
+            self.add_types(words, arity + 1, depth - 1)
+        elif chance < 0.75 and self.fundamental:
+            self.add_named(words, self.fundamental, depth)
         elif chance < 0.9 and self.others:
-            self.add_adt(words, self.others, depth)
+            self.add_named(words, self.others, depth)
         elif self.local:
-            self.add_adt(words, self.local, depth)
+            self.add_named(words, self.local, depth)
         else:
             words.append(self.leaf())
 
-    def add_adt(self, words, kind, depth):
+    def add_named(self, words, kind, depth):
         name, arity = self.random.choice(kind)
         words.append(name)
         self.add_types(words, arity, depth - 1)
+
+    def add_dyn(self, words, depth):
+        kinds = []
+        if self.principals and self.random.random() < 0.8:
+            kinds.append((self.principals, 0))
+        for _ in range(self.random.randrange(3)):
+            kinds.append(self.random.choice([(self.auto_traits, 0), (self.associated, 1)]))
+        kinds = [(kind, terms) for kind, terms in kinds if kind]
+        words.append("dyn(%d)" % len(kinds))
+        for kind, terms in kinds:
+            name, arity = self.random.choice(kind)
+            words.append(name)
+            self.add_types(words, arity + terms, depth - 1)
 
     def add_types(self, words, count, depth):
         for i in range(count):

@@ -1,16 +1,24 @@
 -- What stays of a context that grows.
-use Rattle.std.proofs.Common.{◌≡◌, ℕ, zero, suc, ◌<◌, List, [], ◌∷◌, ◌++◌, length, get_or, refl, sym, ◌∙◌, ap, subst, append_assoc, arith}
-use Rattle.std.specs.Prelude.{map, true}
+use Rattle.std.proofs.Common.{◌≡◌, ℕ, zero, suc, ◌+◌, ◌<◌, List, [], ◌∷◌, ◌++◌, length, get_or, refl, sym, ◌∙◌, ap, subst, append_assoc, arith}
+use Rattle.std.specs.Prelude.{map, Bool, true, false, ◌||◌, cond, count_by}
 use Rattle.std.proofs.lemmas.List.{append-nil}
+use Rattle.std.proofs.lemmas.List.Sums.{sum_by_push}
+use Rattle.std.proofs.lemmas.List.Elements.{All-push, All-weaker}
 use Rattle.candidate_ir.specs.Trees.{Kind, Tree}
 use Rattle.candidate_ir.specs.Kinds.{numbers, sorts, arg_child}
 use Rattle.candidate_ir.specs.Nodes.{kind_at}
 use Rattle.candidate_ir.specs.Context.{Context, Grows}
-use Rattle.candidate_ir.specs.Words.{IsTy, ListFits}
+use Rattle.candidate_ir.specs.Words.{IsTy, IsArgs, IsPreds, IsPred, ListFits, PredListFits, PredFits, BoundsFit, names_trait}
+use Rattle.candidate_ir.specs.declared.ir.kinds.Args.{Args}
+use Rattle.candidate_ir.specs.declared.ir.kinds.Pred.{Pred}
+use Rattle.candidate_ir.specs.declared.ir.kinds.Preds.{Preds}
+use Rattle.candidate_ir.specs.declared.ir.kinds.Binder.{Binder}
+use Rattle.candidate_ir.specs.declared.ir.kinds.ExistentialPredicate.{ExistentialPredicate}
+use Rattle.candidate_ir.specs.declared.ir.node.Node.TheVariants as N
 use Rattle.candidate_ir.specs.declared.ir.kinds.Ty.{Ty}
 use Rattle.candidate_ir.specs.declared.ir.kinds.GenericArg.{GenericArg}
 use Rattle.candidate_ir.specs.declared.ir.kinds.GenericArg.TheVariants as A
-use Rattle.candidate_ir.proofs.Lists.{there, all_there, kind_at-append, below_kind, kinds_at-append, Below-there}
+use Rattle.candidate_ir.proofs.Lists.{there, all_there, kind_at-append, below_kind, kinds_at-append, Below-there, Fits-append}
 
 -- a context grows to itself
 pub Grows-same : (c : Context) → Grows c c
@@ -62,3 +70,40 @@ IsTy-listed ts (x ∷ xs) zero d t b e f =
     let fits : ListFits ts (A.Ty t ∷ xs) = subst Head e f in
     cc
 IsTy-listed ts (x ∷ xs) (suc i) d t b e f = let tail : ListFits ts xs = cc in IsTy-listed ts xs i d t (omega arith) e tail
+
+pub IsArgs-grows : (a b : Context) (x : Args) → Grows a b → IsArgs a.trees x → IsArgs b.trees x
+IsArgs-grows a b x g e = kind_at-grows a b x.0 _ g refl e
+
+pub IsPreds-grows : (a b : Context) (p : Preds) → Grows a b → IsPreds a.trees p → IsPreds b.trees p
+IsPreds-grows a b p g e = kind_at-grows a b p.0 _ g refl e
+
+PredFits-grows : (a b : Context) (x : Binder ExistentialPredicate) → Grows a b → PredFits a.trees x → PredFits b.trees x
+PredFits-grows a b x g e =
+    let At : List Tree → Type 0 = λ ts. PredFits ts x in
+    subst At (sym g.kept.is) (Fits-append a.trees g.kept.added (N.Pred x) e)
+
+-- bounds that fit still do, with one more that does
+pub BoundsFit-one : (a b : Context) (xs : List (Binder ExistentialPredicate)) (x : Binder ExistentialPredicate)
+    → Grows a b → BoundsFit a.trees xs → PredFits b.trees x → BoundsFit b.trees (xs ++ x ∷ [])
+BoundsFit-one a b xs x g fit e =
+    All-push (PredFits b.trees) xs x
+    (All-weaker (PredFits a.trees) (PredFits b.trees) (λ y h. PredFits-grows a b y g h) xs fit) e
+
+-- a bound in a list that fits is a bound
+pub IsPred-listed : (ts : List Tree) (xs : List Pred) (i : ℕ) (d : Pred) → i < length xs → PredListFits ts xs → IsPred ts (get_or xs i d)
+IsPred-listed ts [] i d b f = absurd (omega arith)
+IsPred-listed ts (x ∷ xs) zero d b f = cc
+IsPred-listed ts (x ∷ xs) (suc i) d b f = let tail : PredListFits ts xs = cc in IsPred-listed ts xs i d (omega arith) tail
+
+abbrev pub one_if : Bool → ℕ
+one_if b = cond b 1 0
+
+-- how many principals there are with one more bound
+pub principals-one : (xs : List (Binder ExistentialPredicate)) (x : Binder ExistentialPredicate)
+    → count_by (λ b. names_trait b.value) (xs ++ x ∷ []) ≡ count_by (λ b. names_trait b.value) xs + one_if (names_trait x.value)
+principals-one xs x = sum_by_push (λ (b : Binder ExistentialPredicate). one_if (names_trait b.value)) xs x
+
+pub one_if-or : (a b : Bool) → (a ≡ true → b ≡ false) → one_if a + one_if b ≡ one_if (a || b)
+one_if-or true b h = let e : b ≡ false = h refl in rw e refl
+one_if-or false true h = refl
+one_if-or false false h = refl

@@ -2,11 +2,11 @@
 
 use crate::asking::Asking;
 use crate::faults::Fault;
-use crate::names::{Item, Names};
+use crate::names::{Item, NamedTrait, Names};
 use crate::words::Words;
 use candidate_ir::decl::builder::{DeclFault, DeclsBuilder};
 use candidate_ir::decl::context::Cx;
-use candidate_ir::decl::definition::{AdtFlags, AdtShape, CrateId, TraitFlags};
+use candidate_ir::decl::definition::{AdtFlags, AdtShape, AssocKind, CrateId, TraitFlags};
 use candidate_ir::ir::kinds::VarKind;
 use std::alloc::Global;
 
@@ -18,7 +18,9 @@ const CRATES: u16 = 10;
 pub enum Declaration {
     Local,
     Adt,
+    Foreign,
     Trait,
+    Assoc,
 }
 
 /// What is declared so far.
@@ -52,7 +54,9 @@ impl Declaring {
         match declaration {
             Declaration::Local => self.local(words),
             Declaration::Adt => self.adt(words),
+            Declaration::Foreign => self.foreign(words),
             Declaration::Trait => self.trait_line(words),
+            Declaration::Assoc => self.assoc(words),
         }
     }
 
@@ -86,6 +90,15 @@ impl Declaring {
         Ok(())
     }
 
+    fn foreign<'a>(&mut self, mut words: Words<'a>) -> Result<(), Fault<'a>> {
+        let krate = crate_id(&mut words)?;
+        let name = self.names.unused(words.word()?)?;
+        words.end()?;
+        let id = self.builder.add_foreign(krate)?;
+        self.names.add_definition(name, Item::Foreign(id))?;
+        Ok(())
+    }
+
     fn trait_line<'a>(&mut self, mut words: Words<'a>) -> Result<(), Fault<'a>> {
         let krate = crate_id(&mut words)?;
         let name = self.names.unused(words.word()?)?;
@@ -93,7 +106,20 @@ impl Declaring {
         let flags = trait_flags(words)?;
         let parameters = self.type_parameters(arity)?;
         let id = self.builder.add_trait(krate, parameters.as_slice(), flags)?;
-        self.names.add_definition(name, Item::Trait(id, arity))?;
+        let is_auto = flags.auto;
+        self.names
+            .add_definition(name, Item::Trait(NamedTrait { id, arity, is_auto }))?;
+        Ok(())
+    }
+
+    fn assoc<'a>(&mut self, mut words: Words<'a>) -> Result<(), Fault<'a>> {
+        let of = self.names.trait_named(words.word()?)?;
+        let name = self.names.unused(words.word()?)?;
+        let requires_sized_self = assoc_flag(words)?;
+        let id = self
+            .builder
+            .add_assoc(of.id, AssocKind::Type, requires_sized_self)?;
+        self.names.add_definition(name, Item::Assoc(id, of.arity))?;
         Ok(())
     }
 
@@ -121,6 +147,18 @@ fn adt_flags<'a>(words: Words<'a>) -> Result<(AdtShape, AdtFlags), Fault<'a>> {
         }
     }
     Ok((shape, flags))
+}
+
+/// Whether the flag `sized_self` stands in the words.
+fn assoc_flag<'a>(words: Words<'a>) -> Result<bool, Fault<'a>> {
+    let mut requires_sized_self = false;
+    for word in words.others() {
+        match word {
+            "sized_self" => requires_sized_self = true,
+            _ => return Err(Fault::BadFlag(word)),
+        }
+    }
+    Ok(requires_sized_self)
 }
 
 fn trait_flags<'a>(words: Words<'a>) -> Result<TraitFlags, Fault<'a>> {

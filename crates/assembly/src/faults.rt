@@ -33,6 +33,8 @@ pub enum Fault<'a> {
     BadFlag(&'a str),
     /// A parameter of a definition stands in a query.
     Parameter,
+    /// A `dyn` type has a second trait that isn't an auto trait.
+    TwoPrincipals,
     /// Words are left over.
     LongLine,
     /// The line was given up.
@@ -89,6 +91,7 @@ impl fmt::Display for Fault<'_> {
             Fault::BadNumber(word) => write!(f, "bad number {word}"),
             Fault::BadFlag(word) => write!(f, "bad flag {word}"),
             Fault::Parameter => write!(f, "parameter"),
+            Fault::TwoPrincipals => write!(f, "two principals"),
             Fault::LongLine => write!(f, "long line"),
             Fault::Stop(stop) => {
                 let number = *stop as u8;

@@ -94,7 +94,9 @@ fn command_named<'a>(word: &str) -> Result<Command, Fault<'a>> {
     match word {
         "local" => Ok(Command::Declaration(Declaration::Local)),
         "adt" => Ok(Command::Declaration(Declaration::Adt)),
+        "foreign" => Ok(Command::Declaration(Declaration::Foreign)),
         "trait" => Ok(Command::Declaration(Declaration::Trait)),
+        "assoc" => Ok(Command::Declaration(Declaration::Assoc)),
         "orphan" => Ok(Command::Query(Query::Orphan)),
         "knowable" => Ok(Command::Query(Query::Knowable)),
         _ => Err(Fault::UnknownWord),

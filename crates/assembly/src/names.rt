@@ -4,17 +4,30 @@ ghost use Rattle.std.specs.Prelude.{◌≡◌, ◌↔◌, ◌⊎◌, IfOk, IfErr
 ghost use Rattle.std.specs.HashMap.{get_by_text};
 
 use crate::faults::Fault;
-use candidate_ir::ir::kinds::{AdtId, TraitId};
+use candidate_ir::ir::kinds::{AdtId, AssocId, ForeignId, TraitId};
 use std::alloc::{AllocError, Global};
 use std::collections::HashMap;
 
 const LONGEST: usize = 64;
 
-/// What a name stands for, with how many arguments it takes.
+/// A trait that was declared.
+#[derive(Clone, Copy)]
+pub struct NamedTrait {
+    pub id: TraitId,
+    /// How many arguments it takes after `Self`.
+    pub arity: u16,
+    pub is_auto: bool,
+}
+
+/// What a name stands for.
 #[derive(Clone, Copy)]
 pub enum Item {
+    /// A data type, with how many arguments it takes.
     Adt(AdtId, u16),
-    Trait(TraitId, u16),
+    Foreign(ForeignId),
+    Trait(NamedTrait),
+    /// An associated type, with how many arguments it takes after `Self`.
+    Assoc(AssocId, u16),
 }
 
 /// The names declared so far.
@@ -52,22 +65,22 @@ impl Names {
         Ok(word)
     }
 
-    /// The data type of that name and how many arguments it takes, else `Fault::UnknownName`.
-    pub fn adt<'a>(&self, word: &'a str) -> Result<(AdtId, u16), Fault<'a>>
+    /// What the word is the name of, else `Fault::UnknownName`.
+    pub fn item<'a>(&self, word: &'a str) -> Result<Item, Fault<'a>>
         ensures { IfErr result (λ e. e ≡ Fault.UnknownName word.entry) }
     {
         match self.items.get(word) {
-            Some(Item::Adt(id, arity)) => Ok((*id, *arity)),
-            _ => Err(Fault::UnknownName(word)),
+            Some(item) => Ok(*item),
+            None => Err(Fault::UnknownName(word)),
         }
     }
 
-    /// The trait of that name and how many arguments it takes after `Self`, else `Fault::UnknownName`.
-    pub fn trait_named<'a>(&self, word: &'a str) -> Result<(TraitId, u16), Fault<'a>>
+    /// The trait of that name, else `Fault::UnknownName`.
+    pub fn trait_named<'a>(&self, word: &'a str) -> Result<NamedTrait, Fault<'a>>
         ensures { IfErr result (λ e. e ≡ Fault.UnknownName word.entry) }
     {
         match self.items.get(word) {
-            Some(Item::Trait(id, arity)) => Ok((*id, *arity)),
+            Some(Item::Trait(found)) => Ok(*found),
             _ => Err(Fault::UnknownName(word)),
         }
     }

@@ -24,6 +24,8 @@ pub enum TypeWord<'a> {
     Slice,
     /// A tuple of so many types, which follow.
     Tuple(u16),
+    /// A `dyn` type of so many bounds, which follow.
+    Dyn(u16),
     /// A parameter of a definition.
     Param,
     /// A name.
@@ -66,12 +68,20 @@ fn numbered_word<'a>(word: &'a str) -> Result<TypeWord<'a>, Fault<'a>>
         return Ok(TypeWord::Param);
     }
     if let Some(rest) = word.strip_prefix('(') {
-        let Some(digits) = rest.strip_suffix(')') else {
-            return Err(Fault::UnknownName(word));
-        };
-        return Ok(TypeWord::Tuple(marked_number(word, digits, u16::MAX)?));
+        return Ok(TypeWord::Tuple(bracketed_number(word, rest)?));
+    }
+    if let Some(rest) = word.strip_prefix("dyn(") {
+        return Ok(TypeWord::Dyn(bracketed_number(word, rest)?));
     }
     Ok(TypeWord::Name(word))
+}
+
+/// The number in the rest of a word after its bracket.
+fn bracketed_number<'a>(word: &'a str, rest: &str) -> Result<u16, Fault<'a>> {
+    match rest.strip_suffix(')') {
+        Some(digits) => marked_number(word, digits, u16::MAX),
+        None => Err(Fault::UnknownName(word)),
+    }
 }
 
 fn marked_number<'a>(word: &'a str, digits: &str, most: u16) -> Result<u16, Fault<'a>> {

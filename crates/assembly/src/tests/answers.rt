@@ -42,6 +42,26 @@ const ANSWERS: &[(&str, &str)] = &[
         "adt 0 LBox 1 fundamental\nknowable Trait LBox $0",
         "downstream\n",
     ),
+    (
+        "foreign 0 LF\nforeign 1 F\norphan local Trait LF\norphan remote Trait LF\norphan local Trait F",
+        "ok\nnonlocal (LF, Yes)\nnonlocal (F, Yes)\n",
+    ),
+    (
+        "orphan local Trait dyn(1) LocalTrait\norphan local Trait dyn(1) Trait",
+        "ok\nnonlocal (dyn(1) Trait, Yes)\n",
+    ),
+    (
+        "orphan compat Trait Out $0\nknowable Trait Out u8",
+        "nonlocal\nupstream\n",
+    ),
+    (
+        "orphan local Trait1 Out $0 LocalType\norphan compat Trait1 Out $0 LocalType",
+        "uncovered Out $0 local LocalType\nok\n",
+    ),
+    (
+        "trait 1 Send 0 auto\ntrait 0 Sync 0 auto\nassoc Trait2 Two sized_self\norphan local Trait dyn(4) Send Trait2 u8 & bool Sync Two char (1) str & u8\norphan local Trait dyn(2) Sync Send\norphan local Trait dyn(3) Sync Send LocalTrait\norphan local Trait Two [] u8 bool (0)",
+        "nonlocal (dyn(4) Send Trait2 u8 & bool Sync Two char (1) str & u8, Yes)\nnonlocal (dyn(2) Sync Send, Yes)\nok\nnonlocal (Two [] u8 bool (0), Yes)\n",
+    ),
 ];
 
 /// Whole texts, and their answers.
@@ -88,6 +108,10 @@ const TYPES: &[&str] = &[
     "(2) Vec u8 (1) !65535",
     "Vec $255",
     "Vec error",
+    "Vec Out $0",
+    "Out Out u8",
+    "dyn(0)",
+    "Vec dyn(2) Trait2 $0 Out u8 Out !1",
 ];
 
 /// How many words `&` stand before a local type, and the answer.

@@ -61,9 +61,34 @@ const TEXTS: &[(&str, &str)] = &[
         "line 3: declaration fault 2\n",
     ),
     ("local 1 2", "line 1: long line\n"),
+    ("foreign", "line 1: short line\n"),
+    ("foreign 1", "line 1: short line\n"),
+    ("foreign 10 F", "line 1: bad number 10\n"),
+    ("foreign 1 u8", "line 1: bad name u8\n"),
+    ("foreign 1 F 0", "line 1: long line\n"),
+    ("foreign 1 F\nforeign 2 F", "line 2: name twice F\n"),
+    (
+        "trait 1 T 0\norphan local T error\nforeign x",
+        "ok\nline 3: late declaration\n",
+    ),
+    ("assoc", "line 1: short line\n"),
+    ("assoc T O", "line 1: unknown name T\n"),
+    ("adt 1 T 0\nassoc T O", "line 2: unknown name T\n"),
+    ("trait 1 T 0\nassoc T", "line 2: short line\n"),
+    ("trait 1 T 0\nassoc T T", "line 2: name twice T\n"),
+    ("trait 1 T 0\nassoc T 9", "line 2: bad name 9\n"),
+    ("trait 1 T 0\nassoc T O foo", "line 2: bad flag foo\n"),
+    (
+        "trait 1 T 0\nassoc T O sized_self auto",
+        "line 2: bad flag auto\n",
+    ),
+    (
+        "trait 1 T 0\nassoc T O\nadt 1 O 0",
+        "line 3: name twice O\n",
+    ),
 ];
 
-/// Queries on line 12, after the declarations, and what is wrong with them.
+/// Queries on line 13, after the declarations, and what is wrong with them.
 const QUERIES: &[(&str, &str)] = &[
     ("orphan", "short line"),
     ("orphan local", "short line"),
@@ -89,14 +114,43 @@ const QUERIES: &[(&str, &str)] = &[
     ("orphan local Trait Vec #0", "parameter"),
     ("orphan local Trait #65535 u8", "parameter"),
     ("orphan local Trait1 u8 u8 u8", "long line"),
+    ("orphan local Out u8", "unknown name Out"),
+    ("orphan local Trait Out", "short line"),
+    ("orphan local Trait dyn(1)", "short line"),
+    ("orphan local Trait dyn(1) Trait1", "short line"),
+    ("orphan local Trait dyn(1) Out", "short line"),
+    ("orphan local Trait dyn(1) Vec", "unknown name Vec"),
+    ("orphan local Trait dyn(1) u8", "unknown name u8"),
+    ("orphan local Trait dyn(x) Trait", "unknown name dyn(x)"),
+    ("orphan local Trait dyn() Trait", "unknown name dyn()"),
+    ("orphan local Trait dyn(1 Trait", "unknown name dyn(1"),
+    ("orphan local Trait dyn Trait", "unknown name dyn"),
+    ("orphan local Trait dyn(65536)", "bad number dyn(65536)"),
+    ("orphan local Trait dyn(2) Trait Trait1", "two principals"),
+    (
+        "orphan local Trait dyn(3) Trait Out u8 Trait",
+        "two principals",
+    ),
+    (
+        "orphan local Trait dyn(2) Trait1 Nope Trait",
+        "unknown name Nope",
+    ),
+    ("orphan local Trait dyn(1) Out #0", "parameter"),
+    ("orphan local Trait dyn(1) Trait u8", "long line"),
+    ("knowable", "short line"),
+    ("knowable Vec", "unknown name Vec"),
+    ("knowable Trait #0", "parameter"),
+    ("knowable Trait u8 u8", "long line"),
 ];
 
-/// How many words `&` come before the last one, which stands on line 12, and what is printed.
+/// How many words `&` come before the last one, which stands on line 13, and what is printed.
 const DEPTHS: &[(usize, &str, &str)] = &[
-    (1024, "", "line 12: short line\n"),
-    (1024, "u8", "line 12: stop 6\n"),
-    (1024, "Nope", "line 12: stop 6\n"),
-    (1023, "Nope", "line 12: unknown name Nope\n"),
+    (1024, "", "line 13: short line\n"),
+    (1024, "u8", "line 13: stop 6\n"),
+    (1024, "Nope", "line 13: stop 6\n"),
+    (1023, "Nope", "line 13: unknown name Nope\n"),
+    (1023, "dyn(1) Trait1 u8", "line 13: stop 6\n"),
+    (1023, "Out u8", "line 13: stop 6\n"),
 ];
 
 #[test]
@@ -113,7 +167,7 @@ fn says_what_is_wrong(rt: HostRuntime) -> Result<(), Fail> {
     }
     for (line, reason) in QUERIES {
         let text = declared(rt.alloc(), line)?;
-        let want = format!(in rt.alloc(); "line 12: {reason}\n")?;
+        let want = format!(in rt.alloc(); "line 13: {reason}\n")?;
         let (status, written) = run_on(rt.alloc(), text.as_bytes());
         assert_eq!(rt; status, Status::BadLine, "{line}");
         assert_eq!(rt; written.as_slice(), want.as_bytes(), "{line}");

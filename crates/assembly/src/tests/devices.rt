@@ -58,7 +58,7 @@ fn writes_the_answers_before_a_fault(rt: HostRuntime) -> Result<(), Fail> {
         want.push_str("nonlocal (Vec LocalType, Yes)\n")?;
     }
     text.push_str("foo\n")?;
-    want.push_str("line 412: unknown word\n")?;
+    want.push_str("line 413: unknown word\n")?;
     let (status, written) = run_on(rt.alloc(), text.as_bytes());
     assert_eq!(rt; status, Status::BadLine);
     assert_eq!(rt; written.as_slice(), want.as_bytes());

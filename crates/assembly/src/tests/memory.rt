@@ -17,6 +17,7 @@ trait 1 Trait1 1
 trait 1 Trait2 2
 trait 0 LocalTrait 0
 trait 1 Tr 0
+assoc Tr Out
 ";
 
 /// Gives a few bytes a call, and fails at the call after so many.

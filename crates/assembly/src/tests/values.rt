@@ -7,7 +7,10 @@ ghost use Rattle.assembly.specs.Values.{is_the_variable, with_value};
 use candidate_eval::eval::InferCtxtLike;
 use candidate_ir::decl::context::Cx;
 use candidate_ir::decl::make::Make;
-use candidate_ir::ir::kinds::{Args, GenericArg, InferTy, Region, RegionKind, Ty, TyKind};
+use candidate_ir::ir::kinds::{
+    Args, Binder, Const, ConstKind, ExistentialPredicate, GenericArg, InferTy, Preds, Region,
+    RegionKind, Ty, TyKind, VarKind, Vars,
+};
 use candidate_ir::ir::stop::Stop;
 
 /// A context in which variable 0 has the value.
@@ -33,12 +36,24 @@ impl Make for ValuedContext {
         self.cx.mk_ty(kind)
     }
 
+    fn mk_const(&mut self, kind: ConstKind) -> Result<Const, Stop> {
+        self.cx.mk_const(kind)
+    }
+
     fn mk_region(&mut self, kind: RegionKind) -> Result<Region, Stop> {
         self.cx.mk_region(kind)
     }
 
     fn mk_args(&mut self, list: &[GenericArg]) -> Result<Args, Stop> {
         self.cx.mk_args(list)
+    }
+
+    fn mk_vars(&mut self, kinds: &[VarKind]) -> Result<Vars, Stop> {
+        self.cx.mk_vars(kinds)
+    }
+
+    fn mk_preds(&mut self, bounds: &[Binder<ExistentialPredicate>]) -> Result<Preds, Stop> {
+        self.cx.mk_preds(bounds)
     }
 }
 

@@ -1,6 +1,8 @@
-use Rattle.std.proofs.Common.{◌≡◌, [], ◌∷◌, ◌++◌}
+use Rattle.std.proofs.Common.{◌≡◌, ℕ, ◌+◌, [], ◌∷◌, ◌++◌, ◌∙◌, ap, sym}
+use Rattle.std.specs.Prelude.{Bool, ◌||◌}
 use Rattle.candidate_ir.specs.declared.ir.kinds.GenericArg.TheVariants as A
-use Rattle.assembly.proofs.Growth.{Grows-then, ListFits-grows, ListFits-ty}
+use Rattle.assembly.proofs.Growth.{Grows-then, ListFits-grows, ListFits-ty, BoundsFit-one, principals-one, one_if, one_if-or}
+use Rattle.candidate_ir.specs.Words.{names_trait}
 use Rattle.assembly.proofs.types.Scope.+types.Goals as goal
 
 pub read_type-returns-in_ok-mk_ty-in-RawPtr-clause-grows :
@@ -20,4 +22,23 @@ read_types-loop-preserved g t c =
       grows = Grows-then _ _ _ c.loop.invariant.grows c.read_type.ensures.grows;
       fits = rw one_more
           (ListFits-ty _ _ _ (ListFits-grows _ _ _ c.read_type.ensures.grows c.loop.invariant.fits) c.in_ok-read_type.ensures.sort);
+    }
+
+pub read_bound-projection_bound-requires-clause-list :
+    goal.read_bound-projection_bound-requires-clause-list
+read_bound-projection_bound-requires-clause-list g t c =
+    rw c.as_slice-in-Assoc.ensures.value
+    (ListFits-grows _ _ _ c.read_type.ensures.grows c.in_ok-list-in-Assoc.ensures.fits)
+
+pub read_bounds-loop-preserved : goal.read_bounds-loop-preserved
+read_bounds-loop-preserved g t c =
+    let one_more : c.push.new.self.items ≡ c.loop.list.items ++ c.in_ok-bound.bound ∷ [] = c.in_ok-push.ensures.items in
+    record {
+      grows = Grows-then _ _ _ c.loop.invariant.grows c.read_bound.ensures.grows;
+      fit = rw one_more (BoundsFit-one _ _ _ _ c.read_bound.ensures.grows c.loop.invariant.fit c.in_ok-bound.ensures.fits);
+      principals = rw one_more
+          (principals-one c.loop.list.items c.in_ok-bound.bound
+          ∙ ap (λ (n : ℕ). n + one_if (names_trait c.in_ok-bound.bound.value)) c.loop.invariant.principals
+          ∙ one_if-or c.loop.has_principal (names_trait c.in_ok-bound.bound.value) c.in_ok-bound.ensures.principal
+          ∙ ap (λ (b : Bool). one_if (c.loop.has_principal || b)) (sym c.is_principal-has_principal.ensures));
     }
