@@ -13,7 +13,8 @@ use Rattle.candidate_eval.specs.declared.coherence.OrphanCheckErr.{OrphanCheckEr
 use Rattle.candidate_eval.specs.declared.coherence.OrphanCheckErr.TheVariants as C
 use Rattle.candidate_eval.specs.declared.coherence.OrphanStop.{OrphanStop}
 use Rattle.candidate_eval.specs.declared.coherence.OrphanStop.TheVariants as O
-use Rattle.candidate_eval.specs.Answers.{CheckResult, answer_of, knowledge_of, reference_of}
+use Rattle.candidate_ir.specs.References.{reference_of}
+use Rattle.candidate_eval.specs.Answers.{CheckResult, answer_of, knowledge_of}
 use Rattle.candidate_eval.specs.Orphan.{InCrate, Local, Remote, Proper, View, Answer, Checked, orphan_answer, Knowability, Knowable, Upstream, knowability, local_or_fundamental, by_answer, by_proper_check, by_remote_check}
 
 -- a check in a context that has grown is the check from the begin

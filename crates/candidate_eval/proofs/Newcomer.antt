@@ -15,8 +15,8 @@ use Rattle.candidate_ir.specs.declared.ir.heads.ConstHead.TheVariants as C
 use Rattle.candidate_ir.specs.declared.ir.heads.VariableSort.TheVariants as V
 use Rattle.candidate_ir.specs.declared.ir.kinds.AliasKind.TheVariants as AK
 use Rattle.candidate_eval.specs.Substitutions.{Substitution, apply, replaced, lookup, same_variable, same_sort, IsAllowed, Universes}
-use Rattle.candidate_eval.specs.Orphan.{crate_passes, is_local, is_fundamental, fundamental_flag, names_here, principal_passes, Item, Viewed, Step, Class, IsLocal, IsNonLocal, alias_class, owned_class, decides, Remote, or_empty, walked, visit, plain, first_step, is_general, is_general_sort, names, MayWrite, remote_decision, judged, Passes, decided}
-use Rattle.candidate_eval.specs.Laws.{DownstreamWorld}
+use Rattle.candidate_eval.specs.Orphan.{crate_passes, is_local, is_fundamental, fundamental_flag, names_here, principal_passes, Item, Viewed, Step, Class, IsLocal, IsNonLocal, alias_class, owned_class, decides, Remote, or_empty, walked, visit, plain, first_step, is_general, is_general_sort, names, MayWrite, remote_decision, judged, Passes, decided, IsPlainForest, plain_knowability, Downstream}
+use Rattle.candidate_eval.specs.Laws.{IsDecidedByGeneral, HasDownstream}
 use Rattle.candidate_eval.proofs.Holds.{or_false, holds_parts, holds_imply, holds_erase}
 use Rattle.candidate_eval.proofs.Instances.{replaced_kind, same_sort_is, and_left}
 use Rattle.candidate_eval.proofs.Walks.{Clear, clear_append, clear_left, clear_right}
@@ -400,10 +400,15 @@ fits_taken w v g (tree h a b) f =
     at (H.Infer n) e k fa fb = var n (same_variable v n) fb fa (subst (λ ks. child_kinds (grown w) (H.Infer n) ks ≡ Some ks) (sym k) e)
     at h e k fa fb = (subst (λ ks. child_kinds (grown w) h ks ≡ Some ks) (sym k) e, fa, fb)
 
-pub downstream_world : DownstreamWorld
-downstream_world declared local limit r u v x t there na ne know e is gen =
-    let h = is_general_head t.head gen in
+-- Where a general variable decides that a reference is a downstream one, a header that overlaps it is to be had.
+pub downstream_world : (declared : World) (local limit : ℕ) (r : Reference) → IsOf declared r → IsPlainForest r.arguments
+    → plain_knowability declared local limit r ≡ Downstream → IsDecidedByGeneral declared limit r
+    → (u v : Universes) → HasDownstream declared r u v
+downstream_world declared local limit r there ok know d u v =
+    let x = d.step in
+    let h = is_general_head d.variable.head d.general in
     let a = h.variable in
+    let is : x.item ≡ Viewed d.variable = d.shows in
     let q : IsView a x.item = rw is h.is in
     record {
       world = grown declared;
@@ -416,7 +421,7 @@ downstream_world declared local limit r u v x t there na ne know e is gen =
         fits = fits_taken declared a h.general r.arguments there.fits;
       };
       unnamed = names_apart declared r there;
-      written = newcomer_writes declared a limit r x h.general there na ne e q;
+      written = newcomer_writes declared a limit r x h.general there ok.no_alias ok.no_error d.decides q;
       overlap = record {
         same_trait = refl;
         left = taken declared a;

@@ -1,11 +1,10 @@
 use Rattle.std.proofs.Common.{ap, ◌≡◌, ℕ, Bool, true, false, Some, None, refl, sym, ◌∙◌}
-use Rattle.candidate_ir.specs.Trees.{Forest, holds}
-use Rattle.candidate_ir.specs.Worlds.{World, Reference}
-use Rattle.candidate_eval.specs.Orphan.{names, names_here, plain_check, plain, Local, Proper, Answer, Passes, NonLocalInput, UncoveredInput, Faulty, Checked, by_remote_check, by_proper_check, by_answer, Knowable, plain_knowability, local_or_fundamental, orphan_answer}
-use Rattle.candidate_eval.specs.Laws.{LinkSafety, OpenWorld, DownstreamWorld, CoveredWorld, OwnHeader, WorldLaw}
+use Rattle.candidate_ir.specs.Trees.{Forest, holds, is_alias}
+use Rattle.candidate_ir.specs.Worlds.{World, Reference, IsOf}
+use Rattle.candidate_eval.specs.Orphan.{names, names_here, plain_check, plain, Local, Proper, Answer, Passes, NonLocalInput, UncoveredInput, Faulty, Checked, by_remote_check, by_proper_check, by_answer, Knowable, plain_knowability, local_or_fundamental, orphan_answer, IsPlainForest}
+use Rattle.candidate_eval.specs.Laws.{LinkSafety, NoForeignHeader, NoUnnamedHeader, NoCoveredHeader}
 use Rattle.candidate_eval.proofs.OrphanLaws.{remote_covers}
 use Rattle.candidate_eval.proofs.Carry.{Remote_class, carry, names_none, erased_names}
-use Rattle.candidate_eval.proofs.Newcomer as newcomer
 use Rattle.candidate_eval.proofs.Covered.{cover}
 use Rattle.candidate_eval.proofs.Worlds.{check_same, knowability_same}
 use Rattle.candidate_eval.proofs.Fitting.{still_there, fits_there, trait_there}
@@ -52,8 +51,10 @@ knowable_clear w local limit r e =
     (knowable_refuses (local_or_fundamental w local r.trait)
     (λ t. orphan_answer {E = Unit {0}} w local (Local Proper) plain limit t r.arguments) _ _ e)
 
-pub open_world : OpenWorld
-open_world declared w local limit c r h u v ext there na know nm wh o =
+-- A reference of the declared world that is knowable is overlapped by no header of a crate that it doesn't name.
+pub open_world : (declared : World) (local limit : ℕ) (r : Reference) → IsOf declared r → holds is_alias r.arguments ≡ false
+    → plain_knowability declared local limit r ≡ Knowable → NoUnnamedHeader declared r
+open_world declared local limit r there na know w c h u v ext nm wh o =
     let known = sym (knowability_same declared w ext local limit r there) ∙ know in
     let clear = carry w (Steps w None limit tt r.arguments) (knowable_clear w local limit r known) in
     written_decides w c wh.limit h.arguments wh.passes
@@ -78,8 +79,12 @@ knowable_passes own proper s (Faulty f) o e = cc
 knowable_passes true proper s _ o e = cc
 knowable_passes false proper s _ o e = proper_passes (proper s) e
 
-pub covered_world : CoveredWorld
-covered_world declared w local limit r h u v ext there na know trait cov nm o =
+-- A knowable reference whose trait is neither local nor fundamental is overlapped by no covered header that names
+-- nothing of the local crate.
+pub covered_world : (declared : World) (local limit : ℕ) (r : Reference) → IsOf declared r → holds is_alias r.arguments ≡ false
+    → plain_knowability declared local limit r ≡ Knowable → local_or_fundamental declared local r.trait ≡ false
+    → NoCoveredHeader declared local limit r
+covered_world declared local limit r there na know trait w h u v ext cov nm o =
     let known = sym (knowability_same declared w ext local limit r there) ∙ know in
     let own : local_or_fundamental w local r.trait ≡ false = rw (← still_there declared w ext r.trait (trait_there declared r there)) trait in
     let passes : plain_check w local (Local Proper) limit r.arguments ≡ Passes =
@@ -90,14 +95,10 @@ covered_world declared w local limit r h u v ext there na know trait cov nm o =
     (unnamed w h local nm) cov.is_plain.no_alias cov.is_plain.no_error limit tt tt
     (written_good w local limit r.arguments passes) cov.covered)
 
-pub downstream_world : DownstreamWorld
-downstream_world = newcomer.downstream_world
-
-pub world_law : WorldLaw
-world_law declared w local limit m r ext there = ap (λ c. c.answer) (check_same declared w ext local m limit r.arguments (fits_there declared r.arguments there.fits) tt)
-
-pub own_header : OwnHeader
-own_header declared w local limit d a b u v ext there ok passes na wb nb ne o =
+-- A header of the declared world that the local crate's check passes is safe from those of all other crates.
+pub own_header : (declared : World) (local limit : ℕ) (a : Reference) → IsOf declared a → IsPlainForest a.arguments
+    → plain_check declared local (Local Proper) limit a.arguments ≡ Passes → NoForeignHeader declared local a
+own_header declared local limit a there ok passes w d b u v ext ne na wb nb o =
     link_safety w local d a b u v ne
     (record { is_plain = ok; limit = limit; passes = ap (λ c. c.answer) (sym (check_same declared w ext local (Local Proper) limit a.arguments (fits_there declared a.arguments there.fits) tt)) ∙ passes })
     na wb nb o

@@ -4,7 +4,7 @@ use Rattle.candidate_ir.specs.declared.ir.kinds.Ty.{Ty}
 use Rattle.candidate_ir.specs.declared.ir.stop.Stop.{Stop}
 use Rattle.candidate_ir.specs.declared.ir.stop.Stop.TheVariants.{Memory}
 use Rattle.candidate_ir.specs.Trees.{Tree}
-use Rattle.candidate_ir.specs.Words.{IsTy, ty_tree, args_forest}
+use Rattle.candidate_ir.specs.Words.{IsTy, ty_tree}
 use Rattle.candidate_eval.specs.declared.coherence.IsFirstInputType.{IsFirstInputType}
 use Rattle.candidate_eval.specs.declared.coherence.IsFirstInputType.TheVariants as F
 use Rattle.candidate_eval.specs.declared.coherence.OrphanCheckErr.{OrphanCheckErr}
@@ -12,8 +12,6 @@ use Rattle.candidate_eval.specs.declared.coherence.OrphanCheckErr.TheVariants as
 use Rattle.candidate_eval.specs.declared.coherence.OrphanStop.{OrphanStop}
 use Rattle.candidate_eval.specs.declared.coherence.OrphanStop.TheVariants as O
 use Rattle.candidate_eval.specs.Orphan.{Answer, Passes, NonLocalInput, UncoveredInput, Faulty, Refused, Stopped, Entry, Checked, Knowability, Knowable, Upstream, Downstream, Unknown}
-use Rattle.candidate_ir.specs.declared.ir.kinds.TraitRef.{TraitRef}
-use Rattle.candidate_ir.specs.Worlds.{Reference}
 use Rattle.candidate_eval.specs.declared.coherence.Conflict.{Conflict}
 use Rattle.candidate_eval.specs.declared.coherence.Conflict.TheVariants as K
 
@@ -68,10 +66,6 @@ pub record IsAnswer {F C E : Type 0} (ts : List Tree) (result : CheckResult E) (
 abbrev pub second_answer : {E : Type 0} → List Tree → Tree → Result (Option Ty) Stop → Answer E
 second_answer ts t (Ok o) = UncoveredInput t (option_map (ty_tree ts) o)
 second_answer ts t (Err s) = Faulty (Stopped s)
-
--- The reference of a context.
-abbrev pub reference_of : List Tree → TraitRef → Reference
-reference_of ts r = record { trait = r.def_id.0; arguments = args_forest ts r.args }
 
 -- What the test for all impls answers.
 abbrev pub KnownResult : Type 0 → Type 0

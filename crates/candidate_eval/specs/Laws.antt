@@ -1,8 +1,17 @@
-use Rattle.std.specs.Prelude.{◌≡◌, ℕ, true, false, Option, Some, List, [], ◌∷◌}
-use Rattle.candidate_ir.specs.Trees.{Forest, Tree, holds, is_alias, is_error}
+use Rattle.std.specs.Prelude.{◌≡◌, ℕ, true, false, Option, Some, List, [], ◌∷◌, Result}
+use Rattle.std.specs.Fn.{Mut}
+use Rattle.std.specs.Borrow.{MutBor}
+use Rattle.candidate_ir.specs.declared.ir.kinds.Ty.{Ty}
+use Rattle.candidate_ir.specs.declared.ir.kinds.TraitRef.{TraitRef}
+use Rattle.candidate_ir.specs.Context.{Context}
+use Rattle.candidate_ir.specs.Words.{args_forest}
+use Rattle.candidate_ir.specs.References.{IsReference}
+use Rattle.candidate_ir.specs.Trees.{Forest, none, tree, Tree, holds, is_type, is_alias, is_error}
 use Rattle.candidate_ir.specs.Worlds.{IsOf, World, Reference, Extends}
+use Rattle.candidate_eval.specs.declared.coherence.NormalizeErr.{NormalizeErr}
 use Rattle.candidate_eval.specs.Substitutions.{Universes, Overlap}
-use Rattle.candidate_eval.specs.Orphan.{MayWrite, IsCovered, IsPlainForest, plain_check, View, InCrate, Local, Proper, Compat, Remote, Passes, NonLocalInput, UncoveredInput, Entry, orphan_answer, Step, Viewed, is_general, remote_decision, names, plain_knowability, Knowable, Downstream, local_or_fundamental}
+use Rattle.candidate_eval.specs.Normalizer.{IsFunction}
+use Rattle.candidate_eval.specs.Orphan.{MayWrite, IsCovered, IsPlainForest, plain, plain_check, View, InCrate, Local, Proper, Compat, Remote, Passes, NonLocalInput, UncoveredInput, Entry, orphan_answer, Step, Viewed, is_general, remote_decision, names, plain_knowability, Knowable, Downstream, local_or_fundamental}
 
 -- Two crates that name nothing of each other write no headers that overlap.
 abbrev pub LinkSafety : Type 0
@@ -13,14 +22,27 @@ LinkSafety =
     → MayWrite w d b → names w b c ≡ false
     → Overlap u v a b → ⊥
 
--- A reference of the declared world that is knowable is overlapped by no header that a crate which it doesn't name
--- may write, in any world.
-abbrev pub OpenWorld : Type 0
-OpenWorld =
-    (declared w : World) (local limit c : ℕ) (r h : Reference) (u v : Universes)
-    → Extends declared w → IsOf declared r → holds is_alias r.arguments ≡ false
-    → plain_knowability declared local limit r ≡ Knowable
-    → names w r c ≡ false → MayWrite w c h
+-- No header that another crate may write, in any world, overlaps the local crate's header, where neither names
+-- anything of the other's crate.
+abbrev pub NoForeignHeader : World → ℕ → Reference → Type 0
+NoForeignHeader declared local a =
+    (w : World) (d : ℕ) (b : Reference) (u v : Universes)
+    → Extends declared w → (local ≡ d → ⊥)
+    → names w a d ≡ false → MayWrite w d b → names w b local ≡ false
+    → Overlap u v a b → ⊥
+
+-- No header that a crate which the reference doesn't name may write, in any world, overlaps it.
+abbrev pub NoUnnamedHeader : World → Reference → Type 0
+NoUnnamedHeader declared r =
+    (w : World) (c : ℕ) (h : Reference) (u v : Universes)
+    → Extends declared w → names w r c ≡ false → MayWrite w c h
+    → Overlap u v r h → ⊥
+
+-- No covered header that names nothing of the local crate, in any world, overlaps the reference, whoever may write it.
+abbrev pub NoCoveredHeader : World → ℕ → ℕ → Reference → Type 0
+NoCoveredHeader declared local limit r =
+    (w : World) (h : Reference) (u v : Universes)
+    → Extends declared w → IsCovered w limit h → names w h local ≡ false
     → Overlap u v r h → ⊥
 
 -- A crate of another world that the reference doesn't name, and a header that it may write and that overlaps.
@@ -34,25 +56,13 @@ pub record HasDownstream (declared : World) (r : Reference) (u v : Universes) : 
   pub written : MayWrite world crate header
   pub overlap : Overlap u v r header
 
--- Where a general variable decides that a reference is a downstream one, such a header is to be had.
-abbrev pub DownstreamWorld : Type 0
-DownstreamWorld =
-    (declared : World) (local limit : ℕ) (r : Reference) (u v : Universes) (x : Step (Unit {0}) (Unit {0})) (t : Tree)
-    → IsOf declared r → holds is_alias r.arguments ≡ false → holds is_error r.arguments ≡ false
-    → plain_knowability declared local limit r ≡ Downstream
-    → remote_decision declared limit r ≡ Some x → x.item ≡ Viewed t → is_general t.head ≡ true
-    → HasDownstream declared r u v
-
--- A knowable reference whose trait is neither local nor fundamental is overlapped by no covered header that names
--- nothing of the local crate, whoever may write it.
-abbrev pub CoveredWorld : Type 0
-CoveredWorld =
-    (declared w : World) (local limit : ℕ) (r h : Reference) (u v : Universes)
-    → Extends declared w → IsOf declared r → holds is_alias r.arguments ≡ false
-    → plain_knowability declared local limit r ≡ Knowable
-    → local_or_fundamental declared local r.trait ≡ false
-    → IsCovered w limit h → names w h local ≡ false
-    → Overlap u v r h → ⊥
+-- A general variable decides the remote check.
+pub record IsDecidedByGeneral (w : World) (limit : ℕ) (r : Reference) : Type 0 where
+  pub step : Step (Unit {0}) (Unit {0})
+  pub variable : Tree
+  pub decides : remote_decision w limit r ≡ Some step
+  pub shows : step.item ≡ Viewed variable
+  pub general : is_general variable.head ≡ true
 
 -- What passes in `Proper` passes in `Compat`, whatever the normaliser.
 abbrev pub ProperThenCompat : Type 0 → Type 0 → Type 0
@@ -82,19 +92,16 @@ FirstInputLaw S E =
     (w : World) (c limit : ℕ) (m : InCrate) (see : View S E) (s : S) (a : Forest) (l : List Entry)
     → (orphan_answer w c m see limit s a).answer ≡ NonLocalInput l → OnlyFirst l
 
--- A header of the declared world that the local crate's check passes, and one of another crate in any world: they
--- don't overlap where neither names anything of the other's crate.
-abbrev pub OwnHeader : Type 0
-OwnHeader =
-    (declared w : World) (local limit d : ℕ) (a b : Reference) (u v : Universes)
-    → Extends declared w → IsOf declared a → IsPlainForest a.arguments
-    → plain_check declared local (Local Proper) limit a.arguments ≡ Passes
-    → names w a d ≡ false → MayWrite w d b → names w b local ≡ false
-    → (local ≡ d → ⊥) → Overlap u v a b → ⊥
+-- No type among the trees has a value that stands for it.
+abbrev pub AreResolved : (Tree → Tree) → Forest → Type 0
+AreResolved resolve none = Unit {0}
+AreResolved resolve (tree h below rest) =
+    (is_type h ≡ true → resolve (record { head = h; children = below }) ≡ record { head = h; children = below })
+    × AreResolved resolve below × AreResolved resolve rest
 
--- A check of declared trees has one answer, whatever further definitions there are.
-abbrev pub WorldLaw : Type 0
-WorldLaw =
-    (declared w : World) (local limit : ℕ) (m : InCrate) (r : Reference)
-    → Extends declared w → IsOf declared r
-    → plain_check declared local m limit r.arguments ≡ plain_check w local m limit r.arguments
+-- A call with the plain normaliser, and a reference of the declared world in which nothing has a value.
+module _ {C F E : Type 0} (context : C → Context) (resolve : C → Tree → Tree) (g : Mut F (MutBor C × (Ty × Unit {0})) (Result Ty (NormalizeErr E) × (MutBor C × Unit {0}))) where
+  pub record IsPlainCall (c : C) (r : TraitRef) : Type 0 where
+    pub normaliser : IsFunction context g c plain
+    pub resolved : AreResolved (resolve c) (args_forest (context c).trees r.args)
+    pub of_world : IsReference (context c) r

@@ -2,12 +2,14 @@
 
 ghost use Rattle.std.specs.Prelude.{◌≡◌, ◌≢◌, ℕ, false, IfOk, IfSome};
 ghost use Rattle.candidate_ir.specs.Context.{Grows, world};
-ghost use Rattle.candidate_ir.specs.Trees.{Tree, holds, is_param};
+ghost use Rattle.candidate_ir.specs.Trees.{Tree, holds, is_param, is_alias};
 ghost use Rattle.candidate_ir.specs.Words.{IsTy, IsArgs, args_forest};
-ghost use Rattle.candidate_eval.specs.Orphan.{View, view, orphan_answer, Passes, knowability, local_or_fundamental};
+ghost use Rattle.candidate_ir.specs.References.{reference_of};
+ghost use Rattle.candidate_eval.specs.Orphan.{View, view, orphan_answer, Passes, knowability, local_or_fundamental, IsPlainForest};
 ghost use Rattle.candidate_eval.specs.Normalizer.{MayNormalize, KeepsNumbers, IsFunction};
-ghost use Rattle.candidate_eval.specs.Laws.{OnlyFirst};
-ghost use Rattle.candidate_eval.specs.Answers.{entries_of, IsUncoveredResult, IfNonLocal, AreAnswerTypes, OutOfMemory, IsAnswer, IsKnowledge, answer_of, reference_of, second_answer};
+ghost use Rattle.candidate_eval.specs.Laws.{OnlyFirst, LinkSafety, IsPlainCall, NoForeignHeader, NoUnnamedHeader, NoCoveredHeader, IsDecidedByGeneral, HasDownstream};
+ghost use Rattle.candidate_eval.specs.Substitutions.{Universes};
+ghost use Rattle.candidate_eval.specs.Answers.{entries_of, IsUncoveredResult, IfNonLocal, AreAnswerTypes, OutOfMemory, IsAnswer, IsKnowledge, answer_of, second_answer};
 ghost use Rattle.candidate_eval.specs.Walk.{setting};
 ghost use Rattle.candidate_eval.specs.Second.{IsSecond};
 
@@ -211,6 +213,12 @@ where
 
     // At most one entry is the first input, and then it is the first one.
     ensures first_input_once { (normal : View (F × C) E) → IsFunction C.context F.FnMut infcx.old normal → IfNonLocal result (λ v. OnlyFirst (entries_of (C.context infcx.new).trees v)) }
+
+    // Two crates that name nothing of each other write no headers that overlap.
+    ensures link_safety { LinkSafety }
+
+    // What passes in `Proper` is overlapped by no header of another crate, where neither names the other's crate.
+    ensures no_foreign_header { IsPlainCall C.context C.resolved F.FnMut infcx.old trait_ref → IsPlainForest (args_forest (C.context infcx.old).trees trait_ref.args) → in_crate ≡ InCrate.Local OrphanCheckMode.Proper → result ≡ Ok (Ok tt) → NoForeignHeader (world (C.context infcx.old)) (C.context infcx.old).local.0 (reference_of (C.context infcx.old).trees trait_ref) }
 {
     check(alloc, infcx, trait_ref, in_crate, &mut normalize)
 }
@@ -229,6 +237,41 @@ pub enum Conflict {
     Upstream,
     /// A crate that isn't known may have one.
     Downstream,
+}
+
+/// What may be known of a reference's impls, by a normaliser that is used again.
+fn knowable<C, E, F>(
+    alloc: Global,
+    infcx: &mut C,
+    trait_ref: TraitRef,
+    normalize: &mut F,
+) -> Result<Result<(), Conflict>, OrphanStop<E>>
+where
+    C: InferCtxtLike,
+    E: Drop,
+    F: FnMut(&mut C, Ty) -> Result<Ty, NormalizeErr<E>>,
+    requires args { IsArgs (C.context infcx.old).trees trait_ref.args }
+    requires callable { MayNormalize C.context F.FnMut infcx.old }
+    requires keeps { KeepsNumbers C.context F.FnMut infcx.old }
+    ensures grows { Grows (C.context infcx.old) (C.context infcx.new) }
+    ensures answer { (normal : View (F × C) E) → IsFunction C.context F.FnMut infcx.old normal → result ≢ Err (OrphanStop.Stop Stop.Memory) → IsKnowledge result infcx.new (knowability (world (C.context infcx.old)) (C.context infcx.old).local.0 (view (λ s t. C.resolved s.1 t) normal) 256 (normalize.old, infcx.old) (reference_of (C.context infcx.old).trees trait_ref)) }
+{
+    let remote = check(alloc, infcx, trait_ref, InCrate::Remote, normalize)?;
+    if remote.is_ok() {
+        return Ok(Err(Conflict::Downstream));
+    }
+    if trait_ref_is_local_or_fundamental(infcx.cx(), trait_ref) {
+        return Ok(Ok(()));
+    }
+    let in_crate = InCrate::Local {
+        mode: OrphanCheckMode::Proper,
+    };
+    let local = check(alloc, infcx, trait_ref, in_crate, normalize)?;
+    if local.is_ok() {
+        Ok(Ok(()))
+    } else {
+        Ok(Err(Conflict::Upstream))
+    }
 }
 
 /// Whether all impls of a trait reference are known here.
@@ -255,21 +298,15 @@ where
 
     // For a normaliser whose answers and effects are functions of the tree and the context.
     ensures answer { (normal : View (F × C) E) → IsFunction C.context F.FnMut infcx.old normal → result ≢ Err (OrphanStop.Stop Stop.Memory) → IsKnowledge result infcx.new (knowability (world (C.context infcx.old)) (C.context infcx.old).local.0 (view (λ s t. C.resolved s.1 t) normal) 256 (normalize, infcx.old) (reference_of (C.context infcx.old).trees trait_ref)) }
+
+    // A known reference is overlapped by no header that a crate which it doesn't name may write.
+    ensures no_unnamed_header { IsPlainCall C.context C.resolved F.FnMut infcx.old trait_ref → holds is_alias (args_forest (C.context infcx.old).trees trait_ref.args) ≡ false → result ≡ Ok (Ok tt) → NoUnnamedHeader (world (C.context infcx.old)) (reference_of (C.context infcx.old).trees trait_ref) }
+
+    // Where a general variable makes it a downstream one, some crate may write a header that overlaps.
+    ensures downstream_header { IsPlainCall C.context C.resolved F.FnMut infcx.old trait_ref → IsPlainForest (args_forest (C.context infcx.old).trees trait_ref.args) → result ≡ Ok (Err Conflict.Downstream) → IsDecidedByGeneral (world (C.context infcx.old)) 256 (reference_of (C.context infcx.old).trees trait_ref) → (u v : Universes) → HasDownstream (world (C.context infcx.old)) (reference_of (C.context infcx.old).trees trait_ref) u v }
+
+    // Known by its own types, it is overlapped by no covered header that names nothing of the local crate.
+    ensures no_covered_header { IsPlainCall C.context C.resolved F.FnMut infcx.old trait_ref → holds is_alias (args_forest (C.context infcx.old).trees trait_ref.args) ≡ false → result ≡ Ok (Ok tt) → local_or_fundamental (world (C.context infcx.old)) (C.context infcx.old).local.0 trait_ref.def_id.0 ≡ false → NoCoveredHeader (world (C.context infcx.old)) (C.context infcx.old).local.0 256 (reference_of (C.context infcx.old).trees trait_ref) }
 {
-    let remote = check(alloc, infcx, trait_ref, InCrate::Remote, &mut normalize)?;
-    if remote.is_ok() {
-        return Ok(Err(Conflict::Downstream));
-    }
-    if trait_ref_is_local_or_fundamental(infcx.cx(), trait_ref) {
-        return Ok(Ok(()));
-    }
-    let in_crate = InCrate::Local {
-        mode: OrphanCheckMode::Proper,
-    };
-    let local = check(alloc, infcx, trait_ref, in_crate, &mut normalize)?;
-    if local.is_ok() {
-        Ok(Ok(()))
-    } else {
-        Ok(Err(Conflict::Upstream))
-    }
+    knowable(alloc, infcx, trait_ref, &mut normalize)
 }

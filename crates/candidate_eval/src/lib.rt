@@ -3,6 +3,5 @@
 
 pub mod coherence;
 pub mod eval;
-pub mod laws;
 mod table;
 mod walk;

@@ -9,3 +9,4 @@ pub mod Kept
 pub mod Rows
 pub mod Members
 pub mod Growing
+pub mod References

@@ -8,5 +8,6 @@ pub mod Words
 pub mod Worlds
 pub mod Declaration
 pub mod Context
+pub mod References
 pub mod Names
 pub mod TypeFlags

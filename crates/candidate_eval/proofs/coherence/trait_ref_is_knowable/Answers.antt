@@ -1,62 +1,28 @@
-use Rattle.std.proofs.Common.{◌≡◌, false, Ok, Err, refl, sym, ◌∙◌, ap, subst}
-use Rattle.std.proofs.lemmas.Result.{err_from_is_err_and}
-use Rattle.candidate_ir.specs.Context.{Context, world}
-use Rattle.candidate_ir.proofs.Kept.{args-kept}
-use Rattle.candidate_ir.specs.declared.ir.stop.Stop.TheVariants.{Memory}
-use Rattle.candidate_eval.specs.declared.coherence.OrphanStop.TheVariants as O
-use Rattle.candidate_eval.specs.Orphan.{view, local_or_fundamental}
-use Rattle.candidate_eval.proofs.Calls.{keeps-later, function-later}
-use Rattle.candidate_eval.proofs.Knows.{knows-locally, local-passes, local-fails, local-stops}
+use Rattle.std.proofs.Common.{◌≡◌, ◌∙◌, ap}
+use Rattle.candidate_ir.specs.Context.{world}
+use Rattle.candidate_ir.specs.References.{reference_of}
+use Rattle.candidate_eval.specs.Answers.{knowledge_of}
+use Rattle.candidate_eval.specs.Orphan.{plain}
+use Rattle.candidate_eval.proofs.CallLaws.{no-unnamed-header, downstream-header, no-covered-header}
 use Rattle.candidate_eval.proofs.coherence.trait_ref_is_knowable.Goals as goal
 
-pub check-requires-2-clause-args : goal.check-requires-2-clause-args
-check-requires-2-clause-args g c = (args-kept _ _ c.args.trait_ref.args c.check.ensures.grows c.requires.args).0
+pub returns-clause-no_unnamed_header : goal.returns-clause-no_unnamed_header
+returns-clause-no_unnamed_header g c = λ p na r.
+    let cx = g.C.Make.context c.args.infcx.now in
+    let e = c.knowable.ensures.answer plain p.normaliser (λ x. cc) in
+    no-unnamed-header (world cx) cx.local.0 256 (λ s u. g.C.InferCtxtLike.resolved s.1 u) (c.args.normalize, c.args.infcx.now)
+    (reference_of cx.trees c.args.trait_ref) p.of_world p.resolved na (e.answer ∙ ap knowledge_of r)
 
-pub check-requires-2-clause-keeps : goal.check-requires-2-clause-keeps
-check-requires-2-clause-keeps g c = keeps-later g.C.Make.context g.F.FnMut _ _ c.check.ensures.grows c.requires.keeps
+pub returns-clause-downstream_header : goal.returns-clause-downstream_header
+returns-clause-downstream_header g c = λ p ok r d u v.
+    let cx = g.C.Make.context c.args.infcx.now in
+    let e = c.knowable.ensures.answer plain p.normaliser (λ x. cc) in
+    downstream-header (world cx) cx.local.0 256 (λ s u. g.C.InferCtxtLike.resolved s.1 u) (c.args.normalize, c.args.infcx.now)
+    (reference_of cx.trees c.args.trait_ref) p.of_world p.resolved ok (e.answer ∙ ap knowledge_of r) d u v
 
-pub returns-in_err-local-clause-answer : goal.returns-in_err-local-clause-answer
-returns-in_err-local-clause-answer g c = λ normal h ne.
-    let p = err_from_is_err_and c.from_residual-in_err-local.result c.from_residual-in_err-local.ensures.1 in
-    let see = view (λ s u. g.C.InferCtxtLike.resolved s.1 u) normal in
-    let c1 = g.C.Make.context c.check.new.infcx in
-    let later = function-later g.C.Make.context g.F.FnMut c.args.infcx.now c.check.new.infcx normal c.check.ensures.grows h in
-    let own : local_or_fundamental (world c1) c1.local.0 c.args.trait_ref.def_id.0 ≡ false =
-    ap (λ (x : Context). local_or_fundamental (world x) x.local.0 c.args.trait_ref.def_id.0) (sym c.cx.ensures)
-    ∙ (sym c.trait_ref_is_local_or_fundamental.ensures ∙ c.if-trait_ref_is_local_or_fundamental.false) in
-    let e = knows-locally (g.C.Make.context c.args.infcx.now) c1 c.check.ensures.grows see 256
-    (c.args.normalize, c.args.infcx.now) (c.check.new.normalize, c.check.new.infcx) (c.check-2.new.normalize, c.check-2.new.infcx)
-    c.args.trait_ref c.requires.args (g.C.Make.context c.check-2.new.infcx).trees c.in_ok-remote.remote (Err c.in_err-local.field-0.0)
-    (sym c.is_ok.ensures.value ∙ c.if-is_ok.false) own
-    (c.in_ok-remote.ensures.answer normal h (λ x. cc)) (c.in_err-local.ensures.answer normal later (λ x. let z : c.in_err-local.field-0.0 ≡ O.Stop Memory = cc in ne (p.1 ∙ ap Err (p.2 ∙ z)))) in
-    rw (p.1, p.2) (record { answer = ap (λ x. x.answer) e ∙ local-stops (g.C.Make.context c.check-2.new.infcx).trees c.in_err-local.field-0.0; leaves = ap (λ x. x.after.1) e })
-
-pub returns-then-is_ok-2-clause-answer : goal.returns-then-is_ok-2-clause-answer
-returns-then-is_ok-2-clause-answer g c = λ normal h ne.
-    let see = view (λ s u. g.C.InferCtxtLike.resolved s.1 u) normal in
-    let c1 = g.C.Make.context c.check.new.infcx in
-    let later = function-later g.C.Make.context g.F.FnMut c.args.infcx.now c.check.new.infcx normal c.check.ensures.grows h in
-    let own : local_or_fundamental (world c1) c1.local.0 c.args.trait_ref.def_id.0 ≡ false =
-    ap (λ (x : Context). local_or_fundamental (world x) x.local.0 c.args.trait_ref.def_id.0) (sym c.cx.ensures)
-    ∙ (sym c.trait_ref_is_local_or_fundamental.ensures ∙ c.if-trait_ref_is_local_or_fundamental.false) in
-    let e = knows-locally (g.C.Make.context c.args.infcx.now) c1 c.check.ensures.grows see 256
-    (c.args.normalize, c.args.infcx.now) (c.check.new.normalize, c.check.new.infcx) (c.check-2.new.normalize, c.check-2.new.infcx)
-    c.args.trait_ref c.requires.args (g.C.Make.context c.check-2.new.infcx).trees c.in_ok-remote.remote (Ok c.in_ok-local.local)
-    (sym c.is_ok.ensures.value ∙ c.if-is_ok.false) own
-    (c.in_ok-remote.ensures.answer normal h (λ x. cc)) (c.in_ok-local.ensures.answer normal later (λ x. cc)) in
-    record { answer = ap (λ x. x.answer) e ∙ local-passes (g.C.Make.context c.check-2.new.infcx).trees c.in_ok-local.local (sym c.is_ok-2.ensures.value ∙ c.if-is_ok-2.true); leaves = ap (λ x. x.after.1) e }
-
-pub returns-clause-answer : goal.returns-clause-answer
-returns-clause-answer g c = λ normal h ne.
-    let see = view (λ s u. g.C.InferCtxtLike.resolved s.1 u) normal in
-    let c1 = g.C.Make.context c.check.new.infcx in
-    let later = function-later g.C.Make.context g.F.FnMut c.args.infcx.now c.check.new.infcx normal c.check.ensures.grows h in
-    let own : local_or_fundamental (world c1) c1.local.0 c.args.trait_ref.def_id.0 ≡ false =
-    ap (λ (x : Context). local_or_fundamental (world x) x.local.0 c.args.trait_ref.def_id.0) (sym c.cx.ensures)
-    ∙ (sym c.trait_ref_is_local_or_fundamental.ensures ∙ c.if-trait_ref_is_local_or_fundamental.false) in
-    let e = knows-locally (g.C.Make.context c.args.infcx.now) c1 c.check.ensures.grows see 256
-    (c.args.normalize, c.args.infcx.now) (c.check.new.normalize, c.check.new.infcx) (c.check-2.new.normalize, c.check-2.new.infcx)
-    c.args.trait_ref c.requires.args (g.C.Make.context c.check-2.new.infcx).trees c.in_ok-remote.remote (Ok c.in_ok-local.local)
-    (sym c.is_ok.ensures.value ∙ c.if-is_ok.false) own
-    (c.in_ok-remote.ensures.answer normal h (λ x. cc)) (c.in_ok-local.ensures.answer normal later (λ x. cc)) in
-    record { answer = ap (λ x. x.answer) e ∙ local-fails (g.C.Make.context c.check-2.new.infcx).trees c.in_ok-local.local (sym c.is_ok-2.ensures.value ∙ c.if-is_ok-2.false); leaves = ap (λ x. x.after.1) e }
+pub returns-clause-no_covered_header : goal.returns-clause-no_covered_header
+returns-clause-no_covered_header g c = λ p na r o.
+    let cx = g.C.Make.context c.args.infcx.now in
+    let e = c.knowable.ensures.answer plain p.normaliser (λ x. cc) in
+    no-covered-header (world cx) cx.local.0 256 (λ s u. g.C.InferCtxtLike.resolved s.1 u) (c.args.normalize, c.args.infcx.now)
+    (reference_of cx.trees c.args.trait_ref) p.of_world p.resolved na (e.answer ∙ ap knowledge_of r) o
