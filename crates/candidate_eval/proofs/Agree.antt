@@ -11,7 +11,7 @@ use Rattle.candidate_ir.specs.declared.ir.heads.Head.{Head}
 use Rattle.candidate_ir.specs.declared.ir.heads.Head.TheVariants as H
 use Rattle.candidate_eval.specs.Substitutions.{Substitution, Universes, IsAllowed, apply, replaced, fits_sort, is_constant_kind, lookup}
 use Rattle.candidate_eval.specs.Orphan.{CrateTest, is_local, is_fundamental, names_here, by_bound, principal_passes, Item, Viewed, Step, Class, class_of, owned_class, decides, Local, Proper, or_empty, walked, visit, frontier, plain, is_variable}
-use Rattle.candidate_eval.proofs.Holds.{or_false, holds_parts}
+use Rattle.candidate_eval.proofs.Holds.{holds_parts}
 use Rattle.candidate_eval.proofs.Instances.{replaced_kind, erased_kind, stays, stays_below, part_no_type, list_no_type, lookup_fits}
 use Rattle.candidate_eval.proofs.Walks.{Clear, Good, good_left, good_right, clear_append}
 

@@ -1,5 +1,5 @@
 -- The laws of the definitions, for a check by the plain normaliser in a context.
-use Rattle.std.proofs.Common.{◌≡◌, ℕ, false, refl, sym, ◌∙◌, ap, subst}
+use Rattle.std.proofs.Common.{◌≡◌, ℕ, false, sym, ◌∙◌, ap, subst}
 use Rattle.candidate_ir.specs.Trees.{Tree, holds, is_alias}
 use Rattle.candidate_ir.specs.Worlds.{World, Reference, IsOf}
 use Rattle.candidate_eval.specs.Orphan.{InCrate, Local, Proper, view, plain, orphan_answer, Passes, knowability, Knowability, Knowable, Downstream, local_or_fundamental, plain_knowability, IsPlainForest}

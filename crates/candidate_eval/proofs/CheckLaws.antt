@@ -1,13 +1,11 @@
 -- The laws of the definition, for a result that is its answer.
-use Rattle.std.proofs.Common.{◌≡◌, ℕ, List, Result, Ok, Err, refl, sym, ◌∙◌, ap}
+use Rattle.std.proofs.Common.{◌≡◌, ℕ, List, Ok, Err, sym, ◌∙◌, ap}
 use Rattle.candidate_ir.specs.Trees.{Forest, Tree}
 use Rattle.candidate_ir.specs.Worlds.{World}
-use Rattle.candidate_ir.specs.Words.{ty_tree}
-use Rattle.candidate_eval.specs.declared.coherence.OrphanCheckErr.{OrphanCheckErr}
 use Rattle.candidate_eval.specs.declared.coherence.OrphanCheckErr.TheVariants as C
 use Rattle.candidate_eval.specs.Answers.{CheckResult, answer_of, entries_of, OutOfMemory, IsUncoveredResult, IfNonLocal}
 use Rattle.candidate_eval.specs.Laws.{OnlyFirst}
-use Rattle.candidate_eval.specs.Orphan.{InCrate, Local, Remote, Proper, Compat, View, Answer, Passes, Checked, orphan_answer}
+use Rattle.candidate_eval.specs.Orphan.{InCrate, Local, Remote, Proper, Compat, View, Passes, orphan_answer}
 use Rattle.candidate_eval.proofs.OrphanLaws.{proper_then_compat, remote_law, first_input_law}
 
 module _ {S E : Type 0} (w : World) (c n : ℕ) (see : View S E) (s : S) (a : Forest) where

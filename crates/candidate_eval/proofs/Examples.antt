@@ -7,7 +7,6 @@ use Rattle.candidate_ir.specs.declared.ir.heads.Builtin.TheVariants as B
 use Rattle.candidate_ir.specs.declared.ir.heads.PartHead.TheVariants as Part
 use Rattle.candidate_ir.specs.declared.ir.heads.PredHead.TheVariants as PH
 use Rattle.candidate_ir.specs.declared.ir.heads.VariableSort.TheVariants as V
-use Rattle.candidate_ir.specs.declared.ir.kinds.UintTy.{UintTy}
 use Rattle.candidate_ir.specs.declared.ir.kinds.UintTy.TheVariants as U
 use Rattle.candidate_ir.specs.declared.ir.kinds.RegionKind.TheVariants as R
 use Rattle.candidate_ir.specs.declared.ir.kinds.Mutability.TheVariants as M

@@ -1,15 +1,14 @@
-use Rattle.std.proofs.Common.{◌≡◌, ℕ, Bool, false, ◌||◌, List, [], ◌∷◌, Option, Some, None, is_none, slice_get, refl, sym, ◌∙◌, ap}
+use Rattle.std.proofs.Common.{◌≡◌, ℕ, Bool, false, List, [], ◌∷◌, Option, Some, None, is_none, slice_get, refl, sym, ◌∙◌, ap}
 use Rattle.candidate_ir.specs.declared.ir.heads.PartHead.{PartHead}
 use Rattle.candidate_ir.specs.declared.ir.heads.PartHead.TheVariants as P
 use Rattle.candidate_ir.specs.declared.ir.heads.PredHead.TheVariants as PH
-use Rattle.candidate_ir.specs.Trees.{Kind, SignatureKind, BinderKind, TypeKind, RegionKind, Forest, none, tree, holds}
+use Rattle.candidate_ir.specs.Trees.{Kind, SignatureKind, BinderKind, TypeKind, Forest, none, tree, holds}
 use Rattle.candidate_ir.specs.Worlds.{AdtSort, ForeignSort, FunctionSort, ClosureSort, OpaqueSort, AliasSort, AssociatedConstantSort, DefinitionSort, TraitSort, AssociatedTypeSort, Definition, World, Reference, Extends, parameters, parameters_of, joined, alias_kinds, part_kinds, child_kinds, kinds_of, Fits, IsOf}
 use Rattle.candidate_ir.specs.declared.ir.heads.Head.{Head}
 use Rattle.candidate_ir.specs.declared.ir.kinds.AliasKind.{AliasKind}
 use Rattle.candidate_ir.specs.declared.ir.heads.Head.TheVariants as H
 use Rattle.candidate_ir.specs.declared.ir.heads.ConstHead.TheVariants as C
 use Rattle.candidate_ir.specs.declared.ir.kinds.AliasKind.TheVariants as AK
-use Rattle.candidate_eval.proofs.Holds.{or_false}
 
 -- whether a definition in the head isn't in the world
 abbrev pub is_missing : World → Head → Bool

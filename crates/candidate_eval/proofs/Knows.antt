@@ -15,7 +15,7 @@ use Rattle.candidate_eval.specs.declared.coherence.OrphanStop.{OrphanStop}
 use Rattle.candidate_eval.specs.declared.coherence.OrphanStop.TheVariants as O
 use Rattle.candidate_ir.specs.References.{reference_of}
 use Rattle.candidate_eval.specs.Answers.{CheckResult, answer_of, knowledge_of}
-use Rattle.candidate_eval.specs.Orphan.{InCrate, Local, Remote, Proper, View, Answer, Checked, orphan_answer, Knowability, Knowable, Upstream, knowability, local_or_fundamental, by_answer, by_proper_check, by_remote_check}
+use Rattle.candidate_eval.specs.Orphan.{InCrate, Local, Remote, Proper, View, Answer, Checked, orphan_answer, Knowable, Upstream, knowability, local_or_fundamental, by_answer, by_proper_check, by_remote_check}
 
 -- a check in a context that has grown is the check from the begin
 pub check-there : {S E : Type 0} (c0 c1 : Context) (g : Grows c0 c1) (m : InCrate) (see : View S E) (n : ℕ) (s : S) (a : Args) → IsArgs c0.trees a

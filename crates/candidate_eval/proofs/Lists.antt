@@ -1,22 +1,19 @@
 -- A walk over a list, as what is left of it.
-use Rattle.std.proofs.Common.{◌≡◌, ◌+◌, ◌<◌, ℕ, suc, Bool, true, false, List, [], ◌∷◌, ◌++◌, length, get_or, Option, Some, None, Result, Ok, Err, refl, sym, ◌∙◌, ap, subst, append_assoc, if◌then◌else◌}
+use Rattle.std.proofs.Common.{◌≡◌, ◌+◌, ◌<◌, ℕ, Bool, true, false, List, [], ◌++◌, length, get_or, Some, None, refl, sym, ◌∙◌, ap, append_assoc, if◌then◌else◌}
 use Rattle.std.proofs.lemmas.List.{append-nil}
 use Rattle.candidate_ir.specs.declared.ir.kinds.Ty.{Ty}
 use Rattle.candidate_ir.specs.declared.ir.kinds.GenericArg.{GenericArg}
 use Rattle.candidate_ir.specs.declared.ir.kinds.GenericArg.TheVariants as A
-use Rattle.candidate_ir.specs.Context.{Context, Grows}
 use Rattle.candidate_ir.specs.Kinds.{arg_number, arg_kind}
 use Rattle.candidate_ir.specs.Nodes.{tree_at, kind_at}
-use Rattle.candidate_ir.specs.Trees.{Kind, TypeKind, ConstantKind, RegionKind, Forest, none, tree, Tree, kind_of, is_type, is_type_kind}
+use Rattle.candidate_ir.specs.Trees.{TypeKind, ConstantKind, RegionKind, Forest, none, tree, Tree, is_type, is_type_kind}
 use Rattle.candidate_ir.specs.Words.{ListFits, list_forest, IsTy, ty_tree}
 use Rattle.candidate_ir.proofs.Members.{skip, member-kind, skip-member}
 use Rattle.candidate_ir.proofs.Rows.{kind-of}
-use Rattle.candidate_eval.specs.declared.walk.EarlyExit.{EarlyExit}
 use Rattle.candidate_eval.specs.declared.walk.Walk.{Walk}
-use Rattle.candidate_eval.specs.Orphan.{InCrate, View, Step, Class, Entry, entries, first_step, left}
-use Rattle.candidate_eval.specs.Walk.{Setting, setting, classes, type_steps, list_steps, deciding, still, entries_of, AreTypes, exit_class, Passed, Found, Outcome, SameWalk}
+use Rattle.candidate_eval.specs.Orphan.{View, Step, Class, Entry, entries, first_step, left}
+use Rattle.candidate_eval.specs.Walk.{Setting, classes, type_steps, list_steps, deciding, still, entries_of, Passed, Found}
 use Rattle.candidate_eval.proofs.Steps.{first-append, found-append, entries-append, left-append, still-some}
-use Rattle.candidate_eval.proofs.Walking.{setting-kept, entries-kept}
 
 -- Walking over all from the begin is walking over the rest from here.
 pub record Sofar {S E : Type 0} (p : Setting) (see : View S E) (n : ℕ) (ts : List Tree) (old now : Walk) (start s : S) (all rest : Forest) : Type 0 where

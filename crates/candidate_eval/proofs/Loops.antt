@@ -1,5 +1,5 @@
 -- The loop over a list of arguments, in contexts that grow.
-use Rattle.std.proofs.Common.{◌≡◌, ◌≢◌, ◌+◌, ◌<◌, ℕ, suc, Bool, true, false, List, length, get_or, Result, Ok, Err, refl, sym, ◌∙◌, ap, subst, arith}
+use Rattle.std.proofs.Common.{◌≡◌, ◌+◌, ◌<◌, ℕ, true, false, List, length, get_or, Result, Err, sym, ◌∙◌, ap, subst, arith}
 use Rattle.candidate_ir.specs.declared.ir.kinds.Ty.{Ty}
 use Rattle.candidate_ir.specs.declared.ir.kinds.Args.{Args}
 use Rattle.candidate_ir.specs.declared.ir.kinds.GenericArg.{GenericArg}
@@ -7,14 +7,14 @@ use Rattle.candidate_ir.specs.declared.ir.kinds.GenericArg.TheVariants as A
 use Rattle.candidate_ir.specs.Context.{Context, Grows}
 use Rattle.candidate_ir.specs.Kinds.{arg_number}
 use Rattle.candidate_ir.specs.Nodes.{tree_at}
-use Rattle.candidate_ir.specs.Trees.{Forest, Tree, count, tree, is_type}
-use Rattle.candidate_ir.specs.Words.{IsArgs, IsTy, ListFits, list_forest, args_forest, ty_tree}
+use Rattle.candidate_ir.specs.Trees.{Forest, Tree, count, tree}
+use Rattle.candidate_ir.specs.Words.{IsArgs, ListFits, list_forest, args_forest, ty_tree}
 use Rattle.candidate_ir.proofs.Kept.{args-kept}
 use Rattle.candidate_ir.proofs.Members.{skip, count-members}
 use Rattle.candidate_eval.specs.declared.walk.EarlyExit.{EarlyExit}
 use Rattle.candidate_eval.specs.declared.walk.Walk.{Walk}
-use Rattle.candidate_eval.specs.Orphan.{InCrate, View}
-use Rattle.candidate_eval.specs.Walk.{Setting, setting, classes, type_steps, list_steps, still, entries_of, AreTypes, exit_class, Passed, Found, Outcome, SameWalk}
+use Rattle.candidate_eval.specs.Orphan.{View}
+use Rattle.candidate_eval.specs.Walk.{Setting, setting, classes, type_steps, list_steps, still, AreTypes, exit_class, Passed, Outcome, SameWalk}
 use Rattle.candidate_eval.proofs.Lists.{Sofar, sofar-skip, sofar-visit, sofar-found, member-at, type-at, no-type-at}
 use Rattle.candidate_eval.proofs.Walking.{setting-kept, types-kept, entries-kept}
 

@@ -1,6 +1,5 @@
 use Rattle.std.proofs.Common.{◌≡◌, ℕ, zero, suc, ◌+◌, ◌<◌, ◌==◌, ◌⊎◌, inl, inr, Bool, true, false, List, [], ◌∷◌, ◌++◌, Option, Some, None, is_none, slice_get, refl, sym, ◌∙◌, ap, subst, if◌then◌else◌, arith}
 use Rattle.std.proofs.lemmas.Bool.{ne_eqb}
-use Rattle.candidate_ir.specs.declared.ir.heads.PartHead.{PartHead}
 use Rattle.candidate_ir.specs.declared.ir.heads.PartHead.TheVariants as P
 use Rattle.candidate_ir.specs.declared.ir.heads.PredHead.TheVariants as PH
 use Rattle.candidate_ir.specs.declared.ir.kinds.AdtId.{AdtId}
@@ -17,7 +16,7 @@ use Rattle.candidate_ir.specs.declared.ir.kinds.AliasKind.TheVariants as AK
 use Rattle.candidate_eval.specs.Substitutions.{Substitution, apply, replaced, lookup, same_variable, same_sort, IsAllowed, Universes}
 use Rattle.candidate_eval.specs.Orphan.{crate_passes, is_local, is_fundamental, fundamental_flag, names_here, principal_passes, Item, Viewed, Step, Class, IsLocal, IsNonLocal, alias_class, owned_class, decides, Remote, or_empty, walked, visit, plain, first_step, is_general, is_general_sort, names, MayWrite, remote_decision, judged, Passes, decided, IsPlainForest, plain_knowability, Downstream}
 use Rattle.candidate_eval.specs.Laws.{IsDecidedByGeneral, HasDownstream}
-use Rattle.candidate_eval.proofs.Holds.{or_false, holds_parts, holds_imply, holds_erase}
+use Rattle.candidate_eval.proofs.Holds.{holds_parts, holds_imply, holds_erase}
 use Rattle.candidate_eval.proofs.Instances.{replaced_kind, same_sort_is, and_left}
 use Rattle.candidate_eval.proofs.Walks.{Clear, clear_append, clear_left, clear_right}
 use Rattle.candidate_eval.proofs.Agree.{U, Walk, adt_steps, adt_is, owned_clear, principal_clear, principal_applied, Proper_class, Steps}

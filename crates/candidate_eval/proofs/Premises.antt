@@ -1,20 +1,13 @@
 -- Why the premises of the laws stand: each is shown by headers that overlap without it.
-use Rattle.std.proofs.Common.{◌≡◌, ℕ, Bool, true, false, List, [], ◌∷◌, ◌++◌, refl, if◌then◌else◌}
-use Rattle.candidate_ir.specs.declared.ir.heads.Head.{Head}
+use Rattle.std.proofs.Common.{◌≡◌, ℕ, true, false, [], ◌∷◌, ◌++◌, refl, if◌then◌else◌}
 use Rattle.candidate_ir.specs.declared.ir.heads.Head.TheVariants as H
 use Rattle.candidate_ir.specs.declared.ir.heads.Builtin.TheVariants as B
-use Rattle.candidate_ir.specs.declared.ir.heads.PartHead.TheVariants as Part
-use Rattle.candidate_ir.specs.declared.ir.heads.PredHead.TheVariants as PH
 use Rattle.candidate_ir.specs.declared.ir.heads.VariableSort.TheVariants as V
-use Rattle.candidate_ir.specs.declared.ir.kinds.UintTy.{UintTy}
-use Rattle.candidate_ir.specs.declared.ir.kinds.UintTy.TheVariants as U
-use Rattle.candidate_ir.specs.declared.ir.kinds.RegionKind.TheVariants as R
-use Rattle.candidate_ir.specs.declared.ir.kinds.Mutability.TheVariants as M
 use Rattle.candidate_ir.specs.declared.ir.kinds.AliasKind.TheVariants as AK
-use Rattle.candidate_ir.specs.Trees.{TypeKind, none, Forest, Tree, holds, is_alias}
+use Rattle.candidate_ir.specs.Trees.{TypeKind, none, Forest, Tree}
 use Rattle.candidate_ir.specs.Worlds.{World, Reference, AdtSort, TraitSort, AssociatedTypeSort}
 use Rattle.candidate_eval.specs.Substitutions.{escapes, Overlap, Universes, Binding}
-use Rattle.candidate_eval.specs.Orphan.{MayWrite, IsCovered, names, plain, view, plain_check, orphan_answer, is_general, Local, Proper, Answer, Passes, UncoveredInput, local_or_fundamental, plain_knowability, Knowable, Downstream}
+use Rattle.candidate_eval.specs.Orphan.{MayWrite, IsCovered, names, plain, view, plain_check, orphan_answer, is_general, Local, Proper, Passes, local_or_fundamental, plain_knowability, Knowable, Downstream}
 use Rattle.candidate_eval.proofs.Examples.{def, one, ◌&◌, u8, P, Q, La, Lb, New, Pair, Vec, var, it, LocalType, ref}
 
 abbrev goes : ℕ → Forest → Binding

@@ -1,10 +1,8 @@
 -- The shapes of views.
-use Rattle.std.proofs.Common.{◌≡◌, ℕ, List, [], ◌∷◌, Bool, true, false, Option, Some, None, refl, sym, ◌∙◌, ap}
+use Rattle.std.proofs.Common.{◌≡◌, List, Bool, true, false, Option, Some, None, refl, sym, ◌∙◌, ap}
 use Rattle.candidate_ir.specs.declared.ir.heads.Head.{Head}
 use Rattle.candidate_ir.specs.declared.ir.heads.Head.TheVariants as H
-use Rattle.candidate_ir.specs.declared.ir.heads.PartHead.{PartHead}
 use Rattle.candidate_ir.specs.declared.ir.heads.PartHead.TheVariants as P
-use Rattle.candidate_ir.specs.declared.ir.heads.PredHead.{PredHead}
 use Rattle.candidate_ir.specs.declared.ir.heads.PredHead.TheVariants as PH
 use Rattle.candidate_ir.specs.declared.ir.kinds.TyKind.TheVariants as K
 use Rattle.candidate_ir.specs.declared.ir.kinds.TraitId.{TraitId}
@@ -18,9 +16,9 @@ use Rattle.candidate_ir.specs.Context.{Context, world}
 use Rattle.candidate_ir.specs.Names.{principal_of}
 use Rattle.candidate_ir.specs.Names as names
 use Rattle.candidate_ir.specs.Nodes.{kind_at, tree_at}
-use Rattle.candidate_ir.specs.Trees.{Kind, TypeKind, RegionKind, ArgumentsKind, PredicatesKind, Forest, none, tree, Tree, row, join, kind_of, is_type, is_type_kind}
+use Rattle.candidate_ir.specs.Trees.{TypeKind, RegionKind, ArgumentsKind, PredicatesKind, Forest, none, tree, Tree, row, join, kind_of, is_type_kind}
 use Rattle.candidate_ir.specs.Worlds.{World}
-use Rattle.candidate_ir.specs.Words.{KindFits, kind_tree, args_forest, preds_forest, ty_tree}
+use Rattle.candidate_ir.specs.Words.{KindFits, kind_tree, args_forest, preds_forest}
 use Rattle.candidate_ir.proofs.Rows.{join-none, kind-of, row-single, row-list}
 use Rattle.candidate_eval.specs.Orphan.{CrateTest, is_local, is_fundamental, by_bound, principal_passes}
 use Rattle.candidate_eval.specs.Shapes.{IsReference, IsFundamental}

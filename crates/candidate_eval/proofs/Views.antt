@@ -1,7 +1,7 @@
 -- The view of a type by its resolved form and the normaliser's answer.
-use Rattle.std.proofs.Common.{◌≡◌, Bool, true, false, refl, sym, ◌∙◌, ap, if◌then◌else◌}
+use Rattle.std.proofs.Common.{◌≡◌, Bool, true, sym, ◌∙◌, ap, if◌then◌else◌}
 use Rattle.candidate_ir.specs.Trees.{Tree}
-use Rattle.candidate_eval.specs.Orphan.{Seen, Sees, Sight, View, view, is_general, unless_general}
+use Rattle.candidate_eval.specs.Orphan.{Sees, Sight, View, view, is_general, unless_general}
 
 pub view-general : {S E : Type 0} (resolve : S → Tree → Tree) (normal : View S E) (s after : S) (t u v w : Tree)
     → u ≡ resolve s t → normal s u ≡ record { seen = Sees v; after = after } → true ≡ is_general v.head → w ≡ u

@@ -1,9 +1,9 @@
 -- A visit in whole, from the shape of its view.
-use Rattle.std.proofs.Common.{◌≡◌, ◌-◌, ℕ, suc, Bool, true, false, List, Result, Ok, Err, refl, sym, ◌∙◌, ap, subst}
+use Rattle.std.proofs.Common.{◌≡◌, ℕ, suc, true, false, List, Result, Ok, Err, refl, sym, ◌∙◌, ap, subst}
 use Rattle.std.specs.Prelude.{OnOk}
 use Rattle.candidate_ir.specs.declared.ir.kinds.Ty.{Ty}
 use Rattle.candidate_ir.specs.declared.ir.kinds.Args.{Args}
-use Rattle.candidate_ir.specs.Context.{Context, Grows, world}
+use Rattle.candidate_ir.specs.Context.{Context, Grows}
 use Rattle.candidate_ir.specs.Trees.{Tree}
 use Rattle.candidate_ir.specs.Words.{ty_tree, args_forest}
 use Rattle.candidate_ir.proofs.Kept.{world-kept}
@@ -15,7 +15,7 @@ use Rattle.candidate_eval.specs.declared.walk.EarlyExit.{EarlyExit}
 use Rattle.candidate_eval.specs.declared.walk.Walk.{Walk}
 use Rattle.candidate_eval.specs.Exits.{IsTaken, broken_by}
 use Rattle.candidate_eval.specs.Normalizer.{shown_fault}
-use Rattle.candidate_eval.specs.Orphan.{InCrate, crate_test, Sees, Fails, View, Step, Class, IsBroken, or_empty}
+use Rattle.candidate_eval.specs.Orphan.{InCrate, crate_test, Sees, Fails, View, Class, IsBroken}
 use Rattle.candidate_eval.specs.Shapes.{IsShape, IsReference, IsFundamental}
 use Rattle.candidate_eval.specs.Table.{table, is_walked}
 use Rattle.candidate_eval.specs.Walk.{Setting, setting, test_of, classes, type_steps, list_steps, still, exit_class, Found, Outcome}

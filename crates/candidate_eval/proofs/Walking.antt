@@ -1,36 +1,33 @@
 -- The cases of a visit.
-use Rattle.std.proofs.Common.{◌≡◌, ◌≢◌, ℕ, zero, suc, ◌<◌, Bool, true, false, List, [], ◌∷◌, ◌++◌, Option, Some, None, refl, sym, ◌∙◌, ap, subst, arith, Result, Ok, Err, get_or, length, if◌then◌else◌}
+use Rattle.std.proofs.Common.{◌≡◌, ℕ, zero, suc, Bool, true, false, List, [], ◌∷◌, ◌++◌, Some, None, refl, sym, ◌∙◌, ap, subst, arith, Result, Ok, Err, get_or, if◌then◌else◌}
 use Rattle.std.proofs.lemmas.List.{append-nil}
 use Rattle.std.proofs.lemmas.List.Elements.{All-append}
-use Rattle.std.specs.Prelude.{not, ◌&&◌, map, OnOk, IfErr}
+use Rattle.std.specs.Prelude.{not, ◌&&◌, OnOk, IfErr}
 use Rattle.candidate_ir.specs.declared.ir.kinds.Ty.{Ty}
 use Rattle.candidate_ir.specs.declared.ir.kinds.Args.{Args}
-use Rattle.candidate_ir.specs.declared.ir.kinds.AdtId.{AdtId}
 use Rattle.candidate_ir.specs.declared.ir.kinds.AliasKind.{AliasKind}
 use Rattle.candidate_ir.specs.declared.ir.kinds.AliasKind.TheVariants as AK
 use Rattle.candidate_ir.specs.declared.ir.heads.Head.{Head}
 use Rattle.candidate_ir.specs.declared.ir.heads.Head.TheVariants as H
-use Rattle.candidate_ir.specs.declared.ir.stop.Stop.TheVariants.{WalkDepth, Memory}
+use Rattle.candidate_ir.specs.declared.ir.stop.Stop.TheVariants.{WalkDepth}
 use Rattle.candidate_ir.specs.Context.{Context, Grows, world}
-use Rattle.candidate_ir.specs.Trees.{TypeKind, Forest, none, tree, Tree, kind_of, is_type, is_type_kind, holds, is_loose}
+use Rattle.candidate_ir.specs.Trees.{TypeKind, Forest, none, tree, Tree, is_type, is_type_kind, holds, is_loose}
 use Rattle.candidate_ir.specs.Worlds.{World}
 use Rattle.candidate_ir.specs.Words.{IsTy, ty_tree, args_forest}
 use Rattle.candidate_ir.proofs.Kept.{world-kept, ty-kept}
 use Rattle.candidate_ir.proofs.Rows.{kind-of}
-use Rattle.candidate_eval.specs.declared.coherence.OrphanStop.TheVariants as O
 use Rattle.candidate_eval.specs.declared.coherence.IsFirstInputType.{IsFirstInputType}
 use Rattle.candidate_eval.specs.declared.table.ViewClass.{ViewClass}
 use Rattle.candidate_eval.specs.declared.table.ViewClass.TheVariants as V
 use Rattle.candidate_eval.specs.declared.walk.EarlyExit.{EarlyExit}
-use Rattle.candidate_eval.specs.declared.walk.EarlyExit.TheVariants as X
 use Rattle.candidate_eval.specs.declared.walk.Walk.{Walk}
 use Rattle.candidate_eval.specs.Answers.{is_first_input}
 use Rattle.candidate_eval.specs.Exits.{breaks, IsAdded, exit_of, IsTaken}
-use Rattle.candidate_eval.specs.Orphan.{InCrate, Local, Remote, Proper, Compat, CrateTest, is_local, is_fundamental, principal_passes, Fault, Stopped, Seen, Sees, Fails, Sight, View, Item, Viewed, Empty, Broken, Step, left, over, or_empty, walked, looked, visit, Class, IsNonLocal, IsEmpty, IsBroken, owned_class, loose_class, projection_class, alias_class, view_class, Entry, entry, entries, first_step, decides}
+use Rattle.candidate_eval.specs.Orphan.{InCrate, Local, Remote, Proper, Compat, CrateTest, is_local, is_fundamental, principal_passes, Fault, Stopped, Sees, Fails, Sight, View, Item, Viewed, Empty, Broken, Step, left, or_empty, walked, looked, Class, IsNonLocal, IsEmpty, IsBroken, owned_class, loose_class, projection_class, alias_class, view_class, Entry, entry}
 use Rattle.candidate_eval.specs.Shapes.{IsReference, IsFundamental}
 use Rattle.candidate_eval.specs.Table.{table, is_walked, owned_in, loose_in, projection_in, loose_alias_in, alias_in}
 use Rattle.candidate_eval.specs.Walk.{Setting, setting, test_of, classes, type_steps, list_steps, of_view, deciding, still, entries_of, AreTypes, IsExit, exit_class, Passed, Found, Outcome}
-use Rattle.candidate_eval.proofs.Steps.{first-append, found-append, left-some}
+use Rattle.candidate_eval.proofs.Steps.{left-some}
 
 pub setting-kept : (old new : Context) (m : InCrate) → Grows old new → setting new m ≡ setting old m
 setting-kept old new m g =

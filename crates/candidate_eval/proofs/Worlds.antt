@@ -1,6 +1,5 @@
 use Rattle.std.proofs.Common.{◌≡◌, ℕ, zero, suc, Bool, true, false, List, [], ◌∷◌, ◌++◌, Option, Some, is_none, slice_get, refl, sym, ◌∙◌, ap, if◌then◌else◌}
 use Rattle.std.proofs.Math.Path.{fun_ext}
-use Rattle.candidate_ir.specs.declared.ir.heads.PartHead.{PartHead}
 use Rattle.candidate_ir.specs.declared.ir.heads.PartHead.TheVariants as P
 use Rattle.candidate_ir.specs.declared.ir.heads.PredHead.TheVariants as PH
 use Rattle.candidate_ir.specs.Trees.{Forest, none, tree, Tree, is_type, holds}
@@ -8,7 +7,7 @@ use Rattle.candidate_ir.specs.Worlds.{IsOf, Reference, World, Extends}
 use Rattle.candidate_ir.specs.declared.ir.heads.Head.{Head}
 use Rattle.candidate_ir.specs.declared.ir.heads.Head.TheVariants as H
 use Rattle.candidate_eval.specs.Orphan.{crate_passes, Checked, Answer, plain_knowability, Knowability, orphan_answer, local_or_fundamental, by_remote_check, Local, Proper, Remote, CrateTest, is_local, is_fundamental, by_bound, principal_passes, Item, Viewed, Empty, Step, Class, IsLocal, IsUncovered, class_of, view_class, owned_class, decides, decides_again, first_step, entries, uncovered, second, decided, judged, InCrate, crate_test, or_empty, walked, visit, plain}
-use Rattle.candidate_eval.proofs.Holds.{or_false, holds_parts}
+use Rattle.candidate_eval.proofs.Holds.{holds_parts}
 use Rattle.candidate_eval.proofs.Fitting.{is_missing, still_there, fits_there, trait_there}
 use Rattle.candidate_eval.proofs.Agree.{U, Walk, Steps}
 use Rattle.candidate_eval.proofs.Answers.{judged_if}

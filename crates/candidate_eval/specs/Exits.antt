@@ -1,5 +1,5 @@
 -- What breaks a walk off, and what taking an item does.
-use Rattle.std.specs.Prelude.{◌≡◌, ◌≢◌, Bool, true, false, Result, Ok, Err, List, [], ◌∷◌, ◌++◌}
+use Rattle.std.specs.Prelude.{◌≡◌, ◌≢◌, Bool, true, false, Result, Ok, Err, [], ◌∷◌, ◌++◌}
 use Rattle.candidate_ir.specs.declared.ir.kinds.Ty.{Ty}
 use Rattle.candidate_ir.specs.declared.ir.stop.Stop.TheVariants.{Memory, Unnameable}
 use Rattle.candidate_eval.specs.declared.coherence.NormalizeErr.{NormalizeErr}

@@ -6,12 +6,12 @@ use Rattle.candidate_ir.specs.declared.ir.kinds.TraitRef.{TraitRef}
 use Rattle.candidate_ir.specs.Context.{Context}
 use Rattle.candidate_ir.specs.Words.{args_forest}
 use Rattle.candidate_ir.specs.References.{IsReference}
-use Rattle.candidate_ir.specs.Trees.{Forest, none, tree, Tree, holds, is_type, is_alias, is_error}
+use Rattle.candidate_ir.specs.Trees.{Forest, none, tree, Tree, is_type}
 use Rattle.candidate_ir.specs.Worlds.{IsOf, World, Reference, Extends}
 use Rattle.candidate_eval.specs.declared.coherence.NormalizeErr.{NormalizeErr}
 use Rattle.candidate_eval.specs.Substitutions.{Universes, Overlap}
 use Rattle.candidate_eval.specs.Normalizer.{IsFunction}
-use Rattle.candidate_eval.specs.Orphan.{MayWrite, IsCovered, IsPlainForest, plain, plain_check, View, InCrate, Local, Proper, Compat, Remote, Passes, NonLocalInput, UncoveredInput, Entry, orphan_answer, Step, Viewed, is_general, remote_decision, names, plain_knowability, Knowable, Downstream, local_or_fundamental}
+use Rattle.candidate_eval.specs.Orphan.{MayWrite, IsCovered, plain, View, InCrate, Local, Proper, Compat, Remote, Passes, NonLocalInput, UncoveredInput, Entry, orphan_answer, Step, Viewed, is_general, remote_decision, names}
 
 -- Two crates that name nothing of each other write no headers that overlap.
 abbrev pub LinkSafety : Type 0

@@ -1,5 +1,5 @@
 -- What is asked of a normaliser, a closure that may change a context, and what is known of its calls.
-use Rattle.std.specs.Prelude.{◌≡◌, ℕ, ◌<◌, ◌^◌, List, Result, Ok, Err, IfOk}
+use Rattle.std.specs.Prelude.{◌≡◌, ◌<◌, ◌^◌, List, Result, Ok, Err, IfOk}
 use Rattle.std.specs.Fn.{Mut, Called}
 use Rattle.std.specs.Borrow.{MutBor}
 use Rattle.candidate_ir.specs.declared.ir.kinds.Ty.{Ty}
@@ -8,7 +8,7 @@ use Rattle.candidate_ir.specs.Context.{Context, Grows}
 use Rattle.candidate_ir.specs.Words.{IsTy, ty_tree}
 use Rattle.candidate_eval.specs.declared.coherence.NormalizeErr.{NormalizeErr}
 use Rattle.candidate_eval.specs.declared.coherence.NormalizeErr.TheVariants as N
-use Rattle.candidate_eval.specs.Orphan.{Fault, Refused, Stopped, Seen, Sees, Fails, Sight, View}
+use Rattle.candidate_eval.specs.Orphan.{Fault, Refused, Stopped, Seen, Sees, Fails, View}
 
 -- what an answer shows, in the context that the call leaves
 abbrev pub shown_fault : {E : Type 0} → NormalizeErr E → Fault E

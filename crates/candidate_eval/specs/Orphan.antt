@@ -1,5 +1,5 @@
-use Rattle.std.specs.Prelude.{◌≡◌, ℕ, suc, zero, Bool, true, false, Option, Some, None, List, [], ◌∷◌, ◌++◌, ◌==◌, ◌||◌, slice_get, if◌then◌else◌}
-use Rattle.candidate_ir.specs.Trees.{Forest, none, tree, Tree, is_type, is_alias, is_error, is_loose, holds, erase}
+use Rattle.std.specs.Prelude.{◌≡◌, ℕ, suc, zero, Bool, true, false, Option, Some, None, List, [], ◌∷◌, ◌++◌, ◌||◌, if◌then◌else◌}
+use Rattle.candidate_ir.specs.Trees.{Forest, none, tree, Tree, is_type, is_alias, is_error, is_loose, holds}
 use Rattle.candidate_ir.specs.Worlds.{World, Reference}
 pub use Rattle.candidate_ir.specs.Names.{CrateTest, passes_test, crate_passes, is_local, fundamental_flag, is_fundamental, names_here, names}
 use Rattle.candidate_ir.specs.declared.ir.stop.Stop.{Stop}
@@ -13,7 +13,6 @@ use Rattle.candidate_ir.specs.declared.ir.kinds.AliasKind.{AliasKind}
 use Rattle.candidate_ir.specs.declared.ir.heads.PartHead.TheVariants as P
 use Rattle.candidate_ir.specs.declared.ir.heads.PredHead.TheVariants as PH
 use Rattle.candidate_ir.specs.declared.ir.heads.Head.TheVariants as H
-use Rattle.candidate_ir.specs.declared.ir.heads.ConstHead.TheVariants as C
 use Rattle.candidate_ir.specs.declared.ir.heads.VariableSort.TheVariants as V
 use Rattle.candidate_ir.specs.declared.ir.kinds.AliasKind.TheVariants as AK
 

@@ -1,5 +1,5 @@
 -- A view as the walk takes it: an item of a class, or trees to walk.
-use Rattle.std.specs.Prelude.{◌≡◌, Bool, true, false, List}
+use Rattle.std.specs.Prelude.{◌≡◌, true, false, List}
 use Rattle.candidate_ir.specs.declared.ir.heads.Head.TheVariants as H
 use Rattle.candidate_ir.specs.declared.ir.kinds.Mutability.{Mutability}
 use Rattle.candidate_ir.specs.declared.ir.kinds.AdtId.{AdtId}

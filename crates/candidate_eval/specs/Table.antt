@@ -1,5 +1,5 @@
 -- The table of views without the views themselves: the class by head and children.
-use Rattle.std.specs.Prelude.{Bool, true, false, not, ◌&&◌, if◌then◌else◌}
+use Rattle.std.specs.Prelude.{Bool, true, false, not, ◌&&◌}
 use Rattle.candidate_ir.specs.Trees.{Forest, holds, is_loose}
 use Rattle.candidate_ir.specs.Worlds.{World}
 use Rattle.candidate_ir.specs.declared.ir.heads.Head.{Head}

@@ -1,4 +1,4 @@
-use Rattle.std.proofs.Common.{◌≡◌, ◌≢◌, refl, sym, ◌∙◌, ap, Ok, Err}
+use Rattle.std.proofs.Common.{◌≡◌, ap, Ok, Err}
 use Rattle.candidate_ir.specs.Trees.{Tree}
 use Rattle.candidate_ir.proofs.Kept.{args-kept, ty-kept}
 use Rattle.candidate_ir.specs.declared.ir.stop.Stop.TheVariants.{Memory}

@@ -1,4 +1,4 @@
-use Rattle.std.proofs.Common.{◌≡◌, ◌∙◌, ap}
+use Rattle.std.proofs.Common.{◌∙◌, ap}
 use Rattle.candidate_ir.specs.Context.{world}
 use Rattle.candidate_ir.specs.References.{reference_of}
 use Rattle.candidate_eval.specs.Answers.{knowledge_of}

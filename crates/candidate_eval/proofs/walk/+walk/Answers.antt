@@ -1,16 +1,16 @@
 use Rattle.std.proofs.Common.{◌≡◌, ◌-◌, suc, arith, refl, sym, ◌∙◌, ap, subst}
 use Rattle.std.proofs.lemmas.Result.{err_from_is_err_and}
-use Rattle.candidate_ir.specs.Context.{Context, Grows}
+use Rattle.candidate_ir.specs.Context.{Context}
 use Rattle.candidate_ir.specs.Trees.{count}
 use Rattle.candidate_ir.specs.Words.{IsArgs, ty_tree, args_forest}
 use Rattle.candidate_ir.proofs.Members.{skip, skip-all, count-members}
 use Rattle.candidate_ir.proofs.Kept.{grows-refl, grows-trans, args-kept}
 use Rattle.candidate_eval.proofs.Lists.{sofar-begin, sofar-end, type-at}
 use Rattle.candidate_eval.proofs.Loops.{index-below, next-skip, next-visit, next-found}
-use Rattle.candidate_eval.specs.Orphan.{View, view}
-use Rattle.candidate_eval.specs.Walk.{Setting, setting, Outcome}
+use Rattle.candidate_eval.specs.Orphan.{view}
+use Rattle.candidate_eval.specs.Walk.{setting}
 use Rattle.candidate_eval.proofs.Calls.{may-later, keeps-later, function-later}
-use Rattle.candidate_eval.proofs.Walking.{setting-kept, too-deep, types-kept, item-types, item-exit}
+use Rattle.candidate_eval.proofs.Walking.{too-deep, types-kept, item-types, item-exit}
 use Rattle.candidate_eval.proofs.Visits.{visited-nothing, visited-item, visited-target, visited-arguments, item-some, target-some, arguments-some}
 use Rattle.candidate_eval.proofs.walk.+walk.Goals as goal
 use Rattle.candidate_eval.proofs.walk.+walk.Goals.{visit_ty-in-Item, visit_ty-in-Target, visit_ty-in-Arguments, visit_args-in-Ty+in_ok-visit_ty, visit_args-in_default}
