@@ -1,7 +1,6 @@
 -- The children of a node, one after the other.
-use Rattle.std.proofs.Common.{◌≡◌, ℕ, zero, suc, ◌+◌, ◌<◌, ◌≤◌, max, List, [], ◌∷◌, length, drop, Some, None, slice_get, refl, sym, ◌∙◌, ap, subst, arith, add-one}
-use Rattle.std.proofs.Common.{◌++◌, take, get_or}
-use Rattle.std.proofs.lemmas.List.{take_more}
+use Rattle.std.proofs.Common.{◌≡◌, ℕ, zero, suc, ◌+◌, ◌<◌, ◌≤◌, max, List, [], ◌∷◌, length, drop, Some, slice_get, refl, sym, ◌∙◌, ap, arith, add-one}
+use Rattle.std.proofs.Common.{get_or}
 use Rattle.std.specs.Prelude.{map, Bool, true, false, ◌||◌}
 use Rattle.candidate_ir.specs.declared.ir.heads.Head.{Head}
 use Rattle.candidate_ir.specs.declared.ir.heads.ListHead.{ListHead}
@@ -9,8 +8,8 @@ use Rattle.candidate_ir.specs.declared.ir.heads.Head.TheVariants as H
 use Rattle.candidate_ir.specs.declared.ir.kinds.GenericArg.{GenericArg}
 use Rattle.candidate_ir.specs.declared.ir.kinds.Pred.{Pred}
 use Rattle.candidate_ir.specs.declared.ir.kinds.Var.{Var}
-use Rattle.candidate_ir.specs.Trees.{Kind, ArgumentsKind, is_list, is_list_kind, Tree, weight, heights, height, holds, tree_holds}
-use Rattle.candidate_ir.specs.Kinds.{Child, numbers, sorts, arg_child, arg_number, arg_kind}
+use Rattle.candidate_ir.specs.Trees.{ArgumentsKind, is_list, is_list_kind, Tree, weight, height, holds, tree_holds}
+use Rattle.candidate_ir.specs.Kinds.{Child, numbers, arg_child, arg_number}
 use Rattle.candidate_ir.specs.declared.ir.node.Node.{Node}
 use Rattle.candidate_ir.specs.Nodes.{kind_at, tree_at, trees_at, rows, tallest, any_holds, children_of, node_tree, head_of, pred_child, var_child, Fits}
 use Rattle.candidate_ir.specs.Table.{Below, IsNodeOf}

@@ -1,5 +1,5 @@
 -- The derived equality of heads decides.
-use Rattle.std.proofs.Common.{◌≡◌, ◌∙◌, ap, Bool, true, false, refl, rules, Option, ℕ}
+use Rattle.std.proofs.Common.{◌≡◌, ap, true, false, refl, rules, Option, ℕ}
 use Rattle.candidate_ir.specs.declared.ir.heads.Head.{Head}
 use Rattle.candidate_ir.specs.declared.ir.heads.Head.TheVariants as H
 use Rattle.candidate_ir.specs.declared.ir.heads.Builtin.{Builtin}

@@ -1,5 +1,5 @@
 -- Lists of trees that grow.
-use Rattle.std.proofs.Common.{◌≡◌, ◌≢◌, ℕ, zero, suc, ◌+◌, ◌<◌, ◌≤◌, List, [], ◌∷◌, ◌++◌, length, get_or, refl, sym, ◌∙◌, ap, subst, arith}
+use Rattle.std.proofs.Common.{◌≡◌, ℕ, zero, suc, ◌<◌, List, [], ◌∷◌, ◌++◌, length, refl, ◌∙◌, ap, arith}
 use Rattle.std.specs.Prelude.{map, IfOk, Bool, true, false, ◌&&◌}
 use Rattle.std.proofs.Common.{Result, Ok, Err}
 use Rattle.candidate_ir.specs.declared.ir.stop.Stop.{Stop}
@@ -17,7 +17,7 @@ use Rattle.candidate_ir.specs.declared.ir.kinds.Var.{Var}
 use Rattle.candidate_ir.specs.declared.ir.kinds.GenericArg.{GenericArg}
 use Rattle.candidate_ir.specs.declared.ir.kinds.GenericArg.TheVariants as A
 use Rattle.candidate_ir.specs.Trees.{Kind, NoKind, Tree, kind_of}
-use Rattle.candidate_ir.specs.Kinds.{Child, numbers, sorts, arg_child, ty_children, const_children, pred_children}
+use Rattle.candidate_ir.specs.Kinds.{numbers, sorts, arg_child, ty_children, const_children, pred_children}
 use Rattle.candidate_ir.specs.Nodes.{tree_at, kind_at, trees_at, kinds_at, error_tree, rows, node_tree, head_of, children_of, pred_child, var_child, Fits}
 use Rattle.candidate_ir.specs.declared.ir.node.Node.{Node}
 use Rattle.candidate_ir.specs.declared.ir.node.Node.TheVariants as N

@@ -1,11 +1,10 @@
 -- The members of a list, one after the other.
-use Rattle.std.proofs.Common.{◌≡◌, ℕ, zero, suc, ◌+◌, ◌<◌, List, [], ◌∷◌, length, get_or, Bool, true, false, refl, sym, ◌∙◌, ap, arith, add-one}
-use Rattle.std.specs.Prelude.{map}
+use Rattle.std.proofs.Common.{◌≡◌, ℕ, zero, suc, ◌+◌, ◌<◌, List, [], ◌∷◌, length, get_or, true, false, refl, sym, ◌∙◌, ap, arith, add-one}
 use Rattle.candidate_ir.specs.declared.ir.kinds.GenericArg.{GenericArg}
 use Rattle.candidate_ir.specs.declared.ir.kinds.GenericArg.TheVariants as A
-use Rattle.candidate_ir.specs.Kinds.{arg_number, arg_kind, arg_child, numbers}
-use Rattle.candidate_ir.specs.Nodes.{tree_at, kind_at, rows, trees_at}
-use Rattle.candidate_ir.specs.Trees.{Forest, none, tree, Tree, count, row, is_list_kind}
+use Rattle.candidate_ir.specs.Kinds.{arg_number, arg_kind}
+use Rattle.candidate_ir.specs.Nodes.{tree_at, kind_at}
+use Rattle.candidate_ir.specs.Trees.{Forest, none, tree, Tree, count, is_list_kind}
 use Rattle.candidate_ir.specs.Words.{ListFits, list_forest}
 use Rattle.candidate_ir.proofs.Lists.{there}
 use Rattle.candidate_ir.proofs.Rows.{row-single}

@@ -1,7 +1,7 @@
 -- References of a context: they stay such, and what is made of fitting trees fits.
-use Rattle.std.proofs.Common.{◌≡◌, ℕ, List, [], ◌∷◌, Bool, true, false, Some, refl, sym, ◌∙◌, ap, subst}
+use Rattle.std.proofs.Common.{◌≡◌, List, [], ◌∷◌, Bool, true, false, Some, sym, ap, subst}
 use Rattle.candidate_ir.specs.declared.ir.kinds.TraitRef.{TraitRef}
-use Rattle.candidate_ir.specs.Trees.{Forest, none, tree, Tree, is_list, put, row, join}
+use Rattle.candidate_ir.specs.Trees.{Forest, none, tree, Tree, is_list, put, join}
 use Rattle.candidate_ir.specs.Nodes.{rows, node_of}
 use Rattle.candidate_ir.specs.Worlds.{World, Reference, IsOf, Fits, child_kinds, kinds_of}
 use Rattle.candidate_ir.specs.Context.{Context, Grows, world}

@@ -1,6 +1,6 @@
 -- The children of a kind, one tree after the other.
-use Rattle.std.proofs.Common.{◌≡◌, ℕ, List, [], ◌∷◌, Bool, true, false, refl, sym, ◌∙◌, ap}
-use Rattle.candidate_ir.specs.Trees.{Kind, TypeKind, ArgumentsKind, RegionKind, Forest, none, tree, Tree, kind_of, is_list, is_list_kind, put, row, join}
+use Rattle.std.proofs.Common.{◌≡◌, ℕ, List, Bool, true, false, refl, sym, ◌∙◌, ap}
+use Rattle.candidate_ir.specs.Trees.{Kind, Forest, none, tree, Tree, kind_of, is_list, is_list_kind, put, row, join}
 use Rattle.candidate_ir.specs.Nodes.{tree_at, kind_at}
 use Rattle.candidate_ir.proofs.Lists.{there, below_kind, kind_of-tree_at}
 

@@ -1,33 +1,23 @@
 -- What a number's kind says of its node.
-use Rattle.std.proofs.Common.{◌≡◌, ℕ, ◌<◌, List, length, refl, sym, ◌∙◌, ap, true, false}
+use Rattle.std.proofs.Common.{◌≡◌, ℕ, ◌<◌, List, length, refl, sym, ◌∙◌, ap}
 use Rattle.std.proofs.Common.{Vec, Global}
-use Rattle.candidate_ir.specs.declared.ir.heads.Head.{Head}
 use Rattle.candidate_ir.specs.declared.ir.kinds.GenericArg.{GenericArg}
-use Rattle.candidate_ir.specs.declared.ir.kinds.GenericArg.TheVariants as A
 use Rattle.candidate_ir.specs.declared.ir.kinds.TyKind.{TyKind}
 use Rattle.candidate_ir.specs.declared.ir.kinds.TyKind.TheVariants as K
-use Rattle.candidate_ir.specs.declared.ir.kinds.InferTy.{InferTy}
 use Rattle.candidate_ir.specs.declared.ir.kinds.InferTy.TheVariants as I
 use Rattle.candidate_ir.specs.declared.ir.kinds.Pattern.TheVariants as Pat
 use Rattle.candidate_ir.specs.declared.ir.kinds.ConstKind.{ConstKind}
-use Rattle.candidate_ir.specs.declared.ir.kinds.RegionKind.{RegionKind}
 use Rattle.candidate_ir.specs.declared.ir.kinds.Pred.{Pred}
 use Rattle.candidate_ir.specs.declared.ir.kinds.Binder.{Binder}
 use Rattle.candidate_ir.specs.declared.ir.kinds.ExistentialPredicate.{ExistentialPredicate}
 use Rattle.candidate_ir.specs.declared.ir.kinds.ConstKind.TheVariants as CK
-use Rattle.candidate_ir.specs.declared.ir.heads.Head.TheVariants as H
-use Rattle.candidate_ir.specs.declared.ir.heads.PartHead.{PartHead}
-use Rattle.candidate_ir.specs.declared.ir.heads.PartHead.TheVariants as P
-use Rattle.candidate_ir.specs.declared.ir.heads.ListHead.TheVariants as L
-use Rattle.candidate_ir.specs.declared.ir.heads.VariableSort.{VariableSort}
-use Rattle.candidate_ir.specs.declared.ir.heads.VariableSort.TheVariants as V
-use Rattle.candidate_ir.specs.Trees.{Kind, TypeKind, ConstantKind, ArgumentsKind, PredicatesKind, PredicateKind, Tree, kind_of, sort_kind, part_kind, kind_weight, weight}
-use Rattle.candidate_ir.specs.Kinds.{arg_number, arg_kind, ty_head, const_head}
-use Rattle.candidate_ir.specs.Nodes.{kind_at, tree_at, node_tree, head_of}
+use Rattle.candidate_ir.specs.Trees.{TypeKind, ConstantKind, ArgumentsKind, PredicatesKind, PredicateKind, Tree, kind_of, kind_weight, weight}
+use Rattle.candidate_ir.specs.Kinds.{ty_head, const_head}
+use Rattle.candidate_ir.specs.Nodes.{kind_at, head_of}
 use Rattle.candidate_ir.specs.Table.{IsNodeOf}
 use Rattle.candidate_ir.specs.declared.ir.node.Node.{Node}
 use Rattle.candidate_ir.specs.declared.ir.node.Node.TheVariants as N
-use Rattle.candidate_ir.proofs.Lists.{there, below_kind, kind_of-tree_at}
+use Rattle.candidate_ir.proofs.Lists.{below_kind, kind_of-tree_at}
 
 pub node_kind : (ts : List Tree) (n : ℕ) (d : Node) → n < length ts → IsNodeOf ts n d → kind_at ts n ≡ kind_of (head_of d)
 node_kind ts n d h i = kind_of-tree_at ts n h ∙ ap (λ (t : Tree). kind_of t.head) i.tree

@@ -1,5 +1,5 @@
 -- A row tells which trees it was put together from: a node has one list at most, and what follows it is single.
-use Rattle.std.proofs.Common.{◌≡◌, ◌≢◌, ℕ, zero, suc, ◌+◌, ◌<◌, max, List, [], ◌∷◌, length, Option, Some, None, refl, sym, ◌∙◌, ap, arith, ◌⊎◌, inl, inr}
+use Rattle.std.proofs.Common.{◌≡◌, ℕ, zero, suc, ◌+◌, max, List, [], ◌∷◌, length, Option, Some, None, refl, sym, ◌∙◌, ap, arith, ◌⊎◌, inl, inr}
 use Rattle.std.specs.Prelude.{map, Bool, true, false, ◌||◌}
 use Rattle.candidate_ir.specs.declared.ir.kinds.TyKind.{TyKind}
 use Rattle.candidate_ir.specs.declared.ir.kinds.TyKind.TheVariants as K
@@ -24,9 +24,9 @@ use Rattle.candidate_ir.specs.declared.ir.heads.ListHead.{ListHead}
 use Rattle.candidate_ir.specs.declared.ir.heads.ListHead.TheVariants as L
 use Rattle.candidate_ir.specs.declared.ir.heads.VariableSort.{VariableSort}
 use Rattle.candidate_ir.specs.declared.ir.heads.VariableSort.TheVariants as V
-use Rattle.candidate_ir.specs.Trees.{Kind, ArgumentsKind, PredicatesKind, Forest, none, tree, Tree, kind_of, sort_kind, part_kind, is_list_kind, is_list, put, row, join, count, kind_weight, weight, heights, height, holds, tree_holds}
-use Rattle.candidate_ir.specs.Kinds.{Child, numbers, sorts, arg_child, ty_children, const_children, pred_children, pred_head}
-use Rattle.candidate_ir.specs.Nodes.{tree_at, kind_at, trees_at, kinds_at, rows, tallest, any_holds, node_tree, head_of, children_of, pred_child, var_child, Fits}
+use Rattle.candidate_ir.specs.Trees.{Kind, ArgumentsKind, PredicatesKind, Forest, none, tree, Tree, kind_of, sort_kind, part_kind, is_list_kind, is_list, put, row, join, count, kind_weight, heights, height, holds, tree_holds}
+use Rattle.candidate_ir.specs.Kinds.{Child, numbers, sorts, arg_child}
+use Rattle.candidate_ir.specs.Nodes.{trees_at, kinds_at, rows, tallest, any_holds, node_tree, head_of, children_of, pred_child, var_child, Fits}
 use Rattle.candidate_ir.specs.declared.ir.node.Node.{Node}
 use Rattle.candidate_ir.specs.declared.ir.node.Node.TheVariants as N
 use Rattle.candidate_ir.specs.Table.{Below}

@@ -1,5 +1,5 @@
 -- The root and the children of each kind.
-use Rattle.std.specs.Prelude.{◌≡◌, ℕ, List, [], ◌∷◌, map}
+use Rattle.std.specs.Prelude.{ℕ, List, [], ◌∷◌, map}
 use Rattle.candidate_ir.specs.declared.ir.kinds.TyKind.{TyKind}
 use Rattle.candidate_ir.specs.declared.ir.kinds.TyKind.TheVariants as K
 use Rattle.candidate_ir.specs.declared.ir.kinds.Pattern.TheVariants as Pat
@@ -22,7 +22,7 @@ use Rattle.candidate_ir.specs.declared.ir.heads.PredHead.{PredHead}
 use Rattle.candidate_ir.specs.declared.ir.heads.PredHead.TheVariants as PH
 use Rattle.candidate_ir.specs.declared.ir.heads.Variable.{Variable}
 use Rattle.candidate_ir.specs.declared.ir.heads.VariableSort.TheVariants as V
-use Rattle.candidate_ir.specs.Trees.{Kind, TypeKind, ConstantKind, RegionKind, PredicateKind, SignatureKind, BinderKind, VariableKind, ArgumentsKind, PredicatesKind}
+use Rattle.candidate_ir.specs.Trees.{Kind, TypeKind, ConstantKind, RegionKind, SignatureKind, BinderKind, ArgumentsKind, PredicatesKind}
 
 abbrev pub variable_of : InferTy → Variable
 variable_of (I.TyVar n) = record { sort = V.General; number = n }

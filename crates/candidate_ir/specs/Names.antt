@@ -1,5 +1,5 @@
 -- Which crate a definition belongs to, and which crates a reference names.
-use Rattle.std.specs.Prelude.{ℕ, Bool, true, false, Option, Some, None, slice_get, ◌==◌, ◌||◌}
+use Rattle.std.specs.Prelude.{ℕ, Bool, false, Option, Some, None, slice_get, ◌==◌, ◌||◌}
 use Rattle.candidate_ir.specs.declared.ir.kinds.TraitId.{TraitId}
 use Rattle.candidate_ir.specs.declared.ir.heads.Head.{Head}
 use Rattle.candidate_ir.specs.declared.ir.heads.Head.TheVariants as H

@@ -1,7 +1,7 @@
 -- The references of a context.
-use Rattle.std.specs.Prelude.{ℕ, List, [], ◌∷◌}
+use Rattle.std.specs.Prelude.{List, [], ◌∷◌}
 use Rattle.candidate_ir.specs.declared.ir.kinds.TraitRef.{TraitRef}
-use Rattle.candidate_ir.specs.Trees.{Forest, none, Tree, row}
+use Rattle.candidate_ir.specs.Trees.{none, Tree, row}
 use Rattle.candidate_ir.specs.Worlds.{World, Reference, Fits, IsOf}
 use Rattle.candidate_ir.specs.Context.{Context, world}
 use Rattle.candidate_ir.specs.Words.{args_forest}

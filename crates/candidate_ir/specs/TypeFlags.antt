@@ -1,5 +1,5 @@
 -- The flags of a tree as a set: the sum of the bits of the flags whose mark stands in it.
-use Rattle.std.specs.Prelude.{ℕ, Bool, ◌+◌, if◌then◌else◌}
+use Rattle.std.specs.Prelude.{ℕ, ◌+◌, if◌then◌else◌}
 use Rattle.candidate_ir.specs.declared.ir.flags.TypeFlags.{TypeFlags}
 use Rattle.candidate_ir.specs.declared.ir.heads.Flag.{Flag}
 use Rattle.candidate_ir.specs.declared.ir.heads.Flag.TheVariants as F

@@ -1,4 +1,4 @@
-use Rattle.std.proofs.Common.{◌≡◌, ap, sym, ◌∙◌}
+use Rattle.std.proofs.Common.{ap, sym, ◌∙◌}
 use Rattle.candidate_ir.specs.declared.ir.heads.Head.{Head}
 use Rattle.candidate_ir.specs.contracts.ir.heads.HeadPartialEq.TheImpl.{eq-value}
 use Rattle.candidate_ir.proofs.Equal.{head_is, head_itself}

@@ -1,4 +1,4 @@
-use Rattle.std.proofs.Common.{◌≡◌, ◌<◌, ◌∙◌, length, ap, subst, Some, slice_get, sym, arith}
+use Rattle.std.proofs.Common.{◌<◌, ◌∙◌, length, ap, subst, Some, slice_get, sym, arith}
 use Rattle.candidate_ir.specs.Kinds.{numbers}
 use Rattle.candidate_ir.specs.Nodes.{children_of}
 use Rattle.candidate_ir.specs.declared.ir.node.Node.{Node}

@@ -1,4 +1,4 @@
-use Rattle.std.proofs.Common.{arith, sym, ◌∙◌, ap, refl}
+use Rattle.std.proofs.Common.{arith, sym, ◌∙◌, ap}
 use Rattle.candidate_ir.specs.Flags.{mark}
 use Rattle.candidate_ir.proofs.Children.{mark-list}
 use Rattle.candidate_ir.specs.Kinds.{numbers}

@@ -1,6 +1,6 @@
-use Rattle.std.proofs.Common.{◌≡◌, ◌≤◌, arith, rules, sym, ◌∙◌, ap, refl, length}
+use Rattle.std.proofs.Common.{◌≡◌, arith, rules, sym, ◌∙◌}
 use Rattle.candidate_ir.specs.Kinds.{numbers}
-use Rattle.candidate_ir.specs.Nodes.{tree_at, trees_at, children_of, node_tree, head_of}
+use Rattle.candidate_ir.specs.Nodes.{trees_at, children_of, node_tree}
 use Rattle.candidate_ir.proofs.Splits.{root-agree}
 use Rattle.candidate_ir.proofs.Children.{Below-get, pair-differs, pair-on, walk_end}
 use Rattle.candidate_ir.proofs.ir.nodes.Nodes.+same_number.Goals as goal

@@ -1,4 +1,4 @@
-use Rattle.std.proofs.Common.{◌≡◌, ◌≤◌, max, arith, refl}
+use Rattle.std.proofs.Common.{arith}
 use Rattle.candidate_ir.specs.Kinds.{numbers}
 use Rattle.candidate_ir.specs.Nodes.{children_of}
 use Rattle.candidate_ir.proofs.Lists.{Fits-below}

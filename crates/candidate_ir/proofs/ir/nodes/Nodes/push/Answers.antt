@@ -1,5 +1,5 @@
 use Rattle.std.proofs.Common.{arith}
-use Rattle.candidate_ir.proofs.Tables.{Pushed, pushed, table_length}
+use Rattle.candidate_ir.proofs.Tables.{pushed, table_length}
 use Rattle.candidate_ir.proofs.ir.nodes.Nodes.push.Goals as goal
 
 pub invariant_of-self-2 : goal.invariant_of-self-2
