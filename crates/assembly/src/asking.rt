@@ -1,9 +1,12 @@
 //! The commands that ask.
 
 ghost use Rattle.std.specs.Prelude.{◌≡◌, false, All, IfOk, IfSome};
-ghost use Rattle.candidate_ir.specs.Trees.{holds, is_param};
+ghost use Rattle.candidate_ir.specs.Trees.{holds, is_param, is_alias};
+ghost use Rattle.candidate_ir.specs.Context.{world};
 ghost use Rattle.candidate_ir.specs.Words.{IsTy, IsArgs, args_forest};
+ghost use Rattle.candidate_ir.specs.References.{reference_of, IsReference};
 ghost use Rattle.candidate_eval.specs.Answers.{AreAnswerTypes, AreErrorTypes};
+ghost use Rattle.candidate_eval.specs.Laws.{NoUnnamedHeader};
 
 use crate::faults::Fault;
 use crate::names::Names;
@@ -81,13 +84,22 @@ impl Asking {
 
     fn knowable<'a>(&mut self, words: Words<'a>) -> Result<Result<(), Stop>, Fault<'a>> {
         let trait_ref = self.last_trait_ref(words)?;
-        let known = trait_ref_is_knowable(
+        let known = self.known(trait_ref);
+        Ok(self.print_known(known))
+    }
+
+    /// Whether all impls of the reference are known, where no type is normalised.
+    fn known(&mut self, trait_ref: TraitRef) -> Result<Result<(), Conflict>, OrphanStop<Infallible>>
+        requires args { IsArgs self.old.scope.maker.cx.trees trait_ref.args }
+        requires no_param { holds is_param (args_forest self.old.scope.maker.cx.trees trait_ref.args) ≡ false }
+        ensures no_unnamed_header { IsReference self.old.scope.maker.cx trait_ref → holds is_alias (args_forest self.old.scope.maker.cx.trees trait_ref.args) ≡ false → result ≡ Ok (Ok tt) → NoUnnamedHeader (world self.old.scope.maker.cx) (reference_of self.old.scope.maker.cx.trees trait_ref) }
+    {
+        trait_ref_is_knowable(
             self.scope.alloc,
             &mut self.scope.maker,
             trait_ref,
             |_, ty| -> Result<Ty, NormalizeErr<Infallible>> { Ok(ty) },
-        );
-        Ok(self.print_known(known))
+        )
     }
 
     fn print_known(

@@ -16,6 +16,9 @@ use Rattle.candidate_ir.specs.Nodes.{tree_at, kind_at, trees_at, kinds_at, node_
 use Rattle.candidate_ir.specs.Table.{trees_after, AreRows, Below}
 use Rattle.candidate_ir.specs.Words.{IsVar, IsPred, PredFits, BoundsFit, var_tree, pred_tree, var_kind_tree, pred_kind_tree, bounds_forest, IsMkStop, IsMkListStop}
 use Rattle.candidate_ir.proofs.Lists.{all_there, there-preds, there-vars, Below-there, kinds_at-append, trees_at-append, Fits-append, node_tree-append}
+use Rattle.candidate_ir.specs.Worlds.{World}
+use Rattle.candidate_ir.specs.References.{Takes, AllTake, AllFit}
+use Rattle.candidate_ir.proofs.References.{take-at}
 use Rattle.candidate_ir.proofs.Splits.{rows-height}
 use Rattle.candidate_ir.proofs.Tables.{trees_after-extends}
 
@@ -49,21 +52,22 @@ extends-trans a b c g h = record {
   is = h.is ∙ (ap (λ (ts : List Tree). ts ++ h.added) g.is ∙ append_assoc a g.added h.added);
 }
 
--- a table that nodes were added to: their numbers, with what they stand for, and their trees
-pub record Made (old new : List Tree) (cs : List Child) (ts : List Tree) : Type 0 where
+-- a table that nodes were added to: their numbers, with what they stand for, and their trees, which fit where P says so
+pub record Made (P : World → Type 0) (old new : List Tree) (cs : List Child) (ts : List Tree) : Type 0 where
   pub kept : Extends old new
+  pub fit : (w : World) → P w → AllFit w old → AllFit w new
   pub count : length new ≡ length old + length cs
   pub fits : kinds_at new (numbers cs) ≡ sorts cs
   pub trees : trees_at new (numbers cs) ≡ ts
 
-pub made-none : (ts : List Tree) → Made ts ts [] []
-made-none ts = record { kept = extends-refl ts; count = omega arith; fits = refl; trees = refl }
+pub made-none : (P : World → Type 0) (ts : List Tree) → Made P ts ts [] []
+made-none P ts = record { kept = extends-refl ts; fit = λ w p f. f; count = omega arith; fits = refl; trees = refl }
 
-pub made-one : (old now new : List Tree) (cs : List Child) (ts : List Tree) (n : ℕ) (k : Kind) (t : Tree)
-    → Made old now cs ts → all_there (sorts cs) ≡ true
-    → Extends now new → length new ≡ length now + 1 → kind_at new n ≡ k → tree_at new n ≡ t
-    → Made old new (cs ++ (n, k) ∷ []) (ts ++ t ∷ [])
-made-one old now new cs ts n k t m p e l f g =
+pub made-one : (P : World → Type 0) (old now new : List Tree) (cs : List Child) (ts : List Tree) (n : ℕ) (k : Kind) (t : Tree)
+    → Made P old now cs ts → all_there (sorts cs) ≡ true
+    → Extends now new → ((w : World) → P w → AllFit w now → AllFit w new) → length new ≡ length now + 1 → kind_at new n ≡ k → tree_at new n ≡ t
+    → Made P old new (cs ++ (n, k) ∷ []) (ts ++ t ∷ [])
+made-one P old now new cs ts n k t m p e j l f g =
     let ks = numbers cs in
     let c : Child = (n, k) in
     let b : Below (length now) ks = Below-there now ks (sorts cs) m.fits p in
@@ -75,6 +79,7 @@ made-one old now new cs ts n k t m p e l f g =
     let all : sorts (cs ++ c ∷ []) ≡ sorts cs ++ k ∷ [] = map_push (λ (x : Child). x.1) cs c in
     record {
       kept = extends-trans old now new m.kept e;
+      fit = λ w q a. j w q (m.fit w q a);
       count = omega (arith, m.count, length-append cs (c ∷ []));
       fits = ap (kinds_at new) nums ∙ (last-kind ∙ cc);
       trees = ap (trees_at new) nums ∙ (last-tree ∙ cc);
@@ -85,22 +90,30 @@ tallest-at f [] i d h = absurd (omega arith)
 tallest-at f (x ∷ xs) zero d h = omega arith
 tallest-at f (x ∷ xs) (suc i) d h = omega (arith, tallest-at f xs i d (omega arith))
 
-made-length : (old new : List Tree) (cs : List Child) (ts : List Tree) → Made old new cs ts → length cs ≡ length ts
-made-length old new cs ts m =
+made-length : (P : World → Type 0) (old new : List Tree) (cs : List Child) (ts : List Tree) → Made P old new cs ts → length cs ≡ length ts
+made-length P old new cs ts m =
     sym (length-map cs (λ (x : Child). x.0)) ∙ (sym (length-map (numbers cs) (tree_at new)) ∙ ap length m.trees)
+
+-- of every world
+abbrev pub Always : World → Type 0
+Always w = Unit {0}
+
+-- of the worlds in which each bound takes its children
+abbrev pub BoundsTake : List Tree → List (Binder ExistentialPredicate) → World → Type 0
+BoundsTake ts bs w = AllTake w (map (pred_kind_tree ts) bs)
 
 -- one more variable
 pub made-var : (old now new : List Tree) (vs us : List Var) (ks : List VarKind) (i : ℕ) (d : VarKind) (v : Var)
-    → Made old now (map var_child vs) (map var_kind_tree (take i ks)) → i < length ks
-    → Extends now new → length new ≡ length now + 1 → IsVar new v → var_tree new v ≡ var_kind_tree (get_or ks i d)
+    → Made Always old now (map var_child vs) (map var_kind_tree (take i ks)) → i < length ks
+    → Extends now new → ((w : World) → AllFit w now → AllFit w new) → length new ≡ length now + 1 → IsVar new v → var_tree new v ≡ var_kind_tree (get_or ks i d)
     → us ≡ vs ++ v ∷ []
-    → Made old new (map var_child us) (map var_kind_tree (take (i + 1) ks))
-made-var old now new vs us ks i d v m h e l f g u =
-    let P : List Child → Type 0 = λ cs. Made old new cs (map var_kind_tree (take (i + 1) ks)) in
-    let Q : List Tree → Type 0 = λ ts. Made old new (map var_child vs ++ var_child v ∷ []) ts in
+    → Made Always old new (map var_child us) (map var_kind_tree (take (i + 1) ks))
+made-var old now new vs us ks i d v m h e j l f g u =
+    let P : List Child → Type 0 = λ cs. Made Always old new cs (map var_kind_tree (take (i + 1) ks)) in
+    let Q : List Tree → Type 0 = λ ts. Made Always old new (map var_child vs ++ var_child v ∷ []) ts in
     subst P (sym (ap (map var_child) u ∙ map_push var_child vs v))
     (subst Q (sym (map_more var_kind_tree ks i d h))
-    (made-one old now new (map var_child vs) (map var_kind_tree (take i ks)) v.0 VariableKind (var_kind_tree (get_or ks i d)) m (there-vars vs) e l f g))
+    (made-one Always old now new (map var_child vs) (map var_kind_tree (take i ks)) v.0 VariableKind (var_kind_tree (get_or ks i d)) m (there-vars vs) e (λ w q a. j w a) l f g))
 
 -- a bound that fits a table fits the grown one, with its tree
 pub pred-fits-grown : (old new : List Tree) (b : Binder ExistentialPredicate) → Extends old new → PredFits old b → PredFits new b
@@ -114,21 +127,23 @@ pred-tree-grown old new b e f =
 
 -- one more bound
 pub made-pred : (old now new : List Tree) (ps us : List Pred) (bs : List (Binder ExistentialPredicate)) (i : ℕ) (d : Binder ExistentialPredicate) (p : Pred)
-    → Made old now (map pred_child ps) (map (pred_kind_tree old) (take i bs)) → BoundsFit old bs → i < length bs
-    → Extends now new → length new ≡ length now + 1 → IsPred new p → pred_tree new p ≡ pred_kind_tree now (get_or bs i d)
+    → Made (BoundsTake old bs) old now (map pred_child ps) (map (pred_kind_tree old) (take i bs)) → BoundsFit old bs → i < length bs
+    → Extends now new → ((w : World) → AllFit w now → Takes w (pred_kind_tree now (get_or bs i d)) → AllFit w new) → length new ≡ length now + 1 → IsPred new p → pred_tree new p ≡ pred_kind_tree now (get_or bs i d)
     → us ≡ ps ++ p ∷ []
-    → Made old new (map pred_child us) (map (pred_kind_tree old) (take (i + 1) bs))
-made-pred old now new ps us bs i d p m q h e l f g u =
-    let P : List Child → Type 0 = λ cs. Made old new cs (map (pred_kind_tree old) (take (i + 1) bs)) in
-    let Q : List Tree → Type 0 = λ ts. Made old new (map pred_child ps ++ pred_child p ∷ []) ts in
+    → Made (BoundsTake old bs) old new (map pred_child us) (map (pred_kind_tree old) (take (i + 1) bs))
+made-pred old now new ps us bs i d p m q h e j l f g u =
+    let P : List Child → Type 0 = λ cs. Made (BoundsTake old bs) old new cs (map (pred_kind_tree old) (take (i + 1) bs)) in
+    let Q : List Tree → Type 0 = λ ts. Made (BoundsTake old bs) old new (map pred_child ps ++ pred_child p ∷ []) ts in
+    let same = pred-tree-grown old now (get_or bs i d) m.kept (q i d h) in
     let t = g ∙ pred-tree-grown old now (get_or bs i d) m.kept (q i d h) in
     subst P (sym (ap (map pred_child) u ∙ map_push pred_child ps p))
     (subst Q (sym (map_more (pred_kind_tree old) bs i d h))
-    (made-one old now new (map pred_child ps) (map (pred_kind_tree old) (take i bs)) p.0 PredicateKind (pred_kind_tree old (get_or bs i d)) m (there-preds ps) e l f t))
+    (made-one (BoundsTake old bs) old now new (map pred_child ps) (map (pred_kind_tree old) (take i bs)) p.0 PredicateKind (pred_kind_tree old (get_or bs i d)) m (there-preds ps) e
+    (λ w r a. j w a (subst (Takes w) (sym same) (take-at w (pred_kind_tree old) bs i d r h))) l f t))
 
 -- why a bound was not added
 pub pred-stop : (old now : List Tree) (ps : List Pred) (bs : List (Binder ExistentialPredicate)) (i : ℕ) (d : Binder ExistentialPredicate) (s : Stop)
-    → Made old now (map pred_child ps) (map (pred_kind_tree old) (take i bs)) → BoundsFit old bs → i < length bs
+    → Made (BoundsTake old bs) old now (map pred_child ps) (map (pred_kind_tree old) (take i bs)) → BoundsFit old bs → i < length bs
     → IsMkStop now (height (pred_kind_tree now (get_or bs i d))) s
     → IsMkListStop old (length bs + 1) (heights (bounds_forest old bs)) s
 pred-stop old now ps bs i d s m q h (inl x) = inl x
@@ -137,7 +152,7 @@ pred-stop old now ps bs i d s m q h (inr x) = inr (x.0, at x.1)
     at : (length now ≡ 4294967295) ⊎ (1024 < height (pred_kind_tree now (get_or bs i d)))
         → (4294967295 < length old + (length bs + 1)) ⊎ (1024 < heights (bounds_forest old bs))
     at (inl e) =
-        let n = made-length old now (map pred_child ps) (map (pred_kind_tree old) (take i bs)) m in
+        let n = made-length (BoundsTake old bs) old now (map pred_child ps) (map (pred_kind_tree old) (take i bs)) m in
         let k = length-map (take i bs) (pred_kind_tree old) in
         let j : length (take i bs) ≡ i = length-take-le i bs (omega arith) in
         inl (omega (arith, m.count, n, k, j, e))

@@ -1,8 +1,8 @@
--- The references of a context.
-use Rattle.std.specs.Prelude.{List, [], ◌∷◌}
+-- The references of a context, and what it is that its trees fit the declarations.
+use Rattle.std.specs.Prelude.{◌≡◌, ℕ, false, Some, List, [], ◌∷◌}
 use Rattle.candidate_ir.specs.declared.ir.kinds.TraitRef.{TraitRef}
-use Rattle.candidate_ir.specs.Trees.{none, Tree, row}
-use Rattle.candidate_ir.specs.Worlds.{World, Reference, Fits, IsOf}
+use Rattle.candidate_ir.specs.Trees.{Forest, none, Tree, row, is_list}
+use Rattle.candidate_ir.specs.Worlds.{World, Reference, Fits, IsOf, child_kinds, kinds_of}
 use Rattle.candidate_ir.specs.Context.{Context, world}
 use Rattle.candidate_ir.specs.Words.{args_forest}
 
@@ -14,11 +14,22 @@ reference_of ts r = record { trait = r.def_id.0; arguments = args_forest ts r.ar
 abbrev pub IsReference : Context → TraitRef → Type 0
 IsReference c r = IsOf (world c) (reference_of c.trees r)
 
+-- The tree's children are those that its head takes; a list takes any.
+abbrev pub Takes : World → Tree → Type 0
+Takes w t = is_list t.head ≡ false → child_kinds w t.head (kinds_of t.children) ≡ Some (kinds_of t.children)
+
+abbrev pub AllTake : World → List Tree → Type 0
+AllTake w [] = Unit {0}
+AllTake w (t ∷ ts) = Takes w t × AllTake w ts
+
 -- The tree fits the world; of a list, its members do.
 abbrev pub FitsAmong : World → Tree → Type 0
 FitsAmong w t = Fits w (row t none)
 
--- Each of the trees does.
 abbrev pub AllFit : World → List Tree → Type 0
 AllFit w [] = Unit {0}
 AllFit w (t ∷ ts) = FitsAmong w t × AllFit w ts
+
+-- All trees of the context fit what it declares.
+abbrev pub IsWellFormed : Context → Type 0
+IsWellFormed c = AllFit (world c) c.trees

@@ -1,9 +1,10 @@
 //! The context: declarations, and the table in which types are made.
 
-ghost use Rattle.std.specs.Prelude.{◌≡◌, ◌+◌, ◌<◌, ◌↔◌, IsTrue, length, IfOk, IfErr, Some, None};
+ghost use Rattle.std.specs.Prelude.{◌≡◌, ◌+◌, ◌<◌, ◌↔◌, IsTrue, length, map, IfOk, IfErr, Some, None};
 ghost use Rattle.candidate_ir.specs.Context.{world, Grows};
 ghost use Rattle.candidate_ir.specs.Trees.{height, heights, tree_holds, holds, is_param};
 ghost use Rattle.candidate_ir.specs.Flags.{mark};
+ghost use Rattle.candidate_ir.specs.References.{IsWellFormed, Takes, AllTake};
 ghost use Rattle.candidate_ir.specs.TypeFlags.{type_flags};
 ghost use Rattle.candidate_ir.specs.Names.{is_local, is_fundamental, principal_of};
 ghost use Rattle.candidate_ir.specs.Words.{IsTy, IsConst, IsRegion, IsArgs, IsPreds, IsPred, IsVars, ty_tree, const_tree, region_tree, args_forest, preds_forest, pred_tree, vars_tree, KindFits, ConstKindFits, ListFits, PredListFits, PredFits, BoundsFit, AtMostOnePrincipal, kind_tree, const_kind_tree, region_kind_tree, list_forest, pred_list_forest, pred_kind_tree, bounds_forest, binder_tree, IsMkStop, IsMkListStop};
@@ -123,6 +124,7 @@ impl Cx {
     pub fn mk_ty(&mut self, kind: TyKind) -> Result<Ty, Stop>
         requires { KindFits self.old.trees kind }
         ensures kept { Grows self.old self.new }
+        ensures well_formed { IsWellFormed self.old → Takes (world self.old) (kind_tree self.old.trees kind) → IsWellFormed self.new }
         ensures sort { IfOk result (λ t. IsTy self.new.trees t) }
         ensures tree { IfOk result (λ t. ty_tree self.new.trees t ≡ kind_tree self.old.trees kind) }
         ensures unchanged { IfErr result (λ _. self.new ≡ self.old) }
@@ -135,6 +137,7 @@ impl Cx {
     pub fn mk_const(&mut self, kind: ConstKind) -> Result<Const, Stop>
         requires { ConstKindFits self.old.trees kind }
         ensures kept { Grows self.old self.new }
+        ensures well_formed { IsWellFormed self.old → Takes (world self.old) (const_kind_tree self.old.trees kind) → IsWellFormed self.new }
         ensures sort { IfOk result (λ c. IsConst self.new.trees c) }
         ensures tree { IfOk result (λ c. const_tree self.new.trees c ≡ const_kind_tree self.old.trees kind) }
         ensures unchanged { IfErr result (λ _. self.new ≡ self.old) }
@@ -146,6 +149,7 @@ impl Cx {
     /// The region of that kind; it stops as `mk_ty` does.
     pub fn mk_region(&mut self, kind: RegionKind) -> Result<Region, Stop>
         ensures kept { Grows self.old self.new }
+        ensures well_formed { IsWellFormed self.old → IsWellFormed self.new }
         ensures sort { IfOk result (λ r. IsRegion self.new.trees r) }
         ensures tree { IfOk result (λ r. region_tree self.new.trees r ≡ region_kind_tree kind) }
         ensures unchanged { IfErr result (λ _. self.new ≡ self.old) }
@@ -158,6 +162,7 @@ impl Cx {
     pub fn mk_args(&mut self, list: &[GenericArg]) -> Result<Args, Stop>
         requires { ListFits self.old.trees list.now }
         ensures kept { Grows self.old self.new }
+        ensures well_formed { IsWellFormed self.old → IsWellFormed self.new }
         ensures sort { IfOk result (λ a. IsArgs self.new.trees a) }
         ensures tree { IfOk result (λ a. args_forest self.new.trees a ≡ list_forest self.old.trees list.now) }
         ensures unchanged { IfErr result (λ _. self.new ≡ self.old) }
@@ -171,6 +176,7 @@ impl Cx {
     /// `Stop::NodesFull` comes where fewer numbers are left; else it stops as `mk_ty` does.
     pub fn mk_vars(&mut self, kinds: &[VarKind]) -> Result<Vars, Stop>
         ensures kept { Grows self.old self.new }
+        ensures well_formed { IsWellFormed self.old → IsWellFormed self.new }
         ensures sort { IfOk result (λ v. IsVars self.new.trees v) }
         ensures tree { IfOk result (λ v. vars_tree self.new.trees v ≡ binder_tree kinds.now) }
         ensures unchanged { IfErr result (λ _. self.new ≡ self.old) }
@@ -185,6 +191,7 @@ impl Cx {
         requires fit { BoundsFit self.old.trees bounds.now }
         requires principal { AtMostOnePrincipal bounds.now }
         ensures kept { Grows self.old self.new }
+        ensures well_formed { IsWellFormed self.old → AllTake (world self.old) (map (pred_kind_tree self.old.trees) bounds.now) → IsWellFormed self.new }
         ensures sort { IfOk result (λ p. IsPreds self.new.trees p) }
         ensures tree { IfOk result (λ p. preds_forest self.new.trees p ≡ bounds_forest self.old.trees bounds.now) }
         ensures unchanged { IfErr result (λ _. self.new ≡ self.old) }

@@ -1,9 +1,10 @@
 //! What makes nodes.
 
-ghost use Rattle.std.specs.Prelude.{◌≡◌, ◌+◌, length, IfOk, IfErr};
-ghost use Rattle.candidate_ir.specs.Context.{Context, Grows};
+ghost use Rattle.std.specs.Prelude.{◌≡◌, ◌+◌, length, map, IfOk, IfErr};
+ghost use Rattle.candidate_ir.specs.Context.{Context, Grows, world};
+ghost use Rattle.candidate_ir.specs.References.{IsWellFormed, Takes, AllTake};
 ghost use Rattle.candidate_ir.specs.Trees.{height, heights};
-ghost use Rattle.candidate_ir.specs.Words.{IsTy, IsConst, IsRegion, IsArgs, IsPreds, IsVars, ty_tree, const_tree, region_tree, args_forest, preds_forest, vars_tree, KindFits, ConstKindFits, ListFits, BoundsFit, AtMostOnePrincipal, kind_tree, const_kind_tree, region_kind_tree, list_forest, bounds_forest, binder_tree, IsMkStop, IsMkListStop};
+ghost use Rattle.candidate_ir.specs.Words.{IsTy, IsConst, IsRegion, IsArgs, IsPreds, IsVars, ty_tree, const_tree, region_tree, args_forest, preds_forest, vars_tree, KindFits, ConstKindFits, ListFits, BoundsFit, AtMostOnePrincipal, kind_tree, const_kind_tree, region_kind_tree, pred_kind_tree, list_forest, bounds_forest, binder_tree, IsMkStop, IsMkListStop};
 
 use crate::decl::context::Cx;
 use crate::ir::kinds::{
@@ -32,6 +33,7 @@ pub trait Make {
     fn mk_ty(&mut self, kind: TyKind) -> Result<Ty, Stop>
         requires { KindFits (context self.old).trees kind }
         ensures kept { Grows (context self.old) (context self.new) }
+        ensures well_formed { IsWellFormed (context self.old) → Takes (world (context self.old)) (kind_tree (context self.old).trees kind) → IsWellFormed (context self.new) }
         ensures rest { rest self.new ≡ rest self.old }
         ensures sort { IfOk result (λ t. IsTy (context self.new).trees t) }
         ensures tree { IfOk result (λ t. ty_tree (context self.new).trees t ≡ kind_tree (context self.old).trees kind) }
@@ -42,6 +44,7 @@ pub trait Make {
     fn mk_const(&mut self, kind: ConstKind) -> Result<Const, Stop>
         requires { ConstKindFits (context self.old).trees kind }
         ensures kept { Grows (context self.old) (context self.new) }
+        ensures well_formed { IsWellFormed (context self.old) → Takes (world (context self.old)) (const_kind_tree (context self.old).trees kind) → IsWellFormed (context self.new) }
         ensures rest { rest self.new ≡ rest self.old }
         ensures sort { IfOk result (λ c. IsConst (context self.new).trees c) }
         ensures tree { IfOk result (λ c. const_tree (context self.new).trees c ≡ const_kind_tree (context self.old).trees kind) }
@@ -51,6 +54,7 @@ pub trait Make {
     /// The region of that kind.
     fn mk_region(&mut self, kind: RegionKind) -> Result<Region, Stop>
         ensures kept { Grows (context self.old) (context self.new) }
+        ensures well_formed { IsWellFormed (context self.old) → IsWellFormed (context self.new) }
         ensures rest { rest self.new ≡ rest self.old }
         ensures sort { IfOk result (λ r. IsRegion (context self.new).trees r) }
         ensures tree { IfOk result (λ r. region_tree (context self.new).trees r ≡ region_kind_tree kind) }
@@ -61,6 +65,7 @@ pub trait Make {
     fn mk_args(&mut self, list: &[GenericArg]) -> Result<Args, Stop>
         requires { ListFits (context self.old).trees list.now }
         ensures kept { Grows (context self.old) (context self.new) }
+        ensures well_formed { IsWellFormed (context self.old) → IsWellFormed (context self.new) }
         ensures rest { rest self.new ≡ rest self.old }
         ensures sort { IfOk result (λ a. IsArgs (context self.new).trees a) }
         ensures tree { IfOk result (λ a. args_forest (context self.new).trees a ≡ list_forest (context self.old).trees list.now) }
@@ -70,6 +75,7 @@ pub trait Make {
     /// The variables of a binder, by their kinds.
     fn mk_vars(&mut self, kinds: &[VarKind]) -> Result<Vars, Stop>
         ensures kept { Grows (context self.old) (context self.new) }
+        ensures well_formed { IsWellFormed (context self.old) → IsWellFormed (context self.new) }
         ensures rest { rest self.new ≡ rest self.old }
         ensures sort { IfOk result (λ v. IsVars (context self.new).trees v) }
         ensures tree { IfOk result (λ v. vars_tree (context self.new).trees v ≡ binder_tree kinds.now) }
@@ -81,6 +87,7 @@ pub trait Make {
         requires fit { BoundsFit (context self.old).trees bounds.now }
         requires principal { AtMostOnePrincipal bounds.now }
         ensures kept { Grows (context self.old) (context self.new) }
+        ensures well_formed { IsWellFormed (context self.old) → AllTake (world (context self.old)) (map (pred_kind_tree (context self.old).trees) bounds.now) → IsWellFormed (context self.new) }
         ensures rest { rest self.new ≡ rest self.old }
         ensures sort { IfOk result (λ p. IsPreds (context self.new).trees p) }
         ensures tree { IfOk result (λ p. preds_forest (context self.new).trees p ≡ bounds_forest (context self.old).trees bounds.now) }

@@ -1,11 +1,13 @@
 //! The table of nodes, which contracts see as the list of their trees.
 
-ghost use Rattle.std.specs.Prelude.{◌≡◌, ◌++◌, ◌∷◌, [], ◌+◌, ◌<◌, ◌≤◌, length, take, IfOk, IfErr, IsTrue, ◌↔◌};
+ghost use Rattle.std.specs.Prelude.{◌≡◌, ◌++◌, ◌∷◌, [], ◌+◌, ◌<◌, ◌≤◌, length, take, map, IfOk, IfErr, IsTrue, ◌↔◌};
 ghost use Rattle.candidate_ir.specs.Trees.{height, heights, holds, tree_holds, kind_of};
 ghost use Rattle.candidate_ir.specs.Flags.{mark};
 ghost use Rattle.candidate_ir.specs.Names.{principal_of};
 ghost use Rattle.candidate_ir.specs.Nodes.{tree_at, kind_at, node_tree, head_of, Fits, Extends};
 ghost use Rattle.candidate_ir.specs.Table.{IsNodeOf, IsRow};
+ghost use Rattle.candidate_ir.specs.Worlds.{World};
+ghost use Rattle.candidate_ir.specs.References.{Takes, AllTake, AllFit};
 ghost use Rattle.candidate_ir.specs.Words.{IsTy, IsConst, IsRegion, IsArgs, IsPreds, IsPred, IsSig, IsVars, IsVar, ty_tree, const_tree, region_tree, args_forest, preds_forest, pred_tree, sig_tree, vars_tree, var_tree, KindFits, ConstKindFits, ListFits, PredListFits, VarListFits, PredFits, SigFits, kind_tree, const_kind_tree, region_kind_tree, list_forest, pred_list_forest, pred_kind_tree, sig_kind_tree, vars_kind_tree, var_kind_tree, BoundsFit, bounds_forest, binder_tree, IsMkStop, IsMkListStop};
 
 use crate::ir::heads::Flag;
@@ -120,6 +122,7 @@ impl Nodes {
     pub(crate) fn add(&mut self, node: Node) -> Result<u32, Stop>
         requires { Fits self.old node }
         ensures kept { Extends self.old self.new }
+        ensures fit { (w : World) → AllFit w self.old → Takes w (node_tree self.old node) → AllFit w self.new }
         ensures one { IfOk result (λ _. length self.new ≡ length self.old + 1) }
         ensures sort { IfOk result (λ n. kind_at self.new n ≡ kind_of (head_of node)) }
         ensures tree { IfOk result (λ n. tree_at self.new n ≡ node_tree self.old node) }
@@ -140,6 +143,7 @@ impl Nodes {
     pub(crate) fn mk_ty(&mut self, kind: TyKind) -> Result<Ty, Stop>
         requires { KindFits self.old kind }
         ensures kept { Extends self.old self.new }
+        ensures fit { (w : World) → AllFit w self.old → Takes w (kind_tree self.old kind) → AllFit w self.new }
         ensures sort { IfOk result (λ t. IsTy self.new t) }
         ensures tree { IfOk result (λ t. ty_tree self.new t ≡ kind_tree self.old kind) }
         ensures unchanged { IfErr result (λ _. self.new ≡ self.old) }
@@ -152,6 +156,7 @@ impl Nodes {
     pub(crate) fn mk_const(&mut self, kind: ConstKind) -> Result<Const, Stop>
         requires { ConstKindFits self.old kind }
         ensures kept { Extends self.old self.new }
+        ensures fit { (w : World) → AllFit w self.old → Takes w (const_kind_tree self.old kind) → AllFit w self.new }
         ensures sort { IfOk result (λ c. IsConst self.new c) }
         ensures tree { IfOk result (λ c. const_tree self.new c ≡ const_kind_tree self.old kind) }
         ensures unchanged { IfErr result (λ _. self.new ≡ self.old) }
@@ -163,6 +168,7 @@ impl Nodes {
     /// The region of that kind.
     pub(crate) fn mk_region(&mut self, kind: RegionKind) -> Result<Region, Stop>
         ensures kept { Extends self.old self.new }
+        ensures fit { (w : World) → AllFit w self.old → AllFit w self.new }
         ensures sort { IfOk result (λ r. IsRegion self.new r) }
         ensures tree { IfOk result (λ r. region_tree self.new r ≡ region_kind_tree kind) }
         ensures unchanged { IfErr result (λ _. self.new ≡ self.old) }
@@ -175,6 +181,7 @@ impl Nodes {
     pub(crate) fn mk_args(&mut self, list: &[GenericArg]) -> Result<Args, Stop>
         requires { ListFits self.old list.now }
         ensures kept { Extends self.old self.new }
+        ensures fit { (w : World) → AllFit w self.old → AllFit w self.new }
         ensures sort { IfOk result (λ a. IsArgs self.new a) }
         ensures tree { IfOk result (λ a. args_forest self.new a ≡ list_forest self.old list.now) }
         ensures unchanged { IfErr result (λ _. self.new ≡ self.old) }
@@ -188,6 +195,7 @@ impl Nodes {
     fn mk_pred_list(&mut self, list: Vec<Pred>) -> Result<Preds, Stop>
         requires { PredListFits self.old list.items }
         ensures kept { Extends self.old self.new }
+        ensures fit { (w : World) → AllFit w self.old → AllFit w self.new }
         ensures sort { IfOk result (λ p. IsPreds self.new p) }
         ensures tree { IfOk result (λ p. preds_forest self.new p ≡ pred_list_forest self.old list.items) }
         ensures unchanged { IfErr result (λ _. self.new ≡ self.old) }
@@ -200,6 +208,7 @@ impl Nodes {
     fn mk_pred(&mut self, bound: Binder<ExistentialPredicate>) -> Result<Pred, Stop>
         requires { PredFits self.old bound }
         ensures kept { Extends self.old self.new }
+        ensures fit { (w : World) → AllFit w self.old → Takes w (pred_kind_tree self.old bound) → AllFit w self.new }
         ensures one { IfOk result (λ _. length self.new ≡ length self.old + 1) }
         ensures sort { IfOk result (λ p. IsPred self.new p) }
         ensures tree { IfOk result (λ p. pred_tree self.new p ≡ pred_kind_tree self.old bound) }
@@ -212,6 +221,7 @@ impl Nodes {
     fn add_preds(&mut self, bounds: &[Binder<ExistentialPredicate>]) -> Result<Preds, Stop>
         requires { BoundsFit self.old bounds.now }
         ensures kept { Extends self.old self.new }
+        ensures fit { IfOk result (λ _. (w : World) → AllFit w self.old → AllTake w (map (pred_kind_tree self.old) bounds.now) → AllFit w self.new) }
         ensures sort { IfOk result (λ p. IsPreds self.new p) }
         ensures tree { IfOk result (λ p. preds_forest self.new p ≡ bounds_forest self.old bounds.now) }
         ensures cause { IfErr result (λ s. IsMkListStop self.old (length bounds.now + 1) (heights (bounds_forest self.old bounds.now)) s) }
@@ -231,6 +241,7 @@ impl Nodes {
     ) -> Result<Preds, Stop>
         requires { BoundsFit self.old bounds.now }
         ensures kept { Extends self.old self.new }
+        ensures fit { (w : World) → AllFit w self.old → AllTake w (map (pred_kind_tree self.old) bounds.now) → AllFit w self.new }
         ensures sort { IfOk result (λ p. IsPreds self.new p) }
         ensures tree { IfOk result (λ p. preds_forest self.new p ≡ bounds_forest self.old bounds.now) }
         ensures unchanged { IfErr result (λ _. self.new ≡ self.old) }
@@ -250,6 +261,7 @@ impl Nodes {
     pub(crate) fn mk_sig(&mut self, sig: Binder<ClosureSig>) -> Result<Sig, Stop>
         requires { SigFits self.old sig }
         ensures kept { Extends self.old self.new }
+        ensures fit { (w : World) → AllFit w self.old → Takes w (sig_kind_tree self.old sig) → AllFit w self.new }
         ensures sort { IfOk result (λ s. IsSig self.new s) }
         ensures tree { IfOk result (λ s. sig_tree self.new s ≡ sig_kind_tree self.old sig) }
         ensures unchanged { IfErr result (λ _. self.new ≡ self.old) }
@@ -262,6 +274,7 @@ impl Nodes {
     fn mk_var_list(&mut self, list: Vec<Var>) -> Result<Vars, Stop>
         requires { VarListFits self.old list.items }
         ensures kept { Extends self.old self.new }
+        ensures fit { (w : World) → AllFit w self.old → Takes w (vars_kind_tree self.old list.items) → AllFit w self.new }
         ensures sort { IfOk result (λ v. IsVars self.new v) }
         ensures tree { IfOk result (λ v. vars_tree self.new v ≡ vars_kind_tree self.old list.items) }
         ensures unchanged { IfErr result (λ _. self.new ≡ self.old) }
@@ -273,6 +286,7 @@ impl Nodes {
     /// One variable of a binder.
     fn mk_var(&mut self, kind: VarKind) -> Result<Var, Stop>
         ensures kept { Extends self.old self.new }
+        ensures fit { (w : World) → AllFit w self.old → AllFit w self.new }
         ensures one { IfOk result (λ _. length self.new ≡ length self.old + 1) }
         ensures sort { IfOk result (λ v. IsVar self.new v) }
         ensures tree { IfOk result (λ v. var_tree self.new v ≡ var_kind_tree kind) }
@@ -284,6 +298,7 @@ impl Nodes {
 
     fn add_vars(&mut self, kinds: &[VarKind]) -> Result<Vars, Stop>
         ensures kept { Extends self.old self.new }
+        ensures fit { IfOk result (λ _. (w : World) → AllFit w self.old → AllFit w self.new) }
         ensures sort { IfOk result (λ v. IsVars self.new v) }
         ensures tree { IfOk result (λ v. vars_tree self.new v ≡ binder_tree kinds.now) }
         ensures cause { IfErr result (λ s. IsMkListStop self.old (length kinds.now + 1) (height (binder_tree kinds.now)) s) }
@@ -299,6 +314,7 @@ impl Nodes {
     /// The variables of a binder, with a node for each and one for the list.
     pub(crate) fn mk_vars(&mut self, kinds: &[VarKind]) -> Result<Vars, Stop>
         ensures kept { Extends self.old self.new }
+        ensures fit { (w : World) → AllFit w self.old → AllFit w self.new }
         ensures sort { IfOk result (λ v. IsVars self.new v) }
         ensures tree { IfOk result (λ v. vars_tree self.new v ≡ binder_tree kinds.now) }
         ensures unchanged { IfErr result (λ _. self.new ≡ self.old) }

@@ -4,6 +4,7 @@ use Rattle.candidate_ir.specs.declared.ir.kinds.Binder.{Binder}
 use Rattle.candidate_ir.specs.declared.ir.kinds.ExistentialPredicate.{ExistentialPredicate}
 use Rattle.candidate_ir.specs.declared.ir.kinds.ExistentialPredicate.TheVariants as E
 use Rattle.candidate_ir.proofs.Growing.{extends-trans, made-pred, pred-fits-grown, pred-stop}
+use Rattle.candidate_ir.proofs.References.{if-ok}
 use Rattle.candidate_ir.proofs.ir.nodes.Nodes.add_preds.Goals as goal
 
 -- what a read past the end of the bounds would give
@@ -26,4 +27,7 @@ returns-in_err-push-clause-kept c = extends-trans _ _ _ c.loop-bound.invariant.k
 pub loop-bound-preserved : goal.loop-bound-preserved
 loop-bound-preserved c =
     made-pred c.args.self.now c.loop-bound.self c.mk_pred.new.self c.loop-bound.list.items c.push.new.self.items c.args.bounds.now c.loop-bound.bound-index past c.in_ok-pred.pred c.loop-bound.invariant c.requires c.loop-bound-test.true
-    c.in_ok-pred.ensures.kept c.in_ok-pred.ensures.one c.in_ok-pred.ensures.sort c.in_ok-pred.ensures.tree c.in_ok-push.ensures.items
+    c.in_ok-pred.ensures.kept c.in_ok-pred.ensures.fit c.in_ok-pred.ensures.one c.in_ok-pred.ensures.sort c.in_ok-pred.ensures.tree c.in_ok-push.ensures.items
+
+pub returns-clause-fit : goal.returns-clause-fit
+returns-clause-fit c = if-ok c.mk_pred_list.result (λ w f t. c.mk_pred_list.ensures.fit w (c.loop-bound.invariant.fit w t f))
