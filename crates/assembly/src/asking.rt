@@ -6,7 +6,9 @@ ghost use Rattle.candidate_ir.specs.Context.{world};
 ghost use Rattle.candidate_ir.specs.Words.{IsTy, IsArgs, args_forest};
 ghost use Rattle.candidate_ir.specs.References.{reference_of, IsReference};
 ghost use Rattle.candidate_eval.specs.Answers.{AreAnswerTypes, AreErrorTypes};
-ghost use Rattle.candidate_eval.specs.Laws.{NoUnnamedHeader};
+ghost use Rattle.candidate_eval.specs.Orphan.{IsPlainForest};
+ghost use Rattle.candidate_eval.specs.Laws.{NoForeignHeader, NoUnnamedHeader, IsDecidedByGeneral, HasDownstream};
+ghost use Rattle.candidate_eval.specs.Substitutions.{Universes};
 
 use crate::faults::Fault;
 use crate::names::Names;
@@ -93,6 +95,7 @@ impl Asking {
         requires args { IsArgs self.old.scope.maker.cx.trees trait_ref.args }
         requires no_param { holds is_param (args_forest self.old.scope.maker.cx.trees trait_ref.args) ≡ false }
         ensures no_unnamed_header { IsReference self.old.scope.maker.cx trait_ref → holds is_alias (args_forest self.old.scope.maker.cx.trees trait_ref.args) ≡ false → result ≡ Ok (Ok tt) → NoUnnamedHeader (world self.old.scope.maker.cx) (reference_of self.old.scope.maker.cx.trees trait_ref) }
+        ensures downstream_header { IsReference self.old.scope.maker.cx trait_ref → IsPlainForest (args_forest self.old.scope.maker.cx.trees trait_ref.args) → result ≡ Ok (Err Conflict.Downstream) → IsDecidedByGeneral (world self.old.scope.maker.cx) 256 (reference_of self.old.scope.maker.cx.trees trait_ref) → (u v : Universes) → HasDownstream (world self.old.scope.maker.cx) (reference_of self.old.scope.maker.cx.trees trait_ref) u v }
     {
         trait_ref_is_knowable(
             self.scope.alloc,
@@ -120,14 +123,28 @@ impl Asking {
     fn orphan<'a>(&mut self, mut words: Words<'a>) -> Result<Result<(), Stop>, Fault<'a>> {
         let in_crate = in_crate(words.word()?)?;
         let trait_ref = self.last_trait_ref(words)?;
-        let checked = orphan_check_trait_ref(
+        let checked = self.checked(trait_ref, in_crate);
+        Ok(self.print_orphan(checked))
+    }
+
+    /// The orphan check of the reference, where no type is normalised.
+    fn checked(
+        &mut self,
+        trait_ref: TraitRef,
+        in_crate: InCrate,
+    ) -> Result<Result<(), OrphanCheckErr<Ty>>, OrphanStop<Infallible>>
+        requires args { IsArgs self.old.scope.maker.cx.trees trait_ref.args }
+        requires no_param { holds is_param (args_forest self.old.scope.maker.cx.trees trait_ref.args) ≡ false }
+        ensures types { AreAnswerTypes self.new.scope.maker.cx.trees result }
+        ensures no_foreign_header { IsReference self.old.scope.maker.cx trait_ref → IsPlainForest (args_forest self.old.scope.maker.cx.trees trait_ref.args) → in_crate ≡ InCrate.Local OrphanCheckMode.Proper → result ≡ Ok (Ok tt) → NoForeignHeader (world self.old.scope.maker.cx) self.old.scope.maker.cx.local.0 (reference_of self.old.scope.maker.cx.trees trait_ref) }
+    {
+        orphan_check_trait_ref(
             self.scope.alloc,
             &mut self.scope.maker,
             trait_ref,
             in_crate,
             |_, ty| -> Result<Ty, NormalizeErr<Infallible>> { Ok(ty) },
-        );
-        Ok(self.print_orphan(checked))
+        )
     }
 
     fn print_orphan(

@@ -1,4 +1,4 @@
-use Rattle.assembly.proofs.Growth.{IsTy-grows}
+use Rattle.assembly.proofs.Growth.{Grows-then, IsTy-grows}
 use Rattle.assembly.proofs.types.Scope.reference.Goals as goal
 
 pub mk_ty-requires : goal.mk_ty-requires
@@ -6,3 +6,6 @@ mk_ty-requires g c =
     let target = IsTy-grows _ _ c.args.target c.mk_region.ensures.kept c.requires in
     let region = c.in_ok-region.ensures.sort in
     cc
+
+pub returns-clause-grows : goal.returns-clause-grows
+returns-clause-grows g c = Grows-then _ _ _ c.mk_region.ensures.kept c.mk_ty.ensures.kept
