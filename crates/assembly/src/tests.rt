@@ -2,6 +2,7 @@
 
 mod answers;
 mod bad_lines;
+mod builders;
 mod calls;
 mod devices;
 mod memory;
