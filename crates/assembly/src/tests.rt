@@ -6,4 +6,5 @@ mod builders;
 mod calls;
 mod devices;
 mod memory;
+mod modes;
 mod values;
