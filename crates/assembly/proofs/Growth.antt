@@ -8,8 +8,10 @@ use Rattle.candidate_ir.specs.Trees.{Kind, Tree}
 use Rattle.candidate_ir.specs.Kinds.{numbers, sorts, arg_child}
 use Rattle.candidate_ir.specs.Nodes.{kind_at}
 use Rattle.candidate_ir.specs.Context.{Context, Grows}
-use Rattle.candidate_ir.specs.Words.{IsTy, IsArgs, IsPreds, IsPred, ListFits, PredListFits, PredFits, BoundsFit, names_trait}
+use Rattle.candidate_ir.specs.Words.{IsTy, IsConst, IsArgs, IsPreds, IsPred, IsVars, ListFits, PredListFits, PredFits, BoundsFit, names_trait}
 use Rattle.candidate_ir.specs.declared.ir.kinds.Args.{Args}
+use Rattle.candidate_ir.specs.declared.ir.kinds.Const.{Const}
+use Rattle.candidate_ir.specs.declared.ir.kinds.Vars.{Vars}
 use Rattle.candidate_ir.specs.declared.ir.kinds.Pred.{Pred}
 use Rattle.candidate_ir.specs.declared.ir.kinds.Preds.{Preds}
 use Rattle.candidate_ir.specs.declared.ir.kinds.Binder.{Binder}
@@ -71,6 +73,12 @@ IsTy-listed ts (x ∷ xs) zero d t b e f =
     cc
 IsTy-listed ts (x ∷ xs) (suc i) d t b e f = let tail : ListFits ts xs = cc in IsTy-listed ts xs i d t (omega arith) e tail
 
+pub IsConst-grows : (a b : Context) (x : Const) → Grows a b → IsConst a.trees x → IsConst b.trees x
+IsConst-grows a b x g e = kind_at-grows a b x.0 _ g refl e
+
+pub IsVars-grows : (a b : Context) (x : Vars) → Grows a b → IsVars a.trees x → IsVars b.trees x
+IsVars-grows a b x g e = kind_at-grows a b x.0 _ g refl e
+
 pub IsArgs-grows : (a b : Context) (x : Args) → Grows a b → IsArgs a.trees x → IsArgs b.trees x
 IsArgs-grows a b x g e = kind_at-grows a b x.0 _ g refl e
 
@@ -88,6 +96,13 @@ pub BoundsFit-one : (a b : Context) (xs : List (Binder ExistentialPredicate)) (x
 BoundsFit-one a b xs x g fit e =
     All-push (PredFits b.trees) xs x
     (All-weaker (PredFits a.trees) (PredFits b.trees) (λ y h. PredFits-grows a b y g h) xs fit) e
+
+-- a bound that fits alone, and two that do
+pub BoundsFit-single : (ts : List Tree) (x : Binder ExistentialPredicate) → PredFits ts x → BoundsFit ts (x ∷ [])
+BoundsFit-single ts x e = All-push (PredFits ts) [] x (λ k d h. absurd (omega arith)) e
+
+pub BoundsFit-pair : (ts : List Tree) (x y : Binder ExistentialPredicate) → PredFits ts x → PredFits ts y → BoundsFit ts (x ∷ y ∷ [])
+BoundsFit-pair ts x y e f = All-push (PredFits ts) (x ∷ []) y (BoundsFit-single ts x e) f
 
 -- a bound in a list that fits is a bound
 pub IsPred-listed : (ts : List Tree) (xs : List Pred) (i : ℕ) (d : Pred) → i < length xs → PredListFits ts xs → IsPred ts (get_or xs i d)

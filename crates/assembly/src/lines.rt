@@ -1,5 +1,8 @@
 //! One line after another: declarations first, then queries.
 
+ghost use Rattle.std.specs.Prelude.{◌≡◌};
+ghost use Rattle.assembly.specs.declared.lines.Halt.TheVariants as halt;
+
 use crate::asking::{Asking, Query};
 use crate::declaring::{Declaration, Declaring};
 use crate::faults::Fault;
@@ -24,12 +27,16 @@ pub enum Halt<'a> {
 }
 
 impl From<io::Error> for Halt<'_> {
+    ghost from_gives = { λ error h. h ≡ halt.Device error };
+
     fn from(error: io::Error) -> Self {
         Halt::Device(error)
     }
 }
 
 impl<'a> From<Fault<'a>> for Halt<'a> {
+    ghost from_gives = { λ fault h. h ≡ halt.Line fault };
+
     fn from(fault: Fault<'a>) -> Self {
         Halt::Line(fault)
     }

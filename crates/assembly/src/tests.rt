@@ -2,7 +2,11 @@
 
 mod answers;
 mod bad_lines;
+mod builders;
 mod calls;
+mod contexts;
 mod devices;
+mod flags;
 mod memory;
+mod modes;
 mod values;

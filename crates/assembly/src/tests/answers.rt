@@ -69,12 +69,39 @@ const TEXTS: &[(&str, &str)] = &[
     ("", ""),
     ("\n  \n// anything\n//\n", ""),
     (
-        "local 2\nadt 1 La 0\nadt 2 Lb 0\nadt 3 Pair 2 fundamental\ntrait 3 T 0\norphan local T Pair La $0\norphan local T Pair $0 Lb\norphan local T Pair Lb $0\nknowable T Pair La $0",
-        "uncovered $0 local none\nuncovered $0 local Lb\nok\ndownstream\n",
-    ),
-    (
         "local 3\nlocal 002\n  trait  1 T 0 \nadt 2 L 0 enum enum\n\norphan local T L",
         "ok\n",
+    ),
+];
+
+/// Two crates with a type each, and one with a trait and a fundamental type.
+const TWO_CRATES: &str = "adt 1 La 0
+adt 2 Lb 0
+adt 3 Pair 2 fundamental
+trait 3 T 0
+";
+
+/// The local crate, lines after these declarations, and their answers.
+const BY_CRATE: &[(u8, &str, &str)] = &[
+    (
+        1,
+        "orphan local T Pair La $0\norphan local T error\nknowable T Pair La $0",
+        "ok\nok\ndownstream\n",
+    ),
+    (
+        2,
+        "orphan local T Pair La Lb\norphan local T error\nknowable T Pair La $0",
+        "ok\nok\ndownstream\n",
+    ),
+    (
+        2,
+        "orphan local T Pair La $0\norphan local T Pair $0 Lb\norphan local T Pair Lb $0",
+        "uncovered $0 local none\nuncovered $0 local Lb\nok\n",
+    ),
+    (
+        4,
+        "adt 4 New 0\norphan local T Pair La New\nknowable T Pair La $0",
+        "ok\ndownstream\n",
     ),
 ];
 
@@ -153,6 +180,17 @@ fn answers(rt: HostRuntime) -> Result<(), Fail> {
         let (status, written) = run_on(rt.alloc(), text.as_bytes());
         assert_eq!(rt; status, Status::Done, "{name}");
         assert_eq!(rt; written.as_slice(), want.as_bytes(), "{name}");
+    }
+    Ok(())
+}
+
+#[test]
+fn answers_by_the_local_crate(rt: HostRuntime) -> Result<(), Fail> {
+    for (local, lines, want) in BY_CRATE {
+        let text = format!(in rt.alloc(); "local {local}\n{TWO_CRATES}{lines}")?;
+        let (status, written) = run_on(rt.alloc(), text.as_bytes());
+        assert_eq!(rt; status, Status::Done, "{local} {lines}");
+        assert_eq!(rt; written.as_slice(), want.as_bytes(), "{local} {lines}");
     }
     Ok(())
 }

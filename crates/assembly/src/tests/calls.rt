@@ -14,36 +14,39 @@ use candidate_eval::coherence::{
 use candidate_eval::eval::InferCtxtLike;
 use candidate_ir::decl::builder::{DeclFault, DeclsBuilder};
 use candidate_ir::decl::context::Cx;
-use candidate_ir::decl::definition::{AdtFlags, AdtShape, CrateId, TraitFlags};
+use candidate_ir::decl::definition::{AdtFlags, AdtShape, AssocKind, CrateId, TraitFlags};
 use candidate_ir::decl::make::Make;
 use candidate_ir::ir::heads::Flag;
 use candidate_ir::ir::kinds::{
-    AdtId, Args, ForeignId, GenericArg, InferTy, Mutability, RegionKind, TraitId, TraitRef, Ty,
-    TyKind, UintTy, VarKind,
+    AdtId, AliasTy, Args, AssocId, ForeignId, GenericArg, InferTy, Mutability, RegionKind, TraitId,
+    TraitRef, Ty, TyKind, UintTy, VarKind,
 };
 use candidate_ir::ir::stop::Stop;
 use std::alloc::Global;
 use std::process::Abort;
 use std::test::Fail;
 
-const VEC: AdtId = AdtId(0);
+pub const VEC: AdtId = AdtId(0);
 
 const BOX: AdtId = AdtId(1);
 
 const LOCAL_TYPE: AdtId = AdtId(2);
 
-const TRAIT: TraitId = TraitId(3);
+pub const TRAIT: TraitId = TraitId(3);
 
-const TRAIT1: TraitId = TraitId(4);
+pub const TRAIT1: TraitId = TraitId(4);
 
 const TRAIT2: TraitId = TraitId(5);
 
-const LOCAL_TRAIT: TraitId = TraitId(6);
+pub const LOCAL_TRAIT: TraitId = TraitId(6);
 
 const FUNDAMENTAL_TRAIT: TraitId = TraitId(7);
 
+/// An associated type of the first trait.
+pub const OUT: AssocId = AssocId(8);
+
 /// The local crate, and one above it with the types `Vec` and `Box` and the traits.
-fn declared(alloc: Global) -> Result<Cx, DeclFault> {
+pub fn declared(alloc: Global) -> Result<Cx, DeclFault> {
     let mut builder = DeclsBuilder::new(alloc);
     let local = builder.add_crate()?;
     let above = builder.add_crate()?;
@@ -63,18 +66,20 @@ fn declared(alloc: Global) -> Result<Cx, DeclFault> {
         ..TraitFlags::default()
     };
     builder.add_trait(above, &[], fundamental)?;
+    builder.add_assoc(TRAIT, AssocKind::Type, false)?;
     Ok(Cx::new(builder.finish()?))
 }
 
 /// A type of the tests.
 #[derive(Clone, Copy, Debug)]
-enum Named {
+pub enum Named {
     U8,
     U16,
     Variable,
     LocalType,
     BoxOfVariable,
     VecOfVariable,
+    OutOfVariable,
 }
 
 fn adt<M: Make>(maker: &mut M, id: AdtId, list: &[GenericArg]) -> Result<Ty, Stop>
@@ -97,6 +102,7 @@ fn make_type<M: Make>(maker: &mut M, named: Named) -> Result<Ty, Stop>
         Named::LocalType => adt(maker, LOCAL_TYPE, &[]),
         Named::BoxOfVariable => of_variable(maker, BOX),
         Named::VecOfVariable => of_variable(maker, VEC),
+        Named::OutOfVariable => projection_of_variable(maker),
     }
 }
 
@@ -106,6 +112,15 @@ fn of_variable<M: Make>(maker: &mut M, id: AdtId) -> Result<Ty, Stop>
 {
     let variable = maker.mk_ty(TyKind::Infer(InferTy::TyVar(0)))?;
     adt(maker, id, &[GenericArg::Ty(variable)])
+}
+
+fn projection_of_variable<M: Make>(maker: &mut M) -> Result<Ty, Stop>
+    ensures grows { Grows (M.context maker.old) (M.context maker.new) }
+    ensures sort { IfOk result (λ ty. IsTy (M.context maker.new).trees ty) }
+{
+    let variable = maker.mk_ty(TyKind::Infer(InferTy::TyVar(0)))?;
+    let args = maker.mk_args(&[GenericArg::Ty(variable)])?;
+    maker.mk_ty(TyKind::Alias(AliasTy::projection(OUT, args)))
 }
 
 fn trait_ref<M: Make>(
@@ -127,7 +142,7 @@ fn trait_ref<M: Make>(
 
 /// How a normaliser answers.
 #[derive(Clone, Copy, Debug)]
-enum Way {
+pub enum Way {
     /// With its input.
     Plain,
     /// With `&u8` at `u8`.
@@ -167,7 +182,7 @@ fn normal<M: Make>(maker: &mut M, ty: Ty, way: Way) -> Result<Ty, NormalizeErr<u
 
 /// What a check says.
 #[derive(Clone, Copy, Debug, PartialEq, Eq)]
-enum Said {
+pub enum Said {
     Passes,
     /// So many types were met.
     NonLocal(usize),
@@ -203,20 +218,23 @@ fn outcome(cx: &Cx, checked: Result<Result<(), OrphanCheckErr<Ty>>, OrphanStop<u
     }
 }
 
-/// What the check says of the trait with these types, for the local crate.
-fn orphan_said<C: InferCtxtLike>(
+/// For the local crate, by the rule proper.
+pub const PROPER: InCrate = InCrate::Local {
+    mode: OrphanCheckMode::Proper,
+};
+
+/// What the check says of the trait with these types.
+pub fn orphan_said<C: InferCtxtLike>(
     rt: &impl Abort,
     alloc: Global,
     infcx: &mut C,
+    in_crate: InCrate,
     way: Way,
     def_id: TraitId,
     types: &[Named],
 ) -> Result<Said, Stop> {
     let trait_ref = trait_ref(alloc, infcx, def_id, types)?;
     assert!(rt; !infcx.cx().has_param(trait_ref));
-    let in_crate = InCrate::Local {
-        mode: OrphanCheckMode::Proper,
-    };
     let checked = orphan_check_trait_ref(
         alloc,
         infcx,
@@ -298,7 +316,7 @@ fn checks_by_the_normaliser(rt: HostRuntime) -> Result<(), Fail> {
         let mut infcx = PlainContext {
             cx: declared(rt.alloc())?,
         };
-        let said = orphan_said(&rt, rt.alloc(), &mut infcx, *way, *def_id, types)?;
+        let said = orphan_said(&rt, rt.alloc(), &mut infcx, PROPER, *way, *def_id, types)?;
         assert_eq!(rt; said, *want, "{way:?} {types:?}");
     }
     Ok(())
@@ -310,12 +328,28 @@ fn checks_the_values_of_variables(rt: HostRuntime) -> Result<(), Fail> {
     let value = adt(&mut cx, LOCAL_TYPE, &[])?;
     let mut infcx = ValuedContext { cx, value };
     let types = [Named::Variable];
-    let said = orphan_said(&rt, rt.alloc(), &mut infcx, Way::Plain, TRAIT, &types)?;
+    let said = orphan_said(
+        &rt,
+        rt.alloc(),
+        &mut infcx,
+        PROPER,
+        Way::Plain,
+        TRAIT,
+        &types,
+    )?;
     assert_eq!(rt; said, Said::Passes);
     let mut infcx = PlainContext {
         cx: declared(rt.alloc())?,
     };
-    let said = orphan_said(&rt, rt.alloc(), &mut infcx, Way::Plain, TRAIT, &types)?;
+    let said = orphan_said(
+        &rt,
+        rt.alloc(),
+        &mut infcx,
+        PROPER,
+        Way::Plain,
+        TRAIT,
+        &types,
+    )?;
     let uncovered = Said::Uncovered {
         variable: Some(0),
         has_local: false,
@@ -529,6 +563,7 @@ fn compares_types_as_trees(rt: HostRuntime) -> Result<(), Fail> {
         Named::LocalType,
         Named::BoxOfVariable,
         Named::VecOfVariable,
+        Named::OutOfVariable,
     ];
     for (i, first) in all.iter().enumerate() {
         for (k, second) in all.iter().enumerate() {

@@ -1,0 +1,173 @@
+#!/usr/bin/env python3
+"""What the program `assembly` prints where memory is refused.
+
+`python3 bench/refuse.py` builds the program with its proofs, and runs it on the stored run, on a
+text with every command, and on made texts. It counts the growths of each run, and runs the program
+again with each growth refused, and once more with each growth and all later ones refused. In the
+place of an answer a query may print `stop 1` then, and a line may end the run with
+`line N: stop 1`; all else must stay. It prints what it saw, and ends with status 1 where a run did
+anything else. It needs a C compiler, `cc`.
+"""
+
+import collections
+import os
+import re
+import subprocess
+import sys
+import tempfile
+
+from run import CRATE, PROGRAM, Text, build
+
+# Stands between the program and its memory. It refuses the growth of the number REFUSE, and all
+# later ones where LATER is set; without REFUSE it says at the end how many there were.
+REFUSING = r"""
+#include <errno.h>
+#include <stdio.h>
+#include <stdlib.h>
+
+extern void *__libc_malloc(size_t size);
+extern void *__libc_realloc(void *old, size_t size);
+
+static long growths;
+
+static int is_refused(void) {
+    const char *number = getenv("REFUSE");
+    growths++;
+    if (number == NULL || (growths < atol(number))) return 0;
+    if (growths > atol(number) && getenv("LATER") == NULL) return 0;
+    errno = ENOMEM;
+    return 1;
+}
+
+void *malloc(size_t size) { return is_refused() ? NULL : __libc_malloc(size); }
+
+void *realloc(void *old, size_t size) { return is_refused() ? NULL : __libc_realloc(old, size); }
+
+__attribute__((destructor)) static void end(void) {
+    if (getenv("REFUSE") == NULL) dprintf(2, "%ld\n", growths);
+}
+"""
+
+EVERY_COMMAND = """local 0
+adt 1 Vec 1
+adt 1 Box 1 fundamental
+adt 1 Pair 2 fundamental phantom
+adt 1 Unit0 0 fundamental
+adt 0 LocalType 0 enum unsafe_fields
+adt 0 Wrap 1 union manually_drop
+foreign 0 LocalForeign
+foreign 1 Foreign
+trait 1 Trait 0
+trait 1 Trait1 1 alias unsafe
+trait 1 Trait2 2 fundamental dyn default
+trait 0 LocalTrait 0
+trait 1 Send 0 auto
+assoc Trait Out
+assoc Trait2 Two sized_self
+// The queries.
+orphan local Trait Pair Vec (0) Box LocalType
+orphan local Trait Vec LocalType
+orphan local Trait1 Box $0 LocalType
+orphan compat Trait1 Out $0 LocalType
+orphan remote Trait1 Wrap u8 Vec $0
+orphan local Trait dyn(4) Send Trait2 u8 & bool Send Two char (1) str & u8
+orphan local Trait1 LocalForeign Foreign
+orphan local Trait1 Foreign *const [] &mut !3
+orphan local Trait1 (2) i32 f64 Out u8
+orphan local Trait & & & & & & error
+knowable Trait $0
+knowable Trait Vec $0
+knowable Trait LocalType
+knowable Trait2 Vec u8 Vec u16 Two str u8 u16
+orphan local Trait1 u8 LocalForeign
+"""
+
+STOP = "stop 1\n"
+
+
+class Program:
+    """The program over one text, with its memory in our hands."""
+
+    def __init__(self, library, text):
+        self.library = library
+        self.text = text.encode()
+        self.lines = text.split("\n")
+
+    def run(self, **refused):
+        """The status, the lines that it printed, and what it wrote on the standard error."""
+        done = subprocess.run(
+            [PROGRAM],
+            input=self.text,
+            capture_output=True,
+            env={"LD_PRELOAD": self.library, **refused},
+            timeout=60,
+        )
+        return done.returncode, done.stdout.decode().splitlines(True), done.stderr.decode()
+
+    def queries_before(self, number):
+        """How many of the lines before the one of that number ask something."""
+        before = self.lines[: number - 1]
+        return sum(line.startswith(("orphan", "knowable")) for line in before)
+
+    def kind(self, answers, status, printed, most_stops):
+        """How a run ended of which a growth was refused, or None where it may not end so."""
+        ended = re.fullmatch(r"line (\d+): stop 1\n", printed[-1]) if printed else None
+        if ended:
+            printed = printed[:-1]
+        stops = sum(line == STOP for line in printed)
+        kept = all(line in (answer, STOP) for line, answer in zip(printed, answers))
+        if not kept or stops + bool(ended) > most_stops:
+            return None
+        if ended and status == 2 and len(printed) == self.queries_before(int(ended[1])):
+            return "ended at a line"
+        if not ended and status == 0 and len(printed) == len(answers) and stops > 0:
+            return "stopped at a query"
+        return None
+
+
+def refuse_each(name, library, text):
+    """Refuses each growth of a run over the text, and says whether all was as it should be."""
+    program = Program(library, text)
+    status, answers, growths = program.run()
+    if status != 0 or not growths.strip().isdigit():
+        print("%s: the plain run ended with status %d: %s" % (name, status, growths))
+        return False
+    count = int(growths)
+    print("%s: %d answers, %d growths" % (name, len(answers), count))
+    is_well = True
+    for later, most_stops in (({}, 1), ({"LATER": "1"}, len(answers) + 1)):
+        kinds = collections.Counter()
+        for number in range(1, count + 1):
+            status, printed, said = program.run(REFUSE=str(number), **later)
+            kind = program.kind(answers, status, printed, most_stops)
+            if kind is None or said:
+                is_well = False
+                print("  growth %d: status %d, %r %s" % (number, status, printed[-2:], said))
+            kinds[kind] += 1
+        after = program.run(REFUSE=str(count + 1), **later)
+        is_well = is_well and after[:2] == (0, answers)
+        seen = ", ".join("%d %s" % (many, kind) for kind, many in sorted(kinds.items(), key=str))
+        print("  each %s: %s" % ("and all later ones" if later else "alone", seen))
+    return is_well
+
+
+def main():
+    build()
+    with open(os.path.join(CRATE, "stdin")) as given:
+        texts = [("the stored run", given.read()), ("every command", EVERY_COMMAND)]
+    for seed in (1, 2):
+        made = Text(60, seed)
+        lines = made.declarations + made.queries
+        texts.append(("a made text", "\n".join(lines) + "\n"))
+    with tempfile.TemporaryDirectory() as folder:
+        source = os.path.join(folder, "refusing.c")
+        library = os.path.join(folder, "refusing.so")
+        with open(source, "w") as taken:
+            taken.write(REFUSING)
+        subprocess.run(["cc", "-O1", "-shared", "-fPIC", "-o", library, source], check=True)
+        well = [refuse_each(name, library, text) for name, text in texts]
+    sys.exit(0 if all(well) else 1)
+
+
+if __name__ == "__main__":
+    main()
