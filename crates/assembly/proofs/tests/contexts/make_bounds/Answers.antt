@@ -1,4 +1,5 @@
-use Rattle.assembly.proofs.Growth.{Grows-then, IsTy-grows, IsArgs-grows, BoundsFit-single, BoundsFit-pair}
+use Rattle.candidate_ir.proofs.Kept.{grows-trans}
+use Rattle.assembly.proofs.Growth.{IsTy-grows, IsArgs-grows, BoundsFit-single, BoundsFit-pair}
 use Rattle.assembly.proofs.tests.contexts.make_bounds.Goals as goal
 
 pub mk_preds-requires-in-Principal-clause-fit : goal.mk_preds-requires-in-Principal-clause-fit
@@ -23,6 +24,6 @@ pub mk_preds-requires-in-AutoThenProjection-clause-fit : goal.mk_preds-requires-
 mk_preds-requires-in-AutoThenProjection-clause-fit c =
     let vars = c.in_ok-vars.ensures.sort in
     let args = IsArgs-grows _ _ c.in_ok-args.args c.mk_vars.ensures.kept c.in_ok-args.ensures.sort in
-    let kept = Grows-then _ _ _ c.mk_args.ensures.kept c.mk_vars.ensures.kept in
+    let kept = grows-trans _ _ _ c.mk_args.ensures.kept c.mk_vars.ensures.kept in
     let term = IsTy-grows _ _ c.in_ok-term.term kept c.in_ok-term.ensures.sort in
     BoundsFit-pair _ _ _ (cc) (cc)

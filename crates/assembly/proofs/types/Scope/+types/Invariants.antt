@@ -1,4 +1,4 @@
-use Rattle.std.proofs.Common.{◌≡◌, List, Bool, true, false, ◌+◌, ◌*◌}
+use Rattle.std.proofs.Common.{◌≡◌, List, Bool, ◌+◌, ◌*◌}
 use Rattle.std.specs.Prelude.{count_by}
 use Rattle.candidate_ir.specs.Context.{Context, Grows}
 use Rattle.candidate_ir.specs.declared.ir.kinds.Binder.{Binder}

@@ -1,4 +1,5 @@
-use Rattle.assembly.proofs.Growth.{Grows-then, IsPreds-grows}
+use Rattle.candidate_ir.proofs.Kept.{grows-trans}
+use Rattle.assembly.proofs.Growth.{IsPreds-grows}
 use Rattle.assembly.proofs.types.Scope.dynamic.Goals as goal
 
 pub mk_ty-requires : goal.mk_ty-requires
@@ -9,4 +10,4 @@ mk_ty-requires g c =
 
 pub returns-clause-grows : goal.returns-clause-grows
 returns-clause-grows g c =
-    Grows-then _ _ _ c.mk_preds.ensures.kept (Grows-then _ _ _ c.mk_region.ensures.kept c.mk_ty.ensures.kept)
+    grows-trans _ _ _ c.mk_preds.ensures.kept (grows-trans _ _ _ c.mk_region.ensures.kept c.mk_ty.ensures.kept)

@@ -1,4 +1,5 @@
-use Rattle.assembly.proofs.Growth.{Grows-then, IsTy-grows}
+use Rattle.candidate_ir.proofs.Kept.{grows-trans}
+use Rattle.assembly.proofs.Growth.{IsTy-grows}
 use Rattle.assembly.proofs.types.Scope.reference.Goals as goal
 
 pub mk_ty-requires : goal.mk_ty-requires
@@ -8,4 +9,4 @@ mk_ty-requires g c =
     cc
 
 pub returns-clause-grows : goal.returns-clause-grows
-returns-clause-grows g c = Grows-then _ _ _ c.mk_region.ensures.kept c.mk_ty.ensures.kept
+returns-clause-grows g c = grows-trans _ _ _ c.mk_region.ensures.kept c.mk_ty.ensures.kept
