@@ -1,7 +1,7 @@
 -- The references of a context, and what it is that its trees fit the declarations.
-use Rattle.std.specs.Prelude.{◌≡◌, ℕ, false, Some, List, [], ◌∷◌}
+use Rattle.std.specs.Prelude.{◌≡◌, false, Some, List, [], ◌∷◌}
 use Rattle.candidate_ir.specs.declared.ir.kinds.TraitRef.{TraitRef}
-use Rattle.candidate_ir.specs.Trees.{Forest, none, Tree, row, is_list}
+use Rattle.candidate_ir.specs.Trees.{none, Tree, row, is_list}
 use Rattle.candidate_ir.specs.Worlds.{World, Reference, Fits, IsOf, child_kinds, kinds_of}
 use Rattle.candidate_ir.specs.Context.{Context, world}
 use Rattle.candidate_ir.specs.Words.{args_forest}

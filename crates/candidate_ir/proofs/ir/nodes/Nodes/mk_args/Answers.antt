@@ -1,4 +1,3 @@
-use Rattle.std.proofs.Common.{refl}
 use Rattle.candidate_ir.proofs.ir.nodes.Nodes.mk_args.Goals as goal
 
 pub returns-clause-fit : goal.returns-clause-fit
