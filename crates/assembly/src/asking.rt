@@ -1,14 +1,10 @@
 //! The commands that ask.
 
-ghost use Rattle.std.specs.Prelude.{◌≡◌, false, All, IfOk, IfSome};
-ghost use Rattle.candidate_ir.specs.Trees.{holds, is_param, is_alias};
-ghost use Rattle.candidate_ir.specs.Context.{world};
-ghost use Rattle.candidate_ir.specs.Words.{IsTy, IsArgs, args_forest};
-ghost use Rattle.candidate_ir.specs.References.{reference_of, IsReference};
+ghost use Rattle.std.specs.Prelude.{◌≡◌, All, IfOk, IfSome};
+ghost use Rattle.candidate_ir.specs.Words.{IsTy, IsArgs};
+ghost use Rattle.candidate_ir.specs.References.{IsReference};
 ghost use Rattle.candidate_eval.specs.Answers.{AreAnswerTypes, AreErrorTypes};
-ghost use Rattle.candidate_eval.specs.Orphan.{IsPlainForest};
-ghost use Rattle.candidate_eval.specs.Laws.{NoForeignHeader, NoUnnamedHeader, IsDecidedByGeneral, HasDownstream};
-ghost use Rattle.candidate_eval.specs.Substitutions.{Universes};
+ghost use Rattle.candidate_eval.specs.Calls.{HasNoParam, HasNoAlias, HasNoAliasOrError, IsOfForeignTrait, NoForeignHeaderHere, NoUnnamedHeaderHere, NoCoveredHeaderHere, IsDecidedByGeneralHere, HasDownstreamHere};
 
 use crate::faults::Fault;
 use crate::names::Names;
@@ -74,7 +70,7 @@ impl Asking {
     /// The trait reference that ends the line.
     fn last_trait_ref<'a>(&mut self, mut words: Words<'a>) -> Result<TraitRef, Fault<'a>>
         ensures sort { IfOk result (λ r. IsArgs self.new.scope.maker.cx.trees r.args) }
-        ensures no_param { IfOk result (λ r. holds is_param (args_forest self.new.scope.maker.cx.trees r.args) ≡ false) }
+        ensures no_param { IfOk result (λ r. HasNoParam self.new.scope.maker.cx r) }
     {
         let trait_ref = self.scope.read_trait_ref(&mut words)?;
         words.end()?;
@@ -93,9 +89,10 @@ impl Asking {
     /// Whether all impls of the reference are known, where no type is normalised.
     fn known(&mut self, trait_ref: TraitRef) -> Result<Result<(), Conflict>, OrphanStop<Infallible>>
         requires args { IsArgs self.old.scope.maker.cx.trees trait_ref.args }
-        requires no_param { holds is_param (args_forest self.old.scope.maker.cx.trees trait_ref.args) ≡ false }
-        ensures no_unnamed_header { IsReference self.old.scope.maker.cx trait_ref → holds is_alias (args_forest self.old.scope.maker.cx.trees trait_ref.args) ≡ false → result ≡ Ok (Ok tt) → NoUnnamedHeader (world self.old.scope.maker.cx) (reference_of self.old.scope.maker.cx.trees trait_ref) }
-        ensures downstream_header { IsReference self.old.scope.maker.cx trait_ref → IsPlainForest (args_forest self.old.scope.maker.cx.trees trait_ref.args) → result ≡ Ok (Err Conflict.Downstream) → IsDecidedByGeneral (world self.old.scope.maker.cx) 256 (reference_of self.old.scope.maker.cx.trees trait_ref) → (u v : Universes) → HasDownstream (world self.old.scope.maker.cx) (reference_of self.old.scope.maker.cx.trees trait_ref) u v }
+        requires no_param { HasNoParam self.old.scope.maker.cx trait_ref }
+        ensures no_unnamed_header { IsReference self.old.scope.maker.cx trait_ref → HasNoAlias self.old.scope.maker.cx trait_ref → result ≡ Ok (Ok tt) → NoUnnamedHeaderHere self.old.scope.maker.cx trait_ref }
+        ensures downstream_header { IsReference self.old.scope.maker.cx trait_ref → HasNoAliasOrError self.old.scope.maker.cx trait_ref → result ≡ Ok (Err Conflict.Downstream) → IsDecidedByGeneralHere self.old.scope.maker.cx trait_ref → HasDownstreamHere self.old.scope.maker.cx trait_ref }
+        ensures no_covered_header { IsReference self.old.scope.maker.cx trait_ref → HasNoAlias self.old.scope.maker.cx trait_ref → result ≡ Ok (Ok tt) → IsOfForeignTrait self.old.scope.maker.cx trait_ref → NoCoveredHeaderHere self.old.scope.maker.cx trait_ref }
     {
         trait_ref_is_knowable(
             self.scope.alloc,
@@ -134,9 +131,9 @@ impl Asking {
         in_crate: InCrate,
     ) -> Result<Result<(), OrphanCheckErr<Ty>>, OrphanStop<Infallible>>
         requires args { IsArgs self.old.scope.maker.cx.trees trait_ref.args }
-        requires no_param { holds is_param (args_forest self.old.scope.maker.cx.trees trait_ref.args) ≡ false }
+        requires no_param { HasNoParam self.old.scope.maker.cx trait_ref }
         ensures types { AreAnswerTypes self.new.scope.maker.cx.trees result }
-        ensures no_foreign_header { IsReference self.old.scope.maker.cx trait_ref → IsPlainForest (args_forest self.old.scope.maker.cx.trees trait_ref.args) → in_crate ≡ InCrate.Local OrphanCheckMode.Proper → result ≡ Ok (Ok tt) → NoForeignHeader (world self.old.scope.maker.cx) self.old.scope.maker.cx.local.0 (reference_of self.old.scope.maker.cx.trees trait_ref) }
+        ensures no_foreign_header { IsReference self.old.scope.maker.cx trait_ref → HasNoAliasOrError self.old.scope.maker.cx trait_ref → in_crate ≡ InCrate.Local OrphanCheckMode.Proper → result ≡ Ok (Ok tt) → NoForeignHeaderHere self.old.scope.maker.cx trait_ref }
     {
         orphan_check_trait_ref(
             self.scope.alloc,

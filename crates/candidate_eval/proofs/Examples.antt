@@ -228,9 +228,6 @@ stops s t = record { seen = if is_u16 t.head then Fails (Stopped EvaluatorLimit)
 stopping_normaliser : (orphan_answer P 0 (Local Proper) stops 256 tt (Box (var 0) & u16)).answer ≡ Faulty (Stopped EvaluatorLimit)
 stopping_normaliser = refl
 
-abbrev pub counts : View ℕ ℕ
-counts s t = record { seen = Sees (it (Pair u8 u8)); after = suc s }
-
 -- La of crate 1, Lb of crate 2, Pair and a trait of crate 3, and New of crate 4
 abbrev pub Q : World
 Q = def AdtSort 1 [] false ∷ def AdtSort 2 [] false ∷ def AdtSort 3 (TypeKind ∷ TypeKind ∷ []) true ∷ def TraitSort 3 [] false

@@ -1,3 +1,4 @@
+-- What checks promise of all worlds, and of crates that nobody declared.
 use Rattle.std.specs.Prelude.{◌≡◌, ℕ, true, false, Option, Some, List, [], ◌∷◌, Result}
 use Rattle.std.specs.Fn.{Mut}
 use Rattle.std.specs.Borrow.{MutBor}
@@ -10,7 +11,7 @@ use Rattle.candidate_ir.specs.Trees.{Forest, none, tree, Tree, is_type}
 use Rattle.candidate_ir.specs.Worlds.{IsOf, World, Reference, Extends}
 use Rattle.candidate_eval.specs.declared.coherence.NormalizeErr.{NormalizeErr}
 use Rattle.candidate_eval.specs.Substitutions.{Universes, Overlap}
-use Rattle.candidate_eval.specs.Normalizer.{IsFunction}
+use Rattle.candidate_eval.specs.Normalizer.{IsPlain}
 use Rattle.candidate_eval.specs.Orphan.{MayWrite, IsCovered, plain, View, InCrate, Local, Proper, Compat, Remote, Passes, NonLocalInput, UncoveredInput, Entry, orphan_answer, Step, Viewed, is_general, remote_decision, names}
 
 -- Two crates that name nothing of each other write no headers that overlap.
@@ -82,6 +83,7 @@ abbrev pub NoneFirst : List Entry → Type 0
 NoneFirst [] = Unit {0}
 NoneFirst (e ∷ es) = (e.is_first_input ≡ false) × NoneFirst es
 
+-- none of the entries but the first is the first input
 abbrev pub OnlyFirst : List Entry → Type 0
 OnlyFirst [] = Unit {0}
 OnlyFirst (e ∷ es) = NoneFirst es
@@ -102,6 +104,6 @@ AreResolved resolve (tree h below rest) =
 -- A call with the plain normaliser, and a reference of the declared world in which nothing has a value.
 module _ {C F E : Type 0} (context : C → Context) (resolve : C → Tree → Tree) (g : Mut F (MutBor C × (Ty × Unit {0})) (Result Ty (NormalizeErr E) × (MutBor C × Unit {0}))) where
   pub record IsPlainCall (c : C) (r : TraitRef) : Type 0 where
-    pub normaliser : IsFunction context g c plain
+    pub normaliser : IsPlain context g c
     pub resolved : AreResolved (resolve c) (args_forest (context c).trees r.args)
     pub of_world : IsReference (context c) r

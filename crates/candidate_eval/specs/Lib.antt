@@ -3,6 +3,7 @@ pub mod Answers
 pub mod Substitutions
 pub mod Orphan
 pub mod Laws
+pub mod Calls
 pub mod Table
 pub mod Shapes
 pub mod Walk

@@ -8,7 +8,7 @@ use Rattle.candidate_ir.specs.Context.{Context, Grows}
 use Rattle.candidate_ir.specs.Words.{IsTy, ty_tree}
 use Rattle.candidate_eval.specs.declared.coherence.NormalizeErr.{NormalizeErr}
 use Rattle.candidate_eval.specs.declared.coherence.NormalizeErr.TheVariants as N
-use Rattle.candidate_eval.specs.Orphan.{Fault, Refused, Stopped, Seen, Sees, Fails, View}
+use Rattle.candidate_eval.specs.Orphan.{Fault, Refused, Stopped, Seen, Sees, Fails, View, plain}
 
 -- what an answer shows, in the context that the call leaves
 abbrev pub shown_fault : {E : Type 0} → NormalizeErr E → Fault E
@@ -44,3 +44,7 @@ module _ {C F E : Type 0} (context : C → Context) (g : Mut F (MutBor C × (Ty 
     pub at : (f : F) (c : C) (t : Ty) (r : Result Ty (NormalizeErr E)) (f' : F) (c' : C) → Grows (context c0) (context c)
         → IsTy (context c).trees t → t.0 < 2 ^ 32 → Normalizes f c t r f' c'
         → normal (f, c) (ty_tree (context c).trees t) ≡ record { seen = shown (context c').trees r; after = (f', c') }
+
+  -- It answers its input, and changes nothing.
+  abbrev pub IsPlain : C → Type 0
+  IsPlain c0 = IsFunction c0 plain

@@ -1,3 +1,4 @@
+-- The orphan check and knowability, by the frontier of a reference.
 use Rattle.std.specs.Prelude.{◌≡◌, ℕ, suc, zero, Bool, true, false, Option, Some, None, List, [], ◌∷◌, ◌++◌, ◌||◌, if◌then◌else◌}
 use Rattle.candidate_ir.specs.Trees.{Forest, none, tree, Tree, is_type, is_alias, is_error, is_loose, holds}
 use Rattle.candidate_ir.specs.Worlds.{World, Reference}
@@ -55,6 +56,7 @@ view resolve normalise s t =
 abbrev pub plain : {S E : Type 0} → View S E
 plain s t = record { seen = Sees t; after = s }
 
+-- What stands in a frontier: a view, a fundamental type without type arguments, or why the walk was broken off.
 pub data Item (E : Type 0) : Type 0 where
   Viewed : Tree → Item E
   Empty : Item E
@@ -65,6 +67,7 @@ pub record Step (S E : Type 0) : Type 0 where
   pub item : Item E
   pub after : S
 
+-- the context that the last step left
 abbrev pub left : {S E : Type 0} → S → List (Step S E) → S
 left s [] = s
 left s (x ∷ xs) = left x.after xs
@@ -99,6 +102,7 @@ visit w test see zero s t = record { item = Broken (Stopped WalkDepth); after = 
 visit w test see (suc limit) s t =
     looked w test (over (visit w test see limit)) (see s t).after (see s t).seen
 
+-- The frontier of the types among the trees, each with so many levels left.
 abbrev pub frontier : {S E : Type 0} → World → CrateTest → View S E → ℕ → S → Forest → List (Step S E)
 frontier w test see limit = over (visit w test see limit)
 
@@ -107,6 +111,7 @@ abbrev pub crate_test : InCrate → ℕ → CrateTest
 crate_test (Local m) c = Some c
 crate_test Remote c = None
 
+-- How an item counts.
 pub data Class (E : Type 0) : Type 0 where
   IsNonLocal : Tree → Class E
   IsSkipped : Class E
@@ -115,6 +120,7 @@ pub data Class (E : Type 0) : Type 0 where
   IsUncovered : Tree → Class E
   IsBroken : Fault E → Class E
 
+-- the class of a variable, a placeholder, a bound variable
 abbrev pub loose_class : {E : Type 0} → InCrate → Tree → Class E
 loose_class (Local m) t = IsUncovered t
 loose_class Remote t = IsLocal t
@@ -158,6 +164,7 @@ view_class w test in_crate (H.Closure i k) below = IsBroken (Stopped Unnameable)
 view_class w test in_crate (H.Param n) below = IsBroken (Stopped Unnameable)
 view_class w test in_crate h below = IsNonLocal (record { head = h; children = below })
 
+-- The class of an item.
 abbrev pub class_of : {E : Type 0} → World → CrateTest → InCrate → Item E → Class E
 class_of w test in_crate (Viewed t) = view_class w test in_crate t.head t.children
 class_of w test in_crate Empty = IsEmpty
@@ -168,6 +175,7 @@ pub record Entry : Type 0 where
   pub type : Tree
   pub is_first_input : Bool
 
+-- What a check says.
 pub data Answer (E : Type 0) : Type 0 where
   Passes : Answer E
   NonLocalInput : List Entry → Answer E
@@ -179,12 +187,14 @@ pub record Checked (S A : Type 0) : Type 0 where
   pub answer : A
   pub after : S
 
+-- whether an item of the class decides the check
 abbrev pub decides : {E : Type 0} → Class E → Bool
 decides (IsNonLocal t) = false
 decides IsSkipped = false
 decides IsEmpty = false
 decides _ = true
 
+-- whether it decides the second walk, which passes over uncovered items
 abbrev pub decides_again : {E : Type 0} → Class E → Bool
 decides_again (IsUncovered t) = false
 decides_again c = decides c
@@ -198,6 +208,7 @@ abbrev pub entry : {E : Type 0} → Bool → Class E → List Entry
 entry is_first (IsNonLocal t) = record { type = t; is_first_input = is_first } ∷ []
 entry is_first _ = []
 
+-- the views that aren't local, in order
 abbrev pub entries : {S E : Type 0} → Bool → (Item E → Class E) → List (Step S E) → List Entry
 entries is_first classify [] = []
 entries is_first classify (x ∷ xs) = entry is_first (classify x.item) ++ entries false classify xs
@@ -208,16 +219,19 @@ uncovered t (IsLocal u) = UncoveredInput t (Some u)
 uncovered t (IsBroken (Stopped n)) = Faulty (Stopped n)
 uncovered t _ = UncoveredInput t None
 
+-- the answer for an uncovered view, by what decides the second walk, if anything does
 abbrev pub second : {S E : Type 0} → (Item E → Class E) → Tree → S → List (Step S E) → Option (Step S E) → Checked S (Answer E)
 second classify t s steps None = record { answer = UncoveredInput t None; after = left s steps }
 second classify t s steps (Some x) = record { answer = uncovered t (classify x.item); after = x.after }
 
+-- the answer by the class of the deciding item; the second walk begins where that item was left
 abbrev pub decided : {S E : Type 0} → (Item E → Class E) → (S → List (Step S E)) → S → Class E → Checked S (Answer E)
 decided classify again s (IsLocal t) = record { answer = Passes; after = s }
 decided classify again s (IsUncovered t) = second classify t s (again s) (first_step decides_again classify (again s))
 decided classify again s (IsBroken f) = record { answer = Faulty f; after = s }
 decided classify again s _ = record { answer = NonLocalInput []; after = s }
 
+-- the answer by the deciding item, if there is one, and else by all items
 abbrev pub judged : {S E : Type 0} → (Item E → Class E) → (S → List (Step S E)) → S → List (Step S E) → Option (Step S E) → Checked S (Answer E)
 judged classify again s steps None = record { answer = NonLocalInput (entries true classify steps); after = left s steps }
 judged classify again s steps (Some x) = decided classify again x.after (classify x.item)
@@ -229,6 +243,7 @@ orphan_answer w c in_crate see limit s args =
     let walk = λ (x : _). frontier w test see limit x args in
     judged (class_of w test in_crate) walk s (walk s) (first_step decides (class_of w test in_crate) (walk s))
 
+-- What may be known of the impls of a reference.
 pub data Knowability (E : Type 0) : Type 0 where
   Knowable : Knowability E
   Upstream : Knowability E
@@ -246,6 +261,7 @@ by_answer _ = Upstream
 abbrev pub by_proper_check : {S E : Type 0} → Checked S (Answer E) → Checked S (Knowability E)
 by_proper_check a = record { answer = by_answer a.answer; after = a.after }
 
+-- by the remote check, then by the trait, then by the local check
 abbrev pub by_remote_check : {S E : Type 0} → Bool → (S → Checked S (Answer E)) → S → Answer E → Checked S (Knowability E)
 by_remote_check own proper s Passes = record { answer = Downstream; after = s }
 by_remote_check own proper s (Faulty f) = record { answer = Unknown f; after = s }

@@ -1,3 +1,4 @@
+-- Substitutions, and when two references have a common instance.
 use Rattle.std.specs.Prelude.{◌≡◌, ℕ, Bool, true, false, List, [], ◌∷◌, ◌==◌, ◌&&◌, ◌||◌, ◌+◌, nat_lt, nat_le, if◌then◌else◌}
 use Rattle.candidate_ir.specs.Trees.{binders_of, Kind, ConstantKind, Forest, none, tree, Tree, kind_of, is_type, erase, holds}
 use Rattle.candidate_ir.specs.Worlds.{Reference}
@@ -39,6 +40,7 @@ abbrev pub replaced : Substitution → Head → Forest → Tree
 replaced s (H.Infer v) below = lookup s v (record { head = H.Infer v; children = below })
 replaced s h below = record { head = h; children = below }
 
+-- The trees with each variable's tree in its place.
 abbrev pub apply : Substitution → Forest → Forest
 apply s none = none
 apply s (tree h below rest) =
@@ -86,14 +88,18 @@ escapes depth (tree h below rest) =
 abbrev pub alone : Tree → Forest
 alone t = tree t.head t.children none
 
+-- the universe of each variable
 abbrev pub Universes : Type 0
 Universes = Variable → ℕ
 
+-- The tree is of the variable's sort, has no bound variable of an outer binder, and, with its regions erased, no
+-- placeholder of a universe above the variable's.
 pub record IsAllowedBinding (universe : Universes) (b : Binding) : Type 0 where
   pub fits : fits_sort b.variable.sort b.value.head ≡ true
   pub is_closed : escapes 0 (alone b.value) ≡ false
   pub in_universe : holds (is_placeholder_above (universe b.variable)) (erase (alone b.value)) ≡ false
 
+-- An allowed substitution: each binding is.
 abbrev pub IsAllowed : Universes → Substitution → Type 0
 IsAllowed universe [] = Unit {0}
 IsAllowed universe (b ∷ bs) = IsAllowedBinding universe b × IsAllowed universe bs

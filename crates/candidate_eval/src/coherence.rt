@@ -7,8 +7,8 @@ ghost use Rattle.candidate_ir.specs.Words.{IsTy, IsArgs, args_forest};
 ghost use Rattle.candidate_ir.specs.References.{reference_of};
 ghost use Rattle.candidate_eval.specs.Orphan.{View, view, orphan_answer, Passes, knowability, local_or_fundamental, IsPlainForest};
 ghost use Rattle.candidate_eval.specs.Normalizer.{MayNormalize, KeepsNumbers, IsFunction};
-ghost use Rattle.candidate_eval.specs.Laws.{OnlyFirst, LinkSafety, IsPlainCall, NoForeignHeader, NoUnnamedHeader, NoCoveredHeader, IsDecidedByGeneral, HasDownstream};
-ghost use Rattle.candidate_eval.specs.Substitutions.{Universes};
+ghost use Rattle.candidate_eval.specs.Laws.{OnlyFirst, LinkSafety, IsPlainCall};
+ghost use Rattle.candidate_eval.specs.Calls.{check_of, check_where, knowledge_about, HasNoParam, HasNoAlias, HasNoAliasOrError, IsOfForeignTrait, NoForeignHeaderHere, NoUnnamedHeaderHere, NoCoveredHeaderHere, IsDecidedByGeneralHere, HasDownstreamHere};
 ghost use Rattle.candidate_eval.specs.Answers.{entries_of, IsUncoveredResult, IfNonLocal, AreAnswerTypes, OutOfMemory, IsAnswer, IsKnowledge, answer_of, second_answer};
 ghost use Rattle.candidate_eval.specs.Walk.{setting};
 ghost use Rattle.candidate_eval.specs.Second.{IsSecond};
@@ -147,7 +147,7 @@ where
     requires keeps { KeepsNumbers C.context F.FnMut infcx.old }
     ensures grows { Grows (C.context infcx.old) (C.context infcx.new) }
     ensures types { AreAnswerTypes (C.context infcx.new).trees result }
-    ensures answer { (normal : View (F × C) E) → IsFunction C.context F.FnMut infcx.old normal → ¬ (OutOfMemory result) → orphan_answer (world (C.context infcx.old)) (C.context infcx.old).local.0 in_crate (view (λ s t. C.resolved s.1 t) normal) 256 (normalize.old, infcx.old) (args_forest (C.context infcx.old).trees trait_ref.args) ≡ record { answer = answer_of (C.context infcx.new).trees result; after = (normalize.new, infcx.new) } }
+    ensures answer { (normal : View (F × C) E) → IsFunction C.context F.FnMut infcx.old normal → ¬ (OutOfMemory result) → check_of C.context C.resolved normal in_crate (normalize.old, infcx.old) trait_ref ≡ record { answer = answer_of (C.context infcx.new).trees result; after = (normalize.new, infcx.new) } }
 {
     let mut walk = Walk {
         in_crate,
@@ -195,20 +195,20 @@ where
     E: Drop,
     F: FnMut(&mut C, Ty) -> Result<Ty, NormalizeErr<E>> + Drop,
     requires args { IsArgs (C.context infcx.old).trees trait_ref.args }
-    requires no_param { holds is_param (args_forest (C.context infcx.old).trees trait_ref.args) ≡ false }
+    requires no_param { HasNoParam (C.context infcx.old) trait_ref }
     requires callable { MayNormalize C.context F.FnMut infcx.old }
     requires keeps { KeepsNumbers C.context F.FnMut infcx.old }
     ensures grows { Grows (C.context infcx.old) (C.context infcx.new) }
     ensures types { AreAnswerTypes (C.context infcx.new).trees result }
 
     // For a normaliser whose answers and effects are functions of the tree and the context.
-    ensures answer { (normal : View (F × C) E) → IsFunction C.context F.FnMut infcx.old normal → ¬ (OutOfMemory result) → IsAnswer (C.context infcx.new).trees result infcx.new (orphan_answer (world (C.context infcx.old)) (C.context infcx.old).local.0 in_crate (view (λ s t. C.resolved s.1 t) normal) 256 (normalize, infcx.old) (args_forest (C.context infcx.old).trees trait_ref.args)) }
+    ensures answer { (normal : View (F × C) E) → IsFunction C.context F.FnMut infcx.old normal → ¬ (OutOfMemory result) → IsAnswer (C.context infcx.new).trees result infcx.new (check_of C.context C.resolved normal in_crate (normalize, infcx.old) trait_ref) }
 
     // What passes in `Proper` passes in `Compat`.
-    ensures proper_passes_compat { (normal : View (F × C) E) → IsFunction C.context F.FnMut infcx.old normal → in_crate ≡ InCrate.Local OrphanCheckMode.Proper → result ≡ Ok (Ok tt) → (orphan_answer (world (C.context infcx.old)) (C.context infcx.old).local.0 (InCrate.Local OrphanCheckMode.Compat) (view (λ s t. C.resolved s.1 t) normal) 256 (normalize, infcx.old) (args_forest (C.context infcx.old).trees trait_ref.args)).answer ≡ Passes }
+    ensures proper_passes_compat { (normal : View (F × C) E) → IsFunction C.context F.FnMut infcx.old normal → in_crate ≡ InCrate.Local OrphanCheckMode.Proper → result ≡ Ok (Ok tt) → (check_of C.context C.resolved normal (InCrate.Local OrphanCheckMode.Compat) (normalize, infcx.old) trait_ref).answer ≡ Passes }
 
     // In `Remote` the answer is the same whichever crate is local, and nothing is uncovered.
-    ensures remote_ignores_the_local_crate { (normal : View (F × C) E) → IsFunction C.context F.FnMut infcx.old normal → in_crate ≡ InCrate.Remote → ¬ (OutOfMemory result) → (local : ℕ) → IsAnswer (C.context infcx.new).trees result infcx.new (orphan_answer (world (C.context infcx.old)) local InCrate.Remote (view (λ s t. C.resolved s.1 t) normal) 256 (normalize, infcx.old) (args_forest (C.context infcx.old).trees trait_ref.args)) }
+    ensures remote_ignores_the_local_crate { (normal : View (F × C) E) → IsFunction C.context F.FnMut infcx.old normal → in_crate ≡ InCrate.Remote → ¬ (OutOfMemory result) → (local : ℕ) → IsAnswer (C.context infcx.new).trees result infcx.new (check_where C.context C.resolved normal local InCrate.Remote (normalize, infcx.old) trait_ref) }
     ensures remote_covers { (normal : View (F × C) E) → IsFunction C.context F.FnMut infcx.old normal → in_crate ≡ InCrate.Remote → ¬ (IsUncoveredResult result) }
 
     // At most one entry is the first input, and then it is the first one.
@@ -218,7 +218,7 @@ where
     ensures link_safety { LinkSafety }
 
     // What passes in `Proper` is overlapped by no header of another crate, where neither names the other's crate.
-    ensures no_foreign_header { IsPlainCall C.context C.resolved F.FnMut infcx.old trait_ref → IsPlainForest (args_forest (C.context infcx.old).trees trait_ref.args) → in_crate ≡ InCrate.Local OrphanCheckMode.Proper → result ≡ Ok (Ok tt) → NoForeignHeader (world (C.context infcx.old)) (C.context infcx.old).local.0 (reference_of (C.context infcx.old).trees trait_ref) }
+    ensures no_foreign_header { IsPlainCall C.context C.resolved F.FnMut infcx.old trait_ref → HasNoAliasOrError (C.context infcx.old) trait_ref → in_crate ≡ InCrate.Local OrphanCheckMode.Proper → result ≡ Ok (Ok tt) → NoForeignHeaderHere (C.context infcx.old) trait_ref }
 {
     check(alloc, infcx, trait_ref, in_crate, &mut normalize)
 }
@@ -254,7 +254,7 @@ where
     requires callable { MayNormalize C.context F.FnMut infcx.old }
     requires keeps { KeepsNumbers C.context F.FnMut infcx.old }
     ensures grows { Grows (C.context infcx.old) (C.context infcx.new) }
-    ensures answer { (normal : View (F × C) E) → IsFunction C.context F.FnMut infcx.old normal → result ≢ Err (OrphanStop.Stop Stop.Memory) → IsKnowledge result infcx.new (knowability (world (C.context infcx.old)) (C.context infcx.old).local.0 (view (λ s t. C.resolved s.1 t) normal) 256 (normalize.old, infcx.old) (reference_of (C.context infcx.old).trees trait_ref)) }
+    ensures answer { (normal : View (F × C) E) → IsFunction C.context F.FnMut infcx.old normal → result ≢ Err (OrphanStop.Stop Stop.Memory) → IsKnowledge result infcx.new (knowledge_about C.context C.resolved normal (normalize.old, infcx.old) trait_ref) }
 {
     let remote = check(alloc, infcx, trait_ref, InCrate::Remote, normalize)?;
     if remote.is_ok() {
@@ -291,22 +291,22 @@ where
     E: Drop,
     F: FnMut(&mut C, Ty) -> Result<Ty, NormalizeErr<E>> + Drop,
     requires args { IsArgs (C.context infcx.old).trees trait_ref.args }
-    requires no_param { holds is_param (args_forest (C.context infcx.old).trees trait_ref.args) ≡ false }
+    requires no_param { HasNoParam (C.context infcx.old) trait_ref }
     requires callable { MayNormalize C.context F.FnMut infcx.old }
     requires keeps { KeepsNumbers C.context F.FnMut infcx.old }
     ensures grows { Grows (C.context infcx.old) (C.context infcx.new) }
 
     // For a normaliser whose answers and effects are functions of the tree and the context.
-    ensures answer { (normal : View (F × C) E) → IsFunction C.context F.FnMut infcx.old normal → result ≢ Err (OrphanStop.Stop Stop.Memory) → IsKnowledge result infcx.new (knowability (world (C.context infcx.old)) (C.context infcx.old).local.0 (view (λ s t. C.resolved s.1 t) normal) 256 (normalize, infcx.old) (reference_of (C.context infcx.old).trees trait_ref)) }
+    ensures answer { (normal : View (F × C) E) → IsFunction C.context F.FnMut infcx.old normal → result ≢ Err (OrphanStop.Stop Stop.Memory) → IsKnowledge result infcx.new (knowledge_about C.context C.resolved normal (normalize, infcx.old) trait_ref) }
 
     // A known reference is overlapped by no header that a crate which it doesn't name may write.
-    ensures no_unnamed_header { IsPlainCall C.context C.resolved F.FnMut infcx.old trait_ref → holds is_alias (args_forest (C.context infcx.old).trees trait_ref.args) ≡ false → result ≡ Ok (Ok tt) → NoUnnamedHeader (world (C.context infcx.old)) (reference_of (C.context infcx.old).trees trait_ref) }
+    ensures no_unnamed_header { IsPlainCall C.context C.resolved F.FnMut infcx.old trait_ref → HasNoAlias (C.context infcx.old) trait_ref → result ≡ Ok (Ok tt) → NoUnnamedHeaderHere (C.context infcx.old) trait_ref }
 
     // Where a general variable makes it a downstream one, some crate may write a header that overlaps.
-    ensures downstream_header { IsPlainCall C.context C.resolved F.FnMut infcx.old trait_ref → IsPlainForest (args_forest (C.context infcx.old).trees trait_ref.args) → result ≡ Ok (Err Conflict.Downstream) → IsDecidedByGeneral (world (C.context infcx.old)) 256 (reference_of (C.context infcx.old).trees trait_ref) → (u v : Universes) → HasDownstream (world (C.context infcx.old)) (reference_of (C.context infcx.old).trees trait_ref) u v }
+    ensures downstream_header { IsPlainCall C.context C.resolved F.FnMut infcx.old trait_ref → HasNoAliasOrError (C.context infcx.old) trait_ref → result ≡ Ok (Err Conflict.Downstream) → IsDecidedByGeneralHere (C.context infcx.old) trait_ref → HasDownstreamHere (C.context infcx.old) trait_ref }
 
     // Known by its own types, it is overlapped by no covered header that names nothing of the local crate.
-    ensures no_covered_header { IsPlainCall C.context C.resolved F.FnMut infcx.old trait_ref → holds is_alias (args_forest (C.context infcx.old).trees trait_ref.args) ≡ false → result ≡ Ok (Ok tt) → local_or_fundamental (world (C.context infcx.old)) (C.context infcx.old).local.0 trait_ref.def_id.0 ≡ false → NoCoveredHeader (world (C.context infcx.old)) (C.context infcx.old).local.0 256 (reference_of (C.context infcx.old).trees trait_ref) }
+    ensures no_covered_header { IsPlainCall C.context C.resolved F.FnMut infcx.old trait_ref → HasNoAlias (C.context infcx.old) trait_ref → result ≡ Ok (Ok tt) → IsOfForeignTrait (C.context infcx.old) trait_ref → NoCoveredHeaderHere (C.context infcx.old) trait_ref }
 {
     knowable(alloc, infcx, trait_ref, &mut normalize)
 }

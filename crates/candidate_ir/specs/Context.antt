@@ -16,6 +16,7 @@ use Rattle.candidate_ir.specs.Nodes.{Extends}
 use Rattle.candidate_ir.specs.Worlds.{World, Definition, DefinitionSort, AdtSort, ForeignSort, TraitSort, AssociatedTypeSort, AssociatedConstantSort}
 use Rattle.candidate_ir.specs.Declaration.{Declaration}
 
+-- What contracts see of a builder, of declarations and of a context.
 pub record Context : Type 0 where
   -- how many crates there are: they are numbered from 0
   pub crates : ℕ

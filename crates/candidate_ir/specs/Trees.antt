@@ -32,6 +32,7 @@ pub data Forest : Type 0 where
   none : Forest
   tree : Head → Forest → Forest → Forest
 
+-- One tree: its head, and the trees below it in a row.
 pub record Tree : Type 0 where
   pub head : Head
   pub children : Forest
@@ -50,6 +51,7 @@ abbrev pub list_kind : ListHead → Kind
 list_kind L.Args = ArgumentsKind
 list_kind L.Preds = PredicatesKind
 
+-- what a tree with the head stands for
 abbrev pub kind_of : Head → Kind
 kind_of (H.Infer v) = sort_kind v.sort
 kind_of (H.Const _) = ConstantKind
@@ -64,12 +66,6 @@ is_type_kind _ = false
 
 abbrev pub is_type : Head → Bool
 is_type h = is_type_kind (kind_of h)
-
-abbrev pub same_kind : Kind → Kind → Bool
-same_kind TypeKind TypeKind = true
-same_kind ConstantKind ConstantKind = true
-same_kind RegionKind RegionKind = true
-same_kind _ _ = false
 
 -- one row, and then another
 abbrev pub join : Forest → Forest → Forest
@@ -158,36 +154,3 @@ binders_of (H.Builtin B.UnsafeBinder) = 1
 binders_of (H.Part (P.Pred _)) = 1
 binders_of (H.Part P.Sig) = 1
 binders_of _ = 0
-
-abbrev pub bound_of : Head → Option BoundVar
-bound_of (H.Bound var) = Some var
-bound_of (H.Const (C.Bound var)) = Some var
-bound_of (H.Region (R.Bound var)) = Some var
-bound_of _ = None
-
-abbrev pub param_of : Head → Option ℕ
-param_of (H.Param index) = Some index
-param_of (H.Const (C.Param index)) = Some index
-param_of _ = None
-
--- what a fold asks about: types, constants and regions
-abbrev pub answered : Kind → Option Tree → Option Tree
-answered TypeKind o = o
-answered ConstantKind o = o
-answered RegionKind o = o
-answered _ o = None
-
--- an answer stands in place of a tree; without one the children are folded, under the binders of the head
-abbrev pub fold_forest : (Tree → ℕ → Option Tree) → ℕ → Forest → Forest
-fold_forest answer d none = none
-fold_forest answer d (tree h below rest) =
-    let below_it = fold_forest answer (d + binders_of h) below in
-    let it = unwrap_or (answered (kind_of h) (answer (record { head = h; children = below }) d)) (record { head = h; children = below_it }) in
-    tree it.head it.children (fold_forest answer d rest)
-
-abbrev pub answered_at : (Tree → ℕ → Option Tree) → ℕ → Tree → Option Tree
-answered_at answer d t = answered (kind_of t.head) (answer t d)
-
-abbrev pub fold_tree : (Tree → ℕ → Option Tree) → ℕ → Tree → Tree
-fold_tree answer d t =
-    unwrap_or (answered_at answer d t) (record { head = t.head; children = fold_forest answer (d + binders_of t.head) t.children })

@@ -46,9 +46,6 @@ IsPreds ts p = kind_at ts p.0 ≡ PredicatesKind
 abbrev pub IsPred : List Tree → Pred → Type 0
 IsPred ts p = kind_at ts p.0 ≡ PredicateKind
 
-abbrev pub IsSig : List Tree → Sig → Type 0
-IsSig ts s = kind_at ts s.0 ≡ SignatureKind
-
 abbrev pub IsVars : List Tree → Vars → Type 0
 IsVars ts v = kind_at ts v.0 ≡ BinderKind
 
@@ -67,9 +64,6 @@ region_tree ts r = tree_at ts r.0
 
 abbrev pub pred_tree : List Tree → Pred → Tree
 pred_tree ts p = tree_at ts p.0
-
-abbrev pub sig_tree : List Tree → Sig → Tree
-sig_tree ts s = tree_at ts s.0
 
 abbrev pub vars_tree : List Tree → Vars → Tree
 vars_tree ts v = tree_at ts v.0
@@ -94,9 +88,6 @@ ConstKindFits ts k = Fits ts (N.Const k)
 abbrev pub PredFits : List Tree → Binder ExistentialPredicate → Type 0
 PredFits ts b = Fits ts (N.Pred b)
 
-abbrev pub SigFits : List Tree → Binder ClosureSig → Type 0
-SigFits ts b = Fits ts (N.Sig b)
-
 abbrev pub ListFits : List Tree → List GenericArg → Type 0
 ListFits ts xs = kinds_at ts (numbers (map arg_child xs)) ≡ sorts (map arg_child xs)
 
@@ -113,7 +104,7 @@ abbrev pub names_trait : ExistentialPredicate → Bool
 names_trait (E.Trait _ _) = true
 names_trait _ = false
 
--- One bound at most names a trait with arguments, which is the principal.
+-- One bound at most is by a trait that isn't an auto trait: the principal.
 abbrev pub AtMostOnePrincipal : List (Binder ExistentialPredicate) → Type 0
 AtMostOnePrincipal bs = count_by (λ b. names_trait b.value) bs ≤ 1
 
@@ -129,9 +120,6 @@ region_kind_tree k = record { head = H.Region k; children = none }
 
 abbrev pub pred_kind_tree : List Tree → Binder ExistentialPredicate → Tree
 pred_kind_tree ts b = node_tree ts (N.Pred b)
-
-abbrev pub sig_kind_tree : List Tree → Binder ClosureSig → Tree
-sig_kind_tree ts b = node_tree ts (N.Sig b)
 
 abbrev pub var_kind_tree : VarKind → Tree
 var_kind_tree k = record { head = H.Part (P.Var k); children = none }

@@ -77,6 +77,7 @@ bounds_of [] = RegionKind ∷ []
 bounds_of (k ∷ []) = RegionKind ∷ []
 bounds_of (k ∷ (l ∷ ks)) = PredicateKind ∷ bounds_of (l ∷ ks)
 
+-- the kinds of the children of a type that no definition makes
 abbrev pub builtin_kinds : Builtin → List Kind → List Kind
 builtin_kinds B.Array ks = TypeKind ∷ ConstantKind ∷ []
 builtin_kinds B.Slice ks = TypeKind ∷ []

@@ -8,12 +8,12 @@ ghost use Rattle.candidate_ir.specs.Nodes.{tree_at, kind_at, node_tree, head_of,
 ghost use Rattle.candidate_ir.specs.Table.{IsNodeOf, IsRow};
 ghost use Rattle.candidate_ir.specs.Worlds.{World};
 ghost use Rattle.candidate_ir.specs.References.{Takes, AllTake, AllFit};
-ghost use Rattle.candidate_ir.specs.Words.{IsTy, IsConst, IsRegion, IsArgs, IsPreds, IsPred, IsSig, IsVars, IsVar, ty_tree, const_tree, region_tree, args_forest, preds_forest, pred_tree, sig_tree, vars_tree, var_tree, KindFits, ConstKindFits, ListFits, PredListFits, VarListFits, PredFits, SigFits, kind_tree, const_kind_tree, region_kind_tree, list_forest, pred_list_forest, pred_kind_tree, sig_kind_tree, vars_kind_tree, var_kind_tree, BoundsFit, bounds_forest, binder_tree, IsMkStop, IsMkListStop};
+ghost use Rattle.candidate_ir.specs.Words.{IsTy, IsConst, IsRegion, IsArgs, IsPreds, IsPred, IsVars, IsVar, ty_tree, const_tree, region_tree, args_forest, preds_forest, pred_tree, vars_tree, var_tree, KindFits, ConstKindFits, ListFits, PredListFits, VarListFits, PredFits, kind_tree, const_kind_tree, region_kind_tree, list_forest, pred_list_forest, pred_kind_tree, vars_kind_tree, var_kind_tree, BoundsFit, bounds_forest, binder_tree, IsMkStop, IsMkListStop};
 
 use crate::ir::heads::Flag;
 use crate::ir::kinds::{
-    Args, Binder, ClosureSig, Const, ConstKind, ExistentialPredicate, GenericArg, Pred, Preds,
-    Region, RegionKind, Sig, TraitId, Ty, TyKind, Var, VarKind, Vars,
+    Args, Binder, Const, ConstKind, ExistentialPredicate, GenericArg, Pred, Preds,
+    Region, RegionKind, TraitId, Ty, TyKind, Var, VarKind, Vars,
 };
 use crate::ir::node::{Node, Row};
 use crate::ir::stop::Stop;
@@ -257,19 +257,6 @@ impl Nodes {
         }
     }
 
-    /// The signature of a closure.
-    pub(crate) fn mk_sig(&mut self, sig: Binder<ClosureSig>) -> Result<Sig, Stop>
-        requires { SigFits self.old sig }
-        ensures kept { Extends self.old self.new }
-        ensures fit { (w : World) → AllFit w self.old → Takes w (sig_kind_tree self.old sig) → AllFit w self.new }
-        ensures sort { IfOk result (λ s. IsSig self.new s) }
-        ensures tree { IfOk result (λ s. sig_tree self.new s ≡ sig_kind_tree self.old sig) }
-        ensures unchanged { IfErr result (λ _. self.new ≡ self.old) }
-        ensures cause { IfErr result (λ s. IsMkStop self.old (height (sig_kind_tree self.old sig)) s) }
-    {
-        Ok(Sig(self.add(Node::Sig(sig))?))
-    }
-
     /// The list of these variables of a binder.
     fn mk_var_list(&mut self, list: Vec<Var>) -> Result<Vars, Stop>
         requires { VarListFits self.old list.items }
@@ -350,18 +337,6 @@ impl Nodes {
     {
         match self.node(args.0) {
             Node::Args(list) => list.as_slice(),
-            _ => unreachable!(),
-        }
-    }
-
-    /// The kind of a constant.
-    pub(crate) fn const_kind(&self, constant: Const) -> ConstKind
-        requires { IsConst self.now constant }
-        ensures fits { ConstKindFits self.now result }
-        ensures tree { const_kind_tree self.now result ≡ const_tree self.now constant }
-    {
-        match self.node(constant.0) {
-            Node::Const(kind) => *kind,
             _ => unreachable!(),
         }
     }

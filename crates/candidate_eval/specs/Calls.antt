@@ -1,0 +1,58 @@
+-- What a call says by the definitions, and what holds of its reference.
+use Rattle.std.specs.Prelude.{◌≡◌, ℕ, false}
+use Rattle.candidate_ir.specs.declared.ir.kinds.TraitRef.{TraitRef}
+use Rattle.candidate_ir.specs.Trees.{Tree, holds, is_alias, is_param}
+use Rattle.candidate_ir.specs.Context.{Context, world}
+use Rattle.candidate_ir.specs.Words.{args_forest}
+use Rattle.candidate_ir.specs.References.{reference_of}
+use Rattle.candidate_eval.specs.Substitutions.{Universes}
+use Rattle.candidate_eval.specs.Orphan.{InCrate, View, view, Checked, Answer, orphan_answer, Knowability, knowability, local_or_fundamental, IsPlainForest}
+use Rattle.candidate_eval.specs.Laws.{NoForeignHeader, NoUnnamedHeader, NoCoveredHeader, IsDecidedByGeneral, HasDownstream}
+
+-- Visits may be nested so deep.
+abbrev pub depth_limit : ℕ
+depth_limit = 256
+
+module _ {C F E : Type 0} (context : C → Context) (resolve : C → Tree → Tree) (normal : View (F × C) E) where
+  -- The check of a reference of the context, where this crate is local.
+  abbrev pub check_where : ℕ → InCrate → F × C → TraitRef → Checked (F × C) (Answer E)
+  check_where local m s r =
+      orphan_answer (world (context s.1)) local m (view (λ x t. resolve x.1 t) normal) depth_limit s (args_forest (context s.1).trees r.args)
+
+  -- The same, for the context's own local crate.
+  abbrev pub check_of : InCrate → F × C → TraitRef → Checked (F × C) (Answer E)
+  check_of m s r = check_where (context s.1).local.0 m s r
+
+  -- What may be known of a reference of the context.
+  abbrev pub knowledge_about : F × C → TraitRef → Checked (F × C) (Knowability E)
+  knowledge_about s r =
+      knowability (world (context s.1)) (context s.1).local.0 (view (λ x t. resolve x.1 t) normal) depth_limit s (reference_of (context s.1).trees r)
+
+-- What holds of a reference of a context.
+abbrev pub HasNoParam : Context → TraitRef → Type 0
+HasNoParam c r = holds is_param (args_forest c.trees r.args) ≡ false
+
+abbrev pub HasNoAlias : Context → TraitRef → Type 0
+HasNoAlias c r = holds is_alias (args_forest c.trees r.args) ≡ false
+
+abbrev pub HasNoAliasOrError : Context → TraitRef → Type 0
+HasNoAliasOrError c r = IsPlainForest (args_forest c.trees r.args)
+
+-- Its trait is neither of the local crate nor fundamental.
+abbrev pub IsOfForeignTrait : Context → TraitRef → Type 0
+IsOfForeignTrait c r = local_or_fundamental (world c) c.local.0 r.def_id.0 ≡ false
+
+abbrev pub NoForeignHeaderHere : Context → TraitRef → Type 0
+NoForeignHeaderHere c r = NoForeignHeader (world c) c.local.0 (reference_of c.trees r)
+
+abbrev pub NoUnnamedHeaderHere : Context → TraitRef → Type 0
+NoUnnamedHeaderHere c r = NoUnnamedHeader (world c) (reference_of c.trees r)
+
+abbrev pub NoCoveredHeaderHere : Context → TraitRef → Type 0
+NoCoveredHeaderHere c r = NoCoveredHeader (world c) c.local.0 depth_limit (reference_of c.trees r)
+
+abbrev pub IsDecidedByGeneralHere : Context → TraitRef → Type 0
+IsDecidedByGeneralHere c r = IsDecidedByGeneral (world c) depth_limit (reference_of c.trees r)
+
+abbrev pub HasDownstreamHere : Context → TraitRef → Type 0
+HasDownstreamHere c r = (u v : Universes) → HasDownstream (world c) (reference_of c.trees r) u v
