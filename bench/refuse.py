@@ -90,18 +90,21 @@ class Program:
 
     def __init__(self, library, text):
         self.library = library
-        self.text = text.encode()
-        self.lines = text.split("\n")
+        self.text = text
+        with open(text) as given:
+            self.lines = given.read().split("\n")
 
     def run(self, **refused):
         """The status, the lines that it printed, and what it wrote on the standard error."""
-        done = subprocess.run(
-            [PROGRAM],
-            input=self.text,
-            capture_output=True,
-            env={"LD_PRELOAD": self.library, **refused},
-            timeout=60,
-        )
+        # It reads a file, since reads of a pipe may be cut anywhere, and then the growths differ.
+        with open(self.text, "rb") as given:
+            done = subprocess.run(
+                [PROGRAM],
+                stdin=given,
+                capture_output=True,
+                env={"LD_PRELOAD": self.library, **refused},
+                timeout=60,
+            )
         return done.returncode, done.stdout.decode().splitlines(True), done.stderr.decode()
 
     def queries_before(self, number):
@@ -126,7 +129,7 @@ class Program:
 
 
 def refuse_each(name, library, text):
-    """Refuses each growth of a run over the text, and says whether all was as it should be."""
+    """Refuses each growth of a run over that file, and says whether all was as it should be."""
     program = Program(library, text)
     status, answers, growths = program.run()
     if status != 0 or not growths.strip().isdigit():
@@ -165,7 +168,12 @@ def main():
         with open(source, "w") as taken:
             taken.write(REFUSING)
         subprocess.run(["cc", "-O1", "-shared", "-fPIC", "-o", library, source], check=True)
-        well = [refuse_each(name, library, text) for name, text in texts]
+        well = []
+        for name, lines in texts:
+            text = os.path.join(folder, "text")
+            with open(text, "w") as taken:
+                taken.write(lines)
+            well.append(refuse_each(name, library, text))
     sys.exit(0 if all(well) else 1)
 
 

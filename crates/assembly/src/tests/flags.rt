@@ -68,7 +68,8 @@ fn says_what_stands_in_a_type(rt: HostRuntime) -> Result<(), Fail> {
     assert_eq!(rt; of_param, TypeFlags::HAS_PARAM);
     let of_error = of_type(&mut cx, TyKind::Error)?;
     assert_eq!(rt; of_error, TypeFlags::HAS_ERROR);
-    assert_eq!(rt; of_projection(&mut cx)?, TypeFlags(1 + 1024));
+    let both = TypeFlags::HAS_ALIAS | TypeFlags::HAS_TY_INFER;
+    assert_eq!(rt; of_projection(&mut cx)?, both);
     Ok(())
 }
 
@@ -113,4 +114,14 @@ fn says_what_stands_in_a_region(rt: HostRuntime) -> Result<(), Fail> {
         assert_eq!(rt; flags, *want);
     }
     Ok(())
+}
+
+#[test]
+fn joins_the_flags_of_sorts(rt: HostRuntime) {
+    let infer = TypeFlags::HAS_TY_INFER | TypeFlags::HAS_RE_INFER | TypeFlags::HAS_CT_INFER;
+    assert_eq!(rt; infer, TypeFlags::HAS_INFER);
+    let placeholder = TypeFlags::HAS_TY_PLACEHOLDER
+        | TypeFlags::HAS_RE_PLACEHOLDER
+        | TypeFlags::HAS_CT_PLACEHOLDER;
+    assert_eq!(rt; placeholder, TypeFlags::HAS_PLACEHOLDER);
 }
