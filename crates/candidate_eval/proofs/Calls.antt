@@ -1,5 +1,5 @@
 -- Calls of a normaliser.
-use Rattle.std.proofs.Common.{◌≡◌, ◌<◌, ◌^◌, Result, IfOk, refl}
+use Rattle.std.proofs.Common.{◌≡◌, ℕ, zero, suc, ◌+◌, ◌<◌, ◌^◌, Result, IfOk, refl, subst}
 use Rattle.std.specs.Fn.{Mut, Called}
 use Rattle.std.specs.Borrow.{MutBor}
 use Rattle.candidate_ir.specs.declared.ir.kinds.Ty.{Ty}
@@ -8,7 +8,7 @@ use Rattle.candidate_ir.specs.Words.{IsTy, ty_tree}
 use Rattle.candidate_ir.proofs.Kept.{grows-refl, grows-trans}
 use Rattle.candidate_eval.specs.declared.coherence.NormalizeErr.{NormalizeErr}
 use Rattle.candidate_eval.specs.Orphan.{View}
-use Rattle.candidate_eval.specs.Normalizer.{shown, Normalizes, MayNormalize, KeepsNumbers, IsFunction}
+use Rattle.candidate_eval.specs.Normalizer.{shown, Normalizes, MayNormalize, KeepsNumbers, IsFunction, Lead, IsLeftByCalls}
 
 module _ {C F E : Type 0} (context : C → Context) (g : Mut F (MutBor C × (Ty × Unit {0})) (Result Ty (NormalizeErr E) × (MutBor C × Unit {0}))) where
   normalizes : (f : F) (lent : MutBor C) (t : Ty) (r : Result Ty (NormalizeErr E)) (left : MutBor C) (f' : F)
@@ -38,3 +38,19 @@ module _ {C F E : Type 0} (context : C → Context) (g : Mut F (MutBor C × (Ty 
 
   pub function-later : (c d : C) (normal : View (F × C) E) → Grows (context c) (context d) → IsFunction context g c normal → IsFunction context g d normal
   function-later c d normal h m = record { at = λ f x t r f' x' k s n w. m.at f x t r f' x' (grows-trans (context c) (context d) (context x) h k) s n w }
+
+  lead-then : (n : ℕ) (f : F) (c : C) (f1 : F) (c1 : C) (f2 : F) (c2 : C) → Lead context g n f c f1 c1 → IsLeftByCalls context g f1 c1 f2 c2 → IsLeftByCalls context g f c f2 c2
+  lead-then zero f c f1 c1 f2 c2 a b = subst (λ x. IsLeftByCalls context g x c f2 c2) a.0 (subst (λ x. IsLeftByCalls context g f1 x f2 c2) a.1 b)
+  lead-then (suc n) f c f1 c1 f2 c2 a b =
+      let k = lead-then n a.2 a.3 f1 c1 f2 c2 a.5 b in
+      record { calls = suc k.calls; lead = (a.0, a.1, a.2, a.3, a.4, k.lead) }
+
+  pub left-same : (f : F) (c : C) → IsLeftByCalls context g f c f c
+  left-same f c = record { calls = 0; lead = (refl, refl) }
+
+  pub left-then : (f : F) (c : C) (f1 : F) (c1 : C) (f2 : F) (c2 : C) → IsLeftByCalls context g f c f1 c1 → IsLeftByCalls context g f1 c1 f2 c2 → IsLeftByCalls context g f c f2 c2
+  left-then f c f1 c1 f2 c2 a b = lead-then a.calls f c f1 c1 f2 c2 a.lead b
+
+  pub left-by-call : (f : F) (lent : MutBor C) (t : Ty) (r : Result Ty (NormalizeErr E)) (left : MutBor C) (f' : F)
+      → Called g f (lent, (t, tt)) (r, (left, tt)) f' → IsLeftByCalls context g f lent.now f' left.now
+  left-by-call f lent t r left f' h = record { calls = 1; lead = (t, r, f', left.now, normalizes f lent t r left f' h, (refl, refl)) }

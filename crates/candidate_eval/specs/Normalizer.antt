@@ -1,5 +1,5 @@
 -- What is asked of a normaliser, a closure that may change a context, and what is known of its calls.
-use Rattle.std.specs.Prelude.{◌≡◌, ◌<◌, ◌^◌, List, Result, Ok, Err, IfOk}
+use Rattle.std.specs.Prelude.{◌≡◌, ◌<◌, ◌^◌, List, Result, Ok, Err, IfOk, zero, suc, ℕ}
 use Rattle.std.specs.Fn.{Mut, Called}
 use Rattle.std.specs.Borrow.{MutBor}
 use Rattle.candidate_ir.specs.declared.ir.kinds.Ty.{Ty}
@@ -48,3 +48,13 @@ module _ {C F E : Type 0} (context : C → Context) (g : Mut F (MutBor C × (Ty 
   -- It answers its input, and changes nothing.
   abbrev pub IsPlain : C → Type 0
   IsPlain c0 = IsFunction c0 plain
+
+  -- So many of its calls lead from one normaliser and context to another.
+  abbrev pub Lead : ℕ → F → C → F → C → Type 0
+  Lead zero f c f' c' = (f' ≡ f) × (c' ≡ c)
+  Lead (suc n) f c f' c' = (t : Ty) × (r : Result Ty (NormalizeErr E)) × (f1 : F) × (c1 : C) × Normalizes f c t r f1 c1 × Lead n f1 c1 f' c'
+
+  -- What is left was changed by calls of the normaliser alone.
+  pub record IsLeftByCalls (f : F) (c : C) (f' : F) (c' : C) : Type 0 where
+    pub calls : ℕ
+    pub lead : Lead calls f c f' c'

@@ -7,13 +7,40 @@ use std::test::Fail;
 const QUERIES: &str =
     "orphan local Trait Pair Vec (0) Box LocalType\norphan local Trait Vec LocalType\n";
 
+/// The text of the stored run.
+const STORED: &str = "adt 1 Vec 1
+adt 1 Box 1 fundamental
+adt 1 Pair 2 fundamental
+adt 1 Unit0 0 fundamental
+adt 0 LocalType 0
+adt 0 Wrap 1
+trait 1 Trait 0
+trait 1 Trait1 1
+trait 1 Trait2 2
+trait 0 LocalTrait 0
+trait 1 Tr 0
+orphan local Trait Pair Vec (0) Box LocalType
+orphan local Trait Vec LocalType
+";
+
 #[test]
 fn ends_wherever_the_text_is_cut(rt: HostRuntime) -> Result<(), Fail> {
     let text = declared(rt.alloc(), QUERIES)?;
-    for end in 0..text.len() {
-        let (status, _) = run_on(rt.alloc(), &text.as_bytes()[..end]);
-        assert!(rt; status != Status::DeviceFailed, "{end}");
+    for text in [text.as_str(), STORED] {
+        for end in 0..text.len() {
+            let (status, _) = run_on(rt.alloc(), &text.as_bytes()[..end]);
+            assert!(rt; status != Status::DeviceFailed, "{end}");
+        }
     }
+    Ok(())
+}
+
+#[test]
+fn answers_the_stored_run(rt: HostRuntime) -> Result<(), Fail> {
+    let (status, written) = run_on(rt.alloc(), STORED.as_bytes());
+    assert_eq!(rt; status, Status::Done);
+    let want = "ok\nnonlocal (Vec LocalType, Yes)\n";
+    assert_eq!(rt; written.as_slice(), want.as_bytes());
     Ok(())
 }
 

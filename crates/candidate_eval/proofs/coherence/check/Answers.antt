@@ -5,7 +5,7 @@ use Rattle.candidate_ir.specs.declared.ir.stop.Stop.TheVariants.{Memory}
 use Rattle.candidate_eval.specs.declared.coherence.OrphanStop.TheVariants as O
 use Rattle.candidate_eval.specs.Answers.{second_answer}
 use Rattle.candidate_eval.specs.Orphan.{Answer, Checked, view}
-use Rattle.candidate_eval.proofs.Calls.{keeps-later, function-later}
+use Rattle.candidate_eval.proofs.Calls.{keeps-later, function-later, left-then}
 use Rattle.candidate_eval.proofs.Checks.{uncovered-checked}
 use Rattle.candidate_eval.proofs.coherence.check.Goals as goal
 
@@ -49,3 +49,11 @@ returns-in-Err-Uncovered-clause-answer g c = λ normal h ne.
     (first.outcome normal h (λ x. cc)) checked
     (λ t. c.in-Err.ensures.answer normal later (λ x. ne (let y : c.in-Err.stop ≡ Memory = cc in ap (λ z. Err (O.Stop z)) y)) t) in
     e
+
+pub returns-in-Ok-first_local_ty-clause-calls : goal.returns-in-Ok-first_local_ty-clause-calls
+returns-in-Ok-first_local_ty-clause-calls g c =
+    left-then g.C.Make.context g.F.FnMut _ _ _ _ _ _ c.visit_args.ensures.calls c.first_local_ty.ensures.calls
+
+pub returns-in-Err-Uncovered-clause-calls : goal.returns-in-Err-Uncovered-clause-calls
+returns-in-Err-Uncovered-clause-calls g c =
+    left-then g.C.Make.context g.F.FnMut _ _ _ _ _ _ c.visit_args.ensures.calls c.first_local_ty.ensures.calls

@@ -5,7 +5,7 @@ use Rattle.candidate_ir.proofs.Kept.{args-kept}
 use Rattle.candidate_ir.specs.declared.ir.stop.Stop.TheVariants.{Memory}
 use Rattle.candidate_eval.specs.declared.coherence.OrphanStop.TheVariants as O
 use Rattle.candidate_eval.specs.Orphan.{view, local_or_fundamental}
-use Rattle.candidate_eval.proofs.Calls.{keeps-later, function-later}
+use Rattle.candidate_eval.proofs.Calls.{keeps-later, function-later, left-then}
 use Rattle.candidate_eval.proofs.Knows.{knows-locally, local-passes, local-fails, local-stops}
 use Rattle.candidate_eval.proofs.coherence.knowable.Goals as goal
 
@@ -60,3 +60,12 @@ returns-clause-answer g c = λ normal h ne.
     (sym c.is_ok.ensures.value ∙ c.if-is_ok.false) own
     (c.in_ok-remote.ensures.answer normal h (λ x. cc)) (c.in_ok-local.ensures.answer normal later (λ x. cc)) in
     record { answer = ap (λ x. x.answer) e ∙ local-fails (g.C.Make.context c.check-2.new.infcx).trees c.in_ok-local.local (sym c.is_ok-2.ensures.value ∙ c.if-is_ok-2.false); leaves = ap (λ x. x.after.1) e }
+
+pub returns-in_err-local-clause-calls : goal.returns-in_err-local-clause-calls
+returns-in_err-local-clause-calls g c = left-then g.C.Make.context g.F.FnMut _ _ _ _ _ _ c.check.ensures.calls c.check-2.ensures.calls
+
+pub returns-then-is_ok-2-clause-calls : goal.returns-then-is_ok-2-clause-calls
+returns-then-is_ok-2-clause-calls g c = left-then g.C.Make.context g.F.FnMut _ _ _ _ _ _ c.check.ensures.calls c.check-2.ensures.calls
+
+pub returns-clause-calls : goal.returns-clause-calls
+returns-clause-calls g c = left-then g.C.Make.context g.F.FnMut _ _ _ _ _ _ c.check.ensures.calls c.check-2.ensures.calls

@@ -9,7 +9,7 @@ use Rattle.candidate_eval.proofs.Lists.{sofar-begin, sofar-end, type-at}
 use Rattle.candidate_eval.proofs.Loops.{index-below, next-skip, next-visit, next-found}
 use Rattle.candidate_eval.specs.Orphan.{view}
 use Rattle.candidate_eval.specs.Walk.{setting}
-use Rattle.candidate_eval.proofs.Calls.{may-later, keeps-later, function-later}
+use Rattle.candidate_eval.proofs.Calls.{may-later, keeps-later, function-later, left-same, left-then}
 use Rattle.candidate_eval.proofs.Walking.{too-deep, types-kept, item-types, item-exit}
 use Rattle.candidate_eval.proofs.Visits.{visited-nothing, visited-item, visited-target, visited-arguments, item-some, target-some, arguments-some}
 use Rattle.candidate_eval.proofs.walk.+walk.Goals as goal
@@ -141,6 +141,16 @@ visit_ty-returns-clause-grows g t c =
       | visit_ty-in-Arguments w ↦ rw w.infcx-is (grows-trans _ _ _ c.view_of.ensures.grows w.visit_args-outcome.ensures.grows)
     ]
 
+pub visit_ty-returns-clause-calls : goal.visit_ty-returns-clause-calls
+visit_ty-returns-clause-calls g t c =
+    elim c.match-shape_of.branch [
+      | visit_ty-in-Item w ↦ rw (w.infcx-is, w.normalize-is) c.view_of.ensures.calls
+      | visit_ty-in-Target w ↦ rw (w.infcx-is, w.normalize-is)
+          (left-then g.C.Make.context g.F.FnMut _ _ _ _ _ _ c.view_of.ensures.calls w.visit_ty-outcome.ensures.calls)
+      | visit_ty-in-Arguments w ↦ rw (w.infcx-is, w.normalize-is)
+          (left-then g.C.Make.context g.F.FnMut _ _ _ _ _ _ c.view_of.ensures.calls w.visit_args-outcome.ensures.calls)
+    ]
+
 pub visit_ty-returns-clause-recorded : goal.visit_ty-returns-clause-recorded
 visit_ty-returns-clause-recorded g t c =
     elim c.match-shape_of.branch [
@@ -166,6 +176,7 @@ visit_args-loop-i-init g t c =
     let ensures = rw c.cx.ensures at c.args-count.ensures in
     record {
       grows = grows-refl c0;
+      calls = left-same g.C.Make.context g.F.FnMut c.args.normalize.now c.args.infcx.now;
       same = record { in_crate = refl; seeks_local = refl };
       recorded = c.requires.recorded;
       count_is = sym (count-members c0.trees c.args-count.result.now ensures.fits) ∙ ap count ensures.tree;
@@ -227,6 +238,7 @@ visit_args-loop-i-preserved g t c =
       | visit_args-in-Ty+in_ok-visit_ty w ↦ rw (w.infcx-is, w.normalize-is, w.walk-is)
           (record {
             grows = grows-trans _ _ _ here.grows w.in_ok-visit_ty.ensures.grows;
+            calls = left-then g.C.Make.context g.F.FnMut _ _ _ _ _ _ here.calls w.in_ok-visit_ty.ensures.calls;
             same = record {
               in_crate = w.in_ok-visit_ty.ensures.same.in_crate ∙ here.same.in_crate;
               seeks_local = w.in_ok-visit_ty.ensures.same.seeks_local ∙ here.same.seeks_local;
@@ -244,6 +256,7 @@ visit_args-loop-i-preserved g t c =
       | visit_args-in_default w ↦ rw (w.infcx-is, w.normalize-is, w.walk-is)
           (record {
             grows = here.grows;
+            calls = here.calls;
             same = here.same;
             recorded = here.recorded;
             count_is = here.count_is;
@@ -252,6 +265,10 @@ visit_args-loop-i-preserved g t c =
                 ensures.fits ensures.tree below c.args.walk.now c.loop-i.walk here.same s0 s1 w.in_default.not-Ty (here.sofar normal h);
           })
     ]
+
+pub visit_args-returns-in_err-visit_ty-clause-calls : goal.visit_args-returns-in_err-visit_ty-clause-calls
+visit_args-returns-in_err-visit_ty-clause-calls g t c =
+    left-then g.C.Make.context g.F.FnMut _ _ _ _ _ _ c.loop-i.invariant.calls c.in_err-visit_ty.ensures.calls
 
 pub visit_args-returns-in_err-visit_ty-clause-outcome : goal.visit_args-returns-in_err-visit_ty-clause-outcome
 visit_args-returns-in_err-visit_ty-clause-outcome g t c = λ normal h.
