@@ -51,7 +51,7 @@ fn answer_text<W: Write>(alloc: Global, text: &[u8], output: &mut W) -> io::Resu
     Ok(status)
 }
 
-/// Says that there was no memory to begin with.
+/// Says that a growth was refused before the first line was read.
 fn refuse_memory<W: Write>(output: &mut W) -> io::Result<Status> {
     let status = refuse(1, Fault::Stop(Stop::Memory), output)?;
     output.flush()?;

@@ -39,6 +39,10 @@ they_overlap u v = record {
   common = refl;
 }
 
+-- The second header is knowable for crate 1, and crate 2, which it names, may write it.
+known_and_written : (plain_knowability Q 1 256 other ≡ Knowable) × (names Q other 2 ≡ true) × MayWrite Q 2 other
+known_and_written = (refl, refl, other_written)
+
 -- Errors: they count as local for every crate, and name none.
 abbrev error : Reference
 error = record { trait = 3; arguments = one H.Error none }

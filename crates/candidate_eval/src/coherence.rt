@@ -173,7 +173,8 @@ where
     }
 }
 
-/// Whether the crate may write a header with the trait reference, by the types that a walk meets.
+/// Whether the crate may write a header with the trait reference, by the types that a walk meets:
+/// the orphan rule of the language, by which two crates never write the same header.
 ///
 /// The walk goes through the types of the reference in order, the self type first, and below
 /// references and fundamental types of other crates. Each type is resolved at its root and
@@ -278,7 +279,8 @@ where
     }
 }
 
-/// Whether all impls of a trait reference are known here.
+/// Whether all impls of a trait reference are known here: what an overlap checker asks before it
+/// takes a missing impl for a promise. The rule is that of coherence, open towards other crates.
 ///
 /// A crate that isn't known may have one where the reference passes the `Remote` check:
 /// `Conflict::Downstream`. Else they are known where the trait is local or fundamental, or where the

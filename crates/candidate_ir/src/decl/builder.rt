@@ -148,7 +148,9 @@ impl DeclsBuilder {
 
     /// Declares an algebraic data type of the crate, with parameters of these kinds.
     ///
-    /// The only error is `DeclFault::Memory`.
+    /// The number is the next one of all definitions. A crate that was never added is a fault of
+    /// `finish`. The only error is `DeclFault::Memory`, where a growth is refused or no number is
+    /// left; the builder is then as before.
     pub fn add_adt(
         &mut self,
         krate: CrateId,
@@ -171,7 +173,7 @@ impl DeclsBuilder {
 
     /// Declares a trait of the crate, with parameters of these kinds after `Self`.
     ///
-    /// The only error is `DeclFault::Memory`.
+    /// Its number and its error are those of `add_adt`.
     pub fn add_trait(
         &mut self,
         krate: CrateId,
@@ -193,7 +195,7 @@ impl DeclsBuilder {
 
     /// Declares a foreign type of the crate, which has no parameters.
     ///
-    /// The only error is `DeclFault::Memory`.
+    /// Its number and its error are those of `add_adt`.
     pub fn add_foreign(&mut self, krate: CrateId) -> Result<ForeignId, DeclFault>
         ensures id { IfOk result (λ i. i.0 ≡ length self.old.declarations) }
         ensures added { IfOk result (λ _. self.new ≡ declared self.old (record { crate = krate; parameters = []; kind = DefinitionKind.Foreign })) }
@@ -210,7 +212,8 @@ impl DeclsBuilder {
 
     /// Declares an associated item of the trait, whose crate and parameters it has.
     ///
-    /// The only error is `DeclFault::Memory`.
+    /// A number that isn't that of a trait declared before is `UnknownId` at `finish`. Its number and
+    /// its error are those of `add_adt`.
     pub fn add_assoc(
         &mut self,
         of: TraitId,

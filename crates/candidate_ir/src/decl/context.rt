@@ -185,8 +185,8 @@ impl Cx {
         self.nodes.mk_vars(kinds)
     }
 
-    /// The bounds of a `dyn` type, of which one at most has a trait with arguments. They take a
-    /// number each, and one more, and add nothing to a height; it stops as `mk_vars` does.
+    /// The bounds of a `dyn` type, of which one at most is by a trait that isn't an auto trait. They
+    /// take a number each, and one more, and add nothing to a height; it stops as `mk_vars` does.
     pub fn mk_preds(&mut self, bounds: &[Binder<ExistentialPredicate>]) -> Result<Preds, Stop>
         requires fit { BoundsFit self.old.trees bounds.now }
         requires principal { AtMostOnePrincipal bounds.now }

@@ -1,6 +1,6 @@
 //! Numbers of nodes, and the kinds of types, constants and regions over them.
 
-ghost use Rattle.std.specs.Prelude.{◌≡◌, ◌<◌, Some, length, slice_get};
+ghost use Rattle.std.specs.Prelude.{◌≡◌, ◌<◌, Some, [], ◌∷◌, length, slice_get};
 ghost use Rattle.candidate_ir.specs.Kinds.{arg_number, variable_of, ty_head, const_head, pred_head, ty_children, pred_children, numbers};
 
 use crate::ir::heads::{
@@ -326,6 +326,20 @@ impl InferTy {
     }
 }
 
+/// The number at that place of three.
+pub(crate) fn one_of_three(i: usize, first: u32, second: u32, third: u32) -> u32
+    requires { i < 3 }
+    ensures { slice_get (first ∷ second ∷ third ∷ []) i ≡ Some result }
+{
+    if i == 0 {
+        first
+    } else if i == 1 {
+        second
+    } else {
+        third
+    }
+}
+
 impl TyKind {
     pub(crate) fn head(self) -> Head
         ensures { result ≡ ty_head self }
@@ -407,30 +421,14 @@ impl TyKind {
             TyKind::Adt(_, args) | TyKind::FnDef(_, args) | TyKind::Tuple(args) => args.0,
             TyKind::Array(ty, len) => if i == 0 { ty.0 } else { len.0 },
             TyKind::Slice(ty) | TyKind::Pat(ty, Pattern::NotNull) | TyKind::RawPtr(ty, _) => ty.0,
-            TyKind::Pat(ty, Pattern::Range(from, to)) => if i == 0 {
-                ty.0
-            } else if i == 1 {
-                from.0
-            } else {
-                to.0
-            },
+            TyKind::Pat(ty, Pattern::Range(from, to)) => one_of_three(i, ty.0, from.0, to.0),
             TyKind::Ref(region, ty, _) => if i == 0 { region.0 } else { ty.0 },
-            TyKind::FnPtr(sig) => if i == 0 {
-                sig.vars.0
-            } else if i == 1 {
-                sig.value.inputs.0
-            } else {
-                sig.value.output.0
-            },
+            TyKind::FnPtr(sig) => {
+                one_of_three(i, sig.vars.0, sig.value.inputs.0, sig.value.output.0)
+            }
             TyKind::UnsafeBinder(inner) => if i == 0 { inner.vars.0 } else { inner.value.0 },
             TyKind::Dynamic(preds, region) => if i == 0 { preds.0 } else { region.0 },
-            TyKind::Closure(_, args) => if i == 0 {
-                args.parent.0
-            } else if i == 1 {
-                args.sig.0
-            } else {
-                args.upvars.0
-            },
+            TyKind::Closure(_, args) => one_of_three(i, args.parent.0, args.sig.0, args.upvars.0),
             TyKind::Alias(alias) => alias.args.0,
             TyKind::Bool
             | TyKind::Char

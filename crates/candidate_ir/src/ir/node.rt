@@ -7,7 +7,7 @@ ghost use Rattle.candidate_ir.specs.Nodes.{head_of, children_of};
 use crate::ir::heads::{Head, ListHead, PartHead};
 use crate::ir::kinds::{
     Binder, ClosureSig, ConstKind, ExistentialPredicate, GenericArg, Pred, RegionKind, TyKind, Var,
-    VarKind,
+    VarKind, one_of_three,
 };
 
 #[derive(Drop)]
@@ -73,13 +73,9 @@ impl Node {
             Node::Args(list) => list[i].number(),
             Node::Preds(list) => list[i].0,
             Node::Pred(bound) => bound.child(i),
-            Node::Sig(sig) => if i == 0 {
-                sig.vars.0
-            } else if i == 1 {
-                sig.value.inputs.0
-            } else {
-                sig.value.output.0
-            },
+            Node::Sig(sig) => {
+                one_of_three(i, sig.vars.0, sig.value.inputs.0, sig.value.output.0)
+            }
             Node::Vars(list) => list[i].0,
         }
     }

@@ -12,8 +12,8 @@ ghost use Rattle.candidate_ir.specs.Words.{IsTy, IsConst, IsRegion, IsArgs, IsPr
 
 use crate::ir::heads::Flag;
 use crate::ir::kinds::{
-    Args, Binder, Const, ConstKind, ExistentialPredicate, GenericArg, Pred, Preds,
-    Region, RegionKind, TraitId, Ty, TyKind, Var, VarKind, Vars,
+    Args, Binder, Const, ConstKind, ExistentialPredicate, GenericArg, Pred, Preds, Region,
+    RegionKind, TraitId, Ty, TyKind, Var, VarKind, Vars,
 };
 use crate::ir::node::{Node, Row};
 use crate::ir::stop::Stop;
