@@ -19,6 +19,9 @@ use std::alloc::Global;
 /// How deep the words of a type may be nested.
 pub const DEEPEST: u16 = 1024;
 
+/// In the place of what a text can't spell.
+const UNSPELLED: &str = "?";
+
 /// The names that a line may use, and what makes its types.
 #[derive(Drop)]
 pub struct Scope<M> {
@@ -281,8 +284,9 @@ impl<M: Make> Scope<M> {
 
     /// Adds the type to the text, as it is read.
     ///
-    /// Besides `Stop::Memory`, `Stop::Unnameable` comes at a type that no word stands for, and
-    /// `Stop::NodesFull` where types are nested deeper. The text may have part of the type then.
+    /// What no word stands for is `?`; none is met, since a text has no such types. Besides
+    /// `Stop::Memory`, `Stop::NodesFull` comes where types are nested deeper. The text may have part
+    /// of the type then.
     #[cycle(printing)]
     pub fn print_type(&self, ty: Ty, depth: u16, text: &mut String) -> Result<(), Stop>
         requires { IsTy (M.context self.now.maker).trees ty }
@@ -319,10 +323,7 @@ impl<M: Make> Scope<M> {
 
     /// Adds the name of the definition of that number.
     fn print_name(&self, number: u32, text: &mut String) -> Result<(), Stop> {
-        let Some(name) = self.names.definition(number) else {
-            return Err(Stop::Unnameable);
-        };
-        text.push_str(name)?;
+        text.push_str(self.names.definition(number).unwrap_or(UNSPELLED))?;
         Ok(())
     }
 
@@ -383,11 +384,11 @@ impl<M: Make> Scope<M> {
         requires { IsArgs (M.context self.now.maker).trees args }
     {
         for arg in self.maker.cx().args(args) {
-            let GenericArg::Ty(ty) = arg else {
-                return Err(Stop::Unnameable);
-            };
             text.push(' ')?;
-            self.print_type(*ty, depth, text)?;
+            match arg {
+                GenericArg::Ty(ty) => self.print_type(*ty, depth, text)?,
+                GenericArg::Const(_) | GenericArg::Region(_) => text.push_str(UNSPELLED)?,
+            }
         }
         Ok(())
     }
@@ -426,7 +427,7 @@ fn print_leaf(kind: TyKind, text: &mut String) -> Result<(), Stop> {
             let index = placeholder.index;
             write!(text, "!{index}")?;
         }
-        _ => return Err(Stop::Unnameable),
+        _ => text.push_str(UNSPELLED)?,
     }
     Ok(())
 }

@@ -12,7 +12,7 @@ use Rattle.candidate_ir.specs.Worlds.{IsOf, World, Reference, Extends}
 use Rattle.candidate_eval.specs.declared.coherence.NormalizeErr.{NormalizeErr}
 use Rattle.candidate_eval.specs.Substitutions.{Universes, Overlap}
 use Rattle.candidate_eval.specs.Normalizer.{IsPlain}
-use Rattle.candidate_eval.specs.Orphan.{MayWrite, IsCovered, plain, View, InCrate, Local, Proper, Compat, Remote, Passes, NonLocalInput, UncoveredInput, Entry, orphan_answer, Step, Viewed, is_general, remote_decision, names}
+use Rattle.candidate_eval.specs.Orphan.{MayWrite, IsCovered, View, InCrate, Local, Proper, Compat, Remote, Passes, NonLocalInput, UncoveredInput, Entry, orphan_answer, Step, Viewed, is_general, remote_decision, names}
 
 -- Two crates that name nothing of each other write no headers that overlap.
 abbrev pub LinkSafety : Type 0

@@ -1,7 +1,5 @@
 -- Finite trees: a head, and children in order.
-use Rattle.std.specs.Prelude.{Bool, true, false, ◌||◌, ℕ, ◌+◌, max, Option, Some, None}
-use Rattle.std.specs.Option.{unwrap_or}
-use Rattle.candidate_ir.specs.declared.ir.kinds.BoundVar.{BoundVar}
+use Rattle.std.specs.Prelude.{Bool, true, false, ◌||◌, ℕ, ◌+◌, max}
 use Rattle.candidate_ir.specs.declared.ir.kinds.RegionKind.TheVariants as R
 use Rattle.candidate_ir.specs.declared.ir.heads.Head.{Head}
 use Rattle.candidate_ir.specs.declared.ir.heads.Head.TheVariants as H

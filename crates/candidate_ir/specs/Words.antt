@@ -6,14 +6,12 @@ use Rattle.candidate_ir.specs.declared.ir.kinds.Region.{Region}
 use Rattle.candidate_ir.specs.declared.ir.kinds.Args.{Args}
 use Rattle.candidate_ir.specs.declared.ir.kinds.Preds.{Preds}
 use Rattle.candidate_ir.specs.declared.ir.kinds.Pred.{Pred}
-use Rattle.candidate_ir.specs.declared.ir.kinds.Sig.{Sig}
 use Rattle.candidate_ir.specs.declared.ir.kinds.Vars.{Vars}
 use Rattle.candidate_ir.specs.declared.ir.kinds.Var.{Var}
 use Rattle.candidate_ir.specs.declared.ir.kinds.VarKind.{VarKind}
 use Rattle.candidate_ir.specs.declared.ir.kinds.Binder.{Binder}
 use Rattle.candidate_ir.specs.declared.ir.kinds.ExistentialPredicate.{ExistentialPredicate}
 use Rattle.candidate_ir.specs.declared.ir.kinds.ExistentialPredicate.TheVariants as E
-use Rattle.candidate_ir.specs.declared.ir.kinds.ClosureSig.{ClosureSig}
 use Rattle.candidate_ir.specs.declared.ir.kinds.GenericArg.{GenericArg}
 use Rattle.candidate_ir.specs.declared.ir.kinds.TyKind.{TyKind}
 use Rattle.candidate_ir.specs.declared.ir.kinds.ConstKind.{ConstKind}
@@ -23,7 +21,7 @@ use Rattle.candidate_ir.specs.declared.ir.heads.PartHead.TheVariants as P
 use Rattle.candidate_ir.specs.declared.ir.node.Node.TheVariants as N
 use Rattle.candidate_ir.specs.declared.ir.stop.Stop.{Stop}
 use Rattle.candidate_ir.specs.declared.ir.stop.Stop.TheVariants.{Memory, NodesFull}
-use Rattle.candidate_ir.specs.Trees.{TypeKind, ConstantKind, RegionKind as OfRegion, PredicateKind, SignatureKind, BinderKind, VariableKind, ArgumentsKind, PredicatesKind, Forest, none, Tree}
+use Rattle.candidate_ir.specs.Trees.{TypeKind, ConstantKind, RegionKind as OfRegion, PredicateKind, BinderKind, VariableKind, ArgumentsKind, PredicatesKind, Forest, none, Tree}
 use Rattle.candidate_ir.specs.Kinds.{numbers, sorts, arg_child}
 use Rattle.candidate_ir.specs.Nodes.{tree_at, kind_at, trees_at, kinds_at, rows, node_tree, Fits, pred_child, var_child}
 
