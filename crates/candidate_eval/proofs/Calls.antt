@@ -11,7 +11,7 @@ use Rattle.candidate_eval.specs.Orphan.{View}
 use Rattle.candidate_eval.specs.Normalizer.{shown, Normalizes, MayNormalize, KeepsNumbers, IsFunction, Lead, IsLeftByCalls}
 
 module _ {C F E : Type 0} (context : C → Context) (g : Mut F (MutBor C × (Ty × Unit {0})) (Result Ty (NormalizeErr E) × (MutBor C × Unit {0}))) where
-  normalizes : (f : F) (lent : MutBor C) (t : Ty) (r : Result Ty (NormalizeErr E)) (left : MutBor C) (f' : F)
+  pub normalizes : (f : F) (lent : MutBor C) (t : Ty) (r : Result Ty (NormalizeErr E)) (left : MutBor C) (f' : F)
       → Called g f (lent, (t, tt)) (r, (left, tt)) f' → Normalizes context g f lent.now t r f' left.now
   normalizes f lent t r left f' h = record { lent = lent; lends = refl; left = left; called = h; leaves = refl }
 
@@ -50,7 +50,3 @@ module _ {C F E : Type 0} (context : C → Context) (g : Mut F (MutBor C × (Ty 
 
   pub left-then : (f : F) (c : C) (f1 : F) (c1 : C) (f2 : F) (c2 : C) → IsLeftByCalls context g f c f1 c1 → IsLeftByCalls context g f1 c1 f2 c2 → IsLeftByCalls context g f c f2 c2
   left-then f c f1 c1 f2 c2 a b = lead-then a.calls f c f1 c1 f2 c2 a.lead b
-
-  pub left-by-call : (f : F) (lent : MutBor C) (t : Ty) (r : Result Ty (NormalizeErr E)) (left : MutBor C) (f' : F)
-      → Called g f (lent, (t, tt)) (r, (left, tt)) f' → IsLeftByCalls context g f lent.now f' left.now
-  left-by-call f lent t r left f' h = record { calls = 1; lead = (t, r, f', left.now, normalizes f lent t r left f' h, (refl, refl)) }

@@ -1,14 +1,16 @@
 -- What is asked of a normaliser, a closure that may change a context, and what is known of its calls.
-use Rattle.std.specs.Prelude.{◌≡◌, ◌<◌, ◌^◌, List, Result, Ok, Err, IfOk, zero, suc, ℕ}
+use Rattle.std.specs.Prelude.{◌≡◌, ◌<◌, ◌^◌, List, Result, Ok, Err, IfOk, zero, suc, ℕ, ◌⊎◌, ◌≤◌, true}
 use Rattle.std.specs.Fn.{Mut, Called}
 use Rattle.std.specs.Borrow.{MutBor}
 use Rattle.candidate_ir.specs.declared.ir.kinds.Ty.{Ty}
+use Rattle.candidate_ir.specs.declared.ir.stop.Stop.{Stop}
+use Rattle.candidate_ir.specs.declared.ir.stop.Stop.TheVariants.{Memory, WalkDepth, Unnameable}
 use Rattle.candidate_ir.specs.Trees.{Tree}
 use Rattle.candidate_ir.specs.Context.{Context, Grows}
 use Rattle.candidate_ir.specs.Words.{IsTy, ty_tree}
 use Rattle.candidate_eval.specs.declared.coherence.NormalizeErr.{NormalizeErr}
 use Rattle.candidate_eval.specs.declared.coherence.NormalizeErr.TheVariants as N
-use Rattle.candidate_eval.specs.Orphan.{Fault, Refused, Stopped, Seen, Sees, Fails, View, plain}
+use Rattle.candidate_eval.specs.Orphan.{Fault, Refused, Stopped, Seen, Sees, Fails, View, plain, is_unnameable}
 
 -- what an answer shows, in the context that the call leaves
 abbrev pub shown_fault : {E : Type 0} → NormalizeErr E → Fault E
@@ -58,3 +60,38 @@ module _ {C F E : Type 0} (context : C → Context) (g : Mut F (MutBor C × (Ty 
   pub record IsLeftByCalls (f : F) (c : C) (f' : F) (c' : C) : Type 0 where
     pub calls : ℕ
     pub lead : Lead calls f c f' c'
+
+  -- A call that the calls from here come to answers that stop.
+  pub record StopIsAnswered (f : F) (c : C) (s : Stop) : Type 0 where
+    pub calls : ℕ
+    pub f1 : F
+    pub c1 : C
+    pub lead : Lead calls f c f1 c1
+    pub t : Ty
+    pub f2 : F
+    pub c2 : C
+    pub call : Normalizes f1 c1 t (Err (N.Stop s)) f2 c2
+
+  -- A call that the calls from here come to answers a type that stands in no header, or is made at one.
+  pub record UnnameableIsSeen (f : F) (c : C) : Type 0 where
+    pub calls : ℕ
+    pub f1 : F
+    pub c1 : C
+    pub lead : Lead calls f c f1 c1
+    pub t : Ty
+    pub u : Ty
+    pub f2 : F
+    pub c2 : C
+    pub call : Normalizes f1 c1 t (Ok u) f2 c2
+    pub is : (is_unnameable (ty_tree (context c2).trees u).head ≡ true) ⊎ (is_unnameable (ty_tree (context c1).trees t).head ≡ true)
+
+  -- So many calls at least lead from one to the other: a visit makes one, and those that it stands in one each.
+  pub record IsDeep (levels : ℕ) (f : F) (c : C) (f' : F) (c' : C) : Type 0 where
+    pub calls : ℕ
+    pub lead : Lead calls f c f' c'
+    pub deep : levels ≤ calls
+
+  -- Why a walk stopped.
+  abbrev pub IsStopCause : ℕ → F → C → F → C → Stop → Type 0
+  IsStopCause levels f c f' c' s =
+      (s ≡ Memory) ⊎ (((s ≡ WalkDepth) × IsDeep levels f c f' c') ⊎ (((s ≡ Unnameable) × UnnameableIsSeen f c) ⊎ StopIsAnswered f c s))

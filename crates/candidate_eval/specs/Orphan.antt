@@ -22,6 +22,13 @@ pub data Fault (E : Type 0) : Type 0 where
   Refused : E → Fault E
   Stopped : Stop → Fault E
 
+-- whether a type with the head stands in no header
+abbrev pub is_unnameable : Head → Bool
+is_unnameable (H.FnDef i) = true
+is_unnameable (H.Closure i k) = true
+is_unnameable (H.Param n) = true
+is_unnameable _ = false
+
 -- What a normaliser answers.
 pub data Seen (E : Type 0) : Type 0 where
   Sees : Tree → Seen E

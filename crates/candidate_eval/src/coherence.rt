@@ -6,9 +6,9 @@ ghost use Rattle.candidate_ir.specs.Trees.{Tree, holds, is_param, is_alias};
 ghost use Rattle.candidate_ir.specs.Words.{IsTy, IsArgs, args_forest};
 ghost use Rattle.candidate_ir.specs.References.{reference_of};
 ghost use Rattle.candidate_eval.specs.Orphan.{View, view, orphan_answer, Passes, knowability, local_or_fundamental, IsPlainForest};
-ghost use Rattle.candidate_eval.specs.Normalizer.{MayNormalize, KeepsNumbers, IsFunction, IsLeftByCalls};
+ghost use Rattle.candidate_eval.specs.Normalizer.{MayNormalize, KeepsNumbers, IsFunction, IsLeftByCalls, IsStopCause};
 ghost use Rattle.candidate_eval.specs.Laws.{OnlyFirst, LinkSafety, IsPlainCall};
-ghost use Rattle.candidate_eval.specs.Calls.{check_of, check_where, knowledge_about, HasNoParam, HasNoAlias, HasNoAliasOrError, IsOfForeignTrait, NoForeignHeaderHere, NoUnnamedHeaderHere, NoCoveredHeaderHere, IsDecidedByGeneralHere, HasDownstreamHere};
+ghost use Rattle.candidate_eval.specs.Calls.{depth_limit, check_of, check_where, knowledge_about, HasNoParam, HasNoAlias, HasNoAliasOrError, IsOfForeignTrait, NoForeignHeaderHere, NoUnnamedHeaderHere, NoCoveredHeaderHere, IsDecidedByGeneralHere, HasDownstreamHere};
 ghost use Rattle.candidate_eval.specs.Answers.{entries_of, IsUncoveredResult, IfNonLocal, AreAnswerTypes, OutOfMemory, IsAnswer, IsKnowledge, answer_of, second_answer};
 ghost use Rattle.candidate_eval.specs.Walk.{setting};
 ghost use Rattle.candidate_eval.specs.Second.{IsSecond};
@@ -114,6 +114,7 @@ where
     requires keeps { KeepsNumbers C.context F.FnMut infcx.old }
     ensures grows { Grows (C.context infcx.old) (C.context infcx.new) }
     ensures calls { IsLeftByCalls C.context F.FnMut normalize.old infcx.old normalize.new infcx.new }
+    ensures cause { (s : Stop) → result ≡ Err s → IsStopCause C.context F.FnMut 256 normalize.old infcx.old normalize.new infcx.new s }
     ensures types { IfOk result (λ o. IfSome o (λ t. IsTy (C.context infcx.new).trees t)) }
     ensures answer { (normal : View (F × C) E) → IsFunction C.context F.FnMut infcx.old normal → result ≢ Err Stop.Memory → (t : Tree) → IsSecond (setting (C.context infcx.old) in_crate) (view (λ s t. C.resolved s.1 t) normal) 256 (normalize.old, infcx.old) (args_forest (C.context infcx.old).trees args) t (record { answer = second_answer (C.context infcx.new).trees t result; after = (normalize.new, infcx.new) }) }
 {
@@ -148,6 +149,7 @@ where
     requires keeps { KeepsNumbers C.context F.FnMut infcx.old }
     ensures grows { Grows (C.context infcx.old) (C.context infcx.new) }
     ensures calls { IsLeftByCalls C.context F.FnMut normalize.old infcx.old normalize.new infcx.new }
+    ensures cause { (s : Stop) → result ≡ Err (OrphanStop.Stop s) → IsStopCause C.context F.FnMut 256 normalize.old infcx.old normalize.new infcx.new s }
     ensures types { AreAnswerTypes (C.context infcx.new).trees result }
     ensures answer { (normal : View (F × C) E) → IsFunction C.context F.FnMut infcx.old normal → ¬ (OutOfMemory result) → check_of C.context C.resolved normal in_crate (normalize.old, infcx.old) trait_ref ≡ record { answer = answer_of (C.context infcx.new).trees result; after = (normalize.new, infcx.new) } }
 {
@@ -203,6 +205,7 @@ where
     requires keeps { KeepsNumbers C.context F.FnMut infcx.old }
     ensures grows { Grows (C.context infcx.old) (C.context infcx.new) }
     ensures calls { (last : F) × IsLeftByCalls C.context F.FnMut normalize infcx.old last infcx.new }
+    ensures cause { (s : Stop) → result ≡ Err (OrphanStop.Stop s) → (last : F) × IsStopCause C.context F.FnMut depth_limit normalize infcx.old last infcx.new s }
     ensures types { AreAnswerTypes (C.context infcx.new).trees result }
 
     // For a normaliser whose answers and effects are functions of the tree and the context.
@@ -259,6 +262,7 @@ where
     requires keeps { KeepsNumbers C.context F.FnMut infcx.old }
     ensures grows { Grows (C.context infcx.old) (C.context infcx.new) }
     ensures calls { IsLeftByCalls C.context F.FnMut normalize.old infcx.old normalize.new infcx.new }
+    ensures cause { (s : Stop) → result ≡ Err (OrphanStop.Stop s) → IsStopCause C.context F.FnMut 256 normalize.old infcx.old normalize.new infcx.new s }
     ensures answer { (normal : View (F × C) E) → IsFunction C.context F.FnMut infcx.old normal → result ≢ Err (OrphanStop.Stop Stop.Memory) → IsKnowledge result infcx.new (knowledge_about C.context C.resolved normal (normalize.old, infcx.old) trait_ref) }
 {
     let remote = check(alloc, infcx, trait_ref, InCrate::Remote, normalize)?;
@@ -302,6 +306,7 @@ where
     requires keeps { KeepsNumbers C.context F.FnMut infcx.old }
     ensures grows { Grows (C.context infcx.old) (C.context infcx.new) }
     ensures calls { (last : F) × IsLeftByCalls C.context F.FnMut normalize infcx.old last infcx.new }
+    ensures cause { (s : Stop) → result ≡ Err (OrphanStop.Stop s) → (last : F) × IsStopCause C.context F.FnMut depth_limit normalize infcx.old last infcx.new s }
 
     // For a normaliser whose answers and effects are functions of the tree and the context.
     ensures answer { (normal : View (F × C) E) → IsFunction C.context F.FnMut infcx.old normal → result ≢ Err (OrphanStop.Stop Stop.Memory) → IsKnowledge result infcx.new (knowledge_about C.context C.resolved normal (normalize, infcx.old) trait_ref) }

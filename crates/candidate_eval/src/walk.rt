@@ -3,8 +3,8 @@
 ghost use Rattle.std.specs.Prelude.{◌≡◌, ◌<◌, ◌^◌, true, false, OnOk, IfOk, IfErr};
 ghost use Rattle.candidate_ir.specs.Context.{Grows};
 ghost use Rattle.candidate_ir.specs.Words.{IsTy, IsArgs, ty_tree, args_forest};
-ghost use Rattle.candidate_eval.specs.Orphan.{View, view, is_general};
-ghost use Rattle.candidate_eval.specs.Normalizer.{MayNormalize, KeepsNumbers, IsFunction, IsLeftByCalls, shown};
+ghost use Rattle.candidate_eval.specs.Orphan.{View, view, is_general, is_unnameable};
+ghost use Rattle.candidate_eval.specs.Normalizer.{MayNormalize, KeepsNumbers, IsFunction, Normalizes, Lead, IsLeftByCalls, StopIsAnswered, UnnameableIsSeen, IsStopCause, shown};
 ghost use Rattle.candidate_eval.specs.Walk.{AreTypes, IsExit, Outcome, SameWalk, still, setting, classes, type_steps, list_steps};
 
 use crate::coherence::{InCrate, IsFirstInputType, NormalizeErr, OrphanStop};
@@ -64,7 +64,7 @@ where
     requires callable { MayNormalize C.context F.FnMut infcx.old }
     requires keeps { KeepsNumbers C.context F.FnMut infcx.old }
     ensures grows { Grows (C.context infcx.old) (C.context infcx.new) }
-    ensures calls { IsLeftByCalls C.context F.FnMut normalize.old infcx.old normalize.new infcx.new }
+    ensures call { Normalizes C.context F.FnMut normalize.old infcx.old ty result normalize.new infcx.new }
     ensures sort { IfOk result (λ t. IsTy (C.context infcx.new).trees t) }
     ensures answer { (normal : View (F × C) E) → IsFunction C.context F.FnMut infcx.old normal → normal (normalize.old, infcx.old) (ty_tree (C.context infcx.old).trees ty) ≡ record { seen = shown (C.context infcx.new).trees result; after = (normalize.new, infcx.new) } }
 {
@@ -84,7 +84,9 @@ where
     requires callable { MayNormalize C.context F.FnMut infcx.old }
     requires keeps { KeepsNumbers C.context F.FnMut infcx.old }
     ensures grows { Grows (C.context infcx.old) (C.context infcx.new) }
-    ensures calls { IsLeftByCalls C.context F.FnMut normalize.old infcx.old normalize.new infcx.new }
+    ensures one_call { Lead C.context F.FnMut 1 normalize.old infcx.old normalize.new infcx.new }
+    ensures stop { (s : Stop) → result ≡ Err (NormalizeErr.Stop s) → StopIsAnswered C.context F.FnMut normalize.old infcx.old s }
+    ensures unnameable { (u : Ty) → result ≡ Ok u → is_unnameable (ty_tree (C.context infcx.new).trees u).head ≡ true → UnnameableIsSeen C.context F.FnMut normalize.old infcx.old }
     ensures sort { IfOk result (λ t. IsTy (C.context infcx.new).trees t) }
     ensures view { (normal : View (F × C) E) → IsFunction C.context F.FnMut infcx.old normal → view (λ s t. C.resolved s.1 t) normal (normalize.old, infcx.old) (ty_tree (C.context infcx.old).trees ty) ≡ record { seen = shown (C.context infcx.new).trees result; after = (normalize.new, infcx.new) } }
 {
@@ -147,6 +149,7 @@ where
     requires recorded { AreTypes (C.context infcx.old).trees walk.old.non_local.items }
     ensures grows { Grows (C.context infcx.old) (C.context infcx.new) }
     ensures calls { IsLeftByCalls C.context F.FnMut normalize.old infcx.old normalize.new infcx.new }
+    ensures cause { (s : Stop) → result ≡ Err (EarlyExit.Broken (OrphanStop.Stop s)) → IsStopCause C.context F.FnMut levels normalize.old infcx.old normalize.new infcx.new s }
     ensures recorded { AreTypes (C.context infcx.new).trees walk.new.non_local.items }
     ensures exit { IfErr result (λ x. IsExit (C.context infcx.new).trees x) }
     ensures same { SameWalk walk.old walk.new }
@@ -185,6 +188,7 @@ where
     requires recorded { AreTypes (C.context infcx.old).trees walk.old.non_local.items }
     ensures grows { Grows (C.context infcx.old) (C.context infcx.new) }
     ensures calls { IsLeftByCalls C.context F.FnMut normalize.old infcx.old normalize.new infcx.new }
+    ensures cause { (s : Stop) → result ≡ Err (EarlyExit.Broken (OrphanStop.Stop s)) → IsStopCause C.context F.FnMut levels normalize.old infcx.old normalize.new infcx.new s }
     ensures recorded { AreTypes (C.context infcx.new).trees walk.new.non_local.items }
     ensures exit { IfErr result (λ x. IsExit (C.context infcx.new).trees x) }
     ensures same { SameWalk walk.old walk.new }

@@ -6,6 +6,7 @@ use Rattle.candidate_eval.specs.declared.coherence.OrphanStop.TheVariants as O
 use Rattle.candidate_eval.specs.Answers.{second_answer}
 use Rattle.candidate_eval.specs.Orphan.{Answer, Checked, view}
 use Rattle.candidate_eval.proofs.Calls.{keeps-later, function-later, left-then}
+use Rattle.candidate_eval.proofs.Causes.{cause-after}
 use Rattle.candidate_eval.proofs.Checks.{uncovered-checked}
 use Rattle.candidate_eval.proofs.coherence.check.Goals as goal
 
@@ -57,3 +58,7 @@ returns-in-Ok-first_local_ty-clause-calls g c =
 pub returns-in-Err-Uncovered-clause-calls : goal.returns-in-Err-Uncovered-clause-calls
 returns-in-Err-Uncovered-clause-calls g c =
     left-then g.C.Make.context g.F.FnMut _ _ _ _ _ _ c.visit_args.ensures.calls c.first_local_ty.ensures.calls
+
+pub returns-in-Err-Uncovered-clause-cause : goal.returns-in-Err-Uncovered-clause-cause
+returns-in-Err-Uncovered-clause-cause g c = λ s e.
+    cause-after g.C.Make.context g.F.FnMut 256 _ _ _ _ _ _ s c.visit_args.ensures.calls (c.in-Err.ensures.cause s cc)

@@ -6,6 +6,7 @@ use Rattle.candidate_ir.specs.declared.ir.stop.Stop.TheVariants.{Memory}
 use Rattle.candidate_eval.specs.declared.coherence.OrphanStop.TheVariants as O
 use Rattle.candidate_eval.specs.Orphan.{view, local_or_fundamental}
 use Rattle.candidate_eval.proofs.Calls.{keeps-later, function-later, left-then}
+use Rattle.candidate_eval.proofs.Causes.{cause-after}
 use Rattle.candidate_eval.proofs.Knows.{knows-locally, local-passes, local-fails, local-stops}
 use Rattle.candidate_eval.proofs.coherence.knowable.Goals as goal
 
@@ -69,3 +70,8 @@ returns-then-is_ok-2-clause-calls g c = left-then g.C.Make.context g.F.FnMut _ _
 
 pub returns-clause-calls : goal.returns-clause-calls
 returns-clause-calls g c = left-then g.C.Make.context g.F.FnMut _ _ _ _ _ _ c.check.ensures.calls c.check-2.ensures.calls
+
+pub returns-in_err-local-clause-cause : goal.returns-in_err-local-clause-cause
+returns-in_err-local-clause-cause g c = λ s e.
+    let p = err_from_is_err_and c.from_residual-in_err-local.result c.from_residual-in_err-local.ensures.1 in
+    cause-after g.C.Make.context g.F.FnMut 256 _ _ _ _ _ _ s c.check.ensures.calls (c.in_err-local.ensures.cause s cc)

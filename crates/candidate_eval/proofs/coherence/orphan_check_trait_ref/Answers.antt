@@ -45,3 +45,6 @@ returns-clause-no_foreign_header g c = λ p ok m r.
     no-foreign-header (world cx) cx.local.0 256 (λ s u. g.C.InferCtxtLike.resolved s.1 u) (c.args.normalize, c.args.infcx.now)
     (reference_of cx.trees c.args.trait_ref) p.of_world p.resolved c.args.in_crate m ok
     (ap (λ x. x.answer) e ∙ ap (λ x. answer_of (g.C.Make.context c.check.new.infcx).trees x) r)
+
+pub returns-clause-cause : goal.returns-clause-cause
+returns-clause-cause g c = λ s e. (c.check.new.normalize, c.check.ensures.cause s e)

@@ -26,3 +26,6 @@ returns-clause-no_covered_header g c = λ p na r o.
     let e = c.knowable.ensures.answer plain p.normaliser (λ x. cc) in
     no-covered-header (world cx) cx.local.0 256 (λ s u. g.C.InferCtxtLike.resolved s.1 u) (c.args.normalize, c.args.infcx.now)
     (reference_of cx.trees c.args.trait_ref) p.of_world p.resolved na (e.answer ∙ ap knowledge_of r) o
+
+pub returns-clause-cause : goal.returns-clause-cause
+returns-clause-cause g c = λ s e. (c.knowable.new.normalize, c.knowable.ensures.cause s e)

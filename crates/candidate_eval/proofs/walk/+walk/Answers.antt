@@ -1,4 +1,4 @@
-use Rattle.std.proofs.Common.{◌≡◌, ◌-◌, suc, arith, refl, sym, ◌∙◌, ap, subst}
+use Rattle.std.proofs.Common.{◌≡◌, ◌-◌, suc, Err, arith, refl, sym, ◌∙◌, ap, subst}
 use Rattle.std.proofs.lemmas.Result.{err_from_is_err_and}
 use Rattle.candidate_ir.specs.Context.{Context}
 use Rattle.candidate_ir.specs.Trees.{count}
@@ -10,6 +10,7 @@ use Rattle.candidate_eval.proofs.Loops.{index-below, next-skip, next-visit, next
 use Rattle.candidate_eval.specs.Orphan.{view}
 use Rattle.candidate_eval.specs.Walk.{setting}
 use Rattle.candidate_eval.proofs.Calls.{may-later, keeps-later, function-later, left-same, left-then}
+use Rattle.candidate_eval.proofs.Causes.{table-unnameable, broken-stop, take-stop, one-left, cause-after, cause-below, cause-deep, cause-answered, cause-item}
 use Rattle.candidate_eval.proofs.Walking.{too-deep, types-kept, item-types, item-exit}
 use Rattle.candidate_eval.proofs.Visits.{visited-nothing, visited-item, visited-target, visited-arguments, item-some, target-some, arguments-some}
 use Rattle.candidate_eval.proofs.walk.+walk.Goals as goal
@@ -141,14 +142,42 @@ visit_ty-returns-clause-grows g t c =
       | visit_ty-in-Arguments w ↦ rw w.infcx-is (grows-trans _ _ _ c.view_of.ensures.grows w.visit_args-outcome.ensures.grows)
     ]
 
+pub visit_ty-returns-in_err-view-clause-calls : goal.visit_ty-returns-in_err-view-clause-calls
+visit_ty-returns-in_err-view-clause-calls g t c = one-left g.C.Make.context g.F.FnMut _ _ _ _ c.view_of.ensures.one_call
+
+pub visit_ty-returns-then-levels-eq0-clause-cause : goal.visit_ty-returns-then-levels-eq0-clause-cause
+visit_ty-returns-then-levels-eq0-clause-cause g t c = λ s e.
+    cause-deep g.C.Make.context g.F.FnMut c.args.levels c.args.normalize.now c.args.infcx.now s (omega arith) cc
+
+pub visit_ty-returns-in_err-view-clause-cause : goal.visit_ty-returns-in_err-view-clause-cause
+visit_ty-returns-in_err-view-clause-cause g t c = λ s e.
+    let p = err_from_is_err_and c.from_residual.result c.from_residual.ensures.1 in
+    cause-answered g.C.Make.context g.F.FnMut c.args.levels _ _ _ _ s (c.in_err-view.ensures.stop s (ap Err (broken-stop _ s cc)))
+
+pub visit_ty-returns-clause-cause : goal.visit_ty-returns-clause-cause
+visit_ty-returns-clause-cause g t c = λ s e.
+    let context = g.C.Make.context in
+    let one = c.view_of.ensures.one_call in
+    elim c.match-shape_of.branch [
+      | visit_ty-in-Item w ↦ rw (w.infcx-is, w.normalize-is)
+          (cause-item context g.F.FnMut c.args.levels _ _ _ _ w.in-Item.class s
+          (take-stop c.args.walk.now w.take-outcome.new.self w.in-Item.class c.in_ok-view.view w.take-outcome.result s w.take-outcome.ensures.taken (sym w.outcome-is ∙ e))
+          (λ k. let shape = rw c.cx.ensures at w.in-Item.ensures in
+          c.in_ok-view.ensures.unnameable c.in_ok-view.view refl (table-unnameable _ _ _ _ _ (shape.1 ∙ k))))
+      | visit_ty-in-Target w ↦ rw (w.infcx-is, w.normalize-is)
+          (cause-below context g.F.FnMut c.args.levels _ _ _ _ _ _ s (omega arith) one (w.visit_ty-outcome.ensures.cause s (sym w.outcome-is ∙ e)))
+      | visit_ty-in-Arguments w ↦ rw (w.infcx-is, w.normalize-is)
+          (cause-below context g.F.FnMut c.args.levels _ _ _ _ _ _ s (omega arith) one (w.visit_args-outcome.ensures.cause s (sym w.outcome-is ∙ e)))
+    ]
+
 pub visit_ty-returns-clause-calls : goal.visit_ty-returns-clause-calls
 visit_ty-returns-clause-calls g t c =
     elim c.match-shape_of.branch [
-      | visit_ty-in-Item w ↦ rw (w.infcx-is, w.normalize-is) c.view_of.ensures.calls
+      | visit_ty-in-Item w ↦ rw (w.infcx-is, w.normalize-is) (one-left g.C.Make.context g.F.FnMut _ _ _ _ c.view_of.ensures.one_call)
       | visit_ty-in-Target w ↦ rw (w.infcx-is, w.normalize-is)
-          (left-then g.C.Make.context g.F.FnMut _ _ _ _ _ _ c.view_of.ensures.calls w.visit_ty-outcome.ensures.calls)
+          (left-then g.C.Make.context g.F.FnMut _ _ _ _ _ _ (one-left g.C.Make.context g.F.FnMut _ _ _ _ c.view_of.ensures.one_call) w.visit_ty-outcome.ensures.calls)
       | visit_ty-in-Arguments w ↦ rw (w.infcx-is, w.normalize-is)
-          (left-then g.C.Make.context g.F.FnMut _ _ _ _ _ _ c.view_of.ensures.calls w.visit_args-outcome.ensures.calls)
+          (left-then g.C.Make.context g.F.FnMut _ _ _ _ _ _ (one-left g.C.Make.context g.F.FnMut _ _ _ _ c.view_of.ensures.one_call) w.visit_args-outcome.ensures.calls)
     ]
 
 pub visit_ty-returns-clause-recorded : goal.visit_ty-returns-clause-recorded
@@ -269,6 +298,11 @@ visit_args-loop-i-preserved g t c =
 pub visit_args-returns-in_err-visit_ty-clause-calls : goal.visit_args-returns-in_err-visit_ty-clause-calls
 visit_args-returns-in_err-visit_ty-clause-calls g t c =
     left-then g.C.Make.context g.F.FnMut _ _ _ _ _ _ c.loop-i.invariant.calls c.in_err-visit_ty.ensures.calls
+
+pub visit_args-returns-in_err-visit_ty-clause-cause : goal.visit_args-returns-in_err-visit_ty-clause-cause
+visit_args-returns-in_err-visit_ty-clause-cause g t c = λ s e.
+    let p = err_from_is_err_and c.from_residual.result c.from_residual.ensures.1 in
+    cause-after g.C.Make.context g.F.FnMut c.args.levels _ _ _ _ _ _ s c.loop-i.invariant.calls (c.in_err-visit_ty.ensures.cause s cc)
 
 pub visit_args-returns-in_err-visit_ty-clause-outcome : goal.visit_args-returns-in_err-visit_ty-clause-outcome
 visit_args-returns-in_err-visit_ty-clause-outcome g t c = λ normal h.
