@@ -1,14 +1,32 @@
--- The laws of the definitions, for a check by the plain normaliser in a context.
-use Rattle.std.proofs.Common.{◌≡◌, ℕ, false, sym, ◌∙◌, ap, subst}
+-- The laws of the definitions, for the calls.
+use Rattle.std.proofs.Common.{◌≡◌, ℕ, false, Result, Ok, Err, List, sym, ◌∙◌, ap, subst}
+use Rattle.std.specs.Fn.{Mut}
+use Rattle.std.specs.Borrow.{MutBor}
+use Rattle.candidate_ir.specs.declared.ir.kinds.TraitRef.{TraitRef}
+use Rattle.candidate_ir.specs.declared.ir.kinds.Ty.{Ty}
+use Rattle.candidate_ir.specs.declared.ir.stop.Stop.{Stop}
+use Rattle.candidate_ir.specs.Context.{Context, world}
+use Rattle.candidate_ir.specs.References.{reference_of}
 use Rattle.candidate_ir.specs.Trees.{Tree, holds, is_alias}
+use Rattle.candidate_ir.specs.Words.{args_forest}
 use Rattle.candidate_ir.specs.Worlds.{World, Reference, IsOf}
-use Rattle.candidate_eval.specs.Orphan.{InCrate, Local, Proper, view, plain, orphan_answer, Passes, knowability, Knowability, Knowable, Downstream, local_or_fundamental, plain_knowability, IsPlainForest}
+use Rattle.candidate_eval.specs.declared.coherence.Conflict.TheVariants as K
+use Rattle.candidate_eval.specs.declared.coherence.NormalizeErr.{NormalizeErr}
+use Rattle.candidate_eval.specs.declared.coherence.OrphanStop.{OrphanStop}
+use Rattle.candidate_eval.specs.declared.coherence.OrphanStop.TheVariants as O
+use Rattle.candidate_eval.specs.Answers.{CheckResult, answer_of, OutOfMemory, IsAnswer, IsUncoveredResult, KnownResult, knowledge_of}
+use Rattle.candidate_eval.specs.Calls.{depth_limit, check_of, check_where, IsChecked, IsKnown, HasNoAlias, HasNoAliasOrError, IsOfForeignTrait, IsDecidedByGeneralHere, NoForeignHeaderHere, NoUnnamedHeaderHere, NoCoveredHeaderHere}
+use Rattle.candidate_eval.specs.Laws.{AreResolved, IsPlainCall, OnlyFirst, NoForeignHeader, NoUnnamedHeader, NoCoveredHeader, IsDecidedByGeneral, HasDownstream}
+use Rattle.candidate_eval.specs.Normalizer.{IsFunction, IsLeftByCalls, IsChangedByCalls, HasCause, StopHasCause}
+use Rattle.candidate_eval.specs.Orphan.{InCrate, Local, Remote, Proper, Compat, View, view, plain, orphan_answer, Passes, Entry, NonLocalInput, knowability, Knowability, Knowable, Downstream, local_or_fundamental, plain_knowability, IsPlainForest}
 use Rattle.candidate_eval.specs.Substitutions.{Universes}
-use Rattle.candidate_eval.specs.Laws.{AreResolved, NoForeignHeader, NoUnnamedHeader, NoCoveredHeader, IsDecidedByGeneral, HasDownstream}
+use Rattle.candidate_eval.proofs.Calls.{left-same}
+use Rattle.candidate_eval.proofs.CheckLaws.{compat-passes, any-local, never-uncovered, first-once}
 use Rattle.candidate_eval.proofs.Lowering.{lower_answer, lower_knowledge, plain_answer, plain_knowledge}
-use Rattle.candidate_eval.proofs.Safety.{own_header, open_world, covered_world}
 use Rattle.candidate_eval.proofs.Newcomer.{downstream_world}
+use Rattle.candidate_eval.proofs.Safety.{link_safety, own_header, open_world, covered_world}
 
+-- for the plain normaliser, in a context where nothing of the reference has a value
 module _ {S E : Type 0} (w : World) (c limit : ℕ) (resolve : S → Tree → Tree) (s : S) (r : Reference) (there : IsOf w r) (settled : AreResolved (resolve s) r.arguments) where
   pub no-foreign-header : (m : InCrate) → m ≡ Local Proper → IsPlainForest r.arguments
       → (orphan_answer {S = S} {E = E} w c m (view resolve plain) limit s r.arguments).answer ≡ Passes → NoForeignHeader w c r
@@ -30,3 +48,72 @@ module _ {S E : Type 0} (w : World) (c limit : ℕ) (resolve : S → Tree → Tr
   pub downstream-header : IsPlainForest r.arguments → (knowability {S = S} {E = E} w c (view resolve plain) limit s r).answer ≡ Downstream
       → IsDecidedByGeneral w limit r → (u v : Universes) → HasDownstream w r u v
   downstream-header ok e d u v = downstream_world w c limit r there ok (known-plainly Downstream e) d u v
+
+abbrev seen : {C F E : Type 0} → (C → Tree → Tree) → View (F × C) E → View (F × C) E
+seen resolve normal = view (λ s t. resolve s.1 t) normal
+
+-- What follows for a call, whatever its body, from what it says for each normaliser. Contracts name these lemmas, so
+-- that a turned body leaves open what it breaks and nothing else.
+module _ {C F E : Type 0} {context : C → Context} {resolve : C → Tree → Tree} {g : Mut F (MutBor C × (Ty × Unit {0})) (Result Ty (NormalizeErr E) × (MutBor C × Unit {0}))}
+    {f f' : F} {c c' : C} {r : TraitRef} where
+  module _ {m : InCrate} {result : CheckResult E} (said : IsChecked context resolve g f c m r result f' c') where
+    pub no_foreign_header_said : IsPlainCall context resolve g c r → HasNoAliasOrError (context c) r → m ≡ Local Proper → result ≡ Ok (Ok tt) → NoForeignHeaderHere (context c) r
+    no_foreign_header_said p ok e passes =
+        no-foreign-header (world (context c)) (context c).local.0 depth_limit (λ (s : F × C) t. resolve s.1 t) (f, c) (reference_of (context c).trees r) p.of_world p.resolved m e ok
+        (ap (λ x. x.answer) (said.at plain p.normaliser (λ x. cc)) ∙ ap (answer_of (context c').trees) passes)
+
+    pub proper_passes_compat_said : (normal : View (F × C) E) → IsFunction context g c normal → m ≡ Local Proper → result ≡ Ok (Ok tt)
+        → (check_of context resolve normal (Local Compat) (f, c) r).answer ≡ Passes
+    proper_passes_compat_said normal h e passes =
+        compat-passes (world (context c)) (context c).local.0 depth_limit (seen resolve normal) (f, c) (args_forest (context c).trees r.args) m e
+        (ap (λ x. x.answer) (said.at normal h (λ x. cc)) ∙ ap (answer_of (context c').trees) passes)
+
+    pub remote_said : (normal : View (F × C) E) → IsFunction context g c normal → m ≡ Remote → (OutOfMemory result → ⊥) → (local : ℕ)
+        → IsAnswer (context c').trees result c' (check_where context resolve normal local Remote (f, c) r)
+    remote_said normal h e ne local =
+        let k = any-local (world (context c)) (context c).local.0 depth_limit (seen resolve normal) (f, c) (args_forest (context c).trees r.args) m e local ∙ said.at normal h ne in
+        record { answer = ap (λ x. x.answer) k; leaves = ap (λ x. x.after.1) k }
+
+    pub remote_covers_said : (normal : View (F × C) E) → IsFunction context g c normal → m ≡ Remote → IsUncoveredResult result → ⊥
+    remote_covers_said normal h e =
+        never-uncovered (world (context c)) (context c).local.0 depth_limit (seen resolve normal) (f, c) (args_forest (context c).trees r.args) m e
+        (context c').trees result (λ ne. ap (λ x. x.answer) (said.at normal h ne))
+
+    pub first_input_said : (normal : View (F × C) E) → IsFunction context g c normal → (l : List Entry) → answer_of (context c').trees result ≡ NonLocalInput l → OnlyFirst l
+    first_input_said normal h =
+        first-once (world (context c)) (context c).local.0 depth_limit (seen resolve normal) (f, c) (args_forest (context c).trees r.args) m
+        (context c').trees result (λ ne. ap (λ x. x.answer) (said.at normal h ne))
+
+  module _ {result : KnownResult E} (said : IsKnown context resolve g f c r result f' c') (p : IsPlainCall context resolve g c r) where
+    pub no_unnamed_header_said : HasNoAlias (context c) r → result ≡ Ok (Ok tt) → NoUnnamedHeaderHere (context c) r
+    no_unnamed_header_said ok known =
+        no-unnamed-header (world (context c)) (context c).local.0 depth_limit (λ (s : F × C) t. resolve s.1 t) (f, c) (reference_of (context c).trees r) p.of_world p.resolved ok
+        ((said.at plain p.normaliser (λ x. cc)).answer ∙ ap knowledge_of known)
+
+    pub no_covered_header_said : HasNoAlias (context c) r → result ≡ Ok (Ok tt) → IsOfForeignTrait (context c) r → NoCoveredHeaderHere (context c) r
+    no_covered_header_said ok known foreign =
+        no-covered-header (world (context c)) (context c).local.0 depth_limit (λ (s : F × C) t. resolve s.1 t) (f, c) (reference_of (context c).trees r) p.of_world p.resolved ok
+        ((said.at plain p.normaliser (λ x. cc)).answer ∙ ap knowledge_of known) foreign
+
+    pub downstream_header_said : HasNoAliasOrError (context c) r → result ≡ Ok (Err K.Downstream) → IsDecidedByGeneralHere (context c) r
+        → (u v : Universes) → HasDownstream (world (context c)) (reference_of (context c).trees r) u v
+    downstream_header_said ok known decided u v =
+        downstream-header (world (context c)) (context c).local.0 depth_limit (λ (s : F × C) t. resolve s.1 t) (f, c) (reference_of (context c).trees r) p.of_world p.resolved ok
+        ((said.at plain p.normaliser (λ x. cc)).answer ∙ ap knowledge_of known) decided u v
+
+module _ {C F E : Type 0} {context : C → Context} {g : Mut F (MutBor C × (Ty × Unit {0})) (Result Ty (NormalizeErr E) × (MutBor C × Unit {0}))} {f : F} {c : C} where
+  pub changed_by_none : IsChangedByCalls context g f c c
+  changed_by_none = record { last = f; left = left-same context g f c }
+
+  pub changed_by_calls : {f' : F} {c' : C} → IsLeftByCalls context g f c f' c' → IsChangedByCalls context g f c c'
+  changed_by_calls {f' = f'} h = record { last = f'; left = h }
+
+  pub stop_has_cause : {A : Type 0} {levels : ℕ} {f' : F} {c' : C} {result : Result A (OrphanStop E)} {s : Stop}
+      → HasCause context g levels f c f' c' result → result ≡ Err (O.Stop s) → StopHasCause context g levels f c c' s
+  stop_has_cause {f' = f'} {s = s} h e = record { last = f'; cause = h.at s e }
+
+pub ruleset of_calls = (changed_by_none, changed_by_calls, stop_has_cause)
+
+pub ruleset check_laws = (link_safety, no_foreign_header_said, proper_passes_compat_said, remote_covers_said, first_input_said, of_calls)
+
+pub ruleset knowability_laws = (no_unnamed_header_said, no_covered_header_said, downstream_header_said, of_calls)

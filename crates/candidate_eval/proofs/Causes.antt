@@ -92,15 +92,17 @@ module _ {C F E : Type 0} (context : C → Context) (g : Mut F (MutBor C × (Ty 
       let k = lead-on n m a.2 a.3 f1 c1 f2 c2 a.5 b in
       (suc k.0, omega (arith, k.3), omega (arith, k.3), omega (arith, k.3), (a.0, a.1, a.2, a.3, a.4, k.4))
 
-  answered-on : (n : ℕ) (f : F) (c : C) (f1 : F) (c1 : C) (s : Stop) → Lead context g n f c f1 c1 → StopIsAnswered context g f1 c1 s → StopIsAnswered context g f c s
-  answered-on n f c f1 c1 s a b =
+  answered-on : (n : ℕ) (f : F) (c : C) (f1 : F) (c1 : C) (f2 : F) (c2 : C) (s : Stop) → Lead context g n f c f1 c1
+      → StopIsAnswered context g f1 c1 f2 c2 s → StopIsAnswered context g f c f2 c2 s
+  answered-on n f c f1 c1 f2 c2 s a b =
       let k = lead-on n b.calls f c f1 c1 b.f1 b.c1 a b.lead in
-      record { calls = k.0; f1 = b.f1; c1 = b.c1; lead = k.4; t = b.t; f2 = b.f2; c2 = b.c2; call = b.call }
+      record { calls = k.0; f1 = b.f1; c1 = b.c1; lead = k.4; t = b.t; call = b.call }
 
-  seen-on : (n : ℕ) (f : F) (c : C) (f1 : F) (c1 : C) → Lead context g n f c f1 c1 → UnnameableIsSeen context g f1 c1 → UnnameableIsSeen context g f c
-  seen-on n f c f1 c1 a b =
+  seen-on : (n : ℕ) (f : F) (c : C) (f1 : F) (c1 : C) (f2 : F) (c2 : C) → Lead context g n f c f1 c1
+      → UnnameableIsSeen context g f1 c1 f2 c2 → UnnameableIsSeen context g f c f2 c2
+  seen-on n f c f1 c1 f2 c2 a b =
       let k = lead-on n b.calls f c f1 c1 b.f1 b.c1 a b.lead in
-      record { calls = k.0; f1 = b.f1; c1 = b.c1; lead = k.4; t = b.t; u = b.u; f2 = b.f2; c2 = b.c2; call = b.call; is = b.is }
+      record { calls = k.0; f1 = b.f1; c1 = b.c1; lead = k.4; t = b.t; u = b.u; call = b.call; is = b.is }
 
   deep-on : (n levels : ℕ) (f : F) (c : C) (f1 : F) (c1 : C) (f2 : F) (c2 : C) → Lead context g n f c f1 c1 → IsDeep context g levels f1 c1 f2 c2 → IsDeep context g (n + levels) f c f2 c2
   deep-on n levels f c f1 c1 f2 c2 a b =
@@ -114,8 +116,8 @@ module _ {C F E : Type 0} (context : C → Context) (g : Mut F (MutBor C × (Ty 
   cause-on n levels more f c f1 c1 f2 c2 s h a (inr (inl e)) =
       let d = deep-on n levels f c f1 c1 f2 c2 a e.1 in
       inr (inl (e.0, record { calls = d.calls; lead = d.lead; deep = omega (arith, h, d.deep) }))
-  cause-on n levels more f c f1 c1 f2 c2 s h a (inr (inr (inl e))) = inr (inr (inl (e.0, seen-on n f c f1 c1 a e.1)))
-  cause-on n levels more f c f1 c1 f2 c2 s h a (inr (inr (inr e))) = inr (inr (inr (answered-on n f c f1 c1 s a e)))
+  cause-on n levels more f c f1 c1 f2 c2 s h a (inr (inr (inl e))) = inr (inr (inl (e.0, seen-on n f c f1 c1 f2 c2 a e.1)))
+  cause-on n levels more f c f1 c1 f2 c2 s h a (inr (inr (inr e))) = inr (inr (inr (answered-on n f c f1 c1 f2 c2 s a e)))
 
   pub cause-after : (levels : ℕ) (f : F) (c : C) (f1 : F) (c1 : C) (f2 : F) (c2 : C) (s : Stop) → IsLeftByCalls context g f c f1 c1
       → IsStopCause context g levels f1 c1 f2 c2 s → IsStopCause context g levels f c f2 c2 s
@@ -128,12 +130,12 @@ module _ {C F E : Type 0} (context : C → Context) (g : Mut F (MutBor C × (Ty 
   pub cause-deep : (levels : ℕ) (f : F) (c : C) (s : Stop) → levels ≡ 0 → s ≡ WalkDepth → IsStopCause context g levels f c f c s
   cause-deep levels f c s h e = inr (inl (e, record { calls = 0; lead = (refl, refl); deep = omega arith }))
 
-  pub cause-answered : (levels : ℕ) (f : F) (c : C) (f1 : F) (c1 : C) (s : Stop) → StopIsAnswered context g f c s → IsStopCause context g levels f c f1 c1 s
+  pub cause-answered : (levels : ℕ) (f : F) (c : C) (f1 : F) (c1 : C) (s : Stop) → StopIsAnswered context g f c f1 c1 s → IsStopCause context g levels f c f1 c1 s
   cause-answered levels f c f1 c1 s a = inr (inr (inr a))
 
   -- an item stops a walk
   pub cause-item : (levels : ℕ) (f : F) (c : C) (f1 : F) (c1 : C) (k : ViewClass) (s : Stop) → (s ≡ Memory) ⊎ ((s ≡ Unnameable) × (k ≡ V.Unnameable))
-      → (k ≡ V.Unnameable → UnnameableIsSeen context g f c) → IsStopCause context g levels f c f1 c1 s
+      → (k ≡ V.Unnameable → UnnameableIsSeen context g f c f1 c1) → IsStopCause context g levels f c f1 c1 s
   cause-item levels f c f1 c1 k s (inl e) h = inl e
   cause-item levels f c f1 c1 k s (inr e) h = inr (inr (inl (e.0, h e.1)))
 
@@ -145,11 +147,11 @@ module _ {C F E : Type 0} (context : C → Context) (g : Mut F (MutBor C × (Ty 
   one-left f c f' c' h = record { calls = 1; lead = h }
 
   pub one-answers : (f : F) (c : C) (t : Ty) (r : Result Ty (NormalizeErr E)) (f' : F) (c' : C) (s : Stop) → Normalizes context g f c t r f' c' → r ≡ Err (N.Stop s)
-      → StopIsAnswered context g f c s
+      → StopIsAnswered context g f c f' c' s
   one-answers f c t r f' c' s h e =
-      record { calls = 0; f1 = f; c1 = c; lead = (refl, refl); t = t; f2 = f'; c2 = c'; call = subst (λ x. Normalizes context g f c t x f' c') e h }
+      record { calls = 0; f1 = f; c1 = c; lead = (refl, refl); t = t; call = subst (λ x. Normalizes context g f c t x f' c') e h }
 
   pub one-sees : (f : F) (c : C) (t u : Ty) (r : Result Ty (NormalizeErr E)) (f' : F) (c' : C) → Normalizes context g f c t r f' c' → r ≡ Ok u
-      → (is_unnameable (ty_tree (context c').trees u).head ≡ true) ⊎ (is_unnameable (ty_tree (context c).trees t).head ≡ true) → UnnameableIsSeen context g f c
+      → (is_unnameable (ty_tree (context c').trees u).head ≡ true) ⊎ (is_unnameable (ty_tree (context c).trees t).head ≡ true) → UnnameableIsSeen context g f c f' c'
   one-sees f c t u r f' c' h e i =
-      record { calls = 0; f1 = f; c1 = c; lead = (refl, refl); t = t; u = u; f2 = f'; c2 = c'; call = subst (λ x. Normalizes context g f c t x f' c') e h; is = i }
+      record { calls = 0; f1 = f; c1 = c; lead = (refl, refl); t = t; u = u; call = subst (λ x. Normalizes context g f c t x f' c') e h; is = i }

@@ -3,9 +3,10 @@ use Rattle.std.proofs.Common.{◌≡◌, ℕ, List, Ok, Err, sym, ◌∙◌, ap}
 use Rattle.candidate_ir.specs.Trees.{Forest, Tree}
 use Rattle.candidate_ir.specs.Worlds.{World}
 use Rattle.candidate_eval.specs.declared.coherence.OrphanCheckErr.TheVariants as C
-use Rattle.candidate_eval.specs.Answers.{CheckResult, answer_of, entries_of, OutOfMemory, IsUncoveredResult, IfNonLocal}
+use Rattle.candidate_eval.specs.declared.coherence.OrphanStop.TheVariants as O
+use Rattle.candidate_eval.specs.Answers.{CheckResult, answer_of, OutOfMemory, IsUncoveredResult}
 use Rattle.candidate_eval.specs.Laws.{OnlyFirst}
-use Rattle.candidate_eval.specs.Orphan.{InCrate, Local, Remote, Proper, Compat, View, Passes, orphan_answer}
+use Rattle.candidate_eval.specs.Orphan.{InCrate, Local, Remote, Proper, Compat, View, Passes, Entry, NonLocalInput, orphan_answer}
 use Rattle.candidate_eval.proofs.OrphanLaws.{proper_then_compat, remote_law, first_input_law}
 
 module _ {S E : Type 0} (w : World) (c n : ℕ) (see : View S E) (s : S) (a : Forest) where
@@ -25,8 +26,9 @@ module _ {S E : Type 0} (w : World) (c n : ℕ) (see : View S E) (s : S) (a : Fo
   never-uncovered m e ts (Err o) f h = absurd h
 
   pub first-once : (m : InCrate) (ts : List Tree) (r : CheckResult E) → ((OutOfMemory r → ⊥) → (orphan_answer w c m see n s a).answer ≡ answer_of ts r)
-      → IfNonLocal r (λ v. OnlyFirst (entries_of ts v))
-  first-once m ts (Ok (Err (C.NonLocalInputType v))) f = first_input_law S E w c n m see s a (entries_of ts v.items) (f (λ x. cc))
-  first-once m ts (Ok (Err (C.UncoveredTyParams u))) f = tt
-  first-once m ts (Ok (Ok u)) f = tt
-  first-once m ts (Err o) f = tt
+      → (l : List Entry) → answer_of ts r ≡ NonLocalInput l → OnlyFirst l
+  first-once m ts (Ok (Err (C.NonLocalInputType v))) f l e = first_input_law S E w c n m see s a l (f (λ x. cc) ∙ e)
+  first-once m ts (Ok (Err (C.UncoveredTyParams u))) f l e = cc
+  first-once m ts (Ok (Ok u)) f l e = cc
+  first-once m ts (Err (O.Normalize x)) f l e = cc
+  first-once m ts (Err (O.Stop x)) f l e = cc

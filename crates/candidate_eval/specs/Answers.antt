@@ -52,11 +52,6 @@ abbrev pub IsUncoveredResult : {E : Type 0} → CheckResult E → Type 0
 IsUncoveredResult (Ok (Err (C.UncoveredTyParams u))) = Unit {0}
 IsUncoveredResult _ = ⊥
 
--- the fact about the entries, if the result is that none is local
-abbrev pub IfNonLocal : {E : Type 0} → CheckResult E → (List (Ty × IsFirstInputType) → Type 0) → Type 0
-IfNonLocal (Ok (Err (C.NonLocalInputType v))) P = P v.items
-IfNonLocal _ P = Unit {0}
-
 -- The result and the context that is left are those of the definition.
 pub record IsAnswer {F C E : Type 0} (ts : List Tree) (result : CheckResult E) (left : C) (checked : Checked (F × C) (Answer E)) : Type 0 where
   pub answer : checked.answer ≡ answer_of ts result

@@ -1,6 +1,14 @@
 -- What a call says by the definitions, and what holds of its reference.
-use Rattle.std.specs.Prelude.{◌≡◌, ℕ, false}
+use Rattle.std.specs.Prelude.{◌≡◌, ℕ, false, Result, Err}
+use Rattle.std.specs.Fn.{Mut}
+use Rattle.std.specs.Borrow.{MutBor}
+use Rattle.candidate_ir.specs.declared.ir.kinds.Ty.{Ty}
 use Rattle.candidate_ir.specs.declared.ir.kinds.TraitRef.{TraitRef}
+use Rattle.candidate_eval.specs.declared.coherence.NormalizeErr.{NormalizeErr}
+use Rattle.candidate_ir.specs.declared.ir.stop.Stop.TheVariants.{Memory}
+use Rattle.candidate_eval.specs.declared.coherence.OrphanStop.TheVariants as O
+use Rattle.candidate_eval.specs.Answers.{CheckResult, KnownResult, OutOfMemory, IsKnowledge, answer_of}
+use Rattle.candidate_eval.specs.Normalizer.{IsFunction}
 use Rattle.candidate_ir.specs.Trees.{Tree, holds, is_alias, is_param}
 use Rattle.candidate_ir.specs.Context.{Context, world}
 use Rattle.candidate_ir.specs.Words.{args_forest}
@@ -27,6 +35,16 @@ module _ {C F E : Type 0} (context : C → Context) (resolve : C → Tree → Tr
   abbrev pub knowledge_about : F × C → TraitRef → Checked (F × C) (Knowability E)
   knowledge_about s r =
       knowability (world (context s.1)) (context s.1).local.0 (view (λ x t. resolve x.1 t) normal) depth_limit s (reference_of (context s.1).trees r)
+
+-- For each normaliser that is a function, what a call says and leaves is what the definition says.
+module _ {C F E : Type 0} (context : C → Context) (resolve : C → Tree → Tree) (g : Mut F (MutBor C × (Ty × Unit {0})) (Result Ty (NormalizeErr E) × (MutBor C × Unit {0}))) where
+  pub record IsChecked (f : F) (c : C) (m : InCrate) (r : TraitRef) (result : CheckResult E) (f' : F) (c' : C) : Type 0 where
+    pub at : (normal : View (F × C) E) → IsFunction context g c normal → (OutOfMemory result → ⊥)
+        → check_of context resolve normal m (f, c) r ≡ record { answer = answer_of (context c').trees result; after = (f', c') }
+
+  pub record IsKnown (f : F) (c : C) (r : TraitRef) (result : KnownResult E) (f' : F) (c' : C) : Type 0 where
+    pub at : (normal : View (F × C) E) → IsFunction context g c normal → (result ≡ Err (O.Stop Memory) → ⊥)
+        → IsKnowledge result c' (knowledge_about context resolve normal (f, c) r)
 
 -- What holds of a reference of a context.
 abbrev pub HasNoParam : Context → TraitRef → Type 0

@@ -15,36 +15,32 @@ use Rattle.candidate_eval.specs.Normalizer.{IsPlain}
 use Rattle.candidate_eval.specs.Orphan.{MayWrite, IsCovered, View, InCrate, Local, Proper, Compat, Remote, Passes, NonLocalInput, UncoveredInput, Entry, orphan_answer, Step, Viewed, is_general, remote_decision, names}
 
 -- Two crates that name nothing of each other write no headers that overlap.
-abbrev pub LinkSafety : Type 0
-LinkSafety =
-    (w : World) (c d : ℕ) (a b : Reference) (u v : Universes)
-    → (c ≡ d → ⊥)
-    → MayWrite w c a → names w a d ≡ false
-    → MayWrite w d b → names w b c ≡ false
-    → Overlap u v a b → ⊥
+pub record LinkSafety : Type 0 where
+  pub apart : (w : World) (c d : ℕ) (a b : Reference) (u v : Universes)
+      → (c ≡ d → ⊥)
+      → MayWrite w c a → names w a d ≡ false
+      → MayWrite w d b → names w b c ≡ false
+      → Overlap u v a b → ⊥
 
 -- No header that another crate may write, in any world, overlaps the local crate's header, where neither names
 -- anything of the other's crate.
-abbrev pub NoForeignHeader : World → ℕ → Reference → Type 0
-NoForeignHeader declared local a =
-    (w : World) (d : ℕ) (b : Reference) (u v : Universes)
-    → Extends declared w → (local ≡ d → ⊥)
-    → names w a d ≡ false → MayWrite w d b → names w b local ≡ false
-    → Overlap u v a b → ⊥
+pub record NoForeignHeader (declared : World) (local : ℕ) (a : Reference) : Type 0 where
+  pub apart : (w : World) (d : ℕ) (b : Reference) (u v : Universes)
+      → Extends declared w → (local ≡ d → ⊥)
+      → names w a d ≡ false → MayWrite w d b → names w b local ≡ false
+      → Overlap u v a b → ⊥
 
 -- No header that a crate which the reference doesn't name may write, in any world, overlaps it.
-abbrev pub NoUnnamedHeader : World → Reference → Type 0
-NoUnnamedHeader declared r =
-    (w : World) (c : ℕ) (h : Reference) (u v : Universes)
-    → Extends declared w → names w r c ≡ false → MayWrite w c h
-    → Overlap u v r h → ⊥
+pub record NoUnnamedHeader (declared : World) (r : Reference) : Type 0 where
+  pub apart : (w : World) (c : ℕ) (h : Reference) (u v : Universes)
+      → Extends declared w → names w r c ≡ false → MayWrite w c h
+      → Overlap u v r h → ⊥
 
 -- No covered header that names nothing of the local crate, in any world, overlaps the reference, whoever may write it.
-abbrev pub NoCoveredHeader : World → ℕ → ℕ → Reference → Type 0
-NoCoveredHeader declared local limit r =
-    (w : World) (h : Reference) (u v : Universes)
-    → Extends declared w → IsCovered w limit h → names w h local ≡ false
-    → Overlap u v r h → ⊥
+pub record NoCoveredHeader (declared : World) (local limit : ℕ) (r : Reference) : Type 0 where
+  pub apart : (w : World) (h : Reference) (u v : Universes)
+      → Extends declared w → IsCovered w limit h → names w h local ≡ false
+      → Overlap u v r h → ⊥
 
 -- A crate of another world that the reference doesn't name, and a header that it may write and that overlaps.
 pub record HasDownstream (declared : World) (r : Reference) (u v : Universes) : Type 0 where

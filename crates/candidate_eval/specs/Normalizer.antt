@@ -10,6 +10,8 @@ use Rattle.candidate_ir.specs.Context.{Context, Grows}
 use Rattle.candidate_ir.specs.Words.{IsTy, ty_tree}
 use Rattle.candidate_eval.specs.declared.coherence.NormalizeErr.{NormalizeErr}
 use Rattle.candidate_eval.specs.declared.coherence.NormalizeErr.TheVariants as N
+use Rattle.candidate_eval.specs.declared.coherence.OrphanStop.{OrphanStop}
+use Rattle.candidate_eval.specs.declared.coherence.OrphanStop.TheVariants as O
 use Rattle.candidate_eval.specs.Orphan.{Fault, Refused, Stopped, Seen, Sees, Fails, View, plain, is_unnameable}
 
 -- what an answer shows, in the context that the call leaves
@@ -61,37 +63,48 @@ module _ {C F E : Type 0} (context : C → Context) (g : Mut F (MutBor C × (Ty 
     pub calls : ℕ
     pub lead : Lead calls f c f' c'
 
-  -- A call that the calls from here come to answers that stop.
-  pub record StopIsAnswered (f : F) (c : C) (s : Stop) : Type 0 where
+  -- The last of the calls that lead from the one to the other answers the stop.
+  pub record StopIsAnswered (f : F) (c : C) (f' : F) (c' : C) (s : Stop) : Type 0 where
     pub calls : ℕ
     pub f1 : F
     pub c1 : C
     pub lead : Lead calls f c f1 c1
     pub t : Ty
-    pub f2 : F
-    pub c2 : C
-    pub call : Normalizes f1 c1 t (Err (N.Stop s)) f2 c2
+    pub call : Normalizes f1 c1 t (Err (N.Stop s)) f' c'
 
-  -- A call that the calls from here come to answers a type that stands in no header, or is made at one.
-  pub record UnnameableIsSeen (f : F) (c : C) : Type 0 where
+  -- The last of them answers a type that stands in no header, or is made at one.
+  pub record UnnameableIsSeen (f : F) (c : C) (f' : F) (c' : C) : Type 0 where
     pub calls : ℕ
     pub f1 : F
     pub c1 : C
     pub lead : Lead calls f c f1 c1
     pub t : Ty
     pub u : Ty
-    pub f2 : F
-    pub c2 : C
-    pub call : Normalizes f1 c1 t (Ok u) f2 c2
-    pub is : (is_unnameable (ty_tree (context c2).trees u).head ≡ true) ⊎ (is_unnameable (ty_tree (context c1).trees t).head ≡ true)
+    pub call : Normalizes f1 c1 t (Ok u) f' c'
+    pub is : (is_unnameable (ty_tree (context c').trees u).head ≡ true) ⊎ (is_unnameable (ty_tree (context c1).trees t).head ≡ true)
 
-  -- So many calls at least lead from one to the other: a visit makes one, and those that it stands in one each.
+  -- They are so many at least: a visit makes one, and those that it stands in one each.
   pub record IsDeep (levels : ℕ) (f : F) (c : C) (f' : F) (c' : C) : Type 0 where
     pub calls : ℕ
     pub lead : Lead calls f c f' c'
     pub deep : levels ≤ calls
 
-  -- Why a walk stopped.
+  -- Calls that lead from the one to the other, by which a walk stops so: for want of memory after any, for its depth after so
+  -- many, else by what the last of them does.
   abbrev pub IsStopCause : ℕ → F → C → F → C → Stop → Type 0
   IsStopCause levels f c f' c' s =
-      (s ≡ Memory) ⊎ (((s ≡ WalkDepth) × IsDeep levels f c f' c') ⊎ (((s ≡ Unnameable) × UnnameableIsSeen f c) ⊎ StopIsAnswered f c s))
+      (s ≡ Memory) ⊎ (((s ≡ WalkDepth) × IsDeep levels f c f' c') ⊎ (((s ≡ Unnameable) × UnnameableIsSeen f c f' c') ⊎ StopIsAnswered f c f' c' s))
+
+  -- Calls of the normaliser alone lead from the one context to the other.
+  pub record IsChangedByCalls (f : F) (c c' : C) : Type 0 where
+    pub last : F
+    pub left : IsLeftByCalls f c last c'
+
+  -- Calls that lead from the one context to the other are the stop's cause.
+  pub record StopHasCause (levels : ℕ) (f : F) (c c' : C) (s : Stop) : Type 0 where
+    pub last : F
+    pub cause : IsStopCause levels f c last c' s
+
+  -- The same, where a result is a stop.
+  pub record HasCause {A : Type 0} (levels : ℕ) (f : F) (c : C) (f' : F) (c' : C) (result : Result A (OrphanStop E)) : Type 0 where
+    pub at : (s : Stop) → result ≡ Err (O.Stop s) → IsStopCause levels f c f' c' s

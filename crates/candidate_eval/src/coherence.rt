@@ -1,15 +1,15 @@
 //! The orphan check.
 
-ghost use Rattle.std.specs.Prelude.{◌≡◌, ◌≢◌, ℕ, false, IfOk, IfSome};
+ghost use Rattle.std.specs.Prelude.{◌≡◌, ◌≢◌, ℕ, List, false, IfOk, IfSome};
 ghost use Rattle.candidate_ir.specs.Context.{Grows, world};
 ghost use Rattle.candidate_ir.specs.Trees.{Tree, holds, is_param, is_alias};
 ghost use Rattle.candidate_ir.specs.Words.{IsTy, IsArgs, args_forest};
 ghost use Rattle.candidate_ir.specs.References.{reference_of};
-ghost use Rattle.candidate_eval.specs.Orphan.{View, view, orphan_answer, Passes, knowability, local_or_fundamental, IsPlainForest};
-ghost use Rattle.candidate_eval.specs.Normalizer.{MayNormalize, KeepsNumbers, IsFunction, IsLeftByCalls, IsStopCause};
+ghost use Rattle.candidate_eval.specs.Orphan.{View, view, orphan_answer, Passes, Entry, NonLocalInput, knowability, local_or_fundamental, IsPlainForest};
+ghost use Rattle.candidate_eval.specs.Normalizer.{MayNormalize, KeepsNumbers, IsFunction, IsLeftByCalls, IsStopCause, IsChangedByCalls, HasCause, StopHasCause};
 ghost use Rattle.candidate_eval.specs.Laws.{OnlyFirst, LinkSafety, IsPlainCall};
-ghost use Rattle.candidate_eval.specs.Calls.{depth_limit, check_of, check_where, knowledge_about, HasNoParam, HasNoAlias, HasNoAliasOrError, IsOfForeignTrait, NoForeignHeaderHere, NoUnnamedHeaderHere, NoCoveredHeaderHere, IsDecidedByGeneralHere, HasDownstreamHere};
-ghost use Rattle.candidate_eval.specs.Answers.{entries_of, IsUncoveredResult, IfNonLocal, AreAnswerTypes, OutOfMemory, IsAnswer, IsKnowledge, answer_of, second_answer};
+ghost use Rattle.candidate_eval.specs.Calls.{depth_limit, IsChecked, IsKnown, check_of, check_where, knowledge_about, HasNoParam, HasNoAlias, HasNoAliasOrError, IsOfForeignTrait, NoForeignHeaderHere, NoUnnamedHeaderHere, NoCoveredHeaderHere, IsDecidedByGeneralHere, HasDownstreamHere};
+ghost use Rattle.candidate_eval.specs.Answers.{IsUncoveredResult, AreAnswerTypes, OutOfMemory, IsAnswer, IsKnowledge, answer_of, second_answer};
 ghost use Rattle.candidate_eval.specs.Walk.{setting};
 ghost use Rattle.candidate_eval.specs.Second.{IsSecond};
 
@@ -149,9 +149,9 @@ where
     requires keeps { KeepsNumbers C.context F.FnMut infcx.old }
     ensures grows { Grows (C.context infcx.old) (C.context infcx.new) }
     ensures calls { IsLeftByCalls C.context F.FnMut normalize.old infcx.old normalize.new infcx.new }
-    ensures cause { (s : Stop) → result ≡ Err (OrphanStop.Stop s) → IsStopCause C.context F.FnMut 256 normalize.old infcx.old normalize.new infcx.new s }
+    ensures cause { HasCause C.context F.FnMut 256 normalize.old infcx.old normalize.new infcx.new result }
     ensures types { AreAnswerTypes (C.context infcx.new).trees result }
-    ensures answer { (normal : View (F × C) E) → IsFunction C.context F.FnMut infcx.old normal → ¬ (OutOfMemory result) → check_of C.context C.resolved normal in_crate (normalize.old, infcx.old) trait_ref ≡ record { answer = answer_of (C.context infcx.new).trees result; after = (normalize.new, infcx.new) } }
+    ensures answer { IsChecked C.context C.resolved F.FnMut normalize.old infcx.old in_crate trait_ref result normalize.new infcx.new }
 {
     let mut walk = Walk {
         in_crate,
@@ -188,6 +188,7 @@ where
 /// normaliser, `Memory` where a growth was refused, `WalkDepth` where a type is nested in 256
 /// others, `Unnameable` where a function's type, a closure or a parameter is met. The context is
 /// changed by the normaliser alone.
+#[tactic(auto, using(crate::proofs::CallLaws::check_laws))]
 pub fn orphan_check_trait_ref<C, E, F>(
     alloc: Global,
     infcx: &mut C,
@@ -204,8 +205,8 @@ where
     requires callable { MayNormalize C.context F.FnMut infcx.old }
     requires keeps { KeepsNumbers C.context F.FnMut infcx.old }
     ensures grows { Grows (C.context infcx.old) (C.context infcx.new) }
-    ensures calls { (last : F) × IsLeftByCalls C.context F.FnMut normalize infcx.old last infcx.new }
-    ensures cause { (s : Stop) → result ≡ Err (OrphanStop.Stop s) → (last : F) × IsStopCause C.context F.FnMut depth_limit normalize infcx.old last infcx.new s }
+    ensures calls { IsChangedByCalls C.context F.FnMut normalize infcx.old infcx.new }
+    ensures cause { (s : Stop) → result ≡ Err (OrphanStop.Stop s) → StopHasCause C.context F.FnMut depth_limit normalize infcx.old infcx.new s }
     ensures types { AreAnswerTypes (C.context infcx.new).trees result }
 
     // For a normaliser whose answers and effects are functions of the tree and the context.
@@ -219,7 +220,7 @@ where
     ensures remote_covers { (normal : View (F × C) E) → IsFunction C.context F.FnMut infcx.old normal → in_crate ≡ InCrate.Remote → ¬ (IsUncoveredResult result) }
 
     // At most one entry is the first input, and then it is the first one.
-    ensures first_input_once { (normal : View (F × C) E) → IsFunction C.context F.FnMut infcx.old normal → IfNonLocal result (λ v. OnlyFirst (entries_of (C.context infcx.new).trees v)) }
+    ensures first_input_once { (normal : View (F × C) E) → IsFunction C.context F.FnMut infcx.old normal → (l : List Entry) → answer_of (C.context infcx.new).trees result ≡ NonLocalInput l → OnlyFirst l }
 
     // Two crates that name nothing of each other write no headers that overlap.
     ensures link_safety { LinkSafety }
@@ -262,8 +263,8 @@ where
     requires keeps { KeepsNumbers C.context F.FnMut infcx.old }
     ensures grows { Grows (C.context infcx.old) (C.context infcx.new) }
     ensures calls { IsLeftByCalls C.context F.FnMut normalize.old infcx.old normalize.new infcx.new }
-    ensures cause { (s : Stop) → result ≡ Err (OrphanStop.Stop s) → IsStopCause C.context F.FnMut 256 normalize.old infcx.old normalize.new infcx.new s }
-    ensures answer { (normal : View (F × C) E) → IsFunction C.context F.FnMut infcx.old normal → result ≢ Err (OrphanStop.Stop Stop.Memory) → IsKnowledge result infcx.new (knowledge_about C.context C.resolved normal (normalize.old, infcx.old) trait_ref) }
+    ensures cause { HasCause C.context F.FnMut 256 normalize.old infcx.old normalize.new infcx.new result }
+    ensures answer { IsKnown C.context C.resolved F.FnMut normalize.old infcx.old trait_ref result normalize.new infcx.new }
 {
     let remote = check(alloc, infcx, trait_ref, InCrate::Remote, normalize)?;
     if remote.is_ok() {
@@ -290,6 +291,7 @@ where
 /// `Conflict::Downstream`. Else they are known where the trait is local or fundamental, or where the
 /// local crate may write the header: `Ok(())`. Else a crate above may add one: `Conflict::Upstream`.
 /// It stops as the orphan check does.
+#[tactic(auto, using(crate::proofs::CallLaws::knowability_laws))]
 pub fn trait_ref_is_knowable<C, E, F>(
     alloc: Global,
     infcx: &mut C,
@@ -305,8 +307,8 @@ where
     requires callable { MayNormalize C.context F.FnMut infcx.old }
     requires keeps { KeepsNumbers C.context F.FnMut infcx.old }
     ensures grows { Grows (C.context infcx.old) (C.context infcx.new) }
-    ensures calls { (last : F) × IsLeftByCalls C.context F.FnMut normalize infcx.old last infcx.new }
-    ensures cause { (s : Stop) → result ≡ Err (OrphanStop.Stop s) → (last : F) × IsStopCause C.context F.FnMut depth_limit normalize infcx.old last infcx.new s }
+    ensures calls { IsChangedByCalls C.context F.FnMut normalize infcx.old infcx.new }
+    ensures cause { (s : Stop) → result ≡ Err (OrphanStop.Stop s) → StopHasCause C.context F.FnMut depth_limit normalize infcx.old infcx.new s }
 
     // For a normaliser whose answers and effects are functions of the tree and the context.
     ensures answer { (normal : View (F × C) E) → IsFunction C.context F.FnMut infcx.old normal → result ≢ Err (OrphanStop.Stop Stop.Memory) → IsKnowledge result infcx.new (knowledge_about C.context C.resolved normal (normalize, infcx.old) trait_ref) }

@@ -85,8 +85,8 @@ where
     requires keeps { KeepsNumbers C.context F.FnMut infcx.old }
     ensures grows { Grows (C.context infcx.old) (C.context infcx.new) }
     ensures one_call { Lead C.context F.FnMut 1 normalize.old infcx.old normalize.new infcx.new }
-    ensures stop { (s : Stop) → result ≡ Err (NormalizeErr.Stop s) → StopIsAnswered C.context F.FnMut normalize.old infcx.old s }
-    ensures unnameable { (u : Ty) → result ≡ Ok u → is_unnameable (ty_tree (C.context infcx.new).trees u).head ≡ true → UnnameableIsSeen C.context F.FnMut normalize.old infcx.old }
+    ensures stop { (s : Stop) → result ≡ Err (NormalizeErr.Stop s) → StopIsAnswered C.context F.FnMut normalize.old infcx.old normalize.new infcx.new s }
+    ensures unnameable { (u : Ty) → result ≡ Ok u → is_unnameable (ty_tree (C.context infcx.new).trees u).head ≡ true → UnnameableIsSeen C.context F.FnMut normalize.old infcx.old normalize.new infcx.new }
     ensures sort { IfOk result (λ t. IsTy (C.context infcx.new).trees t) }
     ensures view { (normal : View (F × C) E) → IsFunction C.context F.FnMut infcx.old normal → view (λ s t. C.resolved s.1 t) normal (normalize.old, infcx.old) (ty_tree (C.context infcx.old).trees ty) ≡ record { seen = shown (C.context infcx.new).trees result; after = (normalize.new, infcx.new) } }
 {
