@@ -1,10 +1,11 @@
 //! The commands that ask.
 
-ghost use Rattle.std.specs.Prelude.{◌≡◌, All, IfOk, IfSome};
+ghost use Rattle.std.specs.Prelude.{◌≡◌, ◌≢◌, All, IfOk, IfSome};
 ghost use Rattle.candidate_ir.specs.Words.{IsTy, IsArgs};
 ghost use Rattle.candidate_ir.specs.References.{IsReference};
-ghost use Rattle.candidate_eval.specs.Answers.{AreAnswerTypes, AreErrorTypes};
-ghost use Rattle.candidate_eval.specs.Calls.{HasNoParam, HasNoAlias, HasNoAliasOrError, IsOfForeignTrait, NoForeignHeaderHere, NoUnnamedHeaderHere, NoCoveredHeaderHere, IsDecidedByGeneralHere, HasDownstreamHere};
+ghost use Rattle.candidate_eval.specs.Answers.{AreAnswerTypes, AreErrorTypes, OutOfMemory, answer_of, knowledge_of};
+ghost use Rattle.candidate_eval.specs.Orphan.{bare_answer, bare_knowledge};
+ghost use Rattle.candidate_eval.specs.Calls.{plain_check_of, plain_knowledge_about, HasNoParam, HasNoAlias, HasNoAliasOrError, IsOfForeignTrait, NoForeignHeaderHere, NoUnnamedHeaderHere, NoCoveredHeaderHere, IsDecidedByGeneralHere, HasDownstreamHere};
 
 use crate::faults::Fault;
 use crate::names::Names;
@@ -90,6 +91,7 @@ impl Asking {
     fn known(&mut self, trait_ref: TraitRef) -> Result<Result<(), Conflict>, OrphanStop<Infallible>>
         requires args { IsArgs self.old.scope.maker.cx.trees trait_ref.args }
         requires no_param { HasNoParam self.old.scope.maker.cx trait_ref }
+        ensures answer { result ≢ Err (OrphanStop.Stop Stop.Memory) → bare_knowledge (knowledge_of result) ≡ plain_knowledge_about self.old.scope.maker.cx trait_ref }
         ensures no_unnamed_header { IsReference self.old.scope.maker.cx trait_ref → HasNoAlias self.old.scope.maker.cx trait_ref → result ≡ Ok (Ok tt) → NoUnnamedHeaderHere self.old.scope.maker.cx trait_ref }
         ensures downstream_header { IsReference self.old.scope.maker.cx trait_ref → HasNoAliasOrError self.old.scope.maker.cx trait_ref → result ≡ Ok (Err Conflict.Downstream) → IsDecidedByGeneralHere self.old.scope.maker.cx trait_ref → HasDownstreamHere self.old.scope.maker.cx trait_ref }
         ensures no_covered_header { IsReference self.old.scope.maker.cx trait_ref → HasNoAlias self.old.scope.maker.cx trait_ref → result ≡ Ok (Ok tt) → IsOfForeignTrait self.old.scope.maker.cx trait_ref → NoCoveredHeaderHere self.old.scope.maker.cx trait_ref }
@@ -133,6 +135,7 @@ impl Asking {
         requires args { IsArgs self.old.scope.maker.cx.trees trait_ref.args }
         requires no_param { HasNoParam self.old.scope.maker.cx trait_ref }
         ensures types { AreAnswerTypes self.new.scope.maker.cx.trees result }
+        ensures answer { ¬ (OutOfMemory result) → bare_answer (answer_of self.new.scope.maker.cx.trees result) ≡ plain_check_of self.old.scope.maker.cx in_crate trait_ref }
         ensures no_foreign_header { IsReference self.old.scope.maker.cx trait_ref → HasNoAliasOrError self.old.scope.maker.cx trait_ref → in_crate ≡ InCrate.Local OrphanCheckMode.Proper → result ≡ Ok (Ok tt) → NoForeignHeaderHere self.old.scope.maker.cx trait_ref }
     {
         orphan_check_trait_ref(

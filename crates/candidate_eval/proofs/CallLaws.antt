@@ -18,11 +18,11 @@ use Rattle.candidate_eval.specs.Answers.{CheckResult, answer_of, OutOfMemory, Is
 use Rattle.candidate_eval.specs.Calls.{depth_limit, check_of, check_where, IsChecked, IsKnown, HasNoAlias, HasNoAliasOrError, IsOfForeignTrait, IsDecidedByGeneralHere, NoForeignHeaderHere, NoUnnamedHeaderHere, NoCoveredHeaderHere}
 use Rattle.candidate_eval.specs.Laws.{AreResolved, IsPlainCall, OnlyFirst, NoForeignHeader, NoUnnamedHeader, NoCoveredHeader, IsDecidedByGeneral, HasDownstream}
 use Rattle.candidate_eval.specs.Normalizer.{IsFunction, IsLeftByCalls, IsChangedByCalls, HasCause, StopHasCause}
-use Rattle.candidate_eval.specs.Orphan.{InCrate, Local, Remote, Proper, Compat, View, view, plain, orphan_answer, Passes, Entry, NonLocalInput, knowability, Knowability, Knowable, Downstream, local_or_fundamental, plain_knowability, IsPlainForest}
+use Rattle.candidate_eval.specs.Orphan.{InCrate, Local, Remote, Proper, Compat, View, view, plain, orphan_answer, Passes, Entry, NonLocalInput, knowability, Knowability, Knowable, Downstream, local_or_fundamental, plain_knowability, bare_answer, bare_knowledge, IsPlainForest}
 use Rattle.candidate_eval.specs.Substitutions.{Universes}
 use Rattle.candidate_eval.proofs.Calls.{left-same}
 use Rattle.candidate_eval.proofs.CheckLaws.{compat-passes, any-local, never-uncovered, first-once}
-use Rattle.candidate_eval.proofs.Lowering.{lower_answer, lower_knowledge, plain_answer, plain_knowledge}
+use Rattle.candidate_eval.proofs.Lowering.{plain_answer, plain_knowledge}
 use Rattle.candidate_eval.proofs.Newcomer.{downstream_world}
 use Rattle.candidate_eval.proofs.Safety.{link_safety, own_header, open_world, covered_world}
 
@@ -33,10 +33,10 @@ module _ {S E : Type 0} (w : World) (c limit : ℕ) (resolve : S → Tree → Tr
   no-foreign-header m e ok p =
       own_header w c limit r there ok
       (sym (plain_answer E w c (Local Proper) limit resolve s r.arguments settled)
-      ∙ ap lower_answer (subst (λ n. (orphan_answer {S = S} {E = E} w c n (view resolve plain) limit s r.arguments).answer ≡ Passes) e p))
+      ∙ ap bare_answer (subst (λ n. (orphan_answer {S = S} {E = E} w c n (view resolve plain) limit s r.arguments).answer ≡ Passes) e p))
 
-  known-plainly : (a : Knowability E) → (knowability {S = S} {E = E} w c (view resolve plain) limit s r).answer ≡ a → plain_knowability w c limit r ≡ lower_knowledge a
-  known-plainly a e = sym (plain_knowledge E w c limit resolve s r settled) ∙ ap lower_knowledge e
+  known-plainly : (a : Knowability E) → (knowability {S = S} {E = E} w c (view resolve plain) limit s r).answer ≡ a → plain_knowability w c limit r ≡ bare_knowledge a
+  known-plainly a e = sym (plain_knowledge E w c limit resolve s r settled) ∙ ap bare_knowledge e
 
   pub no-unnamed-header : holds is_alias r.arguments ≡ false → (knowability {S = S} {E = E} w c (view resolve plain) limit s r).answer ≡ Knowable → NoUnnamedHeader w r
   no-unnamed-header na e = open_world w c limit r there na (known-plainly Knowable e)

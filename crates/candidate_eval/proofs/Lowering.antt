@@ -6,20 +6,16 @@ use Rattle.candidate_ir.specs.declared.ir.kinds.AliasKind.{AliasKind}
 use Rattle.candidate_ir.specs.declared.ir.kinds.AliasKind.TheVariants as AK
 use Rattle.candidate_ir.specs.Trees.{Forest, none, tree, Tree, is_type, is_loose, holds}
 use Rattle.candidate_ir.specs.Worlds.{World, Reference}
-use Rattle.candidate_eval.specs.Orphan.{Fault, Refused, Stopped, Seen, Sees, View, is_general, view, plain, Item, Viewed, Empty, Broken, Step, left, or_empty, walked, looked, visit, over, frontier, CrateTest, crate_test, is_local, is_fundamental, InCrate, Local, Remote, Proper, Compat, Class, IsNonLocal, IsSkipped, IsEmpty, IsLocal, IsUncovered, IsBroken, loose_class, projection_class, alias_class, owned_class, principal_passes, view_class, class_of, Answer, Passes, NonLocalInput, UncoveredInput, Faulty, Checked, decides, decides_again, first_step, entry, entries, uncovered, second, decided, judged, orphan_answer, plain_check, Knowability, Knowable, Upstream, Downstream, Unknown, by_answer, by_proper_check, by_remote_check, local_or_fundamental, knowability, plain_knowability}
+use Rattle.candidate_eval.specs.Orphan.{Fault, Refused, Stopped, Seen, Sees, View, is_general, view, plain, Item, Viewed, Empty, Broken, Step, left, or_empty, walked, looked, visit, over, frontier, CrateTest, crate_test, is_local, is_fundamental, InCrate, Local, Remote, Proper, Compat, Class, IsNonLocal, IsSkipped, IsEmpty, IsLocal, IsUncovered, IsBroken, loose_class, projection_class, alias_class, owned_class, principal_passes, view_class, class_of, Answer, Passes, NonLocalInput, UncoveredInput, Faulty, Checked, decides, decides_again, first_step, entry, entries, uncovered, second, decided, judged, orphan_answer, plain_check, Knowability, Knowable, Upstream, Downstream, Unknown, by_answer, by_proper_check, by_remote_check, local_or_fundamental, knowability, plain_knowability, bare_fault, bare_answer, bare_knowledge}
 use Rattle.candidate_eval.specs.Laws.{AreResolved}
 use Rattle.candidate_eval.proofs.Agree.{U, Steps}
 use Rattle.candidate_eval.proofs.Answers.{judged_if}
 
 -- whatever is refused, it is refused
-abbrev pub lower_fault : {E : Type 0} → Fault E → Fault U
-lower_fault (Refused e) = Refused tt
-lower_fault (Stopped s) = Stopped s
-
 abbrev pub lower_item : {E : Type 0} → Item E → Item U
 lower_item (Viewed t) = Viewed t
 lower_item Empty = Empty
-lower_item (Broken f) = Broken (lower_fault f)
+lower_item (Broken f) = Broken (bare_fault f)
 
 abbrev pub lower_class : {E : Type 0} → Class E → Class U
 lower_class (IsNonLocal t) = IsNonLocal t
@@ -27,19 +23,7 @@ lower_class IsSkipped = IsSkipped
 lower_class IsEmpty = IsEmpty
 lower_class (IsLocal t) = IsLocal t
 lower_class (IsUncovered t) = IsUncovered t
-lower_class (IsBroken f) = IsBroken (lower_fault f)
-
-abbrev pub lower_answer : {E : Type 0} → Answer E → Answer U
-lower_answer Passes = Passes
-lower_answer (NonLocalInput l) = NonLocalInput l
-lower_answer (UncoveredInput t o) = UncoveredInput t o
-lower_answer (Faulty f) = Faulty (lower_fault f)
-
-abbrev pub lower_knowledge : {E : Type 0} → Knowability E → Knowability U
-lower_knowledge Knowable = Knowable
-lower_knowledge Upstream = Upstream
-lower_knowledge Downstream = Downstream
-lower_knowledge (Unknown f) = Unknown (lower_fault f)
+lower_class (IsBroken f) = IsBroken (bare_fault f)
 
 loose_lower : (E : Type 0) (m : InCrate) (t : Tree) → lower_class (loose_class {E = E} m t) ≡ loose_class m t
 loose_lower E (Local q) t = refl
@@ -106,7 +90,7 @@ entry_lower b (IsLocal t) = refl
 entry_lower b (IsUncovered t) = refl
 entry_lower b (IsBroken f) = refl
 
-uncovered_lower : {E : Type 0} (t : Tree) (c : Class E) → lower_answer (uncovered t c) ≡ uncovered t (lower_class c)
+uncovered_lower : {E : Type 0} (t : Tree) (c : Class E) → bare_answer (uncovered t c) ≡ uncovered t (lower_class c)
 uncovered_lower t (IsLocal u) = refl
 uncovered_lower t (IsBroken (Stopped n)) = refl
 uncovered_lower t (IsBroken (Refused f)) = refl
@@ -205,7 +189,7 @@ same_steps {S} E w x resolve s (tree h a b) r n u =
 
 -- the same answer, and the context is left as it was
 record Agrees {S E : Type 0} (s : S) (c : Checked S (Answer E)) (d : Checked U (Answer U)) : Type 0 where
-  answer : lower_answer c.answer ≡ d.answer
+  answer : bare_answer c.answer ≡ d.answer
   leaves : c.after ≡ s
 
 module _ {S E : Type 0} (k : Item U → Class U) (l : Item E → Class E) (q : (i : Item E) → lower_class (l i) ≡ k (lower_item i)) (s : S) where
@@ -238,7 +222,7 @@ module _ {S E : Type 0} (k : Item U → Class U) (l : Item E → Class E) (q : (
   agrees_if false true c c' d d' e p q = cc
 
   agrees_by : (c c' : Checked S (Answer E)) (d d' : Checked U (Answer U)) → c ≡ c' → d ≡ d' → Agrees s c' d' → Agrees s c d
-  agrees_by c c' d d' e f p = record { answer = ap (λ z. lower_answer z.answer) e ∙ (p.answer ∙ sym (ap (λ z. z.answer) f)); leaves = ap (λ z. z.after) e ∙ p.leaves }
+  agrees_by c c' d d' e f p = record { answer = ap (λ z. bare_answer z.answer) e ∙ (p.answer ∙ sym (ap (λ z. z.answer) f)); leaves = ap (λ z. z.after) e ∙ p.leaves }
 
   second_lower : (t : Tree) (z : U) (all xs : List (Step S E)) (all' ys : List (Step U U)) → AreSame s all all' → AreSame s xs ys
       → Agrees s (second l t s all (first_step decides_again l xs)) (second k t z all' (first_step decides_again k ys))
@@ -293,31 +277,31 @@ check_lower {S} {E} w c m limit resolve s u a r =
     judged_lower (class_of w x m) (class_of w x m) (class_lower w x m) s walk walk' same u (walk s) (walk s) (walk' u) (walk' u) (same u) (same u)
 
 pub plain_answer : {S : Type 0} (E : Type 0) (w : World) (c : ℕ) (m : InCrate) (limit : ℕ) (resolve : S → Tree → Tree) (s : S) (a : Forest) → AreResolved (resolve s) a
-    → lower_answer (orphan_answer {S = S} {E = E} w c m (view resolve plain) limit s a).answer ≡ plain_check w c m limit a
+    → bare_answer (orphan_answer {S = S} {E = E} w c m (view resolve plain) limit s a).answer ≡ plain_check w c m limit a
 plain_answer E w c m limit resolve s a r = (check_lower w c m limit resolve s tt a r).answer
 
-by_lower : {E : Type 0} (a : Answer E) → lower_knowledge (by_answer a) ≡ by_answer (lower_answer a)
+by_lower : {E : Type 0} (a : Answer E) → bare_knowledge (by_answer a) ≡ by_answer (bare_answer a)
 by_lower Passes = refl
 by_lower (Faulty f) = refl
 by_lower (NonLocalInput l) = refl
 by_lower (UncoveredInput t o) = refl
 
-own_lower : {S E : Type 0} (own : Bool) (s : S) (u : U) (p : Checked S (Answer E)) (p' : Checked U (Answer U)) → lower_answer p.answer ≡ p'.answer
-    → lower_knowledge (if own then record { answer = Knowable; after = s } else by_proper_check p).answer
+own_lower : {S E : Type 0} (own : Bool) (s : S) (u : U) (p : Checked S (Answer E)) (p' : Checked U (Answer U)) → bare_answer p.answer ≡ p'.answer
+    → bare_knowledge (if own then record { answer = Knowable; after = s } else by_proper_check p).answer
     ≡ (if own then record { answer = Knowable; after = u } else by_proper_check p').answer
 own_lower true s u p p' e = refl
 own_lower false s u p p' e = by_lower p.answer ∙ ap by_answer e
 
 remote_lower : {S E : Type 0} (own : Bool) (proper : S → Checked S (Answer E)) (proper' : U → Checked U (Answer U)) (s : S) (u : U) (a : Answer E)
-    → lower_answer (proper s).answer ≡ (proper' u).answer
-    → lower_knowledge (by_remote_check own proper s a).answer ≡ (by_remote_check own proper' u (lower_answer a)).answer
+    → bare_answer (proper s).answer ≡ (proper' u).answer
+    → bare_knowledge (by_remote_check own proper s a).answer ≡ (by_remote_check own proper' u (bare_answer a)).answer
 remote_lower own proper proper' s u Passes e = refl
 remote_lower own proper proper' s u (Faulty f) e = refl
 remote_lower own proper proper' s u (NonLocalInput l) e = own_lower own s u (proper s) (proper' u) e
 remote_lower own proper proper' s u (UncoveredInput t o) e = own_lower own s u (proper s) (proper' u) e
 
 pub plain_knowledge : {S : Type 0} (E : Type 0) (w : World) (c limit : ℕ) (resolve : S → Tree → Tree) (s : S) (r : Reference) → AreResolved (resolve s) r.arguments
-    → lower_knowledge (knowability {S = S} {E = E} w c (view resolve plain) limit s r).answer ≡ plain_knowability w c limit r
+    → bare_knowledge (knowability {S = S} {E = E} w c (view resolve plain) limit s r).answer ≡ plain_knowability w c limit r
 plain_knowledge {S} E w c limit resolve s r h =
     let own = local_or_fundamental w c r.trait in
     let proper : S → Checked S (Answer E) = λ t. orphan_answer w c (Local Proper) (view resolve plain) limit t r.arguments in
@@ -325,6 +309,6 @@ plain_knowledge {S} E w c limit resolve s r h =
     let remote : Checked S (Answer E) = orphan_answer w c Remote (view resolve plain) limit s r.arguments in
     let plainly : Checked U (Answer U) = orphan_answer w c Remote plain limit tt r.arguments in
     let p = check_lower w c Remote limit resolve s tt r.arguments h in
-    ap (λ z. lower_knowledge (by_remote_check own proper z remote.answer).answer) p.leaves
+    ap (λ z. bare_knowledge (by_remote_check own proper z remote.answer).answer) p.leaves
     ∙ (remote_lower own proper proper' s plainly.after remote.answer (check_lower w c (Local Proper) limit resolve s plainly.after r.arguments h).answer
     ∙ ap (λ z. (by_remote_check own proper' plainly.after z).answer) p.answer)

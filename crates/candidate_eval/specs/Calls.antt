@@ -14,7 +14,7 @@ use Rattle.candidate_ir.specs.Context.{Context, world}
 use Rattle.candidate_ir.specs.Words.{args_forest}
 use Rattle.candidate_ir.specs.References.{reference_of}
 use Rattle.candidate_eval.specs.Substitutions.{Universes}
-use Rattle.candidate_eval.specs.Orphan.{InCrate, View, view, Checked, Answer, orphan_answer, Knowability, knowability, local_or_fundamental, IsPlainForest}
+use Rattle.candidate_eval.specs.Orphan.{InCrate, View, view, Checked, Answer, orphan_answer, Knowability, knowability, plain_check, plain_knowability, local_or_fundamental, IsPlainForest}
 use Rattle.candidate_eval.specs.Laws.{NoForeignHeader, NoUnnamedHeader, NoCoveredHeader, IsDecidedByGeneral, HasDownstream}
 
 -- Visits may be nested so deep.
@@ -35,6 +35,13 @@ module _ {C F E : Type 0} (context : C → Context) (resolve : C → Tree → Tr
   abbrev pub knowledge_about : F × C → TraitRef → Checked (F × C) (Knowability E)
   knowledge_about s r =
       knowability (world (context s.1)) (context s.1).local.0 (view (λ x t. resolve x.1 t) normal) depth_limit s (reference_of (context s.1).trees r)
+
+-- The same by the plain normaliser, where nothing has a value.
+abbrev pub plain_check_of : Context → InCrate → TraitRef → Answer (Unit {0})
+plain_check_of c m r = plain_check (world c) c.local.0 m depth_limit (args_forest c.trees r.args)
+
+abbrev pub plain_knowledge_about : Context → TraitRef → Knowability (Unit {0})
+plain_knowledge_about c r = plain_knowability (world c) c.local.0 depth_limit (reference_of c.trees r)
 
 -- For each normaliser that is a function, what a call says and leaves is what the definition says.
 module _ {C F E : Type 0} (context : C → Context) (resolve : C → Tree → Tree) (g : Mut F (MutBor C × (Ty × Unit {0})) (Result Ty (NormalizeErr E) × (MutBor C × Unit {0}))) where

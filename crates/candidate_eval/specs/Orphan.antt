@@ -294,6 +294,23 @@ plain_check w c in_crate limit args = (orphan_answer {E = Unit {0}} w c in_crate
 abbrev pub plain_knowability : World → ℕ → ℕ → Reference → Knowability (Unit {0})
 plain_knowability w c limit r = (knowability {E = Unit {0}} w c plain limit (let s : Unit {0} = tt in s) r).answer
 
+-- The same answer, whatever else the normaliser's error says.
+abbrev pub bare_fault : {E : Type 0} → Fault E → Fault (Unit {0})
+bare_fault (Refused e) = Refused tt
+bare_fault (Stopped s) = Stopped s
+
+abbrev pub bare_answer : {E : Type 0} → Answer E → Answer (Unit {0})
+bare_answer Passes = Passes
+bare_answer (NonLocalInput l) = NonLocalInput l
+bare_answer (UncoveredInput t o) = UncoveredInput t o
+bare_answer (Faulty f) = Faulty (bare_fault f)
+
+abbrev pub bare_knowledge : {E : Type 0} → Knowability E → Knowability (Unit {0})
+bare_knowledge Knowable = Knowable
+bare_knowledge Upstream = Upstream
+bare_knowledge Downstream = Downstream
+bare_knowledge (Unknown f) = Unknown (bare_fault f)
+
 -- Crate `c` may write the header.
 pub record MayWrite (w : World) (c : ℕ) (r : Reference) : Type 0 where
   pub is_plain : IsPlainForest r.arguments

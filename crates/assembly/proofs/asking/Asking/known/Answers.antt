@@ -1,4 +1,9 @@
 use Rattle.std.proofs.Common.{rules}
+use Rattle.std.proofs.Common.{sym, ◌∙◌, ap}
+use Rattle.candidate_ir.specs.Context.{world}
+use Rattle.candidate_ir.specs.References.{reference_of}
+use Rattle.candidate_eval.specs.Orphan.{plain, bare_knowledge}
+use Rattle.candidate_eval.proofs.Lowering.{plain_knowledge}
 use Rattle.assembly.proofs.Resolved.{all-resolved}
 use Rattle.assembly.proofs.asking.Asking.known.Goals as goal
 
@@ -28,3 +33,11 @@ returns-clause-no_covered_header c = λ r na ok o.
       resolved = all-resolved _;
       of_world = r;
     }) na ok o
+
+pub returns-clause-answer : goal.returns-clause-answer
+returns-clause-answer c = λ ne.
+    let cx = c.args.self.now.scope.maker.cx in
+    let e = c.trait_ref_is_knowable.ensures.answer plain
+    (record { at = λ f x t a f' x' g i b n. let k = n.called in let l = n.lends in let m = n.leaves in search rules }) ne in
+    sym (ap bare_knowledge e.answer)
+    ∙ plain_knowledge _ (world cx) cx.local.0 256 (λ s t. t) _ (reference_of cx.trees c.args.trait_ref) (all-resolved _)
