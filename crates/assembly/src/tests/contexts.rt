@@ -6,6 +6,7 @@ ghost use Rattle.candidate_ir.specs.Words.{IsTy, IsPreds, ConstKindFits};
 
 use crate::tests::calls::{LOCAL_TRAIT, OUT, TRAIT, declared};
 use candidate_ir::decl::context::Cx;
+use candidate_ir::decl::make::Make;
 use candidate_ir::ir::heads::Flag;
 use candidate_ir::ir::kinds::{
     Binder, ConstKind, ExistentialPredicate, Preds, TraitId, Ty, TyKind, UintTy, VarKind,
@@ -46,6 +47,19 @@ fn makes_constants(rt: HostRuntime) -> Result<(), Fail> {
     assert!(rt; !cx.has(of_variable, Flag::TyInfer));
     assert!(rt; same_arrays(&mut cx, 3, 3)?);
     assert!(rt; !same_arrays(&mut cx, 3, 4)?);
+    Ok(())
+}
+
+/// Whether the kind of a byte is read back through the trait.
+fn reads_back<M: Make>(maker: &mut M) -> Result<bool, Stop> {
+    let byte = maker.mk_ty(TyKind::Uint(UintTy::U8))?;
+    Ok(matches!(maker.cx().kind(byte), TyKind::Uint(UintTy::U8)))
+}
+
+#[test]
+fn reads_through_the_trait(rt: HostRuntime) -> Result<(), Fail> {
+    let mut cx = declared(rt.alloc())?;
+    assert!(rt; reads_back(&mut cx)?);
     Ok(())
 }
 
