@@ -59,14 +59,16 @@ knowable_clear w local limit r e =
 -- A reference of the declared world that is knowable is overlapped by no header of a crate that it doesn't name.
 pub open_world : (declared : World) (local limit : ℕ) (r : Reference) → IsOf declared r → holds is_alias r.arguments ≡ false
     → plain_knowability declared local limit r ≡ Knowable → NoUnnamedHeader declared r
-open_world declared local limit r there na know = record { apart = λ w c h u v ext nm wh o.
-    let known = sym (knowability_same declared w ext local limit r there) ∙ know in
-    let clear = carry w (Steps w None limit tt r.arguments) (knowable_clear w local limit r known) in
-    written_decides w c wh.limit h.arguments wh.passes
-    (agree w (Some c) None v u o.right o.left o.right_allowed o.left_allowed h.arguments r.arguments (sym o.common)
-    (names_none w h.arguments) (unnamed w r c nm) wh.is_plain.no_alias wh.is_plain.no_error
-    wh.limit limit tt tt
-    (written_good w c wh.limit h.arguments wh.passes) (clear_good (Proper_class w None) _ clear)).0 }
+open_world declared local limit r there na know = record {
+  apart = λ w c h u v ext nm wh o.
+      let known = sym (knowability_same declared w ext local limit r there) ∙ know in
+      let clear = carry w (Steps w None limit tt r.arguments) (knowable_clear w local limit r known) in
+      written_decides w c wh.limit h.arguments wh.passes
+      (agree w (Some c) None v u o.right o.left o.right_allowed o.left_allowed h.arguments r.arguments (sym o.common)
+      (names_none w h.arguments) (unnamed w r c nm) wh.is_plain.no_alias wh.is_plain.no_error
+      wh.limit limit tt tt
+      (written_good w c wh.limit h.arguments wh.passes) (clear_good (Proper_class w None) _ clear)).0;
+}
 
 proper_passes : {S : Type 0} (a : Checked S (Answer (Unit {0}))) → (by_proper_check a).answer ≡ Knowable → a.answer ≡ Passes
 proper_passes a e = at a.answer e
@@ -89,21 +91,25 @@ knowable_passes false proper s _ o e = proper_passes (proper s) e
 pub covered_world : (declared : World) (local limit : ℕ) (r : Reference) → IsOf declared r → holds is_alias r.arguments ≡ false
     → plain_knowability declared local limit r ≡ Knowable → local_or_fundamental declared local r.trait ≡ false
     → NoCoveredHeader declared local limit r
-covered_world declared local limit r there na know trait = record { apart = λ w h u v ext cov nm o.
-    let known = sym (knowability_same declared w ext local limit r there) ∙ know in
-    let own : local_or_fundamental w local r.trait ≡ false = rw (← still_there declared w ext r.trait (trait_there declared r there)) trait in
-    let passes : plain_check w local (Local Proper) limit r.arguments ≡ Passes =
-    knowable_passes (local_or_fundamental w local r.trait)
-    (λ t. orphan_answer {E = Unit {0}} w local (Local Proper) plain limit t r.arguments) _ _ own known in
-    written_decides w local limit r.arguments passes
-    (cover w (Some local) u v o.left o.right o.left_allowed o.right_allowed r.arguments h.arguments o.common
-    (unnamed w h local nm) cov.is_plain.no_alias cov.is_plain.no_error limit tt tt
-    (written_good w local limit r.arguments passes) cov.covered) }
+covered_world declared local limit r there na know trait = record {
+  apart = λ w h u v ext cov nm o.
+      let known = sym (knowability_same declared w ext local limit r there) ∙ know in
+      let own : local_or_fundamental w local r.trait ≡ false = rw (← still_there declared w ext r.trait (trait_there declared r there)) trait in
+      let passes : plain_check w local (Local Proper) limit r.arguments ≡ Passes =
+      knowable_passes (local_or_fundamental w local r.trait)
+      (λ t. orphan_answer {E = Unit {0}} w local (Local Proper) plain limit t r.arguments) _ _ own known in
+      written_decides w local limit r.arguments passes
+      (cover w (Some local) u v o.left o.right o.left_allowed o.right_allowed r.arguments h.arguments o.common
+      (unnamed w h local nm) cov.is_plain.no_alias cov.is_plain.no_error limit tt tt
+      (written_good w local limit r.arguments passes) cov.covered);
+}
 
 -- A header of the declared world that the local crate's check passes is safe from those of all other crates.
 pub own_header : (declared : World) (local limit : ℕ) (a : Reference) → IsOf declared a → IsPlainForest a.arguments
     → plain_check declared local (Local Proper) limit a.arguments ≡ Passes → NoForeignHeader declared local a
-own_header declared local limit a there ok passes = record { apart = λ w d b u v ext ne na wb nb o.
-    apart w local d a b u v ne
-    (record { is_plain = ok; limit = limit; passes = ap (λ c. c.answer) (sym (check_same declared w ext local (Local Proper) limit a.arguments (fits_there declared a.arguments there.fits) tt)) ∙ passes })
-    na wb nb o }
+own_header declared local limit a there ok passes = record {
+  apart = λ w d b u v ext ne na wb nb o.
+      apart w local d a b u v ne
+      (record { is_plain = ok; limit = limit; passes = ap (λ c. c.answer) (sym (check_same declared w ext local (Local Proper) limit a.arguments (fits_there declared a.arguments there.fits) tt)) ∙ passes })
+      na wb nb o;
+}

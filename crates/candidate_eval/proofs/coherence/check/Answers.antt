@@ -22,34 +22,38 @@ returns-in-Ok-first_local_ty-clause-types g c =
     ((ty-kept _ _ c.in-Err-Uncovered.uncovered c.first_local_ty.ensures.grows first.exit).0, c.in-Ok-first_local_ty.ensures.types)
 
 pub returns-in-Ok-first_local_ty-clause-answer : goal.returns-in-Ok-first_local_ty-clause-answer
-returns-in-Ok-first_local_ty-clause-answer g c = record { at = λ normal h ne.
-    let see = view (λ s u. g.C.InferCtxtLike.resolved s.1 u) normal in
-    let later = function-later g.C.Make.context g.F.FnMut c.args.infcx.now c.visit_args.new.infcx normal c.visit_args.ensures.grows h in
-    let last = g.C.Make.context c.first_local_ty.new.infcx in
-    let first = rw c.in-Err-Uncovered.field-0-is at c.in-Err-Uncovered.ensures in
-    let checked : Tree → Checked (g.row.F.Denot × g.row.C.Denot) (Answer g.row.E.Denot) =
-    λ t. record { answer = second_answer last.trees t (Ok c.in-Ok-first_local_ty.local_ty); after = (c.first_local_ty.new.normalize, c.first_local_ty.new.infcx) } in
-    let e = uncovered-checked (g.C.Make.context c.args.infcx.now) (g.C.Make.context c.visit_args.new.infcx) last
-    c.visit_args.ensures.grows c.first_local_ty.ensures.grows c.args.in_crate see 256 c.args.trait_ref.args c.requires.args
-    (c.args.normalize.now, c.args.infcx.now) (c.visit_args.new.normalize, c.visit_args.new.infcx) c.in-Err-Uncovered.uncovered first.exit
-    (first.outcome normal h (λ x. cc)) checked
-    (λ t. c.in-Ok-first_local_ty.ensures.answer normal later (λ x. cc) t) in
-    e }
+returns-in-Ok-first_local_ty-clause-answer g c = record {
+  at = λ normal h ne.
+      let see = view (λ s u. g.C.InferCtxtLike.resolved s.1 u) normal in
+      let later = function-later g.C.Make.context g.F.FnMut c.args.infcx.now c.visit_args.new.infcx normal c.visit_args.ensures.grows h in
+      let last = g.C.Make.context c.first_local_ty.new.infcx in
+      let first = rw c.in-Err-Uncovered.field-0-is at c.in-Err-Uncovered.ensures in
+      let checked : Tree → Checked (g.row.F.Denot × g.row.C.Denot) (Answer g.row.E.Denot) =
+      λ t. record { answer = second_answer last.trees t (Ok c.in-Ok-first_local_ty.local_ty); after = (c.first_local_ty.new.normalize, c.first_local_ty.new.infcx) } in
+      let e = uncovered-checked (g.C.Make.context c.args.infcx.now) (g.C.Make.context c.visit_args.new.infcx) last
+      c.visit_args.ensures.grows c.first_local_ty.ensures.grows c.args.in_crate see 256 c.args.trait_ref.args c.requires.args
+      (c.args.normalize.now, c.args.infcx.now) (c.visit_args.new.normalize, c.visit_args.new.infcx) c.in-Err-Uncovered.uncovered first.exit
+      (first.outcome normal h (λ x. cc)) checked
+      (λ t. c.in-Ok-first_local_ty.ensures.answer normal later (λ x. cc) t) in
+      e;
+}
 
 pub returns-in-Err-Uncovered-clause-answer : goal.returns-in-Err-Uncovered-clause-answer
-returns-in-Err-Uncovered-clause-answer g c = record { at = λ normal h ne.
-    let see = view (λ s u. g.C.InferCtxtLike.resolved s.1 u) normal in
-    let later = function-later g.C.Make.context g.F.FnMut c.args.infcx.now c.visit_args.new.infcx normal c.visit_args.ensures.grows h in
-    let last = g.C.Make.context c.first_local_ty.new.infcx in
-    let first = rw c.in-Err-Uncovered.field-0-is at c.in-Err-Uncovered.ensures in
-    let checked : Tree → Checked (g.row.F.Denot × g.row.C.Denot) (Answer g.row.E.Denot) =
-    λ t. record { answer = second_answer last.trees t (Err c.in-Err.stop); after = (c.first_local_ty.new.normalize, c.first_local_ty.new.infcx) } in
-    let e = uncovered-checked (g.C.Make.context c.args.infcx.now) (g.C.Make.context c.visit_args.new.infcx) last
-    c.visit_args.ensures.grows c.first_local_ty.ensures.grows c.args.in_crate see 256 c.args.trait_ref.args c.requires.args
-    (c.args.normalize.now, c.args.infcx.now) (c.visit_args.new.normalize, c.visit_args.new.infcx) c.in-Err-Uncovered.uncovered first.exit
-    (first.outcome normal h (λ x. cc)) checked
-    (λ t. c.in-Err.ensures.answer normal later (λ x. ne (let y : c.in-Err.stop ≡ Memory = cc in ap (λ z. Err (O.Stop z)) y)) t) in
-    e }
+returns-in-Err-Uncovered-clause-answer g c = record {
+  at = λ normal h ne.
+      let see = view (λ s u. g.C.InferCtxtLike.resolved s.1 u) normal in
+      let later = function-later g.C.Make.context g.F.FnMut c.args.infcx.now c.visit_args.new.infcx normal c.visit_args.ensures.grows h in
+      let last = g.C.Make.context c.first_local_ty.new.infcx in
+      let first = rw c.in-Err-Uncovered.field-0-is at c.in-Err-Uncovered.ensures in
+      let checked : Tree → Checked (g.row.F.Denot × g.row.C.Denot) (Answer g.row.E.Denot) =
+      λ t. record { answer = second_answer last.trees t (Err c.in-Err.stop); after = (c.first_local_ty.new.normalize, c.first_local_ty.new.infcx) } in
+      let e = uncovered-checked (g.C.Make.context c.args.infcx.now) (g.C.Make.context c.visit_args.new.infcx) last
+      c.visit_args.ensures.grows c.first_local_ty.ensures.grows c.args.in_crate see 256 c.args.trait_ref.args c.requires.args
+      (c.args.normalize.now, c.args.infcx.now) (c.visit_args.new.normalize, c.visit_args.new.infcx) c.in-Err-Uncovered.uncovered first.exit
+      (first.outcome normal h (λ x. cc)) checked
+      (λ t. c.in-Err.ensures.answer normal later (λ x. ne (let y : c.in-Err.stop ≡ Memory = cc in ap (λ z. Err (O.Stop z)) y)) t) in
+      e;
+}
 
 pub returns-in-Ok-first_local_ty-clause-calls : goal.returns-in-Ok-first_local_ty-clause-calls
 returns-in-Ok-first_local_ty-clause-calls g c =
@@ -60,5 +64,7 @@ returns-in-Err-Uncovered-clause-calls g c =
     left-then g.C.Make.context g.F.FnMut _ _ _ _ _ _ c.visit_args.ensures.calls c.first_local_ty.ensures.calls
 
 pub returns-in-Err-Uncovered-clause-cause : goal.returns-in-Err-Uncovered-clause-cause
-returns-in-Err-Uncovered-clause-cause g c = record { at = λ s e.
-    cause-after g.C.Make.context g.F.FnMut 256 _ _ _ _ _ _ s c.visit_args.ensures.calls (c.in-Err.ensures.cause s cc) }
+returns-in-Err-Uncovered-clause-cause g c = record {
+  at = λ s e.
+      cause-after g.C.Make.context g.F.FnMut 256 _ _ _ _ _ _ s c.visit_args.ensures.calls (c.in-Err.ensures.cause s cc);
+}
