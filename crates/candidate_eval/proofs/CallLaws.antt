@@ -1,5 +1,5 @@
 -- The laws of the definitions, for the calls.
-use Rattle.std.proofs.Common.{◌≡◌, ℕ, false, Result, Ok, Err, List, sym, ◌∙◌, ap, subst}
+use Rattle.std.proofs.Common.{◌≡◌, ℕ, false, Result, Ok, Err, sym, ◌∙◌, ap, subst}
 use Rattle.std.specs.Fn.{Mut}
 use Rattle.std.specs.Borrow.{MutBor}
 use Rattle.candidate_ir.specs.declared.ir.kinds.TraitRef.{TraitRef}
@@ -14,14 +14,14 @@ use Rattle.candidate_eval.specs.declared.coherence.Conflict.TheVariants as K
 use Rattle.candidate_eval.specs.declared.coherence.NormalizeErr.{NormalizeErr}
 use Rattle.candidate_eval.specs.declared.coherence.OrphanStop.{OrphanStop}
 use Rattle.candidate_eval.specs.declared.coherence.OrphanStop.TheVariants as O
-use Rattle.candidate_eval.specs.Answers.{CheckResult, answer_of, OutOfMemory, IsAnswer, IsUncoveredResult, KnownResult, knowledge_of}
+use Rattle.candidate_eval.specs.Answers.{CheckResult, answer_of, OutOfMemory, IsAnswer, KnownResult, knowledge_of}
 use Rattle.candidate_eval.specs.Calls.{depth_limit, check_of, check_where, IsChecked, IsKnown, HasNoAlias, HasNoAliasOrError, IsOfForeignTrait, IsDecidedByGeneralHere, NoForeignHeaderHere, NoUnnamedHeaderHere, NoCoveredHeaderHere}
-use Rattle.candidate_eval.specs.Laws.{AreResolved, IsPlainCall, OnlyFirst, NoForeignHeader, NoUnnamedHeader, NoCoveredHeader, IsDecidedByGeneral, HasDownstream}
+use Rattle.candidate_eval.specs.Laws.{AreResolved, IsPlainCall, NoForeignHeader, NoUnnamedHeader, NoCoveredHeader, IsDecidedByGeneral, HasDownstream}
 use Rattle.candidate_eval.specs.Normalizer.{IsFunction, IsLeftByCalls, IsChangedByCalls, HasCause, StopHasCause}
-use Rattle.candidate_eval.specs.Orphan.{InCrate, Local, Remote, Proper, Compat, View, view, plain, orphan_answer, Passes, Entry, NonLocalInput, knowability, Knowability, Knowable, Downstream, local_or_fundamental, plain_knowability, bare_answer, bare_knowledge, IsPlainForest}
+use Rattle.candidate_eval.specs.Orphan.{InCrate, Local, Remote, Proper, Compat, View, view, plain, orphan_answer, Passes, knowability, Knowability, Knowable, Downstream, local_or_fundamental, plain_knowability, bare_answer, bare_knowledge, IsPlainForest}
 use Rattle.candidate_eval.specs.Substitutions.{Universes}
 use Rattle.candidate_eval.proofs.Calls.{left-same}
-use Rattle.candidate_eval.proofs.CheckLaws.{compat-passes, any-local, never-uncovered, first-once}
+use Rattle.candidate_eval.proofs.CheckLaws.{compat-passes, any-local}
 use Rattle.candidate_eval.proofs.Lowering.{plain_answer, plain_knowledge}
 use Rattle.candidate_eval.proofs.Newcomer.{downstream_world}
 use Rattle.candidate_eval.proofs.Safety.{link_safety, own_header, open_world, covered_world}
@@ -74,16 +74,6 @@ module _ {C F E : Type 0} {context : C → Context} {resolve : C → Tree → Tr
         let k = any-local (world (context c)) (context c).local.0 depth_limit (seen resolve normal) (f, c) (args_forest (context c).trees r.args) m e local ∙ said.at normal h ne in
         record { answer = ap (λ x. x.answer) k; leaves = ap (λ x. x.after.1) k }
 
-    pub remote_covers_said : (normal : View (F × C) E) → IsFunction context g c normal → m ≡ Remote → IsUncoveredResult result → ⊥
-    remote_covers_said normal h e =
-        never-uncovered (world (context c)) (context c).local.0 depth_limit (seen resolve normal) (f, c) (args_forest (context c).trees r.args) m e
-        (context c').trees result (λ ne. ap (λ x. x.answer) (said.at normal h ne))
-
-    pub first_input_said : (normal : View (F × C) E) → IsFunction context g c normal → (l : List Entry) → answer_of (context c').trees result ≡ NonLocalInput l → OnlyFirst l
-    first_input_said normal h =
-        first-once (world (context c)) (context c).local.0 depth_limit (seen resolve normal) (f, c) (args_forest (context c).trees r.args) m
-        (context c').trees result (λ ne. ap (λ x. x.answer) (said.at normal h ne))
-
   module _ {result : KnownResult E} (said : IsKnown context resolve g f c r result f' c') (p : IsPlainCall context resolve g c r) where
     pub no_unnamed_header_said : HasNoAlias (context c) r → result ≡ Ok (Ok tt) → NoUnnamedHeaderHere (context c) r
     no_unnamed_header_said ok known =
@@ -114,6 +104,6 @@ module _ {C F E : Type 0} {context : C → Context} {g : Mut F (MutBor C × (Ty 
 
 pub ruleset of_calls = (changed_by_none, changed_by_calls, stop_has_cause)
 
-pub ruleset check_laws = (link_safety, no_foreign_header_said, proper_passes_compat_said, remote_covers_said, first_input_said, of_calls)
+pub ruleset check_laws = (link_safety, no_foreign_header_said, proper_passes_compat_said, of_calls)
 
 pub ruleset knowability_laws = (no_unnamed_header_said, no_covered_header_said, downstream_header_said, of_calls)

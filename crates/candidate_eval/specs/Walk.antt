@@ -14,6 +14,7 @@ use Rattle.candidate_eval.specs.declared.walk.EarlyExit.{EarlyExit}
 use Rattle.candidate_eval.specs.declared.walk.EarlyExit.TheVariants as X
 use Rattle.candidate_eval.specs.declared.walk.Walk.{Walk}
 pub use Rattle.candidate_eval.specs.Answers.{entries_of}
+use Rattle.candidate_eval.specs.Laws.{OnlyFirst}
 use Rattle.candidate_eval.specs.Orphan.{InCrate, CrateTest, crate_test, View, Item, Step, Class, IsNonLocal, IsSkipped, IsLocal, IsUncovered, IsBroken, Refused, Stopped, class_of, visit, frontier, left, first_step, decides, decides_again, entries}
 
 -- Where a walk takes place: the world, the local crate, and for which crate is checked.
@@ -86,6 +87,11 @@ pub record Found {S E : Type 0} (classify : Item E → Class E) (seeks : Bool) (
 abbrev pub Outcome : {S E : Type 0} → List Tree → (Item E → Class E) → Walk → Walk → S → S → List (Step S E) → Result (Unit {0}) (EarlyExit E) → Type 0
 Outcome ts classify old new s after steps (Ok u) = Passed ts classify old new s after steps
 Outcome ts classify old new s after steps (Err x) = x ≢ X.Broken (O.Stop Memory) → Found classify old.seeks_local steps (exit_class ts x) after
+
+-- At most one entry is the first input, and then the first one; before the first visit has ended there is none.
+pub record FirstOnce (is_first : Bool) (es : List (Ty × IsFirstInputType)) : Type 0 where
+  pub none : is_first ≡ true → es ≡ []
+  pub once : (ts : List Tree) → OnlyFirst (entries_of ts es)
 
 -- how the walk goes on stays
 pub record SameWalk (old new : Walk) : Type 0 where

@@ -151,6 +151,8 @@ where
     ensures calls { IsLeftByCalls C.context F.FnMut normalize.old infcx.old normalize.new infcx.new }
     ensures cause { HasCause C.context F.FnMut 256 normalize.old infcx.old normalize.new infcx.new result }
     ensures types { AreAnswerTypes (C.context infcx.new).trees result }
+    ensures covers { in_crate ≡ InCrate.Remote → ¬ (IsUncoveredResult result) }
+    ensures first_input_once { (l : List Entry) → answer_of (C.context infcx.new).trees result ≡ NonLocalInput l → OnlyFirst l }
     ensures answer { IsChecked C.context C.resolved F.FnMut normalize.old infcx.old in_crate trait_ref result normalize.new infcx.new }
 {
     let mut walk = Walk {
@@ -215,12 +217,14 @@ where
     // What passes in `Proper` passes in `Compat`.
     ensures proper_passes_compat { (normal : View (F × C) E) → IsFunction C.context F.FnMut infcx.old normal → in_crate ≡ InCrate.Local OrphanCheckMode.Proper → result ≡ Ok (Ok tt) → (check_of C.context C.resolved normal (InCrate.Local OrphanCheckMode.Compat) (normalize, infcx.old) trait_ref).answer ≡ Passes }
 
-    // In `Remote` the answer is the same whichever crate is local, and nothing is uncovered.
+    // In `Remote` the answer is the same whichever crate is local.
     ensures remote_ignores_the_local_crate { (normal : View (F × C) E) → IsFunction C.context F.FnMut infcx.old normal → in_crate ≡ InCrate.Remote → ¬ (OutOfMemory result) → (local : ℕ) → IsAnswer (C.context infcx.new).trees result infcx.new (check_where C.context C.resolved normal local InCrate.Remote (normalize, infcx.old) trait_ref) }
-    ensures remote_covers { (normal : View (F × C) E) → IsFunction C.context F.FnMut infcx.old normal → in_crate ≡ InCrate.Remote → ¬ (IsUncoveredResult result) }
 
-    // At most one entry is the first input, and then it is the first one.
-    ensures first_input_once { (normal : View (F × C) E) → IsFunction C.context F.FnMut infcx.old normal → (l : List Entry) → answer_of (C.context infcx.new).trees result ≡ NonLocalInput l → OnlyFirst l }
+    // For every normaliser, in `Remote` nothing is uncovered.
+    ensures remote_covers { in_crate ≡ InCrate.Remote → ¬ (IsUncoveredResult result) }
+
+    // For every normaliser, at most one entry is the first input, and then it is the first one.
+    ensures first_input_once { (l : List Entry) → answer_of (C.context infcx.new).trees result ≡ NonLocalInput l → OnlyFirst l }
 
     // Two crates that name nothing of each other write no headers that overlap.
     ensures link_safety { LinkSafety }

@@ -1,11 +1,11 @@
 //! The walk of the orphan check.
 
-ghost use Rattle.std.specs.Prelude.{◌≡◌, ◌<◌, ◌^◌, true, false, OnOk, IfOk, IfErr};
+ghost use Rattle.std.specs.Prelude.{◌≡◌, ◌≢◌, ◌<◌, ◌^◌, true, false, OnOk, IfOk, IfErr};
 ghost use Rattle.candidate_ir.specs.Context.{Grows};
 ghost use Rattle.candidate_ir.specs.Words.{IsTy, IsArgs, ty_tree, args_forest};
 ghost use Rattle.candidate_eval.specs.Orphan.{View, view, is_general, is_unnameable};
 ghost use Rattle.candidate_eval.specs.Normalizer.{MayNormalize, KeepsNumbers, IsFunction, Normalizes, Lead, IsLeftByCalls, StopIsAnswered, UnnameableIsSeen, IsStopCause, shown};
-ghost use Rattle.candidate_eval.specs.Walk.{AreTypes, IsExit, Outcome, SameWalk, still, setting, classes, type_steps, list_steps};
+ghost use Rattle.candidate_eval.specs.Walk.{AreTypes, FirstOnce, IsExit, Outcome, SameWalk, still, setting, classes, type_steps, list_steps};
 
 use crate::coherence::{InCrate, IsFirstInputType, NormalizeErr, OrphanStop};
 use crate::eval::InferCtxtLike;
@@ -147,10 +147,13 @@ where
     requires callable { MayNormalize C.context F.FnMut infcx.old }
     requires keeps { KeepsNumbers C.context F.FnMut infcx.old }
     requires recorded { AreTypes (C.context infcx.old).trees walk.old.non_local.items }
+    requires firsts { FirstOnce walk.old.is_first walk.old.non_local.items }
     ensures grows { Grows (C.context infcx.old) (C.context infcx.new) }
     ensures calls { IsLeftByCalls C.context F.FnMut normalize.old infcx.old normalize.new infcx.new }
     ensures cause { (s : Stop) → result ≡ Err (EarlyExit.Broken (OrphanStop.Stop s)) → IsStopCause C.context F.FnMut levels normalize.old infcx.old normalize.new infcx.new s }
     ensures recorded { AreTypes (C.context infcx.new).trees walk.new.non_local.items }
+    ensures firsts { OnOk result (FirstOnce walk.new.is_first walk.new.non_local.items) }
+    ensures covers { (t : Ty) → walk.old.in_crate ≡ InCrate.Remote → result ≢ Err (EarlyExit.Uncovered t) }
     ensures exit { IfErr result (λ x. IsExit (C.context infcx.new).trees x) }
     ensures same { SameWalk walk.old walk.new }
     ensures first { OnOk result (walk.new.is_first ≡ false) }
@@ -186,10 +189,13 @@ where
     requires callable { MayNormalize C.context F.FnMut infcx.old }
     requires keeps { KeepsNumbers C.context F.FnMut infcx.old }
     requires recorded { AreTypes (C.context infcx.old).trees walk.old.non_local.items }
+    requires firsts { FirstOnce walk.old.is_first walk.old.non_local.items }
     ensures grows { Grows (C.context infcx.old) (C.context infcx.new) }
     ensures calls { IsLeftByCalls C.context F.FnMut normalize.old infcx.old normalize.new infcx.new }
     ensures cause { (s : Stop) → result ≡ Err (EarlyExit.Broken (OrphanStop.Stop s)) → IsStopCause C.context F.FnMut levels normalize.old infcx.old normalize.new infcx.new s }
     ensures recorded { AreTypes (C.context infcx.new).trees walk.new.non_local.items }
+    ensures firsts { OnOk result (FirstOnce walk.new.is_first walk.new.non_local.items) }
+    ensures covers { (t : Ty) → walk.old.in_crate ≡ InCrate.Remote → result ≢ Err (EarlyExit.Uncovered t) }
     ensures exit { IfErr result (λ x. IsExit (C.context infcx.new).trees x) }
     ensures same { SameWalk walk.old walk.new }
     ensures outcome { (normal : View (F × C) E) → IsFunction C.context F.FnMut infcx.old normal → Outcome (C.context infcx.new).trees (classes (setting (C.context infcx.old) walk.old.in_crate)) walk.old walk.new (normalize.old, infcx.old) (normalize.new, infcx.new) (list_steps (setting (C.context infcx.old) walk.old.in_crate) (view (λ s t. C.resolved s.1 t) normal) levels (normalize.old, infcx.old) (args_forest (C.context infcx.old).trees args)) result }

@@ -1,16 +1,17 @@
 use Rattle.std.proofs.Common.{◌≡◌, ◌-◌, suc, Err, arith, refl, sym, ◌∙◌, ap, subst}
 use Rattle.std.proofs.lemmas.Result.{err_from_is_err_and}
-use Rattle.candidate_ir.specs.Context.{Context}
+use Rattle.candidate_ir.specs.Context.{Context, world}
 use Rattle.candidate_ir.specs.Trees.{count}
 use Rattle.candidate_ir.specs.Words.{IsArgs, ty_tree, args_forest}
 use Rattle.candidate_ir.proofs.Members.{skip, skip-all, count-members}
 use Rattle.candidate_ir.proofs.Kept.{grows-refl, grows-trans, args-kept}
 use Rattle.candidate_eval.proofs.Lists.{sofar-begin, sofar-end, type-at}
 use Rattle.candidate_eval.proofs.Loops.{index-below, next-skip, next-visit, next-found}
-use Rattle.candidate_eval.specs.Orphan.{view}
+use Rattle.candidate_eval.specs.Orphan.{view, crate_test}
 use Rattle.candidate_eval.specs.Walk.{setting}
 use Rattle.candidate_eval.proofs.Calls.{may-later, keeps-later, function-later, left-same, left-then}
 use Rattle.candidate_eval.proofs.Causes.{table-unnameable, broken-stop, take-stop, one-left, cause-after, cause-below, cause-deep, cause-answered, cause-item}
+use Rattle.candidate_eval.proofs.Recorded.{table-covers, take-covers, broken-covers, taken-once, ended-once}
 use Rattle.candidate_eval.proofs.Walking.{too-deep, types-kept, item-types, item-exit}
 use Rattle.candidate_eval.proofs.Visits.{visited-nothing, visited-item, visited-target, visited-arguments, item-some, target-some, arguments-some}
 use Rattle.candidate_eval.proofs.walk.+walk.Goals as goal
@@ -48,7 +49,7 @@ visit_ty-visit_ty-outcome-requires g t c κs within =
                 may-later g.C.Make.context g.F.FnMut _ _ c.view_of.ensures.grows c.requires.callable,
                 (
                   keeps-later g.C.Make.context g.F.FnMut _ _ c.view_of.ensures.grows c.requires.keeps,
-                  types-kept _ _ c.args.walk.now.non_local.items c.view_of.ensures.grows c.requires.recorded,
+                  (types-kept _ _ c.args.walk.now.non_local.items c.view_of.ensures.grows c.requires.recorded, c.requires.firsts),
                 ),
               ),
             ),
@@ -73,7 +74,7 @@ visit_ty-visit_args-outcome-requires g t c κs within =
                 may-later g.C.Make.context g.F.FnMut _ _ c.view_of.ensures.grows c.requires.callable,
                 (
                   keeps-later g.C.Make.context g.F.FnMut _ _ c.view_of.ensures.grows c.requires.keeps,
-                  types-kept _ _ c.args.walk.now.non_local.items c.view_of.ensures.grows c.requires.recorded,
+                  (types-kept _ _ c.args.walk.now.non_local.items c.view_of.ensures.grows c.requires.recorded, c.requires.firsts),
                 ),
               ),
             ),
@@ -199,6 +200,40 @@ visit_ty-returns-clause-exit g t c =
       | visit_ty-in-Arguments w ↦ rw (w.infcx-is, w.outcome-is) w.visit_args-outcome.ensures.exit
     ]
 
+pub visit_ty-returns-clause-firsts : goal.visit_ty-returns-clause-firsts
+visit_ty-returns-clause-firsts g t c =
+    elim c.match-shape_of.branch [
+      | visit_ty-in-Item w ↦ rw (w.walk-is, w.outcome-is)
+          (taken-once c.args.walk.now w.take-outcome.new.self w.in-Item.class c.in_ok-view.view w.take-outcome.result c.requires.firsts w.take-outcome.ensures.taken)
+      | visit_ty-in-Target w ↦ rw (w.walk-is, w.outcome-is)
+          (ended-once _ _ w.visit_ty-outcome.result w.visit_ty-outcome.ensures.firsts)
+      | visit_ty-in-Arguments w ↦ rw (w.walk-is, w.outcome-is)
+          (ended-once _ _ w.visit_args-outcome.result w.visit_args-outcome.ensures.firsts)
+    ]
+
+pub visit_ty-returns-in_err-view-clause-covers : goal.visit_ty-returns-in_err-view-clause-covers
+visit_ty-returns-in_err-view-clause-covers g t c = λ u m e.
+    let p = err_from_is_err_and c.from_residual.result c.from_residual.ensures.1 in
+    broken-covers c.in_err-view.field-0.0 u cc
+
+pub visit_ty-returns-clause-covers : goal.visit_ty-returns-clause-covers
+visit_ty-returns-clause-covers g t c = λ u m e.
+    let c1 = g.C.Make.context c.view_of.new.infcx in
+    let tree = ty_tree c1.trees c.in_ok-view.view in
+    elim c.match-shape_of.branch [
+      | visit_ty-in-Item w ↦
+          let k = take-covers c.args.walk.now w.take-outcome.new.self w.in-Item.class c.in_ok-view.view u w.take-outcome.result w.take-outcome.ensures.taken (sym w.outcome-is ∙ e) in
+          let shape = rw c.cx.ensures at w.in-Item.ensures in
+          table-covers (world c1) (crate_test c.args.walk.now.in_crate c1.local.0) c.args.walk.now.in_crate tree.head tree.children m (shape.1 ∙ k)
+      | visit_ty-in-Target w ↦ w.visit_ty-outcome.ensures.covers u m (sym w.outcome-is ∙ e)
+      | visit_ty-in-Arguments w ↦ w.visit_args-outcome.ensures.covers u m (sym w.outcome-is ∙ e)
+    ]
+
+pub visit_args-returns-in_err-visit_ty-clause-covers : goal.visit_args-returns-in_err-visit_ty-clause-covers
+visit_args-returns-in_err-visit_ty-clause-covers g t c = λ u m e.
+    let p = err_from_is_err_and c.from_residual.result c.from_residual.ensures.1 in
+    c.in_err-visit_ty.ensures.covers u (c.loop-i.invariant.same.in_crate ∙ m) cc
+
 pub visit_args-loop-i-init : goal.visit_args-loop-i-init
 visit_args-loop-i-init g t c =
     let c0 = g.C.Make.context c.args.infcx.now in
@@ -208,6 +243,7 @@ visit_args-loop-i-init g t c =
       calls = left-same g.C.Make.context g.F.FnMut c.args.normalize.now c.args.infcx.now;
       same = record { in_crate = refl; seeks_local = refl };
       recorded = c.requires.recorded;
+      firsts = c.requires.firsts;
       count_is = sym (count-members c0.trees c.args-count.result.now ensures.fits) ∙ ap count ensures.tree;
       sofar = λ normal h.
           sofar-begin (setting c0 c.args.walk.now.in_crate) (view (λ s u. g.C.InferCtxtLike.resolved s.1 u) normal) c.args.levels c0.trees c.args.walk.now
@@ -244,7 +280,7 @@ visit_args-visit_ty-requires g t c κs within =
                 may-later g.C.Make.context g.F.FnMut _ _ here.grows c.requires.callable,
                 (
                   keeps-later g.C.Make.context g.F.FnMut _ _ here.grows c.requires.keeps,
-                  here.recorded,
+                  (here.recorded, here.firsts),
                 ),
               ),
             ),
@@ -273,6 +309,7 @@ visit_args-loop-i-preserved g t c =
               seeks_local = w.in_ok-visit_ty.ensures.same.seeks_local ∙ here.same.seeks_local;
             };
             recorded = w.in_ok-visit_ty.ensures.recorded;
+            firsts = w.in_ok-visit_ty.ensures.firsts;
             count_is = here.count_is;
             sofar = λ normal h.
                 let later = function-later g.C.Make.context g.F.FnMut c.args.infcx.now c.loop-i.infcx normal here.grows h in
@@ -288,6 +325,7 @@ visit_args-loop-i-preserved g t c =
             calls = here.calls;
             same = here.same;
             recorded = here.recorded;
+            firsts = here.firsts;
             count_is = here.count_is;
             sofar = λ normal h.
                 next-skip (view (λ s u. g.C.InferCtxtLike.resolved s.1 u) normal) c.args.levels c0 c1 here.grows c.args.args c.requires.args xs c.loop-i.i _

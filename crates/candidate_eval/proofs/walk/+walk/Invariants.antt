@@ -5,7 +5,7 @@ use Rattle.candidate_ir.specs.Words.{args_forest}
 use Rattle.candidate_ir.proofs.Members.{skip}
 use Rattle.candidate_eval.specs.Normalizer.{IsFunction, IsLeftByCalls}
 use Rattle.candidate_eval.specs.Orphan.{View, view}
-use Rattle.candidate_eval.specs.Walk.{AreTypes, SameWalk, setting}
+use Rattle.candidate_eval.specs.Walk.{AreTypes, FirstOnce, SameWalk, setting}
 use Rattle.candidate_eval.proofs.Lists.{Sofar}
 use Rattle.candidate_eval.proofs.walk.+walk.Given as goal
 
@@ -21,6 +21,7 @@ invariant-visit_args-loop-i g l = record {
   calls : IsLeftByCalls g.C.Make.context g.F.FnMut l.fn.normalize l.fn.infcx l.normalize l.infcx;
   same : SameWalk l.fn.walk l.walk;
   recorded : AreTypes (g.C.Make.context l.infcx).trees l.walk.non_local.items;
+  firsts : FirstOnce l.walk.is_first l.walk.non_local.items;
   count_is : l.count ≡ count (args_forest (g.C.Make.context l.fn.infcx).trees l.args);
   sofar : (normal : View (g.row.F.Denot × g.row.C.Denot) g.row.E.Denot) → IsFunction g.C.Make.context g.F.FnMut l.fn.infcx normal
       → Sofar (setting (g.C.Make.context l.fn.infcx) l.fn.walk.in_crate) (view (λ s t. g.C.InferCtxtLike.resolved s.1 t) normal) l.levels
