@@ -1,7 +1,6 @@
 //! The names that were declared.
 
-ghost use Rattle.std.specs.Prelude.{◌≡◌, ◌↔◌, ◌⊎◌, IfOk, IfErr, OnOk, Some, None};
-ghost use Rattle.std.specs.HashMap.{get_by_text};
+ghost use Rattle.std.specs.Prelude.{◌≡◌, ◌⊎◌, IfOk, IfErr, Some, None};
 
 use crate::faults::Fault;
 use candidate_ir::ir::kinds::{AdtId, AssocId, ForeignId, TraitId};

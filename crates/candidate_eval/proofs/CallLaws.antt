@@ -15,11 +15,10 @@ use Rattle.candidate_eval.specs.declared.coherence.NormalizeErr.{NormalizeErr}
 use Rattle.candidate_eval.specs.declared.coherence.OrphanStop.{OrphanStop}
 use Rattle.candidate_eval.specs.declared.coherence.OrphanStop.TheVariants as O
 use Rattle.candidate_eval.specs.Answers.{CheckResult, answer_of, OutOfMemory, IsAnswer, KnownResult, knowledge_of}
-use Rattle.candidate_eval.specs.Calls.{depth_limit, check_of, check_where, IsChecked, IsKnown, HasNoAlias, HasNoAliasOrError, IsOfForeignTrait, IsDecidedByGeneralHere, NoForeignHeaderHere, NoUnnamedHeaderHere, NoCoveredHeaderHere}
+use Rattle.candidate_eval.specs.Calls.{depth_limit, check_of, check_where, IsChecked, IsKnown, HasNoAlias, HasNoAliasOrError, IsOfForeignTrait, IsDecidedByGeneralHere, NoForeignHeaderHere, NoUnnamedHeaderHere, NoCoveredHeaderHere, HasDownstreamHere}
 use Rattle.candidate_eval.specs.Laws.{AreResolved, IsPlainCall, NoForeignHeader, NoUnnamedHeader, NoCoveredHeader, IsDecidedByGeneral, HasDownstream}
 use Rattle.candidate_eval.specs.Normalizer.{IsFunction, IsLeftByCalls, IsChangedByCalls, HasCause, StopHasCause}
 use Rattle.candidate_eval.specs.Orphan.{InCrate, Local, Remote, Proper, Compat, View, view, plain, orphan_answer, Passes, knowability, Knowability, Knowable, Downstream, local_or_fundamental, plain_knowability, bare_answer, bare_knowledge, IsPlainForest}
-use Rattle.candidate_eval.specs.Substitutions.{Universes}
 use Rattle.candidate_eval.proofs.Calls.{left-same}
 use Rattle.candidate_eval.proofs.CheckLaws.{compat-passes, any-local}
 use Rattle.candidate_eval.proofs.Lowering.{plain_answer, plain_knowledge}
@@ -46,8 +45,8 @@ module _ {S E : Type 0} (w : World) (c limit : ℕ) (resolve : S → Tree → Tr
   no-covered-header na e o = covered_world w c limit r there na (known-plainly Knowable e) o
 
   pub downstream-header : IsPlainForest r.arguments → (knowability {S = S} {E = E} w c (view resolve plain) limit s r).answer ≡ Downstream
-      → IsDecidedByGeneral w limit r → (u v : Universes) → HasDownstream w r u v
-  downstream-header ok e d u v = downstream_world w c limit r there ok (known-plainly Downstream e) d u v
+      → IsDecidedByGeneral w limit r → HasDownstream w r
+  downstream-header ok e d = downstream_world w c limit r there ok (known-plainly Downstream e) d
 
 abbrev seen : {C F E : Type 0} → (C → Tree → Tree) → View (F × C) E → View (F × C) E
 seen resolve normal = view (λ s t. resolve s.1 t) normal
@@ -57,24 +56,24 @@ seen resolve normal = view (λ s t. resolve s.1 t) normal
 module _ {C F E : Type 0} {context : C → Context} {resolve : C → Tree → Tree} {g : Mut F (MutBor C × (Ty × Unit {0})) (Result Ty (NormalizeErr E) × (MutBor C × Unit {0}))}
     {f f' : F} {c c' : C} {r : TraitRef} where
   module _ {m : InCrate} {result : CheckResult E} (said : IsChecked context resolve g f c m r result f' c') where
-    pub no_foreign_header_said : IsPlainCall context resolve g c r → HasNoAliasOrError (context c) r → m ≡ Local Proper → result ≡ Ok (Ok tt) → NoForeignHeaderHere (context c) r
+    pub no_foreign_header_said : IsPlainCall context resolve g f c r → HasNoAliasOrError (context c) r → m ≡ Local Proper → result ≡ Ok (Ok tt) → NoForeignHeaderHere (context c) r
     no_foreign_header_said p ok e passes =
         no-foreign-header (world (context c)) (context c).local.0 depth_limit (λ (s : F × C) t. resolve s.1 t) (f, c) (reference_of (context c).trees r) p.of_world p.resolved m e ok
         (ap (λ x. x.answer) (said.at plain p.normaliser (λ x. cc)) ∙ ap (answer_of (context c').trees) passes)
 
-    pub proper_passes_compat_said : (normal : View (F × C) E) → IsFunction context g c normal → m ≡ Local Proper → result ≡ Ok (Ok tt)
+    pub proper_passes_compat_said : (normal : View (F × C) E) → IsFunction context g f c normal → m ≡ Local Proper → result ≡ Ok (Ok tt)
         → (check_of context resolve normal (Local Compat) (f, c) r).answer ≡ Passes
     proper_passes_compat_said normal h e passes =
         compat-passes (world (context c)) (context c).local.0 depth_limit (seen resolve normal) (f, c) (args_forest (context c).trees r.args) m e
         (ap (λ x. x.answer) (said.at normal h (λ x. cc)) ∙ ap (answer_of (context c').trees) passes)
 
-    pub remote_said : (normal : View (F × C) E) → IsFunction context g c normal → m ≡ Remote → (OutOfMemory result → ⊥) → (local : ℕ)
+    pub remote_said : (normal : View (F × C) E) → IsFunction context g f c normal → m ≡ Remote → (OutOfMemory result → ⊥) → (local : ℕ)
         → IsAnswer (context c').trees result c' (check_where context resolve normal local Remote (f, c) r)
     remote_said normal h e ne local =
         let k = any-local (world (context c)) (context c).local.0 depth_limit (seen resolve normal) (f, c) (args_forest (context c).trees r.args) m e local ∙ said.at normal h ne in
         record { answer = ap (λ x. x.answer) k; leaves = ap (λ x. x.after.1) k }
 
-  module _ {result : KnownResult E} (said : IsKnown context resolve g f c r result f' c') (p : IsPlainCall context resolve g c r) where
+  module _ {result : KnownResult E} (said : IsKnown context resolve g f c r result f' c') (p : IsPlainCall context resolve g f c r) where
     pub no_unnamed_header_said : HasNoAlias (context c) r → result ≡ Ok (Ok tt) → NoUnnamedHeaderHere (context c) r
     no_unnamed_header_said ok known =
         no-unnamed-header (world (context c)) (context c).local.0 depth_limit (λ (s : F × C) t. resolve s.1 t) (f, c) (reference_of (context c).trees r) p.of_world p.resolved ok
@@ -86,10 +85,10 @@ module _ {C F E : Type 0} {context : C → Context} {resolve : C → Tree → Tr
         ((said.at plain p.normaliser (λ x. cc)).answer ∙ ap knowledge_of known) foreign
 
     pub downstream_header_said : HasNoAliasOrError (context c) r → result ≡ Ok (Err K.Downstream) → IsDecidedByGeneralHere (context c) r
-        → (u v : Universes) → HasDownstream (world (context c)) (reference_of (context c).trees r) u v
-    downstream_header_said ok known decided u v =
+        → HasDownstreamHere (context c) r
+    downstream_header_said ok known decided =
         downstream-header (world (context c)) (context c).local.0 depth_limit (λ (s : F × C) t. resolve s.1 t) (f, c) (reference_of (context c).trees r) p.of_world p.resolved ok
-        ((said.at plain p.normaliser (λ x. cc)).answer ∙ ap knowledge_of known) decided u v
+        ((said.at plain p.normaliser (λ x. cc)).answer ∙ ap knowledge_of known) decided
 
 module _ {C F E : Type 0} {context : C → Context} {g : Mut F (MutBor C × (Ty × Unit {0})) (Result Ty (NormalizeErr E) × (MutBor C × Unit {0}))} {f : F} {c : C} where
   pub changed_by_none : IsChangedByCalls context g f c c

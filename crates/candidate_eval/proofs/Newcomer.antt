@@ -8,13 +8,11 @@ use Rattle.candidate_ir.specs.Worlds.{IsOf, Fits, kinds_of, child_kinds, paramet
 use Rattle.candidate_ir.specs.declared.ir.heads.VariableSort.{VariableSort}
 use Rattle.candidate_ir.specs.declared.ir.heads.Variable.{Variable}
 use Rattle.candidate_ir.specs.declared.ir.heads.Head.{Head}
-use Rattle.candidate_ir.specs.declared.ir.kinds.AliasKind.{AliasKind}
 use Rattle.candidate_ir.specs.declared.ir.heads.Head.TheVariants as H
 use Rattle.candidate_ir.specs.declared.ir.heads.ConstHead.TheVariants as C
 use Rattle.candidate_ir.specs.declared.ir.heads.VariableSort.TheVariants as V
-use Rattle.candidate_ir.specs.declared.ir.kinds.AliasKind.TheVariants as AK
 use Rattle.candidate_eval.specs.Substitutions.{Substitution, apply, replaced, lookup, same_variable, same_sort, IsAllowed, Universes}
-use Rattle.candidate_eval.specs.Orphan.{crate_passes, is_local, is_fundamental, fundamental_flag, names_here, principal_passes, Item, Viewed, Step, Class, IsLocal, IsNonLocal, alias_class, owned_class, decides, Remote, or_empty, walked, visit, plain, first_step, is_general, is_general_sort, names, MayWrite, remote_decision, judged, Passes, decided, IsPlainForest, plain_knowability, Downstream}
+use Rattle.candidate_eval.specs.Orphan.{crate_passes, is_local, is_fundamental, fundamental_flag, names_here, principal_passes, Item, Viewed, Step, Class, IsLocal, owned_class, decides, or_empty, walked, visit, plain, first_step, is_general, is_general_sort, names, MayWrite, remote_decision, judged, Passes, decided, IsPlainForest, plain_knowability, Downstream}
 use Rattle.candidate_eval.specs.Laws.{IsDecidedByGeneral, HasDownstream}
 use Rattle.candidate_eval.proofs.Holds.{holds_parts, holds_imply, holds_erase}
 use Rattle.candidate_eval.proofs.Instances.{replaced_kind, same_sort_is, and_left}
@@ -184,12 +182,6 @@ adts : (w : World) (v : Variable) (f : Bool) (i : AdtId) (s t : U) (l m : List (
     → Moves w v l m → Moves w v (adt_steps f i s l a) (adt_steps f i t m b)
 adts w v true i s t l m a b e h = or_empties w v s t l m h
 adts w v false i s t l m a b e h = one w v _ _ (λ c. owned_clear _ _ e) (λ q. cc)
-
-plain_alias : (b : Bool) (k : AliasKind) (t : Tree)
-    → decides {E = U} (if b then alias_class Remote k t else IsNonLocal t) ≡ false → b ≡ false
-plain_alias false k t c = refl
-plain_alias true AK.Projection t c = cc
-plain_alias true _ t c = cc
 
 move_walk : (w : World) (v : Variable) (deep deep' : Walk) (s t : U) (h : Head) (a b : Forest)
     → is_missing w h ≡ false → is_alias h ≡ false → principal_passes (grown w) (Some (fresh w)) b ≡ false → (n : (m : Variable) → h ≡ H.Infer m → ⊥)
@@ -402,8 +394,8 @@ fits_taken w v g (tree h a b) f =
 -- Where a general variable decides that a reference is a downstream one, a header that overlaps it is to be had.
 pub downstream_world : (declared : World) (local limit : ℕ) (r : Reference) → IsOf declared r → IsPlainForest r.arguments
     → plain_knowability declared local limit r ≡ Downstream → IsDecidedByGeneral declared limit r
-    → (u v : Universes) → HasDownstream declared r u v
-downstream_world declared local limit r there ok know d u v =
+    → HasDownstream declared r
+downstream_world declared local limit r there ok know d =
     let x = d.step in
     let h = is_general_head d.variable.head d.general in
     let a = h.variable in
@@ -421,7 +413,7 @@ downstream_world declared local limit r there ok know d u v =
       };
       unnamed = names_apart declared r there;
       written = newcomer_writes declared a limit r x h.general there ok.no_alias ok.no_error d.decides q;
-      overlap = record {
+      overlap = λ u v. record {
         same_trait = refl;
         left = taken declared a;
         right = [];

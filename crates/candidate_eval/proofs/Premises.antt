@@ -1,4 +1,4 @@
--- Why the premises of the laws stand: each is shown by headers that overlap without it.
+-- Why the premises of the laws stand: mostly by headers that overlap without one of them.
 use Rattle.std.proofs.Common.{◌≡◌, ℕ, true, false, [], ◌∷◌, ◌++◌, refl, if◌then◌else◌}
 use Rattle.candidate_ir.specs.declared.ir.heads.Head.TheVariants as H
 use Rattle.candidate_ir.specs.declared.ir.heads.Builtin.TheVariants as B
@@ -7,7 +7,7 @@ use Rattle.candidate_ir.specs.declared.ir.kinds.AliasKind.TheVariants as AK
 use Rattle.candidate_ir.specs.Trees.{TypeKind, none, Forest, Tree}
 use Rattle.candidate_ir.specs.Worlds.{World, Reference, AdtSort, TraitSort, AssociatedTypeSort}
 use Rattle.candidate_eval.specs.Substitutions.{escapes, Overlap, Universes, Binding}
-use Rattle.candidate_eval.specs.Orphan.{MayWrite, IsCovered, names, plain, view, plain_check, orphan_answer, is_general, Local, Proper, Passes, local_or_fundamental, plain_knowability, Knowable, Downstream}
+use Rattle.candidate_eval.specs.Orphan.{MayWrite, IsCovered, View, Sees, names, plain, view, plain_check, orphan_answer, is_general, Local, Remote, Proper, Passes, NonLocalInput, local_or_fundamental, plain_knowability, Knowable, Downstream}
 use Rattle.candidate_eval.proofs.Examples.{def, one, ◌&◌, u8, P, Q, La, Lb, New, Pair, Vec, var, it, LocalType, ref}
 
 abbrev goes : ℕ → Forest → Binding
@@ -108,6 +108,23 @@ valued_overlap u v = record {
   common = refl;
 }
 
+abbrev of_Lb : Reference
+of_Lb = record { trait = 3; arguments = Lb }
+
+Lb_written : MayWrite Q 2 of_Lb × (names Q of_Lb 1 ≡ false)
+Lb_written = (record { is_plain = record { no_alias = refl; no_error = refl }; limit = 2; passes = refl }, refl)
+
+-- Normalisers: one that answers `La` for a variable makes its check pass, and `Lb` overlaps the variable as above.
+abbrev as_La : View (Unit {0}) (Unit {0})
+as_La s t = record { seen = Sees (with_La s t); after = s }
+
+normalised_passes : (orphan_answer Q 1 (Local Proper) (view (λ s t. t) as_La) 256 tt (var 0)).answer ≡ Passes
+normalised_passes = refl
+
+-- Modes: for an unknown crate a variable passes, and `Lb` overlaps it as above.
+remote_passes : plain_check Q 1 Remote 256 (var 0) ≡ Passes
+remote_passes = refl
+
 -- Declarations: a number that isn't declared may become that of a fundamental type.
 abbrev WithFund : World
 WithFund = Q ++ def AdtSort 3 (TypeKind ∷ []) true ∷ []
@@ -157,6 +174,16 @@ newcomer_overlap u v = record {
   common = refl;
 }
 
+-- Other variables: an integer variable makes a reference downstream, but nobody may write a header for a builtin type.
+abbrev integer : Reference
+integer = record { trait = 3; arguments = one (H.Infer (record { sort = V.Integer; number = 0 })) none }
+
+integer_is_downstream : plain_knowability Q 1 256 integer ≡ Downstream
+integer_is_downstream = refl
+
+nobody_writes_u8 : (c : ℕ) → plain_check Q c (Local Proper) 256 u8 ≡ NonLocalInput (record { type = it u8; is_first_input = true } ∷ [])
+nobody_writes_u8 c = refl
+
 -- Fundamental traits: a reference is knowable by its trait alone, and a crate that it names may write the header.
 abbrev WithTrait : World
 WithTrait = P ++ def TraitSort 1 [] true ∷ []
@@ -195,6 +222,9 @@ knowable_deep = refl
 
 covered_at_one : IsCovered P 1 seen_late
 covered_at_one = record { is_plain = record { no_alias = refl; no_error = refl }; covered = refl }
+
+late_sides : (names P seen_late 0 ≡ false) × (local_or_fundamental P 0 deep.trait ≡ false)
+late_sides = (refl, refl)
 
 late_overlap : (u v : Universes) → Overlap u v deep seen_late
 late_overlap u v = record {

@@ -265,11 +265,6 @@ passed-arguments {S} {E} p ts old new s s1 after [] f = record {
 }
 passed-arguments p ts old new s s1 after (x ∷ xs) f = record { none = f.none; leaves = f.leaves; recorded = f.recorded }
 
--- steps that begin elsewhere, of which there are some
-pub passed-elsewhere : {S E : Type 0} (ts : List Tree) (k : Item E → Class E) (old new : Walk) (s s1 after : S) (xs : List (Step S E))
-    → still true xs ≡ false → Passed ts k old new s1 after xs → Passed ts k old new s after xs
-passed-elsewhere ts k old new s s1 after xs e f = record { none = f.none; leaves = left-some s s1 xs e ∙ f.leaves; recorded = f.recorded }
-
 -- what was recorded stays recorded, with the types of a context that grew
 pub types-kept : (old new : Context) (es : List (Ty × IsFirstInputType)) → Grows old new → AreTypes old.trees es → AreTypes new.trees es
 types-kept old new es g a = λ k d h. (ty-kept old new (get_or es k d).0 g (a k d h)).0

@@ -13,7 +13,6 @@ use Rattle.candidate_ir.specs.Trees.{Tree, holds, is_alias, is_param}
 use Rattle.candidate_ir.specs.Context.{Context, world}
 use Rattle.candidate_ir.specs.Words.{args_forest}
 use Rattle.candidate_ir.specs.References.{reference_of}
-use Rattle.candidate_eval.specs.Substitutions.{Universes}
 use Rattle.candidate_eval.specs.Orphan.{InCrate, View, view, Checked, Answer, orphan_answer, Knowability, knowability, plain_check, plain_knowability, local_or_fundamental, IsPlainForest}
 use Rattle.candidate_eval.specs.Laws.{NoForeignHeader, NoUnnamedHeader, NoCoveredHeader, IsDecidedByGeneral, HasDownstream}
 
@@ -43,14 +42,15 @@ plain_check_of c m r = plain_check (world c) c.local.0 m depth_limit (args_fores
 abbrev pub plain_knowledge_about : Context → TraitRef → Knowability (Unit {0})
 plain_knowledge_about c r = plain_knowability (world c) c.local.0 depth_limit (reference_of c.trees r)
 
--- For each normaliser that is a function, what a call says and leaves is what the definition says.
+-- For each normaliser that is a function, what a call says and leaves is what the definition says, unless a growth was
+-- refused.
 module _ {C F E : Type 0} (context : C → Context) (resolve : C → Tree → Tree) (g : Mut F (MutBor C × (Ty × Unit {0})) (Result Ty (NormalizeErr E) × (MutBor C × Unit {0}))) where
   pub record IsChecked (f : F) (c : C) (m : InCrate) (r : TraitRef) (result : CheckResult E) (f' : F) (c' : C) : Type 0 where
-    pub at : (normal : View (F × C) E) → IsFunction context g c normal → (OutOfMemory result → ⊥)
+    pub at : (normal : View (F × C) E) → IsFunction context g f c normal → (OutOfMemory result → ⊥)
         → check_of context resolve normal m (f, c) r ≡ record { answer = answer_of (context c').trees result; after = (f', c') }
 
   pub record IsKnown (f : F) (c : C) (r : TraitRef) (result : KnownResult E) (f' : F) (c' : C) : Type 0 where
-    pub at : (normal : View (F × C) E) → IsFunction context g c normal → (result ≡ Err (O.Stop Memory) → ⊥)
+    pub at : (normal : View (F × C) E) → IsFunction context g f c normal → (result ≡ Err (O.Stop Memory) → ⊥)
         → IsKnowledge result c' (knowledge_about context resolve normal (f, c) r)
 
 -- What holds of a reference of a context.
@@ -80,4 +80,4 @@ abbrev pub IsDecidedByGeneralHere : Context → TraitRef → Type 0
 IsDecidedByGeneralHere c r = IsDecidedByGeneral (world c) depth_limit (reference_of c.trees r)
 
 abbrev pub HasDownstreamHere : Context → TraitRef → Type 0
-HasDownstreamHere c r = (u v : Universes) → HasDownstream (world c) (reference_of c.trees r) u v
+HasDownstreamHere c r = HasDownstream (world c) (reference_of c.trees r)

@@ -22,7 +22,7 @@ pub record LinkSafety : Type 0 where
       → MayWrite w d b → names w b c ≡ false
       → Overlap u v a b → ⊥
 
--- No header that another crate may write, in any world, overlaps the local crate's header, where neither names
+-- No header that another crate may write, in any world that extends the declared one, overlaps the local crate's header, where neither names
 -- anything of the other's crate.
 pub record NoForeignHeader (declared : World) (local : ℕ) (a : Reference) : Type 0 where
   pub apart : (w : World) (d : ℕ) (b : Reference) (u v : Universes)
@@ -30,20 +30,23 @@ pub record NoForeignHeader (declared : World) (local : ℕ) (a : Reference) : Ty
       → names w a d ≡ false → MayWrite w d b → names w b local ≡ false
       → Overlap u v a b → ⊥
 
--- No header that a crate which the reference doesn't name may write, in any world, overlaps it.
+-- No header that a crate which the reference doesn't name may write, in any world that extends the declared one, overlaps
+-- it.
 pub record NoUnnamedHeader (declared : World) (r : Reference) : Type 0 where
   pub apart : (w : World) (c : ℕ) (h : Reference) (u v : Universes)
       → Extends declared w → names w r c ≡ false → MayWrite w c h
       → Overlap u v r h → ⊥
 
--- No covered header that names nothing of the local crate, in any world, overlaps the reference, whoever may write it.
+-- No covered header that names nothing of the local crate, in any world that extends the declared one, overlaps the
+-- reference, whoever may write it.
 pub record NoCoveredHeader (declared : World) (local limit : ℕ) (r : Reference) : Type 0 where
   pub apart : (w : World) (h : Reference) (u v : Universes)
       → Extends declared w → IsCovered w limit h → names w h local ≡ false
       → Overlap u v r h → ⊥
 
--- A crate of another world that the reference doesn't name, and a header that it may write and that overlaps.
-pub record HasDownstream (declared : World) (r : Reference) (u v : Universes) : Type 0 where
+-- A crate of some world that extends the declared one, which the reference doesn't name, and a header that it may write
+-- and that overlaps, whatever the universes of variables are.
+pub record HasDownstream (declared : World) (r : Reference) : Type 0 where
   pub world : World
   pub crate : ℕ
   pub header : Reference
@@ -51,7 +54,7 @@ pub record HasDownstream (declared : World) (r : Reference) (u v : Universes) : 
   pub of_world : IsOf world header
   pub unnamed : names world r crate ≡ false
   pub written : MayWrite world crate header
-  pub overlap : Overlap u v r header
+  pub overlap : (u v : Universes) → Overlap u v r header
 
 -- A general variable decides the remote check.
 pub record IsDecidedByGeneral (w : World) (limit : ℕ) (r : Reference) : Type 0 where
@@ -99,7 +102,7 @@ AreResolved resolve (tree h below rest) =
 
 -- A call with the plain normaliser, and a reference of the declared world in which nothing has a value.
 module _ {C F E : Type 0} (context : C → Context) (resolve : C → Tree → Tree) (g : Mut F (MutBor C × (Ty × Unit {0})) (Result Ty (NormalizeErr E) × (MutBor C × Unit {0}))) where
-  pub record IsPlainCall (c : C) (r : TraitRef) : Type 0 where
-    pub normaliser : IsPlain context g c
+  pub record IsPlainCall (f : F) (c : C) (r : TraitRef) : Type 0 where
+    pub normaliser : IsPlain context g f c
     pub resolved : AreResolved (resolve c) (args_forest (context c).trees r.args)
     pub of_world : IsReference (context c) r

@@ -43,16 +43,6 @@ module _ {C F E : Type 0} (context : C → Context) (g : Mut F (MutBor C × (Ty 
         → IsTy (context c).trees t → t.0 < 2 ^ 32 → Normalizes f c t r f' c'
         → Grows (context c) (context c') × IfOk r (λ u. IsTy (context c').trees u)
 
-  -- Its answers and effects are functions of the tree and of what it and the context are.
-  pub record IsFunction (c0 : C) (normal : View (F × C) E) : Type 0 where
-    pub at : (f : F) (c : C) (t : Ty) (r : Result Ty (NormalizeErr E)) (f' : F) (c' : C) → Grows (context c0) (context c)
-        → IsTy (context c).trees t → t.0 < 2 ^ 32 → Normalizes f c t r f' c'
-        → normal (f, c) (ty_tree (context c).trees t) ≡ record { seen = shown (context c').trees r; after = (f', c') }
-
-  -- It answers its input, and changes nothing.
-  abbrev pub IsPlain : C → Type 0
-  IsPlain c0 = IsFunction c0 plain
-
   -- So many of its calls lead from one normaliser and context to another.
   abbrev pub Lead : ℕ → F → C → F → C → Type 0
   Lead zero f c f' c' = (f' ≡ f) × (c' ≡ c)
@@ -62,6 +52,17 @@ module _ {C F E : Type 0} (context : C → Context) (g : Mut F (MutBor C × (Ty 
   pub record IsLeftByCalls (f : F) (c : C) (f' : F) (c' : C) : Type 0 where
     pub calls : ℕ
     pub lead : Lead calls f c f' c'
+
+  -- From here on, its answers and effects are functions of the tree and of what it and the context are: at this state of the
+  -- two, and at each that its calls lead to.
+  pub record IsFunction (f0 : F) (c0 : C) (normal : View (F × C) E) : Type 0 where
+    pub at : (f : F) (c : C) (t : Ty) (r : Result Ty (NormalizeErr E)) (f' : F) (c' : C) → IsLeftByCalls f0 c0 f c → Grows (context c0) (context c)
+        → IsTy (context c).trees t → t.0 < 2 ^ 32 → Normalizes f c t r f' c'
+        → normal (f, c) (ty_tree (context c).trees t) ≡ record { seen = shown (context c').trees r; after = (f', c') }
+
+  -- It answers its input, and changes nothing.
+  abbrev pub IsPlain : F → C → Type 0
+  IsPlain f0 c0 = IsFunction f0 c0 plain
 
   -- The last of the calls that lead from the one to the other answers the stop.
   pub record StopIsAnswered (f : F) (c : C) (f' : F) (c' : C) (s : Stop) : Type 0 where

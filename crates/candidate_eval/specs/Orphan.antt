@@ -317,7 +317,7 @@ pub record MayWrite (w : World) (c : ℕ) (r : Reference) : Type 0 where
   pub limit : ℕ
   pub passes : plain_check w c (Local Proper) limit r.arguments ≡ Passes
 
--- the view that decides the remote check
+-- the first step that decides the remote check
 abbrev pub remote_decision : World → ℕ → Reference → Option (Step (Unit {0}) (Unit {0}))
 remote_decision w limit r =
     first_step decides (class_of w None Remote) (frontier {E = Unit {0}} w None plain limit (let s : Unit {0} = tt in s) r.arguments)
@@ -334,7 +334,7 @@ abbrev pub any_variable : {S E : Type 0} → List (Step S E) → Bool
 any_variable [] = false
 any_variable (x ∷ xs) = shows_variable x.item || any_variable xs
 
--- No variable stands in the header's frontier.
+-- No variable stands in the remote frontier of the header as deep as the limit, and neither alias nor error in it.
 pub record IsCovered (w : World) (limit : ℕ) (r : Reference) : Type 0 where
   pub is_plain : IsPlainForest r.arguments
   pub covered : any_variable (frontier {E = Unit {0}} w None plain limit (let s : Unit {0} = tt in s) r.arguments) ≡ false

@@ -2,10 +2,9 @@
 
 ghost use Rattle.std.specs.Prelude.{◌≡◌, ◌≢◌, ℕ, List, false, IfOk, IfSome};
 ghost use Rattle.candidate_ir.specs.Context.{Grows, world};
-ghost use Rattle.candidate_ir.specs.Trees.{Tree, holds, is_param, is_alias};
+ghost use Rattle.candidate_ir.specs.Trees.{Tree};
 ghost use Rattle.candidate_ir.specs.Words.{IsTy, IsArgs, args_forest};
-ghost use Rattle.candidate_ir.specs.References.{reference_of};
-ghost use Rattle.candidate_eval.specs.Orphan.{View, view, orphan_answer, Passes, Entry, NonLocalInput, knowability, local_or_fundamental, IsPlainForest};
+ghost use Rattle.candidate_eval.specs.Orphan.{View, view, Passes, Entry, NonLocalInput, local_or_fundamental};
 ghost use Rattle.candidate_eval.specs.Normalizer.{MayNormalize, KeepsNumbers, IsFunction, IsLeftByCalls, IsStopCause, IsChangedByCalls, HasCause, StopHasCause};
 ghost use Rattle.candidate_eval.specs.Laws.{OnlyFirst, LinkSafety, IsPlainCall};
 ghost use Rattle.candidate_eval.specs.Calls.{depth_limit, IsChecked, IsKnown, check_of, check_where, knowledge_about, HasNoParam, HasNoAlias, HasNoAliasOrError, IsOfForeignTrait, NoForeignHeaderHere, NoUnnamedHeaderHere, NoCoveredHeaderHere, IsDecidedByGeneralHere, HasDownstreamHere};
@@ -116,7 +115,7 @@ where
     ensures calls { IsLeftByCalls C.context F.FnMut normalize.old infcx.old normalize.new infcx.new }
     ensures cause { (s : Stop) → result ≡ Err s → IsStopCause C.context F.FnMut 256 normalize.old infcx.old normalize.new infcx.new s }
     ensures types { IfOk result (λ o. IfSome o (λ t. IsTy (C.context infcx.new).trees t)) }
-    ensures answer { (normal : View (F × C) E) → IsFunction C.context F.FnMut infcx.old normal → result ≢ Err Stop.Memory → (t : Tree) → IsSecond (setting (C.context infcx.old) in_crate) (view (λ s t. C.resolved s.1 t) normal) 256 (normalize.old, infcx.old) (args_forest (C.context infcx.old).trees args) t (record { answer = second_answer (C.context infcx.new).trees t result; after = (normalize.new, infcx.new) }) }
+    ensures answer { (normal : View (F × C) E) → IsFunction C.context F.FnMut normalize.old infcx.old normal → result ≢ Err Stop.Memory → (t : Tree) → IsSecond (setting (C.context infcx.old) in_crate) (view (λ s t. C.resolved s.1 t) normal) 256 (normalize.old, infcx.old) (args_forest (C.context infcx.old).trees args) t (record { answer = second_answer (C.context infcx.new).trees t result; after = (normalize.new, infcx.new) }) }
 {
     let mut walk = Walk {
         in_crate,
@@ -212,13 +211,13 @@ where
     ensures types { AreAnswerTypes (C.context infcx.new).trees result }
 
     // For a normaliser whose answers and effects are functions of the tree and the context.
-    ensures answer { (normal : View (F × C) E) → IsFunction C.context F.FnMut infcx.old normal → ¬ (OutOfMemory result) → IsAnswer (C.context infcx.new).trees result infcx.new (check_of C.context C.resolved normal in_crate (normalize, infcx.old) trait_ref) }
+    ensures answer { (normal : View (F × C) E) → IsFunction C.context F.FnMut normalize infcx.old normal → ¬ (OutOfMemory result) → IsAnswer (C.context infcx.new).trees result infcx.new (check_of C.context C.resolved normal in_crate (normalize, infcx.old) trait_ref) }
 
     // What passes in `Proper` passes in `Compat`.
-    ensures proper_passes_compat { (normal : View (F × C) E) → IsFunction C.context F.FnMut infcx.old normal → in_crate ≡ InCrate.Local OrphanCheckMode.Proper → result ≡ Ok (Ok tt) → (check_of C.context C.resolved normal (InCrate.Local OrphanCheckMode.Compat) (normalize, infcx.old) trait_ref).answer ≡ Passes }
+    ensures proper_passes_compat { (normal : View (F × C) E) → IsFunction C.context F.FnMut normalize infcx.old normal → in_crate ≡ InCrate.Local OrphanCheckMode.Proper → result ≡ Ok (Ok tt) → (check_of C.context C.resolved normal (InCrate.Local OrphanCheckMode.Compat) (normalize, infcx.old) trait_ref).answer ≡ Passes }
 
     // In `Remote` the answer is the same whichever crate is local.
-    ensures remote_ignores_the_local_crate { (normal : View (F × C) E) → IsFunction C.context F.FnMut infcx.old normal → in_crate ≡ InCrate.Remote → ¬ (OutOfMemory result) → (local : ℕ) → IsAnswer (C.context infcx.new).trees result infcx.new (check_where C.context C.resolved normal local InCrate.Remote (normalize, infcx.old) trait_ref) }
+    ensures remote_ignores_the_local_crate { (normal : View (F × C) E) → IsFunction C.context F.FnMut normalize infcx.old normal → in_crate ≡ InCrate.Remote → ¬ (OutOfMemory result) → (local : ℕ) → IsAnswer (C.context infcx.new).trees result infcx.new (check_where C.context C.resolved normal local InCrate.Remote (normalize, infcx.old) trait_ref) }
 
     // For every normaliser, in `Remote` nothing is uncovered.
     ensures remote_covers { in_crate ≡ InCrate.Remote → ¬ (IsUncoveredResult result) }
@@ -230,7 +229,7 @@ where
     ensures link_safety { LinkSafety }
 
     // What passes in `Proper` is overlapped by no header of another crate, where neither names the other's crate.
-    ensures no_foreign_header { IsPlainCall C.context C.resolved F.FnMut infcx.old trait_ref → HasNoAliasOrError (C.context infcx.old) trait_ref → in_crate ≡ InCrate.Local OrphanCheckMode.Proper → result ≡ Ok (Ok tt) → NoForeignHeaderHere (C.context infcx.old) trait_ref }
+    ensures no_foreign_header { IsPlainCall C.context C.resolved F.FnMut normalize infcx.old trait_ref → HasNoAliasOrError (C.context infcx.old) trait_ref → in_crate ≡ InCrate.Local OrphanCheckMode.Proper → result ≡ Ok (Ok tt) → NoForeignHeaderHere (C.context infcx.old) trait_ref }
 {
     check(alloc, infcx, trait_ref, in_crate, &mut normalize)
 }
@@ -315,16 +314,16 @@ where
     ensures cause { (s : Stop) → result ≡ Err (OrphanStop.Stop s) → StopHasCause C.context F.FnMut depth_limit normalize infcx.old infcx.new s }
 
     // For a normaliser whose answers and effects are functions of the tree and the context.
-    ensures answer { (normal : View (F × C) E) → IsFunction C.context F.FnMut infcx.old normal → result ≢ Err (OrphanStop.Stop Stop.Memory) → IsKnowledge result infcx.new (knowledge_about C.context C.resolved normal (normalize, infcx.old) trait_ref) }
+    ensures answer { (normal : View (F × C) E) → IsFunction C.context F.FnMut normalize infcx.old normal → result ≢ Err (OrphanStop.Stop Stop.Memory) → IsKnowledge result infcx.new (knowledge_about C.context C.resolved normal (normalize, infcx.old) trait_ref) }
 
     // A known reference is overlapped by no header that a crate which it doesn't name may write.
-    ensures no_unnamed_header { IsPlainCall C.context C.resolved F.FnMut infcx.old trait_ref → HasNoAlias (C.context infcx.old) trait_ref → result ≡ Ok (Ok tt) → NoUnnamedHeaderHere (C.context infcx.old) trait_ref }
+    ensures no_unnamed_header { IsPlainCall C.context C.resolved F.FnMut normalize infcx.old trait_ref → HasNoAlias (C.context infcx.old) trait_ref → result ≡ Ok (Ok tt) → NoUnnamedHeaderHere (C.context infcx.old) trait_ref }
 
     // Where a general variable makes it a downstream one, some crate may write a header that overlaps.
-    ensures downstream_header { IsPlainCall C.context C.resolved F.FnMut infcx.old trait_ref → HasNoAliasOrError (C.context infcx.old) trait_ref → result ≡ Ok (Err Conflict.Downstream) → IsDecidedByGeneralHere (C.context infcx.old) trait_ref → HasDownstreamHere (C.context infcx.old) trait_ref }
+    ensures downstream_header { IsPlainCall C.context C.resolved F.FnMut normalize infcx.old trait_ref → HasNoAliasOrError (C.context infcx.old) trait_ref → result ≡ Ok (Err Conflict.Downstream) → IsDecidedByGeneralHere (C.context infcx.old) trait_ref → HasDownstreamHere (C.context infcx.old) trait_ref }
 
     // Known by its own types, it is overlapped by no covered header that names nothing of the local crate.
-    ensures no_covered_header { IsPlainCall C.context C.resolved F.FnMut infcx.old trait_ref → HasNoAlias (C.context infcx.old) trait_ref → result ≡ Ok (Ok tt) → IsOfForeignTrait (C.context infcx.old) trait_ref → NoCoveredHeaderHere (C.context infcx.old) trait_ref }
+    ensures no_covered_header { IsPlainCall C.context C.resolved F.FnMut normalize infcx.old trait_ref → HasNoAlias (C.context infcx.old) trait_ref → result ≡ Ok (Ok tt) → IsOfForeignTrait (C.context infcx.old) trait_ref → NoCoveredHeaderHere (C.context infcx.old) trait_ref }
 {
     knowable(alloc, infcx, trait_ref, &mut normalize)
 }

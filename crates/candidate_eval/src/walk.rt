@@ -1,6 +1,6 @@
 //! The walk of the orphan check.
 
-ghost use Rattle.std.specs.Prelude.{◌≡◌, ◌≢◌, ◌<◌, ◌^◌, true, false, OnOk, IfOk, IfErr};
+ghost use Rattle.std.specs.Prelude.{◌≡◌, ◌≢◌, ◌<◌, true, false, OnOk, IfOk, IfErr};
 ghost use Rattle.candidate_ir.specs.Context.{Grows};
 ghost use Rattle.candidate_ir.specs.Words.{IsTy, IsArgs, ty_tree, args_forest};
 ghost use Rattle.candidate_eval.specs.Orphan.{View, view, is_general, is_unnameable};
@@ -66,7 +66,7 @@ where
     ensures grows { Grows (C.context infcx.old) (C.context infcx.new) }
     ensures call { Normalizes C.context F.FnMut normalize.old infcx.old ty result normalize.new infcx.new }
     ensures sort { IfOk result (λ t. IsTy (C.context infcx.new).trees t) }
-    ensures answer { (normal : View (F × C) E) → IsFunction C.context F.FnMut infcx.old normal → normal (normalize.old, infcx.old) (ty_tree (C.context infcx.old).trees ty) ≡ record { seen = shown (C.context infcx.new).trees result; after = (normalize.new, infcx.new) } }
+    ensures answer { (normal : View (F × C) E) → IsFunction C.context F.FnMut normalize.old infcx.old normal → normal (normalize.old, infcx.old) (ty_tree (C.context infcx.old).trees ty) ≡ record { seen = shown (C.context infcx.new).trees result; after = (normalize.new, infcx.new) } }
 {
     normalize(infcx, ty)
 }
@@ -88,7 +88,7 @@ where
     ensures stop { (s : Stop) → result ≡ Err (NormalizeErr.Stop s) → StopIsAnswered C.context F.FnMut normalize.old infcx.old normalize.new infcx.new s }
     ensures unnameable { (u : Ty) → result ≡ Ok u → is_unnameable (ty_tree (C.context infcx.new).trees u).head ≡ true → UnnameableIsSeen C.context F.FnMut normalize.old infcx.old normalize.new infcx.new }
     ensures sort { IfOk result (λ t. IsTy (C.context infcx.new).trees t) }
-    ensures view { (normal : View (F × C) E) → IsFunction C.context F.FnMut infcx.old normal → view (λ s t. C.resolved s.1 t) normal (normalize.old, infcx.old) (ty_tree (C.context infcx.old).trees ty) ≡ record { seen = shown (C.context infcx.new).trees result; after = (normalize.new, infcx.new) } }
+    ensures view { (normal : View (F × C) E) → IsFunction C.context F.FnMut normalize.old infcx.old normal → view (λ s t. C.resolved s.1 t) normal (normalize.old, infcx.old) (ty_tree (C.context infcx.old).trees ty) ≡ record { seen = shown (C.context infcx.new).trees result; after = (normalize.new, infcx.new) } }
 {
     let ty = infcx.shallow_resolve(ty);
     let normal = normalized(infcx, normalize, ty)?;
@@ -99,10 +99,8 @@ where
 }
 
 impl Walk {
-    ghost use Rattle.std.specs.Prelude.{◌≡◌, ◌++◌, ◌≢◌, OnOk, IfErr, ℕ, List};
-    ghost use Rattle.candidate_ir.specs.Trees.{Tree};
-    ghost use Rattle.candidate_ir.specs.Words.{ty_tree};
-    ghost use Rattle.candidate_eval.specs.Walk.{AreTypes, IsExit, SameWalk};
+    ghost use Rattle.std.specs.Prelude.{◌≡◌};
+    ghost use Rattle.candidate_eval.specs.Walk.{SameWalk};
     ghost use Rattle.candidate_eval.specs.Exits.{IsTaken};
 
     /// Takes an item: records it, passes over it, or breaks the walk off.
@@ -157,8 +155,8 @@ where
     ensures exit { IfErr result (λ x. IsExit (C.context infcx.new).trees x) }
     ensures same { SameWalk walk.old walk.new }
     ensures first { OnOk result (walk.new.is_first ≡ false) }
-    ensures some { (normal : View (F × C) E) → IsFunction C.context F.FnMut infcx.old normal → OnOk result (still true (type_steps (setting (C.context infcx.old) walk.old.in_crate) (view (λ s t. C.resolved s.1 t) normal) levels (normalize.old, infcx.old) (ty_tree (C.context infcx.old).trees ty)) ≡ false) }
-    ensures outcome { (normal : View (F × C) E) → IsFunction C.context F.FnMut infcx.old normal → Outcome (C.context infcx.new).trees (classes (setting (C.context infcx.old) walk.old.in_crate)) walk.old walk.new (normalize.old, infcx.old) (normalize.new, infcx.new) (type_steps (setting (C.context infcx.old) walk.old.in_crate) (view (λ s t. C.resolved s.1 t) normal) levels (normalize.old, infcx.old) (ty_tree (C.context infcx.old).trees ty)) result }
+    ensures some { (normal : View (F × C) E) → IsFunction C.context F.FnMut normalize.old infcx.old normal → OnOk result (still true (type_steps (setting (C.context infcx.old) walk.old.in_crate) (view (λ s t. C.resolved s.1 t) normal) levels (normalize.old, infcx.old) (ty_tree (C.context infcx.old).trees ty)) ≡ false) }
+    ensures outcome { (normal : View (F × C) E) → IsFunction C.context F.FnMut normalize.old infcx.old normal → Outcome (C.context infcx.new).trees (classes (setting (C.context infcx.old) walk.old.in_crate)) walk.old walk.new (normalize.old, infcx.old) (normalize.new, infcx.new) (type_steps (setting (C.context infcx.old) walk.old.in_crate) (view (λ s t. C.resolved s.1 t) normal) levels (normalize.old, infcx.old) (ty_tree (C.context infcx.old).trees ty)) result }
 {
     if levels == 0 {
         return Err(EarlyExit::Broken(OrphanStop::Stop(Stop::WalkDepth)));
@@ -198,7 +196,7 @@ where
     ensures covers { (t : Ty) → walk.old.in_crate ≡ InCrate.Remote → result ≢ Err (EarlyExit.Uncovered t) }
     ensures exit { IfErr result (λ x. IsExit (C.context infcx.new).trees x) }
     ensures same { SameWalk walk.old walk.new }
-    ensures outcome { (normal : View (F × C) E) → IsFunction C.context F.FnMut infcx.old normal → Outcome (C.context infcx.new).trees (classes (setting (C.context infcx.old) walk.old.in_crate)) walk.old walk.new (normalize.old, infcx.old) (normalize.new, infcx.new) (list_steps (setting (C.context infcx.old) walk.old.in_crate) (view (λ s t. C.resolved s.1 t) normal) levels (normalize.old, infcx.old) (args_forest (C.context infcx.old).trees args)) result }
+    ensures outcome { (normal : View (F × C) E) → IsFunction C.context F.FnMut normalize.old infcx.old normal → Outcome (C.context infcx.new).trees (classes (setting (C.context infcx.old) walk.old.in_crate)) walk.old walk.new (normalize.old, infcx.old) (normalize.new, infcx.new) (list_steps (setting (C.context infcx.old) walk.old.in_crate) (view (λ s t. C.resolved s.1 t) normal) levels (normalize.old, infcx.old) (args_forest (C.context infcx.old).trees args)) result }
 {
     let count = infcx.cx().args(args).len();
     for i in 0..count {

@@ -1,5 +1,5 @@
 -- Nodes that are added one by one, and a table that is cut back.
-use Rattle.std.proofs.Common.{◌≡◌, ℕ, zero, suc, ◌+◌, ◌<◌, ◌≤◌, List, [], ◌∷◌, ◌++◌, length, get_or, take, true, refl, sym, ◌∙◌, ap, subst, arith, append_assoc, length-append, ◌⊎◌, inl, inr}
+use Rattle.std.proofs.Common.{◌≡◌, ℕ, zero, suc, ◌+◌, ◌<◌, ◌≤◌, List, [], ◌∷◌, ◌++◌, length, get_or, take, true, sym, ◌∙◌, ap, subst, arith, append_assoc, length-append, ◌⊎◌, inl, inr}
 use Rattle.std.proofs.lemmas.List.{append-nil, map_push, map_more, take_at, take_all, length-map, length-take-le}
 use Rattle.std.specs.Prelude.{map}
 use Rattle.candidate_ir.specs.declared.ir.node.Row.{Row}
@@ -59,9 +59,6 @@ pub record Made (P : World → Type 0) (old new : List Tree) (cs : List Child) (
   pub count : length new ≡ length old + length cs
   pub fits : kinds_at new (numbers cs) ≡ sorts cs
   pub trees : trees_at new (numbers cs) ≡ ts
-
-pub made-none : (P : World → Type 0) (ts : List Tree) → Made P ts ts [] []
-made-none P ts = record { kept = extends-refl ts; fit = λ w p f. f; count = omega arith; fits = refl; trees = refl }
 
 pub made-one : (P : World → Type 0) (old now new : List Tree) (cs : List Child) (ts : List Tree) (n : ℕ) (k : Kind) (t : Tree)
     → Made P old now cs ts → all_there (sorts cs) ≡ true

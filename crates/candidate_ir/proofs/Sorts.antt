@@ -63,14 +63,6 @@ other_weight (N.Const k) p q = absurd (q k refl)
 other_weight (N.Region k) p q = refl
 other_weight _ p q = refl
 
-const_of : (d : Node) → kind_of (head_of d) ≡ ConstantKind → (k : ConstKind) × (d ≡ N.Const k)
-const_of (N.Ty k) e = absurd (let f = ty_is_type k in cc)
-const_of (N.Const k) e = (k, refl)
-const_of _ e = absurd cc
-
-pub const_node : (ts : List Tree) (n : ℕ) (d : Node) → kind_at ts n ≡ ConstantKind → IsNodeOf ts n d → (k : ConstKind) × (d ≡ N.Const k)
-const_node ts n d e i = const_of d (sym (node_kind ts n d (below_kind ts n ConstantKind refl e) i) ∙ e)
-
 preds_list : (d : Node) → kind_of (head_of d) ≡ PredicatesKind → (v : Vec Pred Global) × (d ≡ N.Preds v)
 preds_list (N.Ty k) e = absurd (let f = ty_is_type k in cc)
 preds_list (N.Const k) e = absurd (let f = const_is_constant k in cc)

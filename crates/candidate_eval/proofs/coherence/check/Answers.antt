@@ -25,7 +25,8 @@ pub returns-in-Ok-first_local_ty-clause-answer : goal.returns-in-Ok-first_local_
 returns-in-Ok-first_local_ty-clause-answer g c = record {
   at = λ normal h ne.
       let see = view (λ s u. g.C.InferCtxtLike.resolved s.1 u) normal in
-      let later = function-later g.C.Make.context g.F.FnMut c.args.infcx.now c.visit_args.new.infcx normal c.visit_args.ensures.grows h in
+      let later = function-later g.C.Make.context g.F.FnMut c.args.normalize.now c.args.infcx.now c.visit_args.new.normalize c.visit_args.new.infcx normal
+      c.visit_args.ensures.calls c.visit_args.ensures.grows h in
       let last = g.C.Make.context c.first_local_ty.new.infcx in
       let first = rw c.in-Err-Uncovered.field-0-is at c.in-Err-Uncovered.ensures in
       let checked : Tree → Checked (g.row.F.Denot × g.row.C.Denot) (Answer g.row.E.Denot) =
@@ -42,7 +43,8 @@ pub returns-in-Err-Uncovered-clause-answer : goal.returns-in-Err-Uncovered-claus
 returns-in-Err-Uncovered-clause-answer g c = record {
   at = λ normal h ne.
       let see = view (λ s u. g.C.InferCtxtLike.resolved s.1 u) normal in
-      let later = function-later g.C.Make.context g.F.FnMut c.args.infcx.now c.visit_args.new.infcx normal c.visit_args.ensures.grows h in
+      let later = function-later g.C.Make.context g.F.FnMut c.args.normalize.now c.args.infcx.now c.visit_args.new.normalize c.visit_args.new.infcx normal
+      c.visit_args.ensures.calls c.visit_args.ensures.grows h in
       let last = g.C.Make.context c.first_local_ty.new.infcx in
       let first = rw c.in-Err-Uncovered.field-0-is at c.in-Err-Uncovered.ensures in
       let checked : Tree → Checked (g.row.F.Denot × g.row.C.Denot) (Answer g.row.E.Denot) =

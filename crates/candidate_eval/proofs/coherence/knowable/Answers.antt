@@ -22,7 +22,8 @@ returns-in_err-local-clause-answer g c = record {
       let p = err_from_is_err_and c.from_residual-in_err-local.result c.from_residual-in_err-local.ensures.1 in
       let see = view (λ s u. g.C.InferCtxtLike.resolved s.1 u) normal in
       let c1 = g.C.Make.context c.check.new.infcx in
-      let later = function-later g.C.Make.context g.F.FnMut c.args.infcx.now c.check.new.infcx normal c.check.ensures.grows h in
+      let later = function-later g.C.Make.context g.F.FnMut c.args.normalize.now c.args.infcx.now c.check.new.normalize c.check.new.infcx normal
+      c.check.ensures.calls c.check.ensures.grows h in
       let own : local_or_fundamental (world c1) c1.local.0 c.args.trait_ref.def_id.0 ≡ false =
       ap (λ (x : Context). local_or_fundamental (world x) x.local.0 c.args.trait_ref.def_id.0) (sym c.cx.ensures)
       ∙ (sym c.trait_ref_is_local_or_fundamental.ensures ∙ c.if-trait_ref_is_local_or_fundamental.false) in
@@ -39,7 +40,8 @@ returns-then-is_ok-2-clause-answer g c = record {
   at = λ normal h ne.
       let see = view (λ s u. g.C.InferCtxtLike.resolved s.1 u) normal in
       let c1 = g.C.Make.context c.check.new.infcx in
-      let later = function-later g.C.Make.context g.F.FnMut c.args.infcx.now c.check.new.infcx normal c.check.ensures.grows h in
+      let later = function-later g.C.Make.context g.F.FnMut c.args.normalize.now c.args.infcx.now c.check.new.normalize c.check.new.infcx normal
+      c.check.ensures.calls c.check.ensures.grows h in
       let own : local_or_fundamental (world c1) c1.local.0 c.args.trait_ref.def_id.0 ≡ false =
       ap (λ (x : Context). local_or_fundamental (world x) x.local.0 c.args.trait_ref.def_id.0) (sym c.cx.ensures)
       ∙ (sym c.trait_ref_is_local_or_fundamental.ensures ∙ c.if-trait_ref_is_local_or_fundamental.false) in
@@ -56,7 +58,8 @@ returns-clause-answer g c = record {
   at = λ normal h ne.
       let see = view (λ s u. g.C.InferCtxtLike.resolved s.1 u) normal in
       let c1 = g.C.Make.context c.check.new.infcx in
-      let later = function-later g.C.Make.context g.F.FnMut c.args.infcx.now c.check.new.infcx normal c.check.ensures.grows h in
+      let later = function-later g.C.Make.context g.F.FnMut c.args.normalize.now c.args.infcx.now c.check.new.normalize c.check.new.infcx normal
+      c.check.ensures.calls c.check.ensures.grows h in
       let own : local_or_fundamental (world c1) c1.local.0 c.args.trait_ref.def_id.0 ≡ false =
       ap (λ (x : Context). local_or_fundamental (world x) x.local.0 c.args.trait_ref.def_id.0) (sym c.cx.ensures)
       ∙ (sym c.trait_ref_is_local_or_fundamental.ensures ∙ c.if-trait_ref_is_local_or_fundamental.false) in

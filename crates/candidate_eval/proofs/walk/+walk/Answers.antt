@@ -95,7 +95,8 @@ visit_ty-returns-clause-outcome g t c = λ normal h.
     let s1 : g.row.F.Denot × g.row.C.Denot = (c.view_of.new.normalize, c.view_of.new.infcx) in
     let tree = ty_tree c0.trees c.args.ty in
     let seen = c.in_ok-view.ensures.view normal h in
-    let later = function-later g.C.Make.context g.F.FnMut c.args.infcx.now c.view_of.new.infcx normal grows h in
+    let later = function-later g.C.Make.context g.F.FnMut c.args.normalize.now c.args.infcx.now c.view_of.new.normalize c.view_of.new.infcx normal
+    (one-left g.C.Make.context g.F.FnMut _ _ _ _ c.view_of.ensures.one_call) grows h in
     elim c.match-shape_of.branch [
       | visit_ty-in-Item w ↦ rw (w.infcx-is, w.normalize-is, w.walk-is, w.outcome-is)
           (visited-item c0 c1 m grows see c.args.levels (c.args.levels - 1) levels s0 s1 tree c.in_ok-view.view seen w.in-Item.class
@@ -122,7 +123,8 @@ visit_ty-returns-clause-some g t c = λ normal h.
     let s1 : g.row.F.Denot × g.row.C.Denot = (c.view_of.new.normalize, c.view_of.new.infcx) in
     let tree = ty_tree c0.trees c.args.ty in
     let seen = c.in_ok-view.ensures.view normal h in
-    let later = function-later g.C.Make.context g.F.FnMut c.args.infcx.now c.view_of.new.infcx normal grows h in
+    let later = function-later g.C.Make.context g.F.FnMut c.args.normalize.now c.args.infcx.now c.view_of.new.normalize c.view_of.new.infcx normal
+    (one-left g.C.Make.context g.F.FnMut _ _ _ _ c.view_of.ensures.one_call) grows h in
     elim c.match-shape_of.branch [
       | visit_ty-in-Item w ↦ rw w.outcome-is
           (item-some c0 c1 m grows see c.args.levels (c.args.levels - 1) levels s0 s1 tree c.in_ok-view.view seen w.in-Item.class
@@ -312,7 +314,7 @@ visit_args-loop-i-preserved g t c =
             firsts = w.in_ok-visit_ty.ensures.firsts;
             count_is = here.count_is;
             sofar = λ normal h.
-                let later = function-later g.C.Make.context g.F.FnMut c.args.infcx.now c.loop-i.infcx normal here.grows h in
+                let later = function-later g.C.Make.context g.F.FnMut c.args.normalize.now c.args.infcx.now c.loop-i.normalize c.loop-i.infcx normal here.calls here.grows h in
                 next-visit (view (λ s u. g.C.InferCtxtLike.resolved s.1 u) normal) c.args.levels c0 c1 here.grows c.args.args c.requires.args xs c.loop-i.i _
                 ensures.fits ensures.tree below c.args.walk.now c.loop-i.walk here.same s0 s1 w.in-Ty.ty w.in-Ty.is
                 (g.C.Make.context w.visit_ty.new.infcx) w.in_ok-visit_ty.ensures.grows w.visit_ty.new.walk (w.visit_ty.new.normalize, w.visit_ty.new.infcx)
@@ -352,7 +354,7 @@ visit_args-returns-in_err-visit_ty-clause-outcome g t c = λ normal h.
     let below = index-below c0 c1 c.args.args xs c.loop-i.i _ here.grows c.requires.args ensures.fits ensures.tree here.count_is c.loop-i-test.true in
     let s0 : g.row.F.Denot × g.row.C.Denot = (c.args.normalize.now, c.args.infcx.now) in
     let s1 : g.row.F.Denot × g.row.C.Denot = (c.loop-i.normalize, c.loop-i.infcx) in
-    let later = function-later g.C.Make.context g.F.FnMut c.args.infcx.now c.loop-i.infcx normal here.grows h in
+    let later = function-later g.C.Make.context g.F.FnMut c.args.normalize.now c.args.infcx.now c.loop-i.normalize c.loop-i.infcx normal here.calls here.grows h in
     let p = err_from_is_err_and c.from_residual.result c.from_residual.ensures.1 in
     next-found (view (λ s u. g.C.InferCtxtLike.resolved s.1 u) normal) c.args.levels c0 c1 here.grows c.args.args c.requires.args xs c.loop-i.i _
     ensures.fits ensures.tree below c.args.walk.now c.loop-i.walk here.same s0 s1 c.in-Ty.ty c.in-Ty.is

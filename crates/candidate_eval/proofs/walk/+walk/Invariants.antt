@@ -23,7 +23,7 @@ invariant-visit_args-loop-i g l = record {
   recorded : AreTypes (g.C.Make.context l.infcx).trees l.walk.non_local.items;
   firsts : FirstOnce l.walk.is_first l.walk.non_local.items;
   count_is : l.count ≡ count (args_forest (g.C.Make.context l.fn.infcx).trees l.args);
-  sofar : (normal : View (g.row.F.Denot × g.row.C.Denot) g.row.E.Denot) → IsFunction g.C.Make.context g.F.FnMut l.fn.infcx normal
+  sofar : (normal : View (g.row.F.Denot × g.row.C.Denot) g.row.E.Denot) → IsFunction g.C.Make.context g.F.FnMut l.fn.normalize l.fn.infcx normal
       → Sofar (setting (g.C.Make.context l.fn.infcx) l.fn.walk.in_crate) (view (λ s t. g.C.InferCtxtLike.resolved s.1 t) normal) l.levels
       (g.C.Make.context l.infcx).trees l.fn.walk l.walk (l.fn.normalize, l.fn.infcx) (l.normalize, l.infcx)
       (args_forest (g.C.Make.context l.fn.infcx).trees l.args) (skip l.i (args_forest (g.C.Make.context l.fn.infcx).trees l.args));

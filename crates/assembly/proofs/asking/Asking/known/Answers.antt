@@ -11,7 +11,7 @@ pub returns-clause-no_unnamed_header : goal.returns-clause-no_unnamed_header
 returns-clause-no_unnamed_header c = λ r na ok.
     c.trait_ref_is_knowable.ensures.no_unnamed_header
     (record {
-      normaliser = record { at = λ f x t a f' x' g i b n. let k = n.called in let l = n.lends in let m = n.leaves in search rules };
+      normaliser = record { at = λ f x t a f' x' q g i b n. let k = n.called in let l = n.lends in let m = n.leaves in search rules };
       resolved = all-resolved _;
       of_world = r;
     }) na ok
@@ -20,7 +20,7 @@ pub returns-clause-downstream_header : goal.returns-clause-downstream_header
 returns-clause-downstream_header c = λ r p ok d.
     c.trait_ref_is_knowable.ensures.downstream_header
     (record {
-      normaliser = record { at = λ f x t a f' x' g i b n. let k = n.called in let l = n.lends in let m = n.leaves in search rules };
+      normaliser = record { at = λ f x t a f' x' q g i b n. let k = n.called in let l = n.lends in let m = n.leaves in search rules };
       resolved = all-resolved _;
       of_world = r;
     }) p ok d
@@ -29,7 +29,7 @@ pub returns-clause-no_covered_header : goal.returns-clause-no_covered_header
 returns-clause-no_covered_header c = λ r na ok o.
     c.trait_ref_is_knowable.ensures.no_covered_header
     (record {
-      normaliser = record { at = λ f x t a f' x' g i b n. let k = n.called in let l = n.lends in let m = n.leaves in search rules };
+      normaliser = record { at = λ f x t a f' x' q g i b n. let k = n.called in let l = n.lends in let m = n.leaves in search rules };
       resolved = all-resolved _;
       of_world = r;
     }) na ok o
@@ -38,6 +38,6 @@ pub returns-clause-answer : goal.returns-clause-answer
 returns-clause-answer c = λ ne.
     let cx = c.args.self.now.scope.maker.cx in
     let e = c.trait_ref_is_knowable.ensures.answer plain
-    (record { at = λ f x t a f' x' g i b n. let k = n.called in let l = n.lends in let m = n.leaves in search rules }) ne in
+    (record { at = λ f x t a f' x' q g i b n. let k = n.called in let l = n.lends in let m = n.leaves in search rules }) ne in
     sym (ap bare_knowledge e.answer)
     ∙ plain_knowledge _ (world cx) cx.local.0 256 (λ s t. t) _ (reference_of cx.trees c.args.trait_ref) (all-resolved _)
