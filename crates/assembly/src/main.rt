@@ -1,20 +1,7 @@
 //! Reads declarations and queries, a line each, and prints the answers.
 #![tactic(auto)]
 
-mod asking;
-mod declaring;
-mod faults;
-mod lines;
-mod names;
-mod notation;
-mod plain;
-mod run;
-#[cfg(test)]
-mod tests;
-mod types;
-mod words;
-
-use run::{Status, run_text};
+use assembly_text::run::{Status, run_text};
 use std::io;
 use std::process::ExitCode;
 

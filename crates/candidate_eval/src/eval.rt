@@ -4,6 +4,7 @@ ghost use Rattle.std.specs.Prelude.{◌≡◌};
 ghost use Rattle.candidate_ir.specs.Trees.{Tree};
 ghost use Rattle.candidate_ir.specs.Words.{IsTy, ty_tree};
 
+use candidate_ir::decl::context::Cx;
 use candidate_ir::decl::make::Make;
 use candidate_ir::ir::kinds::Ty;
 
@@ -17,4 +18,13 @@ pub trait InferCtxtLike: Make {
         requires { IsTy (Self.context self.now).trees ty }
         ensures sort { IsTy (Self.context self.now).trees result }
         ensures tree { ty_tree (Self.context self.now).trees result ≡ resolved self.now (ty_tree (Self.context self.now).trees ty) };
+}
+
+/// A context alone: no variable has a value.
+impl InferCtxtLike for Cx {
+    ghost resolved = { λ _ t. t };
+
+    fn shallow_resolve(&self, ty: Ty) -> Ty {
+        ty
+    }
 }

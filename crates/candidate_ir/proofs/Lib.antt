@@ -6,6 +6,7 @@ pub mod Splits
 pub mod Children
 pub mod Principals
 pub mod Kept
+pub mod Made
 pub mod Rows
 pub mod Members
 pub mod Growing

@@ -1,6 +1,0 @@
-use Rattle.std.proofs.Common.{All}
-use Rattle.candidate_ir.specs.Words.{IsTy}
-use Rattle.assembly.proofs.asking.Asking.print_nonlocal.Given as goal
-
-abbrev pub invariant-loop-ty : goal.invariant-loop-ty
-invariant-loop-ty l = All (λ e. IsTy l.self.scope.maker.cx.trees e.0) l.entries

@@ -1,8 +1,0 @@
-use Rattle.assembly.proofs.Growth.{IsTy-grows}
-use Rattle.assembly.proofs.tests.calls.reference.Goals as goal
-
-pub mk_ty-requires : goal.mk_ty-requires
-mk_ty-requires g c =
-    let target = IsTy-grows _ _ c.args.target c.mk_region.ensures.kept c.requires in
-    let region = c.in_ok-region.ensures.sort in
-    cc

@@ -1,5 +1,0 @@
-use Rattle.assembly.proofs.Growth.{IsPred-listed}
-use Rattle.assembly.proofs.tests.contexts.letters.Goals as goal
-
-pub pred-requires : goal.pred-requires
-pred-requires c = IsPred-listed _ _ c.loop-pred.pred-index _ c.loop-pred-test.true c.loop-pred.invariant

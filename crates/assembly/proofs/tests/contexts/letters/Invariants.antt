@@ -1,5 +1,0 @@
-use Rattle.candidate_ir.specs.Words.{PredListFits}
-use Rattle.assembly.proofs.tests.contexts.letters.Given as goal
-
-abbrev pub invariant-loop-pred : goal.invariant-loop-pred
-invariant-loop-pred l = PredListFits l.cx.trees l.pred-items

@@ -1,5 +1,0 @@
-use Rattle.assembly.proofs.Growth.{IsTy-grows}
-use Rattle.assembly.proofs.tests.contexts.same_arrays.Goals as goal
-
-pub same-requires-clause-a : goal.same-requires-clause-a
-same-requires-clause-a c = IsTy-grows _ _ c.in_ok-first.first c.array-2.ensures.grows c.in_ok-first.ensures.sort

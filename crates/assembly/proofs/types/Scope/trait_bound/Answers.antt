@@ -1,8 +1,0 @@
-use Rattle.assembly.proofs.Growth.{IsArgs-grows}
-use Rattle.assembly.proofs.types.Scope.trait_bound.Goals as goal
-
-pub returns-clause-fits : goal.returns-clause-fits
-returns-clause-fits g c =
-    let args = IsArgs-grows _ _ c.in_ok-args.args c.mk_vars.ensures.kept c.in_ok-args.ensures.sort in
-    let vars = c.in_ok-vars.ensures.sort in
-    cc

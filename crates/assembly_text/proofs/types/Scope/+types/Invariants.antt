@@ -1,0 +1,42 @@
+use Rattle.std.proofs.Common.{◌≡◌, List, Bool, ◌+◌, ◌*◌}
+use Rattle.std.specs.Prelude.{count_by}
+use Rattle.candidate_ir.specs.Context.{Context, Grows}
+use Rattle.candidate_ir.specs.declared.ir.kinds.Binder.{Binder}
+use Rattle.candidate_ir.specs.declared.ir.kinds.ExistentialPredicate.{ExistentialPredicate}
+use Rattle.candidate_ir.specs.declared.ir.kinds.GenericArg.{GenericArg}
+use Rattle.candidate_ir.specs.Words.{ListFits, BoundsFit, names_trait}
+use Rattle.candidate_ir.proofs.Made.{one_if}
+use Rattle.assembly_text.proofs.types.Scope.+types.Given as goal
+
+-- the types have grown since the call, and the list has types of them
+pub record IsRead (old : Context) (new : Context) (list : List GenericArg) : Type 0 where
+  pub grows : Grows old new
+  pub fits : ListFits new.trees list
+
+-- the types have grown since the call, the bounds have types of them, and there is one principal or none
+pub record AreRead (old : Context) (new : Context) (list : List (Binder ExistentialPredicate)) (has_principal : Bool) : Type 0 where
+  pub grows : Grows old new
+  pub fit : BoundsFit new.trees list
+  pub principals : count_by (λ b. names_trait b.value) list ≡ one_if has_principal
+
+abbrev pub decreases-read_type : goal.decreases-read_type
+decreases-read_type g l = 4 * l.depth
+
+abbrev pub decreases-read_types : goal.decreases-read_types
+decreases-read_types g l = 4 * l.depth + 1
+
+abbrev pub decreases-read_bound : goal.decreases-read_bound
+decreases-read_bound g l = 4 * l.depth + 2
+
+abbrev pub decreases-read_bounds : goal.decreases-read_bounds
+decreases-read_bounds g l = 4 * l.depth + 3
+
+abbrev pub decreases-read_named : goal.decreases-read_named
+decreases-read_named g l = 4 * l.depth + 2
+
+abbrev pub invariant-read_types-loop : goal.invariant-read_types-loop
+invariant-read_types-loop g l = IsRead (g.M.Make.context l.fn.self.maker) (g.M.Make.context l.self.maker) l.list.items
+
+abbrev pub invariant-read_bounds-loop : goal.invariant-read_bounds-loop
+invariant-read_bounds-loop g l =
+    AreRead (g.M.Make.context l.fn.self.maker) (g.M.Make.context l.self.maker) l.list.items l.has_principal

@@ -1,0 +1,218 @@
+//! The commands that ask.
+
+ghost use Rattle.std.specs.Prelude.{◌≡◌, ◌≢◌, All, IfOk, IfSome};
+ghost use Rattle.candidate_ir.specs.Words.{IsTy, IsArgs};
+ghost use Rattle.candidate_ir.specs.References.{IsReference};
+ghost use Rattle.candidate_eval.specs.Answers.{AreAnswerTypes, AreErrorTypes, OutOfMemory, answer_of, knowledge_of};
+ghost use Rattle.candidate_eval.specs.Orphan.{bare_answer, bare_knowledge};
+ghost use Rattle.candidate_eval.specs.Calls.{plain_check_of, plain_knowledge_about, HasNoParam, HasNoAlias, HasNoAliasOrError, IsOfForeignTrait, NoForeignHeaderHere, NoUnnamedHeaderHere, NoCoveredHeaderHere, IsDecidedByGeneralHere, HasDownstreamHere};
+
+use crate::faults::Fault;
+use crate::names::Names;
+use crate::types::{DEEPEST, Scope};
+use crate::words::Words;
+use candidate_eval::coherence::{
+    Conflict, InCrate, IsFirstInputType, NormalizeErr, OrphanCheckErr, OrphanCheckMode, OrphanStop,
+    UncoveredTyParams, orphan_check_trait_ref, trait_ref_is_knowable,
+};
+use candidate_ir::decl::context::Cx;
+use candidate_ir::ir::kinds::{TraitRef, Ty};
+use candidate_ir::ir::stop::Stop;
+use std::alloc::Global;
+use std::convert::Infallible;
+
+/// A command that asks.
+#[derive(Clone, Copy)]
+pub enum Query {
+    Orphan,
+    Knowable,
+}
+
+/// What is declared, and the answer that was made last.
+#[derive(Drop)]
+pub struct Asking {
+    scope: Scope<Cx>,
+    answer: String,
+}
+
+impl Asking {
+    /// Over what is declared under these names.
+    pub fn new(alloc: Global, names: Names, cx: Cx) -> Self {
+        Asking {
+            scope: Scope {
+                alloc,
+                names,
+                maker: cx,
+            },
+            answer: String::new(alloc),
+        }
+    }
+
+    /// The answer to the line, whose command was read; or why it can't be given.
+    ///
+    /// The error is a fault of the line.
+    pub fn ask<'a>(
+        &mut self,
+        query: Query,
+        words: Words<'a>,
+    ) -> Result<Result<&str, Stop>, Fault<'a>> {
+        self.answer.clear();
+        let made = match query {
+            Query::Orphan => self.orphan(words)?,
+            Query::Knowable => self.knowable(words)?,
+        };
+        match made {
+            Ok(()) => Ok(Ok(self.answer.as_str())),
+            Err(stop) => Ok(Err(stop)),
+        }
+    }
+
+    /// The trait reference that ends the line.
+    fn last_trait_ref<'a>(&mut self, mut words: Words<'a>) -> Result<TraitRef, Fault<'a>>
+        ensures sort { IfOk result (λ r. IsArgs self.new.scope.maker.trees r.args) }
+        ensures no_param { IfOk result (λ r. HasNoParam self.new.scope.maker r) }
+    {
+        let trait_ref = self.scope.read_trait_ref(&mut words)?;
+        words.end()?;
+        if self.scope.maker.has_param(trait_ref) {
+            return Err(Fault::Parameter);
+        }
+        Ok(trait_ref)
+    }
+
+    fn knowable<'a>(&mut self, words: Words<'a>) -> Result<Result<(), Stop>, Fault<'a>> {
+        let trait_ref = self.last_trait_ref(words)?;
+        let known = self.known(trait_ref);
+        Ok(self.print_known(known))
+    }
+
+    /// Whether all impls of the reference are known, where no type is normalised.
+    fn known(&mut self, trait_ref: TraitRef) -> Result<Result<(), Conflict>, OrphanStop<Infallible>>
+        requires args { IsArgs self.old.scope.maker.trees trait_ref.args }
+        requires no_param { HasNoParam self.old.scope.maker trait_ref }
+        ensures answer { result ≢ Err (OrphanStop.Stop Stop.Memory) → bare_knowledge (knowledge_of result) ≡ plain_knowledge_about self.old.scope.maker trait_ref }
+        ensures no_unnamed_header { IsReference self.old.scope.maker trait_ref → HasNoAlias self.old.scope.maker trait_ref → result ≡ Ok (Ok tt) → NoUnnamedHeaderHere self.old.scope.maker trait_ref }
+        ensures downstream_header { IsReference self.old.scope.maker trait_ref → HasNoAliasOrError self.old.scope.maker trait_ref → result ≡ Ok (Err Conflict.Downstream) → IsDecidedByGeneralHere self.old.scope.maker trait_ref → HasDownstreamHere self.old.scope.maker trait_ref }
+        ensures no_covered_header { IsReference self.old.scope.maker trait_ref → HasNoAlias self.old.scope.maker trait_ref → result ≡ Ok (Ok tt) → IsOfForeignTrait self.old.scope.maker trait_ref → NoCoveredHeaderHere self.old.scope.maker trait_ref }
+    {
+        trait_ref_is_knowable(
+            self.scope.alloc,
+            &mut self.scope.maker,
+            trait_ref,
+            |_, ty| -> Result<Ty, NormalizeErr<Infallible>> { Ok(ty) },
+        )
+    }
+
+    fn print_known(
+        &mut self,
+        known: Result<Result<(), Conflict>, OrphanStop<Infallible>>,
+    ) -> Result<(), Stop> {
+        let word = match known {
+            Ok(Ok(())) => "ok\n",
+            Ok(Err(Conflict::Downstream)) => "downstream\n",
+            Ok(Err(Conflict::Upstream)) => "upstream\n",
+            Err(OrphanStop::Stop(stop)) => return Err(stop),
+            Err(OrphanStop::Normalize(never)) => match never {},
+        };
+        self.answer.push_str(word)?;
+        Ok(())
+    }
+
+    fn orphan<'a>(&mut self, mut words: Words<'a>) -> Result<Result<(), Stop>, Fault<'a>> {
+        let in_crate = in_crate(words.word()?)?;
+        let trait_ref = self.last_trait_ref(words)?;
+        let checked = self.checked(trait_ref, in_crate);
+        Ok(self.print_orphan(checked))
+    }
+
+    /// The orphan check of the reference, where no type is normalised.
+    fn checked(
+        &mut self,
+        trait_ref: TraitRef,
+        in_crate: InCrate,
+    ) -> Result<Result<(), OrphanCheckErr<Ty>>, OrphanStop<Infallible>>
+        requires args { IsArgs self.old.scope.maker.trees trait_ref.args }
+        requires no_param { HasNoParam self.old.scope.maker trait_ref }
+        ensures types { AreAnswerTypes self.new.scope.maker.trees result }
+        ensures answer { ¬ (OutOfMemory result) → bare_answer (answer_of self.new.scope.maker.trees result) ≡ plain_check_of self.old.scope.maker in_crate trait_ref }
+        ensures no_foreign_header { IsReference self.old.scope.maker trait_ref → HasNoAliasOrError self.old.scope.maker trait_ref → in_crate ≡ InCrate.Local OrphanCheckMode.Proper → result ≡ Ok (Ok tt) → NoForeignHeaderHere self.old.scope.maker trait_ref }
+    {
+        orphan_check_trait_ref(
+            self.scope.alloc,
+            &mut self.scope.maker,
+            trait_ref,
+            in_crate,
+            |_, ty| -> Result<Ty, NormalizeErr<Infallible>> { Ok(ty) },
+        )
+    }
+
+    fn print_orphan(
+        &mut self,
+        checked: Result<Result<(), OrphanCheckErr<Ty>>, OrphanStop<Infallible>>,
+    ) -> Result<(), Stop>
+        requires { AreAnswerTypes self.old.scope.maker.trees checked }
+    {
+        match checked {
+            Ok(Ok(())) => self.answer.push_str("ok\n")?,
+            Ok(Err(err)) => self.print_orphan_err(&err)?,
+            Err(OrphanStop::Stop(stop)) => return Err(stop),
+            Err(OrphanStop::Normalize(never)) => match never {},
+        }
+        Ok(())
+    }
+
+    fn print_orphan_err(&mut self, err: &OrphanCheckErr<Ty>) -> Result<(), Stop>
+        requires { AreErrorTypes self.old.scope.maker.trees err.now }
+    {
+        match err {
+            OrphanCheckErr::NonLocalInputType(entries) => self.print_nonlocal(entries.as_slice()),
+            OrphanCheckErr::UncoveredTyParams(found) => self.print_uncovered(found),
+        }
+    }
+
+    fn print_nonlocal(&mut self, entries: &[(Ty, IsFirstInputType)]) -> Result<(), Stop>
+        requires { All (λ e. IsTy self.old.scope.maker.trees e.0) entries.now }
+    {
+        self.answer.push_str("nonlocal")?;
+        for (ty, is_first) in entries {
+            self.answer.push_str(" (")?;
+            self.scope.print_type(*ty, DEEPEST, &mut self.answer)?;
+            self.answer.push_str(match is_first {
+                IsFirstInputType::Yes => ", Yes)",
+                IsFirstInputType::No => ", No)",
+            })?;
+        }
+        self.answer.push('\n')?;
+        Ok(())
+    }
+
+    fn print_uncovered(&mut self, found: &UncoveredTyParams<Ty>) -> Result<(), Stop>
+        requires uncovered { IsTy self.old.scope.maker.trees found.now.uncovered }
+        requires local { IfSome found.now.local_ty (IsTy self.old.scope.maker.trees) }
+    {
+        self.answer.push_str("uncovered ")?;
+        self.scope
+            .print_type(found.uncovered, DEEPEST, &mut self.answer)?;
+        self.answer.push_str(" local ")?;
+        match found.local_ty {
+            Some(ty) => self.scope.print_type(ty, DEEPEST, &mut self.answer)?,
+            None => self.answer.push_str("none")?,
+        }
+        self.answer.push('\n')?;
+        Ok(())
+    }
+}
+
+/// For which crate the word says that a reference is checked, else `Fault::BadFlag`.
+fn in_crate<'a>(word: &'a str) -> Result<InCrate, Fault<'a>> {
+    match word {
+        "local" => Ok(InCrate::Local {
+            mode: OrphanCheckMode::Proper,
+        }),
+        "compat" => Ok(InCrate::Local {
+            mode: OrphanCheckMode::Compat,
+        }),
+        "remote" => Ok(InCrate::Remote),
+        _ => Err(Fault::BadFlag(word)),
+    }
+}

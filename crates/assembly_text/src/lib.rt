@@ -1,0 +1,12 @@
+//! Declarations and queries as a text, a line each, and the answers to the queries: what the program does.
+#![tactic(auto)]
+
+mod asking;
+mod declaring;
+mod faults;
+mod lines;
+mod names;
+mod notation;
+pub mod run;
+mod types;
+mod words;
