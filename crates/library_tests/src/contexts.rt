@@ -1,53 +1,65 @@
 //! What a context makes, read back.
 
-ghost use Rattle.std.specs.Prelude.{IfOk};
+ghost use Rattle.std.specs.Prelude.{◌≡◌, IfOk};
 ghost use Rattle.candidate_ir.specs.Context.{Grows};
-ghost use Rattle.candidate_ir.specs.Words.{IsTy, IsPreds, ConstKindFits};
+ghost use Rattle.candidate_ir.specs.Words.{IsTy, IsVars, IsPreds, ConstKindFits, BoundsFit, PredFits, AtMostOnePrincipal};
 
-use crate::calls::{LOCAL_TRAIT, OUT, TRAIT, declared};
+use crate::asserts::{equals, equals_in_row, holds};
+use crate::samples::{LOCAL_TRAIT, OUT, TRAIT, args, constant, declared, ty};
 use candidate_ir::decl::context::Cx;
 use candidate_ir::decl::make::Make;
 use candidate_ir::ir::heads::Flag;
 use candidate_ir::ir::kinds::{
-    Binder, ConstKind, ExistentialPredicate, Preds, TraitId, Ty, TyKind, UintTy, VarKind,
+    Binder, ConstKind, ExistentialPredicate, Preds, TraitId, Ty, TyKind, UintTy, VarKind, Vars,
 };
 use candidate_ir::ir::stop::Stop;
-use std::alloc::{AllocError, Global};
-use std::test::Fail;
+use std::alloc::Global;
+use std::process::Abort;
 
 /// The array of so many bytes.
-fn array(cx: &mut Cx, length: ConstKind) -> Result<Ty, Stop>
+fn array(rt: &impl Abort, cx: &mut Cx, length: ConstKind) -> Ty
     requires { ConstKindFits cx.old.trees length }
     ensures grows { Grows cx.old cx.new }
-    ensures sort { IfOk result (λ ty. IsTy cx.new.trees ty) }
+    ensures sort { IsTy cx.new.trees result }
 {
-    let length = cx.mk_const(length)?;
-    let byte = cx.mk_ty(TyKind::Uint(UintTy::U8))?;
-    cx.mk_ty(TyKind::Array(byte, length))
+    let length = constant(rt, cx, length);
+    let byte = ty(rt, cx, TyKind::Uint(UintTy::U8));
+    ty(rt, cx, TyKind::Array(byte, length))
 }
 
 /// Whether arrays of these lengths, made one after the other, are equal as trees.
-fn same_arrays(cx: &mut Cx, first: u64, second: u64) -> Result<bool, Stop> {
-    let first = array(cx, ConstKind::Value(first))?;
-    let second = array(cx, ConstKind::Value(second))?;
-    Ok(first != second && cx.same(first, second))
+fn same_arrays(rt: &impl Abort, cx: &mut Cx, first: u64, second: u64) -> bool {
+    let first = array(rt, cx, ConstKind::Value(first));
+    let second = array(rt, cx, ConstKind::Value(second));
+    first != second && cx.same(first, second)
+}
+
+fn check_arrays(rt: &impl Abort, cx: &mut Cx) {
+    let of_value = array(rt, cx, ConstKind::Value(3));
+    holds(
+        rt,
+        matches!(cx.kind(of_value), TyKind::Array(_, _)),
+        "an array",
+    );
+    holds(rt, !cx.has(of_value, Flag::Param), "a value");
+    let of_param = array(rt, cx, ConstKind::Param(1));
+    holds(rt, cx.has(of_param, Flag::Param), "a parameter");
+    holds(rt, !cx.has(of_param, Flag::ConstInfer), "no variable");
+    let of_variable = array(rt, cx, ConstKind::Infer(1));
+    holds(rt, cx.has(of_variable, Flag::ConstInfer), "a variable");
+    holds(
+        rt,
+        !cx.has(of_variable, Flag::TyInfer),
+        "no variable for a type",
+    );
 }
 
 #[test]
-fn makes_constants(rt: HostRuntime) -> Result<(), Fail> {
-    let mut cx = declared(rt.alloc())?;
-    let of_value = array(&mut cx, ConstKind::Value(3))?;
-    assert!(rt; matches!(cx.kind(of_value), TyKind::Array(_, _)));
-    assert!(rt; !cx.has(of_value, Flag::Param));
-    let of_param = array(&mut cx, ConstKind::Param(1))?;
-    assert!(rt; cx.has(of_param, Flag::Param));
-    assert!(rt; !cx.has(of_param, Flag::ConstInfer));
-    let of_variable = array(&mut cx, ConstKind::Infer(1))?;
-    assert!(rt; cx.has(of_variable, Flag::ConstInfer));
-    assert!(rt; !cx.has(of_variable, Flag::TyInfer));
-    assert!(rt; same_arrays(&mut cx, 3, 3)?);
-    assert!(rt; !same_arrays(&mut cx, 3, 4)?);
-    Ok(())
+fn makes_constants(rt: HostRuntime) {
+    let mut cx = declared(&rt, rt.alloc());
+    check_arrays(&rt, &mut cx);
+    holds(&rt, same_arrays(&rt, &mut cx, 3, 3), "the same length");
+    holds(&rt, !same_arrays(&rt, &mut cx, 3, 4), "another length");
 }
 
 /// Whether the kind of a byte is read back through the trait.
@@ -57,54 +69,57 @@ fn reads_back<M: Make>(maker: &mut M) -> Result<bool, Stop> {
 }
 
 #[test]
-fn reads_through_the_trait(rt: HostRuntime) -> Result<(), Fail> {
-    let mut cx = declared(rt.alloc())?;
-    assert!(rt; reads_back(&mut cx)?);
-    Ok(())
+fn reads_through_the_trait(rt: HostRuntime) {
+    let mut cx = declared(&rt, rt.alloc());
+    equals(&rt, &reads_back(&mut cx), &Ok(true), "a byte");
+}
+
+fn variables(rt: &impl Abort, cx: &mut Cx, kinds: &[VarKind]) -> Vars
+    ensures grows { Grows cx.old cx.new }
+    ensures sort { IsVars cx.new.trees result }
+{
+    cx.mk_vars(kinds).expect(rt, "variables")
 }
 
 /// A type under a binder of these variables.
-fn under_binder(cx: &mut Cx, variables: &[VarKind]) -> Result<Ty, Stop>
+fn under_binder(rt: &impl Abort, cx: &mut Cx, kinds: &[VarKind]) -> Ty
     ensures grows { Grows cx.old cx.new }
-    ensures sort { IfOk result (λ ty. IsTy cx.new.trees ty) }
+    ensures sort { IsTy cx.new.trees result }
 {
-    let vars = cx.mk_vars(variables)?;
-    let value = cx.mk_ty(TyKind::Bool)?;
-    cx.mk_ty(TyKind::UnsafeBinder(Binder { vars, value }))
+    let vars = variables(rt, cx, kinds);
+    let value = ty(rt, cx, TyKind::Bool);
+    ty(rt, cx, TyKind::UnsafeBinder(Binder { vars, value }))
 }
 
 /// Whether types under these binders, made one after the other, are equal as trees.
-fn same_binders(cx: &mut Cx, first: &[VarKind], second: &[VarKind]) -> Result<bool, Stop> {
-    let first = under_binder(cx, first)?;
-    let second = under_binder(cx, second)?;
-    Ok(first != second && cx.same(first, second))
+fn same_binders(rt: &impl Abort, cx: &mut Cx, first: &[VarKind], second: &[VarKind]) -> bool {
+    let first = under_binder(rt, cx, first);
+    let second = under_binder(rt, cx, second);
+    first != second && cx.same(first, second)
 }
 
-/// Variables of binders, of which no two are equal.
-const BINDERS: &[&[VarKind]] = &[
-    &[],
-    &[VarKind::Ty],
-    &[VarKind::Const],
-    &[VarKind::Region],
-    &[VarKind::Region, VarKind::Ty],
-    &[VarKind::Ty, VarKind::Region],
-    &[VarKind::Ty, VarKind::Region, VarKind::Ty],
-];
-
 #[test]
-fn makes_binders(rt: HostRuntime) -> Result<(), Fail> {
-    let mut cx = declared(rt.alloc())?;
-    for (i, first) in BINDERS.iter().enumerate() {
-        for (k, second) in BINDERS.iter().enumerate() {
-            let same = same_binders(&mut cx, first, second)?;
-            assert_eq!(rt; same, i == k, "{i} {k}");
+fn makes_binders(rt: HostRuntime) {
+    let mut cx = declared(&rt, rt.alloc());
+    let binders: &[&[VarKind]] = &[
+        &[],
+        &[VarKind::Ty],
+        &[VarKind::Const],
+        &[VarKind::Region],
+        &[VarKind::Region, VarKind::Ty],
+        &[VarKind::Ty, VarKind::Region],
+        &[VarKind::Ty, VarKind::Region, VarKind::Ty],
+    ];
+    for (i, first) in binders.iter().enumerate() {
+        for (k, second) in binders.iter().enumerate() {
+            let same = same_binders(&rt, &mut cx, first, second);
+            equals(&rt, &same, &(i == k), "two binders");
         }
     }
-    Ok(())
 }
 
 /// The bounds of a `dyn` type, in that order.
-#[derive(Clone, Copy, Debug)]
+#[derive(Clone, Copy)]
 enum Bounds {
     None,
     Principal,
@@ -114,12 +129,21 @@ enum Bounds {
     AutoThenProjection,
 }
 
-fn make_bounds(cx: &mut Cx, bounds: Bounds) -> Result<Preds, Stop>
-    ensures { IfOk result (λ preds. IsPreds cx.new.trees preds) }
+fn preds(rt: &impl Abort, cx: &mut Cx, list: &[Binder<ExistentialPredicate>]) -> Preds
+    requires fit { BoundsFit cx.old.trees list.now }
+    requires principal { AtMostOnePrincipal list.now }
+    ensures grows { Grows cx.old cx.new }
+    ensures sort { IsPreds cx.new.trees result }
 {
-    let term = cx.mk_ty(TyKind::Bool)?;
-    let args = cx.mk_args(&[])?;
-    let vars = cx.mk_vars(&[VarKind::Region])?;
+    cx.mk_preds(list).expect(rt, "bounds")
+}
+
+fn make_bounds(rt: &impl Abort, cx: &mut Cx, bounds: Bounds) -> Preds
+    ensures { IsPreds cx.new.trees result }
+{
+    let term = ty(rt, cx, TyKind::Bool);
+    let args = args(rt, cx, &[]);
+    let vars = variables(rt, cx, &[VarKind::Region]);
     let principal = Binder {
         vars,
         value: ExistentialPredicate::Trait(TRAIT, args),
@@ -133,12 +157,12 @@ fn make_bounds(cx: &mut Cx, bounds: Bounds) -> Result<Preds, Stop>
         value: ExistentialPredicate::Projection(OUT, args, term),
     };
     match bounds {
-        Bounds::None => cx.mk_preds(&[]),
-        Bounds::Principal => cx.mk_preds(&[principal]),
-        Bounds::Auto => cx.mk_preds(&[auto]),
-        Bounds::AutoThenPrincipal => cx.mk_preds(&[auto, principal]),
-        Bounds::PrincipalThenAuto => cx.mk_preds(&[principal, auto]),
-        Bounds::AutoThenProjection => cx.mk_preds(&[auto, projection]),
+        Bounds::None => preds(rt, cx, &[]),
+        Bounds::Principal => preds(rt, cx, &[principal]),
+        Bounds::Auto => preds(rt, cx, &[auto]),
+        Bounds::AutoThenPrincipal => preds(rt, cx, &[auto, principal]),
+        Bounds::PrincipalThenAuto => preds(rt, cx, &[principal, auto]),
+        Bounds::AutoThenProjection => preds(rt, cx, &[auto, projection]),
     }
 }
 
@@ -153,35 +177,43 @@ fn letter(bound: Binder<ExistentialPredicate>) -> char {
 }
 
 /// The bounds as letters.
-fn letters(alloc: Global, cx: &Cx, preds: Preds) -> Result<String, AllocError>
+fn letters(rt: &impl Abort, alloc: Global, cx: &Cx, preds: Preds) -> String
     requires { IsPreds cx.now.trees preds }
 {
     let mut text = String::new(alloc);
     for pred in cx.preds(preds) {
-        text.push(letter(cx.pred(*pred)))?;
+        text.push(letter(cx.pred(*pred))).expect(rt, "memory");
     }
-    Ok(text)
+    text
 }
 
-/// Bounds, their letters, and their principal.
-const LISTS: &[(Bounds, &str, Option<TraitId>)] = &[
-    (Bounds::None, "", None),
-    (Bounds::Principal, "T", Some(TRAIT)),
-    (Bounds::Auto, "A", None),
-    (Bounds::AutoThenPrincipal, "AT", Some(TRAIT)),
-    (Bounds::PrincipalThenAuto, "TA", Some(TRAIT)),
-    (Bounds::AutoThenProjection, "AP", None),
-];
+fn check_bounds(
+    rt: &impl Abort,
+    alloc: Global,
+    bounds: Bounds,
+    want: &str,
+    principal: Option<TraitId>,
+    row: usize,
+) {
+    let mut cx = declared(rt, alloc);
+    let preds = make_bounds(rt, &mut cx, bounds);
+    equals_in_row(rt, &cx.preds(preds).len(), &want.len(), row);
+    equals_in_row(rt, &cx.principal(preds), &principal, row);
+    let letters = letters(rt, alloc, &cx, preds);
+    equals_in_row(rt, &letters.as_str(), &want, row);
+}
 
 #[test]
-fn makes_bounds(rt: HostRuntime) -> Result<(), Fail> {
-    let mut cx = declared(rt.alloc())?;
-    for (bounds, want, principal) in LISTS {
-        let preds = make_bounds(&mut cx, *bounds)?;
-        assert_eq!(rt; cx.preds(preds).len(), want.len(), "{bounds:?}");
-        let letters = letters(rt.alloc(), &cx, preds)?;
-        assert_eq!(rt; letters.as_str(), *want, "{bounds:?}");
-        assert_eq!(rt; cx.principal(preds), *principal, "{bounds:?}");
+fn makes_bounds(rt: HostRuntime) {
+    let rows = [
+        (Bounds::None, "", None),
+        (Bounds::Principal, "T", Some(TRAIT)),
+        (Bounds::Auto, "A", None),
+        (Bounds::AutoThenPrincipal, "AT", Some(TRAIT)),
+        (Bounds::PrincipalThenAuto, "TA", Some(TRAIT)),
+        (Bounds::AutoThenProjection, "AP", None),
+    ];
+    for (row, (bounds, want, principal)) in rows.iter().enumerate() {
+        check_bounds(&rt, rt.alloc(), *bounds, want, *principal, row);
     }
-    Ok(())
 }

@@ -3,14 +3,14 @@
 ghost use Rattle.std.specs.Prelude.{[], ◌∷◌};
 ghost use Rattle.candidate_ir.specs.Words.{KindFits, ConstKindFits, ListFits};
 
-use crate::calls::{VEC, declared};
+use crate::asserts::equals;
+use crate::samples::{OUT, VEC, adt, args, constant, declared, out_of_variable, ty};
 use candidate_ir::decl::context::Cx;
 use candidate_ir::ir::flags::TypeFlags;
 use candidate_ir::ir::kinds::{
-    AliasTy, AssocId, BoundVar, ConstKind, GenericArg, InferTy, Placeholder, RegionKind, TyKind,
+    BoundVar, ConstKind, GenericArg, InferTy, Placeholder, RegionKind, TyKind,
 };
-use candidate_ir::ir::stop::Stop;
-use std::test::Fail;
+use std::process::Abort;
 
 const NONE: TypeFlags = TypeFlags(0);
 
@@ -21,107 +21,117 @@ const PLACEHOLDER: Placeholder = Placeholder {
 
 const BOUND: BoundVar = BoundVar { depth: 0, index: 0 };
 
-/// The flags of the type of that kind.
-fn of_type(cx: &mut Cx, kind: TyKind) -> Result<TypeFlags, Stop>
+/// The type of that kind has these flags.
+fn check_type(rt: &impl Abort, cx: &mut Cx, kind: TyKind, want: TypeFlags)
     requires { KindFits cx.old.trees kind }
 {
-    let ty = cx.mk_ty(kind)?;
-    Ok(cx.flags(ty))
+    let ty = ty(rt, cx, kind);
+    equals(rt, &cx.flags(ty), &want, "a type");
 }
 
-/// The flags of a type with that argument alone.
-fn of_argument(cx: &mut Cx, argument: GenericArg) -> Result<TypeFlags, Stop>
+/// The type with that argument alone has these flags.
+fn check_argument(rt: &impl Abort, cx: &mut Cx, argument: GenericArg, want: TypeFlags)
     requires { ListFits cx.old.trees (argument ∷ []) }
 {
-    let args = cx.mk_args(&[argument])?;
-    of_type(cx, TyKind::Adt(VEC, args))
+    let ty = adt(rt, cx, VEC, &[argument]);
+    equals(rt, &cx.flags(ty), &want, "an argument");
 }
 
-/// The flags of a type with a constant of that kind.
-fn of_constant(cx: &mut Cx, kind: ConstKind) -> Result<TypeFlags, Stop>
+/// The type with a constant of that kind has these flags.
+fn check_constant(rt: &impl Abort, cx: &mut Cx, kind: ConstKind, want: TypeFlags)
     requires { ConstKindFits cx.old.trees kind }
 {
-    let constant = cx.mk_const(kind)?;
-    of_argument(cx, GenericArg::Const(constant))
+    let constant = constant(rt, cx, kind);
+    check_argument(rt, cx, GenericArg::Const(constant), want);
 }
 
-/// The flags of an associated type of a variable.
-fn of_projection(cx: &mut Cx) -> Result<TypeFlags, Stop> {
-    let variable = cx.mk_ty(TyKind::Infer(InferTy::TyVar(0)))?;
-    let args = cx.mk_args(&[GenericArg::Ty(variable)])?;
-    of_type(cx, TyKind::Alias(AliasTy::projection(AssocId(0), args)))
+/// The type with a region of that kind has these flags.
+fn check_region(rt: &impl Abort, cx: &mut Cx, kind: RegionKind, want: TypeFlags) {
+    let region = cx.mk_region(kind).expect(rt, "a region");
+    check_argument(rt, cx, GenericArg::Region(region), want);
 }
 
-#[test]
-fn says_what_stands_in_a_type(rt: HostRuntime) -> Result<(), Fail> {
-    let mut cx = declared(rt.alloc())?;
-    assert_eq!(rt; of_type(&mut cx, TyKind::Bool)?, NONE);
-    let of_variable = of_type(&mut cx, TyKind::Infer(InferTy::TyVar(0)))?;
-    assert_eq!(rt; of_variable, TypeFlags::HAS_TY_INFER);
-    let of_variable = of_type(&mut cx, TyKind::Infer(InferTy::IntVar(0)))?;
-    assert_eq!(rt; of_variable, TypeFlags::HAS_TY_INFER);
-    let of_placeholder = of_type(&mut cx, TyKind::Placeholder(PLACEHOLDER))?;
-    assert_eq!(rt; of_placeholder, TypeFlags::HAS_TY_PLACEHOLDER);
-    let of_bound = of_type(&mut cx, TyKind::Bound(BOUND))?;
-    assert_eq!(rt; of_bound, TypeFlags::HAS_TY_BOUND);
-    let of_param = of_type(&mut cx, TyKind::Param(0))?;
-    assert_eq!(rt; of_param, TypeFlags::HAS_PARAM);
-    let of_error = of_type(&mut cx, TyKind::Error)?;
-    assert_eq!(rt; of_error, TypeFlags::HAS_ERROR);
+fn check_types(rt: &impl Abort, cx: &mut Cx) {
+    check_type(rt, cx, TyKind::Bool, NONE);
+    check_type(
+        rt,
+        cx,
+        TyKind::Infer(InferTy::TyVar(0)),
+        TypeFlags::HAS_TY_INFER,
+    );
+    check_type(
+        rt,
+        cx,
+        TyKind::Infer(InferTy::IntVar(0)),
+        TypeFlags::HAS_TY_INFER,
+    );
+    check_type(
+        rt,
+        cx,
+        TyKind::Placeholder(PLACEHOLDER),
+        TypeFlags::HAS_TY_PLACEHOLDER,
+    );
+    check_type(rt, cx, TyKind::Bound(BOUND), TypeFlags::HAS_TY_BOUND);
+    check_type(rt, cx, TyKind::Param(0), TypeFlags::HAS_PARAM);
+    check_type(rt, cx, TyKind::Error, TypeFlags::HAS_ERROR);
+    let projection = out_of_variable(rt, cx);
     let both = TypeFlags::HAS_ALIAS | TypeFlags::HAS_TY_INFER;
-    assert_eq!(rt; of_projection(&mut cx)?, both);
-    Ok(())
+    equals(rt, &cx.flags(projection), &both, "an associated type");
 }
 
-#[test]
-fn says_what_stands_in_a_constant(rt: HostRuntime) -> Result<(), Fail> {
-    let mut cx = declared(rt.alloc())?;
-    assert_eq!(rt; of_constant(&mut cx, ConstKind::Value(7))?, NONE);
-    let of_param = of_constant(&mut cx, ConstKind::Param(0))?;
-    assert_eq!(rt; of_param, TypeFlags::HAS_PARAM);
-    let of_placeholder = of_constant(&mut cx, ConstKind::Placeholder(PLACEHOLDER))?;
-    assert_eq!(rt; of_placeholder, TypeFlags::HAS_CT_PLACEHOLDER);
-    let of_bound = of_constant(&mut cx, ConstKind::Bound(BOUND))?;
-    assert_eq!(rt; of_bound, TypeFlags::HAS_CT_BOUND);
-    let of_variable = of_constant(&mut cx, ConstKind::Infer(0))?;
-    assert_eq!(rt; of_variable, TypeFlags::HAS_CT_INFER);
-    let of_error = of_constant(&mut cx, ConstKind::Error)?;
-    assert_eq!(rt; of_error, TypeFlags::HAS_ERROR);
-    let args = cx.mk_args(&[])?;
-    let of_item = of_constant(&mut cx, ConstKind::Unevaluated(AssocId(0), args))?;
-    assert_eq!(rt; of_item, TypeFlags::HAS_ALIAS);
-    Ok(())
+fn check_constants(rt: &impl Abort, cx: &mut Cx) {
+    check_constant(rt, cx, ConstKind::Value(7), NONE);
+    check_constant(rt, cx, ConstKind::Param(0), TypeFlags::HAS_PARAM);
+    check_constant(
+        rt,
+        cx,
+        ConstKind::Placeholder(PLACEHOLDER),
+        TypeFlags::HAS_CT_PLACEHOLDER,
+    );
+    check_constant(rt, cx, ConstKind::Bound(BOUND), TypeFlags::HAS_CT_BOUND);
+    check_constant(rt, cx, ConstKind::Infer(0), TypeFlags::HAS_CT_INFER);
+    check_constant(rt, cx, ConstKind::Error, TypeFlags::HAS_ERROR);
+    let args = args(rt, cx, &[]);
+    check_constant(
+        rt,
+        cx,
+        ConstKind::Unevaluated(OUT, args),
+        TypeFlags::HAS_ALIAS,
+    );
 }
 
-/// Regions, and the flags of a type with them.
-const REGIONS: &[(RegionKind, TypeFlags)] = &[
-    (RegionKind::Static, NONE),
-    (RegionKind::Var(0), TypeFlags::HAS_RE_INFER),
-    (
+fn check_regions(rt: &impl Abort, cx: &mut Cx) {
+    check_region(rt, cx, RegionKind::Static, NONE);
+    check_region(rt, cx, RegionKind::Var(0), TypeFlags::HAS_RE_INFER);
+    check_region(
+        rt,
+        cx,
         RegionKind::Placeholder(PLACEHOLDER),
         TypeFlags::HAS_RE_PLACEHOLDER,
-    ),
-    (RegionKind::Bound(BOUND), TypeFlags::HAS_RE_BOUND),
-    (RegionKind::Error, TypeFlags::HAS_ERROR),
-];
+    );
+    check_region(rt, cx, RegionKind::Bound(BOUND), TypeFlags::HAS_RE_BOUND);
+    check_region(rt, cx, RegionKind::Error, TypeFlags::HAS_ERROR);
+}
 
 #[test]
-fn says_what_stands_in_a_region(rt: HostRuntime) -> Result<(), Fail> {
-    let mut cx = declared(rt.alloc())?;
-    for (kind, want) in REGIONS {
-        let region = cx.mk_region(*kind)?;
-        let flags = of_argument(&mut cx, GenericArg::Region(region))?;
-        assert_eq!(rt; flags, *want);
-    }
-    Ok(())
+fn says_what_stands_in_a_type(rt: HostRuntime) {
+    let mut cx = declared(&rt, rt.alloc());
+    check_types(&rt, &mut cx);
+    check_constants(&rt, &mut cx);
+    check_regions(&rt, &mut cx);
 }
 
 #[test]
 fn joins_the_flags_of_sorts(rt: HostRuntime) {
     let infer = TypeFlags::HAS_TY_INFER | TypeFlags::HAS_RE_INFER | TypeFlags::HAS_CT_INFER;
-    assert_eq!(rt; infer, TypeFlags::HAS_INFER);
+    equals(&rt, &infer, &TypeFlags::HAS_INFER, "variables");
     let placeholder = TypeFlags::HAS_TY_PLACEHOLDER
         | TypeFlags::HAS_RE_PLACEHOLDER
         | TypeFlags::HAS_CT_PLACEHOLDER;
-    assert_eq!(rt; placeholder, TypeFlags::HAS_PLACEHOLDER);
+    equals(
+        &rt,
+        &placeholder,
+        &TypeFlags::HAS_PLACEHOLDER,
+        "placeholders",
+    );
 }

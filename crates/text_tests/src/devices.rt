@@ -1,8 +1,10 @@
 //! Texts that are cut, and devices that fail.
 
+use crate::cases::{DECLARATIONS, check, declared, joined, repeated};
+use crate::memory::{run_on, run_with};
 use assembly_text::run::Status;
-use crate::memory::{declared, run_on, run_with};
-use std::test::Fail;
+use std::alloc::Global;
+use std::process::Abort;
 
 const QUERIES: &str =
     "orphan local Trait Pair Vec (0) Box LocalType\norphan local Trait Vec LocalType\n";
@@ -23,84 +25,106 @@ orphan local Trait Pair Vec (0) Box LocalType
 orphan local Trait Vec LocalType
 ";
 
-#[test]
-fn ends_wherever_the_text_is_cut(rt: HostRuntime) -> Result<(), Fail> {
-    let text = declared(rt.alloc(), QUERIES)?;
-    for text in [text.as_str(), STORED] {
-        for end in 0..text.len() {
-            let (status, _) = run_on(rt.alloc(), &text.as_bytes()[..end]);
-            assert!(rt; status != Status::DeviceFailed, "{end}");
-        }
+/// Cut after each byte, the text runs to an end that no device is blamed for.
+fn check_cuts(rt: &impl Abort, alloc: Global, text: &str) {
+    for end in 0..text.len() {
+        let (status, _) = run_on(alloc, &text.as_bytes()[..end]);
+        assert!(rt; status != Status::DeviceFailed, "{end}");
     }
-    Ok(())
 }
 
 #[test]
-fn answers_the_stored_run(rt: HostRuntime) -> Result<(), Fail> {
-    let (status, written) = run_on(rt.alloc(), STORED.as_bytes());
-    assert_eq!(rt; status, Status::Done);
+fn ends_wherever_the_text_is_cut(rt: HostRuntime) {
+    let text = declared(&rt, rt.alloc(), QUERIES);
+    check_cuts(&rt, rt.alloc(), text.as_str());
+    check_cuts(&rt, rt.alloc(), STORED);
+}
+
+#[test]
+fn answers_the_stored_run(rt: HostRuntime) {
     let want = "ok\nnonlocal (Vec LocalType, Yes)\n";
-    assert_eq!(rt; written.as_slice(), want.as_bytes());
-    Ok(())
+    check(&rt, rt.alloc(), STORED, Status::Done, want);
+}
+
+/// A failure is said where the reader fails at the call after so many, and nothing is written.
+fn check_reads(rt: &impl Abort, alloc: Global, text: &str, reads: usize) {
+    let (status, written) = run_with(alloc, text.as_bytes(), reads, usize::MAX);
+    assert_eq!(rt; status, Status::DeviceFailed, "{reads} reads");
+    assert!(rt; written.is_empty(), "{reads} reads");
+}
+
+/// Whether the run is done where the writer fails at the call after so many; else a failure is said. What was written
+/// is a beginning of the whole.
+fn check_writes(rt: &impl Abort, alloc: Global, text: &str, writes: usize, whole: &str) -> bool {
+    let (status, written) = run_with(alloc, text.as_bytes(), usize::MAX, writes);
+    assert!(rt;
+        whole.as_bytes().starts_with(written.as_slice()),
+        "{writes} writes"
+    );
+    if status == Status::Done {
+        assert!(rt; whole.len() < writes.saturating_mul(5), "{writes} writes");
+        return true;
+    }
+    assert_eq!(rt; status, Status::DeviceFailed, "{writes} writes");
+    false
 }
 
 #[test]
-fn says_that_a_device_failed(rt: HostRuntime) -> Result<(), Fail> {
-    let text = declared(rt.alloc(), QUERIES)?;
-    let (status, whole) = run_on(rt.alloc(), text.as_bytes());
-    assert_eq!(rt; status, Status::Done);
+fn says_that_the_reader_failed(rt: HostRuntime) {
+    let text = declared(&rt, rt.alloc(), QUERIES);
     for reads in 0..text.len().div_ceil(50) + 1 {
-        let (status, written) = run_with(rt.alloc(), text.as_bytes(), reads, usize::MAX);
-        assert_eq!(rt; status, Status::DeviceFailed, "{reads} reads");
-        assert!(rt; written.is_empty(), "{reads} reads");
+        check_reads(&rt, rt.alloc(), text.as_str(), reads);
     }
-    for writes in 0..100 {
-        let (status, written) = run_with(rt.alloc(), text.as_bytes(), usize::MAX, writes);
-        assert!(rt;
-            whole.as_slice().starts_with(written.as_slice()),
-            "{writes} writes"
-        );
-        if status == Status::Done {
-            assert!(rt; whole.len() < 5 * writes, "{writes} writes");
-            return Ok(());
-        }
-        assert_eq!(rt; status, Status::DeviceFailed, "{writes} writes");
-    }
-    assert!(rt; false, "a hundred writes are too few");
-    Ok(())
 }
 
-/// How many answers are asked for where one buffer is not to hold them.
-const MANY: usize = 400;
+#[test]
+fn says_that_the_writer_failed(rt: HostRuntime) {
+    let text = declared(&rt, rt.alloc(), QUERIES);
+    let whole = "ok\nnonlocal (Vec LocalType, Yes)\n";
+    check(&rt, rt.alloc(), text.as_str(), Status::Done, whole);
+    let done = (0..100).any(|writes| check_writes(&rt, rt.alloc(), text.as_str(), writes, whole));
+    assert!(rt; done, "a hundred writes are too few");
+}
 
-/// After how many calls the output fails, before that buffer is full, while it is written, and later.
+/// After how many calls the output fails, before a buffer is full, while it is written, and later.
 const WRITES: &[usize] = &[0, 1, 1000, 1637, 1638, 1639, 2000, 2405];
 
+/// The writer fails at the call after so many, of five bytes each, and what was written is a beginning of the whole.
+fn check_beginning(rt: &impl Abort, alloc: Global, text: &str, writes: usize, whole: &str) {
+    let (status, written) = run_with(alloc, text.as_bytes(), usize::MAX, writes);
+    assert_eq!(rt; status, Status::DeviceFailed, "{writes} writes");
+    assert!(rt;
+        whole.as_bytes().starts_with(written.as_slice()),
+        "{writes} writes"
+    );
+    let count = whole.len().min(writes.saturating_mul(5));
+    assert_eq!(rt; written.len(), count, "{writes} writes");
+}
+
 #[test]
-fn writes_the_answers_before_a_fault(rt: HostRuntime) -> Result<(), Fail> {
-    let mut text = declared(rt.alloc(), "")?;
-    let mut want = String::new(rt.alloc());
-    for _ in 0..MANY {
-        text.push_str("orphan local Trait Vec LocalType\n")?;
-        want.push_str("nonlocal (Vec LocalType, Yes)\n")?;
-    }
-    text.push_str("foo\n")?;
-    want.push_str("line 413: unknown word\n")?;
-    let (status, written) = run_on(rt.alloc(), text.as_bytes());
-    assert_eq!(rt; status, Status::BadLine);
-    assert_eq!(rt; written.as_slice(), want.as_bytes());
+fn writes_the_answers_before_a_fault(rt: HostRuntime) {
+    let asked = repeated(
+        &rt,
+        rt.alloc(),
+        DECLARATIONS,
+        "orphan local Trait Vec LocalType\n",
+        400,
+    );
+    let text = joined(&rt, rt.alloc(), &[asked.as_str(), "foo\n"]);
+    let answered = repeated(&rt, rt.alloc(), "", "nonlocal (Vec LocalType, Yes)\n", 400);
+    let whole = joined(
+        &rt,
+        rt.alloc(),
+        &[answered.as_str(), "line 413: unknown word\n"],
+    );
+    check(
+        &rt,
+        rt.alloc(),
+        text.as_str(),
+        Status::BadLine,
+        whole.as_str(),
+    );
     for writes in WRITES {
-        let (status, written) = run_with(rt.alloc(), text.as_bytes(), usize::MAX, *writes);
-        assert_eq!(rt; status, Status::DeviceFailed, "{writes} writes");
-        assert!(rt;
-            want.as_bytes().starts_with(written.as_slice()),
-            "{writes} writes"
-        );
-        assert_eq!(rt;
-            written.len(),
-            want.len().min(writes.saturating_mul(5)),
-            "{writes} writes"
-        );
+        check_beginning(&rt, rt.alloc(), text.as_str(), *writes, whole.as_str());
     }
-    Ok(())
 }

@@ -1,24 +1,9 @@
 //! A reader and a writer in memory, and runs with them.
 
 use assembly_text::run::{Status, run_text};
-use std::alloc::{AllocError, Global};
+use std::alloc::Global;
 use std::io;
 use std::io::{ErrorKind, Read, Write};
-
-/// The declarations over which most queries are asked.
-pub const DECLARATIONS: &str = "adt 1 Vec 1
-adt 1 Box 1 fundamental
-adt 1 Pair 2 fundamental
-adt 1 Unit0 0 fundamental
-adt 0 LocalType 0
-adt 0 Wrap 1
-trait 1 Trait 0
-trait 1 Trait1 1
-trait 1 Trait2 2
-trait 0 LocalTrait 0
-trait 1 Tr 0
-assoc Tr Out
-";
 
 /// Gives a few bytes a call, and fails at the call after so many.
 #[derive(Drop)]
@@ -87,11 +72,4 @@ pub fn run_with(alloc: Global, text: &[u8], reads: usize, writes: usize) -> (Sta
 /// The status of a run over the text, and what it writes.
 pub fn run_on(alloc: Global, text: &[u8]) -> (Status, Vec<u8>) {
     run_with(alloc, text, usize::MAX, usize::MAX)
-}
-
-/// The declarations, and then these lines.
-pub fn declared(alloc: Global, lines: &str) -> Result<String, AllocError> {
-    let mut text = String::from_str(alloc, DECLARATIONS)?;
-    text.push_str(lines)?;
-    Ok(text)
 }

@@ -1,8 +1,8 @@
 use Rattle.candidate_ir.proofs.Made.{IsConst-grows}
 use Rattle.library_tests.proofs.contexts.array.Goals as goal
 
-pub mk_ty-requires-2 : goal.mk_ty-requires-2
-mk_ty-requires-2 c =
-    let length = IsConst-grows _ _ c.in_ok-length.length c.mk_ty.ensures.kept c.in_ok-length.ensures.sort in
-    let byte = c.in_ok-byte.ensures.sort in
+pub ty-requires : goal.ty-requires
+ty-requires g c =
+    let length = IsConst-grows _ _ c.constant-length.result c.ty-byte.ensures.grows c.constant-length.ensures.sort in
+    let byte = c.ty-byte.ensures.sort in
     cc

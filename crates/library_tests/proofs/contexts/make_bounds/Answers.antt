@@ -2,28 +2,28 @@ use Rattle.candidate_ir.proofs.Kept.{grows-trans}
 use Rattle.candidate_ir.proofs.Made.{IsTy-grows, IsArgs-grows, BoundsFit-single, BoundsFit-pair}
 use Rattle.library_tests.proofs.contexts.make_bounds.Goals as goal
 
-pub mk_preds-requires-in-Principal-clause-fit : goal.mk_preds-requires-in-Principal-clause-fit
-mk_preds-requires-in-Principal-clause-fit c =
-    let vars = c.in_ok-vars.ensures.sort in
-    let args = IsArgs-grows _ _ c.in_ok-args.args c.mk_vars.ensures.kept c.in_ok-args.ensures.sort in
+pub preds-requires-in-Principal-clause-fit : goal.preds-requires-in-Principal-clause-fit
+preds-requires-in-Principal-clause-fit g c =
+    let vars = c.variables-vars.ensures.sort in
+    let args = IsArgs-grows _ _ c.args-args.result c.variables-vars.ensures.grows c.args-args.ensures.sort in
     BoundsFit-single _ _ cc
 
-pub mk_preds-requires-in-AutoThenPrincipal-clause-fit : goal.mk_preds-requires-in-AutoThenPrincipal-clause-fit
-mk_preds-requires-in-AutoThenPrincipal-clause-fit c =
-    let vars = c.in_ok-vars.ensures.sort in
-    let args = IsArgs-grows _ _ c.in_ok-args.args c.mk_vars.ensures.kept c.in_ok-args.ensures.sort in
+pub preds-requires-in-AutoThenPrincipal-clause-fit : goal.preds-requires-in-AutoThenPrincipal-clause-fit
+preds-requires-in-AutoThenPrincipal-clause-fit g c =
+    let vars = c.variables-vars.ensures.sort in
+    let args = IsArgs-grows _ _ c.args-args.result c.variables-vars.ensures.grows c.args-args.ensures.sort in
     BoundsFit-pair _ _ _ (cc) (cc)
 
-pub mk_preds-requires-in-PrincipalThenAuto-clause-fit : goal.mk_preds-requires-in-PrincipalThenAuto-clause-fit
-mk_preds-requires-in-PrincipalThenAuto-clause-fit c =
-    let vars = c.in_ok-vars.ensures.sort in
-    let args = IsArgs-grows _ _ c.in_ok-args.args c.mk_vars.ensures.kept c.in_ok-args.ensures.sort in
+pub preds-requires-in-PrincipalThenAuto-clause-fit : goal.preds-requires-in-PrincipalThenAuto-clause-fit
+preds-requires-in-PrincipalThenAuto-clause-fit g c =
+    let vars = c.variables-vars.ensures.sort in
+    let args = IsArgs-grows _ _ c.args-args.result c.variables-vars.ensures.grows c.args-args.ensures.sort in
     BoundsFit-pair _ _ _ (cc) (cc)
 
-pub mk_preds-requires-in-AutoThenProjection-clause-fit : goal.mk_preds-requires-in-AutoThenProjection-clause-fit
-mk_preds-requires-in-AutoThenProjection-clause-fit c =
-    let vars = c.in_ok-vars.ensures.sort in
-    let args = IsArgs-grows _ _ c.in_ok-args.args c.mk_vars.ensures.kept c.in_ok-args.ensures.sort in
-    let kept = grows-trans _ _ _ c.mk_args.ensures.kept c.mk_vars.ensures.kept in
-    let term = IsTy-grows _ _ c.in_ok-term.term kept c.in_ok-term.ensures.sort in
+pub preds-requires-in-AutoThenProjection-clause-fit : goal.preds-requires-in-AutoThenProjection-clause-fit
+preds-requires-in-AutoThenProjection-clause-fit g c =
+    let vars = c.variables-vars.ensures.sort in
+    let args = IsArgs-grows _ _ c.args-args.result c.variables-vars.ensures.grows c.args-args.ensures.sort in
+    let kept = grows-trans _ _ _ c.args-args.ensures.grows c.variables-vars.ensures.grows in
+    let term = IsTy-grows _ _ c.ty-term.result kept c.ty-term.ensures.sort in
     BoundsFit-pair _ _ _ (cc) (cc)

@@ -1,5 +1,5 @@
 use Rattle.candidate_ir.proofs.Made.{IsTy-grows}
-use Rattle.library_tests.proofs.calls.reference.Goals as goal
+use Rattle.library_tests.proofs.checks.reference.Goals as goal
 
 pub mk_ty-requires : goal.mk_ty-requires
 mk_ty-requires g c =

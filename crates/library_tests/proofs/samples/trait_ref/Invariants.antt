@@ -2,12 +2,12 @@ use Rattle.std.proofs.Common.{List}
 use Rattle.candidate_ir.specs.Context.{Context, Grows}
 use Rattle.candidate_ir.specs.declared.ir.kinds.GenericArg.{GenericArg}
 use Rattle.candidate_ir.specs.Words.{ListFits}
-use Rattle.library_tests.proofs.calls.trait_ref.Given as goal
+use Rattle.library_tests.proofs.samples.trait_ref.Given as goal
 
 -- the types have grown since the call, and the list has types of them
 pub record IsMade (old : Context) (new : Context) (list : List GenericArg) : Type 0 where
   pub grows : Grows old new
   pub fits : ListFits new.trees list
 
-abbrev pub invariant-loop-ty : goal.invariant-loop-ty
-invariant-loop-ty g l = IsMade (g.M.Make.context l.fn.maker) (g.M.Make.context l.maker) l.list.items
+abbrev pub invariant-loop-name : goal.invariant-loop-name
+invariant-loop-name g l = IsMade l.fn.cx l.cx l.list.items

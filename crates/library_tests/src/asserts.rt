@@ -1,0 +1,23 @@
+//! What the tests assert by.
+
+ghost use Rattle.std.specs.Prelude.{◌≡◌, true};
+
+use std::fmt::Debug;
+use std::process::Abort;
+
+/// Two values have to be equal, in the place that the label names.
+pub fn equals<T: PartialEq + Debug>(rt: &impl Abort, got: &T, want: &T, label: &str) {
+    assert_eq!(rt; got, want, "{label}");
+}
+
+/// The same, in the row of a table.
+pub fn equals_in_row<T: PartialEq + Debug>(rt: &impl Abort, got: &T, want: &T, row: usize) {
+    assert_eq!(rt; got, want, "row {row}");
+}
+
+/// The condition has to hold.
+pub fn holds(rt: &impl Abort, condition: bool, label: &str)
+    ensures { condition ≡ true }
+{
+    assert!(rt; condition, "{label}");
+}

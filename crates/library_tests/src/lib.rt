@@ -1,0 +1,19 @@
+//! Tests of the two libraries by their calls.
+#![tactic(auto)]
+
+#[cfg(test)]
+mod asserts;
+#[cfg(test)]
+mod builders;
+#[cfg(test)]
+mod checks;
+#[cfg(test)]
+mod contexts;
+#[cfg(test)]
+mod flags;
+#[cfg(test)]
+mod kinds;
+#[cfg(test)]
+mod samples;
+#[cfg(test)]
+mod values;

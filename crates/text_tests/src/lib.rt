@@ -1,0 +1,13 @@
+//! Tests of the program's text: answers, bad lines, texts that are cut, devices that fail.
+#![tactic(auto)]
+
+#[cfg(test)]
+mod answers;
+#[cfg(test)]
+mod bad_lines;
+#[cfg(test)]
+mod cases;
+#[cfg(test)]
+mod devices;
+#[cfg(test)]
+mod memory;
