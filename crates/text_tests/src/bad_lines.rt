@@ -2,6 +2,8 @@
 
 use crate::cases::{DECLARATIONS, check, check_bytes, check_rows, declared, joined, repeated};
 use assembly_text::run::Status;
+use std::alloc::Global;
+use std::process::Abort;
 
 /// Whole texts, and what they print.
 const TEXTS: &str = "\
@@ -100,16 +102,6 @@ knowable Vec => line 13: unknown name Vec
 knowable Trait #0 => line 13: parameter
 knowable Trait u8 u8 => line 13: long line";
 
-/// How many words `&` come before the last words, which stand on line 13, and what is printed.
-const DEPTHS: &[(usize, &str, &str)] = &[
-    (1024, "", "line 13: short line\n"),
-    (1024, "u8", "line 13: stop 6\n"),
-    (1024, "Nope", "line 13: stop 6\n"),
-    (1023, "Nope", "line 13: unknown name Nope\n"),
-    (1023, "dyn(1) Trait1 u8", "line 13: stop 6\n"),
-    (1023, "Out u8", "line 13: stop 6\n"),
-];
-
 #[test]
 fn says_which_bytes_are_bad(rt: HostRuntime) {
     for (text, want) in [
@@ -137,14 +129,34 @@ fn says_what_is_wrong_with_a_query(rt: HostRuntime) {
     check_rows(&rt, rt.alloc(), DECLARATIONS, QUERIES, Status::BadLine);
 }
 
+/// A query on line 13 of so many words `&` and then the last words.
+fn check_depth(rt: &impl Abort, alloc: Global, references: usize, last: &str, want: &str) {
+    let before = declared(rt, alloc, "orphan local Trait");
+    let chain = repeated(rt, alloc, before.as_str(), " &", references);
+    let text = joined(rt, alloc, &[chain.as_str(), " ", last]);
+    check(rt, alloc, text.as_str(), Status::BadLine, want);
+}
+
 #[test]
 fn looks_at_depth_before_the_word(rt: HostRuntime) {
-    for (references, last, want) in DEPTHS {
-        let before = declared(&rt, rt.alloc(), "orphan local Trait");
-        let chain = repeated(&rt, rt.alloc(), before.as_str(), " &", *references);
-        let text = joined(&rt, rt.alloc(), &[chain.as_str(), " ", last]);
-        check(&rt, rt.alloc(), text.as_str(), Status::BadLine, want);
-    }
+    check_depth(&rt, rt.alloc(), 1024, "", "line 13: short line\n");
+    check_depth(&rt, rt.alloc(), 1024, "u8", "line 13: stop 6\n");
+    check_depth(&rt, rt.alloc(), 1024, "Nope", "line 13: stop 6\n");
+    check_depth(
+        &rt,
+        rt.alloc(),
+        1023,
+        "Nope",
+        "line 13: unknown name Nope\n",
+    );
+    check_depth(
+        &rt,
+        rt.alloc(),
+        1023,
+        "dyn(1) Trait1 u8",
+        "line 13: stop 6\n",
+    );
+    check_depth(&rt, rt.alloc(), 1023, "Out u8", "line 13: stop 6\n");
 }
 
 #[test]

@@ -1,0 +1,105 @@
+#!/usr/bin/env python3
+"""Runs the gate, `rt ci`, and says of each of its steps how long it took.
+
+`python3 bench/gate.py` prints what `rt ci` prints, behind each step that ended its minutes on the clock and of the
+processors, then all steps, and last the line that `rt ci` ends with; the status is that of `rt ci`. A step is the proof of
+a crate, of its tests, or all its must-fail edits. Its time is read off the processes that work on it, once a second, so it
+is right to a second or two.
+"""
+
+import os
+import re
+import resource
+import subprocess
+import sys
+import threading
+import time
+
+ROOT = os.path.dirname(os.path.dirname(os.path.abspath(__file__)))
+TICKS = os.sysconf("SC_CLK_TCK")
+
+
+def minutes(seconds):
+    return "%d:%02d" % divmod(round(seconds), 60)
+
+
+def text_of(path):
+    try:
+        with open(path, "rb") as file:
+            return file.read().decode(errors="replace")
+    except OSError:
+        return ""
+
+
+def step_of(pid):
+    """The crate and the part of the gate that a process works on, if its command names them."""
+    words = text_of(f"/proc/{pid}/cmdline").split("\0")
+    if "--crate-name" not in words[:-1]:
+        return None
+    crate = words[words.index("--crate-name") + 1]
+    try:
+        is_edit = os.path.basename(os.readlink(f"/proc/{pid}/cwd")).startswith("rt-edit-")
+    except OSError:
+        is_edit = False
+    return crate, "edits" if is_edit else "tests" if "--test" in words else "proof"
+
+
+class Watch(threading.Thread):
+    """Reads once a second what the processes below this one have used."""
+
+    def __init__(self):
+        super().__init__(daemon=True)
+        self.used = {}
+        self.spans = {}
+        self.done = threading.Event()
+
+    def run(self):
+        while not self.done.wait(1):
+            self.look()
+
+    def look(self):
+        now, below = time.monotonic(), {os.getpid()}
+        parents = {}
+        for name in filter(str.isdigit, os.listdir("/proc")):
+            fields = text_of(f"/proc/{name}/stat").rpartition(")")[2].split()
+            if len(fields) > 19:
+                parents[int(name)] = int(fields[1]), (int(fields[11]) + int(fields[12])) / TICKS, fields[19]
+        for pid in sorted(parents):
+            if parents[pid][0] in below:
+                below.add(pid)
+                step = step_of(pid)
+                if step:
+                    self.used[step, pid, parents[pid][2]] = parents[pid][1]
+                    first, _ = self.spans.get(step, (now, now))
+                    self.spans[step] = first, now
+
+    def time_of(self, step):
+        first, last = self.spans.get(step, (0, 0))
+        used = sum(time for (of, _, _), time in self.used.copy().items() if of == step)
+        return f"{minutes(last - first)} min, {minutes(used)} of the processors"
+
+
+def main():
+    start, watch, held = time.monotonic(), Watch(), ""
+    watch.start()
+    gate = subprocess.Popen(["rt", "ci"], cwd=ROOT, stdout=subprocess.PIPE, text=True, errors="replace")
+    for line in gate.stdout:
+        print(held, end="", flush=True)
+        ended = re.fullmatch(r"rt: (\w+?)(: its tests)? (proved|NOT PROVED)\n", line)
+        if ended:
+            watch.look()
+            step = ended[1], "tests" if ended[2] else "proof"
+            line = f"{line.rstrip()} ({watch.time_of(step)})\n"
+        held = line
+    status = gate.wait()
+    watch.done.set()
+    for crate, part in sorted(watch.spans):
+        print(f"gate: {crate}, {part}: {watch.time_of((crate, part))}")
+    spent = resource.getrusage(resource.RUSAGE_CHILDREN)
+    print(f"gate: all: {minutes(time.monotonic() - start)} min, {minutes(spent.ru_utime + spent.ru_stime)} of the processors")
+    print(held, end="", flush=True)
+    return status
+
+
+if __name__ == "__main__":
+    sys.exit(main())
