@@ -16,4 +16,6 @@ mod kinds;
 #[cfg(test)]
 mod samples;
 #[cfg(test)]
+mod texts;
+#[cfg(test)]
 mod values;

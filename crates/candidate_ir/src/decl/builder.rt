@@ -11,6 +11,7 @@ use crate::decl::definition::{
 use crate::ir::kinds::{AdtId, AssocId, ForeignId, TraitId, VarKind};
 use crate::ir::nodes::Nodes;
 use std::alloc::{AllocError, AllocFailed, Global};
+use std::fmt;
 use std::marker::Model;
 
 /// Why declarations were refused. `fault as u8` is its number, and of several faults the lowest is
@@ -46,6 +47,26 @@ impl<T: Drop> From<AllocFailed<T>> for DeclFault {
 
     fn from(_: AllocFailed<T>) -> Self {
         DeclFault::Memory
+    }
+}
+
+impl DeclFault {
+    fn text(self) -> &'static str {
+        match self {
+            DeclFault::UnknownId => "a number is named that was never given",
+            DeclFault::WrongArity => "arguments or parameters don't fit a definition",
+            DeclFault::WrongKind => "something of another kind is asked for",
+            DeclFault::SupertraitCycle => "a trait is its own supertrait",
+            DeclFault::NoTail => "a type with unsizing parameters has no last field",
+            DeclFault::LangArity => "a lang item's trait has the wrong parameters",
+            DeclFault::Memory => "a growth was refused",
+        }
+    }
+}
+
+impl fmt::Display for DeclFault {
+    fn fmt<W: fmt::Write>(&self, f: &mut fmt::Formatter<W>) -> fmt::Result {
+        f.write_str(self.text())
     }
 }
 

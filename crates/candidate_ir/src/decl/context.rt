@@ -253,6 +253,14 @@ impl Cx {
         self.nodes.has(ty, flag)
     }
 
+    /// Whether a head with the flag's mark stands anywhere in the list.
+    pub fn args_have(&self, args: Args, flag: Flag) -> bool
+        requires { IsArgs self.now.trees args }
+        ensures { result ≡ holds (mark flag) (args_forest self.now.trees args) }
+    {
+        self.nodes.args_have(args, flag)
+    }
+
     /// Whether a parameter stands anywhere in the reference.
     pub fn has_param(&self, trait_ref: TraitRef) -> bool
         requires { IsArgs self.now.trees trait_ref.args }

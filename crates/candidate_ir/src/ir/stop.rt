@@ -4,6 +4,7 @@ ghost use Rattle.std.specs.Prelude.{◌≡◌};
 ghost use Rattle.candidate_ir.specs.declared.ir.stop.Stop.TheVariants.{Memory};
 
 use std::alloc::{AllocError, AllocFailed};
+use std::fmt;
 
 /// Why a call gave up; it is never an answer.
 ///
@@ -39,5 +40,25 @@ impl<T: Drop> From<AllocFailed<T>> for Stop {
 
     fn from(_: AllocFailed<T>) -> Self {
         Stop::Memory
+    }
+}
+
+impl Stop {
+    fn text(self) -> &'static str {
+        match self {
+            Stop::Memory => "a growth was refused",
+            Stop::WalkDepth => "the orphan walk is nested too deep",
+            Stop::AliasDepth => "an alias chain is too long",
+            Stop::ConstDepth => "constants are nested too deep",
+            Stop::Unnameable => "a type that no header names came to the orphan walk",
+            Stop::NodesFull => "no number is left, or a tree is too high",
+            Stop::EvaluatorLimit => "the evaluator's own limit is reached",
+        }
+    }
+}
+
+impl fmt::Display for Stop {
+    fn fmt<W: fmt::Write>(&self, f: &mut fmt::Formatter<W>) -> fmt::Result {
+        f.write_str(self.text())
     }
 }

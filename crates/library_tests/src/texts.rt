@@ -1,0 +1,61 @@
+//! What stops and faults print.
+
+use crate::asserts::equals;
+use candidate_ir::decl::builder::DeclFault;
+use candidate_ir::ir::stop::Stop;
+use std::alloc::Global;
+use std::fmt::Display;
+use std::process::Abort;
+
+fn check_text<T: Display>(rt: &impl Abort, alloc: Global, value: &T, want: &str) {
+    let text = format!(in alloc; "{value}").expect(rt, "memory");
+    equals(rt, &text.as_str(), &want, "a text");
+}
+
+#[test]
+fn stops_have_a_text(rt: HostRuntime) {
+    for (stop, want) in [
+        (Stop::Memory, "a growth was refused"),
+        (Stop::WalkDepth, "the orphan walk is nested too deep"),
+        (Stop::AliasDepth, "an alias chain is too long"),
+        (Stop::ConstDepth, "constants are nested too deep"),
+        (
+            Stop::Unnameable,
+            "a type that no header names came to the orphan walk",
+        ),
+        (Stop::NodesFull, "no number is left, or a tree is too high"),
+        (Stop::EvaluatorLimit, "the evaluator's own limit is reached"),
+    ] {
+        check_text(&rt, rt.alloc(), &stop, want);
+    }
+}
+
+#[test]
+fn faults_have_a_text(rt: HostRuntime) {
+    for (fault, want) in [
+        (
+            DeclFault::UnknownId,
+            "a number is named that was never given",
+        ),
+        (
+            DeclFault::WrongArity,
+            "arguments or parameters don't fit a definition",
+        ),
+        (
+            DeclFault::WrongKind,
+            "something of another kind is asked for",
+        ),
+        (DeclFault::SupertraitCycle, "a trait is its own supertrait"),
+        (
+            DeclFault::NoTail,
+            "a type with unsizing parameters has no last field",
+        ),
+        (
+            DeclFault::LangArity,
+            "a lang item's trait has the wrong parameters",
+        ),
+        (DeclFault::Memory, "a growth was refused"),
+    ] {
+        check_text(&rt, rt.alloc(), &fault, want);
+    }
+}
