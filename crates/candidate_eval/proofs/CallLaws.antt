@@ -4,7 +4,6 @@ use Rattle.std.specs.Fn.{Mut}
 use Rattle.std.specs.Borrow.{MutBor}
 use Rattle.candidate_ir.specs.declared.ir.kinds.TraitRef.{TraitRef}
 use Rattle.candidate_ir.specs.declared.ir.kinds.Ty.{Ty}
-use Rattle.candidate_ir.specs.declared.ir.stop.Stop.{Stop}
 use Rattle.candidate_ir.specs.Context.{Context, world}
 use Rattle.candidate_ir.specs.References.{reference_of}
 use Rattle.candidate_ir.specs.Trees.{Tree, holds, is_alias}
@@ -13,15 +12,14 @@ use Rattle.candidate_ir.specs.Worlds.{World, Reference, IsOf}
 use Rattle.candidate_eval.specs.declared.coherence.Conflict.TheVariants as K
 use Rattle.candidate_eval.specs.declared.coherence.NormalizeErr.{NormalizeErr}
 use Rattle.candidate_eval.specs.declared.coherence.OrphanStop.{OrphanStop}
-use Rattle.candidate_eval.specs.declared.coherence.OrphanStop.TheVariants as O
-use Rattle.candidate_eval.specs.Answers.{CheckResult, answer_of, OutOfMemory, IsAnswer, KnownResult, knowledge_of}
+use Rattle.candidate_eval.specs.Answers.{CheckResult, answer_of, IsAnswer, KnownResult, knowledge_of}
 use Rattle.candidate_eval.specs.Calls.{depth_limit, check_of, check_where, IsChecked, IsKnown, HasNoAlias, HasNoAliasOrError, IsOfForeignTrait, IsDecidedByGeneralHere, NoForeignHeaderHere, NoUnnamedHeaderHere, NoCoveredHeaderHere, HasDownstreamHere}
 use Rattle.candidate_eval.specs.Laws.{AreResolved, IsPlainCall, NoForeignHeader, NoUnnamedHeader, NoCoveredHeader, IsDecidedByGeneral, HasDownstream}
-use Rattle.candidate_eval.specs.Normalizer.{IsFunction, IsLeftByCalls, IsChangedByCalls, HasCause, StopHasCause}
+use Rattle.candidate_eval.specs.Normalizer.{Untold, AnyStop, IsTold, StopsWith, IsFunction, IsLeftByCalls, IsChangedByCalls}
 use Rattle.candidate_eval.specs.Orphan.{InCrate, Local, Remote, Proper, Compat, View, view, plain, orphan_answer, Passes, knowability, Knowability, Knowable, Downstream, local_or_fundamental, plain_knowability, bare_answer, bare_knowledge, IsPlainForest}
-use Rattle.candidate_eval.proofs.Calls.{left-same}
 use Rattle.candidate_eval.proofs.CheckLaws.{compat-passes, any-local}
 use Rattle.candidate_eval.proofs.Lowering.{plain_answer, plain_knowledge}
+use Rattle.candidate_eval.proofs.OrphanLaws.{proper_then_compat, remote_law, first_input_law}
 use Rattle.candidate_eval.proofs.Newcomer.{downstream_world}
 use Rattle.candidate_eval.proofs.Safety.{link_safety, own_header, open_world, covered_world}
 
@@ -59,50 +57,42 @@ module _ {C F E : Type 0} {context : C → Context} {resolve : C → Tree → Tr
     pub no_foreign_header_said : IsPlainCall context resolve g f c r → HasNoAliasOrError (context c) r → m ≡ Local Proper → result ≡ Ok (Ok tt) → NoForeignHeaderHere (context c) r
     no_foreign_header_said p ok e passes =
         no-foreign-header (world (context c)) (context c).local.0 depth_limit (λ (s : F × C) t. resolve s.1 t) (f, c) (reference_of (context c).trees r) p.of_world p.resolved m e ok
-        (ap (λ x. x.answer) (said.at plain p.normaliser (λ x. cc)) ∙ ap (answer_of (context c').trees) passes)
+        (ap (λ x. x.answer) (said.at AnyStop plain p.normaliser (λ s u x. cc)) ∙ ap (answer_of (context c').trees) passes)
 
-    pub proper_passes_compat_said : (normal : View (F × C) E) → IsFunction context g f c normal → m ≡ Local Proper → result ≡ Ok (Ok tt)
+    pub proper_passes_compat_said : (u : Untold) (normal : View (F × C) E) → IsFunction context g u f c normal → m ≡ Local Proper → result ≡ Ok (Ok tt)
         → (check_of context resolve normal (Local Compat) (f, c) r).answer ≡ Passes
-    proper_passes_compat_said normal h e passes =
+    proper_passes_compat_said u normal h e passes =
         compat-passes (world (context c)) (context c).local.0 depth_limit (seen resolve normal) (f, c) (args_forest (context c).trees r.args) m e
-        (ap (λ x. x.answer) (said.at normal h (λ x. cc)) ∙ ap (answer_of (context c').trees) passes)
+        (ap (λ x. x.answer) (said.at u normal h (λ s v x. cc)) ∙ ap (answer_of (context c').trees) passes)
 
-    pub remote_said : (normal : View (F × C) E) → IsFunction context g f c normal → m ≡ Remote → (OutOfMemory result → ⊥) → (local : ℕ)
+    pub remote_said : (u : Untold) (normal : View (F × C) E) → IsFunction context g u f c normal → m ≡ Remote → IsTold u result → (local : ℕ)
         → IsAnswer (context c').trees result c' (check_where context resolve normal local Remote (f, c) r)
-    remote_said normal h e ne local =
-        let k = any-local (world (context c)) (context c).local.0 depth_limit (seen resolve normal) (f, c) (args_forest (context c).trees r.args) m e local ∙ said.at normal h ne in
+    remote_said u normal h e told local =
+        let k = any-local (world (context c)) (context c).local.0 depth_limit (seen resolve normal) (f, c) (args_forest (context c).trees r.args) m e local ∙ said.at u normal h told in
         record { answer = ap (λ x. x.answer) k; leaves = ap (λ x. x.after.1) k }
 
   module _ {result : KnownResult E} (said : IsKnown context resolve g f c r result f' c') (p : IsPlainCall context resolve g f c r) where
     pub no_unnamed_header_said : HasNoAlias (context c) r → result ≡ Ok (Ok tt) → NoUnnamedHeaderHere (context c) r
     no_unnamed_header_said ok known =
         no-unnamed-header (world (context c)) (context c).local.0 depth_limit (λ (s : F × C) t. resolve s.1 t) (f, c) (reference_of (context c).trees r) p.of_world p.resolved ok
-        ((said.at plain p.normaliser (λ x. cc)).answer ∙ ap knowledge_of known)
+        ((said.at AnyStop plain p.normaliser (λ s u x. cc)).answer ∙ ap knowledge_of known)
 
     pub no_covered_header_said : HasNoAlias (context c) r → result ≡ Ok (Ok tt) → IsOfForeignTrait (context c) r → NoCoveredHeaderHere (context c) r
     no_covered_header_said ok known foreign =
         no-covered-header (world (context c)) (context c).local.0 depth_limit (λ (s : F × C) t. resolve s.1 t) (f, c) (reference_of (context c).trees r) p.of_world p.resolved ok
-        ((said.at plain p.normaliser (λ x. cc)).answer ∙ ap knowledge_of known) foreign
+        ((said.at AnyStop plain p.normaliser (λ s u x. cc)).answer ∙ ap knowledge_of known) foreign
 
     pub downstream_header_said : HasNoAliasOrError (context c) r → result ≡ Ok (Err K.Downstream) → IsDecidedByGeneralHere (context c) r
         → HasDownstreamHere (context c) r
     downstream_header_said ok known decided =
         downstream-header (world (context c)) (context c).local.0 depth_limit (λ (s : F × C) t. resolve s.1 t) (f, c) (reference_of (context c).trees r) p.of_world p.resolved ok
-        ((said.at plain p.normaliser (λ x. cc)).answer ∙ ap knowledge_of known) decided
+        ((said.at AnyStop plain p.normaliser (λ s u x. cc)).answer ∙ ap knowledge_of known) decided
 
-module _ {C F E : Type 0} {context : C → Context} {g : Mut F (MutBor C × (Ty × Unit {0})) (Result Ty (NormalizeErr E) × (MutBor C × Unit {0}))} {f : F} {c : C} where
-  pub changed_by_none : IsChangedByCalls context g f c c
-  changed_by_none = record { last = f; left = left-same context g f c }
+module _ {C F E A : Type 0} {context : C → Context} {g : Mut F (MutBor C × (Ty × Unit {0})) (Result Ty (NormalizeErr E) × (MutBor C × Unit {0}))}
+    {levels : ℕ} {f f' : F} {c c' : C} {result : Result A (OrphanStop E)} where
+  pub changed_by_calls : IsLeftByCalls context g levels f c f' c' (StopsWith result) → IsChangedByCalls context g levels f c c' result
+  changed_by_calls h = record { last = f'; left = h }
 
-  pub changed_by_calls : {f' : F} {c' : C} → IsLeftByCalls context g f c f' c' → IsChangedByCalls context g f c c'
-  changed_by_calls {f' = f'} h = record { last = f'; left = h }
+pub ruleset check_laws = (link_safety, no_foreign_header_said, proper_passes_compat_said, changed_by_calls, proper_then_compat, remote_law, first_input_law)
 
-  pub stop_has_cause : {A : Type 0} {levels : ℕ} {f' : F} {c' : C} {result : Result A (OrphanStop E)} {s : Stop}
-      → HasCause context g levels f c f' c' result → result ≡ Err (O.Stop s) → StopHasCause context g levels f c c' s
-  stop_has_cause {f' = f'} {s = s} h e = record { last = f'; cause = h.at s e }
-
-pub ruleset of_calls = (changed_by_none, changed_by_calls, stop_has_cause)
-
-pub ruleset check_laws = (link_safety, no_foreign_header_said, proper_passes_compat_said, of_calls)
-
-pub ruleset knowability_laws = (no_unnamed_header_said, no_covered_header_said, downstream_header_said, of_calls)
+pub ruleset knowability_laws = (no_unnamed_header_said, no_covered_header_said, downstream_header_said, changed_by_calls)

@@ -1,14 +1,12 @@
 -- What a call says by the definitions, and what holds of its reference.
-use Rattle.std.specs.Prelude.{◌≡◌, ℕ, false, Result, Err}
+use Rattle.std.specs.Prelude.{◌≡◌, ℕ, false, Result}
 use Rattle.std.specs.Fn.{Mut}
 use Rattle.std.specs.Borrow.{MutBor}
 use Rattle.candidate_ir.specs.declared.ir.kinds.Ty.{Ty}
 use Rattle.candidate_ir.specs.declared.ir.kinds.TraitRef.{TraitRef}
 use Rattle.candidate_eval.specs.declared.coherence.NormalizeErr.{NormalizeErr}
-use Rattle.candidate_ir.specs.declared.ir.stop.Stop.TheVariants.{Memory}
-use Rattle.candidate_eval.specs.declared.coherence.OrphanStop.TheVariants as O
-use Rattle.candidate_eval.specs.Answers.{CheckResult, KnownResult, OutOfMemory, IsKnowledge, answer_of}
-use Rattle.candidate_eval.specs.Normalizer.{IsFunction}
+use Rattle.candidate_eval.specs.Answers.{CheckResult, KnownResult, IsKnowledge, answer_of}
+use Rattle.candidate_eval.specs.Normalizer.{Untold, IsTold, IsFunction}
 use Rattle.candidate_ir.specs.Trees.{Tree, holds, is_alias, is_param}
 use Rattle.candidate_ir.specs.Context.{Context, world}
 use Rattle.candidate_ir.specs.Words.{args_forest}
@@ -42,15 +40,15 @@ plain_check_of c m r = plain_check (world c) c.local.0 m depth_limit (args_fores
 abbrev pub plain_knowledge_about : Context → TraitRef → Knowability (Unit {0})
 plain_knowledge_about c r = plain_knowability (world c) c.local.0 depth_limit (reference_of c.trees r)
 
--- For each normaliser that is a function, what a call says and leaves is what the definition says, unless a growth was
--- refused.
+-- For each normaliser that is a function but for what is left open, what a call says and leaves is what the definition
+-- says, unless its result is left open.
 module _ {C F E : Type 0} (context : C → Context) (resolve : C → Tree → Tree) (g : Mut F (MutBor C × (Ty × Unit {0})) (Result Ty (NormalizeErr E) × (MutBor C × Unit {0}))) where
   pub record IsChecked (f : F) (c : C) (m : InCrate) (r : TraitRef) (result : CheckResult E) (f' : F) (c' : C) : Type 0 where
-    pub at : (normal : View (F × C) E) → IsFunction context g f c normal → (OutOfMemory result → ⊥)
+    pub at : (u : Untold) (normal : View (F × C) E) → IsFunction context g u f c normal → IsTold u result
         → check_of context resolve normal m (f, c) r ≡ record { answer = answer_of (context c').trees result; after = (f', c') }
 
   pub record IsKnown (f : F) (c : C) (r : TraitRef) (result : KnownResult E) (f' : F) (c' : C) : Type 0 where
-    pub at : (normal : View (F × C) E) → IsFunction context g f c normal → (result ≡ Err (O.Stop Memory) → ⊥)
+    pub at : (u : Untold) (normal : View (F × C) E) → IsFunction context g u f c normal → IsTold u result
         → IsKnowledge result c' (knowledge_about context resolve normal (f, c) r)
 
 -- What holds of a reference of a context.
