@@ -4,6 +4,7 @@ use Rattle.std.specs.Fn.{Mut}
 use Rattle.std.specs.Borrow.{MutBor}
 use Rattle.candidate_ir.specs.declared.ir.kinds.TraitRef.{TraitRef}
 use Rattle.candidate_ir.specs.declared.ir.kinds.Ty.{Ty}
+use Rattle.candidate_ir.specs.declared.ir.stop.Stop.{Stop}
 use Rattle.candidate_ir.specs.Context.{Context, world}
 use Rattle.candidate_ir.specs.References.{reference_of}
 use Rattle.candidate_ir.specs.Trees.{Tree, holds, is_alias}
@@ -12,11 +13,14 @@ use Rattle.candidate_ir.specs.Worlds.{World, Reference, IsOf}
 use Rattle.candidate_eval.specs.declared.coherence.Conflict.TheVariants as K
 use Rattle.candidate_eval.specs.declared.coherence.NormalizeErr.{NormalizeErr}
 use Rattle.candidate_eval.specs.declared.coherence.OrphanStop.{OrphanStop}
+use Rattle.candidate_eval.specs.declared.coherence.OrphanStop.TheVariants as O
 use Rattle.candidate_eval.specs.Answers.{CheckResult, answer_of, IsAnswer, KnownResult, knowledge_of}
 use Rattle.candidate_eval.specs.Calls.{depth_limit, check_of, check_where, IsChecked, IsKnown, HasNoAlias, HasNoAliasOrError, IsOfForeignTrait, IsDecidedByGeneralHere, NoForeignHeaderHere, NoUnnamedHeaderHere, NoCoveredHeaderHere, HasDownstreamHere}
 use Rattle.candidate_eval.specs.Laws.{AreResolved, IsPlainCall, NoForeignHeader, NoUnnamedHeader, NoCoveredHeader, IsDecidedByGeneral, HasDownstream}
 use Rattle.candidate_eval.specs.Normalizer.{Untold, AnyStop, IsTold, StopsWith, IsFunction, IsLeftByCalls, IsChangedByCalls}
 use Rattle.candidate_eval.specs.Orphan.{InCrate, Local, Remote, Proper, Compat, View, view, plain, orphan_answer, Passes, knowability, Knowability, Knowable, Downstream, local_or_fundamental, plain_knowability, bare_answer, bare_knowledge, IsPlainForest}
+use Rattle.candidate_eval.proofs.Calls.{reached-same}
+use Rattle.candidate_eval.proofs.Causes.{left-same, left-quietly}
 use Rattle.candidate_eval.proofs.CheckLaws.{compat-passes, any-local}
 use Rattle.candidate_eval.proofs.Lowering.{plain_answer, plain_knowledge}
 use Rattle.candidate_eval.proofs.OrphanLaws.{proper_then_compat, remote_law, first_input_law}
@@ -89,10 +93,22 @@ module _ {C F E : Type 0} {context : C → Context} {resolve : C → Tree → Tr
         ((said.at AnyStop plain p.normaliser (λ s u x. cc)).answer ∙ ap knowledge_of known) decided
 
 module _ {C F E A : Type 0} {context : C → Context} {g : Mut F (MutBor C × (Ty × Unit {0})) (Result Ty (NormalizeErr E) × (MutBor C × Unit {0}))}
-    {levels : ℕ} {f f' : F} {c c' : C} {result : Result A (OrphanStop E)} where
-  pub changed_by_calls : IsLeftByCalls context g levels f c f' c' (StopsWith result) → IsChangedByCalls context g levels f c c' result
-  changed_by_calls h = record { last = f'; left = h }
+    {levels : ℕ} {f : F} {c : C} {result : Result A (OrphanStop E)} where
+  pub changed_by_calls : {f' : F} {c' : C} → IsLeftByCalls context g levels f c f' c' (StopsWith result) → IsChangedByCalls context g levels f c c' result
+  changed_by_calls {f' = f'} h = record { last = f'; left = h }
 
-pub ruleset check_laws = (link_safety, no_foreign_header_said, proper_passes_compat_said, changed_by_calls, proper_then_compat, remote_law, first_input_law)
+  -- another result that stops alike
+  pub changed_alike : {f' : F} {c' : C} {said : Result A (OrphanStop E)} → IsLeftByCalls context g levels f c f' c' (StopsWith said)
+      → ((s : Stop) → said ≡ Err (O.Stop s) → result ≡ Err (O.Stop s)) → ((s : Stop) → result ≡ Err (O.Stop s) → said ≡ Err (O.Stop s))
+      → IsChangedByCalls context g levels f c c' result
+  changed_alike {f' = f'} {c' = c'} h p q = record { last = f'; left = left-same context g levels f c f' c' _ _ p q h }
 
-pub ruleset knowability_laws = (no_unnamed_header_said, no_covered_header_said, downstream_header_said, changed_by_calls)
+  -- no call is made, and the result is no stop
+  pub changed_by_none : ((s : Stop) → result ≡ Err (O.Stop s) → ⊥) → IsChangedByCalls context g levels f c c result
+  changed_by_none n = record { last = f; left = left-quietly context g levels f c f c (StopsWith result) (reached-same context g f c) n }
+
+pub ruleset of_calls = (changed_by_calls, changed_alike, changed_by_none)
+
+pub ruleset check_laws = (link_safety, no_foreign_header_said, proper_passes_compat_said, of_calls, proper_then_compat, remote_law, first_input_law)
+
+pub ruleset knowability_laws = (no_unnamed_header_said, no_covered_header_said, downstream_header_said, of_calls)

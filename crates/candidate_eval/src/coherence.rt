@@ -125,7 +125,8 @@ where
     match visit_args(infcx, normalize, &mut walk, args, WALK_DEPTH) {
         Err(EarlyExit::Local(ty)) => Ok(Some(ty)),
         Err(EarlyExit::Broken(OrphanStop::Stop(stop))) => Err(stop),
-        Err(EarlyExit::Uncovered(_)) | Err(EarlyExit::Broken(OrphanStop::Normalize(_))) => Ok(None),
+        Err(EarlyExit::Broken(OrphanStop::Normalize(_))) => Ok(None),
+        Err(EarlyExit::Uncovered(_)) => Ok(None),
         Ok(()) => Ok(None),
     }
 }
