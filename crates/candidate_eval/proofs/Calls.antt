@@ -6,21 +6,19 @@ use Rattle.candidate_ir.specs.declared.ir.kinds.Ty.{Ty}
 use Rattle.candidate_ir.specs.declared.ir.stop.Stop.{Stop}
 use Rattle.candidate_ir.specs.declared.ir.stop.Stop.TheVariants.{Memory}
 use Rattle.candidate_ir.specs.Context.{Context, Grows}
+use Rattle.candidate_ir.specs.Trees.{Tree}
 use Rattle.candidate_ir.specs.Words.{IsTy, ty_tree}
 use Rattle.candidate_ir.proofs.Kept.{grows-refl, grows-trans}
 use Rattle.candidate_eval.specs.declared.coherence.NormalizeErr.{NormalizeErr}
 use Rattle.candidate_eval.specs.declared.coherence.OrphanStop.{OrphanStop}
 use Rattle.candidate_eval.specs.declared.coherence.OrphanStop.TheVariants as O
 use Rattle.candidate_eval.specs.Orphan.{View}
-use Rattle.candidate_eval.specs.Normalizer.{shown, Untold, RefusedGrowth, AnyStop, IsUntold, IsToldAnswer, IsTold, Call, NoneStops, Normalizes, Lead, IsReached, MayNormalize, KeepsNumbers, IsFunction}
+use Rattle.candidate_eval.specs.Normalizer.{shown, Untold, RefusedGrowth, AnyStop, IsUntold, IsToldAnswer, IsTold, Description, exactly, Call, NoneStops, Normalizes, Lead, IsReached, MayNormalize, KeepsNumbers, IsFunction}
 
 -- where memory alone is left open, or all stops are
 pub memory-untold : (u : Untold) (s : Stop) → s ≡ Memory → IsUntold u s
 memory-untold RefusedGrowth s e = e
 memory-untold AnyStop s e = tt
-
-pub untold-any : (u : Untold) (s : Stop) → IsUntold u s → IsUntold AnyStop s
-untold-any u s h = tt
 
 -- a result is told where no growth was refused, or where it is no stop
 pub told-unless-refused : {A E : Type 0} (r : Result A (OrphanStop E)) → (r ≡ Err (O.Stop Memory) → ⊥) → IsTold RefusedGrowth r
@@ -62,10 +60,14 @@ module _ {C F E : Type 0} (context : C → Context) (g : Mut F (MutBor C × (Ty 
 
   pub call-shows : (f : F) (lent : MutBor C) (t : Ty) (r : Result Ty (NormalizeErr E)) (left : MutBor C) (f' : F)
       → IsTy (context lent.now).trees t → t.0 < 2 ^ 32 → Called g f (lent, (t, tt)) (r, (left, tt)) f'
-      → (u : Untold) (normal : View (F × C) E) → IsFunction context g u f lent.now normal → IsToldAnswer u r
-      → normal (f, lent.now) (ty_tree (context lent.now).trees t) ≡ record { seen = shown (context left.now).trees r; after = (f', left.now) }
-  call-shows f lent t r left f' s n h u normal k told =
+      → (resolve : C → Tree → Tree) (d : Description F C E) → IsFunction context g resolve d f lent.now → IsToldAnswer d.untold r
+      → d.normal (d.stands (f, lent.now)) (ty_tree (context lent.now).trees t) ≡ record { seen = shown (context left.now).trees r; after = d.stands (f', left.now) }
+  call-shows f lent t r left f' s n h resolve d k told =
       k.at f lent.now t r f' left.now (reached-same f lent.now) (grows-refl (context lent.now)) s n (normalizes f lent t r left f' h) told
+
+  -- what stands for the context gives variables the same values
+  pub values-here : (f : F) (c : C) (resolve : C → Tree → Tree) (d : Description F C E) → IsFunction context g resolve d f c → (t : Tree) → resolve (d.stands (f, c)).1 t ≡ resolve c t
+  values-here f c resolve d k t = k.values f c t (reached-same f c) (grows-refl (context c))
 
   pub call-may : (f : F) (lent : MutBor C) (t : Ty) → MayNormalize context g f lent.now → IsTy (context lent.now).trees t → t.0 < 2 ^ 32 → g.pre f (lent, (t, tt))
   call-may f lent t k s n = k.at f lent.now t lent refl (reached-same f lent.now) (grows-refl (context lent.now)) s n
@@ -78,10 +80,13 @@ module _ {C F E : Type 0} (context : C → Context) (g : Mut F (MutBor C × (Ty 
     pub keeps-later : KeepsNumbers context g f c → KeepsNumbers context g f1 c1
     keeps-later m = record { at = λ e x t r e' x' q k s n w. m.at e x t r e' x' (reached-then f c f1 c1 e x l q) (grows-trans (context c) (context c1) (context x) h k) s n w }
 
-    pub function-later : (u : Untold) (normal : View (F × C) E) → IsFunction context g u f c normal → IsFunction context g u f1 c1 normal
-    function-later u normal m =
-        record { at = λ e x t r e' x' q k s n w told. m.at e x t r e' x' (reached-then f c f1 c1 e x l q) (grows-trans (context c) (context c1) (context x) h k) s n w told }
+    pub function-later : (resolve : C → Tree → Tree) (d : Description F C E) → IsFunction context g resolve d f c → IsFunction context g resolve d f1 c1
+    function-later resolve d m = record {
+      at = λ e x t r e' x' q k s n w told. m.at e x t r e' x' (reached-then f c f1 c1 e x l q) (grows-trans (context c) (context c1) (context x) h k) s n w told;
+      values = λ e x t q k. m.values e x t (reached-then f c f1 c1 e x l q) (grows-trans (context c) (context c1) (context x) h k);
+    }
 
   -- a function but for refused growths is one but for all stops
-  pub function-unless-stopped : (u : Untold) (f : F) (c : C) (normal : View (F × C) E) → IsFunction context g u f c normal → IsFunction context g AnyStop f c normal
-  function-unless-stopped u f c normal m = record { at = λ e x t r e' x' q k s n w told. m.at e x t r e' x' q k s n w (λ z h i. told z tt i) }
+  pub function-unless-stopped : (resolve : C → Tree → Tree) (u : Untold) (normal : View (F × C) E) (f : F) (c : C)
+      → IsFunction context g resolve (exactly u normal) f c → IsFunction context g resolve (exactly AnyStop normal) f c
+  function-unless-stopped resolve u normal f c m = record { at = λ e x t r e' x' q k s n w told. m.at e x t r e' x' q k s n w (λ z h i. told z tt i); values = m.values }

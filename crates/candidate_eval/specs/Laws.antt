@@ -101,6 +101,6 @@ AreResolved resolve (tree h below rest) =
 -- A call with the plain normaliser, and a reference of the declared world in which nothing has a value.
 module _ {C F E : Type 0} (context : C → Context) (resolve : C → Tree → Tree) (g : Mut F (MutBor C × (Ty × Unit {0})) (Result Ty (NormalizeErr E) × (MutBor C × Unit {0}))) where
   pub record IsPlainCall (f : F) (c : C) (r : TraitRef) : Type 0 where
-    pub normaliser : IsPlain context g f c
+    pub normaliser : IsPlain context g resolve f c
     pub resolved : AreResolved (resolve c) (args_forest (context c).trees r.args)
     pub of_world : IsReference (context c) r

@@ -44,6 +44,17 @@ IsTold u r = (s : Stop) → IsUntold u s → r ≡ Err (O.Stop s) → ⊥
 abbrev pub StopsWith : {A E : Type 0} → Result A (OrphanStop E) → Stop → Type 0
 StopsWith r s = r ≡ Err (O.Stop s)
 
+-- A description of a normaliser, whose state is itself and the context: what is left open, which state stands for one (so
+-- that nodes that it makes needn't count), and what it answers and leaves there.
+pub record Description (F C E : Type 0) : Type 0 where
+  pub untold : Untold
+  pub stands : F × C → F × C
+  pub normal : View (F × C) E
+
+-- where each state stands for itself
+abbrev pub exactly : {F C E : Type 0} → Untold → View (F × C) E → Description F C E
+exactly u normal = record { untold = u; stands = λ s. s; normal = normal }
+
 -- A call: the normaliser and the context that it finds, the type, the answer, and what is left of the two.
 pub record Call (F C E : Type 0) : Type 0 where
   pub by : F
@@ -109,15 +120,17 @@ module _ {C F E : Type 0} (context : C → Context) (g : Mut F (MutBor C × (Ty 
         → IsTy (context c).trees t → t.0 < 2 ^ 32 → Normalizes f c t r f' c'
         → Grows (context c) (context c') × IfOk r (λ u. IsTy (context c').trees u)
 
-  -- There its answers and effects, but for what is left open, are functions of the tree and of what it and the context are.
-  pub record IsFunction (untold : Untold) (f0 : F) (c0 : C) (normal : View (F × C) E) : Type 0 where
+  -- There its answers and effects, but for what is left open, are functions of the tree and of the state that stands for it
+  -- and the context; what stands for the context gives variables the same values.
+  pub record IsFunction (resolve : C → Tree → Tree) (d : Description F C E) (f0 : F) (c0 : C) : Type 0 where
     pub at : (f : F) (c : C) (t : Ty) (r : Result Ty (NormalizeErr E)) (f' : F) (c' : C) → IsReached f0 c0 f c → Grows (context c0) (context c)
-        → IsTy (context c).trees t → t.0 < 2 ^ 32 → Normalizes f c t r f' c' → IsToldAnswer untold r
-        → normal (f, c) (ty_tree (context c).trees t) ≡ record { seen = shown (context c').trees r; after = (f', c') }
+        → IsTy (context c).trees t → t.0 < 2 ^ 32 → Normalizes f c t r f' c' → IsToldAnswer d.untold r
+        → d.normal (d.stands (f, c)) (ty_tree (context c).trees t) ≡ record { seen = shown (context c').trees r; after = d.stands (f', c') }
+    pub values : (f : F) (c : C) (t : Tree) → IsReached f0 c0 f c → Grows (context c0) (context c) → resolve (d.stands (f, c)).1 t ≡ resolve c t
 
   -- It answers its input, and changes nothing, unless it stops.
-  abbrev pub IsPlain : F → C → Type 0
-  IsPlain f0 c0 = IsFunction AnyStop f0 c0 plain
+  abbrev pub IsPlain : (C → Tree → Tree) → F → C → Type 0
+  IsPlain resolve f0 c0 = IsFunction resolve (exactly AnyStop plain) f0 c0
 
   -- It answers a type that stands in no header, or any type at one.
   pub record SeesUnnameable (k : Call F C E) : Type 0 where

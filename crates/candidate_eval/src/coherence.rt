@@ -4,8 +4,8 @@ ghost use Rattle.std.specs.Prelude.{◌≡◌, ◌≢◌, ℕ, List, false, IfOk
 ghost use Rattle.candidate_ir.specs.Context.{Grows, world};
 ghost use Rattle.candidate_ir.specs.Trees.{Tree};
 ghost use Rattle.candidate_ir.specs.Words.{IsTy, IsArgs, args_forest};
-ghost use Rattle.candidate_eval.specs.Orphan.{View, view, Passes, Entry, NonLocalInput, local_or_fundamental};
-ghost use Rattle.candidate_eval.specs.Normalizer.{Untold, IsUntold, IsTold, StopsWith, MayNormalize, KeepsNumbers, IsFunction, IsLeftByCalls, IsChangedByCalls};
+ghost use Rattle.candidate_eval.specs.Orphan.{view, Passes, Entry, NonLocalInput, local_or_fundamental};
+ghost use Rattle.candidate_eval.specs.Normalizer.{Description, IsUntold, IsTold, StopsWith, MayNormalize, KeepsNumbers, IsFunction, IsLeftByCalls, IsChangedByCalls};
 ghost use Rattle.candidate_eval.specs.Laws.{ProperThenCompat, RemoteLaw, FirstInputLaw, OnlyFirst, LinkSafety, IsPlainCall};
 ghost use Rattle.candidate_eval.specs.Calls.{depth_limit, IsChecked, IsKnown, check_of, check_where, knowledge_about, HasNoParam, HasNoAlias, HasNoAliasOrError, IsOfForeignTrait, NoForeignHeaderHere, NoUnnamedHeaderHere, NoCoveredHeaderHere, IsDecidedByGeneralHere, HasDownstreamHere};
 ghost use Rattle.candidate_eval.specs.Answers.{IsUncoveredResult, AreAnswerTypes, IsAnswer, IsKnowledge, answer_of, second_answer};
@@ -114,7 +114,7 @@ where
     ensures grows { Grows (C.context infcx.old) (C.context infcx.new) }
     ensures calls { IsLeftByCalls C.context F.FnMut 256 normalize.old infcx.old normalize.new infcx.new (λ s. result ≡ Err s) }
     ensures types { IfOk result (λ o. IfSome o (λ t. IsTy (C.context infcx.new).trees t)) }
-    ensures answer { (u : Untold) (normal : View (F × C) E) → IsFunction C.context F.FnMut u normalize.old infcx.old normal → ((s : Stop) → IsUntold u s → result ≡ Err s → ⊥) → (t : Tree) → IsSecond (setting (C.context infcx.old) in_crate) (view (λ s t. C.resolved s.1 t) normal) 256 (normalize.old, infcx.old) (args_forest (C.context infcx.old).trees args) t (record { answer = second_answer (C.context infcx.new).trees t result; after = (normalize.new, infcx.new) }) }
+    ensures answer { (d : Description F C E) → IsFunction C.context F.FnMut C.resolved d normalize.old infcx.old → ((s : Stop) → IsUntold d.untold s → result ≡ Err s → ⊥) → (t : Tree) → IsSecond (setting (C.context infcx.old) in_crate) (view (λ s t. C.resolved s.1 t) d.normal) 256 (d.stands (normalize.old, infcx.old)) (args_forest (C.context infcx.old).trees args) t (record { answer = second_answer (C.context infcx.new).trees t result; after = d.stands (normalize.new, infcx.new) }) }
 {
     let mut walk = Walk {
         in_crate,
@@ -209,13 +209,13 @@ where
     ensures types { AreAnswerTypes (C.context infcx.new).trees result }
 
     // For a normaliser whose answers and effects, but for what is left open, are functions of the tree and the context.
-    ensures answer { (u : Untold) (normal : View (F × C) E) → IsFunction C.context F.FnMut u normalize infcx.old normal → IsTold u result → IsAnswer (C.context infcx.new).trees result infcx.new (check_of C.context C.resolved normal in_crate (normalize, infcx.old) trait_ref) }
+    ensures answer { (d : Description F C E) → IsFunction C.context F.FnMut C.resolved d normalize infcx.old → IsTold d.untold result → IsAnswer (C.context infcx.new).trees d.stands result infcx.new (check_of C.context C.resolved d in_crate (normalize, infcx.old) trait_ref) }
 
     // What passes in `Proper` passes in `Compat`.
-    ensures proper_passes_compat { (u : Untold) (normal : View (F × C) E) → IsFunction C.context F.FnMut u normalize infcx.old normal → in_crate ≡ InCrate.Local OrphanCheckMode.Proper → result ≡ Ok (Ok tt) → (check_of C.context C.resolved normal (InCrate.Local OrphanCheckMode.Compat) (normalize, infcx.old) trait_ref).answer ≡ Passes }
+    ensures proper_passes_compat { (d : Description F C E) → IsFunction C.context F.FnMut C.resolved d normalize infcx.old → in_crate ≡ InCrate.Local OrphanCheckMode.Proper → result ≡ Ok (Ok tt) → (check_of C.context C.resolved d (InCrate.Local OrphanCheckMode.Compat) (normalize, infcx.old) trait_ref).answer ≡ Passes }
 
     // In `Remote` the answer is the same whichever crate is local.
-    ensures remote_ignores_the_local_crate { (u : Untold) (normal : View (F × C) E) → IsFunction C.context F.FnMut u normalize infcx.old normal → in_crate ≡ InCrate.Remote → IsTold u result → (local : ℕ) → IsAnswer (C.context infcx.new).trees result infcx.new (check_where C.context C.resolved normal local InCrate.Remote (normalize, infcx.old) trait_ref) }
+    ensures remote_ignores_the_local_crate { (d : Description F C E) → IsFunction C.context F.FnMut C.resolved d normalize infcx.old → in_crate ≡ InCrate.Remote → IsTold d.untold result → (local : ℕ) → IsAnswer (C.context infcx.new).trees d.stands result infcx.new (check_where C.context C.resolved d local InCrate.Remote (normalize, infcx.old) trait_ref) }
 
     // For every normaliser, in `Remote` nothing is uncovered.
     ensures remote_covers { in_crate ≡ InCrate.Remote → ¬ (IsUncoveredResult result) }
@@ -315,7 +315,7 @@ where
     ensures calls { IsChangedByCalls C.context F.FnMut depth_limit normalize infcx.old infcx.new result }
 
     // For a normaliser whose answers and effects, but for what is left open, are functions of the tree and the context.
-    ensures answer { (u : Untold) (normal : View (F × C) E) → IsFunction C.context F.FnMut u normalize infcx.old normal → IsTold u result → IsKnowledge result infcx.new (knowledge_about C.context C.resolved normal (normalize, infcx.old) trait_ref) }
+    ensures answer { (d : Description F C E) → IsFunction C.context F.FnMut C.resolved d normalize infcx.old → IsTold d.untold result → IsKnowledge d.stands result infcx.new (knowledge_about C.context C.resolved d (normalize, infcx.old) trait_ref) }
 
     // A known reference is overlapped by no header that a crate which it doesn't name may write.
     ensures no_unnamed_header { IsPlainCall C.context C.resolved F.FnMut normalize infcx.old trait_ref → HasNoAlias (C.context infcx.old) trait_ref → result ≡ Ok (Ok tt) → NoUnnamedHeaderHere (C.context infcx.old) trait_ref }

@@ -3,8 +3,8 @@
 ghost use Rattle.std.specs.Prelude.{◌≡◌, ◌≢◌, ◌<◌, true, false, OnOk, IfOk, IfErr};
 ghost use Rattle.candidate_ir.specs.Context.{Grows};
 ghost use Rattle.candidate_ir.specs.Words.{IsTy, IsArgs, ty_tree, args_forest};
-ghost use Rattle.candidate_eval.specs.Orphan.{View, view, is_general};
-ghost use Rattle.candidate_eval.specs.Normalizer.{Untold, IsToldAnswer, MayNormalize, KeepsNumbers, IsFunction, Normalizes, IsLeftByCalls, IsViewed, shown};
+ghost use Rattle.candidate_eval.specs.Orphan.{view, is_general};
+ghost use Rattle.candidate_eval.specs.Normalizer.{Description, IsToldAnswer, MayNormalize, KeepsNumbers, IsFunction, Normalizes, IsLeftByCalls, IsViewed, shown};
 ghost use Rattle.candidate_eval.specs.Walk.{AreTypes, FirstOnce, IsExit, Outcome, SameWalk, still, setting, classes, type_steps, list_steps};
 
 use crate::coherence::{InCrate, IsFirstInputType, NormalizeErr, OrphanStop};
@@ -66,7 +66,7 @@ where
     ensures grows { Grows (C.context infcx.old) (C.context infcx.new) }
     ensures call { Normalizes C.context F.FnMut normalize.old infcx.old ty result normalize.new infcx.new }
     ensures sort { IfOk result (λ t. IsTy (C.context infcx.new).trees t) }
-    ensures answer { (u : Untold) (normal : View (F × C) E) → IsFunction C.context F.FnMut u normalize.old infcx.old normal → IsToldAnswer u result → normal (normalize.old, infcx.old) (ty_tree (C.context infcx.old).trees ty) ≡ record { seen = shown (C.context infcx.new).trees result; after = (normalize.new, infcx.new) } }
+    ensures answer { (d : Description F C E) → IsFunction C.context F.FnMut C.resolved d normalize.old infcx.old → IsToldAnswer d.untold result → d.normal (d.stands (normalize.old, infcx.old)) (ty_tree (C.context infcx.old).trees ty) ≡ record { seen = shown (C.context infcx.new).trees result; after = d.stands (normalize.new, infcx.new) } }
 {
     normalize(infcx, ty)
 }
@@ -86,7 +86,7 @@ where
     ensures grows { Grows (C.context infcx.old) (C.context infcx.new) }
     ensures call { IsViewed C.context F.FnMut normalize.old infcx.old result normalize.new infcx.new }
     ensures sort { IfOk result (λ t. IsTy (C.context infcx.new).trees t) }
-    ensures view { (u : Untold) (normal : View (F × C) E) → IsFunction C.context F.FnMut u normalize.old infcx.old normal → IsToldAnswer u result → view (λ s t. C.resolved s.1 t) normal (normalize.old, infcx.old) (ty_tree (C.context infcx.old).trees ty) ≡ record { seen = shown (C.context infcx.new).trees result; after = (normalize.new, infcx.new) } }
+    ensures view { (d : Description F C E) → IsFunction C.context F.FnMut C.resolved d normalize.old infcx.old → IsToldAnswer d.untold result → view (λ s t. C.resolved s.1 t) d.normal (d.stands (normalize.old, infcx.old)) (ty_tree (C.context infcx.old).trees ty) ≡ record { seen = shown (C.context infcx.new).trees result; after = d.stands (normalize.new, infcx.new) } }
 {
     let ty = infcx.shallow_resolve(ty);
     let normal = normalized(infcx, normalize, ty)?;
@@ -152,8 +152,8 @@ where
     ensures exit { IfErr result (λ x. IsExit (C.context infcx.new).trees x) }
     ensures same { SameWalk walk.old walk.new }
     ensures first { OnOk result (walk.new.is_first ≡ false) }
-    ensures some { (u : Untold) (normal : View (F × C) E) → IsFunction C.context F.FnMut u normalize.old infcx.old normal → OnOk result (still true (type_steps (setting (C.context infcx.old) walk.old.in_crate) (view (λ s t. C.resolved s.1 t) normal) levels (normalize.old, infcx.old) (ty_tree (C.context infcx.old).trees ty)) ≡ false) }
-    ensures outcome { (u : Untold) (normal : View (F × C) E) → IsFunction C.context F.FnMut u normalize.old infcx.old normal → Outcome u (C.context infcx.new).trees (classes (setting (C.context infcx.old) walk.old.in_crate)) walk.old walk.new (normalize.old, infcx.old) (normalize.new, infcx.new) (type_steps (setting (C.context infcx.old) walk.old.in_crate) (view (λ s t. C.resolved s.1 t) normal) levels (normalize.old, infcx.old) (ty_tree (C.context infcx.old).trees ty)) result }
+    ensures some { (d : Description F C E) → IsFunction C.context F.FnMut C.resolved d normalize.old infcx.old → OnOk result (still true (type_steps (setting (C.context infcx.old) walk.old.in_crate) (view (λ s t. C.resolved s.1 t) d.normal) levels (d.stands (normalize.old, infcx.old)) (ty_tree (C.context infcx.old).trees ty)) ≡ false) }
+    ensures outcome { (d : Description F C E) → IsFunction C.context F.FnMut C.resolved d normalize.old infcx.old → Outcome d.untold (C.context infcx.new).trees (classes (setting (C.context infcx.old) walk.old.in_crate)) walk.old walk.new (d.stands (normalize.old, infcx.old)) (d.stands (normalize.new, infcx.new)) (type_steps (setting (C.context infcx.old) walk.old.in_crate) (view (λ s t. C.resolved s.1 t) d.normal) levels (d.stands (normalize.old, infcx.old)) (ty_tree (C.context infcx.old).trees ty)) result }
 {
     if levels == 0 {
         return Err(EarlyExit::Broken(OrphanStop::Stop(Stop::WalkDepth)));
@@ -192,7 +192,7 @@ where
     ensures covers { (t : Ty) → walk.old.in_crate ≡ InCrate.Remote → result ≢ Err (EarlyExit.Uncovered t) }
     ensures exit { IfErr result (λ x. IsExit (C.context infcx.new).trees x) }
     ensures same { SameWalk walk.old walk.new }
-    ensures outcome { (u : Untold) (normal : View (F × C) E) → IsFunction C.context F.FnMut u normalize.old infcx.old normal → Outcome u (C.context infcx.new).trees (classes (setting (C.context infcx.old) walk.old.in_crate)) walk.old walk.new (normalize.old, infcx.old) (normalize.new, infcx.new) (list_steps (setting (C.context infcx.old) walk.old.in_crate) (view (λ s t. C.resolved s.1 t) normal) levels (normalize.old, infcx.old) (args_forest (C.context infcx.old).trees args)) result }
+    ensures outcome { (d : Description F C E) → IsFunction C.context F.FnMut C.resolved d normalize.old infcx.old → Outcome d.untold (C.context infcx.new).trees (classes (setting (C.context infcx.old) walk.old.in_crate)) walk.old walk.new (d.stands (normalize.old, infcx.old)) (d.stands (normalize.new, infcx.new)) (list_steps (setting (C.context infcx.old) walk.old.in_crate) (view (λ s t. C.resolved s.1 t) d.normal) levels (d.stands (normalize.old, infcx.old)) (args_forest (C.context infcx.old).trees args)) result }
 {
     let count = infcx.cx().args(args).len();
     for i in 0..count {

@@ -29,37 +29,37 @@ returns-in-Ok-first_local_ty-clause-types g c =
 
 pub returns-in-Ok-first_local_ty-clause-answer : goal.returns-in-Ok-first_local_ty-clause-answer
 returns-in-Ok-first_local_ty-clause-answer g c = record {
-  at = λ u normal h told.
-      let see = view (λ s u. g.C.InferCtxtLike.resolved s.1 u) normal in
+  at = λ d h told.
+      let see = view (λ s u. g.C.InferCtxtLike.resolved s.1 u) d.normal in
       let last = g.C.Make.context c.first_local_ty.new.infcx in
       let first = rw c.in-Err-Uncovered.field-0-is at c.in-Err-Uncovered.ensures in
       let later = function-later g.C.Make.context g.F.FnMut c.args.normalize.now c.args.infcx.now c.visit_args.new.normalize c.visit_args.new.infcx
-      (left-reached g.C.Make.context g.F.FnMut 256 _ _ _ _ _ first.calls (λ s e. cc)) c.visit_args.ensures.grows u normal h in
+      (left-reached g.C.Make.context g.F.FnMut 256 _ _ _ _ _ first.calls (λ s e. cc)) c.visit_args.ensures.grows g.C.InferCtxtLike.resolved d h in
       let checked : Tree → Checked (g.row.F.Denot × g.row.C.Denot) (Answer g.row.E.Denot) =
-      λ t. record { answer = second_answer last.trees t (Ok c.in-Ok-first_local_ty.local_ty); after = (c.first_local_ty.new.normalize, c.first_local_ty.new.infcx) } in
+      λ t. record { answer = second_answer last.trees t (Ok c.in-Ok-first_local_ty.local_ty); after = d.stands (c.first_local_ty.new.normalize, c.first_local_ty.new.infcx) } in
       let e = uncovered-checked (g.C.Make.context c.args.infcx.now) (g.C.Make.context c.visit_args.new.infcx) last
       c.visit_args.ensures.grows c.first_local_ty.ensures.grows c.args.in_crate see 256 c.args.trait_ref.args c.requires.args
-      (c.args.normalize.now, c.args.infcx.now) (c.visit_args.new.normalize, c.visit_args.new.infcx) c.in-Err-Uncovered.uncovered first.exit
-      (first.outcome u normal h (λ z o x. cc)) checked
-      (λ t. c.in-Ok-first_local_ty.ensures.answer u normal later (λ z o x. cc) t) in
+      (d.stands (c.args.normalize.now, c.args.infcx.now)) (d.stands (c.visit_args.new.normalize, c.visit_args.new.infcx)) c.in-Err-Uncovered.uncovered first.exit
+      (first.outcome d h (λ z o x. cc)) checked
+      (λ t. c.in-Ok-first_local_ty.ensures.answer d later (λ z o x. cc) t) in
       e;
 }
 
 pub returns-in-Err-Uncovered-clause-answer : goal.returns-in-Err-Uncovered-clause-answer
 returns-in-Err-Uncovered-clause-answer g c = record {
-  at = λ u normal h told.
-      let see = view (λ s u. g.C.InferCtxtLike.resolved s.1 u) normal in
+  at = λ d h told.
+      let see = view (λ s u. g.C.InferCtxtLike.resolved s.1 u) d.normal in
       let last = g.C.Make.context c.first_local_ty.new.infcx in
       let first = rw c.in-Err-Uncovered.field-0-is at c.in-Err-Uncovered.ensures in
       let later = function-later g.C.Make.context g.F.FnMut c.args.normalize.now c.args.infcx.now c.visit_args.new.normalize c.visit_args.new.infcx
-      (left-reached g.C.Make.context g.F.FnMut 256 _ _ _ _ _ first.calls (λ s e. cc)) c.visit_args.ensures.grows u normal h in
+      (left-reached g.C.Make.context g.F.FnMut 256 _ _ _ _ _ first.calls (λ s e. cc)) c.visit_args.ensures.grows g.C.InferCtxtLike.resolved d h in
       let checked : Tree → Checked (g.row.F.Denot × g.row.C.Denot) (Answer g.row.E.Denot) =
-      λ t. record { answer = second_answer last.trees t (Err c.in-Err.stop); after = (c.first_local_ty.new.normalize, c.first_local_ty.new.infcx) } in
+      λ t. record { answer = second_answer last.trees t (Err c.in-Err.stop); after = d.stands (c.first_local_ty.new.normalize, c.first_local_ty.new.infcx) } in
       let e = uncovered-checked (g.C.Make.context c.args.infcx.now) (g.C.Make.context c.visit_args.new.infcx) last
       c.visit_args.ensures.grows c.first_local_ty.ensures.grows c.args.in_crate see 256 c.args.trait_ref.args c.requires.args
-      (c.args.normalize.now, c.args.infcx.now) (c.visit_args.new.normalize, c.visit_args.new.infcx) c.in-Err-Uncovered.uncovered first.exit
-      (first.outcome u normal h (λ z o x. cc)) checked
-      (λ t. c.in-Err.ensures.answer u normal later (λ z o x. told z o (let y : c.in-Err.stop ≡ z = cc in ap (λ i. Err (O.Stop i)) y)) t) in
+      (d.stands (c.args.normalize.now, c.args.infcx.now)) (d.stands (c.visit_args.new.normalize, c.visit_args.new.infcx)) c.in-Err-Uncovered.uncovered first.exit
+      (first.outcome d h (λ z o x. cc)) checked
+      (λ t. c.in-Err.ensures.answer d later (λ z o x. told z o (let y : c.in-Err.stop ≡ z = cc in ap (λ i. Err (O.Stop i)) y)) t) in
       e;
 }
 

@@ -22,57 +22,57 @@ check-requires-2-clause-callable g c =
 
 pub returns-in_err-local-clause-answer : goal.returns-in_err-local-clause-answer
 returns-in_err-local-clause-answer g c = record {
-  at = λ u normal h told.
+  at = λ d h told.
       let p = err_from_is_err_and c.from_residual-in_err-local.result c.from_residual-in_err-local.ensures.1 in
-      let see = view (λ s u. g.C.InferCtxtLike.resolved s.1 u) normal in
+      let see = view (λ s u. g.C.InferCtxtLike.resolved s.1 u) d.normal in
       let c1 = g.C.Make.context c.check.new.infcx in
       let later = function-later g.C.Make.context g.F.FnMut c.args.normalize.now c.args.infcx.now c.check.new.normalize c.check.new.infcx
-      (left-reached g.C.Make.context g.F.FnMut 256 _ _ _ _ _ c.in_ok-remote.ensures.calls (λ s e. cc)) c.check.ensures.grows u normal h in
+      (left-reached g.C.Make.context g.F.FnMut 256 _ _ _ _ _ c.in_ok-remote.ensures.calls (λ s e. cc)) c.check.ensures.grows g.C.InferCtxtLike.resolved d h in
       let own : local_or_fundamental (world c1) c1.local.0 c.args.trait_ref.def_id.0 ≡ false =
       ap (λ (x : Context). local_or_fundamental (world x) x.local.0 c.args.trait_ref.def_id.0) (sym c.cx.ensures)
       ∙ (sym c.trait_ref_is_local_or_fundamental.ensures ∙ c.if-trait_ref_is_local_or_fundamental.false) in
       let e = knows-locally (g.C.Make.context c.args.infcx.now) c1 c.check.ensures.grows see 256
-      (c.args.normalize.now, c.args.infcx.now) (c.check.new.normalize, c.check.new.infcx) (c.check-2.new.normalize, c.check-2.new.infcx)
+      (d.stands (c.args.normalize.now, c.args.infcx.now)) (d.stands (c.check.new.normalize, c.check.new.infcx)) (d.stands (c.check-2.new.normalize, c.check-2.new.infcx))
       c.args.trait_ref c.requires.args (g.C.Make.context c.check-2.new.infcx).trees c.in_ok-remote.remote (Err c.in_err-local.field-0.0)
       (sym c.is_ok.ensures.value ∙ c.if-is_ok.false) own
-      (c.in_ok-remote.ensures.answer.at u normal h (λ z o x. cc)) (c.in_err-local.ensures.answer.at u normal later (λ z o x. let y : c.in_err-local.field-0.0 ≡ O.Stop z = cc in told z o (p.1 ∙ ap Err (p.2 ∙ y)))) in
-      rw (p.1, p.2) (record { answer = ap (λ x. x.answer) e ∙ local-stops (g.C.Make.context c.check-2.new.infcx).trees c.in_err-local.field-0.0; leaves = ap (λ x. x.after.1) e });
+      (c.in_ok-remote.ensures.answer.at d h (λ z o x. cc)) (c.in_err-local.ensures.answer.at d later (λ z o x. let y : c.in_err-local.field-0.0 ≡ O.Stop z = cc in told z o (p.1 ∙ ap Err (p.2 ∙ y)))) in
+      rw (p.1, p.2) (record { answer = ap (λ x. x.answer) e ∙ local-stops (g.C.Make.context c.check-2.new.infcx).trees c.in_err-local.field-0.0; last = c.check-2.new.normalize; leaves = ap (λ x. x.after) e });
 }
 
 pub returns-then-is_ok-2-clause-answer : goal.returns-then-is_ok-2-clause-answer
 returns-then-is_ok-2-clause-answer g c = record {
-  at = λ u normal h told.
-      let see = view (λ s u. g.C.InferCtxtLike.resolved s.1 u) normal in
+  at = λ d h told.
+      let see = view (λ s u. g.C.InferCtxtLike.resolved s.1 u) d.normal in
       let c1 = g.C.Make.context c.check.new.infcx in
       let later = function-later g.C.Make.context g.F.FnMut c.args.normalize.now c.args.infcx.now c.check.new.normalize c.check.new.infcx
-      (left-reached g.C.Make.context g.F.FnMut 256 _ _ _ _ _ c.in_ok-remote.ensures.calls (λ s e. cc)) c.check.ensures.grows u normal h in
+      (left-reached g.C.Make.context g.F.FnMut 256 _ _ _ _ _ c.in_ok-remote.ensures.calls (λ s e. cc)) c.check.ensures.grows g.C.InferCtxtLike.resolved d h in
       let own : local_or_fundamental (world c1) c1.local.0 c.args.trait_ref.def_id.0 ≡ false =
       ap (λ (x : Context). local_or_fundamental (world x) x.local.0 c.args.trait_ref.def_id.0) (sym c.cx.ensures)
       ∙ (sym c.trait_ref_is_local_or_fundamental.ensures ∙ c.if-trait_ref_is_local_or_fundamental.false) in
       let e = knows-locally (g.C.Make.context c.args.infcx.now) c1 c.check.ensures.grows see 256
-      (c.args.normalize.now, c.args.infcx.now) (c.check.new.normalize, c.check.new.infcx) (c.check-2.new.normalize, c.check-2.new.infcx)
+      (d.stands (c.args.normalize.now, c.args.infcx.now)) (d.stands (c.check.new.normalize, c.check.new.infcx)) (d.stands (c.check-2.new.normalize, c.check-2.new.infcx))
       c.args.trait_ref c.requires.args (g.C.Make.context c.check-2.new.infcx).trees c.in_ok-remote.remote (Ok c.in_ok-local.local)
       (sym c.is_ok.ensures.value ∙ c.if-is_ok.false) own
-      (c.in_ok-remote.ensures.answer.at u normal h (λ z o x. cc)) (c.in_ok-local.ensures.answer.at u normal later (λ z o x. cc)) in
-      record { answer = ap (λ x. x.answer) e ∙ local-passes (g.C.Make.context c.check-2.new.infcx).trees c.in_ok-local.local (sym c.is_ok-2.ensures.value ∙ c.if-is_ok-2.true); leaves = ap (λ x. x.after.1) e };
+      (c.in_ok-remote.ensures.answer.at d h (λ z o x. cc)) (c.in_ok-local.ensures.answer.at d later (λ z o x. cc)) in
+      record { answer = ap (λ x. x.answer) e ∙ local-passes (g.C.Make.context c.check-2.new.infcx).trees c.in_ok-local.local (sym c.is_ok-2.ensures.value ∙ c.if-is_ok-2.true); last = c.check-2.new.normalize; leaves = ap (λ x. x.after) e };
 }
 
 pub returns-clause-answer : goal.returns-clause-answer
 returns-clause-answer g c = record {
-  at = λ u normal h told.
-      let see = view (λ s u. g.C.InferCtxtLike.resolved s.1 u) normal in
+  at = λ d h told.
+      let see = view (λ s u. g.C.InferCtxtLike.resolved s.1 u) d.normal in
       let c1 = g.C.Make.context c.check.new.infcx in
       let later = function-later g.C.Make.context g.F.FnMut c.args.normalize.now c.args.infcx.now c.check.new.normalize c.check.new.infcx
-      (left-reached g.C.Make.context g.F.FnMut 256 _ _ _ _ _ c.in_ok-remote.ensures.calls (λ s e. cc)) c.check.ensures.grows u normal h in
+      (left-reached g.C.Make.context g.F.FnMut 256 _ _ _ _ _ c.in_ok-remote.ensures.calls (λ s e. cc)) c.check.ensures.grows g.C.InferCtxtLike.resolved d h in
       let own : local_or_fundamental (world c1) c1.local.0 c.args.trait_ref.def_id.0 ≡ false =
       ap (λ (x : Context). local_or_fundamental (world x) x.local.0 c.args.trait_ref.def_id.0) (sym c.cx.ensures)
       ∙ (sym c.trait_ref_is_local_or_fundamental.ensures ∙ c.if-trait_ref_is_local_or_fundamental.false) in
       let e = knows-locally (g.C.Make.context c.args.infcx.now) c1 c.check.ensures.grows see 256
-      (c.args.normalize.now, c.args.infcx.now) (c.check.new.normalize, c.check.new.infcx) (c.check-2.new.normalize, c.check-2.new.infcx)
+      (d.stands (c.args.normalize.now, c.args.infcx.now)) (d.stands (c.check.new.normalize, c.check.new.infcx)) (d.stands (c.check-2.new.normalize, c.check-2.new.infcx))
       c.args.trait_ref c.requires.args (g.C.Make.context c.check-2.new.infcx).trees c.in_ok-remote.remote (Ok c.in_ok-local.local)
       (sym c.is_ok.ensures.value ∙ c.if-is_ok.false) own
-      (c.in_ok-remote.ensures.answer.at u normal h (λ z o x. cc)) (c.in_ok-local.ensures.answer.at u normal later (λ z o x. cc)) in
-      record { answer = ap (λ x. x.answer) e ∙ local-fails (g.C.Make.context c.check-2.new.infcx).trees c.in_ok-local.local (sym c.is_ok-2.ensures.value ∙ c.if-is_ok-2.false); leaves = ap (λ x. x.after.1) e };
+      (c.in_ok-remote.ensures.answer.at d h (λ z o x. cc)) (c.in_ok-local.ensures.answer.at d later (λ z o x. cc)) in
+      record { answer = ap (λ x. x.answer) e ∙ local-fails (g.C.Make.context c.check-2.new.infcx).trees c.in_ok-local.local (sym c.is_ok-2.ensures.value ∙ c.if-is_ok-2.false); last = c.check-2.new.normalize; leaves = ap (λ x. x.after) e };
 }
 
 pub returns-in_err-local-clause-calls : goal.returns-in_err-local-clause-calls

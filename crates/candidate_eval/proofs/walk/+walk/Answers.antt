@@ -18,20 +18,20 @@ use Rattle.candidate_eval.proofs.walk.+walk.Goals as goal
 use Rattle.candidate_eval.proofs.walk.+walk.Goals.{visit_ty-in-Item, visit_ty-in-Target, visit_ty-in-Arguments, visit_args-in-Ty+in_ok-visit_ty, visit_args-in_default}
 
 pub visit_ty-returns-then-levels-eq0-clause-outcome : goal.visit_ty-returns-then-levels-eq0-clause-outcome
-visit_ty-returns-then-levels-eq0-clause-outcome g t c = λ u normal h told.
-    too-deep (setting (g.C.Make.context c.args.infcx.now) c.args.walk.now.in_crate) (view (λ s u. g.C.InferCtxtLike.resolved s.1 u) normal)
-    c.args.levels (c.args.normalize.now, c.args.infcx.now) _ c.args.walk.now.seeks_local (omega arith)
+visit_ty-returns-then-levels-eq0-clause-outcome g t c = λ d h told.
+    too-deep (setting (g.C.Make.context c.args.infcx.now) c.args.walk.now.in_crate) (view (λ s u. g.C.InferCtxtLike.resolved s.1 u) d.normal)
+    c.args.levels (d.stands (c.args.normalize.now, c.args.infcx.now)) _ c.args.walk.now.seeks_local (omega arith)
 
 pub visit_ty-returns-in_err-view-clause-recorded : goal.visit_ty-returns-in_err-view-clause-recorded
 visit_ty-returns-in_err-view-clause-recorded g t c = types-kept _ _ c.args.walk.now.non_local.items c.view_of.ensures.grows c.requires.recorded
 
 pub visit_ty-returns-in_err-view-clause-outcome : goal.visit_ty-returns-in_err-view-clause-outcome
-visit_ty-returns-in_err-view-clause-outcome g t c = λ u normal h.
+visit_ty-returns-in_err-view-clause-outcome g t c = λ d h.
     let p = err_from_is_err_and c.from_residual.result c.from_residual.ensures.1 in
     let levels : c.args.levels ≡ suc (c.args.levels - 1) = omega arith in
-    visited-nothing (setting (g.C.Make.context c.args.infcx.now) c.args.walk.now.in_crate) (view (λ s u. g.C.InferCtxtLike.resolved s.1 u) normal)
+    visited-nothing (setting (g.C.Make.context c.args.infcx.now) c.args.walk.now.in_crate) (view (λ s u. g.C.InferCtxtLike.resolved s.1 u) d.normal)
     (g.C.Make.context c.view_of.new.infcx).trees c.args.levels (c.args.levels - 1) levels _ _ _ _ c.args.walk.now c.from_residual.result p.0 p.1 p.2
-    u (c.in_err-view.ensures.view u normal h)
+    d.untold (c.in_err-view.ensures.view d h)
 
 pub visit_ty-visit_ty-outcome-requires : goal.visit_ty-visit_ty-outcome-requires
 visit_ty-visit_ty-outcome-requires g t c κs within =
@@ -84,54 +84,54 @@ visit_ty-visit_args-outcome-requires g t c κs within =
     )
 
 pub visit_ty-returns-clause-outcome : goal.visit_ty-returns-clause-outcome
-visit_ty-returns-clause-outcome g t c = λ u normal h.
-    let see = view (λ s u. g.C.InferCtxtLike.resolved s.1 u) normal in
+visit_ty-returns-clause-outcome g t c = λ d h.
+    let see = view (λ s u. g.C.InferCtxtLike.resolved s.1 u) d.normal in
     let levels : c.args.levels ≡ suc (c.args.levels - 1) = omega arith in
     let c0 = g.C.Make.context c.args.infcx.now in
     let c1 = g.C.Make.context c.view_of.new.infcx in
     let grows = c.view_of.ensures.grows in
     let m = c.args.walk.now.in_crate in
-    let s0 : g.row.F.Denot × g.row.C.Denot = (c.args.normalize.now, c.args.infcx.now) in
-    let s1 : g.row.F.Denot × g.row.C.Denot = (c.view_of.new.normalize, c.view_of.new.infcx) in
+    let s0 : g.row.F.Denot × g.row.C.Denot = d.stands (c.args.normalize.now, c.args.infcx.now) in
+    let s1 : g.row.F.Denot × g.row.C.Denot = d.stands (c.view_of.new.normalize, c.view_of.new.infcx) in
     let tree = ty_tree c0.trees c.args.ty in
-    let seen = c.in_ok-view.ensures.view u normal h (λ s o e. cc) in
+    let seen = c.in_ok-view.ensures.view d h (λ s o e. cc) in
     let later = function-later g.C.Make.context g.F.FnMut c.args.normalize.now c.args.infcx.now c.view_of.new.normalize c.view_of.new.infcx
-    (viewed-reached g.C.Make.context g.F.FnMut _ _ _ _ _ c.in_ok-view.ensures.call (λ s e. cc)) grows u normal h in
+    (viewed-reached g.C.Make.context g.F.FnMut _ _ _ _ _ c.in_ok-view.ensures.call (λ s e. cc)) grows g.C.InferCtxtLike.resolved d h in
     elim c.match-shape_of.branch [
       | visit_ty-in-Item w ↦ rw (w.infcx-is, w.normalize-is, w.walk-is, w.outcome-is)
           (visited-item c0 c1 m grows see c.args.levels (c.args.levels - 1) levels s0 s1 tree c.in_ok-view.view seen w.in-Item.class
-          c.args.walk.now w.take-outcome.new.self _ w.take-outcome.result (rw c.cx.ensures at w.in-Item.ensures) refl w.take-outcome.ensures.taken u)
+          c.args.walk.now w.take-outcome.new.self _ w.take-outcome.result (rw c.cx.ensures at w.in-Item.ensures) refl w.take-outcome.ensures.taken d.untold)
       | visit_ty-in-Target w ↦ rw (w.infcx-is, w.normalize-is, w.walk-is, w.outcome-is)
           (visited-target c0 c1 m grows see c.args.levels (c.args.levels - 1) levels s0 s1 tree c.in_ok-view.view seen w.in-Target.target
           c.args.walk.now w.visit_ty-outcome.new.walk _ _ _ w.visit_ty-outcome.result (rw c.cx.ensures at w.in-Target.ensures) refl
-          (w.visit_ty-outcome.ensures.some u normal later) u (w.visit_ty-outcome.ensures.outcome u normal later))
+          (w.visit_ty-outcome.ensures.some d later) d.untold (w.visit_ty-outcome.ensures.outcome d later))
       | visit_ty-in-Arguments w ↦ rw (w.infcx-is, w.normalize-is, w.walk-is, w.outcome-is)
           (visited-arguments c0 c1 m grows see c.args.levels (c.args.levels - 1) levels s0 s1 tree c.in_ok-view.view seen w.in-Arguments.args
           c.args.walk.now w.visit_args-outcome.new.walk _ _ _ w.visit_args-outcome.result (rw c.cx.ensures at w.in-Arguments.ensures) refl
-          u (w.visit_args-outcome.ensures.outcome u normal later))
+          d.untold (w.visit_args-outcome.ensures.outcome d later))
     ]
 
 pub visit_ty-returns-clause-some : goal.visit_ty-returns-clause-some
-visit_ty-returns-clause-some g t c = λ u normal h.
-    let see = view (λ s u. g.C.InferCtxtLike.resolved s.1 u) normal in
+visit_ty-returns-clause-some g t c = λ d h.
+    let see = view (λ s u. g.C.InferCtxtLike.resolved s.1 u) d.normal in
     let levels : c.args.levels ≡ suc (c.args.levels - 1) = omega arith in
     let c0 = g.C.Make.context c.args.infcx.now in
     let c1 = g.C.Make.context c.view_of.new.infcx in
     let grows = c.view_of.ensures.grows in
     let m = c.args.walk.now.in_crate in
-    let s0 : g.row.F.Denot × g.row.C.Denot = (c.args.normalize.now, c.args.infcx.now) in
-    let s1 : g.row.F.Denot × g.row.C.Denot = (c.view_of.new.normalize, c.view_of.new.infcx) in
+    let s0 : g.row.F.Denot × g.row.C.Denot = d.stands (c.args.normalize.now, c.args.infcx.now) in
+    let s1 : g.row.F.Denot × g.row.C.Denot = d.stands (c.view_of.new.normalize, c.view_of.new.infcx) in
     let tree = ty_tree c0.trees c.args.ty in
-    let seen = c.in_ok-view.ensures.view u normal h (λ s o e. cc) in
+    let seen = c.in_ok-view.ensures.view d h (λ s o e. cc) in
     let later = function-later g.C.Make.context g.F.FnMut c.args.normalize.now c.args.infcx.now c.view_of.new.normalize c.view_of.new.infcx
-    (viewed-reached g.C.Make.context g.F.FnMut _ _ _ _ _ c.in_ok-view.ensures.call (λ s e. cc)) grows u normal h in
+    (viewed-reached g.C.Make.context g.F.FnMut _ _ _ _ _ c.in_ok-view.ensures.call (λ s e. cc)) grows g.C.InferCtxtLike.resolved d h in
     elim c.match-shape_of.branch [
       | visit_ty-in-Item w ↦ rw w.outcome-is
           (item-some c0 c1 m grows see c.args.levels (c.args.levels - 1) levels s0 s1 tree c.in_ok-view.view seen w.in-Item.class
           w.take-outcome.result (rw c.cx.ensures at w.in-Item.ensures))
       | visit_ty-in-Target w ↦ rw w.outcome-is
           (target-some c0 c1 m grows see c.args.levels (c.args.levels - 1) levels s0 s1 tree c.in_ok-view.view seen w.in-Target.target
-          w.visit_ty-outcome.result (rw c.cx.ensures at w.in-Target.ensures) (w.visit_ty-outcome.ensures.some u normal later))
+          w.visit_ty-outcome.result (rw c.cx.ensures at w.in-Target.ensures) (w.visit_ty-outcome.ensures.some d later))
       | visit_ty-in-Arguments w ↦ rw w.outcome-is
           (arguments-some c0 c1 m grows see c.args.levels (c.args.levels - 1) levels s0 s1 tree c.in_ok-view.view seen w.in-Arguments.args
           w.visit_args-outcome.result (rw c.cx.ensures at w.in-Arguments.ensures))
@@ -209,9 +209,9 @@ visit_args-loop-i-init g t c =
       recorded = c.requires.recorded;
       firsts = c.requires.firsts;
       count_is = sym (count-members c0.trees c.args-count.result.now ensures.fits) ∙ ap count ensures.tree;
-      sofar = λ u normal h.
-          sofar-begin (setting c0 c.args.walk.now.in_crate) (view (λ s u. g.C.InferCtxtLike.resolved s.1 u) normal) c.args.levels c0.trees c.args.walk.now
-          (c.args.normalize.now, c.args.infcx.now) (args_forest c0.trees c.args.args);
+      sofar = λ d h.
+          sofar-begin (setting c0 c.args.walk.now.in_crate) (view (λ s u. g.C.InferCtxtLike.resolved s.1 u) d.normal) c.args.levels c0.trees c.args.walk.now
+          (d.stands (c.args.normalize.now, c.args.infcx.now)) (args_forest c0.trees c.args.args);
     }
 
 pub visit_args-args-requires : goal.visit_args-args-requires
@@ -261,8 +261,6 @@ visit_args-loop-i-preserved g t c =
     let here = c.loop-i.invariant in
     let xs = c.args-in-loop-i.result.now in
     let below = index-below c0 c1 c.args.args xs c.loop-i.i _ here.grows c.requires.args ensures.fits ensures.tree here.count_is c.loop-i-test.true in
-    let s0 : g.row.F.Denot × g.row.C.Denot = (c.args.normalize.now, c.args.infcx.now) in
-    let s1 : g.row.F.Denot × g.row.C.Denot = (c.loop-i.normalize, c.loop-i.infcx) in
     elim c.match-arg.branch [
       | visit_args-in-Ty+in_ok-visit_ty w ↦ rw (w.infcx-is, w.normalize-is, w.walk-is)
           (record {
@@ -275,13 +273,13 @@ visit_args-loop-i-preserved g t c =
             recorded = w.in_ok-visit_ty.ensures.recorded;
             firsts = w.in_ok-visit_ty.ensures.firsts;
             count_is = here.count_is;
-            sofar = λ u normal h.
-                let later = function-later g.C.Make.context g.F.FnMut c.args.normalize.now c.args.infcx.now c.loop-i.normalize c.loop-i.infcx here.calls here.grows u normal h in
-                next-visit (view (λ s u. g.C.InferCtxtLike.resolved s.1 u) normal) c.args.levels c0 c1 here.grows c.args.args c.requires.args xs c.loop-i.i _
-                ensures.fits ensures.tree below c.args.walk.now c.loop-i.walk here.same s0 s1 w.in-Ty.ty w.in-Ty.is
-                (g.C.Make.context w.visit_ty.new.infcx) w.in_ok-visit_ty.ensures.grows w.visit_ty.new.walk (w.visit_ty.new.normalize, w.visit_ty.new.infcx)
-                c.requires.recorded here.recorded w.in_ok-visit_ty.ensures.first (w.in_ok-visit_ty.ensures.some u normal later) (w.in_ok-visit_ty.ensures.outcome u normal later)
-                (here.sofar u normal h);
+            sofar = λ d h.
+                let later = function-later g.C.Make.context g.F.FnMut c.args.normalize.now c.args.infcx.now c.loop-i.normalize c.loop-i.infcx here.calls here.grows g.C.InferCtxtLike.resolved d h in
+                next-visit (view (λ s u. g.C.InferCtxtLike.resolved s.1 u) d.normal) c.args.levels c0 c1 here.grows c.args.args c.requires.args xs c.loop-i.i _
+                ensures.fits ensures.tree below c.args.walk.now c.loop-i.walk here.same (d.stands (c.args.normalize.now, c.args.infcx.now)) (d.stands (c.loop-i.normalize, c.loop-i.infcx)) w.in-Ty.ty w.in-Ty.is
+                (g.C.Make.context w.visit_ty.new.infcx) w.in_ok-visit_ty.ensures.grows w.visit_ty.new.walk (d.stands (w.visit_ty.new.normalize, w.visit_ty.new.infcx))
+                c.requires.recorded here.recorded w.in_ok-visit_ty.ensures.first (w.in_ok-visit_ty.ensures.some d later) (w.in_ok-visit_ty.ensures.outcome d later)
+                (here.sofar d h);
           })
       | visit_args-in_default w ↦ rw (w.infcx-is, w.normalize-is, w.walk-is)
           (record {
@@ -291,38 +289,38 @@ visit_args-loop-i-preserved g t c =
             recorded = here.recorded;
             firsts = here.firsts;
             count_is = here.count_is;
-            sofar = λ u normal h.
-                next-skip (view (λ s u. g.C.InferCtxtLike.resolved s.1 u) normal) c.args.levels c0 c1 here.grows c.args.args c.requires.args xs c.loop-i.i _
-                ensures.fits ensures.tree below c.args.walk.now c.loop-i.walk here.same s0 s1 w.in_default.not-Ty (here.sofar u normal h);
+            sofar = λ d h.
+                next-skip (view (λ s u. g.C.InferCtxtLike.resolved s.1 u) d.normal) c.args.levels c0 c1 here.grows c.args.args c.requires.args xs c.loop-i.i _
+                ensures.fits ensures.tree below c.args.walk.now c.loop-i.walk here.same (d.stands (c.args.normalize.now, c.args.infcx.now)) (d.stands (c.loop-i.normalize, c.loop-i.infcx)) w.in_default.not-Ty (here.sofar d h);
           })
     ]
 
 pub visit_args-returns-in_err-visit_ty-clause-outcome : goal.visit_args-returns-in_err-visit_ty-clause-outcome
-visit_args-returns-in_err-visit_ty-clause-outcome g t c = λ u normal h.
+visit_args-returns-in_err-visit_ty-clause-outcome g t c = λ d h.
     let c0 = g.C.Make.context c.args.infcx.now in
     let c1 = g.C.Make.context c.loop-i.infcx in
     let ensures = rw c.cx-in-loop-i.ensures at c.args-in-loop-i.ensures in
     let here = c.loop-i.invariant in
     let xs = c.args-in-loop-i.result.now in
     let below = index-below c0 c1 c.args.args xs c.loop-i.i _ here.grows c.requires.args ensures.fits ensures.tree here.count_is c.loop-i-test.true in
-    let s0 : g.row.F.Denot × g.row.C.Denot = (c.args.normalize.now, c.args.infcx.now) in
-    let s1 : g.row.F.Denot × g.row.C.Denot = (c.loop-i.normalize, c.loop-i.infcx) in
-    let later = function-later g.C.Make.context g.F.FnMut c.args.normalize.now c.args.infcx.now c.loop-i.normalize c.loop-i.infcx here.calls here.grows u normal h in
+    let s0 : g.row.F.Denot × g.row.C.Denot = d.stands (c.args.normalize.now, c.args.infcx.now) in
+    let s1 : g.row.F.Denot × g.row.C.Denot = d.stands (c.loop-i.normalize, c.loop-i.infcx) in
+    let later = function-later g.C.Make.context g.F.FnMut c.args.normalize.now c.args.infcx.now c.loop-i.normalize c.loop-i.infcx here.calls here.grows g.C.InferCtxtLike.resolved d h in
     let p = err_from_is_err_and c.from_residual.result c.from_residual.ensures.1 in
-    next-found (view (λ s u. g.C.InferCtxtLike.resolved s.1 u) normal) c.args.levels c0 c1 here.grows c.args.args c.requires.args xs c.loop-i.i _
+    next-found (view (λ s u. g.C.InferCtxtLike.resolved s.1 u) d.normal) c.args.levels c0 c1 here.grows c.args.args c.requires.args xs c.loop-i.i _
     ensures.fits ensures.tree below c.args.walk.now c.loop-i.walk here.same s0 s1 c.in-Ty.ty c.in-Ty.is
-    (g.C.Make.context c.visit_ty.new.infcx).trees c.visit_ty.new.walk (c.visit_ty.new.normalize, c.visit_ty.new.infcx) _ p.0 c.from_residual.result p.1 p.2
-    u (c.in_err-visit_ty.ensures.outcome u normal later) (here.sofar u normal h)
+    (g.C.Make.context c.visit_ty.new.infcx).trees c.visit_ty.new.walk (d.stands (c.visit_ty.new.normalize, c.visit_ty.new.infcx)) _ p.0 c.from_residual.result p.1 p.2
+    d.untold (c.in_err-visit_ty.ensures.outcome d later) (here.sofar d h)
 
 pub visit_args-returns-clause-outcome : goal.visit_args-returns-clause-outcome
-visit_args-returns-clause-outcome g t c = λ u normal h.
+visit_args-returns-clause-outcome g t c = λ d h.
     let c0 = g.C.Make.context c.args.infcx.now in
     let p = setting c0 c.args.walk.now.in_crate in
     let all = args_forest c0.trees c.args.args in
     let end : c.loop-i.i ≡ count all = omega (arith, c.loop-i.invariant.count_is) in
-    sofar-end p (view (λ s u. g.C.InferCtxtLike.resolved s.1 u) normal) c.args.levels (g.C.Make.context c.loop-i.infcx).trees c.args.walk.now c.loop-i.walk
-    (c.args.normalize.now, c.args.infcx.now) (c.loop-i.normalize, c.loop-i.infcx) all (skip c.loop-i.i all) (skip-all all c.loop-i.i end)
-    (c.loop-i.invariant.sofar u normal h)
+    sofar-end p (view (λ s u. g.C.InferCtxtLike.resolved s.1 u) d.normal) c.args.levels (g.C.Make.context c.loop-i.infcx).trees c.args.walk.now c.loop-i.walk
+    (d.stands (c.args.normalize.now, c.args.infcx.now)) (d.stands (c.loop-i.normalize, c.loop-i.infcx)) all (skip c.loop-i.i all) (skip-all all c.loop-i.i end)
+    (c.loop-i.invariant.sofar d h)
 
 pub visit_ty-returns-then-levels-eq0-clause-calls : goal.visit_ty-returns-then-levels-eq0-clause-calls
 visit_ty-returns-then-levels-eq0-clause-calls g t c =
