@@ -14,14 +14,16 @@ use Rattle.candidate_eval.specs.declared.coherence.Conflict.TheVariants as K
 use Rattle.candidate_eval.specs.declared.coherence.NormalizeErr.{NormalizeErr}
 use Rattle.candidate_eval.specs.declared.coherence.OrphanStop.{OrphanStop}
 use Rattle.candidate_eval.specs.declared.coherence.OrphanStop.TheVariants as O
-use Rattle.candidate_eval.specs.Answers.{CheckResult, answer_of, OutOfMemory, IsAnswer, KnownResult, knowledge_of}
+use Rattle.candidate_eval.specs.Answers.{CheckResult, answer_of, IsAnswer, KnownResult, knowledge_of}
 use Rattle.candidate_eval.specs.Calls.{depth_limit, check_of, check_where, IsChecked, IsKnown, HasNoAlias, HasNoAliasOrError, IsOfForeignTrait, IsDecidedByGeneralHere, NoForeignHeaderHere, NoUnnamedHeaderHere, NoCoveredHeaderHere, HasDownstreamHere}
 use Rattle.candidate_eval.specs.Laws.{AreResolved, IsPlainCall, NoForeignHeader, NoUnnamedHeader, NoCoveredHeader, IsDecidedByGeneral, HasDownstream}
-use Rattle.candidate_eval.specs.Normalizer.{IsFunction, IsLeftByCalls, IsChangedByCalls, HasCause, StopHasCause}
+use Rattle.candidate_eval.specs.Normalizer.{AnyStop, IsTold, Description, exactly, StopsWith, IsFunction, IsLeftByCalls, IsChangedByCalls}
 use Rattle.candidate_eval.specs.Orphan.{InCrate, Local, Remote, Proper, Compat, View, view, plain, orphan_answer, Passes, knowability, Knowability, Knowable, Downstream, local_or_fundamental, plain_knowability, bare_answer, bare_knowledge, IsPlainForest}
-use Rattle.candidate_eval.proofs.Calls.{left-same}
+use Rattle.candidate_eval.proofs.Calls.{reached-same}
+use Rattle.candidate_eval.proofs.Causes.{left-same, left-quietly}
 use Rattle.candidate_eval.proofs.CheckLaws.{compat-passes, any-local}
 use Rattle.candidate_eval.proofs.Lowering.{plain_answer, plain_knowledge}
+use Rattle.candidate_eval.proofs.OrphanLaws.{proper_then_compat, remote_law, first_input_law}
 use Rattle.candidate_eval.proofs.Newcomer.{downstream_world}
 use Rattle.candidate_eval.proofs.Safety.{link_safety, own_header, open_world, covered_world}
 
@@ -59,50 +61,54 @@ module _ {C F E : Type 0} {context : C → Context} {resolve : C → Tree → Tr
     pub no_foreign_header_said : IsPlainCall context resolve g f c r → HasNoAliasOrError (context c) r → m ≡ Local Proper → result ≡ Ok (Ok tt) → NoForeignHeaderHere (context c) r
     no_foreign_header_said p ok e passes =
         no-foreign-header (world (context c)) (context c).local.0 depth_limit (λ (s : F × C) t. resolve s.1 t) (f, c) (reference_of (context c).trees r) p.of_world p.resolved m e ok
-        (ap (λ x. x.answer) (said.at plain p.normaliser (λ x. cc)) ∙ ap (answer_of (context c').trees) passes)
+        (ap (λ x. x.answer) (said.at (exactly AnyStop plain) p.normaliser (λ s u x. cc)) ∙ ap (answer_of (context c').trees) passes)
 
-    pub proper_passes_compat_said : (normal : View (F × C) E) → IsFunction context g f c normal → m ≡ Local Proper → result ≡ Ok (Ok tt)
-        → (check_of context resolve normal (Local Compat) (f, c) r).answer ≡ Passes
-    proper_passes_compat_said normal h e passes =
-        compat-passes (world (context c)) (context c).local.0 depth_limit (seen resolve normal) (f, c) (args_forest (context c).trees r.args) m e
-        (ap (λ x. x.answer) (said.at normal h (λ x. cc)) ∙ ap (answer_of (context c').trees) passes)
+    pub proper_passes_compat_said : (d : Description F C E) → IsFunction context g resolve d f c → m ≡ Local Proper → result ≡ Ok (Ok tt)
+        → (check_of context resolve d (Local Compat) (f, c) r).answer ≡ Passes
+    proper_passes_compat_said d h e passes =
+        compat-passes (world (context c)) (context c).local.0 depth_limit (seen resolve d.normal) (d.stands (f, c)) (args_forest (context c).trees r.args) m e
+        (ap (λ x. x.answer) (said.at d h (λ s v x. cc)) ∙ ap (answer_of (context c').trees) passes)
 
-    pub remote_said : (normal : View (F × C) E) → IsFunction context g f c normal → m ≡ Remote → (OutOfMemory result → ⊥) → (local : ℕ)
-        → IsAnswer (context c').trees result c' (check_where context resolve normal local Remote (f, c) r)
-    remote_said normal h e ne local =
-        let k = any-local (world (context c)) (context c).local.0 depth_limit (seen resolve normal) (f, c) (args_forest (context c).trees r.args) m e local ∙ said.at normal h ne in
-        record { answer = ap (λ x. x.answer) k; leaves = ap (λ x. x.after.1) k }
+    pub remote_said : (d : Description F C E) → IsFunction context g resolve d f c → m ≡ Remote → IsTold d.untold result → (local : ℕ)
+        → IsAnswer (context c').trees d.stands result c' (check_where context resolve d local Remote (f, c) r)
+    remote_said d h e told local =
+        let k = any-local (world (context c)) (context c).local.0 depth_limit (seen resolve d.normal) (d.stands (f, c)) (args_forest (context c).trees r.args) m e local ∙ said.at d h told in
+        record { answer = ap (λ x. x.answer) k; last = f'; leaves = ap (λ x. x.after) k }
 
   module _ {result : KnownResult E} (said : IsKnown context resolve g f c r result f' c') (p : IsPlainCall context resolve g f c r) where
     pub no_unnamed_header_said : HasNoAlias (context c) r → result ≡ Ok (Ok tt) → NoUnnamedHeaderHere (context c) r
     no_unnamed_header_said ok known =
         no-unnamed-header (world (context c)) (context c).local.0 depth_limit (λ (s : F × C) t. resolve s.1 t) (f, c) (reference_of (context c).trees r) p.of_world p.resolved ok
-        ((said.at plain p.normaliser (λ x. cc)).answer ∙ ap knowledge_of known)
+        ((said.at (exactly AnyStop plain) p.normaliser (λ s u x. cc)).answer ∙ ap knowledge_of known)
 
     pub no_covered_header_said : HasNoAlias (context c) r → result ≡ Ok (Ok tt) → IsOfForeignTrait (context c) r → NoCoveredHeaderHere (context c) r
     no_covered_header_said ok known foreign =
         no-covered-header (world (context c)) (context c).local.0 depth_limit (λ (s : F × C) t. resolve s.1 t) (f, c) (reference_of (context c).trees r) p.of_world p.resolved ok
-        ((said.at plain p.normaliser (λ x. cc)).answer ∙ ap knowledge_of known) foreign
+        ((said.at (exactly AnyStop plain) p.normaliser (λ s u x. cc)).answer ∙ ap knowledge_of known) foreign
 
     pub downstream_header_said : HasNoAliasOrError (context c) r → result ≡ Ok (Err K.Downstream) → IsDecidedByGeneralHere (context c) r
         → HasDownstreamHere (context c) r
     downstream_header_said ok known decided =
         downstream-header (world (context c)) (context c).local.0 depth_limit (λ (s : F × C) t. resolve s.1 t) (f, c) (reference_of (context c).trees r) p.of_world p.resolved ok
-        ((said.at plain p.normaliser (λ x. cc)).answer ∙ ap knowledge_of known) decided
+        ((said.at (exactly AnyStop plain) p.normaliser (λ s u x. cc)).answer ∙ ap knowledge_of known) decided
 
-module _ {C F E : Type 0} {context : C → Context} {g : Mut F (MutBor C × (Ty × Unit {0})) (Result Ty (NormalizeErr E) × (MutBor C × Unit {0}))} {f : F} {c : C} where
-  pub changed_by_none : IsChangedByCalls context g f c c
-  changed_by_none = record { last = f; left = left-same context g f c }
-
-  pub changed_by_calls : {f' : F} {c' : C} → IsLeftByCalls context g f c f' c' → IsChangedByCalls context g f c c'
+module _ {C F E A : Type 0} {context : C → Context} {g : Mut F (MutBor C × (Ty × Unit {0})) (Result Ty (NormalizeErr E) × (MutBor C × Unit {0}))}
+    {levels : ℕ} {f : F} {c : C} {result : Result A (OrphanStop E)} where
+  pub changed_by_calls : {f' : F} {c' : C} → IsLeftByCalls context g levels f c f' c' (StopsWith result) → IsChangedByCalls context g levels f c c' result
   changed_by_calls {f' = f'} h = record { last = f'; left = h }
 
-  pub stop_has_cause : {A : Type 0} {levels : ℕ} {f' : F} {c' : C} {result : Result A (OrphanStop E)} {s : Stop}
-      → HasCause context g levels f c f' c' result → result ≡ Err (O.Stop s) → StopHasCause context g levels f c c' s
-  stop_has_cause {f' = f'} {s = s} h e = record { last = f'; cause = h.at s e }
+  -- another result that stops alike
+  pub changed_alike : {f' : F} {c' : C} {said : Result A (OrphanStop E)} → IsLeftByCalls context g levels f c f' c' (StopsWith said)
+      → ((s : Stop) → said ≡ Err (O.Stop s) → result ≡ Err (O.Stop s)) → ((s : Stop) → result ≡ Err (O.Stop s) → said ≡ Err (O.Stop s))
+      → IsChangedByCalls context g levels f c c' result
+  changed_alike {f' = f'} {c' = c'} h p q = record { last = f'; left = left-same context g levels f c f' c' _ _ p q h }
 
-pub ruleset of_calls = (changed_by_none, changed_by_calls, stop_has_cause)
+  -- no call is made, and the result is no stop
+  pub changed_by_none : ((s : Stop) → result ≡ Err (O.Stop s) → ⊥) → IsChangedByCalls context g levels f c c result
+  changed_by_none n = record { last = f; left = left-quietly context g levels f c f c (StopsWith result) (reached-same context g f c) n }
 
-pub ruleset check_laws = (link_safety, no_foreign_header_said, proper_passes_compat_said, of_calls)
+pub ruleset of_calls = (changed_by_calls, changed_alike, changed_by_none)
+
+pub ruleset check_laws = (link_safety, no_foreign_header_said, proper_passes_compat_said, of_calls, proper_then_compat, remote_law, first_input_law)
 
 pub ruleset knowability_laws = (no_unnamed_header_said, no_covered_header_said, downstream_header_said, of_calls)

@@ -1,54 +1,92 @@
 -- Calls of a normaliser.
-use Rattle.std.proofs.Common.{◌≡◌, ℕ, zero, suc, ◌<◌, ◌^◌, Result, IfOk, refl, subst}
+use Rattle.std.proofs.Common.{◌≡◌, ℕ, ◌<◌, ◌^◌, List, [], ◌∷◌, ◌++◌, Result, Err, IfOk, refl, ◌∙◌, ap, subst}
 use Rattle.std.specs.Fn.{Mut, Called}
 use Rattle.std.specs.Borrow.{MutBor}
 use Rattle.candidate_ir.specs.declared.ir.kinds.Ty.{Ty}
+use Rattle.candidate_ir.specs.declared.ir.stop.Stop.{Stop}
+use Rattle.candidate_ir.specs.declared.ir.stop.Stop.TheVariants.{Memory}
 use Rattle.candidate_ir.specs.Context.{Context, Grows}
+use Rattle.candidate_ir.specs.Trees.{Tree}
 use Rattle.candidate_ir.specs.Words.{IsTy, ty_tree}
 use Rattle.candidate_ir.proofs.Kept.{grows-refl, grows-trans}
 use Rattle.candidate_eval.specs.declared.coherence.NormalizeErr.{NormalizeErr}
+use Rattle.candidate_eval.specs.declared.coherence.OrphanStop.{OrphanStop}
+use Rattle.candidate_eval.specs.declared.coherence.OrphanStop.TheVariants as O
 use Rattle.candidate_eval.specs.Orphan.{View}
-use Rattle.candidate_eval.specs.Normalizer.{shown, Normalizes, MayNormalize, KeepsNumbers, IsFunction, Lead, IsLeftByCalls}
+use Rattle.candidate_eval.specs.Normalizer.{shown, Untold, RefusedGrowth, AnyStop, IsUntold, IsToldAnswer, IsTold, Description, exactly, Call, NoneStops, Normalizes, Lead, IsReached, MayNormalize, KeepsNumbers, IsFunction}
+
+-- where memory alone is left open, or all stops are
+pub memory-untold : (u : Untold) (s : Stop) → s ≡ Memory → IsUntold u s
+memory-untold RefusedGrowth s e = e
+memory-untold AnyStop s e = tt
+
+-- a result is told where no growth was refused, or where it is no stop
+pub told-unless-refused : {A E : Type 0} (r : Result A (OrphanStop E)) → (r ≡ Err (O.Stop Memory) → ⊥) → IsTold RefusedGrowth r
+told-unless-refused {A} {E} r ne s u e = ne (e ∙ ap (λ (x : Stop). let y : Result A (OrphanStop E) = Err (O.Stop x) in y) u)
+
+pub told-unless-stopped : {A E : Type 0} (r : Result A (OrphanStop E)) → ((s : Stop) → r ≡ Err (O.Stop s) → ⊥) → IsTold AnyStop r
+told-unless-stopped r ne s u e = ne s e
+
+pub none-then : {F C E : Type 0} (xs ys : List (Call F C E)) → NoneStops xs → NoneStops ys → NoneStops (xs ++ ys)
+none-then [] ys a b = b
+none-then (x ∷ xs) ys a b = (a.0, none-then xs ys a.1 b)
 
 module _ {C F E : Type 0} (context : C → Context) (g : Mut F (MutBor C × (Ty × Unit {0})) (Result Ty (NormalizeErr E) × (MutBor C × Unit {0}))) where
   pub normalizes : (f : F) (lent : MutBor C) (t : Ty) (r : Result Ty (NormalizeErr E)) (left : MutBor C) (f' : F)
       → Called g f (lent, (t, tt)) (r, (left, tt)) f' → Normalizes context g f lent.now t r f' left.now
   normalizes f lent t r left f' h = record { lent = lent; lends = refl; left = left; called = h; leaves = refl }
 
-  lead-then : (n : ℕ) (f : F) (c : C) (f1 : F) (c1 : C) (f2 : F) (c2 : C) → Lead context g n f c f1 c1 → IsLeftByCalls context g f1 c1 f2 c2 → IsLeftByCalls context g f c f2 c2
-  lead-then zero f c f1 c1 f2 c2 a b = subst (λ x. IsLeftByCalls context g x c f2 c2) a.0 (subst (λ x. IsLeftByCalls context g f1 x f2 c2) a.1 b)
-  lead-then (suc n) f c f1 c1 f2 c2 a b =
-      let k = lead-then n a.2 a.3 f1 c1 f2 c2 a.5 b in
-      record { calls = suc k.calls; lead = (a.0, a.1, a.2, a.3, a.4, k.lead) }
+  pub lead-then : (xs ys : List (Call F C E)) (f : F) (c : C) (f1 : F) (c1 : C) (f2 : F) (c2 : C) → Lead context g f c xs f1 c1 → Lead context g f1 c1 ys f2 c2
+      → Lead context g f c (xs ++ ys) f2 c2
+  lead-then [] ys f c f1 c1 f2 c2 a b = subst (λ x. Lead context g x c ys f2 c2) a.0 (subst (λ x. Lead context g f1 x ys f2 c2) a.1 b)
+  lead-then (x ∷ xs) ys f c f1 c1 f2 c2 a b = (a.0, a.1, a.2, lead-then xs ys x.next x.after f1 c1 f2 c2 a.3 b)
 
-  pub left-same : (f : F) (c : C) → IsLeftByCalls context g f c f c
-  left-same f c = record { calls = 0; lead = (refl, refl) }
+  pub reached-same : (f : F) (c : C) → IsReached context g f c f c
+  reached-same f c = record { calls = []; lead = (refl, refl); none = tt }
 
-  pub left-then : (f : F) (c : C) (f1 : F) (c1 : C) (f2 : F) (c2 : C) → IsLeftByCalls context g f c f1 c1 → IsLeftByCalls context g f1 c1 f2 c2 → IsLeftByCalls context g f c f2 c2
-  left-then f c f1 c1 f2 c2 a b = lead-then a.calls f c f1 c1 f2 c2 a.lead b
+  pub reached-then : (f : F) (c : C) (f1 : F) (c1 : C) (f2 : F) (c2 : C) → IsReached context g f c f1 c1 → IsReached context g f1 c1 f2 c2 → IsReached context g f c f2 c2
+  reached-then f c f1 c1 f2 c2 a b = record {
+    calls = a.calls ++ b.calls;
+    lead = lead-then a.calls b.calls f c f1 c1 f2 c2 a.lead b.lead;
+    none = none-then a.calls b.calls a.none b.none;
+  }
 
   -- what a call leaves and answers
   pub call-keeps : (f : F) (lent : MutBor C) (t : Ty) (r : Result Ty (NormalizeErr E)) (left : MutBor C) (f' : F)
-      → KeepsNumbers context g lent.now → IsTy (context lent.now).trees t → t.0 < 2 ^ 32 → Called g f (lent, (t, tt)) (r, (left, tt)) f'
+      → KeepsNumbers context g f lent.now → IsTy (context lent.now).trees t → t.0 < 2 ^ 32 → Called g f (lent, (t, tt)) (r, (left, tt)) f'
       → Grows (context lent.now) (context left.now) × IfOk r (λ u. IsTy (context left.now).trees u)
   call-keeps f lent t r left f' k s n h =
-      k.at f lent.now t r f' left.now (grows-refl (context lent.now)) s n (normalizes f lent t r left f' h)
+      k.at f lent.now t r f' left.now (reached-same f lent.now) (grows-refl (context lent.now)) s n (normalizes f lent t r left f' h)
 
   pub call-shows : (f : F) (lent : MutBor C) (t : Ty) (r : Result Ty (NormalizeErr E)) (left : MutBor C) (f' : F)
       → IsTy (context lent.now).trees t → t.0 < 2 ^ 32 → Called g f (lent, (t, tt)) (r, (left, tt)) f'
-      → (normal : View (F × C) E) → IsFunction context g f lent.now normal
-      → normal (f, lent.now) (ty_tree (context lent.now).trees t) ≡ record { seen = shown (context left.now).trees r; after = (f', left.now) }
-  call-shows f lent t r left f' s n h normal k =
-      k.at f lent.now t r f' left.now (left-same f lent.now) (grows-refl (context lent.now)) s n (normalizes f lent t r left f' h)
+      → (resolve : C → Tree → Tree) (d : Description F C E) → IsFunction context g resolve d f lent.now → IsToldAnswer d.untold r
+      → d.normal (d.stands (f, lent.now)) (ty_tree (context lent.now).trees t) ≡ record { seen = shown (context left.now).trees r; after = d.stands (f', left.now) }
+  call-shows f lent t r left f' s n h resolve d k told =
+      k.at f lent.now t r f' left.now (reached-same f lent.now) (grows-refl (context lent.now)) s n (normalizes f lent t r left f' h) told
 
-  -- what is asked of a normaliser at a context is asked at each that keeps its numbers
-  pub may-later : (c d : C) → Grows (context c) (context d) → MayNormalize context g c → MayNormalize context g d
-  may-later c d h m = record { at = λ f x t lent l k s n. m.at f x t lent l (grows-trans (context c) (context d) (context x) h k) s n }
+  -- what stands for the context gives variables the same values
+  pub values-here : (f : F) (c : C) (resolve : C → Tree → Tree) (d : Description F C E) → IsFunction context g resolve d f c → (t : Tree) → resolve (d.stands (f, c)).1 t ≡ resolve c t
+  values-here f c resolve d k t = k.values f c t (reached-same f c) (grows-refl (context c))
 
-  pub keeps-later : (c d : C) → Grows (context c) (context d) → KeepsNumbers context g c → KeepsNumbers context g d
-  keeps-later c d h m = record { at = λ f x t r f' x' k s n w. m.at f x t r f' x' (grows-trans (context c) (context d) (context x) h k) s n w }
+  pub call-may : (f : F) (lent : MutBor C) (t : Ty) → MayNormalize context g f lent.now → IsTy (context lent.now).trees t → t.0 < 2 ^ 32 → g.pre f (lent, (t, tt))
+  call-may f lent t k s n = k.at f lent.now t lent refl (reached-same f lent.now) (grows-refl (context lent.now)) s n
 
-  pub function-later : (f : F) (c : C) (f1 : F) (c1 : C) (normal : View (F × C) E) → IsLeftByCalls context g f c f1 c1 → Grows (context c) (context c1)
-      → IsFunction context g f c normal → IsFunction context g f1 c1 normal
-  function-later f c f1 c1 normal l h m =
-      record { at = λ e x t r e' x' q k s n w. m.at e x t r e' x' (left-then f c f1 c1 e x l q) (grows-trans (context c) (context c1) (context x) h k) s n w }
+  -- what is asked of a normaliser is asked where its calls lead
+  module _ (f : F) (c : C) (f1 : F) (c1 : C) (l : IsReached context g f c f1 c1) (h : Grows (context c) (context c1)) where
+    pub may-later : MayNormalize context g f c → MayNormalize context g f1 c1
+    may-later m = record { at = λ e x t lent i q k s n. m.at e x t lent i (reached-then f c f1 c1 e x l q) (grows-trans (context c) (context c1) (context x) h k) s n }
+
+    pub keeps-later : KeepsNumbers context g f c → KeepsNumbers context g f1 c1
+    keeps-later m = record { at = λ e x t r e' x' q k s n w. m.at e x t r e' x' (reached-then f c f1 c1 e x l q) (grows-trans (context c) (context c1) (context x) h k) s n w }
+
+    pub function-later : (resolve : C → Tree → Tree) (d : Description F C E) → IsFunction context g resolve d f c → IsFunction context g resolve d f1 c1
+    function-later resolve d m = record {
+      at = λ e x t r e' x' q k s n w told. m.at e x t r e' x' (reached-then f c f1 c1 e x l q) (grows-trans (context c) (context c1) (context x) h k) s n w told;
+      values = λ e x t q k. m.values e x t (reached-then f c f1 c1 e x l q) (grows-trans (context c) (context c1) (context x) h k);
+    }
+
+  -- a function but for refused growths is one but for all stops
+  pub function-unless-stopped : (resolve : C → Tree → Tree) (u : Untold) (normal : View (F × C) E) (f : F) (c : C)
+      → IsFunction context g resolve (exactly u normal) f c → IsFunction context g resolve (exactly AnyStop normal) f c
+  function-unless-stopped resolve u normal f c m = record { at = λ e x t r e' x' q k s n w told. m.at e x t r e' x' q k s n w (λ z h i. told z tt i); values = m.values }

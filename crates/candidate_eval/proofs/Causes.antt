@@ -1,5 +1,5 @@
 -- Why a walk stops.
-use Rattle.std.proofs.Common.{◌≡◌, ℕ, zero, suc, ◌+◌, ◌-◌, ◌<◌, ◌≤◌, ◌⊎◌, inl, inr, Bool, true, false, Result, Ok, Err, refl, subst, arith}
+use Rattle.std.proofs.Common.{◌≡◌, ℕ, ◌-◌, ◌<◌, ◌≤◌, ◌⊎◌, inl, inr, Bool, true, false, List, [], ◌∷◌, ◌++◌, length, Result, Ok, Err, refl, sym, ◌∙◌, ap, subst, arith}
 use Rattle.std.specs.Fn.{Mut}
 use Rattle.std.specs.Borrow.{MutBor}
 use Rattle.candidate_ir.specs.declared.ir.kinds.Ty.{Ty}
@@ -10,9 +10,9 @@ use Rattle.candidate_ir.specs.declared.ir.heads.Head.TheVariants as H
 use Rattle.candidate_ir.specs.declared.ir.kinds.AliasKind.{AliasKind}
 use Rattle.candidate_ir.specs.declared.ir.kinds.AliasKind.TheVariants as AK
 use Rattle.candidate_ir.specs.Context.{Context}
-use Rattle.candidate_ir.specs.Trees.{Forest, holds, is_loose}
+use Rattle.candidate_ir.specs.Trees.{Forest, Tree, holds, is_loose}
 use Rattle.candidate_ir.specs.Worlds.{World}
-use Rattle.candidate_ir.specs.Words.{ty_tree}
+use Rattle.candidate_ir.specs.Words.{IsTy, ty_tree}
 use Rattle.candidate_eval.specs.declared.coherence.NormalizeErr.{NormalizeErr}
 use Rattle.candidate_eval.specs.declared.coherence.NormalizeErr.TheVariants as N
 use Rattle.candidate_eval.specs.declared.coherence.OrphanStop.TheVariants as O
@@ -24,7 +24,8 @@ use Rattle.candidate_eval.specs.declared.walk.Walk.{Walk}
 use Rattle.candidate_eval.specs.Exits.{broken_by, exit_of, IsTaken}
 use Rattle.candidate_eval.specs.Orphan.{InCrate, Local, Remote, Proper, Compat, CrateTest, is_local, principal_passes, is_unnameable}
 use Rattle.candidate_eval.specs.Table.{table, loose_in, projection_in, loose_alias_in, alias_in, owned_in}
-use Rattle.candidate_eval.specs.Normalizer.{Normalizes, Lead, IsLeftByCalls, StopIsAnswered, UnnameableIsSeen, IsDeep, IsStopCause}
+use Rattle.candidate_eval.specs.Normalizer.{Call, Answers, NoneStops, EndsAtStop, LastIs, Normalizes, IsReached, SeesUnnameable, IsStopCause, IsLeftByCalls, IsViewed}
+use Rattle.candidate_eval.proofs.Calls.{lead-then, reached-same}
 
 -- the table says that a view stands in no header only of such heads
 loose-named : (m : InCrate) → loose_in m ≡ V.Unnameable → ⊥
@@ -68,6 +69,9 @@ pub broken-stop : {E : Type 0} (e : NormalizeErr E) (s : Stop) → broken_by e �
 broken-stop (N.Failed x) s e = cc
 broken-stop (N.Stop x) s e = cc
 
+pub stop-broken : {E : Type 0} (e : NormalizeErr E) (s : Stop) → e ≡ N.Stop s → broken_by e ≡ X.Broken (O.Stop s)
+stop-broken e s k = ap broken_by k
+
 -- an item stops a walk for want of memory, or since it stands in no header
 exit-stop : {E : Type 0} (k : ViewClass) (t : Ty) (x : EarlyExit E) (s : Stop)
     → x ≡ (let y : EarlyExit E = X.Broken (O.Stop s) in y) → x ≡ exit_of k t → (s ≡ Memory) ⊎ ((s ≡ Unnameable) × (k ≡ V.Unnameable))
@@ -82,76 +86,168 @@ pub take-stop : {E : Type 0} (old new : Walk) (k : ViewClass) (t : Ty) (r : Resu
 take-stop old new k t (Ok u) s a e = cc
 take-stop {E} old new k t (Err x) s a e = let y : x ≡ X.Broken (O.Stop s) = cc in exit-stop k t x s y a.0
 
+-- the last of calls
+pub last-on : {F C E : Type 0} (P : Call F C E → Type 0) (xs ys : List (Call F C E)) → LastIs P ys → LastIs P (xs ++ ys)
+last-on {F} {C} {E} P [] ys h = h
+last-on {F} {C} {E} P (x ∷ xs) ys h = at (xs ++ ys) (last-on P xs ys h)
+  where
+    at : (zs : List (Call F C E)) → LastIs P zs → LastIs P (x ∷ zs)
+    at [] k = absurd k
+    at (z ∷ zs) k = k
+
+last-tail : {F C E : Type 0} (s : Stop) (x : Call F C E) (zs : List (Call F C E)) → (Answers s x → ⊥) → LastIs (Answers s) (x ∷ zs) → LastIs (Answers s) zs
+last-tail s x [] n h = absurd (n h)
+last-tail s x (z ∷ zs) n h = h
+
+last-after : {F C E : Type 0} (s : Stop) (xs ys : List (Call F C E)) → NoneStops xs → LastIs (Answers s) (xs ++ ys) → LastIs (Answers s) ys
+last-after s [] ys n h = h
+last-after s (x ∷ xs) ys n h = last-after s xs ys n.1 (last-tail s x (xs ++ ys) (n.0 s) h)
+
+ends-on : {F C E : Type 0} (xs ys : List (Call F C E)) → NoneStops xs → EndsAtStop ys → EndsAtStop (xs ++ ys)
+ends-on [] ys n h = h
+ends-on (x ∷ xs) ys n h = (λ s e. absurd (n.0 s e), ends-on xs ys n.1 h)
+
+longer : {F C E : Type 0} (xs ys : List (Call F C E)) → length ys ≤ length (xs ++ ys)
+longer [] ys = omega arith
+longer (x ∷ xs) ys = let h = longer xs ys in omega (arith, h)
+
+deeper : {F C E : Type 0} (levels : ℕ) (x : Call F C E) (ys : List (Call F C E)) → 0 < levels → levels - 1 ≤ length ys → levels ≤ length (x ∷ ys)
+deeper levels x ys h k = omega (arith, h, k)
+
+-- none of the calls answers a stop where the last doesn't
+none-of : {F C E : Type 0} (xs : List (Call F C E)) → EndsAtStop xs → ((s : Stop) → LastIs (Answers s) xs → ⊥) → NoneStops xs
+none-of [] e n = tt
+none-of {F} {C} {E} (x ∷ xs) e n =
+    (λ s a. n s (subst (λ (zs : List (Call F C E)). LastIs (Answers s) (x ∷ zs)) (sym (e.0 s a)) a), none-of xs e.1 (λ s h. n s (last-on (Answers s) (x ∷ []) xs h)))
+
 module _ {C F E : Type 0} (context : C → Context) (g : Mut F (MutBor C × (Ty × Unit {0})) (Result Ty (NormalizeErr E) × (MutBor C × Unit {0}))) where
-  -- calls come first
-  lead-on : (n m : ℕ) (f : F) (c : C) (f1 : F) (c1 : C) (f2 : F) (c2 : C) → Lead context g n f c f1 c1 → Lead context g m f1 c1 f2 c2
-      → (k : ℕ) × (m ≤ k) × (n ≤ k) × (k ≡ n + m) × Lead context g k f c f2 c2
-  lead-on zero m f c f1 c1 f2 c2 a b =
-      (m, omega arith, omega arith, omega arith, subst (λ x. Lead context g m x c f2 c2) a.0 (subst (λ x. Lead context g m f1 x f2 c2) a.1 b))
-  lead-on (suc n) m f c f1 c1 f2 c2 a b =
-      let k = lead-on n m a.2 a.3 f1 c1 f2 c2 a.5 b in
-      (suc k.0, omega (arith, k.3), omega (arith, k.3), omega (arith, k.3), (a.0, a.1, a.2, a.3, a.4, k.4))
-
-  answered-on : (n : ℕ) (f : F) (c : C) (f1 : F) (c1 : C) (f2 : F) (c2 : C) (s : Stop) → Lead context g n f c f1 c1
-      → StopIsAnswered context g f1 c1 f2 c2 s → StopIsAnswered context g f c f2 c2 s
-  answered-on n f c f1 c1 f2 c2 s a b =
-      let k = lead-on n b.calls f c f1 c1 b.f1 b.c1 a b.lead in
-      record { calls = k.0; f1 = b.f1; c1 = b.c1; lead = k.4; t = b.t; call = b.call }
-
-  seen-on : (n : ℕ) (f : F) (c : C) (f1 : F) (c1 : C) (f2 : F) (c2 : C) → Lead context g n f c f1 c1
-      → UnnameableIsSeen context g f1 c1 f2 c2 → UnnameableIsSeen context g f c f2 c2
-  seen-on n f c f1 c1 f2 c2 a b =
-      let k = lead-on n b.calls f c f1 c1 b.f1 b.c1 a b.lead in
-      record { calls = k.0; f1 = b.f1; c1 = b.c1; lead = k.4; t = b.t; u = b.u; call = b.call; is = b.is }
-
-  deep-on : (n levels : ℕ) (f : F) (c : C) (f1 : F) (c1 : C) (f2 : F) (c2 : C) → Lead context g n f c f1 c1 → IsDeep context g levels f1 c1 f2 c2 → IsDeep context g (n + levels) f c f2 c2
-  deep-on n levels f c f1 c1 f2 c2 a b =
-      let k = lead-on n b.calls f c f1 c1 f2 c2 a b.lead in
-      record { calls = k.0; lead = k.4; deep = omega (arith, k.3, b.deep) }
-
   -- the cause of a stop after calls is one after those and the calls before
-  cause-on : (n levels more : ℕ) (f : F) (c : C) (f1 : F) (c1 : C) (f2 : F) (c2 : C) (s : Stop) → more ≤ n + levels → Lead context g n f c f1 c1
-      → IsStopCause context g levels f1 c1 f2 c2 s → IsStopCause context g more f c f2 c2 s
-  cause-on n levels more f c f1 c1 f2 c2 s h a (inl e) = inl e
-  cause-on n levels more f c f1 c1 f2 c2 s h a (inr (inl e)) =
-      let d = deep-on n levels f c f1 c1 f2 c2 a e.1 in
-      inr (inl (e.0, record { calls = d.calls; lead = d.lead; deep = omega (arith, h, d.deep) }))
-  cause-on n levels more f c f1 c1 f2 c2 s h a (inr (inr (inl e))) = inr (inr (inl (e.0, seen-on n f c f1 c1 f2 c2 a e.1)))
-  cause-on n levels more f c f1 c1 f2 c2 s h a (inr (inr (inr e))) = inr (inr (inr (answered-on n f c f1 c1 f2 c2 s a e)))
+  cause-on : (levels more : ℕ) (xs ys : List (Call F C E)) (s : Stop) → (levels ≤ length ys → more ≤ length (xs ++ ys))
+      → IsStopCause context g levels ys s → IsStopCause context g more (xs ++ ys) s
+  cause-on levels more xs ys s h (inl e) = inl e
+  cause-on levels more xs ys s h (inr (inl e)) = inr (inl (e.0, h e.1))
+  cause-on levels more xs ys s h (inr (inr (inl e))) = inr (inr (inl (e.0, last-on (SeesUnnameable context g) xs ys e.1)))
+  cause-on levels more xs ys s h (inr (inr (inr e))) = inr (inr (inr (last-on (Answers s) xs ys e)))
 
-  pub cause-after : (levels : ℕ) (f : F) (c : C) (f1 : F) (c1 : C) (f2 : F) (c2 : C) (s : Stop) → IsLeftByCalls context g f c f1 c1
-      → IsStopCause context g levels f1 c1 f2 c2 s → IsStopCause context g levels f c f2 c2 s
-  cause-after levels f c f1 c1 f2 c2 s a b = cause-on a.calls levels levels f c f1 c1 f2 c2 s (omega arith) a.lead b
+  -- calls of a part of a walk are those of the walk
+  left-on : (levels more : ℕ) (f : F) (c : C) (f1 : F) (c1 : C) (f2 : F) (c2 : C) (P Q : Stop → Type 0) (l : IsReached context g f c f1 c1)
+      → ((ys : List (Call F C E)) → levels ≤ length ys → more ≤ length (l.calls ++ ys)) → ((s : Stop) → P s → Q s) → ((s : Stop) → Q s → P s)
+      → IsLeftByCalls context g levels f1 c1 f2 c2 P → IsLeftByCalls context g more f c f2 c2 Q
+  left-on levels more f c f1 c1 f2 c2 P Q l d p q r = record {
+    calls = l.calls ++ r.calls;
+    lead = lead-then context g l.calls r.calls f c f1 c1 f2 c2 l.lead r.lead;
+    ends = ends-on l.calls r.calls l.none r.ends;
+    passed_on = λ s h. p s (r.passed_on s (last-after s l.calls r.calls l.none h));
+    cause = λ s h. cause-on levels more l.calls r.calls s (d r.calls) (r.cause s (q s h));
+  }
 
-  pub cause-below : (levels : ℕ) (f : F) (c : C) (f1 : F) (c1 : C) (f2 : F) (c2 : C) (s : Stop) → 0 < levels → Lead context g 1 f c f1 c1
-      → IsStopCause context g (levels - 1) f1 c1 f2 c2 s → IsStopCause context g levels f c f2 c2 s
-  cause-below levels f c f1 c1 f2 c2 s h a b = cause-on 1 (levels - 1) levels f c f1 c1 f2 c2 s (omega arith) a b
+  pub left-after : (levels : ℕ) (f : F) (c : C) (f1 : F) (c1 : C) (f2 : F) (c2 : C) (P Q : Stop → Type 0) → IsReached context g f c f1 c1
+      → ((s : Stop) → P s → Q s) → ((s : Stop) → Q s → P s) → IsLeftByCalls context g levels f1 c1 f2 c2 P → IsLeftByCalls context g levels f c f2 c2 Q
+  left-after levels f c f1 c1 f2 c2 P Q l p q r =
+      left-on levels levels f c f1 c1 f2 c2 P Q l (λ ys h. let k = longer l.calls ys in omega (arith, h, k)) p q r
 
-  pub cause-deep : (levels : ℕ) (f : F) (c : C) (s : Stop) → levels ≡ 0 → s ≡ WalkDepth → IsStopCause context g levels f c f c s
-  cause-deep levels f c s h e = inr (inl (e, record { calls = 0; lead = (refl, refl); deep = omega arith }))
+  pub left-same : (levels : ℕ) (f : F) (c : C) (f1 : F) (c1 : C) (P Q : Stop → Type 0)
+      → ((s : Stop) → P s → Q s) → ((s : Stop) → Q s → P s) → IsLeftByCalls context g levels f c f1 c1 P → IsLeftByCalls context g levels f c f1 c1 Q
+  left-same levels f c f1 c1 P Q p q r = left-after levels f c f c f1 c1 P Q (reached-same context g f c) p q r
 
-  pub cause-answered : (levels : ℕ) (f : F) (c : C) (f1 : F) (c1 : C) (s : Stop) → StopIsAnswered context g f c f1 c1 s → IsStopCause context g levels f c f1 c1 s
-  cause-answered levels f c f1 c1 s a = inr (inr (inr a))
+  -- calls without a stop
+  pub left-quietly : (levels : ℕ) (f : F) (c : C) (f1 : F) (c1 : C) (Q : Stop → Type 0) → IsReached context g f c f1 c1 → ((s : Stop) → Q s → ⊥)
+      → IsLeftByCalls context g levels f c f1 c1 Q
+  left-quietly levels f c f1 c1 Q l n = record {
+    calls = l.calls;
+    lead = l.lead;
+    ends = quiet-ends l.calls l.none;
+    passed_on = λ s h. absurd (quiet-last l.calls l.none s h);
+    cause = λ s h. absurd (n s h);
+  }
+    where
+      quiet-ends : (xs : List (Call F C E)) → NoneStops xs → EndsAtStop xs
+      quiet-ends [] h = tt
+      quiet-ends (x ∷ xs) h = (λ s e. absurd (h.0 s e), quiet-ends xs h.1)
 
-  -- an item stops a walk
-  pub cause-item : (levels : ℕ) (f : F) (c : C) (f1 : F) (c1 : C) (k : ViewClass) (s : Stop) → (s ≡ Memory) ⊎ ((s ≡ Unnameable) × (k ≡ V.Unnameable))
-      → (k ≡ V.Unnameable → UnnameableIsSeen context g f c f1 c1) → IsStopCause context g levels f c f1 c1 s
-  cause-item levels f c f1 c1 k s (inl e) h = inl e
-  cause-item levels f c f1 c1 k s (inr e) h = inr (inr (inl (e.0, h e.1)))
+      quiet-last : (xs : List (Call F C E)) → NoneStops xs → (s : Stop) → LastIs (Answers s) xs → ⊥
+      quiet-last [] h s e = e
+      quiet-last (x ∷ xs) h s e = quiet-last xs h.1 s (last-tail s x xs (h.0 s) e)
+
+  -- where the result is no stop a further call may come
+  pub left-reached : (levels : ℕ) (f : F) (c : C) (f1 : F) (c1 : C) (P : Stop → Type 0) → IsLeftByCalls context g levels f c f1 c1 P → ((s : Stop) → P s → ⊥)
+      → IsReached context g f c f1 c1
+  left-reached levels f c f1 c1 P r n = record { calls = r.calls; lead = r.lead; none = none-of r.calls r.ends (λ s h. n s (r.passed_on s h)) }
+
+  -- no level is left
+  pub left-deep : (levels : ℕ) (f : F) (c : C) (Q : Stop → Type 0) → levels ≡ 0 → ((s : Stop) → Q s → s ≡ WalkDepth) → IsLeftByCalls context g levels f c f c Q
+  left-deep levels f c Q h d = record {
+    calls = [];
+    lead = (refl, refl);
+    ends = tt;
+    passed_on = λ s e. absurd e;
+    cause = λ s e. inr (inl (d s e, omega (arith, h)));
+  }
 
   -- one call
-  pub one-lead : (f : F) (c : C) (t : Ty) (r : Result Ty (NormalizeErr E)) (f' : F) (c' : C) → Normalizes context g f c t r f' c' → Lead context g 1 f c f' c'
-  one-lead f c t r f' c' h = (t, r, f', c', h, (refl, refl))
+  module _ (f : F) (c : C) (r : Result Ty (NormalizeErr E)) (f1 : F) (c1 : C) (v : IsViewed context g f c r f1 c1) where
+    pub viewed-reached : ((s : Stop) → r ≡ Err (N.Stop s) → ⊥) → IsReached context g f c f1 c1
+    viewed-reached n = record { calls = v.call ∷ []; lead = v.lead; none = (λ s e. n s (v.stops s e), tt) }
 
-  pub one-left : (f : F) (c : C) (f' : F) (c' : C) → Lead context g 1 f c f' c' → IsLeftByCalls context g f c f' c'
-  one-left f c f' c' h = record { calls = 1; lead = h }
+    -- which has no answer
+    pub viewed-nothing : (levels : ℕ) (Q : Stop → Type 0) → ((s : Stop) → r ≡ Err (N.Stop s) → Q s) → ((s : Stop) → Q s → r ≡ Err (N.Stop s))
+        → IsLeftByCalls context g levels f c f1 c1 Q
+    viewed-nothing levels Q p q = record {
+      calls = v.call ∷ [];
+      lead = v.lead;
+      ends = (λ s e. refl, tt);
+      passed_on = λ s e. p s (v.stops s e);
+      cause = λ s e. inr (inr (inr (v.stopped s (q s e))));
+    }
 
-  pub one-answers : (f : F) (c : C) (t : Ty) (r : Result Ty (NormalizeErr E)) (f' : F) (c' : C) (s : Stop) → Normalizes context g f c t r f' c' → r ≡ Err (N.Stop s)
-      → StopIsAnswered context g f c f' c' s
-  one-answers f c t r f' c' s h e =
-      record { calls = 0; f1 = f; c1 = c; lead = (refl, refl); t = t; call = subst (λ x. Normalizes context g f c t x f' c') e h }
+    -- whose view is an item
+    pub viewed-item : (levels : ℕ) (u : Ty) → r ≡ Ok u → (k : ViewClass) (Q : Stop → Type 0)
+        → ((s : Stop) → Q s → (s ≡ Memory) ⊎ ((s ≡ Unnameable) × (k ≡ V.Unnameable)))
+        → (k ≡ V.Unnameable → is_unnameable (ty_tree (context c1).trees u).head ≡ true) → IsLeftByCalls context g levels f c f1 c1 Q
+    viewed-item levels u e k Q q n = record {
+      calls = v.call ∷ [];
+      lead = v.lead;
+      ends = (λ s h. refl, tt);
+      passed_on = λ s h. absurd (ok-no-stop s u e (v.stops s h));
+      cause = λ s h. at s (q s h);
+    }
+      where
+        ok-no-stop : (s : Stop) (u : Ty) → r ≡ Ok u → r ≡ Err (N.Stop s) → ⊥
+        ok-no-stop s u a b = cc
 
-  pub one-sees : (f : F) (c : C) (t u : Ty) (r : Result Ty (NormalizeErr E)) (f' : F) (c' : C) → Normalizes context g f c t r f' c' → r ≡ Ok u
-      → (is_unnameable (ty_tree (context c').trees u).head ≡ true) ⊎ (is_unnameable (ty_tree (context c).trees t).head ≡ true) → UnnameableIsSeen context g f c f' c'
-  one-sees f c t u r f' c' h e i =
-      record { calls = 0; f1 = f; c1 = c; lead = (refl, refl); t = t; u = u; call = subst (λ x. Normalizes context g f c t x f' c') e h; is = i }
+        at : (s : Stop) → (s ≡ Memory) ⊎ ((s ≡ Unnameable) × (k ≡ V.Unnameable)) → IsStopCause context g levels (v.call ∷ []) s
+        at s (inl h) = inl h
+        at s (inr h) = inr (inr (inl (h.0, v.unnameable u e (n h.1))))
+
+    -- below whose view the walk goes on
+    pub viewed-below : (levels : ℕ) (u : Ty) → r ≡ Ok u → 0 < levels → (f2 : F) (c2 : C) (P Q : Stop → Type 0) → ((s : Stop) → P s → Q s) → ((s : Stop) → Q s → P s)
+        → IsLeftByCalls context g (levels - 1) f1 c1 f2 c2 P → IsLeftByCalls context g levels f c f2 c2 Q
+    viewed-below levels u e h f2 c2 P Q p q w =
+        left-on (levels - 1) levels f c f1 c1 f2 c2 P Q (record { calls = v.call ∷ []; lead = v.lead; none = (λ s k. let x = v.stops s k in cc, tt) })
+        (λ ys k. deeper levels v.call ys h k) p q w
+
+  -- a view that is the normaliser's answer, or the type itself
+  pub viewed-answer : (f : F) (c : C) (t : Ty) (r : Result Ty (NormalizeErr E)) (f' : F) (c' : C) → IsTy (context c).trees t → Normalizes context g f c t r f' c'
+      → IsViewed context g f c r f' c'
+  viewed-answer f c t r f' c' i h = record {
+    call = record { by = f; before = c; type = t; answer = r; next = f'; after = c' };
+    lead = (refl, refl, record { at_type = i; call = h }, (refl, refl));
+    stops = λ s e. e;
+    stopped = λ s e. e;
+    unnameable = λ u e k. record { seen = u; answers = e; is = inl k };
+  }
+
+  pub viewed-itself : (f : F) (c : C) (t : Ty) (r : Result Ty (NormalizeErr E)) (f' : F) (c' : C) → IsTy (context c).trees t → Normalizes context g f c t r f' c'
+      → (v : Ty) → r ≡ Ok v → ty_tree (context c').trees t ≡ ty_tree (context c).trees t → IsViewed context g f c (Ok t) f' c'
+  viewed-itself f c t r f' c' i h v e same = record {
+    call = record { by = f; before = c; type = t; answer = r; next = f'; after = c' };
+    lead = (refl, refl, record { at_type = i; call = h }, (refl, refl));
+    stops = λ s k. cc;
+    stopped = λ s k. cc;
+    unnameable = λ u k j. record { seen = v; answers = e; is = inr (here u k j) };
+  }
+    where
+      here : (u : Ty) → Ok t ≡ (let y : Result Ty (NormalizeErr E) = Ok u in y) → is_unnameable (ty_tree (context c').trees u).head ≡ true → is_unnameable (ty_tree (context c).trees t).head ≡ true
+      here u k j =
+          let m : t ≡ u = cc in
+          ap (λ (x : Tree). is_unnameable x.head) (sym same) ∙ (ap (λ (x : Ty). is_unnameable (ty_tree (context c').trees x).head) m ∙ j)

@@ -13,6 +13,7 @@ use Rattle.candidate_ir.proofs.Kept.{args-kept}
 use Rattle.candidate_ir.proofs.Members.{skip, count-members}
 use Rattle.candidate_eval.specs.declared.walk.EarlyExit.{EarlyExit}
 use Rattle.candidate_eval.specs.declared.walk.Walk.{Walk}
+use Rattle.candidate_eval.specs.Normalizer.{Untold}
 use Rattle.candidate_eval.specs.Orphan.{View}
 use Rattle.candidate_eval.specs.Walk.{Setting, setting, classes, type_steps, list_steps, still, AreTypes, exit_class, Passed, Outcome, SameWalk}
 use Rattle.candidate_eval.proofs.Lists.{Sofar, sofar-skip, sofar-visit, sofar-found, member-at, type-at, no-type-at}
@@ -69,13 +70,13 @@ module _ {S E : Type 0} (see : View S E) (n : ℕ) (c0 c1 : Context) (g : Grows 
 
   -- a type that broke the walk off
   pub next-found : (u : Ty) → get_or xs i d ≡ A.Ty u → (ts : List Tree) (next : Walk) (after : S) (x y : EarlyExit E) (r : Result (Unit {0}) (EarlyExit E)) → r ≡ Err y → y ≡ x
-      → Outcome ts (classes (setting c1 now.in_crate)) now next here after (type_steps (setting c1 now.in_crate) see n here (ty_tree c1.trees u)) (Err x)
+      → (untold : Untold) → Outcome untold ts (classes (setting c1 now.in_crate)) now next here after (type_steps (setting c1 now.in_crate) see n here (ty_tree c1.trees u)) (Err x)
       → Sofar (setting c0 old.in_crate) see n c1.trees old now start here (args_forest c0.trees a) (skip i (args_forest c0.trees a))
-      → Outcome ts (classes (setting c0 old.in_crate)) old next start after (list_steps (setting c0 old.in_crate) see n start (args_forest c0.trees a)) r
-  next-found u e ts next after x y r j k o so =
+      → Outcome untold ts (classes (setting c0 old.in_crate)) old next start after (list_steps (setting c0 old.in_crate) see n start (args_forest c0.trees a)) r
+  next-found u e ts next after x y r j k untold o so =
       let p = setting c0 old.in_crate in
-      let P : Setting → Type 0 = λ q. Outcome ts (classes q) now next here after (type_steps q see n here (ty_tree c1.trees u)) (Err x) in
-      let R : Result (Unit {0}) (EarlyExit E) → Type 0 = λ z. Outcome ts (classes p) old next start after (list_steps p see n start (args_forest c0.trees a)) z in
+      let P : Setting → Type 0 = λ q. Outcome untold ts (classes q) now next here after (type_steps q see n here (ty_tree c1.trees u)) (Err x) in
+      let R : Result (Unit {0}) (EarlyExit E) → Type 0 = λ z. Outcome untold ts (classes p) old next start after (list_steps p see n start (args_forest c0.trees a)) z in
       let f = subst P place o in
       subst R (sym (j ∙ ap Err k)) (λ ne.
       sofar-found p see n c1.trees old now start here after (args_forest c0.trees a) (skip i (args_forest c0.trees a)) (skip (i + 1) (args_forest c0.trees a))

@@ -88,11 +88,13 @@ compat_wins {E} w x (Viewed t) P Q f p = at t.head t.children p
     at h a p = same_wins {E = E} (view_class w x (Local Proper) h a) P Q f p
 
 pub proper_then_compat : (S E : Type 0) → ProperThenCompat S E
-proper_then_compat S E w c limit see s a e =
-    let walk = λ (s : S). frontier w (Some c) see limit s a in
-    wins_passes (class_of w (Some c) (Local Compat)) walk s (walk s) (walk s)
-    (wins_map (class_of w (Some c) (Local Proper)) (class_of w (Some c) (Local Compat)) (compat_wins w (Some c)) (walk s)
-    (passes_wins (class_of w (Some c) (Local Proper)) walk s (walk s) (walk s) e))
+proper_then_compat S E = record {
+  passes = λ w c limit see s a e.
+      let walk = λ (s : S). frontier w (Some c) see limit s a in
+      wins_passes (class_of w (Some c) (Local Compat)) walk s (walk s) (walk s)
+      (wins_map (class_of w (Some c) (Local Proper)) (class_of w (Some c) (Local Compat)) (compat_wins w (Some c)) (walk s)
+      (passes_wins (class_of w (Some c) (Local Proper)) walk s (walk s) (walk s) e));
+}
 
 -- nothing is uncovered in the remote check
 alias_covers : (E : Type 0) (b : Bool) (k : AliasKind) (t : Tree) → Covers {E = E} (if b then alias_class Remote k t else IsNonLocal t)
@@ -185,7 +187,9 @@ judged_lists k again s all None = only_first k all
 judged_lists k again s all (Some x) = decided_lists k again x.after (k x.item)
 
 pub first_input_law : (S E : Type 0) → FirstInputLaw S E
-first_input_law S E w c limit m see s a l e =
-    let k = class_of {E = E} w (crate_test m c) m in
-    let walk = λ (s : S). frontier w (crate_test m c) see limit s a in
-    subst (λ (z : Answer E). OnlyFirst (listed z)) e (judged_lists k walk s (walk s) (first_step decides k (walk s)))
+first_input_law S E = record {
+  once = λ w c limit m see s a l e.
+      let k = class_of {E = E} w (crate_test m c) m in
+      let walk = λ (s : S). frontier w (crate_test m c) see limit s a in
+      subst (λ (z : Answer E). OnlyFirst (listed z)) e (judged_lists k walk s (walk s) (first_step decides k (walk s)));
+}

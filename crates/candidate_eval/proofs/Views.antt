@@ -1,7 +1,7 @@
 -- The view of a type by its resolved form and the normaliser's answer.
-use Rattle.std.proofs.Common.{◌≡◌, Bool, true, sym, ◌∙◌, ap, if◌then◌else◌}
+use Rattle.std.proofs.Common.{◌≡◌, Bool, true, false, sym, ◌∙◌, ap, if◌then◌else◌}
 use Rattle.candidate_ir.specs.Trees.{Tree}
-use Rattle.candidate_eval.specs.Orphan.{Sees, Sight, View, view, is_general, unless_general}
+use Rattle.candidate_eval.specs.Orphan.{Seen, Sees, Sight, View, view, is_general, unless_general}
 
 pub view-general : {S E : Type 0} (resolve : S → Tree → Tree) (normal : View S E) (s after : S) (t u v w : Tree)
     → u ≡ resolve s t → normal s u ≡ record { seen = Sees v; after = after } → true ≡ is_general v.head → w ≡ u
@@ -11,3 +11,15 @@ view-general {S} {E} resolve normal s after t u v w r n g k =
     ∙ (ap (λ (x : Sight S E). let y : Sight S E = record { seen = unless_general u x.seen; after = x.after } in y) n
     ∙ (ap (λ (b : Bool). let y : Sight S E = record { seen = if b then Sees u else Sees v; after = after } in y) (sym g)
     ∙ ap (λ (x : Tree). let y : Sight S E = record { seen = Sees x; after = after } in y) (sym k)))
+
+-- where the answer is none
+pub view-other : {S E : Type 0} (resolve : S → Tree → Tree) (normal : View S E) (s after : S) (t u : Tree) (x y : Seen E)
+    → u ≡ resolve s t → normal s u ≡ record { seen = x; after = after } → unless_general u x ≡ y
+    → view resolve normal s t ≡ record { seen = y; after = after }
+view-other {S} {E} resolve normal s after t u x y r n k =
+    ap (λ (z : Tree). let w : Sight S E = record { seen = unless_general z (normal s z).seen; after = (normal s z).after } in w) (sym r)
+    ∙ (ap (λ (z : Sight S E). let w : Sight S E = record { seen = unless_general u z.seen; after = z.after } in w) n
+    ∙ ap (λ (z : Seen E). let w : Sight S E = record { seen = z; after = after } in w) k)
+
+pub sees-other : {E : Type 0} (u v : Tree) → is_general v.head ≡ false → unless_general {E = E} u (Sees v) ≡ Sees v
+sees-other {E} u v e = ap (λ (b : Bool). let x : Seen E = if b then Sees u else Sees v in x) e

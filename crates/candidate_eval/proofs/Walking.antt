@@ -9,7 +9,7 @@ use Rattle.candidate_ir.specs.declared.ir.kinds.AliasKind.{AliasKind}
 use Rattle.candidate_ir.specs.declared.ir.kinds.AliasKind.TheVariants as AK
 use Rattle.candidate_ir.specs.declared.ir.heads.Head.{Head}
 use Rattle.candidate_ir.specs.declared.ir.heads.Head.TheVariants as H
-use Rattle.candidate_ir.specs.declared.ir.stop.Stop.TheVariants.{WalkDepth}
+use Rattle.candidate_ir.specs.declared.ir.stop.Stop.TheVariants.{Memory, WalkDepth}
 use Rattle.candidate_ir.specs.Context.{Context, Grows, world}
 use Rattle.candidate_ir.specs.Trees.{TypeKind, Forest, none, tree, Tree, is_type, is_type_kind, holds, is_loose}
 use Rattle.candidate_ir.specs.Worlds.{World}
@@ -23,10 +23,12 @@ use Rattle.candidate_eval.specs.declared.walk.EarlyExit.{EarlyExit}
 use Rattle.candidate_eval.specs.declared.walk.Walk.{Walk}
 use Rattle.candidate_eval.specs.Answers.{is_first_input}
 use Rattle.candidate_eval.specs.Exits.{breaks, IsAdded, exit_of, IsTaken}
+use Rattle.candidate_eval.specs.Normalizer.{Untold}
 use Rattle.candidate_eval.specs.Orphan.{InCrate, Local, Remote, Proper, Compat, CrateTest, is_local, is_fundamental, principal_passes, Fault, Stopped, Sees, Fails, Sight, View, Item, Viewed, Empty, Broken, Step, left, or_empty, walked, looked, Class, IsNonLocal, IsEmpty, IsBroken, owned_class, loose_class, projection_class, alias_class, view_class, Entry, entry}
 use Rattle.candidate_eval.specs.Shapes.{IsReference, IsFundamental}
 use Rattle.candidate_eval.specs.Table.{table, is_walked, owned_in, loose_in, projection_in, loose_alias_in, alias_in}
 use Rattle.candidate_eval.specs.Walk.{Setting, setting, test_of, classes, type_steps, list_steps, of_view, deciding, still, entries_of, AreTypes, IsExit, exit_class, Passed, Found, Outcome}
+use Rattle.candidate_eval.proofs.Calls.{memory-untold}
 use Rattle.candidate_eval.proofs.Steps.{left-some}
 
 pub setting-kept : (old new : Context) (m : InCrate) → Grows old new → setting new m ≡ setting old m
@@ -293,32 +295,32 @@ pub item-outcome : {S E : Type 0} (p : Setting) (see : View S E) (ts : List Tree
     → (k : ViewClass) (old new last : Walk) (r : Result (Unit {0}) (EarlyExit E)) → is_walked p.definitions (test_of p) (ty_tree ts v).head ≡ false
     → table p.definitions (test_of p) p.in_crate (ty_tree ts v).head (ty_tree ts v).children ≡ k
     → last.non_local.items ≡ new.non_local.items → IsTaken old new k v r
-    → Outcome ts (classes p) old last s s1 (type_steps p see n s t) r
-item-outcome p see ts n m e s s1 t v seen k old new last (Ok u) w h l a =
+    → (untold : Untold) → Outcome untold ts (classes p) old last s s1 (type_steps p see n s t) r
+item-outcome p see ts n m e s s1 t v seen k old new last (Ok u) w h l a untold =
     passed-item p see ts n m e s s1 t v seen k old last w h a.0 (added-same k old new last v l a.1)
-item-outcome p see ts n m e s s1 t v seen k old new last (Err x) w h l a = λ ne.
-    found-item p see ts n m e s s1 t v seen k old.seeks_local x w h a.0 (a.1 ne)
+item-outcome p see ts n m e s s1 t v seen k old new last (Err x) w h l a untold = λ ne.
+    found-item p see ts n m e s s1 t v seen k old.seeks_local x w h a.0 (a.1 (λ i. ne Memory (memory-untold untold Memory refl) i))
 
 -- what the walk below a reference says of the visit
 pub target-outcome : {S E : Type 0} (ts : List Tree) (k : Item E → Class E) (old new last : Walk) (s s1 after : S) (xs ys : List (Step S E))
     (r : Result (Unit {0}) (EarlyExit E)) → xs ≡ ys → last.non_local.items ≡ new.non_local.items
-    → OnOk r (still true ys ≡ false) → Outcome ts k old new s1 after ys r → Outcome ts k old last s after xs r
-target-outcome ts k old new last s s1 after xs ys (Ok u) e l some o =
+    → OnOk r (still true ys ≡ false) → (untold : Untold) → Outcome untold ts k old new s1 after ys r → Outcome untold ts k old last s after xs r
+target-outcome ts k old new last s s1 after xs ys (Ok u) e l some untold o =
     let P : List _ → Type 0 = λ zs. Passed ts k old last s after zs in
     subst P (sym e) (record { none = o.none; leaves = left-some s s1 ys some ∙ o.leaves; recorded = ap (entries_of ts) l ∙ o.recorded })
-target-outcome ts k old new last s s1 after xs ys (Err x) e l some o = λ ne.
+target-outcome ts k old new last s s1 after xs ys (Err x) e l some untold o = λ ne.
     let P : List _ → Type 0 = λ zs. Found k old.seeks_local zs (exit_class ts x) after in
     subst P (sym e) (o ne)
 
 -- what the walk below a fundamental type says of the visit
 pub arguments-outcome : {S E : Type 0} (p : Setting) (ts : List Tree) (old new last : Walk) (s s1 after : S) (xs ys : List (Step S E))
     (r : Result (Unit {0}) (EarlyExit E)) → xs ≡ or_empty s1 ys → last.non_local.items ≡ new.non_local.items
-    → Outcome ts (classes p) old new s1 after ys r → Outcome ts (classes p) old last s after xs r
-arguments-outcome p ts old new last s s1 after xs ys (Ok u) e l o =
+    → (untold : Untold) → Outcome untold ts (classes p) old new s1 after ys r → Outcome untold ts (classes p) old last s after xs r
+arguments-outcome p ts old new last s s1 after xs ys (Ok u) e l untold o =
     let P : List _ → Type 0 = λ zs. Passed ts (classes p) old last s after zs in
     subst P (sym e)
     (passed-arguments p ts old last s s1 after ys (record { none = o.none; leaves = o.leaves; recorded = ap (entries_of ts) l ∙ o.recorded }))
-arguments-outcome p ts old new last s s1 after xs ys (Err x) e l o = λ ne.
+arguments-outcome p ts old new last s s1 after xs ys (Err x) e l untold o = λ ne.
     let P : List _ → Type 0 = λ zs. Found (classes p) old.seeks_local zs (exit_class ts x) after in
     subst P (sym e) (found-arguments (classes p) old.seeks_local s1 after ys (exit_class ts x) (o ne))
 

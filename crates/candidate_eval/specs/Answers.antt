@@ -52,10 +52,12 @@ abbrev pub IsUncoveredResult : {E : Type 0} → CheckResult E → Type 0
 IsUncoveredResult (Ok (Err (C.UncoveredTyParams u))) = Unit {0}
 IsUncoveredResult _ = ⊥
 
--- The result and the context that is left are those of the definition.
-pub record IsAnswer {F C E : Type 0} (ts : List Tree) (result : CheckResult E) (left : C) (checked : Checked (F × C) (Answer E)) : Type 0 where
+-- The result is that of the definition, and what the definition leaves stands for the context that is left, with some
+-- normaliser.
+pub record IsAnswer {F C E : Type 0} (ts : List Tree) (stands : F × C → F × C) (result : CheckResult E) (left : C) (checked : Checked (F × C) (Answer E)) : Type 0 where
   pub answer : checked.answer ≡ answer_of ts result
-  pub leaves : checked.after.1 ≡ left
+  pub last : F
+  pub leaves : checked.after ≡ stands (last, left)
 
 -- the answer of an uncovered view by the result of the second walk
 abbrev pub second_answer : {E : Type 0} → List Tree → Tree → Result (Option Ty) Stop → Answer E
@@ -73,7 +75,8 @@ knowledge_of (Ok (Err K.Downstream)) = Downstream
 knowledge_of (Err (O.Normalize e)) = Unknown (Refused e)
 knowledge_of (Err (O.Stop s)) = Unknown (Stopped s)
 
--- The result and the context that is left are those of the definition.
-pub record IsKnowledge {F C E : Type 0} (result : KnownResult E) (left : C) (checked : Checked (F × C) (Knowability E)) : Type 0 where
+-- The result is that of the definition, and so is the context that is left, as above.
+pub record IsKnowledge {F C E : Type 0} (stands : F × C → F × C) (result : KnownResult E) (left : C) (checked : Checked (F × C) (Knowability E)) : Type 0 where
   pub answer : checked.answer ≡ knowledge_of result
-  pub leaves : checked.after.1 ≡ left
+  pub last : F
+  pub leaves : checked.after ≡ stands (last, left)

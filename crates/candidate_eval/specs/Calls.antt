@@ -1,30 +1,28 @@
 -- What a call says by the definitions, and what holds of its reference.
-use Rattle.std.specs.Prelude.{◌≡◌, ℕ, false, Result, Err}
+use Rattle.std.specs.Prelude.{◌≡◌, ℕ, false, Result}
 use Rattle.std.specs.Fn.{Mut}
 use Rattle.std.specs.Borrow.{MutBor}
 use Rattle.candidate_ir.specs.declared.ir.kinds.Ty.{Ty}
 use Rattle.candidate_ir.specs.declared.ir.kinds.TraitRef.{TraitRef}
 use Rattle.candidate_eval.specs.declared.coherence.NormalizeErr.{NormalizeErr}
-use Rattle.candidate_ir.specs.declared.ir.stop.Stop.TheVariants.{Memory}
-use Rattle.candidate_eval.specs.declared.coherence.OrphanStop.TheVariants as O
-use Rattle.candidate_eval.specs.Answers.{CheckResult, KnownResult, OutOfMemory, IsKnowledge, answer_of}
-use Rattle.candidate_eval.specs.Normalizer.{IsFunction}
+use Rattle.candidate_eval.specs.Answers.{CheckResult, KnownResult, IsKnowledge, answer_of}
+use Rattle.candidate_eval.specs.Normalizer.{IsTold, Description, IsFunction}
 use Rattle.candidate_ir.specs.Trees.{Tree, holds, is_alias, is_param}
 use Rattle.candidate_ir.specs.Context.{Context, world}
 use Rattle.candidate_ir.specs.Words.{args_forest}
 use Rattle.candidate_ir.specs.References.{reference_of}
-use Rattle.candidate_eval.specs.Orphan.{InCrate, View, view, Checked, Answer, orphan_answer, Knowability, knowability, plain_check, plain_knowability, local_or_fundamental, IsPlainForest}
+use Rattle.candidate_eval.specs.Orphan.{InCrate, view, Checked, Answer, orphan_answer, Knowability, knowability, plain_check, plain_knowability, local_or_fundamental, IsPlainForest}
 use Rattle.candidate_eval.specs.Laws.{NoForeignHeader, NoUnnamedHeader, NoCoveredHeader, IsDecidedByGeneral, HasDownstream}
 
 -- Visits may be nested so deep.
 abbrev pub depth_limit : ℕ
 depth_limit = 256
 
-module _ {C F E : Type 0} (context : C → Context) (resolve : C → Tree → Tree) (normal : View (F × C) E) where
+module _ {C F E : Type 0} (context : C → Context) (resolve : C → Tree → Tree) (d : Description F C E) where
   -- The check of a reference of the context, where this crate is local.
   abbrev pub check_where : ℕ → InCrate → F × C → TraitRef → Checked (F × C) (Answer E)
   check_where local m s r =
-      orphan_answer (world (context s.1)) local m (view (λ x t. resolve x.1 t) normal) depth_limit s (args_forest (context s.1).trees r.args)
+      orphan_answer (world (context s.1)) local m (view (λ x t. resolve x.1 t) d.normal) depth_limit (d.stands s) (args_forest (context s.1).trees r.args)
 
   -- The same, for the context's own local crate.
   abbrev pub check_of : InCrate → F × C → TraitRef → Checked (F × C) (Answer E)
@@ -33,7 +31,7 @@ module _ {C F E : Type 0} (context : C → Context) (resolve : C → Tree → Tr
   -- What may be known of a reference of the context.
   abbrev pub knowledge_about : F × C → TraitRef → Checked (F × C) (Knowability E)
   knowledge_about s r =
-      knowability (world (context s.1)) (context s.1).local.0 (view (λ x t. resolve x.1 t) normal) depth_limit s (reference_of (context s.1).trees r)
+      knowability (world (context s.1)) (context s.1).local.0 (view (λ x t. resolve x.1 t) d.normal) depth_limit (d.stands s) (reference_of (context s.1).trees r)
 
 -- The same by the plain normaliser, where nothing has a value.
 abbrev pub plain_check_of : Context → InCrate → TraitRef → Answer (Unit {0})
@@ -42,16 +40,16 @@ plain_check_of c m r = plain_check (world c) c.local.0 m depth_limit (args_fores
 abbrev pub plain_knowledge_about : Context → TraitRef → Knowability (Unit {0})
 plain_knowledge_about c r = plain_knowability (world c) c.local.0 depth_limit (reference_of c.trees r)
 
--- For each normaliser that is a function, what a call says and leaves is what the definition says, unless a growth was
--- refused.
+-- For each normaliser that is a function but for what is left open, what a call says and leaves is what the definition
+-- says, unless its result is left open.
 module _ {C F E : Type 0} (context : C → Context) (resolve : C → Tree → Tree) (g : Mut F (MutBor C × (Ty × Unit {0})) (Result Ty (NormalizeErr E) × (MutBor C × Unit {0}))) where
   pub record IsChecked (f : F) (c : C) (m : InCrate) (r : TraitRef) (result : CheckResult E) (f' : F) (c' : C) : Type 0 where
-    pub at : (normal : View (F × C) E) → IsFunction context g f c normal → (OutOfMemory result → ⊥)
-        → check_of context resolve normal m (f, c) r ≡ record { answer = answer_of (context c').trees result; after = (f', c') }
+    pub at : (d : Description F C E) → IsFunction context g resolve d f c → IsTold d.untold result
+        → check_of context resolve d m (f, c) r ≡ record { answer = answer_of (context c').trees result; after = d.stands (f', c') }
 
   pub record IsKnown (f : F) (c : C) (r : TraitRef) (result : KnownResult E) (f' : F) (c' : C) : Type 0 where
-    pub at : (normal : View (F × C) E) → IsFunction context g f c normal → (result ≡ Err (O.Stop Memory) → ⊥)
-        → IsKnowledge result c' (knowledge_about context resolve normal (f, c) r)
+    pub at : (d : Description F C E) → IsFunction context g resolve d f c → IsTold d.untold result
+        → IsKnowledge d.stands result c' (knowledge_about context resolve d (f, c) r)
 
 -- What holds of a reference of a context.
 abbrev pub HasNoParam : Context → TraitRef → Type 0

@@ -64,12 +64,11 @@ pub record IsDecidedByGeneral (w : World) (limit : ℕ) (r : Reference) : Type 0
   pub shows : step.item ≡ Viewed variable
   pub general : is_general variable.head ≡ true
 
--- What passes in `Proper` passes in `Compat`, whatever the normaliser.
-abbrev pub ProperThenCompat : Type 0 → Type 0 → Type 0
-ProperThenCompat S E =
-    (w : World) (c limit : ℕ) (see : View S E) (s : S) (a : Forest)
-    → (orphan_answer w c (Local Proper) see limit s a).answer ≡ Passes
-    → (orphan_answer w c (Local Compat) see limit s a).answer ≡ Passes
+-- What passes in `Proper` passes in `Compat`, whatever the definitions, the depth limit and the normaliser.
+pub record ProperThenCompat (S E : Type 0) : Type 0 where
+  pub passes : (w : World) (c limit : ℕ) (see : View S E) (s : S) (a : Forest)
+      → (orphan_answer w c (Local Proper) see limit s a).answer ≡ Passes
+      → (orphan_answer w c (Local Compat) see limit s a).answer ≡ Passes
 
 -- In `Remote` the local crate doesn't count, and nothing is uncovered.
 pub record RemoteLaw (S E : Type 0) : Type 0 where
@@ -88,10 +87,9 @@ OnlyFirst [] = Unit {0}
 OnlyFirst (e ∷ es) = NoneFirst es
 
 -- At most one entry, and then the first, is the first input.
-abbrev pub FirstInputLaw : Type 0 → Type 0 → Type 0
-FirstInputLaw S E =
-    (w : World) (c limit : ℕ) (m : InCrate) (see : View S E) (s : S) (a : Forest) (l : List Entry)
-    → (orphan_answer w c m see limit s a).answer ≡ NonLocalInput l → OnlyFirst l
+pub record FirstInputLaw (S E : Type 0) : Type 0 where
+  pub once : (w : World) (c limit : ℕ) (m : InCrate) (see : View S E) (s : S) (a : Forest) (l : List Entry)
+      → (orphan_answer w c m see limit s a).answer ≡ NonLocalInput l → OnlyFirst l
 
 -- No type among the trees has a value that stands for it.
 abbrev pub AreResolved : (Tree → Tree) → Forest → Type 0
@@ -103,6 +101,6 @@ AreResolved resolve (tree h below rest) =
 -- A call with the plain normaliser, and a reference of the declared world in which nothing has a value.
 module _ {C F E : Type 0} (context : C → Context) (resolve : C → Tree → Tree) (g : Mut F (MutBor C × (Ty × Unit {0})) (Result Ty (NormalizeErr E) × (MutBor C × Unit {0}))) where
   pub record IsPlainCall (f : F) (c : C) (r : TraitRef) : Type 0 where
-    pub normaliser : IsPlain context g f c
+    pub normaliser : IsPlain context g resolve f c
     pub resolved : AreResolved (resolve c) (args_forest (context c).trees r.args)
     pub of_world : IsReference (context c) r

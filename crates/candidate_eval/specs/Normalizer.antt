@@ -1,5 +1,5 @@
 -- What is asked of a normaliser, a closure that may change a context, and what is known of its calls.
-use Rattle.std.specs.Prelude.{◌≡◌, ◌<◌, ◌^◌, List, Result, Ok, Err, IfOk, zero, suc, ℕ, ◌⊎◌, ◌≤◌, true}
+use Rattle.std.specs.Prelude.{◌≡◌, ◌<◌, ◌^◌, List, [], ◌∷◌, length, Result, Ok, Err, IfOk, ℕ, ◌⊎◌, ◌≤◌, true}
 use Rattle.std.specs.Fn.{Mut, Called}
 use Rattle.std.specs.Borrow.{MutBor}
 use Rattle.candidate_ir.specs.declared.ir.kinds.Ty.{Ty}
@@ -23,6 +23,67 @@ abbrev pub shown : {E : Type 0} → List Tree → Result Ty (NormalizeErr E) →
 shown ts (Ok t) = Sees (ty_tree ts t)
 shown ts (Err e) = Fails (shown_fault e)
 
+-- What of a normaliser's results a description leaves open: a refused growth alone, which no definition sees, or every
+-- stop.
+pub data Untold : Type 0 where
+  RefusedGrowth : Untold
+  AnyStop : Untold
+
+abbrev pub IsUntold : Untold → Stop → Type 0
+IsUntold RefusedGrowth s = s ≡ Memory
+IsUntold AnyStop s = Unit {0}
+
+-- the answer of a normaliser, or the result of a check, is no stop that is left open
+abbrev pub IsToldAnswer : {E : Type 0} → Untold → Result Ty (NormalizeErr E) → Type 0
+IsToldAnswer u r = (s : Stop) → IsUntold u s → r ≡ Err (N.Stop s) → ⊥
+
+abbrev pub IsTold : {A E : Type 0} → Untold → Result A (OrphanStop E) → Type 0
+IsTold u r = (s : Stop) → IsUntold u s → r ≡ Err (O.Stop s) → ⊥
+
+-- The result is the stop.
+abbrev pub StopsWith : {A E : Type 0} → Result A (OrphanStop E) → Stop → Type 0
+StopsWith r s = r ≡ Err (O.Stop s)
+
+-- A description of a normaliser, whose state is itself and the context: what is left open, which state stands for one (so
+-- that nodes that it makes needn't count), and what it answers and leaves there.
+pub record Description (F C E : Type 0) : Type 0 where
+  pub untold : Untold
+  pub stands : F × C → F × C
+  pub normal : View (F × C) E
+
+-- where each state stands for itself
+abbrev pub exactly : {F C E : Type 0} → Untold → View (F × C) E → Description F C E
+exactly u normal = record { untold = u; stands = λ s. s; normal = normal }
+
+-- A call: the normaliser and the context that it finds, the type, the answer, and what is left of the two.
+pub record Call (F C E : Type 0) : Type 0 where
+  pub by : F
+  pub before : C
+  pub type : Ty
+  pub answer : Result Ty (NormalizeErr E)
+  pub next : F
+  pub after : C
+
+-- It answers the stop.
+abbrev pub Answers : {F C E : Type 0} → Stop → Call F C E → Type 0
+Answers s k = k.answer ≡ Err (N.Stop s)
+
+-- None of the calls answers a stop.
+abbrev pub NoneStops : {F C E : Type 0} → List (Call F C E) → Type 0
+NoneStops [] = Unit {0}
+NoneStops (k ∷ ks) = ((s : Stop) → Answers s k → ⊥) × NoneStops ks
+
+-- None but the last does: after a stop no call is made.
+abbrev pub EndsAtStop : {F C E : Type 0} → List (Call F C E) → Type 0
+EndsAtStop [] = Unit {0}
+EndsAtStop (k ∷ ks) = ((s : Stop) → Answers s k → ks ≡ []) × EndsAtStop ks
+
+-- The last of the calls is such.
+abbrev pub LastIs : {F C E : Type 0} → (Call F C E → Type 0) → List (Call F C E) → Type 0
+LastIs P [] = ⊥
+LastIs P (k ∷ []) = P k
+LastIs P (k ∷ l ∷ ks) = LastIs P (l ∷ ks)
+
 module _ {C F E : Type 0} (context : C → Context) (g : Mut F (MutBor C × (Ty × Unit {0})) (Result Ty (NormalizeErr E) × (MutBor C × Unit {0}))) where
   -- Called as f at a context c and a type, the normaliser may answer r, and is then d with the context f'.
   pub record Normalizes (f : F) (c : C) (t : Ty) (r : Result Ty (NormalizeErr E)) (f' : F) (c' : C) : Type 0 where
@@ -32,80 +93,75 @@ module _ {C F E : Type 0} (context : C → Context) (g : Mut F (MutBor C × (Ty 
     pub called : Called g f (lent, (t, tt)) (r, (left, tt)) f'
     pub leaves : left.now ≡ c'
 
-  -- It may be called at every context that keeps the numbers of this one.
-  pub record MayNormalize (c0 : C) : Type 0 where
-    pub at : (f : F) (c : C) (t : Ty) (lent : MutBor C) → lent.now ≡ c → Grows (context c0) (context c)
+  -- The call may be made, at a type of its context.
+  pub record IsMade (k : Call F C E) : Type 0 where
+    pub at_type : IsTy (context k.before).trees k.type
+    pub call : Normalizes k.by k.before k.type k.answer k.next k.after
+
+  -- Such calls lead from one normaliser and context to another.
+  abbrev pub Lead : F → C → List (Call F C E) → F → C → Type 0
+  Lead f c [] f' c' = (f' ≡ f) × (c' ≡ c)
+  Lead f c (k ∷ ks) f' c' = (k.by ≡ f) × (k.before ≡ c) × IsMade k × Lead k.next k.after ks f' c'
+
+  -- Such calls lead there, none of which answers a stop: there a further call may come.
+  pub record IsReached (f : F) (c : C) (f' : F) (c' : C) : Type 0 where
+    pub calls : List (Call F C E)
+    pub lead : Lead f c calls f' c'
+    pub none : NoneStops calls
+
+  -- From here on it may be called: where its calls lead from here, in a context that keeps the numbers of this one.
+  pub record MayNormalize (f0 : F) (c0 : C) : Type 0 where
+    pub at : (f : F) (c : C) (t : Ty) (lent : MutBor C) → lent.now ≡ c → IsReached f0 c0 f c → Grows (context c0) (context c)
         → IsTy (context c).trees t → t.0 < 2 ^ 32 → g.pre f (lent, (t, tt))
 
-  -- It keeps the numbers itself, and answers a type of the context.
-  pub record KeepsNumbers (c0 : C) : Type 0 where
-    pub at : (f : F) (c : C) (t : Ty) (r : Result Ty (NormalizeErr E)) (f' : F) (c' : C) → Grows (context c0) (context c)
+  -- There it keeps the numbers itself, and answers a type of the context.
+  pub record KeepsNumbers (f0 : F) (c0 : C) : Type 0 where
+    pub at : (f : F) (c : C) (t : Ty) (r : Result Ty (NormalizeErr E)) (f' : F) (c' : C) → IsReached f0 c0 f c → Grows (context c0) (context c)
         → IsTy (context c).trees t → t.0 < 2 ^ 32 → Normalizes f c t r f' c'
         → Grows (context c) (context c') × IfOk r (λ u. IsTy (context c').trees u)
 
-  -- So many of its calls lead from one normaliser and context to another.
-  abbrev pub Lead : ℕ → F → C → F → C → Type 0
-  Lead zero f c f' c' = (f' ≡ f) × (c' ≡ c)
-  Lead (suc n) f c f' c' = (t : Ty) × (r : Result Ty (NormalizeErr E)) × (f1 : F) × (c1 : C) × Normalizes f c t r f1 c1 × Lead n f1 c1 f' c'
+  -- There its answers and effects, but for what is left open, are functions of the tree and of the state that stands for it
+  -- and the context; what stands for the context gives variables the same values.
+  pub record IsFunction (resolve : C → Tree → Tree) (d : Description F C E) (f0 : F) (c0 : C) : Type 0 where
+    pub at : (f : F) (c : C) (t : Ty) (r : Result Ty (NormalizeErr E)) (f' : F) (c' : C) → IsReached f0 c0 f c → Grows (context c0) (context c)
+        → IsTy (context c).trees t → t.0 < 2 ^ 32 → Normalizes f c t r f' c' → IsToldAnswer d.untold r
+        → d.normal (d.stands (f, c)) (ty_tree (context c).trees t) ≡ record { seen = shown (context c').trees r; after = d.stands (f', c') }
+    pub values : (f : F) (c : C) (t : Tree) → IsReached f0 c0 f c → Grows (context c0) (context c) → resolve (d.stands (f, c)).1 t ≡ resolve c t
 
-  -- What is left was changed by calls of the normaliser alone.
-  pub record IsLeftByCalls (f : F) (c : C) (f' : F) (c' : C) : Type 0 where
-    pub calls : ℕ
-    pub lead : Lead calls f c f' c'
+  -- It answers its input, and changes nothing, unless it stops.
+  abbrev pub IsPlain : (C → Tree → Tree) → F → C → Type 0
+  IsPlain resolve f0 c0 = IsFunction resolve (exactly AnyStop plain) f0 c0
 
-  -- From here on, its answers and effects are functions of the tree and of what it and the context are: at this state of the
-  -- two, and at each that its calls lead to.
-  pub record IsFunction (f0 : F) (c0 : C) (normal : View (F × C) E) : Type 0 where
-    pub at : (f : F) (c : C) (t : Ty) (r : Result Ty (NormalizeErr E)) (f' : F) (c' : C) → IsLeftByCalls f0 c0 f c → Grows (context c0) (context c)
-        → IsTy (context c).trees t → t.0 < 2 ^ 32 → Normalizes f c t r f' c'
-        → normal (f, c) (ty_tree (context c).trees t) ≡ record { seen = shown (context c').trees r; after = (f', c') }
+  -- It answers a type that stands in no header, or any type at one.
+  pub record SeesUnnameable (k : Call F C E) : Type 0 where
+    pub seen : Ty
+    pub answers : k.answer ≡ Ok seen
+    pub is : (is_unnameable (ty_tree (context k.after).trees seen).head ≡ true) ⊎ (is_unnameable (ty_tree (context k.before).trees k.type).head ≡ true)
 
-  -- It answers its input, and changes nothing.
-  abbrev pub IsPlain : F → C → Type 0
-  IsPlain f0 c0 = IsFunction f0 c0 plain
+  -- By these calls a walk stops so: for want of memory after any, for its depth after so many at least (a visit makes one,
+  -- and those that it stands in one each), else by what the last of them does.
+  abbrev pub IsStopCause : ℕ → List (Call F C E) → Stop → Type 0
+  IsStopCause levels calls s =
+      (s ≡ Memory) ⊎ (((s ≡ WalkDepth) × (levels ≤ length calls)) ⊎ (((s ≡ Unnameable) × LastIs SeesUnnameable calls) ⊎ LastIs (Answers s) calls))
 
-  -- The last of the calls that lead from the one to the other answers the stop.
-  pub record StopIsAnswered (f : F) (c : C) (f' : F) (c' : C) (s : Stop) : Type 0 where
-    pub calls : ℕ
-    pub f1 : F
-    pub c1 : C
-    pub lead : Lead calls f c f1 c1
-    pub t : Ty
-    pub call : Normalizes f1 c1 t (Err (N.Stop s)) f' c'
+  -- Calls at types of their contexts, which lead to what is left; none but the last answers a stop, and a stop of the last
+  -- is the result; where the result is a stop, they are its cause.
+  pub record IsLeftByCalls (levels : ℕ) (f : F) (c : C) (f' : F) (c' : C) (stops : Stop → Type 0) : Type 0 where
+    pub calls : List (Call F C E)
+    pub lead : Lead f c calls f' c'
+    pub ends : EndsAtStop calls
+    pub passed_on : (s : Stop) → LastIs (Answers s) calls → stops s
+    pub cause : (s : Stop) → stops s → IsStopCause levels calls s
 
-  -- The last of them answers a type that stands in no header, or is made at one.
-  pub record UnnameableIsSeen (f : F) (c : C) (f' : F) (c' : C) : Type 0 where
-    pub calls : ℕ
-    pub f1 : F
-    pub c1 : C
-    pub lead : Lead calls f c f1 c1
-    pub t : Ty
-    pub u : Ty
-    pub call : Normalizes f1 c1 t (Ok u) f' c'
-    pub is : (is_unnameable (ty_tree (context c').trees u).head ≡ true) ⊎ (is_unnameable (ty_tree (context c1).trees t).head ≡ true)
-
-  -- They are so many at least: a visit makes one, and those that it stands in one each.
-  pub record IsDeep (levels : ℕ) (f : F) (c : C) (f' : F) (c' : C) : Type 0 where
-    pub calls : ℕ
-    pub lead : Lead calls f c f' c'
-    pub deep : levels ≤ calls
-
-  -- Calls that lead from the one to the other, by which a walk stops so: for want of memory after any, for its depth after so
-  -- many, else by what the last of them does.
-  abbrev pub IsStopCause : ℕ → F → C → F → C → Stop → Type 0
-  IsStopCause levels f c f' c' s =
-      (s ≡ Memory) ⊎ (((s ≡ WalkDepth) × IsDeep levels f c f' c') ⊎ (((s ≡ Unnameable) × UnnameableIsSeen f c f' c') ⊎ StopIsAnswered f c f' c' s))
-
-  -- Calls of the normaliser alone lead from the one context to the other.
-  pub record IsChangedByCalls (f : F) (c c' : C) : Type 0 where
+  -- The same of a check, which keeps the normaliser that is left.
+  pub record IsChangedByCalls {A : Type 0} (levels : ℕ) (f : F) (c c' : C) (result : Result A (OrphanStop E)) : Type 0 where
     pub last : F
-    pub left : IsLeftByCalls f c last c'
+    pub left : IsLeftByCalls levels f c last c' (StopsWith result)
 
-  -- Calls that lead from the one context to the other are the stop's cause.
-  pub record StopHasCause (levels : ℕ) (f : F) (c c' : C) (s : Stop) : Type 0 where
-    pub last : F
-    pub cause : IsStopCause levels f c last c' s
-
-  -- The same, where a result is a stop.
-  pub record HasCause {A : Type 0} (levels : ℕ) (f : F) (c : C) (f' : F) (c' : C) (result : Result A (OrphanStop E)) : Type 0 where
-    pub at : (s : Stop) → result ≡ Err (O.Stop s) → IsStopCause levels f c f' c' s
+  -- A view was taken by one call.
+  pub record IsViewed (f : F) (c : C) (view : Result Ty (NormalizeErr E)) (f' : F) (c' : C) : Type 0 where
+    pub call : Call F C E
+    pub lead : Lead f c (call ∷ []) f' c'
+    pub stops : (s : Stop) → Answers s call → view ≡ Err (N.Stop s)
+    pub stopped : (s : Stop) → view ≡ Err (N.Stop s) → Answers s call
+    pub unnameable : (u : Ty) → view ≡ Ok u → is_unnameable (ty_tree (context c').trees u).head ≡ true → SeesUnnameable call

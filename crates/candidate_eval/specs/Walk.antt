@@ -1,7 +1,8 @@
 -- A walk over types in the words of the frontier: what was passed over and recorded, or what broke it off.
-use Rattle.std.specs.Prelude.{◌≡◌, ◌≢◌, ℕ, Bool, true, false, Some, None, Result, Ok, Err, List, [], ◌∷◌, ◌++◌, All}
+use Rattle.std.specs.Prelude.{◌≡◌, ℕ, Bool, true, false, Some, None, Result, Ok, Err, List, [], ◌∷◌, ◌++◌, All}
 use Rattle.candidate_ir.specs.declared.ir.kinds.Ty.{Ty}
-use Rattle.candidate_ir.specs.declared.ir.stop.Stop.TheVariants.{Memory, Unnameable}
+use Rattle.candidate_ir.specs.declared.ir.stop.Stop.{Stop}
+use Rattle.candidate_ir.specs.declared.ir.stop.Stop.TheVariants.{Unnameable}
 use Rattle.candidate_ir.specs.Context.{Context, world}
 use Rattle.candidate_ir.specs.Trees.{Forest, Tree}
 use Rattle.candidate_ir.specs.Worlds.{World}
@@ -15,6 +16,7 @@ use Rattle.candidate_eval.specs.declared.walk.EarlyExit.TheVariants as X
 use Rattle.candidate_eval.specs.declared.walk.Walk.{Walk}
 pub use Rattle.candidate_eval.specs.Answers.{entries_of}
 use Rattle.candidate_eval.specs.Laws.{OnlyFirst}
+use Rattle.candidate_eval.specs.Normalizer.{Untold, IsUntold}
 use Rattle.candidate_eval.specs.Orphan.{InCrate, CrateTest, crate_test, View, Item, Step, Class, IsNonLocal, IsSkipped, IsLocal, IsUncovered, IsBroken, Refused, Stopped, class_of, visit, frontier, left, first_step, decides, decides_again, entries}
 
 -- Where a walk takes place: the world, the local crate, and for which crate is checked.
@@ -83,10 +85,14 @@ pub record Found {S E : Type 0} (classify : Item E → Class E) (seeks : Bool) (
   pub class_is : classify step.item ≡ c
   pub leaves : step.after ≡ after
 
--- The walk went over the steps; where a growth was refused, nothing is said.
-abbrev pub Outcome : {S E : Type 0} → List Tree → (Item E → Class E) → Walk → Walk → S → S → List (Step S E) → Result (Unit {0}) (EarlyExit E) → Type 0
-Outcome ts classify old new s after steps (Ok u) = Passed ts classify old new s after steps
-Outcome ts classify old new s after steps (Err x) = x ≢ X.Broken (O.Stop Memory) → Found classify old.seeks_local steps (exit_class ts x) after
+-- It breaks a walk off, and is no stop that is left open.
+abbrev pub IsToldExit : {E : Type 0} → Untold → EarlyExit E → Type 0
+IsToldExit u x = (s : Stop) → IsUntold u s → x ≡ X.Broken (O.Stop s) → ⊥
+
+-- The walk went over the steps; where it stopped and that is left open, nothing is said.
+abbrev pub Outcome : {S E : Type 0} → Untold → List Tree → (Item E → Class E) → Walk → Walk → S → S → List (Step S E) → Result (Unit {0}) (EarlyExit E) → Type 0
+Outcome u ts classify old new s after steps (Ok v) = Passed ts classify old new s after steps
+Outcome u ts classify old new s after steps (Err x) = IsToldExit u x → Found classify old.seeks_local steps (exit_class ts x) after
 
 -- At most one entry is the first input, and then the first one; before the first visit has ended there is none.
 pub record FirstOnce (is_first : Bool) (es : List (Ty × IsFirstInputType)) : Type 0 where

@@ -4,11 +4,11 @@ ghost use Rattle.std.specs.Prelude.{◌≡◌, ◌≢◌, ℕ, List, false, IfOk
 ghost use Rattle.candidate_ir.specs.Context.{Grows, world};
 ghost use Rattle.candidate_ir.specs.Trees.{Tree};
 ghost use Rattle.candidate_ir.specs.Words.{IsTy, IsArgs, args_forest};
-ghost use Rattle.candidate_eval.specs.Orphan.{View, view, Passes, Entry, NonLocalInput, local_or_fundamental};
-ghost use Rattle.candidate_eval.specs.Normalizer.{MayNormalize, KeepsNumbers, IsFunction, IsLeftByCalls, IsStopCause, IsChangedByCalls, HasCause, StopHasCause};
-ghost use Rattle.candidate_eval.specs.Laws.{OnlyFirst, LinkSafety, IsPlainCall};
+ghost use Rattle.candidate_eval.specs.Orphan.{view, Passes, Entry, NonLocalInput, local_or_fundamental};
+ghost use Rattle.candidate_eval.specs.Normalizer.{Description, IsUntold, IsTold, StopsWith, MayNormalize, KeepsNumbers, IsFunction, IsLeftByCalls, IsChangedByCalls};
+ghost use Rattle.candidate_eval.specs.Laws.{ProperThenCompat, RemoteLaw, FirstInputLaw, OnlyFirst, LinkSafety, IsPlainCall};
 ghost use Rattle.candidate_eval.specs.Calls.{depth_limit, IsChecked, IsKnown, check_of, check_where, knowledge_about, HasNoParam, HasNoAlias, HasNoAliasOrError, IsOfForeignTrait, NoForeignHeaderHere, NoUnnamedHeaderHere, NoCoveredHeaderHere, IsDecidedByGeneralHere, HasDownstreamHere};
-ghost use Rattle.candidate_eval.specs.Answers.{IsUncoveredResult, AreAnswerTypes, OutOfMemory, IsAnswer, IsKnowledge, answer_of, second_answer};
+ghost use Rattle.candidate_eval.specs.Answers.{IsUncoveredResult, AreAnswerTypes, IsAnswer, IsKnowledge, answer_of, second_answer};
 ghost use Rattle.candidate_eval.specs.Walk.{setting};
 ghost use Rattle.candidate_eval.specs.Second.{IsSecond};
 
@@ -109,13 +109,12 @@ where
     E: Drop,
     F: FnMut(&mut C, Ty) -> Result<Ty, NormalizeErr<E>>,
     requires args { IsArgs (C.context infcx.old).trees args }
-    requires callable { MayNormalize C.context F.FnMut infcx.old }
-    requires keeps { KeepsNumbers C.context F.FnMut infcx.old }
+    requires callable { MayNormalize C.context F.FnMut normalize.old infcx.old }
+    requires keeps { KeepsNumbers C.context F.FnMut normalize.old infcx.old }
     ensures grows { Grows (C.context infcx.old) (C.context infcx.new) }
-    ensures calls { IsLeftByCalls C.context F.FnMut normalize.old infcx.old normalize.new infcx.new }
-    ensures cause { (s : Stop) → result ≡ Err s → IsStopCause C.context F.FnMut 256 normalize.old infcx.old normalize.new infcx.new s }
+    ensures calls { IsLeftByCalls C.context F.FnMut 256 normalize.old infcx.old normalize.new infcx.new (λ s. result ≡ Err s) }
     ensures types { IfOk result (λ o. IfSome o (λ t. IsTy (C.context infcx.new).trees t)) }
-    ensures answer { (normal : View (F × C) E) → IsFunction C.context F.FnMut normalize.old infcx.old normal → result ≢ Err Stop.Memory → (t : Tree) → IsSecond (setting (C.context infcx.old) in_crate) (view (λ s t. C.resolved s.1 t) normal) 256 (normalize.old, infcx.old) (args_forest (C.context infcx.old).trees args) t (record { answer = second_answer (C.context infcx.new).trees t result; after = (normalize.new, infcx.new) }) }
+    ensures answer { (d : Description F C E) → IsFunction C.context F.FnMut C.resolved d normalize.old infcx.old → ((s : Stop) → IsUntold d.untold s → result ≡ Err s → ⊥) → (t : Tree) → IsSecond (setting (C.context infcx.old) in_crate) (view (λ s t. C.resolved s.1 t) d.normal) 256 (d.stands (normalize.old, infcx.old)) (args_forest (C.context infcx.old).trees args) t (record { answer = second_answer (C.context infcx.new).trees t result; after = d.stands (normalize.new, infcx.new) }) }
 {
     let mut walk = Walk {
         in_crate,
@@ -126,8 +125,9 @@ where
     match visit_args(infcx, normalize, &mut walk, args, WALK_DEPTH) {
         Err(EarlyExit::Local(ty)) => Ok(Some(ty)),
         Err(EarlyExit::Broken(OrphanStop::Stop(stop))) => Err(stop),
-        Ok(()) | Err(EarlyExit::Uncovered(_)) | Err(EarlyExit::Broken(OrphanStop::Normalize(_))) =>
-            Ok(None),
+        Err(EarlyExit::Broken(OrphanStop::Normalize(_))) => Ok(None),
+        Err(EarlyExit::Uncovered(_)) => Ok(None),
+        Ok(()) => Ok(None),
     }
 }
 
@@ -144,11 +144,10 @@ where
     E: Drop,
     F: FnMut(&mut C, Ty) -> Result<Ty, NormalizeErr<E>>,
     requires args { IsArgs (C.context infcx.old).trees trait_ref.args }
-    requires callable { MayNormalize C.context F.FnMut infcx.old }
-    requires keeps { KeepsNumbers C.context F.FnMut infcx.old }
+    requires callable { MayNormalize C.context F.FnMut normalize.old infcx.old }
+    requires keeps { KeepsNumbers C.context F.FnMut normalize.old infcx.old }
     ensures grows { Grows (C.context infcx.old) (C.context infcx.new) }
-    ensures calls { IsLeftByCalls C.context F.FnMut normalize.old infcx.old normalize.new infcx.new }
-    ensures cause { HasCause C.context F.FnMut 256 normalize.old infcx.old normalize.new infcx.new result }
+    ensures calls { IsLeftByCalls C.context F.FnMut 256 normalize.old infcx.old normalize.new infcx.new (StopsWith result) }
     ensures types { AreAnswerTypes (C.context infcx.new).trees result }
     ensures covers { in_crate ≡ InCrate.Remote → ¬ (IsUncoveredResult result) }
     ensures first_input_once { (l : List Entry) → answer_of (C.context infcx.new).trees result ≡ NonLocalInput l → OnlyFirst l }
@@ -203,27 +202,31 @@ where
     F: FnMut(&mut C, Ty) -> Result<Ty, NormalizeErr<E>> + Drop,
     requires args { IsArgs (C.context infcx.old).trees trait_ref.args }
     requires no_param { HasNoParam (C.context infcx.old) trait_ref }
-    requires callable { MayNormalize C.context F.FnMut infcx.old }
-    requires keeps { KeepsNumbers C.context F.FnMut infcx.old }
+    requires callable { MayNormalize C.context F.FnMut normalize infcx.old }
+    requires keeps { KeepsNumbers C.context F.FnMut normalize infcx.old }
     ensures grows { Grows (C.context infcx.old) (C.context infcx.new) }
-    ensures calls { IsChangedByCalls C.context F.FnMut normalize infcx.old infcx.new }
-    ensures cause { (s : Stop) → result ≡ Err (OrphanStop.Stop s) → StopHasCause C.context F.FnMut depth_limit normalize infcx.old infcx.new s }
+    ensures calls { IsChangedByCalls C.context F.FnMut depth_limit normalize infcx.old infcx.new result }
     ensures types { AreAnswerTypes (C.context infcx.new).trees result }
 
-    // For a normaliser whose answers and effects are functions of the tree and the context.
-    ensures answer { (normal : View (F × C) E) → IsFunction C.context F.FnMut normalize infcx.old normal → ¬ (OutOfMemory result) → IsAnswer (C.context infcx.new).trees result infcx.new (check_of C.context C.resolved normal in_crate (normalize, infcx.old) trait_ref) }
+    // For a normaliser whose answers and effects, but for what is left open, are functions of the tree and the context.
+    ensures answer { (d : Description F C E) → IsFunction C.context F.FnMut C.resolved d normalize infcx.old → IsTold d.untold result → IsAnswer (C.context infcx.new).trees d.stands result infcx.new (check_of C.context C.resolved d in_crate (normalize, infcx.old) trait_ref) }
 
     // What passes in `Proper` passes in `Compat`.
-    ensures proper_passes_compat { (normal : View (F × C) E) → IsFunction C.context F.FnMut normalize infcx.old normal → in_crate ≡ InCrate.Local OrphanCheckMode.Proper → result ≡ Ok (Ok tt) → (check_of C.context C.resolved normal (InCrate.Local OrphanCheckMode.Compat) (normalize, infcx.old) trait_ref).answer ≡ Passes }
+    ensures proper_passes_compat { (d : Description F C E) → IsFunction C.context F.FnMut C.resolved d normalize infcx.old → in_crate ≡ InCrate.Local OrphanCheckMode.Proper → result ≡ Ok (Ok tt) → (check_of C.context C.resolved d (InCrate.Local OrphanCheckMode.Compat) (normalize, infcx.old) trait_ref).answer ≡ Passes }
 
     // In `Remote` the answer is the same whichever crate is local.
-    ensures remote_ignores_the_local_crate { (normal : View (F × C) E) → IsFunction C.context F.FnMut normalize infcx.old normal → in_crate ≡ InCrate.Remote → ¬ (OutOfMemory result) → (local : ℕ) → IsAnswer (C.context infcx.new).trees result infcx.new (check_where C.context C.resolved normal local InCrate.Remote (normalize, infcx.old) trait_ref) }
+    ensures remote_ignores_the_local_crate { (d : Description F C E) → IsFunction C.context F.FnMut C.resolved d normalize infcx.old → in_crate ≡ InCrate.Remote → IsTold d.untold result → (local : ℕ) → IsAnswer (C.context infcx.new).trees d.stands result infcx.new (check_where C.context C.resolved d local InCrate.Remote (normalize, infcx.old) trait_ref) }
 
     // For every normaliser, in `Remote` nothing is uncovered.
     ensures remote_covers { in_crate ≡ InCrate.Remote → ¬ (IsUncoveredResult result) }
 
     // For every normaliser, at most one entry is the first input, and then it is the first one.
     ensures first_input_once { (l : List Entry) → answer_of (C.context infcx.new).trees result ≡ NonLocalInput l → OnlyFirst l }
+
+    // The laws behind these three, over all definitions and limits.
+    ensures proper_then_compat { ProperThenCompat (F × C) E }
+    ensures remote_law { RemoteLaw (F × C) E }
+    ensures first_input_law { FirstInputLaw (F × C) E }
 
     // Two crates that name nothing of each other write no headers that overlap.
     ensures link_safety { LinkSafety }
@@ -262,11 +265,10 @@ where
     E: Drop,
     F: FnMut(&mut C, Ty) -> Result<Ty, NormalizeErr<E>>,
     requires args { IsArgs (C.context infcx.old).trees trait_ref.args }
-    requires callable { MayNormalize C.context F.FnMut infcx.old }
-    requires keeps { KeepsNumbers C.context F.FnMut infcx.old }
+    requires callable { MayNormalize C.context F.FnMut normalize.old infcx.old }
+    requires keeps { KeepsNumbers C.context F.FnMut normalize.old infcx.old }
     ensures grows { Grows (C.context infcx.old) (C.context infcx.new) }
-    ensures calls { IsLeftByCalls C.context F.FnMut normalize.old infcx.old normalize.new infcx.new }
-    ensures cause { HasCause C.context F.FnMut 256 normalize.old infcx.old normalize.new infcx.new result }
+    ensures calls { IsLeftByCalls C.context F.FnMut 256 normalize.old infcx.old normalize.new infcx.new (StopsWith result) }
     ensures answer { IsKnown C.context C.resolved F.FnMut normalize.old infcx.old trait_ref result normalize.new infcx.new }
 {
     let remote = check(alloc, infcx, trait_ref, InCrate::Remote, normalize)?;
@@ -307,14 +309,13 @@ where
     F: FnMut(&mut C, Ty) -> Result<Ty, NormalizeErr<E>> + Drop,
     requires args { IsArgs (C.context infcx.old).trees trait_ref.args }
     requires no_param { HasNoParam (C.context infcx.old) trait_ref }
-    requires callable { MayNormalize C.context F.FnMut infcx.old }
-    requires keeps { KeepsNumbers C.context F.FnMut infcx.old }
+    requires callable { MayNormalize C.context F.FnMut normalize infcx.old }
+    requires keeps { KeepsNumbers C.context F.FnMut normalize infcx.old }
     ensures grows { Grows (C.context infcx.old) (C.context infcx.new) }
-    ensures calls { IsChangedByCalls C.context F.FnMut normalize infcx.old infcx.new }
-    ensures cause { (s : Stop) → result ≡ Err (OrphanStop.Stop s) → StopHasCause C.context F.FnMut depth_limit normalize infcx.old infcx.new s }
+    ensures calls { IsChangedByCalls C.context F.FnMut depth_limit normalize infcx.old infcx.new result }
 
-    // For a normaliser whose answers and effects are functions of the tree and the context.
-    ensures answer { (normal : View (F × C) E) → IsFunction C.context F.FnMut normalize infcx.old normal → result ≢ Err (OrphanStop.Stop Stop.Memory) → IsKnowledge result infcx.new (knowledge_about C.context C.resolved normal (normalize, infcx.old) trait_ref) }
+    // For a normaliser whose answers and effects, but for what is left open, are functions of the tree and the context.
+    ensures answer { (d : Description F C E) → IsFunction C.context F.FnMut C.resolved d normalize infcx.old → IsTold d.untold result → IsKnowledge d.stands result infcx.new (knowledge_about C.context C.resolved d (normalize, infcx.old) trait_ref) }
 
     // A known reference is overlapped by no header that a crate which it doesn't name may write.
     ensures no_unnamed_header { IsPlainCall C.context C.resolved F.FnMut normalize infcx.old trait_ref → HasNoAlias (C.context infcx.old) trait_ref → result ≡ Ok (Ok tt) → NoUnnamedHeaderHere (C.context infcx.old) trait_ref }

@@ -1,10 +1,11 @@
 //! What the layers above know of an evaluator.
 
-ghost use Rattle.std.specs.Prelude.{◌≡◌};
+ghost use Rattle.std.specs.Prelude.{◌≡◌, false, refl};
 ghost use Rattle.candidate_ir.specs.Trees.{Tree};
 ghost use Rattle.candidate_ir.specs.Words.{IsTy, ty_tree};
+ghost use Rattle.candidate_eval.specs.Orphan.{is_variable};
 
-use candidate_ir::decl::context::Cx;
+use candidate_ir::decl::Cx;
 use candidate_ir::decl::make::Make;
 use candidate_ir::ir::kinds::Ty;
 
@@ -18,11 +19,16 @@ pub trait InferCtxtLike: Make {
         requires { IsTy (Self.context self.now).trees ty }
         ensures sort { IsTy (Self.context self.now).trees result }
         ensures tree { ty_tree (Self.context self.now).trees result ≡ resolved self.now (ty_tree (Self.context self.now).trees ty) };
+
+    /// A tree whose root is no variable stays.
+    ghost stays: { (s : Self) (t : Tree) → is_variable t.head ≡ false → resolved s t ≡ t };
 }
 
-/// A context alone: no variable has a value.
+/// A context in which no variable has a value.
 impl InferCtxtLike for Cx {
     ghost resolved = { λ _ t. t };
+
+    ghost stays = { λ _ _ _. refl };
 
     fn shallow_resolve(&self, ty: Ty) -> Ty {
         ty

@@ -3,8 +3,8 @@
 ghost use Rattle.std.specs.Prelude.{◌≡◌, ◌≢◌, ◌<◌, true, false, OnOk, IfOk, IfErr};
 ghost use Rattle.candidate_ir.specs.Context.{Grows};
 ghost use Rattle.candidate_ir.specs.Words.{IsTy, IsArgs, ty_tree, args_forest};
-ghost use Rattle.candidate_eval.specs.Orphan.{View, view, is_general, is_unnameable};
-ghost use Rattle.candidate_eval.specs.Normalizer.{MayNormalize, KeepsNumbers, IsFunction, Normalizes, Lead, IsLeftByCalls, StopIsAnswered, UnnameableIsSeen, IsStopCause, shown};
+ghost use Rattle.candidate_eval.specs.Orphan.{view, is_general};
+ghost use Rattle.candidate_eval.specs.Normalizer.{Description, IsToldAnswer, MayNormalize, KeepsNumbers, IsFunction, Normalizes, IsLeftByCalls, IsViewed, shown};
 ghost use Rattle.candidate_eval.specs.Walk.{AreTypes, FirstOnce, IsExit, Outcome, SameWalk, still, setting, classes, type_steps, list_steps};
 
 use crate::coherence::{InCrate, IsFirstInputType, NormalizeErr, OrphanStop};
@@ -61,12 +61,12 @@ where
     C: InferCtxtLike,
     F: FnMut(&mut C, Ty) -> Result<Ty, NormalizeErr<E>>,
     requires ty { IsTy (C.context infcx.old).trees ty }
-    requires callable { MayNormalize C.context F.FnMut infcx.old }
-    requires keeps { KeepsNumbers C.context F.FnMut infcx.old }
+    requires callable { MayNormalize C.context F.FnMut normalize.old infcx.old }
+    requires keeps { KeepsNumbers C.context F.FnMut normalize.old infcx.old }
     ensures grows { Grows (C.context infcx.old) (C.context infcx.new) }
     ensures call { Normalizes C.context F.FnMut normalize.old infcx.old ty result normalize.new infcx.new }
     ensures sort { IfOk result (λ t. IsTy (C.context infcx.new).trees t) }
-    ensures answer { (normal : View (F × C) E) → IsFunction C.context F.FnMut normalize.old infcx.old normal → normal (normalize.old, infcx.old) (ty_tree (C.context infcx.old).trees ty) ≡ record { seen = shown (C.context infcx.new).trees result; after = (normalize.new, infcx.new) } }
+    ensures answer { (d : Description F C E) → IsFunction C.context F.FnMut C.resolved d normalize.old infcx.old → IsToldAnswer d.untold result → d.normal (d.stands (normalize.old, infcx.old)) (ty_tree (C.context infcx.old).trees ty) ≡ record { seen = shown (C.context infcx.new).trees result; after = d.stands (normalize.new, infcx.new) } }
 {
     normalize(infcx, ty)
 }
@@ -81,14 +81,12 @@ where
     C: InferCtxtLike,
     F: FnMut(&mut C, Ty) -> Result<Ty, NormalizeErr<E>>,
     requires ty { IsTy (C.context infcx.old).trees ty }
-    requires callable { MayNormalize C.context F.FnMut infcx.old }
-    requires keeps { KeepsNumbers C.context F.FnMut infcx.old }
+    requires callable { MayNormalize C.context F.FnMut normalize.old infcx.old }
+    requires keeps { KeepsNumbers C.context F.FnMut normalize.old infcx.old }
     ensures grows { Grows (C.context infcx.old) (C.context infcx.new) }
-    ensures one_call { Lead C.context F.FnMut 1 normalize.old infcx.old normalize.new infcx.new }
-    ensures stop { (s : Stop) → result ≡ Err (NormalizeErr.Stop s) → StopIsAnswered C.context F.FnMut normalize.old infcx.old normalize.new infcx.new s }
-    ensures unnameable { (u : Ty) → result ≡ Ok u → is_unnameable (ty_tree (C.context infcx.new).trees u).head ≡ true → UnnameableIsSeen C.context F.FnMut normalize.old infcx.old normalize.new infcx.new }
+    ensures call { IsViewed C.context F.FnMut normalize.old infcx.old result normalize.new infcx.new }
     ensures sort { IfOk result (λ t. IsTy (C.context infcx.new).trees t) }
-    ensures view { (normal : View (F × C) E) → IsFunction C.context F.FnMut normalize.old infcx.old normal → view (λ s t. C.resolved s.1 t) normal (normalize.old, infcx.old) (ty_tree (C.context infcx.old).trees ty) ≡ record { seen = shown (C.context infcx.new).trees result; after = (normalize.new, infcx.new) } }
+    ensures view { (d : Description F C E) → IsFunction C.context F.FnMut C.resolved d normalize.old infcx.old → IsToldAnswer d.untold result → view (λ s t. C.resolved s.1 t) d.normal (d.stands (normalize.old, infcx.old)) (ty_tree (C.context infcx.old).trees ty) ≡ record { seen = shown (C.context infcx.new).trees result; after = d.stands (normalize.new, infcx.new) } }
 {
     let ty = infcx.shallow_resolve(ty);
     let normal = normalized(infcx, normalize, ty)?;
@@ -142,21 +140,20 @@ where
     C: InferCtxtLike,
     F: FnMut(&mut C, Ty) -> Result<Ty, NormalizeErr<E>>,
     requires ty { IsTy (C.context infcx.old).trees ty }
-    requires callable { MayNormalize C.context F.FnMut infcx.old }
-    requires keeps { KeepsNumbers C.context F.FnMut infcx.old }
+    requires callable { MayNormalize C.context F.FnMut normalize.old infcx.old }
+    requires keeps { KeepsNumbers C.context F.FnMut normalize.old infcx.old }
     requires recorded { AreTypes (C.context infcx.old).trees walk.old.non_local.items }
     requires firsts { FirstOnce walk.old.is_first walk.old.non_local.items }
     ensures grows { Grows (C.context infcx.old) (C.context infcx.new) }
-    ensures calls { IsLeftByCalls C.context F.FnMut normalize.old infcx.old normalize.new infcx.new }
-    ensures cause { (s : Stop) → result ≡ Err (EarlyExit.Broken (OrphanStop.Stop s)) → IsStopCause C.context F.FnMut levels normalize.old infcx.old normalize.new infcx.new s }
+    ensures calls { IsLeftByCalls C.context F.FnMut levels normalize.old infcx.old normalize.new infcx.new (λ s. result ≡ Err (EarlyExit.Broken (OrphanStop.Stop s))) }
     ensures recorded { AreTypes (C.context infcx.new).trees walk.new.non_local.items }
     ensures firsts { OnOk result (FirstOnce walk.new.is_first walk.new.non_local.items) }
     ensures covers { (t : Ty) → walk.old.in_crate ≡ InCrate.Remote → result ≢ Err (EarlyExit.Uncovered t) }
     ensures exit { IfErr result (λ x. IsExit (C.context infcx.new).trees x) }
     ensures same { SameWalk walk.old walk.new }
     ensures first { OnOk result (walk.new.is_first ≡ false) }
-    ensures some { (normal : View (F × C) E) → IsFunction C.context F.FnMut normalize.old infcx.old normal → OnOk result (still true (type_steps (setting (C.context infcx.old) walk.old.in_crate) (view (λ s t. C.resolved s.1 t) normal) levels (normalize.old, infcx.old) (ty_tree (C.context infcx.old).trees ty)) ≡ false) }
-    ensures outcome { (normal : View (F × C) E) → IsFunction C.context F.FnMut normalize.old infcx.old normal → Outcome (C.context infcx.new).trees (classes (setting (C.context infcx.old) walk.old.in_crate)) walk.old walk.new (normalize.old, infcx.old) (normalize.new, infcx.new) (type_steps (setting (C.context infcx.old) walk.old.in_crate) (view (λ s t. C.resolved s.1 t) normal) levels (normalize.old, infcx.old) (ty_tree (C.context infcx.old).trees ty)) result }
+    ensures some { (d : Description F C E) → IsFunction C.context F.FnMut C.resolved d normalize.old infcx.old → OnOk result (still true (type_steps (setting (C.context infcx.old) walk.old.in_crate) (view (λ s t. C.resolved s.1 t) d.normal) levels (d.stands (normalize.old, infcx.old)) (ty_tree (C.context infcx.old).trees ty)) ≡ false) }
+    ensures outcome { (d : Description F C E) → IsFunction C.context F.FnMut C.resolved d normalize.old infcx.old → Outcome d.untold (C.context infcx.new).trees (classes (setting (C.context infcx.old) walk.old.in_crate)) walk.old walk.new (d.stands (normalize.old, infcx.old)) (d.stands (normalize.new, infcx.new)) (type_steps (setting (C.context infcx.old) walk.old.in_crate) (view (λ s t. C.resolved s.1 t) d.normal) levels (d.stands (normalize.old, infcx.old)) (ty_tree (C.context infcx.old).trees ty)) result }
 {
     if levels == 0 {
         return Err(EarlyExit::Broken(OrphanStop::Stop(Stop::WalkDepth)));
@@ -184,19 +181,18 @@ where
     C: InferCtxtLike,
     F: FnMut(&mut C, Ty) -> Result<Ty, NormalizeErr<E>>,
     requires args { IsArgs (C.context infcx.old).trees args }
-    requires callable { MayNormalize C.context F.FnMut infcx.old }
-    requires keeps { KeepsNumbers C.context F.FnMut infcx.old }
+    requires callable { MayNormalize C.context F.FnMut normalize.old infcx.old }
+    requires keeps { KeepsNumbers C.context F.FnMut normalize.old infcx.old }
     requires recorded { AreTypes (C.context infcx.old).trees walk.old.non_local.items }
     requires firsts { FirstOnce walk.old.is_first walk.old.non_local.items }
     ensures grows { Grows (C.context infcx.old) (C.context infcx.new) }
-    ensures calls { IsLeftByCalls C.context F.FnMut normalize.old infcx.old normalize.new infcx.new }
-    ensures cause { (s : Stop) → result ≡ Err (EarlyExit.Broken (OrphanStop.Stop s)) → IsStopCause C.context F.FnMut levels normalize.old infcx.old normalize.new infcx.new s }
+    ensures calls { IsLeftByCalls C.context F.FnMut levels normalize.old infcx.old normalize.new infcx.new (λ s. result ≡ Err (EarlyExit.Broken (OrphanStop.Stop s))) }
     ensures recorded { AreTypes (C.context infcx.new).trees walk.new.non_local.items }
     ensures firsts { OnOk result (FirstOnce walk.new.is_first walk.new.non_local.items) }
     ensures covers { (t : Ty) → walk.old.in_crate ≡ InCrate.Remote → result ≢ Err (EarlyExit.Uncovered t) }
     ensures exit { IfErr result (λ x. IsExit (C.context infcx.new).trees x) }
     ensures same { SameWalk walk.old walk.new }
-    ensures outcome { (normal : View (F × C) E) → IsFunction C.context F.FnMut normalize.old infcx.old normal → Outcome (C.context infcx.new).trees (classes (setting (C.context infcx.old) walk.old.in_crate)) walk.old walk.new (normalize.old, infcx.old) (normalize.new, infcx.new) (list_steps (setting (C.context infcx.old) walk.old.in_crate) (view (λ s t. C.resolved s.1 t) normal) levels (normalize.old, infcx.old) (args_forest (C.context infcx.old).trees args)) result }
+    ensures outcome { (d : Description F C E) → IsFunction C.context F.FnMut C.resolved d normalize.old infcx.old → Outcome d.untold (C.context infcx.new).trees (classes (setting (C.context infcx.old) walk.old.in_crate)) walk.old walk.new (d.stands (normalize.old, infcx.old)) (d.stands (normalize.new, infcx.new)) (list_steps (setting (C.context infcx.old) walk.old.in_crate) (view (λ s t. C.resolved s.1 t) d.normal) levels (d.stands (normalize.old, infcx.old)) (args_forest (C.context infcx.old).trees args)) result }
 {
     let count = infcx.cx().args(args).len();
     for i in 0..count {

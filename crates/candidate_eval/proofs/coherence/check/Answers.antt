@@ -1,12 +1,11 @@
 use Rattle.std.proofs.Common.{◌≡◌, ap, Ok, Err}
 use Rattle.candidate_ir.specs.Trees.{Tree}
 use Rattle.candidate_ir.proofs.Kept.{args-kept, ty-kept}
-use Rattle.candidate_ir.specs.declared.ir.stop.Stop.TheVariants.{Memory}
 use Rattle.candidate_eval.specs.declared.coherence.OrphanStop.TheVariants as O
 use Rattle.candidate_eval.specs.Answers.{second_answer}
 use Rattle.candidate_eval.specs.Orphan.{Answer, Checked, view}
-use Rattle.candidate_eval.proofs.Calls.{keeps-later, function-later, left-then}
-use Rattle.candidate_eval.proofs.Causes.{cause-after}
+use Rattle.candidate_eval.proofs.Calls.{may-later, keeps-later, function-later}
+use Rattle.candidate_eval.proofs.Causes.{left-after, left-reached, left-same}
 use Rattle.candidate_eval.proofs.Checks.{uncovered-checked}
 use Rattle.candidate_eval.proofs.coherence.check.Goals as goal
 
@@ -14,7 +13,14 @@ pub first_local_ty-requires-clause-args : goal.first_local_ty-requires-clause-ar
 first_local_ty-requires-clause-args g c = (args-kept _ _ c.args.trait_ref.args c.visit_args.ensures.grows c.requires.args).0
 
 pub first_local_ty-requires-clause-keeps : goal.first_local_ty-requires-clause-keeps
-first_local_ty-requires-clause-keeps g c = keeps-later g.C.Make.context g.F.FnMut _ _ c.visit_args.ensures.grows c.requires.keeps
+first_local_ty-requires-clause-keeps g c =
+    let first = rw c.in-Err-Uncovered.field-0-is at c.in-Err-Uncovered.ensures in
+    keeps-later g.C.Make.context g.F.FnMut _ _ _ _ (left-reached g.C.Make.context g.F.FnMut 256 _ _ _ _ _ first.calls (λ s e. cc)) c.visit_args.ensures.grows c.requires.keeps
+
+pub first_local_ty-requires-clause-callable : goal.first_local_ty-requires-clause-callable
+first_local_ty-requires-clause-callable g c =
+    let first = rw c.in-Err-Uncovered.field-0-is at c.in-Err-Uncovered.ensures in
+    may-later g.C.Make.context g.F.FnMut _ _ _ _ (left-reached g.C.Make.context g.F.FnMut 256 _ _ _ _ _ first.calls (λ s e. cc)) c.visit_args.ensures.grows c.requires.callable
 
 pub returns-in-Ok-first_local_ty-clause-types : goal.returns-in-Ok-first_local_ty-clause-types
 returns-in-Ok-first_local_ty-clause-types g c =
@@ -23,50 +29,61 @@ returns-in-Ok-first_local_ty-clause-types g c =
 
 pub returns-in-Ok-first_local_ty-clause-answer : goal.returns-in-Ok-first_local_ty-clause-answer
 returns-in-Ok-first_local_ty-clause-answer g c = record {
-  at = λ normal h ne.
-      let see = view (λ s u. g.C.InferCtxtLike.resolved s.1 u) normal in
-      let later = function-later g.C.Make.context g.F.FnMut c.args.normalize.now c.args.infcx.now c.visit_args.new.normalize c.visit_args.new.infcx normal
-      c.visit_args.ensures.calls c.visit_args.ensures.grows h in
+  at = λ d h told.
+      let see = view (λ s u. g.C.InferCtxtLike.resolved s.1 u) d.normal in
       let last = g.C.Make.context c.first_local_ty.new.infcx in
       let first = rw c.in-Err-Uncovered.field-0-is at c.in-Err-Uncovered.ensures in
+      let later = function-later g.C.Make.context g.F.FnMut c.args.normalize.now c.args.infcx.now c.visit_args.new.normalize c.visit_args.new.infcx
+      (left-reached g.C.Make.context g.F.FnMut 256 _ _ _ _ _ first.calls (λ s e. cc)) c.visit_args.ensures.grows g.C.InferCtxtLike.resolved d h in
       let checked : Tree → Checked (g.row.F.Denot × g.row.C.Denot) (Answer g.row.E.Denot) =
-      λ t. record { answer = second_answer last.trees t (Ok c.in-Ok-first_local_ty.local_ty); after = (c.first_local_ty.new.normalize, c.first_local_ty.new.infcx) } in
+      λ t. record { answer = second_answer last.trees t (Ok c.in-Ok-first_local_ty.local_ty); after = d.stands (c.first_local_ty.new.normalize, c.first_local_ty.new.infcx) } in
       let e = uncovered-checked (g.C.Make.context c.args.infcx.now) (g.C.Make.context c.visit_args.new.infcx) last
       c.visit_args.ensures.grows c.first_local_ty.ensures.grows c.args.in_crate see 256 c.args.trait_ref.args c.requires.args
-      (c.args.normalize.now, c.args.infcx.now) (c.visit_args.new.normalize, c.visit_args.new.infcx) c.in-Err-Uncovered.uncovered first.exit
-      (first.outcome normal h (λ x. cc)) checked
-      (λ t. c.in-Ok-first_local_ty.ensures.answer normal later (λ x. cc) t) in
+      (d.stands (c.args.normalize.now, c.args.infcx.now)) (d.stands (c.visit_args.new.normalize, c.visit_args.new.infcx)) c.in-Err-Uncovered.uncovered first.exit
+      (first.outcome d h (λ z o x. cc)) checked
+      (λ t. c.in-Ok-first_local_ty.ensures.answer d later (λ z o x. cc) t) in
       e;
 }
 
 pub returns-in-Err-Uncovered-clause-answer : goal.returns-in-Err-Uncovered-clause-answer
 returns-in-Err-Uncovered-clause-answer g c = record {
-  at = λ normal h ne.
-      let see = view (λ s u. g.C.InferCtxtLike.resolved s.1 u) normal in
-      let later = function-later g.C.Make.context g.F.FnMut c.args.normalize.now c.args.infcx.now c.visit_args.new.normalize c.visit_args.new.infcx normal
-      c.visit_args.ensures.calls c.visit_args.ensures.grows h in
+  at = λ d h told.
+      let see = view (λ s u. g.C.InferCtxtLike.resolved s.1 u) d.normal in
       let last = g.C.Make.context c.first_local_ty.new.infcx in
       let first = rw c.in-Err-Uncovered.field-0-is at c.in-Err-Uncovered.ensures in
+      let later = function-later g.C.Make.context g.F.FnMut c.args.normalize.now c.args.infcx.now c.visit_args.new.normalize c.visit_args.new.infcx
+      (left-reached g.C.Make.context g.F.FnMut 256 _ _ _ _ _ first.calls (λ s e. cc)) c.visit_args.ensures.grows g.C.InferCtxtLike.resolved d h in
       let checked : Tree → Checked (g.row.F.Denot × g.row.C.Denot) (Answer g.row.E.Denot) =
-      λ t. record { answer = second_answer last.trees t (Err c.in-Err.stop); after = (c.first_local_ty.new.normalize, c.first_local_ty.new.infcx) } in
+      λ t. record { answer = second_answer last.trees t (Err c.in-Err.stop); after = d.stands (c.first_local_ty.new.normalize, c.first_local_ty.new.infcx) } in
       let e = uncovered-checked (g.C.Make.context c.args.infcx.now) (g.C.Make.context c.visit_args.new.infcx) last
       c.visit_args.ensures.grows c.first_local_ty.ensures.grows c.args.in_crate see 256 c.args.trait_ref.args c.requires.args
-      (c.args.normalize.now, c.args.infcx.now) (c.visit_args.new.normalize, c.visit_args.new.infcx) c.in-Err-Uncovered.uncovered first.exit
-      (first.outcome normal h (λ x. cc)) checked
-      (λ t. c.in-Err.ensures.answer normal later (λ x. ne (let y : c.in-Err.stop ≡ Memory = cc in ap (λ z. Err (O.Stop z)) y)) t) in
+      (d.stands (c.args.normalize.now, c.args.infcx.now)) (d.stands (c.visit_args.new.normalize, c.visit_args.new.infcx)) c.in-Err-Uncovered.uncovered first.exit
+      (first.outcome d h (λ z o x. cc)) checked
+      (λ t. c.in-Err.ensures.answer d later (λ z o x. told z o (let y : c.in-Err.stop ≡ z = cc in ap (λ i. Err (O.Stop i)) y)) t) in
       e;
 }
 
 pub returns-in-Ok-first_local_ty-clause-calls : goal.returns-in-Ok-first_local_ty-clause-calls
 returns-in-Ok-first_local_ty-clause-calls g c =
-    left-then g.C.Make.context g.F.FnMut _ _ _ _ _ _ c.visit_args.ensures.calls c.first_local_ty.ensures.calls
+    let first = rw c.in-Err-Uncovered.field-0-is at c.in-Err-Uncovered.ensures in
+    left-after g.C.Make.context g.F.FnMut 256 _ _ _ _ _ _ _ _ (left-reached g.C.Make.context g.F.FnMut 256 _ _ _ _ _ first.calls (λ s e. cc))
+    (λ s e. cc) (λ s e. cc) c.in-Ok-first_local_ty.ensures.calls
 
 pub returns-in-Err-Uncovered-clause-calls : goal.returns-in-Err-Uncovered-clause-calls
 returns-in-Err-Uncovered-clause-calls g c =
-    left-then g.C.Make.context g.F.FnMut _ _ _ _ _ _ c.visit_args.ensures.calls c.first_local_ty.ensures.calls
+    let first = rw c.in-Err-Uncovered.field-0-is at c.in-Err-Uncovered.ensures in
+    left-after g.C.Make.context g.F.FnMut 256 _ _ _ _ _ _ _ _ (left-reached g.C.Make.context g.F.FnMut 256 _ _ _ _ _ first.calls (λ s e. cc))
+    (λ s e. cc) (λ s e. cc) c.in-Err.ensures.calls
 
-pub returns-in-Err-Uncovered-clause-cause : goal.returns-in-Err-Uncovered-clause-cause
-returns-in-Err-Uncovered-clause-cause g c = record {
-  at = λ s e.
-      cause-after g.C.Make.context g.F.FnMut 256 _ _ _ _ _ _ s c.visit_args.ensures.calls (c.in-Err.ensures.cause s cc);
-}
+pub returns-in-Ok-clause-calls : goal.returns-in-Ok-clause-calls
+returns-in-Ok-clause-calls g c = left-same g.C.Make.context g.F.FnMut 256 _ _ _ _ _ _ (λ s e. cc) (λ s e. cc) c.in-Ok.ensures.calls
+
+pub returns-in-Err-Local-clause-calls : goal.returns-in-Err-Local-clause-calls
+returns-in-Err-Local-clause-calls g c =
+    let first = rw c.in-Err-Local.field-0-is at c.in-Err-Local.ensures in
+    left-same g.C.Make.context g.F.FnMut 256 _ _ _ _ _ _ (λ s e. cc) (λ s e. cc) first.calls
+
+pub returns-clause-calls : goal.returns-clause-calls
+returns-clause-calls g c =
+    let i = c.in-Err-Broken.field-0-is in
+    left-same g.C.Make.context g.F.FnMut 256 _ _ _ _ _ _ (λ s e. cc) (λ s e. cc) c.in-Err-Broken.ensures.calls

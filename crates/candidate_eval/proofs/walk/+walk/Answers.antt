@@ -9,8 +9,8 @@ use Rattle.candidate_eval.proofs.Lists.{sofar-begin, sofar-end, type-at}
 use Rattle.candidate_eval.proofs.Loops.{index-below, next-skip, next-visit, next-found}
 use Rattle.candidate_eval.specs.Orphan.{view, crate_test}
 use Rattle.candidate_eval.specs.Walk.{setting}
-use Rattle.candidate_eval.proofs.Calls.{may-later, keeps-later, function-later, left-same, left-then}
-use Rattle.candidate_eval.proofs.Causes.{table-unnameable, broken-stop, take-stop, one-left, cause-after, cause-below, cause-deep, cause-answered, cause-item}
+use Rattle.candidate_eval.proofs.Calls.{may-later, keeps-later, function-later, reached-same, reached-then}
+use Rattle.candidate_eval.proofs.Causes.{table-unnameable, broken-stop, stop-broken, take-stop, left-after, left-quietly, left-reached, left-deep, viewed-reached, viewed-nothing, viewed-item, viewed-below}
 use Rattle.candidate_eval.proofs.Recorded.{table-covers, take-covers, broken-covers, taken-once, ended-once}
 use Rattle.candidate_eval.proofs.Walking.{too-deep, types-kept, item-types, item-exit}
 use Rattle.candidate_eval.proofs.Visits.{visited-nothing, visited-item, visited-target, visited-arguments, item-some, target-some, arguments-some}
@@ -18,20 +18,20 @@ use Rattle.candidate_eval.proofs.walk.+walk.Goals as goal
 use Rattle.candidate_eval.proofs.walk.+walk.Goals.{visit_ty-in-Item, visit_ty-in-Target, visit_ty-in-Arguments, visit_args-in-Ty+in_ok-visit_ty, visit_args-in_default}
 
 pub visit_ty-returns-then-levels-eq0-clause-outcome : goal.visit_ty-returns-then-levels-eq0-clause-outcome
-visit_ty-returns-then-levels-eq0-clause-outcome g t c = λ normal h ne.
-    too-deep (setting (g.C.Make.context c.args.infcx.now) c.args.walk.now.in_crate) (view (λ s u. g.C.InferCtxtLike.resolved s.1 u) normal)
-    c.args.levels (c.args.normalize.now, c.args.infcx.now) _ c.args.walk.now.seeks_local (omega arith)
+visit_ty-returns-then-levels-eq0-clause-outcome g t c = λ d h told.
+    too-deep (setting (g.C.Make.context c.args.infcx.now) c.args.walk.now.in_crate) (view (λ s u. g.C.InferCtxtLike.resolved s.1 u) d.normal)
+    c.args.levels (d.stands (c.args.normalize.now, c.args.infcx.now)) _ c.args.walk.now.seeks_local (omega arith)
 
 pub visit_ty-returns-in_err-view-clause-recorded : goal.visit_ty-returns-in_err-view-clause-recorded
 visit_ty-returns-in_err-view-clause-recorded g t c = types-kept _ _ c.args.walk.now.non_local.items c.view_of.ensures.grows c.requires.recorded
 
 pub visit_ty-returns-in_err-view-clause-outcome : goal.visit_ty-returns-in_err-view-clause-outcome
-visit_ty-returns-in_err-view-clause-outcome g t c = λ normal h.
+visit_ty-returns-in_err-view-clause-outcome g t c = λ d h.
     let p = err_from_is_err_and c.from_residual.result c.from_residual.ensures.1 in
     let levels : c.args.levels ≡ suc (c.args.levels - 1) = omega arith in
-    visited-nothing (setting (g.C.Make.context c.args.infcx.now) c.args.walk.now.in_crate) (view (λ s u. g.C.InferCtxtLike.resolved s.1 u) normal)
+    visited-nothing (setting (g.C.Make.context c.args.infcx.now) c.args.walk.now.in_crate) (view (λ s u. g.C.InferCtxtLike.resolved s.1 u) d.normal)
     (g.C.Make.context c.view_of.new.infcx).trees c.args.levels (c.args.levels - 1) levels _ _ _ _ c.args.walk.now c.from_residual.result p.0 p.1 p.2
-    (c.in_err-view.ensures.view normal h)
+    d.untold (c.in_err-view.ensures.view d h)
 
 pub visit_ty-visit_ty-outcome-requires : goal.visit_ty-visit_ty-outcome-requires
 visit_ty-visit_ty-outcome-requires g t c κs within =
@@ -46,9 +46,9 @@ visit_ty-visit_ty-outcome-requires g t c κs within =
             (
               r.sort,
               (
-                may-later g.C.Make.context g.F.FnMut _ _ c.view_of.ensures.grows c.requires.callable,
+                may-later g.C.Make.context g.F.FnMut _ _ _ _ (viewed-reached g.C.Make.context g.F.FnMut _ _ _ _ _ c.in_ok-view.ensures.call (λ s e. cc)) c.view_of.ensures.grows c.requires.callable,
                 (
-                  keeps-later g.C.Make.context g.F.FnMut _ _ c.view_of.ensures.grows c.requires.keeps,
+                  keeps-later g.C.Make.context g.F.FnMut _ _ _ _ (viewed-reached g.C.Make.context g.F.FnMut _ _ _ _ _ c.in_ok-view.ensures.call (λ s e. cc)) c.view_of.ensures.grows c.requires.keeps,
                   (types-kept _ _ c.args.walk.now.non_local.items c.view_of.ensures.grows c.requires.recorded, c.requires.firsts),
                 ),
               ),
@@ -71,9 +71,9 @@ visit_ty-visit_args-outcome-requires g t c κs within =
             (
               r.sort,
               (
-                may-later g.C.Make.context g.F.FnMut _ _ c.view_of.ensures.grows c.requires.callable,
+                may-later g.C.Make.context g.F.FnMut _ _ _ _ (viewed-reached g.C.Make.context g.F.FnMut _ _ _ _ _ c.in_ok-view.ensures.call (λ s e. cc)) c.view_of.ensures.grows c.requires.callable,
                 (
-                  keeps-later g.C.Make.context g.F.FnMut _ _ c.view_of.ensures.grows c.requires.keeps,
+                  keeps-later g.C.Make.context g.F.FnMut _ _ _ _ (viewed-reached g.C.Make.context g.F.FnMut _ _ _ _ _ c.in_ok-view.ensures.call (λ s e. cc)) c.view_of.ensures.grows c.requires.keeps,
                   (types-kept _ _ c.args.walk.now.non_local.items c.view_of.ensures.grows c.requires.recorded, c.requires.firsts),
                 ),
               ),
@@ -84,54 +84,54 @@ visit_ty-visit_args-outcome-requires g t c κs within =
     )
 
 pub visit_ty-returns-clause-outcome : goal.visit_ty-returns-clause-outcome
-visit_ty-returns-clause-outcome g t c = λ normal h.
-    let see = view (λ s u. g.C.InferCtxtLike.resolved s.1 u) normal in
+visit_ty-returns-clause-outcome g t c = λ d h.
+    let see = view (λ s u. g.C.InferCtxtLike.resolved s.1 u) d.normal in
     let levels : c.args.levels ≡ suc (c.args.levels - 1) = omega arith in
     let c0 = g.C.Make.context c.args.infcx.now in
     let c1 = g.C.Make.context c.view_of.new.infcx in
     let grows = c.view_of.ensures.grows in
     let m = c.args.walk.now.in_crate in
-    let s0 : g.row.F.Denot × g.row.C.Denot = (c.args.normalize.now, c.args.infcx.now) in
-    let s1 : g.row.F.Denot × g.row.C.Denot = (c.view_of.new.normalize, c.view_of.new.infcx) in
+    let s0 : g.row.F.Denot × g.row.C.Denot = d.stands (c.args.normalize.now, c.args.infcx.now) in
+    let s1 : g.row.F.Denot × g.row.C.Denot = d.stands (c.view_of.new.normalize, c.view_of.new.infcx) in
     let tree = ty_tree c0.trees c.args.ty in
-    let seen = c.in_ok-view.ensures.view normal h in
-    let later = function-later g.C.Make.context g.F.FnMut c.args.normalize.now c.args.infcx.now c.view_of.new.normalize c.view_of.new.infcx normal
-    (one-left g.C.Make.context g.F.FnMut _ _ _ _ c.view_of.ensures.one_call) grows h in
+    let seen = c.in_ok-view.ensures.view d h (λ s o e. cc) in
+    let later = function-later g.C.Make.context g.F.FnMut c.args.normalize.now c.args.infcx.now c.view_of.new.normalize c.view_of.new.infcx
+    (viewed-reached g.C.Make.context g.F.FnMut _ _ _ _ _ c.in_ok-view.ensures.call (λ s e. cc)) grows g.C.InferCtxtLike.resolved d h in
     elim c.match-shape_of.branch [
       | visit_ty-in-Item w ↦ rw (w.infcx-is, w.normalize-is, w.walk-is, w.outcome-is)
           (visited-item c0 c1 m grows see c.args.levels (c.args.levels - 1) levels s0 s1 tree c.in_ok-view.view seen w.in-Item.class
-          c.args.walk.now w.take-outcome.new.self _ w.take-outcome.result (rw c.cx.ensures at w.in-Item.ensures) refl w.take-outcome.ensures.taken)
+          c.args.walk.now w.take-outcome.new.self _ w.take-outcome.result (rw c.cx.ensures at w.in-Item.ensures) refl w.take-outcome.ensures.taken d.untold)
       | visit_ty-in-Target w ↦ rw (w.infcx-is, w.normalize-is, w.walk-is, w.outcome-is)
           (visited-target c0 c1 m grows see c.args.levels (c.args.levels - 1) levels s0 s1 tree c.in_ok-view.view seen w.in-Target.target
           c.args.walk.now w.visit_ty-outcome.new.walk _ _ _ w.visit_ty-outcome.result (rw c.cx.ensures at w.in-Target.ensures) refl
-          (w.visit_ty-outcome.ensures.some normal later) (w.visit_ty-outcome.ensures.outcome normal later))
+          (w.visit_ty-outcome.ensures.some d later) d.untold (w.visit_ty-outcome.ensures.outcome d later))
       | visit_ty-in-Arguments w ↦ rw (w.infcx-is, w.normalize-is, w.walk-is, w.outcome-is)
           (visited-arguments c0 c1 m grows see c.args.levels (c.args.levels - 1) levels s0 s1 tree c.in_ok-view.view seen w.in-Arguments.args
           c.args.walk.now w.visit_args-outcome.new.walk _ _ _ w.visit_args-outcome.result (rw c.cx.ensures at w.in-Arguments.ensures) refl
-          (w.visit_args-outcome.ensures.outcome normal later))
+          d.untold (w.visit_args-outcome.ensures.outcome d later))
     ]
 
 pub visit_ty-returns-clause-some : goal.visit_ty-returns-clause-some
-visit_ty-returns-clause-some g t c = λ normal h.
-    let see = view (λ s u. g.C.InferCtxtLike.resolved s.1 u) normal in
+visit_ty-returns-clause-some g t c = λ d h.
+    let see = view (λ s u. g.C.InferCtxtLike.resolved s.1 u) d.normal in
     let levels : c.args.levels ≡ suc (c.args.levels - 1) = omega arith in
     let c0 = g.C.Make.context c.args.infcx.now in
     let c1 = g.C.Make.context c.view_of.new.infcx in
     let grows = c.view_of.ensures.grows in
     let m = c.args.walk.now.in_crate in
-    let s0 : g.row.F.Denot × g.row.C.Denot = (c.args.normalize.now, c.args.infcx.now) in
-    let s1 : g.row.F.Denot × g.row.C.Denot = (c.view_of.new.normalize, c.view_of.new.infcx) in
+    let s0 : g.row.F.Denot × g.row.C.Denot = d.stands (c.args.normalize.now, c.args.infcx.now) in
+    let s1 : g.row.F.Denot × g.row.C.Denot = d.stands (c.view_of.new.normalize, c.view_of.new.infcx) in
     let tree = ty_tree c0.trees c.args.ty in
-    let seen = c.in_ok-view.ensures.view normal h in
-    let later = function-later g.C.Make.context g.F.FnMut c.args.normalize.now c.args.infcx.now c.view_of.new.normalize c.view_of.new.infcx normal
-    (one-left g.C.Make.context g.F.FnMut _ _ _ _ c.view_of.ensures.one_call) grows h in
+    let seen = c.in_ok-view.ensures.view d h (λ s o e. cc) in
+    let later = function-later g.C.Make.context g.F.FnMut c.args.normalize.now c.args.infcx.now c.view_of.new.normalize c.view_of.new.infcx
+    (viewed-reached g.C.Make.context g.F.FnMut _ _ _ _ _ c.in_ok-view.ensures.call (λ s e. cc)) grows g.C.InferCtxtLike.resolved d h in
     elim c.match-shape_of.branch [
       | visit_ty-in-Item w ↦ rw w.outcome-is
           (item-some c0 c1 m grows see c.args.levels (c.args.levels - 1) levels s0 s1 tree c.in_ok-view.view seen w.in-Item.class
           w.take-outcome.result (rw c.cx.ensures at w.in-Item.ensures))
       | visit_ty-in-Target w ↦ rw w.outcome-is
           (target-some c0 c1 m grows see c.args.levels (c.args.levels - 1) levels s0 s1 tree c.in_ok-view.view seen w.in-Target.target
-          w.visit_ty-outcome.result (rw c.cx.ensures at w.in-Target.ensures) (w.visit_ty-outcome.ensures.some normal later))
+          w.visit_ty-outcome.result (rw c.cx.ensures at w.in-Target.ensures) (w.visit_ty-outcome.ensures.some d later))
       | visit_ty-in-Arguments w ↦ rw w.outcome-is
           (arguments-some c0 c1 m grows see c.args.levels (c.args.levels - 1) levels s0 s1 tree c.in_ok-view.view seen w.in-Arguments.args
           w.visit_args-outcome.result (rw c.cx.ensures at w.in-Arguments.ensures))
@@ -143,44 +143,6 @@ visit_ty-returns-clause-grows g t c =
       | visit_ty-in-Item w ↦ rw w.infcx-is c.view_of.ensures.grows
       | visit_ty-in-Target w ↦ rw w.infcx-is (grows-trans _ _ _ c.view_of.ensures.grows w.visit_ty-outcome.ensures.grows)
       | visit_ty-in-Arguments w ↦ rw w.infcx-is (grows-trans _ _ _ c.view_of.ensures.grows w.visit_args-outcome.ensures.grows)
-    ]
-
-pub visit_ty-returns-in_err-view-clause-calls : goal.visit_ty-returns-in_err-view-clause-calls
-visit_ty-returns-in_err-view-clause-calls g t c = one-left g.C.Make.context g.F.FnMut _ _ _ _ c.view_of.ensures.one_call
-
-pub visit_ty-returns-then-levels-eq0-clause-cause : goal.visit_ty-returns-then-levels-eq0-clause-cause
-visit_ty-returns-then-levels-eq0-clause-cause g t c = λ s e.
-    cause-deep g.C.Make.context g.F.FnMut c.args.levels c.args.normalize.now c.args.infcx.now s (omega arith) cc
-
-pub visit_ty-returns-in_err-view-clause-cause : goal.visit_ty-returns-in_err-view-clause-cause
-visit_ty-returns-in_err-view-clause-cause g t c = λ s e.
-    let p = err_from_is_err_and c.from_residual.result c.from_residual.ensures.1 in
-    cause-answered g.C.Make.context g.F.FnMut c.args.levels _ _ _ _ s (c.in_err-view.ensures.stop s (ap Err (broken-stop _ s cc)))
-
-pub visit_ty-returns-clause-cause : goal.visit_ty-returns-clause-cause
-visit_ty-returns-clause-cause g t c = λ s e.
-    let context = g.C.Make.context in
-    let one = c.view_of.ensures.one_call in
-    elim c.match-shape_of.branch [
-      | visit_ty-in-Item w ↦ rw (w.infcx-is, w.normalize-is)
-          (cause-item context g.F.FnMut c.args.levels _ _ _ _ w.in-Item.class s
-          (take-stop c.args.walk.now w.take-outcome.new.self w.in-Item.class c.in_ok-view.view w.take-outcome.result s w.take-outcome.ensures.taken (sym w.outcome-is ∙ e))
-          (λ k. let shape = rw c.cx.ensures at w.in-Item.ensures in
-          c.in_ok-view.ensures.unnameable c.in_ok-view.view refl (table-unnameable _ _ _ _ _ (shape.1 ∙ k))))
-      | visit_ty-in-Target w ↦ rw (w.infcx-is, w.normalize-is)
-          (cause-below context g.F.FnMut c.args.levels _ _ _ _ _ _ s (omega arith) one (w.visit_ty-outcome.ensures.cause s (sym w.outcome-is ∙ e)))
-      | visit_ty-in-Arguments w ↦ rw (w.infcx-is, w.normalize-is)
-          (cause-below context g.F.FnMut c.args.levels _ _ _ _ _ _ s (omega arith) one (w.visit_args-outcome.ensures.cause s (sym w.outcome-is ∙ e)))
-    ]
-
-pub visit_ty-returns-clause-calls : goal.visit_ty-returns-clause-calls
-visit_ty-returns-clause-calls g t c =
-    elim c.match-shape_of.branch [
-      | visit_ty-in-Item w ↦ rw (w.infcx-is, w.normalize-is) (one-left g.C.Make.context g.F.FnMut _ _ _ _ c.view_of.ensures.one_call)
-      | visit_ty-in-Target w ↦ rw (w.infcx-is, w.normalize-is)
-          (left-then g.C.Make.context g.F.FnMut _ _ _ _ _ _ (one-left g.C.Make.context g.F.FnMut _ _ _ _ c.view_of.ensures.one_call) w.visit_ty-outcome.ensures.calls)
-      | visit_ty-in-Arguments w ↦ rw (w.infcx-is, w.normalize-is)
-          (left-then g.C.Make.context g.F.FnMut _ _ _ _ _ _ (one-left g.C.Make.context g.F.FnMut _ _ _ _ c.view_of.ensures.one_call) w.visit_args-outcome.ensures.calls)
     ]
 
 pub visit_ty-returns-clause-recorded : goal.visit_ty-returns-clause-recorded
@@ -242,14 +204,14 @@ visit_args-loop-i-init g t c =
     let ensures = rw c.cx.ensures at c.args-count.ensures in
     record {
       grows = grows-refl c0;
-      calls = left-same g.C.Make.context g.F.FnMut c.args.normalize.now c.args.infcx.now;
+      calls = reached-same g.C.Make.context g.F.FnMut c.args.normalize.now c.args.infcx.now;
       same = record { in_crate = refl; seeks_local = refl };
       recorded = c.requires.recorded;
       firsts = c.requires.firsts;
       count_is = sym (count-members c0.trees c.args-count.result.now ensures.fits) ∙ ap count ensures.tree;
-      sofar = λ normal h.
-          sofar-begin (setting c0 c.args.walk.now.in_crate) (view (λ s u. g.C.InferCtxtLike.resolved s.1 u) normal) c.args.levels c0.trees c.args.walk.now
-          (c.args.normalize.now, c.args.infcx.now) (args_forest c0.trees c.args.args);
+      sofar = λ d h.
+          sofar-begin (setting c0 c.args.walk.now.in_crate) (view (λ s u. g.C.InferCtxtLike.resolved s.1 u) d.normal) c.args.levels c0.trees c.args.walk.now
+          (d.stands (c.args.normalize.now, c.args.infcx.now)) (args_forest c0.trees c.args.args);
     }
 
 pub visit_args-args-requires : goal.visit_args-args-requires
@@ -279,9 +241,9 @@ visit_args-visit_ty-requires g t c κs within =
             (
               (type-at (g.C.Make.context c.loop-i.infcx).trees c.args-in-loop-i.result.now c.loop-i.i _ c.in-Ty.ty ensures.fits below c.in-Ty.is).0,
               (
-                may-later g.C.Make.context g.F.FnMut _ _ here.grows c.requires.callable,
+                may-later g.C.Make.context g.F.FnMut _ _ _ _ here.calls here.grows c.requires.callable,
                 (
-                  keeps-later g.C.Make.context g.F.FnMut _ _ here.grows c.requires.keeps,
+                  keeps-later g.C.Make.context g.F.FnMut _ _ _ _ here.calls here.grows c.requires.keeps,
                   (here.recorded, here.firsts),
                 ),
               ),
@@ -299,13 +261,11 @@ visit_args-loop-i-preserved g t c =
     let here = c.loop-i.invariant in
     let xs = c.args-in-loop-i.result.now in
     let below = index-below c0 c1 c.args.args xs c.loop-i.i _ here.grows c.requires.args ensures.fits ensures.tree here.count_is c.loop-i-test.true in
-    let s0 : g.row.F.Denot × g.row.C.Denot = (c.args.normalize.now, c.args.infcx.now) in
-    let s1 : g.row.F.Denot × g.row.C.Denot = (c.loop-i.normalize, c.loop-i.infcx) in
     elim c.match-arg.branch [
       | visit_args-in-Ty+in_ok-visit_ty w ↦ rw (w.infcx-is, w.normalize-is, w.walk-is)
           (record {
             grows = grows-trans _ _ _ here.grows w.in_ok-visit_ty.ensures.grows;
-            calls = left-then g.C.Make.context g.F.FnMut _ _ _ _ _ _ here.calls w.in_ok-visit_ty.ensures.calls;
+            calls = reached-then g.C.Make.context g.F.FnMut _ _ _ _ _ _ here.calls (left-reached g.C.Make.context g.F.FnMut c.args.levels _ _ _ _ _ w.in_ok-visit_ty.ensures.calls (λ s e. cc));
             same = record {
               in_crate = w.in_ok-visit_ty.ensures.same.in_crate ∙ here.same.in_crate;
               seeks_local = w.in_ok-visit_ty.ensures.same.seeks_local ∙ here.same.seeks_local;
@@ -313,13 +273,13 @@ visit_args-loop-i-preserved g t c =
             recorded = w.in_ok-visit_ty.ensures.recorded;
             firsts = w.in_ok-visit_ty.ensures.firsts;
             count_is = here.count_is;
-            sofar = λ normal h.
-                let later = function-later g.C.Make.context g.F.FnMut c.args.normalize.now c.args.infcx.now c.loop-i.normalize c.loop-i.infcx normal here.calls here.grows h in
-                next-visit (view (λ s u. g.C.InferCtxtLike.resolved s.1 u) normal) c.args.levels c0 c1 here.grows c.args.args c.requires.args xs c.loop-i.i _
-                ensures.fits ensures.tree below c.args.walk.now c.loop-i.walk here.same s0 s1 w.in-Ty.ty w.in-Ty.is
-                (g.C.Make.context w.visit_ty.new.infcx) w.in_ok-visit_ty.ensures.grows w.visit_ty.new.walk (w.visit_ty.new.normalize, w.visit_ty.new.infcx)
-                c.requires.recorded here.recorded w.in_ok-visit_ty.ensures.first (w.in_ok-visit_ty.ensures.some normal later) (w.in_ok-visit_ty.ensures.outcome normal later)
-                (here.sofar normal h);
+            sofar = λ d h.
+                let later = function-later g.C.Make.context g.F.FnMut c.args.normalize.now c.args.infcx.now c.loop-i.normalize c.loop-i.infcx here.calls here.grows g.C.InferCtxtLike.resolved d h in
+                next-visit (view (λ s u. g.C.InferCtxtLike.resolved s.1 u) d.normal) c.args.levels c0 c1 here.grows c.args.args c.requires.args xs c.loop-i.i _
+                ensures.fits ensures.tree below c.args.walk.now c.loop-i.walk here.same (d.stands (c.args.normalize.now, c.args.infcx.now)) (d.stands (c.loop-i.normalize, c.loop-i.infcx)) w.in-Ty.ty w.in-Ty.is
+                (g.C.Make.context w.visit_ty.new.infcx) w.in_ok-visit_ty.ensures.grows w.visit_ty.new.walk (d.stands (w.visit_ty.new.normalize, w.visit_ty.new.infcx))
+                c.requires.recorded here.recorded w.in_ok-visit_ty.ensures.first (w.in_ok-visit_ty.ensures.some d later) (w.in_ok-visit_ty.ensures.outcome d later)
+                (here.sofar d h);
           })
       | visit_args-in_default w ↦ rw (w.infcx-is, w.normalize-is, w.walk-is)
           (record {
@@ -329,44 +289,72 @@ visit_args-loop-i-preserved g t c =
             recorded = here.recorded;
             firsts = here.firsts;
             count_is = here.count_is;
-            sofar = λ normal h.
-                next-skip (view (λ s u. g.C.InferCtxtLike.resolved s.1 u) normal) c.args.levels c0 c1 here.grows c.args.args c.requires.args xs c.loop-i.i _
-                ensures.fits ensures.tree below c.args.walk.now c.loop-i.walk here.same s0 s1 w.in_default.not-Ty (here.sofar normal h);
+            sofar = λ d h.
+                next-skip (view (λ s u. g.C.InferCtxtLike.resolved s.1 u) d.normal) c.args.levels c0 c1 here.grows c.args.args c.requires.args xs c.loop-i.i _
+                ensures.fits ensures.tree below c.args.walk.now c.loop-i.walk here.same (d.stands (c.args.normalize.now, c.args.infcx.now)) (d.stands (c.loop-i.normalize, c.loop-i.infcx)) w.in_default.not-Ty (here.sofar d h);
           })
     ]
 
-pub visit_args-returns-in_err-visit_ty-clause-calls : goal.visit_args-returns-in_err-visit_ty-clause-calls
-visit_args-returns-in_err-visit_ty-clause-calls g t c =
-    left-then g.C.Make.context g.F.FnMut _ _ _ _ _ _ c.loop-i.invariant.calls c.in_err-visit_ty.ensures.calls
-
-pub visit_args-returns-in_err-visit_ty-clause-cause : goal.visit_args-returns-in_err-visit_ty-clause-cause
-visit_args-returns-in_err-visit_ty-clause-cause g t c = λ s e.
-    let p = err_from_is_err_and c.from_residual.result c.from_residual.ensures.1 in
-    cause-after g.C.Make.context g.F.FnMut c.args.levels _ _ _ _ _ _ s c.loop-i.invariant.calls (c.in_err-visit_ty.ensures.cause s cc)
-
 pub visit_args-returns-in_err-visit_ty-clause-outcome : goal.visit_args-returns-in_err-visit_ty-clause-outcome
-visit_args-returns-in_err-visit_ty-clause-outcome g t c = λ normal h.
+visit_args-returns-in_err-visit_ty-clause-outcome g t c = λ d h.
     let c0 = g.C.Make.context c.args.infcx.now in
     let c1 = g.C.Make.context c.loop-i.infcx in
     let ensures = rw c.cx-in-loop-i.ensures at c.args-in-loop-i.ensures in
     let here = c.loop-i.invariant in
     let xs = c.args-in-loop-i.result.now in
     let below = index-below c0 c1 c.args.args xs c.loop-i.i _ here.grows c.requires.args ensures.fits ensures.tree here.count_is c.loop-i-test.true in
-    let s0 : g.row.F.Denot × g.row.C.Denot = (c.args.normalize.now, c.args.infcx.now) in
-    let s1 : g.row.F.Denot × g.row.C.Denot = (c.loop-i.normalize, c.loop-i.infcx) in
-    let later = function-later g.C.Make.context g.F.FnMut c.args.normalize.now c.args.infcx.now c.loop-i.normalize c.loop-i.infcx normal here.calls here.grows h in
+    let s0 : g.row.F.Denot × g.row.C.Denot = d.stands (c.args.normalize.now, c.args.infcx.now) in
+    let s1 : g.row.F.Denot × g.row.C.Denot = d.stands (c.loop-i.normalize, c.loop-i.infcx) in
+    let later = function-later g.C.Make.context g.F.FnMut c.args.normalize.now c.args.infcx.now c.loop-i.normalize c.loop-i.infcx here.calls here.grows g.C.InferCtxtLike.resolved d h in
     let p = err_from_is_err_and c.from_residual.result c.from_residual.ensures.1 in
-    next-found (view (λ s u. g.C.InferCtxtLike.resolved s.1 u) normal) c.args.levels c0 c1 here.grows c.args.args c.requires.args xs c.loop-i.i _
+    next-found (view (λ s u. g.C.InferCtxtLike.resolved s.1 u) d.normal) c.args.levels c0 c1 here.grows c.args.args c.requires.args xs c.loop-i.i _
     ensures.fits ensures.tree below c.args.walk.now c.loop-i.walk here.same s0 s1 c.in-Ty.ty c.in-Ty.is
-    (g.C.Make.context c.visit_ty.new.infcx).trees c.visit_ty.new.walk (c.visit_ty.new.normalize, c.visit_ty.new.infcx) _ p.0 c.from_residual.result p.1 p.2
-    (c.in_err-visit_ty.ensures.outcome normal later) (here.sofar normal h)
+    (g.C.Make.context c.visit_ty.new.infcx).trees c.visit_ty.new.walk (d.stands (c.visit_ty.new.normalize, c.visit_ty.new.infcx)) _ p.0 c.from_residual.result p.1 p.2
+    d.untold (c.in_err-visit_ty.ensures.outcome d later) (here.sofar d h)
 
 pub visit_args-returns-clause-outcome : goal.visit_args-returns-clause-outcome
-visit_args-returns-clause-outcome g t c = λ normal h.
+visit_args-returns-clause-outcome g t c = λ d h.
     let c0 = g.C.Make.context c.args.infcx.now in
     let p = setting c0 c.args.walk.now.in_crate in
     let all = args_forest c0.trees c.args.args in
     let end : c.loop-i.i ≡ count all = omega (arith, c.loop-i.invariant.count_is) in
-    sofar-end p (view (λ s u. g.C.InferCtxtLike.resolved s.1 u) normal) c.args.levels (g.C.Make.context c.loop-i.infcx).trees c.args.walk.now c.loop-i.walk
-    (c.args.normalize.now, c.args.infcx.now) (c.loop-i.normalize, c.loop-i.infcx) all (skip c.loop-i.i all) (skip-all all c.loop-i.i end)
-    (c.loop-i.invariant.sofar normal h)
+    sofar-end p (view (λ s u. g.C.InferCtxtLike.resolved s.1 u) d.normal) c.args.levels (g.C.Make.context c.loop-i.infcx).trees c.args.walk.now c.loop-i.walk
+    (d.stands (c.args.normalize.now, c.args.infcx.now)) (d.stands (c.loop-i.normalize, c.loop-i.infcx)) all (skip c.loop-i.i all) (skip-all all c.loop-i.i end)
+    (c.loop-i.invariant.sofar d h)
+
+pub visit_ty-returns-then-levels-eq0-clause-calls : goal.visit_ty-returns-then-levels-eq0-clause-calls
+visit_ty-returns-then-levels-eq0-clause-calls g t c =
+    left-deep g.C.Make.context g.F.FnMut c.args.levels c.args.normalize.now c.args.infcx.now _ (omega arith) (λ s e. cc)
+
+pub visit_ty-returns-in_err-view-clause-calls : goal.visit_ty-returns-in_err-view-clause-calls
+visit_ty-returns-in_err-view-clause-calls g t c =
+    let p = err_from_is_err_and c.from_residual.result c.from_residual.ensures.1 in
+    viewed-nothing g.C.Make.context g.F.FnMut _ _ _ _ _ c.in_err-view.ensures.call c.args.levels _
+    (λ s e. p.1 ∙ ap Err (p.2 ∙ stop-broken c.in_err-view.field-0.0 s cc)) (λ s e. ap Err (broken-stop c.in_err-view.field-0.0 s cc))
+
+pub visit_ty-returns-clause-calls : goal.visit_ty-returns-clause-calls
+visit_ty-returns-clause-calls g t c =
+    let context = g.C.Make.context in
+    let viewed = c.in_ok-view.ensures.call in
+    elim c.match-shape_of.branch [
+      | visit_ty-in-Item w ↦ rw (w.infcx-is, w.normalize-is)
+          (viewed-item context g.F.FnMut _ _ _ _ _ viewed c.args.levels c.in_ok-view.view refl w.in-Item.class _
+          (λ s e. take-stop c.args.walk.now w.take-outcome.new.self w.in-Item.class c.in_ok-view.view w.take-outcome.result s w.take-outcome.ensures.taken (sym w.outcome-is ∙ e))
+          (λ k. let shape = rw c.cx.ensures at w.in-Item.ensures in table-unnameable _ _ _ _ _ (shape.1 ∙ k)))
+      | visit_ty-in-Target w ↦ rw (w.infcx-is, w.normalize-is)
+          (viewed-below context g.F.FnMut _ _ _ _ _ viewed c.args.levels c.in_ok-view.view refl (omega arith) _ _ _ _
+          (λ s e. w.outcome-is ∙ e) (λ s e. sym w.outcome-is ∙ e) w.visit_ty-outcome.ensures.calls)
+      | visit_ty-in-Arguments w ↦ rw (w.infcx-is, w.normalize-is)
+          (viewed-below context g.F.FnMut _ _ _ _ _ viewed c.args.levels c.in_ok-view.view refl (omega arith) _ _ _ _
+          (λ s e. w.outcome-is ∙ e) (λ s e. sym w.outcome-is ∙ e) w.visit_args-outcome.ensures.calls)
+    ]
+
+pub visit_args-returns-in_err-visit_ty-clause-calls : goal.visit_args-returns-in_err-visit_ty-clause-calls
+visit_args-returns-in_err-visit_ty-clause-calls g t c =
+    let p = err_from_is_err_and c.from_residual.result c.from_residual.ensures.1 in
+    left-after g.C.Make.context g.F.FnMut c.args.levels _ _ _ _ _ _ _ _ c.loop-i.invariant.calls
+    (λ s e. p.1 ∙ ap Err p.2 ∙ e) (λ s e. sym (p.1 ∙ ap Err p.2) ∙ e) c.in_err-visit_ty.ensures.calls
+
+pub visit_args-returns-clause-calls : goal.visit_args-returns-clause-calls
+visit_args-returns-clause-calls g t c =
+    left-quietly g.C.Make.context g.F.FnMut c.args.levels _ _ _ _ _ c.loop-i.invariant.calls (λ s e. cc)

@@ -1,5 +1,5 @@
 use Rattle.std.proofs.Common.{arith}
-use Rattle.candidate_eval.proofs.Calls.{call-keeps, call-shows, normalizes}
+use Rattle.candidate_eval.proofs.Calls.{call-keeps, call-shows, call-may, normalizes}
 use Rattle.candidate_eval.proofs.walk.normalized.Goals as goal
 
 pub returns-clause-grows : goal.returns-clause-grows
@@ -11,7 +11,7 @@ returns-clause-sort g c =
     (call-keeps g.C.Make.context g.F.FnMut _ _ c.args.ty _ _ _ c.requires.keeps c.requires.ty (omega arith) c.normalize.ensures).1
 
 pub returns-clause-answer : goal.returns-clause-answer
-returns-clause-answer g c = call-shows g.C.Make.context g.F.FnMut _ _ c.args.ty _ _ _ c.requires.ty (omega arith) c.normalize.ensures
+returns-clause-answer g c = call-shows g.C.Make.context g.F.FnMut _ _ c.args.ty _ _ _ c.requires.ty (omega arith) c.normalize.ensures g.C.InferCtxtLike.resolved
 
 pub returns-clause-call : goal.returns-clause-call
 returns-clause-call g c = normalizes g.C.Make.context g.F.FnMut _ _ c.args.ty _ _ _ c.normalize.ensures

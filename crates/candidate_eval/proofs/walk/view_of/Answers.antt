@@ -1,47 +1,54 @@
-use Rattle.std.proofs.Common.{◌≡◌, true, inl, inr, refl, sym, ◌∙◌, ap}
+use Rattle.std.proofs.Common.{◌≡◌, true, false, Err, refl, sym, ◌∙◌, ap}
 use Rattle.std.proofs.lemmas.Result.{err_from_is_err_and}
-use Rattle.candidate_ir.specs.Trees.{Tree}
 use Rattle.candidate_ir.specs.Context.{Context}
 use Rattle.candidate_ir.specs.Words.{ty_tree}
 use Rattle.candidate_ir.proofs.Kept.{ty-kept}
-use Rattle.candidate_eval.specs.Orphan.{is_general, is_unnameable}
-use Rattle.candidate_eval.proofs.Views.{view-general}
-use Rattle.candidate_eval.proofs.Causes.{one-lead, one-answers, one-sees}
+use Rattle.candidate_eval.specs.Orphan.{is_general}
+use Rattle.candidate_eval.proofs.Views.{view-general, view-other, sees-other}
+use Rattle.candidate_eval.proofs.Calls.{values-here}
+use Rattle.candidate_eval.proofs.Causes.{viewed-answer, viewed-itself}
 use Rattle.candidate_eval.proofs.walk.view_of.Goals as goal
 
 pub returns-then-is_general_variable-clause-sort : goal.returns-then-is_general_variable-clause-sort
 returns-then-is_general_variable-clause-sort g c = (ty-kept _ _ _ c.normalized.ensures.grows c.shallow_resolve-ty.ensures.sort).0
 
 pub returns-then-is_general_variable-clause-view : goal.returns-then-is_general_variable-clause-view
-returns-then-is_general_variable-clause-view g c = λ normal h.
+returns-then-is_general_variable-clause-view g c = λ d h told.
     let general : true ≡ is_general (ty_tree (g.C.Make.context c.normalized.new.infcx).trees c.in_ok-normal.normal).head =
     sym c.if-is_general_variable.true
     ∙ (c.is_general_variable.ensures
     ∙ ap (λ (x : Context). is_general (ty_tree x.trees c.in_ok-normal.normal).head) c.cx.ensures) in
-    view-general (λ s t. g.C.InferCtxtLike.resolved s.1 t) normal (c.args.normalize.now, c.args.infcx.now) _ _ _ _ _
-    c.shallow_resolve-ty.ensures.tree (c.in_ok-normal.ensures.answer normal h) general
+    let values = values-here g.C.Make.context g.F.FnMut c.args.normalize.now c.args.infcx.now g.C.InferCtxtLike.resolved d h in
+    view-general (λ s t. g.C.InferCtxtLike.resolved s.1 t) d.normal (d.stands (c.args.normalize.now, c.args.infcx.now)) _ _ _ _ _
+    (c.shallow_resolve-ty.ensures.tree ∙ sym (values _)) (c.in_ok-normal.ensures.answer d h (λ s o e. cc)) general
     (ty-kept _ _ _ c.normalized.ensures.grows c.shallow_resolve-ty.ensures.sort).1
 
-pub returns-in_err-normal-clause-one_call : goal.returns-in_err-normal-clause-one_call
-returns-in_err-normal-clause-one_call g c = one-lead g.C.Make.context g.F.FnMut _ _ _ _ _ _ c.normalized.ensures.call
+pub returns-clause-view : goal.returns-clause-view
+returns-clause-view g c = λ d h told.
+    let general : is_general (ty_tree (g.C.Make.context c.normalized.new.infcx).trees c.in_ok-normal.normal).head ≡ false =
+    sym (ap (λ (x : Context). is_general (ty_tree x.trees c.in_ok-normal.normal).head) c.cx.ensures)
+    ∙ (sym c.is_general_variable.ensures ∙ c.if-is_general_variable.false) in
+    let values = values-here g.C.Make.context g.F.FnMut c.args.normalize.now c.args.infcx.now g.C.InferCtxtLike.resolved d h in
+    view-other (λ s t. g.C.InferCtxtLike.resolved s.1 t) d.normal (d.stands (c.args.normalize.now, c.args.infcx.now)) _ _ _ _ _
+    (c.shallow_resolve-ty.ensures.tree ∙ sym (values _)) (c.in_ok-normal.ensures.answer d h (λ s o e. cc)) (sees-other _ _ general)
 
-pub returns-in_err-normal-clause-stop : goal.returns-in_err-normal-clause-stop
-returns-in_err-normal-clause-stop g c = λ s e.
+pub returns-in_err-normal-clause-view : goal.returns-in_err-normal-clause-view
+returns-in_err-normal-clause-view g c = λ d h told.
     let p = err_from_is_err_and c.from_residual.result c.from_residual.ensures.1 in
-    one-answers g.C.Make.context g.F.FnMut _ _ _ _ _ _ s c.normalized.ensures.call cc
+    let values = values-here g.C.Make.context g.F.FnMut c.args.normalize.now c.args.infcx.now g.C.InferCtxtLike.resolved d h in
+    rw (p.1, p.2)
+    (view-other (λ s t. g.C.InferCtxtLike.resolved s.1 t) d.normal (d.stands (c.args.normalize.now, c.args.infcx.now)) _ _ _ _ _
+    (c.shallow_resolve-ty.ensures.tree ∙ sym (values _)) (c.in_err-normal.ensures.answer d h (λ s o e. told s o (p.1 ∙ ap Err p.2 ∙ e))) refl)
 
-pub returns-then-is_general_variable-clause-one_call : goal.returns-then-is_general_variable-clause-one_call
-returns-then-is_general_variable-clause-one_call g c = one-lead g.C.Make.context g.F.FnMut _ _ _ _ _ _ c.normalized.ensures.call
+pub returns-in_err-normal-clause-call : goal.returns-in_err-normal-clause-call
+returns-in_err-normal-clause-call g c =
+    let p = err_from_is_err_and c.from_residual.result c.from_residual.ensures.1 in
+    rw (p.1, p.2) (viewed-answer g.C.Make.context g.F.FnMut _ _ _ _ _ _ c.shallow_resolve-ty.ensures.sort c.in_err-normal.ensures.call)
 
-pub returns-then-is_general_variable-clause-unnameable : goal.returns-then-is_general_variable-clause-unnameable
-returns-then-is_general_variable-clause-unnameable g c = λ u e i.
-    let same = (ty-kept _ _ _ c.normalized.ensures.grows c.shallow_resolve-ty.ensures.sort).1 in
-    let here = sym (ap (λ (t : Tree). is_unnameable t.head) same) ∙ (let k = e in cc) in
-    one-sees g.C.Make.context g.F.FnMut _ _ _ c.in_ok-normal.normal _ _ _ c.in_ok-normal.ensures.call refl (inr here)
+pub returns-then-is_general_variable-clause-call : goal.returns-then-is_general_variable-clause-call
+returns-then-is_general_variable-clause-call g c =
+    viewed-itself g.C.Make.context g.F.FnMut _ _ _ _ _ _ c.shallow_resolve-ty.ensures.sort c.in_ok-normal.ensures.call c.in_ok-normal.normal refl
+    (ty-kept _ _ _ c.normalized.ensures.grows c.shallow_resolve-ty.ensures.sort).1
 
-pub returns-clause-one_call : goal.returns-clause-one_call
-returns-clause-one_call g c = one-lead g.C.Make.context g.F.FnMut _ _ _ _ _ _ c.normalized.ensures.call
-
-pub returns-clause-unnameable : goal.returns-clause-unnameable
-returns-clause-unnameable g c = λ u e i.
-    one-sees g.C.Make.context g.F.FnMut _ _ _ c.in_ok-normal.normal _ _ _ c.in_ok-normal.ensures.call refl (inl cc)
+pub returns-clause-call : goal.returns-clause-call
+returns-clause-call g c = viewed-answer g.C.Make.context g.F.FnMut _ _ _ _ _ _ c.shallow_resolve-ty.ensures.sort c.in_ok-normal.ensures.call
