@@ -2,7 +2,7 @@
 
 ghost use Rattle.std.specs.Prelude.{◌≡◌, ℕ};
 ghost use Rattle.candidate_ir.specs.Words.{IsTy, ty_tree};
-ghost use Rattle.library_tests.specs.Values.{is_the_variable, with_value};
+ghost use Rattle.library_tests.specs.Values.{is_the_variable, with_value, without_value};
 
 use candidate_eval::eval::InferCtxtLike;
 use candidate_ir::decl::context::Cx;
@@ -59,6 +59,8 @@ impl Make for ValuedContext {
 
 impl InferCtxtLike for ValuedContext {
     ghost resolved = { λ valued t. with_value valued.cx.trees valued.value t };
+
+    ghost stays = { λ valued t e. without_value valued.cx.trees valued.value t e };
 
     fn shallow_resolve(&self, ty: Ty) -> Ty {
         if is_first_variable(&self.cx, ty) {

@@ -1,17 +1,19 @@
 use Rattle.std.proofs.Common.{rules}
-use Rattle.std.proofs.Common.{sym, ◌∙◌, ap}
+use Rattle.std.proofs.Common.{refl, sym, ◌∙◌, ap}
 use Rattle.candidate_ir.specs.Context.{world}
 use Rattle.candidate_ir.specs.Words.{args_forest}
 use Rattle.candidate_eval.specs.Orphan.{plain, bare_answer}
 use Rattle.candidate_eval.proofs.Lowering.{plain_answer}
+use Rattle.candidate_eval.specs.Normalizer.{exactly, RefusedGrowth}
 use Rattle.candidate_eval.proofs.Resolved.{all-resolved}
+use Rattle.candidate_eval.proofs.Told.{told}
 use Rattle.assembly_text.proofs.asking.Asking.checked.Goals as goal
 
 pub returns-clause-no_foreign_header : goal.returns-clause-no_foreign_header
 returns-clause-no_foreign_header c = λ r p m ok.
     c.orphan_check_trait_ref.ensures.no_foreign_header
     (record {
-      normaliser = record { at = λ f x t a f' x' q g i b n. let k = n.called in let l = n.lends in let m = n.leaves in search rules };
+      normaliser = record { at = λ f x t a f' x' q g i b n v. let k = n.called in let l = n.lends in let m = n.leaves in search rules; values = λ f x t q g. refl };
       resolved = all-resolved _;
       of_world = r;
     }) p m ok
@@ -19,7 +21,7 @@ returns-clause-no_foreign_header c = λ r p m ok.
 pub returns-clause-answer : goal.returns-clause-answer
 returns-clause-answer c = λ ne.
     let cx = c.args.self.now.scope.maker in
-    let e = c.orphan_check_trait_ref.ensures.answer plain
-    (record { at = λ f x t a f' x' q g i b n. let k = n.called in let l = n.lends in let m = n.leaves in search rules }) ne in
+    let e = c.orphan_check_trait_ref.ensures.answer (exactly RefusedGrowth plain)
+    (record { at = λ f x t a f' x' q g i b n v. let k = n.called in let l = n.lends in let m = n.leaves in search rules; values = λ f x t q g. refl }) (told _ ne) in
     sym (ap bare_answer e.answer)
     ∙ plain_answer _ (world cx) cx.local.0 c.args.in_crate 256 (λ s t. t) _ (args_forest cx.trees c.args.trait_ref.args) (all-resolved _)

@@ -1,17 +1,19 @@
 use Rattle.std.proofs.Common.{rules}
-use Rattle.std.proofs.Common.{sym, ◌∙◌, ap}
+use Rattle.std.proofs.Common.{refl, sym, ◌∙◌, ap}
 use Rattle.candidate_ir.specs.Context.{world}
 use Rattle.candidate_ir.specs.References.{reference_of}
 use Rattle.candidate_eval.specs.Orphan.{plain, bare_knowledge}
 use Rattle.candidate_eval.proofs.Lowering.{plain_knowledge}
+use Rattle.candidate_eval.specs.Normalizer.{exactly, RefusedGrowth}
 use Rattle.candidate_eval.proofs.Resolved.{all-resolved}
+use Rattle.candidate_eval.proofs.Told.{told}
 use Rattle.assembly_text.proofs.asking.Asking.known.Goals as goal
 
 pub returns-clause-no_unnamed_header : goal.returns-clause-no_unnamed_header
 returns-clause-no_unnamed_header c = λ r na ok.
     c.trait_ref_is_knowable.ensures.no_unnamed_header
     (record {
-      normaliser = record { at = λ f x t a f' x' q g i b n. let k = n.called in let l = n.lends in let m = n.leaves in search rules };
+      normaliser = record { at = λ f x t a f' x' q g i b n v. let k = n.called in let l = n.lends in let m = n.leaves in search rules; values = λ f x t q g. refl };
       resolved = all-resolved _;
       of_world = r;
     }) na ok
@@ -20,7 +22,7 @@ pub returns-clause-downstream_header : goal.returns-clause-downstream_header
 returns-clause-downstream_header c = λ r p ok d.
     c.trait_ref_is_knowable.ensures.downstream_header
     (record {
-      normaliser = record { at = λ f x t a f' x' q g i b n. let k = n.called in let l = n.lends in let m = n.leaves in search rules };
+      normaliser = record { at = λ f x t a f' x' q g i b n v. let k = n.called in let l = n.lends in let m = n.leaves in search rules; values = λ f x t q g. refl };
       resolved = all-resolved _;
       of_world = r;
     }) p ok d
@@ -29,7 +31,7 @@ pub returns-clause-no_covered_header : goal.returns-clause-no_covered_header
 returns-clause-no_covered_header c = λ r na ok o.
     c.trait_ref_is_knowable.ensures.no_covered_header
     (record {
-      normaliser = record { at = λ f x t a f' x' q g i b n. let k = n.called in let l = n.lends in let m = n.leaves in search rules };
+      normaliser = record { at = λ f x t a f' x' q g i b n v. let k = n.called in let l = n.lends in let m = n.leaves in search rules; values = λ f x t q g. refl };
       resolved = all-resolved _;
       of_world = r;
     }) na ok o
@@ -37,7 +39,7 @@ returns-clause-no_covered_header c = λ r na ok o.
 pub returns-clause-answer : goal.returns-clause-answer
 returns-clause-answer c = λ ne.
     let cx = c.args.self.now.scope.maker in
-    let e = c.trait_ref_is_knowable.ensures.answer plain
-    (record { at = λ f x t a f' x' q g i b n. let k = n.called in let l = n.lends in let m = n.leaves in search rules }) ne in
+    let e = c.trait_ref_is_knowable.ensures.answer (exactly RefusedGrowth plain)
+    (record { at = λ f x t a f' x' q g i b n v. let k = n.called in let l = n.lends in let m = n.leaves in search rules; values = λ f x t q g. refl }) (told _ ne) in
     sym (ap bare_knowledge e.answer)
     ∙ plain_knowledge _ (world cx) cx.local.0 256 (λ s t. t) _ (reference_of cx.trees c.args.trait_ref) (all-resolved _)
