@@ -23,7 +23,7 @@ impl CrateId {
 }
 
 /// What an algebraic data type was declared as.
-#[derive(Clone, Copy, Debug, PartialEq, Eq)]
+#[derive(Clone, Copy)]
 pub enum AdtShape {
     Struct,
     Enum,
@@ -31,7 +31,7 @@ pub enum AdtShape {
 }
 
 /// The flags of an algebraic data type; by default none is set.
-#[derive(Clone, Copy, Debug, Default, PartialEq, Eq)]
+#[derive(Clone, Copy, Default)]
 pub struct AdtFlags {
     /// The orphan check looks through it, as through `Box`.
     pub fundamental: bool,
@@ -44,7 +44,7 @@ pub struct AdtFlags {
 }
 
 /// The flags of a trait; by default none is set.
-#[derive(Clone, Copy, Debug, Default, PartialEq, Eq)]
+#[derive(Clone, Copy, Default)]
 pub struct TraitFlags {
     /// It holds of a type whose parts meet it, unless an impl says otherwise.
     pub auto: bool,
@@ -61,7 +61,7 @@ pub struct TraitFlags {
 }
 
 /// What an associated item is.
-#[derive(Clone, Copy, Debug, PartialEq, Eq)]
+#[derive(Clone, Copy)]
 pub enum AssocKind {
     Type,
     Const,

@@ -24,23 +24,23 @@ pub struct Region(pub u32);
 pub struct Args(pub u32);
 
 /// A list of bounds of a `dyn` type of a context.
-#[derive(Clone, Copy, Debug, PartialEq, Eq)]
+#[derive(Clone, Copy)]
 pub struct Preds(pub u32);
 
 /// One bound of a `dyn` type, under its binder.
-#[derive(Clone, Copy, Debug, PartialEq, Eq)]
+#[derive(Clone, Copy)]
 pub struct Pred(pub u32);
 
 /// The signature of a closure, under its binder.
-#[derive(Clone, Copy, Debug, PartialEq, Eq)]
+#[derive(Clone, Copy)]
 pub struct Sig(pub u32);
 
 /// The variables of a binder.
-#[derive(Clone, Copy, Debug, PartialEq, Eq)]
+#[derive(Clone, Copy)]
 pub struct Vars(pub u32);
 
 /// One variable of a binder.
-#[derive(Clone, Copy, Debug, PartialEq, Eq)]
+#[derive(Clone, Copy)]
 pub struct Var(pub u32);
 
 /// A type, a constant or a region of a context.
@@ -60,11 +60,11 @@ pub struct AdtId(pub u32);
 pub struct ForeignId(pub u32);
 
 /// A function.
-#[derive(Clone, Copy, Debug, PartialEq, Eq)]
+#[derive(Clone, Copy, PartialEq, Eq)]
 pub struct FnId(pub u32);
 
 /// A closure.
-#[derive(Clone, Copy, Debug, PartialEq, Eq)]
+#[derive(Clone, Copy, PartialEq, Eq)]
 pub struct ClosureId(pub u32);
 
 /// A trait.
@@ -76,7 +76,7 @@ pub struct TraitId(pub u32);
 pub struct AssocId(pub u32);
 
 /// What an alias stands for: of a projection its associated type.
-#[derive(Clone, Copy, Debug, PartialEq, Eq)]
+#[derive(Clone, Copy, PartialEq, Eq)]
 pub struct AliasId(pub u32);
 
 /// The signed integer types.
