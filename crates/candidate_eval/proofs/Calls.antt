@@ -1,5 +1,5 @@
 -- Calls of a normaliser.
-use Rattle.std.proofs.Common.{◌≡◌, ℕ, ◌<◌, ◌^◌, List, [], ◌∷◌, ◌++◌, Result, Err, IfOk, refl, ◌∙◌, ap, subst}
+use Rattle.std.proofs.Common.{◌≡◌, ℕ, ◌<◌, ◌^◌, List, [], ◌∷◌, ◌++◌, Result, Err, IfOk, refl, sym, ◌∙◌, ap, subst}
 use Rattle.std.specs.Fn.{Mut, Called}
 use Rattle.std.specs.Borrow.{MutBor}
 use Rattle.candidate_ir.specs.declared.ir.kinds.Ty.{Ty}
@@ -50,6 +50,17 @@ module _ {C F E : Type 0} (context : C → Context) (g : Mut F (MutBor C × (Ty 
     lead = lead-then a.calls b.calls f c f1 c1 f2 c2 a.lead b.lead;
     none = none-then a.calls b.calls a.none b.none;
   }
+
+  -- what each call keeps of the normaliser
+  lead-keeps : (P : F → Type 0) → ((f : F) (c : C) (t : Ty) (r : Result Ty (NormalizeErr E)) (f' : F) (c' : C) → Normalizes context g f c t r f' c' → P f → P f')
+      → (ks : List (Call F C E)) (f : F) (c : C) (f' : F) (c' : C) → Lead context g f c ks f' c' → P f → P f'
+  lead-keeps P h [] f c f' c' l p = subst P (sym l.0) p
+  lead-keeps P h (k ∷ ks) f c f' c' l p =
+      lead-keeps P h ks k.next k.after f' c' l.3 (h k.by k.before k.type k.answer k.next k.after l.2.call (subst P (sym l.0) p))
+
+  pub reached-keeps : (P : F → Type 0) → ((f : F) (c : C) (t : Ty) (r : Result Ty (NormalizeErr E)) (f' : F) (c' : C) → Normalizes context g f c t r f' c' → P f → P f')
+      → (f : F) (c : C) (f' : F) (c' : C) → IsReached context g f c f' c' → P f → P f'
+  reached-keeps P h f c f' c' l p = lead-keeps P h l.calls f c f' c' l.lead p
 
   -- what a call leaves and answers
   pub call-keeps : (f : F) (lent : MutBor C) (t : Ty) (r : Result Ty (NormalizeErr E)) (left : MutBor C) (f' : F)
