@@ -1,5 +1,5 @@
 -- What is made and what is seen.
-use Rattle.std.proofs.Common.{◌≡◌, List, Result, Ok, Err, refl, sym, ◌∙◌, ap, subst}
+use Rattle.std.proofs.Common.{◌≡◌, ℕ, ◌⊎◌, inl, inr, true, List, Result, Ok, Err, refl, sym, ◌∙◌, ap, subst}
 use Rattle.std.specs.Prelude.{IfOk, IfErr}
 use Rattle.candidate_ir.specs.declared.ir.heads.Head.TheVariants as H
 use Rattle.candidate_ir.specs.declared.ir.kinds.Mutability.{Mutability}
@@ -7,18 +7,21 @@ use Rattle.candidate_ir.specs.declared.ir.kinds.Region.{Region}
 use Rattle.candidate_ir.specs.declared.ir.kinds.Ty.{Ty}
 use Rattle.candidate_ir.specs.declared.ir.kinds.TyKind.TheVariants as K
 use Rattle.candidate_ir.specs.declared.ir.stop.Stop.{Stop}
+use Rattle.candidate_ir.specs.declared.ir.stop.Stop.TheVariants.{Memory, NodesFull}
+use Rattle.candidate_eval.specs.declared.coherence.OrphanStop.{OrphanStop}
+use Rattle.candidate_eval.specs.declared.coherence.OrphanStop.TheVariants as O
 use Rattle.candidate_ir.specs.Nodes.{tree_at}
 use Rattle.candidate_ir.specs.Trees.{TypeKind, RegionKind, Forest, none, tree, Tree, row}
-use Rattle.candidate_ir.specs.Words.{IsTy, IsRegion, ty_tree, region_tree, kind_tree, region_kind_tree}
+use Rattle.candidate_ir.specs.Words.{IsTy, IsRegion, ty_tree, region_tree, kind_tree, region_kind_tree, IsMkStop}
 use Rattle.candidate_ir.specs.Context.{Context, Grows}
 use Rattle.candidate_ir.specs.declared.ir.kinds.Mutability.TheVariants as M
 use Rattle.candidate_ir.specs.declared.ir.kinds.RegionKind.TheVariants as R
 use Rattle.candidate_ir.proofs.Kept.{ty-kept, grows-refl}
-use Rattle.normaliser_tests.specs.Looks.{reference_to}
+use Rattle.normaliser_tests.specs.Looks.{reference_to, refused_node}
 use Rattle.candidate_ir.proofs.Rows.{row-single}
 use Rattle.candidate_eval.specs.declared.coherence.NormalizeErr.{NormalizeErr}
 use Rattle.candidate_eval.specs.declared.coherence.NormalizeErr.TheVariants as N
-use Rattle.candidate_eval.specs.Normalizer.{AnyStop, IsToldAnswer, shown}
+use Rattle.candidate_eval.specs.Normalizer.{IsToldAnswer, IsTold, shown}
 use Rattle.candidate_eval.specs.Orphan.{Seen, Sees, Sight}
 
 pub reference-made : (ts : List Tree) (r : Region) (t : Ty) (m : Mutability) → IsRegion ts r → IsTy ts t
@@ -28,11 +31,24 @@ reference-made ts r t m i j =
     (row-single ts r.0 RegionKind (row (tree_at ts t.0) none) refl refl i
     ∙ ap (λ (f : Forest). tree (region_tree ts r).head (region_tree ts r).children f) (row-single ts t.0 TypeKind none refl refl j))
 
--- an answer that is no stop is seen
+pub node-stop : (ts : List Tree) (high : ℕ) (s : Stop) → IsMkStop ts high s → refused_node s ≡ true
+node-stop ts high s (inl e) = ap refused_node e
+node-stop ts high s (inr e) = ap refused_node e.0
+
+pub node-stops : {A : Type 0} (ts : List Tree) (high : ℕ) (r : Result A Stop) → IfErr r (IsMkStop ts high) → IfErr r (λ s. refused_node s ≡ true)
+node-stops ts high (Ok a) h = tt
+node-stops ts high (Err s) h = node-stop ts high s h
+
+-- an answer that isn't left open is seen
 pub sees-answer : {E : Type 0} (ts : List Tree) (u : Tree) (r : Result Ty (NormalizeErr E)) → IfOk r (λ t. ty_tree ts t ≡ u)
-    → IfErr r (λ e. (s : Stop) × (e ≡ N.Stop s)) → IsToldAnswer AnyStop r → Sees u ≡ shown ts r
+    → IfErr r (λ e. (s : Stop) × ((e ≡ N.Stop s) × (refused_node s ≡ true))) → IsToldAnswer refused_node r → Sees u ≡ shown ts r
 sees-answer {E} ts u (Ok t) h k told = ap (λ (x : Tree). let y : Seen E = Sees x in y) (sym h)
-sees-answer ts u (Err e) h k told = absurd (told k.0 tt (ap Err k.1))
+sees-answer ts u (Err e) h k told = absurd (told k.0 k.1.1 (ap Err k.1.0))
+
+pub told-unless-full : {A E : Type 0} (r : Result A (OrphanStop E)) → (r ≡ Err (O.Stop Memory) → ⊥) → (r ≡ Err (O.Stop NodesFull) → ⊥) → IsTold refused_node r
+told-unless-full r m f Memory u e = m e
+told-unless-full r m f NodesFull u e = f e
+told-unless-full r m f _ u e = cc
 
 -- the reference that is made of a type, in a context that has grown by its region
 pub reference-is : (old mid : Context) (us : List Tree) (r : Region) (t : Ty) (made : Result Ty Stop) → Grows old mid → IsTy old.trees t → IsRegion mid.trees r

@@ -11,7 +11,9 @@ use Rattle.candidate_ir.specs.declared.ir.kinds.UintTy.TheVariants as U
 use Rattle.candidate_ir.specs.Context.{Context, world}
 use Rattle.candidate_ir.specs.Trees.{none, tree, Tree}
 use Rattle.candidate_ir.specs.Words.{args_forest}
+use Rattle.candidate_ir.specs.declared.ir.stop.Stop.TheVariants.{Memory, NodesFull}
 use Rattle.candidate_eval.specs.Calls.{depth_limit}
+use Rattle.candidate_eval.specs.Normalizer.{Untold}
 use Rattle.candidate_eval.specs.declared.coherence.InCrate.{InCrate}
 use Rattle.candidate_eval.specs.Orphan.{Seen, Answer, view, stateless, orphan_answer}
 
@@ -35,3 +37,9 @@ referenced t = if is_byte t.head then reference_to t else t
 abbrev pub check_by : {E : Type 0} → (Tree → Seen E) → Context → InCrate → TraitRef → Answer E
 check_by look c m r =
     (orphan_answer (world c) c.local.0 m (view (λ s t. t) (stateless look)) depth_limit (let s : Unit {0} = tt in s) (args_forest c.trees r.args)).answer
+
+-- the stops of a call that makes a node
+abbrev pub refused_node : Untold
+refused_node Memory = true
+refused_node NodesFull = true
+refused_node _ = false

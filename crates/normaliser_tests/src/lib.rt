@@ -1,13 +1,13 @@
 //! Checks whose normalisers make nodes, or hold types of the context.
 #![tactic(auto)]
 
-ghost use Rattle.std.specs.Prelude.{◌≡◌, ◌≢◌, IfOk, IfErr};
+ghost use Rattle.std.specs.Prelude.{◌≡◌, ◌≢◌, true, IfOk, IfErr};
 ghost use Rattle.candidate_ir.specs.Context.{Grows};
 ghost use Rattle.candidate_ir.specs.Words.{IsTy, IsArgs, ty_tree};
 ghost use Rattle.candidate_eval.specs.Answers.{OutOfMemory, answer_of};
 ghost use Rattle.candidate_eval.specs.Calls.{HasNoParam};
 ghost use Rattle.candidate_eval.specs.Orphan.{Sees};
-ghost use Rattle.normaliser_tests.specs.Looks.{is_byte, reference_to, referenced, check_by};
+ghost use Rattle.normaliser_tests.specs.Looks.{is_byte, reference_to, referenced, refused_node, check_by};
 
 use candidate_eval::coherence::{
     InCrate, NormalizeErr, OrphanCheckErr, OrphanStop, orphan_check_trait_ref,
@@ -31,6 +31,7 @@ fn reference_to(cx: &mut Cx, ty: Ty) -> Result<Ty, Stop>
     ensures grows { Grows cx.old cx.new }
     ensures sort { IfOk result (λ t. IsTy cx.new.trees t) }
     ensures tree { IfOk result (λ t. ty_tree cx.new.trees t ≡ reference_to (ty_tree cx.old.trees ty)) }
+    ensures stops { IfErr result (λ s. refused_node s ≡ true) }
 {
     let region = cx.mk_region(RegionKind::Static)?;
     cx.mk_ty(TyKind::Ref(region, ty, Mutability::Not))
@@ -42,7 +43,7 @@ fn referenced(cx: &mut Cx, ty: Ty) -> Result<Ty, NormalizeErr<Infallible>>
     ensures grows { Grows cx.old cx.new }
     ensures sort { IfOk result (λ t. IsTy cx.new.trees t) }
     ensures tree { IfOk result (λ t. ty_tree cx.new.trees t ≡ referenced (ty_tree cx.old.trees ty)) }
-    ensures stops { IfErr result (λ e. (s : Stop) × (e ≡ NormalizeErr.Stop s)) }
+    ensures stops { IfErr result (λ e. (s : Stop) × ((e ≡ NormalizeErr.Stop s) × (refused_node s ≡ true))) }
 {
     if !is_byte(cx, ty) {
         return Ok(ty);
@@ -62,7 +63,7 @@ pub fn checked_by_reference(
 ) -> Result<Result<(), OrphanCheckErr<Ty>>, OrphanStop<Infallible>>
     requires args { IsArgs cx.old.trees trait_ref.args }
     requires no_param { HasNoParam cx.old trait_ref }
-    ensures answer { ((s : Stop) → result ≢ Err (OrphanStop.Stop s)) → answer_of cx.new.trees result ≡ check_by (λ t. Sees (referenced t)) cx.old in_crate trait_ref }
+    ensures answer { result ≢ Err (OrphanStop.Stop Stop.Memory) → result ≢ Err (OrphanStop.Stop Stop.NodesFull) → answer_of cx.new.trees result ≡ check_by (λ t. Sees (referenced t)) cx.old in_crate trait_ref }
 {
     orphan_check_trait_ref(
         alloc,
@@ -95,3 +96,5 @@ pub fn checked_as(
     )
 }
 
+#[cfg(test)]
+mod tests;

@@ -2,7 +2,7 @@ use Rattle.std.proofs.Common.{◌≡◌, rules, refl, sym, ◌∙◌}
 use Rattle.candidate_ir.specs.Context.{world}
 use Rattle.candidate_ir.specs.Trees.{Tree}
 use Rattle.candidate_ir.specs.Words.{args_forest, ty_tree}
-use Rattle.candidate_eval.specs.Normalizer.{RefusedGrowth, exactly}
+use Rattle.candidate_eval.specs.Normalizer.{refused_growth}
 use Rattle.candidate_eval.specs.Orphan.{Sees, view, stateless}
 use Rattle.candidate_eval.proofs.Calls.{reached-keeps, told-unless-refused}
 use Rattle.candidate_eval.proofs.Simulation.{answer_seen}
@@ -21,7 +21,7 @@ pub returns : goal.returns
 returns c = record {
   answer = λ ne.
       let cx = c.args.cx.now in
-      let e = c.orphan_check_trait_ref.ensures.answer (record { untold = RefusedGrowth; stands = λ s. (s.0, cx); normal = stateless (λ t. Sees (ty_tree cx.trees c.args.seen)) })
+      let e = c.orphan_check_trait_ref.ensures.answer (record { untold = refused_growth; refused = refl; stands = λ s. (s.0, cx); normal = stateless (λ t. Sees (ty_tree cx.trees c.args.seen)) })
       (record {
         at = λ f x t r f' x' q g i b n told.
             let held : f.0 ≡ c.args.seen = reached-keeps _ _ (λ z. z.0 ≡ c.args.seen) (λ f x t r f' x' n p. let k = n.called in let l = n.lends in let m = n.leaves in search rules) _ _ f x q refl in
