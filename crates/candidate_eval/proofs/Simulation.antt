@@ -4,7 +4,7 @@ use Rattle.candidate_ir.specs.declared.ir.heads.Head.{Head}
 use Rattle.candidate_ir.specs.declared.ir.heads.Head.TheVariants as H
 use Rattle.candidate_ir.specs.Trees.{Forest, none, tree, Tree, is_type}
 use Rattle.candidate_ir.specs.Worlds.{World}
-use Rattle.candidate_eval.specs.Orphan.{Seen, Sees, Fails, Sight, View, Item, Viewed, Empty, Step, left, or_empty, walked, looked, visit, over, CrateTest, crate_test, is_local, is_fundamental, InCrate, Class, IsNonLocal, IsSkipped, IsEmpty, IsLocal, IsUncovered, IsBroken, class_of, Answer, NonLocalInput, Checked, decides, decides_again, first_step, entry, entries, second, decided, judged, orphan_answer}
+use Rattle.candidate_eval.specs.Orphan.{Seen, Sees, Fails, Sight, View, Item, Step, left, or_empty, walked, looked, visit, over, CrateTest, crate_test, is_local, is_fundamental, InCrate, Class, IsNonLocal, IsSkipped, IsEmpty, IsLocal, IsUncovered, IsBroken, class_of, Answer, NonLocalInput, Checked, decides, decides_again, first_step, entry, entries, second, decided, judged, orphan_answer}
 
 module _ {S T E : Type 0} (h : S → T) where
   abbrev steps_seen : List (Step S E) → List (Step T E)

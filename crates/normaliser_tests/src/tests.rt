@@ -37,7 +37,10 @@ fn of_byte(cx: &mut Cx) -> Result<TraitRef, Stop>
 {
     let byte = cx.mk_ty(TyKind::Uint(UintTy::U8))?;
     let args = cx.mk_args(&[GenericArg::Ty(byte)])?;
-    Ok(TraitRef { def_id: TRAIT, args })
+    Ok(TraitRef {
+        def_id: TRAIT,
+        args,
+    })
 }
 
 #[test]
@@ -59,6 +62,11 @@ fn holds_a_type(rt: HostRuntime) -> Result<(), Fail> {
     let local = cx.mk_ty(TyKind::Adt(LOCAL_TYPE, none))?;
     let of_byte = of_byte(&mut cx)?;
     assert!(rt; !cx.has_param(of_byte));
-    assert!(rt; matches!(checked_as(alloc, &mut cx, of_byte, PROPER, local), Ok(Ok(()))));
+    assert!(rt;
+        matches!(
+            checked_as(alloc, &mut cx, of_byte, PROPER, local),
+            Ok(Ok(()))
+        )
+    );
     Ok(())
 }

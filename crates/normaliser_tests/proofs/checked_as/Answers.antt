@@ -1,6 +1,5 @@
 use Rattle.std.proofs.Common.{◌≡◌, rules, refl, sym, ◌∙◌}
 use Rattle.candidate_ir.specs.Context.{world}
-use Rattle.candidate_ir.specs.Trees.{Tree}
 use Rattle.candidate_ir.specs.Words.{args_forest, ty_tree}
 use Rattle.candidate_eval.specs.Normalizer.{refused_growth}
 use Rattle.candidate_eval.specs.Orphan.{Sees, view, stateless}

@@ -1,6 +1,5 @@
 use Rattle.std.proofs.Common.{rules, refl, sym, ◌∙◌}
 use Rattle.candidate_ir.specs.Context.{world}
-use Rattle.candidate_ir.specs.Trees.{Tree}
 use Rattle.candidate_ir.specs.Words.{args_forest}
 use Rattle.candidate_eval.specs.Orphan.{Sees, view, stateless}
 use Rattle.candidate_eval.proofs.Simulation.{answer_seen}
