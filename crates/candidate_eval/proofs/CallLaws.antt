@@ -1,5 +1,5 @@
 -- The laws of the definitions, for the calls.
-use Rattle.std.proofs.Common.{◌≡◌, ℕ, false, Result, Ok, Err, sym, ◌∙◌, ap, subst}
+use Rattle.std.proofs.Common.{◌≡◌, ℕ, false, Result, Ok, Err, refl, sym, ◌∙◌, ap, subst}
 use Rattle.std.specs.Fn.{Mut}
 use Rattle.std.specs.Borrow.{MutBor}
 use Rattle.candidate_ir.specs.declared.ir.kinds.TraitRef.{TraitRef}
@@ -17,7 +17,7 @@ use Rattle.candidate_eval.specs.declared.coherence.OrphanStop.TheVariants as O
 use Rattle.candidate_eval.specs.Answers.{CheckResult, answer_of, IsAnswer, KnownResult, knowledge_of}
 use Rattle.candidate_eval.specs.Calls.{depth_limit, check_of, check_where, IsChecked, IsKnown, HasNoAlias, HasNoAliasOrError, IsOfForeignTrait, IsDecidedByGeneralHere, NoForeignHeaderHere, NoUnnamedHeaderHere, NoCoveredHeaderHere, HasDownstreamHere}
 use Rattle.candidate_eval.specs.Laws.{AreResolved, IsPlainCall, NoForeignHeader, NoUnnamedHeader, NoCoveredHeader, IsDecidedByGeneral, HasDownstream}
-use Rattle.candidate_eval.specs.Normalizer.{AnyStop, IsTold, Description, exactly, StopsWith, IsFunction, IsLeftByCalls, IsChangedByCalls}
+use Rattle.candidate_eval.specs.Normalizer.{any_stop, IsTold, Description, exactly, StopsWith, IsFunction, IsLeftByCalls, IsChangedByCalls}
 use Rattle.candidate_eval.specs.Orphan.{InCrate, Local, Remote, Proper, Compat, View, view, plain, orphan_answer, Passes, knowability, Knowability, Knowable, Downstream, local_or_fundamental, plain_knowability, bare_answer, bare_knowledge, IsPlainForest}
 use Rattle.candidate_eval.proofs.Calls.{reached-same}
 use Rattle.candidate_eval.proofs.Causes.{left-same, left-quietly}
@@ -61,7 +61,7 @@ module _ {C F E : Type 0} {context : C → Context} {resolve : C → Tree → Tr
     pub no_foreign_header_said : IsPlainCall context resolve g f c r → HasNoAliasOrError (context c) r → m ≡ Local Proper → result ≡ Ok (Ok tt) → NoForeignHeaderHere (context c) r
     no_foreign_header_said p ok e passes =
         no-foreign-header (world (context c)) (context c).local.0 depth_limit (λ (s : F × C) t. resolve s.1 t) (f, c) (reference_of (context c).trees r) p.of_world p.resolved m e ok
-        (ap (λ x. x.answer) (said.at (exactly AnyStop plain) p.normaliser (λ s u x. cc)) ∙ ap (answer_of (context c').trees) passes)
+        (ap (λ x. x.answer) (said.at (exactly any_stop refl plain) p.normaliser (λ s u x. cc)) ∙ ap (answer_of (context c').trees) passes)
 
     pub proper_passes_compat_said : (d : Description F C E) → IsFunction context g resolve d f c → m ≡ Local Proper → result ≡ Ok (Ok tt)
         → (check_of context resolve d (Local Compat) (f, c) r).answer ≡ Passes
@@ -79,18 +79,18 @@ module _ {C F E : Type 0} {context : C → Context} {resolve : C → Tree → Tr
     pub no_unnamed_header_said : HasNoAlias (context c) r → result ≡ Ok (Ok tt) → NoUnnamedHeaderHere (context c) r
     no_unnamed_header_said ok known =
         no-unnamed-header (world (context c)) (context c).local.0 depth_limit (λ (s : F × C) t. resolve s.1 t) (f, c) (reference_of (context c).trees r) p.of_world p.resolved ok
-        ((said.at (exactly AnyStop plain) p.normaliser (λ s u x. cc)).answer ∙ ap knowledge_of known)
+        ((said.at (exactly any_stop refl plain) p.normaliser (λ s u x. cc)).answer ∙ ap knowledge_of known)
 
     pub no_covered_header_said : HasNoAlias (context c) r → result ≡ Ok (Ok tt) → IsOfForeignTrait (context c) r → NoCoveredHeaderHere (context c) r
     no_covered_header_said ok known foreign =
         no-covered-header (world (context c)) (context c).local.0 depth_limit (λ (s : F × C) t. resolve s.1 t) (f, c) (reference_of (context c).trees r) p.of_world p.resolved ok
-        ((said.at (exactly AnyStop plain) p.normaliser (λ s u x. cc)).answer ∙ ap knowledge_of known) foreign
+        ((said.at (exactly any_stop refl plain) p.normaliser (λ s u x. cc)).answer ∙ ap knowledge_of known) foreign
 
     pub downstream_header_said : HasNoAliasOrError (context c) r → result ≡ Ok (Err K.Downstream) → IsDecidedByGeneralHere (context c) r
         → HasDownstreamHere (context c) r
     downstream_header_said ok known decided =
         downstream-header (world (context c)) (context c).local.0 depth_limit (λ (s : F × C) t. resolve s.1 t) (f, c) (reference_of (context c).trees r) p.of_world p.resolved ok
-        ((said.at (exactly AnyStop plain) p.normaliser (λ s u x. cc)).answer ∙ ap knowledge_of known) decided
+        ((said.at (exactly any_stop refl plain) p.normaliser (λ s u x. cc)).answer ∙ ap knowledge_of known) decided
 
 module _ {C F E A : Type 0} {context : C → Context} {g : Mut F (MutBor C × (Ty × Unit {0})) (Result Ty (NormalizeErr E) × (MutBor C × Unit {0}))}
     {levels : ℕ} {f : F} {c : C} {result : Result A (OrphanStop E)} where

@@ -1,5 +1,5 @@
 -- Calls of a normaliser.
-use Rattle.std.proofs.Common.{◌≡◌, ℕ, ◌<◌, ◌^◌, List, [], ◌∷◌, ◌++◌, Result, Err, IfOk, refl, ◌∙◌, ap, subst}
+use Rattle.std.proofs.Common.{◌≡◌, true, ◌<◌, ◌^◌, List, [], ◌∷◌, ◌++◌, Result, Err, IfOk, refl, sym, ◌∙◌, ap, subst}
 use Rattle.std.specs.Fn.{Mut, Called}
 use Rattle.std.specs.Borrow.{MutBor}
 use Rattle.candidate_ir.specs.declared.ir.kinds.Ty.{Ty}
@@ -13,18 +13,17 @@ use Rattle.candidate_eval.specs.declared.coherence.NormalizeErr.{NormalizeErr}
 use Rattle.candidate_eval.specs.declared.coherence.OrphanStop.{OrphanStop}
 use Rattle.candidate_eval.specs.declared.coherence.OrphanStop.TheVariants as O
 use Rattle.candidate_eval.specs.Orphan.{View}
-use Rattle.candidate_eval.specs.Normalizer.{shown, Untold, RefusedGrowth, AnyStop, IsUntold, IsToldAnswer, IsTold, Description, exactly, Call, NoneStops, Normalizes, Lead, IsReached, MayNormalize, KeepsNumbers, IsFunction}
+use Rattle.candidate_eval.specs.Normalizer.{shown, Untold, refused_growth, any_stop, IsUntold, IsToldAnswer, IsTold, Description, exactly, Call, NoneStops, Normalizes, Lead, IsReached, MayNormalize, KeepsNumbers, IsFunction}
 
--- where memory alone is left open, or all stops are
-pub memory-untold : (u : Untold) (s : Stop) → s ≡ Memory → IsUntold u s
-memory-untold RefusedGrowth s e = e
-memory-untold AnyStop s e = tt
+memory-is : (s : Stop) → refused_growth s ≡ true → s ≡ Memory
+memory-is Memory e = refl
+memory-is _ e = cc
 
 -- a result is told where no growth was refused, or where it is no stop
-pub told-unless-refused : {A E : Type 0} (r : Result A (OrphanStop E)) → (r ≡ Err (O.Stop Memory) → ⊥) → IsTold RefusedGrowth r
-told-unless-refused {A} {E} r ne s u e = ne (e ∙ ap (λ (x : Stop). let y : Result A (OrphanStop E) = Err (O.Stop x) in y) u)
+pub told-unless-refused : {A E : Type 0} (r : Result A (OrphanStop E)) → (r ≡ Err (O.Stop Memory) → ⊥) → IsTold refused_growth r
+told-unless-refused {A} {E} r ne s u e = ne (e ∙ ap (λ (x : Stop). let y : Result A (OrphanStop E) = Err (O.Stop x) in y) (memory-is s u))
 
-pub told-unless-stopped : {A E : Type 0} (r : Result A (OrphanStop E)) → ((s : Stop) → r ≡ Err (O.Stop s) → ⊥) → IsTold AnyStop r
+pub told-unless-stopped : {A E : Type 0} (r : Result A (OrphanStop E)) → ((s : Stop) → r ≡ Err (O.Stop s) → ⊥) → IsTold any_stop r
 told-unless-stopped r ne s u e = ne s e
 
 pub none-then : {F C E : Type 0} (xs ys : List (Call F C E)) → NoneStops xs → NoneStops ys → NoneStops (xs ++ ys)
@@ -50,6 +49,17 @@ module _ {C F E : Type 0} (context : C → Context) (g : Mut F (MutBor C × (Ty 
     lead = lead-then a.calls b.calls f c f1 c1 f2 c2 a.lead b.lead;
     none = none-then a.calls b.calls a.none b.none;
   }
+
+  -- what each call keeps of the normaliser
+  lead-keeps : (P : F → Type 0) → ((f : F) (c : C) (t : Ty) (r : Result Ty (NormalizeErr E)) (f' : F) (c' : C) → Normalizes context g f c t r f' c' → P f → P f')
+      → (ks : List (Call F C E)) (f : F) (c : C) (f' : F) (c' : C) → Lead context g f c ks f' c' → P f → P f'
+  lead-keeps P h [] f c f' c' l p = subst P (sym l.0) p
+  lead-keeps P h (k ∷ ks) f c f' c' l p =
+      lead-keeps P h ks k.next k.after f' c' l.3 (h k.by k.before k.type k.answer k.next k.after l.2.call (subst P (sym l.0) p))
+
+  pub reached-keeps : (P : F → Type 0) → ((f : F) (c : C) (t : Ty) (r : Result Ty (NormalizeErr E)) (f' : F) (c' : C) → Normalizes context g f c t r f' c' → P f → P f')
+      → (f : F) (c : C) (f' : F) (c' : C) → IsReached context g f c f' c' → P f → P f'
+  reached-keeps P h f c f' c' l p = lead-keeps P h l.calls f c f' c' l.lead p
 
   -- what a call leaves and answers
   pub call-keeps : (f : F) (lent : MutBor C) (t : Ty) (r : Result Ty (NormalizeErr E)) (left : MutBor C) (f' : F)
@@ -87,6 +97,6 @@ module _ {C F E : Type 0} (context : C → Context) (g : Mut F (MutBor C × (Ty 
     }
 
   -- a function but for refused growths is one but for all stops
-  pub function-unless-stopped : (resolve : C → Tree → Tree) (u : Untold) (normal : View (F × C) E) (f : F) (c : C)
-      → IsFunction context g resolve (exactly u normal) f c → IsFunction context g resolve (exactly AnyStop normal) f c
-  function-unless-stopped resolve u normal f c m = record { at = λ e x t r e' x' q k s n w told. m.at e x t r e' x' q k s n w (λ z h i. told z tt i); values = m.values }
+  pub function-unless-stopped : (resolve : C → Tree → Tree) (u : Untold) (e : IsUntold u Memory) (normal : View (F × C) E) (f : F) (c : C)
+      → IsFunction context g resolve (exactly u e normal) f c → IsFunction context g resolve (exactly any_stop refl normal) f c
+  function-unless-stopped resolve u y normal f c m = record { at = λ e x t r e' x' q k s n w told. m.at e x t r e' x' q k s n w (λ z h i. told z refl i); values = m.values }

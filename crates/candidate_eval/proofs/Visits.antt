@@ -4,6 +4,7 @@ use Rattle.std.specs.Prelude.{OnOk}
 use Rattle.candidate_ir.specs.declared.ir.kinds.Ty.{Ty}
 use Rattle.candidate_ir.specs.declared.ir.kinds.Args.{Args}
 use Rattle.candidate_ir.specs.declared.ir.stop.Stop.{Stop}
+use Rattle.candidate_ir.specs.declared.ir.stop.Stop.TheVariants.{Memory}
 use Rattle.candidate_ir.specs.Context.{Context, Grows}
 use Rattle.candidate_ir.specs.Trees.{Tree}
 use Rattle.candidate_ir.specs.Words.{ty_tree, args_forest}
@@ -17,7 +18,7 @@ use Rattle.candidate_eval.specs.declared.walk.EarlyExit.{EarlyExit}
 use Rattle.candidate_eval.specs.declared.walk.EarlyExit.TheVariants as X
 use Rattle.candidate_eval.specs.declared.walk.Walk.{Walk}
 use Rattle.candidate_eval.specs.Exits.{IsTaken, broken_by}
-use Rattle.candidate_eval.specs.Normalizer.{Untold, IsToldAnswer, shown_fault}
+use Rattle.candidate_eval.specs.Normalizer.{Untold, IsUntold, IsToldAnswer, shown_fault}
 use Rattle.candidate_eval.specs.Orphan.{InCrate, crate_test, Sees, Fails, View, Class, IsBroken}
 use Rattle.candidate_eval.specs.Shapes.{IsShape, IsReference, IsFundamental}
 use Rattle.candidate_eval.specs.Table.{table, is_walked}
@@ -52,7 +53,7 @@ module _ {S E : Type 0} (c0 c1 : Context) (m : InCrate) (g : Grows c0 c1) (see :
 
   pub visited-item : (k : ViewClass) (old new last : Walk) (r : Result (Unit {0}) (EarlyExit E)) → IsShape c1 m (ty_tree c1.trees v) (Sh.Item k)
       → last.non_local.items ≡ new.non_local.items → IsTaken old new k v r
-      → (untold : Untold) → Outcome untold c1.trees (classes (setting c0 m)) old last s s1 (type_steps (setting c0 m) see n s t) r
+      → (untold : Untold) → IsUntold untold Memory → Outcome untold c1.trees (classes (setting c0 m)) old last s s1 (type_steps (setting c0 m) see n s t) r
   visited-item k old new last r i e a =
       let j = shape-there k i in
       item-outcome (setting c0 m) see c1.trees n l h s s1 t v seen k old new last r j.0 j.1 e a

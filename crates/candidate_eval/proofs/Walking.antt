@@ -23,12 +23,11 @@ use Rattle.candidate_eval.specs.declared.walk.EarlyExit.{EarlyExit}
 use Rattle.candidate_eval.specs.declared.walk.Walk.{Walk}
 use Rattle.candidate_eval.specs.Answers.{is_first_input}
 use Rattle.candidate_eval.specs.Exits.{breaks, IsAdded, exit_of, IsTaken}
-use Rattle.candidate_eval.specs.Normalizer.{Untold}
+use Rattle.candidate_eval.specs.Normalizer.{Untold, IsUntold}
 use Rattle.candidate_eval.specs.Orphan.{InCrate, Local, Remote, Proper, Compat, CrateTest, is_local, is_fundamental, principal_passes, Fault, Stopped, Sees, Fails, Sight, View, Item, Viewed, Empty, Broken, Step, left, or_empty, walked, looked, Class, IsNonLocal, IsEmpty, IsBroken, owned_class, loose_class, projection_class, alias_class, view_class, Entry, entry}
 use Rattle.candidate_eval.specs.Shapes.{IsReference, IsFundamental}
 use Rattle.candidate_eval.specs.Table.{table, is_walked, owned_in, loose_in, projection_in, loose_alias_in, alias_in}
 use Rattle.candidate_eval.specs.Walk.{Setting, setting, test_of, classes, type_steps, list_steps, of_view, deciding, still, entries_of, AreTypes, IsExit, exit_class, Passed, Found, Outcome}
-use Rattle.candidate_eval.proofs.Calls.{memory-untold}
 use Rattle.candidate_eval.proofs.Steps.{left-some}
 
 pub setting-kept : (old new : Context) (m : InCrate) → Grows old new → setting new m ≡ setting old m
@@ -295,11 +294,11 @@ pub item-outcome : {S E : Type 0} (p : Setting) (see : View S E) (ts : List Tree
     → (k : ViewClass) (old new last : Walk) (r : Result (Unit {0}) (EarlyExit E)) → is_walked p.definitions (test_of p) (ty_tree ts v).head ≡ false
     → table p.definitions (test_of p) p.in_crate (ty_tree ts v).head (ty_tree ts v).children ≡ k
     → last.non_local.items ≡ new.non_local.items → IsTaken old new k v r
-    → (untold : Untold) → Outcome untold ts (classes p) old last s s1 (type_steps p see n s t) r
-item-outcome p see ts n m e s s1 t v seen k old new last (Ok u) w h l a untold =
+    → (untold : Untold) → IsUntold untold Memory → Outcome untold ts (classes p) old last s s1 (type_steps p see n s t) r
+item-outcome p see ts n m e s s1 t v seen k old new last (Ok u) w h l a untold y =
     passed-item p see ts n m e s s1 t v seen k old last w h a.0 (added-same k old new last v l a.1)
-item-outcome p see ts n m e s s1 t v seen k old new last (Err x) w h l a untold = λ ne.
-    found-item p see ts n m e s s1 t v seen k old.seeks_local x w h a.0 (a.1 (λ i. ne Memory (memory-untold untold Memory refl) i))
+item-outcome p see ts n m e s s1 t v seen k old new last (Err x) w h l a untold y = λ ne.
+    found-item p see ts n m e s s1 t v seen k old.seeks_local x w h a.0 (a.1 (λ i. ne Memory y i))
 
 -- what the walk below a reference says of the visit
 pub target-outcome : {S E : Type 0} (ts : List Tree) (k : Item E → Class E) (old new last : Walk) (s s1 after : S) (xs ys : List (Step S E))

@@ -1,5 +1,5 @@
 -- What is asked of a normaliser, a closure that may change a context, and what is known of its calls.
-use Rattle.std.specs.Prelude.{◌≡◌, ◌<◌, ◌^◌, List, [], ◌∷◌, length, Result, Ok, Err, IfOk, ℕ, ◌⊎◌, ◌≤◌, true}
+use Rattle.std.specs.Prelude.{◌≡◌, refl, Bool, false, ◌<◌, ◌^◌, List, [], ◌∷◌, length, Result, Ok, Err, IfOk, ℕ, ◌⊎◌, ◌≤◌, true}
 use Rattle.std.specs.Fn.{Mut, Called}
 use Rattle.std.specs.Borrow.{MutBor}
 use Rattle.candidate_ir.specs.declared.ir.kinds.Ty.{Ty}
@@ -23,15 +23,19 @@ abbrev pub shown : {E : Type 0} → List Tree → Result Ty (NormalizeErr E) →
 shown ts (Ok t) = Sees (ty_tree ts t)
 shown ts (Err e) = Fails (shown_fault e)
 
--- What of a normaliser's results a description leaves open: a refused growth alone, which no definition sees, or every
--- stop.
-pub data Untold : Type 0 where
-  RefusedGrowth : Untold
-  AnyStop : Untold
+-- Which stops of a normaliser a description leaves open. A refused growth always is, since no definition sees it.
+abbrev pub Untold : Type 0
+Untold = Stop → Bool
+
+abbrev pub refused_growth : Untold
+refused_growth Memory = true
+refused_growth _ = false
+
+abbrev pub any_stop : Untold
+any_stop s = true
 
 abbrev pub IsUntold : Untold → Stop → Type 0
-IsUntold RefusedGrowth s = s ≡ Memory
-IsUntold AnyStop s = Unit {0}
+IsUntold u s = u s ≡ true
 
 -- the answer of a normaliser, or the result of a check, is no stop that is left open
 abbrev pub IsToldAnswer : {E : Type 0} → Untold → Result Ty (NormalizeErr E) → Type 0
@@ -48,12 +52,13 @@ StopsWith r s = r ≡ Err (O.Stop s)
 -- that nodes that it makes needn't count), and what it answers and leaves there.
 pub record Description (F C E : Type 0) : Type 0 where
   pub untold : Untold
+  pub refused : IsUntold untold Memory
   pub stands : F × C → F × C
   pub normal : View (F × C) E
 
 -- where each state stands for itself
-abbrev pub exactly : {F C E : Type 0} → Untold → View (F × C) E → Description F C E
-exactly u normal = record { untold = u; stands = λ s. s; normal = normal }
+abbrev pub exactly : {F C E : Type 0} → (u : Untold) → IsUntold u Memory → View (F × C) E → Description F C E
+exactly u e normal = record { untold = u; refused = e; stands = λ s. s; normal = normal }
 
 -- A call: the normaliser and the context that it finds, the type, the answer, and what is left of the two.
 pub record Call (F C E : Type 0) : Type 0 where
@@ -130,7 +135,7 @@ module _ {C F E : Type 0} (context : C → Context) (g : Mut F (MutBor C × (Ty 
 
   -- It answers its input, and changes nothing, unless it stops.
   abbrev pub IsPlain : (C → Tree → Tree) → F → C → Type 0
-  IsPlain resolve f0 c0 = IsFunction resolve (exactly AnyStop plain) f0 c0
+  IsPlain resolve f0 c0 = IsFunction resolve (exactly any_stop refl plain) f0 c0
 
   -- It answers a type that stands in no header, or any type at one.
   pub record SeesUnnameable (k : Call F C E) : Type 0 where

@@ -59,6 +59,10 @@ abbrev pub view : {S E : Type 0} → (S → Tree → Tree) → View S E → View
 view resolve normalise s t =
     record { seen = unless_general (resolve s t) (normalise s (resolve s t)).seen; after = (normalise s (resolve s t)).after }
 
+-- The normaliser that answers by the tree alone and changes nothing.
+abbrev pub stateless : {S E : Type 0} → (Tree → Seen E) → View S E
+stateless look s t = record { seen = look t; after = s }
+
 -- The normaliser that answers its input and changes nothing, on trees without values to resolve.
 abbrev pub plain : {S E : Type 0} → View S E
 plain s t = record { seen = Sees t; after = s }

@@ -93,8 +93,8 @@ pub enum OrphanStop<E> {
     Stop(Stop),
 }
 
-/// How many visits may be nested.
-const WALK_DEPTH: u16 = 256;
+/// How many visits may be nested. The definitions read it from here (`depth_limit`).
+pub const WALK_DEPTH: u16 = 256;
 
 /// The first local type of a walk that passes over uncovered views.
 fn first_local_ty<C, E, F>(
@@ -112,9 +112,9 @@ where
     requires callable { MayNormalize C.context F.FnMut normalize.old infcx.old }
     requires keeps { KeepsNumbers C.context F.FnMut normalize.old infcx.old }
     ensures grows { Grows (C.context infcx.old) (C.context infcx.new) }
-    ensures calls { IsLeftByCalls C.context F.FnMut 256 normalize.old infcx.old normalize.new infcx.new (λ s. result ≡ Err s) }
+    ensures calls { IsLeftByCalls C.context F.FnMut depth_limit normalize.old infcx.old normalize.new infcx.new (λ s. result ≡ Err s) }
     ensures types { IfOk result (λ o. IfSome o (λ t. IsTy (C.context infcx.new).trees t)) }
-    ensures answer { (d : Description F C E) → IsFunction C.context F.FnMut C.resolved d normalize.old infcx.old → ((s : Stop) → IsUntold d.untold s → result ≡ Err s → ⊥) → (t : Tree) → IsSecond (setting (C.context infcx.old) in_crate) (view (λ s t. C.resolved s.1 t) d.normal) 256 (d.stands (normalize.old, infcx.old)) (args_forest (C.context infcx.old).trees args) t (record { answer = second_answer (C.context infcx.new).trees t result; after = d.stands (normalize.new, infcx.new) }) }
+    ensures answer { (d : Description F C E) → IsFunction C.context F.FnMut C.resolved d normalize.old infcx.old → ((s : Stop) → IsUntold d.untold s → result ≡ Err s → ⊥) → (t : Tree) → IsSecond (setting (C.context infcx.old) in_crate) (view (λ s t. C.resolved s.1 t) d.normal) depth_limit (d.stands (normalize.old, infcx.old)) (args_forest (C.context infcx.old).trees args) t (record { answer = second_answer (C.context infcx.new).trees t result; after = d.stands (normalize.new, infcx.new) }) }
 {
     let mut walk = Walk {
         in_crate,
@@ -147,7 +147,7 @@ where
     requires callable { MayNormalize C.context F.FnMut normalize.old infcx.old }
     requires keeps { KeepsNumbers C.context F.FnMut normalize.old infcx.old }
     ensures grows { Grows (C.context infcx.old) (C.context infcx.new) }
-    ensures calls { IsLeftByCalls C.context F.FnMut 256 normalize.old infcx.old normalize.new infcx.new (StopsWith result) }
+    ensures calls { IsLeftByCalls C.context F.FnMut depth_limit normalize.old infcx.old normalize.new infcx.new (StopsWith result) }
     ensures types { AreAnswerTypes (C.context infcx.new).trees result }
     ensures covers { in_crate ≡ InCrate.Remote → ¬ (IsUncoveredResult result) }
     ensures first_input_once { (l : List Entry) → answer_of (C.context infcx.new).trees result ≡ NonLocalInput l → OnlyFirst l }
@@ -268,7 +268,7 @@ where
     requires callable { MayNormalize C.context F.FnMut normalize.old infcx.old }
     requires keeps { KeepsNumbers C.context F.FnMut normalize.old infcx.old }
     ensures grows { Grows (C.context infcx.old) (C.context infcx.new) }
-    ensures calls { IsLeftByCalls C.context F.FnMut 256 normalize.old infcx.old normalize.new infcx.new (StopsWith result) }
+    ensures calls { IsLeftByCalls C.context F.FnMut depth_limit normalize.old infcx.old normalize.new infcx.new (StopsWith result) }
     ensures answer { IsKnown C.context C.resolved F.FnMut normalize.old infcx.old trait_ref result normalize.new infcx.new }
 {
     let remote = check(alloc, infcx, trait_ref, InCrate::Remote, normalize)?;

@@ -100,7 +100,7 @@ visit_ty-returns-clause-outcome g t c = λ d h.
     elim c.match-shape_of.branch [
       | visit_ty-in-Item w ↦ rw (w.infcx-is, w.normalize-is, w.walk-is, w.outcome-is)
           (visited-item c0 c1 m grows see c.args.levels (c.args.levels - 1) levels s0 s1 tree c.in_ok-view.view seen w.in-Item.class
-          c.args.walk.now w.take-outcome.new.self _ w.take-outcome.result (rw c.cx.ensures at w.in-Item.ensures) refl w.take-outcome.ensures.taken d.untold)
+          c.args.walk.now w.take-outcome.new.self _ w.take-outcome.result (rw c.cx.ensures at w.in-Item.ensures) refl w.take-outcome.ensures.taken d.untold d.refused)
       | visit_ty-in-Target w ↦ rw (w.infcx-is, w.normalize-is, w.walk-is, w.outcome-is)
           (visited-target c0 c1 m grows see c.args.levels (c.args.levels - 1) levels s0 s1 tree c.in_ok-view.view seen w.in-Target.target
           c.args.walk.now w.visit_ty-outcome.new.walk _ _ _ w.visit_ty-outcome.result (rw c.cx.ensures at w.in-Target.ensures) refl

@@ -4,7 +4,7 @@ use Rattle.candidate_ir.specs.Context.{world}
 use Rattle.candidate_ir.specs.Words.{args_forest}
 use Rattle.candidate_eval.specs.Orphan.{plain, bare_answer}
 use Rattle.candidate_eval.proofs.Lowering.{plain_answer}
-use Rattle.candidate_eval.specs.Normalizer.{exactly, RefusedGrowth}
+use Rattle.candidate_eval.specs.Normalizer.{exactly, refused_growth}
 use Rattle.candidate_eval.proofs.Resolved.{all-resolved}
 use Rattle.candidate_eval.proofs.Told.{told}
 use Rattle.assembly_text.proofs.asking.Asking.checked.Goals as goal
@@ -21,7 +21,7 @@ returns-clause-no_foreign_header c = λ r p m ok.
 pub returns-clause-answer : goal.returns-clause-answer
 returns-clause-answer c = λ ne.
     let cx = c.args.self.now.scope.maker in
-    let e = c.orphan_check_trait_ref.ensures.answer (exactly RefusedGrowth plain)
+    let e = c.orphan_check_trait_ref.ensures.answer (exactly refused_growth refl plain)
     (record { at = λ f x t a f' x' q g i b n v. let k = n.called in let l = n.lends in let m = n.leaves in search rules; values = λ f x t q g. refl }) (told _ ne) in
     sym (ap bare_answer e.answer)
     ∙ plain_answer _ (world cx) cx.local.0 c.args.in_crate 256 (λ s t. t) _ (args_forest cx.trees c.args.trait_ref.args) (all-resolved _)

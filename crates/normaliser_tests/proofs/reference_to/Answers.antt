@@ -1,0 +1,14 @@
+use Rattle.candidate_ir.proofs.Kept.{ty-kept}
+use Rattle.normaliser_tests.proofs.Made.{reference-is}
+use Rattle.normaliser_tests.proofs.reference_to.Goals as goal
+
+pub mk_ty-requires : goal.mk_ty-requires
+mk_ty-requires c =
+    let region = c.in_ok-region.ensures.sort in
+    let type = (ty-kept _ _ c.args.ty c.mk_region.ensures.kept c.requires).0 in
+    cc
+
+pub returns-clause-tree : goal.returns-clause-tree
+returns-clause-tree c =
+    reference-is _ _ _ c.in_ok-region.region c.args.ty c.mk_ty.result c.mk_region.ensures.kept c.requires c.in_ok-region.ensures.sort c.in_ok-region.ensures.tree
+    c.mk_ty.ensures.tree
