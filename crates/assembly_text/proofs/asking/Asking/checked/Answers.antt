@@ -6,7 +6,7 @@ use Rattle.candidate_eval.specs.Orphan.{plain, bare_answer}
 use Rattle.candidate_eval.proofs.Lowering.{plain_answer}
 use Rattle.candidate_eval.specs.Normalizer.{exactly, refused_growth}
 use Rattle.candidate_eval.proofs.Resolved.{all-resolved}
-use Rattle.candidate_eval.proofs.Told.{told}
+use Rattle.candidate_eval.proofs.Calls.{told-unless-refused}
 use Rattle.assembly_text.proofs.asking.Asking.checked.Goals as goal
 
 pub returns-clause-no_foreign_header : goal.returns-clause-no_foreign_header
@@ -22,6 +22,6 @@ pub returns-clause-answer : goal.returns-clause-answer
 returns-clause-answer c = λ ne.
     let cx = c.args.self.now.scope.maker in
     let e = c.orphan_check_trait_ref.ensures.answer (exactly refused_growth refl plain)
-    (record { at = λ f x t a f' x' q g i b n v. let k = n.called in let l = n.lends in let m = n.leaves in search rules; values = λ f x t q g. refl }) (told _ ne) in
+    (record { at = λ f x t a f' x' q g i b n v. let k = n.called in let l = n.lends in let m = n.leaves in search rules; values = λ f x t q g. refl }) (told-unless-refused _ ne) in
     sym (ap bare_answer e.answer)
     ∙ plain_answer _ (world cx) cx.local.0 c.args.in_crate 256 (λ s t. t) _ (args_forest cx.trees c.args.trait_ref.args) (all-resolved _)
