@@ -1,8 +1,9 @@
 //! The orphan check.
 
-ghost use Rattle.std.specs.Prelude.{◌≡◌, ◌≢◌, ℕ, List, false, IfOk, IfSome};
+ghost use Rattle.std.specs.Prelude.{◌≡◌, ◌≢◌, ◌||◌, ℕ, List, false, not, IfOk, IfSome, IsTrue};
 ghost use Rattle.candidate_ir.specs.Context.{Grows, world};
-ghost use Rattle.candidate_ir.specs.Trees.{Tree};
+ghost use Rattle.candidate_ir.specs.Flags.{mark};
+ghost use Rattle.candidate_ir.specs.Trees.{Tree, holds, is_alias};
 ghost use Rattle.candidate_ir.specs.Words.{IsTy, IsArgs, args_forest};
 ghost use Rattle.candidate_eval.specs.Orphan.{view, Passes, Entry, NonLocalInput, local_or_fundamental};
 ghost use Rattle.candidate_eval.specs.Normalizer.{Description, IsUntold, IsTold, StopsWith, MayNormalize, KeepsNumbers, IsFunction, IsLeftByCalls, IsChangedByCalls};
@@ -15,6 +16,7 @@ ghost use Rattle.candidate_eval.specs.Second.{IsSecond};
 use crate::eval::InferCtxtLike;
 use crate::walk::{EarlyExit, Walk, visit_args};
 use candidate_ir::decl::Cx;
+use candidate_ir::ir::heads::Flag;
 use candidate_ir::ir::kinds::{Args, TraitRef, Ty};
 use candidate_ir::ir::stop::Stop;
 use std::alloc::Global;
@@ -242,6 +244,16 @@ pub fn trait_ref_is_local_or_fundamental(cx: &Cx, trait_ref: TraitRef) -> bool
     ensures { result ≡ local_or_fundamental (world cx.now) cx.now.local.0 trait_ref.def_id.0 }
 {
     cx.trait_is_local(trait_ref.def_id) || cx.trait_is_fundamental(trait_ref.def_id)
+}
+
+/// Whether neither an alias nor an error stands anywhere in the reference: the test, at run time, of
+/// what the promises on headers ask of one. An error region is refused too, though they don't ask it.
+pub fn trait_ref_is_plain(cx: &Cx, trait_ref: TraitRef) -> bool
+    requires { IsArgs cx.now.trees trait_ref.args }
+    ensures exact { result ≡ not (holds is_alias (args_forest cx.now.trees trait_ref.args) || holds (mark Flag.Error) (args_forest cx.now.trees trait_ref.args)) }
+    ensures plain { IsTrue result → HasNoAliasOrError cx.now trait_ref }
+{
+    !cx.args_have(trait_ref.args, Flag::Alias) && !cx.args_have(trait_ref.args, Flag::Error)
 }
 
 /// Who may write impls of a reference that aren't known here.

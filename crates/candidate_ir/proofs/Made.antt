@@ -1,13 +1,20 @@
--- What stays of nodes that were made, while a context grows.
-use Rattle.std.proofs.Common.{◌≡◌, ℕ, zero, suc, ◌+◌, ◌<◌, List, [], ◌∷◌, ◌++◌, length, get_or, refl, sym, ◌∙◌, subst, arith}
+-- What is known of nodes that were made, and stays while a context grows.
+use Rattle.std.proofs.Common.{◌≡◌, ℕ, zero, suc, ◌+◌, ◌<◌, List, [], ◌∷◌, ◌++◌, length, get_or, Some, refl, sym, ◌∙◌, ap, subst, arith}
 use Rattle.std.specs.Prelude.{map, Bool, true, false, ◌||◌, cond, count_by}
 use Rattle.std.proofs.lemmas.List.Sums.{sum_by_push}
 use Rattle.std.proofs.lemmas.List.Elements.{All-push, All-weaker}
-use Rattle.candidate_ir.specs.Trees.{Kind, Tree}
+use Rattle.candidate_ir.specs.Trees.{Kind, TypeKind, ConstantKind, RegionKind, Forest, none, Tree, is_list_kind, row, holds, tree_holds}
 use Rattle.candidate_ir.specs.Kinds.{numbers, sorts, arg_child}
-use Rattle.candidate_ir.specs.Nodes.{kind_at}
-use Rattle.candidate_ir.specs.Context.{Context, Grows}
-use Rattle.candidate_ir.specs.Words.{IsTy, IsConst, IsArgs, IsPreds, IsPred, IsVars, ListFits, PredListFits, PredFits, BoundsFit, names_trait}
+use Rattle.candidate_ir.specs.Nodes.{kind_at, tree_at}
+use Rattle.candidate_ir.specs.Context.{Context, Grows, world}
+use Rattle.candidate_ir.specs.References.{IsReference, IsWellFormed, Takes}
+use Rattle.candidate_ir.specs.Words.{IsTy, IsConst, IsRegion, IsArgs, IsPreds, IsPred, IsVars, ListFits, PredListFits, PredFits, BoundsFit, names_trait, ty_tree, const_tree, region_tree, args_forest, list_forest, kind_tree}
+use Rattle.candidate_ir.specs.Worlds.{World, AdtSort, TraitSort, parameters, joined, kinds_of}
+use Rattle.candidate_ir.specs.declared.ir.heads.Head.{Head}
+use Rattle.candidate_ir.specs.declared.ir.heads.Head.TheVariants as H
+use Rattle.candidate_ir.specs.declared.ir.kinds.AdtId.{AdtId}
+use Rattle.candidate_ir.specs.declared.ir.kinds.TraitRef.{TraitRef}
+use Rattle.candidate_ir.specs.declared.ir.kinds.TyKind.TheVariants as K
 use Rattle.candidate_ir.specs.declared.ir.kinds.Args.{Args}
 use Rattle.candidate_ir.specs.declared.ir.kinds.Const.{Const}
 use Rattle.candidate_ir.specs.declared.ir.kinds.Vars.{Vars}
@@ -19,7 +26,10 @@ use Rattle.candidate_ir.specs.declared.ir.node.Node.TheVariants as N
 use Rattle.candidate_ir.specs.declared.ir.kinds.Ty.{Ty}
 use Rattle.candidate_ir.specs.declared.ir.kinds.GenericArg.{GenericArg}
 use Rattle.candidate_ir.specs.declared.ir.kinds.GenericArg.TheVariants as A
+use Rattle.candidate_ir.proofs.Kept.{world-kept}
 use Rattle.candidate_ir.proofs.Lists.{there, all_there, kind_at-append, below_kind, kinds_at-append, Below-there, Fits-append}
+use Rattle.candidate_ir.proofs.References.{is-reference}
+use Rattle.candidate_ir.proofs.Rows.{row-list, row-single, join-none, kind-of}
 
 -- a number that has a kind keeps it
 pub kind_at-grows : (a b : Context) (n : ℕ) (k : Kind) → Grows a b → there k ≡ true → kind_at a.trees n ≡ k → kind_at b.trees n ≡ k
@@ -108,3 +118,73 @@ pub one_if-or : (a b : Bool) → (a ≡ true → b ≡ false) → one_if a + one
 one_if-or true b h = let e : b ≡ false = h refl in rw e refl
 one_if-or false true h = refl
 one_if-or false false h = refl
+
+one-more : (ts : List Tree) (n : ℕ) (k : Kind) (xs : List GenericArg) → there k ≡ true → is_list_kind k ≡ false → kind_at ts n ≡ k
+    → {ks : List Kind} → kinds_of (list_forest ts xs) ≡ ks → kinds_of (row (tree_at ts n) (list_forest ts xs)) ≡ k ∷ ks
+one-more ts n k xs h l i e =
+    ap kinds_of (row-single ts n k (list_forest ts xs) h l i)
+    ∙ (ap (λ (j : Kind). j ∷ kinds_of (list_forest ts xs)) (kind-of ts n k h i) ∙ ap (λ (js : List Kind). k ∷ js) e)
+
+or-three : (a b c : Bool) → a || b ≡ false → c ≡ false → a || (b || c) ≡ false
+or-three true b c e f = e
+or-three false b c e f = rw e f
+
+lacks-more : (m : Head → Bool) (ts : List Tree) (n : ℕ) (k : Kind) (xs : List GenericArg) → there k ≡ true → is_list_kind k ≡ false → kind_at ts n ≡ k
+    → tree_holds m (tree_at ts n) ≡ false → holds m (list_forest ts xs) ≡ false → holds m (row (tree_at ts n) (list_forest ts xs)) ≡ false
+lacks-more m ts n k xs h l i e f =
+    ap (holds m) (row-single ts n k (list_forest ts xs) h l i)
+    ∙ or-three (m (tree_at ts n).head) (holds m (tree_at ts n).children) (holds m (list_forest ts xs)) e f
+
+-- a list that fits has the kinds of its arguments
+pub list-kinds : (ts : List Tree) (xs : List GenericArg) → ListFits ts xs → kinds_of (list_forest ts xs) ≡ sorts (map arg_child xs)
+list-kinds ts [] e = refl
+list-kinds ts (A.Ty t ∷ xs) e = let i : IsTy ts t = cc in let f : ListFits ts xs = cc in one-more ts t.0 TypeKind xs refl refl i (list-kinds ts xs f)
+list-kinds ts (A.Const t ∷ xs) e = let i : IsConst ts t = cc in let f : ListFits ts xs = cc in one-more ts t.0 ConstantKind xs refl refl i (list-kinds ts xs f)
+list-kinds ts (A.Region t ∷ xs) e = let i : IsRegion ts t = cc in let f : ListFits ts xs = cc in one-more ts t.0 RegionKind xs refl refl i (list-kinds ts xs f)
+
+-- a list that was made has them still
+pub made-kinds : (old new : Context) (a : Args) (xs : List GenericArg) → ListFits old.trees xs → args_forest new.trees a ≡ list_forest old.trees xs
+    → kinds_of (args_forest new.trees a) ≡ sorts (map arg_child xs)
+made-kinds old new a xs f e = ap kinds_of e ∙ list-kinds old.trees xs f
+
+below-adt : (ts : List Tree) (a : Args) → IsArgs ts a → row (tree_at ts a.0) none ≡ args_forest ts a
+below-adt ts a i = row-list ts a.0 _ none refl refl i ∙ join-none (args_forest ts a)
+
+-- a data type over a list with the kinds of its parameters takes it
+pub adt-takes : (old new : Context) (d : AdtId) (a : Args) (xs : List GenericArg)
+    → Grows old new → ListFits old.trees xs → IsArgs new.trees a → args_forest new.trees a ≡ list_forest old.trees xs
+    → parameters (world old) AdtSort d.0 ≡ Some (sorts (map arg_child xs))
+    → Takes (world new) (kind_tree new.trees (K.Adt d a))
+adt-takes old new d a xs g f i e p =
+    λ l. subst (λ (x : Forest). parameters (world new) AdtSort d.0 ≡ Some (kinds_of x)) (sym (below-adt new.trees a i))
+    (ap (λ (w : World). parameters w AdtSort d.0) (world-kept old new g).0 ∙ (p ∙ ap Some (sym (made-kinds old new a xs f e))))
+
+-- a trait with a list of the kinds of `Self` and its parameters is a reference
+pub reference-made : (old new : Context) (r : TraitRef) (xs : List GenericArg)
+    → Grows old new → IsWellFormed new → ListFits old.trees xs → IsArgs new.trees r.args → args_forest new.trees r.args ≡ list_forest old.trees xs
+    → joined (Some (TypeKind ∷ [])) (parameters (world old) TraitSort r.def_id.0) ≡ Some (sorts (map arg_child xs))
+    → IsReference new r
+reference-made old new r xs g w f i e p =
+    is-reference new r w i
+    (ap (λ (x : World). joined (Some (TypeKind ∷ [])) (parameters x TraitSort r.def_id.0)) (world-kept old new g).0
+    ∙ (p ∙ ap Some (sym (made-kinds old new r.args xs f e))))
+
+-- none of the arguments holds the mark
+abbrev pub ListLacks : (Head → Bool) → List Tree → List GenericArg → Type 0
+ListLacks m ts [] = Unit {0}
+ListLacks m ts (A.Ty t ∷ xs) = (tree_holds m (ty_tree ts t) ≡ false) × ListLacks m ts xs
+ListLacks m ts (A.Const t ∷ xs) = (tree_holds m (const_tree ts t) ≡ false) × ListLacks m ts xs
+ListLacks m ts (A.Region t ∷ xs) = (tree_holds m (region_tree ts t) ≡ false) × ListLacks m ts xs
+
+-- then their row doesn't
+pub list-lacks : (m : Head → Bool) (ts : List Tree) (xs : List GenericArg) → ListFits ts xs → ListLacks m ts xs → holds m (list_forest ts xs) ≡ false
+list-lacks m ts [] f l = refl
+list-lacks m ts (A.Ty t ∷ xs) e l = let i : IsTy ts t = cc in let f : ListFits ts xs = cc in lacks-more m ts t.0 TypeKind xs refl refl i l.0 (list-lacks m ts xs f l.1)
+list-lacks m ts (A.Const t ∷ xs) e l = let i : IsConst ts t = cc in let f : ListFits ts xs = cc in lacks-more m ts t.0 ConstantKind xs refl refl i l.0 (list-lacks m ts xs f l.1)
+list-lacks m ts (A.Region t ∷ xs) e l = let i : IsRegion ts t = cc in let f : ListFits ts xs = cc in lacks-more m ts t.0 RegionKind xs refl refl i l.0 (list-lacks m ts xs f l.1)
+
+-- nor does a data type over what doesn't hold it, if its own head hasn't got it
+pub adt-lacks : (m : Head → Bool) (ts : List Tree) (d : AdtId) (a : Args) → IsArgs ts a → m (H.Adt d) ≡ false
+    → holds m (args_forest ts a) ≡ false → tree_holds m (kind_tree ts (K.Adt d a)) ≡ false
+adt-lacks m ts d a i e f =
+    ap (λ (b : Bool). b || holds m (row (tree_at ts a.0) none)) e ∙ (ap (holds m) (below-adt ts a i) ∙ f)
