@@ -2,6 +2,9 @@
 //! asks whether the local one may write an impl of it.
 #![tactic(auto)]
 
+#[cfg(test)]
+mod tests;
+
 ghost use Rattle.std.specs.Prelude.{◌≡◌, IfOk, Ok, Some, [], ◌∷◌, map, true};
 ghost use Rattle.candidate_ir.specs.Context.{Grows, world};
 ghost use Rattle.candidate_ir.specs.Kinds.{arg_child, sorts};
@@ -40,11 +43,21 @@ pub fn declare(alloc: Global) -> Result<Declared, DeclFault>
     let upstream = builder.add_crate()?;
     let local = builder.add_crate()?;
     builder.set_local(local);
-    let vec = builder.add_adt(upstream, AdtShape::Struct, &[VarKind::Ty], AdtFlags::default())?;
+    let vec = builder.add_adt(
+        upstream,
+        AdtShape::Struct,
+        &[VarKind::Ty],
+        AdtFlags::default(),
+    )?;
     let local_type = builder.add_adt(local, AdtShape::Struct, &[], AdtFlags::default())?;
     let from = builder.add_trait(upstream, &[VarKind::Ty], TraitFlags::default())?;
     let cx = Cx::new(builder.finish()?);
-    Ok(Declared { cx, vec, local_type, from })
+    Ok(Declared {
+        cx,
+        vec,
+        local_type,
+        from,
+    })
 }
 
 /// The data type with these arguments, which have the kinds of its parameters.
@@ -86,7 +99,11 @@ pub fn vec_from_local(declared: &mut Declared) -> Result<TraitRef, Stop>
     let cx = &mut declared.cx;
     let local = adt(cx, declared.local_type, &[])?;
     let vec = adt(cx, declared.vec, &[GenericArg::Ty(local)])?;
-    reference(cx, declared.from, &[GenericArg::Ty(vec), GenericArg::Ty(local)])
+    reference(
+        cx,
+        declared.from,
+        &[GenericArg::Ty(vec), GenericArg::Ty(local)],
+    )
 }
 
 /// Whether the local crate may write an impl of the reference, where nothing has to be normalised.
@@ -101,7 +118,9 @@ pub fn may_write(alloc: Global, cx: &mut Cx, trait_ref: TraitRef) -> Result<bool
     if cx.has_param(trait_ref) || !trait_ref_is_plain(cx, trait_ref) {
         return Ok(false);
     }
-    let in_crate = InCrate::Local { mode: OrphanCheckMode::Proper };
+    let in_crate = InCrate::Local {
+        mode: OrphanCheckMode::Proper,
+    };
     let checked = orphan_check_trait_ref(
         alloc,
         cx,
