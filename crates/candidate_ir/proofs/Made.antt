@@ -7,13 +7,13 @@ use Rattle.candidate_ir.specs.Trees.{Kind, TypeKind, ConstantKind, RegionKind, F
 use Rattle.candidate_ir.specs.Kinds.{numbers, sorts, arg_child}
 use Rattle.candidate_ir.specs.Nodes.{kind_at, tree_at}
 use Rattle.candidate_ir.specs.Context.{Context, Grows, world}
-use Rattle.candidate_ir.specs.References.{IsReference, IsWellFormed, Takes}
+use Rattle.candidate_ir.specs.References.{Takes}
 use Rattle.candidate_ir.specs.Words.{IsTy, IsConst, IsRegion, IsArgs, IsPreds, IsPred, IsVars, ListFits, PredListFits, PredFits, BoundsFit, names_trait, ty_tree, const_tree, region_tree, args_forest, list_forest, kind_tree}
 use Rattle.candidate_ir.specs.Worlds.{World, AdtSort, TraitSort, parameters, joined, kinds_of}
 use Rattle.candidate_ir.specs.declared.ir.heads.Head.{Head}
 use Rattle.candidate_ir.specs.declared.ir.heads.Head.TheVariants as H
 use Rattle.candidate_ir.specs.declared.ir.kinds.AdtId.{AdtId}
-use Rattle.candidate_ir.specs.declared.ir.kinds.TraitRef.{TraitRef}
+use Rattle.candidate_ir.specs.declared.ir.kinds.TraitId.{TraitId}
 use Rattle.candidate_ir.specs.declared.ir.kinds.TyKind.TheVariants as K
 use Rattle.candidate_ir.specs.declared.ir.kinds.Args.{Args}
 use Rattle.candidate_ir.specs.declared.ir.kinds.Const.{Const}
@@ -26,9 +26,9 @@ use Rattle.candidate_ir.specs.declared.ir.node.Node.TheVariants as N
 use Rattle.candidate_ir.specs.declared.ir.kinds.Ty.{Ty}
 use Rattle.candidate_ir.specs.declared.ir.kinds.GenericArg.{GenericArg}
 use Rattle.candidate_ir.specs.declared.ir.kinds.GenericArg.TheVariants as A
-use Rattle.candidate_ir.proofs.Kept.{world-kept}
+use Rattle.candidate_ir.proofs.Kept.{world-kept, grows-trans}
 use Rattle.candidate_ir.proofs.Lists.{there, all_there, kind_at-append, below_kind, kinds_at-append, Below-there, Fits-append}
-use Rattle.candidate_ir.proofs.References.{is-reference}
+use Rattle.candidate_ir.proofs.References.{args-fit}
 use Rattle.candidate_ir.proofs.Rows.{row-list, row-single, join-none, kind-of}
 
 -- a number that has a kind keeps it
@@ -159,15 +159,14 @@ adt-takes old new d a xs g f i e p =
     λ l. subst (λ (x : Forest). parameters (world new) AdtSort d.0 ≡ Some (kinds_of x)) (sym (below-adt new.trees a i))
     (ap (λ (w : World). parameters w AdtSort d.0) (world-kept old new g).0 ∙ (p ∙ ap Some (sym (made-kinds old new a xs f e))))
 
--- a trait with a list of the kinds of `Self` and its parameters is a reference
-pub reference-made : (old new : Context) (r : TraitRef) (xs : List GenericArg)
-    → Grows old new → IsWellFormed new → ListFits old.trees xs → IsArgs new.trees r.args → args_forest new.trees r.args ≡ list_forest old.trees xs
-    → joined (Some (TypeKind ∷ [])) (parameters (world old) TraitSort r.def_id.0) ≡ Some (sorts (map arg_child xs))
-    → IsReference new r
-reference-made old new r xs g w f i e p =
-    is-reference new r w i
-    (ap (λ (x : World). joined (Some (TypeKind ∷ [])) (parameters x TraitSort r.def_id.0)) (world-kept old new g).0
-    ∙ (p ∙ ap Some (sym (made-kinds old new r.args xs f e))))
+-- a trait with a list of the kinds of `Self` and its parameters takes it
+pub reference-takes : (old new : Context) (d : TraitId) (a : Args) (xs : List GenericArg)
+    → Grows old new → ListFits old.trees xs → args_forest new.trees a ≡ list_forest old.trees xs
+    → joined (Some (TypeKind ∷ [])) (parameters (world old) TraitSort d.0) ≡ Some (sorts (map arg_child xs))
+    → joined (Some (TypeKind ∷ [])) (parameters (world new) TraitSort d.0) ≡ Some (kinds_of (args_forest new.trees a))
+reference-takes old new d a xs g f e p =
+    ap (λ (x : World). joined (Some (TypeKind ∷ [])) (parameters x TraitSort d.0)) (world-kept old new g).0
+    ∙ (p ∙ ap Some (sym (made-kinds old new a xs f e)))
 
 -- none of the arguments holds the mark
 abbrev pub ListLacks : (Head → Bool) → List Tree → List GenericArg → Type 0
@@ -188,3 +187,6 @@ pub adt-lacks : (m : Head → Bool) (ts : List Tree) (d : AdtId) (a : Args) → 
     → holds m (args_forest ts a) ≡ false → tree_holds m (kind_tree ts (K.Adt d a)) ≡ false
 adt-lacks m ts d a i e f =
     ap (λ (b : Bool). b || holds m (row (tree_at ts a.0) none)) e ∙ (ap (holds m) (below-adt ts a i) ∙ f)
+
+-- what a caller names that makes data types and references of them
+pub ruleset making = (adt-takes, reference-takes, args-fit, IsTy-grows, grows-trans)

@@ -2,6 +2,7 @@
 use Rattle.std.proofs.Common.{◌≡◌, ℕ, zero, suc, ◌<◌, List, [], ◌∷◌, ◌++◌, length, get_or, Bool, true, false, Some, refl, sym, ◌∙◌, ap, subst, arith}
 use Rattle.std.specs.Prelude.{Result, Ok, Err, IfOk, IfErr, map}
 use Rattle.candidate_ir.specs.declared.ir.kinds.VarKind.{VarKind}
+use Rattle.candidate_ir.specs.declared.ir.kinds.Args.{Args}
 use Rattle.candidate_ir.specs.declared.ir.kinds.TraitRef.{TraitRef}
 use Rattle.candidate_ir.specs.declared.ir.node.Node.{Node}
 use Rattle.candidate_ir.specs.declared.ir.stop.Stop.{Stop}
@@ -11,7 +12,7 @@ use Rattle.candidate_ir.specs.Kinds.{numbers}
 use Rattle.candidate_ir.specs.Nodes.{rows, node_of, node_tree, head_of, children_of, tree_at, trees_at}
 use Rattle.candidate_ir.specs.Worlds.{World, Reference, IsOf, Fits, child_kinds, kinds_of, parameters, TraitSort, joined, all_of}
 use Rattle.candidate_ir.specs.Context.{Context, Grows, world}
-use Rattle.candidate_ir.specs.Words.{IsArgs, var_kind_tree}
+use Rattle.candidate_ir.specs.Words.{IsArgs, args_forest, var_kind_tree}
 use Rattle.candidate_ir.specs.References.{reference_of, IsReference, Takes, AllTake, FitsAmong, AllFit, IsWellFormed}
 use Rattle.candidate_ir.proofs.Kept.{args-kept, world-kept}
 use Rattle.candidate_ir.proofs.Rows.{join-none, row-list}
@@ -87,11 +88,15 @@ variables-take w h ts ks e c =
     λ l. c ∙ ap Some (ap (λ (us : List Tree). all_of VariableKind (kinds_of (rows us))) e
     ∙ (variable-kinds ks ∙ ap (λ (us : List Tree). kinds_of (rows us)) (sym e)))
 
--- in a well-formed context, what takes its arguments is a reference
+-- the members of a list of a well-formed context fit what it declares
+pub args-fit : (c : Context) (a : Args) → IsWellFormed c → IsArgs c.trees a → Fits (world c) (args_forest c.trees a)
+args-fit c a f i =
+    let members : row (tree_at c.trees a.0) none ≡ join (tree_at c.trees a.0).children none =
+    row-list c.trees a.0 _ none refl refl i in
+    subst (Fits (world c)) (members ∙ join-none (tree_at c.trees a.0).children) (fit-at (world c) c.trees f a.0)
+
+-- so what takes its arguments is a reference
 pub is-reference : (c : Context) (r : TraitRef) → IsWellFormed c → IsArgs c.trees r.args
     → joined (Some (TypeKind ∷ [])) (parameters (world c) TraitSort r.def_id.0) ≡ Some (kinds_of (reference_of c.trees r).arguments)
     → IsReference c r
-is-reference c r f i e =
-    let members : row (tree_at c.trees r.args.0) none ≡ join (tree_at c.trees r.args.0).children none =
-    row-list c.trees r.args.0 _ none refl refl i in
-    record { takes = e; fits = subst (Fits (world c)) (members ∙ join-none (tree_at c.trees r.args.0).children) (fit-at (world c) c.trees f r.args.0) }
+is-reference c r f i e = record { takes = e; fits = args-fit c r.args f i }

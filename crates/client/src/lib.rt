@@ -1,6 +1,9 @@
-//! A small client of the two libraries: some declarations, a reference over them, and two questions
-//! about it, each with what its answer promises.
+//! A small client of the two libraries: it declares two crates, makes a reference over them, and
+//! asks whether the local one may write an impl of it.
 #![tactic(auto)]
+
+#[cfg(test)]
+mod tests;
 
 ghost use Rattle.std.specs.Prelude.{◌≡◌, IfOk, Ok, Some, [], ◌∷◌, map, true};
 ghost use Rattle.candidate_ir.specs.Context.{Grows, world};
@@ -8,7 +11,7 @@ ghost use Rattle.candidate_ir.specs.Kinds.{arg_child, sorts};
 ghost use Rattle.candidate_ir.specs.References.{IsReference, IsWellFormed};
 ghost use Rattle.candidate_ir.specs.Trees.{TypeKind};
 ghost use Rattle.candidate_ir.specs.Words.{IsTy, IsArgs, ListFits};
-ghost use Rattle.candidate_ir.specs.Worlds.{AdtSort, TraitSort, parameters};
+ghost use Rattle.candidate_ir.specs.Worlds.{AdtSort, TraitSort, joined, parameters};
 ghost use Rattle.candidate_eval.specs.Calls.{NoForeignHeaderHere};
 
 use candidate_eval::coherence::{
@@ -20,35 +23,46 @@ use candidate_ir::ir::stop::Stop;
 use std::alloc::Global;
 use std::convert::Infallible;
 
-/// The context, and the numbers of what it declares.
+/// A context that declares `Vec<T>` and `From<T>` in a crate above, and `LocalType` in the local one.
 #[derive(Drop)]
 pub struct Declared {
     pub cx: Cx,
     pub vec: AdtId,
     pub local_type: AdtId,
     pub from: TraitId,
+    pub ghost of_vec: { parameters (world cx) AdtSort vec.0 ≡ Some (TypeKind ∷ []) },
+    pub ghost of_local_type: { parameters (world cx) AdtSort local_type.0 ≡ Some [] },
+    pub ghost of_from: { parameters (world cx) TraitSort from.0 ≡ Some (TypeKind ∷ []) },
 }
 
-/// `Vec<T>` and `From<T>` of a crate above, and `LocalType` of the local crate.
+/// Declares them. A number is that of its definition for good.
 pub fn declare(alloc: Global) -> Result<Declared, DeclFault>
-    ensures well_formed { IfOk result (λ d. IsWellFormed d.cx) }
-    ensures vec { IfOk result (λ d. parameters (world d.cx) AdtSort d.vec.0 ≡ Some (TypeKind ∷ [])) }
-    ensures local_type { IfOk result (λ d. parameters (world d.cx) AdtSort d.local_type.0 ≡ Some []) }
-    ensures from { IfOk result (λ d. parameters (world d.cx) TraitSort d.from.0 ≡ Some (TypeKind ∷ [])) }
+    ensures { IfOk result (λ d. IsWellFormed d.cx) }
 {
     let mut builder = DeclsBuilder::new(alloc);
     let upstream = builder.add_crate()?;
     let local = builder.add_crate()?;
     builder.set_local(local);
-    let vec = builder.add_adt(upstream, AdtShape::Struct, &[VarKind::Ty], AdtFlags::default())?;
+    let vec = builder.add_adt(
+        upstream,
+        AdtShape::Struct,
+        &[VarKind::Ty],
+        AdtFlags::default(),
+    )?;
     let local_type = builder.add_adt(local, AdtShape::Struct, &[], AdtFlags::default())?;
     let from = builder.add_trait(upstream, &[VarKind::Ty], TraitFlags::default())?;
     let cx = Cx::new(builder.finish()?);
-    Ok(Declared { cx, vec, local_type, from })
+    Ok(Declared {
+        cx,
+        vec,
+        local_type,
+        from,
+    })
 }
 
 /// The data type with these arguments, which have the kinds of its parameters.
-pub fn adt(cx: &mut Cx, id: AdtId, list: &[GenericArg]) -> Result<Ty, Stop>
+#[tactic(auto, using(candidate_ir::proofs::Made::making))]
+fn adt(cx: &mut Cx, id: AdtId, list: &[GenericArg]) -> Result<Ty, Stop>
     requires well_formed { IsWellFormed cx.old }
     requires list { ListFits cx.old.trees list.now }
     requires kinds { parameters (world cx.old) AdtSort id.0 ≡ Some (sorts (map arg_child list.now)) }
@@ -60,34 +74,53 @@ pub fn adt(cx: &mut Cx, id: AdtId, list: &[GenericArg]) -> Result<Ty, Stop>
     cx.mk_ty(TyKind::Adt(id, args))
 }
 
-/// `Vec<LocalType>: From<LocalType>`.
-pub fn vec_from_local(declared: &mut Declared) -> Result<TraitRef, Stop>
-    requires well_formed { IsWellFormed declared.old.cx }
-    requires vec { parameters (world declared.old.cx) AdtSort declared.old.vec.0 ≡ Some (TypeKind ∷ []) }
-    requires local_type { parameters (world declared.old.cx) AdtSort declared.old.local_type.0 ≡ Some [] }
-    requires from { parameters (world declared.old.cx) TraitSort declared.old.from.0 ≡ Some (TypeKind ∷ []) }
-    ensures reference { IfOk result (λ r. IsReference declared.new.cx r) }
-    ensures args { IfOk result (λ r. IsArgs declared.new.cx.trees r.args) }
+/// The trait with these arguments, which have the kinds of `Self` and its parameters.
+#[tactic(auto, using(candidate_ir::proofs::Made::making))]
+fn reference(cx: &mut Cx, def_id: TraitId, list: &[GenericArg]) -> Result<TraitRef, Stop>
+    requires well_formed { IsWellFormed cx.old }
+    requires list { ListFits cx.old.trees list.now }
+    requires kinds { joined (Some (TypeKind ∷ [])) (parameters (world cx.old) TraitSort def_id.0) ≡ Some (sorts (map arg_child list.now)) }
+    ensures grows { Grows cx.old cx.new }
+    ensures well_formed { IsWellFormed cx.new }
+    ensures sort { IfOk result (λ r. IsArgs cx.new.trees r.args) }
+    ensures reference { IfOk result (λ r. IsReference cx.new r) }
 {
-    let local = adt(&mut declared.cx, declared.local_type, &[])?;
-    let vec = adt(&mut declared.cx, declared.vec, &[GenericArg::Ty(local)])?;
-    let args = declared.cx.mk_args(&[GenericArg::Ty(vec), GenericArg::Ty(local)])?;
-    Ok(TraitRef { def_id: declared.from, args })
+    let args = cx.mk_args(list)?;
+    Ok(TraitRef { def_id, args })
 }
 
-/// Whether the local crate may write an impl of the reference.
+/// `Vec<LocalType>: From<LocalType>`.
+#[tactic(auto, using(candidate_ir::proofs::Made::making))]
+pub fn vec_from_local(declared: &mut Declared) -> Result<TraitRef, Stop>
+    requires { IsWellFormed declared.old.cx }
+    ensures sort { IfOk result (λ r. IsArgs declared.new.cx.trees r.args) }
+    ensures reference { IfOk result (λ r. IsReference declared.new.cx r) }
+{
+    let cx = &mut declared.cx;
+    let local = adt(cx, declared.local_type, &[])?;
+    let vec = adt(cx, declared.vec, &[GenericArg::Ty(local)])?;
+    reference(
+        cx,
+        declared.from,
+        &[GenericArg::Ty(vec), GenericArg::Ty(local)],
+    )
+}
+
+/// Whether the local crate may write an impl of the reference, where nothing has to be normalised.
 ///
-/// Where the answer is yes, no header that another crate may write overlaps it, in any program that
-/// has these declarations, where neither crate names the other.
+/// After a yes no header overlaps it that another crate may write, in any program with these
+/// declarations, if neither crate names the other. A parameter, an alias or an error is a no.
 pub fn may_write(alloc: Global, cx: &mut Cx, trait_ref: TraitRef) -> Result<bool, Stop>
-    requires args { IsArgs cx.old.trees trait_ref.args }
+    requires sort { IsArgs cx.old.trees trait_ref.args }
     requires reference { IsReference cx.old trait_ref }
     ensures { result ≡ Ok true → NoForeignHeaderHere cx.old trait_ref }
 {
     if cx.has_param(trait_ref) || !trait_ref_is_plain(cx, trait_ref) {
         return Ok(false);
     }
-    let in_crate = InCrate::Local { mode: OrphanCheckMode::Proper };
+    let in_crate = InCrate::Local {
+        mode: OrphanCheckMode::Proper,
+    };
     let checked = orphan_check_trait_ref(
         alloc,
         cx,
@@ -96,7 +129,8 @@ pub fn may_write(alloc: Global, cx: &mut Cx, trait_ref: TraitRef) -> Result<bool
         |_, ty| -> Result<Ty, NormalizeErr<Infallible>> { Ok(ty) },
     );
     match checked {
-        Ok(answer) => Ok(answer.is_ok()),
+        Ok(Ok(())) => Ok(true),
+        Ok(Err(_)) => Ok(false),
         Err(OrphanStop::Stop(stop)) => Err(stop),
         Err(OrphanStop::Normalize(never)) => match never {},
     }

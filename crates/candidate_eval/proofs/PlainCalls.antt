@@ -1,0 +1,42 @@
+-- What makes a call a plain one. A caller that hands in `|_, ty| Ok(ty)` over a `Cx` answers with
+--     answers-its-input (λ by lent left t answer next k. search rules) REFERENCE
+-- where REFERENCE says that the reference is one of the context.
+use Rattle.std.proofs.Common.{◌≡◌, refl, sym, ◌∙◌}
+use Rattle.std.specs.Prelude.{Result, Ok}
+use Rattle.std.specs.Fn.{Mut, Called}
+use Rattle.std.specs.Borrow.{MutBor}
+use Rattle.candidate_ir.specs.declared.ir.kinds.Ty.{Ty}
+use Rattle.candidate_ir.specs.declared.ir.kinds.TraitRef.{TraitRef}
+use Rattle.candidate_ir.specs.Context.{Context}
+use Rattle.candidate_ir.specs.References.{IsReference}
+use Rattle.candidate_ir.specs.Trees.{Tree}
+use Rattle.candidate_ir.specs.Words.{args_forest}
+use Rattle.candidate_eval.specs.declared.coherence.NormalizeErr.{NormalizeErr}
+use Rattle.candidate_eval.specs.Laws.{AreResolved, IsPlainCall}
+use Rattle.candidate_eval.specs.Normalizer.{IsPlain}
+use Rattle.candidate_eval.proofs.Resolved.{all-resolved}
+
+-- each call answers its type, and changes neither the normaliser nor the context
+abbrev pub AnswersItsInput : {C F E : Type 0} → Mut F (MutBor C × (Ty × Unit {0})) (Result Ty (NormalizeErr E) × (MutBor C × Unit {0})) → Type 0
+AnswersItsInput {C} {F} {E} g =
+    (by : F) (lent left : MutBor C) (t : Ty) (answer : Result Ty (NormalizeErr E)) (next : F)
+    → Called g by (lent, (t, tt)) (answer, (left, tt)) next → (answer ≡ Ok t) × ((left.now ≡ lent.now) × (next ≡ by))
+
+module _ {C F E : Type 0} {context : C → Context} {resolve : C → Tree → Tree} {g : Mut F (MutBor C × (Ty × Unit {0})) (Result Ty (NormalizeErr E) × (MutBor C × Unit {0}))}
+    {f : F} {c : C} where
+  pub is-plain : AnswersItsInput g → IsPlain context g resolve f c
+  is-plain h = record {
+    at = λ by x t answer next x' q grows i small n told.
+      let p = h by n.lent n.left t answer next n.called in
+      let e : x' ≡ x = sym n.leaves ∙ (p.1.0 ∙ n.lends) in
+      rw (p.0, e, p.1.1) refl;
+    values = λ by x t q grows. refl;
+  }
+
+-- over a context in which nothing has a value
+module _ {F E : Type 0} {g : Mut F (MutBor Context × (Ty × Unit {0})) (Result Ty (NormalizeErr E) × (MutBor Context × Unit {0}))}
+    {f : F} {c : Context} {r : TraitRef} where
+  pub answers-its-input : AnswersItsInput g → IsReference c r → IsPlainCall (λ x. x) (λ _ t. t) g f c r
+  answers-its-input h i = record { normaliser = is-plain h; resolved = all-resolved (args_forest c.trees r.args); of_world = i }
+
+pub ruleset plain_calls = (answers-its-input)
