@@ -171,8 +171,7 @@ impl<'a> Asking<'a> {
     {
         self.answer.push_str("nonlocal")?;
         for (ty, is_first) in entries {
-            self.answer.push_str(" (")?;
-            self.scope.print_type(*ty, DEEPEST, &mut self.answer)?;
+            self.print_after(" (", *ty)?;
             self.answer.push_str(match is_first {
                 IsFirstInputType::Yes => ", Yes)",
                 IsFirstInputType::No => ", No)",
@@ -186,16 +185,22 @@ impl<'a> Asking<'a> {
         requires uncovered { IsTy self.old.scope.cx.trees found.now.uncovered }
         requires local { IfSome found.now.local_ty (IsTy self.old.scope.cx.trees) }
     {
-        self.answer.push_str("uncovered ")?;
-        self.scope
-            .print_type(found.uncovered, DEEPEST, &mut self.answer)?;
-        self.answer.push_str(" local ")?;
+        self.print_after("uncovered ", found.uncovered)?;
         match found.local_ty {
-            Some(ty) => self.scope.print_type(ty, DEEPEST, &mut self.answer)?,
-            None => self.answer.push_str("none")?,
+            Some(ty) => self.print_after(" local ", ty)?,
+            None => self.answer.push_str(" local none")?,
         }
         self.answer.push('\n')?;
         Ok(())
+    }
+
+    /// Adds the type after the text.
+    fn print_after(&mut self, before: &str, ty: Ty) -> Result<(), Stop>
+        requires { IsTy self.old.scope.cx.trees ty }
+        ensures { self.new.scope ≡ self.old.scope }
+    {
+        self.answer.push_str(before)?;
+        self.scope.print_type(ty, DEEPEST, &mut self.answer)
     }
 }
 

@@ -66,16 +66,14 @@ impl<'a> Lines<'a> {
     fn next_line(&mut self) -> Option<&'a [u8]> {
         let rest = self.rest?;
         self.number = self.number.saturating_add(1);
-        match rest.iter().position(|byte| *byte == b'\n') {
-            Some(end) => {
+        for (end, byte) in rest.iter().enumerate() {
+            if *byte == b'\n' {
                 self.rest = Some(&rest[end + 1..]);
-                Some(&rest[..end])
-            }
-            None => {
-                self.rest = None;
-                Some(rest)
+                return Some(&rest[..end]);
             }
         }
+        self.rest = None;
+        Some(rest)
     }
 
     /// The command of the next line that isn't passed over, and the words that follow it.
@@ -101,12 +99,10 @@ pub fn answer<'a, W: Write>(
     output: &mut W,
 ) -> Result<(), Halt<'a>> {
     let mut declaring = Declaring::new(alloc)?;
-    let Some((query, words)) = declare_all(&mut declaring, lines)? else {
-        return Ok(());
-    };
-    let mut asking = declaring.finish()?;
-    write_answer(&mut asking, query, words, output)?;
-    ask_all(&mut asking, lines, output)
+    match declare_all(&mut declaring, lines)? {
+        Some((query, words)) => ask_all(&mut declaring.finish()?, query, words, lines, output),
+        None => Ok(()),
+    }
 }
 
 /// Does what the lines before the first query ask. The result is that query, with the words that
@@ -121,23 +117,29 @@ fn declare_all<'a>(
                 declaring.declare(declaration, words)?
             }
             Some((Command::Query(query), words)) => return Ok(Some((query, words))),
-            None => return Ok(None),
+            None => break,
         }
     }
     Ok(None)
 }
 
-/// Answers the queries that are left.
+/// Answers the query, and those that are left.
 fn ask_all<'a, W: Write>(
     asking: &mut Asking<'a>,
+    mut query: Query,
+    mut words: Words<'a>,
     lines: &mut Lines<'a>,
     output: &mut W,
 ) -> Result<(), Halt<'a>> {
     for _ in 0..u64::MAX {
+        write_answer(asking, query, words, output)?;
         match lines.next_command()? {
-            Some((Command::Query(query), words)) => write_answer(asking, query, words, output)?,
+            Some((Command::Query(next), following)) => {
+                query = next;
+                words = following;
+            }
             Some((Command::Declaration(_), _)) => return Err(Halt::Line(Fault::LateDeclaration)),
-            None => return Ok(()),
+            None => break,
         }
     }
     Ok(())

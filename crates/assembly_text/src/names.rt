@@ -98,15 +98,15 @@ impl<'a> Names<'a> {
 
 /// Whether the word is a letter and then letters, digits and `_`, not too long, and no type.
 fn is_name(word: &str) -> bool {
-    word.len() <= LONGEST
-        && starts_with_letter(word)
-        && word
-            .bytes()
-            .all(|byte| byte.is_ascii_alphanumeric() || byte == b'_')
-        && crate::notation::leaf(word).is_none()
+    for byte in word.bytes() {
+        if !byte.is_ascii_alphanumeric() && byte != b'_' {
+            return false;
+        }
+    }
+    word.len() <= LONGEST && begins_with_letter(word) && crate::notation::leaf(word).is_none()
 }
 
-fn starts_with_letter(word: &str) -> bool {
+fn begins_with_letter(word: &str) -> bool {
     match word.as_bytes().first() {
         Some(byte) => byte.is_ascii_alphabetic(),
         None => false,

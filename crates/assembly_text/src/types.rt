@@ -5,14 +5,17 @@ ghost use Rattle.candidate_ir.specs.Context.{Grows};
 ghost use Rattle.candidate_ir.specs.Words.{IsTy, IsArgs, IsPreds, KindFits, ListFits, PredFits, BoundsFit, AtMostOnePrincipal, names_trait};
 ghost use Rattle.assembly_text.specs.Types.{IsChildlessHead, IsNoPrincipal};
 
+use crate::building::{
+    Constructor, Pointer, auto_bound, construct, dynamic, pointer_to, projection_bound, trait_bound,
+};
 use crate::faults::Fault;
 use crate::names::{Item, Names};
-use crate::notation::{TypeWord, leaf_word, type_word};
+use crate::notation::{TypeWord, type_word, word_of};
 use crate::words::Words;
 use candidate_ir::decl::context::Cx;
 use candidate_ir::ir::kinds::{
-    AdtId, AliasTy, Args, AssocId, Binder, ExistentialPredicate, GenericArg, InferTy, Mutability,
-    Preds, RegionKind, TraitId, TraitRef, Ty, TyKind,
+    Args, AssocId, Binder, ExistentialPredicate, GenericArg, InferTy, Preds, TraitId, TraitRef, Ty,
+    TyKind,
 };
 use candidate_ir::ir::stop::Stop;
 use std::alloc::Global;
@@ -44,22 +47,6 @@ enum Head {
     Dyn(u16),
 }
 
-/// What is made of one type.
-#[derive(Clone, Copy)]
-enum Pointer {
-    Ref(Mutability),
-    RawPtr(Mutability),
-    Slice,
-}
-
-/// What is made of a list of types.
-#[derive(Clone, Copy)]
-enum Constructor {
-    Tuple,
-    Adt(AdtId),
-    Projection(AssocId),
-}
-
 /// What a bound's name says of it, with how many types follow.
 #[derive(Clone, Copy)]
 enum BoundHead {
@@ -87,15 +74,15 @@ impl<'a> Scope<'a> {
             Head::Leaf(kind) => Ok(self.cx.mk_ty(kind)?),
             Head::Before(pointer) => {
                 let target = self.read_type(words, below)?;
-                self.pointer(pointer, target)
+                Ok(pointer_to(&mut self.cx, pointer, target)?)
             }
             Head::Over(constructor, count) => {
                 let list = self.read_types(words, count, below)?;
-                self.construct(constructor, list.as_slice())
+                Ok(construct(&mut self.cx, constructor, list.as_slice())?)
             }
             Head::Dyn(count) => {
                 let bounds = self.read_bounds(words, count, below)?;
-                self.dynamic(bounds.as_slice())
+                Ok(dynamic(&mut self.cx, bounds.as_slice())?)
             }
         }
     }
@@ -153,15 +140,15 @@ impl<'a> Scope<'a> {
         ensures principal { IfOk result (λ bound. has_principal ≡ true → names_trait bound.value ≡ false) }
     {
         match self.bound_head(words.word()?, has_principal)? {
-            BoundHead::AutoTrait(id) => self.auto_bound(id),
+            BoundHead::AutoTrait(id) => Ok(auto_bound(&mut self.cx, id)?),
             BoundHead::Trait(id, count) => {
                 let list = self.read_types(words, u32::from(count), depth)?;
-                self.trait_bound(id, list.as_slice())
+                Ok(trait_bound(&mut self.cx, id, list.as_slice())?)
             }
             BoundHead::Projection(id, count) => {
                 let list = self.read_types(words, u32::from(count), depth)?;
                 let term = self.read_type(words, depth)?;
-                self.projection_bound(id, list.as_slice(), term)
+                Ok(projection_bound(&mut self.cx, id, list.as_slice(), term)?)
             }
         }
     }
@@ -224,104 +211,6 @@ impl<'a> Scope<'a> {
         }
     }
 
-    /// The pointer to the type, or the slice of it.
-    fn pointer(&mut self, pointer: Pointer, target: Ty) -> Result<Ty, Fault<'a>>
-        requires { IsTy self.old.cx.trees target }
-        ensures grows { Grows self.old.cx self.new.cx }
-        ensures sort { IfOk result (λ ty. IsTy self.new.cx.trees ty) }
-    {
-        let kind = match pointer {
-            Pointer::Ref(mutability) => return self.reference(target, mutability),
-            Pointer::RawPtr(mutability) => TyKind::RawPtr(target, mutability),
-            Pointer::Slice => TyKind::Slice(target),
-        };
-        Ok(self.cx.mk_ty(kind)?)
-    }
-
-    fn reference(&mut self, target: Ty, mutability: Mutability) -> Result<Ty, Fault<'a>>
-        requires { IsTy self.old.cx.trees target }
-        ensures grows { Grows self.old.cx self.new.cx }
-        ensures sort { IfOk result (λ ty. IsTy self.new.cx.trees ty) }
-    {
-        let region = self.cx.mk_region(RegionKind::Static)?;
-        Ok(self.cx.mk_ty(TyKind::Ref(region, target, mutability))?)
-    }
-
-    /// The type over these arguments.
-    fn construct(&mut self, constructor: Constructor, list: &[GenericArg]) -> Result<Ty, Fault<'a>>
-        requires { ListFits self.old.cx.trees list.now }
-        ensures grows { Grows self.old.cx self.new.cx }
-        ensures sort { IfOk result (λ ty. IsTy self.new.cx.trees ty) }
-    {
-        let args = self.cx.mk_args(list)?;
-        let kind = match constructor {
-            Constructor::Tuple => TyKind::Tuple(args),
-            Constructor::Adt(id) => TyKind::Adt(id, args),
-            Constructor::Projection(id) => TyKind::Alias(AliasTy::projection(id, args)),
-        };
-        Ok(self.cx.mk_ty(kind)?)
-    }
-
-    fn dynamic(&mut self, bounds: &[Binder<ExistentialPredicate>]) -> Result<Ty, Fault<'a>>
-        requires fit { BoundsFit self.old.cx.trees bounds.now }
-        requires principal { AtMostOnePrincipal bounds.now }
-        ensures grows { Grows self.old.cx self.new.cx }
-        ensures sort { IfOk result (λ ty. IsTy self.new.cx.trees ty) }
-    {
-        let preds = self.cx.mk_preds(bounds)?;
-        let region = self.cx.mk_region(RegionKind::Static)?;
-        Ok(self.cx.mk_ty(TyKind::Dynamic(preds, region))?)
-    }
-
-    fn auto_bound(&mut self, id: TraitId) -> Result<Binder<ExistentialPredicate>, Fault<'a>>
-        ensures grows { Grows self.old.cx self.new.cx }
-        ensures fits { IfOk result (λ bound. PredFits self.new.cx.trees bound) }
-        ensures kind { IfOk result (λ bound. names_trait bound.value ≡ false) }
-    {
-        let vars = self.cx.mk_vars(&[])?;
-        Ok(Binder {
-            vars,
-            value: ExistentialPredicate::AutoTrait(id),
-        })
-    }
-
-    fn trait_bound(
-        &mut self,
-        id: TraitId,
-        list: &[GenericArg],
-    ) -> Result<Binder<ExistentialPredicate>, Fault<'a>>
-        requires { ListFits self.old.cx.trees list.now }
-        ensures grows { Grows self.old.cx self.new.cx }
-        ensures fits { IfOk result (λ bound. PredFits self.new.cx.trees bound) }
-    {
-        let args = self.cx.mk_args(list)?;
-        let vars = self.cx.mk_vars(&[])?;
-        Ok(Binder {
-            vars,
-            value: ExistentialPredicate::Trait(id, args),
-        })
-    }
-
-    fn projection_bound(
-        &mut self,
-        id: AssocId,
-        list: &[GenericArg],
-        term: Ty,
-    ) -> Result<Binder<ExistentialPredicate>, Fault<'a>>
-        requires list { ListFits self.old.cx.trees list.now }
-        requires term { IsTy self.old.cx.trees term }
-        ensures grows { Grows self.old.cx self.new.cx }
-        ensures fits { IfOk result (λ bound. PredFits self.new.cx.trees bound) }
-        ensures kind { IfOk result (λ bound. names_trait bound.value ≡ false) }
-    {
-        let args = self.cx.mk_args(list)?;
-        let vars = self.cx.mk_vars(&[])?;
-        Ok(Binder {
-            vars,
-            value: ExistentialPredicate::Projection(id, args, term),
-        })
-    }
-
     /// Adds the type to the text, as it is read.
     ///
     /// What no word stands for is `?`; none is met, since a text has no such types. Besides
@@ -338,6 +227,7 @@ impl<'a> Scope<'a> {
         self.print_head(kind, text)?;
         match kind {
             TyKind::Ref(_, target, _) | TyKind::RawPtr(target, _) | TyKind::Slice(target) => {
+                text.push(' ')?;
                 self.print_type(target, below, text)
             }
             TyKind::Tuple(args) | TyKind::Adt(_, args) => self.print_types(args, below, text),
@@ -369,6 +259,7 @@ impl<'a> Scope<'a> {
     {
         for pred in self.cx.preds(preds) {
             let bound = self.cx.pred(*pred).value;
+            text.push(' ')?;
             self.print_bound_name(bound, text)?;
             match bound {
                 ExistentialPredicate::Trait(_, args) => self.print_types(args, depth, text)?,
@@ -388,28 +279,17 @@ impl<'a> Scope<'a> {
         requires { KindFits self.now.cx.trees kind }
     {
         match kind {
-            TyKind::Ref(_, _, mutability) => text.push_str(reference_word(mutability))?,
-            TyKind::RawPtr(_, mutability) => text.push_str(pointer_word(mutability))?,
-            TyKind::Slice(_) => text.push_str("[] ")?,
-            TyKind::Tuple(args) => {
-                let count = self.cx.args(args).len();
-                write!(text, "({count})")?;
-            }
-            TyKind::Dynamic(preds, _) => {
-                let count = self.cx.preds(preds).len();
-                write!(text, "dyn({count})")?;
-            }
-            TyKind::Adt(id, _) => self.print_name(id.0, text)?,
-            TyKind::Foreign(id) => self.print_name(id.0, text)?,
-            TyKind::Alias(alias) => self.print_name(alias.id.0, text)?,
-            _ => print_leaf(kind, text)?,
+            TyKind::Tuple(args) => print_count("", self.cx.args(args).len(), text),
+            TyKind::Dynamic(preds, _) => print_count("dyn", self.cx.preds(preds).len(), text),
+            TyKind::Adt(id, _) => self.print_name(id.0, text),
+            TyKind::Foreign(id) => self.print_name(id.0, text),
+            TyKind::Alias(alias) => self.print_name(alias.id.0, text),
+            _ => print_word(kind, text),
         }
-        Ok(())
     }
 
-    /// Adds a space, and the name that begins the bound.
+    /// Adds the name that begins the bound.
     fn print_bound_name(&self, bound: ExistentialPredicate, text: &mut String) -> Result<(), Stop> {
-        text.push(' ')?;
         match bound {
             ExistentialPredicate::Trait(id, _) => self.print_name(id.0, text),
             ExistentialPredicate::Projection(id, _, _) => self.print_name(id.0, text),
@@ -430,34 +310,23 @@ fn is_principal(bound: Binder<ExistentialPredicate>) -> bool
     matches!(bound.value, ExistentialPredicate::Trait(_, _))
 }
 
-fn reference_word(mutability: Mutability) -> &'static str {
-    match mutability {
-        Mutability::Not => "& ",
-        Mutability::Mut => "&mut ",
-    }
+/// Adds how many members there are, in brackets after the word.
+fn print_count(word: &str, count: usize, text: &mut String) -> Result<(), Stop> {
+    write!(text, "{word}({count})")?;
+    Ok(())
 }
 
-fn pointer_word(mutability: Mutability) -> &'static str {
-    match mutability {
-        Mutability::Not => "*const ",
-        Mutability::Mut => "*mut ",
-    }
-}
-
-/// Adds a type that one word stands for.
-fn print_leaf(kind: TyKind, text: &mut String) -> Result<(), Stop> {
-    if let Some(word) = leaf_word(kind) {
-        text.push_str(word)?;
-        return Ok(());
-    }
-    match kind {
-        TyKind::Infer(InferTy::TyVar(number)) => write!(text, "${number}")?,
-        TyKind::Param(index) => write!(text, "#{index}")?,
-        TyKind::Placeholder(placeholder) if placeholder.universe == 0 => {
-            let index = placeholder.index;
-            write!(text, "!{index}")?;
+/// Adds the word that a type of that kind begins with, if it is no name.
+fn print_word(kind: TyKind, text: &mut String) -> Result<(), Stop> {
+    let (mark, number) = match kind {
+        TyKind::Infer(InferTy::TyVar(number)) => ('$', number),
+        TyKind::Param(index) => ('#', index),
+        TyKind::Placeholder(placeholder) if placeholder.universe == 0 => ('!', placeholder.index),
+        _ => {
+            text.push_str(word_of(kind).unwrap_or(UNSPELLED))?;
+            return Ok(());
         }
-        _ => text.push_str(UNSPELLED)?,
-    }
+    };
+    write!(text, "{mark}{number}")?;
     Ok(())
 }

@@ -19,7 +19,7 @@ impl<'a> Words<'a> {
         if line.starts_with(b"//") {
             return Ok(None);
         }
-        if !line.iter().all(|byte| matches!(byte, b' '..=b'~')) {
+        if !is_visible(line) {
             return Err(Fault::BadByte);
         }
         let Ok(rest) = str::from_utf8(line) else {
@@ -74,9 +74,24 @@ impl<'a> Words<'a> {
     }
 }
 
+/// Whether all bytes are spaces and visible ASCII characters.
+fn is_visible(line: &[u8]) -> bool {
+    for byte in line {
+        if !matches!(byte, b' '..=b'~') {
+            return false;
+        }
+    }
+    true
+}
+
 /// Whether the text is decimal digits, at least one.
 pub fn is_digits(text: &str) -> bool {
-    !text.is_empty() && text.bytes().all(|byte| byte.is_ascii_digit())
+    for byte in text.bytes() {
+        if !byte.is_ascii_digit() {
+            return false;
+        }
+    }
+    !text.is_empty()
 }
 
 /// The number of at most that size whose digits stand in the word, else `Fault::BadNumber` with the word.

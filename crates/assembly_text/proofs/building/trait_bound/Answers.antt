@@ -1,5 +1,5 @@
 use Rattle.candidate_ir.proofs.Made.{IsArgs-grows}
-use Rattle.assembly_text.proofs.types.Scope.trait_bound.Goals as goal
+use Rattle.assembly_text.proofs.building.trait_bound.Goals as goal
 
 pub returns-clause-fits : goal.returns-clause-fits
 returns-clause-fits c =

@@ -1,6 +1,6 @@
 use Rattle.candidate_ir.proofs.Kept.{grows-trans}
 use Rattle.candidate_ir.proofs.Made.{IsPreds-grows}
-use Rattle.assembly_text.proofs.types.Scope.dynamic.Goals as goal
+use Rattle.assembly_text.proofs.building.dynamic.Goals as goal
 
 pub mk_ty-requires : goal.mk_ty-requires
 mk_ty-requires c =

@@ -1,6 +1,6 @@
 use Rattle.candidate_ir.proofs.Kept.{grows-trans}
 use Rattle.candidate_ir.proofs.Made.{IsTy-grows}
-use Rattle.assembly_text.proofs.types.Scope.reference.Goals as goal
+use Rattle.assembly_text.proofs.building.reference.Goals as goal
 
 pub mk_ty-requires : goal.mk_ty-requires
 mk_ty-requires c =
