@@ -29,11 +29,11 @@ pub enum Item {
     Assoc(AssocId, u16),
 }
 
-/// The names declared so far, which are words of the text. They are kept in order, so that no
+/// The names declared so far, which are words of the text. They are kept in an order, so that no
 /// choice of names makes them slow to find.
 #[derive(Drop)]
 pub struct Names<'a> {
-    items: BTreeMap<&'a str, Item>,
+    items: BTreeMap<(u64, &'a str), Item>,
     /// The names of the definitions by their numbers.
     definitions: Vec<&'a str>,
 }
@@ -57,7 +57,7 @@ impl<'a> Names<'a> {
         if !is_name(word) {
             return Err(Fault::BadName(word));
         }
-        if self.items.contains_key(&word) {
+        if self.items.contains_key(&key(word)) {
             return Err(Fault::NameTwice(word));
         }
         Ok(word)
@@ -67,7 +67,7 @@ impl<'a> Names<'a> {
     pub fn item(&self, word: &'a str) -> Result<Item, Fault<'a>>
         ensures { IfErr result (λ e. e ≡ Fault.UnknownName word.entry) }
     {
-        match self.items.get(&word) {
+        match self.items.get(&key(word)) {
             Some(item) => Ok(*item),
             None => Err(Fault::UnknownName(word)),
         }
@@ -77,7 +77,7 @@ impl<'a> Names<'a> {
     pub fn trait_named(&self, word: &'a str) -> Result<NamedTrait, Fault<'a>>
         ensures { IfErr result (λ e. e ≡ Fault.UnknownName word.entry) }
     {
-        match self.items.get(&word) {
+        match self.items.get(&key(word)) {
             Some(Item::Trait(found)) => Ok(*found),
             _ => Err(Fault::UnknownName(word)),
         }
@@ -86,7 +86,7 @@ impl<'a> Names<'a> {
     /// Gives the name to the next definition.
     pub fn add_definition(&mut self, name: &'a str, item: Item) -> Result<(), AllocError> {
         self.definitions.push(name)?;
-        self.items.insert(name, item)?;
+        self.items.insert(key(name), item)?;
         Ok(())
     }
 
@@ -94,6 +94,15 @@ impl<'a> Names<'a> {
     pub fn definition(&self, number: u32) -> Option<&'a str> {
         self.definitions.get(number as usize).copied()
     }
+}
+
+/// The name after a number that is made of its bytes, by which most names differ at once.
+fn key<'a>(name: &'a str) -> (u64, &'a str) {
+    let mut number = 0u64;
+    for byte in name.bytes() {
+        number = number.wrapping_mul(31).wrapping_add(u64::from(byte));
+    }
+    (number, name)
 }
 
 /// Whether the word is a letter and then letters, digits and `_`, not too long, and no type.

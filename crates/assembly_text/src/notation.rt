@@ -8,6 +8,9 @@ use crate::faults::Fault;
 use crate::words::{is_digits, number_in};
 use candidate_ir::ir::kinds::{FloatTy, InferTy, IntTy, Mutability, Placeholder, TyKind, UintTy};
 
+/// How many bytes the longest word of a type without a number has.
+const LONGEST_LEAF: usize = 5;
+
 /// The greatest number of a variable.
 const LAST_VARIABLE: u16 = 255;
 
@@ -96,6 +99,9 @@ fn marked_number<'a>(word: &'a str, digits: &str, most: u16) -> Result<u16, Faul
 pub fn leaf(word: &str) -> Option<TyKind>
     ensures { IfSome result (λ kind. ty_children kind ≡ []) }
 {
+    if word.len() > LONGEST_LEAF {
+        return None;
+    }
     Some(match word {
         "bool" => TyKind::Bool,
         "char" => TyKind::Char,
