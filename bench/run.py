@@ -4,12 +4,16 @@
 `python3 bench/run.py` builds the program with its proofs, makes 100,000 declarations and 100,000
 queries, and a tenth of both, and runs the program on each. It prints queries a second, the peak of
 memory, the time beside that of only reading the same input and writing the same output, and how
-time and memory grow from the smaller text to the larger one. It judges nothing.
+time and memory grow from the smaller text to the larger one. Where `rustc` is there, the peak of
+memory stands beside that of the same algorithm in plain Rust (`bench/plain`); where `valgrind` is
+there, the instructions are counted too. It judges nothing.
 """
 
 import argparse
 import os
 import random
+import re
+import shutil
 import subprocess
 import sys
 import tempfile
@@ -18,6 +22,7 @@ import time
 ROOT = os.path.dirname(os.path.dirname(os.path.abspath(__file__)))
 CRATE = os.path.join(ROOT, "crates", "assembly")
 PROGRAM = os.path.join(CRATE, "out", "assembly")
+PLAIN = os.path.join(ROOT, "bench", "plain", "assembly.rs")
 
 PRIMITIVES = ["bool", "char", "str", "!", "u8", "i32", "u64", "usize", "f64"]
 POINTERS = ["&", "&mut", "*const", "*mut", "[]"]
@@ -175,9 +180,28 @@ def build():
         sys.exit("the program can't be built")
 
 
-def start(text, answers):
+def build_plain(folder):
+    """The same algorithm in plain Rust, or nothing where there is no compiler for it."""
+    if shutil.which("rustc") is None:
+        return None
+    made = os.path.join(folder, "plain")
+    subprocess.run(["rustc", "--edition", "2021", "-O", "-o", made, PLAIN], check=True)
+    return made
+
+
+def instructions_of_run(text, program):
+    """How many instructions a run takes, or nothing where `valgrind` isn't there to count them."""
+    if shutil.which("valgrind") is None:
+        return None
+    count = ["valgrind", "--tool=callgrind", "--callgrind-out-file=/dev/null", program]
+    with open(text, "rb") as given:
+        done = subprocess.run(count, stdin=given, stdout=subprocess.DEVNULL, stderr=subprocess.PIPE)
+    return int(re.search(rb"I +refs: +([0-9,]+)", done.stderr).group(1).replace(b",", b""))
+
+
+def start(text, answers, program=PROGRAM):
     with open(text, "rb") as given, open(answers, "wb") as taken:
-        return subprocess.Popen([PROGRAM], stdin=given, stdout=taken)
+        return subprocess.Popen([program], stdin=given, stdout=taken)
 
 
 def seconds_of_run(text, answers):
@@ -201,9 +225,9 @@ def peak_of(pid):
     return 0
 
 
-def memory_of_run(text, answers):
+def memory_of_run(text, answers, program=PROGRAM):
     """The peak of a run in KiB. It is looked at all the time, since the end of a run takes it away."""
-    child = start(text, answers)
+    child = start(text, answers, program)
     peak = 0
     while child.poll() is None:
         peak = max(peak, peak_of(child.pid))
@@ -224,7 +248,19 @@ def seconds_of_copy(text, answers, to):
     return time.perf_counter() - begin
 
 
-def measure(folder, size, seed, rounds):
+def compare(text, answers, memory, plain):
+    """Prints what the run took beside plain Rust."""
+    counted = instructions_of_run(text, PROGRAM)
+    if counted is not None:
+        print("  instructions       %.0f million" % (counted / 1e6))
+    if plain is None:
+        return
+    if counted is not None:
+        print("  beside plain Rust  %.2f times the instructions" % (counted / instructions_of_run(text, plain)))
+    print("  beside plain Rust  %.2f times the memory" % (memory / memory_of_run(text, answers, plain)))
+
+
+def measure(folder, size, seed, rounds, plain):
     """Runs the program over that many declarations and queries, and prints what it took."""
     made = Text(size, seed)
     text = os.path.join(folder, "text")
@@ -249,6 +285,7 @@ def measure(folder, size, seed, rounds):
     print("  queries a second   %.0f (%.0f with the declarations counted in)" % (size / in_queries, size / whole))
     print("  beside a copy      %.1f times as long (a copy takes %.4f s)" % (whole / copy, copy))
     print("  peak of memory     %.1f MiB, %.0f bytes a line" % (memory / 1024, memory * 1024 / (2 * size)))
+    compare(text, answers, memory, plain)
     return whole, memory, os.path.getsize(text)
 
 
@@ -266,8 +303,9 @@ def main():
     given = options.parse_args()
     build()
     with tempfile.TemporaryDirectory() as folder:
-        small = measure(folder, max(given.size // 10, 10), given.seed, given.rounds)
-        large = measure(folder, given.size, given.seed, given.rounds)
+        plain = build_plain(folder)
+        small = measure(folder, max(given.size // 10, 10), given.seed, given.rounds, plain)
+        large = measure(folder, given.size, given.seed, given.rounds, plain)
     ratio = large[2] / small[2]
     growth("time", small[0], large[0], ratio)
     growth("memory", small[1], large[1], ratio)

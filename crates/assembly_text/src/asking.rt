@@ -30,20 +30,16 @@ pub enum Query {
 
 /// What is declared, and the answer that was made last.
 #[derive(Drop)]
-pub struct Asking {
-    scope: Scope<Cx>,
+pub struct Asking<'a> {
+    scope: Scope<'a>,
     answer: String,
 }
 
-impl Asking {
+impl<'a> Asking<'a> {
     /// Over what is declared under these names.
-    pub fn new(alloc: Global, names: Names, cx: Cx) -> Self {
+    pub fn new(alloc: Global, names: Names<'a>, cx: Cx) -> Self {
         Asking {
-            scope: Scope {
-                alloc,
-                names,
-                maker: cx,
-            },
+            scope: Scope { alloc, names, cx },
             answer: String::new(alloc),
         }
     }
@@ -51,15 +47,15 @@ impl Asking {
     /// The answer to the line, whose command was read; or why it can't be given.
     ///
     /// The error is a fault of the line.
-    pub fn ask<'a>(
+    pub fn ask(
         &mut self,
         query: Query,
-        words: Words<'a>,
+        mut words: Words<'a>,
     ) -> Result<Result<&str, Stop>, Fault<'a>> {
         self.answer.clear();
         let made = match query {
-            Query::Orphan => self.orphan(words)?,
-            Query::Knowable => self.knowable(words)?,
+            Query::Orphan => self.orphan(&mut words)?,
+            Query::Knowable => self.knowable(&mut words)?,
         };
         match made {
             Ok(()) => Ok(Ok(self.answer.as_str())),
@@ -68,19 +64,19 @@ impl Asking {
     }
 
     /// The trait reference that ends the line.
-    fn last_trait_ref<'a>(&mut self, mut words: Words<'a>) -> Result<TraitRef, Fault<'a>>
-        ensures sort { IfOk result (λ r. IsArgs self.new.scope.maker.trees r.args) }
-        ensures no_param { IfOk result (λ r. HasNoParam self.new.scope.maker r) }
+    fn last_trait_ref(&mut self, words: &mut Words<'a>) -> Result<TraitRef, Fault<'a>>
+        ensures sort { IfOk result (λ r. IsArgs self.new.scope.cx.trees r.args) }
+        ensures no_param { IfOk result (λ r. HasNoParam self.new.scope.cx r) }
     {
-        let trait_ref = self.scope.read_trait_ref(&mut words)?;
+        let trait_ref = self.scope.read_trait_ref(words)?;
         words.end()?;
-        if self.scope.maker.has_param(trait_ref) {
+        if self.scope.cx.has_param(trait_ref) {
             return Err(Fault::Parameter);
         }
         Ok(trait_ref)
     }
 
-    fn knowable<'a>(&mut self, words: Words<'a>) -> Result<Result<(), Stop>, Fault<'a>> {
+    fn knowable(&mut self, words: &mut Words<'a>) -> Result<Result<(), Stop>, Fault<'a>> {
         let trait_ref = self.last_trait_ref(words)?;
         let known = self.known(trait_ref);
         Ok(self.print_known(known))
@@ -88,16 +84,16 @@ impl Asking {
 
     /// Whether all impls of the reference are known, where no type is normalised.
     fn known(&mut self, trait_ref: TraitRef) -> Result<Result<(), Conflict>, OrphanStop<Infallible>>
-        requires args { IsArgs self.old.scope.maker.trees trait_ref.args }
-        requires no_param { HasNoParam self.old.scope.maker trait_ref }
-        ensures answer { result ≢ Err (OrphanStop.Stop Stop.Memory) → bare_knowledge (knowledge_of result) ≡ plain_knowledge_about self.old.scope.maker trait_ref }
-        ensures no_unnamed_header { IsReference self.old.scope.maker trait_ref → HasNoAlias self.old.scope.maker trait_ref → result ≡ Ok (Ok tt) → NoUnnamedHeaderHere self.old.scope.maker trait_ref }
-        ensures downstream_header { IsReference self.old.scope.maker trait_ref → HasNoAliasOrError self.old.scope.maker trait_ref → result ≡ Ok (Err Conflict.Downstream) → IsDecidedByGeneralHere self.old.scope.maker trait_ref → HasDownstreamHere self.old.scope.maker trait_ref }
-        ensures no_covered_header { IsReference self.old.scope.maker trait_ref → HasNoAlias self.old.scope.maker trait_ref → result ≡ Ok (Ok tt) → IsOfForeignTrait self.old.scope.maker trait_ref → NoCoveredHeaderHere self.old.scope.maker trait_ref }
+        requires args { IsArgs self.old.scope.cx.trees trait_ref.args }
+        requires no_param { HasNoParam self.old.scope.cx trait_ref }
+        ensures answer { result ≢ Err (OrphanStop.Stop Stop.Memory) → bare_knowledge (knowledge_of result) ≡ plain_knowledge_about self.old.scope.cx trait_ref }
+        ensures no_unnamed_header { IsReference self.old.scope.cx trait_ref → HasNoAlias self.old.scope.cx trait_ref → result ≡ Ok (Ok tt) → NoUnnamedHeaderHere self.old.scope.cx trait_ref }
+        ensures downstream_header { IsReference self.old.scope.cx trait_ref → HasNoAliasOrError self.old.scope.cx trait_ref → result ≡ Ok (Err Conflict.Downstream) → IsDecidedByGeneralHere self.old.scope.cx trait_ref → HasDownstreamHere self.old.scope.cx trait_ref }
+        ensures no_covered_header { IsReference self.old.scope.cx trait_ref → HasNoAlias self.old.scope.cx trait_ref → result ≡ Ok (Ok tt) → IsOfForeignTrait self.old.scope.cx trait_ref → NoCoveredHeaderHere self.old.scope.cx trait_ref }
     {
         trait_ref_is_knowable(
             self.scope.alloc,
-            &mut self.scope.maker,
+            &mut self.scope.cx,
             trait_ref,
             |_, ty| -> Result<Ty, NormalizeErr<Infallible>> { Ok(ty) },
         )
@@ -118,7 +114,7 @@ impl Asking {
         Ok(())
     }
 
-    fn orphan<'a>(&mut self, mut words: Words<'a>) -> Result<Result<(), Stop>, Fault<'a>> {
+    fn orphan(&mut self, words: &mut Words<'a>) -> Result<Result<(), Stop>, Fault<'a>> {
         let in_crate = in_crate(words.word()?)?;
         let trait_ref = self.last_trait_ref(words)?;
         let checked = self.checked(trait_ref, in_crate);
@@ -131,15 +127,15 @@ impl Asking {
         trait_ref: TraitRef,
         in_crate: InCrate,
     ) -> Result<Result<(), OrphanCheckErr<Ty>>, OrphanStop<Infallible>>
-        requires args { IsArgs self.old.scope.maker.trees trait_ref.args }
-        requires no_param { HasNoParam self.old.scope.maker trait_ref }
-        ensures types { AreAnswerTypes self.new.scope.maker.trees result }
-        ensures answer { ¬ (OutOfMemory result) → bare_answer (answer_of self.new.scope.maker.trees result) ≡ plain_check_of self.old.scope.maker in_crate trait_ref }
-        ensures no_foreign_header { IsReference self.old.scope.maker trait_ref → HasNoAliasOrError self.old.scope.maker trait_ref → in_crate ≡ InCrate.Local OrphanCheckMode.Proper → result ≡ Ok (Ok tt) → NoForeignHeaderHere self.old.scope.maker trait_ref }
+        requires args { IsArgs self.old.scope.cx.trees trait_ref.args }
+        requires no_param { HasNoParam self.old.scope.cx trait_ref }
+        ensures types { AreAnswerTypes self.new.scope.cx.trees result }
+        ensures answer { ¬ (OutOfMemory result) → bare_answer (answer_of self.new.scope.cx.trees result) ≡ plain_check_of self.old.scope.cx in_crate trait_ref }
+        ensures no_foreign_header { IsReference self.old.scope.cx trait_ref → HasNoAliasOrError self.old.scope.cx trait_ref → in_crate ≡ InCrate.Local OrphanCheckMode.Proper → result ≡ Ok (Ok tt) → NoForeignHeaderHere self.old.scope.cx trait_ref }
     {
         orphan_check_trait_ref(
             self.scope.alloc,
-            &mut self.scope.maker,
+            &mut self.scope.cx,
             trait_ref,
             in_crate,
             |_, ty| -> Result<Ty, NormalizeErr<Infallible>> { Ok(ty) },
@@ -150,7 +146,7 @@ impl Asking {
         &mut self,
         checked: Result<Result<(), OrphanCheckErr<Ty>>, OrphanStop<Infallible>>,
     ) -> Result<(), Stop>
-        requires { AreAnswerTypes self.old.scope.maker.trees checked }
+        requires { AreAnswerTypes self.old.scope.cx.trees checked }
     {
         match checked {
             Ok(Ok(())) => self.answer.push_str("ok\n")?,
@@ -162,7 +158,7 @@ impl Asking {
     }
 
     fn print_orphan_err(&mut self, err: &OrphanCheckErr<Ty>) -> Result<(), Stop>
-        requires { AreErrorTypes self.old.scope.maker.trees err.now }
+        requires { AreErrorTypes self.old.scope.cx.trees err.now }
     {
         match err {
             OrphanCheckErr::NonLocalInputType(entries) => self.print_nonlocal(entries.as_slice()),
@@ -171,12 +167,11 @@ impl Asking {
     }
 
     fn print_nonlocal(&mut self, entries: &[(Ty, IsFirstInputType)]) -> Result<(), Stop>
-        requires { All (λ e. IsTy self.old.scope.maker.trees e.0) entries.now }
+        requires { All (λ e. IsTy self.old.scope.cx.trees e.0) entries.now }
     {
         self.answer.push_str("nonlocal")?;
         for (ty, is_first) in entries {
-            self.answer.push_str(" (")?;
-            self.scope.print_type(*ty, DEEPEST, &mut self.answer)?;
+            self.print_after(" (", *ty)?;
             self.answer.push_str(match is_first {
                 IsFirstInputType::Yes => ", Yes)",
                 IsFirstInputType::No => ", No)",
@@ -187,19 +182,25 @@ impl Asking {
     }
 
     fn print_uncovered(&mut self, found: &UncoveredTyParams<Ty>) -> Result<(), Stop>
-        requires uncovered { IsTy self.old.scope.maker.trees found.now.uncovered }
-        requires local { IfSome found.now.local_ty (IsTy self.old.scope.maker.trees) }
+        requires uncovered { IsTy self.old.scope.cx.trees found.now.uncovered }
+        requires local { IfSome found.now.local_ty (IsTy self.old.scope.cx.trees) }
     {
-        self.answer.push_str("uncovered ")?;
-        self.scope
-            .print_type(found.uncovered, DEEPEST, &mut self.answer)?;
-        self.answer.push_str(" local ")?;
+        self.print_after("uncovered ", found.uncovered)?;
         match found.local_ty {
-            Some(ty) => self.scope.print_type(ty, DEEPEST, &mut self.answer)?,
-            None => self.answer.push_str("none")?,
+            Some(ty) => self.print_after(" local ", ty)?,
+            None => self.answer.push_str(" local none")?,
         }
         self.answer.push('\n')?;
         Ok(())
+    }
+
+    /// Adds the type after the text.
+    fn print_after(&mut self, before: &str, ty: Ty) -> Result<(), Stop>
+        requires { IsTy self.old.scope.cx.trees ty }
+        ensures { self.new.scope ≡ self.old.scope }
+    {
+        self.answer.push_str(before)?;
+        self.scope.print_type(ty, DEEPEST, &mut self.answer)
     }
 }
 

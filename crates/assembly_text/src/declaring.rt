@@ -4,11 +4,11 @@ use crate::asking::Asking;
 use crate::faults::Fault;
 use crate::names::{Item, NamedTrait, Names};
 use crate::words::Words;
-use candidate_ir::decl::builder::{DeclFault, DeclsBuilder};
+use candidate_ir::decl::builder::DeclsBuilder;
 use candidate_ir::decl::context::Cx;
 use candidate_ir::decl::definition::{AdtFlags, AdtShape, AssocKind, CrateId, TraitFlags};
 use candidate_ir::ir::kinds::VarKind;
-use std::alloc::Global;
+use std::alloc::{AllocError, Global};
 
 /// How many crates there are.
 const CRATES: u16 = 10;
@@ -25,15 +25,33 @@ pub enum Declaration {
 
 /// What is declared so far.
 #[derive(Drop)]
-pub struct Declaring {
+pub struct Declaring<'a> {
     alloc: Global,
-    names: Names,
+    names: Names<'a>,
     builder: DeclsBuilder,
+    parameters: TypeParameters,
 }
 
-impl Declaring {
-    /// Nothing but the crates. The only error is `DeclFault::Memory`.
-    pub fn new(alloc: Global) -> Result<Self, DeclFault> {
+/// Parameters that are types, so many as were asked for at most.
+#[derive(Drop)]
+struct TypeParameters {
+    kinds: Vec<VarKind>,
+}
+
+impl TypeParameters {
+    /// So many of them.
+    fn first(&mut self, count: u16) -> Result<&[VarKind], AllocError> {
+        let count = usize::from(count);
+        if self.kinds.len() < count {
+            self.kinds.resize(count, VarKind::Ty)?;
+        }
+        Ok(&self.kinds[..count])
+    }
+}
+
+impl<'a> Declaring<'a> {
+    /// Nothing but the crates. The only error is `Fault::Stop`.
+    pub fn new(alloc: Global) -> Result<Self, Fault<'a>> {
         let mut builder = DeclsBuilder::new(alloc);
         for _ in 0..CRATES {
             builder.add_crate()?;
@@ -42,77 +60,82 @@ impl Declaring {
             alloc,
             names: Names::new(alloc),
             builder,
+            parameters: TypeParameters {
+                kinds: Vec::new(alloc),
+            },
         })
     }
 
     /// Does what the line asks, whose command was read.
-    pub fn declare<'a>(
+    pub fn declare(
         &mut self,
         declaration: Declaration,
-        words: Words<'a>,
+        mut words: Words<'a>,
     ) -> Result<(), Fault<'a>> {
         match declaration {
-            Declaration::Local => self.local(words),
-            Declaration::Adt => self.adt(words),
-            Declaration::Foreign => self.foreign(words),
-            Declaration::Trait => self.trait_line(words),
-            Declaration::Assoc => self.assoc(words),
+            Declaration::Local => self.local(&mut words),
+            Declaration::Adt => self.adt(&mut words),
+            Declaration::Foreign => self.foreign(&mut words),
+            Declaration::Trait => self.trait_line(&mut words),
+            Declaration::Assoc => self.assoc(&mut words),
         }
     }
 
     /// What can be asked once all is declared. It has an error where the declarations have a fault.
-    pub fn finish(self) -> Result<Asking, DeclFault> {
+    pub fn finish(self) -> Result<Asking<'a>, Fault<'a>> {
         let Declaring {
             alloc,
             names,
             builder,
+            ..
         } = self;
         Ok(Asking::new(alloc, names, Cx::new(builder.finish()?)))
     }
 
-    fn local<'a>(&mut self, mut words: Words<'a>) -> Result<(), Fault<'a>> {
-        let local = crate_id(&mut words)?;
+    fn local(&mut self, words: &mut Words<'a>) -> Result<(), Fault<'a>> {
+        let local = crate_id(words)?;
         words.end()?;
         self.builder.set_local(local);
         Ok(())
     }
 
-    fn adt<'a>(&mut self, mut words: Words<'a>) -> Result<(), Fault<'a>> {
-        let krate = crate_id(&mut words)?;
-        let name = self.names.unused(words.word()?)?;
+    /// The crate of something new, and its name.
+    fn declared(&self, words: &mut Words<'a>) -> Result<(CrateId, &'a str), Fault<'a>> {
+        let krate = crate_id(words)?;
+        Ok((krate, self.names.unused(words.word()?)?))
+    }
+
+    fn adt(&mut self, words: &mut Words<'a>) -> Result<(), Fault<'a>> {
+        let (krate, name) = self.declared(words)?;
         let arity = words.number(u16::MAX)?;
         let (shape, flags) = adt_flags(words)?;
-        let parameters = self.type_parameters(arity)?;
-        let id = self
-            .builder
-            .add_adt(krate, shape, parameters.as_slice(), flags)?;
+        let parameters = self.parameters.first(arity)?;
+        let id = self.builder.add_adt(krate, shape, parameters, flags)?;
         self.names.add_definition(name, Item::Adt(id, arity))?;
         Ok(())
     }
 
-    fn foreign<'a>(&mut self, mut words: Words<'a>) -> Result<(), Fault<'a>> {
-        let krate = crate_id(&mut words)?;
-        let name = self.names.unused(words.word()?)?;
+    fn foreign(&mut self, words: &mut Words<'a>) -> Result<(), Fault<'a>> {
+        let (krate, name) = self.declared(words)?;
         words.end()?;
         let id = self.builder.add_foreign(krate)?;
         self.names.add_definition(name, Item::Foreign(id))?;
         Ok(())
     }
 
-    fn trait_line<'a>(&mut self, mut words: Words<'a>) -> Result<(), Fault<'a>> {
-        let krate = crate_id(&mut words)?;
-        let name = self.names.unused(words.word()?)?;
+    fn trait_line(&mut self, words: &mut Words<'a>) -> Result<(), Fault<'a>> {
+        let (krate, name) = self.declared(words)?;
         let arity = words.number(u16::MAX)?;
         let flags = trait_flags(words)?;
-        let parameters = self.type_parameters(arity)?;
-        let id = self.builder.add_trait(krate, parameters.as_slice(), flags)?;
+        let parameters = self.parameters.first(arity)?;
+        let id = self.builder.add_trait(krate, parameters, flags)?;
         let is_auto = flags.auto;
         self.names
             .add_definition(name, Item::Trait(NamedTrait { id, arity, is_auto }))?;
         Ok(())
     }
 
-    fn assoc<'a>(&mut self, mut words: Words<'a>) -> Result<(), Fault<'a>> {
+    fn assoc(&mut self, words: &mut Words<'a>) -> Result<(), Fault<'a>> {
         let of = self.names.trait_named(words.word()?)?;
         let name = self.names.unused(words.word()?)?;
         let requires_sized_self = assoc_flag(words)?;
@@ -122,20 +145,19 @@ impl Declaring {
         self.names.add_definition(name, Item::Assoc(id, of.arity))?;
         Ok(())
     }
-
-    fn type_parameters<'a>(&self, count: u16) -> Result<Vec<VarKind>, Fault<'a>> {
-        Ok(vec![in self.alloc; VarKind::Ty; usize::from(count)]?)
-    }
 }
 
 fn crate_id<'a>(words: &mut Words<'a>) -> Result<CrateId, Fault<'a>> {
     Ok(CrateId(u32::from(words.number(CRATES - 1)?)))
 }
 
-fn adt_flags<'a>(words: Words<'a>) -> Result<(AdtShape, AdtFlags), Fault<'a>> {
+fn adt_flags<'a>(words: &mut Words<'a>) -> Result<(AdtShape, AdtFlags), Fault<'a>> {
     let mut shape = AdtShape::Struct;
     let mut flags = AdtFlags::default();
-    for word in words.others() {
+    for _ in 0..u64::MAX {
+        let Some(word) = words.next_word() else {
+            break;
+        };
         match word {
             "fundamental" => flags.fundamental = true,
             "phantom" => flags.phantom_data = true,
@@ -150,9 +172,12 @@ fn adt_flags<'a>(words: Words<'a>) -> Result<(AdtShape, AdtFlags), Fault<'a>> {
 }
 
 /// Whether the flag `sized_self` stands in the words.
-fn assoc_flag<'a>(words: Words<'a>) -> Result<bool, Fault<'a>> {
+fn assoc_flag<'a>(words: &mut Words<'a>) -> Result<bool, Fault<'a>> {
     let mut requires_sized_self = false;
-    for word in words.others() {
+    for _ in 0..u64::MAX {
+        let Some(word) = words.next_word() else {
+            break;
+        };
         match word {
             "sized_self" => requires_sized_self = true,
             _ => return Err(Fault::BadFlag(word)),
@@ -161,9 +186,12 @@ fn assoc_flag<'a>(words: Words<'a>) -> Result<bool, Fault<'a>> {
     Ok(requires_sized_self)
 }
 
-fn trait_flags<'a>(words: Words<'a>) -> Result<TraitFlags, Fault<'a>> {
+fn trait_flags<'a>(words: &mut Words<'a>) -> Result<TraitFlags, Fault<'a>> {
     let mut flags = TraitFlags::default();
-    for word in words.others() {
+    for _ in 0..u64::MAX {
+        let Some(word) = words.next_word() else {
+            break;
+        };
         match word {
             "auto" => flags.auto = true,
             "alias" => flags.alias = true,

@@ -11,7 +11,7 @@ use std::alloc::{AllocError, AllocFailed};
 use std::fmt;
 
 /// What is wrong with a line. It prints as the reason that is given for it.
-#[derive(Clone, Copy, Debug, Drop)]
+#[derive(Clone, Copy)]
 pub enum Fault<'a> {
     /// A byte stands in the line that is neither a space nor a visible ASCII character.
     BadByte,
@@ -78,29 +78,56 @@ impl From<DeclFault> for Fault<'_> {
     }
 }
 
+impl<'a> Fault<'a> {
+    /// What is wrong, without the word or the number that is named.
+    fn reason(self) -> &'static str {
+        match self {
+            Fault::BadByte => "bad byte",
+            Fault::UnknownWord => "unknown word",
+            Fault::LateDeclaration => "late declaration",
+            Fault::ShortLine => "short line",
+            Fault::UnknownName(_) => "unknown name ",
+            Fault::NameTwice(_) => "name twice ",
+            Fault::BadName(_) => "bad name ",
+            Fault::BadNumber(_) => "bad number ",
+            Fault::BadFlag(_) => "bad flag ",
+            Fault::Parameter => "parameter",
+            Fault::TwoPrincipals => "two principals",
+            Fault::LongLine => "long line",
+            Fault::Stop(_) => "stop ",
+            Fault::Declarations(_) => "declaration fault ",
+        }
+    }
+
+    /// The word that is named, or nothing.
+    fn word(self) -> &'a str {
+        match self {
+            Fault::UnknownName(word)
+            | Fault::NameTwice(word)
+            | Fault::BadName(word)
+            | Fault::BadNumber(word)
+            | Fault::BadFlag(word) => word,
+            _ => "",
+        }
+    }
+
+    /// The number that is named, if there is one.
+    fn number(self) -> Option<u8> {
+        match self {
+            Fault::Stop(stop) => Some(stop as u8),
+            Fault::Declarations(fault) => Some(fault as u8),
+            _ => None,
+        }
+    }
+}
+
 impl fmt::Display for Fault<'_> {
     fn fmt<W: fmt::Write>(&self, f: &mut fmt::Formatter<W>) -> fmt::Result {
-        match self {
-            Fault::BadByte => write!(f, "bad byte"),
-            Fault::UnknownWord => write!(f, "unknown word"),
-            Fault::LateDeclaration => write!(f, "late declaration"),
-            Fault::ShortLine => write!(f, "short line"),
-            Fault::UnknownName(word) => write!(f, "unknown name {word}"),
-            Fault::NameTwice(word) => write!(f, "name twice {word}"),
-            Fault::BadName(word) => write!(f, "bad name {word}"),
-            Fault::BadNumber(word) => write!(f, "bad number {word}"),
-            Fault::BadFlag(word) => write!(f, "bad flag {word}"),
-            Fault::Parameter => write!(f, "parameter"),
-            Fault::TwoPrincipals => write!(f, "two principals"),
-            Fault::LongLine => write!(f, "long line"),
-            Fault::Stop(stop) => {
-                let number = *stop as u8;
-                write!(f, "stop {number}")
-            }
-            Fault::Declarations(fault) => {
-                let number = *fault as u8;
-                write!(f, "declaration fault {number}")
-            }
+        f.write_str(self.reason())?;
+        f.write_str(self.word())?;
+        match self.number() {
+            Some(number) => write!(f, "{number}"),
+            None => Ok(()),
         }
     }
 }

@@ -2,6 +2,7 @@
 #![tactic(auto)]
 
 mod asking;
+mod building;
 mod declaring;
 mod faults;
 mod lines;

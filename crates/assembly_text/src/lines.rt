@@ -12,7 +12,7 @@ use std::io;
 use std::io::Write;
 
 /// What the first word of a line can be.
-enum Command {
+pub enum Command {
     Declaration(Declaration),
     Query(Query),
 }
@@ -42,70 +42,135 @@ impl<'a> From<Fault<'a>> for Halt<'a> {
     }
 }
 
-/// How far the lines have come.
+/// The lines of a text that are still to be read.
 #[derive(Drop)]
-pub enum Stage {
-    /// No query was read yet.
-    Declaring(Declaring),
-    /// The declarations are finished.
-    Asking(Asking),
+pub struct Lines<'a> {
+    rest: Option<&'a [u8]>,
+    number: u64,
 }
 
-impl Stage {
-    /// Before the first line. The only error is `Fault::Stop`.
-    pub fn new<'a>(alloc: Global) -> Result<Self, Fault<'a>> {
-        Ok(Stage::Declaring(Declaring::new(alloc)?))
+impl<'a> Lines<'a> {
+    /// All lines of the text.
+    pub fn new(text: &'a [u8]) -> Self {
+        Lines {
+            rest: Some(text),
+            number: 0,
+        }
     }
 
-    /// Does what the line asks, and writes its answer if it has one.
-    pub fn take<'a, W: Write>(self, line: &'a [u8], output: &mut W) -> Result<Self, Halt<'a>> {
-        let Some((first, words)) = Words::of_line(line)? else {
-            return Ok(self);
-        };
-        match command_named(first)? {
-            Command::Declaration(declaration) => Ok(self.declare(declaration, words)?),
-            Command::Query(query) => {
-                let mut asking = self.finish()?;
-                match asking.ask(query, words)? {
-                    Ok(answer) => output.write_all(answer.as_bytes())?,
-                    Err(stop) => {
-                        let number = stop as u8;
-                        writeln!(output, "stop {number}")?;
-                    }
-                }
-                Ok(Stage::Asking(asking))
+    /// The number of the line that was read last; before the first it is 1.
+    pub fn number(&self) -> u64 {
+        self.number.max(1)
+    }
+
+    fn next_line(&mut self) -> Option<&'a [u8]> {
+        let rest = self.rest?;
+        self.number = self.number.saturating_add(1);
+        for (end, byte) in rest.iter().enumerate() {
+            if *byte == b'\n' {
+                self.rest = Some(&rest[end + 1..]);
+                return Some(&rest[..end]);
             }
         }
+        self.rest = None;
+        Some(rest)
     }
 
-    fn declare<'a>(self, declaration: Declaration, words: Words<'a>) -> Result<Self, Fault<'a>> {
-        match self {
-            Stage::Declaring(mut declaring) => {
-                declaring.declare(declaration, words)?;
-                Ok(Stage::Declaring(declaring))
+    /// The command of the next line that isn't passed over, and the words that follow it.
+    ///
+    /// Besides the fault of a line's bytes, `Fault::UnknownWord` comes where there is no such command.
+    fn next_command(&mut self) -> Result<Option<(Command, Words<'a>)>, Fault<'a>> {
+        for _ in 0..u64::MAX {
+            let Some(line) = self.next_line() else {
+                return Ok(None);
+            };
+            if let Some((first, words)) = Words::of_line(line)? {
+                return Ok(Some((command_named(first)?, words)));
             }
-            Stage::Asking(_) => Err(Fault::LateDeclaration),
         }
+        Ok(None)
     }
+}
 
-    fn finish<'a>(self) -> Result<Asking, Fault<'a>> {
-        match self {
-            Stage::Declaring(declaring) => Ok(declaring.finish()?),
-            Stage::Asking(asking) => Ok(asking),
+/// Does what the lines ask, and writes the answers of those that have one.
+pub fn answer<'a, W: Write>(
+    alloc: Global,
+    lines: &mut Lines<'a>,
+    output: &mut W,
+) -> Result<(), Halt<'a>> {
+    let mut declaring = Declaring::new(alloc)?;
+    match declare_all(&mut declaring, lines)? {
+        Some((query, words)) => ask_all(&mut declaring.finish()?, query, words, lines, output),
+        None => Ok(()),
+    }
+}
+
+/// Does what the lines before the first query ask. The result is that query, with the words that
+/// follow it.
+fn declare_all<'a>(
+    declaring: &mut Declaring<'a>,
+    lines: &mut Lines<'a>,
+) -> Result<Option<(Query, Words<'a>)>, Fault<'a>> {
+    for _ in 0..u64::MAX {
+        match lines.next_command()? {
+            Some((Command::Declaration(declaration), words)) => {
+                declaring.declare(declaration, words)?
+            }
+            Some((Command::Query(query), words)) => return Ok(Some((query, words))),
+            None => break,
         }
     }
+    Ok(None)
+}
+
+/// Answers the query, and those that are left.
+fn ask_all<'a, W: Write>(
+    asking: &mut Asking<'a>,
+    mut query: Query,
+    mut words: Words<'a>,
+    lines: &mut Lines<'a>,
+    output: &mut W,
+) -> Result<(), Halt<'a>> {
+    for _ in 0..u64::MAX {
+        write_answer(asking, query, words, output)?;
+        match lines.next_command()? {
+            Some((Command::Query(next), following)) => {
+                query = next;
+                words = following;
+            }
+            Some((Command::Declaration(_), _)) => return Err(Halt::Line(Fault::LateDeclaration)),
+            None => break,
+        }
+    }
+    Ok(())
+}
+
+fn write_answer<'a, W: Write>(
+    asking: &mut Asking<'a>,
+    query: Query,
+    words: Words<'a>,
+    output: &mut W,
+) -> Result<(), Halt<'a>> {
+    match asking.ask(query, words)? {
+        Ok(answer) => output.write_all(answer.as_bytes())?,
+        Err(stop) => {
+            let number = stop as u8;
+            writeln!(output, "stop {number}")?;
+        }
+    }
+    Ok(())
 }
 
 /// The command of that name, else `Fault::UnknownWord`.
 fn command_named<'a>(word: &str) -> Result<Command, Fault<'a>> {
-    match word {
-        "local" => Ok(Command::Declaration(Declaration::Local)),
-        "adt" => Ok(Command::Declaration(Declaration::Adt)),
-        "foreign" => Ok(Command::Declaration(Declaration::Foreign)),
-        "trait" => Ok(Command::Declaration(Declaration::Trait)),
-        "assoc" => Ok(Command::Declaration(Declaration::Assoc)),
-        "orphan" => Ok(Command::Query(Query::Orphan)),
-        "knowable" => Ok(Command::Query(Query::Knowable)),
-        _ => Err(Fault::UnknownWord),
-    }
+    Ok(match word {
+        "local" => Command::Declaration(Declaration::Local),
+        "adt" => Command::Declaration(Declaration::Adt),
+        "foreign" => Command::Declaration(Declaration::Foreign),
+        "trait" => Command::Declaration(Declaration::Trait),
+        "assoc" => Command::Declaration(Declaration::Assoc),
+        "orphan" => Command::Query(Query::Orphan),
+        "knowable" => Command::Query(Query::Knowable),
+        _ => return Err(Fault::UnknownWord),
+    })
 }

@@ -5,7 +5,7 @@ ghost use Rattle.std.specs.Prelude.{◌≡◌, ◌⊎◌, IfOk, IfErr, Some, Non
 use crate::faults::Fault;
 use candidate_ir::ir::kinds::{AdtId, AssocId, ForeignId, TraitId};
 use std::alloc::{AllocError, Global};
-use std::collections::HashMap;
+use std::collections::BTreeMap;
 
 const LONGEST: usize = 64;
 
@@ -29,21 +29,20 @@ pub enum Item {
     Assoc(AssocId, u16),
 }
 
-/// The names declared so far.
+/// The names declared so far, which are words of the text. They are kept in an order, so that no
+/// choice of names makes them slow to find.
 #[derive(Drop)]
-pub struct Names {
-    alloc: Global,
-    items: HashMap<String, Item>,
+pub struct Names<'a> {
+    items: BTreeMap<(u64, &'a str), Item>,
     /// The names of the definitions by their numbers.
-    definitions: Vec<String>,
+    definitions: Vec<&'a str>,
 }
 
-impl Names {
+impl<'a> Names<'a> {
     /// No names.
     pub fn new(alloc: Global) -> Self {
         Names {
-            alloc,
-            items: HashMap::new(alloc),
+            items: BTreeMap::new(alloc),
             definitions: Vec::new(alloc),
         }
     }
@@ -51,62 +50,74 @@ impl Names {
     /// The word, if it can be the name of something new.
     ///
     /// `Fault::BadName` comes if it can't be a name, `Fault::NameTwice` if it is taken.
-    pub fn unused<'a>(&self, word: &'a str) -> Result<&'a str, Fault<'a>>
+    pub fn unused(&self, word: &'a str) -> Result<&'a str, Fault<'a>>
         ensures word { IfOk result (λ name. name.now ≡ word.entry.now) }
         ensures cause { IfErr result (λ e. (e ≡ Fault.BadName word.entry) ⊎ (e ≡ Fault.NameTwice word.entry)) }
     {
         if !is_name(word) {
             return Err(Fault::BadName(word));
         }
-        if self.items.contains_key(word) {
+        if self.items.contains_key(&key(word)) {
             return Err(Fault::NameTwice(word));
         }
         Ok(word)
     }
 
     /// What the word is the name of, else `Fault::UnknownName`.
-    pub fn item<'a>(&self, word: &'a str) -> Result<Item, Fault<'a>>
+    pub fn item(&self, word: &'a str) -> Result<Item, Fault<'a>>
         ensures { IfErr result (λ e. e ≡ Fault.UnknownName word.entry) }
     {
-        match self.items.get(word) {
+        match self.items.get(&key(word)) {
             Some(item) => Ok(*item),
             None => Err(Fault::UnknownName(word)),
         }
     }
 
     /// The trait of that name, else `Fault::UnknownName`.
-    pub fn trait_named<'a>(&self, word: &'a str) -> Result<NamedTrait, Fault<'a>>
+    pub fn trait_named(&self, word: &'a str) -> Result<NamedTrait, Fault<'a>>
         ensures { IfErr result (λ e. e ≡ Fault.UnknownName word.entry) }
     {
-        match self.items.get(word) {
+        match self.items.get(&key(word)) {
             Some(Item::Trait(found)) => Ok(*found),
             _ => Err(Fault::UnknownName(word)),
         }
     }
 
     /// Gives the name to the next definition.
-    pub fn add_definition(&mut self, name: &str, item: Item) -> Result<(), AllocError> {
-        self.definitions.push(String::from_str(self.alloc, name)?)?;
-        self.items
-            .insert(String::from_str(self.alloc, name)?, item)?;
+    pub fn add_definition(&mut self, name: &'a str, item: Item) -> Result<(), AllocError> {
+        self.definitions.push(name)?;
+        self.items.insert(key(name), item)?;
         Ok(())
     }
 
     /// The name of the definition of that number.
-    pub fn definition(&self, number: u32) -> Option<&str> {
-        match self.definitions.get(number as usize) {
-            Some(name) => Some(name.as_str()),
-            None => None,
-        }
+    pub fn definition(&self, number: u32) -> Option<&'a str> {
+        self.definitions.get(number as usize).copied()
     }
+}
+
+/// The name after a number that is made of its bytes, by which most names differ at once.
+fn key<'a>(name: &'a str) -> (u64, &'a str) {
+    let mut number = 0u64;
+    for byte in name.bytes() {
+        number = number.wrapping_mul(31).wrapping_add(u64::from(byte));
+    }
+    (number, name)
 }
 
 /// Whether the word is a letter and then letters, digits and `_`, not too long, and no type.
 fn is_name(word: &str) -> bool {
-    word.len() <= LONGEST
-        && word.starts_with(|first: char| first.is_ascii_alphabetic())
-        && word
-            .bytes()
-            .all(|byte| byte.is_ascii_alphanumeric() || byte == b'_')
-        && crate::notation::leaf(word).is_none()
+    for byte in word.bytes() {
+        if !byte.is_ascii_alphanumeric() && byte != b'_' {
+            return false;
+        }
+    }
+    word.len() <= LONGEST && begins_with_letter(word) && crate::notation::leaf(word).is_none()
+}
+
+fn begins_with_letter(word: &str) -> bool {
+    match word.as_bytes().first() {
+        Some(byte) => byte.is_ascii_alphabetic(),
+        None => false,
+    }
 }

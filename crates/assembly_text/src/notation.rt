@@ -8,6 +8,9 @@ use crate::faults::Fault;
 use crate::words::{is_digits, number_in};
 use candidate_ir::ir::kinds::{FloatTy, InferTy, IntTy, Mutability, Placeholder, TyKind, UintTy};
 
+/// How many bytes the longest word of a type without a number has.
+const LONGEST_LEAF: usize = 5;
+
 /// The greatest number of a variable.
 const LAST_VARIABLE: u16 = 255;
 
@@ -96,6 +99,9 @@ fn marked_number<'a>(word: &'a str, digits: &str, most: u16) -> Result<u16, Faul
 pub fn leaf(word: &str) -> Option<TyKind>
     ensures { IfSome result (λ kind. ty_children kind ≡ []) }
 {
+    if word.len() > LONGEST_LEAF {
+        return None;
+    }
     Some(match word {
         "bool" => TyKind::Bool,
         "char" => TyKind::Char,
@@ -122,48 +128,35 @@ pub fn leaf(word: &str) -> Option<TyKind>
     })
 }
 
-/// How the type is written, if a word alone does it whatever is declared.
-pub fn leaf_word(kind: TyKind) -> Option<&'static str> {
+/// The word that a type of that kind begins with, if it is the same for all types of the kind.
+pub fn word_of(kind: TyKind) -> Option<&'static str> {
     Some(match kind {
         TyKind::Bool => "bool",
         TyKind::Char => "char",
         TyKind::Str => "str",
         TyKind::Never => "!",
         TyKind::Error => "error",
-        TyKind::Int(width) => int_word(width),
-        TyKind::Uint(width) => uint_word(width),
-        TyKind::Float(width) => float_word(width),
+        TyKind::Int(IntTy::I8) => "i8",
+        TyKind::Int(IntTy::I16) => "i16",
+        TyKind::Int(IntTy::I32) => "i32",
+        TyKind::Int(IntTy::I64) => "i64",
+        TyKind::Int(IntTy::I128) => "i128",
+        TyKind::Int(IntTy::Isize) => "isize",
+        TyKind::Uint(UintTy::U8) => "u8",
+        TyKind::Uint(UintTy::U16) => "u16",
+        TyKind::Uint(UintTy::U32) => "u32",
+        TyKind::Uint(UintTy::U64) => "u64",
+        TyKind::Uint(UintTy::U128) => "u128",
+        TyKind::Uint(UintTy::Usize) => "usize",
+        TyKind::Float(FloatTy::F16) => "f16",
+        TyKind::Float(FloatTy::F32) => "f32",
+        TyKind::Float(FloatTy::F64) => "f64",
+        TyKind::Float(FloatTy::F128) => "f128",
+        TyKind::Ref(_, _, Mutability::Not) => "&",
+        TyKind::Ref(_, _, Mutability::Mut) => "&mut",
+        TyKind::RawPtr(_, Mutability::Not) => "*const",
+        TyKind::RawPtr(_, Mutability::Mut) => "*mut",
+        TyKind::Slice(_) => "[]",
         _ => return None,
     })
-}
-
-fn int_word(width: IntTy) -> &'static str {
-    match width {
-        IntTy::I8 => "i8",
-        IntTy::I16 => "i16",
-        IntTy::I32 => "i32",
-        IntTy::I64 => "i64",
-        IntTy::I128 => "i128",
-        IntTy::Isize => "isize",
-    }
-}
-
-fn uint_word(width: UintTy) -> &'static str {
-    match width {
-        UintTy::U8 => "u8",
-        UintTy::U16 => "u16",
-        UintTy::U32 => "u32",
-        UintTy::U64 => "u64",
-        UintTy::U128 => "u128",
-        UintTy::Usize => "usize",
-    }
-}
-
-fn float_word(width: FloatTy) -> &'static str {
-    match width {
-        FloatTy::F16 => "f16",
-        FloatTy::F32 => "f32",
-        FloatTy::F64 => "f64",
-        FloatTy::F128 => "f128",
-    }
 }

@@ -1,7 +1,7 @@
 //! A run over a text.
 
 use crate::faults::Fault;
-use crate::lines::{Halt, Stage};
+use crate::lines::{self, Halt, Lines};
 use candidate_ir::ir::stop::Stop;
 use std::alloc::{AllocError, Global};
 use std::io;
@@ -80,20 +80,12 @@ fn read_to_end<R: Read>(input: &mut R, text: &mut Vec<u8>) -> io::Result<Result<
 }
 
 fn answer_lines<W: Write>(alloc: Global, text: &[u8], output: &mut W) -> io::Result<Status> {
-    let mut stage = match Stage::new(alloc) {
-        Ok(stage) => stage,
-        Err(fault) => return refuse(1, fault, output),
-    };
-    let mut number = 0u64;
-    for line in text.split(|byte| *byte == b'\n') {
-        number = number.saturating_add(1);
-        stage = match stage.take(line, output) {
-            Ok(next) => next,
-            Err(Halt::Device(error)) => return Err(error),
-            Err(Halt::Line(fault)) => return refuse(number, fault, output),
-        };
+    let mut lines = Lines::new(text);
+    match lines::answer(alloc, &mut lines, output) {
+        Ok(()) => Ok(Status::Done),
+        Err(Halt::Device(error)) => Err(error),
+        Err(Halt::Line(fault)) => refuse(lines.number(), fault, output),
     }
-    Ok(Status::Done)
 }
 
 fn refuse<W: Write>(number: u64, fault: Fault<'_>, output: &mut W) -> io::Result<Status> {

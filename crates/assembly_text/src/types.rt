@@ -2,16 +2,20 @@
 
 ghost use Rattle.std.specs.Prelude.{◌≡◌, true, false, IfOk};
 ghost use Rattle.candidate_ir.specs.Context.{Grows};
-ghost use Rattle.candidate_ir.specs.Words.{IsTy, IsArgs, IsPreds, ListFits, PredFits, BoundsFit, AtMostOnePrincipal, names_trait};
+ghost use Rattle.candidate_ir.specs.Words.{IsTy, IsArgs, IsPreds, KindFits, ListFits, PredFits, BoundsFit, AtMostOnePrincipal, names_trait};
+ghost use Rattle.assembly_text.specs.Types.{IsChildlessHead, IsNoPrincipal};
 
+use crate::building::{
+    Constructor, Pointer, auto_bound, construct, dynamic, pointer_to, projection_bound, trait_bound,
+};
 use crate::faults::Fault;
 use crate::names::{Item, Names};
-use crate::notation::{TypeWord, leaf_word, type_word};
+use crate::notation::{TypeWord, type_word, word_of};
 use crate::words::Words;
-use candidate_ir::decl::make::Make;
+use candidate_ir::decl::context::Cx;
 use candidate_ir::ir::kinds::{
-    AdtId, AliasTy, Args, AssocId, Binder, ExistentialPredicate, GenericArg, InferTy, Mutability,
-    Preds, RegionKind, TraitId, TraitRef, Ty, TyKind,
+    Args, AssocId, Binder, ExistentialPredicate, GenericArg, InferTy, Preds, TraitId, TraitRef, Ty,
+    TyKind,
 };
 use candidate_ir::ir::stop::Stop;
 use std::alloc::Global;
@@ -22,90 +26,95 @@ pub const DEEPEST: u16 = 1024;
 /// In the place of what a text can't spell.
 const UNSPELLED: &str = "?";
 
-/// The names that a line may use, and what makes its types.
+/// The names that a line may use, and the context in which its types are made.
 #[derive(Drop)]
-pub struct Scope<M> {
+pub struct Scope<'a> {
     pub alloc: Global,
-    pub names: Names,
-    pub maker: M,
+    pub names: Names<'a>,
+    pub cx: Cx,
 }
 
-impl<M: Make> Scope<M> {
+/// What a type's first word makes of the words that follow.
+#[derive(Clone, Copy)]
+enum Head {
+    /// The word is the whole type.
+    Leaf(TyKind),
+    /// One type follows.
+    Before(Pointer),
+    /// So many types follow.
+    Over(Constructor, u32),
+    /// So many bounds follow.
+    Dyn(u16),
+}
+
+/// What a bound's name says of it, with how many types follow.
+#[derive(Clone, Copy)]
+enum BoundHead {
+    AutoTrait(TraitId),
+    Trait(TraitId, u16),
+    /// A type more follows, which the projection is.
+    Projection(AssocId, u16),
+}
+
+impl<'a> Scope<'a> {
     /// The next type of a line, whose words may be nested that deep.
     ///
     /// Besides the faults of its words and of their names, `Fault::Parameter` comes at a parameter,
     /// and `Fault::Stop` where a word is nested deeper or a node can't be made.
     #[cycle(types)]
-    pub fn read_type<'a>(&mut self, words: &mut Words<'a>, depth: u16) -> Result<Ty, Fault<'a>>
-        ensures grows { Grows (M.context self.old.maker) (M.context self.new.maker) }
-        ensures sort { IfOk result (λ ty. IsTy (M.context self.new.maker).trees ty) }
+    pub fn read_type(&mut self, words: &mut Words<'a>, depth: u16) -> Result<Ty, Fault<'a>>
+        ensures grows { Grows self.old.cx self.new.cx }
+        ensures sort { IfOk result (λ ty. IsTy self.new.cx.trees ty) }
     {
         let word = words.word()?;
         let Some(below) = depth.checked_sub(1) else {
             return Err(Fault::Stop(Stop::NodesFull));
         };
-        match type_word(word)? {
-            TypeWord::Leaf(kind) => Ok(self.maker.mk_ty(kind)?),
-            TypeWord::Ref(mutability) => {
+        match self.head(word)? {
+            Head::Leaf(kind) => Ok(self.cx.mk_ty(kind)?),
+            Head::Before(pointer) => {
                 let target = self.read_type(words, below)?;
-                self.reference(target, mutability)
+                Ok(pointer_to(&mut self.cx, pointer, target)?)
             }
-            TypeWord::RawPtr(mutability) => {
-                let target = self.read_type(words, below)?;
-                Ok(self.maker.mk_ty(TyKind::RawPtr(target, mutability))?)
+            Head::Over(constructor, count) => {
+                let list = self.read_types(words, count, below)?;
+                Ok(construct(&mut self.cx, constructor, list.as_slice())?)
             }
-            TypeWord::Slice => {
-                let element = self.read_type(words, below)?;
-                Ok(self.maker.mk_ty(TyKind::Slice(element))?)
-            }
-            TypeWord::Tuple(count) => {
-                let list = self.read_types(words, u32::from(count), below)?;
-                self.tuple(list.as_slice())
-            }
-            TypeWord::Dyn(count) => {
+            Head::Dyn(count) => {
                 let bounds = self.read_bounds(words, count, below)?;
-                self.dynamic(bounds.as_slice())
+                Ok(dynamic(&mut self.cx, bounds.as_slice())?)
             }
-            TypeWord::Param => Err(Fault::Parameter),
-            TypeWord::Name(name) => self.read_named(words, name, below),
         }
     }
 
-    /// The type of that name, whose arguments are the next words of a line.
+    /// The next so many types of a line, as arguments.
     #[cycle(types)]
-    fn read_named<'a>(
+    pub fn read_types(
         &mut self,
         words: &mut Words<'a>,
-        name: &'a str,
+        count: u32,
         depth: u16,
-    ) -> Result<Ty, Fault<'a>>
-        ensures grows { Grows (M.context self.old.maker) (M.context self.new.maker) }
-        ensures sort { IfOk result (λ ty. IsTy (M.context self.new.maker).trees ty) }
+    ) -> Result<Vec<GenericArg>, Fault<'a>>
+        ensures grows { Grows self.old.cx self.new.cx }
+        ensures fits { IfOk result (λ list. ListFits self.new.cx.trees list.items) }
     {
-        match self.names.item(name)? {
-            Item::Adt(id, arity) => {
-                let list = self.read_types(words, u32::from(arity), depth)?;
-                self.adt(id, list.as_slice())
-            }
-            Item::Foreign(id) => Ok(self.maker.mk_ty(TyKind::Foreign(id))?),
-            Item::Assoc(id, arity) => {
-                let list = self.read_types(words, u32::from(arity) + 1, depth)?;
-                self.projection(id, list.as_slice())
-            }
-            Item::Trait(_) => Err(Fault::UnknownName(name)),
+        let mut list = Vec::new(self.alloc);
+        for _ in 0..count {
+            list.push(GenericArg::Ty(self.read_type(words, depth)?))?;
         }
+        Ok(list)
     }
 
     /// The next so many bounds of a line, of which at most one is a principal.
     #[cycle(types)]
-    fn read_bounds<'a>(
+    fn read_bounds(
         &mut self,
         words: &mut Words<'a>,
         count: u16,
         depth: u16,
     ) -> Result<Vec<Binder<ExistentialPredicate>>, Fault<'a>>
-        ensures grows { Grows (M.context self.old.maker) (M.context self.new.maker) }
-        ensures fit { IfOk result (λ list. BoundsFit (M.context self.new.maker).trees list.items) }
+        ensures grows { Grows self.old.cx self.new.cx }
+        ensures fit { IfOk result (λ list. BoundsFit self.new.cx.trees list.items) }
         ensures principal { IfOk result (λ list. AtMostOnePrincipal list.items) }
     {
         let mut list = Vec::new(self.alloc);
@@ -120,166 +129,86 @@ impl<M: Make> Scope<M> {
 
     /// The next bound of a line. `Fault::TwoPrincipals` comes at a principal after another.
     #[cycle(types)]
-    fn read_bound<'a>(
+    fn read_bound(
         &mut self,
         words: &mut Words<'a>,
         has_principal: bool,
         depth: u16,
     ) -> Result<Binder<ExistentialPredicate>, Fault<'a>>
-        ensures grows { Grows (M.context self.old.maker) (M.context self.new.maker) }
-        ensures fits { IfOk result (λ bound. PredFits (M.context self.new.maker).trees bound) }
+        ensures grows { Grows self.old.cx self.new.cx }
+        ensures fits { IfOk result (λ bound. PredFits self.new.cx.trees bound) }
         ensures principal { IfOk result (λ bound. has_principal ≡ true → names_trait bound.value ≡ false) }
     {
-        let name = words.word()?;
-        match self.names.item(name)? {
-            Item::Trait(found) => {
-                if found.is_auto {
-                    return self.auto_bound(found.id);
-                }
-                if has_principal {
-                    return Err(Fault::TwoPrincipals);
-                }
-                let list = self.read_types(words, u32::from(found.arity), depth)?;
-                self.trait_bound(found.id, list.as_slice())
+        match self.bound_head(words.word()?, has_principal)? {
+            BoundHead::AutoTrait(id) => Ok(auto_bound(&mut self.cx, id)?),
+            BoundHead::Trait(id, count) => {
+                let list = self.read_types(words, u32::from(count), depth)?;
+                Ok(trait_bound(&mut self.cx, id, list.as_slice())?)
             }
-            Item::Assoc(id, arity) => {
-                let list = self.read_types(words, u32::from(arity), depth)?;
+            BoundHead::Projection(id, count) => {
+                let list = self.read_types(words, u32::from(count), depth)?;
                 let term = self.read_type(words, depth)?;
-                self.projection_bound(id, list.as_slice(), term)
+                Ok(projection_bound(&mut self.cx, id, list.as_slice(), term)?)
             }
-            Item::Adt(_, _) | Item::Foreign(_) => Err(Fault::UnknownName(name)),
         }
-    }
-
-    /// The next so many types of a line, as arguments.
-    #[cycle(types)]
-    pub fn read_types<'a>(
-        &mut self,
-        words: &mut Words<'a>,
-        count: u32,
-        depth: u16,
-    ) -> Result<Vec<GenericArg>, Fault<'a>>
-        ensures grows { Grows (M.context self.old.maker) (M.context self.new.maker) }
-        ensures fits { IfOk result (λ list. ListFits (M.context self.new.maker).trees list.items) }
-    {
-        let mut list = Vec::new(self.alloc);
-        for _ in 0..count {
-            list.push(GenericArg::Ty(self.read_type(words, depth)?))?;
-        }
-        Ok(list)
     }
 
     /// The next trait of a line, with its arguments. Its errors are those of its types.
-    pub fn read_trait_ref<'a>(&mut self, words: &mut Words<'a>) -> Result<TraitRef, Fault<'a>>
-        ensures grows { Grows (M.context self.old.maker) (M.context self.new.maker) }
-        ensures sort { IfOk result (λ r. IsArgs (M.context self.new.maker).trees r.args) }
+    pub fn read_trait_ref(&mut self, words: &mut Words<'a>) -> Result<TraitRef, Fault<'a>>
+        ensures grows { Grows self.old.cx self.new.cx }
+        ensures sort { IfOk result (λ r. IsArgs self.new.cx.trees r.args) }
     {
         let found = self.names.trait_named(words.word()?)?;
         let list = self.read_types(words, u32::from(found.arity) + 1, DEEPEST)?;
-        let args = self.maker.mk_args(list.as_slice())?;
+        let args = self.cx.mk_args(list.as_slice())?;
         Ok(TraitRef {
             def_id: found.id,
             args,
         })
     }
 
-    fn reference<'a>(&mut self, target: Ty, mutability: Mutability) -> Result<Ty, Fault<'a>>
-        requires { IsTy (M.context self.old.maker).trees target }
-        ensures grows { Grows (M.context self.old.maker) (M.context self.new.maker) }
-        ensures sort { IfOk result (λ ty. IsTy (M.context self.new.maker).trees ty) }
+    /// What the first word of a type makes of the words that follow.
+    fn head(&self, word: &'a str) -> Result<Head, Fault<'a>>
+        ensures { IfOk result IsChildlessHead }
     {
-        let region = self.maker.mk_region(RegionKind::Static)?;
-        Ok(self.maker.mk_ty(TyKind::Ref(region, target, mutability))?)
-    }
-
-    fn tuple<'a>(&mut self, list: &[GenericArg]) -> Result<Ty, Fault<'a>>
-        requires { ListFits (M.context self.old.maker).trees list.now }
-        ensures grows { Grows (M.context self.old.maker) (M.context self.new.maker) }
-        ensures sort { IfOk result (λ ty. IsTy (M.context self.new.maker).trees ty) }
-    {
-        let args = self.maker.mk_args(list)?;
-        Ok(self.maker.mk_ty(TyKind::Tuple(args))?)
-    }
-
-    fn adt<'a>(&mut self, id: AdtId, list: &[GenericArg]) -> Result<Ty, Fault<'a>>
-        requires { ListFits (M.context self.old.maker).trees list.now }
-        ensures grows { Grows (M.context self.old.maker) (M.context self.new.maker) }
-        ensures sort { IfOk result (λ ty. IsTy (M.context self.new.maker).trees ty) }
-    {
-        let args = self.maker.mk_args(list)?;
-        Ok(self.maker.mk_ty(TyKind::Adt(id, args))?)
-    }
-
-    fn projection<'a>(&mut self, id: AssocId, list: &[GenericArg]) -> Result<Ty, Fault<'a>>
-        requires { ListFits (M.context self.old.maker).trees list.now }
-        ensures grows { Grows (M.context self.old.maker) (M.context self.new.maker) }
-        ensures sort { IfOk result (λ ty. IsTy (M.context self.new.maker).trees ty) }
-    {
-        let args = self.maker.mk_args(list)?;
-        Ok(
-            self.maker
-                .mk_ty(TyKind::Alias(AliasTy::projection(id, args)))?,
-        )
-    }
-
-    fn dynamic<'a>(&mut self, bounds: &[Binder<ExistentialPredicate>]) -> Result<Ty, Fault<'a>>
-        requires fit { BoundsFit (M.context self.old.maker).trees bounds.now }
-        requires principal { AtMostOnePrincipal bounds.now }
-        ensures grows { Grows (M.context self.old.maker) (M.context self.new.maker) }
-        ensures sort { IfOk result (λ ty. IsTy (M.context self.new.maker).trees ty) }
-    {
-        let preds = self.maker.mk_preds(bounds)?;
-        let region = self.maker.mk_region(RegionKind::Static)?;
-        Ok(self.maker.mk_ty(TyKind::Dynamic(preds, region))?)
-    }
-
-    fn auto_bound<'a>(&mut self, id: TraitId) -> Result<Binder<ExistentialPredicate>, Fault<'a>>
-        ensures grows { Grows (M.context self.old.maker) (M.context self.new.maker) }
-        ensures fits { IfOk result (λ bound. PredFits (M.context self.new.maker).trees bound) }
-        ensures kind { IfOk result (λ bound. names_trait bound.value ≡ false) }
-    {
-        let vars = self.maker.mk_vars(&[])?;
-        Ok(Binder {
-            vars,
-            value: ExistentialPredicate::AutoTrait(id),
+        Ok(match type_word(word)? {
+            TypeWord::Leaf(kind) => Head::Leaf(kind),
+            TypeWord::Ref(mutability) => Head::Before(Pointer::Ref(mutability)),
+            TypeWord::RawPtr(mutability) => Head::Before(Pointer::RawPtr(mutability)),
+            TypeWord::Slice => Head::Before(Pointer::Slice),
+            TypeWord::Tuple(count) => Head::Over(Constructor::Tuple, u32::from(count)),
+            TypeWord::Dyn(count) => Head::Dyn(count),
+            TypeWord::Param => return Err(Fault::Parameter),
+            TypeWord::Name(name) => return self.named_head(name),
         })
     }
 
-    fn trait_bound<'a>(
-        &mut self,
-        id: TraitId,
-        list: &[GenericArg],
-    ) -> Result<Binder<ExistentialPredicate>, Fault<'a>>
-        requires { ListFits (M.context self.old.maker).trees list.now }
-        ensures grows { Grows (M.context self.old.maker) (M.context self.new.maker) }
-        ensures fits { IfOk result (λ bound. PredFits (M.context self.new.maker).trees bound) }
+    /// What the name of a type makes of the words that follow.
+    fn named_head(&self, name: &'a str) -> Result<Head, Fault<'a>>
+        ensures { IfOk result IsChildlessHead }
     {
-        let args = self.maker.mk_args(list)?;
-        let vars = self.maker.mk_vars(&[])?;
-        Ok(Binder {
-            vars,
-            value: ExistentialPredicate::Trait(id, args),
-        })
+        match self.names.item(name)? {
+            Item::Adt(id, arity) => Ok(Head::Over(Constructor::Adt(id), u32::from(arity))),
+            Item::Foreign(id) => Ok(Head::Leaf(TyKind::Foreign(id))),
+            Item::Assoc(id, arity) => Ok(Head::Over(
+                Constructor::Projection(id),
+                u32::from(arity) + 1,
+            )),
+            Item::Trait(_) => Err(Fault::UnknownName(name)),
+        }
     }
 
-    fn projection_bound<'a>(
-        &mut self,
-        id: AssocId,
-        list: &[GenericArg],
-        term: Ty,
-    ) -> Result<Binder<ExistentialPredicate>, Fault<'a>>
-        requires list { ListFits (M.context self.old.maker).trees list.now }
-        requires term { IsTy (M.context self.old.maker).trees term }
-        ensures grows { Grows (M.context self.old.maker) (M.context self.new.maker) }
-        ensures fits { IfOk result (λ bound. PredFits (M.context self.new.maker).trees bound) }
-        ensures kind { IfOk result (λ bound. names_trait bound.value ≡ false) }
+    /// What the first word of a bound says. `Fault::TwoPrincipals` comes at a principal after another.
+    fn bound_head(&self, name: &'a str, has_principal: bool) -> Result<BoundHead, Fault<'a>>
+        ensures { IfOk result (λ head. has_principal ≡ true → IsNoPrincipal head) }
     {
-        let args = self.maker.mk_args(list)?;
-        let vars = self.maker.mk_vars(&[])?;
-        Ok(Binder {
-            vars,
-            value: ExistentialPredicate::Projection(id, args, term),
-        })
+        match self.names.item(name)? {
+            Item::Trait(found) if found.is_auto => Ok(BoundHead::AutoTrait(found.id)),
+            Item::Trait(_) if has_principal => Err(Fault::TwoPrincipals),
+            Item::Trait(found) => Ok(BoundHead::Trait(found.id, found.arity)),
+            Item::Assoc(id, arity) => Ok(BoundHead::Projection(id, arity)),
+            Item::Adt(_, _) | Item::Foreign(_) => Err(Fault::UnknownName(name)),
+        }
     }
 
     /// Adds the type to the text, as it is read.
@@ -289,107 +218,88 @@ impl<M: Make> Scope<M> {
     /// of the type then.
     #[cycle(printing)]
     pub fn print_type(&self, ty: Ty, depth: u16, text: &mut String) -> Result<(), Stop>
-        requires { IsTy (M.context self.now.maker).trees ty }
+        requires { IsTy self.now.cx.trees ty }
     {
         let Some(below) = depth.checked_sub(1) else {
             return Err(Stop::NodesFull);
         };
-        let kind = self.maker.cx().kind(ty);
+        let kind = self.cx.kind(ty);
+        self.print_head(kind, text)?;
         match kind {
-            TyKind::Ref(_, target, mutability) => {
-                text.push_str(reference_word(mutability))?;
-                self.print_type(target, below, text)
-            }
-            TyKind::RawPtr(target, mutability) => {
-                text.push_str(pointer_word(mutability))?;
-                self.print_type(target, below, text)
-            }
-            TyKind::Slice(element) => {
-                text.push_str("[] ")?;
-                self.print_type(element, below, text)
-            }
-            TyKind::Tuple(args) => {
-                let count = self.maker.cx().args(args).len();
-                write!(text, "({count})")?;
-                self.print_types(args, below, text)
-            }
-            TyKind::Adt(id, args) => self.print_named(id.0, args, below, text),
-            TyKind::Foreign(id) => self.print_name(id.0, text),
-            TyKind::Alias(alias) => self.print_named(alias.id.0, alias.args, below, text),
-            TyKind::Dynamic(preds, _) => self.print_bounds(preds, below, text),
-            _ => print_leaf(kind, text),
-        }
-    }
-
-    /// Adds the name of the definition of that number.
-    fn print_name(&self, number: u32, text: &mut String) -> Result<(), Stop> {
-        text.push_str(self.names.definition(number).unwrap_or(UNSPELLED))?;
-        Ok(())
-    }
-
-    /// Adds the name of the definition of that number, and its arguments.
-    #[cycle(printing)]
-    fn print_named(
-        &self,
-        number: u32,
-        args: Args,
-        depth: u16,
-        text: &mut String,
-    ) -> Result<(), Stop>
-        requires { IsArgs (M.context self.now.maker).trees args }
-    {
-        self.print_name(number, text)?;
-        self.print_types(args, depth, text)
-    }
-
-    /// Adds the bounds of a `dyn` type, after their number.
-    #[cycle(printing)]
-    fn print_bounds(&self, preds: Preds, depth: u16, text: &mut String) -> Result<(), Stop>
-        requires { IsPreds (M.context self.now.maker).trees preds }
-    {
-        let list = self.maker.cx().preds(preds);
-        let count = list.len();
-        write!(text, "dyn({count})")?;
-        for pred in list {
-            text.push(' ')?;
-            let bound = self.maker.cx().pred(*pred);
-            self.print_bound(bound, depth, text)?;
-        }
-        Ok(())
-    }
-
-    #[cycle(printing)]
-    fn print_bound(
-        &self,
-        bound: Binder<ExistentialPredicate>,
-        depth: u16,
-        text: &mut String,
-    ) -> Result<(), Stop>
-        requires { PredFits (M.context self.now.maker).trees bound }
-    {
-        match bound.value {
-            ExistentialPredicate::Trait(id, args) => self.print_named(id.0, args, depth, text),
-            ExistentialPredicate::Projection(id, args, term) => {
-                self.print_named(id.0, args, depth, text)?;
+            TyKind::Ref(_, target, _) | TyKind::RawPtr(target, _) | TyKind::Slice(target) => {
                 text.push(' ')?;
-                self.print_type(term, depth, text)
+                self.print_type(target, below, text)
             }
-            ExistentialPredicate::AutoTrait(id) => self.print_name(id.0, text),
+            TyKind::Tuple(args) | TyKind::Adt(_, args) => self.print_types(args, below, text),
+            TyKind::Alias(alias) => self.print_types(alias.args, below, text),
+            TyKind::Dynamic(preds, _) => self.print_bounds(preds, below, text),
+            _ => Ok(()),
         }
     }
 
     /// Adds each type of the list, after a space.
     #[cycle(printing)]
     fn print_types(&self, args: Args, depth: u16, text: &mut String) -> Result<(), Stop>
-        requires { IsArgs (M.context self.now.maker).trees args }
+        requires { IsArgs self.now.cx.trees args }
     {
-        for arg in self.maker.cx().args(args) {
+        for arg in self.cx.args(args) {
             text.push(' ')?;
             match arg {
                 GenericArg::Ty(ty) => self.print_type(*ty, depth, text)?,
                 GenericArg::Const(_) | GenericArg::Region(_) => text.push_str(UNSPELLED)?,
             }
         }
+        Ok(())
+    }
+
+    /// Adds each bound of the list, after a space.
+    #[cycle(printing)]
+    fn print_bounds(&self, preds: Preds, depth: u16, text: &mut String) -> Result<(), Stop>
+        requires { IsPreds self.now.cx.trees preds }
+    {
+        for pred in self.cx.preds(preds) {
+            let bound = self.cx.pred(*pred).value;
+            text.push(' ')?;
+            self.print_bound_name(bound, text)?;
+            match bound {
+                ExistentialPredicate::Trait(_, args) => self.print_types(args, depth, text)?,
+                ExistentialPredicate::Projection(_, args, term) => {
+                    self.print_types(args, depth, text)?;
+                    text.push(' ')?;
+                    self.print_type(term, depth, text)?;
+                }
+                ExistentialPredicate::AutoTrait(_) => {}
+            }
+        }
+        Ok(())
+    }
+
+    /// Adds what stands before the types in a type of that kind.
+    fn print_head(&self, kind: TyKind, text: &mut String) -> Result<(), Stop>
+        requires { KindFits self.now.cx.trees kind }
+    {
+        match kind {
+            TyKind::Tuple(args) => print_count("", self.cx.args(args).len(), text),
+            TyKind::Dynamic(preds, _) => print_count("dyn", self.cx.preds(preds).len(), text),
+            TyKind::Adt(id, _) => self.print_name(id.0, text),
+            TyKind::Foreign(id) => self.print_name(id.0, text),
+            TyKind::Alias(alias) => self.print_name(alias.id.0, text),
+            _ => print_word(kind, text),
+        }
+    }
+
+    /// Adds the name that begins the bound.
+    fn print_bound_name(&self, bound: ExistentialPredicate, text: &mut String) -> Result<(), Stop> {
+        match bound {
+            ExistentialPredicate::Trait(id, _) => self.print_name(id.0, text),
+            ExistentialPredicate::Projection(id, _, _) => self.print_name(id.0, text),
+            ExistentialPredicate::AutoTrait(id) => self.print_name(id.0, text),
+        }
+    }
+
+    /// Adds the name of the definition of that number.
+    fn print_name(&self, number: u32, text: &mut String) -> Result<(), Stop> {
+        text.push_str(self.names.definition(number).unwrap_or(UNSPELLED))?;
         Ok(())
     }
 }
@@ -400,34 +310,23 @@ fn is_principal(bound: Binder<ExistentialPredicate>) -> bool
     matches!(bound.value, ExistentialPredicate::Trait(_, _))
 }
 
-fn reference_word(mutability: Mutability) -> &'static str {
-    match mutability {
-        Mutability::Not => "& ",
-        Mutability::Mut => "&mut ",
-    }
+/// Adds how many members there are, in brackets after the word.
+fn print_count(word: &str, count: usize, text: &mut String) -> Result<(), Stop> {
+    write!(text, "{word}({count})")?;
+    Ok(())
 }
 
-fn pointer_word(mutability: Mutability) -> &'static str {
-    match mutability {
-        Mutability::Not => "*const ",
-        Mutability::Mut => "*mut ",
-    }
-}
-
-/// Adds a type that one word stands for.
-fn print_leaf(kind: TyKind, text: &mut String) -> Result<(), Stop> {
-    if let Some(word) = leaf_word(kind) {
-        text.push_str(word)?;
-        return Ok(());
-    }
-    match kind {
-        TyKind::Infer(InferTy::TyVar(number)) => write!(text, "${number}")?,
-        TyKind::Param(index) => write!(text, "#{index}")?,
-        TyKind::Placeholder(placeholder) if placeholder.universe == 0 => {
-            let index = placeholder.index;
-            write!(text, "!{index}")?;
+/// Adds the word that a type of that kind begins with, if it is no name.
+fn print_word(kind: TyKind, text: &mut String) -> Result<(), Stop> {
+    let (mark, number) = match kind {
+        TyKind::Infer(InferTy::TyVar(number)) => ('$', number),
+        TyKind::Param(index) => ('#', index),
+        TyKind::Placeholder(placeholder) if placeholder.universe == 0 => ('!', placeholder.index),
+        _ => {
+            text.push_str(word_of(kind).unwrap_or(UNSPELLED))?;
+            return Ok(());
         }
-        _ => text.push_str(UNSPELLED)?,
-    }
+    };
+    write!(text, "{mark}{number}")?;
     Ok(())
 }

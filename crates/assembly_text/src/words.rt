@@ -3,12 +3,12 @@
 ghost use Rattle.std.specs.Prelude.{◌≡◌, ◌≤◌, IfOk, IfErr};
 
 use crate::faults::Fault;
-use std::str::{self, SplitWhitespace};
+use std::str;
 
 /// The words of a line that are still to be read.
-#[derive(Drop)]
+#[derive(Clone, Copy)]
 pub struct Words<'a> {
-    rest: SplitWhitespace<'a>,
+    rest: &'a str,
 }
 
 impl<'a> Words<'a> {
@@ -19,21 +19,35 @@ impl<'a> Words<'a> {
         if line.starts_with(b"//") {
             return Ok(None);
         }
-        let Ok(text) = str::from_utf8(line) else {
-            return Err(Fault::BadByte);
-        };
-        if !text.bytes().all(|byte| matches!(byte, b' '..=b'~')) {
+        if !is_visible(line) {
             return Err(Fault::BadByte);
         }
-        let mut rest = text.split_whitespace();
-        Ok(rest.next().map(|first| (first, Words { rest })))
+        let Ok(rest) = str::from_utf8(line) else {
+            return Err(Fault::BadByte);
+        };
+        let mut words = Words { rest };
+        match words.next_word() {
+            Some(first) => Ok(Some((first, words))),
+            None => Ok(None),
+        }
+    }
+
+    /// The next word, if one is left.
+    pub fn next_word(&mut self) -> Option<&'a str> {
+        let rest = self.rest.trim_start_matches(' ');
+        if rest.is_empty() {
+            return None;
+        }
+        let (word, rest) = rest.split_once(' ').unwrap_or((rest, ""));
+        self.rest = rest;
+        Some(word)
     }
 
     /// The next word. Its only error is `Fault::ShortLine`.
     pub fn word(&mut self) -> Result<&'a str, Fault<'a>>
         ensures { IfErr result (λ e. e ≡ Fault.ShortLine) }
     {
-        match self.rest.next() {
+        match self.next_word() {
             Some(word) => Ok(word),
             None => Err(Fault::ShortLine),
         }
@@ -53,21 +67,31 @@ impl<'a> Words<'a> {
     pub fn end(&mut self) -> Result<(), Fault<'a>>
         ensures { IfErr result (λ e. e ≡ Fault.LongLine) }
     {
-        match self.rest.next() {
+        match self.next_word() {
             Some(_) => Err(Fault::LongLine),
             None => Ok(()),
         }
     }
+}
 
-    /// All words that are left.
-    pub fn others(self) -> SplitWhitespace<'a> {
-        self.rest
+/// Whether all bytes are spaces and visible ASCII characters.
+fn is_visible(line: &[u8]) -> bool {
+    for byte in line {
+        if !matches!(byte, b' '..=b'~') {
+            return false;
+        }
     }
+    true
 }
 
 /// Whether the text is decimal digits, at least one.
 pub fn is_digits(text: &str) -> bool {
-    !text.is_empty() && text.bytes().all(|byte| byte.is_ascii_digit())
+    for byte in text.bytes() {
+        if !byte.is_ascii_digit() {
+            return false;
+        }
+    }
+    !text.is_empty()
 }
 
 /// The number of at most that size whose digits stand in the word, else `Fault::BadNumber` with the word.

@@ -4,14 +4,11 @@ use Rattle.candidate_ir.proofs.Made.{IsTy-listed, IsPred-listed}
 use Rattle.assembly_text.proofs.types.Scope.+printing.Goals as goal
 
 pub print_types-print_type-requires : goal.print_types-print_type-requires
-print_types-print_type-requires g t c κs within =
-    let listed : IsTy (g.M.Make.context c.args.self.now.maker).trees c.in-Ty.ty =
+print_types-print_type-requires t c =
+    let listed : IsTy c.args.self.now.cx.trees c.in-Ty.ty =
     IsTy-listed _ _ c.loop-arg.arg-index _ c.in-Ty.ty c.loop-arg-test.true c.in-Ty.is c.loop-arg.invariant in
     search (rules, listed)
 
 pub print_bounds-pred-bound-requires : goal.print_bounds-pred-bound-requires
-print_bounds-pred-bound-requires g t c =
-    let listed =
-    IsPred-listed (g.M.Make.context c.args.self.now.maker).trees c.preds-list.result.now c.loop-pred.pred-index _
-    c.loop-pred-test.true c.loop-pred.invariant in
-    rw c.cx-in-loop-pred.ensures listed
+print_bounds-pred-bound-requires t c =
+    IsPred-listed _ _ c.loop-pred.pred-index _ c.loop-pred-test.true c.loop-pred.invariant

@@ -6,18 +6,8 @@ use Rattle.candidate_ir.proofs.Made.{ListFits-grows, ListFits-ty, BoundsFit-one,
 use Rattle.candidate_ir.specs.Words.{names_trait}
 use Rattle.assembly_text.proofs.types.Scope.+types.Goals as goal
 
-pub read_type-returns-in_ok-mk_ty-in-RawPtr-clause-grows :
-    goal.read_type-returns-in_ok-mk_ty-in-RawPtr-clause-grows
-read_type-returns-in_ok-mk_ty-in-RawPtr-clause-grows g t c =
-    grows-trans _ _ _ c.read_type-in-RawPtr.ensures.grows c.mk_ty-in-RawPtr.ensures.kept
-
-pub read_type-returns-in_ok-mk_ty-in-Slice-clause-grows :
-    goal.read_type-returns-in_ok-mk_ty-in-Slice-clause-grows
-read_type-returns-in_ok-mk_ty-in-Slice-clause-grows g t c =
-    grows-trans _ _ _ c.read_type-in-Slice.ensures.grows c.mk_ty-in-Slice.ensures.kept
-
 pub read_types-loop-preserved : goal.read_types-loop-preserved
-read_types-loop-preserved g t c =
+read_types-loop-preserved t c =
     let one_more : c.push.new.self.items ≡ c.loop.list.items ++ A.Ty c.in_ok-read_type.field-0 ∷ [] = c.in_ok-push.ensures.items in
     record {
       grows = grows-trans _ _ _ c.loop.invariant.grows c.read_type.ensures.grows;
@@ -25,14 +15,8 @@ read_types-loop-preserved g t c =
           (ListFits-ty _ _ _ (ListFits-grows _ _ _ c.read_type.ensures.grows c.loop.invariant.fits) c.in_ok-read_type.ensures.sort);
     }
 
-pub read_bound-projection_bound-requires-clause-list :
-    goal.read_bound-projection_bound-requires-clause-list
-read_bound-projection_bound-requires-clause-list g t c =
-    rw c.as_slice-in-Assoc.ensures.value
-    (ListFits-grows _ _ _ c.read_type.ensures.grows c.in_ok-list-in-Assoc.ensures.fits)
-
 pub read_bounds-loop-preserved : goal.read_bounds-loop-preserved
-read_bounds-loop-preserved g t c =
+read_bounds-loop-preserved t c =
     let one_more : c.push.new.self.items ≡ c.loop.list.items ++ c.in_ok-bound.bound ∷ [] = c.in_ok-push.ensures.items in
     record {
       grows = grows-trans _ _ _ c.loop.invariant.grows c.read_bound.ensures.grows;
@@ -43,3 +27,9 @@ read_bounds-loop-preserved g t c =
           ∙ one_if-or c.loop.has_principal (names_trait c.in_ok-bound.bound.value) c.in_ok-bound.ensures.principal
           ∙ ap (λ (b : Bool). one_if (c.loop.has_principal || b)) (sym c.is_principal-has_principal.ensures));
     }
+
+pub read_bound-projection_bound-requires-clause-list :
+    goal.read_bound-projection_bound-requires-clause-list
+read_bound-projection_bound-requires-clause-list t c =
+    rw c.as_slice-in-Projection.ensures.value
+    (ListFits-grows _ _ _ c.read_type.ensures.grows c.in_ok-list-in-Projection.ensures.fits)

@@ -20,23 +20,19 @@ pub record AreRead (old : Context) (new : Context) (list : List (Binder Existent
   pub principals : count_by (λ b. names_trait b.value) list ≡ one_if has_principal
 
 abbrev pub decreases-read_type : goal.decreases-read_type
-decreases-read_type g l = 4 * l.depth
+decreases-read_type l = 4 * l.depth
 
 abbrev pub decreases-read_types : goal.decreases-read_types
-decreases-read_types g l = 4 * l.depth + 1
+decreases-read_types l = 4 * l.depth + 1
 
 abbrev pub decreases-read_bound : goal.decreases-read_bound
-decreases-read_bound g l = 4 * l.depth + 2
+decreases-read_bound l = 4 * l.depth + 2
 
 abbrev pub decreases-read_bounds : goal.decreases-read_bounds
-decreases-read_bounds g l = 4 * l.depth + 3
-
-abbrev pub decreases-read_named : goal.decreases-read_named
-decreases-read_named g l = 4 * l.depth + 2
+decreases-read_bounds l = 4 * l.depth + 3
 
 abbrev pub invariant-read_types-loop : goal.invariant-read_types-loop
-invariant-read_types-loop g l = IsRead (g.M.Make.context l.fn.self.maker) (g.M.Make.context l.self.maker) l.list.items
+invariant-read_types-loop l = IsRead l.fn.self.cx l.self.cx l.list.items
 
 abbrev pub invariant-read_bounds-loop : goal.invariant-read_bounds-loop
-invariant-read_bounds-loop g l =
-    AreRead (g.M.Make.context l.fn.self.maker) (g.M.Make.context l.self.maker) l.list.items l.has_principal
+invariant-read_bounds-loop l = AreRead l.fn.self.cx l.self.cx l.list.items l.has_principal

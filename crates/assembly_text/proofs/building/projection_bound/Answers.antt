@@ -1,8 +1,8 @@
 use Rattle.candidate_ir.proofs.Made.{IsTy-grows, IsArgs-grows}
-use Rattle.assembly_text.proofs.types.Scope.projection_bound.Goals as goal
+use Rattle.assembly_text.proofs.building.projection_bound.Goals as goal
 
 pub returns-clause-fits : goal.returns-clause-fits
-returns-clause-fits g c =
+returns-clause-fits c =
     let args = IsArgs-grows _ _ c.in_ok-args.args c.mk_vars.ensures.kept c.in_ok-args.ensures.sort in
     let vars = c.in_ok-vars.ensures.sort in
     let now = IsTy-grows _ _ c.args.term c.mk_args.ensures.kept c.requires.term in

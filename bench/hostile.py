@@ -1,0 +1,132 @@
+#!/usr/bin/env python3
+"""What names cost that an adversary picked, beside ordinary ones.
+
+`python3 bench/hostile.py` makes 100,000 declarations whose names are picked at random, as many whose
+names all have one hash under the hasher that the library's hash map has by default (its seed is
+fixed), and as many whose names all have one number in the order that the program keeps them in. All
+names have one length. It runs the program `assembly` on each, declarations and queries, and prints
+the times and their ratios, and those of instructions where `valgrind` is there to count them. It
+builds nothing: run `bench/run.py` first, or name a program. It judges nothing.
+"""
+
+import argparse
+import os
+import random
+import string
+import subprocess
+import tempfile
+import time
+
+from run import instructions_of_run
+
+ROOT = os.path.dirname(os.path.dirname(os.path.abspath(__file__)))
+PROGRAM = os.path.join(ROOT, "crates", "assembly", "out", "assembly")
+
+ALLOWED = string.ascii_letters + string.digits
+LENGTH = 48
+MASK = (1 << 64) - 1
+SEED = 0x243F6A8885A308D3
+MULTIPLIER = 0x9E3779B97F4A7C15
+
+
+def folded(a, b):
+    product = a * b
+    return (product & MASK) ^ (product >> 64)
+
+
+def number(text):
+    return int.from_bytes(text.encode(), "little")
+
+
+def state_after(blocks):
+    """The hasher's state after the first blocks of 16 bytes of a name."""
+    state = (SEED + LENGTH) & MASK
+    for at in range(0, len(blocks), 16):
+        state = folded(number(blocks[at : at + 8]) ^ state, number(blocks[at + 8 : at + 16]) ^ MULTIPLIER)
+    return state
+
+
+def random_name(source, length=LENGTH):
+    return source.choice(string.ascii_letters) + "".join(source.choices(ALLOWED, k=length - 1))
+
+
+def common_beginning(source):
+    """40 bytes after which a name's hash no longer depends on its last eight.
+
+    The last step multiplies the bytes 32 to 40, joined with the state, by the rest. Where the state
+    itself could stand in a name, it stands there, and one factor is 0.
+    """
+    while True:
+        blocks = random_name(source, 32)
+        state = state_after(blocks).to_bytes(8, "little")
+        if all(byte < 128 and chr(byte) in ALLOWED for byte in state):
+            return blocks + state.decode()
+
+
+def of_one_hash(source):
+    beginning = common_beginning(source)
+    return lambda: beginning + "".join(source.choices(ALLOWED, k=LENGTH - len(beginning)))
+
+
+def of_one_number(source):
+    """`Aa` and `BB` add the same to the number that the program orders names by."""
+    return lambda: "".join(source.choices(["Aa", "BB"], k=LENGTH // 2))
+
+
+def names(source, size, make):
+    found = set()
+    while len(found) < size:
+        found.add(make())
+    return sorted(found, key=lambda _: source.random())
+
+
+def write_text(path, chosen):
+    with open(path, "w") as taken:
+        taken.write("trait 1 T 0\n")
+        for name in chosen:
+            taken.write("adt 1 %s 0\n" % name)
+        for name in chosen:
+            taken.write("orphan local T %s\n" % name)
+
+
+def seconds(program, text, rounds):
+    fastest = None
+    for _ in range(rounds):
+        with open(text, "rb") as given:
+            begin = time.perf_counter()
+            subprocess.run([program], stdin=given, stdout=subprocess.DEVNULL, check=True)
+            took = time.perf_counter() - begin
+        fastest = took if fastest is None else min(fastest, took)
+    return fastest
+
+
+def main():
+    options = argparse.ArgumentParser(description=__doc__.splitlines()[0])
+    options.add_argument("--size", type=int, default=100000, help="how many names")
+    options.add_argument("--seed", type=int, default=1)
+    options.add_argument("--rounds", type=int, default=3, help="of so many runs the fastest counts")
+    options.add_argument("--program", default=PROGRAM)
+    given = options.parse_args()
+    source = random.Random(given.seed)
+    kinds = [
+        ("ordinary", lambda: random_name(source)),
+        ("of one hash", of_one_hash(source)),
+        ("of one number", of_one_number(source)),
+    ]
+    ordinary = None
+    counted = None
+    with tempfile.TemporaryDirectory() as folder:
+        text = os.path.join(folder, "text")
+        for kind, make in kinds:
+            write_text(text, names(source, given.size, make))
+            took = seconds(given.program, text, given.rounds)
+            ordinary = ordinary or took
+            print("%d names, %s: %.3f s, %.2f times the ordinary ones" % (given.size, kind, took, took / ordinary))
+            count = instructions_of_run(text, given.program)
+            counted = counted or count
+            if count is not None:
+                print("  %.0f million instructions, %.2f times" % (count / 1e6, count / counted))
+
+
+if __name__ == "__main__":
+    main()

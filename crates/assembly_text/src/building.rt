@@ -1,0 +1,130 @@
+//! The types and bounds that are made of what was read. All regions are static, and no binder has variables.
+//!
+//! Each call stops as the calls of `Cx` that it makes.
+
+ghost use Rattle.std.specs.Prelude.{◌≡◌, false, IfOk};
+ghost use Rattle.candidate_ir.specs.Context.{Grows};
+ghost use Rattle.candidate_ir.specs.Words.{IsTy, ListFits, PredFits, BoundsFit, AtMostOnePrincipal, names_trait};
+
+use candidate_ir::decl::context::Cx;
+use candidate_ir::ir::kinds::{
+    AdtId, AliasTy, AssocId, Binder, ExistentialPredicate, GenericArg, Mutability, RegionKind,
+    TraitId, Ty, TyKind,
+};
+use candidate_ir::ir::stop::Stop;
+
+/// What is made of one type.
+#[derive(Clone, Copy)]
+pub enum Pointer {
+    Ref(Mutability),
+    RawPtr(Mutability),
+    Slice,
+}
+
+/// What is made of a list of types.
+#[derive(Clone, Copy)]
+pub enum Constructor {
+    Tuple,
+    Adt(AdtId),
+    Projection(AssocId),
+}
+
+/// The pointer to the type, or the slice of it.
+pub fn pointer_to(cx: &mut Cx, pointer: Pointer, target: Ty) -> Result<Ty, Stop>
+    requires { IsTy cx.old.trees target }
+    ensures grows { Grows cx.old cx.new }
+    ensures sort { IfOk result (λ ty. IsTy cx.new.trees ty) }
+{
+    match pointer {
+        Pointer::Ref(mutability) => reference(cx, target, mutability),
+        Pointer::RawPtr(mutability) => cx.mk_ty(TyKind::RawPtr(target, mutability)),
+        Pointer::Slice => cx.mk_ty(TyKind::Slice(target)),
+    }
+}
+
+fn reference(cx: &mut Cx, target: Ty, mutability: Mutability) -> Result<Ty, Stop>
+    requires { IsTy cx.old.trees target }
+    ensures grows { Grows cx.old cx.new }
+    ensures sort { IfOk result (λ ty. IsTy cx.new.trees ty) }
+{
+    let region = cx.mk_region(RegionKind::Static)?;
+    cx.mk_ty(TyKind::Ref(region, target, mutability))
+}
+
+/// The type over these arguments.
+pub fn construct(cx: &mut Cx, constructor: Constructor, list: &[GenericArg]) -> Result<Ty, Stop>
+    requires { ListFits cx.old.trees list.now }
+    ensures grows { Grows cx.old cx.new }
+    ensures sort { IfOk result (λ ty. IsTy cx.new.trees ty) }
+{
+    let args = cx.mk_args(list)?;
+    cx.mk_ty(match constructor {
+        Constructor::Tuple => TyKind::Tuple(args),
+        Constructor::Adt(id) => TyKind::Adt(id, args),
+        Constructor::Projection(id) => TyKind::Alias(AliasTy::projection(id, args)),
+    })
+}
+
+/// The `dyn` type of these bounds.
+pub fn dynamic(cx: &mut Cx, bounds: &[Binder<ExistentialPredicate>]) -> Result<Ty, Stop>
+    requires fit { BoundsFit cx.old.trees bounds.now }
+    requires principal { AtMostOnePrincipal bounds.now }
+    ensures grows { Grows cx.old cx.new }
+    ensures sort { IfOk result (λ ty. IsTy cx.new.trees ty) }
+{
+    let preds = cx.mk_preds(bounds)?;
+    let region = cx.mk_region(RegionKind::Static)?;
+    cx.mk_ty(TyKind::Dynamic(preds, region))
+}
+
+/// The bound by the auto trait.
+pub fn auto_bound(cx: &mut Cx, id: TraitId) -> Result<Binder<ExistentialPredicate>, Stop>
+    ensures grows { Grows cx.old cx.new }
+    ensures fits { IfOk result (λ bound. PredFits cx.new.trees bound) }
+    ensures kind { IfOk result (λ bound. names_trait bound.value ≡ false) }
+{
+    let vars = cx.mk_vars(&[])?;
+    Ok(Binder {
+        vars,
+        value: ExistentialPredicate::AutoTrait(id),
+    })
+}
+
+/// The bound by the trait with these arguments.
+pub fn trait_bound(
+    cx: &mut Cx,
+    id: TraitId,
+    list: &[GenericArg],
+) -> Result<Binder<ExistentialPredicate>, Stop>
+    requires { ListFits cx.old.trees list.now }
+    ensures grows { Grows cx.old cx.new }
+    ensures fits { IfOk result (λ bound. PredFits cx.new.trees bound) }
+{
+    let args = cx.mk_args(list)?;
+    let vars = cx.mk_vars(&[])?;
+    Ok(Binder {
+        vars,
+        value: ExistentialPredicate::Trait(id, args),
+    })
+}
+
+/// The bound by the associated type with these arguments of its trait, which is the type.
+pub fn projection_bound(
+    cx: &mut Cx,
+    id: AssocId,
+    list: &[GenericArg],
+    term: Ty,
+) -> Result<Binder<ExistentialPredicate>, Stop>
+    requires list { ListFits cx.old.trees list.now }
+    requires term { IsTy cx.old.trees term }
+    ensures grows { Grows cx.old cx.new }
+    ensures fits { IfOk result (λ bound. PredFits cx.new.trees bound) }
+    ensures kind { IfOk result (λ bound. names_trait bound.value ≡ false) }
+{
+    let args = cx.mk_args(list)?;
+    let vars = cx.mk_vars(&[])?;
+    Ok(Binder {
+        vars,
+        value: ExistentialPredicate::Projection(id, args, term),
+    })
+}
