@@ -18,7 +18,7 @@ use Rattle.candidate_ir.specs.References.{IsReference}
 use Rattle.candidate_ir.specs.Trees.{Tree}
 use Rattle.candidate_ir.specs.Words.{args_forest}
 use Rattle.candidate_eval.specs.declared.coherence.NormalizeErr.{NormalizeErr}
-use Rattle.candidate_eval.specs.Laws.{AreResolved, IsPlainCall}
+use Rattle.candidate_eval.specs.Laws.{IsPlainCall}
 use Rattle.candidate_eval.specs.Normalizer.{IsPlain}
 use Rattle.candidate_eval.proofs.Resolved.{all-resolved}
 
@@ -33,9 +33,9 @@ module _ {C F E : Type 0} {context : C → Context} {resolve : C → Tree → Tr
   pub is-plain : AnswersItsInput g → IsPlain context g resolve f c
   is-plain h = record {
     at = λ by x t answer next x' q grows i small n told.
-      let p = h by n.lent n.left t answer next n.called in
-      let e : x' ≡ x = sym n.leaves ∙ (p.1.0 ∙ n.lends) in
-      rw (p.0, e, p.1.1) refl;
+        let p = h by n.lent n.left t answer next n.called in
+        let e : x' ≡ x = sym n.leaves ∙ (p.1.0 ∙ n.lends) in
+        rw (p.0, e, p.1.1) refl;
     values = λ by x t q grows. refl;
   }
 

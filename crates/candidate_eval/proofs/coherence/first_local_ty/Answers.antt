@@ -1,4 +1,3 @@
-use Rattle.std.proofs.Common.{◌≡◌, ap, sym, ◌∙◌, Ok, Err}
 use Rattle.candidate_eval.proofs.Causes.{left-same}
 use Rattle.candidate_eval.proofs.coherence.first_local_ty.Goals as goal
 
