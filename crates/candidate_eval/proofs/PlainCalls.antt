@@ -1,6 +1,12 @@
--- What makes a call a plain one. A caller that hands in `|_, ty| Ok(ty)` over a `Cx` answers with
---     answers-its-input (λ by lent left t answer next k. search rules) REFERENCE
--- where REFERENCE says that the reference is one of the context.
+-- What makes a call a plain one. A caller over a `Cx` that hands in `|_, ty| Ok(ty)` and knows `IsReference` of its
+-- reference writes `search (rules, answers-its-input)` where `IsPlainCall` is asked; nothing else is to be shown. Named by
+-- `using(..)` alone, the lemma leaves a promise of the two calls open: `grind` stops at its limit there, since the calls'
+-- laws over all worlds give it too many instances.
+--
+-- What else the two calls and their promises ask of a reference has a test at run time: `Cx::has_param` (`HasNoParam`),
+-- `trait_ref_is_plain` (`HasNoAliasOrError`), `Cx::args_have` with `Flag::Alias` (`HasNoAlias`), and
+-- `trait_ref_is_local_or_fundamental` (`IsOfForeignTrait`). None has `IsReference` (it is known of what is made by
+-- `making` of candidate_ir's `Made`), nor `IsDecidedByGeneralHere`, nor `IsArgs`, which the call that made the list ensures.
 use Rattle.std.proofs.Common.{◌≡◌, refl, sym, ◌∙◌}
 use Rattle.std.specs.Prelude.{Result, Ok}
 use Rattle.std.specs.Fn.{Mut, Called}
@@ -12,7 +18,7 @@ use Rattle.candidate_ir.specs.References.{IsReference}
 use Rattle.candidate_ir.specs.Trees.{Tree}
 use Rattle.candidate_ir.specs.Words.{args_forest}
 use Rattle.candidate_eval.specs.declared.coherence.NormalizeErr.{NormalizeErr}
-use Rattle.candidate_eval.specs.Laws.{AreResolved, IsPlainCall}
+use Rattle.candidate_eval.specs.Laws.{IsPlainCall}
 use Rattle.candidate_eval.specs.Normalizer.{IsPlain}
 use Rattle.candidate_eval.proofs.Resolved.{all-resolved}
 
@@ -27,9 +33,9 @@ module _ {C F E : Type 0} {context : C → Context} {resolve : C → Tree → Tr
   pub is-plain : AnswersItsInput g → IsPlain context g resolve f c
   is-plain h = record {
     at = λ by x t answer next x' q grows i small n told.
-      let p = h by n.lent n.left t answer next n.called in
-      let e : x' ≡ x = sym n.leaves ∙ (p.1.0 ∙ n.lends) in
-      rw (p.0, e, p.1.1) refl;
+        let p = h by n.lent n.left t answer next n.called in
+        let e : x' ≡ x = sym n.leaves ∙ (p.1.0 ∙ n.lends) in
+        rw (p.0, e, p.1.1) refl;
     values = λ by x t q grows. refl;
   }
 
@@ -38,5 +44,3 @@ module _ {F E : Type 0} {g : Mut F (MutBor Context × (Ty × Unit {0})) (Result 
     {f : F} {c : Context} {r : TraitRef} where
   pub answers-its-input : AnswersItsInput g → IsReference c r → IsPlainCall (λ x. x) (λ _ t. t) g f c r
   answers-its-input h i = record { normaliser = is-plain h; resolved = all-resolved (args_forest c.trees r.args); of_world = i }
-
-pub ruleset plain_calls = (answers-its-input)

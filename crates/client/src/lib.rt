@@ -35,7 +35,7 @@ pub struct Declared {
     pub ghost of_from: { parameters (world cx) TraitSort from.0 ≡ Some (TypeKind ∷ []) },
 }
 
-/// Declares them. A number is that of its definition for good.
+/// Declares them; only memory can be wanting. In the new context every tree fits the declarations.
 pub fn declare(alloc: Global) -> Result<Declared, DeclFault>
     ensures { IfOk result (λ d. IsWellFormed d.cx) }
 {
@@ -43,13 +43,9 @@ pub fn declare(alloc: Global) -> Result<Declared, DeclFault>
     let upstream = builder.add_crate()?;
     let local = builder.add_crate()?;
     builder.set_local(local);
-    let vec = builder.add_adt(
-        upstream,
-        AdtShape::Struct,
-        &[VarKind::Ty],
-        AdtFlags::default(),
-    )?;
-    let local_type = builder.add_adt(local, AdtShape::Struct, &[], AdtFlags::default())?;
+    let flags = AdtFlags::default();
+    let vec = builder.add_adt(upstream, AdtShape::Struct, &[VarKind::Ty], flags)?;
+    let local_type = builder.add_adt(local, AdtShape::Struct, &[], flags)?;
     let from = builder.add_trait(upstream, &[VarKind::Ty], TraitFlags::default())?;
     let cx = Cx::new(builder.finish()?);
     Ok(Declared {
@@ -60,7 +56,8 @@ pub fn declare(alloc: Global) -> Result<Declared, DeclFault>
     })
 }
 
-/// The data type with these arguments, which have the kinds of its parameters.
+/// The data type with these arguments, which have the kinds of its parameters: so the trees of the
+/// context fit the declarations still.
 #[tactic(auto, using(candidate_ir::proofs::Made::making))]
 fn adt(cx: &mut Cx, id: AdtId, list: &[GenericArg]) -> Result<Ty, Stop>
     requires well_formed { IsWellFormed cx.old }
@@ -99,22 +96,21 @@ pub fn vec_from_local(declared: &mut Declared) -> Result<TraitRef, Stop>
     let cx = &mut declared.cx;
     let local = adt(cx, declared.local_type, &[])?;
     let vec = adt(cx, declared.vec, &[GenericArg::Ty(local)])?;
-    reference(
-        cx,
-        declared.from,
-        &[GenericArg::Ty(vec), GenericArg::Ty(local)],
-    )
+    let list = [GenericArg::Ty(vec), GenericArg::Ty(local)];
+    reference(cx, declared.from, &list)
 }
 
 /// Whether the local crate may write an impl of the reference, where nothing has to be normalised.
 ///
 /// After a yes no header overlaps it that another crate may write, in any program with these
-/// declarations, if neither crate names the other. A parameter, an alias or an error is a no.
+/// declarations, if neither crate names the other. What holds a parameter, an alias or an error is
+/// no such reference. A check that gives up is a stop, and no answer.
 pub fn may_write(alloc: Global, cx: &mut Cx, trait_ref: TraitRef) -> Result<bool, Stop>
     requires sort { IsArgs cx.old.trees trait_ref.args }
     requires reference { IsReference cx.old trait_ref }
     ensures { result ≡ Ok true → NoForeignHeaderHere cx.old trait_ref }
 {
+    // What the check asks of a reference, and what its promise asks besides.
     if cx.has_param(trait_ref) || !trait_ref_is_plain(cx, trait_ref) {
         return Ok(false);
     }

@@ -14,6 +14,8 @@ mod flags;
 #[cfg(test)]
 mod kinds;
 #[cfg(test)]
+mod normalisers;
+#[cfg(test)]
 mod samples;
 #[cfg(test)]
 mod texts;

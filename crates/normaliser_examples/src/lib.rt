@@ -7,7 +7,7 @@ ghost use Rattle.candidate_ir.specs.Words.{IsTy, IsArgs, ty_tree};
 ghost use Rattle.candidate_eval.specs.Answers.{OutOfMemory, answer_of};
 ghost use Rattle.candidate_eval.specs.Calls.{HasNoParam};
 ghost use Rattle.candidate_eval.specs.Orphan.{Sees};
-ghost use Rattle.normaliser_tests.specs.Looks.{is_byte, reference_to, referenced, refused_node, check_by};
+ghost use Rattle.normaliser_examples.specs.Looks.{is_byte, reference_to, referenced, refused_node, check_by};
 
 use candidate_eval::coherence::{
     InCrate, NormalizeErr, OrphanCheckErr, OrphanStop, orphan_check_trait_ref,
@@ -95,6 +95,3 @@ pub fn checked_as(
         move |_: &mut Cx, _: Ty| -> Result<Ty, NormalizeErr<Infallible>> { Ok(seen) },
     )
 }
-
-#[cfg(test)]
-mod tests;

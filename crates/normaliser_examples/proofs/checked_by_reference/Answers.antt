@@ -3,9 +3,9 @@ use Rattle.candidate_ir.specs.Context.{world}
 use Rattle.candidate_ir.specs.Words.{args_forest}
 use Rattle.candidate_eval.specs.Orphan.{Sees, view, stateless}
 use Rattle.candidate_eval.proofs.Simulation.{answer_seen}
-use Rattle.normaliser_tests.specs.Looks.{referenced, refused_node}
-use Rattle.normaliser_tests.proofs.Made.{sees-answer, sight-answer, told-unless-full}
-use Rattle.normaliser_tests.proofs.checked_by_reference.Goals as goal
+use Rattle.normaliser_examples.specs.Looks.{referenced, refused_node}
+use Rattle.normaliser_examples.proofs.Made.{sees-answer, sight-answer, told-unless-full}
+use Rattle.normaliser_examples.proofs.checked_by_reference.Goals as goal
 
 pub returns : goal.returns
 returns c = record {

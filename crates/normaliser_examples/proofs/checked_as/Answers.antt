@@ -5,8 +5,8 @@ use Rattle.candidate_eval.specs.Normalizer.{refused_growth}
 use Rattle.candidate_eval.specs.Orphan.{Sees, view, stateless}
 use Rattle.candidate_eval.proofs.Calls.{reached-keeps, told-unless-refused}
 use Rattle.candidate_eval.proofs.Simulation.{answer_seen}
-use Rattle.normaliser_tests.proofs.Made.{sees-held, sight-answer, keeps-held}
-use Rattle.normaliser_tests.proofs.checked_as.Goals as goal
+use Rattle.normaliser_examples.proofs.Made.{sees-held, sight-answer, keeps-held}
+use Rattle.normaliser_examples.proofs.checked_as.Goals as goal
 
 pub orphan_check_trait_ref-requires-clause-keeps : goal.orphan_check_trait_ref-requires-clause-keeps
 orphan_check_trait_ref-requires-clause-keeps c = record {

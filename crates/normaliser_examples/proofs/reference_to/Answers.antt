@@ -1,6 +1,6 @@
 use Rattle.candidate_ir.proofs.Kept.{ty-kept}
-use Rattle.normaliser_tests.proofs.Made.{reference-is}
-use Rattle.normaliser_tests.proofs.reference_to.Goals as goal
+use Rattle.normaliser_examples.proofs.Made.{reference-is}
+use Rattle.normaliser_examples.proofs.reference_to.Goals as goal
 
 pub mk_ty-requires : goal.mk_ty-requires
 mk_ty-requires c =

@@ -17,7 +17,7 @@ use Rattle.candidate_ir.specs.Context.{Context, Grows}
 use Rattle.candidate_ir.specs.declared.ir.kinds.Mutability.TheVariants as M
 use Rattle.candidate_ir.specs.declared.ir.kinds.RegionKind.TheVariants as R
 use Rattle.candidate_ir.proofs.Kept.{ty-kept, grows-refl}
-use Rattle.normaliser_tests.specs.Looks.{reference_to, refused_node}
+use Rattle.normaliser_examples.specs.Looks.{reference_to, refused_node}
 use Rattle.candidate_ir.proofs.Rows.{row-single}
 use Rattle.candidate_eval.specs.declared.coherence.NormalizeErr.{NormalizeErr}
 use Rattle.candidate_eval.specs.declared.coherence.NormalizeErr.TheVariants as N
