@@ -1,12 +1,18 @@
 //! What the client answers.
 
-ghost use Rattle.std.specs.Prelude.{IfOk};
+ghost use Rattle.std.specs.Prelude.{◌≡◌, IfOk, Ok, true};
+ghost use Rattle.candidate_eval.specs.Calls.{NoUnnamedHeaderHere};
 ghost use Rattle.candidate_ir.specs.References.{IsReference, IsWellFormed};
 ghost use Rattle.candidate_ir.specs.Words.{IsArgs};
 
 use crate::{Declared, adt, declare, may_write, reference, vec_from_local};
-use candidate_ir::ir::kinds::{GenericArg, TraitRef};
+use candidate_eval::coherence::{NormalizeErr, OrphanStop, trait_ref_is_knowable};
+use candidate_ir::decl::Cx;
+use candidate_ir::ir::heads::Flag;
+use candidate_ir::ir::kinds::{GenericArg, TraitRef, Ty};
 use candidate_ir::ir::stop::Stop;
+use std::alloc::Global;
+use std::convert::Infallible;
 use std::test::Fail;
 
 /// `Vec<LocalType>: From<Vec<LocalType>>`.
@@ -24,6 +30,44 @@ fn vec_from_vec(declared: &mut Declared) -> Result<TraitRef, Stop>
         declared.from,
         &[GenericArg::Ty(vec), GenericArg::Ty(vec)],
     )
+}
+
+/// Whether all impls of the reference are known, asked in the same way.
+///
+/// After a yes no header overlaps it that a crate may write which it doesn't name.
+fn all_known(
+    alloc: Global,
+    cx: &mut Cx,
+    trait_ref: TraitRef,
+) -> Result<bool, OrphanStop<Infallible>>
+    requires sort { IsArgs cx.old.trees trait_ref.args }
+    requires reference { IsReference cx.old trait_ref }
+    ensures { result ≡ Ok true → NoUnnamedHeaderHere cx.old trait_ref }
+{
+    if cx.has_param(trait_ref) || cx.args_have(trait_ref.args, Flag::Alias) {
+        return Ok(false);
+    }
+    let known = trait_ref_is_knowable(
+        alloc,
+        cx,
+        trait_ref,
+        |_, ty| -> Result<Ty, NormalizeErr<Infallible>> { Ok(ty) },
+    );
+    match known {
+        Ok(Ok(())) => Ok(true),
+        Ok(Err(_)) => Ok(false),
+        Err(stop) => Err(stop),
+    }
+}
+
+#[test]
+fn a_local_parameter_makes_all_known(rt: HostRuntime) -> Result<(), Fail> {
+    let mut declared = declare(rt.alloc())?;
+    let trait_ref = vec_from_local(&mut declared)?;
+    let mut cx = declared.cx;
+    let answer = all_known(rt.alloc(), &mut cx, trait_ref);
+    assert!(rt; matches!(answer, Ok(true)));
+    Ok(())
 }
 
 #[test]

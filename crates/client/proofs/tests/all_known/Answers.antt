@@ -1,0 +1,8 @@
+use Rattle.std.proofs.Common.{rules, sym, ◌∙◌}
+use Rattle.candidate_eval.proofs.PlainCalls.{answers-its-input}
+use Rattle.client.proofs.tests.all_known.Goals as goal
+
+pub returns-in-Ok-Ok : goal.returns-in-Ok-Ok
+returns-in-Ok-Ok c = λ e.
+    c.trait_ref_is_knowable-known.ensures.no_unnamed_header
+    (search (rules, answers-its-input)) (sym c.args_have.ensures ∙ c.if-args_have.false) (search rules)
