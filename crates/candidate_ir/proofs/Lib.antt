@@ -11,3 +11,4 @@ pub mod Rows
 pub mod Members
 pub mod Growing
 pub mod References
+pub mod Parameters

@@ -11,3 +11,4 @@ pub mod Context
 pub mod References
 pub mod Names
 pub mod TypeFlags
+pub mod Parameters

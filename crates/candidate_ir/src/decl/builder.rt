@@ -6,7 +6,7 @@ ghost use Rattle.candidate_ir.specs.Context.{declared, assoc_declaration, lowest
 ghost use Rattle.candidate_ir.specs.declared.decl.builder.DeclFault.TheVariants.{Memory};
 
 use crate::decl::definition::{
-    AdtFlags, AdtShape, AssocKind, CrateId, Declaration, DefinitionKind, TraitFlags,
+    AdtFlags, AdtShape, AssocKind, CrateId, Declaration, DefinitionKind, Parameters, TraitFlags,
 };
 use crate::ir::kinds::{AdtId, AssocId, ForeignId, TraitId, VarKind};
 use crate::ir::nodes::Nodes;
@@ -184,7 +184,7 @@ impl DeclsBuilder {
         ensures unchanged { IfErr result (λ _. self.new ≡ self.old) }
         ensures cause { IfErr result (λ e. e ≡ DeclFault.Memory) }
     {
-        let parameters = parameters.to_vec(*self.definitions.allocator())?;
+        let parameters = Parameters::of(*self.definitions.allocator(), parameters)?;
         Ok(AdtId(self.add(Declaration {
             krate,
             parameters,
@@ -206,7 +206,7 @@ impl DeclsBuilder {
         ensures unchanged { IfErr result (λ _. self.new ≡ self.old) }
         ensures cause { IfErr result (λ e. e ≡ DeclFault.Memory) }
     {
-        let parameters = parameters.to_vec(*self.definitions.allocator())?;
+        let parameters = Parameters::of(*self.definitions.allocator(), parameters)?;
         Ok(TraitId(self.add(Declaration {
             krate,
             parameters,
@@ -223,7 +223,7 @@ impl DeclsBuilder {
         ensures unchanged { IfErr result (λ _. self.new ≡ self.old) }
         ensures cause { IfErr result (λ e. e ≡ DeclFault.Memory) }
     {
-        let parameters = Vec::new(*self.definitions.allocator());
+        let parameters = Parameters::none();
         Ok(ForeignId(self.add(Declaration {
             krate,
             parameters,
@@ -248,8 +248,8 @@ impl DeclsBuilder {
     {
         let alloc = *self.definitions.allocator();
         let (krate, parameters) = match self.definitions.get(of.0 as usize) {
-            Some(declaration) => (declaration.krate, declaration.parameters.to_vec(alloc)?),
-            None => (NO_CRATE, Vec::new(alloc)),
+            Some(declaration) => (declaration.krate, declaration.parameters.copied(alloc)?),
+            None => (NO_CRATE, Parameters::none()),
         };
         Ok(AssocId(self.add(Declaration {
             krate,

@@ -1,9 +1,12 @@
 //! What a definition is: its crate, the kinds of its parameters, its flags.
 
 ghost use Rattle.std.specs.Prelude.{◌≡◌};
+ghost use Rattle.std.specs.List.{list_all};
 ghost use Rattle.candidate_ir.specs.Context.{begins_with_type as begins};
+ghost use Rattle.candidate_ir.specs.Parameters.{is_type_kind};
 
 use crate::ir::kinds::{TraitId, VarKind};
+use std::alloc::{AllocError, Global};
 use std::marker::Model;
 
 /// A crate of the object language, numbered from 0 in the order in which crates are added.
@@ -93,20 +96,95 @@ impl DefinitionKind {
     }
 }
 
+/// The parameters of a definition. Most definitions have types alone, which take no room of their own.
+#[derive(Drop)]
+pub(crate) enum Parameters {
+    /// So many types.
+    Types(usize),
+    /// Others, or types among them.
+    Kinds(Vec<VarKind>),
+}
+
+impl Parameters {
+    ghost use Rattle.std.specs.Prelude.{◌≡◌, [], IfOk};
+    ghost use Rattle.candidate_ir.specs.Parameters.{kinds_of};
+    ghost use Rattle.candidate_ir.specs.Context.{begins_with_type, is_empty};
+
+    pub(crate) fn none() -> Self
+        ensures { kinds_of result ≡ [] }
+    {
+        Parameters::Types(0)
+    }
+
+    /// Parameters of these kinds. The only error is a refused growth.
+    #[tactic(auto, using(crate::proofs::Parameters::all_types))]
+    pub(crate) fn of(alloc: Global, kinds: &[VarKind]) -> Result<Self, AllocError>
+        ensures { IfOk result (λ p. kinds_of p ≡ kinds.now) }
+    {
+        if are_types(kinds) {
+            return Ok(Parameters::Types(kinds.len()));
+        }
+        Ok(Parameters::Kinds(kinds.to_vec(alloc)?))
+    }
+
+    /// The same once more. The only error is a refused growth.
+    pub(crate) fn copied(&self, alloc: Global) -> Result<Self, AllocError>
+        ensures { IfOk result (λ p. kinds_of p ≡ kinds_of self.now) }
+    {
+        match self {
+            Parameters::Types(count) => Ok(Parameters::Types(*count)),
+            Parameters::Kinds(kinds) => Ok(Parameters::Kinds(kinds.to_vec(alloc)?)),
+        }
+    }
+
+    #[tactic(auto, using(crate::proofs::Parameters::types_empty))]
+    fn is_empty(&self) -> bool
+        ensures { result ≡ is_empty (kinds_of self.now) }
+    {
+        match self {
+            Parameters::Types(count) => *count == 0,
+            Parameters::Kinds(kinds) => kinds.is_empty(),
+        }
+    }
+
+    #[tactic(auto, using(crate::proofs::Parameters::types_begin))]
+    fn begins_with_type(&self) -> bool
+        ensures { result ≡ begins_with_type (kinds_of self.now) }
+    {
+        match self {
+            Parameters::Types(count) => *count != 0,
+            Parameters::Kinds(kinds) => begins_with_type(kinds.as_slice()),
+        }
+    }
+}
+
+fn is_type(kind: VarKind) -> bool
+    ensures { result ≡ is_type_kind kind }
+{
+    matches!(kind, VarKind::Ty)
+}
+
+fn are_types(kinds: &[VarKind]) -> bool
+    ensures { result ≡ list_all is_type_kind kinds.now }
+{
+    kinds.iter().all(|kind| is_type(*kind))
+}
+
 /// One definition. Clauses see its parameters as a list.
 #[derive(Drop)]
 pub struct Declaration {
     pub(crate) krate: CrateId,
-    pub(crate) parameters: Vec<VarKind>,
+    pub(crate) parameters: Parameters,
     pub(crate) kind: DefinitionKind,
 }
 
 impl Model for Declaration {
     ghost use Rattle.candidate_ir.specs.Declaration as seen;
+    ghost use Rattle.candidate_ir.specs.Parameters.{kinds_of};
 
     ghost Value = { seen.Declaration };
 
-    ghost view = { λ d. record { crate = d.krate; parameters = d.parameters.items; kind = d.kind } };
+    ghost view = { λ d. record { crate = d.krate; parameters = kinds_of d.parameters; kind = d.kind } };
 }
 
 impl Declaration {
@@ -150,7 +228,7 @@ impl Declaration {
     {
         match self.kind {
             DefinitionKind::Adt(_, flags) => {
-                flags.phantom_data && !begins_with_type(self.parameters.as_slice())
+                flags.phantom_data && !self.parameters.begins_with_type()
             }
             DefinitionKind::Trait(flags) => flags.auto && !self.parameters.is_empty(),
             DefinitionKind::Foreign | DefinitionKind::Assoc(_, _, _) => false,

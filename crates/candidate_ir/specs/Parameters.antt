@@ -1,0 +1,15 @@
+-- The parameters of a definition, as they are kept.
+use Rattle.std.specs.Prelude.{Bool, true, false, List, replicate}
+use Rattle.candidate_ir.specs.declared.ir.kinds.VarKind.{VarKind}
+use Rattle.candidate_ir.specs.declared.ir.kinds.VarKind.TheVariants as V
+use Rattle.candidate_ir.specs.declared.decl.definition.Parameters.{Parameters}
+use Rattle.candidate_ir.specs.declared.decl.definition.Parameters.TheVariants as P
+
+-- Their kinds in order.
+abbrev pub kinds_of : Parameters → List VarKind
+kinds_of (P.Types n) = replicate n V.Ty
+kinds_of (P.Kinds v) = v.items
+
+abbrev pub is_type_kind : VarKind → Bool
+is_type_kind V.Ty = true
+is_type_kind _ = false
