@@ -64,14 +64,14 @@ class Watch(threading.Thread):
             fields = text_of(f"/proc/{name}/stat").rpartition(")")[2].split()
             if len(fields) > 19:
                 parents[int(name)] = int(fields[1]), (int(fields[11]) + int(fields[12])) / TICKS, fields[19]
-        for pid in sorted(parents):
-            if parents[pid][0] in below:
-                below.add(pid)
-                step = step_of(pid)
-                if step:
-                    self.used[step, pid, parents[pid][2]] = parents[pid][1]
-                    first, _ = self.spans.get(step, (now, now))
-                    self.spans[step] = first, now
+        while more := {pid for pid in parents if pid not in below and parents[pid][0] in below}:
+            below |= more
+        for pid in below & parents.keys():
+            step = step_of(pid)
+            if step:
+                self.used[step, pid, parents[pid][2]] = parents[pid][1]
+                first, _ = self.spans.get(step, (now, now))
+                self.spans[step] = first, now
 
     def time_of(self, step):
         first, last = self.spans.get(step, (0, 0))
@@ -85,7 +85,7 @@ def main():
     gate = subprocess.Popen(["rt", "ci"], cwd=ROOT, stdout=subprocess.PIPE, text=True, errors="replace")
     for line in gate.stdout:
         print(held, end="", flush=True)
-        ended = re.fullmatch(r"rt: (\w+?)(: its tests)? (proved|NOT PROVED)\n", line)
+        ended = re.fullmatch(r"rt: (\w+?)(: its tests are)? (proved|NOT PROVED)\n", line)
         if ended:
             watch.look()
             step = ended[1], "tests" if ended[2] else "proof"

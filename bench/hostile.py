@@ -5,8 +5,10 @@
 names all have one hash under the hasher that the library's hash map has by default (its seed is
 fixed), and as many whose names all have one number in the order that the program keeps them in. All
 names have one length. It runs the program `assembly` on each, declarations and queries, and prints
-the times and their ratios, and those of instructions where `valgrind` is there to count them. It
-builds nothing: run `bench/run.py` first, or name a program. It judges nothing.
+the times and their ratios, and those of instructions where `valgrind` is there to count them. Then it
+runs texts of short lines that claim much (definitions of 65,535 parameters, types that are nested
+deep), and prints the peak of memory beside the size of the text. It builds nothing: run
+`bench/run.py` first, or name a program. It judges nothing.
 """
 
 import argparse
@@ -17,7 +19,7 @@ import subprocess
 import tempfile
 import time
 
-from run import instructions_of_run
+from run import instructions_of_run, memory_of_run
 
 ROOT = os.path.dirname(os.path.dirname(os.path.abspath(__file__)))
 PROGRAM = os.path.join(ROOT, "crates", "assembly", "out", "assembly")
@@ -100,6 +102,39 @@ def seconds(program, text, rounds):
     return fastest
 
 
+def write_parameters(path, size):
+    with open(path, "w") as taken:
+        taken.write("trait 0 T 65535\n")
+        for number in range(size // 2):
+            taken.write("adt 0 A%d 65535\nassoc T O%d\n" % (number, number))
+        taken.write("knowable T\n")
+
+
+def write_depth(path, size):
+    with open(path, "w") as taken:
+        taken.write("trait 0 T 0\n")
+        for _ in range(size // 100):
+            taken.write("orphan local T" + " &" * 1023 + " u8\n")
+
+
+def write_lists(path, size):
+    with open(path, "w") as taken:
+        taken.write("trait 0 T 0\n")
+        for _ in range(size // 100):
+            taken.write("orphan local T (999)" + " (0)" * 999 + "\n")
+
+
+def peaks(program, folder, size):
+    text = os.path.join(folder, "text")
+    for kind, write in [("many parameters", write_parameters), ("deep types", write_depth), ("many lists", write_lists)]:
+        write(text, size)
+        with open(os.path.join(folder, "answers"), "wb"):
+            pass
+        memory = memory_of_run(text, os.path.join(folder, "answers"), program) * 1024
+        count = os.path.getsize(text)
+        print("%s: %.1f MiB for %.1f MiB of text, %.0f bytes a byte" % (kind, memory / 2**20, count / 2**20, memory / count))
+
+
 def main():
     options = argparse.ArgumentParser(description=__doc__.splitlines()[0])
     options.add_argument("--size", type=int, default=100000, help="how many names")
@@ -126,6 +161,7 @@ def main():
             counted = counted or count
             if count is not None:
                 print("  %.0f million instructions, %.2f times" % (count / 1e6, count / counted))
+        peaks(given.program, folder, given.size)
 
 
 if __name__ == "__main__":

@@ -20,6 +20,7 @@ use candidate_ir::ir::heads::Flag;
 use candidate_ir::ir::kinds::{Args, TraitRef, Ty};
 use candidate_ir::ir::stop::Stop;
 use std::alloc::Global;
+use std::fmt;
 
 /// How projections that hold variables count.
 #[derive(Clone, Copy, Debug, PartialEq, Eq)]
@@ -93,6 +94,15 @@ pub enum OrphanStop<E> {
     Normalize(E),
     /// It gave up, or the normaliser did.
     Stop(Stop),
+}
+
+impl<E: fmt::Display> fmt::Display for OrphanStop<E> {
+    fn fmt<W: fmt::Write>(&self, f: &mut fmt::Formatter<W>) -> fmt::Result {
+        match self {
+            OrphanStop::Normalize(error) => error.fmt(f),
+            OrphanStop::Stop(stop) => stop.fmt(f),
+        }
+    }
 }
 
 /// How many visits may be nested. The definitions read it from here (`depth_limit`).

@@ -2,9 +2,6 @@
 //! asks whether the local one may write an impl of it.
 #![tactic(auto)]
 
-#[cfg(test)]
-mod tests;
-
 ghost use Rattle.std.specs.Prelude.{◌≡◌, IfOk, Ok, Some, [], ◌∷◌, map, true};
 ghost use Rattle.candidate_ir.specs.Context.{Grows, world};
 ghost use Rattle.candidate_ir.specs.Kinds.{arg_child, sorts};
@@ -59,7 +56,7 @@ pub fn declare(alloc: Global) -> Result<Declared, DeclFault>
 /// The data type with these arguments, which have the kinds of its parameters: so the trees of the
 /// context fit the declarations still.
 #[tactic(auto, using(candidate_ir::proofs::Made::making))]
-fn adt(cx: &mut Cx, id: AdtId, list: &[GenericArg]) -> Result<Ty, Stop>
+pub fn adt(cx: &mut Cx, id: AdtId, list: &[GenericArg]) -> Result<Ty, Stop>
     requires well_formed { IsWellFormed cx.old }
     requires list { ListFits cx.old.trees list.now }
     requires kinds { parameters (world cx.old) AdtSort id.0 ≡ Some (sorts (map arg_child list.now)) }
@@ -73,7 +70,7 @@ fn adt(cx: &mut Cx, id: AdtId, list: &[GenericArg]) -> Result<Ty, Stop>
 
 /// The trait with these arguments, which have the kinds of `Self` and its parameters.
 #[tactic(auto, using(candidate_ir::proofs::Made::making))]
-fn reference(cx: &mut Cx, def_id: TraitId, list: &[GenericArg]) -> Result<TraitRef, Stop>
+pub fn reference(cx: &mut Cx, def_id: TraitId, list: &[GenericArg]) -> Result<TraitRef, Stop>
     requires well_formed { IsWellFormed cx.old }
     requires list { ListFits cx.old.trees list.now }
     requires kinds { joined (Some (TypeKind ∷ [])) (parameters (world cx.old) TraitSort def_id.0) ≡ Some (sorts (map arg_child list.now)) }

@@ -8,6 +8,8 @@ mod builders;
 #[cfg(test)]
 mod checks;
 #[cfg(test)]
+mod clients;
+#[cfg(test)]
 mod contexts;
 #[cfg(test)]
 mod flags;

@@ -1,6 +1,7 @@
 //! What stops and faults print.
 
 use crate::asserts::equals;
+use candidate_eval::coherence::OrphanStop;
 use candidate_ir::decl::builder::DeclFault;
 use candidate_ir::ir::stop::Stop;
 use std::alloc::Global;
@@ -58,4 +59,22 @@ fn faults_have_a_text(rt: HostRuntime) {
     ] {
         check_text(&rt, rt.alloc(), &fault, want);
     }
+}
+
+#[test]
+fn checks_that_stop_have_a_text(rt: HostRuntime) {
+    let failed: OrphanStop<Stop> = OrphanStop::Normalize(Stop::EvaluatorLimit);
+    check_text(
+        &rt,
+        rt.alloc(),
+        &failed,
+        "the evaluator's own limit is reached",
+    );
+    let stopped: OrphanStop<Stop> = OrphanStop::Stop(Stop::WalkDepth);
+    check_text(
+        &rt,
+        rt.alloc(),
+        &stopped,
+        "the orphan walk is nested too deep",
+    );
 }

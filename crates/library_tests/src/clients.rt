@@ -5,12 +5,12 @@ ghost use Rattle.candidate_eval.specs.Calls.{NoUnnamedHeaderHere};
 ghost use Rattle.candidate_ir.specs.References.{IsReference, IsWellFormed};
 ghost use Rattle.candidate_ir.specs.Words.{IsArgs};
 
-use crate::{Declared, adt, declare, may_write, reference, vec_from_local};
 use candidate_eval::coherence::{NormalizeErr, OrphanStop, trait_ref_is_knowable};
 use candidate_ir::decl::Cx;
 use candidate_ir::ir::heads::Flag;
 use candidate_ir::ir::kinds::{GenericArg, TraitRef, Ty};
 use candidate_ir::ir::stop::Stop;
+use client::{Declared, adt, declare, may_write, reference, vec_from_local};
 use std::alloc::Global;
 use std::convert::Infallible;
 use std::test::Fail;

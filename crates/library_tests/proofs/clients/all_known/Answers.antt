@@ -1,6 +1,6 @@
 use Rattle.std.proofs.Common.{rules, sym, ◌∙◌}
 use Rattle.candidate_eval.proofs.PlainCalls.{answers-its-input}
-use Rattle.client.proofs.tests.all_known.Goals as goal
+use Rattle.library_tests.proofs.clients.all_known.Goals as goal
 
 pub returns-in-Ok-Ok : goal.returns-in-Ok-Ok
 returns-in-Ok-Ok c = λ e.
