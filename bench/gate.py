@@ -93,6 +93,7 @@ def main():
         held = line
     status = gate.wait()
     watch.done.set()
+    watch.join()
     for crate, part in sorted(watch.spans):
         print(f"gate: {crate}, {part}: {watch.time_of((crate, part))}")
     spent = resource.getrusage(resource.RUSAGE_CHILDREN)
