@@ -14,10 +14,12 @@ use crate::values::ValuedContext;
 use candidate_eval::coherence::{
     Conflict, InCrate, IsFirstInputType, NormalizeErr, OrphanCheckErr, OrphanCheckMode, OrphanStop,
     orphan_check_trait_ref, trait_ref_is_knowable, trait_ref_is_local_or_fundamental,
+    trait_ref_is_plain,
 };
 use candidate_eval::eval::InferCtxtLike;
 use candidate_ir::decl::context::Cx;
 use candidate_ir::decl::make::Make;
+use candidate_ir::ir::heads::Flag;
 use candidate_ir::ir::kinds::{
     AdtId, ForeignId, InferTy, Mutability, RegionKind, TraitId, TraitRef, Ty, TyKind, UintTy,
 };
@@ -364,6 +366,21 @@ fn knows_impls(rt: HostRuntime) {
         let trait_ref = trait_ref(&rt, rt.alloc(), &mut cx, *def_id, &[*self_ty]);
         let known = known(&rt, rt.alloc(), &mut cx, trait_ref);
         equals_in_row(&rt, &known, &Some(*want), row);
+    }
+}
+
+#[test]
+fn says_which_references_are_plain(rt: HostRuntime) {
+    for (self_ty, want) in [
+        (Named::U8, true),
+        (Named::BoxOfVariable, true),
+        (Named::OutOfVariable, false),
+    ] {
+        let mut cx = declared(&rt, rt.alloc());
+        let trait_ref = trait_ref(&rt, rt.alloc(), &mut cx, TRAIT, &[self_ty]);
+        equals(&rt, &trait_ref_is_plain(&cx, trait_ref), &want, "plain");
+        let has_alias = cx.args_have(trait_ref.args, Flag::Alias);
+        equals(&rt, &has_alias, &!want, "an alias");
     }
 }
 
