@@ -8,7 +8,8 @@ ghost use Rattle.candidate_ir.specs.Words.{IsTy, ListFits, PredFits, BoundsFit, 
 
 use candidate_ir::decl::context::Cx;
 use candidate_ir::ir::kinds::{
-    AdtId, AliasTy, AssocId, Binder, ExistentialPredicate, GenericArg, Mutability, RegionKind,
+    AdtId, AliasTy, AssocId, Binder, ExistentialPredicate, ExistentialProjection,
+    ExistentialTraitRef, GenericArg, Mutability, RegionKind,
     TraitId, Ty, TyKind,
 };
 use candidate_ir::ir::stop::Stop;
@@ -104,7 +105,7 @@ pub fn trait_bound(
     let vars = cx.mk_vars(&[])?;
     Ok(Binder {
         vars,
-        value: ExistentialPredicate::Trait(id, args),
+        value: ExistentialPredicate::Trait(ExistentialTraitRef { def_id: id, args }),
     })
 }
 
@@ -125,6 +126,10 @@ pub fn projection_bound(
     let vars = cx.mk_vars(&[])?;
     Ok(Binder {
         vars,
-        value: ExistentialPredicate::Projection(id, args, term),
+        value: ExistentialPredicate::Projection(ExistentialProjection {
+            def_id: id,
+            args,
+            term,
+        }),
     })
 }

@@ -262,11 +262,13 @@ impl<'a> Scope<'a> {
             text.push(' ')?;
             self.print_bound_name(bound, text)?;
             match bound {
-                ExistentialPredicate::Trait(_, args) => self.print_types(args, depth, text)?,
-                ExistentialPredicate::Projection(_, args, term) => {
-                    self.print_types(args, depth, text)?;
+                ExistentialPredicate::Trait(trait_ref) => {
+                    self.print_types(trait_ref.args, depth, text)?;
+                }
+                ExistentialPredicate::Projection(projection) => {
+                    self.print_types(projection.args, depth, text)?;
                     text.push(' ')?;
-                    self.print_type(term, depth, text)?;
+                    self.print_type(projection.term, depth, text)?;
                 }
                 ExistentialPredicate::AutoTrait(_) => {}
             }
@@ -291,8 +293,10 @@ impl<'a> Scope<'a> {
     /// Adds the name that begins the bound.
     fn print_bound_name(&self, bound: ExistentialPredicate, text: &mut String) -> Result<(), Stop> {
         match bound {
-            ExistentialPredicate::Trait(id, _) => self.print_name(id.0, text),
-            ExistentialPredicate::Projection(id, _, _) => self.print_name(id.0, text),
+            ExistentialPredicate::Trait(trait_ref) => self.print_name(trait_ref.def_id.0, text),
+            ExistentialPredicate::Projection(projection) => {
+                self.print_name(projection.def_id.0, text)
+            }
             ExistentialPredicate::AutoTrait(id) => self.print_name(id.0, text),
         }
     }
@@ -307,7 +311,7 @@ impl<'a> Scope<'a> {
 fn is_principal(bound: Binder<ExistentialPredicate>) -> bool
     ensures { result ≡ names_trait bound.value }
 {
-    matches!(bound.value, ExistentialPredicate::Trait(_, _))
+    matches!(bound.value, ExistentialPredicate::Trait(_))
 }
 
 /// Adds how many members there are, in brackets after the word.

@@ -127,6 +127,7 @@ below_made p q h g a b vh vg e =
 
 constant_no_part : (p : PartHead) → is_constant_kind (kind_of (H.Part p)) ≡ false
 constant_no_part (P.Pred _) = refl
+constant_no_part (P.Clause _) = refl
 constant_no_part P.Sig = refl
 constant_no_part P.Vars = refl
 constant_no_part (P.Var _) = refl

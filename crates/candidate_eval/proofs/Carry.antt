@@ -1,6 +1,7 @@
 use Rattle.std.proofs.Common.{◌≡◌, Bool, true, false, List, [], ◌∷◌, Option, Some, None, slice_get, refl, if◌then◌else◌}
 use Rattle.candidate_ir.specs.declared.ir.heads.PartHead.TheVariants as P
 use Rattle.candidate_ir.specs.declared.ir.heads.PredHead.TheVariants as PH
+use Rattle.candidate_ir.specs.declared.ir.heads.ClauseHead.TheVariants as Cl
 use Rattle.candidate_ir.specs.Trees.{Forest, none, tree, Tree, erased_head, holds, is_loose}
 use Rattle.candidate_ir.specs.Worlds.{Definition, World}
 use Rattle.candidate_ir.specs.declared.ir.heads.Head.{Head}
@@ -50,6 +51,8 @@ here_none w (H.Foreign i) = none_passes (slice_get w i.0)
 here_none w (H.Part (P.Pred (PH.Trait i))) = none_passes (slice_get w i.0)
 here_none w (H.Part (P.Pred (PH.Projection i))) = none_passes (slice_get w i.0)
 here_none w (H.Part (P.Pred (PH.AutoTrait i))) = none_passes (slice_get w i.0)
+here_none w (H.Part (P.Clause (Cl.Trait i p))) = none_passes (slice_get w i.0)
+here_none w (H.Part (P.Clause (Cl.Projection i))) = none_passes (slice_get w i.0)
 here_none w (H.FnDef i) = none_passes (slice_get w i.0)
 here_none w (H.Closure i k) = none_passes (slice_get w i.0)
 here_none w (H.Alias k i) = none_passes (slice_get w i.0)

@@ -2,8 +2,9 @@ use Rattle.std.proofs.Common.{◌≡◌, ℕ, Bool, false, List, [], ◌∷◌, 
 use Rattle.candidate_ir.specs.declared.ir.heads.PartHead.{PartHead}
 use Rattle.candidate_ir.specs.declared.ir.heads.PartHead.TheVariants as P
 use Rattle.candidate_ir.specs.declared.ir.heads.PredHead.TheVariants as PH
+use Rattle.candidate_ir.specs.declared.ir.heads.ClauseHead.TheVariants as Cl
 use Rattle.candidate_ir.specs.Trees.{Kind, SignatureKind, BinderKind, TypeKind, Forest, none, tree, holds}
-use Rattle.candidate_ir.specs.Worlds.{AdtSort, ForeignSort, FunctionSort, ClosureSort, OpaqueSort, AliasSort, AssociatedConstantSort, DefinitionSort, TraitSort, AssociatedTypeSort, Definition, World, Reference, Extends, parameters, parameters_of, joined, alias_kinds, part_kinds, child_kinds, kinds_of, Fits, IsOf}
+use Rattle.candidate_ir.specs.Worlds.{AdtSort, ForeignSort, FunctionSort, ClosureSort, OpaqueSort, AliasSort, AssociatedConstantSort, DefinitionSort, TraitSort, AssociatedTypeSort, Definition, World, Reference, Extends, parameters, parameters_of, joined, alias_kinds, clause_kinds, part_kinds, child_kinds, kinds_of, Fits, IsOf}
 use Rattle.candidate_ir.specs.declared.ir.heads.Head.{Head}
 use Rattle.candidate_ir.specs.declared.ir.kinds.AliasKind.{AliasKind}
 use Rattle.candidate_ir.specs.declared.ir.heads.Head.TheVariants as H
@@ -17,6 +18,8 @@ is_missing w (H.Foreign i) = is_none (slice_get w i.0)
 is_missing w (H.Part (P.Pred (PH.Trait i))) = is_none (slice_get w i.0)
 is_missing w (H.Part (P.Pred (PH.Projection i))) = is_none (slice_get w i.0)
 is_missing w (H.Part (P.Pred (PH.AutoTrait i))) = is_none (slice_get w i.0)
+is_missing w (H.Part (P.Clause (Cl.Trait i p))) = is_none (slice_get w i.0)
+is_missing w (H.Part (P.Clause (Cl.Projection i))) = is_none (slice_get w i.0)
 is_missing w (H.FnDef i) = is_none (slice_get w i.0)
 is_missing w (H.Closure i k) = is_none (slice_get w i.0)
 is_missing w (H.Alias k i) = is_none (slice_get w i.0)
@@ -59,6 +62,15 @@ part_there w (P.Pred (PH.Projection i)) js ks e =
     has w AssociatedTypeSort i.0 q.left q.left_is
 part_there w (P.Pred (PH.AutoTrait i)) js ks e =
     let p = joined_parts Binds (parameters w TraitSort i.0) ks e in has w TraitSort i.0 p.right p.right_is
+part_there w (P.Clause (Cl.Trait i p)) js ks e =
+    let q = joined_parts Binds (clause_kinds w (Cl.Trait i p)) ks e in
+    let r = joined_parts Self (parameters w TraitSort i.0) q.right q.right_is in has w TraitSort i.0 r.right r.right_is
+part_there w (P.Clause (Cl.Projection i)) js ks e =
+    let q = joined_parts Binds (clause_kinds w (Cl.Projection i)) ks e in
+    let r = joined_parts (joined Self (parameters w AssociatedTypeSort i.0)) Self q.right q.right_is in
+    let t = joined_parts Self (parameters w AssociatedTypeSort i.0) r.left r.left_is in has w AssociatedTypeSort i.0 t.right t.right_is
+part_there w (P.Clause Cl.TypeOutlives) js ks e = refl
+part_there w (P.Clause Cl.RegionOutlives) js ks e = refl
 part_there w P.Sig js ks e = refl
 part_there w P.Vars js ks e = refl
 part_there w (P.Var k) js ks e = refl
@@ -106,6 +118,10 @@ part_same : (v w : World) → Extends v w → (p : PartHead) (ks : List Kind) �
 part_same v w ext (P.Pred (PH.Trait i)) ks there = rw (still_there v w ext i.0 there)
 part_same v w ext (P.Pred (PH.Projection i)) ks there = rw (still_there v w ext i.0 there)
 part_same v w ext (P.Pred (PH.AutoTrait i)) ks there = rw (still_there v w ext i.0 there)
+part_same v w ext (P.Clause (Cl.Trait i p)) ks there = rw (still_there v w ext i.0 there)
+part_same v w ext (P.Clause (Cl.Projection i)) ks there = rw (still_there v w ext i.0 there)
+part_same v w ext (P.Clause Cl.TypeOutlives) ks there = refl
+part_same v w ext (P.Clause Cl.RegionOutlives) ks there = refl
 part_same v w ext P.Sig ks there = refl
 part_same v w ext P.Vars ks there = refl
 part_same v w ext (P.Var k) ks there = refl

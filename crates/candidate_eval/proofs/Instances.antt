@@ -97,6 +97,7 @@ lookup_fits u (b ∷ bs) v below ok = at (same_variable b.variable v) refl (look
 
 pub part_no_type : (p : PartHead) → is_type (H.Part p) ≡ false
 part_no_type (P.Pred _) = refl
+part_no_type (P.Clause _) = refl
 part_no_type P.Sig = refl
 part_no_type P.Vars = refl
 part_no_type (P.Var _) = refl
@@ -104,3 +105,4 @@ part_no_type (P.Var _) = refl
 pub list_no_type : (l : ListHead) → is_type (H.List l) ≡ false
 list_no_type L.Args = refl
 list_no_type L.Preds = refl
+list_no_type L.Clauses = refl

@@ -2,6 +2,7 @@ use Rattle.std.proofs.Common.{◌≡◌, ℕ, zero, suc, ◌+◌, ◌<◌, ◌==
 use Rattle.std.proofs.lemmas.Bool.{ne_eqb}
 use Rattle.candidate_ir.specs.declared.ir.heads.PartHead.TheVariants as P
 use Rattle.candidate_ir.specs.declared.ir.heads.PredHead.TheVariants as PH
+use Rattle.candidate_ir.specs.declared.ir.heads.ClauseHead.TheVariants as Cl
 use Rattle.candidate_ir.specs.declared.ir.kinds.AdtId.{AdtId}
 use Rattle.candidate_ir.specs.Trees.{kind_of, sort_kind, Forest, none, tree, Tree, is_type, holds, is_alias, is_error, erase}
 use Rattle.candidate_ir.specs.Worlds.{IsOf, Fits, kinds_of, child_kinds, parameters_of, AdtSort, Definition, World, Reference, Extends}
@@ -75,6 +76,8 @@ here_apart w (H.Foreign i) e = old_apart w i.0 e
 here_apart w (H.Part (P.Pred (PH.Trait i))) e = old_apart w i.0 e
 here_apart w (H.Part (P.Pred (PH.Projection i))) e = old_apart w i.0 e
 here_apart w (H.Part (P.Pred (PH.AutoTrait i))) e = old_apart w i.0 e
+here_apart w (H.Part (P.Clause (Cl.Trait i p))) e = old_apart w i.0 e
+here_apart w (H.Part (P.Clause (Cl.Projection i))) e = old_apart w i.0 e
 here_apart w (H.FnDef i) e = old_apart w i.0 e
 here_apart w (H.Closure i k) e = old_apart w i.0 e
 here_apart w (H.Alias k i) e = old_apart w i.0 e

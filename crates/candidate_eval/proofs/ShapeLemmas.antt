@@ -77,6 +77,7 @@ principal-none w test f e = passes-principal w test f ∙ ap (passes w test) (sy
 
 region-bound : (w : World) (test : CrateTest) (h : Head) (b : Bool) → kind_of h ≡ RegionKind → by_bound w test h b ≡ b
 region-bound w test (H.Part (P.Pred p)) b e = absurd cc
+region-bound w test (H.Part (P.Clause c)) b e = refl
 region-bound w test (H.Part P.Sig) b e = refl
 region-bound w test (H.Part P.Vars) b e = refl
 region-bound w test (H.Part (P.Var k)) b e = refl

@@ -8,15 +8,16 @@ use Rattle.candidate_ir.specs.declared.ir.heads.Head.TheVariants as H
 use Rattle.candidate_ir.specs.declared.ir.kinds.GenericArg.{GenericArg}
 use Rattle.candidate_ir.specs.declared.ir.kinds.Pred.{Pred}
 use Rattle.candidate_ir.specs.declared.ir.kinds.Var.{Var}
-use Rattle.candidate_ir.specs.Trees.{ArgumentsKind, is_list, is_list_kind, Tree, weight, height, holds, tree_holds}
+use Rattle.candidate_ir.specs.declared.ir.kinds.Clause.{Clause}
+use Rattle.candidate_ir.specs.Trees.{Kind, is_list, is_list_kind, Tree, weight, height, holds, tree_holds}
 use Rattle.candidate_ir.specs.Kinds.{Child, numbers, arg_child, arg_number}
 use Rattle.candidate_ir.specs.declared.ir.node.Node.{Node}
-use Rattle.candidate_ir.specs.Nodes.{kind_at, tree_at, trees_at, rows, tallest, any_holds, children_of, node_tree, head_of, pred_child, var_child, Fits}
+use Rattle.candidate_ir.specs.Nodes.{kind_at, tree_at, trees_at, rows, tallest, any_holds, children_of, node_tree, head_of, pred_child, clause_child, var_child, Fits}
 use Rattle.candidate_ir.specs.Table.{Below, IsNodeOf}
 use Rattle.candidate_ir.specs.Flags.{mark}
 use Rattle.candidate_ir.specs.declared.ir.heads.Flag.{Flag}
 use Rattle.candidate_ir.specs.declared.ir.heads.Flag.TheVariants as F
-use Rattle.candidate_ir.proofs.Lists.{below_kind, kind_of-tree_at}
+use Rattle.candidate_ir.proofs.Lists.{there, below_kind, kind_of-tree_at}
 use Rattle.candidate_ir.proofs.Splits.{list-head, nodes-agree, rows-holds, rows-height}
 
 pub Below-get : (n : ℕ) (ks : List ℕ) (i k : ℕ) → Below n ks → slice_get ks i ≡ Some k → k < n
@@ -68,13 +69,13 @@ pub any-step : (p : Head → Bool) (ts : List Tree) (ks : List ℕ) (i k : ℕ) 
     → any_holds p (trees_at ts (drop i ks)) ≡ tree_holds p (tree_at ts k) || any_holds p (trees_at ts (drop (i + 1) ks))
 any-step p ts ks i k e = ap (any_holds p) (rest ts ks i k e)
 
-or-true : (a b : Bool) → a ≡ true → a || b ≡ true
+pub or-true : (a b : Bool) → a ≡ true → a || b ≡ true
 or-true a b e = rw e
 
-or-false : (a b : Bool) → a ≡ false → a || b ≡ b
+pub or-false : (a b : Bool) → a ≡ false → a || b ≡ b
 or-false a b e = rw e
 
-or-true_right : (a b : Bool) → b ≡ true → a || b ≡ true
+pub or-true_right : (a b : Bool) → b ≡ true → a || b ≡ true
 or-true_right true b e = refl
 or-true_right false b e = e
 
@@ -140,6 +141,15 @@ var_at [] i a h e = absurd (omega arith)
 var_at (x ∷ xs) zero a h e = ap (λ (y : Var). Some y.0) (sym e)
 var_at (x ∷ xs) (suc i) a h e = var_at xs i a (omega arith) e
 
+pub clause_at : (xs : List Clause) (i : ℕ) (a : Clause) → i < length xs → a ≡ get_or xs i a → slice_get (numbers (map clause_child xs)) i ≡ Some a.0
+clause_at [] i a h e = absurd (omega arith)
+clause_at (x ∷ xs) zero a h e = ap (λ (y : Clause). Some y.0) (sym e)
+clause_at (x ∷ xs) (suc i) a h e = clause_at xs i a (omega arith) e
+
+pub length_clauses : (xs : List Clause) → length (map clause_child xs) ≡ length xs
+length_clauses [] = refl
+length_clauses (x ∷ xs) = ap suc (length_clauses xs)
+
 pub length_preds : (xs : List Pred) → length (map pred_child xs) ≡ length xs
 length_preds [] = refl
 length_preds (x ∷ xs) = ap suc (length_preds xs)
@@ -172,10 +182,10 @@ mark-list F.Alias l = refl
 mark-list F.Error l = refl
 
 -- what is marked in a list stands among its members
-pub list-holds : (ts : List Tree) (n : ℕ) (f : Flag) → kind_at ts n ≡ ArgumentsKind
+pub list-holds : (ts : List Tree) (n : ℕ) (f : Flag) (k : Kind) → there k ≡ true → is_list_kind k ≡ true → kind_at ts n ≡ k
     → tree_holds (mark f) (tree_at ts n) ≡ holds (mark f) (tree_at ts n).children
-list-holds ts n f e =
+list-holds ts n f k h i e =
     let t = tree_at ts n in
-    let k : is_list t.head ≡ true = ap is_list_kind (sym (kind_of-tree_at ts n (below_kind ts n ArgumentsKind refl e)) ∙ e) in
+    let k : is_list t.head ≡ true = ap is_list_kind (sym (kind_of-tree_at ts n (below_kind ts n k h e)) ∙ e) ∙ i in
     let l = list-head t.head k in
     or-false (mark f t.head) (holds (mark f) t.children) (ap (mark f) l.1 ∙ mark-list f l.0)

@@ -4,6 +4,7 @@ pub mod Tables
 pub mod Sorts
 pub mod Splits
 pub mod Children
+pub mod Escapes
 pub mod Principals
 pub mod Kept
 pub mod Made

@@ -14,11 +14,14 @@ use Rattle.candidate_ir.specs.declared.ir.kinds.ExistentialPredicate.TheVariants
 use Rattle.candidate_ir.specs.declared.ir.kinds.Binder.{Binder}
 use Rattle.candidate_ir.specs.declared.ir.kinds.Pred.{Pred}
 use Rattle.candidate_ir.specs.declared.ir.kinds.Var.{Var}
+use Rattle.candidate_ir.specs.declared.ir.kinds.Clause.{Clause}
+use Rattle.candidate_ir.specs.declared.ir.kinds.ClauseKind.{ClauseKind}
+use Rattle.candidate_ir.specs.declared.ir.kinds.ClauseKind.TheVariants as Cl
 use Rattle.candidate_ir.specs.declared.ir.kinds.GenericArg.{GenericArg}
 use Rattle.candidate_ir.specs.declared.ir.kinds.GenericArg.TheVariants as A
 use Rattle.candidate_ir.specs.Trees.{Kind, NoKind, Tree, kind_of}
-use Rattle.candidate_ir.specs.Kinds.{numbers, sorts, arg_child, ty_children, const_children, pred_children}
-use Rattle.candidate_ir.specs.Nodes.{tree_at, kind_at, trees_at, kinds_at, error_tree, rows, node_tree, head_of, children_of, pred_child, var_child, Fits}
+use Rattle.candidate_ir.specs.Kinds.{numbers, sorts, arg_child, ty_children, const_children, pred_children, clause_children}
+use Rattle.candidate_ir.specs.Nodes.{tree_at, kind_at, trees_at, kinds_at, error_tree, rows, node_tree, head_of, children_of, pred_child, clause_child, var_child, Fits}
 use Rattle.candidate_ir.specs.declared.ir.node.Node.{Node}
 use Rattle.candidate_ir.specs.declared.ir.node.Node.TheVariants as N
 use Rattle.candidate_ir.specs.Table.{Below}
@@ -94,6 +97,10 @@ pub there-preds : (xs : List Pred) → all_there (sorts (map pred_child xs)) ≡
 there-preds [] = refl
 there-preds (p ∷ xs) = there-preds xs
 
+pub there-clauses : (xs : List Clause) → all_there (sorts (map clause_child xs)) ≡ true
+there-clauses [] = refl
+there-clauses (c ∷ xs) = there-clauses xs
+
 pub there-vars : (xs : List Var) → all_there (sorts (map var_child xs)) ≡ true
 there-vars [] = refl
 there-vars (p ∷ xs) = there-vars xs
@@ -108,9 +115,15 @@ there-const (CK.Unevaluated _ _) = refl
 there-const _ = refl
 
 there-pred : (v : ExistentialPredicate) (b : Binder ExistentialPredicate) → b.value ≡ v → all_there (sorts (pred_children b)) ≡ true
-there-pred (E.Trait _ _) b e = rw e refl
-there-pred (E.Projection _ _ _) b e = rw e refl
+there-pred (E.Trait _) b e = rw e refl
+there-pred (E.Projection _) b e = rw e refl
 there-pred (E.AutoTrait _) b e = rw e refl
+
+there-clause : (v : ClauseKind) (b : Binder ClauseKind) → b.value ≡ v → all_there (sorts (clause_children b)) ≡ true
+there-clause (Cl.Trait _) b e = rw e refl
+there-clause (Cl.Projection _) b e = rw e refl
+there-clause (Cl.TypeOutlives _ _) b e = rw e refl
+there-clause (Cl.RegionOutlives _ _) b e = rw e refl
 
 pub there-children : (d : Node) → all_there (sorts (children_of d)) ≡ true
 there-children (N.Ty k) = there-ty k
@@ -118,7 +131,9 @@ there-children (N.Const k) = there-const k
 there-children (N.Region k) = refl
 there-children (N.Args v) = there-args v.items
 there-children (N.Preds v) = there-preds v.items
+there-children (N.Clauses v) = there-clauses v.items
 there-children (N.Pred b) = there-pred b.value b refl
+there-children (N.Clause b) = there-clause b.value b refl
 there-children (N.Sig b) = refl
 there-children (N.Vars v) = there-vars v.items
 there-children (N.Var k) = refl

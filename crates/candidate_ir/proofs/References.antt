@@ -4,18 +4,21 @@ use Rattle.std.specs.Prelude.{Result, Ok, Err, IfOk, IfErr, map}
 use Rattle.candidate_ir.specs.declared.ir.kinds.VarKind.{VarKind}
 use Rattle.candidate_ir.specs.declared.ir.kinds.Args.{Args}
 use Rattle.candidate_ir.specs.declared.ir.kinds.TraitRef.{TraitRef}
+use Rattle.candidate_ir.specs.declared.ir.kinds.Binder.{Binder}
+use Rattle.candidate_ir.specs.declared.ir.kinds.ClosureSig.{ClosureSig}
 use Rattle.candidate_ir.specs.declared.ir.node.Node.{Node}
 use Rattle.candidate_ir.specs.declared.ir.stop.Stop.{Stop}
 use Rattle.candidate_ir.specs.declared.ir.heads.Head.{Head}
-use Rattle.candidate_ir.specs.Trees.{Kind, TypeKind, VariableKind, Forest, none, tree, Tree, is_list, put, row, join}
+use Rattle.candidate_ir.specs.Trees.{Kind, TypeKind, BinderKind, VariableKind, Forest, none, tree, Tree, is_list, is_list_kind, put, row, join}
 use Rattle.candidate_ir.specs.Kinds.{numbers}
-use Rattle.candidate_ir.specs.Nodes.{rows, node_of, node_tree, head_of, children_of, tree_at, trees_at}
+use Rattle.candidate_ir.specs.Nodes.{rows, node_of, node_tree, head_of, children_of, tree_at, kind_at, trees_at}
 use Rattle.candidate_ir.specs.Worlds.{World, Reference, IsOf, Fits, child_kinds, kinds_of, parameters, TraitSort, joined, all_of}
 use Rattle.candidate_ir.specs.Context.{Context, Grows, world}
-use Rattle.candidate_ir.specs.Words.{IsArgs, args_forest, var_kind_tree}
+use Rattle.candidate_ir.specs.Words.{IsArgs, args_forest, var_kind_tree, SigFits, sig_kind_tree}
 use Rattle.candidate_ir.specs.References.{reference_of, IsReference, Takes, AllTake, FitsAmong, AllFit, IsWellFormed}
 use Rattle.candidate_ir.proofs.Kept.{args-kept, world-kept}
-use Rattle.candidate_ir.proofs.Rows.{join-none, row-list}
+use Rattle.candidate_ir.proofs.Rows.{join-none, row-list, row-single, kind-of}
+use Rattle.candidate_ir.proofs.Lists.{there}
 
 -- a reference of a context stays one
 pub reference-kept : (old new : Context) (r : TraitRef) → Grows old new → IsArgs old.trees r.args → IsReference old r → IsReference new r
@@ -87,6 +90,21 @@ pub variables-take : (w : World) (h : Head) (ts : List Tree) (ks : List VarKind)
 variables-take w h ts ks e c =
     λ l. c ∙ ap Some (ap (λ (us : List Tree). all_of VariableKind (kinds_of (rows us))) e
     ∙ (variable-kinds ks ∙ ap (λ (us : List Tree). kinds_of (rows us)) (sym e)))
+
+row-kinds : (ts : List Tree) (n : ℕ) (k : Kind) (f : Forest) → there k ≡ true → is_list_kind k ≡ false → kind_at ts n ≡ k
+    → kinds_of (row (tree_at ts n) f) ≡ k ∷ kinds_of f
+row-kinds ts n k f h l e = ap kinds_of (row-single ts n k f h l e) ∙ ap (λ (j : Kind). j ∷ kinds_of f) (kind-of ts n k h e)
+
+-- a signature that fits takes its children
+pub signature-takes : (w : World) (ts : List Tree) (b : Binder ClosureSig) → SigFits ts b → Takes w (sig_kind_tree ts b)
+signature-takes w ts b f =
+    let vars : kind_at ts b.vars.0 ≡ BinderKind = cc in
+    let inputs : kind_at ts b.value.inputs.0 ≡ TypeKind = cc in
+    let output : kind_at ts b.value.output.0 ≡ TypeKind = cc in
+    let last = row-kinds ts b.value.output.0 TypeKind none refl refl output in
+    let two = row-kinds ts b.value.inputs.0 TypeKind (row (tree_at ts b.value.output.0) none) refl refl inputs in
+    let three = row-kinds ts b.vars.0 BinderKind (row (tree_at ts b.value.inputs.0) (row (tree_at ts b.value.output.0) none)) refl refl vars in
+    λ l. ap Some (sym (three ∙ (ap (λ (ks : List Kind). BinderKind ∷ ks) two ∙ ap (λ (ks : List Kind). BinderKind ∷ TypeKind ∷ ks) last)))
 
 -- the members of a list of a well-formed context fit what it declares
 pub args-fit : (c : Context) (a : Args) → IsWellFormed c → IsArgs c.trees a → Fits (world c) (args_forest c.trees a)

@@ -11,6 +11,9 @@ use Rattle.candidate_ir.specs.declared.ir.kinds.ExistentialPredicate.TheVariants
 use Rattle.candidate_ir.specs.declared.ir.kinds.Binder.{Binder}
 use Rattle.candidate_ir.specs.declared.ir.kinds.Pred.{Pred}
 use Rattle.candidate_ir.specs.declared.ir.kinds.Var.{Var}
+use Rattle.candidate_ir.specs.declared.ir.kinds.Clause.{Clause}
+use Rattle.candidate_ir.specs.declared.ir.kinds.ClauseKind.{ClauseKind}
+use Rattle.candidate_ir.specs.declared.ir.kinds.ClauseKind.TheVariants as Cl
 use Rattle.candidate_ir.specs.declared.ir.kinds.GenericArg.{GenericArg}
 use Rattle.candidate_ir.specs.declared.ir.kinds.GenericArg.TheVariants as A
 use Rattle.candidate_ir.specs.declared.ir.heads.Head.{Head}
@@ -18,33 +21,37 @@ use Rattle.candidate_ir.specs.declared.ir.heads.Head.TheVariants as H
 use Rattle.candidate_ir.specs.declared.ir.heads.Builtin.TheVariants as B
 use Rattle.candidate_ir.specs.declared.ir.heads.ConstHead.TheVariants as C
 use Rattle.candidate_ir.specs.declared.ir.heads.PredHead.TheVariants as PH
+use Rattle.candidate_ir.specs.declared.ir.heads.ClauseHead.TheVariants as ClH
 use Rattle.candidate_ir.specs.declared.ir.heads.PartHead.{PartHead}
 use Rattle.candidate_ir.specs.declared.ir.heads.PartHead.TheVariants as P
 use Rattle.candidate_ir.specs.declared.ir.heads.ListHead.{ListHead}
 use Rattle.candidate_ir.specs.declared.ir.heads.ListHead.TheVariants as L
 use Rattle.candidate_ir.specs.declared.ir.heads.VariableSort.{VariableSort}
 use Rattle.candidate_ir.specs.declared.ir.heads.VariableSort.TheVariants as V
-use Rattle.candidate_ir.specs.Trees.{Kind, ArgumentsKind, PredicatesKind, Forest, none, tree, Tree, kind_of, sort_kind, part_kind, is_list_kind, is_list, put, row, join, count, kind_weight, heights, height, holds, tree_holds}
+use Rattle.candidate_ir.specs.Trees.{Kind, ArgumentsKind, PredicatesKind, ClausesKind, Forest, none, tree, Tree, kind_of, sort_kind, part_kind, is_list_kind, is_list, put, row, join, count, kind_weight, heights, height, holds, tree_holds}
 use Rattle.candidate_ir.specs.Kinds.{Child, numbers, sorts, arg_child}
-use Rattle.candidate_ir.specs.Nodes.{trees_at, kinds_at, rows, tallest, any_holds, node_tree, head_of, children_of, pred_child, var_child, Fits}
+use Rattle.candidate_ir.specs.Nodes.{tree_at, kind_at, trees_at, kinds_at, rows, tallest, any_holds, node_tree, head_of, children_of, pred_child, clause_child, var_child, Fits}
 use Rattle.candidate_ir.specs.declared.ir.node.Node.{Node}
 use Rattle.candidate_ir.specs.declared.ir.node.Node.TheVariants as N
 use Rattle.candidate_ir.specs.Table.{Below}
-use Rattle.candidate_ir.proofs.Lists.{Fits-below, kind_of-tree_at}
+use Rattle.candidate_ir.proofs.Lists.{there, below_kind, Fits-below, kind_of-tree_at}
 
 abbrev pub list_of : Kind → Option ListHead
 list_of ArgumentsKind = Some L.Args
 list_of PredicatesKind = Some L.Preds
+list_of ClausesKind = Some L.Clauses
 list_of _ = None
 
 none-list : (k : Kind) → list_of k ≡ None → is_list_kind k ≡ false
 none-list ArgumentsKind e = absurd cc
 none-list PredicatesKind e = absurd cc
+none-list ClausesKind e = absurd cc
 none-list _ e = refl
 
 some-list : (k : Kind) (l : ListHead) → list_of k ≡ Some l → is_list_kind k ≡ true
 some-list ArgumentsKind l e = refl
 some-list PredicatesKind l e = refl
+some-list ClausesKind l e = refl
 some-list _ l e = absurd cc
 
 sort-single : (s : VariableSort) → is_list_kind (sort_kind s) ≡ false
@@ -53,6 +60,7 @@ sort-single _ = refl
 
 part-single : (p : PartHead) → is_list_kind (part_kind p) ≡ false
 part-single (P.Pred _) = refl
+part-single (P.Clause _) = refl
 part-single P.Sig = refl
 part-single P.Vars = refl
 part-single (P.Var _) = refl
@@ -73,6 +81,16 @@ list-head_of h l e =
     of : (m : ListHead) → list_of (kind_of (H.List m)) ≡ Some l → m ≡ l
     of L.Args f = cc
     of L.Preds f = cc
+    of L.Clauses f = cc
+
+-- lists of one kind with equal members are equal
+pub lists-agree : (ts : List Tree) (n m : ℕ) (k : Kind) (l : ListHead) → there k ≡ true → list_of k ≡ Some l → kind_at ts n ≡ k → kind_at ts m ≡ k
+    → (tree_at ts n).children ≡ (tree_at ts m).children → tree_at ts n ≡ tree_at ts m
+lists-agree ts n m k l h i a b e =
+    let head : (j : ℕ) → kind_at ts j ≡ k → (tree_at ts j).head ≡ H.List l =
+    λ j g. list-head_of (tree_at ts j).head l (ap list_of (sym (kind_of-tree_at ts j (below_kind ts j k h g)) ∙ g) ∙ i) in
+    let q : (tree_at ts n).head ≡ (tree_at ts m).head = head n a ∙ sym (head m b) in
+    λ i. record { head = q i; children = e i }
 
 -- which children are lists
 abbrev pub lists : List Tree → List (Option ListHead)
@@ -162,6 +180,8 @@ shape H.Dynamic n = Some L.Preds ∷ None ∷ []
 shape (H.Closure _ _) n = Some L.Args ∷ None ∷ None ∷ []
 shape (H.Part (P.Pred (PH.Trait _))) n = None ∷ Some L.Args ∷ []
 shape (H.Part (P.Pred (PH.Projection _))) n = None ∷ Some L.Args ∷ None ∷ []
+shape (H.Part (P.Clause (ClH.Trait _ _))) n = None ∷ Some L.Args ∷ []
+shape (H.Part (P.Clause (ClH.Projection _))) n = None ∷ Some L.Args ∷ None ∷ []
 shape _ n = nones n
 
 nones-no : (n : ℕ) → no_list (nones n) ≡ true
@@ -182,6 +202,8 @@ shape-one H.Dynamic n = refl
 shape-one (H.Closure _ _) n = refl
 shape-one (H.Part (P.Pred (PH.Trait _))) n = refl
 shape-one (H.Part (P.Pred (PH.Projection _))) n = refl
+shape-one (H.Part (P.Clause (ClH.Trait _ _))) n = refl
+shape-one (H.Part (P.Clause (ClH.Projection _))) n = refl
 shape-one _ n = nones-one n
 
 shape-args : (xs : List GenericArg) → map list_of (sorts (map arg_child xs)) ≡ nones (length (map arg_child xs))
@@ -193,6 +215,10 @@ shape-args (A.Region _ ∷ xs) = ap (λ (x : List (Option ListHead)). None ∷ x
 shape-preds : (xs : List Pred) → map list_of (sorts (map pred_child xs)) ≡ nones (length (map pred_child xs))
 shape-preds [] = refl
 shape-preds (p ∷ xs) = ap (λ (x : List (Option ListHead)). None ∷ x) (shape-preds xs)
+
+shape-clauses : (xs : List Clause) → map list_of (sorts (map clause_child xs)) ≡ nones (length (map clause_child xs))
+shape-clauses [] = refl
+shape-clauses (c ∷ xs) = ap (λ (x : List (Option ListHead)). None ∷ x) (shape-clauses xs)
 
 shape-vars : (xs : List Var) → map list_of (sorts (map var_child xs)) ≡ nones (length (map var_child xs))
 shape-vars [] = refl
@@ -211,9 +237,15 @@ shape-const (CK.Unevaluated _ _) = refl
 shape-const _ = refl
 
 shape-pred : (v : ExistentialPredicate) (b : Binder ExistentialPredicate) → b.value ≡ v → Shaped (N.Pred b)
-shape-pred (E.Trait _ _) b e = rw e refl
-shape-pred (E.Projection _ _ _) b e = rw e refl
+shape-pred (E.Trait _) b e = rw e refl
+shape-pred (E.Projection _) b e = rw e refl
 shape-pred (E.AutoTrait _) b e = rw e refl
+
+shape-clause : (v : ClauseKind) (b : Binder ClauseKind) → b.value ≡ v → Shaped (N.Clause b)
+shape-clause (Cl.Trait _) b e = rw e refl
+shape-clause (Cl.Projection _) b e = rw e refl
+shape-clause (Cl.TypeOutlives _ _) b e = rw e refl
+shape-clause (Cl.RegionOutlives _ _) b e = rw e refl
 
 pub shaped : (d : Node) → Shaped d
 shaped (N.Ty k) = shape-ty k
@@ -221,7 +253,9 @@ shaped (N.Const k) = shape-const k
 shaped (N.Region k) = refl
 shaped (N.Args v) = shape-args v.items
 shaped (N.Preds v) = shape-preds v.items
+shaped (N.Clauses v) = shape-clauses v.items
 shaped (N.Pred b) = shape-pred b.value b refl
+shaped (N.Clause b) = shape-clause b.value b refl
 shaped (N.Sig b) = refl
 shaped (N.Vars v) = shape-vars v.items
 shaped (N.Var k) = refl
@@ -263,6 +297,8 @@ steady H.Dynamic = inl (λ n m. refl)
 steady (H.Closure _ _) = inl (λ n m. refl)
 steady (H.Part (P.Pred (PH.Trait _))) = inl (λ n m. refl)
 steady (H.Part (P.Pred (PH.Projection _))) = inl (λ n m. refl)
+steady (H.Part (P.Clause (ClH.Trait _ _))) = inl (λ n m. refl)
+steady (H.Part (P.Clause (ClH.Projection _))) = inl (λ n m. refl)
 steady _ = inr (λ n. refl)
 
 length-lists : (cs : List Child) → length (map list_of (sorts cs)) ≡ length cs
@@ -294,6 +330,7 @@ root-agree ts d f p q e =
 list-weight : (k : Kind) → is_list_kind k ≡ true → kind_weight k ≡ 0
 list-weight ArgumentsKind e = refl
 list-weight PredicatesKind e = refl
+list-weight ClausesKind e = refl
 list-weight _ e = absurd cc
 
 pub heights-join : (a b : Forest) → heights (join a b) ≡ max (heights a) (heights b)
@@ -308,7 +345,7 @@ pub rows-height : (ts : List Tree) → heights (rows ts) ≡ tallest ts
 rows-height [] = refl
 rows-height (t ∷ ts) = row-height (is_list t.head) t (rows ts) refl ∙ ap (max (height t)) (rows-height ts)
 
-or-assoc : (a b c : Bool) → (a || b) || c ≡ a || (b || c)
+pub or-assoc : (a b c : Bool) → (a || b) || c ≡ a || (b || c)
 or-assoc true b c = refl
 or-assoc false b c = refl
 

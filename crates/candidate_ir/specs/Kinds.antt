@@ -1,5 +1,5 @@
 -- The root and the children of each kind.
-use Rattle.std.specs.Prelude.{ℕ, List, [], ◌∷◌, map}
+use Rattle.std.specs.Prelude.{ℕ, Bool, true, false, not, ◌&&◌, List, [], ◌∷◌, map}
 use Rattle.candidate_ir.specs.declared.ir.kinds.TyKind.{TyKind}
 use Rattle.candidate_ir.specs.declared.ir.kinds.TyKind.TheVariants as K
 use Rattle.candidate_ir.specs.declared.ir.kinds.Pattern.TheVariants as Pat
@@ -13,6 +13,9 @@ use Rattle.candidate_ir.specs.declared.ir.kinds.Binder.{Binder}
 use Rattle.candidate_ir.specs.declared.ir.kinds.ExistentialPredicate.{ExistentialPredicate}
 use Rattle.candidate_ir.specs.declared.ir.kinds.ExistentialPredicate.TheVariants as E
 use Rattle.candidate_ir.specs.declared.ir.kinds.ClosureSig.{ClosureSig}
+use Rattle.candidate_ir.specs.declared.ir.kinds.FnSig.{FnSig}
+use Rattle.candidate_ir.specs.declared.ir.kinds.ClauseKind.{ClauseKind}
+use Rattle.candidate_ir.specs.declared.ir.kinds.ClauseKind.TheVariants as Cl
 use Rattle.candidate_ir.specs.declared.ir.heads.Head.{Head}
 use Rattle.candidate_ir.specs.declared.ir.heads.Head.TheVariants as H
 use Rattle.candidate_ir.specs.declared.ir.heads.Builtin.TheVariants as B
@@ -20,6 +23,8 @@ use Rattle.candidate_ir.specs.declared.ir.heads.PatternShape.TheVariants as S
 use Rattle.candidate_ir.specs.declared.ir.heads.ConstHead.TheVariants as C
 use Rattle.candidate_ir.specs.declared.ir.heads.PredHead.{PredHead}
 use Rattle.candidate_ir.specs.declared.ir.heads.PredHead.TheVariants as PH
+use Rattle.candidate_ir.specs.declared.ir.heads.ClauseHead.{ClauseHead}
+use Rattle.candidate_ir.specs.declared.ir.heads.ClauseHead.TheVariants as ClH
 use Rattle.candidate_ir.specs.declared.ir.heads.Variable.{Variable}
 use Rattle.candidate_ir.specs.declared.ir.heads.VariableSort.TheVariants as V
 use Rattle.candidate_ir.specs.Trees.{Kind, TypeKind, ConstantKind, RegionKind, SignatureKind, BinderKind, ArgumentsKind, PredicatesKind}
@@ -69,12 +74,21 @@ const_head (CK.Unevaluated id _) = H.Const (C.Unevaluated id)
 const_head CK.Error = H.Const C.Error
 
 abbrev bound_head : ExistentialPredicate → PredHead
-bound_head (E.Trait id _) = PH.Trait id
-bound_head (E.Projection id _ _) = PH.Projection id
+bound_head (E.Trait r) = PH.Trait r.def_id
+bound_head (E.Projection p) = PH.Projection p.def_id
 bound_head (E.AutoTrait id) = PH.AutoTrait id
 
 abbrev pub pred_head : Binder ExistentialPredicate → PredHead
 pred_head b = bound_head b.value
+
+abbrev fact_head : ClauseKind → ClauseHead
+fact_head (Cl.Trait p) = ClH.Trait p.trait_ref.def_id p.polarity
+fact_head (Cl.Projection p) = ClH.Projection p.projection_term.def_id
+fact_head (Cl.TypeOutlives _ _) = ClH.TypeOutlives
+fact_head (Cl.RegionOutlives _ _) = ClH.RegionOutlives
+
+abbrev pub clause_head : Binder ClauseKind → ClauseHead
+clause_head b = fact_head b.value
 
 abbrev pub arg_number : GenericArg → ℕ
 arg_number (A.Ty t) = t.0
@@ -115,12 +129,21 @@ const_children (CK.Unevaluated _ list) = (list.0, ArgumentsKind) ∷ []
 const_children _ = []
 
 abbrev bound_children : ExistentialPredicate → List Child
-bound_children (E.Trait _ list) = (list.0, ArgumentsKind) ∷ []
-bound_children (E.Projection _ list term) = (list.0, ArgumentsKind) ∷ (term.0, TypeKind) ∷ []
+bound_children (E.Trait r) = (r.args.0, ArgumentsKind) ∷ []
+bound_children (E.Projection p) = (p.args.0, ArgumentsKind) ∷ (p.term.0, TypeKind) ∷ []
 bound_children (E.AutoTrait _) = []
 
 abbrev pub pred_children : Binder ExistentialPredicate → List Child
 pred_children b = (b.vars.0, BinderKind) ∷ bound_children b.value
+
+abbrev fact_children : ClauseKind → List Child
+fact_children (Cl.Trait p) = (p.trait_ref.args.0, ArgumentsKind) ∷ []
+fact_children (Cl.Projection p) = (p.projection_term.args.0, ArgumentsKind) ∷ (p.term.0, TypeKind) ∷ []
+fact_children (Cl.TypeOutlives t r) = (t.0, TypeKind) ∷ (r.0, RegionKind) ∷ []
+fact_children (Cl.RegionOutlives r s) = (r.0, RegionKind) ∷ (s.0, RegionKind) ∷ []
+
+abbrev pub clause_children : Binder ClauseKind → List Child
+clause_children b = (b.vars.0, BinderKind) ∷ fact_children b.value
 
 abbrev pub sig_children : Binder ClosureSig → List Child
 sig_children b = (b.vars.0, BinderKind) ∷ (b.value.inputs.0, TypeKind) ∷ (b.value.output.0, TypeKind) ∷ []
@@ -130,3 +153,25 @@ numbers cs = map (λ c. c.0) cs
 
 abbrev pub sorts : List Child → List Kind
 sorts cs = map (λ c. c.1) cs
+
+-- A function has the `Fn` traits where it is safe, of the Rust ABI and not variadic.
+abbrev pub is_fn_trait_compatible : FnSig → Bool
+is_fn_trait_compatible s = s.safe && (s.rust_abi && not s.variadic)
+
+abbrev is_general : InferTy → Bool
+is_general (I.TyVar _) = true
+is_general _ = false
+
+abbrev pub is_general_variable : TyKind → Bool
+is_general_variable (K.Infer v) = is_general v
+is_general_variable _ = false
+
+-- What stays as it is, whatever variables become and aliases stand for.
+abbrev pub is_known_rigid : TyKind → Bool
+is_known_rigid (K.Alias _) = false
+is_known_rigid (K.Param _) = false
+is_known_rigid (K.Placeholder _) = false
+is_known_rigid (K.Bound _) = false
+is_known_rigid (K.Infer _) = false
+is_known_rigid K.Error = false
+is_known_rigid _ = true

@@ -2,6 +2,7 @@ pub mod Trees
 pub mod TreeCode
 pub mod Kinds
 pub mod Flags
+pub mod Binders
 pub mod Nodes
 pub mod Table
 pub mod Words

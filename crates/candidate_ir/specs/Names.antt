@@ -6,6 +6,7 @@ use Rattle.candidate_ir.specs.declared.ir.heads.Head.TheVariants as H
 use Rattle.candidate_ir.specs.declared.ir.heads.ConstHead.TheVariants as C
 use Rattle.candidate_ir.specs.declared.ir.heads.PartHead.TheVariants as P
 use Rattle.candidate_ir.specs.declared.ir.heads.PredHead.TheVariants as PH
+use Rattle.candidate_ir.specs.declared.ir.heads.ClauseHead.TheVariants as Cl
 use Rattle.candidate_ir.specs.Trees.{Forest, none, tree, holds, erase}
 use Rattle.candidate_ir.specs.Worlds.{World, Definition, Reference}
 
@@ -44,6 +45,8 @@ names_here w test (H.Const (C.Unevaluated i)) = is_local w test i.0
 names_here w test (H.Part (P.Pred (PH.Trait i))) = is_local w test i.0
 names_here w test (H.Part (P.Pred (PH.Projection i))) = is_local w test i.0
 names_here w test (H.Part (P.Pred (PH.AutoTrait i))) = is_local w test i.0
+names_here w test (H.Part (P.Clause (Cl.Trait i p))) = is_local w test i.0
+names_here w test (H.Part (P.Clause (Cl.Projection i))) = is_local w test i.0
 names_here w test _ = false
 
 -- A reference names a crate where its trait, or a definition in its erased trees, belongs to the crate.

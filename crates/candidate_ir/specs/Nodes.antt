@@ -2,14 +2,15 @@
 use Rattle.std.specs.Prelude.{◌≡◌, ℕ, zero, suc, max, List, [], ◌∷◌, ◌++◌, map, get_or, Bool, ◌||◌, false}
 use Rattle.candidate_ir.specs.declared.ir.kinds.Pred.{Pred}
 use Rattle.candidate_ir.specs.declared.ir.kinds.Var.{Var}
+use Rattle.candidate_ir.specs.declared.ir.kinds.Clause.{Clause}
 use Rattle.candidate_ir.specs.declared.ir.heads.Head.{Head}
 use Rattle.candidate_ir.specs.declared.ir.heads.Head.TheVariants as H
 use Rattle.candidate_ir.specs.declared.ir.heads.PartHead.TheVariants as P
 use Rattle.candidate_ir.specs.declared.ir.heads.ListHead.TheVariants as L
 use Rattle.candidate_ir.specs.declared.ir.node.Node.{Node}
 use Rattle.candidate_ir.specs.declared.ir.node.Node.TheVariants as N
-use Rattle.candidate_ir.specs.Trees.{Kind, PredicateKind, VariableKind, NoKind, Forest, none, Tree, kind_of, row, height, tree_holds}
-use Rattle.candidate_ir.specs.Kinds.{ty_head, const_head, pred_head, Child, arg_child, ty_children, const_children, pred_children, sig_children, numbers, sorts}
+use Rattle.candidate_ir.specs.Trees.{Kind, PredicateKind, ClauseKind, VariableKind, NoKind, Forest, none, Tree, kind_of, row, height, tree_holds}
+use Rattle.candidate_ir.specs.Kinds.{ty_head, const_head, pred_head, clause_head, Child, arg_child, ty_children, const_children, pred_children, clause_children, sig_children, numbers, sorts}
 
 abbrev pub pred_child : Pred → Child
 pred_child p = (p.0, PredicateKind)
@@ -17,13 +18,18 @@ pred_child p = (p.0, PredicateKind)
 abbrev pub var_child : Var → Child
 var_child v = (v.0, VariableKind)
 
+abbrev pub clause_child : Clause → Child
+clause_child c = (c.0, ClauseKind)
+
 abbrev pub head_of : Node → Head
 head_of (N.Ty kind) = ty_head kind
 head_of (N.Const kind) = const_head kind
 head_of (N.Region kind) = H.Region kind
 head_of (N.Args _) = H.List L.Args
 head_of (N.Preds _) = H.List L.Preds
+head_of (N.Clauses _) = H.List L.Clauses
 head_of (N.Pred bound) = H.Part (P.Pred (pred_head bound))
+head_of (N.Clause clause) = H.Part (P.Clause (clause_head clause))
 head_of (N.Sig _) = H.Part P.Sig
 head_of (N.Vars _) = H.Part P.Vars
 head_of (N.Var kind) = H.Part (P.Var kind)
@@ -34,7 +40,9 @@ children_of (N.Const kind) = const_children kind
 children_of (N.Region _) = []
 children_of (N.Args list) = map arg_child list.items
 children_of (N.Preds list) = map pred_child list.items
+children_of (N.Clauses list) = map clause_child list.items
 children_of (N.Pred bound) = pred_children bound
+children_of (N.Clause clause) = clause_children clause
 children_of (N.Sig sig) = sig_children sig
 children_of (N.Vars list) = map var_child list.items
 children_of (N.Var _) = []

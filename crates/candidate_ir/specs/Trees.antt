@@ -18,11 +18,13 @@ pub data Kind : Type 0 where
   ConstantKind : Kind
   RegionKind : Kind
   PredicateKind : Kind
+  ClauseKind : Kind
   SignatureKind : Kind
   BinderKind : Kind
   VariableKind : Kind
   ArgumentsKind : Kind
   PredicatesKind : Kind
+  ClausesKind : Kind
   NoKind : Kind
 
 -- Trees in a row: none, or one with its head and its children, and then the others.
@@ -41,6 +43,7 @@ sort_kind _ = TypeKind
 
 abbrev pub part_kind : PartHead → Kind
 part_kind (P.Pred _) = PredicateKind
+part_kind (P.Clause _) = ClauseKind
 part_kind P.Sig = SignatureKind
 part_kind P.Vars = BinderKind
 part_kind (P.Var _) = VariableKind
@@ -48,6 +51,7 @@ part_kind (P.Var _) = VariableKind
 abbrev pub list_kind : ListHead → Kind
 list_kind L.Args = ArgumentsKind
 list_kind L.Preds = PredicatesKind
+list_kind L.Clauses = ClausesKind
 
 -- what a tree with the head stands for
 abbrev pub kind_of : Head → Kind
@@ -78,6 +82,7 @@ count (tree h below rest) = 1 + count rest
 abbrev pub is_list_kind : Kind → Bool
 is_list_kind ArgumentsKind = true
 is_list_kind PredicatesKind = true
+is_list_kind ClausesKind = true
 is_list_kind _ = false
 
 abbrev pub is_list : Head → Bool
@@ -150,5 +155,6 @@ abbrev pub binders_of : Head → ℕ
 binders_of (H.Builtin (B.FnPtr _)) = 1
 binders_of (H.Builtin B.UnsafeBinder) = 1
 binders_of (H.Part (P.Pred _)) = 1
+binders_of (H.Part (P.Clause _)) = 1
 binders_of (H.Part P.Sig) = 1
 binders_of _ = 0

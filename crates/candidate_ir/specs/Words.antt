@@ -8,6 +8,11 @@ use Rattle.candidate_ir.specs.declared.ir.kinds.Preds.{Preds}
 use Rattle.candidate_ir.specs.declared.ir.kinds.Pred.{Pred}
 use Rattle.candidate_ir.specs.declared.ir.kinds.Vars.{Vars}
 use Rattle.candidate_ir.specs.declared.ir.kinds.Var.{Var}
+use Rattle.candidate_ir.specs.declared.ir.kinds.Sig.{Sig}
+use Rattle.candidate_ir.specs.declared.ir.kinds.Clause.{Clause}
+use Rattle.candidate_ir.specs.declared.ir.kinds.ParamEnv.{ParamEnv}
+use Rattle.candidate_ir.specs.declared.ir.kinds.ClosureSig.{ClosureSig}
+use Rattle.candidate_ir.specs.declared.ir.kinds.ClauseKind.{ClauseKind}
 use Rattle.candidate_ir.specs.declared.ir.kinds.VarKind.{VarKind}
 use Rattle.candidate_ir.specs.declared.ir.kinds.Binder.{Binder}
 use Rattle.candidate_ir.specs.declared.ir.kinds.ExistentialPredicate.{ExistentialPredicate}
@@ -21,9 +26,9 @@ use Rattle.candidate_ir.specs.declared.ir.heads.PartHead.TheVariants as P
 use Rattle.candidate_ir.specs.declared.ir.node.Node.TheVariants as N
 use Rattle.candidate_ir.specs.declared.ir.stop.Stop.{Stop}
 use Rattle.candidate_ir.specs.declared.ir.stop.Stop.TheVariants.{Memory, NodesFull}
-use Rattle.candidate_ir.specs.Trees.{TypeKind, ConstantKind, RegionKind as OfRegion, PredicateKind, BinderKind, VariableKind, ArgumentsKind, PredicatesKind, Forest, none, Tree}
+use Rattle.candidate_ir.specs.Trees.{TypeKind, ConstantKind, RegionKind as OfRegion, PredicateKind, ClauseKind as OfClause, SignatureKind, BinderKind, VariableKind, ArgumentsKind, PredicatesKind, ClausesKind, Forest, none, Tree}
 use Rattle.candidate_ir.specs.Kinds.{numbers, sorts, arg_child}
-use Rattle.candidate_ir.specs.Nodes.{tree_at, kind_at, trees_at, kinds_at, rows, node_tree, Fits, pred_child, var_child}
+use Rattle.candidate_ir.specs.Nodes.{tree_at, kind_at, trees_at, kinds_at, rows, node_tree, Fits, pred_child, clause_child, var_child}
 
 -- the numbers of a context
 abbrev pub IsTy : List Tree → Ty → Type 0
@@ -44,6 +49,15 @@ IsPreds ts p = kind_at ts p.0 ≡ PredicatesKind
 abbrev pub IsPred : List Tree → Pred → Type 0
 IsPred ts p = kind_at ts p.0 ≡ PredicateKind
 
+abbrev pub IsSig : List Tree → Sig → Type 0
+IsSig ts s = kind_at ts s.0 ≡ SignatureKind
+
+abbrev pub IsClause : List Tree → Clause → Type 0
+IsClause ts c = kind_at ts c.0 ≡ OfClause
+
+abbrev pub IsParamEnv : List Tree → ParamEnv → Type 0
+IsParamEnv ts e = kind_at ts e.0 ≡ ClausesKind
+
 abbrev pub IsVars : List Tree → Vars → Type 0
 IsVars ts v = kind_at ts v.0 ≡ BinderKind
 
@@ -63,6 +77,12 @@ region_tree ts r = tree_at ts r.0
 abbrev pub pred_tree : List Tree → Pred → Tree
 pred_tree ts p = tree_at ts p.0
 
+abbrev pub sig_tree : List Tree → Sig → Tree
+sig_tree ts s = tree_at ts s.0
+
+abbrev pub clause_tree : List Tree → Clause → Tree
+clause_tree ts c = tree_at ts c.0
+
 abbrev pub vars_tree : List Tree → Vars → Tree
 vars_tree ts v = tree_at ts v.0
 
@@ -76,6 +96,9 @@ args_forest ts a = (tree_at ts a.0).children
 abbrev pub preds_forest : List Tree → Preds → Forest
 preds_forest ts p = (tree_at ts p.0).children
 
+abbrev pub env_forest : List Tree → ParamEnv → Forest
+env_forest ts e = (tree_at ts e.0).children
+
 -- the numbers in a kind, or in a list, are of the context
 abbrev pub KindFits : List Tree → TyKind → Type 0
 KindFits ts k = Fits ts (N.Ty k)
@@ -86,11 +109,20 @@ ConstKindFits ts k = Fits ts (N.Const k)
 abbrev pub PredFits : List Tree → Binder ExistentialPredicate → Type 0
 PredFits ts b = Fits ts (N.Pred b)
 
+abbrev pub SigFits : List Tree → Binder ClosureSig → Type 0
+SigFits ts b = Fits ts (N.Sig b)
+
+abbrev pub ClauseFits : List Tree → Binder ClauseKind → Type 0
+ClauseFits ts b = Fits ts (N.Clause b)
+
 abbrev pub ListFits : List Tree → List GenericArg → Type 0
 ListFits ts xs = kinds_at ts (numbers (map arg_child xs)) ≡ sorts (map arg_child xs)
 
 abbrev pub PredListFits : List Tree → List Pred → Type 0
 PredListFits ts xs = kinds_at ts (numbers (map pred_child xs)) ≡ sorts (map pred_child xs)
+
+abbrev pub ClauseListFits : List Tree → List Clause → Type 0
+ClauseListFits ts xs = kinds_at ts (numbers (map clause_child xs)) ≡ sorts (map clause_child xs)
 
 abbrev pub VarListFits : List Tree → List Var → Type 0
 VarListFits ts xs = kinds_at ts (numbers (map var_child xs)) ≡ sorts (map var_child xs)
@@ -99,7 +131,7 @@ abbrev pub BoundsFit : List Tree → List (Binder ExistentialPredicate) → Type
 BoundsFit ts bs = All (PredFits ts) bs
 
 abbrev pub names_trait : ExistentialPredicate → Bool
-names_trait (E.Trait _ _) = true
+names_trait (E.Trait _) = true
 names_trait _ = false
 
 -- One bound at most is by a trait that isn't an auto trait: the principal.
@@ -119,6 +151,12 @@ region_kind_tree k = record { head = H.Region k; children = none }
 abbrev pub pred_kind_tree : List Tree → Binder ExistentialPredicate → Tree
 pred_kind_tree ts b = node_tree ts (N.Pred b)
 
+abbrev pub sig_kind_tree : List Tree → Binder ClosureSig → Tree
+sig_kind_tree ts b = node_tree ts (N.Sig b)
+
+abbrev pub clause_kind_tree : List Tree → Binder ClauseKind → Tree
+clause_kind_tree ts b = node_tree ts (N.Clause b)
+
 abbrev pub var_kind_tree : VarKind → Tree
 var_kind_tree k = record { head = H.Part (P.Var k); children = none }
 
@@ -127,6 +165,9 @@ list_forest ts xs = rows (trees_at ts (numbers (map arg_child xs)))
 
 abbrev pub pred_list_forest : List Tree → List Pred → Forest
 pred_list_forest ts xs = rows (trees_at ts (numbers (map pred_child xs)))
+
+abbrev pub clause_list_forest : List Tree → List Clause → Forest
+clause_list_forest ts xs = rows (trees_at ts (numbers (map clause_child xs)))
 
 abbrev pub vars_kind_tree : List Tree → List Var → Tree
 vars_kind_tree ts xs = record { head = H.Part P.Vars; children = rows (trees_at ts (numbers (map var_child xs))) }

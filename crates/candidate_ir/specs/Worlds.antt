@@ -9,6 +9,8 @@ use Rattle.candidate_ir.specs.declared.ir.heads.ConstHead.TheVariants as C
 use Rattle.candidate_ir.specs.declared.ir.heads.PartHead.{PartHead}
 use Rattle.candidate_ir.specs.declared.ir.heads.PartHead.TheVariants as P
 use Rattle.candidate_ir.specs.declared.ir.heads.PredHead.TheVariants as PH
+use Rattle.candidate_ir.specs.declared.ir.heads.ClauseHead.{ClauseHead}
+use Rattle.candidate_ir.specs.declared.ir.heads.ClauseHead.TheVariants as Cl
 use Rattle.candidate_ir.specs.declared.ir.kinds.AliasKind.{AliasKind}
 use Rattle.candidate_ir.specs.declared.ir.kinds.AliasKind.TheVariants as AK
 use Rattle.candidate_ir.specs.Trees.{Kind, TypeKind, ConstantKind, RegionKind, PredicateKind, SignatureKind, BinderKind, VariableKind, Forest, none, tree, kind_of}
@@ -94,10 +96,18 @@ alias_kinds w AK.Projection i = joined (Some (TypeKind ∷ [])) (parameters w As
 alias_kinds w AK.Opaque i = parameters w OpaqueSort i
 alias_kinds w _ i = parameters w AliasSort i
 
+-- of a clause, after its binder
+abbrev pub clause_kinds : World → ClauseHead → Option (List Kind)
+clause_kinds w (Cl.Trait i p) = joined (Some (TypeKind ∷ [])) (parameters w TraitSort i.0)
+clause_kinds w (Cl.Projection i) = joined (joined (Some (TypeKind ∷ [])) (parameters w AssociatedTypeSort i.0)) (Some (TypeKind ∷ []))
+clause_kinds w Cl.TypeOutlives = Some (TypeKind ∷ RegionKind ∷ [])
+clause_kinds w Cl.RegionOutlives = Some (RegionKind ∷ RegionKind ∷ [])
+
 abbrev pub part_kinds : World → PartHead → List Kind → Option (List Kind)
 part_kinds w (P.Pred (PH.Trait i)) ks = joined (Some (BinderKind ∷ [])) (parameters w TraitSort i.0)
 part_kinds w (P.Pred (PH.Projection i)) ks = joined (Some (BinderKind ∷ [])) (joined (parameters w AssociatedTypeSort i.0) (Some (TypeKind ∷ [])))
 part_kinds w (P.Pred (PH.AutoTrait i)) ks = joined (Some (BinderKind ∷ [])) (parameters w TraitSort i.0)
+part_kinds w (P.Clause c) ks = joined (Some (BinderKind ∷ [])) (clause_kinds w c)
 part_kinds w P.Sig ks = Some (BinderKind ∷ TypeKind ∷ TypeKind ∷ [])
 part_kinds w P.Vars ks = Some (all_of VariableKind ks)
 part_kinds w (P.Var k) ks = Some []

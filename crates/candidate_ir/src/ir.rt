@@ -5,4 +5,6 @@ pub mod heads;
 pub mod kinds;
 pub mod node;
 pub mod nodes;
+pub mod readers;
 pub mod stop;
+pub mod walks;

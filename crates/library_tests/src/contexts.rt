@@ -10,7 +10,7 @@ use candidate_ir::decl::context::Cx;
 use candidate_ir::decl::make::Make;
 use candidate_ir::ir::heads::Flag;
 use candidate_ir::ir::kinds::{
-    Binder, ConstKind, ExistentialPredicate, Preds, TraitId, Ty, TyKind, UintTy, VarKind, Vars,
+    Binder, ConstKind, ExistentialPredicate, ExistentialProjection, ExistentialTraitRef, Preds, TraitId, Ty, TyKind, UintTy, VarKind, Vars,
 };
 use candidate_ir::ir::stop::Stop;
 use std::alloc::Global;
@@ -146,7 +146,10 @@ fn make_bounds(rt: &impl Abort, cx: &mut Cx, bounds: Bounds) -> Preds
     let vars = variables(rt, cx, &[VarKind::Region]);
     let principal = Binder {
         vars,
-        value: ExistentialPredicate::Trait(TRAIT, args),
+        value: ExistentialPredicate::Trait(ExistentialTraitRef {
+            def_id: TRAIT,
+            args,
+        }),
     };
     let auto = Binder {
         vars,
@@ -154,7 +157,11 @@ fn make_bounds(rt: &impl Abort, cx: &mut Cx, bounds: Bounds) -> Preds
     };
     let projection = Binder {
         vars,
-        value: ExistentialPredicate::Projection(OUT, args, term),
+        value: ExistentialPredicate::Projection(ExistentialProjection {
+            def_id: OUT,
+            args,
+            term,
+        }),
     };
     match bounds {
         Bounds::None => preds(rt, cx, &[]),
@@ -169,8 +176,8 @@ fn make_bounds(rt: &impl Abort, cx: &mut Cx, bounds: Bounds) -> Preds
 /// A bound as a letter: a trait, an associated type, an auto trait.
 fn letter(bound: Binder<ExistentialPredicate>) -> char {
     match bound.value {
-        ExistentialPredicate::Trait(TRAIT, _) => 'T',
-        ExistentialPredicate::Projection(OUT, _, _) => 'P',
+        ExistentialPredicate::Trait(ExistentialTraitRef { def_id: TRAIT, .. }) => 'T',
+        ExistentialPredicate::Projection(ExistentialProjection { def_id: OUT, .. }) => 'P',
         ExistentialPredicate::AutoTrait(LOCAL_TRAIT) => 'A',
         _ => '?',
     }

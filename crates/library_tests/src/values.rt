@@ -8,8 +8,8 @@ use candidate_eval::eval::InferCtxtLike;
 use candidate_ir::decl::context::Cx;
 use candidate_ir::decl::make::Make;
 use candidate_ir::ir::kinds::{
-    Args, Binder, Const, ConstKind, ExistentialPredicate, GenericArg, InferTy, Preds, Region,
-    RegionKind, Ty, TyKind, VarKind, Vars,
+    Args, Binder, Clause, ClauseKind, ClosureSig, Const, ConstKind, ExistentialPredicate,
+    GenericArg, InferTy, ParamEnv, Preds, Region, RegionKind, Sig, Ty, TyKind, VarKind, Vars,
 };
 use candidate_ir::ir::stop::Stop;
 
@@ -54,6 +54,18 @@ impl Make for ValuedContext {
 
     fn mk_preds(&mut self, bounds: &[Binder<ExistentialPredicate>]) -> Result<Preds, Stop> {
         self.cx.mk_preds(bounds)
+    }
+
+    fn mk_sig(&mut self, sig: Binder<ClosureSig>) -> Result<Sig, Stop> {
+        self.cx.mk_sig(sig)
+    }
+
+    fn mk_clause(&mut self, clause: Binder<ClauseKind>) -> Result<Clause, Stop> {
+        self.cx.mk_clause(clause)
+    }
+
+    fn mk_param_env(&mut self, clauses: &[Clause]) -> Result<ParamEnv, Stop> {
+        self.cx.mk_param_env(clauses)
     }
 }
 

@@ -7,15 +7,17 @@ ghost use Rattle.candidate_ir.specs.Flags.{mark};
 ghost use Rattle.candidate_ir.specs.References.{IsWellFormed, Takes, AllTake};
 ghost use Rattle.candidate_ir.specs.TypeFlags.{type_flags};
 ghost use Rattle.candidate_ir.specs.Names.{is_local, is_fundamental, principal_of};
-ghost use Rattle.candidate_ir.specs.Words.{IsTy, IsConst, IsRegion, IsArgs, IsPreds, IsPred, IsVars, ty_tree, const_tree, region_tree, args_forest, preds_forest, pred_tree, vars_tree, KindFits, ConstKindFits, ListFits, PredListFits, PredFits, BoundsFit, AtMostOnePrincipal, kind_tree, const_kind_tree, region_kind_tree, list_forest, pred_list_forest, pred_kind_tree, bounds_forest, binder_tree, IsMkStop, IsMkListStop};
+ghost use Rattle.candidate_ir.specs.Words.{IsTy, IsConst, IsRegion, IsArgs, IsPreds, IsPred, IsSig, IsClause, IsParamEnv, IsVars, IsVar, ty_tree, const_tree, region_tree, args_forest, preds_forest, pred_tree, sig_tree, clause_tree, env_forest, vars_tree, var_tree, KindFits, ConstKindFits, ListFits, PredListFits, PredFits, SigFits, ClauseFits, ClauseListFits, VarListFits, BoundsFit, AtMostOnePrincipal, kind_tree, const_kind_tree, region_kind_tree, list_forest, pred_list_forest, pred_kind_tree, sig_kind_tree, clause_kind_tree, clause_list_forest, vars_kind_tree, var_kind_tree, bounds_forest, binder_tree, IsMkStop, IsMkListStop};
+ghost use Rattle.candidate_ir.specs.Binders.{escapes, tree_escapes};
 
 use crate::decl::builder::Decls;
 use crate::decl::definition::{CrateId, Declaration};
 use crate::ir::flags::{TypeFlags, bit_if};
 use crate::ir::heads::Flag;
 use crate::ir::kinds::{
-    AdtId, Args, Binder, Const, ConstKind, ExistentialPredicate, ForeignId, GenericArg, Pred,
-    Preds, Region, RegionKind, TraitId, TraitRef, Ty, TyKind, VarKind, Vars,
+    AdtId, Args, Binder, Clause, ClauseKind, ClosureSig, Const, ConstKind, ExistentialPredicate,
+    ForeignId, GenericArg, ParamEnv, Pred, Preds, Region, RegionKind, Sig, TraitId, TraitRef, Ty,
+    TyKind, Var, VarKind, Vars,
 };
 use crate::ir::nodes::Nodes;
 use crate::ir::stop::Stop;
@@ -200,6 +202,45 @@ impl Cx {
         self.nodes.mk_preds(bounds)
     }
 
+    /// The signature of a closure; it stops as `mk_ty` does.
+    pub fn mk_sig(&mut self, sig: Binder<ClosureSig>) -> Result<Sig, Stop>
+        requires { SigFits self.old.trees sig }
+        ensures kept { Grows self.old self.new }
+        ensures well_formed { IsWellFormed self.old → IsWellFormed self.new }
+        ensures sort { IfOk result (λ s. IsSig self.new.trees s) }
+        ensures tree { IfOk result (λ s. sig_tree self.new.trees s ≡ sig_kind_tree self.old.trees sig) }
+        ensures unchanged { IfErr result (λ _. self.new ≡ self.old) }
+        ensures cause { IfErr result (λ s. IsMkStop self.old.trees (height (sig_kind_tree self.old.trees sig)) s) }
+    {
+        self.nodes.mk_sig(sig)
+    }
+
+    /// The clause under its binder, which adds nothing to a height; it stops as `mk_ty` does.
+    pub fn mk_clause(&mut self, clause: Binder<ClauseKind>) -> Result<Clause, Stop>
+        requires { ClauseFits self.old.trees clause }
+        ensures kept { Grows self.old self.new }
+        ensures well_formed { IsWellFormed self.old → Takes (world self.old) (clause_kind_tree self.old.trees clause) → IsWellFormed self.new }
+        ensures sort { IfOk result (λ c. IsClause self.new.trees c) }
+        ensures tree { IfOk result (λ c. clause_tree self.new.trees c ≡ clause_kind_tree self.old.trees clause) }
+        ensures unchanged { IfErr result (λ _. self.new ≡ self.old) }
+        ensures cause { IfErr result (λ s. IsMkStop self.old.trees (height (clause_kind_tree self.old.trees clause)) s) }
+    {
+        self.nodes.mk_clause(clause)
+    }
+
+    /// The environment of these clauses, in their order, which adds nothing to a height; it stops as `mk_ty` does.
+    pub fn mk_param_env(&mut self, clauses: &[Clause]) -> Result<ParamEnv, Stop>
+        requires { ClauseListFits self.old.trees clauses.now }
+        ensures kept { Grows self.old self.new }
+        ensures well_formed { IsWellFormed self.old → IsWellFormed self.new }
+        ensures sort { IfOk result (λ e. IsParamEnv self.new.trees e) }
+        ensures tree { IfOk result (λ e. env_forest self.new.trees e ≡ clause_list_forest self.old.trees clauses.now) }
+        ensures unchanged { IfErr result (λ _. self.new ≡ self.old) }
+        ensures cause { IfErr result (λ s. IsMkStop self.old.trees (heights (clause_list_forest self.old.trees clauses.now)) s) }
+    {
+        self.nodes.mk_param_env(clauses)
+    }
+
     /// The kind of a type: making it again gives an equal tree.
     pub fn kind(&self, ty: Ty) -> TyKind
         requires { IsTy self.now.trees ty }
@@ -236,6 +277,67 @@ impl Cx {
         self.nodes.pred(pred)
     }
 
+    /// The kind of a constant.
+    pub fn const_kind(&self, constant: Const) -> ConstKind
+        requires { IsConst self.now.trees constant }
+        ensures fits { ConstKindFits self.now.trees result }
+        ensures tree { const_kind_tree self.now.trees result ≡ const_tree self.now.trees constant }
+    {
+        self.nodes.const_kind(constant)
+    }
+
+    /// The kind of a region.
+    pub fn region_kind(&self, region: Region) -> RegionKind
+        requires { IsRegion self.now.trees region }
+        ensures tree { region_kind_tree result ≡ region_tree self.now.trees region }
+    {
+        self.nodes.region_kind(region)
+    }
+
+    /// The signature of a closure, under its binder.
+    pub fn sig(&self, sig: Sig) -> Binder<ClosureSig>
+        requires { IsSig self.now.trees sig }
+        ensures fits { SigFits self.now.trees result }
+        ensures tree { sig_kind_tree self.now.trees result ≡ sig_tree self.now.trees sig }
+    {
+        self.nodes.sig(sig)
+    }
+
+    /// The clause of a number, under its binder.
+    pub fn clause(&self, clause: Clause) -> Binder<ClauseKind>
+        requires { IsClause self.now.trees clause }
+        ensures fits { ClauseFits self.now.trees result }
+        ensures tree { clause_kind_tree self.now.trees result ≡ clause_tree self.now.trees clause }
+    {
+        self.nodes.clause(clause)
+    }
+
+    /// The clauses of an environment, of which each is read by `clause`.
+    pub fn param_env(&self, env: ParamEnv) -> &[Clause]
+        requires { IsParamEnv self.now.trees env }
+        ensures fits { ClauseListFits self.now.trees result.now }
+        ensures tree { clause_list_forest self.now.trees result.now ≡ env_forest self.now.trees env }
+    {
+        self.nodes.param_env(env)
+    }
+
+    /// The variables of a binder, of which each is read by `var`.
+    pub fn vars(&self, vars: Vars) -> &[Var]
+        requires { IsVars self.now.trees vars }
+        ensures fits { VarListFits self.now.trees result.now }
+        ensures tree { vars_kind_tree self.now.trees result.now ≡ vars_tree self.now.trees vars }
+    {
+        self.nodes.vars(vars)
+    }
+
+    /// What one variable of a binder stands for.
+    pub fn var(&self, var: Var) -> VarKind
+        requires { IsVar self.now.trees var }
+        ensures tree { var_kind_tree result ≡ var_tree self.now.trees var }
+    {
+        self.nodes.var(var)
+    }
+
     /// Whether two types are equal as trees.
     pub fn same(&self, a: Ty, b: Ty) -> bool
         requires a { IsTy self.now.trees a }
@@ -243,6 +345,51 @@ impl Cx {
         ensures { IsTrue result ↔ (ty_tree self.now.trees a ≡ ty_tree self.now.trees b) }
     {
         self.nodes.same(a, b)
+    }
+
+    /// Whether two constants are equal as trees.
+    pub fn same_const(&self, a: Const, b: Const) -> bool
+        requires a { IsConst self.now.trees a }
+        requires b { IsConst self.now.trees b }
+        ensures { IsTrue result ↔ (const_tree self.now.trees a ≡ const_tree self.now.trees b) }
+    {
+        self.nodes.same_const(a, b)
+    }
+
+    /// Whether two regions are equal.
+    pub fn same_region(&self, a: Region, b: Region) -> bool
+        requires a { IsRegion self.now.trees a }
+        requires b { IsRegion self.now.trees b }
+        ensures { IsTrue result ↔ (region_tree self.now.trees a ≡ region_tree self.now.trees b) }
+    {
+        self.nodes.same_region(a, b)
+    }
+
+    /// Whether two lists of arguments have equal members, in one order.
+    pub fn same_args(&self, a: Args, b: Args) -> bool
+        requires a { IsArgs self.now.trees a }
+        requires b { IsArgs self.now.trees b }
+        ensures { IsTrue result ↔ (args_forest self.now.trees a ≡ args_forest self.now.trees b) }
+    {
+        self.nodes.same_args(a, b)
+    }
+
+    /// Whether two clauses are equal as trees: their binders bind variables of the same kinds, and all else is equal.
+    pub fn same_clause(&self, a: Clause, b: Clause) -> bool
+        requires a { IsClause self.now.trees a }
+        requires b { IsClause self.now.trees b }
+        ensures { IsTrue result ↔ (clause_tree self.now.trees a ≡ clause_tree self.now.trees b) }
+    {
+        self.nodes.same_clause(a, b)
+    }
+
+    /// Whether two environments have equal clauses, in one order.
+    pub fn same_env(&self, a: ParamEnv, b: ParamEnv) -> bool
+        requires a { IsParamEnv self.now.trees a }
+        requires b { IsParamEnv self.now.trees b }
+        ensures { IsTrue result ↔ (env_forest self.now.trees a ≡ env_forest self.now.trees b) }
+    {
+        self.nodes.same_env(a, b)
     }
 
     /// Whether a head with the flag's mark stands anywhere in the type.
@@ -259,6 +406,54 @@ impl Cx {
         ensures { result ≡ holds (mark flag) (args_forest self.now.trees args) }
     {
         self.nodes.args_have(args, flag)
+    }
+
+    /// Whether a head with the flag's mark stands anywhere in the constant.
+    pub fn const_has(&self, constant: Const, flag: Flag) -> bool
+        requires { IsConst self.now.trees constant }
+        ensures { result ≡ tree_holds (mark flag) (const_tree self.now.trees constant) }
+    {
+        self.nodes.const_has(constant, flag)
+    }
+
+    /// Whether a head with the flag's mark stands anywhere in the clause.
+    pub fn clause_has(&self, clause: Clause, flag: Flag) -> bool
+        requires { IsClause self.now.trees clause }
+        ensures { result ≡ tree_holds (mark flag) (clause_tree self.now.trees clause) }
+    {
+        self.nodes.clause_has(clause, flag)
+    }
+
+    /// Whether a head with the flag's mark stands anywhere in the environment.
+    pub fn env_has(&self, env: ParamEnv, flag: Flag) -> bool
+        requires { IsParamEnv self.now.trees env }
+        ensures { result ≡ holds (mark flag) (env_forest self.now.trees env) }
+    {
+        self.nodes.env_has(env, flag)
+    }
+
+    /// Whether a bound variable stands in the type that no binder in it binds.
+    pub fn has_escaping_bound_vars(&self, ty: Ty) -> bool
+        requires { IsTy self.now.trees ty }
+        ensures { result ≡ tree_escapes 0 (ty_tree self.now.trees ty) }
+    {
+        self.nodes.escapes(ty)
+    }
+
+    /// Whether a bound variable stands in the list that no binder in it binds.
+    pub fn args_have_escaping_bound_vars(&self, args: Args) -> bool
+        requires { IsArgs self.now.trees args }
+        ensures { result ≡ escapes 0 (args_forest self.now.trees args) }
+    {
+        self.nodes.args_escape(args)
+    }
+
+    /// Whether a bound variable stands in the clause that neither its own binder nor one in it binds.
+    pub fn clause_has_escaping_bound_vars(&self, clause: Clause) -> bool
+        requires { IsClause self.now.trees clause }
+        ensures { result ≡ tree_escapes 0 (clause_tree self.now.trees clause) }
+    {
+        self.nodes.clause_escapes(clause)
     }
 
     /// Whether a parameter stands anywhere in the reference.

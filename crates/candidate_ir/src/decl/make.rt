@@ -4,12 +4,12 @@ ghost use Rattle.std.specs.Prelude.{◌≡◌, ◌+◌, length, map, IfOk, IfErr
 ghost use Rattle.candidate_ir.specs.Context.{Context, Grows, world};
 ghost use Rattle.candidate_ir.specs.References.{IsWellFormed, Takes, AllTake};
 ghost use Rattle.candidate_ir.specs.Trees.{height, heights};
-ghost use Rattle.candidate_ir.specs.Words.{IsTy, IsConst, IsRegion, IsArgs, IsPreds, IsVars, ty_tree, const_tree, region_tree, args_forest, preds_forest, vars_tree, KindFits, ConstKindFits, ListFits, BoundsFit, AtMostOnePrincipal, kind_tree, const_kind_tree, region_kind_tree, pred_kind_tree, list_forest, bounds_forest, binder_tree, IsMkStop, IsMkListStop};
+ghost use Rattle.candidate_ir.specs.Words.{IsTy, IsConst, IsRegion, IsArgs, IsPreds, IsSig, IsClause, IsParamEnv, IsVars, ty_tree, const_tree, region_tree, args_forest, preds_forest, sig_tree, clause_tree, env_forest, vars_tree, KindFits, ConstKindFits, ListFits, SigFits, ClauseFits, ClauseListFits, BoundsFit, AtMostOnePrincipal, kind_tree, const_kind_tree, region_kind_tree, sig_kind_tree, clause_kind_tree, clause_list_forest, pred_kind_tree, list_forest, bounds_forest, binder_tree, IsMkStop, IsMkListStop};
 
 use crate::decl::context::Cx;
 use crate::ir::kinds::{
-    Args, Binder, Const, ConstKind, ExistentialPredicate, GenericArg, Preds, Region, RegionKind,
-    Ty, TyKind, VarKind, Vars,
+    Args, Binder, Clause, ClauseKind, ClosureSig, Const, ConstKind, ExistentialPredicate,
+    GenericArg, ParamEnv, Preds, Region, RegionKind, Sig, Ty, TyKind, VarKind, Vars,
 };
 use crate::ir::stop::Stop;
 
@@ -93,6 +93,39 @@ pub trait Make {
         ensures tree { IfOk result (λ p. preds_forest (context self.new).trees p ≡ bounds_forest (context self.old).trees bounds.now) }
         ensures unchanged { IfErr result (λ _. context self.new ≡ context self.old) }
         ensures cause { IfErr result (λ s. IsMkListStop (context self.old).trees (length bounds.now + 1) (heights (bounds_forest (context self.old).trees bounds.now)) s) };
+
+    /// The signature of a closure.
+    fn mk_sig(&mut self, sig: Binder<ClosureSig>) -> Result<Sig, Stop>
+        requires { SigFits (context self.old).trees sig }
+        ensures kept { Grows (context self.old) (context self.new) }
+        ensures well_formed { IsWellFormed (context self.old) → IsWellFormed (context self.new) }
+        ensures rest { rest self.new ≡ rest self.old }
+        ensures sort { IfOk result (λ s. IsSig (context self.new).trees s) }
+        ensures tree { IfOk result (λ s. sig_tree (context self.new).trees s ≡ sig_kind_tree (context self.old).trees sig) }
+        ensures unchanged { IfErr result (λ _. context self.new ≡ context self.old) }
+        ensures cause { IfErr result (λ s. IsMkStop (context self.old).trees (height (sig_kind_tree (context self.old).trees sig)) s) };
+
+    /// The clause under its binder.
+    fn mk_clause(&mut self, clause: Binder<ClauseKind>) -> Result<Clause, Stop>
+        requires { ClauseFits (context self.old).trees clause }
+        ensures kept { Grows (context self.old) (context self.new) }
+        ensures well_formed { IsWellFormed (context self.old) → Takes (world (context self.old)) (clause_kind_tree (context self.old).trees clause) → IsWellFormed (context self.new) }
+        ensures rest { rest self.new ≡ rest self.old }
+        ensures sort { IfOk result (λ c. IsClause (context self.new).trees c) }
+        ensures tree { IfOk result (λ c. clause_tree (context self.new).trees c ≡ clause_kind_tree (context self.old).trees clause) }
+        ensures unchanged { IfErr result (λ _. context self.new ≡ context self.old) }
+        ensures cause { IfErr result (λ s. IsMkStop (context self.old).trees (height (clause_kind_tree (context self.old).trees clause)) s) };
+
+    /// The environment of these clauses.
+    fn mk_param_env(&mut self, clauses: &[Clause]) -> Result<ParamEnv, Stop>
+        requires { ClauseListFits (context self.old).trees clauses.now }
+        ensures kept { Grows (context self.old) (context self.new) }
+        ensures well_formed { IsWellFormed (context self.old) → IsWellFormed (context self.new) }
+        ensures rest { rest self.new ≡ rest self.old }
+        ensures sort { IfOk result (λ e. IsParamEnv (context self.new).trees e) }
+        ensures tree { IfOk result (λ e. env_forest (context self.new).trees e ≡ clause_list_forest (context self.old).trees clauses.now) }
+        ensures unchanged { IfErr result (λ _. context self.new ≡ context self.old) }
+        ensures cause { IfErr result (λ s. IsMkStop (context self.old).trees (heights (clause_list_forest (context self.old).trees clauses.now)) s) };
 }
 
 impl Make for Cx {
@@ -128,5 +161,17 @@ impl Make for Cx {
 
     fn mk_preds(&mut self, bounds: &[Binder<ExistentialPredicate>]) -> Result<Preds, Stop> {
         Cx::mk_preds(self, bounds)
+    }
+
+    fn mk_sig(&mut self, sig: Binder<ClosureSig>) -> Result<Sig, Stop> {
+        Cx::mk_sig(self, sig)
+    }
+
+    fn mk_clause(&mut self, clause: Binder<ClauseKind>) -> Result<Clause, Stop> {
+        Cx::mk_clause(self, clause)
+    }
+
+    fn mk_param_env(&mut self, clauses: &[Clause]) -> Result<ParamEnv, Stop> {
+        Cx::mk_param_env(self, clauses)
     }
 }

@@ -1,11 +1,13 @@
 //! What a tree has at its root besides its children.
 
-ghost use Rattle.std.specs.Prelude.{◌≡◌, ◌↔◌, IsTrue};
+ghost use Rattle.std.specs.Prelude.{◌≡◌, ◌≤◌, ◌↔◌, IsTrue};
 ghost use Rattle.candidate_ir.specs.Flags.{mark};
+ghost use Rattle.candidate_ir.specs.Trees.{binders_of};
+ghost use Rattle.candidate_ir.specs.Binders.{is_beyond};
 
 use crate::ir::kinds::{
     AdtId, AliasId, AliasKind, AssocId, BoundVar, ClosureId, ClosureKind, FloatTy, FnId, ForeignId,
-    IntTy, Mutability, Placeholder, RegionKind, TraitId, UintTy, VarKind,
+    IntTy, Mutability, Placeholder, PredicatePolarity, RegionKind, TraitId, UintTy, VarKind,
 };
 
 /// What a function pointer has besides its types.
@@ -77,10 +79,21 @@ pub enum PredHead {
     AutoTrait(TraitId),
 }
 
-/// What stands under a type and is none: a bound of a `dyn` type, a closure's signature, a binder's variables.
+/// The heads of clauses.
+#[derive(Clone, Copy, PartialEq, Eq)]
+pub enum ClauseHead {
+    Trait(TraitId, PredicatePolarity),
+    Projection(AssocId),
+    TypeOutlives,
+    RegionOutlives,
+}
+
+/// What is no type, constant, region or list: a bound of a `dyn` type, a clause, a closure's signature, a binder's
+/// variables.
 #[derive(Clone, Copy, PartialEq, Eq)]
 pub enum PartHead {
     Pred(PredHead),
+    Clause(ClauseHead),
     Sig,
     Vars,
     Var(VarKind),
@@ -91,6 +104,7 @@ pub enum PartHead {
 pub enum ListHead {
     Args,
     Preds,
+    Clauses,
 }
 
 /// All of a node but its children. A list's members stand among the children of the node that has it.
@@ -164,6 +178,30 @@ impl Head {
                 self,
                 Head::Error | Head::Const(ConstHead::Error) | Head::Region(RegionKind::Error)
             ),
+        }
+    }
+
+    /// Whether it is a bound variable of none of the next binders out, which are so many.
+    pub(crate) fn is_bound_beyond(self, binders: u32) -> bool
+        ensures { result ≡ is_beyond binders self }
+    {
+        match self {
+            Head::Bound(var) => var.depth >= binders,
+            Head::Const(ConstHead::Bound(var)) => var.depth >= binders,
+            Head::Region(RegionKind::Bound(var)) => var.depth >= binders,
+            _ => false,
+        }
+    }
+
+    /// How many binders stand between it and its children.
+    pub(crate) fn binders(self) -> u32
+        ensures is { result ≡ binders_of self }
+        ensures most { result ≤ 1 }
+    {
+        match self {
+            Head::Builtin(Builtin::FnPtr(_) | Builtin::UnsafeBinder) => 1,
+            Head::Part(PartHead::Pred(_) | PartHead::Clause(_) | PartHead::Sig) => 1,
+            _ => 0,
         }
     }
 

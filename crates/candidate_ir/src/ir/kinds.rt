@@ -1,10 +1,10 @@
 //! Numbers of nodes, and the kinds of types, constants and regions over them.
 
 ghost use Rattle.std.specs.Prelude.{◌≡◌, ◌<◌, Some, [], ◌∷◌, length, slice_get};
-ghost use Rattle.candidate_ir.specs.Kinds.{arg_number, variable_of, ty_head, const_head, pred_head, ty_children, pred_children, numbers};
+ghost use Rattle.candidate_ir.specs.Kinds.{arg_number, variable_of, ty_head, const_head, pred_head, clause_head, ty_children, pred_children, clause_children, numbers, is_fn_trait_compatible, is_general_variable, is_known_rigid};
 
 use crate::ir::heads::{
-    Builtin, ConstHead, Head, PatternShape, PredHead, Signature, Variable, VariableSort,
+    Builtin, ClauseHead, ConstHead, Head, PatternShape, PredHead, Signature, Variable, VariableSort,
 };
 
 /// A type of a context.
@@ -42,6 +42,14 @@ pub struct Vars(pub u32);
 /// One variable of a binder.
 #[derive(Clone, Copy)]
 pub struct Var(pub u32);
+
+/// A clause, under its binder.
+#[derive(Clone, Copy)]
+pub struct Clause(pub u32);
+
+/// An environment: the clauses that are taken as given.
+#[derive(Clone, Copy)]
+pub struct ParamEnv(pub u32);
 
 /// A type, a constant or a region of a context.
 #[derive(Clone, Copy, Debug, PartialEq, Eq)]
@@ -188,6 +196,15 @@ pub struct FnSig {
     pub variadic: bool,
 }
 
+impl FnSig {
+    /// Whether a function of this signature can have the `Fn` traits: it is safe, of the Rust ABI and not variadic.
+    pub fn is_fn_trait_compatible(self) -> bool
+        ensures { result ≡ is_fn_trait_compatible self }
+    {
+        self.safe && self.rust_abi && !self.variadic
+    }
+}
+
 /// The inputs of a closure as a tuple type, and its output.
 #[derive(Clone, Copy)]
 pub struct ClosureSig {
@@ -232,12 +249,82 @@ pub enum Pattern {
     Range(Const, Const),
 }
 
+/// A trait with its arguments but the self type.
+#[derive(Clone, Copy)]
+pub struct ExistentialTraitRef {
+    pub def_id: TraitId,
+    pub args: Args,
+}
+
+/// An associated type with its arguments but the self type, and the type that it is.
+#[derive(Clone, Copy)]
+pub struct ExistentialProjection {
+    pub def_id: AssocId,
+    pub args: Args,
+    pub term: Ty,
+}
+
 /// A bound of a `dyn` type, without the self type.
 #[derive(Clone, Copy)]
 pub enum ExistentialPredicate {
-    Trait(TraitId, Args),
-    Projection(AssocId, Args, Ty),
+    Trait(ExistentialTraitRef),
+    Projection(ExistentialProjection),
     AutoTrait(TraitId),
+}
+
+/// An associated type with its arguments, of which the first is the self type.
+#[derive(Clone, Copy)]
+pub struct AliasTerm {
+    pub def_id: AssocId,
+    pub args: Args,
+}
+
+/// Whether a trait is said to hold or not to hold.
+#[derive(Clone, Copy, PartialEq, Eq)]
+pub enum PredicatePolarity {
+    Positive,
+    Negative,
+}
+
+/// That a trait holds of its arguments, or that it doesn't.
+#[derive(Clone, Copy)]
+pub struct TraitPredicate {
+    pub trait_ref: TraitRef,
+    pub polarity: PredicatePolarity,
+}
+
+/// That an associated type is this type.
+#[derive(Clone, Copy)]
+pub struct ProjectionPredicate {
+    pub projection_term: AliasTerm,
+    pub term: Ty,
+}
+
+/// A clause without its binder. A term is a type in each place where one stands: here, in a bound of a `dyn` type and in
+/// a goal.
+#[derive(Clone, Copy)]
+pub enum ClauseKind {
+    Trait(TraitPredicate),
+    Projection(ProjectionPredicate),
+    /// The type's regions outlive the region.
+    TypeOutlives(Ty, Region),
+    /// The first region outlives the second.
+    RegionOutlives(Region, Region),
+}
+
+/// What is to be proved, and what may be taken as given for it.
+#[derive(Clone, Copy)]
+pub struct Goal<P> {
+    pub param_env: ParamEnv,
+    pub predicate: P,
+}
+
+/// Where a nested goal comes from.
+#[derive(Clone, Copy)]
+pub enum GoalSource {
+    Misc,
+    /// A where clause of an impl that is tried.
+    ImplWhereBound,
 }
 
 /// A type by its parts, which are numbers of a context.
@@ -341,6 +428,29 @@ pub(crate) fn one_of_three(i: usize, first: u32, second: u32, third: u32) -> u32
 }
 
 impl TyKind {
+    /// Whether it is a general type variable, which stands for a type of any kind.
+    pub fn is_ty_var(self) -> bool
+        ensures { result ≡ is_general_variable self }
+    {
+        matches!(self, TyKind::Infer(InferTy::TyVar(_)))
+    }
+
+    /// Whether it stays as it is whatever its variables become and its aliases stand for: every kind but aliases, parameters,
+    /// placeholders, bound types, variables and errors.
+    pub fn is_known_rigid(self) -> bool
+        ensures { result ≡ is_known_rigid self }
+    {
+        !matches!(
+            self,
+            TyKind::Alias(_)
+                | TyKind::Param(_)
+                | TyKind::Placeholder(_)
+                | TyKind::Bound(_)
+                | TyKind::Infer(_)
+                | TyKind::Error
+        )
+    }
+
     pub(crate) fn head(self) -> Head
         ensures { result ≡ ty_head self }
     {
@@ -473,8 +583,8 @@ impl Binder<ExistentialPredicate> {
         ensures { result ≡ pred_head self }
     {
         match self.value {
-            ExistentialPredicate::Trait(id, _) => PredHead::Trait(id),
-            ExistentialPredicate::Projection(id, _, _) => PredHead::Projection(id),
+            ExistentialPredicate::Trait(trait_ref) => PredHead::Trait(trait_ref.def_id),
+            ExistentialPredicate::Projection(projection) => PredHead::Projection(projection.def_id),
             ExistentialPredicate::AutoTrait(id) => PredHead::AutoTrait(id),
         }
     }
@@ -483,8 +593,8 @@ impl Binder<ExistentialPredicate> {
         ensures { result ≡ length (pred_children self) }
     {
         match self.value {
-            ExistentialPredicate::Trait(_, _) => 2,
-            ExistentialPredicate::Projection(_, _, _) => 3,
+            ExistentialPredicate::Trait(_) => 2,
+            ExistentialPredicate::Projection(_) => 3,
             ExistentialPredicate::AutoTrait(_) => 1,
         }
     }
@@ -494,15 +604,70 @@ impl Binder<ExistentialPredicate> {
         ensures { slice_get (numbers (pred_children self)) i ≡ Some result }
     {
         match self.value {
-            ExistentialPredicate::Trait(_, args) => if i == 0 { self.vars.0 } else { args.0 },
-            ExistentialPredicate::Projection(_, args, term) => if i == 0 {
-                self.vars.0
-            } else if i == 1 {
-                args.0
-            } else {
-                term.0
-            },
+            ExistentialPredicate::Trait(trait_ref) => {
+                if i == 0 {
+                    self.vars.0
+                } else {
+                    trait_ref.args.0
+                }
+            }
+            ExistentialPredicate::Projection(projection) => {
+                one_of_three(i, self.vars.0, projection.args.0, projection.term.0)
+            }
             ExistentialPredicate::AutoTrait(_) => self.vars.0,
+        }
+    }
+}
+
+impl Binder<ClauseKind> {
+    pub(crate) fn head(self) -> ClauseHead
+        ensures { result ≡ clause_head self }
+    {
+        match self.value {
+            ClauseKind::Trait(predicate) => {
+                ClauseHead::Trait(predicate.trait_ref.def_id, predicate.polarity)
+            }
+            ClauseKind::Projection(predicate) => {
+                ClauseHead::Projection(predicate.projection_term.def_id)
+            }
+            ClauseKind::TypeOutlives(_, _) => ClauseHead::TypeOutlives,
+            ClauseKind::RegionOutlives(_, _) => ClauseHead::RegionOutlives,
+        }
+    }
+
+    pub(crate) fn child_count(self) -> usize
+        ensures { result ≡ length (clause_children self) }
+    {
+        match self.value {
+            ClauseKind::Trait(_) => 2,
+            ClauseKind::Projection(_)
+            | ClauseKind::TypeOutlives(_, _)
+            | ClauseKind::RegionOutlives(_, _) => 3,
+        }
+    }
+
+    pub(crate) fn child(self, i: usize) -> u32
+        requires { i < length (clause_children self) }
+        ensures { slice_get (numbers (clause_children self)) i ≡ Some result }
+    {
+        match self.value {
+            ClauseKind::Trait(predicate) => {
+                if i == 0 {
+                    self.vars.0
+                } else {
+                    predicate.trait_ref.args.0
+                }
+            }
+            ClauseKind::Projection(predicate) => one_of_three(
+                i,
+                self.vars.0,
+                predicate.projection_term.args.0,
+                predicate.term.0,
+            ),
+            ClauseKind::TypeOutlives(ty, region) => { one_of_three(i, self.vars.0, ty.0, region.0) }
+            ClauseKind::RegionOutlives(longer, shorter) => {
+                one_of_three(i, self.vars.0, longer.0, shorter.0)
+            }
         }
     }
 }

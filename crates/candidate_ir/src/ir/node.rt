@@ -6,8 +6,8 @@ ghost use Rattle.candidate_ir.specs.Nodes.{head_of, children_of};
 
 use crate::ir::heads::{Head, ListHead, PartHead};
 use crate::ir::kinds::{
-    Binder, ClosureSig, ConstKind, ExistentialPredicate, GenericArg, Pred, RegionKind, TyKind, Var,
-    VarKind, one_of_three,
+    Binder, Clause, ClauseKind, ClosureSig, ConstKind, ExistentialPredicate, GenericArg, Pred,
+    RegionKind, TyKind, Var, VarKind, one_of_three,
 };
 
 #[derive(Drop)]
@@ -17,7 +17,9 @@ pub enum Node {
     Region(RegionKind),
     Args(Vec<GenericArg>),
     Preds(Vec<Pred>),
+    Clauses(Vec<Clause>),
     Pred(Binder<ExistentialPredicate>),
+    Clause(Binder<ClauseKind>),
     Sig(Binder<ClosureSig>),
     Vars(Vec<Var>),
     Var(VarKind),
@@ -40,7 +42,9 @@ impl Node {
             Node::Region(kind) => Head::Region(*kind),
             Node::Args(_) => Head::List(ListHead::Args),
             Node::Preds(_) => Head::List(ListHead::Preds),
+            Node::Clauses(_) => Head::List(ListHead::Clauses),
             Node::Pred(bound) => Head::Part(PartHead::Pred(bound.head())),
+            Node::Clause(clause) => Head::Part(PartHead::Clause(clause.head())),
             Node::Sig(_) => Head::Part(PartHead::Sig),
             Node::Vars(_) => Head::Part(PartHead::Vars),
             Node::Var(kind) => Head::Part(PartHead::Var(*kind)),
@@ -56,7 +60,9 @@ impl Node {
             Node::Const(_) | Node::Region(_) | Node::Var(_) => 0,
             Node::Args(list) => list.len(),
             Node::Preds(list) => list.len(),
+            Node::Clauses(list) => list.len(),
             Node::Pred(bound) => bound.child_count(),
+            Node::Clause(clause) => clause.child_count(),
             Node::Sig(_) => 3,
             Node::Vars(list) => list.len(),
         }
@@ -72,7 +78,9 @@ impl Node {
             Node::Const(_) | Node::Region(_) | Node::Var(_) => unreachable!(),
             Node::Args(list) => list[i].number(),
             Node::Preds(list) => list[i].0,
+            Node::Clauses(list) => list[i].0,
             Node::Pred(bound) => bound.child(i),
+            Node::Clause(clause) => clause.child(i),
             Node::Sig(sig) => {
                 one_of_three(i, sig.vars.0, sig.value.inputs.0, sig.value.output.0)
             }

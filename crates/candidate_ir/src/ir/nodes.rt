@@ -1,19 +1,16 @@
 //! The table of nodes, which contracts see as the list of their trees.
 
-ghost use Rattle.std.specs.Prelude.{◌≡◌, ◌++◌, ◌∷◌, [], ◌+◌, ◌<◌, ◌≤◌, length, take, map, IfOk, IfErr, IsTrue, ◌↔◌};
-ghost use Rattle.candidate_ir.specs.Trees.{height, heights, holds, tree_holds, kind_of};
-ghost use Rattle.candidate_ir.specs.Flags.{mark};
-ghost use Rattle.candidate_ir.specs.Names.{principal_of};
+ghost use Rattle.std.specs.Prelude.{◌≡◌, ◌++◌, ◌∷◌, [], ◌+◌, ◌<◌, ◌≤◌, length, take, map, IfOk, IfErr};
+ghost use Rattle.candidate_ir.specs.Trees.{height, heights, kind_of};
 ghost use Rattle.candidate_ir.specs.Nodes.{tree_at, kind_at, node_tree, head_of, Fits, Extends};
 ghost use Rattle.candidate_ir.specs.Table.{IsNodeOf, IsRow};
 ghost use Rattle.candidate_ir.specs.Worlds.{World};
 ghost use Rattle.candidate_ir.specs.References.{Takes, AllTake, AllFit};
-ghost use Rattle.candidate_ir.specs.Words.{IsTy, IsConst, IsRegion, IsArgs, IsPreds, IsPred, IsVars, IsVar, ty_tree, const_tree, region_tree, args_forest, preds_forest, pred_tree, vars_tree, var_tree, KindFits, ConstKindFits, ListFits, PredListFits, VarListFits, PredFits, kind_tree, const_kind_tree, region_kind_tree, list_forest, pred_list_forest, pred_kind_tree, vars_kind_tree, var_kind_tree, BoundsFit, bounds_forest, binder_tree, IsMkStop, IsMkListStop};
+ghost use Rattle.candidate_ir.specs.Words.{IsTy, IsConst, IsRegion, IsArgs, IsPreds, IsPred, IsSig, IsClause, IsParamEnv, IsVars, IsVar, ty_tree, const_tree, region_tree, args_forest, preds_forest, pred_tree, sig_tree, clause_tree, env_forest, vars_tree, var_tree, KindFits, ConstKindFits, ListFits, PredListFits, VarListFits, PredFits, SigFits, ClauseFits, ClauseListFits, kind_tree, const_kind_tree, region_kind_tree, list_forest, pred_list_forest, pred_kind_tree, sig_kind_tree, clause_kind_tree, clause_list_forest, vars_kind_tree, var_kind_tree, BoundsFit, bounds_forest, binder_tree, IsMkStop, IsMkListStop};
 
-use crate::ir::heads::Flag;
 use crate::ir::kinds::{
-    Args, Binder, Const, ConstKind, ExistentialPredicate, GenericArg, Pred, Preds, Region,
-    RegionKind, TraitId, Ty, TyKind, Var, VarKind, Vars,
+    Args, Binder, Clause, ClauseKind, ClosureSig, Const, ConstKind, ExistentialPredicate,
+    GenericArg, ParamEnv, Pred, Preds, Region, RegionKind, Sig, Ty, TyKind, Var, VarKind, Vars,
 };
 use crate::ir::node::{Node, Row};
 use crate::ir::stop::Stop;
@@ -270,6 +267,46 @@ impl Nodes {
         Ok(Vars(self.add(Node::Vars(list))?))
     }
 
+    /// The signature of a closure.
+    pub(crate) fn mk_sig(&mut self, sig: Binder<ClosureSig>) -> Result<Sig, Stop>
+        requires { SigFits self.old sig }
+        ensures kept { Extends self.old self.new }
+        ensures fit { (w : World) → AllFit w self.old → AllFit w self.new }
+        ensures sort { IfOk result (λ s. IsSig self.new s) }
+        ensures tree { IfOk result (λ s. sig_tree self.new s ≡ sig_kind_tree self.old sig) }
+        ensures unchanged { IfErr result (λ _. self.new ≡ self.old) }
+        ensures cause { IfErr result (λ s. IsMkStop self.old (height (sig_kind_tree self.old sig)) s) }
+    {
+        Ok(Sig(self.add(Node::Sig(sig))?))
+    }
+
+    /// The clause under its binder.
+    pub(crate) fn mk_clause(&mut self, clause: Binder<ClauseKind>) -> Result<Clause, Stop>
+        requires { ClauseFits self.old clause }
+        ensures kept { Extends self.old self.new }
+        ensures fit { (w : World) → AllFit w self.old → Takes w (clause_kind_tree self.old clause) → AllFit w self.new }
+        ensures sort { IfOk result (λ c. IsClause self.new c) }
+        ensures tree { IfOk result (λ c. clause_tree self.new c ≡ clause_kind_tree self.old clause) }
+        ensures unchanged { IfErr result (λ _. self.new ≡ self.old) }
+        ensures cause { IfErr result (λ s. IsMkStop self.old (height (clause_kind_tree self.old clause)) s) }
+    {
+        Ok(Clause(self.add(Node::Clause(clause))?))
+    }
+
+    /// The environment of these clauses.
+    pub(crate) fn mk_param_env(&mut self, clauses: &[Clause]) -> Result<ParamEnv, Stop>
+        requires { ClauseListFits self.old clauses.now }
+        ensures kept { Extends self.old self.new }
+        ensures fit { (w : World) → AllFit w self.old → AllFit w self.new }
+        ensures sort { IfOk result (λ e. IsParamEnv self.new e) }
+        ensures tree { IfOk result (λ e. env_forest self.new e ≡ clause_list_forest self.old clauses.now) }
+        ensures unchanged { IfErr result (λ _. self.new ≡ self.old) }
+        ensures cause { IfErr result (λ s. IsMkStop self.old (heights (clause_list_forest self.old clauses.now)) s) }
+    {
+        let clauses = clauses.to_vec(*self.rows.allocator())?;
+        Ok(ParamEnv(self.add(Node::Clauses(clauses))?))
+    }
+
     /// One variable of a binder.
     fn mk_var(&mut self, kind: VarKind) -> Result<Var, Stop>
         ensures kept { Extends self.old self.new }
@@ -315,126 +352,5 @@ impl Nodes {
                 Err(stop)
             }
         }
-    }
-
-    /// The kind of a type.
-    pub(crate) fn kind(&self, ty: Ty) -> TyKind
-        requires { IsTy self.now ty }
-        ensures fits { KindFits self.now result }
-        ensures tree { kind_tree self.now result ≡ ty_tree self.now ty }
-    {
-        match self.node(ty.0) {
-            Node::Ty(kind) => *kind,
-            _ => unreachable!(),
-        }
-    }
-
-    /// The arguments of a list.
-    pub(crate) fn args(&self, args: Args) -> &[GenericArg]
-        requires { IsArgs self.now args }
-        ensures fits { ListFits self.now result.now }
-        ensures tree { list_forest self.now result.now ≡ args_forest self.now args }
-    {
-        match self.node(args.0) {
-            Node::Args(list) => list.as_slice(),
-            _ => unreachable!(),
-        }
-    }
-
-    /// The bounds of a list.
-    pub(crate) fn preds(&self, preds: Preds) -> &[Pred]
-        requires { IsPreds self.now preds }
-        ensures fits { PredListFits self.now result.now }
-        ensures tree { pred_list_forest self.now result.now ≡ preds_forest self.now preds }
-    {
-        match self.node(preds.0) {
-            Node::Preds(list) => list.as_slice(),
-            _ => unreachable!(),
-        }
-    }
-
-    /// The bound of a number.
-    pub(crate) fn pred(&self, pred: Pred) -> Binder<ExistentialPredicate>
-        requires { IsPred self.now pred }
-        ensures fits { PredFits self.now result }
-        ensures tree { pred_kind_tree self.now result ≡ pred_tree self.now pred }
-    {
-        match self.node(pred.0) {
-            Node::Pred(bound) => *bound,
-            _ => unreachable!(),
-        }
-    }
-
-    fn same_number(&self, a: u32, b: u32) -> bool
-        requires a { a < length self.now }
-        requires b { b < length self.now }
-        ensures { IsTrue result ↔ (tree_at self.now a ≡ tree_at self.now b) }
-    {
-        let left = self.node(a);
-        let right = self.node(b);
-        if !left.has_root_of(right) {
-            return false;
-        }
-        for i in 0..left.child_count() {
-            if !self.same_number(left.child(i), right.child(i)) {
-                return false;
-            }
-        }
-        true
-    }
-
-    /// Whether two types are equal as trees.
-    pub(crate) fn same(&self, a: Ty, b: Ty) -> bool
-        requires a { IsTy self.now a }
-        requires b { IsTy self.now b }
-        ensures { IsTrue result ↔ (ty_tree self.now a ≡ ty_tree self.now b) }
-    {
-        self.same_number(a.0, b.0)
-    }
-
-    fn number_has(&self, number: u32, flag: Flag) -> bool
-        requires { number < length self.now }
-        ensures { result ≡ tree_holds (mark flag) (tree_at self.now number) }
-    {
-        let node = self.node(number);
-        if node.head().has(flag) {
-            return true;
-        }
-        for i in 0..node.child_count() {
-            if self.number_has(node.child(i), flag) {
-                return true;
-            }
-        }
-        false
-    }
-
-    /// Whether what the flag says stands anywhere in a type.
-    pub(crate) fn has(&self, ty: Ty, flag: Flag) -> bool
-        requires { IsTy self.now ty }
-        ensures { result ≡ tree_holds (mark flag) (ty_tree self.now ty) }
-    {
-        self.number_has(ty.0, flag)
-    }
-
-    /// Whether what the flag says stands anywhere in a list of arguments.
-    pub(crate) fn args_have(&self, args: Args, flag: Flag) -> bool
-        requires { IsArgs self.now args }
-        ensures { result ≡ holds (mark flag) (args_forest self.now args) }
-    {
-        self.number_has(args.0, flag)
-    }
-
-    /// The trait of the first bound that has one, which is the principal.
-    pub(crate) fn principal(&self, preds: Preds) -> Option<TraitId>
-        requires { IsPreds self.now preds }
-        ensures { result ≡ principal_of (preds_forest self.now preds) }
-    {
-        let bounds = self.preds(preds);
-        for i in 0..bounds.len() {
-            if let ExistentialPredicate::Trait(id, _) = self.pred(bounds[i]).value {
-                return Some(id);
-            }
-        }
-        None
     }
 }

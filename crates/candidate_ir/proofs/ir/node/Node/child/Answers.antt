@@ -2,7 +2,7 @@ use Rattle.std.proofs.Common.{◌<◌, ◌∙◌, length, ap, subst, Some, slice
 use Rattle.candidate_ir.specs.Kinds.{numbers}
 use Rattle.candidate_ir.specs.Nodes.{children_of}
 use Rattle.candidate_ir.specs.declared.ir.node.Node.{Node}
-use Rattle.candidate_ir.proofs.Children.{arg_at, length_args, pred_at, length_preds, var_at, length_vars}
+use Rattle.candidate_ir.proofs.Children.{arg_at, length_args, pred_at, length_preds, clause_at, length_clauses, var_at, length_vars}
 use Rattle.candidate_ir.proofs.ir.node.Node.child.Goals as goal
 
 pub returns-in-Args : goal.returns-in-Args
@@ -18,6 +18,13 @@ returns-in-Preds c =
     let h : c.args.i < length c.in-Preds.list.items = omega (arith, subst P c.in-Preds.is c.requires, length_preds c.in-Preds.list.items) in
     let at = pred_at c.in-Preds.list.items c.args.i c.index-in-Preds.result.now h c.index-in-Preds.ensures in
     ap (λ (d : Node). slice_get (numbers (children_of d)) c.args.i) c.in-Preds.is ∙ at
+
+pub returns-in-Clauses : goal.returns-in-Clauses
+returns-in-Clauses c =
+    let P : Node → Type 0 = λ d. c.args.i < length (children_of d) in
+    let h : c.args.i < length c.in-Clauses.list.items = omega (arith, subst P c.in-Clauses.is c.requires, length_clauses c.in-Clauses.list.items) in
+    let at = clause_at c.in-Clauses.list.items c.args.i c.index-in-Clauses.result.now h c.index-in-Clauses.ensures in
+    ap (λ (d : Node). slice_get (numbers (children_of d)) c.args.i) c.in-Clauses.is ∙ at
 
 pub returns-in-Vars : goal.returns-in-Vars
 returns-in-Vars c =

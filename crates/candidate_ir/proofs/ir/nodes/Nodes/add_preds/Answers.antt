@@ -9,7 +9,7 @@ use Rattle.candidate_ir.proofs.ir.nodes.Nodes.add_preds.Goals as goal
 
 -- what a read past the end of the bounds would give
 abbrev past : Binder ExistentialPredicate
-past = record { vars = record { 0 = 0 }; value = E.Trait (record { 0 = 0 }) (record { 0 = 0 }) }
+past = record { vars = record { 0 = 0 }; value = E.Trait (record { def_id = record { 0 = 0 }; args = record { 0 = 0 } }) }
 
 pub mk_pred-requires : goal.mk_pred-requires
 mk_pred-requires c =

@@ -8,4 +8,4 @@ pub number_has-requires : goal.number_has-requires
 number_has-requires c = below_kind _ _ ArgumentsKind refl c.requires
 
 pub returns : goal.returns
-returns c = c.number_has.ensures ∙ list-holds c.args.self.now c.args.args.0 c.args.flag c.requires
+returns c = c.number_has.ensures ∙ list-holds c.args.self.now c.args.args.0 c.args.flag ArgumentsKind refl refl c.requires

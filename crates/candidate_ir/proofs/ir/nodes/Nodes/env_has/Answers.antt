@@ -1,0 +1,11 @@
+use Rattle.std.proofs.Common.{refl, ◌∙◌}
+use Rattle.candidate_ir.specs.Trees.{ClausesKind}
+use Rattle.candidate_ir.proofs.Lists.{below_kind}
+use Rattle.candidate_ir.proofs.Children.{list-holds}
+use Rattle.candidate_ir.proofs.ir.nodes.Nodes.env_has.Goals as goal
+
+pub number_has-requires : goal.number_has-requires
+number_has-requires c = below_kind _ _ ClausesKind refl c.requires
+
+pub returns : goal.returns
+returns c = c.number_has.ensures ∙ list-holds c.args.self.now c.args.env.0 c.args.flag ClausesKind refl refl c.requires

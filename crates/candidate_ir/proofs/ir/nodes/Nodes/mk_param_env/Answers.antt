@@ -1,0 +1,4 @@
+use Rattle.candidate_ir.proofs.ir.nodes.Nodes.mk_param_env.Goals as goal
+
+pub returns-clause-fit : goal.returns-clause-fit
+returns-clause-fit c = λ w f. c.add.ensures.fit w f (λ e. cc)

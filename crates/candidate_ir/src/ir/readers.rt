@@ -1,0 +1,159 @@
+//! What the table says of a number.
+
+ghost use Rattle.std.specs.Prelude.{◌≡◌};
+ghost use Rattle.candidate_ir.specs.Names.{principal_of};
+ghost use Rattle.candidate_ir.specs.Words.{IsTy, IsConst, IsRegion, IsArgs, IsPreds, IsPred, IsSig, IsClause, IsParamEnv, IsVars, IsVar, ty_tree, const_tree, region_tree, args_forest, preds_forest, pred_tree, sig_tree, clause_tree, env_forest, vars_tree, var_tree, KindFits, ConstKindFits, ListFits, PredListFits, PredFits, SigFits, ClauseFits, ClauseListFits, VarListFits, kind_tree, const_kind_tree, region_kind_tree, list_forest, pred_list_forest, pred_kind_tree, sig_kind_tree, clause_kind_tree, clause_list_forest, vars_kind_tree, var_kind_tree};
+
+use crate::ir::kinds::{
+    Args, Binder, Clause, ClauseKind, ClosureSig, Const, ConstKind, ExistentialPredicate,
+    GenericArg, ParamEnv, Pred, Preds, Region, RegionKind, Sig, TraitId, Ty, TyKind, Var, VarKind,
+    Vars,
+};
+use crate::ir::node::Node;
+use crate::ir::nodes::Nodes;
+
+impl Nodes {
+    /// The kind of a type.
+    pub(crate) fn kind(&self, ty: Ty) -> TyKind
+        requires { IsTy self.now ty }
+        ensures fits { KindFits self.now result }
+        ensures tree { kind_tree self.now result ≡ ty_tree self.now ty }
+    {
+        match self.node(ty.0) {
+            Node::Ty(kind) => *kind,
+            _ => unreachable!(),
+        }
+    }
+
+    /// The arguments of a list.
+    pub(crate) fn args(&self, args: Args) -> &[GenericArg]
+        requires { IsArgs self.now args }
+        ensures fits { ListFits self.now result.now }
+        ensures tree { list_forest self.now result.now ≡ args_forest self.now args }
+    {
+        match self.node(args.0) {
+            Node::Args(list) => list.as_slice(),
+            _ => unreachable!(),
+        }
+    }
+
+    /// The bounds of a list.
+    pub(crate) fn preds(&self, preds: Preds) -> &[Pred]
+        requires { IsPreds self.now preds }
+        ensures fits { PredListFits self.now result.now }
+        ensures tree { pred_list_forest self.now result.now ≡ preds_forest self.now preds }
+    {
+        match self.node(preds.0) {
+            Node::Preds(list) => list.as_slice(),
+            _ => unreachable!(),
+        }
+    }
+
+    /// The bound of a number.
+    pub(crate) fn pred(&self, pred: Pred) -> Binder<ExistentialPredicate>
+        requires { IsPred self.now pred }
+        ensures fits { PredFits self.now result }
+        ensures tree { pred_kind_tree self.now result ≡ pred_tree self.now pred }
+    {
+        match self.node(pred.0) {
+            Node::Pred(bound) => *bound,
+            _ => unreachable!(),
+        }
+    }
+
+    /// The kind of a constant.
+    pub(crate) fn const_kind(&self, constant: Const) -> ConstKind
+        requires { IsConst self.now constant }
+        ensures fits { ConstKindFits self.now result }
+        ensures tree { const_kind_tree self.now result ≡ const_tree self.now constant }
+    {
+        match self.node(constant.0) {
+            Node::Const(kind) => *kind,
+            _ => unreachable!(),
+        }
+    }
+
+    /// The kind of a region.
+    pub(crate) fn region_kind(&self, region: Region) -> RegionKind
+        requires { IsRegion self.now region }
+        ensures tree { region_kind_tree result ≡ region_tree self.now region }
+    {
+        match self.node(region.0) {
+            Node::Region(kind) => *kind,
+            _ => unreachable!(),
+        }
+    }
+
+    /// The signature of a closure.
+    pub(crate) fn sig(&self, sig: Sig) -> Binder<ClosureSig>
+        requires { IsSig self.now sig }
+        ensures fits { SigFits self.now result }
+        ensures tree { sig_kind_tree self.now result ≡ sig_tree self.now sig }
+    {
+        match self.node(sig.0) {
+            Node::Sig(sig) => *sig,
+            _ => unreachable!(),
+        }
+    }
+
+    /// The clause of a number, under its binder.
+    pub(crate) fn clause(&self, clause: Clause) -> Binder<ClauseKind>
+        requires { IsClause self.now clause }
+        ensures fits { ClauseFits self.now result }
+        ensures tree { clause_kind_tree self.now result ≡ clause_tree self.now clause }
+    {
+        match self.node(clause.0) {
+            Node::Clause(clause) => *clause,
+            _ => unreachable!(),
+        }
+    }
+
+    /// The clauses of an environment.
+    pub(crate) fn param_env(&self, env: ParamEnv) -> &[Clause]
+        requires { IsParamEnv self.now env }
+        ensures fits { ClauseListFits self.now result.now }
+        ensures tree { clause_list_forest self.now result.now ≡ env_forest self.now env }
+    {
+        match self.node(env.0) {
+            Node::Clauses(list) => list.as_slice(),
+            _ => unreachable!(),
+        }
+    }
+
+    /// The variables of a binder, of which each is read by `var`.
+    pub(crate) fn vars(&self, vars: Vars) -> &[Var]
+        requires { IsVars self.now vars }
+        ensures fits { VarListFits self.now result.now }
+        ensures tree { vars_kind_tree self.now result.now ≡ vars_tree self.now vars }
+    {
+        match self.node(vars.0) {
+            Node::Vars(list) => list.as_slice(),
+            _ => unreachable!(),
+        }
+    }
+
+    /// What one variable of a binder stands for.
+    pub(crate) fn var(&self, var: Var) -> VarKind
+        requires { IsVar self.now var }
+        ensures tree { var_kind_tree result ≡ var_tree self.now var }
+    {
+        match self.node(var.0) {
+            Node::Var(kind) => *kind,
+            _ => unreachable!(),
+        }
+    }
+
+    /// The trait of the first bound that has one, which is the principal.
+    pub(crate) fn principal(&self, preds: Preds) -> Option<TraitId>
+        requires { IsPreds self.now preds }
+        ensures { result ≡ principal_of (preds_forest self.now preds) }
+    {
+        let bounds = self.preds(preds);
+        for i in 0..bounds.len() {
+            if let ExistentialPredicate::Trait(trait_ref) = self.pred(bounds[i]).value {
+                return Some(trait_ref.def_id);
+            }
+        }
+        None
+    }
+}
