@@ -7,6 +7,7 @@ pub mod Children
 pub mod Escapes
 pub mod Principals
 pub mod Kept
+pub mod Making
 pub mod Made
 pub mod Rows
 pub mod Members

@@ -8,7 +8,7 @@ use Rattle.candidate_ir.specs.Kinds.{numbers, sorts, arg_child}
 use Rattle.candidate_ir.specs.Nodes.{kind_at, tree_at}
 use Rattle.candidate_ir.specs.Context.{Context, Grows, world}
 use Rattle.candidate_ir.specs.References.{Takes}
-use Rattle.candidate_ir.specs.Words.{IsTy, IsConst, IsRegion, IsArgs, IsPreds, IsPred, IsVars, ListFits, PredListFits, PredFits, BoundsFit, names_trait, ty_tree, const_tree, region_tree, args_forest, list_forest, kind_tree}
+use Rattle.candidate_ir.specs.Words.{IsTy, IsConst, IsRegion, IsArgs, IsPreds, IsPred, IsSig, IsClause, IsParamEnv, IsVars, ListFits, PredListFits, PredFits, BoundsFit, names_trait, ty_tree, const_tree, region_tree, args_forest, list_forest, kind_tree}
 use Rattle.candidate_ir.specs.Worlds.{World, AdtSort, TraitSort, parameters, joined, kinds_of}
 use Rattle.candidate_ir.specs.declared.ir.heads.Head.{Head}
 use Rattle.candidate_ir.specs.declared.ir.heads.Head.TheVariants as H
@@ -17,6 +17,10 @@ use Rattle.candidate_ir.specs.declared.ir.kinds.TraitId.{TraitId}
 use Rattle.candidate_ir.specs.declared.ir.kinds.TyKind.TheVariants as K
 use Rattle.candidate_ir.specs.declared.ir.kinds.Args.{Args}
 use Rattle.candidate_ir.specs.declared.ir.kinds.Const.{Const}
+use Rattle.candidate_ir.specs.declared.ir.kinds.Region.{Region}
+use Rattle.candidate_ir.specs.declared.ir.kinds.Sig.{Sig}
+use Rattle.candidate_ir.specs.declared.ir.kinds.Clause.{Clause}
+use Rattle.candidate_ir.specs.declared.ir.kinds.ParamEnv.{ParamEnv}
 use Rattle.candidate_ir.specs.declared.ir.kinds.Vars.{Vars}
 use Rattle.candidate_ir.specs.declared.ir.kinds.Pred.{Pred}
 use Rattle.candidate_ir.specs.declared.ir.kinds.Preds.{Preds}
@@ -77,6 +81,18 @@ IsVars-grows a b x g e = kind_at-grows a b x.0 _ g refl e
 
 pub IsArgs-grows : (a b : Context) (x : Args) → Grows a b → IsArgs a.trees x → IsArgs b.trees x
 IsArgs-grows a b x g e = kind_at-grows a b x.0 _ g refl e
+
+pub IsRegion-grows : (a b : Context) (x : Region) → Grows a b → IsRegion a.trees x → IsRegion b.trees x
+IsRegion-grows a b x g e = kind_at-grows a b x.0 _ g refl e
+
+pub IsSig-grows : (a b : Context) (x : Sig) → Grows a b → IsSig a.trees x → IsSig b.trees x
+IsSig-grows a b x g e = kind_at-grows a b x.0 _ g refl e
+
+pub IsClause-grows : (a b : Context) (x : Clause) → Grows a b → IsClause a.trees x → IsClause b.trees x
+IsClause-grows a b x g e = kind_at-grows a b x.0 _ g refl e
+
+pub IsParamEnv-grows : (a b : Context) (x : ParamEnv) → Grows a b → IsParamEnv a.trees x → IsParamEnv b.trees x
+IsParamEnv-grows a b x g e = kind_at-grows a b x.0 _ g refl e
 
 pub IsPreds-grows : (a b : Context) (p : Preds) → Grows a b → IsPreds a.trees p → IsPreds b.trees p
 IsPreds-grows a b p g e = kind_at-grows a b p.0 _ g refl e
@@ -187,6 +203,9 @@ pub adt-lacks : (m : Head → Bool) (ts : List Tree) (d : AdtId) (a : Args) → 
     → holds m (args_forest ts a) ≡ false → tree_holds m (kind_tree ts (K.Adt d a)) ≡ false
 adt-lacks m ts d a i e f =
     ap (λ (b : Bool). b || holds m (row (tree_at ts a.0) none)) e ∙ (ap (holds m) (below-adt ts a i) ∙ f)
+
+-- what a caller names whose numbers stay while it makes others
+pub ruleset growing = (IsTy-grows, IsConst-grows, IsRegion-grows, IsArgs-grows, IsVars-grows, IsPreds-grows, IsSig-grows, IsClause-grows, IsParamEnv-grows, grows-trans)
 
 -- what a caller names that makes data types and references of them
 pub ruleset making = (adt-takes, reference-takes, args-fit, IsTy-grows, grows-trans)

@@ -10,6 +10,7 @@ pub mod Worlds
 pub mod Declaration
 pub mod Context
 pub mod References
+pub mod Making
 pub mod Names
 pub mod TypeFlags
 pub mod Parameters

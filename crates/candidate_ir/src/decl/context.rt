@@ -2,6 +2,7 @@
 
 ghost use Rattle.std.specs.Prelude.{◌≡◌, ◌+◌, ◌<◌, ◌↔◌, IsTrue, length, map, IfOk, IfErr, Some, None};
 ghost use Rattle.candidate_ir.specs.Context.{world, Grows};
+ghost use Rattle.candidate_ir.specs.Making.{Makes, a_type, a_constant, a_region, a_list, a_binder, some_bounds, a_signature, a_clause, an_environment};
 ghost use Rattle.candidate_ir.specs.Trees.{height, heights, tree_holds, holds, is_param};
 ghost use Rattle.candidate_ir.specs.Flags.{mark};
 ghost use Rattle.candidate_ir.specs.References.{IsWellFormed, Takes, AllTake};
@@ -125,12 +126,7 @@ impl Cx {
     /// the tree would be higher than 1,024. Neither changes the context.
     pub fn mk_ty(&mut self, kind: TyKind) -> Result<Ty, Stop>
         requires { KindFits self.old.trees kind }
-        ensures kept { Grows self.old self.new }
-        ensures well_formed { IsWellFormed self.old → Takes (world self.old) (kind_tree self.old.trees kind) → IsWellFormed self.new }
-        ensures sort { IfOk result (λ t. IsTy self.new.trees t) }
-        ensures tree { IfOk result (λ t. ty_tree self.new.trees t ≡ kind_tree self.old.trees kind) }
-        ensures unchanged { IfErr result (λ _. self.new ≡ self.old) }
-        ensures cause { IfErr result (λ s. IsMkStop self.old.trees (height (kind_tree self.old.trees kind)) s) }
+        ensures { Makes (a_type kind) self.old self.new result }
     {
         self.nodes.mk_ty(kind)
     }
@@ -138,24 +134,14 @@ impl Cx {
     /// The constant of that kind; it stops as `mk_ty` does.
     pub fn mk_const(&mut self, kind: ConstKind) -> Result<Const, Stop>
         requires { ConstKindFits self.old.trees kind }
-        ensures kept { Grows self.old self.new }
-        ensures well_formed { IsWellFormed self.old → Takes (world self.old) (const_kind_tree self.old.trees kind) → IsWellFormed self.new }
-        ensures sort { IfOk result (λ c. IsConst self.new.trees c) }
-        ensures tree { IfOk result (λ c. const_tree self.new.trees c ≡ const_kind_tree self.old.trees kind) }
-        ensures unchanged { IfErr result (λ _. self.new ≡ self.old) }
-        ensures cause { IfErr result (λ s. IsMkStop self.old.trees (height (const_kind_tree self.old.trees kind)) s) }
+        ensures { Makes (a_constant kind) self.old self.new result }
     {
         self.nodes.mk_const(kind)
     }
 
     /// The region of that kind; it stops as `mk_ty` does.
     pub fn mk_region(&mut self, kind: RegionKind) -> Result<Region, Stop>
-        ensures kept { Grows self.old self.new }
-        ensures well_formed { IsWellFormed self.old → IsWellFormed self.new }
-        ensures sort { IfOk result (λ r. IsRegion self.new.trees r) }
-        ensures tree { IfOk result (λ r. region_tree self.new.trees r ≡ region_kind_tree kind) }
-        ensures unchanged { IfErr result (λ _. self.new ≡ self.old) }
-        ensures cause { IfErr result (λ s. IsMkStop self.old.trees (height (region_kind_tree kind)) s) }
+        ensures { Makes (a_region kind) self.old self.new result }
     {
         self.nodes.mk_region(kind)
     }
@@ -163,12 +149,7 @@ impl Cx {
     /// The list of these arguments, which adds nothing to a height; it stops as `mk_ty` does.
     pub fn mk_args(&mut self, list: &[GenericArg]) -> Result<Args, Stop>
         requires { ListFits self.old.trees list.now }
-        ensures kept { Grows self.old self.new }
-        ensures well_formed { IsWellFormed self.old → IsWellFormed self.new }
-        ensures sort { IfOk result (λ a. IsArgs self.new.trees a) }
-        ensures tree { IfOk result (λ a. args_forest self.new.trees a ≡ list_forest self.old.trees list.now) }
-        ensures unchanged { IfErr result (λ _. self.new ≡ self.old) }
-        ensures cause { IfErr result (λ s. IsMkStop self.old.trees (heights (list_forest self.old.trees list.now)) s) }
+        ensures { Makes (a_list list.now) self.old self.new result }
     {
         self.nodes.mk_args(list)
     }
@@ -177,12 +158,7 @@ impl Cx {
     ///
     /// `Stop::NodesFull` comes where fewer numbers are left; else it stops as `mk_ty` does.
     pub fn mk_vars(&mut self, kinds: &[VarKind]) -> Result<Vars, Stop>
-        ensures kept { Grows self.old self.new }
-        ensures well_formed { IsWellFormed self.old → IsWellFormed self.new }
-        ensures sort { IfOk result (λ v. IsVars self.new.trees v) }
-        ensures tree { IfOk result (λ v. vars_tree self.new.trees v ≡ binder_tree kinds.now) }
-        ensures unchanged { IfErr result (λ _. self.new ≡ self.old) }
-        ensures cause { IfErr result (λ s. IsMkListStop self.old.trees (length kinds.now + 1) (height (binder_tree kinds.now)) s) }
+        ensures { Makes (a_binder kinds.now) self.old self.new result }
     {
         self.nodes.mk_vars(kinds)
     }
@@ -192,12 +168,7 @@ impl Cx {
     pub fn mk_preds(&mut self, bounds: &[Binder<ExistentialPredicate>]) -> Result<Preds, Stop>
         requires fit { BoundsFit self.old.trees bounds.now }
         requires principal { AtMostOnePrincipal bounds.now }
-        ensures kept { Grows self.old self.new }
-        ensures well_formed { IsWellFormed self.old → AllTake (world self.old) (map (pred_kind_tree self.old.trees) bounds.now) → IsWellFormed self.new }
-        ensures sort { IfOk result (λ p. IsPreds self.new.trees p) }
-        ensures tree { IfOk result (λ p. preds_forest self.new.trees p ≡ bounds_forest self.old.trees bounds.now) }
-        ensures unchanged { IfErr result (λ _. self.new ≡ self.old) }
-        ensures cause { IfErr result (λ s. IsMkListStop self.old.trees (length bounds.now + 1) (heights (bounds_forest self.old.trees bounds.now)) s) }
+        ensures { Makes (some_bounds bounds.now) self.old self.new result }
     {
         self.nodes.mk_preds(bounds)
     }
@@ -205,12 +176,7 @@ impl Cx {
     /// The signature of a closure; it stops as `mk_ty` does.
     pub fn mk_sig(&mut self, sig: Binder<ClosureSig>) -> Result<Sig, Stop>
         requires { SigFits self.old.trees sig }
-        ensures kept { Grows self.old self.new }
-        ensures well_formed { IsWellFormed self.old → IsWellFormed self.new }
-        ensures sort { IfOk result (λ s. IsSig self.new.trees s) }
-        ensures tree { IfOk result (λ s. sig_tree self.new.trees s ≡ sig_kind_tree self.old.trees sig) }
-        ensures unchanged { IfErr result (λ _. self.new ≡ self.old) }
-        ensures cause { IfErr result (λ s. IsMkStop self.old.trees (height (sig_kind_tree self.old.trees sig)) s) }
+        ensures { Makes (a_signature sig) self.old self.new result }
     {
         self.nodes.mk_sig(sig)
     }
@@ -218,12 +184,7 @@ impl Cx {
     /// The clause under its binder, which adds nothing to a height; it stops as `mk_ty` does.
     pub fn mk_clause(&mut self, clause: Binder<ClauseKind>) -> Result<Clause, Stop>
         requires { ClauseFits self.old.trees clause }
-        ensures kept { Grows self.old self.new }
-        ensures well_formed { IsWellFormed self.old → Takes (world self.old) (clause_kind_tree self.old.trees clause) → IsWellFormed self.new }
-        ensures sort { IfOk result (λ c. IsClause self.new.trees c) }
-        ensures tree { IfOk result (λ c. clause_tree self.new.trees c ≡ clause_kind_tree self.old.trees clause) }
-        ensures unchanged { IfErr result (λ _. self.new ≡ self.old) }
-        ensures cause { IfErr result (λ s. IsMkStop self.old.trees (height (clause_kind_tree self.old.trees clause)) s) }
+        ensures { Makes (a_clause clause) self.old self.new result }
     {
         self.nodes.mk_clause(clause)
     }
@@ -231,12 +192,7 @@ impl Cx {
     /// The environment of these clauses, in their order, which adds nothing to a height; it stops as `mk_ty` does.
     pub fn mk_param_env(&mut self, clauses: &[Clause]) -> Result<ParamEnv, Stop>
         requires { ClauseListFits self.old.trees clauses.now }
-        ensures kept { Grows self.old self.new }
-        ensures well_formed { IsWellFormed self.old → IsWellFormed self.new }
-        ensures sort { IfOk result (λ e. IsParamEnv self.new.trees e) }
-        ensures tree { IfOk result (λ e. env_forest self.new.trees e ≡ clause_list_forest self.old.trees clauses.now) }
-        ensures unchanged { IfErr result (λ _. self.new ≡ self.old) }
-        ensures cause { IfErr result (λ s. IsMkStop self.old.trees (heights (clause_list_forest self.old.trees clauses.now)) s) }
+        ensures { Makes (an_environment clauses.now) self.old self.new result }
     {
         self.nodes.mk_param_env(clauses)
     }

@@ -5,6 +5,7 @@ ghost use Rattle.candidate_ir.specs.Trees.{height, heights, kind_of};
 ghost use Rattle.candidate_ir.specs.Nodes.{tree_at, kind_at, node_tree, head_of, Fits, Extends};
 ghost use Rattle.candidate_ir.specs.Table.{IsNodeOf, IsRow};
 ghost use Rattle.candidate_ir.specs.Worlds.{World};
+ghost use Rattle.candidate_ir.specs.Making.{Adds, a_type, a_constant, a_region, a_list, a_binder, some_bounds, a_signature, a_clause, an_environment};
 ghost use Rattle.candidate_ir.specs.References.{Takes, AllTake, AllFit};
 ghost use Rattle.candidate_ir.specs.Words.{IsTy, IsConst, IsRegion, IsArgs, IsPreds, IsPred, IsSig, IsClause, IsParamEnv, IsVars, IsVar, ty_tree, const_tree, region_tree, args_forest, preds_forest, pred_tree, sig_tree, clause_tree, env_forest, vars_tree, var_tree, KindFits, ConstKindFits, ListFits, PredListFits, VarListFits, PredFits, SigFits, ClauseFits, ClauseListFits, kind_tree, const_kind_tree, region_kind_tree, list_forest, pred_list_forest, pred_kind_tree, sig_kind_tree, clause_kind_tree, clause_list_forest, vars_kind_tree, var_kind_tree, BoundsFit, bounds_forest, binder_tree, IsMkStop, IsMkListStop};
 
@@ -139,12 +140,7 @@ impl Nodes {
     /// The type of that kind.
     pub(crate) fn mk_ty(&mut self, kind: TyKind) -> Result<Ty, Stop>
         requires { KindFits self.old kind }
-        ensures kept { Extends self.old self.new }
-        ensures fit { (w : World) → AllFit w self.old → Takes w (kind_tree self.old kind) → AllFit w self.new }
-        ensures sort { IfOk result (λ t. IsTy self.new t) }
-        ensures tree { IfOk result (λ t. ty_tree self.new t ≡ kind_tree self.old kind) }
-        ensures unchanged { IfErr result (λ _. self.new ≡ self.old) }
-        ensures cause { IfErr result (λ s. IsMkStop self.old (height (kind_tree self.old kind)) s) }
+        ensures { Adds (a_type kind) self.old self.new result }
     {
         Ok(Ty(self.add(Node::Ty(kind))?))
     }
@@ -152,24 +148,14 @@ impl Nodes {
     /// The constant of that kind.
     pub(crate) fn mk_const(&mut self, kind: ConstKind) -> Result<Const, Stop>
         requires { ConstKindFits self.old kind }
-        ensures kept { Extends self.old self.new }
-        ensures fit { (w : World) → AllFit w self.old → Takes w (const_kind_tree self.old kind) → AllFit w self.new }
-        ensures sort { IfOk result (λ c. IsConst self.new c) }
-        ensures tree { IfOk result (λ c. const_tree self.new c ≡ const_kind_tree self.old kind) }
-        ensures unchanged { IfErr result (λ _. self.new ≡ self.old) }
-        ensures cause { IfErr result (λ s. IsMkStop self.old (height (const_kind_tree self.old kind)) s) }
+        ensures { Adds (a_constant kind) self.old self.new result }
     {
         Ok(Const(self.add(Node::Const(kind))?))
     }
 
     /// The region of that kind.
     pub(crate) fn mk_region(&mut self, kind: RegionKind) -> Result<Region, Stop>
-        ensures kept { Extends self.old self.new }
-        ensures fit { (w : World) → AllFit w self.old → AllFit w self.new }
-        ensures sort { IfOk result (λ r. IsRegion self.new r) }
-        ensures tree { IfOk result (λ r. region_tree self.new r ≡ region_kind_tree kind) }
-        ensures unchanged { IfErr result (λ _. self.new ≡ self.old) }
-        ensures cause { IfErr result (λ s. IsMkStop self.old (height (region_kind_tree kind)) s) }
+        ensures { Adds (a_region kind) self.old self.new result }
     {
         Ok(Region(self.add(Node::Region(kind))?))
     }
@@ -177,12 +163,7 @@ impl Nodes {
     /// The list of these arguments.
     pub(crate) fn mk_args(&mut self, list: &[GenericArg]) -> Result<Args, Stop>
         requires { ListFits self.old list.now }
-        ensures kept { Extends self.old self.new }
-        ensures fit { (w : World) → AllFit w self.old → AllFit w self.new }
-        ensures sort { IfOk result (λ a. IsArgs self.new a) }
-        ensures tree { IfOk result (λ a. args_forest self.new a ≡ list_forest self.old list.now) }
-        ensures unchanged { IfErr result (λ _. self.new ≡ self.old) }
-        ensures cause { IfErr result (λ s. IsMkStop self.old (heights (list_forest self.old list.now)) s) }
+        ensures { Adds (a_list list.now) self.old self.new result }
     {
         let list = list.to_vec(*self.rows.allocator())?;
         Ok(Args(self.add(Node::Args(list))?))
@@ -237,12 +218,7 @@ impl Nodes {
         bounds: &[Binder<ExistentialPredicate>],
     ) -> Result<Preds, Stop>
         requires { BoundsFit self.old bounds.now }
-        ensures kept { Extends self.old self.new }
-        ensures fit { (w : World) → AllFit w self.old → AllTake w (map (pred_kind_tree self.old) bounds.now) → AllFit w self.new }
-        ensures sort { IfOk result (λ p. IsPreds self.new p) }
-        ensures tree { IfOk result (λ p. preds_forest self.new p ≡ bounds_forest self.old bounds.now) }
-        ensures unchanged { IfErr result (λ _. self.new ≡ self.old) }
-        ensures cause { IfErr result (λ s. IsMkListStop self.old (length bounds.now + 1) (heights (bounds_forest self.old bounds.now)) s) }
+        ensures { Adds (some_bounds bounds.now) self.old self.new result }
     {
         let len = self.len();
         match self.add_preds(bounds) {
@@ -270,12 +246,7 @@ impl Nodes {
     /// The signature of a closure.
     pub(crate) fn mk_sig(&mut self, sig: Binder<ClosureSig>) -> Result<Sig, Stop>
         requires { SigFits self.old sig }
-        ensures kept { Extends self.old self.new }
-        ensures fit { (w : World) → AllFit w self.old → AllFit w self.new }
-        ensures sort { IfOk result (λ s. IsSig self.new s) }
-        ensures tree { IfOk result (λ s. sig_tree self.new s ≡ sig_kind_tree self.old sig) }
-        ensures unchanged { IfErr result (λ _. self.new ≡ self.old) }
-        ensures cause { IfErr result (λ s. IsMkStop self.old (height (sig_kind_tree self.old sig)) s) }
+        ensures { Adds (a_signature sig) self.old self.new result }
     {
         Ok(Sig(self.add(Node::Sig(sig))?))
     }
@@ -283,12 +254,7 @@ impl Nodes {
     /// The clause under its binder.
     pub(crate) fn mk_clause(&mut self, clause: Binder<ClauseKind>) -> Result<Clause, Stop>
         requires { ClauseFits self.old clause }
-        ensures kept { Extends self.old self.new }
-        ensures fit { (w : World) → AllFit w self.old → Takes w (clause_kind_tree self.old clause) → AllFit w self.new }
-        ensures sort { IfOk result (λ c. IsClause self.new c) }
-        ensures tree { IfOk result (λ c. clause_tree self.new c ≡ clause_kind_tree self.old clause) }
-        ensures unchanged { IfErr result (λ _. self.new ≡ self.old) }
-        ensures cause { IfErr result (λ s. IsMkStop self.old (height (clause_kind_tree self.old clause)) s) }
+        ensures { Adds (a_clause clause) self.old self.new result }
     {
         Ok(Clause(self.add(Node::Clause(clause))?))
     }
@@ -296,12 +262,7 @@ impl Nodes {
     /// The environment of these clauses.
     pub(crate) fn mk_param_env(&mut self, clauses: &[Clause]) -> Result<ParamEnv, Stop>
         requires { ClauseListFits self.old clauses.now }
-        ensures kept { Extends self.old self.new }
-        ensures fit { (w : World) → AllFit w self.old → AllFit w self.new }
-        ensures sort { IfOk result (λ e. IsParamEnv self.new e) }
-        ensures tree { IfOk result (λ e. env_forest self.new e ≡ clause_list_forest self.old clauses.now) }
-        ensures unchanged { IfErr result (λ _. self.new ≡ self.old) }
-        ensures cause { IfErr result (λ s. IsMkStop self.old (heights (clause_list_forest self.old clauses.now)) s) }
+        ensures { Adds (an_environment clauses.now) self.old self.new result }
     {
         let clauses = clauses.to_vec(*self.rows.allocator())?;
         Ok(ParamEnv(self.add(Node::Clauses(clauses))?))
@@ -337,12 +298,7 @@ impl Nodes {
 
     /// The variables of a binder, with a node for each and one for the list.
     pub(crate) fn mk_vars(&mut self, kinds: &[VarKind]) -> Result<Vars, Stop>
-        ensures kept { Extends self.old self.new }
-        ensures fit { (w : World) → AllFit w self.old → AllFit w self.new }
-        ensures sort { IfOk result (λ v. IsVars self.new v) }
-        ensures tree { IfOk result (λ v. vars_tree self.new v ≡ binder_tree kinds.now) }
-        ensures unchanged { IfErr result (λ _. self.new ≡ self.old) }
-        ensures cause { IfErr result (λ s. IsMkListStop self.old (length kinds.now + 1) (height (binder_tree kinds.now)) s) }
+        ensures { Adds (a_binder kinds.now) self.old self.new result }
     {
         let len = self.len();
         match self.add_vars(kinds) {

@@ -1,6 +1,5 @@
-use Rattle.std.proofs.Common.{sym, subst}
-use Rattle.candidate_ir.specs.References.{IsWellFormed}
+use Rattle.candidate_ir.proofs.Making.{added-made}
 use Rattle.candidate_ir.proofs.decl.context.Cx.mk_vars.Goals as goal
 
-pub returns-clause-well_formed : goal.returns-clause-well_formed
-returns-clause-well_formed c = λ f. c.mk_vars.ensures.fit _ (subst IsWellFormed (sym c.self.view_is) f)
+pub returns : goal.returns
+returns c = added-made _ _ _ c.mk_vars.new.self _ c.self.view_is c.mk_vars.ensures

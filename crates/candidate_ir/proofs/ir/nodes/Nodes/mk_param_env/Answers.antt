@@ -1,4 +1,12 @@
+use Rattle.std.proofs.Common.{rules}
 use Rattle.candidate_ir.proofs.ir.nodes.Nodes.mk_param_env.Goals as goal
 
-pub returns-clause-fit : goal.returns-clause-fit
-returns-clause-fit c = λ w f. c.add.ensures.fit w f (λ e. cc)
+pub returns : goal.returns
+returns c = record {
+  kept = c.in_ok-add.ensures.kept;
+  fit = λ w f u. c.in_ok-add.ensures.fit w f (λ e. cc);
+  sort = c.in_ok-add.ensures.sort;
+  tree = search rules;
+  unchanged = tt;
+  cause = tt;
+}

@@ -1,5 +1,12 @@
-use Rattle.std.proofs.Common.{refl}
+use Rattle.std.proofs.Common.{refl, rules}
 use Rattle.candidate_ir.proofs.ir.nodes.Nodes.mk_region.Goals as goal
 
-pub returns-clause-fit : goal.returns-clause-fit
-returns-clause-fit c = λ w f. c.add.ensures.fit w f (λ e. refl)
+pub returns : goal.returns
+returns c = record {
+  kept = c.in_ok-add.ensures.kept;
+  fit = λ w f u. c.in_ok-add.ensures.fit w f (λ e. refl);
+  sort = c.in_ok-add.ensures.sort;
+  tree = c.in_ok-add.ensures.tree;
+  unchanged = tt;
+  cause = tt;
+}
