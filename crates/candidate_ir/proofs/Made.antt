@@ -8,7 +8,7 @@ use Rattle.candidate_ir.specs.Kinds.{numbers, sorts, arg_child}
 use Rattle.candidate_ir.specs.Nodes.{kind_at, tree_at}
 use Rattle.candidate_ir.specs.Context.{Context, Grows, world}
 use Rattle.candidate_ir.specs.References.{Takes}
-use Rattle.candidate_ir.specs.Words.{IsTy, IsConst, IsRegion, IsArgs, IsPreds, IsPred, IsSig, IsClause, IsParamEnv, IsVars, ListFits, PredListFits, PredFits, BoundsFit, names_trait, ty_tree, const_tree, region_tree, args_forest, list_forest, kind_tree}
+use Rattle.candidate_ir.specs.Words.{IsTy, IsConst, IsRegion, IsArgs, IsPreds, IsPred, IsSig, IsClause, IsParamEnv, IsVars, IsVar, ListFits, PredListFits, VarListFits, ClauseListFits, PredFits, BoundsFit, names_trait, ty_tree, const_tree, region_tree, args_forest, list_forest, kind_tree}
 use Rattle.candidate_ir.specs.Worlds.{World, AdtSort, TraitSort, parameters, joined, kinds_of}
 use Rattle.candidate_ir.specs.declared.ir.heads.Head.{Head}
 use Rattle.candidate_ir.specs.declared.ir.heads.Head.TheVariants as H
@@ -22,6 +22,7 @@ use Rattle.candidate_ir.specs.declared.ir.kinds.Sig.{Sig}
 use Rattle.candidate_ir.specs.declared.ir.kinds.Clause.{Clause}
 use Rattle.candidate_ir.specs.declared.ir.kinds.ParamEnv.{ParamEnv}
 use Rattle.candidate_ir.specs.declared.ir.kinds.Vars.{Vars}
+use Rattle.candidate_ir.specs.declared.ir.kinds.Var.{Var}
 use Rattle.candidate_ir.specs.declared.ir.kinds.Pred.{Pred}
 use Rattle.candidate_ir.specs.declared.ir.kinds.Preds.{Preds}
 use Rattle.candidate_ir.specs.declared.ir.kinds.Binder.{Binder}
@@ -121,6 +122,17 @@ pub IsPred-listed : (ts : List Tree) (xs : List Pred) (i : ℕ) (d : Pred) → i
 IsPred-listed ts [] i d b f = absurd (omega arith)
 IsPred-listed ts (x ∷ xs) zero d b f = cc
 IsPred-listed ts (x ∷ xs) (suc i) d b f = let tail : PredListFits ts xs = cc in IsPred-listed ts xs i d (omega arith) tail
+
+-- the same of a binder's variables and of an environment's clauses
+pub IsVar-listed : (ts : List Tree) (xs : List Var) (i : ℕ) (d : Var) → i < length xs → VarListFits ts xs → IsVar ts (get_or xs i d)
+IsVar-listed ts [] i d b f = absurd (omega arith)
+IsVar-listed ts (x ∷ xs) zero d b f = cc
+IsVar-listed ts (x ∷ xs) (suc i) d b f = let tail : VarListFits ts xs = cc in IsVar-listed ts xs i d (omega arith) tail
+
+pub IsClause-listed : (ts : List Tree) (xs : List Clause) (i : ℕ) (d : Clause) → i < length xs → ClauseListFits ts xs → IsClause ts (get_or xs i d)
+IsClause-listed ts [] i d b f = absurd (omega arith)
+IsClause-listed ts (x ∷ xs) zero d b f = cc
+IsClause-listed ts (x ∷ xs) (suc i) d b f = let tail : ClauseListFits ts xs = cc in IsClause-listed ts xs i d (omega arith) tail
 
 abbrev pub one_if : Bool → ℕ
 one_if b = cond b 1 0

@@ -5,12 +5,14 @@ ghost use Rattle.candidate_ir.specs.Context.{Grows};
 ghost use Rattle.candidate_ir.specs.Words.{IsTy, IsVars, IsPreds, ConstKindFits, BoundsFit, PredFits, AtMostOnePrincipal};
 
 use crate::asserts::{equals, equals_in_row, holds};
+use crate::parts::variables;
 use crate::samples::{LOCAL_TRAIT, OUT, TRAIT, args, constant, declared, ty};
 use candidate_ir::decl::context::Cx;
 use candidate_ir::decl::make::Make;
 use candidate_ir::ir::heads::Flag;
 use candidate_ir::ir::kinds::{
-    Binder, ConstKind, ExistentialPredicate, ExistentialProjection, ExistentialTraitRef, Preds, TraitId, Ty, TyKind, UintTy, VarKind, Vars,
+    Binder, ConstKind, ExistentialPredicate, ExistentialProjection, ExistentialTraitRef, Preds,
+    TraitId, Ty, TyKind, UintTy, VarKind, Vars,
 };
 use candidate_ir::ir::stop::Stop;
 use std::alloc::Global;
@@ -72,13 +74,6 @@ fn reads_back<M: Make>(maker: &mut M) -> Result<bool, Stop> {
 fn reads_through_the_trait(rt: HostRuntime) {
     let mut cx = declared(&rt, rt.alloc());
     equals(&rt, &reads_back(&mut cx), &Ok(true), "a byte");
-}
-
-fn variables(rt: &impl Abort, cx: &mut Cx, kinds: &[VarKind]) -> Vars
-    ensures grows { Grows cx.old cx.new }
-    ensures sort { IsVars cx.new.trees result }
-{
-    cx.mk_vars(kinds).expect(rt, "variables")
 }
 
 /// A type under a binder of these variables.

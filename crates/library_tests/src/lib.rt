@@ -8,15 +8,21 @@ mod builders;
 #[cfg(test)]
 mod checks;
 #[cfg(test)]
+mod clauses;
+#[cfg(test)]
 mod clients;
 #[cfg(test)]
 mod contexts;
+#[cfg(test)]
+mod every_kind;
 #[cfg(test)]
 mod flags;
 #[cfg(test)]
 mod kinds;
 #[cfg(test)]
 mod normalisers;
+#[cfg(test)]
+mod parts;
 #[cfg(test)]
 mod samples;
 #[cfg(test)]
