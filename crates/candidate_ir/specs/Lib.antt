@@ -10,5 +10,7 @@ pub mod Declaration
 pub mod Context
 pub mod References
 pub mod Names
+pub mod Substitutions
+pub mod Unify
 pub mod TypeFlags
 pub mod Parameters

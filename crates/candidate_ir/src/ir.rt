@@ -6,3 +6,4 @@ pub mod kinds;
 pub mod node;
 pub mod nodes;
 pub mod stop;
+pub mod unify;
