@@ -1,5 +1,5 @@
 -- Worked cases of quick rejection, by computation; and that references which overlap have a common instance.
-use Rattle.std.proofs.Common.{◌≡◌, Bool, true, false, refl}
+use Rattle.std.proofs.Common.{◌≡◌, Bool, true, false, [], refl}
 use Rattle.candidate_ir.specs.declared.ir.kinds.UintTy.TheVariants as U
 use Rattle.candidate_ir.specs.declared.ir.heads.Head.{Head}
 use Rattle.candidate_ir.specs.declared.ir.heads.Head.TheVariants as H
@@ -47,6 +47,21 @@ parameter_meets_no_byte = refl
 filled_itself : (mark : Head → Bool) (a : Forest) → IsFilled mark a a
 filled_itself mark none = tt
 filled_itself mark (tree h a r) = ((λ _. (refl, filled_itself mark a)), filled_itself mark r)
+
+-- a byte is a common instance of itself and of a header's parameter
+byte_in_a_header : (u v : Universes) → CommonInstance S.Header u v byte (leaf (H.Param 0))
+byte_in_a_header u v =
+    record {
+      first = byte;
+      second = byte;
+      first_is = filled_itself stands_for_any byte;
+      second_is = ((λ e. absurd cc), tt);
+      first_values = [];
+      second_values = [];
+      first_allowed = tt;
+      second_allowed = tt;
+      common = refl;
+    }
 
 pub overlap_is_common : (right : RightSide) (u v : Universes) (a b : Reference) → Overlap u v a b → CommonInstance right u v a.arguments b.arguments
 overlap_is_common right u v a b o =

@@ -74,7 +74,8 @@ fn reads_through_the_trait(rt: HostRuntime) {
     equals(&rt, &reads_back(&mut cx), &Ok(true), "a byte");
 }
 
-fn variables(rt: &impl Abort, cx: &mut Cx, kinds: &[VarKind]) -> Vars
+/// The variables of a binder.
+pub fn variables(rt: &impl Abort, cx: &mut Cx, kinds: &[VarKind]) -> Vars
     ensures grows { Grows cx.old cx.new }
     ensures sort { IsVars cx.new.trees result }
 {
@@ -82,7 +83,7 @@ fn variables(rt: &impl Abort, cx: &mut Cx, kinds: &[VarKind]) -> Vars
 }
 
 /// A type under a binder of these variables.
-fn under_binder(rt: &impl Abort, cx: &mut Cx, kinds: &[VarKind]) -> Ty
+pub fn under_binder(rt: &impl Abort, cx: &mut Cx, kinds: &[VarKind]) -> Ty
     ensures grows { Grows cx.old cx.new }
     ensures sort { IsTy cx.new.trees result }
 {
@@ -129,7 +130,8 @@ enum Bounds {
     AutoThenProjection,
 }
 
-fn preds(rt: &impl Abort, cx: &mut Cx, list: &[Binder<ExistentialPredicate>]) -> Preds
+/// The bounds of a `dyn` type.
+pub fn preds(rt: &impl Abort, cx: &mut Cx, list: &[Binder<ExistentialPredicate>]) -> Preds
     requires fit { BoundsFit cx.old.trees list.now }
     requires principal { AtMostOnePrincipal list.now }
     ensures grows { Grows cx.old cx.new }

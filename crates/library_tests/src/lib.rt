@@ -18,6 +18,8 @@ mod kinds;
 #[cfg(test)]
 mod normalisers;
 #[cfg(test)]
+mod rejections;
+#[cfg(test)]
 mod samples;
 #[cfg(test)]
 mod texts;

@@ -248,12 +248,19 @@ impl Cx {
         self.nodes.same(a, b)
     }
 
-    /// Whether two types could be made equal, by a quick look at their heads.
+    /// Quick rejection: whether two types could be made equal, by their heads.
     ///
-    /// A no means that they have no common instance, whatever stands in the place of aliases, errors
-    /// and bound variables, and of a header's parameters; a yes promises nothing. Where the numbers
-    /// differ, both are walked as trees, side by side, until a pair says no: the time is that of the
-    /// smaller tree, in which parts that stand at several places count each time.
+    /// A general variable, an alias, an error or a bound type may be equal to any type, and so may a
+    /// parameter on the right side where that is an impl header; an integer variable may be equal to
+    /// integer types and variables, a floating-point variable to floating-point ones. All else needs
+    /// equal heads, and children that may be equal. Regions always may, lists if they are equally
+    /// long and each pair may.
+    ///
+    /// After a no they have no common instance, whatever stands in the place of aliases, errors and
+    /// bound variables, and of a header's parameters; a yes promises nothing. No memory is taken.
+    /// Equal numbers are answered at once. Else both sides are walked as trees, pair by pair, up to
+    /// the first no: at most as many pairs as the smaller one has nodes, where a part that stands at
+    /// several places counts at each.
     #[tactic(auto, using(crate::proofs::MayUnify::tree_rejected))]
     pub fn may_unify(&self, a: Ty, b: Ty, right: RightSide) -> bool
         requires a { IsTy self.now.trees a }
@@ -264,7 +271,10 @@ impl Cx {
         self.nodes.may_unify(a, b, right)
     }
 
-    /// Whether two constants could be made equal; it is as `may_unify` of types.
+    /// Whether two constants could be made equal; what is said of `may_unify` holds here, too.
+    ///
+    /// A variable, an unevaluated constant, an error or a bound constant may be equal to any, and so
+    /// may a header's parameter on the right; all others to equal ones alone.
     #[tactic(auto, using(crate::proofs::MayUnify::tree_rejected))]
     pub fn consts_may_unify(&self, a: Const, b: Const, right: RightSide) -> bool
         requires a { IsConst self.now.trees a }
@@ -275,8 +285,8 @@ impl Cx {
         self.nodes.consts_may_unify(a, b, right)
     }
 
-    /// Whether two lists could be made equal: they are equally long, and each pair may; it is as
-    /// `may_unify` of types.
+    /// Whether two lists could be made equal: they are equally long, and each pair may; what is said
+    /// of `may_unify` holds here, too.
     #[tactic(auto, using(crate::proofs::MayUnify::list_rejected))]
     pub fn args_may_unify(&self, a: Args, b: Args, right: RightSide) -> bool
         requires a { IsArgs self.now.trees a }

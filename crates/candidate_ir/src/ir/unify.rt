@@ -14,7 +14,7 @@ use crate::ir::nodes::Nodes;
 /// What stands on the right side of a comparison.
 #[derive(Clone, Copy)]
 pub enum RightSide {
-    /// A tree like the left one: a parameter is itself alone.
+    /// Types or constants as on the left: a parameter is itself alone.
     Plain,
     /// An impl header: any trees may stand in the place of its parameters.
     Header,
