@@ -9,10 +9,10 @@ use Rattle.candidate_ir.specs.Trees.{Forest, none, tree, Tree, kind_of, is_type,
 use Rattle.candidate_ir.specs.Worlds.{World}
 use Rattle.candidate_ir.specs.declared.ir.heads.Head.{Head}
 use Rattle.candidate_ir.specs.declared.ir.heads.Head.TheVariants as H
-use Rattle.candidate_eval.specs.Substitutions.{Substitution, Universes, IsAllowed, apply, replaced, fits_sort, is_constant_kind, lookup}
+use Rattle.candidate_ir.specs.Substitutions.{Substitution, Universes, IsAllowed, apply, replaced, fits_sort, is_constant_kind, lookup}
 use Rattle.candidate_eval.specs.Orphan.{CrateTest, is_local, is_fundamental, names_here, by_bound, principal_passes, Item, Viewed, Step, Class, class_of, owned_class, decides, Local, Proper, or_empty, walked, visit, frontier, plain, is_variable}
 use Rattle.candidate_eval.proofs.Holds.{holds_parts}
-use Rattle.candidate_eval.proofs.Instances.{replaced_kind, erased_kind, stays, stays_below, part_no_type, list_no_type, lookup_fits}
+use Rattle.candidate_ir.proofs.Instances.{replaced_kind, erased_kind, stays, part_no_type, list_no_type, lookup_fits, made, head_made, below_made}
 use Rattle.candidate_eval.proofs.Walks.{Clear, Good, good_left, good_right, clear_append}
 
 abbrev pub U : Type 0
@@ -102,13 +102,6 @@ walks w x y deep deep' s t (H.Part p) a b ny nx na ne ty ua ub ih g g' = absurd 
 walks w x y deep deep' s t (H.List l) a b ny nx na ne ty ua ub ih g g' = absurd (let f = list_no_type l in cc)
 walks w x y deep deep' s t _ a b ny nx na ne ty ua ub ih g g' = cc
 
--- The trees that a substitution and erasing make.
-abbrev pub made : Substitution → Forest → Forest
-made r a = erase (apply r a)
-
-abbrev pub head_made : Substitution → Head → Forest → Head
-head_made r h a = erased_head (replaced r h (apply r a)).head
-
 pub both_type : (u v : Universes) (p q : Substitution) (h g : Head) (a b : Forest) → IsAllowed u p → IsAllowed v q
     → head_made p h a ≡ head_made q g b → is_type h ≡ is_type g
 both_type u v p q h g a b ok ok' e =
@@ -119,11 +112,6 @@ pub same_head : (p q : Substitution) (h g : Head) (a b : Forest) → is_type h �
     → is_variable h ≡ false → is_variable g ≡ false → head_made p h a ≡ head_made q g b → h ≡ g
 same_head p q h g a b th tg vh vg e =
     sym (stays p h (apply p a) th vh) ∙ (e ∙ stays q g (apply q b) tg vg)
-
-pub below_made : (p q : Substitution) (h g : Head) (a b : Forest) → is_variable h ≡ false → is_variable g ≡ false
-    → erase (replaced p h (apply p a)).children ≡ erase (replaced q g (apply q b)).children → made p a ≡ made q b
-below_made p q h g a b vh vg e =
-    sym (ap erase (stays_below p h (apply p a) vh)) ∙ (e ∙ ap erase (stays_below q g (apply q b) vg))
 
 constant_no_part : (p : PartHead) → is_constant_kind (kind_of (H.Part p)) ≡ false
 constant_no_part (P.Pred _) = refl

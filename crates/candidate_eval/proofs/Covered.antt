@@ -4,11 +4,12 @@ use Rattle.candidate_ir.specs.Trees.{Forest, none, tree, is_type, erase, holds, 
 use Rattle.candidate_ir.specs.Worlds.{World}
 use Rattle.candidate_ir.specs.declared.ir.heads.Head.{Head}
 use Rattle.candidate_ir.specs.declared.ir.heads.Head.TheVariants as H
-use Rattle.candidate_eval.specs.Substitutions.{Substitution, Universes, IsAllowed, apply, replaced}
+use Rattle.candidate_ir.specs.Substitutions.{Substitution, Universes, IsAllowed, apply, replaced}
 use Rattle.candidate_eval.specs.Orphan.{CrateTest, is_fundamental, names_here, principal_passes, Item, Step, Class, or_empty, walked, visit, plain, is_variable, any_variable, shows_variable}
 use Rattle.candidate_eval.proofs.Holds.{or_false, holds_parts}
 use Rattle.candidate_eval.proofs.Walks.{Clear, Good, good_left, good_right, clear_append}
-use Rattle.candidate_eval.proofs.Agree.{U, Walk, adt_steps, adt_is, adt_good, adt_clear, owned_clear, principal_clear, principal_made, no_variable, both_type, same_head, below_made, made, head_made, Proper_class, Steps}
+use Rattle.candidate_eval.proofs.Agree.{U, Walk, adt_steps, adt_is, adt_good, adt_clear, owned_clear, principal_clear, principal_made, no_variable, both_type, same_head, Proper_class, Steps}
+use Rattle.candidate_ir.proofs.Instances.{made, head_made, below_made}
 use Rattle.candidate_eval.proofs.Carry.{none_passes}
 
 variable_left : (xs ys : List (Step U U)) → any_variable (xs ++ ys) ≡ false → any_variable xs ≡ false

@@ -12,11 +12,11 @@ use Rattle.candidate_ir.specs.declared.ir.heads.Head.{Head}
 use Rattle.candidate_ir.specs.declared.ir.heads.Head.TheVariants as H
 use Rattle.candidate_ir.specs.declared.ir.heads.ConstHead.TheVariants as C
 use Rattle.candidate_ir.specs.declared.ir.heads.VariableSort.TheVariants as V
-use Rattle.candidate_eval.specs.Substitutions.{Substitution, apply, replaced, lookup, same_variable, same_sort, IsAllowed, Universes}
+use Rattle.candidate_ir.specs.Substitutions.{Substitution, apply, replaced, lookup, same_variable, same_sort, IsAllowed, Universes}
 use Rattle.candidate_eval.specs.Orphan.{crate_passes, is_local, is_fundamental, fundamental_flag, names_here, principal_passes, Item, Viewed, Step, Class, IsLocal, owned_class, decides, or_empty, walked, visit, plain, first_step, is_general, is_general_sort, names, MayWrite, remote_decision, judged, Passes, decided, IsPlainForest, plain_knowability, Downstream}
 use Rattle.candidate_eval.specs.Laws.{IsDecidedByGeneral, HasDownstream}
 use Rattle.candidate_eval.proofs.Holds.{holds_parts, holds_imply, holds_erase}
-use Rattle.candidate_eval.proofs.Instances.{replaced_kind, same_sort_is, and_left}
+use Rattle.candidate_ir.proofs.Instances.{replaced_kind, same_sort_is, and_left}
 use Rattle.candidate_eval.proofs.Walks.{Clear, clear_append, clear_left, clear_right}
 use Rattle.candidate_eval.proofs.Agree.{U, Walk, adt_steps, adt_is, owned_clear, principal_clear, principal_applied, Proper_class, Steps}
 use Rattle.candidate_eval.proofs.Answers.{judged_if}

@@ -2,7 +2,7 @@ use Rattle.std.proofs.Common.{ap, ◌≡◌, ℕ, Bool, true, false, Some, None,
 use Rattle.candidate_ir.specs.Trees.{Forest, holds, is_alias}
 use Rattle.candidate_ir.specs.Worlds.{World, Reference, IsOf}
 use Rattle.candidate_eval.specs.Orphan.{MayWrite, names, names_here, plain_check, plain, Local, Proper, Answer, Passes, NonLocalInput, UncoveredInput, Faulty, Checked, by_remote_check, by_proper_check, by_answer, Knowable, plain_knowability, local_or_fundamental, orphan_answer, IsPlainForest}
-use Rattle.candidate_eval.specs.Substitutions.{Universes, Overlap}
+use Rattle.candidate_ir.specs.Substitutions.{Universes, Overlap}
 use Rattle.candidate_eval.specs.Laws.{LinkSafety, NoForeignHeader, NoUnnamedHeader, NoCoveredHeader}
 use Rattle.candidate_eval.proofs.OrphanLaws.{remote_covers}
 use Rattle.candidate_eval.proofs.Carry.{Remote_class, carry, names_none, erased_names}

@@ -10,7 +10,7 @@ use Rattle.candidate_ir.specs.References.{IsReference}
 use Rattle.candidate_ir.specs.Trees.{Forest, none, tree, Tree, is_type}
 use Rattle.candidate_ir.specs.Worlds.{IsOf, World, Reference, Extends}
 use Rattle.candidate_eval.specs.declared.coherence.NormalizeErr.{NormalizeErr}
-use Rattle.candidate_eval.specs.Substitutions.{Universes, Overlap}
+use Rattle.candidate_ir.specs.Substitutions.{Universes, Overlap}
 use Rattle.candidate_eval.specs.Normalizer.{IsPlain}
 use Rattle.candidate_eval.specs.Orphan.{MayWrite, IsCovered, View, InCrate, Local, Proper, Compat, Remote, Passes, NonLocalInput, UncoveredInput, Entry, orphan_answer, Step, Viewed, is_general, remote_decision, names}
 

@@ -1,6 +1,5 @@
 pub mod Normalizer
 pub mod Answers
-pub mod Substitutions
 pub mod Orphan
 pub mod Laws
 pub mod Calls

@@ -3,6 +3,7 @@ use Rattle.std.specs.Prelude.{◌≡◌, ℕ, suc, zero, Bool, true, false, Opti
 use Rattle.candidate_ir.specs.Trees.{Forest, none, tree, Tree, is_type, is_alias, is_error, is_loose, holds}
 use Rattle.candidate_ir.specs.Worlds.{World, Reference}
 pub use Rattle.candidate_ir.specs.Names.{CrateTest, passes_test, crate_passes, is_local, fundamental_flag, is_fundamental, names_here, names}
+pub use Rattle.candidate_ir.specs.Substitutions.{is_variable}
 use Rattle.candidate_ir.specs.declared.ir.stop.Stop.{Stop}
 use Rattle.candidate_ir.specs.declared.ir.stop.Stop.TheVariants.{WalkDepth, Unnameable}
 pub use Rattle.candidate_eval.specs.declared.coherence.InCrate.{InCrate}
@@ -325,10 +326,6 @@ pub record MayWrite (w : World) (c : ℕ) (r : Reference) : Type 0 where
 abbrev pub remote_decision : World → ℕ → Reference → Option (Step (Unit {0}) (Unit {0}))
 remote_decision w limit r =
     first_step decides (class_of w None Remote) (frontier {E = Unit {0}} w None plain limit (let s : Unit {0} = tt in s) r.arguments)
-
-abbrev pub is_variable : Head → Bool
-is_variable (H.Infer v) = true
-is_variable _ = false
 
 abbrev pub shows_variable : {E : Type 0} → Item E → Bool
 shows_variable (Viewed t) = is_variable t.head

@@ -14,3 +14,7 @@ pub mod Members
 pub mod Growing
 pub mod References
 pub mod Parameters
+pub mod Instances
+pub mod Pairs
+pub mod MayUnify
+pub mod UnifyCases

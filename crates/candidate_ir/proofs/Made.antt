@@ -216,8 +216,5 @@ pub adt-lacks : (m : Head → Bool) (ts : List Tree) (d : AdtId) (a : Args) → 
 adt-lacks m ts d a i e f =
     ap (λ (b : Bool). b || holds m (row (tree_at ts a.0) none)) e ∙ (ap (holds m) (below-adt ts a i) ∙ f)
 
--- what a caller names whose numbers stay while it makes others
-pub ruleset growing = (IsTy-grows, IsConst-grows, IsRegion-grows, IsArgs-grows, IsVars-grows, IsPreds-grows, IsSig-grows, IsClause-grows, IsParamEnv-grows, grows-trans)
-
 -- what a caller names that makes data types and references of them
 pub ruleset making = (adt-takes, reference-takes, args-fit, IsTy-grows, grows-trans)

@@ -72,7 +72,7 @@ list-head (H.List l) e = (l, refl)
 list-head _ e = absurd cc
 
 -- a list's head from its kind
-list-head_of : (h : Head) (l : ListHead) → list_of (kind_of h) ≡ Some l → h ≡ H.List l
+pub list-head_of : (h : Head) (l : ListHead) → list_of (kind_of h) ≡ Some l → h ≡ H.List l
 list-head_of h l e =
     let g = list-head h (some-list (kind_of h) l e) in
     let f : list_of (kind_of (H.List g.0)) ≡ Some l = ap (λ (x : Head). list_of (kind_of x)) (sym g.1) ∙ e in
@@ -107,12 +107,12 @@ one_list [] = true
 one_list (None ∷ bs) = one_list bs
 one_list (Some _ ∷ bs) = no_list bs
 
-no-one : (bs : List (Option ListHead)) → no_list bs ≡ true → one_list bs ≡ true
+pub no-one : (bs : List (Option ListHead)) → no_list bs ≡ true → one_list bs ≡ true
 no-one [] e = refl
 no-one (None ∷ bs) e = no-one bs e
 no-one (Some _ ∷ bs) e = absurd cc
 
-count-join : (a b : Forest) → count (join a b) ≡ count a + count b
+pub count-join : (a b : Forest) → count (join a b) ≡ count a + count b
 count-join none b = omega arith
 count-join (tree h x r) b = omega (arith, count-join r b)
 
@@ -124,13 +124,13 @@ cancel (tree h x r) (tree g y s) c d n e =
     let f : join r c ≡ join s d = cc in let k = cancel r s c d n f in
     let p : h ≡ g = cc in let q : x ≡ y = cc in let o = k.0 in (cc, k.1)
 
-single-row : (t : Tree) (f : Forest) → list_of (kind_of t.head) ≡ None → row t f ≡ tree t.head t.children f
+pub single-row : (t : Tree) (f : Forest) → list_of (kind_of t.head) ≡ None → row t f ≡ tree t.head t.children f
 single-row t f e = ap (λ (b : Bool). put b t f) (none-list (kind_of t.head) e)
 
-list-row : (t : Tree) (f : Forest) (l : ListHead) → list_of (kind_of t.head) ≡ Some l → row t f ≡ join t.children f
+pub list-row : (t : Tree) (f : Forest) (l : ListHead) → list_of (kind_of t.head) ≡ Some l → row t f ≡ join t.children f
 list-row t f l e = ap (λ (b : Bool). put b t f) (some-list (kind_of t.head) l e)
 
-count-single : (bs : List (Option ListHead)) (xs : List Tree) → lists xs ≡ bs → no_list bs ≡ true → count (rows xs) ≡ length bs
+pub count-single : (bs : List (Option ListHead)) (xs : List Tree) → lists xs ≡ bs → no_list bs ≡ true → count (rows xs) ≡ length bs
 count-single [] [] e n = refl
 count-single [] (x ∷ xs) e n = absurd cc
 count-single (b ∷ bs) [] e n = absurd cc
@@ -191,7 +191,7 @@ nones-no (suc n) = nones-no n
 nones-one : (n : ℕ) → one_list (nones n) ≡ true
 nones-one n = no-one (nones n) (nones-no n)
 
-shape-one : (h : Head) (n : ℕ) → one_list (shape h n) ≡ true
+pub shape-one : (h : Head) (n : ℕ) → one_list (shape h n) ≡ true
 shape-one (H.Adt _) n = refl
 shape-one (H.FnDef _) n = refl
 shape-one (H.Alias _ _) n = refl
@@ -265,7 +265,7 @@ lists-at ts [] b = refl
 lists-at ts (k ∷ ks) b =
     let e = ap list_of (sym (kind_of-tree_at ts k b.0)) in let f = lists-at ts ks b.1 in cc
 
-lists-node : (ts : List Tree) (d : Node) → Fits ts d → lists (trees_at ts (numbers (children_of d))) ≡ shape (head_of d) (length (children_of d))
+pub lists-node : (ts : List Tree) (d : Node) → Fits ts d → lists (trees_at ts (numbers (children_of d))) ≡ shape (head_of d) (length (children_of d))
 lists-node ts d f = lists-at ts (numbers (children_of d)) (Fits-below ts d f) ∙ (ap (map list_of) f ∙ shaped d)
 
 -- nodes with one root and equal rows have equal children
@@ -310,21 +310,27 @@ counted ts d f u =
     count-single (nones (length (children_of d))) _ (lists-node ts d f ∙ u (length (children_of d))) (nones-no (length (children_of d)))
     ∙ length-nones (length (children_of d))
 
+-- nodes with one head and equally many trees under them have equally many children
+pub counts-agree : (ts : List Tree) (d f : Node) → Fits ts d → Fits ts f → head_of d ≡ head_of f
+    → count (rows (trees_at ts (numbers (children_of d)))) ≡ count (rows (trees_at ts (numbers (children_of f))))
+    → length (children_of d) ≡ length (children_of f)
+counts-agree ts d f p q h e = at (steady (head_of d))
+  where
+    at : Steady (head_of d) → length (children_of d) ≡ length (children_of f)
+    at (inl s) =
+        sym (length-lists (children_of d))
+        ∙ (ap length (shaped d ∙ (s (length (children_of d)) (length (children_of f)) ∙ (ap (λ (x : Head). shape x (length (children_of f))) h ∙ sym (shaped f))))
+        ∙ length-lists (children_of f))
+    at (inr u) =
+        let v : Uniform (head_of f) = λ n. ap (λ (x : Head). shape x n) (sym h) ∙ u n in
+        sym (counted ts d p u) ∙ (e ∙ counted ts f q v)
+
 -- equal nodes have one root
 pub root-agree : (ts : List Tree) (d f : Node) → Fits ts d → Fits ts f → node_tree ts d ≡ node_tree ts f
     → (head_of d ≡ head_of f) × (length (children_of d) ≡ length (children_of f))
 root-agree ts d f p q e =
     let h : head_of d ≡ head_of f = ap (λ (t : Tree). t.head) e in
-    (h, at (steady (head_of d)) h)
-  where
-    at : Steady (head_of d) → head_of d ≡ head_of f → length (children_of d) ≡ length (children_of f)
-    at (inl s) h =
-        sym (length-lists (children_of d))
-        ∙ (ap length (shaped d ∙ (s (length (children_of d)) (length (children_of f)) ∙ (ap (λ (x : Head). shape x (length (children_of f))) h ∙ sym (shaped f))))
-        ∙ length-lists (children_of f))
-    at (inr u) h =
-        let v : Uniform (head_of f) = λ n. ap (λ (x : Head). shape x n) (sym h) ∙ u n in
-        sym (counted ts d p u) ∙ (ap (λ (t : Tree). count t.children) e ∙ counted ts f q v)
+    (h, counts-agree ts d f p q h (ap (λ (t : Tree). count t.children) e))
 
 -- heights and marks of a row
 list-weight : (k : Kind) → is_list_kind k ≡ true → kind_weight k ≡ 0

@@ -12,5 +12,7 @@ pub mod Context
 pub mod References
 pub mod Making
 pub mod Names
+pub mod Substitutions
+pub mod Unify
 pub mod TypeFlags
 pub mod Parameters

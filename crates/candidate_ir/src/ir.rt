@@ -7,4 +7,5 @@ pub mod node;
 pub mod nodes;
 pub mod readers;
 pub mod stop;
+pub mod unify;
 pub mod walks;

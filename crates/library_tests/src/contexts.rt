@@ -77,7 +77,7 @@ fn reads_through_the_trait(rt: HostRuntime) {
 }
 
 /// A type under a binder of these variables.
-fn under_binder(rt: &impl Abort, cx: &mut Cx, kinds: &[VarKind]) -> Ty
+pub fn under_binder(rt: &impl Abort, cx: &mut Cx, kinds: &[VarKind]) -> Ty
     ensures grows { Grows cx.old cx.new }
     ensures sort { IsTy cx.new.trees result }
 {
@@ -124,7 +124,8 @@ enum Bounds {
     AutoThenProjection,
 }
 
-fn preds(rt: &impl Abort, cx: &mut Cx, list: &[Binder<ExistentialPredicate>]) -> Preds
+/// The bounds of a `dyn` type.
+pub fn preds(rt: &impl Abort, cx: &mut Cx, list: &[Binder<ExistentialPredicate>]) -> Preds
     requires fit { BoundsFit cx.old.trees list.now }
     requires principal { AtMostOnePrincipal list.now }
     ensures grows { Grows cx.old cx.new }

@@ -24,6 +24,8 @@ mod normalisers;
 #[cfg(test)]
 mod parts;
 #[cfg(test)]
+mod rejections;
+#[cfg(test)]
 mod samples;
 #[cfg(test)]
 mod texts;

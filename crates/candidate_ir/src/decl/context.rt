@@ -1,10 +1,12 @@
 //! The context: declarations, and the table in which types are made.
 
-ghost use Rattle.std.specs.Prelude.{◌≡◌, ◌+◌, ◌<◌, ◌↔◌, IsTrue, length, map, IfOk, IfErr, Some, None};
+ghost use Rattle.std.specs.Prelude.{◌≡◌, ◌+◌, ◌<◌, ◌↔◌, IsTrue, false, length, map, IfOk, IfErr, Some, None};
 ghost use Rattle.candidate_ir.specs.Context.{world, Grows};
 ghost use Rattle.candidate_ir.specs.Making.{Makes, a_type, a_constant, a_region, a_list, a_binder, some_bounds, a_signature, a_clause, an_environment};
 ghost use Rattle.candidate_ir.specs.Trees.{height, heights, tree_holds, holds, is_param};
 ghost use Rattle.candidate_ir.specs.Flags.{mark};
+ghost use Rattle.candidate_ir.specs.Substitutions.{alone};
+ghost use Rattle.candidate_ir.specs.Unify.{may_unify, trees_may_unify, NoCommonInstance};
 ghost use Rattle.candidate_ir.specs.References.{IsWellFormed, Takes, AllTake};
 ghost use Rattle.candidate_ir.specs.TypeFlags.{type_flags};
 ghost use Rattle.candidate_ir.specs.Names.{is_local, is_fundamental, principal_of};
@@ -22,6 +24,7 @@ use crate::ir::kinds::{
 };
 use crate::ir::nodes::Nodes;
 use crate::ir::stop::Stop;
+use crate::ir::unify::RightSide;
 use std::marker::Model;
 
 /// Declarations without a fault, and the types, constants, regions and lists made so far.
@@ -346,6 +349,55 @@ impl Cx {
         ensures { IsTrue result ↔ (env_forest self.now.trees a ≡ env_forest self.now.trees b) }
     {
         self.nodes.same_env(a, b)
+    }
+
+    /// Quick rejection: whether two types could be made equal, by their heads.
+    ///
+    /// A general variable, an alias, an error or a bound type may be equal to any type, and so may a
+    /// parameter on the right side where that is an impl header; an integer variable may be equal to
+    /// integer types and variables, a floating-point variable to floating-point ones. All else needs
+    /// equal heads, and children that may be equal. Regions always may, lists if they are equally
+    /// long and each pair may.
+    ///
+    /// After a no they have no common instance, whatever stands in the place of aliases, errors and
+    /// bound variables, and of a header's parameters; a yes promises nothing. No memory is taken.
+    /// Equal numbers are answered at once. Else both sides are walked as trees, pair by pair, up to
+    /// the first no: at most as many pairs as the smaller one has nodes, where a part that stands at
+    /// several places counts at each.
+    #[tactic(auto, using(crate::proofs::MayUnify::tree_rejected))]
+    pub fn may_unify(&self, a: Ty, b: Ty, right: RightSide) -> bool
+        requires a { IsTy self.now.trees a }
+        requires b { IsTy self.now.trees b }
+        ensures is { result ≡ trees_may_unify right (ty_tree self.now.trees a) (ty_tree self.now.trees b) }
+        ensures no_common_instance { result ≡ false → NoCommonInstance right (alone (ty_tree self.now.trees a)) (alone (ty_tree self.now.trees b)) }
+    {
+        self.nodes.may_unify(a, b, right)
+    }
+
+    /// Whether two constants could be made equal; what is said of `may_unify` holds here, too.
+    ///
+    /// A variable, an unevaluated constant, an error or a bound constant may be equal to any, and so
+    /// may a header's parameter on the right; all others to equal ones alone.
+    #[tactic(auto, using(crate::proofs::MayUnify::tree_rejected))]
+    pub fn consts_may_unify(&self, a: Const, b: Const, right: RightSide) -> bool
+        requires a { IsConst self.now.trees a }
+        requires b { IsConst self.now.trees b }
+        ensures is { result ≡ trees_may_unify right (const_tree self.now.trees a) (const_tree self.now.trees b) }
+        ensures no_common_instance { result ≡ false → NoCommonInstance right (alone (const_tree self.now.trees a)) (alone (const_tree self.now.trees b)) }
+    {
+        self.nodes.consts_may_unify(a, b, right)
+    }
+
+    /// Whether two lists could be made equal: they are equally long, and each pair may; what is said
+    /// of `may_unify` holds here, too.
+    #[tactic(auto, using(crate::proofs::MayUnify::list_rejected))]
+    pub fn args_may_unify(&self, a: Args, b: Args, right: RightSide) -> bool
+        requires a { IsArgs self.now.trees a }
+        requires b { IsArgs self.now.trees b }
+        ensures is { result ≡ may_unify right (args_forest self.now.trees a) (args_forest self.now.trees b) }
+        ensures no_common_instance { result ≡ false → NoCommonInstance right (args_forest self.now.trees a) (args_forest self.now.trees b) }
+    {
+        self.nodes.args_may_unify(a, b, right)
     }
 
     /// Whether a head with the flag's mark stands anywhere in the type.

@@ -1,16 +1,16 @@
-use Rattle.std.proofs.Common.{◌≡◌, Bool, true, false, [], ◌∷◌, ◌&&◌, refl, ◌∙◌, ap, subst, if◌then◌else◌}
+-- What an allowed substitution makes of a tree.
+use Rattle.std.proofs.Common.{◌≡◌, Bool, true, false, [], ◌∷◌, ◌&&◌, refl, sym, ◌∙◌, ap, subst, if◌then◌else◌}
 use Rattle.candidate_ir.specs.declared.ir.heads.PartHead.{PartHead}
 use Rattle.candidate_ir.specs.declared.ir.heads.PartHead.TheVariants as P
 use Rattle.candidate_ir.specs.declared.ir.heads.ListHead.{ListHead}
 use Rattle.candidate_ir.specs.declared.ir.heads.ListHead.TheVariants as L
-use Rattle.candidate_ir.specs.Trees.{Kind, ConstantKind, Forest, kind_of, is_type, is_type_kind, sort_kind, erased_head}
+use Rattle.candidate_ir.specs.Trees.{Kind, ConstantKind, Forest, kind_of, is_type, is_type_kind, sort_kind, erase, erased_head}
 use Rattle.candidate_ir.specs.declared.ir.heads.VariableSort.{VariableSort}
 use Rattle.candidate_ir.specs.declared.ir.heads.Variable.{Variable}
 use Rattle.candidate_ir.specs.declared.ir.heads.Head.{Head}
 use Rattle.candidate_ir.specs.declared.ir.heads.Head.TheVariants as H
 use Rattle.candidate_ir.specs.declared.ir.heads.VariableSort.TheVariants as V
-use Rattle.candidate_eval.specs.Substitutions.{Substitution, lookup, replaced, same_sort, same_variable, fits_sort, is_constant_kind, Universes, IsAllowed, is_integer, is_float}
-use Rattle.candidate_eval.specs.Orphan.{is_variable}
+use Rattle.candidate_ir.specs.Substitutions.{Substitution, lookup, apply, replaced, same_sort, same_variable, fits_sort, is_constant_kind, Universes, IsAllowed, is_integer, is_float, is_variable}
 
 pub same_sort_is : (s t : VariableSort) → same_sort s t ≡ true → s ≡ t
 same_sort_is V.General V.General e = refl
@@ -106,3 +106,15 @@ pub list_no_type : (l : ListHead) → is_type (H.List l) ≡ false
 list_no_type L.Args = refl
 list_no_type L.Preds = refl
 list_no_type L.Clauses = refl
+
+-- The trees that a substitution and erasing make.
+abbrev pub made : Substitution → Forest → Forest
+made r a = erase (apply r a)
+
+abbrev pub head_made : Substitution → Head → Forest → Head
+head_made r h a = erased_head (replaced r h (apply r a)).head
+
+pub below_made : (p q : Substitution) (h g : Head) (a b : Forest) → is_variable h ≡ false → is_variable g ≡ false
+    → erase (replaced p h (apply p a)).children ≡ erase (replaced q g (apply q b)).children → made p a ≡ made q b
+below_made p q h g a b vh vg e =
+    sym (ap erase (stays_below p h (apply p a) vh)) ∙ (e ∙ ap erase (stays_below q g (apply q b) vg))

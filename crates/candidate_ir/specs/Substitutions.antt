@@ -40,6 +40,10 @@ abbrev pub replaced : Substitution → Head → Forest → Tree
 replaced s (H.Infer v) below = lookup s v (record { head = H.Infer v; children = below })
 replaced s h below = record { head = h; children = below }
 
+abbrev pub is_variable : Head → Bool
+is_variable (H.Infer v) = true
+is_variable _ = false
+
 -- The trees with each variable's tree in its place.
 abbrev pub apply : Substitution → Forest → Forest
 apply s none = none
