@@ -1,5 +1,7 @@
 -- Which results are stops, in words that answers can give without a search among all that they know.
-use Rattle.std.proofs.Common.{◌≡◌, ◌≢◌, ℕ, ◌-◌, suc, Result, Ok, Err, sym, ◌∙◌, ap, arith}
+use Rattle.std.proofs.Common.{◌≡◌, ◌≢◌, ℕ, ◌-◌, suc, List, Result, Ok, Err, sym, ◌∙◌, ap, arith}
+use Rattle.std.specs.Prelude.{OnOk}
+use Rattle.candidate_ir.specs.Trees.{Tree}
 use Rattle.candidate_ir.specs.declared.ir.kinds.Ty.{Ty}
 use Rattle.candidate_ir.specs.declared.ir.stop.Stop.{Stop}
 use Rattle.candidate_eval.specs.declared.coherence.NormalizeErr.{NormalizeErr}
@@ -10,6 +12,7 @@ use Rattle.candidate_eval.specs.declared.walk.EarlyExit.{EarlyExit}
 use Rattle.candidate_eval.specs.declared.walk.EarlyExit.TheVariants as X
 use Rattle.candidate_eval.specs.Exits.{broken_by}
 use Rattle.candidate_eval.specs.Normalizer.{StopsWith}
+use Rattle.candidate_eval.specs.Walk.{IsExit}
 use Rattle.candidate_eval.proofs.Causes.{broken-stop, stop-broken}
 
 -- what an error that is passed on says
@@ -90,6 +93,22 @@ module _ {A B E : Type 0} (r : Result B (OrphanStop E)) (x y : OrphanStop E) whe
 
   pub stops-check : r ≡ Err x → x ≡ y → (s : Stop) → StopsWith r s → StopsWith {A = A} {E = E} (Err y) s
   stops-check e f s k = ap Err (passed-error r x y (O.Stop s) e f k)
+
+-- what holds after any result holds after an answer
+pub on-answer : {A E : Type 0} {P : Type 0} (r : Result A E) → P → OnOk r P
+on-answer (Ok a) p = p
+on-answer (Err x) p = tt
+
+pub is-answer : {A E : Type 0} (a : A) (x : E) → (let r : Result A E = Ok a in r ≡ Err x) → ⊥
+is-answer a x e = cc
+
+-- what breaks a walk off at its depth, or by the normaliser, is no uncovered type
+pub depth-covers : {A E : Type 0} (s : Stop) (t : Ty) → (let r : Result A (EarlyExit E) = Err (X.Broken (O.Stop s)) in r ≡ Err (X.Uncovered t)) → ⊥
+depth-covers s t e = cc
+
+pub broken-exit : {E : Type 0} (ts : List Tree) (e : NormalizeErr E) → IsExit ts (broken_by e)
+broken-exit ts (N.Failed x) = tt
+broken-exit ts (N.Stop s) = tt
 
 -- a level is left
 pub level-left : (n : ℕ) → n ≢ 0 → n ≡ suc (n - 1)

@@ -1,6 +1,6 @@
 use Rattle.std.proofs.Common.{◌≡◌, Ok, Err, refl}
 use Rattle.candidate_ir.specs.Trees.{Tree}
-use Rattle.candidate_ir.proofs.Kept.{args-kept, ty-kept}
+use Rattle.candidate_ir.proofs.Kept.{grows-trans, args-kept, ty-kept}
 use Rattle.candidate_eval.specs.Calls.{depth_limit}
 use Rattle.candidate_eval.specs.Answers.{second_answer}
 use Rattle.candidate_eval.specs.Orphan.{Answer, Checked, view}
@@ -88,3 +88,18 @@ pub returns-clause-calls : goal.returns-clause-calls
 returns-clause-calls g c =
     let i = c.in-Err-Broken.field-0-is in
     left-same g.C.Make.context g.F.FnMut depth_limit _ _ _ _ _ _ (walk-stops _ _ i) (stops-walk _ _ i) c.in-Err-Broken.ensures.calls
+
+pub returns-in-Ok-clause-grows : goal.returns-in-Ok-clause-grows
+returns-in-Ok-clause-grows g c = c.visit_args.ensures.grows
+
+pub returns-in-Err-Local-clause-grows : goal.returns-in-Err-Local-clause-grows
+returns-in-Err-Local-clause-grows g c = c.visit_args.ensures.grows
+
+pub returns-in-Ok-first_local_ty-clause-grows : goal.returns-in-Ok-first_local_ty-clause-grows
+returns-in-Ok-first_local_ty-clause-grows g c = grows-trans _ _ _ c.visit_args.ensures.grows c.first_local_ty.ensures.grows
+
+pub returns-in-Err-Uncovered-clause-grows : goal.returns-in-Err-Uncovered-clause-grows
+returns-in-Err-Uncovered-clause-grows g c = grows-trans _ _ _ c.visit_args.ensures.grows c.first_local_ty.ensures.grows
+
+pub returns-clause-grows : goal.returns-clause-grows
+returns-clause-grows g c = c.visit_args.ensures.grows

@@ -11,7 +11,7 @@ use Rattle.candidate_eval.specs.Orphan.{view, crate_test}
 use Rattle.candidate_eval.specs.Walk.{setting}
 use Rattle.candidate_eval.proofs.Calls.{may-later, keeps-later, function-later, reached-same, reached-then}
 use Rattle.candidate_eval.proofs.Causes.{table-unnameable, take-stop, left-after, left-quietly, left-reached, left-deep, viewed-reached, viewed-nothing, viewed-item, viewed-below}
-use Rattle.candidate_eval.proofs.Stops.{passed-error, view-ends, view-stops, stops-view, walk-goes-on, deep-ends, level-left}
+use Rattle.candidate_eval.proofs.Stops.{passed-error, view-ends, view-stops, stops-view, walk-goes-on, deep-ends, on-answer, is-answer, depth-covers, broken-exit, level-left}
 use Rattle.candidate_eval.proofs.Recorded.{table-covers, take-covers, broken-covers, taken-once, ended-once}
 use Rattle.candidate_eval.proofs.Walking.{too-deep, types-kept, item-types, item-exit}
 use Rattle.candidate_eval.proofs.Visits.{visited-nothing, visited-item, visited-target, visited-arguments, item-some, target-some, arguments-some}
@@ -359,3 +359,104 @@ visit_args-returns-in_err-visit_ty-clause-calls g t c =
 pub visit_args-returns-clause-calls : goal.visit_args-returns-clause-calls
 visit_args-returns-clause-calls g t c =
     left-quietly g.C.Make.context g.F.FnMut c.args.levels _ _ _ _ _ c.loop-i.invariant.calls (walk-goes-on _)
+
+pub visit_args-returns-in_err-visit_ty-clause-grows : goal.visit_args-returns-in_err-visit_ty-clause-grows
+visit_args-returns-in_err-visit_ty-clause-grows g t c = grows-trans _ _ _ c.loop-i.invariant.grows c.in_err-visit_ty.ensures.grows
+
+pub visit_args-returns-clause-grows : goal.visit_args-returns-clause-grows
+visit_args-returns-clause-grows g t c = c.loop-i.invariant.grows
+
+pub visit_ty-returns-then-levels-eq0-clause-grows : goal.visit_ty-returns-then-levels-eq0-clause-grows
+visit_ty-returns-then-levels-eq0-clause-grows g t c = grows-refl _
+
+pub visit_ty-returns-in_err-view-clause-grows : goal.visit_ty-returns-in_err-view-clause-grows
+visit_ty-returns-in_err-view-clause-grows g t c = c.view_of.ensures.grows
+
+pub visit_args-returns-in_err-visit_ty-clause-same : goal.visit_args-returns-in_err-visit_ty-clause-same
+visit_args-returns-in_err-visit_ty-clause-same g t c = record {
+  in_crate = c.in_err-visit_ty.ensures.same.in_crate ∙ c.loop-i.invariant.same.in_crate;
+  seeks_local = c.in_err-visit_ty.ensures.same.seeks_local ∙ c.loop-i.invariant.same.seeks_local;
+}
+
+pub visit_args-returns-clause-same : goal.visit_args-returns-clause-same
+visit_args-returns-clause-same g t c = c.loop-i.invariant.same
+
+pub visit_ty-returns-then-levels-eq0-clause-same : goal.visit_ty-returns-then-levels-eq0-clause-same
+visit_ty-returns-then-levels-eq0-clause-same g t c = record { in_crate = refl; seeks_local = refl }
+
+pub visit_ty-returns-in_err-view-clause-same : goal.visit_ty-returns-in_err-view-clause-same
+visit_ty-returns-in_err-view-clause-same g t c = record { in_crate = refl; seeks_local = refl }
+
+pub visit_ty-returns-clause-same : goal.visit_ty-returns-clause-same
+visit_ty-returns-clause-same g t c =
+    elim c.match-shape_of.branch [
+      | visit_ty-in-Item w ↦ rw w.walk-is (record { in_crate = w.take-outcome.ensures.same.in_crate; seeks_local = w.take-outcome.ensures.same.seeks_local })
+      | visit_ty-in-Target w ↦ rw w.walk-is (record { in_crate = w.visit_ty-outcome.ensures.same.in_crate; seeks_local = w.visit_ty-outcome.ensures.same.seeks_local })
+      | visit_ty-in-Arguments w ↦ rw w.walk-is (record { in_crate = w.visit_args-outcome.ensures.same.in_crate; seeks_local = w.visit_args-outcome.ensures.same.seeks_local })
+    ]
+
+pub visit_ty-returns-then-levels-eq0-clause-first : goal.visit_ty-returns-then-levels-eq0-clause-first
+visit_ty-returns-then-levels-eq0-clause-first g t c = tt
+
+pub visit_ty-returns-in_err-view-clause-first : goal.visit_ty-returns-in_err-view-clause-first
+visit_ty-returns-in_err-view-clause-first g t c =
+    let p = err_from_is_err_and c.from_residual.result c.from_residual.ensures.1 in
+    rw p.1 tt
+
+pub visit_ty-returns-clause-first : goal.visit_ty-returns-clause-first
+visit_ty-returns-clause-first g t c = on-answer _ refl
+
+pub visit_ty-returns-then-levels-eq0-clause-some : goal.visit_ty-returns-then-levels-eq0-clause-some
+visit_ty-returns-then-levels-eq0-clause-some g t c = λ d h. tt
+
+pub visit_ty-returns-in_err-view-clause-some : goal.visit_ty-returns-in_err-view-clause-some
+visit_ty-returns-in_err-view-clause-some g t c =
+    let p = err_from_is_err_and c.from_residual.result c.from_residual.ensures.1 in
+    λ d h. rw p.1 tt
+
+pub visit_args-returns-in_err-visit_ty-clause-recorded : goal.visit_args-returns-in_err-visit_ty-clause-recorded
+visit_args-returns-in_err-visit_ty-clause-recorded g t c = c.in_err-visit_ty.ensures.recorded
+
+pub visit_args-returns-in_err-visit_ty-clause-firsts : goal.visit_args-returns-in_err-visit_ty-clause-firsts
+visit_args-returns-in_err-visit_ty-clause-firsts g t c =
+    let p = err_from_is_err_and c.from_residual.result c.from_residual.ensures.1 in
+    rw p.1 tt
+
+pub visit_args-returns-in_err-visit_ty-clause-exit : goal.visit_args-returns-in_err-visit_ty-clause-exit
+visit_args-returns-in_err-visit_ty-clause-exit g t c =
+    let p = err_from_is_err_and c.from_residual.result c.from_residual.ensures.1 in
+    rw (p.1, p.2) c.in_err-visit_ty.ensures.exit
+
+pub visit_args-returns-clause-recorded : goal.visit_args-returns-clause-recorded
+visit_args-returns-clause-recorded g t c = c.loop-i.invariant.recorded
+
+pub visit_args-returns-clause-firsts : goal.visit_args-returns-clause-firsts
+visit_args-returns-clause-firsts g t c = c.loop-i.invariant.firsts
+
+pub visit_args-returns-clause-covers : goal.visit_args-returns-clause-covers
+visit_args-returns-clause-covers g t c = λ u m. is-answer _ _
+
+pub visit_args-returns-clause-exit : goal.visit_args-returns-clause-exit
+visit_args-returns-clause-exit g t c = tt
+
+pub visit_ty-returns-then-levels-eq0-clause-recorded : goal.visit_ty-returns-then-levels-eq0-clause-recorded
+visit_ty-returns-then-levels-eq0-clause-recorded g t c = c.requires.recorded
+
+pub visit_ty-returns-then-levels-eq0-clause-firsts : goal.visit_ty-returns-then-levels-eq0-clause-firsts
+visit_ty-returns-then-levels-eq0-clause-firsts g t c = tt
+
+pub visit_ty-returns-then-levels-eq0-clause-covers : goal.visit_ty-returns-then-levels-eq0-clause-covers
+visit_ty-returns-then-levels-eq0-clause-covers g t c = λ u m. depth-covers _ u
+
+pub visit_ty-returns-then-levels-eq0-clause-exit : goal.visit_ty-returns-then-levels-eq0-clause-exit
+visit_ty-returns-then-levels-eq0-clause-exit g t c = tt
+
+pub visit_ty-returns-in_err-view-clause-firsts : goal.visit_ty-returns-in_err-view-clause-firsts
+visit_ty-returns-in_err-view-clause-firsts g t c =
+    let p = err_from_is_err_and c.from_residual.result c.from_residual.ensures.1 in
+    rw p.1 tt
+
+pub visit_ty-returns-in_err-view-clause-exit : goal.visit_ty-returns-in_err-view-clause-exit
+visit_ty-returns-in_err-view-clause-exit g t c =
+    let p = err_from_is_err_and c.from_residual.result c.from_residual.ensures.1 in
+    rw (p.1, p.2) (broken-exit _ c.in_err-view.field-0.0)
