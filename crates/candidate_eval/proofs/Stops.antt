@@ -49,8 +49,14 @@ module _ {A E : Type 0} where
       → (s : Stop) → (let r : Result A (EarlyExit E) = Err x in r ≡ Err (X.Broken (O.Stop s))) → ⊥
   failure-ends x o f i j s e = cc
 
+pub local-is-no-stop : {E : Type 0} (t : Ty) (s : Stop) → (let x : EarlyExit E = X.Local t in x ≡ X.Broken (O.Stop s)) → ⊥
+local-is-no-stop t s e = cc
+
 pub uncovered-is-no-stop : {E : Type 0} (t : Ty) (s : Stop) → (let x : EarlyExit E = X.Uncovered t in x ≡ X.Broken (O.Stop s)) → ⊥
 uncovered-is-no-stop t s e = cc
+
+pub broken-stops : {A E : Type 0} (o : OrphanStop E) (s : Stop) → X.Broken o ≡ X.Broken (O.Stop s) → StopsWith {A = A} {E = E} (Err o) s
+broken-stops o s e = let k : o ≡ O.Stop s = cc in ap Err k
 
 -- a walk's stop is the check's
 module _ {A B E : Type 0} (x : EarlyExit E) (o : OrphanStop E) where

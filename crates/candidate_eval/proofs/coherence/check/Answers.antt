@@ -1,13 +1,14 @@
 use Rattle.std.proofs.Common.{◌≡◌, Ok, Err, refl}
 use Rattle.candidate_ir.specs.Trees.{Tree}
+use Rattle.candidate_ir.specs.Words.{args_forest}
 use Rattle.candidate_ir.proofs.Kept.{grows-trans, args-kept, ty-kept}
 use Rattle.candidate_eval.specs.Calls.{depth_limit}
 use Rattle.candidate_eval.specs.Answers.{second_answer}
 use Rattle.candidate_eval.specs.Orphan.{Answer, Checked, view}
 use Rattle.candidate_eval.proofs.Calls.{may-later, keeps-later, function-later}
 use Rattle.candidate_eval.proofs.Causes.{left-after, left-reached, left-same}
-use Rattle.candidate_eval.proofs.Stops.{walk-goes-on, local-ends, uncovered-ends, uncovered-is-no-stop, walk-stops, stops-walk, second-ends, second-stops, stops-second, check-ends}
-use Rattle.candidate_eval.proofs.Checks.{uncovered-checked}
+use Rattle.candidate_eval.proofs.Stops.{walk-goes-on, local-ends, uncovered-ends, local-is-no-stop, uncovered-is-no-stop, broken-stops, walk-stops, stops-walk, second-ends, second-stops, stops-second, check-ends}
+use Rattle.candidate_eval.proofs.Checks.{passed-checked, local-checked, broken-checked, uncovered-checked}
 use Rattle.candidate_eval.proofs.coherence.check.Goals as goal
 
 pub first_local_ty-requires-clause-args : goal.first_local_ty-requires-clause-args
@@ -103,3 +104,32 @@ returns-in-Err-Uncovered-clause-grows g c = grows-trans _ _ _ c.visit_args.ensur
 
 pub returns-clause-grows : goal.returns-clause-grows
 returns-clause-grows g c = c.visit_args.ensures.grows
+
+pub returns-in-Ok-clause-answer : goal.returns-in-Ok-clause-answer
+returns-in-Ok-clause-answer g c = record {
+  at = λ d h told.
+      passed-checked (g.C.Make.context c.args.infcx.now) c.args.in_crate (view (λ s u. g.C.InferCtxtLike.resolved s.1 u) d.normal) depth_limit
+      (args_forest (g.C.Make.context c.args.infcx.now).trees c.args.trait_ref.args) (d.stands (c.args.normalize.now, c.args.infcx.now))
+      (d.stands (c.visit_args.new.normalize, c.visit_args.new.infcx)) (g.C.Make.context c.visit_args.new.infcx).trees
+      _ _ refl refl c.new.ensures.items (c.in-Ok.ensures.outcome d h);
+}
+
+pub returns-in-Err-Local-clause-answer : goal.returns-in-Err-Local-clause-answer
+returns-in-Err-Local-clause-answer g c = record {
+  at = λ d h told.
+      let first = rw c.in-Err-Local.field-0-is at c.in-Err-Local.ensures in
+      local-checked (g.C.Make.context c.args.infcx.now) c.args.in_crate (view (λ s u. g.C.InferCtxtLike.resolved s.1 u) d.normal) depth_limit
+      (args_forest (g.C.Make.context c.args.infcx.now).trees c.args.trait_ref.args) (d.stands (c.args.normalize.now, c.args.infcx.now))
+      (d.stands (c.visit_args.new.normalize, c.visit_args.new.infcx)) (g.C.Make.context c.visit_args.new.infcx).trees
+      _ (first.outcome d h (λ z o. local-is-no-stop _ z));
+}
+
+pub returns-clause-answer : goal.returns-clause-answer
+returns-clause-answer g c = record {
+  at = λ d h told.
+      let first = rw c.in-Err-Broken.field-0-is at c.in-Err-Broken.ensures in
+      broken-checked (g.C.Make.context c.args.infcx.now) c.args.in_crate (view (λ s u. g.C.InferCtxtLike.resolved s.1 u) d.normal) depth_limit
+      (args_forest (g.C.Make.context c.args.infcx.now).trees c.args.trait_ref.args) (d.stands (c.args.normalize.now, c.args.infcx.now))
+      (d.stands (c.visit_args.new.normalize, c.visit_args.new.infcx)) (g.C.Make.context c.visit_args.new.infcx).trees
+      c.in-Err-Broken.stop (first.outcome d h (λ z o x. told z o (broken-stops _ z x)));
+}
