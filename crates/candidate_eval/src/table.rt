@@ -106,7 +106,7 @@ fn shape_of_adt(cx: &Cx, in_crate: InCrate, id: AdtId, args: Args) -> Shape
     } else if cx.adt_is_fundamental(id) {
         Shape::Arguments(args)
     } else {
-        Shape::Item(ViewClass::NonLocal)
+        Shape::Item(ViewClass::NonLocal) // whatever its arguments are
     }
 }
 
