@@ -85,6 +85,9 @@ second-stops z s e = let k : z ≡ s = cc in ap Err (ap O.Stop k)
 pub stops-second : {A B E : Type 0} (z s : Stop) → StopsWith {A = B} {E = E} (Err (O.Stop z)) s → (let r : Result A Stop = Err z in r ≡ Err s)
 stops-second z s e = let k : z ≡ s = cc in ap Err k
 
+pub stop-of-second : {A E : Type 0} (z s : Stop) → (let x : EarlyExit E = X.Broken (O.Stop z) in x ≡ X.Broken (O.Stop s)) → (let r : Result A Stop = Err z in r ≡ Err s)
+stop-of-second z s e = let k : z ≡ s = cc in ap Err k
+
 -- a check's answer is no stop
 pub check-ends : {A E : Type 0} (a : A) (s : Stop) → StopsWith {A = A} {E = E} (Ok a) s → ⊥
 check-ends a s e = cc

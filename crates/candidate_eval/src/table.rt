@@ -17,7 +17,7 @@ use candidate_ir::ir::kinds::{
 };
 
 /// The classes of the items of a frontier.
-#[derive(Clone, Copy, PartialEq, Eq)]
+#[derive(Clone, Copy)]
 pub enum ViewClass {
     NonLocal,
     Skipped,

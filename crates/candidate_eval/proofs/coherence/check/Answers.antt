@@ -3,12 +3,13 @@ use Rattle.candidate_ir.specs.Trees.{Tree}
 use Rattle.candidate_ir.specs.Words.{args_forest}
 use Rattle.candidate_ir.proofs.Kept.{grows-trans, args-kept, ty-kept}
 use Rattle.candidate_eval.specs.Calls.{depth_limit}
+use Rattle.candidate_eval.specs.declared.coherence.OrphanStop.TheVariants as O
 use Rattle.candidate_eval.specs.Answers.{second_answer}
 use Rattle.candidate_eval.specs.Orphan.{Answer, Checked, view}
 use Rattle.candidate_eval.proofs.Calls.{may-later, keeps-later, function-later}
 use Rattle.candidate_eval.proofs.Causes.{left-after, left-reached, left-same}
 use Rattle.candidate_eval.proofs.Stops.{walk-goes-on, local-ends, uncovered-ends, local-is-no-stop, uncovered-is-no-stop, broken-stops, walk-stops, stops-walk, second-ends, second-stops, stops-second, check-ends}
-use Rattle.candidate_eval.proofs.Checks.{passed-checked, local-checked, broken-checked, uncovered-checked}
+use Rattle.candidate_eval.proofs.Checks.{passed-checked, local-checked, broken-checked, only-list, passes-no-list, uncovered-no-list, stop-no-list, uncovered-checked}
 use Rattle.candidate_eval.proofs.coherence.check.Goals as goal
 
 pub first_local_ty-requires-clause-args : goal.first_local_ty-requires-clause-args
@@ -133,3 +134,47 @@ returns-clause-answer g c = record {
       (d.stands (c.visit_args.new.normalize, c.visit_args.new.infcx)) (g.C.Make.context c.visit_args.new.infcx).trees
       c.in-Err-Broken.stop (first.outcome d h (λ z o x. told z o (broken-stops _ z x)));
 }
+
+pub returns-in-Ok-clause-types : goal.returns-in-Ok-clause-types
+returns-in-Ok-clause-types g c = c.in-Ok.ensures.recorded
+
+pub returns-in-Err-Local-clause-types : goal.returns-in-Err-Local-clause-types
+returns-in-Err-Local-clause-types g c = tt
+
+pub returns-in-Err-Uncovered-clause-types : goal.returns-in-Err-Uncovered-clause-types
+returns-in-Err-Uncovered-clause-types g c = tt
+
+pub returns-clause-types : goal.returns-clause-types
+returns-clause-types g c = tt
+
+pub returns-in-Ok-clause-covers : goal.returns-in-Ok-clause-covers
+returns-in-Ok-clause-covers g c = λ m e. e
+
+pub returns-in-Err-Local-clause-covers : goal.returns-in-Err-Local-clause-covers
+returns-in-Err-Local-clause-covers g c = λ m e. e
+
+pub returns-in-Err-Uncovered-clause-covers : goal.returns-in-Err-Uncovered-clause-covers
+returns-in-Err-Uncovered-clause-covers g c = λ m e. e
+
+pub returns-clause-covers : goal.returns-clause-covers
+returns-clause-covers g c = λ m e. e
+
+pub returns-in-Ok-first_local_ty-clause-covers : goal.returns-in-Ok-first_local_ty-clause-covers
+returns-in-Ok-first_local_ty-clause-covers g c =
+    let first = rw c.in-Err-Uncovered.field-0-is at c.in-Err-Uncovered.ensures in
+    λ m e. first.covers c.in-Err-Uncovered.uncovered m refl
+
+pub returns-in-Ok-clause-first_input_once : goal.returns-in-Ok-clause-first_input_once
+returns-in-Ok-clause-first_input_once g c = λ l e. only-list _ l (c.in-Ok.ensures.firsts.once _) e
+
+pub returns-in-Err-Local-clause-first_input_once : goal.returns-in-Err-Local-clause-first_input_once
+returns-in-Err-Local-clause-first_input_once g c = λ l e. absurd (passes-no-list l e)
+
+pub returns-in-Ok-first_local_ty-clause-first_input_once : goal.returns-in-Ok-first_local_ty-clause-first_input_once
+returns-in-Ok-first_local_ty-clause-first_input_once g c = λ l e. absurd (uncovered-no-list _ _ l e)
+
+pub returns-in-Err-Uncovered-clause-first_input_once : goal.returns-in-Err-Uncovered-clause-first_input_once
+returns-in-Err-Uncovered-clause-first_input_once g c = λ l e. absurd (stop-no-list (g.C.Make.context c.first_local_ty.new.infcx).trees (O.Stop c.in-Err.stop) l e)
+
+pub returns-clause-first_input_once : goal.returns-clause-first_input_once
+returns-clause-first_input_once g c = λ l e. absurd (stop-no-list (g.C.Make.context c.visit_args.new.infcx).trees c.in-Err-Broken.stop l e)

@@ -1,6 +1,9 @@
+use Rattle.candidate_ir.specs.Words.{args_forest}
 use Rattle.candidate_eval.specs.Calls.{depth_limit}
+use Rattle.candidate_eval.specs.Orphan.{view}
 use Rattle.candidate_eval.proofs.Causes.{left-same}
-use Rattle.candidate_eval.proofs.Stops.{walk-goes-on, local-ends, uncovered-ends, failure-ends, walk-stops-second, second-stops-walk, second-ends}
+use Rattle.candidate_eval.proofs.Stops.{walk-goes-on, local-ends, uncovered-ends, failure-ends, walk-stops-second, second-stops-walk, second-ends, stop-of-second}
+use Rattle.candidate_eval.proofs.Checks.{second-stopped}
 use Rattle.candidate_eval.proofs.coherence.first_local_ty.Goals as goal
 
 pub returns-in-Err-Local-clause-calls : goal.returns-in-Err-Local-clause-calls
@@ -44,3 +47,12 @@ returns-in-Err-Uncovered-clause-grows g c = c.visit_args.ensures.grows
 
 pub returns-clause-grows : goal.returns-clause-grows
 returns-clause-grows g c = c.visit_args.ensures.grows
+
+pub returns-in-Err-Broken-Stop-clause-answer : goal.returns-in-Err-Broken-Stop-clause-answer
+returns-in-Err-Broken-Stop-clause-answer g c =
+    λ d h told t.
+    let first = rw (c.in-Err-Broken-Stop.field-0-is, c.in-Err-Broken-Stop.field-0-0-is) at c.in-Err-Broken-Stop.ensures.outcome d h in
+    second-stopped (g.C.Make.context c.args.infcx.now) c.args.in_crate (view (λ s u. g.C.InferCtxtLike.resolved s.1 u) d.normal) depth_limit
+    (args_forest (g.C.Make.context c.args.infcx.now).trees c.args.args) (d.stands (c.args.normalize.now, c.args.infcx.now))
+    (d.stands (c.visit_args.new.normalize, c.visit_args.new.infcx)) (g.C.Make.context c.visit_args.new.infcx).trees c.in-Err-Broken-Stop.stop
+    (first (λ z o x. told z o (stop-of-second _ z x))) t
