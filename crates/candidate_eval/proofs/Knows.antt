@@ -15,7 +15,7 @@ use Rattle.candidate_eval.specs.declared.coherence.OrphanStop.{OrphanStop}
 use Rattle.candidate_eval.specs.declared.coherence.OrphanStop.TheVariants as O
 use Rattle.candidate_ir.specs.References.{reference_of}
 use Rattle.candidate_eval.specs.Answers.{CheckResult, answer_of, knowledge_of}
-use Rattle.candidate_eval.specs.Orphan.{InCrate, Local, Remote, Proper, View, Answer, Checked, orphan_answer, Knowable, Upstream, knowability, local_or_fundamental, by_answer, by_proper_check, by_remote_check}
+use Rattle.candidate_eval.specs.Orphan.{InCrate, Local, Remote, Proper, View, Answer, Checked, orphan_answer, Knowability, Knowable, Upstream, Downstream, knowability, local_or_fundamental, by_answer, by_proper_check, by_remote_check}
 
 -- a check in a context that has grown is the check from the begin
 pub check-there : {S E : Type 0} (c0 c1 : Context) (g : Grows c0 c1) (m : InCrate) (see : View S E) (n : ℕ) (s : S) (a : Args) → IsArgs c0.trees a
@@ -33,6 +33,33 @@ remote-fails ts own proper s (Err (C.NonLocalInputType v)) e o =
     ap (λ (b : Bool). if b then record { answer = Knowable; after = s } else by_proper_check (proper s)) o
 remote-fails ts own proper s (Err (C.UncoveredTyParams v)) e o =
     ap (λ (b : Bool). if b then record { answer = Knowable; after = s } else by_proper_check (proper s)) o
+
+-- the remote check decides, or the trait
+module _ {S E : Type 0} (w : World) (c n : ℕ) (see : View S E) (s s1 : S) (r : Reference) (ts : List Tree) where
+  decided-at : (a : Answer E) (k : Checked S (Knowability E)) → orphan_answer w c Remote see n s r.arguments ≡ record { answer = a; after = s1 }
+      → by_remote_check (local_or_fundamental w c r.trait) (λ t. orphan_answer w c (Local Proper) see n t r.arguments) s1 a ≡ k → knowability w c see n s r ≡ k
+  decided-at a k f e =
+      ap (λ (x : Checked S (Answer E)). by_remote_check (local_or_fundamental w c r.trait) (λ t. orphan_answer w c (Local Proper) see n t r.arguments) x.after x.answer) f ∙ e
+
+  pub knows-stop : (o : OrphanStop E) → orphan_answer w c Remote see n s r.arguments ≡ record { answer = answer_of ts (Err o); after = s1 }
+      → knowability w c see n s r ≡ record { answer = knowledge_of (Err o); after = s1 }
+  knows-stop (O.Normalize e) f = decided-at _ _ f refl
+  knows-stop (O.Stop z) f = decided-at _ _ f refl
+
+  pub knows-downstream : (remote : Result (Unit {0}) (OrphanCheckErr Ty)) → is_ok remote ≡ true
+      → orphan_answer w c Remote see n s r.arguments ≡ record { answer = answer_of ts (Ok remote); after = s1 }
+      → knowability w c see n s r ≡ record { answer = Downstream; after = s1 }
+  knows-downstream (Ok u) i f = decided-at _ _ f refl
+  knows-downstream (Err x) i f = cc
+
+  pub knows-own : (remote : Result (Unit {0}) (OrphanCheckErr Ty)) → is_ok remote ≡ false → local_or_fundamental w c r.trait ≡ true
+      → orphan_answer w c Remote see n s r.arguments ≡ record { answer = answer_of ts (Ok remote); after = s1 }
+      → knowability w c see n s r ≡ record { answer = Knowable; after = s1 }
+  knows-own (Ok u) i o f = cc
+  knows-own (Err (C.NonLocalInputType v)) i o f =
+      decided-at _ _ f (ap (λ (b : Bool). if b then record { answer = Knowable; after = s1 } else by_proper_check (orphan_answer w c (Local Proper) see n s1 r.arguments)) o)
+  knows-own (Err (C.UncoveredTyParams v)) i o f =
+      decided-at _ _ f (ap (λ (b : Bool). if b then record { answer = Knowable; after = s1 } else by_proper_check (orphan_answer w c (Local Proper) see n s1 r.arguments)) o)
 
 -- neither the remote check nor the trait decides
 pub by-local-check : {S E : Type 0} (w : World) (c n : ℕ) (see : View S E) (s s1 s2 : S) (r : Reference) (ts us : List Tree)
@@ -61,6 +88,13 @@ pub local-stops : {E : Type 0} (ts : List Tree) (o : OrphanStop E) → by_answer
 local-stops ts (O.Normalize e) = refl
 local-stops ts (O.Stop s) = refl
 
+-- what is said of a trait in a context that has grown was so before
+pub own-kept : (c0 c1 : Context) → Grows c0 c1 → (i : ℕ) (b : Bool) → local_or_fundamental (world c1) c1.local.0 i ≡ b → local_or_fundamental (world c0) c0.local.0 i ≡ b
+own-kept c0 c1 g i b o =
+    let w = world-kept c0 c1 g in
+    ap (λ (x : World). local_or_fundamental x c0.local.0 i) (sym w.0)
+    ∙ (ap (λ (x : _). local_or_fundamental (world c1) x i) (ap (λ c. c.0) (sym w.1)) ∙ o)
+
 -- the same in the contexts of the two checks
 pub knows-locally : {S E : Type 0} (c0 c1 : Context) → Grows c0 c1 → (see : View S E) (n : ℕ) (s s1 s2 : S) (r : TraitRef) → IsArgs c0.trees r.args → (us : List Tree)
     (remote : Result (Unit {0}) (OrphanCheckErr Ty)) (local : CheckResult E)
@@ -69,9 +103,5 @@ pub knows-locally : {S E : Type 0} (c0 c1 : Context) → Grows c0 c1 → (see : 
     → orphan_answer (world c1) c1.local.0 (Local Proper) see n s1 (args_forest c1.trees r.args) ≡ record { answer = answer_of us local; after = s2 }
     → knowability (world c0) c0.local.0 see n s (reference_of c0.trees r) ≡ record { answer = by_answer (answer_of us local); after = s2 }
 knows-locally c0 c1 g see n s s1 s2 r i us remote local e o f k =
-    let w = world-kept c0 c1 g in
-    let own : local_or_fundamental (world c0) c0.local.0 r.def_id.0 ≡ false =
-    ap (λ (x : World). local_or_fundamental x c0.local.0 r.def_id.0) (sym w.0)
-    ∙ (ap (λ (x : _). local_or_fundamental (world c1) x r.def_id.0) (ap (λ c. c.0) (sym w.1)) ∙ o) in
-    by-local-check (world c0) c0.local.0 n see s s1 s2 (reference_of c0.trees r) c1.trees us remote local e own f
+    by-local-check (world c0) c0.local.0 n see s s1 s2 (reference_of c0.trees r) c1.trees us remote local e (own-kept c0 c1 g r.def_id.0 false o) f
     (check-there c0 c1 g (Local Proper) see n s1 r.args i ∙ k)

@@ -1,5 +1,5 @@
 -- The shapes of views.
-use Rattle.std.proofs.Common.{◌≡◌, List, Bool, true, false, Option, Some, None, refl, sym, ◌∙◌, ap}
+use Rattle.std.proofs.Common.{◌≡◌, ◌&&◌, not, List, Bool, true, false, Option, Some, None, refl, sym, ◌∙◌, ap}
 use Rattle.candidate_ir.specs.declared.ir.heads.Head.{Head}
 use Rattle.candidate_ir.specs.declared.ir.heads.Head.TheVariants as H
 use Rattle.candidate_ir.specs.declared.ir.heads.PartHead.TheVariants as P
@@ -20,8 +20,11 @@ use Rattle.candidate_ir.specs.Trees.{TypeKind, RegionKind, ArgumentsKind, Predic
 use Rattle.candidate_ir.specs.Worlds.{World}
 use Rattle.candidate_ir.specs.Words.{KindFits, kind_tree, args_forest, preds_forest}
 use Rattle.candidate_ir.proofs.Rows.{join-none, kind-of, row-single, row-list}
-use Rattle.candidate_eval.specs.Orphan.{CrateTest, is_local, is_fundamental, by_bound, principal_passes}
-use Rattle.candidate_eval.specs.Shapes.{IsReference, IsFundamental}
+use Rattle.candidate_eval.specs.Orphan.{InCrate, CrateTest, crate_test, is_local, is_fundamental, by_bound, principal_passes}
+use Rattle.candidate_eval.specs.Shapes.{IsReference, IsFundamental, IsShape}
+use Rattle.candidate_eval.specs.Table.{owned_in}
+use Rattle.candidate_eval.specs.declared.table.Shape.TheVariants as S
+use Rattle.candidate_eval.specs.declared.table.ViewClass.TheVariants as V
 
 pub fundamental-shape : (c : Context) (test : CrateTest) (id : AdtId) (a : Args) → KindFits c.trees (K.Adt id a)
     → is_local (world c) test id.0 ≡ false → is_fundamental (world c) id.0 ≡ true
@@ -35,6 +38,14 @@ fundamental-shape c test id a f l u =
       is_foreign = l;
       fundamental = u;
     }
+
+pub foreign-shape : (c : Context) (m : InCrate) (id : AdtId) (a : Args) → is_local (world c) (crate_test m c.local.0) id.0 ≡ false → is_fundamental (world c) id.0 ≡ false
+    → IsShape c m (kind_tree c.trees (K.Adt id a)) (S.Item V.NonLocal)
+foreign-shape c m id a l u = (ap (λ (b : Bool). not (is_local (world c) (crate_test m c.local.0) id.0) && b) u ∙ and-false (not (is_local (world c) (crate_test m c.local.0) id.0)), ap owned_in l)
+  where
+    and-false : (b : Bool) → (b && false) ≡ false
+    and-false true = refl
+    and-false false = refl
 
 pub reference-shape : (ts : List Tree) (r : Region) (t : Ty) (m : Mutability) → KindFits ts (K.Ref r t m)
     → IsReference ts (kind_tree ts (K.Ref r t m)) t

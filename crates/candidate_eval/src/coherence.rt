@@ -23,7 +23,7 @@ use std::alloc::Global;
 use std::fmt;
 
 /// How projections that hold variables count.
-#[derive(Clone, Copy, Debug, PartialEq, Eq)]
+#[derive(Clone, Copy, Debug)]
 pub enum OrphanCheckMode {
     /// As uncovered: the rule proper.
     Proper,
@@ -32,7 +32,7 @@ pub enum OrphanCheckMode {
 }
 
 /// For which crate a reference is checked.
-#[derive(Clone, Copy, Debug, PartialEq, Eq)]
+#[derive(Clone, Copy, Debug)]
 pub enum InCrate {
     /// For the local crate.
     Local { mode: OrphanCheckMode },
@@ -79,7 +79,7 @@ pub struct UncoveredTyParams<T> {
 }
 
 /// Why a normaliser has no answer.
-#[derive(Clone, Copy, Debug, Drop)]
+#[derive(Debug, Drop)]
 pub enum NormalizeErr<E> {
     /// The type has no normal form.
     Failed(E),
@@ -88,7 +88,7 @@ pub enum NormalizeErr<E> {
 }
 
 /// Why a check has no answer.
-#[derive(Clone, Copy, Debug, Drop)]
+#[derive(Debug, Drop)]
 pub enum OrphanStop<E> {
     /// The normaliser failed.
     Normalize(E),

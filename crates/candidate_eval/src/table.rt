@@ -17,7 +17,7 @@ use candidate_ir::ir::kinds::{
 };
 
 /// The classes of the items of a frontier.
-#[derive(Clone, Copy, PartialEq, Eq)]
+#[derive(Clone, Copy)]
 pub enum ViewClass {
     NonLocal,
     Skipped,
@@ -106,7 +106,7 @@ fn shape_of_adt(cx: &Cx, in_crate: InCrate, id: AdtId, args: Args) -> Shape
     } else if cx.adt_is_fundamental(id) {
         Shape::Arguments(args)
     } else {
-        Shape::Item(ViewClass::NonLocal)
+        Shape::Item(ViewClass::NonLocal) // whatever its arguments are
     }
 }
 

@@ -10,7 +10,8 @@ use Rattle.candidate_eval.proofs.Loops.{index-below, next-skip, next-visit, next
 use Rattle.candidate_eval.specs.Orphan.{view, crate_test}
 use Rattle.candidate_eval.specs.Walk.{setting}
 use Rattle.candidate_eval.proofs.Calls.{may-later, keeps-later, function-later, reached-same, reached-then}
-use Rattle.candidate_eval.proofs.Causes.{table-unnameable, broken-stop, stop-broken, take-stop, left-after, left-quietly, left-reached, left-deep, viewed-reached, viewed-nothing, viewed-item, viewed-below}
+use Rattle.candidate_eval.proofs.Causes.{table-unnameable, take-stop, left-after, left-quietly, left-reached, left-deep, viewed-reached, viewed-nothing, viewed-item, viewed-below}
+use Rattle.candidate_eval.proofs.Stops.{passed-error, view-ends, view-stops, stops-view, walk-goes-on, deep-ends, on-answer, is-answer, depth-covers, broken-exit, level-left}
 use Rattle.candidate_eval.proofs.Recorded.{table-covers, take-covers, broken-covers, taken-once, ended-once}
 use Rattle.candidate_eval.proofs.Walking.{too-deep, types-kept, item-types, item-exit}
 use Rattle.candidate_eval.proofs.Visits.{visited-nothing, visited-item, visited-target, visited-arguments, item-some, target-some, arguments-some}
@@ -28,7 +29,7 @@ visit_ty-returns-in_err-view-clause-recorded g t c = types-kept _ _ c.args.walk.
 pub visit_ty-returns-in_err-view-clause-outcome : goal.visit_ty-returns-in_err-view-clause-outcome
 visit_ty-returns-in_err-view-clause-outcome g t c = λ d h.
     let p = err_from_is_err_and c.from_residual.result c.from_residual.ensures.1 in
-    let levels : c.args.levels ≡ suc (c.args.levels - 1) = omega arith in
+    let levels : c.args.levels ≡ suc (c.args.levels - 1) = level-left _ c.if-levels-eq0.false in
     visited-nothing (setting (g.C.Make.context c.args.infcx.now) c.args.walk.now.in_crate) (view (λ s u. g.C.InferCtxtLike.resolved s.1 u) d.normal)
     (g.C.Make.context c.view_of.new.infcx).trees c.args.levels (c.args.levels - 1) levels _ _ _ _ c.args.walk.now c.from_residual.result p.0 p.1 p.2
     d.untold (c.in_err-view.ensures.view d h)
@@ -46,9 +47,9 @@ visit_ty-visit_ty-outcome-requires g t c κs within =
             (
               r.sort,
               (
-                may-later g.C.Make.context g.F.FnMut _ _ _ _ (viewed-reached g.C.Make.context g.F.FnMut _ _ _ _ _ c.in_ok-view.ensures.call (λ s e. cc)) c.view_of.ensures.grows c.requires.callable,
+                may-later g.C.Make.context g.F.FnMut _ _ _ _ (viewed-reached g.C.Make.context g.F.FnMut _ _ _ _ _ c.in_ok-view.ensures.call (view-ends _)) c.view_of.ensures.grows c.requires.callable,
                 (
-                  keeps-later g.C.Make.context g.F.FnMut _ _ _ _ (viewed-reached g.C.Make.context g.F.FnMut _ _ _ _ _ c.in_ok-view.ensures.call (λ s e. cc)) c.view_of.ensures.grows c.requires.keeps,
+                  keeps-later g.C.Make.context g.F.FnMut _ _ _ _ (viewed-reached g.C.Make.context g.F.FnMut _ _ _ _ _ c.in_ok-view.ensures.call (view-ends _)) c.view_of.ensures.grows c.requires.keeps,
                   (types-kept _ _ c.args.walk.now.non_local.items c.view_of.ensures.grows c.requires.recorded, c.requires.firsts),
                 ),
               ),
@@ -71,9 +72,9 @@ visit_ty-visit_args-outcome-requires g t c κs within =
             (
               r.sort,
               (
-                may-later g.C.Make.context g.F.FnMut _ _ _ _ (viewed-reached g.C.Make.context g.F.FnMut _ _ _ _ _ c.in_ok-view.ensures.call (λ s e. cc)) c.view_of.ensures.grows c.requires.callable,
+                may-later g.C.Make.context g.F.FnMut _ _ _ _ (viewed-reached g.C.Make.context g.F.FnMut _ _ _ _ _ c.in_ok-view.ensures.call (view-ends _)) c.view_of.ensures.grows c.requires.callable,
                 (
-                  keeps-later g.C.Make.context g.F.FnMut _ _ _ _ (viewed-reached g.C.Make.context g.F.FnMut _ _ _ _ _ c.in_ok-view.ensures.call (λ s e. cc)) c.view_of.ensures.grows c.requires.keeps,
+                  keeps-later g.C.Make.context g.F.FnMut _ _ _ _ (viewed-reached g.C.Make.context g.F.FnMut _ _ _ _ _ c.in_ok-view.ensures.call (view-ends _)) c.view_of.ensures.grows c.requires.keeps,
                   (types-kept _ _ c.args.walk.now.non_local.items c.view_of.ensures.grows c.requires.recorded, c.requires.firsts),
                 ),
               ),
@@ -86,7 +87,7 @@ visit_ty-visit_args-outcome-requires g t c κs within =
 pub visit_ty-returns-clause-outcome : goal.visit_ty-returns-clause-outcome
 visit_ty-returns-clause-outcome g t c = λ d h.
     let see = view (λ s u. g.C.InferCtxtLike.resolved s.1 u) d.normal in
-    let levels : c.args.levels ≡ suc (c.args.levels - 1) = omega arith in
+    let levels : c.args.levels ≡ suc (c.args.levels - 1) = level-left _ c.if-levels-eq0.false in
     let c0 = g.C.Make.context c.args.infcx.now in
     let c1 = g.C.Make.context c.view_of.new.infcx in
     let grows = c.view_of.ensures.grows in
@@ -94,9 +95,9 @@ visit_ty-returns-clause-outcome g t c = λ d h.
     let s0 : g.row.F.Denot × g.row.C.Denot = d.stands (c.args.normalize.now, c.args.infcx.now) in
     let s1 : g.row.F.Denot × g.row.C.Denot = d.stands (c.view_of.new.normalize, c.view_of.new.infcx) in
     let tree = ty_tree c0.trees c.args.ty in
-    let seen = c.in_ok-view.ensures.view d h (λ s o e. cc) in
+    let seen = c.in_ok-view.ensures.view d h (λ s o. view-ends _ s) in
     let later = function-later g.C.Make.context g.F.FnMut c.args.normalize.now c.args.infcx.now c.view_of.new.normalize c.view_of.new.infcx
-    (viewed-reached g.C.Make.context g.F.FnMut _ _ _ _ _ c.in_ok-view.ensures.call (λ s e. cc)) grows g.C.InferCtxtLike.resolved d h in
+    (viewed-reached g.C.Make.context g.F.FnMut _ _ _ _ _ c.in_ok-view.ensures.call (view-ends _)) grows g.C.InferCtxtLike.resolved d h in
     elim c.match-shape_of.branch [
       | visit_ty-in-Item w ↦ rw (w.infcx-is, w.normalize-is, w.walk-is, w.outcome-is)
           (visited-item c0 c1 m grows see c.args.levels (c.args.levels - 1) levels s0 s1 tree c.in_ok-view.view seen w.in-Item.class
@@ -114,7 +115,7 @@ visit_ty-returns-clause-outcome g t c = λ d h.
 pub visit_ty-returns-clause-some : goal.visit_ty-returns-clause-some
 visit_ty-returns-clause-some g t c = λ d h.
     let see = view (λ s u. g.C.InferCtxtLike.resolved s.1 u) d.normal in
-    let levels : c.args.levels ≡ suc (c.args.levels - 1) = omega arith in
+    let levels : c.args.levels ≡ suc (c.args.levels - 1) = level-left _ c.if-levels-eq0.false in
     let c0 = g.C.Make.context c.args.infcx.now in
     let c1 = g.C.Make.context c.view_of.new.infcx in
     let grows = c.view_of.ensures.grows in
@@ -122,9 +123,9 @@ visit_ty-returns-clause-some g t c = λ d h.
     let s0 : g.row.F.Denot × g.row.C.Denot = d.stands (c.args.normalize.now, c.args.infcx.now) in
     let s1 : g.row.F.Denot × g.row.C.Denot = d.stands (c.view_of.new.normalize, c.view_of.new.infcx) in
     let tree = ty_tree c0.trees c.args.ty in
-    let seen = c.in_ok-view.ensures.view d h (λ s o e. cc) in
+    let seen = c.in_ok-view.ensures.view d h (λ s o. view-ends _ s) in
     let later = function-later g.C.Make.context g.F.FnMut c.args.normalize.now c.args.infcx.now c.view_of.new.normalize c.view_of.new.infcx
-    (viewed-reached g.C.Make.context g.F.FnMut _ _ _ _ _ c.in_ok-view.ensures.call (λ s e. cc)) grows g.C.InferCtxtLike.resolved d h in
+    (viewed-reached g.C.Make.context g.F.FnMut _ _ _ _ _ c.in_ok-view.ensures.call (view-ends _)) grows g.C.InferCtxtLike.resolved d h in
     elim c.match-shape_of.branch [
       | visit_ty-in-Item w ↦ rw w.outcome-is
           (item-some c0 c1 m grows see c.args.levels (c.args.levels - 1) levels s0 s1 tree c.in_ok-view.view seen w.in-Item.class
@@ -178,7 +179,7 @@ visit_ty-returns-clause-firsts g t c =
 pub visit_ty-returns-in_err-view-clause-covers : goal.visit_ty-returns-in_err-view-clause-covers
 visit_ty-returns-in_err-view-clause-covers g t c = λ u m e.
     let p = err_from_is_err_and c.from_residual.result c.from_residual.ensures.1 in
-    broken-covers c.in_err-view.field-0.0 u cc
+    broken-covers c.in_err-view.field-0.0 u (passed-error _ _ _ _ p.1 p.2 e)
 
 pub visit_ty-returns-clause-covers : goal.visit_ty-returns-clause-covers
 visit_ty-returns-clause-covers g t c = λ u m e.
@@ -196,7 +197,7 @@ visit_ty-returns-clause-covers g t c = λ u m e.
 pub visit_args-returns-in_err-visit_ty-clause-covers : goal.visit_args-returns-in_err-visit_ty-clause-covers
 visit_args-returns-in_err-visit_ty-clause-covers g t c = λ u m e.
     let p = err_from_is_err_and c.from_residual.result c.from_residual.ensures.1 in
-    c.in_err-visit_ty.ensures.covers u (c.loop-i.invariant.same.in_crate ∙ m) cc
+    c.in_err-visit_ty.ensures.covers u (c.loop-i.invariant.same.in_crate ∙ m) (sym (p.1 ∙ ap Err p.2) ∙ e)
 
 pub visit_args-loop-i-init : goal.visit_args-loop-i-init
 visit_args-loop-i-init g t c =
@@ -265,7 +266,7 @@ visit_args-loop-i-preserved g t c =
       | visit_args-in-Ty+in_ok-visit_ty w ↦ rw (w.infcx-is, w.normalize-is, w.walk-is)
           (record {
             grows = grows-trans _ _ _ here.grows w.in_ok-visit_ty.ensures.grows;
-            calls = reached-then g.C.Make.context g.F.FnMut _ _ _ _ _ _ here.calls (left-reached g.C.Make.context g.F.FnMut c.args.levels _ _ _ _ _ w.in_ok-visit_ty.ensures.calls (λ s e. cc));
+            calls = reached-then g.C.Make.context g.F.FnMut _ _ _ _ _ _ here.calls (left-reached g.C.Make.context g.F.FnMut c.args.levels _ _ _ _ _ w.in_ok-visit_ty.ensures.calls (walk-goes-on _));
             same = record {
               in_crate = w.in_ok-visit_ty.ensures.same.in_crate ∙ here.same.in_crate;
               seeks_local = w.in_ok-visit_ty.ensures.same.seeks_local ∙ here.same.seeks_local;
@@ -324,13 +325,13 @@ visit_args-returns-clause-outcome g t c = λ d h.
 
 pub visit_ty-returns-then-levels-eq0-clause-calls : goal.visit_ty-returns-then-levels-eq0-clause-calls
 visit_ty-returns-then-levels-eq0-clause-calls g t c =
-    left-deep g.C.Make.context g.F.FnMut c.args.levels c.args.normalize.now c.args.infcx.now _ (omega arith) (λ s e. cc)
+    left-deep g.C.Make.context g.F.FnMut c.args.levels c.args.normalize.now c.args.infcx.now _ c.if-levels-eq0.true (deep-ends _)
 
 pub visit_ty-returns-in_err-view-clause-calls : goal.visit_ty-returns-in_err-view-clause-calls
 visit_ty-returns-in_err-view-clause-calls g t c =
     let p = err_from_is_err_and c.from_residual.result c.from_residual.ensures.1 in
     viewed-nothing g.C.Make.context g.F.FnMut _ _ _ _ _ c.in_err-view.ensures.call c.args.levels _
-    (λ s e. p.1 ∙ ap Err (p.2 ∙ stop-broken c.in_err-view.field-0.0 s cc)) (λ s e. ap Err (broken-stop c.in_err-view.field-0.0 s cc))
+    (view-stops _ _ _ p.1 p.2) (stops-view _ _ _ p.1 p.2)
 
 pub visit_ty-returns-clause-calls : goal.visit_ty-returns-clause-calls
 visit_ty-returns-clause-calls g t c =
@@ -357,4 +358,105 @@ visit_args-returns-in_err-visit_ty-clause-calls g t c =
 
 pub visit_args-returns-clause-calls : goal.visit_args-returns-clause-calls
 visit_args-returns-clause-calls g t c =
-    left-quietly g.C.Make.context g.F.FnMut c.args.levels _ _ _ _ _ c.loop-i.invariant.calls (λ s e. cc)
+    left-quietly g.C.Make.context g.F.FnMut c.args.levels _ _ _ _ _ c.loop-i.invariant.calls (walk-goes-on _)
+
+pub visit_args-returns-in_err-visit_ty-clause-grows : goal.visit_args-returns-in_err-visit_ty-clause-grows
+visit_args-returns-in_err-visit_ty-clause-grows g t c = grows-trans _ _ _ c.loop-i.invariant.grows c.in_err-visit_ty.ensures.grows
+
+pub visit_args-returns-clause-grows : goal.visit_args-returns-clause-grows
+visit_args-returns-clause-grows g t c = c.loop-i.invariant.grows
+
+pub visit_ty-returns-then-levels-eq0-clause-grows : goal.visit_ty-returns-then-levels-eq0-clause-grows
+visit_ty-returns-then-levels-eq0-clause-grows g t c = grows-refl _
+
+pub visit_ty-returns-in_err-view-clause-grows : goal.visit_ty-returns-in_err-view-clause-grows
+visit_ty-returns-in_err-view-clause-grows g t c = c.view_of.ensures.grows
+
+pub visit_args-returns-in_err-visit_ty-clause-same : goal.visit_args-returns-in_err-visit_ty-clause-same
+visit_args-returns-in_err-visit_ty-clause-same g t c = record {
+  in_crate = c.in_err-visit_ty.ensures.same.in_crate ∙ c.loop-i.invariant.same.in_crate;
+  seeks_local = c.in_err-visit_ty.ensures.same.seeks_local ∙ c.loop-i.invariant.same.seeks_local;
+}
+
+pub visit_args-returns-clause-same : goal.visit_args-returns-clause-same
+visit_args-returns-clause-same g t c = c.loop-i.invariant.same
+
+pub visit_ty-returns-then-levels-eq0-clause-same : goal.visit_ty-returns-then-levels-eq0-clause-same
+visit_ty-returns-then-levels-eq0-clause-same g t c = record { in_crate = refl; seeks_local = refl }
+
+pub visit_ty-returns-in_err-view-clause-same : goal.visit_ty-returns-in_err-view-clause-same
+visit_ty-returns-in_err-view-clause-same g t c = record { in_crate = refl; seeks_local = refl }
+
+pub visit_ty-returns-clause-same : goal.visit_ty-returns-clause-same
+visit_ty-returns-clause-same g t c =
+    elim c.match-shape_of.branch [
+      | visit_ty-in-Item w ↦ rw w.walk-is (record { in_crate = w.take-outcome.ensures.same.in_crate; seeks_local = w.take-outcome.ensures.same.seeks_local })
+      | visit_ty-in-Target w ↦ rw w.walk-is (record { in_crate = w.visit_ty-outcome.ensures.same.in_crate; seeks_local = w.visit_ty-outcome.ensures.same.seeks_local })
+      | visit_ty-in-Arguments w ↦ rw w.walk-is (record { in_crate = w.visit_args-outcome.ensures.same.in_crate; seeks_local = w.visit_args-outcome.ensures.same.seeks_local })
+    ]
+
+pub visit_ty-returns-then-levels-eq0-clause-first : goal.visit_ty-returns-then-levels-eq0-clause-first
+visit_ty-returns-then-levels-eq0-clause-first g t c = tt
+
+pub visit_ty-returns-in_err-view-clause-first : goal.visit_ty-returns-in_err-view-clause-first
+visit_ty-returns-in_err-view-clause-first g t c =
+    let p = err_from_is_err_and c.from_residual.result c.from_residual.ensures.1 in
+    rw p.1 tt
+
+pub visit_ty-returns-clause-first : goal.visit_ty-returns-clause-first
+visit_ty-returns-clause-first g t c = on-answer _ refl
+
+pub visit_ty-returns-then-levels-eq0-clause-some : goal.visit_ty-returns-then-levels-eq0-clause-some
+visit_ty-returns-then-levels-eq0-clause-some g t c = λ d h. tt
+
+pub visit_ty-returns-in_err-view-clause-some : goal.visit_ty-returns-in_err-view-clause-some
+visit_ty-returns-in_err-view-clause-some g t c =
+    let p = err_from_is_err_and c.from_residual.result c.from_residual.ensures.1 in
+    λ d h. rw p.1 tt
+
+pub visit_args-returns-in_err-visit_ty-clause-recorded : goal.visit_args-returns-in_err-visit_ty-clause-recorded
+visit_args-returns-in_err-visit_ty-clause-recorded g t c = c.in_err-visit_ty.ensures.recorded
+
+pub visit_args-returns-in_err-visit_ty-clause-firsts : goal.visit_args-returns-in_err-visit_ty-clause-firsts
+visit_args-returns-in_err-visit_ty-clause-firsts g t c =
+    let p = err_from_is_err_and c.from_residual.result c.from_residual.ensures.1 in
+    rw p.1 tt
+
+pub visit_args-returns-in_err-visit_ty-clause-exit : goal.visit_args-returns-in_err-visit_ty-clause-exit
+visit_args-returns-in_err-visit_ty-clause-exit g t c =
+    let p = err_from_is_err_and c.from_residual.result c.from_residual.ensures.1 in
+    rw (p.1, p.2) c.in_err-visit_ty.ensures.exit
+
+pub visit_args-returns-clause-recorded : goal.visit_args-returns-clause-recorded
+visit_args-returns-clause-recorded g t c = c.loop-i.invariant.recorded
+
+pub visit_args-returns-clause-firsts : goal.visit_args-returns-clause-firsts
+visit_args-returns-clause-firsts g t c = c.loop-i.invariant.firsts
+
+pub visit_args-returns-clause-covers : goal.visit_args-returns-clause-covers
+visit_args-returns-clause-covers g t c = λ u m. is-answer _ _
+
+pub visit_args-returns-clause-exit : goal.visit_args-returns-clause-exit
+visit_args-returns-clause-exit g t c = tt
+
+pub visit_ty-returns-then-levels-eq0-clause-recorded : goal.visit_ty-returns-then-levels-eq0-clause-recorded
+visit_ty-returns-then-levels-eq0-clause-recorded g t c = c.requires.recorded
+
+pub visit_ty-returns-then-levels-eq0-clause-firsts : goal.visit_ty-returns-then-levels-eq0-clause-firsts
+visit_ty-returns-then-levels-eq0-clause-firsts g t c = tt
+
+pub visit_ty-returns-then-levels-eq0-clause-covers : goal.visit_ty-returns-then-levels-eq0-clause-covers
+visit_ty-returns-then-levels-eq0-clause-covers g t c = λ u m. depth-covers _ u
+
+pub visit_ty-returns-then-levels-eq0-clause-exit : goal.visit_ty-returns-then-levels-eq0-clause-exit
+visit_ty-returns-then-levels-eq0-clause-exit g t c = tt
+
+pub visit_ty-returns-in_err-view-clause-firsts : goal.visit_ty-returns-in_err-view-clause-firsts
+visit_ty-returns-in_err-view-clause-firsts g t c =
+    let p = err_from_is_err_and c.from_residual.result c.from_residual.ensures.1 in
+    rw p.1 tt
+
+pub visit_ty-returns-in_err-view-clause-exit : goal.visit_ty-returns-in_err-view-clause-exit
+visit_ty-returns-in_err-view-clause-exit g t c =
+    let p = err_from_is_err_and c.from_residual.result c.from_residual.ensures.1 in
+    rw (p.1, p.2) (broken-exit _ c.in_err-view.field-0.0)

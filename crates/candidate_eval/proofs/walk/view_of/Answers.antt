@@ -7,6 +7,7 @@ use Rattle.candidate_eval.specs.Orphan.{is_general}
 use Rattle.candidate_eval.proofs.Views.{view-general, view-other, sees-other}
 use Rattle.candidate_eval.proofs.Calls.{values-here}
 use Rattle.candidate_eval.proofs.Causes.{viewed-answer, viewed-itself}
+use Rattle.candidate_eval.proofs.Stops.{view-ends}
 use Rattle.candidate_eval.proofs.walk.view_of.Goals as goal
 
 pub returns-then-is_general_variable-clause-sort : goal.returns-then-is_general_variable-clause-sort
@@ -20,7 +21,7 @@ returns-then-is_general_variable-clause-view g c = λ d h told.
     ∙ ap (λ (x : Context). is_general (ty_tree x.trees c.in_ok-normal.normal).head) c.cx.ensures) in
     let values = values-here g.C.Make.context g.F.FnMut c.args.normalize.now c.args.infcx.now g.C.InferCtxtLike.resolved d h in
     view-general (λ s t. g.C.InferCtxtLike.resolved s.1 t) d.normal (d.stands (c.args.normalize.now, c.args.infcx.now)) _ _ _ _ _
-    (c.shallow_resolve-ty.ensures.tree ∙ sym (values _)) (c.in_ok-normal.ensures.answer d h (λ s o e. cc)) general
+    (c.shallow_resolve-ty.ensures.tree ∙ sym (values _)) (c.in_ok-normal.ensures.answer d h (λ s o. view-ends _ s)) general
     (ty-kept _ _ _ c.normalized.ensures.grows c.shallow_resolve-ty.ensures.sort).1
 
 pub returns-clause-view : goal.returns-clause-view
@@ -30,7 +31,7 @@ returns-clause-view g c = λ d h told.
     ∙ (sym c.is_general_variable.ensures ∙ c.if-is_general_variable.false) in
     let values = values-here g.C.Make.context g.F.FnMut c.args.normalize.now c.args.infcx.now g.C.InferCtxtLike.resolved d h in
     view-other (λ s t. g.C.InferCtxtLike.resolved s.1 t) d.normal (d.stands (c.args.normalize.now, c.args.infcx.now)) _ _ _ _ _
-    (c.shallow_resolve-ty.ensures.tree ∙ sym (values _)) (c.in_ok-normal.ensures.answer d h (λ s o e. cc)) (sees-other _ _ general)
+    (c.shallow_resolve-ty.ensures.tree ∙ sym (values _)) (c.in_ok-normal.ensures.answer d h (λ s o. view-ends _ s)) (sees-other _ _ general)
 
 pub returns-in_err-normal-clause-view : goal.returns-in_err-normal-clause-view
 returns-in_err-normal-clause-view g c = λ d h told.
