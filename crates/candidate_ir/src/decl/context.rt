@@ -1,6 +1,6 @@
 //! The context: declarations, and the table in which types are made.
 
-ghost use Rattle.std.specs.Prelude.{◌≡◌, ◌+◌, ◌<◌, ◌↔◌, IsTrue, length, map, IfOk, IfErr, Some, None};
+ghost use Rattle.std.specs.Prelude.{◌≡◌, ◌+◌, ◌<◌, ◌↔◌, IsTrue, length, take, map, IfOk, IfErr, Some, None};
 ghost use Rattle.candidate_ir.specs.Context.{world, Grows};
 ghost use Rattle.candidate_ir.specs.Trees.{height, heights, tree_holds, holds, is_param};
 ghost use Rattle.candidate_ir.specs.Flags.{mark};
@@ -23,7 +23,7 @@ use std::marker::Model;
 
 /// Declarations without a fault, and the types, constants, regions and lists made so far.
 ///
-/// A number stands for one tree for good.
+/// A number stands for one tree until it is taken back.
 #[derive(Drop)]
 pub struct Cx {
     crates: u32,
@@ -62,6 +62,20 @@ impl Cx {
             definitions,
             nodes,
         }
+    }
+
+    /// How many numbers of types, constants, regions and lists are given.
+    pub fn node_count(&self) -> usize
+        ensures { result ≡ length self.now.trees }
+    {
+        self.nodes.len()
+    }
+
+    /// Takes back all numbers but the first so many. They stand for nothing then, and are given again.
+    pub fn truncate(&mut self, node_count: usize)
+        ensures { self.new ≡ record self.old { trees = take node_count self.old.trees } }
+    {
+        self.nodes.truncate(node_count);
     }
 
     fn is_local(&self, definition: u32) -> bool
@@ -169,6 +183,19 @@ impl Cx {
         ensures cause { IfErr result (λ s. IsMkStop self.old.trees (heights (list_forest self.old.trees list.now)) s) }
     {
         self.nodes.mk_args(list)
+    }
+
+    /// The same as `mk_args`, of a list that the context keeps.
+    pub fn mk_arg_list(&mut self, list: Vec<GenericArg>) -> Result<Args, Stop>
+        requires { ListFits self.old.trees list.items }
+        ensures kept { Grows self.old self.new }
+        ensures well_formed { IsWellFormed self.old → IsWellFormed self.new }
+        ensures sort { IfOk result (λ a. IsArgs self.new.trees a) }
+        ensures tree { IfOk result (λ a. args_forest self.new.trees a ≡ list_forest self.old.trees list.items) }
+        ensures unchanged { IfErr result (λ _. self.new ≡ self.old) }
+        ensures cause { IfErr result (λ s. IsMkStop self.old.trees (heights (list_forest self.old.trees list.items)) s) }
+    {
+        self.nodes.mk_arg_list(list)
     }
 
     /// The variables of a binder, by their kinds. They take a number each, and one more.

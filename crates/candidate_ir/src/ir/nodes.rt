@@ -106,7 +106,7 @@ impl Nodes {
     }
 
     /// Cuts the table back to the first so many nodes.
-    fn truncate(&mut self, len: usize)
+    pub(crate) fn truncate(&mut self, len: usize)
         ensures { self.new ≡ take len self.old }
     {
         self.rows.truncate(len);
@@ -188,6 +188,19 @@ impl Nodes {
         ensures cause { IfErr result (λ s. IsMkStop self.old (heights (list_forest self.old list.now)) s) }
     {
         let list = list.to_vec(*self.rows.allocator())?;
+        self.mk_arg_list(list)
+    }
+
+    /// The list of these arguments, which it takes.
+    pub(crate) fn mk_arg_list(&mut self, list: Vec<GenericArg>) -> Result<Args, Stop>
+        requires { ListFits self.old list.items }
+        ensures kept { Extends self.old self.new }
+        ensures fit { (w : World) → AllFit w self.old → AllFit w self.new }
+        ensures sort { IfOk result (λ a. IsArgs self.new a) }
+        ensures tree { IfOk result (λ a. args_forest self.new a ≡ list_forest self.old list.items) }
+        ensures unchanged { IfErr result (λ _. self.new ≡ self.old) }
+        ensures cause { IfErr result (λ s. IsMkStop self.old (heights (list_forest self.old list.items)) s) }
+    {
         Ok(Args(self.add(Node::Args(list))?))
     }
 
