@@ -52,12 +52,12 @@ fn reference(cx: &mut Cx, target: Ty, mutability: Mutability) -> Result<Ty, Stop
 }
 
 /// The type over these arguments.
-pub fn construct(cx: &mut Cx, constructor: Constructor, list: &[GenericArg]) -> Result<Ty, Stop>
-    requires { ListFits cx.old.trees list.now }
+pub fn construct(cx: &mut Cx, constructor: Constructor, list: Vec<GenericArg>) -> Result<Ty, Stop>
+    requires { ListFits cx.old.trees list.items }
     ensures grows { Grows cx.old cx.new }
     ensures sort { IfOk result (λ ty. IsTy cx.new.trees ty) }
 {
-    let args = cx.mk_args(list)?;
+    let args = cx.mk_arg_list(list)?;
     cx.mk_ty(match constructor {
         Constructor::Tuple => TyKind::Tuple(args),
         Constructor::Adt(id) => TyKind::Adt(id, args),
@@ -94,13 +94,13 @@ pub fn auto_bound(cx: &mut Cx, id: TraitId) -> Result<Binder<ExistentialPredicat
 pub fn trait_bound(
     cx: &mut Cx,
     id: TraitId,
-    list: &[GenericArg],
+    list: Vec<GenericArg>,
 ) -> Result<Binder<ExistentialPredicate>, Stop>
-    requires { ListFits cx.old.trees list.now }
+    requires { ListFits cx.old.trees list.items }
     ensures grows { Grows cx.old cx.new }
     ensures fits { IfOk result (λ bound. PredFits cx.new.trees bound) }
 {
-    let args = cx.mk_args(list)?;
+    let args = cx.mk_arg_list(list)?;
     let vars = cx.mk_vars(&[])?;
     Ok(Binder {
         vars,
@@ -112,16 +112,16 @@ pub fn trait_bound(
 pub fn projection_bound(
     cx: &mut Cx,
     id: AssocId,
-    list: &[GenericArg],
+    list: Vec<GenericArg>,
     term: Ty,
 ) -> Result<Binder<ExistentialPredicate>, Stop>
-    requires list { ListFits cx.old.trees list.now }
+    requires list { ListFits cx.old.trees list.items }
     requires term { IsTy cx.old.trees term }
     ensures grows { Grows cx.old cx.new }
     ensures fits { IfOk result (λ bound. PredFits cx.new.trees bound) }
     ensures kind { IfOk result (λ bound. names_trait bound.value ≡ false) }
 {
-    let args = cx.mk_args(list)?;
+    let args = cx.mk_arg_list(list)?;
     let vars = cx.mk_vars(&[])?;
     Ok(Binder {
         vars,

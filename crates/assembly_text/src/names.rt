@@ -3,9 +3,11 @@
 ghost use Rattle.std.specs.Prelude.{◌≡◌, ◌⊎◌, IfOk, IfErr, Some, None};
 
 use crate::faults::Fault;
+use crate::words::begins_with_letter;
 use candidate_ir::ir::kinds::{AdtId, AssocId, ForeignId, TraitId};
 use std::alloc::{AllocError, Global};
 use std::collections::BTreeMap;
+use std::collections::btree_map::Entry;
 
 const LONGEST: usize = 64;
 
@@ -29,21 +31,32 @@ pub enum Item {
     Assoc(AssocId, u16),
 }
 
-/// The names declared so far, which are words of the text. They are kept in an order, so that no
-/// choice of names makes them slow to find.
+/// What was declared under a name.
+#[derive(Clone, Copy)]
+struct Definition<'a> {
+    name: &'a str,
+    item: Item,
+}
+
+/// The names declared so far, which are words of the text. They are kept in orders, so that no choice
+/// of names makes them slow to find.
 #[derive(Drop)]
 pub struct Names<'a> {
-    items: BTreeMap<(u64, &'a str), Item>,
-    /// The names of the definitions by their numbers.
-    definitions: Vec<&'a str>,
+    /// The definitions by their numbers.
+    definitions: Vec<Definition<'a>>,
+    /// The first definition of each number that is made of a name.
+    first_of_number: BTreeMap<u64, usize>,
+    /// The others by their names. Hardly ever is there one.
+    others: BTreeMap<&'a str, usize>,
 }
 
 impl<'a> Names<'a> {
     /// No names.
     pub fn new(alloc: Global) -> Self {
         Names {
-            items: BTreeMap::new(alloc),
             definitions: Vec::new(alloc),
+            first_of_number: BTreeMap::new(alloc),
+            others: BTreeMap::new(alloc),
         }
     }
 
@@ -57,7 +70,7 @@ impl<'a> Names<'a> {
         if !is_name(word) {
             return Err(Fault::BadName(word));
         }
-        if self.items.contains_key(&key(word)) {
+        if self.find(word).is_some() {
             return Err(Fault::NameTwice(word));
         }
         Ok(word)
@@ -67,8 +80,8 @@ impl<'a> Names<'a> {
     pub fn item(&self, word: &'a str) -> Result<Item, Fault<'a>>
         ensures { IfErr result (λ e. e ≡ Fault.UnknownName word.entry) }
     {
-        match self.items.get(&key(word)) {
-            Some(item) => Ok(*item),
+        match self.find(word) {
+            Some(item) => Ok(item),
             None => Err(Fault::UnknownName(word)),
         }
     }
@@ -77,32 +90,53 @@ impl<'a> Names<'a> {
     pub fn trait_named(&self, word: &'a str) -> Result<NamedTrait, Fault<'a>>
         ensures { IfErr result (λ e. e ≡ Fault.UnknownName word.entry) }
     {
-        match self.items.get(&key(word)) {
-            Some(Item::Trait(found)) => Ok(*found),
+        match self.find(word) {
+            Some(Item::Trait(found)) => Ok(found),
             _ => Err(Fault::UnknownName(word)),
         }
     }
 
+    fn find(&self, word: &str) -> Option<Item> {
+        let first = self
+            .definitions
+            .get(*self.first_of_number.get(&number_of(word))?)?;
+        if first.name == word {
+            return Some(first.item);
+        }
+        let other = self.definitions.get(*self.others.get(word)?)?;
+        Some(other.item)
+    }
+
     /// Gives the name to the next definition.
     pub fn add_definition(&mut self, name: &'a str, item: Item) -> Result<(), AllocError> {
-        self.definitions.push(name)?;
-        self.items.insert(key(name), item)?;
+        let next = self.definitions.len();
+        self.definitions.push(Definition { name, item })?;
+        match self.first_of_number.entry(number_of(name))? {
+            Entry::Vacant(place) => {
+                place.insert(next);
+            }
+            Entry::Occupied(_) => {
+                self.others.insert(name, next)?;
+            }
+        }
         Ok(())
     }
 
     /// The name of the definition of that number.
     pub fn definition(&self, number: u32) -> Option<&'a str> {
-        self.definitions.get(number as usize).copied()
+        Some(self.definitions.get(number as usize)?.name)
     }
 }
 
-/// The name after a number that is made of its bytes, by which most names differ at once.
-fn key<'a>(name: &'a str) -> (u64, &'a str) {
+/// A number that is made of the bytes of a name, by steps that mix all that came before: two names seldom
+/// have one number, and many that do are hard to find.
+fn number_of(name: &str) -> u64 {
     let mut number = 0u64;
     for byte in name.bytes() {
-        number = number.wrapping_mul(31).wrapping_add(u64::from(byte));
+        number = (number ^ u64::from(byte)).wrapping_mul(0x9e37_79b9_7f4a_7c15);
+        number ^= number >> 32;
     }
-    (number, name)
+    number
 }
 
 /// Whether the word is a letter and then letters, digits and `_`, not too long, and no type.
@@ -113,11 +147,4 @@ fn is_name(word: &str) -> bool {
         }
     }
     word.len() <= LONGEST && begins_with_letter(word) && crate::notation::leaf(word).is_none()
-}
-
-fn begins_with_letter(word: &str) -> bool {
-    match word.as_bytes().first() {
-        Some(byte) => byte.is_ascii_alphabetic(),
-        None => false,
-    }
 }

@@ -3,14 +3,15 @@
 ghost use Rattle.std.specs.Prelude.{◌≡◌, true, false, IfOk};
 ghost use Rattle.candidate_ir.specs.Context.{Grows};
 ghost use Rattle.candidate_ir.specs.Words.{IsTy, IsArgs, IsPreds, KindFits, ListFits, PredFits, BoundsFit, AtMostOnePrincipal, names_trait};
-ghost use Rattle.assembly_text.specs.Types.{IsChildlessHead, IsNoPrincipal};
+ghost use Rattle.assembly_text.specs.Types.{IsNoPrincipal};
+ghost use Rattle.assembly_text.specs.Notation.{IsChildless};
 
 use crate::building::{
-    Constructor, Pointer, auto_bound, construct, dynamic, pointer_to, projection_bound, trait_bound,
+    Constructor, auto_bound, construct, dynamic, pointer_to, projection_bound, trait_bound,
 };
 use crate::faults::Fault;
 use crate::names::{Item, Names};
-use crate::notation::{TypeWord, type_word, word_of};
+use crate::notation::{Head, head_of, word_of};
 use crate::words::Words;
 use candidate_ir::decl::context::Cx;
 use candidate_ir::ir::kinds::{
@@ -32,19 +33,6 @@ pub struct Scope<'a> {
     pub alloc: Global,
     pub names: Names<'a>,
     pub cx: Cx,
-}
-
-/// What a type's first word makes of the words that follow.
-#[derive(Clone, Copy)]
-enum Head {
-    /// The word is the whole type.
-    Leaf(TyKind),
-    /// One type follows.
-    Before(Pointer),
-    /// So many types follow.
-    Over(Constructor, u32),
-    /// So many bounds follow.
-    Dyn(u16),
 }
 
 /// What a bound's name says of it, with how many types follow.
@@ -78,7 +66,7 @@ impl<'a> Scope<'a> {
             }
             Head::Over(constructor, count) => {
                 let list = self.read_types(words, count, below)?;
-                Ok(construct(&mut self.cx, constructor, list.as_slice())?)
+                Ok(construct(&mut self.cx, constructor, list)?)
             }
             Head::Dyn(count) => {
                 let bounds = self.read_bounds(words, count, below)?;
@@ -143,12 +131,12 @@ impl<'a> Scope<'a> {
             BoundHead::AutoTrait(id) => Ok(auto_bound(&mut self.cx, id)?),
             BoundHead::Trait(id, count) => {
                 let list = self.read_types(words, u32::from(count), depth)?;
-                Ok(trait_bound(&mut self.cx, id, list.as_slice())?)
+                Ok(trait_bound(&mut self.cx, id, list)?)
             }
             BoundHead::Projection(id, count) => {
                 let list = self.read_types(words, u32::from(count), depth)?;
                 let term = self.read_type(words, depth)?;
-                Ok(projection_bound(&mut self.cx, id, list.as_slice(), term)?)
+                Ok(projection_bound(&mut self.cx, id, list, term)?)
             }
         }
     }
@@ -160,7 +148,7 @@ impl<'a> Scope<'a> {
     {
         let found = self.names.trait_named(words.word()?)?;
         let list = self.read_types(words, u32::from(found.arity) + 1, DEEPEST)?;
-        let args = self.cx.mk_args(list.as_slice())?;
+        let args = self.cx.mk_arg_list(list)?;
         Ok(TraitRef {
             def_id: found.id,
             args,
@@ -169,23 +157,17 @@ impl<'a> Scope<'a> {
 
     /// What the first word of a type makes of the words that follow.
     fn head(&self, word: &'a str) -> Result<Head, Fault<'a>>
-        ensures { IfOk result IsChildlessHead }
+        ensures { IfOk result IsChildless }
     {
-        Ok(match type_word(word)? {
-            TypeWord::Leaf(kind) => Head::Leaf(kind),
-            TypeWord::Ref(mutability) => Head::Before(Pointer::Ref(mutability)),
-            TypeWord::RawPtr(mutability) => Head::Before(Pointer::RawPtr(mutability)),
-            TypeWord::Slice => Head::Before(Pointer::Slice),
-            TypeWord::Tuple(count) => Head::Over(Constructor::Tuple, u32::from(count)),
-            TypeWord::Dyn(count) => Head::Dyn(count),
-            TypeWord::Param => return Err(Fault::Parameter),
-            TypeWord::Name(name) => return self.named_head(name),
-        })
+        match head_of(word)? {
+            Some(head) => Ok(head),
+            None => self.named_head(word),
+        }
     }
 
     /// What the name of a type makes of the words that follow.
     fn named_head(&self, name: &'a str) -> Result<Head, Fault<'a>>
-        ensures { IfOk result IsChildlessHead }
+        ensures { IfOk result IsChildless }
     {
         match self.names.item(name)? {
             Item::Adt(id, arity) => Ok(Head::Over(Constructor::Adt(id), u32::from(arity))),

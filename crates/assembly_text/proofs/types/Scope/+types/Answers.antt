@@ -31,5 +31,4 @@ read_bounds-loop-preserved t c =
 pub read_bound-projection_bound-requires-clause-list :
     goal.read_bound-projection_bound-requires-clause-list
 read_bound-projection_bound-requires-clause-list t c =
-    rw c.as_slice-in-Projection.ensures.value
-    (ListFits-grows _ _ _ c.read_type.ensures.grows c.in_ok-list-in-Projection.ensures.fits)
+    ListFits-grows _ _ _ c.read_type.ensures.grows c.in_ok-list-in-Projection.ensures.fits
