@@ -7,7 +7,6 @@ use crate::words::begins_with_letter;
 use candidate_ir::ir::kinds::{AdtId, AssocId, ForeignId, TraitId};
 use std::alloc::{AllocError, Global};
 use std::collections::BTreeMap;
-use std::collections::btree_map::Entry;
 
 const LONGEST: usize = 64;
 
@@ -38,16 +37,31 @@ struct Definition<'a> {
     item: Item,
 }
 
-/// The names declared so far, which are words of the text. They are kept in orders, so that no choice
-/// of names makes them slow to find.
+/// Where a definition can stand, to be found by a number that is made of its name.
+#[derive(Clone, Copy)]
+enum Place {
+    Free,
+    /// The upper half of the number, and the definition's own number.
+    Taken(u32, u32),
+}
+
+/// How many places there are at first; there are at least twice as many as definitions.
+const FIRST_PLACES: usize = 64;
+
+/// In how many places, one behind the other, a definition may stand.
+const TRIED_PLACES: usize = 8;
+
+/// The names declared so far, which are words of the text.
+///
+/// A name whose places are all taken stands in an ordered map, so that no choice of names makes them
+/// slow to find.
 #[derive(Drop)]
 pub struct Names<'a> {
     /// The definitions by their numbers.
     definitions: Vec<Definition<'a>>,
-    /// The first definition of each number that is made of a name.
-    first_of_number: BTreeMap<u64, usize>,
-    /// The others by their names. Hardly ever is there one.
-    others: BTreeMap<&'a str, usize>,
+    /// So many places as a power of two says.
+    places: Vec<Place>,
+    crowded: BTreeMap<(u64, &'a str), u32>,
 }
 
 impl<'a> Names<'a> {
@@ -55,8 +69,8 @@ impl<'a> Names<'a> {
     pub fn new(alloc: Global) -> Self {
         Names {
             definitions: Vec::new(alloc),
-            first_of_number: BTreeMap::new(alloc),
-            others: BTreeMap::new(alloc),
+            places: Vec::new(alloc),
+            crowded: BTreeMap::new(alloc),
         }
     }
 
@@ -96,29 +110,70 @@ impl<'a> Names<'a> {
         }
     }
 
-    fn find(&self, word: &str) -> Option<Item> {
-        let first = self
-            .definitions
-            .get(*self.first_of_number.get(&number_of(word))?)?;
-        if first.name == word {
-            return Some(first.item);
+    fn find(&self, word: &'a str) -> Option<Item> {
+        let number = number_of(word);
+        let upper = upper_half(number);
+        for step in 0..TRIED_PLACES {
+            if let Place::Taken(other, definition) = *self.places.get(self.index(number, step))? {
+                if other == upper {
+                    let found = self.definitions.get(definition as usize)?;
+                    if found.name == word {
+                        return Some(found.item);
+                    }
+                }
+            } else {
+                return None;
+            }
         }
-        let other = self.definitions.get(*self.others.get(word)?)?;
-        Some(other.item)
+        let definition = self.crowded.get(&(number, word))?;
+        Some(self.definitions.get(*definition as usize)?.item)
+    }
+
+    /// The place for that number, so many behind its own.
+    fn index(&self, number: u64, step: usize) -> usize {
+        (number as usize).wrapping_add(step) & self.places.len().wrapping_sub(1)
     }
 
     /// Gives the name to the next definition.
     pub fn add_definition(&mut self, name: &'a str, item: Item) -> Result<(), AllocError> {
         let next = self.definitions.len();
         self.definitions.push(Definition { name, item })?;
-        match self.first_of_number.entry(number_of(name))? {
-            Entry::Vacant(place) => {
-                place.insert(next);
-            }
-            Entry::Occupied(_) => {
-                self.others.insert(name, next)?;
+        if next < self.places.len() / 2 {
+            self.settle(next)
+        } else {
+            self.settle_anew()
+        }
+    }
+
+    /// Makes twice as many places, and gives each definition its own.
+    fn settle_anew(&mut self) -> Result<(), AllocError> {
+        let count = self.places.len().saturating_mul(2).max(FIRST_PLACES);
+        self.places.clear();
+        self.places.resize(count, Place::Free)?;
+        for definition in 0..self.definitions.len() {
+            self.settle(definition)?;
+        }
+        Ok(())
+    }
+
+    /// Gives the definition the first free place of those that are its own.
+    fn settle(&mut self, definition: usize) -> Result<(), AllocError> {
+        let (Some(found), Ok(taker)) = (self.definitions.get(definition), u32::try_from(definition))
+        else {
+            return Err(AllocError);
+        };
+        let name = found.name;
+        let number = number_of(name);
+        for step in 0..TRIED_PLACES {
+            let index = self.index(number, step);
+            if let Some(place) = self.places.get_mut(index) {
+                if let Place::Free = place {
+                    *place = Place::Taken(upper_half(number), taker);
+                    return Ok(());
+                }
             }
         }
+        self.crowded.insert((number, name), taker)?;
         Ok(())
     }
 
@@ -128,8 +183,7 @@ impl<'a> Names<'a> {
     }
 }
 
-/// A number that is made of the bytes of a name, by steps that mix all that came before: two names seldom
-/// have one number, and many that do are hard to find.
+/// A number that is made of the bytes of a name, by steps that mix all that came before.
 fn number_of(name: &str) -> u64 {
     let mut number = 0u64;
     for byte in name.bytes() {
@@ -137,6 +191,10 @@ fn number_of(name: &str) -> u64 {
         number ^= number >> 32;
     }
     number
+}
+
+fn upper_half(number: u64) -> u32 {
+    (number >> 32) as u32
 }
 
 /// Whether the word is a letter and then letters, digits and `_`, not too long, and no type.
