@@ -76,9 +76,6 @@ impl<'a> Asking<'a> {
     {
         let trait_ref = self.scope.read_trait_ref(words)?;
         words.end()?;
-        if self.scope.cx.has_param(trait_ref) {
-            return Err(Fault::Parameter);
-        }
         Ok(trait_ref)
     }
 

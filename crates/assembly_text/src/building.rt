@@ -5,6 +5,7 @@
 ghost use Rattle.std.specs.Prelude.{◌≡◌, false, IfOk};
 ghost use Rattle.candidate_ir.specs.Context.{Grows};
 ghost use Rattle.candidate_ir.specs.Words.{IsTy, ListFits, PredFits, BoundsFit, AtMostOnePrincipal, names_trait};
+ghost use Rattle.assembly_text.specs.Params.{LacksParam, ListLacksParam, BoundLacksParam, BoundsLackParam};
 
 use candidate_ir::decl::context::Cx;
 use candidate_ir::ir::kinds::{
@@ -31,9 +32,11 @@ pub enum Constructor {
 
 /// The pointer to the type, or the slice of it.
 pub fn pointer_to(cx: &mut Cx, pointer: Pointer, target: Ty) -> Result<Ty, Stop>
-    requires { IsTy cx.old.trees target }
+    requires target { IsTy cx.old.trees target }
+    requires no_param { LacksParam cx.old.trees target.0 }
     ensures grows { Grows cx.old cx.new }
     ensures sort { IfOk result (λ ty. IsTy cx.new.trees ty) }
+    ensures no_param { IfOk result (λ ty. LacksParam cx.new.trees ty.0) }
 {
     match pointer {
         Pointer::Ref(mutability) => reference(cx, target, mutability),
@@ -43,9 +46,11 @@ pub fn pointer_to(cx: &mut Cx, pointer: Pointer, target: Ty) -> Result<Ty, Stop>
 }
 
 fn reference(cx: &mut Cx, target: Ty, mutability: Mutability) -> Result<Ty, Stop>
-    requires { IsTy cx.old.trees target }
+    requires target { IsTy cx.old.trees target }
+    requires no_param { LacksParam cx.old.trees target.0 }
     ensures grows { Grows cx.old cx.new }
     ensures sort { IfOk result (λ ty. IsTy cx.new.trees ty) }
+    ensures no_param { IfOk result (λ ty. LacksParam cx.new.trees ty.0) }
 {
     let region = cx.mk_region(RegionKind::Static)?;
     cx.mk_ty(TyKind::Ref(region, target, mutability))
@@ -53,9 +58,11 @@ fn reference(cx: &mut Cx, target: Ty, mutability: Mutability) -> Result<Ty, Stop
 
 /// The type over these arguments.
 pub fn construct(cx: &mut Cx, constructor: Constructor, list: Vec<GenericArg>) -> Result<Ty, Stop>
-    requires { ListFits cx.old.trees list.items }
+    requires fit { ListFits cx.old.trees list.items }
+    requires no_param { ListLacksParam cx.old.trees list.items }
     ensures grows { Grows cx.old cx.new }
     ensures sort { IfOk result (λ ty. IsTy cx.new.trees ty) }
+    ensures no_param { IfOk result (λ ty. LacksParam cx.new.trees ty.0) }
 {
     let args = cx.mk_arg_list(list)?;
     cx.mk_ty(match constructor {
@@ -69,8 +76,10 @@ pub fn construct(cx: &mut Cx, constructor: Constructor, list: Vec<GenericArg>) -
 pub fn dynamic(cx: &mut Cx, bounds: &[Binder<ExistentialPredicate>]) -> Result<Ty, Stop>
     requires fit { BoundsFit cx.old.trees bounds.now }
     requires principal { AtMostOnePrincipal bounds.now }
+    requires no_param { BoundsLackParam cx.old.trees bounds.now }
     ensures grows { Grows cx.old cx.new }
     ensures sort { IfOk result (λ ty. IsTy cx.new.trees ty) }
+    ensures no_param { IfOk result (λ ty. LacksParam cx.new.trees ty.0) }
 {
     let preds = cx.mk_preds(bounds)?;
     let region = cx.mk_region(RegionKind::Static)?;
@@ -81,6 +90,7 @@ pub fn dynamic(cx: &mut Cx, bounds: &[Binder<ExistentialPredicate>]) -> Result<T
 pub fn auto_bound(cx: &mut Cx, id: TraitId) -> Result<Binder<ExistentialPredicate>, Stop>
     ensures grows { Grows cx.old cx.new }
     ensures fits { IfOk result (λ bound. PredFits cx.new.trees bound) }
+    ensures no_param { IfOk result (λ bound. BoundLacksParam cx.new.trees bound) }
     ensures kind { IfOk result (λ bound. names_trait bound.value ≡ false) }
 {
     let vars = cx.mk_vars(&[])?;
@@ -96,9 +106,11 @@ pub fn trait_bound(
     id: TraitId,
     list: Vec<GenericArg>,
 ) -> Result<Binder<ExistentialPredicate>, Stop>
-    requires { ListFits cx.old.trees list.items }
+    requires fit { ListFits cx.old.trees list.items }
+    requires no_param { ListLacksParam cx.old.trees list.items }
     ensures grows { Grows cx.old cx.new }
     ensures fits { IfOk result (λ bound. PredFits cx.new.trees bound) }
+    ensures no_param { IfOk result (λ bound. BoundLacksParam cx.new.trees bound) }
 {
     let args = cx.mk_arg_list(list)?;
     let vars = cx.mk_vars(&[])?;
@@ -116,9 +128,12 @@ pub fn projection_bound(
     term: Ty,
 ) -> Result<Binder<ExistentialPredicate>, Stop>
     requires list { ListFits cx.old.trees list.items }
+    requires list_no_param { ListLacksParam cx.old.trees list.items }
     requires term { IsTy cx.old.trees term }
+    requires term_no_param { LacksParam cx.old.trees term.0 }
     ensures grows { Grows cx.old cx.new }
     ensures fits { IfOk result (λ bound. PredFits cx.new.trees bound) }
+    ensures no_param { IfOk result (λ bound. BoundLacksParam cx.new.trees bound) }
     ensures kind { IfOk result (λ bound. names_trait bound.value ≡ false) }
 {
     let args = cx.mk_arg_list(list)?;

@@ -1,8 +1,7 @@
 //! The words that types are written in.
 
-ghost use Rattle.std.specs.Prelude.{◌≡◌, [], IfOk, IfSome};
-ghost use Rattle.candidate_ir.specs.Kinds.{ty_children};
-ghost use Rattle.assembly_text.specs.Notation.{IsChildless};
+ghost use Rattle.std.specs.Prelude.{IfOk, IfSome};
+ghost use Rattle.assembly_text.specs.Notation.{IsChildless, IsLeaf};
 
 use crate::building::{Constructor, Pointer};
 use crate::faults::Fault;
@@ -104,7 +103,7 @@ fn marked_number<'a>(word: &'a str, digits: &str, most: u16) -> Result<u16, Faul
 
 /// The type that the word alone is. Its first byte tells most other words from it at once.
 pub fn leaf(word: &str) -> Option<TyKind>
-    ensures { IfSome result (λ kind. ty_children kind ≡ []) }
+    ensures { IfSome result IsLeaf }
 {
     match word.as_bytes().first()? {
         b'i' => Some(TyKind::Int(int_width(word)?)),
@@ -116,7 +115,7 @@ pub fn leaf(word: &str) -> Option<TyKind>
 }
 
 fn other_leaf(word: &str) -> Option<TyKind>
-    ensures { IfSome result (λ kind. ty_children kind ≡ []) }
+    ensures { IfSome result IsLeaf }
 {
     match word {
         "bool" => Some(TyKind::Bool),

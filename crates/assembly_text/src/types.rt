@@ -4,7 +4,9 @@ ghost use Rattle.std.specs.Prelude.{◌≡◌, true, false, IfOk};
 ghost use Rattle.candidate_ir.specs.Context.{Grows};
 ghost use Rattle.candidate_ir.specs.Words.{IsTy, IsArgs, IsPreds, KindFits, ListFits, PredFits, BoundsFit, AtMostOnePrincipal, names_trait};
 ghost use Rattle.assembly_text.specs.Types.{IsNoPrincipal};
+ghost use Rattle.candidate_eval.specs.Calls.{HasNoParam};
 ghost use Rattle.assembly_text.specs.Notation.{IsChildless};
+ghost use Rattle.assembly_text.specs.Params.{LacksParam, ListLacksParam, BoundLacksParam, BoundsLackParam};
 
 use crate::building::{
     Constructor, auto_bound, construct, dynamic, pointer_to, projection_bound, trait_bound,
@@ -53,6 +55,7 @@ impl<'a> Scope<'a> {
     pub fn read_type(&mut self, words: &mut Words<'a>, depth: u16) -> Result<Ty, Fault<'a>>
         ensures grows { Grows self.old.cx self.new.cx }
         ensures sort { IfOk result (λ ty. IsTy self.new.cx.trees ty) }
+        ensures no_param { IfOk result (λ ty. LacksParam self.new.cx.trees ty.0) }
     {
         let word = words.word()?;
         let Some(below) = depth.checked_sub(1) else {
@@ -85,6 +88,7 @@ impl<'a> Scope<'a> {
     ) -> Result<Vec<GenericArg>, Fault<'a>>
         ensures grows { Grows self.old.cx self.new.cx }
         ensures fits { IfOk result (λ list. ListFits self.new.cx.trees list.items) }
+        ensures no_param { IfOk result (λ list. ListLacksParam self.new.cx.trees list.items) }
     {
         let mut list = Vec::new(self.alloc);
         for _ in 0..count {
@@ -104,6 +108,7 @@ impl<'a> Scope<'a> {
         ensures grows { Grows self.old.cx self.new.cx }
         ensures fit { IfOk result (λ list. BoundsFit self.new.cx.trees list.items) }
         ensures principal { IfOk result (λ list. AtMostOnePrincipal list.items) }
+        ensures no_param { IfOk result (λ list. BoundsLackParam self.new.cx.trees list.items) }
     {
         let mut list = Vec::new(self.alloc);
         let mut has_principal = false;
@@ -125,6 +130,7 @@ impl<'a> Scope<'a> {
     ) -> Result<Binder<ExistentialPredicate>, Fault<'a>>
         ensures grows { Grows self.old.cx self.new.cx }
         ensures fits { IfOk result (λ bound. PredFits self.new.cx.trees bound) }
+        ensures no_param { IfOk result (λ bound. BoundLacksParam self.new.cx.trees bound) }
         ensures principal { IfOk result (λ bound. has_principal ≡ true → names_trait bound.value ≡ false) }
     {
         match self.bound_head(words.word()?, has_principal)? {
@@ -145,6 +151,7 @@ impl<'a> Scope<'a> {
     pub fn read_trait_ref(&mut self, words: &mut Words<'a>) -> Result<TraitRef, Fault<'a>>
         ensures grows { Grows self.old.cx self.new.cx }
         ensures sort { IfOk result (λ r. IsArgs self.new.cx.trees r.args) }
+        ensures no_param { IfOk result (λ r. HasNoParam self.new.cx r) }
     {
         let found = self.names.trait_named(words.word()?)?;
         let list = self.read_types(words, u32::from(found.arity) + 1, DEEPEST)?;
