@@ -4,12 +4,13 @@
 `python3 bench/run.py` builds the program with its proofs, makes 100,000 declarations and 100,000
 queries, and a tenth of both, and runs the program on each. It prints queries a second, the peak of
 memory, the time beside that of only reading the same input and writing the same output, and how
-time and memory grow from the smaller text to the larger one. Where `rustc` is there, the peak of
-memory stands beside that of the same algorithm in plain Rust (`bench/plain`); where `valgrind` is
-there, the instructions are counted too. It judges nothing.
+time and memory grow from the smaller text to the larger one. Where `rustc` is there, time and peak of
+memory stand beside those of two programs in plain Rust (`bench/plain`): one with the same algorithm and
+data, and a lean one. Where `valgrind` is there, the instructions are counted too. It judges nothing.
 """
 
 import argparse
+import filecmp
 import os
 import random
 import re
@@ -22,7 +23,9 @@ import time
 ROOT = os.path.dirname(os.path.dirname(os.path.abspath(__file__)))
 CRATE = os.path.join(ROOT, "crates", "assembly")
 PROGRAM = os.path.join(CRATE, "out", "assembly")
-PLAIN = os.path.join(ROOT, "bench", "plain", "assembly.rs")
+PLAIN = os.path.join(ROOT, "bench", "plain")
+# The same algorithm and data in plain Rust, and what a lean program does.
+PLAIN_PROGRAMS = [("plain Rust", "assembly.rs"), ("lean plain Rust", "lean.rs")]
 
 PRIMITIVES = ["bool", "char", "str", "!", "u8", "i32", "u64", "usize", "f64"]
 POINTERS = ["&", "&mut", "*const", "*mut", "[]"]
@@ -181,12 +184,15 @@ def build():
 
 
 def build_plain(folder):
-    """The same algorithm in plain Rust, or nothing where there is no compiler for it."""
+    """The programs in plain Rust by their names; none where there is no compiler for them."""
     if shutil.which("rustc") is None:
-        return None
-    made = os.path.join(folder, "plain")
-    subprocess.run(["rustc", "--edition", "2021", "-O", "-o", made, PLAIN], check=True)
-    return made
+        return []
+    programs = []
+    for name, source in PLAIN_PROGRAMS:
+        made = os.path.join(folder, os.path.splitext(source)[0])
+        subprocess.run(["rustc", "--edition", "2021", "-O", "-o", made, os.path.join(PLAIN, source)], check=True)
+        programs.append((name, made))
+    return programs
 
 
 def instructions_of_run(text, program):
@@ -204,9 +210,9 @@ def start(text, answers, program=PROGRAM):
         return subprocess.Popen([program], stdin=given, stdout=taken)
 
 
-def seconds_of_run(text, answers):
+def seconds_of_run(text, answers, program=PROGRAM):
     begin = time.perf_counter()
-    status = start(text, answers).wait()
+    status = start(text, answers, program).wait()
     end = time.perf_counter()
     if status != 0:
         sys.exit("the program ended with status %d" % status)
@@ -248,16 +254,21 @@ def seconds_of_copy(text, answers, to):
     return time.perf_counter() - begin
 
 
-def compare(text, answers, memory, plain):
-    """Prints what the run took beside plain Rust."""
+def compare(text, answers, whole, memory, plain):
+    """Prints what the run took beside programs in plain Rust, which have to answer the same."""
     counted = instructions_of_run(text, PROGRAM)
     if counted is not None:
         print("  instructions       %.0f million" % (counted / 1e6))
-    if plain is None:
-        return
-    if counted is not None:
-        print("  beside plain Rust  %.2f times the instructions" % (counted / instructions_of_run(text, plain)))
-    print("  beside plain Rust  %.2f times the memory" % (memory / memory_of_run(text, answers, plain)))
+    for name, program in plain:
+        theirs = answers + " in plain Rust"
+        seconds = min(seconds_of_run(text, theirs, program) for _ in range(3))
+        if not filecmp.cmp(answers, theirs, shallow=False):
+            sys.exit("%s answers otherwise" % name)
+        print("  beside %s" % name)
+        if counted is not None:
+            print("    instructions     %.2f times" % (counted / instructions_of_run(text, program)))
+        print("    time             %.2f times" % (whole / seconds))
+        print("    memory           %.2f times" % (memory / memory_of_run(text, theirs, program)))
 
 
 def measure(folder, size, seed, rounds, plain):
@@ -285,7 +296,7 @@ def measure(folder, size, seed, rounds, plain):
     print("  queries a second   %.0f (%.0f with the declarations counted in)" % (size / in_queries, size / whole))
     print("  beside a copy      %.1f times as long (a copy takes %.4f s)" % (whole / copy, copy))
     print("  peak of memory     %.1f MiB, %.0f bytes a line" % (memory / 1024, memory * 1024 / (2 * size)))
-    compare(text, answers, memory, plain)
+    compare(text, answers, whole, memory, plain)
     return whole, memory, os.path.getsize(text)
 
 

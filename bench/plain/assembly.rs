@@ -2,7 +2,7 @@
 //! nodes, names in an ordered map, one walk a check. It is there to be measured beside the program, and
 //! reads texts without a bad line only.
 
-use std::collections::BTreeMap;
+use std::collections::btree_map::{BTreeMap, Entry};
 use std::io::{self, BufWriter, Read, Write};
 
 const MAX_HEIGHT: u32 = 1024;
@@ -97,15 +97,18 @@ struct Declaration {
 
 struct Program<'a> {
     local: u32,
-    items: BTreeMap<(u64, &'a str), Item>,
-    names: Vec<&'a str>,
+    names: Vec<(&'a str, Item)>,
+    first_of_number: BTreeMap<u64, usize>,
+    others: BTreeMap<&'a str, usize>,
     definitions: Vec<Declaration>,
     rows: Vec<Row>,
 }
 
-fn key(name: &str) -> (u64, &str) {
-    let number = name.bytes().fold(0u64, |n, byte| n.wrapping_mul(31).wrapping_add(u64::from(byte)));
-    (number, name)
+fn number_of(name: &str) -> u64 {
+    name.bytes().fold(0u64, |number, byte| {
+        let number = (number ^ u64::from(byte)).wrapping_mul(0x9e37_79b9_7f4a_7c15);
+        number ^ (number >> 32)
+    })
 }
 
 const WORDS: [&str; 20] = [
@@ -123,7 +126,8 @@ impl<'a> Words<'a> {
         if rest.is_empty() {
             return None;
         }
-        let (word, rest) = rest.split_once(' ').unwrap_or((rest, ""));
+        let end = rest.bytes().position(|byte| byte == b' ').unwrap_or(rest.len());
+        let (word, rest) = rest.split_at(end);
         self.rest = rest;
         Some(word)
     }
@@ -193,7 +197,7 @@ impl<'a> Program<'a> {
         let (mut item, mut krate) = (Item { kind: command.as_bytes()[0] as char, number, arity: 0, is_auto: false }, 0);
         let name;
         if command == "assoc" {
-            let of = self.items[&key(words.next())];
+            let of = self.item(words.next());
             item.kind = 'p';
             item.arity = of.arity;
             krate = self.definitions[of.number as usize].krate;
@@ -206,7 +210,7 @@ impl<'a> Program<'a> {
             }
         }
         assert!(name.bytes().all(|byte| byte.is_ascii_alphanumeric() || byte == b'_'));
-        assert!(!self.items.contains_key(&key(name)));
+        assert!(self.find(name).is_none());
         let mut is_fundamental = false;
         while let Some(flag) = words.word() {
             match flag {
@@ -217,14 +221,40 @@ impl<'a> Program<'a> {
         }
         let parameters = vec![0; usize::from(item.arity)];
         self.definitions.push(Declaration { krate, _parameters: parameters, is_fundamental });
-        self.names.push(name);
-        self.items.insert(key(name), item);
+        self.give_name(name, item);
+    }
+
+    fn give_name(&mut self, name: &'a str, item: Item) {
+        let next = self.names.len();
+        self.names.push((name, item));
+        match self.first_of_number.entry(number_of(name)) {
+            Entry::Vacant(place) => {
+                place.insert(next);
+            }
+            Entry::Occupied(_) => {
+                self.others.insert(name, next);
+            }
+        }
+    }
+
+    fn find(&self, word: &str) -> Option<Item> {
+        let (name, item) = self.names[*self.first_of_number.get(&number_of(word))?];
+        if name == word {
+            return Some(item);
+        }
+        Some(self.names[*self.others.get(word)?].1)
+    }
+
+    fn item(&self, word: &str) -> Item {
+        self.find(word).expect("a name")
     }
 
     fn read_type(&mut self, words: &mut Words<'a>) -> Result<u32, Stop> {
         let word = words.next();
-        if let Some(leaf) = WORDS.iter().find(|leaf| **leaf == word) {
-            return self.ty(Kind::Word(leaf));
+        if let b'b' | b'c' | b's' | b'!' | b'i' | b'u' | b'f' = word.as_bytes()[0] {
+            if let Some(leaf) = WORDS.iter().find(|leaf| **leaf == word) {
+                return self.ty(Kind::Word(leaf));
+            }
         }
         match word {
             "error" => return self.ty(Kind::Error),
@@ -256,7 +286,7 @@ impl<'a> Program<'a> {
         if let Some(digits) = word.strip_prefix("dyn(").and_then(|rest| rest.strip_suffix(')')) {
             return self.read_dyn(words, digits.parse().unwrap());
         }
-        let item = self.items[&key(word)];
+        let item = self.item(word);
         match item.kind {
             'a' => {
                 let args = self.read_args(words, u32::from(item.arity))?;
@@ -275,13 +305,13 @@ impl<'a> Program<'a> {
         for _ in 0..count {
             list.push(self.read_type(words)?);
         }
-        self.add(Node::Args(list.as_slice().to_vec()))
+        self.add(Node::Args(list))
     }
 
     fn read_dyn(&mut self, words: &mut Words<'a>, count: u32) -> Result<u32, Stop> {
         let mut bounds = Vec::new();
         for _ in 0..count {
-            let item = self.items[&key(words.next())];
+            let item = self.item(words.next());
             let bound = if item.is_auto {
                 Bound::Auto(item.number)
             } else if item.kind == 't' {
@@ -433,7 +463,7 @@ impl<'a> Program<'a> {
                 _ => InCrate::Remote,
             }),
         };
-        let of = self.items[&key(words.next())];
+        let of = self.item(words.next());
         let args = self.read_args(words, u32::from(of.arity) + 1)?;
         let Some(in_crate) = in_crate else {
             text.push_str(self.knowable(of.number, args)?);
@@ -486,9 +516,9 @@ impl<'a> Program<'a> {
                 write!(text, "({})", self.list(args).len()).unwrap();
                 self.print_all(args, text);
             }
-            Kind::Foreign(number) => text.push_str(self.names[number as usize]),
+            Kind::Foreign(number) => text.push_str(self.names[number as usize].0),
             Kind::Adt(number, args) | Kind::Alias(number, args) => {
-                text.push_str(self.names[number as usize]);
+                text.push_str(self.names[number as usize].0);
                 self.print_all(args, text);
             }
             Kind::Dynamic(preds, _) => {
@@ -497,7 +527,7 @@ impl<'a> Program<'a> {
                     let Node::Pred(_, bound) = self.rows[*pred as usize].node else { unreachable!() };
                     let (Bound::Auto(number) | Bound::Trait(number, _) | Bound::Projection(number, _, _)) = bound;
                     text.push(' ');
-                    text.push_str(self.names[number as usize]);
+                    text.push_str(self.names[number as usize].0);
                     if let Bound::Trait(_, args) | Bound::Projection(_, args, _) = bound {
                         self.print_all(args, text);
                     }
@@ -523,8 +553,9 @@ fn main() -> io::Result<()> {
     io::stdin().read_to_end(&mut text)?;
     let mut program = Program {
         local: 0,
-        items: BTreeMap::new(),
         names: Vec::new(),
+        first_of_number: BTreeMap::new(),
+        others: BTreeMap::new(),
         definitions: Vec::new(),
         rows: Vec::new(),
     };
@@ -540,6 +571,7 @@ fn main() -> io::Result<()> {
             None => {}
             Some(command @ ("orphan" | "knowable")) => {
                 answer.clear();
+                program.rows.clear();
                 match program.query(command, &mut words, &mut answer) {
                     Ok(()) => output.write_all(answer.as_bytes())?,
                     Err(stop) => writeln!(output, "stop {}", stop as u8)?,

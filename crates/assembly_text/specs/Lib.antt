@@ -1,3 +1,4 @@
 pub mod Faults
 pub mod Notation
+pub mod Params
 pub mod Types

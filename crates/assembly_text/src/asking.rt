@@ -33,19 +33,24 @@ pub enum Query {
 pub struct Asking<'a> {
     scope: Scope<'a>,
     answer: String,
+    /// How many nodes stood in the context before the first query.
+    declared_nodes: usize,
 }
 
 impl<'a> Asking<'a> {
     /// Over what is declared under these names.
     pub fn new(alloc: Global, names: Names<'a>, cx: Cx) -> Self {
+        let declared_nodes = cx.node_count();
         Asking {
             scope: Scope { alloc, names, cx },
             answer: String::new(alloc),
+            declared_nodes,
         }
     }
 
     /// The answer to the line, whose command was read; or why it can't be given.
     ///
+    /// What the query before made in the context is gone by then.
     /// The error is a fault of the line.
     pub fn ask(
         &mut self,
@@ -53,6 +58,7 @@ impl<'a> Asking<'a> {
         mut words: Words<'a>,
     ) -> Result<Result<&str, Stop>, Fault<'a>> {
         self.answer.clear();
+        self.scope.cx.truncate(self.declared_nodes);
         let made = match query {
             Query::Orphan => self.orphan(&mut words)?,
             Query::Knowable => self.knowable(&mut words)?,
@@ -70,9 +76,6 @@ impl<'a> Asking<'a> {
     {
         let trait_ref = self.scope.read_trait_ref(words)?;
         words.end()?;
-        if self.scope.cx.has_param(trait_ref) {
-            return Err(Fault::Parameter);
-        }
         Ok(trait_ref)
     }
 

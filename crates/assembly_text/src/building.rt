@@ -5,6 +5,7 @@
 ghost use Rattle.std.specs.Prelude.{◌≡◌, false, IfOk};
 ghost use Rattle.candidate_ir.specs.Context.{Grows};
 ghost use Rattle.candidate_ir.specs.Words.{IsTy, ListFits, PredFits, BoundsFit, AtMostOnePrincipal, names_trait};
+ghost use Rattle.assembly_text.specs.Params.{LacksParam, ListLacksParam, BoundLacksParam, BoundsLackParam};
 
 use candidate_ir::decl::context::Cx;
 use candidate_ir::ir::kinds::{
@@ -32,9 +33,11 @@ pub enum Constructor {
 
 /// The pointer to the type, or the slice of it.
 pub fn pointer_to(cx: &mut Cx, pointer: Pointer, target: Ty) -> Result<Ty, Stop>
-    requires { IsTy cx.old.trees target }
+    requires target { IsTy cx.old.trees target }
+    requires no_param { LacksParam cx.old.trees target.0 }
     ensures grows { Grows cx.old cx.new }
     ensures sort { IfOk result (λ ty. IsTy cx.new.trees ty) }
+    ensures no_param { IfOk result (λ ty. LacksParam cx.new.trees ty.0) }
 {
     match pointer {
         Pointer::Ref(mutability) => reference(cx, target, mutability),
@@ -44,21 +47,25 @@ pub fn pointer_to(cx: &mut Cx, pointer: Pointer, target: Ty) -> Result<Ty, Stop>
 }
 
 fn reference(cx: &mut Cx, target: Ty, mutability: Mutability) -> Result<Ty, Stop>
-    requires { IsTy cx.old.trees target }
+    requires target { IsTy cx.old.trees target }
+    requires no_param { LacksParam cx.old.trees target.0 }
     ensures grows { Grows cx.old cx.new }
     ensures sort { IfOk result (λ ty. IsTy cx.new.trees ty) }
+    ensures no_param { IfOk result (λ ty. LacksParam cx.new.trees ty.0) }
 {
     let region = cx.mk_region(RegionKind::Static)?;
     cx.mk_ty(TyKind::Ref(region, target, mutability))
 }
 
 /// The type over these arguments.
-pub fn construct(cx: &mut Cx, constructor: Constructor, list: &[GenericArg]) -> Result<Ty, Stop>
-    requires { ListFits cx.old.trees list.now }
+pub fn construct(cx: &mut Cx, constructor: Constructor, list: Vec<GenericArg>) -> Result<Ty, Stop>
+    requires fit { ListFits cx.old.trees list.items }
+    requires no_param { ListLacksParam cx.old.trees list.items }
     ensures grows { Grows cx.old cx.new }
     ensures sort { IfOk result (λ ty. IsTy cx.new.trees ty) }
+    ensures no_param { IfOk result (λ ty. LacksParam cx.new.trees ty.0) }
 {
-    let args = cx.mk_args(list)?;
+    let args = cx.mk_arg_list(list)?;
     cx.mk_ty(match constructor {
         Constructor::Tuple => TyKind::Tuple(args),
         Constructor::Adt(id) => TyKind::Adt(id, args),
@@ -70,8 +77,10 @@ pub fn construct(cx: &mut Cx, constructor: Constructor, list: &[GenericArg]) -> 
 pub fn dynamic(cx: &mut Cx, bounds: &[Binder<ExistentialPredicate>]) -> Result<Ty, Stop>
     requires fit { BoundsFit cx.old.trees bounds.now }
     requires principal { AtMostOnePrincipal bounds.now }
+    requires no_param { BoundsLackParam cx.old.trees bounds.now }
     ensures grows { Grows cx.old cx.new }
     ensures sort { IfOk result (λ ty. IsTy cx.new.trees ty) }
+    ensures no_param { IfOk result (λ ty. LacksParam cx.new.trees ty.0) }
 {
     let preds = cx.mk_preds(bounds)?;
     let region = cx.mk_region(RegionKind::Static)?;
@@ -82,6 +91,7 @@ pub fn dynamic(cx: &mut Cx, bounds: &[Binder<ExistentialPredicate>]) -> Result<T
 pub fn auto_bound(cx: &mut Cx, id: TraitId) -> Result<Binder<ExistentialPredicate>, Stop>
     ensures grows { Grows cx.old cx.new }
     ensures fits { IfOk result (λ bound. PredFits cx.new.trees bound) }
+    ensures no_param { IfOk result (λ bound. BoundLacksParam cx.new.trees bound) }
     ensures kind { IfOk result (λ bound. names_trait bound.value ≡ false) }
 {
     let vars = cx.mk_vars(&[])?;
@@ -95,13 +105,15 @@ pub fn auto_bound(cx: &mut Cx, id: TraitId) -> Result<Binder<ExistentialPredicat
 pub fn trait_bound(
     cx: &mut Cx,
     id: TraitId,
-    list: &[GenericArg],
+    list: Vec<GenericArg>,
 ) -> Result<Binder<ExistentialPredicate>, Stop>
-    requires { ListFits cx.old.trees list.now }
+    requires fit { ListFits cx.old.trees list.items }
+    requires no_param { ListLacksParam cx.old.trees list.items }
     ensures grows { Grows cx.old cx.new }
     ensures fits { IfOk result (λ bound. PredFits cx.new.trees bound) }
+    ensures no_param { IfOk result (λ bound. BoundLacksParam cx.new.trees bound) }
 {
-    let args = cx.mk_args(list)?;
+    let args = cx.mk_arg_list(list)?;
     let vars = cx.mk_vars(&[])?;
     Ok(Binder {
         vars,
@@ -113,16 +125,19 @@ pub fn trait_bound(
 pub fn projection_bound(
     cx: &mut Cx,
     id: AssocId,
-    list: &[GenericArg],
+    list: Vec<GenericArg>,
     term: Ty,
 ) -> Result<Binder<ExistentialPredicate>, Stop>
-    requires list { ListFits cx.old.trees list.now }
+    requires list { ListFits cx.old.trees list.items }
+    requires list_no_param { ListLacksParam cx.old.trees list.items }
     requires term { IsTy cx.old.trees term }
+    requires term_no_param { LacksParam cx.old.trees term.0 }
     ensures grows { Grows cx.old cx.new }
     ensures fits { IfOk result (λ bound. PredFits cx.new.trees bound) }
+    ensures no_param { IfOk result (λ bound. BoundLacksParam cx.new.trees bound) }
     ensures kind { IfOk result (λ bound. names_trait bound.value ≡ false) }
 {
-    let args = cx.mk_args(list)?;
+    let args = cx.mk_arg_list(list)?;
     let vars = cx.mk_vars(&[])?;
     Ok(Binder {
         vars,

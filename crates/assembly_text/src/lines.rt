@@ -7,6 +7,7 @@ use crate::asking::{Asking, Query};
 use crate::declaring::{Declaration, Declaring};
 use crate::faults::Fault;
 use crate::words::Words;
+use memchr::memchr;
 use std::alloc::Global;
 use std::io;
 use std::io::Write;
@@ -66,14 +67,16 @@ impl<'a> Lines<'a> {
     fn next_line(&mut self) -> Option<&'a [u8]> {
         let rest = self.rest?;
         self.number = self.number.saturating_add(1);
-        for (end, byte) in rest.iter().enumerate() {
-            if *byte == b'\n' {
+        match memchr(b'\n', rest) {
+            Some(end) => {
                 self.rest = Some(&rest[end + 1..]);
-                return Some(&rest[..end]);
+                Some(&rest[..end])
+            }
+            None => {
+                self.rest = None;
+                Some(rest)
             }
         }
-        self.rest = None;
-        Some(rest)
     }
 
     /// The command of the next line that isn't passed over, and the words that follow it.

@@ -3,6 +3,7 @@
 ghost use Rattle.std.specs.Prelude.{◌≡◌, ◌⊎◌, IfOk, IfErr, Some, None};
 
 use crate::faults::Fault;
+use crate::words::begins_with_letter;
 use candidate_ir::ir::kinds::{AdtId, AssocId, ForeignId, TraitId};
 use std::alloc::{AllocError, Global};
 use std::collections::BTreeMap;
@@ -29,21 +30,47 @@ pub enum Item {
     Assoc(AssocId, u16),
 }
 
-/// The names declared so far, which are words of the text. They are kept in an order, so that no
-/// choice of names makes them slow to find.
+/// What was declared under a name.
+#[derive(Clone, Copy)]
+struct Definition<'a> {
+    name: &'a str,
+    item: Item,
+}
+
+/// Where a definition can stand, to be found by a number that is made of its name.
+#[derive(Clone, Copy)]
+enum Place {
+    Free,
+    /// The upper half of the number, and the definition's own number.
+    Taken(u32, u32),
+}
+
+/// How many places there are at first; there are at least twice as many as definitions.
+const FIRST_PLACES: usize = 64;
+
+/// In how many places, one behind the other, a definition may stand.
+const TRIED_PLACES: usize = 8;
+
+/// The names declared so far, which are words of the text.
+///
+/// A name whose places are all taken stands in an ordered map, so that no choice of names makes them
+/// slow to find.
 #[derive(Drop)]
 pub struct Names<'a> {
-    items: BTreeMap<(u64, &'a str), Item>,
-    /// The names of the definitions by their numbers.
-    definitions: Vec<&'a str>,
+    /// The definitions by their numbers.
+    definitions: Vec<Definition<'a>>,
+    /// So many places as a power of two says.
+    places: Vec<Place>,
+    crowded: BTreeMap<(u64, &'a str), u32>,
 }
 
 impl<'a> Names<'a> {
     /// No names.
     pub fn new(alloc: Global) -> Self {
         Names {
-            items: BTreeMap::new(alloc),
             definitions: Vec::new(alloc),
+            places: Vec::new(alloc),
+            crowded: BTreeMap::new(alloc),
         }
     }
 
@@ -57,7 +84,7 @@ impl<'a> Names<'a> {
         if !is_name(word) {
             return Err(Fault::BadName(word));
         }
-        if self.items.contains_key(&key(word)) {
+        if self.find(word).is_some() {
             return Err(Fault::NameTwice(word));
         }
         Ok(word)
@@ -67,8 +94,8 @@ impl<'a> Names<'a> {
     pub fn item(&self, word: &'a str) -> Result<Item, Fault<'a>>
         ensures { IfErr result (λ e. e ≡ Fault.UnknownName word.entry) }
     {
-        match self.items.get(&key(word)) {
-            Some(item) => Ok(*item),
+        match self.find(word) {
+            Some(item) => Ok(item),
             None => Err(Fault::UnknownName(word)),
         }
     }
@@ -77,32 +104,97 @@ impl<'a> Names<'a> {
     pub fn trait_named(&self, word: &'a str) -> Result<NamedTrait, Fault<'a>>
         ensures { IfErr result (λ e. e ≡ Fault.UnknownName word.entry) }
     {
-        match self.items.get(&key(word)) {
-            Some(Item::Trait(found)) => Ok(*found),
+        match self.find(word) {
+            Some(Item::Trait(found)) => Ok(found),
             _ => Err(Fault::UnknownName(word)),
         }
     }
 
+    fn find(&self, word: &'a str) -> Option<Item> {
+        let number = number_of(word);
+        let upper = upper_half(number);
+        for step in 0..TRIED_PLACES {
+            if let Place::Taken(other, definition) = *self.places.get(self.index(number, step))? {
+                if other == upper {
+                    let found = self.definitions.get(definition as usize)?;
+                    if found.name == word {
+                        return Some(found.item);
+                    }
+                }
+            } else {
+                return None;
+            }
+        }
+        let definition = self.crowded.get(&(number, word))?;
+        Some(self.definitions.get(*definition as usize)?.item)
+    }
+
+    /// The place for that number, so many behind its own.
+    fn index(&self, number: u64, step: usize) -> usize {
+        (number as usize).wrapping_add(step) & self.places.len().wrapping_sub(1)
+    }
+
     /// Gives the name to the next definition.
     pub fn add_definition(&mut self, name: &'a str, item: Item) -> Result<(), AllocError> {
-        self.definitions.push(name)?;
-        self.items.insert(key(name), item)?;
+        let next = self.definitions.len();
+        self.definitions.push(Definition { name, item })?;
+        if next < self.places.len() / 2 {
+            self.settle(next)
+        } else {
+            self.settle_anew()
+        }
+    }
+
+    /// Makes twice as many places, and gives each definition its own.
+    fn settle_anew(&mut self) -> Result<(), AllocError> {
+        let count = self.places.len().saturating_mul(2).max(FIRST_PLACES);
+        self.places.clear();
+        self.places.resize(count, Place::Free)?;
+        for definition in 0..self.definitions.len() {
+            self.settle(definition)?;
+        }
+        Ok(())
+    }
+
+    /// Gives the definition the first free place of those that are its own.
+    fn settle(&mut self, definition: usize) -> Result<(), AllocError> {
+        let (Some(found), Ok(taker)) = (self.definitions.get(definition), u32::try_from(definition))
+        else {
+            return Err(AllocError);
+        };
+        let name = found.name;
+        let number = number_of(name);
+        for step in 0..TRIED_PLACES {
+            let index = self.index(number, step);
+            if let Some(place) = self.places.get_mut(index) {
+                if let Place::Free = place {
+                    *place = Place::Taken(upper_half(number), taker);
+                    return Ok(());
+                }
+            }
+        }
+        self.crowded.insert((number, name), taker)?;
         Ok(())
     }
 
     /// The name of the definition of that number.
     pub fn definition(&self, number: u32) -> Option<&'a str> {
-        self.definitions.get(number as usize).copied()
+        Some(self.definitions.get(number as usize)?.name)
     }
 }
 
-/// The name after a number that is made of its bytes, by which most names differ at once.
-fn key<'a>(name: &'a str) -> (u64, &'a str) {
+/// A number that is made of the bytes of a name, by steps that mix all that came before.
+fn number_of(name: &str) -> u64 {
     let mut number = 0u64;
     for byte in name.bytes() {
-        number = number.wrapping_mul(31).wrapping_add(u64::from(byte));
+        number = (number ^ u64::from(byte)).wrapping_mul(0x9e37_79b9_7f4a_7c15);
+        number ^= number >> 32;
     }
-    (number, name)
+    number
+}
+
+fn upper_half(number: u64) -> u32 {
+    (number >> 32) as u32
 }
 
 /// Whether the word is a letter and then letters, digits and `_`, not too long, and no type.
@@ -113,11 +205,4 @@ fn is_name(word: &str) -> bool {
         }
     }
     word.len() <= LONGEST && begins_with_letter(word) && crate::notation::leaf(word).is_none()
-}
-
-fn begins_with_letter(word: &str) -> bool {
-    match word.as_bytes().first() {
-        Some(byte) => byte.is_ascii_alphabetic(),
-        None => false,
-    }
 }

@@ -1,82 +1,88 @@
 //! The words that types are written in.
 
-ghost use Rattle.std.specs.Prelude.{◌≡◌, [], IfOk, IfSome};
-ghost use Rattle.candidate_ir.specs.Kinds.{ty_children};
-ghost use Rattle.assembly_text.specs.Notation.{IsChildless};
+ghost use Rattle.std.specs.Prelude.{IfOk, IfSome};
+ghost use Rattle.assembly_text.specs.Notation.{IsChildless, IsLeaf};
 
+use crate::building::{Constructor, Pointer};
 use crate::faults::Fault;
-use crate::words::{is_digits, number_in};
+use crate::words::{begins_with_letter, is_digits, number_in};
 use candidate_ir::ir::kinds::{FloatTy, InferTy, IntTy, Mutability, Placeholder, TyKind, UintTy};
-
-/// How many bytes the longest word of a type without a number has.
-const LONGEST_LEAF: usize = 5;
 
 /// The greatest number of a variable.
 const LAST_VARIABLE: u16 = 255;
 
-/// What the first word of a type says of it.
+/// What a type's first word makes of the words that follow.
 #[derive(Clone, Copy)]
-pub enum TypeWord<'a> {
-    /// It is the whole type.
+pub enum Head {
+    /// The word is the whole type.
     Leaf(TyKind),
-    /// A reference; the target follows.
-    Ref(Mutability),
-    /// A raw pointer; the target follows.
-    RawPtr(Mutability),
-    /// A slice; the element follows.
-    Slice,
-    /// A tuple of so many types, which follow.
-    Tuple(u16),
-    /// A `dyn` type of so many bounds, which follow.
+    /// One type follows.
+    Before(Pointer),
+    /// So many types follow.
+    Over(Constructor, u32),
+    /// So many bounds follow.
     Dyn(u16),
-    /// A parameter of a definition.
-    Param,
-    /// A name.
-    Name(&'a str),
 }
 
-/// What the first word of a type says of it.
+/// What the first word of a type makes of the words that follow, or none where only a name can say it.
 ///
 /// `Fault::BadNumber` comes where the number in the word is too great, `Fault::UnknownName` where
-/// the word has a mark, but no number.
-pub fn type_word<'a>(word: &'a str) -> Result<TypeWord<'a>, Fault<'a>>
-    ensures { IfOk result IsChildless }
+/// the word has a mark, but no number, `Fault::Parameter` at a parameter.
+pub fn head_of<'a>(word: &'a str) -> Result<Option<Head>, Fault<'a>>
+    ensures { IfOk result (λ found. IfSome found IsChildless) }
 {
     if let Some(kind) = leaf(word) {
-        return Ok(TypeWord::Leaf(kind));
+        return Ok(Some(Head::Leaf(kind)));
     }
+    if begins_with_letter(word) {
+        return lettered_head(word);
+    }
+    if let Some(pointer) = pointer_of(word) {
+        return Ok(Some(Head::Before(pointer)));
+    }
+    marked_head(word)
+}
+
+fn pointer_of(word: &str) -> Option<Pointer> {
     match word {
-        "&" => Ok(TypeWord::Ref(Mutability::Not)),
-        "&mut" => Ok(TypeWord::Ref(Mutability::Mut)),
-        "*const" => Ok(TypeWord::RawPtr(Mutability::Not)),
-        "*mut" => Ok(TypeWord::RawPtr(Mutability::Mut)),
-        "[]" => Ok(TypeWord::Slice),
-        _ => numbered_word(word),
+        "&" => Some(Pointer::Ref(Mutability::Not)),
+        "&mut" => Some(Pointer::Ref(Mutability::Mut)),
+        "*const" => Some(Pointer::RawPtr(Mutability::Not)),
+        "*mut" => Some(Pointer::RawPtr(Mutability::Mut)),
+        "[]" => Some(Pointer::Slice),
+        _ => None,
     }
 }
 
-fn numbered_word<'a>(word: &'a str) -> Result<TypeWord<'a>, Fault<'a>>
-    ensures { IfOk result IsChildless }
+fn lettered_head<'a>(word: &'a str) -> Result<Option<Head>, Fault<'a>>
+    ensures { IfOk result (λ found. IfSome found IsChildless) }
+{
+    match word.strip_prefix("dyn(") {
+        Some(rest) => Ok(Some(Head::Dyn(bracketed_number(word, rest)?))),
+        None => Ok(None),
+    }
+}
+
+fn marked_head<'a>(word: &'a str) -> Result<Option<Head>, Fault<'a>>
+    ensures { IfOk result (λ found. IfSome found IsChildless) }
 {
     if let Some(digits) = word.strip_prefix('$') {
-        let number = marked_number(word, digits, LAST_VARIABLE)?;
-        return Ok(TypeWord::Leaf(TyKind::Infer(InferTy::TyVar(u32::from(number)))));
+        let number = u32::from(marked_number(word, digits, LAST_VARIABLE)?);
+        return Ok(Some(Head::Leaf(TyKind::Infer(InferTy::TyVar(number)))));
     }
     if let Some(digits) = word.strip_prefix('!') {
         let index = u32::from(marked_number(word, digits, u16::MAX)?);
-        return Ok(TypeWord::Leaf(TyKind::Placeholder(Placeholder { universe: 0, index })));
+        return Ok(Some(Head::Leaf(TyKind::Placeholder(Placeholder { universe: 0, index }))));
+    }
+    if let Some(rest) = word.strip_prefix('(') {
+        let count = u32::from(bracketed_number(word, rest)?);
+        return Ok(Some(Head::Over(Constructor::Tuple, count)));
     }
     if let Some(digits) = word.strip_prefix('#') {
         marked_number(word, digits, u16::MAX)?;
-        return Ok(TypeWord::Param);
+        return Err(Fault::Parameter);
     }
-    if let Some(rest) = word.strip_prefix('(') {
-        return Ok(TypeWord::Tuple(bracketed_number(word, rest)?));
-    }
-    if let Some(rest) = word.strip_prefix("dyn(") {
-        return Ok(TypeWord::Dyn(bracketed_number(word, rest)?));
-    }
-    Ok(TypeWord::Name(word))
+    Ok(None)
 }
 
 /// The number in the rest of a word after its bracket.
@@ -95,37 +101,64 @@ fn marked_number<'a>(word: &'a str, digits: &str, most: u16) -> Result<u16, Faul
     }
 }
 
-/// The type that the word alone is.
+/// The type that the word alone is. Its first byte tells most other words from it at once.
 pub fn leaf(word: &str) -> Option<TyKind>
-    ensures { IfSome result (λ kind. ty_children kind ≡ []) }
+    ensures { IfSome result IsLeaf }
 {
-    if word.len() > LONGEST_LEAF {
-        return None;
+    match word.as_bytes().first()? {
+        b'i' => Some(TyKind::Int(int_width(word)?)),
+        b'u' => Some(TyKind::Uint(uint_width(word)?)),
+        b'f' => Some(TyKind::Float(float_width(word)?)),
+        b'b' | b'c' | b's' | b'!' | b'e' => other_leaf(word),
+        _ => None,
     }
-    Some(match word {
-        "bool" => TyKind::Bool,
-        "char" => TyKind::Char,
-        "str" => TyKind::Str,
-        "!" => TyKind::Never,
-        "error" => TyKind::Error,
-        "i8" => TyKind::Int(IntTy::I8),
-        "i16" => TyKind::Int(IntTy::I16),
-        "i32" => TyKind::Int(IntTy::I32),
-        "i64" => TyKind::Int(IntTy::I64),
-        "i128" => TyKind::Int(IntTy::I128),
-        "isize" => TyKind::Int(IntTy::Isize),
-        "u8" => TyKind::Uint(UintTy::U8),
-        "u16" => TyKind::Uint(UintTy::U16),
-        "u32" => TyKind::Uint(UintTy::U32),
-        "u64" => TyKind::Uint(UintTy::U64),
-        "u128" => TyKind::Uint(UintTy::U128),
-        "usize" => TyKind::Uint(UintTy::Usize),
-        "f16" => TyKind::Float(FloatTy::F16),
-        "f32" => TyKind::Float(FloatTy::F32),
-        "f64" => TyKind::Float(FloatTy::F64),
-        "f128" => TyKind::Float(FloatTy::F128),
-        _ => return None,
-    })
+}
+
+fn other_leaf(word: &str) -> Option<TyKind>
+    ensures { IfSome result IsLeaf }
+{
+    match word {
+        "bool" => Some(TyKind::Bool),
+        "char" => Some(TyKind::Char),
+        "str" => Some(TyKind::Str),
+        "!" => Some(TyKind::Never),
+        "error" => Some(TyKind::Error),
+        _ => None,
+    }
+}
+
+fn int_width(word: &str) -> Option<IntTy> {
+    match word {
+        "i8" => Some(IntTy::I8),
+        "i16" => Some(IntTy::I16),
+        "i32" => Some(IntTy::I32),
+        "i64" => Some(IntTy::I64),
+        "i128" => Some(IntTy::I128),
+        "isize" => Some(IntTy::Isize),
+        _ => None,
+    }
+}
+
+fn uint_width(word: &str) -> Option<UintTy> {
+    match word {
+        "u8" => Some(UintTy::U8),
+        "u16" => Some(UintTy::U16),
+        "u32" => Some(UintTy::U32),
+        "u64" => Some(UintTy::U64),
+        "u128" => Some(UintTy::U128),
+        "usize" => Some(UintTy::Usize),
+        _ => None,
+    }
+}
+
+fn float_width(word: &str) -> Option<FloatTy> {
+    match word {
+        "f16" => Some(FloatTy::F16),
+        "f32" => Some(FloatTy::F32),
+        "f64" => Some(FloatTy::F64),
+        "f128" => Some(FloatTy::F128),
+        _ => None,
+    }
 }
 
 /// The word that a type of that kind begins with, if it is the same for all types of the kind.

@@ -3,14 +3,17 @@
 ghost use Rattle.std.specs.Prelude.{◌≡◌, true, false, IfOk};
 ghost use Rattle.candidate_ir.specs.Context.{Grows};
 ghost use Rattle.candidate_ir.specs.Words.{IsTy, IsArgs, IsPreds, KindFits, ListFits, PredFits, BoundsFit, AtMostOnePrincipal, names_trait};
-ghost use Rattle.assembly_text.specs.Types.{IsChildlessHead, IsNoPrincipal};
+ghost use Rattle.assembly_text.specs.Types.{IsNoPrincipal};
+ghost use Rattle.candidate_eval.specs.Calls.{HasNoParam};
+ghost use Rattle.assembly_text.specs.Notation.{IsChildless};
+ghost use Rattle.assembly_text.specs.Params.{LacksParam, ListLacksParam, BoundLacksParam, BoundsLackParam};
 
 use crate::building::{
-    Constructor, Pointer, auto_bound, construct, dynamic, pointer_to, projection_bound, trait_bound,
+    Constructor, auto_bound, construct, dynamic, pointer_to, projection_bound, trait_bound,
 };
 use crate::faults::Fault;
 use crate::names::{Item, Names};
-use crate::notation::{TypeWord, type_word, word_of};
+use crate::notation::{Head, head_of, word_of};
 use crate::words::Words;
 use candidate_ir::decl::context::Cx;
 use candidate_ir::ir::kinds::{
@@ -34,19 +37,6 @@ pub struct Scope<'a> {
     pub cx: Cx,
 }
 
-/// What a type's first word makes of the words that follow.
-#[derive(Clone, Copy)]
-enum Head {
-    /// The word is the whole type.
-    Leaf(TyKind),
-    /// One type follows.
-    Before(Pointer),
-    /// So many types follow.
-    Over(Constructor, u32),
-    /// So many bounds follow.
-    Dyn(u16),
-}
-
 /// What a bound's name says of it, with how many types follow.
 #[derive(Clone, Copy)]
 enum BoundHead {
@@ -65,6 +55,7 @@ impl<'a> Scope<'a> {
     pub fn read_type(&mut self, words: &mut Words<'a>, depth: u16) -> Result<Ty, Fault<'a>>
         ensures grows { Grows self.old.cx self.new.cx }
         ensures sort { IfOk result (λ ty. IsTy self.new.cx.trees ty) }
+        ensures no_param { IfOk result (λ ty. LacksParam self.new.cx.trees ty.0) }
     {
         let word = words.word()?;
         let Some(below) = depth.checked_sub(1) else {
@@ -78,7 +69,7 @@ impl<'a> Scope<'a> {
             }
             Head::Over(constructor, count) => {
                 let list = self.read_types(words, count, below)?;
-                Ok(construct(&mut self.cx, constructor, list.as_slice())?)
+                Ok(construct(&mut self.cx, constructor, list)?)
             }
             Head::Dyn(count) => {
                 let bounds = self.read_bounds(words, count, below)?;
@@ -97,6 +88,7 @@ impl<'a> Scope<'a> {
     ) -> Result<Vec<GenericArg>, Fault<'a>>
         ensures grows { Grows self.old.cx self.new.cx }
         ensures fits { IfOk result (λ list. ListFits self.new.cx.trees list.items) }
+        ensures no_param { IfOk result (λ list. ListLacksParam self.new.cx.trees list.items) }
     {
         let mut list = Vec::new(self.alloc);
         for _ in 0..count {
@@ -116,6 +108,7 @@ impl<'a> Scope<'a> {
         ensures grows { Grows self.old.cx self.new.cx }
         ensures fit { IfOk result (λ list. BoundsFit self.new.cx.trees list.items) }
         ensures principal { IfOk result (λ list. AtMostOnePrincipal list.items) }
+        ensures no_param { IfOk result (λ list. BoundsLackParam self.new.cx.trees list.items) }
     {
         let mut list = Vec::new(self.alloc);
         let mut has_principal = false;
@@ -137,18 +130,19 @@ impl<'a> Scope<'a> {
     ) -> Result<Binder<ExistentialPredicate>, Fault<'a>>
         ensures grows { Grows self.old.cx self.new.cx }
         ensures fits { IfOk result (λ bound. PredFits self.new.cx.trees bound) }
+        ensures no_param { IfOk result (λ bound. BoundLacksParam self.new.cx.trees bound) }
         ensures principal { IfOk result (λ bound. has_principal ≡ true → names_trait bound.value ≡ false) }
     {
         match self.bound_head(words.word()?, has_principal)? {
             BoundHead::AutoTrait(id) => Ok(auto_bound(&mut self.cx, id)?),
             BoundHead::Trait(id, count) => {
                 let list = self.read_types(words, u32::from(count), depth)?;
-                Ok(trait_bound(&mut self.cx, id, list.as_slice())?)
+                Ok(trait_bound(&mut self.cx, id, list)?)
             }
             BoundHead::Projection(id, count) => {
                 let list = self.read_types(words, u32::from(count), depth)?;
                 let term = self.read_type(words, depth)?;
-                Ok(projection_bound(&mut self.cx, id, list.as_slice(), term)?)
+                Ok(projection_bound(&mut self.cx, id, list, term)?)
             }
         }
     }
@@ -157,10 +151,11 @@ impl<'a> Scope<'a> {
     pub fn read_trait_ref(&mut self, words: &mut Words<'a>) -> Result<TraitRef, Fault<'a>>
         ensures grows { Grows self.old.cx self.new.cx }
         ensures sort { IfOk result (λ r. IsArgs self.new.cx.trees r.args) }
+        ensures no_param { IfOk result (λ r. HasNoParam self.new.cx r) }
     {
         let found = self.names.trait_named(words.word()?)?;
         let list = self.read_types(words, u32::from(found.arity) + 1, DEEPEST)?;
-        let args = self.cx.mk_args(list.as_slice())?;
+        let args = self.cx.mk_arg_list(list)?;
         Ok(TraitRef {
             def_id: found.id,
             args,
@@ -169,23 +164,17 @@ impl<'a> Scope<'a> {
 
     /// What the first word of a type makes of the words that follow.
     fn head(&self, word: &'a str) -> Result<Head, Fault<'a>>
-        ensures { IfOk result IsChildlessHead }
+        ensures { IfOk result IsChildless }
     {
-        Ok(match type_word(word)? {
-            TypeWord::Leaf(kind) => Head::Leaf(kind),
-            TypeWord::Ref(mutability) => Head::Before(Pointer::Ref(mutability)),
-            TypeWord::RawPtr(mutability) => Head::Before(Pointer::RawPtr(mutability)),
-            TypeWord::Slice => Head::Before(Pointer::Slice),
-            TypeWord::Tuple(count) => Head::Over(Constructor::Tuple, u32::from(count)),
-            TypeWord::Dyn(count) => Head::Dyn(count),
-            TypeWord::Param => return Err(Fault::Parameter),
-            TypeWord::Name(name) => return self.named_head(name),
-        })
+        match head_of(word)? {
+            Some(head) => Ok(head),
+            None => self.named_head(word),
+        }
     }
 
     /// What the name of a type makes of the words that follow.
     fn named_head(&self, name: &'a str) -> Result<Head, Fault<'a>>
-        ensures { IfOk result IsChildlessHead }
+        ensures { IfOk result IsChildless }
     {
         match self.names.item(name)? {
             Item::Adt(id, arity) => Ok(Head::Over(Constructor::Adt(id), u32::from(arity))),

@@ -38,7 +38,9 @@ impl<'a> Words<'a> {
         if rest.is_empty() {
             return None;
         }
-        let (word, rest) = rest.split_once(' ').unwrap_or((rest, ""));
+        let (word, rest) = rest
+            .split_at_checked(end_of_word(rest))
+            .unwrap_or((rest, ""));
         self.rest = rest;
         Some(word)
     }
@@ -74,14 +76,31 @@ impl<'a> Words<'a> {
     }
 }
 
-/// Whether all bytes are spaces and visible ASCII characters.
-fn is_visible(line: &[u8]) -> bool {
-    for byte in line {
-        if !matches!(byte, b' '..=b'~') {
-            return false;
+/// Where the first space stands, or the end of the text.
+fn end_of_word(text: &str) -> usize {
+    for (end, byte) in text.bytes().enumerate() {
+        if byte == b' ' {
+            return end;
         }
     }
-    true
+    text.len()
+}
+
+/// Whether all bytes are spaces and visible ASCII characters.
+fn is_visible(line: &[u8]) -> bool {
+    let mut is_visible = true;
+    for byte in line {
+        is_visible &= matches!(byte, b' '..=b'~');
+    }
+    is_visible
+}
+
+/// Whether the first byte is a letter.
+pub fn begins_with_letter(word: &str) -> bool {
+    match word.as_bytes().first() {
+        Some(byte) => byte.is_ascii_alphabetic(),
+        None => false,
+    }
 }
 
 /// Whether the text is decimal digits, at least one.

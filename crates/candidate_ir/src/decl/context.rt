@@ -1,6 +1,6 @@
 //! The context: declarations, and the table in which types are made.
 
-ghost use Rattle.std.specs.Prelude.{◌≡◌, ◌+◌, ◌<◌, ◌↔◌, IsTrue, false, length, map, IfOk, IfErr, Some, None};
+ghost use Rattle.std.specs.Prelude.{◌≡◌, ◌+◌, ◌<◌, ◌↔◌, IsTrue, false, length, take, map, IfOk, IfErr, Some, None};
 ghost use Rattle.candidate_ir.specs.Context.{world, Grows};
 ghost use Rattle.candidate_ir.specs.Making.{Makes, a_type, a_constant, a_region, a_list, a_binder, some_bounds, a_signature, a_clause, an_environment};
 ghost use Rattle.candidate_ir.specs.Trees.{height, heights, tree_holds, holds, is_param};
@@ -29,7 +29,7 @@ use std::marker::Model;
 
 /// Declarations without a fault, and the types, constants, regions and lists made so far.
 ///
-/// A number stands for one tree for good.
+/// A number stands for one tree until it is taken back.
 #[derive(Drop)]
 pub struct Cx {
     crates: u32,
@@ -68,6 +68,20 @@ impl Cx {
             definitions,
             nodes,
         }
+    }
+
+    /// How many numbers of types, constants, regions and lists are given.
+    pub fn node_count(&self) -> usize
+        ensures { result ≡ length self.now.trees }
+    {
+        self.nodes.len()
+    }
+
+    /// Takes back all numbers but the first so many. They stand for nothing then, and are given again.
+    pub fn truncate(&mut self, node_count: usize)
+        ensures { self.new ≡ record self.old { trees = take node_count self.old.trees } }
+    {
+        self.nodes.truncate(node_count);
     }
 
     fn is_local(&self, definition: u32) -> bool
@@ -155,6 +169,14 @@ impl Cx {
         ensures { Makes (a_list list.now) self.old self.new result }
     {
         self.nodes.mk_args(list)
+    }
+
+    /// The same as `mk_args`, of a list that the context keeps.
+    pub fn mk_arg_list(&mut self, list: Vec<GenericArg>) -> Result<Args, Stop>
+        requires { ListFits self.old.trees list.items }
+        ensures { Makes (a_list list.items) self.old self.new result }
+    {
+        self.nodes.mk_arg_list(list)
     }
 
     /// The variables of a binder, by their kinds. They take a number each, and one more.

@@ -104,7 +104,7 @@ impl Nodes {
     }
 
     /// Cuts the table back to the first so many nodes.
-    fn truncate(&mut self, len: usize)
+    pub(crate) fn truncate(&mut self, len: usize)
         ensures { self.new ≡ take len self.old }
     {
         self.rows.truncate(len);
@@ -166,6 +166,14 @@ impl Nodes {
         ensures { Adds (a_list list.now) self.old self.new result }
     {
         let list = list.to_vec(*self.rows.allocator())?;
+        self.mk_arg_list(list)
+    }
+
+    /// The list of these arguments, which it takes.
+    pub(crate) fn mk_arg_list(&mut self, list: Vec<GenericArg>) -> Result<Args, Stop>
+        requires { ListFits self.old list.items }
+        ensures { Adds (a_list list.items) self.old self.new result }
+    {
         Ok(Args(self.add(Node::Args(list))?))
     }
 

@@ -1,10 +1,25 @@
+use Rattle.std.proofs.Common.{refl, ◌∙◌, ap}
+use Rattle.candidate_ir.specs.Trees.{TypeKind, ArgumentsKind, holds, is_param}
 use Rattle.candidate_ir.proofs.Made.{IsTy-grows, IsArgs-grows}
+use Rattle.assembly_text.proofs.Lacking.{lacks-grows, args-lacks, vars-lack, projection-lacks}
 use Rattle.assembly_text.proofs.building.projection_bound.Goals as goal
 
 pub returns-clause-fits : goal.returns-clause-fits
 returns-clause-fits c =
     let args = IsArgs-grows _ _ c.in_ok-args.args c.mk_vars.ensures.kept c.in_ok-args.ensures.sort in
     let vars = c.in_ok-vars.ensures.sort in
-    let now = IsTy-grows _ _ c.args.term c.mk_args.ensures.kept c.requires.term in
+    let now = IsTy-grows _ _ c.args.term c.mk_arg_list.ensures.kept c.requires.term in
     let term = IsTy-grows _ _ c.args.term c.mk_vars.ensures.kept now in
     cc
+
+pub returns-clause-no_param : goal.returns-clause-no_param
+returns-clause-no_param c =
+    let args = c.in_ok-args.args in
+    let is = c.in_ok-args.ensures.sort in
+    let below = args-lacks _ args is (ap (holds is_param) c.in_ok-args.ensures.tree ∙ c.requires.list_no_param) in
+    let term = c.args.term in
+    let now = IsTy-grows _ _ term c.mk_arg_list.ensures.kept c.requires.term in
+    let lacks = lacks-grows _ _ term.0 TypeKind c.mk_arg_list.ensures.kept refl c.requires.term c.requires.term_no_param in
+    projection-lacks _ c.in_ok-vars.vars c.args.id args term (vars-lack _ c.in_ok-vars.vars c.in_ok-vars.ensures.tree)
+    (lacks-grows _ _ args.0 ArgumentsKind c.mk_vars.ensures.kept refl is below)
+    (lacks-grows _ _ term.0 TypeKind c.mk_vars.ensures.kept refl now lacks)

@@ -4,6 +4,7 @@ use Rattle.candidate_ir.specs.declared.ir.kinds.GenericArg.TheVariants as A
 use Rattle.candidate_ir.proofs.Kept.{grows-trans}
 use Rattle.candidate_ir.proofs.Made.{ListFits-grows, ListFits-ty, BoundsFit-one, principals-one, one_if, one_if-or}
 use Rattle.candidate_ir.specs.Words.{names_trait}
+use Rattle.assembly_text.proofs.Lacking.{list-lacks-ty, list-lacks-grows, bounds-lack-one}
 use Rattle.assembly_text.proofs.types.Scope.+types.Goals as goal
 
 pub read_types-loop-preserved : goal.read_types-loop-preserved
@@ -13,6 +14,8 @@ read_types-loop-preserved t c =
       grows = grows-trans _ _ _ c.loop.invariant.grows c.read_type.ensures.grows;
       fits = rw one_more
           (ListFits-ty _ _ _ (ListFits-grows _ _ _ c.read_type.ensures.grows c.loop.invariant.fits) c.in_ok-read_type.ensures.sort);
+      no_param = rw one_more
+          (list-lacks-ty c.read_type.new.self.cx.trees c.loop.list.items c.in_ok-read_type.field-0 (list-lacks-grows _ _ _ c.read_type.ensures.grows c.loop.invariant.fits c.loop.invariant.no_param) c.in_ok-read_type.ensures.no_param);
     }
 
 pub read_bounds-loop-preserved : goal.read_bounds-loop-preserved
@@ -21,6 +24,8 @@ read_bounds-loop-preserved t c =
     record {
       grows = grows-trans _ _ _ c.loop.invariant.grows c.read_bound.ensures.grows;
       fit = rw one_more (BoundsFit-one _ _ _ _ c.read_bound.ensures.grows c.loop.invariant.fit c.in_ok-bound.ensures.fits);
+      no_param = rw one_more
+          (bounds-lack-one _ _ _ _ c.read_bound.ensures.grows c.loop.invariant.fit c.loop.invariant.no_param c.in_ok-bound.ensures.no_param);
       principals = rw one_more
           (principals-one c.loop.list.items c.in_ok-bound.bound
           ∙ ap (λ (n : ℕ). n + one_if (names_trait c.in_ok-bound.bound.value)) c.loop.invariant.principals
@@ -31,5 +36,12 @@ read_bounds-loop-preserved t c =
 pub read_bound-projection_bound-requires-clause-list :
     goal.read_bound-projection_bound-requires-clause-list
 read_bound-projection_bound-requires-clause-list t c =
-    rw c.as_slice-in-Projection.ensures.value
-    (ListFits-grows _ _ _ c.read_type.ensures.grows c.in_ok-list-in-Projection.ensures.fits)
+    ListFits-grows _ _ _ c.read_type.ensures.grows c.in_ok-list-in-Projection.ensures.fits
+
+pub read_bound-projection_bound-requires-clause-list_no_param :
+    goal.read_bound-projection_bound-requires-clause-list_no_param
+read_bound-projection_bound-requires-clause-list_no_param t c =
+    list-lacks-grows _ _ _ c.read_type.ensures.grows c.in_ok-list-in-Projection.ensures.fits c.in_ok-list-in-Projection.ensures.no_param
+
+pub read_bounds-returns-in_err-push-clause-grows : goal.read_bounds-returns-in_err-push-clause-grows
+read_bounds-returns-in_err-push-clause-grows t c = grows-trans _ _ _ c.loop.invariant.grows c.read_bound.ensures.grows

@@ -6,17 +6,20 @@ use Rattle.candidate_ir.specs.declared.ir.kinds.ExistentialPredicate.{Existentia
 use Rattle.candidate_ir.specs.declared.ir.kinds.GenericArg.{GenericArg}
 use Rattle.candidate_ir.specs.Words.{ListFits, BoundsFit, names_trait}
 use Rattle.candidate_ir.proofs.Made.{one_if}
+use Rattle.assembly_text.specs.Params.{ListLacksParam, BoundsLackParam}
 use Rattle.assembly_text.proofs.types.Scope.+types.Given as goal
 
--- the types have grown since the call, and the list has types of them
+-- the types have grown since the call, and the list has types of them without a parameter
 pub record IsRead (old : Context) (new : Context) (list : List GenericArg) : Type 0 where
   pub grows : Grows old new
   pub fits : ListFits new.trees list
+  pub no_param : ListLacksParam new.trees list
 
--- the types have grown since the call, the bounds have types of them, and there is one principal or none
+-- the types have grown since the call, the bounds have types of them without a parameter, and there is one principal or none
 pub record AreRead (old : Context) (new : Context) (list : List (Binder ExistentialPredicate)) (has_principal : Bool) : Type 0 where
   pub grows : Grows old new
   pub fit : BoundsFit new.trees list
+  pub no_param : BoundsLackParam new.trees list
   pub principals : count_by (λ b. names_trait b.value) list ≡ one_if has_principal
 
 abbrev pub decreases-read_type : goal.decreases-read_type

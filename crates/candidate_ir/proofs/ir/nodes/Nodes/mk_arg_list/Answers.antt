@@ -1,5 +1,5 @@
 use Rattle.std.proofs.Common.{rules}
-use Rattle.candidate_ir.proofs.ir.nodes.Nodes.mk_args.Goals as goal
+use Rattle.candidate_ir.proofs.ir.nodes.Nodes.mk_arg_list.Goals as goal
 
 pub returns : goal.returns
 returns c = record {

@@ -1,0 +1,24 @@
+-- That no parameter stands in what was made.
+use Rattle.std.specs.Prelude.{◌≡◌, ℕ, false, List}
+use Rattle.candidate_ir.specs.Trees.{Tree, holds, tree_holds, is_param}
+use Rattle.candidate_ir.specs.Nodes.{tree_at}
+use Rattle.candidate_ir.specs.Words.{list_forest, pred_kind_tree, bounds_forest}
+use Rattle.candidate_ir.specs.declared.ir.kinds.GenericArg.{GenericArg}
+use Rattle.candidate_ir.specs.declared.ir.kinds.Binder.{Binder}
+use Rattle.candidate_ir.specs.declared.ir.kinds.ExistentialPredicate.{ExistentialPredicate}
+
+-- in the tree of the number
+abbrev pub LacksParam : List Tree → ℕ → Type 0
+LacksParam ts n = tree_holds is_param (tree_at ts n) ≡ false
+
+-- in the arguments
+abbrev pub ListLacksParam : List Tree → List GenericArg → Type 0
+ListLacksParam ts xs = holds is_param (list_forest ts xs) ≡ false
+
+-- in the bound
+abbrev pub BoundLacksParam : List Tree → Binder ExistentialPredicate → Type 0
+BoundLacksParam ts b = tree_holds is_param (pred_kind_tree ts b) ≡ false
+
+-- in the bounds
+abbrev pub BoundsLackParam : List Tree → List (Binder ExistentialPredicate) → Type 0
+BoundsLackParam ts bs = holds is_param (bounds_forest ts bs) ≡ false

@@ -1,0 +1,5 @@
+use Rattle.candidate_ir.proofs.Making.{added-made}
+use Rattle.candidate_ir.proofs.decl.context.Cx.mk_arg_list.Goals as goal
+
+pub returns : goal.returns
+returns c = added-made _ _ _ c.mk_arg_list.new.self _ c.self.view_is c.mk_arg_list.ensures
