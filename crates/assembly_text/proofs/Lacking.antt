@@ -92,7 +92,7 @@ slice-lacks ts t f = node-lacks ts (N.Ty (K.Slice t)) refl (one _ f)
 
 -- a list, by its members
 pub args-lacks : (ts : List Tree) (a : Args) → IsArgs ts a → holds is_param (args_forest ts a) ≡ false → LacksParam ts a.0
-args-lacks ts a i h = list-holds ts a.0 F.Param i ∙ h
+args-lacks ts a i h = list-holds ts a.0 F.Param ArgumentsKind refl refl i ∙ h
 
 pub preds-lacks : (ts : List Tree) (p : Preds) → IsPreds ts p → holds is_param (preds_forest ts p) ≡ false → LacksParam ts p.0
 preds-lacks ts p i h =
@@ -168,10 +168,10 @@ dyn-lacks ts p r e f = node-lacks ts (N.Ty (K.Dynamic p r)) refl (or-both _ _ e 
 pub auto-lacks : (ts : List Tree) (v : Vars) (d : TraitId) → LacksParam ts v.0 → BoundLacksParam ts (record { vars = v; value = E.AutoTrait d })
 auto-lacks ts v d e = node-lacks ts (N.Pred (record { vars = v; value = E.AutoTrait d })) refl (one _ e)
 
-pub trait-lacks : (ts : List Tree) (v : Vars) (d : TraitId) (a : Args) → LacksParam ts v.0 → LacksParam ts a.0 → BoundLacksParam ts (record { vars = v; value = E.Trait d a })
-trait-lacks ts v d a e f = node-lacks ts (N.Pred (record { vars = v; value = E.Trait d a })) refl (or-both _ _ e (one _ f))
+pub trait-lacks : (ts : List Tree) (v : Vars) (d : TraitId) (a : Args) → LacksParam ts v.0 → LacksParam ts a.0 → BoundLacksParam ts (record { vars = v; value = E.Trait (record { def_id = d; args = a }) })
+trait-lacks ts v d a e f = node-lacks ts (N.Pred (record { vars = v; value = E.Trait (record { def_id = d; args = a }) })) refl (or-both _ _ e (one _ f))
 
 pub projection-lacks : (ts : List Tree) (v : Vars) (d : AssocId) (a : Args) (t : Ty) → LacksParam ts v.0 → LacksParam ts a.0 → LacksParam ts t.0
-    → BoundLacksParam ts (record { vars = v; value = E.Projection d a t })
+    → BoundLacksParam ts (record { vars = v; value = E.Projection (record { def_id = d; args = a; term = t }) })
 projection-lacks ts v d a t e f g =
-    node-lacks ts (N.Pred (record { vars = v; value = E.Projection d a t })) refl (or-both _ _ e (or-both _ _ f (one _ g)))
+    node-lacks ts (N.Pred (record { vars = v; value = E.Projection (record { def_id = d; args = a; term = t }) })) refl (or-both _ _ e (or-both _ _ f (one _ g)))
