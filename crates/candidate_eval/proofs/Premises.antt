@@ -6,7 +6,8 @@ use Rattle.candidate_ir.specs.declared.ir.heads.VariableSort.TheVariants as V
 use Rattle.candidate_ir.specs.declared.ir.kinds.AliasKind.TheVariants as AK
 use Rattle.candidate_ir.specs.Trees.{TypeKind, none, Forest, Tree}
 use Rattle.candidate_ir.specs.Worlds.{World, Reference, AdtSort, TraitSort, AssociatedTypeSort}
-use Rattle.candidate_ir.specs.Substitutions.{escapes, Overlap, Universes, Binding}
+use Rattle.candidate_ir.specs.Binders.{escapes}
+use Rattle.candidate_ir.specs.Substitutions.{Overlap, Universes, Binding}
 use Rattle.candidate_eval.specs.Orphan.{MayWrite, IsCovered, View, Sees, names, plain, view, plain_check, orphan_answer, is_general, Local, Remote, Proper, Passes, NonLocalInput, local_or_fundamental, plain_knowability, Knowable, Downstream}
 use Rattle.candidate_eval.proofs.Examples.{def, one, ◌&◌, u8, P, Q, La, Lb, New, Pair, Vec, var, it, LocalType, ref}
 

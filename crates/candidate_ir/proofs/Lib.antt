@@ -5,6 +5,7 @@ pub mod Sorts
 pub mod Splits
 pub mod Children
 pub mod Escapes
+pub mod Folding
 pub mod Principals
 pub mod Kept
 pub mod Making

@@ -3,6 +3,7 @@ pub mod TreeCode
 pub mod Kinds
 pub mod Flags
 pub mod Binders
+pub mod Folding
 pub mod Nodes
 pub mod Table
 pub mod Words

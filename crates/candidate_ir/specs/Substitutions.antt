@@ -1,6 +1,7 @@
 -- Substitutions, and when two references have a common instance.
-use Rattle.std.specs.Prelude.{◌≡◌, ℕ, Bool, true, false, List, [], ◌∷◌, ◌==◌, ◌&&◌, ◌||◌, ◌+◌, nat_lt, nat_le, if◌then◌else◌}
-use Rattle.candidate_ir.specs.Trees.{binders_of, Kind, ConstantKind, Forest, none, tree, Tree, kind_of, is_type, erase, holds}
+use Rattle.std.specs.Prelude.{◌≡◌, ℕ, Bool, true, false, List, [], ◌∷◌, ◌==◌, ◌&&◌, nat_lt, if◌then◌else◌}
+use Rattle.candidate_ir.specs.Trees.{Kind, ConstantKind, Forest, none, tree, Tree, kind_of, is_type, erase, holds}
+use Rattle.candidate_ir.specs.Binders.{escapes}
 use Rattle.candidate_ir.specs.Worlds.{Reference}
 use Rattle.candidate_ir.specs.declared.ir.heads.VariableSort.{VariableSort}
 use Rattle.candidate_ir.specs.declared.ir.heads.Variable.{Variable}
@@ -8,7 +9,6 @@ use Rattle.candidate_ir.specs.declared.ir.heads.Head.{Head}
 use Rattle.candidate_ir.specs.declared.ir.heads.Head.TheVariants as H
 use Rattle.candidate_ir.specs.declared.ir.heads.Builtin.TheVariants as B
 use Rattle.candidate_ir.specs.declared.ir.heads.ConstHead.TheVariants as C
-use Rattle.candidate_ir.specs.declared.ir.kinds.RegionKind.TheVariants as R
 use Rattle.candidate_ir.specs.declared.ir.heads.VariableSort.TheVariants as V
 
 -- A variable, and the tree that stands for it.
@@ -76,18 +76,6 @@ abbrev pub is_placeholder_above : ℕ → Head → Bool
 is_placeholder_above u (H.Placeholder v) = nat_lt u v.universe
 is_placeholder_above u (H.Const (C.Placeholder v)) = nat_lt u v.universe
 is_placeholder_above u _ = false
-
-abbrev pub escapes_here : ℕ → Head → Bool
-escapes_here depth (H.Bound d) = nat_le depth d.depth
-escapes_here depth (H.Const (C.Bound d)) = nat_le depth d.depth
-escapes_here depth (H.Region (R.Bound d)) = nat_le depth d.depth
-escapes_here depth _ = false
-
--- whether a bound variable of the trees, which stand under so many binders, belongs to no binder among them
-abbrev pub escapes : ℕ → Forest → Bool
-escapes depth none = false
-escapes depth (tree h below rest) =
-    escapes_here depth h || (escapes (depth + binders_of h) below || escapes depth rest)
 
 abbrev pub alone : Tree → Forest
 alone t = tree t.head t.children none

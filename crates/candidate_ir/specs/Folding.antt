@@ -1,0 +1,72 @@
+-- Trees with answers put in: folds, shifts, substitutions.
+use Rattle.std.specs.Prelude.{Bool, false, not, ℕ, zero, suc, ◌+◌, nat_le, Option, Some, None, if◌then◌else◌}
+use Rattle.std.specs.Option.{unwrap_or}
+use Rattle.candidate_ir.specs.declared.ir.heads.Head.{Head}
+use Rattle.candidate_ir.specs.declared.ir.heads.Head.TheVariants as H
+use Rattle.candidate_ir.specs.declared.ir.heads.ConstHead.TheVariants as C
+use Rattle.candidate_ir.specs.declared.ir.kinds.BoundVar.{BoundVar}
+use Rattle.candidate_ir.specs.declared.ir.kinds.RegionKind.TheVariants as R
+use Rattle.candidate_ir.specs.Trees.{Forest, none, tree, Tree, kind_of, is_type, binders_of}
+use Rattle.candidate_ir.specs.Nodes.{error_tree}
+use Rattle.candidate_ir.specs.Substitutions.{is_constant_kind}
+
+-- What stands in the place of a tree under so many binders, if anything does.
+abbrev pub Answers : Type 0
+Answers = ℕ → Tree → Option Tree
+
+-- The trees with the answers put in, asked from the top. What has no answer keeps its head, and the fold goes on below it,
+-- under the binders of the head.
+abbrev pub fold : Answers → ℕ → Forest → Forest
+fold f d none = none
+fold f d (tree h below rest) =
+    let it = unwrap_or (f d (record { head = h; children = below })) (record { head = h; children = fold f (d + binders_of h) below }) in
+    tree it.head it.children (fold f d rest)
+
+abbrev pub fold_tree : Answers → ℕ → Tree → Tree
+fold_tree f d t = unwrap_or (f d t) (record { head = t.head; children = fold f (d + binders_of t.head) t.children })
+
+abbrev pub leaf : Head → Tree
+leaf h = record { head = h; children = none }
+
+-- the variable bound `n` binders further out
+abbrev pub further : ℕ → BoundVar → BoundVar
+further n v = record { depth = v.depth + n; index = v.index }
+
+-- the leaf with that variable, where none of the `d` binders passed binds it
+abbrev pub moved_leaf : ℕ → ℕ → BoundVar → (BoundVar → Head) → Option Tree
+moved_leaf n d v head = if nat_le d v.depth then Some (leaf (head (further n v))) else None
+
+abbrev pub moved : ℕ → ℕ → Head → Option Tree
+moved n d (H.Bound v) = moved_leaf n d v H.Bound
+moved n d (H.Const (C.Bound v)) = moved_leaf n d v (λ x. H.Const (C.Bound x))
+moved n d (H.Region (R.Bound v)) = moved_leaf n d v (λ x. H.Region (R.Bound x))
+moved n d _ = None
+
+-- Trees under `d` binders come to stand under `n` more outside of these: what is bound out there is bound so much further out.
+abbrev pub shift : ℕ → ℕ → Forest → Forest
+shift n d ts = fold (λ e t. moved n e t.head) d ts
+
+abbrev pub shift_tree : ℕ → Tree → Tree
+shift_tree n t = fold_tree (λ e u. moved n e u.head) 0 t
+
+-- the argument of that number, and an error where there is none
+abbrev pub argument : Forest → ℕ → Tree
+argument none i = error_tree
+argument (tree h below rest) zero = record { head = h; children = below }
+argument (tree h below rest) (suc i) = argument rest i
+
+-- what stands for a parameter under `d` binders
+abbrev pub put : Forest → ℕ → Head → Option Tree
+put args d (H.Param i) = Some (shift_tree d (argument args i))
+put args d (H.Const (C.Param i)) = Some (shift_tree d (argument args i))
+put args d _ = None
+
+-- The trees with the argument of its number in the place of each parameter.
+abbrev pub substituted : Forest → ℕ → Forest → Forest
+substituted args d ts = fold (λ e t. put args e t.head) d ts
+
+-- whether it is a parameter whose argument is of another kind
+abbrev pub is_misplaced : Forest → Head → Bool
+is_misplaced args (H.Param i) = not (is_type (argument args i).head)
+is_misplaced args (H.Const (C.Param i)) = not (is_constant_kind (kind_of (argument args i).head))
+is_misplaced args _ = false
