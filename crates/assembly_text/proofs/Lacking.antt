@@ -24,7 +24,7 @@ use Rattle.candidate_ir.specs.declared.ir.heads.Flag.TheVariants as F
 use Rattle.candidate_ir.specs.declared.ir.node.Node.{Node}
 use Rattle.candidate_ir.specs.declared.ir.stop.Stop.{Stop}
 use Rattle.candidate_ir.specs.declared.ir.node.Node.TheVariants as N
-use Rattle.candidate_ir.specs.Trees.{Tree, Kind, PredicatesKind, is_list, is_list_kind, holds, tree_holds, is_param}
+use Rattle.candidate_ir.specs.Trees.{Tree, Kind, ArgumentsKind, PredicatesKind, is_list, is_list_kind, holds, tree_holds, is_param}
 use Rattle.candidate_ir.specs.Kinds.{numbers, sorts, arg_child}
 use Rattle.candidate_ir.specs.Nodes.{tree_at, kind_at, trees_at, rows, any_holds, head_of, children_of, node_tree}
 use Rattle.candidate_ir.specs.Context.{Context, Grows}

@@ -45,7 +45,7 @@ enum Place {
     Taken(u32, u32),
 }
 
-/// How many places there are at first; there are at least twice as many as definitions.
+/// How many places there are at first. There are always twice as many as definitions, or more.
 const FIRST_PLACES: usize = 64;
 
 /// In how many places, one behind the other, a definition may stand.
@@ -53,14 +53,15 @@ const TRIED_PLACES: usize = 8;
 
 /// The names declared so far, which are words of the text.
 ///
-/// A name whose places are all taken stands in an ordered map, so that no choice of names makes them
-/// slow to find.
+/// Most are found in one of a few places, and all others in an ordered map; so no choice of names makes
+/// them slow to find.
 #[derive(Drop)]
 pub struct Names<'a> {
     /// The definitions by their numbers.
     definitions: Vec<Definition<'a>>,
-    /// So many places as a power of two says.
+    /// Their count is a power of two.
     places: Vec<Place>,
+    /// The definitions whose places were all taken, by their names after numbers made of them.
     crowded: BTreeMap<(u64, &'a str), u32>,
 }
 
@@ -112,21 +113,27 @@ impl<'a> Names<'a> {
 
     fn find(&self, word: &'a str) -> Option<Item> {
         let number = number_of(word);
-        let upper = upper_half(number);
         for step in 0..TRIED_PLACES {
-            if let Place::Taken(other, definition) = *self.places.get(self.index(number, step))? {
-                if other == upper {
-                    let found = self.definitions.get(definition as usize)?;
-                    if found.name == word {
-                        return Some(found.item);
-                    }
-                }
-            } else {
+            let Place::Taken(upper, definition) = *self.places.get(self.index(number, step))? else {
                 return None;
+            };
+            if upper == upper_half(number) {
+                if let Some(item) = self.item_if_named(definition, word) {
+                    return Some(item);
+                }
             }
         }
-        let definition = self.crowded.get(&(number, word))?;
-        Some(self.definitions.get(*definition as usize)?.item)
+        self.item_if_named(*self.crowded.get(&(number, word))?, word)
+    }
+
+    /// What the definition is, if that is its name.
+    fn item_if_named(&self, definition: u32, word: &str) -> Option<Item> {
+        let found = self.definitions.get(definition as usize)?;
+        if found.name == word {
+            Some(found.item)
+        } else {
+            None
+        }
     }
 
     /// The place for that number, so many behind its own.
@@ -136,44 +143,44 @@ impl<'a> Names<'a> {
 
     /// Gives the name to the next definition.
     pub fn add_definition(&mut self, name: &'a str, item: Item) -> Result<(), AllocError> {
-        let next = self.definitions.len();
+        let Ok(next) = u32::try_from(self.definitions.len()) else {
+            return Err(AllocError);
+        };
         self.definitions.push(Definition { name, item })?;
-        if next < self.places.len() / 2 {
-            self.settle(next)
+        if self.definitions.len() <= self.places.len() / 2 {
+            self.settle(name, next)
         } else {
-            self.settle_anew()
+            self.settle_all()
         }
     }
 
     /// Makes twice as many places, and gives each definition its own.
-    fn settle_anew(&mut self) -> Result<(), AllocError> {
+    fn settle_all(&mut self) -> Result<(), AllocError> {
         let count = self.places.len().saturating_mul(2).max(FIRST_PLACES);
         self.places.clear();
         self.places.resize(count, Place::Free)?;
-        for definition in 0..self.definitions.len() {
-            self.settle(definition)?;
+        for definition in 0..u32::MAX {
+            let Some(name) = self.definition(definition) else {
+                break;
+            };
+            self.settle(name, definition)?;
         }
         Ok(())
     }
 
-    /// Gives the definition the first free place of those that are its own.
-    fn settle(&mut self, definition: usize) -> Result<(), AllocError> {
-        let (Some(found), Ok(taker)) = (self.definitions.get(definition), u32::try_from(definition))
-        else {
-            return Err(AllocError);
-        };
-        let name = found.name;
+    /// Gives the definition the first free place of those that its name may have.
+    fn settle(&mut self, name: &'a str, definition: u32) -> Result<(), AllocError> {
         let number = number_of(name);
         for step in 0..TRIED_PLACES {
             let index = self.index(number, step);
             if let Some(place) = self.places.get_mut(index) {
                 if let Place::Free = place {
-                    *place = Place::Taken(upper_half(number), taker);
+                    *place = Place::Taken(upper_half(number), definition);
                     return Ok(());
                 }
             }
         }
-        self.crowded.insert((number, name), taker)?;
+        self.crowded.insert((number, name), definition)?;
         Ok(())
     }
 
@@ -183,7 +190,7 @@ impl<'a> Names<'a> {
     }
 }
 
-/// A number that is made of the bytes of a name, by steps that mix all that came before.
+/// A number that is made of the bytes of a name, by steps of which each mixes all that came before.
 fn number_of(name: &str) -> u64 {
     let mut number = 0u64;
     for byte in name.bytes() {
