@@ -1,5 +1,5 @@
 -- What a walk comes to makes the answer.
-use Rattle.std.proofs.Common.{◌≡◌, ℕ, Bool, true, false, List, [], ◌++◌, Option, None, Err, refl, sym, ◌∙◌, ap, subst}
+use Rattle.std.proofs.Common.{◌≡◌, ℕ, Bool, true, false, List, [], ◌++◌, Option, None, Err, sym, ◌∙◌, ap, subst}
 use Rattle.candidate_ir.specs.declared.ir.kinds.Ty.{Ty}
 use Rattle.candidate_ir.specs.declared.ir.kinds.Args.{Args}
 use Rattle.candidate_ir.specs.declared.ir.stop.Stop.{Stop}
@@ -13,7 +13,7 @@ use Rattle.candidate_eval.specs.declared.coherence.OrphanStop.TheVariants as O
 use Rattle.candidate_eval.specs.declared.walk.EarlyExit.TheVariants as X
 use Rattle.candidate_eval.specs.declared.walk.Walk.{Walk}
 use Rattle.candidate_eval.specs.Answers.{answer_of, entries_of}
-use Rattle.candidate_eval.specs.Orphan.{InCrate, View, Step, Class, IsUncovered, Stopped, Entry, Answer, Passes, NonLocalInput, UncoveredInput, Faulty, Checked, orphan_answer, judged, decided, second, uncovered, left, entries, first_step}
+use Rattle.candidate_eval.specs.Orphan.{InCrate, View, Step, Class, IsUncovered, Stopped, Entry, Answer, Passes, NonLocalInput, UncoveredInput, Faulty, Checked, orphan_answer, judged, decided, second, uncovered, entries, first_step}
 use Rattle.candidate_eval.specs.Laws.{OnlyFirst}
 use Rattle.candidate_eval.specs.Second.{IsSecond}
 use Rattle.candidate_eval.specs.Walk.{Setting, setting, classes, list_steps, deciding, exit_class, Passed, Found}

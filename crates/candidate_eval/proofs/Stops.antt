@@ -1,5 +1,5 @@
 -- Which results are stops, in words that answers can give without a search among all that they know.
-use Rattle.std.proofs.Common.{◌≡◌, ◌≢◌, ℕ, ◌-◌, suc, List, Result, Ok, Err, sym, ◌∙◌, ap, arith}
+use Rattle.std.proofs.Common.{◌≡◌, ◌≢◌, ◌<◌, ℕ, ◌-◌, suc, List, Result, Ok, Err, sym, ◌∙◌, ap, subst, arith}
 use Rattle.std.specs.Prelude.{OnOk}
 use Rattle.candidate_ir.specs.Trees.{Tree}
 use Rattle.candidate_ir.specs.declared.ir.kinds.Ty.{Ty}
@@ -119,6 +119,18 @@ pub broken-exit : {E : Type 0} (ts : List Tree) (e : NormalizeErr E) → IsExit 
 broken-exit ts (N.Failed x) = tt
 broken-exit ts (N.Stop s) = tt
 
+pub some-level : (n : ℕ) → n ≢ 0 → 0 < n
+some-level n h = omega (arith, h)
+
 -- a level is left
 pub level-left : (n : ℕ) → n ≢ 0 → n ≡ suc (n - 1)
 level-left n h = omega (arith, h)
+
+-- what holds of what an arm leaves holds of what the match leaves
+pub after-match : {A B C D : Type 0} (P : A → B → C → D → Type 0) {a a' : A} {b b' : B} {c c' : C} {d d' : D} → a ≡ a' → b ≡ b' → c ≡ c' → d ≡ d' → P a' b' c' d' → P a b c d
+after-match {A} {B} {C} {D} P {a} {a'} {b} {b'} {c} {c'} {d} {d'} i j k l h =
+    let at_a : A → Type 0 = λ x. P x b' c' d' in
+    let at_b : B → Type 0 = λ x. P a x c' d' in
+    let at_c : C → Type 0 = λ x. P a b x d' in
+    let at_d : D → Type 0 = λ x. P a b c x in
+    subst at_d (sym l) (subst at_c (sym k) (subst at_b (sym j) (subst at_a (sym i) h)))

@@ -4,107 +4,67 @@ use crate::asserts::{equals, equals_in_row, holds};
 use candidate_ir::decl::builder::{DeclFault, DeclsBuilder};
 use candidate_ir::decl::context::Cx;
 use candidate_ir::decl::definition::{AdtFlags, AdtShape, AssocKind, CrateId, TraitFlags};
-use candidate_ir::ir::kinds::{AdtId, AssocId, ForeignId, TraitId, VarKind};
+use candidate_ir::ir::kinds::{AdtId, ForeignId, TraitId, VarKind};
 use std::alloc::Global;
 use std::process::Abort;
 
-const LOCAL: CrateId = CrateId(0);
-
 const ABOVE: CrateId = CrateId(1);
 
-/// A builder with these two crates.
-fn two_crates(rt: &impl Abort, alloc: Global) -> DeclsBuilder {
+/// Declares two crates, and each sort of definition in them: what numbers they have, in order.
+fn declare_each(builder: &mut DeclsBuilder) -> Result<[u32; 10], DeclFault> {
+    let local = builder.add_crate()?;
+    let above = builder.add_crate()?;
+    let foreign = builder.add_foreign(local)?;
+    let of = builder.add_trait(above, &[VarKind::Ty], TraitFlags::default())?;
+    let associated = builder.add_assoc(of, AssocKind::Type, false)?;
+    let constant = builder.add_assoc(of, AssocKind::Const, true)?;
+    let foreign_above = builder.add_foreign(above)?;
+    let adt = builder.add_adt(local, AdtShape::Union, &[], AdtFlags::default())?;
+    let adt_above = builder.add_adt(above, AdtShape::Enum, &[], AdtFlags::default())?;
+    let other = builder.add_trait(local, &[VarKind::Region], TraitFlags::default())?;
+    Ok([
+        local.0,
+        above.0,
+        foreign.0,
+        of.0,
+        associated.0,
+        constant.0,
+        foreign_above.0,
+        adt.0,
+        adt_above.0,
+        other.0,
+    ])
+}
+
+/// These definitions, where that crate is the local one.
+fn each_declared(rt: &impl Abort, alloc: Global, local: CrateId) -> Cx {
     let mut builder = DeclsBuilder::new(alloc);
-    add_two_crates(rt, &mut builder);
-    builder
-}
-
-fn add_two_crates(rt: &impl Abort, builder: &mut DeclsBuilder) {
-    let first = builder.add_crate().expect(rt, "a crate");
-    equals(rt, &first, &LOCAL, "the first crate");
-    let second = builder.add_crate().expect(rt, "a crate");
-    equals(rt, &second, &ABOVE, "the second crate");
-}
-
-fn adt(rt: &impl Abort, builder: &mut DeclsBuilder, of: CrateId, shape: AdtShape) -> AdtId {
-    builder
-        .add_adt(of, shape, &[], AdtFlags::default())
-        .expect(rt, "a data type")
-}
-
-fn trait_of(
-    rt: &impl Abort,
-    builder: &mut DeclsBuilder,
-    of: CrateId,
-    parameters: &[VarKind],
-) -> TraitId {
-    builder
-        .add_trait(of, parameters, TraitFlags::default())
-        .expect(rt, "a trait")
-}
-
-fn assoc(rt: &impl Abort, builder: &mut DeclsBuilder, of: TraitId, kind: AssocKind) -> AssocId {
-    builder
-        .add_assoc(of, kind, matches!(kind, AssocKind::Const))
-        .expect(rt, "an associated item")
-}
-
-fn foreign(rt: &impl Abort, builder: &mut DeclsBuilder, of: CrateId) -> ForeignId {
-    builder.add_foreign(of).expect(rt, "a foreign type")
-}
-
-fn finished(rt: &impl Abort, builder: DeclsBuilder) -> Cx {
+    let numbers = declare_each(&mut builder);
+    equals(
+        rt,
+        &numbers,
+        &Ok([0, 1, 0, 1, 2, 3, 4, 5, 6, 7]),
+        "the numbers",
+    );
+    builder.set_local(local);
     Cx::new(builder.finish().expect(rt, "no fault"))
-}
-
-/// Declares one of each, which are numbered together.
-fn number_in_order(rt: &impl Abort, builder: &mut DeclsBuilder) {
-    let first = foreign(rt, builder, LOCAL);
-    equals(rt, &first, &ForeignId(0), "a foreign type");
-    let of = trait_of(rt, builder, ABOVE, &[VarKind::Ty]);
-    equals(rt, &of, &TraitId(1), "a trait");
-    let second = assoc(rt, builder, of, AssocKind::Type);
-    equals(rt, &second, &AssocId(2), "an associated type");
-    let third = assoc(rt, builder, of, AssocKind::Const);
-    equals(rt, &third, &AssocId(3), "an associated constant");
-    let fourth = foreign(rt, builder, ABOVE);
-    equals(rt, &fourth, &ForeignId(4), "another foreign type");
-    let last = adt(rt, builder, LOCAL, AdtShape::Union);
-    equals(rt, &last, &AdtId(5), "a data type");
 }
 
 #[test]
 fn numbers_definitions_together(rt: HostRuntime) {
-    let mut builder = two_crates(&rt, rt.alloc());
-    number_in_order(&rt, &mut builder);
-    let cx = finished(&rt, builder);
+    let cx = each_declared(&rt, rt.alloc(), CrateId(0));
     holds(&rt, cx.foreign_is_local(ForeignId(0)), "of the local crate");
     holds(&rt, !cx.foreign_is_local(ForeignId(4)), "of another crate");
-    holds(&rt, !cx.foreign_is_local(ForeignId(6)), "not declared");
-}
-
-#[test]
-fn finds_foreign_types_of_the_local_crate(rt: HostRuntime) {
-    let mut builder = two_crates(&rt, rt.alloc());
-    let of_first = foreign(&rt, &mut builder, LOCAL);
-    let of_second = foreign(&rt, &mut builder, ABOVE);
-    builder.set_local(ABOVE);
-    let cx = finished(&rt, builder);
-    holds(&rt, !cx.foreign_is_local(of_first), "of the first crate");
-    holds(&rt, cx.foreign_is_local(of_second), "of the second crate");
+    holds(&rt, !cx.foreign_is_local(ForeignId(8)), "not declared");
 }
 
 #[test]
 fn takes_another_local_crate(rt: HostRuntime) {
-    let mut builder = two_crates(&rt, rt.alloc());
-    let first = adt(&rt, &mut builder, ABOVE, AdtShape::Enum);
-    equals(&rt, &first, &AdtId(0), "a data type");
-    let second = trait_of(&rt, &mut builder, LOCAL, &[VarKind::Region]);
-    equals(&rt, &second, &TraitId(1), "a trait");
-    builder.set_local(ABOVE);
-    let cx = finished(&rt, builder);
-    holds(&rt, cx.adt_is_local(first), "a local type");
-    holds(&rt, !cx.trait_is_local(second), "a trait of another crate");
+    let cx = each_declared(&rt, rt.alloc(), ABOVE);
+    holds(&rt, !cx.foreign_is_local(ForeignId(0)), "of the first crate");
+    holds(&rt, cx.foreign_is_local(ForeignId(4)), "of the second crate");
+    holds(&rt, cx.adt_is_local(AdtId(6)), "a local type");
+    holds(&rt, !cx.trait_is_local(TraitId(7)), "a trait of another crate");
 }
 
 /// Declares a foreign type, a type, a trait, an item of the definition of that number, and a trait more.

@@ -1,4 +1,4 @@
-use Rattle.std.proofs.Common.{◌≡◌, ◌-◌, suc, Err, arith, refl, sym, ◌∙◌, ap, subst}
+use Rattle.std.proofs.Common.{◌≡◌, ◌-◌, suc, false, Result, Ok, Err, arith, refl, sym, ◌∙◌, ap, subst}
 use Rattle.std.proofs.lemmas.Result.{err_from_is_err_and}
 use Rattle.candidate_ir.specs.Context.{Context, world}
 use Rattle.candidate_ir.specs.Trees.{count}
@@ -8,10 +8,12 @@ use Rattle.candidate_ir.proofs.Kept.{grows-refl, grows-trans, args-kept}
 use Rattle.candidate_eval.proofs.Lists.{sofar-begin, sofar-end, type-at}
 use Rattle.candidate_eval.proofs.Loops.{index-below, next-skip, next-visit, next-found}
 use Rattle.candidate_eval.specs.Orphan.{view, crate_test}
-use Rattle.candidate_eval.specs.Walk.{setting}
+use Rattle.candidate_eval.specs.declared.walk.EarlyExit.{EarlyExit}
+use Rattle.candidate_eval.specs.declared.walk.Walk.{Walk}
+use Rattle.candidate_eval.specs.Walk.{setting, classes, type_steps, Outcome}
 use Rattle.candidate_eval.proofs.Calls.{may-later, keeps-later, function-later, reached-same, reached-then}
 use Rattle.candidate_eval.proofs.Causes.{table-unnameable, take-stop, left-after, left-quietly, left-reached, left-deep, viewed-reached, viewed-nothing, viewed-item, viewed-below}
-use Rattle.candidate_eval.proofs.Stops.{passed-error, view-ends, view-stops, stops-view, walk-goes-on, deep-ends, on-answer, is-answer, depth-covers, broken-exit, level-left}
+use Rattle.candidate_eval.proofs.Stops.{passed-error, view-ends, view-stops, stops-view, walk-goes-on, deep-ends, on-answer, is-answer, depth-covers, broken-exit, after-match, level-left, some-level}
 use Rattle.candidate_eval.proofs.Recorded.{table-covers, take-covers, broken-covers, taken-once, ended-once}
 use Rattle.candidate_eval.proofs.Walking.{too-deep, types-kept, item-types, item-exit}
 use Rattle.candidate_eval.proofs.Visits.{visited-nothing, visited-item, visited-target, visited-arguments, item-some, target-some, arguments-some}
@@ -47,9 +49,9 @@ visit_ty-visit_ty-outcome-requires g t c κs within =
             (
               r.sort,
               (
-                may-later g.C.Make.context g.F.FnMut _ _ _ _ (viewed-reached g.C.Make.context g.F.FnMut _ _ _ _ _ c.in_ok-view.ensures.call (view-ends _)) c.view_of.ensures.grows c.requires.callable,
+                may-later g.C.Make.context g.F.FnMut c.args.normalize.now c.args.infcx.now c.view_of.new.normalize c.view_of.new.infcx (viewed-reached g.C.Make.context g.F.FnMut c.args.normalize.now c.args.infcx.now (Ok c.in_ok-view.view) c.view_of.new.normalize c.view_of.new.infcx c.in_ok-view.ensures.call (view-ends _)) c.view_of.ensures.grows c.requires.callable,
                 (
-                  keeps-later g.C.Make.context g.F.FnMut _ _ _ _ (viewed-reached g.C.Make.context g.F.FnMut _ _ _ _ _ c.in_ok-view.ensures.call (view-ends _)) c.view_of.ensures.grows c.requires.keeps,
+                  keeps-later g.C.Make.context g.F.FnMut c.args.normalize.now c.args.infcx.now c.view_of.new.normalize c.view_of.new.infcx (viewed-reached g.C.Make.context g.F.FnMut c.args.normalize.now c.args.infcx.now (Ok c.in_ok-view.view) c.view_of.new.normalize c.view_of.new.infcx c.in_ok-view.ensures.call (view-ends _)) c.view_of.ensures.grows c.requires.keeps,
                   (types-kept _ _ c.args.walk.now.non_local.items c.view_of.ensures.grows c.requires.recorded, c.requires.firsts),
                 ),
               ),
@@ -72,9 +74,9 @@ visit_ty-visit_args-outcome-requires g t c κs within =
             (
               r.sort,
               (
-                may-later g.C.Make.context g.F.FnMut _ _ _ _ (viewed-reached g.C.Make.context g.F.FnMut _ _ _ _ _ c.in_ok-view.ensures.call (view-ends _)) c.view_of.ensures.grows c.requires.callable,
+                may-later g.C.Make.context g.F.FnMut c.args.normalize.now c.args.infcx.now c.view_of.new.normalize c.view_of.new.infcx (viewed-reached g.C.Make.context g.F.FnMut c.args.normalize.now c.args.infcx.now (Ok c.in_ok-view.view) c.view_of.new.normalize c.view_of.new.infcx c.in_ok-view.ensures.call (view-ends _)) c.view_of.ensures.grows c.requires.callable,
                 (
-                  keeps-later g.C.Make.context g.F.FnMut _ _ _ _ (viewed-reached g.C.Make.context g.F.FnMut _ _ _ _ _ c.in_ok-view.ensures.call (view-ends _)) c.view_of.ensures.grows c.requires.keeps,
+                  keeps-later g.C.Make.context g.F.FnMut c.args.normalize.now c.args.infcx.now c.view_of.new.normalize c.view_of.new.infcx (viewed-reached g.C.Make.context g.F.FnMut c.args.normalize.now c.args.infcx.now (Ok c.in_ok-view.view) c.view_of.new.normalize c.view_of.new.infcx c.in_ok-view.ensures.call (view-ends _)) c.view_of.ensures.grows c.requires.keeps,
                   (types-kept _ _ c.args.walk.now.non_local.items c.view_of.ensures.grows c.requires.recorded, c.requires.firsts),
                 ),
               ),
@@ -97,16 +99,20 @@ visit_ty-returns-clause-outcome g t c = λ d h.
     let tree = ty_tree c0.trees c.args.ty in
     let seen = c.in_ok-view.ensures.view d h (λ s o. view-ends _ s) in
     let later = function-later g.C.Make.context g.F.FnMut c.args.normalize.now c.args.infcx.now c.view_of.new.normalize c.view_of.new.infcx
-    (viewed-reached g.C.Make.context g.F.FnMut _ _ _ _ _ c.in_ok-view.ensures.call (view-ends _)) grows g.C.InferCtxtLike.resolved d h in
+    (viewed-reached g.C.Make.context g.F.FnMut c.args.normalize.now c.args.infcx.now (Ok c.in_ok-view.view) c.view_of.new.normalize c.view_of.new.infcx c.in_ok-view.ensures.call (view-ends _)) grows g.C.InferCtxtLike.resolved d h in
+    let P : g.row.C.Denot → g.row.F.Denot → Walk → Result (Unit {0}) (EarlyExit g.row.E.Denot) → Type 0 =
+    λ i n x o. Outcome d.untold (g.C.Make.context i).trees (classes (setting c0 m)) c.args.walk.now
+    (record { in_crate = x.in_crate; seeks_local = x.seeks_local; is_first = false; non_local = x.non_local }) s0 (d.stands (n, i))
+    (type_steps (setting c0 m) see c.args.levels s0 tree) o in
     elim c.match-shape_of.branch [
-      | visit_ty-in-Item w ↦ rw (w.infcx-is, w.normalize-is, w.walk-is, w.outcome-is)
+      | visit_ty-in-Item w ↦ after-match P w.infcx-is w.normalize-is w.walk-is w.outcome-is
           (visited-item c0 c1 m grows see c.args.levels (c.args.levels - 1) levels s0 s1 tree c.in_ok-view.view seen w.in-Item.class
           c.args.walk.now w.take-outcome.new.self _ w.take-outcome.result (rw c.cx.ensures at w.in-Item.ensures) refl w.take-outcome.ensures.taken d.untold d.refused)
-      | visit_ty-in-Target w ↦ rw (w.infcx-is, w.normalize-is, w.walk-is, w.outcome-is)
+      | visit_ty-in-Target w ↦ after-match P w.infcx-is w.normalize-is w.walk-is w.outcome-is
           (visited-target c0 c1 m grows see c.args.levels (c.args.levels - 1) levels s0 s1 tree c.in_ok-view.view seen w.in-Target.target
           c.args.walk.now w.visit_ty-outcome.new.walk _ _ _ w.visit_ty-outcome.result (rw c.cx.ensures at w.in-Target.ensures) refl
           (w.visit_ty-outcome.ensures.some d later) d.untold (w.visit_ty-outcome.ensures.outcome d later))
-      | visit_ty-in-Arguments w ↦ rw (w.infcx-is, w.normalize-is, w.walk-is, w.outcome-is)
+      | visit_ty-in-Arguments w ↦ after-match P w.infcx-is w.normalize-is w.walk-is w.outcome-is
           (visited-arguments c0 c1 m grows see c.args.levels (c.args.levels - 1) levels s0 s1 tree c.in_ok-view.view seen w.in-Arguments.args
           c.args.walk.now w.visit_args-outcome.new.walk _ _ _ w.visit_args-outcome.result (rw c.cx.ensures at w.in-Arguments.ensures) refl
           d.untold (w.visit_args-outcome.ensures.outcome d later))
@@ -125,7 +131,7 @@ visit_ty-returns-clause-some g t c = λ d h.
     let tree = ty_tree c0.trees c.args.ty in
     let seen = c.in_ok-view.ensures.view d h (λ s o. view-ends _ s) in
     let later = function-later g.C.Make.context g.F.FnMut c.args.normalize.now c.args.infcx.now c.view_of.new.normalize c.view_of.new.infcx
-    (viewed-reached g.C.Make.context g.F.FnMut _ _ _ _ _ c.in_ok-view.ensures.call (view-ends _)) grows g.C.InferCtxtLike.resolved d h in
+    (viewed-reached g.C.Make.context g.F.FnMut c.args.normalize.now c.args.infcx.now (Ok c.in_ok-view.view) c.view_of.new.normalize c.view_of.new.infcx c.in_ok-view.ensures.call (view-ends _)) grows g.C.InferCtxtLike.resolved d h in
     elim c.match-shape_of.branch [
       | visit_ty-in-Item w ↦ rw w.outcome-is
           (item-some c0 c1 m grows see c.args.levels (c.args.levels - 1) levels s0 s1 tree c.in_ok-view.view seen w.in-Item.class
@@ -242,9 +248,9 @@ visit_args-visit_ty-requires g t c κs within =
             (
               (type-at (g.C.Make.context c.loop-i.infcx).trees c.args-in-loop-i.result.now c.loop-i.i _ c.in-Ty.ty ensures.fits below c.in-Ty.is).0,
               (
-                may-later g.C.Make.context g.F.FnMut _ _ _ _ here.calls here.grows c.requires.callable,
+                may-later g.C.Make.context g.F.FnMut c.args.normalize.now c.args.infcx.now c.loop-i.normalize c.loop-i.infcx here.calls here.grows c.requires.callable,
                 (
-                  keeps-later g.C.Make.context g.F.FnMut _ _ _ _ here.calls here.grows c.requires.keeps,
+                  keeps-later g.C.Make.context g.F.FnMut c.args.normalize.now c.args.infcx.now c.loop-i.normalize c.loop-i.infcx here.calls here.grows c.requires.keeps,
                   (here.recorded, here.firsts),
                 ),
               ),
@@ -266,7 +272,7 @@ visit_args-loop-i-preserved g t c =
       | visit_args-in-Ty+in_ok-visit_ty w ↦ rw (w.infcx-is, w.normalize-is, w.walk-is)
           (record {
             grows = grows-trans _ _ _ here.grows w.in_ok-visit_ty.ensures.grows;
-            calls = reached-then g.C.Make.context g.F.FnMut _ _ _ _ _ _ here.calls (left-reached g.C.Make.context g.F.FnMut c.args.levels _ _ _ _ _ w.in_ok-visit_ty.ensures.calls (walk-goes-on _));
+            calls = reached-then g.C.Make.context g.F.FnMut c.args.normalize.now c.args.infcx.now c.loop-i.normalize c.loop-i.infcx w.visit_ty.new.normalize w.visit_ty.new.infcx here.calls (left-reached g.C.Make.context g.F.FnMut c.args.levels c.loop-i.normalize c.loop-i.infcx w.visit_ty.new.normalize w.visit_ty.new.infcx _ w.in_ok-visit_ty.ensures.calls (walk-goes-on _));
             same = record {
               in_crate = w.in_ok-visit_ty.ensures.same.in_crate ∙ here.same.in_crate;
               seeks_local = w.in_ok-visit_ty.ensures.same.seeks_local ∙ here.same.seeks_local;
@@ -339,14 +345,14 @@ visit_ty-returns-clause-calls g t c =
     let viewed = c.in_ok-view.ensures.call in
     elim c.match-shape_of.branch [
       | visit_ty-in-Item w ↦ rw (w.infcx-is, w.normalize-is)
-          (viewed-item context g.F.FnMut _ _ _ _ _ viewed c.args.levels c.in_ok-view.view refl w.in-Item.class _
+          (viewed-item context g.F.FnMut c.args.normalize.now c.args.infcx.now (Ok c.in_ok-view.view) c.view_of.new.normalize c.view_of.new.infcx viewed c.args.levels c.in_ok-view.view refl w.in-Item.class _
           (λ s e. take-stop c.args.walk.now w.take-outcome.new.self w.in-Item.class c.in_ok-view.view w.take-outcome.result s w.take-outcome.ensures.taken (sym w.outcome-is ∙ e))
           (λ k. let shape = rw c.cx.ensures at w.in-Item.ensures in table-unnameable _ _ _ _ _ (shape.1 ∙ k)))
       | visit_ty-in-Target w ↦ rw (w.infcx-is, w.normalize-is)
-          (viewed-below context g.F.FnMut _ _ _ _ _ viewed c.args.levels c.in_ok-view.view refl (omega arith) _ _ _ _
+          (viewed-below context g.F.FnMut c.args.normalize.now c.args.infcx.now (Ok c.in_ok-view.view) c.view_of.new.normalize c.view_of.new.infcx viewed c.args.levels c.in_ok-view.view refl (some-level _ c.if-levels-eq0.false) _ _ _ _
           (λ s e. w.outcome-is ∙ e) (λ s e. sym w.outcome-is ∙ e) w.visit_ty-outcome.ensures.calls)
       | visit_ty-in-Arguments w ↦ rw (w.infcx-is, w.normalize-is)
-          (viewed-below context g.F.FnMut _ _ _ _ _ viewed c.args.levels c.in_ok-view.view refl (omega arith) _ _ _ _
+          (viewed-below context g.F.FnMut c.args.normalize.now c.args.infcx.now (Ok c.in_ok-view.view) c.view_of.new.normalize c.view_of.new.infcx viewed c.args.levels c.in_ok-view.view refl (some-level _ c.if-levels-eq0.false) _ _ _ _
           (λ s e. w.outcome-is ∙ e) (λ s e. sym w.outcome-is ∙ e) w.visit_args-outcome.ensures.calls)
     ]
 
