@@ -254,20 +254,21 @@ def seconds_of_copy(text, answers, to):
     return time.perf_counter() - begin
 
 
-def compare(text, answers, whole, memory, plain):
+def compare(text, answers, memory, rounds, plain):
     """Prints what the run took beside programs in plain Rust, which have to answer the same."""
     counted = instructions_of_run(text, PROGRAM)
     if counted is not None:
         print("  instructions       %.0f million" % (counted / 1e6))
     for name, program in plain:
         theirs = answers + " in plain Rust"
-        seconds = min(seconds_of_run(text, theirs, program) for _ in range(3))
+        # One after the other, so that other work slows both down.
+        times = [(seconds_of_run(text, answers), seconds_of_run(text, theirs, program)) for _ in range(rounds)]
         if not filecmp.cmp(answers, theirs, shallow=False):
             sys.exit("%s answers otherwise" % name)
         print("  beside %s" % name)
         if counted is not None:
             print("    instructions     %.2f times" % (counted / instructions_of_run(text, program)))
-        print("    time             %.2f times" % (whole / seconds))
+        print("    time             %.2f times" % (min(ours for ours, _ in times) / min(other for _, other in times)))
         print("    memory           %.2f times" % (memory / memory_of_run(text, theirs, program)))
 
 
@@ -296,7 +297,7 @@ def measure(folder, size, seed, rounds, plain):
     print("  queries a second   %.0f (%.0f with the declarations counted in)" % (size / in_queries, size / whole))
     print("  beside a copy      %.1f times as long (a copy takes %.4f s)" % (whole / copy, copy))
     print("  peak of memory     %.1f MiB, %.0f bytes a line" % (memory / 1024, memory * 1024 / (2 * size)))
-    compare(text, answers, whole, memory, plain)
+    compare(text, answers, memory, rounds, plain)
     return whole, memory, os.path.getsize(text)
 
 
