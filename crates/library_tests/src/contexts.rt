@@ -11,8 +11,8 @@ use candidate_ir::decl::context::Cx;
 use candidate_ir::decl::make::Make;
 use candidate_ir::ir::heads::Flag;
 use candidate_ir::ir::kinds::{
-    Binder, ConstKind, ExistentialPredicate, ExistentialProjection, ExistentialTraitRef, Preds,
-    TraitId, Ty, TyKind, UintTy, VarKind, Vars,
+    Binder, ConstKind, ExistentialPredicate, ExistentialProjection, ExistentialTraitRef,
+    GenericArg, Preds, TraitId, Ty, TyKind, UintTy, VarKind, Vars,
 };
 use candidate_ir::ir::stop::Stop;
 use std::alloc::Global;
@@ -62,6 +62,27 @@ fn makes_constants(rt: HostRuntime) {
     check_arrays(&rt, &mut cx);
     holds(&rt, same_arrays(&rt, &mut cx, 3, 3), "the same length");
     holds(&rt, !same_arrays(&rt, &mut cx, 3, 4), "another length");
+}
+
+/// A list that the context takes whole, and the last number taken back.
+fn check_taken_back(rt: &impl Abort, alloc: Global, cx: &mut Cx) {
+    let byte = ty(rt, cx, TyKind::Uint(UintTy::U8));
+    let mut list = Vec::new(alloc);
+    list.push(GenericArg::Ty(byte)).expect(rt, "memory");
+    let made = cx.mk_arg_list(list).expect(rt, "a list");
+    let read = cx.args(made);
+    equals(rt, &read, &[GenericArg::Ty(byte)].as_slice(), "the list");
+    let count = cx.node_count();
+    ty(rt, cx, TyKind::Bool);
+    equals(rt, &cx.node_count(), &count.saturating_add(1), "one more");
+    cx.truncate(count);
+    equals(rt, &cx.node_count(), &count, "as many as before");
+}
+
+#[test]
+fn takes_numbers_back(rt: HostRuntime) {
+    let mut cx = declared(&rt, rt.alloc());
+    check_taken_back(&rt, rt.alloc(), &mut cx);
 }
 
 /// Whether the kind of a byte is read back through the trait.
