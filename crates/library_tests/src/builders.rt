@@ -61,10 +61,22 @@ fn numbers_definitions_together(rt: HostRuntime) {
 #[test]
 fn takes_another_local_crate(rt: HostRuntime) {
     let cx = each_declared(&rt, rt.alloc(), ABOVE);
-    holds(&rt, !cx.foreign_is_local(ForeignId(0)), "of the first crate");
-    holds(&rt, cx.foreign_is_local(ForeignId(4)), "of the second crate");
+    holds(
+        &rt,
+        !cx.foreign_is_local(ForeignId(0)),
+        "of the first crate",
+    );
+    holds(
+        &rt,
+        cx.foreign_is_local(ForeignId(4)),
+        "of the second crate",
+    );
     holds(&rt, cx.adt_is_local(AdtId(6)), "a local type");
-    holds(&rt, !cx.trait_is_local(TraitId(7)), "a trait of another crate");
+    holds(
+        &rt,
+        !cx.trait_is_local(TraitId(7)),
+        "a trait of another crate",
+    );
 }
 
 /// Declares a foreign type, a type, a trait, an item of the definition of that number, and a trait more.
