@@ -5,6 +5,7 @@ ghost use Rattle.candidate_eval.specs.Calls.{NoUnnamedHeaderHere};
 ghost use Rattle.candidate_ir.specs.References.{IsReference, IsWellFormed};
 ghost use Rattle.candidate_ir.specs.Words.{IsArgs};
 
+use crate::asserts::{equals, holds};
 use candidate_eval::coherence::{NormalizeErr, OrphanStop, trait_ref_is_knowable};
 use candidate_ir::decl::Cx;
 use candidate_ir::ir::heads::Flag;
@@ -13,7 +14,6 @@ use candidate_ir::ir::stop::Stop;
 use client::{Declared, adt, declare, may_write, reference, vec_from_local};
 use std::alloc::Global;
 use std::convert::Infallible;
-use std::test::Fail;
 
 /// `Vec<LocalType>: From<Vec<LocalType>>`.
 #[tactic(auto, using(candidate_ir::proofs::Made::making))]
@@ -61,31 +61,28 @@ fn all_known(
 }
 
 #[test]
-fn a_local_parameter_makes_all_known(rt: HostRuntime) -> Result<(), Fail> {
-    let mut declared = declare(rt.alloc())?;
-    let trait_ref = vec_from_local(&mut declared)?;
+fn a_local_parameter_makes_all_known(rt: HostRuntime) {
+    let mut declared = declare(rt.alloc()).expect(&rt, "memory");
+    let trait_ref = vec_from_local(&mut declared).expect(&rt, "a reference");
     let mut cx = declared.cx;
     let answer = all_known(rt.alloc(), &mut cx, trait_ref);
-    assert!(rt; matches!(answer, Ok(true)));
-    Ok(())
+    holds(&rt, matches!(answer, Ok(true)), "a local parameter");
 }
 
 #[test]
-fn a_local_parameter_may_be_written(rt: HostRuntime) -> Result<(), Fail> {
-    let mut declared = declare(rt.alloc())?;
-    let trait_ref = vec_from_local(&mut declared)?;
+fn a_local_parameter_may_be_written(rt: HostRuntime) {
+    let mut declared = declare(rt.alloc()).expect(&rt, "memory");
+    let trait_ref = vec_from_local(&mut declared).expect(&rt, "a reference");
     let mut cx = declared.cx;
-    let answer = may_write(rt.alloc(), &mut cx, trait_ref)?;
-    assert_eq!(rt; answer, true);
-    Ok(())
+    let answer = may_write(rt.alloc(), &mut cx, trait_ref);
+    equals(&rt, &answer, &Ok(true), "a local parameter");
 }
 
 #[test]
-fn types_of_others_may_not(rt: HostRuntime) -> Result<(), Fail> {
-    let mut declared = declare(rt.alloc())?;
-    let trait_ref = vec_from_vec(&mut declared)?;
+fn types_of_others_may_not(rt: HostRuntime) {
+    let mut declared = declare(rt.alloc()).expect(&rt, "memory");
+    let trait_ref = vec_from_vec(&mut declared).expect(&rt, "a reference");
     let mut cx = declared.cx;
-    let answer = may_write(rt.alloc(), &mut cx, trait_ref)?;
-    assert_eq!(rt; answer, false);
-    Ok(())
+    let answer = may_write(rt.alloc(), &mut cx, trait_ref);
+    equals(&rt, &answer, &Ok(false), "types of others");
 }
