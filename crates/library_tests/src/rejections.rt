@@ -12,9 +12,9 @@ use crate::samples::{
 };
 use candidate_ir::decl::context::Cx;
 use candidate_ir::ir::kinds::{
-    AdtId, Args, Binder, BoundVar, Const, ConstKind, ExistentialPredicate, FloatTy, FnSig,
-    GenericArg, InferTy, IntTy, Mutability, Placeholder, Preds, Region, RegionKind, Ty, TyKind,
-    UintTy, VarKind,
+    AdtId, Args, Binder, BoundVar, Const, ConstKind, ExistentialPredicate, ExistentialProjection,
+    ExistentialTraitRef, FloatTy, FnSig, GenericArg, InferTy, IntTy, Mutability, Placeholder,
+    Preds, Region, RegionKind, Ty, TyKind, UintTy, VarKind,
 };
 use candidate_ir::ir::unify::RightSide;
 use std::alloc::Global;
@@ -139,7 +139,10 @@ fn of_trait(rt: &impl Abort, cx: &mut Cx, argument: Leaf) -> Preds
 {
     let args = list_of(rt, cx, List::One(argument));
     let vars = variables(rt, cx, &[VarKind::Region]);
-    let value = ExistentialPredicate::Trait(TRAIT1, args);
+    let value = ExistentialPredicate::Trait(ExistentialTraitRef {
+        def_id: TRAIT1,
+        args,
+    });
     preds(rt, cx, &[Binder { vars, value }])
 }
 
@@ -150,7 +153,11 @@ fn of_projection(rt: &impl Abort, cx: &mut Cx, term: Leaf) -> Preds
     let args = list_of(rt, cx, List::Empty);
     let vars = variables(rt, cx, &[VarKind::Region]);
     let term = leaf_of(rt, cx, term);
-    let value = ExistentialPredicate::Projection(OUT, args, term);
+    let value = ExistentialPredicate::Projection(ExistentialProjection {
+        def_id: OUT,
+        args,
+        term,
+    });
     preds(rt, cx, &[Binder { vars, value }])
 }
 
@@ -170,7 +177,10 @@ fn of_both(rt: &impl Abort, cx: &mut Cx, argument: Leaf) -> Preds
     let args = list_of(rt, cx, List::One(argument));
     let vars = variables(rt, cx, &[VarKind::Region]);
     let auto = ExistentialPredicate::AutoTrait(LOCAL_TRAIT);
-    let principal = ExistentialPredicate::Trait(TRAIT1, args);
+    let principal = ExistentialPredicate::Trait(ExistentialTraitRef {
+        def_id: TRAIT1,
+        args,
+    });
     preds(
         rt,
         cx,
