@@ -2,12 +2,11 @@
 use Rattle.std.proofs.Common.{◌≡◌, ℕ, ◌+◌, List, [], ◌∷◌, drop, Some, slice_get, refl, sym, ◌∙◌, ap, arith}
 use Rattle.std.specs.Prelude.{Bool, true, false, ◌||◌}
 use Rattle.candidate_ir.specs.declared.ir.heads.Head.{Head}
-use Rattle.candidate_ir.specs.declared.ir.heads.Head.TheVariants as H
 use Rattle.candidate_ir.specs.Trees.{ArgumentsKind, Forest, none, tree, Tree, is_list, is_list_kind, put, join, binders_of}
 use Rattle.candidate_ir.specs.Binders.{is_beyond, escapes, tree_escapes}
 use Rattle.candidate_ir.specs.Kinds.{numbers}
 use Rattle.candidate_ir.specs.declared.ir.node.Node.{Node}
-use Rattle.candidate_ir.specs.Nodes.{tree_at, kind_at, trees_at, rows, children_of, head_of, node_tree}
+use Rattle.candidate_ir.specs.Nodes.{tree_at, kind_at, trees_at, rows, children_of, head_of}
 use Rattle.candidate_ir.specs.Table.{IsNodeOf}
 use Rattle.candidate_ir.proofs.Lists.{below_kind, kind_of-tree_at}
 use Rattle.candidate_ir.proofs.Splits.{list-head, or-assoc}

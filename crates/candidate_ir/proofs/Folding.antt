@@ -1,5 +1,5 @@
 -- Laws of folds, shifts and substitutions.
-use Rattle.std.proofs.Common.{◌≡◌, ℕ, zero, suc, ◌+◌, ◌≤◌, Option, Some, None, List, ◌∷◌, refl, sym, ◌∙◌, ap, subst, arith}
+use Rattle.std.proofs.Common.{◌≡◌, ℕ, zero, suc, ◌+◌, Option, Some, None, List, ◌∷◌, refl, sym, ◌∙◌, ap, subst, arith}
 use Rattle.std.specs.Prelude.{Bool, true, false, not, ◌||◌, nat_le, if◌then◌else◌}
 use Rattle.std.specs.Option.{unwrap_or}
 use Rattle.candidate_ir.specs.declared.ir.heads.Head.{Head}
@@ -281,7 +281,7 @@ substituted-shift args n d ts =
     (λ e h q. ap (λ (o : Option Tree). or_else o (put args (e + n) h)) q) d ts in
     let right = fuse (put args) (moved n) (either_of args n) 0 (put-some args n)
     (λ e h q. let same : e ≡ e + 0 = omega arith in
-        ap (or_else (moved n e h)) (put-still args args e (e + n) h q) ∙ (or_else-none (moved n e h) ∙ ap (λ (m : ℕ). moved n m h) same)) d ts in
+    ap (or_else (moved n e h)) (put-still args args e (e + n) h q) ∙ (or_else-none (moved n e h) ∙ ap (λ (m : ℕ). moved n m h) same)) d ts in
     let depth : d + 0 ≡ d = omega arith in
     left ∙ (sym right ∙ ap (λ (m : ℕ). fold (by_head (moved n)) m (substituted args d ts)) depth)
 

@@ -1,4 +1,4 @@
-use Rattle.std.proofs.Common.{refl, rules}
+use Rattle.std.proofs.Common.{refl}
 use Rattle.candidate_ir.proofs.ir.nodes.Nodes.mk_region.Goals as goal
 
 pub returns : goal.returns
