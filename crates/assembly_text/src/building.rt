@@ -10,8 +10,7 @@ ghost use Rattle.assembly_text.specs.Params.{LacksParam, ListLacksParam, BoundLa
 use candidate_ir::decl::context::Cx;
 use candidate_ir::ir::kinds::{
     AdtId, AliasTy, AssocId, Binder, ExistentialPredicate, ExistentialProjection,
-    ExistentialTraitRef, GenericArg, Mutability, RegionKind,
-    TraitId, Ty, TyKind,
+    ExistentialTraitRef, GenericArg, Mutability, RegionKind, TraitId, Ty, TyKind,
 };
 use candidate_ir::ir::stop::Stop;
 
