@@ -39,10 +39,11 @@ use Rattle.candidate_ir.specs.Worlds.{World, AdtSort, ForeignSort, FunctionSort,
 use Rattle.candidate_ir.specs.Parameters.{is_type_arg}
 use Rattle.candidate_ir.specs.declared.ir.kinds.TraitRef.{TraitRef}
 use Rattle.candidate_ir.specs.Declaration.{Declaration}
-use Rattle.candidate_ir.specs.Context.{Context, world_of}
+use Rattle.candidate_ir.specs.Context.{Context, Grows, world_of}
 use Rattle.candidate_ir.specs.References.{Takes, AllTake, ArgumentsFit}
 use Rattle.candidate_ir.specs.Words.{IsArgs, IsPreds, KindFits, ConstKindFits, PredFits, ClauseFits, ListFits, PredListFits, kind_tree, const_kind_tree, pred_kind_tree, clause_kind_tree, args_forest, preds_forest, list_forest, pred_list_forest, bounds_forest}
 use Rattle.candidate_ir.proofs.Lists.{there}
+use Rattle.candidate_ir.proofs.Kept.{preds-kept}
 use Rattle.candidate_ir.proofs.Made.{list-kinds}
 use Rattle.std.proofs.Math.Nat.{eq-or-lt_of_le}
 use Rattle.candidate_ir.proofs.References.{row-kinds, take-at}
@@ -518,3 +519,11 @@ one-takes-not w ts bs n d b h r e = (λ t. absurd cc, λ a. absurd (let t : IsTr
 pub bounds-made : (ts : List Tree) (bs : List (Binder ExistentialPredicate)) → kinds_of (bounds_forest ts bs) ≡ all_of PredicateKind (kinds_of (bounds_forest ts bs))
 bounds-made ts [] = refl
 bounds-made ts (b ∷ bs) = ap (λ (ks : List Kind). PredicateKind ∷ ks) (bounds-made ts bs)
+
+-- so a `dyn` type of them takes them
+pub made-bounds-take : (w : World) (old new : Context) (ts : List Tree) (bs : List (Binder ExistentialPredicate)) (p : Preds) (r : Region)
+    → Grows old new → IsPreds old.trees p → preds_forest old.trees p ≡ bounds_forest ts bs → KindFits new.trees (K.Dynamic p r)
+    → Takes w (kind_tree new.trees (K.Dynamic p r))
+made-bounds-take w old new ts bs p r g i e f =
+    bounds-take w new.trees (K.Dynamic p r) p r refl f
+    (subst (λ (x : Forest). kinds_of x ≡ all_of PredicateKind (kinds_of x)) (sym ((preds-kept old new p g i).1 ∙ e)) (bounds-made ts bs))
