@@ -10,6 +10,7 @@ use Rattle.candidate_ir.specs.References.{reference_of}
 use Rattle.candidate_ir.specs.Trees.{Tree, holds, is_alias}
 use Rattle.candidate_ir.specs.Words.{args_forest}
 use Rattle.candidate_ir.specs.Worlds.{World, Reference, IsOf}
+use Rattle.candidate_ir.proofs.Kept.{grows-refl}
 use Rattle.candidate_eval.specs.declared.coherence.Conflict.TheVariants as K
 use Rattle.candidate_eval.specs.declared.coherence.NormalizeErr.{NormalizeErr}
 use Rattle.candidate_eval.specs.declared.coherence.OrphanStop.{OrphanStop}
@@ -105,7 +106,7 @@ module _ {C F E A : Type 0} {context : C → Context} {g : Mut F (MutBor C × (T
 
   -- no call is made, and the result is no stop
   pub changed_by_none : ((s : Stop) → result ≡ Err (O.Stop s) → ⊥) → IsChangedByCalls context g levels f c c result
-  changed_by_none n = record { last = f; left = left-quietly context g levels f c f c (StopsWith result) (reached-same context g f c) n }
+  changed_by_none n = record { last = f; left = left-quietly context g levels f c f c (StopsWith result) (reached-same context g f c) (grows-refl (context c)) n }
 
 pub ruleset of_calls = (changed_by_calls, changed_alike, changed_by_none)
 

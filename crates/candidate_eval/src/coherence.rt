@@ -6,7 +6,7 @@ ghost use Rattle.candidate_ir.specs.Flags.{mark};
 ghost use Rattle.candidate_ir.specs.Trees.{Tree, holds, is_alias};
 ghost use Rattle.candidate_ir.specs.Words.{IsTy, IsArgs, args_forest};
 ghost use Rattle.candidate_eval.specs.Orphan.{view, Passes, Entry, NonLocalInput, local_or_fundamental};
-ghost use Rattle.candidate_eval.specs.Normalizer.{Description, IsUntold, IsTold, StopsWith, MayNormalize, KeepsNumbers, IsFunction, IsLeftByCalls, IsChangedByCalls};
+ghost use Rattle.candidate_eval.specs.Normalizer.{Description, IsUntold, IsTold, StopsWith, MayNormalize, KeepsNumbers, IsNormalizer, IsFunction, IsLeftByCalls, IsChangedByCalls};
 ghost use Rattle.candidate_eval.specs.Laws.{ProperThenCompat, RemoteLaw, FirstInputLaw, OnlyFirst, LinkSafety, IsPlainCall};
 ghost use Rattle.candidate_eval.specs.Calls.{depth_limit, IsChecked, IsKnown, check_of, check_where, knowledge_about, HasNoParam, HasNoAlias, HasNoAliasOrError, IsOfForeignTrait, NoForeignHeaderHere, NoUnnamedHeaderHere, NoCoveredHeaderHere, IsDecidedByGeneralHere, HasDownstreamHere};
 ghost use Rattle.candidate_eval.specs.Answers.{IsUncoveredResult, AreAnswerTypes, IsAnswer, IsKnowledge, answer_of, second_answer};
@@ -121,9 +121,7 @@ where
     E: Drop,
     F: FnMut(&mut C, Ty) -> Result<Ty, NormalizeErr<E>>,
     requires args { IsArgs (C.context infcx.old).trees args }
-    requires callable { MayNormalize C.context F.FnMut normalize.old infcx.old }
-    requires keeps { KeepsNumbers C.context F.FnMut normalize.old infcx.old }
-    ensures grows { Grows (C.context infcx.old) (C.context infcx.new) }
+    requires normaliser { IsNormalizer C.context F.FnMut normalize.old infcx.old }
     ensures calls { IsLeftByCalls C.context F.FnMut depth_limit normalize.old infcx.old normalize.new infcx.new (λ s. result ≡ Err s) }
     ensures types { IfOk result (λ o. IfSome o (λ t. IsTy (C.context infcx.new).trees t)) }
     ensures answer { (d : Description F C E) → IsFunction C.context F.FnMut C.resolved d normalize.old infcx.old → ((s : Stop) → IsUntold d.untold s → result ≡ Err s → ⊥) → (t : Tree) → IsSecond (setting (C.context infcx.old) in_crate) (view (λ s t. C.resolved s.1 t) d.normal) depth_limit (d.stands (normalize.old, infcx.old)) (args_forest (C.context infcx.old).trees args) t (record { answer = second_answer (C.context infcx.new).trees t result; after = d.stands (normalize.new, infcx.new) }) }
@@ -156,9 +154,7 @@ where
     E: Drop,
     F: FnMut(&mut C, Ty) -> Result<Ty, NormalizeErr<E>>,
     requires args { IsArgs (C.context infcx.old).trees trait_ref.args }
-    requires callable { MayNormalize C.context F.FnMut normalize.old infcx.old }
-    requires keeps { KeepsNumbers C.context F.FnMut normalize.old infcx.old }
-    ensures grows { Grows (C.context infcx.old) (C.context infcx.new) }
+    requires normaliser { IsNormalizer C.context F.FnMut normalize.old infcx.old }
     ensures calls { IsLeftByCalls C.context F.FnMut depth_limit normalize.old infcx.old normalize.new infcx.new (StopsWith result) }
     ensures types { AreAnswerTypes (C.context infcx.new).trees result }
     ensures covers { in_crate ≡ InCrate.Remote → ¬ (IsUncoveredResult result) }
@@ -287,9 +283,7 @@ where
     E: Drop,
     F: FnMut(&mut C, Ty) -> Result<Ty, NormalizeErr<E>>,
     requires args { IsArgs (C.context infcx.old).trees trait_ref.args }
-    requires callable { MayNormalize C.context F.FnMut normalize.old infcx.old }
-    requires keeps { KeepsNumbers C.context F.FnMut normalize.old infcx.old }
-    ensures grows { Grows (C.context infcx.old) (C.context infcx.new) }
+    requires normaliser { IsNormalizer C.context F.FnMut normalize.old infcx.old }
     ensures calls { IsLeftByCalls C.context F.FnMut depth_limit normalize.old infcx.old normalize.new infcx.new (StopsWith result) }
     ensures answer { IsKnown C.context C.resolved F.FnMut normalize.old infcx.old trait_ref result normalize.new infcx.new }
 {

@@ -33,21 +33,6 @@ pub returns-clause-calls : goal.returns-clause-calls
 returns-clause-calls g c =
     left-same g.C.Make.context g.F.FnMut depth_limit _ _ _ _ _ _ (λ s e. absurd (walk-goes-on _ s e)) (λ s e. absurd (second-ends _ s e)) c.in-Ok.ensures.calls
 
-pub returns-in-Err-Local-clause-grows : goal.returns-in-Err-Local-clause-grows
-returns-in-Err-Local-clause-grows g c = c.visit_args.ensures.grows
-
-pub returns-in-Err-Broken-Stop-clause-grows : goal.returns-in-Err-Broken-Stop-clause-grows
-returns-in-Err-Broken-Stop-clause-grows g c = c.visit_args.ensures.grows
-
-pub returns-in-Err-Broken-Normalize-clause-grows : goal.returns-in-Err-Broken-Normalize-clause-grows
-returns-in-Err-Broken-Normalize-clause-grows g c = c.visit_args.ensures.grows
-
-pub returns-in-Err-Uncovered-clause-grows : goal.returns-in-Err-Uncovered-clause-grows
-returns-in-Err-Uncovered-clause-grows g c = c.visit_args.ensures.grows
-
-pub returns-clause-grows : goal.returns-clause-grows
-returns-clause-grows g c = c.visit_args.ensures.grows
-
 pub returns-in-Err-Broken-Stop-clause-answer : goal.returns-in-Err-Broken-Stop-clause-answer
 returns-in-Err-Broken-Stop-clause-answer g c =
     λ d h told t.
