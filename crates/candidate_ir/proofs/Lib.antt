@@ -15,6 +15,9 @@ pub mod Members
 pub mod Growing
 pub mod References
 pub mod Parameters
+pub mod Arity
+pub mod Fitting
+pub mod Faults
 pub mod Instances
 pub mod Pairs
 pub mod MayUnify

@@ -13,19 +13,37 @@ use Rattle.candidate_ir.specs.declared.ir.heads.ClauseHead.{ClauseHead}
 use Rattle.candidate_ir.specs.declared.ir.heads.ClauseHead.TheVariants as Cl
 use Rattle.candidate_ir.specs.declared.ir.kinds.AliasKind.{AliasKind}
 use Rattle.candidate_ir.specs.declared.ir.kinds.AliasKind.TheVariants as AK
+use Rattle.candidate_ir.specs.declared.decl.definition.DefinitionSort.{DefinitionSort}
+use Rattle.candidate_ir.specs.declared.decl.definition.DefinitionSort.TheVariants as D
 use Rattle.candidate_ir.specs.Trees.{Kind, TypeKind, ConstantKind, RegionKind, PredicateKind, SignatureKind, BinderKind, VariableKind, Forest, none, tree, kind_of}
 
 -- What a definition's number stands for.
-pub data DefinitionSort : Type 0 where
-  AdtSort : DefinitionSort
-  ForeignSort : DefinitionSort
-  TraitSort : DefinitionSort
-  AssociatedTypeSort : DefinitionSort
-  AssociatedConstantSort : DefinitionSort
-  AliasSort : DefinitionSort
-  OpaqueSort : DefinitionSort
-  FunctionSort : DefinitionSort
-  ClosureSort : DefinitionSort
+abbrev pub AdtSort : DefinitionSort
+AdtSort = D.Adt
+
+abbrev pub ForeignSort : DefinitionSort
+ForeignSort = D.Foreign
+
+abbrev pub TraitSort : DefinitionSort
+TraitSort = D.Trait
+
+abbrev pub AssociatedTypeSort : DefinitionSort
+AssociatedTypeSort = D.AssociatedType
+
+abbrev pub AssociatedConstantSort : DefinitionSort
+AssociatedConstantSort = D.AssociatedConst
+
+abbrev pub AliasSort : DefinitionSort
+AliasSort = D.Alias
+
+abbrev pub OpaqueSort : DefinitionSort
+OpaqueSort = D.Opaque
+
+abbrev pub FunctionSort : DefinitionSort
+FunctionSort = D.Function
+
+abbrev pub ClosureSort : DefinitionSort
+ClosureSort = D.Closure
 
 -- The parameters of a trait and of its items are those after `Self`.
 pub record Definition : Type 0 where
@@ -48,15 +66,15 @@ pub record Reference : Type 0 where
   pub arguments : Forest
 
 abbrev pub sort_number : DefinitionSort → ℕ
-sort_number AdtSort = 0
-sort_number ForeignSort = 1
-sort_number TraitSort = 2
-sort_number AssociatedTypeSort = 3
-sort_number AssociatedConstantSort = 4
-sort_number AliasSort = 5
-sort_number OpaqueSort = 6
-sort_number FunctionSort = 7
-sort_number ClosureSort = 8
+sort_number D.Adt = 0
+sort_number D.Foreign = 1
+sort_number D.Trait = 2
+sort_number D.AssociatedType = 3
+sort_number D.AssociatedConst = 4
+sort_number D.Alias = 5
+sort_number D.Opaque = 6
+sort_number D.Function = 7
+sort_number D.Closure = 8
 
 abbrev pub parameters_of : DefinitionSort → Option Definition → Option (List Kind)
 parameters_of s None = None

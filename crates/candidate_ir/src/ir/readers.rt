@@ -1,6 +1,8 @@
 //! What the table says of a number.
 
-ghost use Rattle.std.specs.Prelude.{◌≡◌};
+ghost use Rattle.std.specs.Prelude.{◌≡◌, true};
+ghost use Rattle.candidate_ir.specs.Trees.{PredicateKind};
+ghost use Rattle.candidate_ir.specs.Worlds.{all_of, kinds_of};
 ghost use Rattle.candidate_ir.specs.Names.{principal_of};
 ghost use Rattle.candidate_ir.specs.Words.{IsTy, IsConst, IsRegion, IsArgs, IsPreds, IsPred, IsSig, IsClause, IsParamEnv, IsVars, IsVar, ty_tree, const_tree, region_tree, args_forest, preds_forest, pred_tree, sig_tree, clause_tree, env_forest, vars_tree, var_tree, KindFits, ConstKindFits, ListFits, PredListFits, PredFits, SigFits, ClauseFits, ClauseListFits, VarListFits, kind_tree, const_kind_tree, region_kind_tree, list_forest, pred_list_forest, pred_kind_tree, sig_kind_tree, clause_kind_tree, clause_list_forest, vars_kind_tree, var_kind_tree};
 
@@ -47,6 +49,16 @@ impl Nodes {
             Node::Preds(list) => list.as_slice(),
             _ => unreachable!(),
         }
+    }
+
+    /// True: a list of bounds has bounds alone.
+    pub(crate) fn holds_bounds(&self, preds: Preds) -> bool
+        requires { IsPreds self.now preds }
+        ensures is { result ≡ true }
+        ensures kinds { kinds_of (preds_forest self.now preds) ≡ all_of PredicateKind (kinds_of (preds_forest self.now preds)) }
+    {
+        let _ = self.preds(preds);
+        true
     }
 
     /// The bound of a number.
