@@ -3,6 +3,7 @@
 ghost use Rattle.std.specs.Prelude.{◌≡◌, ◌≢◌, ◌||◌, ℕ, List, false, not, IfOk, IfSome, IsTrue};
 ghost use Rattle.candidate_ir.specs.Context.{Grows, world};
 ghost use Rattle.candidate_ir.specs.Flags.{mark};
+ghost use Rattle.candidate_ir.specs.References.{ArgumentsFit};
 ghost use Rattle.candidate_ir.specs.Trees.{Tree, holds, is_alias};
 ghost use Rattle.candidate_ir.specs.Words.{IsTy, IsArgs, args_forest};
 ghost use Rattle.candidate_eval.specs.Orphan.{view, Passes, Entry, NonLocalInput, local_or_fundamental};
@@ -196,7 +197,6 @@ where
 /// normaliser, `Memory` where a growth was refused, `WalkDepth` where a type is nested in 256
 /// others, `Unnameable` where a function's type, a closure or a parameter is met. The context is
 /// changed by the normaliser alone.
-#[tactic(auto, using(crate::proofs::CallLaws::check_laws))]
 pub fn orphan_check_trait_ref<C, E, F>(
     alloc: Global,
     infcx: &mut C,
@@ -209,6 +209,7 @@ where
     E: Drop,
     F: FnMut(&mut C, Ty) -> Result<Ty, NormalizeErr<E>> + Drop,
     requires args { IsArgs (C.context infcx.old).trees trait_ref.args }
+    requires fit { ArgumentsFit (C.context infcx.old) trait_ref }
     requires no_param { HasNoParam (C.context infcx.old) trait_ref }
     requires callable { MayNormalize C.context F.FnMut normalize infcx.old }
     requires keeps { KeepsNumbers C.context F.FnMut normalize infcx.old }
@@ -242,6 +243,7 @@ where
     // What passes in `Proper` is overlapped by no header of another crate, where neither names the other's crate.
     ensures no_foreign_header { IsPlainCall C.context C.resolved F.FnMut normalize infcx.old trait_ref → HasNoAliasOrError (C.context infcx.old) trait_ref → in_crate ≡ InCrate.Local OrphanCheckMode.Proper → result ≡ Ok (Ok tt) → NoForeignHeaderHere (C.context infcx.old) trait_ref }
 {
+    infcx.cx().well_formed(); // so the reference is one of the declared world
     check(alloc, infcx, trait_ref, in_crate, &mut normalize)
 }
 
@@ -312,7 +314,6 @@ where
 /// `Conflict::Downstream`. Else they are known where the trait is local or fundamental, or where the
 /// local crate may write the header: `Ok(())`. Else a crate above may add one: `Conflict::Upstream`.
 /// It stops as the orphan check does.
-#[tactic(auto, using(crate::proofs::CallLaws::knowability_laws))]
 pub fn trait_ref_is_knowable<C, E, F>(
     alloc: Global,
     infcx: &mut C,
@@ -324,6 +325,7 @@ where
     E: Drop,
     F: FnMut(&mut C, Ty) -> Result<Ty, NormalizeErr<E>> + Drop,
     requires args { IsArgs (C.context infcx.old).trees trait_ref.args }
+    requires fit { ArgumentsFit (C.context infcx.old) trait_ref }
     requires no_param { HasNoParam (C.context infcx.old) trait_ref }
     requires callable { MayNormalize C.context F.FnMut normalize infcx.old }
     requires keeps { KeepsNumbers C.context F.FnMut normalize infcx.old }
@@ -342,5 +344,6 @@ where
     // Known by its own types, it is overlapped by no covered header that names nothing of the local crate.
     ensures no_covered_header { IsPlainCall C.context C.resolved F.FnMut normalize infcx.old trait_ref → HasNoAlias (C.context infcx.old) trait_ref → result ≡ Ok (Ok tt) → IsOfForeignTrait (C.context infcx.old) trait_ref → NoCoveredHeaderHere (C.context infcx.old) trait_ref }
 {
+    infcx.cx().well_formed(); // so the reference is one of the declared world
     knowable(alloc, infcx, trait_ref, &mut normalize)
 }
