@@ -191,7 +191,8 @@ where
 /// references and fundamental types of other crates. Each type is resolved at its root and
 /// normalised first. The first local or uncovered type decides: `Ok(())` for a local one. For an
 /// uncovered one a second walk looks for the first local type. Where neither comes, the types that
-/// were met are the error.
+/// were met are the error. The reference has the arguments that its trait takes, as
+/// `Cx::trait_ref_args_fit` tests it, and no parameter.
 ///
 /// `OrphanStop::Normalize` is a failure of the normaliser. `OrphanStop::Stop` is a stop of the
 /// normaliser, `Memory` where a growth was refused, `WalkDepth` where a type is nested in 256
@@ -313,7 +314,7 @@ where
 /// A crate that isn't known may have one where the reference passes the `Remote` check:
 /// `Conflict::Downstream`. Else they are known where the trait is local or fundamental, or where the
 /// local crate may write the header: `Ok(())`. Else a crate above may add one: `Conflict::Upstream`.
-/// It stops as the orphan check does.
+/// It asks of the reference what the orphan check does, and stops as that does.
 pub fn trait_ref_is_knowable<C, E, F>(
     alloc: Global,
     infcx: &mut C,

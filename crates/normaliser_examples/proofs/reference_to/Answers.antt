@@ -2,8 +2,8 @@ use Rattle.candidate_ir.proofs.Kept.{ty-kept}
 use Rattle.normaliser_examples.proofs.Made.{reference-is}
 use Rattle.normaliser_examples.proofs.reference_to.Goals as goal
 
-pub mk_ty-requires : goal.mk_ty-requires
-mk_ty-requires c =
+pub mk_ty-requires-clause-fits : goal.mk_ty-requires-clause-fits
+mk_ty-requires-clause-fits c =
     let region = c.in_ok-region.ensures.sort in
     let type = (ty-kept _ _ c.args.ty c.mk_region.ensures.kept c.requires).0 in
     cc
