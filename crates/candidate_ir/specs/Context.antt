@@ -10,8 +10,7 @@ use Rattle.candidate_ir.specs.declared.decl.definition.DefinitionKind.{Definitio
 use Rattle.candidate_ir.specs.declared.decl.definition.DefinitionKind.TheVariants as D
 use Rattle.candidate_ir.specs.Trees.{Kind, TypeKind, ConstantKind, RegionKind, Tree}
 use Rattle.candidate_ir.specs.Nodes.{Extends}
-use Rattle.candidate_ir.specs.declared.decl.definition.DefinitionSort.{DefinitionSort}
-use Rattle.candidate_ir.specs.Worlds.{World, Definition, AdtSort, ForeignSort, TraitSort, AssociatedTypeSort, AssociatedConstantSort, AliasSort, OpaqueSort, FunctionSort, ClosureSort}
+use Rattle.candidate_ir.specs.Worlds.{World, Definition, DefinitionSort, AdtSort, ForeignSort, TraitSort, AssociatedTypeSort, AssociatedConstantSort, AliasSort, OpaqueSort, FunctionSort, ClosureSort}
 use Rattle.candidate_ir.specs.Declaration.{Declaration}
 
 -- What contracts see of a builder, of declarations and of a context.

@@ -4,7 +4,7 @@ use Rattle.candidate_ir.specs.declared.ir.heads.Head.{Head}
 use Rattle.candidate_ir.specs.declared.ir.heads.Head.TheVariants as H
 use Rattle.candidate_ir.specs.declared.ir.heads.Builtin.{Builtin}
 use Rattle.candidate_ir.specs.declared.ir.heads.Builtin.TheVariants as B
-use Rattle.candidate_ir.specs.declared.ir.heads.PatternShape.TheVariants as S
+use Rattle.candidate_ir.specs.declared.ir.heads.PatternShape.TheVariants as Pat
 use Rattle.candidate_ir.specs.declared.ir.heads.ConstHead.TheVariants as C
 use Rattle.candidate_ir.specs.declared.ir.heads.PartHead.{PartHead}
 use Rattle.candidate_ir.specs.declared.ir.heads.PartHead.TheVariants as P
@@ -13,37 +13,40 @@ use Rattle.candidate_ir.specs.declared.ir.heads.ClauseHead.{ClauseHead}
 use Rattle.candidate_ir.specs.declared.ir.heads.ClauseHead.TheVariants as Cl
 use Rattle.candidate_ir.specs.declared.ir.kinds.AliasKind.{AliasKind}
 use Rattle.candidate_ir.specs.declared.ir.kinds.AliasKind.TheVariants as AK
-use Rattle.candidate_ir.specs.declared.decl.definition.DefinitionSort.{DefinitionSort}
-use Rattle.candidate_ir.specs.declared.decl.definition.DefinitionSort.TheVariants as D
+use Rattle.candidate_ir.specs.declared.decl.definition.DefinitionSort.{DefinitionSort as Sort}
+use Rattle.candidate_ir.specs.declared.decl.definition.DefinitionSort.TheVariants as S
 use Rattle.candidate_ir.specs.Trees.{Kind, TypeKind, ConstantKind, RegionKind, PredicateKind, SignatureKind, BinderKind, VariableKind, Forest, none, tree, kind_of}
 
 -- What a definition's number stands for.
+abbrev pub DefinitionSort : Type 0
+DefinitionSort = Sort
+
 abbrev pub AdtSort : DefinitionSort
-AdtSort = D.Adt
+AdtSort = S.Adt
 
 abbrev pub ForeignSort : DefinitionSort
-ForeignSort = D.Foreign
+ForeignSort = S.Foreign
 
 abbrev pub TraitSort : DefinitionSort
-TraitSort = D.Trait
+TraitSort = S.Trait
 
 abbrev pub AssociatedTypeSort : DefinitionSort
-AssociatedTypeSort = D.AssociatedType
+AssociatedTypeSort = S.AssociatedType
 
 abbrev pub AssociatedConstantSort : DefinitionSort
-AssociatedConstantSort = D.AssociatedConst
+AssociatedConstantSort = S.AssociatedConst
 
 abbrev pub AliasSort : DefinitionSort
-AliasSort = D.Alias
+AliasSort = S.Alias
 
 abbrev pub OpaqueSort : DefinitionSort
-OpaqueSort = D.Opaque
+OpaqueSort = S.Opaque
 
 abbrev pub FunctionSort : DefinitionSort
-FunctionSort = D.Function
+FunctionSort = S.Function
 
 abbrev pub ClosureSort : DefinitionSort
-ClosureSort = D.Closure
+ClosureSort = S.Closure
 
 -- The parameters of a trait and of its items are those after `Self`.
 pub record Definition : Type 0 where
@@ -66,15 +69,15 @@ pub record Reference : Type 0 where
   pub arguments : Forest
 
 abbrev pub sort_number : DefinitionSort → ℕ
-sort_number D.Adt = 0
-sort_number D.Foreign = 1
-sort_number D.Trait = 2
-sort_number D.AssociatedType = 3
-sort_number D.AssociatedConst = 4
-sort_number D.Alias = 5
-sort_number D.Opaque = 6
-sort_number D.Function = 7
-sort_number D.Closure = 8
+sort_number S.Adt = 0
+sort_number S.Foreign = 1
+sort_number S.Trait = 2
+sort_number S.AssociatedType = 3
+sort_number S.AssociatedConst = 4
+sort_number S.Alias = 5
+sort_number S.Opaque = 6
+sort_number S.Function = 7
+sort_number S.Closure = 8
 
 abbrev pub parameters_of : DefinitionSort → Option Definition → Option (List Kind)
 parameters_of s None = None
@@ -101,8 +104,8 @@ bounds_of (k ∷ (l ∷ ks)) = PredicateKind ∷ bounds_of (l ∷ ks)
 abbrev pub builtin_kinds : Builtin → List Kind → List Kind
 builtin_kinds B.Array ks = TypeKind ∷ ConstantKind ∷ []
 builtin_kinds B.Slice ks = TypeKind ∷ []
-builtin_kinds (B.Pat S.NotNull) ks = TypeKind ∷ []
-builtin_kinds (B.Pat S.Range) ks = TypeKind ∷ ConstantKind ∷ ConstantKind ∷ []
+builtin_kinds (B.Pat Pat.NotNull) ks = TypeKind ∷ []
+builtin_kinds (B.Pat Pat.Range) ks = TypeKind ∷ ConstantKind ∷ ConstantKind ∷ []
 builtin_kinds (B.RawPtr m) ks = TypeKind ∷ []
 builtin_kinds (B.FnPtr s) ks = BinderKind ∷ TypeKind ∷ all_of TypeKind (drop 2 ks)
 builtin_kinds B.UnsafeBinder ks = BinderKind ∷ TypeKind ∷ []
