@@ -12,8 +12,7 @@ use Rattle.candidate_ir.specs.declared.ir.kinds.RegionKind.TheVariants as R
 use Rattle.candidate_ir.specs.declared.ir.kinds.Mutability.TheVariants as M
 use Rattle.candidate_ir.specs.declared.ir.kinds.AliasKind.TheVariants as AK
 use Rattle.candidate_ir.specs.Trees.{Kind, TypeKind, Forest, none, tree, Tree}
-use Rattle.candidate_ir.specs.declared.decl.definition.DefinitionSort.{DefinitionSort}
-use Rattle.candidate_ir.specs.Worlds.{AdtSort, TraitSort, AssociatedTypeSort, ForeignSort, Definition, World}
+use Rattle.candidate_ir.specs.Worlds.{AdtSort, TraitSort, AssociatedTypeSort, ForeignSort, Definition, DefinitionSort, World}
 use Rattle.candidate_eval.specs.Orphan.{plain_check, plain_knowability, Knowability, Knowable, Upstream, Downstream, Answer, Passes, NonLocalInput, UncoveredInput, Faulty, Stopped, Refused, Local, Remote, Proper, Compat, orphan_answer, knowability, View, Sees, Fails, Entry}
 
 abbrev pub def : DefinitionSort → ℕ → List Kind → Bool → Definition

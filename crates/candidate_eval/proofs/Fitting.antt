@@ -4,8 +4,7 @@ use Rattle.candidate_ir.specs.declared.ir.heads.PartHead.TheVariants as P
 use Rattle.candidate_ir.specs.declared.ir.heads.PredHead.TheVariants as PH
 use Rattle.candidate_ir.specs.declared.ir.heads.ClauseHead.TheVariants as Cl
 use Rattle.candidate_ir.specs.Trees.{Kind, SignatureKind, BinderKind, TypeKind, Forest, none, tree, holds}
-use Rattle.candidate_ir.specs.declared.decl.definition.DefinitionSort.{DefinitionSort}
-use Rattle.candidate_ir.specs.Worlds.{AdtSort, ForeignSort, FunctionSort, ClosureSort, OpaqueSort, AliasSort, AssociatedConstantSort, TraitSort, AssociatedTypeSort, Definition, World, Reference, Extends, parameters, parameters_of, joined, alias_kinds, clause_kinds, part_kinds, child_kinds, kinds_of, Fits, IsOf}
+use Rattle.candidate_ir.specs.Worlds.{AdtSort, ForeignSort, FunctionSort, ClosureSort, OpaqueSort, AliasSort, AssociatedConstantSort, DefinitionSort, TraitSort, AssociatedTypeSort, Definition, World, Reference, Extends, parameters, parameters_of, joined, alias_kinds, clause_kinds, part_kinds, child_kinds, kinds_of, Fits, IsOf}
 use Rattle.candidate_ir.specs.declared.ir.heads.Head.{Head}
 use Rattle.candidate_ir.specs.declared.ir.kinds.AliasKind.{AliasKind}
 use Rattle.candidate_ir.specs.declared.ir.heads.Head.TheVariants as H
