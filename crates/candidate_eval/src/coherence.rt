@@ -12,6 +12,7 @@ ghost use Rattle.candidate_eval.specs.Laws.{ProperThenCompat, RemoteLaw, FirstIn
 ghost use Rattle.candidate_eval.specs.Calls.{depth_limit, IsChecked, IsKnown, check_of, check_where, knowledge_about, HasNoParam, HasNoAlias, HasNoAliasOrError, IsOfForeignTrait, NoForeignHeaderHere, NoUnnamedHeaderHere, NoCoveredHeaderHere, IsDecidedByGeneralHere, HasDownstreamHere};
 ghost use Rattle.candidate_eval.specs.Answers.{IsUncoveredResult, AreAnswerTypes, IsAnswer, IsKnowledge, answer_of, second_answer};
 ghost use Rattle.candidate_eval.specs.Walk.{setting};
+ghost use Rattle.candidate_eval.specs.Exits.{local_ty_of};
 ghost use Rattle.candidate_eval.specs.Second.{IsSecond};
 
 use crate::eval::InferCtxtLike;
@@ -109,6 +110,19 @@ impl<E: fmt::Display> fmt::Display for OrphanStop<E> {
 /// How many visits may be nested. The definitions read it from here (`depth_limit`).
 pub const WALK_DEPTH: u16 = 256;
 
+/// What a walk that passes over uncovered views found: its first local type, or why it stopped.
+fn local_ty_of<E: Drop>(walked: Result<(), EarlyExit<E>>) -> Result<Option<Ty>, Stop>
+    ensures { result ≡ local_ty_of walked }
+{
+    match walked {
+        Err(EarlyExit::Local(ty)) => Ok(Some(ty)),
+        Err(EarlyExit::Broken(OrphanStop::Stop(stop))) => Err(stop),
+        Err(EarlyExit::Broken(OrphanStop::Normalize(_))) => Ok(None),
+        Err(EarlyExit::Uncovered(_)) => Ok(None),
+        Ok(()) => Ok(None),
+    }
+}
+
 /// The first local type of a walk that passes over uncovered views.
 fn first_local_ty<C, E, F>(
     alloc: Global,
@@ -133,13 +147,7 @@ where
         is_first: true,
         non_local: Vec::new(alloc),
     };
-    match visit_args(infcx, normalize, &mut walk, args, WALK_DEPTH) {
-        Err(EarlyExit::Local(ty)) => Ok(Some(ty)),
-        Err(EarlyExit::Broken(OrphanStop::Stop(stop))) => Err(stop),
-        Err(EarlyExit::Broken(OrphanStop::Normalize(_))) => Ok(None),
-        Err(EarlyExit::Uncovered(_)) => Ok(None),
-        Ok(()) => Ok(None),
-    }
+    local_ty_of(visit_args(infcx, normalize, &mut walk, args, WALK_DEPTH))
 }
 
 /// The orphan check, by a normaliser that is used again.
@@ -290,8 +298,8 @@ where
     ensures calls { IsLeftByCalls C.context F.FnMut depth_limit normalize.old infcx.old normalize.new infcx.new (StopsWith result) }
     ensures answer { IsKnown C.context C.resolved F.FnMut normalize.old infcx.old trait_ref result normalize.new infcx.new }
 {
-    let remote = check(alloc, infcx, trait_ref, InCrate::Remote, normalize)?;
-    if remote.is_ok() {
+    let passes_remote = check(alloc, infcx, trait_ref, InCrate::Remote, normalize)?.is_ok();
+    if passes_remote {
         return Ok(Err(Conflict::Downstream));
     }
     if trait_ref_is_local_or_fundamental(infcx.cx(), trait_ref) {
@@ -300,8 +308,8 @@ where
     let in_crate = InCrate::Local {
         mode: OrphanCheckMode::Proper,
     };
-    let local = check(alloc, infcx, trait_ref, in_crate, normalize)?;
-    if local.is_ok() {
+    let passes_proper = check(alloc, infcx, trait_ref, in_crate, normalize)?.is_ok();
+    if passes_proper {
         Ok(Ok(()))
     } else {
         Ok(Err(Conflict::Upstream))
