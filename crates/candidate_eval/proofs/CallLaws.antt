@@ -4,28 +4,23 @@ use Rattle.std.specs.Fn.{Mut}
 use Rattle.std.specs.Borrow.{MutBor}
 use Rattle.candidate_ir.specs.declared.ir.kinds.TraitRef.{TraitRef}
 use Rattle.candidate_ir.specs.declared.ir.kinds.Ty.{Ty}
-use Rattle.candidate_ir.specs.declared.ir.stop.Stop.{Stop}
 use Rattle.candidate_ir.specs.Context.{Context, world}
-use Rattle.candidate_ir.specs.References.{reference_of}
+use Rattle.candidate_ir.specs.References.{reference_of, IsReference}
 use Rattle.candidate_ir.specs.Trees.{Tree, holds, is_alias}
 use Rattle.candidate_ir.specs.Words.{args_forest}
 use Rattle.candidate_ir.specs.Worlds.{World, Reference, IsOf}
 use Rattle.candidate_eval.specs.declared.coherence.Conflict.TheVariants as K
 use Rattle.candidate_eval.specs.declared.coherence.NormalizeErr.{NormalizeErr}
 use Rattle.candidate_eval.specs.declared.coherence.OrphanStop.{OrphanStop}
-use Rattle.candidate_eval.specs.declared.coherence.OrphanStop.TheVariants as O
 use Rattle.candidate_eval.specs.Answers.{CheckResult, answer_of, IsAnswer, KnownResult, knowledge_of}
 use Rattle.candidate_eval.specs.Calls.{depth_limit, check_of, check_where, IsChecked, IsKnown, HasNoAlias, HasNoAliasOrError, IsOfForeignTrait, IsDecidedByGeneralHere, NoForeignHeaderHere, NoUnnamedHeaderHere, NoCoveredHeaderHere, HasDownstreamHere}
 use Rattle.candidate_eval.specs.Laws.{AreResolved, IsPlainCall, NoForeignHeader, NoUnnamedHeader, NoCoveredHeader, IsDecidedByGeneral, HasDownstream}
 use Rattle.candidate_eval.specs.Normalizer.{any_stop, IsTold, Description, exactly, StopsWith, IsFunction, IsLeftByCalls, IsChangedByCalls}
 use Rattle.candidate_eval.specs.Orphan.{InCrate, Local, Remote, Proper, Compat, View, view, plain, orphan_answer, Passes, knowability, Knowability, Knowable, Downstream, local_or_fundamental, plain_knowability, bare_answer, bare_knowledge, IsPlainForest}
-use Rattle.candidate_eval.proofs.Calls.{reached-same}
-use Rattle.candidate_eval.proofs.Causes.{left-same, left-quietly}
 use Rattle.candidate_eval.proofs.CheckLaws.{compat-passes, any-local}
 use Rattle.candidate_eval.proofs.Lowering.{plain_answer, plain_knowledge}
-use Rattle.candidate_eval.proofs.OrphanLaws.{proper_then_compat, remote_law, first_input_law}
 use Rattle.candidate_eval.proofs.Newcomer.{downstream_world}
-use Rattle.candidate_eval.proofs.Safety.{link_safety, own_header, open_world, covered_world}
+use Rattle.candidate_eval.proofs.Safety.{own_header, open_world, covered_world}
 
 -- for the plain normaliser, in a context where nothing of the reference has a value
 module _ {S E : Type 0} (w : World) (c limit : ℕ) (resolve : S → Tree → Tree) (s : S) (r : Reference) (there : IsOf w r) (settled : AreResolved (resolve s) r.arguments) where
@@ -53,62 +48,49 @@ module _ {S E : Type 0} (w : World) (c limit : ℕ) (resolve : S → Tree → Tr
 abbrev seen : {C F E : Type 0} → (C → Tree → Tree) → View (F × C) E → View (F × C) E
 seen resolve normal = view (λ s t. resolve s.1 t) normal
 
--- What follows for a call, whatever its body, from what it says for each normaliser. Contracts name these lemmas, so
--- that a turned body leaves open what it breaks and nothing else.
+-- What follows for a call from what it says for each normaliser.
 module _ {C F E : Type 0} {context : C → Context} {resolve : C → Tree → Tree} {g : Mut F (MutBor C × (Ty × Unit {0})) (Result Ty (NormalizeErr E) × (MutBor C × Unit {0}))}
     {f f' : F} {c c' : C} {r : TraitRef} where
   module _ {m : InCrate} {result : CheckResult E} (said : IsChecked context resolve g f c m r result f' c') where
-    pub no_foreign_header_said : IsPlainCall context resolve g f c r → HasNoAliasOrError (context c) r → m ≡ Local Proper → result ≡ Ok (Ok tt) → NoForeignHeaderHere (context c) r
-    no_foreign_header_said p ok e passes =
-        no-foreign-header (world (context c)) (context c).local.0 depth_limit (λ (s : F × C) t. resolve s.1 t) (f, c) (reference_of (context c).trees r) p.of_world p.resolved m e ok
+    pub no-foreign-header-said : IsReference (context c) r → IsPlainCall context resolve g f c r → HasNoAliasOrError (context c) r → m ≡ Local Proper → result ≡ Ok (Ok tt) → NoForeignHeaderHere (context c) r
+    no-foreign-header-said there p ok e passes =
+        no-foreign-header (world (context c)) (context c).local.0 depth_limit (λ (s : F × C) t. resolve s.1 t) (f, c) (reference_of (context c).trees r) there p.resolved m e ok
         (ap (λ x. x.answer) (said.at (exactly any_stop refl plain) p.normaliser (λ s u x. cc)) ∙ ap (answer_of (context c').trees) passes)
 
-    pub proper_passes_compat_said : (d : Description F C E) → IsFunction context g resolve d f c → m ≡ Local Proper → result ≡ Ok (Ok tt)
+    pub answer-said : (d : Description F C E) → IsFunction context g resolve d f c → IsTold d.untold result
+        → IsAnswer (context c').trees d.stands result c' (check_of context resolve d m (f, c) r)
+    answer-said d h told = let k = said.at d h told in record { answer = ap (λ x. x.answer) k; last = f'; leaves = ap (λ x. x.after) k }
+
+    pub proper-passes-compat-said : (d : Description F C E) → IsFunction context g resolve d f c → m ≡ Local Proper → result ≡ Ok (Ok tt)
         → (check_of context resolve d (Local Compat) (f, c) r).answer ≡ Passes
-    proper_passes_compat_said d h e passes =
+    proper-passes-compat-said d h e passes =
         compat-passes (world (context c)) (context c).local.0 depth_limit (seen resolve d.normal) (d.stands (f, c)) (args_forest (context c).trees r.args) m e
         (ap (λ x. x.answer) (said.at d h (λ s v x. cc)) ∙ ap (answer_of (context c').trees) passes)
 
-    pub remote_said : (d : Description F C E) → IsFunction context g resolve d f c → m ≡ Remote → IsTold d.untold result → (local : ℕ)
+    pub remote-said : (d : Description F C E) → IsFunction context g resolve d f c → m ≡ Remote → IsTold d.untold result → (local : ℕ)
         → IsAnswer (context c').trees d.stands result c' (check_where context resolve d local Remote (f, c) r)
-    remote_said d h e told local =
+    remote-said d h e told local =
         let k = any-local (world (context c)) (context c).local.0 depth_limit (seen resolve d.normal) (d.stands (f, c)) (args_forest (context c).trees r.args) m e local ∙ said.at d h told in
         record { answer = ap (λ x. x.answer) k; last = f'; leaves = ap (λ x. x.after) k }
 
-  module _ {result : KnownResult E} (said : IsKnown context resolve g f c r result f' c') (p : IsPlainCall context resolve g f c r) where
-    pub no_unnamed_header_said : HasNoAlias (context c) r → result ≡ Ok (Ok tt) → NoUnnamedHeaderHere (context c) r
-    no_unnamed_header_said ok known =
-        no-unnamed-header (world (context c)) (context c).local.0 depth_limit (λ (s : F × C) t. resolve s.1 t) (f, c) (reference_of (context c).trees r) p.of_world p.resolved ok
+  module _ {result : KnownResult E} (said : IsKnown context resolve g f c r result f' c') (there : IsReference (context c) r) (p : IsPlainCall context resolve g f c r) where
+    pub no-unnamed-header-said : HasNoAlias (context c) r → result ≡ Ok (Ok tt) → NoUnnamedHeaderHere (context c) r
+    no-unnamed-header-said ok known =
+        no-unnamed-header (world (context c)) (context c).local.0 depth_limit (λ (s : F × C) t. resolve s.1 t) (f, c) (reference_of (context c).trees r) there p.resolved ok
         ((said.at (exactly any_stop refl plain) p.normaliser (λ s u x. cc)).answer ∙ ap knowledge_of known)
 
-    pub no_covered_header_said : HasNoAlias (context c) r → result ≡ Ok (Ok tt) → IsOfForeignTrait (context c) r → NoCoveredHeaderHere (context c) r
-    no_covered_header_said ok known foreign =
-        no-covered-header (world (context c)) (context c).local.0 depth_limit (λ (s : F × C) t. resolve s.1 t) (f, c) (reference_of (context c).trees r) p.of_world p.resolved ok
+    pub no-covered-header-said : HasNoAlias (context c) r → result ≡ Ok (Ok tt) → IsOfForeignTrait (context c) r → NoCoveredHeaderHere (context c) r
+    no-covered-header-said ok known foreign =
+        no-covered-header (world (context c)) (context c).local.0 depth_limit (λ (s : F × C) t. resolve s.1 t) (f, c) (reference_of (context c).trees r) there p.resolved ok
         ((said.at (exactly any_stop refl plain) p.normaliser (λ s u x. cc)).answer ∙ ap knowledge_of known) foreign
 
-    pub downstream_header_said : HasNoAliasOrError (context c) r → result ≡ Ok (Err K.Downstream) → IsDecidedByGeneralHere (context c) r
+    pub downstream-header-said : HasNoAliasOrError (context c) r → result ≡ Ok (Err K.Downstream) → IsDecidedByGeneralHere (context c) r
         → HasDownstreamHere (context c) r
-    downstream_header_said ok known decided =
-        downstream-header (world (context c)) (context c).local.0 depth_limit (λ (s : F × C) t. resolve s.1 t) (f, c) (reference_of (context c).trees r) p.of_world p.resolved ok
+    downstream-header-said ok known decided =
+        downstream-header (world (context c)) (context c).local.0 depth_limit (λ (s : F × C) t. resolve s.1 t) (f, c) (reference_of (context c).trees r) there p.resolved ok
         ((said.at (exactly any_stop refl plain) p.normaliser (λ s u x. cc)).answer ∙ ap knowledge_of known) decided
 
-module _ {C F E A : Type 0} {context : C → Context} {g : Mut F (MutBor C × (Ty × Unit {0})) (Result Ty (NormalizeErr E) × (MutBor C × Unit {0}))}
-    {levels : ℕ} {f : F} {c : C} {result : Result A (OrphanStop E)} where
-  pub changed_by_calls : {f' : F} {c' : C} → IsLeftByCalls context g levels f c f' c' (StopsWith result) → IsChangedByCalls context g levels f c c' result
-  changed_by_calls {f' = f'} h = record { last = f'; left = h }
-
-  -- another result that stops alike
-  pub changed_alike : {f' : F} {c' : C} {said : Result A (OrphanStop E)} → IsLeftByCalls context g levels f c f' c' (StopsWith said)
-      → ((s : Stop) → said ≡ Err (O.Stop s) → result ≡ Err (O.Stop s)) → ((s : Stop) → result ≡ Err (O.Stop s) → said ≡ Err (O.Stop s))
-      → IsChangedByCalls context g levels f c c' result
-  changed_alike {f' = f'} {c' = c'} h p q = record { last = f'; left = left-same context g levels f c f' c' _ _ p q h }
-
-  -- no call is made, and the result is no stop
-  pub changed_by_none : ((s : Stop) → result ≡ Err (O.Stop s) → ⊥) → IsChangedByCalls context g levels f c c result
-  changed_by_none n = record { last = f; left = left-quietly context g levels f c f c (StopsWith result) (reached-same context g f c) n }
-
-pub ruleset of_calls = (changed_by_calls, changed_alike, changed_by_none)
-
-pub ruleset check_laws = (link_safety, no_foreign_header_said, proper_passes_compat_said, of_calls, proper_then_compat, remote_law, first_input_law)
-
-pub ruleset knowability_laws = (no_unnamed_header_said, no_covered_header_said, downstream_header_said, of_calls)
+pub changed-by-calls : {C F E A : Type 0} {context : C → Context} {g : Mut F (MutBor C × (Ty × Unit {0})) (Result Ty (NormalizeErr E) × (MutBor C × Unit {0}))}
+    {levels : ℕ} {f : F} {c : C} {result : Result A (OrphanStop E)} {f' : F} {c' : C}
+    → IsLeftByCalls context g levels f c f' c' (StopsWith result) → IsChangedByCalls context g levels f c c' result
+changed-by-calls {f' = f'} h = record { last = f'; left = h }

@@ -13,7 +13,7 @@ use Rattle.candidate_eval.specs.declared.coherence.NormalizeErr.{NormalizeErr}
 use Rattle.candidate_eval.specs.declared.coherence.OrphanStop.{OrphanStop}
 use Rattle.candidate_eval.specs.declared.coherence.OrphanStop.TheVariants as O
 use Rattle.candidate_eval.specs.Orphan.{View}
-use Rattle.candidate_eval.specs.Normalizer.{shown, Untold, refused_growth, any_stop, IsUntold, IsToldAnswer, IsTold, Description, exactly, Call, NoneStops, Normalizes, Lead, IsReached, MayNormalize, KeepsNumbers, IsFunction}
+use Rattle.candidate_eval.specs.Normalizer.{shown, Untold, refused_growth, any_stop, IsUntold, IsToldAnswer, IsTold, Description, exactly, Call, NoneStops, Normalizes, Lead, IsReached, MayNormalize, KeepsNumbers, IsNormalizer, IsFunction}
 
 memory-is : (s : Stop) → refused_growth s ≡ true → s ≡ Memory
 memory-is Memory e = refl
@@ -84,11 +84,14 @@ module _ {C F E : Type 0} (context : C → Context) (g : Mut F (MutBor C × (Ty 
 
   -- what is asked of a normaliser is asked where its calls lead
   module _ (f : F) (c : C) (f1 : F) (c1 : C) (l : IsReached context g f c f1 c1) (h : Grows (context c) (context c1)) where
-    pub may-later : MayNormalize context g f c → MayNormalize context g f1 c1
+    may-later : MayNormalize context g f c → MayNormalize context g f1 c1
     may-later m = record { at = λ e x t lent i q k s n. m.at e x t lent i (reached-then f c f1 c1 e x l q) (grows-trans (context c) (context c1) (context x) h k) s n }
 
-    pub keeps-later : KeepsNumbers context g f c → KeepsNumbers context g f1 c1
+    keeps-later : KeepsNumbers context g f c → KeepsNumbers context g f1 c1
     keeps-later m = record { at = λ e x t r e' x' q k s n w. m.at e x t r e' x' (reached-then f c f1 c1 e x l q) (grows-trans (context c) (context c1) (context x) h k) s n w }
+
+    pub normalizer-later : IsNormalizer context g f c → IsNormalizer context g f1 c1
+    normalizer-later n = record { callable = may-later n.callable; keeps = keeps-later n.keeps }
 
     pub function-later : (resolve : C → Tree → Tree) (d : Description F C E) → IsFunction context g resolve d f c → IsFunction context g resolve d f1 c1
     function-later resolve d m = record {

@@ -9,10 +9,11 @@ use Rattle.candidate_ir.specs.declared.ir.heads.Head.{Head}
 use Rattle.candidate_ir.specs.declared.ir.heads.Head.TheVariants as H
 use Rattle.candidate_ir.specs.declared.ir.kinds.AliasKind.{AliasKind}
 use Rattle.candidate_ir.specs.declared.ir.kinds.AliasKind.TheVariants as AK
-use Rattle.candidate_ir.specs.Context.{Context}
+use Rattle.candidate_ir.specs.Context.{Context, Grows}
 use Rattle.candidate_ir.specs.Trees.{Forest, Tree, holds, is_loose}
 use Rattle.candidate_ir.specs.Worlds.{World}
 use Rattle.candidate_ir.specs.Words.{IsTy, ty_tree}
+use Rattle.candidate_ir.proofs.Kept.{grows-refl, grows-trans}
 use Rattle.candidate_eval.specs.declared.coherence.NormalizeErr.{NormalizeErr}
 use Rattle.candidate_eval.specs.declared.coherence.NormalizeErr.TheVariants as N
 use Rattle.candidate_eval.specs.declared.coherence.OrphanStop.TheVariants as O
@@ -24,8 +25,8 @@ use Rattle.candidate_eval.specs.declared.walk.Walk.{Walk}
 use Rattle.candidate_eval.specs.Exits.{broken_by, exit_of, IsTaken}
 use Rattle.candidate_eval.specs.Orphan.{InCrate, Local, Remote, Proper, Compat, CrateTest, is_local, principal_passes, is_unnameable}
 use Rattle.candidate_eval.specs.Table.{table, loose_in, projection_in, loose_alias_in, alias_in, owned_in}
-use Rattle.candidate_eval.specs.Normalizer.{Call, Answers, NoneStops, EndsAtStop, LastIs, Normalizes, IsReached, SeesUnnameable, IsStopCause, IsLeftByCalls, IsViewed}
-use Rattle.candidate_eval.proofs.Calls.{lead-then, reached-same}
+use Rattle.candidate_eval.specs.Normalizer.{Call, Answers, NoneStops, EndsAtStop, LastIs, Normalizes, IsReached, SeesUnnameable, IsNormalizer, IsFunction, Description, IsStopCause, IsLeftByCalls, IsViewed}
+use Rattle.candidate_eval.proofs.Calls.{lead-then, reached-same, normalizer-later, function-later}
 
 -- the table says that a view stands in no header only of such heads
 loose-named : (m : InCrate) → loose_in m ≡ V.Unnameable → ⊥
@@ -131,9 +132,10 @@ module _ {C F E : Type 0} (context : C → Context) (g : Mut F (MutBor C × (Ty 
 
   -- calls of a part of a walk are those of the walk
   left-on : (levels more : ℕ) (f : F) (c : C) (f1 : F) (c1 : C) (f2 : F) (c2 : C) (P Q : Stop → Type 0) (l : IsReached context g f c f1 c1)
-      → ((ys : List (Call F C E)) → levels ≤ length ys → more ≤ length (l.calls ++ ys)) → ((s : Stop) → P s → Q s) → ((s : Stop) → Q s → P s)
+      → Grows (context c) (context c1) → ((ys : List (Call F C E)) → levels ≤ length ys → more ≤ length (l.calls ++ ys)) → ((s : Stop) → P s → Q s) → ((s : Stop) → Q s → P s)
       → IsLeftByCalls context g levels f1 c1 f2 c2 P → IsLeftByCalls context g more f c f2 c2 Q
-  left-on levels more f c f1 c1 f2 c2 P Q l d p q r = record {
+  left-on levels more f c f1 c1 f2 c2 P Q l h d p q r = record {
+    grows = grows-trans (context c) (context c1) (context c2) h r.grows;
     calls = l.calls ++ r.calls;
     lead = lead-then context g l.calls r.calls f c f1 c1 f2 c2 l.lead r.lead;
     ends = ends-on l.calls r.calls l.none r.ends;
@@ -141,19 +143,20 @@ module _ {C F E : Type 0} (context : C → Context) (g : Mut F (MutBor C × (Ty 
     cause = λ s h. cause-on levels more l.calls r.calls s (d r.calls) (r.cause s (q s h));
   }
 
-  pub left-after : (levels : ℕ) (f : F) (c : C) (f1 : F) (c1 : C) (f2 : F) (c2 : C) (P Q : Stop → Type 0) → IsReached context g f c f1 c1
+  pub left-after : (levels : ℕ) (f : F) (c : C) (f1 : F) (c1 : C) (f2 : F) (c2 : C) (P Q : Stop → Type 0) → IsReached context g f c f1 c1 → Grows (context c) (context c1)
       → ((s : Stop) → P s → Q s) → ((s : Stop) → Q s → P s) → IsLeftByCalls context g levels f1 c1 f2 c2 P → IsLeftByCalls context g levels f c f2 c2 Q
-  left-after levels f c f1 c1 f2 c2 P Q l p q r =
-      left-on levels levels f c f1 c1 f2 c2 P Q l (λ ys h. let k = longer l.calls ys in omega (arith, h, k)) p q r
+  left-after levels f c f1 c1 f2 c2 P Q l grows p q r =
+      left-on levels levels f c f1 c1 f2 c2 P Q l grows (λ ys h. let k = longer l.calls ys in omega (arith, h, k)) p q r
 
   pub left-same : (levels : ℕ) (f : F) (c : C) (f1 : F) (c1 : C) (P Q : Stop → Type 0)
       → ((s : Stop) → P s → Q s) → ((s : Stop) → Q s → P s) → IsLeftByCalls context g levels f c f1 c1 P → IsLeftByCalls context g levels f c f1 c1 Q
-  left-same levels f c f1 c1 P Q p q r = left-after levels f c f c f1 c1 P Q (reached-same context g f c) p q r
+  left-same levels f c f1 c1 P Q p q r = left-after levels f c f c f1 c1 P Q (reached-same context g f c) (grows-refl (context c)) p q r
 
   -- calls without a stop
-  pub left-quietly : (levels : ℕ) (f : F) (c : C) (f1 : F) (c1 : C) (Q : Stop → Type 0) → IsReached context g f c f1 c1 → ((s : Stop) → Q s → ⊥)
-      → IsLeftByCalls context g levels f c f1 c1 Q
-  left-quietly levels f c f1 c1 Q l n = record {
+  pub left-quietly : (levels : ℕ) (f : F) (c : C) (f1 : F) (c1 : C) (Q : Stop → Type 0) → IsReached context g f c f1 c1 → Grows (context c) (context c1)
+      → ((s : Stop) → Q s → ⊥) → IsLeftByCalls context g levels f c f1 c1 Q
+  left-quietly levels f c f1 c1 Q l h n = record {
+    grows = h;
     calls = l.calls;
     lead = l.lead;
     ends = quiet-ends l.calls l.none;
@@ -174,9 +177,23 @@ module _ {C F E : Type 0} (context : C → Context) (g : Mut F (MutBor C × (Ty 
       → IsReached context g f c f1 c1
   left-reached levels f c f1 c1 P r n = record { calls = r.calls; lead = r.lead; none = none-of r.calls r.ends (λ s h. n s (r.passed_on s h)) }
 
+  -- so it may where a walk or a check went on
+  module _ {levels : ℕ} {f : F} {c : C} {f1 : F} {c1 : C} {P : Stop → Type 0} (r : IsLeftByCalls context g levels f c f1 c1 P) (n : (s : Stop) → P s → ⊥) where
+    pub normalizer-left : IsNormalizer context g f c → IsNormalizer context g f1 c1
+    normalizer-left = normalizer-later context g f c f1 c1 (left-reached levels f c f1 c1 P r n) r.grows
+
+    pub function-left : (resolve : C → Tree → Tree) (d : Description F C E) → IsFunction context g resolve d f c → IsFunction context g resolve d f1 c1
+    function-left = function-later context g f c f1 c1 (left-reached levels f c f1 c1 P r n) r.grows
+
+    -- and the calls of both are those of the whole
+    pub left-then : {f2 : F} {c2 : C} {R Q : Stop → Type 0} → ((s : Stop) → R s → Q s) → ((s : Stop) → Q s → R s)
+        → IsLeftByCalls context g levels f1 c1 f2 c2 R → IsLeftByCalls context g levels f c f2 c2 Q
+    left-then {f2 = f2} {c2 = c2} {R = R} {Q = Q} p q w = left-after levels f c f1 c1 f2 c2 R Q (left-reached levels f c f1 c1 P r n) r.grows p q w
+
   -- no level is left
   pub left-deep : (levels : ℕ) (f : F) (c : C) (Q : Stop → Type 0) → levels ≡ 0 → ((s : Stop) → Q s → s ≡ WalkDepth) → IsLeftByCalls context g levels f c f c Q
   left-deep levels f c Q h d = record {
+    grows = grows-refl (context c);
     calls = [];
     lead = (refl, refl);
     ends = tt;
@@ -190,9 +207,10 @@ module _ {C F E : Type 0} (context : C → Context) (g : Mut F (MutBor C × (Ty 
     viewed-reached n = record { calls = v.call ∷ []; lead = v.lead; none = (λ s e. n s (v.stops s e), tt) }
 
     -- which has no answer
-    pub viewed-nothing : (levels : ℕ) (Q : Stop → Type 0) → ((s : Stop) → r ≡ Err (N.Stop s) → Q s) → ((s : Stop) → Q s → r ≡ Err (N.Stop s))
+    pub viewed-nothing : (levels : ℕ) (Q : Stop → Type 0) → Grows (context c) (context c1) → ((s : Stop) → r ≡ Err (N.Stop s) → Q s) → ((s : Stop) → Q s → r ≡ Err (N.Stop s))
         → IsLeftByCalls context g levels f c f1 c1 Q
-    viewed-nothing levels Q p q = record {
+    viewed-nothing levels Q h p q = record {
+      grows = h;
       calls = v.call ∷ [];
       lead = v.lead;
       ends = (λ s e. refl, tt);
@@ -201,10 +219,11 @@ module _ {C F E : Type 0} (context : C → Context) (g : Mut F (MutBor C × (Ty 
     }
 
     -- whose view is an item
-    pub viewed-item : (levels : ℕ) (u : Ty) → r ≡ Ok u → (k : ViewClass) (Q : Stop → Type 0)
+    pub viewed-item : (levels : ℕ) (u : Ty) → r ≡ Ok u → (k : ViewClass) (Q : Stop → Type 0) → Grows (context c) (context c1)
         → ((s : Stop) → Q s → (s ≡ Memory) ⊎ ((s ≡ Unnameable) × (k ≡ V.Unnameable)))
         → (k ≡ V.Unnameable → is_unnameable (ty_tree (context c1).trees u).head ≡ true) → IsLeftByCalls context g levels f c f1 c1 Q
-    viewed-item levels u e k Q q n = record {
+    viewed-item levels u e k Q grows q n = record {
+      grows = grows;
       calls = v.call ∷ [];
       lead = v.lead;
       ends = (λ s h. refl, tt);
@@ -220,10 +239,10 @@ module _ {C F E : Type 0} (context : C → Context) (g : Mut F (MutBor C × (Ty 
         at s (inr h) = inr (inr (inl (h.0, v.unnameable u e (n h.1))))
 
     -- below whose view the walk goes on
-    pub viewed-below : (levels : ℕ) (u : Ty) → r ≡ Ok u → 0 < levels → (f2 : F) (c2 : C) (P Q : Stop → Type 0) → ((s : Stop) → P s → Q s) → ((s : Stop) → Q s → P s)
-        → IsLeftByCalls context g (levels - 1) f1 c1 f2 c2 P → IsLeftByCalls context g levels f c f2 c2 Q
-    viewed-below levels u e h f2 c2 P Q p q w =
-        left-on (levels - 1) levels f c f1 c1 f2 c2 P Q (record { calls = v.call ∷ []; lead = v.lead; none = (λ s k. let x = v.stops s k in cc, tt) })
+    pub viewed-below : (levels : ℕ) (u : Ty) → r ≡ Ok u → 0 < levels → (f2 : F) (c2 : C) (P Q : Stop → Type 0) → Grows (context c) (context c1)
+        → ((s : Stop) → P s → Q s) → ((s : Stop) → Q s → P s) → IsLeftByCalls context g (levels - 1) f1 c1 f2 c2 P → IsLeftByCalls context g levels f c f2 c2 Q
+    viewed-below levels u e h f2 c2 P Q grows p q w =
+        left-on (levels - 1) levels f c f1 c1 f2 c2 P Q (record { calls = v.call ∷ []; lead = v.lead; none = (λ s k. let x = v.stops s k in cc, tt) }) grows
         (λ ys k. deeper levels v.call ys h k) p q w
 
   -- a view that is the normaliser's answer, or the type itself

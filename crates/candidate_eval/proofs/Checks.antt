@@ -1,5 +1,6 @@
 -- What a walk comes to makes the answer.
-use Rattle.std.proofs.Common.{◌≡◌, ℕ, Bool, true, false, List, [], ◌++◌, Option, None, Err, sym, ◌∙◌, ap, subst}
+use Rattle.std.proofs.Common.{◌≡◌, ℕ, Bool, true, false, List, [], ◌++◌, Option, None, Result, Ok, Err, sym, ◌∙◌, ap, subst}
+use Rattle.std.specs.Prelude.{IfOk, IfErr, IfSome}
 use Rattle.candidate_ir.specs.declared.ir.kinds.Ty.{Ty}
 use Rattle.candidate_ir.specs.declared.ir.kinds.Args.{Args}
 use Rattle.candidate_ir.specs.declared.ir.stop.Stop.{Stop}
@@ -10,13 +11,17 @@ use Rattle.candidate_ir.proofs.Kept.{args-kept, ty-kept}
 use Rattle.candidate_eval.specs.declared.coherence.IsFirstInputType.{IsFirstInputType}
 use Rattle.candidate_eval.specs.declared.coherence.OrphanStop.{OrphanStop}
 use Rattle.candidate_eval.specs.declared.coherence.OrphanStop.TheVariants as O
+use Rattle.candidate_eval.specs.declared.walk.EarlyExit.{EarlyExit}
 use Rattle.candidate_eval.specs.declared.walk.EarlyExit.TheVariants as X
 use Rattle.candidate_eval.specs.declared.walk.Walk.{Walk}
-use Rattle.candidate_eval.specs.Answers.{answer_of, entries_of}
-use Rattle.candidate_eval.specs.Orphan.{InCrate, View, Step, Class, IsUncovered, Stopped, Entry, Answer, Passes, NonLocalInput, UncoveredInput, Faulty, Checked, orphan_answer, judged, decided, second, uncovered, entries, first_step}
+use Rattle.candidate_eval.specs.Answers.{answer_of, entries_of, second_answer}
+use Rattle.candidate_eval.specs.Exits.{local_ty_of}
+use Rattle.candidate_eval.specs.Normalizer.{Untold, IsUntold}
+use Rattle.candidate_eval.specs.Orphan.{InCrate, View, Step, Class, IsUncovered, Entry, Answer, Passes, NonLocalInput, UncoveredInput, Checked, orphan_answer, judged, decided, second, uncovered, entries, decides_again, first_step}
 use Rattle.candidate_eval.specs.Laws.{OnlyFirst}
 use Rattle.candidate_eval.specs.Second.{IsSecond}
-use Rattle.candidate_eval.specs.Walk.{Setting, setting, classes, list_steps, deciding, exit_class, Passed, Found}
+use Rattle.candidate_eval.specs.Walk.{Setting, setting, classes, list_steps, deciding, exit_class, IsExit, Passed, Found, Outcome}
+use Rattle.candidate_eval.proofs.Stops.{local-is-no-stop, uncovered-is-no-stop}
 use Rattle.candidate_eval.proofs.Walking.{setting-kept}
 
 module _ {S E : Type 0} (c0 : Context) (m : InCrate) (see : View S E) (n : ℕ) (a : Forest) (s s1 : S) (ts : List Tree) where
@@ -52,16 +57,50 @@ module _ {S E : Type 0} (c0 : Context) (m : InCrate) (see : View S E) (n : ℕ) 
   broken-checked (O.Normalize e) f = found-checked _ f
   broken-checked (O.Stop z) f = found-checked _ f
 
--- where the second walk stops
-pub second-stopped : {S E : Type 0} (c0 : Context) (m : InCrate) (see : View S E) (n : ℕ) (a : Forest) (s s1 : S) (ts : List Tree) (z : Stop)
-    → Found (classes (setting c0 m)) true (list_steps (setting c0 m) see n s a) (exit_class ts (X.Broken (O.Stop z))) s1
-    → (t : Tree) → IsSecond (setting c0 m) see n s a t (record { answer = Faulty (Stopped z); after = s1 })
-second-stopped {S} {E} c0 m see n a s s1 ts z f t =
-    let p = setting c0 m in
+-- what decides the second walk makes the answer
+second-found : {S E : Type 0} (p : Setting) (see : View S E) (n : ℕ) (a : Forest) (s s1 : S) (again : Bool) → again ≡ true → (k : Class E)
+    → Found (classes p) again (list_steps p see n s a) k s1 → (t : Tree) → IsSecond p see n s a t (record { answer = uncovered t k; after = s1 })
+second-found {S} {E} p see n a s s1 again e k found t =
     let steps = list_steps p see n s a in
+    let P : Bool → Type 0 = λ b. Found (classes p) b steps k s1 in
+    let f : Found (classes p) true steps k s1 = subst P e found in
     ap (λ (o : Option (Step S E)). second (classes p) t s steps o) f.is
-    ∙ (ap (λ (c : Class E). let k : Checked S (Answer E) = record { answer = uncovered t c; after = f.step.after } in k) f.class_is
-    ∙ ap (λ (x : S). let k : Checked S (Answer E) = record { answer = Faulty (Stopped z); after = x } in k) f.leaves)
+    ∙ (ap (λ (c : Class E). let x : Checked S (Answer E) = record { answer = uncovered t c; after = f.step.after } in x) f.class_is
+    ∙ ap (λ (x : S). let y : Checked S (Answer E) = record { answer = uncovered t k; after = x } in y) f.leaves)
+
+pub second-answered : {S E : Type 0} (p : Setting) (see : View S E) (n : ℕ) (a : Forest) (s s1 : S) (ts : List Tree) (untold : Untold) (old new : Walk)
+    (r : Result (Unit {0}) (EarlyExit E)) → old.seeks_local ≡ true → Outcome untold ts (classes p) old new s s1 (list_steps p see n s a) r
+    → ((z : Stop) → IsUntold untold z → local_ty_of r ≡ Err z → ⊥)
+    → (t : Tree) → IsSecond p see n s a t (record { answer = second_answer ts t (local_ty_of r); after = s1 })
+second-answered {S} {E} p see n a s s1 ts untold old new (Ok u) e o told t =
+    let steps = list_steps p see n s a in
+    let none : first_step decides_again (classes p) steps ≡ None = subst (λ (b : Bool). first_step (deciding b) (classes p) steps ≡ None) e o.none in
+    ap (λ (x : Option (Step S E)). second (classes p) t s steps x) none
+    ∙ ap (λ (x : S). let y : Checked S (Answer E) = record { answer = UncoveredInput t None; after = x } in y) o.leaves
+second-answered p see n a s s1 ts untold old new (Err (X.Local u)) e o told t =
+    second-found p see n a s s1 old.seeks_local e _ (o (λ z i. local-is-no-stop u z)) t
+second-answered p see n a s s1 ts untold old new (Err (X.Uncovered u)) e o told t =
+    second-found p see n a s s1 old.seeks_local e _ (o (λ z i. uncovered-is-no-stop u z)) t
+second-answered p see n a s s1 ts untold old new (Err (X.Broken (O.Normalize x))) e o told t =
+    second-found p see n a s s1 old.seeks_local e _ (o (λ z i q. told z i cc)) t
+second-answered p see n a s s1 ts untold old new (Err (X.Broken (O.Stop x))) e o told t =
+    second-found p see n a s s1 old.seeks_local e _ (o (λ z i q. told z i cc)) t
+
+-- its stop is the walk's
+pub stop-of-local : {E : Type 0} (r : Result (Unit {0}) (EarlyExit E)) (s : Stop) → local_ty_of r ≡ Err s → r ≡ Err (X.Broken (O.Stop s))
+stop-of-local (Ok u) s e = cc
+stop-of-local (Err (X.Local t)) s e = cc
+stop-of-local (Err (X.Uncovered t)) s e = cc
+stop-of-local (Err (X.Broken (O.Normalize x))) s e = cc
+stop-of-local (Err (X.Broken (O.Stop z))) s e = let k : z ≡ s = cc in ap (λ (x : Stop). Err (X.Broken (O.Stop x))) k
+
+-- and its type one that broke the walk off
+pub local-type : {E : Type 0} (ts : List Tree) (r : Result (Unit {0}) (EarlyExit E)) → IfErr r (λ x. IsExit ts x) → IfOk (local_ty_of r) (λ o. IfSome o (λ t. IsTy ts t))
+local-type ts (Ok u) i = tt
+local-type ts (Err (X.Local t)) i = i
+local-type ts (Err (X.Uncovered t)) i = tt
+local-type ts (Err (X.Broken (O.Normalize x))) i = tt
+local-type ts (Err (X.Broken (O.Stop z))) i = tt
 
 -- of the answers only one has a list
 pub only-list : {E : Type 0} (k l : List Entry) → OnlyFirst k → (let a : Answer E = NonLocalInput k in a ≡ NonLocalInput l) → OnlyFirst l

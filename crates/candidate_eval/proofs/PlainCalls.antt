@@ -1,12 +1,12 @@
--- What makes a call a plain one. A caller over a `Cx` that hands in `|_, ty| Ok(ty)` and knows `IsReference` of its
--- reference writes `search (rules, answers-its-input)` where `IsPlainCall` is asked; nothing else is to be shown. Named by
--- `using(..)` alone, the lemma leaves a promise of the two calls open: `grind` stops at its limit there, since the calls'
--- laws over all worlds give it too many instances.
+-- What makes a call a plain one. A caller over a `Cx` that hands in `|_, ty| Ok(ty)` writes
+-- `search (rules, answers-its-input)` where `IsPlainCall` is asked; nothing else is to be shown. Named by `using(..)` alone,
+-- the lemma leaves a promise of the two calls open: `grind` stops at its limit there, since the calls' laws over all worlds
+-- give it too many instances.
 --
--- What else the two calls and their promises ask of a reference has a test at run time: `Cx::has_param` (`HasNoParam`),
--- `trait_ref_is_plain` (`HasNoAliasOrError`), `Cx::args_have` with `Flag::Alias` (`HasNoAlias`), and
--- `trait_ref_is_local_or_fundamental` (`IsOfForeignTrait`). None has `IsReference` (it is known of what is made by
--- `making` of candidate_ir's `Made`), nor `IsDecidedByGeneralHere`, nor `IsArgs`, which the call that made the list ensures.
+-- What else the two calls and their promises ask of a reference has a test at run time: `Cx::trait_ref_args_fit`
+-- (`ArgumentsFit`), `Cx::has_param` (`HasNoParam`), `trait_ref_is_plain` (`HasNoAliasOrError`), `Cx::args_have` with
+-- `Flag::Alias` (`HasNoAlias`), and `trait_ref_is_local_or_fundamental` (`IsOfForeignTrait`). None has
+-- `IsDecidedByGeneralHere`, nor `IsArgs`, which the call that made the list ensures.
 use Rattle.std.proofs.Common.{◌≡◌, refl, sym, ◌∙◌}
 use Rattle.std.specs.Prelude.{Result, Ok}
 use Rattle.std.specs.Fn.{Mut, Called}
@@ -14,7 +14,6 @@ use Rattle.std.specs.Borrow.{MutBor}
 use Rattle.candidate_ir.specs.declared.ir.kinds.Ty.{Ty}
 use Rattle.candidate_ir.specs.declared.ir.kinds.TraitRef.{TraitRef}
 use Rattle.candidate_ir.specs.Context.{Context}
-use Rattle.candidate_ir.specs.References.{IsReference}
 use Rattle.candidate_ir.specs.Trees.{Tree}
 use Rattle.candidate_ir.specs.Words.{args_forest}
 use Rattle.candidate_eval.specs.declared.coherence.NormalizeErr.{NormalizeErr}
@@ -42,5 +41,5 @@ module _ {C F E : Type 0} {context : C → Context} {resolve : C → Tree → Tr
 -- over a context in which nothing has a value
 module _ {F E : Type 0} {g : Mut F (MutBor Context × (Ty × Unit {0})) (Result Ty (NormalizeErr E) × (MutBor Context × Unit {0}))}
     {f : F} {c : Context} {r : TraitRef} where
-  pub answers-its-input : AnswersItsInput g → IsReference c r → IsPlainCall (λ x. x) (λ _ t. t) g f c r
-  answers-its-input h i = record { normaliser = is-plain h; resolved = all-resolved (args_forest c.trees r.args); of_world = i }
+  pub answers-its-input : AnswersItsInput g → IsPlainCall (λ x. x) (λ _ t. t) g f c r
+  answers-its-input h = record { normaliser = is-plain h; resolved = all-resolved (args_forest c.trees r.args) }

@@ -1,6 +1,7 @@
 -- What breaks a walk off, and what taking an item does.
-use Rattle.std.specs.Prelude.{◌≡◌, ◌≢◌, Bool, true, false, Result, Ok, Err, [], ◌∷◌, ◌++◌}
+use Rattle.std.specs.Prelude.{◌≡◌, ◌≢◌, Bool, true, false, Option, Some, None, Result, Ok, Err, [], ◌∷◌, ◌++◌}
 use Rattle.candidate_ir.specs.declared.ir.kinds.Ty.{Ty}
+use Rattle.candidate_ir.specs.declared.ir.stop.Stop.{Stop}
 use Rattle.candidate_ir.specs.declared.ir.stop.Stop.TheVariants.{Memory, Unnameable}
 use Rattle.candidate_eval.specs.declared.coherence.NormalizeErr.{NormalizeErr}
 use Rattle.candidate_eval.specs.declared.coherence.NormalizeErr.TheVariants as N
@@ -17,6 +18,12 @@ use Rattle.candidate_eval.specs.Answers.{is_first_input}
 abbrev pub broken_by : {E : Type 0} → NormalizeErr E → EarlyExit E
 broken_by (N.Failed e) = X.Broken (O.Normalize e)
 broken_by (N.Stop s) = X.Broken (O.Stop s)
+
+-- the local type that broke a walk off, if one did, unless it stopped
+abbrev pub local_ty_of : {E : Type 0} → Result (Unit {0}) (EarlyExit E) → Result (Option Ty) Stop
+local_ty_of (Err (X.Local t)) = Ok (Some t)
+local_ty_of (Err (X.Broken (O.Stop s))) = Err s
+local_ty_of _ = Ok None
 
 -- a view that isn't local was recorded
 pub record IsRecorded (old new : Walk) (t : Ty) : Type 0 where

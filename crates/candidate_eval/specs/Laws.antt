@@ -6,7 +6,6 @@ use Rattle.candidate_ir.specs.declared.ir.kinds.Ty.{Ty}
 use Rattle.candidate_ir.specs.declared.ir.kinds.TraitRef.{TraitRef}
 use Rattle.candidate_ir.specs.Context.{Context}
 use Rattle.candidate_ir.specs.Words.{args_forest}
-use Rattle.candidate_ir.specs.References.{IsReference}
 use Rattle.candidate_ir.specs.Trees.{Forest, none, tree, Tree, is_type}
 use Rattle.candidate_ir.specs.Worlds.{IsOf, World, Reference, Extends}
 use Rattle.candidate_eval.specs.declared.coherence.NormalizeErr.{NormalizeErr}
@@ -98,9 +97,8 @@ AreResolved resolve (tree h below rest) =
     (is_type h ≡ true → resolve (record { head = h; children = below }) ≡ record { head = h; children = below })
     × AreResolved resolve below × AreResolved resolve rest
 
--- A call with the plain normaliser, and a reference of the declared world in which nothing has a value.
+-- A call with the plain normaliser, and a reference in which nothing has a value.
 module _ {C F E : Type 0} (context : C → Context) (resolve : C → Tree → Tree) (g : Mut F (MutBor C × (Ty × Unit {0})) (Result Ty (NormalizeErr E) × (MutBor C × Unit {0}))) where
   pub record IsPlainCall (f : F) (c : C) (r : TraitRef) : Type 0 where
     pub normaliser : IsPlain context g resolve f c
     pub resolved : AreResolved (resolve c) (args_forest (context c).trees r.args)
-    pub of_world : IsReference (context c) r

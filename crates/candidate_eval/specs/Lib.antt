@@ -6,5 +6,6 @@ pub mod Calls
 pub mod Table
 pub mod Shapes
 pub mod Walk
+pub mod Visits
 pub mod Exits
 pub mod Second

@@ -125,6 +125,11 @@ module _ {C F E : Type 0} (context : C → Context) (g : Mut F (MutBor C × (Ty 
         → IsTy (context c).trees t → t.0 < 2 ^ 32 → Normalizes f c t r f' c'
         → Grows (context c) (context c') × IfOk r (λ u. IsTy (context c').trees u)
 
+  -- From here on it is a normaliser that a walk can use: both.
+  pub record IsNormalizer (f0 : F) (c0 : C) : Type 0 where
+    pub callable : MayNormalize f0 c0
+    pub keeps : KeepsNumbers f0 c0
+
   -- There its answers and effects, but for what is left open, are functions of the tree and of the state that stands for it
   -- and the context; what stands for the context gives variables the same values.
   pub record IsFunction (resolve : C → Tree → Tree) (d : Description F C E) (f0 : F) (c0 : C) : Type 0 where
@@ -149,9 +154,10 @@ module _ {C F E : Type 0} (context : C → Context) (g : Mut F (MutBor C × (Ty 
   IsStopCause levels calls s =
       (s ≡ Memory) ⊎ (((s ≡ WalkDepth) × (levels ≤ length calls)) ⊎ (((s ≡ Unnameable) × LastIs SeesUnnameable calls) ⊎ LastIs (Answers s) calls))
 
-  -- Calls at types of their contexts, which lead to what is left; none but the last answers a stop, and a stop of the last
-  -- is the result; where the result is a stop, they are its cause.
+  -- What is left keeps the numbers. Calls at types of their contexts lead to it; none but the last answers a stop, and a stop
+  -- of the last is the result; where the result is a stop, they are its cause.
   pub record IsLeftByCalls (levels : ℕ) (f : F) (c : C) (f' : F) (c' : C) (stops : Stop → Type 0) : Type 0 where
+    pub grows : Grows (context c) (context c')
     pub calls : List (Call F C E)
     pub lead : Lead f c calls f' c'
     pub ends : EndsAtStop calls

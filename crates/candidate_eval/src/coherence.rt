@@ -3,14 +3,16 @@
 ghost use Rattle.std.specs.Prelude.{◌≡◌, ◌≢◌, ◌||◌, ℕ, List, false, not, IfOk, IfSome, IsTrue};
 ghost use Rattle.candidate_ir.specs.Context.{Grows, world};
 ghost use Rattle.candidate_ir.specs.Flags.{mark};
+ghost use Rattle.candidate_ir.specs.References.{ArgumentsFit};
 ghost use Rattle.candidate_ir.specs.Trees.{Tree, holds, is_alias};
 ghost use Rattle.candidate_ir.specs.Words.{IsTy, IsArgs, args_forest};
 ghost use Rattle.candidate_eval.specs.Orphan.{view, Passes, Entry, NonLocalInput, local_or_fundamental};
-ghost use Rattle.candidate_eval.specs.Normalizer.{Description, IsUntold, IsTold, StopsWith, MayNormalize, KeepsNumbers, IsFunction, IsLeftByCalls, IsChangedByCalls};
+ghost use Rattle.candidate_eval.specs.Normalizer.{Description, IsUntold, IsTold, StopsWith, MayNormalize, KeepsNumbers, IsNormalizer, IsFunction, IsLeftByCalls, IsChangedByCalls};
 ghost use Rattle.candidate_eval.specs.Laws.{ProperThenCompat, RemoteLaw, FirstInputLaw, OnlyFirst, LinkSafety, IsPlainCall};
 ghost use Rattle.candidate_eval.specs.Calls.{depth_limit, IsChecked, IsKnown, check_of, check_where, knowledge_about, HasNoParam, HasNoAlias, HasNoAliasOrError, IsOfForeignTrait, NoForeignHeaderHere, NoUnnamedHeaderHere, NoCoveredHeaderHere, IsDecidedByGeneralHere, HasDownstreamHere};
 ghost use Rattle.candidate_eval.specs.Answers.{IsUncoveredResult, AreAnswerTypes, IsAnswer, IsKnowledge, answer_of, second_answer};
 ghost use Rattle.candidate_eval.specs.Walk.{setting};
+ghost use Rattle.candidate_eval.specs.Exits.{local_ty_of};
 ghost use Rattle.candidate_eval.specs.Second.{IsSecond};
 
 use crate::eval::InferCtxtLike;
@@ -108,6 +110,19 @@ impl<E: fmt::Display> fmt::Display for OrphanStop<E> {
 /// How many visits may be nested. The definitions read it from here (`depth_limit`).
 pub const WALK_DEPTH: u16 = 256;
 
+/// What a walk that passes over uncovered views found: its first local type, or why it stopped.
+fn local_ty_of<E: Drop>(walked: Result<(), EarlyExit<E>>) -> Result<Option<Ty>, Stop>
+    ensures { result ≡ local_ty_of walked }
+{
+    match walked {
+        Err(EarlyExit::Local(ty)) => Ok(Some(ty)),
+        Err(EarlyExit::Broken(OrphanStop::Stop(stop))) => Err(stop),
+        Err(EarlyExit::Broken(OrphanStop::Normalize(_))) => Ok(None),
+        Err(EarlyExit::Uncovered(_)) => Ok(None),
+        Ok(()) => Ok(None),
+    }
+}
+
 /// The first local type of a walk that passes over uncovered views.
 fn first_local_ty<C, E, F>(
     alloc: Global,
@@ -121,9 +136,7 @@ where
     E: Drop,
     F: FnMut(&mut C, Ty) -> Result<Ty, NormalizeErr<E>>,
     requires args { IsArgs (C.context infcx.old).trees args }
-    requires callable { MayNormalize C.context F.FnMut normalize.old infcx.old }
-    requires keeps { KeepsNumbers C.context F.FnMut normalize.old infcx.old }
-    ensures grows { Grows (C.context infcx.old) (C.context infcx.new) }
+    requires normaliser { IsNormalizer C.context F.FnMut normalize.old infcx.old }
     ensures calls { IsLeftByCalls C.context F.FnMut depth_limit normalize.old infcx.old normalize.new infcx.new (λ s. result ≡ Err s) }
     ensures types { IfOk result (λ o. IfSome o (λ t. IsTy (C.context infcx.new).trees t)) }
     ensures answer { (d : Description F C E) → IsFunction C.context F.FnMut C.resolved d normalize.old infcx.old → ((s : Stop) → IsUntold d.untold s → result ≡ Err s → ⊥) → (t : Tree) → IsSecond (setting (C.context infcx.old) in_crate) (view (λ s t. C.resolved s.1 t) d.normal) depth_limit (d.stands (normalize.old, infcx.old)) (args_forest (C.context infcx.old).trees args) t (record { answer = second_answer (C.context infcx.new).trees t result; after = d.stands (normalize.new, infcx.new) }) }
@@ -134,13 +147,7 @@ where
         is_first: true,
         non_local: Vec::new(alloc),
     };
-    match visit_args(infcx, normalize, &mut walk, args, WALK_DEPTH) {
-        Err(EarlyExit::Local(ty)) => Ok(Some(ty)),
-        Err(EarlyExit::Broken(OrphanStop::Stop(stop))) => Err(stop),
-        Err(EarlyExit::Broken(OrphanStop::Normalize(_))) => Ok(None),
-        Err(EarlyExit::Uncovered(_)) => Ok(None),
-        Ok(()) => Ok(None),
-    }
+    local_ty_of(visit_args(infcx, normalize, &mut walk, args, WALK_DEPTH))
 }
 
 /// The orphan check, by a normaliser that is used again.
@@ -156,9 +163,7 @@ where
     E: Drop,
     F: FnMut(&mut C, Ty) -> Result<Ty, NormalizeErr<E>>,
     requires args { IsArgs (C.context infcx.old).trees trait_ref.args }
-    requires callable { MayNormalize C.context F.FnMut normalize.old infcx.old }
-    requires keeps { KeepsNumbers C.context F.FnMut normalize.old infcx.old }
-    ensures grows { Grows (C.context infcx.old) (C.context infcx.new) }
+    requires normaliser { IsNormalizer C.context F.FnMut normalize.old infcx.old }
     ensures calls { IsLeftByCalls C.context F.FnMut depth_limit normalize.old infcx.old normalize.new infcx.new (StopsWith result) }
     ensures types { AreAnswerTypes (C.context infcx.new).trees result }
     ensures covers { in_crate ≡ InCrate.Remote → ¬ (IsUncoveredResult result) }
@@ -194,13 +199,13 @@ where
 /// references and fundamental types of other crates. Each type is resolved at its root and
 /// normalised first. The first local or uncovered type decides: `Ok(())` for a local one. For an
 /// uncovered one a second walk looks for the first local type. Where neither comes, the types that
-/// were met are the error.
+/// were met are the error. The reference has the arguments that its trait takes, as
+/// `Cx::trait_ref_args_fit` tests it, and no parameter.
 ///
 /// `OrphanStop::Normalize` is a failure of the normaliser. `OrphanStop::Stop` is a stop of the
 /// normaliser, `Memory` where a growth was refused, `WalkDepth` where a type is nested in 256
 /// others, `Unnameable` where a function's type, a closure or a parameter is met. The context is
 /// changed by the normaliser alone.
-#[tactic(auto, using(crate::proofs::CallLaws::check_laws))]
 pub fn orphan_check_trait_ref<C, E, F>(
     alloc: Global,
     infcx: &mut C,
@@ -213,6 +218,7 @@ where
     E: Drop,
     F: FnMut(&mut C, Ty) -> Result<Ty, NormalizeErr<E>> + Drop,
     requires args { IsArgs (C.context infcx.old).trees trait_ref.args }
+    requires fit { ArgumentsFit (C.context infcx.old) trait_ref }
     requires no_param { HasNoParam (C.context infcx.old) trait_ref }
     requires callable { MayNormalize C.context F.FnMut normalize infcx.old }
     requires keeps { KeepsNumbers C.context F.FnMut normalize infcx.old }
@@ -246,6 +252,7 @@ where
     // What passes in `Proper` is overlapped by no header of another crate, where neither names the other's crate.
     ensures no_foreign_header { IsPlainCall C.context C.resolved F.FnMut normalize infcx.old trait_ref → HasNoAliasOrError (C.context infcx.old) trait_ref → in_crate ≡ InCrate.Local OrphanCheckMode.Proper → result ≡ Ok (Ok tt) → NoForeignHeaderHere (C.context infcx.old) trait_ref }
 {
+    infcx.cx().well_formed(); // so the reference is one of the declared world
     check(alloc, infcx, trait_ref, in_crate, &mut normalize)
 }
 
@@ -287,14 +294,12 @@ where
     E: Drop,
     F: FnMut(&mut C, Ty) -> Result<Ty, NormalizeErr<E>>,
     requires args { IsArgs (C.context infcx.old).trees trait_ref.args }
-    requires callable { MayNormalize C.context F.FnMut normalize.old infcx.old }
-    requires keeps { KeepsNumbers C.context F.FnMut normalize.old infcx.old }
-    ensures grows { Grows (C.context infcx.old) (C.context infcx.new) }
+    requires normaliser { IsNormalizer C.context F.FnMut normalize.old infcx.old }
     ensures calls { IsLeftByCalls C.context F.FnMut depth_limit normalize.old infcx.old normalize.new infcx.new (StopsWith result) }
     ensures answer { IsKnown C.context C.resolved F.FnMut normalize.old infcx.old trait_ref result normalize.new infcx.new }
 {
-    let remote = check(alloc, infcx, trait_ref, InCrate::Remote, normalize)?;
-    if remote.is_ok() {
+    let passes_remote = check(alloc, infcx, trait_ref, InCrate::Remote, normalize)?.is_ok();
+    if passes_remote {
         return Ok(Err(Conflict::Downstream));
     }
     if trait_ref_is_local_or_fundamental(infcx.cx(), trait_ref) {
@@ -303,8 +308,8 @@ where
     let in_crate = InCrate::Local {
         mode: OrphanCheckMode::Proper,
     };
-    let local = check(alloc, infcx, trait_ref, in_crate, normalize)?;
-    if local.is_ok() {
+    let passes_proper = check(alloc, infcx, trait_ref, in_crate, normalize)?.is_ok();
+    if passes_proper {
         Ok(Ok(()))
     } else {
         Ok(Err(Conflict::Upstream))
@@ -317,8 +322,7 @@ where
 /// A crate that isn't known may have one where the reference passes the `Remote` check:
 /// `Conflict::Downstream`. Else they are known where the trait is local or fundamental, or where the
 /// local crate may write the header: `Ok(())`. Else a crate above may add one: `Conflict::Upstream`.
-/// It stops as the orphan check does.
-#[tactic(auto, using(crate::proofs::CallLaws::knowability_laws))]
+/// It asks of the reference what the orphan check does, and stops as that does.
 pub fn trait_ref_is_knowable<C, E, F>(
     alloc: Global,
     infcx: &mut C,
@@ -330,6 +334,7 @@ where
     E: Drop,
     F: FnMut(&mut C, Ty) -> Result<Ty, NormalizeErr<E>> + Drop,
     requires args { IsArgs (C.context infcx.old).trees trait_ref.args }
+    requires fit { ArgumentsFit (C.context infcx.old) trait_ref }
     requires no_param { HasNoParam (C.context infcx.old) trait_ref }
     requires callable { MayNormalize C.context F.FnMut normalize infcx.old }
     requires keeps { KeepsNumbers C.context F.FnMut normalize infcx.old }
@@ -348,5 +353,6 @@ where
     // Known by its own types, it is overlapped by no covered header that names nothing of the local crate.
     ensures no_covered_header { IsPlainCall C.context C.resolved F.FnMut normalize infcx.old trait_ref → HasNoAlias (C.context infcx.old) trait_ref → result ≡ Ok (Ok tt) → IsOfForeignTrait (C.context infcx.old) trait_ref → NoCoveredHeaderHere (C.context infcx.old) trait_ref }
 {
+    infcx.cx().well_formed(); // so the reference is one of the declared world
     knowable(alloc, infcx, trait_ref, &mut normalize)
 }

@@ -1,11 +1,12 @@
 //! The walk of the orphan check.
 
-ghost use Rattle.std.specs.Prelude.{◌≡◌, ◌≢◌, ◌<◌, true, false, OnOk, IfOk, IfErr};
+ghost use Rattle.std.specs.Prelude.{◌≡◌, true, false, OnOk, IfOk};
 ghost use Rattle.candidate_ir.specs.Context.{Grows};
 ghost use Rattle.candidate_ir.specs.Words.{IsTy, IsArgs, ty_tree, args_forest};
 ghost use Rattle.candidate_eval.specs.Orphan.{view, is_general};
-ghost use Rattle.candidate_eval.specs.Normalizer.{Description, IsToldAnswer, MayNormalize, KeepsNumbers, IsFunction, Normalizes, IsLeftByCalls, IsViewed, shown};
-ghost use Rattle.candidate_eval.specs.Walk.{AreTypes, FirstOnce, IsExit, Outcome, SameWalk, still, setting, classes, type_steps, list_steps};
+ghost use Rattle.candidate_eval.specs.Normalizer.{Description, IsToldAnswer, IsNormalizer, IsFunction, Normalizes, IsViewed, shown};
+ghost use Rattle.candidate_eval.specs.Visits.{MayVisit, Visits, the_type, the_list};
+ghost use Rattle.candidate_eval.specs.Walk.{still, setting, type_steps};
 
 use crate::coherence::{InCrate, IsFirstInputType, NormalizeErr, OrphanStop};
 use crate::eval::InferCtxtLike;
@@ -61,8 +62,7 @@ where
     C: InferCtxtLike,
     F: FnMut(&mut C, Ty) -> Result<Ty, NormalizeErr<E>>,
     requires ty { IsTy (C.context infcx.old).trees ty }
-    requires callable { MayNormalize C.context F.FnMut normalize.old infcx.old }
-    requires keeps { KeepsNumbers C.context F.FnMut normalize.old infcx.old }
+    requires normaliser { IsNormalizer C.context F.FnMut normalize.old infcx.old }
     ensures grows { Grows (C.context infcx.old) (C.context infcx.new) }
     ensures call { Normalizes C.context F.FnMut normalize.old infcx.old ty result normalize.new infcx.new }
     ensures sort { IfOk result (λ t. IsTy (C.context infcx.new).trees t) }
@@ -81,8 +81,7 @@ where
     C: InferCtxtLike,
     F: FnMut(&mut C, Ty) -> Result<Ty, NormalizeErr<E>>,
     requires ty { IsTy (C.context infcx.old).trees ty }
-    requires callable { MayNormalize C.context F.FnMut normalize.old infcx.old }
-    requires keeps { KeepsNumbers C.context F.FnMut normalize.old infcx.old }
+    requires normaliser { IsNormalizer C.context F.FnMut normalize.old infcx.old }
     ensures grows { Grows (C.context infcx.old) (C.context infcx.new) }
     ensures call { IsViewed C.context F.FnMut normalize.old infcx.old result normalize.new infcx.new }
     ensures sort { IfOk result (λ t. IsTy (C.context infcx.new).trees t) }
@@ -140,20 +139,10 @@ where
     C: InferCtxtLike,
     F: FnMut(&mut C, Ty) -> Result<Ty, NormalizeErr<E>>,
     requires ty { IsTy (C.context infcx.old).trees ty }
-    requires callable { MayNormalize C.context F.FnMut normalize.old infcx.old }
-    requires keeps { KeepsNumbers C.context F.FnMut normalize.old infcx.old }
-    requires recorded { AreTypes (C.context infcx.old).trees walk.old.non_local.items }
-    requires firsts { FirstOnce walk.old.is_first walk.old.non_local.items }
-    ensures grows { Grows (C.context infcx.old) (C.context infcx.new) }
-    ensures calls { IsLeftByCalls C.context F.FnMut levels normalize.old infcx.old normalize.new infcx.new (λ s. result ≡ Err (EarlyExit.Broken (OrphanStop.Stop s))) }
-    ensures recorded { AreTypes (C.context infcx.new).trees walk.new.non_local.items }
-    ensures firsts { OnOk result (FirstOnce walk.new.is_first walk.new.non_local.items) }
-    ensures covers { (t : Ty) → walk.old.in_crate ≡ InCrate.Remote → result ≢ Err (EarlyExit.Uncovered t) }
-    ensures exit { IfErr result (λ x. IsExit (C.context infcx.new).trees x) }
-    ensures same { SameWalk walk.old walk.new }
+    requires may { MayVisit C.context F.FnMut normalize.old infcx.old walk.old }
+    ensures visits { Visits C.context C.resolved F.FnMut (the_type (ty_tree (C.context infcx.old).trees ty)) levels normalize.old infcx.old walk.old normalize.new infcx.new walk.new result }
     ensures first { OnOk result (walk.new.is_first ≡ false) }
     ensures some { (d : Description F C E) → IsFunction C.context F.FnMut C.resolved d normalize.old infcx.old → OnOk result (still true (type_steps (setting (C.context infcx.old) walk.old.in_crate) (view (λ s t. C.resolved s.1 t) d.normal) levels (d.stands (normalize.old, infcx.old)) (ty_tree (C.context infcx.old).trees ty)) ≡ false) }
-    ensures outcome { (d : Description F C E) → IsFunction C.context F.FnMut C.resolved d normalize.old infcx.old → Outcome d.untold (C.context infcx.new).trees (classes (setting (C.context infcx.old) walk.old.in_crate)) walk.old walk.new (d.stands (normalize.old, infcx.old)) (d.stands (normalize.new, infcx.new)) (type_steps (setting (C.context infcx.old) walk.old.in_crate) (view (λ s t. C.resolved s.1 t) d.normal) levels (d.stands (normalize.old, infcx.old)) (ty_tree (C.context infcx.old).trees ty)) result }
 {
     if levels == 0 {
         return Err(EarlyExit::Broken(OrphanStop::Stop(Stop::WalkDepth)));
@@ -181,18 +170,8 @@ where
     C: InferCtxtLike,
     F: FnMut(&mut C, Ty) -> Result<Ty, NormalizeErr<E>>,
     requires args { IsArgs (C.context infcx.old).trees args }
-    requires callable { MayNormalize C.context F.FnMut normalize.old infcx.old }
-    requires keeps { KeepsNumbers C.context F.FnMut normalize.old infcx.old }
-    requires recorded { AreTypes (C.context infcx.old).trees walk.old.non_local.items }
-    requires firsts { FirstOnce walk.old.is_first walk.old.non_local.items }
-    ensures grows { Grows (C.context infcx.old) (C.context infcx.new) }
-    ensures calls { IsLeftByCalls C.context F.FnMut levels normalize.old infcx.old normalize.new infcx.new (λ s. result ≡ Err (EarlyExit.Broken (OrphanStop.Stop s))) }
-    ensures recorded { AreTypes (C.context infcx.new).trees walk.new.non_local.items }
-    ensures firsts { OnOk result (FirstOnce walk.new.is_first walk.new.non_local.items) }
-    ensures covers { (t : Ty) → walk.old.in_crate ≡ InCrate.Remote → result ≢ Err (EarlyExit.Uncovered t) }
-    ensures exit { IfErr result (λ x. IsExit (C.context infcx.new).trees x) }
-    ensures same { SameWalk walk.old walk.new }
-    ensures outcome { (d : Description F C E) → IsFunction C.context F.FnMut C.resolved d normalize.old infcx.old → Outcome d.untold (C.context infcx.new).trees (classes (setting (C.context infcx.old) walk.old.in_crate)) walk.old walk.new (d.stands (normalize.old, infcx.old)) (d.stands (normalize.new, infcx.new)) (list_steps (setting (C.context infcx.old) walk.old.in_crate) (view (λ s t. C.resolved s.1 t) d.normal) levels (d.stands (normalize.old, infcx.old)) (args_forest (C.context infcx.old).trees args)) result }
+    requires may { MayVisit C.context F.FnMut normalize.old infcx.old walk.old }
+    ensures { Visits C.context C.resolved F.FnMut (the_list (args_forest (C.context infcx.old).trees args)) levels normalize.old infcx.old walk.old normalize.new infcx.new walk.new result }
 {
     let count = infcx.cx().args(args).len();
     for i in 0..count {

@@ -5,7 +5,7 @@
 ghost use Rattle.std.specs.Prelude.{◌≡◌, IfOk, Ok, Some, [], ◌∷◌, map, true};
 ghost use Rattle.candidate_ir.specs.Context.{Grows, world};
 ghost use Rattle.candidate_ir.specs.Kinds.{arg_child, sorts};
-ghost use Rattle.candidate_ir.specs.References.{IsReference, IsWellFormed};
+ghost use Rattle.candidate_ir.specs.References.{ArgumentsFit};
 ghost use Rattle.candidate_ir.specs.Trees.{TypeKind};
 ghost use Rattle.candidate_ir.specs.Words.{IsTy, IsArgs, ListFits};
 ghost use Rattle.candidate_ir.specs.Worlds.{AdtSort, TraitSort, joined, parameters};
@@ -32,10 +32,8 @@ pub struct Declared {
     pub ghost of_from: { parameters (world cx) TraitSort from.0 ≡ Some (TypeKind ∷ []) },
 }
 
-/// Declares them; only memory can be wanting. In the new context every tree fits the declarations.
-pub fn declare(alloc: Global) -> Result<Declared, DeclFault>
-    ensures { IfOk result (λ d. IsWellFormed d.cx) }
-{
+/// Declares them; only memory can be wanting.
+pub fn declare(alloc: Global) -> Result<Declared, DeclFault> {
     let mut builder = DeclsBuilder::new(alloc);
     let upstream = builder.add_crate()?;
     let local = builder.add_crate()?;
@@ -53,15 +51,12 @@ pub fn declare(alloc: Global) -> Result<Declared, DeclFault>
     })
 }
 
-/// The data type with these arguments, which have the kinds of its parameters: so the trees of the
-/// context fit the declarations still.
+/// The data type with these arguments, which have the kinds of its parameters.
 #[tactic(auto, using(candidate_ir::proofs::Made::making))]
 pub fn adt(cx: &mut Cx, id: AdtId, list: &[GenericArg]) -> Result<Ty, Stop>
-    requires well_formed { IsWellFormed cx.old }
     requires list { ListFits cx.old.trees list.now }
     requires kinds { parameters (world cx.old) AdtSort id.0 ≡ Some (sorts (map arg_child list.now)) }
     ensures grows { Grows cx.old cx.new }
-    ensures well_formed { IsWellFormed cx.new }
     ensures sort { IfOk result (λ t. IsTy cx.new.trees t) }
 {
     let args = cx.mk_args(list)?;
@@ -71,13 +66,11 @@ pub fn adt(cx: &mut Cx, id: AdtId, list: &[GenericArg]) -> Result<Ty, Stop>
 /// The trait with these arguments, which have the kinds of `Self` and its parameters.
 #[tactic(auto, using(candidate_ir::proofs::Made::making))]
 pub fn reference(cx: &mut Cx, def_id: TraitId, list: &[GenericArg]) -> Result<TraitRef, Stop>
-    requires well_formed { IsWellFormed cx.old }
     requires list { ListFits cx.old.trees list.now }
     requires kinds { joined (Some (TypeKind ∷ [])) (parameters (world cx.old) TraitSort def_id.0) ≡ Some (sorts (map arg_child list.now)) }
     ensures grows { Grows cx.old cx.new }
-    ensures well_formed { IsWellFormed cx.new }
     ensures sort { IfOk result (λ r. IsArgs cx.new.trees r.args) }
-    ensures reference { IfOk result (λ r. IsReference cx.new r) }
+    ensures fit { IfOk result (λ r. ArgumentsFit cx.new r) }
 {
     let args = cx.mk_args(list)?;
     Ok(TraitRef { def_id, args })
@@ -86,9 +79,8 @@ pub fn reference(cx: &mut Cx, def_id: TraitId, list: &[GenericArg]) -> Result<Tr
 /// `Vec<LocalType>: From<LocalType>`.
 #[tactic(auto, using(candidate_ir::proofs::Made::making))]
 pub fn vec_from_local(declared: &mut Declared) -> Result<TraitRef, Stop>
-    requires { IsWellFormed declared.old.cx }
     ensures sort { IfOk result (λ r. IsArgs declared.new.cx.trees r.args) }
-    ensures reference { IfOk result (λ r. IsReference declared.new.cx r) }
+    ensures fit { IfOk result (λ r. ArgumentsFit declared.new.cx r) }
 {
     let cx = &mut declared.cx;
     let local = adt(cx, declared.local_type, &[])?;
@@ -104,7 +96,7 @@ pub fn vec_from_local(declared: &mut Declared) -> Result<TraitRef, Stop>
 /// no such reference. A check that gives up is a stop, and no answer.
 pub fn may_write(alloc: Global, cx: &mut Cx, trait_ref: TraitRef) -> Result<bool, Stop>
     requires sort { IsArgs cx.old.trees trait_ref.args }
-    requires reference { IsReference cx.old trait_ref }
+    requires fit { ArgumentsFit cx.old trait_ref }
     ensures { result ≡ Ok true → NoForeignHeaderHere cx.old trait_ref }
 {
     // What the check asks of a reference, and what its promise asks besides.

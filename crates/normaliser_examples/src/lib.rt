@@ -3,6 +3,7 @@
 
 ghost use Rattle.std.specs.Prelude.{◌≡◌, ◌≢◌, true, IfOk, IfErr};
 ghost use Rattle.candidate_ir.specs.Context.{Grows};
+ghost use Rattle.candidate_ir.specs.References.{ArgumentsFit};
 ghost use Rattle.candidate_ir.specs.Words.{IsTy, IsArgs, ty_tree};
 ghost use Rattle.candidate_eval.specs.Answers.{OutOfMemory, answer_of};
 ghost use Rattle.candidate_eval.specs.Calls.{HasNoParam};
@@ -62,6 +63,7 @@ pub fn checked_by_reference(
     in_crate: InCrate,
 ) -> Result<Result<(), OrphanCheckErr<Ty>>, OrphanStop<Infallible>>
     requires args { IsArgs cx.old.trees trait_ref.args }
+    requires fit { ArgumentsFit cx.old trait_ref }
     requires no_param { HasNoParam cx.old trait_ref }
     ensures answer { result ≢ Err (OrphanStop.Stop Stop.Memory) → result ≢ Err (OrphanStop.Stop Stop.NodesFull) → answer_of cx.new.trees result ≡ check_by (λ t. Sees (referenced t)) cx.old in_crate trait_ref }
 {
@@ -83,6 +85,7 @@ pub fn checked_as(
     seen: Ty,
 ) -> Result<Result<(), OrphanCheckErr<Ty>>, OrphanStop<Infallible>>
     requires args { IsArgs cx.old.trees trait_ref.args }
+    requires fit { ArgumentsFit cx.old trait_ref }
     requires no_param { HasNoParam cx.old trait_ref }
     requires seen { IsTy cx.old.trees seen }
     ensures answer { ¬ (OutOfMemory result) → answer_of cx.new.trees result ≡ check_by (λ _. Sees (ty_tree cx.old.trees seen)) cx.old in_crate trait_ref }

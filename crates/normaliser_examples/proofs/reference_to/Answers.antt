@@ -1,12 +1,28 @@
+use Rattle.std.proofs.Common.{refl}
+use Rattle.candidate_ir.specs.Context.{world}
+use Rattle.candidate_ir.specs.Words.{KindFits}
+use Rattle.candidate_ir.specs.declared.ir.kinds.Mutability.TheVariants as M
+use Rattle.candidate_ir.specs.declared.ir.kinds.TyKind.{TyKind}
+use Rattle.candidate_ir.specs.declared.ir.kinds.TyKind.TheVariants as K
+use Rattle.candidate_ir.proofs.Arity.{plain-takes}
 use Rattle.candidate_ir.proofs.Kept.{ty-kept}
 use Rattle.normaliser_examples.proofs.Made.{reference-is}
 use Rattle.normaliser_examples.proofs.reference_to.Goals as goal
 
-pub mk_ty-requires : goal.mk_ty-requires
-mk_ty-requires c =
+pub mk_ty-requires-clause-fits : goal.mk_ty-requires-clause-fits
+mk_ty-requires-clause-fits c =
     let region = c.in_ok-region.ensures.sort in
     let type = (ty-kept _ _ c.args.ty c.mk_region.ensures.kept c.requires).0 in
     cc
+
+pub mk_ty-requires-clause-takes : goal.mk_ty-requires-clause-takes
+mk_ty-requires-clause-takes c =
+    let cx = c.mk_region.new.self in
+    let kind : TyKind = K.Ref c.in_ok-region.region c.args.ty M.Not in
+    let region = c.in_ok-region.ensures.sort in
+    let type = (ty-kept _ _ c.args.ty c.mk_region.ensures.kept c.requires).0 in
+    let fits : KindFits cx.trees kind = cc in
+    plain-takes (world cx) cx.trees kind refl fits
 
 pub returns-clause-tree : goal.returns-clause-tree
 returns-clause-tree c =

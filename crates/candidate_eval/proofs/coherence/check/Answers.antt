@@ -1,34 +1,28 @@
 use Rattle.std.proofs.Common.{Ok, Err, refl}
 use Rattle.candidate_ir.specs.Trees.{Tree}
 use Rattle.candidate_ir.specs.Words.{args_forest}
-use Rattle.candidate_ir.proofs.Kept.{grows-trans, args-kept, ty-kept}
+use Rattle.candidate_ir.proofs.Kept.{args-kept, ty-kept}
 use Rattle.candidate_eval.specs.Calls.{depth_limit}
 use Rattle.candidate_eval.specs.declared.coherence.OrphanStop.TheVariants as O
 use Rattle.candidate_eval.specs.Answers.{second_answer}
 use Rattle.candidate_eval.specs.Orphan.{Answer, Checked, view}
-use Rattle.candidate_eval.proofs.Calls.{may-later, keeps-later, function-later}
-use Rattle.candidate_eval.proofs.Causes.{left-after, left-reached, left-same}
+use Rattle.candidate_eval.proofs.Causes.{left-same, left-then, normalizer-left, function-left}
 use Rattle.candidate_eval.proofs.Stops.{walk-goes-on, local-ends, uncovered-ends, local-is-no-stop, uncovered-is-no-stop, broken-stops, walk-stops, stops-walk, second-ends, second-stops, stops-second, check-ends}
 use Rattle.candidate_eval.proofs.Checks.{passed-checked, local-checked, broken-checked, only-list, passes-no-list, uncovered-no-list, stop-no-list, uncovered-checked}
 use Rattle.candidate_eval.proofs.coherence.check.Goals as goal
 
 pub first_local_ty-requires-clause-args : goal.first_local_ty-requires-clause-args
-first_local_ty-requires-clause-args g c = (args-kept _ _ c.args.trait_ref.args c.visit_args.ensures.grows c.requires.args).0
+first_local_ty-requires-clause-args g c = (args-kept _ _ c.args.trait_ref.args c.visit_args.ensures.calls.grows c.requires.args).0
 
-pub first_local_ty-requires-clause-keeps : goal.first_local_ty-requires-clause-keeps
-first_local_ty-requires-clause-keeps g c =
+pub first_local_ty-requires-clause-normaliser : goal.first_local_ty-requires-clause-normaliser
+first_local_ty-requires-clause-normaliser g c =
     let first = rw c.in-Err-Uncovered.field-0-is at c.in-Err-Uncovered.ensures in
-    keeps-later g.C.Make.context g.F.FnMut _ _ _ _ (left-reached g.C.Make.context g.F.FnMut depth_limit _ _ _ _ _ first.calls (uncovered-ends _ _ refl)) c.visit_args.ensures.grows c.requires.keeps
-
-pub first_local_ty-requires-clause-callable : goal.first_local_ty-requires-clause-callable
-first_local_ty-requires-clause-callable g c =
-    let first = rw c.in-Err-Uncovered.field-0-is at c.in-Err-Uncovered.ensures in
-    may-later g.C.Make.context g.F.FnMut _ _ _ _ (left-reached g.C.Make.context g.F.FnMut depth_limit _ _ _ _ _ first.calls (uncovered-ends _ _ refl)) c.visit_args.ensures.grows c.requires.callable
+    normalizer-left g.C.Make.context g.F.FnMut first.calls (uncovered-ends _ _ refl) c.requires.normaliser
 
 pub returns-in-Ok-first_local_ty-clause-types : goal.returns-in-Ok-first_local_ty-clause-types
 returns-in-Ok-first_local_ty-clause-types g c =
     let first = rw c.in-Err-Uncovered.field-0-is at c.in-Err-Uncovered.ensures in
-    ((ty-kept _ _ c.in-Err-Uncovered.uncovered c.first_local_ty.ensures.grows first.exit).0, c.in-Ok-first_local_ty.ensures.types)
+    ((ty-kept _ _ c.in-Err-Uncovered.uncovered c.first_local_ty.ensures.calls.grows first.exit).0, c.in-Ok-first_local_ty.ensures.types)
 
 pub returns-in-Ok-first_local_ty-clause-answer : goal.returns-in-Ok-first_local_ty-clause-answer
 returns-in-Ok-first_local_ty-clause-answer g c = record {
@@ -36,12 +30,11 @@ returns-in-Ok-first_local_ty-clause-answer g c = record {
       let see = view (λ s u. g.C.InferCtxtLike.resolved s.1 u) d.normal in
       let last = g.C.Make.context c.first_local_ty.new.infcx in
       let first = rw c.in-Err-Uncovered.field-0-is at c.in-Err-Uncovered.ensures in
-      let later = function-later g.C.Make.context g.F.FnMut c.args.normalize.now c.args.infcx.now c.visit_args.new.normalize c.visit_args.new.infcx
-      (left-reached g.C.Make.context g.F.FnMut depth_limit _ _ _ _ _ first.calls (uncovered-ends _ _ refl)) c.visit_args.ensures.grows g.C.InferCtxtLike.resolved d h in
+      let later = function-left g.C.Make.context g.F.FnMut first.calls (uncovered-ends _ _ refl) g.C.InferCtxtLike.resolved d h in
       let checked : Tree → Checked (g.row.F.Denot × g.row.C.Denot) (Answer g.row.E.Denot) =
       λ t. record { answer = second_answer last.trees t (Ok c.in-Ok-first_local_ty.local_ty); after = d.stands (c.first_local_ty.new.normalize, c.first_local_ty.new.infcx) } in
       let e = uncovered-checked (g.C.Make.context c.args.infcx.now) (g.C.Make.context c.visit_args.new.infcx) last
-      c.visit_args.ensures.grows c.first_local_ty.ensures.grows c.args.in_crate see depth_limit c.args.trait_ref.args c.requires.args
+      c.visit_args.ensures.calls.grows c.first_local_ty.ensures.calls.grows c.args.in_crate see depth_limit c.args.trait_ref.args c.requires.args
       (d.stands (c.args.normalize.now, c.args.infcx.now)) (d.stands (c.visit_args.new.normalize, c.visit_args.new.infcx)) c.in-Err-Uncovered.uncovered first.exit
       (first.outcome d h (λ z o. uncovered-is-no-stop _ z)) checked
       (λ t. c.in-Ok-first_local_ty.ensures.answer d later (λ z o. second-ends _ z) t) in
@@ -54,12 +47,11 @@ returns-in-Err-Uncovered-clause-answer g c = record {
       let see = view (λ s u. g.C.InferCtxtLike.resolved s.1 u) d.normal in
       let last = g.C.Make.context c.first_local_ty.new.infcx in
       let first = rw c.in-Err-Uncovered.field-0-is at c.in-Err-Uncovered.ensures in
-      let later = function-later g.C.Make.context g.F.FnMut c.args.normalize.now c.args.infcx.now c.visit_args.new.normalize c.visit_args.new.infcx
-      (left-reached g.C.Make.context g.F.FnMut depth_limit _ _ _ _ _ first.calls (uncovered-ends _ _ refl)) c.visit_args.ensures.grows g.C.InferCtxtLike.resolved d h in
+      let later = function-left g.C.Make.context g.F.FnMut first.calls (uncovered-ends _ _ refl) g.C.InferCtxtLike.resolved d h in
       let checked : Tree → Checked (g.row.F.Denot × g.row.C.Denot) (Answer g.row.E.Denot) =
       λ t. record { answer = second_answer last.trees t (Err c.in-Err.stop); after = d.stands (c.first_local_ty.new.normalize, c.first_local_ty.new.infcx) } in
       let e = uncovered-checked (g.C.Make.context c.args.infcx.now) (g.C.Make.context c.visit_args.new.infcx) last
-      c.visit_args.ensures.grows c.first_local_ty.ensures.grows c.args.in_crate see depth_limit c.args.trait_ref.args c.requires.args
+      c.visit_args.ensures.calls.grows c.first_local_ty.ensures.calls.grows c.args.in_crate see depth_limit c.args.trait_ref.args c.requires.args
       (d.stands (c.args.normalize.now, c.args.infcx.now)) (d.stands (c.visit_args.new.normalize, c.visit_args.new.infcx)) c.in-Err-Uncovered.uncovered first.exit
       (first.outcome d h (λ z o. uncovered-is-no-stop _ z)) checked
       (λ t. c.in-Err.ensures.answer d later (λ z o x. told z o (second-stops _ z x)) t) in
@@ -69,13 +61,13 @@ returns-in-Err-Uncovered-clause-answer g c = record {
 pub returns-in-Ok-first_local_ty-clause-calls : goal.returns-in-Ok-first_local_ty-clause-calls
 returns-in-Ok-first_local_ty-clause-calls g c =
     let first = rw c.in-Err-Uncovered.field-0-is at c.in-Err-Uncovered.ensures in
-    left-after g.C.Make.context g.F.FnMut depth_limit _ _ _ _ _ _ _ _ (left-reached g.C.Make.context g.F.FnMut depth_limit _ _ _ _ _ first.calls (uncovered-ends _ _ refl))
+    left-then g.C.Make.context g.F.FnMut first.calls (uncovered-ends _ _ refl)
     (λ s e. absurd (second-ends _ s e)) (λ s e. absurd (check-ends _ s e)) c.in-Ok-first_local_ty.ensures.calls
 
 pub returns-in-Err-Uncovered-clause-calls : goal.returns-in-Err-Uncovered-clause-calls
 returns-in-Err-Uncovered-clause-calls g c =
     let first = rw c.in-Err-Uncovered.field-0-is at c.in-Err-Uncovered.ensures in
-    left-after g.C.Make.context g.F.FnMut depth_limit _ _ _ _ _ _ _ _ (left-reached g.C.Make.context g.F.FnMut depth_limit _ _ _ _ _ first.calls (uncovered-ends _ _ refl))
+    left-then g.C.Make.context g.F.FnMut first.calls (uncovered-ends _ _ refl)
     (second-stops _) (stops-second _) c.in-Err.ensures.calls
 
 pub returns-in-Ok-clause-calls : goal.returns-in-Ok-clause-calls
@@ -90,21 +82,6 @@ pub returns-clause-calls : goal.returns-clause-calls
 returns-clause-calls g c =
     let i = c.in-Err-Broken.field-0-is in
     left-same g.C.Make.context g.F.FnMut depth_limit _ _ _ _ _ _ (walk-stops _ _ i) (stops-walk _ _ i) c.in-Err-Broken.ensures.calls
-
-pub returns-in-Ok-clause-grows : goal.returns-in-Ok-clause-grows
-returns-in-Ok-clause-grows g c = c.visit_args.ensures.grows
-
-pub returns-in-Err-Local-clause-grows : goal.returns-in-Err-Local-clause-grows
-returns-in-Err-Local-clause-grows g c = c.visit_args.ensures.grows
-
-pub returns-in-Ok-first_local_ty-clause-grows : goal.returns-in-Ok-first_local_ty-clause-grows
-returns-in-Ok-first_local_ty-clause-grows g c = grows-trans _ _ _ c.visit_args.ensures.grows c.first_local_ty.ensures.grows
-
-pub returns-in-Err-Uncovered-clause-grows : goal.returns-in-Err-Uncovered-clause-grows
-returns-in-Err-Uncovered-clause-grows g c = grows-trans _ _ _ c.visit_args.ensures.grows c.first_local_ty.ensures.grows
-
-pub returns-clause-grows : goal.returns-clause-grows
-returns-clause-grows g c = c.visit_args.ensures.grows
 
 pub returns-in-Ok-clause-answer : goal.returns-in-Ok-clause-answer
 returns-in-Ok-clause-answer g c = record {

@@ -2,148 +2,121 @@ use Rattle.std.proofs.Common.{◌≡◌, true, false, Ok, Err, sym, ◌∙◌, a
 use Rattle.std.proofs.lemmas.Result.{err_from_is_err_and}
 use Rattle.candidate_ir.specs.Context.{Context, world}
 use Rattle.candidate_ir.specs.References.{reference_of}
-use Rattle.candidate_ir.proofs.Kept.{args-kept, grows-trans}
+use Rattle.candidate_ir.proofs.Kept.{args-kept}
 use Rattle.candidate_eval.specs.Calls.{depth_limit}
 use Rattle.candidate_eval.specs.Orphan.{view, local_or_fundamental}
-use Rattle.candidate_eval.proofs.Calls.{may-later, keeps-later, function-later}
-use Rattle.candidate_eval.proofs.Causes.{left-after, left-reached, left-same}
+use Rattle.candidate_eval.proofs.Causes.{left-same, left-then, normalizer-left, function-left}
 use Rattle.candidate_eval.proofs.Stops.{check-ends, answers-alike, check-stops, stops-check}
 use Rattle.candidate_eval.proofs.Knows.{own-kept, knows-stop, knows-downstream, knows-own, knows-locally, local-passes, local-fails, local-stops}
 use Rattle.candidate_eval.proofs.coherence.knowable.Goals as goal
 
 pub check-requires-2-clause-args : goal.check-requires-2-clause-args
-check-requires-2-clause-args g c = (args-kept _ _ c.args.trait_ref.args c.check.ensures.grows c.requires.args).0
+check-requires-2-clause-args g c = (args-kept _ _ c.args.trait_ref.args c.check.ensures.calls.grows c.requires.args).0
 
-pub check-requires-2-clause-keeps : goal.check-requires-2-clause-keeps
-check-requires-2-clause-keeps g c =
-    keeps-later g.C.Make.context g.F.FnMut _ _ _ _ (left-reached g.C.Make.context g.F.FnMut depth_limit _ _ _ _ _ c.in_ok-remote.ensures.calls (check-ends _)) c.check.ensures.grows c.requires.keeps
+pub check-requires-2-clause-normaliser : goal.check-requires-2-clause-normaliser
+check-requires-2-clause-normaliser g c = normalizer-left g.C.Make.context g.F.FnMut c.in_ok-check.ensures.calls (check-ends _) c.requires.normaliser
 
-pub check-requires-2-clause-callable : goal.check-requires-2-clause-callable
-check-requires-2-clause-callable g c =
-    may-later g.C.Make.context g.F.FnMut _ _ _ _ (left-reached g.C.Make.context g.F.FnMut depth_limit _ _ _ _ _ c.in_ok-remote.ensures.calls (check-ends _)) c.check.ensures.grows c.requires.callable
-
-pub returns-in_err-local-clause-answer : goal.returns-in_err-local-clause-answer
-returns-in_err-local-clause-answer g c = record {
+pub returns-in_err-check-2-clause-answer : goal.returns-in_err-check-2-clause-answer
+returns-in_err-check-2-clause-answer g c = record {
   at = λ d h told.
-      let p = err_from_is_err_and c.from_residual-in_err-local.result c.from_residual-in_err-local.ensures.1 in
+      let p = err_from_is_err_and c.from_residual-in_err-check-2.result c.from_residual-in_err-check-2.ensures.1 in
       let see = view (λ s u. g.C.InferCtxtLike.resolved s.1 u) d.normal in
       let c1 = g.C.Make.context c.check.new.infcx in
-      let later = function-later g.C.Make.context g.F.FnMut c.args.normalize.now c.args.infcx.now c.check.new.normalize c.check.new.infcx
-      (left-reached g.C.Make.context g.F.FnMut depth_limit _ _ _ _ _ c.in_ok-remote.ensures.calls (check-ends _)) c.check.ensures.grows g.C.InferCtxtLike.resolved d h in
+      let later = function-left g.C.Make.context g.F.FnMut c.in_ok-check.ensures.calls (check-ends _) g.C.InferCtxtLike.resolved d h in
       let own : local_or_fundamental (world c1) c1.local.0 c.args.trait_ref.def_id.0 ≡ false =
       ap (λ (x : Context). local_or_fundamental (world x) x.local.0 c.args.trait_ref.def_id.0) (sym c.cx.ensures)
       ∙ (sym c.trait_ref_is_local_or_fundamental.ensures ∙ c.if-trait_ref_is_local_or_fundamental.false) in
-      let e = knows-locally (g.C.Make.context c.args.infcx.now) c1 c.check.ensures.grows see depth_limit
+      let e = knows-locally (g.C.Make.context c.args.infcx.now) c1 c.check.ensures.calls.grows see depth_limit
       (d.stands (c.args.normalize.now, c.args.infcx.now)) (d.stands (c.check.new.normalize, c.check.new.infcx)) (d.stands (c.check-2.new.normalize, c.check-2.new.infcx))
-      c.args.trait_ref c.requires.args (g.C.Make.context c.check-2.new.infcx).trees c.in_ok-remote.remote (Err c.in_err-local.field-0.0)
-      (sym c.is_ok.ensures.value ∙ c.if-is_ok.false) own
-      (c.in_ok-remote.ensures.answer.at d h (λ z o. check-ends _ z)) (c.in_err-local.ensures.answer.at d later (λ z o x. told z o (check-stops _ _ _ p.1 p.2 z x))) in
-      rw (p.1, p.2) (record { answer = ap (λ x. x.answer) e ∙ local-stops (g.C.Make.context c.check-2.new.infcx).trees c.in_err-local.field-0.0; last = c.check-2.new.normalize; leaves = ap (λ x. x.after) e });
+      c.args.trait_ref c.requires.args (g.C.Make.context c.check-2.new.infcx).trees c.in_ok-check.field-0 (Err c.in_err-check-2.field-0.0)
+      (sym c.is_ok-passes_remote.ensures.value ∙ c.if-passes_remote.false) own
+      (c.in_ok-check.ensures.answer.at d h (λ z o. check-ends _ z)) (c.in_err-check-2.ensures.answer.at d later (λ z o x. told z o (check-stops _ _ _ p.1 p.2 z x))) in
+      rw (p.1, p.2) (record { answer = ap (λ x. x.answer) e ∙ local-stops (g.C.Make.context c.check-2.new.infcx).trees c.in_err-check-2.field-0.0; last = c.check-2.new.normalize; leaves = ap (λ x. x.after) e });
 }
 
-pub returns-then-is_ok-2-clause-answer : goal.returns-then-is_ok-2-clause-answer
-returns-then-is_ok-2-clause-answer g c = record {
+pub returns-then-passes_proper-clause-answer : goal.returns-then-passes_proper-clause-answer
+returns-then-passes_proper-clause-answer g c = record {
   at = λ d h told.
       let see = view (λ s u. g.C.InferCtxtLike.resolved s.1 u) d.normal in
       let c1 = g.C.Make.context c.check.new.infcx in
-      let later = function-later g.C.Make.context g.F.FnMut c.args.normalize.now c.args.infcx.now c.check.new.normalize c.check.new.infcx
-      (left-reached g.C.Make.context g.F.FnMut depth_limit _ _ _ _ _ c.in_ok-remote.ensures.calls (check-ends _)) c.check.ensures.grows g.C.InferCtxtLike.resolved d h in
+      let later = function-left g.C.Make.context g.F.FnMut c.in_ok-check.ensures.calls (check-ends _) g.C.InferCtxtLike.resolved d h in
       let own : local_or_fundamental (world c1) c1.local.0 c.args.trait_ref.def_id.0 ≡ false =
       ap (λ (x : Context). local_or_fundamental (world x) x.local.0 c.args.trait_ref.def_id.0) (sym c.cx.ensures)
       ∙ (sym c.trait_ref_is_local_or_fundamental.ensures ∙ c.if-trait_ref_is_local_or_fundamental.false) in
-      let e = knows-locally (g.C.Make.context c.args.infcx.now) c1 c.check.ensures.grows see depth_limit
+      let e = knows-locally (g.C.Make.context c.args.infcx.now) c1 c.check.ensures.calls.grows see depth_limit
       (d.stands (c.args.normalize.now, c.args.infcx.now)) (d.stands (c.check.new.normalize, c.check.new.infcx)) (d.stands (c.check-2.new.normalize, c.check-2.new.infcx))
-      c.args.trait_ref c.requires.args (g.C.Make.context c.check-2.new.infcx).trees c.in_ok-remote.remote (Ok c.in_ok-local.local)
-      (sym c.is_ok.ensures.value ∙ c.if-is_ok.false) own
-      (c.in_ok-remote.ensures.answer.at d h (λ z o. check-ends _ z)) (c.in_ok-local.ensures.answer.at d later (λ z o. check-ends _ z)) in
-      record { answer = ap (λ x. x.answer) e ∙ local-passes (g.C.Make.context c.check-2.new.infcx).trees c.in_ok-local.local (sym c.is_ok-2.ensures.value ∙ c.if-is_ok-2.true); last = c.check-2.new.normalize; leaves = ap (λ x. x.after) e };
+      c.args.trait_ref c.requires.args (g.C.Make.context c.check-2.new.infcx).trees c.in_ok-check.field-0 (Ok c.in_ok-check-2.field-0)
+      (sym c.is_ok-passes_remote.ensures.value ∙ c.if-passes_remote.false) own
+      (c.in_ok-check.ensures.answer.at d h (λ z o. check-ends _ z)) (c.in_ok-check-2.ensures.answer.at d later (λ z o. check-ends _ z)) in
+      record { answer = ap (λ x. x.answer) e ∙ local-passes (g.C.Make.context c.check-2.new.infcx).trees c.in_ok-check-2.field-0 (sym c.is_ok-passes_proper.ensures.value ∙ c.if-passes_proper.true); last = c.check-2.new.normalize; leaves = ap (λ x. x.after) e };
 }
 
-pub returns-clause-answer : goal.returns-clause-answer
-returns-clause-answer g c = record {
+pub returns-else-passes_proper-clause-answer : goal.returns-else-passes_proper-clause-answer
+returns-else-passes_proper-clause-answer g c = record {
   at = λ d h told.
       let see = view (λ s u. g.C.InferCtxtLike.resolved s.1 u) d.normal in
       let c1 = g.C.Make.context c.check.new.infcx in
-      let later = function-later g.C.Make.context g.F.FnMut c.args.normalize.now c.args.infcx.now c.check.new.normalize c.check.new.infcx
-      (left-reached g.C.Make.context g.F.FnMut depth_limit _ _ _ _ _ c.in_ok-remote.ensures.calls (check-ends _)) c.check.ensures.grows g.C.InferCtxtLike.resolved d h in
+      let later = function-left g.C.Make.context g.F.FnMut c.in_ok-check.ensures.calls (check-ends _) g.C.InferCtxtLike.resolved d h in
       let own : local_or_fundamental (world c1) c1.local.0 c.args.trait_ref.def_id.0 ≡ false =
       ap (λ (x : Context). local_or_fundamental (world x) x.local.0 c.args.trait_ref.def_id.0) (sym c.cx.ensures)
       ∙ (sym c.trait_ref_is_local_or_fundamental.ensures ∙ c.if-trait_ref_is_local_or_fundamental.false) in
-      let e = knows-locally (g.C.Make.context c.args.infcx.now) c1 c.check.ensures.grows see depth_limit
+      let e = knows-locally (g.C.Make.context c.args.infcx.now) c1 c.check.ensures.calls.grows see depth_limit
       (d.stands (c.args.normalize.now, c.args.infcx.now)) (d.stands (c.check.new.normalize, c.check.new.infcx)) (d.stands (c.check-2.new.normalize, c.check-2.new.infcx))
-      c.args.trait_ref c.requires.args (g.C.Make.context c.check-2.new.infcx).trees c.in_ok-remote.remote (Ok c.in_ok-local.local)
-      (sym c.is_ok.ensures.value ∙ c.if-is_ok.false) own
-      (c.in_ok-remote.ensures.answer.at d h (λ z o. check-ends _ z)) (c.in_ok-local.ensures.answer.at d later (λ z o. check-ends _ z)) in
-      record { answer = ap (λ x. x.answer) e ∙ local-fails (g.C.Make.context c.check-2.new.infcx).trees c.in_ok-local.local (sym c.is_ok-2.ensures.value ∙ c.if-is_ok-2.false); last = c.check-2.new.normalize; leaves = ap (λ x. x.after) e };
+      c.args.trait_ref c.requires.args (g.C.Make.context c.check-2.new.infcx).trees c.in_ok-check.field-0 (Ok c.in_ok-check-2.field-0)
+      (sym c.is_ok-passes_remote.ensures.value ∙ c.if-passes_remote.false) own
+      (c.in_ok-check.ensures.answer.at d h (λ z o. check-ends _ z)) (c.in_ok-check-2.ensures.answer.at d later (λ z o. check-ends _ z)) in
+      record { answer = ap (λ x. x.answer) e ∙ local-fails (g.C.Make.context c.check-2.new.infcx).trees c.in_ok-check-2.field-0 (sym c.is_ok-passes_proper.ensures.value ∙ c.if-passes_proper.false); last = c.check-2.new.normalize; leaves = ap (λ x. x.after) e };
 }
 
-pub returns-in_err-local-clause-calls : goal.returns-in_err-local-clause-calls
-returns-in_err-local-clause-calls g c =
-    let p = err_from_is_err_and c.from_residual-in_err-local.result c.from_residual-in_err-local.ensures.1 in
-    left-after g.C.Make.context g.F.FnMut depth_limit _ _ _ _ _ _ _ _ (left-reached g.C.Make.context g.F.FnMut depth_limit _ _ _ _ _ c.in_ok-remote.ensures.calls (check-ends _))
-    (check-stops _ _ _ p.1 p.2) (stops-check _ _ _ p.1 p.2) c.in_err-local.ensures.calls
+pub returns-in_err-check-2-clause-calls : goal.returns-in_err-check-2-clause-calls
+returns-in_err-check-2-clause-calls g c =
+    let p = err_from_is_err_and c.from_residual-in_err-check-2.result c.from_residual-in_err-check-2.ensures.1 in
+    left-then g.C.Make.context g.F.FnMut c.in_ok-check.ensures.calls (check-ends _)
+    (check-stops _ _ _ p.1 p.2) (stops-check _ _ _ p.1 p.2) c.in_err-check-2.ensures.calls
 
-pub returns-then-is_ok-2-clause-calls : goal.returns-then-is_ok-2-clause-calls
-returns-then-is_ok-2-clause-calls g c =
-    left-after g.C.Make.context g.F.FnMut depth_limit _ _ _ _ _ _ _ _ (left-reached g.C.Make.context g.F.FnMut depth_limit _ _ _ _ _ c.in_ok-remote.ensures.calls (check-ends _))
-    (answers-alike _ _) (answers-alike _ _) c.in_ok-local.ensures.calls
+pub returns-then-passes_proper-clause-calls : goal.returns-then-passes_proper-clause-calls
+returns-then-passes_proper-clause-calls g c =
+    left-then g.C.Make.context g.F.FnMut c.in_ok-check.ensures.calls (check-ends _)
+    (answers-alike _ _) (answers-alike _ _) c.in_ok-check-2.ensures.calls
 
-pub returns-clause-calls : goal.returns-clause-calls
-returns-clause-calls g c =
-    left-after g.C.Make.context g.F.FnMut depth_limit _ _ _ _ _ _ _ _ (left-reached g.C.Make.context g.F.FnMut depth_limit _ _ _ _ _ c.in_ok-remote.ensures.calls (check-ends _))
-    (answers-alike _ _) (answers-alike _ _) c.in_ok-local.ensures.calls
+pub returns-else-passes_proper-clause-calls : goal.returns-else-passes_proper-clause-calls
+returns-else-passes_proper-clause-calls g c =
+    left-then g.C.Make.context g.F.FnMut c.in_ok-check.ensures.calls (check-ends _)
+    (answers-alike _ _) (answers-alike _ _) c.in_ok-check-2.ensures.calls
 
-pub returns-in_err-remote-clause-calls : goal.returns-in_err-remote-clause-calls
-returns-in_err-remote-clause-calls g c =
+pub returns-in_err-check-clause-calls : goal.returns-in_err-check-clause-calls
+returns-in_err-check-clause-calls g c =
     let p = err_from_is_err_and c.from_residual.result c.from_residual.ensures.1 in
     left-same g.C.Make.context g.F.FnMut depth_limit _ _ _ _ _ _
-    (check-stops _ _ _ p.1 p.2) (stops-check _ _ _ p.1 p.2) c.in_err-remote.ensures.calls
+    (check-stops _ _ _ p.1 p.2) (stops-check _ _ _ p.1 p.2) c.in_err-check.ensures.calls
 
-pub returns-then-is_ok-clause-calls : goal.returns-then-is_ok-clause-calls
-returns-then-is_ok-clause-calls g c = left-same g.C.Make.context g.F.FnMut depth_limit _ _ _ _ _ _ (answers-alike _ _) (answers-alike _ _) c.in_ok-remote.ensures.calls
+pub returns-then-passes_remote-clause-calls : goal.returns-then-passes_remote-clause-calls
+returns-then-passes_remote-clause-calls g c = left-same g.C.Make.context g.F.FnMut depth_limit _ _ _ _ _ _ (answers-alike _ _) (answers-alike _ _) c.in_ok-check.ensures.calls
 
 pub returns-then-trait_ref_is_local_or_fundamental-clause-calls : goal.returns-then-trait_ref_is_local_or_fundamental-clause-calls
 returns-then-trait_ref_is_local_or_fundamental-clause-calls g c =
-    left-same g.C.Make.context g.F.FnMut depth_limit _ _ _ _ _ _ (answers-alike _ _) (answers-alike _ _) c.in_ok-remote.ensures.calls
+    left-same g.C.Make.context g.F.FnMut depth_limit _ _ _ _ _ _ (answers-alike _ _) (answers-alike _ _) c.in_ok-check.ensures.calls
 
-pub returns-in_err-remote-clause-grows : goal.returns-in_err-remote-clause-grows
-returns-in_err-remote-clause-grows g c = c.check.ensures.grows
-
-pub returns-then-is_ok-clause-grows : goal.returns-then-is_ok-clause-grows
-returns-then-is_ok-clause-grows g c = c.check.ensures.grows
-
-pub returns-then-trait_ref_is_local_or_fundamental-clause-grows : goal.returns-then-trait_ref_is_local_or_fundamental-clause-grows
-returns-then-trait_ref_is_local_or_fundamental-clause-grows g c = c.check.ensures.grows
-
-pub returns-in_err-local-clause-grows : goal.returns-in_err-local-clause-grows
-returns-in_err-local-clause-grows g c = grows-trans _ _ _ c.check.ensures.grows c.check-2.ensures.grows
-
-pub returns-then-is_ok-2-clause-grows : goal.returns-then-is_ok-2-clause-grows
-returns-then-is_ok-2-clause-grows g c = grows-trans _ _ _ c.check.ensures.grows c.check-2.ensures.grows
-
-pub returns-clause-grows : goal.returns-clause-grows
-returns-clause-grows g c = grows-trans _ _ _ c.check.ensures.grows c.check-2.ensures.grows
-
-pub returns-in_err-remote-clause-answer : goal.returns-in_err-remote-clause-answer
-returns-in_err-remote-clause-answer g c = record {
+pub returns-in_err-check-clause-answer : goal.returns-in_err-check-clause-answer
+returns-in_err-check-clause-answer g c = record {
   at = λ d h told.
       let c0 = g.C.Make.context c.args.infcx.now in
       let c1 = g.C.Make.context c.check.new.infcx in
       let p = err_from_is_err_and c.from_residual.result c.from_residual.ensures.1 in
       let e = knows-stop (world c0) c0.local.0 depth_limit (view (λ s u. g.C.InferCtxtLike.resolved s.1 u) d.normal) (d.stands (c.args.normalize.now, c.args.infcx.now))
       (d.stands (c.check.new.normalize, c.check.new.infcx)) (reference_of c0.trees c.args.trait_ref) c1.trees
-      c.in_err-remote.field-0.0 (c.in_err-remote.ensures.answer.at d h (λ z o x. told z o (check-stops _ _ _ p.1 p.2 z x))) in
+      c.in_err-check.field-0.0 (c.in_err-check.ensures.answer.at d h (λ z o x. told z o (check-stops _ _ _ p.1 p.2 z x))) in
       rw (p.1, p.2) (record { answer = ap (λ x. x.answer) e; last = c.check.new.normalize; leaves = ap (λ x. x.after) e });
 }
 
-pub returns-then-is_ok-clause-answer : goal.returns-then-is_ok-clause-answer
-returns-then-is_ok-clause-answer g c = record {
+pub returns-then-passes_remote-clause-answer : goal.returns-then-passes_remote-clause-answer
+returns-then-passes_remote-clause-answer g c = record {
   at = λ d h told.
       let c0 = g.C.Make.context c.args.infcx.now in
       let c1 = g.C.Make.context c.check.new.infcx in
       let e = knows-downstream (world c0) c0.local.0 depth_limit (view (λ s u. g.C.InferCtxtLike.resolved s.1 u) d.normal) (d.stands (c.args.normalize.now, c.args.infcx.now))
       (d.stands (c.check.new.normalize, c.check.new.infcx)) (reference_of c0.trees c.args.trait_ref) c1.trees
-      c.in_ok-remote.remote (sym c.is_ok.ensures.value ∙ c.if-is_ok.true) (c.in_ok-remote.ensures.answer.at d h (λ z o. check-ends _ z)) in
+      c.in_ok-check.field-0 (sym c.is_ok-passes_remote.ensures.value ∙ c.if-passes_remote.true) (c.in_ok-check.ensures.answer.at d h (λ z o. check-ends _ z)) in
       record { answer = ap (λ x. x.answer) e; last = c.check.new.normalize; leaves = ap (λ x. x.after) e };
 }
 
@@ -157,7 +130,7 @@ returns-then-trait_ref_is_local_or_fundamental-clause-answer g c = record {
       ∙ (sym c.trait_ref_is_local_or_fundamental.ensures ∙ c.if-trait_ref_is_local_or_fundamental.true) in
       let e = knows-own (world c0) c0.local.0 depth_limit (view (λ s u. g.C.InferCtxtLike.resolved s.1 u) d.normal) (d.stands (c.args.normalize.now, c.args.infcx.now))
       (d.stands (c.check.new.normalize, c.check.new.infcx)) (reference_of c0.trees c.args.trait_ref) c1.trees
-      c.in_ok-remote.remote (sym c.is_ok.ensures.value ∙ c.if-is_ok.false) (own-kept c0 c1 c.check.ensures.grows c.args.trait_ref.def_id.0 true own)
-      (c.in_ok-remote.ensures.answer.at d h (λ z o. check-ends _ z)) in
+      c.in_ok-check.field-0 (sym c.is_ok-passes_remote.ensures.value ∙ c.if-passes_remote.false) (own-kept c0 c1 c.check.ensures.calls.grows c.args.trait_ref.def_id.0 true own)
+      (c.in_ok-check.ensures.answer.at d h (λ z o. check-ends _ z)) in
       record { answer = ap (λ x. x.answer) e; last = c.check.new.normalize; leaves = ap (λ x. x.after) e };
 }
