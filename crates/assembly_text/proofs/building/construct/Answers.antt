@@ -1,10 +1,9 @@
-use Rattle.std.proofs.Common.{◌≡◌, false, ◌∙◌, ap}
+use Rattle.std.proofs.Common.{◌∙◌, ap}
 use Rattle.candidate_ir.specs.declared.ir.kinds.AliasTy.{AliasTy}
 use Rattle.candidate_ir.specs.Trees.{holds, tree_holds, is_param}
 use Rattle.candidate_ir.specs.Nodes.{tree_at}
-use Rattle.candidate_ir.specs.Words.{kind_tree}
 use Rattle.assembly_text.specs.Params.{LacksParam}
-use Rattle.assembly_text.proofs.Lacking.{made-lacks, same-lacks, args-lacks, tuple-lacks, adt-lacks, alias-lacks}
+use Rattle.assembly_text.proofs.Lacking.{same-lacks, args-lacks, tuple-lacks, adt-lacks, alias-lacks}
 use Rattle.assembly_text.proofs.building.construct.Goals as goal
 use Rattle.assembly_text.proofs.building.construct.Goals.{in-Tuple, in-Adt, in-Projection}
 
