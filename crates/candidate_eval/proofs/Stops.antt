@@ -45,10 +45,6 @@ module _ {A E : Type 0} where
   pub deep-ends : (z s : Stop) → (let r : Result A (EarlyExit E) = Err (X.Broken (O.Stop z)) in r ≡ Err (X.Broken (O.Stop s))) → s ≡ z
   deep-ends z s e = cc
 
-  pub failure-ends : (x : EarlyExit E) (o : OrphanStop E) (f : E) → x ≡ X.Broken o → o ≡ O.Normalize f
-      → (s : Stop) → (let r : Result A (EarlyExit E) = Err x in r ≡ Err (X.Broken (O.Stop s))) → ⊥
-  failure-ends x o f i j s e = cc
-
 pub local-is-no-stop : {E : Type 0} (t : Ty) (s : Stop) → (let x : EarlyExit E = X.Local t in x ≡ X.Broken (O.Stop s)) → ⊥
 local-is-no-stop t s e = cc
 
@@ -66,15 +62,6 @@ module _ {A B E : Type 0} (x : EarlyExit E) (o : OrphanStop E) where
   pub stops-walk : x ≡ X.Broken o → (s : Stop) → StopsWith {A = B} {E = E} (Err o) s → (let r : Result A (EarlyExit E) = Err x in r ≡ Err (X.Broken (O.Stop s)))
   stops-walk i s e = let k : o ≡ O.Stop s = cc in ap Err (i ∙ ap X.Broken k)
 
-  -- and the second walk's
-  pub walk-stops-second : (z : Stop) → x ≡ X.Broken o → o ≡ O.Stop z
-      → (s : Stop) → (let r : Result A (EarlyExit E) = Err x in r ≡ Err (X.Broken (O.Stop s))) → (let q : Result B Stop = Err z in q ≡ Err s)
-  walk-stops-second z i j s e = let k : z ≡ s = cc in ap Err k
-
-  pub second-stops-walk : (z : Stop) → x ≡ X.Broken o → o ≡ O.Stop z
-      → (s : Stop) → (let q : Result B Stop = Err z in q ≡ Err s) → (let r : Result A (EarlyExit E) = Err x in r ≡ Err (X.Broken (O.Stop s)))
-  second-stops-walk z i j s e = let k : z ≡ s = cc in ap Err (i ∙ ap X.Broken (j ∙ ap O.Stop k))
-
 -- the second walk's answer is no stop, and its stop is the check's
 pub second-ends : {A : Type 0} (a : A) (s : Stop) → (let r : Result A Stop = Ok a in r ≡ Err s) → ⊥
 second-ends a s e = cc
@@ -84,9 +71,6 @@ second-stops z s e = let k : z ≡ s = cc in ap Err (ap O.Stop k)
 
 pub stops-second : {A B E : Type 0} (z s : Stop) → StopsWith {A = B} {E = E} (Err (O.Stop z)) s → (let r : Result A Stop = Err z in r ≡ Err s)
 stops-second z s e = let k : z ≡ s = cc in ap Err k
-
-pub stop-of-second : {A E : Type 0} (z s : Stop) → (let x : EarlyExit E = X.Broken (O.Stop z) in x ≡ X.Broken (O.Stop s)) → (let r : Result A Stop = Err z in r ≡ Err s)
-stop-of-second z s e = let k : z ≡ s = cc in ap Err k
 
 -- a check's answer is no stop
 pub check-ends : {A E : Type 0} (a : A) (s : Stop) → StopsWith {A = A} {E = E} (Ok a) s → ⊥
