@@ -22,6 +22,8 @@ pub record Context : Type 0 where
   pub declarations : List Declaration
   -- the trees by their numbers
   pub trees : List Tree
+  -- the texts of faults that were put off, as bytes
+  pub delayed_bugs : List (List ℕ)
 
 abbrev pub parameter_kind : VarKind → Kind
 parameter_kind V.Ty = TypeKind

@@ -94,6 +94,7 @@ pub struct DeclsBuilder {
 }
 
 impl Model for DeclsBuilder {
+    ghost use Rattle.std.specs.Prelude.{[]};
     ghost use Rattle.std.specs.Coded.{codes};
     ghost use Rattle.candidate_ir.specs.contracts.ir.heads.Head as head;
     ghost use Rattle.candidate_ir.specs.TreeCode.{tree_code};
@@ -103,7 +104,7 @@ impl Model for DeclsBuilder {
 
     ghost coded = { Prim.hlevel (codes, tree_code head.the_row.coded) };
 
-    ghost view = { λ b. record { crates = b.crates; local = b.local; declarations = b.definitions.items; trees = b.nodes } };
+    ghost view = { λ b. record { crates = b.crates; local = b.local; declarations = b.definitions.items; trees = b.nodes; delayed_bugs = [] } };
 }
 
 /// Declarations without a fault.
@@ -116,6 +117,7 @@ pub struct Decls {
 }
 
 impl Model for Decls {
+    ghost use Rattle.std.specs.Prelude.{[]};
     ghost use Rattle.std.specs.Coded.{codes};
     ghost use Rattle.candidate_ir.specs.contracts.ir.heads.Head as head;
     ghost use Rattle.candidate_ir.specs.TreeCode.{tree_code};
@@ -127,7 +129,7 @@ impl Model for Decls {
 
     ghost coded = { Prim.hlevel (codes, tree_code head.the_row.coded) };
 
-    ghost view = { λ b. record { crates = b.crates; local = b.local; declarations = b.definitions.items; trees = b.nodes } };
+    ghost view = { λ b. record { crates = b.crates; local = b.local; declarations = b.definitions.items; trees = b.nodes; delayed_bugs = [] } };
 
     ghost invariant = { λ b. AllFit (world_of b.definitions.items) b.nodes };
 }
@@ -135,7 +137,7 @@ impl Model for Decls {
 impl DeclsBuilder {
     /// A builder without declarations. Crate 0 is the local one until another is set.
     pub fn new(alloc: Global) -> Self
-        ensures { result ≡ record { crates = 0; local = record { 0 = 0 }; declarations = []; trees = [] } }
+        ensures { result ≡ record { crates = 0; local = record { 0 = 0 }; declarations = []; trees = []; delayed_bugs = [] } }
     {
         DeclsBuilder {
             crates: 0,

@@ -1,6 +1,6 @@
 //! The context: declarations, and the table in which types are made.
 
-ghost use Rattle.std.specs.Prelude.{◌≡◌, ◌+◌, ◌<◌, ◌↔◌, IsTrue, false, length, take, map, IfOk, IfErr, Some, None};
+ghost use Rattle.std.specs.Prelude.{◌≡◌, ◌++◌, ◌∷◌, [], string_bytes, ◌+◌, ◌<◌, ◌↔◌, IsTrue, false, length, take, map, IfOk, IfErr, Some, None};
 ghost use Rattle.candidate_ir.specs.Context.{world, Grows};
 ghost use Rattle.candidate_ir.specs.Making.{Makes, a_type, a_constant, a_region, a_list, a_binder, some_bounds, a_signature, a_clause, an_environment};
 ghost use Rattle.candidate_ir.specs.Trees.{height, heights, tree_holds, holds, is_param};
@@ -37,9 +37,11 @@ pub struct Cx {
     local: CrateId,
     definitions: Vec<Declaration>,
     nodes: Nodes,
+    delayed_bugs: Vec<String>,
 }
 
 impl Model for Cx {
+    ghost use Rattle.std.specs.Prelude.{map, string_bytes};
     ghost use Rattle.std.specs.Coded.{codes};
     ghost use Rattle.candidate_ir.specs.contracts.ir.heads.Head as head;
     ghost use Rattle.candidate_ir.specs.TreeCode.{tree_code};
@@ -51,7 +53,7 @@ impl Model for Cx {
 
     ghost coded = { Prim.hlevel (codes, tree_code head.the_row.coded) };
 
-    ghost view = { λ b. record { crates = b.crates; local = b.local; declarations = b.definitions.items; trees = b.nodes } };
+    ghost view = { λ b. record { crates = b.crates; local = b.local; declarations = b.definitions.items; trees = b.nodes; delayed_bugs = map string_bytes b.delayed_bugs.items } };
 
     ghost invariant = { λ b. AllFit (world_of b.definitions.items) b.nodes };
 }
@@ -67,12 +69,34 @@ impl Cx {
             definitions,
             nodes,
         } = decls;
+        let delayed_bugs = Vec::new(*definitions.allocator());
         Cx {
             crates,
             local,
             definitions,
             nodes,
+            delayed_bugs,
         }
+    }
+
+    /// Puts off a fault: its text stands last among `delayed_bugs` then.
+    ///
+    /// The only error is `Stop::Memory`, where a growth was refused; nothing is changed then.
+    pub fn delay_bug(&mut self, text: &str) -> Result<(), Stop>
+        ensures added { IfOk result (λ _. self.new ≡ record self.old { delayed_bugs = self.old.delayed_bugs ++ text.now ∷ [] }) }
+        ensures unchanged { IfErr result (λ _. self.new ≡ self.old) }
+        ensures cause { IfErr result (λ s. s ≡ Stop.Memory) }
+    {
+        let text = String::from_str(*self.definitions.allocator(), text)?;
+        self.delayed_bugs.push(text)?;
+        Ok(())
+    }
+
+    /// The texts of the faults that were put off so far, in their order.
+    pub fn delayed_bugs(&self) -> &[String]
+        ensures { map string_bytes result.now ≡ self.now.delayed_bugs }
+    {
+        self.delayed_bugs.as_slice()
     }
 
     /// How many numbers of types, constants, regions and lists are given.
