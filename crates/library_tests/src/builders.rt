@@ -1,249 +1,145 @@
-//! Calls of the builder of declarations.
+//! What makes the nodes of the tests: a call for each sort of node, and calls that make many.
 
-use crate::asserts::{equals, equals_in_row, holds};
-use candidate_ir::decl::builder::{DeclFault, DeclsBuilder};
+ghost use Rattle.std.specs.Prelude.{◌≡◌, [], ◌∷◌, ◌++◌, All};
+ghost use Rattle.candidate_ir.specs.Context.{Grows};
+ghost use Rattle.candidate_ir.specs.Words.{IsTy, IsConst, IsRegion, IsArgs, IsVars, IsPreds, IsSig, IsClause, IsParamEnv, KindFits, ConstKindFits, ListFits, BoundsFit, AtMostOnePrincipal, SigFits, ClauseFits, ClauseListFits};
+ghost use Rattle.library_tests.specs.Pieces.{AreKinds};
+
 use candidate_ir::decl::context::Cx;
-use candidate_ir::decl::definition::{AdtFlags, AdtShape, AssocKind, CrateId, TraitFlags};
-use candidate_ir::ir::kinds::{AdtId, ForeignId, TraitId, VarKind};
+use candidate_ir::ir::kinds::{
+    AdtId, Args, Binder, Clause, ClauseKind, ClosureSig, Const, ConstKind, ExistentialPredicate,
+    GenericArg, ParamEnv, Preds, Region, RegionKind, Sig, Ty, TyKind, VarKind, Vars,
+};
 use std::alloc::Global;
 use std::process::Abort;
 
-const ABOVE: CrateId = CrateId(1);
-
-/// Declares two crates, and each sort of definition in them: what numbers they have, in order.
-fn declare_each(builder: &mut DeclsBuilder) -> Result<[u32; 10], DeclFault> {
-    let local = builder.add_crate()?;
-    let above = builder.add_crate()?;
-    let foreign = builder.add_foreign(local)?;
-    let of = builder.add_trait(above, &[VarKind::Ty], TraitFlags::default())?;
-    let associated = builder.add_assoc(of, AssocKind::Type, false)?;
-    let constant = builder.add_assoc(of, AssocKind::Const, true)?;
-    let foreign_above = builder.add_foreign(above)?;
-    let adt = builder.add_adt(local, AdtShape::Union, &[], AdtFlags::default())?;
-    let adt_above = builder.add_adt(above, AdtShape::Enum, &[], AdtFlags::default())?;
-    let other = builder.add_trait(local, &[VarKind::Region], TraitFlags::default())?;
-    Ok([
-        local.0,
-        above.0,
-        foreign.0,
-        of.0,
-        associated.0,
-        constant.0,
-        foreign_above.0,
-        adt.0,
-        adt_above.0,
-        other.0,
-    ])
+/// The type of that kind.
+pub fn ty(rt: &impl Abort, cx: &mut Cx, kind: TyKind) -> Ty
+    requires { KindFits cx.old.trees kind }
+    ensures grows { Grows cx.old cx.new }
+    ensures sort { IsTy cx.new.trees result }
+{
+    cx.mk_ty(kind).expect(rt, "a type")
 }
 
-/// These definitions, where that crate is the local one.
-fn each_declared(rt: &impl Abort, alloc: Global, local: CrateId) -> Cx {
-    let mut builder = DeclsBuilder::new(alloc);
-    let numbers = declare_each(&mut builder);
-    equals(
-        rt,
-        &numbers,
-        &Ok([0, 1, 0, 1, 2, 3, 4, 5, 6, 7]),
-        "the numbers",
-    );
-    builder.set_local(local);
-    Cx::new(builder.finish().expect(rt, "no fault"))
+/// The constant of that kind.
+pub fn constant(rt: &impl Abort, cx: &mut Cx, kind: ConstKind) -> Const
+    requires { ConstKindFits cx.old.trees kind }
+    ensures grows { Grows cx.old cx.new }
+    ensures sort { IsConst cx.new.trees result }
+{
+    cx.mk_const(kind).expect(rt, "a constant")
 }
 
-#[test]
-fn numbers_definitions_together(rt: HostRuntime) {
-    let cx = each_declared(&rt, rt.alloc(), CrateId(0));
-    holds(&rt, cx.foreign_is_local(ForeignId(0)), "of the local crate");
-    holds(&rt, !cx.foreign_is_local(ForeignId(4)), "of another crate");
-    holds(&rt, !cx.foreign_is_local(ForeignId(8)), "not declared");
+/// The region of that kind.
+pub fn region(rt: &impl Abort, cx: &mut Cx, kind: RegionKind) -> Region
+    ensures grows { Grows cx.old cx.new }
+    ensures sort { IsRegion cx.new.trees result }
+{
+    cx.mk_region(kind).expect(rt, "a region")
 }
 
-#[test]
-fn takes_another_local_crate(rt: HostRuntime) {
-    let cx = each_declared(&rt, rt.alloc(), ABOVE);
-    holds(
-        &rt,
-        !cx.foreign_is_local(ForeignId(0)),
-        "of the first crate",
-    );
-    holds(
-        &rt,
-        cx.foreign_is_local(ForeignId(4)),
-        "of the second crate",
-    );
-    holds(&rt, cx.adt_is_local(AdtId(6)), "a local type");
-    holds(
-        &rt,
-        !cx.trait_is_local(TraitId(7)),
-        "a trait of another crate",
-    );
+/// The list.
+pub fn args(rt: &impl Abort, cx: &mut Cx, list: &[GenericArg]) -> Args
+    requires { ListFits cx.old.trees list.now }
+    ensures grows { Grows cx.old cx.new }
+    ensures sort { IsArgs cx.new.trees result }
+{
+    cx.mk_args(list).expect(rt, "a list")
 }
 
-/// Declares a foreign type, a type, a trait, an item of the definition of that number, and a trait more.
-fn declare_item(builder: &mut DeclsBuilder, of: TraitId, kind: AssocKind) -> Result<(), DeclFault> {
-    let krate = builder.add_crate()?;
-    builder.add_foreign(krate)?;
-    builder.add_adt(krate, AdtShape::Struct, &[], AdtFlags::default())?;
-    builder.add_trait(krate, &[], TraitFlags::default())?;
-    builder.add_assoc(of, kind, false)?;
-    builder.add_trait(krate, &[], TraitFlags::default())?;
-    Ok(())
+/// The variables of a binder.
+pub fn variables(rt: &impl Abort, cx: &mut Cx, kinds: &[VarKind]) -> Vars
+    ensures grows { Grows cx.old cx.new }
+    ensures sort { IsVars cx.new.trees result }
+{
+    cx.mk_vars(kinds).expect(rt, "variables")
 }
 
-/// The fault of a builder with these.
-fn fault_of_item(
-    rt: &impl Abort,
-    alloc: Global,
-    of: TraitId,
-    kind: AssocKind,
-) -> Option<DeclFault> {
-    let mut builder = DeclsBuilder::new(alloc);
-    declare_item(&mut builder, of, kind).expect(rt, "memory");
-    builder.finish().err()
+/// The bounds of a `dyn` type.
+pub fn bounds(rt: &impl Abort, cx: &mut Cx, list: &[Binder<ExistentialPredicate>]) -> Preds
+    requires fit { BoundsFit cx.old.trees list.now }
+    requires principal { AtMostOnePrincipal list.now }
+    ensures grows { Grows cx.old cx.new }
+    ensures sort { IsPreds cx.new.trees result }
+{
+    cx.mk_preds(list).expect(rt, "bounds")
 }
 
-#[test]
-fn refuses_items_of_no_trait(rt: HostRuntime) {
-    for of in [0, 1, 2, 3, 4, 9] {
-        let want = if of == 2 {
-            None
-        } else {
-            Some(DeclFault::UnknownId)
-        };
-        let of_type = fault_of_item(&rt, rt.alloc(), TraitId(of), AssocKind::Type);
-        equals(&rt, &of_type, &want, "an associated type");
-        let of_const = fault_of_item(&rt, rt.alloc(), TraitId(of), AssocKind::Const);
-        equals(&rt, &of_const, &want, "an associated constant");
+/// The signature of a closure.
+pub fn signature(rt: &impl Abort, cx: &mut Cx, sig: Binder<ClosureSig>) -> Sig
+    requires { SigFits cx.old.trees sig }
+    ensures grows { Grows cx.old cx.new }
+    ensures sort { IsSig cx.new.trees result }
+{
+    cx.mk_sig(sig).expect(rt, "a signature")
+}
+
+/// The clause under its binder.
+pub fn clause(rt: &impl Abort, cx: &mut Cx, kind: Binder<ClauseKind>) -> Clause
+    requires { ClauseFits cx.old.trees kind }
+    ensures grows { Grows cx.old cx.new }
+    ensures sort { IsClause cx.new.trees result }
+{
+    cx.mk_clause(kind).expect(rt, "a clause")
+}
+
+/// The environment of the clauses.
+pub fn environment(rt: &impl Abort, cx: &mut Cx, clauses: &[Clause]) -> ParamEnv
+    requires { ClauseListFits cx.old.trees clauses.now }
+    ensures grows { Grows cx.old cx.new }
+    ensures sort { IsParamEnv cx.new.trees result }
+{
+    cx.mk_param_env(clauses).expect(rt, "an environment")
+}
+
+/// The data type with these arguments.
+pub fn adt(rt: &impl Abort, cx: &mut Cx, id: AdtId, list: &[GenericArg]) -> Ty
+    requires { ListFits cx.old.trees list.now }
+    ensures grows { Grows cx.old cx.new }
+    ensures sort { IsTy cx.new.trees result }
+{
+    let args = args(rt, cx, list);
+    ty(rt, cx, TyKind::Adt(id, args))
+}
+
+/// Adds the argument to the list.
+pub fn push_arg(rt: &impl Abort, list: &mut Vec<GenericArg>, arg: GenericArg)
+    ensures { list.new.items ≡ list.old.items ++ arg ∷ [] }
+{
+    list.push(arg).expect(rt, "memory");
+}
+
+/// The list of the types of these kinds.
+pub fn list(rt: &impl Abort, alloc: Global, cx: &mut Cx, kinds: &[TyKind]) -> Args
+    requires { AreKinds cx.old.trees kinds.now }
+    ensures grows { Grows cx.old cx.new }
+    ensures sort { IsArgs cx.new.trees result }
+{
+    let mut list = Vec::new(alloc);
+    for kind in kinds {
+        let ty = ty(rt, cx, *kind);
+        push_arg(rt, &mut list, GenericArg::Ty(ty));
     }
+    args(rt, cx, list.as_slice())
 }
 
-/// The fault of a builder with one crate and the type.
-fn fault_of_adt(
-    rt: &impl Abort,
-    alloc: Global,
-    krate: CrateId,
-    parameters: &[VarKind],
-    flags: AdtFlags,
-) -> Option<DeclFault> {
-    let mut builder = DeclsBuilder::new(alloc);
-    builder.add_crate().expect(rt, "a crate");
-    builder
-        .add_adt(krate, AdtShape::Struct, parameters, flags)
-        .expect(rt, "a data type");
-    builder.finish().err()
+fn push_ty(rt: &impl Abort, list: &mut Vec<Ty>, ty: Ty)
+    ensures { list.new.items ≡ list.old.items ++ ty ∷ [] }
+{
+    list.push(ty).expect(rt, "memory");
 }
 
-/// The fault of a builder with one crate and the trait.
-fn fault_of_trait(
-    rt: &impl Abort,
-    alloc: Global,
-    krate: CrateId,
-    parameters: &[VarKind],
-    flags: TraitFlags,
-) -> Option<DeclFault> {
-    let mut builder = DeclsBuilder::new(alloc);
-    builder.add_crate().expect(rt, "a crate");
-    builder
-        .add_trait(krate, parameters, flags)
-        .expect(rt, "a trait");
-    builder.finish().err()
-}
-
-/// The number of a crate, the parameters of a type or a trait of it, whether it is a marker type or
-/// an auto trait, and the faults of the type and of the trait.
-#[derive(Clone, Copy)]
-struct Faults<'a> {
-    krate: u32,
-    parameters: &'a [VarKind],
-    is_marked: bool,
-    of_adt: Option<DeclFault>,
-    of_trait: Option<DeclFault>,
-}
-
-const ARITY: Option<DeclFault> = Some(DeclFault::WrongArity);
-
-const UNKNOWN: Option<DeclFault> = Some(DeclFault::UnknownId);
-
-#[test]
-fn answers_the_lowest_fault(rt: HostRuntime) {
-    let rows = [
-        Faults {
-            krate: 0,
-            parameters: &[],
-            is_marked: false,
-            of_adt: None,
-            of_trait: None,
-        },
-        Faults {
-            krate: 0,
-            parameters: &[VarKind::Ty],
-            is_marked: false,
-            of_adt: None,
-            of_trait: None,
-        },
-        Faults {
-            krate: 0,
-            parameters: &[VarKind::Ty],
-            is_marked: true,
-            of_adt: None,
-            of_trait: ARITY,
-        },
-        Faults {
-            krate: 0,
-            parameters: &[],
-            is_marked: true,
-            of_adt: ARITY,
-            of_trait: None,
-        },
-        Faults {
-            krate: 0,
-            parameters: &[VarKind::Region, VarKind::Ty],
-            is_marked: true,
-            of_adt: ARITY,
-            of_trait: ARITY,
-        },
-        Faults {
-            krate: 1,
-            parameters: &[],
-            is_marked: false,
-            of_adt: UNKNOWN,
-            of_trait: UNKNOWN,
-        },
-        Faults {
-            krate: 1,
-            parameters: &[VarKind::Const],
-            is_marked: true,
-            of_adt: UNKNOWN,
-            of_trait: UNKNOWN,
-        },
-    ];
-    for (row, faults) in rows.iter().enumerate() {
-        check_faults(&rt, rt.alloc(), faults, row);
+/// The types of these kinds.
+pub fn types(rt: &impl Abort, alloc: Global, cx: &mut Cx, kinds: &[TyKind]) -> Vec<Ty>
+    requires { AreKinds cx.old.trees kinds.now }
+    ensures grows { Grows cx.old cx.new }
+    ensures sort { All (IsTy cx.new.trees) result.items }
+{
+    let mut types = Vec::new(alloc);
+    for kind in kinds {
+        let ty = ty(rt, cx, *kind);
+        push_ty(rt, &mut types, ty);
     }
-}
-
-fn check_faults(rt: &impl Abort, alloc: Global, faults: &Faults<'_>, row: usize) {
-    let krate = CrateId(faults.krate);
-    let flags = AdtFlags {
-        phantom_data: faults.is_marked,
-        ..AdtFlags::default()
-    };
-    let of_adt = fault_of_adt(rt, alloc, krate, faults.parameters, flags);
-    equals_in_row(rt, &of_adt, &faults.of_adt, row);
-    let flags = TraitFlags {
-        auto: faults.is_marked,
-        ..TraitFlags::default()
-    };
-    let of_trait = fault_of_trait(rt, alloc, krate, faults.parameters, flags);
-    equals_in_row(rt, &of_trait, &faults.of_trait, row);
-}
-
-#[test]
-fn refuses_an_unknown_local_crate(rt: HostRuntime) {
-    let none = DeclsBuilder::new(rt.alloc());
-    equals(&rt, &none.finish().err(), &UNKNOWN, "no crate");
-    let mut builder = DeclsBuilder::new(rt.alloc());
-    builder.add_crate().expect(&rt, "a crate");
-    builder.set_local(ABOVE);
-    equals(&rt, &builder.finish().err(), &UNKNOWN, "another crate");
+    types
 }

@@ -6,9 +6,10 @@ ghost use Rattle.candidate_ir.specs.Words.{IsTy, IsArgs};
 ghost use Rattle.candidate_eval.specs.Answers.{AreAnswerTypes};
 
 use crate::asserts::{equals, equals_in_row, holds};
+use crate::builders::args;
 use crate::samples::{
-    BOX, FUNDAMENTAL_TRAIT, LOCAL_TRAIT, LOCAL_TYPE, Named, TRAIT, TRAIT1, TRAIT2, VEC, args,
-    declared, sample, trait_ref,
+    BOX, FUNDAMENTAL_TRAIT, LOCAL_TRAIT, LOCAL_TYPE, Named, TRAIT, TRAIT1, TRAIT2, VEC, declared,
+    sample, trait_ref,
 };
 use crate::values::ValuedContext;
 use candidate_eval::coherence::{

@@ -2,11 +2,12 @@
 
 ghost use Rattle.std.specs.Prelude.{◌≡◌};
 ghost use Rattle.candidate_ir.specs.Context.{Grows};
-ghost use Rattle.candidate_ir.specs.Words.{IsTy, IsArgs, IsRegion, IsVars, IsClause, IsParamEnv, ClauseFits, ClauseListFits};
+ghost use Rattle.candidate_ir.specs.Words.{IsTy, IsArgs, IsRegion, IsVars, IsClause, IsParamEnv};
 
 use crate::asserts::{equals, equals_in_row, holds};
-use crate::parts::{Parts, make_parts, region, variables};
-use crate::samples::{LOCAL_TRAIT, OUT, TRAIT, args, constant, declared, ty};
+use crate::builders::{self, args, constant, environment, region, ty, variables};
+use crate::parts::{Parts, make_parts};
+use crate::samples::{LOCAL_TRAIT, OUT, TRAIT, declared};
 use candidate_ir::decl::context::Cx;
 use candidate_ir::ir::heads::Flag;
 use candidate_ir::ir::kinds::{
@@ -16,14 +17,6 @@ use candidate_ir::ir::kinds::{
 };
 use std::alloc::Global;
 use std::process::Abort;
-
-fn made(rt: &impl Abort, cx: &mut Cx, clause: Binder<ClauseKind>) -> Clause
-    requires { ClauseFits cx.old.trees clause }
-    ensures grows { Grows cx.old cx.new }
-    ensures sort { IsClause cx.new.trees result }
-{
-    cx.mk_clause(clause).expect(rt, "a clause")
-}
 
 /// That the trait holds of the list, or that it doesn't.
 fn of_trait(def_id: TraitId, args: Args, polarity: PredicatePolarity) -> ClauseKind
@@ -52,22 +45,17 @@ const CLAUSES: usize = 9;
 /// The clause of that row, under a binder of these variables.
 fn of_row(rt: &impl Abort, cx: &mut Cx, vars: Vars, parts: Parts, row: usize) -> Clause
     requires vars { IsVars cx.old.trees vars }
-    requires byte { IsTy cx.old.trees parts.byte }
-    requires text { IsTy cx.old.trees parts.text }
-    requires list { IsArgs cx.old.trees parts.list }
-    requires longest { IsRegion cx.old.trees parts.longest }
-    requires error { IsRegion cx.old.trees parts.error }
+    requires byte { IsTy cx.old.trees parts.types.byte }
+    requires text { IsTy cx.old.trees parts.types.text }
+    requires list { IsArgs cx.old.trees parts.lists.of_byte }
+    requires longest { IsRegion cx.old.trees parts.regions.longest }
+    requires error { IsRegion cx.old.trees parts.regions.error }
     ensures grows { Grows cx.old cx.new }
     ensures sort { IsClause cx.new.trees result }
 {
-    let Parts {
-        byte,
-        text,
-        list,
-        longest,
-        error,
-        ..
-    } = parts;
+    let list = parts.lists.of_byte;
+    let (byte, text) = (parts.types.byte, parts.types.text);
+    let (longest, error) = (parts.regions.longest, parts.regions.error);
     let value = match row {
         0 => of_trait(TRAIT, list, PredicatePolarity::Positive),
         1 => of_trait(TRAIT, list, PredicatePolarity::Negative),
@@ -79,25 +67,25 @@ fn of_row(rt: &impl Abort, cx: &mut Cx, vars: Vars, parts: Parts, row: usize) ->
         7 => ClauseKind::RegionOutlives(longest, error),
         _ => ClauseKind::RegionOutlives(error, longest),
     };
-    made(rt, cx, Binder { vars, value })
+    builders::clause(rt, cx, Binder { vars, value })
 }
 
 /// The clause of that row; the second half of the rows are under a binder of a region.
-fn clause(rt: &impl Abort, cx: &mut Cx, row: usize) -> Clause
+fn clause(rt: &impl Abort, alloc: Global, cx: &mut Cx, row: usize) -> Clause
     ensures grows { Grows cx.old cx.new }
     ensures sort { IsClause cx.new.trees result }
 {
-    let parts = make_parts(rt, cx);
+    let parts = make_parts(rt, alloc, cx);
     if row < CLAUSES {
-        of_row(rt, cx, parts.none, parts, row)
+        of_row(rt, cx, parts.binders.none, parts, row)
     } else {
-        of_row(rt, cx, parts.vars, parts, row - CLAUSES)
+        of_row(rt, cx, parts.binders.of_region, parts, row - CLAUSES)
     }
 }
 
-fn check_pair(rt: &impl Abort, cx: &mut Cx, first: usize, second: usize) {
-    let a = clause(rt, cx, first);
-    let b = clause(rt, cx, second);
+fn check_pair(rt: &impl Abort, alloc: Global, cx: &mut Cx, first: usize, second: usize) {
+    let a = clause(rt, alloc, cx, first);
+    let b = clause(rt, alloc, cx, second);
     equals_in_row(rt, &cx.same_clause(a, b), &(first == second), first);
 }
 
@@ -106,15 +94,15 @@ fn tells_clauses_apart(rt: HostRuntime) {
     let mut cx = declared(&rt, rt.alloc());
     for first in 0..2 * CLAUSES {
         for second in 0..2 * CLAUSES {
-            check_pair(&rt, &mut cx, first, second);
+            check_pair(&rt, rt.alloc(), &mut cx, first, second);
         }
     }
 }
 
-fn check_read_back(rt: &impl Abort, cx: &mut Cx, row: usize) {
-    let first = clause(rt, cx, row);
+fn check_read_back(rt: &impl Abort, alloc: Global, cx: &mut Cx, row: usize) {
+    let first = clause(rt, alloc, cx, row);
     let read = cx.clause(first);
-    let again = made(rt, cx, read);
+    let again = builders::clause(rt, cx, read);
     holds(rt, cx.same_clause(first, again), "what is read of a clause");
 }
 
@@ -122,36 +110,28 @@ fn check_read_back(rt: &impl Abort, cx: &mut Cx, row: usize) {
 fn reads_clauses_back(rt: HostRuntime) {
     let mut cx = declared(&rt, rt.alloc());
     for row in 0..2 * CLAUSES {
-        check_read_back(&rt, &mut cx, row);
+        check_read_back(&rt, rt.alloc(), &mut cx, row);
     }
-}
-
-fn env(rt: &impl Abort, cx: &mut Cx, clauses: &[Clause]) -> ParamEnv
-    requires { ClauseListFits cx.old.trees clauses.now }
-    ensures grows { Grows cx.old cx.new }
-    ensures sort { IsParamEnv cx.new.trees result }
-{
-    cx.mk_param_env(clauses).expect(rt, "an environment")
 }
 
 /// None of two clauses, one, both, and both in the other order.
-fn env_of_row(rt: &impl Abort, cx: &mut Cx, row: usize) -> ParamEnv
+fn env_of_row(rt: &impl Abort, alloc: Global, cx: &mut Cx, row: usize) -> ParamEnv
     ensures grows { Grows cx.old cx.new }
     ensures sort { IsParamEnv cx.new.trees result }
 {
-    let first = clause(rt, cx, 0);
-    let second = clause(rt, cx, 5);
+    let first = clause(rt, alloc, cx, 0);
+    let second = clause(rt, alloc, cx, 5);
     match row {
-        0 => env(rt, cx, &[]),
-        1 => env(rt, cx, &[first]),
-        2 => env(rt, cx, &[first, second]),
-        _ => env(rt, cx, &[second, first]),
+        0 => environment(rt, cx, &[]),
+        1 => environment(rt, cx, &[first]),
+        2 => environment(rt, cx, &[first, second]),
+        _ => environment(rt, cx, &[second, first]),
     }
 }
 
-fn check_envs(rt: &impl Abort, cx: &mut Cx, first: usize, second: usize) {
-    let a = env_of_row(rt, cx, first);
-    let b = env_of_row(rt, cx, second);
+fn check_envs(rt: &impl Abort, alloc: Global, cx: &mut Cx, first: usize, second: usize) {
+    let a = env_of_row(rt, alloc, cx, first);
+    let b = env_of_row(rt, alloc, cx, second);
     equals_in_row(rt, &cx.same_env(a, b), &(first == second), first);
     equals_in_row(rt, &cx.param_env(a).len(), &first.min(2), first);
 }
@@ -161,7 +141,7 @@ fn makes_environments(rt: HostRuntime) {
     let mut cx = declared(&rt, rt.alloc());
     for first in 0..4 {
         for second in 0..4 {
-            check_envs(&rt, &mut cx, first, second);
+            check_envs(&rt, rt.alloc(), &mut cx, first, second);
         }
     }
 }
@@ -188,20 +168,20 @@ fn bind(rt: &impl Abort, cx: &mut Cx, value: Ty) -> Ty
 
 /// That the type outlives the region, under a binder.
 fn outlives(rt: &impl Abort, cx: &mut Cx, parts: Parts, ty: Ty) -> Clause
-    requires vars { IsVars cx.old.trees parts.vars }
-    requires longest { IsRegion cx.old.trees parts.longest }
+    requires vars { IsVars cx.old.trees parts.binders.of_region }
+    requires longest { IsRegion cx.old.trees parts.regions.longest }
     requires ty { IsTy cx.old.trees ty }
     ensures grows { Grows cx.old cx.new }
     ensures sort { IsClause cx.new.trees result }
 {
-    let value = ClauseKind::TypeOutlives(ty, parts.longest);
-    let vars = parts.vars;
-    made(rt, cx, Binder { vars, value })
+    let value = ClauseKind::TypeOutlives(ty, parts.regions.longest);
+    let vars = parts.binders.of_region;
+    builders::clause(rt, cx, Binder { vars, value })
 }
 
-fn check_escapes(rt: &impl Abort, cx: &mut Cx, depth: u32) {
-    let parts = make_parts(rt, cx);
-    let reference = bound_reference(rt, cx, parts.byte, depth);
+fn check_escapes(rt: &impl Abort, alloc: Global, cx: &mut Cx, depth: u32) {
+    let parts = make_parts(rt, alloc, cx);
+    let reference = bound_reference(rt, cx, parts.types.byte, depth);
     holds(rt, cx.has_escaping_bound_vars(reference), "a bound region");
     let clause = outlives(rt, cx, parts, reference);
     let escapes = cx.clause_has_escaping_bound_vars(clause);
@@ -217,20 +197,20 @@ fn check_escapes(rt: &impl Abort, cx: &mut Cx, depth: u32) {
 #[test]
 fn finds_escaping_variables(rt: HostRuntime) {
     let mut cx = declared(&rt, rt.alloc());
-    check_escapes(&rt, &mut cx, 0);
-    check_escapes(&rt, &mut cx, 1);
+    check_escapes(&rt, rt.alloc(), &mut cx, 0);
+    check_escapes(&rt, rt.alloc(), &mut cx, 1);
     let byte = ty(&rt, &mut cx, TyKind::Uint(UintTy::U8));
     holds(&rt, !cx.has_escaping_bound_vars(byte), "a byte");
 }
 
 /// A parameter is found in a clause, in an environment and in a constant.
-fn check_flags(rt: &impl Abort, cx: &mut Cx) {
-    let parts = make_parts(rt, cx);
+fn check_flags(rt: &impl Abort, alloc: Global, cx: &mut Cx) {
+    let parts = make_parts(rt, alloc, cx);
     let param = ty(rt, cx, TyKind::Param(0));
     let clause = outlives(rt, cx, parts, param);
     holds(rt, cx.clause_has(clause, Flag::Param), "a parameter");
     holds(rt, !cx.clause_has(clause, Flag::TyInfer), "no variable");
-    let env = env(rt, cx, &[clause]);
+    let env = environment(rt, cx, &[clause]);
     holds(rt, cx.env_has(env, Flag::Param), "a parameter assumed");
     holds(rt, !cx.env_has(env, Flag::Error), "no error");
     let constant = constant(rt, cx, ConstKind::Param(0));
@@ -241,7 +221,7 @@ fn check_flags(rt: &impl Abort, cx: &mut Cx) {
 #[test]
 fn says_what_stands_in_clauses(rt: HostRuntime) {
     let mut cx = declared(&rt, rt.alloc());
-    check_flags(&rt, &mut cx);
+    check_flags(&rt, rt.alloc(), &mut cx);
 }
 
 /// Two constants are equal by their numbers.

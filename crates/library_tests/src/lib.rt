@@ -4,6 +4,8 @@
 #[cfg(test)]
 mod asserts;
 #[cfg(test)]
+mod bounds;
+#[cfg(test)]
 mod builders;
 #[cfg(test)]
 mod checks;
@@ -14,11 +16,11 @@ mod clients;
 #[cfg(test)]
 mod contexts;
 #[cfg(test)]
+mod declarations;
+#[cfg(test)]
 mod every_kind;
 #[cfg(test)]
 mod flags;
-#[cfg(test)]
-mod kinds;
 #[cfg(test)]
 mod normalisers;
 #[cfg(test)]

@@ -1,15 +1,15 @@
 //! Declarations, and types over them.
 
-ghost use Rattle.std.specs.Prelude.{◌≡◌, [], ◌∷◌, ◌++◌};
 ghost use Rattle.candidate_ir.specs.Context.{Grows};
-ghost use Rattle.candidate_ir.specs.Words.{IsTy, IsConst, IsArgs, KindFits, ConstKindFits, ListFits};
+ghost use Rattle.candidate_ir.specs.Words.{IsTy, IsArgs};
 
-use candidate_ir::decl::builder::{DeclFault, DeclsBuilder};
+use crate::builders::{adt, args, push_arg, ty};
+use crate::declarations::{Item, context_of};
 use candidate_ir::decl::context::Cx;
 use candidate_ir::decl::definition::{AdtFlags, AdtShape, AssocKind, TraitFlags};
 use candidate_ir::ir::kinds::{
-    AdtId, AliasTy, Args, AssocId, Const, ConstKind, GenericArg, InferTy, TraitId, TraitRef, Ty,
-    TyKind, UintTy, VarKind,
+    AdtId, AliasId, AliasTy, AssocId, ClosureId, FnId, ForeignId, GenericArg, InferTy, TraitId,
+    TraitRef, Ty, TyKind, UintTy, VarKind,
 };
 use std::alloc::Global;
 use std::process::Abort;
@@ -33,73 +33,60 @@ pub const FUNDAMENTAL_TRAIT: TraitId = TraitId(7);
 /// An associated type of the first trait.
 pub const OUT: AssocId = AssocId(8);
 
+/// Data types with a constant and with a region for their parameter.
+pub const BUFFER: AdtId = AdtId(9);
+
+pub const GUARD: AdtId = AdtId(10);
+
+/// An associated constant of the first trait.
+pub const LENGTH: AssocId = AssocId(11);
+
+pub const FOREIGN: ForeignId = ForeignId(12);
+
+// Definitions that can't be declared yet.
+
+pub const FN: FnId = FnId(1);
+
+pub const OTHER_FN: FnId = FnId(2);
+
+pub const CLOSURE: ClosureId = ClosureId(1);
+
+pub const OPAQUE: AliasId = AliasId(8);
+
+pub const INHERENT: AliasId = AliasId(8);
+
+pub const FREE: AliasId = AliasId(8);
+
 /// The local crate, and one above it with the types `Vec` and `Box` and the traits.
 pub fn declared(rt: &impl Abort, alloc: Global) -> Cx {
-    let mut builder = DeclsBuilder::new(alloc);
-    declare(&mut builder).expect(rt, "memory");
-    Cx::new(builder.finish().expect(rt, "no fault"))
-}
-
-fn declare(builder: &mut DeclsBuilder) -> Result<(), DeclFault> {
-    let local = builder.add_crate()?;
-    let above = builder.add_crate()?;
-    let flags = AdtFlags::default();
+    let (plain, plain_trait) = (AdtFlags::default(), TraitFlags::default());
     let fundamental = AdtFlags {
         fundamental: true,
-        ..flags
+        ..plain
     };
-    builder.add_adt(above, AdtShape::Struct, &[VarKind::Ty], flags)?;
-    builder.add_adt(above, AdtShape::Struct, &[VarKind::Ty], fundamental)?;
-    builder.add_adt(local, AdtShape::Struct, &[], flags)?;
-    let flags = TraitFlags::default();
-    let fundamental = TraitFlags {
+    let fundamental_trait = TraitFlags {
         fundamental: true,
-        ..flags
+        ..plain_trait
     };
-    builder.add_trait(above, &[], flags)?;
-    builder.add_trait(above, &[VarKind::Ty], flags)?;
-    builder.add_trait(above, &[VarKind::Ty, VarKind::Ty], flags)?;
-    builder.add_trait(local, &[], flags)?;
-    builder.add_trait(above, &[], fundamental)?;
-    builder.add_assoc(TRAIT, AssocKind::Type, false)?;
-    Ok(())
-}
-
-/// The type of that kind.
-pub fn ty(rt: &impl Abort, cx: &mut Cx, kind: TyKind) -> Ty
-    requires { KindFits cx.old.trees kind }
-    ensures grows { Grows cx.old cx.new }
-    ensures sort { IsTy cx.new.trees result }
-{
-    cx.mk_ty(kind).expect(rt, "a type")
-}
-
-/// The constant of that kind.
-pub fn constant(rt: &impl Abort, cx: &mut Cx, kind: ConstKind) -> Const
-    requires { ConstKindFits cx.old.trees kind }
-    ensures grows { Grows cx.old cx.new }
-    ensures sort { IsConst cx.new.trees result }
-{
-    cx.mk_const(kind).expect(rt, "a constant")
-}
-
-/// The list.
-pub fn args(rt: &impl Abort, cx: &mut Cx, list: &[GenericArg]) -> Args
-    requires { ListFits cx.old.trees list.now }
-    ensures grows { Grows cx.old cx.new }
-    ensures sort { IsArgs cx.new.trees result }
-{
-    cx.mk_args(list).expect(rt, "a list")
-}
-
-/// The data type with these arguments.
-pub fn adt(rt: &impl Abort, cx: &mut Cx, id: AdtId, list: &[GenericArg]) -> Ty
-    requires { ListFits cx.old.trees list.now }
-    ensures grows { Grows cx.old cx.new }
-    ensures sort { IsTy cx.new.trees result }
-{
-    let args = args(rt, cx, list);
-    ty(rt, cx, TyKind::Adt(id, args))
+    let shape = AdtShape::Struct;
+    let items = [
+        Item::Crate,
+        Item::Crate,
+        Item::Adt(1, shape, &[VarKind::Ty], plain),
+        Item::Adt(1, shape, &[VarKind::Ty], fundamental),
+        Item::Adt(0, shape, &[], plain),
+        Item::Trait(1, &[], plain_trait),
+        Item::Trait(1, &[VarKind::Ty], plain_trait),
+        Item::Trait(1, &[VarKind::Ty, VarKind::Ty], plain_trait),
+        Item::Trait(0, &[], plain_trait),
+        Item::Trait(1, &[], fundamental_trait),
+        Item::Assoc(TRAIT, AssocKind::Type, false),
+        Item::Adt(1, shape, &[VarKind::Const], plain),
+        Item::Adt(1, shape, &[VarKind::Region], plain),
+        Item::Assoc(TRAIT, AssocKind::Const, false),
+        Item::Foreign(1),
+    ];
+    context_of(rt, alloc, &items, 0)
 }
 
 /// The variable with the number 0.
@@ -157,12 +144,6 @@ pub fn sample(rt: &impl Abort, cx: &mut Cx, named: Named) -> Ty
     }
 }
 
-fn push_ty(rt: &impl Abort, list: &mut Vec<GenericArg>, ty: Ty)
-    ensures { list.new.items ≡ list.old.items ++ GenericArg.Ty ty ∷ [] }
-{
-    list.push(GenericArg::Ty(ty)).expect(rt, "memory");
-}
-
 /// The trait with these types. It holds no parameter.
 pub fn trait_ref(
     rt: &impl Abort,
@@ -177,7 +158,7 @@ pub fn trait_ref(
     let mut list = Vec::new(alloc);
     for name in types {
         let ty = sample(rt, cx, *name);
-        push_ty(rt, &mut list, ty);
+        push_arg(rt, &mut list, GenericArg::Ty(ty));
     }
     let args = args(rt, cx, list.as_slice());
     TraitRef { def_id, args }

@@ -6,7 +6,7 @@ use Rattle.library_tests.proofs.samples.trait_ref.Goals as goal
 
 pub loop-name-preserved : goal.loop-name-preserved
 loop-name-preserved g c =
-    let one_more : c.push_ty.new.list.items ≡ c.loop-name.list.items ++ A.Ty c.sample-ty.result ∷ [] = c.push_ty.ensures in
+    let one_more : c.push_arg.new.list.items ≡ c.loop-name.list.items ++ A.Ty c.sample-ty.result ∷ [] = c.push_arg.ensures in
     record {
       grows = grows-trans _ _ _ c.loop-name.invariant.grows c.sample-ty.ensures.grows;
       fits = rw one_more
