@@ -1,15 +1,17 @@
 //! What makes the nodes of the tests: a call for each sort of node, and calls that make many.
 
-ghost use Rattle.std.specs.Prelude.{◌≡◌, [], ◌∷◌, ◌++◌, All};
+ghost use Rattle.std.specs.Prelude.{◌≡◌, [], ◌∷◌, ◌++◌, All, IfOk};
 ghost use Rattle.candidate_ir.specs.Context.{Grows};
 ghost use Rattle.candidate_ir.specs.Words.{IsTy, IsConst, IsRegion, IsArgs, IsVars, IsPreds, IsSig, IsClause, IsParamEnv, KindFits, ConstKindFits, ListFits, BoundsFit, AtMostOnePrincipal, SigFits, ClauseFits, ClauseListFits};
 ghost use Rattle.library_tests.specs.Pieces.{AreKinds};
 
+use crate::asserts::holds;
 use candidate_ir::decl::context::Cx;
 use candidate_ir::ir::kinds::{
     AdtId, Args, Binder, Clause, ClauseKind, ClosureSig, Const, ConstKind, ExistentialPredicate,
     GenericArg, ParamEnv, Preds, Region, RegionKind, Sig, Ty, TyKind, VarKind, Vars,
 };
+use candidate_ir::ir::stop::Stop;
 use std::alloc::Global;
 use std::process::Abort;
 
@@ -19,7 +21,17 @@ pub fn ty(rt: &impl Abort, cx: &mut Cx, kind: TyKind) -> Ty
     ensures grows { Grows cx.old cx.new }
     ensures sort { IsTy cx.new.trees result }
 {
-    cx.mk_ty(kind).expect(rt, "a type")
+    try_ty(rt, cx, kind).expect(rt, "a type")
+}
+
+/// The same, where the table may be full or the tree too high.
+pub fn try_ty(rt: &impl Abort, cx: &mut Cx, kind: TyKind) -> Result<Ty, Stop>
+    requires { KindFits cx.old.trees kind }
+    ensures grows { Grows cx.old cx.new }
+    ensures sort { IfOk result (λ ty. IsTy cx.new.trees ty) }
+{
+    holds(rt, cx.args_fit(kind), "a type's arguments");
+    cx.mk_ty(kind)
 }
 
 /// The constant of that kind.
@@ -28,6 +40,7 @@ pub fn constant(rt: &impl Abort, cx: &mut Cx, kind: ConstKind) -> Const
     ensures grows { Grows cx.old cx.new }
     ensures sort { IsConst cx.new.trees result }
 {
+    holds(rt, cx.const_args_fit(kind), "a constant's arguments");
     cx.mk_const(kind).expect(rt, "a constant")
 }
 
@@ -63,6 +76,7 @@ pub fn bounds(rt: &impl Abort, cx: &mut Cx, list: &[Binder<ExistentialPredicate>
     ensures grows { Grows cx.old cx.new }
     ensures sort { IsPreds cx.new.trees result }
 {
+    holds(rt, cx.bounds_args_fit(list), "the bounds' arguments");
     cx.mk_preds(list).expect(rt, "bounds")
 }
 
@@ -81,6 +95,7 @@ pub fn clause(rt: &impl Abort, cx: &mut Cx, kind: Binder<ClauseKind>) -> Clause
     ensures grows { Grows cx.old cx.new }
     ensures sort { IsClause cx.new.trees result }
 {
+    holds(rt, cx.clause_args_fit(kind), "a clause's arguments");
     cx.mk_clause(kind).expect(rt, "a clause")
 }
 

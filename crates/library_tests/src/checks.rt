@@ -152,6 +152,8 @@ fn orphan_said<C: InferCtxtLike>(
 {
     let has_param = infcx.cx().has_param(trait_ref);
     holds(rt, !has_param, "no parameter");
+    let fits = infcx.cx().trait_ref_args_fit(trait_ref);
+    holds(rt, fits, "arguments that fit");
     let checked = orphan_check_trait_ref(
         alloc,
         infcx,
@@ -344,6 +346,8 @@ fn known<C: InferCtxtLike>(
 {
     let has_param = infcx.cx().has_param(trait_ref);
     holds(rt, !has_param, "no parameter");
+    let fits = infcx.cx().trait_ref_args_fit(trait_ref);
+    holds(rt, fits, "arguments that fit");
     trait_ref_is_knowable(
         alloc,
         infcx,

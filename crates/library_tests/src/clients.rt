@@ -2,7 +2,7 @@
 
 ghost use Rattle.std.specs.Prelude.{◌≡◌, IfOk, Ok, true};
 ghost use Rattle.candidate_eval.specs.Calls.{NoUnnamedHeaderHere};
-ghost use Rattle.candidate_ir.specs.References.{IsReference, IsWellFormed};
+ghost use Rattle.candidate_ir.specs.References.{ArgumentsFit};
 ghost use Rattle.candidate_ir.specs.Words.{IsArgs};
 
 use crate::asserts::{equals, holds};
@@ -18,9 +18,8 @@ use std::convert::Infallible;
 /// `Vec<LocalType>: From<Vec<LocalType>>`.
 #[tactic(auto, using(candidate_ir::proofs::Made::making))]
 fn vec_from_vec(declared: &mut Declared) -> Result<TraitRef, Stop>
-    requires { IsWellFormed declared.old.cx }
     ensures sort { IfOk result (λ r. IsArgs declared.new.cx.trees r.args) }
-    ensures reference { IfOk result (λ r. IsReference declared.new.cx r) }
+    ensures fit { IfOk result (λ r. ArgumentsFit declared.new.cx r) }
 {
     let cx = &mut declared.cx;
     let local = adt(cx, declared.local_type, &[])?;
@@ -41,7 +40,7 @@ fn all_known(
     trait_ref: TraitRef,
 ) -> Result<bool, OrphanStop<Infallible>>
     requires sort { IsArgs cx.old.trees trait_ref.args }
-    requires reference { IsReference cx.old trait_ref }
+    requires fit { ArgumentsFit cx.old trait_ref }
     ensures { result ≡ Ok true → NoUnnamedHeaderHere cx.old trait_ref }
 {
     if cx.has_param(trait_ref) || cx.args_have(trait_ref.args, Flag::Alias) {

@@ -4,7 +4,7 @@ ghost use Rattle.std.specs.Prelude.{IfOk};
 ghost use Rattle.candidate_ir.specs.Words.{IsTy, IsArgs, ConstKindFits};
 
 use crate::asserts::{equals, holds};
-use crate::builders::{args, constant, push_arg, ty};
+use crate::builders::{args, constant, push_arg, try_ty, ty};
 use crate::parts::make_parts;
 use crate::samples::{BOX, TRAIT, declared};
 use candidate_ir::decl::context::Cx;
@@ -103,37 +103,37 @@ fn reads_back<M: Make>(maker: &mut M) -> Result<bool, Stop> {
 }
 
 /// A type of that height, by slices of `u8`.
-fn of_height(cx: &mut Cx, height: u16) -> Result<Ty, Stop>
+fn of_height(rt: &impl Abort, cx: &mut Cx, height: u16) -> Result<Ty, Stop>
     ensures { IfOk result (λ ty. IsTy cx.new.trees ty) }
 {
-    let mut ty = cx.mk_ty(TyKind::Uint(UintTy::U8))?;
+    let mut ty = try_ty(rt, cx, TyKind::Uint(UintTy::U8))?;
     for _ in 1..height {
-        ty = cx.mk_ty(TyKind::Slice(ty))?;
+        ty = try_ty(rt, cx, TyKind::Slice(ty))?;
     }
     Ok(ty)
 }
 
 /// A list of a type of that height.
-fn list_of_height(cx: &mut Cx, height: u16) -> Result<Args, Stop>
+fn list_of_height(rt: &impl Abort, cx: &mut Cx, height: u16) -> Result<Args, Stop>
     ensures { IfOk result (λ args. IsArgs cx.new.trees args) }
 {
-    let ty = of_height(cx, height)?;
+    let ty = of_height(rt, cx, height)?;
     cx.mk_args(&[GenericArg::Ty(ty)])
 }
 
 /// A tuple of a type of that height.
-fn tuple_over(cx: &mut Cx, height: u16) -> Result<Ty, Stop> {
-    let list = list_of_height(cx, height)?;
-    cx.mk_ty(TyKind::Tuple(list))
+fn tuple_over(rt: &impl Abort, cx: &mut Cx, height: u16) -> Result<Ty, Stop> {
+    let list = list_of_height(rt, cx, height)?;
+    try_ty(rt, cx, TyKind::Tuple(list))
 }
 
 /// The highest type and the highest tuple, and those that are too high.
 fn check_heights(rt: &impl Abort, cx: &mut Cx) {
     let too_high = Err(Stop::NodesFull);
-    holds(rt, of_height(cx, 1024).is_ok(), "the highest tree");
-    equals(rt, &of_height(cx, 1025), &too_high, "a higher one");
-    holds(rt, tuple_over(cx, 1023).is_ok(), "the highest tuple");
-    equals(rt, &tuple_over(cx, 1024), &too_high, "a higher tuple");
+    holds(rt, of_height(rt, cx, 1024).is_ok(), "the highest tree");
+    equals(rt, &of_height(rt, cx, 1025), &too_high, "a higher one");
+    holds(rt, tuple_over(rt, cx, 1023).is_ok(), "the highest tuple");
+    equals(rt, &tuple_over(rt, cx, 1024), &too_high, "a higher tuple");
 }
 
 #[test]

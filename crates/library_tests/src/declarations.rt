@@ -3,7 +3,9 @@
 use crate::asserts::{equals, equals_in_row, holds};
 use candidate_ir::decl::builder::{DeclFault, DeclsBuilder};
 use candidate_ir::decl::context::Cx;
-use candidate_ir::decl::definition::{AdtFlags, AdtShape, AssocKind, CrateId, TraitFlags};
+use candidate_ir::decl::definition::{
+    AdtFlags, AdtShape, AliasShape, AssocKind, CrateId, FnFlags, TraitFlags,
+};
 use candidate_ir::ir::kinds::{AdtId, ForeignId, TraitId, VarKind};
 use std::alloc::Global;
 use std::process::Abort;
@@ -16,6 +18,10 @@ pub enum Item<'a> {
     Foreign(u32),
     Trait(u32, &'a [VarKind], TraitFlags),
     Assoc(TraitId, AssocKind, bool),
+    Alias(u32, AliasShape, &'a [VarKind]),
+    Opaque(u32, &'a [VarKind]),
+    Function(u32, &'a [VarKind]),
+    Closure(u32, &'a [VarKind]),
 }
 
 /// Adds it; the result is its number.
@@ -37,6 +43,22 @@ fn add(rt: &impl Abort, builder: &mut DeclsBuilder, item: Item<'_>) -> u32 {
         Item::Assoc(of, kind, requires_sized_self) => {
             let added = builder.add_assoc(of, kind, requires_sized_self);
             added.expect(rt, "an associated item").0
+        }
+        Item::Alias(krate, shape, parameters) => {
+            let added = builder.add_alias(CrateId(krate), shape, parameters);
+            added.expect(rt, "an alias").0
+        }
+        Item::Opaque(krate, parameters) => {
+            let added = builder.add_opaque(CrateId(krate), parameters);
+            added.expect(rt, "an opaque type").0
+        }
+        Item::Function(krate, parameters) => {
+            let added = builder.add_fn(CrateId(krate), parameters, FnFlags::default());
+            added.expect(rt, "a function").0
+        }
+        Item::Closure(krate, parameters) => {
+            let added = builder.add_closure(CrateId(krate), parameters, FnFlags::default());
+            added.expect(rt, "a closure").0
         }
     }
 }
@@ -77,6 +99,10 @@ fn each_declared(rt: &impl Abort, alloc: Global, local: u32) -> Cx {
         Item::Adt(0, AdtShape::Union, &[], flags),
         Item::Adt(1, AdtShape::Enum, &[], flags),
         Item::Trait(0, &[VarKind::Region], trait_flags),
+        Item::Alias(0, AliasShape::Inherent, &[]),
+        Item::Opaque(1, &[VarKind::Ty]),
+        Item::Function(0, &[VarKind::Const]),
+        Item::Closure(1, &[]),
     ];
     check_numbers(rt, alloc, &items);
     context_of(rt, alloc, &items, local)
@@ -95,7 +121,7 @@ fn check_numbers(rt: &impl Abort, alloc: Global, items: &[Item<'_>]) {
 fn check_first_is_local(rt: &impl Abort, cx: &Cx) {
     holds(rt, cx.foreign_is_local(ForeignId(0)), "of the local crate");
     holds(rt, !cx.foreign_is_local(ForeignId(4)), "of another crate");
-    holds(rt, !cx.foreign_is_local(ForeignId(8)), "not declared");
+    holds(rt, !cx.foreign_is_local(ForeignId(12)), "not declared");
 }
 
 fn check_second_is_local(rt: &impl Abort, cx: &Cx) {

@@ -2,6 +2,8 @@
 #![tactic(auto)]
 
 #[cfg(test)]
+mod arity;
+#[cfg(test)]
 mod asserts;
 #[cfg(test)]
 mod bounds;

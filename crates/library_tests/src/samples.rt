@@ -6,7 +6,7 @@ ghost use Rattle.candidate_ir.specs.Words.{IsTy, IsArgs};
 use crate::builders::{adt, args, push_arg, ty};
 use crate::declarations::{Item, context_of};
 use candidate_ir::decl::context::Cx;
-use candidate_ir::decl::definition::{AdtFlags, AdtShape, AssocKind, TraitFlags};
+use candidate_ir::decl::definition::{AdtFlags, AdtShape, AliasShape, AssocKind, TraitFlags};
 use candidate_ir::ir::kinds::{
     AdtId, AliasId, AliasTy, AssocId, ClosureId, FnId, ForeignId, GenericArg, InferTy, TraitId,
     TraitRef, Ty, TyKind, UintTy, VarKind,
@@ -43,19 +43,18 @@ pub const LENGTH: AssocId = AssocId(11);
 
 pub const FOREIGN: ForeignId = ForeignId(12);
 
-// Definitions that can't be declared yet.
+pub const FN: FnId = FnId(13);
 
-pub const FN: FnId = FnId(1);
+pub const OTHER_FN: FnId = FnId(14);
 
-pub const OTHER_FN: FnId = FnId(2);
+pub const CLOSURE: ClosureId = ClosureId(15);
 
-pub const CLOSURE: ClosureId = ClosureId(1);
+pub const OPAQUE: AliasId = AliasId(16);
 
-pub const OPAQUE: AliasId = AliasId(8);
+/// An alias that may be named by either word, so that only these tell two types apart.
+pub const INHERENT: AliasId = AliasId(17);
 
-pub const INHERENT: AliasId = AliasId(8);
-
-pub const FREE: AliasId = AliasId(8);
+pub const FREE: AliasId = AliasId(17);
 
 /// The local crate, and one above it with the types `Vec` and `Box` and the traits.
 pub fn declared(rt: &impl Abort, alloc: Global) -> Cx {
@@ -85,6 +84,11 @@ pub fn declared(rt: &impl Abort, alloc: Global) -> Cx {
         Item::Adt(1, shape, &[VarKind::Region], plain),
         Item::Assoc(TRAIT, AssocKind::Const, false),
         Item::Foreign(1),
+        Item::Function(1, &[VarKind::Ty]),
+        Item::Function(1, &[VarKind::Ty]),
+        Item::Closure(1, &[VarKind::Ty]),
+        Item::Opaque(1, &[VarKind::Ty]),
+        Item::Alias(1, AliasShape::Inherent, &[VarKind::Ty]),
     ];
     context_of(rt, alloc, &items, 0)
 }

@@ -8,3 +8,7 @@ has_param-has_param-requires g c =
 pub checked_as-checked-requires-clause-args : goal.checked_as-checked-requires-clause-args
 checked_as-checked-requires-clause-args g c =
     IsArgs-grows _ _ c.trait_ref-of_byte.result.args c.sample-local.ensures.grows c.trait_ref-of_byte.ensures.sort
+
+pub trait_ref_args_fit-fits-requires : goal.trait_ref_args_fit-fits-requires
+trait_ref_args_fit-fits-requires g c =
+    IsArgs-grows _ _ c.trait_ref-of_byte.result.args c.sample-local.ensures.grows c.trait_ref-of_byte.ensures.sort
