@@ -2,7 +2,7 @@
 
 ghost use Rattle.std.specs.Prelude.{◌≡◌, ◌≢◌, All, IfOk, IfSome};
 ghost use Rattle.candidate_ir.specs.Words.{IsTy, IsArgs};
-ghost use Rattle.candidate_ir.specs.References.{IsReference};
+ghost use Rattle.candidate_ir.specs.References.{ArgumentsFit};
 ghost use Rattle.candidate_eval.specs.Answers.{AreAnswerTypes, AreErrorTypes, OutOfMemory, answer_of, knowledge_of};
 ghost use Rattle.candidate_eval.specs.Orphan.{bare_answer, bare_knowledge};
 ghost use Rattle.candidate_eval.specs.Calls.{plain_check_of, plain_knowledge_about, HasNoParam, HasNoAlias, HasNoAliasOrError, IsOfForeignTrait, NoForeignHeaderHere, NoUnnamedHeaderHere, NoCoveredHeaderHere, IsDecidedByGeneralHere, HasDownstreamHere};
@@ -73,6 +73,7 @@ impl<'a> Asking<'a> {
     fn last_trait_ref(&mut self, words: &mut Words<'a>) -> Result<TraitRef, Fault<'a>>
         ensures sort { IfOk result (λ r. IsArgs self.new.scope.cx.trees r.args) }
         ensures no_param { IfOk result (λ r. HasNoParam self.new.scope.cx r) }
+        ensures fit { IfOk result (λ r. ArgumentsFit self.new.scope.cx r) }
     {
         let trait_ref = self.scope.read_trait_ref(words)?;
         words.end()?;
@@ -89,10 +90,11 @@ impl<'a> Asking<'a> {
     fn known(&mut self, trait_ref: TraitRef) -> Result<Result<(), Conflict>, OrphanStop<Infallible>>
         requires args { IsArgs self.old.scope.cx.trees trait_ref.args }
         requires no_param { HasNoParam self.old.scope.cx trait_ref }
+        requires fit { ArgumentsFit self.old.scope.cx trait_ref }
         ensures answer { result ≢ Err (OrphanStop.Stop Stop.Memory) → bare_knowledge (knowledge_of result) ≡ plain_knowledge_about self.old.scope.cx trait_ref }
-        ensures no_unnamed_header { IsReference self.old.scope.cx trait_ref → HasNoAlias self.old.scope.cx trait_ref → result ≡ Ok (Ok tt) → NoUnnamedHeaderHere self.old.scope.cx trait_ref }
-        ensures downstream_header { IsReference self.old.scope.cx trait_ref → HasNoAliasOrError self.old.scope.cx trait_ref → result ≡ Ok (Err Conflict.Downstream) → IsDecidedByGeneralHere self.old.scope.cx trait_ref → HasDownstreamHere self.old.scope.cx trait_ref }
-        ensures no_covered_header { IsReference self.old.scope.cx trait_ref → HasNoAlias self.old.scope.cx trait_ref → result ≡ Ok (Ok tt) → IsOfForeignTrait self.old.scope.cx trait_ref → NoCoveredHeaderHere self.old.scope.cx trait_ref }
+        ensures no_unnamed_header { HasNoAlias self.old.scope.cx trait_ref → result ≡ Ok (Ok tt) → NoUnnamedHeaderHere self.old.scope.cx trait_ref }
+        ensures downstream_header { HasNoAliasOrError self.old.scope.cx trait_ref → result ≡ Ok (Err Conflict.Downstream) → IsDecidedByGeneralHere self.old.scope.cx trait_ref → HasDownstreamHere self.old.scope.cx trait_ref }
+        ensures no_covered_header { HasNoAlias self.old.scope.cx trait_ref → result ≡ Ok (Ok tt) → IsOfForeignTrait self.old.scope.cx trait_ref → NoCoveredHeaderHere self.old.scope.cx trait_ref }
     {
         trait_ref_is_knowable(
             self.scope.alloc,
@@ -132,9 +134,10 @@ impl<'a> Asking<'a> {
     ) -> Result<Result<(), OrphanCheckErr<Ty>>, OrphanStop<Infallible>>
         requires args { IsArgs self.old.scope.cx.trees trait_ref.args }
         requires no_param { HasNoParam self.old.scope.cx trait_ref }
+        requires fit { ArgumentsFit self.old.scope.cx trait_ref }
         ensures types { AreAnswerTypes self.new.scope.cx.trees result }
         ensures answer { ¬ (OutOfMemory result) → bare_answer (answer_of self.new.scope.cx.trees result) ≡ plain_check_of self.old.scope.cx in_crate trait_ref }
-        ensures no_foreign_header { IsReference self.old.scope.cx trait_ref → HasNoAliasOrError self.old.scope.cx trait_ref → in_crate ≡ InCrate.Local OrphanCheckMode.Proper → result ≡ Ok (Ok tt) → NoForeignHeaderHere self.old.scope.cx trait_ref }
+        ensures no_foreign_header { HasNoAliasOrError self.old.scope.cx trait_ref → in_crate ≡ InCrate.Local OrphanCheckMode.Proper → result ≡ Ok (Ok tt) → NoForeignHeaderHere self.old.scope.cx trait_ref }
     {
         orphan_check_trait_ref(
             self.scope.alloc,

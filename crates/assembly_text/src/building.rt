@@ -1,12 +1,15 @@
 //! The types and bounds that are made of what was read. All regions are static, and no binder has variables.
 //!
-//! Each call stops as the calls of `Cx` that it makes.
+//! Each call stops as the calls of `Cx` that it makes. Whether the arguments are those that a definition takes
+//! is asked of the context once more, so that what is made fits it.
 
 ghost use Rattle.std.specs.Prelude.{◌≡◌, false, IfOk};
 ghost use Rattle.candidate_ir.specs.Context.{Grows};
-ghost use Rattle.candidate_ir.specs.Words.{IsTy, ListFits, PredFits, BoundsFit, AtMostOnePrincipal, names_trait};
+ghost use Rattle.candidate_ir.specs.Trees.{tree_holds, is_param};
+ghost use Rattle.candidate_ir.specs.Words.{IsTy, KindFits, kind_tree, ListFits, PredFits, BoundsFit, AtMostOnePrincipal, names_trait};
 ghost use Rattle.assembly_text.specs.Params.{LacksParam, ListLacksParam, BoundLacksParam, BoundsLackParam};
 
+use crate::faults::Fault;
 use candidate_ir::decl::context::Cx;
 use candidate_ir::ir::kinds::{
     AdtId, AliasTy, AssocId, Binder, ExistentialPredicate, ExistentialProjection,
@@ -56,8 +59,28 @@ fn reference(cx: &mut Cx, target: Ty, mutability: Mutability) -> Result<Ty, Stop
     cx.mk_ty(TyKind::Ref(region, target, mutability))
 }
 
-/// The type over these arguments.
-pub fn construct(cx: &mut Cx, constructor: Constructor, list: Vec<GenericArg>) -> Result<Ty, Stop>
+/// The type of that kind, which the word begins; `Fault::UnknownName` comes where the word is no name of
+/// a definition that takes these arguments.
+pub fn fitting<'a>(cx: &mut Cx, kind: TyKind, word: &'a str) -> Result<Ty, Fault<'a>>
+    requires fits { KindFits cx.old.trees kind }
+    requires no_param { tree_holds is_param (kind_tree cx.old.trees kind) ≡ false }
+    ensures grows { Grows cx.old cx.new }
+    ensures sort { IfOk result (λ ty. IsTy cx.new.trees ty) }
+    ensures no_param { IfOk result (λ ty. LacksParam cx.new.trees ty.0) }
+{
+    if !cx.args_fit(kind) {
+        return Err(Fault::UnknownName(word));
+    }
+    Ok(cx.mk_ty(kind)?)
+}
+
+/// The type over these arguments, which the word begins. Its fault is that of `fitting`.
+pub fn construct<'a>(
+    cx: &mut Cx,
+    constructor: Constructor,
+    list: Vec<GenericArg>,
+    word: &'a str,
+) -> Result<Ty, Fault<'a>>
     requires fit { ListFits cx.old.trees list.items }
     requires no_param { ListLacksParam cx.old.trees list.items }
     ensures grows { Grows cx.old cx.new }
@@ -65,15 +88,21 @@ pub fn construct(cx: &mut Cx, constructor: Constructor, list: Vec<GenericArg>) -
     ensures no_param { IfOk result (λ ty. LacksParam cx.new.trees ty.0) }
 {
     let args = cx.mk_arg_list(list)?;
-    cx.mk_ty(match constructor {
+    let kind = match constructor {
         Constructor::Tuple => TyKind::Tuple(args),
         Constructor::Adt(id) => TyKind::Adt(id, args),
         Constructor::Projection(id) => TyKind::Alias(AliasTy::projection(id, args)),
-    })
+    };
+    fitting(cx, kind, word)
 }
 
-/// The `dyn` type of these bounds.
-pub fn dynamic(cx: &mut Cx, bounds: &[Binder<ExistentialPredicate>]) -> Result<Ty, Stop>
+/// The `dyn` type of these bounds, which the word begins; `Fault::UnknownName` comes where one of them is
+/// by no definition that takes its arguments.
+pub fn dynamic<'a>(
+    cx: &mut Cx,
+    bounds: &[Binder<ExistentialPredicate>],
+    word: &'a str,
+) -> Result<Ty, Fault<'a>>
     requires fit { BoundsFit cx.old.trees bounds.now }
     requires principal { AtMostOnePrincipal bounds.now }
     requires no_param { BoundsLackParam cx.old.trees bounds.now }
@@ -81,9 +110,12 @@ pub fn dynamic(cx: &mut Cx, bounds: &[Binder<ExistentialPredicate>]) -> Result<T
     ensures sort { IfOk result (λ ty. IsTy cx.new.trees ty) }
     ensures no_param { IfOk result (λ ty. LacksParam cx.new.trees ty.0) }
 {
+    if !cx.bounds_args_fit(bounds) {
+        return Err(Fault::UnknownName(word));
+    }
     let preds = cx.mk_preds(bounds)?;
     let region = cx.mk_region(RegionKind::Static)?;
-    cx.mk_ty(TyKind::Dynamic(preds, region))
+    Ok(cx.mk_ty(TyKind::Dynamic(preds, region))?)
 }
 
 /// The bound by the auto trait.

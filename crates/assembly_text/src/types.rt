@@ -2,6 +2,7 @@
 
 ghost use Rattle.std.specs.Prelude.{◌≡◌, true, false, IfOk};
 ghost use Rattle.candidate_ir.specs.Context.{Grows};
+ghost use Rattle.candidate_ir.specs.References.{ArgumentsFit};
 ghost use Rattle.candidate_ir.specs.Words.{IsTy, IsArgs, IsPreds, KindFits, ListFits, PredFits, BoundsFit, AtMostOnePrincipal, names_trait};
 ghost use Rattle.assembly_text.specs.Types.{IsNoPrincipal};
 ghost use Rattle.candidate_eval.specs.Calls.{HasNoParam};
@@ -9,7 +10,7 @@ ghost use Rattle.assembly_text.specs.Notation.{IsChildless};
 ghost use Rattle.assembly_text.specs.Params.{LacksParam, ListLacksParam, BoundLacksParam, BoundsLackParam};
 
 use crate::building::{
-    Constructor, auto_bound, construct, dynamic, pointer_to, projection_bound, trait_bound,
+    Constructor, auto_bound, construct, dynamic, fitting, pointer_to, projection_bound, trait_bound,
 };
 use crate::faults::Fault;
 use crate::names::{Item, Names};
@@ -62,18 +63,18 @@ impl<'a> Scope<'a> {
             return Err(Fault::Stop(Stop::NodesFull));
         };
         match self.head(word)? {
-            Head::Leaf(kind) => Ok(self.cx.mk_ty(kind)?),
+            Head::Leaf(kind) => fitting(&mut self.cx, kind, word),
             Head::Before(pointer) => {
                 let target = self.read_type(words, below)?;
                 Ok(pointer_to(&mut self.cx, pointer, target)?)
             }
             Head::Over(constructor, count) => {
                 let list = self.read_types(words, count, below)?;
-                Ok(construct(&mut self.cx, constructor, list)?)
+                construct(&mut self.cx, constructor, list, word)
             }
             Head::Dyn(count) => {
                 let bounds = self.read_bounds(words, count, below)?;
-                Ok(dynamic(&mut self.cx, bounds.as_slice())?)
+                dynamic(&mut self.cx, bounds.as_slice(), word)
             }
         }
     }
@@ -152,14 +153,20 @@ impl<'a> Scope<'a> {
         ensures grows { Grows self.old.cx self.new.cx }
         ensures sort { IfOk result (λ r. IsArgs self.new.cx.trees r.args) }
         ensures no_param { IfOk result (λ r. HasNoParam self.new.cx r) }
+        ensures fit { IfOk result (λ r. ArgumentsFit self.new.cx r) }
     {
-        let found = self.names.trait_named(words.word()?)?;
+        let word = words.word()?;
+        let found = self.names.trait_named(word)?;
         let list = self.read_types(words, u32::from(found.arity) + 1, DEEPEST)?;
         let args = self.cx.mk_arg_list(list)?;
-        Ok(TraitRef {
+        let trait_ref = TraitRef {
             def_id: found.id,
             args,
-        })
+        };
+        if !self.cx.trait_ref_args_fit(trait_ref) {
+            return Err(Fault::UnknownName(word));
+        }
+        Ok(trait_ref)
     }
 
     /// What the first word of a type makes of the words that follow.

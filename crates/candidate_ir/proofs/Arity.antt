@@ -1,5 +1,5 @@
 -- When a node takes its children, by the kinds of its arguments.
-use Rattle.std.proofs.Common.{◌≡◌, ◌↔◌, ◌⊎◌, inl, inr, IsTrue, ℕ, Bool, true, false, Option, Some, None, List, [], ◌∷◌, ◌++◌, refl, sym, ◌∙◌, ap, subst}
+use Rattle.std.proofs.Common.{◌≡◌, ◌↔◌, ◌⊎◌, inl, inr, IsTrue, ℕ, suc, ◌+◌, ◌<◌, ◌≤◌, length, get_or, Bool, true, false, Option, Some, None, List, [], ◌∷◌, ◌++◌, refl, sym, ◌∙◌, ap, subst, arith}
 use Rattle.std.specs.Prelude.{map, drop}
 use Rattle.std.specs.List.{list_all}
 use Rattle.candidate_ir.specs.declared.ir.kinds.GenericArg.{GenericArg}
@@ -39,12 +39,14 @@ use Rattle.candidate_ir.specs.Worlds.{World, AdtSort, ForeignSort, FunctionSort,
 use Rattle.candidate_ir.specs.Parameters.{is_type_arg}
 use Rattle.candidate_ir.specs.declared.ir.kinds.TraitRef.{TraitRef}
 use Rattle.candidate_ir.specs.Declaration.{Declaration}
-use Rattle.candidate_ir.specs.Context.{Context, world_of}
-use Rattle.candidate_ir.specs.References.{Takes, ArgumentsFit}
-use Rattle.candidate_ir.specs.Words.{IsArgs, IsPreds, KindFits, ConstKindFits, PredFits, ClauseFits, ListFits, PredListFits, kind_tree, const_kind_tree, pred_kind_tree, clause_kind_tree, args_forest, preds_forest, list_forest, pred_list_forest}
+use Rattle.candidate_ir.specs.Context.{Context, Grows, world_of}
+use Rattle.candidate_ir.specs.References.{Takes, AllTake, ArgumentsFit}
+use Rattle.candidate_ir.specs.Words.{IsArgs, IsPreds, KindFits, ConstKindFits, PredFits, ClauseFits, ListFits, PredListFits, kind_tree, const_kind_tree, pred_kind_tree, clause_kind_tree, args_forest, preds_forest, list_forest, pred_list_forest, bounds_forest}
 use Rattle.candidate_ir.proofs.Lists.{there}
+use Rattle.candidate_ir.proofs.Kept.{preds-kept}
 use Rattle.candidate_ir.proofs.Made.{list-kinds}
-use Rattle.candidate_ir.proofs.References.{row-kinds}
+use Rattle.std.proofs.Math.Nat.{eq-or-lt_of_le}
+use Rattle.candidate_ir.proofs.References.{row-kinds, take-at}
 use Rattle.candidate_ir.proofs.Rows.{row-list}
 
 -- what takes the kinds of its children is what takes their list
@@ -489,3 +491,39 @@ reference-tests old v ds r xs b same there read e =
     let ks = ap kinds_of (sym read.1) ∙ (list-kinds v.trees xs read.0 ∙ arg-kinds xs) in
     let f = subst (λ (es : List Declaration). IsTrue b ↔ (joined (Some (TypeKind ∷ [])) (parameters (world_of es) TraitSort r.def_id.0) ≡ Some (map arg_kind xs))) there e in
     subst (λ (c : Context). IsTrue b ↔ ArgumentsFit c r) same (λ h. f.0 h ∙ ap Some (sym ks), λ h. f.1 (h ∙ ap Some ks))
+
+-- bounds that were asked one after the other
+pub one-more-takes : (w : World) (ts : List Tree) (bs : List (Binder ExistentialPredicate)) (n : ℕ) (d : Binder ExistentialPredicate)
+    → ((k : ℕ) → k < n → Takes w (pred_kind_tree ts (get_or bs k d))) → Takes w (pred_kind_tree ts (get_or bs n d))
+    → (k : ℕ) → k < n + 1 → Takes w (pred_kind_tree ts (get_or bs k d))
+one-more-takes w ts bs n d f e k b = at (eq-or-lt_of_le (omega (arith, b)))
+  where
+    at : (k ≡ n) ⊎ (k < n) → Takes w (pred_kind_tree ts (get_or bs k d))
+    at (inl q) = subst (λ (m : ℕ). Takes w (pred_kind_tree ts (get_or bs m d))) (sym q) e
+    at (inr h) = f k h
+
+bounds-all : (w : World) (ts : List Tree) (bs : List (Binder ExistentialPredicate)) (d : Binder ExistentialPredicate)
+    → ((k : ℕ) → k < length bs → Takes w (pred_kind_tree ts (get_or bs k d))) → AllTake w (map (pred_kind_tree ts) bs)
+bounds-all w ts [] d f = tt
+bounds-all w ts (b ∷ bs) d f = (f 0 (omega arith), bounds-all w ts bs d (λ k h. f (suc k) (omega (arith, h))))
+
+pub all-take : (w : World) (ts : List Tree) (bs : List (Binder ExistentialPredicate)) (n : ℕ) (d : Binder ExistentialPredicate) → length bs ≤ n
+    → ((k : ℕ) → k < n → Takes w (pred_kind_tree ts (get_or bs k d))) → IsTrue true ↔ AllTake w (map (pred_kind_tree ts) bs)
+all-take w ts bs n d l f = (λ _. bounds-all w ts bs d (λ k h. f k (omega (arith, h, l))), λ _. refl)
+
+pub one-takes-not : (w : World) (ts : List Tree) (bs : List (Binder ExistentialPredicate)) (n : ℕ) (d : Binder ExistentialPredicate) (b : Bool) → n < length bs
+    → BoundTests w ts b (get_or bs n d) → b ≡ false → IsTrue false ↔ AllTake w (map (pred_kind_tree ts) bs)
+one-takes-not w ts bs n d b h r e = (λ t. absurd cc, λ a. absurd (let t : IsTrue b = r.1 (take-at w (pred_kind_tree ts) bs n d a h) in cc))
+
+-- bounds that were made are bounds
+pub bounds-made : (ts : List Tree) (bs : List (Binder ExistentialPredicate)) → kinds_of (bounds_forest ts bs) ≡ all_of PredicateKind (kinds_of (bounds_forest ts bs))
+bounds-made ts [] = refl
+bounds-made ts (b ∷ bs) = ap (λ (ks : List Kind). PredicateKind ∷ ks) (bounds-made ts bs)
+
+-- so a `dyn` type of them takes them
+pub made-bounds-take : (w : World) (old new : Context) (ts : List Tree) (bs : List (Binder ExistentialPredicate)) (p : Preds) (r : Region)
+    → Grows old new → IsPreds old.trees p → preds_forest old.trees p ≡ bounds_forest ts bs → KindFits new.trees (K.Dynamic p r)
+    → Takes w (kind_tree new.trees (K.Dynamic p r))
+made-bounds-take w old new ts bs p r g i e f =
+    bounds-take w new.trees (K.Dynamic p r) p r refl f
+    (subst (λ (x : Forest). kinds_of x ≡ all_of PredicateKind (kinds_of x)) (sym ((preds-kept old new p g i).1 ∙ e)) (bounds-made ts bs))

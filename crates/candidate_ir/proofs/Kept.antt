@@ -3,10 +3,11 @@ use Rattle.std.proofs.Common.{◌≡◌, ℕ, ◌<◌, List, [], ◌++◌, lengt
 use Rattle.std.proofs.lemmas.List.{append-nil}
 use Rattle.candidate_ir.specs.declared.ir.kinds.Ty.{Ty}
 use Rattle.candidate_ir.specs.declared.ir.kinds.Args.{Args}
-use Rattle.candidate_ir.specs.Trees.{Tree, TypeKind, ArgumentsKind}
+use Rattle.candidate_ir.specs.declared.ir.kinds.Preds.{Preds}
+use Rattle.candidate_ir.specs.Trees.{Tree, TypeKind, ArgumentsKind, PredicatesKind}
 use Rattle.candidate_ir.specs.Nodes.{tree_at, kind_at, Extends}
 use Rattle.candidate_ir.specs.Context.{Context, Grows, world}
-use Rattle.candidate_ir.specs.Words.{IsTy, IsArgs, ty_tree, args_forest}
+use Rattle.candidate_ir.specs.Words.{IsTy, IsArgs, IsPreds, ty_tree, args_forest, preds_forest}
 use Rattle.candidate_ir.proofs.Lists.{below_kind, kind_at-append, tree_at-append}
 
 number-kept : (old new : List Tree) (n : ℕ) → Extends old new → n < length old
@@ -28,6 +29,13 @@ pub args-kept : (old new : Context) (a : Args) → Grows old new → IsArgs old.
     → IsArgs new.trees a × (args_forest new.trees a ≡ args_forest old.trees a)
 args-kept old new a g h =
     let k = number-kept old.trees new.trees a.0 g.kept (below_kind old.trees a.0 ArgumentsKind refl h) in
+    (k.0 ∙ h, ap (λ (t : Tree). t.children) k.1)
+
+-- a list of bounds stays one, with its members
+pub preds-kept : (old new : Context) (p : Preds) → Grows old new → IsPreds old.trees p
+    → IsPreds new.trees p × (preds_forest new.trees p ≡ preds_forest old.trees p)
+preds-kept old new p g h =
+    let k = number-kept old.trees new.trees p.0 g.kept (below_kind old.trees p.0 PredicatesKind refl h) in
     (k.0 ∙ h, ap (λ (t : Tree). t.children) k.1)
 
 pub grows-refl : (c : Context) → Grows c c

@@ -6,9 +6,9 @@ ghost use Rattle.candidate_ir.specs.Kinds.{arg_kind};
 ghost use Rattle.std.specs.List.{list_any};
 ghost use Rattle.candidate_ir.specs.Names.{names_unknown};
 ghost use Rattle.candidate_ir.specs.Nodes.{Fits, node_tree};
-ghost use Rattle.candidate_ir.specs.References.{AllFit, Takes};
+ghost use Rattle.candidate_ir.specs.References.{AllFit, AllTake, Takes};
 ghost use Rattle.candidate_ir.specs.Trees.{TypeKind};
-ghost use Rattle.candidate_ir.specs.Words.{KindFits, ConstKindFits, PredFits, ClauseFits, kind_tree, const_kind_tree, pred_kind_tree, clause_kind_tree};
+ghost use Rattle.candidate_ir.specs.Words.{KindFits, ConstKindFits, PredFits, BoundsFit, ClauseFits, kind_tree, const_kind_tree, pred_kind_tree, clause_kind_tree};
 ghost use Rattle.candidate_ir.specs.Worlds.{parameters, joined, alias_kinds};
 
 use crate::decl::definition::{Declaration, DefinitionSort, are_type_args};
@@ -133,6 +133,23 @@ pub(crate) fn bound_fits(
         ),
         ExistentialPredicate::AutoTrait(id) => takes(definitions, DefinitionSort::Trait, id.0, &[]),
     }
+}
+
+/// Whether the arguments of each bound are those that it takes.
+pub(crate) fn bounds_fit(
+    definitions: &[Declaration],
+    nodes: &Nodes,
+    bounds: &[Binder<ExistentialPredicate>],
+) -> bool
+    requires { BoundsFit nodes.now bounds.now }
+    ensures { IsTrue result ↔ AllTake (world_of definitions.now) (map (pred_kind_tree nodes.now) bounds.now) }
+{
+    for bound in bounds {
+        if !bound_fits(definitions, nodes, *bound) {
+            return false;
+        }
+    }
+    true
 }
 
 /// Whether the arguments of the clause are those that it takes.

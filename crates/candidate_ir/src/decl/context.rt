@@ -13,7 +13,7 @@ ghost use Rattle.candidate_ir.specs.Names.{is_local, is_fundamental, principal_o
 ghost use Rattle.candidate_ir.specs.Words.{IsTy, IsConst, IsRegion, IsArgs, IsPreds, IsPred, IsSig, IsClause, IsParamEnv, IsVars, IsVar, ty_tree, const_tree, region_tree, args_forest, preds_forest, pred_tree, sig_tree, clause_tree, env_forest, vars_tree, var_tree, KindFits, ConstKindFits, ListFits, PredListFits, PredFits, SigFits, ClauseFits, ClauseListFits, VarListFits, BoundsFit, AtMostOnePrincipal, kind_tree, const_kind_tree, region_kind_tree, list_forest, pred_list_forest, pred_kind_tree, sig_kind_tree, clause_kind_tree, clause_list_forest, vars_kind_tree, var_kind_tree, bounds_forest, binder_tree, IsMkStop, IsMkListStop};
 ghost use Rattle.candidate_ir.specs.Binders.{escapes, tree_escapes};
 
-use crate::decl::arity::{bound_fits, clause_fits, const_fits, takes_after_self, ty_fits};
+use crate::decl::arity::{bounds_fit, clause_fits, const_fits, takes_after_self, ty_fits};
 use crate::decl::builder::Decls;
 use crate::decl::definition::{CrateId, Declaration, DefinitionSort};
 use crate::ir::flags::{TypeFlags, bit_if};
@@ -165,12 +165,12 @@ impl Cx {
         const_fits(self.definitions.as_slice(), &self.nodes, kind)
     }
 
-    /// Whether the arguments of a bound of a `dyn` type are those that it takes, which has no self type.
-    pub fn bound_args_fit(&self, bound: Binder<ExistentialPredicate>) -> bool
-        requires { PredFits self.now.trees bound }
-        ensures { IsTrue result ↔ Takes (world self.now) (pred_kind_tree self.now.trees bound) }
+    /// Whether the arguments of each bound of a `dyn` type are those that it takes, which has no self type.
+    pub fn bounds_args_fit(&self, bounds: &[Binder<ExistentialPredicate>]) -> bool
+        requires { BoundsFit self.now.trees bounds.now }
+        ensures { IsTrue result ↔ AllTake (world self.now) (map (pred_kind_tree self.now.trees) bounds.now) }
     {
-        bound_fits(self.definitions.as_slice(), &self.nodes, bound)
+        bounds_fit(self.definitions.as_slice(), &self.nodes, bounds)
     }
 
     /// Whether the arguments of a clause are those that it takes.
@@ -248,7 +248,7 @@ impl Cx {
     }
 
     /// The bounds of a `dyn` type, of which one at most is by a trait that isn't an auto trait, with the
-    /// arguments that they take, as `bound_args_fit` tests. They take a number each, and one more, and
+    /// arguments that they take, as `bounds_args_fit` tests. They take a number each, and one more, and
     /// add nothing to a height; it stops as `mk_vars` does.
     pub fn mk_preds(&mut self, bounds: &[Binder<ExistentialPredicate>]) -> Result<Preds, Stop>
         requires fit { BoundsFit self.old.trees bounds.now }

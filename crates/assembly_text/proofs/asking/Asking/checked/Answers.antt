@@ -10,12 +10,11 @@ use Rattle.candidate_eval.proofs.Calls.{told-unless-refused}
 use Rattle.assembly_text.proofs.asking.Asking.checked.Goals as goal
 
 pub returns-clause-no_foreign_header : goal.returns-clause-no_foreign_header
-returns-clause-no_foreign_header c = λ r p m ok.
+returns-clause-no_foreign_header c = λ p m ok.
     c.orphan_check_trait_ref.ensures.no_foreign_header
     (record {
       normaliser = record { at = λ f x t a f' x' q g i b n v. let k = n.called in let l = n.lends in let m = n.leaves in search rules; values = λ f x t q g. refl };
       resolved = all-resolved _;
-      of_world = r;
     }) p m ok
 
 pub returns-clause-answer : goal.returns-clause-answer
