@@ -1,9 +1,6 @@
-use Rattle.std.proofs.Common.{◌≡◌, true, false, Err, refl, sym, ◌∙◌, ap}
+use Rattle.std.proofs.Common.{true, false, Err, refl, sym, ◌∙◌, ap}
 use Rattle.std.proofs.lemmas.Result.{err_from_is_err_and}
-use Rattle.candidate_ir.specs.Context.{Context}
-use Rattle.candidate_ir.specs.Words.{ty_tree}
 use Rattle.candidate_ir.proofs.Kept.{ty-kept}
-use Rattle.candidate_eval.specs.Orphan.{is_general}
 use Rattle.candidate_eval.proofs.Views.{view-general, view-other, sees-other, general-there}
 use Rattle.candidate_eval.proofs.Calls.{values-here}
 use Rattle.candidate_eval.proofs.Causes.{viewed-answer, viewed-itself}
