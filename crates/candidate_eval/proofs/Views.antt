@@ -1,6 +1,9 @@
 -- The view of a type by its resolved form and the normaliser's answer.
 use Rattle.std.proofs.Common.{◌≡◌, Bool, true, false, sym, ◌∙◌, ap, if◌then◌else◌}
+use Rattle.candidate_ir.specs.declared.ir.kinds.Ty.{Ty}
+use Rattle.candidate_ir.specs.Context.{Context}
 use Rattle.candidate_ir.specs.Trees.{Tree}
+use Rattle.candidate_ir.specs.Words.{ty_tree}
 use Rattle.candidate_eval.specs.Orphan.{Seen, Sees, Sight, View, view, is_general, unless_general}
 
 pub view-general : {S E : Type 0} (resolve : S → Tree → Tree) (normal : View S E) (s after : S) (t u v w : Tree)
@@ -23,3 +26,7 @@ view-other {S} {E} resolve normal s after t u x y r n k =
 
 pub sees-other : {E : Type 0} (u v : Tree) → is_general v.head ≡ false → unless_general {E = E} u (Sees v) ≡ Sees v
 sees-other {E} u v e = ap (λ (b : Bool). let x : Seen E = if b then Sees u else Sees v in x) e
+
+-- what a test of the context that is lent says of the context itself
+pub general-there : (lent c : Context) (t : Ty) (r b : Bool) → r ≡ is_general (ty_tree lent.trees t).head → lent ≡ c → r ≡ b → is_general (ty_tree c.trees t).head ≡ b
+general-there lent c t r b h e k = sym (ap (λ (x : Context). is_general (ty_tree x.trees t).head) e) ∙ (sym h ∙ k)

@@ -1,10 +1,7 @@
-use Rattle.std.proofs.Common.{◌≡◌, true, false, Err, refl, sym, ◌∙◌, ap}
+use Rattle.std.proofs.Common.{true, false, Err, refl, sym, ◌∙◌, ap}
 use Rattle.std.proofs.lemmas.Result.{err_from_is_err_and}
-use Rattle.candidate_ir.specs.Context.{Context}
-use Rattle.candidate_ir.specs.Words.{ty_tree}
 use Rattle.candidate_ir.proofs.Kept.{ty-kept}
-use Rattle.candidate_eval.specs.Orphan.{is_general}
-use Rattle.candidate_eval.proofs.Views.{view-general, view-other, sees-other}
+use Rattle.candidate_eval.proofs.Views.{view-general, view-other, sees-other, general-there}
 use Rattle.candidate_eval.proofs.Calls.{values-here}
 use Rattle.candidate_eval.proofs.Causes.{viewed-answer, viewed-itself}
 use Rattle.candidate_eval.proofs.Stops.{view-ends}
@@ -15,20 +12,17 @@ returns-then-is_general_variable-clause-sort g c = (ty-kept _ _ _ c.normalized.e
 
 pub returns-then-is_general_variable-clause-view : goal.returns-then-is_general_variable-clause-view
 returns-then-is_general_variable-clause-view g c = λ d h told.
-    let general : true ≡ is_general (ty_tree (g.C.Make.context c.normalized.new.infcx).trees c.in_ok-normal.normal).head =
-    sym c.if-is_general_variable.true
-    ∙ (c.is_general_variable.ensures
-    ∙ ap (λ (x : Context). is_general (ty_tree x.trees c.in_ok-normal.normal).head) c.cx.ensures) in
+    let general = general-there c.cx.result.now (g.C.Make.context c.normalized.new.infcx) c.in_ok-normal.normal c.is_general_variable.result true
+    c.is_general_variable.ensures c.cx.ensures c.if-is_general_variable.true in
     let values = values-here g.C.Make.context g.F.FnMut c.args.normalize.now c.args.infcx.now g.C.InferCtxtLike.resolved d h in
     view-general (λ s t. g.C.InferCtxtLike.resolved s.1 t) d.normal (d.stands (c.args.normalize.now, c.args.infcx.now)) _ _ _ _ _
-    (c.shallow_resolve-ty.ensures.tree ∙ sym (values _)) (c.in_ok-normal.ensures.answer d h (λ s o. view-ends _ s)) general
+    (c.shallow_resolve-ty.ensures.tree ∙ sym (values _)) (c.in_ok-normal.ensures.answer d h (λ s o. view-ends _ s)) (sym general)
     (ty-kept _ _ _ c.normalized.ensures.grows c.shallow_resolve-ty.ensures.sort).1
 
 pub returns-clause-view : goal.returns-clause-view
 returns-clause-view g c = λ d h told.
-    let general : is_general (ty_tree (g.C.Make.context c.normalized.new.infcx).trees c.in_ok-normal.normal).head ≡ false =
-    sym (ap (λ (x : Context). is_general (ty_tree x.trees c.in_ok-normal.normal).head) c.cx.ensures)
-    ∙ (sym c.is_general_variable.ensures ∙ c.if-is_general_variable.false) in
+    let general = general-there c.cx.result.now (g.C.Make.context c.normalized.new.infcx) c.in_ok-normal.normal c.is_general_variable.result false
+    c.is_general_variable.ensures c.cx.ensures c.if-is_general_variable.false in
     let values = values-here g.C.Make.context g.F.FnMut c.args.normalize.now c.args.infcx.now g.C.InferCtxtLike.resolved d h in
     view-other (λ s t. g.C.InferCtxtLike.resolved s.1 t) d.normal (d.stands (c.args.normalize.now, c.args.infcx.now)) _ _ _ _ _
     (c.shallow_resolve-ty.ensures.tree ∙ sym (values _)) (c.in_ok-normal.ensures.answer d h (λ s o. view-ends _ s)) (sees-other _ _ general)
