@@ -1,6 +1,6 @@
 //! What makes the nodes of the tests: a call for each sort of node, and calls that make many.
 
-ghost use Rattle.std.specs.Prelude.{◌≡◌, [], ◌∷◌, ◌++◌, All};
+ghost use Rattle.std.specs.Prelude.{◌≡◌, [], ◌∷◌, ◌++◌, All, IfOk};
 ghost use Rattle.candidate_ir.specs.Context.{Grows};
 ghost use Rattle.candidate_ir.specs.Words.{IsTy, IsConst, IsRegion, IsArgs, IsVars, IsPreds, IsSig, IsClause, IsParamEnv, KindFits, ConstKindFits, ListFits, BoundsFit, AtMostOnePrincipal, SigFits, ClauseFits, ClauseListFits};
 ghost use Rattle.library_tests.specs.Pieces.{AreKinds};
@@ -10,6 +10,7 @@ use candidate_ir::ir::kinds::{
     AdtId, Args, Binder, Clause, ClauseKind, ClosureSig, Const, ConstKind, ExistentialPredicate,
     GenericArg, ParamEnv, Preds, Region, RegionKind, Sig, Ty, TyKind, VarKind, Vars,
 };
+use candidate_ir::ir::stop::Stop;
 use std::alloc::Global;
 use std::process::Abort;
 
@@ -20,6 +21,15 @@ pub fn ty(rt: &impl Abort, cx: &mut Cx, kind: TyKind) -> Ty
     ensures sort { IsTy cx.new.trees result }
 {
     cx.mk_ty(kind).expect(rt, "a type")
+}
+
+/// The type of that kind, or why it can't be made.
+pub fn try_ty(cx: &mut Cx, kind: TyKind) -> Result<Ty, Stop>
+    requires { KindFits cx.old.trees kind }
+    ensures grows { Grows cx.old cx.new }
+    ensures sort { IfOk result (λ ty. IsTy cx.new.trees ty) }
+{
+    cx.mk_ty(kind)
 }
 
 /// The constant of that kind.

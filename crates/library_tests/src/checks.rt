@@ -436,12 +436,17 @@ fn check_what_is_local(rt: &impl Abort, cx: &mut Cx) {
     equals(rt, &is_first, &IsFirstInputType::No, "false");
 }
 
+/// What is known, which references are plain, and what is local.
+fn check_all(rt: &impl Abort, alloc: Global, cx: &mut Cx) {
+    check_known(rt, alloc, cx);
+    check_plain(rt, alloc, cx, Named::U8, true);
+    check_plain(rt, alloc, cx, Named::BoxOfVariable, true);
+    check_plain(rt, alloc, cx, Named::OutOfVariable, false);
+    check_what_is_local(rt, cx);
+}
+
 #[test]
 fn knows_impls_and_what_is_local(rt: HostRuntime) {
     let mut cx = declared(&rt, rt.alloc());
-    check_known(&rt, rt.alloc(), &mut cx);
-    check_plain(&rt, rt.alloc(), &mut cx, Named::U8, true);
-    check_plain(&rt, rt.alloc(), &mut cx, Named::BoxOfVariable, true);
-    check_plain(&rt, rt.alloc(), &mut cx, Named::OutOfVariable, false);
-    check_what_is_local(&rt, &mut cx);
+    check_all(&rt, rt.alloc(), &mut cx);
 }

@@ -270,16 +270,21 @@ fn check_numbers(rt: &impl Abort, cx: &mut Cx, first: u32, second: u32) {
     check_regions(rt, cx, first, second);
 }
 
+/// What is made is told apart, read back, and marked.
+fn check_all(rt: &impl Abort, alloc: Global, cx: &mut Cx) {
+    check_clauses(rt, alloc, cx);
+    check_environments(rt, alloc, cx);
+    check_escapes(rt, alloc, cx, 0);
+    check_escapes(rt, alloc, cx, 1);
+    check_no_escape(rt, cx);
+    check_flags(rt, alloc, cx);
+    check_numbers(rt, cx, 0, 0);
+    check_numbers(rt, cx, 0, 1);
+    check_variables(rt, alloc, cx);
+}
+
 #[test]
 fn makes_clauses_and_environments(rt: HostRuntime) {
     let mut cx = declared(&rt, rt.alloc());
-    check_clauses(&rt, rt.alloc(), &mut cx);
-    check_environments(&rt, rt.alloc(), &mut cx);
-    check_escapes(&rt, rt.alloc(), &mut cx, 0);
-    check_escapes(&rt, rt.alloc(), &mut cx, 1);
-    check_no_escape(&rt, &mut cx);
-    check_flags(&rt, rt.alloc(), &mut cx);
-    check_numbers(&rt, &mut cx, 0, 0);
-    check_numbers(&rt, &mut cx, 0, 1);
-    check_variables(&rt, rt.alloc(), &mut cx);
+    check_all(&rt, rt.alloc(), &mut cx);
 }

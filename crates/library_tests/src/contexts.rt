@@ -4,7 +4,7 @@ ghost use Rattle.std.specs.Prelude.{IfOk};
 ghost use Rattle.candidate_ir.specs.Words.{IsTy, IsArgs, ConstKindFits};
 
 use crate::asserts::{equals, holds};
-use crate::builders::{args, constant, push_arg, ty};
+use crate::builders::{args, constant, push_arg, try_ty, ty};
 use crate::parts::make_parts;
 use crate::samples::{BOX, TRAIT, declared};
 use candidate_ir::decl::context::Cx;
@@ -106,9 +106,9 @@ fn reads_back<M: Make>(maker: &mut M) -> Result<bool, Stop> {
 fn of_height(cx: &mut Cx, height: u16) -> Result<Ty, Stop>
     ensures { IfOk result (λ ty. IsTy cx.new.trees ty) }
 {
-    let mut ty = cx.mk_ty(TyKind::Uint(UintTy::U8))?;
+    let mut ty = try_ty(cx, TyKind::Uint(UintTy::U8))?;
     for _ in 1..height {
-        ty = cx.mk_ty(TyKind::Slice(ty))?;
+        ty = try_ty(cx, TyKind::Slice(ty))?;
     }
     Ok(ty)
 }
@@ -124,7 +124,7 @@ fn list_of_height(cx: &mut Cx, height: u16) -> Result<Args, Stop>
 /// A tuple of a type of that height.
 fn tuple_over(cx: &mut Cx, height: u16) -> Result<Ty, Stop> {
     let list = list_of_height(cx, height)?;
-    cx.mk_ty(TyKind::Tuple(list))
+    try_ty(cx, TyKind::Tuple(list))
 }
 
 /// The highest type and the highest tuple, and those that are too high.
@@ -136,17 +136,22 @@ fn check_heights(rt: &impl Abort, cx: &mut Cx) {
     equals(rt, &tuple_over(cx, 1024), &too_high, "a higher tuple");
 }
 
+/// What is made is read back, marked, taken back, and refused where it is too high.
+fn check_all(rt: &impl Abort, alloc: Global, cx: &mut Cx) {
+    check_leaves(rt, alloc, cx);
+    check_box(rt, alloc, cx);
+    check_list(rt, cx);
+    check_array(rt, alloc, cx, ConstKind::Value(3), "");
+    check_array(rt, alloc, cx, ConstKind::Param(1), "P");
+    check_array(rt, alloc, cx, ConstKind::Infer(1), "C");
+    check_taken_back(rt, alloc, cx);
+    let reads_back = reads_back(cx);
+    equals(rt, &reads_back, &Ok(true), "through the trait");
+    check_heights(rt, cx);
+}
+
 #[test]
 fn makes_types_and_lists(rt: HostRuntime) {
     let mut cx = declared(&rt, rt.alloc());
-    check_leaves(&rt, rt.alloc(), &mut cx);
-    check_box(&rt, rt.alloc(), &mut cx);
-    check_list(&rt, &mut cx);
-    check_array(&rt, rt.alloc(), &mut cx, ConstKind::Value(3), "");
-    check_array(&rt, rt.alloc(), &mut cx, ConstKind::Param(1), "P");
-    check_array(&rt, rt.alloc(), &mut cx, ConstKind::Infer(1), "C");
-    check_taken_back(&rt, rt.alloc(), &mut cx);
-    let reads_back = reads_back(&mut cx);
-    equals(&rt, &reads_back, &Ok(true), "through the trait");
-    check_heights(&rt, &mut cx);
+    check_all(&rt, rt.alloc(), &mut cx);
 }
