@@ -1,12 +1,13 @@
 //! The types and bounds that are made of what was read. All regions are static, and no binder has variables.
 //!
-//! Each call stops as the calls of `Cx` that it makes.
+//! Each call stops as the calls of `Cx` that it makes; of a bound this is `Fault::Stop`.
 
 ghost use Rattle.std.specs.Prelude.{◌≡◌, false, IfOk};
 ghost use Rattle.candidate_ir.specs.Context.{Grows};
 ghost use Rattle.candidate_ir.specs.Words.{IsTy, ListFits, PredFits, BoundsFit, AtMostOnePrincipal, names_trait};
 ghost use Rattle.assembly_text.specs.Params.{LacksParam, ListLacksParam, BoundLacksParam, BoundsLackParam};
 
+use crate::faults::Fault;
 use candidate_ir::decl::context::Cx;
 use candidate_ir::ir::kinds::{
     AdtId, AliasTy, AssocId, Binder, ExistentialPredicate, ExistentialProjection,
@@ -87,7 +88,7 @@ pub fn dynamic(cx: &mut Cx, bounds: &[Binder<ExistentialPredicate>]) -> Result<T
 }
 
 /// The bound by the auto trait.
-pub fn auto_bound(cx: &mut Cx, id: TraitId) -> Result<Binder<ExistentialPredicate>, Stop>
+pub fn auto_bound<'a>(cx: &mut Cx, id: TraitId) -> Result<Binder<ExistentialPredicate>, Fault<'a>>
     ensures grows { Grows cx.old cx.new }
     ensures fits { IfOk result (λ bound. PredFits cx.new.trees bound) }
     ensures no_param { IfOk result (λ bound. BoundLacksParam cx.new.trees bound) }
@@ -101,11 +102,11 @@ pub fn auto_bound(cx: &mut Cx, id: TraitId) -> Result<Binder<ExistentialPredicat
 }
 
 /// The bound by the trait with these arguments.
-pub fn trait_bound(
+pub fn trait_bound<'a>(
     cx: &mut Cx,
     id: TraitId,
     list: Vec<GenericArg>,
-) -> Result<Binder<ExistentialPredicate>, Stop>
+) -> Result<Binder<ExistentialPredicate>, Fault<'a>>
     requires fit { ListFits cx.old.trees list.items }
     requires no_param { ListLacksParam cx.old.trees list.items }
     ensures grows { Grows cx.old cx.new }
@@ -121,12 +122,12 @@ pub fn trait_bound(
 }
 
 /// The bound by the associated type with these arguments of its trait, which is the type.
-pub fn projection_bound(
+pub fn projection_bound<'a>(
     cx: &mut Cx,
     id: AssocId,
     list: Vec<GenericArg>,
     term: Ty,
-) -> Result<Binder<ExistentialPredicate>, Stop>
+) -> Result<Binder<ExistentialPredicate>, Fault<'a>>
     requires list { ListFits cx.old.trees list.items }
     requires list_no_param { ListLacksParam cx.old.trees list.items }
     requires term { IsTy cx.old.trees term }

@@ -131,15 +131,15 @@ impl<'a> Scope<'a> {
         ensures principal { IfOk result (λ bound. has_principal ≡ true → names_trait bound.value ≡ false) }
     {
         match self.next_bound_head(words, has_principal)? {
-            BoundHead::AutoTrait(id) => bound_by_auto_trait(&mut self.cx, id),
+            BoundHead::AutoTrait(id) => auto_bound(&mut self.cx, id),
             BoundHead::Trait(id, count) => {
                 let list = self.read_types(words, u32::from(count), depth)?;
-                bound_by_trait(&mut self.cx, id, list)
+                trait_bound(&mut self.cx, id, list)
             }
             BoundHead::Projection(id, count) => {
                 let list = self.read_types(words, u32::from(count), depth)?;
                 let term = self.read_type(words, depth)?;
-                bound_by_projection(&mut self.cx, id, list, term)
+                projection_bound(&mut self.cx, id, list, term)
             }
         }
     }
@@ -366,50 +366,6 @@ fn dyn_type<'a>(cx: &mut Cx, bounds: Vec<Binder<ExistentialPredicate>>) -> Resul
     ensures no_param { IfOk result (λ ty. LacksParam cx.new.trees ty.0) }
 {
     Ok(dynamic(cx, bounds.as_slice())?)
-}
-
-fn bound_by_auto_trait<'a>(
-    cx: &mut Cx,
-    id: TraitId,
-) -> Result<Binder<ExistentialPredicate>, Fault<'a>>
-    ensures grows { Grows cx.old cx.new }
-    ensures fits { IfOk result (λ bound. PredFits cx.new.trees bound) }
-    ensures no_param { IfOk result (λ bound. BoundLacksParam cx.new.trees bound) }
-    ensures principal { IfOk result (λ bound. names_trait bound.value ≡ false) }
-{
-    Ok(auto_bound(cx, id)?)
-}
-
-fn bound_by_trait<'a>(
-    cx: &mut Cx,
-    id: TraitId,
-    list: Vec<GenericArg>,
-) -> Result<Binder<ExistentialPredicate>, Fault<'a>>
-    requires fit { ListFits cx.old.trees list.items }
-    requires no_param { ListLacksParam cx.old.trees list.items }
-    ensures grows { Grows cx.old cx.new }
-    ensures fits { IfOk result (λ bound. PredFits cx.new.trees bound) }
-    ensures no_param { IfOk result (λ bound. BoundLacksParam cx.new.trees bound) }
-{
-    Ok(trait_bound(cx, id, list)?)
-}
-
-fn bound_by_projection<'a>(
-    cx: &mut Cx,
-    id: AssocId,
-    list: Vec<GenericArg>,
-    term: Ty,
-) -> Result<Binder<ExistentialPredicate>, Fault<'a>>
-    requires list { ListFits cx.old.trees list.items }
-    requires list_no_param { ListLacksParam cx.old.trees list.items }
-    requires term { IsTy cx.old.trees term }
-    requires term_no_param { LacksParam cx.old.trees term.0 }
-    ensures grows { Grows cx.old cx.new }
-    ensures fits { IfOk result (λ bound. PredFits cx.new.trees bound) }
-    ensures no_param { IfOk result (λ bound. BoundLacksParam cx.new.trees bound) }
-    ensures principal { IfOk result (λ bound. names_trait bound.value ≡ false) }
-{
-    Ok(projection_bound(cx, id, list, term)?)
 }
 
 fn is_principal(bound: Binder<ExistentialPredicate>) -> bool

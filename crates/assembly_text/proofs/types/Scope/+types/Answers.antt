@@ -33,14 +33,14 @@ read_bounds-loop-preserved t c =
           ∙ ap (λ (b : Bool). one_if (c.loop.has_principal || b)) (sym c.is_principal-has_principal.ensures));
     }
 
-pub read_bound-bound_by_projection-requires-clause-list :
-    goal.read_bound-bound_by_projection-requires-clause-list
-read_bound-bound_by_projection-requires-clause-list t c =
+pub read_bound-projection_bound-requires-clause-list :
+    goal.read_bound-projection_bound-requires-clause-list
+read_bound-projection_bound-requires-clause-list t c =
     ListFits-grows _ _ _ c.read_type.ensures.grows c.in_ok-list-in-Projection.ensures.fits
 
-pub read_bound-bound_by_projection-requires-clause-list_no_param :
-    goal.read_bound-bound_by_projection-requires-clause-list_no_param
-read_bound-bound_by_projection-requires-clause-list_no_param t c =
+pub read_bound-projection_bound-requires-clause-list_no_param :
+    goal.read_bound-projection_bound-requires-clause-list_no_param
+read_bound-projection_bound-requires-clause-list_no_param t c =
     list-lacks-grows _ _ _ c.read_type.ensures.grows c.in_ok-list-in-Projection.ensures.fits c.in_ok-list-in-Projection.ensures.no_param
 
 pub read_bounds-returns-in_err-push-clause-grows : goal.read_bounds-returns-in_err-push-clause-grows
