@@ -1,7 +1,8 @@
 //! The types and bounds that are made of what was read. All regions are static, and no binder has variables.
 //!
-//! Each call stops as the calls of `Cx` that it makes. Whether the arguments are those that a definition takes
-//! is asked of the context once more, so that what is made fits it.
+//! Each call stops as the calls of `Cx` that it makes; of a bound and of what a word begins this is `Fault::Stop`.
+//! Whether the arguments are those that a definition takes is asked of the context once more, so that what is made
+//! fits it.
 
 ghost use Rattle.std.specs.Prelude.{◌≡◌, false, IfOk};
 ghost use Rattle.candidate_ir.specs.Context.{Grows};
@@ -119,7 +120,7 @@ pub fn dynamic<'a>(
 }
 
 /// The bound by the auto trait.
-pub fn auto_bound(cx: &mut Cx, id: TraitId) -> Result<Binder<ExistentialPredicate>, Stop>
+pub fn auto_bound<'a>(cx: &mut Cx, id: TraitId) -> Result<Binder<ExistentialPredicate>, Fault<'a>>
     ensures grows { Grows cx.old cx.new }
     ensures fits { IfOk result (λ bound. PredFits cx.new.trees bound) }
     ensures no_param { IfOk result (λ bound. BoundLacksParam cx.new.trees bound) }
@@ -133,11 +134,11 @@ pub fn auto_bound(cx: &mut Cx, id: TraitId) -> Result<Binder<ExistentialPredicat
 }
 
 /// The bound by the trait with these arguments.
-pub fn trait_bound(
+pub fn trait_bound<'a>(
     cx: &mut Cx,
     id: TraitId,
     list: Vec<GenericArg>,
-) -> Result<Binder<ExistentialPredicate>, Stop>
+) -> Result<Binder<ExistentialPredicate>, Fault<'a>>
     requires fit { ListFits cx.old.trees list.items }
     requires no_param { ListLacksParam cx.old.trees list.items }
     ensures grows { Grows cx.old cx.new }
@@ -153,12 +154,12 @@ pub fn trait_bound(
 }
 
 /// The bound by the associated type with these arguments of its trait, which is the type.
-pub fn projection_bound(
+pub fn projection_bound<'a>(
     cx: &mut Cx,
     id: AssocId,
     list: Vec<GenericArg>,
     term: Ty,
-) -> Result<Binder<ExistentialPredicate>, Stop>
+) -> Result<Binder<ExistentialPredicate>, Fault<'a>>
     requires list { ListFits cx.old.trees list.items }
     requires list_no_param { ListLacksParam cx.old.trees list.items }
     requires term { IsTy cx.old.trees term }

@@ -1,16 +1,17 @@
 //! Reading and printing types.
 
-ghost use Rattle.std.specs.Prelude.{◌≡◌, true, false, IfOk};
+ghost use Rattle.std.specs.Prelude.{◌≡◌, ◌<◌, true, false, IfOk};
 ghost use Rattle.candidate_ir.specs.Context.{Grows};
 ghost use Rattle.candidate_ir.specs.References.{ArgumentsFit};
 ghost use Rattle.candidate_ir.specs.Words.{IsTy, IsArgs, IsPreds, KindFits, ListFits, PredFits, BoundsFit, AtMostOnePrincipal, names_trait};
 ghost use Rattle.assembly_text.specs.Types.{IsNoPrincipal};
 ghost use Rattle.candidate_eval.specs.Calls.{HasNoParam};
-ghost use Rattle.assembly_text.specs.Notation.{IsChildless};
+ghost use Rattle.assembly_text.specs.Notation.{IsChildless, IsLeaf};
 ghost use Rattle.assembly_text.specs.Params.{LacksParam, ListLacksParam, BoundLacksParam, BoundsLackParam};
 
 use crate::building::{
-    Constructor, auto_bound, construct, dynamic, fitting, pointer_to, projection_bound, trait_bound,
+    Constructor, Pointer, auto_bound, construct, dynamic, fitting, pointer_to, projection_bound,
+    trait_bound,
 };
 use crate::faults::Fault;
 use crate::names::{Item, Names};
@@ -58,15 +59,12 @@ impl<'a> Scope<'a> {
         ensures sort { IfOk result (λ ty. IsTy self.new.cx.trees ty) }
         ensures no_param { IfOk result (λ ty. LacksParam self.new.cx.trees ty.0) }
     {
-        let word = words.word()?;
-        let Some(below) = depth.checked_sub(1) else {
-            return Err(Fault::Stop(Stop::NodesFull));
-        };
-        match self.head(word)? {
-            Head::Leaf(kind) => fitting(&mut self.cx, kind, word),
+        let (word, head, below) = self.next_head(words, depth)?;
+        match head {
+            Head::Leaf(kind) => leaf_type(&mut self.cx, kind, word),
             Head::Before(pointer) => {
                 let target = self.read_type(words, below)?;
-                Ok(pointer_to(&mut self.cx, pointer, target)?)
+                type_before(&mut self.cx, pointer, target)
             }
             Head::Over(constructor, count) => {
                 let list = self.read_types(words, count, below)?;
@@ -74,7 +72,7 @@ impl<'a> Scope<'a> {
             }
             Head::Dyn(count) => {
                 let bounds = self.read_bounds(words, count, below)?;
-                dynamic(&mut self.cx, bounds.as_slice(), word)
+                dyn_type(&mut self.cx, bounds, word)
             }
         }
     }
@@ -134,16 +132,16 @@ impl<'a> Scope<'a> {
         ensures no_param { IfOk result (λ bound. BoundLacksParam self.new.cx.trees bound) }
         ensures principal { IfOk result (λ bound. has_principal ≡ true → names_trait bound.value ≡ false) }
     {
-        match self.bound_head(words.word()?, has_principal)? {
-            BoundHead::AutoTrait(id) => Ok(auto_bound(&mut self.cx, id)?),
+        match self.next_bound_head(words, has_principal)? {
+            BoundHead::AutoTrait(id) => auto_bound(&mut self.cx, id),
             BoundHead::Trait(id, count) => {
                 let list = self.read_types(words, u32::from(count), depth)?;
-                Ok(trait_bound(&mut self.cx, id, list)?)
+                trait_bound(&mut self.cx, id, list)
             }
             BoundHead::Projection(id, count) => {
                 let list = self.read_types(words, u32::from(count), depth)?;
                 let term = self.read_type(words, depth)?;
-                Ok(projection_bound(&mut self.cx, id, list, term)?)
+                projection_bound(&mut self.cx, id, list, term)
             }
         }
     }
@@ -167,6 +165,36 @@ impl<'a> Scope<'a> {
             return Err(Fault::UnknownName(word));
         }
         Ok(trait_ref)
+    }
+
+    /// The next word, what it makes of the words that follow, and how deep these may be nested.
+    ///
+    /// Besides the faults of the word, `Fault::Stop` comes where it is nested deeper.
+    fn next_head(
+        &self,
+        words: &mut Words<'a>,
+        depth: u16,
+    ) -> Result<(&'a str, Head, u16), Fault<'a>>
+        ensures childless { IfOk result (λ r. IsChildless r.1) }
+        ensures below { IfOk result (λ r. r.2 < depth) }
+    {
+        let word = words.word()?;
+        let Some(below) = depth.checked_sub(1) else {
+            return Err(Fault::Stop(Stop::NodesFull));
+        };
+        Ok((word, self.head(word)?, below))
+    }
+
+    /// What the next word says as the first one of a bound.
+    fn next_bound_head(
+        &self,
+        words: &mut Words<'a>,
+        has_principal: bool,
+    ) -> Result<BoundHead, Fault<'a>>
+        ensures { IfOk result (λ head. has_principal ≡ true → IsNoPrincipal head) }
+    {
+        let word = words.word()?;
+        self.bound_head(word, has_principal)
     }
 
     /// What the first word of a type makes of the words that follow.
@@ -302,6 +330,43 @@ impl<'a> Scope<'a> {
         text.push_str(self.names.definition(number).unwrap_or(UNSPELLED))?;
         Ok(())
     }
+}
+
+/// The type that a word alone is.
+fn leaf_type<'a>(cx: &mut Cx, kind: TyKind, word: &'a str) -> Result<Ty, Fault<'a>>
+    requires { IsLeaf kind }
+    ensures grows { Grows cx.old cx.new }
+    ensures sort { IfOk result (λ ty. IsTy cx.new.trees ty) }
+    ensures no_param { IfOk result (λ ty. LacksParam cx.new.trees ty.0) }
+{
+    fitting(cx, kind, word)
+}
+
+/// The type of a word before a type.
+fn type_before<'a>(cx: &mut Cx, pointer: Pointer, target: Ty) -> Result<Ty, Fault<'a>>
+    requires target { IsTy cx.old.trees target }
+    requires no_param { LacksParam cx.old.trees target.0 }
+    ensures grows { Grows cx.old cx.new }
+    ensures sort { IfOk result (λ ty. IsTy cx.new.trees ty) }
+    ensures no_param { IfOk result (λ ty. LacksParam cx.new.trees ty.0) }
+{
+    Ok(pointer_to(cx, pointer, target)?)
+}
+
+/// The `dyn` type of these bounds.
+fn dyn_type<'a>(
+    cx: &mut Cx,
+    bounds: Vec<Binder<ExistentialPredicate>>,
+    word: &'a str,
+) -> Result<Ty, Fault<'a>>
+    requires fit { BoundsFit cx.old.trees bounds.items }
+    requires principal { AtMostOnePrincipal bounds.items }
+    requires no_param { BoundsLackParam cx.old.trees bounds.items }
+    ensures grows { Grows cx.old cx.new }
+    ensures sort { IfOk result (λ ty. IsTy cx.new.trees ty) }
+    ensures no_param { IfOk result (λ ty. LacksParam cx.new.trees ty.0) }
+{
+    dynamic(cx, bounds.as_slice(), word)
 }
 
 fn is_principal(bound: Binder<ExistentialPredicate>) -> bool

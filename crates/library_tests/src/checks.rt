@@ -68,43 +68,33 @@ fn normal<M: Make>(maker: &mut M, ty: Ty, way: Way) -> Result<Ty, NormalizeErr<u
     }
 }
 
-/// What a check says.
-#[derive(Clone, Copy, Debug, PartialEq, Eq)]
-enum Said {
-    Passes,
-    /// So many types were met.
-    NonLocal(usize),
-    Uncovered {
-        variable: Option<u32>,
-        has_local: bool,
-    },
-    Failed(u32),
-    Stopped(Stop),
-}
+// What a check says.
 
-/// A variable is uncovered, and no type is local.
-const UNCOVERED: Said = Said::Uncovered {
-    variable: Some(0),
-    has_local: false,
-};
+const PASSES: &str = "passes";
 
-/// A variable is uncovered, and a type is local.
-const UNCOVERED_BEFORE_LOCAL: Said = Said::Uncovered {
-    variable: Some(0),
-    has_local: true,
-};
+const ONE_NOT_LOCAL: &str = "a type that isn't local was met";
+
+const TWO_NOT_LOCAL: &str = "two types that aren't local were met";
+
+const FAILED: &str = "the normaliser failed with 7";
+
+const TOO_DEEP: &str = "the walk is too deep";
+
+const LIMIT: &str = "the evaluator's limit is reached";
+
+/// Variable 0 is uncovered, and no type is local.
+const UNCOVERED: &str = "variable 0 is uncovered";
+
+/// Variable 0 is uncovered, and a type is local.
+const UNCOVERED_BEFORE_LOCAL: &str = "variable 0 is uncovered before a local type";
 
 /// A projection is uncovered, and no type is local.
-const UNCOVERED_PROJECTION: Said = Said::Uncovered {
-    variable: None,
-    has_local: false,
-};
+const UNCOVERED_PROJECTION: &str = "a projection is uncovered";
 
 /// A projection is uncovered, and a type is local.
-const PROJECTION_BEFORE_LOCAL: Said = Said::Uncovered {
-    variable: None,
-    has_local: true,
-};
+const PROJECTION_BEFORE_LOCAL: &str = "a projection is uncovered before a local type";
+
+const OTHER: &str = "something else";
 
 fn variable_number(cx: &Cx, ty: Ty) -> Option<u32>
     requires { IsTy cx.now.trees ty }
@@ -115,18 +105,44 @@ fn variable_number(cx: &Cx, ty: Ty) -> Option<u32>
     }
 }
 
-fn outcome(cx: &Cx, checked: Result<Result<(), OrphanCheckErr<Ty>>, OrphanStop<u32>>) -> Said
+fn uncovered(variable: Option<u32>, has_local: bool) -> &'static str {
+    match (variable, has_local) {
+        (Some(0), false) => UNCOVERED,
+        (Some(0), true) => UNCOVERED_BEFORE_LOCAL,
+        (Some(_), _) => OTHER,
+        (None, false) => UNCOVERED_PROJECTION,
+        (None, true) => PROJECTION_BEFORE_LOCAL,
+    }
+}
+
+fn stopped(stop: Stop) -> &'static str {
+    match stop {
+        Stop::WalkDepth => TOO_DEEP,
+        Stop::EvaluatorLimit => LIMIT,
+        _ => OTHER,
+    }
+}
+
+fn outcome(
+    cx: &Cx,
+    checked: Result<Result<(), OrphanCheckErr<Ty>>, OrphanStop<u32>>,
+) -> &'static str
     requires { AreAnswerTypes cx.now.trees checked }
 {
     match checked {
-        Ok(Ok(())) => Said::Passes,
-        Ok(Err(OrphanCheckErr::NonLocalInputType(types))) => Said::NonLocal(types.len()),
-        Ok(Err(OrphanCheckErr::UncoveredTyParams(found))) => Said::Uncovered {
-            variable: variable_number(cx, found.uncovered),
-            has_local: found.local_ty.is_some(),
+        Ok(Ok(())) => PASSES,
+        Ok(Err(OrphanCheckErr::NonLocalInputType(types))) => match types.len() {
+            1 => ONE_NOT_LOCAL,
+            2 => TWO_NOT_LOCAL,
+            _ => OTHER,
         },
-        Err(OrphanStop::Normalize(error)) => Said::Failed(error),
-        Err(OrphanStop::Stop(stop)) => Said::Stopped(stop),
+        Ok(Err(OrphanCheckErr::UncoveredTyParams(found))) => {
+            let variable = variable_number(cx, found.uncovered);
+            uncovered(variable, found.local_ty.is_some())
+        }
+        Err(OrphanStop::Normalize(7)) => FAILED,
+        Err(OrphanStop::Normalize(_)) => OTHER,
+        Err(OrphanStop::Stop(stop)) => stopped(stop),
     }
 }
 
@@ -147,7 +163,7 @@ fn orphan_said<C: InferCtxtLike>(
     in_crate: InCrate,
     way: Way,
     trait_ref: TraitRef,
-) -> Said
+) -> &'static str
     requires { IsArgs (C.context infcx.old).trees trait_ref.args }
 {
     let has_param = infcx.cx().has_param(trait_ref);
@@ -176,7 +192,7 @@ fn said_of(
     way: Way,
     def_id: TraitId,
     types: &[Named],
-) -> Said {
+) -> &'static str {
     let mut cx = declared(rt, alloc);
     let trait_ref = trait_ref(rt, alloc, &mut cx, def_id, types);
     orphan_said(rt, alloc, &mut cx, in_crate, way, trait_ref)
@@ -184,18 +200,13 @@ fn said_of(
 
 #[test]
 fn checks_by_the_normaliser(rt: HostRuntime) {
-    let rows: &[(Way, TraitId, &[Named], Said)] = &[
-        (
-            Way::RefersToU8,
-            TRAIT,
-            &[Named::U8],
-            Said::Stopped(Stop::WalkDepth),
-        ),
+    let rows: &[(Way, TraitId, &[Named], &str)] = &[
+        (Way::RefersToU8, TRAIT, &[Named::U8], TOO_DEEP),
         (
             Way::RefersToU8,
             TRAIT1,
             &[Named::LocalType, Named::U8],
-            Said::Passes,
+            PASSES,
         ),
         (
             Way::FailsAtU8,
@@ -207,10 +218,10 @@ fn checks_by_the_normaliser(rt: HostRuntime) {
             Way::StopsAtU16,
             TRAIT1,
             &[Named::BoxOfVariable, Named::U16],
-            Said::Stopped(Stop::EvaluatorLimit),
+            LIMIT,
         ),
-        (Way::FailsAtU8, TRAIT, &[Named::U8], Said::Failed(7)),
-        (Way::Plain, TRAIT, &[Named::U8], Said::NonLocal(1)),
+        (Way::FailsAtU8, TRAIT, &[Named::U8], FAILED),
+        (Way::Plain, TRAIT, &[Named::U8], ONE_NOT_LOCAL),
         (
             Way::Plain,
             TRAIT1,
@@ -229,9 +240,9 @@ fn checks_by_the_normaliser(rt: HostRuntime) {
 struct Modes<'a> {
     def_id: TraitId,
     types: &'a [Named],
-    proper: Said,
-    compat: Said,
-    remote: Said,
+    proper: &'a str,
+    compat: &'a str,
+    remote: &'a str,
 }
 
 #[test]
@@ -242,56 +253,56 @@ fn checks_in_its_modes(rt: HostRuntime) {
             types: &[Named::Variable],
             proper: UNCOVERED,
             compat: UNCOVERED,
-            remote: Said::Passes,
+            remote: PASSES,
         },
         Modes {
             def_id: TRAIT1,
             types: &[Named::BoxOfVariable, Named::LocalType],
             proper: UNCOVERED_BEFORE_LOCAL,
             compat: UNCOVERED_BEFORE_LOCAL,
-            remote: Said::Passes,
+            remote: PASSES,
         },
         Modes {
             def_id: TRAIT1,
             types: &[Named::OutOfVariable, Named::LocalType],
             proper: PROJECTION_BEFORE_LOCAL,
-            compat: Said::Passes,
-            remote: Said::Passes,
+            compat: PASSES,
+            remote: PASSES,
         },
         Modes {
             def_id: TRAIT1,
             types: &[Named::OutOfVariable, Named::U8],
             proper: UNCOVERED_PROJECTION,
-            compat: Said::NonLocal(1),
-            remote: Said::Passes,
+            compat: ONE_NOT_LOCAL,
+            remote: PASSES,
         },
         Modes {
             def_id: TRAIT1,
             types: &[Named::OutOfVariable, Named::Variable],
             proper: UNCOVERED_PROJECTION,
             compat: UNCOVERED,
-            remote: Said::Passes,
+            remote: PASSES,
         },
         Modes {
             def_id: TRAIT,
             types: &[Named::LocalType],
-            proper: Said::Passes,
-            compat: Said::Passes,
-            remote: Said::NonLocal(1),
+            proper: PASSES,
+            compat: PASSES,
+            remote: ONE_NOT_LOCAL,
         },
         Modes {
             def_id: TRAIT1,
             types: &[Named::LocalType, Named::Variable],
-            proper: Said::Passes,
-            compat: Said::Passes,
-            remote: Said::Passes,
+            proper: PASSES,
+            compat: PASSES,
+            remote: PASSES,
         },
         Modes {
             def_id: TRAIT1,
             types: &[Named::VecOfVariable, Named::LocalType],
-            proper: Said::Passes,
-            compat: Said::Passes,
-            remote: Said::NonLocal(2),
+            proper: PASSES,
+            compat: PASSES,
+            remote: TWO_NOT_LOCAL,
         },
     ];
     for (row, modes) in rows.iter().enumerate() {
@@ -332,7 +343,7 @@ fn checks_the_values_of_variables(rt: HostRuntime) {
     let value = sample(&rt, &mut cx, Named::LocalType);
     let mut infcx = ValuedContext { cx, value };
     let said = orphan_said(&rt, rt.alloc(), &mut infcx, PROPER, Way::Plain, trait_ref);
-    equals(&rt, &said, &Said::Passes, "a local value");
+    equals(&rt, &said, &PASSES, "a local value");
 }
 
 /// What is known of the reference, by the plain normaliser.
@@ -357,8 +368,7 @@ fn known<C: InferCtxtLike>(
     .ok()
 }
 
-#[test]
-fn knows_impls(rt: HostRuntime) {
+fn check_known(rt: &impl Abort, alloc: Global, cx: &mut Cx) {
     let rows = [
         (TRAIT, Named::Variable, Err(Conflict::Downstream)),
         (TRAIT, Named::VecOfVariable, Err(Conflict::Upstream)),
@@ -367,26 +377,17 @@ fn knows_impls(rt: HostRuntime) {
         (FUNDAMENTAL_TRAIT, Named::VecOfVariable, Ok(())),
     ];
     for (row, (def_id, self_ty, want)) in rows.iter().enumerate() {
-        let mut cx = declared(&rt, rt.alloc());
-        let trait_ref = trait_ref(&rt, rt.alloc(), &mut cx, *def_id, &[*self_ty]);
-        let known = known(&rt, rt.alloc(), &mut cx, trait_ref);
-        equals_in_row(&rt, &known, &Some(*want), row);
+        let trait_ref = trait_ref(rt, alloc, cx, *def_id, &[*self_ty]);
+        let known = known(rt, alloc, cx, trait_ref);
+        equals_in_row(rt, &known, &Some(*want), row);
     }
 }
 
-#[test]
-fn says_which_references_are_plain(rt: HostRuntime) {
-    for (self_ty, want) in [
-        (Named::U8, true),
-        (Named::BoxOfVariable, true),
-        (Named::OutOfVariable, false),
-    ] {
-        let mut cx = declared(&rt, rt.alloc());
-        let trait_ref = trait_ref(&rt, rt.alloc(), &mut cx, TRAIT, &[self_ty]);
-        equals(&rt, &trait_ref_is_plain(&cx, trait_ref), &want, "plain");
-        let has_alias = cx.args_have(trait_ref.args, Flag::Alias);
-        equals(&rt, &has_alias, &!want, "an alias");
-    }
+fn check_plain(rt: &impl Abort, alloc: Global, cx: &mut Cx, self_ty: Named, want: bool) {
+    let trait_ref = trait_ref(rt, alloc, cx, TRAIT, &[self_ty]);
+    equals(rt, &trait_ref_is_plain(cx, trait_ref), &want, "plain");
+    let has_alias = cx.args_have(trait_ref.args, Flag::Alias);
+    equals(rt, &has_alias, &!want, "an alias");
 }
 
 /// Whether a data type is local and fundamental, and whether a foreign type of that number is local.
@@ -422,53 +423,34 @@ fn check_trait(rt: &impl Abort, cx: &Cx, trait_ref: TraitRef, is_local: bool, is
     equals(rt, &is_either, &(is_local || is_fundamental), "trait");
 }
 
+fn check_what_is_local(rt: &impl Abort, cx: &mut Cx) {
+    let args = args(rt, cx, &[]);
+    check_adt(rt, cx, VEC, false, false);
+    check_adt(rt, cx, BOX, false, true);
+    check_adt(rt, cx, LOCAL_TYPE, true, false);
+    let def_id = TRAIT;
+    check_trait(rt, cx, TraitRef { def_id, args }, false, false);
+    let def_id = LOCAL_TRAIT;
+    check_trait(rt, cx, TraitRef { def_id, args }, true, false);
+    let def_id = FUNDAMENTAL_TRAIT;
+    check_trait(rt, cx, TraitRef { def_id, args }, false, true);
+    let is_first = IsFirstInputType::from(true);
+    equals(rt, &is_first, &IsFirstInputType::Yes, "true");
+    let is_first = IsFirstInputType::from(false);
+    equals(rt, &is_first, &IsFirstInputType::No, "false");
+}
+
+/// What is known, which references are plain, and what is local.
+fn check_all(rt: &impl Abort, alloc: Global, cx: &mut Cx) {
+    check_known(rt, alloc, cx);
+    check_plain(rt, alloc, cx, Named::U8, true);
+    check_plain(rt, alloc, cx, Named::BoxOfVariable, true);
+    check_plain(rt, alloc, cx, Named::OutOfVariable, false);
+    check_what_is_local(rt, cx);
+}
+
 #[test]
-fn says_what_is_local(rt: HostRuntime) {
+fn knows_impls_and_what_is_local(rt: HostRuntime) {
     let mut cx = declared(&rt, rt.alloc());
-    let args = args(&rt, &mut cx, &[]);
-    check_adt(&rt, &cx, VEC, false, false);
-    check_adt(&rt, &cx, BOX, false, true);
-    check_adt(&rt, &cx, LOCAL_TYPE, true, false);
-    check_trait(
-        &rt,
-        &cx,
-        TraitRef {
-            def_id: TRAIT,
-            args,
-        },
-        false,
-        false,
-    );
-    check_trait(
-        &rt,
-        &cx,
-        TraitRef {
-            def_id: LOCAL_TRAIT,
-            args,
-        },
-        true,
-        false,
-    );
-    check_trait(
-        &rt,
-        &cx,
-        TraitRef {
-            def_id: FUNDAMENTAL_TRAIT,
-            args,
-        },
-        false,
-        true,
-    );
-    equals(
-        &rt,
-        &IsFirstInputType::from(true),
-        &IsFirstInputType::Yes,
-        "true",
-    );
-    equals(
-        &rt,
-        &IsFirstInputType::from(false),
-        &IsFirstInputType::No,
-        "false",
-    );
+    check_all(&rt, rt.alloc(), &mut cx);
 }

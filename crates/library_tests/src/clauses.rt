@@ -89,12 +89,12 @@ fn check_pair(rt: &impl Abort, alloc: Global, cx: &mut Cx, first: usize, second:
     equals_in_row(rt, &cx.same_clause(a, b), &(first == second), first);
 }
 
-#[test]
-fn tells_clauses_apart(rt: HostRuntime) {
-    let mut cx = declared(&rt, rt.alloc());
+/// Clauses are equal where their rows are, and are what is read of them.
+fn check_clauses(rt: &impl Abort, alloc: Global, cx: &mut Cx) {
     for first in 0..2 * CLAUSES {
+        check_read_back(rt, alloc, cx, first);
         for second in 0..2 * CLAUSES {
-            check_pair(&rt, rt.alloc(), &mut cx, first, second);
+            check_pair(rt, alloc, cx, first, second);
         }
     }
 }
@@ -104,14 +104,6 @@ fn check_read_back(rt: &impl Abort, alloc: Global, cx: &mut Cx, row: usize) {
     let read = cx.clause(first);
     let again = builders::clause(rt, cx, read);
     holds(rt, cx.same_clause(first, again), "what is read of a clause");
-}
-
-#[test]
-fn reads_clauses_back(rt: HostRuntime) {
-    let mut cx = declared(&rt, rt.alloc());
-    for row in 0..2 * CLAUSES {
-        check_read_back(&rt, rt.alloc(), &mut cx, row);
-    }
 }
 
 /// None of two clauses, one, both, and both in the other order.
@@ -136,12 +128,10 @@ fn check_envs(rt: &impl Abort, alloc: Global, cx: &mut Cx, first: usize, second:
     equals_in_row(rt, &cx.param_env(a).len(), &first.min(2), first);
 }
 
-#[test]
-fn makes_environments(rt: HostRuntime) {
-    let mut cx = declared(&rt, rt.alloc());
+fn check_environments(rt: &impl Abort, alloc: Global, cx: &mut Cx) {
     for first in 0..4 {
         for second in 0..4 {
-            check_envs(&rt, rt.alloc(), &mut cx, first, second);
+            check_envs(rt, alloc, cx, first, second);
         }
     }
 }
@@ -194,15 +184,6 @@ fn check_escapes(rt: &impl Abort, alloc: Global, cx: &mut Cx, depth: u32) {
     equals(rt, &escapes, &(depth != 0), "a list");
 }
 
-#[test]
-fn finds_escaping_variables(rt: HostRuntime) {
-    let mut cx = declared(&rt, rt.alloc());
-    check_escapes(&rt, rt.alloc(), &mut cx, 0);
-    check_escapes(&rt, rt.alloc(), &mut cx, 1);
-    let byte = ty(&rt, &mut cx, TyKind::Uint(UintTy::U8));
-    holds(&rt, !cx.has_escaping_bound_vars(byte), "a byte");
-}
-
 /// A parameter is found in a clause, in an environment and in a constant.
 fn check_flags(rt: &impl Abort, alloc: Global, cx: &mut Cx) {
     let parts = make_parts(rt, alloc, cx);
@@ -216,12 +197,6 @@ fn check_flags(rt: &impl Abort, alloc: Global, cx: &mut Cx) {
     let constant = constant(rt, cx, ConstKind::Param(0));
     holds(rt, cx.const_has(constant, Flag::Param), "a constant");
     holds(rt, !cx.const_has(constant, Flag::ConstInfer), "no variable");
-}
-
-#[test]
-fn says_what_stands_in_clauses(rt: HostRuntime) {
-    let mut cx = declared(&rt, rt.alloc());
-    check_flags(&rt, rt.alloc(), &mut cx);
 }
 
 /// Two constants are equal by their numbers.
@@ -283,13 +258,33 @@ fn check_variables(rt: &impl Abort, alloc: Global, cx: &mut Cx) {
     equals(rt, &letters.as_str(), &"TRC", "the variables of a binder");
 }
 
+fn check_no_escape(rt: &impl Abort, cx: &mut Cx) {
+    let byte = ty(rt, cx, TyKind::Uint(UintTy::U8));
+    holds(rt, !cx.has_escaping_bound_vars(byte), "a byte");
+}
+
+/// Constants, lists and regions with these numbers.
+fn check_numbers(rt: &impl Abort, cx: &mut Cx, first: u32, second: u32) {
+    check_constants(rt, cx, first, second);
+    check_lists(rt, cx, first, second);
+    check_regions(rt, cx, first, second);
+}
+
+/// What is made is told apart, read back, and marked.
+fn check_all(rt: &impl Abort, alloc: Global, cx: &mut Cx) {
+    check_clauses(rt, alloc, cx);
+    check_environments(rt, alloc, cx);
+    check_escapes(rt, alloc, cx, 0);
+    check_escapes(rt, alloc, cx, 1);
+    check_no_escape(rt, cx);
+    check_flags(rt, alloc, cx);
+    check_numbers(rt, cx, 0, 0);
+    check_numbers(rt, cx, 0, 1);
+    check_variables(rt, alloc, cx);
+}
+
 #[test]
-fn compares_constants_regions_and_lists(rt: HostRuntime) {
+fn makes_clauses_and_environments(rt: HostRuntime) {
     let mut cx = declared(&rt, rt.alloc());
-    for second in 0..2 {
-        check_constants(&rt, &mut cx, 0, second);
-        check_lists(&rt, &mut cx, 0, second);
-        check_regions(&rt, &mut cx, 0, second);
-    }
-    check_variables(&rt, rt.alloc(), &mut cx);
+    check_all(&rt, rt.alloc(), &mut cx);
 }

@@ -136,17 +136,22 @@ fn check_heights(rt: &impl Abort, cx: &mut Cx) {
     equals(rt, &tuple_over(rt, cx, 1024), &too_high, "a higher tuple");
 }
 
+/// What is made is read back, marked, taken back, and refused where it is too high.
+fn check_all(rt: &impl Abort, alloc: Global, cx: &mut Cx) {
+    check_leaves(rt, alloc, cx);
+    check_box(rt, alloc, cx);
+    check_list(rt, cx);
+    check_array(rt, alloc, cx, ConstKind::Value(3), "");
+    check_array(rt, alloc, cx, ConstKind::Param(1), "P");
+    check_array(rt, alloc, cx, ConstKind::Infer(1), "C");
+    check_taken_back(rt, alloc, cx);
+    let reads_back = reads_back(cx);
+    equals(rt, &reads_back, &Ok(true), "through the trait");
+    check_heights(rt, cx);
+}
+
 #[test]
 fn makes_types_and_lists(rt: HostRuntime) {
     let mut cx = declared(&rt, rt.alloc());
-    check_leaves(&rt, rt.alloc(), &mut cx);
-    check_box(&rt, rt.alloc(), &mut cx);
-    check_list(&rt, &mut cx);
-    check_array(&rt, rt.alloc(), &mut cx, ConstKind::Value(3), "");
-    check_array(&rt, rt.alloc(), &mut cx, ConstKind::Param(1), "P");
-    check_array(&rt, rt.alloc(), &mut cx, ConstKind::Infer(1), "C");
-    check_taken_back(&rt, rt.alloc(), &mut cx);
-    let reads_back = reads_back(&mut cx);
-    equals(&rt, &reads_back, &Ok(true), "through the trait");
-    check_heights(&rt, &mut cx);
+    check_all(&rt, rt.alloc(), &mut cx);
 }

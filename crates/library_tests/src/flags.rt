@@ -113,11 +113,16 @@ fn check_joined(rt: &impl Abort) {
     equals(rt, &placeholder, &want, "placeholders");
 }
 
+/// Flags of types, of what stands in them, and of sorts.
+fn check_all(rt: &impl Abort, alloc: Global, cx: &mut Cx) {
+    check_types(rt, alloc, cx);
+    check_constants(rt, alloc, cx);
+    check_regions(rt, cx);
+    check_joined(rt);
+}
+
 #[test]
 fn says_what_stands_in_a_type(rt: HostRuntime) {
     let mut cx = declared(&rt, rt.alloc());
-    check_types(&rt, rt.alloc(), &mut cx);
-    check_constants(&rt, rt.alloc(), &mut cx);
-    check_regions(&rt, &mut cx);
-    check_joined(&rt);
+    check_all(&rt, rt.alloc(), &mut cx);
 }

@@ -360,16 +360,21 @@ fn check_itself(rt: &impl Abort, alloc: Global, cx: &mut Cx) {
     holds(rt, cx.may_unify(byte, byte, RightSide::Plain), "a type");
 }
 
+/// All tables.
+fn check_all(rt: &impl Abort, alloc: Global, cx: &mut Cx) {
+    check_leaves(rt, alloc, cx);
+    check_data_types_and_tuples(rt, alloc, cx);
+    check_arrays(rt, alloc, cx);
+    check_references(rt, alloc, cx);
+    check_binders(rt, alloc, cx);
+    check_dyn_types(rt, alloc, cx);
+    check_constants(rt, alloc, cx);
+    check_lists(rt, alloc, cx);
+    check_itself(rt, alloc, cx);
+}
+
 #[test]
 fn says_what_may_be_equal(rt: HostRuntime) {
     let mut cx = declared(&rt, rt.alloc());
-    check_leaves(&rt, rt.alloc(), &mut cx);
-    check_data_types_and_tuples(&rt, rt.alloc(), &mut cx);
-    check_arrays(&rt, rt.alloc(), &mut cx);
-    check_references(&rt, rt.alloc(), &mut cx);
-    check_binders(&rt, rt.alloc(), &mut cx);
-    check_dyn_types(&rt, rt.alloc(), &mut cx);
-    check_constants(&rt, rt.alloc(), &mut cx);
-    check_lists(&rt, rt.alloc(), &mut cx);
-    check_itself(&rt, rt.alloc(), &mut cx);
+    check_all(&rt, rt.alloc(), &mut cx);
 }

@@ -13,8 +13,7 @@ fn check_text<T: Display>(rt: &impl Abort, alloc: Global, value: &T, want: &str)
     equals(rt, &text.as_str(), &want, "a text");
 }
 
-#[test]
-fn stops_have_a_text(rt: HostRuntime) {
+fn check_stops(rt: &impl Abort, alloc: Global) {
     for (stop, want) in [
         (Stop::Memory, "a growth was refused"),
         (Stop::WalkDepth, "the orphan walk is nested too deep"),
@@ -27,12 +26,11 @@ fn stops_have_a_text(rt: HostRuntime) {
         (Stop::NodesFull, "no number is left, or a tree is too high"),
         (Stop::EvaluatorLimit, "the evaluator's own limit is reached"),
     ] {
-        check_text(&rt, rt.alloc(), &stop, want);
+        check_text(rt, alloc, &stop, want);
     }
 }
 
-#[test]
-fn faults_have_a_text(rt: HostRuntime) {
+fn check_faults(rt: &impl Abort, alloc: Global) {
     for (fault, want) in [
         (
             DeclFault::UnknownId,
@@ -57,24 +55,18 @@ fn faults_have_a_text(rt: HostRuntime) {
         ),
         (DeclFault::Memory, "a growth was refused"),
     ] {
-        check_text(&rt, rt.alloc(), &fault, want);
+        check_text(rt, alloc, &fault, want);
     }
 }
 
 #[test]
-fn checks_that_stop_have_a_text(rt: HostRuntime) {
+fn stops_and_faults_have_a_text(rt: HostRuntime) {
+    check_stops(&rt, rt.alloc());
+    check_faults(&rt, rt.alloc());
     let failed: OrphanStop<Stop> = OrphanStop::Normalize(Stop::EvaluatorLimit);
-    check_text(
-        &rt,
-        rt.alloc(),
-        &failed,
-        "the evaluator's own limit is reached",
-    );
+    let want = "the evaluator's own limit is reached";
+    check_text(&rt, rt.alloc(), &failed, want);
     let stopped: OrphanStop<Stop> = OrphanStop::Stop(Stop::WalkDepth);
-    check_text(
-        &rt,
-        rt.alloc(),
-        &stopped,
-        "the orphan walk is nested too deep",
-    );
+    let want = "the orphan walk is nested too deep";
+    check_text(&rt, rt.alloc(), &stopped, want);
 }

@@ -159,18 +159,26 @@ fn looks_at_depth_before_the_word(rt: HostRuntime) {
     check_depth(&rt, rt.alloc(), 1023, "Out u8", "line 13: stop 6\n");
 }
 
+/// A declaration of a type with that name.
+fn check_name(rt: &impl Abort, alloc: Global, name: &str, status: Status, want: &str) {
+    let text = joined(rt, alloc, &["adt 1 ", name, " 0"]);
+    check(rt, alloc, text.as_str(), status, want);
+}
+
 #[test]
 fn limits_the_length_of_names(rt: HostRuntime) {
-    let longest = repeated(&rt, rt.alloc(), "adt 1 ", "n", 64);
-    let text = joined(&rt, rt.alloc(), &[longest.as_str(), " 0"]);
-    check(&rt, rt.alloc(), text.as_str(), Status::Done, "");
-    let text = joined(&rt, rt.alloc(), &[longest.as_str(), "n 0"]);
-    let want = repeated(&rt, rt.alloc(), "line 1: bad name ", "n", 65);
-    let want = joined(&rt, rt.alloc(), &[want.as_str(), "\n"]);
-    check(
+    let longest = repeated(&rt, rt.alloc(), "", "n", 64);
+    check_name(&rt, rt.alloc(), longest.as_str(), Status::Done, "");
+    let longer = repeated(&rt, rt.alloc(), "", "n", 65);
+    let want = joined(
         &rt,
         rt.alloc(),
-        text.as_str(),
+        &["line 1: bad name ", longer.as_str(), "\n"],
+    );
+    check_name(
+        &rt,
+        rt.alloc(),
+        longer.as_str(),
         Status::BadLine,
         want.as_str(),
     );

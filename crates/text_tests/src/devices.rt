@@ -46,26 +46,38 @@ fn answers_the_stored_run(rt: HostRuntime) {
     check(&rt, rt.alloc(), STORED, Status::Done, want);
 }
 
+/// A run has to end so, where a device fails at the call after so many.
+fn ends(rt: &impl Abort, ended: Status, want: Status, calls: usize) {
+    assert_eq!(rt; ended, want, "{calls} calls");
+}
+
+/// So many bytes have to be written there.
+fn counts(rt: &impl Abort, written: &[u8], want: usize, calls: usize) {
+    assert_eq!(rt; written.len(), want, "{calls} calls");
+}
+
+/// What is written there has to be a beginning of the whole.
+fn begins(rt: &impl Abort, written: &[u8], whole: &str, calls: usize) {
+    assert!(rt; whole.as_bytes().starts_with(written), "{calls} calls");
+}
+
 /// A failure is said where the reader fails at the call after so many, and nothing is written.
 fn check_reads(rt: &impl Abort, alloc: Global, text: &str, reads: usize) {
     let (status, written) = run_with(alloc, text.as_bytes(), reads, usize::MAX);
-    assert_eq!(rt; status, Status::DeviceFailed, "{reads} reads");
-    assert!(rt; written.is_empty(), "{reads} reads");
+    ends(rt, status, Status::DeviceFailed, reads);
+    counts(rt, written.as_slice(), 0, reads);
 }
 
 /// Whether the run is done where the writer fails at the call after so many; else a failure is said. What was written
 /// is a beginning of the whole.
 fn check_writes(rt: &impl Abort, alloc: Global, text: &str, writes: usize, whole: &str) -> bool {
     let (status, written) = run_with(alloc, text.as_bytes(), usize::MAX, writes);
-    assert!(rt;
-        whole.as_bytes().starts_with(written.as_slice()),
-        "{writes} writes"
-    );
+    begins(rt, written.as_slice(), whole, writes);
     if status == Status::Done {
         assert!(rt; whole.len() < writes.saturating_mul(5), "{writes} writes");
         return true;
     }
-    assert_eq!(rt; status, Status::DeviceFailed, "{writes} writes");
+    ends(rt, status, Status::DeviceFailed, writes);
     false
 }
 
@@ -92,13 +104,10 @@ const WRITES: &[usize] = &[0, 1, 1000, 1637, 1638, 1639, 2000, 2405];
 /// The writer fails at the call after so many, of five bytes each, and what was written is a beginning of the whole.
 fn check_beginning(rt: &impl Abort, alloc: Global, text: &str, writes: usize, whole: &str) {
     let (status, written) = run_with(alloc, text.as_bytes(), usize::MAX, writes);
-    assert_eq!(rt; status, Status::DeviceFailed, "{writes} writes");
-    assert!(rt;
-        whole.as_bytes().starts_with(written.as_slice()),
-        "{writes} writes"
-    );
+    ends(rt, status, Status::DeviceFailed, writes);
+    begins(rt, written.as_slice(), whole, writes);
     let count = whole.len().min(writes.saturating_mul(5));
-    assert_eq!(rt; written.len(), count, "{writes} writes");
+    counts(rt, written.as_slice(), count, writes);
 }
 
 #[test]
