@@ -19,3 +19,4 @@ pub mod Instances
 pub mod Pairs
 pub mod MayUnify
 pub mod UnifyCases
+pub mod Rebuild

@@ -1,7 +1,7 @@
 //! What the table says of a number.
 
-ghost use Rattle.std.specs.Prelude.{◌≡◌};
-ghost use Rattle.candidate_ir.specs.Names.{principal_of};
+ghost use Rattle.std.specs.Prelude.{◌≡◌, ◌≤◌};
+ghost use Rattle.candidate_ir.specs.Names.{principal_of, principals};
 ghost use Rattle.candidate_ir.specs.Words.{IsTy, IsConst, IsRegion, IsArgs, IsPreds, IsPred, IsSig, IsClause, IsParamEnv, IsVars, IsVar, ty_tree, const_tree, region_tree, args_forest, preds_forest, pred_tree, sig_tree, clause_tree, env_forest, vars_tree, var_tree, KindFits, ConstKindFits, ListFits, PredListFits, PredFits, SigFits, ClauseFits, ClauseListFits, VarListFits, kind_tree, const_kind_tree, region_kind_tree, list_forest, pred_list_forest, pred_kind_tree, sig_kind_tree, clause_kind_tree, clause_list_forest, vars_kind_tree, var_kind_tree};
 
 use crate::ir::kinds::{
@@ -42,6 +42,7 @@ impl Nodes {
         requires { IsPreds self.now preds }
         ensures fits { PredListFits self.now result.now }
         ensures tree { pred_list_forest self.now result.now ≡ preds_forest self.now preds }
+        ensures principal { principals (preds_forest self.now preds) ≤ 1 }
     {
         match self.node(preds.0) {
             Node::Preds(list) => list.as_slice(),
