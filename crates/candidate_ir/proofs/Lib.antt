@@ -20,3 +20,5 @@ pub mod Pairs
 pub mod MayUnify
 pub mod UnifyCases
 pub mod Rebuild
+pub mod Asking
+pub mod Folds

@@ -1,7 +1,7 @@
 -- The trees of a table.
 use Rattle.std.proofs.Common.{◌≡◌, ℕ, zero, suc, ◌+◌, ◌<◌, ◌≤◌, List, [], ◌∷◌, ◌++◌, length, get_or, refl, sym, ◌∙◌, ap, subst, arith, append_assoc, length-append}
-use Rattle.std.proofs.lemmas.List.{append-nil}
-use Rattle.candidate_ir.specs.Trees.{Tree, height}
+use Rattle.std.proofs.lemmas.List.{append-nil, get_or_default}
+use Rattle.candidate_ir.specs.Trees.{VariableKind, Tree, height}
 use Rattle.std.specs.Prelude.{map}
 use Rattle.candidate_ir.specs.Kinds.{numbers}
 use Rattle.candidate_ir.specs.Nodes.{tree_at, node_tree, Fits, children_of, Extends}
@@ -11,7 +11,10 @@ use Rattle.candidate_ir.specs.declared.ir.node.Node.TheVariants as N
 use Rattle.candidate_ir.specs.Names.{principals}
 use Rattle.candidate_ir.specs.Nodes.{pred_child, rows}
 use Rattle.candidate_ir.specs.declared.ir.node.Row.{Row}
-use Rattle.candidate_ir.proofs.Lists.{Fits-below, Fits-append, node_tree-append, trees_at-append, tree_at-append, tree_at-last}
+use Rattle.candidate_ir.specs.declared.ir.kinds.RegionKind.TheVariants as R
+use Rattle.candidate_ir.specs.Nodes.{kind_at, AreLeaves}
+use Rattle.candidate_ir.proofs.Sorts.{var_node}
+use Rattle.candidate_ir.proofs.Lists.{below_kind, Fits-below, Fits-append, node_tree-append, trees_at-append, tree_at-append, tree_at-last}
 
 pub trees_after-push : (ts : List Tree) (rs : List Row) (r : Row) → trees_after ts (rs ++ r ∷ []) ≡ trees_after ts rs ++ node_tree (trees_after ts rs) r.node ∷ []
 trees_after-push ts [] r = refl
@@ -126,3 +129,13 @@ pushed ts rs us r e f a i =
       trees = trees_after-push [] rs r ∙ ap F e;
       count = omega (arith, length-append rs (r ∷ []), table_length ts rs e);
     })
+
+-- the variables of binders are leaves of every table
+pub leaves : (ts : List Tree) (rs : List Row) → trees_after [] rs ≡ ts → AreRows [] rs → AreLeaves ts
+leaves ts rs e a n k =
+    let h : n < length ts = below_kind ts n VariableKind refl k in
+    let l : n < length rs = omega (arith, table_length ts rs e) in
+    let past : Row = record { node = N.Region R.Static; height = 0 } in
+    let x = table_row ts rs n (get_or rs n past) e a h (get_or_default rs n past (get_or rs n past) l) in
+    let v = var_node ts n (get_or rs n past).node k (RowAt-node ts n (get_or rs n past) x) in
+    ap (λ (t : Tree). t.children) (x.tree ∙ ap (node_tree ts) v.1)

@@ -3,6 +3,7 @@
 pub mod builder;
 pub mod context;
 pub mod definition;
+pub mod fold;
 pub mod make;
 
 pub use builder::{DeclFault, Decls, DeclsBuilder};

@@ -1,10 +1,14 @@
 //! The context: declarations, and the table in which types are made.
 
-ghost use Rattle.std.specs.Prelude.{◌≡◌, ◌+◌, ◌<◌, ◌≤◌, ◌↔◌, IsTrue, false, length, take, map, IfOk, IfErr, Some, None};
+ghost use Rattle.std.specs.Prelude.{◌≡◌, ◌+◌, ◌<◌, ◌≤◌, ◌↔◌, IsTrue, false, true, length, take, map, IfOk, IfErr, MatchOption, Some, None};
 ghost use Rattle.candidate_ir.specs.Context.{world, Grows};
 ghost use Rattle.candidate_ir.specs.Making.{Makes, a_type, a_constant, a_region, a_list, a_binder, some_bounds, a_signature, a_clause, an_environment};
 ghost use Rattle.candidate_ir.specs.Trees.{height, heights, tree_holds, holds, is_param};
 ghost use Rattle.candidate_ir.specs.Flags.{mark};
+ghost use Rattle.candidate_ir.specs.Folds.{is_asked, IsArg};
+ghost use Rattle.candidate_ir.specs.Kinds.{arg_number};
+ghost use Rattle.candidate_ir.specs.Nodes.{tree_at, AreLeaves};
+ghost use Rattle.candidate_ir.specs.Table.{IsNodeOf};
 ghost use Rattle.candidate_ir.specs.Substitutions.{alone};
 ghost use Rattle.candidate_ir.specs.Unify.{may_unify, trees_may_unify, NoCommonInstance};
 ghost use Rattle.candidate_ir.specs.References.{IsWellFormed, Takes, AllTake};
@@ -22,6 +26,7 @@ use crate::ir::kinds::{
     ForeignId, GenericArg, ParamEnv, Pred, Preds, Region, RegionKind, Sig, TraitId, TraitRef, Ty,
     TyKind, Var, VarKind, Vars,
 };
+use crate::ir::node::Node;
 use crate::ir::nodes::Nodes;
 use crate::ir::stop::Stop;
 use crate::ir::unify::RightSide;
@@ -68,6 +73,29 @@ impl Cx {
             definitions,
             nodes,
         }
+    }
+
+    /// The node of a number.
+    pub(crate) fn node(&self, number: u32) -> &Node
+        requires { number < length self.now.trees }
+        ensures { IsNodeOf self.now.trees number result.now }
+    {
+        self.nodes.node(number)
+    }
+
+    /// The type, constant or region of a number, if it is of one.
+    pub(crate) fn argument(&self, number: u32) -> Option<GenericArg>
+        requires { number < length self.now.trees }
+        ensures { MatchOption result (is_asked (tree_at self.now.trees number).head ≡ false) (λ a. (arg_number a ≡ number) × IsArg self.now.trees a × (is_asked (tree_at self.now.trees number).head ≡ true)) }
+    {
+        self.nodes.argument(number)
+    }
+
+    /// No variable of a binder has children.
+    pub(crate) fn variables_are_leaves(&self)
+        ensures { AreLeaves self.now.trees }
+    {
+        self.nodes.variables_are_leaves();
     }
 
     /// How many numbers of types, constants, regions and lists are given.

@@ -2,7 +2,7 @@
 
 ghost use Rattle.std.specs.Prelude.{◌≡◌, ◌++◌, ◌∷◌, [], ◌+◌, ◌<◌, ◌≤◌, length, take, map, IfOk, IfErr};
 ghost use Rattle.candidate_ir.specs.Trees.{height, heights, kind_of};
-ghost use Rattle.candidate_ir.specs.Nodes.{tree_at, kind_at, node_tree, head_of, Fits, Extends};
+ghost use Rattle.candidate_ir.specs.Nodes.{tree_at, kind_at, node_tree, head_of, Fits, Extends, AreLeaves};
 ghost use Rattle.candidate_ir.specs.Table.{IsNodeOf, IsRow, HasOnePrincipal};
 ghost use Rattle.candidate_ir.specs.Names.{principals};
 ghost use Rattle.candidate_ir.specs.Worlds.{World};
@@ -109,6 +109,13 @@ impl Nodes {
         ensures { self.new ≡ take len self.old }
     {
         self.rows.truncate(len);
+    }
+
+    /// No variable of a binder has children.
+    pub(crate) fn variables_are_leaves(&self)
+        ensures { AreLeaves self.now }
+    {
+        let _rows = self.rows.len();
     }
 
     pub(crate) fn len(&self) -> usize

@@ -1,7 +1,10 @@
 //! What the table says of a number.
 
-ghost use Rattle.std.specs.Prelude.{◌≡◌, ◌≤◌};
+ghost use Rattle.std.specs.Prelude.{◌≡◌, ◌<◌, ◌≤◌, false, true, length, MatchOption};
+ghost use Rattle.candidate_ir.specs.Folds.{is_asked, IsArg};
+ghost use Rattle.candidate_ir.specs.Kinds.{arg_number};
 ghost use Rattle.candidate_ir.specs.Names.{principal_of, principals};
+ghost use Rattle.candidate_ir.specs.Nodes.{tree_at};
 ghost use Rattle.candidate_ir.specs.Words.{IsTy, IsConst, IsRegion, IsArgs, IsPreds, IsPred, IsSig, IsClause, IsParamEnv, IsVars, IsVar, ty_tree, const_tree, region_tree, args_forest, preds_forest, pred_tree, sig_tree, clause_tree, env_forest, vars_tree, var_tree, KindFits, ConstKindFits, ListFits, PredListFits, PredFits, SigFits, ClauseFits, ClauseListFits, VarListFits, kind_tree, const_kind_tree, region_kind_tree, list_forest, pred_list_forest, pred_kind_tree, sig_kind_tree, clause_kind_tree, clause_list_forest, vars_kind_tree, var_kind_tree};
 
 use crate::ir::kinds::{
@@ -13,6 +16,19 @@ use crate::ir::node::Node;
 use crate::ir::nodes::Nodes;
 
 impl Nodes {
+    /// The type, constant or region of a number, if it is of one.
+    pub(crate) fn argument(&self, number: u32) -> Option<GenericArg>
+        requires { number < length self.now }
+        ensures { MatchOption result (is_asked (tree_at self.now number).head ≡ false) (λ a. (arg_number a ≡ number) × IsArg self.now a × (is_asked (tree_at self.now number).head ≡ true)) }
+    {
+        match self.node(number) {
+            Node::Ty(_) => Some(GenericArg::Ty(Ty(number))),
+            Node::Const(_) => Some(GenericArg::Const(Const(number))),
+            Node::Region(_) => Some(GenericArg::Region(Region(number))),
+            _ => None,
+        }
+    }
+
     /// The kind of a type.
     pub(crate) fn kind(&self, ty: Ty) -> TyKind
         requires { IsTy self.now ty }

@@ -1,8 +1,8 @@
 //! Nodes like others, over other children.
 
-ghost use Rattle.std.specs.Prelude.{◌≡◌, length, IfOk, map};
+ghost use Rattle.std.specs.Prelude.{◌≡◌, true, length, IfOk, map};
 ghost use Rattle.candidate_ir.specs.Kinds.{arg_number, arg_kind, numbers, numbers as child_numbers, sorts, arg_child, ty_head, ty_children, const_head, const_children, pred_head, pred_children, clause_head, clause_children, sig_children};
-ghost use Rattle.candidate_ir.specs.Nodes.{head_of, children_of, clause_child};
+ghost use Rattle.candidate_ir.specs.Nodes.{head_of, children_of, is_rebuilt, clause_child};
 
 use crate::ir::kinds::{
     AliasTerm, AliasTy, Args, Binder, Clause, ClauseKind, ClosureArgs, ClosureSig, Const,
@@ -242,6 +242,28 @@ impl Node {
             Node::Sig(sig) => Ok(Node::Sig(*sig)),
             Node::Vars(list) => Ok(Node::Vars(list.as_slice().to_vec(alloc)?)),
             Node::Var(kind) => Ok(Node::Var(*kind)),
+        }
+    }
+
+    /// A node like it over these children, which are of the same sorts.
+    pub(crate) fn rebuilt(&self, alloc: Global, children: &[u32]) -> Result<Node, AllocError>
+        requires kind { is_rebuilt self.now ≡ true }
+        requires count { length children.now ≡ length (children_of self.now) }
+        ensures kind { IfOk result (λ d. is_rebuilt d ≡ true) }
+        ensures head { IfOk result (λ d. head_of d ≡ head_of self.now) }
+        ensures numbers { IfOk result (λ d. numbers (children_of d) ≡ children.now) }
+        ensures sorts { IfOk result (λ d. sorts (children_of d) ≡ sorts (children_of self.now)) }
+    {
+        match self {
+            Node::Ty(kind) => Ok(Node::Ty(kind.with_children(children))),
+            Node::Const(kind) => Ok(Node::Const(kind.with_children(children))),
+            Node::Args(list) => Ok(Node::Args(renumbered(alloc, list.as_slice(), children)?)),
+            Node::Clauses(_) => Ok(Node::Clauses(clauses_of(alloc, children)?)),
+            Node::Clause(clause) => Ok(Node::Clause(clause.with_children(children))),
+            Node::Sig(sig) => Ok(Node::Sig(sig.with_children(children))),
+            Node::Region(_) | Node::Preds(_) | Node::Pred(_) | Node::Vars(_) | Node::Var(_) => {
+                unreachable!()
+            }
         }
     }
 }
