@@ -41,9 +41,11 @@ module _ {M Rest F : Type 0} (context : M → Context) (others : M → Rest)
         → Said context others g s d n (Ok (Some (arg_number y))) e
     said-some y h k = record {
       grows = grows;
-      said = (a,
+      said = (
+        a,
         record { of = x; is = i; tree = tree-is; answer = Some y; says = h; seen = refl },
-        k.0 ∙ (k.1 ∙ (sym i ∙ ap (kind_at (context s.1).trees) is_n)));
+        k.0 ∙ (k.1 ∙ (sym i ∙ ap (kind_at (context s.1).trees) is_n)),
+      );
       stopped = tt;
     }
 

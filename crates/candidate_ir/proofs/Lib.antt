@@ -22,3 +22,7 @@ pub mod UnifyCases
 pub mod Rebuild
 pub mod Asking
 pub mod Folds
+pub mod FoldRows
+pub mod FoldSteps
+pub mod FoldNodes
+pub mod FoldBounds

@@ -20,7 +20,7 @@ pred-get ts (x ∷ xs) zero d f h = cc
 pred-get ts (x ∷ xs) (suc i) d f h = let g : PredListFits ts xs = cc in pred-get ts xs i d g (omega arith)
 
 -- the principals of bounds, and those of their row
-bound-principal : (ts : List Tree) (v : ExistentialPredicate) (b : Binder ExistentialPredicate) → b.value ≡ v
+pub bound-principal : (ts : List Tree) (v : ExistentialPredicate) (b : Binder ExistentialPredicate) → b.value ≡ v
     → is_principal (pred_kind_tree ts b).head ≡ names_trait b.value
 bound-principal ts (E.Trait _) b e = rw e refl
 bound-principal ts (E.Projection _) b e = rw e refl

@@ -6,9 +6,9 @@ use Rattle.candidate_ir.specs.declared.ir.heads.Head.{Head}
 use Rattle.candidate_ir.specs.declared.ir.kinds.GenericArg.{GenericArg}
 use Rattle.candidate_ir.specs.declared.ir.stop.Stop.{Stop}
 use Rattle.candidate_ir.specs.declared.ir.stop.Stop.TheVariants.{Memory, NodesFull}
-use Rattle.candidate_ir.specs.Trees.{Kind, TypeKind, ConstantKind, RegionKind, Forest, none, tree, Tree, kind_of, join, count, heights, binders_of}
-use Rattle.candidate_ir.specs.Kinds.{arg_number, arg_kind}
-use Rattle.candidate_ir.specs.Nodes.{tree_at, kind_at}
+use Rattle.candidate_ir.specs.Trees.{Kind, TypeKind, ConstantKind, RegionKind, Forest, none, tree, Tree, kind_of, join, row, count, heights, binders_of}
+use Rattle.candidate_ir.specs.Kinds.{arg_number, arg_kind, Child, numbers, sorts}
+use Rattle.candidate_ir.specs.Nodes.{tree_at, kind_at, trees_at, kinds_at, rows}
 use Rattle.candidate_ir.specs.Context.{Context, Grows}
 
 -- what a fold asks about
@@ -144,3 +144,17 @@ module _ {M Rest F : Type 0} (context : M → Context) (others : M → Rest)
     pub grows : Grows (context s.1) (context e.1)
     pub said : IfOk result (λ o. IsSaid s d n o e)
     pub stopped : IfErr result (λ x. (is_asked (tree_at (context s.1).trees n).head ≡ true) × Refuses s d (tree_at (context s.1).trees n) x)
+
+  -- A fold from one number to another of its kind.
+  pub record Renumbers (s : F × M) (d n : ℕ) (result : Result ℕ Stop) (e : F × M) : Type 0 where
+    pub grows : Grows (context s.1) (context e.1)
+    pub sort : IfOk result (λ k. kind_at (context e.1).trees k ≡ kind_at (context s.1).trees n)
+    pub folded : IfOk result (λ k. FoldsBy s d (row (tree_at (context s.1).trees n) none) (row (tree_at (context e.1).trees k) none) e)
+    pub stopped : IfErr result (λ x. StopsBy (length (context e.1).trees) s d (row (tree_at (context s.1).trees n) none) x)
+
+  -- A fold of a list's members, or of a node's children: the numbers that come are of the same kinds.
+  pub record Relists {A : Type 0} (listed : A → List ℕ) (s : F × M) (d : ℕ) (cs : List Child) (result : Result A Stop) (e : F × M) : Type 0 where
+    pub grows : Grows (context s.1) (context e.1)
+    pub sorts_are : IfOk result (λ v. kinds_at (context e.1).trees (listed v) ≡ sorts cs)
+    pub folded : IfOk result (λ v. FoldsBy s d (rows (trees_at (context s.1).trees (numbers cs))) (rows (trees_at (context e.1).trees (listed v))) e)
+    pub stopped : IfErr result (λ x. StopsBy (length (context e.1).trees) s d (rows (trees_at (context s.1).trees (numbers cs))) x)

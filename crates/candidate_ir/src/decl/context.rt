@@ -6,9 +6,9 @@ ghost use Rattle.candidate_ir.specs.Making.{Makes, a_type, a_constant, a_region,
 ghost use Rattle.candidate_ir.specs.Trees.{height, heights, tree_holds, holds, is_param};
 ghost use Rattle.candidate_ir.specs.Flags.{mark};
 ghost use Rattle.candidate_ir.specs.Folds.{is_asked, IsArg};
-ghost use Rattle.candidate_ir.specs.Kinds.{arg_number};
+ghost use Rattle.candidate_ir.specs.Kinds.{arg_number, numbers, pred_children};
 ghost use Rattle.candidate_ir.specs.Nodes.{tree_at, AreLeaves};
-ghost use Rattle.candidate_ir.specs.Table.{IsNodeOf};
+ghost use Rattle.candidate_ir.specs.Table.{Below, IsNodeOf};
 ghost use Rattle.candidate_ir.specs.Substitutions.{alone};
 ghost use Rattle.candidate_ir.specs.Unify.{may_unify, trees_may_unify, NoCommonInstance};
 ghost use Rattle.candidate_ir.specs.References.{IsWellFormed, Takes, AllTake};
@@ -89,6 +89,16 @@ impl Cx {
         ensures { MatchOption result (is_asked (tree_at self.now.trees number).head ≡ false) (λ a. (arg_number a ≡ number) × IsArg self.now.trees a × (is_asked (tree_at self.now.trees number).head ≡ true)) }
     {
         self.nodes.argument(number)
+    }
+
+    /// One bound, whose parts have lower numbers.
+    pub(crate) fn bound(&self, pred: Pred) -> Binder<ExistentialPredicate>
+        requires { IsPred self.now.trees pred }
+        ensures fits { PredFits self.now.trees result }
+        ensures tree { pred_kind_tree self.now.trees result ≡ pred_tree self.now.trees pred }
+        ensures below { Below pred.0 (numbers (pred_children result)) }
+    {
+        self.nodes.pred(pred)
     }
 
     /// No variable of a binder has children.

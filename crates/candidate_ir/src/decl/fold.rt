@@ -1,17 +1,20 @@
 //! Folds by a closure.
 
-ghost use Rattle.std.specs.Prelude.{◌≡◌, ◌+◌, ◌<◌, ◌^◌, true, length, IfOk, IfErr};
+ghost use Rattle.std.specs.Prelude.{◌≡◌, ◌+◌, ◌<◌, ◌≤◌, ◌^◌, true, false, length, map, IfOk, IfErr};
 ghost use Rattle.candidate_ir.specs.Context.{Grows};
-ghost use Rattle.candidate_ir.specs.Folds.{IsArg, IsOfKind, MayFold, KeepsKinds, Says, Said, Outcome};
-ghost use Rattle.candidate_ir.specs.Kinds.{arg_number};
-ghost use Rattle.candidate_ir.specs.Nodes.{tree_at, kind_at, node_tree, head_of, Fits, is_rebuilt};
-ghost use Rattle.candidate_ir.specs.Trees.{height, kind_of};
-ghost use Rattle.candidate_ir.specs.Words.{IsTy, ty_tree, IsMkStop};
+ghost use Rattle.candidate_ir.specs.Folds.{IsArg, IsOfKind, MayFold, KeepsKinds, Says, Said, Outcome, Renumbers, Relists};
+ghost use Rattle.candidate_ir.specs.Kinds.{arg_number, numbers, sorts};
+ghost use Rattle.candidate_ir.specs.Names.{principals};
+ghost use Rattle.candidate_ir.specs.Nodes.{tree_at, kind_at, node_tree, head_of, children_of, pred_child, Fits, is_rebuilt, is_bound_kind, have_bound};
+ghost use Rattle.candidate_ir.specs.Table.{Below};
+ghost use Rattle.candidate_ir.specs.Trees.{PredicatesKind, height, kind_of, binders_of};
+ghost use Rattle.candidate_ir.specs.Words.{PredListFits, pred_list_forest, IsMkStop};
 
 use crate::decl::make::Make;
-use crate::ir::kinds::GenericArg;
+use crate::ir::kinds::{GenericArg, Pred};
 use crate::ir::node::Node;
 use crate::ir::stop::Stop;
+use std::alloc::Global;
 
 /// One call of the closure.
 fn call<M, F>(
@@ -35,12 +38,7 @@ where
 }
 
 /// What the closure says of a number: of what is no type, constant or region it isn't asked.
-fn said<M, F>(
-    make: &mut M,
-    fold: &mut F,
-    number: u32,
-    binders: u32,
-) -> Result<Option<u32>, Stop>
+fn said<M, F>(make: &mut M, fold: &mut F, number: u32, binders: u32) -> Result<Option<u32>, Stop>
 where
     M: Make,
     F: FnMut(&mut M, GenericArg, u32) -> Result<Option<GenericArg>, Stop>,
@@ -77,6 +75,108 @@ fn add<M: Make>(make: &mut M, node: &Node) -> Result<u32, Stop>
         Node::Sig(sig) => Ok(make.mk_sig(*sig)?.0),
         Node::Region(_) | Node::Preds(_) | Node::Pred(_) | Node::Vars(_) | Node::Var(_) => {
             unreachable!()
+        }
+    }
+}
+
+/// Folds the children of a node of that number, or of a copy of it.
+#[cycle(fold)]
+fn fold_children<M, F>(
+    alloc: Global,
+    make: &mut M,
+    fold: &mut F,
+    node: &Node,
+    number: u32,
+    binders: u32,
+) -> Result<Vec<u32>, Stop>
+where
+    M: Make,
+    F: FnMut(&mut M, GenericArg, u32) -> Result<Option<GenericArg>, Stop>,
+    requires fits { Fits (M.context make.old).trees node.now }
+    requires below { Below number (numbers (children_of node.now)) }
+    requires no_bound { have_bound (sorts (children_of node.now)) ≡ false }
+    requires room { binders + number < 2 ^ 32 }
+    requires callable { MayFold M.context M.rest F.FnMut (fold.old, make.old) }
+    requires keeps { KeepsKinds M.context M.rest F.FnMut (fold.old, make.old) }
+    ensures { Relists M.context M.rest F.FnMut (λ v. v.items) (fold.old, make.old) (binders + binders_of (head_of node.now)) (children_of node.now) result (fold.new, make.new) }
+{
+    let more = node.head().binders();
+    let mut children = Vec::new(alloc);
+    for i in 0..node.child_count() {
+        let child = fold_number(alloc, make, fold, node.child(i), binders + more)?;
+        children.push(child)?;
+    }
+    Ok(children)
+}
+
+/// Folds the bounds of a list of that number.
+#[cycle(fold)]
+fn fold_bounds<M, F>(
+    alloc: Global,
+    make: &mut M,
+    fold: &mut F,
+    list: &[Pred],
+    number: u32,
+    binders: u32,
+) -> Result<u32, Stop>
+where
+    M: Make,
+    F: FnMut(&mut M, GenericArg, u32) -> Result<Option<GenericArg>, Stop>,
+    requires fits { PredListFits (M.context make.old).trees list.now }
+    requires below { Below number (numbers (map pred_child list.now)) }
+    requires principal { principals (pred_list_forest (M.context make.old).trees list.now) ≤ 1 }
+    requires room { binders + number < 2 ^ 32 }
+    requires callable { MayFold M.context M.rest F.FnMut (fold.old, make.old) }
+    requires keeps { KeepsKinds M.context M.rest F.FnMut (fold.old, make.old) }
+    ensures sort { IfOk result (λ n. kind_at (M.context make.new).trees n ≡ PredicatesKind) }
+    ensures outcome { Outcome M.context M.rest F.FnMut (λ ts n. (tree_at ts n).children) (fold.old, make.old) binders (pred_list_forest (M.context make.old).trees list.now) result (fold.new, make.new) }
+{
+    let mut bounds = Vec::new(alloc);
+    for i in 0..list.len() {
+        let bound = make.cx().bound(list[i]);
+        let node = Node::Pred(bound);
+        let children = fold_children(alloc, make, fold, &node, list[i].0, binders)?;
+        bounds.push(bound.with_children(children.as_slice()))?;
+    }
+    Ok(make.mk_preds(bounds.as_slice())?.0)
+}
+
+/// Folds what a number stands for, which is no single bound of a `dyn` type.
+#[cycle(fold)]
+fn fold_number<M, F>(
+    alloc: Global,
+    make: &mut M,
+    fold: &mut F,
+    number: u32,
+    binders: u32,
+) -> Result<u32, Stop>
+where
+    M: Make,
+    F: FnMut(&mut M, GenericArg, u32) -> Result<Option<GenericArg>, Stop>,
+    requires inside { number < length (M.context make.old).trees }
+    requires no_bound { is_bound_kind (kind_at (M.context make.old).trees number) ≡ false }
+    requires room { binders + number < 2 ^ 32 }
+    requires callable { MayFold M.context M.rest F.FnMut (fold.old, make.old) }
+    requires keeps { KeepsKinds M.context M.rest F.FnMut (fold.old, make.old) }
+    ensures { Renumbers M.context M.rest F.FnMut (fold.old, make.old) binders number result (fold.new, make.new) }
+{
+    if let Some(answer) = said(make, fold, number, binders)? {
+        return Ok(answer);
+    }
+    let node = make.cx().node(number).copy(alloc)?;
+    match &node {
+        Node::Region(_) => Ok(number),
+        Node::Var(_) => Ok(number),
+        Node::Vars(_) => {
+            make.cx().variables_are_leaves();
+            Ok(number)
+        }
+        Node::Preds(list) => fold_bounds(alloc, make, fold, list.as_slice(), number, binders),
+        Node::Pred(_) => unreachable!(),
+        _ => {
+            let children = fold_children(alloc, make, fold, &node, number, binders)?;
+            let rebuilt = node.rebuilt(alloc, children.as_slice())?;
+            add(make, &rebuilt)
         }
     }
 }

@@ -2,9 +2,10 @@
 
 ghost use Rattle.std.specs.Prelude.{◌≡◌, ◌<◌, ◌≤◌, false, true, length, MatchOption};
 ghost use Rattle.candidate_ir.specs.Folds.{is_asked, IsArg};
-ghost use Rattle.candidate_ir.specs.Kinds.{arg_number};
+ghost use Rattle.candidate_ir.specs.Kinds.{arg_number, numbers, pred_children};
 ghost use Rattle.candidate_ir.specs.Names.{principal_of, principals};
 ghost use Rattle.candidate_ir.specs.Nodes.{tree_at};
+ghost use Rattle.candidate_ir.specs.Table.{Below};
 ghost use Rattle.candidate_ir.specs.Words.{IsTy, IsConst, IsRegion, IsArgs, IsPreds, IsPred, IsSig, IsClause, IsParamEnv, IsVars, IsVar, ty_tree, const_tree, region_tree, args_forest, preds_forest, pred_tree, sig_tree, clause_tree, env_forest, vars_tree, var_tree, KindFits, ConstKindFits, ListFits, PredListFits, PredFits, SigFits, ClauseFits, ClauseListFits, VarListFits, kind_tree, const_kind_tree, region_kind_tree, list_forest, pred_list_forest, pred_kind_tree, sig_kind_tree, clause_kind_tree, clause_list_forest, vars_kind_tree, var_kind_tree};
 
 use crate::ir::kinds::{
@@ -71,6 +72,7 @@ impl Nodes {
         requires { IsPred self.now pred }
         ensures fits { PredFits self.now result }
         ensures tree { pred_kind_tree self.now result ≡ pred_tree self.now pred }
+        ensures below { Below pred.0 (numbers (pred_children result)) }
     {
         match self.node(pred.0) {
             Node::Pred(bound) => *bound,
