@@ -22,9 +22,13 @@ use Rattle.candidate_ir.specs.Kinds.{Child, numbers, sorts, pred_head, pred_chil
 use Rattle.candidate_ir.specs.Names.{is_principal, principals}
 use Rattle.candidate_ir.specs.Nodes.{tree_at, kind_at, trees_at, kinds_at, rows, node_of, Extends, AreLeaves, pred_child, var_child}
 use Rattle.candidate_ir.specs.Words.{IsPred, PredFits, PredListFits, VarListFits, BoundsFit, AtMostOnePrincipal, names_trait, pred_kind_tree, pred_list_forest, bounds_forest, IsMkListStop}
-use Rattle.candidate_ir.specs.Context.{Context, Grows}
+use Rattle.candidate_ir.specs.Context.{Context, Grows, world}
+use Rattle.candidate_ir.specs.Worlds.{World}
+use Rattle.candidate_ir.specs.References.{AllTake, FitsAmong, IsWellFormed}
+use Rattle.candidate_ir.proofs.References.{fit-at}
+use Rattle.candidate_ir.proofs.FoldKinds.{take-push, takes-again, folds-kinds}
 use Rattle.candidate_ir.specs.Folds.{is_asked, is_asked_kind, node, Folds, ended, made, replaced, opened, passed, Stops, memory, refused, below_asked, below_passed, Asks, Refuses, OnlyMakes, FoldsBy, StopsBy, Outcome, Relists}
-use Rattle.candidate_ir.proofs.Kept.{grows-refl, grows-trans, number-kept}
+use Rattle.candidate_ir.proofs.Kept.{grows-refl, grows-trans, number-kept, world-kept}
 use Rattle.candidate_ir.proofs.Lists.{there, there-preds, Below-there, below_kind, kind_of-tree_at}
 use Rattle.candidate_ir.proofs.Growing.{pred-fits-grown, pred-tree-grown}
 use Rattle.candidate_ir.proofs.Made.{one_if, principals-one}
@@ -82,22 +86,23 @@ module _ {M Rest F : Type 0} (context : M → Context) (others : M → Rest)
   pub record BoundsSoFar (s : F × M) (d : ℕ) (ks : List ℕ) (bounds : List (Binder ExistentialPredicate)) (i : ℕ) (e : F × M) : Type 0 where
     pub grows : Grows (context s.1) (context e.1)
     pub fit : BoundsFit (Table e) bounds
+    pub takes : AllTake (world (context e.1)) (map (pred_kind_tree (Table e)) bounds)
     pub principal : bound_count bounds ≡ principals (rows (trees_at (Table s) (take i ks)))
     pub folded : FoldsBy context others g s d (rows (trees_at (Table s) (take i ks))) (bounds_forest (Table e) bounds) e
 
   pub bounds-begin : (s : F × M) (d : ℕ) (ks : List ℕ) → BoundsSoFar s d ks [] 0 s
-  bounds-begin s d ks = record { grows = grows-refl (context s.1); fit = λ k x h. absurd (omega arith); principal = refl; folded = ended }
+  bounds-begin s d ks = record { grows = grows-refl (context s.1); fit = λ k x h. absurd (omega arith); takes = tt; principal = refl; folded = ended }
 
   module _ (s m e : F × M) (d : ℕ) (ks : List ℕ) (bounds : List (Binder ExistentialPredicate)) (i k : ℕ) (b : Binder ExistentialPredicate)
       (below : k < length (Table s)) (so : BoundsSoFar s d ks bounds i m) (a : slice_get ks i ≡ Some k) (is : pred_kind_tree (Table m) b ≡ tree_at (Table m) k) where
     tree-was : tree_at (Table s) k ≡ pred_kind_tree (Table m) b
     tree-was = sym (number-kept (Table s) (Table m) k so.grows.kept below).1 ∙ sym is
 
-    pub bounds-next : {A : Type 0} (listed : A → List ℕ) (v : A) (c : Binder ExistentialPredicate) (us : List (Binder ExistentialPredicate))
+    pub bounds-next : IsWellFormed (context m.1) → {A : Type 0} (listed : A → List ℕ) (v : A) (c : Binder ExistentialPredicate) (us : List (Binder ExistentialPredicate))
         → Relists context others g listed m (d + 1) (pred_children b) (Ok v) e
         → pred_head c ≡ pred_head b → numbers (pred_children c) ≡ listed v → sorts (pred_children c) ≡ sorts (pred_children b) → us ≡ bounds ++ c ∷ []
         → BoundsSoFar s d ks us (i + 1) e
-    bounds-next listed v c us r hc nc sc u =
+    bounds-next well listed v c us r hc nc sc u =
         let Sofar : List (Binder ExistentialPredicate) → Type 0 = λ xs. BoundsSoFar s d ks xs (i + 1) e in
         let fits : PredFits (Table e) c = ap (kinds_at (Table e)) nc ∙ (r.sorts_are ∙ sym sc) in
         let old = rows (trees_at (Table s) (take i ks)) in
@@ -118,6 +123,14 @@ module _ {M Rest F : Type 0} (context : M → Context) (others : M → Rest)
         let all = folds-join (Asks context others g) (OnlyMakes context others g) so.folded one in
         let From : Forest → Type 0 = λ ts. FoldsBy context others g s d ts (join (bounds_forest (Table m) bounds) (row (node (H.Part (P.Pred (pred_head b))) inner) none)) e in
         let To : Forest → Type 0 = λ ts. FoldsBy context others g s d (rows (trees_at (Table s) (take (i + 1) ks))) ts e in
+        let grown = bounds-grown (Table m) (Table e) bounds r.grows.kept so.fit in
+        let among : FitsAmong (world (context m.1)) t = subst (FitsAmong (world (context m.1))) (sym is) (fit-at (world (context m.1)) (Table m) well k) in
+        let again = takes-again (world (context m.1)) t inner among (folds-kinds context others g r.folded) in
+        let In : World → Type 0 = λ w. AllTake w (map (pred_kind_tree (Table m)) bounds ++ node (H.Part (P.Pred (pred_head b))) inner ∷ []) in
+        let Of : List Tree → Type 0 = λ ts. AllTake (world (context e.1)) ts in
+        let take : Of (map (pred_kind_tree (Table m)) bounds ++ node (H.Part (P.Pred (pred_head b))) inner ∷ []) =
+        subst In (sym (world-kept (context m.1) (context e.1) r.grows).0)
+        (take-push (world (context m.1)) (map (pred_kind_tree (Table m)) bounds) (node (H.Part (P.Pred (pred_head b))) inner) so.takes again) in
         let named : one_if (names_trait c.value) ≡ one_if (is_principal t.head) =
         ap one_if (sym (bound-principal (Table e) c.value c refl) ∙ ap (λ (x : PredHead). is_principal (H.Part (P.Pred x))) hc) in
         let counted = principals-one bounds c in
@@ -127,6 +140,11 @@ module _ {M Rest F : Type 0} (context : M → Context) (others : M → Rest)
         (record {
           grows = grows-trans (context s.1) (context m.1) (context e.1) so.grows r.grows;
           fit = All-push (PredFits (Table e)) bounds c (All-weaker (PredFits (Table m)) (PredFits (Table e)) (λ y h. pred-fits-grown (Table m) (Table e) y r.grows.kept h) bounds so.fit) fits;
+          takes = subst Of
+              (sym (map_push (pred_kind_tree (Table e)) bounds c
+              ∙ (ap (λ (x : Tree). map (pred_kind_tree (Table e)) bounds ++ x ∷ []) new
+              ∙ ap (λ (ts : List Tree). ts ++ node (H.Part (P.Pred (pred_head b))) inner ∷ []) grown)))
+              take;
           principal = omega (arith, named, counted, joined, whole, so.principal);
           folded = subst To (sym to) (subst From (sym from) all);
         })

@@ -36,9 +36,13 @@ use Rattle.candidate_ir.specs.Table.{Below, IsNodeOf, HasOnePrincipal}
 use Rattle.candidate_ir.specs.Names.{principals}
 use Rattle.candidate_ir.proofs.Sorts.{node_kind, preds_node}
 use Rattle.candidate_ir.specs.Words.{IsMkStop, pred_list_forest}
-use Rattle.candidate_ir.specs.Context.{Context, Grows}
+use Rattle.candidate_ir.specs.Context.{Context, Grows, world}
+use Rattle.candidate_ir.specs.Worlds.{World}
+use Rattle.candidate_ir.specs.References.{Takes, FitsAmong, IsWellFormed}
+use Rattle.candidate_ir.proofs.References.{fit-at}
+use Rattle.candidate_ir.proofs.FoldKinds.{takes-again, folds-kinds}
 use Rattle.candidate_ir.specs.Folds.{is_asked, is_asked_kind, node, Folds, ended, made, replaced, opened, passed, Stops, memory, refused, below_asked, below_passed, Asks, Refuses, OnlyMakes, FoldsBy, StopsBy, IsReached, here, by_call, Outcome, IsSaid, Said, Renumbers, Relists}
-use Rattle.candidate_ir.proofs.Kept.{grows-refl, grows-trans, number-kept}
+use Rattle.candidate_ir.proofs.Kept.{grows-refl, grows-trans, number-kept, world-kept}
 use Rattle.candidate_ir.proofs.Lists.{there, below_kind, kind_of-tree_at}
 use Rattle.candidate_ir.proofs.Splits.{list_of, list-head, list-head_of, rows-height}
 use Rattle.candidate_ir.proofs.Rows.{join-none}
@@ -199,6 +203,21 @@ module _ {M Rest F : Type 0} (context : M → Context) (others : M → Rest)
           folded = tt;
           stopped = open-stops s m (length (Table e)) d n x h.said (subst P (sym copy-tree) r.stopped);
         }
+
+    -- the node over folded children takes them
+    pub number-takes : {A : Type 0} (listed : A → List ℕ) (v : A) (e : F × M) (b : Node) → IsWellFormed (context m.1)
+        → Relists context others g listed m (d + binders_of (head_of c)) (children_of c) (Ok v) e → head_of b ≡ head_of c → numbers (children_of b) ≡ listed v
+        → Takes (world (context e.1)) (node_tree (Table e) b)
+    number-takes listed v e b well q hb nb =
+        let now : tree_at (Table m) n ≡ node_tree (Table m) c = (number-kept (Table s) (Table m) n h.grows.kept inside).1 ∙ copy-tree in
+        let among : FitsAmong (world (context m.1)) (node_tree (Table m) c) = subst (FitsAmong (world (context m.1))) now (fit-at (world (context m.1)) (Table m) well n) in
+        let again = takes-again (world (context m.1)) (node_tree (Table m) c) (rows (trees_at (Table e) (listed v))) among (folds-kinds context others g q.folded) in
+        let is-new : node_tree (Table e) b ≡ node_of (head_of c) (trees_at (Table e) (listed v)) =
+        ap (λ (y : Head). node_of y (trees_at (Table e) (numbers (children_of b)))) hb ∙ ap (λ (ks : List ℕ). node_of (head_of c) (trees_at (Table e) ks)) nb in
+        let In : World → Type 0 = λ w. Takes w (node_of (head_of c) (trees_at (Table e) (listed v))) in
+        let Of : Tree → Type 0 = λ t. Takes (world (context e.1)) t in
+        let there : Of (node_of (head_of c) (trees_at (Table e) (listed v))) = subst In (sym (world-kept (context m.1) (context e.1) q.grows).0) again in
+        subst Of (sym is-new) there
 
     -- a node whose children were folded is made again
     pub number-again : {A : Type 0} (listed : A → List ℕ) (v : A) (e f : F × M) (b : Node) (r : Result ℕ Stop)

@@ -15,6 +15,9 @@ pub mod Members
 pub mod Growing
 pub mod References
 pub mod Parameters
+pub mod Arity
+pub mod Fitting
+pub mod Faults
 pub mod Instances
 pub mod Pairs
 pub mod MayUnify
@@ -25,4 +28,6 @@ pub mod Folds
 pub mod FoldRows
 pub mod FoldSteps
 pub mod FoldNodes
+pub mod FoldKinds
 pub mod FoldBounds
+pub mod FoldLaws

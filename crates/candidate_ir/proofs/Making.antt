@@ -17,7 +17,6 @@ added-made m old v ts r e a =
     subst (λ (x : Context). Makes m x (record v { trees = ts }) r) e
     (record {
       kept = record { same = refl; kept = a.kept };
-      well_formed = λ f t. a.fit _ f t;
       sort = a.sort;
       tree = a.tree;
       unchanged = unchanged v ts r a.unchanged;

@@ -15,7 +15,7 @@ skip zero f = f
 skip (suc i) none = none
 skip (suc i) (tree h below rest) = skip i rest
 
-arg-there : (x : GenericArg) → there (arg_kind x) ≡ true
+pub arg-there : (x : GenericArg) → there (arg_kind x) ≡ true
 arg-there (A.Ty _) = refl
 arg-there (A.Const _) = refl
 arg-there (A.Region _) = refl

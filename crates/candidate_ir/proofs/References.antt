@@ -1,5 +1,5 @@
 -- References of a context: they stay such, and what is made of fitting trees fits.
-use Rattle.std.proofs.Common.{◌≡◌, ℕ, zero, suc, ◌<◌, List, [], ◌∷◌, ◌++◌, length, get_or, Bool, true, false, Some, refl, sym, ◌∙◌, ap, subst, arith}
+use Rattle.std.proofs.Common.{◌≡◌, ℕ, zero, suc, ◌<◌, List, [], ◌∷◌, ◌++◌, length, get_or, take, Bool, true, false, Some, refl, sym, ◌∙◌, ap, subst, arith}
 use Rattle.std.specs.Prelude.{Result, Ok, Err, IfOk, IfErr, map}
 use Rattle.candidate_ir.specs.declared.ir.kinds.VarKind.{VarKind}
 use Rattle.candidate_ir.specs.declared.ir.kinds.Args.{Args}
@@ -41,14 +41,14 @@ rows-fit w [] f = tt
 rows-fit w (t ∷ ts) f = fits-put w (is_list t.head) t (rows ts) f.0 (rows-fit w ts f.1)
 
 -- what is made of trees that fit, and takes them as its children, fits
-made-fits : (w : World) (h : Head) (ts : List Tree) → AllFit w ts → Takes w (node_of h ts) → FitsAmong w (node_of h ts)
+pub made-fits : (w : World) (h : Head) (ts : List Tree) → AllFit w ts → Takes w (node_of h ts) → FitsAmong w (node_of h ts)
 made-fits w h ts f e = at (is_list h) refl
   where
     at : (b : Bool) → is_list h ≡ b → Fits w (put b (node_of h ts) none)
     at true l = subst (Fits w) (sym (join-none (rows ts))) (rows-fit w ts f)
     at false l = (e l, rows-fit w ts f, tt)
 
-fit-at : (w : World) (ts : List Tree) → AllFit w ts → (n : ℕ) → FitsAmong w (tree_at ts n)
+pub fit-at : (w : World) (ts : List Tree) → AllFit w ts → (n : ℕ) → FitsAmong w (tree_at ts n)
 fit-at w [] f n = (refl, tt, tt)
 fit-at w (t ∷ ts) f zero = f.0
 fit-at w (t ∷ ts) f (suc n) = fit-at w ts f.1 n
@@ -91,7 +91,7 @@ variables-take w h ts ks e c =
     λ l. c ∙ ap Some (ap (λ (us : List Tree). all_of VariableKind (kinds_of (rows us))) e
     ∙ (variable-kinds ks ∙ ap (λ (us : List Tree). kinds_of (rows us)) (sym e)))
 
-row-kinds : (ts : List Tree) (n : ℕ) (k : Kind) (f : Forest) → there k ≡ true → is_list_kind k ≡ false → kind_at ts n ≡ k
+pub row-kinds : (ts : List Tree) (n : ℕ) (k : Kind) (f : Forest) → there k ≡ true → is_list_kind k ≡ false → kind_at ts n ≡ k
     → kinds_of (row (tree_at ts n) f) ≡ k ∷ kinds_of f
 row-kinds ts n k f h l e = ap kinds_of (row-single ts n k f h l e) ∙ ap (λ (j : Kind). j ∷ kinds_of f) (kind-of ts n k h e)
 
@@ -118,3 +118,9 @@ pub is-reference : (c : Context) (r : TraitRef) → IsWellFormed c → IsArgs c.
     → joined (Some (TypeKind ∷ [])) (parameters (world c) TraitSort r.def_id.0) ≡ Some (kinds_of (reference_of c.trees r).arguments)
     → IsReference c r
 is-reference c r f i e = record { takes = e; fits = args-fit c r.args f i }
+
+-- fewer trees that fit
+pub fit-take : (w : World) (n : ℕ) (ts : List Tree) → AllFit w ts → AllFit w (take n ts)
+fit-take w zero ts f = tt
+fit-take w (suc n) [] f = tt
+fit-take w (suc n) (t ∷ ts) f = (f.0, fit-take w n ts f.1)

@@ -1,6 +1,5 @@
 -- What is declared, and the trees of the numbers given so far.
-use Rattle.std.specs.Prelude.{◌≡◌, ℕ, Bool, true, false, not, ◌&&◌, ◌||◌, nat_lt, Option, Some, None, List, [], ◌∷◌, ◌++◌, map, slice_get, if◌then◌else◌}
-use Rattle.std.specs.List.{list_any}
+use Rattle.std.specs.Prelude.{◌≡◌, ℕ, Bool, true, false, not, ◌&&◌, nat_lt, Option, Some, None, List, [], ◌∷◌, ◌++◌, map, slice_get}
 use Rattle.candidate_ir.specs.declared.ir.kinds.VarKind.{VarKind}
 use Rattle.candidate_ir.specs.declared.ir.kinds.VarKind.TheVariants as V
 use Rattle.candidate_ir.specs.declared.decl.definition.CrateId.{CrateId}
@@ -9,11 +8,9 @@ use Rattle.candidate_ir.specs.declared.decl.definition.AssocKind.{AssocKind}
 use Rattle.candidate_ir.specs.declared.decl.definition.AssocKind.TheVariants as A
 use Rattle.candidate_ir.specs.declared.decl.definition.DefinitionKind.{DefinitionKind}
 use Rattle.candidate_ir.specs.declared.decl.definition.DefinitionKind.TheVariants as D
-use Rattle.candidate_ir.specs.declared.decl.builder.DeclFault.{DeclFault}
-use Rattle.candidate_ir.specs.declared.decl.builder.DeclFault.TheVariants as F
 use Rattle.candidate_ir.specs.Trees.{Kind, TypeKind, ConstantKind, RegionKind, Tree}
 use Rattle.candidate_ir.specs.Nodes.{Extends}
-use Rattle.candidate_ir.specs.Worlds.{World, Definition, DefinitionSort, AdtSort, ForeignSort, TraitSort, AssociatedTypeSort, AssociatedConstantSort}
+use Rattle.candidate_ir.specs.Worlds.{World, Definition, DefinitionSort, AdtSort, ForeignSort, TraitSort, AssociatedTypeSort, AssociatedConstantSort, AliasSort, OpaqueSort, FunctionSort, ClosureSort}
 use Rattle.candidate_ir.specs.Declaration.{Declaration}
 
 -- What contracts see of a builder, of declarations and of a context.
@@ -40,6 +37,10 @@ sort_of (D.Adt shape flags) = AdtSort
 sort_of (D.Trait flags) = TraitSort
 sort_of D.Foreign = ForeignSort
 sort_of (D.Assoc of kind sized) = assoc_sort kind
+sort_of (D.Alias shape) = AliasSort
+sort_of D.Opaque = OpaqueSort
+sort_of (D.Function flags) = FunctionSort
+sort_of (D.Closure flags) = ClosureSort
 
 abbrev pub fundamental_of : DefinitionKind → Bool
 fundamental_of (D.Adt shape flags) = flags.fundamental
@@ -55,8 +56,11 @@ definition_of d = record {
 }
 
 -- The world that the declarations make.
+abbrev pub world_of : List Declaration → World
+world_of ds = map definition_of ds
+
 abbrev pub world : Context → World
-world c = map definition_of c.declarations
+world c = world_of c.declarations
 
 -- the context with one more declaration
 abbrev pub declared : Context → Declaration → Context
@@ -114,17 +118,3 @@ is_declared_trait (Some d) = is_trait d.kind
 abbrev pub lacks_trait : List Declaration → DefinitionKind → Bool
 lacks_trait ds (D.Assoc of kind sized) = not (is_declared_trait (slice_get ds of.0))
 lacks_trait ds _ = false
-
--- whether a crate is named that was never given, or an associated item is of no trait
-abbrev pub has_unknown_id : Context → Bool
-has_unknown_id c =
-    is_unknown c.crates c.local
-    || (list_any (λ d. is_unknown c.crates d.crate) c.declarations
-    || list_any (λ d. lacks_trait c.declarations d.kind) c.declarations)
-
-abbrev pub has_arity_fault : Context → Bool
-has_arity_fault c = list_any (λ d. has_wrong_arity d.kind d.parameters) c.declarations
-
--- The fault with the lowest number, if there is any.
-abbrev pub lowest_fault : Context → Option DeclFault
-lowest_fault c = if has_unknown_id c then Some F.UnknownId else (if has_arity_fault c then Some F.WrongArity else None)

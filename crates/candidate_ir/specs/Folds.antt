@@ -85,6 +85,7 @@ module _ {M Rest F : Type 0} (context : M → Context) (others : M → Rest)
     pub tree : arg_tree (context s.1).trees of ≡ t
     pub answer : Option GenericArg
     pub says : Says s of d (Ok answer) e
+    pub of_kind : IsOfKind (context e.1).trees of answer
     pub seen : option_map (arg_tree (context e.1).trees) answer ≡ o
 
   -- or stops
@@ -124,6 +125,11 @@ module _ {M Rest F : Type 0} (context : M → Context) (others : M → Rest)
     pub at : (s : F × M) (x : GenericArg) (d : ℕ) (r : Result (Option GenericArg) Stop) (e : F × M) → IsReached s0 s → Grows (context s0.1) (context s.1)
         → IsArg (context s.1).trees x → arg_number x < 2 ^ 32 → d < 2 ^ 32 → Says s x d r e
         → Grows (context s.1) (context e.1) × IfOk r (λ o. IsOfKind (context e.1).trees x o)
+
+  -- From here on it answers what the function says, which answers types, constants and regions alone.
+  pub record IsFunction (a : ℕ → Tree → Option Tree) (s0 : F × M) : Type 0 where
+    pub at : (s : F × M) (d : ℕ) (t : Tree) (o : Option Tree) (e : F × M) → IsReached s0 s → Asks s d t o e → a d t ≡ o
+    pub only : (d : ℕ) (t : Tree) → is_asked t.head ≡ false → a d t ≡ None
 
   -- A fold of a row came to this, and left that state: the trees of the result come of it, or it has its cause.
   pub record Outcome {A : Type 0} (seen : List Tree → A → Forest) (s : F × M) (d : ℕ) (ts : Forest) (result : Result A Stop) (e : F × M) : Type 0 where

@@ -13,6 +13,7 @@ pub mod Context
 pub mod References
 pub mod Making
 pub mod Names
+pub mod Faults
 pub mod Substitutions
 pub mod Unify
 pub mod TypeFlags

@@ -22,8 +22,8 @@ use Rattle.candidate_ir.specs.declared.ir.stop.Stop.{Stop}
 use Rattle.candidate_ir.specs.Trees.{Forest, Tree, height, heights}
 use Rattle.candidate_ir.specs.Nodes.{Extends}
 use Rattle.candidate_ir.specs.Worlds.{World}
-use Rattle.candidate_ir.specs.Context.{Context, Grows, world}
-use Rattle.candidate_ir.specs.References.{Takes, AllTake, AllFit, IsWellFormed}
+use Rattle.candidate_ir.specs.Context.{Context, Grows}
+use Rattle.candidate_ir.specs.References.{Takes, AllTake, AllFit}
 use Rattle.candidate_ir.specs.Words.{IsTy, IsConst, IsRegion, IsArgs, IsPreds, IsSig, IsClause, IsParamEnv, IsVars, ty_tree, const_tree, region_tree, args_forest, preds_forest, sig_tree, clause_tree, env_forest, vars_tree, kind_tree, const_kind_tree, region_kind_tree, list_forest, pred_kind_tree, bounds_forest, sig_kind_tree, clause_kind_tree, clause_list_forest, binder_tree, IsMkStop, IsMkListStop}
 
 -- One thing to be made: what a number of it is and which trees it stands for, the trees that are made over those of a table,
@@ -48,7 +48,6 @@ pub record Adds {N T : Type 0} (m : Making N T) (old new : List Tree) (result : 
 -- The same of a context, whose declarations stay.
 pub record Makes {N T : Type 0} (m : Making N T) (old new : Context) (result : Result N Stop) : Type 0 where
   pub kept : Grows old new
-  pub well_formed : IsWellFormed old → m.takes (world old) old.trees → IsWellFormed new
   pub sort : IfOk result (λ n. m.is new.trees n)
   pub tree : IfOk result (λ n. m.seen new.trees n ≡ m.made old.trees)
   pub unchanged : IfErr result (λ _. new ≡ old)

@@ -1,5 +1,5 @@
 -- Which crate a definition belongs to, and which crates a reference names.
-use Rattle.std.specs.Prelude.{ℕ, ◌+◌, Bool, true, false, cond, Option, Some, None, slice_get, ◌==◌, ◌||◌}
+use Rattle.std.specs.Prelude.{ℕ, ◌+◌, Bool, true, false, cond, Option, Some, None, slice_get, ◌==◌, ◌||◌, nat_le}
 use Rattle.candidate_ir.specs.declared.ir.kinds.TraitId.{TraitId}
 use Rattle.candidate_ir.specs.declared.ir.heads.Head.{Head}
 use Rattle.candidate_ir.specs.declared.ir.heads.Head.TheVariants as H
@@ -33,6 +33,29 @@ fundamental_flag (Some d) = d.is_fundamental
 -- whether the definition has the flag `fundamental`
 abbrev pub is_fundamental : World → ℕ → Bool
 is_fundamental w i = fundamental_flag (slice_get w i)
+
+-- the definition that a head names, if any
+abbrev pub named : Head → Option ℕ
+named (H.Adt i) = Some i.0
+named (H.Foreign i) = Some i.0
+named (H.FnDef i) = Some i.0
+named (H.Closure i k) = Some i.0
+named (H.Alias k i) = Some i.0
+named (H.Const (C.Unevaluated i)) = Some i.0
+named (H.Part (P.Pred (PH.Trait i))) = Some i.0
+named (H.Part (P.Pred (PH.Projection i))) = Some i.0
+named (H.Part (P.Pred (PH.AutoTrait i))) = Some i.0
+named (H.Part (P.Clause (Cl.Trait i p))) = Some i.0
+named (H.Part (P.Clause (Cl.Projection i))) = Some i.0
+named _ = None
+
+-- whether it is none of the first so many
+abbrev pub is_past : ℕ → Option ℕ → Bool
+is_past n None = false
+is_past n (Some i) = nat_le n i
+
+abbrev pub names_unknown : ℕ → Head → Bool
+names_unknown n h = is_past n (named h)
 
 -- whether a definition in the head belongs to the crate
 abbrev pub names_here : World → CrateTest → Head → Bool

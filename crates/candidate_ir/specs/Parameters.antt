@@ -2,6 +2,8 @@
 use Rattle.std.specs.Prelude.{Bool, true, false, List, replicate}
 use Rattle.candidate_ir.specs.declared.ir.kinds.VarKind.{VarKind}
 use Rattle.candidate_ir.specs.declared.ir.kinds.VarKind.TheVariants as V
+use Rattle.candidate_ir.specs.declared.ir.kinds.GenericArg.{GenericArg}
+use Rattle.candidate_ir.specs.declared.ir.kinds.GenericArg.TheVariants as A
 use Rattle.candidate_ir.specs.declared.decl.definition.Parameters.{Parameters}
 use Rattle.candidate_ir.specs.declared.decl.definition.Parameters.TheVariants as P
 
@@ -13,3 +15,7 @@ kinds_of (P.Kinds v) = v.items
 abbrev pub is_type_kind : VarKind → Bool
 is_type_kind V.Ty = true
 is_type_kind _ = false
+
+abbrev pub is_type_arg : GenericArg → Bool
+is_type_arg (A.Ty _) = true
+is_type_arg _ = false

@@ -1,8 +1,8 @@
 -- The references of a context, and what it is that its trees fit the declarations.
 use Rattle.std.specs.Prelude.{◌≡◌, false, Some, List, [], ◌∷◌}
 use Rattle.candidate_ir.specs.declared.ir.kinds.TraitRef.{TraitRef}
-use Rattle.candidate_ir.specs.Trees.{none, Tree, row, is_list}
-use Rattle.candidate_ir.specs.Worlds.{World, Reference, Fits, IsOf, child_kinds, kinds_of}
+use Rattle.candidate_ir.specs.Trees.{TypeKind, none, Tree, row, is_list}
+use Rattle.candidate_ir.specs.Worlds.{World, Reference, Fits, IsOf, TraitSort, child_kinds, joined, kinds_of, parameters}
 use Rattle.candidate_ir.specs.Context.{Context, world}
 use Rattle.candidate_ir.specs.Words.{args_forest}
 
@@ -13,6 +13,10 @@ reference_of ts r = record { trait = r.def_id.0; arguments = args_forest ts r.ar
 -- The reference is one of the world that the context declares.
 abbrev pub IsReference : Context → TraitRef → Type 0
 IsReference c r = IsOf (world c) (reference_of c.trees r)
+
+-- The arguments are those that the trait takes: a type, and then one of the kind of each of its parameters.
+abbrev pub ArgumentsFit : Context → TraitRef → Type 0
+ArgumentsFit c r = joined (Some (TypeKind ∷ [])) (parameters (world c) TraitSort r.def_id.0) ≡ Some (kinds_of (args_forest c.trees r.args))
 
 -- The tree's children are those that its head takes; a list takes any.
 abbrev pub Takes : World → Tree → Type 0

@@ -4,7 +4,7 @@ use Rattle.candidate_ir.specs.declared.ir.heads.Head.{Head}
 use Rattle.candidate_ir.specs.declared.ir.heads.Head.TheVariants as H
 use Rattle.candidate_ir.specs.declared.ir.heads.Builtin.{Builtin}
 use Rattle.candidate_ir.specs.declared.ir.heads.Builtin.TheVariants as B
-use Rattle.candidate_ir.specs.declared.ir.heads.PatternShape.TheVariants as S
+use Rattle.candidate_ir.specs.declared.ir.heads.PatternShape.TheVariants as Pat
 use Rattle.candidate_ir.specs.declared.ir.heads.ConstHead.TheVariants as C
 use Rattle.candidate_ir.specs.declared.ir.heads.PartHead.{PartHead}
 use Rattle.candidate_ir.specs.declared.ir.heads.PartHead.TheVariants as P
@@ -13,19 +13,40 @@ use Rattle.candidate_ir.specs.declared.ir.heads.ClauseHead.{ClauseHead}
 use Rattle.candidate_ir.specs.declared.ir.heads.ClauseHead.TheVariants as Cl
 use Rattle.candidate_ir.specs.declared.ir.kinds.AliasKind.{AliasKind}
 use Rattle.candidate_ir.specs.declared.ir.kinds.AliasKind.TheVariants as AK
+use Rattle.candidate_ir.specs.declared.decl.definition.DefinitionSort.{DefinitionSort as Sort}
+use Rattle.candidate_ir.specs.declared.decl.definition.DefinitionSort.TheVariants as S
 use Rattle.candidate_ir.specs.Trees.{Kind, TypeKind, ConstantKind, RegionKind, PredicateKind, SignatureKind, BinderKind, VariableKind, Forest, none, tree, kind_of}
 
 -- What a definition's number stands for.
-pub data DefinitionSort : Type 0 where
-  AdtSort : DefinitionSort
-  ForeignSort : DefinitionSort
-  TraitSort : DefinitionSort
-  AssociatedTypeSort : DefinitionSort
-  AssociatedConstantSort : DefinitionSort
-  AliasSort : DefinitionSort
-  OpaqueSort : DefinitionSort
-  FunctionSort : DefinitionSort
-  ClosureSort : DefinitionSort
+abbrev pub DefinitionSort : Type 0
+DefinitionSort = Sort
+
+abbrev pub AdtSort : DefinitionSort
+AdtSort = S.Adt
+
+abbrev pub ForeignSort : DefinitionSort
+ForeignSort = S.Foreign
+
+abbrev pub TraitSort : DefinitionSort
+TraitSort = S.Trait
+
+abbrev pub AssociatedTypeSort : DefinitionSort
+AssociatedTypeSort = S.AssociatedType
+
+abbrev pub AssociatedConstantSort : DefinitionSort
+AssociatedConstantSort = S.AssociatedConst
+
+abbrev pub AliasSort : DefinitionSort
+AliasSort = S.Alias
+
+abbrev pub OpaqueSort : DefinitionSort
+OpaqueSort = S.Opaque
+
+abbrev pub FunctionSort : DefinitionSort
+FunctionSort = S.Function
+
+abbrev pub ClosureSort : DefinitionSort
+ClosureSort = S.Closure
 
 -- The parameters of a trait and of its items are those after `Self`.
 pub record Definition : Type 0 where
@@ -48,15 +69,15 @@ pub record Reference : Type 0 where
   pub arguments : Forest
 
 abbrev pub sort_number : DefinitionSort → ℕ
-sort_number AdtSort = 0
-sort_number ForeignSort = 1
-sort_number TraitSort = 2
-sort_number AssociatedTypeSort = 3
-sort_number AssociatedConstantSort = 4
-sort_number AliasSort = 5
-sort_number OpaqueSort = 6
-sort_number FunctionSort = 7
-sort_number ClosureSort = 8
+sort_number S.Adt = 0
+sort_number S.Foreign = 1
+sort_number S.Trait = 2
+sort_number S.AssociatedType = 3
+sort_number S.AssociatedConst = 4
+sort_number S.Alias = 5
+sort_number S.Opaque = 6
+sort_number S.Function = 7
+sort_number S.Closure = 8
 
 abbrev pub parameters_of : DefinitionSort → Option Definition → Option (List Kind)
 parameters_of s None = None
@@ -83,8 +104,8 @@ bounds_of (k ∷ (l ∷ ks)) = PredicateKind ∷ bounds_of (l ∷ ks)
 abbrev pub builtin_kinds : Builtin → List Kind → List Kind
 builtin_kinds B.Array ks = TypeKind ∷ ConstantKind ∷ []
 builtin_kinds B.Slice ks = TypeKind ∷ []
-builtin_kinds (B.Pat S.NotNull) ks = TypeKind ∷ []
-builtin_kinds (B.Pat S.Range) ks = TypeKind ∷ ConstantKind ∷ ConstantKind ∷ []
+builtin_kinds (B.Pat Pat.NotNull) ks = TypeKind ∷ []
+builtin_kinds (B.Pat Pat.Range) ks = TypeKind ∷ ConstantKind ∷ ConstantKind ∷ []
 builtin_kinds (B.RawPtr m) ks = TypeKind ∷ []
 builtin_kinds (B.FnPtr s) ks = BinderKind ∷ TypeKind ∷ all_of TypeKind (drop 2 ks)
 builtin_kinds B.UnsafeBinder ks = BinderKind ∷ TypeKind ∷ []

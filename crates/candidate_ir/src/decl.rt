@@ -1,5 +1,6 @@
 //! Declarations: a builder that takes them, and the context that types are made in.
 
+pub mod arity;
 pub mod builder;
 pub mod context;
 pub mod definition;
@@ -8,4 +9,4 @@ pub mod make;
 
 pub use builder::{DeclFault, Decls, DeclsBuilder};
 pub use context::Cx;
-pub use definition::{AdtFlags, AdtShape, AssocKind, CrateId, TraitFlags};
+pub use definition::{AdtFlags, AdtShape, AliasShape, AssocKind, CrateId, FnFlags, TraitFlags};

@@ -1,15 +1,26 @@
 //! The builder of declarations.
 
-ghost use Rattle.std.specs.Prelude.{◌≡◌, ◌+◌, ◌<◌, None, Some, [], length, IfOk, IfErr, MatchResult};
+ghost use Rattle.std.specs.Prelude.{◌≡◌, ◌↔◌, ◌+◌, ◌<◌, IsTrue, false, [], length, IfOk, IfErr, MatchResult};
 ghost use Rattle.std.specs.List.{list_any};
-ghost use Rattle.candidate_ir.specs.Context.{declared, assoc_declaration, lowest_fault, has_unknown_id, has_arity_fault, is_unknown, lacks_trait};
+ghost use Rattle.candidate_ir.specs.Context.{declared, assoc_declaration, is_unknown, lacks_trait, has_wrong_arity};
+ghost use Rattle.candidate_ir.specs.Faults.{has_unknown_id, HasFault, IsFaultless, IsLowestFault};
+ghost use Rattle.candidate_ir.specs.References.{IsWellFormed};
+ghost use Rattle.candidate_ir.specs.Making.{Makes, a_type, a_constant, a_region, a_list, a_binder, some_bounds, a_signature, a_clause};
+ghost use Rattle.candidate_ir.specs.Words.{KindFits, ConstKindFits, ListFits, BoundsFit, SigFits, ClauseFits, AtMostOnePrincipal};
 ghost use Rattle.candidate_ir.specs.declared.decl.builder.DeclFault.TheVariants.{Memory};
 
+use crate::decl::arity::{any_names_unknown, nodes_fit};
 use crate::decl::definition::{
-    AdtFlags, AdtShape, AssocKind, CrateId, Declaration, DefinitionKind, Parameters, TraitFlags,
+    AdtFlags, AdtShape, AliasShape, AssocKind, CrateId, Declaration, DefinitionKind, FnFlags,
+    Parameters, TraitFlags,
 };
-use crate::ir::kinds::{AdtId, AssocId, ForeignId, TraitId, VarKind};
+use crate::ir::kinds::{
+    AdtId, AliasId, Args, AssocId, Binder, Clause, ClauseKind, ClosureId, ClosureSig, Const,
+    ConstKind, ExistentialPredicate, FnId, ForeignId, GenericArg, Preds, Region, RegionKind, Sig,
+    TraitId, Ty, TyKind, VarKind, Vars,
+};
 use crate::ir::nodes::Nodes;
+use crate::ir::stop::Stop;
 use std::alloc::{AllocError, AllocFailed, Global};
 use std::fmt;
 use std::marker::Model;
@@ -109,12 +120,16 @@ impl Model for Decls {
     ghost use Rattle.candidate_ir.specs.contracts.ir.heads.Head as head;
     ghost use Rattle.candidate_ir.specs.TreeCode.{tree_code};
     ghost use Rattle.candidate_ir.specs.Context as seen;
+    ghost use Rattle.candidate_ir.specs.Context.{world_of};
+    ghost use Rattle.candidate_ir.specs.References.{AllFit};
 
     ghost Value = { seen.Context };
 
     ghost coded = { Prim.hlevel (codes, tree_code head.the_row.coded) };
 
     ghost view = { λ b. record { crates = b.crates; local = b.local; declarations = b.definitions.items; trees = b.nodes } };
+
+    ghost invariant = { λ b. AllFit (world_of b.definitions.items) b.nodes };
 }
 
 impl DeclsBuilder {
@@ -258,31 +273,189 @@ impl DeclsBuilder {
         })?))
     }
 
+    /// Declares an alias of a type of the crate, inherent or free, with parameters of these kinds; of an
+    /// inherent one the parameters are those of its impl and its own.
+    ///
+    /// Its number and its error are those of `add_adt`.
+    pub fn add_alias(
+        &mut self,
+        krate: CrateId,
+        shape: AliasShape,
+        parameters: &[VarKind],
+    ) -> Result<AliasId, DeclFault>
+        ensures id { IfOk result (λ i. i.0 ≡ length self.old.declarations) }
+        ensures added { IfOk result (λ _. self.new ≡ declared self.old (record { crate = krate; parameters = parameters.now; kind = DefinitionKind.Alias shape })) }
+        ensures unchanged { IfErr result (λ _. self.new ≡ self.old) }
+        ensures cause { IfErr result (λ e. e ≡ DeclFault.Memory) }
+    {
+        let parameters = Parameters::of(*self.definitions.allocator(), parameters)?;
+        Ok(AliasId(self.add(Declaration {
+            krate,
+            parameters,
+            kind: DefinitionKind::Alias(shape),
+        })?))
+    }
+
+    /// Declares an opaque type of the crate, with parameters of these kinds.
+    ///
+    /// Its number and its error are those of `add_adt`.
+    pub fn add_opaque(
+        &mut self,
+        krate: CrateId,
+        parameters: &[VarKind],
+    ) -> Result<AliasId, DeclFault>
+        ensures id { IfOk result (λ i. i.0 ≡ length self.old.declarations) }
+        ensures added { IfOk result (λ _. self.new ≡ declared self.old (record { crate = krate; parameters = parameters.now; kind = DefinitionKind.Opaque })) }
+        ensures unchanged { IfErr result (λ _. self.new ≡ self.old) }
+        ensures cause { IfErr result (λ e. e ≡ DeclFault.Memory) }
+    {
+        let parameters = Parameters::of(*self.definitions.allocator(), parameters)?;
+        Ok(AliasId(self.add(Declaration {
+            krate,
+            parameters,
+            kind: DefinitionKind::Opaque,
+        })?))
+    }
+
+    /// Declares a function of the crate, with parameters of these kinds.
+    ///
+    /// Its number and its error are those of `add_adt`.
+    pub fn add_fn(
+        &mut self,
+        krate: CrateId,
+        parameters: &[VarKind],
+        flags: FnFlags,
+    ) -> Result<FnId, DeclFault>
+        ensures id { IfOk result (λ i. i.0 ≡ length self.old.declarations) }
+        ensures added { IfOk result (λ _. self.new ≡ declared self.old (record { crate = krate; parameters = parameters.now; kind = DefinitionKind.Function flags })) }
+        ensures unchanged { IfErr result (λ _. self.new ≡ self.old) }
+        ensures cause { IfErr result (λ e. e ≡ DeclFault.Memory) }
+    {
+        let parameters = Parameters::of(*self.definitions.allocator(), parameters)?;
+        Ok(FnId(self.add(Declaration {
+            krate,
+            parameters,
+            kind: DefinitionKind::Function(flags),
+        })?))
+    }
+
+    /// Declares a closure of the crate, with parameters of these kinds: those of what it stands in.
+    ///
+    /// Its number and its error are those of `add_adt`.
+    pub fn add_closure(
+        &mut self,
+        krate: CrateId,
+        parameters: &[VarKind],
+        flags: FnFlags,
+    ) -> Result<ClosureId, DeclFault>
+        ensures id { IfOk result (λ i. i.0 ≡ length self.old.declarations) }
+        ensures added { IfOk result (λ _. self.new ≡ declared self.old (record { crate = krate; parameters = parameters.now; kind = DefinitionKind.Closure flags })) }
+        ensures unchanged { IfErr result (λ _. self.new ≡ self.old) }
+        ensures cause { IfErr result (λ e. e ≡ DeclFault.Memory) }
+    {
+        let parameters = Parameters::of(*self.definitions.allocator(), parameters)?;
+        Ok(ClosureId(self.add(Declaration {
+            krate,
+            parameters,
+            kind: DefinitionKind::Closure(flags),
+        })?))
+    }
+
+    /// The type of that kind. Its arguments may be of any number and kinds until `finish`; it stops as
+    /// `mk_ty` of a context does, and the builder is then as before.
+    pub fn mk_ty(&mut self, kind: TyKind) -> Result<Ty, Stop>
+        requires { KindFits self.old.trees kind }
+        ensures { Makes (a_type kind) self.old self.new result }
+    {
+        self.nodes.mk_ty(kind)
+    }
+
+    /// The constant of that kind, as `mk_ty`.
+    pub fn mk_const(&mut self, kind: ConstKind) -> Result<Const, Stop>
+        requires { ConstKindFits self.old.trees kind }
+        ensures { Makes (a_constant kind) self.old self.new result }
+    {
+        self.nodes.mk_const(kind)
+    }
+
+    /// The region of that kind, as `mk_ty`.
+    pub fn mk_region(&mut self, kind: RegionKind) -> Result<Region, Stop>
+        ensures { Makes (a_region kind) self.old self.new result }
+    {
+        self.nodes.mk_region(kind)
+    }
+
+    /// The list of these arguments, as `mk_ty`.
+    pub fn mk_args(&mut self, list: &[GenericArg]) -> Result<Args, Stop>
+        requires { ListFits self.old.trees list.now }
+        ensures { Makes (a_list list.now) self.old self.new result }
+    {
+        self.nodes.mk_args(list)
+    }
+
+    /// The variables of a binder, by their kinds, as `mk_vars` of a context.
+    pub fn mk_vars(&mut self, kinds: &[VarKind]) -> Result<Vars, Stop>
+        ensures { Makes (a_binder kinds.now) self.old self.new result }
+    {
+        self.nodes.mk_vars(kinds)
+    }
+
+    /// The bounds of a `dyn` type, of which one at most is by a trait that isn't an auto trait, as
+    /// `mk_preds` of a context, whatever arguments they have.
+    pub fn mk_preds(&mut self, bounds: &[Binder<ExistentialPredicate>]) -> Result<Preds, Stop>
+        requires fit { BoundsFit self.old.trees bounds.now }
+        requires principal { AtMostOnePrincipal bounds.now }
+        ensures { Makes (some_bounds bounds.now) self.old self.new result }
+    {
+        self.nodes.mk_preds(bounds)
+    }
+
+    /// The signature of a closure, as `mk_ty`.
+    pub fn mk_sig(&mut self, sig: Binder<ClosureSig>) -> Result<Sig, Stop>
+        requires { SigFits self.old.trees sig }
+        ensures { Makes (a_signature sig) self.old self.new result }
+    {
+        self.nodes.mk_sig(sig)
+    }
+
+    /// The clause under its binder, as `mk_ty`.
+    pub fn mk_clause(&mut self, clause: Binder<ClauseKind>) -> Result<Clause, Stop>
+        requires { ClauseFits self.old.trees clause }
+        ensures { Makes (a_clause clause) self.old self.new result }
+    {
+        self.nodes.mk_clause(clause)
+    }
+
     fn has_unknown_id(&self) -> bool
         ensures { result ≡ has_unknown_id self.now }
     {
         self.local.is_unknown(self.crates)
             || any_is_unknown(self.definitions.as_slice(), self.crates)
             || any_lacks_trait(self.definitions.as_slice())
+            || any_names_unknown(self.definitions.len(), &self.nodes)
     }
 
-    fn has_arity_fault(&self) -> bool
-        ensures { result ≡ has_arity_fault self.now }
+    fn has_wrong_arity(&self) -> bool
+        ensures is { IsTrue result ↔ HasFault self.now DeclFault.WrongArity }
+        ensures well_formed { result ≡ false → IsWellFormed self.now }
     {
-        self.definitions
-            .iter()
-            .any(|definition| definition.has_wrong_arity())
+        any_has_wrong_arity(self.definitions.as_slice())
+            || !nodes_fit(self.definitions.as_slice(), &self.nodes)
     }
 
     /// The declarations, if they have no fault; else the fault with the lowest number. The builder
     /// is spent in both cases.
+    ///
+    /// Each node that was made counts, whether or not a declaration uses it: one that names a
+    /// definition that was never given is `UnknownId`, and one whose arguments aren't those that its
+    /// definition takes is `WrongArity`.
     pub fn finish(self) -> Result<Decls, DeclFault>
-        ensures { MatchResult result (λ d. (lowest_fault self ≡ None) × (d ≡ self)) (λ e. lowest_fault self ≡ Some e) }
+        ensures { MatchResult result (λ d. IsFaultless self × (d ≡ self)) (λ e. IsLowestFault self e) }
     {
         if self.has_unknown_id() {
             return Err(DeclFault::UnknownId);
         }
-        if self.has_arity_fault() {
+        if self.has_wrong_arity() {
             return Err(DeclFault::WrongArity);
         }
         let DeclsBuilder {
@@ -316,4 +489,13 @@ fn any_lacks_trait(definitions: &[Declaration]) -> bool
     definitions
         .iter()
         .any(|definition| definition.lacks_trait(definitions))
+}
+
+/// Whether some definition has parameters that its flags don't allow.
+fn any_has_wrong_arity(definitions: &[Declaration]) -> bool
+    ensures { result ≡ list_any (λ d. has_wrong_arity d.kind d.parameters) definitions.now }
+{
+    definitions
+        .iter()
+        .any(|definition| definition.has_wrong_arity())
 }

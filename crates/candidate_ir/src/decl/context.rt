@@ -11,14 +11,15 @@ ghost use Rattle.candidate_ir.specs.Nodes.{tree_at, AreLeaves};
 ghost use Rattle.candidate_ir.specs.Table.{Below, IsNodeOf};
 ghost use Rattle.candidate_ir.specs.Substitutions.{alone};
 ghost use Rattle.candidate_ir.specs.Unify.{may_unify, trees_may_unify, NoCommonInstance};
-ghost use Rattle.candidate_ir.specs.References.{IsWellFormed, Takes, AllTake};
+ghost use Rattle.candidate_ir.specs.References.{ArgumentsFit, IsWellFormed, Takes, AllTake};
 ghost use Rattle.candidate_ir.specs.TypeFlags.{type_flags};
 ghost use Rattle.candidate_ir.specs.Names.{is_local, is_fundamental, principal_of, principals};
 ghost use Rattle.candidate_ir.specs.Words.{IsTy, IsConst, IsRegion, IsArgs, IsPreds, IsPred, IsSig, IsClause, IsParamEnv, IsVars, IsVar, ty_tree, const_tree, region_tree, args_forest, preds_forest, pred_tree, sig_tree, clause_tree, env_forest, vars_tree, var_tree, KindFits, ConstKindFits, ListFits, PredListFits, PredFits, SigFits, ClauseFits, ClauseListFits, VarListFits, BoundsFit, AtMostOnePrincipal, kind_tree, const_kind_tree, region_kind_tree, list_forest, pred_list_forest, pred_kind_tree, sig_kind_tree, clause_kind_tree, clause_list_forest, vars_kind_tree, var_kind_tree, bounds_forest, binder_tree, IsMkStop, IsMkListStop};
 ghost use Rattle.candidate_ir.specs.Binders.{escapes, tree_escapes};
 
+use crate::decl::arity::{bound_fits, clause_fits, const_fits, takes_after_self, ty_fits};
 use crate::decl::builder::Decls;
-use crate::decl::definition::{CrateId, Declaration};
+use crate::decl::definition::{CrateId, Declaration, DefinitionSort};
 use crate::ir::flags::{TypeFlags, bit_if};
 use crate::ir::heads::Flag;
 use crate::ir::kinds::{
@@ -48,12 +49,16 @@ impl Model for Cx {
     ghost use Rattle.candidate_ir.specs.contracts.ir.heads.Head as head;
     ghost use Rattle.candidate_ir.specs.TreeCode.{tree_code};
     ghost use Rattle.candidate_ir.specs.Context as seen;
+    ghost use Rattle.candidate_ir.specs.Context.{world_of};
+    ghost use Rattle.candidate_ir.specs.References.{AllFit};
 
     ghost Value = { seen.Context };
 
     ghost coded = { Prim.hlevel (codes, tree_code head.the_row.coded) };
 
     ghost view = { λ b. record { crates = b.crates; local = b.local; declarations = b.definitions.items; trees = b.nodes } };
+
+    ghost invariant = { λ b. AllFit (world_of b.definitions.items) b.nodes };
 }
 
 impl Cx {
@@ -175,20 +180,74 @@ impl Cx {
         self.is_fundamental(id.0)
     }
 
-    /// The type of that kind.
+    /// Every node has the children that its definition takes.
+    pub fn well_formed(&self)
+        ensures { IsWellFormed self.now }
+    {
+        let _ = &self.nodes;
+    }
+
+    /// Whether the arguments of a type are those that it takes: as many as its definition has parameters, of their kinds.
+    pub fn args_fit(&self, kind: TyKind) -> bool
+        requires { KindFits self.now.trees kind }
+        ensures { IsTrue result ↔ Takes (world self.now) (kind_tree self.now.trees kind) }
+    {
+        ty_fits(self.definitions.as_slice(), &self.nodes, kind)
+    }
+
+    /// Whether the arguments of a constant are those that it takes.
+    pub fn const_args_fit(&self, kind: ConstKind) -> bool
+        requires { ConstKindFits self.now.trees kind }
+        ensures { IsTrue result ↔ Takes (world self.now) (const_kind_tree self.now.trees kind) }
+    {
+        const_fits(self.definitions.as_slice(), &self.nodes, kind)
+    }
+
+    /// Whether the arguments of a bound of a `dyn` type are those that it takes, which has no self type.
+    pub fn bound_args_fit(&self, bound: Binder<ExistentialPredicate>) -> bool
+        requires { PredFits self.now.trees bound }
+        ensures { IsTrue result ↔ Takes (world self.now) (pred_kind_tree self.now.trees bound) }
+    {
+        bound_fits(self.definitions.as_slice(), &self.nodes, bound)
+    }
+
+    /// Whether the arguments of a clause are those that it takes.
+    pub fn clause_args_fit(&self, clause: Binder<ClauseKind>) -> bool
+        requires { ClauseFits self.now.trees clause }
+        ensures { IsTrue result ↔ Takes (world self.now) (clause_kind_tree self.now.trees clause) }
+    {
+        clause_fits(self.definitions.as_slice(), &self.nodes, clause)
+    }
+
+    /// Whether the arguments of a reference are those that its trait takes, the self type first.
+    pub fn trait_ref_args_fit(&self, trait_ref: TraitRef) -> bool
+        requires { IsArgs self.now.trees trait_ref.args }
+        ensures { IsTrue result ↔ ArgumentsFit self.now trait_ref }
+    {
+        takes_after_self(
+            self.definitions.as_slice(),
+            DefinitionSort::Trait,
+            trait_ref.def_id.0,
+            self.nodes.args(trait_ref.args),
+        )
+    }
+
+    /// The type of that kind, whose arguments are those that it takes, as `args_fit` tests.
     ///
     /// `Stop::Memory` comes where a growth was refused, `Stop::NodesFull` where no number is left or
     /// the tree would be higher than 1,024. Neither changes the context.
     pub fn mk_ty(&mut self, kind: TyKind) -> Result<Ty, Stop>
-        requires { KindFits self.old.trees kind }
+        requires fits { KindFits self.old.trees kind }
+        requires takes { Takes (world self.old) (kind_tree self.old.trees kind) }
         ensures { Makes (a_type kind) self.old self.new result }
     {
         self.nodes.mk_ty(kind)
     }
 
-    /// The constant of that kind; it stops as `mk_ty` does.
+    /// The constant of that kind, whose arguments are those that it takes, as `const_args_fit` tests; it stops as `mk_ty` does.
     pub fn mk_const(&mut self, kind: ConstKind) -> Result<Const, Stop>
-        requires { ConstKindFits self.old.trees kind }
+        requires fits { ConstKindFits self.old.trees kind }
+        requires takes { Takes (world self.old) (const_kind_tree self.old.trees kind) }
         ensures { Makes (a_constant kind) self.old self.new result }
     {
         self.nodes.mk_const(kind)
@@ -226,10 +285,12 @@ impl Cx {
         self.nodes.mk_vars(kinds)
     }
 
-    /// The bounds of a `dyn` type, of which one at most is by a trait that isn't an auto trait. They
-    /// take a number each, and one more, and add nothing to a height; it stops as `mk_vars` does.
+    /// The bounds of a `dyn` type, of which one at most is by a trait that isn't an auto trait, with the
+    /// arguments that they take, as `bound_args_fit` tests. They take a number each, and one more, and
+    /// add nothing to a height; it stops as `mk_vars` does.
     pub fn mk_preds(&mut self, bounds: &[Binder<ExistentialPredicate>]) -> Result<Preds, Stop>
         requires fit { BoundsFit self.old.trees bounds.now }
+        requires take { AllTake (world self.old) (map (pred_kind_tree self.old.trees) bounds.now) }
         requires principal { AtMostOnePrincipal bounds.now }
         ensures { Makes (some_bounds bounds.now) self.old self.new result }
     {
@@ -244,9 +305,11 @@ impl Cx {
         self.nodes.mk_sig(sig)
     }
 
-    /// The clause under its binder, which adds nothing to a height; it stops as `mk_ty` does.
+    /// The clause under its binder, whose arguments are those that it takes, as `clause_args_fit` tests. It
+    /// adds nothing to a height; it stops as `mk_ty` does.
     pub fn mk_clause(&mut self, clause: Binder<ClauseKind>) -> Result<Clause, Stop>
-        requires { ClauseFits self.old.trees clause }
+        requires fits { ClauseFits self.old.trees clause }
+        requires takes { Takes (world self.old) (clause_kind_tree self.old.trees clause) }
         ensures { Makes (a_clause clause) self.old self.new result }
     {
         self.nodes.mk_clause(clause)

@@ -1,11 +1,12 @@
 //! What a definition is: its crate, the kinds of its parameters, its flags.
 
-ghost use Rattle.std.specs.Prelude.{◌≡◌};
+ghost use Rattle.std.specs.Prelude.{◌≡◌, ◌↔◌, IsTrue, map};
 ghost use Rattle.std.specs.List.{list_all};
-ghost use Rattle.candidate_ir.specs.Context.{begins_with_type as begins};
-ghost use Rattle.candidate_ir.specs.Parameters.{is_type_kind};
+ghost use Rattle.candidate_ir.specs.Context.{begins_with_type as begins, parameter_kind};
+ghost use Rattle.candidate_ir.specs.Kinds.{arg_kind};
+ghost use Rattle.candidate_ir.specs.Parameters.{is_type_kind, is_type_arg};
 
-use crate::ir::kinds::{TraitId, VarKind};
+use crate::ir::kinds::{GenericArg, TraitId, VarKind};
 use std::alloc::{AllocError, Global};
 use std::marker::Model;
 
@@ -70,6 +71,24 @@ pub enum AssocKind {
     Const,
 }
 
+/// What an alias of a type was declared as.
+#[derive(Clone, Copy)]
+pub enum AliasShape {
+    /// An item of an impl that is of no trait.
+    Inherent,
+    /// An item that stands alone.
+    Free,
+}
+
+/// The flags of a function or of a closure; by default none is set.
+#[derive(Clone, Copy, Default)]
+pub struct FnFlags {
+    /// It can be called where a constant is computed.
+    pub is_const: bool,
+    /// It needs features that the target may lack.
+    pub target_features: bool,
+}
+
 /// A definition besides its crate and its parameters.
 #[derive(Clone, Copy)]
 pub enum DefinitionKind {
@@ -79,11 +98,51 @@ pub enum DefinitionKind {
     Foreign,
     /// An item of the trait, and whether it requires that `Self` is sized.
     Assoc(TraitId, AssocKind, bool),
+    Alias(AliasShape),
+    /// A type that is known by its bounds.
+    Opaque,
+    Function(FnFlags),
+    Closure(FnFlags),
+}
+
+/// What the number of a definition stands for.
+#[derive(Clone, Copy)]
+pub enum DefinitionSort {
+    Adt,
+    Foreign,
+    Trait,
+    AssociatedType,
+    AssociatedConst,
+    Alias,
+    Opaque,
+    Function,
+    Closure,
+}
+
+impl DefinitionSort {
+    ghost use Rattle.std.specs.Prelude.{◌≡◌};
+    ghost use Rattle.candidate_ir.specs.Worlds.{sort_number};
+
+    fn number(self) -> u32
+        ensures { result ≡ sort_number self }
+    {
+        match self {
+            DefinitionSort::Adt => 0,
+            DefinitionSort::Foreign => 1,
+            DefinitionSort::Trait => 2,
+            DefinitionSort::AssociatedType => 3,
+            DefinitionSort::AssociatedConst => 4,
+            DefinitionSort::Alias => 5,
+            DefinitionSort::Opaque => 6,
+            DefinitionSort::Function => 7,
+            DefinitionSort::Closure => 8,
+        }
+    }
 }
 
 impl DefinitionKind {
     ghost use Rattle.std.specs.Prelude.{◌≡◌};
-    ghost use Rattle.candidate_ir.specs.Context.{fundamental_of};
+    ghost use Rattle.candidate_ir.specs.Context.{fundamental_of, sort_of};
 
     pub(crate) fn is_fundamental(self) -> bool
         ensures { result ≡ fundamental_of self }
@@ -91,7 +150,23 @@ impl DefinitionKind {
         match self {
             DefinitionKind::Adt(_, flags) => flags.fundamental,
             DefinitionKind::Trait(flags) => flags.fundamental,
-            DefinitionKind::Foreign | DefinitionKind::Assoc(_, _, _) => false,
+            _ => false,
+        }
+    }
+
+    pub(crate) fn sort(self) -> DefinitionSort
+        ensures { result ≡ sort_of self }
+    {
+        match self {
+            DefinitionKind::Adt(_, _) => DefinitionSort::Adt,
+            DefinitionKind::Trait(_) => DefinitionSort::Trait,
+            DefinitionKind::Foreign => DefinitionSort::Foreign,
+            DefinitionKind::Assoc(_, AssocKind::Type, _) => DefinitionSort::AssociatedType,
+            DefinitionKind::Assoc(_, AssocKind::Const, _) => DefinitionSort::AssociatedConst,
+            DefinitionKind::Alias(_) => DefinitionSort::Alias,
+            DefinitionKind::Opaque => DefinitionSort::Opaque,
+            DefinitionKind::Function(_) => DefinitionSort::Function,
+            DefinitionKind::Closure(_) => DefinitionSort::Closure,
         }
     }
 }
@@ -106,9 +181,10 @@ pub(crate) enum Parameters {
 }
 
 impl Parameters {
-    ghost use Rattle.std.specs.Prelude.{◌≡◌, [], IfOk};
+    ghost use Rattle.std.specs.Prelude.{◌≡◌, ◌↔◌, IsTrue, [], IfOk, map};
     ghost use Rattle.candidate_ir.specs.Parameters.{kinds_of};
-    ghost use Rattle.candidate_ir.specs.Context.{begins_with_type, is_empty};
+    ghost use Rattle.candidate_ir.specs.Kinds.{arg_kind};
+    ghost use Rattle.candidate_ir.specs.Context.{begins_with_type, is_empty, parameter_kind};
 
     pub(crate) fn none() -> Self
         ensures { kinds_of result ≡ [] }
@@ -137,6 +213,16 @@ impl Parameters {
         }
     }
 
+    /// Whether the arguments are of these kinds, one for one.
+    pub(crate) fn are_of(&self, list: &[GenericArg]) -> bool
+        ensures { IsTrue result ↔ (map parameter_kind (kinds_of self.now) ≡ map arg_kind list.now) }
+    {
+        match self {
+            Parameters::Types(count) => { list.len() == *count && are_type_args(list) }
+            Parameters::Kinds(kinds) => have_kinds(list, kinds.as_slice()),
+        }
+    }
+
     #[tactic(auto, using(crate::proofs::Parameters::types_empty))]
     fn is_empty(&self) -> bool
         ensures { result ≡ is_empty (kinds_of self.now) }
@@ -156,6 +242,28 @@ impl Parameters {
             Parameters::Kinds(kinds) => begins_with_type(kinds.as_slice()),
         }
     }
+}
+
+/// Whether the arguments are of these kinds, one for one.
+fn have_kinds(list: &[GenericArg], kinds: &[VarKind]) -> bool
+    ensures { IsTrue result ↔ (map parameter_kind kinds.now ≡ map arg_kind list.now) }
+{
+    if list.len() != kinds.len() {
+        return false;
+    }
+    for i in 0..list.len() {
+        if !list[i].is_of(kinds[i]) {
+            return false;
+        }
+    }
+    true
+}
+
+/// Whether all of the arguments are types.
+pub(crate) fn are_type_args(list: &[GenericArg]) -> bool
+    ensures { result ≡ list_all is_type_arg list.now }
+{
+    list.iter().all(|arg| arg.is_type())
 }
 
 fn is_type(kind: VarKind) -> bool
@@ -189,7 +297,10 @@ impl Model for Declaration {
 
 impl Declaration {
     ghost use Rattle.std.specs.Prelude.{◌≡◌};
-    ghost use Rattle.candidate_ir.specs.Context.{fundamental_of, has_wrong_arity, is_trait, lacks_trait};
+    ghost use Rattle.candidate_ir.specs.Context.{fundamental_of, has_wrong_arity, is_trait, lacks_trait, definition_of};
+    ghost use Rattle.candidate_ir.specs.Worlds.{parameters_of};
+    ghost use Rattle.candidate_ir.specs.Kinds.{arg_kind};
+    ghost use Rattle.std.specs.Prelude.{◌↔◌, IsTrue, Some, map};
 
     pub(crate) fn krate(&self) -> CrateId
         ensures { result ≡ self.now.crate }
@@ -222,6 +333,13 @@ impl Declaration {
         }
     }
 
+    /// Whether it is of the sort, with parameters of the kinds of these arguments.
+    pub(crate) fn takes(&self, sort: DefinitionSort, list: &[GenericArg]) -> bool
+        ensures { IsTrue result ↔ (parameters_of sort (Some (definition_of self.now)) ≡ Some (map arg_kind list.now)) }
+    {
+        self.kind.sort().number() == sort.number() && self.parameters.are_of(list)
+    }
+
     /// Whether it has parameters that its flags don't allow.
     pub(crate) fn has_wrong_arity(&self) -> bool
         ensures { result ≡ has_wrong_arity self.now.kind self.now.parameters }
@@ -231,7 +349,7 @@ impl Declaration {
                 flags.phantom_data && !self.parameters.begins_with_type()
             }
             DefinitionKind::Trait(flags) => flags.auto && !self.parameters.is_empty(),
-            DefinitionKind::Foreign | DefinitionKind::Assoc(_, _, _) => false,
+            _ => false,
         }
     }
 }

@@ -1,11 +1,12 @@
 //! Folds by a closure.
 
 ghost use Rattle.std.specs.Prelude.{◌≡◌, ◌+◌, ◌<◌, ◌≤◌, ◌^◌, true, false, length, map, IfOk, IfErr};
-ghost use Rattle.candidate_ir.specs.Context.{Grows};
+ghost use Rattle.candidate_ir.specs.Context.{Grows, world};
 ghost use Rattle.candidate_ir.specs.Folds.{IsArg, IsOfKind, MayFold, KeepsKinds, Says, Said, Outcome, Renumbers, Relists};
 ghost use Rattle.candidate_ir.specs.Kinds.{arg_number, numbers, sorts};
 ghost use Rattle.candidate_ir.specs.Names.{principals};
 ghost use Rattle.candidate_ir.specs.Nodes.{tree_at, kind_at, node_tree, head_of, children_of, pred_child, Fits, is_rebuilt, is_bound_kind, have_bound};
+ghost use Rattle.candidate_ir.specs.References.{Takes};
 ghost use Rattle.candidate_ir.specs.Table.{Below};
 ghost use Rattle.candidate_ir.specs.Trees.{PredicatesKind, height, kind_of, binders_of};
 ghost use Rattle.candidate_ir.specs.Words.{PredListFits, pred_list_forest, IsMkStop};
@@ -60,6 +61,7 @@ where
 fn add<M: Make>(make: &mut M, node: &Node) -> Result<u32, Stop>
     requires kind { is_rebuilt node.now ≡ true }
     requires fits { Fits (M.context make.old).trees node.now }
+    requires takes { Takes (world (M.context make.old)) (node_tree (M.context make.old).trees node.now) }
     ensures grows { Grows (M.context make.old) (M.context make.new) }
     ensures rest { M.rest make.new ≡ M.rest make.old }
     ensures sort { IfOk result (λ n. kind_at (M.context make.new).trees n ≡ kind_of (head_of node.now)) }
@@ -133,6 +135,7 @@ where
 {
     let mut bounds = Vec::new(alloc);
     for i in 0..list.len() {
+        make.cx().well_formed();
         let bound = make.cx().bound(list[i]);
         let node = Node::Pred(bound);
         let children = fold_children(alloc, make, fold, &node, list[i].0, binders)?;
@@ -163,6 +166,7 @@ where
     if let Some(answer) = said(make, fold, number, binders)? {
         return Ok(answer);
     }
+    make.cx().well_formed();
     let node = make.cx().node(number).copy(alloc)?;
     match &node {
         Node::Region(_) => Ok(number),

@@ -1,9 +1,9 @@
 //! What makes nodes.
 
 ghost use Rattle.std.specs.Prelude.{◌≡◌, ◌+◌, length, map, IfOk, IfErr};
-ghost use Rattle.candidate_ir.specs.Context.{Context};
+ghost use Rattle.candidate_ir.specs.Context.{Context, world};
 ghost use Rattle.candidate_ir.specs.Making.{Makes, a_type, a_constant, a_region, a_list, a_binder, some_bounds, a_signature, a_clause, an_environment};
-ghost use Rattle.candidate_ir.specs.References.{IsWellFormed, Takes, AllTake};
+ghost use Rattle.candidate_ir.specs.References.{Takes, AllTake};
 ghost use Rattle.candidate_ir.specs.Trees.{height, heights};
 ghost use Rattle.candidate_ir.specs.Words.{IsTy, IsConst, IsRegion, IsArgs, IsPreds, IsSig, IsClause, IsParamEnv, IsVars, ty_tree, const_tree, region_tree, args_forest, preds_forest, sig_tree, clause_tree, env_forest, vars_tree, KindFits, ConstKindFits, ListFits, SigFits, ClauseFits, ClauseListFits, BoundsFit, AtMostOnePrincipal, kind_tree, const_kind_tree, region_kind_tree, sig_kind_tree, clause_kind_tree, clause_list_forest, pred_kind_tree, list_forest, bounds_forest, binder_tree, IsMkStop, IsMkListStop};
 
@@ -30,15 +30,17 @@ pub trait Make {
     fn cx(&self) -> &Cx
         ensures { result.now ≡ context self.now };
 
-    /// The type of that kind.
+    /// The type of that kind, whose arguments are those that it takes.
     fn mk_ty(&mut self, kind: TyKind) -> Result<Ty, Stop>
-        requires { KindFits (context self.old).trees kind }
+        requires fits { KindFits (context self.old).trees kind }
+        requires takes { Takes (world (context self.old)) (kind_tree (context self.old).trees kind) }
         ensures made { Makes (a_type kind) (context self.old) (context self.new) result }
         ensures rest { rest self.new ≡ rest self.old };
 
-    /// The constant of that kind.
+    /// The constant of that kind, whose arguments are those that it takes.
     fn mk_const(&mut self, kind: ConstKind) -> Result<Const, Stop>
-        requires { ConstKindFits (context self.old).trees kind }
+        requires fits { ConstKindFits (context self.old).trees kind }
+        requires takes { Takes (world (context self.old)) (const_kind_tree (context self.old).trees kind) }
         ensures made { Makes (a_constant kind) (context self.old) (context self.new) result }
         ensures rest { rest self.new ≡ rest self.old };
 
@@ -58,9 +60,10 @@ pub trait Make {
         ensures made { Makes (a_binder kinds.now) (context self.old) (context self.new) result }
         ensures rest { rest self.new ≡ rest self.old };
 
-    /// The bounds of a `dyn` type.
+    /// The bounds of a `dyn` type, whose arguments are those that they take.
     fn mk_preds(&mut self, bounds: &[Binder<ExistentialPredicate>]) -> Result<Preds, Stop>
         requires fit { BoundsFit (context self.old).trees bounds.now }
+        requires take { AllTake (world (context self.old)) (map (pred_kind_tree (context self.old).trees) bounds.now) }
         requires principal { AtMostOnePrincipal bounds.now }
         ensures made { Makes (some_bounds bounds.now) (context self.old) (context self.new) result }
         ensures rest { rest self.new ≡ rest self.old };
@@ -71,9 +74,10 @@ pub trait Make {
         ensures made { Makes (a_signature sig) (context self.old) (context self.new) result }
         ensures rest { rest self.new ≡ rest self.old };
 
-    /// The clause under its binder.
+    /// The clause under its binder, whose arguments are those that it takes.
     fn mk_clause(&mut self, clause: Binder<ClauseKind>) -> Result<Clause, Stop>
-        requires { ClauseFits (context self.old).trees clause }
+        requires fits { ClauseFits (context self.old).trees clause }
+        requires takes { Takes (world (context self.old)) (clause_kind_tree (context self.old).trees clause) }
         ensures made { Makes (a_clause clause) (context self.old) (context self.new) result }
         ensures rest { rest self.new ≡ rest self.old };
 

@@ -4,6 +4,7 @@ ghost use Rattle.std.specs.Prelude.{◌≡◌, ◌≤◌, ◌↔◌, IsTrue};
 ghost use Rattle.candidate_ir.specs.Flags.{mark};
 ghost use Rattle.candidate_ir.specs.Trees.{binders_of};
 ghost use Rattle.candidate_ir.specs.Binders.{is_beyond};
+ghost use Rattle.candidate_ir.specs.Names.{named, names_unknown};
 
 use crate::ir::kinds::{
     AdtId, AliasId, AliasKind, AssocId, BoundVar, ClosureId, ClosureKind, FloatTy, FnId, ForeignId,
@@ -202,6 +203,36 @@ impl Head {
             Head::Builtin(Builtin::FnPtr(_) | Builtin::UnsafeBinder) => 1,
             Head::Part(PartHead::Pred(_) | PartHead::Clause(_) | PartHead::Sig) => 1,
             _ => 0,
+        }
+    }
+
+    /// The number of the definition that it names, if it names one.
+    fn named(self) -> Option<u32>
+        ensures { result ≡ named self }
+    {
+        match self {
+            Head::Adt(id) => Some(id.0),
+            Head::Foreign(id) => Some(id.0),
+            Head::FnDef(id) => Some(id.0),
+            Head::Closure(id, _) => Some(id.0),
+            Head::Alias(_, id) => Some(id.0),
+            Head::Const(ConstHead::Unevaluated(id)) => Some(id.0),
+            Head::Part(PartHead::Pred(PredHead::Trait(id))) => Some(id.0),
+            Head::Part(PartHead::Pred(PredHead::Projection(id))) => Some(id.0),
+            Head::Part(PartHead::Pred(PredHead::AutoTrait(id))) => Some(id.0),
+            Head::Part(PartHead::Clause(ClauseHead::Trait(id, _))) => Some(id.0),
+            Head::Part(PartHead::Clause(ClauseHead::Projection(id))) => Some(id.0),
+            _ => None,
+        }
+    }
+
+    /// Whether it names a definition that is none of the first so many.
+    pub(crate) fn names_unknown(self, definitions: usize) -> bool
+        ensures { result ≡ names_unknown definitions self }
+    {
+        match self.named() {
+            Some(number) => number as usize >= definitions,
+            None => false,
         }
     }
 

@@ -1,7 +1,9 @@
 //! Numbers of nodes, and the kinds of types, constants and regions over them.
 
-ghost use Rattle.std.specs.Prelude.{◌≡◌, ◌<◌, Some, [], ◌∷◌, length, slice_get};
-ghost use Rattle.candidate_ir.specs.Kinds.{arg_number, variable_of, ty_head, const_head, pred_head, clause_head, ty_children, pred_children, clause_children, numbers, is_fn_trait_compatible, is_general_variable, is_known_rigid};
+ghost use Rattle.std.specs.Prelude.{◌≡◌, ◌↔◌, IsTrue, ◌<◌, Some, [], ◌∷◌, length, slice_get};
+ghost use Rattle.candidate_ir.specs.Context.{parameter_kind};
+ghost use Rattle.candidate_ir.specs.Parameters.{is_type_arg};
+ghost use Rattle.candidate_ir.specs.Kinds.{arg_number, arg_kind, variable_of, ty_head, const_head, pred_head, clause_head, ty_children, pred_children, clause_children, numbers, is_fn_trait_compatible, is_general_variable, is_known_rigid};
 
 use crate::ir::heads::{
     Builtin, ClauseHead, ConstHead, Head, PatternShape, PredHead, Signature, Variable, VariableSort,
@@ -388,6 +390,24 @@ impl GenericArg {
             GenericArg::Ty(ty) => ty.0,
             GenericArg::Const(constant) => constant.0,
             GenericArg::Region(region) => region.0,
+        }
+    }
+
+    /// Whether it is a type.
+    pub(crate) fn is_type(self) -> bool
+        ensures { result ≡ is_type_arg self }
+    {
+        matches!(self, GenericArg::Ty(_))
+    }
+
+    /// Whether it is of the kind.
+    pub(crate) fn is_of(self, kind: VarKind) -> bool
+        ensures { IsTrue result ↔ (parameter_kind kind ≡ arg_kind self) }
+    {
+        match kind {
+            VarKind::Ty => matches!(self, GenericArg::Ty(_)),
+            VarKind::Const => matches!(self, GenericArg::Const(_)),
+            VarKind::Region => matches!(self, GenericArg::Region(_)),
         }
     }
 }

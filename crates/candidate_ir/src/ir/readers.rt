@@ -3,6 +3,8 @@
 ghost use Rattle.std.specs.Prelude.{◌≡◌, ◌<◌, ◌≤◌, false, true, length, MatchOption};
 ghost use Rattle.candidate_ir.specs.Folds.{is_asked, IsArg};
 ghost use Rattle.candidate_ir.specs.Kinds.{arg_number, numbers, pred_children};
+ghost use Rattle.candidate_ir.specs.Trees.{PredicateKind};
+ghost use Rattle.candidate_ir.specs.Worlds.{all_of, kinds_of};
 ghost use Rattle.candidate_ir.specs.Names.{principal_of, principals};
 ghost use Rattle.candidate_ir.specs.Nodes.{tree_at};
 ghost use Rattle.candidate_ir.specs.Table.{Below};
@@ -65,6 +67,16 @@ impl Nodes {
             Node::Preds(list) => list.as_slice(),
             _ => unreachable!(),
         }
+    }
+
+    /// True: a list of bounds has bounds alone.
+    pub(crate) fn holds_bounds(&self, preds: Preds) -> bool
+        requires { IsPreds self.now preds }
+        ensures is { result ≡ true }
+        ensures kinds { kinds_of (preds_forest self.now preds) ≡ all_of PredicateKind (kinds_of (preds_forest self.now preds)) }
+    {
+        let _ = self.preds(preds);
+        true
     }
 
     /// The bound of a number.

@@ -8,6 +8,7 @@ use Rattle.candidate_ir.specs.declared.ir.node.Node.TheVariants as N
 use Rattle.candidate_ir.specs.Context.{Context}
 use Rattle.candidate_ir.specs.Kinds.{numbers, sorts}
 use Rattle.candidate_ir.specs.Nodes.{tree_at, children_of, kinds_at, pred_child, Fits}
+use Rattle.candidate_ir.specs.References.{IsWellFormed}
 use Rattle.candidate_ir.specs.Table.{Below}
 use Rattle.candidate_ir.specs.Trees.{PredicateKind, binders_of}
 use Rattle.candidate_ir.specs.Words.{PredFits, pred_kind_tree, bounds_forest}
@@ -17,7 +18,7 @@ use Rattle.candidate_ir.proofs.Children.{Below-get, length-numbers, length_preds
 use Rattle.candidate_ir.proofs.Made.{IsPred-listed, kind_at-grows}
 use Rattle.candidate_ir.proofs.FoldSteps.{children-begin, children-next, relisted, relisted-stop, relisted-memory, renumbers-at, folds-reached, may-later, keeps-later, unchanged-makes, extends-length}
 use Rattle.candidate_ir.proofs.FoldBounds.{bounds-begin, bounds-next, bounds-stop, bounds-made, bounds-unmade, one-principal, outcome-memory}
-use Rattle.candidate_ir.proofs.FoldNodes.{no-bound-at, no-bound-pred, no-bound, is-rebuilt, same-count, said-nothing, said-reached, number-refused, number-answered, number-memory, number-leaf, number-variables, number-bounds, number-bound, number-stopped, number-again, copy-fits, copy-below, copy-principal}
+use Rattle.candidate_ir.proofs.FoldNodes.{no-bound-at, no-bound-pred, no-bound, is-rebuilt, same-count, said-nothing, said-reached, number-refused, number-answered, number-memory, number-leaf, number-variables, number-bounds, number-bound, number-stopped, number-again, number-takes, copy-fits, copy-below, copy-principal}
 use Rattle.candidate_ir.proofs.decl.fold.+fold.Goals as goal
 
 pub fold_children-loop-i-init : goal.fold_children-loop-i-init
@@ -91,7 +92,7 @@ fold_bounds-bound-bound-requires g t c =
     let past : Pred = record { 0 = 0 } in
     let was = IsPred-listed _ c.args.list.now c.loop-i.i past (omega arith) c.requires.fits in
     let now = kind_at-grows _ _ (slice_index_or c.args.list.now c.loop-i.i past).0 PredicateKind c.loop-i.invariant.grows refl was in
-    rw c.cx.ensures now
+    rw c.cx-in-loop-i.ensures now
 
 pub fold_bounds-fold_children-requires : goal.fold_bounds-fold_children-requires
 fold_bounds-fold_children-requires g t c κs within =
@@ -103,8 +104,8 @@ fold_bounds-fold_children-requires g t c κs within =
     let so = c.loop-i.invariant in
     let FitsIn : Context → Type 0 = λ x. PredFits x.trees c.bound-bound.result in
     let StandsIn : Context → Type 0 = λ x. pred_kind_tree x.trees c.bound-bound.result ≡ tree_at x.trees pred.0 in
-    let fits : FitsIn (g.M.Make.context c.loop-i.make) = subst FitsIn c.cx.ensures c.bound-bound.ensures.fits in
-    let stands : StandsIn (g.M.Make.context c.loop-i.make) = subst StandsIn c.cx.ensures c.bound-bound.ensures.tree in
+    let fits : FitsIn (g.M.Make.context c.loop-i.make) = subst FitsIn c.cx-in-loop-i.ensures c.bound-bound.ensures.fits in
+    let stands : StandsIn (g.M.Make.context c.loop-i.make) = subst StandsIn c.cx-in-loop-i.ensures c.bound-bound.ensures.tree in
     let small : pred.0 < c.args.number = Below-get c.args.number ks c.loop-i.i pred.0 c.requires.below at in
     let reached = folds-reached g.M.Make.context g.M.Make.rest g.F.FnMut so.folded in (
       omega (arith, small),
@@ -139,8 +140,8 @@ fold_bounds-returns-in_err-children-clause-outcome g t c =
     let so = c.loop-i.invariant in
     let FitsIn : Context → Type 0 = λ x. PredFits x.trees c.bound-bound.result in
     let StandsIn : Context → Type 0 = λ x. pred_kind_tree x.trees c.bound-bound.result ≡ tree_at x.trees pred.0 in
-    let fits : FitsIn (g.M.Make.context c.loop-i.make) = subst FitsIn c.cx.ensures c.bound-bound.ensures.fits in
-    let stands : StandsIn (g.M.Make.context c.loop-i.make) = subst StandsIn c.cx.ensures c.bound-bound.ensures.tree in
+    let fits : FitsIn (g.M.Make.context c.loop-i.make) = subst FitsIn c.cx-in-loop-i.ensures c.bound-bound.ensures.fits in
+    let stands : StandsIn (g.M.Make.context c.loop-i.make) = subst StandsIn c.cx-in-loop-i.ensures c.bound-bound.ensures.tree in
     let p = err_from_is_err_and c.from_residual.result c.from_residual.ensures.1 in
     rw (p.1, p.2) (bounds-stop g.M.Make.context g.M.Make.rest g.F.FnMut _ _ _ c.args.binders ks c.loop-i.bounds.items c.loop-i.i pred.0 c.bound-bound.result inside so at stands _ _ _ c.in_err-children.ensures)
 
@@ -151,6 +152,7 @@ fold_bounds-returns-in_err-push-clause-outcome g t c =
 
 pub fold_bounds-loop-i-preserved : goal.fold_bounds-loop-i-preserved
 fold_bounds-loop-i-preserved g t c =
+    let well : IsWellFormed (g.M.Make.context c.loop-i.make) = subst IsWellFormed c.cx.ensures c.well_formed-in-loop-i.ensures in
     let past : Pred = record { 0 = 0 } in
     let ks = numbers (map pred_child c.args.list.now) in
     let pred = slice_index_or c.args.list.now c.loop-i.i past in
@@ -159,9 +161,9 @@ fold_bounds-loop-i-preserved g t c =
     let so = c.loop-i.invariant in
     let FitsIn : Context → Type 0 = λ x. PredFits x.trees c.bound-bound.result in
     let StandsIn : Context → Type 0 = λ x. pred_kind_tree x.trees c.bound-bound.result ≡ tree_at x.trees pred.0 in
-    let fits : FitsIn (g.M.Make.context c.loop-i.make) = subst FitsIn c.cx.ensures c.bound-bound.ensures.fits in
-    let stands : StandsIn (g.M.Make.context c.loop-i.make) = subst StandsIn c.cx.ensures c.bound-bound.ensures.tree in
-    bounds-next g.M.Make.context g.M.Make.rest g.F.FnMut _ _ _ c.args.binders ks c.loop-i.bounds.items c.loop-i.i pred.0 c.bound-bound.result inside so at stands _ c.in_ok-children.children c.with_children.result _ c.in_ok-children.ensures c.with_children.ensures.head
+    let fits : FitsIn (g.M.Make.context c.loop-i.make) = subst FitsIn c.cx-in-loop-i.ensures c.bound-bound.ensures.fits in
+    let stands : StandsIn (g.M.Make.context c.loop-i.make) = subst StandsIn c.cx-in-loop-i.ensures c.bound-bound.ensures.tree in
+    bounds-next g.M.Make.context g.M.Make.rest g.F.FnMut _ _ _ c.args.binders ks c.loop-i.bounds.items c.loop-i.i pred.0 c.bound-bound.result inside so at stands well _ c.in_ok-children.children c.with_children.result _ c.in_ok-children.ensures c.with_children.ensures.head
     (c.with_children.ensures.numbers ∙ c.as_slice.ensures.value) c.with_children.ensures.sorts c.in_ok-push.ensures.items
 
 pub fold_bounds-mk_preds-requires : goal.fold_bounds-mk_preds-requires
@@ -173,6 +175,7 @@ fold_bounds-mk_preds-requires g t c =
     let most : length ks ≤ c.loop-i.i = omega (arith, long, len, c.loop-i-test.false) in
     record {
       fit = rw c.as_slice-2.ensures.value so.fit;
+      take = rw c.as_slice-2.ensures.value so.takes;
       principal = rw c.as_slice-2.ensures.value (one-principal g.M.Make.context g.M.Make.rest g.F.FnMut _ _ _ c.args.binders ks c.loop-i.bounds.items c.loop-i.i so most (unchanged-makes g.M.Make.context g.M.Make.rest g.F.FnMut _) c.requires.principal);
     }
 
@@ -211,7 +214,7 @@ pub fold_number-node-requires : goal.fold_number-node-requires
 fold_number-node-requires g t c =
     let longer = extends-length _ _ c.in_ok-answer.ensures.grows.kept in
     let there : c.args.number < length (g.M.Make.context c.said.new.make).trees = omega (arith, c.requires.inside, longer) in
-    rw c.cx.ensures there
+    rw c.cx-2.ensures there
 
 pub fold_number-returns-in_err-node : goal.fold_number-returns-in_err-node
 fold_number-returns-in_err-node g t c =
@@ -221,25 +224,25 @@ fold_number-returns-in_err-node g t c =
 pub fold_number-returns-in-Region : goal.fold_number-returns-in-Region
 fold_number-returns-in-Region g t c =
     let h = said-nothing g.M.Make.context g.M.Make.rest g.F.FnMut _ _ c.args.binders c.args.number c.in_ok-answer.field-0 c.in_default.not-Some c.in_ok-answer.ensures in
-    let i = rw c.cx.ensures at c.node.ensures in
+    let i = rw c.cx-2.ensures at c.node.ensures in
     number-leaf g.M.Make.context g.M.Make.rest g.F.FnMut _ _ c.args.binders c.args.number c.requires.inside h c.node.result.now c.in_ok-node.node i c.in_ok-node.ensures.head c.in_ok-node.ensures.children (ap children_of c.in-Region.is)
 
 pub fold_number-returns-in-Var : goal.fold_number-returns-in-Var
 fold_number-returns-in-Var g t c =
     let h = said-nothing g.M.Make.context g.M.Make.rest g.F.FnMut _ _ c.args.binders c.args.number c.in_ok-answer.field-0 c.in_default.not-Some c.in_ok-answer.ensures in
-    let i = rw c.cx.ensures at c.node.ensures in
+    let i = rw c.cx-2.ensures at c.node.ensures in
     number-leaf g.M.Make.context g.M.Make.rest g.F.FnMut _ _ c.args.binders c.args.number c.requires.inside h c.node.result.now c.in_ok-node.node i c.in_ok-node.ensures.head c.in_ok-node.ensures.children (ap children_of c.in-Var.is)
 
 pub fold_number-returns-in-Vars : goal.fold_number-returns-in-Vars
 fold_number-returns-in-Vars g t c =
     let h = said-nothing g.M.Make.context g.M.Make.rest g.F.FnMut _ _ c.args.binders c.args.number c.in_ok-answer.field-0 c.in_default.not-Some c.in_ok-answer.ensures in
-    let i = rw c.cx.ensures at c.node.ensures in
+    let i = rw c.cx-2.ensures at c.node.ensures in
     number-variables g.M.Make.context g.M.Make.rest g.F.FnMut _ _ c.args.binders c.args.number c.requires.inside h c.node.result.now c.in_ok-node.node i c.in_ok-node.ensures.head c.in_ok-node.ensures.children c.in-Vars.field-0 c.in-Vars.is (rw c.cx-in-Vars.ensures at c.variables_are_leaves.ensures)
 
 pub fold_number-fold_bounds-requires : goal.fold_number-fold_bounds-requires
 fold_number-fold_bounds-requires g t c κs within =
     let h = said-nothing g.M.Make.context g.M.Make.rest g.F.FnMut _ _ c.args.binders c.args.number c.in_ok-answer.field-0 c.in_default.not-Some c.in_ok-answer.ensures in
-    let i = rw c.cx.ensures at c.node.ensures in
+    let i = rw c.cx-2.ensures at c.node.ensures in
     let reached = said-reached g.M.Make.context g.M.Make.rest g.F.FnMut _ _ c.args.binders c.args.number h in
     let fits : Fits (g.M.Make.context c.said.new.make).trees (N.Preds c.in-Preds.list) = subst (Fits (g.M.Make.context c.said.new.make).trees) c.in-Preds.is (copy-fits g.M.Make.context g.M.Make.rest g.F.FnMut _ _ c.args.binders c.args.number c.requires.inside h c.node.result.now c.in_ok-node.node i c.in_ok-node.ensures.head c.in_ok-node.ensures.children) in
     let lower : Node → Type 0 = λ d. Below c.args.number (numbers (children_of d)) in
@@ -266,19 +269,19 @@ fold_number-fold_bounds-requires g t c κs within =
 pub fold_number-returns-in-Preds : goal.fold_number-returns-in-Preds
 fold_number-returns-in-Preds g t c =
     let h = said-nothing g.M.Make.context g.M.Make.rest g.F.FnMut _ _ c.args.binders c.args.number c.in_ok-answer.field-0 c.in_default.not-Some c.in_ok-answer.ensures in
-    let i = rw c.cx.ensures at c.node.ensures in
+    let i = rw c.cx-2.ensures at c.node.ensures in
     number-bounds g.M.Make.context g.M.Make.rest g.F.FnMut _ _ c.args.binders c.args.number c.requires.inside h c.node.result.now c.in_ok-node.node i c.in_ok-node.ensures.head c.in_ok-node.ensures.children c.in-Preds.list _ _ c.in-Preds.is c.fold_bounds.ensures.sort (rw c.as_slice.ensures.value at c.fold_bounds.ensures.outcome)
 
 pub fold_number-unreachable-requires : goal.fold_number-unreachable-requires
 fold_number-unreachable-requires g t c =
     let h = said-nothing g.M.Make.context g.M.Make.rest g.F.FnMut _ _ c.args.binders c.args.number c.in_ok-answer.field-0 c.in_default.not-Some c.in_ok-answer.ensures in
-    let i = rw c.cx.ensures at c.node.ensures in
+    let i = rw c.cx-2.ensures at c.node.ensures in
     number-bound g.M.Make.context g.M.Make.rest g.F.FnMut _ _ c.args.binders c.args.number c.requires.inside h c.node.result.now c.in_ok-node.node i c.in_ok-node.ensures.head c.in_ok-node.ensures.children c.in-Pred.field-0 c.in-Pred.is c.requires.no_bound
 
 pub fold_number-fold_children-requires : goal.fold_number-fold_children-requires
 fold_number-fold_children-requires g t c κs within =
     let h = said-nothing g.M.Make.context g.M.Make.rest g.F.FnMut _ _ c.args.binders c.args.number c.in_ok-answer.field-0 c.in_default.not-Some c.in_ok-answer.ensures in
-    let i = rw c.cx.ensures at c.node.ensures in
+    let i = rw c.cx-2.ensures at c.node.ensures in
     let reached = said-reached g.M.Make.context g.M.Make.rest g.F.FnMut _ _ c.args.binders c.args.number h in (
       omega arith,
       (
@@ -302,7 +305,7 @@ fold_number-fold_children-requires g t c κs within =
 pub fold_number-returns-in_err-children-in_default-node : goal.fold_number-returns-in_err-children-in_default-node
 fold_number-returns-in_err-children-in_default-node g t c =
     let h = said-nothing g.M.Make.context g.M.Make.rest g.F.FnMut _ _ c.args.binders c.args.number c.in_ok-answer.field-0 c.in_default.not-Some c.in_ok-answer.ensures in
-    let i = rw c.cx.ensures at c.node.ensures in
+    let i = rw c.cx-2.ensures at c.node.ensures in
     let p = err_from_is_err_and c.from_residual-in_err-children-in_default-node.result c.from_residual-in_err-children-in_default-node.ensures.1 in
     rw (p.1, p.2) (number-stopped g.M.Make.context g.M.Make.rest g.F.FnMut _ _ c.args.binders c.args.number c.requires.inside h c.node.result.now c.in_ok-node.node i c.in_ok-node.ensures.head c.in_ok-node.ensures.children _ _ _ c.in_err-children-in_default-node.ensures)
 
@@ -316,10 +319,15 @@ fold_number-rebuilt-requires g t c =
 
 pub fold_number-add-requires : goal.fold_number-add-requires
 fold_number-add-requires g t c =
+    let h = said-nothing g.M.Make.context g.M.Make.rest g.F.FnMut _ _ c.args.binders c.args.number c.in_ok-answer.field-0 c.in_default.not-Some c.in_ok-answer.ensures in
+    let i = rw c.cx-2.ensures at c.node.ensures in
+    let numbered = c.in_ok-rebuilt-in_default-node.ensures.numbers ∙ c.as_slice-in_default-node.ensures.value in
+    let well : IsWellFormed (g.M.Make.context c.said.new.make) = subst IsWellFormed c.cx.ensures c.well_formed-2.ensures in
     record {
       kind = c.in_ok-rebuilt-in_default-node.ensures.kind;
-      fits = ap (kinds_at _) (c.in_ok-rebuilt-in_default-node.ensures.numbers ∙ c.as_slice-in_default-node.ensures.value)
-          ∙ (c.in_ok-children-in_default-node.ensures.sorts_are ∙ sym c.in_ok-rebuilt-in_default-node.ensures.sorts);
+      fits = ap (kinds_at _) numbered ∙ (c.in_ok-children-in_default-node.ensures.sorts_are ∙ sym c.in_ok-rebuilt-in_default-node.ensures.sorts);
+      takes = number-takes g.M.Make.context g.M.Make.rest g.F.FnMut _ _ c.args.binders c.args.number c.requires.inside h c.node.result.now c.in_ok-node.node i c.in_ok-node.ensures.head c.in_ok-node.ensures.children _ c.in_ok-children-in_default-node.children _ c.in_ok-rebuilt-in_default-node.rebuilt well c.in_ok-children-in_default-node.ensures
+          c.in_ok-rebuilt-in_default-node.ensures.head numbered;
     }
 
 pub fold_number-returns-in_err-rebuilt-in_default-node : goal.fold_number-returns-in_err-rebuilt-in_default-node
@@ -330,7 +338,7 @@ fold_number-returns-in_err-rebuilt-in_default-node g t c =
 pub fold_number-returns : goal.fold_number-returns
 fold_number-returns g t c =
     let h = said-nothing g.M.Make.context g.M.Make.rest g.F.FnMut _ _ c.args.binders c.args.number c.in_ok-answer.field-0 c.in_default.not-Some c.in_ok-answer.ensures in
-    let i = rw c.cx.ensures at c.node.ensures in
+    let i = rw c.cx-2.ensures at c.node.ensures in
     number-again g.M.Make.context g.M.Make.rest g.F.FnMut _ _ c.args.binders c.args.number c.requires.inside h c.node.result.now c.in_ok-node.node i c.in_ok-node.ensures.head c.in_ok-node.ensures.children _ c.in_ok-children-in_default-node.children _ _ c.in_ok-rebuilt-in_default-node.rebuilt c.add.result c.in_ok-children-in_default-node.ensures
     c.in_ok-rebuilt-in_default-node.ensures.head (c.in_ok-rebuilt-in_default-node.ensures.numbers ∙ c.as_slice-in_default-node.ensures.value)
     (record { same = refl; grows = c.add.ensures.grows; rest = c.add.ensures.rest }) c.add.ensures.sort c.add.ensures.tree c.add.ensures.cause

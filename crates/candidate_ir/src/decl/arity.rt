@@ -1,0 +1,200 @@
+//! Whether the arguments of a node are those that its definition takes.
+
+ghost use Rattle.std.specs.Prelude.{◌≡◌, ◌↔◌, IsTrue, Some, map, ◌∷◌, []};
+ghost use Rattle.candidate_ir.specs.Context.{world_of};
+ghost use Rattle.candidate_ir.specs.Kinds.{arg_kind};
+ghost use Rattle.std.specs.List.{list_any};
+ghost use Rattle.candidate_ir.specs.Names.{names_unknown};
+ghost use Rattle.candidate_ir.specs.Nodes.{Fits, node_tree};
+ghost use Rattle.candidate_ir.specs.References.{AllFit, Takes};
+ghost use Rattle.candidate_ir.specs.Trees.{TypeKind};
+ghost use Rattle.candidate_ir.specs.Words.{KindFits, ConstKindFits, PredFits, ClauseFits, kind_tree, const_kind_tree, pred_kind_tree, clause_kind_tree};
+ghost use Rattle.candidate_ir.specs.Worlds.{parameters, joined, alias_kinds};
+
+use crate::decl::definition::{Declaration, DefinitionSort, are_type_args};
+use crate::ir::kinds::{
+    AliasKind, AliasTy, Binder, ClauseKind, ConstKind, ExistentialPredicate, GenericArg, TyKind,
+};
+use crate::ir::node::Node;
+use crate::ir::nodes::Nodes;
+
+/// Whether the number is that of a definition of the sort, with parameters of the kinds of these arguments.
+fn takes(
+    definitions: &[Declaration],
+    sort: DefinitionSort,
+    number: u32,
+    list: &[GenericArg],
+) -> bool
+    ensures { IsTrue result ↔ (parameters (world_of definitions.now) sort number ≡ Some (map arg_kind list.now)) }
+{
+    match definitions.get(number as usize) {
+        Some(definition) => definition.takes(sort, list),
+        None => false,
+    }
+}
+
+/// The same with a type before them.
+pub(crate) fn takes_after_self(
+    definitions: &[Declaration],
+    sort: DefinitionSort,
+    number: u32,
+    list: &[GenericArg],
+) -> bool
+    ensures { IsTrue result ↔ (joined (Some (TypeKind ∷ [])) (parameters (world_of definitions.now) sort number) ≡ Some (map arg_kind list.now)) }
+{
+    match list {
+        [GenericArg::Ty(_), list @ ..] => takes(definitions, sort, number, list),
+        _ => false,
+    }
+}
+
+fn alias_takes(definitions: &[Declaration], alias: AliasTy, list: &[GenericArg]) -> bool
+    ensures { IsTrue result ↔ (alias_kinds (world_of definitions.now) alias.kind alias.id.0 ≡ Some (map arg_kind list.now)) }
+{
+    let number = alias.id.0;
+    match alias.kind {
+        AliasKind::Projection => {
+            takes_after_self(definitions, DefinitionSort::AssociatedType, number, list)
+        }
+        AliasKind::Opaque => takes(definitions, DefinitionSort::Opaque, number, list),
+        AliasKind::Inherent | AliasKind::Free => {
+            takes(definitions, DefinitionSort::Alias, number, list)
+        }
+    }
+}
+
+/// Whether the arguments of the type are those that it takes.
+pub(crate) fn ty_fits(definitions: &[Declaration], nodes: &Nodes, kind: TyKind) -> bool
+    requires { KindFits nodes.now kind }
+    ensures { IsTrue result ↔ Takes (world_of definitions.now) (kind_tree nodes.now kind) }
+{
+    match kind {
+        TyKind::Adt(id, args) => takes(definitions, DefinitionSort::Adt, id.0, nodes.args(args)),
+        TyKind::Foreign(id) => takes(definitions, DefinitionSort::Foreign, id.0, &[]),
+        TyKind::FnDef(id, args) => {
+            takes(
+                definitions,
+                DefinitionSort::Function,
+                id.0,
+                nodes.args(args),
+            )
+        }
+        TyKind::Closure(id, closure) => takes(
+            definitions,
+            DefinitionSort::Closure,
+            id.0,
+            nodes.args(closure.parent),
+        ),
+        TyKind::Alias(alias) => alias_takes(definitions, alias, nodes.args(alias.args)),
+        TyKind::Tuple(args) => are_type_args(nodes.args(args)),
+        TyKind::FnPtr(sig) => are_type_args(nodes.args(sig.value.inputs)),
+        TyKind::Dynamic(preds, _) => nodes.holds_bounds(preds),
+        _ => true,
+    }
+}
+
+/// Whether the arguments of the constant are those that it takes.
+pub(crate) fn const_fits(definitions: &[Declaration], nodes: &Nodes, kind: ConstKind) -> bool
+    requires { ConstKindFits nodes.now kind }
+    ensures { IsTrue result ↔ Takes (world_of definitions.now) (const_kind_tree nodes.now kind) }
+{
+    match kind {
+        ConstKind::Unevaluated(id, args) => takes_after_self(
+            definitions,
+            DefinitionSort::AssociatedConst,
+            id.0,
+            nodes.args(args),
+        ),
+        _ => true,
+    }
+}
+
+/// Whether the arguments of the bound are those that it takes, which has no self type.
+pub(crate) fn bound_fits(
+    definitions: &[Declaration],
+    nodes: &Nodes,
+    bound: Binder<ExistentialPredicate>,
+) -> bool
+    requires { PredFits nodes.now bound }
+    ensures { IsTrue result ↔ Takes (world_of definitions.now) (pred_kind_tree nodes.now bound) }
+{
+    match bound.value {
+        ExistentialPredicate::Trait(trait_ref) => takes(
+            definitions,
+            DefinitionSort::Trait,
+            trait_ref.def_id.0,
+            nodes.args(trait_ref.args),
+        ),
+        ExistentialPredicate::Projection(projection) => takes(
+            definitions,
+            DefinitionSort::AssociatedType,
+            projection.def_id.0,
+            nodes.args(projection.args),
+        ),
+        ExistentialPredicate::AutoTrait(id) => takes(definitions, DefinitionSort::Trait, id.0, &[]),
+    }
+}
+
+/// Whether the arguments of the clause are those that it takes.
+pub(crate) fn clause_fits(
+    definitions: &[Declaration],
+    nodes: &Nodes,
+    clause: Binder<ClauseKind>,
+) -> bool
+    requires { ClauseFits nodes.now clause }
+    ensures { IsTrue result ↔ Takes (world_of definitions.now) (clause_kind_tree nodes.now clause) }
+{
+    match clause.value {
+        ClauseKind::Trait(predicate) => takes_after_self(
+            definitions,
+            DefinitionSort::Trait,
+            predicate.trait_ref.def_id.0,
+            nodes.args(predicate.trait_ref.args),
+        ),
+        ClauseKind::Projection(predicate) => takes_after_self(
+            definitions,
+            DefinitionSort::AssociatedType,
+            predicate.projection_term.def_id.0,
+            nodes.args(predicate.projection_term.args),
+        ),
+        ClauseKind::TypeOutlives(_, _) | ClauseKind::RegionOutlives(_, _) => true,
+    }
+}
+
+/// Whether the children of the node are those that it takes.
+fn node_fits(definitions: &[Declaration], nodes: &Nodes, node: &Node) -> bool
+    requires { Fits nodes.now node.now }
+    ensures { IsTrue result ↔ Takes (world_of definitions.now) (node_tree nodes.now node.now) }
+{
+    match node {
+        Node::Ty(kind) => ty_fits(definitions, nodes, *kind),
+        Node::Const(kind) => const_fits(definitions, nodes, *kind),
+        Node::Pred(bound) => bound_fits(definitions, nodes, *bound),
+        Node::Clause(clause) => clause_fits(definitions, nodes, *clause),
+        _ => true,
+    }
+}
+
+/// Whether the children of each node are those that it takes.
+pub(crate) fn nodes_fit(definitions: &[Declaration], nodes: &Nodes) -> bool
+    ensures { IsTrue result ↔ AllFit (world_of definitions.now) nodes.now }
+{
+    for number in 0..nodes.len() {
+        if !node_fits(definitions, nodes, nodes.node(number as u32)) {
+            return false;
+        }
+    }
+    true
+}
+
+/// Whether some node names a definition that is none of the first so many.
+pub(crate) fn any_names_unknown(definitions: usize, nodes: &Nodes) -> bool
+    ensures { result ≡ list_any (λ t. names_unknown definitions t.head) nodes.now }
+{
+    for number in 0..nodes.len() {
+        if nodes.node(number as u32).head().names_unknown(definitions) {
+            return true;
+        }
+    }
+    false
+}
