@@ -21,7 +21,7 @@ use crate::decl::arity::{bound_fits, clause_fits, const_fits, takes_after_self, 
 use crate::decl::builder::Decls;
 use crate::decl::definition::{CrateId, Declaration, DefinitionSort};
 use crate::ir::flags::{TypeFlags, bit_if};
-use crate::ir::heads::Flag;
+use crate::ir::heads::{Flag, Head};
 use crate::ir::kinds::{
     AdtId, Args, Binder, Clause, ClauseKind, ClosureSig, Const, ConstKind, ExistentialPredicate,
     ForeignId, GenericArg, ParamEnv, Pred, Preds, Region, RegionKind, Sig, TraitId, TraitRef, Ty,
@@ -94,6 +94,14 @@ impl Cx {
         ensures { MatchOption result (is_asked (tree_at self.now.trees number).head ≡ false) (λ a. (arg_number a ≡ number) × IsArg self.now.trees a × (is_asked (tree_at self.now.trees number).head ≡ true)) }
     {
         self.nodes.argument(number)
+    }
+
+    /// The head of a number's tree.
+    pub(crate) fn head(&self, number: u32) -> Head
+        requires { number < length self.now.trees }
+        ensures { result ≡ (tree_at self.now.trees number).head }
+    {
+        self.nodes.head(number)
     }
 
     /// One bound, whose parts have lower numbers.

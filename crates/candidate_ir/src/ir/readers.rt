@@ -10,6 +10,7 @@ ghost use Rattle.candidate_ir.specs.Nodes.{tree_at};
 ghost use Rattle.candidate_ir.specs.Table.{Below};
 ghost use Rattle.candidate_ir.specs.Words.{IsTy, IsConst, IsRegion, IsArgs, IsPreds, IsPred, IsSig, IsClause, IsParamEnv, IsVars, IsVar, ty_tree, const_tree, region_tree, args_forest, preds_forest, pred_tree, sig_tree, clause_tree, env_forest, vars_tree, var_tree, KindFits, ConstKindFits, ListFits, PredListFits, PredFits, SigFits, ClauseFits, ClauseListFits, VarListFits, kind_tree, const_kind_tree, region_kind_tree, list_forest, pred_list_forest, pred_kind_tree, sig_kind_tree, clause_kind_tree, clause_list_forest, vars_kind_tree, var_kind_tree};
 
+use crate::ir::heads::Head;
 use crate::ir::kinds::{
     Args, Binder, Clause, ClauseKind, ClosureSig, Const, ConstKind, ExistentialPredicate,
     GenericArg, ParamEnv, Pred, Preds, Region, RegionKind, Sig, TraitId, Ty, TyKind, Var, VarKind,
@@ -30,6 +31,14 @@ impl Nodes {
             Node::Region(_) => Some(GenericArg::Region(Region(number))),
             _ => None,
         }
+    }
+
+    /// The head of a number's tree.
+    pub(crate) fn head(&self, number: u32) -> Head
+        requires { number < length self.now }
+        ensures { result ≡ (tree_at self.now number).head }
+    {
+        self.node(number).head()
     }
 
     /// The kind of a type.
