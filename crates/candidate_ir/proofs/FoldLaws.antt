@@ -1,7 +1,8 @@
 -- What folds by a closure come to where its answers are a function.
 use Rattle.candidate_ir.specs.declared.ir.heads.Head.{Head}
+use Rattle.candidate_ir.specs.declared.ir.heads.Head.TheVariants as H
 use Rattle.std.proofs.Common.{◌≡◌, ℕ, ◌+◌, List, length, Option, Some, None, Result, Ok, Err, Bool, true, false, refl, sym, ◌∙◌, ap, subst}
-use Rattle.std.specs.Prelude.{IfOk, IfErr}
+use Rattle.std.specs.Prelude.{IfOk, IfErr, option_map}
 use Rattle.std.specs.Option.{unwrap_or}
 use Rattle.std.specs.Fn.{Mut}
 use Rattle.std.specs.Borrow.{MutBor}
@@ -10,9 +11,10 @@ use Rattle.candidate_ir.specs.declared.ir.stop.Stop.{Stop}
 use Rattle.candidate_ir.specs.Trees.{Kind, Forest, none, tree, Tree, kind_of, is_list_kind, binders_of, row}
 use Rattle.candidate_ir.specs.Nodes.{tree_at, kind_at, is_bound_kind}
 use Rattle.candidate_ir.specs.Substitutions.{alone}
-use Rattle.candidate_ir.specs.Context.{Context}
-use Rattle.candidate_ir.specs.Folding.{Answers, fold, fold_tree}
-use Rattle.candidate_ir.specs.Folds.{is_asked, node, Folds, ended, made, replaced, opened, passed, OnlyMakes, FoldsBy, StopsBy, IsReached, here, by_call, by_nodes, IsFunction, Outcome, Renumbers}
+use Rattle.candidate_ir.specs.Context.{Context, Grows}
+use Rattle.candidate_ir.proofs.Kept.{grows-refl, grows-trans}
+use Rattle.candidate_ir.specs.Folding.{Answers, fold, fold_tree, moved}
+use Rattle.candidate_ir.specs.Folds.{IsArg, arg_tree, Says, is_asked, node, Folds, ended, made, replaced, opened, passed, OnlyMakes, FoldsBy, StopsBy, IsReached, here, by_call, by_nodes, IsFunction, Outcome, Renumbers}
 use Rattle.candidate_ir.proofs.Lists.{there}
 use Rattle.candidate_ir.proofs.Rows.{row-single, row-list, join-none}
 use Rattle.candidate_ir.proofs.Folding.{same_row}
@@ -97,3 +99,53 @@ module _ {M Rest F : Type 0} (context : M → Context) (others : M → Rest)
         folded = tt;
         stopped = subst From (row-list (context s.1).trees n kind none th list is ∙ join-none (tree_at (context s.1).trees n).children) r.stopped;
       }
+
+  -- what each call keeps of the closure
+  pub reached-keeps : (P : F → Type 0) → ((s : F × M) (x : GenericArg) (d : ℕ) (r : Result (Option GenericArg) Stop) (e : F × M) → Says context others g s x d r e → P s.0 → P e.0)
+      → (s e : F × M) → IsReached context others g s e → P s.0 → P e.0
+  reached-keeps P h s e here p = p
+  reached-keeps P h s e (by_call {m = m} {d = d} l k) p = h m k.of d (Ok k.answer) e k.says (reached-keeps P h s m l p)
+  reached-keeps P h s e (by_nodes {m = m} l k) p = subst P (sym k.same) (reached-keeps P h s m l p)
+
+  -- answers by the head alone
+  pub head-function : (a : ℕ → Head → Option Tree) (P : F → Type 0) (s0 : F × M) → P s0.0
+      → ((s : F × M) (x : GenericArg) (d : ℕ) (r : Result (Option GenericArg) Stop) (e : F × M) → Says context others g s x d r e → P s.0 → P e.0)
+      → ((s : F × M) (x : GenericArg) (d : ℕ) (r : Result (Option GenericArg) Stop) (e : F × M) → Says context others g s x d r e → IsArg (context s.1).trees x → Grows (context s0.1) (context s.1) → P s.0
+      → IfOk r (λ o. option_map (arg_tree (context e.1).trees) o ≡ a d (arg_tree (context s.1).trees x).head))
+      → ((d : ℕ) (h : Head) → is_asked h ≡ false → a d h ≡ None) → IsFunction context others g (λ d t. a d t.head) s0
+  head-function a P s0 p keeps answers only = record {
+    at = λ s d t o e l k.
+        let held = reached-keeps P keeps s0 s l p in
+        let q = answers s k.of d (Ok k.answer) e k.says k.is (reached-grows s l) held in
+        ap (λ (x : Tree). a d x.head) (sym k.tree) ∙ (sym q ∙ k.seen);
+    only = λ d t x. only d t.head x;
+  }
+    where
+      reached-grows : (s : F × M) → IsReached context others g s0 s → Grows (context s0.1) (context s.1)
+      reached-grows s here = grows-refl (context s0.1)
+      reached-grows s (by_call {m = m} l k) = grows-trans (context s0.1) (context m.1) (context s.1) (reached-grows m l) k.grows
+      reached-grows s (by_nodes {m = m} l k) = grows-trans (context s0.1) (context m.1) (context s.1) (reached-grows m l) k.grows
+
+  -- so of a number
+  pub number-by : (a : Answers) (s e : F × M) (n k : ℕ) (kind : Kind) → IsFunction context others g a s → there kind ≡ true → is_list_kind kind ≡ false
+      → kind_at (context s.1).trees n ≡ kind → Renumbers context others g s 0 n (Ok k) e → tree_at (context e.1).trees k ≡ fold_tree a 0 (tree_at (context s.1).trees n)
+  number-by a s e n k kind f th single is r =
+      let o = one-outcome (λ (x : ℕ). x) (λ x. x) (λ x. refl) s e 0 n k kind th single is r in
+      tree-by a s f (tree_at (context s.1).trees n) (tree_at (context e.1).trees k) here o.folded
+
+  -- of a number that was folded so
+  pub head-number : (s e : F × M) (n k : ℕ) (kind : Kind) → Renumbers context others g s 0 n (Ok k) e → there kind ≡ true → is_list_kind kind ≡ false → kind_at (context s.1).trees n ≡ kind
+      → (a : ℕ → Head → Option Tree) (P : F → Type 0) → P s.0
+      → ((t : F × M) (x : GenericArg) (d : ℕ) (r : Result (Option GenericArg) Stop) (e : F × M) → Says context others g t x d r e → P t.0 → P e.0)
+      → ((t : F × M) (x : GenericArg) (d : ℕ) (r : Result (Option GenericArg) Stop) (e : F × M) → Says context others g t x d r e → IsArg (context t.1).trees x → Grows (context s.1) (context t.1) → P t.0
+      → IfOk r (λ o. option_map (arg_tree (context e.1).trees) o ≡ a d (arg_tree (context t.1).trees x).head))
+      → ((d : ℕ) (h : Head) → is_asked h ≡ false → a d h ≡ None)
+      → tree_at (context e.1).trees k ≡ fold_tree (λ d t. a d t.head) 0 (tree_at (context s.1).trees n)
+  head-number s e n k kind r th single is a P p keeps answers only =
+      number-by (λ d t. a d t.head) s e n k kind (head-function a P s p keeps answers only) th single is r
+
+pub moved-only : (n d : ℕ) (h : Head) → is_asked h ≡ false → moved n d h ≡ None
+moved-only n d (H.Bound v) e = absurd cc
+moved-only n d (H.Const k) e = absurd cc
+moved-only n d (H.Region k) e = absurd cc
+moved-only n d _ e = refl

@@ -43,7 +43,7 @@ module _ {M Rest F : Type 0} (context : M → Context) (others : M → Rest)
       grows = grows;
       said = (
         a,
-        record { of = x; is = i; tree = tree-is; answer = Some y; says = h; of_kind = k; seen = refl },
+        record { of = x; is = i; tree = tree-is; answer = Some y; says = h; grows = grows; of_kind = k; seen = refl },
         k.0 ∙ (k.1 ∙ (sym i ∙ ap (kind_at (context s.1).trees) is_n)),
       );
       stopped = tt;
@@ -52,7 +52,7 @@ module _ {M Rest F : Type 0} (context : M → Context) (others : M → Rest)
     pub said-none : Says context others g s x d (Ok None) e → Said context others g s d n (Ok None) e
     said-none h = record {
       grows = grows;
-      said = inl (a, record { of = x; is = i; tree = tree-is; answer = None; says = h; of_kind = tt; seen = refl });
+      said = inl (a, record { of = x; is = i; tree = tree-is; answer = None; says = h; grows = grows; of_kind = tt; seen = refl });
       stopped = tt;
     }
 

@@ -20,7 +20,7 @@ arg-there (A.Ty _) = refl
 arg-there (A.Const _) = refl
 arg-there (A.Region _) = refl
 
-arg-single : (x : GenericArg) → is_list_kind (arg_kind x) ≡ false
+pub arg-single : (x : GenericArg) → is_list_kind (arg_kind x) ≡ false
 arg-single (A.Ty _) = refl
 arg-single (A.Const _) = refl
 arg-single (A.Region _) = refl

@@ -85,6 +85,7 @@ module _ {M Rest F : Type 0} (context : M → Context) (others : M → Rest)
     pub tree : arg_tree (context s.1).trees of ≡ t
     pub answer : Option GenericArg
     pub says : Says s of d (Ok answer) e
+    pub grows : Grows (context s.1) (context e.1)
     pub of_kind : IsOfKind (context e.1).trees of answer
     pub seen : option_map (arg_tree (context e.1).trees) answer ≡ o
 

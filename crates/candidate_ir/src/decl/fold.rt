@@ -14,9 +14,7 @@ ghost use Rattle.candidate_ir.specs.Trees.{PredicatesKind, height, kind_of, bind
 ghost use Rattle.candidate_ir.specs.Words.{IsTy, IsConst, IsRegion, IsArgs, IsClause, IsParamEnv, ty_tree, const_tree, region_tree, args_forest, clause_tree, env_forest, PredListFits, pred_list_forest, IsMkStop};
 
 use crate::decl::make::Make;
-use crate::ir::kinds::{
-    Args, Clause, Const, GenericArg, ParamEnv, Pred, Region, TraitRef, Ty,
-};
+use crate::ir::kinds::{Args, Clause, Const, GenericArg, ParamEnv, Pred, Region, TraitRef, Ty};
 use crate::ir::node::Node;
 use crate::ir::stop::Stop;
 use std::alloc::Global;
@@ -150,7 +148,7 @@ where
 
 /// Folds what a number stands for, which is no single bound of a `dyn` type.
 #[cycle(fold)]
-fn fold_number<M, F>(
+pub(crate) fn fold_number<M, F>(
     alloc: Global,
     make: &mut M,
     fold: &mut F,
@@ -232,7 +230,12 @@ where
 }
 
 /// The constant, with what the closure answers put in; what is said of `fold` holds here, too.
-pub fn fold_const<M, F>(alloc: Global, make: &mut M, constant: Const, mut ask: F) -> Result<Const, Stop>
+pub fn fold_const<M, F>(
+    alloc: Global,
+    make: &mut M,
+    constant: Const,
+    mut ask: F,
+) -> Result<Const, Stop>
 where
     M: Make,
     F: FnMut(&mut M, GenericArg, u32) -> Result<Option<GenericArg>, Stop>,
@@ -249,7 +252,12 @@ where
 }
 
 /// The region, with what the closure answers put in; what is said of `fold` holds here, too.
-pub fn fold_region<M, F>(alloc: Global, make: &mut M, region: Region, mut ask: F) -> Result<Region, Stop>
+pub fn fold_region<M, F>(
+    alloc: Global,
+    make: &mut M,
+    region: Region,
+    mut ask: F,
+) -> Result<Region, Stop>
 where
     M: Make,
     F: FnMut(&mut M, GenericArg, u32) -> Result<Option<GenericArg>, Stop>,
@@ -266,7 +274,12 @@ where
 }
 
 /// The clause, under its binder, with what the closure answers put in; what is said of `fold` holds here, too.
-pub fn fold_clause<M, F>(alloc: Global, make: &mut M, clause: Clause, mut ask: F) -> Result<Clause, Stop>
+pub fn fold_clause<M, F>(
+    alloc: Global,
+    make: &mut M,
+    clause: Clause,
+    mut ask: F,
+) -> Result<Clause, Stop>
 where
     M: Make,
     F: FnMut(&mut M, GenericArg, u32) -> Result<Option<GenericArg>, Stop>,
@@ -283,7 +296,12 @@ where
 }
 
 /// The environment, with what the closure answers put in; what is said of `fold` holds here, too.
-pub fn fold_env<M, F>(alloc: Global, make: &mut M, env: ParamEnv, mut ask: F) -> Result<ParamEnv, Stop>
+pub fn fold_env<M, F>(
+    alloc: Global,
+    make: &mut M,
+    env: ParamEnv,
+    mut ask: F,
+) -> Result<ParamEnv, Stop>
 where
     M: Make,
     F: FnMut(&mut M, GenericArg, u32) -> Result<Option<GenericArg>, Stop>,

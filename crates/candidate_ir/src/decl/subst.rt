@@ -2,13 +2,16 @@
 
 ghost use Rattle.std.specs.Prelude.{◌≡◌, ◌⊎◌, Some, None, IfOk, IfErr, option_map, nat_le, if◌then◌else◌};
 ghost use Rattle.candidate_ir.specs.Context.{Grows};
-ghost use Rattle.candidate_ir.specs.Folding.{moved, further};
+ghost use Rattle.candidate_ir.specs.Folding.{moved, further, shift_tree};
 ghost use Rattle.candidate_ir.specs.Folds.{IsArg, IsOfKind, arg_tree};
+ghost use Rattle.candidate_ir.specs.Kinds.{arg_kind};
 
+use crate::decl::fold::fold_number;
 use crate::decl::make::Make;
 use crate::ir::heads::{ConstHead, Head};
 use crate::ir::kinds::{BoundVar, ConstKind, GenericArg, RegionKind, TyKind};
 use crate::ir::stop::Stop;
+use std::alloc::Global;
 
 /// What stands for a bound variable that is bound outside of the binders passed, where so many more
 /// come to stand outside of these.
@@ -57,4 +60,30 @@ fn further(var: BoundVar, binders: u32, by: u32) -> Result<Option<BoundVar>, Sto
         })),
         None => Err(Stop::NodesFull),
     }
+}
+
+/// The argument in a place under so many more binders: what is bound outside of it is bound so much
+/// further out.
+fn shifted<M: Make>(
+    alloc: Global,
+    make: &mut M,
+    arg: GenericArg,
+    by: u32,
+) -> Result<GenericArg, Stop>
+    requires { IsArg (M.context make.old).trees arg }
+    ensures grows { Grows (M.context make.old) (M.context make.new) }
+    ensures kind { IfOk result (λ a. IsArg (M.context make.new).trees a × (arg_kind a ≡ arg_kind arg)) }
+    ensures tree { IfOk result (λ a. arg_tree (M.context make.new).trees a ≡ shift_tree by (arg_tree (M.context make.old).trees arg)) }
+{
+    let number = fold_number(
+        alloc,
+        make,
+        &mut move |make: &mut M, arg: GenericArg, binders: u32| -> Result<
+            Option<GenericArg>,
+            Stop,
+        > { moved(make, arg, binders, by) },
+        arg.number(),
+        0,
+    )?;
+    Ok(arg.with_number(number))
 }
