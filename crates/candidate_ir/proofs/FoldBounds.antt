@@ -1,42 +1,38 @@
 -- Folds of the bounds of a `dyn` type, and of the variables of a binder.
-use Rattle.std.proofs.Common.{◌≡◌, ℕ, zero, suc, ◌+◌, ◌<◌, ◌≤◌, max, List, [], ◌∷◌, ◌++◌, length, get_or, take, drop, slice_get, Option, Some, None, Result, Ok, Err, Bool, true, false, refl, sym, ◌∙◌, ap, subst, arith, inl, inr}
-use Rattle.std.specs.Prelude.{IfOk, IfErr, map, cond, All, count_by}
+use Rattle.std.proofs.Common.{◌≡◌, ℕ, ◌+◌, ◌<◌, ◌≤◌, List, [], ◌∷◌, ◌++◌, length, take, slice_get, Option, Some, Result, Ok, Err, false, refl, sym, ◌∙◌, ap, subst, arith, inl, inr}
+use Rattle.std.specs.Prelude.{map, count_by}
 use Rattle.std.proofs.lemmas.List.{map_push, take_all}
 use Rattle.std.proofs.lemmas.List.Elements.{All-push, All-weaker, All-head, All-tail}
 use Rattle.std.specs.Fn.{Mut}
 use Rattle.std.specs.Borrow.{MutBor}
 use Rattle.candidate_ir.specs.declared.ir.kinds.GenericArg.{GenericArg}
-use Rattle.candidate_ir.specs.declared.ir.kinds.Pred.{Pred}
 use Rattle.candidate_ir.specs.declared.ir.kinds.Var.{Var}
 use Rattle.candidate_ir.specs.declared.ir.kinds.Binder.{Binder}
 use Rattle.candidate_ir.specs.declared.ir.kinds.ExistentialPredicate.{ExistentialPredicate}
 use Rattle.candidate_ir.specs.declared.ir.stop.Stop.{Stop}
-use Rattle.candidate_ir.specs.declared.ir.stop.Stop.TheVariants.{Memory, NodesFull}
-use Rattle.candidate_ir.specs.declared.ir.heads.Head.{Head}
+use Rattle.candidate_ir.specs.declared.ir.stop.Stop.TheVariants.{Memory}
 use Rattle.candidate_ir.specs.declared.ir.heads.Head.TheVariants as H
 use Rattle.candidate_ir.specs.declared.ir.heads.PartHead.TheVariants as P
 use Rattle.candidate_ir.specs.declared.ir.heads.PredHead.{PredHead}
-use Rattle.candidate_ir.specs.declared.ir.node.Node.TheVariants as N
-use Rattle.candidate_ir.specs.Trees.{Kind, VariableKind, PredicateKind, Forest, none, tree, Tree, kind_of, is_list_kind, join, count, heights, height, binders_of, row, put, is_list}
-use Rattle.candidate_ir.specs.Kinds.{Child, numbers, sorts, pred_head, pred_children}
+use Rattle.candidate_ir.specs.Trees.{VariableKind, Forest, none, tree, Tree, join, count, heights, binders_of, row}
+use Rattle.candidate_ir.specs.Kinds.{numbers, sorts, pred_head, pred_children}
 use Rattle.candidate_ir.specs.Names.{is_principal, principals}
-use Rattle.candidate_ir.specs.Nodes.{tree_at, kind_at, trees_at, kinds_at, rows, node_of, Extends, AreLeaves, pred_child, var_child}
-use Rattle.candidate_ir.specs.Words.{IsPred, PredFits, PredListFits, VarListFits, BoundsFit, AtMostOnePrincipal, names_trait, pred_kind_tree, pred_list_forest, bounds_forest, IsMkListStop}
+use Rattle.candidate_ir.specs.Nodes.{tree_at, kind_at, trees_at, kinds_at, rows, Extends, AreLeaves, var_child}
+use Rattle.candidate_ir.specs.Words.{PredFits, VarListFits, BoundsFit, AtMostOnePrincipal, names_trait, pred_kind_tree, bounds_forest, IsMkListStop}
 use Rattle.candidate_ir.specs.Context.{Context, Grows, world}
 use Rattle.candidate_ir.specs.Worlds.{World}
 use Rattle.candidate_ir.specs.References.{AllTake, FitsAmong, IsWellFormed}
 use Rattle.candidate_ir.proofs.References.{fit-at}
 use Rattle.candidate_ir.proofs.FoldKinds.{take-push, takes-again, folds-kinds}
-use Rattle.candidate_ir.specs.Folds.{is_asked, is_asked_kind, node, Folds, ended, made, replaced, opened, passed, Stops, memory, refused, below_asked, below_passed, Asks, Refuses, OnlyMakes, FoldsBy, StopsBy, Outcome, Relists}
+use Rattle.candidate_ir.specs.Folds.{is_asked, is_asked_kind, node, Folds, ended, passed, memory, below_passed, Asks, Refuses, OnlyMakes, FoldsBy, StopsBy, Outcome, Relists}
 use Rattle.candidate_ir.proofs.Kept.{grows-refl, grows-trans, number-kept, world-kept}
-use Rattle.candidate_ir.proofs.Lists.{there, there-preds, Below-there, below_kind, kind_of-tree_at}
+use Rattle.candidate_ir.proofs.Lists.{below_kind, kind_of-tree_at}
 use Rattle.candidate_ir.proofs.Growing.{pred-fits-grown, pred-tree-grown}
 use Rattle.candidate_ir.proofs.Made.{one_if, principals-one}
-use Rattle.candidate_ir.proofs.Principals.{bound-principal, bounds-principals}
-use Rattle.candidate_ir.proofs.Children.{Below-get}
-use Rattle.candidate_ir.proofs.Rows.{join-none, row-single}
-use Rattle.candidate_ir.proofs.FoldRows.{folds-join, folds-made, stops-first, stops-then, none-left, row-high, row-full, rows-append}
-use Rattle.candidate_ir.proofs.FoldSteps.{take-one, rows-next, rows-around, trees-append}
+use Rattle.candidate_ir.proofs.Principals.{bound-principal}
+use Rattle.candidate_ir.proofs.Rows.{row-single}
+use Rattle.candidate_ir.proofs.FoldRows.{folds-join, folds-made, stops-first, stops-then, row-high, row-full, rows-append}
+use Rattle.candidate_ir.proofs.FoldSteps.{take-one, rows-next, rows-around}
 
 -- the variables of a binder are passed over
 folds-leaves : {S : Type 0} (asks : S → ℕ → Tree → Option Tree → S → Type 0) (makes : S → S → Type 0) (s : S) (d : ℕ) (ts : List Tree) (vs : List Var)

@@ -1,16 +1,16 @@
 -- A fold keeps kinds, so what is made again takes its children.
-use Rattle.std.proofs.Common.{◌≡◌, ℕ, List, [], ◌∷◌, ◌++◌, Option, Some, None, Result, false, refl, sym, ◌∙◌, ap, subst}
+use Rattle.std.proofs.Common.{◌≡◌, ℕ, List, [], ◌∷◌, ◌++◌, Option, Some, None, Result, refl, sym, ◌∙◌, ap, subst}
 use Rattle.std.specs.Prelude.{option_map}
 use Rattle.std.specs.Fn.{Mut}
 use Rattle.std.specs.Borrow.{MutBor}
 use Rattle.candidate_ir.specs.declared.ir.kinds.GenericArg.{GenericArg}
 use Rattle.candidate_ir.specs.declared.ir.stop.Stop.{Stop}
-use Rattle.candidate_ir.specs.Trees.{Kind, Forest, none, tree, Tree, kind_of, row, put, is_list}
+use Rattle.candidate_ir.specs.Trees.{Kind, Forest, none, tree, Tree, kind_of, row, put}
 use Rattle.candidate_ir.specs.Kinds.{arg_number, arg_kind}
 use Rattle.candidate_ir.specs.Worlds.{World, Fits, child_kinds, kinds_of}
 use Rattle.candidate_ir.specs.References.{Takes, AllTake, FitsAmong}
 use Rattle.candidate_ir.specs.Context.{Context}
-use Rattle.candidate_ir.specs.Folds.{IsArg, arg_tree, node, IsOfKind, Asks, FoldsBy, ended, made, replaced, opened, passed}
+use Rattle.candidate_ir.specs.Folds.{arg_tree, node, IsOfKind, Asks, FoldsBy, ended, made, replaced, opened, passed}
 use Rattle.candidate_ir.proofs.Members.{arg-there}
 use Rattle.candidate_ir.proofs.Rows.{kind-of}
 

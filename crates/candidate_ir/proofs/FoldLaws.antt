@@ -1,20 +1,20 @@
 -- What folds by a closure come to where its answers are a function.
 use Rattle.candidate_ir.specs.declared.ir.heads.Head.{Head}
 use Rattle.candidate_ir.specs.declared.ir.heads.Head.TheVariants as H
-use Rattle.std.proofs.Common.{◌≡◌, ℕ, ◌+◌, List, length, Option, Some, None, Result, Ok, Err, Bool, true, false, refl, sym, ◌∙◌, ap, subst}
-use Rattle.std.specs.Prelude.{IfOk, IfErr, option_map}
+use Rattle.std.proofs.Common.{◌≡◌, ℕ, ◌+◌, List, length, Option, Some, None, Result, Ok, Err, true, false, refl, sym, ◌∙◌, ap, subst}
+use Rattle.std.specs.Prelude.{IfOk, option_map}
 use Rattle.std.specs.Option.{unwrap_or}
 use Rattle.std.specs.Fn.{Mut}
 use Rattle.std.specs.Borrow.{MutBor}
 use Rattle.candidate_ir.specs.declared.ir.kinds.GenericArg.{GenericArg}
 use Rattle.candidate_ir.specs.declared.ir.stop.Stop.{Stop}
-use Rattle.candidate_ir.specs.Trees.{Kind, Forest, none, tree, Tree, kind_of, is_list_kind, binders_of, row}
-use Rattle.candidate_ir.specs.Nodes.{tree_at, kind_at, is_bound_kind}
+use Rattle.candidate_ir.specs.Trees.{Kind, Forest, none, tree, Tree, is_list_kind, binders_of, row}
+use Rattle.candidate_ir.specs.Nodes.{tree_at, kind_at}
 use Rattle.candidate_ir.specs.Substitutions.{alone}
 use Rattle.candidate_ir.specs.Context.{Context, Grows}
 use Rattle.candidate_ir.proofs.Kept.{grows-refl, grows-trans}
 use Rattle.candidate_ir.specs.Folding.{Answers, fold, fold_tree, moved}
-use Rattle.candidate_ir.specs.Folds.{IsArg, arg_tree, Says, is_asked, node, Folds, ended, made, replaced, opened, passed, OnlyMakes, FoldsBy, StopsBy, IsReached, here, by_call, by_nodes, IsFunction, Outcome, Renumbers}
+use Rattle.candidate_ir.specs.Folds.{IsArg, arg_tree, Says, is_asked, node, ended, made, replaced, opened, passed, FoldsBy, StopsBy, IsReached, here, by_call, by_nodes, IsFunction, Outcome, Renumbers}
 use Rattle.candidate_ir.proofs.Lists.{there}
 use Rattle.candidate_ir.proofs.Rows.{row-single, row-list, join-none}
 use Rattle.candidate_ir.proofs.Folding.{same_row}

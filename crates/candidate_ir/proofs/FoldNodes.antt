@@ -1,11 +1,11 @@
 -- The fold of one number.
-use Rattle.std.proofs.Common.{◌≡◌, ℕ, zero, suc, ◌+◌, ◌<◌, ◌≤◌, max, List, [], ◌∷◌, ◌++◌, length, Option, Some, None, Result, Ok, Err, Bool, true, false, refl, sym, ◌∙◌, ap, subst, arith, inl, inr}
-use Rattle.std.specs.Prelude.{IfOk, IfErr, map, ◌⊎◌}
+use Rattle.std.proofs.Common.{◌≡◌, ℕ, zero, suc, ◌+◌, ◌<◌, ◌≤◌, List, [], ◌∷◌, length, Option, Some, None, Result, Ok, Err, Bool, true, false, refl, sym, ◌∙◌, ap, subst, arith, inl, inr}
+use Rattle.std.specs.Prelude.{IfOk, IfErr, map}
 use Rattle.std.specs.Fn.{Mut}
 use Rattle.std.specs.Borrow.{MutBor}
 use Rattle.candidate_ir.specs.declared.ir.kinds.GenericArg.{GenericArg}
 use Rattle.candidate_ir.specs.declared.ir.stop.Stop.{Stop}
-use Rattle.candidate_ir.specs.declared.ir.stop.Stop.TheVariants.{Memory, NodesFull}
+use Rattle.candidate_ir.specs.declared.ir.stop.Stop.TheVariants.{Memory}
 use Rattle.candidate_ir.specs.declared.ir.heads.Head.{Head}
 use Rattle.candidate_ir.specs.declared.ir.heads.Head.TheVariants as H
 use Rattle.candidate_ir.specs.declared.ir.node.Node.{Node}
@@ -29,7 +29,7 @@ use Rattle.candidate_ir.specs.declared.ir.kinds.ClauseKind.TheVariants as Cl
 use Rattle.candidate_ir.specs.declared.ir.kinds.Binder.{Binder}
 use Rattle.candidate_ir.specs.declared.ir.kinds.ExistentialPredicate.{ExistentialPredicate}
 use Rattle.candidate_ir.specs.declared.ir.kinds.ExistentialPredicate.TheVariants as E
-use Rattle.candidate_ir.specs.Trees.{Kind, PredicateKind, PredicatesKind, Forest, none, tree, Tree, kind_of, count, heights, height, binders_of, row, put, is_list}
+use Rattle.candidate_ir.specs.Trees.{Kind, PredicateKind, PredicatesKind, Forest, none, tree, Tree, kind_of, heights, height, binders_of, row, put, is_list}
 use Rattle.candidate_ir.specs.Kinds.{Child, numbers, sorts, arg_child, ty_children, const_children, pred_children, clause_children}
 use Rattle.candidate_ir.specs.Nodes.{tree_at, kind_at, trees_at, kinds_at, rows, node_of, node_tree, head_of, children_of, Fits, AreLeaves, is_rebuilt, is_bound_kind, have_bound, clause_child, var_child}
 use Rattle.candidate_ir.specs.Table.{Below, IsNodeOf, HasOnePrincipal}
@@ -41,8 +41,8 @@ use Rattle.candidate_ir.specs.Worlds.{World}
 use Rattle.candidate_ir.specs.References.{Takes, FitsAmong, IsWellFormed}
 use Rattle.candidate_ir.proofs.References.{fit-at}
 use Rattle.candidate_ir.proofs.FoldKinds.{takes-again, folds-kinds}
-use Rattle.candidate_ir.specs.Folds.{is_asked, is_asked_kind, node, Folds, ended, made, replaced, opened, passed, Stops, memory, refused, below_asked, below_passed, Asks, Refuses, OnlyMakes, FoldsBy, StopsBy, IsReached, here, by_call, Outcome, IsSaid, Said, Renumbers, Relists}
-use Rattle.candidate_ir.proofs.Kept.{grows-refl, grows-trans, number-kept, world-kept}
+use Rattle.candidate_ir.specs.Folds.{is_asked, is_asked_kind, node, ended, replaced, opened, passed, memory, refused, below_asked, below_passed, Asks, Refuses, OnlyMakes, FoldsBy, StopsBy, IsReached, here, by_call, Outcome, IsSaid, Said, Renumbers, Relists}
+use Rattle.candidate_ir.proofs.Kept.{grows-trans, number-kept, world-kept}
 use Rattle.candidate_ir.proofs.Lists.{there, below_kind, kind_of-tree_at}
 use Rattle.candidate_ir.proofs.Splits.{list_of, list-head, list-head_of, rows-height}
 use Rattle.candidate_ir.proofs.Rows.{join-none}

@@ -1,11 +1,10 @@
 -- Folds of rows, one after the other.
-use Rattle.std.proofs.Common.{◌≡◌, ℕ, ◌+◌, ◌<◌, max, List, [], ◌∷◌, ◌++◌, length, Option, Some, None, Bool, true, false, refl, sym, ◌∙◌, ap, subst, arith}
+use Rattle.std.proofs.Common.{◌≡◌, ℕ, ◌+◌, ◌<◌, List, [], ◌∷◌, ◌++◌, Option, Bool, true, false, refl, sym, ◌∙◌, ap, arith}
 use Rattle.candidate_ir.specs.declared.ir.stop.Stop.{Stop}
 use Rattle.candidate_ir.specs.declared.ir.stop.Stop.TheVariants.{NodesFull}
-use Rattle.candidate_ir.specs.declared.ir.heads.Head.{Head}
-use Rattle.candidate_ir.specs.Trees.{Forest, none, tree, Tree, join, count, heights, height, binders_of, row, put, is_list}
+use Rattle.candidate_ir.specs.Trees.{Forest, none, tree, Tree, join, count, heights, row, put, is_list}
 use Rattle.candidate_ir.specs.Nodes.{rows}
-use Rattle.candidate_ir.specs.Folds.{is_asked, node, Folds, ended, made, replaced, opened, passed, Stops, memory, refused, too_high, full, after, below_asked, below_passed, later}
+use Rattle.candidate_ir.specs.Folds.{Folds, ended, made, replaced, opened, passed, Stops, memory, refused, too_high, full, after, below_asked, below_passed, later}
 use Rattle.candidate_ir.proofs.Rows.{join-none}
 
 pub join-assoc : (a b c : Forest) → join (join a b) c ≡ join a (join b c)

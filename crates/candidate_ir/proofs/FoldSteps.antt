@@ -1,13 +1,11 @@
 -- The steps of a fold.
-use Rattle.std.proofs.Common.{◌≡◌, ℕ, zero, suc, ◌+◌, ◌<◌, ◌≤◌, max, List, [], ◌∷◌, ◌++◌, length, get_or, take, drop, slice_get, Option, Some, None, Result, Ok, Err, Bool, true, false, refl, sym, ◌∙◌, ap, subst, arith, inl, inr, add-one, length-append}
-use Rattle.std.specs.Prelude.{IfOk, IfErr, map, ◌⊎◌, cond, count_by}
-use Rattle.std.proofs.lemmas.List.{map_push, take_all}
+use Rattle.std.proofs.Common.{◌≡◌, ℕ, zero, suc, ◌+◌, ◌<◌, ◌≤◌, List, [], ◌∷◌, ◌++◌, length, take, drop, slice_get, Option, Some, Result, Ok, Err, Bool, true, false, refl, sym, ◌∙◌, ap, subst, arith, add-one, length-append}
+use Rattle.std.proofs.lemmas.List.{take_all}
 use Rattle.std.specs.Fn.{Mut}
 use Rattle.std.specs.Borrow.{MutBor}
 use Rattle.candidate_ir.specs.declared.ir.kinds.GenericArg.{GenericArg}
-use Rattle.candidate_ir.specs.declared.ir.kinds.Pred.{Pred}
 use Rattle.candidate_ir.specs.declared.ir.stop.Stop.{Stop}
-use Rattle.candidate_ir.specs.declared.ir.stop.Stop.TheVariants.{Memory, NodesFull}
+use Rattle.candidate_ir.specs.declared.ir.stop.Stop.TheVariants.{Memory}
 use Rattle.candidate_ir.specs.declared.ir.heads.Head.{Head}
 use Rattle.candidate_ir.specs.declared.ir.heads.Head.TheVariants as H
 use Rattle.candidate_ir.specs.declared.ir.heads.ListHead.{ListHead}
@@ -16,20 +14,18 @@ use Rattle.candidate_ir.specs.declared.ir.heads.PartHead.{PartHead}
 use Rattle.candidate_ir.specs.declared.ir.heads.PartHead.TheVariants as P
 use Rattle.candidate_ir.specs.declared.ir.heads.VariableSort.{VariableSort}
 use Rattle.candidate_ir.specs.declared.ir.heads.VariableSort.TheVariants as V
-use Rattle.candidate_ir.specs.declared.ir.node.Node.{Node}
-use Rattle.candidate_ir.specs.Trees.{Kind, VariableKind, Forest, none, tree, Tree, kind_of, sort_kind, part_kind, join, count, heights, height, binders_of, row, put, is_list}
+use Rattle.candidate_ir.specs.Trees.{Kind, Forest, none, Tree, kind_of, sort_kind, part_kind, join, binders_of, row, put, is_list}
 use Rattle.candidate_ir.specs.Kinds.{Child, numbers, sorts}
-use Rattle.candidate_ir.specs.Nodes.{tree_at, kind_at, trees_at, kinds_at, rows, node_of, node_tree, head_of, children_of, Extends, AreLeaves}
-use Rattle.candidate_ir.specs.Table.{Below, IsNodeOf}
-use Rattle.candidate_ir.specs.Words.{IsMkStop}
+use Rattle.candidate_ir.specs.Nodes.{tree_at, kind_at, trees_at, kinds_at, rows, Extends}
+use Rattle.candidate_ir.specs.Table.{Below}
 use Rattle.candidate_ir.specs.Context.{Context, Grows}
-use Rattle.candidate_ir.specs.Folds.{is_asked, is_asked_kind, node, Folds, ended, made, replaced, opened, passed, Stops, memory, refused, too_high, full, after, below_asked, below_passed, later, Asks, Refuses, OnlyMakes, FoldsBy, StopsBy, IsReached, here, by_call, by_nodes, MayFold, KeepsKinds, Outcome, IsSaid, Said, Renumbers, Relists}
+use Rattle.candidate_ir.specs.Folds.{is_asked, ended, made, replaced, opened, passed, memory, Asks, Refuses, OnlyMakes, FoldsBy, StopsBy, IsReached, here, by_call, by_nodes, MayFold, KeepsKinds, Renumbers, Relists}
 use Rattle.candidate_ir.proofs.Kept.{grows-refl, grows-trans, number-kept}
-use Rattle.candidate_ir.proofs.Lists.{there, all_there, below_kind, kind_of-tree_at, trees_at-append, kinds_at-append, Below-there, there-children, Fits-below}
-use Rattle.candidate_ir.proofs.Children.{Below-get, drop_at}
+use Rattle.candidate_ir.proofs.Lists.{there, below_kind, kind_of-tree_at, trees_at-append, kinds_at-append}
+use Rattle.candidate_ir.proofs.Children.{Below-get}
 use Rattle.candidate_ir.proofs.Splits.{list-head}
 use Rattle.candidate_ir.proofs.Rows.{join-none}
-use Rattle.candidate_ir.proofs.FoldRows.{folds-join, folds-made, stops-first, stops-then, none-left, row-high, row-full, rows-append}
+use Rattle.candidate_ir.proofs.FoldRows.{folds-join, stops-first, stops-then, rows-append}
 
 there-sort : (v : VariableSort) → there (sort_kind v) ≡ true
 there-sort V.Constant = refl

@@ -1,18 +1,15 @@
 -- Folds by a closure, call by call.
-use Rattle.std.proofs.Common.{◌≡◌, ℕ, zero, suc, ◌+◌, ◌<◌, ◌≤◌, ◌^◌, max, List, [], ◌∷◌, ◌++◌, length, Option, Some, None, Result, Ok, Err, true, false, Bool, refl, sym, ◌∙◌, ap, subst, arith, inl, inr}
-use Rattle.std.specs.Prelude.{IfOk, IfErr, option_map, ◌⊎◌}
+use Rattle.std.proofs.Common.{◌≡◌, ℕ, ◌<◌, ◌^◌, Option, Some, None, Result, Ok, Err, true, refl, sym, ◌∙◌, ap, inl}
+use Rattle.std.specs.Prelude.{IfOk}
 use Rattle.std.specs.Fn.{Mut, Called}
 use Rattle.std.specs.Borrow.{MutBor}
 use Rattle.candidate_ir.specs.declared.ir.kinds.GenericArg.{GenericArg}
 use Rattle.candidate_ir.specs.declared.ir.stop.Stop.{Stop}
-use Rattle.candidate_ir.specs.declared.ir.stop.Stop.TheVariants.{Memory, NodesFull}
-use Rattle.candidate_ir.specs.declared.ir.heads.Head.{Head}
-use Rattle.candidate_ir.specs.Trees.{Kind, Forest, none, tree, Tree, kind_of, join, count, heights, binders_of, row}
-use Rattle.candidate_ir.specs.Kinds.{arg_number, arg_kind}
+use Rattle.candidate_ir.specs.Kinds.{arg_number}
 use Rattle.candidate_ir.specs.Nodes.{tree_at, kind_at}
 use Rattle.candidate_ir.specs.Context.{Context, Grows}
-use Rattle.candidate_ir.specs.Folds.{here, is_asked, IsArg, arg_tree, node, Folds, Stops, IsOfKind, Says, Asks, Refuses, OnlyMakes, FoldsBy, StopsBy, IsReached, MayFold, KeepsKinds, Outcome, IsSaid, Said}
-use Rattle.candidate_ir.proofs.Kept.{grows-refl, grows-trans}
+use Rattle.candidate_ir.specs.Folds.{here, is_asked, IsArg, arg_tree, IsOfKind, Says, MayFold, KeepsKinds, Said}
+use Rattle.candidate_ir.proofs.Kept.{grows-refl}
 
 module _ {M Rest F : Type 0} (context : M → Context) (others : M → Rest)
     (g : Mut F (MutBor M × (GenericArg × (ℕ × Unit {0}))) (Result (Option GenericArg) Stop × (MutBor M × Unit {0}))) where

@@ -12,7 +12,7 @@ use Rattle.candidate_ir.specs.Names.{principals}
 use Rattle.candidate_ir.specs.Nodes.{pred_child, rows}
 use Rattle.candidate_ir.specs.declared.ir.node.Row.{Row}
 use Rattle.candidate_ir.specs.declared.ir.kinds.RegionKind.TheVariants as R
-use Rattle.candidate_ir.specs.Nodes.{kind_at, AreLeaves}
+use Rattle.candidate_ir.specs.Nodes.{AreLeaves}
 use Rattle.candidate_ir.proofs.Sorts.{var_node}
 use Rattle.candidate_ir.proofs.Lists.{below_kind, Fits-below, Fits-append, node_tree-append, trees_at-append, tree_at-append, tree_at-last}
 

@@ -1,13 +1,9 @@
-use Rattle.std.proofs.Common.{List, refl, sym, ◌∙◌, ap}
+use Rattle.std.proofs.Common.{refl, sym, ◌∙◌, ap}
 use Rattle.std.specs.Prelude.{map}
-use Rattle.candidate_ir.specs.declared.ir.kinds.GenericArg.{GenericArg}
-use Rattle.candidate_ir.specs.declared.ir.kinds.Clause.{Clause}
-use Rattle.candidate_ir.specs.declared.ir.node.Node.{Node}
-use Rattle.candidate_ir.specs.declared.ir.node.Node.TheVariants as N
 use Rattle.candidate_ir.specs.declared.ir.heads.ListHead.TheVariants as L
 use Rattle.candidate_ir.specs.Trees.{ArgumentsKind, ClausesKind}
 use Rattle.candidate_ir.specs.Kinds.{numbers, arg_child}
-use Rattle.candidate_ir.specs.Nodes.{trees_at, rows, node_tree, clause_child}
+use Rattle.candidate_ir.specs.Nodes.{trees_at, node_tree, clause_child}
 use Rattle.candidate_ir.specs.Words.{list_forest, clause_list_forest}
 use Rattle.candidate_ir.proofs.Rebuild.{list-tree}
 use Rattle.candidate_ir.proofs.decl.fold.add.Goals as goal

@@ -1,4 +1,4 @@
-use Rattle.std.proofs.Common.{◌<◌, ◌∙◌, length, arith, refl}
+use Rattle.std.proofs.Common.{◌∙◌, arith, refl}
 use Rattle.std.proofs.lemmas.List.{take_all}
 use Rattle.candidate_ir.specs.Nodes.{clause_child}
 use Rattle.candidate_ir.proofs.Rebuild.{numbers-next}

@@ -1,5 +1,4 @@
 use Rattle.std.proofs.Common.{ap}
-use Rattle.candidate_ir.specs.declared.ir.node.Node.{Node}
 use Rattle.candidate_ir.specs.Nodes.{children_of}
 use Rattle.candidate_ir.proofs.Rebuild.{clauses-again}
 use Rattle.candidate_ir.proofs.ir.node.Node.rebuilt.Goals as goal
