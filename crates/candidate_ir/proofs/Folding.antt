@@ -16,17 +16,17 @@ use Rattle.candidate_ir.specs.Folding.{Answers, fold, fold_tree, leaf, further, 
 use Rattle.candidate_ir.specs.Substitutions.{is_constant_kind}
 
 -- two rows that begin alike
-abbrev begin : Tree → Forest → Forest
+abbrev pub begin : Tree → Forest → Forest
 begin t rest = tree t.head t.children rest
 
-same_row : (s t : Tree) (a b : Forest) → s ≡ t → a ≡ b → begin s a ≡ begin t b
+pub same_row : (s t : Tree) (a b : Forest) → s ≡ t → a ≡ b → begin s a ≡ begin t b
 same_row s t a b e f = ap (λ (x : Tree). begin x a) e ∙ ap (begin t) f
 
-or-left : (a b : Bool) → a || b ≡ false → a ≡ false
+pub or-left : (a b : Bool) → a || b ≡ false → a ≡ false
 or-left true b e = e
 or-left false b e = refl
 
-or-right : (a b : Bool) → a || b ≡ false → b ≡ false
+pub or-right : (a b : Bool) → a || b ≡ false → b ≡ false
 or-right true b e = absurd cc
 or-right false b e = e
 

@@ -10,7 +10,7 @@ use Rattle.candidate_ir.specs.Context.{Context, Grows, world}
 use Rattle.candidate_ir.specs.Words.{IsTy, IsArgs, IsPreds, ty_tree, args_forest, preds_forest}
 use Rattle.candidate_ir.proofs.Lists.{below_kind, kind_at-append, tree_at-append}
 
-number-kept : (old new : List Tree) (n : ℕ) → Extends old new → n < length old
+pub number-kept : (old new : List Tree) (n : ℕ) → Extends old new → n < length old
     → (kind_at new n ≡ kind_at old n) × (tree_at new n ≡ tree_at old n)
 number-kept old new n e h = (
   ap (λ (ts : List Tree). kind_at ts n) e.is ∙ kind_at-append old e.added n h,

@@ -22,3 +22,12 @@ pub mod Instances
 pub mod Pairs
 pub mod MayUnify
 pub mod UnifyCases
+pub mod Rebuild
+pub mod Asking
+pub mod Folds
+pub mod FoldRows
+pub mod FoldSteps
+pub mod FoldNodes
+pub mod FoldKinds
+pub mod FoldBounds
+pub mod FoldLaws

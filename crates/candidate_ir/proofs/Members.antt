@@ -15,12 +15,12 @@ skip zero f = f
 skip (suc i) none = none
 skip (suc i) (tree h below rest) = skip i rest
 
-arg-there : (x : GenericArg) → there (arg_kind x) ≡ true
+pub arg-there : (x : GenericArg) → there (arg_kind x) ≡ true
 arg-there (A.Ty _) = refl
 arg-there (A.Const _) = refl
 arg-there (A.Region _) = refl
 
-arg-single : (x : GenericArg) → is_list_kind (arg_kind x) ≡ false
+pub arg-single : (x : GenericArg) → is_list_kind (arg_kind x) ≡ false
 arg-single (A.Ty _) = refl
 arg-single (A.Const _) = refl
 arg-single (A.Region _) = refl

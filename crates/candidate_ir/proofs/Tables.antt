@@ -1,12 +1,20 @@
 -- The trees of a table.
 use Rattle.std.proofs.Common.{◌≡◌, ℕ, zero, suc, ◌+◌, ◌<◌, ◌≤◌, List, [], ◌∷◌, ◌++◌, length, get_or, refl, sym, ◌∙◌, ap, subst, arith, append_assoc, length-append}
-use Rattle.std.proofs.lemmas.List.{append-nil}
-use Rattle.candidate_ir.specs.Trees.{Tree, height}
+use Rattle.std.proofs.lemmas.List.{append-nil, get_or_default}
+use Rattle.candidate_ir.specs.Trees.{VariableKind, Tree, height}
+use Rattle.std.specs.Prelude.{map}
 use Rattle.candidate_ir.specs.Kinds.{numbers}
 use Rattle.candidate_ir.specs.Nodes.{tree_at, node_tree, Fits, children_of, Extends}
-use Rattle.candidate_ir.specs.Table.{trees_after, IsRow, AreRows, Below, IsNodeOf}
+use Rattle.candidate_ir.specs.Table.{trees_after, IsRow, AreRows, Below, IsNodeOf, HasOnePrincipal}
+use Rattle.candidate_ir.specs.declared.ir.node.Node.{Node}
+use Rattle.candidate_ir.specs.declared.ir.node.Node.TheVariants as N
+use Rattle.candidate_ir.specs.Names.{principals}
+use Rattle.candidate_ir.specs.Nodes.{pred_child, rows}
 use Rattle.candidate_ir.specs.declared.ir.node.Row.{Row}
-use Rattle.candidate_ir.proofs.Lists.{Fits-below, Fits-append, node_tree-append, tree_at-append, tree_at-last}
+use Rattle.candidate_ir.specs.declared.ir.kinds.RegionKind.TheVariants as R
+use Rattle.candidate_ir.specs.Nodes.{AreLeaves}
+use Rattle.candidate_ir.proofs.Sorts.{var_node}
+use Rattle.candidate_ir.proofs.Lists.{below_kind, Fits-below, Fits-append, node_tree-append, trees_at-append, tree_at-append, tree_at-last}
 
 pub trees_after-push : (ts : List Tree) (rs : List Row) (r : Row) → trees_after ts (rs ++ r ∷ []) ≡ trees_after ts rs ++ node_tree (trees_after ts rs) r.node ∷ []
 trees_after-push ts [] r = refl
@@ -35,6 +43,23 @@ pub record RowAt (ts : List Tree) (n : ℕ) (r : Row) : Type 0 where
   pub below : Below n (numbers (children_of r.node))
   pub height_is : r.height ≡ height (tree_at ts n)
   pub low : r.height ≤ 1024
+  pub principal : HasOnePrincipal ts r.node
+
+-- a list of bounds keeps its principals while the table grows
+HasOnePrincipal-append : (ts us : List Tree) (d : Node) → Fits ts d → HasOnePrincipal ts d → HasOnePrincipal (ts ++ us) d
+HasOnePrincipal-append ts us (N.Preds v) f h =
+    let e = ap (λ (xs : List Tree). principals (rows xs)) (trees_at-append ts us (numbers (map pred_child v.items)) (Fits-below ts (N.Preds v) f)) in
+    omega arith
+HasOnePrincipal-append ts us (N.Ty k) f h = tt
+HasOnePrincipal-append ts us (N.Const k) f h = tt
+HasOnePrincipal-append ts us (N.Region k) f h = tt
+HasOnePrincipal-append ts us (N.Args v) f h = tt
+HasOnePrincipal-append ts us (N.Clauses v) f h = tt
+HasOnePrincipal-append ts us (N.Pred b) f h = tt
+HasOnePrincipal-append ts us (N.Clause b) f h = tt
+HasOnePrincipal-append ts us (N.Sig b) f h = tt
+HasOnePrincipal-append ts us (N.Vars v) f h = tt
+HasOnePrincipal-append ts us (N.Var k) f h = tt
 
 RowAt-grown : (ts us : List Tree) (n : ℕ) (r : Row) → n < length ts → RowAt ts n r → RowAt (ts ++ us) n r
 RowAt-grown ts us n r h a =
@@ -45,6 +70,7 @@ RowAt-grown ts us n r h a =
       below = a.below;
       height_is = a.height_is ∙ ap height (sym t);
       low = a.low;
+      principal = HasOnePrincipal-append ts us r.node a.fits a.principal;
     }
 
 RowAt-last : (ts : List Tree) (r : Row) → IsRow ts r → RowAt (ts ++ node_tree ts r.node ∷ []) (length ts) r
@@ -57,6 +83,7 @@ RowAt-last ts r i =
       below = Fits-below ts r.node i.fits;
       height_is = i.height_is ∙ ap height (sym t);
       low = i.low;
+      principal = HasOnePrincipal-append ts (x ∷ []) r.node i.fits i.principal;
     }
 
 pub row_at : (ts : List Tree) (rs : List Row) (k n : ℕ) (r : Row) → AreRows ts rs → k < length rs → r ≡ get_or rs k r → n ≡ length ts + k → RowAt (trees_after ts rs) n r
@@ -84,7 +111,7 @@ table_row ts rs n r e a h i =
     subst P e (row_at [] rs n n r a (omega (arith, table_length ts rs e)) i (omega arith))
 
 pub RowAt-node : (ts : List Tree) (n : ℕ) (r : Row) → RowAt ts n r → IsNodeOf ts n r.node
-RowAt-node ts n r a = record { fits = a.fits; tree = a.tree; below = a.below }
+RowAt-node ts n r a = record { fits = a.fits; tree = a.tree; below = a.below; principal = a.principal }
 
 pub record Pushed (ts : List Tree) (us : List Row) (r : Row) : Type 0 where
   pub rows : AreRows [] us
@@ -102,3 +129,13 @@ pushed ts rs us r e f a i =
       trees = trees_after-push [] rs r ∙ ap F e;
       count = omega (arith, length-append rs (r ∷ []), table_length ts rs e);
     })
+
+-- the variables of binders are leaves of every table
+pub leaves : (ts : List Tree) (rs : List Row) → trees_after [] rs ≡ ts → AreRows [] rs → AreLeaves ts
+leaves ts rs e a n k =
+    let h : n < length ts = below_kind ts n VariableKind refl k in
+    let l : n < length rs = omega (arith, table_length ts rs e) in
+    let past : Row = record { node = N.Region R.Static; height = 0 } in
+    let x = table_row ts rs n (get_or rs n past) e a h (get_or_default rs n past (get_or rs n past) l) in
+    let v = var_node ts n (get_or rs n past).node k (RowAt-node ts n (get_or rs n past) x) in
+    ap (λ (t : Tree). t.children) (x.tree ∙ ap (node_tree ts) v.1)

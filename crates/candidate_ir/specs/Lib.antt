@@ -18,3 +18,4 @@ pub mod Substitutions
 pub mod Unify
 pub mod TypeFlags
 pub mod Parameters
+pub mod Folds

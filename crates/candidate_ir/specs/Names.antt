@@ -1,5 +1,5 @@
 -- Which crate a definition belongs to, and which crates a reference names.
-use Rattle.std.specs.Prelude.{ℕ, Bool, false, Option, Some, None, slice_get, ◌==◌, ◌||◌, nat_le}
+use Rattle.std.specs.Prelude.{ℕ, ◌+◌, Bool, true, false, cond, Option, Some, None, slice_get, ◌==◌, ◌||◌, nat_le}
 use Rattle.candidate_ir.specs.declared.ir.kinds.TraitId.{TraitId}
 use Rattle.candidate_ir.specs.declared.ir.heads.Head.{Head}
 use Rattle.candidate_ir.specs.declared.ir.heads.Head.TheVariants as H
@@ -84,3 +84,13 @@ by_bound _ others = others
 abbrev pub principal_of : Forest → Option TraitId
 principal_of none = None
 principal_of (tree h below rest) = by_bound h (principal_of rest)
+
+-- whether it is a bound by a trait that isn't an auto trait
+abbrev pub is_principal : Head → Bool
+is_principal (H.Part (P.Pred (PH.Trait i))) = true
+is_principal _ = false
+
+-- how many such bounds there are among the trees
+abbrev pub principals : Forest → ℕ
+principals none = 0
+principals (tree h below rest) = cond (is_principal h) 1 0 + principals rest

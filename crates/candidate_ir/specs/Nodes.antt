@@ -1,5 +1,5 @@
 -- The tree of a node over the trees of a table.
-use Rattle.std.specs.Prelude.{◌≡◌, ℕ, zero, suc, max, List, [], ◌∷◌, ◌++◌, map, get_or, Bool, ◌||◌, false}
+use Rattle.std.specs.Prelude.{◌≡◌, ℕ, zero, suc, max, List, [], ◌∷◌, ◌++◌, map, get_or, Bool, ◌||◌, true, false}
 use Rattle.candidate_ir.specs.declared.ir.kinds.Pred.{Pred}
 use Rattle.candidate_ir.specs.declared.ir.kinds.Var.{Var}
 use Rattle.candidate_ir.specs.declared.ir.kinds.Clause.{Clause}
@@ -94,3 +94,26 @@ Fits ts d = kinds_at ts (numbers (children_of d)) ≡ sorts (children_of d)
 pub record Extends (old new : List Tree) : Type 0 where
   pub added : List Tree
   pub is : new ≡ old ++ added
+
+-- whether a node like it, over other children, is made by one call
+abbrev pub is_rebuilt : Node → Bool
+is_rebuilt (N.Ty _) = true
+is_rebuilt (N.Const _) = true
+is_rebuilt (N.Args _) = true
+is_rebuilt (N.Clauses _) = true
+is_rebuilt (N.Clause _) = true
+is_rebuilt (N.Sig _) = true
+is_rebuilt _ = false
+
+-- whether none of the kinds is that of one bound of a `dyn` type
+abbrev pub is_bound_kind : Kind → Bool
+is_bound_kind PredicateKind = true
+is_bound_kind _ = false
+
+abbrev pub have_bound : List Kind → Bool
+have_bound [] = false
+have_bound (k ∷ ks) = is_bound_kind k || have_bound ks
+
+-- The variables of binders have no children.
+abbrev pub AreLeaves : List Tree → Type 0
+AreLeaves ts = (n : ℕ) → kind_at ts n ≡ VariableKind → (tree_at ts n).children ≡ none

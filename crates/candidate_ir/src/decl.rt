@@ -4,7 +4,9 @@ pub mod arity;
 pub mod builder;
 pub mod context;
 pub mod definition;
+pub mod fold;
 pub mod make;
+pub mod subst;
 
 pub use builder::{DeclFault, Decls, DeclsBuilder};
 pub use context::Cx;

@@ -6,6 +6,7 @@ pub mod kinds;
 pub mod node;
 pub mod nodes;
 pub mod readers;
+pub mod rebuild;
 pub mod stop;
 pub mod unify;
 pub mod walks;

@@ -1,15 +1,19 @@
 //! The context: declarations, and the table in which types are made.
 
-ghost use Rattle.std.specs.Prelude.{◌≡◌, ◌++◌, ◌∷◌, [], string_bytes, ◌+◌, ◌<◌, ◌↔◌, IsTrue, false, length, take, map, IfOk, IfErr, Some, None};
+ghost use Rattle.std.specs.Prelude.{◌≡◌, ◌++◌, ◌∷◌, [], string_bytes, ◌+◌, ◌<◌, ◌≤◌, ◌↔◌, IsTrue, false, true, length, take, map, IfOk, IfErr, MatchOption, Some, None};
 ghost use Rattle.candidate_ir.specs.Context.{world, Grows};
 ghost use Rattle.candidate_ir.specs.Making.{Makes, a_type, a_constant, a_region, a_list, a_binder, some_bounds, a_signature, a_clause, an_environment};
 ghost use Rattle.candidate_ir.specs.Trees.{height, heights, tree_holds, holds, is_param};
 ghost use Rattle.candidate_ir.specs.Flags.{mark};
+ghost use Rattle.candidate_ir.specs.Folds.{is_asked, IsArg};
+ghost use Rattle.candidate_ir.specs.Kinds.{arg_number, numbers, pred_children};
+ghost use Rattle.candidate_ir.specs.Nodes.{tree_at, AreLeaves};
+ghost use Rattle.candidate_ir.specs.Table.{Below, IsNodeOf};
 ghost use Rattle.candidate_ir.specs.Substitutions.{alone};
 ghost use Rattle.candidate_ir.specs.Unify.{may_unify, trees_may_unify, NoCommonInstance};
 ghost use Rattle.candidate_ir.specs.References.{ArgumentsFit, IsWellFormed, Takes, AllTake};
 ghost use Rattle.candidate_ir.specs.TypeFlags.{type_flags};
-ghost use Rattle.candidate_ir.specs.Names.{is_local, is_fundamental, principal_of};
+ghost use Rattle.candidate_ir.specs.Names.{is_local, is_fundamental, principal_of, principals};
 ghost use Rattle.candidate_ir.specs.Words.{IsTy, IsConst, IsRegion, IsArgs, IsPreds, IsPred, IsSig, IsClause, IsParamEnv, IsVars, IsVar, ty_tree, const_tree, region_tree, args_forest, preds_forest, pred_tree, sig_tree, clause_tree, env_forest, vars_tree, var_tree, KindFits, ConstKindFits, ListFits, PredListFits, PredFits, SigFits, ClauseFits, ClauseListFits, VarListFits, BoundsFit, AtMostOnePrincipal, kind_tree, const_kind_tree, region_kind_tree, list_forest, pred_list_forest, pred_kind_tree, sig_kind_tree, clause_kind_tree, clause_list_forest, vars_kind_tree, var_kind_tree, bounds_forest, binder_tree, IsMkStop, IsMkListStop};
 ghost use Rattle.candidate_ir.specs.Binders.{escapes, tree_escapes};
 
@@ -17,12 +21,13 @@ use crate::decl::arity::{bounds_fit, clause_fits, const_fits, takes_after_self, 
 use crate::decl::builder::Decls;
 use crate::decl::definition::{CrateId, Declaration, DefinitionSort};
 use crate::ir::flags::{TypeFlags, bit_if};
-use crate::ir::heads::Flag;
+use crate::ir::heads::{Flag, Head};
 use crate::ir::kinds::{
     AdtId, Args, Binder, Clause, ClauseKind, ClosureSig, Const, ConstKind, ExistentialPredicate,
     ForeignId, GenericArg, ParamEnv, Pred, Preds, Region, RegionKind, Sig, TraitId, TraitRef, Ty,
     TyKind, Var, VarKind, Vars,
 };
+use crate::ir::node::Node;
 use crate::ir::nodes::Nodes;
 use crate::ir::stop::Stop;
 use crate::ir::unify::RightSide;
@@ -97,6 +102,47 @@ impl Cx {
         ensures { map string_bytes result.now ≡ self.now.delayed_bugs }
     {
         self.delayed_bugs.as_slice()
+    }
+
+    /// The node of a number.
+    pub(crate) fn node(&self, number: u32) -> &Node
+        requires { number < length self.now.trees }
+        ensures { IsNodeOf self.now.trees number result.now }
+    {
+        self.nodes.node(number)
+    }
+
+    /// The type, constant or region of a number, if it is of one.
+    pub(crate) fn argument(&self, number: u32) -> Option<GenericArg>
+        requires { number < length self.now.trees }
+        ensures { MatchOption result (is_asked (tree_at self.now.trees number).head ≡ false) (λ a. (arg_number a ≡ number) × IsArg self.now.trees a × (is_asked (tree_at self.now.trees number).head ≡ true)) }
+    {
+        self.nodes.argument(number)
+    }
+
+    /// The head of a number's tree.
+    pub(crate) fn head(&self, number: u32) -> Head
+        requires { number < length self.now.trees }
+        ensures { result ≡ (tree_at self.now.trees number).head }
+    {
+        self.nodes.head(number)
+    }
+
+    /// One bound, whose parts have lower numbers.
+    pub(crate) fn bound(&self, pred: Pred) -> Binder<ExistentialPredicate>
+        requires { IsPred self.now.trees pred }
+        ensures fits { PredFits self.now.trees result }
+        ensures tree { pred_kind_tree self.now.trees result ≡ pred_tree self.now.trees pred }
+        ensures below { Below pred.0 (numbers (pred_children result)) }
+    {
+        self.nodes.pred(pred)
+    }
+
+    /// No variable of a binder has children.
+    pub(crate) fn variables_are_leaves(&self)
+        ensures { AreLeaves self.now.trees }
+    {
+        self.nodes.variables_are_leaves();
     }
 
     /// How many numbers of types, constants, regions and lists are given.
@@ -332,6 +378,7 @@ impl Cx {
         requires { IsPreds self.now.trees preds }
         ensures fits { PredListFits self.now.trees result.now }
         ensures tree { pred_list_forest self.now.trees result.now ≡ preds_forest self.now.trees preds }
+        ensures principal { principals (preds_forest self.now.trees preds) ≤ 1 }
     {
         self.nodes.preds(preds)
     }

@@ -2,12 +2,13 @@
 
 ghost use Rattle.std.specs.Prelude.{◌≡◌, ◌++◌, ◌∷◌, [], ◌+◌, ◌<◌, ◌≤◌, length, take, map, IfOk, IfErr};
 ghost use Rattle.candidate_ir.specs.Trees.{height, heights, kind_of};
-ghost use Rattle.candidate_ir.specs.Nodes.{tree_at, kind_at, node_tree, head_of, Fits, Extends};
-ghost use Rattle.candidate_ir.specs.Table.{IsNodeOf, IsRow};
+ghost use Rattle.candidate_ir.specs.Nodes.{tree_at, kind_at, node_tree, head_of, Fits, Extends, AreLeaves};
+ghost use Rattle.candidate_ir.specs.Table.{IsNodeOf, IsRow, HasOnePrincipal};
+ghost use Rattle.candidate_ir.specs.Names.{principals};
 ghost use Rattle.candidate_ir.specs.Worlds.{World};
 ghost use Rattle.candidate_ir.specs.Making.{Adds, a_type, a_constant, a_region, a_list, a_binder, some_bounds, a_signature, a_clause, an_environment};
 ghost use Rattle.candidate_ir.specs.References.{Takes, AllTake, AllFit};
-ghost use Rattle.candidate_ir.specs.Words.{IsTy, IsConst, IsRegion, IsArgs, IsPreds, IsPred, IsSig, IsClause, IsParamEnv, IsVars, IsVar, ty_tree, const_tree, region_tree, args_forest, preds_forest, pred_tree, sig_tree, clause_tree, env_forest, vars_tree, var_tree, KindFits, ConstKindFits, ListFits, PredListFits, VarListFits, PredFits, SigFits, ClauseFits, ClauseListFits, kind_tree, const_kind_tree, region_kind_tree, list_forest, pred_list_forest, pred_kind_tree, sig_kind_tree, clause_kind_tree, clause_list_forest, vars_kind_tree, var_kind_tree, BoundsFit, bounds_forest, binder_tree, IsMkStop, IsMkListStop};
+ghost use Rattle.candidate_ir.specs.Words.{IsTy, IsConst, IsRegion, IsArgs, IsPreds, IsPred, IsSig, IsClause, IsParamEnv, IsVars, IsVar, ty_tree, const_tree, region_tree, args_forest, preds_forest, pred_tree, sig_tree, clause_tree, env_forest, vars_tree, var_tree, KindFits, ConstKindFits, ListFits, PredListFits, VarListFits, PredFits, SigFits, ClauseFits, ClauseListFits, kind_tree, const_kind_tree, region_kind_tree, list_forest, pred_list_forest, pred_kind_tree, sig_kind_tree, clause_kind_tree, clause_list_forest, vars_kind_tree, var_kind_tree, BoundsFit, AtMostOnePrincipal, bounds_forest, binder_tree, IsMkStop, IsMkListStop};
 
 use crate::ir::kinds::{
     Args, Binder, Clause, ClauseKind, ClosureSig, Const, ConstKind, ExistentialPredicate,
@@ -110,6 +111,13 @@ impl Nodes {
         self.rows.truncate(len);
     }
 
+    /// No variable of a binder has children.
+    pub(crate) fn variables_are_leaves(&self)
+        ensures { AreLeaves self.now }
+    {
+        let _rows = self.rows.len();
+    }
+
     pub(crate) fn len(&self) -> usize
         ensures is { result ≡ length self.now }
         ensures most { result ≤ 4294967295 }
@@ -118,7 +126,8 @@ impl Nodes {
     }
 
     pub(crate) fn add(&mut self, node: Node) -> Result<u32, Stop>
-        requires { Fits self.old node }
+        requires fits { Fits self.old node }
+        requires principal { HasOnePrincipal self.old node }
         ensures kept { Extends self.old self.new }
         ensures fit { (w : World) → AllFit w self.old → Takes w (node_tree self.old node) → AllFit w self.new }
         ensures one { IfOk result (λ _. length self.new ≡ length self.old + 1) }
@@ -179,7 +188,8 @@ impl Nodes {
 
     /// The list of these bounds of a `dyn` type.
     fn mk_pred_list(&mut self, list: Vec<Pred>) -> Result<Preds, Stop>
-        requires { PredListFits self.old list.items }
+        requires fits { PredListFits self.old list.items }
+        requires principal { principals (pred_list_forest self.old list.items) ≤ 1 }
         ensures kept { Extends self.old self.new }
         ensures fit { (w : World) → AllFit w self.old → AllFit w self.new }
         ensures sort { IfOk result (λ p. IsPreds self.new p) }
@@ -205,7 +215,8 @@ impl Nodes {
     }
 
     fn add_preds(&mut self, bounds: &[Binder<ExistentialPredicate>]) -> Result<Preds, Stop>
-        requires { BoundsFit self.old bounds.now }
+        requires fit { BoundsFit self.old bounds.now }
+        requires principal { AtMostOnePrincipal bounds.now }
         ensures kept { Extends self.old self.new }
         ensures fit { IfOk result (λ _. (w : World) → AllFit w self.old → AllTake w (map (pred_kind_tree self.old) bounds.now) → AllFit w self.new) }
         ensures sort { IfOk result (λ p. IsPreds self.new p) }
@@ -225,7 +236,8 @@ impl Nodes {
         &mut self,
         bounds: &[Binder<ExistentialPredicate>],
     ) -> Result<Preds, Stop>
-        requires { BoundsFit self.old bounds.now }
+        requires fit { BoundsFit self.old bounds.now }
+        requires principal { AtMostOnePrincipal bounds.now }
         ensures { Adds (some_bounds bounds.now) self.old self.new result }
     {
         let len = self.len();

@@ -1,11 +1,16 @@
 //! What the table says of a number.
 
-ghost use Rattle.std.specs.Prelude.{◌≡◌, true};
+ghost use Rattle.std.specs.Prelude.{◌≡◌, ◌<◌, ◌≤◌, false, true, length, MatchOption};
+ghost use Rattle.candidate_ir.specs.Folds.{is_asked, IsArg};
+ghost use Rattle.candidate_ir.specs.Kinds.{arg_number, numbers, pred_children};
 ghost use Rattle.candidate_ir.specs.Trees.{PredicateKind};
 ghost use Rattle.candidate_ir.specs.Worlds.{all_of, kinds_of};
-ghost use Rattle.candidate_ir.specs.Names.{principal_of};
+ghost use Rattle.candidate_ir.specs.Names.{principal_of, principals};
+ghost use Rattle.candidate_ir.specs.Nodes.{tree_at};
+ghost use Rattle.candidate_ir.specs.Table.{Below};
 ghost use Rattle.candidate_ir.specs.Words.{IsTy, IsConst, IsRegion, IsArgs, IsPreds, IsPred, IsSig, IsClause, IsParamEnv, IsVars, IsVar, ty_tree, const_tree, region_tree, args_forest, preds_forest, pred_tree, sig_tree, clause_tree, env_forest, vars_tree, var_tree, KindFits, ConstKindFits, ListFits, PredListFits, PredFits, SigFits, ClauseFits, ClauseListFits, VarListFits, kind_tree, const_kind_tree, region_kind_tree, list_forest, pred_list_forest, pred_kind_tree, sig_kind_tree, clause_kind_tree, clause_list_forest, vars_kind_tree, var_kind_tree};
 
+use crate::ir::heads::Head;
 use crate::ir::kinds::{
     Args, Binder, Clause, ClauseKind, ClosureSig, Const, ConstKind, ExistentialPredicate,
     GenericArg, ParamEnv, Pred, Preds, Region, RegionKind, Sig, TraitId, Ty, TyKind, Var, VarKind,
@@ -15,6 +20,27 @@ use crate::ir::node::Node;
 use crate::ir::nodes::Nodes;
 
 impl Nodes {
+    /// The type, constant or region of a number, if it is of one.
+    pub(crate) fn argument(&self, number: u32) -> Option<GenericArg>
+        requires { number < length self.now }
+        ensures { MatchOption result (is_asked (tree_at self.now number).head ≡ false) (λ a. (arg_number a ≡ number) × IsArg self.now a × (is_asked (tree_at self.now number).head ≡ true)) }
+    {
+        match self.node(number) {
+            Node::Ty(_) => Some(GenericArg::Ty(Ty(number))),
+            Node::Const(_) => Some(GenericArg::Const(Const(number))),
+            Node::Region(_) => Some(GenericArg::Region(Region(number))),
+            _ => None,
+        }
+    }
+
+    /// The head of a number's tree.
+    pub(crate) fn head(&self, number: u32) -> Head
+        requires { number < length self.now }
+        ensures { result ≡ (tree_at self.now number).head }
+    {
+        self.node(number).head()
+    }
+
     /// The kind of a type.
     pub(crate) fn kind(&self, ty: Ty) -> TyKind
         requires { IsTy self.now ty }
@@ -44,6 +70,7 @@ impl Nodes {
         requires { IsPreds self.now preds }
         ensures fits { PredListFits self.now result.now }
         ensures tree { pred_list_forest self.now result.now ≡ preds_forest self.now preds }
+        ensures principal { principals (preds_forest self.now preds) ≤ 1 }
     {
         match self.node(preds.0) {
             Node::Preds(list) => list.as_slice(),
@@ -66,6 +93,7 @@ impl Nodes {
         requires { IsPred self.now pred }
         ensures fits { PredFits self.now result }
         ensures tree { pred_kind_tree self.now result ≡ pred_tree self.now pred }
+        ensures below { Below pred.0 (numbers (pred_children result)) }
     {
         match self.node(pred.0) {
             Node::Pred(bound) => *bound,

@@ -1,0 +1,26 @@
+use Rattle.std.proofs.Common.{◌+◌, ◌*◌}
+use Rattle.std.specs.Prelude.{map}
+use Rattle.candidate_ir.specs.Kinds.{numbers}
+use Rattle.candidate_ir.specs.Nodes.{children_of, head_of, pred_child}
+use Rattle.candidate_ir.specs.Trees.{binders_of}
+use Rattle.candidate_ir.proofs.FoldSteps.{ChildrenSoFar}
+use Rattle.candidate_ir.proofs.FoldBounds.{BoundsSoFar}
+use Rattle.candidate_ir.proofs.decl.fold.+fold.Given as goal
+
+abbrev pub decreases-fold_children : goal.decreases-fold_children
+decreases-fold_children g l = 3 * l.number
+
+abbrev pub decreases-fold_bounds : goal.decreases-fold_bounds
+decreases-fold_bounds g l = 3 * l.number + 1
+
+abbrev pub decreases-fold_number : goal.decreases-fold_number
+decreases-fold_number g l = 3 * l.number + 2
+
+abbrev pub invariant-fold_children-loop-i : goal.invariant-fold_children-loop-i
+invariant-fold_children-loop-i g l =
+    ChildrenSoFar g.M.Make.context g.M.Make.rest g.F.FnMut (l.fn.fold, l.fn.make) (l.binders + binders_of (head_of l.node)) (numbers (children_of l.node))
+    l.children.items l.i (l.fold, l.make)
+
+abbrev pub invariant-fold_bounds-loop-i : goal.invariant-fold_bounds-loop-i
+invariant-fold_bounds-loop-i g l =
+    BoundsSoFar g.M.Make.context g.M.Make.rest g.F.FnMut (l.fn.fold, l.fn.make) l.binders (numbers (map pred_child l.list)) l.bounds.items l.i (l.fold, l.make)

@@ -1,0 +1,15 @@
+use Rattle.std.proofs.Common.{arith, rules}
+use Rattle.candidate_ir.proofs.Folds.{call_may, call-keeps, call-says}
+use Rattle.candidate_ir.proofs.decl.fold.call.Goals as goal
+
+pub returns : goal.returns
+returns g c =
+    let k = call-keeps g.M.Make.context g.M.Make.rest g.F.FnMut _ _ c.args.arg c.args.binders _ _ _ c.requires.keeps c.requires.arg c.requires.number (omega arith) c.fold.ensures in
+    record {
+      grows = k.0;
+      says = call-says g.M.Make.context g.M.Make.rest g.F.FnMut _ _ c.args.arg c.args.binders _ _ _ c.fold.ensures;
+      kind = k.1;
+    }
+
+pub fold-requires : goal.fold-requires
+fold-requires g c = search (rules, call_may)

@@ -1,0 +1,24 @@
+use Rattle.std.proofs.Common.{refl}
+use Rattle.std.proofs.lemmas.Result.{err_from_is_err_and}
+use Rattle.candidate_ir.specs.declared.ir.kinds.Ty.{Ty}
+use Rattle.candidate_ir.specs.Trees.{TypeKind}
+use Rattle.candidate_ir.specs.Folds.{here}
+use Rattle.candidate_ir.proofs.Lists.{below_kind}
+use Rattle.candidate_ir.proofs.FoldLaws.{one-outcome, one-stop, tree-by}
+use Rattle.candidate_ir.proofs.decl.fold.fold.Goals as goal
+
+pub fold_number-requires-clause-inside : goal.fold_number-requires-clause-inside
+fold_number-requires-clause-inside g c = below_kind _ _ TypeKind refl c.requires.ty
+
+pub returns-in_err-fold_number-clause-outcome : goal.returns-in_err-fold_number-clause-outcome
+returns-in_err-fold_number-clause-outcome g c =
+    let p = err_from_is_err_and c.from_residual.result c.from_residual.ensures.1 in
+    rw (p.1, p.2) (_, one-stop g.M.Make.context g.M.Make.rest g.F.FnMut _ _ _ 0 c.args.ty.0 _ TypeKind refl refl c.requires.ty c.in_err-fold_number.ensures)
+
+pub returns-clause-outcome : goal.returns-clause-outcome
+returns-clause-outcome g c = (_, one-outcome g.M.Make.context g.M.Make.rest g.F.FnMut (λ (x : Ty). x.0) (λ n. record { 0 = n }) (λ n. refl) _ _ 0 c.args.ty.0 c.in_ok-fold_number.field-0 TypeKind refl refl c.requires.ty c.in_ok-fold_number.ensures)
+
+pub returns-clause-answer : goal.returns-clause-answer
+returns-clause-answer g c = λ a f.
+    let o = one-outcome g.M.Make.context g.M.Make.rest g.F.FnMut (λ (x : Ty). x.0) (λ n. record { 0 = n }) (λ n. refl) _ _ 0 c.args.ty.0 c.in_ok-fold_number.field-0 TypeKind refl refl c.requires.ty c.in_ok-fold_number.ensures in
+    tree-by g.M.Make.context g.M.Make.rest g.F.FnMut a _ f _ _ here o.folded

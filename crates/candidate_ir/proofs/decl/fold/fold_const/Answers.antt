@@ -1,0 +1,24 @@
+use Rattle.std.proofs.Common.{refl}
+use Rattle.std.proofs.lemmas.Result.{err_from_is_err_and}
+use Rattle.candidate_ir.specs.declared.ir.kinds.Const.{Const}
+use Rattle.candidate_ir.specs.Trees.{ConstantKind}
+use Rattle.candidate_ir.specs.Folds.{here}
+use Rattle.candidate_ir.proofs.Lists.{below_kind}
+use Rattle.candidate_ir.proofs.FoldLaws.{one-outcome, one-stop, tree-by}
+use Rattle.candidate_ir.proofs.decl.fold.fold_const.Goals as goal
+
+pub fold_number-requires-clause-inside : goal.fold_number-requires-clause-inside
+fold_number-requires-clause-inside g c = below_kind _ _ ConstantKind refl c.requires.constant
+
+pub returns-in_err-fold_number-clause-outcome : goal.returns-in_err-fold_number-clause-outcome
+returns-in_err-fold_number-clause-outcome g c =
+    let p = err_from_is_err_and c.from_residual.result c.from_residual.ensures.1 in
+    rw (p.1, p.2) (_, one-stop g.M.Make.context g.M.Make.rest g.F.FnMut _ _ _ 0 c.args.constant.0 _ ConstantKind refl refl c.requires.constant c.in_err-fold_number.ensures)
+
+pub returns-clause-outcome : goal.returns-clause-outcome
+returns-clause-outcome g c = (_, one-outcome g.M.Make.context g.M.Make.rest g.F.FnMut (λ (x : Const). x.0) (λ n. record { 0 = n }) (λ n. refl) _ _ 0 c.args.constant.0 c.in_ok-fold_number.field-0 ConstantKind refl refl c.requires.constant c.in_ok-fold_number.ensures)
+
+pub returns-clause-answer : goal.returns-clause-answer
+returns-clause-answer g c = λ a f.
+    let o = one-outcome g.M.Make.context g.M.Make.rest g.F.FnMut (λ (x : Const). x.0) (λ n. record { 0 = n }) (λ n. refl) _ _ 0 c.args.constant.0 c.in_ok-fold_number.field-0 ConstantKind refl refl c.requires.constant c.in_ok-fold_number.ensures in
+    tree-by g.M.Make.context g.M.Make.rest g.F.FnMut a _ f _ _ here o.folded

@@ -1,0 +1,21 @@
+use Rattle.std.proofs.Common.{◌≡◌, refl, rules, ◌∙◌, ap}
+use Rattle.candidate_ir.specs.Folding.{moved}
+use Rattle.candidate_ir.specs.Kinds.{arg_kind}
+use Rattle.candidate_ir.specs.Nodes.{tree_at}
+use Rattle.candidate_ir.proofs.Asking.{arg-below}
+use Rattle.candidate_ir.proofs.FoldLaws.{head-number, moved-only}
+use Rattle.candidate_ir.proofs.Members.{arg-there, arg-single}
+use Rattle.candidate_ir.proofs.decl.subst.shifted.Goals as goal
+
+pub fold_number-requires-clause-inside : goal.fold_number-requires-clause-inside
+fold_number-requires-clause-inside g c = rw c.number.ensures (arg-below (g.M.Make.context c.args.make.now).trees c.args.arg c.requires)
+
+pub returns-clause-tree : goal.returns-clause-tree
+returns-clause-tree g c =
+    let made = rw c.number.ensures at c.in_ok-number.ensures in
+    ap (tree_at (g.M.Make.context c.fold_number.new.make).trees) c.with_number.ensures.number
+    ∙ head-number g.M.Make.context g.M.Make.rest _ _ _ _ _ (arg_kind c.args.arg) made (arg-there c.args.arg) (arg-single c.args.arg) c.requires
+    (moved c.args.by) (λ z. z.0 ≡ c.args.by) refl
+    (λ s x d r e n p. let k = n.called in let l = n.lends in let v = n.leaves in search rules)
+    (λ s x d r e n i grown p. let k = n.called in let l = n.lends in let v = n.leaves in search rules)
+    (moved-only c.args.by)
