@@ -24,6 +24,8 @@ mod every_kind;
 #[cfg(test)]
 mod flags;
 #[cfg(test)]
+mod folds;
+#[cfg(test)]
 mod normalisers;
 #[cfg(test)]
 mod parts;

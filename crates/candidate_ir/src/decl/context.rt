@@ -389,7 +389,7 @@ impl Cx {
         ensures fits { PredFits self.now.trees result }
         ensures tree { pred_kind_tree self.now.trees result ≡ pred_tree self.now.trees pred }
     {
-        self.nodes.pred(pred)
+        self.bound(pred)
     }
 
     /// The kind of a constant.
