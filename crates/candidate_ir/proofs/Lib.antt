@@ -31,3 +31,4 @@ pub mod FoldNodes
 pub mod FoldKinds
 pub mod FoldBounds
 pub mod FoldLaws
+pub mod Substituting

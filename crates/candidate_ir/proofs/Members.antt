@@ -25,7 +25,7 @@ arg-single (A.Ty _) = refl
 arg-single (A.Const _) = refl
 arg-single (A.Region _) = refl
 
-member : (ts : List Tree) (x : GenericArg) (xs : List GenericArg) → ListFits ts (x ∷ xs)
+pub member : (ts : List Tree) (x : GenericArg) (xs : List GenericArg) → ListFits ts (x ∷ xs)
     → list_forest ts (x ∷ xs) ≡ tree (tree_at ts (arg_number x)).head (tree_at ts (arg_number x)).children (list_forest ts xs)
 member ts x xs f =
     let e : kind_at ts (arg_number x) ≡ arg_kind x = cc in

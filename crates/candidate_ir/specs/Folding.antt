@@ -1,12 +1,12 @@
 -- Trees with answers put in: folds, shifts, substitutions.
-use Rattle.std.specs.Prelude.{Bool, false, not, ℕ, zero, suc, ◌+◌, nat_le, Option, Some, None, if◌then◌else◌}
+use Rattle.std.specs.Prelude.{Bool, false, not, ◌&&◌, ℕ, zero, suc, ◌+◌, nat_le, nat_lt, Option, Some, None, if◌then◌else◌}
 use Rattle.std.specs.Option.{unwrap_or}
 use Rattle.candidate_ir.specs.declared.ir.heads.Head.{Head}
 use Rattle.candidate_ir.specs.declared.ir.heads.Head.TheVariants as H
 use Rattle.candidate_ir.specs.declared.ir.heads.ConstHead.TheVariants as C
 use Rattle.candidate_ir.specs.declared.ir.kinds.BoundVar.{BoundVar}
 use Rattle.candidate_ir.specs.declared.ir.kinds.RegionKind.TheVariants as R
-use Rattle.candidate_ir.specs.Trees.{Forest, none, tree, Tree, kind_of, is_type, binders_of}
+use Rattle.candidate_ir.specs.Trees.{Forest, none, tree, Tree, kind_of, is_type, binders_of, count}
 use Rattle.candidate_ir.specs.Nodes.{error_tree}
 use Rattle.candidate_ir.specs.Substitutions.{is_constant_kind}
 
@@ -70,3 +70,13 @@ abbrev pub is_misplaced : Forest → Head → Bool
 is_misplaced args (H.Param i) = not (is_type (argument args i).head)
 is_misplaced args (H.Const (C.Param i)) = not (is_constant_kind (kind_of (argument args i).head))
 is_misplaced args _ = false
+
+-- whether it is a parameter that has no argument of its kind
+abbrev pub lacks_argument : Forest → Head → Bool
+lacks_argument args (H.Param i) = not (nat_lt i (count args) && is_type (argument args i).head)
+lacks_argument args (H.Const (C.Param i)) = not (nat_lt i (count args) && is_constant_kind (kind_of (argument args i).head))
+lacks_argument args _ = false
+
+-- what stands for a parameter that has one; others stay
+abbrev pub put_if_there : Forest → ℕ → Head → Option Tree
+put_if_there args d h = if lacks_argument args h then None else put args d h

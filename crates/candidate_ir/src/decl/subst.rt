@@ -1,15 +1,18 @@
 //! Arguments in the place of parameters.
 
-ghost use Rattle.std.specs.Prelude.{◌≡◌, ◌⊎◌, Some, None, IfOk, IfErr, option_map, nat_le, if◌then◌else◌};
+ghost use Rattle.std.specs.Prelude.{◌≡◌, ◌⊎◌, ℕ, Some, None, MatchOption, IfOk, IfErr, option_map, nat_le, nat_lt, true, false, if◌then◌else◌};
 ghost use Rattle.candidate_ir.specs.Context.{Grows};
-ghost use Rattle.candidate_ir.specs.Folding.{moved, further, shift_tree};
+ghost use Rattle.candidate_ir.specs.Folding.{moved, further, shift_tree, argument, put_if_there};
 ghost use Rattle.candidate_ir.specs.Folds.{IsArg, IsOfKind, arg_tree};
 ghost use Rattle.candidate_ir.specs.Kinds.{arg_kind};
+ghost use Rattle.candidate_ir.specs.Trees.{count};
+ghost use Rattle.candidate_ir.specs.Words.{IsArgs, args_forest};
 
+use crate::decl::context::Cx;
 use crate::decl::fold::fold_number;
 use crate::decl::make::Make;
 use crate::ir::heads::{ConstHead, Head};
-use crate::ir::kinds::{BoundVar, ConstKind, GenericArg, RegionKind, TyKind};
+use crate::ir::kinds::{Args, BoundVar, ConstKind, GenericArg, RegionKind, TyKind};
 use crate::ir::stop::Stop;
 use std::alloc::Global;
 
@@ -86,4 +89,55 @@ fn shifted<M: Make>(
         0,
     )?;
     Ok(arg.with_number(number))
+}
+
+/// The argument of that number, if the list has so many.
+fn nth_argument(cx: &Cx, args: Args, index: u32) -> Option<GenericArg>
+    requires { IsArgs cx.now.trees args }
+    ensures { MatchOption result (nat_lt index (count (args_forest cx.now.trees args)) ≡ false) (λ v. IsArg cx.now.trees v × (nat_lt index (count (args_forest cx.now.trees args)) ≡ true) × (argument (args_forest cx.now.trees args) index ≡ arg_tree cx.now.trees v)) }
+{
+    let list = cx.args(args);
+    if index as usize >= list.len() {
+        return None;
+    }
+    Some(list[index as usize])
+}
+
+/// The argument for a parameter, if there is one of its kind.
+fn argument_for(cx: &Cx, args: Args, arg: GenericArg) -> Option<GenericArg>
+    requires args { IsArgs cx.now.trees args }
+    requires arg { IsArg cx.now.trees arg }
+    ensures { MatchOption result ((d : ℕ) → put_if_there (args_forest cx.now.trees args) d (arg_tree cx.now.trees arg).head ≡ None) (λ v. IsArg cx.now.trees v × (arg_kind v ≡ arg_kind arg) × ((d : ℕ) → put_if_there (args_forest cx.now.trees args) d (arg_tree cx.now.trees arg).head ≡ Some (shift_tree d (arg_tree cx.now.trees v)))) }
+{
+    match cx.head(arg.number()) {
+        Head::Param(index) => match nth_argument(cx, args, index) {
+            Some(GenericArg::Ty(ty)) => Some(GenericArg::Ty(ty)),
+            _ => None,
+        },
+        Head::Const(ConstHead::Param(index)) => match nth_argument(cx, args, index) {
+            Some(GenericArg::Const(constant)) => Some(GenericArg::Const(constant)),
+            _ => None,
+        },
+        _ => None,
+    }
+}
+
+/// What stands for a parameter under so many binders: its argument, shifted.
+fn put<M: Make>(
+    alloc: Global,
+    make: &mut M,
+    args: Args,
+    arg: GenericArg,
+    binders: u32,
+) -> Result<Option<GenericArg>, Stop>
+    requires args { IsArgs (M.context make.old).trees args }
+    requires arg { IsArg (M.context make.old).trees arg }
+    ensures grows { Grows (M.context make.old) (M.context make.new) }
+    ensures kind { IfOk result (λ o. IsOfKind (M.context make.new).trees arg o) }
+    ensures answer { IfOk result (λ o. option_map (arg_tree (M.context make.new).trees) o ≡ put_if_there (args_forest (M.context make.old).trees args) binders (arg_tree (M.context make.old).trees arg).head) }
+{
+    match argument_for(make.cx(), args, arg) {
+        Some(value) => Ok(Some(shifted(alloc, make, value, binders)?)),
+        None => Ok(None),
+    }
 }

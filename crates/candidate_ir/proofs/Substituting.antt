@@ -1,0 +1,88 @@
+-- Arguments in the place of parameters.
+use Rattle.std.proofs.Common.{◌≡◌, ℕ, zero, suc, ◌+◌, ◌<◌, ◌≤◌, List, [], ◌∷◌, length, get_or, Option, Some, None, Bool, true, false, refl, sym, ◌∙◌, ap, subst, arith}
+use Rattle.std.specs.Prelude.{◌||◌, ◌&&◌, not, nat_lt, if◌then◌else◌}
+use Rattle.std.specs.Option.{unwrap_or}
+use Rattle.candidate_ir.specs.declared.ir.heads.Head.{Head}
+use Rattle.candidate_ir.specs.declared.ir.heads.Head.TheVariants as H
+use Rattle.candidate_ir.specs.declared.ir.heads.ConstHead.{ConstHead}
+use Rattle.candidate_ir.specs.declared.ir.heads.ConstHead.TheVariants as C
+use Rattle.candidate_ir.specs.declared.ir.kinds.GenericArg.{GenericArg}
+use Rattle.candidate_ir.specs.Trees.{Kind, TypeKind, ConstantKind, Forest, none, tree, Tree, kind_of, is_type, is_type_kind, binders_of, count, holds}
+use Rattle.candidate_ir.specs.Kinds.{arg_number, arg_kind}
+use Rattle.candidate_ir.specs.Nodes.{tree_at}
+use Rattle.candidate_ir.specs.Words.{ListFits, list_forest}
+use Rattle.candidate_ir.specs.Substitutions.{is_constant_kind}
+use Rattle.candidate_ir.specs.Folding.{fold, fold_tree, argument, put, put_if_there, lacks_argument, shift_tree}
+use Rattle.candidate_ir.specs.Folds.{is_asked, node, IsArg, arg_tree}
+use Rattle.candidate_ir.proofs.Folding.{HeadAnswers, by_head, same_row, or-left, or-right}
+use Rattle.candidate_ir.proofs.Members.{arg-there, member, member-kind, count-members}
+use Rattle.candidate_ir.proofs.Rows.{kind-of}
+
+pub put-only : (args : Forest) (d : ℕ) (h : Head) → is_asked h ≡ false → put_if_there args d h ≡ None
+put-only args d (H.Param i) e = absurd cc
+put-only args d (H.Const k) e = absurd cc
+put-only args d _ e = refl
+
+-- answers that agree on what stands in trees give one fold
+pub fold-agree : (f g : HeadAnswers) (mark : Head → Bool) → ((d : ℕ) (h : Head) → mark h ≡ false → f d h ≡ g d h) → (d : ℕ) (ts : Forest) → holds mark ts ≡ false
+    → fold (by_head f) d ts ≡ fold (by_head g) d ts
+fold-agree f g mark same d none e = refl
+fold-agree f g mark same d (tree h below rest) e =
+    let inner = or-right (mark h) (holds mark below || holds mark rest) e in
+    let here = same d h (or-left (mark h) (holds mark below || holds mark rest) e) in
+    let under = fold-agree f g mark same (d + binders_of h) below (or-left (holds mark below) (holds mark rest) inner) in
+    same_row (unwrap_or (f d h) (node h (fold (by_head f) (d + binders_of h) below))) (unwrap_or (g d h) (node h (fold (by_head g) (d + binders_of h) below)))
+    (fold (by_head f) d rest) (fold (by_head g) d rest)
+    (ap (λ (o : Option Tree). unwrap_or o (node h (fold (by_head f) (d + binders_of h) below))) here
+    ∙ ap (λ (ts : Forest). unwrap_or (g d h) (node h ts)) under)
+    (fold-agree f g mark same d rest (or-right (holds mark below) (holds mark rest) inner))
+
+-- so what is put where there is an argument is all that a substitution puts
+pub there-is-put : (args : Forest) (d : ℕ) (h : Head) → lacks_argument args h ≡ false → put_if_there args d h ≡ put args d h
+there-is-put args d h e = ap (λ (b : Bool). if b then None else put args d h) e
+
+pub argument-at : (ts : List Tree) (xs : List GenericArg) (i : ℕ) (d : GenericArg) → ListFits ts xs → i < length xs → argument (list_forest ts xs) i ≡ tree_at ts (arg_number (get_or xs i d))
+argument-at ts [] i d f h = absurd (omega arith)
+argument-at ts (x ∷ xs) zero d f h = ap (λ (r : Forest). argument r 0) (member ts x xs f)
+argument-at ts (x ∷ xs) (suc i) d f h =
+    let g : ListFits ts xs = cc in
+    ap (λ (r : Forest). argument r (suc i)) (member ts x xs f) ∙ argument-at ts xs i d g (omega arith)
+
+below-true : (i n : ℕ) → i < n → nat_lt i n ≡ true
+below-true i n h = grind (arith, h)
+
+-- the argument of a number of a list of a context
+pub nth-there : (ts : List Tree) (r : Forest) (xs : List GenericArg) (i : ℕ) (d v : GenericArg) → ListFits ts xs → list_forest ts xs ≡ r → i < length xs → get_or xs i d ≡ v
+    → IsArg ts v × (nat_lt i (count r) ≡ true) × (argument r i ≡ arg_tree ts v)
+nth-there ts r xs i d v f e h g =
+    let n = count-members ts xs f in
+    let m = ap count e in
+    let l : i < count r = omega arith in
+    let At : GenericArg → Type 0 = λ y. IsArg ts y in
+    (subst At g (member-kind ts xs i d f h), below-true i (count r) l,
+      sym (ap (λ (x : Forest). argument x i) e) ∙ (argument-at ts xs i d f h ∙ ap (arg_tree ts) g))
+
+-- a parameter with an argument of its kind, and without
+pub type-there : (args : Forest) (i d : ℕ) (ts : List Tree) (v : GenericArg) → nat_lt i (count args) ≡ true → argument args i ≡ arg_tree ts v → IsArg ts v → arg_kind v ≡ TypeKind
+    → put_if_there args d (H.Param i) ≡ Some (shift_tree d (arg_tree ts v))
+type-there args i d ts v l a f k =
+    let kind : kind_of (argument args i).head ≡ TypeKind = ap (λ (t : Tree). kind_of t.head) a ∙ (kind-of ts (arg_number v) (arg_kind v) (arg-there v) f ∙ k) in
+    let has : lacks_argument args (H.Param i) ≡ false = ap (λ (b : Bool). not (b && is_type (argument args i).head)) l ∙ ap (λ (x : Kind). not (is_type_kind x)) kind in
+    there-is-put args d (H.Param i) has ∙ ap (λ (t : Tree). Some (shift_tree d t)) a
+
+pub constant-there : (args : Forest) (i d : ℕ) (ts : List Tree) (v : GenericArg) → nat_lt i (count args) ≡ true → argument args i ≡ arg_tree ts v → IsArg ts v → arg_kind v ≡ ConstantKind
+    → put_if_there args d (H.Const (C.Param i)) ≡ Some (shift_tree d (arg_tree ts v))
+constant-there args i d ts v l a f k =
+    let kind : kind_of (argument args i).head ≡ ConstantKind = ap (λ (t : Tree). kind_of t.head) a ∙ (kind-of ts (arg_number v) (arg_kind v) (arg-there v) f ∙ k) in
+    let has : lacks_argument args (H.Const (C.Param i)) ≡ false = ap (λ (b : Bool). not (b && is_constant_kind (kind_of (argument args i).head))) l ∙ ap (λ (x : Kind). not (is_constant_kind x)) kind in
+    there-is-put args d (H.Const (C.Param i)) has ∙ ap (λ (t : Tree). Some (shift_tree d t)) a
+
+pub nth-missing : (ts : List Tree) (r : Forest) (xs : List GenericArg) (i : ℕ) → ListFits ts xs → list_forest ts xs ≡ r → length xs ≤ i → nat_lt i (count r) ≡ false
+nth-missing ts r xs i f e h =
+    let n = count-members ts xs f in
+    let m = ap count e in
+    let l : count r ≤ i = omega arith in
+    below-false i (count r) l
+  where
+    below-false : (i n : ℕ) → n ≤ i → nat_lt i n ≡ false
+    below-false i n h = grind (arith, h)
