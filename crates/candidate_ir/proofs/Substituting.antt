@@ -1,5 +1,5 @@
 -- Arguments in the place of parameters.
-use Rattle.std.proofs.Common.{◌≡◌, ℕ, zero, suc, ◌+◌, ◌<◌, ◌≤◌, List, [], ◌∷◌, length, get_or, Option, Some, None, Bool, true, false, refl, sym, ◌∙◌, ap, subst, arith}
+use Rattle.std.proofs.Common.{◌≡◌, ℕ, zero, suc, ◌+◌, ◌<◌, ◌≤◌, List, [], ◌∷◌, length, get_or, Option, Some, None, Bool, IsTrue, true, false, refl, sym, ◌∙◌, ap, subst, arith}
 use Rattle.std.specs.Prelude.{◌||◌, ◌&&◌, not, nat_lt, if◌then◌else◌}
 use Rattle.std.specs.Option.{unwrap_or}
 use Rattle.candidate_ir.specs.declared.ir.heads.Head.{Head}
@@ -7,6 +7,7 @@ use Rattle.candidate_ir.specs.declared.ir.heads.Head.TheVariants as H
 use Rattle.candidate_ir.specs.declared.ir.heads.ConstHead.{ConstHead}
 use Rattle.candidate_ir.specs.declared.ir.heads.ConstHead.TheVariants as C
 use Rattle.candidate_ir.specs.declared.ir.kinds.GenericArg.{GenericArg}
+use Rattle.candidate_ir.specs.declared.ir.kinds.GenericArg.TheVariants as A
 use Rattle.candidate_ir.specs.Trees.{Kind, TypeKind, ConstantKind, Forest, none, tree, Tree, kind_of, is_type, is_type_kind, binders_of, count, holds}
 use Rattle.candidate_ir.specs.Kinds.{arg_number, arg_kind}
 use Rattle.candidate_ir.specs.Nodes.{tree_at}
@@ -86,3 +87,43 @@ nth-missing ts r xs i f e h =
   where
     below-false : (i n : ℕ) → n ≤ i → nat_lt i n ≡ false
     below-false i n h = grind (arith, h)
+
+-- a parameter without an argument, or with one of another kind, stays
+lacks-none : (args : Forest) (d : ℕ) (h : Head) → lacks_argument args h ≡ true → put_if_there args d h ≡ None
+lacks-none args d h e = ap (λ (b : Bool). if b then None else put args d h) e
+
+pub type-missing : (args : Forest) (i d : ℕ) → nat_lt i (count args) ≡ false → put_if_there args d (H.Param i) ≡ None
+type-missing args i d l = lacks-none args d (H.Param i) (ap (λ (b : Bool). not (b && is_type (argument args i).head)) l)
+
+pub constant-missing : (args : Forest) (i d : ℕ) → nat_lt i (count args) ≡ false → put_if_there args d (H.Const (C.Param i)) ≡ None
+constant-missing args i d l = lacks-none args d (H.Const (C.Param i)) (ap (λ (b : Bool). not (b && is_constant_kind (kind_of (argument args i).head))) l)
+
+no-type : (v : GenericArg) → (TypeKind ≡ arg_kind v → ⊥) → is_type_kind (arg_kind v) ≡ false
+no-type (A.Ty t) n = absurd (n refl)
+no-type (A.Const t) n = refl
+no-type (A.Region t) n = refl
+
+no-constant : (v : GenericArg) → (ConstantKind ≡ arg_kind v → ⊥) → is_constant_kind (arg_kind v) ≡ false
+no-constant (A.Ty t) n = refl
+no-constant (A.Const t) n = absurd (n refl)
+no-constant (A.Region t) n = refl
+
+and-false : (a b : Bool) → b ≡ false → not (a && b) ≡ true
+and-false true b e = ap not e
+and-false false b e = refl
+
+kind-seen : (args : Forest) (i : ℕ) (ts : List Tree) (v : GenericArg) → argument args i ≡ arg_tree ts v → IsArg ts v → kind_of (argument args i).head ≡ arg_kind v
+kind-seen args i ts v a f = ap (λ (t : Tree). kind_of t.head) a ∙ kind-of ts (arg_number v) (arg_kind v) (arg-there v) f
+
+pub type-other : (args : Forest) (i d : ℕ) (ts : List Tree) (v : GenericArg) → argument args i ≡ arg_tree ts v → IsArg ts v → (TypeKind ≡ arg_kind v → ⊥)
+    → put_if_there args d (H.Param i) ≡ None
+type-other args i d ts v a f n =
+    lacks-none args d (H.Param i) (and-false (nat_lt i (count args)) (is_type (argument args i).head) (ap is_type_kind (kind-seen args i ts v a f) ∙ no-type v n))
+
+pub constant-other : (args : Forest) (i d : ℕ) (ts : List Tree) (v : GenericArg) → argument args i ≡ arg_tree ts v → IsArg ts v → (ConstantKind ≡ arg_kind v → ⊥)
+    → put_if_there args d (H.Const (C.Param i)) ≡ None
+constant-other args i d ts v a f n =
+    lacks-none args d (H.Const (C.Param i)) (and-false (nat_lt i (count args)) (is_constant_kind (kind_of (argument args i).head)) (ap is_constant_kind (kind-seen args i ts v a f) ∙ no-constant v n))
+
+pub not-both : (b : Bool) → IsTrue b → b ≡ false → ⊥
+not-both b t f = let e = sym t ∙ f in cc

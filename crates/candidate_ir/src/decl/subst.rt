@@ -12,7 +12,7 @@ use crate::decl::context::Cx;
 use crate::decl::fold::fold_number;
 use crate::decl::make::Make;
 use crate::ir::heads::{ConstHead, Head};
-use crate::ir::kinds::{Args, BoundVar, ConstKind, GenericArg, RegionKind, TyKind};
+use crate::ir::kinds::{Args, BoundVar, ConstKind, GenericArg, RegionKind, TyKind, VarKind};
 use crate::ir::stop::Stop;
 use std::alloc::Global;
 
@@ -110,14 +110,14 @@ fn argument_for(cx: &Cx, args: Args, arg: GenericArg) -> Option<GenericArg>
     ensures { MatchOption result ((d : ℕ) → put_if_there (args_forest cx.now.trees args) d (arg_tree cx.now.trees arg).head ≡ None) (λ v. IsArg cx.now.trees v × (arg_kind v ≡ arg_kind arg) × ((d : ℕ) → put_if_there (args_forest cx.now.trees args) d (arg_tree cx.now.trees arg).head ≡ Some (shift_tree d (arg_tree cx.now.trees v)))) }
 {
     match cx.head(arg.number()) {
-        Head::Param(index) => match nth_argument(cx, args, index) {
-            Some(GenericArg::Ty(ty)) => Some(GenericArg::Ty(ty)),
-            _ => None,
-        },
-        Head::Const(ConstHead::Param(index)) => match nth_argument(cx, args, index) {
-            Some(GenericArg::Const(constant)) => Some(GenericArg::Const(constant)),
-            _ => None,
-        },
+        Head::Param(index) => {
+            let value = nth_argument(cx, args, index)?;
+            if value.is_of(VarKind::Ty) { Some(value) } else { None }
+        }
+        Head::Const(ConstHead::Param(index)) => {
+            let value = nth_argument(cx, args, index)?;
+            if value.is_of(VarKind::Const) { Some(value) } else { None }
+        }
         _ => None,
     }
 }

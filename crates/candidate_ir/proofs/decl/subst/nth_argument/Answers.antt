@@ -1,7 +1,11 @@
-use Rattle.std.proofs.Common.{sym, arith}
+use Rattle.std.proofs.Common.{refl}
+use Rattle.candidate_ir.specs.declared.ir.kinds.GenericArg.TheVariants as A
 use Rattle.candidate_ir.proofs.Substituting.{nth-there, nth-missing}
 use Rattle.candidate_ir.proofs.decl.subst.nth_argument.Goals as goal
 
 pub returns : goal.returns
 returns c =
-    nth-there c.args.cx.now.trees _ c.args-list.result.now c.args.index c.index.result c.index.result c.args-list.ensures.fits c.args-list.ensures.tree (omega arith) (sym c.index.ensures)
+    nth-there c.args.cx.now.trees _ c.args-list.result.now c.args.index (A.Ty (record { 0 = 0 })) _ c.args-list.ensures.fits c.args-list.ensures.tree c.if-index-list.false refl
+
+pub returns-then-index-list : goal.returns-then-index-list
+returns-then-index-list c = nth-missing c.args.cx.now.trees _ c.args-list.result.now c.args.index c.args-list.ensures.fits c.args-list.ensures.tree c.if-index-list.true
