@@ -1,23 +1,30 @@
 -- Arguments in the place of parameters.
 use Rattle.std.proofs.Common.{◌≡◌, ℕ, zero, suc, ◌+◌, ◌<◌, ◌≤◌, List, [], ◌∷◌, length, get_or, Option, Some, None, Bool, IsTrue, true, false, refl, sym, ◌∙◌, ap, subst, arith}
-use Rattle.std.specs.Prelude.{◌||◌, ◌&&◌, not, nat_lt, if◌then◌else◌}
+use Rattle.std.specs.Fn.{Mut}
+use Rattle.std.specs.Borrow.{MutBor}
+use Rattle.std.specs.Prelude.{Result, Ok, Err, IfOk, option_map, ◌||◌, ◌&&◌, not, nat_lt, if◌then◌else◌}
 use Rattle.std.specs.Option.{unwrap_or}
 use Rattle.candidate_ir.specs.declared.ir.heads.Head.{Head}
 use Rattle.candidate_ir.specs.declared.ir.heads.Head.TheVariants as H
-use Rattle.candidate_ir.specs.declared.ir.heads.ConstHead.{ConstHead}
 use Rattle.candidate_ir.specs.declared.ir.heads.ConstHead.TheVariants as C
 use Rattle.candidate_ir.specs.declared.ir.kinds.GenericArg.{GenericArg}
 use Rattle.candidate_ir.specs.declared.ir.kinds.GenericArg.TheVariants as A
-use Rattle.candidate_ir.specs.Trees.{Kind, TypeKind, ConstantKind, Forest, none, tree, Tree, kind_of, is_type, is_type_kind, binders_of, count, holds}
+use Rattle.candidate_ir.specs.Trees.{Kind, TypeKind, ConstantKind, Forest, none, tree, Tree, kind_of, is_type, is_type_kind, binders_of, count, holds, tree_holds, is_list, is_list_kind}
 use Rattle.candidate_ir.specs.Kinds.{arg_number, arg_kind}
-use Rattle.candidate_ir.specs.Nodes.{tree_at}
+use Rattle.candidate_ir.specs.declared.ir.stop.Stop.{Stop}
+use Rattle.candidate_ir.specs.Context.{Context, Grows}
+use Rattle.candidate_ir.specs.Nodes.{tree_at, kind_at}
 use Rattle.candidate_ir.specs.Words.{ListFits, list_forest}
 use Rattle.candidate_ir.specs.Substitutions.{is_constant_kind}
-use Rattle.candidate_ir.specs.Folding.{fold, fold_tree, argument, put, put_if_there, lacks_argument, shift_tree}
-use Rattle.candidate_ir.specs.Folds.{is_asked, node, IsArg, arg_tree}
+use Rattle.candidate_ir.specs.Folding.{fold, fold_tree, argument, put, put_if_there, lacks_argument, shift_tree, substituted, substituted_tree}
+use Rattle.candidate_ir.specs.Folds.{is_asked, node, IsArg, arg_tree, Says, Renumbers, here}
 use Rattle.candidate_ir.proofs.Folding.{HeadAnswers, by_head, same_row, or-left, or-right}
 use Rattle.candidate_ir.proofs.Members.{arg-there, member, member-kind, count-members}
 use Rattle.candidate_ir.proofs.Rows.{kind-of}
+use Rattle.candidate_ir.proofs.Lists.{there, kind_of-tree_at}
+use Rattle.candidate_ir.proofs.FoldSteps.{there-head}
+use Rattle.candidate_ir.proofs.Splits.{list-head}
+use Rattle.candidate_ir.proofs.FoldLaws.{head-number, head-function, list-outcome, folds-by}
 
 pub put-only : (args : Forest) (d : ℕ) (h : Head) → is_asked h ≡ false → put_if_there args d h ≡ None
 put-only args d (H.Param i) e = absurd cc
@@ -59,9 +66,11 @@ nth-there ts r xs i d v f e h g =
     let n = count-members ts xs f in
     let m = ap count e in
     let l : i < count r = omega arith in
-    let At : GenericArg → Type 0 = λ y. IsArg ts y in
-    (subst At g (member-kind ts xs i d f h), below-true i (count r) l,
-      sym (ap (λ (x : Forest). argument x i) e) ∙ (argument-at ts xs i d f h ∙ ap (arg_tree ts) g))
+    let At : GenericArg → Type 0 = λ y. IsArg ts y in (
+      subst At g (member-kind ts xs i d f h),
+      below-true i (count r) l,
+      sym (ap (λ (x : Forest). argument x i) e) ∙ (argument-at ts xs i d f h ∙ ap (arg_tree ts) g),
+    )
 
 -- a parameter with an argument of its kind, and without
 pub type-there : (args : Forest) (i d : ℕ) (ts : List Tree) (v : GenericArg) → nat_lt i (count args) ≡ true → argument args i ≡ arg_tree ts v → IsArg ts v → arg_kind v ≡ TypeKind
@@ -127,3 +136,49 @@ constant-other args i d ts v a f n =
 
 pub not-both : (b : Bool) → IsTrue b → b ≡ false → ⊥
 not-both b t f = let e = sym t ∙ f in cc
+
+there-kind : (ts : List Tree) (n : ℕ) → n < length ts → there (kind_at ts n) ≡ true
+there-kind ts n h = ap there (kind_of-tree_at ts n h) ∙ there-head (tree_at ts n).head
+
+-- so of one tree
+agree-tree : (f g : HeadAnswers) (mark : Head → Bool) → ((d : ℕ) (h : Head) → mark h ≡ false → f d h ≡ g d h) → (t : Tree) → tree_holds mark t ≡ false
+    → fold_tree (by_head f) 0 t ≡ fold_tree (by_head g) 0 t
+agree-tree f g mark same t e =
+    let here = same 0 t.head (or-left (mark t.head) (holds mark t.children) e) in
+    let under = fold-agree f g mark same (0 + binders_of t.head) t.children (or-right (mark t.head) (holds mark t.children) e) in
+    ap (λ (o : Option Tree). unwrap_or o (node t.head (fold (by_head f) (0 + binders_of t.head) t.children))) here
+    ∙ ap (λ (us : Forest). unwrap_or (g 0 t.head) (node t.head us)) under
+
+module _ {M Rest F : Type 0} (context : M → Context) (others : M → Rest)
+    (g : Mut F (MutBor M × (GenericArg × (ℕ × Unit {0}))) (Result (Option GenericArg) Stop × (MutBor M × Unit {0}))) where
+  -- A number that was folded by what is put for its parameters is substituted, if it lacks no argument.
+  module _ (args : Forest) (s e : F × M) (n : ℕ) (P : F → Type 0) (p : P s.0)
+      (keeps : (t : F × M) (x : GenericArg) (d : ℕ) (r : Result (Option GenericArg) Stop) (u : F × M) → Says context others g t x d r u → P t.0 → P u.0)
+      (answers : (t : F × M) (x : GenericArg) (d : ℕ) (r : Result (Option GenericArg) Stop) (u : F × M) → Says context others g t x d r u → IsArg (context t.1).trees x → Grows (context s.1) (context t.1) → P t.0
+      → IfOk r (λ o. option_map (arg_tree (context u.1).trees) o ≡ put_if_there args d (arg_tree (context t.1).trees x).head))
+      (inside : n < length (context s.1).trees) (lacks : tree_holds (lacks_argument args) (tree_at (context s.1).trees n) ≡ false) where
+    pub put-tree : (result : Result ℕ Stop) → Renumbers context others g s 0 n result e → is_list_kind (kind_at (context s.1).trees n) ≡ false
+        → IfOk result (λ k. tree_at (context e.1).trees k ≡ substituted_tree args (tree_at (context s.1).trees n))
+    put-tree (Ok k) r single =
+        head-number context others g s e n k (kind_at (context s.1).trees n) r (there-kind (context s.1).trees n inside) single refl (put_if_there args) P p keeps answers (put-only args)
+        ∙ agree-tree (put_if_there args) (put args) (lacks_argument args) (there-is-put args) (tree_at (context s.1).trees n) lacks
+    put-tree (Err x) r single = tt
+
+    pub put-list : (result : Result ℕ Stop) → Renumbers context others g s 0 n result e → is_list_kind (kind_at (context s.1).trees n) ≡ true
+        → IfOk result (λ k. (tree_at (context e.1).trees k).children ≡ substituted args 0 (tree_at (context s.1).trees n).children)
+    put-list (Ok k) r list =
+        let o = list-outcome context others g (λ (x : ℕ). x) (λ x. x) (λ x. refl) s e 0 n k (kind_at (context s.1).trees n) (there-kind (context s.1).trees n inside) list refl r in
+        let f = head-function context others g (put_if_there args) P s p keeps answers (put-only args) in
+        let t = tree_at (context s.1).trees n in
+        folds-by context others g (λ d u. put_if_there args d u.head) s f here o.folded
+        ∙ fold-agree (put_if_there args) (put args) (lacks_argument args) (there-is-put args) 0 t.children (or-right (lacks_argument args t.head) (holds (lacks_argument args) t.children) lacks)
+    put-list (Err x) r list = tt
+
+-- a list lacks an argument where a member does
+pub list-there : (args : Forest) (ts : List Tree) (n : ℕ) (k : Kind) → there k ≡ true → is_list_kind k ≡ true → kind_at ts n ≡ k
+    → holds (lacks_argument args) (tree_at ts n).children ≡ false → tree_holds (lacks_argument args) (tree_at ts n) ≡ false
+list-there args ts n k h l i e =
+    let t = tree_at ts n in
+    let list : is_list t.head ≡ true = ap is_list_kind (kind-of ts n k h i) ∙ l in
+    let head = list-head t.head list in
+    ap (λ (b : Bool). b || holds (lacks_argument args) t.children) (ap (lacks_argument args) head.1) ∙ e

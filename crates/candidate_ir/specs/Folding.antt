@@ -65,6 +65,9 @@ put args d _ = None
 abbrev pub substituted : Forest → ℕ → Forest → Forest
 substituted args d ts = fold (λ e t. put args e t.head) d ts
 
+abbrev pub substituted_tree : Forest → Tree → Tree
+substituted_tree args t = fold_tree (λ e u. put args e u.head) 0 t
+
 -- whether it is a parameter whose argument is of another kind
 abbrev pub is_misplaced : Forest → Head → Bool
 is_misplaced args (H.Param i) = not (is_type (argument args i).head)

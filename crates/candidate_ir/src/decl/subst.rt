@@ -1,18 +1,22 @@
 //! Arguments in the place of parameters.
 
-ghost use Rattle.std.specs.Prelude.{◌≡◌, ◌⊎◌, ℕ, Some, None, MatchOption, IfOk, IfErr, option_map, nat_le, nat_lt, true, false, if◌then◌else◌};
+ghost use Rattle.std.specs.Prelude.{◌≡◌, ◌⊎◌, ◌<◌, length, ℕ, Some, None, MatchOption, IfOk, IfErr, option_map, nat_le, nat_lt, true, false, if◌then◌else◌};
 ghost use Rattle.candidate_ir.specs.Context.{Grows};
-ghost use Rattle.candidate_ir.specs.Folding.{moved, further, shift_tree, argument, put_if_there};
+ghost use Rattle.candidate_ir.specs.Folding.{moved, further, shift_tree, argument, lacks_argument, put_if_there, substituted, substituted_tree};
+ghost use Rattle.candidate_ir.specs.Nodes.{kind_at, tree_at, is_bound_kind};
 ghost use Rattle.candidate_ir.specs.Folds.{IsArg, IsOfKind, arg_tree};
 ghost use Rattle.candidate_ir.specs.Kinds.{arg_kind};
-ghost use Rattle.candidate_ir.specs.Trees.{count};
-ghost use Rattle.candidate_ir.specs.Words.{IsArgs, args_forest};
+ghost use Rattle.candidate_ir.specs.Trees.{count, holds, is_list_kind, tree_holds};
+ghost use Rattle.candidate_ir.specs.Words.{IsTy, IsConst, IsArgs, IsClause, IsParamEnv, ty_tree, const_tree, args_forest, clause_tree, env_forest};
 
 use crate::decl::context::Cx;
 use crate::decl::fold::fold_number;
 use crate::decl::make::Make;
 use crate::ir::heads::{ConstHead, Head};
-use crate::ir::kinds::{Args, BoundVar, ConstKind, GenericArg, RegionKind, TyKind, VarKind};
+use crate::ir::kinds::{
+    Args, BoundVar, Clause, Const, ConstKind, GenericArg, ParamEnv, RegionKind, TraitRef, Ty,
+    TyKind, VarKind,
+};
 use crate::ir::stop::Stop;
 use std::alloc::Global;
 
@@ -112,11 +116,19 @@ fn argument_for(cx: &Cx, args: Args, arg: GenericArg) -> Option<GenericArg>
     match cx.head(arg.number()) {
         Head::Param(index) => {
             let value = nth_argument(cx, args, index)?;
-            if value.is_of(VarKind::Ty) { Some(value) } else { None }
+            if value.is_of(VarKind::Ty) {
+                Some(value)
+            } else {
+                None
+            }
         }
         Head::Const(ConstHead::Param(index)) => {
             let value = nth_argument(cx, args, index)?;
-            if value.is_of(VarKind::Const) { Some(value) } else { None }
+            if value.is_of(VarKind::Const) {
+                Some(value)
+            } else {
+                None
+            }
         }
         _ => None,
     }
@@ -140,4 +152,134 @@ fn put<M: Make>(
         Some(value) => Ok(Some(shifted(alloc, make, value, binders)?)),
         None => Ok(None),
     }
+}
+
+/// What a number stands for, with the list's argument of its number in the place of each parameter.
+fn substituted<M: Make>(alloc: Global, make: &mut M, number: u32, args: Args) -> Result<u32, Stop>
+    requires inside { number < length (M.context make.old).trees }
+    requires no_bound { is_bound_kind (kind_at (M.context make.old).trees number) ≡ false }
+    requires args { IsArgs (M.context make.old).trees args }
+    requires there { tree_holds (lacks_argument (args_forest (M.context make.old).trees args)) (tree_at (M.context make.old).trees number) ≡ false }
+    ensures grows { Grows (M.context make.old) (M.context make.new) }
+    ensures sort { IfOk result (λ n. kind_at (M.context make.new).trees n ≡ kind_at (M.context make.old).trees number) }
+    ensures tree { is_list_kind (kind_at (M.context make.old).trees number) ≡ false → IfOk result (λ n. tree_at (M.context make.new).trees n ≡ substituted_tree (args_forest (M.context make.old).trees args) (tree_at (M.context make.old).trees number)) }
+    ensures list { is_list_kind (kind_at (M.context make.old).trees number) ≡ true → IfOk result (λ n. (tree_at (M.context make.new).trees n).children ≡ substituted (args_forest (M.context make.old).trees args) 0 (tree_at (M.context make.old).trees number).children) }
+{
+    fold_number(
+        alloc,
+        make,
+        &mut move |make: &mut M, arg: GenericArg, binders: u32| -> Result<
+            Option<GenericArg>,
+            Stop,
+        > { put(alloc, make, args, arg, binders) },
+        number,
+        0,
+    )
+}
+
+/// The type, with the list's argument of its number in the place of each parameter, shifted by the
+/// binders that it stands under.
+///
+/// Each parameter of the type has an argument, of its kind. `Stop::Memory` comes where a growth was
+/// refused, `Stop::NodesFull` where no numbers are left, the tree would be higher than 1,024, or a
+/// bound variable would be bound more than 2^32 - 1 binders out. A tree is walked as a tree; after a
+/// stop the nodes that were made stay.
+pub fn subst<M: Make>(alloc: Global, make: &mut M, ty: Ty, args: Args) -> Result<Ty, Stop>
+    requires ty { IsTy (M.context make.old).trees ty }
+    requires args { IsArgs (M.context make.old).trees args }
+    requires there { tree_holds (lacks_argument (args_forest (M.context make.old).trees args)) (ty_tree (M.context make.old).trees ty) ≡ false }
+    ensures grows { Grows (M.context make.old) (M.context make.new) }
+    ensures sort { IfOk result (λ t. IsTy (M.context make.new).trees t) }
+    ensures tree { IfOk result (λ t. ty_tree (M.context make.new).trees t ≡ substituted_tree (args_forest (M.context make.old).trees args) (ty_tree (M.context make.old).trees ty)) }
+{
+    Ok(Ty(substituted(alloc, make, ty.0, args)?))
+}
+
+/// The constant, with arguments put in; what is said of `subst` holds here, too.
+pub fn subst_const<M: Make>(
+    alloc: Global,
+    make: &mut M,
+    constant: Const,
+    args: Args,
+) -> Result<Const, Stop>
+    requires constant { IsConst (M.context make.old).trees constant }
+    requires args { IsArgs (M.context make.old).trees args }
+    requires there { tree_holds (lacks_argument (args_forest (M.context make.old).trees args)) (const_tree (M.context make.old).trees constant) ≡ false }
+    ensures grows { Grows (M.context make.old) (M.context make.new) }
+    ensures sort { IfOk result (λ x. IsConst (M.context make.new).trees x) }
+    ensures tree { IfOk result (λ x. const_tree (M.context make.new).trees x ≡ substituted_tree (args_forest (M.context make.old).trees args) (const_tree (M.context make.old).trees constant)) }
+{
+    Ok(Const(substituted(alloc, make, constant.0, args)?))
+}
+
+/// The list, with arguments put in; what is said of `subst` holds here, too.
+pub fn subst_args<M: Make>(
+    alloc: Global,
+    make: &mut M,
+    list: Args,
+    args: Args,
+) -> Result<Args, Stop>
+    requires list { IsArgs (M.context make.old).trees list }
+    requires args { IsArgs (M.context make.old).trees args }
+    requires there { holds (lacks_argument (args_forest (M.context make.old).trees args)) (args_forest (M.context make.old).trees list) ≡ false }
+    ensures grows { Grows (M.context make.old) (M.context make.new) }
+    ensures sort { IfOk result (λ x. IsArgs (M.context make.new).trees x) }
+    ensures tree { IfOk result (λ x. args_forest (M.context make.new).trees x ≡ substituted (args_forest (M.context make.old).trees args) 0 (args_forest (M.context make.old).trees list)) }
+{
+    Ok(Args(substituted(alloc, make, list.0, args)?))
+}
+
+/// The clause, under its binder, with arguments put in; what is said of `subst` holds here, too.
+pub fn subst_clause<M: Make>(
+    alloc: Global,
+    make: &mut M,
+    clause: Clause,
+    args: Args,
+) -> Result<Clause, Stop>
+    requires clause { IsClause (M.context make.old).trees clause }
+    requires args { IsArgs (M.context make.old).trees args }
+    requires there { tree_holds (lacks_argument (args_forest (M.context make.old).trees args)) (clause_tree (M.context make.old).trees clause) ≡ false }
+    ensures grows { Grows (M.context make.old) (M.context make.new) }
+    ensures sort { IfOk result (λ x. IsClause (M.context make.new).trees x) }
+    ensures tree { IfOk result (λ x. clause_tree (M.context make.new).trees x ≡ substituted_tree (args_forest (M.context make.old).trees args) (clause_tree (M.context make.old).trees clause)) }
+{
+    Ok(Clause(substituted(alloc, make, clause.0, args)?))
+}
+
+/// The environment, with arguments put in; what is said of `subst` holds here, too.
+pub fn subst_env<M: Make>(
+    alloc: Global,
+    make: &mut M,
+    env: ParamEnv,
+    args: Args,
+) -> Result<ParamEnv, Stop>
+    requires env { IsParamEnv (M.context make.old).trees env }
+    requires args { IsArgs (M.context make.old).trees args }
+    requires there { holds (lacks_argument (args_forest (M.context make.old).trees args)) (env_forest (M.context make.old).trees env) ≡ false }
+    ensures grows { Grows (M.context make.old) (M.context make.new) }
+    ensures sort { IfOk result (λ x. IsParamEnv (M.context make.new).trees x) }
+    ensures tree { IfOk result (λ x. env_forest (M.context make.new).trees x ≡ substituted (args_forest (M.context make.old).trees args) 0 (env_forest (M.context make.old).trees env)) }
+{
+    Ok(ParamEnv(substituted(alloc, make, env.0, args)?))
+}
+
+/// The reference, with arguments put into its own; what is said of `subst` holds here, too.
+pub fn subst_trait_ref<M: Make>(
+    alloc: Global,
+    make: &mut M,
+    trait_ref: TraitRef,
+    args: Args,
+) -> Result<TraitRef, Stop>
+    requires list { IsArgs (M.context make.old).trees trait_ref.args }
+    requires args { IsArgs (M.context make.old).trees args }
+    requires there { holds (lacks_argument (args_forest (M.context make.old).trees args)) (args_forest (M.context make.old).trees trait_ref.args) ≡ false }
+    ensures grows { Grows (M.context make.old) (M.context make.new) }
+    ensures sort { IfOk result (λ r. IsArgs (M.context make.new).trees r.args) }
+    ensures same { IfOk result (λ r. r.def_id ≡ trait_ref.def_id) }
+    ensures tree { IfOk result (λ r. args_forest (M.context make.new).trees r.args ≡ substituted (args_forest (M.context make.old).trees args) 0 (args_forest (M.context make.old).trees trait_ref.args)) }
+{
+    Ok(TraitRef {
+        def_id: trait_ref.def_id,
+        args: subst_args(alloc, make, trait_ref.args, args)?,
+    })
 }

@@ -1,12 +1,9 @@
 use Rattle.std.proofs.Common.{◌≡◌, ℕ, refl, sym, ◌∙◌, ap}
-use Rattle.candidate_ir.specs.declared.ir.heads.Head.{Head}
 use Rattle.candidate_ir.specs.declared.ir.heads.Head.TheVariants as H
 use Rattle.candidate_ir.specs.declared.ir.heads.ConstHead.TheVariants as CH
-use Rattle.candidate_ir.specs.declared.ir.kinds.GenericArg.TheVariants as A
 use Rattle.candidate_ir.specs.Folding.{put_if_there}
 use Rattle.candidate_ir.specs.Folds.{arg_tree}
 use Rattle.candidate_ir.specs.Nodes.{tree_at}
-use Rattle.candidate_ir.specs.Trees.{kind_of}
 use Rattle.candidate_ir.specs.Words.{args_forest}
 use Rattle.candidate_ir.proofs.Asking.{arg-head, arg-below}
 use Rattle.candidate_ir.proofs.Substituting.{type-there, constant-there, type-other, constant-other, not-both}
@@ -20,9 +17,11 @@ returns-then-is_of c =
     let ts = c.args.cx.now.trees in
     let found = c.in_ok-value-in-Param.ensures in
     let head : (arg_tree ts c.args.arg).head ≡ H.Param c.in-Param.index = sym (c.in-Param.ensures ∙ ap (λ (n : ℕ). (tree_at ts n).head) c.number.ensures) in
-    let kind = sym (c.is_of.ensures.0 c.if-is_of.true) in
-    (found.0, kind ∙ arg-head c.args.cx.now c.args.cx.now c.args.arg c.number.result (H.Param c.in-Param.index) refl c.number.ensures c.requires.arg c.in-Param.ensures,
-      λ d. ap (put_if_there (args_forest ts c.args.args) d) head ∙ type-there (args_forest ts c.args.args) c.in-Param.index d ts c.in_ok-value-in-Param.value found.1 found.2 found.0 kind)
+    let kind = sym (c.is_of.ensures.0 c.if-is_of.true) in (
+      found.0,
+      kind ∙ arg-head c.args.cx.now c.args.cx.now c.args.arg c.number.result (H.Param c.in-Param.index) refl c.number.ensures c.requires.arg c.in-Param.ensures,
+      λ d. ap (put_if_there (args_forest ts c.args.args) d) head ∙ type-there (args_forest ts c.args.args) c.in-Param.index d ts c.in_ok-value-in-Param.value found.1 found.2 found.0 kind,
+    )
 
 pub returns-else-is_of : goal.returns-else-is_of
 returns-else-is_of c =
@@ -39,9 +38,11 @@ returns-then-is_of-2 c =
     let was : c.head.result ≡ H.Const (CH.Param c.in-Const-Param.index) = c.in-Const-Param.is ∙ ap H.Const c.in-Const-Param.field-0-is in
     let here : H.Const (CH.Param c.in-Const-Param.index) ≡ (tree_at ts c.number.result).head = sym was ∙ c.head.ensures in
     let head : (arg_tree ts c.args.arg).head ≡ H.Const (CH.Param c.in-Const-Param.index) = sym (here ∙ ap (λ (n : ℕ). (tree_at ts n).head) c.number.ensures) in
-    let kind = sym (c.is_of-in-Const-Param.ensures.0 c.if-is_of-2.true) in
-    (found.0, kind ∙ arg-head c.args.cx.now c.args.cx.now c.args.arg c.number.result (H.Const (CH.Param c.in-Const-Param.index)) refl c.number.ensures c.requires.arg here,
-      λ d. ap (put_if_there (args_forest ts c.args.args) d) head ∙ constant-there (args_forest ts c.args.args) c.in-Const-Param.index d ts c.in_ok-value-in-Const-Param.value found.1 found.2 found.0 kind)
+    let kind = sym (c.is_of-in-Const-Param.ensures.0 c.if-is_of-2.true) in (
+      found.0,
+      kind ∙ arg-head c.args.cx.now c.args.cx.now c.args.arg c.number.result (H.Const (CH.Param c.in-Const-Param.index)) refl c.number.ensures c.requires.arg here,
+      λ d. ap (put_if_there (args_forest ts c.args.args) d) head ∙ constant-there (args_forest ts c.args.args) c.in-Const-Param.index d ts c.in_ok-value-in-Const-Param.value found.1 found.2 found.0 kind,
+    )
 
 pub returns-else-is_of-2 : goal.returns-else-is_of-2
 returns-else-is_of-2 c =

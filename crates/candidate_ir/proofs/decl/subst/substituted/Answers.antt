@@ -1,0 +1,28 @@
+use Rattle.std.proofs.Common.{◌≡◌, refl, rules}
+use Rattle.candidate_ir.specs.Words.{args_forest}
+use Rattle.candidate_ir.proofs.Kept.{args-kept}
+use Rattle.candidate_ir.proofs.FoldLaws.{reached-keeps}
+use Rattle.candidate_ir.proofs.Substituting.{put-tree, put-list}
+use Rattle.candidate_ir.proofs.decl.subst.substituted.Goals as goal
+
+pub fold_number-requires-clause-callable : goal.fold_number-requires-clause-callable
+fold_number-requires-clause-callable g c = record {
+  at = λ s x d lent e l grown i n b.
+      let held = reached-keeps g.M.Make.context g.M.Make.rest _ (λ z. z.1 ≡ c.args.args) (λ s x d r e n p. let k = n.called in let q = n.lends in let v = n.leaves in search rules) _ s l refl in
+      let kept = (args-kept _ _ c.args.args grown c.requires.args).0 in
+      search rules;
+}
+
+pub returns-clause-tree : goal.returns-clause-tree
+returns-clause-tree g c =
+    put-tree g.M.Make.context g.M.Make.rest _ (args_forest (g.M.Make.context c.args.make.now).trees c.args.args) _ _ c.args.number (λ z. z.1 ≡ c.args.args) refl
+    (λ s x d r e n p. let k = n.called in let l = n.lends in let v = n.leaves in search rules)
+    (λ s x d r e n i grown p. let k = n.called in let l = n.lends in let v = n.leaves in let same = (args-kept _ _ c.args.args grown c.requires.args).1 in search rules)
+    c.requires.inside c.requires.there c.fold_number.result c.fold_number.ensures
+
+pub returns-clause-list : goal.returns-clause-list
+returns-clause-list g c =
+    put-list g.M.Make.context g.M.Make.rest _ (args_forest (g.M.Make.context c.args.make.now).trees c.args.args) _ _ c.args.number (λ z. z.1 ≡ c.args.args) refl
+    (λ s x d r e n p. let k = n.called in let l = n.lends in let v = n.leaves in search rules)
+    (λ s x d r e n i grown p. let k = n.called in let l = n.lends in let v = n.leaves in let same = (args-kept _ _ c.args.args grown c.requires.args).1 in search rules)
+    c.requires.inside c.requires.there c.fold_number.result c.fold_number.ensures
