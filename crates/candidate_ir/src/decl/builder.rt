@@ -5,8 +5,8 @@ ghost use Rattle.std.specs.List.{list_any};
 ghost use Rattle.candidate_ir.specs.Context.{declared, assoc_declaration, is_unknown, lacks_trait, has_wrong_arity};
 ghost use Rattle.candidate_ir.specs.Faults.{has_unknown_id, HasFault, IsFaultless, IsLowestFault};
 ghost use Rattle.candidate_ir.specs.References.{IsWellFormed};
-ghost use Rattle.candidate_ir.specs.Making.{Makes, a_type, a_constant, a_region, a_list, a_binder, some_bounds, a_signature, a_clause};
-ghost use Rattle.candidate_ir.specs.Words.{KindFits, ConstKindFits, ListFits, BoundsFit, SigFits, ClauseFits, AtMostOnePrincipal};
+ghost use Rattle.candidate_ir.specs.Making.{Makes, a_type, a_constant, a_region, a_list, a_binder, some_bounds, a_signature, a_clause, an_environment};
+ghost use Rattle.candidate_ir.specs.Words.{KindFits, ConstKindFits, ListFits, BoundsFit, SigFits, ClauseFits, ClauseListFits, AtMostOnePrincipal};
 ghost use Rattle.candidate_ir.specs.declared.decl.builder.DeclFault.TheVariants.{Memory};
 
 use crate::decl::arity::{any_names_unknown, nodes_fit};
@@ -16,8 +16,8 @@ use crate::decl::definition::{
 };
 use crate::ir::kinds::{
     AdtId, AliasId, Args, AssocId, Binder, Clause, ClauseKind, ClosureId, ClosureSig, Const,
-    ConstKind, ExistentialPredicate, FnId, ForeignId, GenericArg, Preds, Region, RegionKind, Sig,
-    TraitId, Ty, TyKind, VarKind, Vars,
+    ConstKind, ExistentialPredicate, FnId, ForeignId, GenericArg, ParamEnv, Preds, Region,
+    RegionKind, Sig, TraitId, Ty, TyKind, VarKind, Vars,
 };
 use crate::ir::nodes::Nodes;
 use crate::ir::stop::Stop;
@@ -426,6 +426,14 @@ impl DeclsBuilder {
         ensures { Makes (a_clause clause) self.old self.new result }
     {
         self.nodes.mk_clause(clause)
+    }
+
+    /// The environment of these clauses, as `mk_ty`.
+    pub fn mk_param_env(&mut self, clauses: &[Clause]) -> Result<ParamEnv, Stop>
+        requires { ClauseListFits self.old.trees clauses.now }
+        ensures { Makes (an_environment clauses.now) self.old self.new result }
+    {
+        self.nodes.mk_param_env(clauses)
     }
 
     fn has_unknown_id(&self) -> bool
