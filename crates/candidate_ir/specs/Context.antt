@@ -3,7 +3,6 @@ use Rattle.std.specs.Prelude.{◌≡◌, ℕ, Bool, true, false, not, ◌&&◌, 
 use Rattle.candidate_ir.specs.declared.ir.kinds.VarKind.{VarKind}
 use Rattle.candidate_ir.specs.declared.ir.kinds.VarKind.TheVariants as V
 use Rattle.candidate_ir.specs.declared.decl.definition.CrateId.{CrateId}
-use Rattle.candidate_ir.specs.declared.ir.kinds.TraitId.{TraitId}
 use Rattle.candidate_ir.specs.declared.decl.definition.AssocKind.{AssocKind}
 use Rattle.candidate_ir.specs.declared.decl.definition.AssocKind.TheVariants as A
 use Rattle.candidate_ir.specs.declared.decl.definition.DefinitionKind.{DefinitionKind}
@@ -12,6 +11,7 @@ use Rattle.candidate_ir.specs.Trees.{Kind, TypeKind, ConstantKind, RegionKind, T
 use Rattle.candidate_ir.specs.Nodes.{Extends}
 use Rattle.candidate_ir.specs.Worlds.{World, Definition, DefinitionSort, AdtSort, ForeignSort, TraitSort, AssociatedTypeSort, AssociatedConstantSort, AliasSort, OpaqueSort, FunctionSort, ClosureSort}
 use Rattle.candidate_ir.specs.Declaration.{Declaration}
+use Rattle.candidate_ir.specs.Contents.{Contents}
 
 -- What contracts see of a builder, of declarations and of a context.
 pub record Context : Type 0 where
@@ -20,6 +20,8 @@ pub record Context : Type 0 where
   pub local : CrateId
   -- the declarations by the numbers of their definitions
   pub declarations : List Declaration
+  -- what they hold, and the impls
+  pub contents : Contents
   -- the trees by their numbers
   pub trees : List Tree
   -- the texts of faults that were put off, as bytes
@@ -35,18 +37,18 @@ assoc_sort A.Type = AssociatedTypeSort
 assoc_sort A.Const = AssociatedConstantSort
 
 abbrev pub sort_of : DefinitionKind → DefinitionSort
-sort_of (D.Adt shape flags) = AdtSort
-sort_of (D.Trait flags) = TraitSort
+sort_of (D.Adt shape flags n) = AdtSort
+sort_of (D.Trait flags n) = TraitSort
 sort_of D.Foreign = ForeignSort
-sort_of (D.Assoc of kind sized) = assoc_sort kind
+sort_of (D.Assoc of kind sized n) = assoc_sort kind
 sort_of (D.Alias shape) = AliasSort
-sort_of D.Opaque = OpaqueSort
-sort_of (D.Function flags) = FunctionSort
-sort_of (D.Closure flags) = ClosureSort
+sort_of (D.Opaque hidden n) = OpaqueSort
+sort_of (D.Function flags sig) = FunctionSort
+sort_of (D.Closure constant) = ClosureSort
 
 abbrev pub fundamental_of : DefinitionKind → Bool
-fundamental_of (D.Adt shape flags) = flags.fundamental
-fundamental_of (D.Trait flags) = flags.fundamental
+fundamental_of (D.Adt shape flags n) = flags.fundamental
+fundamental_of (D.Trait flags n) = flags.fundamental
 fundamental_of _ = false
 
 abbrev pub definition_of : Declaration → Definition
@@ -76,15 +78,6 @@ abbrev pub parameters_of : Option Declaration → List VarKind
 parameters_of None = []
 parameters_of (Some d) = d.parameters
 
--- An associated item has the crate and the parameters of its trait; where the number is not declared yet, a
--- crate that no builder gives and no parameters, so that the declarations have a fault for good.
-abbrev pub assoc_declaration : Context → TraitId → AssocKind → Bool → Declaration
-assoc_declaration c of kind sized = record {
-  crate = crate_of (slice_get c.declarations of.0);
-  parameters = parameters_of (slice_get c.declarations of.0);
-  kind = D.Assoc of kind sized;
-}
-
 -- The declarations stay, and every number has its tree still.
 pub record Grows (old new : Context) : Type 0 where
   pub same : new ≡ record old { trees = new.trees }
@@ -104,12 +97,12 @@ is_unknown crates c = not (nat_lt c.0 crates)
 
 -- The marker type has a type parameter first, and an auto trait has none besides `Self`.
 abbrev pub has_wrong_arity : DefinitionKind → List VarKind → Bool
-has_wrong_arity (D.Adt shape flags) ks = flags.phantom_data && not (begins_with_type ks)
-has_wrong_arity (D.Trait flags) ks = flags.auto && not (is_empty ks)
+has_wrong_arity (D.Adt shape flags n) ks = flags.phantom_data && not (begins_with_type ks)
+has_wrong_arity (D.Trait flags n) ks = flags.auto && not (is_empty ks)
 has_wrong_arity _ ks = false
 
 abbrev pub is_trait : DefinitionKind → Bool
-is_trait (D.Trait flags) = true
+is_trait (D.Trait flags n) = true
 is_trait _ = false
 
 abbrev pub is_declared_trait : Option Declaration → Bool
@@ -118,5 +111,5 @@ is_declared_trait (Some d) = is_trait d.kind
 
 -- whether it is an associated item of what is none of the declared traits
 abbrev pub lacks_trait : List Declaration → DefinitionKind → Bool
-lacks_trait ds (D.Assoc of kind sized) = not (is_declared_trait (slice_get ds of.0))
+lacks_trait ds (D.Assoc of kind sized n) = not (is_declared_trait (slice_get ds of.0))
 lacks_trait ds _ = false

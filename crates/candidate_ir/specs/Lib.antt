@@ -9,7 +9,9 @@ pub mod Table
 pub mod Words
 pub mod Worlds
 pub mod Declaration
+pub mod Contents
 pub mod Context
+pub mod Declaring
 pub mod References
 pub mod Making
 pub mod Names

@@ -2,6 +2,7 @@
 
 pub mod arity;
 pub mod builder;
+pub mod contents;
 pub mod context;
 pub mod definition;
 pub mod fold;
@@ -9,5 +10,6 @@ pub mod make;
 pub mod subst;
 
 pub use builder::{DeclFault, Decls, DeclsBuilder};
+pub use contents::{AliasBoundKind, Destructor, ImplId, ImplPolarity, LangItem, Sizedness};
 pub use context::Cx;
 pub use definition::{AdtFlags, AdtShape, AliasShape, AssocKind, CrateId, FnFlags, TraitFlags};

@@ -1,8 +1,9 @@
 //! The builder of declarations.
 
-ghost use Rattle.std.specs.Prelude.{◌≡◌, ◌↔◌, ◌+◌, ◌<◌, IsTrue, false, [], length, IfOk, IfErr, MatchResult};
+ghost use Rattle.std.specs.Prelude.{◌≡◌, ◌↔◌, ◌+◌, ◌<◌, ◌++◌, ◌∷◌, IsTrue, true, false, [], length, slice_set, IfOk, IfErr, MatchResult, Some};
 ghost use Rattle.std.specs.List.{list_any};
-ghost use Rattle.candidate_ir.specs.Context.{declared, assoc_declaration, is_unknown, lacks_trait, has_wrong_arity};
+ghost use Rattle.candidate_ir.specs.Context.{declared, is_unknown, lacks_trait, has_wrong_arity};
+ghost use Rattle.candidate_ir.specs.Declaring.{nothing, declared_adt, declared_trait, declared_opaque, declared_assoc, declared_impl, with_adt, with_trait, with_bounds, with_impl, with_constraint, with_bound, item_number};
 ghost use Rattle.candidate_ir.specs.Faults.{has_unknown_id, HasFault, IsFaultless, IsLowestFault};
 ghost use Rattle.candidate_ir.specs.References.{IsWellFormed};
 ghost use Rattle.candidate_ir.specs.Making.{Makes, a_type, a_constant, a_region, a_list, a_binder, some_bounds, a_signature, a_clause, an_environment};
@@ -10,14 +11,18 @@ ghost use Rattle.candidate_ir.specs.Words.{KindFits, ConstKindFits, ListFits, Bo
 ghost use Rattle.candidate_ir.specs.declared.decl.builder.DeclFault.TheVariants.{Memory};
 
 use crate::decl::arity::{any_names_unknown, nodes_fit};
+use crate::decl::contents::{
+    AdtContents, AliasBoundKind, Bounds, Contents, Destructor, Impl, ImplId, ImplPolarity,
+    LangItem, Sizedness, TraitContents, adt_place, bounds_place, trait_place,
+};
 use crate::decl::definition::{
     AdtFlags, AdtShape, AliasShape, AssocKind, CrateId, Declaration, DefinitionKind, FnFlags,
     Parameters, TraitFlags,
 };
 use crate::ir::kinds::{
     AdtId, AliasId, Args, AssocId, Binder, Clause, ClauseKind, ClosureId, ClosureSig, Const,
-    ConstKind, ExistentialPredicate, FnId, ForeignId, GenericArg, ParamEnv, Preds, Region,
-    RegionKind, Sig, TraitId, Ty, TyKind, VarKind, Vars,
+    ConstKind, ExistentialPredicate, FnId, FnSig, ForeignId, GenericArg, ParamEnv, Preds, Region,
+    RegionKind, Sig, TraitId, TraitRef, Ty, TyKind, VarKind, Vars,
 };
 use crate::ir::nodes::Nodes;
 use crate::ir::stop::Stop;
@@ -90,6 +95,7 @@ pub struct DeclsBuilder {
     crates: u32,
     local: CrateId,
     definitions: Vec<Declaration>,
+    contents: Contents,
     nodes: Nodes,
 }
 
@@ -99,12 +105,13 @@ impl Model for DeclsBuilder {
     ghost use Rattle.candidate_ir.specs.contracts.ir.heads.Head as head;
     ghost use Rattle.candidate_ir.specs.TreeCode.{tree_code};
     ghost use Rattle.candidate_ir.specs.Context as seen;
+    ghost use Rattle.candidate_ir.specs.Declaring.{contents_of};
 
     ghost Value = { seen.Context };
 
     ghost coded = { Prim.hlevel (codes, tree_code head.the_row.coded) };
 
-    ghost view = { λ b. record { crates = b.crates; local = b.local; declarations = b.definitions.items; trees = b.nodes; delayed_bugs = [] } };
+    ghost view = { λ b. record { crates = b.crates; local = b.local; declarations = b.definitions.items; contents = contents_of b.contents; trees = b.nodes; delayed_bugs = [] } };
 }
 
 /// Declarations without a fault.
@@ -113,6 +120,7 @@ pub struct Decls {
     pub(crate) crates: u32,
     pub(crate) local: CrateId,
     pub(crate) definitions: Vec<Declaration>,
+    pub(crate) contents: Contents,
     pub(crate) nodes: Nodes,
 }
 
@@ -122,6 +130,7 @@ impl Model for Decls {
     ghost use Rattle.candidate_ir.specs.contracts.ir.heads.Head as head;
     ghost use Rattle.candidate_ir.specs.TreeCode.{tree_code};
     ghost use Rattle.candidate_ir.specs.Context as seen;
+    ghost use Rattle.candidate_ir.specs.Declaring.{contents_of};
     ghost use Rattle.candidate_ir.specs.Context.{world_of};
     ghost use Rattle.candidate_ir.specs.References.{AllFit};
 
@@ -129,7 +138,7 @@ impl Model for Decls {
 
     ghost coded = { Prim.hlevel (codes, tree_code head.the_row.coded) };
 
-    ghost view = { λ b. record { crates = b.crates; local = b.local; declarations = b.definitions.items; trees = b.nodes; delayed_bugs = [] } };
+    ghost view = { λ b. record { crates = b.crates; local = b.local; declarations = b.definitions.items; contents = contents_of b.contents; trees = b.nodes; delayed_bugs = [] } };
 
     ghost invariant = { λ b. AllFit (world_of b.definitions.items) b.nodes };
 }
@@ -137,12 +146,13 @@ impl Model for Decls {
 impl DeclsBuilder {
     /// A builder without declarations. Crate 0 is the local one until another is set.
     pub fn new(alloc: Global) -> Self
-        ensures { result ≡ record { crates = 0; local = record { 0 = 0 }; declarations = []; trees = []; delayed_bugs = [] } }
+        ensures { result ≡ record { crates = 0; local = record { 0 = 0 }; declarations = []; contents = nothing; trees = []; delayed_bugs = [] } }
     {
         DeclsBuilder {
             crates: 0,
             local: CrateId(0),
             definitions: Vec::new(alloc),
+            contents: Contents::new(alloc),
             nodes: Nodes::new(alloc),
         }
     }
@@ -170,20 +180,6 @@ impl DeclsBuilder {
         self.local = local;
     }
 
-    fn add(&mut self, declaration: Declaration) -> Result<u32, DeclFault>
-        ensures number { IfOk result (λ n. n ≡ length self.old.declarations) }
-        ensures added { IfOk result (λ _. self.new ≡ declared self.old declaration) }
-        ensures unchanged { IfErr result (λ _. self.new ≡ self.old) }
-        ensures cause { IfErr result (λ e. e ≡ DeclFault.Memory) }
-    {
-        let number = self.definitions.len();
-        if number > u32::MAX as usize {
-            return Err(DeclFault::Memory);
-        }
-        self.definitions.push(declaration)?;
-        Ok(number as u32)
-    }
-
     /// Declares an algebraic data type of the crate, with parameters of these kinds.
     ///
     /// The number is the next one of all definitions. A crate that was never added is a fault of
@@ -197,16 +193,17 @@ impl DeclsBuilder {
         flags: AdtFlags,
     ) -> Result<AdtId, DeclFault>
         ensures id { IfOk result (λ i. i.0 ≡ length self.old.declarations) }
-        ensures added { IfOk result (λ _. self.new ≡ declared self.old (record { crate = krate; parameters = parameters.now; kind = DefinitionKind.Adt shape flags })) }
+        ensures added { IfOk result (λ _. self.new ≡ declared_adt krate parameters.now shape flags self.old) }
         ensures unchanged { IfErr result (λ _. self.new ≡ self.old) }
         ensures cause { IfErr result (λ e. e ≡ DeclFault.Memory) }
     {
-        let parameters = Parameters::of(*self.definitions.allocator(), parameters)?;
-        Ok(AdtId(self.add(Declaration {
-            krate,
-            parameters,
-            kind: DefinitionKind::Adt(shape, flags),
-        })?))
+        let alloc = *self.definitions.allocator();
+        let place = numbered(self.contents.adts.len())?;
+        self.contents.adts.reserve(1)?;
+        let kind = DefinitionKind::Adt(shape, flags, place);
+        let number = add(&mut self.definitions, krate, parameters, kind)?;
+        self.contents.adts.push(AdtContents::new(alloc))?;
+        Ok(AdtId(number))
     }
 
     /// Declares a trait of the crate, with parameters of these kinds after `Self`.
@@ -219,16 +216,17 @@ impl DeclsBuilder {
         flags: TraitFlags,
     ) -> Result<TraitId, DeclFault>
         ensures id { IfOk result (λ i. i.0 ≡ length self.old.declarations) }
-        ensures added { IfOk result (λ _. self.new ≡ declared self.old (record { crate = krate; parameters = parameters.now; kind = DefinitionKind.Trait flags })) }
+        ensures added { IfOk result (λ _. self.new ≡ declared_trait krate parameters.now flags self.old) }
         ensures unchanged { IfErr result (λ _. self.new ≡ self.old) }
         ensures cause { IfErr result (λ e. e ≡ DeclFault.Memory) }
     {
-        let parameters = Parameters::of(*self.definitions.allocator(), parameters)?;
-        Ok(TraitId(self.add(Declaration {
-            krate,
-            parameters,
-            kind: DefinitionKind::Trait(flags),
-        })?))
+        let alloc = *self.definitions.allocator();
+        let place = numbered(self.contents.traits.len())?;
+        self.contents.traits.reserve(1)?;
+        let kind = DefinitionKind::Trait(flags, place);
+        let number = add(&mut self.definitions, krate, parameters, kind)?;
+        self.contents.traits.push(TraitContents::new(alloc))?;
+        Ok(TraitId(number))
     }
 
     /// Declares a foreign type of the crate, which has no parameters.
@@ -240,12 +238,7 @@ impl DeclsBuilder {
         ensures unchanged { IfErr result (λ _. self.new ≡ self.old) }
         ensures cause { IfErr result (λ e. e ≡ DeclFault.Memory) }
     {
-        let parameters = Parameters::none();
-        Ok(ForeignId(self.add(Declaration {
-            krate,
-            parameters,
-            kind: DefinitionKind::Foreign,
-        })?))
+        Ok(ForeignId(add(&mut self.definitions, krate, &[], DefinitionKind::Foreign)?))
     }
 
     /// Declares an associated item of the trait, whose crate and parameters it has.
@@ -259,20 +252,30 @@ impl DeclsBuilder {
         requires_sized_self: bool,
     ) -> Result<AssocId, DeclFault>
         ensures id { IfOk result (λ i. i.0 ≡ length self.old.declarations) }
-        ensures added { IfOk result (λ _. self.new ≡ declared self.old (assoc_declaration self.old of kind requires_sized_self)) }
+        ensures added { IfOk result (λ _. self.new ≡ declared_assoc of kind requires_sized_self self.old) }
         ensures unchanged { IfErr result (λ _. self.new ≡ self.old) }
         ensures cause { IfErr result (λ e. e ≡ DeclFault.Memory) }
     {
         let alloc = *self.definitions.allocator();
+        let number = numbered(self.definitions.len())?;
+        let place = numbered(self.contents.bounds.len())?;
+        let trait_place = trait_place(self.definitions.as_slice(), of);
+        self.definitions.reserve(1)?;
+        self.contents.bounds.reserve(1)?;
         let (krate, parameters) = match self.definitions.get(of.0 as usize) {
             Some(declaration) => (declaration.krate, declaration.parameters.copied(alloc)?),
             None => (NO_CRATE, Parameters::none()),
         };
-        Ok(AssocId(self.add(Declaration {
+        if let Some(of) = self.contents.traits.get_mut(trait_place) {
+            of.items.push(AssocId(number))?;
+        }
+        self.contents.bounds.push(Bounds::new(alloc))?;
+        self.definitions.push(Declaration {
             krate,
             parameters,
-            kind: DefinitionKind::Assoc(of, kind, requires_sized_self),
-        })?))
+            kind: DefinitionKind::Assoc(of, kind, requires_sized_self, place),
+        })?;
+        Ok(AssocId(number))
     }
 
     /// Declares an alias of a type of the crate, inherent or free, with parameters of these kinds; of an
@@ -290,36 +293,34 @@ impl DeclsBuilder {
         ensures unchanged { IfErr result (λ _. self.new ≡ self.old) }
         ensures cause { IfErr result (λ e. e ≡ DeclFault.Memory) }
     {
-        let parameters = Parameters::of(*self.definitions.allocator(), parameters)?;
-        Ok(AliasId(self.add(Declaration {
-            krate,
-            parameters,
-            kind: DefinitionKind::Alias(shape),
-        })?))
+        let kind = DefinitionKind::Alias(shape);
+        Ok(AliasId(add(&mut self.definitions, krate, parameters, kind)?))
     }
 
-    /// Declares an opaque type of the crate, with parameters of these kinds.
+    /// Declares an opaque type of the crate, with parameters of these kinds, and the type that it hides.
     ///
     /// Its number and its error are those of `add_adt`.
     pub fn add_opaque(
         &mut self,
         krate: CrateId,
         parameters: &[VarKind],
+        hidden: Ty,
     ) -> Result<AliasId, DeclFault>
         ensures id { IfOk result (λ i. i.0 ≡ length self.old.declarations) }
-        ensures added { IfOk result (λ _. self.new ≡ declared self.old (record { crate = krate; parameters = parameters.now; kind = DefinitionKind.Opaque })) }
+        ensures added { IfOk result (λ _. self.new ≡ declared_opaque krate parameters.now hidden self.old) }
         ensures unchanged { IfErr result (λ _. self.new ≡ self.old) }
         ensures cause { IfErr result (λ e. e ≡ DeclFault.Memory) }
     {
-        let parameters = Parameters::of(*self.definitions.allocator(), parameters)?;
-        Ok(AliasId(self.add(Declaration {
-            krate,
-            parameters,
-            kind: DefinitionKind::Opaque,
-        })?))
+        let alloc = *self.definitions.allocator();
+        let place = numbered(self.contents.bounds.len())?;
+        self.contents.bounds.reserve(1)?;
+        let kind = DefinitionKind::Opaque(hidden, place);
+        let number = add(&mut self.definitions, krate, parameters, kind)?;
+        self.contents.bounds.push(Bounds::new(alloc))?;
+        Ok(AliasId(number))
     }
 
-    /// Declares a function of the crate, with parameters of these kinds.
+    /// Declares a function of the crate, with parameters of these kinds and this signature.
     ///
     /// Its number and its error are those of `add_adt`.
     pub fn add_fn(
@@ -327,40 +328,241 @@ impl DeclsBuilder {
         krate: CrateId,
         parameters: &[VarKind],
         flags: FnFlags,
+        sig: Binder<FnSig>,
     ) -> Result<FnId, DeclFault>
         ensures id { IfOk result (λ i. i.0 ≡ length self.old.declarations) }
-        ensures added { IfOk result (λ _. self.new ≡ declared self.old (record { crate = krate; parameters = parameters.now; kind = DefinitionKind.Function flags })) }
+        ensures added { IfOk result (λ _. self.new ≡ declared self.old (record { crate = krate; parameters = parameters.now; kind = DefinitionKind.Function flags sig })) }
         ensures unchanged { IfErr result (λ _. self.new ≡ self.old) }
         ensures cause { IfErr result (λ e. e ≡ DeclFault.Memory) }
     {
-        let parameters = Parameters::of(*self.definitions.allocator(), parameters)?;
-        Ok(FnId(self.add(Declaration {
-            krate,
-            parameters,
-            kind: DefinitionKind::Function(flags),
-        })?))
+        let kind = DefinitionKind::Function(flags, sig);
+        Ok(FnId(add(&mut self.definitions, krate, parameters, kind)?))
     }
 
-    /// Declares a closure of the crate, with parameters of these kinds: those of what it stands in.
+    /// Declares a closure of the crate, with parameters of these kinds, those of what it stands in, and
+    /// whether it can be called where a constant is computed.
     ///
     /// Its number and its error are those of `add_adt`.
     pub fn add_closure(
         &mut self,
         krate: CrateId,
         parameters: &[VarKind],
-        flags: FnFlags,
+        is_const: bool,
     ) -> Result<ClosureId, DeclFault>
         ensures id { IfOk result (λ i. i.0 ≡ length self.old.declarations) }
-        ensures added { IfOk result (λ _. self.new ≡ declared self.old (record { crate = krate; parameters = parameters.now; kind = DefinitionKind.Closure flags })) }
+        ensures added { IfOk result (λ _. self.new ≡ declared self.old (record { crate = krate; parameters = parameters.now; kind = DefinitionKind.Closure is_const })) }
         ensures unchanged { IfErr result (λ _. self.new ≡ self.old) }
         ensures cause { IfErr result (λ e. e ≡ DeclFault.Memory) }
     {
-        let parameters = Parameters::of(*self.definitions.allocator(), parameters)?;
-        Ok(ClosureId(self.add(Declaration {
-            krate,
-            parameters,
-            kind: DefinitionKind::Closure(flags),
-        })?))
+        let kind = DefinitionKind::Closure(is_const);
+        Ok(ClosureId(add(&mut self.definitions, krate, parameters, kind)?))
+    }
+
+    /// Declares an impl of the crate, with parameters of these kinds. It isn't `default` until it is made so.
+    ///
+    /// Its number is the next one of all impls. Its error is that of `add_adt`.
+    pub fn add_impl(
+        &mut self,
+        krate: CrateId,
+        parameters: &[VarKind],
+        trait_ref: TraitRef,
+        polarity: ImplPolarity,
+    ) -> Result<ImplId, DeclFault>
+        ensures id { IfOk result (λ i. i.0 ≡ length self.old.contents.impls) }
+        ensures added { IfOk result (λ _. self.new ≡ declared_impl krate parameters.now trait_ref polarity self.old) }
+        ensures unchanged { IfErr result (λ _. self.new ≡ self.old) }
+        ensures cause { IfErr result (λ e. e ≡ DeclFault.Memory) }
+    {
+        let alloc = *self.definitions.allocator();
+        let number = numbered(self.contents.impls.len())?;
+        let trait_place = trait_place(self.definitions.as_slice(), trait_ref.def_id);
+        self.contents.impls.reserve(1)?;
+        let parameters = Parameters::of(alloc, parameters)?;
+        if let Some(of) = self.contents.traits.get_mut(trait_place) {
+            of.impls.push(ImplId(number))?;
+        }
+        self.contents
+            .impls
+            .push(Impl::new(alloc, krate, parameters, trait_ref, polarity))?;
+        Ok(ImplId(number))
+    }
+
+    /// Gives an algebraic data type one more field, the last.
+    ///
+    /// The only error is `DeclFault::Memory`, where a growth is refused; the builder is then as before. The number of what is
+    /// no such type is `UnknownId` at `finish`.
+    pub fn push_field(&mut self, adt: AdtId, ty: Ty) -> Result<(), DeclFault>
+        ensures added { IfOk result (λ _. self.new ≡ with_adt adt.0 (λ a. record a { fields = a.fields ++ ty ∷ [] }) self.old) }
+        ensures unchanged { IfErr result (λ _. self.new ≡ self.old) }
+        ensures cause { IfErr result (λ e. e ≡ DeclFault.Memory) }
+    {
+        let place = adt_place(self.definitions.as_slice(), adt);
+        match self.contents.adts.get_mut(place) {
+            Some(contents) => contents.fields.push(ty)?,
+            None => self.contents.misnamed = true,
+        }
+        Ok(())
+    }
+
+    /// Says which type has to be sized, in this sense, for an algebraic data type to be; the last one said counts.
+    ///
+    /// The number of what is no such type is `UnknownId` at `finish`.
+    pub fn set_constraint(&mut self, adt: AdtId, sizedness: Sizedness, ty: Ty)
+        ensures { self.new ≡ with_adt adt.0 (with_constraint sizedness ty) self.old }
+    {
+        let place = adt_place(self.definitions.as_slice(), adt);
+        match self.contents.adts.get_mut(place) {
+            Some(contents) => match sizedness {
+                Sizedness::Sized => contents.sized = Some(ty),
+                Sizedness::MetaSized => contents.meta_sized = Some(ty),
+            },
+            None => self.contents.misnamed = true,
+        }
+    }
+
+    /// Gives an algebraic data type a destructor; the last one given counts.
+    ///
+    /// The number of what is no such type is `UnknownId` at `finish`.
+    pub fn set_destructor(&mut self, adt: AdtId, destructor: Destructor)
+        ensures { self.new ≡ with_adt adt.0 (λ a. record a { destructor = Some destructor }) self.old }
+    {
+        let place = adt_place(self.definitions.as_slice(), adt);
+        match self.contents.adts.get_mut(place) {
+            Some(contents) => contents.destructor = Some(destructor),
+            None => self.contents.misnamed = true,
+        }
+    }
+
+    /// Says that the parameter of that number changes where an algebraic data type is unsized.
+    ///
+    /// Its errors are those of `push_field`.
+    pub fn push_unsizing(&mut self, adt: AdtId, parameter: u32) -> Result<(), DeclFault>
+        ensures added { IfOk result (λ _. self.new ≡ with_adt adt.0 (λ a. record a { unsizing = a.unsizing ++ parameter ∷ [] }) self.old) }
+        ensures unchanged { IfErr result (λ _. self.new ≡ self.old) }
+        ensures cause { IfErr result (λ e. e ≡ DeclFault.Memory) }
+    {
+        let place = adt_place(self.definitions.as_slice(), adt);
+        match self.contents.adts.get_mut(place) {
+            Some(contents) => contents.unsizing.push(parameter)?,
+            None => self.contents.misnamed = true,
+        }
+        Ok(())
+    }
+
+    /// Gives a trait one more super clause: what holds where the trait does.
+    ///
+    /// The only error is `DeclFault::Memory`, where a growth is refused; the builder is then as before. The number of what is
+    /// no trait is `UnknownId` at `finish`.
+    pub fn push_super(&mut self, of: TraitId, clause: Clause) -> Result<(), DeclFault>
+        ensures added { IfOk result (λ _. self.new ≡ with_trait of.0 (λ t. record t { supers = t.supers ++ clause ∷ [] }) self.old) }
+        ensures unchanged { IfErr result (λ _. self.new ≡ self.old) }
+        ensures cause { IfErr result (λ e. e ≡ DeclFault.Memory) }
+    {
+        let place = trait_place(self.definitions.as_slice(), of);
+        match self.contents.traits.get_mut(place) {
+            Some(contents) => contents.supers.push(clause)?,
+            None => self.contents.misnamed = true,
+        }
+        Ok(())
+    }
+
+    /// Gives a trait one more where clause. Its errors are those of `push_super`.
+    pub fn push_where(&mut self, of: TraitId, clause: Clause) -> Result<(), DeclFault>
+        ensures added { IfOk result (λ _. self.new ≡ with_trait of.0 (λ t. record t { wheres = t.wheres ++ clause ∷ [] }) self.old) }
+        ensures unchanged { IfErr result (λ _. self.new ≡ self.old) }
+        ensures cause { IfErr result (λ e. e ≡ DeclFault.Memory) }
+    {
+        let place = trait_place(self.definitions.as_slice(), of);
+        match self.contents.traits.get_mut(place) {
+            Some(contents) => contents.wheres.push(clause)?,
+            None => self.contents.misnamed = true,
+        }
+        Ok(())
+    }
+
+    /// Gives an associated type or an opaque type one more bound.
+    ///
+    /// The only error is `DeclFault::Memory`, where a growth is refused; the builder is then as before. The number of what is
+    /// neither is `UnknownId` at `finish`.
+    pub fn push_bound(
+        &mut self,
+        alias: AliasId,
+        kind: AliasBoundKind,
+        clause: Clause,
+    ) -> Result<(), DeclFault>
+        ensures added { IfOk result (λ _. self.new ≡ with_bounds alias.0 (with_bound kind clause) self.old) }
+        ensures unchanged { IfErr result (λ _. self.new ≡ self.old) }
+        ensures cause { IfErr result (λ e. e ≡ DeclFault.Memory) }
+    {
+        let place = bounds_place(self.definitions.as_slice(), alias);
+        match self.contents.bounds.get_mut(place) {
+            Some(bounds) => match kind {
+                AliasBoundKind::SelfBounds => bounds.self_bounds.push(clause)?,
+                AliasBoundKind::NonSelfBounds => bounds.non_self_bounds.push(clause)?,
+            },
+            None => self.contents.misnamed = true,
+        }
+        Ok(())
+    }
+
+    /// Gives an impl one more where clause.
+    ///
+    /// The only error is `DeclFault::Memory`, where a growth is refused; the builder is then as before. The number of what is
+    /// no impl is `UnknownId` at `finish`.
+    pub fn push_impl_where(&mut self, of: ImplId, clause: Clause) -> Result<(), DeclFault>
+        ensures added { IfOk result (λ _. self.new ≡ with_impl of (λ i. record i { wheres = i.wheres ++ clause ∷ [] }) self.old) }
+        ensures unchanged { IfErr result (λ _. self.new ≡ self.old) }
+        ensures cause { IfErr result (λ e. e ≡ DeclFault.Memory) }
+    {
+        match self.contents.impls.get_mut(of.0 as usize) {
+            Some(of) => of.wheres.push(clause)?,
+            None => self.contents.misnamed = true,
+        }
+        Ok(())
+    }
+
+    /// Gives an impl one more clause that its trait's super clauses about regions ask for. Its errors are those of
+    /// `push_impl_where`.
+    pub fn push_super_outlives(&mut self, of: ImplId, clause: Clause) -> Result<(), DeclFault>
+        ensures added { IfOk result (λ _. self.new ≡ with_impl of (λ i. record i { super_outlives = i.super_outlives ++ clause ∷ [] }) self.old) }
+        ensures unchanged { IfErr result (λ _. self.new ≡ self.old) }
+        ensures cause { IfErr result (λ e. e ≡ DeclFault.Memory) }
+    {
+        match self.contents.impls.get_mut(of.0 as usize) {
+            Some(of) => of.super_outlives.push(clause)?,
+            None => self.contents.misnamed = true,
+        }
+        Ok(())
+    }
+
+    /// Makes an impl `default`. The number of what is no impl is `UnknownId` at `finish`.
+    pub fn set_default(&mut self, of: ImplId)
+        ensures { self.new ≡ with_impl of (λ i. record i { is_default = true }) self.old }
+    {
+        match self.contents.impls.get_mut(of.0 as usize) {
+            Some(of) => of.is_default = true,
+            None => self.contents.misnamed = true,
+        }
+    }
+
+    /// Says that one impl specialises another, which may be declared later. Its errors are those of `push_impl_where`.
+    pub fn specializes(&mut self, of: ImplId, other: ImplId) -> Result<(), DeclFault>
+        ensures added { IfOk result (λ _. self.new ≡ with_impl of (λ i. record i { specializes = i.specializes ++ other ∷ [] }) self.old) }
+        ensures unchanged { IfErr result (λ _. self.new ≡ self.old) }
+        ensures cause { IfErr result (λ e. e ≡ DeclFault.Memory) }
+    {
+        match self.contents.impls.get_mut(of.0 as usize) {
+            Some(of) => of.specializes.push(other)?,
+            None => self.contents.misnamed = true,
+        }
+        Ok(())
+    }
+
+    /// Makes a trait a lang item; of two traits the last one counts.
+    pub fn lang_item(&mut self, item: LangItem, of: TraitId)
+        ensures { self.new ≡ record self.old { contents = record self.old.contents { lang_items = slice_set self.old.contents.lang_items (item_number item) (Some of) } } }
+    {
+        self.contents.lang_items[item.number()] = Some(of);
     }
 
     /// The type of that kind. Its arguments may be of any number and kinds until `finish`; it stops as
@@ -472,15 +674,51 @@ impl DeclsBuilder {
             crates,
             local,
             definitions,
+            contents,
             nodes,
         } = self;
         Ok(Decls {
             crates,
             local,
             definitions,
+            contents,
             nodes,
         })
     }
+}
+
+/// The number of what comes after so many.
+fn numbered(count: usize) -> Result<u32, DeclFault>
+    ensures is { IfOk result (λ n. n ≡ count) }
+    ensures cause { IfErr result (λ e. e ≡ DeclFault.Memory) }
+{
+    if count > u32::MAX as usize {
+        return Err(DeclFault::Memory);
+    }
+    Ok(count as u32)
+}
+
+/// Adds a definition, with the next number.
+fn add(
+    definitions: &mut Vec<Declaration>,
+    krate: CrateId,
+    parameters: &[VarKind],
+    kind: DefinitionKind,
+) -> Result<u32, DeclFault>
+    ensures number { IfOk result (λ n. n ≡ length definitions.old.items) }
+    ensures added { IfOk result (λ _. definitions.new.items ≡ definitions.old.items ++ record { crate = krate; parameters = parameters.now; kind = kind } ∷ []) }
+    ensures unchanged { IfErr result (λ _. definitions.new.items ≡ definitions.old.items) }
+    ensures cause { IfErr result (λ e. e ≡ DeclFault.Memory) }
+{
+    let number = numbered(definitions.len())?;
+    definitions.reserve(1)?;
+    let parameters = Parameters::of(*definitions.allocator(), parameters)?;
+    definitions.push(Declaration {
+        krate,
+        parameters,
+        kind,
+    })?;
+    Ok(number)
 }
 
 /// Whether some definition is of none of the first so many crates.

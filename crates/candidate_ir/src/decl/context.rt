@@ -19,6 +19,7 @@ ghost use Rattle.candidate_ir.specs.Binders.{escapes, tree_escapes};
 
 use crate::decl::arity::{bounds_fit, clause_fits, const_fits, takes_after_self, ty_fits};
 use crate::decl::builder::Decls;
+use crate::decl::contents::Contents;
 use crate::decl::definition::{CrateId, Declaration, DefinitionSort};
 use crate::ir::flags::{TypeFlags, bit_if};
 use crate::ir::heads::{Flag, Head};
@@ -41,6 +42,7 @@ pub struct Cx {
     crates: u32,
     local: CrateId,
     definitions: Vec<Declaration>,
+    contents: Contents,
     nodes: Nodes,
     delayed_bugs: Vec<String>,
 }
@@ -51,6 +53,7 @@ impl Model for Cx {
     ghost use Rattle.candidate_ir.specs.contracts.ir.heads.Head as head;
     ghost use Rattle.candidate_ir.specs.TreeCode.{tree_code};
     ghost use Rattle.candidate_ir.specs.Context as seen;
+    ghost use Rattle.candidate_ir.specs.Declaring.{contents_of};
     ghost use Rattle.candidate_ir.specs.Context.{world_of};
     ghost use Rattle.candidate_ir.specs.References.{AllFit};
 
@@ -58,7 +61,7 @@ impl Model for Cx {
 
     ghost coded = { Prim.hlevel (codes, tree_code head.the_row.coded) };
 
-    ghost view = { λ b. record { crates = b.crates; local = b.local; declarations = b.definitions.items; trees = b.nodes; delayed_bugs = map string_bytes b.delayed_bugs.items } };
+    ghost view = { λ b. record { crates = b.crates; local = b.local; declarations = b.definitions.items; contents = contents_of b.contents; trees = b.nodes; delayed_bugs = map string_bytes b.delayed_bugs.items } };
 
     ghost invariant = { λ b. AllFit (world_of b.definitions.items) b.nodes };
 }
@@ -72,6 +75,7 @@ impl Cx {
             crates,
             local,
             definitions,
+            contents,
             nodes,
         } = decls;
         let delayed_bugs = Vec::new(*definitions.allocator());
@@ -79,6 +83,7 @@ impl Cx {
             crates,
             local,
             definitions,
+            contents,
             nodes,
             delayed_bugs,
         }

@@ -6,7 +6,7 @@ ghost use Rattle.candidate_ir.specs.Context.{begins_with_type as begins, paramet
 ghost use Rattle.candidate_ir.specs.Kinds.{arg_kind};
 ghost use Rattle.candidate_ir.specs.Parameters.{is_type_kind, is_type_arg};
 
-use crate::ir::kinds::{GenericArg, TraitId, VarKind};
+use crate::ir::kinds::{AdtId, AliasId, AssocId, Binder, FnSig, GenericArg, TraitId, Ty, VarKind};
 use std::alloc::{AllocError, Global};
 use std::marker::Model;
 
@@ -80,7 +80,7 @@ pub enum AliasShape {
     Free,
 }
 
-/// The flags of a function or of a closure; by default none is set.
+/// The flags of a function; by default none is set.
 #[derive(Clone, Copy, Default)]
 pub struct FnFlags {
     /// It can be called where a constant is computed.
@@ -89,20 +89,22 @@ pub struct FnFlags {
     pub target_features: bool,
 }
 
-/// A definition besides its crate and its parameters.
+/// A definition besides its crate and its parameters. The numbers say where the rest of it stands among the contents
+/// of its sort.
 #[derive(Clone, Copy)]
 pub enum DefinitionKind {
-    Adt(AdtShape, AdtFlags),
-    Trait(TraitFlags),
+    Adt(AdtShape, AdtFlags, u32),
+    Trait(TraitFlags, u32),
     /// A type that is known by its name alone.
     Foreign,
     /// An item of the trait, and whether it requires that `Self` is sized.
-    Assoc(TraitId, AssocKind, bool),
+    Assoc(TraitId, AssocKind, bool, u32),
     Alias(AliasShape),
-    /// A type that is known by its bounds.
-    Opaque,
-    Function(FnFlags),
-    Closure(FnFlags),
+    /// A type that is known by its bounds, and the type that it hides.
+    Opaque(Ty, u32),
+    Function(FnFlags, Binder<FnSig>),
+    /// Whether it can be called where a constant is computed.
+    Closure(bool),
 }
 
 /// What the number of a definition stands for.
@@ -148,8 +150,8 @@ impl DefinitionKind {
         ensures { result ≡ fundamental_of self }
     {
         match self {
-            DefinitionKind::Adt(_, flags) => flags.fundamental,
-            DefinitionKind::Trait(flags) => flags.fundamental,
+            DefinitionKind::Adt(_, flags, _) => flags.fundamental,
+            DefinitionKind::Trait(flags, _) => flags.fundamental,
             _ => false,
         }
     }
@@ -158,14 +160,14 @@ impl DefinitionKind {
         ensures { result ≡ sort_of self }
     {
         match self {
-            DefinitionKind::Adt(_, _) => DefinitionSort::Adt,
-            DefinitionKind::Trait(_) => DefinitionSort::Trait,
+            DefinitionKind::Adt(_, _, _) => DefinitionSort::Adt,
+            DefinitionKind::Trait(_, _) => DefinitionSort::Trait,
             DefinitionKind::Foreign => DefinitionSort::Foreign,
-            DefinitionKind::Assoc(_, AssocKind::Type, _) => DefinitionSort::AssociatedType,
-            DefinitionKind::Assoc(_, AssocKind::Const, _) => DefinitionSort::AssociatedConst,
+            DefinitionKind::Assoc(_, AssocKind::Type, _, _) => DefinitionSort::AssociatedType,
+            DefinitionKind::Assoc(_, AssocKind::Const, _, _) => DefinitionSort::AssociatedConst,
             DefinitionKind::Alias(_) => DefinitionSort::Alias,
-            DefinitionKind::Opaque => DefinitionSort::Opaque,
-            DefinitionKind::Function(_) => DefinitionSort::Function,
+            DefinitionKind::Opaque(_, _) => DefinitionSort::Opaque,
+            DefinitionKind::Function(_, _) => DefinitionSort::Function,
             DefinitionKind::Closure(_) => DefinitionSort::Closure,
         }
     }
@@ -317,7 +319,7 @@ impl Declaration {
     pub(crate) fn is_trait(&self) -> bool
         ensures { result ≡ is_trait self.now.kind }
     {
-        matches!(self.kind, DefinitionKind::Trait(_))
+        matches!(self.kind, DefinitionKind::Trait(_, _))
     }
 
     /// Whether it is an associated item of what is none of the traits among the definitions.
@@ -325,7 +327,7 @@ impl Declaration {
         ensures { result ≡ lacks_trait definitions.now self.now.kind }
     {
         match self.kind {
-            DefinitionKind::Assoc(of, _, _) => match definitions.get(of.0 as usize) {
+            DefinitionKind::Assoc(of, _, _, _) => match definitions.get(of.0 as usize) {
                 Some(declaration) => !declaration.is_trait(),
                 None => true,
             },
@@ -345,10 +347,10 @@ impl Declaration {
         ensures { result ≡ has_wrong_arity self.now.kind self.now.parameters }
     {
         match self.kind {
-            DefinitionKind::Adt(_, flags) => {
+            DefinitionKind::Adt(_, flags, _) => {
                 flags.phantom_data && !self.parameters.begins_with_type()
             }
-            DefinitionKind::Trait(flags) => flags.auto && !self.parameters.is_empty(),
+            DefinitionKind::Trait(flags, _) => flags.auto && !self.parameters.is_empty(),
             _ => false,
         }
     }
