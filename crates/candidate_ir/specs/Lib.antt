@@ -12,6 +12,7 @@ pub mod Declaration
 pub mod Contents
 pub mod Context
 pub mod Declaring
+pub mod Held
 pub mod References
 pub mod Making
 pub mod Names

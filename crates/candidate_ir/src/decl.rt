@@ -6,6 +6,7 @@ pub mod contents;
 pub mod context;
 pub mod definition;
 pub mod fold;
+pub mod held;
 pub mod make;
 pub mod subst;
 
