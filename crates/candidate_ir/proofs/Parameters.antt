@@ -1,6 +1,6 @@
 -- Lists of types alone.
 use Rattle.std.proofs.Common.{◌≡◌, ◌↔◌, IsTrue, ℕ, zero, suc, ◌+◌, ◌<◌, ◌≤◌, ◌⊎◌, inl, inr, Bool, true, false, List, [], ◌∷◌, length, slice_index_or, refl, sym, ◌∙◌, ap, arith}
-use Rattle.std.specs.Prelude.{replicate, not, ◌==◌, map}
+use Rattle.std.specs.Prelude.{replicate, not, ◌==◌, map, Some, None, slice_get}
 use Rattle.std.proofs.Math.Dec.{eqb-suc-zero}
 use Rattle.std.proofs.Math.Nat.{eq-or-lt_of_le}
 use Rattle.std.specs.List.{list_all}
@@ -28,6 +28,17 @@ types_empty (suc n) = sym (eqb-suc-zero n)
 pub types_begin : (n : ℕ) → begins_with_type (replicate n V.Ty) ≡ not (n == 0)
 types_begin zero = refl
 types_begin (suc n) = sym (ap not (eqb-suc-zero n))
+
+-- the kind of one of so many types
+pub kind_there : (n i : ℕ) → i < n → Some V.Ty ≡ slice_get (replicate n V.Ty) i
+kind_there zero i h = absurd (omega (arith, h))
+kind_there (suc n) zero h = refl
+kind_there (suc n) (suc i) h = kind_there n i (omega (arith, h))
+
+pub kind_missing : (n i : ℕ) → n ≤ i → None ≡ slice_get (replicate n V.Ty) i
+kind_missing zero i h = refl
+kind_missing (suc n) zero h = absurd (omega (arith, h))
+kind_missing (suc n) (suc i) h = kind_missing n i (omega (arith, h))
 
 one-kind : (k : VarKind) (x : GenericArg) (ks : List VarKind) (xs : List GenericArg) → parameter_kind k ≡ arg_kind x
     → map parameter_kind ks ≡ map arg_kind xs → map parameter_kind (k ∷ ks) ≡ map arg_kind (x ∷ xs)

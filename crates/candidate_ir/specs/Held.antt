@@ -1,5 +1,5 @@
 -- The types, clauses, lists and binders that declarations hold, one after the other.
-use Rattle.std.specs.Prelude.{ℕ, suc, ◌+◌, List, [], ◌∷◌, ◌++◌, map, Option, Some, None, slice_get}
+use Rattle.std.specs.Prelude.{ℕ, Bool, true, false, suc, ◌+◌, List, [], ◌∷◌, ◌++◌, map, Option, Some, None, slice_get}
 use Rattle.candidate_ir.specs.declared.ir.kinds.Ty.{Ty}
 use Rattle.candidate_ir.specs.declared.ir.kinds.Clause.{Clause}
 use Rattle.candidate_ir.specs.declared.ir.kinds.FnSig.{FnSig}
@@ -15,10 +15,10 @@ use Rattle.candidate_ir.specs.Declaration.{Declaration}
 use Rattle.candidate_ir.specs.Contents.{AdtContents, TraitContents, Bounds, Impl, Contents}
 
 abbrev pub held_type : Owner → Ty → Held
-held_type o t = record { owner = o; sort = S.Ty; number = t.0; binders = 0 }
+held_type o t = record { owner = o; sort = S.Ty; number = t.0; under_binder = false }
 
 abbrev pub held_clause : Owner → Clause → Held
-held_clause o c = record { owner = o; sort = S.Clause; number = c.0; binders = 0 }
+held_clause o c = record { owner = o; sort = S.Clause; number = c.0; under_binder = false }
 
 abbrev pub held_types : Owner → List Ty → List Held
 held_types o ts = map (held_type o) ts
@@ -33,9 +33,9 @@ option_held o (Some t) = held_type o t ∷ []
 -- the inputs and the output stand under the signature's binder
 abbrev pub held_sig : Owner → Binder FnSig → List Held
 held_sig o s =
-    record { owner = o; sort = S.Vars; number = s.vars.0; binders = 0 }
-    ∷ record { owner = o; sort = S.Args; number = s.value.inputs.0; binders = 1 }
-    ∷ record { owner = o; sort = S.Ty; number = s.value.output.0; binders = 1 }
+    record { owner = o; sort = S.Vars; number = s.vars.0; under_binder = false }
+    ∷ record { owner = o; sort = S.Args; number = s.value.inputs.0; under_binder = true }
+    ∷ record { owner = o; sort = S.Ty; number = s.value.output.0; under_binder = true }
     ∷ []
 
 abbrev pub adt_held : Owner → AdtContents → List Held
@@ -66,7 +66,7 @@ definition_held c i _ = []
 -- its header's arguments and its clauses
 abbrev pub impl_held : ℕ → Impl → List Held
 impl_held i x =
-    record { owner = O.Impl i; sort = S.Args; number = x.trait_ref.args.0; binders = 0 }
+    record { owner = O.Impl i; sort = S.Args; number = x.trait_ref.args.0; under_binder = false }
     ∷ (held_clauses (O.Impl i) x.wheres ++ held_clauses (O.Impl i) x.super_outlives)
 
 -- of the definitions from that number on, and of the impls

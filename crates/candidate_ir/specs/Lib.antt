@@ -13,6 +13,7 @@ pub mod Contents
 pub mod Context
 pub mod Declaring
 pub mod Held
+pub mod Misplaced
 pub mod References
 pub mod Making
 pub mod Names

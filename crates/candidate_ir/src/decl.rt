@@ -8,6 +8,7 @@ pub mod definition;
 pub mod fold;
 pub mod held;
 pub mod make;
+pub mod misplaced;
 pub mod subst;
 
 pub use builder::{DeclFault, Decls, DeclsBuilder};

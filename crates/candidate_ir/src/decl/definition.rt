@@ -183,7 +183,7 @@ pub(crate) enum Parameters {
 }
 
 impl Parameters {
-    ghost use Rattle.std.specs.Prelude.{◌≡◌, ◌↔◌, IsTrue, [], IfOk, map};
+    ghost use Rattle.std.specs.Prelude.{◌≡◌, ◌↔◌, IsTrue, [], IfOk, map, slice_get};
     ghost use Rattle.candidate_ir.specs.Parameters.{kinds_of};
     ghost use Rattle.candidate_ir.specs.Kinds.{arg_kind};
     ghost use Rattle.candidate_ir.specs.Context.{begins_with_type, is_empty, parameter_kind};
@@ -212,6 +212,23 @@ impl Parameters {
         match self {
             Parameters::Types(count) => Ok(Parameters::Types(*count)),
             Parameters::Kinds(kinds) => Ok(Parameters::Kinds(kinds.to_vec(alloc)?)),
+        }
+    }
+
+    /// The kind of the parameter of that number, if there is one.
+    #[tactic(auto, using(crate::proofs::Parameters::kind_there, crate::proofs::Parameters::kind_missing))]
+    pub(crate) fn kind(&self, number: usize) -> Option<VarKind>
+        ensures { result ≡ slice_get (kinds_of self.now) number }
+    {
+        match self {
+            Parameters::Types(count) => {
+                if number < *count {
+                    Some(VarKind::Ty)
+                } else {
+                    None
+                }
+            }
+            Parameters::Kinds(kinds) => kinds.get(number).copied(),
         }
     }
 
@@ -300,6 +317,7 @@ impl Model for Declaration {
 impl Declaration {
     ghost use Rattle.std.specs.Prelude.{◌≡◌};
     ghost use Rattle.candidate_ir.specs.Context.{fundamental_of, has_wrong_arity, is_trait, lacks_trait, definition_of};
+    ghost use Rattle.candidate_ir.specs.Misplaced.{has_self};
     ghost use Rattle.candidate_ir.specs.Worlds.{parameters_of};
     ghost use Rattle.candidate_ir.specs.Kinds.{arg_kind};
     ghost use Rattle.std.specs.Prelude.{◌↔◌, IsTrue, Some, map};
@@ -314,6 +332,16 @@ impl Declaration {
         ensures { result ≡ fundamental_of self.now.kind }
     {
         self.kind.is_fundamental()
+    }
+
+    /// Whether its parameters are counted from `Self` on.
+    pub(crate) fn has_self(&self) -> bool
+        ensures { result ≡ has_self self.now.kind }
+    {
+        matches!(
+            self.kind,
+            DefinitionKind::Trait(_, _) | DefinitionKind::Assoc(_, _, _, _)
+        )
     }
 
     pub(crate) fn is_trait(&self) -> bool

@@ -25,13 +25,13 @@ pub(crate) enum HeldSort {
     Vars,
 }
 
-/// A number that a declaration holds, of a node of that sort, and how many binders of the declaration it stands under.
+/// A number that a declaration holds, of a node of that sort, and whether it stands under a binder of the declaration.
 #[derive(Clone, Copy)]
 pub(crate) struct Held {
     pub(crate) owner: Owner,
     pub(crate) sort: HeldSort,
     pub(crate) number: u32,
-    pub(crate) binders: u32,
+    pub(crate) under_binder: bool,
 }
 
 fn add_type(held: &mut Vec<Held>, owner: Owner, ty: Ty) -> Result<(), AllocError>
@@ -41,7 +41,7 @@ fn add_type(held: &mut Vec<Held>, owner: Owner, ty: Ty) -> Result<(), AllocError
         owner,
         sort: HeldSort::Ty,
         number: ty.0,
-        binders: 0,
+        under_binder: false,
     })?;
     Ok(())
 }
@@ -72,7 +72,7 @@ fn add_clauses(held: &mut Vec<Held>, owner: Owner, clauses: &[Clause]) -> Result
             owner,
             sort: HeldSort::Clause,
             number: clause.0,
-            binders: 0,
+            under_binder: false,
         })?;
     }
     Ok(())
@@ -85,19 +85,19 @@ fn add_sig(held: &mut Vec<Held>, owner: Owner, sig: Binder<FnSig>) -> Result<(),
         owner,
         sort: HeldSort::Vars,
         number: sig.vars.0,
-        binders: 0,
+        under_binder: false,
     })?;
     held.push(Held {
         owner,
         sort: HeldSort::Args,
         number: sig.value.inputs.0,
-        binders: 1,
+        under_binder: true,
     })?;
     held.push(Held {
         owner,
         sort: HeldSort::Ty,
         number: sig.value.output.0,
-        binders: 1,
+        under_binder: true,
     })?;
     Ok(())
 }
@@ -181,7 +181,7 @@ fn add_impl(held: &mut Vec<Held>, number: usize, of: &Impl) -> Result<(), AllocE
         owner,
         sort: HeldSort::Args,
         number: of.trait_ref.args.0,
-        binders: 0,
+        under_binder: false,
     })?;
     add_clauses(held, owner, of.wheres.as_slice())?;
     add_clauses(held, owner, of.super_outlives.as_slice())

@@ -382,6 +382,20 @@ pub enum RegionKind {
     Var(u32),
 }
 
+impl VarKind {
+    ghost use Rattle.candidate_ir.specs.Misplaced.{is_same_kind};
+
+    pub(crate) fn is_same(self, other: VarKind) -> bool
+        ensures { result ≡ is_same_kind self other }
+    {
+        match self {
+            VarKind::Ty => matches!(other, VarKind::Ty),
+            VarKind::Const => matches!(other, VarKind::Const),
+            VarKind::Region => matches!(other, VarKind::Region),
+        }
+    }
+}
+
 impl GenericArg {
     pub(crate) fn number(self) -> u32
         ensures { result ≡ arg_number self }

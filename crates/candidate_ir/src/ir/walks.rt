@@ -142,7 +142,7 @@ impl Nodes {
 
     /// Whether a bound variable stands in the tree that neither one of the binders in it binds nor one of the binders
     /// passed, which are so many.
-    fn number_escapes(&self, number: u32, passed: u32) -> bool
+    pub(crate) fn number_escapes(&self, number: u32, passed: u32) -> bool
         requires inside { number < length self.now }
         requires room { passed + number < 4294967296 }
         ensures { result ≡ tree_escapes passed (tree_at self.now number) }
