@@ -1,19 +1,85 @@
 -- The lowest fault of declarations.
-use Rattle.std.proofs.Common.{◌≡◌, ◌<◌, false, arith}
+use Rattle.std.proofs.Common.{◌≡◌, ◌<◌, ◌⊎◌, inl, inr, true, false, IsTrue, sym, ◌∙◌, arith}
 use Rattle.candidate_ir.specs.declared.decl.builder.DeclFault.{DeclFault}
 use Rattle.candidate_ir.specs.declared.decl.builder.DeclFault.TheVariants as F
 use Rattle.candidate_ir.specs.Context.{Context}
-use Rattle.candidate_ir.specs.Faults.{has_unknown_id, HasFault, IsLowestFault, fault_number}
+use Rattle.candidate_ir.specs.Faults.{has_unknown_id, has_wrong_parameters, has_wrong_kind, AllArgumentsFit, lacks_tail, HasFault, IsLowestFault, IsFaultless, fault_number}
+use Rattle.std.specs.List.{list_any}
 
--- wrong arity, where no number is unknown
-pub arity-lowest : (c : Context) → has_unknown_id c ≡ false → HasFault c F.WrongArity → IsLowestFault c F.WrongArity
-arity-lowest c u h = record { there = h; lowest = lower }
+no-unknown : (c : Context) → has_unknown_id c ≡ false → HasFault c F.UnknownId → ⊥
+no-unknown c u f = cc
+
+no-arity : (c : Context) → has_wrong_parameters c ≡ false → AllArgumentsFit c → HasFault c F.WrongArity → ⊥
+no-arity c p a (inl t) = cc
+no-arity c p a (inr n) = n a
+
+no-kind : (c : Context) → has_wrong_kind c ≡ false → HasFault c F.WrongKind → ⊥
+no-kind c k f = cc
+
+no-tail : (c : Context) → list_any (λ d. lacks_tail c.contents d.kind) c.declarations ≡ false → HasFault c F.NoTail → ⊥
+no-tail c k f = cc
+
+-- an unknown number comes before all else
+pub unknown_lowest : (c : Context) → has_unknown_id c ≡ true → IsLowestFault c F.UnknownId
+unknown_lowest c u = record { there = u; lowest = lower }
   where
-    lower : (g : DeclFault) → fault_number g < 2 → HasFault c g → ⊥
-    lower F.UnknownId b f = cc
+    lower : (g : DeclFault) → fault_number g < 1 → HasFault c g → ⊥
+    lower F.UnknownId b f = omega (arith, b)
     lower F.WrongArity b f = omega (arith, b)
-    lower F.WrongKind b f = f
+    lower F.WrongKind b f = omega (arith, b)
     lower F.SupertraitCycle b f = f
-    lower F.NoTail b f = f
+    lower F.NoTail b f = omega (arith, b)
     lower F.LangArity b f = f
     lower F.Memory b f = f
+
+-- wrong arity, where no number is unknown
+pub arity_lowest : (c : Context) → has_unknown_id c ≡ false → HasFault c F.WrongArity → IsLowestFault c F.WrongArity
+arity_lowest c u h = record { there = h; lowest = lower }
+  where
+    lower : (g : DeclFault) → fault_number g < 2 → HasFault c g → ⊥
+    lower F.UnknownId b f = no-unknown c u f
+    lower F.WrongArity b f = omega (arith, b)
+    lower F.WrongKind b f = omega (arith, b)
+    lower F.SupertraitCycle b f = f
+    lower F.NoTail b f = omega (arith, b)
+    lower F.LangArity b f = f
+    lower F.Memory b f = f
+
+-- something of another kind, where all arguments fit
+pub kind_lowest : (c : Context) → has_unknown_id c ≡ false → has_wrong_parameters c ≡ false → AllArgumentsFit c → has_wrong_kind c ≡ true
+    → IsLowestFault c F.WrongKind
+kind_lowest c u p a k = record { there = k; lowest = lower }
+  where
+    lower : (g : DeclFault) → fault_number g < 3 → HasFault c g → ⊥
+    lower F.UnknownId b f = no-unknown c u f
+    lower F.WrongArity b f = no-arity c p a f
+    lower F.WrongKind b f = omega (arith, b)
+    lower F.SupertraitCycle b f = f
+    lower F.NoTail b f = omega (arith, b)
+    lower F.LangArity b f = f
+    lower F.Memory b f = f
+
+-- no tail, where all is of its kind
+pub tail_lowest : (c : Context) → has_unknown_id c ≡ false → has_wrong_parameters c ≡ false → AllArgumentsFit c → has_wrong_kind c ≡ false
+    → list_any (λ d. lacks_tail c.contents d.kind) c.declarations ≡ true → IsLowestFault c F.NoTail
+tail_lowest c u p a k t = record { there = t; lowest = lower }
+  where
+    lower : (g : DeclFault) → fault_number g < 5 → HasFault c g → ⊥
+    lower F.UnknownId b f = no-unknown c u f
+    lower F.WrongArity b f = no-arity c p a f
+    lower F.WrongKind b f = no-kind c k f
+    lower F.SupertraitCycle b f = f
+    lower F.NoTail b f = omega (arith, b)
+    lower F.LangArity b f = f
+    lower F.Memory b f = f
+
+-- and nothing is wrong
+pub faultless : (c : Context) → has_unknown_id c ≡ false → has_wrong_parameters c ≡ false → AllArgumentsFit c → has_wrong_kind c ≡ false
+    → list_any (λ d. lacks_tail c.contents d.kind) c.declarations ≡ false → IsFaultless c
+faultless c u p a k t F.UnknownId f = no-unknown c u f
+faultless c u p a k t F.WrongArity f = no-arity c p a f
+faultless c u p a k t F.WrongKind f = no-kind c k f
+faultless c u p a k t F.SupertraitCycle f = f
+faultless c u p a k t F.NoTail f = no-tail c t f
+faultless c u p a k t F.LangArity f = f
+faultless c u p a k t F.Memory f = f

@@ -13,6 +13,7 @@ pub mod Made
 pub mod Rows
 pub mod Members
 pub mod Growing
+pub mod Headers
 pub mod Holding
 pub mod Misplacing
 pub mod References

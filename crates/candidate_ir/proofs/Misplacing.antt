@@ -1,5 +1,5 @@
 -- What may not stand in a declaration.
-use Rattle.std.proofs.Common.{◌≡◌, ℕ, zero, suc, ◌+◌, ◌<◌, ◌≤◌, List, [], ◌∷◌, length, get_or, drop, add-one, Bool, true, false, refl, sym, ◌∙◌, ap, arith}
+use Rattle.std.proofs.Common.{◌≡◌, ℕ, zero, suc, ◌+◌, ◌<◌, ◌≤◌, List, [], ◌∷◌, length, get_or, drop, add-one, Bool, true, false, IsTrue, ◌↔◌, refl, sym, ◌∙◌, ap, subst, arith}
 use Rattle.std.specs.Prelude.{not, ◌||◌}
 use Rattle.std.specs.List.{list_any}
 use Rattle.candidate_ir.proofs.Folding.{or-left, or-right}
@@ -13,12 +13,14 @@ use Rattle.candidate_ir.specs.declared.decl.misplaced.Misplaced.{Misplaced}
 use Rattle.candidate_ir.specs.declared.decl.held.HeldSort.{HeldSort}
 use Rattle.candidate_ir.specs.declared.decl.held.HeldSort.TheVariants as S
 use Rattle.candidate_ir.specs.declared.decl.held.Held.{Held}
-use Rattle.candidate_ir.specs.Trees.{Kind, TypeKind, ArgumentsKind, ClauseKind, BinderKind, Tree, kind_of}
+use Rattle.candidate_ir.specs.Trees.{Kind, TypeKind, ConstantKind, RegionKind, PredicateKind, ClauseKind, SignatureKind, BinderKind, VariableKind, ArgumentsKind, PredicatesKind, ClausesKind, NoKind, Tree, kind_of}
 use Rattle.candidate_ir.specs.Kinds.{ty_head, const_head}
 use Rattle.candidate_ir.specs.Nodes.{kind_at, head_of}
+use Rattle.candidate_ir.specs.declared.ir.kinds.Args.{Args}
+use Rattle.candidate_ir.specs.Words.{IsArgs}
 use Rattle.candidate_ir.specs.Table.{IsNodeOf}
 use Rattle.candidate_ir.specs.Misplaced.{is_misplaced, is_held_kind, is_held_node, is_not_given}
-use Rattle.candidate_ir.proofs.Lists.{there, kind_at-present}
+use Rattle.candidate_ir.proofs.Lists.{there, kind_at-present, below_kind}
 use Rattle.candidate_ir.proofs.Sorts.{node_kind, ty_is_type, const_is_constant}
 
 -- a list is never misplaced
@@ -75,6 +77,29 @@ held-node S.Vars (N.Var _) = refl
 pub given_node : (ts : List Tree) (h : Held) (d : Node) (b : Bool) → h.number < length ts → IsNodeOf ts h.number d → b ≡ is_held_node h.sort d → not b ≡ is_not_given ts h
 given_node ts h d b l is e =
     ap not (e ∙ sym (ap (is_held_kind h.sort) (node_kind ts h.number d l is) ∙ held-node h.sort d))
+
+list-kind : (k : Kind) → IsTrue (is_held_kind S.Args k) ↔ (k ≡ ArgumentsKind)
+list-kind ArgumentsKind = (λ e. refl, λ e. refl)
+list-kind TypeKind = (λ e. cc, λ e. cc)
+list-kind ConstantKind = (λ e. cc, λ e. cc)
+list-kind RegionKind = (λ e. cc, λ e. cc)
+list-kind PredicateKind = (λ e. cc, λ e. cc)
+list-kind ClauseKind = (λ e. cc, λ e. cc)
+list-kind SignatureKind = (λ e. cc, λ e. cc)
+list-kind BinderKind = (λ e. cc, λ e. cc)
+list-kind VariableKind = (λ e. cc, λ e. cc)
+list-kind PredicatesKind = (λ e. cc, λ e. cc)
+list-kind ClausesKind = (λ e. cc, λ e. cc)
+list-kind NoKind = (λ e. cc, λ e. cc)
+
+-- a node is a list of arguments exactly if its kind is that of one
+pub list_node : (ts : List Tree) (a : Args) (d : Node) (b : Bool) → a.0 < length ts → IsNodeOf ts a.0 d → b ≡ is_held_node S.Args d → IsTrue b ↔ IsArgs ts a
+list_node ts a d b l is e =
+    let same : b ≡ is_held_kind S.Args (kind_at ts a.0) = e ∙ sym (ap (is_held_kind S.Args) (node_kind ts a.0 d l is) ∙ held-node S.Args d) in
+    subst (λ (x : Bool). IsTrue x ↔ IsArgs ts a) (sym same) (list-kind (kind_at ts a.0))
+
+pub past_lists : (ts : List Tree) (a : Args) → length ts ≤ a.0 → IsTrue false ↔ IsArgs ts a
+past_lists ts a l = (λ e. cc, λ e. let h = below_kind ts a.0 ArgumentsKind refl e in absurd (omega (arith, h, l)))
 
 -- what is held has a node
 there-held : (s : HeldSort) (k : Kind) → is_held_kind s k ≡ true → there k ≡ true

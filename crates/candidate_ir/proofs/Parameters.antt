@@ -29,6 +29,10 @@ pub types_begin : (n : ℕ) → begins_with_type (replicate n V.Ty) ≡ not (n =
 types_begin zero = refl
 types_begin (suc n) = sym (ap not (eqb-suc-zero n))
 
+pub types_count : (n : ℕ) → n ≡ length (replicate n V.Ty)
+types_count zero = refl
+types_count (suc n) = ap suc (types_count n)
+
 -- the kind of one of so many types
 pub kind_there : (n i : ℕ) → i < n → Some V.Ty ≡ slice_get (replicate n V.Ty) i
 kind_there zero i h = absurd (omega (arith, h))

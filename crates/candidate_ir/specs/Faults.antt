@@ -1,28 +1,126 @@
 -- What is wrong with declarations.
-use Rattle.std.specs.Prelude.{ℕ, ◌<◌, Bool, ◌||◌, IsTrue, length, ◌⊎◌}
+use Rattle.std.specs.Prelude.{◌≡◌, ℕ, ◌<◌, Bool, true, false, not, ◌||◌, ◌&&◌, IsTrue, length, ◌⊎◌, List, [], ◌∷◌, Option, Some, None, slice_get, nat_le}
 use Rattle.std.specs.List.{list_any}
+use Rattle.candidate_ir.specs.declared.ir.kinds.VarKind.{VarKind}
+use Rattle.candidate_ir.specs.declared.ir.kinds.VarKind.TheVariants as V
+use Rattle.candidate_ir.specs.declared.ir.kinds.TraitId.{TraitId}
 use Rattle.candidate_ir.specs.declared.decl.builder.DeclFault.{DeclFault}
 use Rattle.candidate_ir.specs.declared.decl.builder.DeclFault.TheVariants as F
-use Rattle.candidate_ir.specs.Context.{Context, is_unknown, lacks_trait, has_wrong_arity}
+use Rattle.candidate_ir.specs.declared.decl.definition.AdtShape.{AdtShape}
+use Rattle.candidate_ir.specs.declared.decl.definition.AdtShape.TheVariants as Shape
+use Rattle.candidate_ir.specs.declared.decl.definition.DefinitionKind.{DefinitionKind}
+use Rattle.candidate_ir.specs.declared.decl.definition.DefinitionKind.TheVariants as D
+use Rattle.candidate_ir.specs.declared.decl.contents.ImplId.{ImplId}
+use Rattle.candidate_ir.specs.declared.decl.held.Held.{Held}
+use Rattle.candidate_ir.specs.declared.decl.misplaced.Misplaced.TheVariants as M
+use Rattle.candidate_ir.specs.Declaration.{Declaration}
+use Rattle.candidate_ir.specs.Contents.{AdtContents, Impl, Contents}
+use Rattle.candidate_ir.specs.Context.{Context, world, is_unknown, is_declared_trait, lacks_trait, has_wrong_arity}
+use Rattle.candidate_ir.specs.Held.{all_held}
+use Rattle.candidate_ir.specs.Misplaced.{is_not_given, held_misplaces, held_escapes}
 use Rattle.candidate_ir.specs.Names.{names_unknown}
 use Rattle.candidate_ir.specs.References.{IsWellFormed}
+use Rattle.candidate_ir.specs.Trees.{TypeKind, Tree}
+use Rattle.candidate_ir.specs.Words.{IsArgs, args_forest}
+use Rattle.candidate_ir.specs.Worlds.{World, TraitSort, joined, parameters, kinds_of}
 
--- A number is named that was never given, of a crate or, in some node, of a definition; or an associated item is of no trait.
-abbrev pub has_unknown_id : Context → Bool
-has_unknown_id c =
-    is_unknown c.crates c.local
+-- all that declarations hold
+abbrev pub all_that_is_held : Context → List Held
+all_that_is_held c = all_held c.declarations c.contents
+
+-- An impl is of a crate that wasn't added, of what is no trait, or it specialises what is no impl.
+abbrev pub impl_misnames : ℕ → List Declaration → ℕ → Impl → Bool
+impl_misnames crates ds count i =
+    is_unknown crates i.crate || (not (is_declared_trait (slice_get ds i.trait_ref.def_id.0)) || list_any (λ (j : ImplId). nat_le count j.0) i.specializes)
+
+-- a lang item that is no trait
+abbrev pub item_misnames : List Declaration → Option TraitId → Bool
+item_misnames ds None = false
+item_misnames ds (Some t) = not (is_declared_trait (slice_get ds t.0))
+
+-- A call names what was never given; or a crate was never added; or an associated item is of no trait.
+abbrev pub declarations_misname : Context → Bool
+declarations_misname c =
+    c.contents.misnamed
+    || (is_unknown c.crates c.local
     || (list_any (λ d. is_unknown c.crates d.crate) c.declarations
-    || (list_any (λ d. lacks_trait c.declarations d.kind) c.declarations
-    || list_any (λ t. names_unknown (length c.declarations) t.head) c.trees))
+    || list_any (λ d. lacks_trait c.declarations d.kind) c.declarations))
 
--- A definition has parameters that its flags don't allow.
-abbrev pub has_flagged_arity : Context → Bool
-has_flagged_arity c = list_any (λ d. has_wrong_arity d.kind d.parameters) c.declarations
+-- A declaration holds a number that was never given; or a node names a definition that wasn't.
+abbrev pub nodes_misname : Context → Bool
+nodes_misname c = list_any (is_not_given c.trees) (all_that_is_held c) || list_any (λ t. names_unknown (length c.declarations) t.head) c.trees
 
--- When a fault is there. A node whose children aren't those that its definition takes counts, whether or not it is used.
+abbrev pub contents_misname : Context → Bool
+contents_misname c =
+    list_any (impl_misnames c.crates c.declarations (length c.contents.impls)) c.contents.impls
+    || list_any (item_misnames c.declarations) c.contents.lang_items
+
+abbrev pub has_unknown_id : Context → Bool
+has_unknown_id c = declarations_misname c || (contents_misname c || nodes_misname c)
+
+-- a parameter that changes where it is unsized, and that it doesn't have
+abbrev pub has_past_unsizing : List VarKind → Option AdtContents → Bool
+has_past_unsizing ks None = false
+has_past_unsizing ks (Some a) = list_any (λ i. nat_le (length ks) i) a.unsizing
+
+abbrev pub kind_unsizes_past : Contents → List VarKind → DefinitionKind → Bool
+kind_unsizes_past c ks (D.Adt shape flags n) = has_past_unsizing ks (slice_get c.adts n)
+kind_unsizes_past c ks _ = false
+
+abbrev pub unsizes_past : Contents → Declaration → Bool
+unsizes_past c d = kind_unsizes_past c d.parameters d.kind
+
+-- A definition has parameters that its flags don't allow, or what is declared names one that isn't there.
+abbrev pub has_wrong_parameters : Context → Bool
+has_wrong_parameters c =
+    list_any (λ d. has_wrong_arity d.kind d.parameters) c.declarations
+    || (list_any (unsizes_past c.contents) c.declarations
+    || list_any (held_misplaces M.Past c.trees c.declarations c.contents.impls) (all_that_is_held c))
+
+-- The arguments of the impl's header are those that its trait takes: a type, and then one of the kind of each parameter.
+pub record ImplFits (w : World) (ts : List Tree) (i : Impl) : Type 0 where
+  pub given : IsArgs ts i.trait_ref.args
+  pub takes : joined (Some (TypeKind ∷ [])) (parameters w TraitSort i.trait_ref.def_id.0) ≡ Some (kinds_of (args_forest ts i.trait_ref.args))
+
+abbrev pub ImplsFit : World → List Tree → List Impl → Type 0
+ImplsFit w ts [] = Unit {0}
+ImplsFit w ts (i ∷ is) = ImplFits w ts i × ImplsFit w ts is
+
+-- The arguments of all nodes fit, whether or not they are used, and so do those of all impls.
+pub record AllArgumentsFit (c : Context) : Type 0 where
+  pub nodes : IsWellFormed c
+  pub impls : ImplsFit (world c) c.trees c.contents.impls
+
+-- A parameter is of another kind than it stands for; or a variable, a placeholder or a bound variable that nothing binds
+-- stands in what is declared.
+abbrev pub has_wrong_kind : Context → Bool
+has_wrong_kind c =
+    list_any (held_misplaces M.Stray c.trees c.declarations c.contents.impls) (all_that_is_held c)
+    || list_any (held_escapes c.trees) (all_that_is_held c)
+
+abbrev pub is_struct : AdtShape → Bool
+is_struct Shape.Struct = true
+is_struct _ = false
+
+abbrev pub is_nothing : {X : Type 0} → List X → Bool
+is_nothing [] = true
+is_nothing (x ∷ xs) = false
+
+-- It changes where it is unsized, and isn't a struct with a field.
+abbrev pub unsizes_without_tail : AdtShape → Option AdtContents → Bool
+unsizes_without_tail shape None = false
+unsizes_without_tail shape (Some a) = not (is_nothing a.unsizing) && (not (is_struct shape) || is_nothing a.fields)
+
+abbrev pub lacks_tail : Contents → DefinitionKind → Bool
+lacks_tail c (D.Adt shape flags n) = unsizes_without_tail shape (slice_get c.adts n)
+lacks_tail c _ = false
+
+-- When a fault is there. Contents that a later call replaced don't count.
 abbrev pub HasFault : Context → DeclFault → Type 0
 HasFault c F.UnknownId = IsTrue (has_unknown_id c)
-HasFault c F.WrongArity = IsTrue (has_flagged_arity c) ⊎ (IsWellFormed c → ⊥)
+HasFault c F.WrongArity = IsTrue (has_wrong_parameters c) ⊎ (AllArgumentsFit c → ⊥)
+HasFault c F.WrongKind = IsTrue (has_wrong_kind c)
+HasFault c F.NoTail = IsTrue (list_any (λ d. lacks_tail c.contents d.kind) c.declarations)
 HasFault c _ = ⊥
 
 abbrev pub fault_number : DeclFault → ℕ

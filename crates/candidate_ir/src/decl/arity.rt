@@ -2,6 +2,7 @@
 
 ghost use Rattle.std.specs.Prelude.{◌≡◌, ◌↔◌, IsTrue, Some, map, ◌∷◌, []};
 ghost use Rattle.candidate_ir.specs.Context.{world_of};
+ghost use Rattle.candidate_ir.specs.Faults.{ImplFits, ImplsFit};
 ghost use Rattle.candidate_ir.specs.Kinds.{arg_kind};
 ghost use Rattle.std.specs.List.{list_any};
 ghost use Rattle.candidate_ir.specs.Names.{names_unknown};
@@ -11,7 +12,9 @@ ghost use Rattle.candidate_ir.specs.Trees.{TypeKind};
 ghost use Rattle.candidate_ir.specs.Words.{KindFits, ConstKindFits, PredFits, BoundsFit, ClauseFits, kind_tree, const_kind_tree, pred_kind_tree, clause_kind_tree};
 ghost use Rattle.candidate_ir.specs.Worlds.{parameters, joined, alias_kinds};
 
+use crate::decl::contents::Impl;
 use crate::decl::definition::{Declaration, DefinitionSort, are_type_args};
+use crate::decl::misplaced::is_args;
 use crate::ir::kinds::{
     AliasKind, AliasTy, Binder, ClauseKind, ConstKind, ExistentialPredicate, GenericArg, TyKind,
 };
@@ -198,6 +201,35 @@ pub(crate) fn nodes_fit(definitions: &[Declaration], nodes: &Nodes) -> bool
 {
     for number in 0..nodes.len() {
         if !node_fits(definitions, nodes, nodes.node(number as u32)) {
+            return false;
+        }
+    }
+    true
+}
+
+/// Whether the arguments of the impl's header are those that its trait takes.
+fn impl_fits(definitions: &[Declaration], nodes: &Nodes, of: &Impl) -> bool
+    ensures { IsTrue result ↔ ImplFits (world_of definitions.now) nodes.now of.now }
+{
+    let trait_ref = of.trait_ref;
+    if !is_args(nodes, trait_ref.args) {
+        return false;
+    }
+    let number = trait_ref.def_id.0;
+    takes_after_self(
+        definitions,
+        DefinitionSort::Trait,
+        number,
+        nodes.args(trait_ref.args),
+    )
+}
+
+/// Whether those of each impl's header are.
+pub(crate) fn impls_fit(definitions: &[Declaration], nodes: &Nodes, impls: &[Impl]) -> bool
+    ensures { IsTrue result ↔ ImplsFit (world_of definitions.now) nodes.now impls.now }
+{
+    for of in impls {
+        if !impl_fits(definitions, nodes, of) {
             return false;
         }
     }

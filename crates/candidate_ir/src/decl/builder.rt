@@ -1,16 +1,15 @@
 //! The builder of declarations.
 
-ghost use Rattle.std.specs.Prelude.{◌≡◌, ◌↔◌, ◌+◌, ◌<◌, ◌++◌, ◌∷◌, IsTrue, true, false, [], length, slice_set, IfOk, IfErr, MatchResult, Some};
-ghost use Rattle.std.specs.List.{list_any};
-ghost use Rattle.candidate_ir.specs.Context.{declared, is_unknown, lacks_trait, has_wrong_arity};
+ghost use Rattle.std.specs.Prelude.{◌≡◌, ◌↔◌, ◌+◌, ◌<◌, ◌++◌, ◌∷◌, IsTrue, true, false, [], length, slice_set, IfOk, IfErr, MatchResult, MatchOption, ◌⊎◌, Some};
+ghost use Rattle.candidate_ir.specs.Context.{declared};
 ghost use Rattle.candidate_ir.specs.Declaring.{nothing, declared_adt, declared_trait, declared_opaque, declared_assoc, declared_impl, with_adt, with_trait, with_bounds, with_impl, with_constraint, with_bound, item_number};
-ghost use Rattle.candidate_ir.specs.Faults.{has_unknown_id, HasFault, IsFaultless, IsLowestFault};
+ghost use Rattle.candidate_ir.specs.Faults.{all_that_is_held, declarations_misname, contents_misname, has_unknown_id, has_wrong_parameters, AllArgumentsFit, has_wrong_kind, HasFault, IsFaultless, IsLowestFault};
 ghost use Rattle.candidate_ir.specs.References.{IsWellFormed};
 ghost use Rattle.candidate_ir.specs.Making.{Makes, a_type, a_constant, a_region, a_list, a_binder, some_bounds, a_signature, a_clause, an_environment};
 ghost use Rattle.candidate_ir.specs.Words.{KindFits, ConstKindFits, ListFits, BoundsFit, SigFits, ClauseFits, ClauseListFits, AtMostOnePrincipal};
 ghost use Rattle.candidate_ir.specs.declared.decl.builder.DeclFault.TheVariants.{Memory};
 
-use crate::decl::arity::{any_names_unknown, nodes_fit};
+use crate::decl::arity::{any_names_unknown, impls_fit, nodes_fit};
 use crate::decl::contents::{
     AdtContents, AliasBoundKind, Bounds, Contents, Destructor, Impl, ImplId, ImplPolarity,
     LangItem, Sizedness, TraitContents, adt_place, bounds_place, trait_place,
@@ -19,6 +18,12 @@ use crate::decl::definition::{
     AdtFlags, AdtShape, AliasShape, AssocKind, CrateId, Declaration, DefinitionKind, FnFlags,
     Parameters, TraitFlags,
 };
+use crate::decl::faults::{
+    any_has_wrong_arity, any_impl_misnames, any_is_unknown, any_item_misnames, any_lacks_tail,
+    any_lacks_trait, any_unsizes_past,
+};
+use crate::decl::held::{Held, all_held};
+use crate::decl::misplaced::{Misplaced, any_escapes, any_misplaces, any_not_given};
 use crate::ir::kinds::{
     AdtId, AliasId, Args, AssocId, Binder, Clause, ClauseKind, ClosureId, ClosureSig, Const,
     ConstKind, ExistentialPredicate, FnId, FnSig, ForeignId, GenericArg, ParamEnv, Preds, Region,
@@ -638,37 +643,105 @@ impl DeclsBuilder {
         self.nodes.mk_param_env(clauses)
     }
 
-    fn has_unknown_id(&self) -> bool
-        ensures { result ≡ has_unknown_id self.now }
+    fn declarations_misname(&self) -> bool
+        ensures { result ≡ declarations_misname self.now }
     {
-        self.local.is_unknown(self.crates)
+        self.contents.misnamed
+            || self.local.is_unknown(self.crates)
             || any_is_unknown(self.definitions.as_slice(), self.crates)
             || any_lacks_trait(self.definitions.as_slice())
+    }
+
+    fn contents_misname(&self) -> bool
+        ensures { result ≡ contents_misname self.now }
+    {
+        let definitions = self.definitions.as_slice();
+        any_impl_misnames(self.crates, definitions, self.contents.impls.as_slice())
+            || any_item_misnames(definitions, &self.contents.lang_items)
+    }
+
+    fn has_unknown_id(&self, held: &[Held]) -> bool
+        requires { held.now ≡ all_that_is_held self.now }
+        ensures { result ≡ has_unknown_id self.now }
+    {
+        self.declarations_misname()
+            || self.contents_misname()
+            || any_not_given(&self.nodes, held)
             || any_names_unknown(self.definitions.len(), &self.nodes)
     }
 
-    fn has_wrong_arity(&self) -> bool
-        ensures is { IsTrue result ↔ HasFault self.now DeclFault.WrongArity }
-        ensures well_formed { result ≡ false → IsWellFormed self.now }
+    fn has_wrong_parameters(&self, held: &[Held]) -> bool
+        requires held { held.now ≡ all_that_is_held self.now }
+        requires given { has_unknown_id self.now ≡ false }
+        ensures { result ≡ has_wrong_parameters self.now }
     {
-        any_has_wrong_arity(self.definitions.as_slice())
-            || !nodes_fit(self.definitions.as_slice(), &self.nodes)
+        let definitions = self.definitions.as_slice();
+        let impls = self.contents.impls.as_slice();
+        any_has_wrong_arity(definitions)
+            || any_unsizes_past(definitions, &self.contents)
+            || any_misplaces(&self.nodes, definitions, impls, Misplaced::Past, held)
     }
 
-    /// The declarations, if they have no fault; else the fault with the lowest number. The builder
-    /// is spent in both cases.
+    fn arguments_fit(&self) -> bool
+        ensures { IsTrue result ↔ AllArgumentsFit self.now }
+    {
+        let definitions = self.definitions.as_slice();
+        nodes_fit(definitions, &self.nodes)
+            && impls_fit(definitions, &self.nodes, self.contents.impls.as_slice())
+    }
+
+    fn has_wrong_kind(&self, held: &[Held]) -> bool
+        requires held { held.now ≡ all_that_is_held self.now }
+        requires given { has_unknown_id self.now ≡ false }
+        ensures { result ≡ has_wrong_kind self.now }
+    {
+        let impls = self.contents.impls.as_slice();
+        any_misplaces(
+            &self.nodes,
+            self.definitions.as_slice(),
+            impls,
+            Misplaced::Stray,
+            held,
+        ) || any_escapes(&self.nodes, held)
+    }
+
+    /// The fault with the lowest number, if there is one.
+    #[tactic(auto, using(crate::proofs::Faults::unknown_lowest, crate::proofs::Faults::arity_lowest, crate::proofs::Faults::kind_lowest, crate::proofs::Faults::tail_lowest, crate::proofs::Faults::faultless))]
+    fn fault(&self, held: &[Held]) -> Option<DeclFault>
+        requires { held.now ≡ all_that_is_held self.now }
+        ensures { MatchOption result (IsFaultless self.now × IsWellFormed self.now) (λ f. IsLowestFault self.now f) }
+    {
+        if self.has_unknown_id(held) {
+            return Some(DeclFault::UnknownId);
+        }
+        if self.has_wrong_parameters(held) {
+            return Some(DeclFault::WrongArity);
+        }
+        if !self.arguments_fit() {
+            return Some(DeclFault::WrongArity);
+        }
+        if self.has_wrong_kind(held) {
+            return Some(DeclFault::WrongKind);
+        }
+        if any_lacks_tail(self.definitions.as_slice(), &self.contents) {
+            return Some(DeclFault::NoTail);
+        }
+        None
+    }
+
+    /// The declarations, if they have no fault; else the fault with the lowest number, or `DeclFault::Memory` where a growth
+    /// was refused while they were looked at. The builder is spent in each case.
     ///
     /// Each node that was made counts, whether or not a declaration uses it: one that names a
     /// definition that was never given is `UnknownId`, and one whose arguments aren't those that its
     /// definition takes is `WrongArity`.
     pub fn finish(self) -> Result<Decls, DeclFault>
-        ensures { MatchResult result (λ d. IsFaultless self × (d ≡ self)) (λ e. IsLowestFault self e) }
+        ensures { MatchResult result (λ d. IsFaultless self × (d ≡ self)) (λ e. (e ≡ DeclFault.Memory) ⊎ IsLowestFault self e) }
     {
-        if self.has_unknown_id() {
-            return Err(DeclFault::UnknownId);
-        }
-        if self.has_wrong_arity() {
-            return Err(DeclFault::WrongArity);
+        let alloc = *self.definitions.allocator();
+        let held = all_held(alloc, self.definitions.as_slice(), &self.contents)?;
+        if let Some(fault) = self.fault(held.as_slice()) {
+            return Err(fault);
         }
         let DeclsBuilder {
             crates,
@@ -719,31 +792,4 @@ fn add(
         kind,
     })?;
     Ok(number)
-}
-
-/// Whether some definition is of none of the first so many crates.
-fn any_is_unknown(definitions: &[Declaration], crates: u32) -> bool
-    ensures { result ≡ list_any (λ d. is_unknown crates d.crate) definitions.now }
-{
-    definitions
-        .iter()
-        .any(|definition| definition.krate().is_unknown(crates))
-}
-
-/// Whether some definition is an associated item of what is no trait among them.
-fn any_lacks_trait(definitions: &[Declaration]) -> bool
-    ensures { result ≡ list_any (λ d. lacks_trait definitions.now d.kind) definitions.now }
-{
-    definitions
-        .iter()
-        .any(|definition| definition.lacks_trait(definitions))
-}
-
-/// Whether some definition has parameters that its flags don't allow.
-fn any_has_wrong_arity(definitions: &[Declaration]) -> bool
-    ensures { result ≡ list_any (λ d. has_wrong_arity d.kind d.parameters) definitions.now }
-{
-    definitions
-        .iter()
-        .any(|definition| definition.has_wrong_arity())
 }

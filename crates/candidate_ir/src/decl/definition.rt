@@ -183,7 +183,7 @@ pub(crate) enum Parameters {
 }
 
 impl Parameters {
-    ghost use Rattle.std.specs.Prelude.{◌≡◌, ◌↔◌, IsTrue, [], IfOk, map, slice_get};
+    ghost use Rattle.std.specs.Prelude.{◌≡◌, ◌↔◌, IsTrue, [], IfOk, map, slice_get, length};
     ghost use Rattle.candidate_ir.specs.Parameters.{kinds_of};
     ghost use Rattle.candidate_ir.specs.Kinds.{arg_kind};
     ghost use Rattle.candidate_ir.specs.Context.{begins_with_type, is_empty, parameter_kind};
@@ -212,6 +212,16 @@ impl Parameters {
         match self {
             Parameters::Types(count) => Ok(Parameters::Types(*count)),
             Parameters::Kinds(kinds) => Ok(Parameters::Kinds(kinds.to_vec(alloc)?)),
+        }
+    }
+
+    #[tactic(auto, using(crate::proofs::Parameters::types_count))]
+    pub(crate) fn count(&self) -> usize
+        ensures { result ≡ length (kinds_of self.now) }
+    {
+        match self {
+            Parameters::Types(count) => *count,
+            Parameters::Kinds(kinds) => kinds.len(),
         }
     }
 

@@ -1,17 +1,18 @@
 //! What may not stand in a declaration.
 
-ghost use Rattle.std.specs.Prelude.{◌≡◌, ◌<◌, ◌+◌, false, length, slice_get, option_copied};
+ghost use Rattle.std.specs.Prelude.{◌≡◌, ◌↔◌, IsTrue, ◌<◌, ◌+◌, false, length, slice_get, option_copied};
 ghost use Rattle.std.specs.List.{list_any};
 ghost use Rattle.candidate_ir.specs.Misplaced.{is_held_node, is_not_given, has_self, with_self, parameter_misplaced, is_stray, is_misplaced, tree_misplaces, kinds_of_declared, kinds_of_impl, held_misplaces, held_escapes};
 ghost use Rattle.candidate_ir.specs.Nodes.{tree_at};
 ghost use Rattle.candidate_ir.specs.Parameters.{kinds_of};
 ghost use Rattle.candidate_ir.specs.Trees.{tree_holds};
+ghost use Rattle.candidate_ir.specs.Words.{IsArgs};
 
 use crate::decl::contents::Impl;
 use crate::decl::definition::{Declaration, Parameters};
 use crate::decl::held::{Held, HeldSort, Owner};
 use crate::ir::heads::{ConstHead, Head};
-use crate::ir::kinds::{RegionKind, VarKind};
+use crate::ir::kinds::{Args, RegionKind, VarKind};
 use crate::ir::node::Node;
 use crate::ir::nodes::Nodes;
 
@@ -34,6 +35,17 @@ fn is_held_node(sort: HeldSort, node: &Node) -> bool
         HeldSort::Clause => matches!(node, Node::Clause(_)),
         HeldSort::Vars => matches!(node, Node::Vars(_)),
     }
+}
+
+/// Whether the number is that of a list of arguments.
+#[tactic(auto, using(crate::proofs::Misplacing::list_node, crate::proofs::Misplacing::past_lists))]
+pub(crate) fn is_args(nodes: &Nodes, args: Args) -> bool
+    ensures { IsTrue result ↔ IsArgs nodes.now args }
+{
+    if args.0 as usize >= nodes.len() {
+        return false;
+    }
+    is_held_node(HeldSort::Args, nodes.node(args.0))
 }
 
 /// Whether the number is that of no such node as is held.

@@ -1,0 +1,158 @@
+//! What is wrong with declarations, each fault by itself.
+
+ghost use Rattle.std.specs.Prelude.{◌≡◌, ◌↔◌, IsTrue, length, slice_get, nat_le, option_copied};
+ghost use Rattle.std.specs.List.{list_any};
+ghost use Rattle.candidate_ir.specs.Context.{is_unknown, is_declared_trait, lacks_trait, has_wrong_arity};
+ghost use Rattle.candidate_ir.specs.Declaring.{contents_of};
+ghost use Rattle.candidate_ir.specs.Faults.{impl_misnames, item_misnames, unsizes_past, has_past_unsizing, unsizes_without_tail, lacks_tail};
+ghost use Rattle.candidate_ir.specs.Parameters.{kinds_of};
+
+use crate::decl::contents::{AdtContents, Contents, Impl, ImplId};
+use crate::decl::definition::{AdtShape, Declaration, DefinitionKind, Parameters};
+use crate::ir::kinds::TraitId;
+
+/// Whether it is the number of a trait.
+fn is_declared_trait(definitions: &[Declaration], number: TraitId) -> bool
+    ensures { result ≡ is_declared_trait (slice_get definitions.now number.0) }
+{
+    match definitions.get(number.0 as usize) {
+        Some(definition) => definition.is_trait(),
+        None => false,
+    }
+}
+
+fn any_is_past(impls: &[ImplId], count: usize) -> bool
+    ensures { result ≡ list_any (λ j. nat_le count j.0) impls.now }
+{
+    impls.iter().any(|of| count <= of.0 as usize)
+}
+
+/// Whether the impl is of a crate that wasn't added, of what is no trait, or specialises what is no impl.
+fn impl_misnames(crates: u32, definitions: &[Declaration], count: usize, of: &Impl) -> bool
+    ensures { result ≡ impl_misnames crates definitions.now count of.now }
+{
+    of.krate.is_unknown(crates)
+        || !is_declared_trait(definitions, of.trait_ref.def_id)
+        || any_is_past(of.specializes.as_slice(), count)
+}
+
+fn item_misnames(definitions: &[Declaration], item: Option<TraitId>) -> bool
+    ensures { result ≡ item_misnames definitions.now item }
+{
+    match item {
+        Some(of) => !is_declared_trait(definitions, of),
+        None => false,
+    }
+}
+
+fn any_number_is_past(numbers: &[u32], count: usize) -> bool
+    ensures { result ≡ list_any (λ i. nat_le count i) numbers.now }
+{
+    numbers.iter().any(|number| count <= *number as usize)
+}
+
+/// Whether one of the parameters that change where it is unsized isn't there.
+fn has_past_unsizing(parameters: &Parameters, adt: Option<&AdtContents>) -> bool
+    ensures { result ≡ has_past_unsizing (kinds_of parameters.now) (option_copied adt.entry) }
+{
+    match adt {
+        Some(adt) => any_number_is_past(adt.unsizing.as_slice(), parameters.count()),
+        None => false,
+    }
+}
+
+fn unsizes_past(contents: &Contents, definition: &Declaration) -> bool
+    ensures { result ≡ unsizes_past (contents_of contents.now) definition.now }
+{
+    match definition.kind {
+        DefinitionKind::Adt(_, _, place) => {
+            has_past_unsizing(&definition.parameters, contents.adts.get(place as usize))
+        }
+        _ => false,
+    }
+}
+
+fn unsizes_without_tail(shape: AdtShape, adt: Option<&AdtContents>) -> bool
+    ensures { result ≡ unsizes_without_tail shape (option_copied adt.entry) }
+{
+    let Some(adt) = adt else { return false };
+    !adt.unsizing.is_empty() && (!matches!(shape, AdtShape::Struct) || adt.fields.is_empty())
+}
+
+fn lacks_tail(contents: &Contents, kind: DefinitionKind) -> bool
+    ensures { result ≡ lacks_tail (contents_of contents.now) kind }
+{
+    match kind {
+        DefinitionKind::Adt(shape, _, place) => {
+            unsizes_without_tail(shape, contents.adts.get(place as usize))
+        }
+        _ => false,
+    }
+}
+
+fn definition_lacks_tail(contents: &Contents, definition: &Declaration) -> bool
+    ensures { result ≡ lacks_tail (contents_of contents.now) definition.now.kind }
+{
+    lacks_tail(contents, definition.kind)
+}
+
+/// Whether some definition is of none of the first so many crates.
+pub(crate) fn any_is_unknown(definitions: &[Declaration], crates: u32) -> bool
+    ensures { result ≡ list_any (λ d. is_unknown crates d.crate) definitions.now }
+{
+    definitions
+        .iter()
+        .any(|definition| definition.krate().is_unknown(crates))
+}
+
+/// Whether some definition is an associated item of what is no trait among them.
+pub(crate) fn any_lacks_trait(definitions: &[Declaration]) -> bool
+    ensures { result ≡ list_any (λ d. lacks_trait definitions.now d.kind) definitions.now }
+{
+    definitions
+        .iter()
+        .any(|definition| definition.lacks_trait(definitions))
+}
+
+/// Whether some definition has parameters that its flags don't allow.
+pub(crate) fn any_has_wrong_arity(definitions: &[Declaration]) -> bool
+    ensures { result ≡ list_any (λ d. has_wrong_arity d.kind d.parameters) definitions.now }
+{
+    definitions
+        .iter()
+        .any(|definition| definition.has_wrong_arity())
+}
+
+/// Whether some impl is of a crate that wasn't added, of what is no trait, or specialises what is no impl.
+pub(crate) fn any_impl_misnames(crates: u32, definitions: &[Declaration], impls: &[Impl]) -> bool
+    ensures { result ≡ list_any (impl_misnames crates definitions.now (length impls.now)) impls.now }
+{
+    impls
+        .iter()
+        .any(|of| impl_misnames(crates, definitions, impls.len(), of))
+}
+
+/// Whether some lang item is no trait.
+pub(crate) fn any_item_misnames(definitions: &[Declaration], items: &[Option<TraitId>]) -> bool
+    ensures { result ≡ list_any (item_misnames definitions.now) items.now }
+{
+    items.iter().any(|item| item_misnames(definitions, *item))
+}
+
+/// Whether some definition names a parameter that it doesn't have, as one that changes where it is unsized.
+pub(crate) fn any_unsizes_past(definitions: &[Declaration], contents: &Contents) -> bool
+    ensures { result ≡ list_any (unsizes_past (contents_of contents.now)) definitions.now }
+{
+    definitions
+        .iter()
+        .any(|definition| unsizes_past(contents, definition))
+}
+
+/// Whether some definition changes where it is unsized, and isn't a struct with a field.
+pub(crate) fn any_lacks_tail(definitions: &[Declaration], contents: &Contents) -> bool
+    ensures { result ≡ list_any (λ d. lacks_tail (contents_of contents.now) d.kind) definitions.now }
+{
+    definitions
+        .iter()
+        .any(|definition| definition_lacks_tail(contents, definition))
+}
