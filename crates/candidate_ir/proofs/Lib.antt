@@ -31,4 +31,5 @@ pub mod FoldNodes
 pub mod FoldKinds
 pub mod FoldBounds
 pub mod FoldLaws
+pub mod FoldStops
 pub mod Substituting

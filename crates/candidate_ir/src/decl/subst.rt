@@ -30,6 +30,7 @@ fn moved<M: Make>(
 ) -> Result<Option<GenericArg>, Stop>
     requires { IsArg (M.context make.old).trees arg }
     ensures grows { Grows (M.context make.old) (M.context make.new) }
+    ensures rest { M.rest make.new ≡ M.rest make.old }
     ensures kind { IfOk result (λ o. IsOfKind (M.context make.new).trees arg o) }
     ensures answer { IfOk result (λ o. option_map (arg_tree (M.context make.new).trees) o ≡ moved by binders (arg_tree (M.context make.old).trees arg).head) }
     ensures cause { IfErr result (λ s. (s ≡ Stop.Memory) ⊎ (s ≡ Stop.NodesFull)) }
@@ -79,6 +80,7 @@ fn shifted<M: Make>(
 ) -> Result<GenericArg, Stop>
     requires { IsArg (M.context make.old).trees arg }
     ensures grows { Grows (M.context make.old) (M.context make.new) }
+    ensures rest { M.rest make.new ≡ M.rest make.old }
     ensures kind { IfOk result (λ a. IsArg (M.context make.new).trees a × (arg_kind a ≡ arg_kind arg)) }
     ensures tree { IfOk result (λ a. arg_tree (M.context make.new).trees a ≡ shift_tree by (arg_tree (M.context make.old).trees arg)) }
 {
@@ -145,6 +147,7 @@ fn put<M: Make>(
     requires args { IsArgs (M.context make.old).trees args }
     requires arg { IsArg (M.context make.old).trees arg }
     ensures grows { Grows (M.context make.old) (M.context make.new) }
+    ensures rest { M.rest make.new ≡ M.rest make.old }
     ensures kind { IfOk result (λ o. IsOfKind (M.context make.new).trees arg o) }
     ensures answer { IfOk result (λ o. option_map (arg_tree (M.context make.new).trees) o ≡ put_if_there (args_forest (M.context make.old).trees args) binders (arg_tree (M.context make.old).trees arg).head) }
 {
@@ -161,6 +164,7 @@ fn substituted<M: Make>(alloc: Global, make: &mut M, number: u32, args: Args) ->
     requires args { IsArgs (M.context make.old).trees args }
     requires there { tree_holds (lacks_argument (args_forest (M.context make.old).trees args)) (tree_at (M.context make.old).trees number) ≡ false }
     ensures grows { Grows (M.context make.old) (M.context make.new) }
+    ensures rest { M.rest make.new ≡ M.rest make.old }
     ensures sort { IfOk result (λ n. kind_at (M.context make.new).trees n ≡ kind_at (M.context make.old).trees number) }
     ensures tree { is_list_kind (kind_at (M.context make.old).trees number) ≡ false → IfOk result (λ n. tree_at (M.context make.new).trees n ≡ substituted_tree (args_forest (M.context make.old).trees args) (tree_at (M.context make.old).trees number)) }
     ensures list { is_list_kind (kind_at (M.context make.old).trees number) ≡ true → IfOk result (λ n. (tree_at (M.context make.new).trees n).children ≡ substituted (args_forest (M.context make.old).trees args) 0 (tree_at (M.context make.old).trees number).children) }
@@ -189,6 +193,7 @@ pub fn subst<M: Make>(alloc: Global, make: &mut M, ty: Ty, args: Args) -> Result
     requires args { IsArgs (M.context make.old).trees args }
     requires there { tree_holds (lacks_argument (args_forest (M.context make.old).trees args)) (ty_tree (M.context make.old).trees ty) ≡ false }
     ensures grows { Grows (M.context make.old) (M.context make.new) }
+    ensures rest { M.rest make.new ≡ M.rest make.old }
     ensures sort { IfOk result (λ t. IsTy (M.context make.new).trees t) }
     ensures tree { IfOk result (λ t. ty_tree (M.context make.new).trees t ≡ substituted_tree (args_forest (M.context make.old).trees args) (ty_tree (M.context make.old).trees ty)) }
 {
@@ -206,6 +211,7 @@ pub fn subst_const<M: Make>(
     requires args { IsArgs (M.context make.old).trees args }
     requires there { tree_holds (lacks_argument (args_forest (M.context make.old).trees args)) (const_tree (M.context make.old).trees constant) ≡ false }
     ensures grows { Grows (M.context make.old) (M.context make.new) }
+    ensures rest { M.rest make.new ≡ M.rest make.old }
     ensures sort { IfOk result (λ x. IsConst (M.context make.new).trees x) }
     ensures tree { IfOk result (λ x. const_tree (M.context make.new).trees x ≡ substituted_tree (args_forest (M.context make.old).trees args) (const_tree (M.context make.old).trees constant)) }
 {
@@ -223,6 +229,7 @@ pub fn subst_args<M: Make>(
     requires args { IsArgs (M.context make.old).trees args }
     requires there { holds (lacks_argument (args_forest (M.context make.old).trees args)) (args_forest (M.context make.old).trees list) ≡ false }
     ensures grows { Grows (M.context make.old) (M.context make.new) }
+    ensures rest { M.rest make.new ≡ M.rest make.old }
     ensures sort { IfOk result (λ x. IsArgs (M.context make.new).trees x) }
     ensures tree { IfOk result (λ x. args_forest (M.context make.new).trees x ≡ substituted (args_forest (M.context make.old).trees args) 0 (args_forest (M.context make.old).trees list)) }
 {
@@ -240,6 +247,7 @@ pub fn subst_clause<M: Make>(
     requires args { IsArgs (M.context make.old).trees args }
     requires there { tree_holds (lacks_argument (args_forest (M.context make.old).trees args)) (clause_tree (M.context make.old).trees clause) ≡ false }
     ensures grows { Grows (M.context make.old) (M.context make.new) }
+    ensures rest { M.rest make.new ≡ M.rest make.old }
     ensures sort { IfOk result (λ x. IsClause (M.context make.new).trees x) }
     ensures tree { IfOk result (λ x. clause_tree (M.context make.new).trees x ≡ substituted_tree (args_forest (M.context make.old).trees args) (clause_tree (M.context make.old).trees clause)) }
 {
@@ -257,6 +265,7 @@ pub fn subst_env<M: Make>(
     requires args { IsArgs (M.context make.old).trees args }
     requires there { holds (lacks_argument (args_forest (M.context make.old).trees args)) (env_forest (M.context make.old).trees env) ≡ false }
     ensures grows { Grows (M.context make.old) (M.context make.new) }
+    ensures rest { M.rest make.new ≡ M.rest make.old }
     ensures sort { IfOk result (λ x. IsParamEnv (M.context make.new).trees x) }
     ensures tree { IfOk result (λ x. env_forest (M.context make.new).trees x ≡ substituted (args_forest (M.context make.old).trees args) 0 (env_forest (M.context make.old).trees env)) }
 {
@@ -274,6 +283,7 @@ pub fn subst_trait_ref<M: Make>(
     requires args { IsArgs (M.context make.old).trees args }
     requires there { holds (lacks_argument (args_forest (M.context make.old).trees args)) (args_forest (M.context make.old).trees trait_ref.args) ≡ false }
     ensures grows { Grows (M.context make.old) (M.context make.new) }
+    ensures rest { M.rest make.new ≡ M.rest make.old }
     ensures sort { IfOk result (λ r. IsArgs (M.context make.new).trees r.args) }
     ensures same { IfOk result (λ r. r.def_id ≡ trait_ref.def_id) }
     ensures tree { IfOk result (λ r. args_forest (M.context make.new).trees r.args ≡ substituted (args_forest (M.context make.old).trees args) 0 (args_forest (M.context make.old).trees trait_ref.args)) }

@@ -4,6 +4,7 @@ use Rattle.candidate_ir.specs.Kinds.{arg_kind}
 use Rattle.candidate_ir.specs.Nodes.{tree_at}
 use Rattle.candidate_ir.proofs.Asking.{arg-below}
 use Rattle.candidate_ir.proofs.FoldLaws.{head-number, moved-only}
+use Rattle.candidate_ir.proofs.FoldStops.{number-keeps-rest}
 use Rattle.candidate_ir.proofs.Members.{arg-there, arg-single}
 use Rattle.candidate_ir.proofs.decl.subst.shifted.Goals as goal
 
@@ -19,3 +20,15 @@ returns-clause-tree g c =
     (λ s x d r e n p. let k = n.called in let l = n.lends in let v = n.leaves in search rules)
     (λ s x d r e n i grown p. let k = n.called in let l = n.lends in let v = n.leaves in search rules)
     (moved-only c.args.by)
+
+pub returns-clause-rest : goal.returns-clause-rest
+returns-clause-rest g c =
+    number-keeps-rest g.M.Make.context g.M.Make.rest _ (λ z. z.0 ≡ c.args.by) _
+    (λ t x d r u n i grown q. let k = n.called in let l = n.lends in let v = n.leaves in (search rules, search rules))
+    _ 0 c.number.result c.fold_number.result refl c.fold_number.ensures
+
+pub returns-in_err-number-clause-rest : goal.returns-in_err-number-clause-rest
+returns-in_err-number-clause-rest g c =
+    number-keeps-rest g.M.Make.context g.M.Make.rest _ (λ z. z.0 ≡ c.args.by) _
+    (λ t x d r u n i grown q. let k = n.called in let l = n.lends in let v = n.leaves in (search rules, search rules))
+    _ 0 c.number.result c.fold_number.result refl c.fold_number.ensures
