@@ -23,7 +23,7 @@ use Rattle.candidate_ir.proofs.FoldSteps.{reached-then, folds-reached}
 module _ {M Rest F : Type 0} (context : M → Context) (others : M → Rest)
     (g : Mut F (MutBor M × (GenericArg × (ℕ × Unit {0}))) (Result (Option GenericArg) Stop × (MutBor M × Unit {0}))) where
   -- a tree without an answer
-  opened-row : (a : Answers) (d : ℕ) (h : Head) (below inner rest us : Forest) → a d (node h below) ≡ None → inner ≡ fold a (d + binders_of h) below → us ≡ fold a d rest
+  pub opened-row : (a : Answers) (d : ℕ) (h : Head) (below inner rest us : Forest) → a d (node h below) ≡ None → inner ≡ fold a (d + binders_of h) below → us ≡ fold a d rest
       → tree h inner us ≡ fold a d (tree h below rest)
   opened-row a d h below inner rest us e i r =
       let kept = node h (fold a (d + binders_of h) below) in

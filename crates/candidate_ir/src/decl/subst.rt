@@ -1,11 +1,12 @@
 //! Arguments in the place of parameters.
 
-ghost use Rattle.std.specs.Prelude.{◌≡◌, ◌⊎◌, ◌<◌, length, ℕ, Some, None, MatchOption, IfOk, IfErr, option_map, nat_le, nat_lt, true, false, if◌then◌else◌};
+ghost use Rattle.std.specs.Prelude.{◌≡◌, ◌+◌, ◌<◌, length, ℕ, Some, None, MatchOption, IfOk, IfErr, option_map, nat_le, nat_lt, true, false, if◌then◌else◌};
 ghost use Rattle.candidate_ir.specs.Context.{Grows};
-ghost use Rattle.candidate_ir.specs.Folding.{moved, further, shift_tree, argument, lacks_argument, put_if_there, substituted, substituted_tree};
+ghost use Rattle.candidate_ir.specs.Folding.{moved, further, shift_tree, argument, lacks_argument, put_if_there, substituted, substituted_tree, IsSubstStop, IsAnswerStop};
 ghost use Rattle.candidate_ir.specs.Nodes.{kind_at, tree_at, is_bound_kind};
 ghost use Rattle.candidate_ir.specs.Folds.{IsArg, IsOfKind, arg_tree};
 ghost use Rattle.candidate_ir.specs.Kinds.{arg_kind};
+ghost use Rattle.candidate_ir.specs.Substitutions.{alone};
 ghost use Rattle.candidate_ir.specs.Trees.{count, holds, is_list_kind, tree_holds};
 ghost use Rattle.candidate_ir.specs.Words.{IsTy, IsConst, IsArgs, IsClause, IsParamEnv, ty_tree, const_tree, args_forest, clause_tree, env_forest};
 
@@ -33,7 +34,7 @@ fn moved<M: Make>(
     ensures rest { M.rest make.new ≡ M.rest make.old }
     ensures kind { IfOk result (λ o. IsOfKind (M.context make.new).trees arg o) }
     ensures answer { IfOk result (λ o. option_map (arg_tree (M.context make.new).trees) o ≡ moved by binders (arg_tree (M.context make.old).trees arg).head) }
-    ensures cause { IfErr result (λ s. (s ≡ Stop.Memory) ⊎ (s ≡ Stop.NodesFull)) }
+    ensures cause { IfErr result (λ s. IsAnswerStop (length (M.context make.new).trees) (moved by binders (arg_tree (M.context make.old).trees arg).head) s) }
 {
     let head = make.cx().head(arg.number());
     match head {
@@ -56,7 +57,7 @@ fn moved<M: Make>(
 /// The variable bound so much further out, unless it is bound by one of the binders passed.
 fn further(var: BoundVar, binders: u32, by: u32) -> Result<Option<BoundVar>, Stop>
     ensures moved { IfOk result (λ o. o ≡ (if nat_le binders var.depth then Some (further by var) else None)) }
-    ensures cause { IfErr result (λ s. s ≡ Stop.NodesFull) }
+    ensures cause { IfErr result (λ s. (s ≡ Stop.NodesFull) × (nat_le binders var.depth ≡ true) × (4294967295 < var.depth + by)) }
 {
     if var.depth < binders {
         return Ok(None);
@@ -83,6 +84,7 @@ fn shifted<M: Make>(
     ensures rest { M.rest make.new ≡ M.rest make.old }
     ensures kind { IfOk result (λ a. IsArg (M.context make.new).trees a × (arg_kind a ≡ arg_kind arg)) }
     ensures tree { IfOk result (λ a. arg_tree (M.context make.new).trees a ≡ shift_tree by (arg_tree (M.context make.old).trees arg)) }
+    ensures cause { IfErr result (λ s. IsSubstStop (length (M.context make.new).trees) (alone (shift_tree by (arg_tree (M.context make.old).trees arg))) s) }
 {
     let number = fold_number(
         alloc,
@@ -150,6 +152,7 @@ fn put<M: Make>(
     ensures rest { M.rest make.new ≡ M.rest make.old }
     ensures kind { IfOk result (λ o. IsOfKind (M.context make.new).trees arg o) }
     ensures answer { IfOk result (λ o. option_map (arg_tree (M.context make.new).trees) o ≡ put_if_there (args_forest (M.context make.old).trees args) binders (arg_tree (M.context make.old).trees arg).head) }
+    ensures cause { IfErr result (λ s. IsAnswerStop (length (M.context make.new).trees) (put_if_there (args_forest (M.context make.old).trees args) binders (arg_tree (M.context make.old).trees arg).head) s) }
 {
     match argument_for(make.cx(), args, arg) {
         Some(value) => Ok(Some(shifted(alloc, make, value, binders)?)),
@@ -168,6 +171,8 @@ fn substituted<M: Make>(alloc: Global, make: &mut M, number: u32, args: Args) ->
     ensures sort { IfOk result (λ n. kind_at (M.context make.new).trees n ≡ kind_at (M.context make.old).trees number) }
     ensures tree { is_list_kind (kind_at (M.context make.old).trees number) ≡ false → IfOk result (λ n. tree_at (M.context make.new).trees n ≡ substituted_tree (args_forest (M.context make.old).trees args) (tree_at (M.context make.old).trees number)) }
     ensures list { is_list_kind (kind_at (M.context make.old).trees number) ≡ true → IfOk result (λ n. (tree_at (M.context make.new).trees n).children ≡ substituted (args_forest (M.context make.old).trees args) 0 (tree_at (M.context make.old).trees number).children) }
+    ensures tree_cause { is_list_kind (kind_at (M.context make.old).trees number) ≡ false → IfErr result (λ s. IsSubstStop (length (M.context make.new).trees) (alone (substituted_tree (args_forest (M.context make.old).trees args) (tree_at (M.context make.old).trees number))) s) }
+    ensures list_cause { is_list_kind (kind_at (M.context make.old).trees number) ≡ true → IfErr result (λ s. IsSubstStop (length (M.context make.new).trees) (substituted (args_forest (M.context make.old).trees args) 0 (tree_at (M.context make.old).trees number).children) s) }
 {
     fold_number(
         alloc,
@@ -185,9 +190,9 @@ fn substituted<M: Make>(alloc: Global, make: &mut M, number: u32, args: Args) ->
 /// binders that it stands under.
 ///
 /// Each parameter of the type has an argument, of its kind. `Stop::Memory` comes where a growth was
-/// refused, `Stop::NodesFull` where no numbers are left, the tree would be higher than 1,024, or a
-/// bound variable would be bound more than 2^32 - 1 binders out. A tree is walked as a tree; after a
-/// stop the nodes that were made stay.
+/// refused, `Stop::NodesFull` where no numbers are left, or fewer than a list of bounds takes, the
+/// tree would be higher than 1,024, or a bound variable would be bound more than 2^32 - 1 binders
+/// out. A tree is walked as a tree; after a stop the nodes that were made stay.
 pub fn subst<M: Make>(alloc: Global, make: &mut M, ty: Ty, args: Args) -> Result<Ty, Stop>
     requires ty { IsTy (M.context make.old).trees ty }
     requires args { IsArgs (M.context make.old).trees args }
@@ -196,6 +201,7 @@ pub fn subst<M: Make>(alloc: Global, make: &mut M, ty: Ty, args: Args) -> Result
     ensures rest { M.rest make.new ≡ M.rest make.old }
     ensures sort { IfOk result (λ t. IsTy (M.context make.new).trees t) }
     ensures tree { IfOk result (λ t. ty_tree (M.context make.new).trees t ≡ substituted_tree (args_forest (M.context make.old).trees args) (ty_tree (M.context make.old).trees ty)) }
+    ensures cause { IfErr result (λ s. IsSubstStop (length (M.context make.new).trees) (alone (substituted_tree (args_forest (M.context make.old).trees args) (ty_tree (M.context make.old).trees ty))) s) }
 {
     Ok(Ty(substituted(alloc, make, ty.0, args)?))
 }
@@ -214,6 +220,7 @@ pub fn subst_const<M: Make>(
     ensures rest { M.rest make.new ≡ M.rest make.old }
     ensures sort { IfOk result (λ x. IsConst (M.context make.new).trees x) }
     ensures tree { IfOk result (λ x. const_tree (M.context make.new).trees x ≡ substituted_tree (args_forest (M.context make.old).trees args) (const_tree (M.context make.old).trees constant)) }
+    ensures cause { IfErr result (λ s. IsSubstStop (length (M.context make.new).trees) (alone (substituted_tree (args_forest (M.context make.old).trees args) (const_tree (M.context make.old).trees constant))) s) }
 {
     Ok(Const(substituted(alloc, make, constant.0, args)?))
 }
@@ -232,6 +239,7 @@ pub fn subst_args<M: Make>(
     ensures rest { M.rest make.new ≡ M.rest make.old }
     ensures sort { IfOk result (λ x. IsArgs (M.context make.new).trees x) }
     ensures tree { IfOk result (λ x. args_forest (M.context make.new).trees x ≡ substituted (args_forest (M.context make.old).trees args) 0 (args_forest (M.context make.old).trees list)) }
+    ensures cause { IfErr result (λ s. IsSubstStop (length (M.context make.new).trees) (substituted (args_forest (M.context make.old).trees args) 0 (args_forest (M.context make.old).trees list)) s) }
 {
     Ok(Args(substituted(alloc, make, list.0, args)?))
 }
@@ -250,6 +258,7 @@ pub fn subst_clause<M: Make>(
     ensures rest { M.rest make.new ≡ M.rest make.old }
     ensures sort { IfOk result (λ x. IsClause (M.context make.new).trees x) }
     ensures tree { IfOk result (λ x. clause_tree (M.context make.new).trees x ≡ substituted_tree (args_forest (M.context make.old).trees args) (clause_tree (M.context make.old).trees clause)) }
+    ensures cause { IfErr result (λ s. IsSubstStop (length (M.context make.new).trees) (alone (substituted_tree (args_forest (M.context make.old).trees args) (clause_tree (M.context make.old).trees clause))) s) }
 {
     Ok(Clause(substituted(alloc, make, clause.0, args)?))
 }
@@ -268,6 +277,7 @@ pub fn subst_env<M: Make>(
     ensures rest { M.rest make.new ≡ M.rest make.old }
     ensures sort { IfOk result (λ x. IsParamEnv (M.context make.new).trees x) }
     ensures tree { IfOk result (λ x. env_forest (M.context make.new).trees x ≡ substituted (args_forest (M.context make.old).trees args) 0 (env_forest (M.context make.old).trees env)) }
+    ensures cause { IfErr result (λ s. IsSubstStop (length (M.context make.new).trees) (substituted (args_forest (M.context make.old).trees args) 0 (env_forest (M.context make.old).trees env)) s) }
 {
     Ok(ParamEnv(substituted(alloc, make, env.0, args)?))
 }
@@ -287,6 +297,7 @@ pub fn subst_trait_ref<M: Make>(
     ensures sort { IfOk result (λ r. IsArgs (M.context make.new).trees r.args) }
     ensures same { IfOk result (λ r. r.def_id ≡ trait_ref.def_id) }
     ensures tree { IfOk result (λ r. args_forest (M.context make.new).trees r.args ≡ substituted (args_forest (M.context make.old).trees args) 0 (args_forest (M.context make.old).trees trait_ref.args)) }
+    ensures cause { IfErr result (λ s. IsSubstStop (length (M.context make.new).trees) (substituted (args_forest (M.context make.old).trees args) 0 (args_forest (M.context make.old).trees trait_ref.args)) s) }
 {
     Ok(TraitRef {
         def_id: trait_ref.def_id,
