@@ -33,3 +33,4 @@ pub mod FoldBounds
 pub mod FoldLaws
 pub mod FoldStops
 pub mod Substituting
+pub mod SubstLaws

@@ -1,13 +1,13 @@
 //! Arguments in the place of parameters.
 
-ghost use Rattle.std.specs.Prelude.{◌≡◌, ◌+◌, ◌<◌, length, ℕ, Some, None, MatchOption, IfOk, IfErr, option_map, nat_le, nat_lt, true, false, if◌then◌else◌};
+ghost use Rattle.std.specs.Prelude.{◌≡◌, ◌+◌, ◌<◌, ◌≤◌, length, ℕ, Some, None, MatchOption, IfOk, IfErr, option_map, nat_le, nat_lt, true, false, if◌then◌else◌};
 ghost use Rattle.candidate_ir.specs.Context.{Grows};
 ghost use Rattle.candidate_ir.specs.Folding.{moved, further, shift_tree, argument, lacks_argument, put_if_there, substituted, substituted_tree, IsSubstStop, IsAnswerStop};
 ghost use Rattle.candidate_ir.specs.Nodes.{kind_at, tree_at, is_bound_kind};
 ghost use Rattle.candidate_ir.specs.Folds.{IsArg, IsOfKind, arg_tree};
 ghost use Rattle.candidate_ir.specs.Kinds.{arg_kind};
 ghost use Rattle.candidate_ir.specs.Substitutions.{alone};
-ghost use Rattle.candidate_ir.specs.Trees.{count, holds, is_list_kind, tree_holds};
+ghost use Rattle.candidate_ir.specs.Trees.{Forest, count, height, heights, holds, is_list_kind, is_param, tree_holds};
 ghost use Rattle.candidate_ir.specs.Words.{IsTy, IsConst, IsArgs, IsClause, IsParamEnv, ty_tree, const_tree, args_forest, clause_tree, env_forest};
 
 use crate::decl::context::Cx;
@@ -202,6 +202,11 @@ pub fn subst<M: Make>(alloc: Global, make: &mut M, ty: Ty, args: Args) -> Result
     ensures sort { IfOk result (λ t. IsTy (M.context make.new).trees t) }
     ensures tree { IfOk result (λ t. ty_tree (M.context make.new).trees t ≡ substituted_tree (args_forest (M.context make.old).trees args) (ty_tree (M.context make.old).trees ty)) }
     ensures cause { IfErr result (λ s. IsSubstStop (length (M.context make.new).trees) (alone (substituted_tree (args_forest (M.context make.old).trees args) (ty_tree (M.context make.old).trees ty))) s) }
+
+    // Laws.
+    ensures unchanged { tree_holds is_param (ty_tree (M.context make.old).trees ty) ≡ false → IfOk result (λ t. ty_tree (M.context make.new).trees t ≡ ty_tree (M.context make.old).trees ty) }
+    ensures twice { (others : Forest) → IfOk result (λ t. substituted_tree others (ty_tree (M.context make.new).trees t) ≡ substituted_tree (substituted others 0 (args_forest (M.context make.old).trees args)) (ty_tree (M.context make.old).trees ty)) }
+    ensures height { IfOk result (λ t. height (ty_tree (M.context make.new).trees t) ≤ height (ty_tree (M.context make.old).trees ty) + heights (args_forest (M.context make.old).trees args)) }
 {
     Ok(Ty(substituted(alloc, make, ty.0, args)?))
 }
@@ -221,6 +226,11 @@ pub fn subst_const<M: Make>(
     ensures sort { IfOk result (λ x. IsConst (M.context make.new).trees x) }
     ensures tree { IfOk result (λ x. const_tree (M.context make.new).trees x ≡ substituted_tree (args_forest (M.context make.old).trees args) (const_tree (M.context make.old).trees constant)) }
     ensures cause { IfErr result (λ s. IsSubstStop (length (M.context make.new).trees) (alone (substituted_tree (args_forest (M.context make.old).trees args) (const_tree (M.context make.old).trees constant))) s) }
+
+    // Laws.
+    ensures unchanged { tree_holds is_param (const_tree (M.context make.old).trees constant) ≡ false → IfOk result (λ x. const_tree (M.context make.new).trees x ≡ const_tree (M.context make.old).trees constant) }
+    ensures twice { (others : Forest) → IfOk result (λ x. substituted_tree others (const_tree (M.context make.new).trees x) ≡ substituted_tree (substituted others 0 (args_forest (M.context make.old).trees args)) (const_tree (M.context make.old).trees constant)) }
+    ensures height { IfOk result (λ x. height (const_tree (M.context make.new).trees x) ≤ height (const_tree (M.context make.old).trees constant) + heights (args_forest (M.context make.old).trees args)) }
 {
     Ok(Const(substituted(alloc, make, constant.0, args)?))
 }
@@ -240,6 +250,11 @@ pub fn subst_args<M: Make>(
     ensures sort { IfOk result (λ x. IsArgs (M.context make.new).trees x) }
     ensures tree { IfOk result (λ x. args_forest (M.context make.new).trees x ≡ substituted (args_forest (M.context make.old).trees args) 0 (args_forest (M.context make.old).trees list)) }
     ensures cause { IfErr result (λ s. IsSubstStop (length (M.context make.new).trees) (substituted (args_forest (M.context make.old).trees args) 0 (args_forest (M.context make.old).trees list)) s) }
+
+    // Laws.
+    ensures unchanged { holds is_param (args_forest (M.context make.old).trees list) ≡ false → IfOk result (λ x. args_forest (M.context make.new).trees x ≡ args_forest (M.context make.old).trees list) }
+    ensures twice { (others : Forest) → IfOk result (λ x. substituted others 0 (args_forest (M.context make.new).trees x) ≡ substituted (substituted others 0 (args_forest (M.context make.old).trees args)) 0 (args_forest (M.context make.old).trees list)) }
+    ensures height { IfOk result (λ x. heights (args_forest (M.context make.new).trees x) ≤ heights (args_forest (M.context make.old).trees list) + heights (args_forest (M.context make.old).trees args)) }
 {
     Ok(Args(substituted(alloc, make, list.0, args)?))
 }
@@ -259,6 +274,11 @@ pub fn subst_clause<M: Make>(
     ensures sort { IfOk result (λ x. IsClause (M.context make.new).trees x) }
     ensures tree { IfOk result (λ x. clause_tree (M.context make.new).trees x ≡ substituted_tree (args_forest (M.context make.old).trees args) (clause_tree (M.context make.old).trees clause)) }
     ensures cause { IfErr result (λ s. IsSubstStop (length (M.context make.new).trees) (alone (substituted_tree (args_forest (M.context make.old).trees args) (clause_tree (M.context make.old).trees clause))) s) }
+
+    // Laws.
+    ensures unchanged { tree_holds is_param (clause_tree (M.context make.old).trees clause) ≡ false → IfOk result (λ x. clause_tree (M.context make.new).trees x ≡ clause_tree (M.context make.old).trees clause) }
+    ensures twice { (others : Forest) → IfOk result (λ x. substituted_tree others (clause_tree (M.context make.new).trees x) ≡ substituted_tree (substituted others 0 (args_forest (M.context make.old).trees args)) (clause_tree (M.context make.old).trees clause)) }
+    ensures height { IfOk result (λ x. height (clause_tree (M.context make.new).trees x) ≤ height (clause_tree (M.context make.old).trees clause) + heights (args_forest (M.context make.old).trees args)) }
 {
     Ok(Clause(substituted(alloc, make, clause.0, args)?))
 }
@@ -278,6 +298,11 @@ pub fn subst_env<M: Make>(
     ensures sort { IfOk result (λ x. IsParamEnv (M.context make.new).trees x) }
     ensures tree { IfOk result (λ x. env_forest (M.context make.new).trees x ≡ substituted (args_forest (M.context make.old).trees args) 0 (env_forest (M.context make.old).trees env)) }
     ensures cause { IfErr result (λ s. IsSubstStop (length (M.context make.new).trees) (substituted (args_forest (M.context make.old).trees args) 0 (env_forest (M.context make.old).trees env)) s) }
+
+    // Laws.
+    ensures unchanged { holds is_param (env_forest (M.context make.old).trees env) ≡ false → IfOk result (λ x. env_forest (M.context make.new).trees x ≡ env_forest (M.context make.old).trees env) }
+    ensures twice { (others : Forest) → IfOk result (λ x. substituted others 0 (env_forest (M.context make.new).trees x) ≡ substituted (substituted others 0 (args_forest (M.context make.old).trees args)) 0 (env_forest (M.context make.old).trees env)) }
+    ensures height { IfOk result (λ x. heights (env_forest (M.context make.new).trees x) ≤ heights (env_forest (M.context make.old).trees env) + heights (args_forest (M.context make.old).trees args)) }
 {
     Ok(ParamEnv(substituted(alloc, make, env.0, args)?))
 }
@@ -298,6 +323,11 @@ pub fn subst_trait_ref<M: Make>(
     ensures same { IfOk result (λ r. r.def_id ≡ trait_ref.def_id) }
     ensures tree { IfOk result (λ r. args_forest (M.context make.new).trees r.args ≡ substituted (args_forest (M.context make.old).trees args) 0 (args_forest (M.context make.old).trees trait_ref.args)) }
     ensures cause { IfErr result (λ s. IsSubstStop (length (M.context make.new).trees) (substituted (args_forest (M.context make.old).trees args) 0 (args_forest (M.context make.old).trees trait_ref.args)) s) }
+
+    // Laws.
+    ensures unchanged { holds is_param (args_forest (M.context make.old).trees trait_ref.args) ≡ false → IfOk result (λ r. args_forest (M.context make.new).trees r.args ≡ args_forest (M.context make.old).trees trait_ref.args) }
+    ensures twice { (others : Forest) → IfOk result (λ r. substituted others 0 (args_forest (M.context make.new).trees r.args) ≡ substituted (substituted others 0 (args_forest (M.context make.old).trees args)) 0 (args_forest (M.context make.old).trees trait_ref.args)) }
+    ensures height { IfOk result (λ r. heights (args_forest (M.context make.new).trees r.args) ≤ heights (args_forest (M.context make.old).trees trait_ref.args) + heights (args_forest (M.context make.old).trees args)) }
 {
     Ok(TraitRef {
         def_id: trait_ref.def_id,
