@@ -17,7 +17,7 @@ use Rattle.candidate_ir.specs.Nodes.{tree_at, kind_at, is_bound_kind}
 use Rattle.candidate_ir.specs.Substitutions.{alone}
 use Rattle.candidate_ir.specs.Words.{IsMkStop}
 use Rattle.candidate_ir.specs.Context.{Context, Grows}
-use Rattle.candidate_ir.specs.Folding.{Answers, fold, fold_tree, leaf, further, moved, moved_leaf, is_too_far, bounds_in, IsSubstStop, no_memory, few_numbers, high_tree, far_variable, IsAnswerStop}
+use Rattle.candidate_ir.specs.Folding.{Answers, fold, fold_tree, leaf, further, moved, moved_leaf, is_too_far, bounds_in, most_bounds, IsSubstStop, no_memory, few_numbers, high_tree, far_variable, IsAnswerStop}
 use Rattle.candidate_ir.specs.Folds.{is_asked, node, IsArg, arg_tree, are_bounds, numbers_given, Says, Refuses, OnlyMakes, FoldsBy, StopsBy, memory, refused, too_high, full, too_few, after, below_asked, below_passed, later, IsReached, here, by_call, by_nodes, IsFunction, Renumbers}
 use Rattle.candidate_ir.proofs.Kept.{grows-refl, grows-trans}
 use Rattle.candidate_ir.proofs.Lists.{there}
@@ -74,6 +74,14 @@ fold-join a d (tree h below rest) us = ap (begin (unwrap_or (a d (node h below))
 bounds-join : (ts us : Forest) → bounds_in (join ts us) ≡ bounds_in ts + bounds_in us
 bounds-join none us = omega arith
 bounds-join (tree h below rest) us = omega (arith, bounds-join rest us)
+
+most-join : (ts us : Forest) → most_bounds ts ≤ most_bounds (join ts us)
+most-join none us = omega arith
+most-join (tree h below rest) us = omega (arith, bounds-join rest us, most-join rest us)
+
+row-bounds : (ts : Forest) → bounds_in ts ≤ most_bounds ts
+row-bounds none = omega arith
+row-bounds (tree h below rest) = omega arith
 
 count-bounds : (ts : Forest) → are_bounds ts ≡ true → count ts ≤ bounds_in ts
 count-bounds none e = omega arith
@@ -201,7 +209,7 @@ module _ {M Rest F : Type 0} (context : M → Context) (others : M → Rest)
     stops-cause l (full k few) = few_numbers (omega (arith, few))
     stops-cause {d = d} l (too_few {first = ts} {made = us} rest i p b h) =
         let same = ap (fold a d) i ∙ (fold-join a d ts rest ∙ ap (λ (y : Forest). join y (fold a d rest)) (sym (folds-by context others g a s0 f l p))) in
-        few_numbers (omega (arith, h, count-bounds us b, bounds-join us (fold a d rest), ap bounds_in same))
+        few_numbers (omega (arith, h, count-bounds us b, row-bounds us, most-join us (fold a d rest), ap most_bounds same))
     stops-cause l (after o p) = stops-cause (by_nodes l o) p
     stops-cause {s} {e} {d = d} {x = x} l (below_asked {m = m} {h = h} {below = below} {rest = rest} i k p) =
         let P : Forest → Type 0 = λ ts. IsSubstStop (numbers_given context e) ts x in

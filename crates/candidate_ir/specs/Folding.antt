@@ -1,5 +1,5 @@
 -- Trees with answers put in: folds, shifts, substitutions.
-use Rattle.std.specs.Prelude.{◌≡◌, Bool, true, false, not, ◌&&◌, ℕ, zero, suc, ◌+◌, ◌<◌, nat_le, nat_lt, Option, Some, None, if◌then◌else◌}
+use Rattle.std.specs.Prelude.{◌≡◌, Bool, true, false, not, ◌&&◌, ℕ, zero, suc, ◌+◌, ◌<◌, nat_le, nat_lt, max, Option, Some, None, if◌then◌else◌}
 use Rattle.std.specs.Option.{unwrap_or}
 use Rattle.candidate_ir.specs.declared.ir.heads.Head.{Head}
 use Rattle.candidate_ir.specs.declared.ir.heads.Head.TheVariants as H
@@ -93,16 +93,21 @@ is_too_far (H.Const (C.Bound v)) = nat_lt 4294967295 v.depth
 is_too_far (H.Region (R.Bound v)) = nat_lt 4294967295 v.depth
 is_too_far _ = false
 
--- how many bounds of `dyn` types stand in the trees
+-- how many bounds of `dyn` types stand in a row
 abbrev pub bounds_in : Forest → ℕ
 bounds_in none = 0
-bounds_in (tree h below rest) = (if is_bound_kind (kind_of h) then 1 else 0) + (bounds_in below + bounds_in rest)
+bounds_in (tree h below rest) = (if is_bound_kind (kind_of h) then 1 else 0) + bounds_in rest
 
--- Why trees were not made, where so many numbers are given: a growth was refused; fewer numbers are left than the trees have
--- bounds of `dyn` types, and one; they are higher than 1,024; or a variable in them is bound too far out.
+-- the most bounds that stand in one row, be it this or one below
+abbrev pub most_bounds : Forest → ℕ
+most_bounds none = 0
+most_bounds (tree h below rest) = max (bounds_in (tree h below rest)) (max (most_bounds below) (most_bounds rest))
+
+-- Why trees were not made, where so many numbers are given: a growth was refused; fewer numbers are left than the longest list
+-- of bounds in them takes, one for each and one more; they are higher than 1,024; or a variable in them is bound too far out.
 pub data IsSubstStop (given : ℕ) (made : Forest) : Stop → Type 0 where
   no_memory : IsSubstStop given made Memory
-  few_numbers : 4294967295 < given + (bounds_in made + 1) → IsSubstStop given made NodesFull
+  few_numbers : 4294967295 < given + (most_bounds made + 1) → IsSubstStop given made NodesFull
   high_tree : 1024 < heights made → IsSubstStop given made NodesFull
   far_variable : holds is_too_far made ≡ true → IsSubstStop given made NodesFull
 
