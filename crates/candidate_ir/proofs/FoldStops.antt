@@ -18,7 +18,7 @@ use Rattle.candidate_ir.specs.Substitutions.{alone}
 use Rattle.candidate_ir.specs.Words.{IsMkStop}
 use Rattle.candidate_ir.specs.Context.{Context, Grows}
 use Rattle.candidate_ir.specs.Folding.{Answers, fold, fold_tree, leaf, further, moved, moved_leaf, is_too_far, bounds_in, most_bounds, IsSubstStop, no_memory, few_numbers, high_tree, far_variable, IsAnswerStop}
-use Rattle.candidate_ir.specs.Folds.{is_asked, node, IsArg, arg_tree, are_bounds, numbers_given, Says, Refuses, OnlyMakes, FoldsBy, StopsBy, memory, refused, too_high, full, too_few, after, below_asked, below_passed, later, IsReached, here, by_call, by_nodes, IsFunction, Renumbers}
+use Rattle.candidate_ir.specs.Folds.{is_asked, node, IsArg, arg_tree, are_bounds, numbers_given, Says, Refuses, OnlyMakes, FoldsBy, StopsBy, memory, refused, too_high, full, too_few, after, below_asked, below_passed, later, IsReached, here, by_call, by_nodes, IsFunction, KeepsRest, Renumbers}
 use Rattle.candidate_ir.proofs.Kept.{grows-refl, grows-trans}
 use Rattle.candidate_ir.proofs.Lists.{there}
 use Rattle.candidate_ir.proofs.Rows.{row-single}
@@ -145,14 +145,16 @@ module _ {M Rest F : Type 0} (context : M → Context) (others : M → Rest)
   -- What each call keeps beside the context, a fold keeps: `Q` is what the calls need of the closure for it.
   module _ (Q : F → Type 0) (s0 : F × M)
       (call : (t : F × M) (x : GenericArg) (d : ℕ) (r : Result (Option GenericArg) Stop) (u : F × M) → Says context others g t x d r u → IsArg (context t.1).trees x
-      → Grows (context s0.1) (context t.1) → Q t.0 → Q u.0 × (others u.1 ≡ others t.1)) where
+      → IsReached context others g s0 t → Grows (context s0.1) (context t.1) → Q t.0 → Q u.0 × (others u.1 ≡ others t.1)) where
     record Keeps (e : F × M) : Type 0 where
+      reached : IsReached context others g s0 e
       grows : Grows (context s0.1) (context e.1)
       held : Q e.0
       rest : others e.1 ≡ others s0.1
 
     made-keeps : (s e : F × M) → OnlyMakes context others g s e → Keeps s → Keeps e
     made-keeps s e o k = record {
+      reached = by_nodes k.reached o;
       grows = grows-trans (context s0.1) (context s.1) (context e.1) k.grows o.grows;
       held = subst Q (sym o.same) k.held;
       rest = o.rest ∙ k.rest;
@@ -162,8 +164,9 @@ module _ {M Rest F : Type 0} (context : M → Context) (others : M → Rest)
     reached-keeps-rest s e here k = k
     reached-keeps-rest s e (by_call {m = m} {d = d} l a) k =
         let p = reached-keeps-rest s m l k in
-        let q = call m a.of d (Ok a.answer) e a.says a.is p.grows p.held in
+        let q = call m a.of d (Ok a.answer) e a.says a.is p.reached p.grows p.held in
         record {
+          reached = by_call p.reached a;
           grows = grows-trans (context s0.1) (context m.1) (context e.1) p.grows a.grows;
           held = q.0;
           rest = q.1 ∙ p.rest;
@@ -175,7 +178,7 @@ module _ {M Rest F : Type 0} (context : M → Context) (others : M → Rest)
 
     stops-keep-rest : {s e : F × M} {d : ℕ} {ts : Forest} {x : Stop} → StopsBy context others g s d ts x e → Keeps s → others e.1 ≡ others s0.1
     stops-keep-rest {s} {e} (memory l) k = (reached-keeps-rest s e l k).rest
-    stops-keep-rest {s} {e} {d = d} {x = x} (refused h a) k = (call s a.of d (Err x) e a.says a.is k.grows k.held).1 ∙ k.rest
+    stops-keep-rest {s} {e} {d = d} {x = x} (refused h a) k = (call s a.of d (Err x) e a.says a.is k.reached k.grows k.held).1 ∙ k.rest
     stops-keep-rest (too_high rest i p h) k = (folds-keep-rest p k).rest
     stops-keep-rest {s} {e} (full l h) k = (reached-keeps-rest s e l k).rest
     stops-keep-rest (too_few rest i p b h) k = (folds-keep-rest p k).rest
@@ -184,10 +187,16 @@ module _ {M Rest F : Type 0} (context : M → Context) (others : M → Rest)
     stops-keep-rest (below_passed h p) k = stops-keep-rest p k
     stops-keep-rest (later p q) k = stops-keep-rest q (folds-keep-rest p k)
 
+    begin-keeps : Q s0.0 → Keeps s0
+    begin-keeps q = record { reached = here; grows = grows-refl (context s0.1); held = q; rest = refl }
+
     -- so a fold of a number does
     pub number-keeps-rest : (e : F × M) (d n : ℕ) (r : Result ℕ Stop) → Q s0.0 → Renumbers context others g s0 d n r e → others e.1 ≡ others s0.1
-    number-keeps-rest e d n (Ok k) q r = (folds-keep-rest r.folded (record { grows = grows-refl (context s0.1); held = q; rest = refl })).rest
-    number-keeps-rest e d n (Err x) q r = stops-keep-rest r.stopped (record { grows = grows-refl (context s0.1); held = q; rest = refl })
+    number-keeps-rest e d n (Ok k) q r = (folds-keep-rest r.folded (begin-keeps q)).rest
+    number-keeps-rest e d n (Err x) q r = stops-keep-rest r.stopped (begin-keeps q)
+
+  pub number-rest : (s e : F × M) (d n : ℕ) (r : Result ℕ Stop) → Renumbers context others g s d n r e → KeepsRest context others g s → others e.1 ≡ others s.1
+  number-rest s e d n r h k = number-keeps-rest (λ f. Unit {0}) s (λ t x d r u n i l grown q. (tt, k.at t x d r u l grown i n)) e d n r tt h
 
   reached-grows : (s e : F × M) → IsReached context others g s e → Grows (context s.1) (context e.1)
   reached-grows s e here = grows-refl (context s.1)

@@ -137,6 +137,11 @@ module _ {M Rest F : Type 0} (context : M → Context) (others : M → Rest)
         → IsArg (context s.1).trees x → arg_number x < 2 ^ 32 → d < 2 ^ 32 → Says s x d r e
         → Grows (context s.1) (context e.1) × IfOk r (λ o. IsOfKind (context e.1).trees x o)
 
+  -- There it keeps all of what makes nodes but the context.
+  pub record KeepsRest (s0 : F × M) : Type 0 where
+    pub at : (s : F × M) (x : GenericArg) (d : ℕ) (r : Result (Option GenericArg) Stop) (e : F × M) → IsReached s0 s → Grows (context s0.1) (context s.1)
+        → IsArg (context s.1).trees x → Says s x d r e → others e.1 ≡ others s.1
+
   -- From here on it answers what the function says, which answers types, constants and regions alone.
   pub record IsFunction (a : ℕ → Tree → Option Tree) (s0 : F × M) : Type 0 where
     pub at : (s : F × M) (d : ℕ) (t : Tree) (o : Option Tree) (e : F × M) → IsReached s0 s → Asks s d t o e → a d t ≡ o

@@ -25,13 +25,13 @@ returns-clause-tree g c =
 pub returns-clause-rest : goal.returns-clause-rest
 returns-clause-rest g c =
     number-keeps-rest g.M.Make.context g.M.Make.rest _ (λ z. z.0 ≡ c.args.by) _
-    (λ t x d r u n i grown q. let k = n.called in let l = n.lends in let v = n.leaves in (search rules, search rules))
+    (λ t x d r u n i l0 grown q. let k = n.called in let l = n.lends in let v = n.leaves in (search rules, search rules))
     _ 0 c.number.result c.fold_number.result refl c.fold_number.ensures
 
 pub returns-in_err-number-clause-rest : goal.returns-in_err-number-clause-rest
 returns-in_err-number-clause-rest g c =
     number-keeps-rest g.M.Make.context g.M.Make.rest _ (λ z. z.0 ≡ c.args.by) _
-    (λ t x d r u n i grown q. let k = n.called in let l = n.lends in let v = n.leaves in (search rules, search rules))
+    (λ t x d r u n i l0 grown q. let k = n.called in let l = n.lends in let v = n.leaves in (search rules, search rules))
     _ 0 c.number.result c.fold_number.result refl c.fold_number.ensures
 
 pub returns-in_err-number-clause-cause : goal.returns-in_err-number-clause-cause

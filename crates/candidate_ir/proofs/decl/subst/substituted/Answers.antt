@@ -31,7 +31,7 @@ returns-clause-list g c =
 pub returns-clause-rest : goal.returns-clause-rest
 returns-clause-rest g c =
     number-keeps-rest g.M.Make.context g.M.Make.rest _ (λ z. z.1 ≡ c.args.args) _
-    (λ t x d r u n i grown q. let k = n.called in let l = n.lends in let v = n.leaves in let kept = (args-kept _ _ c.args.args grown c.requires.args).0 in (search rules, search rules))
+    (λ t x d r u n i l0 grown q. let k = n.called in let l = n.lends in let v = n.leaves in let kept = (args-kept _ _ c.args.args grown c.requires.args).0 in (search rules, search rules))
     _ 0 c.args.number c.fold_number.result refl c.fold_number.ensures
 
 pub returns-clause-tree_cause : goal.returns-clause-tree_cause
