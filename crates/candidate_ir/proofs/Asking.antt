@@ -9,7 +9,7 @@ use Rattle.candidate_ir.specs.Kinds.{arg_number, arg_kind}
 use Rattle.candidate_ir.specs.Trees.{Kind, Tree, kind_of}
 use Rattle.candidate_ir.specs.Nodes.{tree_at, kind_at, head_of, is_bound_kind}
 use Rattle.candidate_ir.specs.Table.{IsNodeOf}
-use Rattle.candidate_ir.specs.Folds.{is_asked, is_asked_kind, IsArg}
+use Rattle.candidate_ir.specs.Folds.{is_asked, is_asked_kind, IsArg, arg_tree}
 use Rattle.candidate_ir.proofs.Sorts.{node_kind}
 use Rattle.candidate_ir.proofs.Lists.{below_kind, kind_of-tree_at}
 use Rattle.candidate_ir.proofs.Members.{arg-there}
@@ -28,6 +28,11 @@ arg-head c d x n h e m i k =
     ap kind_of k
     ∙ (ap (λ (y : Context). kind_of (tree_at y.trees n).head) e
     ∙ (ap (λ (j : ℕ). kind_of (tree_at c.trees j).head) m ∙ kind-of c.trees (arg_number x) (arg_kind x) (arg-there x) i))
+
+-- and is the one read
+pub arg-head-is : (c d : Context) (x : GenericArg) (n : ℕ) (h : Head) → d ≡ c → n ≡ arg_number x → h ≡ (tree_at d.trees n).head → (arg_tree c.trees x).head ≡ h
+arg-head-is c d x n h e m k =
+    sym (k ∙ (ap (λ (y : Context). (tree_at y.trees n).head) e ∙ ap (λ (j : ℕ). (tree_at c.trees j).head) m))
 
 pub arg-below : (ts : List Tree) (x : GenericArg) → IsArg ts x → arg_number x < length ts
 arg-below ts x i = below_kind ts (arg_number x) (arg_kind x) (arg-there x) i

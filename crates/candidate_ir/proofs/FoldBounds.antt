@@ -1,5 +1,5 @@
 -- Folds of the bounds of a `dyn` type, and of the variables of a binder.
-use Rattle.std.proofs.Common.{◌≡◌, ℕ, ◌+◌, ◌<◌, ◌≤◌, List, [], ◌∷◌, ◌++◌, length, take, slice_get, Option, Some, Result, Ok, Err, false, refl, sym, ◌∙◌, ap, subst, arith, inl, inr}
+use Rattle.std.proofs.Common.{◌≡◌, ℕ, ◌+◌, ◌<◌, ◌≤◌, List, [], ◌∷◌, ◌++◌, length, take, slice_get, Option, Some, Result, Ok, Err, false, true, refl, sym, ◌∙◌, ap, subst, arith, inl, inr}
 use Rattle.std.specs.Prelude.{map, count_by}
 use Rattle.std.proofs.lemmas.List.{map_push, take_all}
 use Rattle.std.proofs.lemmas.List.Elements.{All-push, All-weaker, All-head, All-tail}
@@ -24,15 +24,15 @@ use Rattle.candidate_ir.specs.Worlds.{World}
 use Rattle.candidate_ir.specs.References.{AllTake, FitsAmong, IsWellFormed}
 use Rattle.candidate_ir.proofs.References.{fit-at}
 use Rattle.candidate_ir.proofs.FoldKinds.{take-push, takes-again, folds-kinds}
-use Rattle.candidate_ir.specs.Folds.{is_asked, is_asked_kind, node, Folds, ended, passed, memory, below_passed, Asks, Refuses, OnlyMakes, FoldsBy, StopsBy, Outcome, Relists}
+use Rattle.candidate_ir.specs.Folds.{is_asked, is_asked_kind, node, Folds, ended, passed, memory, below_passed, Asks, Refuses, OnlyMakes, FoldsBy, StopsBy, IsReached, by_nodes, numbers_given, are_bounds, Outcome, Relists}
 use Rattle.candidate_ir.proofs.Kept.{grows-refl, grows-trans, number-kept, world-kept}
 use Rattle.candidate_ir.proofs.Lists.{below_kind, kind_of-tree_at}
 use Rattle.candidate_ir.proofs.Growing.{pred-fits-grown, pred-tree-grown}
 use Rattle.candidate_ir.proofs.Made.{one_if, principals-one}
 use Rattle.candidate_ir.proofs.Principals.{bound-principal}
 use Rattle.candidate_ir.proofs.Rows.{row-single}
-use Rattle.candidate_ir.proofs.FoldRows.{folds-join, folds-made, stops-first, stops-then, row-high, row-full, rows-append}
-use Rattle.candidate_ir.proofs.FoldSteps.{take-one, rows-next, rows-around}
+use Rattle.candidate_ir.proofs.FoldRows.{folds-join, folds-made, stops-first, stops-then, row-high, row-few, rows-append}
+use Rattle.candidate_ir.proofs.FoldSteps.{take-one, rows-next, rows-around, folds-reached}
 
 -- the variables of a binder are passed over
 folds-leaves : {S : Type 0} (asks : S → ℕ → Tree → Option Tree → S → Type 0) (makes : S → S → Type 0) (s : S) (d : ℕ) (ts : List Tree) (vs : List Var)
@@ -63,6 +63,10 @@ principals-join (tree h below rest) b = omega (arith, principals-join rest b)
 count-bounds : (ts : List Tree) (bs : List (Binder ExistentialPredicate)) → count (bounds_forest ts bs) ≡ length bs
 count-bounds ts [] = refl
 count-bounds ts (b ∷ bs) = omega (arith, count-bounds ts bs)
+
+all-bounds : (ts : List Tree) (bs : List (Binder ExistentialPredicate)) → are_bounds (bounds_forest ts bs) ≡ true
+all-bounds ts [] = refl
+all-bounds ts (b ∷ bs) = all-bounds ts bs
 
 abbrev bound_count : List (Binder ExistentialPredicate) → ℕ
 bound_count bs = count_by (λ b. names_trait b.value) bs
@@ -149,20 +153,20 @@ module _ {M Rest F : Type 0} (context : M → Context) (others : M → Rest)
     pub bounds-stop : {A B : Type 0} (listed : A → List ℕ) (seen : List Tree → B → Forest) (x : Stop) → Relists context others g listed m (d + 1) (pred_children b) (Err x) e
         → Outcome context others g seen s d (rows (trees_at (Table s) ks)) (Err x) e
     bounds-stop listed seen x r =
-        let Whole : Forest → Type 0 = λ ts. StopsBy context others g (length (Table e)) s d ts x in
-        let At : Tree → Type 0 = λ t. StopsBy context others g (length (Table e)) m d (row t none) x in
+        let Whole : Forest → Type 0 = λ ts. StopsBy context others g s d ts x e in
+        let At : Tree → Type 0 = λ t. StopsBy context others g m d (row t none) x e in
         let here : At (pred_kind_tree (Table m) b) = below_passed refl r.stopped in
         record {
           grows = grows-trans (context s.1) (context m.1) (context e.1) so.grows r.grows;
           folded = tt;
           stopped = subst Whole (sym (rows-around (Table s) ks i k a))
-              (stops-then (Asks context others g) (OnlyMakes context others g) (Refuses context others g) (length (Table e)) so.folded
-              (stops-first (Asks context others g) (OnlyMakes context others g) (Refuses context others g) (length (Table e)) _ (subst At (sym tree-was) here)));
+              (stops-then (Asks context others g) (OnlyMakes context others g) (Refuses context others g) (IsReached context others g) (numbers_given context) so.folded
+              (stops-first (Asks context others g) (OnlyMakes context others g) (Refuses context others g) (IsReached context others g) (numbers_given context) _ (subst At (sym tree-was) here)));
         }
 
   pub outcome-memory : {B : Type 0} (seen : List Tree → B → Forest) (s e : F × M) (d : ℕ) (ts : Forest) → Grows (context s.1) (context e.1)
-      → Outcome context others g seen s d ts (Err Memory) e
-  outcome-memory seen s e d ts h = record { grows = h; folded = tt; stopped = memory }
+      → IsReached context others g s e → Outcome context others g seen s d ts (Err Memory) e
+  outcome-memory seen s e d ts h l = record { grows = h; folded = tt; stopped = memory l }
 
   -- all bounds were folded, and are made or not
   module _ (s m e : F × M) (d : ℕ) (ks : List ℕ) (bounds : List (Binder ExistentialPredicate)) (i : ℕ) (so : BoundsSoFar s d ks bounds i m) (l : length ks ≤ i)
@@ -188,7 +192,8 @@ module _ {M Rest F : Type 0} (context : M → Context) (others : M → Rest)
         → Outcome context others g seen s d (rows (trees_at (Table s) ks)) (Err x) e
     bounds-unmade seen x u (inl z) =
         let P : Stop → Type 0 = λ y. Outcome context others g seen s d (rows (trees_at (Table s) ks)) (Err y) e in
-        subst P (sym z) (outcome-memory seen s e d (rows (trees_at (Table s) ks)) (grows-trans (context s.1) (context m.1) (context e.1) so.grows o.grows))
+        subst P (sym z) (outcome-memory seen s e d (rows (trees_at (Table s) ks)) (grows-trans (context s.1) (context m.1) (context e.1) so.grows o.grows)
+        (by_nodes (folds-reached context others g so.folded) o))
     bounds-unmade seen x u (inr (z, inl few)) =
         let P : Stop → Type 0 = λ y. Outcome context others g seen s d (rows (trees_at (Table s) ks)) (Err y) e in
         let same = ap (λ (c : Context). length c.trees) u in
@@ -196,12 +201,12 @@ module _ {M Rest F : Type 0} (context : M → Context) (others : M → Rest)
         subst P (sym z) (record {
           grows = grows-trans (context s.1) (context m.1) (context e.1) so.grows o.grows;
           folded = tt;
-          stopped = row-full (Asks context others g) (OnlyMakes context others g) (Refuses context others g) (length (Table e)) whole short;
+          stopped = row-few (Asks context others g) (OnlyMakes context others g) (Refuses context others g) (IsReached context others g) (numbers_given context) whole (all-bounds (Table m) bounds) short;
         })
     bounds-unmade seen x u (inr (z, inr high)) =
         let P : Stop → Type 0 = λ y. Outcome context others g seen s d (rows (trees_at (Table s) ks)) (Err y) e in
         subst P (sym z) (record {
           grows = grows-trans (context s.1) (context m.1) (context e.1) so.grows o.grows;
           folded = tt;
-          stopped = row-high (Asks context others g) (OnlyMakes context others g) (Refuses context others g) (length (Table e)) whole high;
+          stopped = row-high (Asks context others g) (OnlyMakes context others g) (Refuses context others g) (IsReached context others g) (numbers_given context) whole high;
         })

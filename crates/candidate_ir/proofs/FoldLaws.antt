@@ -1,7 +1,7 @@
 -- What folds by a closure come to where its answers are a function.
 use Rattle.candidate_ir.specs.declared.ir.heads.Head.{Head}
 use Rattle.candidate_ir.specs.declared.ir.heads.Head.TheVariants as H
-use Rattle.std.proofs.Common.{◌≡◌, ℕ, ◌+◌, List, length, Option, Some, None, Result, Ok, Err, true, false, refl, sym, ◌∙◌, ap, subst}
+use Rattle.std.proofs.Common.{◌≡◌, ℕ, ◌+◌, List, Option, Some, None, Result, Ok, Err, true, false, refl, sym, ◌∙◌, ap, subst}
 use Rattle.std.specs.Prelude.{IfOk, option_map}
 use Rattle.std.specs.Option.{unwrap_or}
 use Rattle.std.specs.Fn.{Mut}
@@ -23,7 +23,7 @@ use Rattle.candidate_ir.proofs.FoldSteps.{reached-then, folds-reached}
 module _ {M Rest F : Type 0} (context : M → Context) (others : M → Rest)
     (g : Mut F (MutBor M × (GenericArg × (ℕ × Unit {0}))) (Result (Option GenericArg) Stop × (MutBor M × Unit {0}))) where
   -- a tree without an answer
-  opened-row : (a : Answers) (d : ℕ) (h : Head) (below inner rest us : Forest) → a d (node h below) ≡ None → inner ≡ fold a (d + binders_of h) below → us ≡ fold a d rest
+  pub opened-row : (a : Answers) (d : ℕ) (h : Head) (below inner rest us : Forest) → a d (node h below) ≡ None → inner ≡ fold a (d + binders_of h) below → us ≡ fold a d rest
       → tree h inner us ≡ fold a d (tree h below rest)
   opened-row a d h below inner rest us e i r =
       let kept = node h (fold a (d + binders_of h) below) in
@@ -86,14 +86,14 @@ module _ {M Rest F : Type 0} (context : M → Context) (others : M → Rest)
       → kind_at (context s.1).trees n ≡ kind → Renumbers context others g s d n (Err x) e
       → Outcome context others g seen s d (alone (tree_at (context s.1).trees n)) (Err x) e
   one-stop seen s e d n x kind th single is r =
-      let From : Forest → Type 0 = λ ts. StopsBy context others g (length (context e.1).trees) s d ts x in
+      let From : Forest → Type 0 = λ ts. StopsBy context others g s d ts x e in
       record { grows = r.grows; folded = tt; stopped = subst From (row-single (context s.1).trees n kind none th single is) r.stopped }
 
   pub list-stop : {A : Type 0} (seen : List Tree → A → Forest) (s e : F × M) (d n : ℕ) (x : Stop) (kind : Kind) → there kind ≡ true → is_list_kind kind ≡ true
       → kind_at (context s.1).trees n ≡ kind → Renumbers context others g s d n (Err x) e
       → Outcome context others g seen s d (tree_at (context s.1).trees n).children (Err x) e
   list-stop seen s e d n x kind th list is r =
-      let From : Forest → Type 0 = λ ts. StopsBy context others g (length (context e.1).trees) s d ts x in
+      let From : Forest → Type 0 = λ ts. StopsBy context others g s d ts x e in
       record {
         grows = r.grows;
         folded = tt;

@@ -41,13 +41,13 @@ use Rattle.candidate_ir.specs.Worlds.{World}
 use Rattle.candidate_ir.specs.References.{Takes, FitsAmong, IsWellFormed}
 use Rattle.candidate_ir.proofs.References.{fit-at}
 use Rattle.candidate_ir.proofs.FoldKinds.{takes-again, folds-kinds}
-use Rattle.candidate_ir.specs.Folds.{is_asked, is_asked_kind, node, ended, replaced, opened, passed, memory, refused, below_asked, below_passed, Asks, Refuses, OnlyMakes, FoldsBy, StopsBy, IsReached, here, by_call, Outcome, IsSaid, Said, Renumbers, Relists}
+use Rattle.candidate_ir.specs.Folds.{is_asked, is_asked_kind, node, ended, replaced, opened, passed, memory, refused, below_asked, below_passed, Asks, Refuses, OnlyMakes, FoldsBy, StopsBy, IsReached, here, by_call, by_nodes, full, numbers_given, Outcome, IsSaid, Said, Renumbers, Relists}
 use Rattle.candidate_ir.proofs.Kept.{grows-trans, number-kept, world-kept}
 use Rattle.candidate_ir.proofs.Lists.{there, below_kind, kind_of-tree_at}
 use Rattle.candidate_ir.proofs.Splits.{list_of, list-head, list-head_of, rows-height}
 use Rattle.candidate_ir.proofs.Rows.{join-none}
-use Rattle.candidate_ir.proofs.FoldRows.{folds-made, none-left, row-high}
-use Rattle.candidate_ir.proofs.FoldSteps.{asked-single, there-head, extends-length}
+use Rattle.candidate_ir.proofs.FoldRows.{folds-made, row-high}
+use Rattle.candidate_ir.proofs.FoldSteps.{asked-single, there-head, extends-length, folds-reached, reached-then}
 use Rattle.candidate_ir.proofs.FoldBounds.{still-variables}
 use Rattle.candidate_ir.proofs.Folding.{or-left, or-right}
 
@@ -100,38 +100,50 @@ module _ {M Rest F : Type 0} (context : M → Context) (others : M → Rest)
           let To : Forest → Type 0 = λ ts. FoldsBy context others g s d (row t none) ts e in
           subst To (sym (row-one (node t.head inner) l)) (subst From (sym (row-one t l)) (passed a q ended))
 
-  open-stops : (s m : F × M) (given d n : ℕ) (x : Stop) → IsSaid context others g s d n None m
-      → StopsBy context others g given m (d + binders_of (tree_at (Table s) n).head) (tree_at (Table s) n).children x
-      → StopsBy context others g given s d (row (tree_at (Table s) n) none) x
-  open-stops s m given d n x (inl (a, h)) p =
+  open-stops : (s m e : F × M) (d n : ℕ) (x : Stop) → IsSaid context others g s d n None m
+      → StopsBy context others g m (d + binders_of (tree_at (Table s) n).head) (tree_at (Table s) n).children x e
+      → StopsBy context others g s d (row (tree_at (Table s) n) none) x e
+  open-stops s m e d n x (inl (a, h)) p =
       let t = tree_at (Table s) n in
-      let From : Forest → Type 0 = λ ts. StopsBy context others g given s d ts x in
+      let From : Forest → Type 0 = λ ts. StopsBy context others g s d ts x e in
       subst From (sym (row-one t (asked-single t.head a))) (below_asked a h p)
-  open-stops s m given d n x (inr (a, h)) p =
+  open-stops s m e d n x (inr (a, h)) p =
       let t = tree_at (Table s) n in
-      let Start : F × M → Type 0 = λ y. StopsBy context others g given y (d + binders_of t.head) t.children x in
+      let Start : F × M → Type 0 = λ y. StopsBy context others g y (d + binders_of t.head) t.children x e in
       at (is_list t.head) refl a (subst Start h p)
     where
       at : (b : Bool) → is_list (tree_at (Table s) n).head ≡ b → is_asked (tree_at (Table s) n).head ≡ false
-          → StopsBy context others g given s (d + binders_of (tree_at (Table s) n).head) (tree_at (Table s) n).children x
-          → StopsBy context others g given s d (row (tree_at (Table s) n) none) x
+          → StopsBy context others g s (d + binders_of (tree_at (Table s) n).head) (tree_at (Table s) n).children x e
+          → StopsBy context others g s d (row (tree_at (Table s) n) none) x e
       at true l a q =
           let t = tree_at (Table s) n in
-          let From : Forest → Type 0 = λ ts. StopsBy context others g given s d ts x in
-          let Under : ℕ → Type 0 = λ y. StopsBy context others g given s y t.children x in
+          let From : Forest → Type 0 = λ ts. StopsBy context others g s d ts x e in
+          let Under : ℕ → Type 0 = λ y. StopsBy context others g s y t.children x e in
           subst From (sym (row-members t l)) (subst Under (list-binds-nothing t.head l d) q)
       at false l a q =
           let t = tree_at (Table s) n in
-          let From : Forest → Type 0 = λ ts. StopsBy context others g given s d ts x in
+          let From : Forest → Type 0 = λ ts. StopsBy context others g s d ts x e in
           subst From (sym (row-one t l)) (below_passed a q)
 
-  pub number-memory : (s e : F × M) (d n : ℕ) → Grows (context s.1) (context e.1) → Renumbers context others g s d n (Err Memory) e
-  number-memory s e d n h = record { grows = h; sort = tt; folded = tt; stopped = memory }
+  -- what comes after what was asked
+  pub said-nothing : (s m : F × M) (d n : ℕ) (o : Option ℕ) → ((x : ℕ) → o ≡ Some x → ⊥) → Said context others g s d n (Ok o) m → Said context others g s d n (Ok None) m
+  said-nothing s m d n None lacks h = h
+  said-nothing s m d n (Some x) lacks h = absurd (lacks x refl)
+
+  pub said-reached : (s m : F × M) (d n : ℕ) → Said context others g s d n (Ok None) m → IsReached context others g s m
+  said-reached s m d n h = at h.said
+    where
+      at : IsSaid context others g s d n None m → IsReached context others g s m
+      at (inl (a, k)) = by_call here k
+      at (inr (a, k)) = subst (λ x. IsReached context others g s x) (sym k) here
+
+  pub number-memory : (s e : F × M) (d n : ℕ) → Grows (context s.1) (context e.1) → IsReached context others g s e → Renumbers context others g s d n (Err Memory) e
+  number-memory s e d n h l = record { grows = h; sort = tt; folded = tt; stopped = memory l }
 
   pub number-refused : (s e : F × M) (d n : ℕ) (x : Stop) → Said context others g s d n (Err x) e → Renumbers context others g s d n (Err x) e
   number-refused s e d n x h =
       let t = tree_at (Table s) n in
-      let From : Forest → Type 0 = λ ts. StopsBy context others g (length (Table e)) s d ts x in
+      let From : Forest → Type 0 = λ ts. StopsBy context others g s d ts x e in
       record {
         grows = h.grows;
         sort = tt;
@@ -196,12 +208,12 @@ module _ {M Rest F : Type 0} (context : M → Context) (others : M → Rest)
     pub number-stopped : {A : Type 0} (listed : A → List ℕ) (e : F × M) (x : Stop) → Relists context others g listed m (d + binders_of (head_of c)) (children_of c) (Err x) e
         → Renumbers context others g s d n (Err x) e
     number-stopped listed e x r =
-        let P : Tree → Type 0 = λ t. StopsBy context others g (length (Table e)) m (d + binders_of t.head) t.children x in
+        let P : Tree → Type 0 = λ t. StopsBy context others g m (d + binders_of t.head) t.children x e in
         record {
           grows = grows-trans (context s.1) (context m.1) (context e.1) h.grows r.grows;
           sort = tt;
           folded = tt;
-          stopped = open-stops s m (length (Table e)) d n x h.said (subst P (sym copy-tree) r.stopped);
+          stopped = open-stops s m e d n x h.said (subst P (sym copy-tree) r.stopped);
         }
 
     -- the node over folded children takes them
@@ -242,6 +254,9 @@ module _ {M Rest F : Type 0} (context : M → Context) (others : M → Rest)
             (open-folds s m f d n (rows (trees_at (Table e) (listed v))) h.said
             (subst P (sym copy-tree) (folds-made (Asks context others g) (OnlyMakes context others g) q.folded o)))
 
+        reached : IsReached context others g s f
+        reached = by_nodes (reached-then context others g (said-reached s m d n h) (folds-reached context others g q.folded)) o
+
         grown : Grows (context s.1) (context f.1)
         grown = grows-trans (context s.1) (context m.1) (context f.1) h.grows (grows-trans (context m.1) (context e.1) (context f.1) q.grows o.grows)
 
@@ -255,13 +270,13 @@ module _ {M Rest F : Type 0} (context : M → Context) (others : M → Rest)
               folded = subst P (sym (t ∙ is-new)) folded;
               stopped = tt;
             }
-        at (Err y) w t (inl z) = let P : Stop → Type 0 = λ u. Renumbers context others g s d n (Err u) f in subst P (sym z) (number-memory s f d n grown)
-        at (Err y) w t (inr (z, inl full)) = let P : Stop → Type 0 = λ u. Renumbers context others g s d n (Err u) f in
-            subst P (sym z) (record { grows = grown; sort = tt; folded = tt; stopped = none-left (Asks context others g) (OnlyMakes context others g) (Refuses context others g) (length (Table f)) full })
+        at (Err y) w t (inl z) = let P : Stop → Type 0 = λ u. Renumbers context others g s d n (Err u) f in subst P (sym z) (number-memory s f d n grown reached)
+        at (Err y) w t (inr (z, inl left)) = let P : Stop → Type 0 = λ u. Renumbers context others g s d n (Err u) f in
+            subst P (sym z) (record { grows = grown; sort = tt; folded = tt; stopped = full reached left })
         at (Err y) w t (inr (z, inr high)) =
             let P : Stop → Type 0 = λ u. Renumbers context others g s d n (Err u) f in
             let tall : 1024 < heights (row new none) = omega (arith, high, row-one-height new, ap height is-new) in
-            subst P (sym z) (record { grows = grown; sort = tt; folded = tt; stopped = row-high (Asks context others g) (OnlyMakes context others g) (Refuses context others g) (length (Table f)) folded tall })
+            subst P (sym z) (record { grows = grown; sort = tt; folded = tt; stopped = row-high (Asks context others g) (OnlyMakes context others g) (Refuses context others g) (IsReached context others g) (numbers_given context) folded tall })
 
     -- a list of bounds has one principal at most
     pub copy-principal : (v : Vec Pred Global) → c ≡ N.Preds v → principals (pred_list_forest (Table m) v.items) ≤ 1
@@ -308,13 +323,13 @@ module _ {M Rest F : Type 0} (context : M → Context) (others : M → Rest)
               stopped = tt;
             }
         at (Err x) w o =
-            let From : Forest → Type 0 = λ us. StopsBy context others g (length (Table e)) m (d + binders_of (tree_at (Table s) n).head) us x in
-            let Depth : ℕ → Type 0 = λ y. StopsBy context others g (length (Table e)) m y (pred_list_forest (Table m) v.items) x in
+            let From : Forest → Type 0 = λ us. StopsBy context others g m (d + binders_of (tree_at (Table s) n).head) us x e in
+            let Depth : ℕ → Type 0 = λ y. StopsBy context others g m y (pred_list_forest (Table m) v.items) x e in
             record {
               grows = grows-trans (context s.1) (context m.1) (context e.1) h.grows o.grows;
               sort = tt;
               folded = tt;
-              stopped = open-stops s m (length (Table e)) d n x h.said (subst From (sym under) (subst Depth depth o.stopped));
+              stopped = open-stops s m e d n x h.said (subst From (sym under) (subst Depth depth o.stopped));
             }
 
     -- the variables of a binder
@@ -330,18 +345,6 @@ module _ {M Rest F : Type 0} (context : M → Context) (others : M → Rest)
     number-bound b k lacks =
         let kind : kind_at (Table s) n ≡ PredicateKind = kind_of-tree_at (Table s) n inside ∙ ap (λ (t : Tree). kind_of t.head) (copy-tree ∙ ap (node_tree (Table m)) k) in
         let yes : is_bound_kind (kind_at (Table s) n) ≡ true = ap is_bound_kind kind in absurd cc
-
-  -- what comes after what was asked
-  pub said-nothing : (s m : F × M) (d n : ℕ) (o : Option ℕ) → ((x : ℕ) → o ≡ Some x → ⊥) → Said context others g s d n (Ok o) m → Said context others g s d n (Ok None) m
-  said-nothing s m d n None lacks h = h
-  said-nothing s m d n (Some x) lacks h = absurd (lacks x refl)
-
-  pub said-reached : (s m : F × M) (d n : ℕ) → Said context others g s d n (Ok None) m → IsReached context others g s m
-  said-reached s m d n h = at h.said
-    where
-      at : IsSaid context others g s d n None m → IsReached context others g s m
-      at (inl (a, k)) = by_call here k
-      at (inr (a, k)) = subst (λ x. IsReached context others g s x) (sym k) here
 
 -- no child of another node is a single bound
 no-bound-args : (xs : List GenericArg) → have_bound (sorts (map arg_child xs)) ≡ false

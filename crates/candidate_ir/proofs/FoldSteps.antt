@@ -19,7 +19,7 @@ use Rattle.candidate_ir.specs.Kinds.{Child, numbers, sorts}
 use Rattle.candidate_ir.specs.Nodes.{tree_at, kind_at, trees_at, kinds_at, rows, Extends}
 use Rattle.candidate_ir.specs.Table.{Below}
 use Rattle.candidate_ir.specs.Context.{Context, Grows}
-use Rattle.candidate_ir.specs.Folds.{is_asked, ended, made, replaced, opened, passed, memory, Asks, Refuses, OnlyMakes, FoldsBy, StopsBy, IsReached, here, by_call, by_nodes, MayFold, KeepsKinds, Renumbers, Relists}
+use Rattle.candidate_ir.specs.Folds.{is_asked, ended, made, replaced, opened, passed, memory, Asks, Refuses, OnlyMakes, FoldsBy, StopsBy, IsReached, here, by_call, by_nodes, numbers_given, MayFold, KeepsKinds, Renumbers, Relists}
 use Rattle.candidate_ir.proofs.Kept.{grows-refl, grows-trans, number-kept}
 use Rattle.candidate_ir.proofs.Lists.{there, below_kind, kind_of-tree_at, trees_at-append, kinds_at-append}
 use Rattle.candidate_ir.proofs.Children.{Below-get}
@@ -189,17 +189,17 @@ module _ {M Rest F : Type 0} (context : M → Context) (others : M → Rest)
       })
 
   -- a child's fold stopped
-  pub children-stop : (s m : F × M) (given d : ℕ) (ks done : List ℕ) (i k : ℕ) (x : Stop) → Below (length (Table s)) ks → ChildrenSoFar s d ks done i m
-      → slice_get ks i ≡ Some k → StopsBy context others g given m d (row (tree_at (Table m) k) none) x
-      → StopsBy context others g given s d (rows (trees_at (Table s) ks)) x
-  children-stop s m given d ks done i k x b so a p =
+  pub children-stop : (s m e : F × M) (d : ℕ) (ks done : List ℕ) (i k : ℕ) (x : Stop) → Below (length (Table s)) ks → ChildrenSoFar s d ks done i m
+      → slice_get ks i ≡ Some k → StopsBy context others g m d (row (tree_at (Table m) k) none) x e
+      → StopsBy context others g s d (rows (trees_at (Table s) ks)) x e
+  children-stop s m e d ks done i k x b so a p =
       let h : k < length (Table s) = Below-get (length (Table s)) ks i k b a in
       let same = number-kept (Table s) (Table m) k so.grows.kept h in
-      let At : Tree → Type 0 = λ t. StopsBy context others g given m d (row t none) x in
-      let Whole : Forest → Type 0 = λ ts. StopsBy context others g given s d ts x in
+      let At : Tree → Type 0 = λ t. StopsBy context others g m d (row t none) x e in
+      let Whole : Forest → Type 0 = λ ts. StopsBy context others g s d ts x e in
       subst Whole (sym (rows-around (Table s) ks i k a))
-      (stops-then (Asks context others g) (OnlyMakes context others g) (Refuses context others g) given so.folded
-      (stops-first (Asks context others g) (OnlyMakes context others g) (Refuses context others g) given _ (subst At same.1 p)))
+      (stops-then (Asks context others g) (OnlyMakes context others g) (Refuses context others g) (IsReached context others g) (numbers_given context) so.folded
+      (stops-first (Asks context others g) (OnlyMakes context others g) (Refuses context others g) (IsReached context others g) (numbers_given context) _ (subst At same.1 p)))
 
   pub relisted-stop : {A : Type 0} (listed : A → List ℕ) (s m e : F × M) (d : ℕ) (cs : List Child) (done : List ℕ) (i k : ℕ) (x : Stop)
       → Below (length (Table s)) (numbers cs) → ChildrenSoFar s d (numbers cs) done i m
@@ -208,12 +208,12 @@ module _ {M Rest F : Type 0} (context : M → Context) (others : M → Rest)
     grows = grows-trans (context s.1) (context m.1) (context e.1) so.grows r.grows;
     sorts_are = tt;
     folded = tt;
-    stopped = children-stop s m (length (Table e)) d (numbers cs) done i k x b so a r.stopped;
+    stopped = children-stop s m e d (numbers cs) done i k x b so a r.stopped;
   }
 
   pub relisted-memory : {A : Type 0} (listed : A → List ℕ) (s e : F × M) (d : ℕ) (cs : List Child) → Grows (context s.1) (context e.1)
-      → Relists context others g listed s d cs (Err Memory) e
-  relisted-memory listed s e d cs h = record { grows = h; sorts_are = tt; folded = tt; stopped = memory }
+      → IsReached context others g s e → Relists context others g listed s d cs (Err Memory) e
+  relisted-memory listed s e d cs h l = record { grows = h; sorts_are = tt; folded = tt; stopped = memory l }
 
   pub relisted : {A : Type 0} (listed : A → List ℕ) (s e : F × M) (d : ℕ) (cs : List Child) (v : A) (i : ℕ) → kinds_at (Table s) (numbers cs) ≡ sorts cs
       → ChildrenSoFar s d (numbers cs) (listed v) i e → length (numbers cs) ≤ i → Relists context others g listed s d cs (Ok v) e

@@ -57,5 +57,5 @@ module _ {M Rest F : Type 0} (context : M → Context) (others : M → Rest)
     said-stop z h = record {
       grows = grows;
       said = tt;
-      stopped = (a, record { of = x; is = i; tree = tree-is; next = e; says = h });
+      stopped = (a, record { of = x; is = i; tree = tree-is; says = h });
     }

@@ -34,4 +34,6 @@ pub mod FoldNodes
 pub mod FoldKinds
 pub mod FoldBounds
 pub mod FoldLaws
+pub mod FoldStops
 pub mod Substituting
+pub mod SubstLaws

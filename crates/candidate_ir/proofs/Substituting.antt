@@ -2,7 +2,7 @@
 use Rattle.std.proofs.Common.{◌≡◌, ℕ, zero, suc, ◌+◌, ◌<◌, ◌≤◌, List, [], ◌∷◌, length, get_or, Option, Some, None, Bool, IsTrue, true, false, refl, sym, ◌∙◌, ap, subst, arith}
 use Rattle.std.specs.Fn.{Mut}
 use Rattle.std.specs.Borrow.{MutBor}
-use Rattle.std.specs.Prelude.{Result, Ok, Err, IfOk, option_map, ◌||◌, ◌&&◌, not, nat_lt, if◌then◌else◌}
+use Rattle.std.specs.Prelude.{Result, Ok, Err, IfOk, IfErr, option_map, ◌||◌, ◌&&◌, not, nat_lt, if◌then◌else◌}
 use Rattle.std.specs.Option.{unwrap_or}
 use Rattle.candidate_ir.specs.declared.ir.heads.Head.{Head}
 use Rattle.candidate_ir.specs.declared.ir.heads.Head.TheVariants as H
@@ -15,16 +15,17 @@ use Rattle.candidate_ir.specs.declared.ir.stop.Stop.{Stop}
 use Rattle.candidate_ir.specs.Context.{Context, Grows}
 use Rattle.candidate_ir.specs.Nodes.{tree_at, kind_at}
 use Rattle.candidate_ir.specs.Words.{ListFits, list_forest}
-use Rattle.candidate_ir.specs.Substitutions.{is_constant_kind}
-use Rattle.candidate_ir.specs.Folding.{fold, fold_tree, argument, put, put_if_there, lacks_argument, shift_tree, substituted, substituted_tree}
-use Rattle.candidate_ir.specs.Folds.{is_asked, node, IsArg, arg_tree, Says, Renumbers, here}
+use Rattle.candidate_ir.specs.Substitutions.{is_constant_kind, alone}
+use Rattle.candidate_ir.specs.Folding.{fold, fold_tree, argument, put, put_if_there, lacks_argument, shift_tree, substituted, substituted_tree, IsSubstStop, IsAnswerStop}
+use Rattle.candidate_ir.specs.Folds.{is_asked, node, IsArg, arg_tree, numbers_given, Says, Renumbers, here}
 use Rattle.candidate_ir.proofs.Folding.{HeadAnswers, by_head, same_row, or-left, or-right}
 use Rattle.candidate_ir.proofs.Members.{arg-there, member, member-kind, count-members}
-use Rattle.candidate_ir.proofs.Rows.{kind-of}
+use Rattle.candidate_ir.proofs.Rows.{kind-of, row-single, row-list, join-none}
 use Rattle.candidate_ir.proofs.Lists.{there, kind_of-tree_at}
 use Rattle.candidate_ir.proofs.FoldSteps.{there-head}
 use Rattle.candidate_ir.proofs.Splits.{list-head}
 use Rattle.candidate_ir.proofs.FoldLaws.{head-number, head-function, list-outcome, folds-by}
+use Rattle.candidate_ir.proofs.FoldStops.{head-cause}
 
 pub put-only : (args : Forest) (d : ℕ) (h : Head) → is_asked h ≡ false → put_if_there args d h ≡ None
 put-only args d (H.Param i) e = absurd cc
@@ -163,6 +164,30 @@ module _ {M Rest F : Type 0} (context : M → Context) (others : M → Rest)
         head-number context others g s e n k (kind_at (context s.1).trees n) r (there-kind (context s.1).trees n inside) single refl (put_if_there args) P p keeps answers (put-only args)
         ∙ agree-tree (put_if_there args) (put args) (lacks_argument args) (there-is-put args) (tree_at (context s.1).trees n) lacks
     put-tree (Err x) r single = tt
+
+    module _ (stops : (t : F × M) (x : GenericArg) (d : ℕ) (r : Result (Option GenericArg) Stop) (u : F × M) → Says context others g t x d r u → IsArg (context t.1).trees x → Grows (context s.1) (context t.1) → P t.0
+        → IfErr r (λ z. IsAnswerStop (numbers_given context u) (put_if_there args d (arg_tree (context t.1).trees x).head) z)) where
+      pub put-tree-cause : (result : Result ℕ Stop) → Renumbers context others g s 0 n result e → is_list_kind (kind_at (context s.1).trees n) ≡ false
+          → IfErr result (λ x. IsSubstStop (numbers_given context e) (alone (substituted_tree args (tree_at (context s.1).trees n))) x)
+      put-tree-cause (Ok k) r single = tt
+      put-tree-cause (Err x) r single =
+          let t = tree_at (context s.1).trees n in
+          let Row : Forest → Type 0 = λ ts. IsSubstStop (numbers_given context e) (fold (λ d u. put_if_there args d u.head) 0 ts) x in
+          let All : Tree → Type 0 = λ u. IsSubstStop (numbers_given context e) (alone u) x in
+          let stop : Row (alone t) = subst Row (row-single (context s.1).trees n (kind_at (context s.1).trees n) none (there-kind (context s.1).trees n inside) single refl)
+          (head-cause context others g (put_if_there args) P s e n x p keeps answers stops (put-only args) r) in
+          subst All (agree-tree (put_if_there args) (put args) (lacks_argument args) (there-is-put args) t lacks) stop
+
+      pub put-list-cause : (result : Result ℕ Stop) → Renumbers context others g s 0 n result e → is_list_kind (kind_at (context s.1).trees n) ≡ true
+          → IfErr result (λ x. IsSubstStop (numbers_given context e) (substituted args 0 (tree_at (context s.1).trees n).children) x)
+      put-list-cause (Ok k) r list = tt
+      put-list-cause (Err x) r list =
+          let t = tree_at (context s.1).trees n in
+          let Row : Forest → Type 0 = λ ts. IsSubstStop (numbers_given context e) (fold (λ d u. put_if_there args d u.head) 0 ts) x in
+          let All : Forest → Type 0 = λ ts. IsSubstStop (numbers_given context e) ts x in
+          let stop : Row t.children = subst Row (row-list (context s.1).trees n (kind_at (context s.1).trees n) none (there-kind (context s.1).trees n inside) list refl ∙ join-none t.children)
+          (head-cause context others g (put_if_there args) P s e n x p keeps answers stops (put-only args) r) in
+          subst All (fold-agree (put_if_there args) (put args) (lacks_argument args) (there-is-put args) 0 t.children (or-right (lacks_argument args t.head) (holds (lacks_argument args) t.children) lacks)) stop
 
     pub put-list : (result : Result ℕ Stop) → Renumbers context others g s 0 n result e → is_list_kind (kind_at (context s.1).trees n) ≡ true
         → IfOk result (λ k. (tree_at (context e.1).trees k).children ≡ substituted args 0 (tree_at (context s.1).trees n).children)

@@ -1,14 +1,16 @@
 -- Trees with answers put in: folds, shifts, substitutions.
-use Rattle.std.specs.Prelude.{Bool, false, not, ◌&&◌, ℕ, zero, suc, ◌+◌, nat_le, nat_lt, Option, Some, None, if◌then◌else◌}
+use Rattle.std.specs.Prelude.{◌≡◌, Bool, true, false, not, ◌&&◌, ℕ, zero, suc, ◌+◌, ◌<◌, nat_le, nat_lt, max, Option, Some, None, if◌then◌else◌}
 use Rattle.std.specs.Option.{unwrap_or}
 use Rattle.candidate_ir.specs.declared.ir.heads.Head.{Head}
 use Rattle.candidate_ir.specs.declared.ir.heads.Head.TheVariants as H
 use Rattle.candidate_ir.specs.declared.ir.heads.ConstHead.TheVariants as C
 use Rattle.candidate_ir.specs.declared.ir.kinds.BoundVar.{BoundVar}
 use Rattle.candidate_ir.specs.declared.ir.kinds.RegionKind.TheVariants as R
-use Rattle.candidate_ir.specs.Trees.{Forest, none, tree, Tree, kind_of, is_type, binders_of, count}
-use Rattle.candidate_ir.specs.Nodes.{error_tree}
-use Rattle.candidate_ir.specs.Substitutions.{is_constant_kind}
+use Rattle.candidate_ir.specs.declared.ir.stop.Stop.{Stop}
+use Rattle.candidate_ir.specs.declared.ir.stop.Stop.TheVariants.{Memory, NodesFull}
+use Rattle.candidate_ir.specs.Trees.{Forest, none, tree, Tree, kind_of, is_type, binders_of, count, heights, holds}
+use Rattle.candidate_ir.specs.Nodes.{error_tree, is_bound_kind}
+use Rattle.candidate_ir.specs.Substitutions.{is_constant_kind, alone}
 
 -- What stands in the place of a tree under so many binders, if anything does.
 abbrev pub Answers : Type 0
@@ -83,3 +85,33 @@ lacks_argument args _ = false
 -- what stands for a parameter that has one; others stay
 abbrev pub put_if_there : Forest → ℕ → Head → Option Tree
 put_if_there args d h = if lacks_argument args h then None else put args d h
+
+-- a variable that is bound more than 2^32 - 1 binders further out
+abbrev pub is_too_far : Head → Bool
+is_too_far (H.Bound v) = nat_lt 4294967295 v.depth
+is_too_far (H.Const (C.Bound v)) = nat_lt 4294967295 v.depth
+is_too_far (H.Region (R.Bound v)) = nat_lt 4294967295 v.depth
+is_too_far _ = false
+
+-- how many bounds of `dyn` types stand in a row
+abbrev pub bounds_in : Forest → ℕ
+bounds_in none = 0
+bounds_in (tree h below rest) = (if is_bound_kind (kind_of h) then 1 else 0) + bounds_in rest
+
+-- the most bounds that stand in one row, be it this or one below
+abbrev pub most_bounds : Forest → ℕ
+most_bounds none = 0
+most_bounds (tree h below rest) = max (bounds_in (tree h below rest)) (max (most_bounds below) (most_bounds rest))
+
+-- Why trees were not made, where so many numbers are given: a growth was refused; fewer numbers are left than the longest list
+-- of bounds in them takes, one for each and one more; they are higher than 1,024; or a variable in them is bound too far out.
+pub data IsSubstStop (given : ℕ) (made : Forest) : Stop → Type 0 where
+  no_memory : IsSubstStop given made Memory
+  few_numbers : 4294967295 < given + (most_bounds made + 1) → IsSubstStop given made NodesFull
+  high_tree : 1024 < heights made → IsSubstStop given made NodesFull
+  far_variable : holds is_too_far made ≡ true → IsSubstStop given made NodesFull
+
+-- why an answer was not made; where nothing is answered, nothing stops
+abbrev pub IsAnswerStop : ℕ → Option Tree → Stop → Type 0
+IsAnswerStop given None s = ⊥
+IsAnswerStop given (Some t) s = IsSubstStop given (alone t) s

@@ -3,7 +3,7 @@
 ghost use Rattle.std.specs.Prelude.{◌≡◌, ◌+◌, ◌<◌, ◌≤◌, ◌^◌, true, false, length, map, IfOk, IfErr};
 ghost use Rattle.candidate_ir.specs.Context.{Grows, world};
 ghost use Rattle.candidate_ir.specs.Folding.{Answers, fold as folded, fold_tree};
-ghost use Rattle.candidate_ir.specs.Folds.{IsArg, IsOfKind, MayFold, KeepsKinds, Says, Said, IsFunction, Outcome, Renumbers, Relists};
+ghost use Rattle.candidate_ir.specs.Folds.{IsArg, IsOfKind, MayFold, KeepsKinds, KeepsRest, Says, Said, IsFunction, Outcome, Renumbers, Relists};
 ghost use Rattle.candidate_ir.specs.Kinds.{arg_number, numbers, sorts};
 ghost use Rattle.candidate_ir.specs.Names.{principals};
 ghost use Rattle.candidate_ir.specs.Nodes.{tree_at, kind_at, node_tree, head_of, children_of, pred_child, Fits, is_rebuilt, is_bound_kind, have_bound};
@@ -206,7 +206,8 @@ where
     ensures sort { IfOk result (λ t. IsTy (M.context make.new).trees t) }
     ensures outcome { (last : F) × Outcome M.context M.rest F.FnMut (λ ts t. alone (ty_tree ts t)) (ask, make.old) 0 (alone (ty_tree (M.context make.old).trees ty)) result (last, make.new) }
 
-    // Where its answers are a function.
+    // Where its calls keep all else of the maker, and where its answers are a function.
+    ensures rest { KeepsRest M.context M.rest F.FnMut (ask, make.old) → M.rest make.new ≡ M.rest make.old }
     ensures answer { (a : Answers) → IsFunction M.context M.rest F.FnMut a (ask, make.old) → IfOk result (λ t. ty_tree (M.context make.new).trees t ≡ fold_tree a 0 (ty_tree (M.context make.old).trees ty)) }
 {
     Ok(Ty(fold_number(alloc, make, &mut ask, ty.0, 0)?))
@@ -223,7 +224,8 @@ where
     ensures sort { IfOk result (λ a. IsArgs (M.context make.new).trees a) }
     ensures outcome { (last : F) × Outcome M.context M.rest F.FnMut (λ ts a. args_forest ts a) (ask, make.old) 0 (args_forest (M.context make.old).trees args) result (last, make.new) }
 
-    // Where its answers are a function.
+    // Where its calls keep all else of the maker, and where its answers are a function.
+    ensures rest { KeepsRest M.context M.rest F.FnMut (ask, make.old) → M.rest make.new ≡ M.rest make.old }
     ensures answer { (a : Answers) → IsFunction M.context M.rest F.FnMut a (ask, make.old) → IfOk result (λ r. args_forest (M.context make.new).trees r ≡ folded a 0 (args_forest (M.context make.old).trees args)) }
 {
     Ok(Args(fold_number(alloc, make, &mut ask, args.0, 0)?))
@@ -245,7 +247,8 @@ where
     ensures sort { IfOk result (λ x. IsConst (M.context make.new).trees x) }
     ensures outcome { (last : F) × Outcome M.context M.rest F.FnMut (λ ts x. alone (const_tree ts x)) (ask, make.old) 0 (alone (const_tree (M.context make.old).trees constant)) result (last, make.new) }
 
-    // Where its answers are a function.
+    // Where its calls keep all else of the maker, and where its answers are a function.
+    ensures rest { KeepsRest M.context M.rest F.FnMut (ask, make.old) → M.rest make.new ≡ M.rest make.old }
     ensures answer { (a : Answers) → IsFunction M.context M.rest F.FnMut a (ask, make.old) → IfOk result (λ x. const_tree (M.context make.new).trees x ≡ fold_tree a 0 (const_tree (M.context make.old).trees constant)) }
 {
     Ok(Const(fold_number(alloc, make, &mut ask, constant.0, 0)?))
@@ -267,7 +270,8 @@ where
     ensures sort { IfOk result (λ x. IsRegion (M.context make.new).trees x) }
     ensures outcome { (last : F) × Outcome M.context M.rest F.FnMut (λ ts x. alone (region_tree ts x)) (ask, make.old) 0 (alone (region_tree (M.context make.old).trees region)) result (last, make.new) }
 
-    // Where its answers are a function.
+    // Where its calls keep all else of the maker, and where its answers are a function.
+    ensures rest { KeepsRest M.context M.rest F.FnMut (ask, make.old) → M.rest make.new ≡ M.rest make.old }
     ensures answer { (a : Answers) → IsFunction M.context M.rest F.FnMut a (ask, make.old) → IfOk result (λ x. region_tree (M.context make.new).trees x ≡ fold_tree a 0 (region_tree (M.context make.old).trees region)) }
 {
     Ok(Region(fold_number(alloc, make, &mut ask, region.0, 0)?))
@@ -289,7 +293,8 @@ where
     ensures sort { IfOk result (λ x. IsClause (M.context make.new).trees x) }
     ensures outcome { (last : F) × Outcome M.context M.rest F.FnMut (λ ts x. alone (clause_tree ts x)) (ask, make.old) 0 (alone (clause_tree (M.context make.old).trees clause)) result (last, make.new) }
 
-    // Where its answers are a function.
+    // Where its calls keep all else of the maker, and where its answers are a function.
+    ensures rest { KeepsRest M.context M.rest F.FnMut (ask, make.old) → M.rest make.new ≡ M.rest make.old }
     ensures answer { (a : Answers) → IsFunction M.context M.rest F.FnMut a (ask, make.old) → IfOk result (λ x. clause_tree (M.context make.new).trees x ≡ fold_tree a 0 (clause_tree (M.context make.old).trees clause)) }
 {
     Ok(Clause(fold_number(alloc, make, &mut ask, clause.0, 0)?))
@@ -311,7 +316,8 @@ where
     ensures sort { IfOk result (λ x. IsParamEnv (M.context make.new).trees x) }
     ensures outcome { (last : F) × Outcome M.context M.rest F.FnMut (λ ts x. env_forest ts x) (ask, make.old) 0 (env_forest (M.context make.old).trees env) result (last, make.new) }
 
-    // Where its answers are a function.
+    // Where its calls keep all else of the maker, and where its answers are a function.
+    ensures rest { KeepsRest M.context M.rest F.FnMut (ask, make.old) → M.rest make.new ≡ M.rest make.old }
     ensures answer { (a : Answers) → IsFunction M.context M.rest F.FnMut a (ask, make.old) → IfOk result (λ x. env_forest (M.context make.new).trees x ≡ folded a 0 (env_forest (M.context make.old).trees env)) }
 {
     Ok(ParamEnv(fold_number(alloc, make, &mut ask, env.0, 0)?))
@@ -335,7 +341,8 @@ where
     ensures same { IfOk result (λ r. r.def_id ≡ trait_ref.def_id) }
     ensures outcome { (last : F) × Outcome M.context M.rest F.FnMut (λ ts r. args_forest ts r.args) (ask, make.old) 0 (args_forest (M.context make.old).trees trait_ref.args) result (last, make.new) }
 
-    // Where its answers are a function.
+    // Where its calls keep all else of the maker, and where its answers are a function.
+    ensures rest { KeepsRest M.context M.rest F.FnMut (ask, make.old) → M.rest make.new ≡ M.rest make.old }
     ensures answer { (a : Answers) → IsFunction M.context M.rest F.FnMut a (ask, make.old) → IfOk result (λ r. args_forest (M.context make.new).trees r.args ≡ folded a 0 (args_forest (M.context make.old).trees trait_ref.args)) }
 {
     let args = fold_args(alloc, make, trait_ref.args, ask)?;

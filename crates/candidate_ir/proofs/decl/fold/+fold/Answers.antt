@@ -16,7 +16,7 @@ use Rattle.candidate_ir.proofs.Kept.{grows-trans, number-kept}
 use Rattle.candidate_ir.proofs.Lists.{Fits-below, Below-there, there-preds}
 use Rattle.candidate_ir.proofs.Children.{Below-get, length-numbers, length_preds, pred_at}
 use Rattle.candidate_ir.proofs.Made.{IsPred-listed, kind_at-grows}
-use Rattle.candidate_ir.proofs.FoldSteps.{children-begin, children-next, relisted, relisted-stop, relisted-memory, renumbers-at, folds-reached, may-later, keeps-later, unchanged-makes, extends-length}
+use Rattle.candidate_ir.proofs.FoldSteps.{children-begin, children-next, relisted, relisted-stop, relisted-memory, renumbers-at, reached-then, folds-reached, may-later, keeps-later, unchanged-makes, extends-length}
 use Rattle.candidate_ir.proofs.FoldBounds.{bounds-begin, bounds-next, bounds-stop, bounds-made, bounds-unmade, one-principal, outcome-memory}
 use Rattle.candidate_ir.proofs.FoldNodes.{no-bound-at, no-bound-pred, no-bound, is-rebuilt, same-count, said-nothing, said-reached, number-refused, number-answered, number-memory, number-leaf, number-variables, number-bounds, number-bound, number-stopped, number-again, number-takes, copy-fits, copy-below, copy-principal}
 use Rattle.candidate_ir.proofs.decl.fold.+fold.Goals as goal
@@ -70,7 +70,8 @@ pub fold_children-returns-in_err-push : goal.fold_children-returns-in_err-push
 fold_children-returns-in_err-push g t c =
     let p = err_from_is_err_and c.from_residual-in_err-push.result c.from_residual-in_err-push.ensures.1 in
     rw (p.1, p.2)
-    (relisted-memory g.M.Make.context g.M.Make.rest g.F.FnMut _ _ _ _ (children_of c.args.node.now) (grows-trans _ _ _ c.loop-i.invariant.grows c.in_ok-child.ensures.grows))
+    (relisted-memory g.M.Make.context g.M.Make.rest g.F.FnMut _ _ _ _ (children_of c.args.node.now) (grows-trans _ _ _ c.loop-i.invariant.grows c.in_ok-child.ensures.grows)
+    (reached-then g.M.Make.context g.M.Make.rest g.F.FnMut (folds-reached g.M.Make.context g.M.Make.rest g.F.FnMut c.loop-i.invariant.folded) (folds-reached g.M.Make.context g.M.Make.rest g.F.FnMut c.in_ok-child.ensures.folded)))
 
 pub fold_children-loop-i-preserved : goal.fold_children-loop-i-preserved
 fold_children-loop-i-preserved g t c =
@@ -148,7 +149,8 @@ fold_bounds-returns-in_err-children-clause-outcome g t c =
 pub fold_bounds-returns-in_err-push-clause-outcome : goal.fold_bounds-returns-in_err-push-clause-outcome
 fold_bounds-returns-in_err-push-clause-outcome g t c =
     let p = err_from_is_err_and c.from_residual-in_err-push.result c.from_residual-in_err-push.ensures.1 in
-    rw (p.1, p.2) (outcome-memory g.M.Make.context g.M.Make.rest g.F.FnMut _ _ _ c.args.binders _ (grows-trans _ _ _ c.loop-i.invariant.grows c.in_ok-children.ensures.grows))
+    rw (p.1, p.2) (outcome-memory g.M.Make.context g.M.Make.rest g.F.FnMut _ _ _ c.args.binders _ (grows-trans _ _ _ c.loop-i.invariant.grows c.in_ok-children.ensures.grows)
+    (reached-then g.M.Make.context g.M.Make.rest g.F.FnMut (folds-reached g.M.Make.context g.M.Make.rest g.F.FnMut c.loop-i.invariant.folded) (folds-reached g.M.Make.context g.M.Make.rest g.F.FnMut c.in_ok-children.ensures.folded)))
 
 pub fold_bounds-loop-i-preserved : goal.fold_bounds-loop-i-preserved
 fold_bounds-loop-i-preserved g t c =
@@ -218,8 +220,10 @@ fold_number-node-requires g t c =
 
 pub fold_number-returns-in_err-node : goal.fold_number-returns-in_err-node
 fold_number-returns-in_err-node g t c =
+    let h = said-nothing g.M.Make.context g.M.Make.rest g.F.FnMut _ _ c.args.binders c.args.number c.in_ok-answer.field-0 c.in_default.not-Some c.in_ok-answer.ensures in
     let p = err_from_is_err_and c.from_residual-in_err-node.result c.from_residual-in_err-node.ensures.1 in
-    rw (p.1, p.2) (number-memory g.M.Make.context g.M.Make.rest g.F.FnMut _ _ c.args.binders c.args.number c.in_ok-answer.ensures.grows)
+    rw (p.1, p.2) (number-memory g.M.Make.context g.M.Make.rest g.F.FnMut _ _ c.args.binders c.args.number c.in_ok-answer.ensures.grows
+    (said-reached g.M.Make.context g.M.Make.rest g.F.FnMut _ _ c.args.binders c.args.number h))
 
 pub fold_number-returns-in-Region : goal.fold_number-returns-in-Region
 fold_number-returns-in-Region g t c =
@@ -332,8 +336,11 @@ fold_number-add-requires g t c =
 
 pub fold_number-returns-in_err-rebuilt-in_default-node : goal.fold_number-returns-in_err-rebuilt-in_default-node
 fold_number-returns-in_err-rebuilt-in_default-node g t c =
+    let h = said-nothing g.M.Make.context g.M.Make.rest g.F.FnMut _ _ c.args.binders c.args.number c.in_ok-answer.field-0 c.in_default.not-Some c.in_ok-answer.ensures in
     let p = err_from_is_err_and c.from_residual-in_err-rebuilt-in_default-node.result c.from_residual-in_err-rebuilt-in_default-node.ensures.1 in
-    rw (p.1, p.2) (number-memory g.M.Make.context g.M.Make.rest g.F.FnMut _ _ c.args.binders c.args.number (grows-trans _ _ _ c.in_ok-answer.ensures.grows c.in_ok-children-in_default-node.ensures.grows))
+    rw (p.1, p.2) (number-memory g.M.Make.context g.M.Make.rest g.F.FnMut _ _ c.args.binders c.args.number (grows-trans _ _ _ c.in_ok-answer.ensures.grows c.in_ok-children-in_default-node.ensures.grows)
+    (reached-then g.M.Make.context g.M.Make.rest g.F.FnMut (said-reached g.M.Make.context g.M.Make.rest g.F.FnMut _ _ c.args.binders c.args.number h)
+    (folds-reached g.M.Make.context g.M.Make.rest g.F.FnMut c.in_ok-children-in_default-node.ensures.folded)))
 
 pub fold_number-returns : goal.fold_number-returns
 fold_number-returns g t c =

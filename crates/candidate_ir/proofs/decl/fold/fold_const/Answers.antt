@@ -5,6 +5,7 @@ use Rattle.candidate_ir.specs.Trees.{ConstantKind}
 use Rattle.candidate_ir.specs.Folds.{here}
 use Rattle.candidate_ir.proofs.Lists.{below_kind}
 use Rattle.candidate_ir.proofs.FoldLaws.{one-outcome, one-stop, tree-by}
+use Rattle.candidate_ir.proofs.FoldStops.{number-rest}
 use Rattle.candidate_ir.proofs.decl.fold.fold_const.Goals as goal
 
 pub fold_number-requires-clause-inside : goal.fold_number-requires-clause-inside
@@ -22,3 +23,9 @@ pub returns-clause-answer : goal.returns-clause-answer
 returns-clause-answer g c = λ a f.
     let o = one-outcome g.M.Make.context g.M.Make.rest g.F.FnMut (λ (x : Const). x.0) (λ n. record { 0 = n }) (λ n. refl) _ _ 0 c.args.constant.0 c.in_ok-fold_number.field-0 ConstantKind refl refl c.requires.constant c.in_ok-fold_number.ensures in
     tree-by g.M.Make.context g.M.Make.rest g.F.FnMut a _ f _ _ here o.folded
+
+pub returns-clause-rest : goal.returns-clause-rest
+returns-clause-rest g c = number-rest g.M.Make.context g.M.Make.rest g.F.FnMut _ _ 0 c.args.constant.0 c.fold_number.result c.fold_number.ensures
+
+pub returns-in_err-fold_number-clause-rest : goal.returns-in_err-fold_number-clause-rest
+returns-in_err-fold_number-clause-rest g c = number-rest g.M.Make.context g.M.Make.rest g.F.FnMut _ _ 0 c.args.constant.0 c.fold_number.result c.fold_number.ensures

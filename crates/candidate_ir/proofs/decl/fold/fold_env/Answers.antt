@@ -5,6 +5,7 @@ use Rattle.candidate_ir.specs.Trees.{ClausesKind}
 use Rattle.candidate_ir.specs.Folds.{here}
 use Rattle.candidate_ir.proofs.Lists.{below_kind}
 use Rattle.candidate_ir.proofs.FoldLaws.{list-outcome, list-stop, folds-by}
+use Rattle.candidate_ir.proofs.FoldStops.{number-rest}
 use Rattle.candidate_ir.proofs.decl.fold.fold_env.Goals as goal
 
 pub fold_number-requires-clause-inside : goal.fold_number-requires-clause-inside
@@ -22,3 +23,9 @@ pub returns-clause-answer : goal.returns-clause-answer
 returns-clause-answer g c = λ a f.
     let o = list-outcome g.M.Make.context g.M.Make.rest g.F.FnMut (λ (x : ParamEnv). x.0) (λ n. record { 0 = n }) (λ n. refl) _ _ 0 c.args.env.0 c.in_ok-fold_number.field-0 ClausesKind refl refl c.requires.env c.in_ok-fold_number.ensures in
     folds-by g.M.Make.context g.M.Make.rest g.F.FnMut a _ f here o.folded
+
+pub returns-clause-rest : goal.returns-clause-rest
+returns-clause-rest g c = number-rest g.M.Make.context g.M.Make.rest g.F.FnMut _ _ 0 c.args.env.0 c.fold_number.result c.fold_number.ensures
+
+pub returns-in_err-fold_number-clause-rest : goal.returns-in_err-fold_number-clause-rest
+returns-in_err-fold_number-clause-rest g c = number-rest g.M.Make.context g.M.Make.rest g.F.FnMut _ _ 0 c.args.env.0 c.fold_number.result c.fold_number.ensures

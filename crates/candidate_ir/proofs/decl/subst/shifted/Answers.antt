@@ -1,9 +1,11 @@
 use Rattle.std.proofs.Common.{◌≡◌, refl, rules, ◌∙◌, ap}
+use Rattle.std.proofs.lemmas.Result.{err_from_is_err_and}
 use Rattle.candidate_ir.specs.Folding.{moved}
-use Rattle.candidate_ir.specs.Kinds.{arg_kind}
+use Rattle.candidate_ir.specs.Kinds.{arg_number, arg_kind}
 use Rattle.candidate_ir.specs.Nodes.{tree_at}
 use Rattle.candidate_ir.proofs.Asking.{arg-below}
 use Rattle.candidate_ir.proofs.FoldLaws.{head-number, moved-only}
+use Rattle.candidate_ir.proofs.FoldStops.{number-keeps-rest, single-cause, head-cause}
 use Rattle.candidate_ir.proofs.Members.{arg-there, arg-single}
 use Rattle.candidate_ir.proofs.decl.subst.shifted.Goals as goal
 
@@ -19,3 +21,27 @@ returns-clause-tree g c =
     (λ s x d r e n p. let k = n.called in let l = n.lends in let v = n.leaves in search rules)
     (λ s x d r e n i grown p. let k = n.called in let l = n.lends in let v = n.leaves in search rules)
     (moved-only c.args.by)
+
+pub returns-clause-rest : goal.returns-clause-rest
+returns-clause-rest g c =
+    number-keeps-rest g.M.Make.context g.M.Make.rest _ (λ z. z.0 ≡ c.args.by) _
+    (λ t x d r u n i l0 grown q. let k = n.called in let l = n.lends in let v = n.leaves in (search rules, search rules))
+    _ 0 c.number.result c.fold_number.result refl c.fold_number.ensures
+
+pub returns-in_err-number-clause-rest : goal.returns-in_err-number-clause-rest
+returns-in_err-number-clause-rest g c =
+    number-keeps-rest g.M.Make.context g.M.Make.rest _ (λ z. z.0 ≡ c.args.by) _
+    (λ t x d r u n i l0 grown q. let k = n.called in let l = n.lends in let v = n.leaves in (search rules, search rules))
+    _ 0 c.number.result c.fold_number.result refl c.fold_number.ensures
+
+pub returns-in_err-number-clause-cause : goal.returns-in_err-number-clause-cause
+returns-in_err-number-clause-cause g c =
+    let p = err_from_is_err_and c.from_residual.result c.from_residual.ensures.1 in
+    let made = rw c.number.ensures at c.in_err-number.ensures in
+    rw (p.1, p.2)
+    (single-cause (λ d t. moved c.args.by d t.head) _ (g.M.Make.context c.args.make.now).trees (arg_number c.args.arg) (arg_kind c.args.arg) _ (arg-there c.args.arg) (arg-single c.args.arg) c.requires
+    (head-cause g.M.Make.context g.M.Make.rest _ (moved c.args.by) (λ z. z.0 ≡ c.args.by) _ _ _ _ refl
+    (λ s x d r e n p. let k = n.called in let l = n.lends in let v = n.leaves in search rules)
+    (λ s x d r e n i grown p. let k = n.called in let l = n.lends in let v = n.leaves in search rules)
+    (λ s x d r e n i grown p. let k = n.called in let l = n.lends in let v = n.leaves in search rules)
+    (moved-only c.args.by) made))

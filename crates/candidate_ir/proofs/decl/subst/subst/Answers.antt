@@ -1,7 +1,18 @@
-use Rattle.std.proofs.Common.{refl}
-use Rattle.candidate_ir.specs.Trees.{TypeKind}
+use Rattle.std.proofs.Common.{refl, ap}
+use Rattle.candidate_ir.specs.Trees.{TypeKind, is_list_kind}
+use Rattle.candidate_ir.specs.Words.{args_forest, ty_tree}
 use Rattle.candidate_ir.proofs.Lists.{below_kind}
+use Rattle.candidate_ir.proofs.SubstLaws.{tree-unchanged, tree-twice, tree-height}
 use Rattle.candidate_ir.proofs.decl.subst.subst.Goals as goal
 
 pub substituted-requires-clause-inside : goal.substituted-requires-clause-inside
 substituted-requires-clause-inside g c = below_kind _ _ TypeKind refl c.requires.ty
+
+pub returns-clause-unchanged : goal.returns-clause-unchanged
+returns-clause-unchanged g c = tree-unchanged (args_forest (g.M.Make.context c.args.make.now).trees c.args.args) (ty_tree (g.M.Make.context c.args.make.now).trees c.args.ty) _ (c.in_ok-substituted.ensures.tree (ap is_list_kind c.requires.ty))
+
+pub returns-clause-twice : goal.returns-clause-twice
+returns-clause-twice g c = tree-twice (args_forest (g.M.Make.context c.args.make.now).trees c.args.args) (ty_tree (g.M.Make.context c.args.make.now).trees c.args.ty) _ (c.in_ok-substituted.ensures.tree (ap is_list_kind c.requires.ty))
+
+pub returns-clause-height : goal.returns-clause-height
+returns-clause-height g c = tree-height (args_forest (g.M.Make.context c.args.make.now).trees c.args.args) (ty_tree (g.M.Make.context c.args.make.now).trees c.args.ty) _ (c.in_ok-substituted.ensures.tree (ap is_list_kind c.requires.ty))

@@ -2,7 +2,8 @@ use Rattle.std.proofs.Common.{◌≡◌, refl, rules}
 use Rattle.candidate_ir.specs.Words.{args_forest}
 use Rattle.candidate_ir.proofs.Kept.{args-kept}
 use Rattle.candidate_ir.proofs.FoldLaws.{reached-keeps}
-use Rattle.candidate_ir.proofs.Substituting.{put-tree, put-list}
+use Rattle.candidate_ir.proofs.FoldStops.{number-keeps-rest}
+use Rattle.candidate_ir.proofs.Substituting.{put-tree, put-list, put-tree-cause, put-list-cause}
 use Rattle.candidate_ir.proofs.decl.subst.substituted.Goals as goal
 
 pub fold_number-requires-clause-callable : goal.fold_number-requires-clause-callable
@@ -26,3 +27,27 @@ returns-clause-list g c =
     (λ s x d r e n p. let k = n.called in let l = n.lends in let v = n.leaves in search rules)
     (λ s x d r e n i grown p. let k = n.called in let l = n.lends in let v = n.leaves in let same = (args-kept _ _ c.args.args grown c.requires.args).1 in search rules)
     c.requires.inside c.requires.there c.fold_number.result c.fold_number.ensures
+
+pub returns-clause-rest : goal.returns-clause-rest
+returns-clause-rest g c =
+    number-keeps-rest g.M.Make.context g.M.Make.rest _ (λ z. z.1 ≡ c.args.args) _
+    (λ t x d r u n i l0 grown q. let k = n.called in let l = n.lends in let v = n.leaves in let kept = (args-kept _ _ c.args.args grown c.requires.args).0 in (search rules, search rules))
+    _ 0 c.args.number c.fold_number.result refl c.fold_number.ensures
+
+pub returns-clause-tree_cause : goal.returns-clause-tree_cause
+returns-clause-tree_cause g c =
+    put-tree-cause g.M.Make.context g.M.Make.rest _ (args_forest (g.M.Make.context c.args.make.now).trees c.args.args) _ _ c.args.number (λ z. z.1 ≡ c.args.args) refl
+    (λ s x d r e n p. let k = n.called in let l = n.lends in let v = n.leaves in search rules)
+    (λ s x d r e n i grown p. let k = n.called in let l = n.lends in let v = n.leaves in let same = (args-kept _ _ c.args.args grown c.requires.args).1 in search rules)
+    c.requires.inside c.requires.there
+    (λ s x d r e n i grown p. let k = n.called in let l = n.lends in let v = n.leaves in let same = (args-kept _ _ c.args.args grown c.requires.args).1 in search rules)
+    c.fold_number.result c.fold_number.ensures
+
+pub returns-clause-list_cause : goal.returns-clause-list_cause
+returns-clause-list_cause g c =
+    put-list-cause g.M.Make.context g.M.Make.rest _ (args_forest (g.M.Make.context c.args.make.now).trees c.args.args) _ _ c.args.number (λ z. z.1 ≡ c.args.args) refl
+    (λ s x d r e n p. let k = n.called in let l = n.lends in let v = n.leaves in search rules)
+    (λ s x d r e n i grown p. let k = n.called in let l = n.lends in let v = n.leaves in let same = (args-kept _ _ c.args.args grown c.requires.args).1 in search rules)
+    c.requires.inside c.requires.there
+    (λ s x d r e n i grown p. let k = n.called in let l = n.lends in let v = n.leaves in let same = (args-kept _ _ c.args.args grown c.requires.args).1 in search rules)
+    c.fold_number.result c.fold_number.ensures
