@@ -32,3 +32,4 @@ pub mod FoldKinds
 pub mod FoldBounds
 pub mod FoldLaws
 pub mod Substituting
+pub mod Arguments

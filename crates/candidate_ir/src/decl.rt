@@ -6,6 +6,7 @@ pub mod context;
 pub mod definition;
 pub mod fold;
 pub mod make;
+pub mod parameters;
 pub mod subst;
 
 pub use builder::{DeclFault, Decls, DeclsBuilder};
