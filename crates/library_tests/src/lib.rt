@@ -20,19 +20,21 @@ mod contexts;
 #[cfg(test)]
 mod declarations;
 #[cfg(test)]
-mod every_kind;
-#[cfg(test)]
-mod flags;
-#[cfg(test)]
 mod folds;
+#[cfg(test)]
+mod kinds;
 #[cfg(test)]
 mod normalisers;
 #[cfg(test)]
 mod parts;
 #[cfg(test)]
+mod reading;
+#[cfg(test)]
 mod rejections;
 #[cfg(test)]
 mod samples;
+#[cfg(test)]
+mod substitutions;
 #[cfg(test)]
 mod texts;
 #[cfg(test)]
