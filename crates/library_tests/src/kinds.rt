@@ -163,7 +163,7 @@ fn flags_of(rt: &impl Abort, words: &str) -> TypeFlags {
 }
 
 /// The two sides of a row.
-fn sides<'a>(rt: &impl Abort, row: &'a str) -> (&'a str, &'a str) {
+pub fn sides<'a>(rt: &impl Abort, row: &'a str) -> (&'a str, &'a str) {
     row.split_once(" => ").expect(rt, "a row")
 }
 
@@ -178,7 +178,7 @@ fn sort(kind: TyKind) -> &'static str {
 }
 
 /// The type has its sort and its flags, and is what is read of it.
-fn check_type(rt: &impl Abort, reader: &mut Reader, row: &str) {
+pub fn check_type(rt: &impl Abort, reader: &mut Reader, row: &str) {
     let (text, want) = sides(rt, row);
     let (want, flags) = want.split_once(' ').expect(rt, "a sort and flags");
     let ty = reader.ty(rt, Reading::Parameters, text);
@@ -190,7 +190,7 @@ fn check_type(rt: &impl Abort, reader: &mut Reader, row: &str) {
 }
 
 /// The type with bytes for its parameters is the one that is read so.
-fn check_type_folded(rt: &impl Abort, alloc: Global, reader: &mut Reader, text: &str) {
+pub fn check_type_folded(rt: &impl Abort, alloc: Global, reader: &mut Reader, text: &str) {
     let ty = reader.ty(rt, Reading::Parameters, text);
     let answer = folded_ty(rt, alloc, &mut reader.cx, ty);
     let want = reader.ty(rt, Reading::Folded, text);
@@ -198,8 +198,8 @@ fn check_type_folded(rt: &impl Abort, alloc: Global, reader: &mut Reader, text: 
 }
 
 /// The type with arguments for its parameters is the one that is read so.
-fn check_type_substituted(rt: &impl Abort, alloc: Global, reader: &mut Reader, text: &str) {
-    let args = reader.arguments(rt);
+pub fn check_type_substituted(rt: &impl Abort, alloc: Global, reader: &mut Reader, text: &str) {
+    let args = reader.arguments(rt, Reading::Substituted);
     let ty = reader.ty(rt, Reading::Parameters, text);
     let answer = substituted(rt, alloc, &mut reader.cx, ty, args);
     let want = reader.ty(rt, Reading::Substituted, text);
@@ -222,7 +222,7 @@ fn check_constant_substituted(
     text: &str,
     has_param: bool,
 ) {
-    let args = reader.arguments(rt);
+    let args = reader.arguments(rt, Reading::Substituted);
     let first = reader.constant(rt, Reading::Parameters, text);
     equals(
         rt,
@@ -267,6 +267,7 @@ fn check_regions(rt: &impl Abort, alloc: Global, reader: &mut Reader, first: &st
 fn check_clause(rt: &impl Abort, reader: &mut Reader, text: &str, kinds: &[VarKind], want: bool) {
     let clause = reader.clause(rt, Reading::Parameters, text, kinds);
     equals(rt, &reader.cx.clause_has(clause, Flag::Param), &want, text);
+    holds(rt, !reader.cx.clause_has(clause, Flag::TyInfer), text);
     let read = reader.cx.clause(clause);
     let again = builders::clause(rt, &mut reader.cx, read);
     holds(rt, reader.cx.same_clause(clause, again), text);
@@ -280,25 +281,32 @@ fn check_clause_folded(rt: &impl Abort, alloc: Global, reader: &mut Reader, text
 }
 
 fn check_clause_substituted(rt: &impl Abort, alloc: Global, reader: &mut Reader, text: &str) {
-    let args = reader.arguments(rt);
+    let args = reader.arguments(rt, Reading::Substituted);
     let first = reader.clause(rt, Reading::Parameters, text, &[]);
     let answer = substituted_clause(rt, alloc, &mut reader.cx, first, args);
     let want = reader.clause(rt, Reading::Substituted, text, &[]);
     holds(rt, reader.cx.same_clause(answer, want), text);
 }
 
-/// Clauses are equal where their texts and their binders are.
-fn check_clauses_apart(rt: &impl Abort, reader: &mut Reader, first: &str, second: &str) {
-    let a = reader.clause(rt, Reading::Parameters, first, &[]);
-    let b = reader.clause(rt, Reading::Parameters, second, &[]);
+/// Clauses under binders of these variables are equal where their texts are, and unlike those under other binders.
+fn check_clauses_apart(
+    rt: &impl Abort,
+    reader: &mut Reader,
+    first: &str,
+    second: &str,
+    kinds: &[VarKind],
+    others: &[VarKind],
+) {
+    let a = reader.clause(rt, Reading::Parameters, first, kinds);
+    let b = reader.clause(rt, Reading::Parameters, second, kinds);
     equals(rt, &reader.cx.same_clause(a, b), &(first == second), first);
-    let c = reader.clause(rt, Reading::Parameters, second, &[VarKind::Region]);
+    let c = reader.clause(rt, Reading::Parameters, second, others);
     holds(rt, !reader.cx.same_clause(a, c), first);
 }
 
 /// The environment of that one clause is folded and substituted as its clause is.
 fn check_env_substituted(rt: &impl Abort, alloc: Global, reader: &mut Reader, text: &str) {
-    let args = reader.arguments(rt);
+    let args = reader.arguments(rt, Reading::Substituted);
     let first = reader.env(rt, Reading::Parameters, text);
     let answer = substituted_env(rt, alloc, &mut reader.cx, first, args);
     let want = reader.env(rt, Reading::Substituted, text);
@@ -308,6 +316,7 @@ fn check_env_substituted(rt: &impl Abort, alloc: Global, reader: &mut Reader, te
 fn check_env_folded(rt: &impl Abort, alloc: Global, reader: &mut Reader, text: &str, want: bool) {
     let first = reader.env(rt, Reading::Parameters, text);
     equals(rt, &reader.cx.env_has(first, Flag::Param), &want, text);
+    holds(rt, !reader.cx.env_has(first, Flag::TyInfer), text);
     let answer = folded_env(rt, alloc, &mut reader.cx, first);
     let want = reader.env(rt, Reading::Folded, text);
     holds(rt, reader.cx.same_env(answer, want), text);
@@ -380,7 +389,8 @@ fn tells_clauses_of_every_kind_apart(rt: HostRuntime) {
     for first in CLAUSES.lines() {
         for second in CLAUSES.lines() {
             let (first, second) = (sides(&rt, first).0, sides(&rt, second).0);
-            check_clauses_apart(&rt, &mut reader, first, second);
+            check_clauses_apart(&rt, &mut reader, first, second, &[], &[VarKind::Region]);
+            check_clauses_apart(&rt, &mut reader, first, second, &[VarKind::Region], &[]);
         }
     }
 }

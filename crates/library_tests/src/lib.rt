@@ -2,6 +2,8 @@
 #![tactic(auto)]
 
 #[cfg(test)]
+mod arguments;
+#[cfg(test)]
 mod arity;
 #[cfg(test)]
 mod asserts;
@@ -23,6 +25,8 @@ mod declarations;
 mod folds;
 #[cfg(test)]
 mod kinds;
+#[cfg(test)]
+mod large;
 #[cfg(test)]
 mod normalisers;
 #[cfg(test)]

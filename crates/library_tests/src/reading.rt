@@ -4,11 +4,13 @@
 ghost use Rattle.std.specs.Prelude.{◌≡◌, [], IfSome};
 ghost use Rattle.candidate_ir.specs.Context.{Grows};
 ghost use Rattle.candidate_ir.specs.Kinds.{ty_children, const_children};
-ghost use Rattle.candidate_ir.specs.Words.{IsTy, IsConst, IsRegion, IsArgs, IsVars, IsPreds, IsSig, IsClause, IsParamEnv, KindFits, ConstKindFits, ListFits, ClauseFits};
+ghost use Rattle.candidate_ir.specs.Words.{IsTy, IsConst, IsRegion, IsArgs, IsVars, IsPreds, IsSig, IsClause, IsParamEnv, KindFits, ConstKindFits, ListFits, ClauseFits, ClauseListFits};
 
 use crate::asserts::holds;
 use crate::bounds::{auto_and, bound, by_auto_trait, by_projection, by_trait};
-use crate::builders::{args, clause, constant, environment, region, signature, ty, variables};
+use crate::builders::{
+    args, clause, constant, environment, push_arg, region, signature, ty, variables,
+};
 use crate::samples::{
     BOX, BUFFER, CLOSURE, FN, FOREIGN, FREE, GUARD, INHERENT, LENGTH, LOCAL_TRAIT, LOCAL_TYPE,
     OPAQUE, OTHER_FN, OUT, TRAIT, VEC, declared,
@@ -57,6 +59,15 @@ const PLACEHOLDER: Placeholder = Placeholder {
     index: 0,
 };
 
+/// How often `deep` makes a slice: of a type of height 1 the highest type that there is.
+const HEIGHT: u32 = 1023;
+
+/// How often `shared` makes a pair of one type: a million leaves come of it in some 40 nodes.
+const SHARED: u32 = 20;
+
+/// How many types `wide` makes a tuple of.
+const WIDTH: u32 = 100_000;
+
 /// The variable of number 0 that is bound so many binders out.
 fn bound_at(depth: u32) -> BoundVar {
     BoundVar { depth, index: 0 }
@@ -89,7 +100,9 @@ fn marked(word: &str) -> Option<TyKind>
 {
     match word {
         "p0" => Some(TyKind::Param(0)),
+        "p1" => Some(TyKind::Param(1)),
         "p2" => Some(TyKind::Param(2)),
+        "p3" => Some(TyKind::Param(3)),
         "!" => Some(TyKind::Placeholder(PLACEHOLDER)),
         "^0" => Some(TyKind::Bound(bound_at(0))),
         "^1" => Some(TyKind::Bound(bound_at(1))),
@@ -120,6 +133,7 @@ fn constant_leaf(word: &str) -> Option<ConstKind>
         "#4" => Some(ConstKind::Value(4)),
         "#p0" => Some(ConstKind::Param(0)),
         "#p1" => Some(ConstKind::Param(1)),
+        "#p3" => Some(ConstKind::Param(3)),
         "#!" => Some(ConstKind::Placeholder(PLACEHOLDER)),
         "#^0" => Some(ConstKind::Bound(bound_at(0))),
         "#^1" => Some(ConstKind::Bound(bound_at(1))),
@@ -190,6 +204,7 @@ fn projects(args: Args, term: Ty) -> ClauseKind
 /// A context, and the last two types, constants and regions that were read into it.
 #[derive(Drop)]
 pub struct Reader {
+    alloc: Global,
     pub cx: Cx,
     pub ty: Ty,
     pub before: Ty,
@@ -214,6 +229,7 @@ impl Reader {
         let constant = constant(rt, &mut cx, ConstKind::Error);
         let region = region(rt, &mut cx, RegionKind::Error);
         Reader {
+            alloc,
             cx,
             ty,
             before: ty,
@@ -301,7 +317,7 @@ impl Reader {
 
     /// The list of the last type.
     #[tactic(auto, using(crate::proofs::Kept::kept))]
-    fn list(&mut self, rt: &impl Abort) -> Args
+    pub fn list(&mut self, rt: &impl Abort) -> Args
         ensures grows { Grows self.old.cx self.new.cx }
         ensures sort { IsArgs self.new.cx.trees result }
     {
@@ -360,19 +376,34 @@ impl Reader {
         }
     }
 
-    /// The arguments that are put in the place of parameters: a type, a constant and another type.
+    /// The list of a type, a constant and another type. Read as `Substituted`, they are the arguments that are put in the place of
+    /// parameters.
     #[tactic(auto, using(crate::proofs::Kept::kept))]
-    pub fn arguments(&mut self, rt: &impl Abort) -> Args
+    pub fn arguments(&mut self, rt: &impl Abort, reading: Reading) -> Args
         ensures grows { Grows self.old.cx self.new.cx }
         ensures sort { IsArgs self.new.cx.trees result }
     {
-        self.read(rt, Reading::Substituted, "T V N");
+        self.read(rt, reading, "T V N");
         let list = [
             GenericArg::Ty(self.before),
             GenericArg::Const(self.constant),
             GenericArg::Ty(self.ty),
         ];
         self.args(rt, &list)
+    }
+
+    /// A list of the last type, so long that a walk over it is felt.
+    #[tactic(auto, using(crate::proofs::Kept::kept))]
+    fn wide_list(&mut self, rt: &impl Abort) -> Args
+        ensures grows { Grows self.old.cx self.new.cx }
+        ensures sort { IsArgs self.new.cx.trees result }
+    {
+        let mut list = Vec::new(self.alloc);
+        let ty = self.ty;
+        for _ in 0..WIDTH {
+            push_arg(rt, &mut list, GenericArg::Ty(ty));
+        }
+        self.args(rt, list.as_slice())
     }
 
     /// Whether it is a word of what has no parts, which is made then.
@@ -472,7 +503,7 @@ impl Reader {
         }
     }
 
-    /// Types over no list, over a constant or over a region, and a constant over the last type.
+    /// Types over no list, over a constant, over a region and over two types, and a constant over the last type.
     #[tactic(auto, using(crate::proofs::Kept::kept))]
     fn makes_over_others(&mut self, rt: &impl Abort, word: &str) -> bool
         ensures { Grows self.old.cx self.new.cx }
@@ -495,6 +526,11 @@ impl Reader {
                 let region = self.region;
                 let list = self.args(rt, &[GenericArg::Region(region)]);
                 self.push(rt, TyKind::Adt(GUARD, list));
+            }
+            "pair" => {
+                let ty = self.ty;
+                let list = self.args(rt, &[GenericArg::Ty(ty), GenericArg::Ty(ty)]);
+                self.replace(rt, TyKind::Tuple(list));
             }
             "#length" => {
                 let list = self.list(rt);
@@ -589,7 +625,7 @@ impl Reader {
     }
 
     #[tactic(auto, using(crate::proofs::Kept::kept))]
-    fn make(&mut self, rt: &impl Abort, word: &str)
+    fn make_part(&mut self, rt: &impl Abort, word: &str)
         ensures { Grows self.old.cx self.new.cx }
     {
         if self.makes_leaf(rt, word) {
@@ -615,6 +651,32 @@ impl Reader {
         }
         let is_known = self.makes_dyn(rt, word);
         holds(rt, is_known, word);
+    }
+
+    /// Makes what the word says so many times, each time of what it made before.
+    #[tactic(auto, using(crate::proofs::Kept::kept))]
+    fn repeat(&mut self, rt: &impl Abort, word: &str, times: u32)
+        ensures { Grows self.old.cx self.new.cx }
+    {
+        for _ in 0..times {
+            self.make_part(rt, word);
+        }
+    }
+
+    /// Makes what the word says of the last type and the last constants and regions.
+    #[tactic(auto, using(crate::proofs::Kept::kept))]
+    fn make(&mut self, rt: &impl Abort, word: &str)
+        ensures { Grows self.old.cx self.new.cx }
+    {
+        match word {
+            "deep" => self.repeat(rt, "slice", HEIGHT),
+            "shared" => self.repeat(rt, "pair", SHARED),
+            "wide" => {
+                let list = self.wide_list(rt);
+                self.replace(rt, TyKind::Tuple(list));
+            }
+            _ => self.make_part(rt, word),
+        }
     }
 
     /// Makes what the words say.
@@ -708,6 +770,26 @@ impl Reader {
         self.make_clause(rt, kind)
     }
 
+    /// The list of the type of the words.
+    #[tactic(auto, using(crate::proofs::Kept::kept))]
+    pub fn list_of(&mut self, rt: &impl Abort, reading: Reading, text: &str) -> Args
+        ensures grows { Grows self.old.cx self.new.cx }
+        ensures sort { IsArgs self.new.cx.trees result }
+    {
+        self.read(rt, reading, text);
+        self.list(rt)
+    }
+
+    /// The environment of the clauses.
+    #[tactic(auto, using(crate::proofs::Kept::kept))]
+    pub fn env_of(&mut self, rt: &impl Abort, clauses: &[Clause]) -> ParamEnv
+        requires { ClauseListFits self.old.cx.trees clauses.now }
+        ensures grows { Grows self.old.cx self.new.cx }
+        ensures sort { IsParamEnv self.new.cx.trees result }
+    {
+        environment(rt, &mut self.cx, clauses)
+    }
+
     /// The environment of that clause alone, under a binder without variables.
     #[tactic(auto, using(crate::proofs::Kept::kept))]
     pub fn env(&mut self, rt: &impl Abort, reading: Reading, text: &str) -> ParamEnv
@@ -715,6 +797,6 @@ impl Reader {
         ensures sort { IsParamEnv self.new.cx.trees result }
     {
         let clause = self.clause(rt, reading, text, &[]);
-        environment(rt, &mut self.cx, &[clause])
+        self.env_of(rt, &[clause])
     }
 }
