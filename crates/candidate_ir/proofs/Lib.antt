@@ -37,3 +37,4 @@ pub mod FoldLaws
 pub mod FoldStops
 pub mod Substituting
 pub mod SubstLaws
+pub mod Arguments

@@ -10,6 +10,7 @@ pub mod fold;
 pub mod held;
 pub mod make;
 pub mod misplaced;
+pub mod parameters;
 pub mod subst;
 
 pub use builder::{DeclFault, Decls, DeclsBuilder};

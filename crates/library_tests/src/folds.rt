@@ -75,6 +75,15 @@ fn folded(alloc: Global, cx: &mut Cx, ty: Ty, way: Way) -> Result<Ty, Stop>
     )
 }
 
+/// The type with a byte for each parameter, and a wider number under a binder.
+pub fn folded_ty(rt: &impl Abort, alloc: Global, cx: &mut Cx, ty: Ty) -> Ty
+    requires { IsTy cx.old.trees ty }
+    ensures grows { Grows cx.old cx.new }
+    ensures sort { IsTy cx.new.trees result }
+{
+    folded(alloc, cx, ty, Way::Parameters).expect(rt, "a fold")
+}
+
 /// A slice of a parameter becomes a slice of a byte, or a byte, or stops the fold.
 fn check_slice(rt: &impl Abort, alloc: Global, cx: &mut Cx) {
     let param = ty(rt, cx, TyKind::Param(0));
@@ -136,9 +145,10 @@ fn check_data_type(rt: &impl Abort, alloc: Global, cx: &mut Cx) {
     holds(rt, is_byte, "a vector of bytes");
 }
 
-fn folded_args(rt: &impl Abort, alloc: Global, cx: &mut Cx, args: Args) -> Args
+pub fn folded_args(rt: &impl Abort, alloc: Global, cx: &mut Cx, args: Args) -> Args
     requires { IsArgs cx.old.trees args }
-    ensures { IsArgs cx.new.trees result }
+    ensures grows { Grows cx.old cx.new }
+    ensures sort { IsArgs cx.new.trees result }
 {
     let folded = fold_args(
         alloc,
@@ -153,9 +163,10 @@ fn folded_args(rt: &impl Abort, alloc: Global, cx: &mut Cx, args: Args) -> Args
     folded.expect(rt, "a fold of a list")
 }
 
-fn folded_const(rt: &impl Abort, alloc: Global, cx: &mut Cx, constant: Const) -> Const
+pub fn folded_const(rt: &impl Abort, alloc: Global, cx: &mut Cx, constant: Const) -> Const
     requires { IsConst cx.old.trees constant }
-    ensures { IsConst cx.new.trees result }
+    ensures grows { Grows cx.old cx.new }
+    ensures sort { IsConst cx.new.trees result }
 {
     let folded = fold_const(
         alloc,
@@ -170,9 +181,10 @@ fn folded_const(rt: &impl Abort, alloc: Global, cx: &mut Cx, constant: Const) ->
     folded.expect(rt, "a fold of a constant")
 }
 
-fn folded_region(rt: &impl Abort, alloc: Global, cx: &mut Cx, region: Region) -> Region
+pub fn folded_region(rt: &impl Abort, alloc: Global, cx: &mut Cx, region: Region) -> Region
     requires { IsRegion cx.old.trees region }
-    ensures { IsRegion cx.new.trees result }
+    ensures grows { Grows cx.old cx.new }
+    ensures sort { IsRegion cx.new.trees result }
 {
     let folded = fold_region(
         alloc,
@@ -187,9 +199,10 @@ fn folded_region(rt: &impl Abort, alloc: Global, cx: &mut Cx, region: Region) ->
     folded.expect(rt, "a fold of a region")
 }
 
-fn folded_clause(rt: &impl Abort, alloc: Global, cx: &mut Cx, clause: Clause) -> Clause
+pub fn folded_clause(rt: &impl Abort, alloc: Global, cx: &mut Cx, clause: Clause) -> Clause
     requires { IsClause cx.old.trees clause }
-    ensures { IsClause cx.new.trees result }
+    ensures grows { Grows cx.old cx.new }
+    ensures sort { IsClause cx.new.trees result }
 {
     let folded = fold_clause(
         alloc,
@@ -204,9 +217,10 @@ fn folded_clause(rt: &impl Abort, alloc: Global, cx: &mut Cx, clause: Clause) ->
     folded.expect(rt, "a fold of a clause")
 }
 
-fn folded_env(rt: &impl Abort, alloc: Global, cx: &mut Cx, env: ParamEnv) -> ParamEnv
+pub fn folded_env(rt: &impl Abort, alloc: Global, cx: &mut Cx, env: ParamEnv) -> ParamEnv
     requires { IsParamEnv cx.old.trees env }
-    ensures { IsParamEnv cx.new.trees result }
+    ensures grows { Grows cx.old cx.new }
+    ensures sort { IsParamEnv cx.new.trees result }
 {
     let folded = fold_env(
         alloc,
@@ -221,9 +235,15 @@ fn folded_env(rt: &impl Abort, alloc: Global, cx: &mut Cx, env: ParamEnv) -> Par
     folded.expect(rt, "a fold of an environment")
 }
 
-fn folded_trait_ref(rt: &impl Abort, alloc: Global, cx: &mut Cx, trait_ref: TraitRef) -> TraitRef
+pub fn folded_trait_ref(
+    rt: &impl Abort,
+    alloc: Global,
+    cx: &mut Cx,
+    trait_ref: TraitRef,
+) -> TraitRef
     requires { IsArgs cx.old.trees trait_ref.args }
-    ensures { IsArgs cx.new.trees result.args }
+    ensures grows { Grows cx.old cx.new }
+    ensures sort { IsArgs cx.new.trees result.args }
 {
     let folded = fold_trait_ref(
         alloc,

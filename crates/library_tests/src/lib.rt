@@ -2,6 +2,8 @@
 #![tactic(auto)]
 
 #[cfg(test)]
+mod arguments;
+#[cfg(test)]
 mod arity;
 #[cfg(test)]
 mod asserts;
@@ -20,19 +22,23 @@ mod contexts;
 #[cfg(test)]
 mod declarations;
 #[cfg(test)]
-mod every_kind;
-#[cfg(test)]
-mod flags;
-#[cfg(test)]
 mod folds;
+#[cfg(test)]
+mod kinds;
+#[cfg(test)]
+mod large;
 #[cfg(test)]
 mod normalisers;
 #[cfg(test)]
 mod parts;
 #[cfg(test)]
+mod reading;
+#[cfg(test)]
 mod rejections;
 #[cfg(test)]
 mod samples;
+#[cfg(test)]
+mod substitutions;
 #[cfg(test)]
 mod texts;
 #[cfg(test)]

@@ -1,8 +1,0 @@
-use Rattle.candidate_ir.proofs.Made.{IsVars-grows, IsRegion-grows}
-use Rattle.library_tests.proofs.clauses.check_flags.Goals as goal
-
-pub outlives-clause-requires-clause-vars : goal.outlives-clause-requires-clause-vars
-outlives-clause-requires-clause-vars g c = IsVars-grows _ _ _ c.ty-param.ensures.grows c.make_parts-parts.ensures.binders.of_region
-
-pub outlives-clause-requires-clause-longest : goal.outlives-clause-requires-clause-longest
-outlives-clause-requires-clause-longest g c = IsRegion-grows _ _ _ c.ty-param.ensures.grows c.make_parts-parts.ensures.regions.longest

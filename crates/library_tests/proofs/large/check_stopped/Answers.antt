@@ -1,0 +1,15 @@
+use Rattle.candidate_ir.proofs.Made.{IsArgs-grows, IsConst-grows, IsRegion-grows, IsTy-grows}
+use Rattle.library_tests.proofs.large.check_stopped.Goals as goal
+
+pub try_subst-answer-requires-clause-args : goal.try_subst-answer-requires-clause-args
+try_subst-answer-requires-clause-args g c = IsArgs-grows _ _ _ c.ty-ty.ensures.grows c.list_of-args.ensures.sort
+
+pub invariant_of-reader : goal.invariant_of-reader
+invariant_of-reader g c = record {
+  ty_is = IsTy-grows _ _ c.ty-ty.new.self.ty c.try_subst-answer.ensures.grows c.ty-ty.new.self.ty_is;
+  before_is = IsTy-grows _ _ c.ty-ty.new.self.before c.try_subst-answer.ensures.grows c.ty-ty.new.self.before_is;
+  constant_is = IsConst-grows _ _ c.ty-ty.new.self.constant c.try_subst-answer.ensures.grows c.ty-ty.new.self.constant_is;
+  least_is = IsConst-grows _ _ c.ty-ty.new.self.least c.try_subst-answer.ensures.grows c.ty-ty.new.self.least_is;
+  region_is = IsRegion-grows _ _ c.ty-ty.new.self.region c.try_subst-answer.ensures.grows c.ty-ty.new.self.region_is;
+  other_is = IsRegion-grows _ _ c.ty-ty.new.self.other c.try_subst-answer.ensures.grows c.ty-ty.new.self.other_is;
+}

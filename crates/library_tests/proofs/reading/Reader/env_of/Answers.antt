@@ -1,0 +1,12 @@
+use Rattle.candidate_ir.proofs.Made.{IsConst-grows, IsRegion-grows, IsTy-grows}
+use Rattle.library_tests.proofs.reading.Reader.env_of.Goals as goal
+
+pub invariant_of-self : goal.invariant_of-self
+invariant_of-self g c = record {
+  ty_is = IsTy-grows _ _ c.args.self.now.ty c.environment.ensures.grows c.args.self.now.ty_is;
+  before_is = IsTy-grows _ _ c.args.self.now.before c.environment.ensures.grows c.args.self.now.before_is;
+  constant_is = IsConst-grows _ _ c.args.self.now.constant c.environment.ensures.grows c.args.self.now.constant_is;
+  least_is = IsConst-grows _ _ c.args.self.now.least c.environment.ensures.grows c.args.self.now.least_is;
+  region_is = IsRegion-grows _ _ c.args.self.now.region c.environment.ensures.grows c.args.self.now.region_is;
+  other_is = IsRegion-grows _ _ c.args.self.now.other c.environment.ensures.grows c.args.self.now.other_is;
+}
