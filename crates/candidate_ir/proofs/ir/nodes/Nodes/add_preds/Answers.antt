@@ -1,9 +1,9 @@
 use Rattle.std.proofs.Common.{get_or, arith}
-use Rattle.std.proofs.lemmas.Result.{err_from_is_err_and}
+use Rattle.std.proofs.lemmas.Result.{err_from_is_err_and, IfErr-weaker}
 use Rattle.candidate_ir.specs.declared.ir.kinds.Binder.{Binder}
 use Rattle.candidate_ir.specs.declared.ir.kinds.ExistentialPredicate.{ExistentialPredicate}
 use Rattle.candidate_ir.specs.declared.ir.kinds.ExistentialPredicate.TheVariants as E
-use Rattle.candidate_ir.proofs.Growing.{extends-trans, made-pred, pred-fits-grown, pred-stop}
+use Rattle.candidate_ir.proofs.Growing.{extends-trans, made-pred, pred-fits-grown, pred-stop, preds-stop}
 use Rattle.candidate_ir.proofs.Principals.{list-principal}
 use Rattle.candidate_ir.proofs.References.{if-ok}
 use Rattle.candidate_ir.proofs.ir.nodes.Nodes.add_preds.Goals as goal
@@ -36,3 +36,9 @@ returns-clause-fit c = if-ok c.mk_pred_list.result (λ w f t. c.mk_pred_list.ens
 pub mk_pred_list-requires-clause-principal : goal.mk_pred_list-requires-clause-principal
 mk_pred_list-requires-clause-principal c =
     list-principal c.args.self.now c.loop-bound.self c.loop-bound.list.items c.args.bounds.now c.loop-bound.bound-index c.loop-bound.invariant.trees (omega arith) c.requires.principal
+
+pub returns-clause-cause : goal.returns-clause-cause
+returns-clause-cause c =
+    IfErr-weaker c.mk_pred_list.result _ _
+    (λ s. preds-stop c.args.self.now c.loop-bound.self c.loop-bound.list.items c.args.bounds.now c.loop-bound.bound-index s c.loop-bound.invariant (omega arith))
+    c.mk_pred_list.ensures.cause
