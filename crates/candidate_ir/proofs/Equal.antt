@@ -1,5 +1,5 @@
 -- The derived equality of heads decides.
-use Rattle.std.proofs.Common.{◌≡◌, ap, true, false, refl, rules, Option, ℕ}
+use Rattle.std.proofs.Common.{◌≡◌, ap, Bool, true, false, refl, rules, Option, ℕ}
 use Rattle.candidate_ir.specs.declared.ir.heads.Head.{Head}
 use Rattle.candidate_ir.specs.declared.ir.heads.Head.TheVariants as H
 use Rattle.candidate_ir.specs.declared.ir.heads.Builtin.{Builtin}
@@ -38,7 +38,11 @@ closure_is i j a b e = search rules
 pub variable_is : (a b : Variable) → eq-value.it (H.Infer a) (H.Infer b) ≡ true → a ≡ b
 variable_is a b e = search rules
 
-no_true : {A : Type 0} → false ≡ true → A
+pub clash : {A : Type 0} (b : Bool) → b ≡ true → b ≡ false → A
+clash true e f = absurd cc
+clash false e f = absurd cc
+
+pub no_true : {A : Type 0} → false ≡ true → A
 no_true e = absurd cc
 
 pub alias_is : (i j : AliasId) (a b : AliasKind) → eq-value.it (H.Alias a i) (H.Alias b j) ≡ true → H.Alias a i ≡ H.Alias b j

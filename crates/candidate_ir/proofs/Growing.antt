@@ -4,6 +4,8 @@ use Rattle.std.proofs.lemmas.List.{append-nil, map_push, map_more, take_at, take
 use Rattle.std.specs.Prelude.{map}
 use Rattle.candidate_ir.specs.declared.ir.node.Row.{Row}
 use Rattle.candidate_ir.specs.declared.ir.node.Node.TheVariants as N
+use Rattle.candidate_ir.specs.declared.ir.heads.Head.TheVariants as H
+use Rattle.candidate_ir.specs.declared.ir.heads.PartHead.TheVariants as P
 use Rattle.candidate_ir.specs.declared.ir.kinds.Var.{Var}
 use Rattle.candidate_ir.specs.declared.ir.kinds.VarKind.{VarKind}
 use Rattle.candidate_ir.specs.declared.ir.kinds.Pred.{Pred}
@@ -12,9 +14,9 @@ use Rattle.candidate_ir.specs.declared.ir.kinds.ExistentialPredicate.{Existentia
 use Rattle.candidate_ir.specs.declared.ir.stop.Stop.{Stop}
 use Rattle.candidate_ir.specs.Trees.{Kind, VariableKind, PredicateKind, Tree, height, heights}
 use Rattle.candidate_ir.specs.Kinds.{Child, numbers, sorts}
-use Rattle.candidate_ir.specs.Nodes.{tree_at, kind_at, trees_at, kinds_at, node_tree, tallest, pred_child, var_child, Extends}
+use Rattle.candidate_ir.specs.Nodes.{tree_at, kind_at, trees_at, kinds_at, rows, node_of, node_tree, tallest, pred_child, var_child, Extends}
 use Rattle.candidate_ir.specs.Table.{trees_after, AreRows, Below}
-use Rattle.candidate_ir.specs.Words.{IsVar, IsPred, PredFits, BoundsFit, var_tree, pred_tree, var_kind_tree, pred_kind_tree, bounds_forest, IsMkStop, IsMkListStop}
+use Rattle.candidate_ir.specs.Words.{IsVar, IsPred, PredFits, BoundsFit, var_tree, pred_tree, var_kind_tree, vars_kind_tree, binder_tree, pred_kind_tree, pred_list_forest, bounds_forest, IsMkStop, IsMkListStop}
 use Rattle.candidate_ir.proofs.Lists.{all_there, there-preds, there-vars, Below-there, kinds_at-append, trees_at-append, Fits-append, node_tree-append}
 use Rattle.candidate_ir.specs.Worlds.{World}
 use Rattle.candidate_ir.specs.References.{Takes, AllTake, AllFit}
@@ -106,9 +108,9 @@ pub made-var : (old now new : List Tree) (vs us : List Var) (ks : List VarKind) 
     → us ≡ vs ++ v ∷ []
     → Made Always old new (map var_child us) (map var_kind_tree (take (i + 1) ks))
 made-var old now new vs us ks i d v m h e j l f g u =
-    let P : List Child → Type 0 = λ cs. Made Always old new cs (map var_kind_tree (take (i + 1) ks)) in
+    let F : List Child → Type 0 = λ cs. Made Always old new cs (map var_kind_tree (take (i + 1) ks)) in
     let Q : List Tree → Type 0 = λ ts. Made Always old new (map var_child vs ++ var_child v ∷ []) ts in
-    subst P (sym (ap (map var_child) u ∙ map_push var_child vs v))
+    subst F (sym (ap (map var_child) u ∙ map_push var_child vs v))
     (subst Q (sym (map_more var_kind_tree ks i d h))
     (made-one Always old now new (map var_child vs) (map var_kind_tree (take i ks)) v.0 VariableKind (var_kind_tree (get_or ks i d)) m (there-vars vs) e (λ w q a. j w a) l f g))
 
@@ -129,14 +131,19 @@ pub made-pred : (old now new : List Tree) (ps us : List Pred) (bs : List (Binder
     → us ≡ ps ++ p ∷ []
     → Made (BoundsTake old bs) old new (map pred_child us) (map (pred_kind_tree old) (take (i + 1) bs))
 made-pred old now new ps us bs i d p m q h e j l f g u =
-    let P : List Child → Type 0 = λ cs. Made (BoundsTake old bs) old new cs (map (pred_kind_tree old) (take (i + 1) bs)) in
+    let F : List Child → Type 0 = λ cs. Made (BoundsTake old bs) old new cs (map (pred_kind_tree old) (take (i + 1) bs)) in
     let Q : List Tree → Type 0 = λ ts. Made (BoundsTake old bs) old new (map pred_child ps ++ pred_child p ∷ []) ts in
     let same = pred-tree-grown old now (get_or bs i d) m.kept (q i d h) in
     let t = g ∙ pred-tree-grown old now (get_or bs i d) m.kept (q i d h) in
-    subst P (sym (ap (map pred_child) u ∙ map_push pred_child ps p))
+    subst F (sym (ap (map pred_child) u ∙ map_push pred_child ps p))
     (subst Q (sym (map_more (pred_kind_tree old) bs i d h))
     (made-one (BoundsTake old bs) old now new (map pred_child ps) (map (pred_kind_tree old) (take i bs)) p.0 PredicateKind (pred_kind_tree old (get_or bs i d)) m (there-preds ps) e
     (λ w r a. j w a (subst (Takes w) (sym same) (take-at w (pred_kind_tree old) bs i d r h))) l f t))
+
+-- a number is wanting where all are needed with one for the list
+no-room : (P : World → Type 0) (old now : List Tree) (cs : List Child) (ts : List Tree) (i n : ℕ)
+    → Made P old now cs ts → length ts ≡ i → i ≤ n → length now ≡ 4294967295 → 4294967295 < length old + (n + 1)
+no-room P old now cs ts i n m k h e = let l = made-length P old now cs ts m in omega (arith, m.count, l, k, e)
 
 -- why a bound was not added
 pub pred-stop : (old now : List Tree) (ps : List Pred) (bs : List (Binder ExistentialPredicate)) (i : ℕ) (d : Binder ExistentialPredicate) (s : Stop)
@@ -149,12 +156,61 @@ pred-stop old now ps bs i d s m q h (inr x) = inr (x.0, at x.1)
     at : (length now ≡ 4294967295) ⊎ (1024 < height (pred_kind_tree now (get_or bs i d)))
         → (4294967295 < length old + (length bs + 1)) ⊎ (1024 < heights (bounds_forest old bs))
     at (inl e) =
-        let n = made-length (BoundsTake old bs) old now (map pred_child ps) (map (pred_kind_tree old) (take i bs)) m in
-        let k = length-map (take i bs) (pred_kind_tree old) in
-        let j : length (take i bs) ≡ i = length-take-le i bs (omega arith) in
-        inl (omega (arith, m.count, n, k, j, e))
+        let j : length (map (pred_kind_tree old) (take i bs)) ≡ i = length-map (take i bs) (pred_kind_tree old) ∙ length-take-le i bs (omega arith) in
+        inl (no-room (BoundsTake old bs) old now (map pred_child ps) (map (pred_kind_tree old) (take i bs)) i (length bs) m j (omega arith) e)
     at (inr e) =
         let t = ap height (pred-tree-grown old now (get_or bs i d) m.kept (q i d h)) in
         let a = tallest-at (pred_kind_tree old) bs i d h in
         let r = rows-height (map (pred_kind_tree old) bs) in
         inr (omega (arith, t, a, r, e))
+
+-- why a variable was not added
+pub var-stop : (old now : List Tree) (vs : List Var) (ks : List VarKind) (i : ℕ) (s : Stop)
+    → Made Always old now (map var_child vs) (map var_kind_tree (take i ks)) → i < length ks
+    → IsMkStop now 0 s
+    → IsMkListStop old (length ks + 1) (height (binder_tree ks)) s
+var-stop old now vs ks i s m h (inl x) = inl x
+var-stop old now vs ks i s m h (inr x) = inr (x.0, at x.1)
+  where
+    at : (length now ≡ 4294967295) ⊎ (1024 < 0)
+        → (4294967295 < length old + (length ks + 1)) ⊎ (1024 < height (binder_tree ks))
+    at (inl e) =
+        let j : length (map var_kind_tree (take i ks)) ≡ i = length-map (take i ks) var_kind_tree ∙ length-take-le i ks (omega arith) in
+        inl (no-room Always old now (map var_child vs) (map var_kind_tree (take i ks)) i (length ks) m j (omega arith) e)
+    at (inr e) = absurd (omega arith)
+
+-- why the list of all variables was not added
+pub vars-stop : (old now : List Tree) (vs : List Var) (ks : List VarKind) (i : ℕ) (s : Stop)
+    → Made Always old now (map var_child vs) (map var_kind_tree (take i ks)) → length ks ≤ i
+    → IsMkStop now (height (vars_kind_tree now vs)) s
+    → IsMkListStop old (length ks + 1) (height (binder_tree ks)) s
+vars-stop old now vs ks i s m h (inl x) = inl x
+vars-stop old now vs ks i s m h (inr x) = inr (x.0, at x.1)
+  where
+    all : map var_kind_tree (take i ks) ≡ map var_kind_tree ks
+    all = ap (map var_kind_tree) (take_all i ks h)
+
+    at : (length now ≡ 4294967295) ⊎ (1024 < height (vars_kind_tree now vs))
+        → (4294967295 < length old + (length ks + 1)) ⊎ (1024 < height (binder_tree ks))
+    at (inl e) =
+        let j = ap length all ∙ length-map ks var_kind_tree in
+        inl (no-room Always old now (map var_child vs) (map var_kind_tree (take i ks)) (length ks) (length ks) m j (omega arith) e)
+    at (inr e) = inr (subst (λ (ts : List Tree). 1024 < height (node_of (H.Part P.Vars) ts)) (m.trees ∙ all) e)
+
+-- why the list of all bounds was not added
+pub preds-stop : (old now : List Tree) (ps : List Pred) (bs : List (Binder ExistentialPredicate)) (i : ℕ) (s : Stop)
+    → Made (BoundsTake old bs) old now (map pred_child ps) (map (pred_kind_tree old) (take i bs)) → length bs ≤ i
+    → IsMkStop now (heights (pred_list_forest now ps)) s
+    → IsMkListStop old (length bs + 1) (heights (bounds_forest old bs)) s
+preds-stop old now ps bs i s m h (inl x) = inl x
+preds-stop old now ps bs i s m h (inr x) = inr (x.0, at x.1)
+  where
+    all : map (pred_kind_tree old) (take i bs) ≡ map (pred_kind_tree old) bs
+    all = ap (map (pred_kind_tree old)) (take_all i bs h)
+
+    at : (length now ≡ 4294967295) ⊎ (1024 < heights (pred_list_forest now ps))
+        → (4294967295 < length old + (length bs + 1)) ⊎ (1024 < heights (bounds_forest old bs))
+    at (inl e) =
+        let j = ap length all ∙ length-map bs (pred_kind_tree old) in
+        inl (no-room (BoundsTake old bs) old now (map pred_child ps) (map (pred_kind_tree old) (take i bs)) (length bs) (length bs) m j (omega arith) e)
+    at (inr e) = inr (subst (λ (ts : List Tree). 1024 < heights (rows ts)) (m.trees ∙ all) e)

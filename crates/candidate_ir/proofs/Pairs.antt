@@ -214,6 +214,41 @@ module _ (right : RightSide) (ts : List Tree) (a b : ℕ) (d f : Node) (p : IsNo
         → trees_may_unify right (tree_at ts k) (tree_at ts j) ≡ false → false ≡ trees_may_unify right (tree_at ts a) (tree_at ts b)
     one_not k j e g n = sym (left ∙ (next-pair right ts _ _ i k j e g ∙ rw n refl))
 
+-- one of them meets any
+pub left_meets : (right : RightSide) (h g : Head) → meets_any h ≡ true → (below : Bool) → pair_may right h g below ≡ true
+left_meets right h g a below = rw a refl
+
+pub right_meets : (right : RightSide) (h g : Head) → meets_any h ≡ false → meets_any_on_right right g ≡ true
+    → (below : Bool) → pair_may right h g below ≡ true
+right_meets right h g a b below = rw (a, b) refl
+
+-- none of them does, and one is an integer variable
+pub integers : (right : RightSide) (h g : Head) → meets_any h ≡ false → meets_any_on_right right g ≡ false
+    → (is_variable_of V.Integer h || is_variable_of V.Integer g) ≡ true
+    → (below : Bool) → pair_may right h g below ≡ (is_integer h && is_integer g)
+integers right h g a b i below = rw (a, b, i) refl
+
+-- or a floating-point variable
+pub floats : (right : RightSide) (h g : Head) → meets_any h ≡ false → meets_any_on_right right g ≡ false
+    → is_variable_of V.Integer h ≡ false → is_variable_of V.Integer g ≡ false
+    → (is_variable_of V.Floating h || is_variable_of V.Floating g) ≡ true
+    → (below : Bool) → pair_may right h g below ≡ (is_float h && is_float g)
+floats right h g a b i j f below = rw (a, b, i, j, f) refl
+
+pub one_of : (a b : Bool) → a ≡ true → (a || b) ≡ true
+one_of a b e = rw e refl
+
+pub other_of : (a b : Bool) → a ≡ false → b ≡ true → (a || b) ≡ true
+other_of a b e f = rw (e, f) refl
+
+-- equal heads, of which none is a variable or meets any
+pub heads_agree : (right : RightSide) (h g : Head) → meets_any h ≡ false → meets_any_on_right right g ≡ false
+    → is_variable_of V.Integer h ≡ false → is_variable_of V.Integer g ≡ false
+    → is_variable_of V.Floating h ≡ false → is_variable_of V.Floating g ≡ false
+    → h ≡ g → (below : Bool) → pair_may right h g below ≡ below
+heads_agree right h g a b i j f k e below =
+    let s : same_head h g ≡ true = ap (λ (x : Head). same_head x g) e ∙ head_itself g in rw (a, b, i, j, f, k, s) refl
+
 -- different heads, of which none is a variable or meets any
 pub heads_differ : (right : RightSide) (h g : Head) → meets_any h ≡ false → meets_any_on_right right g ≡ false
     → is_variable_of V.Integer h ≡ false → is_variable_of V.Integer g ≡ false
@@ -224,3 +259,7 @@ heads_differ right h g a b i j f k n below = rw (a, b, i, j, f, k, differ (same_
     differ : (s : Bool) → same_head h g ≡ s → same_head h g ≡ false
     differ true e = absurd (n (head_is h g e))
     differ false e = e
+
+-- what was said isn't nothing
+pub was_said : {X A : Type 0} (x : X) → Some x ≡ None → A
+was_said x e = absurd cc

@@ -4,11 +4,12 @@ use Rattle.std.proofs.lemmas.List.{map_push, take_more, length-map}
 use Rattle.std.specs.Prelude.{map}
 use Rattle.std.proofs.Common.{true, Some}
 use Rattle.candidate_ir.specs.declared.ir.kinds.Clause.{Clause}
+use Rattle.candidate_ir.specs.declared.ir.kinds.TyKind.{TyKind}
 use Rattle.candidate_ir.specs.declared.ir.node.Node.{Node}
 use Rattle.candidate_ir.specs.declared.ir.heads.Head.TheVariants as H
 use Rattle.candidate_ir.specs.declared.ir.heads.ListHead.{ListHead}
 use Rattle.candidate_ir.specs.Trees.{Kind, ClauseKind, Tree}
-use Rattle.candidate_ir.specs.Kinds.{Child, numbers, sorts}
+use Rattle.candidate_ir.specs.Kinds.{Child, numbers, sorts, ty_children}
 use Rattle.candidate_ir.specs.Nodes.{tree_at, kind_at, rows, node_of, children_of, clause_child}
 use Rattle.candidate_ir.proofs.Children.{length_clauses}
 use Rattle.candidate_ir.proofs.Lists.{there, below_kind, kind_of-tree_at}
@@ -65,3 +66,23 @@ pub list-tree : (ts : List Tree) (n : ℕ) (k : Kind) (l : ListHead) (xs : List 
 list-tree ts n k l xs h i a e =
     let head : (tree_at ts n).head ≡ H.List l = list-head_of (tree_at ts n).head l (ap list_of (sym (kind_of-tree_at ts n (below_kind ts n k h a)) ∙ a) ∙ i) in
     λ i. record { head = head i; children = e i }
+
+-- numbers that are as many as the children of a kind
+pub count-of : (k j : TyKind) (xs : List ℕ) → length xs ≡ length (ty_children k) → k ≡ j → length xs ≡ length (ty_children j)
+count-of k j xs h e = h ∙ ap (λ (x : TyKind). length (ty_children x)) e
+
+pub inside : (i n more : ℕ) (xs : List ℕ) → length xs ≡ n → n ≡ i + suc more → i < length xs
+inside i n more xs h e = omega arith
+
+pub one-number : (xs : List ℕ) → length xs ≡ 1 → get_or xs 0 0 ∷ [] ≡ xs
+one-number [] h = absurd (omega arith)
+one-number (a ∷ []) h = refl
+one-number (a ∷ b ∷ xs) h = absurd (omega arith)
+
+pub two-numbers : (xs : List ℕ) → length xs ≡ 2 → get_or xs 0 0 ∷ get_or xs 1 0 ∷ [] ≡ xs
+two-numbers [] h = absurd (omega arith)
+two-numbers (a ∷ xs) h = ap (λ (ys : List ℕ). a ∷ ys) (one-number xs (omega arith))
+
+pub three-numbers : (xs : List ℕ) → length xs ≡ 3 → get_or xs 0 0 ∷ get_or xs 1 0 ∷ get_or xs 2 0 ∷ [] ≡ xs
+three-numbers [] h = absurd (omega arith)
+three-numbers (a ∷ xs) h = ap (λ (ys : List ℕ). a ∷ ys) (two-numbers xs (omega arith))

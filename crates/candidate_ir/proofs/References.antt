@@ -1,6 +1,6 @@
 -- References of a context: they stay such, and what is made of fitting trees fits.
 use Rattle.std.proofs.Common.{◌≡◌, ℕ, zero, suc, ◌<◌, List, [], ◌∷◌, ◌++◌, length, get_or, take, Bool, true, false, Some, refl, sym, ◌∙◌, ap, subst, arith}
-use Rattle.std.specs.Prelude.{Result, Ok, Err, IfOk, IfErr, map}
+use Rattle.std.specs.Prelude.{Result, Ok, Err, IsErr, IfOk, IfErr, map}
 use Rattle.candidate_ir.specs.declared.ir.kinds.VarKind.{VarKind}
 use Rattle.candidate_ir.specs.declared.ir.kinds.Args.{Args}
 use Rattle.candidate_ir.specs.declared.ir.kinds.TraitRef.{TraitRef}
@@ -65,6 +65,11 @@ fit-push w (u ∷ ts) t f g = (f.0, fit-push w ts t f.1 g)
 pub if-ok : {A B X : Type 0} (r : Result A B) → X → IfOk r (λ _. X)
 if-ok (Ok a) x = x
 if-ok (Err e) x = tt
+
+-- what holds of a result where there is one
+pub no-result : {A B : Type 0} (r : Result A B) (P : A → Type 0) → IsErr r → IfOk r P
+no-result (Ok a) P e = absurd cc
+no-result (Err x) P e = tt
 
 -- a node more, or none
 pub added-fits : (w : World) (old new : List Tree) (d : Node) (r : Result ℕ Stop)

@@ -14,15 +14,15 @@ use crate::ir::heads::{
 pub struct Ty(pub u32);
 
 /// A constant of a context.
-#[derive(Clone, Copy, Debug, PartialEq, Eq)]
+#[derive(Clone, Copy)]
 pub struct Const(pub u32);
 
 /// A region of a context.
-#[derive(Clone, Copy, Debug, PartialEq, Eq)]
+#[derive(Clone, Copy)]
 pub struct Region(pub u32);
 
 /// A list of generic arguments of a context.
-#[derive(Clone, Copy, Debug, PartialEq, Eq)]
+#[derive(Clone, Copy)]
 pub struct Args(pub u32);
 
 /// A list of bounds of a `dyn` type of a context.
@@ -54,7 +54,7 @@ pub struct Clause(pub u32);
 pub struct ParamEnv(pub u32);
 
 /// A type, a constant or a region of a context.
-#[derive(Clone, Copy, Debug, PartialEq, Eq)]
+#[derive(Clone, Copy)]
 pub enum GenericArg {
     Ty(Ty),
     Const(Const),
@@ -62,11 +62,11 @@ pub enum GenericArg {
 }
 
 /// An algebraic data type.
-#[derive(Clone, Copy, Debug, PartialEq, Eq)]
+#[derive(Clone, Copy, PartialEq, Eq)]
 pub struct AdtId(pub u32);
 
 /// A foreign type.
-#[derive(Clone, Copy, Debug, PartialEq, Eq)]
+#[derive(Clone, Copy, PartialEq, Eq)]
 pub struct ForeignId(pub u32);
 
 /// A function.
@@ -78,11 +78,11 @@ pub struct FnId(pub u32);
 pub struct ClosureId(pub u32);
 
 /// A trait.
-#[derive(Clone, Copy, Debug, PartialEq, Eq)]
+#[derive(Clone, Copy, PartialEq, Eq)]
 pub struct TraitId(pub u32);
 
 /// An associated item of a trait.
-#[derive(Clone, Copy, Debug, PartialEq, Eq)]
+#[derive(Clone, Copy, PartialEq, Eq)]
 pub struct AssocId(pub u32);
 
 /// What an alias stands for: of a projection its associated type.
@@ -153,7 +153,7 @@ pub enum VarKind {
 }
 
 /// A type variable to be solved: of any type, of integer types, of floating-point types.
-#[derive(Clone, Copy, PartialEq, Eq)]
+#[derive(Clone, Copy)]
 pub enum InferTy {
     TyVar(u32),
     IntVar(u32),
@@ -175,7 +175,7 @@ pub struct BoundVar {
 }
 
 /// A trait with its arguments, of which the first is the self type.
-#[derive(Clone, Copy, Debug, PartialEq, Eq)]
+#[derive(Clone, Copy)]
 pub struct TraitRef {
     pub def_id: TraitId,
     pub args: Args,

@@ -8,7 +8,7 @@ ghost use Rattle.candidate_ir.specs.Names.{principals};
 ghost use Rattle.candidate_ir.specs.Worlds.{World};
 ghost use Rattle.candidate_ir.specs.Making.{Adds, a_type, a_constant, a_region, a_list, a_binder, some_bounds, a_signature, a_clause, an_environment};
 ghost use Rattle.candidate_ir.specs.References.{Takes, AllTake, AllFit};
-ghost use Rattle.candidate_ir.specs.Words.{IsTy, IsConst, IsRegion, IsArgs, IsPreds, IsPred, IsSig, IsClause, IsParamEnv, IsVars, IsVar, ty_tree, const_tree, region_tree, args_forest, preds_forest, pred_tree, sig_tree, clause_tree, env_forest, vars_tree, var_tree, KindFits, ConstKindFits, ListFits, PredListFits, VarListFits, PredFits, SigFits, ClauseFits, ClauseListFits, kind_tree, const_kind_tree, region_kind_tree, list_forest, pred_list_forest, pred_kind_tree, sig_kind_tree, clause_kind_tree, clause_list_forest, vars_kind_tree, var_kind_tree, BoundsFit, AtMostOnePrincipal, bounds_forest, binder_tree, IsMkStop, IsMkListStop};
+ghost use Rattle.candidate_ir.specs.Words.{IsTy, IsConst, IsRegion, IsArgs, IsPreds, IsSig, IsClause, IsParamEnv, IsVars, ty_tree, const_tree, region_tree, args_forest, preds_forest, sig_tree, clause_tree, env_forest, vars_tree, KindFits, ConstKindFits, ListFits, PredListFits, VarListFits, PredFits, SigFits, ClauseFits, ClauseListFits, kind_tree, const_kind_tree, region_kind_tree, list_forest, pred_list_forest, pred_kind_tree, sig_kind_tree, clause_kind_tree, clause_list_forest, vars_kind_tree, BoundsFit, AtMostOnePrincipal, bounds_forest, binder_tree, IsMkStop, IsMkListStop};
 
 use crate::ir::kinds::{
     Args, Binder, Clause, ClauseKind, ClosureSig, Const, ConstKind, ExistentialPredicate,
@@ -137,10 +137,7 @@ impl Nodes {
         ensures cause { IfErr result (λ s. IsMkStop self.old (height (node_tree self.old node)) s) }
     {
         let height = self.node_height(&node);
-        if self.len() >= MAX_NODES {
-            return Err(Stop::NodesFull);
-        }
-        if height > MAX_HEIGHT {
+        if self.len() >= MAX_NODES || height > MAX_HEIGHT {
             return Err(Stop::NodesFull);
         }
         self.push(Row { node, height })
@@ -200,20 +197,6 @@ impl Nodes {
         Ok(Preds(self.add(Node::Preds(list))?))
     }
 
-    /// The bound of a `dyn` type.
-    fn mk_pred(&mut self, bound: Binder<ExistentialPredicate>) -> Result<Pred, Stop>
-        requires { PredFits self.old bound }
-        ensures kept { Extends self.old self.new }
-        ensures fit { (w : World) → AllFit w self.old → Takes w (pred_kind_tree self.old bound) → AllFit w self.new }
-        ensures one { IfOk result (λ _. length self.new ≡ length self.old + 1) }
-        ensures sort { IfOk result (λ p. IsPred self.new p) }
-        ensures tree { IfOk result (λ p. pred_tree self.new p ≡ pred_kind_tree self.old bound) }
-        ensures unchanged { IfErr result (λ _. self.new ≡ self.old) }
-        ensures cause { IfErr result (λ s. IsMkStop self.old (height (pred_kind_tree self.old bound)) s) }
-    {
-        Ok(Pred(self.add(Node::Pred(bound))?))
-    }
-
     fn add_preds(&mut self, bounds: &[Binder<ExistentialPredicate>]) -> Result<Preds, Stop>
         requires fit { BoundsFit self.old bounds.now }
         requires principal { AtMostOnePrincipal bounds.now }
@@ -225,8 +208,8 @@ impl Nodes {
     {
         let mut list = Vec::new(*self.rows.allocator());
         for bound in bounds {
-            let pred = self.mk_pred(*bound)?;
-            list.push(pred)?;
+            let number = self.add(Node::Pred(*bound))?;
+            list.push(Pred(number))?;
         }
         self.mk_pred_list(list)
     }
@@ -288,19 +271,6 @@ impl Nodes {
         Ok(ParamEnv(self.add(Node::Clauses(clauses))?))
     }
 
-    /// One variable of a binder.
-    fn mk_var(&mut self, kind: VarKind) -> Result<Var, Stop>
-        ensures kept { Extends self.old self.new }
-        ensures fit { (w : World) → AllFit w self.old → AllFit w self.new }
-        ensures one { IfOk result (λ _. length self.new ≡ length self.old + 1) }
-        ensures sort { IfOk result (λ v. IsVar self.new v) }
-        ensures tree { IfOk result (λ v. var_tree self.new v ≡ var_kind_tree kind) }
-        ensures unchanged { IfErr result (λ _. self.new ≡ self.old) }
-        ensures cause { IfErr result (λ s. IsMkStop self.old (height (var_kind_tree kind)) s) }
-    {
-        Ok(Var(self.add(Node::Var(kind))?))
-    }
-
     fn add_vars(&mut self, kinds: &[VarKind]) -> Result<Vars, Stop>
         ensures kept { Extends self.old self.new }
         ensures fit { IfOk result (λ _. (w : World) → AllFit w self.old → AllFit w self.new) }
@@ -310,8 +280,8 @@ impl Nodes {
     {
         let mut list = Vec::new(*self.rows.allocator());
         for kind in kinds {
-            let var = self.mk_var(*kind)?;
-            list.push(var)?;
+            let number = self.add(Node::Var(*kind))?;
+            list.push(Var(number))?;
         }
         self.mk_var_list(list)
     }

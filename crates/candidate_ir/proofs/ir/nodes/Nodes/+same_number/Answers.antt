@@ -1,6 +1,7 @@
-use Rattle.std.proofs.Common.{◌≡◌, arith, rules, sym, ◌∙◌}
+use Rattle.std.proofs.Common.{◌≡◌, arith, refl, sym, ◌∙◌}
 use Rattle.candidate_ir.specs.Kinds.{numbers}
 use Rattle.candidate_ir.specs.Nodes.{trees_at, children_of, node_tree}
+use Rattle.candidate_ir.proofs.Equal.{clash, no_true}
 use Rattle.candidate_ir.proofs.Splits.{root-agree}
 use Rattle.candidate_ir.proofs.Children.{Below-get, pair-differs, pair-on, walk_end}
 use Rattle.candidate_ir.proofs.ir.nodes.Nodes.+same_number.Goals as goal
@@ -13,9 +14,9 @@ same_number-requires t c =
 
 pub returns-then-not-same_number : goal.returns-then-not-same_number
 returns-then-not-same_number t c = (
-  (λ h. absurd cc),
+  (λ h. no_true h),
   (λ h. absurd (pair-differs c.args.self.now c.node-left.result.now c.node-right.result.now c.loop-i.i c.child.result c.child-in-loop-i.result c.child.ensures c.child-in-loop-i.ensures
-      (λ e. let x = c.same_number.ensures.1 e in let y = c.if-not-same_number.true in absurd cc)
+      (λ e. clash _ (c.same_number.ensures.1 e) c.if-not-same_number.true)
       c.loop-i.invariant.0
       c.node-left.ensures.fits c.node-right.ensures.fits
       (c.has_root_of.ensures.0 c.if-not-has_root_of.false).0 (c.has_root_of.ensures.0 c.if-not-has_root_of.false).1
@@ -37,13 +38,13 @@ returns t c =
     let e2 = walk_end c.args.self.now (children_of r) c.loop-i.i _ (c.child_count-i-end.ensures ∙ h.1) c.loop-i.auto.i-end c.loop-i-test.false in
     let k : trees_at c.args.self.now (numbers (children_of l)) ≡ trees_at c.args.self.now (numbers (children_of r)) = c.loop-i.invariant.1 (e1 ∙ sym e2) in
     let m : node_tree c.args.self.now l ≡ node_tree c.args.self.now r = cc (h.0, k) in
-    ((λ _. c.node-left.ensures.tree ∙ (m ∙ sym c.node-right.ensures.tree)), (λ _. search rules))
+    ((λ _. c.node-left.ensures.tree ∙ (m ∙ sym c.node-right.ensures.tree)), (λ _. refl))
 
 pub returns-then-not-has_root_of : goal.returns-then-not-has_root_of
 returns-then-not-has_root_of t c = (
-  (λ h. absurd cc),
+  (λ h. no_true h),
   (λ h.
       let x = c.has_root_of.ensures.1 (root-agree c.args.self.now c.node-left.result.now c.node-right.result.now c.node-left.ensures.fits c.node-right.ensures.fits
       (sym c.node-left.ensures.tree ∙ (h ∙ c.node-right.ensures.tree))) in
-      let y = c.if-not-has_root_of.true in absurd cc),
+      clash _ x c.if-not-has_root_of.true),
 )

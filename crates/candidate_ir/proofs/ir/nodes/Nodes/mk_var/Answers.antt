@@ -1,5 +1,0 @@
-use Rattle.std.proofs.Common.{refl}
-use Rattle.candidate_ir.proofs.ir.nodes.Nodes.mk_var.Goals as goal
-
-pub returns-clause-fit : goal.returns-clause-fit
-returns-clause-fit c = λ w f. c.add.ensures.fit w f (λ e. refl)
