@@ -6,7 +6,7 @@ use candidate_ir::decl::context::Cx;
 use candidate_ir::decl::definition::{
     AdtFlags, AdtShape, AliasShape, AssocKind, CrateId, FnFlags, TraitFlags,
 };
-use candidate_ir::ir::kinds::{AdtId, ForeignId, TraitId, VarKind};
+use candidate_ir::ir::kinds::{AdtId, Binder, FnSig, ForeignId, TraitId, Ty, TyKind, VarKind};
 use std::alloc::Global;
 use std::process::Abort;
 
@@ -22,6 +22,25 @@ pub enum Item<'a> {
     Opaque(u32, &'a [VarKind]),
     Function(u32, &'a [VarKind]),
     Closure(u32, &'a [VarKind]),
+}
+
+/// The type of truth values, among the builder's.
+pub fn boolean(rt: &impl Abort, builder: &mut DeclsBuilder) -> Ty {
+    builder.mk_ty(TyKind::Bool).expect(rt, "a type")
+}
+
+/// The signature without inputs that gives a truth value.
+fn empty_sig(rt: &impl Abort, builder: &mut DeclsBuilder) -> Binder<FnSig> {
+    let vars = builder.mk_vars(&[]).expect(rt, "no variables");
+    let inputs = builder.mk_args(&[]).expect(rt, "no inputs");
+    let value = FnSig {
+        inputs,
+        output: boolean(rt, builder),
+        safe: true,
+        rust_abi: true,
+        variadic: false,
+    };
+    Binder { vars, value }
 }
 
 /// Adds it; the result is its number.
@@ -49,15 +68,17 @@ fn add(rt: &impl Abort, builder: &mut DeclsBuilder, item: Item<'_>) -> u32 {
             added.expect(rt, "an alias").0
         }
         Item::Opaque(krate, parameters) => {
-            let added = builder.add_opaque(CrateId(krate), parameters);
+            let hidden = boolean(rt, builder);
+            let added = builder.add_opaque(CrateId(krate), parameters, hidden);
             added.expect(rt, "an opaque type").0
         }
         Item::Function(krate, parameters) => {
-            let added = builder.add_fn(CrateId(krate), parameters, FnFlags::default());
+            let sig = empty_sig(rt, builder);
+            let added = builder.add_fn(CrateId(krate), parameters, FnFlags::default(), sig);
             added.expect(rt, "a function").0
         }
         Item::Closure(krate, parameters) => {
-            let added = builder.add_closure(CrateId(krate), parameters, FnFlags::default());
+            let added = builder.add_closure(CrateId(krate), parameters, false);
             added.expect(rt, "a closure").0
         }
     }

@@ -18,6 +18,8 @@ mod clauses;
 #[cfg(test)]
 mod clients;
 #[cfg(test)]
+mod contents;
+#[cfg(test)]
 mod contexts;
 #[cfg(test)]
 mod declarations;

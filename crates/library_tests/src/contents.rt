@@ -1,0 +1,372 @@
+//! What definitions hold, and the faults of it.
+
+ghost use Rattle.candidate_ir.specs.Context.{Grows};
+ghost use Rattle.candidate_ir.specs.Words.{IsTy};
+
+use crate::asserts::{equals_in_row, holds};
+use candidate_ir::decl::builder::{DeclFault, DeclsBuilder};
+use candidate_ir::decl::contents::{
+    AliasBoundKind, Destructor, ImplId, ImplPolarity, LangItem, Sizedness,
+};
+use candidate_ir::decl::definition::{AdtFlags, AdtShape, AssocKind, CrateId, TraitFlags};
+use candidate_ir::ir::kinds::{
+    AdtId, AliasId, Binder, BoundVar, Clause, ClauseKind, GenericArg, InferTy, Placeholder,
+    PredicatePolarity, TraitId, TraitPredicate, TraitRef, Ty, TyKind, VarKind,
+};
+use std::alloc::Global;
+use std::process::Abort;
+
+/// What is held: a type, or something over it; or what was never given.
+#[derive(Clone, Copy)]
+enum Sample {
+    Plain,
+    Param(u32),
+    Variable,
+    Placeholder,
+    Bound,
+    Nothing,
+}
+
+/// One call of the builder; a definition is said by its number.
+#[derive(Clone, Copy)]
+enum Call {
+    Field(u32, Sample),
+    Constraint(u32, Sizedness, Sample),
+    Destructor(u32, Destructor),
+    Unsizing(u32, u32),
+    Super(u32, Sample),
+    Where(u32, Sample),
+    Bound(u32, AliasBoundKind, Sample),
+    ImplOf(u32, ImplPolarity, Sample),
+    ImplWhere(u32, Sample),
+    SuperOutlives(u32, Sample),
+    Default(u32),
+    Specializes(u32, u32),
+    Lang(LangItem, u32),
+}
+
+/// The definitions, with one parameter each, a type; of the trait and its item `Self` comes before it.
+const ADT: u32 = 0;
+
+const TRAIT: u32 = 1;
+
+const ASSOC: u32 = 2;
+
+const OPAQUE: u32 = 3;
+
+/// A data type whose parameter is a constant, and one that is an enum.
+const BUFFER: u32 = 4;
+
+const ENUM: u32 = 5;
+
+fn add_definitions(rt: &impl Abort, builder: &mut DeclsBuilder) {
+    let krate = builder.add_crate().expect(rt, "a crate");
+    let flags = AdtFlags::default();
+    let adt = builder.add_adt(krate, AdtShape::Struct, &[VarKind::Ty], flags);
+    holds(rt, adt.is_ok(), "a struct");
+    let of = builder.add_trait(krate, &[VarKind::Ty], TraitFlags::default());
+    let of = of.expect(rt, "a trait");
+    let assoc = builder.add_assoc(of, AssocKind::Type, false);
+    holds(rt, assoc.is_ok(), "an associated type");
+    let hidden = builder.mk_ty(TyKind::Bool).expect(rt, "a type");
+    let opaque = builder.add_opaque(krate, &[VarKind::Ty], hidden);
+    holds(rt, opaque.is_ok(), "an opaque type");
+    let buffer = builder.add_adt(krate, AdtShape::Struct, &[VarKind::Const], flags);
+    holds(rt, buffer.is_ok(), "a struct with a constant");
+    let choice = builder.add_adt(krate, AdtShape::Enum, &[VarKind::Ty], flags);
+    holds(rt, choice.is_ok(), "an enum");
+}
+
+/// The type of the sample; of nothing it is some type.
+fn sample_ty(rt: &impl Abort, builder: &mut DeclsBuilder, sample: Sample) -> Ty
+    ensures grows { Grows builder.old builder.new }
+    ensures sort { IsTy builder.new.trees result }
+{
+    let kind = match sample {
+        Sample::Plain | Sample::Nothing => TyKind::Bool,
+        Sample::Param(index) => TyKind::Param(index),
+        Sample::Variable => TyKind::Infer(InferTy::TyVar(0)),
+        Sample::Placeholder => TyKind::Placeholder(Placeholder {
+            universe: 0,
+            index: 0,
+        }),
+        Sample::Bound => TyKind::Bound(BoundVar { depth: 0, index: 0 }),
+    };
+    builder.mk_ty(kind).expect(rt, "a type")
+}
+
+fn ty(rt: &impl Abort, builder: &mut DeclsBuilder, sample: Sample) -> Ty {
+    match sample {
+        Sample::Nothing => Ty(4_000_000),
+        _ => sample_ty(rt, builder, sample),
+    }
+}
+
+/// The trait of the type and of the same type.
+fn trait_ref(rt: &impl Abort, builder: &mut DeclsBuilder, of: u32, sample: Sample) -> TraitRef {
+    let ty = GenericArg::Ty(sample_ty(rt, builder, sample));
+    let args = builder.mk_args(&[ty, ty]).expect(rt, "arguments");
+    TraitRef {
+        def_id: TraitId(of),
+        args,
+    }
+}
+
+/// That this trait holds, under a binder of no variables.
+#[tactic(auto, using(candidate_ir::proofs::Made::making))]
+fn sample_clause(rt: &impl Abort, builder: &mut DeclsBuilder, sample: Sample) -> Clause {
+    let ty = GenericArg::Ty(sample_ty(rt, builder, sample));
+    let args = builder.mk_args(&[ty, ty]).expect(rt, "arguments");
+    let vars = builder.mk_vars(&[]).expect(rt, "no variables");
+    let trait_ref = TraitRef {
+        def_id: TraitId(TRAIT),
+        args,
+    };
+    let predicate = TraitPredicate {
+        trait_ref,
+        polarity: PredicatePolarity::Positive,
+    };
+    let value = ClauseKind::Trait(predicate);
+    let clause = builder.mk_clause(Binder { vars, value });
+    clause.expect(rt, "a clause")
+}
+
+fn clause(rt: &impl Abort, builder: &mut DeclsBuilder, sample: Sample) -> Clause {
+    match sample {
+        Sample::Nothing => Clause(4_000_000),
+        _ => sample_clause(rt, builder, sample),
+    }
+}
+
+/// Calls about data types and lang items; whether the call is answered well.
+fn call_of_types(rt: &impl Abort, builder: &mut DeclsBuilder, call: Call) -> bool {
+    match call {
+        Call::Field(adt, sample) => {
+            let ty = ty(rt, builder, sample);
+            builder.push_field(AdtId(adt), ty).is_ok()
+        }
+        Call::Constraint(adt, sizedness, sample) => {
+            let ty = ty(rt, builder, sample);
+            builder.set_constraint(AdtId(adt), sizedness, ty);
+            true
+        }
+        Call::Destructor(adt, destructor) => {
+            builder.set_destructor(AdtId(adt), destructor);
+            true
+        }
+        Call::Unsizing(adt, parameter) => builder.push_unsizing(AdtId(adt), parameter).is_ok(),
+        Call::Lang(item, of) => {
+            builder.lang_item(item, TraitId(of));
+            true
+        }
+        _ => false,
+    }
+}
+
+/// Calls about traits and bounds.
+fn call_of_traits(rt: &impl Abort, builder: &mut DeclsBuilder, call: Call) -> bool {
+    match call {
+        Call::Super(of, sample) => {
+            let clause = clause(rt, builder, sample);
+            builder.push_super(TraitId(of), clause).is_ok()
+        }
+        Call::Where(of, sample) => {
+            let clause = clause(rt, builder, sample);
+            builder.push_where(TraitId(of), clause).is_ok()
+        }
+        Call::Bound(alias, kind, sample) => {
+            let clause = clause(rt, builder, sample);
+            builder.push_bound(AliasId(alias), kind, clause).is_ok()
+        }
+        _ => false,
+    }
+}
+
+/// Calls about impls.
+fn call_of_impls(rt: &impl Abort, builder: &mut DeclsBuilder, call: Call) -> bool {
+    match call {
+        Call::ImplOf(of, polarity, sample) => {
+            let trait_ref = trait_ref(rt, builder, of, sample);
+            let added = builder.add_impl(CrateId(0), &[VarKind::Ty], trait_ref, polarity);
+            added.is_ok()
+        }
+        Call::ImplWhere(of, sample) => {
+            let clause = clause(rt, builder, sample);
+            builder.push_impl_where(ImplId(of), clause).is_ok()
+        }
+        Call::SuperOutlives(of, sample) => {
+            let clause = clause(rt, builder, sample);
+            builder.push_super_outlives(ImplId(of), clause).is_ok()
+        }
+        Call::Default(of) => {
+            builder.set_default(ImplId(of));
+            true
+        }
+        Call::Specializes(of, other) => builder.specializes(ImplId(of), ImplId(other)).is_ok(),
+        _ => false,
+    }
+}
+
+/// One row: calls, and the fault that the declarations have after them.
+#[derive(Clone, Copy)]
+struct Row<'a>(&'a [Call], Option<DeclFault>);
+
+fn check_row(rt: &impl Abort, alloc: Global, calls: &[Call], want: Option<DeclFault>, row: usize) {
+    let mut builder = DeclsBuilder::new(alloc);
+    add_definitions(rt, &mut builder);
+    for call in calls {
+        let known = call_of_types(rt, &mut builder, *call)
+            || call_of_traits(rt, &mut builder, *call)
+            || call_of_impls(rt, &mut builder, *call);
+        holds(rt, known, "a call with ample memory");
+    }
+    equals_in_row(rt, &builder.finish().err(), &want, row);
+}
+
+fn check_rows(rt: &impl Abort, alloc: Global, rows: &[Row<'_>]) {
+    for (number, row) in rows.iter().enumerate() {
+        check_row(rt, alloc, row.0, row.1, number);
+    }
+}
+
+const UNKNOWN: Option<DeclFault> = Some(DeclFault::UnknownId);
+
+const ARITY: Option<DeclFault> = Some(DeclFault::WrongArity);
+
+const KIND: Option<DeclFault> = Some(DeclFault::WrongKind);
+
+const TAIL: Option<DeclFault> = Some(DeclFault::NoTail);
+
+#[test]
+fn looks_at_what_types_hold(rt: HostRuntime) {
+    let rows = [
+        Row(&[], None),
+        Row(&[Call::Field(ADT, Sample::Plain)], None),
+        Row(&[Call::Field(ADT, Sample::Param(0))], None),
+        Row(&[Call::Field(ADT, Sample::Param(1))], ARITY),
+        Row(&[Call::Field(BUFFER, Sample::Param(0))], KIND),
+        Row(&[Call::Field(BUFFER, Sample::Param(1))], ARITY),
+        Row(&[Call::Field(ADT, Sample::Variable)], KIND),
+        Row(&[Call::Field(ADT, Sample::Placeholder)], KIND),
+        Row(&[Call::Field(ADT, Sample::Bound)], KIND),
+        Row(&[Call::Field(ADT, Sample::Nothing)], UNKNOWN),
+        Row(&[Call::Field(TRAIT, Sample::Plain)], UNKNOWN),
+        Row(&[Call::Field(9, Sample::Plain)], UNKNOWN),
+        Row(
+            &[
+                Call::Field(ADT, Sample::Bound),
+                Call::Field(ADT, Sample::Param(1)),
+            ],
+            ARITY,
+        ),
+        Row(
+            &[
+                Call::Field(ADT, Sample::Param(1)),
+                Call::Field(9, Sample::Plain),
+            ],
+            UNKNOWN,
+        ),
+        Row(&[Call::Destructor(ADT, Destructor::Const)], None),
+        Row(&[Call::Destructor(TRAIT, Destructor::NotConst)], UNKNOWN),
+        Row(&[Call::Unsizing(ADT, 0)], TAIL),
+        Row(
+            &[Call::Unsizing(ADT, 0), Call::Field(ADT, Sample::Param(0))],
+            None,
+        ),
+        Row(
+            &[Call::Unsizing(ENUM, 0), Call::Field(ENUM, Sample::Param(0))],
+            TAIL,
+        ),
+        Row(
+            &[Call::Unsizing(ADT, 1), Call::Field(ADT, Sample::Param(0))],
+            ARITY,
+        ),
+        Row(&[Call::Unsizing(TRAIT, 0)], UNKNOWN),
+    ];
+    check_rows(&rt, rt.alloc(), &rows);
+}
+
+#[test]
+fn looks_at_what_is_said_last(rt: HostRuntime) {
+    let variable = Call::Constraint(ADT, Sizedness::Sized, Sample::Variable);
+    let plain = Call::Constraint(ADT, Sizedness::Sized, Sample::Plain);
+    let other = Call::Constraint(ADT, Sizedness::MetaSized, Sample::Plain);
+    let no_trait = Call::Lang(LangItem::Copy, ADT);
+    let rows = [
+        Row(&[variable], KIND),
+        Row(&[variable, other], KIND),
+        Row(&[variable, plain], None),
+        Row(
+            &[Call::Constraint(TRAIT, Sizedness::Sized, Sample::Plain)],
+            UNKNOWN,
+        ),
+        Row(&[no_trait], UNKNOWN),
+        Row(&[no_trait, Call::Lang(LangItem::Copy, TRAIT)], None),
+        Row(&[no_trait, Call::Lang(LangItem::Clone, TRAIT)], UNKNOWN),
+        Row(&[Call::Lang(LangItem::Unsize, 9)], UNKNOWN),
+    ];
+    check_rows(&rt, rt.alloc(), &rows);
+}
+
+#[test]
+fn looks_at_what_traits_hold(rt: HostRuntime) {
+    let self_bound = AliasBoundKind::SelfBounds;
+    let other_bound = AliasBoundKind::NonSelfBounds;
+    let rows = [
+        Row(&[Call::Super(TRAIT, Sample::Param(0))], None),
+        Row(&[Call::Super(TRAIT, Sample::Param(2))], ARITY),
+        Row(&[Call::Super(ADT, Sample::Param(0))], UNKNOWN),
+        Row(&[Call::Super(TRAIT, Sample::Nothing)], UNKNOWN),
+        Row(&[Call::Where(TRAIT, Sample::Param(1))], None),
+        Row(&[Call::Where(TRAIT, Sample::Param(2))], ARITY),
+        Row(&[Call::Where(OPAQUE, Sample::Param(0))], UNKNOWN),
+        Row(&[Call::Where(TRAIT, Sample::Variable)], KIND),
+        Row(&[Call::Bound(ASSOC, self_bound, Sample::Param(1))], None),
+        Row(&[Call::Bound(ASSOC, other_bound, Sample::Param(2))], ARITY),
+        Row(&[Call::Bound(OPAQUE, other_bound, Sample::Param(0))], None),
+        Row(&[Call::Bound(OPAQUE, self_bound, Sample::Param(1))], ARITY),
+        Row(&[Call::Bound(TRAIT, self_bound, Sample::Plain)], UNKNOWN),
+        Row(&[Call::Bound(ASSOC, self_bound, Sample::Nothing)], UNKNOWN),
+    ];
+    check_rows(&rt, rt.alloc(), &rows);
+}
+
+#[test]
+fn looks_at_impls(rt: HostRuntime) {
+    let positive = Call::ImplOf(TRAIT, ImplPolarity::Positive, Sample::Param(0));
+    let rows = [
+        Row(&[positive], None),
+        Row(
+            &[Call::ImplOf(TRAIT, ImplPolarity::Reservation, Sample::Plain)],
+            None,
+        ),
+        Row(
+            &[Call::ImplOf(TRAIT, ImplPolarity::Negative, Sample::Param(1))],
+            ARITY,
+        ),
+        Row(
+            &[Call::ImplOf(TRAIT, ImplPolarity::Positive, Sample::Bound)],
+            KIND,
+        ),
+        Row(
+            &[Call::ImplOf(ADT, ImplPolarity::Positive, Sample::Plain)],
+            UNKNOWN,
+        ),
+        Row(&[positive, Call::ImplWhere(0, Sample::Param(0))], None),
+        Row(&[positive, Call::ImplWhere(0, Sample::Param(1))], ARITY),
+        Row(&[positive, Call::ImplWhere(1, Sample::Plain)], UNKNOWN),
+        Row(
+            &[positive, Call::SuperOutlives(0, Sample::Placeholder)],
+            KIND,
+        ),
+        Row(&[positive, Call::SuperOutlives(0, Sample::Plain)], None),
+        Row(&[positive, Call::SuperOutlives(1, Sample::Plain)], UNKNOWN),
+        Row(&[positive, Call::Default(0)], None),
+        Row(&[positive, Call::Default(1)], UNKNOWN),
+        Row(&[positive, Call::Specializes(0, 0)], None),
+        Row(&[positive, Call::Specializes(0, 1)], UNKNOWN),
+        Row(&[positive, Call::Specializes(1, 0)], UNKNOWN),
+        Row(&[positive, Call::Specializes(0, 1), positive], None),
+    ];
+    check_rows(&rt, rt.alloc(), &rows);
+}
