@@ -3,7 +3,7 @@ use Rattle.std.proofs.Common.{◌≡◌, ◌<◌, ◌⊎◌, inl, inr, true, fal
 use Rattle.candidate_ir.specs.declared.decl.builder.DeclFault.{DeclFault}
 use Rattle.candidate_ir.specs.declared.decl.builder.DeclFault.TheVariants as F
 use Rattle.candidate_ir.specs.Context.{Context}
-use Rattle.candidate_ir.specs.Faults.{has_unknown_id, has_wrong_parameters, has_wrong_kind, AllArgumentsFit, lacks_tail, HasFault, IsLowestFault, IsFaultless, fault_number}
+use Rattle.candidate_ir.specs.Faults.{has_unknown_id, has_wrong_parameters, has_wrong_kind, AllArgumentsFit, lacks_tail, item_has_wrong_arity, all_items, HasFault, IsLowestFault, IsFaultless, fault_number}
 use Rattle.std.specs.List.{list_any}
 
 no-unknown : (c : Context) → has_unknown_id c ≡ false → HasFault c F.UnknownId → ⊥
@@ -19,6 +19,9 @@ no-kind c k f = cc
 no-tail : (c : Context) → list_any (λ d. lacks_tail c.contents d.kind) c.declarations ≡ false → HasFault c F.NoTail → ⊥
 no-tail c k f = cc
 
+no-item : (c : Context) → list_any (item_has_wrong_arity c.declarations c.contents.lang_items) all_items ≡ false → HasFault c F.LangArity → ⊥
+no-item c k f = cc
+
 -- an unknown number comes before all else
 pub unknown_lowest : (c : Context) → has_unknown_id c ≡ true → IsLowestFault c F.UnknownId
 unknown_lowest c u = record { there = u; lowest = lower }
@@ -29,7 +32,7 @@ unknown_lowest c u = record { there = u; lowest = lower }
     lower F.WrongKind b f = omega (arith, b)
     lower F.SupertraitCycle b f = f
     lower F.NoTail b f = omega (arith, b)
-    lower F.LangArity b f = f
+    lower F.LangArity b f = omega (arith, b)
     lower F.Memory b f = f
 
 -- wrong arity, where no number is unknown
@@ -42,7 +45,7 @@ arity_lowest c u h = record { there = h; lowest = lower }
     lower F.WrongKind b f = omega (arith, b)
     lower F.SupertraitCycle b f = f
     lower F.NoTail b f = omega (arith, b)
-    lower F.LangArity b f = f
+    lower F.LangArity b f = omega (arith, b)
     lower F.Memory b f = f
 
 -- something of another kind, where all arguments fit
@@ -56,7 +59,7 @@ kind_lowest c u p a k = record { there = k; lowest = lower }
     lower F.WrongKind b f = omega (arith, b)
     lower F.SupertraitCycle b f = f
     lower F.NoTail b f = omega (arith, b)
-    lower F.LangArity b f = f
+    lower F.LangArity b f = omega (arith, b)
     lower F.Memory b f = f
 
 -- no tail, where all is of its kind
@@ -70,16 +73,32 @@ tail_lowest c u p a k t = record { there = t; lowest = lower }
     lower F.WrongKind b f = no-kind c k f
     lower F.SupertraitCycle b f = f
     lower F.NoTail b f = omega (arith, b)
-    lower F.LangArity b f = f
+    lower F.LangArity b f = omega (arith, b)
+    lower F.Memory b f = f
+
+-- wrong parameters of a lang item, where nothing else is wrong
+pub item_lowest : (c : Context) → has_unknown_id c ≡ false → has_wrong_parameters c ≡ false → AllArgumentsFit c → has_wrong_kind c ≡ false
+    → list_any (λ d. lacks_tail c.contents d.kind) c.declarations ≡ false → list_any (item_has_wrong_arity c.declarations c.contents.lang_items) all_items ≡ true
+    → IsLowestFault c F.LangArity
+item_lowest c u p a k t i = record { there = i; lowest = lower }
+  where
+    lower : (g : DeclFault) → fault_number g < 6 → HasFault c g → ⊥
+    lower F.UnknownId b f = no-unknown c u f
+    lower F.WrongArity b f = no-arity c p a f
+    lower F.WrongKind b f = no-kind c k f
+    lower F.SupertraitCycle b f = f
+    lower F.NoTail b f = no-tail c t f
+    lower F.LangArity b f = omega (arith, b)
     lower F.Memory b f = f
 
 -- and nothing is wrong
 pub faultless : (c : Context) → has_unknown_id c ≡ false → has_wrong_parameters c ≡ false → AllArgumentsFit c → has_wrong_kind c ≡ false
-    → list_any (λ d. lacks_tail c.contents d.kind) c.declarations ≡ false → IsFaultless c
-faultless c u p a k t F.UnknownId f = no-unknown c u f
-faultless c u p a k t F.WrongArity f = no-arity c p a f
-faultless c u p a k t F.WrongKind f = no-kind c k f
-faultless c u p a k t F.SupertraitCycle f = f
-faultless c u p a k t F.NoTail f = no-tail c t f
-faultless c u p a k t F.LangArity f = f
-faultless c u p a k t F.Memory f = f
+    → list_any (λ d. lacks_tail c.contents d.kind) c.declarations ≡ false → list_any (item_has_wrong_arity c.declarations c.contents.lang_items) all_items ≡ false
+    → IsFaultless c
+faultless c u p a k t i F.UnknownId f = no-unknown c u f
+faultless c u p a k t i F.WrongArity f = no-arity c p a f
+faultless c u p a k t i F.WrongKind f = no-kind c k f
+faultless c u p a k t i F.SupertraitCycle f = f
+faultless c u p a k t i F.NoTail f = no-tail c t f
+faultless c u p a k t i F.LangArity f = no-item c i f
+faultless c u p a k t i F.Memory f = f

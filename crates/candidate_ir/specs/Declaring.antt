@@ -205,6 +205,14 @@ item_number L.Drop = 13
 item_number L.BikeshedGuaranteedNoDrop = 14
 item_number L.Unsize = 15
 
+-- whether its trait has one parameter after `Self`, a type; those of the others have none
+abbrev pub takes_a_type : LangItem → Bool
+takes_a_type L.Fn = true
+takes_a_type L.FnMut = true
+takes_a_type L.FnOnce = true
+takes_a_type L.Unsize = true
+takes_a_type _ = false
+
 -- the contents, as they are kept
 abbrev pub contents_of : Kept → Contents
 contents_of k = record {

@@ -1,5 +1,5 @@
 -- What is wrong with declarations.
-use Rattle.std.specs.Prelude.{◌≡◌, ℕ, ◌<◌, Bool, true, false, not, ◌||◌, ◌&&◌, IsTrue, length, ◌⊎◌, List, [], ◌∷◌, Option, Some, None, slice_get, nat_le}
+use Rattle.std.specs.Prelude.{◌≡◌, ℕ, ◌<◌, Bool, true, false, not, ◌||◌, ◌&&◌, IsTrue, length, ◌⊎◌, List, [], ◌∷◌, Option, Some, None, slice_get, nat_le, ◌==◌, slice_index_or, if◌then◌else◌}
 use Rattle.std.specs.List.{list_any}
 use Rattle.candidate_ir.specs.declared.ir.kinds.VarKind.{VarKind}
 use Rattle.candidate_ir.specs.declared.ir.kinds.VarKind.TheVariants as V
@@ -11,11 +11,14 @@ use Rattle.candidate_ir.specs.declared.decl.definition.AdtShape.TheVariants as S
 use Rattle.candidate_ir.specs.declared.decl.definition.DefinitionKind.{DefinitionKind}
 use Rattle.candidate_ir.specs.declared.decl.definition.DefinitionKind.TheVariants as D
 use Rattle.candidate_ir.specs.declared.decl.contents.ImplId.{ImplId}
+use Rattle.candidate_ir.specs.declared.decl.contents.LangItem.{LangItem}
+use Rattle.candidate_ir.specs.declared.decl.contents.LangItem.TheVariants as L
+use Rattle.candidate_ir.specs.Declaring.{item_number, takes_a_type}
 use Rattle.candidate_ir.specs.declared.decl.held.Held.{Held}
 use Rattle.candidate_ir.specs.declared.decl.misplaced.Misplaced.TheVariants as M
 use Rattle.candidate_ir.specs.Declaration.{Declaration}
 use Rattle.candidate_ir.specs.Contents.{AdtContents, Impl, Contents}
-use Rattle.candidate_ir.specs.Context.{Context, world, is_unknown, is_declared_trait, lacks_trait, has_wrong_arity}
+use Rattle.candidate_ir.specs.Context.{Context, world, is_unknown, is_declared_trait, lacks_trait, has_wrong_arity, begins_with_type, is_empty}
 use Rattle.candidate_ir.specs.Held.{all_held}
 use Rattle.candidate_ir.specs.Misplaced.{is_not_given, held_misplaces, held_escapes}
 use Rattle.candidate_ir.specs.Names.{names_unknown}
@@ -115,12 +118,34 @@ abbrev pub lacks_tail : Contents → DefinitionKind → Bool
 lacks_tail c (D.Adt shape flags n) = unsizes_without_tail shape (slice_get c.adts n)
 lacks_tail c _ = false
 
+abbrev pub all_items : List LangItem
+all_items =
+    L.Sized ∷ L.MetaSized ∷ L.Copy ∷ L.Clone ∷ L.TrivialClone ∷ L.Fn ∷ L.FnMut ∷ L.FnOnce ∷ L.FnPtrTrait ∷ L.Tuple ∷ L.PointeeTrait ∷ L.DiscriminantKind ∷ L.Destruct
+    ∷ L.Drop ∷ L.BikeshedGuaranteedNoDrop ∷ L.Unsize ∷ []
+
+-- a type, or nothing
+abbrev pub has_item_parameters : LangItem → List VarKind → Bool
+has_item_parameters item ks = if takes_a_type item then length ks == 1 && begins_with_type ks else is_empty ks
+
+abbrev pub lacks_item_parameters : LangItem → Option Declaration → Bool
+lacks_item_parameters item None = false
+lacks_item_parameters item (Some d) = not (has_item_parameters item d.parameters)
+
+abbrev pub trait_lacks_item_parameters : LangItem → List Declaration → Option TraitId → Bool
+trait_lacks_item_parameters item ds None = false
+trait_lacks_item_parameters item ds (Some t) = lacks_item_parameters item (slice_get ds t.0)
+
+-- The trait that is the lang item has other parameters than the item has.
+abbrev pub item_has_wrong_arity : List Declaration → List (Option TraitId) → LangItem → Bool
+item_has_wrong_arity ds items item = trait_lacks_item_parameters item ds (slice_index_or items (item_number item) None)
+
 -- When a fault is there. Contents that a later call replaced don't count.
 abbrev pub HasFault : Context → DeclFault → Type 0
 HasFault c F.UnknownId = IsTrue (has_unknown_id c)
 HasFault c F.WrongArity = IsTrue (has_wrong_parameters c) ⊎ (AllArgumentsFit c → ⊥)
 HasFault c F.WrongKind = IsTrue (has_wrong_kind c)
 HasFault c F.NoTail = IsTrue (list_any (λ d. lacks_tail c.contents d.kind) c.declarations)
+HasFault c F.LangArity = IsTrue (list_any (item_has_wrong_arity c.declarations c.contents.lang_items) all_items)
 HasFault c _ = ⊥
 
 abbrev pub fault_number : DeclFault → ℕ

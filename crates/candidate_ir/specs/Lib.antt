@@ -12,6 +12,7 @@ pub mod Declaration
 pub mod Contents
 pub mod Context
 pub mod Declaring
+pub mod Lookups
 pub mod Held
 pub mod Misplaced
 pub mod References

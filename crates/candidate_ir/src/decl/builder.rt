@@ -19,8 +19,8 @@ use crate::decl::definition::{
     Parameters, TraitFlags,
 };
 use crate::decl::faults::{
-    any_has_wrong_arity, any_impl_misnames, any_is_unknown, any_item_misnames, any_lacks_tail,
-    any_lacks_trait, any_unsizes_past,
+    any_has_wrong_arity, any_impl_misnames, any_is_unknown, any_item_has_wrong_arity,
+    any_item_misnames, any_lacks_tail, any_lacks_trait, any_unsizes_past,
 };
 use crate::decl::held::{Held, all_held};
 use crate::decl::misplaced::{Misplaced, any_escapes, any_misplaces, any_not_given};
@@ -706,7 +706,7 @@ impl DeclsBuilder {
     }
 
     /// The fault with the lowest number, if there is one.
-    #[tactic(auto, using(crate::proofs::Faults::unknown_lowest, crate::proofs::Faults::arity_lowest, crate::proofs::Faults::kind_lowest, crate::proofs::Faults::tail_lowest, crate::proofs::Faults::faultless))]
+    #[tactic(auto, using(crate::proofs::Faults::unknown_lowest, crate::proofs::Faults::arity_lowest, crate::proofs::Faults::kind_lowest, crate::proofs::Faults::tail_lowest, crate::proofs::Faults::item_lowest, crate::proofs::Faults::faultless))]
     fn fault(&self, held: &[Held]) -> Option<DeclFault>
         requires { held.now ≡ all_that_is_held self.now }
         ensures { MatchOption result (IsFaultless self.now × IsWellFormed self.now) (λ f. IsLowestFault self.now f) }
@@ -725,6 +725,9 @@ impl DeclsBuilder {
         }
         if any_lacks_tail(self.definitions.as_slice(), &self.contents) {
             return Some(DeclFault::NoTail);
+        }
+        if any_item_has_wrong_arity(self.definitions.as_slice(), &self.contents.lang_items) {
+            return Some(DeclFault::LangArity);
         }
         None
     }

@@ -2,7 +2,7 @@
 
 ghost use Rattle.std.specs.Prelude.{◌≡◌, [], None, false};
 ghost use Rattle.candidate_ir.specs.Contents as seen;
-ghost use Rattle.candidate_ir.specs.Declaring.{place, adt_place, trait_place, bounds_place, no_bounds, nothing, contents_of, item_number};
+ghost use Rattle.candidate_ir.specs.Declaring.{place, adt_place, trait_place, bounds_place, no_bounds, nothing, contents_of, item_number, takes_a_type};
 ghost use Rattle.candidate_ir.specs.Parameters.{kinds_of};
 
 use crate::decl::definition::{AssocKind, CrateId, Declaration, DefinitionKind, Parameters};
@@ -74,6 +74,36 @@ pub enum LangItem {
 }
 
 impl LangItem {
+    /// All of them, in their order.
+    pub const ALL: [LangItem; 16] = [
+        LangItem::Sized,
+        LangItem::MetaSized,
+        LangItem::Copy,
+        LangItem::Clone,
+        LangItem::TrivialClone,
+        LangItem::Fn,
+        LangItem::FnMut,
+        LangItem::FnOnce,
+        LangItem::FnPtrTrait,
+        LangItem::Tuple,
+        LangItem::PointeeTrait,
+        LangItem::DiscriminantKind,
+        LangItem::Destruct,
+        LangItem::Drop,
+        LangItem::BikeshedGuaranteedNoDrop,
+        LangItem::Unsize,
+    ];
+
+    /// Whether its trait has one parameter after `Self`, a type; those of the others have none.
+    pub(crate) fn takes_a_type(self) -> bool
+        ensures { result ≡ takes_a_type self }
+    {
+        matches!(
+            self,
+            LangItem::Fn | LangItem::FnMut | LangItem::FnOnce | LangItem::Unsize
+        )
+    }
+
     pub(crate) fn number(self) -> usize
         ensures { result ≡ item_number self }
     {

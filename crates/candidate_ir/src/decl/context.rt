@@ -41,8 +41,8 @@ use std::marker::Model;
 pub struct Cx {
     crates: u32,
     local: CrateId,
-    definitions: Vec<Declaration>,
-    contents: Contents,
+    pub(crate) definitions: Vec<Declaration>,
+    pub(crate) contents: Contents,
     nodes: Nodes,
     delayed_bugs: Vec<String>,
 }

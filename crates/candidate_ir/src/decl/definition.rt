@@ -253,7 +253,7 @@ impl Parameters {
     }
 
     #[tactic(auto, using(crate::proofs::Parameters::types_empty))]
-    fn is_empty(&self) -> bool
+    pub(crate) fn is_empty(&self) -> bool
         ensures { result ≡ is_empty (kinds_of self.now) }
     {
         match self {
@@ -263,7 +263,7 @@ impl Parameters {
     }
 
     #[tactic(auto, using(crate::proofs::Parameters::types_begin))]
-    fn begins_with_type(&self) -> bool
+    pub(crate) fn begins_with_type(&self) -> bool
         ensures { result ≡ begins_with_type (kinds_of self.now) }
     {
         match self {
@@ -331,6 +331,12 @@ impl Declaration {
     ghost use Rattle.candidate_ir.specs.Worlds.{parameters_of};
     ghost use Rattle.candidate_ir.specs.Kinds.{arg_kind};
     ghost use Rattle.std.specs.Prelude.{◌↔◌, IsTrue, Some, map};
+
+    pub(crate) fn kind(&self) -> DefinitionKind
+        ensures { result ≡ self.now.kind }
+    {
+        self.kind
+    }
 
     pub(crate) fn krate(&self) -> CrateId
         ensures { result ≡ self.now.crate }

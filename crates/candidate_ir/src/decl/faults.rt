@@ -4,10 +4,10 @@ ghost use Rattle.std.specs.Prelude.{◌≡◌, ◌↔◌, IsTrue, length, slice_
 ghost use Rattle.std.specs.List.{list_any};
 ghost use Rattle.candidate_ir.specs.Context.{is_unknown, is_declared_trait, lacks_trait, has_wrong_arity};
 ghost use Rattle.candidate_ir.specs.Declaring.{contents_of};
-ghost use Rattle.candidate_ir.specs.Faults.{impl_misnames, item_misnames, unsizes_past, has_past_unsizing, unsizes_without_tail, lacks_tail};
+ghost use Rattle.candidate_ir.specs.Faults.{impl_misnames, item_misnames, unsizes_past, has_past_unsizing, unsizes_without_tail, lacks_tail, has_item_parameters, item_has_wrong_arity, all_items};
 ghost use Rattle.candidate_ir.specs.Parameters.{kinds_of};
 
-use crate::decl::contents::{AdtContents, Contents, Impl, ImplId};
+use crate::decl::contents::{AdtContents, Contents, Impl, ImplId, LangItem};
 use crate::decl::definition::{AdtShape, Declaration, DefinitionKind, Parameters};
 use crate::ir::kinds::TraitId;
 
@@ -155,4 +155,43 @@ pub(crate) fn any_lacks_tail(definitions: &[Declaration], contents: &Contents) -
     definitions
         .iter()
         .any(|definition| definition_lacks_tail(contents, definition))
+}
+
+/// Whether the trait that is the lang item has other parameters than the item has.
+fn item_has_wrong_arity(
+    definitions: &[Declaration],
+    items: &[Option<TraitId>; 16],
+    item: LangItem,
+) -> bool
+    ensures { result ≡ item_has_wrong_arity definitions.now items.now item }
+{
+    let Some(of) = items[item.number()] else {
+        return false;
+    };
+    match definitions.get(of.0 as usize) {
+        Some(definition) => !has_item_parameters(item, &definition.parameters),
+        None => false,
+    }
+}
+
+fn has_item_parameters(item: LangItem, parameters: &Parameters) -> bool
+    ensures { result ≡ has_item_parameters item (kinds_of parameters.now) }
+{
+    if item.takes_a_type() {
+        parameters.count() == 1 && parameters.begins_with_type()
+    } else {
+        parameters.is_empty()
+    }
+}
+
+/// Whether some lang item's trait has other parameters than the item has.
+pub(crate) fn any_item_has_wrong_arity(
+    definitions: &[Declaration],
+    items: &[Option<TraitId>; 16],
+) -> bool
+    ensures { result ≡ list_any (item_has_wrong_arity definitions.now items.now) all_items }
+{
+    LangItem::ALL
+        .iter()
+        .any(|item| item_has_wrong_arity(definitions, items, *item))
 }

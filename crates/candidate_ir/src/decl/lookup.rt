@@ -1,0 +1,324 @@
+//! What is read of the declarations of a context: lists are lent. Of a number that isn't of the sort asked about there is
+//! nothing.
+
+ghost use Rattle.std.specs.Prelude.{◌≡◌, [], None, Some, false, slice_index_or, option_copied};
+ghost use Rattle.candidate_ir.specs.Declaring.{adt_at, trait_at, bounds_at, impl_at, item_number};
+ghost use Rattle.candidate_ir.specs.Lookups as lookup;
+
+use crate::decl::contents::{
+    AdtContents, Bounds, Destructor, Impl, ImplId, ImplPolarity, LangItem, Sizedness,
+    TraitContents, adt_place, bounds_place, trait_place,
+};
+use crate::decl::context::Cx;
+use crate::decl::definition::{AdtFlags, AdtShape, AssocKind, DefinitionKind, FnFlags, TraitFlags};
+use crate::ir::kinds::{
+    AdtId, AliasId, AssocId, Binder, Clause, ClosureId, FnId, FnSig, TraitId, TraitRef, Ty,
+};
+
+impl Cx {
+    fn definition(&self, number: u32) -> Option<DefinitionKind>
+        ensures { result ≡ lookup.definition self.now number }
+    {
+        match self.definitions.get(number as usize) {
+            Some(definition) => Some(definition.kind()),
+            None => None,
+        }
+    }
+
+    /// What the data type was declared as.
+    pub fn adt_shape(&self, adt: AdtId) -> Option<AdtShape>
+        ensures { result ≡ lookup.adt_shape (lookup.definition self.now adt.0) }
+    {
+        match self.definition(adt.0) {
+            Some(DefinitionKind::Adt(shape, _, _)) => Some(shape),
+            _ => None,
+        }
+    }
+
+    /// The flags of the data type.
+    pub fn adt_flags(&self, adt: AdtId) -> Option<AdtFlags>
+        ensures { result ≡ lookup.adt_flags (lookup.definition self.now adt.0) }
+    {
+        match self.definition(adt.0) {
+            Some(DefinitionKind::Adt(_, flags, _)) => Some(flags),
+            _ => None,
+        }
+    }
+
+    /// The flags of the trait.
+    pub fn trait_flags(&self, of: TraitId) -> Option<TraitFlags>
+        ensures { result ≡ lookup.trait_flags (lookup.definition self.now of.0) }
+    {
+        match self.definition(of.0) {
+            Some(DefinitionKind::Trait(flags, _)) => Some(flags),
+            _ => None,
+        }
+    }
+
+    /// The trait of the associated item.
+    pub fn assoc_trait(&self, assoc: AssocId) -> Option<TraitId>
+        ensures { result ≡ lookup.assoc_trait (lookup.definition self.now assoc.0) }
+    {
+        match self.definition(assoc.0) {
+            Some(DefinitionKind::Assoc(of, _, _, _)) => Some(of),
+            _ => None,
+        }
+    }
+
+    /// What the associated item is.
+    pub fn assoc_kind(&self, assoc: AssocId) -> Option<AssocKind>
+        ensures { result ≡ lookup.assoc_kind (lookup.definition self.now assoc.0) }
+    {
+        match self.definition(assoc.0) {
+            Some(DefinitionKind::Assoc(_, kind, _, _)) => Some(kind),
+            _ => None,
+        }
+    }
+
+    /// Whether the associated item requires that `Self` is sized.
+    pub fn requires_sized_self(&self, assoc: AssocId) -> bool
+        ensures { result ≡ lookup.requires_sized_self (lookup.definition self.now assoc.0) }
+    {
+        match self.definition(assoc.0) {
+            Some(DefinitionKind::Assoc(_, _, sized, _)) => sized,
+            _ => false,
+        }
+    }
+
+    /// The type that the opaque type hides.
+    pub fn hidden_type(&self, opaque: AliasId) -> Option<Ty>
+        ensures { result ≡ lookup.hidden_type (lookup.definition self.now opaque.0) }
+    {
+        match self.definition(opaque.0) {
+            Some(DefinitionKind::Opaque(hidden, _)) => Some(hidden),
+            _ => None,
+        }
+    }
+
+    /// The flags of the function.
+    pub fn fn_flags(&self, function: FnId) -> Option<FnFlags>
+        ensures { result ≡ lookup.fn_flags (lookup.definition self.now function.0) }
+    {
+        match self.definition(function.0) {
+            Some(DefinitionKind::Function(flags, _)) => Some(flags),
+            _ => None,
+        }
+    }
+
+    /// The signature of the function, under its binder.
+    pub fn fn_sig(&self, function: FnId) -> Option<Binder<FnSig>>
+        ensures { result ≡ lookup.fn_sig (lookup.definition self.now function.0) }
+    {
+        match self.definition(function.0) {
+            Some(DefinitionKind::Function(_, sig)) => Some(sig),
+            _ => None,
+        }
+    }
+
+    /// Whether the closure can be called where a constant is computed.
+    pub fn closure_is_const(&self, closure: ClosureId) -> bool
+        ensures { result ≡ lookup.is_const_closure (lookup.definition self.now closure.0) }
+    {
+        match self.definition(closure.0) {
+            Some(DefinitionKind::Closure(is_const)) => is_const,
+            _ => false,
+        }
+    }
+
+    fn adt(&self, adt: AdtId) -> Option<&AdtContents>
+        ensures { option_copied result ≡ adt_at self.now adt.0 }
+    {
+        let place = adt_place(self.definitions.as_slice(), adt);
+        self.contents.adts.get(place)
+    }
+
+    fn trait_contents(&self, of: TraitId) -> Option<&TraitContents>
+        ensures { option_copied result ≡ trait_at self.now of.0 }
+    {
+        let place = trait_place(self.definitions.as_slice(), of);
+        self.contents.traits.get(place)
+    }
+
+    fn bounds(&self, alias: AliasId) -> Option<&Bounds>
+        ensures { option_copied result ≡ bounds_at self.now alias.0 }
+    {
+        let place = bounds_place(self.definitions.as_slice(), alias);
+        self.contents.bounds.get(place)
+    }
+
+    fn impl_contents(&self, of: ImplId) -> Option<&Impl>
+        ensures { option_copied result ≡ impl_at self.now of }
+    {
+        self.contents.impls.get(of.0 as usize)
+    }
+
+    /// The types of the fields of the data type, in order.
+    pub fn fields(&self, adt: AdtId) -> &[Ty]
+        ensures { result.now ≡ lookup.maybe [] (λ a. a.fields) (adt_at self.now adt.0) }
+    {
+        match self.adt(adt) {
+            Some(contents) => contents.fields.as_slice(),
+            None => &[],
+        }
+    }
+
+    /// The type that has to be sized, in this sense, for the data type to be, if one was said.
+    pub fn sizedness_constraint(&self, adt: AdtId, sizedness: Sizedness) -> Option<Ty>
+        ensures { result ≡ lookup.maybe None (lookup.constraint sizedness) (adt_at self.now adt.0) }
+    {
+        match self.adt(adt) {
+            Some(contents) => match sizedness {
+                Sizedness::Sized => contents.sized,
+                Sizedness::MetaSized => contents.meta_sized,
+            },
+            None => None,
+        }
+    }
+
+    /// The destructor of the data type, if it has one of its own.
+    pub fn destructor(&self, adt: AdtId) -> Option<Destructor>
+        ensures { result ≡ lookup.maybe None (λ a. a.destructor) (adt_at self.now adt.0) }
+    {
+        match self.adt(adt) {
+            Some(contents) => contents.destructor,
+            None => None,
+        }
+    }
+
+    /// The numbers of the parameters that change where the data type is unsized, as they were said.
+    pub fn unsizing_parameters(&self, adt: AdtId) -> &[u32]
+        ensures { result.now ≡ lookup.maybe [] (λ a. a.unsizing) (adt_at self.now adt.0) }
+    {
+        match self.adt(adt) {
+            Some(contents) => contents.unsizing.as_slice(),
+            None => &[],
+        }
+    }
+
+    /// The super clauses of the trait, in order.
+    pub fn super_clauses(&self, of: TraitId) -> &[Clause]
+        ensures { result.now ≡ lookup.maybe [] (λ a. a.supers) (trait_at self.now of.0) }
+    {
+        match self.trait_contents(of) {
+            Some(contents) => contents.supers.as_slice(),
+            None => &[],
+        }
+    }
+
+    /// The where clauses of the trait, in order.
+    pub fn trait_where_clauses(&self, of: TraitId) -> &[Clause]
+        ensures { result.now ≡ lookup.maybe [] (λ a. a.wheres) (trait_at self.now of.0) }
+    {
+        match self.trait_contents(of) {
+            Some(contents) => contents.wheres.as_slice(),
+            None => &[],
+        }
+    }
+
+    /// The associated items of the trait, in the order of their declaration.
+    pub fn associated_items(&self, of: TraitId) -> &[AssocId]
+        ensures { result.now ≡ lookup.maybe [] (λ a. a.items) (trait_at self.now of.0) }
+    {
+        match self.trait_contents(of) {
+            Some(contents) => contents.items.as_slice(),
+            None => &[],
+        }
+    }
+
+    /// The impls of the trait, in the order of their declaration.
+    pub fn impls_of(&self, of: TraitId) -> &[ImplId]
+        ensures { result.now ≡ lookup.maybe [] (λ a. a.impls) (trait_at self.now of.0) }
+    {
+        match self.trait_contents(of) {
+            Some(contents) => contents.impls.as_slice(),
+            None => &[],
+        }
+    }
+
+    /// The bounds of the associated type or opaque type itself, in order.
+    pub fn self_bounds(&self, alias: AliasId) -> &[Clause]
+        ensures { result.now ≡ lookup.maybe [] (λ a. a.self_bounds) (bounds_at self.now alias.0) }
+    {
+        match self.bounds(alias) {
+            Some(contents) => contents.self_bounds.as_slice(),
+            None => &[],
+        }
+    }
+
+    /// The bounds of the alias that it is a projection of, in order.
+    pub fn non_self_bounds(&self, alias: AliasId) -> &[Clause]
+        ensures { result.now ≡ lookup.maybe [] (λ a. a.non_self_bounds) (bounds_at self.now alias.0) }
+    {
+        match self.bounds(alias) {
+            Some(contents) => contents.non_self_bounds.as_slice(),
+            None => &[],
+        }
+    }
+
+    /// The header of the impl.
+    pub fn impl_trait_ref(&self, of: ImplId) -> Option<TraitRef>
+        ensures { result ≡ lookup.maybe None (λ a. Some a.trait_ref) (impl_at self.now of) }
+    {
+        match self.impl_contents(of) {
+            Some(contents) => Some(contents.trait_ref),
+            None => None,
+        }
+    }
+
+    /// What the impl says of its trait.
+    pub fn impl_polarity(&self, of: ImplId) -> Option<ImplPolarity>
+        ensures { result ≡ lookup.maybe None (λ a. Some a.polarity) (impl_at self.now of) }
+    {
+        match self.impl_contents(of) {
+            Some(contents) => Some(contents.polarity),
+            None => None,
+        }
+    }
+
+    /// Whether the impl is `default`.
+    pub fn impl_is_default(&self, of: ImplId) -> bool
+        ensures { result ≡ lookup.maybe false (λ a. a.is_default) (impl_at self.now of) }
+    {
+        match self.impl_contents(of) {
+            Some(contents) => contents.is_default,
+            None => false,
+        }
+    }
+
+    /// The where clauses of the impl, in order.
+    pub fn impl_where_clauses(&self, of: ImplId) -> &[Clause]
+        ensures { result.now ≡ lookup.maybe [] (λ a. a.wheres) (impl_at self.now of) }
+    {
+        match self.impl_contents(of) {
+            Some(contents) => contents.wheres.as_slice(),
+            None => &[],
+        }
+    }
+
+    /// The clauses about regions that the super clauses of its trait ask of the impl, in order.
+    pub fn impl_super_outlives(&self, of: ImplId) -> &[Clause]
+        ensures { result.now ≡ lookup.maybe [] (λ a. a.super_outlives) (impl_at self.now of) }
+    {
+        match self.impl_contents(of) {
+            Some(contents) => contents.super_outlives.as_slice(),
+            None => &[],
+        }
+    }
+
+    /// The impls that the impl specialises, as they were said.
+    pub fn specialized_impls(&self, of: ImplId) -> &[ImplId]
+        ensures { result.now ≡ lookup.maybe [] (λ a. a.specializes) (impl_at self.now of) }
+    {
+        match self.impl_contents(of) {
+            Some(contents) => contents.specializes.as_slice(),
+            None => &[],
+        }
+    }
+
+    /// The trait that is the lang item, if one is.
+    pub fn lang_item(&self, item: LangItem) -> Option<TraitId>
+        ensures { result ≡ slice_index_or self.now.contents.lang_items (item_number item) None }
+    {
+        self.contents.lang_items[item.number()]
+    }
+}
