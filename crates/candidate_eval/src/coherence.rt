@@ -25,7 +25,7 @@ use std::alloc::Global;
 use std::fmt;
 
 /// How projections that hold variables count.
-#[derive(Clone, Copy, Debug)]
+#[derive(Clone, Copy)]
 pub enum OrphanCheckMode {
     /// As uncovered: the rule proper.
     Proper,
@@ -34,7 +34,7 @@ pub enum OrphanCheckMode {
 }
 
 /// For which crate a reference is checked.
-#[derive(Clone, Copy, Debug)]
+#[derive(Clone, Copy)]
 pub enum InCrate {
     /// For the local crate.
     Local { mode: OrphanCheckMode },

@@ -228,13 +228,6 @@ pub integers : (right : RightSide) (h g : Head) → meets_any h ≡ false → me
     → (below : Bool) → pair_may right h g below ≡ (is_integer h && is_integer g)
 integers right h g a b i below = rw (a, b, i) refl
 
--- or a floating-point variable
-pub floats : (right : RightSide) (h g : Head) → meets_any h ≡ false → meets_any_on_right right g ≡ false
-    → is_variable_of V.Integer h ≡ false → is_variable_of V.Integer g ≡ false
-    → (is_variable_of V.Floating h || is_variable_of V.Floating g) ≡ true
-    → (below : Bool) → pair_may right h g below ≡ (is_float h && is_float g)
-floats right h g a b i j f below = rw (a, b, i, j, f) refl
-
 pub one_of : (a b : Bool) → a ≡ true → (a || b) ≡ true
 one_of a b e = rw e refl
 
