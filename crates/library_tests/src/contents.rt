@@ -3,15 +3,16 @@
 ghost use Rattle.candidate_ir.specs.Context.{Grows};
 ghost use Rattle.candidate_ir.specs.Words.{IsTy};
 
-use crate::asserts::{equals_in_row, holds};
+use crate::asserts::{equals, equals_in_row, holds};
 use candidate_ir::decl::builder::{DeclFault, DeclsBuilder};
 use candidate_ir::decl::contents::{
     AliasBoundKind, Destructor, ImplId, ImplPolarity, LangItem, Sizedness,
 };
+use candidate_ir::decl::context::Cx;
 use candidate_ir::decl::definition::{AdtFlags, AdtShape, AssocKind, CrateId, TraitFlags};
 use candidate_ir::ir::kinds::{
-    AdtId, AliasId, Binder, BoundVar, Clause, ClauseKind, GenericArg, InferTy, Placeholder,
-    PredicatePolarity, TraitId, TraitPredicate, TraitRef, Ty, TyKind, VarKind,
+    AdtId, AliasId, AssocId, Binder, BoundVar, Clause, ClauseKind, GenericArg, InferTy,
+    Placeholder, PredicatePolarity, TraitId, TraitPredicate, TraitRef, Ty, TyKind, VarKind,
 };
 use std::alloc::Global;
 use std::process::Abort;
@@ -237,6 +238,8 @@ const KIND: Option<DeclFault> = Some(DeclFault::WrongKind);
 
 const TAIL: Option<DeclFault> = Some(DeclFault::NoTail);
 
+const LANG: Option<DeclFault> = Some(DeclFault::LangArity);
+
 #[test]
 fn looks_at_what_types_hold(rt: HostRuntime) {
     let rows = [
@@ -291,19 +294,23 @@ fn looks_at_what_is_said_last(rt: HostRuntime) {
     let variable = Call::Constraint(ADT, Sizedness::Sized, Sample::Variable);
     let plain = Call::Constraint(ADT, Sizedness::Sized, Sample::Plain);
     let other = Call::Constraint(ADT, Sizedness::MetaSized, Sample::Plain);
-    let no_trait = Call::Lang(LangItem::Copy, ADT);
+    let unknown = Call::Constraint(TRAIT, Sizedness::Sized, Sample::Plain);
+    let no_trait = Call::Lang(LangItem::Fn, ADT);
     let rows = [
         Row(&[variable], KIND),
         Row(&[variable, other], KIND),
         Row(&[variable, plain], None),
-        Row(
-            &[Call::Constraint(TRAIT, Sizedness::Sized, Sample::Plain)],
-            UNKNOWN,
-        ),
+        Row(&[unknown], UNKNOWN),
         Row(&[no_trait], UNKNOWN),
-        Row(&[no_trait, Call::Lang(LangItem::Copy, TRAIT)], None),
-        Row(&[no_trait, Call::Lang(LangItem::Clone, TRAIT)], UNKNOWN),
-        Row(&[Call::Lang(LangItem::Unsize, 9)], UNKNOWN),
+        Row(&[no_trait, Call::Lang(LangItem::Fn, TRAIT)], None),
+        Row(&[no_trait, Call::Lang(LangItem::FnMut, TRAIT)], UNKNOWN),
+        Row(&[Call::Lang(LangItem::FnOnce, 9)], UNKNOWN),
+        Row(&[Call::Lang(LangItem::Unsize, TRAIT)], None),
+        Row(&[Call::Lang(LangItem::Copy, TRAIT)], LANG),
+        Row(
+            &[Call::Lang(LangItem::Sized, TRAIT), Call::Unsizing(ADT, 0)],
+            TAIL,
+        ),
     ];
     check_rows(&rt, rt.alloc(), &rows);
 }
@@ -369,4 +376,164 @@ fn looks_at_impls(rt: HostRuntime) {
         Row(&[positive, Call::Specializes(0, 1), positive], None),
     ];
     check_rows(&rt, rt.alloc(), &rows);
+}
+
+/// The clauses are these, which are given by their numbers.
+fn same_clauses(rt: &impl Abort, got: &[Clause], want: &[Clause], label: &str) {
+    equals(rt, &got.len(), &want.len(), label);
+    for (got, want) in got.iter().zip(want.iter()) {
+        equals(rt, &got.0, &want.0, label);
+    }
+}
+
+/// Types that are held, and one clause.
+#[derive(Clone, Copy)]
+struct Held {
+    plain: Ty,
+    param: Ty,
+    clause: Clause,
+    header: TraitRef,
+}
+
+fn held(rt: &impl Abort, builder: &mut DeclsBuilder) -> Held {
+    Held {
+        plain: ty(rt, builder, Sample::Plain),
+        param: ty(rt, builder, Sample::Param(0)),
+        clause: clause(rt, builder, Sample::Param(0)),
+        header: trait_ref(rt, builder, TRAIT, Sample::Param(0)),
+    }
+}
+
+/// Gives each definition something to hold; the calls that may be refused are answered well.
+fn fill(rt: &impl Abort, builder: &mut DeclsBuilder, held: Held) {
+    let (adt, of, alias) = (AdtId(ADT), TraitId(TRAIT), AliasId(ASSOC));
+    holds(rt, builder.push_field(adt, held.plain).is_ok(), "a field");
+    holds(rt, builder.push_field(adt, held.param).is_ok(), "a field");
+    builder.set_constraint(adt, Sizedness::MetaSized, held.param);
+    builder.set_destructor(adt, Destructor::Const);
+    holds(rt, builder.push_unsizing(adt, 0).is_ok(), "a parameter");
+    holds(rt, builder.push_super(of, held.clause).is_ok(), "a clause");
+    let clause = builder.push_where(of, held.clause);
+    holds(rt, clause.is_ok(), "a clause");
+    let bound = builder.push_bound(alias, AliasBoundKind::NonSelfBounds, held.clause);
+    holds(rt, bound.is_ok(), "a bound");
+    builder.lang_item(LangItem::Unsize, of);
+}
+
+fn add_impls(rt: &impl Abort, builder: &mut DeclsBuilder, held: Held) {
+    for polarity in [ImplPolarity::Negative, ImplPolarity::Positive] {
+        let added = builder.add_impl(CrateId(0), &[VarKind::Ty], held.header, polarity);
+        holds(rt, added.is_ok(), "an impl");
+    }
+    let first = ImplId(0);
+    holds(
+        rt,
+        builder.push_impl_where(first, held.clause).is_ok(),
+        "a clause",
+    );
+    holds(rt, builder.specializes(first, ImplId(1)).is_ok(), "an impl");
+    builder.set_default(first);
+}
+
+fn check_data_type(rt: &impl Abort, cx: &Cx, held: Held) {
+    let adt = AdtId(ADT);
+    let fields = cx.fields(adt);
+    equals(rt, &fields.len(), &2, "two fields");
+    for (field, want) in fields.iter().zip([held.plain, held.param]) {
+        equals(rt, field, &want, "a field");
+    }
+    equals(rt, &cx.fields(AdtId(TRAIT)).len(), &0, "a trait's fields");
+    let sized = cx.sizedness_constraint(adt, Sizedness::Sized);
+    equals(rt, &sized, &None, "no constraint");
+    let meta_sized = cx.sizedness_constraint(adt, Sizedness::MetaSized);
+    equals(rt, &meta_sized, &Some(held.param), "a constraint");
+    let destructor = cx.destructor(adt);
+    holds(
+        rt,
+        matches!(destructor, Some(Destructor::Const)),
+        "a destructor",
+    );
+    equals(rt, &cx.unsizing_parameters(adt).len(), &1, "a parameter");
+    let shape = cx.adt_shape(AdtId(ENUM));
+    holds(rt, matches!(shape, Some(AdtShape::Enum)), "an enum");
+    let flags = cx.adt_flags(adt);
+    holds(rt, flags.is_some_and(|flags| !flags.fundamental), "no flag");
+}
+
+fn check_trait(rt: &impl Abort, cx: &Cx, held: Held) {
+    let (of, alias) = (TraitId(TRAIT), AliasId(ASSOC));
+    same_clauses(rt, cx.super_clauses(of), &[held.clause], "supers");
+    same_clauses(
+        rt,
+        cx.trait_where_clauses(of),
+        &[held.clause],
+        "where clauses",
+    );
+    same_clauses(rt, cx.self_bounds(alias), &[], "no bounds");
+    same_clauses(rt, cx.non_self_bounds(alias), &[held.clause], "a bound");
+    let items = cx.associated_items(of);
+    equals(rt, &items.len(), &1, "an item");
+    equals(rt, &cx.impls_of(of).len(), &2, "two impls");
+    equals(rt, &cx.impls_of(TraitId(ADT)).len(), &0, "no trait");
+    equals(
+        rt,
+        &cx.lang_item(LangItem::Unsize),
+        &Some(of),
+        "a lang item",
+    );
+    equals(rt, &cx.lang_item(LangItem::Sized), &None, "no lang item");
+    equals(rt, &cx.assoc_trait(AssocId(ASSOC)), &Some(of), "its trait");
+    let kind = cx.assoc_kind(AssocId(ASSOC));
+    holds(rt, matches!(kind, Some(AssocKind::Type)), "a type");
+    holds(rt, !cx.requires_sized_self(AssocId(ASSOC)), "any `Self`");
+    let flags = cx.trait_flags(of);
+    holds(rt, flags.is_some_and(|flags| !flags.auto), "no flag");
+    holds(rt, cx.hidden_type(AliasId(OPAQUE)).is_some(), "a type");
+    holds(rt, cx.hidden_type(alias).is_none(), "nothing hidden");
+}
+
+fn check_impls(rt: &impl Abort, cx: &Cx, held: Held) {
+    let (first, second) = (ImplId(0), ImplId(1));
+    equals(
+        rt,
+        &cx.impl_trait_ref(first),
+        &Some(held.header),
+        "a header",
+    );
+    equals(rt, &cx.impl_trait_ref(ImplId(2)), &None, "no impl");
+    let polarity = cx.impl_polarity(first);
+    holds(
+        rt,
+        matches!(polarity, Some(ImplPolarity::Negative)),
+        "negative",
+    );
+    holds(rt, cx.impl_is_default(first), "the first is `default`");
+    holds(rt, !cx.impl_is_default(second), "the second isn't");
+    same_clauses(
+        rt,
+        cx.impl_where_clauses(first),
+        &[held.clause],
+        "where clauses",
+    );
+    same_clauses(rt, cx.impl_super_outlives(first), &[], "none about regions");
+    let specialized = cx.specialized_impls(first);
+    equals(rt, &specialized.len(), &1, "an impl");
+    equals(rt, &cx.specialized_impls(second).len(), &0, "none");
+}
+
+fn filled(rt: &impl Abort, alloc: Global) -> (Cx, Held) {
+    let mut builder = DeclsBuilder::new(alloc);
+    add_definitions(rt, &mut builder);
+    let held = held(rt, &mut builder);
+    fill(rt, &mut builder, held);
+    add_impls(rt, &mut builder, held);
+    (Cx::new(builder.finish().expect(rt, "no fault")), held)
+}
+
+#[test]
+fn reads_what_is_held(rt: HostRuntime) {
+    let (cx, held) = filled(&rt, rt.alloc());
+    check_data_type(&rt, &cx, held);
+    check_trait(&rt, &cx, held);
+    check_impls(&rt, &cx, held);
 }
