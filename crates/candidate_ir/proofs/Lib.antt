@@ -14,6 +14,7 @@ pub mod Rows
 pub mod Members
 pub mod Growing
 pub mod Headers
+pub mod Supers
 pub mod Holding
 pub mod Misplacing
 pub mod References

@@ -17,7 +17,8 @@ use Rattle.candidate_ir.specs.Trees.{Kind, TypeKind, ConstantKind, RegionKind, P
 use Rattle.candidate_ir.specs.Kinds.{ty_head, const_head}
 use Rattle.candidate_ir.specs.Nodes.{kind_at, head_of}
 use Rattle.candidate_ir.specs.declared.ir.kinds.Args.{Args}
-use Rattle.candidate_ir.specs.Words.{IsArgs}
+use Rattle.candidate_ir.specs.declared.ir.kinds.Clause.{Clause}
+use Rattle.candidate_ir.specs.Words.{IsArgs, IsClause}
 use Rattle.candidate_ir.specs.Table.{IsNodeOf}
 use Rattle.candidate_ir.specs.Misplaced.{is_misplaced, is_held_kind, is_held_node, is_not_given}
 use Rattle.candidate_ir.proofs.Lists.{there, kind_at-present, below_kind}
@@ -100,6 +101,29 @@ list_node ts a d b l is e =
 
 pub past_lists : (ts : List Tree) (a : Args) → length ts ≤ a.0 → IsTrue false ↔ IsArgs ts a
 past_lists ts a l = (λ e. cc, λ e. let h = below_kind ts a.0 ArgumentsKind refl e in absurd (omega (arith, h, l)))
+
+clause-kind : (k : Kind) → IsTrue (is_held_kind S.Clause k) ↔ (k ≡ ClauseKind)
+clause-kind ClauseKind = (λ e. refl, λ e. refl)
+clause-kind TypeKind = (λ e. cc, λ e. cc)
+clause-kind ConstantKind = (λ e. cc, λ e. cc)
+clause-kind RegionKind = (λ e. cc, λ e. cc)
+clause-kind PredicateKind = (λ e. cc, λ e. cc)
+clause-kind ArgumentsKind = (λ e. cc, λ e. cc)
+clause-kind SignatureKind = (λ e. cc, λ e. cc)
+clause-kind BinderKind = (λ e. cc, λ e. cc)
+clause-kind VariableKind = (λ e. cc, λ e. cc)
+clause-kind PredicatesKind = (λ e. cc, λ e. cc)
+clause-kind ClausesKind = (λ e. cc, λ e. cc)
+clause-kind NoKind = (λ e. cc, λ e. cc)
+
+-- the same of a clause
+pub clause_node : (ts : List Tree) (c : Clause) (d : Node) (b : Bool) → c.0 < length ts → IsNodeOf ts c.0 d → b ≡ is_held_node S.Clause d → IsTrue b ↔ IsClause ts c
+clause_node ts c d b l is e =
+    let same : b ≡ is_held_kind S.Clause (kind_at ts c.0) = e ∙ sym (ap (is_held_kind S.Clause) (node_kind ts c.0 d l is) ∙ held-node S.Clause d) in
+    subst (λ (x : Bool). IsTrue x ↔ IsClause ts c) (sym same) (clause-kind (kind_at ts c.0))
+
+pub past_clauses : (ts : List Tree) (c : Clause) → length ts ≤ c.0 → IsTrue false ↔ IsClause ts c
+past_clauses ts c l = (λ e. cc, λ e. let h = below_kind ts c.0 ClauseKind refl e in absurd (omega (arith, h, l)))
 
 -- what is held has a node
 there-held : (s : HeldSort) (k : Kind) → is_held_kind s k ≡ true → there k ≡ true

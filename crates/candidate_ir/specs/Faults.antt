@@ -21,6 +21,7 @@ use Rattle.candidate_ir.specs.Contents.{AdtContents, Impl, Contents}
 use Rattle.candidate_ir.specs.Context.{Context, world, is_unknown, is_declared_trait, lacks_trait, has_wrong_arity, begins_with_type, is_empty}
 use Rattle.candidate_ir.specs.Held.{all_held}
 use Rattle.candidate_ir.specs.Misplaced.{is_not_given, held_misplaces, held_escapes}
+use Rattle.candidate_ir.specs.Supers.{has_wrong_super}
 use Rattle.candidate_ir.specs.Names.{names_unknown}
 use Rattle.candidate_ir.specs.References.{IsWellFormed}
 use Rattle.candidate_ir.specs.Trees.{TypeKind, Tree}
@@ -95,11 +96,12 @@ pub record AllArgumentsFit (c : Context) : Type 0 where
   pub impls : ImplsFit (world c) c.trees c.contents.impls
 
 -- A parameter is of another kind than it stands for; or a variable, a placeholder or a bound variable that nothing binds
--- stands in what is declared.
+-- stands in what is declared; or a super clause doesn't say of `Self` what one may say.
 abbrev pub has_wrong_kind : Context → Bool
 has_wrong_kind c =
     list_any (held_misplaces M.Stray c.trees c.declarations c.contents.impls) (all_that_is_held c)
-    || list_any (held_escapes c.trees) (all_that_is_held c)
+    || (list_any (held_escapes c.trees) (all_that_is_held c)
+    || list_any (λ d. has_wrong_super c.trees c.contents d.kind) c.declarations)
 
 abbrev pub is_struct : AdtShape → Bool
 is_struct Shape.Struct = true

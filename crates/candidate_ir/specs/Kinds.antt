@@ -136,7 +136,7 @@ bound_children (E.AutoTrait _) = []
 abbrev pub pred_children : Binder ExistentialPredicate → List Child
 pred_children b = (b.vars.0, BinderKind) ∷ bound_children b.value
 
-abbrev fact_children : ClauseKind → List Child
+abbrev pub fact_children : ClauseKind → List Child
 fact_children (Cl.Trait p) = (p.trait_ref.args.0, ArgumentsKind) ∷ []
 fact_children (Cl.Projection p) = (p.projection_term.args.0, ArgumentsKind) ∷ (p.term.0, TypeKind) ∷ []
 fact_children (Cl.TypeOutlives t r) = (t.0, TypeKind) ∷ (r.0, RegionKind) ∷ []

@@ -15,6 +15,7 @@ pub mod Declaring
 pub mod Lookups
 pub mod Held
 pub mod Misplaced
+pub mod Supers
 pub mod References
 pub mod Making
 pub mod Names

@@ -13,6 +13,7 @@ pub mod make;
 pub mod misplaced;
 pub mod parameters;
 pub mod subst;
+pub mod supers;
 
 pub use builder::{DeclFault, Decls, DeclsBuilder};
 pub use contents::{AliasBoundKind, Destructor, ImplId, ImplPolarity, LangItem, Sizedness};

@@ -321,6 +321,8 @@ fn looks_at_what_traits_hold(rt: HostRuntime) {
     let other_bound = AliasBoundKind::NonSelfBounds;
     let rows = [
         Row(&[Call::Super(TRAIT, Sample::Param(0))], None),
+        Row(&[Call::Super(TRAIT, Sample::Param(1))], KIND),
+        Row(&[Call::Super(TRAIT, Sample::Plain)], KIND),
         Row(&[Call::Super(TRAIT, Sample::Param(2))], ARITY),
         Row(&[Call::Super(ADT, Sample::Param(0))], UNKNOWN),
         Row(&[Call::Super(TRAIT, Sample::Nothing)], UNKNOWN),

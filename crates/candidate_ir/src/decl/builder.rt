@@ -24,6 +24,7 @@ use crate::decl::faults::{
 };
 use crate::decl::held::{Held, all_held};
 use crate::decl::misplaced::{Misplaced, any_escapes, any_misplaces, any_not_given};
+use crate::decl::supers::any_has_wrong_super;
 use crate::ir::kinds::{
     AdtId, AliasId, Args, AssocId, Binder, Clause, ClauseKind, ClosureId, ClosureSig, Const,
     ConstKind, ExistentialPredicate, FnId, FnSig, ForeignId, GenericArg, ParamEnv, Preds, Region,
@@ -695,14 +696,11 @@ impl DeclsBuilder {
         requires given { has_unknown_id self.now ≡ false }
         ensures { result ≡ has_wrong_kind self.now }
     {
+        let definitions = self.definitions.as_slice();
         let impls = self.contents.impls.as_slice();
-        any_misplaces(
-            &self.nodes,
-            self.definitions.as_slice(),
-            impls,
-            Misplaced::Stray,
-            held,
-        ) || any_escapes(&self.nodes, held)
+        any_misplaces(&self.nodes, definitions, impls, Misplaced::Stray, held)
+            || any_escapes(&self.nodes, held)
+            || any_has_wrong_super(&self.nodes, definitions, &self.contents)
     }
 
     /// The fault with the lowest number, if there is one.

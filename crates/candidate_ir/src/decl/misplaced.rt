@@ -6,13 +6,13 @@ ghost use Rattle.candidate_ir.specs.Misplaced.{is_held_node, is_not_given, has_s
 ghost use Rattle.candidate_ir.specs.Nodes.{tree_at};
 ghost use Rattle.candidate_ir.specs.Parameters.{kinds_of};
 ghost use Rattle.candidate_ir.specs.Trees.{tree_holds};
-ghost use Rattle.candidate_ir.specs.Words.{IsArgs};
+ghost use Rattle.candidate_ir.specs.Words.{IsArgs, IsClause};
 
 use crate::decl::contents::Impl;
 use crate::decl::definition::{Declaration, Parameters};
 use crate::decl::held::{Held, HeldSort, Owner};
 use crate::ir::heads::{ConstHead, Head};
-use crate::ir::kinds::{Args, RegionKind, VarKind};
+use crate::ir::kinds::{Args, Clause, RegionKind, VarKind};
 use crate::ir::node::Node;
 use crate::ir::nodes::Nodes;
 
@@ -46,6 +46,17 @@ pub(crate) fn is_args(nodes: &Nodes, args: Args) -> bool
         return false;
     }
     is_held_node(HeldSort::Args, nodes.node(args.0))
+}
+
+/// Whether the number is that of a clause.
+#[tactic(auto, using(crate::proofs::Misplacing::clause_node, crate::proofs::Misplacing::past_clauses))]
+pub(crate) fn is_clause(nodes: &Nodes, clause: Clause) -> bool
+    ensures { IsTrue result ↔ IsClause nodes.now clause }
+{
+    if clause.0 as usize >= nodes.len() {
+        return false;
+    }
+    is_held_node(HeldSort::Clause, nodes.node(clause.0))
 }
 
 /// Whether the number is that of no such node as is held.

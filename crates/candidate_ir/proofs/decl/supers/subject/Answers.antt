@@ -1,0 +1,11 @@
+use Rattle.candidate_ir.proofs.Supers.{term_subject, type_subject, region_subject}
+use Rattle.candidate_ir.proofs.decl.supers.subject.Goals as goal
+
+pub returns-in-None-first : goal.returns-in-None-first
+returns-in-None-first c = term_subject c.args.nodes.now c.args.clause c.in-Projection.predicate c.in-Projection.is c.requires c.in-None-first.ensures
+
+pub returns-in-TypeOutlives : goal.returns-in-TypeOutlives
+returns-in-TypeOutlives c = type_subject c.args.nodes.now c.args.clause c.in-TypeOutlives.ty c.in-TypeOutlives.field-1 c.in-TypeOutlives.is c.requires
+
+pub returns-in-RegionOutlives : goal.returns-in-RegionOutlives
+returns-in-RegionOutlives c = region_subject c.args.nodes.now c.args.clause c.in-RegionOutlives.region c.in-RegionOutlives.field-1 c.in-RegionOutlives.is c.requires
