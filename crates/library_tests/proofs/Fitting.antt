@@ -10,8 +10,6 @@ use Rattle.candidate_ir.specs.declared.ir.kinds.Preds.{Preds}
 use Rattle.candidate_ir.specs.declared.ir.kinds.TyKind.{TyKind}
 use Rattle.candidate_ir.specs.declared.ir.kinds.AdtId.{AdtId}
 use Rattle.candidate_ir.specs.declared.ir.kinds.FnId.{FnId}
-use Rattle.candidate_ir.specs.declared.ir.kinds.ClosureId.{ClosureId}
-use Rattle.candidate_ir.specs.declared.ir.kinds.ClosureArgs.{ClosureArgs}
 use Rattle.candidate_ir.specs.declared.ir.kinds.AliasTy.{AliasTy}
 use Rattle.candidate_ir.specs.declared.ir.kinds.FnSig.{FnSig}
 use Rattle.candidate_ir.specs.declared.ir.kinds.Binder.{Binder}
@@ -23,11 +21,10 @@ use Rattle.candidate_ir.specs.declared.ir.kinds.AssocId.{AssocId}
 use Rattle.candidate_ir.specs.declared.ir.kinds.ExistentialPredicate.{ExistentialPredicate}
 use Rattle.candidate_ir.specs.declared.ir.kinds.ExistentialPredicate.TheVariants as E
 use Rattle.candidate_ir.specs.declared.ir.kinds.TyKind.TheVariants as K
-use Rattle.candidate_ir.specs.declared.ir.kinds.Pattern.TheVariants as P
 use Rattle.candidate_ir.specs.Trees.{Tree, Kind}
 use Rattle.candidate_ir.specs.Kinds.{Child, ty_children, numbers, sorts}
 use Rattle.candidate_ir.specs.Nodes.{kinds_at}
-use Rattle.candidate_ir.specs.Words.{IsTy, IsConst, IsRegion, IsArgs, IsVars, IsPreds, IsSig, KindFits, PredFits, AtMostOnePrincipal, names_trait}
+use Rattle.candidate_ir.specs.Words.{IsTy, IsConst, IsRegion, IsArgs, IsVars, IsPreds, KindFits, PredFits, AtMostOnePrincipal, names_trait}
 use Rattle.candidate_ir.proofs.Made.{one_if}
 use Rattle.library_tests.specs.Pieces.{AreKinds, AreConstants, IsBound}
 
@@ -45,10 +42,6 @@ three a b c d x y e f g = cc
 pub end : (ts : List Tree) → AreKinds ts []
 end ts = record { fit = All-nil (KindFits ts) }
 
--- a kind that is known to fit
-pub fitting : (ts : List Tree) (k : TyKind) (ks : List TyKind) → KindFits ts k → AreKinds ts ks → AreKinds ts (k ∷ ks)
-fitting ts k ks h rest = record { fit = All-cons (KindFits ts) k ks h rest.fit }
-
 -- a kind without parts
 pub leaf : (ts : List Tree) (k : TyKind) (ks : List TyKind) → ty_children k ≡ [] → AreKinds ts ks → AreKinds ts (k ∷ ks)
 leaf ts k ks h rest = record { fit = All-cons (KindFits ts) k ks (ap (λ (cs : List Child). kinds_at ts (numbers cs)) h ∙ sym (ap sorts h)) rest.fit }
@@ -65,12 +58,6 @@ fn_def ts d a ks h rest = record { fit = All-cons (KindFits ts) (K.FnDef d a) ks
 pub alias : (ts : List Tree) (x : AliasTy) (ks : List TyKind) → IsArgs ts x.args → AreKinds ts ks → AreKinds ts (K.Alias x ∷ ks)
 alias ts x ks h rest = record { fit = All-cons (KindFits ts) (K.Alias x) ks (one _ _ h) rest.fit }
 
-pub slice : (ts : List Tree) (t : Ty) (ks : List TyKind) → IsTy ts t → AreKinds ts ks → AreKinds ts (K.Slice t ∷ ks)
-slice ts t ks h rest = record { fit = All-cons (KindFits ts) (K.Slice t) ks (one _ _ h) rest.fit }
-
-pub pointer : (ts : List Tree) (t : Ty) (m : Mutability) (ks : List TyKind) → IsTy ts t → AreKinds ts ks → AreKinds ts (K.RawPtr t m ∷ ks)
-pointer ts t m ks h rest = record { fit = All-cons (KindFits ts) (K.RawPtr t m) ks (one _ _ h) rest.fit }
-
 pub array : (ts : List Tree) (t : Ty) (c : Const) (ks : List TyKind) → IsTy ts t → IsConst ts c → AreKinds ts ks → AreKinds ts (K.Array t c ∷ ks)
 array ts t c ks h i rest = record { fit = All-cons (KindFits ts) (K.Array t c) ks (two _ _ _ _ h i) rest.fit }
 
@@ -83,17 +70,8 @@ binder ts v t ks h i rest = record { fit = All-cons (KindFits ts) (K.UnsafeBinde
 pub dynamic : (ts : List Tree) (p : Preds) (r : Region) (ks : List TyKind) → IsPreds ts p → IsRegion ts r → AreKinds ts ks → AreKinds ts (K.Dynamic p r ∷ ks)
 dynamic ts p r ks h i rest = record { fit = All-cons (KindFits ts) (K.Dynamic p r) ks (two _ _ _ _ h i) rest.fit }
 
-pub not_null : (ts : List Tree) (t : Ty) (ks : List TyKind) → IsTy ts t → AreKinds ts ks → AreKinds ts (K.Pat t P.NotNull ∷ ks)
-not_null ts t ks h rest = record { fit = All-cons (KindFits ts) (K.Pat t P.NotNull) ks (one _ _ h) rest.fit }
-
-pub range : (ts : List Tree) (t : Ty) (c d : Const) (ks : List TyKind) → IsTy ts t → IsConst ts c → IsConst ts d → AreKinds ts ks → AreKinds ts (K.Pat t (P.Range c d) ∷ ks)
-range ts t c d ks h i j rest = record { fit = All-cons (KindFits ts) (K.Pat t (P.Range c d)) ks (three _ _ _ _ _ _ h i j) rest.fit }
-
 pub fn_pointer : (ts : List Tree) (b : Binder FnSig) (ks : List TyKind) → IsVars ts b.vars → IsArgs ts b.value.inputs → IsTy ts b.value.output → AreKinds ts ks → AreKinds ts (K.FnPtr b ∷ ks)
 fn_pointer ts b ks h i j rest = record { fit = All-cons (KindFits ts) (K.FnPtr b) ks (three _ _ _ _ _ _ h i j) rest.fit }
-
-pub closure : (ts : List Tree) (d : ClosureId) (x : ClosureArgs) (ks : List TyKind) → IsArgs ts x.parent → IsSig ts x.sig → IsTy ts x.upvars → AreKinds ts ks → AreKinds ts (K.Closure d x ∷ ks)
-closure ts d x ks h i j rest = record { fit = All-cons (KindFits ts) (K.Closure d x) ks (three _ _ _ _ _ _ h i j) rest.fit }
 
 -- an alias of these parts
 pub alias_of : (ts : List Tree) (x : AliasTy) (k : AliasKind) (i : AliasId) (a : Args) (ks : List TyKind) → x ≡ record { kind = k; id = i; args = a } → IsArgs ts a

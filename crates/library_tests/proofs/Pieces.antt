@@ -15,14 +15,12 @@ use Rattle.candidate_ir.proofs.Lists.{Fits-append}
 use Rattle.candidate_ir.proofs.Made.{IsTy-grows, IsConst-grows, IsRegion-grows, IsArgs-grows, IsVars-grows}
 use Rattle.library_tests.specs.Pieces.{AreKinds, AreTypes, AreLists, AreConstants, AreRegions, AreBinders}
 
-pub AreTypes-grows : (a b : Context) (byte text letter integer tuple : Ty) → Grows a b
-    → AreTypes a.trees byte text letter integer tuple → AreTypes b.trees byte text letter integer tuple
-AreTypes-grows a b byte text letter integer tuple g h = record {
+pub AreTypes-grows : (a b : Context) (byte letter integer : Ty) → Grows a b
+    → AreTypes a.trees byte letter integer → AreTypes b.trees byte letter integer
+AreTypes-grows a b byte letter integer g h = record {
   byte = IsTy-grows a b byte g h.byte;
-  text = IsTy-grows a b text g h.text;
   letter = IsTy-grows a b letter g h.letter;
   integer = IsTy-grows a b integer g h.integer;
-  tuple = IsTy-grows a b tuple g h.tuple;
 }
 
 pub AreLists-grows : (a b : Context) (none of_byte of_letter of_variable of_param of_integer : Args) → Grows a b
@@ -49,26 +47,12 @@ AreConstants-grows a b three four variable param unevaluated error bound placeho
   placeholder = IsConst-grows a b placeholder g h.placeholder;
 }
 
-pub AreRegions-grows : (a b : Context) (longest variable bound error placeholder : Region) → Grows a b
-    → AreRegions a.trees longest variable bound error placeholder → AreRegions b.trees longest variable bound error placeholder
-AreRegions-grows a b longest variable bound error placeholder g h = record {
+pub AreRegions-grows : (a b : Context) (longest variable bound : Region) → Grows a b
+    → AreRegions a.trees longest variable bound → AreRegions b.trees longest variable bound
+AreRegions-grows a b longest variable bound g h = record {
   longest = IsRegion-grows a b longest g h.longest;
   variable = IsRegion-grows a b variable g h.variable;
   bound = IsRegion-grows a b bound g h.bound;
-  error = IsRegion-grows a b error g h.error;
-  placeholder = IsRegion-grows a b placeholder g h.placeholder;
-}
-
-pub AreBinders-grows : (a b : Context) (none of_type of_constant of_region region_type type_region type_region_type : Vars) → Grows a b
-    → AreBinders a.trees none of_type of_constant of_region region_type type_region type_region_type → AreBinders b.trees none of_type of_constant of_region region_type type_region type_region_type
-AreBinders-grows a b none of_type of_constant of_region region_type type_region type_region_type g h = record {
-  none = IsVars-grows a b none g h.none;
-  of_type = IsVars-grows a b of_type g h.of_type;
-  of_constant = IsVars-grows a b of_constant g h.of_constant;
-  of_region = IsVars-grows a b of_region g h.of_region;
-  region_type = IsVars-grows a b region_type g h.region_type;
-  type_region = IsVars-grows a b type_region g h.type_region;
-  type_region_type = IsVars-grows a b type_region_type g h.type_region_type;
 }
 
 pub KindFits-grows : (a b : Context) (k : TyKind) → Grows a b → KindFits a.trees k → KindFits b.trees k
@@ -89,12 +73,6 @@ AreTys-more a b xs x g h e = All-push (IsTy b.trees) xs x (AreTys-grows a b xs g
 
 pub AreKinds-grows : (a b : Context) (ks : List TyKind) → Grows a b → AreKinds a.trees ks → AreKinds b.trees ks
 AreKinds-grows a b ks g h = record { fit = All-weaker (KindFits a.trees) (KindFits b.trees) (λ k e. KindFits-grows a b k g e) ks h.fit }
-
-pub AreKinds-append : (ts : List Tree) (ks ls : List TyKind) → AreKinds ts ks → AreKinds ts ls → AreKinds ts (ks ++ ls)
-AreKinds-append ts ks ls g h = record { fit = All-append (KindFits ts) ks ls g.fit h.fit }
-
-pub AreKinds-none : (ts : List Tree) → AreKinds ts []
-AreKinds-none ts = record { fit = All-nil (KindFits ts) }
 
 pub AreArgs-grows : (a b : Context) (xs : List Args) → Grows a b → All (IsArgs a.trees) xs → All (IsArgs b.trees) xs
 AreArgs-grows a b xs g h = All-weaker (IsArgs a.trees) (IsArgs b.trees) (λ x e. IsArgs-grows a b x g e) xs h

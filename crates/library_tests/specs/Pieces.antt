@@ -10,12 +10,10 @@ use Rattle.candidate_ir.specs.declared.ir.kinds.ExistentialPredicate.{Existentia
 use Rattle.candidate_ir.specs.Trees.{Tree}
 use Rattle.candidate_ir.specs.Words.{IsTy, IsConst, IsRegion, IsArgs, IsVars, KindFits, PredFits}
 
-pub record AreTypes (ts : List Tree) (the_byte the_text the_letter the_integer the_tuple : Ty) : Type 0 where
+pub record AreTypes (ts : List Tree) (the_byte the_letter the_integer : Ty) : Type 0 where
   pub byte : IsTy ts the_byte
-  pub text : IsTy ts the_text
   pub letter : IsTy ts the_letter
   pub integer : IsTy ts the_integer
-  pub tuple : IsTy ts the_tuple
 
 pub record AreLists (ts : List Tree) (the_none the_of_byte the_of_letter the_of_variable the_of_param the_of_integer : Args) : Type 0 where
   pub none : IsArgs ts the_none
@@ -35,21 +33,16 @@ pub record AreConstants (ts : List Tree) (the_three the_four the_variable the_pa
   pub bound : IsConst ts the_bound
   pub placeholder : IsConst ts the_placeholder
 
-pub record AreRegions (ts : List Tree) (the_longest the_variable the_bound the_error the_placeholder : Region) : Type 0 where
+pub record AreRegions (ts : List Tree) (the_longest the_variable the_bound : Region) : Type 0 where
   pub longest : IsRegion ts the_longest
   pub variable : IsRegion ts the_variable
   pub bound : IsRegion ts the_bound
-  pub error : IsRegion ts the_error
-  pub placeholder : IsRegion ts the_placeholder
 
-pub record AreBinders (ts : List Tree) (the_none the_of_type the_of_constant the_of_region the_region_type the_type_region the_type_region_type : Vars) : Type 0 where
+pub record AreBinders (ts : List Tree) (the_none the_of_type the_of_constant the_of_region : Vars) : Type 0 where
   pub none : IsVars ts the_none
   pub of_type : IsVars ts the_of_type
   pub of_constant : IsVars ts the_of_constant
   pub of_region : IsVars ts the_of_region
-  pub region_type : IsVars ts the_region_type
-  pub type_region : IsVars ts the_type_region
-  pub type_region_type : IsVars ts the_type_region_type
 
 -- The parts of all kinds of a table are of the context.
 pub record AreKinds (ts : List Tree) (kinds : List TyKind) : Type 0 where

@@ -21,14 +21,12 @@ pub const PLACEHOLDER: Placeholder = Placeholder {
 
 pub const BOUND: BoundVar = BoundVar { depth: 0, index: 0 };
 
-/// An integer variable, and the tuple of one byte, besides the types that the names say.
+/// A byte, a letter and an integer variable.
 #[derive(Clone, Copy)]
 pub struct Types {
     pub byte: Ty,
-    pub text: Ty,
     pub letter: Ty,
     pub integer: Ty,
-    pub tuple: Ty,
 }
 
 /// Lists of one type, and the empty one.
@@ -55,26 +53,21 @@ pub struct Constants {
     pub placeholder: Const,
 }
 
-/// A region of each kind.
+/// The longest region, a variable and a bound one.
 #[derive(Clone, Copy)]
 pub struct Regions {
     pub longest: Region,
     pub variable: Region,
     pub bound: Region,
-    pub error: Region,
-    pub placeholder: Region,
 }
 
-/// Variables of binders: none, one of each kind, and of several kinds in the order that the name says.
+/// Variables of binders: none, and one of each kind.
 #[derive(Clone, Copy)]
 pub struct Binders {
     pub none: Vars,
     pub of_type: Vars,
     pub of_constant: Vars,
     pub of_region: Vars,
-    pub region_type: Vars,
-    pub type_region: Vars,
-    pub type_region_type: Vars,
 }
 
 #[derive(Clone, Copy)]
@@ -89,14 +82,14 @@ pub struct Parts {
 /// All of them, in that context.
 pub fn make_parts(rt: &impl Abort, alloc: Global, cx: &mut Cx) -> Parts
     ensures grows { Grows cx.old cx.new }
-    ensures types { AreTypes cx.new.trees result.types.byte result.types.text result.types.letter result.types.integer result.types.tuple }
+    ensures types { AreTypes cx.new.trees result.types.byte result.types.letter result.types.integer }
     ensures lists { AreLists cx.new.trees result.lists.none result.lists.of_byte result.lists.of_letter result.lists.of_variable result.lists.of_param result.lists.of_integer }
     ensures constants { AreConstants cx.new.trees result.constants.three result.constants.four result.constants.variable result.constants.param result.constants.unevaluated result.constants.error result.constants.bound result.constants.placeholder }
-    ensures regions { AreRegions cx.new.trees result.regions.longest result.regions.variable result.regions.bound result.regions.error result.regions.placeholder }
-    ensures binders { AreBinders cx.new.trees result.binders.none result.binders.of_type result.binders.of_constant result.binders.of_region result.binders.region_type result.binders.type_region result.binders.type_region_type }
+    ensures regions { AreRegions cx.new.trees result.regions.longest result.regions.variable result.regions.bound }
+    ensures binders { AreBinders cx.new.trees result.binders.none result.binders.of_type result.binders.of_constant result.binders.of_region }
 {
     let lists = make_lists(rt, alloc, cx);
-    let types = make_types(rt, cx, lists.of_byte);
+    let types = make_types(rt, cx);
     let constants = make_constants(rt, cx, lists.of_byte);
     let regions = make_regions(rt, cx);
     let binders = make_binders(rt, cx);
@@ -129,22 +122,17 @@ fn make_lists(rt: &impl Abort, alloc: Global, cx: &mut Cx) -> Lists
     }
 }
 
-fn make_types(rt: &impl Abort, cx: &mut Cx, of_byte: Args) -> Types
-    requires { IsArgs cx.old.trees of_byte }
+fn make_types(rt: &impl Abort, cx: &mut Cx) -> Types
     ensures grows { Grows cx.old cx.new }
-    ensures types { AreTypes cx.new.trees result.byte result.text result.letter result.integer result.tuple }
+    ensures types { AreTypes cx.new.trees result.byte result.letter result.integer }
 {
-    let tuple = ty(rt, cx, TyKind::Tuple(of_byte));
     let byte = ty(rt, cx, TyKind::Uint(UintTy::U8));
-    let text = ty(rt, cx, TyKind::Str);
     let letter = ty(rt, cx, TyKind::Char);
     let integer = ty(rt, cx, TyKind::Infer(InferTy::IntVar(0)));
     Types {
         byte,
-        text,
         letter,
         integer,
-        tuple,
     }
 }
 
@@ -175,40 +163,30 @@ fn make_constants(rt: &impl Abort, cx: &mut Cx, of_byte: Args) -> Constants
 
 fn make_regions(rt: &impl Abort, cx: &mut Cx) -> Regions
     ensures grows { Grows cx.old cx.new }
-    ensures regions { AreRegions cx.new.trees result.longest result.variable result.bound result.error result.placeholder }
+    ensures regions { AreRegions cx.new.trees result.longest result.variable result.bound }
 {
     let longest = region(rt, cx, RegionKind::Static);
     let variable = region(rt, cx, RegionKind::Var(0));
     let bound = region(rt, cx, RegionKind::Bound(BOUND));
-    let error = region(rt, cx, RegionKind::Error);
-    let placeholder = region(rt, cx, RegionKind::Placeholder(PLACEHOLDER));
     Regions {
         longest,
         variable,
         bound,
-        error,
-        placeholder,
     }
 }
 
 fn make_binders(rt: &impl Abort, cx: &mut Cx) -> Binders
     ensures grows { Grows cx.old cx.new }
-    ensures binders { AreBinders cx.new.trees result.none result.of_type result.of_constant result.of_region result.region_type result.type_region result.type_region_type }
+    ensures binders { AreBinders cx.new.trees result.none result.of_type result.of_constant result.of_region }
 {
     let none = variables(rt, cx, &[]);
     let of_type = variables(rt, cx, &[VarKind::Ty]);
     let of_constant = variables(rt, cx, &[VarKind::Const]);
     let of_region = variables(rt, cx, &[VarKind::Region]);
-    let region_type = variables(rt, cx, &[VarKind::Region, VarKind::Ty]);
-    let type_region = variables(rt, cx, &[VarKind::Ty, VarKind::Region]);
-    let type_region_type = variables(rt, cx, &[VarKind::Ty, VarKind::Region, VarKind::Ty]);
     Binders {
         none,
         of_type,
         of_constant,
         of_region,
-        region_type,
-        type_region,
-        type_region_type,
     }
 }

@@ -3,9 +3,6 @@ use Rattle.candidate_ir.proofs.Made.{IsArgs-grows}
 use Rattle.library_tests.proofs.Pieces.{AreTypes-grows, AreLists-grows, AreConstants-grows, AreRegions-grows}
 use Rattle.library_tests.proofs.parts.make_parts.Goals as goal
 
-pub make_types-types-requires : goal.make_types-types-requires
-make_types-types-requires g c = c.make_lists-lists.ensures.lists.of_byte
-
 pub make_constants-constants-requires : goal.make_constants-constants-requires
 make_constants-constants-requires g c = IsArgs-grows _ _ _ c.make_types-types.ensures.grows c.make_lists-lists.ensures.lists.of_byte
 
@@ -17,9 +14,9 @@ returns g c =
     let after_types = grows-trans _ _ _ c.make_types-types.ensures.grows after_constants in
     record {
       grows = grows-trans _ _ _ c.make_lists-lists.ensures.grows after_types;
-      types = AreTypes-grows _ _ _ _ _ _ _ after_constants c.make_types-types.ensures.types;
+      types = AreTypes-grows _ _ _ _ _ after_constants c.make_types-types.ensures.types;
       lists = AreLists-grows _ _ _ _ _ _ _ _ after_types c.make_lists-lists.ensures.lists;
       constants = AreConstants-grows _ _ _ _ _ _ _ _ _ _ after_regions c.make_constants-constants.ensures.constants;
-      regions = AreRegions-grows _ _ _ _ _ _ _ after_binders c.make_regions-regions.ensures.regions;
+      regions = AreRegions-grows _ _ _ _ _ after_binders c.make_regions-regions.ensures.regions;
       binders = c.make_binders-binders.ensures.binders;
     }

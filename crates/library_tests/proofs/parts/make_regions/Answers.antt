@@ -4,17 +4,13 @@ use Rattle.library_tests.proofs.parts.make_regions.Goals as goal
 
 pub returns : goal.returns
 returns g c =
-    let after_placeholder = c.region-placeholder.ensures.grows in
-    let after_error = grows-trans _ _ _ c.region-error.ensures.grows after_placeholder in
-    let after_bound = grows-trans _ _ _ c.region-bound.ensures.grows after_error in
+    let after_bound = c.region-bound.ensures.grows in
     let after_variable = grows-trans _ _ _ c.region-variable.ensures.grows after_bound in
     record {
       grows = grows-trans _ _ _ c.region-longest.ensures.grows after_variable;
       regions = record {
         longest = IsRegion-grows _ _ _ after_variable c.region-longest.ensures.sort;
         variable = IsRegion-grows _ _ _ after_bound c.region-variable.ensures.sort;
-        bound = IsRegion-grows _ _ _ after_error c.region-bound.ensures.sort;
-        error = IsRegion-grows _ _ _ after_placeholder c.region-error.ensures.sort;
-        placeholder = c.region-placeholder.ensures.sort;
+        bound = c.region-bound.ensures.sort;
       };
     }
