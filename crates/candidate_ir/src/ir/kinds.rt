@@ -14,11 +14,11 @@ use crate::ir::heads::{
 pub struct Ty(pub u32);
 
 /// A constant of a context.
-#[derive(Clone, Copy)]
+#[derive(Clone, Copy, Debug, PartialEq, Eq)]
 pub struct Const(pub u32);
 
 /// A region of a context.
-#[derive(Clone, Copy)]
+#[derive(Clone, Copy, Debug, PartialEq, Eq)]
 pub struct Region(pub u32);
 
 /// A list of generic arguments of a context.
@@ -54,7 +54,7 @@ pub struct Clause(pub u32);
 pub struct ParamEnv(pub u32);
 
 /// A type, a constant or a region of a context.
-#[derive(Clone, Copy)]
+#[derive(Clone, Copy, Debug, PartialEq, Eq)]
 pub enum GenericArg {
     Ty(Ty),
     Const(Const),
@@ -78,7 +78,7 @@ pub struct FnId(pub u32);
 pub struct ClosureId(pub u32);
 
 /// A trait.
-#[derive(Clone, Copy, PartialEq, Eq)]
+#[derive(Clone, Copy, Debug, PartialEq, Eq)]
 pub struct TraitId(pub u32);
 
 /// An associated item of a trait.
