@@ -1,7 +1,7 @@
 //! What definitions hold, and the faults of it.
 
 ghost use Rattle.candidate_ir.specs.Context.{Grows};
-ghost use Rattle.candidate_ir.specs.Words.{IsTy};
+ghost use Rattle.candidate_ir.specs.Words.{IsTy, IsArgs, IsVars};
 
 use crate::asserts::{equals, equals_in_row, holds};
 use candidate_ir::decl::builder::{DeclFault, DeclsBuilder};
@@ -11,8 +11,8 @@ use candidate_ir::decl::contents::{
 use candidate_ir::decl::context::Cx;
 use candidate_ir::decl::definition::{AdtFlags, AdtShape, AssocKind, CrateId, TraitFlags};
 use candidate_ir::ir::kinds::{
-    AdtId, AliasId, AssocId, Binder, BoundVar, Clause, ClauseKind, GenericArg, InferTy,
-    Placeholder, PredicatePolarity, TraitId, TraitPredicate, TraitRef, Ty, TyKind, VarKind,
+    AdtId, AliasId, Args, AssocId, Binder, BoundVar, Clause, ClauseKind, GenericArg, InferTy,
+    Placeholder, PredicatePolarity, TraitId, TraitPredicate, TraitRef, Ty, TyKind, VarKind, Vars,
 };
 use std::alloc::Global;
 use std::process::Abort;
@@ -103,22 +103,34 @@ fn ty(rt: &impl Abort, builder: &mut DeclsBuilder, sample: Sample) -> Ty {
     }
 }
 
+/// The list of the type, twice.
+fn twice(rt: &impl Abort, builder: &mut DeclsBuilder, sample: Sample) -> Args
+    ensures grows { Grows builder.old builder.new }
+    ensures sort { IsArgs builder.new.trees result }
+{
+    let ty = GenericArg::Ty(sample_ty(rt, builder, sample));
+    builder.mk_args(&[ty, ty]).expect(rt, "arguments")
+}
+
+fn no_variables(rt: &impl Abort, builder: &mut DeclsBuilder) -> Vars
+    ensures grows { Grows builder.old builder.new }
+    ensures sort { IsVars builder.new.trees result }
+{
+    builder.mk_vars(&[]).expect(rt, "no variables")
+}
+
 /// The trait of the type and of the same type.
 fn trait_ref(rt: &impl Abort, builder: &mut DeclsBuilder, of: u32, sample: Sample) -> TraitRef {
-    let ty = GenericArg::Ty(sample_ty(rt, builder, sample));
-    let args = builder.mk_args(&[ty, ty]).expect(rt, "arguments");
     TraitRef {
         def_id: TraitId(of),
-        args,
+        args: twice(rt, builder, sample),
     }
 }
 
 /// That this trait holds, under a binder of no variables.
-#[tactic(auto, using(candidate_ir::proofs::Made::making))]
 fn sample_clause(rt: &impl Abort, builder: &mut DeclsBuilder, sample: Sample) -> Clause {
-    let ty = GenericArg::Ty(sample_ty(rt, builder, sample));
-    let args = builder.mk_args(&[ty, ty]).expect(rt, "arguments");
-    let vars = builder.mk_vars(&[]).expect(rt, "no variables");
+    let args = twice(rt, builder, sample);
+    let vars = no_variables(rt, builder);
     let trait_ref = TraitRef {
         def_id: TraitId(TRAIT),
         args,
@@ -397,7 +409,7 @@ struct Held {
     header: TraitRef,
 }
 
-fn held(rt: &impl Abort, builder: &mut DeclsBuilder) -> Held {
+fn make_held(rt: &impl Abort, builder: &mut DeclsBuilder) -> Held {
     Held {
         plain: ty(rt, builder, Sample::Plain),
         param: ty(rt, builder, Sample::Param(0)),
@@ -496,13 +508,9 @@ fn check_trait(rt: &impl Abort, cx: &Cx, held: Held) {
 
 fn check_impls(rt: &impl Abort, cx: &Cx, held: Held) {
     let (first, second) = (ImplId(0), ImplId(1));
-    equals(
-        rt,
-        &cx.impl_trait_ref(first),
-        &Some(held.header),
-        "a header",
-    );
-    equals(rt, &cx.impl_trait_ref(ImplId(2)), &None, "no impl");
+    let header = cx.impl_trait_ref(first).expect(rt, "an impl");
+    equals(rt, &header.args.0, &held.header.args.0, "a header");
+    holds(rt, cx.impl_trait_ref(ImplId(2)).is_none(), "no impl");
     let polarity = cx.impl_polarity(first);
     holds(
         rt,
@@ -526,7 +534,7 @@ fn check_impls(rt: &impl Abort, cx: &Cx, held: Held) {
 fn filled(rt: &impl Abort, alloc: Global) -> (Cx, Held) {
     let mut builder = DeclsBuilder::new(alloc);
     add_definitions(rt, &mut builder);
-    let held = held(rt, &mut builder);
+    let held = make_held(rt, &mut builder);
     fill(rt, &mut builder, held);
     add_impls(rt, &mut builder, held);
     (Cx::new(builder.finish().expect(rt, "no fault")), held)
