@@ -22,6 +22,7 @@ pub mod Parameters
 pub mod Arity
 pub mod Fitting
 pub mod Faults
+pub mod WellFormed
 pub mod Instances
 pub mod Pairs
 pub mod MayUnify

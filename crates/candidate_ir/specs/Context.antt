@@ -24,6 +24,8 @@ pub record Context : Type 0 where
   pub contents : Contents
   -- the trees by their numbers
   pub trees : List Tree
+  -- how many of them came with finished declarations: the first, which are never taken back
+  pub declared_nodes : ℕ
   -- the texts of faults that were put off, as bytes
   pub delayed_bugs : List (List ℕ)
 

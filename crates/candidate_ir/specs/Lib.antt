@@ -20,6 +20,7 @@ pub mod References
 pub mod Making
 pub mod Names
 pub mod Faults
+pub mod WellFormed
 pub mod Substitutions
 pub mod Unify
 pub mod TypeFlags

@@ -4,7 +4,7 @@ ghost use Rattle.std.specs.Prelude.{◌≡◌, ◌↔◌, ◌+◌, ◌<◌, ◌+
 ghost use Rattle.candidate_ir.specs.Context.{declared};
 ghost use Rattle.candidate_ir.specs.Declaring.{nothing, declared_adt, declared_trait, declared_opaque, declared_assoc, declared_impl, with_adt, with_trait, with_bounds, with_impl, with_constraint, with_bound, item_number};
 ghost use Rattle.candidate_ir.specs.Faults.{all_that_is_held, declarations_misname, contents_misname, has_unknown_id, has_wrong_parameters, AllArgumentsFit, has_wrong_kind, HasFault, IsFaultless, IsLowestFault};
-ghost use Rattle.candidate_ir.specs.References.{IsWellFormed};
+ghost use Rattle.candidate_ir.specs.WellFormed.{IsWellFormedTable};
 ghost use Rattle.candidate_ir.specs.Making.{Makes, a_type, a_constant, a_region, a_list, a_binder, some_bounds, a_signature, a_clause, an_environment};
 ghost use Rattle.candidate_ir.specs.Words.{KindFits, ConstKindFits, ListFits, BoundsFit, SigFits, ClauseFits, ClauseListFits, AtMostOnePrincipal};
 ghost use Rattle.candidate_ir.specs.declared.decl.builder.DeclFault.TheVariants.{Memory};
@@ -117,7 +117,7 @@ impl Model for DeclsBuilder {
 
     ghost coded = { Prim.hlevel (codes, tree_code head.the_row.coded) };
 
-    ghost view = { λ b. record { crates = b.crates; local = b.local; declarations = b.definitions.items; contents = contents_of b.contents; trees = b.nodes; delayed_bugs = [] } };
+    ghost view = { λ b. record { crates = b.crates; local = b.local; declarations = b.definitions.items; contents = contents_of b.contents; trees = b.nodes; declared_nodes = 0; delayed_bugs = [] } };
 }
 
 /// Declarations without a fault.
@@ -131,28 +131,27 @@ pub struct Decls {
 }
 
 impl Model for Decls {
-    ghost use Rattle.std.specs.Prelude.{[]};
+    ghost use Rattle.std.specs.Prelude.{[], length};
     ghost use Rattle.std.specs.Coded.{codes};
     ghost use Rattle.candidate_ir.specs.contracts.ir.heads.Head as head;
     ghost use Rattle.candidate_ir.specs.TreeCode.{tree_code};
     ghost use Rattle.candidate_ir.specs.Context as seen;
     ghost use Rattle.candidate_ir.specs.Declaring.{contents_of};
-    ghost use Rattle.candidate_ir.specs.Context.{world_of};
-    ghost use Rattle.candidate_ir.specs.References.{AllFit};
+    ghost use Rattle.candidate_ir.specs.WellFormed.{IsWellFormedTable};
 
     ghost Value = { seen.Context };
 
     ghost coded = { Prim.hlevel (codes, tree_code head.the_row.coded) };
 
-    ghost view = { λ b. record { crates = b.crates; local = b.local; declarations = b.definitions.items; contents = contents_of b.contents; trees = b.nodes; delayed_bugs = [] } };
+    ghost view = { λ b. record { crates = b.crates; local = b.local; declarations = b.definitions.items; contents = contents_of b.contents; trees = b.nodes; declared_nodes = length b.nodes; delayed_bugs = [] } };
 
-    ghost invariant = { λ b. AllFit (world_of b.definitions.items) b.nodes };
+    ghost invariant = { λ b. IsWellFormedTable (record { crates = b.crates; local = b.local; declarations = b.definitions.items; contents = contents_of b.contents; trees = b.nodes; declared_nodes = length b.nodes; delayed_bugs = [] }) };
 }
 
 impl DeclsBuilder {
     /// A builder without declarations. Crate 0 is the local one until another is set.
     pub fn new(alloc: Global) -> Self
-        ensures { result ≡ record { crates = 0; local = record { 0 = 0 }; declarations = []; contents = nothing; trees = []; delayed_bugs = [] } }
+        ensures { result ≡ record { crates = 0; local = record { 0 = 0 }; declarations = []; contents = nothing; trees = []; declared_nodes = 0; delayed_bugs = [] } }
     {
         DeclsBuilder {
             crates: 0,
@@ -704,10 +703,10 @@ impl DeclsBuilder {
     }
 
     /// The fault with the lowest number, if there is one.
-    #[tactic(auto, using(crate::proofs::Faults::unknown_lowest, crate::proofs::Faults::arity_lowest, crate::proofs::Faults::kind_lowest, crate::proofs::Faults::tail_lowest, crate::proofs::Faults::item_lowest, crate::proofs::Faults::faultless))]
+    #[tactic(auto, using(crate::proofs::Faults::unknown_lowest, crate::proofs::Faults::arity_lowest, crate::proofs::Faults::kind_lowest, crate::proofs::Faults::tail_lowest, crate::proofs::Faults::item_lowest, crate::proofs::Faults::faultless, crate::proofs::WellFormed::nothing_wrong))]
     fn fault(&self, held: &[Held]) -> Option<DeclFault>
         requires { held.now ≡ all_that_is_held self.now }
-        ensures { MatchOption result (IsFaultless self.now × IsWellFormed self.now) (λ f. IsLowestFault self.now f) }
+        ensures { MatchOption result (IsFaultless self.now × IsWellFormedTable self.now) (λ f. IsLowestFault self.now f) }
     {
         if self.has_unknown_id(held) {
             return Some(DeclFault::UnknownId);
@@ -737,7 +736,7 @@ impl DeclsBuilder {
     /// definition that was never given is `UnknownId`, and one whose arguments aren't those that its
     /// definition takes is `WrongArity`.
     pub fn finish(self) -> Result<Decls, DeclFault>
-        ensures { MatchResult result (λ d. IsFaultless self × (d ≡ self)) (λ e. (e ≡ DeclFault.Memory) ⊎ IsLowestFault self e) }
+        ensures { MatchResult result (λ d. IsFaultless self × IsWellFormedTable self × (d ≡ record self { declared_nodes = length self.trees })) (λ e. (e ≡ DeclFault.Memory) ⊎ IsLowestFault self e) }
     {
         let alloc = *self.definitions.allocator();
         let held = all_held(alloc, self.definitions.as_slice(), &self.contents)?;

@@ -1,6 +1,6 @@
 //! The context: declarations, and the table in which types are made.
 
-ghost use Rattle.std.specs.Prelude.{◌≡◌, ◌++◌, ◌∷◌, [], string_bytes, ◌+◌, ◌<◌, ◌≤◌, ◌↔◌, IsTrue, false, true, length, take, map, IfOk, IfErr, MatchOption, Some, None};
+ghost use Rattle.std.specs.Prelude.{◌≡◌, ◌++◌, ◌∷◌, [], string_bytes, ◌+◌, ◌<◌, ◌≤◌, ◌↔◌, IsTrue, false, true, length, take, max, map, IfOk, IfErr, MatchOption, Some, None};
 ghost use Rattle.candidate_ir.specs.Context.{world, Grows};
 ghost use Rattle.candidate_ir.specs.Making.{Makes, a_type, a_constant, a_region, a_list, a_binder, some_bounds, a_signature, a_clause, an_environment};
 ghost use Rattle.candidate_ir.specs.Trees.{height, heights, tree_holds, holds, is_param};
@@ -10,6 +10,7 @@ ghost use Rattle.candidate_ir.specs.Kinds.{arg_number, numbers, pred_children};
 ghost use Rattle.candidate_ir.specs.Nodes.{tree_at, AreLeaves};
 ghost use Rattle.candidate_ir.specs.Table.{Below, IsNodeOf};
 ghost use Rattle.candidate_ir.specs.Substitutions.{alone};
+ghost use Rattle.candidate_ir.specs.WellFormed.{IsWellFormedTable};
 ghost use Rattle.candidate_ir.specs.Unify.{may_unify, trees_may_unify, NoCommonInstance};
 ghost use Rattle.candidate_ir.specs.References.{ArgumentsFit, IsWellFormed, Takes, AllTake};
 ghost use Rattle.candidate_ir.specs.TypeFlags.{type_flags};
@@ -44,26 +45,26 @@ pub struct Cx {
     pub(crate) definitions: Vec<Declaration>,
     pub(crate) contents: Contents,
     nodes: Nodes,
+    declared_nodes: usize,
     delayed_bugs: Vec<String>,
 }
 
 impl Model for Cx {
-    ghost use Rattle.std.specs.Prelude.{map, string_bytes};
+    ghost use Rattle.std.specs.Prelude.{[], map, string_bytes};
     ghost use Rattle.std.specs.Coded.{codes};
     ghost use Rattle.candidate_ir.specs.contracts.ir.heads.Head as head;
     ghost use Rattle.candidate_ir.specs.TreeCode.{tree_code};
     ghost use Rattle.candidate_ir.specs.Context as seen;
     ghost use Rattle.candidate_ir.specs.Declaring.{contents_of};
-    ghost use Rattle.candidate_ir.specs.Context.{world_of};
-    ghost use Rattle.candidate_ir.specs.References.{AllFit};
+    ghost use Rattle.candidate_ir.specs.WellFormed.{IsWellFormedContext};
 
     ghost Value = { seen.Context };
 
     ghost coded = { Prim.hlevel (codes, tree_code head.the_row.coded) };
 
-    ghost view = { λ b. record { crates = b.crates; local = b.local; declarations = b.definitions.items; contents = contents_of b.contents; trees = b.nodes; delayed_bugs = map string_bytes b.delayed_bugs.items } };
+    ghost view = { λ b. record { crates = b.crates; local = b.local; declarations = b.definitions.items; contents = contents_of b.contents; trees = b.nodes; declared_nodes = b.declared_nodes; delayed_bugs = map string_bytes b.delayed_bugs.items } };
 
-    ghost invariant = { λ b. AllFit (world_of b.definitions.items) b.nodes };
+    ghost invariant = { λ b. IsWellFormedContext (record { crates = b.crates; local = b.local; declarations = b.definitions.items; contents = contents_of b.contents; trees = b.nodes; declared_nodes = b.declared_nodes; delayed_bugs = [] }) };
 }
 
 impl Cx {
@@ -84,6 +85,7 @@ impl Cx {
             local,
             definitions,
             contents,
+            declared_nodes: nodes.len(),
             nodes,
             delayed_bugs,
         }
@@ -157,11 +159,12 @@ impl Cx {
         self.nodes.len()
     }
 
-    /// Takes back all numbers but the first so many. They stand for nothing then, and are given again.
+    /// Takes back all numbers but the first so many, and but those of the declarations. They stand for nothing then, and are
+    /// given again.
     pub fn truncate(&mut self, node_count: usize)
-        ensures { self.new ≡ record self.old { trees = take node_count self.old.trees } }
+        ensures { self.new ≡ record self.old { trees = take (max node_count self.old.declared_nodes) self.old.trees } }
     {
-        self.nodes.truncate(node_count);
+        self.nodes.truncate(node_count.max(self.declared_nodes));
     }
 
     fn is_local(&self, definition: u32) -> bool
@@ -220,6 +223,13 @@ impl Cx {
     /// Every node has the children that its definition takes.
     pub fn well_formed(&self)
         ensures { IsWellFormed self.now }
+    {
+        let _ = &self.nodes;
+    }
+
+    /// Nothing is wrong with what is declared.
+    pub fn well_formed_table(&self)
+        ensures { IsWellFormedTable self.now }
     {
         let _ = &self.nodes;
     }
