@@ -23,6 +23,8 @@ pub mod Arity
 pub mod Fitting
 pub mod Faults
 pub mod WellFormed
+pub mod Given
+pub mod Owned
 pub mod Instances
 pub mod Pairs
 pub mod MayUnify

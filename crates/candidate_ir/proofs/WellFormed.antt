@@ -101,16 +101,16 @@ clauses-kept old new o (x ∷ xs) e n =
     let rest = clauses-kept old new o xs e (or-right (is_not_given old h) (list_any (is_not_given old) (held_clauses o xs)) n) in
     ap (λ (b : Bool). b || list_any (is_no_super new) xs) here ∙ ap (λ (b : Bool). is_no_super old x || b) rest
 
-any-left : (f : Held → Bool) (xs ys : List Held) → list_any f (xs ++ ys) ≡ false → list_any f xs ≡ false
-any-left f xs ys n = or-left (list_any f xs) (list_any f ys) (sym (list_any-append f xs ys) ∙ n)
+pub any-of : (f : Held → Bool) (xs ys : List Held) → list_any f (xs ++ ys) ≡ false → list_any f xs ≡ false
+any-of f xs ys n = or-left (list_any f xs) (list_any f ys) (sym (list_any-append f xs ys) ∙ n)
 
-any-right : (f : Held → Bool) (xs ys : List Held) → list_any f (xs ++ ys) ≡ false → list_any f ys ≡ false
+pub any-right : (f : Held → Bool) (xs ys : List Held) → list_any f (xs ++ ys) ≡ false → list_any f ys ≡ false
 any-right f xs ys n = or-right (list_any f xs) (list_any f ys) (sym (list_any-append f xs ys) ∙ n)
 
 supers-kept : (old new : List Tree) (o : Owner) (t : Option TraitContents) → Extends old new → list_any (is_not_given old) (if_there (trait_held o) t) ≡ false
     → list_any (is_no_super new) (supers_at t) ≡ list_any (is_no_super old) (supers_at t)
 supers-kept old new o None e n = refl
-supers-kept old new o (Some t) e n = clauses-kept old new o t.supers e (any-left (is_not_given old) (held_clauses o t.supers) (held_clauses o t.wheres) n)
+supers-kept old new o (Some t) e n = clauses-kept old new o t.supers e (any-of (is_not_given old) (held_clauses o t.supers) (held_clauses o t.wheres) n)
 
 super-kept : (old new : List Tree) (c : Contents) (i : ℕ) (k : DefinitionKind) → Extends old new → list_any (is_not_given old) (definition_held c i k) ≡ false
     → has_wrong_super new c k ≡ has_wrong_super old c k
@@ -127,7 +127,7 @@ all-supers-kept : (old new : List Tree) (c : Contents) (i : ℕ) (ds : List Decl
     → list_any (λ d. has_wrong_super new c d.kind) ds ≡ list_any (λ d. has_wrong_super old c d.kind) ds
 all-supers-kept old new c i [] e n = refl
 all-supers-kept old new c i (d ∷ ds) e n =
-    let here = super-kept old new c i d.kind e (any-left (is_not_given old) (definition_held c i d.kind) (definitions_held c (suc i) ds) n) in
+    let here = super-kept old new c i d.kind e (any-of (is_not_given old) (definition_held c i d.kind) (definitions_held c (suc i) ds) n) in
     let rest = all-supers-kept old new c (suc i) ds e (any-right (is_not_given old) (definition_held c i d.kind) (definitions_held c (suc i) ds) n) in
     ap (λ (b : Bool). b || list_any (λ (x : Declaration). has_wrong_super new c x.kind) ds) here ∙ ap (λ (b : Bool). has_wrong_super old c d.kind || b) rest
 
@@ -152,11 +152,11 @@ table_stays c w =
     let e : Extends old c.trees = record { added = drop c.declared_nodes c.trees; is = sym (take-append-drop c.declared_nodes c.trees) } in
     let hs = all_that_is_held c in
     let t = w.declared in
-    let held = any-left (is_not_given old) (definitions_held c.contents 0 c.declarations) (impls_held 0 c.contents.impls) t.given in
+    let held = any-of (is_not_given old) (definitions_held c.contents 0 c.declarations) (impls_held 0 c.contents.impls) t.given in
     let arity = list_any (λ (d : Declaration). has_wrong_arity d.kind d.parameters) c.declarations in
     let past = list_any (unsizes_past c.contents) c.declarations in
     let supers : list_any (λ (d : Declaration). has_wrong_super c.trees c.contents d.kind) c.declarations ≡ list_any (λ (d : Declaration). has_wrong_super old c.contents d.kind) c.declarations =
-        all-supers-kept old c.trees c.contents 0 c.declarations e held in
+    all-supers-kept old c.trees c.contents 0 c.declarations e held in
     let strays = list_any (held_misplaces M.Stray old c.declarations c.contents.impls) hs in
     record {
       definitions = t.definitions;
@@ -165,10 +165,10 @@ table_stays c w =
       parameters = ap (λ (b : Bool). arity || (past || b)) (misplaced-kept M.Past old c.trees c e t.given) ∙ t.parameters;
       arguments = record { nodes = w.nodes; impls = impls-kept (world c) old c.trees c.contents.impls e t.arguments.impls };
       kinds =
-        ap (λ (b : Bool). b || (list_any (held_escapes c.trees) hs || list_any (λ (d : Declaration). has_wrong_super c.trees c.contents d.kind) c.declarations))
-        (misplaced-kept M.Stray old c.trees c e t.given)
-        ∙ (ap (λ (b : Bool). strays || (b || list_any (λ (d : Declaration). has_wrong_super c.trees c.contents d.kind) c.declarations)) (escapes-kept old c.trees hs e t.given)
-        ∙ (ap (λ (b : Bool). strays || (list_any (held_escapes old) hs || b)) supers ∙ t.kinds));
+          ap (λ (b : Bool). b || (list_any (held_escapes c.trees) hs || list_any (λ (d : Declaration). has_wrong_super c.trees c.contents d.kind) c.declarations))
+          (misplaced-kept M.Stray old c.trees c e t.given)
+          ∙ (ap (λ (b : Bool). strays || (b || list_any (λ (d : Declaration). has_wrong_super c.trees c.contents d.kind) c.declarations)) (escapes-kept old c.trees hs e t.given)
+          ∙ (ap (λ (b : Bool). strays || (list_any (held_escapes old) hs || b)) supers ∙ t.kinds));
       tails = t.tails;
       items = t.items;
     }
@@ -194,7 +194,7 @@ cut_context c n w l =
     let count : length (take n c.trees) ≡ min n (length c.trees) = length-take n c.trees in
     let enough : d ≤ length (take n c.trees) = omega (arith, count, l, w.there) in
     let same : take d c.trees ≡ take d (take n c.trees) =
-        ap (take d) (sym (take-append-drop n c.trees)) ∙ take-append-le d (take n c.trees) (drop n c.trees) enough in
+    ap (take d) (sym (take-append-drop n c.trees)) ∙ take-append-le d (take n c.trees) (drop n c.trees) enough in
     record {
       nodes = fit-take (world c) n c.trees w.nodes;
       declared = subst (λ (us : List Tree). let e : Context = record c { trees = us } in IsWellFormedTable e) same w.declared;

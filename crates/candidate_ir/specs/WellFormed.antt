@@ -2,11 +2,16 @@
 use Rattle.std.specs.Prelude.{◌≡◌, ◌≤◌, false, length, take, map, List}
 use Rattle.std.specs.List.{list_any}
 use Rattle.candidate_ir.specs.declared.ir.kinds.Ty.{Ty}
+use Rattle.candidate_ir.specs.declared.ir.kinds.FnSig.{FnSig}
+use Rattle.candidate_ir.specs.declared.ir.kinds.Binder.{Binder}
+use Rattle.candidate_ir.specs.declared.decl.held.Held.{Held}
+use Rattle.candidate_ir.specs.Words.{IsTy, IsArgs, IsVars}
 use Rattle.candidate_ir.specs.Trees.{Tree, TypeKind}
 use Rattle.candidate_ir.specs.Kinds.{Child, numbers, sorts}
 use Rattle.candidate_ir.specs.Nodes.{kinds_at}
 use Rattle.candidate_ir.specs.Context.{Context}
-use Rattle.candidate_ir.specs.References.{IsWellFormed}
+use Rattle.candidate_ir.specs.declared.ir.kinds.TraitRef.{TraitRef}
+use Rattle.candidate_ir.specs.References.{IsWellFormed, ArgumentsFit}
 use Rattle.candidate_ir.specs.Misplaced.{is_not_given}
 use Rattle.candidate_ir.specs.Faults.{all_that_is_held, declarations_misname, contents_misname, has_wrong_parameters, AllArgumentsFit, has_wrong_kind, lacks_tail, item_has_wrong_arity, all_items}
 
@@ -44,3 +49,18 @@ type_child t = (t.0, TypeKind)
 -- the numbers are of types
 abbrev pub TypesFit : List Tree → List Ty → Type 0
 TypesFit ts xs = kinds_at ts (numbers (map type_child xs)) ≡ sorts (map type_child xs)
+
+-- the numbers in a signature are those of a binder, of a list and of a type
+pub record SignatureFits (ts : List Tree) (s : Binder FnSig) : Type 0 where
+  pub vars : IsVars ts s.vars
+  pub inputs : IsArgs ts s.value.inputs
+  pub output : IsTy ts s.value.output
+
+-- the arguments of a header are a list of the context, and those that its trait takes
+pub record HeaderFits (c : Context) (r : TraitRef) : Type 0 where
+  pub list : IsArgs c.trees r.args
+  pub fit : ArgumentsFit c r
+
+-- all that is held among these is there
+abbrev pub AreGiven : Context → List Held → Type 0
+AreGiven c hs = list_any (is_not_given c.trees) hs ≡ false

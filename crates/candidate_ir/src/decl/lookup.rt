@@ -1,9 +1,13 @@
 //! What is read of the declarations of a context: lists are lent. Of a number that isn't of the sort asked about there is
 //! nothing.
 
-ghost use Rattle.std.specs.Prelude.{◌≡◌, [], None, Some, false, slice_index_or, option_copied};
+ghost use Rattle.std.specs.Prelude.{◌≡◌, [], None, Some, false, slice_index_or, option_copied, IfSome};
 ghost use Rattle.candidate_ir.specs.Declaring.{adt_at, trait_at, bounds_at, impl_at, item_number};
+ghost use Rattle.candidate_ir.specs.Held.{definition_held, adt_held, trait_held, bounds_held, impl_held, if_there};
+ghost use Rattle.candidate_ir.specs.declared.decl.held.Owner.TheVariants as O;
+ghost use Rattle.candidate_ir.specs.Words.{IsTy, IsArgs, ClauseListFits};
 ghost use Rattle.candidate_ir.specs.Lookups as lookup;
+ghost use Rattle.candidate_ir.specs.WellFormed.{TypesFit, SignatureFits, HeaderFits, AreGiven};
 
 use crate::decl::contents::{
     AdtContents, Bounds, Destructor, Impl, ImplId, ImplPolarity, LangItem, Sizedness,
@@ -16,9 +20,50 @@ use crate::ir::kinds::{
 };
 
 impl Cx {
-    fn definition(&self, number: u32) -> Option<DefinitionKind>
-        ensures { result ≡ lookup.definition self.now number }
+    /// What the definition holds is there.
+    #[tactic(auto, using(crate::proofs::Given::definition_given))]
+    fn definition_is_given(&self, number: u32)
+        ensures { IfSome (lookup.definition self.now number) (λ k. AreGiven self.now (definition_held self.now.contents number k)) }
     {
+        self.well_formed_table();
+    }
+
+    #[tactic(auto, using(crate::proofs::Given::adt_given))]
+    fn adt_is_given(&self, adt: AdtId)
+        ensures { AreGiven self.now (if_there (adt_held (O.Definition adt.0)) (adt_at self.now adt.0)) }
+    {
+        let _ = self.contents.adts.len();
+        self.well_formed_table();
+    }
+
+    #[tactic(auto, using(crate::proofs::Given::trait_given))]
+    fn trait_is_given(&self, of: TraitId)
+        ensures { AreGiven self.now (if_there (trait_held (O.Definition of.0)) (trait_at self.now of.0)) }
+    {
+        let _ = self.contents.traits.len();
+        self.well_formed_table();
+    }
+
+    #[tactic(auto, using(crate::proofs::Given::bounds_given))]
+    fn bounds_are_given(&self, alias: AliasId)
+        ensures { AreGiven self.now (if_there (bounds_held (O.Definition alias.0)) (bounds_at self.now alias.0)) }
+    {
+        let _ = self.contents.bounds.len();
+        self.well_formed_table();
+    }
+
+    #[tactic(auto, using(crate::proofs::Given::impl_given))]
+    fn impl_is_given(&self, of: ImplId)
+        ensures { IfSome (impl_at self.now of) (λ x. AreGiven self.now (impl_held of.0 x) × HeaderFits self.now x.trait_ref) }
+    {
+        self.well_formed_table();
+    }
+
+    fn definition(&self, number: u32) -> Option<DefinitionKind>
+        ensures is { result ≡ lookup.definition self.now number }
+        ensures given { IfSome result (λ k. AreGiven self.now (definition_held self.now.contents number k)) }
+    {
+        self.definition_is_given(number);
         match self.definitions.get(number as usize) {
             Some(definition) => Some(definition.kind()),
             None => None,
@@ -86,8 +131,10 @@ impl Cx {
     }
 
     /// The type that the opaque type hides.
+    #[tactic(auto, using(crate::proofs::Given::hidden_fits))]
     pub fn hidden_type(&self, opaque: AliasId) -> Option<Ty>
-        ensures { result ≡ lookup.hidden_type (lookup.definition self.now opaque.0) }
+        ensures is { result ≡ lookup.hidden_type (lookup.definition self.now opaque.0) }
+        ensures sort { IfSome result (λ t. IsTy self.now.trees t) }
     {
         match self.definition(opaque.0) {
             Some(DefinitionKind::Opaque(hidden, _)) => Some(hidden),
@@ -106,8 +153,10 @@ impl Cx {
     }
 
     /// The signature of the function, under its binder.
+    #[tactic(auto, using(crate::proofs::Given::sig_fits))]
     pub fn fn_sig(&self, function: FnId) -> Option<Binder<FnSig>>
-        ensures { result ≡ lookup.fn_sig (lookup.definition self.now function.0) }
+        ensures is { result ≡ lookup.fn_sig (lookup.definition self.now function.0) }
+        ensures fit { IfSome result (λ s. SignatureFits self.now.trees s) }
     {
         match self.definition(function.0) {
             Some(DefinitionKind::Function(_, sig)) => Some(sig),
@@ -126,35 +175,45 @@ impl Cx {
     }
 
     fn adt(&self, adt: AdtId) -> Option<&AdtContents>
-        ensures { option_copied result ≡ adt_at self.now adt.0 }
+        ensures is { option_copied result ≡ adt_at self.now adt.0 }
+        ensures given { AreGiven self.now (if_there (adt_held (O.Definition adt.0)) (option_copied result)) }
     {
+        self.adt_is_given(adt);
         let place = adt_place(self.definitions.as_slice(), adt);
         self.contents.adts.get(place)
     }
 
     fn trait_contents(&self, of: TraitId) -> Option<&TraitContents>
-        ensures { option_copied result ≡ trait_at self.now of.0 }
+        ensures is { option_copied result ≡ trait_at self.now of.0 }
+        ensures given { AreGiven self.now (if_there (trait_held (O.Definition of.0)) (option_copied result)) }
     {
+        self.trait_is_given(of);
         let place = trait_place(self.definitions.as_slice(), of);
         self.contents.traits.get(place)
     }
 
     fn bounds(&self, alias: AliasId) -> Option<&Bounds>
-        ensures { option_copied result ≡ bounds_at self.now alias.0 }
+        ensures is { option_copied result ≡ bounds_at self.now alias.0 }
+        ensures given { AreGiven self.now (if_there (bounds_held (O.Definition alias.0)) (option_copied result)) }
     {
+        self.bounds_are_given(alias);
         let place = bounds_place(self.definitions.as_slice(), alias);
         self.contents.bounds.get(place)
     }
 
     fn impl_contents(&self, of: ImplId) -> Option<&Impl>
-        ensures { option_copied result ≡ impl_at self.now of }
+        ensures is { option_copied result ≡ impl_at self.now of }
+        ensures given { IfSome (option_copied result) (λ x. AreGiven self.now (impl_held of.0 x) × HeaderFits self.now x.trait_ref) }
     {
+        self.impl_is_given(of);
         self.contents.impls.get(of.0 as usize)
     }
 
     /// The types of the fields of the data type, in order.
+    #[tactic(auto, using(crate::proofs::Given::fields_fit))]
     pub fn fields(&self, adt: AdtId) -> &[Ty]
-        ensures { result.now ≡ lookup.maybe [] (λ a. a.fields) (adt_at self.now adt.0) }
+        ensures is { result.now ≡ lookup.maybe [] (λ a. a.fields) (adt_at self.now adt.0) }
+        ensures fit { TypesFit self.now.trees result.now }
     {
         match self.adt(adt) {
             Some(contents) => contents.fields.as_slice(),
@@ -163,8 +222,10 @@ impl Cx {
     }
 
     /// The type that has to be sized, in this sense, for the data type to be, if one was said.
+    #[tactic(auto, using(crate::proofs::Given::constraint_fits))]
     pub fn sizedness_constraint(&self, adt: AdtId, sizedness: Sizedness) -> Option<Ty>
-        ensures { result ≡ lookup.maybe None (lookup.constraint sizedness) (adt_at self.now adt.0) }
+        ensures is { result ≡ lookup.maybe None (lookup.constraint sizedness) (adt_at self.now adt.0) }
+        ensures sort { IfSome result (λ t. IsTy self.now.trees t) }
     {
         match self.adt(adt) {
             Some(contents) => match sizedness {
@@ -196,8 +257,10 @@ impl Cx {
     }
 
     /// The super clauses of the trait, in order.
+    #[tactic(auto, using(crate::proofs::Given::supers_fit))]
     pub fn super_clauses(&self, of: TraitId) -> &[Clause]
-        ensures { result.now ≡ lookup.maybe [] (λ a. a.supers) (trait_at self.now of.0) }
+        ensures is { result.now ≡ lookup.maybe [] (λ a. a.supers) (trait_at self.now of.0) }
+        ensures fit { ClauseListFits self.now.trees result.now }
     {
         match self.trait_contents(of) {
             Some(contents) => contents.supers.as_slice(),
@@ -206,8 +269,10 @@ impl Cx {
     }
 
     /// The where clauses of the trait, in order.
+    #[tactic(auto, using(crate::proofs::Given::wheres_fit))]
     pub fn trait_where_clauses(&self, of: TraitId) -> &[Clause]
-        ensures { result.now ≡ lookup.maybe [] (λ a. a.wheres) (trait_at self.now of.0) }
+        ensures is { result.now ≡ lookup.maybe [] (λ a. a.wheres) (trait_at self.now of.0) }
+        ensures fit { ClauseListFits self.now.trees result.now }
     {
         match self.trait_contents(of) {
             Some(contents) => contents.wheres.as_slice(),
@@ -236,8 +301,10 @@ impl Cx {
     }
 
     /// The bounds of the associated type or opaque type itself, in order.
+    #[tactic(auto, using(crate::proofs::Given::self_bounds_fit))]
     pub fn self_bounds(&self, alias: AliasId) -> &[Clause]
-        ensures { result.now ≡ lookup.maybe [] (λ a. a.self_bounds) (bounds_at self.now alias.0) }
+        ensures is { result.now ≡ lookup.maybe [] (λ a. a.self_bounds) (bounds_at self.now alias.0) }
+        ensures fit { ClauseListFits self.now.trees result.now }
     {
         match self.bounds(alias) {
             Some(contents) => contents.self_bounds.as_slice(),
@@ -246,8 +313,10 @@ impl Cx {
     }
 
     /// The bounds of the alias that it is a projection of, in order.
+    #[tactic(auto, using(crate::proofs::Given::non_self_bounds_fit))]
     pub fn non_self_bounds(&self, alias: AliasId) -> &[Clause]
-        ensures { result.now ≡ lookup.maybe [] (λ a. a.non_self_bounds) (bounds_at self.now alias.0) }
+        ensures is { result.now ≡ lookup.maybe [] (λ a. a.non_self_bounds) (bounds_at self.now alias.0) }
+        ensures fit { ClauseListFits self.now.trees result.now }
     {
         match self.bounds(alias) {
             Some(contents) => contents.non_self_bounds.as_slice(),
@@ -257,7 +326,8 @@ impl Cx {
 
     /// The header of the impl.
     pub fn impl_trait_ref(&self, of: ImplId) -> Option<TraitRef>
-        ensures { result ≡ lookup.maybe None (λ a. Some a.trait_ref) (impl_at self.now of) }
+        ensures is { result ≡ lookup.maybe None (λ a. Some a.trait_ref) (impl_at self.now of) }
+        ensures fit { IfSome result (λ r. HeaderFits self.now r) }
     {
         match self.impl_contents(of) {
             Some(contents) => Some(contents.trait_ref),
@@ -286,8 +356,10 @@ impl Cx {
     }
 
     /// The where clauses of the impl, in order.
+    #[tactic(auto, using(crate::proofs::Given::impl_wheres_fit))]
     pub fn impl_where_clauses(&self, of: ImplId) -> &[Clause]
-        ensures { result.now ≡ lookup.maybe [] (λ a. a.wheres) (impl_at self.now of) }
+        ensures is { result.now ≡ lookup.maybe [] (λ a. a.wheres) (impl_at self.now of) }
+        ensures fit { ClauseListFits self.now.trees result.now }
     {
         match self.impl_contents(of) {
             Some(contents) => contents.wheres.as_slice(),
@@ -296,8 +368,10 @@ impl Cx {
     }
 
     /// The clauses about regions that the super clauses of its trait ask of the impl, in order.
+    #[tactic(auto, using(crate::proofs::Given::impl_outlives_fit))]
     pub fn impl_super_outlives(&self, of: ImplId) -> &[Clause]
-        ensures { result.now ≡ lookup.maybe [] (λ a. a.super_outlives) (impl_at self.now of) }
+        ensures is { result.now ≡ lookup.maybe [] (λ a. a.super_outlives) (impl_at self.now of) }
+        ensures fit { ClauseListFits self.now.trees result.now }
     {
         match self.impl_contents(of) {
             Some(contents) => contents.super_outlives.as_slice(),
