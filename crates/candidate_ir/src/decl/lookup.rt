@@ -362,7 +362,7 @@ impl Cx {
         ensures fit { ClauseListFits self.now.trees result.now }
     {
         match self.impl_contents(of) {
-            Some(contents) => contents.wheres.as_slice(),
+            Some(found) => found.wheres.as_slice(),
             None => &[],
         }
     }
