@@ -64,6 +64,29 @@ trait 0 LocalTrait 0
 trait 1 Send 0 auto
 assoc Trait Out
 assoc Trait2 Two sized_self
+opaque 1 Opaque 1 fn(1) #0 [3] Vec #0
+impl 1 plain 0 + Trait u8
+impl 0 general 1 - Trait1 Vec #0 dyn(1) Trait1 #0
+impl 1 kept 0 reservation Trait Opaque u8
+field Vec #0
+field Vec [] (2) #0 &mut u8
+sized Vec #0
+metasized Box #0
+unsizing Vec 0
+super Trait1 Trait #0
+where Trait1 Out #0 #1
+bound Out Trait1 Out #0 u8
+bound Opaque Trait Opaque #0
+nbound Two Trait #1
+iwhere general Trait #0
+default general
+specializes general plain
+lang Sized Trait
+lang Fn Trait1
+env Trait Vec !0
+env Out !0 [3] !1
+norm Out !0 fn(0) u8
+mode coherence
 // The queries.
 orphan local Trait Pair Vec (0) Box LocalType
 orphan local Trait Vec LocalType
@@ -80,6 +103,7 @@ knowable Trait Vec $0
 knowable Trait LocalType
 knowable Trait2 Vec u8 Vec u16 Two str u8 u16
 orphan local Trait1 u8 LocalForeign
+orphan local Trait1 fn(2) u8 [7] LocalType ! Opaque $0
 """
 
 STOP = "stop 1\n"

@@ -6,6 +6,9 @@ use Rattle.std.proofs.lemmas.List.Elements.{All-head, All-tail}
 use Rattle.candidate_ir.specs.declared.ir.kinds.Args.{Args}
 use Rattle.candidate_ir.specs.declared.ir.kinds.Preds.{Preds}
 use Rattle.candidate_ir.specs.declared.ir.kinds.Region.{Region}
+use Rattle.candidate_ir.specs.declared.ir.kinds.Const.{Const}
+use Rattle.candidate_ir.specs.declared.ir.kinds.ConstKind.TheVariants as C
+use Rattle.candidate_ir.specs.declared.ir.kinds.FnSig.{FnSig}
 use Rattle.candidate_ir.specs.declared.ir.kinds.Vars.{Vars}
 use Rattle.candidate_ir.specs.declared.ir.kinds.Ty.{Ty}
 use Rattle.candidate_ir.specs.declared.ir.kinds.TyKind.{TyKind}
@@ -22,18 +25,17 @@ use Rattle.candidate_ir.specs.declared.ir.kinds.GenericArg.{GenericArg}
 use Rattle.candidate_ir.specs.declared.ir.kinds.GenericArg.TheVariants as A
 use Rattle.candidate_ir.specs.declared.ir.heads.Flag.TheVariants as F
 use Rattle.candidate_ir.specs.declared.ir.node.Node.{Node}
-use Rattle.candidate_ir.specs.declared.ir.stop.Stop.{Stop}
 use Rattle.candidate_ir.specs.declared.ir.node.Node.TheVariants as N
 use Rattle.candidate_ir.specs.Trees.{Tree, Kind, ArgumentsKind, PredicatesKind, is_list, is_list_kind, holds, tree_holds, is_param}
-use Rattle.candidate_ir.specs.Kinds.{numbers, sorts, arg_child}
+use Rattle.candidate_ir.specs.Kinds.{numbers, sorts, arg_child, ty_head}
 use Rattle.candidate_ir.specs.Nodes.{tree_at, kind_at, trees_at, rows, any_holds, head_of, children_of, node_tree}
 use Rattle.candidate_ir.specs.Context.{Context, Grows}
-use Rattle.candidate_ir.specs.Words.{IsArgs, IsPreds, ListFits, BoundsFit, PredFits, kind_tree, pred_kind_tree, region_kind_tree, region_tree, vars_tree, binder_tree, ty_tree, args_forest, preds_forest, list_forest}
+use Rattle.candidate_ir.specs.Words.{IsArgs, IsPreds, ListFits, BoundsFit, PredFits, kind_tree, const_tree, const_kind_tree, pred_kind_tree, region_kind_tree, region_tree, vars_tree, binder_tree, ty_tree, args_forest, preds_forest, list_forest}
 use Rattle.candidate_ir.proofs.Lists.{there, all_there, tree_at-append, below_kind, kind_of-tree_at, trees_at-append, Below-there, node_tree-append}
 use Rattle.candidate_ir.proofs.Splits.{list-head, rows-holds}
 use Rattle.candidate_ir.proofs.Children.{list-holds}
 use Rattle.assembly_text.specs.Notation.{IsLeaf}
-use Rattle.assembly_text.specs.Params.{LacksParam, ListLacksParam, BoundLacksParam, BoundsLackParam}
+use Rattle.assembly_text.specs.Params.{LacksParam, ListLacksParam, BoundLacksParam, BoundsLackParam, Lacks}
 
 or-left : (a b : Bool) → a || b ≡ false → a ≡ false
 or-left true b e = e
@@ -56,15 +58,19 @@ lacks-grows a b n k g h i l =
     ∙ (ap (tree_holds is_param) (tree_at-append a.trees g.kept.added n (below_kind a.trees n k h i)) ∙ l)
 
 -- what is made has none where its kind has none
-pub made-lacks : (r : Result Ty Stop) (new : List Tree) (t : Tree) → IfOk r (λ x. ty_tree new x ≡ t) → tree_holds is_param t ≡ false → IfOk r (λ x. LacksParam new x.0)
-made-lacks (Ok x) new t e l = ap (tree_holds is_param) e ∙ l
-made-lacks (Err s) new t e l = tt
+pub made-lacks : {E : Type 0} (strict : Bool) (r : Result Ty E) (new : List Tree) (t : Tree) → IfOk r (λ x. ty_tree new x ≡ t)
+    → (strict ≡ true → tree_holds is_param t ≡ false) → IfOk r (λ x. Lacks strict new x.0)
+made-lacks strict (Ok x) new t e l = λ s. ap (tree_holds is_param) e ∙ l s
+made-lacks strict (Err f) new t e l = tt
 
 pub same-lacks : (ts : List Tree) (j k : TyKind) → j ≡ k → tree_holds is_param (kind_tree ts k) ≡ false → tree_holds is_param (kind_tree ts j) ≡ false
 same-lacks ts j k e l = ap (λ (x : TyKind). tree_holds is_param (kind_tree ts x)) e ∙ l
 
 pub region-lacks : (ts : List Tree) (r : Region) → region_tree ts r ≡ region_kind_tree R.Static → LacksParam ts r.0
 region-lacks ts r e = ap (tree_holds is_param) e
+
+pub const-lacks : (ts : List Tree) (x : Const) (n : ℕ) → const_tree ts x ≡ const_kind_tree [] (C.Value n) → LacksParam ts x.0
+const-lacks ts x n e = ap (tree_holds is_param) e
 
 pub vars-lack : (ts : List Tree) (v : Vars) → vars_tree ts v ≡ binder_tree [] → LacksParam ts v.0
 vars-lack ts v e = ap (tree_holds is_param) e
@@ -77,15 +83,25 @@ node-lacks ts d h e = or-both (is_param (head_of d)) _ h (in-rows (trees_at ts (
 one : (a : Bool) → a ≡ false → a || false ≡ false
 one a e = or-both a false e refl
 
-pub leaf-lacks : (ts : List Tree) (k : TyKind) → IsLeaf k → tree_holds is_param (kind_tree ts k) ≡ false
-leaf-lacks ts k l =
-    node-lacks ts (N.Ty k) l.no_param (ap (λ cs. any_holds is_param (trees_at ts (numbers cs))) l.childless)
+pub leaf-lacks : (ts : List Tree) (k : TyKind) → IsLeaf k → is_param (ty_head k) ≡ false → tree_holds is_param (kind_tree ts k) ≡ false
+leaf-lacks ts k l h = node-lacks ts (N.Ty k) h (ap (λ cs. any_holds is_param (trees_at ts (numbers cs))) l)
 
 pub ref-lacks : (ts : List Tree) (r : Region) (t : Ty) (m : _) → LacksParam ts r.0 → LacksParam ts t.0 → tree_holds is_param (kind_tree ts (K.Ref r t m)) ≡ false
 ref-lacks ts r t m e f = node-lacks ts (N.Ty (K.Ref r t m)) refl (or-both _ _ e (one _ f))
 
 pub pointer-lacks : (ts : List Tree) (t : Ty) (m : _) → LacksParam ts t.0 → tree_holds is_param (kind_tree ts (K.RawPtr t m)) ≡ false
 pointer-lacks ts t m f = node-lacks ts (N.Ty (K.RawPtr t m)) refl (one _ f)
+
+pub array-lacks : (ts : List Tree) (t : Ty) (n : Const) → LacksParam ts t.0 → LacksParam ts n.0 → tree_holds is_param (kind_tree ts (K.Array t n)) ≡ false
+array-lacks ts t n e f = node-lacks ts (N.Ty (K.Array t n)) refl (or-both _ _ e (one _ f))
+
+-- a safe function pointer of the Rust ABI, not variadic
+abbrev fn_sig : Vars → Args → Ty → Binder FnSig
+fn_sig v a t = record { vars = v; value = record { inputs = a; output = t; safe = true; rust_abi = true; variadic = false } }
+
+pub fn-lacks : (ts : List Tree) (v : Vars) (a : Args) (t : Ty) → LacksParam ts v.0 → LacksParam ts a.0 → LacksParam ts t.0
+    → tree_holds is_param (kind_tree ts (K.FnPtr (record { vars = v; value = record { inputs = a; output = t; safe = true; rust_abi = true; variadic = false } }))) ≡ false
+fn-lacks ts v a t e f h = node-lacks ts (N.Ty (K.FnPtr (fn_sig v a t))) refl (or-both _ _ e (or-both _ _ f (one _ h)))
 
 pub slice-lacks : (ts : List Tree) (t : Ty) → LacksParam ts t.0 → tree_holds is_param (kind_tree ts (K.Slice t)) ≡ false
 slice-lacks ts t f = node-lacks ts (N.Ty (K.Slice t)) refl (one _ f)

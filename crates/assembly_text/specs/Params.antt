@@ -1,5 +1,5 @@
 -- That no parameter stands in what was made.
-use Rattle.std.specs.Prelude.{◌≡◌, ℕ, false, List}
+use Rattle.std.specs.Prelude.{◌≡◌, ℕ, Bool, true, false, List}
 use Rattle.candidate_ir.specs.Trees.{Tree, holds, tree_holds, is_param}
 use Rattle.candidate_ir.specs.Nodes.{tree_at}
 use Rattle.candidate_ir.specs.Words.{list_forest, pred_kind_tree, bounds_forest}
@@ -22,3 +22,16 @@ BoundLacksParam ts b = tree_holds is_param (pred_kind_tree ts b) ≡ false
 -- in the bounds
 abbrev pub BoundsLackParam : List Tree → List (Binder ExistentialPredicate) → Type 0
 BoundsLackParam ts bs = holds is_param (bounds_forest ts bs) ≡ false
+
+-- The same, asked only where no parameter may stand.
+abbrev pub Lacks : Bool → List Tree → ℕ → Type 0
+Lacks strict ts n = strict ≡ true → LacksParam ts n
+
+abbrev pub ListLacks : Bool → List Tree → List GenericArg → Type 0
+ListLacks strict ts xs = strict ≡ true → ListLacksParam ts xs
+
+abbrev pub BoundLacks : Bool → List Tree → Binder ExistentialPredicate → Type 0
+BoundLacks strict ts b = strict ≡ true → BoundLacksParam ts b
+
+abbrev pub BoundsLack : Bool → List Tree → List (Binder ExistentialPredicate) → Type 0
+BoundsLack strict ts bs = strict ≡ true → BoundsLackParam ts bs

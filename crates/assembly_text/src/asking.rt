@@ -7,8 +7,8 @@ ghost use Rattle.candidate_eval.specs.Answers.{AreAnswerTypes, AreErrorTypes, Ou
 ghost use Rattle.candidate_eval.specs.Orphan.{bare_answer, bare_knowledge};
 ghost use Rattle.candidate_eval.specs.Calls.{plain_check_of, plain_knowledge_about, HasNoParam, HasNoAlias, HasNoAliasOrError, IsOfForeignTrait, NoForeignHeaderHere, NoUnnamedHeaderHere, NoCoveredHeaderHere, IsDecidedByGeneralHere, HasDownstreamHere};
 
+use crate::declaring::Given;
 use crate::faults::Fault;
-use crate::names::Names;
 use crate::types::{DEEPEST, Scope};
 use crate::words::Words;
 use candidate_eval::coherence::{
@@ -18,7 +18,6 @@ use candidate_eval::coherence::{
 use candidate_ir::decl::context::Cx;
 use candidate_ir::ir::kinds::{TraitRef, Ty};
 use candidate_ir::ir::stop::Stop;
-use std::alloc::Global;
 use std::convert::Infallible;
 
 /// A command that asks.
@@ -31,20 +30,21 @@ pub enum Query {
 /// What is declared, and the answer that was made last.
 #[derive(Drop)]
 pub struct Asking<'a> {
-    scope: Scope<'a>,
+    scope: Scope<'a, Cx>,
     answer: String,
     /// How many nodes stood in the context before the first query.
     declared_nodes: usize,
+    given: Given,
 }
 
 impl<'a> Asking<'a> {
-    /// Over what is declared under these names.
-    pub fn new(alloc: Global, names: Names<'a>, cx: Cx) -> Self {
-        let declared_nodes = cx.node_count();
+    /// Over what is declared, and what queries take as given.
+    pub fn new(scope: Scope<'a, Cx>, given: Given) -> Self {
         Asking {
-            scope: Scope { alloc, names, cx },
-            answer: String::new(alloc),
-            declared_nodes,
+            answer: String::new(scope.alloc),
+            declared_nodes: scope.maker.node_count(),
+            scope,
+            given,
         }
     }
 
@@ -58,7 +58,7 @@ impl<'a> Asking<'a> {
         mut words: Words<'a>,
     ) -> Result<Result<&str, Stop>, Fault<'a>> {
         self.answer.clear();
-        self.scope.cx.truncate(self.declared_nodes);
+        self.scope.maker.truncate(self.declared_nodes);
         let made = match query {
             Query::Orphan => self.orphan(&mut words)?,
             Query::Knowable => self.knowable(&mut words)?,
@@ -71,9 +71,9 @@ impl<'a> Asking<'a> {
 
     /// The trait reference that ends the line.
     fn last_trait_ref(&mut self, words: &mut Words<'a>) -> Result<TraitRef, Fault<'a>>
-        ensures sort { IfOk result (λ r. IsArgs self.new.scope.cx.trees r.args) }
-        ensures no_param { IfOk result (λ r. HasNoParam self.new.scope.cx r) }
-        ensures fit { IfOk result (λ r. ArgumentsFit self.new.scope.cx r) }
+        ensures sort { IfOk result (λ r. IsArgs self.new.scope.maker.trees r.args) }
+        ensures no_param { IfOk result (λ r. HasNoParam self.new.scope.maker r) }
+        ensures fit { IfOk result (λ r. ArgumentsFit self.new.scope.maker r) }
     {
         let trait_ref = self.scope.read_trait_ref(words)?;
         words.end()?;
@@ -88,17 +88,17 @@ impl<'a> Asking<'a> {
 
     /// Whether all impls of the reference are known, where no type is normalised.
     fn known(&mut self, trait_ref: TraitRef) -> Result<Result<(), Conflict>, OrphanStop<Infallible>>
-        requires args { IsArgs self.old.scope.cx.trees trait_ref.args }
-        requires no_param { HasNoParam self.old.scope.cx trait_ref }
-        requires fit { ArgumentsFit self.old.scope.cx trait_ref }
-        ensures answer { result ≢ Err (OrphanStop.Stop Stop.Memory) → bare_knowledge (knowledge_of result) ≡ plain_knowledge_about self.old.scope.cx trait_ref }
-        ensures no_unnamed_header { HasNoAlias self.old.scope.cx trait_ref → result ≡ Ok (Ok tt) → NoUnnamedHeaderHere self.old.scope.cx trait_ref }
-        ensures downstream_header { HasNoAliasOrError self.old.scope.cx trait_ref → result ≡ Ok (Err Conflict.Downstream) → IsDecidedByGeneralHere self.old.scope.cx trait_ref → HasDownstreamHere self.old.scope.cx trait_ref }
-        ensures no_covered_header { HasNoAlias self.old.scope.cx trait_ref → result ≡ Ok (Ok tt) → IsOfForeignTrait self.old.scope.cx trait_ref → NoCoveredHeaderHere self.old.scope.cx trait_ref }
+        requires args { IsArgs self.old.scope.maker.trees trait_ref.args }
+        requires no_param { HasNoParam self.old.scope.maker trait_ref }
+        requires fit { ArgumentsFit self.old.scope.maker trait_ref }
+        ensures answer { result ≢ Err (OrphanStop.Stop Stop.Memory) → bare_knowledge (knowledge_of result) ≡ plain_knowledge_about self.old.scope.maker trait_ref }
+        ensures no_unnamed_header { HasNoAlias self.old.scope.maker trait_ref → result ≡ Ok (Ok tt) → NoUnnamedHeaderHere self.old.scope.maker trait_ref }
+        ensures downstream_header { HasNoAliasOrError self.old.scope.maker trait_ref → result ≡ Ok (Err Conflict.Downstream) → IsDecidedByGeneralHere self.old.scope.maker trait_ref → HasDownstreamHere self.old.scope.maker trait_ref }
+        ensures no_covered_header { HasNoAlias self.old.scope.maker trait_ref → result ≡ Ok (Ok tt) → IsOfForeignTrait self.old.scope.maker trait_ref → NoCoveredHeaderHere self.old.scope.maker trait_ref }
     {
         trait_ref_is_knowable(
             self.scope.alloc,
-            &mut self.scope.cx,
+            &mut self.scope.maker,
             trait_ref,
             |_, ty| -> Result<Ty, NormalizeErr<Infallible>> { Ok(ty) },
         )
@@ -132,16 +132,16 @@ impl<'a> Asking<'a> {
         trait_ref: TraitRef,
         in_crate: InCrate,
     ) -> Result<Result<(), OrphanCheckErr<Ty>>, OrphanStop<Infallible>>
-        requires args { IsArgs self.old.scope.cx.trees trait_ref.args }
-        requires no_param { HasNoParam self.old.scope.cx trait_ref }
-        requires fit { ArgumentsFit self.old.scope.cx trait_ref }
-        ensures types { AreAnswerTypes self.new.scope.cx.trees result }
-        ensures answer { ¬ (OutOfMemory result) → bare_answer (answer_of self.new.scope.cx.trees result) ≡ plain_check_of self.old.scope.cx in_crate trait_ref }
-        ensures no_foreign_header { HasNoAliasOrError self.old.scope.cx trait_ref → in_crate ≡ InCrate.Local OrphanCheckMode.Proper → result ≡ Ok (Ok tt) → NoForeignHeaderHere self.old.scope.cx trait_ref }
+        requires args { IsArgs self.old.scope.maker.trees trait_ref.args }
+        requires no_param { HasNoParam self.old.scope.maker trait_ref }
+        requires fit { ArgumentsFit self.old.scope.maker trait_ref }
+        ensures types { AreAnswerTypes self.new.scope.maker.trees result }
+        ensures answer { ¬ (OutOfMemory result) → bare_answer (answer_of self.new.scope.maker.trees result) ≡ plain_check_of self.old.scope.maker in_crate trait_ref }
+        ensures no_foreign_header { HasNoAliasOrError self.old.scope.maker trait_ref → in_crate ≡ InCrate.Local OrphanCheckMode.Proper → result ≡ Ok (Ok tt) → NoForeignHeaderHere self.old.scope.maker trait_ref }
     {
         orphan_check_trait_ref(
             self.scope.alloc,
-            &mut self.scope.cx,
+            &mut self.scope.maker,
             trait_ref,
             in_crate,
             |_, ty| -> Result<Ty, NormalizeErr<Infallible>> { Ok(ty) },
@@ -152,7 +152,7 @@ impl<'a> Asking<'a> {
         &mut self,
         checked: Result<Result<(), OrphanCheckErr<Ty>>, OrphanStop<Infallible>>,
     ) -> Result<(), Stop>
-        requires { AreAnswerTypes self.old.scope.cx.trees checked }
+        requires { AreAnswerTypes self.old.scope.maker.trees checked }
     {
         match checked {
             Ok(Ok(())) => self.answer.push_str("ok\n")?,
@@ -164,7 +164,7 @@ impl<'a> Asking<'a> {
     }
 
     fn print_orphan_err(&mut self, err: &OrphanCheckErr<Ty>) -> Result<(), Stop>
-        requires { AreErrorTypes self.old.scope.cx.trees err.now }
+        requires { AreErrorTypes self.old.scope.maker.trees err.now }
     {
         match err {
             OrphanCheckErr::NonLocalInputType(entries) => self.print_nonlocal(entries.as_slice()),
@@ -173,7 +173,7 @@ impl<'a> Asking<'a> {
     }
 
     fn print_nonlocal(&mut self, entries: &[(Ty, IsFirstInputType)]) -> Result<(), Stop>
-        requires { All (λ e. IsTy self.old.scope.cx.trees e.0) entries.now }
+        requires { All (λ e. IsTy self.old.scope.maker.trees e.0) entries.now }
     {
         self.answer.push_str("nonlocal")?;
         for (ty, is_first) in entries {
@@ -188,8 +188,8 @@ impl<'a> Asking<'a> {
     }
 
     fn print_uncovered(&mut self, found: &UncoveredTyParams<Ty>) -> Result<(), Stop>
-        requires uncovered { IsTy self.old.scope.cx.trees found.now.uncovered }
-        requires local { IfSome found.now.local_ty (IsTy self.old.scope.cx.trees) }
+        requires uncovered { IsTy self.old.scope.maker.trees found.now.uncovered }
+        requires local { IfSome found.now.local_ty (IsTy self.old.scope.maker.trees) }
     {
         self.print_after("uncovered ", found.uncovered)?;
         match found.local_ty {
@@ -202,7 +202,7 @@ impl<'a> Asking<'a> {
 
     /// Adds the type after the text.
     fn print_after(&mut self, before: &str, ty: Ty) -> Result<(), Stop>
-        requires { IsTy self.old.scope.cx.trees ty }
+        requires { IsTy self.old.scope.maker.trees ty }
         ensures { self.new.scope ≡ self.old.scope }
     {
         self.answer.push_str(before)?;

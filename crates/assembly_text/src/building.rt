@@ -1,22 +1,23 @@
-//! The types and bounds that are made of what was read. All regions are static, and no binder has variables.
+//! The types, bounds and clauses that are made of what was read. All regions are static, no binder has variables, and a
+//! function pointer is safe, of the Rust ABI and not variadic.
 //!
-//! Each call stops as the calls of `Cx` that it makes; of a bound and of what a word begins this is `Fault::Stop`.
-//! Whether the arguments are those that a definition takes is asked of the context once more, so that what is made
-//! fits it.
+//! Each call stops as the calls of `Maker` that it makes, and has their faults.
 
-ghost use Rattle.std.specs.Prelude.{◌≡◌, false, IfOk};
+ghost use Rattle.std.specs.Prelude.{◌≡◌, true, false, IfOk};
 ghost use Rattle.candidate_ir.specs.Context.{Grows};
 ghost use Rattle.candidate_ir.specs.Trees.{tree_holds, is_param};
-ghost use Rattle.candidate_ir.specs.Words.{IsTy, KindFits, kind_tree, ListFits, PredFits, BoundsFit, AtMostOnePrincipal, names_trait};
-ghost use Rattle.assembly_text.specs.Params.{LacksParam, ListLacksParam, BoundLacksParam, BoundsLackParam};
+ghost use Rattle.candidate_ir.specs.Words.{IsTy, IsArgs, IsClause, ListFits, PredFits, BoundsFit, AtMostOnePrincipal, names_trait};
+ghost use Rattle.assembly_text.specs.Notation.{IsLeaf};
+ghost use Rattle.assembly_text.specs.Params.{Lacks, ListLacks, BoundLacks, BoundsLack};
 
 use crate::faults::Fault;
-use candidate_ir::decl::context::Cx;
+use crate::making::{Draft, Maker};
 use candidate_ir::ir::kinds::{
-    AdtId, AliasTy, AssocId, Binder, ExistentialPredicate, ExistentialProjection,
-    ExistentialTraitRef, GenericArg, Mutability, RegionKind, TraitId, Ty, TyKind,
+    AdtId, AliasId, AliasKind, AliasTerm, AliasTy, AssocId, Binder, Clause, ClauseKind,
+    ExistentialPredicate, ExistentialProjection, ExistentialTraitRef, FnSig, GenericArg,
+    Mutability, PredicatePolarity, ProjectionPredicate, TraitId, TraitPredicate, TraitRef, Ty,
+    TyKind,
 };
-use candidate_ir::ir::stop::Stop;
 
 /// What is made of one type.
 #[derive(Clone, Copy)]
@@ -24,6 +25,8 @@ pub enum Pointer {
     Ref(Mutability),
     RawPtr(Mutability),
     Slice,
+    /// With so many members.
+    Array(u64),
 }
 
 /// What is made of a list of types.
@@ -32,101 +35,158 @@ pub enum Constructor {
     Tuple,
     Adt(AdtId),
     Projection(AssocId),
+    Opaque(AliasId),
 }
 
-/// The pointer to the type, or the slice of it.
-pub fn pointer_to(cx: &mut Cx, pointer: Pointer, target: Ty) -> Result<Ty, Stop>
-    requires target { IsTy cx.old.trees target }
-    requires no_param { LacksParam cx.old.trees target.0 }
-    ensures grows { Grows cx.old cx.new }
-    ensures sort { IfOk result (λ ty. IsTy cx.new.trees ty) }
-    ensures no_param { IfOk result (λ ty. LacksParam cx.new.trees ty.0) }
+/// The type that a word alone is.
+pub fn leaf_type<'a, M: Maker>(maker: &mut M, kind: TyKind, word: &'a str) -> Result<Ty, Fault<'a>>
+    requires { IsLeaf kind }
+    ensures grows { Grows (M.context maker.old) (M.context maker.new) }
+    ensures sort { IfOk result (λ ty. IsTy (M.context maker.new).trees ty) }
+    ensures no_param { IfOk result (λ ty. Lacks M.is_strict (M.context maker.new).trees ty.0) }
+{
+    match maker.misplaced(kind) {
+        Some(fault) => Err(fault),
+        None => maker.ty(kind, word),
+    }
+}
+
+/// The pointer to the type, or the slice or array of it, which the word begins.
+pub fn pointer_to<'a, M: Maker>(
+    maker: &mut M,
+    pointer: Pointer,
+    target: Ty,
+    word: &'a str,
+) -> Result<Ty, Fault<'a>>
+    requires target { IsTy (M.context maker.old).trees target }
+    requires no_param { Lacks M.is_strict (M.context maker.old).trees target.0 }
+    ensures grows { Grows (M.context maker.old) (M.context maker.new) }
+    ensures sort { IfOk result (λ ty. IsTy (M.context maker.new).trees ty) }
+    ensures no_param { IfOk result (λ ty. Lacks M.is_strict (M.context maker.new).trees ty.0) }
 {
     match pointer {
-        Pointer::Ref(mutability) => reference(cx, target, mutability),
-        Pointer::RawPtr(mutability) => cx.mk_ty(TyKind::RawPtr(target, mutability)),
-        Pointer::Slice => cx.mk_ty(TyKind::Slice(target)),
+        Pointer::Ref(mutability) => reference(maker, target, mutability, word),
+        Pointer::RawPtr(mutability) => maker.ty(TyKind::RawPtr(target, mutability), word),
+        Pointer::Slice => maker.ty(TyKind::Slice(target), word),
+        Pointer::Array(length) => array(maker, target, length, word),
     }
 }
 
-fn reference(cx: &mut Cx, target: Ty, mutability: Mutability) -> Result<Ty, Stop>
-    requires target { IsTy cx.old.trees target }
-    requires no_param { LacksParam cx.old.trees target.0 }
-    ensures grows { Grows cx.old cx.new }
-    ensures sort { IfOk result (λ ty. IsTy cx.new.trees ty) }
-    ensures no_param { IfOk result (λ ty. LacksParam cx.new.trees ty.0) }
+fn reference<'a, M: Maker>(
+    maker: &mut M,
+    target: Ty,
+    mutability: Mutability,
+    word: &'a str,
+) -> Result<Ty, Fault<'a>>
+    requires target { IsTy (M.context maker.old).trees target }
+    requires no_param { Lacks M.is_strict (M.context maker.old).trees target.0 }
+    ensures grows { Grows (M.context maker.old) (M.context maker.new) }
+    ensures sort { IfOk result (λ ty. IsTy (M.context maker.new).trees ty) }
+    ensures no_param { IfOk result (λ ty. Lacks M.is_strict (M.context maker.new).trees ty.0) }
 {
-    let region = cx.mk_region(RegionKind::Static)?;
-    cx.mk_ty(TyKind::Ref(region, target, mutability))
+    let region = maker.static_region()?;
+    maker.ty(TyKind::Ref(region, target, mutability), word)
 }
 
-/// The type of that kind, which the word begins; `Fault::UnknownName` comes where the word is no name of
-/// a definition that takes these arguments.
-pub fn fitting<'a>(cx: &mut Cx, kind: TyKind, word: &'a str) -> Result<Ty, Fault<'a>>
-    requires fits { KindFits cx.old.trees kind }
-    requires no_param { tree_holds is_param (kind_tree cx.old.trees kind) ≡ false }
-    ensures grows { Grows cx.old cx.new }
-    ensures sort { IfOk result (λ ty. IsTy cx.new.trees ty) }
-    ensures no_param { IfOk result (λ ty. LacksParam cx.new.trees ty.0) }
+fn array<'a, M: Maker>(
+    maker: &mut M,
+    target: Ty,
+    length: u64,
+    word: &'a str,
+) -> Result<Ty, Fault<'a>>
+    requires target { IsTy (M.context maker.old).trees target }
+    requires no_param { Lacks M.is_strict (M.context maker.old).trees target.0 }
+    ensures grows { Grows (M.context maker.old) (M.context maker.new) }
+    ensures sort { IfOk result (λ ty. IsTy (M.context maker.new).trees ty) }
+    ensures no_param { IfOk result (λ ty. Lacks M.is_strict (M.context maker.new).trees ty.0) }
 {
-    if !cx.args_fit(kind) {
-        return Err(Fault::UnknownName(word));
-    }
-    Ok(cx.mk_ty(kind)?)
+    let constant = maker.constant(length)?;
+    maker.ty(TyKind::Array(target, constant), word)
 }
 
-/// The type over these arguments, which the word begins. Its fault is that of `fitting`.
-pub fn construct<'a>(
-    cx: &mut Cx,
+/// The type over these arguments, which the word begins.
+pub fn construct<'a, M: Maker>(
+    maker: &mut M,
     constructor: Constructor,
     list: Vec<GenericArg>,
     word: &'a str,
 ) -> Result<Ty, Fault<'a>>
-    requires fit { ListFits cx.old.trees list.items }
-    requires no_param { ListLacksParam cx.old.trees list.items }
-    ensures grows { Grows cx.old cx.new }
-    ensures sort { IfOk result (λ ty. IsTy cx.new.trees ty) }
-    ensures no_param { IfOk result (λ ty. LacksParam cx.new.trees ty.0) }
+    requires fit { ListFits (M.context maker.old).trees list.items }
+    requires no_param { ListLacks M.is_strict (M.context maker.old).trees list.items }
+    ensures grows { Grows (M.context maker.old) (M.context maker.new) }
+    ensures sort { IfOk result (λ ty. IsTy (M.context maker.new).trees ty) }
+    ensures no_param { IfOk result (λ ty. Lacks M.is_strict (M.context maker.new).trees ty.0) }
 {
-    let args = cx.mk_arg_list(list)?;
+    let args = maker.args(list)?;
     let kind = match constructor {
         Constructor::Tuple => TyKind::Tuple(args),
         Constructor::Adt(id) => TyKind::Adt(id, args),
         Constructor::Projection(id) => TyKind::Alias(AliasTy::projection(id, args)),
+        Constructor::Opaque(id) => TyKind::Alias(AliasTy {
+            kind: AliasKind::Opaque,
+            id,
+            args,
+        }),
     };
-    fitting(cx, kind, word)
+    maker.ty(kind, word)
 }
 
-/// The `dyn` type of these bounds, which the word begins; `Fault::UnknownName` comes where one of them is
-/// by no definition that takes its arguments.
-pub fn dynamic<'a>(
-    cx: &mut Cx,
-    bounds: &[Binder<ExistentialPredicate>],
+/// The pointer to functions from these types to the other one, which the word begins.
+pub fn fn_pointer<'a, M: Maker>(
+    maker: &mut M,
+    list: Vec<GenericArg>,
+    output: Ty,
     word: &'a str,
 ) -> Result<Ty, Fault<'a>>
-    requires fit { BoundsFit cx.old.trees bounds.now }
-    requires principal { AtMostOnePrincipal bounds.now }
-    requires no_param { BoundsLackParam cx.old.trees bounds.now }
-    ensures grows { Grows cx.old cx.new }
-    ensures sort { IfOk result (λ ty. IsTy cx.new.trees ty) }
-    ensures no_param { IfOk result (λ ty. LacksParam cx.new.trees ty.0) }
+    requires fit { ListFits (M.context maker.old).trees list.items }
+    requires no_param { ListLacks M.is_strict (M.context maker.old).trees list.items }
+    requires output { IsTy (M.context maker.old).trees output }
+    requires output_no_param { Lacks M.is_strict (M.context maker.old).trees output.0 }
+    ensures grows { Grows (M.context maker.old) (M.context maker.new) }
+    ensures sort { IfOk result (λ ty. IsTy (M.context maker.new).trees ty) }
+    ensures no_param { IfOk result (λ ty. Lacks M.is_strict (M.context maker.new).trees ty.0) }
 {
-    if !cx.bounds_args_fit(bounds) {
-        return Err(Fault::UnknownName(word));
-    }
-    let preds = cx.mk_preds(bounds)?;
-    let region = cx.mk_region(RegionKind::Static)?;
-    Ok(cx.mk_ty(TyKind::Dynamic(preds, region))?)
+    let inputs = maker.args(list)?;
+    let vars = maker.no_vars()?;
+    let value = FnSig {
+        inputs,
+        output,
+        safe: true,
+        rust_abi: true,
+        variadic: false,
+    };
+    maker.ty(TyKind::FnPtr(Binder { vars, value }), word)
+}
+
+/// The `dyn` type of these bounds, which the word begins.
+pub fn dyn_type<'a, M: Maker>(
+    maker: &mut M,
+    bounds: Vec<Binder<ExistentialPredicate>>,
+    word: &'a str,
+) -> Result<Ty, Fault<'a>>
+    requires fit { BoundsFit (M.context maker.old).trees bounds.items }
+    requires principal { AtMostOnePrincipal bounds.items }
+    requires no_param { BoundsLack M.is_strict (M.context maker.old).trees bounds.items }
+    ensures grows { Grows (M.context maker.old) (M.context maker.new) }
+    ensures sort { IfOk result (λ ty. IsTy (M.context maker.new).trees ty) }
+    ensures no_param { IfOk result (λ ty. Lacks M.is_strict (M.context maker.new).trees ty.0) }
+{
+    let preds = maker.bounds(bounds.as_slice(), word)?;
+    let region = maker.static_region()?;
+    maker.ty(TyKind::Dynamic(preds, region), word)
 }
 
 /// The bound by the auto trait.
-pub fn auto_bound<'a>(cx: &mut Cx, id: TraitId) -> Result<Binder<ExistentialPredicate>, Fault<'a>>
-    ensures grows { Grows cx.old cx.new }
-    ensures fits { IfOk result (λ bound. PredFits cx.new.trees bound) }
-    ensures no_param { IfOk result (λ bound. BoundLacksParam cx.new.trees bound) }
+pub fn auto_bound<'a, M: Maker>(
+    maker: &mut M,
+    id: TraitId,
+) -> Result<Binder<ExistentialPredicate>, Fault<'a>>
+    ensures grows { Grows (M.context maker.old) (M.context maker.new) }
+    ensures fits { IfOk result (λ bound. PredFits (M.context maker.new).trees bound) }
+    ensures no_param { IfOk result (λ bound. BoundLacks M.is_strict (M.context maker.new).trees bound) }
     ensures kind { IfOk result (λ bound. names_trait bound.value ≡ false) }
 {
-    let vars = cx.mk_vars(&[])?;
+    let vars = maker.no_vars()?;
     Ok(Binder {
         vars,
         value: ExistentialPredicate::AutoTrait(id),
@@ -134,19 +194,19 @@ pub fn auto_bound<'a>(cx: &mut Cx, id: TraitId) -> Result<Binder<ExistentialPred
 }
 
 /// The bound by the trait with these arguments.
-pub fn trait_bound<'a>(
-    cx: &mut Cx,
+pub fn trait_bound<'a, M: Maker>(
+    maker: &mut M,
     id: TraitId,
     list: Vec<GenericArg>,
 ) -> Result<Binder<ExistentialPredicate>, Fault<'a>>
-    requires fit { ListFits cx.old.trees list.items }
-    requires no_param { ListLacksParam cx.old.trees list.items }
-    ensures grows { Grows cx.old cx.new }
-    ensures fits { IfOk result (λ bound. PredFits cx.new.trees bound) }
-    ensures no_param { IfOk result (λ bound. BoundLacksParam cx.new.trees bound) }
+    requires fit { ListFits (M.context maker.old).trees list.items }
+    requires no_param { ListLacks M.is_strict (M.context maker.old).trees list.items }
+    ensures grows { Grows (M.context maker.old) (M.context maker.new) }
+    ensures fits { IfOk result (λ bound. PredFits (M.context maker.new).trees bound) }
+    ensures no_param { IfOk result (λ bound. BoundLacks M.is_strict (M.context maker.new).trees bound) }
 {
-    let args = cx.mk_arg_list(list)?;
-    let vars = cx.mk_vars(&[])?;
+    let args = maker.args(list)?;
+    let vars = maker.no_vars()?;
     Ok(Binder {
         vars,
         value: ExistentialPredicate::Trait(ExistentialTraitRef { def_id: id, args }),
@@ -154,23 +214,23 @@ pub fn trait_bound<'a>(
 }
 
 /// The bound by the associated type with these arguments of its trait, which is the type.
-pub fn projection_bound<'a>(
-    cx: &mut Cx,
+pub fn projection_bound<'a, M: Maker>(
+    maker: &mut M,
     id: AssocId,
     list: Vec<GenericArg>,
     term: Ty,
 ) -> Result<Binder<ExistentialPredicate>, Fault<'a>>
-    requires list { ListFits cx.old.trees list.items }
-    requires list_no_param { ListLacksParam cx.old.trees list.items }
-    requires term { IsTy cx.old.trees term }
-    requires term_no_param { LacksParam cx.old.trees term.0 }
-    ensures grows { Grows cx.old cx.new }
-    ensures fits { IfOk result (λ bound. PredFits cx.new.trees bound) }
-    ensures no_param { IfOk result (λ bound. BoundLacksParam cx.new.trees bound) }
+    requires list { ListFits (M.context maker.old).trees list.items }
+    requires list_no_param { ListLacks M.is_strict (M.context maker.old).trees list.items }
+    requires term { IsTy (M.context maker.old).trees term }
+    requires term_no_param { Lacks M.is_strict (M.context maker.old).trees term.0 }
+    ensures grows { Grows (M.context maker.old) (M.context maker.new) }
+    ensures fits { IfOk result (λ bound. PredFits (M.context maker.new).trees bound) }
+    ensures no_param { IfOk result (λ bound. BoundLacks M.is_strict (M.context maker.new).trees bound) }
     ensures kind { IfOk result (λ bound. names_trait bound.value ≡ false) }
 {
-    let args = cx.mk_arg_list(list)?;
-    let vars = cx.mk_vars(&[])?;
+    let args = maker.args(list)?;
+    let vars = maker.no_vars()?;
     Ok(Binder {
         vars,
         value: ExistentialPredicate::Projection(ExistentialProjection {
@@ -179,4 +239,38 @@ pub fn projection_bound<'a>(
             term,
         }),
     })
+}
+
+/// The clause that the trait holds.
+pub fn trait_clause<'a>(draft: &mut Draft, trait_ref: TraitRef) -> Result<Clause, Fault<'a>>
+    requires { IsArgs draft.old.builder.trees trait_ref.args }
+    ensures { IfOk result (λ clause. IsClause draft.new.builder.trees clause) }
+{
+    let value = ClauseKind::Trait(TraitPredicate {
+        trait_ref,
+        polarity: PredicatePolarity::Positive,
+    });
+    let vars = draft.no_vars()?;
+    Ok(draft.builder.mk_clause(Binder { vars, value })?)
+}
+
+/// The clause that the associated type with these arguments, of which the first is the self type, is the type.
+pub fn projection_clause<'a>(
+    draft: &mut Draft,
+    id: AssocId,
+    list: Vec<GenericArg>,
+    term: Ty,
+) -> Result<Clause, Fault<'a>>
+    requires list { ListFits draft.old.builder.trees list.items }
+    requires term { IsTy draft.old.builder.trees term }
+    ensures { IfOk result (λ clause. IsClause draft.new.builder.trees clause) }
+{
+    let args = draft.args(list)?;
+    let vars = draft.no_vars()?;
+    let projection_term = AliasTerm { def_id: id, args };
+    let value = ClauseKind::Projection(ProjectionPredicate {
+        projection_term,
+        term,
+    });
+    Ok(draft.builder.mk_clause(Binder { vars, value })?)
 }

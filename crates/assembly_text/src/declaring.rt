@@ -2,12 +2,15 @@
 
 use crate::asking::Asking;
 use crate::faults::Fault;
+use crate::making::Draft;
 use crate::names::{Item, NamedTrait, Names};
-use crate::words::Words;
+use crate::types::{DEEPEST, Scope};
+use crate::words::{Words, listed};
 use candidate_ir::decl::builder::DeclsBuilder;
+use candidate_ir::decl::contents::{AliasBoundKind, ImplId, ImplPolarity, LangItem, Sizedness};
 use candidate_ir::decl::context::Cx;
 use candidate_ir::decl::definition::{AdtFlags, AdtShape, AssocKind, CrateId, TraitFlags};
-use candidate_ir::ir::kinds::VarKind;
+use candidate_ir::ir::kinds::{AliasId, Clause, TraitId, Ty, VarKind};
 use std::alloc::{AllocError, Global};
 
 /// How many crates there are.
@@ -21,15 +24,101 @@ pub enum Declaration {
     Foreign,
     Trait,
     Assoc,
+    Opaque,
+    Impl,
+    Field,
+    Constraint(Sizedness),
+    Unsizing,
+    Clause(ClausePlace),
+    Default,
+    Specializes,
+    Lang,
+    Norm,
+    Mode,
+}
+
+/// Where a clause is put.
+#[derive(Clone, Copy)]
+pub enum ClausePlace {
+    Super,
+    Where,
+    Bound(AliasBoundKind),
+    ImplWhere,
+    Environment,
+}
+
+/// To what a clause is given.
+#[derive(Clone, Copy)]
+enum Owner {
+    Super(TraitId),
+    Where(TraitId),
+    Bound(AliasBoundKind, AliasId),
+    Impl(ImplId),
+    Environment,
+}
+
+/// In which phase of a compiler goals are asked.
+#[derive(Clone, Copy)]
+pub enum Mode {
+    Coherence,
+    Analysis,
+    Borrowck,
+    PostBorrowckAnalysis,
+    PostAnalysis,
+}
+
+const MODES: [(&str, Mode); 5] = [
+    ("coherence", Mode::Coherence),
+    ("analysis", Mode::Analysis),
+    ("borrowck", Mode::Borrowck),
+    ("post_borrowck", Mode::PostBorrowckAnalysis),
+    ("post_analysis", Mode::PostAnalysis),
+];
+
+const POLARITIES: [(&str, ImplPolarity); 3] = [
+    ("+", ImplPolarity::Positive),
+    ("-", ImplPolarity::Negative),
+    ("reservation", ImplPolarity::Reservation),
+];
+
+const LANG_ITEMS: [(&str, LangItem); 16] = [
+    ("Sized", LangItem::Sized),
+    ("MetaSized", LangItem::MetaSized),
+    ("Copy", LangItem::Copy),
+    ("Clone", LangItem::Clone),
+    ("TrivialClone", LangItem::TrivialClone),
+    ("Fn", LangItem::Fn),
+    ("FnMut", LangItem::FnMut),
+    ("FnOnce", LangItem::FnOnce),
+    ("FnPtrTrait", LangItem::FnPtrTrait),
+    ("Tuple", LangItem::Tuple),
+    ("PointeeTrait", LangItem::PointeeTrait),
+    ("DiscriminantKind", LangItem::DiscriminantKind),
+    ("Destruct", LangItem::Destruct),
+    ("Drop", LangItem::Drop),
+    (
+        "BikeshedGuaranteedNoDrop",
+        LangItem::BikeshedGuaranteedNoDrop,
+    ),
+    ("Unsize", LangItem::Unsize),
+];
+
+/// What goals are asked under, besides the declarations.
+#[derive(Drop)]
+pub struct Given {
+    /// The clauses that hold.
+    pub clauses: Vec<Clause>,
+    /// Aliases, each with what it is normalised to.
+    pub normal_forms: Vec<(Ty, Ty)>,
+    pub mode: Mode,
 }
 
 /// What is declared so far.
 #[derive(Drop)]
 pub struct Declaring<'a> {
-    alloc: Global,
-    names: Names<'a>,
-    builder: DeclsBuilder,
+    scope: Scope<'a, Draft>,
     parameters: TypeParameters,
+    given: Given,
 }
 
 /// Parameters that are types, so many as were asked for at most.
@@ -56,12 +145,25 @@ impl<'a> Declaring<'a> {
         for _ in 0..CRATES {
             builder.add_crate()?;
         }
-        Ok(Declaring {
-            alloc,
-            names: Names::new(alloc),
+        let maker = Draft {
             builder,
+            has_parameters: true,
+            is_alias: false,
+            has_alias: false,
+        };
+        Ok(Declaring {
+            scope: Scope {
+                alloc,
+                names: Names::new(alloc),
+                maker,
+            },
             parameters: TypeParameters {
                 kinds: Vec::new(alloc),
+            },
+            given: Given {
+                clauses: Vec::new(alloc),
+                normal_forms: Vec::new(alloc),
+                mode: Mode::PostAnalysis,
             },
         })
     }
@@ -72,37 +174,60 @@ impl<'a> Declaring<'a> {
         declaration: Declaration,
         mut words: Words<'a>,
     ) -> Result<(), Fault<'a>> {
+        let is_given = matches!(
+            declaration,
+            Declaration::Norm | Declaration::Clause(ClausePlace::Environment)
+        );
+        self.scope.maker.has_parameters = !is_given;
         match declaration {
             Declaration::Local => self.local(&mut words),
             Declaration::Adt => self.adt(&mut words),
             Declaration::Foreign => self.foreign(&mut words),
             Declaration::Trait => self.trait_line(&mut words),
             Declaration::Assoc => self.assoc(&mut words),
+            Declaration::Opaque => self.opaque(&mut words),
+            Declaration::Impl => self.impl_line(&mut words),
+            Declaration::Field => self.field(&mut words),
+            Declaration::Constraint(sizedness) => self.constraint(sizedness, &mut words),
+            Declaration::Unsizing => self.unsizing(&mut words),
+            Declaration::Clause(place) => self.clause(place, &mut words),
+            Declaration::Default => self.default_line(&mut words),
+            Declaration::Specializes => self.specializes(&mut words),
+            Declaration::Lang => self.lang(&mut words),
+            Declaration::Norm => self.norm(&mut words),
+            Declaration::Mode => self.mode(&mut words),
         }
     }
 
     /// What can be asked once all is declared. It has an error where the declarations have a fault.
     pub fn finish(self) -> Result<Asking<'a>, Fault<'a>> {
-        let Declaring {
+        let Declaring { scope, given, .. } = self;
+        let Scope {
             alloc,
             names,
-            builder,
-            ..
-        } = self;
-        Ok(Asking::new(alloc, names, Cx::new(builder.finish()?)))
+            maker,
+        } = scope;
+        let Draft { builder, .. } = maker;
+        let maker = Cx::new(builder.finish()?);
+        let scope = Scope {
+            alloc,
+            names,
+            maker,
+        };
+        Ok(Asking::new(scope, given))
     }
 
     fn local(&mut self, words: &mut Words<'a>) -> Result<(), Fault<'a>> {
         let local = crate_id(words)?;
         words.end()?;
-        self.builder.set_local(local);
+        self.scope.maker.builder.set_local(local);
         Ok(())
     }
 
     /// The crate of something new, and its name.
     fn declared(&self, words: &mut Words<'a>) -> Result<(CrateId, &'a str), Fault<'a>> {
         let krate = crate_id(words)?;
-        Ok((krate, self.names.unused(words.word()?)?))
+        Ok((krate, self.scope.names.unused(words.word()?)?))
     }
 
     fn adt(&mut self, words: &mut Words<'a>) -> Result<(), Fault<'a>> {
@@ -110,16 +235,20 @@ impl<'a> Declaring<'a> {
         let arity = words.number(u16::MAX)?;
         let (shape, flags) = adt_flags(words)?;
         let parameters = self.parameters.first(arity)?;
-        let id = self.builder.add_adt(krate, shape, parameters, flags)?;
-        self.names.add_definition(name, Item::Adt(id, arity))?;
+        let id = self
+            .scope
+            .maker
+            .builder
+            .add_adt(krate, shape, parameters, flags)?;
+        self.scope.names.add_definition(name, Item::Adt(id, arity))?;
         Ok(())
     }
 
     fn foreign(&mut self, words: &mut Words<'a>) -> Result<(), Fault<'a>> {
         let (krate, name) = self.declared(words)?;
         words.end()?;
-        let id = self.builder.add_foreign(krate)?;
-        self.names.add_definition(name, Item::Foreign(id))?;
+        let id = self.scope.maker.builder.add_foreign(krate)?;
+        self.scope.names.add_definition(name, Item::Foreign(id))?;
         Ok(())
     }
 
@@ -128,22 +257,175 @@ impl<'a> Declaring<'a> {
         let arity = words.number(u16::MAX)?;
         let flags = trait_flags(words)?;
         let parameters = self.parameters.first(arity)?;
-        let id = self.builder.add_trait(krate, parameters, flags)?;
+        let id = self
+            .scope
+            .maker
+            .builder
+            .add_trait(krate, parameters, flags)?;
         let is_auto = flags.auto;
-        self.names
+        self.scope
+            .names
             .add_definition(name, Item::Trait(NamedTrait { id, arity, is_auto }))?;
         Ok(())
     }
 
     fn assoc(&mut self, words: &mut Words<'a>) -> Result<(), Fault<'a>> {
-        let of = self.names.trait_named(words.word()?)?;
-        let name = self.names.unused(words.word()?)?;
+        let of = self.scope.names.trait_named(words.word()?)?;
+        let name = self.scope.names.unused(words.word()?)?;
         let requires_sized_self = assoc_flag(words)?;
         let id = self
+            .scope
+            .maker
             .builder
             .add_assoc(of.id, AssocKind::Type, requires_sized_self)?;
-        self.names.add_definition(name, Item::Assoc(id, of.arity))?;
+        self.scope
+            .names
+            .add_definition(name, Item::Assoc(id, of.arity))?;
         Ok(())
+    }
+
+    fn opaque(&mut self, words: &mut Words<'a>) -> Result<(), Fault<'a>> {
+        let (krate, name) = self.declared(words)?;
+        let arity = words.number(u16::MAX)?;
+        let hidden = self.last_type(words)?;
+        let parameters = self.parameters.first(arity)?;
+        let id = self
+            .scope
+            .maker
+            .builder
+            .add_opaque(krate, parameters, hidden)?;
+        self.scope
+            .names
+            .add_definition(name, Item::Opaque(id, arity))?;
+        Ok(())
+    }
+
+    fn impl_line(&mut self, words: &mut Words<'a>) -> Result<(), Fault<'a>> {
+        let (krate, name) = self.declared(words)?;
+        let arity = words.number(u16::MAX)?;
+        let polarity = flag(&POLARITIES, words)?;
+        let trait_ref = self.scope.read_trait_ref(words)?;
+        words.end()?;
+        let parameters = self.parameters.first(arity)?;
+        let builder = &mut self.scope.maker.builder;
+        let id = builder.add_impl(krate, parameters, trait_ref, polarity)?;
+        self.scope.names.add(name, Item::Impl(id))?;
+        Ok(())
+    }
+
+    /// The type that ends the line.
+    fn last_type(&mut self, words: &mut Words<'a>) -> Result<Ty, Fault<'a>> {
+        let ty = self.scope.read_type(words, DEEPEST)?;
+        words.end()?;
+        Ok(ty)
+    }
+
+    fn field(&mut self, words: &mut Words<'a>) -> Result<(), Fault<'a>> {
+        let adt = self.scope.names.adt_named(words.word()?)?;
+        let ty = self.last_type(words)?;
+        self.scope.maker.builder.push_field(adt, ty)?;
+        Ok(())
+    }
+
+    fn constraint(&mut self, sizedness: Sizedness, words: &mut Words<'a>) -> Result<(), Fault<'a>> {
+        let adt = self.scope.names.adt_named(words.word()?)?;
+        let ty = self.last_type(words)?;
+        self.scope.maker.builder.set_constraint(adt, sizedness, ty);
+        Ok(())
+    }
+
+    fn unsizing(&mut self, words: &mut Words<'a>) -> Result<(), Fault<'a>> {
+        let adt = self.scope.names.adt_named(words.word()?)?;
+        let parameter = u32::from(words.number(u16::MAX)?);
+        words.end()?;
+        self.scope.maker.builder.push_unsizing(adt, parameter)?;
+        Ok(())
+    }
+
+    fn clause(&mut self, place: ClausePlace, words: &mut Words<'a>) -> Result<(), Fault<'a>> {
+        let owner = self.owner(place, words)?;
+        let clause = self.scope.read_clause(words)?;
+        words.end()?;
+        self.give(owner, clause)
+    }
+
+    /// What the line gives a clause to.
+    fn owner(&self, place: ClausePlace, words: &mut Words<'a>) -> Result<Owner, Fault<'a>> {
+        let names = &self.scope.names;
+        Ok(match place {
+            ClausePlace::Super => Owner::Super(names.trait_named(words.word()?)?.id),
+            ClausePlace::Where => Owner::Where(names.trait_named(words.word()?)?.id),
+            ClausePlace::Bound(kind) => Owner::Bound(kind, names.alias_named(words.word()?)?),
+            ClausePlace::ImplWhere => Owner::Impl(names.impl_named(words.word()?)?),
+            ClausePlace::Environment => Owner::Environment,
+        })
+    }
+
+    fn give(&mut self, owner: Owner, clause: Clause) -> Result<(), Fault<'a>> {
+        let builder = &mut self.scope.maker.builder;
+        match owner {
+            Owner::Super(id) => builder.push_super(id, clause)?,
+            Owner::Where(id) => builder.push_where(id, clause)?,
+            Owner::Bound(kind, id) => builder.push_bound(id, kind, clause)?,
+            Owner::Impl(id) => builder.push_impl_where(id, clause)?,
+            Owner::Environment => self.given.clauses.push(clause)?,
+        }
+        Ok(())
+    }
+
+    fn default_line(&mut self, words: &mut Words<'a>) -> Result<(), Fault<'a>> {
+        let of = self.scope.names.impl_named(words.word()?)?;
+        words.end()?;
+        self.scope.maker.builder.set_default(of);
+        Ok(())
+    }
+
+    fn specializes(&mut self, words: &mut Words<'a>) -> Result<(), Fault<'a>> {
+        let of = self.scope.names.impl_named(words.word()?)?;
+        let other = self.scope.names.impl_named(words.word()?)?;
+        words.end()?;
+        self.scope.maker.builder.specializes(of, other)?;
+        Ok(())
+    }
+
+    fn lang(&mut self, words: &mut Words<'a>) -> Result<(), Fault<'a>> {
+        let item = flag(&LANG_ITEMS, words)?;
+        let of = self.scope.names.trait_named(words.word()?)?;
+        words.end()?;
+        self.scope.maker.builder.lang_item(item, of.id);
+        Ok(())
+    }
+
+    /// An alias, and then a type without one, which it is normalised to.
+    fn norm(&mut self, words: &mut Words<'a>) -> Result<(), Fault<'a>> {
+        let alias = self.scope.read_type(words, DEEPEST)?;
+        if !self.scope.maker.is_alias {
+            return Err(Fault::NotAnAlias);
+        }
+        self.scope.maker.has_alias = false;
+        let ty = self.scope.read_type(words, DEEPEST)?;
+        if self.scope.maker.has_alias {
+            return Err(Fault::Alias);
+        }
+        words.end()?;
+        self.given.normal_forms.push((alias, ty))?;
+        Ok(())
+    }
+
+    fn mode(&mut self, words: &mut Words<'a>) -> Result<(), Fault<'a>> {
+        let mode = flag(&MODES, words)?;
+        words.end()?;
+        self.given.mode = mode;
+        Ok(())
+    }
+}
+
+/// What the next word says by the table, else `Fault::BadFlag`.
+fn flag<'a, T: Copy>(table: &[(&'static str, T)], words: &mut Words<'a>) -> Result<T, Fault<'a>> {
+    let word = words.word()?;
+    match listed(table, word) {
+        Some(value) => Ok(value),
+        None => Err(Fault::BadFlag(word)),
     }
 }
 

@@ -31,8 +31,14 @@ pub enum Fault<'a> {
     BadNumber(&'a str),
     /// The word is none of the flags that may stand here.
     BadFlag(&'a str),
-    /// A parameter of a definition stands in a query.
+    /// A variable stands in a declaration.
+    Variable,
+    /// A parameter of a definition stands where none may: in a query, and in what queries take as given.
     Parameter,
+    /// A type isn't an alias, where only one may stand.
+    NotAnAlias,
+    /// An alias stands in a type that has to be without.
+    Alias,
     /// A `dyn` type has a second trait that isn't an auto trait.
     TwoPrincipals,
     /// Words are left over.
@@ -91,7 +97,10 @@ impl<'a> Fault<'a> {
             Fault::BadName(_) => "bad name ",
             Fault::BadNumber(_) => "bad number ",
             Fault::BadFlag(_) => "bad flag ",
+            Fault::Variable => "variable",
             Fault::Parameter => "parameter",
+            Fault::NotAnAlias => "not an alias",
+            Fault::Alias => "alias",
             Fault::TwoPrincipals => "two principals",
             Fault::LongLine => "long line",
             Fault::Stop(_) => "stop ",

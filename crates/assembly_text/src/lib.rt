@@ -6,6 +6,7 @@ mod building;
 mod declaring;
 mod faults;
 mod lines;
+mod making;
 mod names;
 mod notation;
 pub mod run;

@@ -4,9 +4,10 @@ ghost use Rattle.std.specs.Prelude.{◌≡◌};
 ghost use Rattle.assembly_text.specs.declared.lines.Halt.TheVariants as halt;
 
 use crate::asking::{Asking, Query};
-use crate::declaring::{Declaration, Declaring};
+use crate::declaring::{ClausePlace, Declaration, Declaring};
 use crate::faults::Fault;
-use crate::words::Words;
+use crate::words::{Words, listed};
+use candidate_ir::decl::contents::{AliasBoundKind, Sizedness};
 use memchr::memchr;
 use std::alloc::Global;
 use std::io;
@@ -164,16 +165,46 @@ fn write_answer<'a, W: Write>(
     Ok(())
 }
 
+const QUERIES: [(&str, Query); 2] = [("orphan", Query::Orphan), ("knowable", Query::Knowable)];
+
+const DECLARATIONS: [(&str, Declaration); 22] = [
+    ("adt", Declaration::Adt),
+    ("trait", Declaration::Trait),
+    ("impl", Declaration::Impl),
+    ("field", Declaration::Field),
+    ("assoc", Declaration::Assoc),
+    ("foreign", Declaration::Foreign),
+    ("opaque", Declaration::Opaque),
+    ("super", Declaration::Clause(ClausePlace::Super)),
+    ("where", Declaration::Clause(ClausePlace::Where)),
+    ("iwhere", Declaration::Clause(ClausePlace::ImplWhere)),
+    (
+        "bound",
+        Declaration::Clause(ClausePlace::Bound(AliasBoundKind::SelfBounds)),
+    ),
+    (
+        "nbound",
+        Declaration::Clause(ClausePlace::Bound(AliasBoundKind::NonSelfBounds)),
+    ),
+    ("env", Declaration::Clause(ClausePlace::Environment)),
+    ("norm", Declaration::Norm),
+    ("sized", Declaration::Constraint(Sizedness::Sized)),
+    ("metasized", Declaration::Constraint(Sizedness::MetaSized)),
+    ("unsizing", Declaration::Unsizing),
+    ("default", Declaration::Default),
+    ("specializes", Declaration::Specializes),
+    ("lang", Declaration::Lang),
+    ("local", Declaration::Local),
+    ("mode", Declaration::Mode),
+];
+
 /// The command of that name, else `Fault::UnknownWord`.
 fn command_named<'a>(word: &str) -> Result<Command, Fault<'a>> {
-    Ok(match word {
-        "local" => Command::Declaration(Declaration::Local),
-        "adt" => Command::Declaration(Declaration::Adt),
-        "foreign" => Command::Declaration(Declaration::Foreign),
-        "trait" => Command::Declaration(Declaration::Trait),
-        "assoc" => Command::Declaration(Declaration::Assoc),
-        "orphan" => Command::Query(Query::Orphan),
-        "knowable" => Command::Query(Query::Knowable),
-        _ => return Err(Fault::UnknownWord),
-    })
+    if let Some(query) = listed(&QUERIES, word) {
+        return Ok(Command::Query(query));
+    }
+    match listed(&DECLARATIONS, word) {
+        Some(declaration) => Ok(Command::Declaration(declaration)),
+        None => Err(Fault::UnknownWord),
+    }
 }

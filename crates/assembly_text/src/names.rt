@@ -4,7 +4,8 @@ ghost use Rattle.std.specs.Prelude.{◌≡◌, ◌⊎◌, IfOk, IfErr, Some, Non
 
 use crate::faults::Fault;
 use crate::words::begins_with_letter;
-use candidate_ir::ir::kinds::{AdtId, AssocId, ForeignId, TraitId};
+use candidate_ir::decl::contents::ImplId;
+use candidate_ir::ir::kinds::{AdtId, AliasId, AssocId, ForeignId, TraitId};
 use std::alloc::{AllocError, Global};
 use std::collections::BTreeMap;
 
@@ -28,27 +29,30 @@ pub enum Item {
     Trait(NamedTrait),
     /// An associated type, with how many arguments it takes after `Self`.
     Assoc(AssocId, u16),
+    /// An opaque type, with how many arguments it takes.
+    Opaque(AliasId, u16),
+    Impl(ImplId),
 }
 
-/// What was declared under a name.
+/// A name, and what was declared under it.
 #[derive(Clone, Copy)]
-struct Definition<'a> {
+struct Entry<'a> {
     name: &'a str,
     item: Item,
 }
 
-/// Where a definition can stand, to be found by a number that is made of its name.
+/// Where an entry can stand, to be found by a number that is made of its name.
 #[derive(Clone, Copy)]
 enum Place {
     Free,
-    /// The upper half of the number, and the definition's own number.
+    /// The upper half of the number, and the entry's own number.
     Taken(u32, u32),
 }
 
-/// How many places there are at first. There are always twice as many as definitions, or more.
+/// How many places there are at first. There are always twice as many as entries, or more.
 const FIRST_PLACES: usize = 64;
 
-/// In how many places, one behind the other, a definition may stand.
+/// In how many places, one behind the other, an entry may stand.
 const TRIED_PLACES: usize = 8;
 
 /// The names declared so far, which are words of the text.
@@ -57,11 +61,13 @@ const TRIED_PLACES: usize = 8;
 /// them slow to find.
 #[derive(Drop)]
 pub struct Names<'a> {
-    /// The definitions by their numbers.
-    definitions: Vec<Definition<'a>>,
+    /// What was declared, in its order.
+    entries: Vec<Entry<'a>>,
+    /// Which entry each definition is, by the numbers of definitions. Impls are none.
+    definitions: Vec<u32>,
     /// Their count is a power of two.
     places: Vec<Place>,
-    /// The definitions whose places were all taken, by their names after numbers made of them.
+    /// The entries whose places were all taken, by their names after numbers made of them.
     crowded: BTreeMap<(u64, &'a str), u32>,
 }
 
@@ -69,6 +75,7 @@ impl<'a> Names<'a> {
     /// No names.
     pub fn new(alloc: Global) -> Self {
         Names {
+            entries: Vec::new(alloc),
             definitions: Vec::new(alloc),
             places: Vec::new(alloc),
             crowded: BTreeMap::new(alloc),
@@ -111,14 +118,45 @@ impl<'a> Names<'a> {
         }
     }
 
+    /// The data type of that name, else `Fault::UnknownName`.
+    pub fn adt_named(&self, word: &'a str) -> Result<AdtId, Fault<'a>>
+        ensures { IfErr result (λ e. e ≡ Fault.UnknownName word.entry) }
+    {
+        match self.find(word) {
+            Some(Item::Adt(id, _)) => Ok(id),
+            _ => Err(Fault::UnknownName(word)),
+        }
+    }
+
+    /// The associated type or opaque type of that name, else `Fault::UnknownName`.
+    pub fn alias_named(&self, word: &'a str) -> Result<AliasId, Fault<'a>>
+        ensures { IfErr result (λ e. e ≡ Fault.UnknownName word.entry) }
+    {
+        match self.find(word) {
+            Some(Item::Assoc(id, _)) => Ok(AliasId(id.0)),
+            Some(Item::Opaque(id, _)) => Ok(id),
+            _ => Err(Fault::UnknownName(word)),
+        }
+    }
+
+    /// The impl of that name, else `Fault::UnknownName`.
+    pub fn impl_named(&self, word: &'a str) -> Result<ImplId, Fault<'a>>
+        ensures { IfErr result (λ e. e ≡ Fault.UnknownName word.entry) }
+    {
+        match self.find(word) {
+            Some(Item::Impl(id)) => Ok(id),
+            _ => Err(Fault::UnknownName(word)),
+        }
+    }
+
     fn find(&self, word: &'a str) -> Option<Item> {
         let number = number_of(word);
         for step in 0..TRIED_PLACES {
-            let Place::Taken(upper, definition) = *self.places.get(self.index(number, step))? else {
+            let Place::Taken(upper, entry) = *self.places.get(self.index(number, step))? else {
                 return None;
             };
             if upper == upper_half(number) {
-                if let Some(item) = self.item_if_named(definition, word) {
+                if let Some(item) = self.item_if_named(entry, word) {
                     return Some(item);
                 }
             }
@@ -126,9 +164,9 @@ impl<'a> Names<'a> {
         self.item_if_named(*self.crowded.get(&(number, word))?, word)
     }
 
-    /// What the definition is, if that is its name.
-    fn item_if_named(&self, definition: u32, word: &str) -> Option<Item> {
-        let found = self.definitions.get(definition as usize)?;
+    /// What the entry is, if that is its name.
+    fn item_if_named(&self, entry: u32, word: &str) -> Option<Item> {
+        let found = self.entries.get(entry as usize)?;
         if found.name == word {
             Some(found.item)
         } else {
@@ -143,50 +181,64 @@ impl<'a> Names<'a> {
 
     /// Gives the name to the next definition.
     pub fn add_definition(&mut self, name: &'a str, item: Item) -> Result<(), AllocError> {
-        let Ok(next) = u32::try_from(self.definitions.len()) else {
-            return Err(AllocError);
-        };
-        self.definitions.push(Definition { name, item })?;
-        if self.definitions.len() <= self.places.len() / 2 {
-            self.settle(name, next)
+        let entry = self.next()?;
+        self.definitions.push(entry)?;
+        self.add(name, item)
+    }
+
+    /// Gives the name to what is no definition.
+    pub fn add(&mut self, name: &'a str, item: Item) -> Result<(), AllocError> {
+        let entry = self.next()?;
+        self.entries.push(Entry { name, item })?;
+        if self.entries.len() <= self.places.len() / 2 {
+            self.settle(name, entry)
         } else {
             self.settle_all()
         }
     }
 
-    /// Makes twice as many places, and gives each definition its own.
+    /// The number of the next entry.
+    fn next(&self) -> Result<u32, AllocError> {
+        u32::try_from(self.entries.len()).map_err(|_| AllocError)
+    }
+
+    /// Makes twice as many places, and gives each entry its own.
     fn settle_all(&mut self) -> Result<(), AllocError> {
         let count = self.places.len().saturating_mul(2).max(FIRST_PLACES);
         self.places.clear();
         self.places.resize(count, Place::Free)?;
-        for definition in 0..u32::MAX {
-            let Some(name) = self.definition(definition) else {
+        for entry in 0..u32::MAX {
+            let Some(name) = self.entry_name(entry) else {
                 break;
             };
-            self.settle(name, definition)?;
+            self.settle(name, entry)?;
         }
         Ok(())
     }
 
-    /// Gives the definition the first free place of those that its name may have.
-    fn settle(&mut self, name: &'a str, definition: u32) -> Result<(), AllocError> {
+    /// Gives the entry the first free place of those that its name may have.
+    fn settle(&mut self, name: &'a str, entry: u32) -> Result<(), AllocError> {
         let number = number_of(name);
         for step in 0..TRIED_PLACES {
             let index = self.index(number, step);
             if let Some(place) = self.places.get_mut(index) {
                 if let Place::Free = place {
-                    *place = Place::Taken(upper_half(number), definition);
+                    *place = Place::Taken(upper_half(number), entry);
                     return Ok(());
                 }
             }
         }
-        self.crowded.insert((number, name), definition)?;
+        self.crowded.insert((number, name), entry)?;
         Ok(())
     }
 
     /// The name of the definition of that number.
     pub fn definition(&self, number: u32) -> Option<&'a str> {
-        Some(self.definitions.get(number as usize)?.name)
+        self.entry_name(*self.definitions.get(number as usize)?)
+    }
+
+    fn entry_name(&self, entry: u32) -> Option<&'a str> {
+        Some(self.entries.get(entry as usize)?.name)
     }
 }
 

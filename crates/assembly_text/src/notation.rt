@@ -1,6 +1,6 @@
 //! The words that types are written in.
 
-ghost use Rattle.std.specs.Prelude.{IfOk, IfSome};
+ghost use Rattle.std.specs.Prelude.{◌≤◌, IfOk, IfSome};
 ghost use Rattle.assembly_text.specs.Notation.{IsChildless, IsLeaf};
 
 use crate::building::{Constructor, Pointer};
@@ -20,6 +20,8 @@ pub enum Head {
     Before(Pointer),
     /// So many types follow.
     Over(Constructor, u32),
+    /// So many types follow, and one more, which the function answers.
+    Fn(u16),
     /// So many bounds follow.
     Dyn(u16),
 }
@@ -27,7 +29,7 @@ pub enum Head {
 /// What the first word of a type makes of the words that follow, or none where only a name can say it.
 ///
 /// `Fault::BadNumber` comes where the number in the word is too great, `Fault::UnknownName` where
-/// the word has a mark, but no number, `Fault::Parameter` at a parameter.
+/// the word has a mark, but no number.
 pub fn head_of<'a>(word: &'a str) -> Result<Option<Head>, Fault<'a>>
     ensures { IfOk result (λ found. IfSome found IsChildless) }
 {
@@ -57,10 +59,13 @@ fn pointer_of(word: &str) -> Option<Pointer> {
 fn lettered_head<'a>(word: &'a str) -> Result<Option<Head>, Fault<'a>>
     ensures { IfOk result (λ found. IfSome found IsChildless) }
 {
-    match word.strip_prefix("dyn(") {
-        Some(rest) => Ok(Some(Head::Dyn(bracketed_number(word, rest)?))),
-        None => Ok(None),
+    if let Some(rest) = word.strip_prefix("dyn(") {
+        return Ok(Some(Head::Dyn(bracketed_number(word, rest)?)));
     }
+    if let Some(rest) = word.strip_prefix("fn(") {
+        return Ok(Some(Head::Fn(bracketed_number(word, rest)?)));
+    }
+    Ok(None)
 }
 
 fn marked_head<'a>(word: &'a str) -> Result<Option<Head>, Fault<'a>>
@@ -79,10 +84,21 @@ fn marked_head<'a>(word: &'a str) -> Result<Option<Head>, Fault<'a>>
         return Ok(Some(Head::Over(Constructor::Tuple, count)));
     }
     if let Some(digits) = word.strip_prefix('#') {
-        marked_number(word, digits, u16::MAX)?;
-        return Err(Fault::Parameter);
+        let index = u32::from(marked_number(word, digits, u16::MAX)?);
+        return Ok(Some(Head::Leaf(TyKind::Param(index))));
+    }
+    if let Some(rest) = word.strip_prefix('[') {
+        return Ok(Some(Head::Before(Pointer::Array(array_length(word, rest)?))));
     }
     Ok(None)
+}
+
+/// The number in the rest of a word after the bracket of an array.
+fn array_length<'a>(word: &'a str, rest: &str) -> Result<u64, Fault<'a>> {
+    match rest.strip_suffix(']') {
+        Some(digits) if is_digits(digits) => number_in(word, digits, u64::MAX),
+        _ => Err(Fault::UnknownName(word)),
+    }
 }
 
 /// The number in the rest of a word after its bracket.
@@ -95,7 +111,7 @@ fn bracketed_number<'a>(word: &'a str, rest: &str) -> Result<u16, Fault<'a>> {
 
 fn marked_number<'a>(word: &'a str, digits: &str, most: u16) -> Result<u16, Fault<'a>> {
     if is_digits(digits) {
-        number_in(word, digits, most)
+        Ok(number_in(word, digits, u64::from(most))? as u16)
     } else {
         Err(Fault::UnknownName(word))
     }

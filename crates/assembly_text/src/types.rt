@@ -3,24 +3,25 @@
 ghost use Rattle.std.specs.Prelude.{◌≡◌, ◌<◌, true, false, IfOk};
 ghost use Rattle.candidate_ir.specs.Context.{Grows};
 ghost use Rattle.candidate_ir.specs.References.{ArgumentsFit};
-ghost use Rattle.candidate_ir.specs.Words.{IsTy, IsArgs, IsPreds, KindFits, ListFits, PredFits, BoundsFit, AtMostOnePrincipal, names_trait};
+ghost use Rattle.candidate_ir.specs.Words.{IsTy, IsArgs, IsPreds, IsConst, IsClause, KindFits, ListFits, PredFits, BoundsFit, AtMostOnePrincipal, names_trait};
 ghost use Rattle.assembly_text.specs.Types.{IsNoPrincipal};
 ghost use Rattle.candidate_eval.specs.Calls.{HasNoParam};
-ghost use Rattle.assembly_text.specs.Notation.{IsChildless, IsLeaf};
-ghost use Rattle.assembly_text.specs.Params.{LacksParam, ListLacksParam, BoundLacksParam, BoundsLackParam};
+ghost use Rattle.assembly_text.specs.Notation.{IsChildless};
+ghost use Rattle.assembly_text.specs.Params.{Lacks, ListLacks, BoundLacks, BoundsLack};
 
 use crate::building::{
-    Constructor, Pointer, auto_bound, construct, dynamic, fitting, pointer_to, projection_bound,
-    trait_bound,
+    Constructor, auto_bound, construct, dyn_type, fn_pointer, leaf_type, pointer_to,
+    projection_bound, projection_clause, trait_bound, trait_clause,
 };
 use crate::faults::Fault;
-use crate::names::{Item, Names};
+use crate::making::{Draft, Maker};
+use crate::names::{Item, NamedTrait, Names};
 use crate::notation::{Head, head_of, word_of};
 use crate::words::Words;
 use candidate_ir::decl::context::Cx;
 use candidate_ir::ir::kinds::{
-    Args, AssocId, Binder, ExistentialPredicate, GenericArg, InferTy, Preds, TraitId, TraitRef, Ty,
-    TyKind,
+    Args, AssocId, Binder, Clause, Const, ConstKind, ExistentialPredicate, GenericArg, InferTy,
+    Preds, TraitId, TraitRef, Ty, TyKind,
 };
 use candidate_ir::ir::stop::Stop;
 use std::alloc::Global;
@@ -31,12 +32,12 @@ pub const DEEPEST: u16 = 1024;
 /// In the place of what a text can't spell.
 const UNSPELLED: &str = "?";
 
-/// The names that a line may use, and the context in which its types are made.
+/// The names that a line may use, and what its types are made in.
 #[derive(Drop)]
-pub struct Scope<'a> {
+pub struct Scope<'a, M> {
     pub alloc: Global,
     pub names: Names<'a>,
-    pub cx: Cx,
+    pub maker: M,
 }
 
 /// What a bound's name says of it, with how many types follow.
@@ -48,31 +49,36 @@ enum BoundHead {
     Projection(AssocId, u16),
 }
 
-impl<'a> Scope<'a> {
+impl<'a, M: Maker> Scope<'a, M> {
     /// The next type of a line, whose words may be nested that deep.
     ///
-    /// Besides the faults of its words and of their names, `Fault::Parameter` comes at a parameter,
-    /// and `Fault::Stop` where a word is nested deeper or a node can't be made.
+    /// Besides the faults of its words and of their names, `Fault::Parameter` and `Fault::Variable` come at a parameter and at
+    /// a variable where none may stand, and `Fault::Stop` where a word is nested deeper or a node can't be made.
     #[cycle(types)]
     pub fn read_type(&mut self, words: &mut Words<'a>, depth: u16) -> Result<Ty, Fault<'a>>
-        ensures grows { Grows self.old.cx self.new.cx }
-        ensures sort { IfOk result (λ ty. IsTy self.new.cx.trees ty) }
-        ensures no_param { IfOk result (λ ty. LacksParam self.new.cx.trees ty.0) }
+        ensures grows { Grows (M.context self.old.maker) (M.context self.new.maker) }
+        ensures sort { IfOk result (λ ty. IsTy (M.context self.new.maker).trees ty) }
+        ensures no_param { IfOk result (λ ty. Lacks M.is_strict (M.context self.new.maker).trees ty.0) }
     {
         let (word, head, below) = self.next_head(words, depth)?;
         match head {
-            Head::Leaf(kind) => leaf_type(&mut self.cx, kind, word),
+            Head::Leaf(kind) => leaf_type(&mut self.maker, kind, word),
             Head::Before(pointer) => {
                 let target = self.read_type(words, below)?;
-                type_before(&mut self.cx, pointer, target)
+                pointer_to(&mut self.maker, pointer, target, word)
             }
             Head::Over(constructor, count) => {
                 let list = self.read_types(words, count, below)?;
-                construct(&mut self.cx, constructor, list, word)
+                construct(&mut self.maker, constructor, list, word)
+            }
+            Head::Fn(count) => {
+                let inputs = self.read_types(words, u32::from(count), below)?;
+                let output = self.read_type(words, below)?;
+                fn_pointer(&mut self.maker, inputs, output, word)
             }
             Head::Dyn(count) => {
                 let bounds = self.read_bounds(words, count, below)?;
-                dyn_type(&mut self.cx, bounds, word)
+                dyn_type(&mut self.maker, bounds, word)
             }
         }
     }
@@ -85,9 +91,9 @@ impl<'a> Scope<'a> {
         count: u32,
         depth: u16,
     ) -> Result<Vec<GenericArg>, Fault<'a>>
-        ensures grows { Grows self.old.cx self.new.cx }
-        ensures fits { IfOk result (λ list. ListFits self.new.cx.trees list.items) }
-        ensures no_param { IfOk result (λ list. ListLacksParam self.new.cx.trees list.items) }
+        ensures grows { Grows (M.context self.old.maker) (M.context self.new.maker) }
+        ensures fits { IfOk result (λ list. ListFits (M.context self.new.maker).trees list.items) }
+        ensures no_param { IfOk result (λ list. ListLacks M.is_strict (M.context self.new.maker).trees list.items) }
     {
         let mut list = Vec::new(self.alloc);
         for _ in 0..count {
@@ -104,10 +110,10 @@ impl<'a> Scope<'a> {
         count: u16,
         depth: u16,
     ) -> Result<Vec<Binder<ExistentialPredicate>>, Fault<'a>>
-        ensures grows { Grows self.old.cx self.new.cx }
-        ensures fit { IfOk result (λ list. BoundsFit self.new.cx.trees list.items) }
+        ensures grows { Grows (M.context self.old.maker) (M.context self.new.maker) }
+        ensures fit { IfOk result (λ list. BoundsFit (M.context self.new.maker).trees list.items) }
         ensures principal { IfOk result (λ list. AtMostOnePrincipal list.items) }
-        ensures no_param { IfOk result (λ list. BoundsLackParam self.new.cx.trees list.items) }
+        ensures no_param { IfOk result (λ list. BoundsLack M.is_strict (M.context self.new.maker).trees list.items) }
     {
         let mut list = Vec::new(self.alloc);
         let mut has_principal = false;
@@ -127,41 +133,56 @@ impl<'a> Scope<'a> {
         has_principal: bool,
         depth: u16,
     ) -> Result<Binder<ExistentialPredicate>, Fault<'a>>
-        ensures grows { Grows self.old.cx self.new.cx }
-        ensures fits { IfOk result (λ bound. PredFits self.new.cx.trees bound) }
-        ensures no_param { IfOk result (λ bound. BoundLacksParam self.new.cx.trees bound) }
+        ensures grows { Grows (M.context self.old.maker) (M.context self.new.maker) }
+        ensures fits { IfOk result (λ bound. PredFits (M.context self.new.maker).trees bound) }
+        ensures no_param { IfOk result (λ bound. BoundLacks M.is_strict (M.context self.new.maker).trees bound) }
         ensures principal { IfOk result (λ bound. has_principal ≡ true → names_trait bound.value ≡ false) }
     {
         match self.next_bound_head(words, has_principal)? {
-            BoundHead::AutoTrait(id) => auto_bound(&mut self.cx, id),
+            BoundHead::AutoTrait(id) => auto_bound(&mut self.maker, id),
             BoundHead::Trait(id, count) => {
                 let list = self.read_types(words, u32::from(count), depth)?;
-                trait_bound(&mut self.cx, id, list)
+                trait_bound(&mut self.maker, id, list)
             }
             BoundHead::Projection(id, count) => {
                 let list = self.read_types(words, u32::from(count), depth)?;
                 let term = self.read_type(words, depth)?;
-                projection_bound(&mut self.cx, id, list, term)
+                projection_bound(&mut self.maker, id, list, term)
             }
         }
     }
 
     /// The next trait of a line, with its arguments. Its errors are those of its types.
     pub fn read_trait_ref(&mut self, words: &mut Words<'a>) -> Result<TraitRef, Fault<'a>>
-        ensures grows { Grows self.old.cx self.new.cx }
-        ensures sort { IfOk result (λ r. IsArgs self.new.cx.trees r.args) }
-        ensures no_param { IfOk result (λ r. HasNoParam self.new.cx r) }
-        ensures fit { IfOk result (λ r. ArgumentsFit self.new.cx r) }
+        ensures grows { Grows (M.context self.old.maker) (M.context self.new.maker) }
+        ensures sort { IfOk result (λ r. IsArgs (M.context self.new.maker).trees r.args) }
+        ensures no_param { IfOk result (λ r. M.is_strict ≡ true → HasNoParam (M.context self.new.maker) r) }
+        ensures fit { IfOk result (λ r. M.is_strict ≡ true → ArgumentsFit (M.context self.new.maker) r) }
     {
         let word = words.word()?;
         let found = self.names.trait_named(word)?;
+        self.read_arguments(words, found, word)
+    }
+
+    /// The arguments of the trait, which was the word before.
+    fn read_arguments(
+        &mut self,
+        words: &mut Words<'a>,
+        found: NamedTrait,
+        word: &'a str,
+    ) -> Result<TraitRef, Fault<'a>>
+        ensures grows { Grows (M.context self.old.maker) (M.context self.new.maker) }
+        ensures sort { IfOk result (λ r. IsArgs (M.context self.new.maker).trees r.args) }
+        ensures no_param { IfOk result (λ r. M.is_strict ≡ true → HasNoParam (M.context self.new.maker) r) }
+        ensures fit { IfOk result (λ r. M.is_strict ≡ true → ArgumentsFit (M.context self.new.maker) r) }
+    {
         let list = self.read_types(words, u32::from(found.arity) + 1, DEEPEST)?;
-        let args = self.cx.mk_arg_list(list)?;
+        let args = self.maker.args(list)?;
         let trait_ref = TraitRef {
             def_id: found.id,
             args,
         };
-        if !self.cx.trait_ref_args_fit(trait_ref) {
+        if !self.maker.reference_fits(trait_ref) {
             return Err(Fault::UnknownName(word));
         }
         Ok(trait_ref)
@@ -218,7 +239,8 @@ impl<'a> Scope<'a> {
                 Constructor::Projection(id),
                 u32::from(arity) + 1,
             )),
-            Item::Trait(_) => Err(Fault::UnknownName(name)),
+            Item::Opaque(id, arity) => { Ok(Head::Over(Constructor::Opaque(id), u32::from(arity))) }
+            Item::Trait(_) | Item::Impl(_) => Err(Fault::UnknownName(name)),
         }
     }
 
@@ -231,10 +253,35 @@ impl<'a> Scope<'a> {
             Item::Trait(_) if has_principal => Err(Fault::TwoPrincipals),
             Item::Trait(found) => Ok(BoundHead::Trait(found.id, found.arity)),
             Item::Assoc(id, arity) => Ok(BoundHead::Projection(id, arity)),
-            Item::Adt(_, _) | Item::Foreign(_) => Err(Fault::UnknownName(name)),
+            _ => Err(Fault::UnknownName(name)),
         }
     }
+}
 
+impl<'a> Scope<'a, Draft> {
+    /// The next clause of a line: a trait with its arguments, or an associated type with those of its trait, and the type that it is.
+    ///
+    /// `Fault::UnknownName` comes where the first word is neither's name. Its other errors are those of its types.
+    pub fn read_clause(&mut self, words: &mut Words<'a>) -> Result<Clause, Fault<'a>>
+        ensures { IfOk result (λ clause. IsClause self.new.maker.builder.trees clause) }
+    {
+        let word = words.word()?;
+        match self.names.item(word)? {
+            Item::Trait(found) => {
+                let trait_ref = self.read_arguments(words, found, word)?;
+                trait_clause(&mut self.maker, trait_ref)
+            }
+            Item::Assoc(id, arity) => {
+                let list = self.read_types(words, u32::from(arity) + 1, DEEPEST)?;
+                let term = self.read_type(words, DEEPEST)?;
+                projection_clause(&mut self.maker, id, list, term)
+            }
+            _ => Err(Fault::UnknownName(word)),
+        }
+    }
+}
+
+impl Scope<'_, Cx> {
     /// Adds the type to the text, as it is read.
     ///
     /// What no word stands for is `?`; none is met, since a text has no such types. Besides
@@ -242,20 +289,28 @@ impl<'a> Scope<'a> {
     /// of the type then.
     #[cycle(printing)]
     pub fn print_type(&self, ty: Ty, depth: u16, text: &mut String) -> Result<(), Stop>
-        requires { IsTy self.now.cx.trees ty }
+        requires { IsTy self.now.maker.trees ty }
     {
         let Some(below) = depth.checked_sub(1) else {
             return Err(Stop::NodesFull);
         };
-        let kind = self.cx.kind(ty);
+        let kind = self.maker.kind(ty);
         self.print_head(kind, text)?;
         match kind {
-            TyKind::Ref(_, target, _) | TyKind::RawPtr(target, _) | TyKind::Slice(target) => {
+            TyKind::Ref(_, target, _)
+            | TyKind::RawPtr(target, _)
+            | TyKind::Slice(target)
+            | TyKind::Array(target, _) => {
                 text.push(' ')?;
                 self.print_type(target, below, text)
             }
             TyKind::Tuple(args) | TyKind::Adt(_, args) => self.print_types(args, below, text),
             TyKind::Alias(alias) => self.print_types(alias.args, below, text),
+            TyKind::FnPtr(sig) => {
+                self.print_types(sig.value.inputs, below, text)?;
+                text.push(' ')?;
+                self.print_type(sig.value.output, below, text)
+            }
             TyKind::Dynamic(preds, _) => self.print_bounds(preds, below, text),
             _ => Ok(()),
         }
@@ -264,9 +319,9 @@ impl<'a> Scope<'a> {
     /// Adds each type of the list, after a space.
     #[cycle(printing)]
     fn print_types(&self, args: Args, depth: u16, text: &mut String) -> Result<(), Stop>
-        requires { IsArgs self.now.cx.trees args }
+        requires { IsArgs self.now.maker.trees args }
     {
-        for arg in self.cx.args(args) {
+        for arg in self.maker.args(args) {
             text.push(' ')?;
             match arg {
                 GenericArg::Ty(ty) => self.print_type(*ty, depth, text)?,
@@ -279,10 +334,10 @@ impl<'a> Scope<'a> {
     /// Adds each bound of the list, after a space.
     #[cycle(printing)]
     fn print_bounds(&self, preds: Preds, depth: u16, text: &mut String) -> Result<(), Stop>
-        requires { IsPreds self.now.cx.trees preds }
+        requires { IsPreds self.now.maker.trees preds }
     {
-        for pred in self.cx.preds(preds) {
-            let bound = self.cx.pred(*pred).value;
+        for pred in self.maker.preds(preds) {
+            let bound = self.maker.pred(*pred).value;
             text.push(' ')?;
             self.print_bound_name(bound, text)?;
             match bound {
@@ -302,16 +357,31 @@ impl<'a> Scope<'a> {
 
     /// Adds what stands before the types in a type of that kind.
     fn print_head(&self, kind: TyKind, text: &mut String) -> Result<(), Stop>
-        requires { KindFits self.now.cx.trees kind }
+        requires { KindFits self.now.maker.trees kind }
     {
         match kind {
-            TyKind::Tuple(args) => print_count("", self.cx.args(args).len(), text),
-            TyKind::Dynamic(preds, _) => print_count("dyn", self.cx.preds(preds).len(), text),
+            TyKind::Tuple(args) => print_count("", self.maker.args(args).len(), text),
+            TyKind::FnPtr(sig) => {
+                print_count("fn", self.maker.args(sig.value.inputs).len(), text)
+            }
+            TyKind::Array(_, length) => self.print_length(length, text),
+            TyKind::Dynamic(preds, _) => print_count("dyn", self.maker.preds(preds).len(), text),
             TyKind::Adt(id, _) => self.print_name(id.0, text),
             TyKind::Foreign(id) => self.print_name(id.0, text),
             TyKind::Alias(alias) => self.print_name(alias.id.0, text),
             _ => print_word(kind, text),
         }
+    }
+
+    /// Adds the length of an array, in its brackets.
+    fn print_length(&self, length: Const, text: &mut String) -> Result<(), Stop>
+        requires { IsConst self.now.maker.trees length }
+    {
+        match self.maker.const_kind(length) {
+            ConstKind::Value(length) => write!(text, "[{length}]")?,
+            _ => text.push_str(UNSPELLED)?,
+        }
+        Ok(())
     }
 
     /// Adds the name that begins the bound.
@@ -330,43 +400,6 @@ impl<'a> Scope<'a> {
         text.push_str(self.names.definition(number).unwrap_or(UNSPELLED))?;
         Ok(())
     }
-}
-
-/// The type that a word alone is.
-fn leaf_type<'a>(cx: &mut Cx, kind: TyKind, word: &'a str) -> Result<Ty, Fault<'a>>
-    requires { IsLeaf kind }
-    ensures grows { Grows cx.old cx.new }
-    ensures sort { IfOk result (λ ty. IsTy cx.new.trees ty) }
-    ensures no_param { IfOk result (λ ty. LacksParam cx.new.trees ty.0) }
-{
-    fitting(cx, kind, word)
-}
-
-/// The type of a word before a type.
-fn type_before<'a>(cx: &mut Cx, pointer: Pointer, target: Ty) -> Result<Ty, Fault<'a>>
-    requires target { IsTy cx.old.trees target }
-    requires no_param { LacksParam cx.old.trees target.0 }
-    ensures grows { Grows cx.old cx.new }
-    ensures sort { IfOk result (λ ty. IsTy cx.new.trees ty) }
-    ensures no_param { IfOk result (λ ty. LacksParam cx.new.trees ty.0) }
-{
-    Ok(pointer_to(cx, pointer, target)?)
-}
-
-/// The `dyn` type of these bounds.
-fn dyn_type<'a>(
-    cx: &mut Cx,
-    bounds: Vec<Binder<ExistentialPredicate>>,
-    word: &'a str,
-) -> Result<Ty, Fault<'a>>
-    requires fit { BoundsFit cx.old.trees bounds.items }
-    requires principal { AtMostOnePrincipal bounds.items }
-    requires no_param { BoundsLackParam cx.old.trees bounds.items }
-    ensures grows { Grows cx.old cx.new }
-    ensures sort { IfOk result (λ ty. IsTy cx.new.trees ty) }
-    ensures no_param { IfOk result (λ ty. LacksParam cx.new.trees ty.0) }
-{
-    dynamic(cx, bounds.as_slice(), word)
 }
 
 fn is_principal(bound: Binder<ExistentialPredicate>) -> bool

@@ -62,7 +62,7 @@ impl<'a> Words<'a> {
         ensures { IfOk result (λ n. n ≤ most) }
     {
         let word = self.word()?;
-        number_in(word, word, most)
+        Ok(number_in(word, word, u64::from(most))? as u16)
     }
 
     /// Nothing if no word is left, else `Fault::LongLine`.
@@ -74,6 +74,16 @@ impl<'a> Words<'a> {
             None => Ok(()),
         }
     }
+}
+
+/// What the word stands for in a table of words.
+pub fn listed<T: Copy>(table: &[(&'static str, T)], word: &str) -> Option<T> {
+    for (listed, value) in table {
+        if *listed == word {
+            return Some(*value);
+        }
+    }
+    None
 }
 
 /// Where the first space stands, or the end of the text.
@@ -114,12 +124,12 @@ pub fn is_digits(text: &str) -> bool {
 }
 
 /// The number of at most that size whose digits stand in the word, else `Fault::BadNumber` with the word.
-pub fn number_in<'a>(word: &'a str, digits: &str, most: u16) -> Result<u16, Fault<'a>>
+pub fn number_in<'a>(word: &'a str, digits: &str, most: u64) -> Result<u64, Fault<'a>>
     ensures value { IfOk result (λ n. n ≤ most) }
     ensures cause { IfErr result (λ e. e ≡ Fault.BadNumber word.entry) }
 {
     if is_digits(digits) {
-        match digits.parse::<u16>() {
+        match digits.parse::<u64>() {
             Ok(number) if number <= most => return Ok(number),
             _ => {}
         }

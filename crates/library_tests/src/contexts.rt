@@ -96,6 +96,14 @@ fn check_taken_back(rt: &impl Abort, alloc: Global, cx: &mut Cx) {
     equals(rt, &cx.node_count(), &count, "as many as before");
 }
 
+/// What is made is taken back, and the declarations' own nodes are not.
+fn check_kept(rt: &impl Abort, cx: &mut Cx) {
+    let declared = cx.node_count();
+    ty(rt, cx, TyKind::Bool);
+    cx.truncate(0);
+    equals(rt, &cx.node_count(), &declared, "the declarations' own");
+}
+
 /// Whether the kind of a byte is read back through the trait.
 fn reads_back<M: Make>(maker: &mut M) -> Result<bool, Stop> {
     let byte = maker.mk_ty(TyKind::Uint(UintTy::U8))?;
@@ -138,6 +146,7 @@ fn check_heights(rt: &impl Abort, cx: &mut Cx) {
 
 /// What is made is read back, marked, taken back, and refused where it is too high.
 fn check_all(rt: &impl Abort, alloc: Global, cx: &mut Cx) {
+    check_kept(rt, cx);
     check_leaves(rt, alloc, cx);
     check_box(rt, alloc, cx);
     check_list(rt, cx);

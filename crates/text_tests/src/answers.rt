@@ -21,7 +21,9 @@ foreign 0 LF|foreign 1 F|orphan local Trait LF|orphan remote Trait LF|orphan loc
 orphan local Trait dyn(1) LocalTrait|orphan local Trait dyn(1) Trait => ok|nonlocal (dyn(1) Trait, Yes)
 orphan compat Trait Out $0|knowable Trait Out u8 => nonlocal|upstream
 orphan local Trait1 Out $0 LocalType|orphan compat Trait1 Out $0 LocalType => uncovered Out $0 local LocalType|ok
-trait 1 Send 0 auto|trait 0 Sync 0 auto|assoc Trait2 Two sized_self|orphan local Trait dyn(4) Send Trait2 u8 & bool Sync Two char (1) str & u8|orphan local Trait dyn(2) Sync Send|orphan local Trait dyn(3) Sync Send LocalTrait|orphan local Trait Two [] u8 bool (0) => nonlocal (dyn(4) Send Trait2 u8 & bool Sync Two char (1) str & u8, Yes)|nonlocal (dyn(2) Sync Send, Yes)|ok|nonlocal (Two [] u8 bool (0), Yes)";
+trait 1 Send 0 auto|trait 0 Sync 0 auto|assoc Trait2 Two sized_self|orphan local Trait dyn(4) Send Trait2 u8 & bool Sync Two char (1) str & u8|orphan local Trait dyn(2) Sync Send|orphan local Trait dyn(3) Sync Send LocalTrait|orphan local Trait Two [] u8 bool (0) => nonlocal (dyn(4) Send Trait2 u8 & bool Sync Two char (1) str & u8, Yes)|nonlocal (dyn(2) Sync Send, Yes)|ok|nonlocal (Two [] u8 bool (0), Yes)
+orphan local Trait [003] LocalType|orphan local Trait fn(0) LocalType|orphan local Trait fn(1) $0 LocalType => nonlocal ([3] LocalType, Yes)|nonlocal (fn(0) LocalType, Yes)|nonlocal (fn(1) $0 LocalType, Yes)
+opaque 0 Op 1 LocalType|orphan local Trait Op LocalType|orphan local Trait Op $0|orphan compat Trait Op $0|orphan remote Trait Op $0 => nonlocal (Op LocalType, Yes)|uncovered Op $0 local none|uncovered Op $0 local none|ok";
 
 /// Two crates with a type each, and one with a trait and a fundamental type; and what is asked where the local crate is
 /// the one that the text begins with.
@@ -64,7 +66,12 @@ Vec error
 Vec Out $0
 Out Out u8
 dyn(0)
-Vec dyn(2) Trait2 $0 Out u8 Out !1";
+Vec dyn(2) Trait2 $0 Out u8 Out !1
+[0] [] [3] u8
+[18446744073709551615] u8
+fn(0) u8
+fn(2) u8 fn(1) $0 ! Vec [1] u8
+Vec fn(1) dyn(1) Trait2 fn(0) u8 [2] bool (0)";
 
 #[test]
 fn answers(rt: HostRuntime) {

@@ -52,7 +52,10 @@ trait 1 T 0|assoc T T => line 2: name twice T
 trait 1 T 0|assoc T 9 => line 2: bad name 9
 trait 1 T 0|assoc T O foo => line 2: bad flag foo
 trait 1 T 0|assoc T O sized_self auto => line 2: bad flag auto
-trait 1 T 0|assoc T O|adt 1 O 0 => line 3: name twice O";
+trait 1 T 0|assoc T O|adt 1 O 0 => line 3: name twice O
+env T !0|trait 1 T 0 => line 1: unknown name T
+impl 1 i 0 + T u8|trait 1 T 0 => line 1: unknown name T
+field V u8|adt 1 V 0 => line 1: unknown name V";
 
 /// Queries on line 13, after the declarations, and what they print.
 const QUERIES: &str = "\

@@ -1,4 +1,4 @@
-//! Tests of the program's text: answers, bad lines, texts that are cut, devices that fail.
+//! Tests of the program's text: answers, what definitions hold, bad lines, texts that are cut, devices that fail.
 #![tactic(auto)]
 
 #[cfg(test)]
@@ -7,6 +7,8 @@ mod answers;
 mod bad_lines;
 #[cfg(test)]
 mod cases;
+#[cfg(test)]
+mod declarations;
 #[cfg(test)]
 mod devices;
 #[cfg(test)]

@@ -5,21 +5,21 @@ use Rattle.assembly_text.proofs.Lacking.{lacks-grows, args-lacks, vars-lack, pro
 use Rattle.assembly_text.proofs.building.projection_bound.Goals as goal
 
 pub returns-clause-fits : goal.returns-clause-fits
-returns-clause-fits c =
-    let args = IsArgs-grows _ _ c.in_ok-args.args c.mk_vars.ensures.kept c.in_ok-args.ensures.sort in
+returns-clause-fits g c =
+    let args = IsArgs-grows _ _ c.in_ok-args.args c.no_vars.ensures.kept c.in_ok-args.ensures.sort in
     let vars = c.in_ok-vars.ensures.sort in
-    let now = IsTy-grows _ _ c.args.term c.mk_arg_list.ensures.kept c.requires.term in
-    let term = IsTy-grows _ _ c.args.term c.mk_vars.ensures.kept now in
+    let now = IsTy-grows _ _ c.args.term c.args-2.ensures.kept c.requires.term in
+    let term = IsTy-grows _ _ c.args.term c.no_vars.ensures.kept now in
     cc
 
 pub returns-clause-no_param : goal.returns-clause-no_param
-returns-clause-no_param c =
+returns-clause-no_param g c = λ s.
     let args = c.in_ok-args.args in
     let is = c.in_ok-args.ensures.sort in
-    let below = args-lacks _ args is (ap (holds is_param) c.in_ok-args.ensures.tree ∙ c.requires.list_no_param) in
+    let below = args-lacks _ args is (ap (holds is_param) c.in_ok-args.ensures.tree ∙ c.requires.list_no_param s) in
     let term = c.args.term in
-    let now = IsTy-grows _ _ term c.mk_arg_list.ensures.kept c.requires.term in
-    let lacks = lacks-grows _ _ term.0 TypeKind c.mk_arg_list.ensures.kept refl c.requires.term c.requires.term_no_param in
+    let now = IsTy-grows _ _ term c.args-2.ensures.kept c.requires.term in
+    let lacks = lacks-grows _ _ term.0 TypeKind c.args-2.ensures.kept refl c.requires.term (c.requires.term_no_param s) in
     projection-lacks _ c.in_ok-vars.vars c.args.id args term (vars-lack _ c.in_ok-vars.vars c.in_ok-vars.ensures.tree)
-    (lacks-grows _ _ args.0 ArgumentsKind c.mk_vars.ensures.kept refl is below)
-    (lacks-grows _ _ term.0 TypeKind c.mk_vars.ensures.kept refl now lacks)
+    (lacks-grows _ _ args.0 ArgumentsKind c.no_vars.ensures.kept refl is below)
+    (lacks-grows _ _ term.0 TypeKind c.no_vars.ensures.kept refl now lacks)

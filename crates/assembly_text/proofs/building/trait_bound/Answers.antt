@@ -5,15 +5,15 @@ use Rattle.assembly_text.proofs.Lacking.{lacks-grows, args-lacks, vars-lack, tra
 use Rattle.assembly_text.proofs.building.trait_bound.Goals as goal
 
 pub returns-clause-fits : goal.returns-clause-fits
-returns-clause-fits c =
-    let args = IsArgs-grows _ _ c.in_ok-args.args c.mk_vars.ensures.kept c.in_ok-args.ensures.sort in
+returns-clause-fits g c =
+    let args = IsArgs-grows _ _ c.in_ok-args.args c.no_vars.ensures.kept c.in_ok-args.ensures.sort in
     let vars = c.in_ok-vars.ensures.sort in
     cc
 
 pub returns-clause-no_param : goal.returns-clause-no_param
-returns-clause-no_param c =
+returns-clause-no_param g c = λ s.
     let args = c.in_ok-args.args in
     let is = c.in_ok-args.ensures.sort in
-    let below = args-lacks _ args is (ap (holds is_param) c.in_ok-args.ensures.tree ∙ c.requires.no_param) in
+    let below = args-lacks _ args is (ap (holds is_param) c.in_ok-args.ensures.tree ∙ c.requires.no_param s) in
     trait-lacks _ c.in_ok-vars.vars c.args.id args (vars-lack _ c.in_ok-vars.vars c.in_ok-vars.ensures.tree)
-    (lacks-grows _ _ args.0 ArgumentsKind c.mk_vars.ensures.kept refl is below)
+    (lacks-grows _ _ args.0 ArgumentsKind c.no_vars.ensures.kept refl is below)

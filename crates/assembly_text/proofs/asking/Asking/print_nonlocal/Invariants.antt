@@ -3,4 +3,4 @@ use Rattle.candidate_ir.specs.Words.{IsTy}
 use Rattle.assembly_text.proofs.asking.Asking.print_nonlocal.Given as goal
 
 abbrev pub invariant-loop-ty : goal.invariant-loop-ty
-invariant-loop-ty l = All (λ e. IsTy l.self.scope.cx.trees e.0) l.entries
+invariant-loop-ty l = All (λ e. IsTy l.self.scope.maker.trees e.0) l.entries

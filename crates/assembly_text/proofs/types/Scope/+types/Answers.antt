@@ -8,24 +8,24 @@ use Rattle.assembly_text.proofs.Lacking.{list-lacks-ty, list-lacks-grows, bounds
 use Rattle.assembly_text.proofs.types.Scope.+types.Goals as goal
 
 pub read_types-loop-preserved : goal.read_types-loop-preserved
-read_types-loop-preserved t c =
+read_types-loop-preserved g t c =
     let one_more : c.push.new.self.items ≡ c.loop.list.items ++ A.Ty c.in_ok-read_type.field-0 ∷ [] = c.in_ok-push.ensures.items in
     record {
       grows = grows-trans _ _ _ c.loop.invariant.grows c.read_type.ensures.grows;
       fits = rw one_more
           (ListFits-ty _ _ _ (ListFits-grows _ _ _ c.read_type.ensures.grows c.loop.invariant.fits) c.in_ok-read_type.ensures.sort);
-      no_param = rw one_more
-          (list-lacks-ty c.read_type.new.self.cx.trees c.loop.list.items c.in_ok-read_type.field-0 (list-lacks-grows _ _ _ c.read_type.ensures.grows c.loop.invariant.fits c.loop.invariant.no_param) c.in_ok-read_type.ensures.no_param);
+      no_param = λ s. rw one_more
+          (list-lacks-ty (g.M.Maker.context c.read_type.new.self.maker).trees c.loop.list.items c.in_ok-read_type.field-0 (list-lacks-grows _ _ _ c.read_type.ensures.grows c.loop.invariant.fits (c.loop.invariant.no_param s)) (c.in_ok-read_type.ensures.no_param s));
     }
 
 pub read_bounds-loop-preserved : goal.read_bounds-loop-preserved
-read_bounds-loop-preserved t c =
+read_bounds-loop-preserved g t c =
     let one_more : c.push.new.self.items ≡ c.loop.list.items ++ c.in_ok-bound.bound ∷ [] = c.in_ok-push.ensures.items in
     record {
       grows = grows-trans _ _ _ c.loop.invariant.grows c.read_bound.ensures.grows;
       fit = rw one_more (BoundsFit-one _ _ _ _ c.read_bound.ensures.grows c.loop.invariant.fit c.in_ok-bound.ensures.fits);
-      no_param = rw one_more
-          (bounds-lack-one _ _ _ _ c.read_bound.ensures.grows c.loop.invariant.fit c.loop.invariant.no_param c.in_ok-bound.ensures.no_param);
+      no_param = λ s. rw one_more
+          (bounds-lack-one _ _ _ _ c.read_bound.ensures.grows c.loop.invariant.fit (c.loop.invariant.no_param s) (c.in_ok-bound.ensures.no_param s));
       principals = rw one_more
           (principals-one c.loop.list.items c.in_ok-bound.bound
           ∙ ap (λ (n : ℕ). n + one_if (names_trait c.in_ok-bound.bound.value)) c.loop.invariant.principals
@@ -35,13 +35,18 @@ read_bounds-loop-preserved t c =
 
 pub read_bound-projection_bound-requires-clause-list :
     goal.read_bound-projection_bound-requires-clause-list
-read_bound-projection_bound-requires-clause-list t c =
+read_bound-projection_bound-requires-clause-list g t c =
     ListFits-grows _ _ _ c.read_type.ensures.grows c.in_ok-list-in-Projection.ensures.fits
 
 pub read_bound-projection_bound-requires-clause-list_no_param :
     goal.read_bound-projection_bound-requires-clause-list_no_param
-read_bound-projection_bound-requires-clause-list_no_param t c =
-    list-lacks-grows _ _ _ c.read_type.ensures.grows c.in_ok-list-in-Projection.ensures.fits c.in_ok-list-in-Projection.ensures.no_param
+read_bound-projection_bound-requires-clause-list_no_param g t c = λ s.
+    list-lacks-grows _ _ _ c.read_type.ensures.grows c.in_ok-list-in-Projection.ensures.fits (c.in_ok-list-in-Projection.ensures.no_param s)
 
-pub read_bounds-returns-in_err-push-clause-grows : goal.read_bounds-returns-in_err-push-clause-grows
-read_bounds-returns-in_err-push-clause-grows t c = grows-trans _ _ _ c.loop.invariant.grows c.read_bound.ensures.grows
+pub read_type-fn_pointer-requires-clause-fit : goal.read_type-fn_pointer-requires-clause-fit
+read_type-fn_pointer-requires-clause-fit g t c =
+    ListFits-grows _ _ _ c.read_type-in-Fn.ensures.grows c.in_ok-inputs-in-Fn.ensures.fits
+
+pub read_type-fn_pointer-requires-clause-no_param : goal.read_type-fn_pointer-requires-clause-no_param
+read_type-fn_pointer-requires-clause-no_param g t c = λ s.
+    list-lacks-grows _ _ _ c.read_type-in-Fn.ensures.grows c.in_ok-inputs-in-Fn.ensures.fits (c.in_ok-inputs-in-Fn.ensures.no_param s)

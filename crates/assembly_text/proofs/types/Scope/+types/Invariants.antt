@@ -6,36 +6,36 @@ use Rattle.candidate_ir.specs.declared.ir.kinds.ExistentialPredicate.{Existentia
 use Rattle.candidate_ir.specs.declared.ir.kinds.GenericArg.{GenericArg}
 use Rattle.candidate_ir.specs.Words.{ListFits, BoundsFit, names_trait}
 use Rattle.candidate_ir.proofs.Made.{one_if}
-use Rattle.assembly_text.specs.Params.{ListLacksParam, BoundsLackParam}
+use Rattle.assembly_text.specs.Params.{ListLacks, BoundsLack}
 use Rattle.assembly_text.proofs.types.Scope.+types.Given as goal
 
--- the types have grown since the call, and the list has types of them without a parameter
-pub record IsRead (old : Context) (new : Context) (list : List GenericArg) : Type 0 where
+-- the types have grown since the call, and the list has types of them, without a parameter where none may stand
+pub record IsRead (strict : Bool) (old : Context) (new : Context) (list : List GenericArg) : Type 0 where
   pub grows : Grows old new
   pub fits : ListFits new.trees list
-  pub no_param : ListLacksParam new.trees list
+  pub no_param : ListLacks strict new.trees list
 
--- the types have grown since the call, the bounds have types of them without a parameter, and there is one principal or none
-pub record AreRead (old : Context) (new : Context) (list : List (Binder ExistentialPredicate)) (has_principal : Bool) : Type 0 where
+-- the same of bounds, of which one or none is a principal
+pub record AreRead (strict : Bool) (old : Context) (new : Context) (list : List (Binder ExistentialPredicate)) (has_principal : Bool) : Type 0 where
   pub grows : Grows old new
   pub fit : BoundsFit new.trees list
-  pub no_param : BoundsLackParam new.trees list
+  pub no_param : BoundsLack strict new.trees list
   pub principals : count_by (λ b. names_trait b.value) list ≡ one_if has_principal
 
 abbrev pub decreases-read_type : goal.decreases-read_type
-decreases-read_type l = 4 * l.depth
+decreases-read_type g l = 4 * l.depth
 
 abbrev pub decreases-read_types : goal.decreases-read_types
-decreases-read_types l = 4 * l.depth + 1
+decreases-read_types g l = 4 * l.depth + 1
 
 abbrev pub decreases-read_bound : goal.decreases-read_bound
-decreases-read_bound l = 4 * l.depth + 2
+decreases-read_bound g l = 4 * l.depth + 2
 
 abbrev pub decreases-read_bounds : goal.decreases-read_bounds
-decreases-read_bounds l = 4 * l.depth + 3
+decreases-read_bounds g l = 4 * l.depth + 3
 
 abbrev pub invariant-read_types-loop : goal.invariant-read_types-loop
-invariant-read_types-loop l = IsRead l.fn.self.cx l.self.cx l.list.items
+invariant-read_types-loop g l = IsRead g.M.Maker.is_strict (g.M.Maker.context l.fn.self.maker) (g.M.Maker.context l.self.maker) l.list.items
 
 abbrev pub invariant-read_bounds-loop : goal.invariant-read_bounds-loop
-invariant-read_bounds-loop l = AreRead l.fn.self.cx l.self.cx l.list.items l.has_principal
+invariant-read_bounds-loop g l = AreRead g.M.Maker.is_strict (g.M.Maker.context l.fn.self.maker) (g.M.Maker.context l.self.maker) l.list.items l.has_principal

@@ -1,11 +1,11 @@
 use Rattle.std.proofs.Common.{rules}
 use Rattle.candidate_ir.specs.Words.{IsTy}
 use Rattle.candidate_ir.proofs.Made.{IsTy-listed, IsPred-listed}
-use Rattle.assembly_text.proofs.types.Scope.+printing.Goals as goal
+use Rattle.assembly_text.proofs.types.Scope+Cx.+printing.Goals as goal
 
 pub print_types-print_type-requires : goal.print_types-print_type-requires
 print_types-print_type-requires t c =
-    let listed : IsTy c.args.self.now.cx.trees c.in-Ty.ty =
+    let listed : IsTy c.args.self.now.maker.trees c.in-Ty.ty =
     IsTy-listed _ _ c.loop-arg.arg-index _ c.in-Ty.ty c.loop-arg-test.true c.in-Ty.is c.loop-arg.invariant in
     search (rules, listed)
 

@@ -1,0 +1,18 @@
+use Rattle.std.proofs.Common.{refl}
+use Rattle.candidate_ir.specs.Trees.{TypeKind}
+use Rattle.candidate_ir.proofs.Made.{IsTy-grows}
+use Rattle.assembly_text.proofs.Lacking.{lacks-grows, made-lacks, const-lacks, array-lacks}
+use Rattle.assembly_text.proofs.building.array.Goals as goal
+
+pub ty-requires : goal.ty-requires
+ty-requires g c =
+    let target = IsTy-grows _ _ c.args.target c.constant.ensures.kept c.requires.target in
+    let constant = c.in_ok-constant.ensures.sort in
+    cc
+
+pub returns-clause-no_param : goal.returns-clause-no_param
+returns-clause-no_param g c =
+    made-lacks _ c.ty.result _ _ c.ty.ensures.tree
+    (λ s. array-lacks _ c.args.target c.in_ok-constant.constant
+    (lacks-grows _ _ c.args.target.0 TypeKind c.constant.ensures.kept refl c.requires.target (c.requires.no_param s))
+    (const-lacks _ c.in_ok-constant.constant c.args.length c.in_ok-constant.ensures.tree))

@@ -1,0 +1,24 @@
+use Rattle.std.proofs.Common.{List, refl, ◌∙◌, ap}
+use Rattle.candidate_ir.specs.declared.ir.kinds.Binder.{Binder}
+use Rattle.candidate_ir.specs.declared.ir.kinds.ExistentialPredicate.{ExistentialPredicate}
+use Rattle.candidate_ir.specs.Words.{bounds_forest}
+use Rattle.candidate_ir.specs.Trees.{PredicatesKind, holds, is_param}
+use Rattle.candidate_ir.proofs.Made.{IsPreds-grows}
+use Rattle.assembly_text.proofs.Lacking.{lacks-grows, made-lacks, region-lacks, preds-lacks, dyn-lacks}
+use Rattle.assembly_text.proofs.building.dyn_type.Goals as goal
+
+pub ty-requires : goal.ty-requires
+ty-requires g c =
+    let bounds = IsPreds-grows _ _ c.in_ok-preds.preds c.static_region.ensures.kept c.in_ok-preds.ensures.sort in
+    let region = c.in_ok-region.ensures.sort in
+    cc
+
+pub returns-clause-no_param : goal.returns-clause-no_param
+returns-clause-no_param g c =
+    let ts = (g.M.Maker.context c.args.maker.now).trees in
+    let preds = c.in_ok-preds.preds in
+    let is = c.in_ok-preds.ensures.sort in
+    made-lacks _ c.ty.result _ _ c.ty.ensures.tree
+    (λ s. dyn-lacks _ preds c.in_ok-region.region
+    (lacks-grows _ _ preds.0 PredicatesKind c.static_region.ensures.kept refl is (preds-lacks _ preds is (ap (holds is_param) c.in_ok-preds.ensures.tree ∙ (ap (λ (bs : List (Binder ExistentialPredicate)). holds is_param (bounds_forest ts bs)) c.as_slice.ensures.value ∙ c.requires.no_param s))))
+    (region-lacks _ c.in_ok-region.region c.in_ok-region.ensures.tree))

@@ -1,0 +1,10 @@
+use Rattle.candidate_ir.proofs.Made.{IsTy-grows, IsArgs-grows}
+use Rattle.assembly_text.proofs.building.projection_clause.Goals as goal
+
+pub mk_clause-requires : goal.mk_clause-requires
+mk_clause-requires c =
+    let args = IsArgs-grows _ _ c.in_ok-args.args c.no_vars.ensures.kept c.in_ok-args.ensures.sort in
+    let vars = c.in_ok-vars.ensures.sort in
+    let now = IsTy-grows _ _ c.args.term c.args-2.ensures.kept c.requires.term in
+    let term = IsTy-grows _ _ c.args.term c.no_vars.ensures.kept now in
+    cc

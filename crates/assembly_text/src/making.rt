@@ -1,0 +1,186 @@
+//! What the types of a text are made in: declarations that go on, or a context over them.
+
+ghost use Rattle.std.specs.Prelude.{◌≡◌, Bool, IsTrue, true, false, [], IfOk, IfNone};
+ghost use Rattle.candidate_ir.specs.Context.{Context, Grows};
+ghost use Rattle.candidate_ir.specs.Kinds.{ty_head};
+ghost use Rattle.candidate_ir.specs.Making.{Makes, a_constant, a_region, a_list, a_binder};
+ghost use Rattle.candidate_ir.specs.References.{ArgumentsFit};
+ghost use Rattle.candidate_ir.specs.Trees.{is_param};
+ghost use Rattle.candidate_ir.specs.Words.{IsTy, IsArgs, IsPreds, ty_tree, kind_tree, preds_forest, bounds_forest, KindFits, ListFits, BoundsFit, AtMostOnePrincipal};
+
+use crate::faults::Fault;
+use candidate_ir::decl::builder::DeclsBuilder;
+use candidate_ir::decl::context::Cx;
+use candidate_ir::ir::kinds::{
+    Args, Binder, Const, ConstKind, ExistentialPredicate, GenericArg, InferTy, Preds, Region,
+    RegionKind, TraitRef, Ty, TyKind, Vars,
+};
+use candidate_ir::ir::stop::Stop;
+
+/// What types can be made in. Each call stops as that of a context or of a builder does.
+pub trait Maker {
+    /// The declarations, and the trees of the numbers given so far.
+    ghost context: { Self → Context };
+
+    /// Whether what is read is asked about: no parameter stands in it, and its arguments fit.
+    ghost is_strict: { Bool };
+
+    /// What is wrong with a type of that kind, which a word alone is: it is a parameter or a variable where none may stand.
+    fn misplaced<'a>(&self, kind: TyKind) -> Option<Fault<'a>>
+        ensures { IfNone result (is_strict ≡ true → is_param (ty_head kind) ≡ false) };
+
+    /// The type of that kind, which the word begins. Besides `Fault::Stop`, `Fault::UnknownName` comes where a context's
+    /// definitions don't take its arguments.
+    fn ty<'a>(&mut self, kind: TyKind, word: &'a str) -> Result<Ty, Fault<'a>>
+        requires { KindFits (context self.old).trees kind }
+        ensures grows { Grows (context self.old) (context self.new) }
+        ensures sort { IfOk result (λ t. IsTy (context self.new).trees t) }
+        ensures tree { IfOk result (λ t. ty_tree (context self.new).trees t ≡ kind_tree (context self.old).trees kind) };
+
+    /// The constant of that number.
+    fn constant(&mut self, value: u64) -> Result<Const, Stop>
+        ensures { Makes (a_constant (ConstKind.Value value)) (context self.old) (context self.new) result };
+
+    /// The static region.
+    fn static_region(&mut self) -> Result<Region, Stop>
+        ensures { Makes (a_region RegionKind.Static) (context self.old) (context self.new) result };
+
+    /// The list of these arguments.
+    fn args(&mut self, list: Vec<GenericArg>) -> Result<Args, Stop>
+        requires { ListFits (context self.old).trees list.items }
+        ensures { Makes (a_list list.items) (context self.old) (context self.new) result };
+
+    /// A binder without variables.
+    fn no_vars(&mut self) -> Result<Vars, Stop>
+        ensures { Makes (a_binder []) (context self.old) (context self.new) result };
+
+    /// The bounds of a `dyn` type, which the word begins. Its faults are those of `ty`.
+    fn bounds<'a>(
+        &mut self,
+        bounds: &[Binder<ExistentialPredicate>],
+        word: &'a str,
+    ) -> Result<Preds, Fault<'a>>
+        requires fit { BoundsFit (context self.old).trees bounds.now }
+        requires principal { AtMostOnePrincipal bounds.now }
+        ensures grows { Grows (context self.old) (context self.new) }
+        ensures sort { IfOk result (λ p. IsPreds (context self.new).trees p) }
+        ensures tree { IfOk result (λ p. preds_forest (context self.new).trees p ≡ bounds_forest (context self.old).trees bounds.now) };
+
+    /// Whether the trait takes these arguments, as far as that is asked here.
+    fn reference_fits(&self, trait_ref: TraitRef) -> bool
+        requires { IsArgs (context self.now).trees trait_ref.args }
+        ensures { is_strict ≡ true → IsTrue result → ArgumentsFit (context self.now) trait_ref };
+}
+
+/// A context, where a query is read: variables may stand, and no parameters.
+impl Maker for Cx {
+    ghost context = { λ c. c };
+
+    ghost is_strict = { true };
+
+    fn misplaced<'a>(&self, kind: TyKind) -> Option<Fault<'a>> {
+        match kind {
+            TyKind::Param(_) => Some(Fault::Parameter),
+            _ => None,
+        }
+    }
+
+    fn ty<'a>(&mut self, kind: TyKind, word: &'a str) -> Result<Ty, Fault<'a>> {
+        if !self.args_fit(kind) {
+            return Err(Fault::UnknownName(word));
+        }
+        Ok(self.mk_ty(kind)?)
+    }
+
+    fn constant(&mut self, value: u64) -> Result<Const, Stop> {
+        self.mk_const(ConstKind::Value(value))
+    }
+
+    fn static_region(&mut self) -> Result<Region, Stop> {
+        self.mk_region(RegionKind::Static)
+    }
+
+    fn args(&mut self, list: Vec<GenericArg>) -> Result<Args, Stop> {
+        self.mk_arg_list(list)
+    }
+
+    fn no_vars(&mut self) -> Result<Vars, Stop> {
+        self.mk_vars(&[])
+    }
+
+    fn bounds<'a>(
+        &mut self,
+        bounds: &[Binder<ExistentialPredicate>],
+        word: &'a str,
+    ) -> Result<Preds, Fault<'a>> {
+        if !self.bounds_args_fit(bounds) {
+            return Err(Fault::UnknownName(word));
+        }
+        Ok(self.mk_preds(bounds)?)
+    }
+
+    fn reference_fits(&self, trait_ref: TraitRef) -> bool {
+        self.trait_ref_args_fit(trait_ref)
+    }
+}
+
+/// Declarations that go on, and what a line of them may hold.
+#[derive(Drop)]
+pub struct Draft {
+    pub builder: DeclsBuilder,
+    /// Whether parameters may stand in the types of the line.
+    pub has_parameters: bool,
+    /// Whether the type that was made last is an alias.
+    pub is_alias: bool,
+    /// Whether one was made that is, since this was last said to be false.
+    pub has_alias: bool,
+}
+
+/// Declarations, whose arguments are looked at when they end: no variables may stand.
+impl Maker for Draft {
+    ghost context = { λ d. d.builder };
+
+    ghost is_strict = { false };
+
+    fn misplaced<'a>(&self, kind: TyKind) -> Option<Fault<'a>> {
+        match kind {
+            TyKind::Infer(InferTy::TyVar(_)) => Some(Fault::Variable),
+            TyKind::Param(_) if !self.has_parameters => Some(Fault::Parameter),
+            _ => None,
+        }
+    }
+
+    fn ty<'a>(&mut self, kind: TyKind, _: &'a str) -> Result<Ty, Fault<'a>> {
+        self.is_alias = matches!(kind, TyKind::Alias(_));
+        self.has_alias |= self.is_alias;
+        Ok(self.builder.mk_ty(kind)?)
+    }
+
+    fn constant(&mut self, value: u64) -> Result<Const, Stop> {
+        self.builder.mk_const(ConstKind::Value(value))
+    }
+
+    fn static_region(&mut self) -> Result<Region, Stop> {
+        self.builder.mk_region(RegionKind::Static)
+    }
+
+    fn args(&mut self, list: Vec<GenericArg>) -> Result<Args, Stop> {
+        self.builder.mk_args(list.as_slice())
+    }
+
+    fn no_vars(&mut self) -> Result<Vars, Stop> {
+        self.builder.mk_vars(&[])
+    }
+
+    fn bounds<'a>(
+        &mut self,
+        bounds: &[Binder<ExistentialPredicate>],
+        _: &'a str,
+    ) -> Result<Preds, Fault<'a>> {
+        Ok(self.builder.mk_preds(bounds)?)
+    }
+
+    fn reference_fits(&self, _: TraitRef) -> bool {
+        true
+    }
+}
