@@ -32,8 +32,6 @@ pub enum Query {
 pub struct Asking<'a> {
     scope: Scope<'a, Cx>,
     answer: String,
-    /// How many nodes stood in the context before the first query.
-    declared_nodes: usize,
     given: Given,
 }
 
@@ -42,7 +40,6 @@ impl<'a> Asking<'a> {
     pub fn new(scope: Scope<'a, Cx>, given: Given) -> Self {
         Asking {
             answer: String::new(scope.alloc),
-            declared_nodes: scope.maker.node_count(),
             scope,
             given,
         }
@@ -58,7 +55,7 @@ impl<'a> Asking<'a> {
         mut words: Words<'a>,
     ) -> Result<Result<&str, Stop>, Fault<'a>> {
         self.answer.clear();
-        self.scope.maker.truncate(self.declared_nodes);
+        self.scope.maker.truncate(0);
         let made = match query {
             Query::Orphan => self.orphan(&mut words)?,
             Query::Knowable => self.knowable(&mut words)?,

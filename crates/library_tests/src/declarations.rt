@@ -1,5 +1,7 @@
 //! Calls of the builder of declarations.
 
+ghost use Rattle.candidate_ir.specs.Words.{IsTy};
+
 use crate::asserts::{equals, equals_in_row, holds};
 use candidate_ir::decl::builder::{DeclFault, DeclsBuilder};
 use candidate_ir::decl::context::Cx;
@@ -25,7 +27,9 @@ pub enum Item<'a> {
 }
 
 /// The type of truth values, among the builder's.
-pub fn boolean(rt: &impl Abort, builder: &mut DeclsBuilder) -> Ty {
+pub fn boolean(rt: &impl Abort, builder: &mut DeclsBuilder) -> Ty
+    ensures { IsTy builder.new.trees result }
+{
     builder.mk_ty(TyKind::Bool).expect(rt, "a type")
 }
 

@@ -1,7 +1,5 @@
 //! Functions and closures, as they were declared.
 
-ghost use Rattle.candidate_ir.specs.Words.{IsTy, IsArgs};
-
 use crate::asserts::{equals, holds};
 use crate::declarations::boolean;
 use candidate_ir::decl::builder::DeclsBuilder;
