@@ -1,12 +1,13 @@
 -- What the search for a supertrait cycle knows stays true at each step, and says at the end whether there is a cycle.
-use Rattle.std.proofs.Common.{◌≡◌, ◌≢◌, ℕ, zero, suc, ◌+◌, ◌-◌, ◌<◌, ◌≤◌, List, [], ◌∷◌, length, get_or, Bool, true, false, Option, Some, None, ◌⊎◌, inl, inr, refl, sym, ◌∙◌, ap, subst, arith}
-use Rattle.std.specs.Prelude.{slice_get, slice_set, replicate}
+use Rattle.std.proofs.Common.{◌≡◌, ◌≢◌, ℕ, zero, suc, ◌+◌, ◌-◌, ◌<◌, ◌≤◌, List, [], ◌∷◌, length, get_or, Bool, true, false, Option, Some, None, ◌⊎◌, inl, inr, Ok, Err, Result, refl, sym, ◌∙◌, ap, subst, arith}
+use Rattle.std.specs.Prelude.{slice_get, slice_set, replicate, IfOk}
+use Rattle.std.specs.declared.alloc.AllocError.{AllocError}
 use Rattle.std.proofs.lemmas.Option.{slice_get_within, slice_get-get_or, same_Some}
 use Rattle.candidate_ir.specs.declared.decl.cycles.Visit.{Visit}
 use Rattle.candidate_ir.specs.declared.decl.cycles.Visit.TheVariants as V
 use Rattle.candidate_ir.specs.declared.decl.cycles.Frame.{Frame}
 use Rattle.candidate_ir.specs.Supertraits.{Names, IsDirectSupertrait, IsSupertrait, direct, further, IsCyclic, IsRanked}
-use Rattle.candidate_ir.specs.Cycles.{Search, visit_of, is_past, is_open, opened, closed, met, met_as, IsIn, LeadsTo, IsFrame, ArePath, Knows, unseen_work, unseen_left, frames_left, left, KeepsSeen, IsStep, Ends}
+use Rattle.candidate_ir.specs.Cycles.{Search, visit_of, is_past, is_open, opened, closed, met, met_as, IsIn, LeadsTo, IsFrame, ArePath, Knows, unseen_work, unseen_left, frames_left, left, KeepsSeen, framed, IsNearer, Steps, HasEnded, Ends}
 
 -- what is read after a write
 get-set-same : {X : Type 0} (xs : List X) (i : ℕ) (x y : X) → slice_get xs i ≡ Some y → slice_get (slice_set xs i x) i ≡ Some x
@@ -397,7 +398,7 @@ met_is_seen s n u = of (visit_of s n) refl
 
 -- Steps that end in no cycle: a trait is done; a super clause names nothing; it names a trait, which is met.
 pub step_closes : (names : Names) (s : Search) (f : Frame) (fs : List Frame) → s.frames ≡ f ∷ fs → slice_get (names f.number) f.looked ≡ None
-    → Knows names s None → IsStep names s (closed f.number (record { visits = s.visits; frames = fs }))
+    → Knows names s None → IsNearer names s (closed f.number (record { visits = s.visits; frames = fs }))
 step_closes names s f fs is g k =
     let o : slice_get s.visits f.number ≡ Some V.Open = last-open names s f fs is g k in record {
       knows = knows_closed names s f fs is g k;
@@ -410,7 +411,7 @@ more-left : (names : Names) (s : Search) (f : Frame) (fs : List Frame) (e : Opti
 more-left names s f fs e is g = omega (arith, slice_get_within (names f.number) f.looked e g, ap (frames_left names) is)
 
 pub step_passes : (names : Names) (s : Search) (f : Frame) (fs : List Frame) → s.frames ≡ f ∷ fs → slice_get (names f.number) f.looked ≡ Some None
-    → Knows names s None → IsStep names s (record { visits = s.visits; frames = looked_more f ∷ fs })
+    → Knows names s None → IsNearer names s (record { visits = s.visits; frames = looked_more f ∷ fs })
 step_passes names s f fs is g k = record {
   knows = knows_more names s f fs None is g k;
   less = more-left names s f fs None is g;
@@ -418,7 +419,7 @@ step_passes names s f fs is g k = record {
 }
 
 pub step_meets : (names : Names) (s : Search) (f : Frame) (fs : List Frame) (j : ℕ) → s.frames ≡ f ∷ fs → slice_get (names f.number) f.looked ≡ Some (Some j)
-    → is_open (visit_of s j) ≡ false → Knows names s None → IsStep names s (met j (record { visits = s.visits; frames = looked_more f ∷ fs }))
+    → is_open (visit_of s j) ≡ false → Knows names s None → IsNearer names s (met j (record { visits = s.visits; frames = looked_more f ∷ fs }))
 step_meets names s f fs j is g o k =
     let t : Search = record { visits = s.visits; frames = looked_more f ∷ fs } in record {
       knows = knows_met names t j o (knows_more names s f fs (Some j) is g k);
@@ -430,6 +431,16 @@ pub step_finds : (names : Names) (s : Search) (f : Frame) (fs : List Frame) (j :
     → is_open (visit_of s j) ≡ true → Knows names s None → IsCyclic names
 step_finds names s f fs j is g o k =
     open_is_cyclic names (record { visits = s.visits; frames = looked_more f ∷ fs }) j o (knows_more names s f fs (Some j) is g k)
+
+pub step_by_meeting : (names : Names) (s t u : Search) (f : Frame) (j : ℕ) (r : Result Bool AllocError) → slice_get (names f.number) f.looked ≡ Some (Some j)
+    → t ≡ framed (looked_more f) s → IfOk r (λ b. b ≡ is_open (visit_of t j)) → IfOk r (λ _. u ≡ met j t) → Knows names (framed f s) None
+    → IfOk r (Steps names (framed f s) u)
+step_by_meeting names s t u f j (Err e) g is o m k = tt
+step_by_meeting names s t u f j (Ok true) g is o m k =
+    step_finds names (framed f s) f s.frames j refl g (sym (ap (λ (x : Search). is_open (visit_of x j)) is) ∙ sym o) k
+step_by_meeting names s t u f j (Ok false) g is o m k =
+    subst (IsNearer names (framed f s)) (sym (m ∙ ap (met j) is))
+    (step_meets names (framed f s) f s.frames j refl g (sym (ap (λ (x : Search). is_open (visit_of x j)) is) ∙ sym o) k)
 
 -- at the start nothing is seen
 unseen-only : (n i : ℕ) (v : Visit) → slice_get (replicate n V.Unseen) i ≡ Some v → v ≡ V.Unseen

@@ -1,6 +1,7 @@
 -- What a clause names, and that a table with ranks has no cycle.
 use Rattle.std.proofs.Common.{◌≡◌, ℕ, zero, suc, ◌<◌, ◌≤◌, List, [], ◌∷◌, length, Bool, true, false, Option, Some, None, IsTrue, ◌↔◌, refl, sym, ◌∙◌, ap, arith}
 use Rattle.std.specs.Prelude.{map, slice_get}
+use Rattle.std.specs.Option.{option_map}
 use Rattle.std.proofs.lemmas.Option.{slice_get_past, slice_get-map}
 use Rattle.candidate_ir.specs.declared.ir.heads.Head.{Head}
 use Rattle.candidate_ir.specs.declared.ir.heads.Head.TheVariants as H
@@ -51,3 +52,15 @@ clause_names ts x b h e g = ap clause_trait g ∙ ap (λ (t : Tree). head_trait 
 -- what is no definition has no super clauses
 pub no_names_past : (ts : List Tree) (ds : List Declaration) (c : Contents) (i : ℕ) → length ds ≤ i → named_supers ts ds c i ≡ []
 no_names_past ts ds c i h = ap (λ (d : Option Declaration). map (clause_supertrait ts) (declared_supers c d)) (slice_get_past ds i h)
+
+-- what the super clause in a place names
+pub named_at : (ts : List Tree) (ds : List Declaration) (c : Contents) (i k : ℕ) (x : Clause) (e : Option ℕ) → slice_get (declared_supers c (slice_get ds i)) k ≡ Some x
+    → clause_supertrait ts x ≡ e → slice_get (named_supers ts ds c i) k ≡ Some e
+named_at ts ds c i k x e h g =
+    slice_get-map (clause_supertrait ts) (declared_supers c (slice_get ds i)) k
+    ∙ (ap (option_map (clause_supertrait ts)) h ∙ ap (λ (o : Option ℕ). Some o) g)
+
+pub named_none : (ts : List Tree) (ds : List Declaration) (c : Contents) (i k : ℕ) → slice_get (declared_supers c (slice_get ds i)) k ≡ None
+    → slice_get (named_supers ts ds c i) k ≡ None
+named_none ts ds c i k h =
+    slice_get-map (clause_supertrait ts) (declared_supers c (slice_get ds i)) k ∙ ap (option_map (clause_supertrait ts)) h

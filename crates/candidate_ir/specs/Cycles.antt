@@ -1,9 +1,10 @@
 -- The search for a trait that is its own supertrait: it goes from trait to direct supertrait, as deep as it can first.
 use Rattle.std.specs.Prelude.{◌≡◌, ℕ, suc, ◌+◌, ◌-◌, ◌<◌, ◌≤◌, Bool, true, false, ◌⊎◌, List, [], ◌∷◌, length, Option, Some, None, slice_get, slice_set}
+use Rattle.std.specs.Bool.{MatchBool}
 use Rattle.candidate_ir.specs.declared.decl.cycles.Visit.{Visit}
 use Rattle.candidate_ir.specs.declared.decl.cycles.Visit.TheVariants as V
 use Rattle.candidate_ir.specs.declared.decl.cycles.Frame.{Frame}
-use Rattle.candidate_ir.specs.Supertraits.{Names, IsDirectSupertrait}
+use Rattle.candidate_ir.specs.Supertraits.{Names, IsDirectSupertrait, IsCyclic}
 
 -- What a search has come to: how far it is with each definition, and the traits that it is in, the last first.
 pub record Search : Type 0 where
@@ -23,11 +24,15 @@ abbrev pub is_open : Option Visit → Bool
 is_open (Some V.Open) = true
 is_open _ = false
 
+-- the search with one more frame
+abbrev pub framed : Frame → Search → Search
+framed f s = record { visits = s.visits; frames = f ∷ s.frames }
+
 -- the search in one more trait, whose super clauses are all to be looked at
 abbrev pub opened : ℕ → Search → Search
 opened i s = record { visits = slice_set s.visits i V.Open; frames = record { number = i; looked = 0 } ∷ s.frames }
 
--- The search with one trait done.
+-- the search with one trait done
 abbrev pub closed : ℕ → Search → Search
 closed i s = record { visits = slice_set s.visits i V.Done; frames = s.frames }
 
@@ -90,14 +95,21 @@ pub record KeepsSeen (s t : Search) : Type 0 where
   pub same : length t.visits ≡ length s.visits
   pub seen : (i : ℕ) → visit_of t i ≡ Some V.Unseen → visit_of s i ≡ Some V.Unseen
 
--- A step of the search that ends in no cycle.
-pub record IsStep (names : Names) (s t : Search) : Type 0 where
+-- Less is left to do than before.
+pub record IsNearer (names : Names) (s t : Search) : Type 0 where
   pub knows : Knows names t None
   pub less : left names t < left names s
   pub kept : KeepsSeen s t
 
--- All steps up to the end.
-pub record Ends (names : Names) (s t : Search) : Type 0 where
+-- a step of the search, by whether it finds a cycle
+abbrev pub Steps : Names → Search → Search → Bool → Type 0
+Steps names s t found = MatchBool found (IsCyclic names) (IsNearer names s t)
+
+-- The search is in no trait any more.
+pub record HasEnded (names : Names) (s t : Search) : Type 0 where
   pub knows : Knows names t None
   pub ended : t.frames ≡ []
   pub kept : KeepsSeen s t
+
+abbrev pub Ends : Names → Search → Search → Bool → Type 0
+Ends names s t found = MatchBool found (IsCyclic names) (HasEnded names s t)

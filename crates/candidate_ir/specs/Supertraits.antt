@@ -1,5 +1,6 @@
 -- Which traits are supertraits of a trait, and when one is its own.
-use Rattle.std.specs.Prelude.{◌≡◌, ℕ, ◌<◌, List, [], map, Option, Some, None, slice_get}
+use Rattle.std.specs.Prelude.{◌≡◌, ℕ, ◌<◌, Bool, List, [], map, Option, Some, None, slice_get}
+use Rattle.std.specs.Bool.{MatchBool}
 use Rattle.candidate_ir.specs.declared.ir.heads.Head.{Head}
 use Rattle.candidate_ir.specs.declared.ir.heads.Head.TheVariants as H
 use Rattle.candidate_ir.specs.declared.ir.heads.PartHead.TheVariants as P
@@ -56,6 +57,10 @@ IsCyclic names = (i : ℕ) × IsSupertrait names i i
 pub record IsRanked (names : Names) : Type 0 where
   pub rank : ℕ → ℕ
   pub falls : (of super : ℕ) → IsDirectSupertrait names of super → rank super < rank of
+
+-- whether some trait is its own supertrait, as a test says it
+abbrev pub SaysCyclic : Names → Bool → Type 0
+SaysCyclic names cyclic = MatchBool cyclic (IsCyclic names) (IsRanked names)
 
 abbrev pub supers_in : Context → Names
 supers_in c = named_supers c.trees c.declarations c.contents
