@@ -2,6 +2,7 @@
 use Rattle.std.proofs.Common.{◌≡◌, ◌≢◌, ℕ, zero, suc, ◌+◌, ◌-◌, ◌<◌, ◌≤◌, List, [], ◌∷◌, length, get_or, Bool, true, false, Option, Some, None, ◌⊎◌, inl, inr, Ok, Err, Result, refl, sym, ◌∙◌, ap, subst, arith}
 use Rattle.std.specs.Prelude.{slice_get, slice_set, replicate, IfOk}
 use Rattle.std.specs.declared.alloc.AllocError.{AllocError}
+use Rattle.std.proofs.lemmas.List.{length-replicate}
 use Rattle.std.proofs.lemmas.Option.{slice_get_within, slice_get-get_or, same_Some}
 use Rattle.candidate_ir.specs.declared.decl.cycles.Visit.{Visit}
 use Rattle.candidate_ir.specs.declared.decl.cycles.Visit.TheVariants as V
@@ -471,3 +472,29 @@ all_seen_ranked names s k e past seen = record { rank = k.rank; falls = λ i j d
     falls i j d (Some V.Unseen) n = absurd (seen i (slice_get_within s.visits i V.Unseen n) n)
     falls i j d (Some V.Open) n = absurd (subst (IsIn i) e (k.entered i n))
     falls i j d (Some V.Done) n = (k.done i j n d).1
+
+-- One turn of the loop over all definitions: where what is met next isn't entered already, the search goes on from it.
+pub turn_knows : (names : Names) (s t : Search) (n : ℕ) (b : Bool) → Knows names s None → s.frames ≡ [] → b ≡ is_open (visit_of s n) → b ≡ false → t ≡ met n s
+    → Knows names t None
+turn_knows names s t n b k e o f m = subst (λ (x : Search). Knows names x None) (sym m) (knows_met names s n (sym o ∙ f) (knows_root names s n e k))
+
+-- and all up to it are seen
+pub turn_seen : (s t u : Search) (n : ℕ) → ((i : ℕ) → i < n → visit_of s i ≡ Some V.Unseen → ⊥) → t ≡ met n s → KeepsSeen t u
+    → (i : ℕ) → i < n + 1 → visit_of u i ≡ Some V.Unseen → ⊥
+turn_seen s t u n seen m k i l e = at (same-or-not i n)
+  where
+    then : visit_of t i ≡ Some V.Unseen
+    then = k.seen i e
+
+    at : (i ≡ n) ⊎ (i ≢ n) → ⊥
+    at (inl q) = met_is_seen s n (ap (visit_of (met n s)) (sym q) ∙ (ap (λ (x : Search). visit_of x i) (sym m) ∙ then))
+    at (inr q) = seen i (omega (arith, l, q)) ((met_keeps s n).seen i (ap (λ (x : Search). visit_of x i) (sym m) ∙ then))
+
+pub turn_length : (s t u : Search) (n : ℕ) → t ≡ met n s → KeepsSeen t u → length u.visits ≡ length s.visits
+turn_length s t u n m k = k.same ∙ (ap (λ (x : Search). length x.visits) m ∙ (met_keeps s n).same)
+
+pub none_seen_length : (n : ℕ) → length (replicate n V.Unseen) ≡ n
+none_seen_length n = length-replicate n V.Unseen
+
+pub ended : (names : Names) (s t : Search) (b : Bool) → b ≡ false → Ends names s t b → HasEnded names s t
+ended names s t b f e = subst (Ends names s t) f e
