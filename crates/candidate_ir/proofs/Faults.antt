@@ -1,9 +1,11 @@
 -- The lowest fault of declarations.
-use Rattle.std.proofs.Common.{◌≡◌, ◌<◌, ◌⊎◌, inl, inr, true, false, IsTrue, sym, ◌∙◌, arith}
+use Rattle.std.proofs.Common.{◌≡◌, ◌<◌, ◌⊎◌, inl, inr, true, false, IsTrue, sym, ◌∙◌, subst, arith}
 use Rattle.candidate_ir.specs.declared.decl.builder.DeclFault.{DeclFault}
 use Rattle.candidate_ir.specs.declared.decl.builder.DeclFault.TheVariants as F
 use Rattle.candidate_ir.specs.Context.{Context}
 use Rattle.candidate_ir.specs.Faults.{has_unknown_id, has_wrong_parameters, has_wrong_kind, AllArgumentsFit, lacks_tail, item_has_wrong_arity, all_items, HasFault, IsLowestFault, IsFaultless, fault_number}
+use Rattle.candidate_ir.specs.Supertraits.{supers_in, HasSupertraitCycle, IsAcyclic}
+use Rattle.candidate_ir.proofs.Supertraits.{ranked_has_no_cycle}
 use Rattle.std.specs.List.{list_any}
 
 no-unknown : (c : Context) → has_unknown_id c ≡ false → HasFault c F.UnknownId → ⊥
@@ -15,6 +17,9 @@ no-arity c p a (inr n) = n a
 
 no-kind : (c : Context) → has_wrong_kind c ≡ false → HasFault c F.WrongKind → ⊥
 no-kind c k f = cc
+
+no-cycle : (c : Context) → IsAcyclic c → HasFault c F.SupertraitCycle → ⊥
+no-cycle c a f = ranked_has_no_cycle (supers_in c) a f
 
 no-tail : (c : Context) → list_any (λ d. lacks_tail c.contents d.kind) c.declarations ≡ false → HasFault c F.NoTail → ⊥
 no-tail c k f = cc
@@ -30,7 +35,7 @@ unknown_lowest c u = record { there = u; lowest = lower }
     lower F.UnknownId b f = omega (arith, b)
     lower F.WrongArity b f = omega (arith, b)
     lower F.WrongKind b f = omega (arith, b)
-    lower F.SupertraitCycle b f = f
+    lower F.SupertraitCycle b f = omega (arith, b)
     lower F.NoTail b f = omega (arith, b)
     lower F.LangArity b f = omega (arith, b)
     lower F.Memory b f = f
@@ -43,7 +48,7 @@ arity_lowest c u h = record { there = h; lowest = lower }
     lower F.UnknownId b f = no-unknown c u f
     lower F.WrongArity b f = omega (arith, b)
     lower F.WrongKind b f = omega (arith, b)
-    lower F.SupertraitCycle b f = f
+    lower F.SupertraitCycle b f = omega (arith, b)
     lower F.NoTail b f = omega (arith, b)
     lower F.LangArity b f = omega (arith, b)
     lower F.Memory b f = f
@@ -57,48 +62,63 @@ kind_lowest c u p a k = record { there = k; lowest = lower }
     lower F.UnknownId b f = no-unknown c u f
     lower F.WrongArity b f = no-arity c p a f
     lower F.WrongKind b f = omega (arith, b)
-    lower F.SupertraitCycle b f = f
+    lower F.SupertraitCycle b f = omega (arith, b)
     lower F.NoTail b f = omega (arith, b)
     lower F.LangArity b f = omega (arith, b)
     lower F.Memory b f = f
 
--- no tail, where all is of its kind
-pub tail_lowest : (c : Context) → has_unknown_id c ≡ false → has_wrong_parameters c ≡ false → AllArgumentsFit c → has_wrong_kind c ≡ false
+-- a trait that is its own supertrait, where all is of its kind, or a growth that was refused
+pub cycle_lowest : (c : Context) (g : DeclFault) → has_unknown_id c ≡ false → has_wrong_parameters c ≡ false → AllArgumentsFit c → has_wrong_kind c ≡ false
+    → (g ≡ F.Memory) ⊎ ((g ≡ F.SupertraitCycle) × HasSupertraitCycle c) → (g ≡ F.Memory) ⊎ IsLowestFault c g
+cycle_lowest c g u p a k (inl m) = inl m
+cycle_lowest c g u p a k (inr s) = inr (subst (IsLowestFault c) (sym s.0) (record { there = s.1; lowest = lower }))
+  where
+    lower : (g : DeclFault) → fault_number g < 4 → HasFault c g → ⊥
+    lower F.UnknownId b f = no-unknown c u f
+    lower F.WrongArity b f = no-arity c p a f
+    lower F.WrongKind b f = no-kind c k f
+    lower F.SupertraitCycle b f = omega (arith, b)
+    lower F.NoTail b f = omega (arith, b)
+    lower F.LangArity b f = omega (arith, b)
+    lower F.Memory b f = f
+
+-- no tail, where no trait is its own supertrait
+pub tail_lowest : (c : Context) → has_unknown_id c ≡ false → has_wrong_parameters c ≡ false → AllArgumentsFit c → has_wrong_kind c ≡ false → IsAcyclic c
     → list_any (λ d. lacks_tail c.contents d.kind) c.declarations ≡ true → IsLowestFault c F.NoTail
-tail_lowest c u p a k t = record { there = t; lowest = lower }
+tail_lowest c u p a k y t = record { there = t; lowest = lower }
   where
     lower : (g : DeclFault) → fault_number g < 5 → HasFault c g → ⊥
     lower F.UnknownId b f = no-unknown c u f
     lower F.WrongArity b f = no-arity c p a f
     lower F.WrongKind b f = no-kind c k f
-    lower F.SupertraitCycle b f = f
+    lower F.SupertraitCycle b f = no-cycle c y f
     lower F.NoTail b f = omega (arith, b)
     lower F.LangArity b f = omega (arith, b)
     lower F.Memory b f = f
 
 -- wrong parameters of a lang item, where nothing else is wrong
-pub item_lowest : (c : Context) → has_unknown_id c ≡ false → has_wrong_parameters c ≡ false → AllArgumentsFit c → has_wrong_kind c ≡ false
+pub item_lowest : (c : Context) → has_unknown_id c ≡ false → has_wrong_parameters c ≡ false → AllArgumentsFit c → has_wrong_kind c ≡ false → IsAcyclic c
     → list_any (λ d. lacks_tail c.contents d.kind) c.declarations ≡ false → list_any (item_has_wrong_arity c.declarations c.contents.lang_items) all_items ≡ true
     → IsLowestFault c F.LangArity
-item_lowest c u p a k t i = record { there = i; lowest = lower }
+item_lowest c u p a k y t i = record { there = i; lowest = lower }
   where
     lower : (g : DeclFault) → fault_number g < 6 → HasFault c g → ⊥
     lower F.UnknownId b f = no-unknown c u f
     lower F.WrongArity b f = no-arity c p a f
     lower F.WrongKind b f = no-kind c k f
-    lower F.SupertraitCycle b f = f
+    lower F.SupertraitCycle b f = no-cycle c y f
     lower F.NoTail b f = no-tail c t f
     lower F.LangArity b f = omega (arith, b)
     lower F.Memory b f = f
 
 -- and nothing is wrong
-pub faultless : (c : Context) → has_unknown_id c ≡ false → has_wrong_parameters c ≡ false → AllArgumentsFit c → has_wrong_kind c ≡ false
+pub faultless : (c : Context) → has_unknown_id c ≡ false → has_wrong_parameters c ≡ false → AllArgumentsFit c → has_wrong_kind c ≡ false → IsAcyclic c
     → list_any (λ d. lacks_tail c.contents d.kind) c.declarations ≡ false → list_any (item_has_wrong_arity c.declarations c.contents.lang_items) all_items ≡ false
     → IsFaultless c
-faultless c u p a k t i F.UnknownId f = no-unknown c u f
-faultless c u p a k t i F.WrongArity f = no-arity c p a f
-faultless c u p a k t i F.WrongKind f = no-kind c k f
-faultless c u p a k t i F.SupertraitCycle f = f
-faultless c u p a k t i F.NoTail f = no-tail c t f
-faultless c u p a k t i F.LangArity f = no-item c i f
-faultless c u p a k t i F.Memory f = f
+faultless c u p a k y t i F.UnknownId f = no-unknown c u f
+faultless c u p a k y t i F.WrongArity f = no-arity c p a f
+faultless c u p a k y t i F.WrongKind f = no-kind c k f
+faultless c u p a k y t i F.SupertraitCycle f = no-cycle c y f
+faultless c u p a k y t i F.NoTail f = no-tail c t f
+faultless c u p a k y t i F.LangArity f = no-item c i f
+faultless c u p a k y t i F.Memory f = f

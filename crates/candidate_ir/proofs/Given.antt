@@ -34,7 +34,7 @@ use Rattle.candidate_ir.specs.Faults.{ImplFits, ImplsFit}
 use Rattle.candidate_ir.specs.WellFormed.{IsWellFormedTable, TypesFit, SignatureFits, HeaderFits, AreGiven}
 use Rattle.candidate_ir.specs.Words.{IsTy, IsArgs, IsVars, IsClause, ClauseListFits}
 use Rattle.candidate_ir.proofs.Folding.{or-left, or-right}
-use Rattle.candidate_ir.proofs.WellFormed.{any-of, any-right}
+use Rattle.candidate_ir.proofs.WellFormed.{any-of, any-right, definition-passes}
 
 -- What is given is of its kind
 
@@ -79,18 +79,6 @@ option-fits ts o None e = tt
 option-fits ts o (Some t) e = type-kind (kind_at ts t.0) (first-given ts (held_type o t) [] e)
 
 -- What a definition holds
-
--- a test that nothing passes that is held is passed by nothing that one definition holds
-pub definition-passes : (f : Held → Bool) (c : Contents) (i : ℕ) (ds : List Declaration) (n j : ℕ) (d : Declaration) → list_any f (definitions_held c i ds) ≡ false
-    → slice_get ds n ≡ Some d → j ≡ n + i → list_any f (definition_held c j d.kind) ≡ false
-definition-passes f c i [] n j d g e q = absurd cc
-definition-passes f c i (x ∷ xs) zero j d g e q =
-    let same : d ≡ x = cc in
-    let at : j ≡ i = omega (arith, q) in
-    ap (λ (y : Declaration). list_any f (definition_held c j y.kind)) same
-    ∙ (ap (λ (m : ℕ). list_any f (definition_held c m x.kind)) at ∙ any-of f (definition_held c i x.kind) (definitions_held c (suc i) xs) g)
-definition-passes f c i (x ∷ xs) (suc n) j d g e q =
-    definition-passes f c (suc i) xs n j d (any-right f (definition_held c i x.kind) (definitions_held c (suc i) xs) g) e (omega (arith, q))
 
 definition_at : (c : Context) → IsWellFormedTable c → (n : ℕ) (d : Declaration) → slice_get c.declarations n ≡ Some d → AreGiven c (definition_held c.contents n d.kind)
 definition_at c t n d e =

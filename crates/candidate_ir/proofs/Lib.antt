@@ -15,6 +15,8 @@ pub mod Members
 pub mod Growing
 pub mod Headers
 pub mod Supers
+pub mod Supertraits
+pub mod Cycles
 pub mod Holding
 pub mod Misplacing
 pub mod References

@@ -37,8 +37,7 @@ use Rattle.candidate_ir.specs.Faults.{all_that_is_held}
 use Rattle.candidate_ir.specs.References.{ArgumentsFit}
 use Rattle.candidate_ir.specs.WellFormed.{IsWellFormedTable}
 use Rattle.candidate_ir.specs.Words.{args_forest, clause_tree}
-use Rattle.candidate_ir.proofs.WellFormed.{any-of}
-use Rattle.candidate_ir.proofs.Given.{definition-passes}
+use Rattle.candidate_ir.proofs.WellFormed.{any-of, definition-passes}
 use Rattle.candidate_ir.proofs.Folding.{or-left, or-right}
 
 -- there is an argument for each parameter, of its kind

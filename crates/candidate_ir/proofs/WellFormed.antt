@@ -22,6 +22,7 @@ use Rattle.candidate_ir.specs.Binders.{tree_escapes}
 use Rattle.std.specs.Prelude.{cond}
 use Rattle.candidate_ir.specs.Held.{impls_held, held_clause, held_clauses, held_types, trait_held, definition_held, definitions_held, if_there}
 use Rattle.candidate_ir.specs.Misplaced.{is_held_kind, is_not_given, held_misplaces, held_escapes, tree_misplaces, kinds_of_owner}
+use Rattle.candidate_ir.specs.Supertraits.{Names, IsRanked, IsAcyclic, supers_in, named_supers, clause_supertrait, head_trait}
 use Rattle.candidate_ir.specs.Supers.{supers_at, supers_of, is_no_super, is_super_clause, has_wrong_super}
 use Rattle.candidate_ir.specs.References.{AllFit, IsWellFormed}
 use Rattle.candidate_ir.specs.Names.{names_unknown}
@@ -30,6 +31,8 @@ use Rattle.candidate_ir.specs.WellFormed.{IsWellFormedTable, IsWellFormedContext
 use Rattle.candidate_ir.specs.Words.{IsArgs, args_forest}
 use Rattle.candidate_ir.specs.Worlds.{World, TraitSort, joined, parameters, kinds_of}
 use Rattle.candidate_ir.specs.Trees.{TypeKind}
+use Rattle.candidate_ir.specs.Faults.{IsFaultless}
+use Rattle.candidate_ir.proofs.Faults.{faultless}
 use Rattle.candidate_ir.proofs.Folding.{or-left, or-right}
 use Rattle.candidate_ir.proofs.Lists.{below_kind}
 use Rattle.candidate_ir.proofs.Kept.{number-kept}
@@ -37,10 +40,10 @@ use Rattle.candidate_ir.proofs.References.{fit-take}
 use Rattle.candidate_ir.proofs.Misplacing.{given_below}
 
 -- declarations that were looked through
-pub nothing_wrong : (c : Context) → has_unknown_id c ≡ false → has_wrong_parameters c ≡ false → AllArgumentsFit c → has_wrong_kind c ≡ false
+table-of-all : (c : Context) → has_unknown_id c ≡ false → has_wrong_parameters c ≡ false → AllArgumentsFit c → has_wrong_kind c ≡ false → IsAcyclic c
     → list_any (λ d. lacks_tail c.contents d.kind) c.declarations ≡ false → list_any (item_has_wrong_arity c.declarations c.contents.lang_items) all_items ≡ false
     → IsWellFormedTable c
-nothing_wrong c u p a k t i =
+table-of-all c u p a k z t i =
     let rest = or-right (declarations_misname c) (contents_misname c || nodes_misname c) u in
     let nodes = or-right (contents_misname c) (nodes_misname c) rest in
     record {
@@ -50,9 +53,29 @@ nothing_wrong c u p a k t i =
       parameters = p;
       arguments = a;
       kinds = k;
+      supertraits = z;
       tails = t;
       items = i;
     }
+
+pub nothing_wrong : (c : Context) → has_unknown_id c ≡ false → has_wrong_parameters c ≡ false → AllArgumentsFit c → has_wrong_kind c ≡ false → IsAcyclic c
+    → list_any (λ d. lacks_tail c.contents d.kind) c.declarations ≡ false → list_any (item_has_wrong_arity c.declarations c.contents.lang_items) all_items ≡ false
+    → IsFaultless c × IsWellFormedTable c
+nothing_wrong c u p a k z t i = (faultless c u p a k z t i, table-of-all c u p a k z t i)
+
+-- however many of its nodes are said to be declared
+pub declared_all : (c : Context) (n : ℕ) → IsWellFormedTable c → IsWellFormedTable (record c { declared_nodes = n })
+declared_all c n t = record {
+  definitions = t.definitions;
+  impls = t.impls;
+  given = t.given;
+  parameters = t.parameters;
+  arguments = record { nodes = t.arguments.nodes; impls = t.arguments.impls };
+  kinds = t.kinds;
+  supertraits = record { rank = t.supertraits.rank; falls = t.supertraits.falls };
+  tails = t.tails;
+  items = t.items;
+}
 
 -- A context with more nodes
 
@@ -131,6 +154,59 @@ all-supers-kept old new c i (d ∷ ds) e n =
     let rest = all-supers-kept old new c (suc i) ds e (any-right (is_not_given old) (definition_held c i d.kind) (definitions_held c (suc i) ds) n) in
     ap (λ (b : Bool). b || list_any (λ (x : Declaration). has_wrong_super new c x.kind) ds) here ∙ ap (λ (b : Bool). has_wrong_super old c d.kind || b) rest
 
+-- a test that nothing passes that is held is passed by nothing that one definition holds
+pub definition-passes : (f : Held → Bool) (c : Contents) (i : ℕ) (ds : List Declaration) (n j : ℕ) (d : Declaration) → list_any f (definitions_held c i ds) ≡ false
+    → slice_get ds n ≡ Some d → j ≡ n + i → list_any f (definition_held c j d.kind) ≡ false
+definition-passes f c i [] n j d g e q = absurd cc
+definition-passes f c i (x ∷ xs) zero j d g e q =
+    let same : d ≡ x = cc in
+    let at : j ≡ i = omega (arith, q) in
+    ap (λ (y : Declaration). list_any f (definition_held c j y.kind)) same
+    ∙ (ap (λ (m : ℕ). list_any f (definition_held c m x.kind)) at ∙ any-of f (definition_held c i x.kind) (definitions_held c (suc i) xs) g)
+definition-passes f c i (x ∷ xs) (suc n) j d g e q =
+    definition-passes f c (suc i) xs n j d (any-right f (definition_held c i x.kind) (definitions_held c (suc i) xs) g) e (omega (arith, q))
+
+-- Supertraits stay
+
+names-kept : (old new : List Tree) (o : Owner) (xs : List Clause) → Extends old new → list_any (is_not_given old) (held_clauses o xs) ≡ false
+    → map (clause_supertrait new) xs ≡ map (clause_supertrait old) xs
+names-kept old new o [] e n = refl
+names-kept old new o (x ∷ xs) e n =
+    let h = held_clause o x in
+    let here : clause_supertrait new x ≡ clause_supertrait old x = ap (λ (t : Tree). head_trait t.head) (tree-kept old new e h (or-left (is_not_given old h) (list_any (is_not_given old) (held_clauses o xs)) n)) in
+    let rest = names-kept old new o xs e (or-right (is_not_given old h) (list_any (is_not_given old) (held_clauses o xs)) n) in
+    ap (λ (y : Option ℕ). y ∷ map (clause_supertrait new) xs) here ∙ ap (λ (ys : List (Option ℕ)). clause_supertrait old x ∷ ys) rest
+
+supers-named : (old new : List Tree) (o : Owner) (t : Option TraitContents) → Extends old new → list_any (is_not_given old) (if_there (trait_held o) t) ≡ false
+    → map (clause_supertrait new) (supers_at t) ≡ map (clause_supertrait old) (supers_at t)
+supers-named old new o None e n = refl
+supers-named old new o (Some t) e n = names-kept old new o t.supers e (any-of (is_not_given old) (held_clauses o t.supers) (held_clauses o t.wheres) n)
+
+kind-named : (old new : List Tree) (c : Contents) (i : ℕ) (k : DefinitionKind) → Extends old new → list_any (is_not_given old) (definition_held c i k) ≡ false
+    → map (clause_supertrait new) (supers_of c k) ≡ map (clause_supertrait old) (supers_of c k)
+kind-named old new c i (D.Trait flags p) e n = supers-named old new (O.Definition i) (slice_get c.traits p) e n
+kind-named old new c i (D.Adt _ _ _) e n = refl
+kind-named old new c i D.Foreign e n = refl
+kind-named old new c i (D.Assoc _ _ _ _) e n = refl
+kind-named old new c i (D.Alias _) e n = refl
+kind-named old new c i (D.Opaque _ _) e n = refl
+kind-named old new c i (D.Function _ _) e n = refl
+kind-named old new c i (D.Closure _) e n = refl
+
+supertraits-kept : (old new : List Tree) (c : Contents) (ds : List Declaration) → Extends old new → list_any (is_not_given old) (definitions_held c 0 ds) ≡ false
+    → (i : ℕ) → named_supers new ds c i ≡ named_supers old ds c i
+supertraits-kept old new c ds e n i = of (slice_get ds i) refl
+  where
+    of : (o : Option Declaration) → slice_get ds i ≡ o → named_supers new ds c i ≡ named_supers old ds c i
+    of None q = rw q refl
+    of (Some d) q = rw q (kind-named old new c i d.kind e (definition-passes (is_not_given old) c 0 ds i i d n q (omega arith)))
+
+ranked-kept : (f g : Names) → ((i : ℕ) → f i ≡ g i) → IsRanked g → IsRanked f
+ranked-kept f g same r = record {
+  rank = r.rank;
+  falls = λ i j d. r.falls i j (record { place = d.place; named = ap (λ (xs : List (Option ℕ)). slice_get xs d.place) (sym (same i)) ∙ d.named });
+}
+
 -- Headers keep their arguments
 
 impl-kept : (w : World) (old new : List Tree) (i : Impl) → Extends old new → ImplFits w old i → ImplFits w new i
@@ -169,6 +245,7 @@ table_stays c w =
           (misplaced-kept M.Stray old c.trees c e t.given)
           ∙ (ap (λ (b : Bool). strays || (b || list_any (λ (d : Declaration). has_wrong_super c.trees c.contents d.kind) c.declarations)) (escapes-kept old c.trees hs e t.given)
           ∙ (ap (λ (b : Bool). strays || (list_any (held_escapes old) hs || b)) supers ∙ t.kinds));
+      supertraits = ranked-kept (supers_in c) (supers_in (declared_part c)) (supertraits-kept old c.trees c.contents c.declarations e held) t.supertraits;
       tails = t.tails;
       items = t.items;
     }
@@ -183,6 +260,7 @@ table_of c w =
       parameters = t.parameters;
       arguments = record { nodes = t.arguments.nodes; impls = t.arguments.impls };
       kinds = t.kinds;
+      supertraits = record { rank = t.supertraits.rank; falls = t.supertraits.falls };
       tails = t.tails;
       items = t.items;
     }

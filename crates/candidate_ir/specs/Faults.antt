@@ -22,6 +22,7 @@ use Rattle.candidate_ir.specs.Context.{Context, world, is_unknown, is_declared_t
 use Rattle.candidate_ir.specs.Held.{all_held}
 use Rattle.candidate_ir.specs.Misplaced.{is_not_given, held_misplaces, held_escapes}
 use Rattle.candidate_ir.specs.Supers.{has_wrong_super}
+use Rattle.candidate_ir.specs.Supertraits.{HasSupertraitCycle}
 use Rattle.candidate_ir.specs.Names.{names_unknown}
 use Rattle.candidate_ir.specs.References.{IsWellFormed}
 use Rattle.candidate_ir.specs.Trees.{TypeKind, Tree}
@@ -146,6 +147,7 @@ abbrev pub HasFault : Context → DeclFault → Type 0
 HasFault c F.UnknownId = IsTrue (has_unknown_id c)
 HasFault c F.WrongArity = IsTrue (has_wrong_parameters c) ⊎ (AllArgumentsFit c → ⊥)
 HasFault c F.WrongKind = IsTrue (has_wrong_kind c)
+HasFault c F.SupertraitCycle = HasSupertraitCycle c
 HasFault c F.NoTail = IsTrue (list_any (λ d. lacks_tail c.contents d.kind) c.declarations)
 HasFault c F.LangArity = IsTrue (list_any (item_has_wrong_arity c.declarations c.contents.lang_items) all_items)
 HasFault c _ = ⊥

@@ -16,6 +16,8 @@ pub mod Lookups
 pub mod Held
 pub mod Misplaced
 pub mod Supers
+pub mod Supertraits
+pub mod Cycles
 pub mod References
 pub mod Making
 pub mod Names

@@ -12,6 +12,7 @@ use Rattle.candidate_ir.specs.Nodes.{kinds_at}
 use Rattle.candidate_ir.specs.Context.{Context}
 use Rattle.candidate_ir.specs.declared.ir.kinds.TraitRef.{TraitRef}
 use Rattle.candidate_ir.specs.References.{IsWellFormed, ArgumentsFit}
+use Rattle.candidate_ir.specs.Supertraits.{IsAcyclic}
 use Rattle.candidate_ir.specs.Misplaced.{is_not_given}
 use Rattle.candidate_ir.specs.Faults.{all_that_is_held, declarations_misname, contents_misname, has_wrong_parameters, AllArgumentsFit, has_wrong_kind, lacks_tail, item_has_wrong_arity, all_items}
 
@@ -28,6 +29,8 @@ pub record IsWellFormedTable (c : Context) : Type 0 where
   -- a parameter is of the kind that it stands for; no variable, placeholder or unbound variable is declared; super clauses
   -- say of `Self` what they may
   pub kinds : has_wrong_kind c ≡ false
+  -- no trait is its own supertrait: each has a rank, which its direct supertraits' are below
+  pub supertraits : IsAcyclic c
   -- what changes where it is unsized is a struct with a field
   pub tails : list_any (λ d. lacks_tail c.contents d.kind) c.declarations ≡ false
   -- lang items have the parameters of their items

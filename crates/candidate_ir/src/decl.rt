@@ -4,6 +4,7 @@ pub mod arity;
 pub mod builder;
 pub mod contents;
 pub mod context;
+pub mod cycles;
 pub mod definition;
 pub mod faults;
 pub mod fold;

@@ -5,6 +5,7 @@ ghost use Rattle.candidate_ir.specs.Context.{declared};
 ghost use Rattle.candidate_ir.specs.Declaring.{nothing, declared_adt, declared_trait, declared_opaque, declared_assoc, declared_impl, with_adt, with_trait, with_bounds, with_impl, with_constraint, with_bound, item_number};
 ghost use Rattle.candidate_ir.specs.Faults.{all_that_is_held, declarations_misname, contents_misname, has_unknown_id, has_wrong_parameters, AllArgumentsFit, has_wrong_kind, HasFault, IsFaultless, IsLowestFault};
 ghost use Rattle.candidate_ir.specs.WellFormed.{IsWellFormedTable};
+ghost use Rattle.candidate_ir.specs.Supertraits.{HasSupertraitCycle, IsAcyclic};
 ghost use Rattle.candidate_ir.specs.Making.{Makes, a_type, a_constant, a_region, a_list, a_binder, some_bounds, a_signature, a_clause, an_environment};
 ghost use Rattle.candidate_ir.specs.Words.{KindFits, ConstKindFits, ListFits, BoundsFit, SigFits, ClauseFits, ClauseListFits, AtMostOnePrincipal};
 ghost use Rattle.candidate_ir.specs.declared.decl.builder.DeclFault.TheVariants.{Memory};
@@ -14,6 +15,7 @@ use crate::decl::contents::{
     AdtContents, AliasBoundKind, Bounds, Contents, Destructor, Impl, ImplId, ImplPolarity,
     LangItem, Sizedness, TraitContents, adt_place, bounds_place, trait_place,
 };
+use crate::decl::cycles::has_supertrait_cycle;
 use crate::decl::definition::{
     AdtFlags, AdtShape, AliasShape, AssocKind, CrateId, Declaration, DefinitionKind, FnFlags,
     Parameters, TraitFlags,
@@ -702,11 +704,24 @@ impl DeclsBuilder {
             || any_has_wrong_super(&self.nodes, definitions, &self.contents)
     }
 
-    /// The fault with the lowest number, if there is one.
-    #[tactic(auto, using(crate::proofs::Faults::unknown_lowest, crate::proofs::Faults::arity_lowest, crate::proofs::Faults::kind_lowest, crate::proofs::Faults::tail_lowest, crate::proofs::Faults::item_lowest, crate::proofs::Faults::faultless, crate::proofs::WellFormed::nothing_wrong))]
+    /// The fault that a search for a supertrait cycle finds, or a refused growth.
+    fn supertrait_fault(&self) -> Option<DeclFault>
+        ensures { MatchOption result (IsAcyclic self.now) (λ f. (f ≡ DeclFault.Memory) ⊎ ((f ≡ DeclFault.SupertraitCycle) × HasSupertraitCycle self.now)) }
+    {
+        let alloc = *self.definitions.allocator();
+        let definitions = self.definitions.as_slice();
+        match has_supertrait_cycle(alloc, &self.nodes, definitions, &self.contents) {
+            Ok(true) => Some(DeclFault::SupertraitCycle),
+            Ok(false) => None,
+            Err(_) => Some(DeclFault::Memory),
+        }
+    }
+
+    /// The fault with the lowest number, if there is one, or a refused growth.
+    #[tactic(auto, using(crate::proofs::Faults::unknown_lowest, crate::proofs::Faults::arity_lowest, crate::proofs::Faults::kind_lowest, crate::proofs::Faults::cycle_lowest))]
     fn fault(&self, held: &[Held]) -> Option<DeclFault>
         requires { held.now ≡ all_that_is_held self.now }
-        ensures { MatchOption result (IsFaultless self.now × IsWellFormedTable self.now) (λ f. IsLowestFault self.now f) }
+        ensures { MatchOption result (IsFaultless self.now × IsWellFormedTable self.now) (λ f. (f ≡ DeclFault.Memory) ⊎ IsLowestFault self.now f) }
     {
         if self.has_unknown_id(held) {
             return Some(DeclFault::UnknownId);
@@ -719,6 +734,9 @@ impl DeclsBuilder {
         }
         if self.has_wrong_kind(held) {
             return Some(DeclFault::WrongKind);
+        }
+        if let Some(fault) = self.supertrait_fault() {
+            return Some(fault);
         }
         if any_lacks_tail(self.definitions.as_slice(), &self.contents) {
             return Some(DeclFault::NoTail);

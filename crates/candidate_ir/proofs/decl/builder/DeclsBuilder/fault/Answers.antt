@@ -1,0 +1,14 @@
+use Rattle.std.proofs.Common.{rules, inr}
+use Rattle.candidate_ir.proofs.Faults.{tail_lowest, item_lowest}
+use Rattle.candidate_ir.proofs.WellFormed.{nothing_wrong}
+use Rattle.candidate_ir.proofs.decl.builder.DeclsBuilder.fault.Goals as goal
+
+pub returns-then-any_lacks_tail : goal.returns-then-any_lacks_tail
+returns-then-any_lacks_tail c = inr (tail_lowest _ (search rules) (search rules) (search rules) (search rules) c.in_default.ensures (search rules))
+
+pub returns-then-any_item_has_wrong_arity : goal.returns-then-any_item_has_wrong_arity
+returns-then-any_item_has_wrong_arity c =
+    inr (item_lowest _ (search rules) (search rules) (search rules) (search rules) c.in_default.ensures (search rules) (search rules))
+
+pub returns : goal.returns
+returns c = nothing_wrong _ (search rules) (search rules) (search rules) (search rules) c.in_default.ensures (search rules) (search rules)
