@@ -94,9 +94,10 @@ path-keeps : (names : Names) (s t : Search) (next : Option ℕ) (fs : List Frame
     → ((j : ℕ) → is_past (visit_of s j) ≡ true → is_past (visit_of t j) ≡ true)
     → ArePath names s next fs → ArePath names t next fs
 path-keeps names s t next [] o p a = tt
-path-keeps names s t next (f ∷ fs) o p a =
-    (record { entered = o f.number (inl refl) a.0.entered; leads = a.0.leads; before = λ k j l e. still j (a.0.before k j l e) },
-      (a.1.0, path-keeps names s t (Some f.number) fs (λ i q. o i (inr q)) p a.1.1))
+path-keeps names s t next (f ∷ fs) o p a = (
+  record { entered = o f.number (inl refl) a.0.entered; leads = a.0.leads; before = λ k j l e. still j (a.0.before k j l e) },
+  (a.1.0, path-keeps names s t (Some f.number) fs (λ i q. o i (inr q)) p a.1.1),
+)
   where
     still : (j : ℕ) → (is_past (visit_of s j) ≡ true) ⊎ (next ≡ Some j) → (is_past (visit_of t j) ≡ true) ⊎ (next ≡ Some j)
     still j (inl q) = inl (p j q)
@@ -182,8 +183,10 @@ knows-opened : (names : Names) (s : Search) (n : ℕ) → visit_of s n ≡ Some 
 knows-opened names s n u k = record {
   path = (
     record { entered = get-set-same s.visits n V.Open V.Unseen u; leads = tt; before = λ i j l e. absurd (omega (arith, l)) },
-    ((λ q. unseen-open (path-open names s (Some n) s.frames n k.path q)),
-      path-keeps names s (opened n s) (Some n) s.frames (λ i q o. get-set-other s.visits n i V.Open (other i o) ∙ o) past k.path),
+    (
+      (λ q. unseen-open (path-open names s (Some n) s.frames n k.path q)),
+      path-keeps names s (opened n s) (Some n) s.frames (λ i q o. get-set-other s.visits n i V.Open (other i o) ∙ o) past k.path,
+    ),
   );
   entered = λ i o. in-frames i o (same-or-not i n);
   rank = k.rank;

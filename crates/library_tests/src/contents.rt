@@ -1,7 +1,7 @@
 //! What definitions hold, and the faults of it.
 
 ghost use Rattle.candidate_ir.specs.Context.{Grows};
-ghost use Rattle.candidate_ir.specs.Words.{IsTy, IsArgs, IsVars};
+ghost use Rattle.candidate_ir.specs.Words.{IsTy, IsRegion, IsArgs, IsVars};
 
 use crate::asserts::{equals, equals_in_row, holds};
 use candidate_ir::decl::builder::{DeclFault, DeclsBuilder};
@@ -11,15 +11,16 @@ use candidate_ir::decl::contents::{
 use candidate_ir::decl::context::Cx;
 use candidate_ir::decl::definition::{AdtFlags, AdtShape, AssocKind, CrateId, TraitFlags};
 use candidate_ir::ir::kinds::{
-    AdtId, AliasId, Args, AssocId, Binder, BoundVar, Clause, ClauseKind, GenericArg, InferTy,
-    Placeholder, PredicatePolarity, TraitId, TraitPredicate, TraitRef, Ty, TyKind, VarKind, Vars,
+    AdtId, AliasId, AliasTerm, Args, AssocId, Binder, BoundVar, Clause, ClauseKind, GenericArg,
+    InferTy, Placeholder, PredicatePolarity, ProjectionPredicate, Region, RegionKind, TraitId,
+    TraitPredicate, TraitRef, Ty, TyKind, VarKind, Vars,
 };
 use std::alloc::Global;
 use std::process::Abort;
 
 /// What is held: a type, or something over it; or what was never given.
 #[derive(Clone, Copy)]
-enum Sample {
+pub enum Sample {
     Plain,
     Param(u32),
     Variable,
@@ -36,6 +37,11 @@ enum Call {
     Destructor(u32, Destructor),
     Unsizing(u32, u32),
     Super(u32, Sample),
+    /// A super clause of the first trait says that the second one holds.
+    Supertrait(u32, u32),
+    /// A super clause says what an associated type is, and one what outlives a region.
+    SuperItem(u32),
+    SuperRegion(u32),
     Where(u32, Sample),
     Bound(u32, AliasBoundKind, Sample),
     ImplOf(u32, ImplPolarity, Sample),
@@ -60,6 +66,18 @@ const BUFFER: u32 = 4;
 
 const ENUM: u32 = 5;
 
+/// Four more traits.
+const FIRST: u32 = 6;
+
+const SECOND: u32 = 7;
+
+const THIRD: u32 = 8;
+
+const FOURTH: u32 = 9;
+
+/// A number that no call gives.
+const UNGIVEN: u32 = 99;
+
 fn add_definitions(rt: &impl Abort, builder: &mut DeclsBuilder) {
     let krate = builder.add_crate().expect(rt, "a crate");
     let flags = AdtFlags::default();
@@ -76,6 +94,10 @@ fn add_definitions(rt: &impl Abort, builder: &mut DeclsBuilder) {
     holds(rt, buffer.is_ok(), "a struct with a constant");
     let choice = builder.add_adt(krate, AdtShape::Enum, &[VarKind::Ty], flags);
     holds(rt, choice.is_ok(), "an enum");
+    for label in ["a first trait", "a second", "a third", "a fourth"] {
+        let of = builder.add_trait(krate, &[VarKind::Ty], TraitFlags::default());
+        holds(rt, of.is_ok(), label);
+    }
 }
 
 /// The type of the sample; of nothing it is some type.
@@ -127,14 +149,16 @@ fn trait_ref(rt: &impl Abort, builder: &mut DeclsBuilder, of: u32, sample: Sampl
     }
 }
 
-/// That this trait holds, under a binder of no variables.
-fn sample_clause(rt: &impl Abort, builder: &mut DeclsBuilder, sample: Sample) -> Clause {
+/// That the trait holds of the type and of the same type, under a binder of no variables.
+pub fn trait_clause(
+    rt: &impl Abort,
+    builder: &mut DeclsBuilder,
+    of: TraitId,
+    sample: Sample,
+) -> Clause {
     let args = twice(rt, builder, sample);
     let vars = no_variables(rt, builder);
-    let trait_ref = TraitRef {
-        def_id: TraitId(TRAIT),
-        args,
-    };
+    let trait_ref = TraitRef { def_id: of, args };
     let predicate = TraitPredicate {
         trait_ref,
         polarity: PredicatePolarity::Positive,
@@ -144,10 +168,44 @@ fn sample_clause(rt: &impl Abort, builder: &mut DeclsBuilder, sample: Sample) ->
     clause.expect(rt, "a clause")
 }
 
-fn clause(rt: &impl Abort, builder: &mut DeclsBuilder, sample: Sample) -> Clause {
+/// That the trait's associated type of `Self` is a type.
+fn item_clause(rt: &impl Abort, builder: &mut DeclsBuilder) -> Clause {
+    let args = twice(rt, builder, Sample::Param(0));
+    let term = sample_ty(rt, builder, Sample::Plain);
+    let vars = no_variables(rt, builder);
+    let projection_term = AliasTerm {
+        def_id: AssocId(ASSOC),
+        args,
+    };
+    let value = ClauseKind::Projection(ProjectionPredicate {
+        projection_term,
+        term,
+    });
+    let clause = builder.mk_clause(Binder { vars, value });
+    clause.expect(rt, "a clause")
+}
+
+fn static_region(rt: &impl Abort, builder: &mut DeclsBuilder) -> Region
+    ensures grows { Grows builder.old builder.new }
+    ensures sort { IsRegion builder.new.trees result }
+{
+    builder.mk_region(RegionKind::Static).expect(rt, "a region")
+}
+
+/// That `Self` lives as long as the program.
+fn region_clause(rt: &impl Abort, builder: &mut DeclsBuilder) -> Clause {
+    let ty = sample_ty(rt, builder, Sample::Param(0));
+    let region = static_region(rt, builder);
+    let vars = no_variables(rt, builder);
+    let value = ClauseKind::TypeOutlives(ty, region);
+    let clause = builder.mk_clause(Binder { vars, value });
+    clause.expect(rt, "a clause")
+}
+
+fn clause(rt: &impl Abort, builder: &mut DeclsBuilder, of: u32, sample: Sample) -> Clause {
     match sample {
         Sample::Nothing => Clause(4_000_000),
-        _ => sample_clause(rt, builder, sample),
+        _ => trait_clause(rt, builder, TraitId(of), sample),
     }
 }
 
@@ -176,19 +234,27 @@ fn call_of_types(rt: &impl Abort, builder: &mut DeclsBuilder, call: Call) -> boo
     }
 }
 
-/// Calls about traits and bounds.
+/// Calls about super clauses.
+fn call_of_supers(rt: &impl Abort, builder: &mut DeclsBuilder, call: Call) -> bool {
+    let (of, clause) = match call {
+        Call::Super(of, sample) => (of, clause(rt, builder, FIRST, sample)),
+        Call::Supertrait(of, other) => (of, clause(rt, builder, other, Sample::Param(0))),
+        Call::SuperItem(of) => (of, item_clause(rt, builder)),
+        Call::SuperRegion(of) => (of, region_clause(rt, builder)),
+        _ => return false,
+    };
+    builder.push_super(TraitId(of), clause).is_ok()
+}
+
+/// Calls about where clauses of traits, and about bounds.
 fn call_of_traits(rt: &impl Abort, builder: &mut DeclsBuilder, call: Call) -> bool {
     match call {
-        Call::Super(of, sample) => {
-            let clause = clause(rt, builder, sample);
-            builder.push_super(TraitId(of), clause).is_ok()
-        }
         Call::Where(of, sample) => {
-            let clause = clause(rt, builder, sample);
+            let clause = clause(rt, builder, TRAIT, sample);
             builder.push_where(TraitId(of), clause).is_ok()
         }
         Call::Bound(alias, kind, sample) => {
-            let clause = clause(rt, builder, sample);
+            let clause = clause(rt, builder, TRAIT, sample);
             builder.push_bound(AliasId(alias), kind, clause).is_ok()
         }
         _ => false,
@@ -204,11 +270,11 @@ fn call_of_impls(rt: &impl Abort, builder: &mut DeclsBuilder, call: Call) -> boo
             added.is_ok()
         }
         Call::ImplWhere(of, sample) => {
-            let clause = clause(rt, builder, sample);
+            let clause = clause(rt, builder, TRAIT, sample);
             builder.push_impl_where(ImplId(of), clause).is_ok()
         }
         Call::SuperOutlives(of, sample) => {
-            let clause = clause(rt, builder, sample);
+            let clause = clause(rt, builder, TRAIT, sample);
             builder.push_super_outlives(ImplId(of), clause).is_ok()
         }
         Call::Default(of) => {
@@ -229,6 +295,7 @@ fn check_row(rt: &impl Abort, alloc: Global, calls: &[Call], want: Option<DeclFa
     add_definitions(rt, &mut builder);
     for call in calls {
         let known = call_of_types(rt, &mut builder, *call)
+            || call_of_supers(rt, &mut builder, *call)
             || call_of_traits(rt, &mut builder, *call)
             || call_of_impls(rt, &mut builder, *call);
         holds(rt, known, "a call with ample memory");
@@ -248,6 +315,8 @@ const ARITY: Option<DeclFault> = Some(DeclFault::WrongArity);
 
 const KIND: Option<DeclFault> = Some(DeclFault::WrongKind);
 
+const CYCLE: Option<DeclFault> = Some(DeclFault::SupertraitCycle);
+
 const TAIL: Option<DeclFault> = Some(DeclFault::NoTail);
 
 const LANG: Option<DeclFault> = Some(DeclFault::LangArity);
@@ -266,7 +335,7 @@ fn looks_at_what_types_hold(rt: HostRuntime) {
         Row(&[Call::Field(ADT, Sample::Bound)], KIND),
         Row(&[Call::Field(ADT, Sample::Nothing)], UNKNOWN),
         Row(&[Call::Field(TRAIT, Sample::Plain)], UNKNOWN),
-        Row(&[Call::Field(9, Sample::Plain)], UNKNOWN),
+        Row(&[Call::Field(UNGIVEN, Sample::Plain)], UNKNOWN),
         Row(
             &[
                 Call::Field(ADT, Sample::Bound),
@@ -277,7 +346,7 @@ fn looks_at_what_types_hold(rt: HostRuntime) {
         Row(
             &[
                 Call::Field(ADT, Sample::Param(1)),
-                Call::Field(9, Sample::Plain),
+                Call::Field(UNGIVEN, Sample::Plain),
             ],
             UNKNOWN,
         ),
@@ -316,7 +385,7 @@ fn looks_at_what_is_said_last(rt: HostRuntime) {
         Row(&[no_trait], UNKNOWN),
         Row(&[no_trait, Call::Lang(LangItem::Fn, TRAIT)], None),
         Row(&[no_trait, Call::Lang(LangItem::FnMut, TRAIT)], UNKNOWN),
-        Row(&[Call::Lang(LangItem::FnOnce, 9)], UNKNOWN),
+        Row(&[Call::Lang(LangItem::FnOnce, UNGIVEN)], UNKNOWN),
         Row(&[Call::Lang(LangItem::Unsize, TRAIT)], None),
         Row(&[Call::Lang(LangItem::Copy, TRAIT)], LANG),
         Row(
@@ -348,6 +417,58 @@ fn looks_at_what_traits_hold(rt: HostRuntime) {
         Row(&[Call::Bound(OPAQUE, self_bound, Sample::Param(1))], ARITY),
         Row(&[Call::Bound(TRAIT, self_bound, Sample::Plain)], UNKNOWN),
         Row(&[Call::Bound(ASSOC, self_bound, Sample::Nothing)], UNKNOWN),
+    ];
+    check_rows(&rt, rt.alloc(), &rows);
+}
+
+#[test]
+fn looks_for_supertrait_cycles(rt: HostRuntime) {
+    let up = Call::Supertrait;
+    let own = up(FIRST, FIRST);
+    let rows = [
+        Row(&[own], CYCLE),
+        Row(&[up(FIRST, SECOND), up(SECOND, FIRST)], CYCLE),
+        Row(
+            &[up(FIRST, SECOND), up(SECOND, THIRD), up(THIRD, FIRST)],
+            CYCLE,
+        ),
+        Row(
+            &[up(FIRST, SECOND), up(SECOND, THIRD), up(THIRD, SECOND)],
+            CYCLE,
+        ),
+        Row(&[up(SECOND, FIRST), up(SECOND, SECOND)], CYCLE),
+        Row(&[up(SECOND, FIRST), up(THIRD, SECOND)], None),
+        Row(&[up(FIRST, SECOND), up(FIRST, SECOND)], None),
+        Row(
+            &[
+                up(FIRST, SECOND),
+                up(FIRST, THIRD),
+                up(SECOND, FOURTH),
+                up(THIRD, FOURTH),
+            ],
+            None,
+        ),
+        Row(
+            &[
+                up(FIRST, SECOND),
+                up(FIRST, THIRD),
+                up(SECOND, FOURTH),
+                up(THIRD, FOURTH),
+                up(FOURTH, THIRD),
+            ],
+            CYCLE,
+        ),
+        Row(&[Call::SuperItem(TRAIT)], None),
+        Row(&[Call::SuperRegion(TRAIT)], None),
+        Row(&[Call::SuperItem(TRAIT), up(TRAIT, TRAIT)], CYCLE),
+        Row(&[Call::Where(TRAIT, Sample::Param(0))], None),
+        Row(&[own, Call::Field(UNGIVEN, Sample::Plain)], UNKNOWN),
+        Row(&[own, up(FIRST, UNGIVEN)], UNKNOWN),
+        Row(&[own, up(FIRST, ADT)], ARITY),
+        Row(&[own, Call::Field(ADT, Sample::Param(1))], ARITY),
+        Row(&[own, Call::Super(SECOND, Sample::Plain)], KIND),
+        Row(&[own, Call::Unsizing(ADT, 0)], CYCLE),
+        Row(&[own, Call::Lang(LangItem::Copy, TRAIT)], CYCLE),
     ];
     check_rows(&rt, rt.alloc(), &rows);
 }
@@ -413,7 +534,7 @@ fn make_held(rt: &impl Abort, builder: &mut DeclsBuilder) -> Held {
     Held {
         plain: ty(rt, builder, Sample::Plain),
         param: ty(rt, builder, Sample::Param(0)),
-        clause: clause(rt, builder, Sample::Param(0)),
+        clause: clause(rt, builder, FIRST, Sample::Param(0)),
         header: trait_ref(rt, builder, TRAIT, Sample::Param(0)),
     }
 }

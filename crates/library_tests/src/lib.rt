@@ -44,6 +44,8 @@ mod samples;
 #[cfg(test)]
 mod substitutions;
 #[cfg(test)]
+mod supertraits;
+#[cfg(test)]
 mod texts;
 #[cfg(test)]
 mod values;

@@ -1,6 +1,6 @@
 use Rattle.candidate_ir.proofs.Made.{IsArgs-grows}
 use Rattle.library_tests.proofs.Fitting.{two}
-use Rattle.library_tests.proofs.contents.sample_clause.Goals as goal
+use Rattle.library_tests.proofs.contents.trait_clause.Goals as goal
 
 pub mk_clause-clause-requires : goal.mk_clause-clause-requires
 mk_clause-clause-requires g c =
