@@ -15,6 +15,7 @@ pub mod Members
 pub mod Growing
 pub mod Headers
 pub mod Supers
+pub mod Impls
 pub mod Holding
 pub mod Misplacing
 pub mod References

@@ -16,6 +16,7 @@ pub mod Lookups
 pub mod Held
 pub mod Misplaced
 pub mod Supers
+pub mod Impls
 pub mod References
 pub mod Making
 pub mod Names

@@ -8,6 +8,7 @@ pub mod definition;
 pub mod faults;
 pub mod fold;
 pub mod held;
+pub mod impls;
 pub mod lookup;
 pub mod make;
 pub mod misplaced;

@@ -26,6 +26,8 @@ mod declarations;
 #[cfg(test)]
 mod folds;
 #[cfg(test)]
+mod impls;
+#[cfg(test)]
 mod kinds;
 #[cfg(test)]
 mod large;
