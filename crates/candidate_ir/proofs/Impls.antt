@@ -54,7 +54,7 @@ begins ts o r (y ∷ ys) x e k f g h =
     let t = tree_at ts (arg_number y) in
     let found : self_type ts o ≡ (if is_type_kind (kind_of t.head) then Some t else None) = members ts o r (y ∷ ys) e k g ∙ ap first_type (member ts y ys f) in
     let decided : self_type ts o ≡ (if is_type_kind (arg_kind y) then Some t else None) =
-        found ∙ ap (λ (j : Kind). if is_type_kind j then Some t else None) (kind-of ts (arg_number y) (arg_kind y) (arg-there y) n) in
+    found ∙ ap (λ (j : Kind). if is_type_kind j then Some t else None) (kind-of ts (arg_number y) (arg_kind y) (arg-there y) n) in
     subst (λ (z : GenericArg). self_type ts o ≡ (if is_type_kind (arg_kind z) then Some (tree_at ts (arg_number z)) else None)) same decided
 
 pub header_kind : (ts : List Tree) (xs : List GenericArg) (x : GenericArg) (t : Ty) → ListFits ts xs → Some x ≡ slice_get xs 0 → x ≡ A.Ty t → IsTy ts t

@@ -16,6 +16,8 @@ pub mod Growing
 pub mod Headers
 pub mod Supers
 pub mod Impls
+pub mod Elaboration
+pub mod ElaborationCases
 pub mod Holding
 pub mod Misplacing
 pub mod References

@@ -17,6 +17,7 @@ pub mod Held
 pub mod Misplaced
 pub mod Supers
 pub mod Impls
+pub mod Elaboration
 pub mod References
 pub mod Making
 pub mod Names
