@@ -16,6 +16,7 @@ pub mod Growing
 pub mod Headers
 pub mod Supers
 pub mod Impls
+pub mod Implying
 pub mod Elaboration
 pub mod ElaborationCases
 pub mod Holding

@@ -1,16 +1,19 @@
 -- What clauses imply by the super clauses of their traits, and the list of it.
-use Rattle.std.specs.Prelude.{◌≡◌, ℕ, zero, suc, ◌<◌, ◌+◌, Bool, true, false, ◌==◌, ◌&&◌, Option, Some, None, List, [], ◌∷◌, ◌++◌, map, if◌then◌else◌}
+use Rattle.std.specs.Prelude.{◌≡◌, ◌⊎◌, ℕ, zero, suc, ◌<◌, ◌+◌, Bool, true, false, ◌==◌, ◌&&◌, nat_lt, Option, Some, None, List, [], ◌∷◌, ◌++◌, map, if◌then◌else◌}
 use Rattle.std.specs.List.{All, filter, list_any}
 use Rattle.candidate_ir.specs.declared.ir.kinds.BoundVar.{BoundVar}
 use Rattle.candidate_ir.specs.declared.ir.kinds.PredicatePolarity.TheVariants as Polarity
 use Rattle.candidate_ir.specs.declared.ir.kinds.RegionKind.TheVariants as R
+use Rattle.candidate_ir.specs.declared.ir.stop.Stop.{Stop}
+use Rattle.candidate_ir.specs.declared.ir.stop.Stop.TheVariants.{NodesFull}
 use Rattle.candidate_ir.specs.declared.ir.heads.Head.{Head}
 use Rattle.candidate_ir.specs.declared.ir.heads.Head.TheVariants as H
 use Rattle.candidate_ir.specs.declared.ir.heads.ConstHead.TheVariants as C
 use Rattle.candidate_ir.specs.declared.ir.heads.PartHead.TheVariants as P
 use Rattle.candidate_ir.specs.declared.ir.heads.ClauseHead.TheVariants as Cl
-use Rattle.candidate_ir.specs.Trees.{Forest, none, tree, Tree, join, count}
-use Rattle.candidate_ir.specs.Folding.{fold, leaf, substituted}
+use Rattle.candidate_ir.specs.Trees.{Forest, none, tree, Tree, join, count, holds}
+use Rattle.candidate_ir.specs.Folding.{fold, leaf, put_if_there, substituted, IsSubstStop}
+use Rattle.candidate_ir.specs.Substitutions.{alone}
 use Rattle.candidate_ir.specs.Unify.{same_head}
 use Rattle.candidate_ir.specs.Supers.{after_first, supers_at}
 use Rattle.candidate_ir.specs.Context.{Context}
@@ -52,13 +55,45 @@ under_binder t = after_first t.children
 
 -- In the super clause the variables of its binder move up by as many as the clause binds; then the clause's arguments stand
 -- in the place of the parameters. They stand under the joint binder already, so only further binders shift them.
-abbrev pub implied : Tree → Tree → Tree
-implied t s = record {
+abbrev pub instance : Forest → Forest → Tree → Tree
+instance variables args s = record {
   head = s.head;
-  children =
-      tree (H.Part P.Vars) (join (variables_of t) (variables_of s))
-      (substituted (under_binder t) 0 (renumbered (count (variables_of t)) (under_binder s)));
+  children = tree (H.Part P.Vars) (join variables (variables_of s)) (substituted args 0 (renumbered (count variables) (under_binder s)));
 }
+
+abbrev pub implied : Tree → Tree → Tree
+implied t s = instance (variables_of t) (under_binder t) s
+
+-- Of both steps at once: what stands for a head under `d` binders below the super clause's own.
+abbrev pub either : {X : Type 0} → Option X → Option X → Option X
+either None o = o
+either (Some x) o = Some x
+
+abbrev pub instance_head : Forest → ℕ → ℕ → Head → Option Tree
+instance_head args n d h = either (put_if_there args d h) (later_head n d h)
+
+-- a variable with a number above 2^32 - 1
+abbrev pub is_too_high : Head → Bool
+is_too_high (H.Bound v) = nat_lt 4294967295 v.index
+is_too_high (H.Const (C.Bound v)) = nat_lt 4294967295 v.index
+is_too_high (H.Region (R.Bound v)) = nat_lt 4294967295 v.index
+is_too_high _ = false
+
+-- Why such answers were not put in, where so many numbers are given: for what stops a substitution; or a variable that comes
+-- would have too high a number.
+pub data IsRenumberStop (given : ℕ) (made : Forest) : Stop → Type 0 where
+  unput : {s : Stop} → IsSubstStop given made s → IsRenumberStop given made s
+  high_variable : holds is_too_high made ≡ true → IsRenumberStop given made NodesFull
+
+-- why an answer was not made; where nothing is answered, nothing stops
+abbrev pub IsHeadStop : ℕ → Option Tree → Stop → Type 0
+IsHeadStop given None s = ⊥
+IsHeadStop given (Some t) s = IsRenumberStop given (alone t) s
+
+-- Why an instance was not made: for one of these; or fewer numbers are left than the variables of the joint binder take, one for
+-- each and one more.
+abbrev pub IsInstanceStop : ℕ → Tree → Stop → Type 0
+IsInstanceStop given made s = IsRenumberStop given (alone made) s ⊎ ((s ≡ NodesFull) × (4294967295 < given + (count (variables_of made) + 1)))
 
 -- the trait that a clause says to hold
 abbrev pub said_of : Head → Option ℕ

@@ -5,6 +5,7 @@ pub mod builder;
 pub mod contents;
 pub mod context;
 pub mod definition;
+pub mod elaborate;
 pub mod faults;
 pub mod fold;
 pub mod held;

@@ -51,7 +51,11 @@ impl Cx {
     /// Also `default` impls are listed, and of what is no trait there are none.
     ///
     /// The only error is `Stop::Memory`, where a growth was refused.
-    pub fn for_each_relevant_impl(&self, trait_id: TraitId, self_ty: Ty) -> Result<Vec<ImplId>, Stop>
+    pub fn for_each_relevant_impl(
+        &self,
+        trait_id: TraitId,
+        self_ty: Ty,
+    ) -> Result<Vec<ImplId>, Stop>
         requires { IsTy self.now.trees self_ty }
         ensures list { IfOk result (λ v. v.items ≡ relevant_impls self.now trait_id.0 (ty_tree self.now.trees self_ty)) }
         ensures cause { IfErr result (λ s. s ≡ Stop.Memory) }
