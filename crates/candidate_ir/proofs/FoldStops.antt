@@ -109,7 +109,7 @@ most-join : (ts us : Forest) → most_bounds ts ≤ most_bounds (join ts us)
 most-join none us = omega arith
 most-join (tree h below rest) us = omega (arith, bounds-join rest us, most-join rest us)
 
-row-bounds : (ts : Forest) → bounds_in ts ≤ most_bounds ts
+pub row-bounds : (ts : Forest) → bounds_in ts ≤ most_bounds ts
 row-bounds none = omega arith
 row-bounds (tree h below rest) = omega arith
 

@@ -17,6 +17,7 @@ pub mod Headers
 pub mod Supers
 pub mod Impls
 pub mod Implying
+pub mod Joining
 pub mod Elaboration
 pub mod ElaborationCases
 pub mod Holding

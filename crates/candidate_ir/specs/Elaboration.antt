@@ -2,10 +2,12 @@
 use Rattle.std.specs.Prelude.{◌≡◌, ◌⊎◌, ℕ, zero, suc, ◌<◌, ◌+◌, Bool, true, false, ◌==◌, ◌&&◌, nat_lt, Option, Some, None, List, [], ◌∷◌, ◌++◌, map, if◌then◌else◌}
 use Rattle.std.specs.List.{All, filter, list_any}
 use Rattle.candidate_ir.specs.declared.ir.kinds.BoundVar.{BoundVar}
+use Rattle.candidate_ir.specs.declared.ir.kinds.VarKind.{VarKind}
+use Rattle.candidate_ir.specs.declared.ir.kinds.Vars.{Vars}
 use Rattle.candidate_ir.specs.declared.ir.kinds.PredicatePolarity.TheVariants as Polarity
 use Rattle.candidate_ir.specs.declared.ir.kinds.RegionKind.TheVariants as R
 use Rattle.candidate_ir.specs.declared.ir.stop.Stop.{Stop}
-use Rattle.candidate_ir.specs.declared.ir.stop.Stop.TheVariants.{NodesFull}
+use Rattle.candidate_ir.specs.declared.ir.stop.Stop.TheVariants.{Memory, NodesFull}
 use Rattle.candidate_ir.specs.declared.ir.heads.Head.{Head}
 use Rattle.candidate_ir.specs.declared.ir.heads.Head.TheVariants as H
 use Rattle.candidate_ir.specs.declared.ir.heads.ConstHead.TheVariants as C
@@ -18,7 +20,7 @@ use Rattle.candidate_ir.specs.Unify.{same_head}
 use Rattle.candidate_ir.specs.Supers.{after_first, supers_at}
 use Rattle.candidate_ir.specs.Context.{Context}
 use Rattle.candidate_ir.specs.Declaring.{trait_at}
-use Rattle.candidate_ir.specs.Words.{clause_tree}
+use Rattle.candidate_ir.specs.Words.{clause_tree, vars_tree, binder_tree}
 
 -- A super clause, instantiated by a clause that its trait holds. Both stand under binders of their own, which become one: it
 -- has the variables of that clause first, and then those of the super clause.
@@ -94,6 +96,16 @@ IsHeadStop given (Some t) s = IsRenumberStop given (alone t) s
 -- each and one more.
 abbrev pub IsInstanceStop : ℕ → Tree → Stop → Type 0
 IsInstanceStop given made s = IsRenumberStop given (alone made) s ⊎ ((s ≡ NodesFull) × (4294967295 < given + (count (variables_of made) + 1)))
+
+-- A binder over the variables of two, one after the other; and why it was not made: for want of memory, or of a number for each
+-- and one more.
+pub record IsJoint (ts : List Tree) (v : Vars) (outer inner : Forest) : Type 0 where
+  pub kinds : List VarKind
+  pub is : vars_tree ts v ≡ binder_tree kinds
+  pub both : (binder_tree kinds).children ≡ join outer inner
+
+abbrev pub IsJointStop : ℕ → Forest → Stop → Type 0
+IsJointStop given variables s = (s ≡ Memory) ⊎ ((s ≡ NodesFull) × (4294967295 < given + (count variables + 1)))
 
 -- the trait that a clause says to hold
 abbrev pub said_of : Head → Option ℕ

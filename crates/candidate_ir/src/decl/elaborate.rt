@@ -2,7 +2,7 @@
 
 ghost use Rattle.std.specs.Prelude.{◌≡◌, ◌+◌, ◌-◌, ◌<◌, ◌==◌, length, map, Some, None, IfOk, IfErr, option_map, nat_eq, true, false, if◌then◌else◌};
 ghost use Rattle.candidate_ir.specs.Context.{Grows};
-ghost use Rattle.candidate_ir.specs.Elaboration.{later, later_head, instance_head, instance, variables_of, under_binder, IsHeadStop, IsRenumberStop, IsInstanceStop};
+ghost use Rattle.candidate_ir.specs.Elaboration.{later, later_head, instance_head, instance, variables_of, under_binder, IsHeadStop, IsRenumberStop, IsInstanceStop, IsJoint, IsJointStop};
 ghost use Rattle.candidate_ir.specs.Folding.{lacks_argument, fold_tree};
 ghost use Rattle.candidate_ir.specs.Folds.{IsArg, IsOfKind, arg_tree};
 ghost use Rattle.candidate_ir.specs.Nodes.{rows};
@@ -125,4 +125,65 @@ fn instantiated<M: Make>(
         0,
     )?;
     Ok(Clause(number))
+}
+
+/// Adds the kinds of the variables of a binder.
+fn add_kinds(cx: &Cx, kinds: &mut Vec<VarKind>, vars: Vars) -> Result<(), AllocError>
+    requires { IsVars cx.now.trees vars }
+    ensures { IfOk result (λ _. rows (map var_kind_tree kinds.new.items) ≡ join (rows (map var_kind_tree kinds.old.items)) (vars_tree cx.now.trees vars).children) }
+{
+    for var in cx.vars(vars) {
+        kinds.push(cx.var(*var))?;
+    }
+    Ok(())
+}
+
+/// A binder over the variables of two, one after the other.
+fn joint_vars<M: Make>(alloc: Global, make: &mut M, outer: Vars, inner: Vars) -> Result<Vars, Stop>
+    requires outer { IsVars (M.context make.old).trees outer }
+    requires inner { IsVars (M.context make.old).trees inner }
+    ensures grows { Grows (M.context make.old) (M.context make.new) }
+    ensures rest { M.rest make.new ≡ M.rest make.old }
+    ensures sort { IfOk result (λ v. IsVars (M.context make.new).trees v) }
+    ensures joint { IfOk result (λ v. IsJoint (M.context make.new).trees v (vars_tree (M.context make.old).trees outer).children (vars_tree (M.context make.old).trees inner).children) }
+    ensures cause { IfErr result (λ s. IsJointStop (length (M.context make.new).trees) (join (vars_tree (M.context make.old).trees outer).children (vars_tree (M.context make.old).trees inner).children) s) }
+{
+    let mut kinds = Vec::new(alloc);
+    add_kinds(make.cx(), &mut kinds, outer)?;
+    add_kinds(make.cx(), &mut kinds, inner)?;
+    make.mk_vars(kinds.as_slice())
+}
+
+/// What a super clause says of arguments: those of a clause under a binder of these variables, which
+/// says that its trait holds of them.
+///
+/// Both binders become one, of these variables and then those of the super clause; the arguments stand
+/// under it in the place of the parameters. `Stop::Memory` comes where a growth was refused,
+/// `Stop::NodesFull` where no numbers are left, or fewer than the joint binder or a list of bounds takes,
+/// the clause would be higher than 1,024, or a variable in it would have a number above 2^32 - 1, or be
+/// bound more than 2^32 - 1 binders out. After a stop the nodes that were made stay.
+pub fn implied<M: Make>(
+    alloc: Global,
+    make: &mut M,
+    vars: Vars,
+    args: Args,
+    clause: Clause,
+) -> Result<Clause, Stop>
+    requires vars { IsVars (M.context make.old).trees vars }
+    requires args { IsArgs (M.context make.old).trees args }
+    requires clause { IsClause (M.context make.old).trees clause }
+    requires there { holds (lacks_argument (args_forest (M.context make.old).trees args)) (under_binder (clause_tree (M.context make.old).trees clause)) ≡ false }
+    ensures grows { Grows (M.context make.old) (M.context make.new) }
+    ensures rest { M.rest make.new ≡ M.rest make.old }
+    ensures sort { IfOk result (λ x. IsClause (M.context make.new).trees x) }
+    ensures tree { IfOk result (λ x. clause_tree (M.context make.new).trees x ≡ instance (vars_tree (M.context make.old).trees vars).children (args_forest (M.context make.old).trees args) (clause_tree (M.context make.old).trees clause)) }
+    ensures cause { IfErr result (λ s. IsInstanceStop (length (M.context make.new).trees) (instance (vars_tree (M.context make.old).trees vars).children (args_forest (M.context make.old).trees args) (clause_tree (M.context make.old).trees clause)) s) }
+{
+    let by = make.cx().vars(vars).len();
+    let own = make.cx().clause(clause).vars;
+    let joint = joint_vars(alloc, make, vars, own)?;
+    let instance = instantiated(alloc, make, clause, args, by)?;
+    make.cx().well_formed();
+    let value = make.cx().clause(instance).value;
+    make.mk_clause(Binder { vars: joint, value })
 }
