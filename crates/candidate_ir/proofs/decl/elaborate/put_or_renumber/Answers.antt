@@ -11,7 +11,7 @@ use Rattle.candidate_ir.proofs.decl.elaborate.put_or_renumber.Goals as goal
 pub returns-in_err-value-clause-cause : goal.returns-in_err-value-clause-cause
 returns-in_err-value-clause-cause g c =
     let p = err_from_is_err_and c.from_residual.result c.from_residual.ensures.1 in
-    rw (p.1, p.2) 
+    rw (p.1, p.2)
     (put-stop (length (g.M.Make.context c.put.new.make).trees) (args_forest (g.M.Make.context c.args.make.now).trees c.args.args) c.args.by _ _ (arg_tree (g.M.Make.context c.args.make.now).trees c.args.arg).head
     c.in_err-value.field-0.0 c.saturating_sub-below.ensures c.in_err-value.ensures.cause)
 
