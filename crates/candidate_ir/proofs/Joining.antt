@@ -26,7 +26,7 @@ use Rattle.candidate_ir.specs.declared.ir.heads.PartHead.TheVariants as P
 use Rattle.candidate_ir.specs.declared.ir.kinds.RegionKind.TheVariants as R
 use Rattle.candidate_ir.specs.declared.ir.stop.Stop.{Stop}
 use Rattle.candidate_ir.specs.declared.ir.stop.Stop.TheVariants.{Memory, NodesFull}
-use Rattle.candidate_ir.specs.Trees.{Kind, VariableKind, BinderKind, ClauseKind as ClauseKindOf, Forest, none, tree, Tree, kind_of, join, count, row, height, heights, holds, binders_of, sort_kind, list_kind}
+use Rattle.candidate_ir.specs.Trees.{Kind, VariableKind, BinderKind, ClauseKind as ClauseKindOf, Forest, none, tree, Tree, kind_of, join, count, row, height, heights, holds, tree_holds, binders_of, sort_kind, list_kind}
 use Rattle.candidate_ir.specs.Kinds.{numbers, sorts, fact_children, clause_head}
 use Rattle.candidate_ir.specs.Nodes.{tree_at, kind_at, kinds_at, trees_at, rows, var_child, is_bound_kind}
 use Rattle.candidate_ir.specs.Substitutions.{alone}
@@ -339,6 +339,14 @@ joint-cause given os args s h vs below x e c = subst (λ (t : Tree). IsInstanceS
     at : IsJointStop given (join os vs) x → IsInstanceStop given (instance os args (over h vs below)) x
     at (inl m) = let P : Stop → Type 0 = λ y. IsInstanceStop given (instance os args (over h vs below)) y in subst P (sym m) (inl (unput no_memory))
     at (inr f) = inr f
+
+-- what lacks no argument has none lacking under its binder
+pub under-lacks : (mark : Head → Bool) (t : Tree) → tree_holds mark t ≡ false → holds mark (under_binder t) ≡ false
+under-lacks mark t e = at t.children (or-right (mark t.head) (holds mark t.children) e)
+  where
+    at : (f : Forest) → holds mark f ≡ false → holds mark (after_first f) ≡ false
+    at none e = refl
+    at (tree h below rest) e = or-right (holds mark below) (holds mark rest) (or-right (mark h) (holds mark below || holds mark rest) e)
 
 -- An instance of a clause: its trees, and what is made of them.
 module _ (os args : Forest) (n : ℕ) (s : Tree) (h : ClauseHead) (vs below : Forest) (e : s ≡ over h vs below) (k : n ≡ count os) (v : AreVariables vs)

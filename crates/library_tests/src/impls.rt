@@ -127,7 +127,12 @@ fn lists_impls_that_may_be_for_a_type(rt: HostRuntime) {
     check_types(&rt, &mut cx);
     let byte = ty(&rt, &mut cx, TyKind::Uint(UintTy::U8));
     let other = cx.for_each_relevant_impl(OTHER, byte).expect(&rt, "memory");
-    equals(&rt, &other.as_slice(), &[ImplId(5)].as_slice(), "another trait");
+    equals(
+        &rt,
+        &other.as_slice(),
+        &[ImplId(5)].as_slice(),
+        "another trait",
+    );
     let none = cx.for_each_relevant_impl(TraitId(0), byte);
     equals(&rt, &none.expect(&rt, "memory").len(), &0, "no trait");
 }
@@ -138,7 +143,12 @@ fn lists_impls_for_any_type(rt: HostRuntime) {
     let blanket = cx.for_each_blanket_impl(TRAIT).expect(&rt, "memory");
     equals(&rt, &blanket.as_slice(), &[ImplId(0)].as_slice(), "a trait");
     let other = cx.for_each_blanket_impl(OTHER).expect(&rt, "memory");
-    equals(&rt, &other.as_slice(), &[ImplId(5)].as_slice(), "another trait");
+    equals(
+        &rt,
+        &other.as_slice(),
+        &[ImplId(5)].as_slice(),
+        "another trait",
+    );
     let none = cx.for_each_blanket_impl(TraitId(9)).expect(&rt, "memory");
     equals(&rt, &none.len(), &0, "no trait");
 }

@@ -44,6 +44,8 @@ mod samples;
 #[cfg(test)]
 mod substitutions;
 #[cfg(test)]
+mod super_clauses;
+#[cfg(test)]
 mod texts;
 #[cfg(test)]
 mod values;

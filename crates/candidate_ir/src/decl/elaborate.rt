@@ -155,7 +155,8 @@ fn joint_vars<M: Make>(alloc: Global, make: &mut M, outer: Vars, inner: Vars) ->
 }
 
 /// What a super clause says of arguments: those of a clause under a binder of these variables, which
-/// says that its trait holds of them.
+/// says that its trait holds of them. Each parameter of the super clause has an argument of its kind
+/// (`clause_has_arguments`).
 ///
 /// Both binders become one, of these variables and then those of the super clause; the arguments stand
 /// under it in the place of the parameters. `Stop::Memory` comes where a growth was refused,
@@ -172,7 +173,7 @@ pub fn implied<M: Make>(
     requires vars { IsVars (M.context make.old).trees vars }
     requires args { IsArgs (M.context make.old).trees args }
     requires clause { IsClause (M.context make.old).trees clause }
-    requires there { holds (lacks_argument (args_forest (M.context make.old).trees args)) (under_binder (clause_tree (M.context make.old).trees clause)) ≡ false }
+    requires there { tree_holds (lacks_argument (args_forest (M.context make.old).trees args)) (clause_tree (M.context make.old).trees clause) ≡ false }
     ensures grows { Grows (M.context make.old) (M.context make.new) }
     ensures rest { M.rest make.new ≡ M.rest make.old }
     ensures sort { IfOk result (λ x. IsClause (M.context make.new).trees x) }

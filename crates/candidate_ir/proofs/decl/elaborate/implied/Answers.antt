@@ -9,7 +9,7 @@ use Rattle.candidate_ir.specs.Words.{args_forest, clause_tree, vars_tree}
 use Rattle.candidate_ir.specs.Elaboration.{IsRenumberStop}
 use Rattle.candidate_ir.proofs.Kept.{args-kept}
 use Rattle.candidate_ir.proofs.References.{fit-at}
-use Rattle.candidate_ir.proofs.Joining.{below_binder, read-clause, read-fits, read-count, joint-variables, clause-kept, fold-kept, joint-fits, joint-cause, instance-cause, instance-tree, instance-takes, clause-stop}
+use Rattle.candidate_ir.proofs.Joining.{below_binder, read-clause, read-fits, read-count, joint-variables, clause-kept, fold-kept, under-lacks, joint-fits, joint-cause, instance-cause, instance-tree, instance-takes, clause-stop}
 use Rattle.candidate_ir.proofs.decl.elaborate.implied.Goals as goal
 
 pub instantiated-requires-clause-clause : goal.instantiated-requires-clause-clause
@@ -39,7 +39,7 @@ returns-in_err-instance-clause-cause g c =
     _ _ (below_binder (g.M.Make.context c.args.make.now).trees c.clause-value.result)
     (read-clause (g.M.Make.context c.args.make.now) _ c.args.clause c.clause-value.result c.cx-2.ensures c.clause-value.ensures.fits c.clause-value.ensures.tree)
     (read-count (g.M.Make.context c.args.make.now) _ c.args.vars c.vars-by.result.now c.cx.ensures c.vars-by.ensures.fits c.vars-by.ensures.tree)
-    (joint-variables _ _ _ _ c.in_ok-joint.ensures.joint) c.requires.there
+    (joint-variables _ _ _ _ c.in_ok-joint.ensures.joint) (under-lacks _ (clause_tree (g.M.Make.context c.args.make.now).trees c.args.clause) c.requires.there)
     _ _
     (subst (λ (t : Tree). IsRenumberStop (length (g.M.Make.context c.instantiated.new.make).trees) (alone t) c.in_err-instance.field-0.0)
     (fold-kept (g.M.Make.context c.args.make.now) (g.M.Make.context c.joint_vars.new.make) c.args.args c.args.clause _ c.in_ok-joint.ensures.grows c.requires.args c.requires.clause) c.in_err-instance.ensures.cause))
@@ -51,7 +51,7 @@ mk_clause-requires-clause-takes g c =
     _ _ (below_binder (g.M.Make.context c.args.make.now).trees c.clause-value.result)
     (read-clause (g.M.Make.context c.args.make.now) _ c.args.clause c.clause-value.result c.cx-2.ensures c.clause-value.ensures.fits c.clause-value.ensures.tree)
     (read-count (g.M.Make.context c.args.make.now) _ c.args.vars c.vars-by.result.now c.cx.ensures c.vars-by.ensures.fits c.vars-by.ensures.tree)
-    (joint-variables _ _ _ _ c.in_ok-joint.ensures.joint) c.requires.there
+    (joint-variables _ _ _ _ c.in_ok-joint.ensures.joint) (under-lacks _ (clause_tree (g.M.Make.context c.args.make.now).trees c.args.clause) c.requires.there)
     (g.M.Make.context c.joint_vars.new.make) (g.M.Make.context c.instantiated.new.make) c.in_ok-joint.joint c.clause-value-2.result c.in_ok-instance.instance c.in_ok-instance.ensures.grows c.in_ok-joint.ensures.sort
     (read-fits (g.M.Make.context c.instantiated.new.make) _ c.clause-value-2.result c.cx-4.ensures c.clause-value-2.ensures.fits) c.in_ok-joint.ensures.joint
     (read-clause (g.M.Make.context c.instantiated.new.make) _ c.in_ok-instance.instance c.clause-value-2.result c.cx-4.ensures c.clause-value-2.ensures.fits c.clause-value-2.ensures.tree)
@@ -66,7 +66,7 @@ returns-clause-tree g c =
     _ _ (below_binder (g.M.Make.context c.args.make.now).trees c.clause-value.result)
     (read-clause (g.M.Make.context c.args.make.now) _ c.args.clause c.clause-value.result c.cx-2.ensures c.clause-value.ensures.fits c.clause-value.ensures.tree)
     (read-count (g.M.Make.context c.args.make.now) _ c.args.vars c.vars-by.result.now c.cx.ensures c.vars-by.ensures.fits c.vars-by.ensures.tree)
-    (joint-variables _ _ _ _ c.in_ok-joint.ensures.joint) c.requires.there
+    (joint-variables _ _ _ _ c.in_ok-joint.ensures.joint) (under-lacks _ (clause_tree (g.M.Make.context c.args.make.now).trees c.args.clause) c.requires.there)
     (g.M.Make.context c.joint_vars.new.make) (g.M.Make.context c.instantiated.new.make) c.in_ok-joint.joint c.clause-value-2.result c.in_ok-instance.instance c.in_ok-instance.ensures.grows c.in_ok-joint.ensures.sort
     (read-fits (g.M.Make.context c.instantiated.new.make) _ c.clause-value-2.result c.cx-4.ensures c.clause-value-2.ensures.fits) c.in_ok-joint.ensures.joint
     (read-clause (g.M.Make.context c.instantiated.new.make) _ c.in_ok-instance.instance c.clause-value-2.result c.cx-4.ensures c.clause-value-2.ensures.fits c.clause-value-2.ensures.tree)
@@ -81,7 +81,7 @@ returns-clause-cause g c =
     _ _ (below_binder (g.M.Make.context c.args.make.now).trees c.clause-value.result)
     (read-clause (g.M.Make.context c.args.make.now) _ c.args.clause c.clause-value.result c.cx-2.ensures c.clause-value.ensures.fits c.clause-value.ensures.tree)
     (read-count (g.M.Make.context c.args.make.now) _ c.args.vars c.vars-by.result.now c.cx.ensures c.vars-by.ensures.fits c.vars-by.ensures.tree)
-    (joint-variables _ _ _ _ c.in_ok-joint.ensures.joint) c.requires.there
+    (joint-variables _ _ _ _ c.in_ok-joint.ensures.joint) (under-lacks _ (clause_tree (g.M.Make.context c.args.make.now).trees c.args.clause) c.requires.there)
     (g.M.Make.context c.joint_vars.new.make) (g.M.Make.context c.instantiated.new.make) c.in_ok-joint.joint c.clause-value-2.result c.in_ok-instance.instance c.in_ok-instance.ensures.grows c.in_ok-joint.ensures.sort
     (read-fits (g.M.Make.context c.instantiated.new.make) _ c.clause-value-2.result c.cx-4.ensures c.clause-value-2.ensures.fits) c.in_ok-joint.ensures.joint
     (read-clause (g.M.Make.context c.instantiated.new.make) _ c.in_ok-instance.instance c.clause-value-2.result c.cx-4.ensures c.clause-value-2.ensures.fits c.clause-value-2.ensures.tree)
