@@ -11,7 +11,7 @@ use Rattle.candidate_ir.specs.declared.ir.heads.Head.TheVariants as H
 use Rattle.candidate_ir.specs.declared.ir.heads.ConstHead.TheVariants as C
 use Rattle.candidate_ir.specs.declared.ir.kinds.RegionKind.TheVariants as R
 use Rattle.candidate_ir.specs.declared.ir.stop.Stop.{Stop}
-use Rattle.candidate_ir.specs.declared.ir.stop.Stop.TheVariants.{NodesFull}
+use Rattle.candidate_ir.specs.declared.ir.stop.Stop.TheVariants.{Memory, NodesFull}
 use Rattle.candidate_ir.specs.Trees.{Kind, Forest, none, tree, Tree, kind_of, is_list_kind, join, count, heights, holds, binders_of, row}
 use Rattle.candidate_ir.specs.Nodes.{tree_at, kind_at, is_bound_kind}
 use Rattle.candidate_ir.specs.Substitutions.{alone}
@@ -57,9 +57,39 @@ first-cause given h below rest x (far_variable e) = far_variable (more (is_too_f
     more false true c e = refl
     more false false c e = absurd cc
 
-answer-cause : (given : ℕ) (o : Option Tree) (kept : Tree) (rest : Forest) (x : Stop) → IsAnswerStop given o x → IsSubstStop given (begin (unwrap_or o kept) rest) x
-answer-cause given None kept rest x c = absurd c
-answer-cause given (Some t) kept rest x c = first-cause given t.head t.children rest x c
+-- What may be said of why trees were not made: of memory, of too few numbers, of trees that are too high; and what is said of
+-- a part is said of the whole.
+pub record IsCause (C : ℕ → Forest → Stop → Type 0) : Type 0 where
+  pub of_memory : (given : ℕ) (made : Forest) → C given made Memory
+  pub of_numbers : (given : ℕ) (made : Forest) → 4294967295 < given + (most_bounds made + 1) → C given made NodesFull
+  pub of_height : (given : ℕ) (made : Forest) → 1024 < heights made → C given made NodesFull
+  pub of_below : (given : ℕ) (h : Head) (below rest : Forest) (x : Stop) → C given below x → C given (tree h below rest) x
+  pub of_rest : (given : ℕ) (h : Head) (below rest : Forest) (x : Stop) → C given rest x → C given (tree h below rest) x
+  pub of_first : (given : ℕ) (h : Head) (below rest : Forest) (x : Stop) → C given (tree h below none) x → C given (tree h below rest) x
+
+pub subst-cause : IsCause IsSubstStop
+subst-cause = record {
+  of_memory = λ given made. no_memory;
+  of_numbers = λ given made l. few_numbers l;
+  of_height = λ given made l. high_tree l;
+  of_below = below-cause;
+  of_rest = rest-cause;
+  of_first = first-cause;
+}
+
+-- it is said of an answer, if there is one
+abbrev pub SaidOfAnswer : (ℕ → Forest → Stop → Type 0) → ℕ → Option Tree → Stop → Type 0
+SaidOfAnswer C given None s = ⊥
+SaidOfAnswer C given (Some t) s = C given (alone t) s
+
+answer-cause : (C : ℕ → Forest → Stop → Type 0) → IsCause C → (given : ℕ) (o : Option Tree) (kept : Tree) (rest : Forest) (x : Stop) → SaidOfAnswer C given o x
+    → C given (begin (unwrap_or o kept) rest) x
+answer-cause C i given None kept rest x c = absurd c
+answer-cause C i given (Some t) kept rest x c = i.of_first given t.head t.children rest x c
+
+said-of-answer : (given : ℕ) (o : Option Tree) (x : Stop) → IsAnswerStop given o x → SaidOfAnswer IsSubstStop given o x
+said-of-answer given None x c = c
+said-of-answer given (Some t) x c = c
 
 -- of a number that stands for one tree
 pub single-cause : (a : Answers) (given : ℕ) (ts : List Tree) (n : ℕ) (kind : Kind) (x : Stop) → there kind ≡ true → is_list_kind kind ≡ false → kind_at ts n ≡ kind
@@ -79,7 +109,7 @@ most-join : (ts us : Forest) → most_bounds ts ≤ most_bounds (join ts us)
 most-join none us = omega arith
 most-join (tree h below rest) us = omega (arith, bounds-join rest us, most-join rest us)
 
-row-bounds : (ts : Forest) → bounds_in ts ≤ most_bounds ts
+pub row-bounds : (ts : Forest) → bounds_in ts ≤ most_bounds ts
 row-bounds none = omega arith
 row-bounds (tree h below rest) = omega arith
 
@@ -204,37 +234,51 @@ module _ {M Rest F : Type 0} (context : M → Context) (others : M → Rest)
   reached-grows s e (by_nodes {m = m} l k) = grows-trans (context s.1) (context m.1) (context e.1) (reached-grows s m l) k.grows
 
   -- A fold by a function, whose calls stop where their answers can't be made, stops where its trees can't be.
-  module _ (a : Answers) (s0 : F × M) (f : IsFunction context others g a s0)
+  module _ (C : ℕ → Forest → Stop → Type 0) (cause : IsCause C) (a : Answers) (s0 : F × M) (f : IsFunction context others g a s0)
       (refusal : (t u : F × M) (d : ℕ) (w : Tree) (x : Stop) → IsReached context others g s0 t → Refuses context others g t d w x u
-      → IsAnswerStop (numbers_given context u) (a d w) x) where
+      → SaidOfAnswer C (numbers_given context u) (a d w) x) where
     stops-cause : {s e : F × M} {d : ℕ} {ts : Forest} {x : Stop} → IsReached context others g s0 s → StopsBy context others g s d ts x e
-        → IsSubstStop (numbers_given context e) (fold a d ts) x
-    stops-cause l (memory k) = no_memory
+        → C (numbers_given context e) (fold a d ts) x
+    stops-cause {s} {e} {d = d} {ts = ts} l (memory k) = cause.of_memory (numbers_given context e) (fold a d ts)
     stops-cause {s} {e} {d = d} {x = x} l (refused {h = h} {below = below} {rest = rest} i r) =
-        answer-cause (numbers_given context e) (a d (node h below)) (node h (fold a (d + binders_of h) below)) (fold a d rest) x (refusal s e d (node h below) x l r)
-    stops-cause {d = d} l (too_high {first = ts} {made = us} rest i p h) =
+        answer-cause C cause (numbers_given context e) (a d (node h below)) (node h (fold a (d + binders_of h) below)) (fold a d rest) x (refusal s e d (node h below) x l r)
+    stops-cause {s} {e} {d = d} {ts = all} l (too_high {first = ts} {made = us} rest i p h) =
         let same = ap (fold a d) i ∙ (fold-join a d ts rest ∙ ap (λ (y : Forest). join y (fold a d rest)) (sym (folds-by context others g a s0 f l p))) in
-        high_tree (omega (arith, h, heights-join us (fold a d rest), ap heights same))
-    stops-cause l (full k few) = few_numbers (omega (arith, few))
-    stops-cause {d = d} l (too_few {first = ts} {made = us} rest i p b h) =
+        cause.of_height (numbers_given context e) (fold a d all) (omega (arith, h, heights-join us (fold a d rest), ap heights same))
+    stops-cause {s} {e} {d = d} {ts = ts} l (full k few) = cause.of_numbers (numbers_given context e) (fold a d ts) (omega (arith, few))
+    stops-cause {s} {e} {d = d} {ts = all} l (too_few {first = ts} {made = us} rest i p b h) =
         let same = ap (fold a d) i ∙ (fold-join a d ts rest ∙ ap (λ (y : Forest). join y (fold a d rest)) (sym (folds-by context others g a s0 f l p))) in
-        few_numbers (omega (arith, h, count-bounds us b, row-bounds us, most-join us (fold a d rest), ap most_bounds same))
+        cause.of_numbers (numbers_given context e) (fold a d all) (omega (arith, h, count-bounds us b, row-bounds us, most-join us (fold a d rest), ap most_bounds same))
     stops-cause l (after o p) = stops-cause (by_nodes l o) p
     stops-cause {s} {e} {d = d} {x = x} l (below_asked {m = m} {h = h} {below = below} {rest = rest} i k p) =
-        let P : Forest → Type 0 = λ ts. IsSubstStop (numbers_given context e) ts x in
+        let P : Forest → Type 0 = λ ts. C (numbers_given context e) ts x in
         let inner = fold a (d + binders_of h) below in
         subst P (opened-row context others g a d h below inner rest (fold a d rest) (f.at s d (node h below) None m l k) refl refl)
-        (below-cause (numbers_given context e) h inner (fold a d rest) x (stops-cause (by_call l k) p))
+        (cause.of_below (numbers_given context e) h inner (fold a d rest) x (stops-cause (by_call l k) p))
     stops-cause {s} {e} {d = d} {x = x} l (below_passed {h = h} {below = below} {rest = rest} i p) =
-        let P : Forest → Type 0 = λ ts. IsSubstStop (numbers_given context e) ts x in
+        let P : Forest → Type 0 = λ ts. C (numbers_given context e) ts x in
         let inner = fold a (d + binders_of h) below in
         subst P (opened-row context others g a d h below inner rest (fold a d rest) (f.only d (node h below) i) refl refl)
-        (below-cause (numbers_given context e) h inner (fold a d rest) x (stops-cause l p))
+        (cause.of_below (numbers_given context e) h inner (fold a d rest) x (stops-cause l p))
     stops-cause {s} {e} {d = d} {x = x} l (later {h = h} {below = below} {rest = rest} p q) =
         let t = unwrap_or (a d (node h below)) (node h (fold a (d + binders_of h) below)) in
-        rest-cause (numbers_given context e) t.head t.children (fold a d rest) x (stops-cause (reached-then context others g l (folds-reached context others g p)) q)
+        cause.of_rest (numbers_given context e) t.head t.children (fold a d rest) x (stops-cause (reached-then context others g l (folds-reached context others g p)) q)
 
   -- so a fold of a number by answers that look at the head alone
+  pub head-stop : (C : ℕ → Forest → Stop → Type 0) → IsCause C → (a : ℕ → Head → Option Tree) (P : F → Type 0) (s e : F × M) (n : ℕ) (x : Stop) → P s.0
+      → ((t : F × M) (y : GenericArg) (d : ℕ) (r : Result (Option GenericArg) Stop) (u : F × M) → Says context others g t y d r u → P t.0 → P u.0)
+      → ((t : F × M) (y : GenericArg) (d : ℕ) (r : Result (Option GenericArg) Stop) (u : F × M) → Says context others g t y d r u → IsArg (context t.1).trees y → Grows (context s.1) (context t.1) → P t.0
+      → IfOk r (λ o. option_map (arg_tree (context u.1).trees) o ≡ a d (arg_tree (context t.1).trees y).head))
+      → ((t : F × M) (y : GenericArg) (d : ℕ) (r : Result (Option GenericArg) Stop) (u : F × M) → Says context others g t y d r u → IsArg (context t.1).trees y → Grows (context s.1) (context t.1) → P t.0
+      → IfErr r (λ z. SaidOfAnswer C (numbers_given context u) (a d (arg_tree (context t.1).trees y).head) z))
+      → ((d : ℕ) (h : Head) → is_asked h ≡ false → a d h ≡ None) → Renumbers context others g s 0 n (Err x) e
+      → C (numbers_given context e) (fold (λ d t. a d t.head) 0 (row (tree_at (context s.1).trees n) none)) x
+  head-stop C cause a P s e n x p keeps answers stops only r =
+      stops-cause C cause (λ d t. a d t.head) s (head-function context others g a P s p keeps answers only)
+      (λ t u d w z l k. let A : Tree → Type 0 = λ v. SaidOfAnswer C (numbers_given context u) (a d v.head) z in
+      subst A k.tree (stops t k.of d (Err z) u k.says k.is (reached-grows s t l) (reached-keeps context others g P keeps s t l p)))
+      here r.stopped
+
   pub head-cause : (a : ℕ → Head → Option Tree) (P : F → Type 0) (s e : F × M) (n : ℕ) (x : Stop) → P s.0
       → ((t : F × M) (y : GenericArg) (d : ℕ) (r : Result (Option GenericArg) Stop) (u : F × M) → Says context others g t y d r u → P t.0 → P u.0)
       → ((t : F × M) (y : GenericArg) (d : ℕ) (r : Result (Option GenericArg) Stop) (u : F × M) → Says context others g t y d r u → IsArg (context t.1).trees y → Grows (context s.1) (context t.1) → P t.0
@@ -244,7 +288,8 @@ module _ {M Rest F : Type 0} (context : M → Context) (others : M → Rest)
       → ((d : ℕ) (h : Head) → is_asked h ≡ false → a d h ≡ None) → Renumbers context others g s 0 n (Err x) e
       → IsSubstStop (numbers_given context e) (fold (λ d t. a d t.head) 0 (row (tree_at (context s.1).trees n) none)) x
   head-cause a P s e n x p keeps answers stops only r =
-      stops-cause (λ d t. a d t.head) s (head-function context others g a P s p keeps answers only)
-      (λ t u d w z l k. let A : Tree → Type 0 = λ v. IsAnswerStop (numbers_given context u) (a d v.head) z in
-      subst A k.tree (stops t k.of d (Err z) u k.says k.is (reached-grows s t l) (reached-keeps context others g P keeps s t l p)))
-      here r.stopped
+      head-stop IsSubstStop subst-cause a P s e n x p keeps answers (λ t y d q u k i l h. said q (numbers_given context u) (a d (arg_tree (context t.1).trees y).head) (stops t y d q u k i l h)) only r
+    where
+      said : (q : Result (Option GenericArg) Stop) (given : ℕ) (o : Option Tree) → IfErr q (λ z. IsAnswerStop given o z) → IfErr q (λ z. SaidOfAnswer IsSubstStop given o z)
+      said (Ok v) given o k = tt
+      said (Err z) given o k = said-of-answer given o z k

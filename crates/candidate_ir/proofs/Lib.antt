@@ -17,6 +17,11 @@ pub mod Headers
 pub mod Supers
 pub mod Supertraits
 pub mod Cycles
+pub mod Impls
+pub mod Implying
+pub mod Joining
+pub mod Elaboration
+pub mod ElaborationCases
 pub mod Holding
 pub mod Misplacing
 pub mod References

@@ -18,6 +18,8 @@ pub mod Misplaced
 pub mod Supers
 pub mod Supertraits
 pub mod Cycles
+pub mod Impls
+pub mod Elaboration
 pub mod References
 pub mod Making
 pub mod Names

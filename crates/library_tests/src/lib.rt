@@ -28,6 +28,8 @@ mod folds;
 #[cfg(test)]
 mod functions;
 #[cfg(test)]
+mod impls;
+#[cfg(test)]
 mod kinds;
 #[cfg(test)]
 mod large;
@@ -43,6 +45,8 @@ mod rejections;
 mod samples;
 #[cfg(test)]
 mod substitutions;
+#[cfg(test)]
+mod super_clauses;
 #[cfg(test)]
 mod supertraits;
 #[cfg(test)]

@@ -73,6 +73,11 @@ fn bound_at(depth: u32) -> BoundVar {
     BoundVar { depth, index: 0 }
 }
 
+/// The variable of number 1 there.
+fn second_at(depth: u32) -> BoundVar {
+    BoundVar { depth, index: 1 }
+}
+
 /// A number, or another builtin type.
 fn builtin(word: &str) -> Option<TyKind>
     ensures { IfSome result (λ k. ty_children k ≡ []) }
@@ -106,6 +111,8 @@ fn marked(word: &str) -> Option<TyKind>
         "!" => Some(TyKind::Placeholder(PLACEHOLDER)),
         "^0" => Some(TyKind::Bound(bound_at(0))),
         "^1" => Some(TyKind::Bound(bound_at(1))),
+        "^0_1" => Some(TyKind::Bound(second_at(0))),
+        "^1_1" => Some(TyKind::Bound(second_at(1))),
         "^last" => Some(TyKind::Bound(bound_at(u32::MAX))),
         "?" => Some(TyKind::Infer(InferTy::TyVar(0))),
         "?int" => Some(TyKind::Infer(InferTy::IntVar(0))),
@@ -150,6 +157,7 @@ fn region_leaf(word: &str) -> Option<RegionKind> {
         "'!" => Some(RegionKind::Placeholder(PLACEHOLDER)),
         "'^0" => Some(RegionKind::Bound(bound_at(0))),
         "'^1" => Some(RegionKind::Bound(bound_at(1))),
+        "'^0_1" => Some(RegionKind::Bound(second_at(0))),
         "'?" => Some(RegionKind::Var(0)),
         "'?1" => Some(RegionKind::Var(1)),
         "'error" => Some(RegionKind::Error),

@@ -22,6 +22,7 @@ use crate::decl::arity::{bounds_fit, clause_fits, const_fits, takes_after_self, 
 use crate::decl::builder::Decls;
 use crate::decl::contents::Contents;
 use crate::decl::definition::{CrateId, Declaration, DefinitionSort};
+use crate::decl::misplaced::is_args;
 use crate::ir::flags::{TypeFlags, bit_if};
 use crate::ir::heads::{Flag, Head};
 use crate::ir::kinds::{
@@ -133,6 +134,13 @@ impl Cx {
         ensures { result ≡ (tree_at self.now.trees number).head }
     {
         self.nodes.head(number)
+    }
+
+    /// Whether the number is that of a list of arguments.
+    pub(crate) fn is_args(&self, args: Args) -> bool
+        ensures { IsTrue result ↔ IsArgs self.now.trees args }
+    {
+        is_args(&self.nodes, args)
     }
 
     /// One bound, whose parts have lower numbers.

@@ -139,7 +139,7 @@ fn argument_for(cx: &Cx, args: Args, arg: GenericArg) -> Option<GenericArg>
 }
 
 /// What stands for a parameter under so many binders: its argument, shifted.
-fn put<M: Make>(
+pub(crate) fn put<M: Make>(
     alloc: Global,
     make: &mut M,
     args: Args,

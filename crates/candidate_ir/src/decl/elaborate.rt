@@ -1,0 +1,190 @@
+//! Super clauses, instantiated.
+
+ghost use Rattle.std.specs.Prelude.{◌≡◌, ◌+◌, ◌-◌, ◌<◌, ◌==◌, length, map, Some, None, IfOk, IfErr, option_map, nat_eq, true, false, if◌then◌else◌};
+ghost use Rattle.candidate_ir.specs.Context.{Grows};
+ghost use Rattle.candidate_ir.specs.Elaboration.{later, later_head, instance_head, instance, variables_of, under_binder, IsHeadStop, IsRenumberStop, IsInstanceStop, IsJoint, IsJointStop};
+ghost use Rattle.candidate_ir.specs.Folding.{lacks_argument, fold_tree};
+ghost use Rattle.candidate_ir.specs.Folds.{IsArg, IsOfKind, arg_tree};
+ghost use Rattle.candidate_ir.specs.Nodes.{rows};
+ghost use Rattle.candidate_ir.specs.Substitutions.{alone};
+ghost use Rattle.candidate_ir.specs.Trees.{join, count, holds, tree_holds};
+ghost use Rattle.candidate_ir.specs.Words.{IsArgs, IsClause, IsVars, IsMkListStop, args_forest, clause_tree, vars_tree, var_kind_tree, binder_tree};
+
+use crate::decl::context::Cx;
+use crate::decl::fold::fold_number;
+use crate::decl::make::Make;
+use crate::decl::subst::put;
+use crate::ir::heads::{ConstHead, Head};
+use crate::ir::kinds::{
+    Args, Binder, BoundVar, Clause, ConstKind, GenericArg, RegionKind, TyKind, VarKind, Vars,
+};
+use crate::ir::stop::Stop;
+use std::alloc::{AllocError, Global};
+
+/// The variable with a number so much higher, if it is of the binder that stands above the binders
+/// passed.
+fn later(var: BoundVar, binders: u32, by: usize) -> Result<Option<BoundVar>, Stop>
+    ensures moved { IfOk result (λ o. o ≡ (if var.depth == binders then Some (later by var) else None)) }
+    ensures cause { IfErr result (λ s. (s ≡ Stop.NodesFull) × (nat_eq var.depth binders ≡ true) × (4294967295 < var.index + by)) }
+{
+    if var.depth != binders {
+        return Ok(None);
+    }
+    let room = u32::MAX - var.index;
+    if by > room as usize {
+        return Err(Stop::NodesFull);
+    }
+    Ok(Some(BoundVar {
+        depth: var.depth,
+        index: var.index + by as u32,
+    }))
+}
+
+/// What stands for such a variable.
+fn renumbered<M: Make>(
+    make: &mut M,
+    arg: GenericArg,
+    binders: u32,
+    by: usize,
+) -> Result<Option<GenericArg>, Stop>
+    requires { IsArg (M.context make.old).trees arg }
+    ensures grows { Grows (M.context make.old) (M.context make.new) }
+    ensures rest { M.rest make.new ≡ M.rest make.old }
+    ensures kind { IfOk result (λ o. IsOfKind (M.context make.new).trees arg o) }
+    ensures answer { IfOk result (λ o. option_map (arg_tree (M.context make.new).trees) o ≡ later_head by binders (arg_tree (M.context make.old).trees arg).head) }
+    ensures cause { IfErr result (λ s. IsHeadStop (length (M.context make.new).trees) (later_head by binders (arg_tree (M.context make.old).trees arg).head) s) }
+{
+    let head = make.cx().head(arg.number());
+    match head {
+        Head::Bound(var) => match later(var, binders, by)? {
+            Some(var) => Ok(Some(GenericArg::Ty(make.mk_ty(TyKind::Bound(var))?))),
+            None => Ok(None),
+        },
+        Head::Const(ConstHead::Bound(var)) => match later(var, binders, by)? {
+            Some(var) => Ok(Some(GenericArg::Const(make.mk_const(ConstKind::Bound(var))?))),
+            None => Ok(None),
+        },
+        Head::Region(RegionKind::Bound(var)) => match later(var, binders, by)? {
+            Some(var) => Ok(Some(GenericArg::Region(make.mk_region(RegionKind::Bound(var))?))),
+            None => Ok(None),
+        },
+        _ => Ok(None),
+    }
+}
+
+/// What stands for a part of a super clause, under so many binders with its own: for a parameter its
+/// argument, for a variable of its own binder a later one.
+fn put_or_renumber<M: Make>(
+    alloc: Global,
+    make: &mut M,
+    args: Args,
+    by: usize,
+    arg: GenericArg,
+    binders: u32,
+) -> Result<Option<GenericArg>, Stop>
+    requires args { IsArgs (M.context make.old).trees args }
+    requires arg { IsArg (M.context make.old).trees arg }
+    ensures grows { Grows (M.context make.old) (M.context make.new) }
+    ensures rest { M.rest make.new ≡ M.rest make.old }
+    ensures kind { IfOk result (λ o. IsOfKind (M.context make.new).trees arg o) }
+    ensures answer { IfOk result (λ o. option_map (arg_tree (M.context make.new).trees) o ≡ instance_head (args_forest (M.context make.old).trees args) by (binders - 1) (arg_tree (M.context make.old).trees arg).head) }
+    ensures cause { IfErr result (λ s. IsHeadStop (length (M.context make.new).trees) (instance_head (args_forest (M.context make.old).trees args) by (binders - 1) (arg_tree (M.context make.old).trees arg).head) s) }
+{
+    let below = binders.saturating_sub(1);
+    match put(alloc, make, args, arg, below)? {
+        Some(value) => Ok(Some(value)),
+        None => renumbered(make, arg, below, by),
+    }
+}
+
+/// The super clause with arguments put in and the variables of its binder renumbered, which that
+/// binder still has to be widened for.
+fn instantiated<M: Make>(
+    alloc: Global,
+    make: &mut M,
+    clause: Clause,
+    args: Args,
+    by: usize,
+) -> Result<Clause, Stop>
+    requires clause { IsClause (M.context make.old).trees clause }
+    requires args { IsArgs (M.context make.old).trees args }
+    ensures grows { Grows (M.context make.old) (M.context make.new) }
+    ensures rest { M.rest make.new ≡ M.rest make.old }
+    ensures sort { IfOk result (λ x. IsClause (M.context make.new).trees x) }
+    ensures tree { IfOk result (λ x. clause_tree (M.context make.new).trees x ≡ fold_tree (λ d t. instance_head (args_forest (M.context make.old).trees args) by (d - 1) t.head) 0 (clause_tree (M.context make.old).trees clause)) }
+    ensures cause { IfErr result (λ s. IsRenumberStop (length (M.context make.new).trees) (alone (fold_tree (λ d t. instance_head (args_forest (M.context make.old).trees args) by (d - 1) t.head) 0 (clause_tree (M.context make.old).trees clause))) s) }
+{
+    let number = fold_number(
+        alloc,
+        make,
+        &mut move |make: &mut M, arg: GenericArg, binders: u32| -> Result<
+            Option<GenericArg>,
+            Stop,
+        > { put_or_renumber(alloc, make, args, by, arg, binders) },
+        clause.0,
+        0,
+    )?;
+    Ok(Clause(number))
+}
+
+/// Adds the kinds of the variables of a binder.
+fn add_kinds(cx: &Cx, kinds: &mut Vec<VarKind>, vars: Vars) -> Result<(), AllocError>
+    requires { IsVars cx.now.trees vars }
+    ensures { IfOk result (λ _. rows (map var_kind_tree kinds.new.items) ≡ join (rows (map var_kind_tree kinds.old.items)) (vars_tree cx.now.trees vars).children) }
+{
+    for var in cx.vars(vars) {
+        kinds.push(cx.var(*var))?;
+    }
+    Ok(())
+}
+
+/// A binder over the variables of two, one after the other.
+fn joint_vars<M: Make>(alloc: Global, make: &mut M, outer: Vars, inner: Vars) -> Result<Vars, Stop>
+    requires outer { IsVars (M.context make.old).trees outer }
+    requires inner { IsVars (M.context make.old).trees inner }
+    ensures grows { Grows (M.context make.old) (M.context make.new) }
+    ensures rest { M.rest make.new ≡ M.rest make.old }
+    ensures sort { IfOk result (λ v. IsVars (M.context make.new).trees v) }
+    ensures joint { IfOk result (λ v. IsJoint (M.context make.new).trees v (vars_tree (M.context make.old).trees outer).children (vars_tree (M.context make.old).trees inner).children) }
+    ensures cause { IfErr result (λ s. IsJointStop (length (M.context make.new).trees) (join (vars_tree (M.context make.old).trees outer).children (vars_tree (M.context make.old).trees inner).children) s) }
+{
+    let mut kinds = Vec::new(alloc);
+    add_kinds(make.cx(), &mut kinds, outer)?;
+    add_kinds(make.cx(), &mut kinds, inner)?;
+    make.mk_vars(kinds.as_slice())
+}
+
+/// What a super clause says of arguments: those of a clause under a binder of these variables, which
+/// says that its trait holds of them. Each parameter of the super clause has an argument of its kind
+/// (`clause_has_arguments`).
+///
+/// Both binders become one, of these variables and then those of the super clause; the arguments stand
+/// under it in the place of the parameters. `Stop::Memory` comes where a growth was refused,
+/// `Stop::NodesFull` where no numbers are left, or fewer than the joint binder or a list of bounds takes,
+/// the clause would be higher than 1,024, or a variable in it would have a number above 2^32 - 1, or be
+/// bound more than 2^32 - 1 binders out. After a stop the nodes that were made stay.
+pub fn implied<M: Make>(
+    alloc: Global,
+    make: &mut M,
+    vars: Vars,
+    args: Args,
+    clause: Clause,
+) -> Result<Clause, Stop>
+    requires vars { IsVars (M.context make.old).trees vars }
+    requires args { IsArgs (M.context make.old).trees args }
+    requires clause { IsClause (M.context make.old).trees clause }
+    requires there { tree_holds (lacks_argument (args_forest (M.context make.old).trees args)) (clause_tree (M.context make.old).trees clause) ≡ false }
+    ensures grows { Grows (M.context make.old) (M.context make.new) }
+    ensures rest { M.rest make.new ≡ M.rest make.old }
+    ensures sort { IfOk result (λ x. IsClause (M.context make.new).trees x) }
+    ensures tree { IfOk result (λ x. clause_tree (M.context make.new).trees x ≡ instance (vars_tree (M.context make.old).trees vars).children (args_forest (M.context make.old).trees args) (clause_tree (M.context make.old).trees clause)) }
+    ensures cause { IfErr result (λ s. IsInstanceStop (length (M.context make.new).trees) (instance (vars_tree (M.context make.old).trees vars).children (args_forest (M.context make.old).trees args) (clause_tree (M.context make.old).trees clause)) s) }
+{
+    let by = make.cx().vars(vars).len();
+    let own = make.cx().clause(clause).vars;
+    let joint = joint_vars(alloc, make, vars, own)?;
+    let instance = instantiated(alloc, make, clause, args, by)?;
+    make.cx().well_formed();
+    let value = make.cx().clause(instance).value;
+    make.mk_clause(Binder { vars: joint, value })
+}
