@@ -1,14 +1,14 @@
 -- What the search for a supertrait cycle knows stays true at each step, and says at the end whether there is a cycle.
-use Rattle.std.proofs.Common.{◌≡◌, ◌≢◌, ℕ, zero, suc, ◌+◌, ◌-◌, ◌<◌, ◌≤◌, List, [], ◌∷◌, length, get_or, Bool, true, false, Option, Some, None, ◌⊎◌, inl, inr, Ok, Err, Result, refl, sym, ◌∙◌, ap, subst, arith}
+use Rattle.std.proofs.Common.{◌≡◌, ◌≢◌, ℕ, zero, suc, ◌+◌, ◌<◌, ◌≤◌, List, [], ◌∷◌, length, Bool, true, false, Option, Some, None, ◌⊎◌, inl, inr, Ok, Err, Result, refl, sym, ◌∙◌, ap, subst, arith}
 use Rattle.std.specs.Prelude.{slice_get, slice_set, replicate, IfOk}
 use Rattle.std.specs.declared.alloc.AllocError.{AllocError}
 use Rattle.std.proofs.lemmas.List.{length-replicate}
-use Rattle.std.proofs.lemmas.Option.{slice_get_within, slice_get-get_or, same_Some}
+use Rattle.std.proofs.lemmas.Option.{slice_get_within, same_Some}
 use Rattle.candidate_ir.specs.declared.decl.cycles.Visit.{Visit}
 use Rattle.candidate_ir.specs.declared.decl.cycles.Visit.TheVariants as V
 use Rattle.candidate_ir.specs.declared.decl.cycles.Frame.{Frame}
 use Rattle.candidate_ir.specs.Supertraits.{Names, IsDirectSupertrait, IsSupertrait, direct, further, IsCyclic, IsRanked}
-use Rattle.candidate_ir.specs.Cycles.{Search, visit_of, is_past, is_open, opened, closed, met, met_as, IsIn, LeadsTo, IsFrame, ArePath, Knows, unseen_work, unseen_left, frames_left, left, KeepsSeen, framed, IsNearer, Steps, HasEnded, Ends}
+use Rattle.candidate_ir.specs.Cycles.{Search, visit_of, is_past, is_open, opened, closed, met, met_as, IsIn, LeadsTo, ArePath, Knows, unseen_work, unseen_left, frames_left, left, KeepsSeen, framed, IsNearer, Steps, HasEnded, Ends}
 
 -- what is read after a write
 get-set-same : {X : Type 0} (xs : List X) (i : ℕ) (x y : X) → slice_get xs i ≡ Some y → slice_get (slice_set xs i x) i ≡ Some x

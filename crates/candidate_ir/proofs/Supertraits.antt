@@ -1,5 +1,5 @@
 -- What a clause names, and that a table with ranks has no cycle.
-use Rattle.std.proofs.Common.{◌≡◌, ℕ, zero, suc, ◌<◌, ◌≤◌, List, [], ◌∷◌, length, Bool, true, false, Option, Some, None, IsTrue, ◌↔◌, refl, sym, ◌∙◌, ap, arith}
+use Rattle.std.proofs.Common.{◌≡◌, ℕ, zero, suc, ◌<◌, ◌≤◌, List, [], ◌∷◌, length, Bool, false, Option, Some, None, IsTrue, ◌↔◌, refl, ◌∙◌, ap, arith}
 use Rattle.std.specs.Prelude.{map, slice_get}
 use Rattle.std.specs.Option.{option_map}
 use Rattle.std.proofs.lemmas.Option.{slice_get_past, slice_get-map}
@@ -16,7 +16,7 @@ use Rattle.candidate_ir.specs.Nodes.{tree_at, kind_at}
 use Rattle.candidate_ir.specs.Words.{IsClause, clause_kind_tree, clause_tree}
 use Rattle.candidate_ir.specs.Declaration.{Declaration}
 use Rattle.candidate_ir.specs.Contents.{Contents}
-use Rattle.candidate_ir.specs.Supertraits.{Names, IsDirectSupertrait, IsSupertrait, direct, further, IsCyclic, IsRanked, head_trait, clause_trait, clause_supertrait, declared_supers, named_supers}
+use Rattle.candidate_ir.specs.Supertraits.{Names, IsSupertrait, direct, further, IsCyclic, IsRanked, head_trait, clause_trait, clause_supertrait, declared_supers, named_supers}
 
 -- the rank falls along each path
 rank-falls : (names : Names) (r : IsRanked names) {i j : ℕ} → IsSupertrait names i j → r.rank j < r.rank i

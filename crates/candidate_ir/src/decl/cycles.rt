@@ -1,7 +1,6 @@
 //! Whether a trait is its own supertrait.
 
-ghost use Rattle.std.specs.Prelude.{◌≡◌, ◌<◌, [], ◌∷◌, None, length, replicate, slice_get, IfOk, MatchOption};
-ghost use Rattle.std.specs.Bool.{MatchBool};
+ghost use Rattle.std.specs.Prelude.{◌≡◌, ◌<◌, [], None, length, replicate, slice_get, IfOk, MatchOption};
 ghost use Rattle.candidate_ir.specs.Cycles.{Knows, Ends, Steps, framed, opened, closed, met, is_open, visit_of};
 ghost use Rattle.candidate_ir.specs.Declaring.{contents_of};
 ghost use Rattle.candidate_ir.specs.Supertraits.{clause_trait, clause_supertrait, declared_supers, named_supers, SaysCyclic};

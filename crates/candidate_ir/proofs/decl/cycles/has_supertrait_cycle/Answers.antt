@@ -1,4 +1,4 @@
-use Rattle.std.proofs.Common.{◌≡◌, ◌≤◌, ℕ, None, [], length, sym, ◌∙◌, ap, subst, arith}
+use Rattle.std.proofs.Common.{None, length, sym, ◌∙◌, ap, subst, arith}
 use Rattle.candidate_ir.specs.Cycles.{Search, Knows, HasEnded}
 use Rattle.candidate_ir.specs.Declaring.{contents_of}
 use Rattle.candidate_ir.specs.Supertraits.{named_supers}
