@@ -165,3 +165,13 @@ pub has_elaboration : (supers : SuperClauses) (rank : ℕ → ℕ) → IsRank su
 has_elaboration supers rank r walked left =
     let a = above rank left in
     walks supers rank r a.0 (suc (total (weigh supers a.0) left)) walked left (omega arith) a.1
+
+pub tree_is : (t u : Tree) → same_tree t u ≡ true → t ≡ u
+tree_is t u e =
+    let x = and-both (same_head t.head u.head) (same_forest t.children u.children) e in
+    let h = head_is t.head u.head x.0 in
+    let f = forest_is t.children u.children x.1 in
+    ap (λ (g : Head). let v : Tree = record { head = g; children = t.children } in v) h ∙ ap (λ (b : Forest). let v : Tree = record { head = u.head; children = b } in v) f
+
+pub tree_itself : (t : Tree) → same_tree t t ≡ true
+tree_itself t = both (same_head t.head t.head) _ (head_itself t.head) (forest_itself t.children)

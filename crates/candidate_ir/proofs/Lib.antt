@@ -22,6 +22,7 @@ pub mod Implying
 pub mod Joining
 pub mod Elaboration
 pub mod ElaborationCases
+pub mod ElaborationLaws
 pub mod Holding
 pub mod Misplacing
 pub mod References

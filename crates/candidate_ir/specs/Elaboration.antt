@@ -195,3 +195,22 @@ AreLower rank n (t ∷ ts) = IsLower rank n (said_of t.head) × AreLower rank n 
 
 pub record IsRank (supers : SuperClauses) (rank : ℕ → ℕ) : Type 0 where
   pub lower : (i : ℕ) → AreLower rank (rank i) (supers i)
+
+-- Each of the second is in the first.
+abbrev pub AreListed : List Tree → List Tree → Type 0
+AreListed all [] = Unit {0}
+AreListed all (t ∷ ts) = (lists all t ≡ true) × AreListed all ts
+
+-- All that the clauses imply at once is in the list.
+abbrev pub HasImplied : SuperClauses → List Tree → List Tree → Type 0
+HasImplied supers all [] = Unit {0}
+HasImplied supers all (t ∷ ts) = AreListed all (implied_by supers t) × HasImplied supers all ts
+
+-- One of the clauses, or what is implied at once by one that is implied.
+pub data IsImplied (supers : SuperClauses) (start : List Tree) : Tree → Type 0 where
+  given : {t : Tree} → lists start t ≡ true → IsImplied supers start t
+  by : {t u : Tree} → IsImplied supers start t → lists (implied_by supers t) u ≡ true → IsImplied supers start u
+
+abbrev pub AreImplied : SuperClauses → List Tree → List Tree → Type 0
+AreImplied supers start [] = Unit {0}
+AreImplied supers start (t ∷ ts) = IsImplied supers start t × AreImplied supers start ts
