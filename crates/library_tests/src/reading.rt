@@ -212,7 +212,7 @@ fn projects(args: Args, term: Ty) -> ClauseKind
 /// A context, and the last two types, constants and regions that were read into it.
 #[derive(Drop)]
 pub struct Reader {
-    alloc: Global,
+    pub alloc: Global,
     pub cx: Cx,
     pub ty: Ty,
     pub before: Ty,
@@ -345,7 +345,7 @@ impl Reader {
 
     /// The variables of a binder.
     #[tactic(auto, using(crate::proofs::Kept::kept))]
-    fn vars(&mut self, rt: &impl Abort, kinds: &[VarKind]) -> Vars
+    pub fn vars(&mut self, rt: &impl Abort, kinds: &[VarKind]) -> Vars
         ensures grows { Grows self.old.cx self.new.cx }
         ensures sort { IsVars self.new.cx.trees result }
     {

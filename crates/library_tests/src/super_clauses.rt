@@ -4,7 +4,6 @@ ghost use Rattle.candidate_ir.specs.Context.{Grows};
 ghost use Rattle.candidate_ir.specs.Words.{IsArgs, IsVars, IsClause};
 
 use crate::asserts::{equals_in_row, holds};
-use crate::builders::variables;
 use crate::reading::{Reader, Reading};
 use candidate_ir::decl::context::Cx;
 use candidate_ir::decl::elaborate::implied;
@@ -37,15 +36,25 @@ fn instance(
     implied(alloc, cx, vars, args, clause).expect(rt, "an instance")
 }
 
-#[tactic(auto, using(crate::proofs::Kept::kept))]
-fn check_row(rt: &impl Abort, alloc: Global, reader: &mut Reader, row: Row<'_>, number: usize) {
+/// The same, in the reader's context.
+fn said(rt: &impl Abort, reader: &mut Reader, vars: Vars, args: Args, clause: Clause) -> Clause
+    requires vars { IsVars reader.old.cx.trees vars }
+    requires args { IsArgs reader.old.cx.trees args }
+    requires clause { IsClause reader.old.cx.trees clause }
+    ensures grows { Grows reader.old.cx reader.new.cx }
+    ensures sort { IsClause reader.new.cx.trees result }
+{
+    instance(rt, reader.alloc, &mut reader.cx, vars, args, clause)
+}
+
+fn check_row(rt: &impl Abort, reader: &mut Reader, row: Row<'_>, number: usize) {
     let reading = Reading::Parameters;
-    let want = reader.clause(rt, reading, row.3, row.4);
-    let clause = reader.clause(rt, reading, row.1, row.2);
     reader.read(rt, reading, row.0);
     let args = reader.list(rt);
-    let vars = variables(rt, &mut reader.cx, &[VarKind::Ty]);
-    let got = instance(rt, alloc, &mut reader.cx, vars, args, clause);
+    let binder = reader.vars(rt, &[VarKind::Ty]);
+    let of = reader.clause(rt, reading, row.1, row.2);
+    let want = reader.clause(rt, reading, row.3, row.4);
+    let got = said(rt, reader, binder, args, of);
     equals_in_row(rt, &reader.cx.same_clause(got, want), &true, number);
 }
 
@@ -100,6 +109,6 @@ fn says_of_arguments_what_super_clauses_say(rt: HostRuntime) {
         ),
     ];
     for (number, row) in rows.iter().enumerate() {
-        check_row(&rt, rt.alloc(), &mut reader, *row, number);
+        check_row(&rt, &mut reader, *row, number);
     }
 }
