@@ -4,7 +4,8 @@ use Rattle.std.specs.Prelude.{map, max, if◌then◌else◌, ◌&&◌}
 use Rattle.candidate_ir.specs.declared.ir.heads.Head.{Head}
 use Rattle.candidate_ir.specs.Trees.{Forest, none, tree, Tree}
 use Rattle.candidate_ir.specs.Unify.{same_head}
-use Rattle.candidate_ir.specs.Elaboration.{implied, said_of, SuperClauses, supers_if, implied_by, same_forest, same_tree, lists, unlisted, Elaborates, ended, step, IsLower, AreLower, IsRank}
+use Rattle.candidate_ir.specs.Supertraits.{head_trait}
+use Rattle.candidate_ir.specs.Elaboration.{implied, SuperClauses, supers_if, implied_by, same_forest, same_tree, lists, unlisted, Elaborates, ended, step, IsLower, AreLower, IsRank}
 use Rattle.candidate_ir.proofs.Equal.{head_is, head_itself}
 
 -- It has at most one result.
@@ -44,7 +45,7 @@ total f (t ∷ ts) = f t.head + total f ts
 -- A clause weighs one more than its super clauses together, as far down as is asked.
 abbrev pub weigh : SuperClauses → ℕ → Head → ℕ
 weigh supers zero h = 1
-weigh supers (suc n) h = suc (total (weigh supers n) (supers_if supers (said_of h)))
+weigh supers (suc n) h = suc (total (weigh supers n) (supers_if supers (head_trait h)))
 
 total-both : (f : Head → ℕ) (ts us : List Tree) → total f (ts ++ us) ≡ total f ts + total f us
 total-both f [] us = omega arith
@@ -72,7 +73,7 @@ less rank m n (Some i) h l = omega arith
 
 all-less : (rank : ℕ → ℕ) (m n : ℕ) (ts : List Tree) → m ≤ n → AreLower rank m ts → AreLower rank n ts
 all-less rank m n [] h l = tt
-all-less rank m n (t ∷ ts) h l = (less rank m n (said_of t.head) h l.0, all-less rank m n ts h l.1)
+all-less rank m n (t ∷ ts) h l = (less rank m n (head_trait t.head) h l.0, all-less rank m n ts h l.1)
 
 -- the super clauses of a clause below a rank are below the next lower one
 below : (supers : SuperClauses) (rank : ℕ → ℕ) (m : ℕ) (o : Option ℕ) → IsRank supers rank → IsLower rank (suc m) o → AreLower rank m (supers_if supers o)
@@ -83,25 +84,25 @@ nothing-below : (supers : SuperClauses) (rank : ℕ → ℕ) (o : Option ℕ) �
 nothing-below supers rank None l = refl
 nothing-below supers rank (Some i) l = absurd (omega arith)
 
-total-same : (f g : Head → ℕ) (rank : ℕ → ℕ) (n : ℕ) → ((h : Head) → IsLower rank n (said_of h) → f h ≡ g h) → (ts : List Tree) → AreLower rank n ts → total f ts ≡ total g ts
+total-same : (f g : Head → ℕ) (rank : ℕ → ℕ) (n : ℕ) → ((h : Head) → IsLower rank n (head_trait h) → f h ≡ g h) → (ts : List Tree) → AreLower rank n ts → total f ts ≡ total g ts
 total-same f g rank n e [] l = refl
 total-same f g rank n e (t ∷ ts) l = let a = e t.head l.0 in let b = total-same f g rank n e ts l.1 in omega (arith, a, b)
 
-steady : (supers : SuperClauses) (rank : ℕ → ℕ) → IsRank supers rank → (n : ℕ) (h : Head) → IsLower rank n (said_of h) → weigh supers (suc n) h ≡ weigh supers n h
-steady supers rank r zero h l = ap (λ (ts : List Tree). suc (total (weigh supers 0) ts)) (nothing-below supers rank (said_of h) l)
+steady : (supers : SuperClauses) (rank : ℕ → ℕ) → IsRank supers rank → (n : ℕ) (h : Head) → IsLower rank n (head_trait h) → weigh supers (suc n) h ≡ weigh supers n h
+steady supers rank r zero h l = ap (λ (ts : List Tree). suc (total (weigh supers 0) ts)) (nothing-below supers rank (head_trait h) l)
 steady supers rank r (suc n) h l =
-    ap suc (total-same (weigh supers (suc n)) (weigh supers n) rank n (steady supers rank r n) (supers_if supers (said_of h)) (below supers rank n (said_of h) r l))
+    ap suc (total-same (weigh supers (suc n)) (weigh supers n) rank n (steady supers rank r n) (supers_if supers (head_trait h)) (below supers rank n (head_trait h) r l))
 
 -- what a clause implies weighs less than it
-implied-weigh : (supers : SuperClauses) (rank : ℕ → ℕ) → IsRank supers rank → (n : ℕ) (t : Tree) → IsLower rank n (said_of t.head)
+implied-weigh : (supers : SuperClauses) (rank : ℕ → ℕ) → IsRank supers rank → (n : ℕ) (t : Tree) → IsLower rank n (head_trait t.head)
     → total (weigh supers n) (implied_by supers t) < weigh supers n t.head
 implied-weigh supers rank r n t l =
     let e = steady supers rank r n t.head l in
-    let i = total-implied (weigh supers n) t (supers_if supers (said_of t.head)) in
+    let i = total-implied (weigh supers n) t (supers_if supers (head_trait t.head)) in
     omega (arith, e, i)
 
 -- so the row still to be walked gets lighter
-lighter : (supers : SuperClauses) (rank : ℕ → ℕ) → IsRank supers rank → (n : ℕ) (seen left : List Tree) (t : Tree) → IsLower rank n (said_of t.head)
+lighter : (supers : SuperClauses) (rank : ℕ → ℕ) → IsRank supers rank → (n : ℕ) (seen left : List Tree) (t : Tree) → IsLower rank n (head_trait t.head)
     → total (weigh supers n) (left ++ unlisted seen (implied_by supers t)) < total (weigh supers n) (t ∷ left)
 lighter supers rank r n seen left t l =
     let a = total-both (weigh supers n) left (unlisted seen (implied_by supers t)) in
@@ -117,7 +118,7 @@ lower-implied : (rank : ℕ → ℕ) (n : ℕ) (t : Tree) (ss : List Tree) → A
 lower-implied rank n t [] l = tt
 lower-implied rank n t (s ∷ ss) l = (l.0, lower-implied rank n t ss l.1)
 
-lower-if : (rank : ℕ → ℕ) (n : ℕ) (t : Tree) (us vs : List Tree) (b : Bool) → IsLower rank n (said_of t.head) → AreLower rank n us → AreLower rank n vs
+lower-if : (rank : ℕ → ℕ) (n : ℕ) (t : Tree) (us vs : List Tree) (b : Bool) → IsLower rank n (head_trait t.head) → AreLower rank n us → AreLower rank n vs
     → AreLower rank n (if b then us else t ∷ vs)
 lower-if rank n t us vs true l k m = k
 lower-if rank n t us vs false l k m = (l, m)
@@ -127,10 +128,10 @@ lower-unlisted rank n seen [] l = tt
 lower-unlisted rank n seen (t ∷ ts) l =
     lower-if rank n t (unlisted seen ts) (unlisted (seen ++ t ∷ []) ts) (lists seen t) l.0 (lower-unlisted rank n seen ts l.1) (lower-unlisted rank n (seen ++ t ∷ []) ts l.1)
 
-lower-implied_by : (supers : SuperClauses) (rank : ℕ → ℕ) → IsRank supers rank → (n : ℕ) (t : Tree) → IsLower rank n (said_of t.head) → AreLower rank n (implied_by supers t)
-lower-implied_by supers rank r zero t l = subst (λ (ss : List Tree). AreLower rank 0 (map (implied t) ss)) (sym (nothing-below supers rank (said_of t.head) l)) tt
+lower-implied_by : (supers : SuperClauses) (rank : ℕ → ℕ) → IsRank supers rank → (n : ℕ) (t : Tree) → IsLower rank n (head_trait t.head) → AreLower rank n (implied_by supers t)
+lower-implied_by supers rank r zero t l = subst (λ (ss : List Tree). AreLower rank 0 (map (implied t) ss)) (sym (nothing-below supers rank (head_trait t.head) l)) tt
 lower-implied_by supers rank r (suc n) t l =
-    lower-implied rank (suc n) t (supers_if supers (said_of t.head)) (all-less rank n (suc n) (supers_if supers (said_of t.head)) (omega arith) (below supers rank n (said_of t.head) r l))
+    lower-implied rank (suc n) t (supers_if supers (head_trait t.head)) (all-less rank n (suc n) (supers_if supers (head_trait t.head)) (omega arith) (below supers rank n (head_trait t.head) r l))
 
 -- Where traits have a rank, a row of clauses below one has an elaboration.
 pub record HasElaboration (supers : SuperClauses) (walked left : List Tree) : Type 0 where
@@ -156,9 +157,9 @@ above-one rank (Some i) = (suc (rank i), omega arith)
 above : (rank : ℕ → ℕ) (ts : List Tree) → (n : ℕ) × AreLower rank n ts
 above rank [] = (0, tt)
 above rank (t ∷ ts) =
-    let a = above-one rank (said_of t.head) in
+    let a = above-one rank (head_trait t.head) in
     let b = above rank ts in
-    (a.0 + b.0, (less rank a.0 (a.0 + b.0) (said_of t.head) (omega arith) a.1, all-less rank b.0 (a.0 + b.0) ts (omega arith) b.1))
+    (a.0 + b.0, (less rank a.0 (a.0 + b.0) (head_trait t.head) (omega arith) a.1, all-less rank b.0 (a.0 + b.0) ts (omega arith) b.1))
 
 -- Where traits have a rank, all clauses have an elaboration.
 pub has_elaboration : (supers : SuperClauses) (rank : ℕ → ℕ) → IsRank supers rank → (walked left : List Tree) → HasElaboration supers walked left

@@ -33,6 +33,7 @@ pub mod Faults
 pub mod WellFormed
 pub mod Given
 pub mod Owned
+pub mod Ranks
 pub mod Instances
 pub mod Pairs
 pub mod MayUnify

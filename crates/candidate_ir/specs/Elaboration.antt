@@ -4,7 +4,6 @@ use Rattle.std.specs.List.{All, filter, list_any}
 use Rattle.candidate_ir.specs.declared.ir.kinds.BoundVar.{BoundVar}
 use Rattle.candidate_ir.specs.declared.ir.kinds.VarKind.{VarKind}
 use Rattle.candidate_ir.specs.declared.ir.kinds.Vars.{Vars}
-use Rattle.candidate_ir.specs.declared.ir.kinds.PredicatePolarity.TheVariants as Polarity
 use Rattle.candidate_ir.specs.declared.ir.kinds.RegionKind.TheVariants as R
 use Rattle.candidate_ir.specs.declared.ir.stop.Stop.{Stop}
 use Rattle.candidate_ir.specs.declared.ir.stop.Stop.TheVariants.{Memory, NodesFull}
@@ -18,6 +17,7 @@ use Rattle.candidate_ir.specs.Folding.{fold, leaf, put_if_there, substituted, Is
 use Rattle.candidate_ir.specs.Substitutions.{alone}
 use Rattle.candidate_ir.specs.Unify.{same_head}
 use Rattle.candidate_ir.specs.Supers.{after_first, supers_at}
+use Rattle.candidate_ir.specs.Supertraits.{head_trait}
 use Rattle.candidate_ir.specs.Context.{Context}
 use Rattle.candidate_ir.specs.Declaring.{trait_at}
 use Rattle.candidate_ir.specs.Words.{clause_tree, vars_tree, binder_tree}
@@ -107,11 +107,6 @@ pub record IsJoint (ts : List Tree) (v : Vars) (outer inner : Forest) : Type 0 w
 abbrev pub IsJointStop : ℕ → Forest → Stop → Type 0
 IsJointStop given variables s = (s ≡ Memory) ⊎ ((s ≡ NodesFull) × (4294967295 < given + (count variables + 1)))
 
--- the trait that a clause says to hold
-abbrev pub said_of : Head → Option ℕ
-said_of (H.Part (P.Clause (Cl.Trait i Polarity.Positive))) = Some i.0
-said_of _ = None
-
 -- the trees of the super clauses of each trait
 abbrev pub SuperClauses : Type 0
 SuperClauses = ℕ → List Tree
@@ -125,7 +120,7 @@ supers_if supers (Some i) = supers i
 
 -- The clauses that one implies at once: the super clauses of the trait that it says to hold; any other implies none.
 abbrev pub implied_by : SuperClauses → Tree → List Tree
-implied_by supers t = map (implied t) (supers_if supers (said_of t.head))
+implied_by supers t = map (implied t) (supers_if supers (head_trait t.head))
 
 -- whether two trees are equal
 abbrev pub same_forest : Forest → Forest → Bool
@@ -191,7 +186,7 @@ IsLower rank n (Some i) = rank i < n
 
 abbrev pub AreLower : (ℕ → ℕ) → ℕ → List Tree → Type 0
 AreLower rank n [] = Unit {0}
-AreLower rank n (t ∷ ts) = IsLower rank n (said_of t.head) × AreLower rank n ts
+AreLower rank n (t ∷ ts) = IsLower rank n (head_trait t.head) × AreLower rank n ts
 
 pub record IsRank (supers : SuperClauses) (rank : ℕ → ℕ) : Type 0 where
   pub lower : (i : ℕ) → AreLower rank (rank i) (supers i)
