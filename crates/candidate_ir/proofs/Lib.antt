@@ -34,6 +34,7 @@ pub mod WellFormed
 pub mod Given
 pub mod Owned
 pub mod Ranks
+pub mod Listing
 pub mod Instances
 pub mod Pairs
 pub mod MayUnify

@@ -2,6 +2,7 @@
 use Rattle.std.specs.Prelude.{◌≡◌, ◌⊎◌, ℕ, zero, suc, ◌<◌, ◌+◌, Bool, true, false, ◌==◌, ◌&&◌, nat_lt, Option, Some, None, List, [], ◌∷◌, ◌++◌, map, if◌then◌else◌}
 use Rattle.std.specs.List.{All, filter, list_any}
 use Rattle.candidate_ir.specs.declared.ir.kinds.BoundVar.{BoundVar}
+use Rattle.candidate_ir.specs.declared.ir.kinds.Clause.{Clause}
 use Rattle.candidate_ir.specs.declared.ir.kinds.VarKind.{VarKind}
 use Rattle.candidate_ir.specs.declared.ir.kinds.Vars.{Vars}
 use Rattle.candidate_ir.specs.declared.ir.kinds.RegionKind.TheVariants as R
@@ -130,6 +131,9 @@ same_forest _ _ = false
 
 abbrev pub same_tree : Tree → Tree → Bool
 same_tree t u = same_head t.head u.head && same_forest t.children u.children
+
+abbrev pub is_same_clause : List Tree → Clause → Clause → Bool
+is_same_clause ts c x = same_tree (clause_tree ts x) (clause_tree ts c)
 
 abbrev pub lists : List Tree → Tree → Bool
 lists ts t = list_any (λ u. same_tree u t) ts

@@ -1,14 +1,18 @@
 //! Super clauses, instantiated.
 
-ghost use Rattle.std.specs.Prelude.{◌≡◌, ◌+◌, ◌-◌, ◌<◌, ◌==◌, length, map, Some, None, IfOk, IfErr, option_map, nat_eq, true, false, if◌then◌else◌};
+ghost use Rattle.std.specs.List.{list_any};
+ghost use Rattle.std.specs.Prelude.{◌≡◌, [], ◌∷◌, ◌++◌, ◌+◌, ◌-◌, ◌<◌, ◌==◌, length, map, Some, None, IfOk, IfErr, IfSome, option_map, slice_get, nat_eq, true, false, if◌then◌else◌};
 ghost use Rattle.candidate_ir.specs.Context.{Grows};
-ghost use Rattle.candidate_ir.specs.Elaboration.{later, later_head, instance_head, instance, variables_of, under_binder, IsHeadStop, IsRenumberStop, IsInstanceStop, IsJoint, IsJointStop};
+ghost use Rattle.candidate_ir.specs.Declaring.{trait_at};
+ghost use Rattle.candidate_ir.specs.References.{ArgumentsFit};
+ghost use Rattle.candidate_ir.specs.Supers.{supers_at};
+ghost use Rattle.candidate_ir.specs.Elaboration.{later, later_head, instance_head, instance, variables_of, under_binder, IsHeadStop, IsRenumberStop, IsInstanceStop, IsJoint, IsJointStop, is_same_clause, unlisted};
 ghost use Rattle.candidate_ir.specs.Folding.{lacks_argument, fold_tree};
 ghost use Rattle.candidate_ir.specs.Folds.{IsArg, IsOfKind, arg_tree};
 ghost use Rattle.candidate_ir.specs.Nodes.{rows};
 ghost use Rattle.candidate_ir.specs.Substitutions.{alone};
 ghost use Rattle.candidate_ir.specs.Trees.{join, count, holds, tree_holds};
-ghost use Rattle.candidate_ir.specs.Words.{IsArgs, IsClause, IsVars, IsMkListStop, args_forest, clause_tree, vars_tree, var_kind_tree, binder_tree};
+ghost use Rattle.candidate_ir.specs.Words.{IsArgs, IsClause, IsVars, ClauseListFits, IsMkListStop, args_forest, clause_tree, vars_tree, var_kind_tree, binder_tree};
 
 use crate::decl::context::Cx;
 use crate::decl::fold::fold_number;
@@ -16,7 +20,8 @@ use crate::decl::make::Make;
 use crate::decl::subst::put;
 use crate::ir::heads::{ConstHead, Head};
 use crate::ir::kinds::{
-    Args, Binder, BoundVar, Clause, ConstKind, GenericArg, RegionKind, TyKind, VarKind, Vars,
+    Args, Binder, BoundVar, Clause, ConstKind, GenericArg, RegionKind, TraitRef, TyKind, VarKind,
+    Vars,
 };
 use crate::ir::stop::Stop;
 use std::alloc::{AllocError, Global};
@@ -187,4 +192,65 @@ pub fn implied<M: Make>(
     make.cx().well_formed();
     let value = make.cx().clause(instance).value;
     make.mk_clause(Binder { vars: joint, value })
+}
+
+impl Cx {
+    /// The super clause in that place of the trait of a reference: each of its parameters has an argument there.
+    #[tactic(auto, using(crate::proofs::Owned::super_has_arguments, crate::proofs::Listing::listed_clause))]
+    fn super_clause(&self, trait_ref: TraitRef, place: usize) -> Option<Clause>
+        requires { ArgumentsFit self.now trait_ref }
+        ensures is { result ≡ slice_get (supers_at (trait_at self.now trait_ref.def_id.0)) place }
+        ensures sort { IfSome result (λ x. IsClause self.now.trees x) }
+        ensures has { IfSome result (λ x. tree_holds (lacks_argument (args_forest self.now.trees trait_ref.args)) (clause_tree self.now.trees x) ≡ false) }
+    {
+        let _ = self.contents.traits.len();
+        self.well_formed_table();
+        match self.super_clauses(trait_ref.def_id).get(place) {
+            Some(clause) => Some(*clause),
+            None => None,
+        }
+    }
+}
+
+/// Whether the clause is equal to one of the list.
+#[tactic(auto, using(crate::proofs::Misplacing::any_past))]
+fn lists(cx: &Cx, list: &[Clause], clause: Clause) -> bool
+    requires list { ClauseListFits cx.now.trees list.now }
+    requires clause { IsClause cx.now.trees clause }
+    ensures { result ≡ list_any (is_same_clause cx.now.trees clause) list.now }
+{
+    for other in list {
+        if cx.same_clause(*other, clause) {
+            return true;
+        }
+    }
+    false
+}
+
+/// Adds the clause to the list, unless that has an equal one.
+#[tactic(auto, using(crate::proofs::Listing::pushed_fits, crate::proofs::Listing::pushed_unlisted, crate::proofs::Listing::left_unlisted))]
+fn push_unlisted(cx: &Cx, list: &mut Vec<Clause>, clause: Clause) -> Result<(), AllocError>
+    requires list { ClauseListFits cx.now.trees list.old.items }
+    requires clause { IsClause cx.now.trees clause }
+    ensures fit { IfOk result (λ _. ClauseListFits cx.now.trees list.new.items) }
+    ensures trees { IfOk result (λ _. map (clause_tree cx.now.trees) list.new.items ≡ map (clause_tree cx.now.trees) list.old.items ++ unlisted (map (clause_tree cx.now.trees) list.old.items) (clause_tree cx.now.trees clause ∷ [])) }
+{
+    if !lists(cx, list.as_slice(), clause) {
+        list.push(clause)?;
+    }
+    Ok(())
+}
+
+/// The clauses, each once.
+#[tactic(auto, using(crate::proofs::Listing::all_unlisted))]
+fn each_once(alloc: Global, cx: &Cx, clauses: &[Clause]) -> Result<Vec<Clause>, AllocError>
+    requires { ClauseListFits cx.now.trees clauses.now }
+    ensures fit { IfOk result (λ list. ClauseListFits cx.now.trees list.items) }
+    ensures trees { IfOk result (λ list. map (clause_tree cx.now.trees) list.items ≡ unlisted [] (map (clause_tree cx.now.trees) clauses.now)) }
+{
+    let mut list = Vec::new(alloc);
+    for clause in clauses {
+        push_unlisted(cx, &mut list, *clause)?;
+    }
+    Ok(list)
 }
