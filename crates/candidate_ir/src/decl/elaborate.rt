@@ -6,7 +6,7 @@ ghost use Rattle.candidate_ir.specs.Context.{Grows};
 ghost use Rattle.candidate_ir.specs.Declaring.{trait_at};
 ghost use Rattle.candidate_ir.specs.References.{ArgumentsFit};
 ghost use Rattle.candidate_ir.specs.Supers.{supers_at};
-ghost use Rattle.candidate_ir.specs.Elaboration.{later, later_head, instance_head, instance, variables_of, under_binder, IsHeadStop, IsRenumberStop, IsInstanceStop, IsJoint, IsJointStop, is_same_clause, unlisted};
+ghost use Rattle.candidate_ir.specs.Elaboration.{later, later_head, instance_head, instance, variables_of, under_binder, IsHeadStop, IsRenumberStop, IsInstanceStop, IsJoint, IsJointStop, is_same_clause, unlisted, super_clauses};
 ghost use Rattle.candidate_ir.specs.Folding.{lacks_argument, fold_tree};
 ghost use Rattle.candidate_ir.specs.Folds.{IsArg, IsOfKind, arg_tree};
 ghost use Rattle.candidate_ir.specs.Nodes.{rows};
@@ -253,4 +253,33 @@ fn each_once(alloc: Global, cx: &Cx, clauses: &[Clause]) -> Result<Vec<Clause>, 
         push_unlisted(cx, &mut list, *clause)?;
     }
     Ok(list)
+}
+
+/// Adds what the super clauses of its trait say of a reference under a binder of these variables, each
+/// unless the list has it.
+#[tactic(auto, using(crate::proofs::Listing::no_supers, crate::proofs::Listing::no_more_supers, crate::proofs::Listing::all_supers))]
+fn push_supers<M: Make>(
+    alloc: Global,
+    make: &mut M,
+    list: &mut Vec<Clause>,
+    vars: Vars,
+    trait_ref: TraitRef,
+) -> Result<(), Stop>
+    requires list { ClauseListFits (M.context make.old).trees list.old.items }
+    requires vars { IsVars (M.context make.old).trees vars }
+    requires args { IsArgs (M.context make.old).trees trait_ref.args }
+    requires fit { ArgumentsFit (M.context make.old) trait_ref }
+    ensures grows { Grows (M.context make.old) (M.context make.new) }
+    ensures rest { M.rest make.new ≡ M.rest make.old }
+    ensures sort { IfOk result (λ _. ClauseListFits (M.context make.new).trees list.new.items) }
+    ensures trees { IfOk result (λ _. map (clause_tree (M.context make.new).trees) list.new.items ≡ map (clause_tree (M.context make.old).trees) list.old.items ++ unlisted (map (clause_tree (M.context make.old).trees) list.old.items) (map (instance (vars_tree (M.context make.old).trees vars).children (args_forest (M.context make.old).trees trait_ref.args)) (super_clauses (M.context make.old) trait_ref.def_id.0))) }
+{
+    let count = make.cx().super_clauses(trait_ref.def_id).len();
+    for place in 0..count {
+        if let Some(own) = make.cx().super_clause(trait_ref, place) {
+            let clause = implied(alloc, make, vars, trait_ref.args, own)?;
+            push_unlisted(make.cx(), list, clause)?;
+        }
+    }
+    Ok(())
 }

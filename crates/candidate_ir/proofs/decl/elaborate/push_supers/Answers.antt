@@ -1,0 +1,56 @@
+use Rattle.std.proofs.Common.{◌≡◌, sym, ◌∙◌, ap, subst}
+use Rattle.std.specs.Prelude.{◌++◌, ◌∷◌, [], map, Some, None, List, slice_get}
+use Rattle.candidate_ir.specs.Declaring.{trait_at}
+use Rattle.candidate_ir.specs.Supers.{supers_at}
+use Rattle.candidate_ir.specs.Trees.{Forest, Tree, BinderKind}
+use Rattle.candidate_ir.specs.Context.{Context}
+use Rattle.candidate_ir.specs.Words.{ClauseListFits, IsClause, vars_tree, args_forest, clause_tree}
+use Rattle.candidate_ir.specs.Elaboration.{instance, unlisted}
+use Rattle.candidate_ir.proofs.Lists.{below_kind}
+use Rattle.candidate_ir.proofs.Kept.{args-kept, number-kept, grows-trans}
+use Rattle.candidate_ir.proofs.Listing.{clauses_kept, no_more_supers, one_more_super, vars_kept, instance_kept, supers_read}
+use Rattle.candidate_ir.proofs.decl.elaborate.push_supers.Goals as goal
+use Rattle.candidate_ir.proofs.decl.elaborate.push_supers.Goals.{in-Some+in_ok-clause+in_ok-push_unlisted, in_default}
+
+pub implied-requires-clause-vars : goal.implied-requires-clause-vars
+implied-requires-clause-vars g c = (vars_kept _ _ c.args.vars c.loop-place.invariant.0.grows c.requires.vars).0
+
+pub implied-requires-clause-args : goal.implied-requires-clause-args
+implied-requires-clause-args g c = (args-kept _ _ c.args.trait_ref.args c.loop-place.invariant.0.grows c.requires.args).0
+
+pub returns-in_err-clause-clause-grows : goal.returns-in_err-clause-clause-grows
+returns-in_err-clause-clause-grows g c = grows-trans _ _ _ c.loop-place.invariant.0.grows c.implied.ensures.grows
+
+pub push_unlisted-requires-clause-list : goal.push_unlisted-requires-clause-list
+push_unlisted-requires-clause-list g c =
+    subst (λ (x : Context). ClauseListFits x.trees c.loop-place.list.items) (sym c.cx-in-Some.ensures)
+    (clauses_kept _ _ c.loop-place.list.items c.implied.ensures.grows.kept c.loop-place.invariant.0.fit).0
+
+pub returns-in_err-push_unlisted-clause-grows : goal.returns-in_err-push_unlisted-clause-grows
+returns-in_err-push_unlisted-clause-grows g c = grows-trans _ _ _ c.loop-place.invariant.0.grows c.implied.ensures.grows
+
+pub loop-place-preserved : goal.loop-place-preserved
+loop-place-preserved g c = elim c.match-super_clause.branch [
+    in-Some+in_ok-clause+in_ok-push_unlisted w ↦
+      let start = g.M.Make.context c.args.make.now in
+      let new = g.M.Make.context w.implied.new.make in
+      let i = c.args.trait_ref.def_id.0 in
+      let supers = supers_read start _ i c.super_clauses-count.result.now c.cx.ensures c.super_clauses-count.ensures.is c.super_clauses-count.ensures.fit in
+      let list = w.push_unlisted.new.list.items in
+      let x = w.in_ok-clause.clause in
+      let fit = subst (λ (y : Context). ClauseListFits y.trees list) w.cx-in-Some.ensures w.in_ok-push_unlisted.ensures.fit in
+      let trees =
+          subst (λ (y : Context). map (clause_tree y.trees) list ≡ map (clause_tree y.trees) c.loop-place.list.items ++ unlisted (map (clause_tree y.trees) c.loop-place.list.items) (clause_tree y.trees x ∷ []))
+          w.cx-in-Some.ensures w.in_ok-push_unlisted.ensures.trees in
+      let is = w.in_ok-clause.ensures.tree ∙ instance_kept start (g.M.Make.context c.loop-place.make) c.args.vars c.args.trait_ref.args (clause_tree (g.M.Make.context c.loop-place.make).trees w.in-Some.own) c.loop-place.invariant.0.grows c.requires.vars c.requires.args in
+      let own = subst (λ (y : Context). Some w.in-Some.own ≡ slice_get (supers_at (trait_at y i)) c.loop-place.place) c.cx-in-loop-place.ensures (sym w.in-Some.is ∙ c.super_clause.ensures.is) in
+      rw w.make-is
+      (rw w.list-is (
+        one_more_super start _ new c.args.list.now.items c.loop-place.list.items list _ _ i c.loop-place.place w.in-Some.own x c.loop-place.invariant.0 w.in_ok-clause.ensures.grows fit trees is own supers.1,
+        w.implied.ensures.rest ∙ c.loop-place.invariant.1,
+      ))
+  | in_default w ↦
+      let i = c.args.trait_ref.def_id.0 in
+      let none = subst (λ (y : Context). None ≡ slice_get (supers_at (trait_at y i)) c.loop-place.place) c.cx-in-loop-place.ensures (sym w.in_default.is ∙ c.super_clause.ensures.is) in
+      rw w.make-is (rw w.list-is (no_more_supers _ _ _ _ _ _ i c.loop-place.place c.loop-place.invariant.0 none, c.loop-place.invariant.1))
+  ]
