@@ -35,6 +35,7 @@ pub mod Given
 pub mod Owned
 pub mod Ranks
 pub mod Listing
+pub mod Saying
 pub mod Instances
 pub mod Pairs
 pub mod MayUnify

@@ -186,7 +186,7 @@ one_more_super start now new before old list v a i k own x s g f t is e supers =
     let next : take (suc k) (map f-own xs) ≡ take k (map f-own xs) ++ instance v a (clause_tree start.trees own) ∷ [] = map-take f-own xs k own at.0 at.1 in
     let both : map f-own xs ≡ ts = maps-both start.trees v a xs in
     let more : take (k + 1) ts ≡ take k ts ++ instance v a (clause_tree start.trees own) ∷ [] =
-        ap (λ (m : ℕ). take m ts) one ∙ subst (λ (us : List Tree). take (suc k) us ≡ take k us ++ instance v a (clause_tree start.trees own) ∷ []) both next in
+    ap (λ (m : ℕ). take m ts) one ∙ subst (λ (us : List Tree). take (suc k) us ≡ take k us ++ instance v a (clause_tree start.trees own) ∷ []) both next in
     record {
       grows = grows-trans start now new s.grows g;
       fit = f;

@@ -2,6 +2,11 @@
 use Rattle.std.specs.Prelude.{◌≡◌, ◌⊎◌, ℕ, zero, suc, ◌<◌, ◌+◌, Bool, true, false, ◌==◌, ◌&&◌, nat_lt, Option, Some, None, List, [], ◌∷◌, ◌++◌, map, if◌then◌else◌}
 use Rattle.std.specs.List.{All, filter, list_any}
 use Rattle.candidate_ir.specs.declared.ir.kinds.BoundVar.{BoundVar}
+use Rattle.candidate_ir.specs.declared.ir.kinds.ClauseKind.{ClauseKind}
+use Rattle.candidate_ir.specs.declared.ir.kinds.ClauseKind.TheVariants as K
+use Rattle.candidate_ir.specs.declared.ir.kinds.TraitRef.{TraitRef}
+use Rattle.candidate_ir.specs.declared.ir.kinds.PredicatePolarity.{PredicatePolarity}
+use Rattle.candidate_ir.specs.declared.ir.kinds.PredicatePolarity.TheVariants as Polarity
 use Rattle.candidate_ir.specs.declared.ir.kinds.Clause.{Clause}
 use Rattle.candidate_ir.specs.declared.ir.kinds.VarKind.{VarKind}
 use Rattle.candidate_ir.specs.declared.ir.kinds.Vars.{Vars}
@@ -213,3 +218,12 @@ pub data IsImplied (supers : SuperClauses) (start : List Tree) : Tree → Type 0
 abbrev pub AreImplied : SuperClauses → List Tree → List Tree → Type 0
 AreImplied supers start [] = Unit {0}
 AreImplied supers start (t ∷ ts) = IsImplied supers start t × AreImplied supers start ts
+
+-- the reference that a clause says to hold
+abbrev pub said_if : TraitRef → PredicatePolarity → Option TraitRef
+said_if r Polarity.Positive = Some r
+said_if r _ = None
+
+abbrev pub said : ClauseKind → Option TraitRef
+said (K.Trait p) = said_if p.trait_ref p.polarity
+said _ = None

@@ -6,7 +6,7 @@ ghost use Rattle.candidate_ir.specs.Context.{Grows};
 ghost use Rattle.candidate_ir.specs.Declaring.{trait_at};
 ghost use Rattle.candidate_ir.specs.References.{ArgumentsFit};
 ghost use Rattle.candidate_ir.specs.Supers.{supers_at};
-ghost use Rattle.candidate_ir.specs.Elaboration.{later, later_head, instance_head, instance, variables_of, under_binder, IsHeadStop, IsRenumberStop, IsInstanceStop, IsJoint, IsJointStop, is_same_clause, unlisted, super_clauses};
+ghost use Rattle.candidate_ir.specs.Elaboration.{later, later_head, instance_head, instance, variables_of, under_binder, IsHeadStop, IsRenumberStop, IsInstanceStop, IsJoint, IsJointStop, is_same_clause, unlisted, super_clauses, implied_by, said};
 ghost use Rattle.candidate_ir.specs.Folding.{lacks_argument, fold_tree};
 ghost use Rattle.candidate_ir.specs.Folds.{IsArg, IsOfKind, arg_tree};
 ghost use Rattle.candidate_ir.specs.Nodes.{rows};
@@ -20,8 +20,8 @@ use crate::decl::make::Make;
 use crate::decl::subst::put;
 use crate::ir::heads::{ConstHead, Head};
 use crate::ir::kinds::{
-    Args, Binder, BoundVar, Clause, ConstKind, GenericArg, RegionKind, TraitRef, TyKind, VarKind,
-    Vars,
+    Args, Binder, BoundVar, Clause, ClauseKind, ConstKind, GenericArg, PredicatePolarity,
+    RegionKind, TraitRef, TyKind, VarKind, Vars,
 };
 use crate::ir::stop::Stop;
 use std::alloc::{AllocError, Global};
@@ -282,4 +282,42 @@ fn push_supers<M: Make>(
         }
     }
     Ok(())
+}
+
+/// The reference that a clause says to hold.
+fn said(kind: ClauseKind) -> Option<TraitRef>
+    ensures { result ≡ said kind }
+{
+    match kind {
+        ClauseKind::Trait(predicate) => match predicate.polarity {
+            PredicatePolarity::Positive => Some(predicate.trait_ref),
+            PredicatePolarity::Negative => None,
+        },
+        ClauseKind::Projection(_) => None,
+        ClauseKind::TypeOutlives(_, _) => None,
+        ClauseKind::RegionOutlives(_, _) => None,
+    }
+}
+
+/// Adds what the clause implies, each unless the list has it.
+#[tactic(auto, using(crate::proofs::Saying::said_fits, crate::proofs::Saying::said_takes, crate::proofs::Saying::said_implies, crate::proofs::Saying::unsaid_implies))]
+fn push_implied<M: Make>(
+    alloc: Global,
+    make: &mut M,
+    list: &mut Vec<Clause>,
+    clause: Clause,
+) -> Result<(), Stop>
+    requires list { ClauseListFits (M.context make.old).trees list.old.items }
+    requires clause { IsClause (M.context make.old).trees clause }
+    ensures grows { Grows (M.context make.old) (M.context make.new) }
+    ensures rest { M.rest make.new ≡ M.rest make.old }
+    ensures sort { IfOk result (λ _. ClauseListFits (M.context make.new).trees list.new.items) }
+    ensures trees { IfOk result (λ _. map (clause_tree (M.context make.new).trees) list.new.items ≡ map (clause_tree (M.context make.old).trees) list.old.items ++ unlisted (map (clause_tree (M.context make.old).trees) list.old.items) (implied_by (super_clauses (M.context make.old)) (clause_tree (M.context make.old).trees clause))) }
+{
+    make.cx().well_formed();
+    let binder = make.cx().clause(clause);
+    match said(binder.value) {
+        Some(trait_ref) => push_supers(alloc, make, list, binder.vars, trait_ref),
+        None => Ok(()),
+    }
 }

@@ -31,7 +31,7 @@ returns-in_err-push_unlisted-clause-grows g c = grows-trans _ _ _ c.loop-place.i
 
 pub loop-place-preserved : goal.loop-place-preserved
 loop-place-preserved g c = elim c.match-super_clause.branch [
-    in-Some+in_ok-clause+in_ok-push_unlisted w ↦
+  | in-Some+in_ok-clause+in_ok-push_unlisted w ↦
       let start = g.M.Make.context c.args.make.now in
       let new = g.M.Make.context w.implied.new.make in
       let i = c.args.trait_ref.def_id.0 in
@@ -40,8 +40,8 @@ loop-place-preserved g c = elim c.match-super_clause.branch [
       let x = w.in_ok-clause.clause in
       let fit = subst (λ (y : Context). ClauseListFits y.trees list) w.cx-in-Some.ensures w.in_ok-push_unlisted.ensures.fit in
       let trees =
-          subst (λ (y : Context). map (clause_tree y.trees) list ≡ map (clause_tree y.trees) c.loop-place.list.items ++ unlisted (map (clause_tree y.trees) c.loop-place.list.items) (clause_tree y.trees x ∷ []))
-          w.cx-in-Some.ensures w.in_ok-push_unlisted.ensures.trees in
+      subst (λ (y : Context). map (clause_tree y.trees) list ≡ map (clause_tree y.trees) c.loop-place.list.items ++ unlisted (map (clause_tree y.trees) c.loop-place.list.items) (clause_tree y.trees x ∷ []))
+      w.cx-in-Some.ensures w.in_ok-push_unlisted.ensures.trees in
       let is = w.in_ok-clause.ensures.tree ∙ instance_kept start (g.M.Make.context c.loop-place.make) c.args.vars c.args.trait_ref.args (clause_tree (g.M.Make.context c.loop-place.make).trees w.in-Some.own) c.loop-place.invariant.0.grows c.requires.vars c.requires.args in
       let own = subst (λ (y : Context). Some w.in-Some.own ≡ slice_get (supers_at (trait_at y i)) c.loop-place.place) c.cx-in-loop-place.ensures (sym w.in-Some.is ∙ c.super_clause.ensures.is) in
       rw w.make-is
@@ -53,4 +53,4 @@ loop-place-preserved g c = elim c.match-super_clause.branch [
       let i = c.args.trait_ref.def_id.0 in
       let none = subst (λ (y : Context). None ≡ slice_get (supers_at (trait_at y i)) c.loop-place.place) c.cx-in-loop-place.ensures (sym w.in_default.is ∙ c.super_clause.ensures.is) in
       rw w.make-is (rw w.list-is (no_more_supers _ _ _ _ _ _ i c.loop-place.place c.loop-place.invariant.0 none, c.loop-place.invariant.1))
-  ]
+]

@@ -1,0 +1,22 @@
+use Rattle.std.proofs.Common.{◌≡◌, sym, ◌∙◌, ap, subst}
+use Rattle.std.specs.Prelude.{◌++◌, map, IfOk, List}
+use Rattle.candidate_ir.specs.Trees.{Tree}
+use Rattle.candidate_ir.specs.Context.{Context}
+use Rattle.candidate_ir.specs.References.{IsWellFormed}
+use Rattle.candidate_ir.specs.Elaboration.{unlisted}
+use Rattle.candidate_ir.specs.Words.{clause_tree}
+use Rattle.candidate_ir.proofs.Saying.{said_takes, said_implies}
+use Rattle.candidate_ir.proofs.decl.elaborate.push_implied.Goals as goal
+
+pub push_supers-requires-clause-fit : goal.push_supers-requires-clause-fit
+push_supers-requires-clause-fit g c =
+    said_takes _ _ c.args.clause c.clause-binder.result c.in-Some.trait_ref (subst IsWellFormed c.cx.ensures c.well_formed-2.ensures) c.cx-2.ensures c.clause-binder.ensures.fits c.clause-binder.ensures.tree
+    (sym c.said.ensures ∙ c.in-Some.is)
+
+pub returns-in-Some-clause-trees : goal.returns-in-Some-clause-trees
+returns-in-Some-clause-trees g c =
+    let start = g.M.Make.context c.args.make.now in
+    let before = map (clause_tree start.trees) c.args.list.now.items in
+    let said = said_implies start _ c.args.clause c.clause-binder.result c.in-Some.trait_ref c.cx-2.ensures c.clause-binder.ensures.fits c.clause-binder.ensures.tree (sym c.said.ensures ∙ c.in-Some.is) in
+    subst (λ (ts : List Tree). IfOk c.push_supers.result (λ x. map (clause_tree (g.M.Make.context c.push_supers.new.make).trees) c.push_supers.new.list.items ≡ before ++ unlisted before ts)) said
+    c.push_supers.ensures.trees
