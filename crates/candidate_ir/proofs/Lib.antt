@@ -36,6 +36,7 @@ pub mod Owned
 pub mod Ranks
 pub mod Listing
 pub mod Saying
+pub mod Walking
 pub mod Instances
 pub mod Pairs
 pub mod MayUnify

@@ -1,12 +1,12 @@
 //! Super clauses, instantiated.
 
 ghost use Rattle.std.specs.List.{list_any};
-ghost use Rattle.std.specs.Prelude.{◌≡◌, [], ◌∷◌, ◌++◌, ◌+◌, ◌-◌, ◌<◌, ◌==◌, length, map, Some, None, IfOk, IfErr, IfSome, option_map, slice_get, nat_eq, true, false, if◌then◌else◌};
+ghost use Rattle.std.specs.Prelude.{◌≡◌, ℕ, [], ◌∷◌, ◌++◌, ◌+◌, ◌-◌, ◌<◌, ◌==◌, length, map, Some, None, IfOk, IfErr, IfSome, option_map, slice_get, nat_eq, true, false, if◌then◌else◌};
 ghost use Rattle.candidate_ir.specs.Context.{Grows};
 ghost use Rattle.candidate_ir.specs.Declaring.{trait_at};
 ghost use Rattle.candidate_ir.specs.References.{ArgumentsFit};
 ghost use Rattle.candidate_ir.specs.Supers.{supers_at};
-ghost use Rattle.candidate_ir.specs.Elaboration.{later, later_head, instance_head, instance, variables_of, under_binder, IsHeadStop, IsRenumberStop, IsInstanceStop, IsJoint, IsJointStop, is_same_clause, unlisted, super_clauses, implied_by, said};
+ghost use Rattle.candidate_ir.specs.Elaboration.{later, later_head, instance_head, instance, variables_of, under_binder, IsHeadStop, IsRenumberStop, IsInstanceStop, IsJoint, IsJointStop, is_same_clause, unlisted, super_clauses, implied_by, said, IsElaboration};
 ghost use Rattle.candidate_ir.specs.Folding.{lacks_argument, fold_tree};
 ghost use Rattle.candidate_ir.specs.Folds.{IsArg, IsOfKind, arg_tree};
 ghost use Rattle.candidate_ir.specs.Nodes.{rows};
@@ -195,6 +195,15 @@ pub fn implied<M: Make>(
 }
 
 impl Cx {
+    /// All super clauses are of the context.
+    #[tactic(auto, using(crate::proofs::Walking::all_supers_fit))]
+    fn supers_fit(&self)
+        ensures { (i : ℕ) → ClauseListFits self.now.trees (supers_at (trait_at self.now i)) }
+    {
+        let _ = self.contents.traits.len();
+        self.well_formed_table();
+    }
+
     /// The super clause in that place of the trait of a reference: each of its parameters has an argument there.
     #[tactic(auto, using(crate::proofs::Owned::super_has_arguments, crate::proofs::Listing::listed_clause))]
     fn super_clause(&self, trait_ref: TraitRef, place: usize) -> Option<Clause>
@@ -320,4 +329,34 @@ fn push_implied<M: Make>(
         Some(trait_ref) => push_supers(alloc, make, list, binder.vars, trait_ref),
         None => Ok(()),
     }
+}
+
+/// The elaboration of clauses: these, each once, and then all that they imply. The list is walked from
+/// its front; for each clause that says that a trait holds, the instances of the trait's super clauses
+/// (`implied`) that the list doesn't have are appended, each once. Clauses are equal where their trees are.
+///
+/// It stops as `implied` does, `Stop::Memory` comes where the list can't grow, too. After a stop the nodes
+/// that were made stay. What was seen isn't walked again; each clause that is implied is compared with the
+/// whole list.
+pub fn elaborate<M: Make>(
+    alloc: Global,
+    make: &mut M,
+    clauses: &[Clause],
+) -> Result<Vec<Clause>, Stop>
+    requires { ClauseListFits (M.context make.old).trees clauses.now }
+    ensures grows { Grows (M.context make.old) (M.context make.new) }
+    ensures rest { M.rest make.new ≡ M.rest make.old }
+    ensures sort { IfOk result (λ list. ClauseListFits (M.context make.new).trees list.items) }
+    ensures list { IfOk result (λ list. IsElaboration (M.context make.old) (map (clause_tree (M.context make.old).trees) clauses.now) (map (clause_tree (M.context make.new).trees) list.items)) }
+{
+    make.cx().supers_fit();
+    let mut list = each_once(alloc, make.cx(), clauses)?;
+    for walked in 0..usize::MAX {
+        if walked >= list.len() {
+            return Ok(list);
+        }
+        let clause = list[walked];
+        push_implied(alloc, make, &mut list, clause)?;
+    }
+    Err(Stop::NodesFull)
 }

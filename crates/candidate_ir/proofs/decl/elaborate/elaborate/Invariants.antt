@@ -1,0 +1,7 @@
+use Rattle.std.proofs.Common.{◌≡◌}
+use Rattle.candidate_ir.proofs.Walking.{WalkSoFar}
+use Rattle.candidate_ir.proofs.decl.elaborate.elaborate.Given as goal
+
+abbrev pub invariant-loop-walked : goal.invariant-loop-walked
+invariant-loop-walked g l =
+    WalkSoFar (g.M.Make.context l.fn.make) (g.M.Make.context l.make) l.fn.clauses l.list.items l.walked × (g.M.Make.rest l.make ≡ g.M.Make.rest l.fn.make)
