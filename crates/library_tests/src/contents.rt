@@ -1,7 +1,7 @@
 //! What definitions hold, and the faults of it.
 
 ghost use Rattle.candidate_ir.specs.Context.{Grows};
-ghost use Rattle.candidate_ir.specs.Words.{IsTy, IsRegion, IsArgs, IsVars};
+ghost use Rattle.candidate_ir.specs.Words.{IsTy, IsRegion, IsArgs, IsVars, IsClause};
 
 use crate::asserts::{equals, equals_in_row, holds};
 use candidate_ir::decl::builder::{DeclFault, DeclsBuilder};
@@ -155,7 +155,9 @@ pub fn trait_clause(
     builder: &mut DeclsBuilder,
     of: TraitId,
     sample: Sample,
-) -> Clause {
+) -> Clause
+    ensures { IsClause builder.new.trees result }
+{
     let args = twice(rt, builder, sample);
     let vars = no_variables(rt, builder);
     let trait_ref = TraitRef { def_id: of, args };

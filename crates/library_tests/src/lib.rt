@@ -24,6 +24,8 @@ mod contexts;
 #[cfg(test)]
 mod declarations;
 #[cfg(test)]
+mod elaborations;
+#[cfg(test)]
 mod folds;
 #[cfg(test)]
 mod functions;

@@ -9,7 +9,7 @@ use std::alloc::Global;
 use std::process::Abort;
 
 /// Traits with one parameter of the first crate, with the numbers from 0 to the last one.
-fn traits(rt: &impl Abort, alloc: Global, last: u32) -> DeclsBuilder {
+pub fn traits(rt: &impl Abort, alloc: Global, last: u32) -> DeclsBuilder {
     let mut builder = DeclsBuilder::new(alloc);
     holds(rt, builder.add_crate().is_ok(), "a crate");
     for _ in 0..=last {
@@ -20,7 +20,7 @@ fn traits(rt: &impl Abort, alloc: Global, last: u32) -> DeclsBuilder {
 }
 
 /// The second trait is a direct supertrait of the first.
-fn add_super(rt: &impl Abort, builder: &mut DeclsBuilder, of: u32, other: u32) {
+pub fn add_super(rt: &impl Abort, builder: &mut DeclsBuilder, of: u32, other: u32) {
     let clause = trait_clause(rt, builder, TraitId(other), Sample::Param(0));
     let pushed = builder.push_super(TraitId(of), clause);
     holds(rt, pushed.is_ok(), "a super clause");
