@@ -173,6 +173,14 @@ is_there (Some x) = true
 abbrev pub supertraits : List Tree → List Tree
 supertraits all = filter (λ t. is_there (trait_of t.head)) all
 
+abbrev pub is_trait_clause : Tree → Bool
+is_trait_clause t = is_there (trait_of t.head)
+
+pub record AreSupertraits (c : Context) (t : Tree) (ts : List Tree) : Type 0 where
+  pub all : List Tree
+  pub elaborated : IsElaboration c (t ∷ []) all
+  pub are : ts ≡ supertraits all
+
 abbrev pub number_listed : List ℕ → ℕ → Bool
 number_listed ns n = list_any (λ m. m == n) ns
 
