@@ -38,6 +38,7 @@ pub mod Listing
 pub mod Saying
 pub mod Walking
 pub mod Choosing
+pub mod Numbering
 pub mod Instances
 pub mod Pairs
 pub mod MayUnify

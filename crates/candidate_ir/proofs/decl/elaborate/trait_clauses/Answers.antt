@@ -19,11 +19,11 @@ loop-clause-preserved c =
     let x = slice_index_or c.args.list.now c.loop-clause.clause-index past in
     let at = get_or_default c.args.list.now c.loop-clause.clause-index past x c.loop-clause-test.true in
     elim c.if-is_trait_clause.branch [
-      then-is_trait_clause+in_ok-push w ↦
-        rw w.chosen-is
-        (one_chosen _ c.args.list.now c.loop-clause.chosen.items _ c.loop-clause.clause-index x c.loop-clause.invariant c.loop-clause-test.true at
-        (listed_clause _ c.args.list.now c.loop-clause.clause-index x c.requires c.loop-clause-test.true at) (sym c.is_trait_clause.ensures ∙ w.if-is_trait_clause.true) w.in_ok-push.ensures.items)
-    | else-is_trait_clause w ↦
-        rw w.chosen-is
-        (one_left _ c.args.list.now c.loop-clause.chosen.items c.loop-clause.clause-index x c.loop-clause.invariant c.loop-clause-test.true at (sym c.is_trait_clause.ensures ∙ w.if-is_trait_clause.false))
+      | then-is_trait_clause+in_ok-push w ↦
+          rw w.chosen-is
+          (one_chosen _ c.args.list.now c.loop-clause.chosen.items _ c.loop-clause.clause-index x c.loop-clause.invariant c.loop-clause-test.true at
+          (listed_clause _ c.args.list.now c.loop-clause.clause-index x c.requires c.loop-clause-test.true at) (sym c.is_trait_clause.ensures ∙ w.if-is_trait_clause.true) w.in_ok-push.ensures.items)
+      | else-is_trait_clause w ↦
+          rw w.chosen-is
+          (one_left _ c.args.list.now c.loop-clause.chosen.items c.loop-clause.clause-index x c.loop-clause.invariant c.loop-clause-test.true at (sym c.is_trait_clause.ensures ∙ w.if-is_trait_clause.false))
     ]
