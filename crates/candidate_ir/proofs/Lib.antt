@@ -37,6 +37,8 @@ pub mod Ranks
 pub mod Listing
 pub mod Saying
 pub mod Walking
+pub mod Choosing
+pub mod Numbering
 pub mod Instances
 pub mod Pairs
 pub mod MayUnify

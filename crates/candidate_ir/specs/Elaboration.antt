@@ -4,6 +4,7 @@ use Rattle.std.specs.List.{All, filter, list_any}
 use Rattle.candidate_ir.specs.declared.ir.kinds.BoundVar.{BoundVar}
 use Rattle.candidate_ir.specs.declared.ir.kinds.ClauseKind.{ClauseKind}
 use Rattle.candidate_ir.specs.declared.ir.kinds.ClauseKind.TheVariants as K
+use Rattle.candidate_ir.specs.declared.ir.kinds.TraitId.{TraitId}
 use Rattle.candidate_ir.specs.declared.ir.kinds.TraitRef.{TraitRef}
 use Rattle.candidate_ir.specs.declared.ir.kinds.PredicatePolarity.{PredicatePolarity}
 use Rattle.candidate_ir.specs.declared.ir.kinds.PredicatePolarity.TheVariants as Polarity
@@ -173,6 +174,14 @@ is_there (Some x) = true
 abbrev pub supertraits : List Tree → List Tree
 supertraits all = filter (λ t. is_there (trait_of t.head)) all
 
+abbrev pub is_trait_clause : Tree → Bool
+is_trait_clause t = is_there (trait_of t.head)
+
+pub record AreSupertraits (c : Context) (t : Tree) (ts : List Tree) : Type 0 where
+  pub all : List Tree
+  pub elaborated : IsElaboration c (t ∷ []) all
+  pub are : ts ≡ supertraits all
+
 abbrev pub number_listed : List ℕ → ℕ → Bool
 number_listed ns n = list_any (λ m. m == n) ns
 
@@ -187,6 +196,14 @@ traits_among ns (t ∷ ts) = traits_among (with_number ns (trait_of t.head)) ts
 -- Their traits, each once, in the order in which they first come.
 abbrev pub supertrait_ids : List Tree → List ℕ
 supertrait_ids all = traits_among [] (supertraits all)
+
+pub record AreSupertraitIds (c : Context) (t : Tree) (ns : List ℕ) : Type 0 where
+  pub all : List Tree
+  pub elaborated : IsElaboration c (t ∷ []) all
+  pub are : ns ≡ supertrait_ids all
+
+abbrev pub id_numbers : List TraitId → List ℕ
+id_numbers ids = map (λ (i : TraitId). i.0) ids
 
 -- A rank of traits: each trait that a super clause says to hold is of a lower one than the trait of the super clause.
 abbrev pub IsLower : (ℕ → ℕ) → ℕ → Option ℕ → Type 0

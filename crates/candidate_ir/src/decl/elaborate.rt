@@ -6,7 +6,7 @@ ghost use Rattle.candidate_ir.specs.Context.{Grows};
 ghost use Rattle.candidate_ir.specs.Declaring.{trait_at};
 ghost use Rattle.candidate_ir.specs.References.{ArgumentsFit};
 ghost use Rattle.candidate_ir.specs.Supers.{supers_at};
-ghost use Rattle.candidate_ir.specs.Elaboration.{later, later_head, instance_head, instance, variables_of, under_binder, IsHeadStop, IsRenumberStop, IsInstanceStop, IsJoint, IsJointStop, is_same_clause, unlisted, super_clauses, implied_by, said, IsElaboration};
+ghost use Rattle.candidate_ir.specs.Elaboration.{later, later_head, instance_head, instance, variables_of, under_binder, IsHeadStop, IsRenumberStop, IsInstanceStop, IsJoint, IsJointStop, is_same_clause, unlisted, super_clauses, implied_by, said, IsElaboration, is_trait_clause, supertraits, AreSupertraits, trait_of, with_number, traits_among, id_numbers, AreSupertraitIds};
 ghost use Rattle.candidate_ir.specs.Folding.{lacks_argument, fold_tree};
 ghost use Rattle.candidate_ir.specs.Folds.{IsArg, IsOfKind, arg_tree};
 ghost use Rattle.candidate_ir.specs.Nodes.{rows};
@@ -18,10 +18,10 @@ use crate::decl::context::Cx;
 use crate::decl::fold::fold_number;
 use crate::decl::make::Make;
 use crate::decl::subst::put;
-use crate::ir::heads::{ConstHead, Head};
+use crate::ir::heads::{ClauseHead, ConstHead, Head, PartHead};
 use crate::ir::kinds::{
     Args, Binder, BoundVar, Clause, ClauseKind, ConstKind, GenericArg, PredicatePolarity,
-    RegionKind, TraitRef, TyKind, VarKind, Vars,
+    RegionKind, TraitId, TraitRef, TyKind, VarKind, Vars,
 };
 use crate::ir::stop::Stop;
 use std::alloc::{AllocError, Global};
@@ -359,4 +359,108 @@ pub fn elaborate<M: Make>(
         push_implied(alloc, make, &mut list, clause)?;
     }
     Err(Stop::NodesFull)
+}
+
+fn is_trait_clause(cx: &Cx, clause: Clause) -> bool
+    requires { IsClause cx.now.trees clause }
+    ensures { result ≡ is_trait_clause (clause_tree cx.now.trees clause) }
+{
+    matches!(
+        cx.head(clause.0),
+        Head::Part(PartHead::Clause(ClauseHead::Trait(_, _)))
+    )
+}
+
+/// Those of the clauses that say whether a trait holds, in order.
+#[tactic(auto, using(crate::proofs::Choosing::none_chosen, crate::proofs::Choosing::all_chosen))]
+fn trait_clauses(alloc: Global, cx: &Cx, list: &[Clause]) -> Result<Vec<Clause>, AllocError>
+    requires { ClauseListFits cx.now.trees list.now }
+    ensures fit { IfOk result (λ v. ClauseListFits cx.now.trees v.items) }
+    ensures trees { IfOk result (λ v. map (clause_tree cx.now.trees) v.items ≡ supertraits (map (clause_tree cx.now.trees) list.now)) }
+{
+    let mut chosen = Vec::new(alloc);
+    for clause in list {
+        if is_trait_clause(cx, *clause) {
+            chosen.push(*clause)?;
+        }
+    }
+    Ok(chosen)
+}
+
+/// The supertraits of a clause that says that a trait holds: those of its elaboration that say whether a
+/// trait holds, in order. It is itself number 0. It stops as `elaborate` does.
+#[tactic(auto, using(crate::proofs::Choosing::are_supertraits, crate::proofs::Choosing::alone_fits))]
+pub fn supertraits<M: Make>(
+    alloc: Global,
+    make: &mut M,
+    clause: Clause,
+) -> Result<Vec<Clause>, Stop>
+    requires { IsClause (M.context make.old).trees clause }
+    ensures grows { Grows (M.context make.old) (M.context make.new) }
+    ensures rest { M.rest make.new ≡ M.rest make.old }
+    ensures sort { IfOk result (λ list. ClauseListFits (M.context make.new).trees list.items) }
+    ensures list { IfOk result (λ list. AreSupertraits (M.context make.old) (clause_tree (M.context make.old).trees clause) (map (clause_tree (M.context make.new).trees) list.items)) }
+{
+    let all = elaborate(alloc, make, &[clause])?;
+    Ok(trait_clauses(alloc, make.cx(), all.as_slice())?)
+}
+
+/// The trait of a clause that says whether one holds.
+fn trait_of(cx: &Cx, clause: Clause) -> Option<TraitId>
+    requires { IsClause cx.now.trees clause }
+    ensures { option_map (λ i. i.0) result ≡ trait_of (clause_tree cx.now.trees clause).head }
+{
+    match cx.head(clause.0) {
+        Head::Part(PartHead::Clause(ClauseHead::Trait(of, _))) => Some(of),
+        _ => None,
+    }
+}
+
+fn lists_trait(ids: &[TraitId], of: TraitId) -> bool
+    ensures { result ≡ list_any (λ i. i.0 == of.0) ids.now }
+{
+    ids.iter().any(|other| other.0 == of.0)
+}
+
+/// Adds the trait, unless it is there.
+#[tactic(auto, using(crate::proofs::Numbering::added_number, crate::proofs::Numbering::left_number))]
+fn push_trait(ids: &mut Vec<TraitId>, of: TraitId) -> Result<(), AllocError>
+    ensures { IfOk result (λ _. id_numbers ids.new.items ≡ with_number (id_numbers ids.old.items) (Some of.0)) }
+{
+    if !lists_trait(ids.as_slice(), of) {
+        ids.push(of)?;
+    }
+    Ok(())
+}
+
+/// The traits of the clauses, each once, in the order in which they first come.
+#[tactic(auto, using(crate::proofs::Numbering::none_numbered, crate::proofs::Numbering::all_numbered))]
+fn traits_of(alloc: Global, cx: &Cx, list: &[Clause]) -> Result<Vec<TraitId>, AllocError>
+    requires { ClauseListFits cx.now.trees list.now }
+    ensures { IfOk result (λ v. id_numbers v.items ≡ traits_among [] (map (clause_tree cx.now.trees) list.now)) }
+{
+    let mut ids = Vec::new(alloc);
+    for clause in list {
+        if let Some(of) = trait_of(cx, *clause) {
+            push_trait(&mut ids, of)?;
+        }
+    }
+    Ok(ids)
+}
+
+/// The traits of the supertraits of a clause that says that a trait holds, each once, in the order in which
+/// they first come. It stops as `elaborate` does.
+#[tactic(auto, using(crate::proofs::Numbering::are_ids))]
+pub fn supertrait_def_ids<M: Make>(
+    alloc: Global,
+    make: &mut M,
+    clause: Clause,
+) -> Result<Vec<TraitId>, Stop>
+    requires { IsClause (M.context make.old).trees clause }
+    ensures grows { Grows (M.context make.old) (M.context make.new) }
+    ensures rest { M.rest make.new ≡ M.rest make.old }
+    ensures ids { IfOk result (λ v. AreSupertraitIds (M.context make.old) (clause_tree (M.context make.old).trees clause) (id_numbers v.items)) }
+{
+    let list = supertraits(alloc, make, clause)?;
+    Ok(traits_of(alloc, make.cx(), list.as_slice())?)
 }

@@ -22,6 +22,6 @@ loop-walked-preserved g c =
     let at : c.index-clause.result.now ≡ get_or c.loop-walked.list.items c.loop-walked.walked c.index-clause.result.now = search rules in
     let supers : SupersFit start = subst SupersFit c.cx.ensures c.supers_fit.ensures in (
       walk_goes_on start _ _ c.args.clauses.now c.loop-walked.list.items c.push_implied.new.list.items c.loop-walked.walked c.index-clause.result.now supers c.loop-walked.invariant.0 inside at
-      c.push_implied.ensures.grows c.in_ok-push_implied.ensures.sort c.in_ok-push_implied.ensures.trees,
+          c.push_implied.ensures.grows c.in_ok-push_implied.ensures.sort c.in_ok-push_implied.ensures.trees,
       c.push_implied.ensures.rest ∙ c.loop-walked.invariant.1,
     )
