@@ -7,7 +7,7 @@ use crate::contents::{Sample, trait_clause};
 use crate::supertraits::{add_super, traits};
 use candidate_ir::decl::builder::DeclsBuilder;
 use candidate_ir::decl::context::Cx;
-use candidate_ir::decl::elaborate::elaborate;
+use candidate_ir::decl::elaborate::{elaborate, supertrait_def_ids, supertraits};
 use candidate_ir::ir::kinds::{Clause, ClauseKind, TraitId};
 use std::alloc::Global;
 use std::process::Abort;
@@ -40,6 +40,24 @@ fn check_elaborated(rt: &impl Abort, alloc: Global, cx: &mut Cx, clause: Clause,
     check_list(rt, cx, list.as_slice(), want);
 }
 
+/// The numbers of its supertraits.
+fn check_supertraits(rt: &impl Abort, alloc: Global, cx: &mut Cx, clause: Clause, want: &[u32])
+    requires { IsClause cx.old.trees clause }
+{
+    let ids = supertrait_def_ids(alloc, cx, clause).expect(rt, "numbers");
+    equals(rt, &ids.len(), &want.len(), "supertraits");
+    for (id, number) in ids.iter().zip(want) {
+        equals(rt, &id.0, number, "a supertrait");
+    }
+}
+
+fn check_supertrait_list(rt: &impl Abort, alloc: Global, cx: &mut Cx, clause: Clause, want: &[u32])
+    requires { IsClause cx.old.trees clause }
+{
+    let list = supertraits(alloc, cx, clause).expect(rt, "supertraits");
+    check_list(rt, cx, list.as_slice(), want);
+}
+
 /// What follows from the first trait, by direct supertraits as pairs.
 fn check(rt: &impl Abort, alloc: Global, last: u32, supers: &[(u32, u32)], want: &[u32]) {
     let mut builder = traits(rt, alloc, last);
@@ -53,6 +71,32 @@ fn finish_and_check(rt: &impl Abort, alloc: Global, mut builder: DeclsBuilder, w
     let clause = trait_clause(rt, &mut builder, TraitId(0), Sample::Plain);
     let mut cx = Cx::new(builder.finish().expect(rt, "declarations"));
     check_elaborated(rt, alloc, &mut cx, clause, want);
+}
+
+/// The numbers of the supertraits, and the supertraits themselves.
+fn check_numbers(rt: &impl Abort, alloc: Global) {
+    let mut builder = traits(rt, alloc, 2);
+    add_super(rt, &mut builder, 0, 2);
+    add_super(rt, &mut builder, 0, 1);
+    add_super(rt, &mut builder, 2, 1);
+    let clause = trait_clause(rt, &mut builder, TraitId(0), Sample::Plain);
+    let mut cx = Cx::new(builder.finish().expect(rt, "declarations"));
+    check_supertraits(rt, alloc, &mut cx, clause, &[0, 2, 1]);
+}
+
+fn check_listed(rt: &impl Abort, alloc: Global) {
+    let mut builder = traits(rt, alloc, 2);
+    add_super(rt, &mut builder, 0, 2);
+    add_super(rt, &mut builder, 0, 1);
+    let clause = trait_clause(rt, &mut builder, TraitId(0), Sample::Plain);
+    let mut cx = Cx::new(builder.finish().expect(rt, "declarations"));
+    check_supertrait_list(rt, alloc, &mut cx, clause, &[0, 2, 1]);
+}
+
+#[test]
+fn lists_supertraits(rt: HostRuntime) {
+    check_numbers(&rt, rt.alloc());
+    check_listed(&rt, rt.alloc());
 }
 
 #[test]
