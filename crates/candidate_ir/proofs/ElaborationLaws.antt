@@ -77,17 +77,17 @@ elaboration_begins {supers} {walked} (step {left = left} {t = t} e) =
     record { more = more ++ b.more; is = b.is ∙ (ap (λ (xs : List Tree). xs ++ b.more) (regroup walked left more t) ∙ append_assoc seen more b.more) }
 
 -- Nothing else is in it.
-implied-listed : (supers : SuperClauses) (start : List Tree) (t : Tree) → IsImplied supers start t → (us : List Tree) → AreListed (implied_by supers t) us → AreImplied supers start us
+pub implied-listed : (supers : SuperClauses) (start : List Tree) (t : Tree) → IsImplied supers start t → (us : List Tree) → AreListed (implied_by supers t) us → AreImplied supers start us
 implied-listed supers start t i [] l = tt
 implied-listed supers start t i (u ∷ us) l = (by i l.0, implied-listed supers start t i us l.1)
 
-each-listed : (seen ts : List Tree) → AreListed (seen ++ ts) ts
+pub each-listed : (seen ts : List Tree) → AreListed (seen ++ ts) ts
 each-listed seen [] = tt
 each-listed seen (t ∷ ts) =
     let P : List Tree → Type 0 = λ xs. AreListed xs (t ∷ ts) in
     subst P (append_assoc seen (t ∷ []) ts) (listed-first (seen ++ t ∷ []) ts t (listed-last seen t), each-listed (seen ++ t ∷ []) ts)
 
-implied-both : (supers : SuperClauses) (start ts us : List Tree) → AreImplied supers start ts → AreImplied supers start us → AreImplied supers start (ts ++ us)
+pub implied-both : (supers : SuperClauses) (start ts us : List Tree) → AreImplied supers start ts → AreImplied supers start us → AreImplied supers start (ts ++ us)
 implied-both supers start [] us i j = j
 implied-both supers start (t ∷ ts) us i j = (i.0, implied-both supers start ts us i.1 j)
 
@@ -96,7 +96,7 @@ implied-either : (supers : SuperClauses) (start us vs : List Tree) (t : Tree) (b
 implied-either supers start us vs t true i j k = j
 implied-either supers start us vs t false i j k = (i, k)
 
-implied-unlisted : (supers : SuperClauses) (start seen ts : List Tree) → AreImplied supers start ts → AreImplied supers start (unlisted seen ts)
+pub implied-unlisted : (supers : SuperClauses) (start seen ts : List Tree) → AreImplied supers start ts → AreImplied supers start (unlisted seen ts)
 implied-unlisted supers start seen [] i = tt
 implied-unlisted supers start seen (t ∷ ts) i =
     implied-either supers start (unlisted seen ts) (unlisted (seen ++ t ∷ []) ts) t (lists seen t) i.0 (implied-unlisted supers start seen ts i.1)

@@ -18,6 +18,8 @@ use Rattle.candidate_ir.specs.declared.ir.kinds.Vars.{Vars}
 use Rattle.candidate_ir.specs.declared.ir.kinds.Args.{Args}
 use Rattle.candidate_ir.specs.Words.{IsClause, IsVars, IsArgs, ClauseListFits, clause_tree, vars_tree, args_forest}
 use Rattle.candidate_ir.specs.Elaboration.{same_tree, is_same_clause, lists, unlisted, instance, super_clauses}
+use Rattle.candidate_ir.specs.declared.ir.stop.Stop.{Stop}
+use Rattle.candidate_ir.specs.Elaboration.{IsInstanceStop, IsUnmade}
 use Rattle.candidate_ir.proofs.Elaboration.{tree_is, tree_itself}
 
 pub same_says : (ts : List Tree) (c x : Clause) (b : Bool) → IsTrue b ↔ (clause_tree ts x ≡ clause_tree ts c) → b ≡ is_same_clause ts c x
@@ -100,6 +102,14 @@ one_more_once ts clauses old new i c o l e f n =
 pub all_unlisted : (ts : List Tree) (clauses list : List Clause) (i : ℕ) → EachOnce ts clauses i list → length clauses ≤ i
     → map (clause_tree ts) list ≡ unlisted [] (map (clause_tree ts) clauses)
 all_unlisted ts clauses list i o l = o.trees ∙ ap (λ (xs : List Clause). unlisted [] (map (clause_tree ts) xs)) (take_all i clauses l)
+
+or-true-left : (a b : Bool) → a ≡ true → a || b ≡ true
+or-true-left true b e = refl
+or-true-left false b e = absurd cc
+
+or-true-right : (a b : Bool) → b ≡ true → a || b ≡ true
+or-true-right true b e = refl
+or-true-right false b e = e
 
 -- Clauses stay what they are while a table grows.
 pub clauses_kept : (old new : List Tree) (xs : List Clause) → Extends old new → ClauseListFits old xs
@@ -229,3 +239,28 @@ supers_read c d i xs q e f =
     is : (o : Option TraitContents) → maybe [] (λ (t : TraitContents). t.supers) o ≡ supers_at o
     is None = refl
     is (Some t) = refl
+
+listed-at : (us : List Tree) (f : Clause → Tree) (xs : List Clause) (k : ℕ) (x : Clause) → us ≡ map f xs → k < length xs → x ≡ get_or xs k x → lists us (f x) ≡ true
+listed-at us f xs k x e l g = subst (λ (vs : List Tree). lists vs (f x) ≡ true) (sym e) (at xs k l g)
+  where
+    at : (ys : List Clause) (n : ℕ) → n < length ys → x ≡ get_or ys n x → lists (map f ys) (f x) ≡ true
+    at [] n h q = absurd (omega (arith, h))
+    at (y ∷ ys) zero h q = or-true-left _ _ (ap (λ (z : Clause). same_tree (f z) (f x)) (sym q) ∙ tree_itself (f x))
+    at (y ∷ ys) (suc n) h q = let m : n < length ys = omega (arith, h) in or-true-right _ _ (at ys n m q)
+
+-- an instance that was not made
+pub super_unmade : (start now : Context) (before list : List Clause) (v a : Forest) (i k given : ℕ) (own : Clause) (t : Tree) (s : Stop) → SupersSoFar start now before list v a i k
+    → t ≡ instance v a (clause_tree now.trees own) → Some own ≡ slice_get (supers_at (trait_at now i)) k → ClauseListFits start.trees (supers_at (trait_at start i))
+    → IsInstanceStop given t s → IsUnmade given (map (instance v a) (super_clauses start i)) s
+super_unmade start now before list v a i k given own t s w is e supers c =
+    let xs = supers_at (trait_at start i) in
+    let at = some-inside xs k own (ap (λ (ys : List Clause). slice_get ys k) (sym (supers-same start now i w.grows)) ∙ sym e) in
+    let kept : clause_tree now.trees own ≡ clause_tree start.trees own =
+    (number-kept start.trees now.trees own.0 w.grows.kept (below_kind start.trees own.0 ClauseKind refl (listed_clause start.trees xs k own supers at.0 at.1))).1 in
+    let made : t ≡ instance v a (clause_tree start.trees own) = is ∙ ap (instance v a) kept in
+    let f : Clause → Tree = λ c. instance v a (clause_tree start.trees c) in
+    record {
+      tree = f own;
+      listed = listed-at (map (instance v a) (super_clauses start i)) f xs k own (sym (maps-both start.trees v a xs)) at.0 at.1;
+      stop = subst (λ (u : Tree). IsInstanceStop given u s) made c;
+    }

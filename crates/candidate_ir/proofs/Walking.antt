@@ -1,5 +1,5 @@
 -- A list of clauses that is walked while it grows.
-use Rattle.std.proofs.Common.{◌≡◌, ℕ, zero, suc, ◌+◌, ◌<◌, ◌≤◌, List, [], ◌∷◌, ◌++◌, length, get_or, take, drop, refl, sym, ◌∙◌, ap, subst, arith}
+use Rattle.std.proofs.Common.{◌≡◌, ℕ, zero, suc, ◌+◌, ◌<◌, ◌≤◌, List, [], ◌∷◌, ◌++◌, length, get_or, take, drop, true, ◌⊎◌, inl, inr, refl, sym, ◌∙◌, ap, subst, arith}
 use Rattle.std.specs.Prelude.{map, Option, Some, None}
 use Rattle.std.proofs.lemmas.List.{take_all, take-append-drop, length-map}
 use Rattle.candidate_ir.specs.declared.ir.kinds.Clause.{Clause}
@@ -14,7 +14,10 @@ use Rattle.candidate_ir.specs.Supertraits.{head_trait}
 use Rattle.candidate_ir.specs.WellFormed.{IsWellFormedTable, AreGiven}
 use Rattle.candidate_ir.specs.Held.{trait_held, if_there}
 use Rattle.candidate_ir.specs.Words.{ClauseListFits, clause_tree}
-use Rattle.candidate_ir.specs.Elaboration.{SuperClauses, Elaborates, ended, step, IsElaboration, super_clauses, implied, implied_by, supers_if, unlisted}
+use Rattle.candidate_ir.specs.Elaboration.{SuperClauses, Elaborates, ended, step, IsElaboration, super_clauses, implied, implied_by, supers_if, unlisted, lists, AreListed, IsImplied, given, by, AreImplied, IsUnmade, IsElaborationStop, no_memory, unmade}
+use Rattle.candidate_ir.specs.declared.ir.stop.Stop.{Stop}
+use Rattle.candidate_ir.specs.declared.ir.stop.Stop.TheVariants.{Memory}
+use Rattle.candidate_ir.proofs.ElaborationLaws.{implied-listed, each-listed, implied-both, implied-unlisted}
 use Rattle.candidate_ir.proofs.Kept.{grows-trans}
 use Rattle.candidate_ir.proofs.Given.{trait_given, supers_fit}
 use Rattle.candidate_ir.proofs.Listing.{clauses_kept, listed_clause}
@@ -83,14 +86,30 @@ one-more supers ts k t all l e x =
 pub record WalkSoFar (start now : Context) (clauses list : List Clause) (k : ℕ) : Type 0 where
   pub grows : Grows start now
   pub fit : ClauseListFits now.trees list
+  pub implied : AreImplied (super_clauses start) (map (clause_tree start.trees) clauses) (map (clause_tree now.trees) list)
   pub goes_on : (all : List Tree) → Elaborates (super_clauses start) (take k (map (clause_tree now.trees) list)) (drop k (map (clause_tree now.trees) list)) all
       → IsElaboration start (map (clause_tree start.trees) clauses) all
+
+-- the clauses are implied by themselves
+start-implied : (supers : SuperClauses) (start us : List Tree) → AreListed start us → AreImplied supers start us
+start-implied supers start [] l = tt
+start-implied supers start (u ∷ us) l = (given l.0, start-implied supers start us l.1)
+
+once-implied : (supers : SuperClauses) (start : List Tree) → AreImplied supers start (unlisted [] start)
+once-implied supers start = implied-unlisted supers start [] start (start-implied supers start start (each-listed [] start))
+
+implied-at : (supers : SuperClauses) (start ts : List Tree) (k : ℕ) (u : Tree) → AreImplied supers start ts → k < length ts → u ≡ get_or ts k u → IsImplied supers start u
+implied-at supers start [] k u a l e = absurd (omega (arith, l))
+implied-at supers start (t ∷ ts) zero u a l e = subst (IsImplied supers start) (sym e) a.0
+implied-at supers start (t ∷ ts) (suc k) u a l e = let m : k < length ts = omega (arith, l) in implied-at supers start ts k u a.1 m e
 
 pub walk_begins : (start : Context) (clauses list : List Clause) → Grows start start → ClauseListFits start.trees list
     → map (clause_tree start.trees) list ≡ unlisted [] (map (clause_tree start.trees) clauses) → WalkSoFar start start clauses list 0
 walk_begins start clauses list g f e = record {
   grows = g;
   fit = f;
+  implied =
+      subst (AreImplied (super_clauses start) (map (clause_tree start.trees) clauses)) (sym e) (once-implied (super_clauses start) (map (clause_tree start.trees) clauses));
   goes_on = λ all x. subst (λ (us : List Tree). Elaborates (super_clauses start) [] us all) e x;
 }
 
@@ -110,9 +129,16 @@ walk_goes_on start now new clauses old list k x s w l e g f t =
     let inside : k < length ts = omega (arith, l, count) in
     let same : map (clause_tree new.trees) list ≡ ts ++ unlisted ts (implied_by (super_clauses start) u) = t ∙ ap (λ (us : List Tree). ts ++ unlisted ts us) (implied-stays start now u s w.grows) in
     let next : k + 1 ≡ suc k = omega arith in
+    let first = map (clause_tree start.trees) clauses in
+    let here = implied-at (super_clauses start) first ts k u w.implied inside (tree-at now.trees old k x l e) in
     record {
       grows = grows-trans start now new w.grows g;
       fit = f;
+      implied =
+          subst (AreImplied (super_clauses start) first) (sym same)
+          (implied-both (super_clauses start) first ts (unlisted ts (implied_by (super_clauses start) u)) w.implied
+          (implied-unlisted (super_clauses start) first ts (implied_by (super_clauses start) u)
+          (implied-listed (super_clauses start) first u here (implied_by (super_clauses start) u) (each-listed [] (implied_by (super_clauses start) u)))));
       goes_on = λ all z.
           w.goes_on all
           (one-more (super_clauses start) ts k u all inside (tree-at now.trees old k x l e)
@@ -130,3 +156,20 @@ walk_ends start now clauses list k w l =
     w.goes_on ts
     (subst (λ (us : List Tree). Elaborates (super_clauses start) us (drop k ts) ts) (sym (take_all k ts past))
     (subst (λ (us : List Tree). Elaborates (super_clauses start) ts us ts) (sym (drop-none ts k past)) ended))
+
+-- why it ends early
+pub walk_stops : (start now : Context) (clauses list : List Clause) (k given : ℕ) (x : Clause) (s : Stop) → SupersFit start → WalkSoFar start now clauses list k → k < length list
+    → x ≡ get_or list k x → (s ≡ Memory) ⊎ IsUnmade given (implied_by (super_clauses now) (clause_tree now.trees x)) s
+    → IsElaborationStop (super_clauses start) (map (clause_tree start.trees) clauses) given s
+walk_stops start now clauses list k n x s f w l e (inl m) = subst (IsElaborationStop (super_clauses start) (map (clause_tree start.trees) clauses) n) (sym m) no_memory
+walk_stops start now clauses list k n x s f w l e (inr m) =
+    let ts = map (clause_tree now.trees) list in
+    let u = clause_tree now.trees x in
+    let first = map (clause_tree start.trees) clauses in
+    let count = length-map list (clause_tree now.trees) in
+    let inside : k < length ts = omega (arith, l, count) in
+    let here = implied-at (super_clauses start) first ts k u w.implied inside (tree-at now.trees list k x l e) in
+    unmade (by here (subst (λ (us : List Tree). lists us m.tree ≡ true) (implied-stays start now u f w.grows) m.listed)) m.stop
+
+pub begins_without_memory : (supers : SuperClauses) (start : List Tree) (n : ℕ) (s : Stop) → s ≡ Memory → IsElaborationStop supers start n s
+begins_without_memory supers start n s m = subst (IsElaborationStop supers start n) (sym m) no_memory

@@ -236,6 +236,17 @@ abbrev pub AreImplied : SuperClauses → List Tree → List Tree → Type 0
 AreImplied supers start [] = Unit {0}
 AreImplied supers start (t ∷ ts) = IsImplied supers start t × AreImplied supers start ts
 
+-- One of these was not made.
+pub record IsUnmade (given : ℕ) (us : List Tree) (s : Stop) : Type 0 where
+  pub tree : Tree
+  pub listed : lists us tree ≡ true
+  pub stop : IsInstanceStop given tree s
+
+-- Why an elaboration was not made, where so many numbers are given: a growth was refused, or an implied clause was not made.
+pub data IsElaborationStop (supers : SuperClauses) (start : List Tree) (given : ℕ) : Stop → Type 0 where
+  no_memory : IsElaborationStop supers start given Memory
+  unmade : {s : Stop} {u : Tree} → IsImplied supers start u → IsInstanceStop given u s → IsElaborationStop supers start given s
+
 -- the reference that a clause says to hold
 abbrev pub said_if : TraitRef → PredicatePolarity → Option TraitRef
 said_if r Polarity.Positive = Some r

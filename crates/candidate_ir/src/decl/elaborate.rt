@@ -1,12 +1,12 @@
 //! Super clauses, instantiated.
 
 ghost use Rattle.std.specs.List.{list_any};
-ghost use Rattle.std.specs.Prelude.{◌≡◌, ℕ, [], ◌∷◌, ◌++◌, ◌+◌, ◌-◌, ◌<◌, ◌==◌, length, map, Some, None, IfOk, IfErr, IfSome, option_map, slice_get, nat_eq, true, false, if◌then◌else◌};
+ghost use Rattle.std.specs.Prelude.{◌≡◌, ℕ, [], ◌∷◌, ◌++◌, ◌+◌, ◌-◌, ◌<◌, ◌==◌, length, map, Some, None, IfOk, IfErr, IfSome, option_map, slice_get, nat_eq, ◌⊎◌, true, false, if◌then◌else◌};
 ghost use Rattle.candidate_ir.specs.Context.{Grows};
 ghost use Rattle.candidate_ir.specs.Declaring.{trait_at};
 ghost use Rattle.candidate_ir.specs.References.{ArgumentsFit};
 ghost use Rattle.candidate_ir.specs.Supers.{supers_at};
-ghost use Rattle.candidate_ir.specs.Elaboration.{later, later_head, instance_head, instance, variables_of, under_binder, IsHeadStop, IsRenumberStop, IsInstanceStop, IsJoint, IsJointStop, is_same_clause, unlisted, super_clauses, implied_by, said, IsElaboration, is_trait_clause, supertraits, AreSupertraits, trait_of, with_number, traits_among, id_numbers, AreSupertraitIds};
+ghost use Rattle.candidate_ir.specs.Elaboration.{later, later_head, instance_head, instance, variables_of, under_binder, IsHeadStop, IsRenumberStop, IsInstanceStop, IsJoint, IsJointStop, is_same_clause, unlisted, super_clauses, implied_by, said, IsElaboration, is_trait_clause, supertraits, AreSupertraits, trait_of, with_number, traits_among, id_numbers, AreSupertraitIds, IsUnmade, IsElaborationStop};
 ghost use Rattle.candidate_ir.specs.Folding.{lacks_argument, fold_tree};
 ghost use Rattle.candidate_ir.specs.Folds.{IsArg, IsOfKind, arg_tree};
 ghost use Rattle.candidate_ir.specs.Nodes.{rows};
@@ -282,6 +282,7 @@ fn push_supers<M: Make>(
     ensures rest { M.rest make.new ≡ M.rest make.old }
     ensures sort { IfOk result (λ _. ClauseListFits (M.context make.new).trees list.new.items) }
     ensures trees { IfOk result (λ _. map (clause_tree (M.context make.new).trees) list.new.items ≡ map (clause_tree (M.context make.old).trees) list.old.items ++ unlisted (map (clause_tree (M.context make.old).trees) list.old.items) (map (instance (vars_tree (M.context make.old).trees vars).children (args_forest (M.context make.old).trees trait_ref.args)) (super_clauses (M.context make.old) trait_ref.def_id.0))) }
+    ensures cause { IfErr result (λ s. (s ≡ Stop.Memory) ⊎ IsUnmade (length (M.context make.new).trees) (map (instance (vars_tree (M.context make.old).trees vars).children (args_forest (M.context make.old).trees trait_ref.args)) (super_clauses (M.context make.old) trait_ref.def_id.0)) s) }
 {
     let count = make.cx().super_clauses(trait_ref.def_id).len();
     for place in 0..count {
@@ -322,6 +323,7 @@ fn push_implied<M: Make>(
     ensures rest { M.rest make.new ≡ M.rest make.old }
     ensures sort { IfOk result (λ _. ClauseListFits (M.context make.new).trees list.new.items) }
     ensures trees { IfOk result (λ _. map (clause_tree (M.context make.new).trees) list.new.items ≡ map (clause_tree (M.context make.old).trees) list.old.items ++ unlisted (map (clause_tree (M.context make.old).trees) list.old.items) (implied_by (super_clauses (M.context make.old)) (clause_tree (M.context make.old).trees clause))) }
+    ensures cause { IfErr result (λ s. (s ≡ Stop.Memory) ⊎ IsUnmade (length (M.context make.new).trees) (implied_by (super_clauses (M.context make.old)) (clause_tree (M.context make.old).trees clause)) s) }
 {
     make.cx().well_formed();
     let binder = make.cx().clause(clause);
@@ -348,17 +350,17 @@ pub fn elaborate<M: Make>(
     ensures rest { M.rest make.new ≡ M.rest make.old }
     ensures sort { IfOk result (λ list. ClauseListFits (M.context make.new).trees list.items) }
     ensures list { IfOk result (λ list. IsElaboration (M.context make.old) (map (clause_tree (M.context make.old).trees) clauses.now) (map (clause_tree (M.context make.new).trees) list.items)) }
+    ensures cause { IfErr result (λ s. IsElaborationStop (super_clauses (M.context make.old)) (map (clause_tree (M.context make.old).trees) clauses.now) (length (M.context make.new).trees) s) }
 {
     make.cx().supers_fit();
     let mut list = each_once(alloc, make.cx(), clauses)?;
-    for walked in 0..usize::MAX {
-        if walked >= list.len() {
-            return Ok(list);
-        }
+    let mut walked = 0;
+    while walked < list.len() {
         let clause = list[walked];
         push_implied(alloc, make, &mut list, clause)?;
+        walked += 1;
     }
-    Err(Stop::NodesFull)
+    Ok(list)
 }
 
 fn is_trait_clause(cx: &Cx, clause: Clause) -> bool

@@ -1,7 +1,11 @@
-use Rattle.std.proofs.Common.{◌≡◌}
+use Rattle.std.proofs.Common.{◌≡◌, ◌-◌}
 use Rattle.candidate_ir.proofs.Walking.{WalkSoFar}
 use Rattle.candidate_ir.proofs.decl.elaborate.elaborate.Given as goal
 
 abbrev pub invariant-loop-walked : goal.invariant-loop-walked
 invariant-loop-walked g l =
     WalkSoFar (g.M.Make.context l.fn.make) (g.M.Make.context l.make) l.fn.clauses l.list.items l.walked × (g.M.Make.rest l.make ≡ g.M.Make.rest l.fn.make)
+
+-- no list is longer than a `usize` counts
+abbrev pub decreases-loop-walked : goal.decreases-loop-walked
+decreases-loop-walked g l = 18446744073709551615 - l.walked

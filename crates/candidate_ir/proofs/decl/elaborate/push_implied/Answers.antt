@@ -1,9 +1,10 @@
 use Rattle.std.proofs.Common.{◌≡◌, sym, ◌∙◌, ap, subst}
-use Rattle.std.specs.Prelude.{◌++◌, map, IfOk, List}
+use Rattle.std.specs.Prelude.{◌++◌, map, length, ◌⊎◌, IfOk, IfErr, List}
 use Rattle.candidate_ir.specs.Trees.{Tree}
 use Rattle.candidate_ir.specs.Context.{Context}
 use Rattle.candidate_ir.specs.References.{IsWellFormed}
-use Rattle.candidate_ir.specs.Elaboration.{unlisted}
+use Rattle.candidate_ir.specs.Elaboration.{unlisted, IsUnmade}
+use Rattle.candidate_ir.specs.declared.ir.stop.Stop.TheVariants.{Memory}
 use Rattle.candidate_ir.specs.Words.{clause_tree}
 use Rattle.candidate_ir.proofs.Saying.{said_takes, said_implies}
 use Rattle.candidate_ir.proofs.decl.elaborate.push_implied.Goals as goal
@@ -20,3 +21,9 @@ returns-in-Some-clause-trees g c =
     let said = said_implies start _ c.args.clause c.clause-binder.result c.in-Some.trait_ref c.cx-2.ensures c.clause-binder.ensures.fits c.clause-binder.ensures.tree (sym c.said.ensures ∙ c.in-Some.is) in
     subst (λ (ts : List Tree). IfOk c.push_supers.result (λ x. map (clause_tree (g.M.Make.context c.push_supers.new.make).trees) c.push_supers.new.list.items ≡ before ++ unlisted before ts)) said
     c.push_supers.ensures.trees
+
+pub returns-in-Some-clause-cause : goal.returns-in-Some-clause-cause
+returns-in-Some-clause-cause g c =
+    let start = g.M.Make.context c.args.make.now in
+    let said = said_implies start _ c.args.clause c.clause-binder.result c.in-Some.trait_ref c.cx-2.ensures c.clause-binder.ensures.fits c.clause-binder.ensures.tree (sym c.said.ensures ∙ c.in-Some.is) in
+    subst (λ (ts : List Tree). IfErr c.push_supers.result (λ s. (s ≡ Memory) ⊎ IsUnmade (length (g.M.Make.context c.push_supers.new.make).trees) ts s)) said c.push_supers.ensures.cause

@@ -1,4 +1,5 @@
-use Rattle.std.proofs.Common.{◌≡◌, sym, ◌∙◌, ap, subst}
+use Rattle.std.proofs.Common.{◌≡◌, sym, ◌∙◌, ap, subst, inl, inr}
+use Rattle.std.proofs.lemmas.Result.{err_from_is_err_and}
 use Rattle.std.specs.Prelude.{◌++◌, ◌∷◌, [], map, Some, None, List, slice_get}
 use Rattle.candidate_ir.specs.Declaring.{trait_at}
 use Rattle.candidate_ir.specs.Supers.{supers_at}
@@ -8,7 +9,7 @@ use Rattle.candidate_ir.specs.Words.{ClauseListFits, IsClause, vars_tree, args_f
 use Rattle.candidate_ir.specs.Elaboration.{instance, unlisted}
 use Rattle.candidate_ir.proofs.Lists.{below_kind}
 use Rattle.candidate_ir.proofs.Kept.{args-kept, number-kept, grows-trans}
-use Rattle.candidate_ir.proofs.Listing.{clauses_kept, no_more_supers, one_more_super, vars_kept, instance_kept, supers_read}
+use Rattle.candidate_ir.proofs.Listing.{clauses_kept, no_more_supers, one_more_super, vars_kept, instance_kept, supers_read, super_unmade}
 use Rattle.candidate_ir.proofs.decl.elaborate.push_supers.Goals as goal
 use Rattle.candidate_ir.proofs.decl.elaborate.push_supers.Goals.{in-Some+in_ok-clause+in_ok-push_unlisted, in_default}
 
@@ -54,3 +55,16 @@ loop-place-preserved g c = elim c.match-super_clause.branch [
       let none = subst (λ (y : Context). None ≡ slice_get (supers_at (trait_at y i)) c.loop-place.place) c.cx-in-loop-place.ensures (sym w.in_default.is ∙ c.super_clause.ensures.is) in
       rw w.make-is (rw w.list-is (no_more_supers _ _ _ _ _ _ i c.loop-place.place c.loop-place.invariant.0 none, c.loop-place.invariant.1))
 ]
+
+pub returns-in_err-clause-clause-cause : goal.returns-in_err-clause-clause-cause
+returns-in_err-clause-clause-cause g c =
+    let p = err_from_is_err_and c.from_residual.result c.from_residual.ensures.1 in
+    let start = g.M.Make.context c.args.make.now in
+    let now = g.M.Make.context c.loop-place.make in
+    let i = c.args.trait_ref.def_id.0 in
+    let supers = supers_read start _ i c.super_clauses-count.result.now c.cx.ensures c.super_clauses-count.ensures.is c.super_clauses-count.ensures.fit in
+    let own = subst (λ (y : Context). Some c.in-Some.own ≡ slice_get (supers_at (trait_at y i)) c.loop-place.place) c.cx-in-loop-place.ensures (sym c.in-Some.is ∙ c.super_clause.ensures.is) in
+    rw (p.1, p.2)
+    (inr
+    (super_unmade start now c.args.list.now.items c.loop-place.list.items _ _ i c.loop-place.place _ c.in-Some.own _ _ c.loop-place.invariant.0
+    (instance_kept start now c.args.vars c.args.trait_ref.args (clause_tree now.trees c.in-Some.own) c.loop-place.invariant.0.grows c.requires.vars c.requires.args) own supers.1 c.in_err-clause.ensures.cause))
