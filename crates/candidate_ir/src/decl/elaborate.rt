@@ -391,7 +391,7 @@ fn trait_clauses(alloc: Global, cx: &Cx, list: &[Clause]) -> Result<Vec<Clause>,
 
 /// The supertraits of a clause that says that a trait holds: those of its elaboration that say whether a
 /// trait holds, in order. It is itself number 0. It stops as `elaborate` does.
-#[tactic(auto, using(crate::proofs::Choosing::are_supertraits, crate::proofs::Choosing::alone_fits))]
+#[tactic(auto, using(crate::proofs::Choosing::are_supertraits, crate::proofs::Choosing::alone_fits, crate::proofs::Walking::begins_without_memory))]
 pub fn supertraits<M: Make>(
     alloc: Global,
     make: &mut M,
@@ -402,6 +402,7 @@ pub fn supertraits<M: Make>(
     ensures rest { M.rest make.new ≡ M.rest make.old }
     ensures sort { IfOk result (λ list. ClauseListFits (M.context make.new).trees list.items) }
     ensures list { IfOk result (λ list. AreSupertraits (M.context make.old) (clause_tree (M.context make.old).trees clause) (map (clause_tree (M.context make.new).trees) list.items)) }
+    ensures cause { IfErr result (λ s. IsElaborationStop (super_clauses (M.context make.old)) (clause_tree (M.context make.old).trees clause ∷ []) (length (M.context make.new).trees) s) }
 {
     let all = elaborate(alloc, make, &[clause])?;
     Ok(trait_clauses(alloc, make.cx(), all.as_slice())?)
@@ -452,7 +453,7 @@ fn traits_of(alloc: Global, cx: &Cx, list: &[Clause]) -> Result<Vec<TraitId>, Al
 
 /// The traits of the supertraits of a clause that says that a trait holds, each once, in the order in which
 /// they first come. It stops as `elaborate` does.
-#[tactic(auto, using(crate::proofs::Numbering::are_ids))]
+#[tactic(auto, using(crate::proofs::Numbering::are_ids, crate::proofs::Walking::begins_without_memory))]
 pub fn supertrait_def_ids<M: Make>(
     alloc: Global,
     make: &mut M,
@@ -462,6 +463,7 @@ pub fn supertrait_def_ids<M: Make>(
     ensures grows { Grows (M.context make.old) (M.context make.new) }
     ensures rest { M.rest make.new ≡ M.rest make.old }
     ensures ids { IfOk result (λ v. AreSupertraitIds (M.context make.old) (clause_tree (M.context make.old).trees clause) (id_numbers v.items)) }
+    ensures cause { IfErr result (λ s. IsElaborationStop (super_clauses (M.context make.old)) (clause_tree (M.context make.old).trees clause ∷ []) (length (M.context make.new).trees) s) }
 {
     let list = supertraits(alloc, make, clause)?;
     Ok(traits_of(alloc, make.cx(), list.as_slice())?)
