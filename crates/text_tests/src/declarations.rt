@@ -11,7 +11,7 @@ const BEFORE: &str = "\
 adt 1 V 1
 adt 1 W 2
 trait 1 T 0
-trait 1 T1 1
+trait 1 Over 1
 assoc T O
 opaque 1 P 1 V #0
 impl 1 i 1 + T V #0
@@ -169,7 +169,7 @@ field V # => line 10: unknown name #
 field V $256 => line 10: bad number $256
 field V $0 => line 10: variable
 field V fn(1) V $0 Nope => line 10: variable
-field V dyn(2) T T1 u8 => line 10: two principals
+field V dyn(2) T Over u8 => line 10: two principals
 field V dyn(1) P => line 10: unknown name P
 field V dyn(1) i => line 10: unknown name i
 field V u8 u8 => line 10: long line
@@ -216,7 +216,7 @@ super T P #0 u8 => line 10: unknown name P
 super T i #0 => line 10: unknown name i
 super T T => line 10: short line
 super T T V => line 10: short line
-super T T1 #0 => line 10: short line
+super T Over #0 => line 10: short line
 super T T $0 => line 10: variable
 super T T Nope => line 10: unknown name Nope
 super T O #0 => line 10: short line
@@ -227,7 +227,7 @@ where => line 10: short line
 where O T #0 => line 10: unknown name O
 where T => line 10: short line
 where T F => line 10: unknown name F
-where T T1 $0 Nope => line 10: variable
+where T Over $0 Nope => line 10: variable
 where T T #0 #0 => line 10: long line
 bound => line 10: short line
 bound V T #0 => line 10: unknown name V
@@ -262,7 +262,7 @@ impl 1 k 0 + V u8 => line 10: unknown name V
 impl 1 k 0 - O u8 => line 10: unknown name O
 impl 1 k 0 reservation k u8 => line 10: unknown name k
 impl 1 k 0 + T => line 10: short line
-impl 1 k 0 + T1 u8 => line 10: short line
+impl 1 k 0 + Over u8 => line 10: short line
 impl 1 k 1 + T $0 => line 10: variable
 impl 1 k 0 - T u8 u8 => line 10: long line
 adt 1 i 0 => line 10: name twice i
@@ -363,7 +363,7 @@ env T
 env O u8
 norm
 norm O u8
-where T T1 #0";
+where T Over #0";
 
 #[test]
 fn takes_all_lines(rt: HostRuntime) {
