@@ -1,4 +1,5 @@
 pub mod Faults
+pub mod Given
 pub mod Notation
 pub mod Params
 pub mod Types

@@ -5,10 +5,11 @@ ghost use Rattle.candidate_ir.specs.Words.{IsTy, IsArgs};
 ghost use Rattle.candidate_ir.specs.References.{ArgumentsFit};
 ghost use Rattle.candidate_eval.specs.Answers.{AreAnswerTypes, AreErrorTypes, OutOfMemory, answer_of, knowledge_of};
 ghost use Rattle.candidate_eval.specs.Orphan.{bare_answer, bare_knowledge};
+ghost use Rattle.assembly_text.specs.Given.{GivenFits, GivenIsDeclared};
 ghost use Rattle.candidate_eval.specs.Calls.{plain_check_of, plain_knowledge_about, HasNoParam, HasNoAlias, HasNoAliasOrError, IsOfForeignTrait, NoForeignHeaderHere, NoUnnamedHeaderHere, NoCoveredHeaderHere, IsDecidedByGeneralHere, HasDownstreamHere};
 
-use crate::declaring::Given;
 use crate::faults::Fault;
+use crate::given::Given;
 use crate::types::{DEEPEST, Scope};
 use crate::words::Words;
 use candidate_eval::coherence::{
@@ -33,16 +34,26 @@ pub struct Asking<'a> {
     scope: Scope<'a, Cx>,
     answer: String,
     given: Given,
+    ghost given_is_declared: { GivenIsDeclared scope.maker given },
 }
 
 impl<'a> Asking<'a> {
     /// Over what is declared, and what queries take as given.
-    pub fn new(scope: Scope<'a, Cx>, given: Given) -> Self {
+    pub fn new(scope: Scope<'a, Cx>, given: Given) -> Self
+        requires { GivenIsDeclared scope.maker given }
+    {
         Asking {
             answer: String::new(scope.alloc),
             scope,
             given,
         }
+    }
+
+    /// What queries take as given. Its numbers are those of the context, after each query.
+    pub fn given(&self) -> &Given
+        ensures { GivenFits self.now.scope.maker.trees result.now }
+    {
+        &self.given
     }
 
     /// The answer to the line, whose command was read; or why it can't be given.

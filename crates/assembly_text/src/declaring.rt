@@ -1,7 +1,10 @@
 //! The commands that declare.
 
+ghost use Rattle.candidate_ir.specs.Words.{IsClause};
+
 use crate::asking::Asking;
 use crate::faults::Fault;
+use crate::given::{Given, Mode};
 use crate::making::Draft;
 use crate::names::{Item, NamedTrait, Names};
 use crate::types::{DEEPEST, Scope};
@@ -57,16 +60,6 @@ enum Owner {
     Environment,
 }
 
-/// In which phase of a compiler goals are asked.
-#[derive(Clone, Copy)]
-pub enum Mode {
-    Coherence,
-    Analysis,
-    Borrowck,
-    PostBorrowckAnalysis,
-    PostAnalysis,
-}
-
 const MODES: [(&str, Mode); 5] = [
     ("coherence", Mode::Coherence),
     ("analysis", Mode::Analysis),
@@ -103,22 +96,11 @@ const LANG_ITEMS: [(&str, LangItem); 16] = [
     ("Unsize", LangItem::Unsize),
 ];
 
-/// What goals are asked under, besides the declarations.
-#[derive(Drop)]
-pub struct Given {
-    /// The clauses that hold.
-    pub clauses: Vec<Clause>,
-    /// Aliases, each with what it is normalised to.
-    pub normal_forms: Vec<(Ty, Ty)>,
-    pub mode: Mode,
-}
-
 /// What is declared so far.
 #[derive(Drop)]
 pub struct Declaring<'a> {
     scope: Scope<'a, Draft>,
     parameters: TypeParameters,
-    given: Given,
 }
 
 /// Parameters that are types, so many as were asked for at most.
@@ -145,8 +127,14 @@ impl<'a> Declaring<'a> {
         for _ in 0..CRATES {
             builder.add_crate()?;
         }
+        let given = Given {
+            clauses: Vec::new(alloc),
+            normal_forms: Vec::new(alloc),
+            mode: Mode::PostAnalysis,
+        };
         let maker = Draft {
             builder,
+            given,
             has_parameters: true,
             is_alias: false,
             has_alias: false,
@@ -159,11 +147,6 @@ impl<'a> Declaring<'a> {
             },
             parameters: TypeParameters {
                 kinds: Vec::new(alloc),
-            },
-            given: Given {
-                clauses: Vec::new(alloc),
-                normal_forms: Vec::new(alloc),
-                mode: Mode::PostAnalysis,
             },
         })
     }
@@ -201,13 +184,13 @@ impl<'a> Declaring<'a> {
 
     /// What can be asked once all is declared. It has an error where the declarations have a fault.
     pub fn finish(self) -> Result<Asking<'a>, Fault<'a>> {
-        let Declaring { scope, given, .. } = self;
+        let Declaring { scope, .. } = self;
         let Scope {
             alloc,
             names,
             maker,
         } = scope;
-        let Draft { builder, .. } = maker;
+        let Draft { builder, given, .. } = maker;
         let maker = Cx::new(builder.finish()?);
         let scope = Scope {
             alloc,
@@ -220,7 +203,8 @@ impl<'a> Declaring<'a> {
     fn local(&mut self, words: &mut Words<'a>) -> Result<(), Fault<'a>> {
         let local = crate_id(words)?;
         words.end()?;
-        self.scope.maker.builder.set_local(local);
+        let draft = &mut self.scope.maker;
+        draft.builder.set_local(local);
         Ok(())
     }
 
@@ -234,12 +218,9 @@ impl<'a> Declaring<'a> {
         let (krate, name) = self.declared(words)?;
         let arity = words.number(u16::MAX)?;
         let (shape, flags) = adt_flags(words)?;
+        let draft = &mut self.scope.maker;
         let parameters = self.parameters.first(arity)?;
-        let id = self
-            .scope
-            .maker
-            .builder
-            .add_adt(krate, shape, parameters, flags)?;
+        let id = draft.builder.add_adt(krate, shape, parameters, flags)?;
         self.scope.names.add_definition(name, Item::Adt(id, arity))?;
         Ok(())
     }
@@ -247,7 +228,8 @@ impl<'a> Declaring<'a> {
     fn foreign(&mut self, words: &mut Words<'a>) -> Result<(), Fault<'a>> {
         let (krate, name) = self.declared(words)?;
         words.end()?;
-        let id = self.scope.maker.builder.add_foreign(krate)?;
+        let draft = &mut self.scope.maker;
+        let id = draft.builder.add_foreign(krate)?;
         self.scope.names.add_definition(name, Item::Foreign(id))?;
         Ok(())
     }
@@ -256,12 +238,9 @@ impl<'a> Declaring<'a> {
         let (krate, name) = self.declared(words)?;
         let arity = words.number(u16::MAX)?;
         let flags = trait_flags(words)?;
+        let draft = &mut self.scope.maker;
         let parameters = self.parameters.first(arity)?;
-        let id = self
-            .scope
-            .maker
-            .builder
-            .add_trait(krate, parameters, flags)?;
+        let id = draft.builder.add_trait(krate, parameters, flags)?;
         let is_auto = flags.auto;
         self.scope
             .names
@@ -273,9 +252,8 @@ impl<'a> Declaring<'a> {
         let of = self.scope.names.trait_named(words.word()?)?;
         let name = self.scope.names.unused(words.word()?)?;
         let requires_sized_self = assoc_flag(words)?;
-        let id = self
-            .scope
-            .maker
+        let draft = &mut self.scope.maker;
+        let id = draft
             .builder
             .add_assoc(of.id, AssocKind::Type, requires_sized_self)?;
         self.scope
@@ -288,12 +266,9 @@ impl<'a> Declaring<'a> {
         let (krate, name) = self.declared(words)?;
         let arity = words.number(u16::MAX)?;
         let hidden = self.last_type(words)?;
+        let draft = &mut self.scope.maker;
         let parameters = self.parameters.first(arity)?;
-        let id = self
-            .scope
-            .maker
-            .builder
-            .add_opaque(krate, parameters, hidden)?;
+        let id = draft.builder.add_opaque(krate, parameters, hidden)?;
         self.scope
             .names
             .add_definition(name, Item::Opaque(id, arity))?;
@@ -306,9 +281,11 @@ impl<'a> Declaring<'a> {
         let polarity = flag(&POLARITIES, words)?;
         let trait_ref = self.scope.read_trait_ref(words)?;
         words.end()?;
+        let draft = &mut self.scope.maker;
         let parameters = self.parameters.first(arity)?;
-        let builder = &mut self.scope.maker.builder;
-        let id = builder.add_impl(krate, parameters, trait_ref, polarity)?;
+        let id = draft
+            .builder
+            .add_impl(krate, parameters, trait_ref, polarity)?;
         self.scope.names.add(name, Item::Impl(id))?;
         Ok(())
     }
@@ -323,14 +300,16 @@ impl<'a> Declaring<'a> {
     fn field(&mut self, words: &mut Words<'a>) -> Result<(), Fault<'a>> {
         let adt = self.scope.names.adt_named(words.word()?)?;
         let ty = self.last_type(words)?;
-        self.scope.maker.builder.push_field(adt, ty)?;
+        let draft = &mut self.scope.maker;
+        draft.builder.push_field(adt, ty)?;
         Ok(())
     }
 
     fn constraint(&mut self, sizedness: Sizedness, words: &mut Words<'a>) -> Result<(), Fault<'a>> {
         let adt = self.scope.names.adt_named(words.word()?)?;
         let ty = self.last_type(words)?;
-        self.scope.maker.builder.set_constraint(adt, sizedness, ty);
+        let draft = &mut self.scope.maker;
+        draft.builder.set_constraint(adt, sizedness, ty);
         Ok(())
     }
 
@@ -338,7 +317,8 @@ impl<'a> Declaring<'a> {
         let adt = self.scope.names.adt_named(words.word()?)?;
         let parameter = u32::from(words.number(u16::MAX)?);
         words.end()?;
-        self.scope.maker.builder.push_unsizing(adt, parameter)?;
+        let draft = &mut self.scope.maker;
+        draft.builder.push_unsizing(adt, parameter)?;
         Ok(())
     }
 
@@ -361,14 +341,16 @@ impl<'a> Declaring<'a> {
         })
     }
 
-    fn give(&mut self, owner: Owner, clause: Clause) -> Result<(), Fault<'a>> {
-        let builder = &mut self.scope.maker.builder;
+    fn give(&mut self, owner: Owner, clause: Clause) -> Result<(), Fault<'a>>
+        requires { IsClause self.old.scope.maker.builder.trees clause }
+    {
+        let draft = &mut self.scope.maker;
         match owner {
-            Owner::Super(id) => builder.push_super(id, clause)?,
-            Owner::Where(id) => builder.push_where(id, clause)?,
-            Owner::Bound(kind, id) => builder.push_bound(id, kind, clause)?,
-            Owner::Impl(id) => builder.push_impl_where(id, clause)?,
-            Owner::Environment => self.given.clauses.push(clause)?,
+            Owner::Super(id) => draft.builder.push_super(id, clause)?,
+            Owner::Where(id) => draft.builder.push_where(id, clause)?,
+            Owner::Bound(kind, id) => draft.builder.push_bound(id, kind, clause)?,
+            Owner::Impl(id) => draft.builder.push_impl_where(id, clause)?,
+            Owner::Environment => draft.given.clauses.push(clause)?,
         }
         Ok(())
     }
@@ -376,7 +358,8 @@ impl<'a> Declaring<'a> {
     fn default_line(&mut self, words: &mut Words<'a>) -> Result<(), Fault<'a>> {
         let of = self.scope.names.impl_named(words.word()?)?;
         words.end()?;
-        self.scope.maker.builder.set_default(of);
+        let draft = &mut self.scope.maker;
+        draft.builder.set_default(of);
         Ok(())
     }
 
@@ -384,7 +367,8 @@ impl<'a> Declaring<'a> {
         let of = self.scope.names.impl_named(words.word()?)?;
         let other = self.scope.names.impl_named(words.word()?)?;
         words.end()?;
-        self.scope.maker.builder.specializes(of, other)?;
+        let draft = &mut self.scope.maker;
+        draft.builder.specializes(of, other)?;
         Ok(())
     }
 
@@ -392,7 +376,8 @@ impl<'a> Declaring<'a> {
         let item = flag(&LANG_ITEMS, words)?;
         let of = self.scope.names.trait_named(words.word()?)?;
         words.end()?;
-        self.scope.maker.builder.lang_item(item, of.id);
+        let draft = &mut self.scope.maker;
+        draft.builder.lang_item(item, of.id);
         Ok(())
     }
 
@@ -408,14 +393,16 @@ impl<'a> Declaring<'a> {
             return Err(Fault::Alias);
         }
         words.end()?;
-        self.given.normal_forms.push((alias, ty))?;
+        let draft = &mut self.scope.maker;
+        draft.given.normal_forms.push((alias, ty))?;
         Ok(())
     }
 
     fn mode(&mut self, words: &mut Words<'a>) -> Result<(), Fault<'a>> {
         let mode = flag(&MODES, words)?;
         words.end()?;
-        self.given.mode = mode;
+        let draft = &mut self.scope.maker;
+        draft.given.mode = mode;
         Ok(())
     }
 }

@@ -7,8 +7,10 @@ ghost use Rattle.candidate_ir.specs.Making.{Makes, a_constant, a_region, a_list,
 ghost use Rattle.candidate_ir.specs.References.{ArgumentsFit};
 ghost use Rattle.candidate_ir.specs.Trees.{is_param};
 ghost use Rattle.candidate_ir.specs.Words.{IsTy, IsArgs, IsPreds, ty_tree, kind_tree, preds_forest, bounds_forest, KindFits, ListFits, BoundsFit, AtMostOnePrincipal};
+ghost use Rattle.assembly_text.specs.Given.{GivenFits};
 
 use crate::faults::Fault;
+use crate::given::Given;
 use candidate_ir::decl::builder::DeclsBuilder;
 use candidate_ir::decl::context::Cx;
 use candidate_ir::ir::kinds::{
@@ -124,16 +126,18 @@ impl Maker for Cx {
     }
 }
 
-/// Declarations that go on, and what a line of them may hold.
+/// Declarations that go on, with what goals are to be asked under, and what a line of them may hold.
 #[derive(Drop)]
 pub struct Draft {
     pub builder: DeclsBuilder,
+    pub given: Given,
     /// Whether parameters may stand in the types of the line.
     pub has_parameters: bool,
     /// Whether the type that was made last is an alias.
     pub is_alias: bool,
     /// Whether one was made that is, since this was last said to be false.
     pub has_alias: bool,
+    pub ghost given_fits: { GivenFits builder.trees given },
 }
 
 /// Declarations, whose arguments are looked at when they end: no variables may stand.

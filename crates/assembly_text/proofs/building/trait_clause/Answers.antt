@@ -1,4 +1,5 @@
 use Rattle.candidate_ir.proofs.Made.{IsArgs-grows}
+use Rattle.assembly_text.proofs.Giving.{given_grows}
 use Rattle.assembly_text.proofs.building.trait_clause.Goals as goal
 
 pub mk_clause-requires : goal.mk_clause-requires
@@ -6,3 +7,6 @@ mk_clause-requires c =
     let args = IsArgs-grows _ _ c.args.trait_ref.args c.no_vars.ensures.kept c.requires in
     let vars = c.in_ok-vars.ensures.sort in
     cc
+
+pub invariant_of-draft : goal.invariant_of-draft
+invariant_of-draft c = record { given_fits = given_grows _ _ _ c.mk_clause.ensures.kept c.no_vars.new.self.given_fits }

@@ -7,6 +7,7 @@ use Rattle.candidate_eval.proofs.Lowering.{plain_knowledge}
 use Rattle.candidate_eval.specs.Normalizer.{exactly, refused_growth}
 use Rattle.candidate_eval.proofs.Resolved.{all-resolved}
 use Rattle.candidate_eval.proofs.Calls.{told-unless-refused}
+use Rattle.assembly_text.proofs.Giving.{declared_grows}
 use Rattle.assembly_text.proofs.asking.Asking.known.Goals as goal
 
 pub returns-clause-no_unnamed_header : goal.returns-clause-no_unnamed_header
@@ -40,3 +41,6 @@ returns-clause-answer c = λ ne.
     (record { at = λ f x t a f' x' q g i b n v. let k = n.called in let l = n.lends in let m = n.leaves in search rules; values = λ f x t q g. refl }) (told-unless-refused _ ne) in
     sym (ap bare_knowledge e.answer)
     ∙ plain_knowledge _ (world cx) cx.local.0 256 (λ s t. t) _ (reference_of cx.trees c.args.trait_ref) (all-resolved _)
+
+pub invariant_of-self : goal.invariant_of-self
+invariant_of-self c = record { given_is_declared = declared_grows _ _ _ c.trait_ref_is_knowable.ensures.grows c.args.self.now.given_is_declared }

@@ -1,0 +1,24 @@
+//! What goals are asked under, besides the declarations.
+
+use candidate_ir::ir::kinds::{Clause, Ty};
+use std::alloc::Global;
+
+/// In which phase of a compiler goals are asked.
+#[derive(Clone, Copy)]
+pub enum Mode {
+    Coherence,
+    Analysis,
+    Borrowck,
+    PostBorrowckAnalysis,
+    PostAnalysis,
+}
+
+/// What goals are asked under, besides the declarations.
+#[derive(Drop)]
+pub struct Given {
+    /// The clauses that hold.
+    pub clauses: Vec<Clause>,
+    /// Aliases, each with what it is normalised to.
+    pub normal_forms: Vec<(Ty, Ty)>,
+    pub mode: Mode,
+}
