@@ -7,7 +7,7 @@ ghost use Rattle.candidate_ir.specs.Making.{Makes, a_constant, a_region, a_list,
 ghost use Rattle.candidate_ir.specs.References.{ArgumentsFit};
 ghost use Rattle.candidate_ir.specs.Trees.{is_param};
 ghost use Rattle.candidate_ir.specs.Words.{IsTy, IsArgs, IsPreds, ty_tree, kind_tree, preds_forest, bounds_forest, KindFits, ListFits, BoundsFit, AtMostOnePrincipal};
-ghost use Rattle.assembly_text.specs.Given.{GivenFits};
+ghost use Rattle.assembly_text.specs.Given.{IsAlias, GivenFits};
 
 use crate::faults::Fault;
 use crate::given::Given;
@@ -27,6 +27,9 @@ pub trait Maker {
     /// Whether what is read is asked about: no parameter stands in it, and its arguments fit.
     ghost is_strict: { Bool };
 
+    /// Whether it notes that the type that was made last is an alias.
+    ghost notes_alias: { Self → Bool };
+
     /// What is wrong with a type of that kind, which a word alone is: it is a parameter or a variable where none may stand.
     fn misplaced<'a>(&self, kind: TyKind) -> Option<Fault<'a>>
         ensures { IfNone result (is_strict ≡ true → is_param (ty_head kind) ≡ false) };
@@ -37,7 +40,8 @@ pub trait Maker {
         requires { KindFits (context self.old).trees kind }
         ensures grows { Grows (context self.old) (context self.new) }
         ensures sort { IfOk result (λ t. IsTy (context self.new).trees t) }
-        ensures tree { IfOk result (λ t. ty_tree (context self.new).trees t ≡ kind_tree (context self.old).trees kind) };
+        ensures tree { IfOk result (λ t. ty_tree (context self.new).trees t ≡ kind_tree (context self.old).trees kind) }
+        ensures alias { IfOk result (λ t. notes_alias self.new ≡ true → IsAlias (context self.new).trees t) };
 
     /// The constant of that number.
     fn constant(&mut self, value: u64) -> Result<Const, Stop>
@@ -79,6 +83,8 @@ impl Maker for Cx {
     ghost context = { λ c. c };
 
     ghost is_strict = { true };
+
+    ghost notes_alias = { λ _. false };
 
     fn misplaced<'a>(&self, kind: TyKind) -> Option<Fault<'a>> {
         match kind {
@@ -145,6 +151,8 @@ impl Maker for Draft {
     ghost context = { λ d. d.builder };
 
     ghost is_strict = { false };
+
+    ghost notes_alias = { λ d. d.is_alias };
 
     fn misplaced<'a>(&self, kind: TyKind) -> Option<Fault<'a>> {
         match kind {
