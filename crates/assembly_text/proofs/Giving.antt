@@ -13,19 +13,20 @@ use Rattle.candidate_ir.specs.Words.{IsTy, IsClause}
 use Rattle.candidate_ir.proofs.Lists.{there, below_kind}
 use Rattle.candidate_ir.proofs.Kept.{number-kept}
 use Rattle.assembly_text.specs.declared.given.Given.{Given}
-use Rattle.assembly_text.specs.Given.{IsAlias, IsNormalForm, GivenFits, GivenIsDeclared}
+use Rattle.assembly_text.specs.Given.{names_alias, IsNormalForm, GivenFits, GivenIsDeclared}
 
 kept : (old new : List Tree) (n : ℕ) (k : Kind) → there k ≡ true → Extends old new → kind_at old n ≡ k → kind_at new n ≡ k
 kept old new n k h e i = (number-kept old new n e (below_kind old n k h i)).0 ∙ i
 
-pub alias_kept : (old new : List Tree) (t : Ty) → Extends old new → IsTy old t → IsAlias old t → IsAlias new t
-alias_kept old new t e i a = ap (λ (u : Tree). is_alias u.head) (number-kept old new t.0 e (below_kind old t.0 _ refl i)).1 ∙ a
+pub alias_kept : (old new : List Tree) (t : Ty) → Extends old new → IsTy old t → names_alias new t ≡ names_alias old t
+alias_kept old new t e i = ap (λ (u : Tree). is_alias u.head) (number-kept old new t.0 e (below_kind old t.0 _ refl i)).1
 
 form-kept : (old new : List Tree) (p : Ty × Ty) → Extends old new → IsNormalForm old p → IsNormalForm new p
 form-kept old new p e f = record {
   sort = kept old new p.0.0 _ refl e f.sort;
-  alias = alias_kept old new p.0 e f.sort f.alias;
+  alias = alias_kept old new p.0 e f.sort ∙ f.alias;
   ty = kept old new p.1.0 _ refl e f.ty;
+  no_alias = alias_kept old new p.1 e f.ty ∙ f.no_alias;
 }
 
 pub given_extends : (old new : List Tree) (g : Given) → Extends old new → GivenFits old g → GivenFits new g

@@ -1,20 +1,26 @@
 -- What goals are asked under is of the table that it was read into.
-use Rattle.std.specs.Prelude.{◌≡◌, true, List, All, take}
+use Rattle.std.specs.Prelude.{◌≡◌, Bool, true, false, Option, Some, None, List, All, take}
 use Rattle.candidate_ir.specs.declared.ir.kinds.Ty.{Ty}
 use Rattle.candidate_ir.specs.Trees.{Tree, is_alias}
 use Rattle.candidate_ir.specs.Words.{IsTy, IsClause, ty_tree}
 use Rattle.candidate_ir.specs.Context.{Context}
 use Rattle.assembly_text.specs.declared.given.Given.{Given}
 
--- Its tree is an alias.
-abbrev pub IsAlias : List Tree → Ty → Type 0
-IsAlias ts t = is_alias (ty_tree ts t).head ≡ true
+-- Whether the type is an alias; of an alias in it nothing is said.
+abbrev pub names_alias : List Tree → Ty → Bool
+names_alias ts t = is_alias (ty_tree ts t).head
 
--- The first is an alias, and what it is normalised to a type of the table.
+-- What is noted of the type, if anything, is whether it is an alias.
+abbrev pub IsNoted : Option Bool → List Tree → Ty → Type 0
+IsNoted None ts t = Unit {0}
+IsNoted (Some b) ts t = names_alias ts t ≡ b
+
+-- The first is an alias, and what it is normalised to is none; both are types of the table.
 pub record IsNormalForm (ts : List Tree) (p : Ty × Ty) : Type 0 where
   pub sort : IsTy ts p.0
-  pub alias : IsAlias ts p.0
+  pub alias : names_alias ts p.0 ≡ true
   pub ty : IsTy ts p.1
+  pub no_alias : names_alias ts p.1 ≡ false
 
 -- Each number that is kept is that of a node of its sort.
 pub record GivenFits (ts : List Tree) (g : Given) : Type 0 where

@@ -7,7 +7,7 @@ ghost use Rattle.std.specs.Prelude.{◌≡◌, true, false, IfOk};
 ghost use Rattle.candidate_ir.specs.Context.{Grows};
 ghost use Rattle.candidate_ir.specs.Trees.{tree_holds, is_param};
 ghost use Rattle.candidate_ir.specs.Words.{IsTy, IsArgs, IsClause, ListFits, PredFits, BoundsFit, AtMostOnePrincipal, names_trait};
-ghost use Rattle.assembly_text.specs.Given.{IsAlias};
+ghost use Rattle.assembly_text.specs.Given.{IsNoted};
 ghost use Rattle.assembly_text.specs.Notation.{IsLeaf};
 ghost use Rattle.assembly_text.specs.Params.{Lacks, ListLacks, BoundLacks, BoundsLack};
 
@@ -45,7 +45,7 @@ pub fn leaf_type<'a, M: Maker>(maker: &mut M, kind: TyKind, word: &'a str) -> Re
     ensures grows { Grows (M.context maker.old) (M.context maker.new) }
     ensures sort { IfOk result (λ ty. IsTy (M.context maker.new).trees ty) }
     ensures no_param { IfOk result (λ ty. Lacks M.is_strict (M.context maker.new).trees ty.0) }
-    ensures alias { IfOk result (λ ty. M.notes_alias maker.new ≡ true → IsAlias (M.context maker.new).trees ty) }
+    ensures alias { IfOk result (IsNoted (M.noted maker.new) (M.context maker.new).trees) }
 {
     match maker.misplaced(kind) {
         Some(fault) => Err(fault),
@@ -65,7 +65,7 @@ pub fn pointer_to<'a, M: Maker>(
     ensures grows { Grows (M.context maker.old) (M.context maker.new) }
     ensures sort { IfOk result (λ ty. IsTy (M.context maker.new).trees ty) }
     ensures no_param { IfOk result (λ ty. Lacks M.is_strict (M.context maker.new).trees ty.0) }
-    ensures alias { IfOk result (λ ty. M.notes_alias maker.new ≡ true → IsAlias (M.context maker.new).trees ty) }
+    ensures alias { IfOk result (IsNoted (M.noted maker.new) (M.context maker.new).trees) }
 {
     match pointer {
         Pointer::Ref(mutability) => reference(maker, target, mutability, word),
@@ -86,7 +86,7 @@ fn reference<'a, M: Maker>(
     ensures grows { Grows (M.context maker.old) (M.context maker.new) }
     ensures sort { IfOk result (λ ty. IsTy (M.context maker.new).trees ty) }
     ensures no_param { IfOk result (λ ty. Lacks M.is_strict (M.context maker.new).trees ty.0) }
-    ensures alias { IfOk result (λ ty. M.notes_alias maker.new ≡ true → IsAlias (M.context maker.new).trees ty) }
+    ensures alias { IfOk result (IsNoted (M.noted maker.new) (M.context maker.new).trees) }
 {
     let region = maker.static_region()?;
     maker.ty(TyKind::Ref(region, target, mutability), word)
@@ -103,7 +103,7 @@ fn array<'a, M: Maker>(
     ensures grows { Grows (M.context maker.old) (M.context maker.new) }
     ensures sort { IfOk result (λ ty. IsTy (M.context maker.new).trees ty) }
     ensures no_param { IfOk result (λ ty. Lacks M.is_strict (M.context maker.new).trees ty.0) }
-    ensures alias { IfOk result (λ ty. M.notes_alias maker.new ≡ true → IsAlias (M.context maker.new).trees ty) }
+    ensures alias { IfOk result (IsNoted (M.noted maker.new) (M.context maker.new).trees) }
 {
     let constant = maker.constant(length)?;
     maker.ty(TyKind::Array(target, constant), word)
@@ -121,7 +121,7 @@ pub fn construct<'a, M: Maker>(
     ensures grows { Grows (M.context maker.old) (M.context maker.new) }
     ensures sort { IfOk result (λ ty. IsTy (M.context maker.new).trees ty) }
     ensures no_param { IfOk result (λ ty. Lacks M.is_strict (M.context maker.new).trees ty.0) }
-    ensures alias { IfOk result (λ ty. M.notes_alias maker.new ≡ true → IsAlias (M.context maker.new).trees ty) }
+    ensures alias { IfOk result (IsNoted (M.noted maker.new) (M.context maker.new).trees) }
 {
     let args = maker.args(list)?;
     let kind = match constructor {
@@ -151,7 +151,7 @@ pub fn fn_pointer<'a, M: Maker>(
     ensures grows { Grows (M.context maker.old) (M.context maker.new) }
     ensures sort { IfOk result (λ ty. IsTy (M.context maker.new).trees ty) }
     ensures no_param { IfOk result (λ ty. Lacks M.is_strict (M.context maker.new).trees ty.0) }
-    ensures alias { IfOk result (λ ty. M.notes_alias maker.new ≡ true → IsAlias (M.context maker.new).trees ty) }
+    ensures alias { IfOk result (IsNoted (M.noted maker.new) (M.context maker.new).trees) }
 {
     let inputs = maker.args(list)?;
     let vars = maker.no_vars()?;
@@ -177,7 +177,7 @@ pub fn dyn_type<'a, M: Maker>(
     ensures grows { Grows (M.context maker.old) (M.context maker.new) }
     ensures sort { IfOk result (λ ty. IsTy (M.context maker.new).trees ty) }
     ensures no_param { IfOk result (λ ty. Lacks M.is_strict (M.context maker.new).trees ty.0) }
-    ensures alias { IfOk result (λ ty. M.notes_alias maker.new ≡ true → IsAlias (M.context maker.new).trees ty) }
+    ensures alias { IfOk result (IsNoted (M.noted maker.new) (M.context maker.new).trees) }
 {
     let preds = maker.bounds(bounds.as_slice(), word)?;
     let region = maker.static_region()?;

@@ -387,7 +387,9 @@ impl<'a> Declaring<'a> {
         if !self.scope.maker.is_alias {
             return Err(Fault::NotAnAlias);
         }
-        self.scope.maker.has_alias = false;
+        let draft = &mut self.scope.maker;
+        draft.is_alias = false;
+        draft.has_alias = false;
         let ty = self.scope.read_type(words, DEEPEST)?;
         if self.scope.maker.has_alias {
             return Err(Fault::Alias);

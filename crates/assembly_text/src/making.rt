@@ -1,13 +1,13 @@
 //! What the types of a text are made in: declarations that go on, or a context over them.
 
-ghost use Rattle.std.specs.Prelude.{◌≡◌, Bool, IsTrue, true, false, [], IfOk, IfNone};
+ghost use Rattle.std.specs.Prelude.{◌≡◌, Bool, IsTrue, true, false, Option, Some, None, [], IfOk, IfNone};
 ghost use Rattle.candidate_ir.specs.Context.{Context, Grows};
 ghost use Rattle.candidate_ir.specs.Kinds.{ty_head};
 ghost use Rattle.candidate_ir.specs.Making.{Makes, a_constant, a_region, a_list, a_binder};
 ghost use Rattle.candidate_ir.specs.References.{ArgumentsFit};
 ghost use Rattle.candidate_ir.specs.Trees.{is_param};
 ghost use Rattle.candidate_ir.specs.Words.{IsTy, IsArgs, IsPreds, ty_tree, kind_tree, preds_forest, bounds_forest, KindFits, ListFits, BoundsFit, AtMostOnePrincipal};
-ghost use Rattle.assembly_text.specs.Given.{IsAlias, GivenFits};
+ghost use Rattle.assembly_text.specs.Given.{IsNoted, GivenFits};
 
 use crate::faults::Fault;
 use crate::given::Given;
@@ -27,8 +27,8 @@ pub trait Maker {
     /// Whether what is read is asked about: no parameter stands in it, and its arguments fit.
     ghost is_strict: { Bool };
 
-    /// Whether it notes that the type that was made last is an alias.
-    ghost notes_alias: { Self → Bool };
+    /// Whether the type that was made last is an alias, if that is noted.
+    ghost noted: { Self → Option Bool };
 
     /// What is wrong with a type of that kind, which a word alone is: it is a parameter or a variable where none may stand.
     fn misplaced<'a>(&self, kind: TyKind) -> Option<Fault<'a>>
@@ -41,7 +41,7 @@ pub trait Maker {
         ensures grows { Grows (context self.old) (context self.new) }
         ensures sort { IfOk result (λ t. IsTy (context self.new).trees t) }
         ensures tree { IfOk result (λ t. ty_tree (context self.new).trees t ≡ kind_tree (context self.old).trees kind) }
-        ensures alias { IfOk result (λ t. notes_alias self.new ≡ true → IsAlias (context self.new).trees t) };
+        ensures alias { IfOk result (IsNoted (noted self.new) (context self.new).trees) };
 
     /// The constant of that number.
     fn constant(&mut self, value: u64) -> Result<Const, Stop>
@@ -84,7 +84,7 @@ impl Maker for Cx {
 
     ghost is_strict = { true };
 
-    ghost notes_alias = { λ _. false };
+    ghost noted = { λ _. None };
 
     fn misplaced<'a>(&self, kind: TyKind) -> Option<Fault<'a>> {
         match kind {
@@ -144,6 +144,7 @@ pub struct Draft {
     /// Whether one was made that is, since this was last said to be false.
     pub has_alias: bool,
     pub ghost given_fits: { GivenFits builder.trees given },
+    pub ghost alias_is_noted: { has_alias ≡ false → is_alias ≡ false },
 }
 
 /// Declarations, whose arguments are looked at when they end: no variables may stand.
@@ -152,7 +153,7 @@ impl Maker for Draft {
 
     ghost is_strict = { false };
 
-    ghost notes_alias = { λ d. d.is_alias };
+    ghost noted = { λ d. Some d.is_alias };
 
     fn misplaced<'a>(&self, kind: TyKind) -> Option<Fault<'a>> {
         match kind {

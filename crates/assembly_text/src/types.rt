@@ -4,7 +4,7 @@ ghost use Rattle.std.specs.Prelude.{◌≡◌, ◌<◌, true, false, IfOk};
 ghost use Rattle.candidate_ir.specs.Context.{Grows};
 ghost use Rattle.candidate_ir.specs.References.{ArgumentsFit};
 ghost use Rattle.candidate_ir.specs.Words.{IsTy, IsArgs, IsPreds, IsConst, IsClause, KindFits, ListFits, PredFits, BoundsFit, AtMostOnePrincipal, names_trait};
-ghost use Rattle.assembly_text.specs.Given.{IsAlias};
+ghost use Rattle.assembly_text.specs.Given.{IsNoted};
 ghost use Rattle.assembly_text.specs.Types.{IsNoPrincipal};
 ghost use Rattle.candidate_eval.specs.Calls.{HasNoParam};
 ghost use Rattle.assembly_text.specs.Notation.{IsChildless};
@@ -60,7 +60,7 @@ impl<'a, M: Maker> Scope<'a, M> {
         ensures grows { Grows (M.context self.old.maker) (M.context self.new.maker) }
         ensures sort { IfOk result (λ ty. IsTy (M.context self.new.maker).trees ty) }
         ensures no_param { IfOk result (λ ty. Lacks M.is_strict (M.context self.new.maker).trees ty.0) }
-        ensures alias { IfOk result (λ ty. M.notes_alias self.new.maker ≡ true → IsAlias (M.context self.new.maker).trees ty) }
+        ensures alias { IfOk result (IsNoted (M.noted self.new.maker) (M.context self.new.maker).trees) }
     {
         let (word, head, below) = self.next_head(words, depth)?;
         match head {

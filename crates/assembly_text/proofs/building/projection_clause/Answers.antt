@@ -11,4 +11,4 @@ mk_clause-requires c =
     cc
 
 pub invariant_of-draft : goal.invariant_of-draft
-invariant_of-draft c = record { given_fits = given_grows _ _ _ c.mk_clause.ensures.kept c.no_vars.new.self.given_fits }
+invariant_of-draft c = record { given_fits = given_grows _ _ _ c.mk_clause.ensures.kept c.no_vars.new.self.given_fits; alias_is_noted = c.no_vars.new.self.alias_is_noted }
