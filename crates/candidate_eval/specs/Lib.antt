@@ -1,3 +1,10 @@
+pub mod Certainties
+pub mod Responses
+pub mod States
+pub mod Characterization
+pub mod Rules
+pub mod Judging
+pub mod ImplRules
 pub mod Normalizer
 pub mod Answers
 pub mod Orphan
