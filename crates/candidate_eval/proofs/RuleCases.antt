@@ -26,7 +26,7 @@ use Rattle.candidate_eval.proofs.RuleToy.{judge, start_with, u8, u16, slice, par
 
 -- What is told of an answer: its source, the values of the root variables, and how sure it is.
 pub data Told : Type 0 where
-  Says : CandidateSource → List Tree → Certainty → Told
+  Says : CandidateSource → Forest → Certainty → Told
   Nothing : Told
   Stops : Told
 
@@ -73,11 +73,11 @@ abbrev pub the_impl : CandidateSource
 the_impl = Source.Impl (record { 0 = 0 })
 
 -- the where clause stays pending
-pub impl_of_slice : by_impl PostAnalysis I.Positive 0 (slice u8) ≡ Says the_impl [] AMBIGUOUS
+pub impl_of_slice : by_impl PostAnalysis I.Positive 0 (slice u8) ≡ Says the_impl none AMBIGUOUS
 impl_of_slice = refl
 
 -- the root variable becomes a slice of the impl's variable, which is fresh
-pub impl_of_variable : by_impl PostAnalysis I.Positive 1 (var 0) ≡ Says the_impl (slice (var 1) ∷ []) AMBIGUOUS
+pub impl_of_variable : by_impl PostAnalysis I.Positive 1 (var 0) ≡ Says the_impl (alone (slice (var 1))) AMBIGUOUS
 impl_of_variable = refl
 
 -- another type, another polarity
@@ -88,7 +88,7 @@ pub impl_negative : by_impl PostAnalysis I.Negative 0 (slice u8) ≡ Nothing
 impl_negative = refl
 
 -- a reservation counts in coherence alone
-pub reservation_in_coherence : by_impl Coherence I.Reservation 0 (slice u8) ≡ Says the_impl [] AMBIGUOUS
+pub reservation_in_coherence : by_impl Coherence I.Reservation 0 (slice u8) ≡ Says the_impl none AMBIGUOUS
 reservation_in_coherence = refl
 
 pub reservation_outside : by_impl PostAnalysis I.Reservation 0 (slice u8) ≡ Nothing
@@ -105,7 +105,7 @@ rule_of steps end = record { env = none; applies = true; steps = steps; ending =
 abbrev pub by_steps : ℕ → List Step → Told
 by_steps n steps = told (judged (judge (world_of 1)) (start_with Coherence n) (rule_of steps misc))
 
-abbrev pub misc_says : List Tree → Certainty → Told
+abbrev pub misc_says : Forest → Certainty → Told
 misc_says ts c = Says (Source.BuiltinImpl Misc) ts c
 
 -- A projection bound is picked: `for<T> [T]`, which stands for T, or `u16`, which stands for itself.
@@ -120,30 +120,30 @@ abbrev pub both : Tree → List Match
 both target = of_slice target ∷ of_u16 target ∷ []
 
 -- the one that matches is equated, and its term becomes the rule's first variable
-pub picks_slice : by_steps 1 (pick Upcast (both (slice u8)) ∷ equate (alone (var 0)) (alone (param 0)) ∷ []) ≡ misc_says (u8 ∷ []) Yes
+pub picks_slice : by_steps 1 (pick Upcast (both (slice u8)) ∷ equate (alone (var 0)) (alone (param 0)) ∷ []) ≡ misc_says (alone u8) Yes
 picks_slice = refl
 
-pub picks_plain : by_steps 1 (pick Upcast (both u16) ∷ equate (alone (var 0)) (alone (param 0)) ∷ []) ≡ misc_says (u16 ∷ []) Yes
+pub picks_plain : by_steps 1 (pick Upcast (both u16) ∷ equate (alone (var 0)) (alone (param 0)) ∷ []) ≡ misc_says (alone u16) Yes
 picks_plain = refl
 
 -- the term counts after the variables that the rule has
-pub picks_after_fresh : by_steps 1 (fresh (TypeKind ∷ []) ∷ pick Upcast (of_u16 u16 ∷ []) ∷ equate (alone (var 0)) (alone (param 1)) ∷ []) ≡ misc_says (u16 ∷ []) Yes
+pub picks_after_fresh : by_steps 1 (fresh (TypeKind ∷ []) ∷ pick Upcast (of_u16 u16 ∷ []) ∷ equate (alone (var 0)) (alone (param 1)) ∷ []) ≡ misc_says (alone u16) Yes
 picks_after_fresh = refl
 
 -- none refuses, or is ambiguous
 pub picks_none : by_steps 0 (pick Upcast (both u8) ∷ []) ≡ Nothing
 picks_none = refl
 
-pub requires_none : by_steps 0 (pick Require (both u8) ∷ []) ≡ misc_says [] AMBIGUOUS
+pub requires_none : by_steps 0 (pick Require (both u8) ∷ []) ≡ misc_says none AMBIGUOUS
 requires_none = refl
 
 -- two are ambiguous, and equate nothing; what follows isn't done
-pub picks_two : by_steps 1 (pick Upcast (both (var 0)) ∷ equate (alone u8) (alone u16) ∷ []) ≡ misc_says (var 0 ∷ []) AMBIGUOUS
+pub picks_two : by_steps 1 (pick Upcast (both (var 0)) ∷ equate (alone u8) (alone u16) ∷ []) ≡ misc_says (alone (var 0)) AMBIGUOUS
 picks_two = refl
 
 -- A variable that has got a value is no general variable any more.
 
-pub general : by_steps 1 (still_general (var 0) ∷ []) ≡ misc_says (var 0 ∷ []) Yes
+pub general : by_steps 1 (still_general (var 0) ∷ []) ≡ misc_says (alone (var 0)) Yes
 general = refl
 
 pub general_no_more : by_steps 1 (equate (alone (var 0)) (alone u8) ∷ still_general (var 0) ∷ []) ≡ Nothing
@@ -151,10 +151,10 @@ general_no_more = refl
 
 -- Impls may be unknown upstream and downstream, and are known of a local trait.
 
-pub unknown_upstream : by_steps 0 (unknowable (of_type u8) ∷ []) ≡ misc_says [] Yes
+pub unknown_upstream : by_steps 0 (unknowable (of_type u8) ∷ []) ≡ misc_says none Yes
 unknown_upstream = refl
 
-pub unknown_downstream : by_steps 1 (unknowable (of_type (var 0)) ∷ []) ≡ misc_says (var 0 ∷ []) Yes
+pub unknown_downstream : by_steps 1 (unknowable (of_type (var 0)) ∷ []) ≡ misc_says (alone (var 0)) Yes
 unknown_downstream = refl
 
 pub known : told (judged (judge (world_of 0)) (start_with Coherence 0) (rule_of (unknowable (of_type u8) ∷ []) misc)) ≡ Nothing
@@ -166,8 +166,8 @@ abbrev pub by_clause : Tree → Told
 by_clause t = told (judged (judge (world_of 1)) (start_with PostAnalysis 1) (rule_of [] (characterise (meets trait_number t))))
 
 abbrev pub env_says : Bool → Certainty → Told
-env_says true c = Says (Source.ParamEnv Global) (var 0 ∷ []) c
-env_says false c = Says (Source.ParamEnv NonGlobal) (var 0 ∷ []) c
+env_says true c = Says (Source.ParamEnv Global) (alone (var 0)) c
+env_says false c = Says (Source.ParamEnv NonGlobal) (alone (var 0)) c
 
 pub global : by_clause (slice u8) ≡ env_says true Yes
 global = refl

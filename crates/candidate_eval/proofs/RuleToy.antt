@@ -10,7 +10,8 @@ use Rattle.candidate_ir.specs.declared.ir.heads.ClauseHead.TheVariants as Cl
 use Rattle.candidate_ir.specs.declared.ir.heads.VariableSort.TheVariants as V
 use Rattle.candidate_ir.specs.declared.ir.kinds.UintTy.TheVariants as U
 use Rattle.candidate_ir.specs.declared.ir.kinds.PredicatePolarity.TheVariants as Polarity
-use Rattle.candidate_ir.specs.Trees.{Forest, none, tree, Tree}
+use Rattle.candidate_ir.specs.Trees.{Forest, none, tree, Tree, join}
+use Rattle.candidate_ir.specs.Substitutions.{alone}
 use Rattle.candidate_ir.specs.Folding.{leaf}
 use Rattle.candidate_ir.specs.Unify.{same_head}
 use Rattle.candidate_ir.specs.Worlds.{World}
@@ -60,9 +61,9 @@ certainty_of (p ∷ ps) c = cond (stays_open p.goal.clause.head) (certainty_and 
 abbrev pub var : ℕ → Tree
 var n = leaf (H.Infer (record { sort = V.General; number = n }))
 
-abbrev pub root_values : State → List VariableInfo → ℕ → List Tree
-root_values S [] n = []
-root_values S (i ∷ is) n = cond i.is_root (resolved_tree S (var n) ∷ []) [] ++ root_values S is (suc n)
+abbrev pub root_values : List VariableInfo → ℕ → Forest
+root_values [] n = none
+root_values (i ∷ is) n = join (cond i.is_root (alone (var n)) none) (root_values is (suc n))
 
 -- it goes down two types where it characterises
 abbrev pub judge : World → Judge
@@ -76,7 +77,7 @@ judge w = record {
   equated = λ S e a b. next (unified 50 S a b) (λ T. Some ([], T));
   normalized = λ S e t. Some (resolved_tree S t, S);
   settled = λ S. Some (certainty_of S.pending Yes, S);
-  responded = λ S c. Some (record { vars = []; values = root_values S S.variables 0; regions = S.regions; certainty = certainty_of S.pending c });
+  responded = λ S c. Some (record { vars = []; values = resolved S (root_values S.variables 0); regions = S.regions; certainty = certainty_of S.pending c });
   opaques = λ S t. [];
 }
 

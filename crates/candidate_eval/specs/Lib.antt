@@ -1,5 +1,7 @@
 pub mod Certainties
 pub mod Responses
+pub mod ResponseTrees
+pub mod Merging
 pub mod States
 pub mod Characterization
 pub mod Rules

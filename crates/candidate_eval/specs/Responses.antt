@@ -3,7 +3,7 @@ use Rattle.std.specs.Prelude.{ℕ, suc, Bool, true, false, ◌==◌, ◌&&◌, L
 use Rattle.candidate_ir.specs.declared.ir.heads.Head.{Head}
 use Rattle.candidate_ir.specs.declared.ir.heads.Head.TheVariants as H
 use Rattle.candidate_ir.specs.declared.ir.kinds.RegionKind.TheVariants as R
-use Rattle.candidate_ir.specs.Trees.{Tree}
+use Rattle.candidate_ir.specs.Trees.{Forest, none, tree, Tree}
 use Rattle.candidate_eval.specs.declared.eval.source.CandidateSource.{CandidateSource}
 use Rattle.candidate_eval.specs.declared.eval.variable.CanonicalVar.{CanonicalVar}
 use Rattle.candidate_eval.specs.Certainties.{Certainty}
@@ -12,7 +12,7 @@ use Rattle.candidate_eval.specs.Certainties.{Certainty}
 -- variables that are left, in that order; the outlives constraints; and how sure the answer is.
 pub record Response : Type 0 where
   pub vars : List CanonicalVar
-  pub values : List Tree
+  pub values : Forest
   pub regions : List Tree
   pub certainty : Certainty
 
@@ -27,9 +27,9 @@ is_number n (H.Region (R.Var m)) = m == n
 is_number n _ = false
 
 -- The values are the variables from number n on, each its own.
-abbrev pub are_open : ℕ → List Tree → Bool
-are_open n [] = true
-are_open n (t ∷ ts) = is_number n t.head && are_open (suc n) ts
+abbrev pub are_open : ℕ → Forest → Bool
+are_open n none = true
+are_open n (tree h below rest) = is_number n h && are_open (suc n) rest
 
 -- No root variable has got a value, and no two have become one: since variables are numbered by first occurrence, each root
 -- variable is the one of its own number.
