@@ -1,5 +1,5 @@
 -- What several candidates come to, where they say the same or one of them says all.
-use Rattle.std.specs.Prelude.{ℕ, suc, Bool, true, false, ◌&&◌, Option, Some, None, List, [], ◌∷◌, if◌then◌else◌}
+use Rattle.std.specs.Prelude.{ℕ, suc, Bool, true, false, ◌&&◌, Option, Some, None, List, [], ◌∷◌, slice_get, if◌then◌else◌}
 use Rattle.std.specs.Cmp.Lexicographic.{pointwise}
 use Rattle.std.specs.List.{list_all}
 use Rattle.candidate_ir.specs.Elaboration.{same_forest, same_tree}
@@ -29,11 +29,10 @@ pub record Merge : Type 0 where
   pub response : Response
   pub info : MergeCandidateInfo
 
--- the first that is always applicable, counted from that number on
-abbrev pub first_applicable : ℕ → List Candidate → Option Merge
+-- the number of the first that is always applicable, counted from that number on
+abbrev pub first_applicable : ℕ → List Candidate → Option ℕ
 first_applicable n [] = None
-first_applicable n (c ∷ cs) =
-    if is_always_applicable c.result then Some (record { response = c.result; info = AlwaysApplicable n }) else first_applicable (suc n) cs
+first_applicable n (c ∷ cs) = if is_always_applicable c.result then Some n else first_applicable (suc n) cs
 
 abbrev pub all_answer : Response → List Candidate → Bool
 all_answer r cs = list_all (λ (c : Candidate). same_response c.result r) cs
@@ -43,10 +42,14 @@ abbrev pub common : List Candidate → Option Merge
 common [] = None
 common (c ∷ cs) = if all_answer c.result cs then Some (record { response = c.result; info = EqualResponse }) else None
 
-abbrev pub or_else : {X : Type 0} → Option X → Option X → Option X
-or_else None o = o
-or_else (Some x) o = Some x
+abbrev pub merge_to : MergeCandidateInfo → Option Candidate → Option Merge
+merge_to info None = None
+merge_to info (Some c) = Some (record { response = c.result; info = info })
+
+abbrev pub chosen : List Candidate → Option ℕ → Option Merge
+chosen cs None = common cs
+chosen cs (Some n) = merge_to (AlwaysApplicable n) (slice_get cs n)
 
 -- The first that is always applicable, else what all answer; nothing, where there is neither.
 abbrev pub merged : List Candidate → Option Merge
-merged cs = or_else (first_applicable 0 cs) (common cs)
+merged cs = chosen cs (first_applicable 0 cs)
