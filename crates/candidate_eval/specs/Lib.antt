@@ -7,6 +7,11 @@ pub mod Characterization
 pub mod Rules
 pub mod Judging
 pub mod ImplRules
+pub mod Mentions
+pub mod Alike
+pub mod Soundness
+pub mod Instances
+pub mod Lawful
 pub mod Normalizer
 pub mod Answers
 pub mod Orphan

@@ -116,7 +116,18 @@ opened_head values d _ = None
 abbrev pub opened : Forest → Forest → Forest
 opened values ts = fold (λ d t. opened_head values d t.head) 0 ts
 
--- The values put in.
+-- What stands for heads, if anything does; trees with it put in.
+
+abbrev pub Values : Type 0
+Values = Head → Option Tree
+
+abbrev pub valued : Values → Forest → Forest
+valued v ts = fold (λ _ t. v t.head) 0 ts
+
+abbrev pub valued_tree : Values → Tree → Tree
+valued_tree v t = fold_tree (λ _ u. v u.head) 0 t
+
+-- The values of a state, put in.
 
 abbrev pub value_in : Option VariableInfo → Option Tree
 value_in None = None
@@ -131,10 +142,10 @@ value_at S (H.Region (R.Var n)) = value_of S n
 value_at S _ = None
 
 abbrev pub resolved : State → Forest → Forest
-resolved S ts = fold (λ _ t. value_at S t.head) 0 ts
+resolved S ts = valued (value_at S) ts
 
 abbrev pub resolved_tree : State → Tree → Tree
-resolved_tree S t = fold_tree (λ _ u. value_at S u.head) 0 t
+resolved_tree S t = valued_tree (value_at S) t
 
 -- Where walks end: how many visits of an orphan walk, aliases of a chain and constants may be nested, and how many types a
 -- characterisation goes down.
