@@ -1,3 +1,17 @@
+pub mod Certainties
+pub mod Responses
+pub mod ResponseTrees
+pub mod Merging
+pub mod States
+pub mod Characterization
+pub mod Rules
+pub mod Judging
+pub mod ImplRules
+pub mod Mentions
+pub mod Alike
+pub mod Soundness
+pub mod Instances
+pub mod Lawful
 pub mod Normalizer
 pub mod Answers
 pub mod Orphan

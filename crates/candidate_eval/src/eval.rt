@@ -1,5 +1,11 @@
 //! What the layers above know of an evaluator.
 
+pub mod certainty;
+pub mod mode;
+pub mod response;
+pub mod source;
+pub mod variable;
+
 ghost use Rattle.std.specs.Prelude.{◌≡◌, false, refl};
 ghost use Rattle.candidate_ir.specs.Trees.{Tree};
 ghost use Rattle.candidate_ir.specs.Words.{IsTy, ty_tree};

@@ -1,5 +1,5 @@
 -- Finite trees: a head, and children in order.
-use Rattle.std.specs.Prelude.{Bool, true, false, ◌||◌, ℕ, ◌+◌, max}
+use Rattle.std.specs.Prelude.{Bool, true, false, ◌||◌, ℕ, ◌+◌, max, Option, Some, None}
 use Rattle.candidate_ir.specs.declared.ir.kinds.RegionKind.TheVariants as R
 use Rattle.candidate_ir.specs.declared.ir.heads.Head.{Head}
 use Rattle.candidate_ir.specs.declared.ir.heads.Head.TheVariants as H
@@ -149,6 +149,12 @@ is_loose (H.Infer v) = is_type_kind (sort_kind v.sort)
 is_loose (H.Placeholder _) = true
 is_loose (H.Bound _) = true
 is_loose _ = false
+
+-- The number of a variable to be solved; those of regions are numbered with the others.
+abbrev pub variable_number : Head → Option ℕ
+variable_number (H.Infer v) = Some v.number
+variable_number (H.Region (R.Var n)) = Some n
+variable_number _ = None
 
 -- how many binders stand between a head and its children
 abbrev pub binders_of : Head → ℕ

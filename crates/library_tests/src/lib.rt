@@ -36,6 +36,8 @@ mod kinds;
 #[cfg(test)]
 mod large;
 #[cfg(test)]
+mod merging;
+#[cfg(test)]
 mod normalisers;
 #[cfg(test)]
 mod parts;

@@ -3,9 +3,9 @@
 ghost use Rattle.std.specs.Prelude.{◌≡◌, ◌++◌, ◌∷◌, [], string_bytes, ◌+◌, ◌<◌, ◌≤◌, ◌↔◌, IsTrue, false, true, length, take, max, map, IfOk, IfErr, MatchOption, Some, None};
 ghost use Rattle.candidate_ir.specs.Context.{world, Grows};
 ghost use Rattle.candidate_ir.specs.Making.{Makes, a_type, a_constant, a_region, a_list, a_binder, some_bounds, a_signature, a_clause, an_environment};
-ghost use Rattle.candidate_ir.specs.Trees.{height, heights, tree_holds, holds, is_param};
+ghost use Rattle.candidate_ir.specs.Trees.{height, heights, tree_holds, holds, is_param, variable_number};
 ghost use Rattle.candidate_ir.specs.Flags.{mark};
-ghost use Rattle.candidate_ir.specs.Folds.{is_asked, IsArg};
+ghost use Rattle.candidate_ir.specs.Folds.{is_asked, IsArg, arg_tree};
 ghost use Rattle.candidate_ir.specs.Kinds.{arg_number, numbers, pred_children};
 ghost use Rattle.candidate_ir.specs.Nodes.{tree_at, AreLeaves};
 ghost use Rattle.candidate_ir.specs.Table.{Below, IsNodeOf};
@@ -134,6 +134,15 @@ impl Cx {
         ensures { result ≡ (tree_at self.now.trees number).head }
     {
         self.nodes.head(number)
+    }
+
+    /// The number of the variable to be solved that the argument is, if it is one. Types, constants and regions have their
+    /// numbers in one row.
+    pub fn variable_number(&self, arg: GenericArg) -> Option<u32>
+        requires { IsArg self.now.trees arg }
+        ensures { result ≡ variable_number (arg_tree self.now.trees arg).head }
+    {
+        self.head(arg.number()).variable_number()
     }
 
     /// Whether the number is that of a list of arguments.

@@ -2,7 +2,7 @@
 
 ghost use Rattle.std.specs.Prelude.{◌≡◌, ◌≤◌, ◌↔◌, IsTrue};
 ghost use Rattle.candidate_ir.specs.Flags.{mark};
-ghost use Rattle.candidate_ir.specs.Trees.{binders_of};
+ghost use Rattle.candidate_ir.specs.Trees.{binders_of, variable_number};
 ghost use Rattle.candidate_ir.specs.Binders.{is_beyond};
 ghost use Rattle.candidate_ir.specs.Names.{named, names_unknown};
 
@@ -203,6 +203,17 @@ impl Head {
             Head::Builtin(Builtin::FnPtr(_) | Builtin::UnsafeBinder) => 1,
             Head::Part(PartHead::Pred(_) | PartHead::Clause(_) | PartHead::Sig) => 1,
             _ => 0,
+        }
+    }
+
+    /// The number of the variable to be solved that it is, if it is one.
+    pub(crate) fn variable_number(self) -> Option<u32>
+        ensures { result ≡ variable_number self }
+    {
+        match self {
+            Head::Infer(variable) => Some(variable.number),
+            Head::Region(RegionKind::Var(number)) => Some(number),
+            _ => None,
         }
     }
 

@@ -1,0 +1,186 @@
+-- The state that an evaluator shows, and its judge: what it answers there.
+use Rattle.std.specs.Prelude.{ℕ, suc, Bool, true, false, ◌==◌, ◌+◌, ◌-◌, nat_lt, Option, Some, None, List, [], ◌∷◌, ◌++◌, length, slice_get, if◌then◌else◌}
+use Rattle.candidate_ir.specs.declared.ir.heads.Head.{Head}
+use Rattle.candidate_ir.specs.declared.ir.heads.Head.TheVariants as H
+use Rattle.candidate_ir.specs.declared.ir.heads.ConstHead.TheVariants as C
+use Rattle.candidate_ir.specs.declared.ir.heads.VariableSort.TheVariants as V
+use Rattle.candidate_ir.specs.declared.ir.kinds.RegionKind.TheVariants as R
+use Rattle.candidate_ir.specs.declared.ir.kinds.BoundVar.{BoundVar}
+use Rattle.candidate_ir.specs.declared.ir.kinds.GoalSource.{GoalSource}
+use Rattle.candidate_ir.specs.Trees.{Kind, ConstantKind, RegionKind, Forest, none, tree, Tree}
+use Rattle.candidate_ir.specs.Folding.{fold, fold_tree, leaf, argument, shift_tree}
+use Rattle.candidate_ir.specs.Worlds.{World}
+use Rattle.candidate_eval.specs.declared.eval.mode.TypingMode.{TypingMode}
+use Rattle.candidate_eval.specs.declared.eval.variable.VariableKind.{VariableKind}
+use Rattle.candidate_eval.specs.declared.eval.variable.VariableKind.TheVariants.{Term, Region}
+use Rattle.candidate_eval.specs.Certainties.{Certainty}
+use Rattle.candidate_eval.specs.Responses.{Response}
+
+-- The clauses that are taken as given, in their order.
+abbrev pub Env : Type 0
+Env = Forest
+
+-- A clause that is to be proved.
+pub record Goal : Type 0 where
+  pub env : Env
+  pub clause : Tree
+
+pub record Pending : Type 0 where
+  pub source : GoalSource
+  pub goal : Goal
+
+-- A variable: what it stands for, the newest universe whose placeholders its value may name, its value, if it has one, and
+-- whether the goal came with it.
+pub record VariableInfo : Type 0 where
+  pub kind : VariableKind
+  pub universe : ℕ
+  pub value : Option Tree
+  pub is_root : Bool
+
+-- Universes are numbered from 0, the root. Variables of all kinds are numbered in one row. Values hold no variable that has a
+-- value. Region constraints stand in the order in which they were found, and goals that are still to be proved in the order
+-- in which they were added.
+pub record State : Type 0 where
+  pub newest_universe : ℕ
+  pub variables : List VariableInfo
+  pub regions : List Tree
+  pub pending : List Pending
+  pub mode : TypingMode
+
+abbrev pub with_pending : State → List Pending → State
+with_pending S ps = record S { pending = ps }
+
+-- A goal that is added is the last of those pending.
+abbrev pub added : State → Pending → State
+added S p = with_pending S (S.pending ++ p ∷ [])
+
+-- A fresh variable is of the newest universe.
+
+abbrev pub variable : VariableKind → ℕ → Tree
+variable (Term s) n = leaf (H.Infer (record { sort = s; number = n }))
+variable Region n = leaf (H.Region (R.Var n))
+
+abbrev pub fresh_info : State → VariableKind → VariableInfo
+fresh_info S k = record { kind = k; universe = S.newest_universe; value = None; is_root = false }
+
+abbrev pub with_fresh : State → VariableKind → State
+with_fresh S k = record S { variables = S.variables ++ fresh_info S k ∷ [] }
+
+-- what stands for a parameter of the kind
+abbrev pub variable_kind : Kind → VariableKind
+variable_kind ConstantKind = Term V.Constant
+variable_kind RegionKind = Region
+variable_kind _ = Term V.General
+
+abbrev pub fresh_variables : State → List Kind → Forest
+fresh_variables S [] = none
+fresh_variables S (k ∷ ks) =
+    let t = variable (variable_kind k) (length S.variables) in
+    tree t.head t.children (fresh_variables (with_fresh S (variable_kind k)) ks)
+
+abbrev pub with_fresh_variables : State → List Kind → State
+with_fresh_variables S [] = S
+with_fresh_variables S (k ∷ ks) = with_fresh_variables (with_fresh S (variable_kind k)) ks
+
+-- Placeholders of a universe stand for the variables of a binder, by their numbers.
+
+abbrev pub placeholder : Kind → ℕ → ℕ → Head
+placeholder ConstantKind u n = H.Const (C.Placeholder (record { universe = u; index = n }))
+placeholder RegionKind u n = H.Region (R.Placeholder (record { universe = u; index = n }))
+placeholder _ u n = H.Placeholder (record { universe = u; index = n })
+
+abbrev pub placeholders : ℕ → ℕ → List Kind → Forest
+placeholders u n [] = none
+placeholders u n (k ∷ ks) = tree (placeholder k u n) none (placeholders u (suc n) ks)
+
+abbrev pub with_universe : State → State
+with_universe S = record S { newest_universe = suc S.newest_universe }
+
+-- What stood under a binder, with trees in the place of its variables, and that binder gone: what is bound further out is
+-- bound one binder nearer.
+
+abbrev pub nearer : BoundVar → BoundVar
+nearer v = record { depth = v.depth - 1; index = v.index }
+
+abbrev pub opened_variable : Forest → ℕ → BoundVar → (BoundVar → Head) → Option Tree
+opened_variable values d v head =
+    if v.depth == d then Some (shift_tree d (argument values v.index))
+    else (if nat_lt d v.depth then Some (leaf (head (nearer v))) else None)
+
+abbrev pub opened_head : Forest → ℕ → Head → Option Tree
+opened_head values d (H.Bound v) = opened_variable values d v H.Bound
+opened_head values d (H.Const (C.Bound v)) = opened_variable values d v (λ x. H.Const (C.Bound x))
+opened_head values d (H.Region (R.Bound v)) = opened_variable values d v (λ x. H.Region (R.Bound x))
+opened_head values d _ = None
+
+abbrev pub opened : Forest → Forest → Forest
+opened values ts = fold (λ d t. opened_head values d t.head) 0 ts
+
+-- What stands for heads, if anything does; trees with it put in.
+
+abbrev pub Values : Type 0
+Values = Head → Option Tree
+
+abbrev pub valued : Values → Forest → Forest
+valued v ts = fold (λ _ t. v t.head) 0 ts
+
+abbrev pub valued_tree : Values → Tree → Tree
+valued_tree v t = fold_tree (λ _ u. v u.head) 0 t
+
+-- The values of a state, put in.
+
+abbrev pub value_in : Option VariableInfo → Option Tree
+value_in None = None
+value_in (Some i) = i.value
+
+abbrev pub value_of : State → ℕ → Option Tree
+value_of S n = value_in (slice_get S.variables n)
+
+abbrev pub value_at : State → Head → Option Tree
+value_at S (H.Infer v) = value_of S v.number
+value_at S (H.Region (R.Var n)) = value_of S n
+value_at S _ = None
+
+abbrev pub resolved : State → Forest → Forest
+resolved S ts = valued (value_at S) ts
+
+abbrev pub resolved_tree : State → Tree → Tree
+resolved_tree S t = valued_tree (value_at S) t
+
+-- Where walks end: how many visits of an orphan walk, aliases of a chain and constants may be nested, and how many types a
+-- characterisation goes down.
+pub record Limits : Type 0 where
+  pub orphan_walk : ℕ
+  pub alias_chain : ℕ
+  pub nested_constants : ℕ
+  pub recursion : ℕ
+
+-- What stays fixed of an evaluator: what is declared, its limits, and what it answers at a state; `None` is a refusal.
+pub record Judge : Type 1 where
+  pub world : World
+  pub local_crate : ℕ
+  pub limits : Limits
+  -- the second is what closing a probe that was begun at the first may leave
+  pub alike : State → State → Type 0
+  -- two states, each with trees, that are alike but for the numbers of the variables from that one on
+  pub alike_in : ℕ → State → Forest → State → Forest → Type 0
+  -- the goals that it vouches for
+  pub granted : State → Goal → Type 0
+  -- two rows of trees made equal: the goals that this leaves, and the state
+  pub equated : State → Env → Forest → Forest → Option (List Pending × State)
+  -- a type or constant in normal form
+  pub normalized : State → Env → Tree → Option (Tree × State)
+  -- what is pending, evaluated
+  pub settled : State → Option (Certainty × State)
+  -- the response with at most that certainty
+  pub responded : State → Certainty → Option Response
+  -- the opaque types that may be hidden behind a variable
+  pub opaques : State → Tree → List Tree
+
+abbrev pub is_some : {A : Type 0} → Option A → Bool
+is_some None = false
+is_some (Some a) = true
+
+abbrev pub next : {A B : Type 0} → Option A → (A → Option B) → Option B
+next None f = None
+next (Some a) f = f a
