@@ -102,7 +102,6 @@ fn one(rt: &impl Abort, cx: &mut Cx, kind: TyKind) -> Args
     args(rt, cx, &[GenericArg::Ty(ty)])
 }
 
-#[tactic(auto, using(candidate_ir::proofs::Made::making))]
 fn two(rt: &impl Abort, cx: &mut Cx, left: u32, right: u32) -> Args
     ensures grows { Grows cx.old cx.new }
     ensures sort { IsArgs cx.new.trees result }
@@ -179,19 +178,25 @@ fn check_pair(
     check_merge(rt, cx, &[first, second], want, label);
 }
 
-#[tactic(auto, using(candidate_ir::proofs::Made::making))]
-fn check_merging(rt: &impl Abort, alloc: Global, cx: &mut Cx) {
-    check_merge(rt, cx, &[], None, "nothing");
-    let open = one(rt, cx, TyKind::Infer(InferTy::TyVar(0)));
-    let byte = one(rt, cx, TyKind::Uint(UintTy::U8));
+fn check_pairs(rt: &impl Abort, alloc: Global, cx: &Cx, unsolved: Args, byte: Args)
+    requires unsolved { IsArgs cx.now.trees unsolved }
+    requires byte { IsArgs cx.now.trees byte }
+{
     let maybe = Certainty::AMBIGUOUS;
     let yes = Certainty::Yes;
     let sure = Some(MergeCandidateInfo::AlwaysApplicable(1));
     let equal = Some(MergeCandidateInfo::EqualResponse);
-    check_pair(rt, alloc, cx, (byte, maybe), (open, yes), sure, "a sure one");
+    check_pair(rt, alloc, cx, (byte, maybe), (unsolved, yes), sure, "a sure one");
     check_pair(rt, alloc, cx, (byte, maybe), (byte, yes), None, "two that differ");
-    check_pair(rt, alloc, cx, (byte, maybe), (open, maybe), None, "other values");
+    check_pair(rt, alloc, cx, (byte, maybe), (unsolved, maybe), None, "other values");
     check_pair(rt, alloc, cx, (byte, maybe), (byte, maybe), equal, "two that are equal");
+}
+
+fn check_merging(rt: &impl Abort, alloc: Global, cx: &mut Cx) {
+    check_merge(rt, cx, &[], None, "nothing");
+    let open = one(rt, cx, TyKind::Infer(InferTy::TyVar(0)));
+    let byte = one(rt, cx, TyKind::Uint(UintTy::U8));
+    check_pairs(rt, alloc, cx, open, byte);
 }
 
 #[test]
