@@ -13,7 +13,7 @@ use Rattle.candidate_eval.specs.Responses.{Response}
 use Rattle.candidate_eval.specs.States.{State, VariableInfo, Values, valued, resolved}
 use Rattle.candidate_eval.specs.Alike.{info}
 use Rattle.candidate_eval.specs.Mentions.{IsBelow}
-use Rattle.candidate_eval.specs.Soundness.{Live, is_strange, universes}
+use Rattle.candidate_eval.specs.Soundness.{Live, AreLeaves, is_strange, universes}
 
 -- Trees for type and constant variables; a variable without one stays.
 abbrev pub Instance : Type 0
@@ -65,7 +65,7 @@ HasRootsFirst S m = (n : ℕ) (i : VariableInfo) → info S n ≡ Some i → i.i
 pub record IsInstanceOf (S : State) (L : Live) (m : ℕ) (w : Universes) (v : Forest → Forest) : Type 0 where
   pub of : Instance
   pub allowed : IsAllowedInto (universes S) w of
-  pub same : (ts : Forest) → IsBelow m ts → holds (is_strange S L) ts ≡ false → erase (v ts) ≡ erase (valued (instance of) (resolved S ts))
+  pub same : (ts : Forest) → IsBelow m ts → holds (is_strange S L) ts ≡ false → AreLeaves ts → erase (v ts) ≡ erase (valued (instance of) (resolved S ts))
 
 -- The response of a state: on the root variables each allowed instance of it is one of the state.
 abbrev pub IsResponseOf : State → Live → Response → Type 0

@@ -1,13 +1,13 @@
 -- The laws of an evaluator. They speak of its judge.
 use Rattle.std.specs.Prelude.{◌≡◌, ℕ, Bool, true, false, Option, Some, None, List, []}
 use Rattle.std.specs.List.{All}
-use Rattle.candidate_ir.specs.Trees.{Kind, TypeKind, ConstantKind, Forest, Tree, kind_of, erase, holds, is_alias, is_error}
+use Rattle.candidate_ir.specs.Trees.{Kind, TypeKind, ConstantKind, Forest, Tree, kind_of, erase, holds, is_alias, is_error, is_param}
 use Rattle.candidate_ir.specs.Substitutions.{Substitution, alone, apply}
 use Rattle.candidate_eval.specs.Certainties.{Certainty, Yes}
 use Rattle.candidate_eval.specs.Responses.{Response}
 use Rattle.candidate_eval.specs.States.{Env, State, Goal, Pending, Judge, resolved}
 use Rattle.candidate_eval.specs.Alike.{JudgesAlike}
-use Rattle.candidate_eval.specs.Soundness.{Live, AreTreesOf, IsSound, IsResolved, IsSolution, AgreesOn, Within, Follows, GoalIsOf, GoalsAreOf}
+use Rattle.candidate_eval.specs.Soundness.{Live, OfValues, ValuesFit, AreLeaves, AreTreesOf, IsSound, IsResolved, IsSolution, AgreesOn, Within, Follows, GoalIsOf, GoalsAreOf}
 use Rattle.candidate_eval.specs.Instances.{IsResponseOf}
 
 abbrev pub is_type_or_constant : Kind → Bool
@@ -29,6 +29,15 @@ pub record AreSides (S : State) (L : Live) (a b : Forest) : Type 0 where
   pub right : AreTreesOf S L b
   pub left_has_no_alias : HasNoAlias S a
   pub right_has_no_alias : HasNoAlias S b
+  pub left_has_leaves : AreLeaves (resolved S a)
+  pub right_has_leaves : AreLeaves (resolved S b)
+
+-- Of the values of what counts: their variables are leaves; and they hold no parameter.
+abbrev pub HasLeafValues : State → Live → Type 0
+HasLeafValues S L = OfValues S L (λ n i t. AreLeaves (alone t))
+
+abbrev pub HasNoParameter : State → Live → Type 0
+HasNoParameter S L = OfValues S L (λ n i t. holds is_param (alone t) ≡ false)
 
 -- The substitution is a solution of the state, and makes both sides equal.
 pub record Solves (S : State) (L : Live) (a b : Forest) (s : Substitution) : Type 0 where
@@ -41,11 +50,14 @@ pub record IsKept (S T : State) (L M : Live) (s : Substitution) : Type 0 where
   pub solution : IsSolution T M further
   pub agrees : AgreesOn S L s further
 
+abbrev pub AreGranted : Judge → State → List Pending → Type 0
+AreGranted J S ps = All (λ (p : Pending). J.granted S p.goal) ps
+
 -- The state that a Yes speaks of: it follows the one that was asked, since what was pending is evaluated first.
 pub record AnswersYes (J : Judge) (S : State) (L : Live) (r : Response) : Type 0 where
   pub last : State
   pub follows : Follows S last L
-  pub granted : All (λ (p : Pending). J.granted last p.goal) S.pending
+  pub granted : AreGranted J last S.pending
   pub response : IsResponseOf last follows.live r
 
 pub record IsAnswered (J : Judge) (S : State) (c : Certainty) : Type 0 where
@@ -53,52 +65,60 @@ pub record IsAnswered (J : Judge) (S : State) (c : Certainty) : Type 0 where
   pub is : J.responded S c ≡ Some response
   pub as_asked : response.certainty ≡ c
 
-pub record Lawful (J : Judge) : Type 0 where
-  -- Normal forms.
+-- A normal form is a tree of the state that normalising leaves, which follows. It brings in no parameter.
+pub record IsNormalForm (S T : State) (L : Live) (e : Env) (t u : Tree) : Type 0 where
+  pub follows : Follows S T L
+  pub tree : AreTreesOf T follows.live (alone u)
+  pub no_parameter : HasNoParameter S L → holds is_param e ≡ false → holds is_param (alone t) ≡ false → HasNoParameter T follows.live × (holds is_param (alone u) ≡ false)
 
+-- The state follows, and these are goals of it.
+pub record LeavesGoals (S T : State) (L : Live) (ps : List Pending) : Type 0 where
+  pub follows : Follows S T L
+  pub goals : GoalsAreOf T follows.live ps
+
+pub record NormalFormLaws (J : Judge) : Type 0 where
   -- A type or constant that is resolved and no alias is normal.
   pub rigid_is_normal : (S : State) (e : Env) (t : Tree) → IsResolved S (alone t) → is_type_or_constant (kind_of t.head) ≡ true → is_alias t.head ≡ false
       → J.normalized S e t ≡ Some (t, S)
-  -- Normalising leaves what is pending as it is. The state follows, and the normal form is a tree of it.
+  -- Normalising leaves what is pending as it is, and the state follows.
   pub normalizing_keeps_pending : (S T : State) (e : Env) (t u : Tree) → J.normalized S e t ≡ Some (u, T) → T.pending ≡ S.pending
-  pub normalizing_follows : (S T : State) (L : Live) (e : Env) (t u : Tree) → IsSound S L → AreTreesOf S L e → AreTreesOf S L (alone t) → J.normalized S e t ≡ Some (u, T)
-      → (f : Follows S T L) × AreTreesOf T f.live (alone u)
+  pub normalizing_follows : (S T : State) (L : Live) (e : Env) (t u : Tree) → IsSound S L → ValuesFit S → AreTreesOf S L e → AreTreesOf S L (alone t)
+      → J.normalized S e t ≡ Some (u, T) → IsNormalForm S T L e t u
 
-  -- Equations.
-
+pub record EquationLaws (J : Judge) : Type 0 where
   -- An accepted equation of sides without errors makes them equal, and gives no value that isn't needed.
-  pub equation_equates : (S T : State) (L : Live) (e : Env) (a b : Forest) (gs : List Pending) → AreSides S L a b → HasNoError S a → HasNoError S b → J.equated S e a b ≡ Some (gs, T)
-      → erase (resolved T a) ≡ erase (resolved T b)
-  pub equation_is_most_general : (S T : State) (L M : Live) (e : Env) (a b : Forest) (gs : List Pending) → AreSides S L a b → HasNoError S a → HasNoError S b → J.equated S e a b ≡ Some (gs, T)
-      → Within S L M → IsSound T M → (s : Substitution) → Solves S L a b s → IsKept S T L M s
+  pub equation_equates : (S T : State) (L : Live) (e : Env) (a b : Forest) (gs : List Pending) → AreSides S L a b → HasNoError S a → HasNoError S b
+      → J.equated S e a b ≡ Some (gs, T) → erase (resolved T a) ≡ erase (resolved T b)
+  pub equation_is_most_general : (S T : State) (L M : Live) (e : Env) (a b : Forest) (gs : List Pending) → AreSides S L a b → HasLeafValues S L → HasNoError S a → HasNoError S b
+      → J.equated S e a b ≡ Some (gs, T) → Within S L M → IsSound T M → (s : Substitution) → Solves S L a b s → IsKept S T L M s
   -- A refused equation has no solution.
   pub refused_has_no_solution : (S : State) (L : Live) (e : Env) (a b : Forest) → AreSides S L a b → J.equated S e a b ≡ None → (s : Substitution) → Solves S L a b s → ⊥
-  -- Equating leaves what is pending as it is. The state follows, and the goals that the equation leaves are goals of it.
+  -- Equating leaves what is pending as it is; the goals that the equation leaves are goals of the state, which follows.
   pub equating_keeps_pending : (S T : State) (e : Env) (a b : Forest) (gs : List Pending) → J.equated S e a b ≡ Some (gs, T) → T.pending ≡ S.pending
-  pub equating_follows : (S T : State) (L : Live) (e : Env) (a b : Forest) (gs : List Pending) → IsSound S L → AreTreesOf S L e → AreTreesOf S L a → AreTreesOf S L b
-      → J.equated S e a b ≡ Some (gs, T) → (f : Follows S T L) × GoalsAreOf T f.live gs
+  pub equating_follows : (S T : State) (L : Live) (e : Env) (a b : Forest) (gs : List Pending) → IsSound S L → ValuesFit S → AreTreesOf S L e → AreTreesOf S L a → AreTreesOf S L b
+      → J.equated S e a b ≡ Some (gs, T) → LeavesGoals S T L gs
 
-  -- States that are alike.
-
-  pub alike_judged_alike : JudgesAlike J
-
-  -- Responses.
-
+pub record ResponseLaws (J : Judge) : Type 0 where
   -- With nothing pending no response is refused, and its certainty is the one asked, whatever regions are recorded.
   pub empty_is_answered : (S : State) (c : Certainty) → S.pending ≡ [] → IsAnswered J S c
   -- Yes is answered only where Yes was asked, and where all that was pending is granted.
   pub yes_was_asked : (S : State) (c : Certainty) (r : Response) → J.responded S c ≡ Some r → r.certainty ≡ Yes → c ≡ Yes
-  pub yes_is_granted : (S : State) (L : Live) (c : Certainty) (r : Response) → IsSound S L → GoalsAreOf S L S.pending → J.responded S c ≡ Some r → r.certainty ≡ Yes
-      → AnswersYes J S L r
+  pub yes_is_granted : (S : State) (L : Live) (c : Certainty) (r : Response) → IsSound S L → ValuesFit S → GoalsAreOf S L S.pending
+      → J.responded S c ≡ Some r → r.certainty ≡ Yes → AnswersYes J S L r
 
-  -- Goals.
-
-  -- The state that settling leaves follows, and what it leaves pending are goals of it.
-  pub settling_follows : (S T : State) (L : Live) (c : Certainty) → IsSound S L → GoalsAreOf S L S.pending → J.settled S ≡ Some (c, T)
-      → (f : Follows S T L) × GoalsAreOf T f.live T.pending
+pub record GrantedLaws (J : Judge) : Type 0 where
+  -- What settling leaves pending are goals of the state that it leaves, which follows.
+  pub settling_follows : (S T : State) (L : Live) (c : Certainty) → IsSound S L → ValuesFit S → GoalsAreOf S L S.pending → J.settled S ≡ Some (c, T) → LeavesGoals S T L T.pending
   -- What settling drops or replaces is granted at every state that follows and grants what settling leaves.
-  pub settling_drops_granted : (S T U : State) (L : Live) (c : Certainty) → IsSound S L → GoalsAreOf S L S.pending → J.settled S ≡ Some (c, T)
-      → (f : Follows S T L) → GoalsAreOf T f.live T.pending → Follows T U f.live
-      → All (λ (p : Pending). J.granted U p.goal) T.pending → All (λ (p : Pending). J.granted U p.goal) S.pending
+  pub settling_drops_granted : (S T U : State) (L : Live) (c : Certainty) → IsSound S L → ValuesFit S → GoalsAreOf S L S.pending → J.settled S ≡ Some (c, T)
+      → (f : Follows S T L) → GoalsAreOf T f.live T.pending → Follows T U f.live → AreGranted J U T.pending → AreGranted J U S.pending
   -- What is granted stays so at every state that follows.
-  pub granted_stays : (S T : State) (L : Live) (g : Goal) → IsSound S L → GoalIsOf S L g → Follows S T L → J.granted S g → J.granted T g
+  pub granted_stays : (S T : State) (L : Live) (g : Goal) → IsSound S L → ValuesFit S → GoalIsOf S L g → Follows S T L → J.granted S g → J.granted T g
+
+-- All laws.
+pub record Lawful (J : Judge) : Type 0 where
+  pub normal_forms : NormalFormLaws J
+  pub equations : EquationLaws J
+  pub responses : ResponseLaws J
+  pub granted : GrantedLaws J
+  pub alike_judged_alike : JudgesAlike J

@@ -7,7 +7,7 @@ use Rattle.candidate_ir.specs.declared.ir.heads.ConstHead.TheVariants as C
 use Rattle.candidate_ir.specs.declared.ir.heads.Variable.{Variable}
 use Rattle.candidate_ir.specs.declared.ir.heads.VariableSort.{VariableSort}
 use Rattle.candidate_ir.specs.declared.ir.kinds.RegionKind.TheVariants as R
-use Rattle.candidate_ir.specs.Trees.{Forest, none, tree, Tree, erase, holds}
+use Rattle.candidate_ir.specs.Trees.{Forest, none, tree, Tree, erase, holds, variable_number}
 use Rattle.candidate_ir.specs.Binders.{escapes}
 use Rattle.candidate_ir.specs.Folding.{leaf}
 use Rattle.candidate_ir.specs.Substitutions.{Universes, Substitution, IsAllowed, IsAllowedBinding, alone, apply, same_sort, fits_sort}
@@ -63,6 +63,11 @@ is_strange S L _ = false
 pub record AreTreesOf (S : State) (L : Live) (ts : Forest) : Type 0 where
   pub known : holds (is_strange S L) ts ≡ false
   pub is_closed : escapes 0 ts ≡ false
+
+-- Variables have no children, as in all trees that are well formed.
+abbrev pub AreLeaves : Forest → Type 0
+AreLeaves none = Unit {0}
+AreLeaves (tree h below rest) = (is_some (variable_number h) ≡ true → below ≡ none) × AreLeaves below × AreLeaves rest
 
 -- What is asked of the values of a state's variables, where the variables count.
 abbrev pub OfValues : State → Live → (ℕ → VariableInfo → Tree → Type 0) → Type 0
