@@ -42,7 +42,6 @@ open_out ts (x ∷ xs) (suc i) n d f l e =
     let rest : ListFits ts xs = cc in
     open_out ts xs i n d rest (omega (arith, l)) e
 
-
 -- what holds of all holds of those after the first
 pub others_there : (ts : List Tree) (cs : List Candidate) (x : Candidate) (others : List Candidate) → AreCandidates ts cs → cs ≡ x ∷ others → AreCandidates ts others
 others_there ts cs x others f e =

@@ -87,7 +87,12 @@ fn check_values(rt: &impl Abort, alloc: Global, cx: &Cx, values: Args, want: boo
     requires { IsArgs cx.now.trees values }
 {
     let response = response(alloc, values, Certainty::Yes);
-    equals(rt, &has_only_region_constraints(cx, &response), &want, label);
+    equals(
+        rt,
+        &has_only_region_constraints(cx, &response),
+        &want,
+        label,
+    );
     let got = has_no_inference_or_external_constraints(cx, &response);
     equals(rt, &got, &want, label);
 }
@@ -186,10 +191,42 @@ fn check_pairs(rt: &impl Abort, alloc: Global, cx: &Cx, unsolved: Args, byte: Ar
     let yes = Certainty::Yes;
     let sure = Some(MergeCandidateInfo::AlwaysApplicable(1));
     let equal = Some(MergeCandidateInfo::EqualResponse);
-    check_pair(rt, alloc, cx, (byte, maybe), (unsolved, yes), sure, "a sure one");
-    check_pair(rt, alloc, cx, (byte, maybe), (byte, yes), None, "two that differ");
-    check_pair(rt, alloc, cx, (byte, maybe), (unsolved, maybe), None, "other values");
-    check_pair(rt, alloc, cx, (byte, maybe), (byte, maybe), equal, "two that are equal");
+    check_pair(
+        rt,
+        alloc,
+        cx,
+        (byte, maybe),
+        (unsolved, yes),
+        sure,
+        "a sure one",
+    );
+    check_pair(
+        rt,
+        alloc,
+        cx,
+        (byte, maybe),
+        (byte, yes),
+        None,
+        "two that differ",
+    );
+    check_pair(
+        rt,
+        alloc,
+        cx,
+        (byte, maybe),
+        (unsolved, maybe),
+        None,
+        "other values",
+    );
+    check_pair(
+        rt,
+        alloc,
+        cx,
+        (byte, maybe),
+        (byte, maybe),
+        equal,
+        "two that are equal",
+    );
 }
 
 fn check_merging(rt: &impl Abort, alloc: Global, cx: &mut Cx) {

@@ -146,7 +146,8 @@ fn is_always_applicable(cx: &Cx, response: &CanonicalResponse) -> bool
     requires { IsResponse cx.now.trees response.now }
     ensures { result ≡ is_always_applicable (response_of cx.now.trees response.now) }
 {
-    matches!(response.certainty, Certainty::Yes) && has_no_inference_or_external_constraints(cx, response)
+    matches!(response.certainty, Certainty::Yes)
+        && has_no_inference_or_external_constraints(cx, response)
 }
 
 /// The number of the first candidate that is sure and asks for nothing.
