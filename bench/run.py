@@ -46,23 +46,87 @@ class Text:
         self.auto_traits = []
         self.principals = []
         self.associated = []
-        self.declarations = [self.declaration(i) for i in range(size)]
+        self.adts = []
+        # How many parameters may stand in the types of the line, or none where it asks.
+        self.parameters = None
+        self.declarations = [self.declaration(i, kind) for i, kind in enumerate(self.kinds(size))]
+        self.parameters = None
         self.queries = [self.query() for _ in range(size)]
 
-    def declaration(self, i):
-        krate = self.random.randrange(10)
-        # The first one is a trait, so that each query has one to ask for.
+    def kinds(self, size):
+        """What each line declares. Impls, super clauses and fields are a tenth of all lines each, queries among them."""
+        # What the first of them speak of stands before them.
+        first = ["principal", "principal", "adt"]
+        held = ["impl", "super", "field"] * (size // 5)
+        others = [self.definition() for _ in range(size - len(first) - len(held))]
+        mixed = held + others
+        self.random.shuffle(mixed)
+        return first + mixed
+
+    def definition(self):
         chance = self.random.random()
-        if i == 0 or chance < 0.25:
-            return self.trait(krate, "Trait%d" % i)
+        if chance < 0.25:
+            return "trait"
         if chance < 0.3:
-            return self.foreign(krate, "Foreign%d" % i)
+            return "foreign"
         if chance < 0.4:
+            return "assoc"
+        return "adt"
+
+    def declaration(self, i, kind):
+        krate = self.random.randrange(10)
+        if kind == "impl":
+            return self.impl(krate, "Impl%d" % i)
+        if kind == "super":
+            return self.super_clause()
+        if kind == "field":
+            return self.field()
+        if kind == "principal":
+            return self.trait(krate, "Trait%d" % i, False)
+        if kind == "trait":
+            return self.trait(krate, "Trait%d" % i, self.random.random() < 0.05)
+        if kind == "foreign":
+            return self.foreign(krate, "Foreign%d" % i)
+        if kind == "assoc":
             return self.assoc("Item%d" % i)
         return self.adt(krate, "Type%d" % i)
 
-    def trait(self, krate, name):
-        auto = self.random.random() < 0.05
+    def impl(self, krate, name):
+        self.parameters = self.random.choice([0, 1, 1, 2, 2, 3])
+        trait, arity = self.random.choice(self.traits)
+        sign = self.random.choice(["+"] * 18 + ["-", "reservation"])
+        words = ["impl", str(krate), name, str(self.parameters), sign, trait]
+        self.add_named(words, self.random.choice(self.data_types()), 2)
+        for _ in range(arity):
+            self.add_type(words, self.random.randrange(3))
+        return " ".join(words)
+
+    def data_types(self):
+        """The lists of declared types that have members."""
+        return [kind for kind in (self.local, self.fundamental, self.others) if kind]
+
+    def super_clause(self):
+        """A clause about `Self`, by a trait that was declared before the other, so that no cycle comes."""
+        number = self.random.randrange(1, len(self.principals))
+        trait, arity = self.principals[number]
+        self.parameters = arity + 1
+        if self.associated and self.random.random() < 0.2:
+            name, types = self.random.choice(self.associated)
+            types += 1
+        else:
+            name, types = self.principals[self.random.randrange(number)]
+        words = ["super", trait, name, "#0"]
+        for _ in range(types):
+            self.add_type(words, self.random.randrange(3))
+        return " ".join(words)
+
+    def field(self):
+        name, self.parameters = self.random.choice(self.adts)
+        words = ["field", name]
+        self.add_type(words, self.random.randrange(4))
+        return " ".join(words)
+
+    def trait(self, krate, name, auto):
         arity = 0 if auto else self.random.choice([0, 0, 0, 1, 1, 2])
         flags = ["auto"] if auto else []
         if self.random.random() < 0.1:
@@ -94,6 +158,7 @@ class Text:
         else:
             kind = self.others
         kind.append((name, arity))
+        self.adts.append((name, arity))
         return " ".join(["adt", str(krate), name, str(arity)] + flags)
 
     def query(self):
@@ -159,6 +224,10 @@ class Text:
 
     def leaf(self):
         chance = self.random.random()
+        if self.parameters is not None:
+            if chance < 0.4 and self.parameters > 0:
+                return "#%d" % self.random.randrange(self.parameters)
+            return self.random.choice(PRIMITIVES)
         if chance < 0.15:
             return "$%d" % self.random.randrange(256)
         if chance < 0.2:
