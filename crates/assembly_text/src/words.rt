@@ -34,7 +34,7 @@ impl<'a> Words<'a> {
 
     /// The next word, if one is left.
     pub fn next_word(&mut self) -> Option<&'a str> {
-        let rest = self.rest.trim_start_matches(' ');
+        let (_, rest) = self.rest.split_at_checked(spaces_before(self.rest))?;
         if rest.is_empty() {
             return None;
         }
@@ -84,6 +84,16 @@ pub fn listed<T: Copy>(table: &[(&'static str, T)], word: &str) -> Option<T> {
         }
     }
     None
+}
+
+/// Where the first byte stands that is no space, or the end of the text.
+fn spaces_before(text: &str) -> usize {
+    for (start, byte) in text.bytes().enumerate() {
+        if byte != b' ' {
+            return start;
+        }
+    }
+    text.len()
 }
 
 /// Where the first space stands, or the end of the text.
