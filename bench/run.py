@@ -2,9 +2,10 @@
 """How fast the program `assembly` answers, and how much memory it takes.
 
 `python3 bench/run.py` builds the program with its proofs, makes 100,000 declarations and 100,000
-queries, and a tenth of both, and runs the program on each. It prints queries a second, the peak of
+queries, a tenth and a hundredth of both, and runs the program on each. Of all lines a tenth each are impls, super
+clauses and fields. It prints queries a second, the peak of
 memory, the time beside that of only reading the same input and writing the same output, and how
-time and memory grow from the smaller text to the larger one. Where `rustc` is there, time and peak of
+time and memory grow from each text to the next larger one. Where `rustc` is there, time and peak of
 memory stand beside those of two programs in plain Rust (`bench/plain`): one with the same algorithm and
 data, and a lean one. Where `valgrind` is there, the instructions are counted too. It judges nothing.
 """
@@ -385,11 +386,12 @@ def main():
     build()
     with tempfile.TemporaryDirectory() as folder:
         plain = build_plain(folder)
-        small = measure(folder, max(given.size // 10, 10), given.seed, given.rounds, plain)
-        large = measure(folder, given.size, given.seed, given.rounds, plain)
-    ratio = large[2] / small[2]
-    growth("time", small[0], large[0], ratio)
-    growth("memory", small[1], large[1], ratio)
+        sizes = [max(given.size // part, 10) for part in (100, 10, 1)]
+        measured = [measure(folder, size, given.seed, given.rounds, plain) for size in sizes]
+    for small, large in zip(measured, measured[1:]):
+        ratio = large[2] / small[2]
+        growth("time", small[0], large[0], ratio)
+        growth("memory", small[1], large[1], ratio)
 
 
 if __name__ == "__main__":

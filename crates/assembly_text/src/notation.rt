@@ -29,13 +29,12 @@ pub enum Head {
 /// What the first word of a type makes of the words that follow, or none where only a name can say it.
 ///
 /// `Fault::BadNumber` comes where the number in the word is too great, `Fault::UnknownName` where
-/// the word has a mark, but no number. The first byte tells what the word can be; a capital letter begins only names.
+/// the word has a mark, but no number.
 pub fn head_of<'a>(word: &'a str) -> Result<Option<Head>, Fault<'a>>
     ensures { IfOk result (λ found. IfSome found IsChildless) }
 {
     match word.as_bytes().first() {
-        Some(b'A'..=b'Z') => Ok(None),
-        Some(b'a'..=b'z') => lettered_head(word),
+        Some(b'A'..=b'Z' | b'a'..=b'z') => lettered_head(word),
         Some(mark) => match word.split_at_checked(1) {
             Some((_, rest)) => marked_head(word, *mark, rest),
             None => Ok(None),
@@ -44,6 +43,7 @@ pub fn head_of<'a>(word: &'a str) -> Result<Option<Head>, Fault<'a>>
     }
 }
 
+#[inline(never)]
 fn lettered_head<'a>(word: &'a str) -> Result<Option<Head>, Fault<'a>>
     ensures { IfOk result (λ found. IfSome found IsChildless) }
 {
@@ -60,6 +60,7 @@ fn lettered_head<'a>(word: &'a str) -> Result<Option<Head>, Fault<'a>>
 }
 
 /// What a word makes that is this mark and the rest.
+#[inline(never)]
 fn marked_head<'a>(word: &'a str, mark: u8, rest: &str) -> Result<Option<Head>, Fault<'a>>
     ensures { IfOk result (λ found. IfSome found IsChildless) }
 {

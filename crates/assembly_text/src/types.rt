@@ -17,7 +17,7 @@ use crate::faults::Fault;
 use crate::making::{Draft, Maker};
 use crate::names::{Item, NamedTrait, Names};
 use crate::notation::{Head, head_of, word_of};
-use crate::words::Words;
+use crate::words::{Words, begins_with_capital};
 use candidate_ir::decl::context::Cx;
 use candidate_ir::ir::kinds::{
     Args, AssocId, Binder, Clause, Const, ConstKind, ExistentialPredicate, GenericArg, InferTy,
@@ -225,6 +225,10 @@ impl<'a, M: Maker> Scope<'a, M> {
     fn head(&self, word: &'a str) -> Result<Head, Fault<'a>>
         ensures { IfOk result IsChildless }
     {
+        // Only names begin with a capital letter.
+        if begins_with_capital(word) {
+            return self.named_head(word);
+        }
         match head_of(word)? {
             Some(head) => Ok(head),
             None => self.named_head(word),

@@ -123,6 +123,14 @@ pub fn begins_with_letter(word: &str) -> bool {
     }
 }
 
+/// Whether the first byte is a capital letter.
+pub fn begins_with_capital(word: &str) -> bool {
+    match word.as_bytes().first() {
+        Some(byte) => byte.is_ascii_uppercase(),
+        None => false,
+    }
+}
+
 /// Whether the text is decimal digits, at least one.
 pub fn is_digits(text: &str) -> bool {
     for byte in text.bytes() {
