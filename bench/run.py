@@ -3,7 +3,7 @@
 
 `python3 bench/run.py` builds the program with its proofs, makes 100,000 declarations and 100,000
 queries, a tenth and a hundredth of both, and runs the program on each. Of all lines a tenth each are impls, super
-clauses and fields. It prints queries a second, the peak of
+clauses and fields. It prints queries a second, by processor time, the peak of
 memory, the time beside that of only reading the same input and writing the same output, and how
 time and memory grow from each text to the next larger one. Where `rustc` is there, time and peak of
 memory stand beside those of two programs in plain Rust (`bench/plain`): one with the same algorithm and
@@ -281,12 +281,13 @@ def start(text, answers, program=PROGRAM):
 
 
 def seconds_of_run(text, answers, program=PROGRAM):
-    begin = time.perf_counter()
-    status = start(text, answers, program).wait()
-    end = time.perf_counter()
-    if status != 0:
-        sys.exit("the program ended with status %d" % status)
-    return end - begin
+    """The processor time of a run, which other work on the machine changes less than what a clock says."""
+    child = start(text, answers, program)
+    _, status, used = os.wait4(child.pid, 0)
+    child.returncode = os.waitstatus_to_exitcode(status)
+    if child.returncode != 0:
+        sys.exit("the program ended with status %d" % child.returncode)
+    return used.ru_utime + used.ru_stime
 
 
 def peak_of(pid):
@@ -314,14 +315,14 @@ def seconds_of_copy(text, answers, to):
     """The time that reading the text and writing the answers takes by themselves."""
     with open(answers, "rb") as given:
         output = given.read()
-    begin = time.perf_counter()
+    begin = time.process_time()
     with open(text, "rb", buffering=0) as given:
         while given.read(8192):
             pass
     with open(to, "wb", buffering=0) as taken:
         for at in range(0, len(output), 8192):
             taken.write(output[at : at + 8192])
-    return time.perf_counter() - begin
+    return time.process_time() - begin
 
 
 def compare(text, answers, memory, rounds, plain):
@@ -339,7 +340,8 @@ def compare(text, answers, memory, rounds, plain):
         if counted is not None:
             print("    instructions     %.2f times" % (counted / instructions_of_run(text, program)))
         print("    time             %.2f times" % (min(ours for ours, _ in times) / min(other for _, other in times)))
-        print("    memory           %.2f times" % (memory / memory_of_run(text, theirs, program)))
+        taken = max(memory_of_run(text, theirs, program) for _ in range(rounds))
+        print("    memory           %.2f times" % (memory / max(taken, 1)))
 
 
 def measure(folder, size, seed, rounds, plain):

@@ -10,6 +10,7 @@ use std::io::{self, BufWriter, Read, Write};
 const CRATES: u32 = 10;
 const MAX_HEIGHT: u32 = 1024;
 const WALK_DEPTH: u16 = 256;
+const FEW_TYPES: usize = 4;
 const TRIED_PLACES: usize = 8;
 
 #[derive(Clone, Copy, PartialEq)]
@@ -533,11 +534,12 @@ impl<'a> Program<'a> {
     fn finish(&mut self) {
         let held = self.all_held();
         assert!(!self.has_unknown_id(&held));
-        assert!(!self.has_wrong_parameters(&held));
+        let are_plain = held.iter().all(|held| self.is_plain(held.number, self.parameter_count(held.owner)));
+        assert!(!self.has_wrong_parameters(&held, are_plain));
         assert!(self.rows.iter().all(|row| self.node_fits(&row.node)));
         assert!(self.contents.impls.iter().all(|of| self.takes_after_self(Sort::Trait, of.of, self.list(of.args))));
-        assert!(!held.iter().any(|held| self.held_misplaces(*held, Misplaced::Stray)));
-        assert!(!held.iter().any(|held| self.escapes(held.number)));
+        assert!(are_plain || !held.iter().any(|held| self.held_misplaces(*held, Misplaced::Stray)));
+        assert!(are_plain || !held.iter().any(|held| self.escapes(held.number)));
         assert!(!self.definitions.iter().any(|definition| self.has_wrong_super(definition.kind)));
         assert!(!self.has_supertrait_cycle());
         assert!(!self.definitions.iter().any(|definition| self.lacks_tail(definition.kind)));
@@ -608,7 +610,7 @@ impl<'a> Program<'a> {
             || self.rows.iter().any(is_unknown)
     }
 
-    fn has_wrong_parameters(&self, held: &[Held]) -> bool {
+    fn has_wrong_parameters(&self, held: &[Held], are_plain: bool) -> bool {
         let has_wrong_arity = |definition: &Declaration| match definition.kind {
             DefinitionKind::Adt(_) => definition.flags.is_phantom && definition.parameters.count() == 0,
             DefinitionKind::Trait(_) => definition.flags.is_auto && definition.parameters.count() > 0,
@@ -616,7 +618,7 @@ impl<'a> Program<'a> {
         };
         self.definitions.iter().any(has_wrong_arity)
             || self.definitions.iter().any(|definition| self.unsizes_past(definition))
-            || held.iter().any(|held| self.held_misplaces(*held, Misplaced::Past))
+            || !are_plain && held.iter().any(|held| self.held_misplaces(*held, Misplaced::Past))
     }
 
     fn unsizes_past(&self, definition: &Declaration) -> bool {
@@ -631,16 +633,30 @@ impl<'a> Program<'a> {
         !adt.unsizing.is_empty() && adt.fields.is_empty()
     }
 
-    fn held_misplaces(&self, held: Held, what: Misplaced) -> bool {
-        let count = match held.owner {
+    fn parameter_count(&self, owner: Owner) -> usize {
+        match owner {
             Owner::Impl(number) => self.contents.impls[number].parameters.count(),
             Owner::Definition(number) => {
                 let definition = &self.definitions[number];
                 let has_self = matches!(definition.kind, DefinitionKind::Trait(_) | DefinitionKind::Assoc(..));
                 definition.parameters.count() + usize::from(has_self)
             }
+        }
+    }
+
+    /// Whether each node of the tree shows by itself that it may stand where so many parameters are.
+    fn is_plain(&self, number: u32, count: usize) -> bool {
+        let node = &self.rows[number as usize].node;
+        let is_plain = match node {
+            Node::Ty(Kind::Param(i)) => (*i as usize) < count,
+            Node::Ty(Kind::Infer(_) | Kind::Placeholder(_)) => false,
+            _ => true,
         };
-        self.misplaces(held.number, what, count)
+        is_plain && (0..node.child_count()).all(|i| self.is_plain(node.child(i), count))
+    }
+
+    fn held_misplaces(&self, held: Held, what: Misplaced) -> bool {
+        self.misplaces(held.number, what, self.parameter_count(held.owner))
     }
 
     fn misplaces(&self, number: u32, what: Misplaced, count: usize) -> bool {
@@ -803,7 +819,7 @@ impl<'a> Program<'a> {
     }
 
     fn read_args(&mut self, words: &mut Words<'a>, count: u32) -> Result<u32, Stop> {
-        let mut list = Vec::new();
+        let mut list = Vec::with_capacity((count as usize).min(FEW_TYPES));
         for _ in 0..count {
             list.push(self.read_type(words)?);
         }
