@@ -145,10 +145,10 @@ closed n (tree h below rest) e =
 
 pub plain_tree : (ks : List VarKind) (t : Tree) → tree_holds (is_doubtful ks) t ≡ false → TreeIsPlain t (Some ks)
 plain_tree ks t e = record {
-    past = tree-weaker (is_doubtful ks) (is_misplaced M.Past ks) (λ h d. or-left (is_misplaced M.Past ks h) (is_misplaced M.Stray ks h || is_beyond 0 h) d) t e;
-    stray = tree-weaker (is_doubtful ks) (is_misplaced M.Stray ks) (λ h d. or-left (is_misplaced M.Stray ks h) (is_beyond 0 h) (or-right (is_misplaced M.Past ks h) (is_misplaced M.Stray ks h || is_beyond 0 h) d)) t e;
-    closed = λ n. at n (tree-weaker (is_doubtful ks) (is_beyond 0) (λ h d. or-right (is_misplaced M.Stray ks h) (is_beyond 0 h) (or-right (is_misplaced M.Past ks h) (is_misplaced M.Stray ks h || is_beyond 0 h) d)) t e)
-  }
+  past = tree-weaker (is_doubtful ks) (is_misplaced M.Past ks) (λ h d. or-left (is_misplaced M.Past ks h) (is_misplaced M.Stray ks h || is_beyond 0 h) d) t e;
+  stray = tree-weaker (is_doubtful ks) (is_misplaced M.Stray ks) (λ h d. or-left (is_misplaced M.Stray ks h) (is_beyond 0 h) (or-right (is_misplaced M.Past ks h) (is_misplaced M.Stray ks h || is_beyond 0 h) d)) t e;
+  closed = λ n. at n (tree-weaker (is_doubtful ks) (is_beyond 0) (λ h d. or-right (is_misplaced M.Stray ks h) (is_beyond 0 h) (or-right (is_misplaced M.Past ks h) (is_misplaced M.Stray ks h || is_beyond 0 h) d)) t e);
+}
   where
     at : (n : ℕ) → tree_holds (is_beyond 0) t ≡ false → tree_escapes n t ≡ false
     at n b = rw (never-beyond n t.head (or-left (is_beyond 0 t.head) (holds (is_beyond 0) t.children) b))
@@ -169,14 +169,14 @@ none_yet ts ds is hs = record { past = refl; stray = refl; closed = refl }
 pub one_more : (ts : List Tree) (ds : List Declaration) (is : List Impl) (hs : List Held) (i : ℕ) (h : Held) → i < length hs → h ≡ get_or hs i h → HeldIsPlain ts ds is h
     → NoneUpTo ts ds is hs i → NoneUpTo ts ds is hs (i + 1)
 one_more ts ds is hs i h l e p n = record {
-    past = any_on (held_misplaces M.Past ts ds is) hs i h l e p.past n.past;
-    stray = any_on (held_misplaces M.Stray ts ds is) hs i h l e p.stray n.stray;
-    closed = any_on (held_escapes ts) hs i h l e p.closed n.closed
-  }
+  past = any_on (held_misplaces M.Past ts ds is) hs i h l e p.past n.past;
+  stray = any_on (held_misplaces M.Stray ts ds is) hs i h l e p.stray n.stray;
+  closed = any_on (held_escapes ts) hs i h l e p.closed n.closed;
+}
 
 pub all_plain : (ts : List Tree) (ds : List Declaration) (is : List Impl) (hs : List Held) (i : ℕ) → length hs ≤ i → NoneUpTo ts ds is hs i → AllArePlain ts ds is hs
 all_plain ts ds is hs i l n = record {
-    past = any_past (held_misplaces M.Past ts ds is) hs i l n.past;
-    stray = any_past (held_misplaces M.Stray ts ds is) hs i l n.stray;
-    closed = any_past (held_escapes ts) hs i l n.closed
-  }
+  past = any_past (held_misplaces M.Past ts ds is) hs i l n.past;
+  stray = any_past (held_misplaces M.Stray ts ds is) hs i l n.stray;
+  closed = any_past (held_escapes ts) hs i l n.closed;
+}
