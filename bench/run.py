@@ -2,9 +2,10 @@
 """How fast the program `assembly` answers, and how much memory it takes.
 
 `python3 bench/run.py` builds the program with its proofs, makes 100,000 declarations and 100,000
-queries, and a tenth of both, and runs the program on each. It prints queries a second, the peak of
+queries, a tenth and a hundredth of both, and runs the program on each. Of all lines a tenth each are impls, super
+clauses and fields. It prints queries a second, by processor time, the peak of
 memory, the time beside that of only reading the same input and writing the same output, and how
-time and memory grow from the smaller text to the larger one. Where `rustc` is there, time and peak of
+time and memory grow from each text to the next larger one. Where `rustc` is there, time and peak of
 memory stand beside those of two programs in plain Rust (`bench/plain`): one with the same algorithm and
 data, and a lean one. Where `valgrind` is there, the instructions are counted too. It judges nothing.
 """
@@ -46,23 +47,87 @@ class Text:
         self.auto_traits = []
         self.principals = []
         self.associated = []
-        self.declarations = [self.declaration(i) for i in range(size)]
+        self.adts = []
+        # How many parameters may stand in the types of the line, or none where it asks.
+        self.parameters = None
+        self.declarations = [self.declaration(i, kind) for i, kind in enumerate(self.kinds(size))]
+        self.parameters = None
         self.queries = [self.query() for _ in range(size)]
 
-    def declaration(self, i):
-        krate = self.random.randrange(10)
-        # The first one is a trait, so that each query has one to ask for.
+    def kinds(self, size):
+        """What each line declares. Impls, super clauses and fields are a tenth of all lines each, queries among them."""
+        # What the first of them speak of stands before them.
+        first = ["principal", "principal", "adt"]
+        held = ["impl", "super", "field"] * (size // 5)
+        others = [self.definition() for _ in range(size - len(first) - len(held))]
+        mixed = held + others
+        self.random.shuffle(mixed)
+        return first + mixed
+
+    def definition(self):
         chance = self.random.random()
-        if i == 0 or chance < 0.25:
-            return self.trait(krate, "Trait%d" % i)
+        if chance < 0.25:
+            return "trait"
         if chance < 0.3:
-            return self.foreign(krate, "Foreign%d" % i)
+            return "foreign"
         if chance < 0.4:
+            return "assoc"
+        return "adt"
+
+    def declaration(self, i, kind):
+        krate = self.random.randrange(10)
+        if kind == "impl":
+            return self.impl(krate, "Impl%d" % i)
+        if kind == "super":
+            return self.super_clause()
+        if kind == "field":
+            return self.field()
+        if kind == "principal":
+            return self.trait(krate, "Trait%d" % i, False)
+        if kind == "trait":
+            return self.trait(krate, "Trait%d" % i, self.random.random() < 0.05)
+        if kind == "foreign":
+            return self.foreign(krate, "Foreign%d" % i)
+        if kind == "assoc":
             return self.assoc("Item%d" % i)
         return self.adt(krate, "Type%d" % i)
 
-    def trait(self, krate, name):
-        auto = self.random.random() < 0.05
+    def impl(self, krate, name):
+        self.parameters = self.random.choice([0, 1, 1, 2, 2, 3])
+        trait, arity = self.random.choice(self.traits)
+        sign = self.random.choice(["+"] * 18 + ["-", "reservation"])
+        words = ["impl", str(krate), name, str(self.parameters), sign, trait]
+        self.add_named(words, self.random.choice(self.data_types()), 2)
+        for _ in range(arity):
+            self.add_type(words, self.random.randrange(3))
+        return " ".join(words)
+
+    def data_types(self):
+        """The lists of declared types that have members."""
+        return [kind for kind in (self.local, self.fundamental, self.others) if kind]
+
+    def super_clause(self):
+        """A clause about `Self`, by a trait that was declared before the other, so that no cycle comes."""
+        number = self.random.randrange(1, len(self.principals))
+        trait, arity = self.principals[number]
+        self.parameters = arity + 1
+        if self.associated and self.random.random() < 0.2:
+            name, types = self.random.choice(self.associated)
+            types += 1
+        else:
+            name, types = self.principals[self.random.randrange(number)]
+        words = ["super", trait, name, "#0"]
+        for _ in range(types):
+            self.add_type(words, self.random.randrange(3))
+        return " ".join(words)
+
+    def field(self):
+        name, self.parameters = self.random.choice(self.adts)
+        words = ["field", name]
+        self.add_type(words, self.random.randrange(4))
+        return " ".join(words)
+
+    def trait(self, krate, name, auto):
         arity = 0 if auto else self.random.choice([0, 0, 0, 1, 1, 2])
         flags = ["auto"] if auto else []
         if self.random.random() < 0.1:
@@ -94,6 +159,7 @@ class Text:
         else:
             kind = self.others
         kind.append((name, arity))
+        self.adts.append((name, arity))
         return " ".join(["adt", str(krate), name, str(arity)] + flags)
 
     def query(self):
@@ -159,6 +225,10 @@ class Text:
 
     def leaf(self):
         chance = self.random.random()
+        if self.parameters is not None:
+            if chance < 0.4 and self.parameters > 0:
+                return "#%d" % self.random.randrange(self.parameters)
+            return self.random.choice(PRIMITIVES)
         if chance < 0.15:
             return "$%d" % self.random.randrange(256)
         if chance < 0.2:
@@ -211,12 +281,13 @@ def start(text, answers, program=PROGRAM):
 
 
 def seconds_of_run(text, answers, program=PROGRAM):
-    begin = time.perf_counter()
-    status = start(text, answers, program).wait()
-    end = time.perf_counter()
-    if status != 0:
-        sys.exit("the program ended with status %d" % status)
-    return end - begin
+    """The processor time of a run, which other work on the machine changes less than what a clock says."""
+    child = start(text, answers, program)
+    _, status, used = os.wait4(child.pid, 0)
+    child.returncode = os.waitstatus_to_exitcode(status)
+    if child.returncode != 0:
+        sys.exit("the program ended with status %d" % child.returncode)
+    return used.ru_utime + used.ru_stime
 
 
 def peak_of(pid):
@@ -244,14 +315,14 @@ def seconds_of_copy(text, answers, to):
     """The time that reading the text and writing the answers takes by themselves."""
     with open(answers, "rb") as given:
         output = given.read()
-    begin = time.perf_counter()
+    begin = time.process_time()
     with open(text, "rb", buffering=0) as given:
         while given.read(8192):
             pass
     with open(to, "wb", buffering=0) as taken:
         for at in range(0, len(output), 8192):
             taken.write(output[at : at + 8192])
-    return time.perf_counter() - begin
+    return time.process_time() - begin
 
 
 def compare(text, answers, memory, rounds, plain):
@@ -269,7 +340,8 @@ def compare(text, answers, memory, rounds, plain):
         if counted is not None:
             print("    instructions     %.2f times" % (counted / instructions_of_run(text, program)))
         print("    time             %.2f times" % (min(ours for ours, _ in times) / min(other for _, other in times)))
-        print("    memory           %.2f times" % (memory / memory_of_run(text, theirs, program)))
+        taken = max(memory_of_run(text, theirs, program) for _ in range(rounds))
+        print("    memory           %.2f times" % (memory / max(taken, 1)))
 
 
 def measure(folder, size, seed, rounds, plain):
@@ -316,11 +388,12 @@ def main():
     build()
     with tempfile.TemporaryDirectory() as folder:
         plain = build_plain(folder)
-        small = measure(folder, max(given.size // 10, 10), given.seed, given.rounds, plain)
-        large = measure(folder, given.size, given.seed, given.rounds, plain)
-    ratio = large[2] / small[2]
-    growth("time", small[0], large[0], ratio)
-    growth("memory", small[1], large[1], ratio)
+        sizes = [max(given.size // part, 10) for part in (100, 10, 1)]
+        measured = [measure(folder, size, given.seed, given.rounds, plain) for size in sizes]
+    for small, large in zip(measured, measured[1:]):
+        ratio = large[2] / small[2]
+        growth("time", small[0], large[0], ratio)
+        growth("memory", small[1], large[1], ratio)
 
 
 if __name__ == "__main__":

@@ -1,7 +1,8 @@
 //! What the program `assembly` does, as lean as plain Rust has it: numbers in place of references, one
-//! arena that each query uses anew, a map with a quick hash, and names that are slices of the text. It
-//! prints the same answers and the same bad lines, and is there to be measured beside the program. It
-//! ends by itself where memory is refused, and a text can pick names that share a hash.
+//! arena whose end each query uses anew, a map with a quick hash, and names that are slices of the text. It
+//! prints the same answers and the same bad lines, and is there to be measured beside the program. Of the
+//! lines for what definitions hold it knows `impl`, `super` and `field`, and no type of functions and arrays.
+//! It ends by itself where memory is refused, and a text can pick names that share a hash.
 
 use std::collections::HashMap;
 use std::fmt::Write as _;
@@ -59,6 +60,7 @@ enum Meaning {
     Word(u8),
     Pointer(u8),
     Definition(u32),
+    Impl,
 }
 
 #[derive(Clone, Copy, PartialEq)]
@@ -76,6 +78,54 @@ struct Definition<'a> {
     krate: u8,
     sort: Sort,
     is_fundamental: bool,
+    /// The fields of a data type and the super clauses of a trait, by their first nodes.
+    held: Vec<u32>,
+    /// The impls of a trait.
+    impls: Vec<u32>,
+}
+
+impl<'a> Definition<'a> {
+    /// A definition that isn't fundamental and holds nothing.
+    fn new(name: &'a str, arity: u16, krate: u8, sort: Sort) -> Self {
+        Definition { name, arity, krate, sort, is_fundamental: false, held: Vec::new(), impls: Vec::new() }
+    }
+
+    fn is_trait(&self) -> bool {
+        matches!(self.sort, Sort::Trait | Sort::AutoTrait)
+    }
+}
+
+#[derive(Clone, Copy)]
+enum Polarity {
+    Positive,
+    Negative,
+    Reservation,
+}
+
+/// An impl, whose arguments stand from the first node to the other. It is read and kept.
+#[allow(dead_code)]
+struct Impl {
+    krate: u8,
+    polarity: Polarity,
+    arity: u16,
+    of: u32,
+    first: u32,
+    end: u32,
+}
+
+/// In what the types of a line stand.
+#[derive(Clone, Copy)]
+enum Place {
+    /// A declaration with so many parameters, among them `Self`.
+    Declaration(u32),
+    Query,
+}
+
+#[derive(Clone, Copy, PartialEq)]
+enum Visit {
+    Unseen,
+    Open,
+    Done,
 }
 
 #[derive(Clone, Copy, PartialEq)]
@@ -84,6 +134,7 @@ enum Kind {
     Error,
     Infer,
     Placeholder,
+    Parameter,
     Ref,
     Pointer,
     Tuple,
@@ -93,9 +144,11 @@ enum Kind {
     Dyn,
     Bound,
     PrincipalBound,
+    TraitClause,
+    ProjectionClause,
 }
 
-/// A type or a bound. Its children stand behind it, one behind the other, up to `end`.
+/// A type, a bound or a clause. Its children stand behind it, one behind the other, up to `end`.
 #[derive(Clone, Copy)]
 struct Node {
     kind: Kind,
@@ -219,10 +272,16 @@ fn bracketed_number<'a>(word: &'a str, rest: &str) -> Result<u16, Fault<'a>> {
 struct Program<'a> {
     local: u8,
     has_wrong_arity: bool,
+    /// Whether a placeholder stands in what is held, or a super clause isn't about `Self`.
+    has_stray: bool,
     has_asked: bool,
+    place: Place,
     meanings: Map<'a>,
     definitions: Vec<Definition<'a>>,
+    impls: Vec<Impl>,
     nodes: Vec<Node>,
+    /// How many nodes the declarations have.
+    declared: usize,
     non_local: Vec<(u32, bool)>,
     answer: String,
 }
@@ -239,10 +298,14 @@ impl<'a> Program<'a> {
         Program {
             local: 0,
             has_wrong_arity: false,
+            has_stray: false,
             has_asked: false,
+            place: Place::Query,
             meanings,
             definitions: Vec::new(),
+            impls: Vec::new(),
             nodes: Vec::new(),
+            declared: 0,
             non_local: Vec::new(),
             answer: String::new(),
         }
@@ -272,7 +335,7 @@ impl<'a> Program<'a> {
             return Err(Fault::Named("bad name ", word));
         }
         match self.meanings.get(word) {
-            Some(Meaning::Definition(_)) => Err(Fault::Named("name twice ", word)),
+            Some(Meaning::Definition(_) | Meaning::Impl) => Err(Fault::Named("name twice ", word)),
             Some(_) => Err(Fault::Named("bad name ", word)),
             None => Ok(word),
         }
@@ -286,6 +349,9 @@ impl<'a> Program<'a> {
                 self.local = local;
                 return Ok(());
             }
+            "impl" => return self.impl_line(words),
+            "super" => return self.super_line(words),
+            "field" => return self.field(words),
             "assoc" => self.assoc(words)?,
             _ => self.of_crate(command, words)?,
         };
@@ -302,13 +368,131 @@ impl<'a> Program<'a> {
                 return Err(Fault::Named("bad flag ", flag));
             }
         }
-        Ok(Definition { name, arity: of.arity, krate: of.krate, sort: Sort::Assoc, is_fundamental: false })
+        Ok(Definition::new(name, of.arity, of.krate, Sort::Assoc))
+    }
+
+    fn impl_line(&mut self, words: &mut Words<'a>) -> Result<(), Fault<'a>> {
+        let krate = words.number(CRATES - 1)? as u8;
+        let name = self.unused(words.word()?)?;
+        let arity = words.number(u16::MAX)?;
+        let polarity = match words.word()? {
+            "+" => Polarity::Positive,
+            "-" => Polarity::Negative,
+            "reservation" => Polarity::Reservation,
+            word => return Err(Fault::Named("bad flag ", word)),
+        };
+        let of = self.trait_named(words.word()?)?;
+        let types = u32::from(self.definitions[of as usize].arity) + 1;
+        let first = self.nodes.len() as u32;
+        self.place = Place::Declaration(u32::from(arity));
+        self.read_types(words, types, DEEPEST)?;
+        words.end()?;
+        self.meanings.insert(name, Meaning::Impl);
+        self.definitions[of as usize].impls.push(self.impls.len() as u32);
+        let end = self.nodes.len() as u32;
+        self.impls.push(Impl { krate, polarity, arity, of, first, end });
+        Ok(())
+    }
+
+    fn super_line(&mut self, words: &mut Words<'a>) -> Result<(), Fault<'a>> {
+        let of = self.trait_named(words.word()?)?;
+        self.place = Place::Declaration(u32::from(self.definitions[of as usize].arity) + 1);
+        let clause = self.read_clause(words)?;
+        words.end()?;
+        let subject = self.nodes[clause + 1];
+        self.has_stray |= subject.kind != Kind::Parameter || subject.value != 0;
+        self.definitions[of as usize].held.push(clause as u32);
+        Ok(())
+    }
+
+    fn field(&mut self, words: &mut Words<'a>) -> Result<(), Fault<'a>> {
+        let word = words.word()?;
+        let of = self.definition(word)? as usize;
+        if self.definitions[of].sort != Sort::Adt {
+            return Err(Fault::Named("unknown name ", word));
+        }
+        self.place = Place::Declaration(u32::from(self.definitions[of].arity));
+        let ty = self.nodes.len() as u32;
+        self.read_type(words, DEEPEST)?;
+        words.end()?;
+        self.definitions[of].held.push(ty);
+        Ok(())
+    }
+
+    /// The number of the clause's node, behind which its types stand.
+    fn read_clause(&mut self, words: &mut Words<'a>) -> Result<usize, Fault<'a>> {
+        let word = words.word()?;
+        let number = self.definition(word)?;
+        let found = &self.definitions[number as usize];
+        let (kind, types) = match found.sort {
+            Sort::Trait | Sort::AutoTrait => (Kind::TraitClause, u32::from(found.arity) + 1),
+            Sort::Assoc => (Kind::ProjectionClause, u32::from(found.arity) + 2),
+            Sort::Adt | Sort::Foreign => return Err(Fault::Named("unknown name ", word)),
+        };
+        let at = self.add(kind, number);
+        self.read_types(words, types, DEEPEST)?;
+        self.nodes[at].end = self.nodes.len() as u32;
+        Ok(at)
+    }
+
+    /// Whether a trait is its own supertrait.
+    fn has_supertrait_cycle(&self) -> bool {
+        let mut visits = vec![Visit::Unseen; self.definitions.len()];
+        let mut stack = Vec::new();
+        for number in 0..self.definitions.len() {
+            if visits[number] != Visit::Unseen || !self.definitions[number].is_trait() {
+                continue;
+            }
+            visits[number] = Visit::Open;
+            stack.push((number, 0));
+            while let Some((number, looked)) = stack.pop() {
+                let Some(clause) = self.definitions[number].held.get(looked) else {
+                    visits[number] = Visit::Done;
+                    continue;
+                };
+                stack.push((number, looked + 1));
+                let clause = self.nodes[*clause as usize];
+                if clause.kind != Kind::TraitClause {
+                    continue;
+                }
+                let of = clause.value as usize;
+                match visits[of] {
+                    Visit::Open => return true,
+                    Visit::Done => {}
+                    Visit::Unseen => {
+                        visits[of] = Visit::Open;
+                        stack.push((of, 0));
+                    }
+                }
+            }
+        }
+        false
+    }
+
+    /// Ends the declarations, if they haven't ended yet.
+    fn finish(&mut self) -> Result<(), Fault<'a>> {
+        if self.has_asked {
+            return Ok(());
+        }
+        if self.has_wrong_arity {
+            return Err(Fault::Plain("declaration fault 2"));
+        }
+        if self.has_stray {
+            return Err(Fault::Plain("declaration fault 3"));
+        }
+        if self.has_supertrait_cycle() {
+            return Err(Fault::Plain("declaration fault 4"));
+        }
+        self.has_asked = true;
+        self.place = Place::Query;
+        self.declared = self.nodes.len();
+        Ok(())
     }
 
     fn of_crate(&mut self, command: &str, words: &mut Words<'a>) -> Result<Definition<'a>, Fault<'a>> {
         let krate = words.number(CRATES - 1)? as u8;
         let name = self.unused(words.word()?)?;
-        let mut made = Definition { name, arity: 0, krate, sort: Sort::Foreign, is_fundamental: false };
+        let mut made = Definition::new(name, 0, krate, Sort::Foreign);
         match command {
             "adt" => {
                 made.sort = Sort::Adt;
@@ -391,6 +575,7 @@ impl<'a> Program<'a> {
                 let kind = if *number < 2 { Kind::Ref } else { Kind::Pointer };
                 Ok((self.add(kind, u32::from(*number)), 1))
             }
+            Some(Meaning::Impl) => Err(Fault::Named("unknown name ", word)),
             Some(Meaning::Definition(number)) => {
                 let number = *number;
                 let found = &self.definitions[number as usize];
@@ -410,15 +595,23 @@ impl<'a> Program<'a> {
         match word.as_bytes()[0] {
             b'$' => {
                 let number = marked_number(word, &word[1..], 255)?;
-                Ok((self.add(Kind::Infer, u32::from(number)), 0))
+                match self.place {
+                    Place::Declaration(_) => Err(Fault::Plain("variable")),
+                    Place::Query => Ok((self.add(Kind::Infer, u32::from(number)), 0)),
+                }
             }
             b'!' => {
                 let number = marked_number(word, &word[1..], u16::MAX)?;
+                self.has_stray = true;
                 Ok((self.add(Kind::Placeholder, u32::from(number)), 0))
             }
             b'#' => {
-                marked_number(word, &word[1..], u16::MAX)?;
-                Err(Fault::Plain("parameter"))
+                let number = u32::from(marked_number(word, &word[1..], u16::MAX)?);
+                let Place::Declaration(count) = self.place else {
+                    return Err(Fault::Plain("parameter"));
+                };
+                self.has_wrong_arity |= number >= count;
+                Ok((self.add(Kind::Parameter, number), 0))
             }
             b'(' => {
                 let count = u32::from(bracketed_number(word, &word[1..])?);
@@ -526,7 +719,7 @@ impl<'a> Program<'a> {
     fn walk(&mut self, in_crate: InCrate, seeks_local: bool) -> Result<(), Exit> {
         self.non_local.clear();
         let mut walk = Walk { in_crate, seeks_local, is_first: true };
-        self.visit_all(&mut walk, 0, self.nodes.len() as u32, WALK_DEPTH)
+        self.visit_all(&mut walk, self.declared as u32, self.nodes.len() as u32, WALK_DEPTH)
     }
 
     /// The answer of the check. The types that aren't local are left behind.
@@ -559,7 +752,7 @@ impl<'a> Program<'a> {
 
     /// Leaves the answer to the query behind, or a stop.
     fn query(&mut self, in_crate: Option<InCrate>, words: &mut Words<'a>) -> Result<Result<(), u8>, Fault<'a>> {
-        self.nodes.clear();
+        self.nodes.truncate(self.declared);
         self.answer.clear();
         let of = self.trait_named(words.word()?)?;
         let count = u32::from(self.definitions[of as usize].arity) + 1;
@@ -630,7 +823,7 @@ impl<'a> Program<'a> {
         };
         match command {
             "orphan" | "knowable" => self.query_line(command, &mut words, output),
-            "local" | "adt" | "foreign" | "trait" | "assoc" => {
+            "local" | "adt" | "foreign" | "trait" | "assoc" | "impl" | "super" | "field" => {
                 if self.has_asked {
                     return Err(Fault::Plain("late declaration").into());
                 }
@@ -641,10 +834,7 @@ impl<'a> Program<'a> {
     }
 
     fn query_line(&mut self, command: &str, words: &mut Words<'a>, output: &mut impl Write) -> Result<(), Halt<'a>> {
-        if self.has_wrong_arity {
-            return Err(Fault::Plain("declaration fault 2").into());
-        }
-        self.has_asked = true;
+        self.finish()?;
         let in_crate = match command {
             "knowable" => None,
             _ => Some(match words.word()? {

@@ -138,6 +138,7 @@ pub fn construct<'a, M: Maker>(
 }
 
 /// The pointer to functions from these types to the other one, which the word begins.
+#[inline(never)]
 pub fn fn_pointer<'a, M: Maker>(
     maker: &mut M,
     list: Vec<GenericArg>,
@@ -166,6 +167,7 @@ pub fn fn_pointer<'a, M: Maker>(
 }
 
 /// The `dyn` type of these bounds, which the word begins.
+#[inline(never)]
 pub fn dyn_type<'a, M: Maker>(
     maker: &mut M,
     bounds: Vec<Binder<ExistentialPredicate>>,

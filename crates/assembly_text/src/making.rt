@@ -178,7 +178,7 @@ impl Maker for Draft {
     }
 
     fn args(&mut self, list: Vec<GenericArg>) -> Result<Args, Stop> {
-        self.builder.mk_args(list.as_slice())
+        self.builder.mk_arg_list(list)
     }
 
     fn no_vars(&mut self) -> Result<Vars, Stop> {

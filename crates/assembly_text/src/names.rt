@@ -165,6 +165,7 @@ impl<'a> Names<'a> {
     }
 
     /// What the entry is, if that is its name.
+    #[inline(always)]
     fn item_if_named(&self, entry: u32, word: &str) -> Option<Item> {
         let found = self.entries.get(entry as usize)?;
         if found.name == word {

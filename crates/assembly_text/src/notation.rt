@@ -5,7 +5,7 @@ ghost use Rattle.assembly_text.specs.Notation.{IsChildless, IsLeaf};
 
 use crate::building::{Constructor, Pointer};
 use crate::faults::Fault;
-use crate::words::{begins_with_letter, is_digits, number_in};
+use crate::words::{is_digits, number_in};
 use candidate_ir::ir::kinds::{FloatTy, InferTy, IntTy, Mutability, Placeholder, TyKind, UintTy};
 
 /// The greatest number of a variable.
@@ -33,32 +33,23 @@ pub enum Head {
 pub fn head_of<'a>(word: &'a str) -> Result<Option<Head>, Fault<'a>>
     ensures { IfOk result (λ found. IfSome found IsChildless) }
 {
-    if let Some(kind) = leaf(word) {
-        return Ok(Some(Head::Leaf(kind)));
-    }
-    if begins_with_letter(word) {
-        return lettered_head(word);
-    }
-    if let Some(pointer) = pointer_of(word) {
-        return Ok(Some(Head::Before(pointer)));
-    }
-    marked_head(word)
-}
-
-fn pointer_of(word: &str) -> Option<Pointer> {
-    match word {
-        "&" => Some(Pointer::Ref(Mutability::Not)),
-        "&mut" => Some(Pointer::Ref(Mutability::Mut)),
-        "*const" => Some(Pointer::RawPtr(Mutability::Not)),
-        "*mut" => Some(Pointer::RawPtr(Mutability::Mut)),
-        "[]" => Some(Pointer::Slice),
-        _ => None,
+    match word.as_bytes().first() {
+        Some(b'A'..=b'Z' | b'a'..=b'z') => lettered_head(word),
+        Some(mark) => match word.split_at_checked(1) {
+            Some((_, rest)) => marked_head(word, *mark, rest),
+            None => Ok(None),
+        },
+        None => Ok(None),
     }
 }
 
+#[inline(never)]
 fn lettered_head<'a>(word: &'a str) -> Result<Option<Head>, Fault<'a>>
     ensures { IfOk result (λ found. IfSome found IsChildless) }
 {
+    if let Some(kind) = leaf(word) {
+        return Ok(Some(Head::Leaf(kind)));
+    }
     if let Some(rest) = word.strip_prefix("dyn(") {
         return Ok(Some(Head::Dyn(bracketed_number(word, rest)?)));
     }
@@ -68,29 +59,70 @@ fn lettered_head<'a>(word: &'a str) -> Result<Option<Head>, Fault<'a>>
     Ok(None)
 }
 
-fn marked_head<'a>(word: &'a str) -> Result<Option<Head>, Fault<'a>>
+/// What a word makes that is this mark and the rest.
+#[inline(never)]
+fn marked_head<'a>(word: &'a str, mark: u8, rest: &str) -> Result<Option<Head>, Fault<'a>>
     ensures { IfOk result (λ found. IfSome found IsChildless) }
 {
-    if let Some(digits) = word.strip_prefix('$') {
-        let number = u32::from(marked_number(word, digits, LAST_VARIABLE)?);
-        return Ok(Some(Head::Leaf(TyKind::Infer(InferTy::TyVar(number)))));
+    match mark {
+        b'&' => Ok(reference_head(rest)),
+        b'*' => Ok(raw_pointer_head(rest)),
+        b'[' => Ok(Some(bracket_head(word, rest)?)),
+        b'(' => {
+            let count = u32::from(bracketed_number(word, rest)?);
+            Ok(Some(Head::Over(Constructor::Tuple, count)))
+        }
+        b'$' => {
+            let number = u32::from(marked_number(word, rest, LAST_VARIABLE)?);
+            Ok(Some(Head::Leaf(TyKind::Infer(InferTy::TyVar(number)))))
+        }
+        b'!' => Ok(Some(Head::Leaf(never_or_placeholder(word, rest)?))),
+        b'#' => {
+            let index = u32::from(marked_number(word, rest, u16::MAX)?);
+            Ok(Some(Head::Leaf(TyKind::Param(index))))
+        }
+        _ => Ok(None),
     }
-    if let Some(digits) = word.strip_prefix('!') {
-        let index = u32::from(marked_number(word, digits, u16::MAX)?);
-        return Ok(Some(Head::Leaf(TyKind::Placeholder(Placeholder { universe: 0, index }))));
+}
+
+fn reference_head(rest: &str) -> Option<Head>
+    ensures { IfSome result IsChildless }
+{
+    match rest {
+        "" => Some(Head::Before(Pointer::Ref(Mutability::Not))),
+        "mut" => Some(Head::Before(Pointer::Ref(Mutability::Mut))),
+        _ => None,
     }
-    if let Some(rest) = word.strip_prefix('(') {
-        let count = u32::from(bracketed_number(word, rest)?);
-        return Ok(Some(Head::Over(Constructor::Tuple, count)));
+}
+
+fn raw_pointer_head(rest: &str) -> Option<Head>
+    ensures { IfSome result IsChildless }
+{
+    match rest {
+        "const" => Some(Head::Before(Pointer::RawPtr(Mutability::Not))),
+        "mut" => Some(Head::Before(Pointer::RawPtr(Mutability::Mut))),
+        _ => None,
     }
-    if let Some(digits) = word.strip_prefix('#') {
-        let index = u32::from(marked_number(word, digits, u16::MAX)?);
-        return Ok(Some(Head::Leaf(TyKind::Param(index))));
+}
+
+/// A slice, or an array of the length in the rest.
+fn bracket_head<'a>(word: &'a str, rest: &str) -> Result<Head, Fault<'a>>
+    ensures { IfOk result IsChildless }
+{
+    if rest == "]" {
+        return Ok(Head::Before(Pointer::Slice));
     }
-    if let Some(rest) = word.strip_prefix('[') {
-        return Ok(Some(Head::Before(Pointer::Array(array_length(word, rest)?))));
+    Ok(Head::Before(Pointer::Array(array_length(word, rest)?)))
+}
+
+fn never_or_placeholder<'a>(word: &'a str, rest: &str) -> Result<TyKind, Fault<'a>>
+    ensures { IfOk result IsLeaf }
+{
+    if rest.is_empty() {
+        return Ok(TyKind::Never);
     }
-    Ok(None)
+    let index = u32::from(marked_number(word, rest, u16::MAX)?);
+    Ok(TyKind::Placeholder(Placeholder { universe: 0, index }))
 }
 
 /// The number in the rest of a word after the bracket of an array.
@@ -117,7 +149,7 @@ fn marked_number<'a>(word: &'a str, digits: &str, most: u16) -> Result<u16, Faul
     }
 }
 
-/// The type that the word alone is. Its first byte tells most other words from it at once.
+/// The type that the word alone is, which begins with a letter. The first byte tells most other words from it at once.
 pub fn leaf(word: &str) -> Option<TyKind>
     ensures { IfSome result IsLeaf }
 {
@@ -125,7 +157,7 @@ pub fn leaf(word: &str) -> Option<TyKind>
         b'i' => Some(TyKind::Int(int_width(word)?)),
         b'u' => Some(TyKind::Uint(uint_width(word)?)),
         b'f' => Some(TyKind::Float(float_width(word)?)),
-        b'b' | b'c' | b's' | b'!' | b'e' => other_leaf(word),
+        b'b' | b'c' | b's' | b'e' => other_leaf(word),
         _ => None,
     }
 }
@@ -137,7 +169,6 @@ fn other_leaf(word: &str) -> Option<TyKind>
         "bool" => Some(TyKind::Bool),
         "char" => Some(TyKind::Char),
         "str" => Some(TyKind::Str),
-        "!" => Some(TyKind::Never),
         "error" => Some(TyKind::Error),
         _ => None,
     }

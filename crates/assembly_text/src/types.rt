@@ -18,7 +18,7 @@ use crate::faults::Fault;
 use crate::making::{Draft, Maker};
 use crate::names::{Item, NamedTrait, Names};
 use crate::notation::{Head, head_of, word_of};
-use crate::words::Words;
+use crate::words::{Words, begins_with_capital};
 use candidate_ir::decl::context::Cx;
 use candidate_ir::ir::kinds::{
     Args, AssocId, Binder, Clause, Const, ConstKind, ExistentialPredicate, GenericArg, InferTy,
@@ -29,6 +29,9 @@ use std::alloc::Global;
 
 /// How deep the words of a type may be nested.
 pub const DEEPEST: u16 = 1024;
+
+/// For so many types of a list room is taken before they are read: a text can claim many more than it has.
+const FEW_TYPES: usize = 4;
 
 /// In the place of what a text can't spell.
 const UNSPELLED: &str = "?";
@@ -97,7 +100,7 @@ impl<'a, M: Maker> Scope<'a, M> {
         ensures fits { IfOk result (λ list. ListFits (M.context self.new.maker).trees list.items) }
         ensures no_param { IfOk result (λ list. ListLacks M.is_strict (M.context self.new.maker).trees list.items) }
     {
-        let mut list = Vec::new(self.alloc);
+        let mut list = Vec::with_capacity(self.alloc, (count as usize).min(FEW_TYPES))?;
         for _ in 0..count {
             list.push(GenericArg::Ty(self.read_type(words, depth)?))?;
         }
@@ -224,6 +227,10 @@ impl<'a, M: Maker> Scope<'a, M> {
     fn head(&self, word: &'a str) -> Result<Head, Fault<'a>>
         ensures { IfOk result IsChildless }
     {
+        // Only names begin with a capital letter.
+        if begins_with_capital(word) {
+            return self.named_head(word);
+        }
         match head_of(word)? {
             Some(head) => Ok(head),
             None => self.named_head(word),

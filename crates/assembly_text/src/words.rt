@@ -34,7 +34,7 @@ impl<'a> Words<'a> {
 
     /// The next word, if one is left.
     pub fn next_word(&mut self) -> Option<&'a str> {
-        let rest = self.rest.trim_start_matches(' ');
+        let (_, rest) = self.rest.split_at_checked(spaces_before(self.rest))?;
         if rest.is_empty() {
             return None;
         }
@@ -86,6 +86,16 @@ pub fn listed<T: Copy>(table: &[(&'static str, T)], word: &str) -> Option<T> {
     None
 }
 
+/// Where the first byte stands that is no space, or the end of the text.
+fn spaces_before(text: &str) -> usize {
+    for (start, byte) in text.bytes().enumerate() {
+        if byte != b' ' {
+            return start;
+        }
+    }
+    text.len()
+}
+
 /// Where the first space stands, or the end of the text.
 fn end_of_word(text: &str) -> usize {
     for (end, byte) in text.bytes().enumerate() {
@@ -109,6 +119,14 @@ fn is_visible(line: &[u8]) -> bool {
 pub fn begins_with_letter(word: &str) -> bool {
     match word.as_bytes().first() {
         Some(byte) => byte.is_ascii_alphabetic(),
+        None => false,
+    }
+}
+
+/// Whether the first byte is a capital letter.
+pub fn begins_with_capital(word: &str) -> bool {
+    match word.as_bytes().first() {
+        Some(byte) => byte.is_ascii_uppercase(),
         None => false,
     }
 }

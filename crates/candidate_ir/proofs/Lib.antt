@@ -25,6 +25,7 @@ pub mod ElaborationCases
 pub mod ElaborationLaws
 pub mod Holding
 pub mod Misplacing
+pub mod Plain
 pub mod References
 pub mod Parameters
 pub mod Arity

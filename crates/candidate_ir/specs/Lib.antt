@@ -15,6 +15,7 @@ pub mod Declaring
 pub mod Lookups
 pub mod Held
 pub mod Misplaced
+pub mod Plain
 pub mod Supers
 pub mod Supertraits
 pub mod Cycles

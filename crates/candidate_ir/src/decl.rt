@@ -15,6 +15,7 @@ pub mod lookup;
 pub mod make;
 pub mod misplaced;
 pub mod parameters;
+pub mod plain;
 pub mod subst;
 pub mod supers;
 

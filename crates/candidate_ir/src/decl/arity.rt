@@ -241,7 +241,7 @@ pub(crate) fn any_names_unknown(definitions: usize, nodes: &Nodes) -> bool
     ensures { result ≡ list_any (λ t. names_unknown definitions t.head) nodes.now }
 {
     for number in 0..nodes.len() {
-        if nodes.node(number as u32).head().names_unknown(definitions) {
+        if nodes.node(number as u32).names_unknown(definitions) {
             return true;
         }
     }

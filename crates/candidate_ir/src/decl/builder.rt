@@ -4,6 +4,7 @@ ghost use Rattle.std.specs.Prelude.{◌≡◌, ◌↔◌, ◌+◌, ◌<◌, ◌+
 ghost use Rattle.candidate_ir.specs.Context.{declared};
 ghost use Rattle.candidate_ir.specs.Declaring.{nothing, declared_adt, declared_trait, declared_opaque, declared_assoc, declared_impl, with_adt, with_trait, with_bounds, with_impl, with_constraint, with_bound, item_number};
 ghost use Rattle.candidate_ir.specs.Faults.{all_that_is_held, declarations_misname, contents_misname, has_unknown_id, has_wrong_parameters, AllArgumentsFit, has_wrong_kind, HasFault, IsFaultless, IsLowestFault};
+ghost use Rattle.candidate_ir.specs.Plain.{AllArePlain};
 ghost use Rattle.candidate_ir.specs.WellFormed.{IsWellFormedTable};
 ghost use Rattle.candidate_ir.specs.Supertraits.{HasSupertraitCycle, IsAcyclic};
 ghost use Rattle.candidate_ir.specs.Making.{Makes, a_type, a_constant, a_region, a_list, a_binder, some_bounds, a_signature, a_clause, an_environment};
@@ -26,6 +27,7 @@ use crate::decl::faults::{
 };
 use crate::decl::held::{Held, all_held};
 use crate::decl::misplaced::{Misplaced, any_escapes, any_misplaces, any_not_given};
+use crate::decl::plain::all_are_plain;
 use crate::decl::supers::any_has_wrong_super;
 use crate::ir::kinds::{
     AdtId, AliasId, Args, AssocId, Binder, Clause, ClauseKind, ClosureId, ClosureSig, Const,
@@ -604,6 +606,14 @@ impl DeclsBuilder {
         self.nodes.mk_args(list)
     }
 
+    /// The same as `mk_args`, of a list that the builder keeps.
+    pub fn mk_arg_list(&mut self, list: Vec<GenericArg>) -> Result<Args, Stop>
+        requires { ListFits self.old.trees list.items }
+        ensures { Makes (a_list list.items) self.old self.new result }
+    {
+        self.nodes.mk_arg_list(list)
+    }
+
     /// The variables of a binder, by their kinds, as `mk_vars` of a context.
     pub fn mk_vars(&mut self, kinds: &[VarKind]) -> Result<Vars, Stop>
         ensures { Makes (a_binder kinds.now) self.old self.new result }
@@ -672,16 +682,28 @@ impl DeclsBuilder {
             || any_names_unknown(self.definitions.len(), &self.nodes)
     }
 
-    fn has_wrong_parameters(&self, held: &[Held]) -> bool
+    /// Whether one look at what is held shows that nothing is misplaced there, and that no bound variable escapes.
+    fn all_are_plain(&self, held: &[Held]) -> bool
         requires held { held.now ≡ all_that_is_held self.now }
         requires given { has_unknown_id self.now ≡ false }
+        ensures { IsTrue result → AllArePlain self.now.trees self.now.declarations self.now.contents.impls held.now }
+    {
+        let definitions = self.definitions.as_slice();
+        let impls = self.contents.impls.as_slice();
+        all_are_plain(&self.nodes, definitions, impls, held)
+    }
+
+    fn has_wrong_parameters(&self, held: &[Held], are_plain: bool) -> bool
+        requires held { held.now ≡ all_that_is_held self.now }
+        requires given { has_unknown_id self.now ≡ false }
+        requires plain { IsTrue are_plain → AllArePlain self.now.trees self.now.declarations self.now.contents.impls held.now }
         ensures { result ≡ has_wrong_parameters self.now }
     {
         let definitions = self.definitions.as_slice();
         let impls = self.contents.impls.as_slice();
         any_has_wrong_arity(definitions)
             || any_unsizes_past(definitions, &self.contents)
-            || any_misplaces(&self.nodes, definitions, impls, Misplaced::Past, held)
+            || !are_plain && any_misplaces(&self.nodes, definitions, impls, Misplaced::Past, held)
     }
 
     fn arguments_fit(&self) -> bool
@@ -692,15 +714,16 @@ impl DeclsBuilder {
             && impls_fit(definitions, &self.nodes, self.contents.impls.as_slice())
     }
 
-    fn has_wrong_kind(&self, held: &[Held]) -> bool
+    fn has_wrong_kind(&self, held: &[Held], are_plain: bool) -> bool
         requires held { held.now ≡ all_that_is_held self.now }
         requires given { has_unknown_id self.now ≡ false }
+        requires plain { IsTrue are_plain → AllArePlain self.now.trees self.now.declarations self.now.contents.impls held.now }
         ensures { result ≡ has_wrong_kind self.now }
     {
         let definitions = self.definitions.as_slice();
         let impls = self.contents.impls.as_slice();
-        any_misplaces(&self.nodes, definitions, impls, Misplaced::Stray, held)
-            || any_escapes(&self.nodes, held)
+        !are_plain && any_misplaces(&self.nodes, definitions, impls, Misplaced::Stray, held)
+            || !are_plain && any_escapes(&self.nodes, held)
             || any_has_wrong_super(&self.nodes, definitions, &self.contents)
     }
 
@@ -726,13 +749,14 @@ impl DeclsBuilder {
         if self.has_unknown_id(held) {
             return Some(DeclFault::UnknownId);
         }
-        if self.has_wrong_parameters(held) {
+        let are_plain = self.all_are_plain(held);
+        if self.has_wrong_parameters(held, are_plain) {
             return Some(DeclFault::WrongArity);
         }
         if !self.arguments_fit() {
             return Some(DeclFault::WrongArity);
         }
-        if self.has_wrong_kind(held) {
+        if self.has_wrong_kind(held, are_plain) {
             return Some(DeclFault::WrongKind);
         }
         if let Some(fault) = self.supertrait_fault() {

@@ -78,7 +78,11 @@ pub(crate) fn any_not_given(nodes: &Nodes, held: &[Held]) -> bool
 }
 
 /// The kind of the parameter of that number, of parameters that `Self` may come before.
-fn parameter_kind(after_self: bool, parameters: &Parameters, number: u32) -> Option<VarKind>
+pub(crate) fn parameter_kind(
+    after_self: bool,
+    parameters: &Parameters,
+    number: u32,
+) -> Option<VarKind>
     ensures { result ≡ slice_get (with_self after_self (kinds_of parameters.now)) number }
 {
     if !after_self {

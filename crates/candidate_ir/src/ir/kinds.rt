@@ -525,6 +525,7 @@ impl TyKind {
         }
     }
 
+    #[inline(always)]
     pub(crate) fn child_count(self) -> usize
         ensures { result ≡ length (ty_children self) }
     {
@@ -557,6 +558,7 @@ impl TyKind {
         }
     }
 
+    #[inline(always)]
     pub(crate) fn child(self, i: usize) -> u32
         requires { i < length (ty_children self) }
         ensures { slice_get (numbers (ty_children self)) i ≡ Some result }

@@ -2,6 +2,7 @@
 
 ghost use Rattle.std.specs.Prelude.{◌≡◌, ◌<◌, Some, length, slice_get, IsTrue, ◌↔◌};
 ghost use Rattle.candidate_ir.specs.Kinds.{numbers};
+ghost use Rattle.candidate_ir.specs.Names.{names_unknown};
 ghost use Rattle.candidate_ir.specs.Nodes.{head_of, children_of};
 
 use crate::ir::heads::{Head, ListHead, PartHead};
@@ -33,6 +34,7 @@ pub struct Row {
 }
 
 impl Node {
+    #[inline]
     pub(crate) fn head(&self) -> Head
         ensures { result ≡ head_of self.now }
     {
@@ -51,6 +53,7 @@ impl Node {
         }
     }
 
+    #[inline(always)]
     pub(crate) fn child_count(&self) -> usize
         ensures { result ≡ length (children_of self.now) }
     {
@@ -68,6 +71,7 @@ impl Node {
         }
     }
 
+    #[inline(always)]
     pub(crate) fn child(&self, i: usize) -> u32
         requires { i < length (children_of self.now) }
         ensures { slice_get (numbers (children_of self.now)) i ≡ Some result }
@@ -85,6 +89,19 @@ impl Node {
                 one_of_three(i, sig.vars.0, sig.value.inputs.0, sig.value.output.0)
             }
             Node::Vars(list) => list[i].0,
+        }
+    }
+
+    /// Whether it names a definition that is none of the first so many.
+    pub(crate) fn names_unknown(&self, definitions: usize) -> bool
+        ensures { result ≡ names_unknown definitions (head_of self.now) }
+    {
+        match self {
+            Node::Ty(kind) => kind.head().names_unknown(definitions),
+            Node::Const(kind) => kind.head().names_unknown(definitions),
+            Node::Pred(_) | Node::Clause(_) => self.head().names_unknown(definitions),
+            Node::Region(_) | Node::Args(_) | Node::Preds(_) | Node::Clauses(_) => false,
+            Node::Sig(_) | Node::Vars(_) | Node::Var(_) => false,
         }
     }
 

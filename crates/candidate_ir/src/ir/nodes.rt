@@ -73,6 +73,7 @@ impl Nodes {
     }
 
     /// The height of the tree of a node, which may be too high for the table.
+    #[inline(always)]
     fn node_height(&self, node: &Node) -> u32
         requires { Fits self.now node.now }
         ensures { result ≡ height (node_tree self.now node.now) }
@@ -91,6 +92,7 @@ impl Nodes {
         }
     }
 
+    #[inline(always)]
     fn push(&mut self, row: Row) -> Result<u32, Stop>
         requires row { IsRow self.old row }
         requires room { length self.old < 4294967295 }
@@ -125,6 +127,8 @@ impl Nodes {
         self.rows.len()
     }
 
+    /// The number of the node. It is inlined, so that each sort of node is added without asking of which sort it is.
+    #[inline(always)]
     pub(crate) fn add(&mut self, node: Node) -> Result<u32, Stop>
         requires fits { Fits self.old node }
         requires principal { HasOnePrincipal self.old node }
@@ -144,6 +148,7 @@ impl Nodes {
     }
 
     /// The type of that kind.
+    #[inline(never)]
     pub(crate) fn mk_ty(&mut self, kind: TyKind) -> Result<Ty, Stop>
         requires { KindFits self.old kind }
         ensures { Adds (a_type kind) self.old self.new result }
@@ -160,6 +165,7 @@ impl Nodes {
     }
 
     /// The region of that kind.
+    #[inline(never)]
     pub(crate) fn mk_region(&mut self, kind: RegionKind) -> Result<Region, Stop>
         ensures { Adds (a_region kind) self.old self.new result }
     {
@@ -176,6 +182,7 @@ impl Nodes {
     }
 
     /// The list of these arguments, which it takes.
+    #[inline(never)]
     pub(crate) fn mk_arg_list(&mut self, list: Vec<GenericArg>) -> Result<Args, Stop>
         requires { ListFits self.old list.items }
         ensures { Adds (a_list list.items) self.old self.new result }
@@ -255,6 +262,7 @@ impl Nodes {
     }
 
     /// The clause under its binder.
+    #[inline(never)]
     pub(crate) fn mk_clause(&mut self, clause: Binder<ClauseKind>) -> Result<Clause, Stop>
         requires { ClauseFits self.old clause }
         ensures { Adds (a_clause clause) self.old self.new result }

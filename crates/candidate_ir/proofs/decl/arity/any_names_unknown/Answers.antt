@@ -1,4 +1,5 @@
-use Rattle.std.proofs.Common.{arith}
+use Rattle.std.proofs.Common.{arith, refl}
+use Rattle.candidate_ir.specs.Nodes.{head_of}
 use Rattle.candidate_ir.specs.Names.{names_unknown}
 use Rattle.candidate_ir.proofs.Fitting.{one-more-lacks, none-has, one-has, head-at}
 use Rattle.candidate_ir.proofs.decl.arity.any_names_unknown.Goals as goal
@@ -13,9 +14,9 @@ returns c =
 pub returns-then-names_unknown : goal.returns-then-names_unknown
 returns-then-names_unknown c =
     one-has (names_unknown c.args.definitions) c.args.nodes.now c.loop-number.number (omega (arith, c.len-number-end.ensures.is, c.loop-number-test.true))
-    (head-at (names_unknown c.args.definitions) c.args.nodes.now c.loop-number.number c.node.result.now c.head.result c.names_unknown.result _ c.node.ensures c.head.ensures c.names_unknown.ensures c.if-names_unknown.true)
+    (head-at (names_unknown c.args.definitions) c.args.nodes.now c.loop-number.number c.node.result.now (head_of c.node.result.now) c.names_unknown.result _ c.node.ensures refl c.names_unknown.ensures c.if-names_unknown.true)
 
 pub loop-number-preserved : goal.loop-number-preserved
 loop-number-preserved c =
     one-more-lacks (names_unknown c.args.definitions) c.args.nodes.now c.loop-number.number c.loop-number.invariant
-    (head-at (names_unknown c.args.definitions) c.args.nodes.now c.loop-number.number c.node.result.now c.head.result c.names_unknown.result _ c.node.ensures c.head.ensures c.names_unknown.ensures c.if-names_unknown.false)
+    (head-at (names_unknown c.args.definitions) c.args.nodes.now c.loop-number.number c.node.result.now (head_of c.node.result.now) c.names_unknown.result _ c.node.ensures refl c.names_unknown.ensures c.if-names_unknown.false)
