@@ -1,7 +1,7 @@
 -- Loops over candidates and over the values of a response, step by step.
-use Rattle.std.proofs.Common.{◌≡◌, refl, sym, ap, ◌∙◌, arith, ℕ, zero, suc, ◌<◌, ◌+◌, List, [], ◌∷◌, length, drop, Bool, true, false, ◌&&◌, slice_index_or, subst}
+use Rattle.std.proofs.Common.{◌≡◌, sym, ap, ◌∙◌, arith, ℕ, zero, suc, ◌<◌, ◌+◌, List, [], ◌∷◌, length, drop, true, false, ◌&&◌, slice_index_or, subst}
 use Rattle.candidate_ir.specs.declared.ir.kinds.GenericArg.{GenericArg}
-use Rattle.candidate_ir.specs.Trees.{Forest, none, tree, Tree}
+use Rattle.candidate_ir.specs.Trees.{Tree}
 use Rattle.candidate_ir.specs.Folds.{arg_tree}
 use Rattle.candidate_ir.specs.Words.{ListFits, list_forest}
 use Rattle.candidate_ir.proofs.Members.{member}

@@ -1,5 +1,5 @@
 -- Rules worked out on the small judge: an impl, a bound that is picked among others, a clause that is characterised.
-use Rattle.std.proofs.Common.{◌≡◌, refl, ℕ, List, [], ◌∷◌, Option, Some, None, Bool, true, false}
+use Rattle.std.proofs.Common.{◌≡◌, refl, ℕ, List, [], ◌∷◌, Bool, true, false}
 use Rattle.candidate_ir.specs.declared.ir.heads.Head.TheVariants as H
 use Rattle.candidate_ir.specs.declared.ir.heads.ListHead.TheVariants as L
 use Rattle.candidate_ir.specs.declared.ir.kinds.PredicatePolarity.TheVariants as Polarity
@@ -7,9 +7,8 @@ use Rattle.candidate_ir.specs.declared.ir.kinds.VarKind.TheVariants as K
 use Rattle.candidate_ir.specs.declared.decl.contents.ImplPolarity.{ImplPolarity}
 use Rattle.candidate_ir.specs.declared.decl.contents.ImplPolarity.TheVariants as I
 use Rattle.candidate_ir.specs.Contents.{Impl}
-use Rattle.candidate_ir.specs.Trees.{TypeKind, Forest, none, tree, Tree}
+use Rattle.candidate_ir.specs.Trees.{TypeKind, Forest, none, Tree}
 use Rattle.candidate_ir.specs.Substitutions.{alone}
-use Rattle.candidate_ir.specs.declared.ir.kinds.GoalSource.TheVariants as G
 use Rattle.candidate_eval.specs.declared.eval.mode.TypingMode.{TypingMode}
 use Rattle.candidate_eval.specs.declared.eval.mode.TypingMode.TheVariants.{Coherence, PostAnalysis}
 use Rattle.candidate_eval.specs.declared.eval.source.CandidateSource.{CandidateSource}
@@ -17,7 +16,7 @@ use Rattle.candidate_eval.specs.declared.eval.source.CandidateSource.TheVariants
 use Rattle.candidate_eval.specs.declared.eval.source.BuiltinImplSource.TheVariants.{Misc}
 use Rattle.candidate_eval.specs.declared.eval.source.ParamEnvSource.TheVariants.{NonGlobal, Global}
 use Rattle.candidate_eval.specs.Certainties.{Certainty, Yes, AMBIGUOUS}
-use Rattle.candidate_eval.specs.Rules.{Rule, Step, Match, Pick, Upcast, Require, fresh, equate, pick, still_general, unknowable, ask, characterise, Ending}
+use Rattle.candidate_eval.specs.Rules.{Rule, Step, Match, Upcast, Require, fresh, equate, pick, still_general, unknowable, ask, characterise, Ending}
 use Rattle.candidate_eval.specs.Judging.{Judged, Gives, Refused, Stopped, judged}
 use Rattle.candidate_eval.specs.Characterization.{too_deep}
 use Rattle.candidate_eval.specs.ImplRules.{TraitGoal, impl_rule}

@@ -1,8 +1,8 @@
 -- How steps follow steps.
 use Rattle.std.proofs.Common.{◌≡◌, List, [], ◌∷◌, ◌++◌, refl, ap, sym, ◌∙◌}
-use Rattle.candidate_eval.specs.States.{Env, State, Judge}
+use Rattle.candidate_eval.specs.States.{Env, Judge}
 use Rattle.candidate_eval.specs.Rules.{Step, Ending}
-use Rattle.candidate_eval.specs.Judging.{Place, Judged, Reached, At, Ambiguous, Over, go_on, step, run, continued, concluded, comes_to}
+use Rattle.candidate_eval.specs.Judging.{Place, Reached, At, Ambiguous, Over, go_on, step, run, continued, concluded, comes_to}
 
 go_on_twice : (r : Reached) (f h : Place → Reached) → go_on (go_on r f) h ≡ go_on r (λ p. go_on (f p) h)
 go_on_twice (At p) f h = refl

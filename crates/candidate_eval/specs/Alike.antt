@@ -1,5 +1,5 @@
 -- States that differ only in what nothing mentions, and what a judge answers at them.
-use Rattle.std.specs.Prelude.{◌≡◌, ℕ, Bool, false, Option, Some, None, List, length, slice_get}
+use Rattle.std.specs.Prelude.{◌≡◌, ℕ, false, Option, Some, None, List, length, slice_get}
 use Rattle.candidate_ir.specs.Trees.{Forest, Tree}
 use Rattle.candidate_ir.specs.Substitutions.{alone}
 use Rattle.candidate_ir.specs.Worlds.{kinds_of}

@@ -1,12 +1,12 @@
 -- The rule of an impl: a goal of a trait holds by an impl of it.
-use Rattle.std.specs.Prelude.{Bool, Option, Some, None, List, [], ◌∷◌, ◌++◌, ◌&&◌, map, false}
+use Rattle.std.specs.Prelude.{Option, Some, None, List, ◌∷◌, ◌++◌, ◌&&◌, map}
 use Rattle.candidate_ir.specs.declared.ir.kinds.PredicatePolarity.{PredicatePolarity}
 use Rattle.candidate_ir.specs.declared.ir.kinds.PredicatePolarity.TheVariants as P
 use Rattle.candidate_ir.specs.declared.ir.unify.RightSide.TheVariants as S
 use Rattle.candidate_ir.specs.declared.decl.contents.ImplId.{ImplId}
 use Rattle.candidate_ir.specs.declared.decl.contents.ImplPolarity.{ImplPolarity}
 use Rattle.candidate_ir.specs.declared.decl.contents.ImplPolarity.TheVariants as I
-use Rattle.candidate_ir.specs.Trees.{Tree, Forest}
+use Rattle.candidate_ir.specs.Trees.{Tree}
 use Rattle.candidate_ir.specs.Context.{parameter_kind}
 use Rattle.candidate_ir.specs.Contents.{Impl}
 use Rattle.candidate_ir.specs.Unify.{may_unify}

@@ -7,7 +7,7 @@ use Rattle.candidate_ir.specs.declared.ir.kinds.RegionKind.TheVariants as R
 use Rattle.candidate_ir.specs.declared.ir.kinds.GoalSource.{GoalSource}
 use Rattle.candidate_ir.specs.declared.ir.unify.RightSide.TheVariants as S
 use Rattle.candidate_ir.specs.declared.ir.stop.Stop.{Stop}
-use Rattle.candidate_ir.specs.Trees.{Kind, Forest, none, tree, Tree, join}
+use Rattle.candidate_ir.specs.Trees.{Kind, Forest, none, Tree, join}
 use Rattle.candidate_ir.specs.Folding.{substituted, substituted_tree}
 use Rattle.candidate_ir.specs.Substitutions.{alone}
 use Rattle.candidate_ir.specs.Unify.{may_unify}

@@ -1,5 +1,5 @@
 -- The laws of an evaluator. They speak of its judge.
-use Rattle.std.specs.Prelude.{◌≡◌, ℕ, Bool, true, false, Option, Some, None, List, []}
+use Rattle.std.specs.Prelude.{◌≡◌, Bool, true, false, Some, None, List, []}
 use Rattle.std.specs.List.{All}
 use Rattle.candidate_ir.specs.Trees.{Kind, TypeKind, ConstantKind, Forest, Tree, kind_of, erase, holds, is_alias, is_error, is_param}
 use Rattle.candidate_ir.specs.Substitutions.{Substitution, alone, apply}

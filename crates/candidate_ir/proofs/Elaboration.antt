@@ -1,6 +1,6 @@
 -- Elaborations: there is one where supertraits have a rank, and only one.
 use Rattle.std.proofs.Common.{◌≡◌, ℕ, zero, suc, ◌+◌, ◌<◌, ◌≤◌, List, [], ◌∷◌, ◌++◌, Bool, true, false, Option, Some, None, refl, sym, ◌∙◌, ap, subst, arith}
-use Rattle.std.specs.Prelude.{map, max, if◌then◌else◌, ◌&&◌}
+use Rattle.std.specs.Prelude.{map, if◌then◌else◌, ◌&&◌}
 use Rattle.candidate_ir.specs.declared.ir.heads.Head.{Head}
 use Rattle.candidate_ir.specs.Trees.{Forest, none, tree, Tree}
 use Rattle.candidate_ir.specs.Unify.{same_head}

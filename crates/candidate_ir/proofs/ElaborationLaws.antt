@@ -1,11 +1,11 @@
 -- What an elaboration is: it begins with the clauses, has none twice, has all that its clauses imply, and nothing else.
 use Rattle.std.proofs.Common.{◌≡◌, List, [], ◌∷◌, ◌++◌, Bool, true, false, refl, sym, ◌∙◌, ap, subst, append_assoc}
-use Rattle.std.specs.Prelude.{map, if◌then◌else◌, ◌||◌, ◌&&◌}
+use Rattle.std.specs.Prelude.{if◌then◌else◌, ◌||◌}
 use Rattle.std.specs.List.{IsDistinct, AllByRecursion}
 use Rattle.std.proofs.lemmas.List.{append-nil}
 use Rattle.std.proofs.lemmas.List.Folds.{list_any-append}
 use Rattle.candidate_ir.specs.Trees.{Tree}
-use Rattle.candidate_ir.specs.Elaboration.{SuperClauses, implied_by, same_tree, lists, unlisted, Elaborates, ended, step, AreListed, HasImplied, IsImplied, given, by, AreImplied}
+use Rattle.candidate_ir.specs.Elaboration.{SuperClauses, implied_by, same_tree, lists, unlisted, Elaborates, ended, step, AreListed, HasImplied, IsImplied, by, AreImplied}
 use Rattle.candidate_ir.proofs.Elaboration.{tree_itself}
 use Rattle.candidate_ir.proofs.Folding.{or-left, or-right}
 

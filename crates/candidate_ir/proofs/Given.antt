@@ -1,9 +1,8 @@
 -- What finished declarations hold is there.
-use Rattle.std.proofs.Common.{◌≡◌, ℕ, zero, suc, ◌+◌, ◌≤◌, List, [], ◌∷◌, ◌++◌, length, Bool, true, false, Option, Some, None, refl, sym, ◌∙◌, ap, subst, arith}
-use Rattle.std.specs.Prelude.{not, ◌||◌, map, slice_get, IfSome}
+use Rattle.std.proofs.Common.{◌≡◌, ℕ, zero, suc, ◌+◌, ◌≤◌, List, [], ◌∷◌, ◌++◌, length, false, Option, Some, None, refl, ◌∙◌, ap, subst, arith}
+use Rattle.std.specs.Prelude.{not, slice_get, IfSome}
 use Rattle.std.specs.List.{list_any}
 use Rattle.std.proofs.lemmas.Option.{slice_get_past}
-use Rattle.std.proofs.lemmas.List.Folds.{list_any-append}
 use Rattle.candidate_ir.specs.declared.ir.kinds.Ty.{Ty}
 use Rattle.candidate_ir.specs.declared.ir.kinds.Clause.{Clause}
 use Rattle.candidate_ir.specs.declared.ir.kinds.FnSig.{FnSig}
@@ -15,24 +14,21 @@ use Rattle.candidate_ir.specs.declared.decl.definition.DefinitionKind.{Definitio
 use Rattle.candidate_ir.specs.declared.decl.definition.DefinitionKind.TheVariants as D
 use Rattle.candidate_ir.specs.declared.decl.definition.AssocKind.TheVariants as A
 use Rattle.candidate_ir.specs.declared.decl.held.Held.{Held}
-use Rattle.candidate_ir.specs.declared.decl.held.HeldSort.{HeldSort}
 use Rattle.candidate_ir.specs.declared.decl.held.HeldSort.TheVariants as S
 use Rattle.candidate_ir.specs.declared.decl.held.Owner.{Owner}
 use Rattle.candidate_ir.specs.declared.decl.held.Owner.TheVariants as O
 use Rattle.candidate_ir.specs.Declaration.{Declaration}
-use Rattle.candidate_ir.specs.Declaring.{no_place, adt_place, trait_place, bounds_place, place_of, place, adt_at, trait_at, bounds_at, impl_at}
+use Rattle.candidate_ir.specs.Declaring.{no_place, adt_place, trait_place, bounds_place, adt_at, trait_at, bounds_at, impl_at}
 use Rattle.candidate_ir.specs.Lookups as lookup
-use Rattle.candidate_ir.specs.Contents.{AdtContents, TraitContents, Bounds, Impl, Contents}
+use Rattle.candidate_ir.specs.Contents.{AdtContents, TraitContents, Bounds, Impl}
 use Rattle.candidate_ir.specs.Context.{Context, world}
 use Rattle.candidate_ir.specs.Trees.{Kind, TypeKind, ClauseKind, ArgumentsKind, BinderKind, Tree}
-use Rattle.candidate_ir.specs.Nodes.{kind_at, clause_child}
-use Rattle.candidate_ir.specs.Kinds.{numbers, sorts}
+use Rattle.candidate_ir.specs.Nodes.{kind_at}
 use Rattle.candidate_ir.specs.Held.{held_type, held_clause, held_types, held_clauses, held_sig, option_held, adt_held, trait_held, bounds_held, opaque_held, if_there, definition_held, definitions_held, impl_held, impls_held}
 use Rattle.candidate_ir.specs.Misplaced.{is_held_kind, is_not_given}
-use Rattle.candidate_ir.specs.References.{ArgumentsFit}
 use Rattle.candidate_ir.specs.Faults.{ImplFits, ImplsFit}
 use Rattle.candidate_ir.specs.WellFormed.{IsWellFormedTable, TypesFit, SignatureFits, HeaderFits, AreGiven}
-use Rattle.candidate_ir.specs.Words.{IsTy, IsArgs, IsVars, IsClause, ClauseListFits}
+use Rattle.candidate_ir.specs.Words.{IsTy, ClauseListFits}
 use Rattle.candidate_ir.proofs.Folding.{or-left, or-right}
 use Rattle.candidate_ir.proofs.WellFormed.{any-of, any-right, definition-passes}
 

@@ -1,17 +1,15 @@
 -- What super clauses are instantiated to.
-use Rattle.std.proofs.Common.{◌≡◌, ◌⊎◌, ℕ, zero, suc, ◌+◌, ◌-◌, ◌<◌, ◌≤◌, List, [], ◌∷◌, Option, Some, None, Bool, true, false, refl, sym, ◌∙◌, ap, subst, arith, inl, inr}
-use Rattle.std.specs.Prelude.{Result, Ok, Err, IfErr, option_map, ◌==◌, ◌||◌, length, nat_eq, nat_lt, map, max, if◌then◌else◌}
-use Rattle.std.specs.Option.{unwrap_or}
+use Rattle.std.proofs.Common.{◌≡◌, ℕ, ◌+◌, ◌<◌, List, Option, Some, None, Bool, true, false, refl, sym, ◌∙◌, ap, subst, arith}
+use Rattle.std.specs.Prelude.{Result, Ok, Err, IfErr, option_map, ◌==◌, ◌||◌, nat_eq, nat_lt, if◌then◌else◌}
 use Rattle.candidate_ir.specs.declared.ir.kinds.BoundVar.{BoundVar}
 use Rattle.candidate_ir.specs.declared.ir.heads.Head.{Head}
 use Rattle.candidate_ir.specs.declared.ir.heads.Head.TheVariants as H
 use Rattle.candidate_ir.specs.declared.ir.heads.ConstHead.TheVariants as C
 use Rattle.candidate_ir.specs.declared.ir.kinds.RegionKind.TheVariants as R
 use Rattle.candidate_ir.specs.declared.ir.stop.Stop.{Stop}
-use Rattle.candidate_ir.specs.declared.ir.stop.Stop.TheVariants.{Memory, NodesFull}
-use Rattle.candidate_ir.specs.Trees.{Kind, Forest, none, tree, Tree, heights, holds, row, is_list_kind}
+use Rattle.candidate_ir.specs.declared.ir.stop.Stop.TheVariants.{NodesFull}
+use Rattle.candidate_ir.specs.Trees.{Kind, Forest, none, tree, Tree, holds, row, is_list_kind}
 use Rattle.candidate_ir.specs.Substitutions.{alone}
-use Rattle.candidate_ir.specs.Words.{IsMkStop}
 use Rattle.candidate_ir.specs.Context.{Context, Grows}
 use Rattle.candidate_ir.specs.Folding.{Answers, fold, fold_tree, leaf, IsSubstStop, no_memory, few_numbers, high_tree, put_if_there, IsAnswerStop}
 use Rattle.candidate_ir.specs.Folds.{is_asked, IsArg, arg_tree}
@@ -20,7 +18,7 @@ use Rattle.candidate_ir.specs.declared.ir.kinds.GenericArg.{GenericArg}
 use Rattle.candidate_ir.specs.Kinds.{arg_number}
 use Rattle.candidate_ir.proofs.Kept.{number-kept}
 use Rattle.candidate_ir.proofs.Asking.{arg-below}
-use Rattle.candidate_ir.proofs.FoldStops.{leaf-stop, IsCause, SaidOfAnswer, subst-cause}
+use Rattle.candidate_ir.proofs.FoldStops.{IsCause, SaidOfAnswer, subst-cause}
 use Rattle.candidate_ir.proofs.Lists.{there}
 use Rattle.candidate_ir.proofs.Rows.{row-single}
 use Rattle.candidate_ir.specs.Nodes.{tree_at, kind_at}

@@ -1,6 +1,6 @@
 -- Joint binders, and clauses under them.
-use Rattle.std.proofs.Common.{◌≡◌, ◌⊎◌, ℕ, zero, suc, ◌+◌, ◌-◌, ◌<◌, ◌≤◌, List, [], ◌∷◌, ◌++◌, take, length, get_or, Option, Some, None, Bool, true, false, refl, sym, ◌∙◌, ap, subst, arith, add-one, inl, inr}
-use Rattle.std.specs.Prelude.{map, max, ◌||◌, ◌==◌, if◌then◌else◌, Result, Ok, Err, IfErr}
+use Rattle.std.proofs.Common.{◌≡◌, ℕ, ◌+◌, ◌-◌, ◌<◌, ◌≤◌, List, [], ◌∷◌, ◌++◌, take, length, get_or, Option, Some, None, Bool, true, false, refl, sym, ◌∙◌, ap, subst, arith, inl, inr}
+use Rattle.std.specs.Prelude.{map, ◌||◌, ◌==◌, if◌then◌else◌, Result, Ok, Err, IfErr}
 use Rattle.std.proofs.lemmas.List.{map_push, map_more}
 use Rattle.std.proofs.Math.Seq.{take-length}
 use Rattle.candidate_ir.specs.Context.{Context, Grows}
@@ -25,18 +25,17 @@ use Rattle.candidate_ir.specs.declared.ir.heads.ConstHead.TheVariants as C
 use Rattle.candidate_ir.specs.declared.ir.heads.PartHead.TheVariants as P
 use Rattle.candidate_ir.specs.declared.ir.kinds.RegionKind.TheVariants as R
 use Rattle.candidate_ir.specs.declared.ir.stop.Stop.{Stop}
-use Rattle.candidate_ir.specs.declared.ir.stop.Stop.TheVariants.{Memory, NodesFull}
-use Rattle.candidate_ir.specs.Trees.{Kind, VariableKind, BinderKind, ClauseKind as ClauseKindOf, Forest, none, tree, Tree, kind_of, join, count, row, height, heights, holds, tree_holds, binders_of, sort_kind, list_kind}
-use Rattle.candidate_ir.specs.Kinds.{numbers, sorts, fact_children, clause_head}
-use Rattle.candidate_ir.specs.Nodes.{tree_at, kind_at, kinds_at, trees_at, rows, var_child, is_bound_kind}
+use Rattle.candidate_ir.specs.Trees.{VariableKind, BinderKind, ClauseKind as ClauseKindOf, Forest, none, tree, Tree, kind_of, join, count, height, heights, holds, tree_holds, binders_of, sort_kind, list_kind}
+use Rattle.candidate_ir.specs.Kinds.{numbers, fact_children, clause_head}
+use Rattle.candidate_ir.specs.Nodes.{tree_at, kind_at, trees_at, rows, var_child}
 use Rattle.candidate_ir.specs.Substitutions.{alone}
 use Rattle.candidate_ir.specs.Words.{IsVars, IsArgs, IsClause, args_forest, clause_tree, VarListFits, ClauseFits, var_kind_tree, var_tree, vars_tree, vars_kind_tree, binder_tree, clause_kind_tree, IsMkStop, IsMkListStop}
-use Rattle.candidate_ir.specs.Worlds.{World, kinds_of}
+use Rattle.candidate_ir.specs.Worlds.{World}
 use Rattle.candidate_ir.specs.References.{Takes, FitsAmong}
 use Rattle.candidate_ir.specs.Supers.{after_first}
-use Rattle.candidate_ir.specs.Folding.{Answers, fold, fold_tree, leaf, put, put_if_there, lacks_argument, substituted, most_bounds, bounds_in, is_too_far, IsSubstStop, no_memory, few_numbers, high_tree, far_variable}
-use Rattle.candidate_ir.specs.Elaboration.{later, later_head, either, instance_head, renumbered, variables_of, under_binder, instance, is_too_high, IsRenumberStop, unput, high_variable, IsInstanceStop, IsJoint, IsJointStop}
-use Rattle.candidate_ir.proofs.Folding.{HeadAnswers, by_head, same_row, fuse, or-left, or-right}
+use Rattle.candidate_ir.specs.Folding.{Answers, fold, fold_tree, leaf, put, lacks_argument, substituted, most_bounds, bounds_in, is_too_far, IsSubstStop, no_memory, few_numbers, high_tree, far_variable}
+use Rattle.candidate_ir.specs.Elaboration.{later, later_head, either, instance_head, renumbered, under_binder, instance, is_too_high, IsRenumberStop, unput, high_variable, IsInstanceStop, IsJoint, IsJointStop}
+use Rattle.candidate_ir.proofs.Folding.{HeadAnswers, by_head, same_row, fuse, or-right}
 use Rattle.candidate_ir.proofs.FoldRows.{rows-append, join-assoc}
 use Rattle.candidate_ir.proofs.FoldStops.{row-bounds}
 use Rattle.candidate_ir.proofs.FoldKinds.{takes-again}

@@ -1,6 +1,6 @@
 -- Lists of clauses in which no tree stands twice, one clause more after the other.
 use Rattle.std.proofs.Common.{◌≡◌, ◌↔◌, ℕ, zero, suc, ◌+◌, ◌<◌, ◌≤◌, List, [], ◌∷◌, ◌++◌, length, get_or, take, Bool, true, false, IsTrue, refl, sym, ◌∙◌, ap, subst, arith, append_assoc}
-use Rattle.std.specs.Prelude.{map, if◌then◌else◌, ◌||◌, Option, Some, None, slice_get}
+use Rattle.std.specs.Prelude.{map, ◌||◌, Option, Some, None, slice_get}
 use Rattle.std.specs.List.{list_any}
 use Rattle.std.proofs.lemmas.List.{append-nil, map_push, take_more, take_all, length-map}
 use Rattle.candidate_ir.specs.declared.ir.kinds.Clause.{Clause}
@@ -12,8 +12,7 @@ use Rattle.candidate_ir.specs.Lookups.{maybe}
 use Rattle.candidate_ir.specs.Supers.{supers_at}
 use Rattle.candidate_ir.proofs.Lists.{below_kind}
 use Rattle.candidate_ir.proofs.Kept.{number-kept, args-kept, grows-refl, grows-trans}
-use Rattle.candidate_ir.specs.Kinds.{numbers, sorts}
-use Rattle.candidate_ir.specs.Nodes.{clause_child, kind_at, kinds_at, Extends}
+use Rattle.candidate_ir.specs.Nodes.{kind_at, Extends}
 use Rattle.candidate_ir.specs.declared.ir.kinds.Vars.{Vars}
 use Rattle.candidate_ir.specs.declared.ir.kinds.Args.{Args}
 use Rattle.candidate_ir.specs.Words.{IsClause, IsVars, IsArgs, ClauseListFits, clause_tree, vars_tree, args_forest}

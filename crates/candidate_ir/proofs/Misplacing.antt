@@ -3,7 +3,6 @@ use Rattle.std.proofs.Common.{◌≡◌, ℕ, zero, suc, ◌+◌, ◌<◌, ◌�
 use Rattle.std.specs.Prelude.{not, ◌||◌}
 use Rattle.std.specs.List.{list_any}
 use Rattle.candidate_ir.proofs.Folding.{or-left, or-right}
-use Rattle.candidate_ir.specs.declared.ir.heads.Head.{Head}
 use Rattle.candidate_ir.specs.declared.ir.heads.Head.TheVariants as H
 use Rattle.candidate_ir.specs.declared.ir.heads.ListHead.{ListHead}
 use Rattle.candidate_ir.specs.declared.ir.kinds.VarKind.{VarKind}
@@ -14,7 +13,6 @@ use Rattle.candidate_ir.specs.declared.decl.held.HeldSort.{HeldSort}
 use Rattle.candidate_ir.specs.declared.decl.held.HeldSort.TheVariants as S
 use Rattle.candidate_ir.specs.declared.decl.held.Held.{Held}
 use Rattle.candidate_ir.specs.Trees.{Kind, TypeKind, ConstantKind, RegionKind, PredicateKind, ClauseKind, SignatureKind, BinderKind, VariableKind, ArgumentsKind, PredicatesKind, ClausesKind, NoKind, Tree, kind_of}
-use Rattle.candidate_ir.specs.Kinds.{ty_head, const_head}
 use Rattle.candidate_ir.specs.Nodes.{kind_at, head_of}
 use Rattle.candidate_ir.specs.declared.ir.kinds.Args.{Args}
 use Rattle.candidate_ir.specs.declared.ir.kinds.Clause.{Clause}

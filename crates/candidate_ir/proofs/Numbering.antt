@@ -1,5 +1,5 @@
 -- The traits of a list of clauses, each once.
-use Rattle.std.proofs.Common.{◌≡◌, ℕ, zero, suc, ◌+◌, ◌<◌, ◌≤◌, List, [], ◌∷◌, ◌++◌, length, get_or, take, Bool, true, false, Option, Some, None, refl, sym, ◌∙◌, ap, subst, arith}
+use Rattle.std.proofs.Common.{◌≡◌, ℕ, ◌+◌, ◌<◌, ◌≤◌, List, [], ◌∷◌, ◌++◌, length, get_or, take, Bool, true, false, Option, Some, refl, sym, ◌∙◌, ap}
 use Rattle.std.specs.Prelude.{map, ◌||◌, ◌==◌, if◌then◌else◌, option_map}
 use Rattle.std.specs.List.{list_any}
 use Rattle.std.proofs.lemmas.List.{map_push, take_more, take_all}
@@ -8,7 +8,7 @@ use Rattle.candidate_ir.specs.declared.ir.kinds.TraitId.{TraitId}
 use Rattle.candidate_ir.specs.Trees.{Tree}
 use Rattle.candidate_ir.specs.Context.{Context}
 use Rattle.candidate_ir.specs.Words.{clause_tree}
-use Rattle.candidate_ir.specs.Elaboration.{number_listed, with_number, traits_among, trait_of, id_numbers, supertraits, supertrait_ids, AreSupertraits, AreSupertraitIds}
+use Rattle.candidate_ir.specs.Elaboration.{number_listed, with_number, traits_among, trait_of, id_numbers, AreSupertraits, AreSupertraitIds}
 
 listed-number : (ids : List TraitId) (n : ℕ) → list_any (λ (i : TraitId). i.0 == n) ids ≡ number_listed (id_numbers ids) n
 listed-number [] n = refl

@@ -1,5 +1,5 @@
 -- What a declaration holds has an argument for each of its parameters, wherever the arguments fit the declaration.
-use Rattle.std.proofs.Common.{◌≡◌, ℕ, zero, suc, ◌+◌, ◌<◌, List, [], ◌∷◌, Bool, true, false, Option, Some, None, refl, sym, ◌∙◌, ap, subst, arith}
+use Rattle.std.proofs.Common.{◌≡◌, ℕ, zero, suc, ◌<◌, List, [], ◌∷◌, Bool, false, Option, Some, None, refl, sym, ◌∙◌, ap, subst, arith}
 use Rattle.std.specs.Prelude.{not, ◌||◌, ◌&&◌, map, slice_get, nat_lt}
 use Rattle.candidate_ir.specs.declared.ir.heads.Head.{Head}
 use Rattle.candidate_ir.specs.declared.ir.heads.Head.TheVariants as H
@@ -8,12 +8,12 @@ use Rattle.candidate_ir.specs.declared.ir.kinds.VarKind.{VarKind}
 use Rattle.candidate_ir.specs.declared.ir.kinds.VarKind.TheVariants as V
 use Rattle.candidate_ir.specs.declared.decl.misplaced.Misplaced.TheVariants as M
 use Rattle.candidate_ir.specs.Context.{parameter_kind}
-use Rattle.candidate_ir.specs.Trees.{Kind, TypeKind, ConstantKind, Forest, none, tree, Tree, kind_of, count, holds, tree_holds, is_type, is_type_kind}
+use Rattle.candidate_ir.specs.Trees.{TypeKind, Forest, none, tree, Tree, kind_of, count, holds, tree_holds, is_type, is_type_kind}
 use Rattle.candidate_ir.specs.Worlds.{kinds_of}
 use Rattle.candidate_ir.specs.Substitutions.{is_constant_kind}
 use Rattle.candidate_ir.specs.Folding.{argument, lacks_argument}
 use Rattle.std.proofs.lemmas.Bool.{lt-ltb}
-use Rattle.candidate_ir.specs.Misplaced.{is_misplaced, parameter_misplaced, is_same_kind}
+use Rattle.candidate_ir.specs.Misplaced.{is_misplaced, parameter_misplaced}
 use Rattle.std.specs.Prelude.{◌≤◌, length, get_or, ◌==◌, if◌then◌else◌, option_map}
 use Rattle.std.specs.List.{list_any}
 use Rattle.std.proofs.lemmas.Option.{slice_get-map, slice_get_past}

@@ -1,8 +1,7 @@
 -- Clauses that say that a trait holds, as they are read.
-use Rattle.std.proofs.Common.{◌≡◌, ℕ, List, [], ◌∷◌, ◌++◌, Option, Some, None, false, refl, sym, ◌∙◌, ap, subst}
+use Rattle.std.proofs.Common.{◌≡◌, ℕ, List, [], ◌∷◌, ◌++◌, Option, Some, None, refl, sym, ◌∙◌, ap, subst}
 use Rattle.std.specs.Prelude.{map}
 use Rattle.std.proofs.lemmas.List.{append-nil}
-use Rattle.candidate_ir.specs.declared.ir.heads.Head.{Head}
 use Rattle.candidate_ir.specs.declared.ir.heads.Head.TheVariants as H
 use Rattle.candidate_ir.specs.declared.ir.heads.PartHead.TheVariants as P
 use Rattle.candidate_ir.specs.declared.ir.heads.ClauseHead.TheVariants as Cl
@@ -14,11 +13,11 @@ use Rattle.candidate_ir.specs.declared.ir.kinds.TraitRef.{TraitRef}
 use Rattle.candidate_ir.specs.declared.ir.kinds.TraitPredicate.{TraitPredicate}
 use Rattle.candidate_ir.specs.declared.ir.kinds.PredicatePolarity.{PredicatePolarity}
 use Rattle.candidate_ir.specs.declared.ir.kinds.PredicatePolarity.TheVariants as Polarity
-use Rattle.candidate_ir.specs.Trees.{Kind, TypeKind, BinderKind, ArgumentsKind, Forest, none, tree, Tree, join}
+use Rattle.candidate_ir.specs.Trees.{Kind, TypeKind, BinderKind, ArgumentsKind, none, Tree}
 use Rattle.candidate_ir.specs.Kinds.{clause_head, fact_children, numbers}
-use Rattle.candidate_ir.specs.Nodes.{tree_at, kind_at, trees_at, rows}
+use Rattle.candidate_ir.specs.Nodes.{kind_at, trees_at, rows}
 use Rattle.candidate_ir.specs.Context.{Context, world}
-use Rattle.candidate_ir.specs.Worlds.{World, TraitSort, joined, parameters, kinds_of}
+use Rattle.candidate_ir.specs.Worlds.{TraitSort, joined, parameters, kinds_of}
 use Rattle.candidate_ir.specs.References.{IsWellFormed, ArgumentsFit, FitsAmong}
 use Rattle.candidate_ir.specs.Supertraits.{head_trait}
 use Rattle.candidate_ir.specs.Elaboration.{said, said_if, implied, instance, implied_by, super_clauses, supers_if, unlisted}

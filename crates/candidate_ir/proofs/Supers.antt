@@ -1,6 +1,6 @@
 -- What clauses are about.
-use Rattle.std.proofs.Common.{◌≡◌, ℕ, zero, suc, ◌+◌, ◌<◌, ◌≤◌, List, [], ◌∷◌, length, get_or, Bool, true, false, Option, Some, None, IsTrue, ◌↔◌, ◌⊎◌, inl, inr, refl, sym, ◌∙◌, ap, subst, arith}
-use Rattle.std.specs.Prelude.{map, ◌&&◌, slice_index_or}
+use Rattle.std.proofs.Common.{◌≡◌, ℕ, zero, suc, ◌<◌, ◌≤◌, List, [], ◌∷◌, length, get_or, Bool, true, false, Some, None, IsTrue, ◌↔◌, ◌⊎◌, inl, inr, refl, sym, ◌∙◌, ap, subst, arith}
+use Rattle.std.specs.Prelude.{◌&&◌, slice_index_or}
 use Rattle.std.proofs.lemmas.List.{get_or_past}
 use Rattle.candidate_ir.specs.declared.ir.heads.Head.{Head}
 use Rattle.candidate_ir.specs.declared.ir.kinds.GenericArg.{GenericArg}
@@ -13,8 +13,8 @@ use Rattle.candidate_ir.specs.declared.ir.kinds.ClauseKind.{ClauseKind}
 use Rattle.candidate_ir.specs.declared.ir.kinds.ClauseKind.TheVariants as Cl
 use Rattle.candidate_ir.specs.declared.ir.kinds.TraitPredicate.{TraitPredicate}
 use Rattle.candidate_ir.specs.declared.ir.kinds.ProjectionPredicate.{ProjectionPredicate}
-use Rattle.candidate_ir.specs.Trees.{Kind, TypeKind, RegionKind, BinderKind, ArgumentsKind, ClauseKind as ClauseKindOf, Forest, none, tree, Tree, kind_of, row, join}
-use Rattle.candidate_ir.specs.Kinds.{arg_number, arg_kind, arg_child, numbers, fact_children, clause_head}
+use Rattle.candidate_ir.specs.Trees.{TypeKind, RegionKind, BinderKind, ArgumentsKind, ClauseKind as ClauseKindOf, Forest, none, tree, Tree, kind_of, row, join}
+use Rattle.candidate_ir.specs.Kinds.{arg_number, arg_kind, numbers, fact_children, clause_head}
 use Rattle.candidate_ir.specs.Nodes.{tree_at, kind_at, trees_at, rows, error_tree}
 use Rattle.candidate_ir.specs.Words.{IsArgs, IsClause, ListFits, ClauseFits, list_forest, args_forest, clause_kind_tree, clause_tree}
 use Rattle.candidate_ir.specs.declared.ir.kinds.Clause.{Clause}
@@ -22,7 +22,7 @@ use Rattle.candidate_ir.specs.declared.ir.heads.Head.TheVariants as H
 use Rattle.candidate_ir.specs.declared.ir.heads.PartHead.TheVariants as P
 use Rattle.candidate_ir.specs.declared.ir.heads.ClauseHead.{ClauseHead}
 use Rattle.candidate_ir.specs.Supers.{first_head, after_first, subject, head_says_of_type, is_super_clause, is_self, says_of_type}
-use Rattle.candidate_ir.proofs.Lists.{there, below_kind, kind_of-tree_at}
+use Rattle.candidate_ir.proofs.Lists.{below_kind, kind_of-tree_at}
 use Rattle.candidate_ir.proofs.Members.{member, member-kind, arg-there}
 use Rattle.candidate_ir.proofs.Rows.{row-single, row-list, join-none}
 

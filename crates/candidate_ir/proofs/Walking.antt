@@ -4,7 +4,6 @@ use Rattle.std.specs.Prelude.{map, Option, Some, None}
 use Rattle.std.proofs.lemmas.List.{take_all, take-append-drop, length-map}
 use Rattle.candidate_ir.specs.declared.ir.kinds.Clause.{Clause}
 use Rattle.candidate_ir.specs.Trees.{Tree}
-use Rattle.candidate_ir.specs.Nodes.{Extends}
 use Rattle.candidate_ir.specs.Context.{Context, Grows}
 use Rattle.candidate_ir.specs.Contents.{TraitContents}
 use Rattle.candidate_ir.specs.Declaring.{no_place, trait_at}
@@ -20,7 +19,7 @@ use Rattle.candidate_ir.specs.declared.ir.stop.Stop.TheVariants.{Memory}
 use Rattle.candidate_ir.proofs.ElaborationLaws.{implied-listed, each-listed, implied-both, implied-unlisted}
 use Rattle.candidate_ir.proofs.Kept.{grows-trans}
 use Rattle.candidate_ir.proofs.Given.{trait_given, supers_fit}
-use Rattle.candidate_ir.proofs.Listing.{clauses_kept, listed_clause}
+use Rattle.candidate_ir.proofs.Listing.{clauses_kept}
 
 -- All super clauses are of the context.
 abbrev pub SupersFit : Context → Type 0

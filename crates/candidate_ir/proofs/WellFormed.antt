@@ -1,10 +1,9 @@
 -- What holds of finished declarations, and stays while nodes are made.
-use Rattle.std.proofs.Common.{◌≡◌, ℕ, zero, suc, ◌+◌, ◌<◌, ◌≤◌, List, [], ◌∷◌, ◌++◌, length, take, drop, Bool, true, false, Option, Some, None, refl, sym, ◌∙◌, ap, subst, arith}
+use Rattle.std.proofs.Common.{◌≡◌, ℕ, zero, suc, ◌+◌, ◌≤◌, List, [], ◌∷◌, ◌++◌, length, take, drop, Bool, false, Option, Some, None, refl, sym, ◌∙◌, ap, subst, arith}
 use Rattle.std.specs.Prelude.{not, ◌||◌, map, slice_get, min}
 use Rattle.std.specs.List.{list_any}
 use Rattle.std.proofs.lemmas.List.{take-append-le, take-append-drop, length-append, length-take}
 use Rattle.std.proofs.lemmas.List.Folds.{list_any-append}
-use Rattle.candidate_ir.specs.declared.ir.kinds.Ty.{Ty}
 use Rattle.candidate_ir.specs.declared.ir.kinds.Clause.{Clause}
 use Rattle.candidate_ir.specs.declared.decl.definition.DefinitionKind.{DefinitionKind}
 use Rattle.candidate_ir.specs.declared.decl.definition.DefinitionKind.TheVariants as D
@@ -14,23 +13,21 @@ use Rattle.candidate_ir.specs.declared.decl.held.Owner.TheVariants as O
 use Rattle.candidate_ir.specs.declared.decl.misplaced.Misplaced.{Misplaced}
 use Rattle.candidate_ir.specs.declared.decl.misplaced.Misplaced.TheVariants as M
 use Rattle.candidate_ir.specs.Declaration.{Declaration}
-use Rattle.candidate_ir.specs.Contents.{AdtContents, TraitContents, Bounds, Impl, Contents}
+use Rattle.candidate_ir.specs.Contents.{TraitContents, Impl, Contents}
 use Rattle.candidate_ir.specs.Context.{Context, world, has_wrong_arity}
 use Rattle.candidate_ir.specs.Trees.{Tree, ArgumentsKind}
-use Rattle.candidate_ir.specs.Nodes.{tree_at, kind_at, Extends}
+use Rattle.candidate_ir.specs.Nodes.{tree_at, Extends}
 use Rattle.candidate_ir.specs.Binders.{tree_escapes}
 use Rattle.std.specs.Prelude.{cond}
-use Rattle.candidate_ir.specs.Held.{impls_held, held_clause, held_clauses, held_types, trait_held, definition_held, definitions_held, if_there}
+use Rattle.candidate_ir.specs.Held.{impls_held, held_clause, held_clauses, trait_held, definition_held, definitions_held, if_there}
 use Rattle.candidate_ir.specs.Misplaced.{is_held_kind, is_not_given, held_misplaces, held_escapes, tree_misplaces, kinds_of_owner}
 use Rattle.candidate_ir.specs.Supertraits.{Names, IsRanked, IsAcyclic, supers_in, named_supers, clause_supertrait, head_trait}
 use Rattle.candidate_ir.specs.Supers.{supers_at, supers_of, is_no_super, is_super_clause, has_wrong_super}
-use Rattle.candidate_ir.specs.References.{AllFit, IsWellFormed}
+use Rattle.candidate_ir.specs.References.{AllFit}
 use Rattle.candidate_ir.specs.Names.{names_unknown}
 use Rattle.candidate_ir.specs.Faults.{all_that_is_held, declarations_misname, nodes_misname, contents_misname, has_unknown_id, has_wrong_parameters, unsizes_past, AllArgumentsFit, ImplFits, ImplsFit, has_wrong_kind, lacks_tail, item_has_wrong_arity, all_items}
 use Rattle.candidate_ir.specs.WellFormed.{IsWellFormedTable, IsWellFormedContext, declared_part}
-use Rattle.candidate_ir.specs.Words.{IsArgs, args_forest}
-use Rattle.candidate_ir.specs.Worlds.{World, TraitSort, joined, parameters, kinds_of}
-use Rattle.candidate_ir.specs.Trees.{TypeKind}
+use Rattle.candidate_ir.specs.Worlds.{World, kinds_of}
 use Rattle.candidate_ir.specs.Faults.{IsFaultless}
 use Rattle.candidate_ir.proofs.Faults.{faultless}
 use Rattle.candidate_ir.proofs.Folding.{or-left, or-right}

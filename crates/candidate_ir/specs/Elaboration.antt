@@ -1,6 +1,6 @@
 -- What clauses imply by the super clauses of their traits, and the list of it.
-use Rattle.std.specs.Prelude.{◌≡◌, ◌⊎◌, ℕ, zero, suc, ◌<◌, ◌+◌, Bool, true, false, ◌==◌, ◌&&◌, nat_lt, Option, Some, None, List, [], ◌∷◌, ◌++◌, map, if◌then◌else◌}
-use Rattle.std.specs.List.{All, filter, list_any}
+use Rattle.std.specs.Prelude.{◌≡◌, ◌⊎◌, ℕ, ◌<◌, ◌+◌, Bool, true, false, ◌==◌, ◌&&◌, nat_lt, Option, Some, None, List, [], ◌∷◌, ◌++◌, map, if◌then◌else◌}
+use Rattle.std.specs.List.{filter, list_any}
 use Rattle.candidate_ir.specs.declared.ir.kinds.BoundVar.{BoundVar}
 use Rattle.candidate_ir.specs.declared.ir.kinds.ClauseKind.{ClauseKind}
 use Rattle.candidate_ir.specs.declared.ir.kinds.ClauseKind.TheVariants as K

@@ -2,7 +2,6 @@
 use Rattle.std.specs.Prelude.{◌≡◌, ℕ, ◌<◌, Bool, true, false, not, ◌||◌, ◌&&◌, IsTrue, length, ◌⊎◌, List, [], ◌∷◌, Option, Some, None, slice_get, nat_le, ◌==◌, slice_index_or, if◌then◌else◌}
 use Rattle.std.specs.List.{list_any}
 use Rattle.candidate_ir.specs.declared.ir.kinds.VarKind.{VarKind}
-use Rattle.candidate_ir.specs.declared.ir.kinds.VarKind.TheVariants as V
 use Rattle.candidate_ir.specs.declared.ir.kinds.TraitId.{TraitId}
 use Rattle.candidate_ir.specs.declared.decl.builder.DeclFault.{DeclFault}
 use Rattle.candidate_ir.specs.declared.decl.builder.DeclFault.TheVariants as F

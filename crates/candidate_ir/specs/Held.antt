@@ -1,5 +1,5 @@
 -- The types, clauses, lists and binders that declarations hold, one after the other.
-use Rattle.std.specs.Prelude.{ℕ, Bool, true, false, suc, ◌+◌, List, [], ◌∷◌, ◌++◌, map, Option, Some, None, slice_get}
+use Rattle.std.specs.Prelude.{ℕ, true, false, suc, List, [], ◌∷◌, ◌++◌, map, Option, Some, None, slice_get}
 use Rattle.candidate_ir.specs.declared.ir.kinds.Ty.{Ty}
 use Rattle.candidate_ir.specs.declared.ir.kinds.Clause.{Clause}
 use Rattle.candidate_ir.specs.declared.ir.kinds.FnSig.{FnSig}
@@ -9,7 +9,6 @@ use Rattle.candidate_ir.specs.declared.decl.definition.DefinitionKind.TheVariant
 use Rattle.candidate_ir.specs.declared.decl.held.Held.{Held}
 use Rattle.candidate_ir.specs.declared.decl.held.Owner.{Owner}
 use Rattle.candidate_ir.specs.declared.decl.held.Owner.TheVariants as O
-use Rattle.candidate_ir.specs.declared.decl.held.HeldSort.{HeldSort}
 use Rattle.candidate_ir.specs.declared.decl.held.HeldSort.TheVariants as S
 use Rattle.candidate_ir.specs.Declaration.{Declaration}
 use Rattle.candidate_ir.specs.Contents.{AdtContents, TraitContents, Bounds, Impl, Contents}

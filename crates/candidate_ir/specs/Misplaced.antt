@@ -1,6 +1,5 @@
 -- What may not stand in a declaration.
-use Rattle.std.specs.Prelude.{ℕ, Bool, true, false, not, ◌||◌, List, [], ◌∷◌, Option, Some, None, slice_get, if◌then◌else◌, length, nat_le, cond}
-use Rattle.std.specs.Option.{is_some}
+use Rattle.std.specs.Prelude.{Bool, true, false, not, List, ◌∷◌, Option, Some, None, slice_get, cond}
 use Rattle.candidate_ir.specs.declared.ir.heads.Head.{Head}
 use Rattle.candidate_ir.specs.declared.ir.heads.Head.TheVariants as H
 use Rattle.candidate_ir.specs.declared.ir.heads.ConstHead.TheVariants as C

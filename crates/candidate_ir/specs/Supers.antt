@@ -1,5 +1,5 @@
 -- Which clauses may be a trait's super clauses.
-use Rattle.std.specs.Prelude.{ℕ, Bool, true, false, not, ◌&&◌, ◌==◌, Option, Some, None, List, [], slice_get}
+use Rattle.std.specs.Prelude.{Bool, true, false, not, ◌&&◌, ◌==◌, Option, Some, None, List, [], slice_get}
 use Rattle.std.specs.List.{list_any}
 use Rattle.candidate_ir.specs.declared.ir.heads.Head.{Head}
 use Rattle.candidate_ir.specs.declared.ir.heads.Head.TheVariants as H
@@ -13,7 +13,6 @@ use Rattle.candidate_ir.specs.declared.decl.definition.DefinitionKind.TheVariant
 use Rattle.candidate_ir.specs.Trees.{Forest, none, tree, Tree}
 use Rattle.candidate_ir.specs.Nodes.{tree_at}
 use Rattle.candidate_ir.specs.Contents.{TraitContents, Contents}
-use Rattle.candidate_ir.specs.Declaration.{Declaration}
 
 abbrev pub first_head : Forest → Option Head
 first_head none = None

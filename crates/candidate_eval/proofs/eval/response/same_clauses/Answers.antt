@@ -1,4 +1,4 @@
-use Rattle.std.proofs.Common.{◌≡◌, ◌<◌, length, slice_index_or}
+use Rattle.std.proofs.Common.{◌<◌, length}
 use Rattle.candidate_ir.specs.declared.ir.kinds.Clause.{Clause}
 use Rattle.candidate_ir.specs.Words.{clause_tree}
 use Rattle.candidate_eval.proofs.Pairs.{clause_there, place_differs, all_places}

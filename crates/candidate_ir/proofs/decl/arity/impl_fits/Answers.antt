@@ -1,4 +1,4 @@
-use Rattle.std.proofs.Common.{ap, refl}
+use Rattle.std.proofs.Common.{ap}
 use Rattle.candidate_ir.specs.Contents.{Impl}
 use Rattle.candidate_ir.specs.Context.{world_of}
 use Rattle.candidate_ir.proofs.Headers.{header_fits, no_header_fits}

@@ -1,4 +1,3 @@
-use Rattle.std.proofs.Common.{arith}
 use Rattle.candidate_ir.proofs.Made.{IsVar-listed}
 use Rattle.candidate_ir.proofs.Joining.{no-kinds, one-more-kind, all-kinds}
 use Rattle.candidate_ir.proofs.decl.elaborate.add_kinds.Goals as goal

@@ -1,9 +1,9 @@
-use Rattle.std.proofs.Common.{◌≡◌, sym, ◌∙◌, ap, subst}
+use Rattle.std.proofs.Common.{◌≡◌, ◌∙◌, subst}
 use Rattle.std.specs.Prelude.{IfOk, length}
 use Rattle.candidate_ir.specs.Substitutions.{alone}
 use Rattle.std.proofs.lemmas.Result.{err_from_is_err_and}
 use Rattle.candidate_ir.specs.Trees.{Tree}
-use Rattle.candidate_ir.specs.Context.{Context, world}
+use Rattle.candidate_ir.specs.Context.{world}
 use Rattle.candidate_ir.specs.References.{IsWellFormed}
 use Rattle.candidate_ir.specs.Words.{args_forest, clause_tree, vars_tree}
 use Rattle.candidate_ir.specs.Elaboration.{IsRenumberStop}

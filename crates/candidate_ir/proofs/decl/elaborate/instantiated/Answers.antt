@@ -1,8 +1,7 @@
-use Rattle.std.proofs.Common.{◌≡◌, refl, rules, ap}
+use Rattle.std.proofs.Common.{◌≡◌, refl, rules}
 use Rattle.std.specs.Prelude.{◌-◌}
 use Rattle.std.proofs.lemmas.Result.{err_from_is_err_and}
 use Rattle.candidate_ir.specs.Trees.{ClauseKind}
-use Rattle.candidate_ir.specs.Nodes.{tree_at}
 use Rattle.candidate_ir.specs.Words.{args_forest}
 use Rattle.candidate_ir.specs.Elaboration.{instance_head, IsRenumberStop}
 use Rattle.candidate_ir.proofs.Kept.{args-kept}

@@ -1,7 +1,6 @@
-use Rattle.std.proofs.Common.{◌≡◌, sym, ◌∙◌, ap, subst}
+use Rattle.std.proofs.Common.{◌≡◌, sym, ◌∙◌, subst}
 use Rattle.std.specs.Prelude.{◌++◌, map, length, ◌⊎◌, IfOk, IfErr, List}
 use Rattle.candidate_ir.specs.Trees.{Tree}
-use Rattle.candidate_ir.specs.Context.{Context}
 use Rattle.candidate_ir.specs.References.{IsWellFormed}
 use Rattle.candidate_ir.specs.Elaboration.{unlisted, IsUnmade}
 use Rattle.candidate_ir.specs.declared.ir.stop.Stop.TheVariants.{Memory}

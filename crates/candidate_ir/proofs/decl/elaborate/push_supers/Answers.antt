@@ -1,14 +1,12 @@
-use Rattle.std.proofs.Common.{◌≡◌, sym, ◌∙◌, ap, subst, inl, inr}
+use Rattle.std.proofs.Common.{◌≡◌, sym, ◌∙◌, subst, inr}
 use Rattle.std.proofs.lemmas.Result.{err_from_is_err_and}
-use Rattle.std.specs.Prelude.{◌++◌, ◌∷◌, [], map, Some, None, List, slice_get}
+use Rattle.std.specs.Prelude.{◌++◌, ◌∷◌, [], map, Some, None, slice_get}
 use Rattle.candidate_ir.specs.Declaring.{trait_at}
 use Rattle.candidate_ir.specs.Supers.{supers_at}
-use Rattle.candidate_ir.specs.Trees.{Forest, Tree, BinderKind}
 use Rattle.candidate_ir.specs.Context.{Context}
-use Rattle.candidate_ir.specs.Words.{ClauseListFits, IsClause, vars_tree, args_forest, clause_tree}
-use Rattle.candidate_ir.specs.Elaboration.{instance, unlisted}
-use Rattle.candidate_ir.proofs.Lists.{below_kind}
-use Rattle.candidate_ir.proofs.Kept.{args-kept, number-kept, grows-trans}
+use Rattle.candidate_ir.specs.Words.{ClauseListFits, clause_tree}
+use Rattle.candidate_ir.specs.Elaboration.{unlisted}
+use Rattle.candidate_ir.proofs.Kept.{args-kept, grows-trans}
 use Rattle.candidate_ir.proofs.Listing.{clauses_kept, no_more_supers, one_more_super, vars_kept, instance_kept, supers_read, super_unmade}
 use Rattle.candidate_ir.proofs.decl.elaborate.push_supers.Goals as goal
 use Rattle.candidate_ir.proofs.decl.elaborate.push_supers.Goals.{in-Some+in_ok-clause+in_ok-push_unlisted, in_default}

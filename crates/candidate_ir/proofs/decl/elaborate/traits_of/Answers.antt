@@ -1,4 +1,4 @@
-use Rattle.std.proofs.Common.{◌≡◌, sym, ◌∙◌, ap, subst, refl}
+use Rattle.std.proofs.Common.{◌≡◌, subst, refl}
 use Rattle.std.specs.Prelude.{slice_index_or, option_map, Option, Some, None}
 use Rattle.std.proofs.lemmas.List.{get_or_default}
 use Rattle.candidate_ir.specs.declared.ir.kinds.Clause.{Clause}

@@ -1,7 +1,4 @@
-use Rattle.std.proofs.Common.{sym, subst, ◌≤◌, arith, ℕ, List, take}
-use Rattle.candidate_ir.specs.Trees.{Tree}
-use Rattle.candidate_ir.specs.Context.{Context}
-use Rattle.candidate_ir.specs.WellFormed.{IsWellFormedContext}
+use Rattle.std.proofs.Common.{arith}
 use Rattle.candidate_ir.proofs.WellFormed.{cut_context}
 use Rattle.candidate_ir.proofs.decl.context.Cx.truncate.Goals as goal
 
