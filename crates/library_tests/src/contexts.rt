@@ -36,10 +36,14 @@ fn check_leaves(rt: &impl Abort, alloc: Global, cx: &mut Cx) {
     let byte = ty(rt, cx, TyKind::Uint(UintTy::U8));
     let is_byte = matches!(cx.kind(byte), TyKind::Uint(UintTy::U8));
     holds(rt, is_byte, "a byte");
+    let number = cx.variable_number(GenericArg::Ty(byte));
+    equals(rt, &number, &None, "a byte's number");
     check_marks(rt, alloc, cx, byte, "");
     let variable = ty(rt, cx, TyKind::Infer(InferTy::TyVar(3)));
     let is_variable = matches!(cx.kind(variable), TyKind::Infer(InferTy::TyVar(3)));
     holds(rt, is_variable, "a variable");
+    let number = cx.variable_number(GenericArg::Ty(variable));
+    equals(rt, &number, &Some(3), "a variable's number");
     check_marks(rt, alloc, cx, variable, "T");
     let param = ty(rt, cx, TyKind::Param(2));
     holds(
