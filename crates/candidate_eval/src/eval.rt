@@ -2,6 +2,7 @@
 
 pub mod certainty;
 pub mod mode;
+pub mod refusal;
 pub mod response;
 pub mod source;
 pub mod variable;

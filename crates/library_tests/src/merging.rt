@@ -8,6 +8,7 @@ ghost use Rattle.candidate_eval.specs.ResponseTrees.{AreCandidates};
 use crate::asserts::equals;
 use crate::builders::{args, region, ty};
 use candidate_eval::eval::certainty::{Certainty, MaybeCause, MaybeInfo, OpaqueTypesJank};
+use candidate_eval::eval::refusal::NoSolutionOrStop;
 use candidate_eval::eval::response::{
     Candidate, CandidateHeadUsages, CanonicalResponse, MergeCandidateInfo,
     has_no_inference_or_external_constraints, has_only_region_constraints, try_merge_candidates,
@@ -16,6 +17,7 @@ use candidate_eval::eval::source::{BuiltinImplSource, CandidateSource};
 use candidate_ir::decl::builder::DeclsBuilder;
 use candidate_ir::decl::context::Cx;
 use candidate_ir::ir::kinds::{Args, GenericArg, InferTy, RegionKind, TyKind, UintTy};
+use candidate_ir::ir::stop::Stop;
 use std::alloc::Global;
 use std::process::Abort;
 
@@ -55,9 +57,22 @@ fn check_certainties(rt: &impl Abort) {
     check_and(rt, whole, overflow(false, false), some, "both overflowed");
 }
 
+fn check_refusals(rt: &impl Abort) {
+    let stop = NoSolutionOrStop::from(Stop::EvaluatorLimit);
+    let want = NoSolutionOrStop::Stop(Stop::EvaluatorLimit);
+    equals(rt, &stop, &want, "a stop");
+    equals(
+        rt,
+        &(stop == NoSolutionOrStop::NoSolution),
+        &false,
+        "no refusal",
+    );
+}
+
 #[test]
 fn certainties(rt: HostRuntime) {
     check_certainties(&rt);
+    check_refusals(&rt);
 }
 
 /// A response with these values, for which nothing else is asked.

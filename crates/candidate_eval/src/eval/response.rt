@@ -18,6 +18,7 @@ use candidate_ir::decl::make::Make;
 use candidate_ir::ir::kinds::{Args, Clause, GenericArg};
 use candidate_ir::ir::stop::Stop;
 use std::alloc::{AllocError, Global};
+use std::fmt;
 
 /// What an evaluator answers to a goal with root variables.
 #[derive(Drop)]
@@ -52,6 +53,13 @@ pub struct Candidate {
     pub source: CandidateSource,
     pub result: CanonicalResponse,
     pub head_usages: CandidateHeadUsages,
+}
+
+/// The source and the certainty.
+impl fmt::Debug for Candidate {
+    fn fmt<W: fmt::Write>(&self, f: &mut fmt::Formatter<W>) -> fmt::Result {
+        write!(f, "{:?}: {:?}", self.source, self.result.certainty)
+    }
 }
 
 /// Why candidates are merged.
