@@ -12,6 +12,7 @@ pub mod Alike
 pub mod Soundness
 pub mod Instances
 pub mod Lawful
+pub mod Evaluators
 pub mod Normalizer
 pub mod Answers
 pub mod Orphan

@@ -1,6 +1,7 @@
 //! What the layers above know of an evaluator.
 
 pub mod certainty;
+pub mod context;
 pub mod mode;
 pub mod refusal;
 pub mod response;

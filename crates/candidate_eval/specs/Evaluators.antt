@@ -1,0 +1,77 @@
+-- What contracts say of an evaluator and of its calls.
+use Rattle.std.specs.Prelude.{◌≡◌, suc, Option, Some, None, List, [], ◌∷◌, ◌++◌, map, unwrap_or}
+use Rattle.candidate_ir.specs.declared.ir.heads.Head.{Head}
+use Rattle.candidate_ir.specs.declared.ir.heads.Head.TheVariants as H
+use Rattle.candidate_ir.specs.declared.ir.kinds.AliasTy.{AliasTy}
+use Rattle.candidate_ir.specs.declared.ir.kinds.Clause.{Clause}
+use Rattle.candidate_ir.specs.declared.ir.kinds.Goal.{Goal as OfNumbers}
+use Rattle.candidate_ir.specs.declared.ir.kinds.GoalSource.{GoalSource}
+use Rattle.candidate_ir.specs.declared.ir.kinds.TyKind.TheVariants as K
+use Rattle.candidate_ir.specs.declared.ir.kinds.VarKind.{VarKind}
+use Rattle.candidate_ir.specs.Trees.{Kind, Forest, none, Tree}
+use Rattle.candidate_ir.specs.Context.{Context, Grows, parameter_kind}
+use Rattle.candidate_ir.specs.Words.{IsParamEnv, IsClause, env_forest, clause_tree, kind_tree}
+use Rattle.candidate_eval.specs.declared.eval.context.ProbeKind.{ProbeKind}
+use Rattle.candidate_eval.specs.declared.eval.context.ProbeKind.TheVariants as P
+use Rattle.candidate_eval.specs.States.{Env, State, Goal, Pending, Judge, with_pending, with_universe, placeholders, value_of, next}
+
+-- A call keeps what is fixed and the open probes, and numbers have their trees still: of the evaluator only its state changes.
+abbrev pub Keeps : {E F : Type 0} → (E → F) → (E → List State) → (E → Context) → E → E → Type 0
+Keeps fixed probes context old new = (fixed new ≡ fixed old) × (probes new ≡ probes old) × Grows (context old) (context new)
+
+-- The trees of a goal's numbers.
+
+abbrev pub IsGoal : List Tree → OfNumbers Clause → Type 0
+IsGoal ts g = IsParamEnv ts g.param_env × IsClause ts g.predicate
+
+abbrev pub goal_of : List Tree → OfNumbers Clause → Goal
+goal_of ts g = record { env = env_forest ts g.param_env; clause = clause_tree ts g.predicate }
+
+abbrev pub pending_of : List Tree → GoalSource → OfNumbers Clause → Pending
+pending_of ts s g = record { source = s; goal = goal_of ts g }
+
+-- goals of a source become pending, in order
+abbrev pub with_goals_of : List Tree → State → GoalSource → List (OfNumbers Clause) → State
+with_goals_of ts S s gs = with_pending S (S.pending ++ map (pending_of ts s) gs)
+
+-- goals, each with its source
+abbrev pub pendings_of : List Tree → List (GoalSource × OfNumbers Clause) → List Pending
+pendings_of ts gs = map (λ g. pending_of ts g.0 g.1) gs
+
+-- The state after an accepted equation: the goals that it leaves are pending.
+
+abbrev pub with_left : List Pending × State → State
+with_left q = with_pending q.1 (q.1.pending ++ q.0)
+
+abbrev pub accepted : Judge → State → Env → Forest → Forest → Option State
+accepted J S e a b = next (J.equated S e a b) (λ q. Some (with_left q))
+
+-- The tree, with the value in the place of a variable of types or constants that is its root.
+
+abbrev pub root_value : State → Head → Option Tree
+root_value S (H.Infer v) = value_of S v.number
+root_value S _ = None
+
+abbrev pub resolved_root : State → Tree → Tree
+resolved_root S t = unwrap_or (root_value S t.head) t
+
+-- the state at which a probe begins
+abbrev pub begun : ProbeKind → State → State
+begun P.Kept S = S
+begun P.SetAside S = with_pending S []
+
+abbrev pub kinds_listed : List VarKind → List Kind
+kinds_listed ks = map parameter_kind ks
+
+-- Placeholders of a fresh universe for variables of these kinds; none, and no universe, where there are no variables.
+
+abbrev pub rigid : State → List Kind → Forest
+rigid S ks = placeholders (suc S.newest_universe) 0 ks
+
+abbrev pub with_rigid : State → List Kind → State
+with_rigid S [] = S
+with_rigid S (k ∷ ks) = with_universe S
+
+-- the trees of alias types
+abbrev pub alias_trees : List Tree → List AliasTy → List Tree
+alias_trees ts xs = map (λ a. kind_tree ts (K.Alias a)) xs

@@ -1,0 +1,134 @@
+//! What generic code knows of an evaluator.
+
+ghost use Rattle.std.specs.Prelude.{◌≡◌, ◌≢◌, List, [], ◌∷◌, Some, None, All, IfOk, IfErr, OnOk, OnErr};
+ghost use Rattle.candidate_ir.specs.declared.ir.kinds.TyKind.TheVariants as K;
+ghost use Rattle.candidate_ir.specs.Context.{Context, Grows, world};
+ghost use Rattle.candidate_ir.specs.Folds.{IsArg, arg_tree};
+ghost use Rattle.candidate_ir.specs.Substitutions.{alone};
+ghost use Rattle.candidate_ir.specs.Trees.{Tree};
+ghost use Rattle.candidate_ir.specs.Words.{IsTy, IsConst, IsRegion, IsArgs, IsClause, IsParamEnv, KindFits, ty_tree, const_tree, region_tree, args_forest, clause_tree, env_forest};
+ghost use Rattle.candidate_eval.specs.Calls.{depth_limit};
+ghost use Rattle.candidate_eval.specs.Certainties.{AMBIGUOUS};
+ghost use Rattle.candidate_eval.specs.Evaluators.{Keeps, IsGoal, pending_of, pendings_of, with_goals_of, accepted, resolved_root, begun, kinds_listed, rigid, with_rigid, alias_trees};
+ghost use Rattle.candidate_eval.specs.Lawful.{Lawful};
+ghost use Rattle.candidate_eval.specs.ResponseTrees.{IsResponse, response_of};
+ghost use Rattle.candidate_eval.specs.States.{State, Judge, added, with_pending, fresh_variables, with_fresh_variables, resolved, resolved_tree};
+
+use crate::eval::InferCtxtLike;
+use crate::eval::certainty::Certainty;
+use crate::eval::mode::TypingMode;
+use crate::eval::refusal::NoSolutionOrStop;
+use crate::eval::response::{CandidateHeadUsages, CanonicalResponse};
+use candidate_ir::ir::kinds::{
+    AliasTy, Args, Clause, Const, GenericArg, Goal, GoalSource, ParamEnv, Ty, VarKind,
+};
+use candidate_ir::ir::stop::Stop;
+
+/// What a probe begins with.
+#[derive(Clone, Copy, Debug, PartialEq, Eq)]
+pub enum ProbeKind {
+    /// What is pending.
+    Kept,
+    /// Nothing pending: what was is set aside until the probe ends.
+    SetAside,
+}
+
+/// An evaluator.
+///
+/// A call that answers a stop leaves a state alike the one before: the same universes, values, regions and pending goals.
+pub trait EvalCtxt: InferCtxtLike {
+    /// What `begin_probe` gives and `end_probe` takes. It is not `Drop`, so it must be spent.
+    type Probe;
+
+    /// The type of what stays fixed.
+    ghost Fixed: { Type 0 };
+
+    /// What stays fixed.
+    ghost fixed: { Self → Fixed };
+
+    /// The answers that follow from it.
+    ghost judge: { Fixed → Judge };
+
+    /// The state.
+    ghost state: { Self → State };
+
+    /// The states at which the open probes began, the newest first.
+    ghost probes: { Self → List State };
+
+    /// What goals are asked for.
+    fn typing_mode(&self) -> TypingMode
+        ensures { result ≡ (state self.now).mode };
+
+    /// Fresh variables of the newest universe, in the place of parameters of these kinds.
+    fn fresh_args_for_item(&mut self, kinds: &[VarKind]) -> Result<Args, Stop>
+        ensures kept { Keeps fixed probes Self.context self.old self.new }
+        ensures sort { IfOk result (λ a. IsArgs (Self.context self.new).trees a) }
+        ensures trees { IfOk result (λ a. args_forest (Self.context self.new).trees a ≡ fresh_variables (state self.old) (kinds_listed kinds.now)) }
+        ensures made { OnOk result (state self.new ≡ with_fresh_variables (state self.old) (kinds_listed kinds.now)) }
+        ensures stopped { OnErr result ((judge (fixed self.old)).alike (state self.old) (state self.new)) };
+
+    /// Two lists are made equal, argument by argument. The goals that this leaves become pending.
+    fn eq_args(&mut self, env: ParamEnv, a: Args, b: Args) -> Result<(), NoSolutionOrStop>
+        requires env { IsParamEnv (Self.context self.old).trees env }
+        requires left { IsArgs (Self.context self.old).trees a }
+        requires right { IsArgs (Self.context self.old).trees b }
+        ensures kept { Keeps fixed probes Self.context self.old self.new }
+        ensures ok { IfOk result (λ _. accepted (judge (fixed self.old)) (state self.old) (env_forest (Self.context self.old).trees env) (args_forest (Self.context self.old).trees a) (args_forest (Self.context self.old).trees b) ≡ Some (state self.new)) }
+        ensures refused { IfErr result (λ e. e ≡ NoSolutionOrStop.NoSolution → accepted (judge (fixed self.old)) (state self.old) (env_forest (Self.context self.old).trees env) (args_forest (Self.context self.old).trees a) (args_forest (Self.context self.old).trees b) ≡ None) }
+        ensures stopped { IfErr result (λ e. e ≢ NoSolutionOrStop.NoSolution → (judge (fixed self.old)).alike (state self.old) (state self.new)) };
+
+    /// A goal becomes pending, after all others.
+    fn add_goal(&mut self, source: GoalSource, goal: Goal<Clause>) -> Result<(), Stop>
+        requires { IsGoal (Self.context self.old).trees goal }
+        ensures kept { Keeps fixed probes Self.context self.old self.new }
+        ensures ok { OnOk result (state self.new ≡ added (state self.old) (pending_of (Self.context self.old).trees source goal)) }
+        ensures stopped { OnErr result (state self.new ≡ state self.old) };
+
+    /// How sure what is pending is, together. What is settled is pending no more.
+    fn try_evaluate_added_goals(&mut self) -> Result<Certainty, NoSolutionOrStop>
+        ensures kept { Keeps fixed probes Self.context self.old self.new }
+        ensures ok { IfOk result (λ c. (judge (fixed self.old)).settled (state self.old) ≡ Some (c, state self.new)) }
+        ensures refused { IfErr result (λ e. e ≡ NoSolutionOrStop.NoSolution → (judge (fixed self.old)).settled (state self.old) ≡ None) }
+        ensures stopped { IfErr result (λ e. e ≢ NoSolutionOrStop.NoSolution → (judge (fixed self.old)).alike (state self.old) (state self.new)) };
+
+    /// The response, with at most that certainty. Nothing is said of the state that it leaves: it is asked for in a probe.
+    fn evaluate_added_goals_and_make_canonical_response(
+        &mut self,
+        certainty: Certainty,
+    ) -> Result<CanonicalResponse, NoSolutionOrStop>
+        ensures kept { Keeps fixed probes Self.context self.old self.new }
+        ensures sort { IfOk result (λ r. IsResponse (Self.context self.new).trees r) }
+        ensures ok { IfOk result (λ r. (judge (fixed self.old)).responded (state self.old) certainty ≡ Some (response_of (Self.context self.new).trees r)) }
+        ensures refused { IfErr result (λ e. e ≡ NoSolutionOrStop.NoSolution → (judge (fixed self.old)).responded (state self.old) certainty ≡ None) }
+        ensures stopped { IfErr result (λ e. e ≢ NoSolutionOrStop.NoSolution → (judge (fixed self.old)).alike (state self.old) (state self.new)) };
+
+    /// Begins a probe.
+    fn begin_probe(&mut self, kind: ProbeKind) -> Result<Self::Probe, Stop>
+        ensures fixed { fixed self.new ≡ fixed self.old }
+        ensures grows { Grows (Self.context self.old) (Self.context self.new) }
+        ensures ok { OnOk result ((state self.new ≡ begun kind (state self.old)) × (probes self.new ≡ state self.old ∷ probes self.old)) }
+        ensures stopped { OnErr result ((state self.new ≡ state self.old) × (probes self.new ≡ probes self.old)) };
+
+    /// Ends the newest probe. The state is then alike the one at which it began, what was pending there included.
+    fn end_probe(&mut self, probe: Self::Probe) -> CandidateHeadUsages
+        requires { probes self.old ≢ [] }
+        ensures fixed { fixed self.new ≡ fixed self.old }
+        ensures grows { Grows (Self.context self.old) (Self.context self.new) }
+        ensures closed { (S : State) (others : List State) → probes self.old ≡ S ∷ others → (judge (fixed self.old)).alike S (state self.new) }
+        ensures left { (S : State) (others : List State) → probes self.old ≡ S ∷ others → probes self.new ≡ others };
+
+    /// The judge keeps the laws.
+    ghost lawful: { (f : Fixed) → Lawful (judge f) };
+
+    /// Its world and local crate are those that are declared.
+    ghost declared: { (s : Self) → ((judge (fixed s)).world ≡ world (Self.context s)) × ((judge (fixed s)).local_crate ≡ (Self.context s).local.0) };
+
+    /// It walks as deep as the orphan check.
+    ghost walks: { (f : Fixed) → (judge f).limits.orphan_walk ≡ depth_limit };
+
+    /// What a variable resolves to is its value in the state.
+    ghost resolves: { (s : Self) (t : Tree) → Self.resolved s t ≡ resolved_root (state s) t };
+
+    /// Making a node changes nothing of it.
+    ghost by_rest: { (s t : Self) → Self.rest t ≡ Self.rest s → (fixed t ≡ fixed s) × (state t ≡ state s) × (probes t ≡ probes s) };
+}
