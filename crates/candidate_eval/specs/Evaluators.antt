@@ -8,7 +8,7 @@ use Rattle.candidate_ir.specs.declared.ir.kinds.Goal.{Goal as OfNumbers}
 use Rattle.candidate_ir.specs.declared.ir.kinds.GoalSource.{GoalSource}
 use Rattle.candidate_ir.specs.declared.ir.kinds.TyKind.TheVariants as K
 use Rattle.candidate_ir.specs.declared.ir.kinds.VarKind.{VarKind}
-use Rattle.candidate_ir.specs.Trees.{Kind, Forest, none, Tree}
+use Rattle.candidate_ir.specs.Trees.{Kind, Forest, Tree}
 use Rattle.candidate_ir.specs.Context.{Context, Grows, parameter_kind}
 use Rattle.candidate_ir.specs.Words.{IsParamEnv, IsClause, env_forest, clause_tree, kind_tree}
 use Rattle.candidate_eval.specs.declared.eval.context.ProbeKind.{ProbeKind}

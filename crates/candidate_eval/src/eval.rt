@@ -1,5 +1,6 @@
 //! What the layers above know of an evaluator.
 
+pub mod ambiguity;
 pub mod certainty;
 pub mod context;
 pub mod mode;

@@ -1,6 +1,6 @@
 //! What generic code knows of an evaluator.
 
-ghost use Rattle.std.specs.Prelude.{◌≡◌, ◌≢◌, List, [], ◌∷◌, Some, None, All, IfOk, IfErr, OnOk, OnErr};
+ghost use Rattle.std.specs.Prelude.{◌≡◌, ◌≢◌, List, [], ◌∷◌, ◌++◌, Some, None, All, IfOk, IfErr, OnOk, OnErr};
 ghost use Rattle.candidate_ir.specs.declared.ir.kinds.TyKind.TheVariants as K;
 ghost use Rattle.candidate_ir.specs.Context.{Context, Grows, world};
 ghost use Rattle.candidate_ir.specs.Folds.{IsArg, arg_tree};
@@ -8,11 +8,10 @@ ghost use Rattle.candidate_ir.specs.Substitutions.{alone};
 ghost use Rattle.candidate_ir.specs.Trees.{Tree};
 ghost use Rattle.candidate_ir.specs.Words.{IsTy, IsConst, IsRegion, IsArgs, IsClause, IsParamEnv, KindFits, ty_tree, const_tree, region_tree, args_forest, clause_tree, env_forest};
 ghost use Rattle.candidate_eval.specs.Calls.{depth_limit};
-ghost use Rattle.candidate_eval.specs.Certainties.{AMBIGUOUS};
 ghost use Rattle.candidate_eval.specs.Evaluators.{Keeps, IsGoal, pending_of, pendings_of, with_goals_of, accepted, resolved_root, begun, kinds_listed, rigid, with_rigid, alias_trees};
 ghost use Rattle.candidate_eval.specs.Lawful.{Lawful};
 ghost use Rattle.candidate_eval.specs.ResponseTrees.{IsResponse, response_of};
-ghost use Rattle.candidate_eval.specs.States.{State, Judge, added, with_pending, fresh_variables, with_fresh_variables, resolved, resolved_tree};
+ghost use Rattle.candidate_eval.specs.States.{State, Judge, added, fresh_variables, with_fresh_variables, resolved, resolved_tree};
 
 use crate::eval::InferCtxtLike;
 use crate::eval::certainty::Certainty;
@@ -20,7 +19,7 @@ use crate::eval::mode::TypingMode;
 use crate::eval::refusal::NoSolutionOrStop;
 use crate::eval::response::{CandidateHeadUsages, CanonicalResponse};
 use candidate_ir::ir::kinds::{
-    AliasTy, Args, Clause, Const, GenericArg, Goal, GoalSource, ParamEnv, Ty, VarKind,
+    AliasTy, Args, Clause, Const, GenericArg, Goal, GoalSource, ParamEnv, Region, Ty, VarKind,
 };
 use candidate_ir::ir::stop::Stop;
 
@@ -59,12 +58,82 @@ pub trait EvalCtxt: InferCtxtLike {
     fn typing_mode(&self) -> TypingMode
         ensures { result ≡ (state self.now).mode };
 
+    /// The type, with all values put in.
+    fn resolve_ty_if_possible(&mut self, ty: Ty) -> Result<Ty, Stop>
+        requires { IsTy (Self.context self.old).trees ty }
+        ensures kept { Keeps fixed probes Self.context self.old self.new }
+        ensures same { state self.new ≡ state self.old }
+        ensures sort { IfOk result (λ x. IsTy (Self.context self.new).trees x) }
+        ensures tree { IfOk result (λ x. ty_tree (Self.context self.new).trees x ≡ resolved_tree (state self.old) (ty_tree (Self.context self.old).trees ty)) };
+
+    /// The constant, with all values put in.
+    fn resolve_const_if_possible(&mut self, constant: Const) -> Result<Const, Stop>
+        requires { IsConst (Self.context self.old).trees constant }
+        ensures kept { Keeps fixed probes Self.context self.old self.new }
+        ensures same { state self.new ≡ state self.old }
+        ensures sort { IfOk result (λ x. IsConst (Self.context self.new).trees x) }
+        ensures tree { IfOk result (λ x. const_tree (Self.context self.new).trees x ≡ resolved_tree (state self.old) (const_tree (Self.context self.old).trees constant)) };
+
+    /// The list, with all values put in.
+    fn resolve_args_if_possible(&mut self, list: Args) -> Result<Args, Stop>
+        requires { IsArgs (Self.context self.old).trees list }
+        ensures kept { Keeps fixed probes Self.context self.old self.new }
+        ensures same { state self.new ≡ state self.old }
+        ensures sort { IfOk result (λ x. IsArgs (Self.context self.new).trees x) }
+        ensures tree { IfOk result (λ x. args_forest (Self.context self.new).trees x ≡ resolved (state self.old) (args_forest (Self.context self.old).trees list)) };
+
+    /// The clause, with all values put in.
+    fn resolve_clause_if_possible(&mut self, clause: Clause) -> Result<Clause, Stop>
+        requires { IsClause (Self.context self.old).trees clause }
+        ensures kept { Keeps fixed probes Self.context self.old self.new }
+        ensures same { state self.new ≡ state self.old }
+        ensures sort { IfOk result (λ x. IsClause (Self.context self.new).trees x) }
+        ensures tree { IfOk result (λ x. clause_tree (Self.context self.new).trees x ≡ resolved_tree (state self.old) (clause_tree (Self.context self.old).trees clause)) };
+
+    /// The region with its value in its place, if it is a variable that has one.
+    fn eager_resolve_region(&self, region: Region) -> Region
+        requires { IsRegion (Self.context self.now).trees region }
+        ensures sort { IsRegion (Self.context self.now).trees result }
+        ensures tree { region_tree (Self.context self.now).trees result ≡ resolved_tree (state self.now) (region_tree (Self.context self.now).trees region) };
+
+    /// The type in normal form. A refusal leaves the state alike, too.
+    fn structurally_normalize_ty(&mut self, env: ParamEnv, ty: Ty) -> Result<Ty, NoSolutionOrStop>
+        requires env { IsParamEnv (Self.context self.old).trees env }
+        requires ty { IsTy (Self.context self.old).trees ty }
+        ensures kept { Keeps fixed probes Self.context self.old self.new }
+        ensures sort { IfOk result (λ x. IsTy (Self.context self.new).trees x) }
+        ensures ok { IfOk result (λ x. (judge (fixed self.old)).normalized (state self.old) (env_forest (Self.context self.old).trees env) (ty_tree (Self.context self.old).trees ty) ≡ Some (ty_tree (Self.context self.new).trees x, state self.new)) }
+        ensures refused { IfErr result (λ e. e ≡ NoSolutionOrStop.NoSolution → (judge (fixed self.old)).normalized (state self.old) (env_forest (Self.context self.old).trees env) (ty_tree (Self.context self.old).trees ty) ≡ None) }
+        ensures undone { OnErr result ((judge (fixed self.old)).alike (state self.old) (state self.new)) };
+
+    /// The constant in normal form. A refusal leaves the state alike, too.
+    fn structurally_normalize_const(
+        &mut self,
+        env: ParamEnv,
+        constant: Const,
+    ) -> Result<Const, NoSolutionOrStop>
+        requires env { IsParamEnv (Self.context self.old).trees env }
+        requires constant { IsConst (Self.context self.old).trees constant }
+        ensures kept { Keeps fixed probes Self.context self.old self.new }
+        ensures sort { IfOk result (λ x. IsConst (Self.context self.new).trees x) }
+        ensures ok { IfOk result (λ x. (judge (fixed self.old)).normalized (state self.old) (env_forest (Self.context self.old).trees env) (const_tree (Self.context self.old).trees constant) ≡ Some (const_tree (Self.context self.new).trees x, state self.new)) }
+        ensures refused { IfErr result (λ e. e ≡ NoSolutionOrStop.NoSolution → (judge (fixed self.old)).normalized (state self.old) (env_forest (Self.context self.old).trees env) (const_tree (Self.context self.old).trees constant) ≡ None) }
+        ensures undone { OnErr result ((judge (fixed self.old)).alike (state self.old) (state self.new)) };
+
     /// Fresh variables of the newest universe, in the place of parameters of these kinds.
     fn fresh_args_for_item(&mut self, kinds: &[VarKind]) -> Result<Args, Stop>
         ensures kept { Keeps fixed probes Self.context self.old self.new }
         ensures sort { IfOk result (λ a. IsArgs (Self.context self.new).trees a) }
         ensures trees { IfOk result (λ a. args_forest (Self.context self.new).trees a ≡ fresh_variables (state self.old) (kinds_listed kinds.now)) }
         ensures made { OnOk result (state self.new ≡ with_fresh_variables (state self.old) (kinds_listed kinds.now)) }
+        ensures stopped { OnErr result ((judge (fixed self.old)).alike (state self.old) (state self.new)) };
+
+    /// Placeholders of a fresh universe, in the place of a binder's variables of these kinds. Without variables there is none.
+    fn placeholder_args(&mut self, kinds: &[VarKind]) -> Result<Args, Stop>
+        ensures kept { Keeps fixed probes Self.context self.old self.new }
+        ensures sort { IfOk result (λ a. IsArgs (Self.context self.new).trees a) }
+        ensures trees { IfOk result (λ a. args_forest (Self.context self.new).trees a ≡ rigid (state self.old) (kinds_listed kinds.now)) }
+        ensures made { OnOk result (state self.new ≡ with_rigid (state self.old) (kinds_listed kinds.now)) }
         ensures stopped { OnErr result ((judge (fixed self.old)).alike (state self.old) (state self.new)) };
 
     /// Two lists are made equal, argument by argument. The goals that this leaves become pending.
@@ -77,11 +146,44 @@ pub trait EvalCtxt: InferCtxtLike {
         ensures refused { IfErr result (λ e. e ≡ NoSolutionOrStop.NoSolution → accepted (judge (fixed self.old)) (state self.old) (env_forest (Self.context self.old).trees env) (args_forest (Self.context self.old).trees a) (args_forest (Self.context self.old).trees b) ≡ None) }
         ensures stopped { IfErr result (λ e. e ≢ NoSolutionOrStop.NoSolution → (judge (fixed self.old)).alike (state self.old) (state self.new)) };
 
+    /// Two types, constants or regions are made equal. The goals that this leaves become pending.
+    fn eq(&mut self, env: ParamEnv, a: GenericArg, b: GenericArg) -> Result<(), NoSolutionOrStop>
+        requires env { IsParamEnv (Self.context self.old).trees env }
+        requires left { IsArg (Self.context self.old).trees a }
+        requires right { IsArg (Self.context self.old).trees b }
+        ensures kept { Keeps fixed probes Self.context self.old self.new }
+        ensures ok { IfOk result (λ _. accepted (judge (fixed self.old)) (state self.old) (env_forest (Self.context self.old).trees env) (alone (arg_tree (Self.context self.old).trees a)) (alone (arg_tree (Self.context self.old).trees b)) ≡ Some (state self.new)) }
+        ensures refused { IfErr result (λ e. e ≡ NoSolutionOrStop.NoSolution → accepted (judge (fixed self.old)) (state self.old) (env_forest (Self.context self.old).trees env) (alone (arg_tree (Self.context self.old).trees a)) (alone (arg_tree (Self.context self.old).trees b)) ≡ None) }
+        ensures stopped { IfErr result (λ e. e ≢ NoSolutionOrStop.NoSolution → (judge (fixed self.old)).alike (state self.old) (state self.new)) };
+
+    /// The same, where the goals that this leaves are answered, each with its source, and don't become pending.
+    fn eq_and_get_goals(
+        &mut self,
+        env: ParamEnv,
+        a: GenericArg,
+        b: GenericArg,
+    ) -> Result<Vec<(GoalSource, Goal<Clause>)>, NoSolutionOrStop>
+        requires env { IsParamEnv (Self.context self.old).trees env }
+        requires left { IsArg (Self.context self.old).trees a }
+        requires right { IsArg (Self.context self.old).trees b }
+        ensures kept { Keeps fixed probes Self.context self.old self.new }
+        ensures sort { IfOk result (λ v. All (λ g. IsGoal (Self.context self.new).trees g.1) v.items) }
+        ensures ok { IfOk result (λ v. (judge (fixed self.old)).equated (state self.old) (env_forest (Self.context self.old).trees env) (alone (arg_tree (Self.context self.old).trees a)) (alone (arg_tree (Self.context self.old).trees b)) ≡ Some (pendings_of (Self.context self.new).trees v.items, state self.new)) }
+        ensures refused { IfErr result (λ e. e ≡ NoSolutionOrStop.NoSolution → (judge (fixed self.old)).equated (state self.old) (env_forest (Self.context self.old).trees env) (alone (arg_tree (Self.context self.old).trees a)) (alone (arg_tree (Self.context self.old).trees b)) ≡ None) }
+        ensures stopped { IfErr result (λ e. e ≢ NoSolutionOrStop.NoSolution → (judge (fixed self.old)).alike (state self.old) (state self.new)) };
+
     /// A goal becomes pending, after all others.
     fn add_goal(&mut self, source: GoalSource, goal: Goal<Clause>) -> Result<(), Stop>
         requires { IsGoal (Self.context self.old).trees goal }
         ensures kept { Keeps fixed probes Self.context self.old self.new }
         ensures ok { OnOk result (state self.new ≡ added (state self.old) (pending_of (Self.context self.old).trees source goal)) }
+        ensures stopped { OnErr result (state self.new ≡ state self.old) };
+
+    /// Goals become pending, in order, after all others; none where it stops.
+    fn add_goals(&mut self, source: GoalSource, goals: &[Goal<Clause>]) -> Result<(), Stop>
+        requires { All (IsGoal (Self.context self.old).trees) goals.now }
+        ensures kept { Keeps fixed probes Self.context self.old self.new }
+        ensures ok { OnOk result (state self.new ≡ with_goals_of (Self.context self.old).trees (state self.old) source goals.now) }
         ensures stopped { OnErr result (state self.new ≡ state self.old) };
 
     /// How sure what is pending is, together. What is settled is pending no more.
@@ -116,6 +218,26 @@ pub trait EvalCtxt: InferCtxtLike {
         ensures grows { Grows (Self.context self.old) (Self.context self.new) }
         ensures closed { (S : State) (others : List State) → probes self.old ≡ S ∷ others → (judge (fixed self.old)).alike S (state self.new) }
         ensures left { (S : State) (others : List State) → probes self.old ≡ S ∷ others → probes self.new ≡ others };
+
+    /// The opaque types that may be hidden behind the type.
+    fn opaques_with_sub_unified_hidden_type(&mut self, ty: Ty) -> Result<Vec<AliasTy>, Stop>
+        requires { IsTy (Self.context self.old).trees ty }
+        ensures kept { Keeps fixed probes Self.context self.old self.new }
+        ensures same { state self.new ≡ state self.old }
+        ensures fit { IfOk result (λ v. All (λ a. KindFits (Self.context self.new).trees (K.Alias a)) v.items) }
+        ensures ok { IfOk result (λ v. alias_trees (Self.context self.new).trees v.items ≡ (judge (fixed self.old)).opaques (state self.old) (ty_tree (Self.context self.old).trees ty)) };
+
+    /// Forgets which goals a candidate has used.
+    fn ignore_candidate_head_usages(&mut self, usages: CandidateHeadUsages)
+        ensures kept { Keeps fixed probes Self.context self.old self.new }
+        ensures same { state self.new ≡ state self.old };
+
+    /// Puts off a fault.
+    fn delay_bug(&mut self, text: &str) -> Result<(), Stop>
+        ensures kept { (fixed self.new ≡ fixed self.old) × (probes self.new ≡ probes self.old) }
+        ensures same { state self.new ≡ state self.old }
+        ensures added { OnOk result (Self.context self.new ≡ record (Self.context self.old) { delayed_bugs = (Self.context self.old).delayed_bugs ++ text.now ∷ [] }) }
+        ensures unchanged { OnErr result (Self.context self.new ≡ Self.context self.old) };
 
     /// The judge keeps the laws.
     ghost lawful: { (f : Fixed) → Lawful (judge f) };

@@ -1,0 +1,52 @@
+use Rattle.std.proofs.Common.{rules, ◌≡◌, ◌∙◌, ap, sym, [], Some}
+use Rattle.candidate_eval.specs.declared.eval.refusal.NoSolutionOrStop.TheVariants.{NoSolution}
+use Rattle.candidate_eval.specs.Certainties.{AMBIGUOUS}
+use Rattle.candidate_eval.specs.ResponseTrees.{response_of}
+use Rattle.candidate_eval.specs.States.{with_pending}
+use Rattle.candidate_eval.proofs.Probing.{keeps-probe, of-error}
+use Rattle.candidate_eval.proofs.Responding.{response-fits, response-kept, not-refused, as-asked}
+use Rattle.candidate_eval.proofs.eval.ambiguity.bail_with_ambiguity.Goals as goal
+
+pub returns-in-Ok-clause-kept : goal.returns-in-Ok-clause-kept
+returns-in-Ok-clause-kept g c =
+    let E = g.E.EvalCtxt in
+    let ran = c.evaluate_added_goals_and_make_canonical_response-answer in
+    let end = c.end_probe-usages in
+    let began = c.in_ok-probe.ensures in
+    keeps-probe E.fixed E.probes g.E.Make.context c.args.ecx.now c.begin_probe.new.self ran.new.self end.new.self (E.state c.args.ecx.now)
+    began.fixed began.grows began.ok.1 ran.ensures.kept end.ensures.fixed end.ensures.grows end.ensures.left
+
+pub returns-in-Ok-clause-fits : goal.returns-in-Ok-clause-fits
+returns-in-Ok-clause-fits g c =
+    let ran = c.evaluate_added_goals_and_make_canonical_response-answer in
+    response-fits _ _ c.in-Ok.response c.end_probe-usages.ensures.grows c.in-Ok.ensures.sort
+
+pub returns-in-Ok-clause-answer : goal.returns-in-Ok-clause-answer
+returns-in-Ok-clause-answer g c =
+    let E = g.E.EvalCtxt in
+    let S = E.state c.args.ecx.now in
+    let began = c.in_ok-probe.ensures in
+    let ran = c.evaluate_added_goals_and_make_canonical_response-answer in
+    let answer : (E.judge (E.fixed c.args.ecx.now)).responded (with_pending S []) AMBIGUOUS ≡ Some (response_of (g.E.Make.context ran.new.self).trees c.in-Ok.response)
+    = rw (began.fixed, began.ok.0) at c.in-Ok.ensures.ok in
+    answer ∙ ap Some (sym (response-kept _ _ c.in-Ok.response c.end_probe-usages.ensures.grows c.in-Ok.ensures.sort))
+
+pub returns-in-Ok-clause-certainty : goal.returns-in-Ok-clause-certainty
+returns-in-Ok-clause-certainty g c =
+    let E = g.E.EvalCtxt in
+    let S = E.state c.args.ecx.now in
+    let began = c.in_ok-probe.ensures in
+    let ran = c.evaluate_added_goals_and_make_canonical_response-answer in
+    let answer : (E.judge (E.fixed c.args.ecx.now)).responded (with_pending S []) AMBIGUOUS ≡ Some (response_of (g.E.Make.context ran.new.self).trees c.in-Ok.response)
+    = rw (began.fixed, began.ok.0) at c.in-Ok.ensures.ok in
+    as-asked (E.judge (E.fixed c.args.ecx.now)) (g.met.E.EvalCtxt.lawful (E.fixed c.args.ecx.now)) S AMBIGUOUS _ answer
+
+pub unreachable-requires : goal.unreachable-requires
+unreachable-requires g c =
+    let E = g.E.EvalCtxt in
+    let S = E.state c.args.ecx.now in
+    let began = c.in_ok-probe.ensures in
+    let ran = c.evaluate_added_goals_and_make_canonical_response-answer in
+    let is : c.in-Err-NoSolution.field-0 ≡ NoSolution = search rules in
+    let refused = of-error ran.result c.in-Err-NoSolution.field-0 _ c.in-Err-NoSolution.is ran.ensures.refused is in
+    not-refused (E.judge (E.fixed c.args.ecx.now)) (g.met.E.EvalCtxt.lawful (E.fixed c.args.ecx.now)) S AMBIGUOUS (rw (began.fixed, began.ok.0) at refused)

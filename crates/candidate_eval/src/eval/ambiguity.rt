@@ -1,0 +1,52 @@
+//! The answer where too little is known.
+
+ghost use Rattle.std.specs.Prelude.{◌≡◌, ◌≢◌, [], Some, IfOk, IfErr};
+ghost use Rattle.candidate_eval.specs.Certainties.{AMBIGUOUS};
+ghost use Rattle.candidate_eval.specs.Evaluators.{Keeps};
+ghost use Rattle.candidate_eval.specs.ResponseTrees.{IsResponse, response_of};
+ghost use Rattle.candidate_eval.specs.States.{with_pending};
+
+use crate::eval::certainty::Certainty;
+use crate::eval::context::{EvalCtxt, ProbeKind};
+use crate::eval::refusal::NoSolutionOrStop;
+use crate::eval::response::{Candidate, CanonicalResponse};
+use candidate_ir::ir::stop::Stop;
+
+/// The response that too little is known, without constraints: what is pending is set aside for it.
+///
+/// It is never refused.
+pub fn bail_with_ambiguity<E: EvalCtxt>(ecx: &mut E) -> Result<CanonicalResponse, Stop>
+    ensures kept { Keeps E.fixed E.probes E.context ecx.old ecx.new }
+    ensures alike { (E.judge (E.fixed ecx.old)).alike (E.state ecx.old) (E.state ecx.new) }
+    ensures fits { IfOk result (λ r. IsResponse (E.context ecx.new).trees r) }
+    ensures answer { IfOk result (λ r. (E.judge (E.fixed ecx.old)).responded (with_pending (E.state ecx.old) []) AMBIGUOUS ≡ Some (response_of (E.context ecx.new).trees r)) }
+    ensures certainty { IfOk result (λ r. r.certainty ≡ AMBIGUOUS) }
+{
+    let probe = ecx.begin_probe(ProbeKind::SetAside)?;
+    let answer = ecx.evaluate_added_goals_and_make_canonical_response(Certainty::AMBIGUOUS);
+    let _usages = ecx.end_probe(probe);
+    match answer {
+        Ok(response) => Ok(response),
+        Err(NoSolutionOrStop::Stop(stop)) => Err(stop),
+        Err(NoSolutionOrStop::NoSolution) => unreachable!(),
+    }
+}
+
+/// The answer where candidates don't merge: a refusal, if there is none, and else the response that too little is known.
+pub fn flounder<E: EvalCtxt>(
+    ecx: &mut E,
+    candidates: &[Candidate],
+) -> Result<CanonicalResponse, NoSolutionOrStop>
+    ensures kept { Keeps E.fixed E.probes E.context ecx.old ecx.new }
+    ensures alike { (E.judge (E.fixed ecx.old)).alike (E.state ecx.old) (E.state ecx.new) }
+    ensures fits { IfOk result (λ r. IsResponse (E.context ecx.new).trees r) }
+    ensures answer { IfOk result (λ r. (E.judge (E.fixed ecx.old)).responded (with_pending (E.state ecx.old) []) AMBIGUOUS ≡ Some (response_of (E.context ecx.new).trees r)) }
+    ensures certainty { IfOk result (λ r. r.certainty ≡ AMBIGUOUS) }
+    ensures some { IfOk result (λ _. candidates.now ≢ []) }
+    ensures refused { IfErr result (λ e. e ≡ NoSolutionOrStop.NoSolution → candidates.now ≡ []) }
+{
+    if candidates.is_empty() {
+        return Err(NoSolutionOrStop::NoSolution);
+    }
+    Ok(bail_with_ambiguity(ecx)?)
+}
