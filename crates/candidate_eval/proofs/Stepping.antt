@@ -1,0 +1,54 @@
+-- What calls say of the steps of a rule.
+use Rattle.std.proofs.Common.{◌≡◌, refl, ap, ◌∙◌, List, Option, Some, None, Result, Ok, Err, IfOk, IfErr}
+use Rattle.candidate_ir.specs.declared.ir.kinds.ParamEnv.{ParamEnv}
+use Rattle.candidate_ir.specs.Context.{Context, Grows}
+use Rattle.candidate_ir.specs.Trees.{Forest, Tree, ClausesKind}
+use Rattle.candidate_ir.specs.Words.{IsParamEnv, env_forest}
+use Rattle.candidate_ir.proofs.Kept.{number-kept}
+use Rattle.candidate_ir.proofs.Lists.{below_kind}
+use Rattle.candidate_eval.specs.States.{Env, State, Pending, Judge, next}
+use Rattle.candidate_eval.specs.Rules.{equate}
+use Rattle.candidate_eval.specs.Judging.{Place, At, Over, Refused, put_in, at_state, with_goals, reached, step}
+use Rattle.candidate_eval.specs.Evaluators.{with_left, accepted}
+
+reached-if : (p : Place) (T : State) (o : Option (List Pending × State)) → next o (λ q. Some (with_left q)) ≡ Some T
+    → reached Refused (next o (λ q. Some (with_goals p q))) ≡ At (at_state p T)
+reached-if p T None e = absurd cc
+reached-if p T (Some q) e = let f : with_left q ≡ T = cc in ap (λ U. At (at_state p U)) f
+
+refused-if : (p : Place) (o : Option (List Pending × State)) → next o (λ q. Some (with_left q)) ≡ None
+    → reached Refused (next o (λ q. Some (with_goals p q))) ≡ Over Refused
+refused-if p None e = refl
+refused-if p (Some q) e = absurd cc
+
+-- An equation of what the sides stand for is the step.
+
+pub equation-reaches : (J : Judge) (e : Env) (p : Place) (a b x y : Forest) (T : State) → put_in p a ≡ x → put_in p b ≡ y
+    → accepted J p.state e x y ≡ Some T → step J e p (equate a b) ≡ At (at_state p T)
+equation-reaches J e p a b x y T l r h =
+    ap (λ z. reached Refused (next (J.equated p.state e z (put_in p b)) (λ q. Some (with_goals p q)))) l
+    ∙ ap (λ z. reached Refused (next (J.equated p.state e x z) (λ q. Some (with_goals p q)))) r
+    ∙ reached-if p T (J.equated p.state e x y) h
+
+pub equation-refuses : (J : Judge) (e : Env) (p : Place) (a b x y : Forest) → put_in p a ≡ x → put_in p b ≡ y
+    → accepted J p.state e x y ≡ None → step J e p (equate a b) ≡ Over Refused
+equation-refuses J e p a b x y l r h =
+    ap (λ z. reached Refused (next (J.equated p.state e z (put_in p b)) (λ q. Some (with_goals p q)))) l
+    ∙ ap (λ z. reached Refused (next (J.equated p.state e x z) (λ q. Some (with_goals p q)))) r
+    ∙ refused-if p (J.equated p.state e x y) h
+
+-- The clauses of an environment stay where a context grows.
+pub env-kept : (old new : Context) (e : ParamEnv) → Grows old new → IsParamEnv old.trees e → IsParamEnv new.trees e × (env_forest new.trees e ≡ env_forest old.trees e)
+env-kept old new e g h =
+    let k = number-kept old.trees new.trees e.0 g.kept (below_kind old.trees e.0 ClausesKind refl h) in
+    (k.0 ∙ h, ap (λ (t : Tree). t.children) k.1)
+
+-- What holds of an answer, by what held of it.
+
+pub so-ok : {A E : Type 0} (r : Result A E) (P Q : A → Type 0) → ((a : A) → P a → Q a) → IfOk r P → IfOk r Q
+so-ok (Ok a) P Q f h = f a h
+so-ok (Err e) P Q f h = tt
+
+pub so-err : {A E : Type 0} (r : Result A E) (P Q : E → Type 0) → ((e : E) → P e → Q e) → IfErr r P → IfErr r Q
+so-err (Ok a) P Q f h = tt
+so-err (Err e) P Q f h = f e h
