@@ -1,21 +1,22 @@
 //! The rule of an impl, by the calls of an evaluator.
 
-ghost use Rattle.std.specs.Prelude.{◌≡◌, false, IfOk, IfErr, OnOk};
-ghost use Rattle.candidate_ir.specs.Folding.{lacks_argument, substituted};
-ghost use Rattle.candidate_ir.specs.Trees.{holds, is_param};
-ghost use Rattle.candidate_ir.specs.Words.{IsArgs, IsParamEnv, args_forest, env_forest};
+ghost use Rattle.std.specs.Prelude.{◌≡◌, false, All, map, IfOk, IfErr, OnOk};
+ghost use Rattle.candidate_ir.specs.Folding.{lacks_argument, substituted, substituted_tree};
+ghost use Rattle.candidate_ir.specs.Trees.{holds, tree_holds, is_param};
+ghost use Rattle.candidate_ir.specs.Words.{IsArgs, IsClause, IsParamEnv, ClauseListFits, args_forest, clause_tree, env_forest};
 ghost use Rattle.candidate_eval.specs.Evaluators.{Keeps, Told, standing};
-ghost use Rattle.candidate_eval.specs.Judging.{At, Over, Refused, step, asked};
+ghost use Rattle.candidate_eval.specs.Judging.{At, Over, Refused, goal_at, run, step, asked};
 ghost use Rattle.candidate_eval.specs.ResponseTrees.{IsResponse};
-ghost use Rattle.candidate_eval.specs.Rules.{equate};
+ghost use Rattle.candidate_eval.specs.Rules.{equate, add};
+ghost use Rattle.candidate_eval.specs.States.{added};
 
 use crate::eval::certainty::Certainty;
 use crate::eval::context::EvalCtxt;
 use crate::eval::refusal::NoSolutionOrStop;
 use crate::eval::response::{Candidate, CandidateHeadUsages};
 use crate::eval::source::CandidateSource;
-use candidate_ir::decl::subst::subst_args;
-use candidate_ir::ir::kinds::{Args, ParamEnv};
+use candidate_ir::decl::subst::{subst_args, subst_clause};
+use candidate_ir::ir::kinds::{Args, Clause, Goal, GoalSource, ParamEnv};
 use candidate_ir::ir::stop::Stop;
 use std::alloc::Global;
 
@@ -53,6 +54,72 @@ fn equate_header<E: EvalCtxt>(
 {
     let header = put_in(alloc, ecx, header, locals)?;
     ecx.eq_args(env, goal, header)
+}
+
+/// A clause, with what stands for the rule's variables.
+fn put_in_clause<E: EvalCtxt>(
+    alloc: Global,
+    ecx: &mut E,
+    clause: Clause,
+    locals: Args,
+) -> Result<Clause, Stop>
+    requires clause { IsClause (E.context ecx.old).trees clause }
+    requires locals { IsArgs (E.context ecx.old).trees locals }
+    requires there { tree_holds (lacks_argument (args_forest (E.context ecx.old).trees locals)) (clause_tree (E.context ecx.old).trees clause) ≡ false }
+    ensures kept { Keeps E.fixed E.probes E.context ecx.old ecx.new }
+    ensures same { E.state ecx.new ≡ E.state ecx.old }
+    ensures sort { IfOk result (λ x. IsClause (E.context ecx.new).trees x) }
+    ensures tree { IfOk result (λ x. clause_tree (E.context ecx.new).trees x ≡ substituted_tree (args_forest (E.context ecx.old).trees locals) (clause_tree (E.context ecx.old).trees clause)) }
+{
+    subst_clause(alloc, ecx, clause, locals)
+}
+
+/// A clause becomes pending, with what stands for the rule's variables.
+fn add_clause<E: EvalCtxt>(
+    alloc: Global,
+    ecx: &mut E,
+    env: ParamEnv,
+    source: GoalSource,
+    clause: Clause,
+    locals: Args,
+) -> Result<(), Stop>
+    requires env { IsParamEnv (E.context ecx.old).trees env }
+    requires clause { IsClause (E.context ecx.old).trees clause }
+    requires locals { IsArgs (E.context ecx.old).trees locals }
+    requires there { tree_holds (lacks_argument (args_forest (E.context ecx.old).trees locals)) (clause_tree (E.context ecx.old).trees clause) ≡ false }
+    ensures kept { Keeps E.fixed E.probes E.context ecx.old ecx.new }
+    ensures ok { OnOk result (E.state ecx.new ≡ added (E.state ecx.old) (goal_at (env_forest (E.context ecx.old).trees env) (standing (E.state ecx.old) (args_forest (E.context ecx.old).trees locals)) source (clause_tree (E.context ecx.old).trees clause))) }
+{
+    let predicate = put_in_clause(alloc, ecx, clause, locals)?;
+    ecx.add_goal(
+        source,
+        Goal {
+            param_env: env,
+            predicate,
+        },
+    )
+}
+
+/// Clauses become pending, one after the other.
+fn add_clauses<E: EvalCtxt>(
+    alloc: Global,
+    ecx: &mut E,
+    env: ParamEnv,
+    source: GoalSource,
+    clauses: &[Clause],
+    locals: Args,
+) -> Result<(), Stop>
+    requires env { IsParamEnv (E.context ecx.old).trees env }
+    requires clauses { ClauseListFits (E.context ecx.old).trees clauses.now }
+    requires locals { IsArgs (E.context ecx.old).trees locals }
+    requires there { All (λ w. tree_holds (lacks_argument (args_forest (E.context ecx.old).trees locals)) (clause_tree (E.context ecx.old).trees w) ≡ false) clauses.now }
+    ensures kept { Keeps E.fixed E.probes E.context ecx.old ecx.new }
+    ensures ok { OnOk result (run (E.judge (E.fixed ecx.old)) (env_forest (E.context ecx.old).trees env) (standing (E.state ecx.old) (args_forest (E.context ecx.old).trees locals)) (map (add source) (map (clause_tree (E.context ecx.old).trees) clauses.now)) ≡ At (standing (E.state ecx.new) (args_forest (E.context ecx.old).trees locals))) }
+{
+    for clause in clauses {
+        add_clause(alloc, ecx, env, source, *clause, locals)?;
+    }
+    Ok(())
 }
 
 /// The candidate of a source.
