@@ -13,7 +13,7 @@ use Rattle.candidate_eval.specs.ResponseTrees.{IsResponse, response_of}
 use Rattle.candidate_eval.specs.States.{State, Judge, with_pending}
 use Rattle.candidate_eval.specs.Lawful.{Lawful}
 
-clauses-kept : (old new : Context) (xs : List Clause) → Grows old new → ClauseListFits old.trees xs
+pub clauses-kept : (old new : Context) (xs : List Clause) → Grows old new → ClauseListFits old.trees xs
     → ClauseListFits new.trees xs × (map (clause_tree new.trees) xs ≡ map (clause_tree old.trees) xs)
 clauses-kept old new [] g h = (refl, refl)
 clauses-kept old new (x ∷ xs) g h =

@@ -1,15 +1,18 @@
 -- What calls say of the steps of a rule.
-use Rattle.std.proofs.Common.{◌≡◌, refl, ap, ◌∙◌, List, Option, Some, None, Result, Ok, Err, IfOk, IfErr}
+use Rattle.std.proofs.Common.{◌≡◌, subst, sym, refl, ap, ◌∙◌, List, ◌∷◌, Option, Some, None, Result, Ok, Err, IfOk, IfErr}
 use Rattle.candidate_ir.specs.declared.ir.kinds.ParamEnv.{ParamEnv}
 use Rattle.candidate_ir.specs.Context.{Context, Grows}
 use Rattle.candidate_ir.specs.Trees.{Forest, Tree, ClausesKind}
 use Rattle.candidate_ir.specs.Words.{IsParamEnv, env_forest}
 use Rattle.candidate_ir.proofs.Kept.{number-kept}
 use Rattle.candidate_ir.proofs.Lists.{below_kind}
+use Rattle.candidate_eval.specs.declared.eval.refusal.NoSolutionOrStop.{NoSolutionOrStop}
+use Rattle.candidate_eval.specs.declared.eval.refusal.NoSolutionOrStop.TheVariants.{NoSolution}
+use Rattle.candidate_eval.specs.declared.eval.response.Candidate.{Candidate}
 use Rattle.candidate_eval.specs.States.{Env, State, Pending, Judge, next}
-use Rattle.candidate_eval.specs.Rules.{equate}
-use Rattle.candidate_eval.specs.Judging.{Place, At, Over, Refused, put_in, at_state, with_goals, reached, step}
-use Rattle.candidate_eval.specs.Evaluators.{with_left, accepted}
+use Rattle.candidate_eval.specs.Rules.{Step, equate, Ending}
+use Rattle.candidate_eval.specs.Judging.{Place, Judged, At, Over, Refused, put_in, at_state, with_goals, reached, step, run, go_on, continued, concluded, comes_to}
+use Rattle.candidate_eval.specs.Evaluators.{with_left, accepted, Told}
 
 reached-if : (p : Place) (T : State) (o : Option (List Pending × State)) → next o (λ q. Some (with_left q)) ≡ Some T
     → reached Refused (next o (λ q. Some (with_goals p q))) ≡ At (at_state p T)
@@ -52,3 +55,18 @@ so-ok (Err e) P Q f h = tt
 pub so-err : {A E : Type 0} (r : Result A E) (P Q : E → Type 0) → ((e : E) → P e → Q e) → IfErr r P → IfErr r Q
 so-err (Ok a) P Q f h = tt
 so-err (Err e) P Q f h = f e h
+
+-- A step that reaches a place, and steps that reach another: the ending speaks of the last.
+pub comes-so-far : (J : Judge) (e : Env) (p q r : Place) (s : Step) (ss : List Step) (end : Ending) → step J e p s ≡ At q → run J e q ss ≡ At r
+    → comes_to J e p (s ∷ ss) end ≡ concluded J e end r.state
+comes-so-far J e p q r s ss end h k =
+    ap (λ z. continued J end (go_on z (λ x. run J e x ss)) (λ x. concluded J e end x.state)) h
+    ∙ ap (λ z. continued J end z (λ x. concluded J e end x.state)) k
+
+-- A step that is refused: so is the rule.
+pub comes-refused : (J : Judge) (e : Env) (p : Place) (s : Step) (ss : List Step) (end : Ending) → step J e p s ≡ Over Refused → comes_to J e p (s ∷ ss) end ≡ Refused
+comes-refused J e p s ss end h = ap (λ z. continued J end (go_on z (λ x. run J e x ss)) (λ x. concluded J e end x.state)) h
+
+-- A refusal that is answered, and one that is judged.
+pub told-error : (ts : List Tree) (r : Result Candidate NoSolutionOrStop) (e : NoSolutionOrStop) (j : Judged) → r ≡ Err e → (e ≡ NoSolution → j ≡ Refused) → Told ts r j
+told-error ts r e j is h = subst (λ (x : Result Candidate NoSolutionOrStop). Told ts x j) (sym is) (record { ok = tt; refused = h })

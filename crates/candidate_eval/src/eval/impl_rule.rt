@@ -1,14 +1,15 @@
 //! The rule of an impl, by the calls of an evaluator.
 
-ghost use Rattle.std.specs.Prelude.{◌≡◌, false, All, map, IfOk, IfErr, OnOk};
+ghost use Rattle.std.specs.Prelude.{◌≡◌, ◌∷◌, false, All, map, IfOk, IfErr, OnOk};
 ghost use Rattle.candidate_ir.specs.Folding.{lacks_argument, substituted, substituted_tree};
 ghost use Rattle.candidate_ir.specs.Trees.{holds, tree_holds, is_param};
 ghost use Rattle.candidate_ir.specs.Words.{IsArgs, IsClause, IsParamEnv, ClauseListFits, args_forest, clause_tree, env_forest};
-ghost use Rattle.candidate_eval.specs.Evaluators.{Keeps, Told, standing};
-ghost use Rattle.candidate_eval.specs.Judging.{At, Over, Refused, goal_at, run, step, asked};
+ghost use Rattle.candidate_eval.specs.Evaluators.{Keeps, Told, standing, kinds_listed};
+ghost use Rattle.candidate_eval.specs.Judging.{At, Over, Refused, goal_at, run, step, asked, start, comes_to};
 ghost use Rattle.candidate_eval.specs.ResponseTrees.{IsResponse};
-ghost use Rattle.candidate_eval.specs.Rules.{equate, add};
-ghost use Rattle.candidate_eval.specs.States.{added};
+ghost use Rattle.candidate_eval.specs.Rules.{fresh, equate, add, nested, ask};
+ghost use Rattle.candidate_eval.specs.Certainties.{Yes};
+ghost use Rattle.candidate_eval.specs.States.{added, fresh_variables};
 
 use crate::eval::certainty::Certainty;
 use crate::eval::context::EvalCtxt;
@@ -16,7 +17,7 @@ use crate::eval::refusal::NoSolutionOrStop;
 use crate::eval::response::{Candidate, CandidateHeadUsages};
 use crate::eval::source::CandidateSource;
 use candidate_ir::decl::subst::{subst_args, subst_clause};
-use candidate_ir::ir::kinds::{Args, Clause, Goal, GoalSource, ParamEnv};
+use candidate_ir::ir::kinds::{Args, Clause, Goal, GoalSource, ParamEnv, VarKind};
 use candidate_ir::ir::stop::Stop;
 use std::alloc::Global;
 
@@ -139,4 +140,32 @@ fn respond_as<E: EvalCtxt>(
         result,
         head_usages: CandidateHeadUsages::new(alloc),
     })
+}
+
+/// The steps of an impl's rule: fresh variables, its header equated with the goal, its where clauses pending, and the response.
+fn try_impl<E: EvalCtxt>(
+    alloc: Global,
+    ecx: &mut E,
+    env: ParamEnv,
+    goal: Args,
+    source: CandidateSource,
+    kinds: &[VarKind],
+    header: Args,
+    wheres: &[Clause],
+) -> Result<Candidate, NoSolutionOrStop>
+    requires env { IsParamEnv (E.context ecx.old).trees env }
+    requires goal { IsArgs (E.context ecx.old).trees goal }
+    requires no_param { holds is_param (args_forest (E.context ecx.old).trees goal) ≡ false }
+    requires header { IsArgs (E.context ecx.old).trees header }
+    requires wheres { ClauseListFits (E.context ecx.old).trees wheres.now }
+    requires header_there { holds (lacks_argument (fresh_variables (E.state ecx.old) (kinds_listed kinds.now))) (args_forest (E.context ecx.old).trees header) ≡ false }
+    requires wheres_there { All (λ w. tree_holds (lacks_argument (fresh_variables (E.state ecx.old) (kinds_listed kinds.now))) (clause_tree (E.context ecx.old).trees w) ≡ false) wheres.now }
+    ensures kept { Keeps E.fixed E.probes E.context ecx.old ecx.new }
+    ensures fits { IfOk result (λ c. IsResponse (E.context ecx.new).trees c.result) }
+    ensures told { Told (E.context ecx.new).trees result (comes_to (E.judge (E.fixed ecx.old)) (env_forest (E.context ecx.old).trees env) (start (E.state ecx.old)) (fresh (kinds_listed kinds.now) ∷ equate (args_forest (E.context ecx.old).trees goal) (args_forest (E.context ecx.old).trees header) ∷ nested (map (clause_tree (E.context ecx.old).trees) wheres.now)) (ask source Yes)) }
+{
+    let locals = ecx.fresh_args_for_item(kinds)?;
+    equate_header(alloc, ecx, env, goal, header, locals)?;
+    add_clauses(alloc, ecx, env, GoalSource::ImplWhereBound, wheres, locals)?;
+    respond_as(alloc, ecx, source, Certainty::Yes)
 }
