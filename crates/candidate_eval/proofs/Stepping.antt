@@ -2,7 +2,7 @@
 use Rattle.std.proofs.Common.{◌≡◌, subst, sym, refl, ap, ◌∙◌, List, ◌∷◌, Option, Some, None, Result, Ok, Err, IfOk, IfErr}
 use Rattle.candidate_ir.specs.declared.ir.kinds.ParamEnv.{ParamEnv}
 use Rattle.candidate_ir.specs.Context.{Context, Grows}
-use Rattle.candidate_ir.specs.Trees.{Forest, Tree, ClausesKind}
+use Rattle.candidate_ir.specs.Trees.{Kind, Forest, Tree, ClausesKind}
 use Rattle.candidate_ir.specs.Words.{IsParamEnv, env_forest}
 use Rattle.candidate_ir.proofs.Kept.{number-kept}
 use Rattle.candidate_ir.proofs.Lists.{below_kind}
@@ -10,9 +10,11 @@ use Rattle.candidate_eval.specs.declared.eval.refusal.NoSolutionOrStop.{NoSoluti
 use Rattle.candidate_eval.specs.declared.eval.refusal.NoSolutionOrStop.TheVariants.{NoSolution}
 use Rattle.candidate_eval.specs.declared.eval.response.Candidate.{Candidate}
 use Rattle.candidate_eval.specs.States.{Env, State, Pending, Judge, next}
-use Rattle.candidate_eval.specs.Rules.{Step, equate, Ending}
-use Rattle.candidate_eval.specs.Judging.{Place, Judged, At, Over, Refused, put_in, at_state, with_goals, reached, step, run, go_on, continued, concluded, comes_to}
+use Rattle.candidate_eval.specs.Rules.{Step, fresh, equate, nested, Ending}
+use Rattle.candidate_eval.specs.Judging.{Place, Judged, Gives, At, Over, Refused, put_in, at_state, with_goals, reached, step, run, go_on, continued, concluded, comes_to, start}
 use Rattle.candidate_eval.specs.Evaluators.{with_left, accepted, Told}
+use Rattle.candidate_eval.specs.ResponseTrees.{IsResponse}
+use Rattle.candidate_eval.proofs.Responding.{response-kept}
 
 reached-if : (p : Place) (T : State) (o : Option (List Pending × State)) → next o (λ q. Some (with_left q)) ≡ Some T
     → reached Refused (next o (λ q. Some (with_goals p q))) ≡ At (at_state p T)
@@ -70,3 +72,28 @@ comes-refused J e p s ss end h = ap (λ z. continued J end (go_on z (λ x. run J
 -- A refusal that is answered, and one that is judged.
 pub told-error : (ts : List Tree) (r : Result Candidate NoSolutionOrStop) (e : NoSolutionOrStop) (j : Judged) → r ≡ Err e → (e ≡ NoSolution → j ≡ Refused) → Told ts r j
 told-error ts r e j is h = subst (λ (x : Result Candidate NoSolutionOrStop). Told ts x j) (sym is) (record { ok = tt; refused = h })
+
+-- A candidate says the same where the context has grown.
+pub told-kept : (old new : Context) (r : Result Candidate NoSolutionOrStop) (j : Judged) → Grows old new → IfOk r (λ c. IsResponse old.trees c.result) → Told old.trees r j → Told new.trees r j
+told-kept old new (Ok c) j g fits told = record {
+  ok = told.ok ∙ ap (λ x. Gives (record { source = c.source; result = x })) (sym (response-kept old new c.result g fits));
+  refused = tt;
+}
+told-kept old new (Err e) j g fits told = record { ok = tt; refused = told.refused }
+
+abbrev impl-comes : {F : Type 0} → (F → Judge) → List Kind → Ending → F → Env → State → Forest → Forest → List Tree → Judged
+impl-comes judge ks end f e S a b ws = comes_to (judge f) e (start S) (fresh ks ∷ equate a b ∷ nested ws) end
+
+-- What is told of a rule stays told of it, by other words for its parts.
+pub told-moved : {F : Type 0} (judge : F → Judge) (ks : List Kind) (end : Ending) (f g : F) (e d : Env) (S T : State) (a x b y : Forest) (ws vs : List Tree)
+    (ts : List Tree) (r : Result Candidate NoSolutionOrStop) → g ≡ f → d ≡ e → T ≡ S → x ≡ a → y ≡ b → vs ≡ ws
+    → Told ts r (impl-comes judge ks end g d T x y vs) → Told ts r (impl-comes judge ks end f e S a b ws)
+told-moved judge ks end f g e d S T a x b y ws vs ts r p q s t u v told =
+    subst (λ j. Told ts r j)
+    (ap (λ z. impl-comes judge ks end z d T x y vs) p
+    ∙ ap (λ z. impl-comes judge ks end f z T x y vs) q
+    ∙ ap (λ z. impl-comes judge ks end f e z x y vs) s
+    ∙ ap (λ z. impl-comes judge ks end f e S z y vs) t
+    ∙ ap (λ z. impl-comes judge ks end f e S a z vs) u
+    ∙ ap (λ z. impl-comes judge ks end f e S a b z) v)
+    told

@@ -12,7 +12,7 @@ ghost use Rattle.candidate_eval.specs.Certainties.{Yes};
 ghost use Rattle.candidate_eval.specs.States.{added, fresh_variables};
 
 use crate::eval::certainty::Certainty;
-use crate::eval::context::EvalCtxt;
+use crate::eval::context::{EvalCtxt, ProbeKind};
 use crate::eval::refusal::NoSolutionOrStop;
 use crate::eval::response::{Candidate, CandidateHeadUsages};
 use crate::eval::source::CandidateSource;
@@ -168,4 +168,33 @@ fn try_impl<E: EvalCtxt>(
     equate_header(alloc, ecx, env, goal, header, locals)?;
     add_clauses(alloc, ecx, env, GoalSource::ImplWhereBound, wheres, locals)?;
     respond_as(alloc, ecx, source, Certainty::Yes)
+}
+
+/// The same in a probe, which leaves a state alike the one before.
+fn consider_impl<E: EvalCtxt>(
+    alloc: Global,
+    ecx: &mut E,
+    env: ParamEnv,
+    goal: Args,
+    source: CandidateSource,
+    kinds: &[VarKind],
+    header: Args,
+    wheres: &[Clause],
+) -> Result<Candidate, NoSolutionOrStop>
+    requires env { IsParamEnv (E.context ecx.old).trees env }
+    requires goal { IsArgs (E.context ecx.old).trees goal }
+    requires no_param { holds is_param (args_forest (E.context ecx.old).trees goal) ≡ false }
+    requires header { IsArgs (E.context ecx.old).trees header }
+    requires wheres { ClauseListFits (E.context ecx.old).trees wheres.now }
+    requires header_there { holds (lacks_argument (fresh_variables (E.state ecx.old) (kinds_listed kinds.now))) (args_forest (E.context ecx.old).trees header) ≡ false }
+    requires wheres_there { All (λ w. tree_holds (lacks_argument (fresh_variables (E.state ecx.old) (kinds_listed kinds.now))) (clause_tree (E.context ecx.old).trees w) ≡ false) wheres.now }
+    ensures kept { Keeps E.fixed E.probes E.context ecx.old ecx.new }
+    ensures alike { (E.judge (E.fixed ecx.old)).alike (E.state ecx.old) (E.state ecx.new) }
+    ensures fits { IfOk result (λ c. IsResponse (E.context ecx.new).trees c.result) }
+    ensures told { Told (E.context ecx.new).trees result (comes_to (E.judge (E.fixed ecx.old)) (env_forest (E.context ecx.old).trees env) (start (E.state ecx.old)) (fresh (kinds_listed kinds.now) ∷ equate (args_forest (E.context ecx.old).trees goal) (args_forest (E.context ecx.old).trees header) ∷ nested (map (clause_tree (E.context ecx.old).trees) wheres.now)) (ask source Yes)) }
+{
+    let probe = ecx.begin_probe(ProbeKind::Kept)?;
+    let answer = try_impl(alloc, ecx, env, goal, source, kinds, header, wheres);
+    let _usages = ecx.end_probe(probe);
+    answer
 }
