@@ -1,8 +1,3 @@
-use Rattle.std.proofs.Common.{◌≡◌, OnOk}
-use Rattle.candidate_ir.specs.Words.{args_forest, clause_tree, env_forest}
-use Rattle.candidate_eval.specs.Evaluators.{standing}
-use Rattle.candidate_eval.specs.Judging.{goal_at}
-use Rattle.candidate_eval.specs.States.{added}
 use Rattle.candidate_eval.proofs.Stepping.{env-kept}
 use Rattle.candidate_eval.proofs.eval.impl_rule.add_clause.Goals as goal
 

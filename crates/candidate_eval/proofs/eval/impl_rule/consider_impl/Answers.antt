@@ -1,11 +1,10 @@
-use Rattle.std.proofs.Common.{◌≡◌, List, ◌∷◌, map, slice_index_or}
+use Rattle.std.proofs.Common.{map, slice_index_or}
 use Rattle.candidate_ir.specs.Words.{args_forest, clause_tree, env_forest}
 use Rattle.candidate_ir.proofs.Joining.{clause-kept}
 use Rattle.candidate_ir.proofs.Kept.{args-kept}
 use Rattle.candidate_eval.specs.Certainties.{Yes}
-use Rattle.candidate_eval.specs.Evaluators.{Told, kinds_listed}
-use Rattle.candidate_eval.specs.Judging.{start, comes_to}
-use Rattle.candidate_eval.specs.Rules.{fresh, equate, nested, ask, Step}
+use Rattle.candidate_eval.specs.Evaluators.{kinds_listed}
+use Rattle.candidate_eval.specs.Rules.{ask}
 use Rattle.candidate_eval.proofs.Pairs.{clause_there}
 use Rattle.candidate_eval.proofs.Probing.{keeps-probe}
 use Rattle.candidate_eval.proofs.Responding.{response-fits, clauses-kept}

@@ -1,13 +1,12 @@
-use Rattle.std.proofs.Common.{rules, ◌≡◌, subst, sym, ◌∙◌, Err, List, ◌∷◌, map, slice_index_or}
+use Rattle.std.proofs.Common.{rules, ◌≡◌, subst, sym, ◌∙◌, Err, map, slice_index_or}
 use Rattle.candidate_eval.specs.declared.eval.refusal.NoSolutionOrStop.TheVariants.{NoSolution}
-use Rattle.candidate_ir.specs.declared.ir.kinds.GoalSource.TheVariants.{ImplWhereBound}
 use Rattle.candidate_ir.specs.Words.{args_forest, clause_tree, env_forest}
 use Rattle.candidate_ir.proofs.Joining.{clause-kept}
 use Rattle.candidate_ir.proofs.Kept.{args-kept}
 use Rattle.candidate_eval.specs.Certainties.{Yes}
 use Rattle.candidate_eval.specs.Evaluators.{Told, standing, kinds_listed}
 use Rattle.candidate_eval.specs.Judging.{Over, Refused, At, step, run, asked}
-use Rattle.candidate_eval.specs.Rules.{add, equate, nested, ask}
+use Rattle.candidate_eval.specs.Rules.{equate, nested, ask}
 use Rattle.candidate_eval.specs.States.{fresh_variables, with_fresh_variables}
 use Rattle.candidate_eval.proofs.Pairs.{clause_there}
 use Rattle.candidate_eval.proofs.Probing.{keeps-trans}
