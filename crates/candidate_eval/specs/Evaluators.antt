@@ -1,5 +1,5 @@
 -- What contracts say of an evaluator and of its calls.
-use Rattle.std.specs.Prelude.{◌≡◌, suc, Result, IfOk, IfErr, Option, Some, None, List, [], ◌∷◌, ◌++◌, map, unwrap_or}
+use Rattle.std.specs.Prelude.{◌≡◌, suc, Option, Some, None, List, [], ◌∷◌, ◌++◌, map, unwrap_or}
 use Rattle.candidate_ir.specs.declared.ir.heads.Head.{Head}
 use Rattle.candidate_ir.specs.declared.ir.heads.Head.TheVariants as H
 use Rattle.candidate_ir.specs.declared.ir.kinds.AliasTy.{AliasTy}
@@ -13,11 +13,6 @@ use Rattle.candidate_ir.specs.Context.{Context, Grows, parameter_kind}
 use Rattle.candidate_ir.specs.Words.{IsParamEnv, IsClause, env_forest, clause_tree, kind_tree}
 use Rattle.candidate_eval.specs.declared.eval.context.ProbeKind.{ProbeKind}
 use Rattle.candidate_eval.specs.declared.eval.context.ProbeKind.TheVariants as P
-use Rattle.candidate_eval.specs.declared.eval.refusal.NoSolutionOrStop.{NoSolutionOrStop}
-use Rattle.candidate_eval.specs.declared.eval.refusal.NoSolutionOrStop.TheVariants.{NoSolution}
-use Rattle.candidate_eval.specs.declared.eval.response.Candidate.{Candidate}
-use Rattle.candidate_eval.specs.ResponseTrees.{candidate_of}
-use Rattle.candidate_eval.specs.Judging.{Place, Judged, Gives, Refused}
 use Rattle.candidate_eval.specs.States.{Env, State, Goal, Pending, Judge, with_pending, with_universe, placeholders, value_of, next}
 
 -- A call keeps what is fixed and the open probes, and numbers have their trees still: of the evaluator only its state changes.
@@ -80,12 +75,3 @@ with_rigid S (k ∷ ks) = with_universe S
 -- the trees of alias types
 abbrev pub alias_trees : List Tree → List AliasTy → List Tree
 alias_trees ts xs = map (λ a. kind_tree ts (K.Alias a)) xs
-
--- An answer is what was judged: the candidate that is given, or a refusal. Of a stop nothing is said.
-pub record Told (ts : List Tree) (answer : Result Candidate NoSolutionOrStop) (judged : Judged) : Type 0 where
-  pub ok : IfOk answer (λ c. judged ≡ Gives (candidate_of ts c))
-  pub refused : IfErr answer (λ e. e ≡ NoSolution → judged ≡ Refused)
-
--- where a rule stands at a state, with that for its variables
-abbrev pub standing : State → Forest → Place
-standing S ls = record { state = S; locals = ls }

@@ -3,7 +3,6 @@
 pub mod ambiguity;
 pub mod certainty;
 pub mod context;
-mod impl_rule;
 pub mod mode;
 pub mod refusal;
 pub mod response;
