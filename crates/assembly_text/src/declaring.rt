@@ -4,11 +4,12 @@ ghost use Rattle.candidate_ir.specs.Words.{IsClause};
 
 use crate::asking::Asking;
 use crate::faults::Fault;
-use crate::given::{Given, Mode};
+use crate::given::Given;
 use crate::making::Draft;
 use crate::names::{Item, NamedTrait, Names};
 use crate::types::{DEEPEST, Scope};
 use crate::words::{Words, listed};
+use candidate_eval::eval::mode::TypingMode;
 use candidate_ir::decl::builder::DeclsBuilder;
 use candidate_ir::decl::contents::{AliasBoundKind, ImplId, ImplPolarity, LangItem, Sizedness};
 use candidate_ir::decl::context::Cx;
@@ -60,12 +61,12 @@ enum Owner {
     Environment,
 }
 
-const MODES: [(&str, Mode); 5] = [
-    ("coherence", Mode::Coherence),
-    ("analysis", Mode::Analysis),
-    ("borrowck", Mode::Borrowck),
-    ("post_borrowck", Mode::PostBorrowckAnalysis),
-    ("post_analysis", Mode::PostAnalysis),
+const MODES: [(&str, TypingMode); 5] = [
+    ("coherence", TypingMode::Coherence),
+    ("analysis", TypingMode::Analysis),
+    ("borrowck", TypingMode::Borrowck),
+    ("post_borrowck", TypingMode::PostBorrowckAnalysis),
+    ("post_analysis", TypingMode::PostAnalysis),
 ];
 
 const POLARITIES: [(&str, ImplPolarity); 3] = [
@@ -130,7 +131,7 @@ impl<'a> Declaring<'a> {
         let given = Given {
             clauses: Vec::new(alloc),
             normal_forms: Vec::new(alloc),
-            mode: Mode::PostAnalysis,
+            mode: TypingMode::PostAnalysis,
         };
         let maker = Draft {
             builder,

@@ -1,17 +1,8 @@
 //! What goals are asked under, besides the declarations.
 
+use candidate_eval::eval::mode::TypingMode;
 use candidate_ir::ir::kinds::{Clause, Ty};
 use std::alloc::Global;
-
-/// In which phase of a compiler goals are asked.
-#[derive(Clone, Copy)]
-pub enum Mode {
-    Coherence,
-    Analysis,
-    Borrowck,
-    PostBorrowckAnalysis,
-    PostAnalysis,
-}
 
 /// What goals are asked under, besides the declarations.
 #[derive(Drop)]
@@ -20,5 +11,5 @@ pub struct Given {
     pub clauses: Vec<Clause>,
     /// Aliases, each with what it is normalised to.
     pub normal_forms: Vec<(Ty, Ty)>,
-    pub mode: Mode,
+    pub mode: TypingMode,
 }

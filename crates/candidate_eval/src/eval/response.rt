@@ -1,6 +1,6 @@
 //! What an evaluator answers to a goal, and how several answers are merged.
 
-ghost use Rattle.std.specs.Prelude.{◌≡◌, ◌↔◌, IsTrue, IfOk, IfErr, IfSome, Some, None, map, length, ◌<◌};
+ghost use Rattle.std.specs.Prelude.{◌≡◌, [], ◌↔◌, IsTrue, IfOk, IfErr, IfSome, Some, None, map, length, ◌<◌};
 ghost use Rattle.std.specs.List.{All};
 ghost use Rattle.candidate_ir.specs.Folds.{IsArg, arg_tree};
 ghost use Rattle.candidate_ir.specs.Words.{clause_tree, ClauseListFits};
@@ -40,7 +40,9 @@ pub struct CandidateHeadUsages {
 
 impl CandidateHeadUsages {
     /// No goal.
-    pub fn new(alloc: Global) -> CandidateHeadUsages {
+    pub fn new(alloc: Global) -> CandidateHeadUsages
+        ensures { result.heads.items ≡ [] }
+    {
         CandidateHeadUsages {
             heads: Vec::new(alloc),
         }
