@@ -1,0 +1,2 @@
+//! An evaluator that works in rounds.
+#![tactic(auto)]
