@@ -2,3 +2,4 @@ pub mod Listed
 pub mod Scopes
 pub mod Binding
 pub mod Equating
+pub mod Standing
