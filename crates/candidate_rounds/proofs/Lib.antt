@@ -1,1 +1,2 @@
 pub mod EquatingCases
+pub mod Undoing

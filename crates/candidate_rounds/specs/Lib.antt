@@ -1,3 +1,4 @@
+pub mod Inferences
 pub mod Listed
 pub mod Scopes
 pub mod Binding

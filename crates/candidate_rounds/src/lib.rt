@@ -1,2 +1,4 @@
 //! An evaluator that works in rounds.
 #![tactic(auto)]
+
+pub mod rounds;

@@ -1,0 +1,3 @@
+//! The evaluator's state, and what it answers.
+
+mod inference;

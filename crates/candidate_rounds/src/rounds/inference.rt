@@ -1,0 +1,272 @@
+//! What is known so far: the variables with their values, the regions recorded, the goals pending; and how each change is taken
+//! back.
+
+ghost use Rattle.std.specs.Prelude.{◌≡◌, ◌++◌, ◌∷◌, [], ◌<◌, ◌≤◌, IfOk, IfErr, IfSome, length, slice_get, Some, None};
+ghost use Rattle.candidate_rounds.specs.declared.rounds.inference.Change.{Change};
+ghost use Rattle.candidate_rounds.specs.Inferences.{Inference, with_variable, assign, lower, enter, record_region, add, begin_pending, before, back_to, universe_of, with_entry, with_value, with_universe, IsFullAt};
+
+use candidate_eval::eval::variable::VariableKind;
+use candidate_ir::ir::kinds::{Clause, GenericArg, Goal, GoalSource};
+use candidate_ir::ir::stop::Stop;
+use std::alloc::Global;
+use std::marker::Model;
+
+/// A variable.
+#[derive(Clone, Copy)]
+pub(crate) struct Entry {
+    pub kind: VariableKind,
+    /// The newest universe whose placeholders its value may name.
+    pub universe: u32,
+    /// Its value, in which no variable has a value.
+    pub value: Option<GenericArg>,
+    /// Whether the goal came with it.
+    pub is_root: bool,
+}
+
+/// A change, with what it takes to undo it.
+#[derive(Clone, Copy)]
+pub(crate) enum Change {
+    /// A variable was added.
+    Variable,
+    /// The variable of that number got another value than it had.
+    Value(u32, Option<GenericArg>),
+    /// The universe of a variable fell from what it was.
+    Universe(u32, u32),
+    /// There is a newer universe.
+    NewestUniverse,
+    /// A region constraint was recorded.
+    Region,
+    /// A goal was added.
+    Goal,
+    /// The goals that are pending begin further on; before they began here.
+    Pending(usize),
+}
+
+/// What is known so far. Each change is the last of a trail, from which it can be undone.
+#[derive(Drop)]
+pub(crate) struct Inference {
+    newest_universe: u32,
+    variables: Vec<Entry>,
+    regions: Vec<Clause>,
+    /// The goals that were added, with their sources. Those from `first_pending` on are pending.
+    goals: Vec<(GoalSource, Goal<Clause>)>,
+    first_pending: usize,
+    trail: Vec<Change>,
+}
+
+impl Model for Inference {
+    ghost use Rattle.candidate_rounds.specs.Inferences as seen;
+
+    ghost Value = { seen.Inference };
+
+    ghost view = { λ s. record { newest_universe = s.newest_universe; variables = s.variables.items; regions = s.regions.items; goals = s.goals.items; first_pending = s.first_pending; trail = s.trail.items } };
+}
+
+/// How many variables and universes there may be.
+const MOST: u32 = 0xffff_ffff;
+
+impl Inference {
+    /// Nothing is known.
+    pub(crate) fn new(alloc: Global) -> Inference
+        ensures { result ≡ record { newest_universe = 0; variables = []; regions = []; goals = []; first_pending = 0; trail = [] } }
+    {
+        Inference {
+            newest_universe: 0,
+            variables: Vec::new(alloc),
+            regions: Vec::new(alloc),
+            goals: Vec::new(alloc),
+            first_pending: 0,
+            trail: Vec::new(alloc),
+        }
+    }
+
+    /// How many changes there are to undo.
+    pub(crate) fn changes(&self) -> usize
+        ensures { result ≡ length self.now.trail }
+    {
+        self.trail.len()
+    }
+
+    /// What is known of the variable of that number, if there is one.
+    pub(crate) fn entry(&self, number: u32) -> Option<Entry>
+        ensures { result ≡ slice_get self.now.variables number }
+    {
+        self.variables.get(number as usize).copied()
+    }
+
+    /// Notes a change that is about to be made.
+    fn note(&mut self, change: Change) -> Result<(), Stop>
+        ensures noted { IfOk result (λ _. self.new ≡ record self.old { trail = self.old.trail ++ change ∷ [] }) }
+        ensures unchanged { IfErr result (λ _. self.new ≡ self.old) }
+        ensures cause { IfErr result (λ s. s ≡ Stop.Memory) }
+    {
+        self.trail.push(change)?;
+        Ok(())
+    }
+
+    /// Forgets the change that was noted last.
+    fn unnote(&mut self)
+        ensures { (s : Inference) (c : Change) → self.old ≡ record s { trail = s.trail ++ c ∷ [] } → self.new ≡ s }
+    {
+        self.trail.pop();
+    }
+
+    /// A variable without a value, of the newest universe, or, where it is a root, of the root's. Besides `Stop::Memory`,
+    /// `Stop::NodesFull` comes where no more can be numbered.
+    pub(crate) fn add_variable(&mut self, kind: VariableKind, is_root: bool) -> Result<u32, Stop>
+        ensures number { IfOk result (λ n. n ≡ length self.old.variables) }
+        ensures added { IfOk result (λ _. self.new ≡ with_variable self.old kind is_root) }
+        ensures unchanged { IfErr result (λ _. self.new ≡ self.old) }
+        ensures cause { IfErr result (λ s. IsFullAt (length self.old.variables) s) }
+    {
+        let number = self.variables.len();
+        if number >= MOST as usize {
+            return Err(Stop::NodesFull);
+        }
+        let universe = if is_root { 0 } else { self.newest_universe };
+        self.note(Change::Variable)?;
+        let added = self.variables.push(Entry {
+            kind,
+            universe,
+            value: None,
+            is_root,
+        });
+        if added.is_err() {
+            self.unnote();
+            return Err(Stop::Memory);
+        }
+        Ok(number as u32)
+    }
+
+    /// The variable of that number gets the value. `Stop::Memory` is the only stop, here and below where nothing else is said.
+    pub(crate) fn assign(&mut self, number: u32, value: GenericArg) -> Result<(), Stop>
+        requires { number < length self.old.variables }
+        ensures assigned { IfOk result (λ _. self.new ≡ assign self.old number value) }
+        ensures unchanged { IfErr result (λ _. self.new ≡ self.old) }
+        ensures cause { IfErr result (λ s. s ≡ Stop.Memory) }
+    {
+        let before = self.variables[number as usize].value;
+        self.note(Change::Value(number, before))?;
+        self.set_value(number, Some(value));
+        Ok(())
+    }
+
+    fn set_value(&mut self, number: u32, value: Option<GenericArg>)
+        ensures { self.new ≡ record self.old { variables = with_entry self.old.variables number (with_value value) } }
+    {
+        let number = number as usize;
+        if number < self.variables.len() {
+            let entry = self.variables[number];
+            self.variables[number] = Entry { value, ..entry };
+        }
+    }
+
+    fn set_universe(&mut self, number: u32, universe: u32)
+        ensures { self.new ≡ record self.old { variables = with_entry self.old.variables number (with_universe universe) } }
+    {
+        let number = number as usize;
+        if number < self.variables.len() {
+            let entry = self.variables[number];
+            self.variables[number] = Entry { universe, ..entry };
+        }
+    }
+
+    /// The universe of the variable of that number falls.
+    pub(crate) fn lower(&mut self, number: u32, universe: u32) -> Result<(), Stop>
+        requires { number < length self.old.variables }
+        ensures lowered { IfOk result (λ _. self.new ≡ lower self.old number universe) }
+        ensures unchanged { IfErr result (λ _. self.new ≡ self.old) }
+        ensures cause { IfErr result (λ s. s ≡ Stop.Memory) }
+    {
+        let before = self.variables[number as usize].universe;
+        self.note(Change::Universe(number, before))?;
+        self.set_universe(number, universe);
+        Ok(())
+    }
+
+    /// There is a newer universe. Besides `Stop::Memory`, `Stop::NodesFull` comes where no more can be told apart.
+    pub(crate) fn enter(&mut self) -> Result<u32, Stop>
+        ensures entered { IfOk result (λ _. self.new ≡ enter self.old) }
+        ensures newest { IfOk result (λ u. u ≡ self.new.newest_universe) }
+        ensures unchanged { IfErr result (λ _. self.new ≡ self.old) }
+        ensures cause { IfErr result (λ s. IsFullAt self.old.newest_universe s) }
+    {
+        if self.newest_universe >= MOST {
+            return Err(Stop::NodesFull);
+        }
+        self.note(Change::NewestUniverse)?;
+        self.newest_universe += 1;
+        Ok(self.newest_universe)
+    }
+
+    /// Records a region constraint.
+    pub(crate) fn record_region(&mut self, region: Clause) -> Result<(), Stop>
+        ensures recorded { IfOk result (λ _. self.new ≡ record_region self.old region) }
+        ensures unchanged { IfErr result (λ _. self.new ≡ self.old) }
+        ensures cause { IfErr result (λ s. s ≡ Stop.Memory) }
+    {
+        self.note(Change::Region)?;
+        if self.regions.push(region).is_err() {
+            self.unnote();
+            return Err(Stop::Memory);
+        }
+        Ok(())
+    }
+
+    /// Adds a goal, after all that are pending.
+    pub(crate) fn add(&mut self, source: GoalSource, goal: Goal<Clause>) -> Result<(), Stop>
+        ensures added { IfOk result (λ _. self.new ≡ add self.old source goal) }
+        ensures unchanged { IfErr result (λ _. self.new ≡ self.old) }
+        ensures cause { IfErr result (λ s. s ≡ Stop.Memory) }
+    {
+        self.note(Change::Goal)?;
+        if self.goals.push((source, goal)).is_err() {
+            self.unnote();
+            return Err(Stop::Memory);
+        }
+        Ok(())
+    }
+
+    /// Of the goals only those are pending that are added from now on.
+    pub(crate) fn set_aside(&mut self) -> Result<(), Stop>
+        ensures aside { IfOk result (λ _. self.new ≡ begin_pending self.old (length self.old.goals)) }
+        ensures unchanged { IfErr result (λ _. self.new ≡ self.old) }
+        ensures cause { IfErr result (λ s. s ≡ Stop.Memory) }
+    {
+        self.note(Change::Pending(self.first_pending))?;
+        self.first_pending = self.goals.len();
+        Ok(())
+    }
+
+    /// Undoes a change that is the last of the trail no more.
+    fn undo(&mut self, change: Change)
+        ensures { self.new ≡ before change self.old }
+    {
+        match change {
+            Change::Variable => {
+                self.variables.pop();
+            }
+            Change::Value(number, value) => self.set_value(number, value),
+            Change::Universe(number, universe) => self.set_universe(number, universe),
+            Change::NewestUniverse => self.newest_universe = self.newest_universe.saturating_sub(1),
+            Change::Region => {
+                self.regions.pop();
+            }
+            Change::Goal => {
+                self.goals.pop();
+            }
+            Change::Pending(first) => self.first_pending = first,
+        }
+    }
+
+    /// Undoes all changes but the first so many.
+    pub(crate) fn undo_to(&mut self, changes: usize)
+        ensures { self.new ≡ back_to changes self.old }
+    {
+        while self.trail.len() > changes {
+            if let Some(change) = self.trail.pop() {
+                self.undo(change);
+            }
+        }
+    }
+}
