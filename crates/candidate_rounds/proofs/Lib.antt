@@ -1,2 +1,4 @@
 pub mod EquatingCases
 pub mod Undoing
+pub mod Knowing
+pub mod Probing

@@ -63,7 +63,7 @@ before-trail C.Region s x = refl
 before-trail C.Goal s x = refl
 before-trail (C.Pending n) s x = refl
 
-undone-trail : (cs : List Change) (s : Inference) (x : List Change) → undone cs (record s { trail = x }) ≡ record (undone cs s) { trail = x }
+pub undone-trail : (cs : List Change) (s : Inference) (x : List Change) → undone cs (record s { trail = x }) ≡ record (undone cs s) { trail = x }
 undone-trail [] s x = refl
 undone-trail (d ∷ cs) s x = ap (before d) (undone-trail cs s x) ∙ before-trail d (undone cs s) x
 

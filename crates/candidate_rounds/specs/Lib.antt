@@ -1,4 +1,5 @@
 pub mod Inferences
+pub mod Known
 pub mod Listed
 pub mod Scopes
 pub mod Binding

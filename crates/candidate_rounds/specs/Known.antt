@@ -1,0 +1,75 @@
+-- What is known so far, as a state.
+use Rattle.std.specs.Prelude.{ℕ, ◌≤◌, Option, Some, None, List, [], ◌∷◌, map, drop}
+use Rattle.std.specs.Option.{option_map}
+use Rattle.candidate_ir.specs.declared.ir.kinds.GenericArg.{GenericArg}
+use Rattle.candidate_ir.specs.Context.{Context}
+use Rattle.candidate_ir.specs.Folds.{IsArg, arg_tree}
+use Rattle.candidate_ir.specs.Trees.{Tree}
+use Rattle.candidate_ir.specs.Words.{IsClause, clause_tree}
+use Rattle.candidate_eval.specs.declared.eval.mode.TypingMode.{TypingMode}
+use Rattle.candidate_eval.specs.States.{State, VariableInfo}
+use Rattle.candidate_eval.specs.Evaluators.{IsGoal, pendings_of}
+use Rattle.candidate_rounds.specs.declared.rounds.inference.Change.{Change}
+use Rattle.candidate_rounds.specs.declared.rounds.inference.Change.TheVariants as C
+use Rattle.candidate_rounds.specs.declared.rounds.inference.Entry.{Entry}
+use Rattle.candidate_rounds.specs.Inferences.{Inference, back_to}
+
+-- The trees of numbers of a context.
+
+abbrev pub info_of : List Tree → Entry → VariableInfo
+info_of ts e = record { kind = e.kind; universe = e.universe; value = option_map (arg_tree ts) e.value; is_root = e.is_root }
+
+abbrev pub state_of : List Tree → TypingMode → Inference → State
+state_of ts mode s = record {
+  newest_universe = s.newest_universe;
+  variables = map (info_of ts) s.variables;
+  regions = map (clause_tree ts) s.regions;
+  pending = pendings_of ts (drop s.first_pending s.goals);
+  mode = mode;
+}
+
+-- The states at which probes began, the newest first: each began when there were so many changes.
+abbrev pub states_at : List Tree → TypingMode → Inference → List ℕ → List State
+states_at ts mode s marks = map (λ n. state_of ts mode (back_to n s)) marks
+
+-- All numbers are of the context, also those that are kept to undo changes.
+
+abbrev pub Each : {A : Type 0} → (A → Type 0) → List A → Type 0
+Each P [] = Unit {0}
+Each P (x ∷ xs) = P x × Each P xs
+
+abbrev pub IsValue : List Tree → Option GenericArg → Type 0
+IsValue ts None = Unit {0}
+IsValue ts (Some v) = IsArg ts v
+
+abbrev pub IsEntry : List Tree → Entry → Type 0
+IsEntry ts e = IsValue ts e.value
+
+abbrev pub IsChange : List Tree → Change → Type 0
+IsChange ts (C.Value n v) = IsValue ts v
+IsChange ts _ = Unit {0}
+
+pub record IsKnown (ts : List Tree) (s : Inference) : Type 0 where
+  pub values : Each (IsEntry ts) s.variables
+  pub regions : Each (IsClause ts) s.regions
+  pub goals : Each (λ g. IsGoal ts g.1) s.goals
+  pub changes : Each (IsChange ts) s.trail
+
+-- Each probe began no later than those after it, of so many changes; the newest first.
+abbrev pub AreMarks : ℕ → List ℕ → Type 0
+AreMarks n [] = Unit {0}
+AreMarks n (k ∷ ks) = (k ≤ n) × AreMarks k ks
+
+-- What contracts see of an evaluator that works in rounds.
+pub record Evaluator : Type 0 where
+  pub context : Context
+  pub mode : TypingMode
+  pub inference : Inference
+  -- how many changes there were when each open probe began, the newest first
+  pub marks : List ℕ
+
+abbrev pub state : Evaluator → State
+state r = state_of r.context.trees r.mode r.inference
+
+abbrev pub probes : Evaluator → List State
+probes r = states_at r.context.trees r.mode r.inference r.marks
