@@ -2,3 +2,4 @@ pub mod EquatingCases
 pub mod Undoing
 pub mod Knowing
 pub mod Probing
+pub mod Holding

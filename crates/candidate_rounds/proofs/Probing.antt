@@ -1,16 +1,19 @@
 -- Probes that begin and end.
-use Rattle.std.proofs.Common.{◌≡◌, ℕ, zero, suc, ◌≤◌, List, [], ◌∷◌, ◌++◌, length, take, drop, refl, sym, ◌∙◌, ap, subst, arith}
+use Rattle.std.proofs.Common.{Bool, true, false, ◌≡◌, ℕ, zero, suc, ◌≤◌, List, [], ◌∷◌, ◌++◌, length, take, drop, refl, sym, ◌∙◌, ap, subst, arith}
+use Rattle.std.proofs.Math.Dec.{leb}
 use Rattle.std.proofs.Math.Seq.{drop-length, take-length}
+use Rattle.std.proofs.lemmas.Bool.{leb-true, leb-false}
 use Rattle.std.proofs.lemmas.List.{take-append-drop}
+use Rattle.candidate_ir.specs.Nodes.{Extends}
 use Rattle.candidate_ir.specs.Trees.{Tree}
 use Rattle.candidate_eval.specs.declared.eval.mode.TypingMode.{TypingMode}
 use Rattle.candidate_eval.specs.States.{with_pending}
 use Rattle.candidate_eval.specs.Evaluators.{pendings_of}
 use Rattle.candidate_rounds.specs.declared.rounds.inference.Change.{Change}
 use Rattle.candidate_rounds.specs.Inferences.{Inference, begin_pending, before, undone, back_to}
-use Rattle.candidate_rounds.specs.Known.{state_of, states_at, AreMarks}
+use Rattle.candidate_rounds.specs.Known.{state_of, states_at, AreMarks, PendingFits, IsKnown, IsConsistent}
 use Rattle.candidate_rounds.proofs.Undoing.{IsUndone, undone-trail}
-use Rattle.candidate_rounds.proofs.Knowing.{probes-stay}
+use Rattle.candidate_rounds.proofs.Knowing.{probes-stay, known-back, known-stays}
 
 pub back-now : (s : Inference) → back_to (length s.trail) s ≡ s
 back-now s =
@@ -70,3 +73,65 @@ length-take (suc n) (x ∷ xs) l = ap suc (length-take n xs (omega (arith, l)))
 
 pub marks-left : (s : Inference) (n : ℕ) (ks : List ℕ) → n ≤ length s.trail → AreMarks n ks → AreMarks (length (back_to n s).trail) ks
 marks-left s n ks l m = subst (λ i. AreMarks i ks) (sym (length-take n s.trail l)) m
+
+-- What holds whatever is undone, and after a change, holds whatever is undone of that.
+
+back-beyond : (n : ℕ) (s : Inference) → length s.trail ≤ n → back_to n s ≡ s
+back-beyond n s l =
+    ap (λ x. record (undone x s) { trail = take n s.trail }) (drop-beyond n s.trail l)
+    ∙ ap (λ x. record s { trail = x }) (take-beyond n s.trail l)
+  where
+    drop-beyond : (n : ℕ) (xs : List Change) → length xs ≤ n → drop n xs ≡ []
+    drop-beyond zero [] l = refl
+    drop-beyond zero (x ∷ xs) l = absurd (omega (arith, l))
+    drop-beyond (suc n) [] l = refl
+    drop-beyond (suc n) (x ∷ xs) l = drop-beyond n xs (omega (arith, l))
+
+    take-beyond : (n : ℕ) (xs : List Change) → length xs ≤ n → take n xs ≡ xs
+    take-beyond zero [] l = refl
+    take-beyond zero (x ∷ xs) l = absurd (omega (arith, l))
+    take-beyond (suc n) [] l = refl
+    take-beyond (suc n) (x ∷ xs) l = ap (λ ys. x ∷ ys) (take-beyond n xs (omega (arith, l)))
+
+pub pending-fits-after : (s t : Inference) → IsUndone s t → length t.trail ≡ suc (length s.trail) → t.first_pending ≤ length t.goals → PendingFits s → PendingFits t
+pending-fits-after s t u l f p n = at (leb n (length s.trail)) refl
+  where
+    at : (b : Bool) → leb n (length s.trail) ≡ b → (back_to n t).first_pending ≤ length (back_to n t).goals
+    at true e = subst (λ (x : Inference). x.first_pending ≤ length x.goals) (sym (u n (leb-true n (length s.trail) e))) (p n)
+    at false e = subst (λ (x : Inference). x.first_pending ≤ length x.goals) (sym (back-beyond n t (let g = leb-false n (length s.trail) e in omega (arith, g, l)))) f
+
+shorter-than : (k : ℕ) (xs : List Change) → length (take k xs) ≤ k
+shorter-than zero xs = omega arith
+shorter-than (suc k) [] = omega arith
+shorter-than (suc k) (x ∷ xs) = let h = shorter-than k xs in omega (arith, h)
+
+pub pending-fits-back : (s : Inference) (k : ℕ) → PendingFits s → PendingFits (back_to k s)
+pending-fits-back s k p n = at (leb n k) refl
+  where
+    at : (b : Bool) → leb n k ≡ b → (back_to n (back_to k s)).first_pending ≤ length (back_to n (back_to k s)).goals
+    at true e = subst (λ (x : Inference). x.first_pending ≤ length x.goals) (sym (back-back n k s (leb-true n k e))) (p n)
+    at false e = subst (λ (x : Inference). x.first_pending ≤ length x.goals) (sym (back-beyond n (back_to k s) (let g = leb-false n k e in let h = shorter-than k s.trail in omega (arith, g, h)))) (p k)
+
+-- A change keeps what holds of all that is kept; and so does going back, and giving more numbers.
+
+pub holds-after : (ts : List Tree) (s t : Inference) (ks : List ℕ) → IsConsistent ts s ks → IsUndone s t → length t.trail ≡ suc (length s.trail) → IsKnown ts t → t.first_pending ≤ length t.goals
+    → IsConsistent ts t ks
+holds-after ts s t ks h u l k f = record {
+  known = k;
+  marks = later (length s.trail) (length t.trail) ks (omega (arith, l)) h.marks;
+  pending = pending-fits-after s t u l f h.pending;
+}
+  where
+    later : (n m : ℕ) (ks : List ℕ) → n ≤ m → AreMarks n ks → AreMarks m ks
+    later n m [] l a = tt
+    later n m (k ∷ ks) l a = (omega (arith, l, a.0), a.1)
+
+pub holds-back : (ts : List Tree) (s : Inference) (n : ℕ) (ks : List ℕ) → IsConsistent ts s (n ∷ ks) → IsConsistent ts (back_to n s) ks
+holds-back ts s n ks h = record {
+  known = known-back ts s n h.known;
+  marks = marks-left s n ks h.marks.0 h.marks.1;
+  pending = pending-fits-back s n h.pending;
+}
+
+pub holds-grown : (ts us : List Tree) (s : Inference) (ks : List ℕ) → Extends ts us → IsConsistent ts s ks → IsConsistent us s ks
+holds-grown ts us s ks x h = record { known = known-stays ts us s x h.known; marks = h.marks; pending = h.pending }

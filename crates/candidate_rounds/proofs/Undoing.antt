@@ -10,7 +10,7 @@ use Rattle.candidate_eval.specs.declared.eval.variable.VariableKind.{VariableKin
 use Rattle.candidate_rounds.specs.declared.rounds.inference.Entry.{Entry}
 use Rattle.candidate_rounds.specs.declared.rounds.inference.Change.{Change}
 use Rattle.candidate_rounds.specs.declared.rounds.inference.Change.TheVariants as C
-use Rattle.candidate_rounds.specs.Inferences.{Inference, shorter, with_entry, with_value, with_universe, value_of, universe_of, universe_for, noted, with_variable, assign, lower, enter, record_region, add, begin_pending, before, undone, back_to}
+use Rattle.candidate_rounds.specs.Inferences.{Inference, shorter, with_entry, with_value, with_universe, value_of, universe_of, universe_for, noted, with_variable, assign, lower, enter, record_region, add, add_all, begin_pending, before, undone, back_to}
 
 -- A variable that is set is changed, and where there is none nothing is.
 
@@ -125,3 +125,9 @@ undo-goal s f g n l = back-noted s (record s { goals = s.goals ++ (f, g) ∷ [] 
 
 pub undo-pending : (s : Inference) (i : ℕ) → IsUndone s (begin_pending s i)
 undo-pending s i n l = back-noted s (record s { first_pending = i }) (C.Pending s.first_pending) n l refl refl
+
+-- So many of the goals were added: what is left comes to what all come to, and they can be undone.
+pub record AddsSoFar (s t : Inference) (f : GoalSource) (gs : List (Goal Clause)) (i : ℕ) : Type 0 where
+  pub left : add_all t f (drop i gs) ≡ add_all s f gs
+  pub undone : back_to (length s.trail) t ≡ s
+  pub longer : length s.trail ≤ length t.trail

@@ -73,6 +73,10 @@ record_region s c = noted (record s { regions = s.regions ++ c ∷ [] }) C.Regio
 abbrev pub add : Inference → GoalSource → Goal Clause → Inference
 add s from g = noted (record s { goals = s.goals ++ (from, g) ∷ [] }) C.Goal
 
+abbrev pub add_all : Inference → GoalSource → List (Goal Clause) → Inference
+add_all s from [] = s
+add_all s from (g ∷ gs) = add_all (add s from g) from gs
+
 -- the goals from there on are pending
 abbrev pub begin_pending : Inference → ℕ → Inference
 begin_pending s n = noted (record s { first_pending = n }) (C.Pending s.first_pending)

@@ -1,5 +1,5 @@
 -- What is known so far, as a state.
-use Rattle.std.specs.Prelude.{ℕ, ◌≤◌, Option, Some, None, List, [], ◌∷◌, map, drop}
+use Rattle.std.specs.Prelude.{ℕ, ◌≤◌, Option, Some, None, List, [], ◌∷◌, ◌++◌, true, map, drop, length}
 use Rattle.std.specs.Option.{option_map}
 use Rattle.candidate_ir.specs.declared.ir.kinds.GenericArg.{GenericArg}
 use Rattle.candidate_ir.specs.Context.{Context}
@@ -7,6 +7,7 @@ use Rattle.candidate_ir.specs.Folds.{IsArg, arg_tree}
 use Rattle.candidate_ir.specs.Trees.{Tree}
 use Rattle.candidate_ir.specs.Words.{IsClause, clause_tree}
 use Rattle.candidate_eval.specs.declared.eval.mode.TypingMode.{TypingMode}
+use Rattle.candidate_eval.specs.declared.eval.variable.VariableKind.{VariableKind}
 use Rattle.candidate_eval.specs.States.{State, VariableInfo}
 use Rattle.candidate_eval.specs.Evaluators.{IsGoal, pendings_of}
 use Rattle.candidate_rounds.specs.declared.rounds.inference.Change.{Change}
@@ -60,6 +61,16 @@ abbrev pub AreMarks : ℕ → List ℕ → Type 0
 AreMarks n [] = Unit {0}
 AreMarks n (k ∷ ks) = (k ≤ n) × AreMarks k ks
 
+-- The goals that are pending are among those that were added: now, and whatever is undone.
+abbrev pub PendingFits : Inference → Type 0
+PendingFits s = (n : ℕ) → (back_to n s).first_pending ≤ length (back_to n s).goals
+
+-- What holds of all that is kept, between calls.
+pub record IsConsistent (ts : List Tree) (s : Inference) (ks : List ℕ) : Type 0 where
+  pub known : IsKnown ts s
+  pub marks : AreMarks (length s.trail) ks
+  pub pending : PendingFits s
+
 -- What contracts see of an evaluator that works in rounds.
 pub record Evaluator : Type 0 where
   pub context : Context
@@ -68,8 +79,15 @@ pub record Evaluator : Type 0 where
   -- how many changes there were when each open probe began, the newest first
   pub marks : List ℕ
 
+abbrev pub AreConsistent : Evaluator → Type 0
+AreConsistent r = IsConsistent r.context.trees r.inference r.marks
+
 abbrev pub state : Evaluator → State
 state r = state_of r.context.trees r.mode r.inference
 
 abbrev pub probes : Evaluator → List State
 probes r = states_at r.context.trees r.mode r.inference r.marks
+
+-- A variable that comes with a goal is of the root universe.
+abbrev pub with_root : State → VariableKind → State
+with_root S k = record S { variables = S.variables ++ record { kind = k; universe = 0; value = None; is_root = true } ∷ [] }

@@ -19,7 +19,7 @@ pub struct Rounds {
 }
 
 impl Model for Rounds {
-    ghost use Rattle.std.specs.Prelude.{length, reverse};
+    ghost use Rattle.std.specs.Prelude.{reverse};
     ghost use Rattle.std.specs.Coded.{codes};
     ghost use Rattle.candidate_ir.specs.contracts.ir.heads.Head as head;
     ghost use Rattle.candidate_ir.specs.TreeCode.{tree_code};
@@ -31,5 +31,5 @@ impl Model for Rounds {
 
     ghost view = { λ r. record { context = r.cx; mode = r.mode; inference = r.inference; marks = reverse r.probes.items } };
 
-    ghost invariant = { λ r. seen.IsKnown r.cx.trees r.inference × seen.AreMarks (length r.inference.trail) (reverse r.probes.items) };
+    ghost invariant = { λ r. seen.IsConsistent r.cx.trees r.inference (reverse r.probes.items) };
 }

@@ -3,7 +3,7 @@
 
 ghost use Rattle.std.specs.Prelude.{◌≡◌, ◌++◌, ◌∷◌, [], ◌<◌, ◌≤◌, IfOk, IfErr, IfSome, length, slice_get, Some, None};
 ghost use Rattle.candidate_rounds.specs.declared.rounds.inference.Change.{Change};
-ghost use Rattle.candidate_rounds.specs.Inferences.{Inference, with_variable, assign, lower, enter, record_region, add, begin_pending, before, back_to, universe_of, with_entry, with_value, with_universe, IsFullAt};
+ghost use Rattle.candidate_rounds.specs.Inferences.{Inference, with_variable, assign, lower, enter, record_region, add, add_all, begin_pending, before, back_to, universe_of, with_entry, with_value, with_universe, IsFullAt};
 
 use candidate_eval::eval::variable::VariableKind;
 use candidate_ir::ir::kinds::{Clause, GenericArg, Goal, GoalSource};
@@ -87,6 +87,18 @@ impl Inference {
         self.trail.len()
     }
 
+    /// The number of the next variable. `Stop::NodesFull` comes where no more can be numbered.
+    pub(crate) fn next_variable(&self) -> Result<u32, Stop>
+        ensures number { IfOk result (λ n. n ≡ length self.now.variables) }
+        ensures cause { IfErr result (λ s. (s ≡ Stop.NodesFull) × (4294967295 ≤ length self.now.variables)) }
+    {
+        let number = self.variables.len();
+        if number >= MOST as usize {
+            return Err(Stop::NodesFull);
+        }
+        Ok(number as u32)
+    }
+
     /// What is known of the variable of that number, if there is one.
     pub(crate) fn entry(&self, number: u32) -> Option<Entry>
         ensures { result ≡ slice_get self.now.variables number }
@@ -119,10 +131,7 @@ impl Inference {
         ensures unchanged { IfErr result (λ _. self.new ≡ self.old) }
         ensures cause { IfErr result (λ s. IsFullAt (length self.old.variables) s) }
     {
-        let number = self.variables.len();
-        if number >= MOST as usize {
-            return Err(Stop::NodesFull);
-        }
+        let number = self.next_variable()?;
         let universe = if is_root { 0 } else { self.newest_universe };
         self.note(Change::Variable)?;
         let added = self.variables.push(Entry {
@@ -135,7 +144,7 @@ impl Inference {
             self.unnote();
             return Err(Stop::Memory);
         }
-        Ok(number as u32)
+        Ok(number)
     }
 
     /// The variable of that number gets the value. `Stop::Memory` is the only stop, here and below where nothing else is said.
@@ -223,6 +232,22 @@ impl Inference {
         if self.goals.push((source, goal)).is_err() {
             self.unnote();
             return Err(Stop::Memory);
+        }
+        Ok(())
+    }
+
+    /// Adds goals, after all that are pending; none, where it stops.
+    pub(crate) fn add_all(&mut self, source: GoalSource, goals: &[Goal<Clause>]) -> Result<(), Stop>
+        ensures added { IfOk result (λ _. self.new ≡ add_all self.old source goals.now) }
+        ensures unchanged { IfErr result (λ _. self.new ≡ self.old) }
+        ensures cause { IfErr result (λ s. s ≡ Stop.Memory) }
+    {
+        let changes = self.changes();
+        for i in 0..goals.len() {
+            if let Err(stop) = self.add(source, goals[i]) {
+                self.undo_to(changes);
+                return Err(stop);
+            }
         }
         Ok(())
     }

@@ -1,0 +1,26 @@
+use Rattle.std.proofs.Common.{◌≡◌, List, OnOk, reverse, refl, sym, ◌∙◌, ap, subst}
+use Rattle.candidate_ir.specs.Trees.{Tree}
+use Rattle.candidate_eval.specs.Evaluators.{IsGoal, pending_of}
+use Rattle.candidate_eval.specs.States.{added}
+use Rattle.candidate_rounds.specs.Known.{Evaluator, state, state_of, probes}
+use Rattle.candidate_rounds.proofs.Knowing.{probes-stay}
+use Rattle.candidate_rounds.proofs.Holding.{goal-holds, goal-undone, goal-state}
+use Rattle.candidate_rounds.proofs.rounds.Rounds.add_goal.Goals as goal
+
+pub invariant_of-self : goal.invariant_of-self
+invariant_of-self c =
+    let i = c.self.inside in
+    let g = subst (λ (e : Evaluator). IsGoal e.context.trees c.args.goal) (sym c.self.view_is) c.requires in
+    goal-holds i.cx.trees i.inference c.add.new.self (reverse i.probes.items) c.args.source c.args.goal c.add.result c.self.invariant g c.add.ensures.added c.add.ensures.unchanged
+
+pub returns-clause-probes : goal.returns-clause-probes
+returns-clause-probes c =
+    let i = c.self.inside in
+    probes-stay i.cx.trees i.mode i.inference c.add.new.self (reverse i.probes.items) c.self.invariant.marks (goal-undone i.inference c.add.new.self c.args.source c.args.goal c.add.result c.add.ensures.added c.add.ensures.unchanged)
+    ∙ ap probes c.self.view_is
+
+pub returns-clause-ok : goal.returns-clause-ok
+returns-clause-ok c =
+    let i = c.self.inside in
+    let s = goal-state i.cx.trees i.mode i.inference c.add.new.self (reverse i.probes.items) c.args.source c.args.goal c.add.result c.self.invariant c.add.ensures.added in
+    subst (λ (e : Evaluator). OnOk c.add.result (state_of i.cx.trees i.mode c.add.new.self ≡ added (state e) (pending_of e.context.trees c.args.source c.args.goal))) c.self.view_is s

@@ -1,0 +1,7 @@
+use Rattle.std.proofs.Common.{◌≡◌, ◌≤◌, drop, length}
+use Rattle.candidate_rounds.specs.Inferences.{add_all, back_to}
+use Rattle.candidate_rounds.proofs.Undoing.{AddsSoFar}
+use Rattle.candidate_rounds.proofs.rounds.inference.Inference.add_all.Given as goal
+
+abbrev pub invariant-loop-i : goal.invariant-loop-i
+invariant-loop-i l = AddsSoFar l.initial.self l.self l.source l.goals l.i
