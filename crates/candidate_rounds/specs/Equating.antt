@@ -31,7 +31,7 @@ abbrev pub value_for : Listing → State → Scope → Tree → Tree
 value_for l S us t = placed_tree us (normalized_tree l (resolved_tree S t))
 
 abbrev pub taken : State → Variable → Tree → List Pair → Option Visit
-taken S v t more = if may_take S v t then Some (Left (bound S v.number t) more) else None
+taken S v t more = if may_take S v t then Some (Left (bound S v t) more) else None
 
 -- A variable that meets a tree gets it as its value, if it may.
 abbrev pub offered : Listing → State → Scope → Head → Tree → List Pair → Option Visit
