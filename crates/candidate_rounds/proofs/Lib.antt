@@ -1,1 +1,4 @@
 pub mod EquatingCases
+pub mod Marks
+pub mod Later
+pub mod Bound
