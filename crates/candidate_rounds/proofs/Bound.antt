@@ -1,7 +1,7 @@
 -- A variable that got a value: the state is sound and follows.
-use Rattle.std.proofs.Common.{◌≡◌, ◌≤◌, ◌<◌, ℕ, zero, suc, ◌+◌, Bool, true, false, not, ◌&&◌, ◌||◌, ◌==◌, min, List, [], ◌∷◌, Option, Some, None, length, slice_get, refl, sym, ap, subst, ◌∙◌, arith, nat_lt, if◌then◌else◌}
+use Rattle.std.proofs.Common.{◌≡◌, ◌≤◌, ℕ, zero, suc, ◌+◌, Bool, true, false, not, ◌&&◌, ◌||◌, ◌==◌, min, List, [], ◌∷◌, Option, Some, None, length, slice_get, refl, sym, ap, subst, ◌∙◌, arith, nat_lt, if◌then◌else◌}
 use Rattle.std.specs.Option.{option_map, unwrap_or}
-use Rattle.std.proofs.lemmas.Bool.{and_parts, and_from, and_left, eqb-true, eq-eqb, ltb-true, ltb-false, le-ltb, false_from_ne_true, or_left, or_right}
+use Rattle.std.proofs.lemmas.Bool.{and_parts, and_from, eqb-true, eq-eqb, ltb-false, le-ltb, false_from_ne_true, or_left, or_right}
 use Rattle.std.proofs.Math.Nat.{le_trans}
 use Rattle.candidate_ir.specs.declared.ir.heads.Head.{Head}
 use Rattle.candidate_ir.specs.declared.ir.heads.Head.TheVariants as H
@@ -20,11 +20,10 @@ use Rattle.candidate_eval.specs.declared.eval.variable.VariableKind.TheVariants.
 use Rattle.candidate_eval.specs.Responses.{is_number}
 use Rattle.candidate_eval.specs.States.{State, VariableInfo, value_in, value_of, value_at, valued, valued_tree, resolved, is_some}
 use Rattle.candidate_eval.specs.Alike.{info}
-use Rattle.candidate_eval.specs.Soundness.{Live, IsSound, ValuesFit, FitsVariable, IsResolved, IsLater, Follows, universes, universe_in, is_variable_above, has_value, has_kind, same_kind, is_strange, is_region, fits_kind}
-use Rattle.candidate_eval.proofs.Holds.{holds_parts}
+use Rattle.candidate_eval.specs.Soundness.{Live, OfValues, IsSound, ValuesFit, IsResolved, IsLater, universes, universe_in, is_variable_above, has_value, has_kind, same_kind, is_strange, is_region, fits_kind}
 use Rattle.candidate_rounds.specs.Binding.{occurs, single, info_after, numbered, bound}
 use Rattle.candidate_rounds.proofs.Marks.{whole, holds_erased, holds_to, fold_marked, fold_closed, valued_twice}
-use Rattle.candidate_rounds.proofs.Later.{has_info, kind_there, no_value, resolved_known, resolved_once, idle}
+use Rattle.candidate_rounds.proofs.Later.{has_info, kind_there, no_value, resolved_known, idle}
 
 get_numbered : {A B : Type 0} (f : ℕ → A → B) (n m : ℕ) (xs : List A) → slice_get (numbered f n xs) m ≡ option_map (f (n + m)) (slice_get xs m)
 get_numbered f n m [] = refl
@@ -424,3 +423,101 @@ module _ (S : State) (L : Live) (v : Variable) (t : Tree) (can : CanTake S L v t
     where
       low : universe_in (info S v.number) ≤ k → holds (higher T k) (alone t) ≡ false
       low l = holds_to (higher T (universe_in (info S v.number))) (higher T (universe_in (info S v.number))) (higher T k) (λ h a b. higher_on T (universe_in (info S v.number)) k l h a) (alone t) value_not_higher value_not_higher
+
+  -- values fit, whether they count or not
+  pub bound_fits : ValuesFit S → ValuesFit T
+  bound_fits fit m = record { kind = λ i x e f. (both i x e f).0; is_closed = λ i x e f. (both i x e f).1 }
+    where
+      by : (old : VariableInfo) (x : Tree) → info S m ≡ Some old → ValueAfter S v t m old x → (fits_kind old.kind x.head ≡ true) × (escapes 0 (alone x) ≡ false)
+      by old x e (own n is) = subst (λ x. (fits_kind old.kind x.head ≡ true) × (escapes 0 (alone x) ≡ false)) is (own_fits old.kind (ap (has_kind (Term v.sort)) (sym (sym (ap (info S) n) ∙ e)) ∙ own_kind), can.is_closed)
+        where
+          own_fits : (k : VariableKind) → same_kind k (Term v.sort) ≡ true → fits_kind k t.head ≡ true
+          own_fits (Term s) g = subst (λ s. fits_sort s t.head ≡ true) (sym (same_sort_is s v.sort g)) can.fits
+          own_fits Region g = cc
+      by old x e (put y n f is) = subst (λ x. (fits_kind old.kind x.head ≡ true) × (escapes 0 (alone x) ≡ false)) is (
+        put_kind old.kind v t y can.fits ((fit m).kind old y e f),
+        put_closed v t y can.is_closed ((fit m).is_closed old y e f),
+      )
+
+      both : (i : VariableInfo) (x : Tree) → info T m ≡ Some i → i.value ≡ Some x → (fits_kind i.kind x.head ≡ true) × (escapes 0 (alone x) ≡ false)
+      both i x e f =
+          let b = before S v t m i e in
+          subst (λ (j : VariableInfo). (fits_kind j.kind x.head ≡ true) × (escapes 0 (alone x) ≡ false)) b.is (by b.old x b.there (value_after S v t m b.old x (ap (λ (j : VariableInfo). j.value) b.is ∙ f)))
+
+  -- What is asked of values, of the values before and of the one given.
+  values_bound : (P : ℕ → VariableInfo → Tree → Type 0)
+      → ((m : ℕ) (old : VariableInfo) → L m ≡ true → info S m ≡ Some old → m ≡ v.number → P m (info_after v (universe_in (info S v.number)) t m old) t)
+      → ((m : ℕ) (old : VariableInfo) (y : Tree) → L m ≡ true → info S m ≡ Some old → old.value ≡ Some y → occurs m t ≡ false → P m (info_after v (universe_in (info S v.number)) t m old) (valued_tree (single v t) y))
+      → OfValues T L P
+  values_bound P of_own of_put m i x c e f =
+      let b = before S v t m i e in
+      subst (λ j. P m j x) b.is (by b.old b.there (value_after S v t m b.old x (ap (λ (j : VariableInfo). j.value) b.is ∙ f)))
+    where
+      by : (old : VariableInfo) → info S m ≡ Some old → ValueAfter S v t m old x → P m (info_after v (universe_in (info S v.number)) t m old) x
+      by old there (own n is) = subst (P m (info_after v (universe_in (info S v.number)) t m old)) is (of_own m old c there n)
+      by old there (put y n g is) =
+          subst (P m (info_after v (universe_in (info S v.number)) t m old)) is (of_put m old y c there g (valued_not_in m y (ap value_in there ∙ g)))
+
+  module _ (sound : IsSound S L) where
+    own_not_in : (m : ℕ) → m ≡ v.number → occurs m t ≡ false
+    own_not_in m n = subst (λ k. occurs k t ≡ false) (sym n) can.not_in
+
+    own_sort : (m : ℕ) (old : VariableInfo) (s : VariableSort) → info S m ≡ Some old → m ≡ v.number → old.kind ≡ Term s → v.sort ≡ s
+    own_sort m old s there n k =
+        let is : has_kind (Term s) (info S m) ≡ true = ap (has_kind (Term s)) there ∙ ap (λ l. same_kind l (Term s)) k ∙ same_sort_itself s in
+        sym (same_sort_there s (info S m) is (subst (λ k. has_kind (Term v.sort) (info S k) ≡ true) (sym n) own_kind))
+
+    bound_allowed : (s : VariableSort) → OfValues T L (λ n i x. i.kind ≡ Term s → IsAllowedBinding (universes T) (record { variable = record { sort = s; number = n }; value = x }))
+    bound_allowed s = values_bound (λ n i x. i.kind ≡ Term s → IsAllowedBinding (universes T) (record { variable = record { sort = s; number = n }; value = x }))
+        (λ m old c there n k. record {
+          fits = subst (λ s. fits_sort s t.head ≡ true) (own_sort m old s there n k) can.fits;
+          is_closed = can.is_closed;
+          in_universe = subst (λ u. holds (is_placeholder_above u) (erase (alone t)) ≡ false) (sym (universe_apart S v t m (own_not_in m n) ∙ ap (λ k. universe_in (info S k)) n)) can.in_universe;
+        })
+        (λ m old y c there g o k.
+        let a = sound.allowed s m old y c there g k in
+        record {
+          fits = put_fits s v t y can.fits a.fits;
+          is_closed = put_closed v t y can.is_closed a.is_closed;
+          in_universe = subst (λ u. holds (is_placeholder_above u) (erase (alone (valued_tree (single v t) y))) ≡ false) (sym (universe_apart S v t m o))
+              (put_low (universe_in (info S m)) y a.in_universe (subst (λ u. holds (is_variable_above (universes S) u) (erase (alone y)) ≡ false) (sym (ap universe_in there)) (sound.no_higher m old y c there g)));
+        })
+
+    bound_no_higher : OfValues T L (λ n i x. holds (is_variable_above (universes T) i.universe) (erase (alone x)) ≡ false)
+    bound_no_higher = values_bound (λ n i x. holds (is_variable_above (universes T) i.universe) (erase (alone x)) ≡ false)
+        (λ m old c there n.
+        let is : universe_in (info S v.number) ≡ (info_after v (universe_in (info S v.number)) t m old).universe = ap (λ k. universe_in (info S k)) (sym n) ∙ ap universe_in there ∙ sym (after_apart S v t m old (own_not_in m n)) in
+        subst (λ u. holds (is_variable_above (universes T) u) (erase (alone t)) ≡ false) is (holds_erased (is_variable_above (universes T) (universe_in (info S v.number))) (alone t) ∙ value_not_higher))
+        (λ m old y c there g o. subst (λ u. holds (is_variable_above (universes T) u) (erase (alone (valued_tree (single v t) y))) ≡ false) (sym (after_apart S v t m old o)) (put_not_higher old.universe y (sound.no_higher m old y c there g)))
+
+    pub bound_sound : IsSound T L
+    bound_sound = record {
+      allowed = bound_allowed;
+      no_higher = bound_no_higher;
+      is_resolved = values_bound (λ n i x. IsResolved T (alone x)) (λ m old c there n. value_is_resolved) (λ m old y c there g o. put_resolved y (sound.known m old y c there g) (sound.is_resolved m old y c there g));
+      known = values_bound (λ n i x. holds (is_strange T L) (alone x) ≡ false) (λ m old c there n. known_bound S v t L (alone t) can.known)
+          (λ m old y c there g o. known_bound S v t L (alone (valued_tree (single v t) y)) (put_known y (sound.known m old y c there g)));
+      universes = λ m i c e.
+          let b = before S v t m i e in
+          le_trans (subst (λ (j : VariableInfo). j.universe ≤ b.old.universe) b.is (after_lower S v t m b.old)) (sound.universes m b.old c b.there);
+    }
+
+    -- what was resolved before is resolved further
+    bound_values : (ts : Forest) → holds (is_strange S L) ts ≡ false → resolved T (resolved S ts) ≡ resolved T ts
+    bound_values ts k =
+        resolved_bound (resolved S ts) (resolved_known S L sound ts k) ∙ ap (valued (single v t)) (idle S L sound ts k) ∙ sym (resolved_bound ts k)
+
+    pub bound_later : IsLater S T L
+    bound_later = record {
+      longer = same_le (sym (length_bound S v t));
+      infos = λ m i e. record { now = info_after v (universe_in (info S v.number)) t m i; there = now S v t m i e; kind = refl; is_root = refl };
+      no_root = λ m j e f. absurd (let clash : None ≡ Some j = sym (ap (option_map (info_after v (universe_in (info S v.number)) t m)) e) ∙ sym (info_bound S v t m) ∙ f in cc);
+      universes = λ m l. universe_lower S v t m;
+      fits = bound_fits;
+      values = bound_values;
+      newest = omega arith;
+      mode = refl;
+    }
+      where
+        same_le : {a b : ℕ} → a ≡ b → a ≤ b
+        same_le e = omega (arith, e)
