@@ -4,3 +4,4 @@ pub mod Later
 pub mod Bound
 pub mod Current
 pub mod Looks
+pub mod Sizes
