@@ -82,7 +82,7 @@ module _ (l : Listing) (listing : IsListing l) (t u : Tree) (there : listed l t 
 
 -- Roots
 
-root_at : (S : State) (h : Head) (x : Tree) → root_value S h ≡ Some x → value_at S h ≡ Some x
+pub root_at : (S : State) (h : Head) (x : Tree) → root_value S h ≡ Some x → value_at S h ≡ Some x
 root_at S (H.Infer v) x e = e
 root_at S _ x e = cc
 

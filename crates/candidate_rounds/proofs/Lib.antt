@@ -5,3 +5,4 @@ pub mod Bound
 pub mod Current
 pub mod Looks
 pub mod Sizes
+pub mod Ends

@@ -29,7 +29,7 @@ use Rattle.candidate_rounds.proofs.Current.{current_known, current_rests, curren
 -- What a look comes to
 
 -- the same state and pairs
-same_left : (P : State → List Pair → Type 0) (R T : State) (rest more : List Pair) → Left R rest ≡ Left T more → P R rest → P T more
+pub same_left : (P : State → List Pair → Type 0) (R T : State) (rest more : List Pair) → Left R rest ≡ Left T more → P R rest → P T more
 same_left P R T rest more e p =
     let s : R ≡ T = cc in
     let m : rest ≡ more = cc in
@@ -78,10 +78,10 @@ module _ (l : Listing) (S : State) (us : Scope) (x y : Tree) (others : List Pair
 
 -- Regions that were made equal change only what is recorded of regions.
 
-abbrev with_regions : State → List Tree → State
+abbrev pub with_regions : State → List Tree → State
 with_regions S rs = record S { regions = rs }
 
-only_regions : (S : State) (r s : Tree) → (rs : List Tree) × (with_equal_regions S r s ≡ with_regions S rs)
+pub only_regions : (S : State) (r s : Tree) → (rs : List Tree) × (with_equal_regions S r s ≡ with_regions S rs)
 only_regions S r s = at (same_head r.head s.head)
   where
     at : (b : Bool) → (rs : List Tree) × ((if b then S else with_regions S (S.regions ++ outlives r s ∷ outlives s r ∷ [])) ≡ with_regions S rs)
