@@ -6,3 +6,4 @@ pub mod Current
 pub mod Looks
 pub mod Sizes
 pub mod Ends
+pub mod EquatingLaws
