@@ -3,3 +3,11 @@ pub mod Undoing
 pub mod Knowing
 pub mod Probing
 pub mod Holding
+pub mod Marks
+pub mod Later
+pub mod Bound
+pub mod Current
+pub mod Looks
+pub mod Sizes
+pub mod Ends
+pub mod EquatingLaws

@@ -5,7 +5,7 @@ use Rattle.candidate_ir.specs.declared.ir.heads.Head.TheVariants as H
 use Rattle.candidate_ir.specs.declared.ir.heads.Variable.{Variable}
 use Rattle.candidate_ir.specs.Trees.{Tree, erase, holds}
 use Rattle.candidate_ir.specs.Binders.{escapes}
-use Rattle.candidate_ir.specs.Substitutions.{alone, fits_sort, is_placeholder_above}
+use Rattle.candidate_ir.specs.Substitutions.{alone, fits_sort, is_placeholder_above, same_variable}
 use Rattle.candidate_eval.specs.declared.eval.variable.VariableKind.TheVariants.{Term}
 use Rattle.candidate_eval.specs.Responses.{is_number}
 use Rattle.candidate_eval.specs.States.{State, VariableInfo, Values, valued_tree}
@@ -24,18 +24,18 @@ may_take S v t =
     && (not (occurs v.number t)
     && (not (escapes 0 (alone t)) && not (holds (is_placeholder_above (universe_in (info S v.number))) (erase (alone t))))))
 
--- the one variable's value
-abbrev pub single : ℕ → Tree → Values
-single n t (H.Infer v) = if v.number == n then Some t else None
-single n t _ = None
+-- the one variable's value, where the variable stands in its own sort
+abbrev pub single : Variable → Tree → Values
+single v t (H.Infer w) = if same_variable v w then Some t else None
+single v t _ = None
 
--- What a variable of number m is, once the one of number n, of universe u, has the value: it has the value itself, or the value is
+-- What a variable of number m is, once that variable, of universe u, has the value: it has the value itself, or the value is
 -- put in its own; and what stands in the value is of no universe above u.
-abbrev pub info_after : ℕ → ℕ → Tree → ℕ → VariableInfo → VariableInfo
-info_after u n t m i =
+abbrev pub info_after : Variable → ℕ → Tree → ℕ → VariableInfo → VariableInfo
+info_after v u t m i =
     record i {
       universe = if occurs m t then min i.universe u else i.universe;
-      value = if m == n then Some t else option_map (valued_tree (single n t)) i.value;
+      value = if m == v.number then Some t else option_map (valued_tree (single v t)) i.value;
     }
 
 -- each member, told its number
@@ -43,6 +43,6 @@ abbrev pub numbered : {A B : Type 0} → (ℕ → A → B) → ℕ → List A �
 numbered f n [] = []
 numbered f n (x ∷ xs) = f n x ∷ numbered f (suc n) xs
 
--- The state in which the variable of that number has the value, which holds no variable with a value.
-abbrev pub bound : State → ℕ → Tree → State
-bound S n t = record S { variables = numbered (info_after (universe_in (info S n)) n t) 0 S.variables }
+-- The state in which the variable has the value, which holds no variable with a value.
+abbrev pub bound : State → Variable → Tree → State
+bound S v t = record S { variables = numbered (info_after v (universe_in (info S v.number)) t) 0 S.variables }

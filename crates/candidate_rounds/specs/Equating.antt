@@ -7,7 +7,7 @@ use Rattle.candidate_ir.specs.declared.ir.heads.PartHead.TheVariants as P
 use Rattle.candidate_ir.specs.declared.ir.heads.ClauseHead.TheVariants as Cl
 use Rattle.candidate_ir.specs.Trees.{Forest, none, tree, Tree, is_alias}
 use Rattle.candidate_ir.specs.Unify.{same_head}
-use Rattle.candidate_eval.specs.States.{State, VariableInfo, resolved, resolved_tree}
+use Rattle.candidate_eval.specs.States.{State, VariableInfo, Pending, resolved, resolved_tree}
 use Rattle.candidate_eval.specs.Soundness.{is_region}
 use Rattle.candidate_rounds.specs.Listed.{Listing, normalized_tree, current}
 use Rattle.candidate_rounds.specs.Scopes.{Scope, placed_tree, scope_below, entered}
@@ -31,7 +31,7 @@ abbrev pub value_for : Listing → State → Scope → Tree → Tree
 value_for l S us t = placed_tree us (normalized_tree l (resolved_tree S t))
 
 abbrev pub taken : State → Variable → Tree → List Pair → Option Visit
-taken S v t more = if may_take S v t then Some (Left (bound S v.number t) more) else None
+taken S v t more = if may_take S v t then Some (Left (bound S v t) more) else None
 
 -- A variable that meets a tree gets it as its value, if it may.
 abbrev pub offered : Listing → State → Scope → Head → Tree → List Pair → Option Visit
@@ -114,6 +114,15 @@ enough (suc u) n = suc n + enough u (suc n * suc n)
 abbrev pub looks : Listing → State → List Pair → ℕ
 looks l S ps = enough (count_unbound S.variables) (size_of_pairs l S ps)
 
+-- The state in which both sides of each pair are equal, if they can be.
+abbrev pub unified : Listing → State → List Pair → Option State
+unified l S ps = looked l (looks l S ps) S ps
+
 -- The state in which both rows are equal, if they can be.
 abbrev pub equated : Listing → State → Forest → Forest → Option State
-equated l S a b = let ps = record { scope = []; left = a; right = b } ∷ [] in looked l (looks l S ps) S ps
+equated l S a b = unified l S (record { scope = []; left = a; right = b } ∷ [])
+
+-- The answer of an equation that leaves no goals.
+abbrev pub without_goals : Option State → Option (List Pending × State)
+without_goals None = None
+without_goals (Some T) = Some ([], T)

@@ -34,6 +34,7 @@ pub record IsListed (p : Tree × Tree) : Type 0 where
   pub type : IsFixed p.1
   pub is_type : is_type p.1.head ≡ true
   pub no_alias : holds is_alias (alone p.1) ≡ false
+  pub is_alias : is_alias p.0.head ≡ true
 
 abbrev pub IsListing : Listing → Type 0
 IsListing l = All IsListed l
