@@ -1,34 +1,29 @@
 -- What holds of all that is kept holds after each change; and what the state is then.
-use Rattle.std.proofs.Common.{◌≡◌, ℕ, zero, suc, ◌≤◌, ◌+◌, Bool, true, false, cond, List, [], ◌∷◌, ◌++◌, length, drop, map, slice_get, Option, Some, None, Result, Ok, Err, IfOk, IfErr, OnOk, refl, sym, ◌∙◌, ap, subst, arith}
-use Rattle.std.proofs.lemmas.List.{length-append, map-append, drop-append-le}
-use Rattle.std.proofs.Math.Seq.{drop-length}
+use Rattle.std.proofs.Common.{◌≡◌, ℕ, suc, ◌≤◌, Bool, true, false, List, [], ◌∷◌, ◌++◌, length, drop, map, Result, Ok, Err, IfOk, IfErr, OnOk, OnErr, append_assoc, refl, sym, ◌∙◌, ap, subst, arith}
+use Rattle.std.proofs.lemmas.List.{length-append, map-append, drop-append-le, append-nil}
 use Rattle.candidate_ir.specs.declared.ir.kinds.Clause.{Clause}
-use Rattle.candidate_ir.specs.declared.ir.kinds.GenericArg.{GenericArg}
 use Rattle.candidate_ir.specs.declared.ir.kinds.Goal.{Goal}
 use Rattle.candidate_ir.specs.declared.ir.kinds.GoalSource.{GoalSource}
 use Rattle.candidate_ir.specs.declared.ir.stop.Stop.{Stop}
-use Rattle.candidate_ir.specs.Folds.{IsArg}
+use Rattle.candidate_ir.specs.Nodes.{Extends}
 use Rattle.candidate_ir.specs.Trees.{Tree}
-use Rattle.candidate_ir.specs.Words.{IsClause, clause_tree}
 use Rattle.candidate_eval.specs.declared.eval.mode.TypingMode.{TypingMode}
 use Rattle.candidate_eval.specs.declared.eval.variable.VariableKind.{VariableKind}
-use Rattle.candidate_eval.specs.States.{State, Pending, added, with_fresh, with_universe}
-use Rattle.candidate_eval.specs.Evaluators.{IsGoal, pending_of, pendings_of}
-use Rattle.candidate_rounds.specs.declared.rounds.inference.Change.{Change}
+use Rattle.candidate_eval.specs.States.{State, added, with_pending, with_fresh, with_universe}
+use Rattle.candidate_eval.specs.Evaluators.{IsGoal, pending_of, pendings_of, with_goals_of}
 use Rattle.candidate_rounds.specs.declared.rounds.inference.Change.TheVariants as C
-use Rattle.candidate_rounds.specs.declared.rounds.inference.Entry.{Entry}
-use Rattle.candidate_rounds.specs.Inferences.{Inference, with_value, value_of, with_variable, assign, enter, record_region, add, begin_pending, universe_for, back_to}
-use Rattle.candidate_rounds.specs.Known.{info_of, state_of, IsValue, IsEntry, IsChange, IsConsistent}
-use Rattle.candidate_rounds.proofs.Undoing.{IsUndone, undo-variable, undo-assign, undo-enter, undo-region, undo-goal, undo-pending}
-use Rattle.candidate_rounds.proofs.Knowing.{each-append, each-entry, each-get}
-use Rattle.candidate_rounds.proofs.Probing.{holds-after, back-now}
+use Rattle.candidate_rounds.specs.Inferences.{Inference, with_variable, enter, add, add_all, begin_pending, back_to}
+use Rattle.candidate_rounds.specs.Known.{info_of, state_of, IsEntry, IsChange, IsConsistent, IsKnown, Each, Evaluator, state, with_root}
+use Rattle.candidate_rounds.proofs.Undoing.{IsUndone, undo-variable, undo-enter, undo-goal, undo-pending, back-to-now}
+use Rattle.candidate_rounds.proofs.Knowing.{state-stays, each-append}
+use Rattle.candidate_rounds.proofs.Probing.{holds-after}
 
 one-more : {A : Type 0} (xs : List A) (x : A) → length (xs ++ x ∷ []) ≡ suc (length xs)
 one-more xs x = length-append xs (x ∷ []) ∙ omega arith
 
 -- the goals that are pending are among those that were added
 first-fits : (ts : List Tree) (s : Inference) (ks : List ℕ) → IsConsistent ts s ks → s.first_pending ≤ length s.goals
-first-fits ts s ks h = subst (λ (x : Inference). x.first_pending ≤ length x.goals) (back-now s) (h.pending (length s.trail))
+first-fits ts s ks h = subst (λ (x : Inference). x.first_pending ≤ length x.goals) (back-to-now s) (h.pending (length s.trail))
 
 -- A probe in which nothing is pending began.
 pub holds-begun : (ts : List Tree) (s : Inference) (ks : List ℕ) → IsConsistent ts s ks → IsConsistent ts (begin_pending s (length s.goals)) (length s.trail ∷ ks)
@@ -91,3 +86,51 @@ pub goal-state : {A : Type 0} (ts : List Tree) (mode : TypingMode) (s t : Infere
     → OnOk r (state_of ts mode t ≡ added (state_of ts mode s) (pending_of ts f g))
 goal-state ts mode s t ks f g (Ok a) h p = ap (state_of ts mode) p ∙ state-goal ts mode s ks f g h
 goal-state ts mode s t ks f g (Err e) h p = tt
+
+-- The same of several goals.
+
+pub holds-goals : (ts : List Tree) (s : Inference) (ks : List ℕ) (f : GoalSource) (gs : List (Goal Clause)) → IsConsistent ts s ks → Each (IsGoal ts) gs → IsConsistent ts (add_all s f gs) ks
+holds-goals ts s ks f [] h e = h
+holds-goals ts s ks f (g ∷ gs) h e = holds-goals ts (add s f g) ks f gs (holds-goal ts s ks f g h e.0) e.1
+
+pub undo-goals : (s : Inference) (f : GoalSource) (gs : List (Goal Clause)) → IsUndone s (add_all s f gs)
+undo-goals s f [] n l = refl
+undo-goals s f (g ∷ gs) n l = undo-goals (add s f g) f gs n (let m = one-more s.trail C.Goal in omega (arith, l, m)) ∙ undo-goal s f g n l
+
+pub state-goals : (ts : List Tree) (mode : TypingMode) (s : Inference) (ks : List ℕ) (f : GoalSource) (gs : List (Goal Clause)) → IsConsistent ts s ks → Each (IsGoal ts) gs
+    → state_of ts mode (add_all s f gs) ≡ with_goals_of ts (state_of ts mode s) f gs
+state-goals ts mode s ks f [] h e = ap (with_pending (state_of ts mode s)) (sym (append-nil _))
+state-goals ts mode s ks f (g ∷ gs) h e =
+    state-goals ts mode (add s f g) ks f gs (holds-goal ts s ks f g h e.0) e.1
+    ∙ (ap (λ S. with_goals_of ts S f gs) (state-goal ts mode s ks f g h)
+    ∙ ap (with_pending (state_of ts mode s)) (append_assoc (state_of ts mode s).pending (pending_of ts f g ∷ []) (map (pending_of ts f) gs)))
+
+pub goals-hold : {A : Type 0} (ts : List Tree) (s t : Inference) (ks : List ℕ) (f : GoalSource) (gs : List (Goal Clause)) (r : Result A Stop) → IsConsistent ts s ks → Each (IsGoal ts) gs
+    → IfOk r (λ _. t ≡ add_all s f gs) → IfErr r (λ _. t ≡ s) → IsConsistent ts t ks
+goals-hold ts s t ks f gs (Ok a) h i p q = subst (λ x. IsConsistent ts x ks) (sym p) (holds-goals ts s ks f gs h i)
+goals-hold ts s t ks f gs (Err e) h i p q = subst (λ x. IsConsistent ts x ks) (sym q) h
+
+pub goals-undone : {A : Type 0} (s t : Inference) (f : GoalSource) (gs : List (Goal Clause)) (r : Result A Stop) → IfOk r (λ _. t ≡ add_all s f gs) → IfErr r (λ _. t ≡ s) → IsUndone s t
+goals-undone s t f gs (Ok a) p q n l = ap (back_to n) p ∙ undo-goals s f gs n l
+goals-undone s t f gs (Err e) p q n l = ap (back_to n) q
+
+pub goals-state : {A : Type 0} (ts : List Tree) (mode : TypingMode) (s t : Inference) (ks : List ℕ) (f : GoalSource) (gs : List (Goal Clause)) (r : Result A Stop) → IsConsistent ts s ks → Each (IsGoal ts) gs
+    → IfOk r (λ _. t ≡ add_all s f gs) → OnOk r (state_of ts mode t ≡ with_goals_of ts (state_of ts mode s) f gs)
+goals-state ts mode s t ks f gs (Ok a) h i p = ap (state_of ts mode) p ∙ state-goals ts mode s ks f gs h i
+goals-state ts mode s t ks f gs (Err e) h i p = tt
+
+-- The state as it was, once more numbers are given.
+pub before-grown : (us : List Tree) (v e : Evaluator) → v ≡ e → Extends v.context.trees us → IsKnown v.context.trees v.inference → state_of us e.mode e.inference ≡ state e
+before-grown us v e q x k = sym (ap (λ (y : Evaluator). state_of us y.mode y.inference) q) ∙ (state-stays v.context.trees us v.mode v.inference x k ∙ ap state q)
+
+pub root-made : {A : Type 0} (us : List Tree) (mode : TypingMode) (s t : Inference) (S : State) (k : VariableKind) (r : Result A Stop) → state_of us mode s ≡ S → IfOk r (λ _. t ≡ with_variable s k true)
+    → OnOk r (state_of us mode t ≡ with_root S k)
+root-made us mode s t S k (Ok a) b p =
+    ap (state_of us mode) p
+    ∙ (ap (λ vs. record (state_of us mode s) { variables = vs }) (map-append (info_of us) s.variables _)
+    ∙ ap (λ S. with_root S k) b)
+root-made us mode s t S k (Err e) b p = tt
+
+pub none-made : {A : Type 0} (us : List Tree) (mode : TypingMode) (s t : Inference) (S : State) (r : Result A Stop) → state_of us mode s ≡ S → IfErr r (λ _. t ≡ s) → OnErr r (state_of us mode t ≡ S)
+none-made us mode s t S (Ok a) b p = tt
+none-made us mode s t S (Err e) b p = ap (state_of us mode) p ∙ b

@@ -1,7 +1,7 @@
 -- Probes that begin and end.
 use Rattle.std.proofs.Common.{Bool, true, false, ◌≡◌, ℕ, zero, suc, ◌≤◌, List, [], ◌∷◌, ◌++◌, length, take, drop, refl, sym, ◌∙◌, ap, subst, arith}
 use Rattle.std.proofs.Math.Dec.{leb}
-use Rattle.std.proofs.Math.Seq.{drop-length, take-length}
+use Rattle.std.proofs.Math.Seq.{drop-length}
 use Rattle.std.proofs.lemmas.Bool.{leb-true, leb-false}
 use Rattle.std.proofs.lemmas.List.{take-append-drop}
 use Rattle.candidate_ir.specs.Nodes.{Extends}
@@ -12,19 +12,14 @@ use Rattle.candidate_eval.specs.Evaluators.{pendings_of}
 use Rattle.candidate_rounds.specs.declared.rounds.inference.Change.{Change}
 use Rattle.candidate_rounds.specs.Inferences.{Inference, begin_pending, before, undone, back_to}
 use Rattle.candidate_rounds.specs.Known.{state_of, states_at, AreMarks, PendingFits, IsKnown, IsConsistent}
-use Rattle.candidate_rounds.proofs.Undoing.{IsUndone, undone-trail}
+use Rattle.candidate_rounds.proofs.Undoing.{IsUndone, undone-trail, back-to-now}
 use Rattle.candidate_rounds.proofs.Knowing.{probes-stay, known-back, known-stays}
-
-pub back-now : (s : Inference) → back_to (length s.trail) s ≡ s
-back-now s =
-    ap (λ x. record (undone x s) { trail = take (length s.trail) s.trail }) (drop-length s.trail)
-    ∙ ap (λ x. record s { trail = x }) (take-length s.trail)
 
 -- A probe that begins is the newest.
 pub probe-begins : (ts : List Tree) (mode : TypingMode) (s t : Inference) (ks : List ℕ) → AreMarks (length s.trail) ks → IsUndone s t
     → states_at ts mode t (length s.trail ∷ ks) ≡ state_of ts mode s ∷ states_at ts mode s ks
 probe-begins ts mode s t ks m u =
-    ap (λ x. state_of ts mode x ∷ states_at ts mode t ks) (u (length s.trail) (omega arith) ∙ back-now s)
+    ap (λ x. state_of ts mode x ∷ states_at ts mode t ks) (u (length s.trail) (omega arith) ∙ back-to-now s)
     ∙ ap (λ xs. state_of ts mode s ∷ xs) (probes-stay ts mode s t ks m u)
 
 -- Where only later goals are pending, none is.

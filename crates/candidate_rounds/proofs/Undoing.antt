@@ -1,6 +1,7 @@
 -- Changes, and what was before them.
-use Rattle.std.proofs.Common.{Bool, ◌≡◌, ℕ, zero, suc, ◌<◌, ◌≤◌, List, [], ◌∷◌, ◌++◌, length, take, drop, set, slice_get, slice_index_or, Option, Some, None, IsSome, ◌↔◌, refl, sym, ◌∙◌, ap, subst, arith}
-use Rattle.std.proofs.lemmas.List.{take-append-le, drop-append-le}
+use Rattle.std.proofs.Common.{Bool, ◌+◌, ◌≡◌, ℕ, zero, suc, ◌<◌, ◌≤◌, List, [], ◌∷◌, ◌++◌, length, take, drop, set, slice_get, slice_index_or, Option, Some, None, IsSome, ◌↔◌, refl, sym, ◌∙◌, ap, subst, arith}
+use Rattle.std.proofs.Math.Seq.{drop-length, take-length}
+use Rattle.std.proofs.lemmas.List.{take-append-le, drop-append-le, length-append}
 use Rattle.std.specs.Option.{option_to_list}
 use Rattle.candidate_ir.specs.declared.ir.kinds.Clause.{Clause}
 use Rattle.candidate_ir.specs.declared.ir.kinds.GenericArg.{GenericArg}
@@ -126,8 +127,42 @@ undo-goal s f g n l = back-noted s (record s { goals = s.goals ++ (f, g) ∷ [] 
 pub undo-pending : (s : Inference) (i : ℕ) → IsUndone s (begin_pending s i)
 undo-pending s i n l = back-noted s (record s { first_pending = i }) (C.Pending s.first_pending) n l refl refl
 
+pub back-to-now : (s : Inference) → back_to (length s.trail) s ≡ s
+back-to-now s =
+    ap (λ x. record (undone x s) { trail = take (length s.trail) s.trail }) (drop-length s.trail)
+    ∙ ap (λ x. record s { trail = x }) (take-length s.trail)
+
 -- So many of the goals were added: what is left comes to what all come to, and they can be undone.
 pub record AddsSoFar (s t : Inference) (f : GoalSource) (gs : List (Goal Clause)) (i : ℕ) : Type 0 where
   pub left : add_all t f (drop i gs) ≡ add_all s f gs
   pub undone : back_to (length s.trail) t ≡ s
   pub longer : length s.trail ≤ length t.trail
+
+drop-one : {A : Type 0} (xs : List A) (i : ℕ) (d : A) → i < length xs → drop i xs ≡ slice_index_or xs i d ∷ drop (suc i) xs
+drop-one [] i d l = absurd (omega (arith, l))
+drop-one (y ∷ ys) zero d l = refl
+drop-one (y ∷ ys) (suc i) d l = drop-one ys i d (omega (arith, l))
+
+pub no-adds : (s : Inference) (f : GoalSource) (gs : List (Goal Clause)) → AddsSoFar s s f gs 0
+no-adds s f gs = record { left = refl; undone = back-to-now s; longer = omega arith }
+
+pub one-more-add : (s t u : Inference) (f : GoalSource) (gs : List (Goal Clause)) (i : ℕ) (d : Goal Clause) → AddsSoFar s t f gs i → i < length gs → u ≡ add t f (slice_index_or gs i d) → AddsSoFar s u f gs (i + 1)
+one-more-add s t u f gs i d a l k = subst (λ x. AddsSoFar s x f gs (i + 1)) (sym k) (record {
+  left =
+      ap (λ n. add_all (add t f g) f (drop n gs)) (let n : i + 1 ≡ suc i = omega arith in n)
+      ∙ (sym (ap (add_all t f) (drop-one gs i d l)) ∙ a.left);
+  undone = undo-goal t f g (length s.trail) a.longer ∙ a.undone;
+  longer = (let m = a.longer in let n = length-append t.trail (C.Goal ∷ []) in omega (arith, m, n));
+})
+  where
+    g : Goal Clause
+    g = slice_index_or gs i d
+
+pub all-added : (s t : Inference) (f : GoalSource) (gs : List (Goal Clause)) (i : ℕ) → AddsSoFar s t f gs i → length gs ≤ i → t ≡ add_all s f gs
+all-added s t f gs i a l = ap (add_all t f) (sym (none-left gs i l)) ∙ a.left
+  where
+    none-left : (gs : List (Goal Clause)) (i : ℕ) → length gs ≤ i → drop i gs ≡ []
+    none-left [] zero l = refl
+    none-left [] (suc i) l = refl
+    none-left (g ∷ gs) zero l = absurd (omega (arith, l))
+    none-left (g ∷ gs) (suc i) l = none-left gs i (omega (arith, l))

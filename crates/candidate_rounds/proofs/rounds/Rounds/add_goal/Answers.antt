@@ -1,5 +1,4 @@
-use Rattle.std.proofs.Common.{◌≡◌, List, OnOk, reverse, refl, sym, ◌∙◌, ap, subst}
-use Rattle.candidate_ir.specs.Trees.{Tree}
+use Rattle.std.proofs.Common.{◌≡◌, OnOk, reverse, sym, ◌∙◌, ap, subst}
 use Rattle.candidate_eval.specs.Evaluators.{IsGoal, pending_of}
 use Rattle.candidate_eval.specs.States.{added}
 use Rattle.candidate_rounds.specs.Known.{Evaluator, state, state_of, probes}

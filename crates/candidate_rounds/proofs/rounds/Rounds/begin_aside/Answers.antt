@@ -1,5 +1,5 @@
-use Rattle.std.proofs.Common.{◌≡◌, ◌∷◌, ◌++◌, [], length, reverse, refl, sym, ◌∙◌, ap, subst, arith}
-use Rattle.std.proofs.lemmas.List.{reverse-append, length-append}
+use Rattle.std.proofs.Common.{◌≡◌, ◌∷◌, [], length, reverse, sym, ◌∙◌, ap, subst}
+use Rattle.std.proofs.lemmas.List.{reverse-append}
 use Rattle.candidate_eval.specs.States.{with_pending}
 use Rattle.candidate_rounds.specs.Inferences.{begin_pending}
 use Rattle.candidate_rounds.specs.Known.{Evaluator, state, probes, state_of, states_at, IsConsistent}

@@ -1,6 +1,6 @@
 use Rattle.std.proofs.Common.{◌≡◌, ◌∷◌, [], length, reverse, sym, ◌∙◌, ap, subst}
 use Rattle.std.proofs.lemmas.List.{reverse-append}
-use Rattle.candidate_rounds.specs.Inferences.{Inference, back_to}
+use Rattle.candidate_rounds.specs.Inferences.{back_to}
 use Rattle.candidate_rounds.specs.Known.{probes, state_of, states_at, AreMarks, IsConsistent}
 use Rattle.candidate_rounds.proofs.Probing.{others-stay, holds-back}
 use Rattle.candidate_rounds.proofs.rounds.Rounds.end_probe.Goals as goal

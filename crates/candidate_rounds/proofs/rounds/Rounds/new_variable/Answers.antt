@@ -1,11 +1,10 @@
-use Rattle.std.proofs.Common.{◌≡◌, List, false, reverse, refl, sym, ◌∙◌, ap, subst}
-use Rattle.candidate_ir.specs.Trees.{Tree}
+use Rattle.std.proofs.Common.{reverse, sym, ◌∙◌, ap, subst}
 use Rattle.candidate_rounds.specs.Inferences.{with_variable}
-use Rattle.candidate_rounds.specs.Known.{Evaluator, state, state_of, states_at, probes, IsConsistent}
+use Rattle.candidate_rounds.specs.Known.{states_at, probes, IsConsistent}
 use Rattle.candidate_rounds.proofs.Undoing.{undo-variable}
 use Rattle.candidate_rounds.proofs.Knowing.{probes-stay, probes-grow}
 use Rattle.candidate_rounds.proofs.Probing.{holds-grown}
-use Rattle.candidate_rounds.proofs.Holding.{holds-variable}
+use Rattle.candidate_rounds.proofs.Holding.{holds-variable, before-grown}
 use Rattle.candidate_rounds.proofs.rounds.Rounds.new_variable.Goals as goal
 
 pub invariant_of-self : goal.invariant_of-self
@@ -47,10 +46,10 @@ returns-clause-probes c =
     ∙ (probes-grow i.cx.trees us i.mode i.inference ks c.variable.ensures.grows.kept c.self.invariant.known ∙ ap probes c.self.view_is))
 
 pub returns-in_err-arg-clause-before : goal.returns-in_err-arg-clause-before
-returns-in_err-arg-clause-before c = before-variable c.self.inside.cx.trees c.variable.new.cx.trees c.self.inside.mode c.self.inside.inference c.args.self.now c.variable.ensures.grows.kept c.self.invariant.known c.self.view_is
+returns-in_err-arg-clause-before c = before-grown c.variable.new.cx.trees _ c.args.self.now c.self.view_is c.variable.ensures.grows.kept c.self.invariant.known
 
 pub returns-in_err-add_variable-clause-before : goal.returns-in_err-add_variable-clause-before
-returns-in_err-add_variable-clause-before c = before-variable c.self.inside.cx.trees c.variable.new.cx.trees c.self.inside.mode c.self.inside.inference c.args.self.now c.variable.ensures.grows.kept c.self.invariant.known c.self.view_is
+returns-in_err-add_variable-clause-before c = before-grown c.variable.new.cx.trees _ c.args.self.now c.self.view_is c.variable.ensures.grows.kept c.self.invariant.known
 
 pub returns-clause-before : goal.returns-clause-before
-returns-clause-before c = before-variable c.self.inside.cx.trees c.variable.new.cx.trees c.self.inside.mode c.self.inside.inference c.args.self.now c.variable.ensures.grows.kept c.self.invariant.known c.self.view_is
+returns-clause-before c = before-grown c.variable.new.cx.trees _ c.args.self.now c.self.view_is c.variable.ensures.grows.kept c.self.invariant.known

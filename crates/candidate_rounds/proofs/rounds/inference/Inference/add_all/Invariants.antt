@@ -1,5 +1,3 @@
-use Rattle.std.proofs.Common.{◌≡◌, ◌≤◌, drop, length}
-use Rattle.candidate_rounds.specs.Inferences.{add_all, back_to}
 use Rattle.candidate_rounds.proofs.Undoing.{AddsSoFar}
 use Rattle.candidate_rounds.proofs.rounds.inference.Inference.add_all.Given as goal
 
