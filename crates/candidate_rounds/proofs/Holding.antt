@@ -4,15 +4,17 @@ use Rattle.std.proofs.lemmas.List.{length-append, map-append, drop-append-le, ap
 use Rattle.candidate_ir.specs.declared.ir.kinds.Clause.{Clause}
 use Rattle.candidate_ir.specs.declared.ir.kinds.Goal.{Goal}
 use Rattle.candidate_ir.specs.declared.ir.kinds.GoalSource.{GoalSource}
+use Rattle.candidate_ir.specs.declared.ir.kinds.VarKind.{VarKind}
 use Rattle.candidate_ir.specs.declared.ir.stop.Stop.{Stop}
+use Rattle.candidate_ir.specs.Context.{parameter_kind}
 use Rattle.candidate_ir.specs.Nodes.{Extends}
 use Rattle.candidate_ir.specs.Trees.{Tree}
 use Rattle.candidate_eval.specs.declared.eval.mode.TypingMode.{TypingMode}
 use Rattle.candidate_eval.specs.declared.eval.variable.VariableKind.{VariableKind}
-use Rattle.candidate_eval.specs.States.{State, added, with_pending, with_fresh, with_universe}
-use Rattle.candidate_eval.specs.Evaluators.{IsGoal, pending_of, pendings_of, with_goals_of}
+use Rattle.candidate_eval.specs.States.{State, added, with_pending, with_fresh, with_fresh_variables, variable_kind, with_universe}
+use Rattle.candidate_eval.specs.Evaluators.{IsGoal, pending_of, pendings_of, with_goals_of, kinds_listed}
 use Rattle.candidate_rounds.specs.declared.rounds.inference.Change.TheVariants as C
-use Rattle.candidate_rounds.specs.Inferences.{Inference, with_variable, enter, add, add_all, begin_pending, back_to}
+use Rattle.candidate_rounds.specs.Inferences.{Inference, with_variable, with_variables, enter, add, add_all, begin_pending, back_to}
 use Rattle.candidate_rounds.specs.Known.{info_of, state_of, IsEntry, IsChange, IsConsistent, IsKnown, Each, Evaluator, state, with_root}
 use Rattle.candidate_rounds.proofs.Undoing.{IsUndone, undo-variable, undo-enter, undo-goal, undo-pending, back-to-now}
 use Rattle.candidate_rounds.proofs.Knowing.{state-stays, each-append}
@@ -134,3 +136,35 @@ root-made us mode s t S k (Err e) b p = tt
 pub none-made : {A : Type 0} (us : List Tree) (mode : TypingMode) (s t : Inference) (S : State) (r : Result A Stop) → state_of us mode s ≡ S → IfErr r (λ _. t ≡ s) → OnErr r (state_of us mode t ≡ S)
 none-made us mode s t S (Ok a) b p = tt
 none-made us mode s t S (Err e) b p = ap (state_of us mode) p ∙ b
+
+-- The same of several variables, and of a universe.
+
+pub holds-variables : (ts : List Tree) (s : Inference) (ks : List ℕ) (vs : List VarKind) → IsConsistent ts s ks → IsConsistent ts (with_variables s vs) ks
+holds-variables ts s ks [] h = h
+holds-variables ts s ks (v ∷ vs) h = holds-variables ts (with_variable s (variable_kind (parameter_kind v)) false) ks vs (holds-variable ts s ks (variable_kind (parameter_kind v)) false h)
+
+pub undo-variables : (s : Inference) (vs : List VarKind) → IsUndone s (with_variables s vs)
+undo-variables s [] n l = refl
+undo-variables s (v ∷ vs) n l =
+    let k = variable_kind (parameter_kind v) in
+    undo-variables (with_variable s k false) vs n (let m = one-more s.trail C.Variable in omega (arith, l, m)) ∙ undo-variable s k false n l
+
+pub state-variables : (ts : List Tree) (mode : TypingMode) (s : Inference) (vs : List VarKind) → state_of ts mode (with_variables s vs) ≡ with_fresh_variables (state_of ts mode s) (kinds_listed vs)
+state-variables ts mode s [] = refl
+state-variables ts mode s (v ∷ vs) =
+    let k = variable_kind (parameter_kind v) in
+    state-variables ts mode (with_variable s k false) vs ∙ ap (λ S. with_fresh_variables S (kinds_listed vs)) (state-variable ts mode s k)
+
+-- A call that made one change or none.
+
+pub change-holds : {A : Type 0} (ts : List Tree) (s t u : Inference) (ks : List ℕ) (r : Result A Stop) → IsConsistent ts s ks → IsConsistent ts u ks → IfOk r (λ _. t ≡ u) → IfErr r (λ _. t ≡ s) → IsConsistent ts t ks
+change-holds ts s t u ks (Ok a) h k p q = subst (λ x. IsConsistent ts x ks) (sym p) k
+change-holds ts s t u ks (Err e) h k p q = subst (λ x. IsConsistent ts x ks) (sym q) h
+
+pub change-undone : {A : Type 0} (s t u : Inference) (r : Result A Stop) → IsUndone s u → IfOk r (λ _. t ≡ u) → IfErr r (λ _. t ≡ s) → IsUndone s t
+change-undone s t u (Ok a) k p q n l = ap (back_to n) p ∙ k n l
+change-undone s t u (Err e) k p q n l = ap (back_to n) q
+
+pub change-state : {A : Type 0} (ts : List Tree) (mode : TypingMode) (t u : Inference) (S : State) (r : Result A Stop) → state_of ts mode u ≡ S → IfOk r (λ _. t ≡ u) → OnOk r (state_of ts mode t ≡ S)
+change-state ts mode t u S (Ok a) k p = ap (state_of ts mode) p ∙ k
+change-state ts mode t u S (Err e) k p = tt

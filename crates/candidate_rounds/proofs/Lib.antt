@@ -11,3 +11,4 @@ pub mod Looks
 pub mod Sizes
 pub mod Ends
 pub mod EquatingLaws
+pub mod Leafing

@@ -1,5 +1,5 @@
 -- Changes, and what was before them.
-use Rattle.std.proofs.Common.{Bool, ◌+◌, ◌≡◌, ℕ, zero, suc, ◌<◌, ◌≤◌, List, [], ◌∷◌, ◌++◌, length, take, drop, set, slice_get, slice_index_or, Option, Some, None, IsSome, ◌↔◌, refl, sym, ◌∙◌, ap, subst, arith}
+use Rattle.std.proofs.Common.{false, Bool, ◌+◌, ◌≡◌, ℕ, zero, suc, ◌<◌, ◌≤◌, List, [], ◌∷◌, ◌++◌, length, take, drop, set, slice_get, slice_index_or, Option, Some, None, IsSome, ◌↔◌, refl, sym, ◌∙◌, ap, subst, arith}
 use Rattle.std.proofs.Math.Seq.{drop-length, take-length}
 use Rattle.std.proofs.lemmas.List.{take-append-le, drop-append-le, length-append}
 use Rattle.std.specs.Option.{option_to_list}
@@ -7,11 +7,14 @@ use Rattle.candidate_ir.specs.declared.ir.kinds.Clause.{Clause}
 use Rattle.candidate_ir.specs.declared.ir.kinds.GenericArg.{GenericArg}
 use Rattle.candidate_ir.specs.declared.ir.kinds.Goal.{Goal}
 use Rattle.candidate_ir.specs.declared.ir.kinds.GoalSource.{GoalSource}
+use Rattle.candidate_ir.specs.declared.ir.kinds.VarKind.{VarKind}
+use Rattle.candidate_ir.specs.Context.{parameter_kind}
+use Rattle.candidate_eval.specs.States.{variable_kind}
 use Rattle.candidate_eval.specs.declared.eval.variable.VariableKind.{VariableKind}
 use Rattle.candidate_rounds.specs.declared.rounds.inference.Entry.{Entry}
 use Rattle.candidate_rounds.specs.declared.rounds.inference.Change.{Change}
 use Rattle.candidate_rounds.specs.declared.rounds.inference.Change.TheVariants as C
-use Rattle.candidate_rounds.specs.Inferences.{Inference, shorter, with_entry, with_value, with_universe, value_of, universe_of, universe_for, noted, with_variable, assign, lower, enter, record_region, add, add_all, begin_pending, before, undone, back_to}
+use Rattle.candidate_rounds.specs.Inferences.{Inference, shorter, with_entry, with_value, with_universe, value_of, universe_of, universe_for, noted, with_variable, with_variables, assign, lower, enter, record_region, add, add_all, begin_pending, before, undone, back_to}
 
 -- A variable that is set is changed, and where there is none nothing is.
 
@@ -138,10 +141,16 @@ pub record AddsSoFar (s t : Inference) (f : GoalSource) (gs : List (Goal Clause)
   pub undone : back_to (length s.trail) t ≡ s
   pub longer : length s.trail ≤ length t.trail
 
-drop-one : {A : Type 0} (xs : List A) (i : ℕ) (d : A) → i < length xs → drop i xs ≡ slice_index_or xs i d ∷ drop (suc i) xs
+pub drop-one : {A : Type 0} (xs : List A) (i : ℕ) (d : A) → i < length xs → drop i xs ≡ slice_index_or xs i d ∷ drop (suc i) xs
 drop-one [] i d l = absurd (omega (arith, l))
 drop-one (y ∷ ys) zero d l = refl
 drop-one (y ∷ ys) (suc i) d l = drop-one ys i d (omega (arith, l))
+
+pub drop-beyond : {A : Type 0} (xs : List A) (i : ℕ) → length xs ≤ i → drop i xs ≡ []
+drop-beyond [] zero l = refl
+drop-beyond [] (suc i) l = refl
+drop-beyond (x ∷ xs) zero l = absurd (omega (arith, l))
+drop-beyond (x ∷ xs) (suc i) l = drop-beyond xs i (omega (arith, l))
 
 pub no-adds : (s : Inference) (f : GoalSource) (gs : List (Goal Clause)) → AddsSoFar s s f gs 0
 no-adds s f gs = record { left = refl; undone = back-to-now s; longer = omega arith }
@@ -159,10 +168,29 @@ one-more-add s t u f gs i d a l k = subst (λ x. AddsSoFar s x f gs (i + 1)) (sy
     g = slice_index_or gs i d
 
 pub all-added : (s t : Inference) (f : GoalSource) (gs : List (Goal Clause)) (i : ℕ) → AddsSoFar s t f gs i → length gs ≤ i → t ≡ add_all s f gs
-all-added s t f gs i a l = ap (add_all t f) (sym (none-left gs i l)) ∙ a.left
+all-added s t f gs i a l = ap (add_all t f) (sym (drop-beyond gs i l)) ∙ a.left
+
+-- The same of variables.
+pub record VariablesSoFar (s t : Inference) (ks : List VarKind) (i : ℕ) : Type 0 where
+  pub left : with_variables t (drop i ks) ≡ with_variables s ks
+  pub undone : back_to (length s.trail) t ≡ s
+  pub longer : length s.trail ≤ length t.trail
+
+pub no-variables : (s : Inference) (ks : List VarKind) → VariablesSoFar s s ks 0
+no-variables s ks = record { left = refl; undone = back-to-now s; longer = omega arith }
+
+pub one-more-variable : (s t u : Inference) (ks : List VarKind) (i : ℕ) (d : VarKind) → VariablesSoFar s t ks i → i < length ks
+    → u ≡ with_variable t (variable_kind (parameter_kind (slice_index_or ks i d))) false → VariablesSoFar s u ks (i + 1)
+one-more-variable s t u ks i d a l k = subst (λ x. VariablesSoFar s x ks (i + 1)) (sym k) (record {
+  left =
+      ap (λ n. with_variables (with_variable t kind false) (drop n ks)) (let n : i + 1 ≡ suc i = omega arith in n)
+      ∙ (sym (ap (with_variables t) (drop-one ks i d l)) ∙ a.left);
+  undone = undo-variable t kind false (length s.trail) a.longer ∙ a.undone;
+  longer = (let m = a.longer in let n = length-append t.trail (C.Variable ∷ []) in omega (arith, m, n));
+})
   where
-    none-left : (gs : List (Goal Clause)) (i : ℕ) → length gs ≤ i → drop i gs ≡ []
-    none-left [] zero l = refl
-    none-left [] (suc i) l = refl
-    none-left (g ∷ gs) zero l = absurd (omega (arith, l))
-    none-left (g ∷ gs) (suc i) l = none-left gs i (omega (arith, l))
+    kind : VariableKind
+    kind = variable_kind (parameter_kind (slice_index_or ks i d))
+
+pub all-variables : (s t : Inference) (ks : List VarKind) (i : ℕ) → VariablesSoFar s t ks i → length ks ≤ i → t ≡ with_variables s ks
+all-variables s t ks i a l = ap (with_variables t) (sym (drop-beyond ks i l)) ∙ a.left

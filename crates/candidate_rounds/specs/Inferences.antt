@@ -1,12 +1,15 @@
 -- What an evaluator of rounds keeps of a state, and how changes of it are undone.
-use Rattle.std.specs.Prelude.{◌≡◌, ◌⊎◌, ◌≤◌, ℕ, zero, suc, ◌-◌, Bool, Option, Some, None, List, [], ◌∷◌, ◌++◌, take, drop, slice_get, if◌then◌else◌}
+use Rattle.std.specs.Prelude.{false, ◌≡◌, ◌⊎◌, ◌≤◌, ℕ, zero, suc, ◌-◌, Bool, Option, Some, None, List, [], ◌∷◌, ◌++◌, take, drop, slice_get, if◌then◌else◌}
 use Rattle.candidate_ir.specs.declared.ir.kinds.Clause.{Clause}
 use Rattle.candidate_ir.specs.declared.ir.kinds.GenericArg.{GenericArg}
 use Rattle.candidate_ir.specs.declared.ir.kinds.Goal.{Goal}
 use Rattle.candidate_ir.specs.declared.ir.kinds.GoalSource.{GoalSource}
+use Rattle.candidate_ir.specs.declared.ir.kinds.VarKind.{VarKind}
 use Rattle.candidate_ir.specs.declared.ir.stop.Stop.{Stop}
 use Rattle.candidate_ir.specs.declared.ir.stop.Stop.TheVariants.{Memory, NodesFull}
 use Rattle.candidate_eval.specs.declared.eval.variable.VariableKind.{VariableKind}
+use Rattle.candidate_ir.specs.Context.{parameter_kind}
+use Rattle.candidate_eval.specs.States.{variable_kind}
 use Rattle.candidate_rounds.specs.declared.rounds.inference.Entry.{Entry}
 use Rattle.candidate_rounds.specs.declared.rounds.inference.Change.{Change}
 use Rattle.candidate_rounds.specs.declared.rounds.inference.Change.TheVariants as C
@@ -49,6 +52,11 @@ universe_for s is_root = if is_root then 0 else s.newest_universe
 abbrev pub with_variable : Inference → VariableKind → Bool → Inference
 with_variable s k is_root =
     noted (record s { variables = s.variables ++ record { kind = k; universe = universe_for s is_root; value = None; is_root = is_root } ∷ [] }) C.Variable
+
+-- variables in the place of parameters of these kinds
+abbrev pub with_variables : Inference → List VarKind → Inference
+with_variables s [] = s
+with_variables s (k ∷ ks) = with_variables (with_variable s (variable_kind (parameter_kind k)) false) ks
 
 abbrev pub value_of : Option Entry → Option GenericArg
 value_of None = None

@@ -1,5 +1,6 @@
 pub mod Inferences
 pub mod Known
+pub mod Leaves
 pub mod Listed
 pub mod Scopes
 pub mod Binding

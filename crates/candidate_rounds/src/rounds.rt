@@ -1,5 +1,6 @@
 //! The evaluator's state, and what it answers.
 
+mod fresh;
 mod inference;
 pub mod states;
 

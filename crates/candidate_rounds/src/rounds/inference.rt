@@ -1,12 +1,13 @@
 //! What is known so far: the variables with their values, the regions recorded, the goals pending; and how each change is taken
 //! back.
 
-ghost use Rattle.std.specs.Prelude.{◌≡◌, ◌++◌, ◌∷◌, [], ◌<◌, ◌≤◌, IfOk, IfErr, IfSome, length, slice_get, Some, None};
+ghost use Rattle.std.specs.Prelude.{◌≡◌, ◌+◌, ◌^◌, ◌++◌, ◌∷◌, [], ◌<◌, ◌≤◌, IfOk, IfErr, IfSome, length, slice_get, Some, None};
 ghost use Rattle.candidate_rounds.specs.declared.rounds.inference.Change.{Change};
-ghost use Rattle.candidate_rounds.specs.Inferences.{Inference, with_variable, assign, lower, enter, record_region, add, add_all, begin_pending, before, back_to, universe_of, with_entry, with_value, with_universe, IsFullAt};
+ghost use Rattle.candidate_rounds.specs.Inferences.{Inference, with_variable, with_variables, assign, lower, enter, record_region, add, add_all, begin_pending, before, back_to, universe_of, with_entry, with_value, with_universe, IsFullAt};
 
+use crate::rounds::fresh::variable_kind;
 use candidate_eval::eval::variable::VariableKind;
-use candidate_ir::ir::kinds::{Clause, GenericArg, Goal, GoalSource};
+use candidate_ir::ir::kinds::{Clause, GenericArg, Goal, GoalSource, VarKind};
 use candidate_ir::ir::stop::Stop;
 use std::alloc::Global;
 use std::marker::Model;
@@ -106,6 +107,28 @@ impl Inference {
         self.variables.get(number as usize).copied()
     }
 
+    /// The number of the first of so many more variables. `Stop::NodesFull` comes where they can't all be numbered.
+    pub(crate) fn next_variables(&self, count: usize) -> Result<u32, Stop>
+        ensures number { IfOk result (λ n. n ≡ length self.now.variables) }
+        ensures room { IfOk result (λ n. n + count < 2 ^ 32) }
+    {
+        let number = self.variables.len();
+        if number > MOST as usize || count > MOST as usize - number {
+            return Err(Stop::NodesFull);
+        }
+        Ok(number as u32)
+    }
+
+    /// The universe that comes next. `Stop::NodesFull` comes where no more can be told apart.
+    pub(crate) fn next_universe(&self) -> Result<u32, Stop>
+        ensures { IfOk result (λ u. u ≡ self.now.newest_universe + 1) }
+    {
+        if self.newest_universe >= MOST {
+            return Err(Stop::NodesFull);
+        }
+        Ok(self.newest_universe + 1)
+    }
+
     /// Notes a change that is about to be made.
     fn note(&mut self, change: Change) -> Result<(), Stop>
         ensures noted { IfOk result (λ _. self.new ≡ record self.old { trail = self.old.trail ++ change ∷ [] }) }
@@ -194,9 +217,8 @@ impl Inference {
     }
 
     /// There is a newer universe. Besides `Stop::Memory`, `Stop::NodesFull` comes where no more can be told apart.
-    pub(crate) fn enter(&mut self) -> Result<u32, Stop>
+    pub(crate) fn enter(&mut self) -> Result<(), Stop>
         ensures entered { IfOk result (λ _. self.new ≡ enter self.old) }
-        ensures newest { IfOk result (λ u. u ≡ self.new.newest_universe) }
         ensures unchanged { IfErr result (λ _. self.new ≡ self.old) }
         ensures cause { IfErr result (λ s. IsFullAt self.old.newest_universe s) }
     {
@@ -205,7 +227,7 @@ impl Inference {
         }
         self.note(Change::NewestUniverse)?;
         self.newest_universe += 1;
-        Ok(self.newest_universe)
+        Ok(())
     }
 
     /// Records a region constraint.
@@ -232,6 +254,21 @@ impl Inference {
         if self.goals.push((source, goal)).is_err() {
             self.unnote();
             return Err(Stop::Memory);
+        }
+        Ok(())
+    }
+
+    /// Variables without values, of the newest universe, in the place of parameters of these kinds; none, where it stops.
+    pub(crate) fn add_variables(&mut self, kinds: &[VarKind]) -> Result<(), Stop>
+        ensures added { IfOk result (λ _. self.new ≡ with_variables self.old kinds.now) }
+        ensures unchanged { IfErr result (λ _. self.new ≡ self.old) }
+    {
+        let changes = self.changes();
+        for i in 0..kinds.len() {
+            if let Err(stop) = self.add_variable(variable_kind(kinds[i]), false) {
+                self.undo_to(changes);
+                return Err(stop);
+            }
         }
         Ok(())
     }

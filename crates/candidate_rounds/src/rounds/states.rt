@@ -1,53 +1,27 @@
 //! The state: variables, goals, probes.
 
-ghost use Rattle.std.specs.Prelude.{false, length, IfErr, ◌≡◌, ◌≢◌, List, [], ◌∷◌, IfOk, OnOk, OnErr};
+ghost use Rattle.std.specs.Prelude.{◌<◌, ◌^◌, false, length, IfErr, ◌≡◌, ◌≢◌, List, [], ◌∷◌, IfOk, OnOk, OnErr};
 ghost use Rattle.candidate_ir.specs.Context.{Grows};
 ghost use Rattle.candidate_ir.specs.Folds.{IsArg, arg_tree};
-ghost use Rattle.candidate_eval.specs.Evaluators.{begun, IsGoal, pending_of, with_goals_of};
-ghost use Rattle.candidate_eval.specs.States.{State, added, variable};
+ghost use Rattle.candidate_ir.specs.Nodes.{rows};
+ghost use Rattle.candidate_ir.specs.Words.{IsArgs, args_forest};
+ghost use Rattle.candidate_eval.specs.Evaluators.{begun, IsGoal, pending_of, with_goals_of, kinds_listed, rigid, with_rigid};
+ghost use Rattle.candidate_eval.specs.States.{State, added, variable, fresh_variables, with_fresh_variables, with_universe};
 ghost use Rattle.candidate_eval.specs.declared.eval.context.ProbeKind.{ProbeKind};
 ghost use Rattle.candidate_rounds.specs.Inferences.{with_variable};
+ghost use Rattle.candidate_rounds.specs.Leaves.{all_leaves, last_number};
 ghost use Rattle.candidate_rounds.specs.Known.{state, state_of, probes, with_root, Each};
 
 use crate::rounds::Rounds;
+use crate::rounds::fresh::{Leaves, leaf_args, variable};
 use crate::rounds::inference::Inference;
 use candidate_eval::eval::context::ProbeKind;
 use candidate_eval::eval::mode::TypingMode;
 use candidate_eval::eval::variable::VariableKind;
 use candidate_ir::decl::context::Cx;
-use candidate_ir::ir::heads::VariableSort;
-use candidate_ir::ir::kinds::{
-    Clause, ConstKind, GenericArg, Goal, GoalSource, InferTy, RegionKind, TyKind,
-};
+use candidate_ir::ir::kinds::{Args, Clause, GenericArg, Goal, GoalSource, VarKind};
 use candidate_ir::ir::stop::Stop;
 use std::alloc::Global;
-
-/// The variable of that number.
-fn variable(cx: &mut Cx, kind: VariableKind, number: u32) -> Result<GenericArg, Stop>
-    ensures grows { Grows cx.old cx.new }
-    ensures sort { IfOk result (λ a. IsArg cx.new.trees a) }
-    ensures tree { IfOk result (λ a. arg_tree cx.new.trees a ≡ variable kind number) }
-{
-    match kind {
-        VariableKind::Term(VariableSort::General) => {
-            let kind = TyKind::Infer(InferTy::TyVar(number));
-            Ok(GenericArg::Ty(cx.mk_ty(kind)?))
-        }
-        VariableKind::Term(VariableSort::Integer) => {
-            let kind = TyKind::Infer(InferTy::IntVar(number));
-            Ok(GenericArg::Ty(cx.mk_ty(kind)?))
-        }
-        VariableKind::Term(VariableSort::Floating) => {
-            let kind = TyKind::Infer(InferTy::FloatVar(number));
-            Ok(GenericArg::Ty(cx.mk_ty(kind)?))
-        }
-        VariableKind::Term(VariableSort::Constant) => {
-            let kind = ConstKind::Infer(number);
-            Ok(GenericArg::Const(cx.mk_const(kind)?))
-        }
-        VariableKind::Region => Ok(GenericArg::Region(cx.mk_region(RegionKind::Var(number))?)),
-    }
-}
 
 impl Rounds {
     /// An evaluator over the context that knows nothing of variables yet.
@@ -129,6 +103,81 @@ impl Rounds {
         ensures stopped { OnErr result (state self.new ≡ state self.old) }
     {
         self.new_variable(kind, true)
+    }
+
+    /// What stands for parameters of these kinds: nodes are made, and nothing else.
+    fn make_leaves(
+        &mut self,
+        alloc: Global,
+        leaves: Leaves,
+        kinds: &[VarKind],
+    ) -> Result<Args, Stop>
+        requires { last_number leaves (length kinds.now) < 2 ^ 32 }
+        ensures grows { Grows self.old.context self.new.context }
+        ensures inference { self.new.inference ≡ self.old.inference }
+        ensures probes { probes self.new ≡ probes self.old }
+        ensures state { state self.new ≡ state self.old }
+        ensures sort { IfOk result (λ a. IsArgs self.new.context.trees a) }
+        ensures trees { IfOk result (λ a. args_forest self.new.context.trees a ≡ rows (all_leaves leaves kinds.now)) }
+    {
+        leaf_args(alloc, &mut self.cx, leaves, kinds)
+    }
+
+    /// Fresh variables, in the place of parameters of these kinds; none, where it stops.
+    fn add_variables(&mut self, kinds: &[VarKind]) -> Result<(), Stop>
+        ensures context { self.new.context ≡ self.old.context }
+        ensures probes { probes self.new ≡ probes self.old }
+        ensures made { OnOk result (state self.new ≡ with_fresh_variables (state self.old) (kinds_listed kinds.now)) }
+        ensures stopped { OnErr result (self.new ≡ self.old) }
+    {
+        self.inference.add_variables(kinds)
+    }
+
+    /// There is a newer universe.
+    fn enter(&mut self) -> Result<(), Stop>
+        ensures context { self.new.context ≡ self.old.context }
+        ensures probes { probes self.new ≡ probes self.old }
+        ensures made { OnOk result (state self.new ≡ with_universe (state self.old)) }
+        ensures stopped { OnErr result (self.new ≡ self.old) }
+    {
+        self.inference.enter()
+    }
+
+    /// Fresh variables of the newest universe, in the place of parameters of these kinds. `Stop::Memory` comes where a growth was
+    /// refused, `Stop::NodesFull` where no numbers are left.
+    pub fn fresh_args_for_item(&mut self, alloc: Global, kinds: &[VarKind]) -> Result<Args, Stop>
+        ensures grows { Grows self.old.context self.new.context }
+        ensures probes { probes self.new ≡ probes self.old }
+        ensures sort { IfOk result (λ a. IsArgs self.new.context.trees a) }
+        ensures trees { IfOk result (λ a. args_forest self.new.context.trees a ≡ fresh_variables (state self.old) (kinds_listed kinds.now)) }
+        ensures made { OnOk result (state self.new ≡ with_fresh_variables (state self.old) (kinds_listed kinds.now)) }
+        ensures stopped { OnErr result (state self.new ≡ state self.old) }
+    {
+        let first = self.inference.next_variables(kinds.len())?;
+        let args = self.make_leaves(alloc, Leaves::Variables(first), kinds)?;
+        self.add_variables(kinds)?;
+        Ok(args)
+    }
+
+    /// Placeholders of a fresh universe, in the place of a binder's variables of these kinds; without variables there is none.
+    /// `Stop::Memory` comes where a growth was refused, `Stop::NodesFull` where no numbers are left.
+    pub fn placeholder_args(&mut self, alloc: Global, kinds: &[VarKind]) -> Result<Args, Stop>
+        ensures grows { Grows self.old.context self.new.context }
+        ensures probes { probes self.new ≡ probes self.old }
+        ensures sort { IfOk result (λ a. IsArgs self.new.context.trees a) }
+        ensures trees { IfOk result (λ a. args_forest self.new.context.trees a ≡ rigid (state self.old) (kinds_listed kinds.now)) }
+        ensures made { OnOk result (state self.new ≡ with_rigid (state self.old) (kinds_listed kinds.now)) }
+        ensures stopped { OnErr result (state self.new ≡ state self.old) }
+    {
+        if kinds.len() >= u32::MAX as usize {
+            return Err(Stop::NodesFull);
+        }
+        let universe = self.inference.next_universe()?;
+        let args = self.make_leaves(alloc, Leaves::Placeholders(universe), kinds)?;
+        if !kinds.is_empty() {
+            self.enter()?;
+        }
+        Ok(args)
     }
 
     /// Begins a probe. The only stop is `Stop::Memory`.

@@ -1,0 +1,26 @@
+use Rattle.std.proofs.Common.{reverse, ◌∙◌, ap}
+use Rattle.candidate_eval.specs.States.{with_fresh_variables}
+use Rattle.candidate_eval.specs.Evaluators.{kinds_listed}
+use Rattle.candidate_rounds.specs.Inferences.{with_variables}
+use Rattle.candidate_rounds.specs.Known.{Evaluator, state, probes}
+use Rattle.candidate_rounds.proofs.Knowing.{probes-stay}
+use Rattle.candidate_rounds.proofs.Holding.{holds-variables, undo-variables, state-variables, change-holds, change-undone, change-state}
+use Rattle.candidate_rounds.proofs.rounds.Rounds.add_variables.Goals as goal
+
+pub invariant_of-self : goal.invariant_of-self
+invariant_of-self c =
+    let i = c.self.inside in
+    let ks = reverse i.probes.items in
+    change-holds i.cx.trees i.inference c.add_variables.new.self (with_variables i.inference c.args.kinds.now) ks c.add_variables.result c.self.invariant (holds-variables i.cx.trees i.inference ks c.args.kinds.now c.self.invariant) c.add_variables.ensures.added c.add_variables.ensures.unchanged
+
+pub returns-clause-probes : goal.returns-clause-probes
+returns-clause-probes c =
+    let i = c.self.inside in
+    probes-stay i.cx.trees i.mode i.inference c.add_variables.new.self (reverse i.probes.items) c.self.invariant.marks
+    (change-undone i.inference c.add_variables.new.self (with_variables i.inference c.args.kinds.now) c.add_variables.result (undo-variables i.inference c.args.kinds.now) c.add_variables.ensures.added c.add_variables.ensures.unchanged)
+    ∙ ap probes c.self.view_is
+
+pub returns-clause-made : goal.returns-clause-made
+returns-clause-made c =
+    let i = c.self.inside in
+    change-state i.cx.trees i.mode c.add_variables.new.self (with_variables i.inference c.args.kinds.now) _ c.add_variables.result (state-variables i.cx.trees i.mode i.inference c.args.kinds.now ∙ ap (λ (e : Evaluator). with_fresh_variables (state e) (kinds_listed c.args.kinds.now)) c.self.view_is) c.add_variables.ensures.added

@@ -1,0 +1,26 @@
+use Rattle.std.proofs.Common.{reverse, ◌∙◌, ap}
+use Rattle.candidate_eval.specs.States.{with_universe}
+use Rattle.candidate_rounds.specs.Inferences.{enter}
+use Rattle.candidate_rounds.specs.Known.{Evaluator, state, probes}
+use Rattle.candidate_rounds.proofs.Undoing.{undo-enter}
+use Rattle.candidate_rounds.proofs.Knowing.{probes-stay}
+use Rattle.candidate_rounds.proofs.Holding.{holds-enter, state-enter, change-holds, change-undone, change-state}
+use Rattle.candidate_rounds.proofs.rounds.Rounds.enter.Goals as goal
+
+pub invariant_of-self : goal.invariant_of-self
+invariant_of-self c =
+    let i = c.self.inside in
+    let ks = reverse i.probes.items in
+    change-holds i.cx.trees i.inference c.enter.new.self (enter i.inference) ks c.enter.result c.self.invariant (holds-enter i.cx.trees i.inference ks c.self.invariant) c.enter.ensures.entered c.enter.ensures.unchanged
+
+pub returns-clause-probes : goal.returns-clause-probes
+returns-clause-probes c =
+    let i = c.self.inside in
+    probes-stay i.cx.trees i.mode i.inference c.enter.new.self (reverse i.probes.items) c.self.invariant.marks
+    (change-undone i.inference c.enter.new.self (enter i.inference) c.enter.result (undo-enter i.inference) c.enter.ensures.entered c.enter.ensures.unchanged)
+    ∙ ap probes c.self.view_is
+
+pub returns-clause-made : goal.returns-clause-made
+returns-clause-made c =
+    let i = c.self.inside in
+    change-state i.cx.trees i.mode c.enter.new.self (enter i.inference) _ c.enter.result (state-enter i.cx.trees i.mode i.inference ∙ ap (λ (e : Evaluator). with_universe (state e)) c.self.view_is) c.enter.ensures.entered
