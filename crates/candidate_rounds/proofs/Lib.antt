@@ -2,3 +2,4 @@ pub mod EquatingCases
 pub mod Marks
 pub mod Later
 pub mod Bound
+pub mod Putting
