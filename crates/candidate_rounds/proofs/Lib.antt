@@ -3,3 +3,4 @@ pub mod Marks
 pub mod Later
 pub mod Bound
 pub mod Putting
+pub mod Meeting
