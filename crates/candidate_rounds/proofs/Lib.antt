@@ -4,3 +4,4 @@ pub mod Later
 pub mod Bound
 pub mod Putting
 pub mod Meeting
+pub mod Sides
