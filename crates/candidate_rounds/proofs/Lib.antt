@@ -5,3 +5,4 @@ pub mod Bound
 pub mod Putting
 pub mod Meeting
 pub mod Sides
+pub mod Offered
