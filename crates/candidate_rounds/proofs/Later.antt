@@ -1,5 +1,5 @@
 -- States that follow one another: what is of a state stays of those that follow, and resolving twice is resolving once.
-use Rattle.std.proofs.Common.{◌≡◌, ◌≤◌, ◌<◌, ℕ, Bool, true, false, not, ◌&&◌, Option, Some, None, length, slice_get, refl, sym, ap, ◌∙◌, arith, nat_lt}
+use Rattle.std.proofs.Common.{◌≡◌, ℕ, Bool, true, false, not, ◌&&◌, Option, Some, None, refl, sym, ap, ◌∙◌, arith, nat_lt}
 use Rattle.std.proofs.lemmas.Bool.{ltb-false, le-ltb}
 use Rattle.std.proofs.lemmas.Option.{slice_get_within}
 use Rattle.std.proofs.Math.Nat.{le_trans}
@@ -13,9 +13,9 @@ use Rattle.candidate_ir.specs.Substitutions.{alone}
 use Rattle.candidate_ir.proofs.Folding.{fold-nothing}
 use Rattle.candidate_eval.specs.declared.eval.variable.VariableKind.{VariableKind}
 use Rattle.candidate_eval.specs.declared.eval.variable.VariableKind.TheVariants.{Term, Region}
-use Rattle.candidate_eval.specs.States.{State, VariableInfo, value_in, value_of, value_at, resolved, resolved_tree, is_some, with_universe}
+use Rattle.candidate_eval.specs.States.{State, VariableInfo, value_in, value_of, value_at, resolved, is_some, with_universe}
 use Rattle.candidate_eval.specs.Alike.{info}
-use Rattle.candidate_eval.specs.Soundness.{Live, IsSound, ValuesFit, IsResolved, AreTreesOf, Within, IsLater, Follows, Stays, has_value, has_kind, same_kind, is_strange}
+use Rattle.candidate_eval.specs.Soundness.{Live, IsSound, ValuesFit, IsResolved, AreTreesOf, Within, IsLater, Follows, has_value, has_kind, same_kind, is_strange}
 use Rattle.candidate_rounds.proofs.Marks.{holds_to, fold_marked, fold_closed}
 
 not_false : (b : Bool) → not b ≡ false → b ≡ true

@@ -6,3 +6,5 @@ pub mod Putting
 pub mod Meeting
 pub mod Sides
 pub mod Offered
+pub mod Current
+pub mod Looks

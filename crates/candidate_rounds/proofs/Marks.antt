@@ -1,16 +1,16 @@
 -- Marks that no head of folded trees bears, bound variables that escape from none, and folds one after another.
-use Rattle.std.proofs.Common.{◌≡◌, ◌≤◌, ◌<◌, ℕ, ◌+◌, Bool, true, false, ◌||◌, Option, Some, None, refl, sym, ap, subst, ◌∙◌, arith, nat_le}
+use Rattle.std.proofs.Common.{◌≡◌, ◌≤◌, ◌<◌, ℕ, ◌+◌, Bool, false, ◌||◌, Option, Some, None, refl, sym, ap, ◌∙◌, arith, nat_le}
 use Rattle.std.specs.Option.{unwrap_or}
-use Rattle.std.proofs.lemmas.Bool.{or_parts, or_from, leb-false, lt-leb}
+use Rattle.std.proofs.lemmas.Bool.{or_parts, leb-false, lt-leb}
 use Rattle.candidate_ir.specs.declared.ir.heads.Head.{Head}
 use Rattle.candidate_ir.specs.declared.ir.heads.Head.TheVariants as H
 use Rattle.candidate_ir.specs.declared.ir.heads.ConstHead.TheVariants as C
 use Rattle.candidate_ir.specs.declared.ir.kinds.RegionKind.TheVariants as R
 use Rattle.candidate_ir.specs.Trees.{Forest, none, tree, Tree, erase, erased_head, holds, binders_of}
 use Rattle.candidate_ir.specs.Binders.{is_beyond, escapes}
-use Rattle.candidate_ir.specs.Folding.{Answers, fold, fold_tree}
+use Rattle.candidate_ir.specs.Folding.{Answers, fold}
 use Rattle.candidate_ir.specs.Substitutions.{alone}
-use Rattle.candidate_ir.proofs.Folding.{begin, same_row}
+use Rattle.candidate_ir.proofs.Folding.{begin}
 use Rattle.candidate_eval.specs.States.{Values, valued, valued_tree}
 use Rattle.candidate_eval.proofs.Holds.{holds_parts}
 
