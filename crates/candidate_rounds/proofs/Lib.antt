@@ -8,3 +8,4 @@ pub mod Sides
 pub mod Offered
 pub mod Current
 pub mod Looks
+pub mod Solving
