@@ -9,3 +9,4 @@ pub mod Offered
 pub mod Current
 pub mod Looks
 pub mod Solving
+pub mod Taking

@@ -103,14 +103,14 @@ met_absorbs S L s fits leafy m h t k e = at h k e (value_leaves S L leafy h t k 
 
 -- What erasing leaves
 
-fits_erased : (s : VariableSort) (h : Head) → fits_sort s (erased_head h) ≡ fits_sort s h
+pub fits_erased : (s : VariableSort) (h : Head) → fits_sort s (erased_head h) ≡ fits_sort s h
 fits_erased V.General (H.Region r) = refl
 fits_erased V.Integer (H.Region r) = refl
 fits_erased V.Floating (H.Region r) = refl
 fits_erased V.Constant (H.Region r) = refl
 fits_erased s h = refl
 
-fits_region : (s : VariableSort) (h : Head) → fits_sort s h ≡ true → is_region h ≡ false
+pub fits_region : (s : VariableSort) (h : Head) → fits_sort s h ≡ true → is_region h ≡ false
 fits_region V.General (H.Region r) e = cc
 fits_region V.Integer (H.Region r) e = cc
 fits_region V.Floating (H.Region r) e = cc
@@ -125,7 +125,7 @@ beyond_erased : (d : ℕ) (h : Head) → is_beyond d h ≡ false → is_beyond d
 beyond_erased d (H.Region r) e = refl
 beyond_erased d h e = e
 
-erased_closed : (d : ℕ) (ts : Forest) → escapes d ts ≡ false → escapes d (erase ts) ≡ false
+pub erased_closed : (d : ℕ) (ts : Forest) → escapes d ts ≡ false → escapes d (erase ts) ≡ false
 erased_closed d none e = refl
 erased_closed d (tree h a r) e =
     let p = escape_parts d h a r e in
@@ -134,7 +134,7 @@ erased_closed d (tree h a r) e =
     (erased_closed d r p.others)
 
 -- what escapes from no instance escapes from no tree
-back_closed : (s : Substitution) (d : ℕ) (ts : Forest) → AreLeaves ts → escapes d (made s ts) ≡ false → escapes d (erase ts) ≡ false
+pub back_closed : (s : Substitution) (d : ℕ) (ts : Forest) → AreLeaves ts → escapes d (made s ts) ≡ false → escapes d (erase ts) ≡ false
 back_closed s d none l e = refl
 back_closed s d (tree h a r) l e =
     let it : Tree = node (assigned s) h (put_in (assigned s) a) in
@@ -149,7 +149,7 @@ back_closed s d (tree h a r) l e =
     at h l here under below rest = escape_whole d (erased_head h) (erase a) (erase r) here (below (d + binders_of (erased_head h)) under) rest
 
 -- a mark that no variable bears, and no instance, is borne by no tree
-back_marked : (s : Substitution) (mark : Head → Bool) → ((v : Variable) → mark (H.Infer v) ≡ false) → (ts : Forest) → AreLeaves ts → holds mark (made s ts) ≡ false → holds mark (erase ts) ≡ false
+pub back_marked : (s : Substitution) (mark : Head → Bool) → ((v : Variable) → mark (H.Infer v) ≡ false) → (ts : Forest) → AreLeaves ts → holds mark (made s ts) ≡ false → holds mark (erase ts) ≡ false
 back_marked s mark m none l e = refl
 back_marked s mark m (tree h a r) l e =
     let it : Tree = node (assigned s) h (put_in (assigned s) a) in
@@ -191,7 +191,7 @@ numbered_head S L v _ k u e = cc
 
 -- Where a variable stands in trees, what stands for it is part of what the trees come to.
 
-or_either : (a b : Bool) → (a || b) ≡ true → (a ≡ true) ⊎ (b ≡ true)
+pub or_either : (a b : Bool) → (a || b) ≡ true → (a ≡ true) ⊎ (b ≡ true)
 or_either true b e = inl refl
 or_either false b e = inr e
 
