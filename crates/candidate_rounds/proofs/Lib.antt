@@ -10,3 +10,4 @@ pub mod Current
 pub mod Looks
 pub mod Solving
 pub mod Taking
+pub mod Carrying
