@@ -230,7 +230,7 @@ view : (h : Head) → View h
 view (H.Infer v) = variable v refl
 view h = rigid refl
 
-made_variable : (s : Substitution) (x : Tree) (v : Variable) → x.head ≡ H.Infer v → made s (alone x) ≡ erase (alone (value_under s v))
+pub made_variable : (s : Substitution) (x : Tree) (v : Variable) → x.head ≡ H.Infer v → made s (alone x) ≡ erase (alone (value_under s v))
 made_variable s x v e = ap (λ h. made s (tree h x.children none)) e
 
 made_rigid : (s : Substitution) (h : Head) (a : Forest) → is_variable h ≡ false → made s (tree h a none) ≡ erase (tree h (put_in (assigned s) a) none)
