@@ -1,5 +1,5 @@
 -- What a tree is at a state, so far as its root says, and the value for a variable that meets it.
-use Rattle.std.proofs.Common.{◌≡◌, ◌≤◌, ℕ, zero, suc, ◌+◌, ◌-◌, Bool, true, false, not, ◌&&◌, List, [], ◌∷◌, Option, Some, None, slice_get, refl, sym, ap, subst, ◌∙◌, arith, nat_lt, nat_le, if◌then◌else◌}
+use Rattle.std.proofs.Common.{◌≡◌, ◌≤◌, ℕ, zero, suc, ◌-◌, Bool, true, false, not, List, [], ◌∷◌, Option, Some, None, slice_get, refl, sym, ap, subst, ◌∙◌, arith, nat_lt, nat_le, if◌then◌else◌}
 use Rattle.std.specs.Option.{unwrap_or}
 use Rattle.std.specs.List.{All}
 use Rattle.std.proofs.lemmas.Bool.{and_parts, not-true, ltb-false, le-ltb}
@@ -11,23 +11,23 @@ use Rattle.candidate_ir.specs.declared.ir.heads.ConstHead.TheVariants as C
 use Rattle.candidate_ir.specs.declared.ir.heads.Variable.{Variable}
 use Rattle.candidate_ir.specs.declared.ir.kinds.BoundVar.{BoundVar}
 use Rattle.candidate_ir.specs.declared.ir.kinds.RegionKind.TheVariants as R
-use Rattle.candidate_ir.specs.Trees.{Forest, none, Tree, erase, holds, is_alias}
+use Rattle.candidate_ir.specs.Trees.{none, Tree, erase, holds, is_alias}
 use Rattle.candidate_ir.specs.Binders.{escapes}
 use Rattle.candidate_ir.specs.Elaboration.{same_tree}
 use Rattle.candidate_ir.specs.Folding.{leaf}
 use Rattle.candidate_ir.specs.Substitutions.{alone, fits_sort, is_placeholder_above}
 use Rattle.candidate_eval.specs.declared.eval.variable.VariableKind.TheVariants.{Term}
 use Rattle.candidate_eval.specs.Evaluators.{root_value, resolved_root}
-use Rattle.candidate_eval.specs.States.{State, value_of, value_at, resolved, resolved_tree, is_some}
+use Rattle.candidate_eval.specs.States.{State, value_of, value_at, resolved_tree}
 use Rattle.candidate_eval.specs.Alike.{info}
 use Rattle.candidate_eval.specs.Soundness.{Live, IsSound, ValuesFit, IsResolved, has_value, has_kind, is_strange, universe_in}
 use Rattle.candidate_eval.proofs.Holds.{holds_parts, holds_imply}
 use Rattle.candidate_rounds.specs.Listed.{Listing, listed, normalized_tree, listed_at, current}
-use Rattle.candidate_rounds.specs.Scopes.{Scope, placed_region, placed_head, placed_tree}
+use Rattle.candidate_rounds.specs.Scopes.{Scope, placed_region, placed_head}
 use Rattle.candidate_rounds.specs.Binding.{occurs, may_take}
 use Rattle.candidate_rounds.specs.Equating.{value_for}
 use Rattle.candidate_rounds.specs.Standing.{IsFixed, IsListed, IsListing, is_made}
-use Rattle.candidate_rounds.proofs.Marks.{whole, holds_to, fold_marked, escapes_on}
+use Rattle.candidate_rounds.proofs.Marks.{whole, fold_marked, escapes_on}
 use Rattle.candidate_rounds.proofs.Later.{value_known, value_resolved, value_closed, resolved_known, resolved_once, no_value}
 use Rattle.candidate_rounds.proofs.Bound.{CanTake}
 
@@ -82,7 +82,7 @@ module _ (l : Listing) (listing : IsListing l) (t u : Tree) (there : listed l t 
 
 -- Roots
 
-root_at : (S : State) (h : Head) (x : Tree) → root_value S h ≡ Some x → value_at S h ≡ Some x
+pub root_at : (S : State) (h : Head) (x : Tree) → root_value S h ≡ Some x → value_at S h ≡ Some x
 root_at S (H.Infer v) x e = e
 root_at S _ x e = cc
 

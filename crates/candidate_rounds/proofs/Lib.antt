@@ -11,3 +11,5 @@ pub mod Looks
 pub mod Solving
 pub mod Taking
 pub mod Carrying
+pub mod Sizes
+pub mod Ends

@@ -159,7 +159,7 @@ no_listed (p ∷ ps) ok t n = at (no_listed ps (All-tail IsListed p ps ok) t n) 
   where
     at : listed ps t ≡ None → (b : Bool) → same_tree p.0 t ≡ b → (if b then Some p.1 else listed ps t) ≡ None
     at rest false e = rest
-    at rest true e = absurd (let clash : true ≡ false = sym (All-head IsListed p ps ok).lists_alias ∙ ap (λ (x : Tree). is_alias x.head) (tree_is p.0 t e) ∙ n in cc)
+    at rest true e = absurd (let clash : true ≡ false = sym (All-head IsListed p ps ok).is_alias ∙ ap (λ (x : Tree). is_alias x.head) (tree_is p.0 t e) ∙ n in cc)
 
 abbrev first : Forest → Tree
 first none = leaf (H.Region R.Static)

@@ -114,6 +114,10 @@ enough (suc u) n = suc n + enough u (suc n * suc n)
 abbrev pub looks : Listing → State → List Pair → ℕ
 looks l S ps = enough (count_unbound S.variables) (size_of_pairs l S ps)
 
+-- The state in which both sides of each pair are equal, if they can be.
+abbrev pub unified : Listing → State → List Pair → Option State
+unified l S ps = looked l (looks l S ps) S ps
+
 -- The state in which both rows are equal, if they can be.
 abbrev pub equated : Listing → State → Forest → Forest → Option State
-equated l S a b = let ps = record { scope = []; left = a; right = b } ∷ [] in looked l (looks l S ps) S ps
+equated l S a b = unified l S (record { scope = []; left = a; right = b } ∷ [])

@@ -31,11 +31,11 @@ pub record IsFixed (t : Tree) : Type 0 where
 
 -- A listed pair: an alias, and a type without aliases.
 pub record IsListed (p : Tree × Tree) : Type 0 where
-  pub lists_alias : is_alias p.0.head ≡ true
   pub alias : IsFixed p.0
   pub type : IsFixed p.1
   pub is_type : is_type p.1.head ≡ true
   pub no_alias : holds is_alias (alone p.1) ≡ false
+  pub is_alias : is_alias p.0.head ≡ true
 
 abbrev pub IsListing : Listing → Type 0
 IsListing l = All IsListed l
