@@ -11,5 +11,6 @@ pub mod Looks
 pub mod Solving
 pub mod Taking
 pub mod Carrying
+pub mod Staying
 pub mod Sizes
 pub mod Ends
