@@ -32,7 +32,7 @@ use Rattle.candidate_rounds.proofs.Later.{has_info, kind_there}
 use Rattle.candidate_rounds.proofs.Bound.{same_variable_is, kind_bound, info_bound, universe_apart, Before, before, ValueAfter, own, put, value_after, single_is}
 use Rattle.candidate_rounds.proofs.Putting.{node, put_in, assigned, absorbed, fold_leaves, erased_row}
 use Rattle.candidate_rounds.proofs.Meeting.{Met, by_left, by_right, regions, below, stuck, meeting}
-use Rattle.candidate_rounds.proofs.Sides.{Side, first_side, other_sides, Absorbs, Rooted, found, resolved_absorbed}
+use Rattle.candidate_rounds.proofs.Sides.{Side, first_side, other_sides, Absorbs, Rooted, rooted_same, found}
 use Rattle.candidate_rounds.proofs.Offered.{IsOffered, is_unknown, less_unknown, offered_for}
 use Rattle.candidate_rounds.proofs.Solving.{value_under, IsMet, made, made_is, is_quiet, met_absorbs, part_marked, numbered_head}
 use Rattle.candidate_rounds.proofs.Taking.{made_variable, not_stuck}
@@ -188,12 +188,8 @@ module _ (l : Listing) (listing : IsListing l) (S : State) (L : Live) (us : Scop
   at_y : Rooted S L us q y
   at_y = found S L us sound fits leafy l q right
 
-  root_same : (p x : Tree) → Side S L us (alone p) → Rooted S L us p x → made s (alone x) ≡ made s (alone p)
-  root_same p x d r =
-      sym (resolved_absorbed S L (assigned s) absorbs (alone x) r.side.known r.side.leaves) ∙ ap (made s) r.resolves ∙ resolved_absorbed S L (assigned s) absorbs (alone p) d.known d.leaves
-
   same : made s (alone x) ≡ made s (alone y)
-  same = root_same p x left at_x ∙ e ∙ sym (root_same q y right at_y)
+  same = rooted_same S L us (assigned s) absorbs p x left at_x ∙ e ∙ sym (rooted_same S L us (assigned s) absorbs q y right at_y)
 
   for_y : IsOffered S L us y (value_for l S us y)
   for_y = offered_for l listing S L us sound fits leafy y at_y.side at_y.free

@@ -12,5 +12,6 @@ pub mod Solving
 pub mod Taking
 pub mod Carrying
 pub mod Staying
+pub mod Closing
 pub mod Sizes
 pub mod Ends

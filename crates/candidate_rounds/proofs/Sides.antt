@@ -100,6 +100,11 @@ pub record Rooted (S : State) (L : Live) (us : Scope) (x y : Tree) : Type 0 wher
   pub free : root_value S y.head ≡ None
   pub resolves : resolved S (alone y) ≡ resolved S (alone x)
 
+-- what is found comes to the same
+pub rooted_same : (S : State) (L : Live) (us : Scope) (w : Values) → Absorbs w S L → (x y : Tree) → Side S L us (alone x) → Rooted S L us x y → erase (put_in w (alone y)) ≡ erase (put_in w (alone x))
+rooted_same S L us w a x y s r =
+    sym (resolved_absorbed S L w a (alone y) r.side.known r.side.leaves) ∙ ap (λ ts. erase (put_in w ts)) r.resolves ∙ resolved_absorbed S L w a (alone x) s.known s.leaves
+
 module _ (S : State) (L : Live) (us : Scope) (sound : IsSound S L) (fits : ValuesFit S) (leafy : HasLeafValues S L) where
   value_rooted : (v : Variable) (a : Forest) (t : Tree) → Side S L us (tree (H.Infer v) a none) → value_of S v.number ≡ Some t → Rooted S L us (record { head = H.Infer v; children = a }) t
   value_rooted v a t s e =

@@ -57,31 +57,31 @@ variable_made s v = refl
 pub is_quiet : (s : Substitution) → IsQuiet (assigned s)
 is_quiet s = record { bound = λ v. refl; placeholder = λ p. refl }
 
-kind_is : (i : VariableInfo) (s : VariableSort) → has_kind (Term s) (Some i) ≡ true → i.kind ≡ Term s
+pub kind_is : (i : VariableInfo) (s : VariableSort) → has_kind (Term s) (Some i) ≡ true → i.kind ≡ Term s
 kind_is i s e = at i.kind e
   where
     at : (k : VariableKind) → same_kind k (Term s) ≡ true → k ≡ Term s
     at (Term t) e = ap Term (same_sort_is t s e)
     at Region e = cc
 
-region_kind : (i : VariableInfo) → has_kind Region (Some i) ≡ true → i.kind ≡ Region
+pub region_kind : (i : VariableInfo) → has_kind Region (Some i) ≡ true → i.kind ≡ Region
 region_kind i e = at i.kind e
   where
     at : (k : VariableKind) → same_kind k Region ≡ true → k ≡ Region
     at (Term t) e = cc
     at Region e = refl
 
+pub leaf_region : (h : Head) → is_region h ≡ true → is_leaf h ≡ true
+leaf_region (H.Region r) e = by r
+  where
+    by : (r : RegionKind) → is_leaf (H.Region r) ≡ true
+    by (R.Var n) = refl
+    by _ = refl
+leaf_region _ e = cc
+
 region_row : (w : Values) → ((r : RegionKind) → w (H.Region r) ≡ None) → (t : Tree) → is_region t.head ≡ true → AreLeaves (alone t) → erase (put_in w (alone t)) ≡ tree (H.Region R.Static) none none
 region_row w none_there t is l = at t.head t.children is (l.0 (leaf_region t.head is))
   where
-    leaf_region : (h : Head) → is_region h ≡ true → is_leaf h ≡ true
-    leaf_region (H.Region r) e = by r
-      where
-        by : (r : RegionKind) → is_leaf (H.Region r) ≡ true
-        by (R.Var n) = refl
-        by _ = refl
-    leaf_region _ e = cc
-
     at : (h : Head) (c : Forest) → is_region h ≡ true → c ≡ none → erase (put_in w (tree h c none)) ≡ tree (H.Region R.Static) none none
     at (H.Region r) c e f = ap (λ c. erase (put_in w (tree (H.Region r) c none))) f ∙ ap (λ o. erase (alone (Rattle.std.specs.Option.unwrap_or o (leaf (H.Region r))))) (none_there r)
     at _ c e f = cc
