@@ -13,5 +13,6 @@ pub mod Taking
 pub mod Carrying
 pub mod Staying
 pub mod Closing
+pub mod Further
 pub mod Sizes
 pub mod Ends
