@@ -1,5 +1,5 @@
 -- Worked equations, by computation.
-use Rattle.std.proofs.Common.{◌≡◌, ℕ, refl, true, List, [], ◌∷◌, Option, Some, None}
+use Rattle.std.proofs.Common.{◌≡◌, ℕ, refl, true, List, [], ◌∷◌, ◌++◌, Option, Some, None}
 use Rattle.candidate_ir.specs.declared.ir.heads.Head.{Head}
 use Rattle.candidate_ir.specs.declared.ir.heads.Head.TheVariants as H
 use Rattle.candidate_ir.specs.declared.ir.heads.Builtin.TheVariants as B
@@ -138,3 +138,10 @@ unlisted = refl
 
 structural : equate listing (start one) (alias (var 0)) (alias u16) ≡ Some (start (with_value u16 ∷ []))
 structural = refl
+
+-- a value goes in the place of its variable in that variable's own sort alone
+abbrev with_other_sort : List VariableInfo
+with_other_sort = record { kind = Term V.Integer; universe = 0; value = Some (integer 1); is_root = true } ∷ []
+
+other_sort : equate [] (start (with_other_sort ++ root V.General ∷ [])) (var 1) u8 ≡ Some (start (with_other_sort ++ with_value u8 ∷ []))
+other_sort = refl

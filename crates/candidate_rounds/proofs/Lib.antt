@@ -16,3 +16,4 @@ pub mod Closing
 pub mod Further
 pub mod Sizes
 pub mod Ends
+pub mod EquatingLaws

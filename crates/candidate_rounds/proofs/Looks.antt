@@ -204,10 +204,10 @@ module _ (l : Listing) (listing : IsListing l) (L : Live) where
     here : PairStands S L first_pair
     here = All-head (PairStands S L) first_pair more st.pairs
 
-    left_known : holds (is_strange S L) (alone (record { head = h; children = a })) ≡ false
+    pub left_known : holds (is_strange S L) (alone (record { head = h; children = a })) ≡ false
     left_known = let p = holds_parts (is_strange S L) h a r here.left in whole (is_strange S L) h a none p.here p.under refl
 
-    right_known : holds (is_strange S L) (alone (record { head = g; children = b })) ≡ false
+    pub right_known : holds (is_strange S L) (alone (record { head = g; children = b })) ≡ false
     right_known = let p = holds_parts (is_strange S L) g b s here.right in whole (is_strange S L) g b none p.here p.under refl
 
     left_closed : escapes (length us) (alone (record { head = h; children = a })) ≡ false

@@ -7,7 +7,7 @@ use Rattle.candidate_ir.specs.declared.ir.heads.PartHead.TheVariants as P
 use Rattle.candidate_ir.specs.declared.ir.heads.ClauseHead.TheVariants as Cl
 use Rattle.candidate_ir.specs.Trees.{Forest, none, tree, Tree, is_alias}
 use Rattle.candidate_ir.specs.Unify.{same_head}
-use Rattle.candidate_eval.specs.States.{State, VariableInfo, resolved, resolved_tree}
+use Rattle.candidate_eval.specs.States.{State, VariableInfo, Pending, resolved, resolved_tree}
 use Rattle.candidate_eval.specs.Soundness.{is_region}
 use Rattle.candidate_rounds.specs.Listed.{Listing, normalized_tree, current}
 use Rattle.candidate_rounds.specs.Scopes.{Scope, placed_tree, scope_below, entered}
@@ -121,3 +121,8 @@ unified l S ps = looked l (looks l S ps) S ps
 -- The state in which both rows are equal, if they can be.
 abbrev pub equated : Listing → State → Forest → Forest → Option State
 equated l S a b = unified l S (record { scope = []; left = a; right = b } ∷ [])
+
+-- The answer of an equation that leaves no goals.
+abbrev pub without_goals : Option State → Option (List Pending × State)
+without_goals None = None
+without_goals (Some T) = Some ([], T)
