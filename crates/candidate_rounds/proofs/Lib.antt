@@ -16,4 +16,5 @@ pub mod Closing
 pub mod Further
 pub mod Sizes
 pub mod Ends
+pub mod Solutions
 pub mod EquatingLaws
