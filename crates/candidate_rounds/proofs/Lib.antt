@@ -18,3 +18,4 @@ pub mod Sizes
 pub mod Ends
 pub mod Solutions
 pub mod EquatingLaws
+pub mod EquationLaws
