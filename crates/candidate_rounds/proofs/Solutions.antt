@@ -1,5 +1,5 @@
 -- The answer of an equation is most general, and a refused equation has no solution.
-use Rattle.std.proofs.Common.{◌≡◌, ◌≤◌, ◌<◌, ℕ, zero, suc, ◌+◌, Bool, true, false, not, ◌||◌, ◌&&◌, Option, Some, None, List, [], ◌∷◌, ◌++◌, length, slice_get, refl, sym, ap, subst, ◌∙◌, arith, if◌then◌else◌}
+use Rattle.std.proofs.Common.{◌≡◌, ◌≤◌, ◌<◌, ℕ, zero, suc, ◌+◌, Bool, true, false, not, ◌||◌, ◌&&◌, Option, Some, None, List, [], ◌∷◌, ◌++◌, length, get_or, slice_get, refl, sym, ap, subst, ◌∙◌, arith, if◌then◌else◌}
 use Rattle.std.specs.Option.{unwrap_or, option_map}
 use Rattle.std.specs.List.{All}
 use Rattle.std.proofs.lemmas.Option.{slice_get_within}
@@ -8,9 +8,10 @@ use Rattle.candidate_ir.specs.declared.ir.heads.Head.{Head}
 use Rattle.candidate_ir.specs.declared.ir.heads.Head.TheVariants as H
 use Rattle.candidate_ir.specs.declared.ir.heads.Variable.{Variable}
 use Rattle.candidate_ir.specs.declared.ir.heads.VariableSort.{VariableSort}
-use Rattle.candidate_ir.specs.Trees.{Forest, none, tree, Tree, erase, holds}
+use Rattle.candidate_ir.specs.declared.ir.heads.VariableSort.TheVariants as V
+use Rattle.candidate_ir.specs.Trees.{Forest, none, tree, Tree, erase, erased_head, holds}
 use Rattle.candidate_ir.specs.Folding.{leaf}
-use Rattle.candidate_ir.specs.Substitutions.{Substitution, IsAllowed, IsAllowedBinding, lookup, apply, alone}
+use Rattle.candidate_ir.specs.Substitutions.{Substitution, IsAllowed, IsAllowedBinding, lookup, same_sort, apply, alone}
 use Rattle.candidate_ir.proofs.Folding.{begin}
 use Rattle.candidate_eval.specs.declared.eval.variable.VariableKind.TheVariants.{Term}
 use Rattle.candidate_eval.specs.States.{State, VariableInfo, Values, value_in, value_at, resolved}
@@ -19,12 +20,12 @@ use Rattle.candidate_eval.specs.Soundness.{Live, IsSound, IsSolution, AgreesOn, 
 use Rattle.candidate_eval.specs.Lawful.{HasLeafValues, AreSides, Solves, IsKept}
 use Rattle.candidate_eval.proofs.Holds.{holds_parts}
 use Rattle.candidate_rounds.specs.Listed.{Listing}
-use Rattle.candidate_rounds.specs.Equating.{Pair, Visit, Done, Refused, Left, visited, looked, looks, equated}
-use Rattle.candidate_rounds.specs.Standing.{IsListing, Stands, IsPlain, ArePlain, IsSolvedBy, SolvesAll}
-use Rattle.candidate_rounds.proofs.Later.{has_info, kind_there}
-use Rattle.candidate_rounds.proofs.Looks.{looked_keeps, visited_stands, start_stands}
+use Rattle.candidate_rounds.specs.Equating.{Pair, Visit, Done, Refused, Left, visited, looked, count_unbound, size_of_pairs, enough, looks, equated}
+use Rattle.candidate_rounds.specs.Standing.{IsListing, PairStands, Stands, IsPlain, ArePlain, IsSolvedBy, SolvesAll}
+use Rattle.candidate_rounds.proofs.Later.{has_info, kind_there, no_value, later_itself}
+use Rattle.candidate_rounds.proofs.Looks.{looked_keeps, visited_stands, visited_later, start_stands}
 use Rattle.candidate_rounds.proofs.Ends.{visited_less}
-use Rattle.candidate_rounds.proofs.Putting.{node, put_in, assigned, valued_is}
+use Rattle.candidate_rounds.proofs.Putting.{node, put_in, assigned, valued_is, erased_row}
 use Rattle.candidate_rounds.proofs.Offered.{is_unknown, less_unknown}
 use Rattle.candidate_rounds.proofs.Solving.{value_under, IsMet, made, made_is, kind_is}
 use Rattle.candidate_rounds.proofs.Carrying.{Equals, Solved, Carried, look_carries}
@@ -50,9 +51,9 @@ looked_carries l listing L s (suc n) S U ps st pl so e =
     at (Left T more) f ih p c e = ih T more (visited_stands l listing L S T ps more st f) p c e
 
 pub refused_unsolved : (l : Listing) → IsListing l → (L : Live) (s : Substitution) (n : ℕ) (S : State) (ps : List Pair) → looks l S ps ≤ n → Stands S L ps → ArePlain S L ps → Solved S L ps s → looked l n S ps ≡ None → ⊥
-refused_unsolved l listing L s zero S ps enough_looks st pl so e = none_there (Rattle.candidate_rounds.specs.Equating.count_unbound S.variables) (Rattle.candidate_rounds.specs.Equating.size_of_pairs l S ps) enough_looks
+refused_unsolved l listing L s zero S ps enough_looks st pl so e = none_there (count_unbound S.variables) (size_of_pairs l S ps) enough_looks
   where
-    none_there : (u n : ℕ) → Rattle.candidate_rounds.specs.Equating.enough u n ≤ 0 → ⊥
+    none_there : (u n : ℕ) → enough u n ≤ 0 → ⊥
     none_there zero n h = omega (arith, h)
     none_there (suc u) n h = omega (arith, h)
 refused_unsolved l listing L s (suc n) S ps enough_looks st pl so e =
@@ -67,6 +68,20 @@ refused_unsolved l listing L s (suc n) S ps enough_looks st pl so e =
     at Refused f ih p c e = c
     at (Left T more) f ih p c e =
         ih T more (fewer (looks l T more) (looks l S ps) (visited_less l listing L S T ps more st f) enough_looks) (visited_stands l listing L S T ps more st f) p c e
+
+-- Substitutions that say the same of what counts make the same of its trees.
+pub agree_made : (S : State) (L : Live) (s r : Substitution) → AgreesOn S L s r → (ts : Forest) → holds (is_strange S L) ts ≡ false → made r ts ≡ made s ts
+agree_made S L s r agrees none k = refl
+agree_made S L s r agrees (tree h a q) k =
+    let p = holds_parts (is_strange S L) h a q k in
+    at h p.here (agree_made S L s r agrees a p.under) (agree_made S L s r agrees q p.others)
+  where
+    at : (h : Head) → is_strange S L h ≡ false → made r a ≡ made s a → made r q ≡ made s q → made r (tree h a q) ≡ made s (tree h a q)
+    at (H.Infer v) k below rest =
+        let i = has_info (L v.number) (Term v.sort) (info S v.number) k in
+        let kind : i.0.kind ≡ Term v.sort = kind_is i.0 v.sort (sym (ap (has_kind (Term v.sort)) i.1) ∙ kind_there (L v.number) (Term v.sort) (info S v.number) k) in
+        erased_row (value_under r v) (value_under s v) (put_in (assigned r) q) (put_in (assigned s) q) (agrees v i.0 i.2 i.1 kind) rest
+    at h k below rest = ap (λ f. tree (erased_head h) f (made r q)) below ∙ ap (tree (erased_head h) (made s a)) rest
 
 -- What solves the state, so far as what counts says, is made a solution of all that counts in a wider way.
 module _ (S T : State) (L M : Live) (later : IsLater S T L) (within : Within S L M) (sound : IsSound T L) (wide : IsSound T M) (leafy : HasLeafValues T L) (s : Substitution) (m : IsMet T L s) where
@@ -109,11 +124,11 @@ module _ (S T : State) (L M : Live) (later : IsLater S T L) (within : Within S L
   known_own : (v : Variable) (i : VariableInfo) → L v.number ≡ true → info T v.number ≡ Some i → i.kind ≡ Term v.sort → is_unknown T L (H.Infer v) ≡ false
   known_own v i c there kind = rw (c, there, kind) (ap not (itself v.sort))
     where
-      itself : (z : VariableSort) → Rattle.candidate_ir.specs.Substitutions.same_sort z z ≡ true
-      itself Rattle.candidate_ir.specs.declared.ir.heads.VariableSort.TheVariants.General = refl
-      itself Rattle.candidate_ir.specs.declared.ir.heads.VariableSort.TheVariants.Integer = refl
-      itself Rattle.candidate_ir.specs.declared.ir.heads.VariableSort.TheVariants.Floating = refl
-      itself Rattle.candidate_ir.specs.declared.ir.heads.VariableSort.TheVariants.Constant = refl
+      itself : (z : VariableSort) → same_sort z z ≡ true
+      itself V.General = refl
+      itself V.Integer = refl
+      itself V.Floating = refl
+      itself V.Constant = refl
 
   base_allowed : IsAllowed (universes T) base
   base_allowed = chosen_allowed own_choice (universes T) T (λ i v t there kind c. at i v t there kind (L v.number) refl c)
@@ -154,7 +169,7 @@ module _ (S T : State) (L M : Live) (later : IsLater S T L) (within : Within S L
   free_agree v k none_there o =
       let i = has_info (M v.number) (Term v.sort) (info T v.number) k in
       let kind : i.0.kind ≡ Term v.sort = kind_is i.0 v.sort (sym (ap (has_kind (Term v.sort)) i.1) ∙ kind_there (M v.number) (Term v.sort) (info T v.number) k) in
-      further_free v i.0 o i.1 kind (sym (ap value_in i.1) ∙ Rattle.candidate_rounds.proofs.Later.no_value (value_at T (H.Infer v)) none_there)
+      further_free v i.0 o i.1 kind (sym (ap value_in i.1) ∙ no_value (value_at T (H.Infer v)) none_there)
 
   further_extends : (v : Variable) (i : VariableInfo) (t : Tree) → M v.number ≡ true → info T v.number ≡ Some i → i.kind ≡ Term v.sort → i.value ≡ Some t
       → erase (apply further (variable_tree v)) ≡ erase (apply further (alone t))
@@ -165,20 +180,7 @@ module _ (S T : State) (L M : Live) (later : IsLater S T L) (within : Within S L
   -- it says the same of what counted
 
   base_made : (ts : Forest) → holds (is_strange T L) ts ≡ false → made base ts ≡ made s ts
-  base_made none k = refl
-  base_made (tree h a r) k =
-      let p = holds_parts (is_strange T L) h a r k in
-      at h p.here (base_made a p.under) (base_made r p.others)
-    where
-      at : (h : Head) → is_strange T L h ≡ false → made base a ≡ made s a → made base r ≡ made s r → made base (tree h a r) ≡ made s (tree h a r)
-      at (H.Infer v) k below rest =
-          let i = has_info (L v.number) (Term v.sort) (info T v.number) k in
-          let kind : i.0.kind ≡ Term v.sort = kind_is i.0 v.sort (sym (ap (has_kind (Term v.sort)) i.1) ∙ kind_there (L v.number) (Term v.sort) (info T v.number) k) in
-          ap (λ x. erase (begin x (put_in (assigned base) r))) (base_own v i.0 (leaf (H.Infer v)) i.2 i.1 kind)
-          ∙ ap (λ f. tree (Rattle.candidate_ir.specs.Trees.erased_head (value_under s v).head) (erase (value_under s v).children) f) rest
-      at h k below rest =
-          ap (λ f. tree (Rattle.candidate_ir.specs.Trees.erased_head h) f (made base r)) below
-          ∙ ap (tree (Rattle.candidate_ir.specs.Trees.erased_head h) (made s a)) rest
+  base_made ts k = agree_made T L s base (λ v i c there kind. ap (λ (x : Tree). erase (alone x)) (base_own v i (leaf (H.Infer v)) c there kind)) ts k
 
   agrees : AgreesOn S L s further
   agrees v i c there kind =
@@ -200,6 +202,42 @@ module _ (S T : State) (L M : Live) (later : IsLater S T L) (within : Within S L
     solution = record { allowed = allowed_append (universes T) (chosen value_choice 0 T.variables) base values_allowed base_allowed; extends = further_extends };
     agrees = agrees;
   }
+
+-- One look
+
+pub solves_all : (S : State) (L : Live) (ps : List Pair) (s : Substitution) → ArePlain S L ps → SolvesAll S L ps s → Solved S L ps s
+solves_all S L ps s pl h = record { met = solution_met S L s h.solution; equal = λ k d lt. at (get_or ps k d) (pl.pairs k d lt) (h.equal k d lt) }
+  where
+    at : (p : Pair) → IsPlain S p → IsSolvedBy s p → Equals s p
+    at p pl e = sym (made_is s p.left pl.left_has_leaves) ∙ e ∙ made_is s p.right pl.right_has_leaves
+
+-- Where a look refuses, nothing solves all.
+pub look_refuses : (l : Listing) → IsListing l → (S : State) (L : Live) (ps : List Pair) (s : Substitution) → Stands S L ps → ArePlain S L ps → visited l S ps ≡ Refused → SolvesAll S L ps s → ⊥
+look_refuses l listing S L ps s st pl e h = subst (Carried L s) e (look_carries l listing S L ps s st pl (solves_all S L ps s pl h))
+
+-- What solved all before a look is, but for what doesn't count, what solves all after it.
+pub record StillSolved (S T : State) (L : Live) (more : List Pair) (s : Substitution) : Type 0 where
+  pub further : Substitution
+  pub solves : SolvesAll T L more further
+  pub agrees : AgreesOn S L s further
+
+pub look_solves : (l : Listing) → IsListing l → (S T : State) (L : Live) (ps more : List Pair) (s : Substitution) → Stands S L ps → ArePlain S L ps → visited l S ps ≡ Left T more → SolvesAll S L ps s
+    → StillSolved S T L more s
+look_solves l listing S T L ps more s st pl e h =
+    let so : Solved T L more s = subst (Carried L s) e (look_carries l listing S L ps s st pl (solves_all S L ps s pl h)) in
+    let plain : ArePlain T L more = subst (Plainly L) e (look_stays l listing S L ps st pl) in
+    let after = visited_stands l listing L S T ps more st e in
+    let k = kept T T L L (later_itself T L after.sound) (λ n lt c. c) after.sound after.sound plain.values s so.met in
+    record {
+      further = k.further;
+      solves = record { solution = k.solution; equal = λ n d lt. at k (get_or more n d) (after.pairs n d lt) (plain.pairs n d lt) (so.equal n d lt) };
+      agrees = λ v i c there kind. let n = (visited_later l listing L S T ps more st e).infos v.number i there in k.agrees v n.now c n.there (n.kind ∙ kind);
+    }
+  where
+    at : (k : IsKept T T L L s) → (p : Pair) → PairStands T L p → IsPlain T p → Equals s p → IsSolvedBy k.further p
+    at k p a pl e =
+        made_is k.further p.left pl.left_has_leaves ∙ agree_made T L s k.further k.agrees p.left a.left ∙ e
+        ∙ sym (agree_made T L s k.further k.agrees p.right a.right) ∙ sym (made_is k.further p.right pl.right_has_leaves)
 
 -- Two rows of trees
 
