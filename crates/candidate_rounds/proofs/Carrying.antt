@@ -1,7 +1,7 @@
 -- What solves all before a look solves all after it.
 use Rattle.std.proofs.Common.{◌≡◌, ◌≤◌, ◌<◌, ℕ, Bool, true, false, not, ◌||◌, ◌&&◌, min, Option, Some, None, List, [], ◌∷◌, ◌++◌, refl, sym, ap, subst, ◌∙◌, arith, nat_lt, if◌then◌else◌}
-use Rattle.std.specs.Option.{unwrap_or}
-use Rattle.std.proofs.lemmas.Bool.{ltb-false, le-ltb}
+use Rattle.std.specs.Option.{option_map}
+use Rattle.std.proofs.lemmas.Bool.{eq-eqb, ltb-false, le-ltb}
 use Rattle.std.proofs.lemmas.List.Elements.{All-cons, All-head, All-tail}
 use Rattle.std.specs.List.{All}
 use Rattle.candidate_ir.specs.declared.ir.heads.Head.{Head}
@@ -29,8 +29,8 @@ use Rattle.candidate_rounds.specs.Equating.{Pair, Visit, Done, Refused, Left, va
 use Rattle.candidate_rounds.specs.Standing.{IsListing, PairStands, Stands, IsPlain, ArePlain, IsSolvedBy, SolvesAll}
 use Rattle.candidate_rounds.proofs.Marks.{whole, holds_to}
 use Rattle.candidate_rounds.proofs.Later.{has_info, kind_there}
-use Rattle.candidate_rounds.proofs.Bound.{same_variable_is, kind_bound, info_bound, universe_apart, Before, before, ValueAfter, own, put, value_after, single_is}
-use Rattle.candidate_rounds.proofs.Putting.{node, put_in, assigned, absorbed, fold_leaves, erased_row}
+use Rattle.candidate_rounds.proofs.Bound.{same_sort_itself, kind_bound, info_bound, universe_apart, Before, before, ValueAfter, own, put, value_after, single_is}
+use Rattle.candidate_rounds.proofs.Putting.{node, put_in, assigned, nowhere, absorbed, fold_leaves, erased_row}
 use Rattle.candidate_rounds.proofs.Meeting.{Met, by_left, by_right, regions, below, stuck, meeting}
 use Rattle.candidate_rounds.proofs.Sides.{Side, first_side, other_sides, Absorbs, Rooted, rooted_same, found}
 use Rattle.candidate_rounds.proofs.Offered.{IsOffered, is_unknown, less_unknown, offered_for}
@@ -59,10 +59,6 @@ above_least a b (H.Placeholder p) e f = lower_both a b p.universe e f
 above_least a b (H.Const (C.Placeholder p)) e f = lower_both a b p.universe e f
 above_least a b _ e f = refl
 
-nowhere : (ts : Forest) → holds (λ h. false) ts ≡ false
-nowhere none = refl
-nowhere (tree h a r) = whole (λ h. false) h a r refl (nowhere a) (nowhere r)
-
 -- the value in the place of the variable
 pub single_leaves : (v : Variable) (t y : Tree) → AreLeaves (alone t) → AreLeaves (alone y) → AreLeaves (alone (valued_tree (single v t) y))
 single_leaves v t y l k = fold_leaves (λ _ u. single v t u.head) (λ h. false) (λ d x u m e. subst (λ z. AreLeaves (alone z)) (single_is v t x.head u e).1 l) 0 (alone y) (nowhere (alone y)) k
@@ -75,7 +71,7 @@ module _ (S : State) (L : Live) (s : Substitution) (leafy : HasLeafValues S L) (
       zero_least : (u : ℕ) → 0 ≡ min 0 u
       zero_least u = omega arith
 
-      at : (o : Option VariableInfo) → universe_in (Rattle.std.specs.Option.option_map (info_after v (universe_in (info S v.number)) t n) o) ≡ min (universe_in o) (universe_in (info S v.number))
+      at : (o : Option VariableInfo) → universe_in (option_map (info_after v (universe_in (info S v.number)) t n) o) ≡ min (universe_in o) (universe_in (info S v.number))
       at None = zero_least (universe_in (info S v.number))
       at (Some i) = ap (λ b. if b then min i.universe (universe_in (info S v.number)) else i.universe) f
 
@@ -101,14 +97,8 @@ module _ (S : State) (L : Live) (s : Substitution) (leafy : HasLeafValues S L) (
       says h u p = (ap is_leaf p.0, ap (λ z. made s (alone z)) (sym p.1) ∙ sym e ∙ ap (λ g. made s (tree g none none)) (sym p.0))
 
   same_number : (z : Variable) (i : VariableInfo) → L z.number ≡ true → info S z.number ≡ Some i → i.kind ≡ Term z.sort → z.number ≡ v.number → z ≡ v
-  same_number z i c there kind n = by (numbered_head S L v (H.Infer z) k (rw (c, there, kind) (ap not (sort_itself z.sort))) (Rattle.std.proofs.lemmas.Bool.eq-eqb z.number v.number n))
+  same_number z i c there kind n = by (numbered_head S L v (H.Infer z) k (rw (c, there, kind) (ap not (same_sort_itself z.sort))) (eq-eqb z.number v.number n))
     where
-      sort_itself : (s : Rattle.candidate_ir.specs.declared.ir.heads.VariableSort.VariableSort) → Rattle.candidate_ir.specs.Substitutions.same_sort s s ≡ true
-      sort_itself Rattle.candidate_ir.specs.declared.ir.heads.VariableSort.TheVariants.General = refl
-      sort_itself Rattle.candidate_ir.specs.declared.ir.heads.VariableSort.TheVariants.Integer = refl
-      sort_itself Rattle.candidate_ir.specs.declared.ir.heads.VariableSort.TheVariants.Floating = refl
-      sort_itself Rattle.candidate_ir.specs.declared.ir.heads.VariableSort.TheVariants.Constant = refl
-
       by : H.Infer z ≡ H.Infer v → z ≡ v
       by e = cc
 

@@ -10,7 +10,7 @@ use Rattle.candidate_ir.specs.declared.ir.heads.Variable.{Variable}
 use Rattle.candidate_ir.specs.declared.ir.heads.VariableSort.{VariableSort}
 use Rattle.candidate_ir.specs.declared.ir.heads.VariableSort.TheVariants as V
 use Rattle.candidate_ir.specs.Trees.{Forest, none, tree, Tree, erase, erased_head, holds, binders_of}
-use Rattle.candidate_ir.specs.Binders.{escapes}
+use Rattle.candidate_ir.specs.Binders.{is_beyond, escapes}
 use Rattle.candidate_ir.specs.Folding.{leaf}
 use Rattle.candidate_ir.specs.Substitutions.{Substitution, Universes, IsAllowed, IsAllowedBinding, lookup, replaced, apply, alone, same_sort, same_variable, fits_sort, is_placeholder_above}
 use Rattle.candidate_ir.proofs.Folding.{begin}
@@ -22,7 +22,7 @@ use Rattle.candidate_eval.specs.Alike.{info}
 use Rattle.candidate_eval.specs.Soundness.{is_variable_above, universe_in}
 use Rattle.candidate_eval.proofs.Holds.{holds_parts}
 use Rattle.candidate_rounds.proofs.Marks.{whole, escapes_on, escape_parts, escape_whole}
-use Rattle.candidate_rounds.proofs.Bound.{same_variable_is, fits_through}
+use Rattle.candidate_rounds.proofs.Bound.{same_variable_is, same_sort_itself, fits_through}
 use Rattle.candidate_rounds.proofs.Solving.{value_under}
 
 -- Looking up
@@ -68,7 +68,7 @@ instance_closed u p ok d (tree h a r) e =
     let y = escape_parts d it.head it.children none (node h x.here (instance_closed u p ok (d + binders_of h) a x.under)) in
     escape_whole d it.head it.children (apply p r) y.here y.under (instance_closed u p ok d r x.others)
   where
-    node : (h : Head) → Rattle.candidate_ir.specs.Binders.is_beyond d h ≡ false → escapes (d + binders_of h) (apply p a) ≡ false → escapes d (alone (replaced p h (apply p a))) ≡ false
+    node : (h : Head) → is_beyond d h ≡ false → escapes (d + binders_of h) (apply p a) ≡ false → escapes d (alone (replaced p h (apply p a))) ≡ false
     node (H.Infer v) here under = closed_lookup u p ok d v (record { head = H.Infer v; children = apply p a }) (escape_whole d (H.Infer v) (apply p a) none here under refl)
     node h here under = escape_whole d h (apply p a) none here under refl
 
@@ -147,12 +147,6 @@ abbrev pub chosen : Choice → ℕ → List VariableInfo → Substitution
 chosen f n [] = []
 chosen f n (i ∷ is) = entry f n i.kind i (chosen f (suc n) is)
 
-itself : (s : VariableSort) → same_sort s s ≡ true
-itself V.General = refl
-itself V.Integer = refl
-itself V.Floating = refl
-itself V.Constant = refl
-
 other_number : (z : VariableSort) (n : ℕ) (v : Variable) → (v.number ≡ n → ⊥) → same_variable (record { sort = z; number = n }) v ≡ false
 other_number z n v d = at (same_variable (record { sort = z; number = n }) v) refl
   where
@@ -161,7 +155,7 @@ other_number z n v d = at (same_variable (record { sort = z; number = n }) v) re
     at true e = absurd (d (sym (ap (λ (w : Variable). w.number) (same_variable_is (record { sort = z; number = n }) v e))))
 
 own_number : (n : ℕ) (v : Variable) → v.number ≡ n → same_variable (record { sort = v.sort; number = n }) v ≡ true
-own_number n v e = rw (eq-eqb n v.number (sym e), itself v.sort) refl
+own_number n v e = rw (eq-eqb n v.number (sym e), same_sort_itself v.sort) refl
 
 module _ (f : Choice) where
   skip : (n : ℕ) (k : VariableKind) (i : VariableInfo) (rest : Substitution) (v : Variable) (o : Tree) → (v.number ≡ n → ⊥) → lookup (entry f n k i rest) v o ≡ lookup rest v o

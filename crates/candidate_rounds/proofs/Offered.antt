@@ -32,7 +32,7 @@ use Rattle.candidate_rounds.specs.Equating.{value_for}
 use Rattle.candidate_rounds.specs.Standing.{IsListed, IsListing}
 use Rattle.candidate_rounds.proofs.Marks.{whole, escape_parts, escape_whole, fold_marked, holds_to}
 use Rattle.candidate_rounds.proofs.Later.{resolved_known, resolved_closed}
-use Rattle.candidate_rounds.proofs.Putting.{put_in, absorbed, fold_leaves}
+use Rattle.candidate_rounds.proofs.Putting.{put_in, nowhere, absorbed, fold_leaves}
 use Rattle.candidate_rounds.proofs.Sides.{Side, Absorbs, IsQuiet, resolved_leaves, resolved_absorbed}
 
 -- Placeholders for bound regions
@@ -62,10 +62,6 @@ which_placed us d _ u e = cc
 pub placed_absorbed : (us : Scope) (w : Values) → IsQuiet w → (d : ℕ) (ts : Forest) → AreLeaves ts → erase (put_in w (placed us d ts)) ≡ erase (put_in w ts)
 placed_absorbed us w q d ts l = absorbed (λ e t. placed_head us e t.head) w (λ h. false) (λ e t u m f. says t.head u (which_placed us e t.head u f)) d ts (nowhere ts) l
   where
-    nowhere : (ts : Forest) → holds (λ h. false) ts ≡ false
-    nowhere none = refl
-    nowhere (tree h a r) = whole (λ h. false) h a r refl (nowhere a) (nowhere r)
-
     says : (h : Head) (u : Tree) → PlacedAs h u → (is_leaf h ≡ true) × (erase (put_in w (alone u)) ≡ erase (put_in w (tree h none none)))
     says h u (placed_as v p e f) =
         let one : erase (put_in w (tree (H.Region (R.Placeholder p)) none none)) ≡ tree (H.Region R.Static) none none = ap (λ o. erase (alone (unwrap_or o (leaf (H.Region (R.Placeholder p)))))) (q.placeholder p) in
@@ -75,10 +71,6 @@ placed_absorbed us w q d ts l = absorbed (λ e t. placed_head us e t.head) w (λ
 pub placed_leaves : (us : Scope) (d : ℕ) (ts : Forest) → AreLeaves ts → AreLeaves (placed us d ts)
 placed_leaves us d ts l = fold_leaves (λ e t. placed_head us e t.head) (λ h. false) (λ e t u m f. says t.head u (which_placed us e t.head u f)) d ts (nowhere ts) l
   where
-    nowhere : (ts : Forest) → holds (λ h. false) ts ≡ false
-    nowhere none = refl
-    nowhere (tree h a r) = whole (λ h. false) h a r refl (nowhere a) (nowhere r)
-
     says : (h : Head) (u : Tree) → PlacedAs h u → AreLeaves (alone u)
     says h u (placed_as v p e f) = subst (λ t. AreLeaves (alone t)) f (λ is. refl, tt, tt)
 
@@ -89,13 +81,9 @@ placed_marked us mark m d ts e = fold_marked (λ e t. placed_head us e t.head) m
     says : (h : Head) (u : Tree) → PlacedAs h u → holds mark (alone u) ≡ false
     says h u (placed_as v p e f) = subst (λ t. holds mark (alone t) ≡ false) f (whole mark (H.Region (R.Placeholder p)) none none (m p) refl refl)
 
-binders_erased : (h : Head) → binders_of (erased_head h) ≡ binders_of h
+pub binders_erased : (h : Head) → binders_of (erased_head h) ≡ binders_of h
 binders_erased (H.Region r) = refl
 binders_erased h = refl
-
-beyond_erased : (d : ℕ) (h : Head) → is_region h ≡ false → is_beyond d (erased_head h) ≡ false → is_beyond d h ≡ false
-beyond_erased d (H.Region r) n e = cc
-beyond_erased d h n e = e
 
 missing : {A : Type 0} (xs : List A) (n : ℕ) → slice_get xs n ≡ None → n < length xs → ⊥
 missing [] n e lt = omega (arith, lt)

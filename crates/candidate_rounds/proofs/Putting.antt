@@ -12,7 +12,7 @@ use Rattle.candidate_ir.proofs.Folding.{begin, same_row}
 use Rattle.candidate_eval.specs.States.{State, Values, value_at, valued, valued_tree, resolved, is_some}
 use Rattle.candidate_eval.specs.Soundness.{AreLeaves, is_leaf}
 use Rattle.candidate_eval.proofs.Holds.{holds_parts}
-use Rattle.candidate_rounds.proofs.Marks.{valued_node}
+use Rattle.candidate_rounds.proofs.Marks.{whole, valued_node}
 
 abbrev pub node : Values → Head → Forest → Tree
 node v h a = unwrap_or (v h) (record { head = h; children = a })
@@ -52,6 +52,11 @@ erased_node w h a b e = at (w h)
     at : (o : Option Tree) → erase (alone (unwrap_or o (record { head = h; children = a }))) ≡ erase (alone (unwrap_or o (record { head = h; children = b })))
     at None = ap (λ c. tree (erased_head h) c none) e
     at (Some t) = refl
+
+-- a mark that no head bears
+pub nowhere : (ts : Forest) → holds (λ h. false) ts ≡ false
+nowhere none = refl
+nowhere (tree h a r) = whole (λ h. false) h a r refl (nowhere a) (nowhere r)
 
 -- Leaves
 

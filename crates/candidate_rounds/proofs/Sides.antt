@@ -22,7 +22,7 @@ use Rattle.candidate_ir.proofs.Folding.{begin, fold-nothing}
 use Rattle.candidate_eval.specs.declared.eval.variable.VariableKind.TheVariants.{Term, Region}
 use Rattle.candidate_eval.specs.States.{State, VariableInfo, Values, value_in, value_of, value_at, resolved, resolved_tree}
 use Rattle.candidate_eval.specs.Alike.{info}
-use Rattle.candidate_eval.specs.Soundness.{Live, IsSound, ValuesFit, AreLeaves, is_leaf, is_region, is_strange, has_kind}
+use Rattle.candidate_eval.specs.Soundness.{Live, IsSound, ValuesFit, AreLeaves, is_leaf, is_region, is_strange, has_kind, has_value}
 use Rattle.candidate_eval.specs.Lawful.{HasLeafValues}
 use Rattle.candidate_eval.specs.Evaluators.{root_value, resolved_root}
 use Rattle.candidate_eval.proofs.Holds.{holds_parts}
@@ -31,7 +31,7 @@ use Rattle.candidate_rounds.specs.Scopes.{Scope, placed_head, placed_region, pla
 use Rattle.candidate_rounds.specs.Equating.{value_for}
 use Rattle.candidate_rounds.specs.Standing.{IsListed, IsListing}
 use Rattle.candidate_rounds.proofs.Marks.{whole, escapes_on, escape_parts, escape_whole, fold_marked}
-use Rattle.candidate_rounds.proofs.Later.{has_info, value_known, value_resolved, value_closed, resolved_known, resolved_closed, resolved_stays}
+use Rattle.candidate_rounds.proofs.Later.{has_info, no_value, value_known, value_resolved, value_closed, resolved_known, resolved_closed, resolved_stays}
 use Rattle.candidate_rounds.proofs.Putting.{put_in, absorbed, fold_leaves}
 
 -- What is known of a row of a pair.
@@ -119,12 +119,12 @@ module _ (S : State) (L : Live) (us : Scope) (sound : IsSound S L) (fits : Value
           leaves = value_leaves S L leafy (H.Infer v) t k.here e;
           no_alias = ap (holds is_alias) same ∙ s.no_alias;
         };
-        free = no_root t.head (holds_parts (Rattle.candidate_eval.specs.Soundness.has_value S) t.head t.children none r).here;
+        free = no_root t.head (holds_parts (has_value S) t.head t.children none r).here;
         resolves = same;
       }
     where
-      no_root : (h : Head) → Rattle.candidate_eval.specs.Soundness.has_value S h ≡ false → root_value S h ≡ None
-      no_root (H.Infer w) e = Rattle.candidate_rounds.proofs.Later.no_value (value_of S w.number) e
+      no_root : (h : Head) → has_value S h ≡ false → root_value S h ≡ None
+      no_root (H.Infer w) e = no_value (value_of S w.number) e
       no_root h e = refl
 
   rooted : (x : Tree) → Side S L us (alone x) → Rooted S L us x (resolved_root S x)

@@ -24,6 +24,7 @@ use Rattle.candidate_rounds.specs.Equating.{Pair, Visit, Done, Refused, Left, vi
 use Rattle.candidate_rounds.specs.Standing.{IsListing, PairStands, Stands, IsPlain, ArePlain, IsSolvedBy, SolvesAll}
 use Rattle.candidate_rounds.proofs.Later.{has_info, kind_there, no_value, later_itself}
 use Rattle.candidate_rounds.proofs.Looks.{looked_keeps, visited_stands, visited_later, start_stands}
+use Rattle.candidate_rounds.proofs.Bound.{same_sort_itself}
 use Rattle.candidate_rounds.proofs.Ends.{visited_less}
 use Rattle.candidate_rounds.proofs.Putting.{node, put_in, assigned, valued_is, erased_row}
 use Rattle.candidate_rounds.proofs.Offered.{is_unknown, less_unknown}
@@ -122,13 +123,7 @@ module _ (S T : State) (L M : Live) (later : IsLater S T L) (within : Within S L
   -- it is allowed
 
   known_own : (v : Variable) (i : VariableInfo) → L v.number ≡ true → info T v.number ≡ Some i → i.kind ≡ Term v.sort → is_unknown T L (H.Infer v) ≡ false
-  known_own v i c there kind = rw (c, there, kind) (ap not (itself v.sort))
-    where
-      itself : (z : VariableSort) → same_sort z z ≡ true
-      itself V.General = refl
-      itself V.Integer = refl
-      itself V.Floating = refl
-      itself V.Constant = refl
+  known_own v i c there kind = rw (c, there, kind) (ap not (same_sort_itself v.sort))
 
   base_allowed : IsAllowed (universes T) base
   base_allowed = chosen_allowed own_choice (universes T) T (λ i v t there kind c. at i v t there kind (L v.number) refl c)

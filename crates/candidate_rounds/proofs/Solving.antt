@@ -1,5 +1,6 @@
 -- A solution and a look: what stands for variables, and why a variable may take what a solution makes equal to it.
 use Rattle.std.proofs.Common.{◌≡◌, ◌≤◌, ◌<◌, ◌⊎◌, inl, inr, ℕ, zero, suc, ◌+◌, Bool, true, false, not, ◌||◌, ◌&&◌, ◌==◌, min, Option, Some, None, refl, sym, ap, subst, ◌∙◌, arith, nat_lt}
+use Rattle.std.specs.Option.{unwrap_or}
 use Rattle.std.proofs.lemmas.Bool.{and_parts, eqb-true, ltb-false, le-ltb}
 use Rattle.candidate_ir.specs.declared.ir.heads.Head.{Head}
 use Rattle.candidate_ir.specs.declared.ir.heads.Head.TheVariants as H
@@ -33,7 +34,7 @@ use Rattle.candidate_rounds.proofs.Marks.{whole, escape_parts, escape_whole}
 use Rattle.candidate_rounds.proofs.Later.{has_info, kind_there}
 use Rattle.candidate_rounds.proofs.Putting.{node, put_in, assigned, apply_is, erased_row}
 use Rattle.candidate_rounds.proofs.Sides.{Side, Absorbs, IsQuiet, value_leaves}
-use Rattle.candidate_rounds.proofs.Offered.{IsOffered, is_unknown, less_unknown}
+use Rattle.candidate_rounds.proofs.Offered.{IsOffered, is_unknown, less_unknown, binders_erased}
 
 abbrev pub value_under : Substitution → Variable → Tree
 value_under s v = lookup s v (leaf (H.Infer v))
@@ -83,7 +84,7 @@ region_row : (w : Values) → ((r : RegionKind) → w (H.Region r) ≡ None) →
 region_row w none_there t is l = at t.head t.children is (l.0 (leaf_region t.head is))
   where
     at : (h : Head) (c : Forest) → is_region h ≡ true → c ≡ none → erase (put_in w (tree h c none)) ≡ tree (H.Region R.Static) none none
-    at (H.Region r) c e f = ap (λ c. erase (put_in w (tree (H.Region r) c none))) f ∙ ap (λ o. erase (alone (Rattle.std.specs.Option.unwrap_or o (leaf (H.Region r))))) (none_there r)
+    at (H.Region r) c e f = ap (λ c. erase (put_in w (tree (H.Region r) c none))) f ∙ ap (λ o. erase (alone (unwrap_or o (leaf (H.Region r))))) (none_there r)
     at _ c e f = cc
 
 pub met_absorbs : (S : State) (L : Live) (s : Substitution) → ValuesFit S → HasLeafValues S L → IsMet S L s → Absorbs (assigned s) S L
@@ -116,10 +117,6 @@ fits_region V.Integer (H.Region r) e = cc
 fits_region V.Floating (H.Region r) e = cc
 fits_region V.Constant (H.Region r) e = cc
 fits_region s h e = refl
-
-binders_erased : (h : Head) → binders_of (erased_head h) ≡ binders_of h
-binders_erased (H.Region r) = refl
-binders_erased h = refl
 
 beyond_erased : (d : ℕ) (h : Head) → is_beyond d h ≡ false → is_beyond d (erased_head h) ≡ false
 beyond_erased d (H.Region r) e = refl

@@ -25,6 +25,7 @@ use Rattle.candidate_eval.proofs.Holds.{holds_parts}
 use Rattle.candidate_rounds.specs.Scopes.{Scope}
 use Rattle.candidate_rounds.specs.Binding.{occurs, may_take}
 use Rattle.candidate_rounds.proofs.Later.{kind_there}
+use Rattle.candidate_rounds.proofs.Bound.{same_sort_itself, integer_is_type, float_is_type}
 use Rattle.candidate_rounds.proofs.Putting.{node, put_in, assigned}
 use Rattle.candidate_rounds.proofs.Meeting.{Declines}
 use Rattle.candidate_rounds.proofs.Sides.{Absorbs}
@@ -141,16 +142,6 @@ module _ (S : State) (L : Live) (us : Scope) (s : Substitution) (m : IsMet S L s
 
 -- Sorts
 
-integer_is_type : (h : Head) → is_integer h ≡ true → is_type h ≡ true
-integer_is_type (H.Infer v) e = ap (λ s. is_type_kind (sort_kind s)) (same_sort_is v.sort V.Integer e)
-integer_is_type (H.Builtin b) e = refl
-integer_is_type _ e = cc
-
-float_is_type : (h : Head) → is_float h ≡ true → is_type h ≡ true
-float_is_type (H.Infer v) e = ap (λ s. is_type_kind (sort_kind s)) (same_sort_is v.sort V.Floating e)
-float_is_type (H.Builtin b) e = refl
-float_is_type _ e = cc
-
 two_builtins : (b : Builtin) → is_integer (H.Builtin b) ≡ true → is_float (H.Builtin b) ≡ true → ⊥
 two_builtins (B.Int w) e f = cc
 two_builtins (B.Uint w) e f = cc
@@ -166,13 +157,7 @@ constant_no_type ConstantKind e f = cc
 constant_no_type _ e f = cc
 
 sort_of_its_own : (w : Variable) (s : VariableSort) → w.sort ≡ s → same_sort w.sort s ≡ true
-sort_of_its_own w s e = subst (λ z. same_sort z s ≡ true) (sym e) (itself s)
-  where
-    itself : (s : VariableSort) → same_sort s s ≡ true
-    itself V.General = refl
-    itself V.Integer = refl
-    itself V.Floating = refl
-    itself V.Constant = refl
+sort_of_its_own w s e = subst (λ z. same_sort z s ≡ true) (sym e) (same_sort_itself s)
 
 -- of two variables that can go to one tree, one can go to the other
 sorts : (v w : Variable) (x : Head) → fits_sort v.sort x ≡ true → fits_sort w.sort x ≡ true → (fits_sort v.sort (H.Infer w) ≡ true) ⊎ (fits_sort w.sort (H.Infer v) ≡ true)
