@@ -1,5 +1,5 @@
 -- What solves all before a look solves all after it.
-use Rattle.std.proofs.Common.{◌≡◌, ◌≤◌, ◌<◌, ℕ, Bool, true, false, not, ◌||◌, ◌&&◌, min, Option, Some, None, List, [], ◌∷◌, ◌++◌, refl, sym, ap, subst, ◌∙◌, arith, nat_lt, if◌then◌else◌}
+use Rattle.std.proofs.Common.{◌≡◌, ◌≤◌, ℕ, Bool, true, false, not, ◌&&◌, min, Option, Some, None, List, [], ◌∷◌, ◌++◌, refl, sym, ap, subst, ◌∙◌, arith, nat_lt, if◌then◌else◌}
 use Rattle.std.specs.Option.{option_map}
 use Rattle.std.proofs.lemmas.Bool.{eq-eqb, ltb-false, le-ltb}
 use Rattle.std.proofs.lemmas.List.Elements.{All-cons, All-head, All-tail}
@@ -11,28 +11,25 @@ use Rattle.candidate_ir.specs.declared.ir.heads.Variable.{Variable}
 use Rattle.candidate_ir.specs.declared.ir.kinds.RegionKind.{RegionKind}
 use Rattle.candidate_ir.specs.declared.ir.kinds.RegionKind.TheVariants as R
 use Rattle.candidate_ir.specs.Trees.{Forest, none, tree, Tree, erase, erased_head, holds}
-use Rattle.candidate_ir.specs.Folding.{fold, leaf}
 use Rattle.candidate_ir.specs.Unify.{same_head}
-use Rattle.candidate_ir.specs.Substitutions.{Substitution, IsAllowed, IsAllowedBinding, Universes, lookup, same_variable, fits_sort, apply, alone, is_variable, is_placeholder_above}
+use Rattle.candidate_ir.specs.Substitutions.{Substitution, IsAllowedBinding, apply, alone, is_placeholder_above}
 use Rattle.candidate_ir.proofs.Folding.{begin}
-use Rattle.candidate_ir.proofs.Instances.{same_sort_is}
 use Rattle.candidate_eval.specs.declared.eval.variable.VariableKind.TheVariants.{Term, Region}
 use Rattle.candidate_eval.specs.States.{State, VariableInfo, valued_tree, with_universe}
 use Rattle.candidate_eval.specs.Alike.{info}
-use Rattle.candidate_eval.specs.Soundness.{Live, IsSound, ValuesFit, IsSolution, AreLeaves, is_leaf, is_region, is_strange, has_kind, universes, universe_in, variable_tree}
+use Rattle.candidate_eval.specs.Soundness.{Live, IsSound, ValuesFit, AreLeaves, is_leaf, is_strange, universes, universe_in, variable_tree}
 use Rattle.candidate_eval.specs.Lawful.{HasLeafValues}
 use Rattle.candidate_eval.proofs.Holds.{holds_parts}
 use Rattle.candidate_rounds.specs.Listed.{Listing, current}
 use Rattle.candidate_rounds.specs.Scopes.{Scope, placed_tree, entered, has_binder, has_variables, scope_below}
-use Rattle.candidate_rounds.specs.Binding.{occurs, single, info_after, bound, may_take}
+use Rattle.candidate_rounds.specs.Binding.{occurs, single, info_after, bound}
 use Rattle.candidate_rounds.specs.Equating.{Pair, Visit, Done, Refused, Left, value_for, with_equal_regions, outlives, met, visited}
-use Rattle.candidate_rounds.specs.Standing.{IsListing, PairStands, Stands, IsPlain, ArePlain, IsSolvedBy, SolvesAll}
-use Rattle.candidate_rounds.proofs.Marks.{whole, holds_to}
-use Rattle.candidate_rounds.proofs.Later.{has_info, kind_there}
-use Rattle.candidate_rounds.proofs.Bound.{same_sort_itself, kind_bound, info_bound, universe_apart, Before, before, ValueAfter, own, put, value_after, single_is}
-use Rattle.candidate_rounds.proofs.Putting.{node, put_in, assigned, nowhere, absorbed, fold_leaves, erased_row}
+use Rattle.candidate_rounds.specs.Standing.{IsListing, PairStands, Stands, IsPlain, ArePlain}
+use Rattle.candidate_rounds.proofs.Marks.{holds_to}
+use Rattle.candidate_rounds.proofs.Bound.{same_sort_itself, kind_bound, info_bound, universe_apart, before, ValueAfter, own, put, value_after, single_is}
+use Rattle.candidate_rounds.proofs.Putting.{node, put_in, assigned, nowhere, absorbed, fold_leaves}
 use Rattle.candidate_rounds.proofs.Meeting.{Met, by_left, by_right, regions, below, stuck, meeting}
-use Rattle.candidate_rounds.proofs.Sides.{Side, first_side, other_sides, Absorbs, Rooted, rooted_same, found}
+use Rattle.candidate_rounds.proofs.Sides.{Side, first_side, Absorbs, Rooted, rooted_same, found}
 use Rattle.candidate_rounds.proofs.Offered.{IsOffered, is_unknown, less_unknown, offered_for}
 use Rattle.candidate_rounds.proofs.Solving.{value_under, IsMet, made, made_is, is_quiet, met_absorbs, part_marked, numbered_head}
 use Rattle.candidate_rounds.proofs.Taking.{made_variable, not_stuck}

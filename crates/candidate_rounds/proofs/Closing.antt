@@ -1,5 +1,5 @@
 -- Where what is left after a look becomes equal, all that was there before it becomes equal.
-use Rattle.std.proofs.Common.{◌≡◌, ℕ, zero, suc, ◌+◌, Bool, true, false, ◌&&◌, Option, Some, None, List, [], ◌∷◌, refl, sym, ap, subst, ◌∙◌}
+use Rattle.std.proofs.Common.{◌≡◌, ℕ, zero, suc, true, false, Option, Some, None, List, [], ◌∷◌, refl, sym, ap, subst, ◌∙◌}
 use Rattle.std.specs.Option.{unwrap_or}
 use Rattle.std.specs.List.{All}
 use Rattle.std.proofs.lemmas.List.Elements.{All-cons, All-head, All-tail, All-nil}
@@ -8,26 +8,26 @@ use Rattle.candidate_ir.specs.declared.ir.heads.Head.TheVariants as H
 use Rattle.candidate_ir.specs.declared.ir.heads.Variable.{Variable}
 use Rattle.candidate_ir.specs.declared.ir.kinds.RegionKind.{RegionKind}
 use Rattle.candidate_ir.specs.declared.ir.kinds.RegionKind.TheVariants as R
-use Rattle.candidate_ir.specs.Trees.{Forest, none, tree, Tree, erase, erased_head, holds}
+use Rattle.candidate_ir.specs.Trees.{Forest, none, tree, Tree, erase, holds}
 use Rattle.candidate_ir.specs.Folding.{leaf}
 use Rattle.candidate_ir.specs.Substitutions.{alone}
 use Rattle.candidate_eval.specs.declared.eval.variable.VariableKind.TheVariants.{Term, Region}
-use Rattle.candidate_eval.specs.States.{State, VariableInfo, Values, value_in, value_of, value_at, resolved}
+use Rattle.candidate_eval.specs.States.{State, value_in, value_of, value_at, resolved}
 use Rattle.candidate_eval.specs.Alike.{info}
-use Rattle.candidate_eval.specs.Soundness.{Live, IsSound, ValuesFit, AreLeaves, IsLater, is_leaf, is_region, is_strange, has_kind, fits_kind}
+use Rattle.candidate_eval.specs.Soundness.{Live, ValuesFit, AreLeaves, IsLater, is_leaf, is_region, is_strange, has_kind, fits_kind}
 use Rattle.candidate_eval.specs.Lawful.{HasLeafValues}
 use Rattle.candidate_eval.proofs.Holds.{holds_parts}
 use Rattle.candidate_rounds.specs.Listed.{Listing, current}
-use Rattle.candidate_rounds.specs.Scopes.{Scope, placed_tree, entered, scope_below}
-use Rattle.candidate_rounds.specs.Binding.{bound, may_take}
-use Rattle.candidate_rounds.specs.Equating.{Pair, Visit, Done, Refused, Left, value_for, with_equal_regions, met, visited, looked}
-use Rattle.candidate_rounds.specs.Standing.{IsListing, PairStands, Stands, IsPlain, ArePlain}
+use Rattle.candidate_rounds.specs.Scopes.{Scope, scope_below}
+use Rattle.candidate_rounds.specs.Binding.{bound}
+use Rattle.candidate_rounds.specs.Equating.{Pair, Visit, Done, Refused, Left, value_for, met, visited, looked}
+use Rattle.candidate_rounds.specs.Standing.{IsListing, Stands, ArePlain}
 use Rattle.candidate_rounds.proofs.Marks.{whole}
 use Rattle.candidate_rounds.proofs.Later.{has_info, kind_there, known_later}
 use Rattle.candidate_rounds.proofs.Bound.{strange_bound, value_own}
 use Rattle.candidate_rounds.proofs.Putting.{node, put_in, valued_is, erased_row, erased_node}
 use Rattle.candidate_rounds.proofs.Meeting.{Met, by_left, by_right, regions, below, stuck, meeting}
-use Rattle.candidate_rounds.proofs.Sides.{Side, first_side, Absorbs, IsQuiet, Rooted, rooted_same, value_leaves}
+use Rattle.candidate_rounds.proofs.Sides.{first_side, Absorbs, IsQuiet, Rooted, rooted_same, value_leaves}
 use Rattle.candidate_rounds.proofs.Offered.{IsOffered}
 use Rattle.candidate_rounds.proofs.Solving.{leaf_region, region_kind}
 use Rattle.candidate_rounds.proofs.Staying.{left, right, at_x, at_y, for_x, for_y, Plainly, look_stays}

@@ -1,5 +1,5 @@
 -- The laws of an evaluator on equations hold of a judge that solves them by looks.
-use Rattle.std.proofs.Common.{◌≡◌, Option, Some, None, List, [], refl, sym, ap, ◌∙◌}
+use Rattle.std.proofs.Common.{◌≡◌, Option, Some, None, List, refl, sym, ◌∙◌}
 use Rattle.candidate_ir.specs.Trees.{Forest}
 use Rattle.candidate_eval.specs.States.{Env, State, Pending, Judge}
 use Rattle.candidate_eval.specs.Lawful.{EquationLaws}

@@ -1,25 +1,22 @@
 -- A solution, so far as what counts says, made into one that gives no other variable a value, but for those that count in a wider way and have one.
-use Rattle.std.proofs.Common.{◌≡◌, ◌≤◌, ◌<◌, ℕ, zero, suc, ◌+◌, Bool, true, false, not, ◌||◌, ◌&&◌, ◌==◌, Option, Some, None, List, [], ◌∷◌, ◌++◌, length, slice_get, refl, sym, ap, subst, ◌∙◌, arith, nat_lt, if◌then◌else◌}
-use Rattle.std.specs.Option.{unwrap_or, option_map}
-use Rattle.std.proofs.lemmas.Bool.{eqb-true, eq-eqb, ltb-false, le-ltb, ne_eqb}
-use Rattle.std.proofs.lemmas.Option.{slice_get_within}
+use Rattle.std.proofs.Common.{◌≡◌, ◌≤◌, ◌<◌, ℕ, zero, suc, ◌+◌, Bool, true, false, Option, Some, None, List, [], ◌∷◌, ◌++◌, slice_get, refl, sym, ap, subst, ◌∙◌, arith, nat_lt, if◌then◌else◌}
+use Rattle.std.specs.Option.{unwrap_or}
+use Rattle.std.proofs.lemmas.Bool.{eq-eqb, ltb-false, le-ltb}
 use Rattle.candidate_ir.specs.declared.ir.heads.Head.{Head}
 use Rattle.candidate_ir.specs.declared.ir.heads.Head.TheVariants as H
 use Rattle.candidate_ir.specs.declared.ir.heads.ConstHead.TheVariants as C
 use Rattle.candidate_ir.specs.declared.ir.heads.Variable.{Variable}
 use Rattle.candidate_ir.specs.declared.ir.heads.VariableSort.{VariableSort}
-use Rattle.candidate_ir.specs.declared.ir.heads.VariableSort.TheVariants as V
 use Rattle.candidate_ir.specs.Trees.{Forest, none, tree, Tree, erase, erased_head, holds, binders_of}
 use Rattle.candidate_ir.specs.Binders.{is_beyond, escapes}
-use Rattle.candidate_ir.specs.Folding.{leaf}
-use Rattle.candidate_ir.specs.Substitutions.{Substitution, Universes, IsAllowed, IsAllowedBinding, lookup, replaced, apply, alone, same_sort, same_variable, fits_sort, is_placeholder_above}
+use Rattle.candidate_ir.specs.Substitutions.{Substitution, Universes, IsAllowed, IsAllowedBinding, lookup, replaced, apply, alone, same_variable, fits_sort, is_placeholder_above}
 use Rattle.candidate_ir.proofs.Folding.{begin}
 use Rattle.candidate_ir.proofs.Instances.{lookup_fits}
 use Rattle.candidate_eval.specs.declared.eval.variable.VariableKind.{VariableKind}
 use Rattle.candidate_eval.specs.declared.eval.variable.VariableKind.TheVariants.{Term, Region}
 use Rattle.candidate_eval.specs.States.{State, VariableInfo}
 use Rattle.candidate_eval.specs.Alike.{info}
-use Rattle.candidate_eval.specs.Soundness.{is_variable_above, universe_in}
+use Rattle.candidate_eval.specs.Soundness.{is_variable_above}
 use Rattle.candidate_eval.proofs.Holds.{holds_parts}
 use Rattle.candidate_rounds.proofs.Marks.{whole, escapes_on, escape_parts, escape_whole}
 use Rattle.candidate_rounds.proofs.Bound.{same_variable_is, same_sort_itself, fits_through}

@@ -1,5 +1,5 @@
 -- What a look at two trees comes to.
-use Rattle.std.proofs.Common.{◌≡◌, Bool, true, false, ◌&&◌, Option, Some, None, List, ◌∷◌, refl, sym, ap, subst, ◌∙◌, if◌then◌else◌}
+use Rattle.std.proofs.Common.{◌≡◌, Bool, true, false, ◌&&◌, Option, Some, None, List, ◌∷◌, refl, ap, subst, ◌∙◌, if◌then◌else◌}
 use Rattle.candidate_ir.specs.declared.ir.heads.Head.{Head}
 use Rattle.candidate_ir.specs.declared.ir.heads.Head.TheVariants as H
 use Rattle.candidate_ir.specs.declared.ir.heads.Variable.{Variable}
@@ -11,7 +11,7 @@ use Rattle.candidate_eval.specs.Soundness.{is_region}
 use Rattle.candidate_rounds.specs.Listed.{Listing}
 use Rattle.candidate_rounds.specs.Scopes.{Scope, placed_tree, scope_below, entered}
 use Rattle.candidate_rounds.specs.Binding.{may_take, bound}
-use Rattle.candidate_rounds.specs.Equating.{Pair, Visit, Refused, Left, value_for, taken, offered, with_equal_regions, matched, first_of, met}
+use Rattle.candidate_rounds.specs.Equating.{Pair, Visit, Refused, Left, value_for, offered, with_equal_regions, matched, first_of, met}
 
 -- The head is no variable that may take the tree.
 abbrev pub Declines : State → Head → Tree → Type 0

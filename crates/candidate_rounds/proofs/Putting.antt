@@ -1,15 +1,13 @@
 -- Trees with values put in, and what erasing makes of them.
-use Rattle.std.proofs.Common.{◌≡◌, ℕ, ◌+◌, Bool, true, false, ◌||◌, Option, Some, None, refl, sym, ap, ◌∙◌}
+use Rattle.std.proofs.Common.{◌≡◌, ℕ, ◌+◌, Bool, true, false, Option, Some, None, refl, sym, ap, ◌∙◌}
 use Rattle.std.specs.Option.{unwrap_or}
 use Rattle.candidate_ir.specs.declared.ir.heads.Head.{Head}
 use Rattle.candidate_ir.specs.declared.ir.heads.Head.TheVariants as H
-use Rattle.candidate_ir.specs.declared.ir.heads.Variable.{Variable}
-use Rattle.candidate_ir.specs.declared.ir.kinds.RegionKind.TheVariants as R
 use Rattle.candidate_ir.specs.Trees.{Forest, none, tree, Tree, erase, erased_head, holds, binders_of}
 use Rattle.candidate_ir.specs.Folding.{Answers, fold, leaf}
 use Rattle.candidate_ir.specs.Substitutions.{Substitution, lookup, apply, alone}
-use Rattle.candidate_ir.proofs.Folding.{begin, same_row}
-use Rattle.candidate_eval.specs.States.{State, Values, value_at, valued, valued_tree, resolved, is_some}
+use Rattle.candidate_ir.proofs.Folding.{begin}
+use Rattle.candidate_eval.specs.States.{Values, valued}
 use Rattle.candidate_eval.specs.Soundness.{AreLeaves, is_leaf}
 use Rattle.candidate_eval.proofs.Holds.{holds_parts}
 use Rattle.candidate_rounds.proofs.Marks.{whole, valued_node}

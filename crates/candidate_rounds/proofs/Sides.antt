@@ -1,8 +1,6 @@
 -- A side that holds no alias once values are put in: what a look finds at its root, and what it offers to a variable.
-use Rattle.std.proofs.Common.{◌≡◌, ◌≤◌, ◌<◌, ℕ, zero, suc, ◌+◌, ◌-◌, Bool, true, false, not, ◌||◌, ◌&&◌, Option, Some, None, List, [], ◌∷◌, length, slice_get, nat_le, refl, sym, ap, subst, ◌∙◌, arith, if◌then◌else◌}
+use Rattle.std.proofs.Common.{◌≡◌, Bool, true, false, Option, Some, None, length, refl, sym, ap, subst, ◌∙◌, arith, if◌then◌else◌}
 use Rattle.std.specs.Option.{unwrap_or}
-use Rattle.std.proofs.lemmas.Bool.{leb-true, leb-false, lt-leb}
-use Rattle.std.proofs.lemmas.List.Elements.{All-head, All-tail}
 use Rattle.candidate_ir.specs.declared.ir.heads.Head.{Head}
 use Rattle.candidate_ir.specs.declared.ir.heads.Head.TheVariants as H
 use Rattle.candidate_ir.specs.declared.ir.heads.ConstHead.{ConstHead}
@@ -12,26 +10,21 @@ use Rattle.candidate_ir.specs.declared.ir.kinds.BoundVar.{BoundVar}
 use Rattle.candidate_ir.specs.declared.ir.kinds.Placeholder.{Placeholder}
 use Rattle.candidate_ir.specs.declared.ir.kinds.RegionKind.{RegionKind}
 use Rattle.candidate_ir.specs.declared.ir.kinds.RegionKind.TheVariants as R
-use Rattle.candidate_ir.specs.Trees.{Forest, none, tree, Tree, erase, erased_head, holds, is_alias, binders_of}
-use Rattle.candidate_ir.specs.Binders.{is_beyond, escapes}
-use Rattle.candidate_ir.specs.Folding.{fold, leaf}
+use Rattle.candidate_ir.specs.Trees.{Forest, none, tree, Tree, erase, holds, is_alias}
+use Rattle.candidate_ir.specs.Binders.{escapes}
+use Rattle.candidate_ir.specs.Folding.{fold}
 use Rattle.candidate_ir.specs.Substitutions.{alone}
-use Rattle.candidate_ir.specs.Elaboration.{same_tree}
-use Rattle.candidate_ir.proofs.Elaboration.{tree_is}
-use Rattle.candidate_ir.proofs.Folding.{begin, fold-nothing}
 use Rattle.candidate_eval.specs.declared.eval.variable.VariableKind.TheVariants.{Term, Region}
-use Rattle.candidate_eval.specs.States.{State, VariableInfo, Values, value_in, value_of, value_at, resolved, resolved_tree}
+use Rattle.candidate_eval.specs.States.{State, Values, value_in, value_of, value_at, resolved, resolved_tree}
 use Rattle.candidate_eval.specs.Alike.{info}
-use Rattle.candidate_eval.specs.Soundness.{Live, IsSound, ValuesFit, AreLeaves, is_leaf, is_region, is_strange, has_kind, has_value}
+use Rattle.candidate_eval.specs.Soundness.{Live, IsSound, ValuesFit, AreLeaves, is_leaf, is_strange, has_value}
 use Rattle.candidate_eval.specs.Lawful.{HasLeafValues}
 use Rattle.candidate_eval.specs.Evaluators.{root_value, resolved_root}
 use Rattle.candidate_eval.proofs.Holds.{holds_parts}
-use Rattle.candidate_rounds.specs.Listed.{Listing, listed, normalized_tree, listed_at, current}
-use Rattle.candidate_rounds.specs.Scopes.{Scope, placed_head, placed_region, placed_tree}
-use Rattle.candidate_rounds.specs.Equating.{value_for}
-use Rattle.candidate_rounds.specs.Standing.{IsListed, IsListing}
-use Rattle.candidate_rounds.proofs.Marks.{whole, escapes_on, escape_parts, escape_whole, fold_marked}
-use Rattle.candidate_rounds.proofs.Later.{has_info, no_value, value_known, value_resolved, value_closed, resolved_known, resolved_closed, resolved_stays}
+use Rattle.candidate_rounds.specs.Listed.{Listing, listed, current}
+use Rattle.candidate_rounds.specs.Scopes.{Scope}
+use Rattle.candidate_rounds.proofs.Marks.{whole, escapes_on, escape_parts, escape_whole}
+use Rattle.candidate_rounds.proofs.Later.{has_info, no_value, value_known, value_resolved, value_closed, resolved_stays}
 use Rattle.candidate_rounds.proofs.Putting.{put_in, absorbed, fold_leaves}
 
 -- What is known of a row of a pair.

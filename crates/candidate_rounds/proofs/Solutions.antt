@@ -1,20 +1,16 @@
 -- The answer of an equation is most general, and a refused equation has no solution.
-use Rattle.std.proofs.Common.{◌≡◌, ◌≤◌, ◌<◌, ℕ, zero, suc, ◌+◌, Bool, true, false, not, ◌||◌, ◌&&◌, Option, Some, None, List, [], ◌∷◌, ◌++◌, length, get_or, slice_get, refl, sym, ap, subst, ◌∙◌, arith, if◌then◌else◌}
+use Rattle.std.proofs.Common.{◌≡◌, ◌≤◌, ◌<◌, ℕ, zero, suc, Bool, true, false, not, Option, Some, None, List, [], ◌∷◌, ◌++◌, get_or, refl, sym, ap, subst, ◌∙◌, arith, if◌then◌else◌}
 use Rattle.std.specs.Option.{unwrap_or, option_map}
-use Rattle.std.specs.List.{All}
 use Rattle.std.proofs.lemmas.Option.{slice_get_within}
 use Rattle.std.proofs.lemmas.List.Elements.{All-cons, All-head, All-nil}
 use Rattle.candidate_ir.specs.declared.ir.heads.Head.{Head}
 use Rattle.candidate_ir.specs.declared.ir.heads.Head.TheVariants as H
 use Rattle.candidate_ir.specs.declared.ir.heads.Variable.{Variable}
-use Rattle.candidate_ir.specs.declared.ir.heads.VariableSort.{VariableSort}
-use Rattle.candidate_ir.specs.declared.ir.heads.VariableSort.TheVariants as V
 use Rattle.candidate_ir.specs.Trees.{Forest, none, tree, Tree, erase, erased_head, holds}
 use Rattle.candidate_ir.specs.Folding.{leaf}
-use Rattle.candidate_ir.specs.Substitutions.{Substitution, IsAllowed, IsAllowedBinding, lookup, same_sort, apply, alone}
-use Rattle.candidate_ir.proofs.Folding.{begin}
+use Rattle.candidate_ir.specs.Substitutions.{Substitution, IsAllowed, IsAllowedBinding, lookup, apply, alone}
 use Rattle.candidate_eval.specs.declared.eval.variable.VariableKind.TheVariants.{Term}
-use Rattle.candidate_eval.specs.States.{State, VariableInfo, Values, value_in, value_at, resolved}
+use Rattle.candidate_eval.specs.States.{State, VariableInfo, value_in, value_at, resolved}
 use Rattle.candidate_eval.specs.Alike.{info}
 use Rattle.candidate_eval.specs.Soundness.{Live, IsSound, IsSolution, AgreesOn, Within, IsLater, AreLeaves, is_strange, has_kind, has_value, universes, universe_in, is_variable_above, variable_tree}
 use Rattle.candidate_eval.specs.Lawful.{HasLeafValues, AreSides, Solves, IsKept}
@@ -26,12 +22,12 @@ use Rattle.candidate_rounds.proofs.Later.{has_info, kind_there, no_value, later_
 use Rattle.candidate_rounds.proofs.Looks.{looked_keeps, visited_stands, visited_later, start_stands}
 use Rattle.candidate_rounds.proofs.Bound.{same_sort_itself}
 use Rattle.candidate_rounds.proofs.Ends.{visited_less}
-use Rattle.candidate_rounds.proofs.Putting.{node, put_in, assigned, valued_is, erased_row}
-use Rattle.candidate_rounds.proofs.Offered.{is_unknown, less_unknown}
+use Rattle.candidate_rounds.proofs.Putting.{put_in, assigned, valued_is, erased_row}
+use Rattle.candidate_rounds.proofs.Offered.{is_unknown}
 use Rattle.candidate_rounds.proofs.Solving.{value_under, IsMet, made, made_is, kind_is}
 use Rattle.candidate_rounds.proofs.Carrying.{Equals, Solved, Carried, look_carries}
 use Rattle.candidate_rounds.proofs.Staying.{Plainly, look_stays}
-use Rattle.candidate_rounds.proofs.Closing.{Ended, EndEqual, looked_closes}
+use Rattle.candidate_rounds.proofs.Closing.{EndEqual, looked_closes}
 use Rattle.candidate_rounds.proofs.Further.{lookup_allowed, lookup_append, allowed_append, instance_of, instance_fits, instance_closed, instance_low, apply_agree, Choice, chosen, lookup_chosen, chosen_allowed}
 
 -- A solution solves the state, so far as what counts says.

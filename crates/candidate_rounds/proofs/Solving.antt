@@ -1,40 +1,32 @@
 -- A solution and a look: what stands for variables, and why a variable may take what a solution makes equal to it.
-use Rattle.std.proofs.Common.{◌≡◌, ◌≤◌, ◌<◌, ◌⊎◌, inl, inr, ℕ, zero, suc, ◌+◌, Bool, true, false, not, ◌||◌, ◌&&◌, ◌==◌, min, Option, Some, None, refl, sym, ap, subst, ◌∙◌, arith, nat_lt}
+use Rattle.std.proofs.Common.{◌≡◌, ◌⊎◌, inl, inr, ℕ, ◌+◌, Bool, true, false, ◌||◌, Some, None, refl, sym, ap, subst, ◌∙◌}
 use Rattle.std.specs.Option.{unwrap_or}
-use Rattle.std.proofs.lemmas.Bool.{and_parts, eqb-true, ltb-false, le-ltb}
+use Rattle.std.proofs.lemmas.Bool.{eqb-true}
 use Rattle.candidate_ir.specs.declared.ir.heads.Head.{Head}
 use Rattle.candidate_ir.specs.declared.ir.heads.Head.TheVariants as H
-use Rattle.candidate_ir.specs.declared.ir.heads.Builtin.{Builtin}
-use Rattle.candidate_ir.specs.declared.ir.heads.Builtin.TheVariants as B
-use Rattle.candidate_ir.specs.declared.ir.heads.ConstHead.{ConstHead}
-use Rattle.candidate_ir.specs.declared.ir.heads.ConstHead.TheVariants as C
 use Rattle.candidate_ir.specs.declared.ir.heads.Variable.{Variable}
 use Rattle.candidate_ir.specs.declared.ir.heads.VariableSort.{VariableSort}
 use Rattle.candidate_ir.specs.declared.ir.heads.VariableSort.TheVariants as V
 use Rattle.candidate_ir.specs.declared.ir.kinds.RegionKind.{RegionKind}
 use Rattle.candidate_ir.specs.declared.ir.kinds.RegionKind.TheVariants as R
-use Rattle.candidate_ir.specs.Trees.{Kind, ConstantKind, Forest, none, tree, Tree, kind_of, is_type, is_type_kind, sort_kind, erase, erased_head, holds, is_alias, binders_of}
+use Rattle.candidate_ir.specs.Trees.{Forest, none, tree, Tree, erase, erased_head, holds, binders_of}
 use Rattle.candidate_ir.specs.Binders.{is_beyond, escapes}
 use Rattle.candidate_ir.specs.Folding.{leaf}
-use Rattle.candidate_ir.specs.Unify.{same_head}
-use Rattle.candidate_ir.specs.Substitutions.{Substitution, IsAllowedBinding, lookup, apply, alone, same_sort, fits_sort, is_integer, is_float, is_constant_kind, is_variable, is_placeholder_above}
-use Rattle.candidate_ir.proofs.Equal.{head_itself}
+use Rattle.candidate_ir.specs.Substitutions.{Substitution, IsAllowedBinding, lookup, apply, alone, fits_sort}
 use Rattle.candidate_ir.proofs.Instances.{same_sort_is}
-use Rattle.candidate_ir.proofs.Folding.{begin}
 use Rattle.candidate_eval.specs.declared.eval.variable.VariableKind.{VariableKind}
 use Rattle.candidate_eval.specs.declared.eval.variable.VariableKind.TheVariants.{Term, Region}
 use Rattle.candidate_eval.specs.Responses.{is_number}
-use Rattle.candidate_eval.specs.States.{State, VariableInfo, Values, value_in, value_of, value_at}
+use Rattle.candidate_eval.specs.States.{State, VariableInfo, Values, value_in, value_at}
 use Rattle.candidate_eval.specs.Alike.{info}
-use Rattle.candidate_eval.specs.Soundness.{Live, ValuesFit, IsSolution, AreLeaves, is_leaf, is_region, is_strange, has_kind, same_kind, fits_kind, universes, universe_in, variable_tree}
+use Rattle.candidate_eval.specs.Soundness.{Live, ValuesFit, AreLeaves, is_leaf, is_region, is_strange, has_kind, same_kind, fits_kind, universes, variable_tree}
 use Rattle.candidate_eval.specs.Lawful.{HasLeafValues}
 use Rattle.candidate_eval.proofs.Holds.{holds_parts}
-use Rattle.candidate_rounds.specs.Binding.{occurs, may_take}
 use Rattle.candidate_rounds.proofs.Marks.{whole, escape_parts, escape_whole}
 use Rattle.candidate_rounds.proofs.Later.{has_info, kind_there}
-use Rattle.candidate_rounds.proofs.Putting.{node, put_in, assigned, apply_is, erased_row}
-use Rattle.candidate_rounds.proofs.Sides.{Side, Absorbs, IsQuiet, value_leaves}
-use Rattle.candidate_rounds.proofs.Offered.{IsOffered, is_unknown, less_unknown, binders_erased}
+use Rattle.candidate_rounds.proofs.Putting.{node, put_in, assigned, apply_is}
+use Rattle.candidate_rounds.proofs.Sides.{Absorbs, IsQuiet, value_leaves}
+use Rattle.candidate_rounds.proofs.Offered.{is_unknown, binders_erased}
 
 abbrev pub value_under : Substitution → Variable → Tree
 value_under s v = lookup s v (leaf (H.Infer v))

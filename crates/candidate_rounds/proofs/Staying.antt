@@ -1,5 +1,5 @@
 -- After a look no alias is left on a side, and variables and regions are leaves, as before it.
-use Rattle.std.proofs.Common.{◌≡◌, ℕ, ◌+◌, ◌<◌, Bool, true, false, ◌&&◌, Option, Some, None, List, [], ◌∷◌, ◌++◌, length, get_or, refl, sym, ap, subst, ◌∙◌, if◌then◌else◌}
+use Rattle.std.proofs.Common.{◌≡◌, ◌+◌, Bool, true, false, ◌&&◌, Some, None, List, [], ◌∷◌, ◌++◌, get_or, refl, sym, ap, subst, ◌∙◌, if◌then◌else◌}
 use Rattle.std.specs.Option.{unwrap_or}
 use Rattle.std.specs.List.{All}
 use Rattle.std.proofs.lemmas.List.Elements.{All-cons, All-head, All-tail}
@@ -10,15 +10,15 @@ use Rattle.candidate_ir.specs.Trees.{Forest, none, tree, Tree, holds, is_alias, 
 use Rattle.candidate_ir.specs.Folding.{fold}
 use Rattle.candidate_ir.specs.Unify.{same_head}
 use Rattle.candidate_ir.specs.Substitutions.{alone}
-use Rattle.candidate_eval.specs.States.{State, VariableInfo, value_at, resolved, valued_tree, with_universe}
+use Rattle.candidate_eval.specs.States.{State, VariableInfo, value_at, resolved, with_universe}
 use Rattle.candidate_eval.specs.Alike.{info}
-use Rattle.candidate_eval.specs.Soundness.{Live, IsSound, AreLeaves, is_region, is_strange}
+use Rattle.candidate_eval.specs.Soundness.{Live, AreLeaves, is_region, is_strange}
 use Rattle.candidate_eval.specs.Lawful.{HasLeafValues}
 use Rattle.candidate_eval.specs.Evaluators.{root_value}
 use Rattle.candidate_eval.proofs.Holds.{holds_parts}
 use Rattle.candidate_rounds.specs.Listed.{Listing, current}
 use Rattle.candidate_rounds.specs.Scopes.{Scope, placed_tree, entered, has_binder, has_variables, scope_below}
-use Rattle.candidate_rounds.specs.Binding.{single, bound, may_take}
+use Rattle.candidate_rounds.specs.Binding.{single, bound}
 use Rattle.candidate_rounds.specs.Equating.{Pair, Visit, Done, Refused, Left, value_for, outlives, with_equal_regions, met, visited}
 use Rattle.candidate_rounds.specs.Standing.{IsListing, PairStands, Stands, IsPlain, ArePlain}
 use Rattle.candidate_rounds.proofs.Marks.{fold_marked, same_depth}

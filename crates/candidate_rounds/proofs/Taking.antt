@@ -1,5 +1,5 @@
 -- Where a solution makes two trees equal, a look doesn't refuse them.
-use Rattle.std.proofs.Common.{◌≡◌, ◌≤◌, ◌<◌, ◌⊎◌, inl, inr, ℕ, zero, suc, ◌+◌, Bool, true, false, not, ◌||◌, ◌&&◌, Option, Some, None, refl, sym, ap, subst, ◌∙◌, arith}
+use Rattle.std.proofs.Common.{◌≡◌, ◌≤◌, ◌⊎◌, inl, inr, ℕ, suc, ◌+◌, Bool, true, false, not, ◌||◌, ◌&&◌, refl, sym, ap, subst, ◌∙◌, arith}
 use Rattle.candidate_ir.specs.declared.ir.heads.Head.{Head}
 use Rattle.candidate_ir.specs.declared.ir.heads.Head.TheVariants as H
 use Rattle.candidate_ir.specs.declared.ir.heads.Builtin.{Builtin}
@@ -7,15 +7,12 @@ use Rattle.candidate_ir.specs.declared.ir.heads.Builtin.TheVariants as B
 use Rattle.candidate_ir.specs.declared.ir.heads.Variable.{Variable}
 use Rattle.candidate_ir.specs.declared.ir.heads.VariableSort.{VariableSort}
 use Rattle.candidate_ir.specs.declared.ir.heads.VariableSort.TheVariants as V
-use Rattle.candidate_ir.specs.declared.ir.kinds.RegionKind.TheVariants as R
-use Rattle.candidate_ir.specs.Trees.{Kind, ConstantKind, Forest, none, tree, Tree, kind_of, is_type, is_type_kind, sort_kind, erase, erased_head, holds}
+use Rattle.candidate_ir.specs.Trees.{Kind, ConstantKind, Forest, none, tree, Tree, kind_of, is_type_kind, sort_kind, erase, erased_head, holds}
 use Rattle.candidate_ir.specs.Binders.{escapes}
-use Rattle.candidate_ir.specs.Folding.{leaf}
 use Rattle.candidate_ir.specs.Unify.{same_head}
 use Rattle.candidate_ir.specs.Substitutions.{Substitution, alone, same_sort, fits_sort, is_integer, is_float, is_constant_kind, is_variable, is_placeholder_above}
 use Rattle.candidate_ir.proofs.Equal.{head_is, head_itself}
 use Rattle.candidate_ir.proofs.Instances.{same_sort_is}
-use Rattle.candidate_ir.proofs.Folding.{begin}
 use Rattle.candidate_eval.specs.declared.eval.variable.VariableKind.TheVariants.{Term}
 use Rattle.candidate_eval.specs.Responses.{is_number}
 use Rattle.candidate_eval.specs.States.{State}
@@ -26,7 +23,7 @@ use Rattle.candidate_rounds.specs.Scopes.{Scope}
 use Rattle.candidate_rounds.specs.Binding.{occurs, may_take}
 use Rattle.candidate_rounds.proofs.Later.{kind_there}
 use Rattle.candidate_rounds.proofs.Bound.{same_sort_itself, integer_is_type, float_is_type}
-use Rattle.candidate_rounds.proofs.Putting.{node, put_in, assigned}
+use Rattle.candidate_rounds.proofs.Putting.{put_in, assigned}
 use Rattle.candidate_rounds.proofs.Meeting.{Declines}
 use Rattle.candidate_rounds.proofs.Sides.{Absorbs}
 use Rattle.candidate_rounds.proofs.Offered.{IsOffered, is_unknown}
