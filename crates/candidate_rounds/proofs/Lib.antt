@@ -19,3 +19,4 @@ pub mod Ends
 pub mod Solutions
 pub mod EquatingLaws
 pub mod EquationLaws
+pub mod EquationPremises
