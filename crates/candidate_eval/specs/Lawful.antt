@@ -22,22 +22,24 @@ HasNoAlias S ts = holds is_alias (resolved S ts) ≡ false
 abbrev pub HasNoError : State → Forest → Type 0
 HasNoError S ts = holds is_error (resolved S ts) ≡ false
 
--- Two sides of which the laws on equations speak.
-pub record AreSides (S : State) (L : Live) (a b : Forest) : Type 0 where
-  pub sound : IsSound S L
-  pub left : AreTreesOf S L a
-  pub right : AreTreesOf S L b
-  pub left_has_no_alias : HasNoAlias S a
-  pub right_has_no_alias : HasNoAlias S b
-  pub left_has_leaves : AreLeaves (resolved S a)
-  pub right_has_leaves : AreLeaves (resolved S b)
-
--- Of the values of what counts: their variables are leaves; and they hold no parameter.
+-- Of the values of what counts: their variables and regions are leaves; and they hold no parameter.
 abbrev pub HasLeafValues : State → Live → Type 0
 HasLeafValues S L = OfValues S L (λ n i t. AreLeaves (alone t))
 
 abbrev pub HasNoParameter : State → Live → Type 0
 HasNoParameter S L = OfValues S L (λ n i t. holds is_param (alone t) ≡ false)
+
+-- Two sides of which the laws on equations speak.
+pub record AreSides (S : State) (L : Live) (a b : Forest) : Type 0 where
+  pub sound : IsSound S L
+  pub fits : ValuesFit S
+  pub left : AreTreesOf S L a
+  pub right : AreTreesOf S L b
+  pub left_has_no_alias : HasNoAlias S a
+  pub right_has_no_alias : HasNoAlias S b
+  pub left_has_leaves : AreLeaves a
+  pub right_has_leaves : AreLeaves b
+  pub values_have_leaves : HasLeafValues S L
 
 -- The substitution is a solution of the state, and makes both sides equal.
 pub record Solves (S : State) (L : Live) (a b : Forest) (s : Substitution) : Type 0 where
@@ -89,7 +91,7 @@ pub record EquationLaws (J : Judge) : Type 0 where
   -- An accepted equation of sides without errors makes them equal, and gives no value that isn't needed.
   pub equation_equates : (S T : State) (L : Live) (e : Env) (a b : Forest) (gs : List Pending) → AreSides S L a b → HasNoError S a → HasNoError S b
       → J.equated S e a b ≡ Some (gs, T) → erase (resolved T a) ≡ erase (resolved T b)
-  pub equation_is_most_general : (S T : State) (L M : Live) (e : Env) (a b : Forest) (gs : List Pending) → AreSides S L a b → HasLeafValues S L → HasNoError S a → HasNoError S b
+  pub equation_is_most_general : (S T : State) (L M : Live) (e : Env) (a b : Forest) (gs : List Pending) → AreSides S L a b → HasNoError S a → HasNoError S b
       → J.equated S e a b ≡ Some (gs, T) → Within S L M → IsSound T M → (s : Substitution) → Solves S L a b s → IsKept S T L M s
   -- A refused equation has no solution.
   pub refused_has_no_solution : (S : State) (L : Live) (e : Env) (a b : Forest) → AreSides S L a b → J.equated S e a b ≡ None → (s : Substitution) → Solves S L a b s → ⊥

@@ -1,5 +1,5 @@
 -- What makes sense at a state, and the states that come after it.
-use Rattle.std.specs.Prelude.{◌≡◌, ℕ, ◌<◌, ◌≤◌, Bool, true, false, not, ◌&&◌, nat_lt, Option, Some, None, List, length}
+use Rattle.std.specs.Prelude.{◌≡◌, ℕ, ◌<◌, ◌≤◌, Bool, true, false, not, ◌&&◌, ◌||◌, nat_lt, Option, Some, None, List, length}
 use Rattle.std.specs.List.{All}
 use Rattle.candidate_ir.specs.declared.ir.heads.Head.{Head}
 use Rattle.candidate_ir.specs.declared.ir.heads.Head.TheVariants as H
@@ -64,10 +64,18 @@ pub record AreTreesOf (S : State) (L : Live) (ts : Forest) : Type 0 where
   pub known : holds (is_strange S L) ts ≡ false
   pub is_closed : escapes 0 ts ≡ false
 
--- Variables have no children, as in all trees that are well formed.
+abbrev pub is_region : Head → Bool
+is_region (H.Region r) = true
+is_region _ = false
+
+-- a variable or a region
+abbrev pub is_leaf : Head → Bool
+is_leaf h = is_some (variable_number h) || is_region h
+
+-- Variables and regions have no children, as in all trees that are well formed.
 abbrev pub AreLeaves : Forest → Type 0
 AreLeaves none = Unit {0}
-AreLeaves (tree h below rest) = (is_some (variable_number h) ≡ true → below ≡ none) × AreLeaves below × AreLeaves rest
+AreLeaves (tree h below rest) = (is_leaf h ≡ true → below ≡ none) × AreLeaves below × AreLeaves rest
 
 -- What is asked of the values of a state's variables, where the variables count.
 abbrev pub OfValues : State → Live → (ℕ → VariableInfo → Tree → Type 0) → Type 0
@@ -104,10 +112,6 @@ AgreesOn S L s t =
 -- Of the variables that the state has, those that count in the first way count in the second.
 abbrev pub Within : State → Live → Live → Type 0
 Within S L M = (n : ℕ) → n < length S.variables → L n ≡ true → M n ≡ true
-
-abbrev pub is_region : Head → Bool
-is_region (H.Region r) = true
-is_region _ = false
 
 -- a value is a tree of its variable's sort; that of a region variable is a region
 abbrev pub fits_kind : VariableKind → Head → Bool

@@ -47,7 +47,7 @@ same_variable_is v w e =
     let n = eqb-true v.number w.number p.1 in
     λ i. record { sort = s i; number = n i }
 
-same_sort_itself : (s : VariableSort) → same_sort s s ≡ true
+pub same_sort_itself : (s : VariableSort) → same_sort s s ≡ true
 same_sort_itself V.General = refl
 same_sort_itself V.Integer = refl
 same_sort_itself V.Floating = refl
@@ -182,12 +182,12 @@ module _ (S : State) (v : Variable) (t : Tree) where
 
 -- Sorts
 
-integer_is_type : (h : Head) → is_integer h ≡ true → is_type h ≡ true
+pub integer_is_type : (h : Head) → is_integer h ≡ true → is_type h ≡ true
 integer_is_type (H.Infer v) e = ap (λ s. is_type_kind (sort_kind s)) (same_sort_is v.sort V.Integer e)
 integer_is_type (H.Builtin b) e = refl
 integer_is_type _ e = cc
 
-float_is_type : (h : Head) → is_float h ≡ true → is_type h ≡ true
+pub float_is_type : (h : Head) → is_float h ≡ true → is_type h ≡ true
 float_is_type (H.Infer v) e = ap (λ s. is_type_kind (sort_kind s)) (same_sort_is v.sort V.Floating e)
 float_is_type (H.Builtin b) e = refl
 float_is_type _ e = cc

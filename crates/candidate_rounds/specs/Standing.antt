@@ -9,7 +9,8 @@ use Rattle.candidate_ir.specs.Trees.{Tree, holds, is_alias, is_param, is_type, e
 use Rattle.candidate_ir.specs.Binders.{escapes}
 use Rattle.candidate_ir.specs.Substitutions.{Substitution, alone, apply}
 use Rattle.candidate_eval.specs.States.{State}
-use Rattle.candidate_eval.specs.Soundness.{Live, IsSound, ValuesFit, IsSolution, is_strange}
+use Rattle.candidate_eval.specs.Soundness.{Live, IsSound, ValuesFit, AreLeaves, IsSolution, is_strange}
+use Rattle.candidate_eval.specs.Lawful.{HasNoAlias, HasLeafValues}
 use Rattle.candidate_rounds.specs.Listed.{Listing}
 use Rattle.candidate_rounds.specs.Equating.{Pair}
 
@@ -51,6 +52,18 @@ pub record Stands (S : State) (L : Live) (ps : List Pair) : Type 0 where
   pub sound : IsSound S L
   pub fits : ValuesFit S
   pub pairs : All (PairStands S L) ps
+
+-- No alias is left on either side once values are put in; and variables and regions are leaves, on both sides and in values.
+
+pub record IsPlain (S : State) (p : Pair) : Type 0 where
+  pub left_has_no_alias : HasNoAlias S p.left
+  pub right_has_no_alias : HasNoAlias S p.right
+  pub left_has_leaves : AreLeaves p.left
+  pub right_has_leaves : AreLeaves p.right
+
+pub record ArePlain (S : State) (L : Live) (ps : List Pair) : Type 0 where
+  pub pairs : All (IsPlain S) ps
+  pub values : HasLeafValues S L
 
 -- The substitution is a solution of the state, and makes both sides of each pair equal.
 
