@@ -1,5 +1,5 @@
 -- States as numbers get trees, and as changes are undone.
-use Rattle.std.proofs.Common.{◌≡◌, ℕ, zero, suc, ◌≤◌, true, List, [], ◌∷◌, ◌++◌, length, take, drop, map, slice_get, Option, Some, None, refl, ◌∙◌, ap, subst, arith}
+use Rattle.std.proofs.Common.{◌≡◌, ℕ, zero, suc, ◌≤◌, true, List, [], ◌∷◌, ◌++◌, length, take, drop, map, slice_get, Option, Some, None, All, refl, ◌∙◌, ap, subst, arith}
 use Rattle.std.specs.Option.{option_map}
 use Rattle.candidate_ir.specs.declared.ir.kinds.Clause.{Clause}
 use Rattle.candidate_ir.specs.declared.ir.kinds.GenericArg.{GenericArg}
@@ -32,6 +32,10 @@ probes-stay ts mode s t ks m u = go ks (length s.trail) m (omega arith)
         ∙ ap (λ xs. state_of ts mode (back_to k s) ∷ xs) (go ks k m.1 (omega (arith, m.0, l)))
 
 -- Of each member
+
+pub each-of-all : {A : Type 0} (P : A → Type 0) (xs : List A) → All P xs → Each P xs
+each-of-all P [] a = tt
+each-of-all P (x ∷ xs) a = (a 0 x (omega arith), each-of-all P xs (λ k d l. a (suc k) d (omega (arith, l))))
 
 pub each-imply : {A : Type 0} (P Q : A → Type 0) (xs : List A) → ((x : A) → P x → Q x) → Each P xs → Each Q xs
 each-imply P Q [] f e = tt

@@ -1,3 +1,4 @@
 pub mod Fitting
 pub mod Pieces
 pub mod Kept
+pub mod Lists

@@ -1,6 +1,6 @@
 //! The state: variables, goals, probes.
 
-ghost use Rattle.std.specs.Prelude.{◌<◌, ◌^◌, false, length, IfErr, ◌≡◌, ◌≢◌, List, [], ◌∷◌, IfOk, OnOk, OnErr};
+ghost use Rattle.std.specs.Prelude.{All, ◌<◌, ◌^◌, false, length, IfErr, ◌≡◌, ◌≢◌, List, [], ◌∷◌, IfOk, OnOk, OnErr};
 ghost use Rattle.candidate_ir.specs.Context.{Grows};
 ghost use Rattle.candidate_ir.specs.Folds.{IsArg, arg_tree};
 ghost use Rattle.candidate_ir.specs.Nodes.{rows};
@@ -10,7 +10,7 @@ ghost use Rattle.candidate_eval.specs.States.{State, added, variable, fresh_vari
 ghost use Rattle.candidate_eval.specs.declared.eval.context.ProbeKind.{ProbeKind};
 ghost use Rattle.candidate_rounds.specs.Inferences.{with_variable};
 ghost use Rattle.candidate_rounds.specs.Leaves.{all_leaves, last_number};
-ghost use Rattle.candidate_rounds.specs.Known.{state, state_of, probes, with_root, Each};
+ghost use Rattle.candidate_rounds.specs.Known.{state, state_of, probes, with_root};
 
 use crate::rounds::Rounds;
 use crate::rounds::fresh::{Leaves, leaf_args, variable};
@@ -65,7 +65,7 @@ impl Rounds {
 
     /// Goals become pending, in order, after all others; none where it stops. The only stop is `Stop::Memory`.
     pub fn add_goals(&mut self, source: GoalSource, goals: &[Goal<Clause>]) -> Result<(), Stop>
-        requires { Each (IsGoal self.old.context.trees) goals.now }
+        requires { All (IsGoal self.old.context.trees) goals.now }
         ensures context { self.new.context ≡ self.old.context }
         ensures probes { probes self.new ≡ probes self.old }
         ensures ok { OnOk result (state self.new ≡ with_goals_of self.old.context.trees (state self.old) source goals.now) }

@@ -1,14 +1,14 @@
-use Rattle.std.proofs.Common.{◌≡◌, OnOk, reverse, sym, ◌∙◌, ap, subst}
+use Rattle.std.proofs.Common.{◌≡◌, All, OnOk, reverse, sym, ◌∙◌, ap, subst}
 use Rattle.candidate_eval.specs.Evaluators.{IsGoal, with_goals_of}
-use Rattle.candidate_rounds.specs.Known.{Evaluator, state, state_of, probes, Each}
-use Rattle.candidate_rounds.proofs.Knowing.{probes-stay}
+use Rattle.candidate_rounds.specs.Known.{Evaluator, state, state_of, probes}
+use Rattle.candidate_rounds.proofs.Knowing.{probes-stay, each-of-all}
 use Rattle.candidate_rounds.proofs.Holding.{goals-hold, goals-undone, goals-state}
 use Rattle.candidate_rounds.proofs.rounds.Rounds.add_goals.Goals as goal
 
 pub invariant_of-self : goal.invariant_of-self
 invariant_of-self c =
     let i = c.self.inside in
-    let g = subst (λ (e : Evaluator). Each (IsGoal e.context.trees) c.args.goals.now) (sym c.self.view_is) c.requires in
+    let g = each-of-all (IsGoal i.cx.trees) c.args.goals.now (subst (λ (e : Evaluator). All (IsGoal e.context.trees) c.args.goals.now) (sym c.self.view_is) c.requires) in
     goals-hold i.cx.trees i.inference c.add_all.new.self (reverse i.probes.items) c.args.source c.args.goals.now c.add_all.result c.self.invariant g c.add_all.ensures.added c.add_all.ensures.unchanged
 
 pub returns-clause-probes : goal.returns-clause-probes
@@ -20,6 +20,6 @@ returns-clause-probes c =
 pub returns-clause-ok : goal.returns-clause-ok
 returns-clause-ok c =
     let i = c.self.inside in
-    let g = subst (λ (e : Evaluator). Each (IsGoal e.context.trees) c.args.goals.now) (sym c.self.view_is) c.requires in
+    let g = each-of-all (IsGoal i.cx.trees) c.args.goals.now (subst (λ (e : Evaluator). All (IsGoal e.context.trees) c.args.goals.now) (sym c.self.view_is) c.requires) in
     let s = goals-state i.cx.trees i.mode i.inference c.add_all.new.self (reverse i.probes.items) c.args.source c.args.goals.now c.add_all.result c.self.invariant g c.add_all.ensures.added in
     subst (λ (e : Evaluator). OnOk c.add_all.result (state_of i.cx.trees i.mode c.add_all.new.self ≡ with_goals_of e.context.trees (state e) c.args.source c.args.goals.now)) c.self.view_is s

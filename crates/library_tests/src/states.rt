@@ -1,0 +1,103 @@
+//! The state of an evaluator that works in rounds: variables, goals, probes.
+
+ghost use Rattle.std.specs.Prelude.{◌≡◌};
+ghost use Rattle.candidate_ir.specs.Context.{Grows};
+ghost use Rattle.candidate_ir.specs.Words.{IsArgs};
+ghost use Rattle.candidate_rounds.specs.Known.{probes};
+
+use crate::asserts::equals;
+use crate::samples::declared;
+use candidate_eval::eval::context::ProbeKind;
+use candidate_eval::eval::mode::TypingMode;
+use candidate_eval::eval::variable::VariableKind;
+use candidate_ir::ir::heads::{Flag, VariableSort};
+use candidate_ir::ir::kinds::{Args, VarKind};
+use candidate_rounds::rounds::Rounds;
+use std::alloc::Global;
+use std::process::Abort;
+
+/// Fresh variables of these kinds.
+fn fresh(rt: &impl Abort, alloc: Global, rounds: &mut Rounds, kinds: &[VarKind]) -> Args
+    ensures grows { Grows rounds.old.context rounds.new.context }
+    ensures probes { probes rounds.new ≡ probes rounds.old }
+    ensures sort { IsArgs rounds.new.context.trees result }
+{
+    rounds
+        .fresh_args_for_item(alloc, kinds)
+        .expect(rt, "variables")
+}
+
+/// Placeholders for variables of these kinds.
+fn placeholders(rt: &impl Abort, alloc: Global, rounds: &mut Rounds, kinds: &[VarKind]) -> Args
+    ensures grows { Grows rounds.old.context rounds.new.context }
+    ensures probes { probes rounds.new ≡ probes rounds.old }
+    ensures sort { IsArgs rounds.new.context.trees result }
+{
+    rounds
+        .placeholder_args(alloc, kinds)
+        .expect(rt, "placeholders")
+}
+
+/// The number of the next root variable.
+fn root(rt: &impl Abort, rounds: &mut Rounds, sort: VariableSort) -> Option<u32> {
+    let kind = VariableKind::Term(sort);
+    let root = rounds.new_root_var(kind).expect(rt, "a root variable");
+    rounds.cx().variable_number(root)
+}
+
+#[test]
+fn numbers_variables(rt: HostRuntime) {
+    let alloc = rt.alloc();
+    let cx = declared(&rt, alloc);
+    let mut rounds = Rounds::new(alloc, cx, TypingMode::Analysis);
+    equals(&rt, &rounds.typing_mode(), &TypingMode::Analysis, "mode");
+    let general = root(&rt, &mut rounds, VariableSort::General);
+    equals(&rt, &general, &Some(0), "the first");
+    let kinds = [VarKind::Ty, VarKind::Const, VarKind::Region];
+    let made = fresh(&rt, alloc, &mut rounds, &kinds);
+    equals(&rt, &rounds.cx().args(made).len(), &3, "one a kind");
+    let has = rounds.cx().args_have(made, Flag::ConstInfer);
+    equals(&rt, &has, &true, "of its kind");
+    let constant = root(&rt, &mut rounds, VariableSort::Constant);
+    equals(&rt, &constant, &Some(4), "one row of numbers");
+}
+
+/// A probe in which a variable and placeholders are made, of which nothing is left.
+fn check_probe(rt: &impl Abort, alloc: Global, rounds: &mut Rounds, kind: ProbeKind) {
+    let kinds = [VarKind::Ty];
+    rounds.begin_probe(kind).expect(rt, "a probe");
+    let variable = fresh(rt, alloc, rounds, &kinds);
+    let placeholder = placeholders(rt, alloc, rounds, &kinds);
+    rounds.end_probe();
+    let next_variable = fresh(rt, alloc, rounds, &kinds);
+    let next_placeholder = placeholders(rt, alloc, rounds, &kinds);
+    let cx = rounds.cx();
+    let same_variable = cx.same_args(variable, next_variable);
+    equals(rt, &same_variable, &true, "the same number");
+    let same_universe = cx.same_args(placeholder, next_placeholder);
+    equals(rt, &same_universe, &true, "the same universe");
+}
+
+#[test]
+fn undoes_what_a_probe_changed(rt: HostRuntime) {
+    let alloc = rt.alloc();
+    let cx = declared(&rt, alloc);
+    let mut rounds = Rounds::new(alloc, cx, TypingMode::Coherence);
+    check_probe(&rt, alloc, &mut rounds, ProbeKind::Kept);
+    check_probe(&rt, alloc, &mut rounds, ProbeKind::SetAside);
+}
+
+#[test]
+fn tells_variables_apart(rt: HostRuntime) {
+    let alloc = rt.alloc();
+    let cx = declared(&rt, alloc);
+    let mut rounds = Rounds::new(alloc, cx, TypingMode::Coherence);
+    let variable = fresh(&rt, alloc, &mut rounds, &[VarKind::Ty]);
+    let other = fresh(&rt, alloc, &mut rounds, &[VarKind::Ty]);
+    let same_variable = rounds.cx().same_args(variable, other);
+    equals(&rt, &same_variable, &false, "another number");
+    let placeholder = placeholders(&rt, alloc, &mut rounds, &[VarKind::Ty]);
+    let newer = placeholders(&rt, alloc, &mut rounds, &[VarKind::Ty]);
+    let same_universe = rounds.cx().same_args(placeholder, newer);
+    equals(&rt, &same_universe, &false, "a newer universe");
+}
