@@ -13,6 +13,8 @@ pub mod Soundness
 pub mod Instances
 pub mod Lawful
 pub mod Evaluators
+pub mod Tables
+pub mod Asked
 pub mod Normalizer
 pub mod Answers
 pub mod Orphan

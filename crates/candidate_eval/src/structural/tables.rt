@@ -1,0 +1,107 @@
+//! The columns of the tables as calls.
+
+ghost use Rattle.std.specs.Prelude.{◌≡◌, ◌↔◌, IsTrue, IfOk, IfErr, length, false, true};
+ghost use Rattle.candidate_ir.specs.Context.{Grows, world};
+ghost use Rattle.candidate_ir.specs.References.{Takes};
+ghost use Rattle.candidate_ir.specs.Words.{IsTy, KindFits, kind_tree, ty_tree};
+ghost use Rattle.candidate_eval.specs.Tables.{Cell, Asks, row_of, is_excluded, IsCellStop};
+ghost use Rattle.candidate_eval.specs.Tables.{Refused};
+ghost use Rattle.candidate_eval.specs.Asked.{AskedFits, asked_cell, under_of, parts_of, ArePartsIn};
+ghost use Rattle.candidate_eval.specs.Asked as seen;
+
+use crate::eval::refusal::NoSolutionOrStop;
+use crate::structural::asked::{
+    Asked, asked_for_auto_trait, asked_for_copy_clone_trait, asked_for_sizedness_trait,
+};
+use crate::structural::making::made;
+use crate::structural::{Constituents, Under};
+use candidate_ir::decl::make::Make;
+use candidate_ir::decl::{Cx, Sizedness};
+use candidate_ir::ir::kinds::{Ty, TyKind};
+use candidate_ir::ir::stop::Stop;
+use std::alloc::Global;
+
+/// The kind of the type, whose arguments are those that it takes.
+#[tactic(auto, using(crate::proofs::Cells::kind_takes))]
+fn kind_of(cx: &Cx, ty: Ty) -> TyKind
+    requires { IsTy cx.now.trees ty }
+    ensures fits { KindFits cx.now.trees result }
+    ensures tree { kind_tree cx.now.trees result ≡ ty_tree cx.now.trees ty }
+    ensures takes { Takes (world cx.now) (kind_tree cx.now.trees result) }
+{
+    cx.well_formed();
+    cx.kind(ty)
+}
+
+/// What the column of auto traits asks about.
+#[tactic(auto, using(crate::proofs::Cells::auto_cell_of, crate::proofs::Cells::auto_fits))]
+fn auto_cell(cx: &Cx, ty: Ty) -> Asked
+    requires ty { IsTy cx.now.trees ty }
+    requires known { is_excluded (row_of cx.now (ty_tree cx.now.trees ty)).auto ≡ false }
+    ensures fits { AskedFits cx.now result }
+    ensures cell { asked_cell cx.now result ≡ (row_of cx.now (ty_tree cx.now.trees ty)).auto }
+{
+    asked_for_auto_trait(cx, kind_of(cx, ty))
+}
+
+/// What the column of sizedness traits asks about.
+#[tactic(auto, using(crate::proofs::Cells::sizedness_cell_of, crate::proofs::Cells::sizedness_fits))]
+fn sizedness_cell(cx: &Cx, sizedness: Sizedness, ty: Ty) -> Asked
+    requires ty { IsTy cx.now.trees ty }
+    requires known { is_excluded ((row_of cx.now (ty_tree cx.now.trees ty)).sizedness sizedness) ≡ false }
+    ensures fits { AskedFits cx.now result }
+    ensures cell { asked_cell cx.now result ≡ (row_of cx.now (ty_tree cx.now.trees ty)).sizedness sizedness }
+{
+    asked_for_sizedness_trait(sizedness, kind_of(cx, ty))
+}
+
+/// What the column of `Copy`, `Clone` and `TrivialClone` asks about.
+#[tactic(auto, using(crate::proofs::Cells::copy_cell_of, crate::proofs::Cells::copy_fits))]
+fn copy_clone_cell(cx: &Cx, ty: Ty) -> Asked
+    requires ty { IsTy cx.now.trees ty }
+    requires known { is_excluded (row_of cx.now (ty_tree cx.now.trees ty)).copy ≡ false }
+    ensures fits { AskedFits cx.now result }
+    ensures cell { asked_cell cx.now result ≡ (row_of cx.now (ty_tree cx.now.trees ty)).copy }
+{
+    asked_for_copy_clone_trait(kind_of(cx, ty))
+}
+
+fn under(asked: Asked) -> Under
+    ensures { result ≡ under_of asked }
+{
+    match asked {
+        Asked::Under(inner) => Under::Binder(inner.vars),
+        _ => Under::NoBinder,
+    }
+}
+
+fn is_refused(asked: Asked) -> bool
+    ensures { result ≡ seen.is_refused asked }
+{
+    matches!(asked, Asked::Refused)
+}
+
+/// The types that a cell asks about, under their binder.
+#[tactic(auto, using(crate::proofs::Cells::refused_cell, crate::proofs::Cells::asked_parts, crate::proofs::Cells::asked_stop, crate::proofs::Cells::under_kept))]
+fn constituents<M: Make>(
+    alloc: Global,
+    make: &mut M,
+    asked: Asked,
+) -> Result<Constituents, NoSolutionOrStop>
+    requires { AskedFits (M.context make.old) asked }
+    ensures grows { Grows (M.context make.old) (M.context make.new) }
+    ensures rest { M.rest make.new ≡ M.rest make.old }
+    ensures sort { IfOk result (λ c. ArePartsIn (M.context make.new).trees c) }
+    ensures parts { IfOk result (λ c. asked_cell (M.context make.old) asked ≡ Asks (parts_of (M.context make.new).trees c)) }
+    ensures refused { IfErr result (λ e. e ≡ NoSolutionOrStop.NoSolution → asked_cell (M.context make.old) asked ≡ Refused) }
+    ensures cause { IfErr result (λ e. (s : Stop) → e ≡ NoSolutionOrStop.Stop s → IsCellStop (length (M.context make.new).trees) (asked_cell (M.context make.old) asked) s) }
+{
+    if is_refused(asked) {
+        return Err(NoSolutionOrStop::NoSolution);
+    }
+    let types = made(alloc, make, asked)?;
+    Ok(Constituents {
+        under: under(asked),
+        types,
+    })
+}
