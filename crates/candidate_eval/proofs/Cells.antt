@@ -1,5 +1,5 @@
 -- The cells of the table, over the trees of kinds.
-use Rattle.std.proofs.Common.{◌≡◌, ℕ, List, [], ◌∷◌, ◌++◌, Bool, true, false, Option, Some, None, refl, sym, ◌∙◌, ap, subst}
+use Rattle.std.proofs.Common.{◌≡◌, ◌↔◌, IsTrue, not, ℕ, List, [], ◌∷◌, ◌++◌, Bool, true, false, Option, Some, None, refl, sym, ◌∙◌, ap, subst}
 use Rattle.std.specs.Prelude.{if◌then◌else◌}
 use Rattle.candidate_ir.specs.declared.ir.kinds.TyKind.{TyKind}
 use Rattle.candidate_ir.specs.declared.ir.kinds.TyKind.TheVariants as K
@@ -33,7 +33,7 @@ use Rattle.candidate_eval.specs.declared.structural.asked.Asked.{Asked}
 use Rattle.candidate_eval.specs.declared.structural.asked.Asked.TheVariants as A
 use Rattle.candidate_eval.specs.declared.structural.Under.{Under}
 use Rattle.candidate_eval.specs.Tables.{Cell, Refused, Asks, IsTypesStop, IsCellStop, asks, under, types_of, last_of, first_of, last_type, is_phantom, is_excluded, field_types, constraint_types, hidden_types, alias_row, row_of}
-use Rattle.candidate_eval.specs.Asked.{asked_types, asked_variables, asked_cell, is_refused, under_of, variables, IsUnder, AskedFits, owned_asked, alias_asked, auto_asked, unsized_asked, sizedness_asked, copy_asked}
+use Rattle.candidate_eval.specs.Asked.{asked_types, asked_variables, asked_cell, is_refused, under_of, variables, IsUnder, AskedFits, owned_asked, alias_asked, auto_asked, unsized_asked, sizedness_asked, copy_asked, is_opaque, auto_known, kind_known}
 
 -- The types among the children of a kind.
 
@@ -340,3 +340,66 @@ asked_parts old new a u ts g f e q m =
 
 pub asked_stop : (old : Context) (a : Asked) (given : ℕ) (s : Stop) → is_refused a ≡ false → IsTypesStop given (asked_types old a) s → IsCellStop given (asked_cell old a) s
 asked_stop old a given s e h = subst (λ (c : Cell). IsCellStop given c s) (sym (not-refused old a e)) h
+
+-- Which kinds a column excludes
+
+known-of : (b : Bool) (x : Bool) → x ≡ not b → IsTrue b ↔ (x ≡ false)
+known-of true x e = (λ t. e, λ t. refl)
+known-of false x e = (λ t. absurd cc, λ t. absurd (let z = sym e ∙ t in cc))
+
+auto_known-is : (c : Context) (k : TyKind) → is_excluded (row_of c (kind_tree c.trees k)).auto ≡ not (auto_known k)
+auto_known-is c (K.Pat t Pat.NotNull) = refl
+auto_known-is c (K.Pat t (Pat.Range from to)) = refl
+auto_known-is c (K.Alias a) = of a.kind _
+  where
+    of : (k : AliasKind) → (g : Forest) → is_excluded (alias_row c k a.id.0 g).auto ≡ not (is_opaque k)
+    of AK.Opaque g = refl
+    of AK.Projection g = refl
+    of AK.Inherent g = refl
+    of AK.Free g = refl
+auto_known-is c (K.Infer (I.TyVar n)) = refl
+auto_known-is c (K.Infer (I.IntVar n)) = refl
+auto_known-is c (K.Infer (I.FloatVar n)) = refl
+auto_known-is c _ = refl
+
+sizedness_known-is : (c : Context) (s : Sizedness) (k : TyKind) → is_excluded ((row_of c (kind_tree c.trees k)).sizedness s) ≡ not (kind_known k)
+sizedness_known-is c S.Sized K.Str = refl
+sizedness_known-is c S.MetaSized K.Str = refl
+sizedness_known-is c S.Sized (K.Slice t) = refl
+sizedness_known-is c S.MetaSized (K.Slice t) = refl
+sizedness_known-is c S.Sized (K.Dynamic p r) = refl
+sizedness_known-is c S.MetaSized (K.Dynamic p r) = refl
+sizedness_known-is c s (K.Pat t Pat.NotNull) = refl
+sizedness_known-is c s (K.Pat t (Pat.Range from to)) = refl
+sizedness_known-is c s (K.Alias a) = of a.kind _
+  where
+    of : (k : AliasKind) → (g : Forest) → is_excluded ((alias_row c k a.id.0 g).sizedness s) ≡ false
+    of AK.Opaque g = refl
+    of _ g = refl
+sizedness_known-is c s (K.Infer (I.TyVar n)) = refl
+sizedness_known-is c s (K.Infer (I.IntVar n)) = refl
+sizedness_known-is c s (K.Infer (I.FloatVar n)) = refl
+sizedness_known-is c s _ = refl
+
+copy_known-is : (c : Context) (k : TyKind) → is_excluded (row_of c (kind_tree c.trees k)).copy ≡ not (kind_known k)
+copy_known-is c (K.Pat t Pat.NotNull) = refl
+copy_known-is c (K.Pat t (Pat.Range from to)) = refl
+copy_known-is c (K.Alias a) = of a.kind _
+  where
+    of : (k : AliasKind) → (g : Forest) → is_excluded (alias_row c k a.id.0 g).copy ≡ false
+    of AK.Opaque g = refl
+    of _ g = refl
+copy_known-is c (K.Infer (I.TyVar n)) = refl
+copy_known-is c (K.Infer (I.IntVar n)) = refl
+copy_known-is c (K.Infer (I.FloatVar n)) = refl
+copy_known-is c _ = refl
+
+pub auto_known_of : (c : Context) (t : Ty) (k : TyKind) (b : Bool) → kind_tree c.trees k ≡ ty_tree c.trees t → b ≡ auto_known k → IsTrue b ↔ (is_excluded (row_of c (ty_tree c.trees t)).auto ≡ false)
+auto_known_of c t k b e q = known-of b _ (sym (ap (λ (u : Tree). is_excluded (row_of c u).auto) e) ∙ (auto_known-is c k ∙ sym (ap not q)))
+
+pub sizedness_known_of : (c : Context) (s : Sizedness) (t : Ty) (k : TyKind) (b : Bool) → kind_tree c.trees k ≡ ty_tree c.trees t → b ≡ kind_known k
+    → IsTrue b ↔ (is_excluded ((row_of c (ty_tree c.trees t)).sizedness s) ≡ false)
+sizedness_known_of c s t k b e q = known-of b _ (sym (ap (λ (u : Tree). is_excluded ((row_of c u).sizedness s)) e) ∙ (sizedness_known-is c s k ∙ sym (ap not q)))
+
+pub copy_known_of : (c : Context) (t : Ty) (k : TyKind) (b : Bool) → kind_tree c.trees k ≡ ty_tree c.trees t → b ≡ kind_known k → IsTrue b ↔ (is_excluded (row_of c (ty_tree c.trees t)).copy ≡ false)
+copy_known_of c t k b e q = known-of b _ (sym (ap (λ (u : Tree). is_excluded (row_of c u).copy) e) ∙ (copy_known-is c k ∙ sym (ap not q)))

@@ -5,6 +5,7 @@ use Rattle.candidate_ir.specs.declared.ir.kinds.TyKind.TheVariants as K
 use Rattle.candidate_ir.specs.declared.ir.kinds.AliasKind.{AliasKind}
 use Rattle.candidate_ir.specs.declared.ir.kinds.AliasKind.TheVariants as AK
 use Rattle.candidate_ir.specs.declared.ir.kinds.AliasTy.{AliasTy}
+use Rattle.candidate_ir.specs.declared.ir.kinds.InferTy.TheVariants as I
 use Rattle.candidate_ir.specs.declared.ir.kinds.AdtId.{AdtId}
 use Rattle.candidate_ir.specs.declared.ir.kinds.Args.{Args}
 use Rattle.candidate_ir.specs.declared.ir.kinds.GenericArg.{GenericArg}
@@ -130,6 +131,26 @@ copy_asked (K.Pat t p) = A.Type t
 copy_asked (K.Tuple a) = A.Members a
 copy_asked (K.Closure i a) = A.Type a.upvars
 copy_asked _ = A.Refused
+
+-- The kinds that a column excludes none of.
+
+abbrev pub is_opaque : AliasKind → Bool
+is_opaque AK.Opaque = true
+is_opaque _ = false
+
+abbrev pub auto_known : TyKind → Bool
+auto_known (K.Alias a) = is_opaque a.kind
+auto_known (K.Dynamic p r) = false
+auto_known (K.Param n) = false
+auto_known (K.Placeholder p) = false
+auto_known (K.Bound v) = false
+auto_known (K.Infer v) = false
+auto_known _ = true
+
+abbrev pub kind_known : TyKind → Bool
+kind_known (K.Bound v) = false
+kind_known (K.Infer (I.TyVar n)) = false
+kind_known _ = true
 
 -- What was made.
 

@@ -6,7 +6,9 @@ ghost use Rattle.candidate_ir.specs.Lookups as lookup;
 ghost use Rattle.candidate_eval.specs.Asked.{owned_asked, alias_asked, auto_asked, unsized_asked, sizedness_asked, copy_asked};
 
 use candidate_ir::decl::{Cx, Sizedness};
-use candidate_ir::ir::kinds::{AdtId, AliasId, AliasKind, AliasTy, Args, Binder, InferTy, Ty, TyKind};
+use candidate_ir::ir::kinds::{
+    AdtId, AliasId, AliasKind, AliasTy, Args, Binder, InferTy, Ty, TyKind,
+};
 
 /// What a cell asks about.
 #[derive(Clone, Copy)]
@@ -108,10 +110,8 @@ pub(crate) fn asked_for_sizedness_trait(sizedness: Sizedness, kind: TyKind) -> A
         | TyKind::Error
         | TyKind::Infer(_) => Asked::Nothing,
         TyKind::Str | TyKind::Slice(_) | TyKind::Dynamic(_, _) => unsized_type(sizedness),
-        TyKind::Array(_, _)
-        | TyKind::Pat(_, _)
-        | TyKind::RawPtr(_, _)
-        | TyKind::Ref(_, _, _) => Asked::Nothing,
+        TyKind::Array(_, _) | TyKind::Pat(_, _) | TyKind::RawPtr(_, _) | TyKind::Ref(_, _, _) =>
+            Asked::Nothing,
         TyKind::Tuple(members) => Asked::LastMember(members),
         TyKind::Closure(_, _) => Asked::Nothing,
         TyKind::UnsafeBinder(inner) => Asked::Under(inner),

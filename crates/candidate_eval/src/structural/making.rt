@@ -192,12 +192,7 @@ fn substituted<M: Make>(
 }
 
 /// The types of the fields of the data type, with arguments put in, in order.
-fn field_tys<M: Make>(
-    alloc: Global,
-    make: &mut M,
-    adt: AdtId,
-    args: Args,
-) -> Result<Vec<Ty>, Stop>
+fn field_tys<M: Make>(alloc: Global, make: &mut M, adt: AdtId, args: Args) -> Result<Vec<Ty>, Stop>
     requires args { IsArgs (M.context make.old).trees args }
     requires fit { parameters (world (M.context make.old)) AdtSort adt.0 ≡ Some (kinds_of (args_forest (M.context make.old).trees args)) }
     ensures grows { Grows (M.context make.old) (M.context make.new) }

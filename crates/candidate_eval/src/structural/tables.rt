@@ -6,7 +6,7 @@ ghost use Rattle.candidate_ir.specs.References.{Takes};
 ghost use Rattle.candidate_ir.specs.Words.{IsTy, KindFits, kind_tree, ty_tree};
 ghost use Rattle.candidate_eval.specs.Tables.{Cell, Asks, row_of, is_excluded, IsCellStop};
 ghost use Rattle.candidate_eval.specs.Tables.{Refused};
-ghost use Rattle.candidate_eval.specs.Asked.{AskedFits, asked_cell, under_of, parts_of, ArePartsIn};
+ghost use Rattle.candidate_eval.specs.Asked.{AskedFits, asked_cell, under_of, parts_of, ArePartsIn, is_opaque, auto_known, kind_known};
 ghost use Rattle.candidate_eval.specs.Asked as seen;
 
 use crate::eval::refusal::NoSolutionOrStop;
@@ -17,7 +17,7 @@ use crate::structural::making::made;
 use crate::structural::{Constituents, Under};
 use candidate_ir::decl::make::Make;
 use candidate_ir::decl::{Cx, Sizedness};
-use candidate_ir::ir::kinds::{Ty, TyKind};
+use candidate_ir::ir::kinds::{AliasKind, AliasTy, InferTy, Ty, TyKind};
 use candidate_ir::ir::stop::Stop;
 use std::alloc::Global;
 
@@ -104,4 +104,133 @@ fn constituents<M: Make>(
         under: under(asked),
         types,
     })
+}
+
+/// The types that have to meet an auto trait for the type to.
+///
+/// No integer, float or general variable, no `dyn` type, no parameter, placeholder or bound type, and
+/// no alias but an opaque type is asked about (`has_auto_trait_cell`). It is never refused.
+/// `Stop::Memory` comes where a growth was refused, `Stop::NodesFull` where one of the types was not
+/// made, as by `subst`; after a stop the nodes that were made stay.
+pub fn instantiate_constituent_tys_for_auto_trait<M: Make>(
+    alloc: Global,
+    make: &mut M,
+    ty: Ty,
+) -> Result<Constituents, NoSolutionOrStop>
+    requires ty { IsTy (M.context make.old).trees ty }
+    requires known { is_excluded (row_of (M.context make.old) (ty_tree (M.context make.old).trees ty)).auto ≡ false }
+    ensures grows { Grows (M.context make.old) (M.context make.new) }
+    ensures rest { M.rest make.new ≡ M.rest make.old }
+    ensures sort { IfOk result (λ c. ArePartsIn (M.context make.new).trees c) }
+    ensures types { IfOk result (λ c. (row_of (M.context make.old) (ty_tree (M.context make.old).trees ty)).auto ≡ Asks (parts_of (M.context make.new).trees c)) }
+    ensures refused { IfErr result (λ e. e ≡ NoSolutionOrStop.NoSolution → (row_of (M.context make.old) (ty_tree (M.context make.old).trees ty)).auto ≡ Refused) }
+    ensures cause { IfErr result (λ e. (s : Stop) → e ≡ NoSolutionOrStop.Stop s → IsCellStop (length (M.context make.new).trees) (row_of (M.context make.old) (ty_tree (M.context make.old).trees ty)).auto s) }
+{
+    let asked = auto_cell(make.cx(), ty);
+    constituents(alloc, make, asked)
+}
+
+/// The types that have to be sized, in this sense, for the type to be.
+///
+/// No general variable and no bound type is asked about (`has_sizedness_trait_cell`). `NoSolution`
+/// comes where the type is never sized, or not known to be: foreign types, aliases, parameters and
+/// placeholders, and for `Sized` also `str`, slices and `dyn` types. It stops as the call for auto
+/// traits does.
+pub fn instantiate_constituent_tys_for_sizedness_trait<M: Make>(
+    alloc: Global,
+    make: &mut M,
+    sizedness: Sizedness,
+    ty: Ty,
+) -> Result<Constituents, NoSolutionOrStop>
+    requires ty { IsTy (M.context make.old).trees ty }
+    requires known { is_excluded ((row_of (M.context make.old) (ty_tree (M.context make.old).trees ty)).sizedness sizedness) ≡ false }
+    ensures grows { Grows (M.context make.old) (M.context make.new) }
+    ensures rest { M.rest make.new ≡ M.rest make.old }
+    ensures sort { IfOk result (λ c. ArePartsIn (M.context make.new).trees c) }
+    ensures types { IfOk result (λ c. (row_of (M.context make.old) (ty_tree (M.context make.old).trees ty)).sizedness sizedness ≡ Asks (parts_of (M.context make.new).trees c)) }
+    ensures refused { IfErr result (λ e. e ≡ NoSolutionOrStop.NoSolution → (row_of (M.context make.old) (ty_tree (M.context make.old).trees ty)).sizedness sizedness ≡ Refused) }
+    ensures cause { IfErr result (λ e. (s : Stop) → e ≡ NoSolutionOrStop.Stop s → IsCellStop (length (M.context make.new).trees) ((row_of (M.context make.old) (ty_tree (M.context make.old).trees ty)).sizedness sizedness) s) }
+{
+    let asked = sizedness_cell(make.cx(), sizedness, ty);
+    constituents(alloc, make, asked)
+}
+
+/// The types that have to be `Copy`, `Clone` or `TrivialClone` for the type to be, by the rule that
+/// the language has for it.
+///
+/// No general variable and no bound type is asked about (`has_copy_clone_trait_cell`). `NoSolution`
+/// comes where no rule is built in for the type. It stops as the call for auto traits does.
+pub fn instantiate_constituent_tys_for_copy_clone_trait<M: Make>(
+    alloc: Global,
+    make: &mut M,
+    ty: Ty,
+) -> Result<Constituents, NoSolutionOrStop>
+    requires ty { IsTy (M.context make.old).trees ty }
+    requires known { is_excluded (row_of (M.context make.old) (ty_tree (M.context make.old).trees ty)).copy ≡ false }
+    ensures grows { Grows (M.context make.old) (M.context make.new) }
+    ensures rest { M.rest make.new ≡ M.rest make.old }
+    ensures sort { IfOk result (λ c. ArePartsIn (M.context make.new).trees c) }
+    ensures types { IfOk result (λ c. (row_of (M.context make.old) (ty_tree (M.context make.old).trees ty)).copy ≡ Asks (parts_of (M.context make.new).trees c)) }
+    ensures refused { IfErr result (λ e. e ≡ NoSolutionOrStop.NoSolution → (row_of (M.context make.old) (ty_tree (M.context make.old).trees ty)).copy ≡ Refused) }
+    ensures cause { IfErr result (λ e. (s : Stop) → e ≡ NoSolutionOrStop.Stop s → IsCellStop (length (M.context make.new).trees) (row_of (M.context make.old) (ty_tree (M.context make.old).trees ty)).copy s) }
+{
+    let asked = copy_clone_cell(make.cx(), ty);
+    constituents(alloc, make, asked)
+}
+
+fn is_opaque(alias: AliasTy) -> bool
+    ensures { result ≡ is_opaque alias.kind }
+{
+    matches!(alias.kind, AliasKind::Opaque)
+}
+
+fn has_auto_trait_kind(kind: TyKind) -> bool
+    ensures { result ≡ auto_known kind }
+{
+    match kind {
+        TyKind::Alias(alias) => is_opaque(alias),
+        TyKind::Dynamic(_, _)
+        | TyKind::Param(_)
+        | TyKind::Placeholder(_)
+        | TyKind::Bound(_)
+        | TyKind::Infer(_) => false,
+        _ => true,
+    }
+}
+
+fn is_no_unknown(kind: TyKind) -> bool
+    ensures { result ≡ kind_known kind }
+{
+    !matches!(kind, TyKind::Bound(_) | TyKind::Infer(InferTy::TyVar(_)))
+}
+
+/// Whether auto traits are asked about the type: what
+/// `instantiate_constituent_tys_for_auto_trait` takes.
+#[tactic(auto, using(crate::proofs::Cells::auto_known_of))]
+pub fn has_auto_trait_cell(cx: &Cx, ty: Ty) -> bool
+    requires { IsTy cx.now.trees ty }
+    ensures { IsTrue result ↔ (is_excluded (row_of cx.now (ty_tree cx.now.trees ty)).auto ≡ false) }
+{
+    has_auto_trait_kind(cx.kind(ty))
+}
+
+/// Whether sizedness traits are asked about the type: what
+/// `instantiate_constituent_tys_for_sizedness_trait` takes.
+#[tactic(auto, using(crate::proofs::Cells::sizedness_known_of))]
+pub fn has_sizedness_trait_cell(cx: &Cx, sizedness: Sizedness, ty: Ty) -> bool
+    requires { IsTy cx.now.trees ty }
+    ensures { IsTrue result ↔ (is_excluded ((row_of cx.now (ty_tree cx.now.trees ty)).sizedness sizedness) ≡ false) }
+{
+    let _ = sizedness;
+    is_no_unknown(cx.kind(ty))
+}
+
+/// Whether `Copy`, `Clone` and `TrivialClone` are asked about the type: what
+/// `instantiate_constituent_tys_for_copy_clone_trait` takes.
+#[tactic(auto, using(crate::proofs::Cells::copy_known_of))]
+pub fn has_copy_clone_trait_cell(cx: &Cx, ty: Ty) -> bool
+    requires { IsTy cx.now.trees ty }
+    ensures { IsTrue result ↔ (is_excluded (row_of cx.now (ty_tree cx.now.trees ty)).copy ≡ false) }
+{
+    is_no_unknown(cx.kind(ty))
 }
