@@ -48,6 +48,8 @@ mod rejections;
 #[cfg(test)]
 mod samples;
 #[cfg(test)]
+mod structures;
+#[cfg(test)]
 mod substitutions;
 #[cfg(test)]
 mod super_clauses;
