@@ -32,8 +32,8 @@ use Rattle.candidate_ir.proofs.Rows.{join-none, kind-of, row-single, row-list}
 use Rattle.candidate_eval.specs.declared.structural.asked.Asked.{Asked}
 use Rattle.candidate_eval.specs.declared.structural.asked.Asked.TheVariants as A
 use Rattle.candidate_eval.specs.declared.structural.Under.{Under}
-use Rattle.candidate_eval.specs.Tables.{Cell, Refused, Asks, IsTypesStop, IsCellStop, asks, under, types_of, last_of, first_of, last_type, is_phantom, is_excluded, field_types, constraint_types, hidden_types, alias_row, row_of}
-use Rattle.candidate_eval.specs.Asked.{asked_types, asked_variables, asked_cell, is_refused, under_of, variables, IsUnder, AskedFits, owned_asked, alias_asked, auto_asked, unsized_asked, sizedness_asked, copy_asked, is_opaque, auto_known, kind_known}
+use Rattle.candidate_eval.specs.Tables.{Cell, Refused, Asks, IsTypesStop, IsCellStop, asks, under, types_of, last_of, first_of, last_type, is_phantom, is_manually_drop, is_excluded, field_types, constraint_types, hidden_types, alias_row, row_of}
+use Rattle.candidate_eval.specs.Asked.{asked_types, asked_variables, asked_cell, is_refused, under_of, variables, IsUnder, AskedFits, owned_asked, alias_asked, auto_asked, unsized_asked, sizedness_asked, copy_asked, destruct_asked, is_opaque, auto_known, kind_known}
 
 -- The types among the children of a kind.
 
@@ -403,3 +403,69 @@ sizedness_known_of c s t k b e q = known-of b _ (sym (ap (λ (u : Tree). is_excl
 
 pub copy_known_of : (c : Context) (t : Ty) (k : TyKind) (b : Bool) → kind_tree c.trees k ≡ ty_tree c.trees t → b ≡ kind_known k → IsTrue b ↔ (is_excluded (row_of c (ty_tree c.trees t)).copy ≡ false)
 copy_known_of c t k b e q = known-of b _ (sym (ap (λ (u : Tree). is_excluded (row_of c u).copy) e) ∙ (copy_known-is c k ∙ sym (ap not q)))
+
+-- `Destruct`
+
+dropped-cell : (c : Context) (i : AdtId) (a : Args) (b : Bool) (f : Forest) → f ≡ args_forest c.trees a
+    → asked_cell c (if b then A.Nothing else A.Fields i a) ≡ asks (if b then [] else field_types c i.0 f)
+dropped-cell c i a true f e = refl
+dropped-cell c i a false f e = ap (λ (x : Forest). asks (field_types c i.0 x)) (sym e)
+
+destruct_cell : (c : Context) (k : TyKind) → KindFits c.trees k → is_excluded (row_of c (kind_tree c.trees k)).destruct ≡ false → asked_cell c (destruct_asked c k) ≡ (row_of c (kind_tree c.trees k)).destruct
+destruct_cell c K.Bool f x = refl
+destruct_cell c K.Char f x = refl
+destruct_cell c (K.Int w) f x = refl
+destruct_cell c (K.Uint w) f x = refl
+destruct_cell c (K.Float w) f x = refl
+destruct_cell c K.Str f x = refl
+destruct_cell c K.Never f x = refl
+destruct_cell c (K.Adt i a) f x = let e : IsArgs c.trees a = cc in dropped-cell c i a (is_manually_drop (adt_flags (definition c i.0))) _ (below-list c.trees a e)
+destruct_cell c (K.Foreign i) f x = refl
+destruct_cell c (K.Array t n) f x =
+    let e : kind_at c.trees t.0 ≡ TypeKind = cc in
+    let g : kind_at c.trees n.0 ≡ ConstantKind = cc in
+    sym (ap asks (one-more c.trees t.0 _ e ∙ ap (λ (xs : List Tree). tree_at c.trees t.0 ∷ xs) (no-more c.trees n.0 ConstantKind none refl refl refl g)))
+destruct_cell c (K.Slice t) f x = let e : kind_at c.trees t.0 ≡ TypeKind = cc in sym (ap asks (one-more c.trees t.0 none e))
+destruct_cell c (K.Pat t Pat.NotNull) f x = sym (ap asks (pattern-types c.trees t Pat.NotNull f))
+destruct_cell c (K.Pat t (Pat.Range from to)) f x = sym (ap asks (pattern-types c.trees t (Pat.Range from to) f))
+destruct_cell c (K.RawPtr t m) f x = refl
+destruct_cell c (K.Ref r t m) f x = refl
+destruct_cell c (K.FnDef i a) f x = refl
+destruct_cell c (K.FnPtr s) f x = refl
+destruct_cell c (K.UnsafeBinder b) f x = refl
+destruct_cell c (K.Dynamic p r) f x = refl
+destruct_cell c (K.Closure i a) f x = sym (ap asks (closure-types c.trees i a f))
+destruct_cell c (K.Tuple a) f x = let e : IsArgs c.trees a = cc in sym (ap (λ (y : Forest). asks (types_of y)) (below-list c.trees a e))
+destruct_cell c (K.Alias a) f x = of a.kind _
+  where
+    of : (k : AliasKind) → (g : Forest) → asked_cell c A.Refused ≡ (alias_row c k a.id.0 g).destruct
+    of AK.Opaque g = refl
+    of _ g = refl
+destruct_cell c (K.Param n) f x = refl
+destruct_cell c (K.Placeholder p) f x = refl
+destruct_cell c (K.Bound v) f x = absurd cc
+destruct_cell c (K.Infer (I.TyVar n)) f x = absurd cc
+destruct_cell c (K.Infer (I.IntVar n)) f x = refl
+destruct_cell c (K.Infer (I.FloatVar n)) f x = refl
+destruct_cell c K.Error f x = refl
+
+dropped-fits : (c : Context) (i : AdtId) (a : Args) (b : Bool) → IsArgs c.trees a × (parameters (world c) AdtSort i.0 ≡ Some (kinds_of (args_forest c.trees a)))
+    → AskedFits c (if b then A.Nothing else A.Fields i a)
+dropped-fits c i a true e = tt
+dropped-fits c i a false e = e
+
+pub destruct_fits : (c : Context) (k : TyKind) → KindFits c.trees k → Takes (world c) (kind_tree c.trees k) → AskedFits c (destruct_asked c k)
+destruct_fits c (K.Adt i a) f t = dropped-fits c i a (is_manually_drop (adt_flags (definition c i.0))) (adt-fits c i a f t)
+destruct_fits c (K.Array t n) f x = cc
+destruct_fits c (K.Slice t) f x = cc
+destruct_fits c (K.Pat t Pat.NotNull) f x = cc
+destruct_fits c (K.Pat t (Pat.Range from to)) f x = cc
+destruct_fits c (K.Closure i a) f x = cc
+destruct_fits c (K.Tuple a) f x = cc
+destruct_fits c _ f x = tt
+
+pub destruct_cell_of : (c : Context) (t : Ty) (k : TyKind) (a : Asked) → KindFits c.trees k → kind_tree c.trees k ≡ ty_tree c.trees t → is_excluded (row_of c (ty_tree c.trees t)).destruct ≡ false
+    → a ≡ destruct_asked c k → asked_cell c a ≡ (row_of c (ty_tree c.trees t)).destruct
+destruct_cell_of c t k a f e x q =
+    ap (asked_cell c) q
+    ∙ (destruct_cell c k f (ap (λ (u : Tree). is_excluded (row_of c u).destruct) e ∙ x) ∙ ap (λ (u : Tree). (row_of c u).destruct) e)

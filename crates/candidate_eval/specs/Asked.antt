@@ -24,7 +24,7 @@ use Rattle.candidate_eval.specs.declared.structural.asked.Asked.TheVariants as A
 use Rattle.candidate_eval.specs.declared.structural.Constituents.{Constituents}
 use Rattle.candidate_eval.specs.declared.structural.Under.{Under}
 use Rattle.candidate_eval.specs.declared.structural.Under.TheVariants as U
-use Rattle.candidate_eval.specs.Tables.{Parts, Cell, Refused, Asks, types_of, last_type, first_of, bytes, is_phantom, field_types, constraint_types, hidden_types}
+use Rattle.candidate_eval.specs.Tables.{Parts, Cell, Refused, Asks, types_of, last_type, first_of, bytes, is_phantom, is_manually_drop, field_types, constraint_types, hidden_types}
 
 -- the types that it asks about, and the variables of the binder that they stand under
 abbrev pub asked_types : Context → Asked → List Tree
@@ -131,6 +131,25 @@ copy_asked (K.Pat t p) = A.Type t
 copy_asked (K.Tuple a) = A.Members a
 copy_asked (K.Closure i a) = A.Type a.upvars
 copy_asked _ = A.Refused
+
+abbrev pub dropped_asked : Context → AdtId → Args → Asked
+dropped_asked c i a = if is_manually_drop (adt_flags (definition c i.0)) then A.Nothing else A.Fields i a
+
+abbrev pub destruct_asked : Context → TyKind → Asked
+destruct_asked c (K.Slice t) = A.Type t
+destruct_asked c (K.Array t n) = A.Type t
+destruct_asked c (K.Pat t p) = A.Type t
+destruct_asked c (K.Tuple a) = A.Members a
+destruct_asked c (K.Closure i a) = A.Type a.upvars
+destruct_asked c (K.Adt i a) = dropped_asked c i a
+destruct_asked c (K.Dynamic p r) = A.Refused
+destruct_asked c (K.UnsafeBinder b) = A.Refused
+destruct_asked c (K.Foreign i) = A.Refused
+destruct_asked c (K.Alias a) = A.Refused
+destruct_asked c (K.Param n) = A.Refused
+destruct_asked c (K.Placeholder p) = A.Refused
+destruct_asked c (K.Bound v) = A.Refused
+destruct_asked c _ = A.Nothing
 
 -- The kinds that a column excludes none of.
 

@@ -15,6 +15,7 @@ pub mod Lawful
 pub mod Evaluators
 pub mod Tables
 pub mod Asked
+pub mod Destruct
 pub mod Normalizer
 pub mod Answers
 pub mod Orphan

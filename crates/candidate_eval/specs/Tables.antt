@@ -120,6 +120,14 @@ is_phantom (Some f) = f.phantom_data
 abbrev pub owned_types : Context → ℕ → Forest → List Tree
 owned_types c i args = if is_phantom (adt_flags (definition c i)) then first_of args else field_types c i args
 
+-- whether its fields aren't dropped with it
+abbrev pub is_manually_drop : Option AdtFlags → Bool
+is_manually_drop None = false
+is_manually_drop (Some f) = f.manually_drop
+
+abbrev pub dropped_types : Context → ℕ → Forest → List Tree
+dropped_types c i args = if is_manually_drop (adt_flags (definition c i)) then [] else field_types c i args
+
 -- The table.
 
 abbrev pub scalar : Row
@@ -159,7 +167,7 @@ row c H.Dynamic below = cells Excluded unsized Refused Refused
 row c (H.Ref _) below = cells (asks (types_of below)) (always nothing) Refused nothing
 row c (H.Closure _ _) below = cells (asks (last_type below)) (always nothing) (asks (last_type below)) (asks (last_type below))
 row c (H.Foreign _) below = cells nothing (always Refused) Refused Refused
-row c (H.Adt i) below = cells (asks (owned_types c i.0 below)) (λ s. asks (constraint_types c i.0 below s)) Refused (asks (field_types c i.0 below))
+row c (H.Adt i) below = cells (asks (owned_types c i.0 below)) (λ s. asks (constraint_types c i.0 below s)) Refused (asks (dropped_types c i.0 below))
 row c (H.Alias k i) below = alias_row c k i.0 below
 row c (H.Param _) below = cells Excluded (always Refused) Refused Refused
 row c (H.Placeholder _) below = cells Excluded (always Refused) Refused Refused

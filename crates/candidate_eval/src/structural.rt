@@ -2,6 +2,7 @@
 
 pub(crate) mod asked;
 mod making;
+pub mod destruct;
 pub mod tables;
 
 use candidate_ir::ir::kinds::{Ty, Vars};

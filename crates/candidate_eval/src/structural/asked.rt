@@ -3,7 +3,7 @@
 ghost use Rattle.std.specs.Prelude.{◌≡◌, false};
 ghost use Rattle.candidate_ir.specs.Context.{world};
 ghost use Rattle.candidate_ir.specs.Lookups as lookup;
-ghost use Rattle.candidate_eval.specs.Asked.{owned_asked, alias_asked, auto_asked, unsized_asked, sizedness_asked, copy_asked};
+ghost use Rattle.candidate_eval.specs.Asked.{owned_asked, alias_asked, auto_asked, unsized_asked, sizedness_asked, copy_asked, dropped_asked, destruct_asked};
 
 use candidate_ir::decl::{Cx, Sizedness};
 use candidate_ir::ir::kinds::{
@@ -152,5 +152,49 @@ pub(crate) fn asked_for_copy_clone_trait(kind: TyKind) -> Asked
         | TyKind::Placeholder(_)
         | TyKind::Bound(_)
         | TyKind::Infer(_) => Asked::Refused,
+    }
+}
+
+fn dropped_types(cx: &Cx, adt: AdtId, args: Args) -> Asked
+    ensures { result ≡ dropped_asked cx.now adt args }
+{
+    match cx.adt_flags(adt) {
+        Some(flags) => if flags.manually_drop {
+            Asked::Nothing
+        } else {
+            Asked::Fields(adt, args)
+        },
+        None => Asked::Fields(adt, args),
+    }
+}
+
+/// The column of `Destruct`, without what the type itself has to meet.
+pub(crate) fn asked_for_destruct(cx: &Cx, kind: TyKind) -> Asked
+    ensures { result ≡ destruct_asked cx.now kind }
+{
+    match kind {
+        TyKind::Bool
+        | TyKind::Char
+        | TyKind::Int(_)
+        | TyKind::Uint(_)
+        | TyKind::Float(_)
+        | TyKind::Never
+        | TyKind::FnDef(_, _)
+        | TyKind::FnPtr(_)
+        | TyKind::Error
+        | TyKind::Infer(_)
+        | TyKind::Str => Asked::Nothing,
+        TyKind::Slice(ty) | TyKind::Array(ty, _) | TyKind::Pat(ty, _) => Asked::Type(ty),
+        TyKind::RawPtr(_, _) | TyKind::Ref(_, _, _) => Asked::Nothing,
+        TyKind::Tuple(members) => Asked::Members(members),
+        TyKind::Closure(_, args) => Asked::Type(args.upvars),
+        TyKind::Adt(id, args) => dropped_types(cx, id, args),
+        TyKind::Dynamic(_, _)
+        | TyKind::UnsafeBinder(_)
+        | TyKind::Foreign(_)
+        | TyKind::Alias(_)
+        | TyKind::Param(_)
+        | TyKind::Placeholder(_)
+        | TyKind::Bound(_) => Asked::Refused,
     }
 }

@@ -23,7 +23,7 @@ use std::alloc::Global;
 
 /// The kind of the type, whose arguments are those that it takes.
 #[tactic(auto, using(crate::proofs::Cells::kind_takes))]
-fn kind_of(cx: &Cx, ty: Ty) -> TyKind
+pub(crate) fn kind_of(cx: &Cx, ty: Ty) -> TyKind
     requires { IsTy cx.now.trees ty }
     ensures fits { KindFits cx.now.trees result }
     ensures tree { kind_tree cx.now.trees result ≡ ty_tree cx.now.trees ty }
