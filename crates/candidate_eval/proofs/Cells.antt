@@ -318,7 +318,7 @@ pub refused_cell : (c : Context) (a : Asked) → is_refused a ≡ true → asked
 refused_cell c A.Refused e = refl
 refused_cell c _ e = absurd cc
 
-not-refused : (c : Context) (a : Asked) → is_refused a ≡ false → asked_cell c a ≡ Asks (record { variables = asked_variables c a; types = asked_types c a })
+pub not-refused : (c : Context) (a : Asked) → is_refused a ≡ false → asked_cell c a ≡ Asks (record { variables = asked_variables c a; types = asked_types c a })
 not-refused c A.Refused e = absurd cc
 not-refused c _ e = refl
 
@@ -469,3 +469,19 @@ pub destruct_cell_of : (c : Context) (t : Ty) (k : TyKind) (a : Asked) → KindF
 destruct_cell_of c t k a f e x q =
     ap (asked_cell c) q
     ∙ (destruct_cell c k f (ap (λ (u : Tree). is_excluded (row_of c u).destruct) e ∙ x) ∙ ap (λ (u : Tree). (row_of c u).destruct) e)
+
+destruct_known-is : (c : Context) (k : TyKind) → is_excluded (row_of c (kind_tree c.trees k)).destruct ≡ not (kind_known k)
+destruct_known-is c (K.Pat t Pat.NotNull) = refl
+destruct_known-is c (K.Pat t (Pat.Range from to)) = refl
+destruct_known-is c (K.Alias a) = of a.kind _
+  where
+    of : (k : AliasKind) → (g : Forest) → is_excluded (alias_row c k a.id.0 g).destruct ≡ false
+    of AK.Opaque g = refl
+    of _ g = refl
+destruct_known-is c (K.Infer (I.TyVar n)) = refl
+destruct_known-is c (K.Infer (I.IntVar n)) = refl
+destruct_known-is c (K.Infer (I.FloatVar n)) = refl
+destruct_known-is c _ = refl
+
+pub destruct_known_of : (c : Context) (t : Ty) (k : TyKind) (b : Bool) → kind_tree c.trees k ≡ ty_tree c.trees t → b ≡ kind_known k → IsTrue b ↔ (is_excluded (row_of c (ty_tree c.trees t)).destruct ≡ false)
+destruct_known_of c t k b e q = known-of b _ (sym (ap (λ (u : Tree). is_excluded (row_of c u).destruct) e) ∙ (destruct_known-is c k ∙ sym (ap not q)))

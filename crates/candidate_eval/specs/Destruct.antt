@@ -10,6 +10,8 @@ use Rattle.candidate_ir.specs.declared.ir.kinds.TraitId.{TraitId}
 use Rattle.candidate_ir.specs.declared.ir.kinds.TraitRef.{TraitRef}
 use Rattle.candidate_ir.specs.declared.ir.stop.Stop.{Stop}
 use Rattle.candidate_ir.specs.declared.ir.stop.Stop.TheVariants.{Memory}
+use Rattle.candidate_ir.specs.declared.ir.kinds.TyKind.{TyKind}
+use Rattle.candidate_ir.specs.declared.ir.kinds.TyKind.TheVariants as K
 use Rattle.candidate_ir.specs.Trees.{Tree}
 use Rattle.candidate_ir.specs.Context.{Context}
 use Rattle.candidate_ir.specs.Declaring.{adt_at, item_number}
@@ -19,6 +21,8 @@ use Rattle.candidate_ir.specs.References.{reference_of}
 use Rattle.candidate_ir.specs.Substitutions.{alone}
 use Rattle.candidate_ir.specs.Worlds.{Reference}
 use Rattle.candidate_ir.specs.Words.{IsArgs}
+use Rattle.candidate_eval.specs.declared.structural.destruct.OwnDrop.{OwnDrop}
+use Rattle.candidate_eval.specs.declared.structural.destruct.OwnDrop.TheVariants as O
 use Rattle.candidate_eval.specs.Tables.{Cell, Asks, row_of, is_manually_drop}
 
 -- the trait that is the lang item, if one is
@@ -75,3 +79,29 @@ pub record IsReferenceStop (given : ℕ) (rs : List Reference) (s : Stop) : Type
 abbrev pub IsConditionsStop : ℕ → Option (List Reference) → Stop → Type 0
 IsConditionsStop given None s = ⊥
 IsConditionsStop given (Some rs) s = (s ≡ Memory) ⊎ IsReferenceStop given rs s
+
+-- What the type itself has to meet, as it is read.
+
+abbrev pub kind_destructor : Context → TyKind → Option Destructor
+kind_destructor c (K.Adt i a) = if is_manually_drop (adt_flags (definition c i.0)) then None else maybe None (λ a. a.destructor) (adt_at c i.0)
+kind_destructor c _ = None
+
+abbrev pub drop_by : Option TraitId → OwnDrop
+drop_by None = O.Refused
+drop_by (Some i) = O.Drop i
+
+abbrev pub own_drop_of : Context → Option Destructor → OwnDrop
+own_drop_of c None = O.Nothing
+own_drop_of c (Some D.NotConst) = O.Refused
+own_drop_of c (Some D.Const) = drop_by (lang c L.Drop)
+
+abbrev pub is_refused : OwnDrop → Bool
+is_refused O.Refused = true
+is_refused _ = false
+
+abbrev pub own_references : Tree → OwnDrop → List Reference
+own_references t (O.Drop i) = meets i t ∷ []
+own_references t _ = []
+
+abbrev pub all_references : TraitId → List Tree → Tree → OwnDrop → List Reference
+all_references i ts t o = map (meets i) ts ++ own_references t o

@@ -1,8 +1,8 @@
 //! The structural tables: the types that the builtin rules ask about, for each kind of type.
 
 pub(crate) mod asked;
-mod making;
 pub mod destruct;
+mod making;
 pub mod tables;
 
 use candidate_ir::ir::kinds::{Ty, Vars};

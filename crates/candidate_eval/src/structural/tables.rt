@@ -75,7 +75,7 @@ fn under(asked: Asked) -> Under
     }
 }
 
-fn is_refused(asked: Asked) -> bool
+pub(crate) fn is_refused(asked: Asked) -> bool
     ensures { result ≡ seen.is_refused asked }
 {
     matches!(asked, Asked::Refused)
@@ -231,6 +231,15 @@ pub fn has_sizedness_trait_cell(cx: &Cx, sizedness: Sizedness, ty: Ty) -> bool
 pub fn has_copy_clone_trait_cell(cx: &Cx, ty: Ty) -> bool
     requires { IsTy cx.now.trees ty }
     ensures { IsTrue result ↔ (is_excluded (row_of cx.now (ty_tree cx.now.trees ty)).copy ≡ false) }
+{
+    is_no_unknown(cx.kind(ty))
+}
+
+/// Whether `Destruct` is asked about the type: what `const_conditions_for_destruct` takes.
+#[tactic(auto, using(crate::proofs::Cells::destruct_known_of))]
+pub fn has_destruct_cell(cx: &Cx, ty: Ty) -> bool
+    requires { IsTy cx.now.trees ty }
+    ensures { IsTrue result ↔ (is_excluded (row_of cx.now (ty_tree cx.now.trees ty)).destruct ≡ false) }
 {
     is_no_unknown(cx.kind(ty))
 }
