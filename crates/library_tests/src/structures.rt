@@ -7,22 +7,23 @@ ghost use Rattle.candidate_ir.specs.Words.{IsTy};
 ghost use Rattle.candidate_eval.specs.Asked.{ArePartsIn};
 
 use crate::asserts::{equals, holds};
-use crate::builders::{args, push_arg, ty};
+use crate::builders::{adt, args, push_arg, ty};
 use crate::kinds::sides;
 use crate::reading::{Reader, Reading};
 use crate::samples::{BOX, VEC, add_samples};
 use candidate_eval::eval::refusal::NoSolutionOrStop;
+use candidate_eval::structural::destruct::const_conditions_for_destruct;
 use candidate_eval::structural::tables::{
-    has_auto_trait_cell, has_copy_clone_trait_cell, has_sizedness_trait_cell,
+    has_auto_trait_cell, has_copy_clone_trait_cell, has_destruct_cell, has_sizedness_trait_cell,
     instantiate_constituent_tys_for_auto_trait, instantiate_constituent_tys_for_copy_clone_trait,
     instantiate_constituent_tys_for_sizedness_trait,
 };
 use candidate_eval::structural::{Constituents, Under};
 use candidate_ir::decl::builder::DeclsBuilder;
-use candidate_ir::decl::contents::Sizedness;
+use candidate_ir::decl::contents::{Destructor, LangItem, Sizedness};
 use candidate_ir::decl::context::Cx;
-use candidate_ir::decl::definition::{AdtFlags, CrateId};
-use candidate_ir::ir::kinds::{GenericArg, Ty, TyKind};
+use candidate_ir::decl::definition::{AdtFlags, AdtShape, CrateId, TraitFlags};
+use candidate_ir::ir::kinds::{AdtId, GenericArg, Ty, TyKind, UintTy};
 use std::alloc::Global;
 use std::process::Abort;
 
@@ -194,6 +195,66 @@ fn check_cell(
     }
 }
 
+/// A data type with a field, its destructor, and the lang items that are declared.
+#[derive(Clone, Copy)]
+struct Dropped {
+    destructor: Option<Destructor>,
+    is_manual: bool,
+    items: [Option<LangItem>; 2],
+}
+
+fn with_both(destructor: Option<Destructor>) -> Dropped {
+    Dropped {
+        destructor,
+        is_manual: false,
+        items: [Some(LangItem::Destruct), Some(LangItem::Drop)],
+    }
+}
+
+const DROPPED: AdtId = AdtId(0);
+
+/// Two traits come after it: `Destruct` and `Drop`, where they are declared so.
+fn declared_dropped(rt: &impl Abort, alloc: Global, of: Dropped) -> Cx {
+    let mut builder = DeclsBuilder::new(alloc);
+    let krate = builder.add_crate().expect(rt, "a crate");
+    let flags = AdtFlags {
+        manually_drop: of.is_manual,
+        ..AdtFlags::default()
+    };
+    let adt = builder.add_adt(krate, AdtShape::Struct, &[], flags);
+    holds(rt, adt.is_ok(), "a struct");
+    let field = builder.mk_ty(TyKind::Uint(UintTy::U8)).expect(rt, "a type");
+    builder.push_field(DROPPED, field).expect(rt, "a field");
+    if let Some(destructor) = of.destructor {
+        builder.set_destructor(DROPPED, destructor);
+    }
+    for item in of.items {
+        let added = builder.add_trait(krate, &[], TraitFlags::default());
+        let added = added.expect(rt, "a trait");
+        if let Some(item) = item {
+            builder.lang_item(item, added);
+        }
+    }
+    Cx::new(builder.finish().expect(rt, "no fault"))
+}
+
+/// The traits of its conditions, by their numbers; nothing where they are refused.
+fn check_conditions(rt: &impl Abort, alloc: Global, of: Dropped, want: Option<&[u32]>) {
+    let mut cx = declared_dropped(rt, alloc, of);
+    let ty = adt(rt, &mut cx, DROPPED, &[]);
+    holds(rt, has_destruct_cell(&cx, ty), "a data type");
+    match (const_conditions_for_destruct(alloc, &mut cx, ty), want) {
+        (Ok(conditions), Some(want)) => {
+            equals(rt, &conditions.len(), &want.len(), "conditions");
+            for (condition, number) in conditions.iter().zip(want) {
+                equals(rt, &condition.def_id.0, number, "a condition");
+            }
+        }
+        (Err(error), None) => equals(rt, &error, &NoSolutionOrStop::NoSolution, "a refusal"),
+        _ => holds(rt, false, "conditions or a refusal"),
+    }
+}
+
 /// The samples, with fields.
 fn declared(rt: &impl Abort, alloc: Global) -> Cx {
     let mut builder = DeclsBuilder::new(alloc);
@@ -223,4 +284,31 @@ fn asks_about_the_parts_of_types(rt: HostRuntime) {
             check_cell(&rt, rt.alloc(), &mut reader, text, *column, want);
         }
     }
+}
+
+#[test]
+fn asks_what_a_destructor_needs(rt: HostRuntime) {
+    check_conditions(
+        &rt,
+        rt.alloc(),
+        with_both(Some(Destructor::Const)),
+        Some(&[1, 2]),
+    );
+    check_conditions(&rt, rt.alloc(), with_both(Some(Destructor::NotConst)), None);
+    check_conditions(&rt, rt.alloc(), with_both(None), Some(&[1]));
+    let manual = Dropped {
+        is_manual: true,
+        ..with_both(Some(Destructor::NotConst))
+    };
+    check_conditions(&rt, rt.alloc(), manual, Some(&[]));
+    let without_drop = Dropped {
+        items: [Some(LangItem::Destruct), None],
+        ..with_both(Some(Destructor::Const))
+    };
+    check_conditions(&rt, rt.alloc(), without_drop, None);
+    let without_destruct = Dropped {
+        items: [None, Some(LangItem::Drop)],
+        ..with_both(Some(Destructor::Const))
+    };
+    check_conditions(&rt, rt.alloc(), without_destruct, None);
 }
