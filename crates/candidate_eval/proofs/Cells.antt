@@ -1,5 +1,5 @@
 -- The cells of the table, over the trees of kinds.
-use Rattle.std.proofs.Common.{◌≡◌, ◌↔◌, IsTrue, not, ℕ, List, [], ◌∷◌, ◌++◌, Bool, true, false, Option, Some, None, refl, sym, ◌∙◌, ap, subst}
+use Rattle.std.proofs.Common.{◌≡◌, ◌↔◌, IsTrue, not, ℕ, List, [], ◌∷◌, ◌++◌, Bool, true, false, Some, refl, sym, ◌∙◌, ap, subst}
 use Rattle.std.specs.Prelude.{if◌then◌else◌}
 use Rattle.candidate_ir.specs.declared.ir.kinds.TyKind.{TyKind}
 use Rattle.candidate_ir.specs.declared.ir.kinds.TyKind.TheVariants as K
@@ -33,7 +33,7 @@ use Rattle.candidate_eval.specs.declared.structural.asked.Asked.{Asked}
 use Rattle.candidate_eval.specs.declared.structural.asked.Asked.TheVariants as A
 use Rattle.candidate_eval.specs.declared.structural.Under.{Under}
 use Rattle.candidate_eval.specs.Tables.{Cell, Refused, Asks, IsTypesStop, IsCellStop, asks, under, types_of, last_of, first_of, last_type, is_phantom, is_manually_drop, is_excluded, field_types, constraint_types, hidden_types, alias_row, row_of}
-use Rattle.candidate_eval.specs.Asked.{asked_types, asked_variables, asked_cell, is_refused, under_of, variables, IsUnder, AskedFits, owned_asked, alias_asked, auto_asked, unsized_asked, sizedness_asked, copy_asked, destruct_asked, is_opaque, auto_known, kind_known}
+use Rattle.candidate_eval.specs.Asked.{asked_types, asked_variables, asked_cell, is_refused, under_of, variables, IsUnder, AskedFits, alias_asked, auto_asked, unsized_asked, sizedness_asked, copy_asked, destruct_asked, is_opaque, auto_known, kind_known}
 
 -- The types among the children of a kind.
 

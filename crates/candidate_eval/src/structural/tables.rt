@@ -4,8 +4,7 @@ ghost use Rattle.std.specs.Prelude.{◌≡◌, ◌↔◌, IsTrue, IfOk, IfErr, l
 ghost use Rattle.candidate_ir.specs.Context.{Grows, world};
 ghost use Rattle.candidate_ir.specs.References.{Takes};
 ghost use Rattle.candidate_ir.specs.Words.{IsTy, KindFits, kind_tree, ty_tree};
-ghost use Rattle.candidate_eval.specs.Tables.{Cell, Asks, row_of, is_excluded, IsCellStop};
-ghost use Rattle.candidate_eval.specs.Tables.{Refused};
+ghost use Rattle.candidate_eval.specs.Tables.{Asks, Refused, row_of, is_excluded, IsCellStop};
 ghost use Rattle.candidate_eval.specs.Asked.{AskedFits, asked_cell, under_of, parts_of, ArePartsIn, is_opaque, auto_known, kind_known};
 ghost use Rattle.candidate_eval.specs.Asked as seen;
 
