@@ -13,6 +13,9 @@ pub mod Soundness
 pub mod Instances
 pub mod Lawful
 pub mod Evaluators
+pub mod Tables
+pub mod Asked
+pub mod Destruct
 pub mod Normalizer
 pub mod Answers
 pub mod Orphan

@@ -3,5 +3,6 @@
 
 pub mod coherence;
 pub mod eval;
+pub mod structural;
 mod table;
 mod walk;

@@ -1,5 +1,5 @@
 -- What a declaration holds has an argument for each of its parameters, wherever the arguments fit the declaration.
-use Rattle.std.proofs.Common.{◌≡◌, ℕ, zero, suc, ◌<◌, List, [], ◌∷◌, Bool, false, Option, Some, None, refl, sym, ◌∙◌, ap, subst, arith}
+use Rattle.std.proofs.Common.{◌≡◌, ℕ, zero, suc, ◌<◌, List, [], ◌∷◌, ◌++◌, Bool, true, false, Option, Some, None, refl, sym, ◌∙◌, ap, subst, arith}
 use Rattle.std.specs.Prelude.{not, ◌||◌, ◌&&◌, map, slice_get, nat_lt}
 use Rattle.candidate_ir.specs.declared.ir.heads.Head.{Head}
 use Rattle.candidate_ir.specs.declared.ir.heads.Head.TheVariants as H
@@ -18,8 +18,13 @@ use Rattle.std.specs.Prelude.{◌≤◌, length, get_or, ◌==◌, if◌then◌e
 use Rattle.std.specs.List.{list_any}
 use Rattle.std.proofs.lemmas.Option.{slice_get-map, slice_get_past}
 use Rattle.candidate_ir.specs.declared.ir.kinds.Clause.{Clause}
+use Rattle.candidate_ir.specs.declared.ir.kinds.Ty.{Ty}
 use Rattle.candidate_ir.specs.declared.ir.kinds.TraitRef.{TraitRef}
 use Rattle.candidate_ir.specs.declared.decl.definition.TraitFlags.{TraitFlags}
+use Rattle.candidate_ir.specs.declared.decl.definition.AdtFlags.{AdtFlags}
+use Rattle.candidate_ir.specs.declared.decl.definition.AdtShape.{AdtShape}
+use Rattle.candidate_ir.specs.declared.decl.contents.Sizedness.{Sizedness}
+use Rattle.candidate_ir.specs.declared.decl.contents.Sizedness.TheVariants as Z
 use Rattle.candidate_ir.specs.declared.decl.definition.DefinitionKind.{DefinitionKind}
 use Rattle.candidate_ir.specs.declared.decl.definition.DefinitionKind.TheVariants as D
 use Rattle.candidate_ir.specs.declared.decl.held.Held.{Held}
@@ -27,17 +32,19 @@ use Rattle.candidate_ir.specs.declared.decl.held.Owner.{Owner}
 use Rattle.candidate_ir.specs.declared.decl.held.Owner.TheVariants as O
 use Rattle.candidate_ir.specs.declared.decl.misplaced.Misplaced.{Misplaced}
 use Rattle.candidate_ir.specs.Declaration.{Declaration}
-use Rattle.candidate_ir.specs.Declaring.{no_place, place_of, trait_place, trait_at}
-use Rattle.candidate_ir.specs.Contents.{TraitContents}
+use Rattle.candidate_ir.specs.Declaring.{no_place, place_of, adt_place, trait_place, adt_at, trait_at}
+use Rattle.candidate_ir.specs.Contents.{AdtContents, TraitContents}
+use Rattle.candidate_ir.specs.Lookups.{maybe, constraint, hidden_type, kind_of_declared, definition}
 use Rattle.candidate_ir.specs.Context.{Context, world, definition_of, sort_of}
-use Rattle.candidate_ir.specs.Worlds.{TraitSort, parameters, parameters_of, joined, sort_number}
-use Rattle.candidate_ir.specs.Held.{held_clause, held_clauses, trait_held, if_there, definition_held, definitions_held, impls_held}
+use Rattle.candidate_ir.specs.Worlds.{DefinitionSort, AdtSort, OpaqueSort, TraitSort, parameters, parameters_of, joined, sort_number}
+use Rattle.candidate_ir.specs.Held.{held_type, held_types, option_held, adt_held, held_clause, held_clauses, trait_held, if_there, definition_held, definitions_held, impls_held}
 use Rattle.candidate_ir.specs.Misplaced.{held_misplaces, tree_misplaces, kinds_of_owner, kinds_of_declared, with_self, has_self}
 use Rattle.candidate_ir.specs.Faults.{all_that_is_held}
 use Rattle.candidate_ir.specs.References.{ArgumentsFit}
-use Rattle.candidate_ir.specs.WellFormed.{IsWellFormedTable}
-use Rattle.candidate_ir.specs.Words.{args_forest, clause_tree}
-use Rattle.candidate_ir.proofs.WellFormed.{any-of, definition-passes}
+use Rattle.candidate_ir.specs.WellFormed.{IsWellFormedTable, TypesFit}
+use Rattle.candidate_ir.specs.Words.{IsTy, args_forest, clause_tree, ty_tree}
+use Rattle.candidate_ir.specs.Nodes.{tree_at}
+use Rattle.candidate_ir.proofs.WellFormed.{any-of, any-right, definition-passes}
 use Rattle.candidate_ir.proofs.Folding.{or-left, or-right}
 
 -- there is an argument for each parameter, of its kind
@@ -168,3 +175,142 @@ super_has_arguments c t l r f a s k x b e = of (slice_get c.declarations r.def_i
     of : (o : Option Declaration) → slice_get c.declarations n ≡ o → Goal
     of None q = none-past 0 (sym (ap (λ (y : Option Declaration). slice_get c.contents.traits (place_of trait_place y)) q) ∙ s)
     of (Some d) q = kinds d q d.kind refl (sym (ap (λ (y : Option Declaration). slice_get c.contents.traits (place_of trait_place y)) q) ∙ s)
+
+-- What a definition holds has an argument for each parameter, among arguments of the kinds of its parameters.
+
+-- arguments that fit a definition of the sort have the kinds of its parameters
+sort-kinds : (c : Context) (s : DefinitionSort) (n : ℕ) (args : Forest) (d : Declaration) → parameters (world c) s n ≡ Some (kinds_of args) → slice_get c.declarations n ≡ Some d
+    → sort_number (sort_of d.kind) == sort_number s ≡ true → kinds_of args ≡ map parameter_kind d.parameters
+sort-kinds c s n args d p e k =
+    let w : parameters (world c) s n ≡ Some (map parameter_kind d.parameters) =
+    ap (parameters_of s) (slice_get-map definition_of c.declarations n ∙ ap (option_map definition_of) e)
+    ∙ ap (λ (b : Bool). if b then Some (map parameter_kind d.parameters) else None) k in
+    let whole : Some (kinds_of args) ≡ Some (map parameter_kind d.parameters) = sym p ∙ w in
+    cc
+
+-- whatever no held thing of the definition does, this one doesn't
+abbrev IsHeld : Context → ℕ → DefinitionKind → Held → Type 0
+IsHeld c n y h = (f : Held → Bool) → list_any f (definition_held c.contents n y) ≡ false → f h ≡ false
+
+held-has : (c : Context) → IsWellFormedTable c → (n : ℕ) (d : Declaration) → slice_get c.declarations n ≡ Some d → (y : DefinitionKind) → d.kind ≡ y → has_self y ≡ false → (args : Forest)
+    → kinds_of args ≡ map parameter_kind d.parameters → (h : Held) → h.owner ≡ O.Definition n → IsHeld c n y h → tree_holds (lacks_argument args) (tree_at c.trees h.number) ≡ false
+held-has c t n d q y i s args k h o own =
+    let all : (m : Misplaced) → NoneMisplaced m c → tree_holds (is_misplaced m d.parameters) (tree_at c.trees h.number) ≡ false =
+    λ m z.
+    let test = held_misplaces m c.trees c.declarations c.contents.impls in
+    let mine = any-of test (definitions_held c.contents 0 c.declarations) (impls_held 0 c.contents.impls) z in
+    let there = subst (λ (x : DefinitionKind). list_any test (definition_held c.contents n x) ≡ false) i (definition-passes test c.contents 0 c.declarations n n d mine q (omega arith)) in
+    let kinds : kinds_of_owner c.declarations c.contents.impls h.owner ≡ Some d.parameters =
+    ap (kinds_of_owner c.declarations c.contents.impls) o
+    ∙ (ap kinds_of_declared q ∙ (ap (λ (x : DefinitionKind). Some (with_self (has_self x) d.parameters)) i ∙ ap (λ (b : Bool). Some (with_self b d.parameters)) s)) in
+    sym (ap (tree_misplaces m (tree_at c.trees h.number)) kinds) ∙ own test there in
+    owned-tree args d.parameters (tree_at c.trees h.number) k (all M.Past (none-past-them c t)) (all M.Stray (none-stray c t))
+
+abbrev HoldsType : ℕ → AdtContents → Ty → Type 0
+HoldsType n a x = (f : Held → Bool) → list_any f (adt_held (O.Definition n) a) ≡ false → f (held_type (O.Definition n) x) ≡ false
+
+adt-type : (c : Context) → IsWellFormedTable c → length c.contents.adts ≤ no_place → (n : ℕ) (args : Forest) → parameters (world c) AdtSort n ≡ Some (kinds_of args) → (a : AdtContents)
+    → adt_at c n ≡ Some a → (x : Ty) → HoldsType n a x → tree_holds (lacks_argument args) (ty_tree c.trees x) ≡ false
+adt-type c t l n args p a s x own = of (slice_get c.declarations n) refl
+  where
+    Goal : Type 0
+    Goal = tree_holds (lacks_argument args) (ty_tree c.trees x) ≡ false
+
+    none-past : (j : ℕ) → slice_get c.contents.adts no_place ≡ Some a → Goal
+    none-past j q = let z = sym (slice_get_past c.contents.adts no_place l) ∙ q in absurd cc
+
+    found : (d : Declaration) → slice_get c.declarations n ≡ Some d → (h : AdtShape) (g : AdtFlags) (k : ℕ) → d.kind ≡ D.Adt h g k → slice_get c.contents.adts k ≡ Some a → Goal
+    found d q h g k i at =
+        let o = O.Definition n in
+        let kinds = sort-kinds c AdtSort n args d p q (ap (λ (y : DefinitionKind). sort_number (sort_of y) == 0) i) in
+        held-has c t n d q (D.Adt h g k) i refl args kinds (held_type o x) refl
+        (λ f e. own f (subst (λ (y : Option AdtContents). list_any f (if_there (adt_held o) y) ≡ false) at e))
+
+    kinds : (d : Declaration) → slice_get c.declarations n ≡ Some d → (y : DefinitionKind) → d.kind ≡ y → slice_get c.contents.adts (adt_place y) ≡ Some a → Goal
+    kinds d q (D.Adt h g k) i at = found d q h g k i at
+    kinds d q (D.Trait _ _) i at = none-past 0 at
+    kinds d q D.Foreign i at = none-past 0 at
+    kinds d q (D.Assoc _ _ _ _) i at = none-past 0 at
+    kinds d q (D.Alias _) i at = none-past 0 at
+    kinds d q (D.Opaque _ _) i at = none-past 0 at
+    kinds d q (D.Function _ _) i at = none-past 0 at
+    kinds d q (D.Closure _) i at = none-past 0 at
+
+    of : (o : Option Declaration) → slice_get c.declarations n ≡ o → Goal
+    of None q = none-past 0 (sym (ap (λ (y : Option Declaration). slice_get c.contents.adts (place_of adt_place y)) q) ∙ s)
+    of (Some d) q = kinds d q d.kind refl (sym (ap (λ (y : Option Declaration). slice_get c.contents.adts (place_of adt_place y)) q) ∙ s)
+
+type-at : (f : Held → Bool) (o : Owner) (xs : List Ty) (k : ℕ) (x : Ty) → Some x ≡ slice_get xs k → list_any f (held_types o xs) ≡ false → f (held_type o x) ≡ false
+type-at f o [] k x e n = absurd cc
+type-at f o (y ∷ ys) zero x e n = let same : x ≡ y = cc in ap (λ (z : Ty). f (held_type o z)) same ∙ or-left _ _ n
+type-at f o (y ∷ ys) (suc k) x e n = type-at f o ys k x e (or-right _ _ n)
+
+pub field_has_arguments : (c : Context) → IsWellFormedTable c → length c.contents.adts ≤ no_place → (n : ℕ) (args : Forest) → parameters (world c) AdtSort n ≡ Some (kinds_of args)
+    → (k : ℕ) (x : Ty) → Some x ≡ slice_get (maybe [] (λ (a : AdtContents). a.fields) (adt_at c n)) k
+    → tree_holds (lacks_argument args) (ty_tree c.trees x) ≡ false
+field_has_arguments c t l n args p k x e = of (adt_at c n) refl
+  where
+    there : Some x ≡ slice_get (maybe [] (λ (a : AdtContents). a.fields) (adt_at c n)) k
+    there = e
+
+    of : (o : Option AdtContents) → adt_at c n ≡ o → tree_holds (lacks_argument args) (ty_tree c.trees x) ≡ false
+    of None q = let z : Some x ≡ None = there ∙ ap (λ (y : Option AdtContents). slice_get (maybe [] (λ (a : AdtContents). a.fields) y) k) q in absurd cc
+    of (Some a) q =
+        let z : Some x ≡ slice_get a.fields k = there ∙ ap (λ (y : Option AdtContents). slice_get (maybe [] (λ (b : AdtContents). b.fields) y) k) q in
+        adt-type c t l n args p a q x (λ f g. type-at f (O.Definition n) a.fields k x z (any-of f (held_types (O.Definition n) a.fields) (option_held (O.Definition n) a.sized ++ option_held (O.Definition n) a.meta_sized) g))
+
+option-at : (f : Held → Bool) (o : Owner) (y : Option Ty) (x : Ty) → Some x ≡ y → list_any f (option_held o y) ≡ false → f (held_type o x) ≡ false
+option-at f o None x e n = absurd cc
+option-at f o (Some y) x e n = let same : x ≡ y = cc in ap (λ (z : Ty). f (held_type o z)) same ∙ or-left _ _ n
+
+constraint-at : (f : Held → Bool) (o : Owner) (a : AdtContents) (z : Sizedness) (x : Ty) → Some x ≡ constraint z a → list_any f (adt_held o a) ≡ false → f (held_type o x) ≡ false
+constraint-at f o a z x e n = of z e
+  where
+    both : list_any f (option_held o a.sized ++ option_held o a.meta_sized) ≡ false
+    both = any-right f (held_types o a.fields) (option_held o a.sized ++ option_held o a.meta_sized) n
+
+    of : (y : Sizedness) → Some x ≡ constraint y a → f (held_type o x) ≡ false
+    of Z.Sized i = option-at f o a.sized x i (any-of f (option_held o a.sized) (option_held o a.meta_sized) both)
+    of Z.MetaSized i = option-at f o a.meta_sized x i (any-right f (option_held o a.sized) (option_held o a.meta_sized) both)
+
+pub constraint_has_arguments : (c : Context) → IsWellFormedTable c → length c.contents.adts ≤ no_place → (n : ℕ) (args : Forest) → parameters (world c) AdtSort n ≡ Some (kinds_of args)
+    → (z : Sizedness) (x : Ty) → Some x ≡ maybe None (constraint z) (adt_at c n) → tree_holds (lacks_argument args) (ty_tree c.trees x) ≡ false
+constraint_has_arguments c t l n args p z x e = of (adt_at c n) refl
+  where
+    of : (o : Option AdtContents) → adt_at c n ≡ o → tree_holds (lacks_argument args) (ty_tree c.trees x) ≡ false
+    of None q = let y : Some x ≡ None = e ∙ ap (maybe None (constraint z)) q in absurd cc
+    of (Some a) q = adt-type c t l n args p a q x (λ f g. constraint-at f (O.Definition n) a z x (e ∙ ap (maybe None (constraint z)) q) g)
+
+pub hidden_has_arguments : (c : Context) → IsWellFormedTable c → (n : ℕ) (args : Forest) → parameters (world c) OpaqueSort n ≡ Some (kinds_of args)
+    → (x : Ty) → Some x ≡ hidden_type (definition c n) → tree_holds (lacks_argument args) (ty_tree c.trees x) ≡ false
+hidden_has_arguments c t n args p x e = of (slice_get c.declarations n) refl
+  where
+    Goal : Type 0
+    Goal = tree_holds (lacks_argument args) (ty_tree c.trees x) ≡ false
+
+    kinds : (d : Declaration) → slice_get c.declarations n ≡ Some d → (y : DefinitionKind) → d.kind ≡ y → Some x ≡ hidden_type (Some y) → Goal
+    kinds d q (D.Opaque hidden k) i same =
+        let o = O.Definition n in
+        let it : x ≡ hidden = cc in
+        held-has c t n d q (D.Opaque hidden k) i refl args (sort-kinds c OpaqueSort n args d p q (ap (λ (y : DefinitionKind). sort_number (sort_of y) == 6) i)) (held_type o x) refl
+        (λ f g. ap (λ (z : Ty). f (held_type o z)) it ∙ or-left _ _ g)
+    kinds d q (D.Adt _ _ _) i same = absurd cc
+    kinds d q (D.Trait _ _) i same = absurd cc
+    kinds d q D.Foreign i same = absurd cc
+    kinds d q (D.Assoc _ _ _ _) i same = absurd cc
+    kinds d q (D.Alias _) i same = absurd cc
+    kinds d q (D.Function _ _) i same = absurd cc
+    kinds d q (D.Closure _) i same = absurd cc
+
+    of : (o : Option Declaration) → slice_get c.declarations n ≡ o → Goal
+    of None q = let z : Some x ≡ None = e ∙ ap (λ (y : Option Declaration). hidden_type (kind_of_declared y)) q in absurd cc
+    of (Some d) q = kinds d q d.kind refl (e ∙ ap (λ (y : Option Declaration). hidden_type (kind_of_declared y)) q)
+
+-- a type of a list that fits is a type
+pub listed_type : (ts : List Tree) (xs : List Ty) (k : ℕ) (x : Ty) → TypesFit ts xs → Some x ≡ slice_get xs k → IsTy ts x
+listed_type ts [] k x f e = absurd cc
+listed_type ts (y ∷ ys) zero x f e =
+    let same : x ≡ y = cc in
+    let here : IsTy ts y = cc in
+    subst (IsTy ts) (sym same) here
+listed_type ts (y ∷ ys) (suc k) x f e = let rest : TypesFit ts ys = cc in listed_type ts ys k x rest e

@@ -72,7 +72,7 @@ fn add(rt: &impl Abort, builder: &mut DeclsBuilder, item: Item<'_>) -> u32 {
             added.expect(rt, "an alias").0
         }
         Item::Opaque(krate, parameters) => {
-            let hidden = boolean(rt, builder);
+            let hidden = builder.mk_ty(TyKind::Param(0)).expect(rt, "a parameter");
             let added = builder.add_opaque(CrateId(krate), parameters, hidden);
             added.expect(rt, "an opaque type").0
         }
@@ -88,7 +88,8 @@ fn add(rt: &impl Abort, builder: &mut DeclsBuilder, item: Item<'_>) -> u32 {
     }
 }
 
-fn add_all(rt: &impl Abort, builder: &mut DeclsBuilder, items: &[Item<'_>]) {
+/// Adds all of them, in order.
+pub fn add_all(rt: &impl Abort, builder: &mut DeclsBuilder, items: &[Item<'_>]) {
     for item in items {
         add(rt, builder, *item);
     }

@@ -49,6 +49,7 @@ mod rejections;
 mod samples;
 #[cfg(test)]
 mod states;
+mod structures;
 #[cfg(test)]
 mod substitutions;
 #[cfg(test)]

@@ -232,7 +232,13 @@ impl Reader {
     /// The context of the samples.
     #[tactic(auto, using(crate::proofs::Kept::kept))]
     pub fn new(rt: &impl Abort, alloc: Global) -> Self {
-        let mut cx = declared(rt, alloc);
+        Reader::in_context(rt, alloc, declared(rt, alloc))
+    }
+
+    /// The context, whose definitions have the numbers of the samples.
+    #[tactic(auto, using(crate::proofs::Kept::kept))]
+    pub fn in_context(rt: &impl Abort, alloc: Global, cx: Cx) -> Self {
+        let mut cx = cx;
         let ty = ty(rt, &mut cx, TyKind::Bool);
         let constant = constant(rt, &mut cx, ConstKind::Error);
         let region = region(rt, &mut cx, RegionKind::Error);
@@ -538,6 +544,11 @@ impl Reader {
             "pair" => {
                 let ty = self.ty;
                 let list = self.args(rt, &[GenericArg::Ty(ty), GenericArg::Ty(ty)]);
+                self.replace(rt, TyKind::Tuple(list));
+            }
+            "both" => {
+                let (before, ty) = (self.before, self.ty);
+                let list = self.args(rt, &[GenericArg::Ty(before), GenericArg::Ty(ty)]);
                 self.replace(rt, TyKind::Tuple(list));
             }
             "#length" => {

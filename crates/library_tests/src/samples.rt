@@ -4,9 +4,12 @@ ghost use Rattle.candidate_ir.specs.Context.{Grows};
 ghost use Rattle.candidate_ir.specs.Words.{IsTy, IsArgs};
 
 use crate::builders::{adt, args, push_arg, ty};
-use crate::declarations::{Item, context_of};
+use crate::declarations::{Item, add_all};
+use candidate_ir::decl::builder::DeclsBuilder;
 use candidate_ir::decl::context::Cx;
-use candidate_ir::decl::definition::{AdtFlags, AdtShape, AliasShape, AssocKind, TraitFlags};
+use candidate_ir::decl::definition::{
+    AdtFlags, AdtShape, AliasShape, AssocKind, CrateId, TraitFlags,
+};
 use candidate_ir::ir::kinds::{
     AdtId, AliasId, AliasTy, AssocId, ClosureId, FnId, ForeignId, GenericArg, InferTy, TraitId,
     TraitRef, Ty, TyKind, UintTy, VarKind,
@@ -58,11 +61,19 @@ pub const FREE: AliasId = AliasId(17);
 
 /// The local crate, and one above it with the types `Vec` and `Box` and the traits.
 pub fn declared(rt: &impl Abort, alloc: Global) -> Cx {
-    let (plain, plain_trait) = (AdtFlags::default(), TraitFlags::default());
+    let mut builder = DeclsBuilder::new(alloc);
     let fundamental = AdtFlags {
         fundamental: true,
-        ..plain
+        ..AdtFlags::default()
     };
+    add_samples(rt, &mut builder, fundamental);
+    builder.set_local(CrateId(0));
+    Cx::new(builder.finish().expect(rt, "no fault"))
+}
+
+/// Declares them, where `Box` has these flags.
+pub fn add_samples(rt: &impl Abort, builder: &mut DeclsBuilder, of_box: AdtFlags) {
+    let (plain, plain_trait) = (AdtFlags::default(), TraitFlags::default());
     let fundamental_trait = TraitFlags {
         fundamental: true,
         ..plain_trait
@@ -72,7 +83,7 @@ pub fn declared(rt: &impl Abort, alloc: Global) -> Cx {
         Item::Crate,
         Item::Crate,
         Item::Adt(1, shape, &[VarKind::Ty], plain),
-        Item::Adt(1, shape, &[VarKind::Ty], fundamental),
+        Item::Adt(1, shape, &[VarKind::Ty], of_box),
         Item::Adt(0, shape, &[], plain),
         Item::Trait(1, &[], plain_trait),
         Item::Trait(1, &[VarKind::Ty], plain_trait),
@@ -90,7 +101,7 @@ pub fn declared(rt: &impl Abort, alloc: Global) -> Cx {
         Item::Opaque(1, &[VarKind::Ty]),
         Item::Alias(1, AliasShape::Inherent, &[VarKind::Ty]),
     ];
-    context_of(rt, alloc, &items, 0)
+    add_all(rt, builder, &items);
 }
 
 /// The variable with the number 0.

@@ -1,6 +1,6 @@
 use Rattle.candidate_ir.proofs.Kept.{grows-trans}
 use Rattle.candidate_ir.proofs.Made.{IsTy-grows, IsConst-grows}
-use Rattle.library_tests.proofs.reading.Reader.new.Goals as goal
+use Rattle.library_tests.proofs.reading.Reader.in_context.Goals as goal
 
 pub invariant_of-result : goal.invariant_of-result
 invariant_of-result g c =

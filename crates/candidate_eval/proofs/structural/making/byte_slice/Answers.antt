@@ -1,0 +1,12 @@
+use Rattle.std.proofs.Common.{arith}
+use Rattle.std.proofs.lemmas.Result.{err_from_is_err_and}
+use Rattle.candidate_eval.proofs.Types.{made_stop, slice_stop}
+use Rattle.candidate_eval.proofs.structural.making.byte_slice.Goals as goal
+
+pub returns-in_err-byte-clause-cause : goal.returns-in_err-byte-clause-cause
+returns-in_err-byte-clause-cause g c =
+    let p = err_from_is_err_and c.from_residual.result c.from_residual.ensures.1 in
+    rw (p.1, p.2) (made_stop _ _ 1 _ c.in_err-byte.ensures.made.unchanged c.in_err-byte.ensures.made.cause (omega arith))
+
+pub returns-clause-cause : goal.returns-clause-cause
+returns-clause-cause g c = slice_stop _ _ c.in_ok-byte.byte _ c.in_ok-byte.ensures.made.tree c.mk_ty-2.ensures.made

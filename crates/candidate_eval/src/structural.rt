@@ -1,0 +1,22 @@
+//! The structural tables: the types that the builtin rules ask about, for each kind of type.
+
+pub(crate) mod asked;
+pub mod destruct;
+mod making;
+pub mod tables;
+
+use candidate_ir::ir::kinds::{Ty, Vars};
+
+/// Whether types stand under a binder.
+#[derive(Clone, Copy)]
+pub enum Under {
+    NoBinder,
+    Binder(Vars),
+}
+
+/// Types that a rule asks about, under one binder where they stand under one.
+#[derive(Drop)]
+pub struct Constituents {
+    pub under: Under,
+    pub types: Vec<Ty>,
+}
