@@ -49,6 +49,7 @@ mod rejections;
 mod samples;
 #[cfg(test)]
 mod states;
+#[cfg(test)]
 mod structures;
 #[cfg(test)]
 mod substitutions;
