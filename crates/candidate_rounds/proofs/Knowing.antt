@@ -1,5 +1,5 @@
 -- States as numbers get trees, and as changes are undone.
-use Rattle.std.proofs.Common.{◌≡◌, ℕ, zero, suc, ◌≤◌, true, List, [], ◌∷◌, ◌++◌, length, take, drop, map, slice_get, Option, Some, None, All, refl, ◌∙◌, ap, subst, arith}
+use Rattle.std.proofs.Common.{◌≡◌, ℕ, zero, suc, ◌≤◌, true, List, [], ◌∷◌, ◌++◌, length, take, drop, map, slice_get, Option, Some, None, All, refl, sym, ◌∙◌, ap, subst, arith}
 use Rattle.std.specs.Option.{option_map}
 use Rattle.candidate_ir.specs.declared.ir.kinds.Clause.{Clause}
 use Rattle.candidate_ir.specs.declared.ir.kinds.GenericArg.{GenericArg}
@@ -10,15 +10,20 @@ use Rattle.candidate_ir.specs.Folds.{arg_tree}
 use Rattle.candidate_ir.specs.Kinds.{arg_number, arg_kind}
 use Rattle.candidate_ir.specs.Nodes.{Extends, kind_at, tree_at}
 use Rattle.candidate_ir.specs.Trees.{Kind, Tree}
-use Rattle.candidate_ir.specs.Words.{IsClause, clause_tree}
-use Rattle.candidate_ir.proofs.Lists.{there, below_kind, kind_at-append, tree_at-append}
+use Rattle.candidate_ir.specs.declared.ir.kinds.AliasTy.{AliasTy}
+use Rattle.candidate_ir.specs.declared.ir.kinds.Ty.{Ty}
+use Rattle.candidate_ir.specs.declared.ir.kinds.TyKind.TheVariants as K
+use Rattle.candidate_ir.specs.declared.ir.node.Node.TheVariants as N
+use Rattle.candidate_ir.specs.Words.{IsClause, KindFits, ty_tree, kind_tree, clause_tree}
+use Rattle.candidate_ir.proofs.Lists.{there, below_kind, kind_at-append, tree_at-append, Fits-append, node_tree-append}
 use Rattle.candidate_eval.specs.declared.eval.mode.TypingMode.{TypingMode}
 use Rattle.candidate_eval.specs.Evaluators.{IsGoal, pending_of}
 use Rattle.candidate_rounds.specs.declared.rounds.inference.Change.{Change}
 use Rattle.candidate_rounds.specs.declared.rounds.inference.Change.TheVariants as C
 use Rattle.candidate_rounds.specs.declared.rounds.inference.Entry.{Entry}
 use Rattle.candidate_rounds.specs.Inferences.{Inference, shorter, with_entry, with_value, with_universe, before, undone, back_to}
-use Rattle.candidate_rounds.specs.Known.{info_of, state_of, states_at, Each, IsValue, IsEntry, IsChange, IsKnown, AreMarks}
+use Rattle.candidate_rounds.specs.Known.{info_of, state_of, states_at, Each, IsValue, IsEntry, IsChange, IsKnown, AreMarks, AreTypes, IsGiven}
+use Rattle.candidate_rounds.specs.Standing.{IsFixed, IsListing}
 use Rattle.candidate_rounds.proofs.Undoing.{IsUndone}
 
 -- Probes stay where they were, whatever is changed.
@@ -164,3 +169,21 @@ probes-grow ts us mode s [] x k = refl
 probes-grow ts us mode s (n ∷ ks) x k =
     ap (λ y. y ∷ states_at us mode s ks) (state-stays ts us mode (back_to n s) x (known-back ts s n k))
     ∙ ap (λ ys. state_of ts mode (back_to n s) ∷ ys) (probes-grow ts us mode s ks x k)
+
+-- What was given stays as more numbers are given.
+pub given-grown : (ts us : List Tree) (ps : List (Ty × Ty)) (xs : List AliasTy) → Extends ts us → IsGiven ts ps xs → IsGiven us ps xs
+given-grown ts us ps xs x g = record {
+  types = each-imply (AreTypes ts) (AreTypes us) ps (λ p i. (kind-stays ts us p.0.0 _ x refl i.0, kind-stays ts us p.1.0 _ x refl i.1)) g.types;
+  listing = subst IsListing (sym (each-map (AreTypes ts) (pair us) (pair ts) ps pair-stays g.types)) g.listing;
+  opaques_fit = each-imply (λ a. KindFits ts (K.Alias a)) (λ a. KindFits us (K.Alias a)) xs (λ a i. subst (λ zs. KindFits zs (K.Alias a)) (sym x.is) (Fits-append ts x.added (N.Ty (K.Alias a)) i)) g.opaques_fit;
+  opaques_fixed = subst (Each IsFixed) (sym (each-map (λ a. KindFits ts (K.Alias a)) (λ a. kind_tree us (K.Alias a)) (λ a. kind_tree ts (K.Alias a)) xs (λ a i. alias-stays a i) g.opaques_fit)) g.opaques_fixed;
+}
+  where
+    pair : List Tree → Ty × Ty → Tree × Tree
+    pair zs p = (ty_tree zs p.0, ty_tree zs p.1)
+
+    pair-stays : (p : Ty × Ty) → AreTypes ts p → pair us p ≡ pair ts p
+    pair-stays p i = let a = tree-stays ts us p.0.0 _ x refl i.0 in let b = tree-stays ts us p.1.0 _ x refl i.1 in λ j. (a j, b j)
+
+    alias-stays : (a : AliasTy) → KindFits ts (K.Alias a) → kind_tree us (K.Alias a) ≡ kind_tree ts (K.Alias a)
+    alias-stays a i = ap (λ zs. kind_tree zs (K.Alias a)) x.is ∙ node_tree-append ts x.added (N.Ty (K.Alias a)) i

@@ -5,14 +5,19 @@ use Rattle.candidate_ir.specs.declared.ir.kinds.GenericArg.{GenericArg}
 use Rattle.candidate_ir.specs.Context.{Context}
 use Rattle.candidate_ir.specs.Folds.{IsArg, arg_tree}
 use Rattle.candidate_ir.specs.Trees.{Tree}
-use Rattle.candidate_ir.specs.Words.{IsClause, clause_tree}
+use Rattle.candidate_ir.specs.declared.ir.kinds.AliasTy.{AliasTy}
+use Rattle.candidate_ir.specs.declared.ir.kinds.Ty.{Ty}
+use Rattle.candidate_ir.specs.declared.ir.kinds.TyKind.TheVariants as K
+use Rattle.candidate_ir.specs.Words.{IsTy, IsClause, KindFits, ty_tree, clause_tree}
 use Rattle.candidate_eval.specs.declared.eval.mode.TypingMode.{TypingMode}
 use Rattle.candidate_eval.specs.declared.eval.variable.VariableKind.{VariableKind}
 use Rattle.candidate_eval.specs.States.{State, VariableInfo}
-use Rattle.candidate_eval.specs.Evaluators.{IsGoal, pendings_of}
+use Rattle.candidate_eval.specs.Evaluators.{IsGoal, pendings_of, alias_trees}
 use Rattle.candidate_rounds.specs.declared.rounds.inference.Change.{Change}
 use Rattle.candidate_rounds.specs.declared.rounds.inference.Change.TheVariants as C
 use Rattle.candidate_rounds.specs.declared.rounds.inference.Entry.{Entry}
+use Rattle.candidate_rounds.specs.Listed.{Listing}
+use Rattle.candidate_rounds.specs.Standing.{IsFixed, IsListing}
 use Rattle.candidate_rounds.specs.Inferences.{Inference, back_to}
 
 -- The trees of numbers of a context.
@@ -71,16 +76,33 @@ pub record IsConsistent (ts : List Tree) (s : Inference) (ks : List ℕ) : Type 
   pub marks : AreMarks (length s.trail) ks
   pub pending : PendingFits s
 
+-- The listed pairs by their trees.
+abbrev pub listing_of : List Tree → List (Ty × Ty) → Listing
+listing_of ts ps = map (λ (p : Ty × Ty). (ty_tree ts p.0, ty_tree ts p.1)) ps
+
+abbrev pub AreTypes : List Tree → Ty × Ty → Type 0
+AreTypes ts p = IsTy ts p.0 × IsTy ts p.1
+
+-- What an evaluator is given besides the context: listed pairs, and opaque types that mean the same at every state.
+pub record IsGiven (ts : List Tree) (normal : List (Ty × Ty)) (opaques : List AliasTy) : Type 0 where
+  pub types : Each (AreTypes ts) normal
+  pub listing : IsListing (listing_of ts normal)
+  pub opaques_fit : Each (λ a. KindFits ts (K.Alias a)) opaques
+  pub opaques_fixed : Each IsFixed (alias_trees ts opaques)
+
+pub record IsEvaluator (ts : List Tree) (s : Inference) (ks : List ℕ) (normal : List (Ty × Ty)) (opaques : List AliasTy) : Type 0 where
+  pub consistent : IsConsistent ts s ks
+  pub given : IsGiven ts normal opaques
+
 -- What contracts see of an evaluator that works in rounds.
 pub record Evaluator : Type 0 where
   pub context : Context
   pub mode : TypingMode
+  pub normal : List (Ty × Ty)
+  pub opaques : List AliasTy
   pub inference : Inference
   -- how many changes there were when each open probe began, the newest first
   pub marks : List ℕ
-
-abbrev pub AreConsistent : Evaluator → Type 0
-AreConsistent r = IsConsistent r.context.trees r.inference r.marks
 
 abbrev pub state : Evaluator → State
 state r = state_of r.context.trees r.mode r.inference

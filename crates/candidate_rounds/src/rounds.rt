@@ -7,6 +7,7 @@ pub mod states;
 use crate::rounds::inference::Inference;
 use candidate_eval::eval::mode::TypingMode;
 use candidate_ir::decl::context::Cx;
+use candidate_ir::ir::kinds::{AliasTy, Ty};
 use std::marker::Model;
 
 /// An evaluator that works in rounds.
@@ -14,6 +15,10 @@ use std::marker::Model;
 pub struct Rounds {
     cx: Cx,
     mode: TypingMode,
+    /// Aliases, each with the type that it is normalised to.
+    normal: Vec<(Ty, Ty)>,
+    /// The opaque types that may be hidden behind a variable.
+    opaques: Vec<AliasTy>,
     inference: Inference,
     /// How many changes there were when each open probe began, the newest last.
     probes: Vec<usize>,
@@ -30,7 +35,7 @@ impl Model for Rounds {
 
     ghost coded = { Prim.hlevel (codes, tree_code head.the_row.coded) };
 
-    ghost view = { λ r. record { context = r.cx; mode = r.mode; inference = r.inference; marks = reverse r.probes.items } };
+    ghost view = { λ r. record { context = r.cx; mode = r.mode; normal = r.normal.items; opaques = r.opaques.items; inference = r.inference; marks = reverse r.probes.items } };
 
-    ghost invariant = { λ r. seen.IsConsistent r.cx.trees r.inference (reverse r.probes.items) };
+    ghost invariant = { λ r. seen.IsEvaluator r.cx.trees r.inference (reverse r.probes.items) r.normal.items r.opaques.items };
 }

@@ -16,6 +16,12 @@ use candidate_rounds::rounds::Rounds;
 use std::alloc::Global;
 use std::process::Abort;
 
+/// An evaluator that was given nothing besides the declarations.
+fn started(rt: &impl Abort, alloc: Global, mode: TypingMode) -> Rounds {
+    let cx = declared(rt, alloc);
+    Rounds::new(alloc, cx, mode, Vec::new(alloc), Vec::new(alloc))
+}
+
 /// Fresh variables of these kinds.
 fn fresh(rt: &impl Abort, alloc: Global, rounds: &mut Rounds, kinds: &[VarKind]) -> Args
     ensures grows { Grows rounds.old.context rounds.new.context }
@@ -48,8 +54,7 @@ fn root(rt: &impl Abort, rounds: &mut Rounds, sort: VariableSort) -> Option<u32>
 #[test]
 fn numbers_variables(rt: HostRuntime) {
     let alloc = rt.alloc();
-    let cx = declared(&rt, alloc);
-    let mut rounds = Rounds::new(alloc, cx, TypingMode::Analysis);
+    let mut rounds = started(&rt, alloc, TypingMode::Analysis);
     equals(&rt, &rounds.typing_mode(), &TypingMode::Analysis, "mode");
     let general = root(&rt, &mut rounds, VariableSort::General);
     equals(&rt, &general, &Some(0), "the first");
@@ -60,6 +65,11 @@ fn numbers_variables(rt: HostRuntime) {
     equals(&rt, &has, &true, "of its kind");
     let constant = root(&rt, &mut rounds, VariableSort::Constant);
     equals(&rt, &constant, &Some(4), "one row of numbers");
+    let nodes = rounds.cx().node_count();
+    let (cx, normal, opaques) = rounds.into_parts();
+    equals(&rt, &cx.node_count(), &nodes, "the context is given back");
+    equals(&rt, &normal.len(), &0, "what was listed is given back");
+    equals(&rt, &opaques.len(), &0, "so are opaque types");
 }
 
 /// A probe in which a variable and placeholders are made, of which nothing is left.
@@ -81,8 +91,7 @@ fn check_probe(rt: &impl Abort, alloc: Global, rounds: &mut Rounds, kind: ProbeK
 #[test]
 fn undoes_what_a_probe_changed(rt: HostRuntime) {
     let alloc = rt.alloc();
-    let cx = declared(&rt, alloc);
-    let mut rounds = Rounds::new(alloc, cx, TypingMode::Coherence);
+    let mut rounds = started(&rt, alloc, TypingMode::Coherence);
     check_probe(&rt, alloc, &mut rounds, ProbeKind::Kept);
     check_probe(&rt, alloc, &mut rounds, ProbeKind::SetAside);
 }
@@ -90,8 +99,7 @@ fn undoes_what_a_probe_changed(rt: HostRuntime) {
 #[test]
 fn tells_variables_apart(rt: HostRuntime) {
     let alloc = rt.alloc();
-    let cx = declared(&rt, alloc);
-    let mut rounds = Rounds::new(alloc, cx, TypingMode::Coherence);
+    let mut rounds = started(&rt, alloc, TypingMode::Coherence);
     let variable = fresh(&rt, alloc, &mut rounds, &[VarKind::Ty]);
     let other = fresh(&rt, alloc, &mut rounds, &[VarKind::Ty]);
     let same_variable = rounds.cx().same_args(variable, other);

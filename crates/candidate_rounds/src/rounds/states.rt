@@ -10,7 +10,7 @@ ghost use Rattle.candidate_eval.specs.States.{State, added, variable, fresh_vari
 ghost use Rattle.candidate_eval.specs.declared.eval.context.ProbeKind.{ProbeKind};
 ghost use Rattle.candidate_rounds.specs.Inferences.{with_variable};
 ghost use Rattle.candidate_rounds.specs.Leaves.{all_leaves, last_number};
-ghost use Rattle.candidate_rounds.specs.Known.{state, state_of, probes, with_root};
+ghost use Rattle.candidate_rounds.specs.Known.{state, state_of, probes, with_root, IsGiven};
 
 use crate::rounds::Rounds;
 use crate::rounds::fresh::{Leaves, leaf_args, variable};
@@ -19,23 +19,45 @@ use candidate_eval::eval::context::ProbeKind;
 use candidate_eval::eval::mode::TypingMode;
 use candidate_eval::eval::variable::VariableKind;
 use candidate_ir::decl::context::Cx;
-use candidate_ir::ir::kinds::{Args, Clause, GenericArg, Goal, GoalSource, VarKind};
+use candidate_ir::ir::kinds::{AliasTy, Args, Clause, GenericArg, Goal, GoalSource, Ty, VarKind};
 use candidate_ir::ir::stop::Stop;
 use std::alloc::Global;
 
 impl Rounds {
-    /// An evaluator over the context that knows nothing of variables yet.
-    pub fn new(alloc: Global, cx: Cx, mode: TypingMode) -> Rounds
+    /// An evaluator over the context that knows nothing of variables yet. It normalises each alias of `normal` to the type that
+    /// stands beside it; the opaque types of `opaques` may be hidden behind a variable. Neither holds a variable or a parameter.
+    pub fn new(
+        alloc: Global,
+        cx: Cx,
+        mode: TypingMode,
+        normal: Vec<(Ty, Ty)>,
+        opaques: Vec<AliasTy>,
+    ) -> Rounds
+        requires { IsGiven cx.trees normal.items opaques.items }
         ensures context { result.context ≡ cx }
+        ensures normal { result.normal ≡ normal.items }
+        ensures opaques { result.opaques ≡ opaques.items }
         ensures state { state result ≡ record { newest_universe = 0; variables = []; regions = []; pending = []; mode = mode } }
         ensures probes { probes result ≡ [] }
     {
         Rounds {
             cx,
             mode,
+            normal,
+            opaques,
             inference: Inference::new(alloc),
             probes: Vec::new(alloc),
         }
+    }
+
+    /// The context, and what the evaluator was given besides it.
+    pub fn into_parts(self) -> (Cx, Vec<(Ty, Ty)>, Vec<AliasTy>)
+        ensures context { result.0 ≡ self.context }
+        ensures normal { result.1.items ≡ self.normal }
+        ensures opaques { result.2.items ≡ self.opaques }
+        ensures given { IsGiven result.0.trees result.1.items result.2.items }
+    {
+        (self.cx, self.normal, self.opaques)
     }
 
     /// What goals are asked for.

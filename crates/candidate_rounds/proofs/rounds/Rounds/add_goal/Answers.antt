@@ -10,16 +10,16 @@ pub invariant_of-self : goal.invariant_of-self
 invariant_of-self c =
     let i = c.self.inside in
     let g = subst (λ (e : Evaluator). IsGoal e.context.trees c.args.goal) (sym c.self.view_is) c.requires in
-    goal-holds i.cx.trees i.inference c.add.new.self (reverse i.probes.items) c.args.source c.args.goal c.add.result c.self.invariant g c.add.ensures.added c.add.ensures.unchanged
+    record { consistent = goal-holds i.cx.trees i.inference c.add.new.self (reverse i.probes.items) c.args.source c.args.goal c.add.result c.self.invariant.consistent g c.add.ensures.added c.add.ensures.unchanged; given = c.self.invariant.given }
 
 pub returns-clause-probes : goal.returns-clause-probes
 returns-clause-probes c =
     let i = c.self.inside in
-    probes-stay i.cx.trees i.mode i.inference c.add.new.self (reverse i.probes.items) c.self.invariant.marks (goal-undone i.inference c.add.new.self c.args.source c.args.goal c.add.result c.add.ensures.added c.add.ensures.unchanged)
+    probes-stay i.cx.trees i.mode i.inference c.add.new.self (reverse i.probes.items) c.self.invariant.consistent.marks (goal-undone i.inference c.add.new.self c.args.source c.args.goal c.add.result c.add.ensures.added c.add.ensures.unchanged)
     ∙ ap probes c.self.view_is
 
 pub returns-clause-ok : goal.returns-clause-ok
 returns-clause-ok c =
     let i = c.self.inside in
-    let s = goal-state i.cx.trees i.mode i.inference c.add.new.self (reverse i.probes.items) c.args.source c.args.goal c.add.result c.self.invariant c.add.ensures.added in
+    let s = goal-state i.cx.trees i.mode i.inference c.add.new.self (reverse i.probes.items) c.args.source c.args.goal c.add.result c.self.invariant.consistent c.add.ensures.added in
     subst (λ (e : Evaluator). OnOk c.add.result (state_of i.cx.trees i.mode c.add.new.self ≡ added (state e) (pending_of e.context.trees c.args.source c.args.goal))) c.self.view_is s

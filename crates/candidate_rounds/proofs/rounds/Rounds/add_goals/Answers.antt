@@ -9,17 +9,17 @@ pub invariant_of-self : goal.invariant_of-self
 invariant_of-self c =
     let i = c.self.inside in
     let g = each-of-all (IsGoal i.cx.trees) c.args.goals.now (subst (λ (e : Evaluator). All (IsGoal e.context.trees) c.args.goals.now) (sym c.self.view_is) c.requires) in
-    goals-hold i.cx.trees i.inference c.add_all.new.self (reverse i.probes.items) c.args.source c.args.goals.now c.add_all.result c.self.invariant g c.add_all.ensures.added c.add_all.ensures.unchanged
+    record { consistent = goals-hold i.cx.trees i.inference c.add_all.new.self (reverse i.probes.items) c.args.source c.args.goals.now c.add_all.result c.self.invariant.consistent g c.add_all.ensures.added c.add_all.ensures.unchanged; given = c.self.invariant.given }
 
 pub returns-clause-probes : goal.returns-clause-probes
 returns-clause-probes c =
     let i = c.self.inside in
-    probes-stay i.cx.trees i.mode i.inference c.add_all.new.self (reverse i.probes.items) c.self.invariant.marks (goals-undone i.inference c.add_all.new.self c.args.source c.args.goals.now c.add_all.result c.add_all.ensures.added c.add_all.ensures.unchanged)
+    probes-stay i.cx.trees i.mode i.inference c.add_all.new.self (reverse i.probes.items) c.self.invariant.consistent.marks (goals-undone i.inference c.add_all.new.self c.args.source c.args.goals.now c.add_all.result c.add_all.ensures.added c.add_all.ensures.unchanged)
     ∙ ap probes c.self.view_is
 
 pub returns-clause-ok : goal.returns-clause-ok
 returns-clause-ok c =
     let i = c.self.inside in
     let g = each-of-all (IsGoal i.cx.trees) c.args.goals.now (subst (λ (e : Evaluator). All (IsGoal e.context.trees) c.args.goals.now) (sym c.self.view_is) c.requires) in
-    let s = goals-state i.cx.trees i.mode i.inference c.add_all.new.self (reverse i.probes.items) c.args.source c.args.goals.now c.add_all.result c.self.invariant g c.add_all.ensures.added in
+    let s = goals-state i.cx.trees i.mode i.inference c.add_all.new.self (reverse i.probes.items) c.args.source c.args.goals.now c.add_all.result c.self.invariant.consistent g c.add_all.ensures.added in
     subst (λ (e : Evaluator). OnOk c.add_all.result (state_of i.cx.trees i.mode c.add_all.new.self ≡ with_goals_of e.context.trees (state e) c.args.source c.args.goals.now)) c.self.view_is s

@@ -11,12 +11,12 @@ pub invariant_of-self : goal.invariant_of-self
 invariant_of-self c =
     let i = c.self.inside in
     let ks = reverse i.probes.items in
-    change-holds i.cx.trees i.inference c.add_variables.new.self (with_variables i.inference c.args.kinds.now) ks c.add_variables.result c.self.invariant (holds-variables i.cx.trees i.inference ks c.args.kinds.now c.self.invariant) c.add_variables.ensures.added c.add_variables.ensures.unchanged
+    record { consistent = change-holds i.cx.trees i.inference c.add_variables.new.self (with_variables i.inference c.args.kinds.now) ks c.add_variables.result c.self.invariant.consistent (holds-variables i.cx.trees i.inference ks c.args.kinds.now c.self.invariant.consistent) c.add_variables.ensures.added c.add_variables.ensures.unchanged; given = c.self.invariant.given }
 
 pub returns-clause-probes : goal.returns-clause-probes
 returns-clause-probes c =
     let i = c.self.inside in
-    probes-stay i.cx.trees i.mode i.inference c.add_variables.new.self (reverse i.probes.items) c.self.invariant.marks
+    probes-stay i.cx.trees i.mode i.inference c.add_variables.new.self (reverse i.probes.items) c.self.invariant.consistent.marks
     (change-undone i.inference c.add_variables.new.self (with_variables i.inference c.args.kinds.now) c.add_variables.result (undo-variables i.inference c.args.kinds.now) c.add_variables.ensures.added c.add_variables.ensures.unchanged)
     ∙ ap probes c.self.view_is
 

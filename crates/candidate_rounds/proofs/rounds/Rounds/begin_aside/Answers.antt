@@ -18,8 +18,8 @@ invariant_of-self-in-Ok c =
     let i = c.self.inside.inference in
     let ts = c.self.inside.cx.trees in
     let t = begin_pending i (length i.goals) in
-    let one = holds-begun ts i (reverse c.self.inside.probes.items) c.self.invariant in
-    subst (λ x. IsConsistent ts x (reverse c.push.new.self.items)) (sym c.in-Ok.ensures.aside) (subst (IsConsistent ts t) (sym (marks-are c)) one)
+    let one = holds-begun ts i (reverse c.self.inside.probes.items) c.self.invariant.consistent in
+    record { consistent = subst (λ x. IsConsistent ts x (reverse c.push.new.self.items)) (sym c.in-Ok.ensures.aside) (subst (IsConsistent ts t) (sym (marks-are c)) one); given = c.self.invariant.given }
 
 pub returns-in-Ok-clause-ok : goal.returns-in-Ok-clause-ok
 returns-in-Ok-clause-ok c =
@@ -32,6 +32,6 @@ returns-in-Ok-clause-ok c =
     let st = ap (state_of ts mode) aside ∙ (none-pending ts mode i ∙ ap (λ (e : Evaluator). with_pending (state e) []) c.self.view_is) in
     let ps = ap (λ ns. states_at ts mode c.set_aside.new.self ns) marks
     ∙ (ap (λ x. states_at ts mode x (length i.trail ∷ ks)) aside
-    ∙ (probe-begins ts mode i (begin_pending i (length i.goals)) ks c.self.invariant.marks (undo-pending i (length i.goals))
+    ∙ (probe-begins ts mode i (begin_pending i (length i.goals)) ks c.self.invariant.consistent.marks (undo-pending i (length i.goals))
     ∙ ap (λ (e : Evaluator). state e ∷ probes e) c.self.view_is)) in
     (st, ps)

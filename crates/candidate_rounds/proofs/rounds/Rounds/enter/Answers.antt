@@ -11,12 +11,12 @@ pub invariant_of-self : goal.invariant_of-self
 invariant_of-self c =
     let i = c.self.inside in
     let ks = reverse i.probes.items in
-    change-holds i.cx.trees i.inference c.enter.new.self (enter i.inference) ks c.enter.result c.self.invariant (holds-enter i.cx.trees i.inference ks c.self.invariant) c.enter.ensures.entered c.enter.ensures.unchanged
+    record { consistent = change-holds i.cx.trees i.inference c.enter.new.self (enter i.inference) ks c.enter.result c.self.invariant.consistent (holds-enter i.cx.trees i.inference ks c.self.invariant.consistent) c.enter.ensures.entered c.enter.ensures.unchanged; given = c.self.invariant.given }
 
 pub returns-clause-probes : goal.returns-clause-probes
 returns-clause-probes c =
     let i = c.self.inside in
-    probes-stay i.cx.trees i.mode i.inference c.enter.new.self (reverse i.probes.items) c.self.invariant.marks
+    probes-stay i.cx.trees i.mode i.inference c.enter.new.self (reverse i.probes.items) c.self.invariant.consistent.marks
     (change-undone i.inference c.enter.new.self (enter i.inference) c.enter.result (undo-enter i.inference) c.enter.ensures.entered c.enter.ensures.unchanged)
     ∙ ap probes c.self.view_is
 

@@ -2,19 +2,20 @@ use Rattle.std.proofs.Common.{reverse, ◌∙◌, ap}
 use Rattle.candidate_rounds.specs.Known.{state, probes}
 use Rattle.candidate_rounds.proofs.Knowing.{probes-grow, state-stays}
 use Rattle.candidate_rounds.proofs.Probing.{holds-grown}
+use Rattle.candidate_rounds.proofs.Knowing.{given-grown}
 use Rattle.candidate_rounds.proofs.rounds.Rounds.make_leaves.Goals as goal
 
 pub invariant_of-self : goal.invariant_of-self
 invariant_of-self c =
     let i = c.self.inside in
-    holds-grown i.cx.trees c.leaf_args.new.cx.trees i.inference (reverse i.probes.items) c.leaf_args.ensures.grows.kept c.self.invariant
+    record { consistent = holds-grown i.cx.trees c.leaf_args.new.cx.trees i.inference (reverse i.probes.items) c.leaf_args.ensures.grows.kept c.self.invariant.consistent; given = given-grown c.self.inside.cx.trees c.leaf_args.new.cx.trees c.self.inside.normal.items c.self.inside.opaques.items c.leaf_args.ensures.grows.kept c.self.invariant.given }
 
 pub returns-clause-probes : goal.returns-clause-probes
 returns-clause-probes c =
     let i = c.self.inside in
-    probes-grow i.cx.trees c.leaf_args.new.cx.trees i.mode i.inference (reverse i.probes.items) c.leaf_args.ensures.grows.kept c.self.invariant.known ∙ ap probes c.self.view_is
+    probes-grow i.cx.trees c.leaf_args.new.cx.trees i.mode i.inference (reverse i.probes.items) c.leaf_args.ensures.grows.kept c.self.invariant.consistent.known ∙ ap probes c.self.view_is
 
 pub returns-clause-state : goal.returns-clause-state
 returns-clause-state c =
     let i = c.self.inside in
-    state-stays i.cx.trees c.leaf_args.new.cx.trees i.mode i.inference c.leaf_args.ensures.grows.kept c.self.invariant.known ∙ ap state c.self.view_is
+    state-stays i.cx.trees c.leaf_args.new.cx.trees i.mode i.inference c.leaf_args.ensures.grows.kept c.self.invariant.consistent.known ∙ ap state c.self.view_is

@@ -5,36 +5,43 @@ use Rattle.candidate_rounds.proofs.Undoing.{undo-variable}
 use Rattle.candidate_rounds.proofs.Knowing.{probes-stay, probes-grow}
 use Rattle.candidate_rounds.proofs.Probing.{holds-grown}
 use Rattle.candidate_rounds.proofs.Holding.{holds-variable, before-grown}
+use Rattle.candidate_rounds.proofs.Knowing.{given-grown}
 use Rattle.candidate_rounds.proofs.rounds.Rounds.new_variable.Goals as goal
 
 pub invariant_of-self : goal.invariant_of-self
 invariant_of-self c =
     let i = c.self.inside in
-    holds-grown i.cx.trees c.variable.new.cx.trees i.inference (reverse i.probes.items) c.variable.ensures.grows.kept c.self.invariant
+    record { consistent = holds-grown i.cx.trees c.variable.new.cx.trees i.inference (reverse i.probes.items) c.variable.ensures.grows.kept c.self.invariant.consistent; given = given-grown c.self.inside.cx.trees c.variable.new.cx.trees c.self.inside.normal.items c.self.inside.opaques.items c.variable.ensures.grows.kept c.self.invariant.given }
 
 pub returns-in_err-arg-clause-probes : goal.returns-in_err-arg-clause-probes
 returns-in_err-arg-clause-probes c =
     let i = c.self.inside in
-    probes-grow i.cx.trees c.variable.new.cx.trees i.mode i.inference (reverse i.probes.items) c.variable.ensures.grows.kept c.self.invariant.known ∙ ap probes c.self.view_is
+    probes-grow i.cx.trees c.variable.new.cx.trees i.mode i.inference (reverse i.probes.items) c.variable.ensures.grows.kept c.self.invariant.consistent.known ∙ ap probes c.self.view_is
 
 pub invariant_of-self-in_err-add_variable : goal.invariant_of-self-in_err-add_variable
 invariant_of-self-in_err-add_variable c =
     let i = c.self.inside in
-    subst (λ x. IsConsistent c.variable.new.cx.trees x (reverse i.probes.items)) (sym c.in_err-add_variable.ensures.unchanged)
-    (holds-grown i.cx.trees c.variable.new.cx.trees i.inference (reverse i.probes.items) c.variable.ensures.grows.kept c.self.invariant)
+    record {
+      consistent = subst (λ x. IsConsistent c.variable.new.cx.trees x (reverse i.probes.items)) (sym c.in_err-add_variable.ensures.unchanged)
+          (holds-grown i.cx.trees c.variable.new.cx.trees i.inference (reverse i.probes.items) c.variable.ensures.grows.kept c.self.invariant.consistent);
+      given = given-grown c.self.inside.cx.trees c.variable.new.cx.trees c.self.inside.normal.items c.self.inside.opaques.items c.variable.ensures.grows.kept c.self.invariant.given;
+    }
 
 pub returns-in_err-add_variable-clause-probes : goal.returns-in_err-add_variable-clause-probes
 returns-in_err-add_variable-clause-probes c =
     let i = c.self.inside in
     ap (λ x. states_at c.variable.new.cx.trees i.mode x (reverse i.probes.items)) c.in_err-add_variable.ensures.unchanged
-    ∙ (probes-grow i.cx.trees c.variable.new.cx.trees i.mode i.inference (reverse i.probes.items) c.variable.ensures.grows.kept c.self.invariant.known ∙ ap probes c.self.view_is)
+    ∙ (probes-grow i.cx.trees c.variable.new.cx.trees i.mode i.inference (reverse i.probes.items) c.variable.ensures.grows.kept c.self.invariant.consistent.known ∙ ap probes c.self.view_is)
 
 pub invariant_of-self-2 : goal.invariant_of-self-2
 invariant_of-self-2 c =
     let i = c.self.inside in
-    subst (λ x. IsConsistent c.variable.new.cx.trees x (reverse i.probes.items)) (sym c.in_ok-add_variable.ensures.added)
-    (holds-variable c.variable.new.cx.trees i.inference (reverse i.probes.items) c.args.kind c.args.is_root
-    (holds-grown i.cx.trees c.variable.new.cx.trees i.inference (reverse i.probes.items) c.variable.ensures.grows.kept c.self.invariant))
+    record {
+      consistent = subst (λ x. IsConsistent c.variable.new.cx.trees x (reverse i.probes.items)) (sym c.in_ok-add_variable.ensures.added)
+          (holds-variable c.variable.new.cx.trees i.inference (reverse i.probes.items) c.args.kind c.args.is_root
+          (holds-grown i.cx.trees c.variable.new.cx.trees i.inference (reverse i.probes.items) c.variable.ensures.grows.kept c.self.invariant.consistent));
+      given = given-grown c.self.inside.cx.trees c.variable.new.cx.trees c.self.inside.normal.items c.self.inside.opaques.items c.variable.ensures.grows.kept c.self.invariant.given;
+    }
 
 pub returns-clause-probes : goal.returns-clause-probes
 returns-clause-probes c =
@@ -42,14 +49,14 @@ returns-clause-probes c =
     let us = c.variable.new.cx.trees in
     let ks = reverse i.probes.items in
     ap (λ x. states_at us i.mode x ks) c.in_ok-add_variable.ensures.added
-    ∙ (probes-stay us i.mode i.inference (with_variable i.inference c.args.kind c.args.is_root) ks c.self.invariant.marks (undo-variable i.inference c.args.kind c.args.is_root)
-    ∙ (probes-grow i.cx.trees us i.mode i.inference ks c.variable.ensures.grows.kept c.self.invariant.known ∙ ap probes c.self.view_is))
+    ∙ (probes-stay us i.mode i.inference (with_variable i.inference c.args.kind c.args.is_root) ks c.self.invariant.consistent.marks (undo-variable i.inference c.args.kind c.args.is_root)
+    ∙ (probes-grow i.cx.trees us i.mode i.inference ks c.variable.ensures.grows.kept c.self.invariant.consistent.known ∙ ap probes c.self.view_is))
 
 pub returns-in_err-arg-clause-before : goal.returns-in_err-arg-clause-before
-returns-in_err-arg-clause-before c = before-grown c.variable.new.cx.trees _ c.args.self.now c.self.view_is c.variable.ensures.grows.kept c.self.invariant.known
+returns-in_err-arg-clause-before c = before-grown c.variable.new.cx.trees _ c.args.self.now c.self.view_is c.variable.ensures.grows.kept c.self.invariant.consistent.known
 
 pub returns-in_err-add_variable-clause-before : goal.returns-in_err-add_variable-clause-before
-returns-in_err-add_variable-clause-before c = before-grown c.variable.new.cx.trees _ c.args.self.now c.self.view_is c.variable.ensures.grows.kept c.self.invariant.known
+returns-in_err-add_variable-clause-before c = before-grown c.variable.new.cx.trees _ c.args.self.now c.self.view_is c.variable.ensures.grows.kept c.self.invariant.consistent.known
 
 pub returns-clause-before : goal.returns-clause-before
-returns-clause-before c = before-grown c.variable.new.cx.trees _ c.args.self.now c.self.view_is c.variable.ensures.grows.kept c.self.invariant.known
+returns-clause-before c = before-grown c.variable.new.cx.trees _ c.args.self.now c.self.view_is c.variable.ensures.grows.kept c.self.invariant.consistent.known
