@@ -7,3 +7,5 @@ pub mod Looks
 pub mod Sizes
 pub mod Ends
 pub mod EquatingLaws
+pub mod JudgeLaws
+pub mod SettlingCases
