@@ -9,3 +9,5 @@ pub mod Ends
 pub mod EquatingLaws
 pub mod JudgeLaws
 pub mod SettlingCases
+pub mod Opening
+pub mod Settling
