@@ -11,3 +11,5 @@ pub mod JudgeLaws
 pub mod SettlingCases
 pub mod Opening
 pub mod Settling
+pub mod Congruent
+pub mod Granting

@@ -12,9 +12,9 @@ use Rattle.candidate_ir.specs.Folding.{fold, leaf, argument, shift_tree}
 use Rattle.candidate_ir.specs.Nodes.{error_tree}
 use Rattle.candidate_ir.specs.Substitutions.{alone}
 use Rattle.candidate_ir.proofs.Folding.{begin}
-use Rattle.candidate_eval.specs.States.{placeholder, placeholders, nearer, opened_variable, opened_head}
+use Rattle.candidate_eval.specs.States.{Values, valued, valued_tree, placeholder, placeholders, nearer, opened_variable, opened_head}
 use Rattle.candidate_eval.specs.Characterization.{is_any_bound}
-use Rattle.candidate_rounds.proofs.Marks.{escape_parts, escape_whole, escapes_on, fold_marked}
+use Rattle.candidate_rounds.proofs.Marks.{escape_parts, escape_whole, escapes_on, fold_marked, valued_node}
 
 -- What stands for a head: an argument, a variable that is bound further out, or nothing.
 pub data Opens (ts : Forest) (d : ℕ) (h : Head) : Option Tree → Type 0 where
@@ -131,3 +131,55 @@ module _ (u : ℕ) (ks : List Kind) where
       node d h _ (argument_of i b) x e = subst (λ t. holds other (alone t) ≡ false) (let is : shift_tree d (argument (placeholders u 0 ks) i) ≡ x = cc in is) (argument_marked d i)
       node d h _ (further_out g b c f) x e = subst (λ t. holds other (alone t) ≡ false) (let is : leaf g ≡ x = cc in is) (single g (bound g c))
       node d h _ (itself f) x e = cc
+
+-- Values and placeholders may be put in in either order, where the values are closed and stand for variables alone.
+module _ (v : Values) (free : (h : Head) → is_any_bound h ≡ true → v h ≡ None) (placed : (k : Kind) (u i : ℕ) → v (placeholder k u i) ≡ None) (err : v H.Error ≡ None)
+    (are_closed : (h : Head) (t : Tree) → v h ≡ Some t → escapes 0 (alone t) ≡ false) (u : ℕ) (ks : List Kind) where
+  single_stays : (h : Head) → v h ≡ None → valued_tree v (leaf h) ≡ leaf h
+  single_stays h e = ap (λ o. unwrap_or o (leaf h)) e
+
+  argument_stays : (d i : ℕ) → valued_tree v (shift_tree d (argument (placeholders u 0 ks) i)) ≡ shift_tree d (argument (placeholders u 0 ks) i)
+  argument_stays d i =
+      subst (λ t. valued_tree v t ≡ t) (sym (shifted_argument d u 0 ks i)) (each_argument (λ t. valued_tree v t ≡ t) u (λ k i. single_stays (placeholder k u i) (placed k u i)) (single_stays H.Error err) 0 ks i)
+
+  with_rest : Forest → Forest → Forest
+  with_rest r none = none
+  with_rest r (tree h a b) = tree h a r
+
+  closed_first : (d : ℕ) (x : Tree) (r : Forest) → escapes 0 (alone x) ≡ false → opens u ks d (begin x r) ≡ begin x (opens u ks d r)
+  unfolding with_rest
+  closed_first d x r e = ap (with_rest (opens u ks d r)) (closed_stays u ks d (alone x) (escapes_on 0 d (alone x) (omega arith) e))
+
+  module _ (d : ℕ) (h : Head) (below rest : Forest) where
+    abbrev under : Forest
+    under = opens u ks (d + binders_of h) below
+
+    abbrev others : Forest
+    others = opens u ks d rest
+
+    -- what stands for the head holds no variable
+    opened_first : v h ≡ None → (p : Option Tree) → Opens (placeholders u 0 ks) d h p
+        → begin (unwrap_or p (record { head = h; children = valued v under })) (valued v others) ≡ valued v (begin (unwrap_or p (record { head = h; children = under })) others)
+    opened_first e _ (argument_of i b) = ap (λ t. begin t (valued v others)) (sym (argument_stays d i))
+    opened_first e _ (further_out g b c f) = ap (λ t. begin t (valued v others)) (sym (single_stays g (free g c)))
+    opened_first e _ (itself f) = ap (λ o. begin (unwrap_or o (record { head = h; children = valued v under })) (valued v others)) (sym e) ∙ sym (valued_node v h under others)
+
+    -- a head that has a value is none of those
+    valued_first : (x : Tree) → v h ≡ Some x → (p : Option Tree) → Opens (placeholders u 0 ks) d h p → begin x (valued v others) ≡ valued v (begin (unwrap_or p (record { head = h; children = under })) others)
+    valued_first x e _ (argument_of i b) = absurd (let clash : None ≡ Some x = sym (free h b) ∙ e in cc)
+    valued_first x e _ (further_out g b c f) = absurd (let clash : None ≡ Some x = sym (free h b) ∙ e in cc)
+    valued_first x e _ (itself f) = ap (λ o. begin (unwrap_or o (record { head = h; children = valued v under })) (valued v others)) (sym e) ∙ sym (valued_node v h under others)
+
+    opened_node : opens u ks (d + binders_of h) (valued v below) ≡ valued v under → opens u ks d (valued v rest) ≡ valued v others → (o : Option Tree) → v h ≡ o
+        → opens u ks d (begin (unwrap_or o (record { head = h; children = valued v below })) (valued v rest)) ≡ valued v (begin (unwrap_or (opened_head (placeholders u 0 ks) d h) (record { head = h; children = under })) others)
+    opened_node a b None e =
+        ap (λ x. begin (unwrap_or (opened_head (placeholders u 0 ks) d h) (record { head = h; children = x })) (opens u ks d (valued v rest))) a
+        ∙ ap (begin (unwrap_or (opened_head (placeholders u 0 ks) d h) (record { head = h; children = valued v under }))) b
+        ∙ opened_first e (opened_head (placeholders u 0 ks) d h) (which_opens (placeholders u 0 ks) d h)
+    opened_node a b (Some x) e =
+        closed_first d x (valued v rest) (are_closed h x e) ∙ ap (begin x) b
+        ∙ valued_first x e (opened_head (placeholders u 0 ks) d h) (which_opens (placeholders u 0 ks) d h)
+
+  pub opened_valued : (d : ℕ) (ts : Forest) → opens u ks d (valued v ts) ≡ valued v (opens u ks d ts)
+  opened_valued d none = refl
+  opened_valued d (tree h below rest) = ap (opens u ks d) (valued_node v h below rest) ∙ opened_node d h below rest (opened_valued (d + binders_of h) below) (opened_valued d rest) (v h) refl

@@ -9,7 +9,7 @@ use Rattle.candidate_rounds.specs.Equating.{equated, without_goals}
 use Rattle.candidate_rounds.specs.Normalizing.{normalized}
 use Rattle.candidate_rounds.specs.Settling.{settled}
 use Rattle.candidate_rounds.specs.Responding.{responded}
-use Rattle.candidate_rounds.specs.Granted.{granted}
+use Rattle.candidate_rounds.specs.Granted.{IsGranted}
 
 -- any of the opaque types may be hidden behind a general variable
 abbrev pub hidden_behind : List Tree → State → Tree → List Tree
@@ -24,7 +24,7 @@ rounds_judge w local l os = record {
   limits = record { orphan_walk = 256; alias_chain = 64; nested_constants = 128; recursion = 128 };
   alike = λ S T. T ≡ S;
   alike_in = λ n S ls T us. (T ≡ S) × (us ≡ ls);
-  granted = granted l;
+  granted = IsGranted l;
   equated = λ S e a b. without_goals (equated l S a b);
   normalized = normalized l;
   settled = settled l;
