@@ -118,7 +118,7 @@ abbrev pub terms_of : State → Instance
 terms_of S v = value_of S v.number
 
 module _ (l : Listing) (T : State) (M : Live) (fits : ValuesFit T) where
-  region_value : (n : ℕ) (t : Tree) → is_strange T M (H.Region (R.Var n)) ≡ false → value_of T n ≡ Some t → is_region t.head ≡ true
+  pub region_value : (n : ℕ) (t : Tree) → is_strange T M (H.Region (R.Var n)) ≡ false → value_of T n ≡ Some t → is_region t.head ≡ true
   region_value n t e v =
       let i = has_info (M n) Region (info T n) e in
       let kind = kind_there (M n) Region (info T n) e in

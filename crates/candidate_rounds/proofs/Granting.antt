@@ -23,7 +23,7 @@ use Rattle.candidate_eval.proofs.Holds.{holds_parts}
 use Rattle.candidate_rounds.specs.Listed.{Listing}
 use Rattle.candidate_rounds.specs.Standing.{IsListing}
 use Rattle.candidate_rounds.specs.Settling.{last_or, without_last, alias_of, term_of, arguments_of}
-use Rattle.candidate_rounds.specs.Granted.{AreGranted, IsFresh, IsFreshFor, IsGranted}
+use Rattle.candidate_rounds.specs.Granted.{FactsGranted, IsFresh, IsFreshFor, IsGranted}
 use Rattle.candidate_rounds.proofs.Marks.{whole, holds_to}
 use Rattle.candidate_rounds.proofs.Later.{value_closed, has_info}
 use Rattle.candidate_rounds.proofs.Opening.{opens, opened_valued, opened_marked}
@@ -142,7 +142,7 @@ module _ (S T : State) (L : Live) (later : IsLater S T L) where
 
 module _ (l : Listing) (listing : IsListing l) (T : State) (M : Live) (fits : ValuesFit T) where
   -- granted facts stay so where values are put in
-  pub facts_resolved : (h : Head) (ts : Forest) → holds (is_stray T M) ts ≡ false → AreGranted l h ts → AreGranted l h (resolved T ts)
+  pub facts_resolved : (h : Head) (ts : Forest) → holds (is_stray T M) ts ≡ false → FactsGranted l h ts → FactsGranted l h (resolved T ts)
   facts_resolved (H.Part (P.Clause (Cl.Projection i))) ts k g =
       same_to l (resolved T (alone (alias_of i ts))) (resolved T (alone (term_of ts))) (alone (alias_of i (resolved T ts))) (alone (term_of (resolved T ts))) (sym (alias_resolved T i ts)) (sym (term_resolved T ts))
       (same_resolved l T M fits listing (alone (alias_of i ts)) (alone (term_of ts)) (alias_marked (is_stray T M) i ts refl k) (term_marked (is_stray T M) refl ts k) g)
@@ -171,7 +171,7 @@ module _ (l : Listing) (listing : IsListing l) (S T : State) (L M : Live) (sound
       record {
         universe = a.universe;
         is_fresh = fresh_for_later S T L later ks a.universe (join g.env fs) (goal_known S L g of) a.is_fresh;
-        facts = subst (AreGranted l g.clause.head) (resolved_further S T L fits later a.universe ks fs known)
+        facts = subst (FactsGranted l g.clause.head) (resolved_further S T L fits later a.universe ks fs known)
             (facts_resolved l listing T M (later.fits fits) g.clause.head ts (holds_to (is_stray S L) (is_stray S L) (is_stray T M) (λ h e f. stray_later S T L M within later h e) ts counted counted) a.facts);
       }
 

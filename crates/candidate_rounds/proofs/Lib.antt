@@ -13,3 +13,5 @@ pub mod Opening
 pub mod Settling
 pub mod Congruent
 pub mod Granting
+pub mod Equated
+pub mod Dropped

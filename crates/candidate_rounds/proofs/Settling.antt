@@ -162,11 +162,11 @@ module _ (l : Listing) (listing : IsListing l) (L : Live) where
           goals = subst (λ gs. GoalsAreOf q.1 L gs) n.none (All-nil (λ (p : Pending). GoalIsOf q.1 L p.goal));
         }
 
-    trying : (ts : Forest) → AreTreesOf S L ts → (h : Head) (q : List Pending × State) → tried_as l S p ts h ≡ Some q → Leaves S L q
-    trying ts a (H.Part (P.Clause (Cl.Projection i))) q e = projecting i ts a (listed l (resolved_tree S (alias_of i ts))) refl q e
-    trying ts a (H.Part (P.Clause Cl.TypeOutlives)) q e = same_outcome (Leaves S L) ([], recorded S p.goal.clause) q e (recording p.goal.clause)
-    trying ts a (H.Part (P.Clause Cl.RegionOutlives)) q e = same_outcome (Leaves S L) ([], recorded S p.goal.clause) q e (recording p.goal.clause)
-    trying ts a _ q e = same_outcome (Leaves S L) (p ∷ [], S) q e staying
+    pub instance_leaves : (ts : Forest) → AreTreesOf S L ts → (h : Head) (q : List Pending × State) → tried_as l S p ts h ≡ Some q → Leaves S L q
+    instance_leaves ts a (H.Part (P.Clause (Cl.Projection i))) q e = projecting i ts a (listed l (resolved_tree S (alias_of i ts))) refl q e
+    instance_leaves ts a (H.Part (P.Clause Cl.TypeOutlives)) q e = same_outcome (Leaves S L) ([], recorded S p.goal.clause) q e (recording p.goal.clause)
+    instance_leaves ts a (H.Part (P.Clause Cl.RegionOutlives)) q e = same_outcome (Leaves S L) ([], recorded S p.goal.clause) q e (recording p.goal.clause)
+    instance_leaves ts a _ q e = same_outcome (Leaves S L) (p ∷ [], S) q e staying
 
   -- the instance with placeholders is one of the state with their universe
   pub tried_leaves : (S : State) → IsSound S L → ValuesFit S → (p : Pending) → GoalIsOf S L p.goal → (q : List Pending × State) → tried l S p ≡ Some q → Leaves S L q
@@ -174,14 +174,14 @@ module _ (l : Listing) (listing : IsListing l) (L : Live) where
     where
       at : (ks : List Kind)
           → (let f = group_at S (Bounded ks (after_first p.goal.clause.children)) in tried_as l f.0 (instance_of p ks f.1) f.1 p.goal.clause.head) ≡ Some q → Leaves S L q
-      at [] e = trying S sound fits p of (opens 0 [] 0 (after_first p.goal.clause.children)) (facts_of S L 0 [] p.goal.clause (omega arith) of.clause) p.goal.clause.head q e
+      at [] e = instance_leaves S sound fits p of (opens 0 [] 0 (after_first p.goal.clause.children)) (facts_of S L 0 [] p.goal.clause (omega arith) of.clause) p.goal.clause.head q e
       at (k ∷ ks) e =
           let R : State = with_universe S in
           let lead = lead_universe S L sound in
           let there = goal_later S R L lead.later p.goal of in
           let facts = facts_of R L (suc S.newest_universe) (k ∷ ks) p.goal.clause (omega arith) there.clause in
           let ts : Forest = opens (suc S.newest_universe) (k ∷ ks) 0 (after_first p.goal.clause.children) in
-          let left = trying R lead.sound (lead.later.fits fits) (instance_of p (k ∷ ks) ts) (instance_is_of R L p (k ∷ ks) ts there facts) ts facts p.goal.clause.head q e in
+          let left = instance_leaves R lead.sound (lead.later.fits fits) (instance_of p (k ∷ ks) ts) (instance_is_of R L p (k ∷ ks) ts there facts) ts facts p.goal.clause.head q e in
           record { leads = lead_along S R q.1 L sound lead left.leads; goals = left.goals }
 
   -- Goals in order

@@ -16,11 +16,11 @@ use Rattle.candidate_rounds.specs.Congruence.{SameTree}
 use Rattle.candidate_rounds.specs.Settling.{alias_of, term_of}
 
 -- The facts of a clause, by its head: a projection whose sides are equal, and all that outlives.
-abbrev pub AreGranted : Listing → Head → Forest → Type 0
-AreGranted l (H.Part (P.Clause (Cl.Projection i))) ts = SameTree l (alias_of i ts) (term_of ts)
-AreGranted l (H.Part (P.Clause Cl.TypeOutlives)) ts = Unit {0}
-AreGranted l (H.Part (P.Clause Cl.RegionOutlives)) ts = Unit {0}
-AreGranted l _ ts = ⊥
+abbrev pub FactsGranted : Listing → Head → Forest → Type 0
+FactsGranted l (H.Part (P.Clause (Cl.Projection i))) ts = SameTree l (alias_of i ts) (term_of ts)
+FactsGranted l (H.Part (P.Clause Cl.TypeOutlives)) ts = Unit {0}
+FactsGranted l (H.Part (P.Clause Cl.RegionOutlives)) ts = Unit {0}
+FactsGranted l _ ts = ⊥
 
 -- The universe is above the root, and above those of all variables and placeholders that the trees mention.
 pub record IsFresh (u : Universes) (n : ℕ) (ts : Forest) : Type 0 where
@@ -40,4 +40,4 @@ facts_in n c = opened (placeholders n 0 (bound_kinds c.children)) (after_first c
 pub record IsGranted (l : Listing) (S : State) (g : Goal) : Type 0 where
   pub universe : ℕ
   pub is_fresh : IsFreshFor (universes S) (bound_kinds g.clause.children) universe (join g.env (after_first g.clause.children))
-  pub facts : AreGranted l g.clause.head (resolved S (facts_in universe g.clause))
+  pub facts : FactsGranted l g.clause.head (resolved S (facts_in universe g.clause))
