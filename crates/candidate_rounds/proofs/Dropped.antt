@@ -168,7 +168,7 @@ module _ (l : Listing) (listing : IsListing l) (U : State) (L : Live) (fits_last
           all_granted S sound fits S.pending of q f (later_along q.1 (with_left q) U L L left.leads.sound (λ n l c. c) lead.later (subst (λ T. IsLater T U L) (sym is) after))
           (subst (λ (T : State). All Granted T.pending) (sym is) granted)
 
-  passes_granted : (n : ℕ) (S T : State) → IsSound S L → ValuesFit S → GoalsAreOf S L S.pending → passes l n S ≡ Some T → IsLater T U L → All Granted T.pending → All Granted S.pending
+  pub passes_granted : (n : ℕ) (S T : State) → IsSound S L → ValuesFit S → GoalsAreOf S L S.pending → passes l n S ≡ Some T → IsLater T U L → All Granted T.pending → All Granted S.pending
   passes_granted zero S T sound fits of e after granted = subst (λ (T : State). All Granted T.pending) (let is : T ≡ S = cc in is) granted
   passes_granted (suc n) S T sound fits of e after granted = at (pass l S) refl (λ R sound fits of e. passes_granted n R T sound fits of e after granted) e
     where

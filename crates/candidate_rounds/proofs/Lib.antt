@@ -15,3 +15,6 @@ pub mod Congruent
 pub mod Granting
 pub mod Equated
 pub mod Dropped
+pub mod Renumbering
+pub mod Responding
+pub mod Lawful
