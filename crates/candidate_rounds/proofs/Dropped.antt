@@ -27,7 +27,7 @@ use Rattle.candidate_rounds.specs.Listed.{Listing, listed}
 use Rattle.candidate_rounds.specs.Standing.{IsListing}
 use Rattle.candidate_rounds.specs.Equating.{equated, count_unbound}
 use Rattle.candidate_rounds.specs.Congruence.{SameTree, along}
-use Rattle.candidate_rounds.specs.Settling.{term_of, alias_of, instance_of, Outcome, projected, tried_as, tried, before, tried_all, with_left, pass, passes, settled}
+use Rattle.candidate_rounds.specs.Settling.{term_of, alias_of, instance_of, Outcome, projected, tried_as, tried, before, tried_all, with_staying, pass, passes, settled}
 use Rattle.candidate_rounds.specs.Granted.{FactsGranted, IsFreshFor, IsGranted}
 use Rattle.candidate_rounds.proofs.Later.{later_along, later_itself, strange_stays, has_info, kind_there, counted}
 use Rattle.candidate_rounds.proofs.Current.{listed_fixed, listed_known}
@@ -159,13 +159,13 @@ module _ (l : Listing) (listing : IsListing l) (U : State) (L : Live) (fits_last
   pass_granted : (S T : State) → IsSound S L → ValuesFit S → GoalsAreOf S L S.pending → pass l S ≡ Some T → IsLater T U L → All Granted T.pending → All Granted S.pending
   pass_granted S T sound fits of e after granted = at (tried_all l S S.pending) refl e
     where
-      at : (o : Outcome) → tried_all l S S.pending ≡ o → next o (λ q. Some (with_left q)) ≡ Some T → All Granted S.pending
+      at : (o : Outcome) → tried_all l S S.pending ≡ o → next o (λ q. Some (with_staying q)) ≡ Some T → All Granted S.pending
       at None f e = cc
       at (Some q) f e =
-          let is : with_left q ≡ T = cc in
+          let is : with_staying q ≡ T = cc in
           let left = all_tried_leave l listing L S sound fits S.pending of q f in
           let lead = lead_pending q.1 L q.0 left.leads.sound in
-          all_granted S sound fits S.pending of q f (later_along q.1 (with_left q) U L L left.leads.sound (λ n l c. c) lead.later (subst (λ T. IsLater T U L) (sym is) after))
+          all_granted S sound fits S.pending of q f (later_along q.1 (with_staying q) U L L left.leads.sound (λ n l c. c) lead.later (subst (λ T. IsLater T U L) (sym is) after))
           (subst (λ (T : State). All Granted T.pending) (sym is) granted)
 
   pub passes_granted : (n : ℕ) (S T : State) → IsSound S L → ValuesFit S → GoalsAreOf S L S.pending → passes l n S ≡ Some T → IsLater T U L → All Granted T.pending → All Granted S.pending
@@ -188,10 +188,10 @@ module _ (l : Listing) (listing : IsListing l) (U : State) (L : Live) (fits_last
 
 -- Only those that count of the variables that a state has
 
-abbrev there : State → Live → Live
+abbrev pub there : State → Live → Live
 there S L n = nat_lt n (length S.variables) && L n
 
-there_within : (S : State) (L M : Live) → Within S L M → (T : State) → Within T (there S L) M
+pub there_within : (S : State) (L M : Live) → Within S L M → (T : State) → Within T (there S L) M
 there_within S L M within T n less e =
     let p = and_parts (nat_lt n (length S.variables)) (L n) e in
     within n (ltb-true n (length S.variables) p.0) p.1
@@ -210,13 +210,13 @@ module _ (S : State) (L : Live) where
   strange_there (H.Region (R.Placeholder p)) e = e
   strange_there _ e = refl
 
-  known_there : (ts : Forest) → holds (is_strange S L) ts ≡ false → holds (is_strange S (there S L)) ts ≡ false
+  pub known_there : (ts : Forest) → holds (is_strange S L) ts ≡ false → holds (is_strange S (there S L)) ts ≡ false
   known_there ts e = holds_imply (is_strange S L) (is_strange S (there S L)) strange_there ts e
 
   counts : (n : ℕ) → there S L n ≡ true → L n ≡ true
   counts n e = (and_parts (nat_lt n (length S.variables)) (L n) e).1
 
-  sound_there : IsSound S L → IsSound S (there S L)
+  pub sound_there : IsSound S L → IsSound S (there S L)
   sound_there h = record {
     allowed = λ s n i t c. h.allowed s n i t (counts n c);
     no_higher = λ n i t c. h.no_higher n i t (counts n c);
@@ -230,7 +230,7 @@ module _ (S : State) (L : Live) where
       All-weaker (λ (p : Pending). GoalIsOf S L p.goal) (λ (p : Pending). GoalIsOf S (there S L) p.goal)
       (λ p g. record { env = record { known = known_there p.goal.env g.env.known; is_closed = g.env.is_closed }; clause = record { known = known_there (alone p.goal.clause) g.clause.known; is_closed = g.clause.is_closed } }) ps a
 
-later_fewer : (S T : State) (L M : Live) → IsSound S L → Within S L M → IsLater S T M → IsLater S T L
+pub later_fewer : (S T : State) (L M : Live) → IsSound S L → Within S L M → IsLater S T M → IsLater S T L
 later_fewer S T L M sound within a = record {
   longer = a.longer;
   infos = a.infos;

@@ -23,7 +23,7 @@ use Rattle.candidate_rounds.specs.Listed.{Listing, listed}
 use Rattle.candidate_rounds.specs.Standing.{IsListing}
 use Rattle.candidate_rounds.specs.Equating.{count_unbound}
 use Rattle.candidate_rounds.specs.Normalizing.{type_or_itself, normalized}
-use Rattle.candidate_rounds.specs.Settling.{tried_all, with_left, passes, certainty_of, with_certainty}
+use Rattle.candidate_rounds.specs.Settling.{tried_all, with_staying, passes, certainty_of, with_certainty}
 use Rattle.candidate_rounds.specs.Responding.{response, responded}
 use Rattle.candidate_rounds.specs.RoundsJudge.{rounds_judge}
 use Rattle.candidate_rounds.proofs.Marks.{fold_marked}
@@ -162,7 +162,7 @@ go_on l n S T e =
 
 nothing_tried : (l : Listing) (n : ℕ) (S : State) → S.pending ≡ [] → passes l (suc n) S ≡ Some S
 nothing_tried l n S e =
-    ap (λ ps. next (next (tried_all l S ps) (λ q. Some (with_left q))) (λ T. if nat_lt (count_unbound T.variables) (count_unbound S.variables) then passes l n T else Some T)) e
+    ap (λ ps. next (next (tried_all l S ps) (λ q. Some (with_staying q))) (λ T. if nat_lt (count_unbound T.variables) (count_unbound S.variables) then passes l n T else Some T)) e
     ∙ go_on l n S (with_pending S []) (ap (with_pending S) e)
 
 -- The state that a response is of.

@@ -18,3 +18,4 @@ pub mod Dropped
 pub mod Renumbering
 pub mod Responding
 pub mod Lawful
+pub mod Faithful

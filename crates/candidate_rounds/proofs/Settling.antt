@@ -23,7 +23,7 @@ use Rattle.candidate_eval.proofs.Holds.{holds_parts}
 use Rattle.candidate_rounds.specs.Listed.{Listing, listed}
 use Rattle.candidate_rounds.specs.Standing.{IsListing}
 use Rattle.candidate_rounds.specs.Equating.{Pair, looks, equated, count_unbound}
-use Rattle.candidate_rounds.specs.Settling.{term_of, alias_of, last_or, with_facts, instance_of, recorded, Outcome, projected, tried_as, tried, before, tried_all, with_left, pass, passes, settled, with_certainty}
+use Rattle.candidate_rounds.specs.Settling.{term_of, alias_of, last_or, with_facts, instance_of, recorded, Outcome, projected, tried_as, tried, before, tried_all, with_staying, pass, passes, settled, with_certainty}
 use Rattle.candidate_rounds.proofs.Marks.{whole, escape_parts, escape_whole, escapes_on}
 use Rattle.candidate_rounds.proofs.Later.{trees_later, later_itself, later_along, later_universe, sound_universe}
 use Rattle.candidate_rounds.proofs.Looks.{SoundLater, regions_keep, looked_keeps, start_stands}
@@ -221,13 +221,13 @@ module _ (l : Listing) (listing : IsListing l) (L : Live) where
   pub pass_leaves : (S T : State) → IsSound S L → ValuesFit S → GoalsAreOf S L S.pending → pass l S ≡ Some T → LeavesPending S T
   pass_leaves S T sound fits of e = at (tried_all l S S.pending) refl e
     where
-      at : (o : Outcome) → tried_all l S S.pending ≡ o → next o (λ q. Some (with_left q)) ≡ Some T → LeavesPending S T
+      at : (o : Outcome) → tried_all l S S.pending ≡ o → next o (λ q. Some (with_staying q)) ≡ Some T → LeavesPending S T
       at None f e = cc
       at (Some q) f e =
           let left = all_tried_leave S sound fits S.pending of q f in
           let lead = lead_pending q.1 L q.0 left.leads.sound in
-          subst (LeavesPending S) (let is : with_left q ≡ T = cc in is)
-          (record { leads = lead_along S q.1 (with_left q) L sound left.leads lead; goals = goals_later q.1 (with_left q) L lead.later q.0 left.goals })
+          subst (LeavesPending S) (let is : with_staying q ≡ T = cc in is)
+          (record { leads = lead_along S q.1 (with_staying q) L sound left.leads lead; goals = goals_later q.1 (with_staying q) L lead.later q.0 left.goals })
 
   pub passes_leave : (n : ℕ) (S T : State) → IsSound S L → ValuesFit S → GoalsAreOf S L S.pending → passes l n S ≡ Some T → LeavesPending S T
   passes_leave zero S T sound fits of e = subst (LeavesPending S) (let is : S ≡ T = cc in is) (record { leads = lead_itself S L sound; goals = of })

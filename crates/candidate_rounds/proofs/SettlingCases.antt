@@ -17,7 +17,7 @@ use Rattle.candidate_ir.specs.Trees.{Forest, none, tree, Tree}
 use Rattle.candidate_ir.specs.Folding.{leaf}
 use Rattle.candidate_eval.specs.declared.eval.certainty.Certainty.TheVariants.{Yes}
 use Rattle.candidate_eval.specs.declared.eval.mode.TypingMode.TheVariants.{PostAnalysis}
-use Rattle.candidate_eval.specs.declared.eval.variable.VariableKind.TheVariants.{Term}
+use Rattle.candidate_eval.specs.declared.eval.variable.VariableKind.TheVariants.{Term, Region}
 use Rattle.candidate_eval.specs.Certainties.{AMBIGUOUS}
 use Rattle.candidate_eval.specs.States.{State, VariableInfo, Pending}
 use Rattle.candidate_rounds.specs.Listed.{Listing}
@@ -120,3 +120,26 @@ same_number : responded [] (start (root (Some (pair (var 1) (var 1))) ∷ other 
       certainty = AMBIGUOUS;
     })
 same_number = refl
+
+-- a variable that stands in constraints alone is numbered after those of the values
+abbrev region_info : VariableInfo
+region_info = record { kind = Region; universe = 0; value = None; is_root = false }
+
+abbrev region_var : ℕ → Tree
+region_var n = leaf (H.Region (R.Var n))
+
+abbrev constraint : ℕ → ℕ → Tree
+constraint m n = over (H.Part (P.Clause Cl.RegionOutlives)) (over (H.Part P.Vars) [] ∷ region_var m ∷ region_var n ∷ [])
+
+constraints_last : responded [] (record (start (region_info ∷ region_info ∷ root None ∷ []) []) { regions = constraint 1 0 ∷ [] }) Yes
+    ≡ Some (record {
+      vars = record { kind = Term V.General; universe = 0 } ∷ record { kind = Region; universe = 0 } ∷ record { kind = Region; universe = 0 } ∷ [];
+      values = tree (var 0).head none none;
+      regions = constraint 1 2 ∷ [];
+      certainty = Yes;
+    })
+constraints_last = refl
+
+-- a goal that is refused refuses all
+one_refused : settled listing (start (root None ∷ []) (outlives ∷ projects u8 (var 0) ∷ projects u8 u8 ∷ [])) ≡ None
+one_refused = refl

@@ -87,11 +87,11 @@ abbrev pub tried_all : Listing → State → List Pending → Outcome
 tried_all l S [] = Some ([], S)
 tried_all l S (p ∷ ps) = next (tried l S p) (λ q. before q.0 (tried_all l q.1 ps))
 
-abbrev pub with_left : List Pending × State → State
-with_left q = with_pending q.1 q.0
+abbrev pub with_staying : List Pending × State → State
+with_staying q = with_pending q.1 q.0
 
 abbrev pub pass : Listing → State → Option State
-pass l S = next (tried_all l S S.pending) (λ q. Some (with_left q))
+pass l S = next (tried_all l S S.pending) (λ q. Some (with_staying q))
 
 -- At most so many passes; another one while the last gave a variable a value.
 abbrev pub passes : Listing → ℕ → State → Option State
