@@ -62,7 +62,7 @@ fixed_strange S L h e = at h e
     at (H.Region (R.Placeholder p)) e = low p.universe e
     at _ e = refl
 
-fixed_unvalued : (S : State) (h : Head) → is_made h ≡ false → has_value S h ≡ false
+pub fixed_unvalued : (S : State) (h : Head) → is_made h ≡ false → has_value S h ≡ false
 fixed_unvalued S (H.Infer v) e = cc
 fixed_unvalued S (H.Region (R.Var n)) e = cc
 fixed_unvalued S _ e = refl
@@ -131,7 +131,7 @@ all_at P (x ∷ us) (suc i) u a e = all_at P us i u (All-tail P x us a) e
 -- At a state
 
 module _ (l : Listing) (listing : IsListing l) (S : State) (L : Live) (sound : IsSound S L) where
-  root_known : (t : Tree) → holds (is_strange S L) (alone t) ≡ false → holds (is_strange S L) (alone (resolved_root S t)) ≡ false
+  pub root_known : (t : Tree) → holds (is_strange S L) (alone t) ≡ false → holds (is_strange S L) (alone (resolved_root S t)) ≡ false
   root_known t k = at (root_value S t.head) refl
     where
       at : (o : Option Tree) → root_value S t.head ≡ o → holds (is_strange S L) (alone (unwrap_or o t)) ≡ false

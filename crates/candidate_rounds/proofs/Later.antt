@@ -100,7 +100,7 @@ module _ (S T : State) (L M : Live) (within : Within S L M) (later : IsLater S T
   low_stays : (u : ℕ) → nat_lt S.newest_universe u ≡ false → nat_lt T.newest_universe u ≡ false
   low_stays u e = le-ltb T.newest_universe u (le_trans (ltb-false S.newest_universe u e) later.newest)
 
-  strange_stays : (h : Head) → is_strange S L h ≡ false → is_strange T M h ≡ false
+  pub strange_stays : (h : Head) → is_strange S L h ≡ false → is_strange T M h ≡ false
   strange_stays (H.Infer v) e = stays_counted v.number (Term v.sort) e
   strange_stays (H.Region (R.Var n)) e = stays_counted n Region e
   strange_stays (H.Placeholder p) e = low_stays p.universe e

@@ -25,3 +25,15 @@ pub mod EquatingLaws
 pub mod Leafing
 pub mod EquationLaws
 pub mod EquationPremises
+pub mod JudgeLaws
+pub mod SettlingCases
+pub mod Opening
+pub mod Settling
+pub mod Congruent
+pub mod Granting
+pub mod Equated
+pub mod Dropped
+pub mod Renumbering
+pub mod Responding
+pub mod Lawful
+pub mod Faithful

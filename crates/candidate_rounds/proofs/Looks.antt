@@ -145,7 +145,7 @@ pub record SoundLater (S : State) (L : Live) (T : State) : Type 0 where
   pub sound : IsSound T L
   pub later : IsLater S T L
 
-regions_keep : (S : State) (L : Live) (rs : List Tree) → IsSound S L → SoundLater S L (with_regions S rs)
+pub regions_keep : (S : State) (L : Live) (rs : List Tree) → IsSound S L → SoundLater S L (with_regions S rs)
 regions_keep S L rs h =
     let l : IsLater S S L = later_itself S L h in
     record {

@@ -6,3 +6,9 @@ pub mod Scopes
 pub mod Binding
 pub mod Equating
 pub mod Standing
+pub mod Normalizing
+pub mod Settling
+pub mod Responding
+pub mod Congruence
+pub mod Granted
+pub mod RoundsJudge
