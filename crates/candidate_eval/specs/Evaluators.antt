@@ -13,7 +13,7 @@ use Rattle.candidate_ir.specs.Context.{Context, Grows, parameter_kind}
 use Rattle.candidate_ir.specs.Words.{IsParamEnv, IsClause, env_forest, clause_tree, kind_tree}
 use Rattle.candidate_eval.specs.declared.eval.context.ProbeKind.{ProbeKind}
 use Rattle.candidate_eval.specs.declared.eval.context.ProbeKind.TheVariants as P
-use Rattle.candidate_eval.specs.States.{Env, State, Goal, Pending, Judge, with_pending, with_universe, placeholders, value_of, next}
+use Rattle.candidate_eval.specs.States.{Env, State, Goal, Pending, Judge, with_pending, with_universe, placeholders, value_at, next}
 
 -- A call keeps what is fixed and the open probes, and numbers have their trees still: of the evaluator only its state changes.
 abbrev pub Keeps : {E F : Type 0} → (E → F) → (E → List State) → (E → Context) → E → E → Type 0
@@ -49,7 +49,7 @@ accepted J S e a b = next (J.equated S e a b) (λ q. Some (with_left q))
 -- The tree, with the value in the place of a variable of types or constants that is its root.
 
 abbrev pub root_value : State → Head → Option Tree
-root_value S (H.Infer v) = value_of S v.number
+root_value S (H.Infer v) = value_at S (H.Infer v)
 root_value S _ = None
 
 abbrev pub resolved_root : State → Tree → Tree

@@ -10,10 +10,10 @@ use Rattle.candidate_ir.specs.declared.ir.kinds.RegionKind.TheVariants as R
 use Rattle.candidate_ir.specs.Trees.{Forest, none, tree, Tree, erase, holds, variable_number}
 use Rattle.candidate_ir.specs.Binders.{escapes}
 use Rattle.candidate_ir.specs.Folding.{leaf}
-use Rattle.candidate_ir.specs.Substitutions.{Universes, Substitution, IsAllowed, IsAllowedBinding, alone, apply, same_sort, fits_sort}
+use Rattle.candidate_ir.specs.Substitutions.{Universes, Substitution, IsAllowed, IsAllowedBinding, alone, apply, fits_sort}
 use Rattle.candidate_eval.specs.declared.eval.variable.VariableKind.{VariableKind}
 use Rattle.candidate_eval.specs.declared.eval.variable.VariableKind.TheVariants.{Term, Region}
-use Rattle.candidate_eval.specs.States.{State, VariableInfo, Goal, Pending, value_at, resolved, is_some}
+use Rattle.candidate_eval.specs.States.{State, VariableInfo, Goal, Pending, has_kind, value_at, resolved, is_some}
 use Rattle.candidate_eval.specs.Alike.{info}
 
 abbrev pub universe_in : Option VariableInfo → ℕ
@@ -36,15 +36,6 @@ has_value S h = is_some (value_at S h)
 -- All values are put in.
 abbrev pub IsResolved : State → Forest → Type 0
 IsResolved S ts = holds (has_value S) ts ≡ false
-
-abbrev pub same_kind : VariableKind → VariableKind → Bool
-same_kind (Term s) (Term t) = same_sort s t
-same_kind Region Region = true
-same_kind _ _ = false
-
-abbrev pub has_kind : VariableKind → Option VariableInfo → Bool
-has_kind k None = false
-has_kind k (Some i) = same_kind i.kind k
 
 -- Some of a state's variables, by their numbers: those that count. What a closed probe left behind may be left out.
 abbrev pub Live : Type 0

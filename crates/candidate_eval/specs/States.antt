@@ -9,6 +9,7 @@ use Rattle.candidate_ir.specs.declared.ir.kinds.BoundVar.{BoundVar}
 use Rattle.candidate_ir.specs.declared.ir.kinds.GoalSource.{GoalSource}
 use Rattle.candidate_ir.specs.Trees.{Kind, ConstantKind, RegionKind, Forest, none, tree, Tree}
 use Rattle.candidate_ir.specs.Folding.{fold, fold_tree, leaf, argument, shift_tree}
+use Rattle.candidate_ir.specs.Substitutions.{same_sort}
 use Rattle.candidate_ir.specs.Worlds.{World}
 use Rattle.candidate_eval.specs.declared.eval.mode.TypingMode.{TypingMode}
 use Rattle.candidate_eval.specs.declared.eval.variable.VariableKind.{VariableKind}
@@ -127,6 +128,18 @@ valued v ts = fold (λ _ t. v t.head) 0 ts
 abbrev pub valued_tree : Values → Tree → Tree
 valued_tree v t = fold_tree (λ _ u. v u.head) 0 t
 
+-- Kinds of variables, compared.
+
+abbrev pub same_kind : VariableKind → VariableKind → Bool
+same_kind (Term s) (Term t) = same_sort s t
+same_kind Region Region = true
+same_kind _ _ = false
+
+-- the variable is there, and of that kind
+abbrev pub has_kind : VariableKind → Option VariableInfo → Bool
+has_kind k None = false
+has_kind k (Some i) = same_kind i.kind k
+
 -- The values of a state, put in.
 
 abbrev pub value_in : Option VariableInfo → Option Tree
@@ -136,9 +149,14 @@ value_in (Some i) = i.value
 abbrev pub value_of : State → ℕ → Option Tree
 value_of S n = value_in (slice_get S.variables n)
 
+-- the value of the variable of that number, if it is of that kind
+abbrev pub value_as : State → VariableKind → ℕ → Option Tree
+value_as S k n = if has_kind k (slice_get S.variables n) then value_of S n else None
+
+-- A value stands for its variable in the variable's own kind alone.
 abbrev pub value_at : State → Head → Option Tree
-value_at S (H.Infer v) = value_of S v.number
-value_at S (H.Region (R.Var n)) = value_of S n
+value_at S (H.Infer v) = value_as S (Term v.sort) v.number
+value_at S (H.Region (R.Var n)) = value_as S Region n
 value_at S _ = None
 
 abbrev pub resolved : State → Forest → Forest

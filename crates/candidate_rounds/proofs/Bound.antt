@@ -18,12 +18,12 @@ use Rattle.candidate_ir.proofs.Instances.{same_sort_is}
 use Rattle.candidate_eval.specs.declared.eval.variable.VariableKind.{VariableKind}
 use Rattle.candidate_eval.specs.declared.eval.variable.VariableKind.TheVariants.{Term, Region}
 use Rattle.candidate_eval.specs.Responses.{is_number}
-use Rattle.candidate_eval.specs.States.{State, VariableInfo, value_in, value_of, value_at, valued, valued_tree, resolved, is_some}
+use Rattle.candidate_eval.specs.States.{State, VariableInfo, value_in, value_of, value_as, value_at, valued, valued_tree, resolved, is_some, has_kind, same_kind}
 use Rattle.candidate_eval.specs.Alike.{info}
-use Rattle.candidate_eval.specs.Soundness.{Live, OfValues, IsSound, ValuesFit, IsResolved, IsLater, universes, universe_in, is_variable_above, has_value, has_kind, same_kind, is_strange, is_region, fits_kind}
+use Rattle.candidate_eval.specs.Soundness.{Live, OfValues, IsSound, ValuesFit, IsResolved, IsLater, universes, universe_in, is_variable_above, has_value, is_strange, is_region, fits_kind}
 use Rattle.candidate_rounds.specs.Binding.{occurs, single, info_after, numbered, bound}
 use Rattle.candidate_rounds.proofs.Marks.{whole, holds_erased, holds_to, fold_marked, fold_closed, valued_twice}
-use Rattle.candidate_rounds.proofs.Later.{has_info, kind_there, no_value, resolved_known, idle}
+use Rattle.candidate_rounds.proofs.Later.{has_info, kind_there, no_value, value_as_is, value_as_of, resolved_known, idle}
 
 get_numbered : {A B : Type 0} (f : ℕ → A → B) (n m : ℕ) (xs : List A) → slice_get (numbered f n xs) m ≡ option_map (f (n + m)) (slice_get xs m)
 get_numbered f n m [] = refl
@@ -161,8 +161,24 @@ module _ (S : State) (v : Variable) (t : Tree) where
       at None = refl
       at (Some i) = ap (λ b. if b then Some t else option_map (valued_tree (single v t)) i.value) e
 
-  pub value_own : (i : VariableInfo) → info S v.number ≡ Some i → value_of (bound S v t) v.number ≡ Some t
+  pub value_as_other : (k : VariableKind) (m : ℕ) → (m == v.number) ≡ false → value_as (bound S v t) k m ≡ option_map (valued_tree (single v t)) (value_as S k m)
+  value_as_other k m e =
+      ap (λ b. if b then value_of (bound S v t) m else None) (kind_bound k m)
+      ∙ ap (λ o. if has_kind k (info S m) then o else None) (value_other m e) ∙ at (has_kind k (info S m))
+    where
+      at : (b : Bool) → (if b then option_map (valued_tree (single v t)) (value_of S m) else None) ≡ option_map (valued_tree (single v t)) (if b then value_of S m else None)
+      at true = refl
+      at false = refl
+
+  value_own : (i : VariableInfo) → info S v.number ≡ Some i → value_of (bound S v t) v.number ≡ Some t
   value_own i e = ap value_in (now v.number i e) ∙ ap (λ b. if b then Some t else option_map (valued_tree (single v t)) i.value) (eq-eqb v.number v.number refl)
+
+  -- the variable has its value in its own kind
+  pub value_given : (L : Live) → is_strange S L (H.Infer v) ≡ false → value_at (bound S v t) (H.Infer v) ≡ Some t
+  value_given L k =
+      let i = has_info (L v.number) (Term v.sort) (info S v.number) k in
+      let there : has_kind (Term v.sort) (info S v.number) ≡ true = kind_there (L v.number) (Term v.sort) (info S v.number) k in
+      value_as_is (bound S v t) (Term v.sort) v.number (kind_bound (Term v.sort) v.number ∙ there) ∙ value_own i.0 i.1
 
   -- where a value comes from
   pub data ValueAfter (m : ℕ) (i : VariableInfo) (x : Tree) : Type 0 where
@@ -258,9 +274,6 @@ module _ (S : State) (L : Live) (v : Variable) (t : Tree) (can : CanTake S L v t
   abbrev T : State
   T = bound S v t
 
-  own_info : (i : VariableInfo) × (info S v.number ≡ Some i) × (L v.number ≡ true)
-  own_info = has_info (L v.number) (Term v.sort) (info S v.number) can.is_known
-
   own_kind : has_kind (Term v.sort) (info S v.number) ≡ true
   own_kind = kind_there (L v.number) (Term v.sort) (info S v.number) can.is_known
 
@@ -299,34 +312,34 @@ module _ (S : State) (L : Live) (v : Variable) (t : Tree) (can : CanTake S L v t
   another _ k e = refl
 
   pub unvalued : (h : Head) → has_value S h ≡ false → is_number v.number h ≡ false → has_value T h ≡ false
-  unvalued (H.Infer w) e n = ap is_some (value_other S v t w.number n ∙ ap (option_map (valued_tree (single v t))) (no_value (value_of S w.number) e))
-  unvalued (H.Region (R.Var m)) e n = ap is_some (value_other S v t m n ∙ ap (option_map (valued_tree (single v t))) (no_value (value_of S m) e))
+  unvalued (H.Infer w) e n = ap is_some (value_as_other S v t (Term w.sort) w.number n ∙ ap (option_map (valued_tree (single v t))) (no_value (value_at S (H.Infer w)) e))
+  unvalued (H.Region (R.Var m)) e n = ap is_some (value_as_other S v t Region m n ∙ ap (option_map (valued_tree (single v t))) (no_value (value_as S Region m) e))
   unvalued _ e n = refl
 
   -- the value is put in as the state's values are
   some_bound : (h : Head) (x : Tree) → is_strange S L h ≡ false → value_at S h ≡ Some x → value_at T h ≡ Some (valued_tree (single v t) x)
   some_bound h x k e = at h e
     where
-      by : (n : ℕ) → value_of S n ≡ Some x → value_of T n ≡ Some (valued_tree (single v t) x)
-      by n e =
-          value_other S v t n (false_from_ne_true (n == v.number) (λ m. let clash : Some x ≡ None = sym e ∙ ap (value_of S) (eqb-true n v.number m) ∙ can.free in cc))
+      by : (l : VariableKind) (n : ℕ) → value_as S l n ≡ Some x → value_as T l n ≡ Some (valued_tree (single v t) x)
+      by l n e =
+          value_as_other S v t l n (false_from_ne_true (n == v.number) (λ m. let clash : Some x ≡ None = sym (value_as_of S l n x e) ∙ ap (value_of S) (eqb-true n v.number m) ∙ can.free in cc))
           ∙ ap (option_map (valued_tree (single v t))) e
 
       at : (h : Head) → value_at S h ≡ Some x → value_at T h ≡ Some (valued_tree (single v t) x)
-      at (H.Infer w) e = by w.number e
-      at (H.Region (R.Var n)) e = by n e
+      at (H.Infer w) e = by (Term w.sort) w.number e
+      at (H.Region (R.Var n)) e = by Region n e
       at _ e = cc
 
   other_bound : (h : Head) → is_strange S L h ≡ false → value_at S h ≡ None → value_at T h ≡ single v t h
   other_bound h k e = at (single v t h) (which_single v t h)
     where
       by : (h : Head) → value_at S h ≡ None → is_number v.number h ≡ false → value_at T h ≡ None
-      by (H.Infer w) e n = value_other S v t w.number n ∙ ap (option_map (valued_tree (single v t))) e
-      by (H.Region (R.Var m)) e n = value_other S v t m n ∙ ap (option_map (valued_tree (single v t))) e
+      by (H.Infer w) e n = value_as_other S v t (Term w.sort) w.number n ∙ ap (option_map (valued_tree (single v t))) e
+      by (H.Region (R.Var m)) e n = value_as_other S v t Region m n ∙ ap (option_map (valued_tree (single v t))) e
       by _ e n = refl
 
       at : (o : Option Tree) → Single v t h o → value_at T h ≡ o
-      at _ (given f) = ap (value_at T) f ∙ value_own S v t own_info.0 own_info.1
+      at _ (given f) = ap (value_at T) f ∙ value_given S v t L can.is_known
       at _ (stays f) = by h e (another h k f)
 
   pub resolved_bound : (ts : Forest) → holds (is_strange S L) ts ≡ false → resolved T ts ≡ valued (single v t) (resolved S ts)
@@ -338,15 +351,15 @@ module _ (S : State) (L : Live) (v : Variable) (t : Tree) (can : CanTake S L v t
 
   -- a variable with a value doesn't stand in it
   valued_not_in : (m : ℕ) (x : Tree) → value_of S m ≡ Some x → occurs m t ≡ false
-  valued_not_in m x e = holds_to (has_value S) (has_value S) (is_number m) (λ h a b. at h a) (alone t) can.is_resolved can.is_resolved
+  valued_not_in m x e = holds_to (has_value S) (is_strange S L) (is_number m) (λ h a b. at h a b) (alone t) can.is_resolved can.known
     where
-      by : (n : ℕ) → is_some (value_of S n) ≡ false → (n == m) ≡ false
-      by n f = false_from_ne_true (n == m) (λ k. let clash : false ≡ true = sym f ∙ ap (λ j. is_some (value_of S j)) (eqb-true n m k) ∙ ap is_some e in cc)
+      by : (l : VariableKind) (n : ℕ) → has_kind l (info S n) ≡ true → is_some (value_as S l n) ≡ false → (n == m) ≡ false
+      by l n c f = false_from_ne_true (n == m) (λ k. let clash : false ≡ true = sym f ∙ ap is_some (value_as_is S l n c) ∙ ap (λ j. is_some (value_of S j)) (eqb-true n m k) ∙ ap is_some e in cc)
 
-      at : (h : Head) → has_value S h ≡ false → is_number m h ≡ false
-      at (H.Infer w) f = by w.number f
-      at (H.Region (R.Var n)) f = by n f
-      at _ f = refl
+      at : (h : Head) → has_value S h ≡ false → is_strange S L h ≡ false → is_number m h ≡ false
+      at (H.Infer w) f k = by (Term w.sort) w.number (kind_there (L w.number) (Term w.sort) (info S w.number) k) f
+      at (H.Region (R.Var n)) f k = by Region n (kind_there (L n) Region (info S n) k) f
+      at _ f k = refl
 
   -- marks of values with the value put in
 

@@ -11,10 +11,9 @@ use Rattle.candidate_ir.specs.declared.ir.kinds.RegionKind.TheVariants as R
 use Rattle.candidate_ir.specs.Trees.{Forest, none, tree, Tree, erase, holds}
 use Rattle.candidate_ir.specs.Folding.{leaf}
 use Rattle.candidate_ir.specs.Substitutions.{alone}
-use Rattle.candidate_eval.specs.declared.eval.variable.VariableKind.TheVariants.{Term, Region}
-use Rattle.candidate_eval.specs.States.{State, value_in, value_of, value_at, resolved}
-use Rattle.candidate_eval.specs.Alike.{info}
-use Rattle.candidate_eval.specs.Soundness.{Live, ValuesFit, AreLeaves, IsLater, is_leaf, is_region, is_strange, has_kind, fits_kind}
+use Rattle.candidate_eval.specs.declared.eval.variable.VariableKind.TheVariants.{Region}
+use Rattle.candidate_eval.specs.States.{State, value_as, value_at, resolved}
+use Rattle.candidate_eval.specs.Soundness.{Live, ValuesFit, AreLeaves, IsLater, is_leaf, is_region, is_strange}
 use Rattle.candidate_eval.specs.Lawful.{HasLeafValues}
 use Rattle.candidate_eval.proofs.Holds.{holds_parts}
 use Rattle.candidate_rounds.specs.Listed.{Listing, current}
@@ -23,13 +22,13 @@ use Rattle.candidate_rounds.specs.Binding.{bound}
 use Rattle.candidate_rounds.specs.Equating.{Pair, Visit, Done, Refused, Left, value_for, met, visited, looked}
 use Rattle.candidate_rounds.specs.Standing.{IsListing, Stands, ArePlain}
 use Rattle.candidate_rounds.proofs.Marks.{whole}
-use Rattle.candidate_rounds.proofs.Later.{has_info, kind_there, known_later}
-use Rattle.candidate_rounds.proofs.Bound.{strange_bound, value_own}
+use Rattle.candidate_rounds.proofs.Later.{known_later}
+use Rattle.candidate_rounds.proofs.Bound.{strange_bound, value_given}
 use Rattle.candidate_rounds.proofs.Putting.{node, put_in, valued_is, erased_row, erased_node}
 use Rattle.candidate_rounds.proofs.Meeting.{Met, by_left, by_right, regions, below, stuck, meeting}
 use Rattle.candidate_rounds.proofs.Sides.{first_side, Absorbs, IsQuiet, Rooted, rooted_same, value_leaves}
 use Rattle.candidate_rounds.proofs.Offered.{IsOffered}
-use Rattle.candidate_rounds.proofs.Solving.{leaf_region, region_kind}
+use Rattle.candidate_rounds.proofs.Solving.{leaf_region, value_fits}
 use Rattle.candidate_rounds.proofs.Staying.{left, right, at_x, at_y, for_x, for_y, Plainly, look_stays}
 use Rattle.candidate_rounds.proofs.Looks.{looked_keeps, visited_stands}
 
@@ -63,16 +62,12 @@ ended_region : (U : State) (L : Live) → ValuesFit U → HasLeafValues U L → 
     → ended U (alone x) ≡ tree (H.Region R.Static) none none
 ended_region U L fits leafy x is k l = at x.head x.children is (holds_parts (is_strange U L) x.head x.children none k).here (l.0 (leaf_region x.head is))
   where
-    by : (n : ℕ) (o : Option Tree) → is_strange U L (H.Region (R.Var n)) ≡ false → value_of U n ≡ o → erase (alone (unwrap_or o (leaf (H.Region (R.Var n))))) ≡ tree (H.Region R.Static) none none
+    by : (n : ℕ) (o : Option Tree) → is_strange U L (H.Region (R.Var n)) ≡ false → value_as U Region n ≡ o → erase (alone (unwrap_or o (leaf (H.Region (R.Var n))))) ≡ tree (H.Region R.Static) none none
     by n None k e = refl
-    by n (Some t) k e =
-        let i = has_info (L n) Region (info U n) k in
-        let kind = region_kind i.0 (sym (ap (has_kind Region) i.1) ∙ kind_there (L n) Region (info U n) k) in
-        let region : is_region t.head ≡ true = ap (λ k. fits_kind k t.head) (sym kind) ∙ (fits n).kind i.0 t i.1 (sym (ap value_in i.1) ∙ e) in
-        bare_region t region (value_leaves U L leafy (H.Region (R.Var n)) t k e)
+    by n (Some t) k e = bare_region t (value_fits U fits Region n t e) (value_leaves U L leafy (H.Region (R.Var n)) t k e)
 
     kinds : (r : RegionKind) → is_strange U L (H.Region r) ≡ false → ended U (tree (H.Region r) none none) ≡ tree (H.Region R.Static) none none
-    kinds (R.Var n) k = by n (value_of U n) k refl
+    kinds (R.Var n) k = by n (value_as U Region n) k refl
     kinds _ k = refl
 
     at : (h : Head) (c : Forest) → is_region h ≡ true → is_strange U L h ≡ false → c ≡ none → ended U (tree h c none) ≡ tree (H.Region R.Static) none none
@@ -133,9 +128,8 @@ module _ (l : Listing) (listing : IsListing l) (L : Live) (S : State) (us : Scop
   taken_equal : (z : Tree) (v : Variable) (t : Tree) → z.head ≡ H.Infer v → holds (is_strange S L) (alone z) ≡ false → AreLeaves (alone z) → IsLater (bound S v t) U L → ended U (alone z) ≡ ended U (alone t)
   taken_equal z v t is k leaves after =
       let own : is_strange S L (H.Infer v) ≡ false = ap (is_strange S L) (sym is) ∙ (holds_parts (is_strange S L) z.head z.children none k).here in
-      let i = has_info (L v.number) (Term v.sort) (info S v.number) own in
       ap (λ c. ended U (tree z.head c none)) (leaves.0 (ap is_leaf is)) ∙ ap (λ h. ended U (tree h none none)) is
-      ∙ sym (later_absorbs (bound S v t) U L after (H.Infer v) t (strange_bound S v t L (H.Infer v) ∙ own) (value_own S v t i.0 i.1))
+      ∙ sym (later_absorbs (bound S v t) U L after (H.Infer v) t (strange_bound S v t L (H.Infer v) ∙ own) (value_given S v t L own))
 
   both_regions : is_region x.head ≡ true → is_region y.head ≡ true → ended U (alone x) ≡ ended U (alone y)
   both_regions i j =

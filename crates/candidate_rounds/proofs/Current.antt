@@ -18,9 +18,9 @@ use Rattle.candidate_ir.specs.Folding.{leaf}
 use Rattle.candidate_ir.specs.Substitutions.{alone, fits_sort, is_placeholder_above}
 use Rattle.candidate_eval.specs.declared.eval.variable.VariableKind.TheVariants.{Term}
 use Rattle.candidate_eval.specs.Evaluators.{root_value, resolved_root}
-use Rattle.candidate_eval.specs.States.{State, value_of, value_at, resolved_tree}
+use Rattle.candidate_eval.specs.States.{State, value_at, resolved_tree, has_kind}
 use Rattle.candidate_eval.specs.Alike.{info}
-use Rattle.candidate_eval.specs.Soundness.{Live, IsSound, ValuesFit, IsResolved, has_value, has_kind, is_strange, universe_in}
+use Rattle.candidate_eval.specs.Soundness.{Live, IsSound, ValuesFit, IsResolved, has_value, is_strange, universe_in}
 use Rattle.candidate_eval.proofs.Holds.{holds_parts, holds_imply}
 use Rattle.candidate_rounds.specs.Listed.{Listing, listed, normalized_tree, listed_at, current}
 use Rattle.candidate_rounds.specs.Scopes.{Scope, placed_region, placed_head}
@@ -28,7 +28,7 @@ use Rattle.candidate_rounds.specs.Binding.{occurs, may_take}
 use Rattle.candidate_rounds.specs.Equating.{value_for}
 use Rattle.candidate_rounds.specs.Standing.{IsFixed, IsListed, IsListing, is_made}
 use Rattle.candidate_rounds.proofs.Marks.{whole, fold_marked, escapes_on}
-use Rattle.candidate_rounds.proofs.Later.{value_known, value_resolved, value_closed, resolved_known, resolved_once, no_value}
+use Rattle.candidate_rounds.proofs.Later.{value_known, value_resolved, value_closed, resolved_known, resolved_once, no_value, value_as_is}
 use Rattle.candidate_rounds.proofs.Bound.{CanTake}
 
 -- Listed types
@@ -87,7 +87,7 @@ root_at S (H.Infer v) x e = e
 root_at S _ x e = cc
 
 root_free : (S : State) (h : Head) → has_value S h ≡ false → root_value S h ≡ None
-root_free S (H.Infer v) e = no_value (value_of S v.number) e
+root_free S (H.Infer v) e = no_value (value_at S (H.Infer v)) e
 root_free S _ e = refl
 
 -- a listed type, or the tree itself
@@ -208,7 +208,7 @@ module _ (l : Listing) (listing : IsListing l) (S : State) (L : Live) (sound : I
       let s = and_parts (not (escapes 0 (alone t))) _ r.1 in
       record {
         is_known = subst (λ h. is_strange S L h ≡ false) is (holds_parts (is_strange S L) x.head x.children none k).here;
-        free = sym (ap (root_value S) is) ∙ rests;
+        free = sym (value_as_is S (Term v.sort) v.number p.0) ∙ sym (ap (root_value S) is) ∙ rests;
         fits = q.0;
         not_in = not-true (occurs v.number t) r.0;
         is_closed = not-true (escapes 0 (alone t)) s.0;

@@ -1,5 +1,5 @@
 -- States that follow one another: what is of a state stays of those that follow, and resolving twice is resolving once.
-use Rattle.std.proofs.Common.{◌≡◌, ℕ, Bool, true, false, not, ◌&&◌, Option, Some, None, refl, sym, ap, ◌∙◌, arith, nat_lt}
+use Rattle.std.proofs.Common.{◌≡◌, ℕ, Bool, true, false, not, ◌&&◌, Option, Some, None, refl, sym, ap, ◌∙◌, arith, nat_lt, if◌then◌else◌}
 use Rattle.std.proofs.lemmas.Bool.{ltb-false, le-ltb}
 use Rattle.std.proofs.lemmas.Option.{slice_get_within}
 use Rattle.std.proofs.Math.Nat.{le_trans}
@@ -13,9 +13,9 @@ use Rattle.candidate_ir.specs.Substitutions.{alone}
 use Rattle.candidate_ir.proofs.Folding.{fold-nothing}
 use Rattle.candidate_eval.specs.declared.eval.variable.VariableKind.{VariableKind}
 use Rattle.candidate_eval.specs.declared.eval.variable.VariableKind.TheVariants.{Term, Region}
-use Rattle.candidate_eval.specs.States.{State, VariableInfo, value_in, value_of, value_at, resolved, is_some, with_universe}
+use Rattle.candidate_eval.specs.States.{State, VariableInfo, value_in, value_of, value_as, value_at, resolved, is_some, with_universe, has_kind, same_kind}
 use Rattle.candidate_eval.specs.Alike.{info}
-use Rattle.candidate_eval.specs.Soundness.{Live, IsSound, ValuesFit, IsResolved, AreTreesOf, Within, IsLater, Follows, has_value, has_kind, same_kind, is_strange}
+use Rattle.candidate_eval.specs.Soundness.{Live, IsSound, ValuesFit, IsResolved, AreTreesOf, Within, IsLater, Follows, has_value, is_strange}
 use Rattle.candidate_rounds.proofs.Marks.{holds_to, fold_marked, fold_closed}
 
 not_false : (b : Bool) → not b ≡ false → b ≡ true
@@ -39,6 +39,26 @@ pub no_value : (o : Option Tree) → is_some o ≡ false → o ≡ None
 no_value None e = refl
 no_value (Some t) e = cc
 
+-- Values in a kind
+
+-- in the variable's own kind it is the variable's value
+pub value_as_is : (S : State) (k : VariableKind) (n : ℕ) → has_kind k (info S n) ≡ true → value_as S k n ≡ value_of S n
+value_as_is S k n e = ap (λ b. if b then value_of S n else None) e
+
+-- where there is one, the variable is of the kind, and it is the variable's value
+pub value_as_kind : (S : State) (k : VariableKind) (n : ℕ) (t : Tree) → value_as S k n ≡ Some t → has_kind k (info S n) ≡ true
+value_as_kind S k n t e = at (has_kind k (info S n)) e
+  where
+    at : (b : Bool) → (if b then value_of S n else None) ≡ Some t → b ≡ true
+    at true e = refl
+    at false e = cc
+
+pub value_as_of : (S : State) (k : VariableKind) (n : ℕ) (t : Tree) → value_as S k n ≡ Some t → value_of S n ≡ Some t
+value_as_of S k n t e = sym (value_as_is S k n (value_as_kind S k n t e)) ∙ e
+
+pub value_there : (S : State) (k : VariableKind) (n : ℕ) (i : VariableInfo) (t : Tree) → info S n ≡ Some i → value_as S k n ≡ Some t → i.value ≡ Some t
+value_there S k n i t e v = sym (ap value_in e) ∙ value_as_of S k n t v
+
 -- trees with all values put in stay
 pub resolved_stays : (S : State) (ts : Forest) → IsResolved S ts → resolved S ts ≡ ts
 resolved_stays S ts r = fold-nothing (λ d t. value_at S t.head) (has_value S) (λ d t e. no_value (value_at S t.head) e) 0 ts r
@@ -53,25 +73,22 @@ value_closed S fits h t e = at h e
     by n (Some i) f v = (fits n).is_closed i t f v
 
     at : (h : Head) → value_at S h ≡ Some t → escapes 0 (alone t) ≡ false
-    at (H.Infer v) e = by v.number (info S v.number) refl e
-    at (H.Region (R.Var n)) e = by n (info S n) refl e
+    at (H.Infer v) e = by v.number (info S v.number) refl (value_as_of S (Term v.sort) v.number t e)
+    at (H.Region (R.Var n)) e = by n (info S n) refl (value_as_of S Region n t e)
     at _ e = cc
 
 pub resolved_closed : (S : State) → ValuesFit S → (n : ℕ) (ts : Forest) → escapes n ts ≡ false → escapes n (resolved S ts) ≡ false
 resolved_closed S fits n ts e = fold_closed (λ d t. value_at S t.head) (λ d t u f. value_closed S fits t.head u f) n 0 ts e
 
 module _ (S : State) (L : Live) (sound : IsSound S L) where
-  value_there : (n : ℕ) (i : VariableInfo) (t : Tree) → info S n ≡ Some i → value_of S n ≡ Some t → i.value ≡ Some t
-  value_there n i t e v = sym (ap value_in e) ∙ v
-
   pub value_known : (h : Head) (t : Tree) → is_strange S L h ≡ false → value_at S h ≡ Some t → holds (is_strange S L) (alone t) ≡ false
-  value_known (H.Infer v) t e f = let i = has_info (L v.number) (Term v.sort) (info S v.number) e in sound.known v.number i.0 t i.2 i.1 (value_there v.number i.0 t i.1 f)
-  value_known (H.Region (R.Var n)) t e f = let i = has_info (L n) Region (info S n) e in sound.known n i.0 t i.2 i.1 (value_there n i.0 t i.1 f)
+  value_known (H.Infer v) t e f = let i = has_info (L v.number) (Term v.sort) (info S v.number) e in sound.known v.number i.0 t i.2 i.1 (value_there S (Term v.sort) v.number i.0 t i.1 f)
+  value_known (H.Region (R.Var n)) t e f = let i = has_info (L n) Region (info S n) e in sound.known n i.0 t i.2 i.1 (value_there S Region n i.0 t i.1 f)
   value_known _ t e f = cc
 
   pub value_resolved : (h : Head) (t : Tree) → is_strange S L h ≡ false → value_at S h ≡ Some t → IsResolved S (alone t)
-  value_resolved (H.Infer v) t e f = let i = has_info (L v.number) (Term v.sort) (info S v.number) e in sound.is_resolved v.number i.0 t i.2 i.1 (value_there v.number i.0 t i.1 f)
-  value_resolved (H.Region (R.Var n)) t e f = let i = has_info (L n) Region (info S n) e in sound.is_resolved n i.0 t i.2 i.1 (value_there n i.0 t i.1 f)
+  value_resolved (H.Infer v) t e f = let i = has_info (L v.number) (Term v.sort) (info S v.number) e in sound.is_resolved v.number i.0 t i.2 i.1 (value_there S (Term v.sort) v.number i.0 t i.1 f)
+  value_resolved (H.Region (R.Var n)) t e f = let i = has_info (L n) Region (info S n) e in sound.is_resolved n i.0 t i.2 i.1 (value_there S Region n i.0 t i.1 f)
   value_resolved _ t e f = cc
 
   pub resolved_known : (ts : Forest) → holds (is_strange S L) ts ≡ false → holds (is_strange S L) (resolved S ts) ≡ false

@@ -17,9 +17,9 @@ use Rattle.candidate_ir.specs.Elaboration.{same_tree}
 use Rattle.candidate_ir.proofs.Elaboration.{tree_is}
 use Rattle.candidate_ir.proofs.Folding.{begin, fold-nothing}
 use Rattle.candidate_eval.specs.declared.eval.variable.VariableKind.TheVariants.{Term, Region}
-use Rattle.candidate_eval.specs.States.{State, Values, value_at, resolved, resolved_tree}
+use Rattle.candidate_eval.specs.States.{State, Values, value_at, resolved, resolved_tree, has_kind}
 use Rattle.candidate_eval.specs.Alike.{info}
-use Rattle.candidate_eval.specs.Soundness.{Live, IsSound, ValuesFit, AreLeaves, is_leaf, is_region, is_strange, has_kind}
+use Rattle.candidate_eval.specs.Soundness.{Live, IsSound, ValuesFit, AreLeaves, is_leaf, is_region, is_strange}
 use Rattle.candidate_eval.specs.Lawful.{HasLeafValues}
 use Rattle.candidate_eval.specs.Evaluators.{root_value}
 use Rattle.candidate_rounds.specs.Listed.{Listing, listed, normalized_tree}

@@ -15,7 +15,7 @@ use Rattle.candidate_ir.specs.Binders.{escapes}
 use Rattle.candidate_ir.specs.Folding.{fold}
 use Rattle.candidate_ir.specs.Substitutions.{alone}
 use Rattle.candidate_eval.specs.declared.eval.variable.VariableKind.TheVariants.{Term, Region}
-use Rattle.candidate_eval.specs.States.{State, Values, value_in, value_of, value_at, resolved, resolved_tree}
+use Rattle.candidate_eval.specs.States.{State, Values, value_at, resolved, resolved_tree}
 use Rattle.candidate_eval.specs.Alike.{info}
 use Rattle.candidate_eval.specs.Soundness.{Live, IsSound, ValuesFit, AreLeaves, is_leaf, is_strange, has_value}
 use Rattle.candidate_eval.specs.Lawful.{HasLeafValues}
@@ -24,7 +24,7 @@ use Rattle.candidate_eval.proofs.Holds.{holds_parts}
 use Rattle.candidate_rounds.specs.Listed.{Listing, listed, current}
 use Rattle.candidate_rounds.specs.Scopes.{Scope}
 use Rattle.candidate_rounds.proofs.Marks.{whole, escapes_on, escape_parts, escape_whole}
-use Rattle.candidate_rounds.proofs.Later.{has_info, no_value, value_known, value_resolved, value_closed, resolved_stays}
+use Rattle.candidate_rounds.proofs.Later.{has_info, no_value, value_there, value_known, value_resolved, value_closed, resolved_stays}
 use Rattle.candidate_rounds.proofs.Putting.{put_in, absorbed, fold_leaves}
 
 -- What is known of a row of a pair.
@@ -76,8 +76,8 @@ valued_leaf S _ t e = cc
 -- Values are leaves
 
 pub value_leaves : (S : State) (L : Live) → HasLeafValues S L → (h : Head) (t : Tree) → is_strange S L h ≡ false → value_at S h ≡ Some t → AreLeaves (alone t)
-value_leaves S L leafy (H.Infer v) t e f = let i = has_info (L v.number) (Term v.sort) (info S v.number) e in leafy v.number i.0 t i.2 i.1 (sym (ap value_in i.1) ∙ f)
-value_leaves S L leafy (H.Region (R.Var n)) t e f = let i = has_info (L n) Region (info S n) e in leafy n i.0 t i.2 i.1 (sym (ap value_in i.1) ∙ f)
+value_leaves S L leafy (H.Infer v) t e f = let i = has_info (L v.number) (Term v.sort) (info S v.number) e in leafy v.number i.0 t i.2 i.1 (value_there S (Term v.sort) v.number i.0 t i.1 f)
+value_leaves S L leafy (H.Region (R.Var n)) t e f = let i = has_info (L n) Region (info S n) e in leafy n i.0 t i.2 i.1 (value_there S Region n i.0 t i.1 f)
 value_leaves S L leafy _ t e f = cc
 
 pub resolved_leaves : (S : State) (L : Live) → HasLeafValues S L → (ts : Forest) → holds (is_strange S L) ts ≡ false → AreLeaves ts → AreLeaves (resolved S ts)
@@ -99,7 +99,7 @@ rooted_same S L us w a x y s r =
     sym (resolved_absorbed S L w a (alone y) r.side.known r.side.leaves) ∙ ap (λ ts. erase (put_in w ts)) r.resolves ∙ resolved_absorbed S L w a (alone x) s.known s.leaves
 
 module _ (S : State) (L : Live) (us : Scope) (sound : IsSound S L) (fits : ValuesFit S) (leafy : HasLeafValues S L) where
-  value_rooted : (v : Variable) (a : Forest) (t : Tree) → Side S L us (tree (H.Infer v) a none) → value_of S v.number ≡ Some t → Rooted S L us (record { head = H.Infer v; children = a }) t
+  value_rooted : (v : Variable) (a : Forest) (t : Tree) → Side S L us (tree (H.Infer v) a none) → value_at S (H.Infer v) ≡ Some t → Rooted S L us (record { head = H.Infer v; children = a }) t
   value_rooted v a t s e =
       let k = holds_parts (is_strange S L) (H.Infer v) a none s.known in
       let r = value_resolved S L sound (H.Infer v) t k.here e in
@@ -117,16 +117,16 @@ module _ (S : State) (L : Live) (us : Scope) (sound : IsSound S L) (fits : Value
       }
     where
       no_root : (h : Head) → has_value S h ≡ false → root_value S h ≡ None
-      no_root (H.Infer w) e = no_value (value_of S w.number) e
+      no_root (H.Infer w) e = no_value (value_at S (H.Infer w)) e
       no_root h e = refl
 
   rooted : (x : Tree) → Side S L us (alone x) → Rooted S L us x (resolved_root S x)
   rooted x s = at x.head x.children s
     where
       at : (h : Head) (a : Forest) → Side S L us (tree h a none) → Rooted S L us (record { head = h; children = a }) (resolved_root S (record { head = h; children = a }))
-      at (H.Infer v) a s = by (value_of S v.number) refl
+      at (H.Infer v) a s = by (value_at S (H.Infer v)) refl
         where
-          by : (o : Option Tree) → value_of S v.number ≡ o → Rooted S L us (record { head = H.Infer v; children = a }) (unwrap_or o (record { head = H.Infer v; children = a }))
+          by : (o : Option Tree) → value_at S (H.Infer v) ≡ o → Rooted S L us (record { head = H.Infer v; children = a }) (unwrap_or o (record { head = H.Infer v; children = a }))
           by None e = record { side = s; free = e; resolves = refl }
           by (Some t) e = value_rooted v a t s e
       at h a s = record { side = s; free = refl; resolves = refl }

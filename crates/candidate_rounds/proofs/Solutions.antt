@@ -10,15 +10,15 @@ use Rattle.candidate_ir.specs.Trees.{Forest, none, tree, Tree, erase, erased_hea
 use Rattle.candidate_ir.specs.Folding.{leaf}
 use Rattle.candidate_ir.specs.Substitutions.{Substitution, IsAllowed, IsAllowedBinding, lookup, apply, alone}
 use Rattle.candidate_eval.specs.declared.eval.variable.VariableKind.TheVariants.{Term}
-use Rattle.candidate_eval.specs.States.{State, VariableInfo, value_in, value_at, resolved}
+use Rattle.candidate_eval.specs.States.{State, VariableInfo, value_in, value_at, resolved, has_kind}
 use Rattle.candidate_eval.specs.Alike.{info}
-use Rattle.candidate_eval.specs.Soundness.{Live, IsSound, IsSolution, AgreesOn, Within, IsLater, AreLeaves, is_strange, has_kind, has_value, universes, universe_in, is_variable_above, variable_tree}
+use Rattle.candidate_eval.specs.Soundness.{Live, IsSound, IsSolution, AgreesOn, Within, IsLater, AreLeaves, is_strange, has_value, universes, universe_in, is_variable_above, variable_tree}
 use Rattle.candidate_eval.specs.Lawful.{HasLeafValues, AreSides, Solves, IsKept}
 use Rattle.candidate_eval.proofs.Holds.{holds_parts}
 use Rattle.candidate_rounds.specs.Listed.{Listing}
 use Rattle.candidate_rounds.specs.Equating.{Pair, Visit, Done, Refused, Left, visited, looked, count_unbound, size_of_pairs, enough, looks, equated}
 use Rattle.candidate_rounds.specs.Standing.{IsListing, PairStands, Stands, IsPlain, ArePlain, IsSolvedBy, SolvesAll}
-use Rattle.candidate_rounds.proofs.Later.{has_info, kind_there, no_value, later_itself}
+use Rattle.candidate_rounds.proofs.Later.{has_info, kind_there, no_value, value_as_is, later_itself}
 use Rattle.candidate_rounds.proofs.Looks.{looked_keeps, visited_stands, visited_later, start_stands}
 use Rattle.candidate_rounds.proofs.Bound.{same_sort_itself}
 use Rattle.candidate_rounds.proofs.Ends.{visited_less}
@@ -159,8 +159,9 @@ module _ (S T : State) (L M : Live) (later : IsLater S T L) (within : Within S L
   free_agree : (v : Variable) → is_strange T M (H.Infer v) ≡ false → has_value T (H.Infer v) ≡ false → (o : Tree) → lookup further v o ≡ lookup base v o
   free_agree v k none_there o =
       let i = has_info (M v.number) (Term v.sort) (info T v.number) k in
-      let kind : i.0.kind ≡ Term v.sort = kind_is i.0 v.sort (sym (ap (has_kind (Term v.sort)) i.1) ∙ kind_there (M v.number) (Term v.sort) (info T v.number) k) in
-      further_free v i.0 o i.1 kind (sym (ap value_in i.1) ∙ no_value (value_at T (H.Infer v)) none_there)
+      let there : has_kind (Term v.sort) (info T v.number) ≡ true = kind_there (M v.number) (Term v.sort) (info T v.number) k in
+      let kind : i.0.kind ≡ Term v.sort = kind_is i.0 v.sort (sym (ap (has_kind (Term v.sort)) i.1) ∙ there) in
+      further_free v i.0 o i.1 kind (sym (ap value_in i.1) ∙ sym (value_as_is T (Term v.sort) v.number there) ∙ no_value (value_at T (H.Infer v)) none_there)
 
   further_extends : (v : Variable) (i : VariableInfo) (t : Tree) → M v.number ≡ true → info T v.number ≡ Some i → i.kind ≡ Term v.sort → i.value ≡ Some t
       → erase (apply further (variable_tree v)) ≡ erase (apply further (alone t))

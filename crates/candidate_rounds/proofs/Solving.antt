@@ -1,5 +1,5 @@
 -- A solution and a look: what stands for variables, and why a variable may take what a solution makes equal to it.
-use Rattle.std.proofs.Common.{◌≡◌, ◌⊎◌, inl, inr, ℕ, ◌+◌, Bool, true, false, ◌||◌, Some, None, refl, sym, ap, subst, ◌∙◌}
+use Rattle.std.proofs.Common.{◌≡◌, ◌⊎◌, inl, inr, ℕ, ◌+◌, Bool, true, false, ◌||◌, Option, Some, None, refl, sym, ap, subst, ◌∙◌}
 use Rattle.std.specs.Option.{unwrap_or}
 use Rattle.std.proofs.lemmas.Bool.{eqb-true}
 use Rattle.candidate_ir.specs.declared.ir.heads.Head.{Head}
@@ -17,13 +17,13 @@ use Rattle.candidate_ir.proofs.Instances.{same_sort_is}
 use Rattle.candidate_eval.specs.declared.eval.variable.VariableKind.{VariableKind}
 use Rattle.candidate_eval.specs.declared.eval.variable.VariableKind.TheVariants.{Term, Region}
 use Rattle.candidate_eval.specs.Responses.{is_number}
-use Rattle.candidate_eval.specs.States.{State, VariableInfo, Values, value_in, value_at}
+use Rattle.candidate_eval.specs.States.{State, VariableInfo, Values, value_as, value_at, has_kind, same_kind}
 use Rattle.candidate_eval.specs.Alike.{info}
-use Rattle.candidate_eval.specs.Soundness.{Live, ValuesFit, AreLeaves, is_leaf, is_region, is_strange, has_kind, same_kind, fits_kind, universes, variable_tree}
+use Rattle.candidate_eval.specs.Soundness.{Live, ValuesFit, AreLeaves, is_leaf, is_region, is_strange, fits_kind, universes, variable_tree}
 use Rattle.candidate_eval.specs.Lawful.{HasLeafValues}
 use Rattle.candidate_eval.proofs.Holds.{holds_parts}
 use Rattle.candidate_rounds.proofs.Marks.{whole, escape_parts, escape_whole}
-use Rattle.candidate_rounds.proofs.Later.{has_info, kind_there}
+use Rattle.candidate_rounds.proofs.Later.{has_info, kind_there, value_as_kind, value_there}
 use Rattle.candidate_rounds.proofs.Putting.{node, put_in, assigned, apply_is}
 use Rattle.candidate_rounds.proofs.Sides.{Absorbs, IsQuiet, value_leaves}
 use Rattle.candidate_rounds.proofs.Offered.{is_unknown, binders_erased}
@@ -57,12 +57,19 @@ kind_is i s e = at i.kind e
     at (Term t) e = ap Term (same_sort_is t s e)
     at Region e = cc
 
-pub region_kind : (i : VariableInfo) → has_kind Region (Some i) ≡ true → i.kind ≡ Region
-region_kind i e = at i.kind e
+kind_same : (j k : VariableKind) → same_kind j k ≡ true → j ≡ k
+kind_same (Term s) (Term t) e = ap Term (same_sort_is s t e)
+kind_same Region Region e = refl
+kind_same (Term s) Region e = cc
+kind_same Region (Term t) e = cc
+
+-- a value that is put in is of the kind of what it stands for
+pub value_fits : (S : State) → ValuesFit S → (k : VariableKind) (n : ℕ) (t : Tree) → value_as S k n ≡ Some t → fits_kind k t.head ≡ true
+value_fits S fits k n t e = at (info S n) refl (value_as_kind S k n t e)
   where
-    at : (k : VariableKind) → same_kind k Region ≡ true → k ≡ Region
-    at (Term t) e = cc
-    at Region e = refl
+    at : (o : Option VariableInfo) → info S n ≡ o → has_kind k o ≡ true → fits_kind k t.head ≡ true
+    at None there c = cc
+    at (Some i) there c = ap (λ k. fits_kind k t.head) (sym (kind_same i.kind k c)) ∙ (fits n).kind i t there (value_there S k n i t there e)
 
 pub leaf_region : (h : Head) → is_region h ≡ true → is_leaf h ≡ true
 leaf_region (H.Region r) e = by r
@@ -86,12 +93,8 @@ met_absorbs S L s fits leafy m h t k e = at h k e (value_leaves S L leafy h t k 
     at (H.Infer v) k e l =
         let i = has_info (L v.number) (Term v.sort) (info S v.number) k in
         let kind : i.0.kind ≡ Term v.sort = kind_is i.0 v.sort (sym (ap (has_kind (Term v.sort)) i.1) ∙ kind_there (L v.number) (Term v.sort) (info S v.number) k) in
-        sym (made_is s (alone t) l) ∙ sym (m.extends v i.0 t i.2 i.1 kind (sym (ap value_in i.1) ∙ e))
-    at (H.Region (R.Var n)) k e l =
-        let i = has_info (L n) Region (info S n) k in
-        let kind : i.0.kind ≡ Region = region_kind i.0 (sym (ap (has_kind Region) i.1) ∙ kind_there (L n) Region (info S n) k) in
-        let is : is_region t.head ≡ true = ap (λ k. fits_kind k t.head) (sym kind) ∙ (fits n).kind i.0 t i.1 (sym (ap value_in i.1) ∙ e) in
-        region_row (assigned s) (λ r. refl) t is l
+        sym (made_is s (alone t) l) ∙ sym (m.extends v i.0 t i.2 i.1 kind (value_there S (Term v.sort) v.number i.0 t i.1 e))
+    at (H.Region (R.Var n)) k e l = region_row (assigned s) (λ r. refl) t (value_fits S fits Region n t e) l
     at _ k e l = cc
 
 -- What erasing leaves

@@ -15,9 +15,9 @@ use Rattle.candidate_ir.proofs.Equal.{head_is, head_itself}
 use Rattle.candidate_ir.proofs.Instances.{same_sort_is}
 use Rattle.candidate_eval.specs.declared.eval.variable.VariableKind.TheVariants.{Term}
 use Rattle.candidate_eval.specs.Responses.{is_number}
-use Rattle.candidate_eval.specs.States.{State}
+use Rattle.candidate_eval.specs.States.{State, has_kind}
 use Rattle.candidate_eval.specs.Alike.{info}
-use Rattle.candidate_eval.specs.Soundness.{Live, AreLeaves, is_leaf, is_region, has_kind, universe_in}
+use Rattle.candidate_eval.specs.Soundness.{Live, AreLeaves, is_leaf, is_region, universe_in}
 use Rattle.candidate_eval.proofs.Holds.{holds_parts}
 use Rattle.candidate_rounds.specs.Scopes.{Scope}
 use Rattle.candidate_rounds.specs.Binding.{occurs, may_take}

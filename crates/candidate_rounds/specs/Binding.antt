@@ -8,9 +8,9 @@ use Rattle.candidate_ir.specs.Binders.{escapes}
 use Rattle.candidate_ir.specs.Substitutions.{alone, fits_sort, is_placeholder_above, same_variable}
 use Rattle.candidate_eval.specs.declared.eval.variable.VariableKind.TheVariants.{Term}
 use Rattle.candidate_eval.specs.Responses.{is_number}
-use Rattle.candidate_eval.specs.States.{State, VariableInfo, Values, valued_tree}
+use Rattle.candidate_eval.specs.States.{State, VariableInfo, Values, valued_tree, has_kind}
 use Rattle.candidate_eval.specs.Alike.{info}
-use Rattle.candidate_eval.specs.Soundness.{has_kind, universe_in}
+use Rattle.candidate_eval.specs.Soundness.{universe_in}
 
 abbrev pub occurs : ℕ → Tree → Bool
 occurs n t = holds (is_number n) (alone t)
