@@ -11,16 +11,16 @@ use Rattle.candidate_ir.specs.Substitutions.{alone}
 use Rattle.candidate_ir.proofs.Folding.{begin, fold-nothing}
 use Rattle.candidate_eval.specs.declared.eval.variable.VariableKind.{VariableKind}
 use Rattle.candidate_eval.specs.declared.eval.variable.VariableKind.TheVariants.{Term, Region}
-use Rattle.candidate_eval.specs.States.{State, VariableInfo, Values, valued, valued_tree, value_in, value_of, value_at, resolved}
+use Rattle.candidate_eval.specs.States.{State, VariableInfo, Values, valued, valued_tree, value_in, value_of, value_at, resolved, has_kind, same_kind, value_as}
 use Rattle.candidate_eval.specs.Alike.{info}
 use Rattle.candidate_eval.specs.Instances.{Instance, instance}
-use Rattle.candidate_eval.specs.Soundness.{Live, IsSound, ValuesFit, IsLater, Within, is_strange, is_region, fits_kind, has_kind, same_kind}
+use Rattle.candidate_eval.specs.Soundness.{Live, IsSound, ValuesFit, IsLater, Within, is_strange, is_region, fits_kind}
 use Rattle.candidate_eval.proofs.Holds.{holds_parts, holds_imply}
 use Rattle.candidate_rounds.specs.Listed.{Listing}
 use Rattle.candidate_rounds.specs.Standing.{IsListing, IsFixed, IsListed, is_made}
 use Rattle.candidate_rounds.specs.Congruence.{Same, same, heads, regions, pair, back, along}
 use Rattle.candidate_rounds.proofs.Marks.{valued_node, fold_marked}
-use Rattle.candidate_rounds.proofs.Later.{has_info, kind_there, value_known, strange_stays}
+use Rattle.candidate_rounds.proofs.Later.{has_info, kind_there, value_known, strange_stays, value_as_of}
 
 module _ (l : Listing) where
   pub same_to : (a b c d : Forest) → a ≡ c → b ≡ d → Same l a b → Same l c d
@@ -115,7 +115,7 @@ resolved_stray S L sound ts e =
 
 -- the values of type and constant variables
 abbrev pub terms_of : State → Instance
-terms_of S v = value_of S v.number
+terms_of S v = value_at S (H.Infer v)
 
 module _ (l : Listing) (T : State) (M : Live) (fits : ValuesFit T) where
   pub region_value : (n : ℕ) (t : Tree) → is_strange T M (H.Region (R.Var n)) ≡ false → value_of T n ≡ Some t → is_region t.head ≡ true
@@ -140,16 +140,16 @@ module _ (l : Listing) (T : State) (M : Live) (fits : ValuesFit T) where
     where
       node : (h : Head) → is_stray T M h ≡ false → Same l (resolved T a) (valued (instance (terms_of T)) a) → Same l (resolved T r) (valued (instance (terms_of T)) r)
           → Same l (begin (unwrap_or (value_at T h) (record { head = h; children = resolved T a })) (resolved T r)) (begin (unwrap_or (instance (terms_of T) h) (record { head = h; children = valued (instance (terms_of T)) a })) (valued (instance (terms_of T)) r))
-      node (H.Infer v) e under others = at (value_of T v.number)
+      node (H.Infer v) e under others = at (value_at T (H.Infer v))
         where
           at : (o : Option Tree) → Same l (begin (unwrap_or o (record { head = H.Infer v; children = resolved T a })) (resolved T r)) (begin (unwrap_or o (record { head = H.Infer v; children = valued (instance (terms_of T)) a })) (valued (instance (terms_of T)) r))
           at None = heads (H.Infer v) under others
           at (Some t) = same_begin l t (resolved T r) (valued (instance (terms_of T)) r) others
-      node (H.Region (R.Var n)) e under others = at (value_of T n) refl
+      node (H.Region (R.Var n)) e under others = at (value_as T Region n) refl
         where
-          at : (o : Option Tree) → value_of T n ≡ o → Same l (begin (unwrap_or o (record { head = H.Region (R.Var n); children = resolved T a })) (resolved T r)) (tree (H.Region (R.Var n)) (valued (instance (terms_of T)) a) (valued (instance (terms_of T)) r))
+          at : (o : Option Tree) → value_as T Region n ≡ o → Same l (begin (unwrap_or o (record { head = H.Region (R.Var n); children = resolved T a })) (resolved T r)) (tree (H.Region (R.Var n)) (valued (instance (terms_of T)) a) (valued (instance (terms_of T)) r))
           at None f = heads (H.Region (R.Var n)) under others
-          at (Some t) f = regions t.head (H.Region (R.Var n)) t.children (valued (instance (terms_of T)) a) (region_value n t e f) refl others
+          at (Some t) f = regions t.head (H.Region (R.Var n)) t.children (valued (instance (terms_of T)) a) (region_value n t e (value_as_of T Region n t f)) refl others
       node h e under others = heads h under others
 
   -- What is equal stays so where the values of a state are put in.

@@ -17,11 +17,11 @@ use Rattle.candidate_ir.specs.Supers.{after_first}
 use Rattle.candidate_eval.specs.declared.eval.certainty.Certainty.{Certainty}
 use Rattle.candidate_eval.specs.declared.eval.variable.VariableKind.{VariableKind}
 use Rattle.candidate_eval.specs.declared.eval.variable.VariableKind.TheVariants.{Term, Region}
-use Rattle.candidate_eval.specs.States.{State, Goal, Pending, resolved, resolved_tree, with_universe, next}
+use Rattle.candidate_eval.specs.States.{State, Goal, Pending, resolved, resolved_tree, with_universe, next, has_kind}
 use Rattle.candidate_eval.specs.Alike.{info}
 use Rattle.candidate_eval.specs.Characterization.{Bounded, bound_kinds, group_at}
 use Rattle.candidate_eval.specs.Instances.{is_of_universe}
-use Rattle.candidate_eval.specs.Soundness.{Live, IsSound, ValuesFit, IsLater, Within, Follows, AreTreesOf, GoalIsOf, GoalsAreOf, universes, is_strange, has_kind, universe_in}
+use Rattle.candidate_eval.specs.Soundness.{Live, IsSound, ValuesFit, IsLater, Within, Follows, AreTreesOf, GoalIsOf, GoalsAreOf, universes, is_strange, universe_in}
 use Rattle.candidate_eval.proofs.Holds.{holds_imply}
 use Rattle.candidate_rounds.specs.Listed.{Listing, listed}
 use Rattle.candidate_rounds.specs.Standing.{IsListing}

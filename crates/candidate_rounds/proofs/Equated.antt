@@ -16,9 +16,9 @@ use Rattle.candidate_ir.specs.Unify.{same_head}
 use Rattle.candidate_ir.proofs.Elaboration.{tree_is}
 use Rattle.candidate_ir.proofs.Equal.{head_is}
 use Rattle.candidate_ir.proofs.Folding.{begin}
-use Rattle.candidate_eval.specs.declared.eval.variable.VariableKind.TheVariants.{Term}
+use Rattle.candidate_eval.specs.declared.eval.variable.VariableKind.TheVariants.{Term, Region}
 use Rattle.candidate_eval.specs.Evaluators.{root_value, resolved_root}
-use Rattle.candidate_eval.specs.States.{State, value_at, value_of, resolved, resolved_tree}
+use Rattle.candidate_eval.specs.States.{State, value_at, value_of, resolved, resolved_tree, value_as}
 use Rattle.candidate_eval.specs.Alike.{info}
 use Rattle.candidate_eval.specs.Soundness.{Live, IsSound, ValuesFit, IsLater, AreTreesOf, is_strange, is_region}
 use Rattle.candidate_eval.proofs.Holds.{holds_parts}
@@ -29,8 +29,8 @@ use Rattle.candidate_rounds.specs.Equating.{Pair, Visit, Done, Refused, Left, va
 use Rattle.candidate_rounds.specs.Standing.{IsListing, is_made, Stands}
 use Rattle.candidate_rounds.specs.Congruence.{Same, same, heads, regions, pair, back, along}
 use Rattle.candidate_rounds.proofs.Marks.{valued_node}
-use Rattle.candidate_rounds.proofs.Later.{known_later, later_along, no_value, has_info}
-use Rattle.candidate_rounds.proofs.Bound.{value_own, known_bound}
+use Rattle.candidate_rounds.proofs.Later.{known_later, later_along, no_value, has_info, value_as_of}
+use Rattle.candidate_rounds.proofs.Bound.{value_given, known_bound}
 use Rattle.candidate_rounds.proofs.Current.{WhichListed, is_type, itself, which_listed, root_at, root_known, fixed_unvalued, placed_is}
 use Rattle.candidate_rounds.proofs.Looks.{same_left, meets, left_known, right_known, x_known, y_known, left_takes, right_takes, visited_keeps, looked_keeps, start_stands}
 use Rattle.candidate_rounds.proofs.Congruent.{same_to, same_node, fixed_stays, listed_pair, region_value}
@@ -146,12 +146,12 @@ module _ (l : Listing) (listing : IsListing l) (U : State) (L : Live) (fits : Va
     resolved_region : (t : Tree) → holds (is_strange S L) (alone t) ≡ false → is_region t.head ≡ true → is_region (resolved_tree U t).head ≡ true
     resolved_region t k e = at t.head (holds_parts (is_strange U L) t.head t.children none (known_later S U L L (λ n l c. c) later (alone t) k)).here e
       where
-        by : (n : ℕ) (o : Option Tree) (x : Forest) → value_of U n ≡ o → is_strange U L (H.Region (R.Var n)) ≡ false → is_region (unwrap_or o (record { head = H.Region (R.Var n); children = x })).head ≡ true
+        by : (n : ℕ) (o : Option Tree) (x : Forest) → value_as U Region n ≡ o → is_strange U L (H.Region (R.Var n)) ≡ false → is_region (unwrap_or o (record { head = H.Region (R.Var n); children = x })).head ≡ true
         by n None x f k = refl
-        by n (Some v) x f k = region_value l U L fits n v k f
+        by n (Some v) x f k = region_value l U L fits n v k (value_as_of U Region n v f)
 
         at : (h : Head) → is_strange U L h ≡ false → is_region h ≡ true → is_region (resolved_tree U (record { head = h; children = t.children })).head ≡ true
-        at (H.Region (R.Var n)) k e = by n (value_of U n) _ refl k
+        at (H.Region (R.Var n)) k e = by n (value_as U Region n) _ refl k
         at (H.Region r) k e = refl
         at _ k e = cc
 
@@ -167,9 +167,8 @@ module _ (l : Listing) (listing : IsListing l) (U : State) (L : Live) (fits : Va
   -- a variable that got a value
   taken_same : (S : State) (v : Variable) (t x : Tree) → IsLater (bound S v t) U L → holds (is_strange S L) (alone x) ≡ false → is_strange S L (H.Infer v) ≡ false → x.head ≡ H.Infer v → resolved U (alone x) ≡ resolved U (alone t)
   taken_same S v t x later k m e =
-      let i = has_info (L v.number) (Term v.sort) (info S v.number) m in
       sym (later.values (alone x) (known_bound S v t L (alone x) k)) ∙ ap (resolved U) (valued_node (value_at (bound S v t)) x.head x.children none)
-      ∙ ap (λ o. resolved U (alone (unwrap_or o (record { head = x.head; children = resolved (bound S v t) x.children })))) (ap (value_at (bound S v t)) e ∙ value_own S v t i.0 i.1)
+      ∙ ap (λ o. resolved U (alone (unwrap_or o (record { head = x.head; children = resolved (bound S v t) x.children })))) (ap (value_at (bound S v t)) e ∙ value_given S v t L m)
 
   -- One look
 

@@ -27,7 +27,7 @@ use Rattle.candidate_rounds.specs.Settling.{tried_all, with_staying, passes, cer
 use Rattle.candidate_rounds.specs.Responding.{response, responded}
 use Rattle.candidate_rounds.specs.RoundsJudge.{rounds_judge}
 use Rattle.candidate_rounds.proofs.Marks.{fold_marked}
-use Rattle.candidate_rounds.proofs.Later.{later_itself, resolved_stays, resolved_known, resolved_closed, has_info}
+use Rattle.candidate_rounds.proofs.Later.{later_itself, resolved_stays, resolved_known, resolved_closed, has_info, value_as_of}
 use Rattle.candidate_rounds.proofs.Current.{listed_fixed, listed_known}
 
 -- States that are alike are equal
@@ -96,8 +96,8 @@ module _ (l : Listing) (listing : IsListing l) (S : State) where
 
   -- values of what counts hold no parameter
   value_no_parameter : (L : Live) → HasNoParameter S L → (h : Head) (t : Tree) → is_strange S L h ≡ false → value_at S h ≡ Some t → holds is_param (alone t) ≡ false
-  value_no_parameter L free (H.Infer v) t e f = let i = has_info (L v.number) (Term v.sort) (info S v.number) e in free v.number i.0 t i.2 i.1 (sym (ap value_in i.1) ∙ f)
-  value_no_parameter L free (H.Region (R.Var n)) t e f = let i = has_info (L n) Region (info S n) e in free n i.0 t i.2 i.1 (sym (ap value_in i.1) ∙ f)
+  value_no_parameter L free (H.Infer v) t e f = let i = has_info (L v.number) (Term v.sort) (info S v.number) e in free v.number i.0 t i.2 i.1 (sym (ap value_in i.1) ∙ value_as_of S (Term v.sort) v.number t f)
+  value_no_parameter L free (H.Region (R.Var n)) t e f = let i = has_info (L n) Region (info S n) e in free n i.0 t i.2 i.1 (sym (ap value_in i.1) ∙ value_as_of S Region n t f)
   value_no_parameter L free _ t e f = cc
 
   normal_no_parameter : (L : Live) → HasNoParameter S L → (t : Tree) → AreTreesOf S L (alone t) → holds is_param (alone t) ≡ false → holds is_param (alone (type_or_itself l (resolved_tree S t))) ≡ false

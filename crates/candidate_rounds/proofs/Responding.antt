@@ -20,10 +20,10 @@ use Rattle.candidate_eval.specs.declared.eval.variable.VariableKind.{VariableKin
 use Rattle.candidate_eval.specs.declared.eval.variable.VariableKind.TheVariants.{Term, Region}
 use Rattle.candidate_eval.specs.Certainties.{certainty_and}
 use Rattle.candidate_eval.specs.Responses.{Response}
-use Rattle.candidate_eval.specs.States.{State, Pending, VariableInfo, Values, variable, valued, valued_tree, value_at, resolved, resolved_tree, is_some}
+use Rattle.candidate_eval.specs.States.{State, Pending, VariableInfo, Values, variable, valued, valued_tree, value_at, resolved, resolved_tree, is_some, has_kind, same_kind}
 use Rattle.candidate_eval.specs.Alike.{info}
 use Rattle.candidate_eval.specs.Mentions.{IsBelow, is_from}
-use Rattle.candidate_eval.specs.Soundness.{Live, IsSound, ValuesFit, AreLeaves, GoalsAreOf, universes, universe_in, is_strange, has_kind, same_kind, is_region}
+use Rattle.candidate_eval.specs.Soundness.{Live, IsSound, ValuesFit, AreLeaves, GoalsAreOf, universes, universe_in, is_strange, is_region}
 use Rattle.candidate_eval.specs.Instances.{Instance, instance, tree_number, answer_values, universe_or_root, response_universes, HasRootsFirst, IsResponseOf}
 use Rattle.candidate_eval.specs.Lawful.{AnswersYes}
 use Rattle.candidate_eval.proofs.Holds.{holds_parts}
