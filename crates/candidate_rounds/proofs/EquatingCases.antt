@@ -16,7 +16,8 @@ use Rattle.candidate_ir.specs.Substitutions.{alone}
 use Rattle.candidate_ir.specs.Folding.{leaf}
 use Rattle.candidate_eval.specs.declared.eval.mode.TypingMode.TheVariants.{PostAnalysis}
 use Rattle.candidate_eval.specs.declared.eval.variable.VariableKind.TheVariants.{Term}
-use Rattle.candidate_eval.specs.States.{State, VariableInfo}
+use Rattle.candidate_eval.specs.States.{State, VariableInfo, resolved}
+use Rattle.candidate_eval.specs.Evaluators.{resolved_root}
 use Rattle.candidate_rounds.specs.Listed.{Listing}
 use Rattle.candidate_rounds.specs.Equating.{equated, outlives}
 
@@ -145,3 +146,19 @@ with_other_sort = record { kind = Term V.Integer; universe = 0; value = Some (in
 
 other_sort : equate [] (start (with_other_sort ++ root V.General ∷ [])) (var 1) u8 ≡ Some (start (with_other_sort ++ with_value u8 ∷ []))
 other_sort = refl
+
+-- and so when values are put in
+abbrev with_u8 : State
+with_u8 = start (with_value u8 ∷ [])
+
+own_kind : resolved with_u8 (alone (var 0)) ≡ alone u8
+own_kind = refl
+
+another_sort : resolved with_u8 (alone (integer 0)) ≡ alone (integer 0)
+another_sort = refl
+
+no_region : resolved with_u8 (alone (leaf (H.Region (R.Var 0)))) ≡ alone (leaf (H.Region (R.Var 0)))
+no_region = refl
+
+root_of_another_sort : resolved_root with_u8 (integer 0) ≡ integer 0
+root_of_another_sort = refl

@@ -50,18 +50,14 @@ variable_made s v = refl
 pub is_quiet : (s : Substitution) → IsQuiet (assigned s)
 is_quiet s = record { bound = λ v. refl; placeholder = λ p. refl }
 
-pub kind_is : (i : VariableInfo) (s : VariableSort) → has_kind (Term s) (Some i) ≡ true → i.kind ≡ Term s
-kind_is i s e = at i.kind e
-  where
-    at : (k : VariableKind) → same_kind k (Term s) ≡ true → k ≡ Term s
-    at (Term t) e = ap Term (same_sort_is t s e)
-    at Region e = cc
-
 kind_same : (j k : VariableKind) → same_kind j k ≡ true → j ≡ k
 kind_same (Term s) (Term t) e = ap Term (same_sort_is s t e)
 kind_same Region Region e = refl
 kind_same (Term s) Region e = cc
 kind_same Region (Term t) e = cc
+
+pub kind_is : (i : VariableInfo) (s : VariableSort) → has_kind (Term s) (Some i) ≡ true → i.kind ≡ Term s
+kind_is i s e = kind_same i.kind (Term s) e
 
 -- a value that is put in is of the kind of what it stands for
 pub value_fits : (S : State) → ValuesFit S → (k : VariableKind) (n : ℕ) (t : Tree) → value_as S k n ≡ Some t → fits_kind k t.head ≡ true
