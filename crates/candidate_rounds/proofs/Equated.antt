@@ -16,10 +16,9 @@ use Rattle.candidate_ir.specs.Unify.{same_head}
 use Rattle.candidate_ir.proofs.Elaboration.{tree_is}
 use Rattle.candidate_ir.proofs.Equal.{head_is}
 use Rattle.candidate_ir.proofs.Folding.{begin}
-use Rattle.candidate_eval.specs.declared.eval.variable.VariableKind.TheVariants.{Term, Region}
+use Rattle.candidate_eval.specs.declared.eval.variable.VariableKind.TheVariants.{Region}
 use Rattle.candidate_eval.specs.Evaluators.{root_value, resolved_root}
-use Rattle.candidate_eval.specs.States.{State, value_at, value_of, resolved, resolved_tree, value_as}
-use Rattle.candidate_eval.specs.Alike.{info}
+use Rattle.candidate_eval.specs.States.{State, value_at, resolved, resolved_tree, value_as}
 use Rattle.candidate_eval.specs.Soundness.{Live, IsSound, ValuesFit, IsLater, AreTreesOf, is_strange, is_region}
 use Rattle.candidate_eval.proofs.Holds.{holds_parts}
 use Rattle.candidate_rounds.specs.Listed.{Listing, listed, normalized_tree, current}
@@ -29,7 +28,7 @@ use Rattle.candidate_rounds.specs.Equating.{Pair, Visit, Done, Refused, Left, va
 use Rattle.candidate_rounds.specs.Standing.{IsListing, is_made, Stands}
 use Rattle.candidate_rounds.specs.Congruence.{Same, same, heads, regions, pair, back, along}
 use Rattle.candidate_rounds.proofs.Marks.{valued_node}
-use Rattle.candidate_rounds.proofs.Later.{known_later, later_along, no_value, has_info, value_as_of}
+use Rattle.candidate_rounds.proofs.Later.{known_later, later_along, no_value, value_as_of}
 use Rattle.candidate_rounds.proofs.Bound.{value_given, known_bound}
 use Rattle.candidate_rounds.proofs.Current.{WhichListed, is_type, itself, which_listed, root_at, root_known, fixed_unvalued, placed_is}
 use Rattle.candidate_rounds.proofs.Looks.{same_left, meets, left_known, right_known, x_known, y_known, left_takes, right_takes, visited_keeps, looked_keeps, start_stands}
