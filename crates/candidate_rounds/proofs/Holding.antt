@@ -15,7 +15,7 @@ use Rattle.candidate_eval.specs.States.{State, added, with_pending, with_fresh, 
 use Rattle.candidate_eval.specs.Evaluators.{IsGoal, pending_of, pendings_of, with_goals_of, kinds_listed}
 use Rattle.candidate_rounds.specs.declared.rounds.inference.Change.TheVariants as C
 use Rattle.candidate_rounds.specs.Inferences.{Inference, with_variable, with_variables, enter, add, add_all, begin_pending, back_to}
-use Rattle.candidate_rounds.specs.Known.{info_of, state_of, IsEntry, IsChange, IsConsistent, IsKnown, Each, Evaluator, state, with_root}
+use Rattle.candidate_rounds.specs.Known.{info_of, state_of, IsEntry, IsChange, IsConsistent, IsKnown, IsTidy, SuitsKind, Each, Evaluator, state, with_root}
 use Rattle.candidate_rounds.proofs.Undoing.{IsUndone, undo-variable, undo-enter, undo-goal, undo-pending, back-to-now}
 use Rattle.candidate_rounds.proofs.Knowing.{state-stays, each-append}
 use Rattle.candidate_rounds.proofs.Probing.{holds-after}
@@ -23,38 +23,45 @@ use Rattle.candidate_rounds.proofs.Probing.{holds-after}
 one-more : {A : Type 0} (xs : List A) (x : A) → length (xs ++ x ∷ []) ≡ suc (length xs)
 one-more xs x = length-append xs (x ∷ []) ∙ omega arith
 
--- the goals that are pending are among those that were added
+-- It is tidy now.
+pub tidy-now : (ts : List Tree) (s : Inference) (ks : List ℕ) → IsConsistent ts s ks → IsTidy ts s
+tidy-now ts s ks h = subst (IsTidy ts) (back-to-now s) (h.tidy (length s.trail))
+
 first-fits : (ts : List Tree) (s : Inference) (ks : List ℕ) → IsConsistent ts s ks → s.first_pending ≤ length s.goals
-first-fits ts s ks h = subst (λ (x : Inference). x.first_pending ≤ length x.goals) (back-to-now s) (h.pending (length s.trail))
+first-fits ts s ks h = (tidy-now ts s ks h).pending
+
+pub kinds-now : (ts : List Tree) (s : Inference) (ks : List ℕ) → IsConsistent ts s ks → Each (SuitsKind ts) s.variables
+kinds-now ts s ks h = (tidy-now ts s ks h).kinds
 
 -- A probe in which nothing is pending began.
 pub holds-begun : (ts : List Tree) (s : Inference) (ks : List ℕ) → IsConsistent ts s ks → IsConsistent ts (begin_pending s (length s.goals)) (length s.trail ∷ ks)
 holds-begun ts s ks h =
-    holds-after ts s (begin_pending s (length s.goals)) (length s.trail ∷ ks) (record { known = h.known; marks = (omega arith, h.marks); pending = h.pending })
+    holds-after ts s (begin_pending s (length s.goals)) (length s.trail ∷ ks) (record { known = h.known; marks = (omega arith, h.marks); tidy = h.tidy })
     (undo-pending s (length s.goals)) (one-more s.trail _)
-    (record { values = h.known.values; regions = h.known.regions; goals = h.known.goals; changes = each-append (IsChange ts) s.trail _ h.known.changes tt }) (omega arith)
+    (record { values = h.known.values; regions = h.known.regions; goals = h.known.goals; changes = each-append (IsChange ts) s.trail _ h.known.changes tt })
+    (record { pending = omega arith; kinds = kinds-now ts s ks h })
 
 -- One began in which what was pending is.
 pub holds-kept : (ts : List Tree) (s : Inference) (ks : List ℕ) → IsConsistent ts s ks → IsConsistent ts s (length s.trail ∷ ks)
-holds-kept ts s ks h = record { known = h.known; marks = (omega arith, h.marks); pending = h.pending }
+holds-kept ts s ks h = record { known = h.known; marks = (omega arith, h.marks); tidy = h.tidy }
 
 pub holds-goal : (ts : List Tree) (s : Inference) (ks : List ℕ) (f : GoalSource) (g : Goal Clause) → IsConsistent ts s ks → IsGoal ts g → IsConsistent ts (add s f g) ks
 holds-goal ts s ks f g h i =
     holds-after ts s (add s f g) ks h (undo-goal s f g) (one-more s.trail _)
     (record { values = h.known.values; regions = h.known.regions; goals = each-append (λ (x : GoalSource × Goal Clause). IsGoal ts x.1) s.goals (f, g) h.known.goals i; changes = each-append (IsChange ts) s.trail _ h.known.changes tt })
-    (let n = one-more s.goals (f, g) in let p = first-fits ts s ks h in omega (arith, n, p))
+    (record { pending = (let n = one-more s.goals (f, g) in let p = first-fits ts s ks h in omega (arith, n, p)); kinds = kinds-now ts s ks h })
 
 pub holds-variable : (ts : List Tree) (s : Inference) (ks : List ℕ) (k : VariableKind) (r : Bool) → IsConsistent ts s ks → IsConsistent ts (with_variable s k r) ks
 holds-variable ts s ks k r h =
     holds-after ts s (with_variable s k r) ks h (undo-variable s k r) (one-more s.trail _)
     (record { values = each-append (IsEntry ts) s.variables _ h.known.values tt; regions = h.known.regions; goals = h.known.goals; changes = each-append (IsChange ts) s.trail _ h.known.changes tt })
-    (first-fits ts s ks h)
+    (record { pending = first-fits ts s ks h; kinds = each-append (SuitsKind ts) s.variables _ (kinds-now ts s ks h) (λ v e. cc) })
 
 pub holds-enter : (ts : List Tree) (s : Inference) (ks : List ℕ) → IsConsistent ts s ks → IsConsistent ts (enter s) ks
 holds-enter ts s ks h =
     holds-after ts s (enter s) ks h (undo-enter s) (one-more s.trail _)
     (record { values = h.known.values; regions = h.known.regions; goals = h.known.goals; changes = each-append (IsChange ts) s.trail _ h.known.changes tt })
-    (first-fits ts s ks h)
+    (record { pending = first-fits ts s ks h; kinds = kinds-now ts s ks h })
 
 -- The state after each change.
 

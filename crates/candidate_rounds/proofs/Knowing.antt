@@ -17,12 +17,13 @@ use Rattle.candidate_ir.specs.declared.ir.node.Node.TheVariants as N
 use Rattle.candidate_ir.specs.Words.{IsClause, KindFits, ty_tree, kind_tree, clause_tree}
 use Rattle.candidate_ir.proofs.Lists.{there, below_kind, kind_at-append, tree_at-append, Fits-append, node_tree-append}
 use Rattle.candidate_eval.specs.declared.eval.mode.TypingMode.{TypingMode}
+use Rattle.candidate_eval.specs.Soundness.{fits_kind}
 use Rattle.candidate_eval.specs.Evaluators.{IsGoal, pending_of}
 use Rattle.candidate_rounds.specs.declared.rounds.inference.Change.{Change}
 use Rattle.candidate_rounds.specs.declared.rounds.inference.Change.TheVariants as C
 use Rattle.candidate_rounds.specs.declared.rounds.inference.Entry.{Entry}
 use Rattle.candidate_rounds.specs.Inferences.{Inference, shorter, with_entry, with_value, with_universe, before, undone, back_to}
-use Rattle.candidate_rounds.specs.Known.{info_of, state_of, states_at, Each, IsValue, IsEntry, IsChange, IsKnown, AreMarks, AreTypes, IsGiven}
+use Rattle.candidate_rounds.specs.Known.{info_of, state_of, states_at, Each, IsValue, IsEntry, IsChange, IsKnown, AreMarks, AreTypes, IsGiven, SuitsKind}
 use Rattle.candidate_rounds.specs.Standing.{IsFixed, IsListing}
 use Rattle.candidate_rounds.proofs.Undoing.{IsUndone}
 
@@ -87,7 +88,7 @@ kind-stays ts us n k x t i = ap (λ ys. kind_at ys n) x.is ∙ (kind_at-append t
 tree-stays : (ts us : List Tree) (n : ℕ) (k : Kind) → Extends ts us → there k ≡ true → kind_at ts n ≡ k → tree_at us n ≡ tree_at ts n
 tree-stays ts us n k x t i = ap (λ ys. tree_at ys n) x.is ∙ tree_at-append ts x.added n (below_kind ts n k t i)
 
-there-arg : (v : GenericArg) → there (arg_kind v) ≡ true
+pub there-arg : (v : GenericArg) → there (arg_kind v) ≡ true
 there-arg (A.Ty t) = refl
 there-arg (A.Const c) = refl
 there-arg (A.Region r) = refl
@@ -142,6 +143,14 @@ known-stays ts us s x k = record {
   goals = each-imply (λ (g : GoalSource × Goal Clause). IsGoal ts g.1) (λ g. IsGoal us g.1) s.goals (λ g i. is-goal-stays ts us g.1 x i) k.goals;
   changes = each-imply (IsChange ts) (IsChange us) s.trail (λ c i. change-stays ts us c x i) k.changes;
 }
+
+-- Values are of their variables' kinds still.
+pub kinds-grown : (ts us : List Tree) (es : List Entry) → Extends ts us → Each (IsEntry ts) es → Each (SuitsKind ts) es → Each (SuitsKind us) es
+kinds-grown ts us [] x i k = tt
+kinds-grown ts us (e ∷ es) x i k = (one, kinds-grown ts us es x i.1 k.1)
+  where
+    one : SuitsKind us e
+    one v q = ap (λ (t : Tree). fits_kind e.kind t.head) (tree-stays ts us (arg_number v) (arg_kind v) x (there-arg v) (subst (IsValue ts) q i.0)) ∙ k.0 v q
 
 -- What was before is known, too.
 

@@ -37,3 +37,4 @@ pub mod Renumbering
 pub mod Responding
 pub mod Lawful
 pub mod Faithful
+pub mod Values

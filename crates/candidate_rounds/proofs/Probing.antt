@@ -11,9 +11,9 @@ use Rattle.candidate_eval.specs.States.{with_pending}
 use Rattle.candidate_eval.specs.Evaluators.{pendings_of}
 use Rattle.candidate_rounds.specs.declared.rounds.inference.Change.{Change}
 use Rattle.candidate_rounds.specs.Inferences.{Inference, begin_pending, before, undone, back_to}
-use Rattle.candidate_rounds.specs.Known.{state_of, states_at, AreMarks, PendingFits, IsKnown, IsConsistent}
+use Rattle.candidate_rounds.specs.Known.{state_of, states_at, AreMarks, IsTidy, StaysTidy, IsKnown, IsConsistent}
 use Rattle.candidate_rounds.proofs.Undoing.{IsUndone, undone-trail, back-to-now}
-use Rattle.candidate_rounds.proofs.Knowing.{probes-stay, known-back, known-stays}
+use Rattle.candidate_rounds.proofs.Knowing.{probes-stay, known-back, known-stays, kinds-grown}
 
 -- A probe that begins is the newest.
 pub probe-begins : (ts : List Tree) (mode : TypingMode) (s t : Inference) (ks : List ℕ) → AreMarks (length s.trail) ks → IsUndone s t
@@ -88,33 +88,36 @@ back-beyond n s l =
     take-beyond (suc n) [] l = refl
     take-beyond (suc n) (x ∷ xs) l = ap (λ ys. x ∷ ys) (take-beyond n xs (omega (arith, l)))
 
-pub pending-fits-after : (s t : Inference) → IsUndone s t → length t.trail ≡ suc (length s.trail) → t.first_pending ≤ length t.goals → PendingFits s → PendingFits t
-pending-fits-after s t u l f p n = at (leb n (length s.trail)) refl
+pub tidy-after : (ts : List Tree) (s t : Inference) → IsUndone s t → length t.trail ≡ suc (length s.trail) → IsTidy ts t → StaysTidy ts s → StaysTidy ts t
+tidy-after ts s t u l f p n = at (leb n (length s.trail)) refl
   where
-    at : (b : Bool) → leb n (length s.trail) ≡ b → (back_to n t).first_pending ≤ length (back_to n t).goals
-    at true e = subst (λ (x : Inference). x.first_pending ≤ length x.goals) (sym (u n (leb-true n (length s.trail) e))) (p n)
-    at false e = subst (λ (x : Inference). x.first_pending ≤ length x.goals) (sym (back-beyond n t (let g = leb-false n (length s.trail) e in omega (arith, g, l)))) f
+    at : (b : Bool) → leb n (length s.trail) ≡ b → IsTidy ts (back_to n t)
+    at true e = subst (IsTidy ts) (sym (u n (leb-true n (length s.trail) e))) (p n)
+    at false e = subst (IsTidy ts) (sym (back-beyond n t (let g = leb-false n (length s.trail) e in omega (arith, g, l)))) f
 
 shorter-than : (k : ℕ) (xs : List Change) → length (take k xs) ≤ k
 shorter-than zero xs = omega arith
 shorter-than (suc k) [] = omega arith
 shorter-than (suc k) (x ∷ xs) = let h = shorter-than k xs in omega (arith, h)
 
-pub pending-fits-back : (s : Inference) (k : ℕ) → PendingFits s → PendingFits (back_to k s)
-pending-fits-back s k p n = at (leb n k) refl
+tidy-back : (ts : List Tree) (s : Inference) (k : ℕ) → StaysTidy ts s → StaysTidy ts (back_to k s)
+tidy-back ts s k p n = at (leb n k) refl
   where
-    at : (b : Bool) → leb n k ≡ b → (back_to n (back_to k s)).first_pending ≤ length (back_to n (back_to k s)).goals
-    at true e = subst (λ (x : Inference). x.first_pending ≤ length x.goals) (sym (back-back n k s (leb-true n k e))) (p n)
-    at false e = subst (λ (x : Inference). x.first_pending ≤ length x.goals) (sym (back-beyond n (back_to k s) (let g = leb-false n k e in let h = shorter-than k s.trail in omega (arith, g, h)))) (p k)
+    at : (b : Bool) → leb n k ≡ b → IsTidy ts (back_to n (back_to k s))
+    at true e = subst (IsTidy ts) (sym (back-back n k s (leb-true n k e))) (p n)
+    at false e = subst (IsTidy ts) (sym (back-beyond n (back_to k s) (let g = leb-false n k e in let h = shorter-than k s.trail in omega (arith, g, h)))) (p k)
+
+tidy-grown : (ts us : List Tree) (s : Inference) → Extends ts us → IsKnown ts s → IsTidy ts s → IsTidy us s
+tidy-grown ts us s x k t = record { pending = t.pending; kinds = kinds-grown ts us s.variables x k.values t.kinds }
 
 -- A change keeps what holds of all that is kept; and so does going back, and giving more numbers.
 
-pub holds-after : (ts : List Tree) (s t : Inference) (ks : List ℕ) → IsConsistent ts s ks → IsUndone s t → length t.trail ≡ suc (length s.trail) → IsKnown ts t → t.first_pending ≤ length t.goals
+pub holds-after : (ts : List Tree) (s t : Inference) (ks : List ℕ) → IsConsistent ts s ks → IsUndone s t → length t.trail ≡ suc (length s.trail) → IsKnown ts t → IsTidy ts t
     → IsConsistent ts t ks
 holds-after ts s t ks h u l k f = record {
   known = k;
   marks = later (length s.trail) (length t.trail) ks (omega (arith, l)) h.marks;
-  pending = pending-fits-after s t u l f h.pending;
+  tidy = tidy-after ts s t u l f h.tidy;
 }
   where
     later : (n m : ℕ) (ks : List ℕ) → n ≤ m → AreMarks n ks → AreMarks m ks
@@ -125,8 +128,8 @@ pub holds-back : (ts : List Tree) (s : Inference) (n : ℕ) (ks : List ℕ) → 
 holds-back ts s n ks h = record {
   known = known-back ts s n h.known;
   marks = marks-left s n ks h.marks.0 h.marks.1;
-  pending = pending-fits-back s n h.pending;
+  tidy = tidy-back ts s n h.tidy;
 }
 
 pub holds-grown : (ts us : List Tree) (s : Inference) (ks : List ℕ) → Extends ts us → IsConsistent ts s ks → IsConsistent us s ks
-holds-grown ts us s ks x h = record { known = known-stays ts us s x h.known; marks = h.marks; pending = h.pending }
+holds-grown ts us s ks x h = record { known = known-stays ts us s x h.known; marks = h.marks; tidy = λ n. tidy-grown ts us (back_to n s) x (known-back ts s n h.known) (h.tidy n) }

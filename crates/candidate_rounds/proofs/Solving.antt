@@ -50,7 +50,7 @@ variable_made s v = refl
 pub is_quiet : (s : Substitution) → IsQuiet (assigned s)
 is_quiet s = record { bound = λ v. refl; placeholder = λ p. refl }
 
-kind_same : (j k : VariableKind) → same_kind j k ≡ true → j ≡ k
+pub kind_same : (j k : VariableKind) → same_kind j k ≡ true → j ≡ k
 kind_same (Term s) (Term t) e = ap Term (same_sort_is s t e)
 kind_same Region Region e = refl
 kind_same (Term s) Region e = cc

@@ -1,5 +1,5 @@
 -- What is known so far, as a state.
-use Rattle.std.specs.Prelude.{ℕ, ◌≤◌, Option, Some, None, List, [], ◌∷◌, ◌++◌, true, map, drop, length}
+use Rattle.std.specs.Prelude.{◌≡◌, ℕ, ◌≤◌, Option, Some, None, List, [], ◌∷◌, ◌++◌, true, map, drop, length}
 use Rattle.std.specs.Option.{option_map}
 use Rattle.candidate_ir.specs.declared.ir.kinds.GenericArg.{GenericArg}
 use Rattle.candidate_ir.specs.Context.{Context}
@@ -12,6 +12,7 @@ use Rattle.candidate_ir.specs.Words.{IsTy, IsClause, KindFits, ty_tree, clause_t
 use Rattle.candidate_eval.specs.declared.eval.mode.TypingMode.{TypingMode}
 use Rattle.candidate_eval.specs.declared.eval.variable.VariableKind.{VariableKind}
 use Rattle.candidate_eval.specs.States.{State, VariableInfo}
+use Rattle.candidate_eval.specs.Soundness.{fits_kind}
 use Rattle.candidate_eval.specs.Evaluators.{IsGoal, pendings_of, alias_trees}
 use Rattle.candidate_rounds.specs.declared.rounds.inference.Change.{Change}
 use Rattle.candidate_rounds.specs.declared.rounds.inference.Change.TheVariants as C
@@ -66,15 +67,24 @@ abbrev pub AreMarks : ℕ → List ℕ → Type 0
 AreMarks n [] = Unit {0}
 AreMarks n (k ∷ ks) = (k ≤ n) × AreMarks k ks
 
--- The goals that are pending are among those that were added: now, and whatever is undone.
-abbrev pub PendingFits : Inference → Type 0
-PendingFits s = (n : ℕ) → (back_to n s).first_pending ≤ length (back_to n s).goals
+-- a value is of its variable's kind
+abbrev pub SuitsKind : List Tree → Entry → Type 0
+SuitsKind ts e = (v : GenericArg) → e.value ≡ Some v → fits_kind e.kind (arg_tree ts v).head ≡ true
+
+-- The goals that are pending are among those that were added, and values are of their variables' kinds.
+pub record IsTidy (ts : List Tree) (s : Inference) : Type 0 where
+  pub pending : s.first_pending ≤ length s.goals
+  pub kinds : Each (SuitsKind ts) s.variables
+
+-- It is so now, and whatever is undone.
+abbrev pub StaysTidy : List Tree → Inference → Type 0
+StaysTidy ts s = (n : ℕ) → IsTidy ts (back_to n s)
 
 -- What holds of all that is kept, between calls.
 pub record IsConsistent (ts : List Tree) (s : Inference) (ks : List ℕ) : Type 0 where
   pub known : IsKnown ts s
   pub marks : AreMarks (length s.trail) ks
-  pub pending : PendingFits s
+  pub tidy : StaysTidy ts s
 
 -- The listed pairs by their trees.
 abbrev pub listing_of : List Tree → List (Ty × Ty) → Listing

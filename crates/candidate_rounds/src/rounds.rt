@@ -2,6 +2,7 @@
 
 mod fresh;
 mod inference;
+mod resolving;
 pub mod states;
 
 use crate::rounds::inference::Inference;
