@@ -5,15 +5,16 @@ use Rattle.std.proofs.lemmas.Option.{slice_get-map}
 use Rattle.candidate_ir.specs.declared.ir.kinds.GenericArg.{GenericArg}
 use Rattle.candidate_ir.specs.Folds.{IsArg, arg_tree}
 use Rattle.candidate_ir.specs.declared.ir.heads.Head.{Head}
+use Rattle.candidate_ir.specs.declared.ir.heads.Head.TheVariants as H
 use Rattle.candidate_ir.specs.declared.ir.kinds.InferTy.{InferTy}
 use Rattle.candidate_ir.specs.declared.ir.kinds.InferTy.TheVariants as I
 use Rattle.candidate_ir.specs.Kinds.{arg_kind, arg_number, variable_of}
-use Rattle.candidate_ir.specs.Trees.{Kind, TypeKind, Tree, kind_of, is_type_kind}
+use Rattle.candidate_ir.specs.Trees.{Kind, TypeKind, RegionKind, Tree, kind_of, is_type_kind}
 use Rattle.candidate_ir.proofs.Rows.{kind-of}
 use Rattle.candidate_eval.specs.declared.eval.variable.VariableKind.TheVariants.{Term}
 use Rattle.candidate_eval.specs.declared.eval.variable.VariableKind.{VariableKind}
 use Rattle.candidate_eval.specs.States.{State, value_in, value_as, same_kind, has_kind}
-use Rattle.candidate_eval.specs.Soundness.{fits_kind}
+use Rattle.candidate_eval.specs.Soundness.{fits_kind, is_region}
 use Rattle.candidate_rounds.specs.declared.rounds.inference.Entry.{Entry}
 use Rattle.candidate_rounds.specs.Inferences.{Inference}
 use Rattle.candidate_rounds.specs.Known.{Evaluator, state, info_of, IsValue, IsEntry, SuitsKind, IsConsistent}
@@ -61,3 +62,11 @@ type-head h (I.FloatVar n) f = is-type-kind (kind_of h) (float_is_type h f)
 -- A value of a type's variable is a type.
 pub type-value : (ts : List Tree) (v : InferTy) (x : GenericArg) → IsArg ts x → fits_kind (Term (variable_of v).sort) (arg_tree ts x).head ≡ true → arg_kind x ≡ TypeKind
 type-value ts v x i f = sym (kind-of ts (arg_number x) (arg_kind x) (there-arg x) i) ∙ type-head (arg_tree ts x).head v f
+
+region-head : (h : Head) → is_region h ≡ true → kind_of h ≡ RegionKind
+region-head (H.Region r) e = refl
+region-head _ e = cc
+
+-- One of a region's variable is a region.
+pub region-value : (ts : List Tree) (x : GenericArg) → IsArg ts x → is_region (arg_tree ts x).head ≡ true → arg_kind x ≡ RegionKind
+region-value ts x i f = sym (kind-of ts (arg_number x) (arg_kind x) (there-arg x) i) ∙ region-head (arg_tree ts x).head f

@@ -3,17 +3,17 @@
 ghost use Rattle.std.specs.Prelude.{◌≡◌, true, Some, None, MatchOption};
 ghost use Rattle.candidate_ir.specs.Folds.{IsArg, arg_tree};
 ghost use Rattle.candidate_ir.specs.Kinds.{arg_kind, arg_number, variable_of};
-ghost use Rattle.candidate_ir.specs.Trees.{TypeKind};
-ghost use Rattle.candidate_ir.specs.Words.{IsTy, ty_tree};
+ghost use Rattle.candidate_ir.specs.Trees.{RegionKind, TypeKind};
+ghost use Rattle.candidate_ir.specs.Words.{IsRegion, IsTy, region_tree, ty_tree};
 ghost use Rattle.candidate_eval.specs.Evaluators.{resolved_root};
 ghost use Rattle.candidate_eval.specs.Soundness.{fits_kind};
-ghost use Rattle.candidate_eval.specs.States.{same_kind, value_as};
+ghost use Rattle.candidate_eval.specs.States.{resolved_tree, same_kind, value_as};
 ghost use Rattle.candidate_rounds.specs.Known.{state};
 
 use crate::rounds::Rounds;
 use candidate_eval::eval::variable::VariableKind;
 use candidate_ir::ir::heads::{Variable, VariableSort};
-use candidate_ir::ir::kinds::{GenericArg, InferTy, Ty, TyKind};
+use candidate_ir::ir::kinds::{GenericArg, InferTy, Region, RegionKind as Kind, Ty, TyKind};
 
 /// The variable of a type: its sort and number.
 fn variable_of(var: InferTy) -> Variable
@@ -43,6 +43,17 @@ fn type_of(arg: GenericArg) -> Ty
     match arg {
         GenericArg::Ty(ty) => ty,
         GenericArg::Const(_) | GenericArg::Region(_) => unreachable!(),
+    }
+}
+
+/// The region that an argument is.
+fn region_of(arg: GenericArg) -> Region
+    requires { arg_kind arg ≡ RegionKind }
+    ensures { result.0 ≡ arg_number arg }
+{
+    match arg {
+        GenericArg::Region(region) => region,
+        GenericArg::Ty(_) | GenericArg::Const(_) => unreachable!(),
     }
 }
 
@@ -82,6 +93,22 @@ impl Rounds {
         match self.value(VariableKind::Term(variable.sort), variable.number) {
             Some(value) => type_of(value),
             None => ty,
+        }
+    }
+
+    /// The region with its value in its place, if it is a variable that has one.
+    pub fn eager_resolve_region(&self, region: Region) -> Region
+        requires { IsRegion self.now.context.trees region }
+        ensures sort { IsRegion self.now.context.trees result }
+        ensures tree { region_tree self.now.context.trees result ≡ resolved_tree (state self.now) (region_tree self.now.context.trees region) }
+    {
+        let kind = self.cx.region_kind(region);
+        let Kind::Var(number) = kind else {
+            return region;
+        };
+        match self.value(VariableKind::Region, number) {
+            Some(value) => region_of(value),
+            None => region,
         }
     }
 }
