@@ -2,6 +2,7 @@
 
 ghost use Rattle.std.specs.Prelude.{◌≡◌};
 ghost use Rattle.candidate_ir.specs.Context.{Grows};
+ghost use Rattle.candidate_ir.specs.Folds.{IsArg};
 ghost use Rattle.candidate_ir.specs.Words.{IsArgs};
 ghost use Rattle.candidate_rounds.specs.Known.{probes};
 
@@ -11,7 +12,7 @@ use candidate_eval::eval::context::ProbeKind;
 use candidate_eval::eval::mode::TypingMode;
 use candidate_eval::eval::variable::VariableKind;
 use candidate_ir::ir::heads::{Flag, VariableSort};
-use candidate_ir::ir::kinds::{Args, VarKind};
+use candidate_ir::ir::kinds::{Args, GenericArg, VarKind};
 use candidate_rounds::rounds::Rounds;
 use std::alloc::Global;
 use std::process::Abort;
@@ -108,4 +109,37 @@ fn tells_variables_apart(rt: HostRuntime) {
     let newer = placeholders(&rt, alloc, &mut rounds, &[VarKind::Ty]);
     let same_universe = rounds.cx().same_args(placeholder, newer);
     equals(&rt, &same_universe, &false, "a newer universe");
+}
+
+/// A variable without a value stands for itself.
+fn check_itself(rt: &impl Abort, rounds: &Rounds, root: GenericArg)
+    requires { IsArg rounds.now.context.trees root }
+{
+    match root {
+        GenericArg::Ty(ty) => {
+            let resolved = rounds.shallow_resolve(ty);
+            equals(rt, &rounds.cx().same(ty, resolved), &true, "a type");
+        }
+        GenericArg::Region(region) => {
+            let resolved = rounds.eager_resolve_region(region);
+            let same = rounds.cx().same_region(region, resolved);
+            equals(rt, &same, &true, "a region");
+        }
+        GenericArg::Const(_) => {}
+    }
+}
+
+#[test]
+fn resolves_variables(rt: HostRuntime) {
+    let alloc = rt.alloc();
+    let mut rounds = started(&rt, alloc, TypingMode::Analysis);
+    let kinds = [
+        VariableKind::Term(VariableSort::General),
+        VariableKind::Term(VariableSort::Integer),
+        VariableKind::Region,
+    ];
+    for kind in kinds {
+        let root = rounds.new_root_var(kind).expect(&rt, "a root variable");
+        check_itself(&rt, &rounds, root);
+    }
 }
