@@ -1,6 +1,6 @@
 //! The state: variables, goals, probes.
 
-ghost use Rattle.std.specs.Prelude.{All, ◌<◌, ◌^◌, false, length, IfErr, ◌≡◌, ◌≢◌, List, [], ◌∷◌, IfOk, OnOk, OnErr};
+ghost use Rattle.std.specs.Prelude.{All, ◌<◌, ◌^◌, false, length, IfErr, ◌≡◌, ◌≢◌, List, [], ◌∷◌, ◌++◌, IfOk, OnOk, OnErr};
 ghost use Rattle.candidate_ir.specs.Context.{Grows};
 ghost use Rattle.candidate_ir.specs.Folds.{IsArg, arg_tree};
 ghost use Rattle.candidate_ir.specs.Nodes.{rows};
@@ -17,6 +17,7 @@ use crate::rounds::fresh::{Leaves, leaf_args, variable};
 use crate::rounds::inference::Inference;
 use candidate_eval::eval::context::ProbeKind;
 use candidate_eval::eval::mode::TypingMode;
+use candidate_eval::eval::response::CandidateHeadUsages;
 use candidate_eval::eval::variable::VariableKind;
 use candidate_ir::decl::context::Cx;
 use candidate_ir::ir::kinds::{AliasTy, Args, Clause, GenericArg, Goal, GoalSource, Ty, VarKind};
@@ -240,5 +241,22 @@ impl Rounds {
         if let Some(changes) = self.probes.pop() {
             self.inference.undo_to(changes);
         }
+    }
+
+    /// Puts off a fault: its text stands last among those of the context. The only stop is `Stop::Memory`; nothing is changed then.
+    pub fn delay_bug(&mut self, text: &str) -> Result<(), Stop>
+        ensures state { state self.new ≡ state self.old }
+        ensures probes { probes self.new ≡ probes self.old }
+        ensures added { OnOk result (self.new.context ≡ record self.old.context { delayed_bugs = self.old.context.delayed_bugs ++ text.now ∷ [] }) }
+        ensures unchanged { OnErr result (self.new.context ≡ self.old.context) }
+    {
+        self.cx.delay_bug(text)
+    }
+
+    /// Forgets which goals a candidate has used: of those nothing is kept.
+    pub fn ignore_candidate_head_usages(&mut self, usages: CandidateHeadUsages)
+        ensures { self.new ≡ self.old }
+    {
+        drop(usages);
     }
 }
