@@ -1,6 +1,6 @@
 -- The values that are kept are those of the state.
-use Rattle.std.proofs.Common.{◌≡◌, ℕ, Bool, true, false, List, map, slice_get, Option, Some, None, MatchOption, refl, sym, ◌∙◌, ap, subst, if◌then◌else◌}
-use Rattle.std.specs.Option.{option_map}
+use Rattle.std.proofs.Common.{◌≡◌, ℕ, true, false, List, slice_get, Option, Some, None, MatchOption, refl, sym, ◌∙◌, ap, subst, if◌then◌else◌}
+use Rattle.std.specs.Option.{option_map, unwrap_or}
 use Rattle.std.proofs.lemmas.Option.{slice_get-map}
 use Rattle.candidate_ir.specs.declared.ir.kinds.GenericArg.{GenericArg}
 use Rattle.candidate_ir.specs.Folds.{IsArg, arg_tree}
@@ -8,15 +8,20 @@ use Rattle.candidate_ir.specs.declared.ir.heads.Head.{Head}
 use Rattle.candidate_ir.specs.declared.ir.heads.Head.TheVariants as H
 use Rattle.candidate_ir.specs.declared.ir.kinds.InferTy.{InferTy}
 use Rattle.candidate_ir.specs.declared.ir.kinds.InferTy.TheVariants as I
-use Rattle.candidate_ir.specs.Kinds.{arg_kind, arg_number, variable_of}
+use Rattle.candidate_ir.specs.declared.ir.kinds.TyKind.{TyKind}
+use Rattle.candidate_ir.specs.declared.ir.kinds.TyKind.TheVariants as K
+use Rattle.candidate_ir.specs.declared.ir.kinds.Pattern.TheVariants as Pat
+use Rattle.candidate_ir.specs.Words.{kind_tree}
+use Rattle.candidate_eval.specs.Orphan.{is_general}
+use Rattle.candidate_eval.specs.Evaluators.{resolved_root}
+use Rattle.candidate_ir.specs.Kinds.{arg_kind, arg_number, variable_of, ty_head, is_general_variable}
 use Rattle.candidate_ir.specs.Trees.{Kind, TypeKind, RegionKind, Tree, kind_of, is_type_kind}
 use Rattle.candidate_ir.proofs.Rows.{kind-of}
 use Rattle.candidate_eval.specs.declared.eval.variable.VariableKind.TheVariants.{Term}
 use Rattle.candidate_eval.specs.declared.eval.variable.VariableKind.{VariableKind}
-use Rattle.candidate_eval.specs.States.{State, value_in, value_as, same_kind, has_kind}
+use Rattle.candidate_eval.specs.States.{State, value_in, value_as, value_at, same_kind, has_kind, resolved, resolved_tree}
 use Rattle.candidate_eval.specs.Soundness.{fits_kind, is_region}
 use Rattle.candidate_rounds.specs.declared.rounds.inference.Entry.{Entry}
-use Rattle.candidate_rounds.specs.Inferences.{Inference}
 use Rattle.candidate_rounds.specs.Known.{Evaluator, state, info_of, IsValue, IsEntry, SuitsKind, IsConsistent}
 use Rattle.candidate_rounds.proofs.Knowing.{each-get, there-arg}
 use Rattle.candidate_rounds.proofs.Holding.{kinds-now}
@@ -70,3 +75,29 @@ region-head _ e = cc
 -- One of a region's variable is a region.
 pub region-value : (ts : List Tree) (x : GenericArg) → IsArg ts x → is_region (arg_tree ts x).head ≡ true → arg_kind x ≡ RegionKind
 region-value ts x i f = sym (kind-of ts (arg_number x) (arg_kind x) (there-arg x) i) ∙ region-head (arg_tree ts x).head f
+
+-- Whether a type stands for a general variable shows at its root.
+
+general-head : (k : TyKind) → is_general_variable k ≡ is_general (ty_head k)
+general-head (K.Infer (I.TyVar n)) = refl
+general-head (K.Infer (I.IntVar n)) = refl
+general-head (K.Infer (I.FloatVar n)) = refl
+general-head (K.Pat b Pat.NotNull) = refl
+general-head (K.Pat b (Pat.Range x y)) = refl
+general-head _ = refl
+
+pub general-root : (S : State) (t : Tree) → is_type_kind (kind_of t.head) ≡ true → is_general (resolved_root S t).head ≡ is_general (resolved_tree S t).head
+general-root S t e = at t.head e
+  where
+    at : (h : Head) → is_type_kind (kind_of h) ≡ true → is_general (resolved_root S (record { head = h; children = t.children })).head ≡ is_general (resolved_tree S (record { head = h; children = t.children })).head
+    at (H.Infer v) e = infer (value_at S (H.Infer v))
+      where
+        infer : (o : Option Tree) → is_general (unwrap_or o (record { head = H.Infer v; children = t.children })).head ≡ is_general (unwrap_or o (record { head = H.Infer v; children = resolved S t.children })).head
+        infer None = refl
+        infer (Some x) = refl
+    at (H.Region r) e = cc
+    at _ e = refl
+
+-- of a type that was read: it is one, or it isn't
+pub general-read : (ts : List Tree) (S : State) (k : TyKind) (t u : Tree) → kind_tree ts k ≡ u → u ≡ resolved_root S t → is_type_kind (kind_of t.head) ≡ true → is_general_variable k ≡ is_general (resolved_tree S t).head
+general-read ts S k t u e f g = general-head k ∙ (ap (λ (x : Tree). is_general x.head) (e ∙ f) ∙ general-root S t g)

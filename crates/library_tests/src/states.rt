@@ -10,6 +10,7 @@ use crate::asserts::equals;
 use crate::samples::declared;
 use candidate_eval::eval::context::ProbeKind;
 use candidate_eval::eval::mode::TypingMode;
+use candidate_eval::eval::response::CandidateHeadUsages;
 use candidate_eval::eval::variable::VariableKind;
 use candidate_ir::ir::heads::{Flag, VariableSort};
 use candidate_ir::ir::kinds::{Args, GenericArg, VarKind};
@@ -112,13 +113,17 @@ fn tells_variables_apart(rt: HostRuntime) {
 }
 
 /// A variable without a value stands for itself.
-fn check_itself(rt: &impl Abort, rounds: &Rounds, root: GenericArg)
+fn check_itself(rt: &impl Abort, alloc: Global, rounds: &Rounds, root: GenericArg)
     requires { IsArg rounds.now.context.trees root }
 {
     match root {
         GenericArg::Ty(ty) => {
             let resolved = rounds.shallow_resolve(ty);
             equals(rt, &rounds.cx().same(ty, resolved), &true, "a type");
+            let hidden = rounds
+                .opaques_with_sub_unified_hidden_type(alloc, ty)
+                .expect(rt, "opaque types");
+            equals(rt, &hidden.len(), &0, "none was given");
         }
         GenericArg::Region(region) => {
             let resolved = rounds.eager_resolve_region(region);
@@ -140,6 +145,15 @@ fn resolves_variables(rt: HostRuntime) {
     ];
     for kind in kinds {
         let root = rounds.new_root_var(kind).expect(&rt, "a root variable");
-        check_itself(&rt, &rounds, root);
+        check_itself(&rt, alloc, &rounds, root);
     }
+}
+
+#[test]
+fn puts_off_faults(rt: HostRuntime) {
+    let alloc = rt.alloc();
+    let mut rounds = started(&rt, alloc, TypingMode::Analysis);
+    rounds.delay_bug("an alias").expect(&rt, "a fault put off");
+    rounds.ignore_candidate_head_usages(CandidateHeadUsages::new(alloc));
+    equals(&rt, &rounds.cx().delayed_bugs().len(), &1, "one fault");
 }

@@ -4,11 +4,13 @@ ghost use Rattle.std.specs.Prelude.{All, ◌<◌, ◌^◌, false, length, IfErr,
 ghost use Rattle.candidate_ir.specs.Context.{Grows};
 ghost use Rattle.candidate_ir.specs.Folds.{IsArg, arg_tree};
 ghost use Rattle.candidate_ir.specs.Nodes.{rows};
-ghost use Rattle.candidate_ir.specs.Words.{IsArgs, args_forest};
-ghost use Rattle.candidate_eval.specs.Evaluators.{begun, IsGoal, pending_of, with_goals_of, kinds_listed, rigid, with_rigid};
+ghost use Rattle.candidate_ir.specs.declared.ir.kinds.TyKind.TheVariants as K;
+ghost use Rattle.candidate_ir.specs.Words.{IsArgs, IsTy, KindFits, args_forest, ty_tree};
+ghost use Rattle.candidate_eval.specs.Evaluators.{begun, IsGoal, pending_of, with_goals_of, kinds_listed, rigid, with_rigid, alias_trees};
 ghost use Rattle.candidate_eval.specs.States.{State, added, variable, fresh_variables, with_fresh_variables, with_universe};
 ghost use Rattle.candidate_eval.specs.declared.eval.context.ProbeKind.{ProbeKind};
 ghost use Rattle.candidate_rounds.specs.Inferences.{with_variable};
+ghost use Rattle.candidate_rounds.specs.RoundsJudge.{hidden_behind};
 ghost use Rattle.candidate_rounds.specs.Leaves.{all_leaves, last_number};
 ghost use Rattle.candidate_rounds.specs.Known.{state, state_of, probes, with_root, IsGiven};
 
@@ -258,5 +260,23 @@ impl Rounds {
         ensures { self.new ≡ self.old }
     {
         drop(usages);
+    }
+
+    /// The opaque types that may be hidden behind the type: where it stands for a general variable all that the evaluator was given, else
+    /// none. The only stop is `Stop::Memory`.
+    pub fn opaques_with_sub_unified_hidden_type(
+        &self,
+        alloc: Global,
+        ty: Ty,
+    ) -> Result<Vec<AliasTy>, Stop>
+        requires { IsTy self.now.context.trees ty }
+        ensures fit { IfOk result (λ v. All (λ a. KindFits self.now.context.trees (K.Alias a)) v.items) }
+        ensures ok { IfOk result (λ v. alias_trees self.now.context.trees v.items ≡ hidden_behind (alias_trees self.now.context.trees self.now.opaques) (state self.now) (ty_tree self.now.context.trees ty)) }
+        ensures cause { IfErr result (λ s. s ≡ Stop.Memory) }
+    {
+        if !self.cx.kind(self.shallow_resolve(ty)).is_ty_var() {
+            return Ok(Vec::new(alloc));
+        }
+        Ok(Vec::from_slice(alloc, self.opaques.as_slice())?)
     }
 }
