@@ -159,7 +159,7 @@ fn resolved_ty(alloc: Global, cx: &mut Cx, inference: &Inference, ty: Ty) -> Res
         move |cx: &mut Cx, arg: GenericArg, _: u32| -> Result<Option<GenericArg>, Stop>
             requires { IsArg cx.old.trees arg }
             ensures same { cx.new ≡ cx.old }
-            ensures answer { result ≡ Ok (kept_at inference.now (arg_tree cx.old.trees arg).head) }
+            ensures answer { result ≡ Ok (kept_at inference.entry.now (arg_tree cx.old.trees arg).head) }
         { Ok(value_for(cx, inference, arg)) },
     )
 }
