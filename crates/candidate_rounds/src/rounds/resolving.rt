@@ -5,22 +5,22 @@ ghost use Rattle.candidate_ir.specs.Context.{Grows};
 ghost use Rattle.candidate_ir.specs.Folds.{IsArg, arg_tree};
 ghost use Rattle.candidate_ir.specs.Kinds.{arg_kind, arg_number, variable_of};
 ghost use Rattle.candidate_ir.specs.Trees.{RegionKind, TypeKind};
-ghost use Rattle.candidate_ir.specs.Words.{IsConst, IsRegion, IsTy, const_tree, region_tree, ty_tree};
+ghost use Rattle.candidate_ir.specs.Words.{IsArgs, IsClause, IsConst, IsRegion, IsTy, args_forest, clause_tree, const_tree, region_tree, ty_tree};
 ghost use Rattle.candidate_eval.specs.Evaluators.{resolved_root};
 ghost use Rattle.candidate_eval.specs.Soundness.{fits_kind};
-ghost use Rattle.candidate_eval.specs.States.{resolved_tree, same_kind, value_as};
+ghost use Rattle.candidate_eval.specs.States.{resolved, resolved_tree, same_kind, value_as};
 ghost use Rattle.candidate_eval.specs.declared.eval.mode.TypingMode.{TypingMode};
 ghost use Rattle.candidate_rounds.specs.Inferences.{kept_at, kept_value};
-ghost use Rattle.candidate_rounds.specs.Known.{Each, IsKnown, SuitsKind, state, state_of};
+ghost use Rattle.candidate_rounds.specs.Known.{Each, IsKnown, SuitsKind, probes, state, state_of};
 
 use crate::rounds::Rounds;
 use crate::rounds::inference::Inference;
 use candidate_eval::eval::variable::VariableKind;
 use candidate_ir::decl::context::Cx;
-use candidate_ir::decl::fold::fold;
+use candidate_ir::decl::fold::{fold, fold_args, fold_clause, fold_const};
 use candidate_ir::ir::heads::{Variable, VariableSort};
 use candidate_ir::ir::kinds::{
-    Const, ConstKind, GenericArg, InferTy, Region, RegionKind as Kind, Ty, TyKind,
+    Args, Clause, Const, ConstKind, GenericArg, InferTy, Region, RegionKind as Kind, Ty, TyKind,
 };
 use candidate_ir::ir::stop::Stop;
 use std::alloc::Global;
@@ -164,6 +164,84 @@ fn resolved_ty(alloc: Global, cx: &mut Cx, inference: &Inference, ty: Ty) -> Res
     )
 }
 
+/// The constant, with all values put in.
+fn resolved_const(
+    alloc: Global,
+    cx: &mut Cx,
+    inference: &Inference,
+    constant: Const,
+) -> Result<Const, Stop>
+    requires constant { IsConst cx.old.trees constant }
+    requires known { IsKnown cx.old.trees inference.now }
+    requires kinds { Each (SuitsKind cx.old.trees) inference.now.variables }
+    ensures grows { Grows cx.old cx.new }
+    ensures sort { IfOk result (λ x. IsConst cx.new.trees x) }
+    ensures tree { (m : TypingMode) → IfOk result (λ x. const_tree cx.new.trees x ≡ resolved_tree (state_of cx.old.trees m inference.now) (const_tree cx.old.trees constant)) }
+{
+    fold_const(
+        alloc,
+        cx,
+        constant,
+        move |cx: &mut Cx, arg: GenericArg, _: u32| -> Result<Option<GenericArg>, Stop>
+            requires { IsArg cx.old.trees arg }
+            ensures same { cx.new ≡ cx.old }
+            ensures answer { result ≡ Ok (kept_at inference.entry.now (arg_tree cx.old.trees arg).head) }
+        { Ok(value_for(cx, inference, arg)) },
+    )
+}
+
+/// The list, with all values put in.
+fn resolved_args(
+    alloc: Global,
+    cx: &mut Cx,
+    inference: &Inference,
+    args: Args,
+) -> Result<Args, Stop>
+    requires args { IsArgs cx.old.trees args }
+    requires known { IsKnown cx.old.trees inference.now }
+    requires kinds { Each (SuitsKind cx.old.trees) inference.now.variables }
+    ensures grows { Grows cx.old cx.new }
+    ensures sort { IfOk result (λ x. IsArgs cx.new.trees x) }
+    ensures tree { (m : TypingMode) → IfOk result (λ x. args_forest cx.new.trees x ≡ resolved (state_of cx.old.trees m inference.now) (args_forest cx.old.trees args)) }
+{
+    fold_args(
+        alloc,
+        cx,
+        args,
+        move |cx: &mut Cx, arg: GenericArg, _: u32| -> Result<Option<GenericArg>, Stop>
+            requires { IsArg cx.old.trees arg }
+            ensures same { cx.new ≡ cx.old }
+            ensures answer { result ≡ Ok (kept_at inference.entry.now (arg_tree cx.old.trees arg).head) }
+        { Ok(value_for(cx, inference, arg)) },
+    )
+}
+
+/// The clause, with all values put in.
+fn resolved_clause(
+    alloc: Global,
+    cx: &mut Cx,
+    inference: &Inference,
+    clause: Clause,
+) -> Result<Clause, Stop>
+    requires clause { IsClause cx.old.trees clause }
+    requires known { IsKnown cx.old.trees inference.now }
+    requires kinds { Each (SuitsKind cx.old.trees) inference.now.variables }
+    ensures grows { Grows cx.old cx.new }
+    ensures sort { IfOk result (λ x. IsClause cx.new.trees x) }
+    ensures tree { (m : TypingMode) → IfOk result (λ x. clause_tree cx.new.trees x ≡ resolved_tree (state_of cx.old.trees m inference.now) (clause_tree cx.old.trees clause)) }
+{
+    fold_clause(
+        alloc,
+        cx,
+        clause,
+        move |cx: &mut Cx, arg: GenericArg, _: u32| -> Result<Option<GenericArg>, Stop>
+            requires { IsArg cx.old.trees arg }
+            ensures same { cx.new ≡ cx.old }
+            ensures answer { result ≡ Ok (kept_at inference.entry.now (arg_tree cx.old.trees arg).head) }
+        { Ok(value_for(cx, inference, arg)) },
+    )
+}
+
 impl Rounds {
     /// The value of the variable of that number, if it is of that kind and has one.
     fn value(&self, kind: VariableKind, number: u32) -> Option<GenericArg>
@@ -206,5 +284,63 @@ impl Rounds {
             Some(value) => region_of(value),
             None => region,
         }
+    }
+
+    /// The type, with all values put in: the value of each variable that has one stands in its place. `Stop::Memory` comes where a
+    /// growth was refused, `Stop::NodesFull` where no numbers are left or what came of a part of the tree would be higher than
+    /// 1,024. After a stop the nodes that were made stay.
+    pub fn resolve_ty_if_possible(&mut self, alloc: Global, ty: Ty) -> Result<Ty, Stop>
+        requires { IsTy self.old.context.trees ty }
+        ensures grows { Grows self.old.context self.new.context }
+        ensures probes { probes self.new ≡ probes self.old }
+        ensures state { state self.new ≡ state self.old }
+        ensures sort { IfOk result (λ x. IsTy self.new.context.trees x) }
+        ensures tree { IfOk result (λ x. ty_tree self.new.context.trees x ≡ resolved_tree (state self.old) (ty_tree self.old.context.trees ty)) }
+    {
+        resolved_ty(alloc, &mut self.cx, &self.inference, ty)
+    }
+
+    /// The constant, with all values put in; what is said of `resolve_ty_if_possible` holds here, too.
+    pub fn resolve_const_if_possible(
+        &mut self,
+        alloc: Global,
+        constant: Const,
+    ) -> Result<Const, Stop>
+        requires { IsConst self.old.context.trees constant }
+        ensures grows { Grows self.old.context self.new.context }
+        ensures probes { probes self.new ≡ probes self.old }
+        ensures state { state self.new ≡ state self.old }
+        ensures sort { IfOk result (λ x. IsConst self.new.context.trees x) }
+        ensures tree { IfOk result (λ x. const_tree self.new.context.trees x ≡ resolved_tree (state self.old) (const_tree self.old.context.trees constant)) }
+    {
+        resolved_const(alloc, &mut self.cx, &self.inference, constant)
+    }
+
+    /// The list, with all values put in; what is said of `resolve_ty_if_possible` holds here, too.
+    pub fn resolve_args_if_possible(&mut self, alloc: Global, args: Args) -> Result<Args, Stop>
+        requires { IsArgs self.old.context.trees args }
+        ensures grows { Grows self.old.context self.new.context }
+        ensures probes { probes self.new ≡ probes self.old }
+        ensures state { state self.new ≡ state self.old }
+        ensures sort { IfOk result (λ x. IsArgs self.new.context.trees x) }
+        ensures tree { IfOk result (λ x. args_forest self.new.context.trees x ≡ resolved (state self.old) (args_forest self.old.context.trees args)) }
+    {
+        resolved_args(alloc, &mut self.cx, &self.inference, args)
+    }
+
+    /// The clause, with all values put in; what is said of `resolve_ty_if_possible` holds here, too.
+    pub fn resolve_clause_if_possible(
+        &mut self,
+        alloc: Global,
+        clause: Clause,
+    ) -> Result<Clause, Stop>
+        requires { IsClause self.old.context.trees clause }
+        ensures grows { Grows self.old.context self.new.context }
+        ensures probes { probes self.new ≡ probes self.old }
+        ensures state { state self.new ≡ state self.old }
+        ensures sort { IfOk result (λ x. IsClause self.new.context.trees x) }
+        ensures tree { IfOk result (λ x. clause_tree self.new.context.trees x ≡ resolved_tree (state self.old) (clause_tree self.old.context.trees clause)) }
+    {
+        resolved_clause(alloc, &mut self.cx, &self.inference, clause)
     }
 }
