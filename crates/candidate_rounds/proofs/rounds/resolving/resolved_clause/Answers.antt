@@ -5,8 +5,8 @@ use Rattle.candidate_rounds.specs.Known.{state_of}
 use Rattle.candidate_rounds.proofs.Resolving.{call-keeps, call-answers, unasked}
 use Rattle.candidate_rounds.proofs.rounds.resolving.resolved_clause.Goals as goal
 
-pub fold-requires-clause-keeps : goal.fold-requires-clause-keeps
-fold-requires-clause-keeps c = record {
+pub fold_clause-requires-clause-keeps : goal.fold_clause-requires-clause-keeps
+fold_clause-requires-clause-keeps c = record {
   at = λ s x d r e l grown i n b y.
       let held = reached-keeps _ _ _ (λ z. z.0.now ≡ c.args.inference.now) (λ s x d r e n p. let k = n.called in let q = n.lends in let v = n.leaves in search rules) _ s l refl in
       let k = y.called in let q = y.lends in let v = y.leaves in
@@ -16,7 +16,7 @@ fold-requires-clause-keeps c = record {
 pub returns-clause-tree : goal.returns-clause-tree
 returns-clause-tree c = λ m.
     let S = state_of c.args.cx.now.trees m c.args.inference.now in
-    c.fold.ensures.answer (λ d t. value_at S t.head)
+    c.fold_clause.ensures.answer (λ d t. value_at S t.head)
     (head-function _ _ _ (λ d h. value_at S h) (λ z. z.0.now ≡ c.args.inference.now) _ refl
     (λ s x d r e n p. let k = n.called in let q = n.lends in let v = n.leaves in search rules)
     (λ s x d r e y i grown p. let k = y.called in let q = y.lends in let v = y.leaves in
