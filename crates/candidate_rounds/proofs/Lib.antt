@@ -38,3 +38,4 @@ pub mod Responding
 pub mod Lawful
 pub mod Faithful
 pub mod Values
+pub mod Resolving

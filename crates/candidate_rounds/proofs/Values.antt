@@ -55,7 +55,7 @@ module _ (r : Evaluator) (k : VariableKind) (n : ℕ) where
         ap (λ l. fits_kind l (arg_tree r.context.trees v).head) (sym (kind_same e.kind k f)) ∙ each-get (SuitsKind r.context.trees) r.inference.variables n e (kinds-now r.context.trees r.inference r.marks c) (sym g) v q,
       )
 
-is-type-kind : (k : Kind) → is_type_kind k ≡ true → k ≡ TypeKind
+pub is-type-kind : (k : Kind) → is_type_kind k ≡ true → k ≡ TypeKind
 is-type-kind TypeKind e = refl
 is-type-kind _ e = cc
 
@@ -68,7 +68,7 @@ type-head h (I.FloatVar n) f = is-type-kind (kind_of h) (float_is_type h f)
 pub type-value : (ts : List Tree) (v : InferTy) (x : GenericArg) → IsArg ts x → fits_kind (Term (variable_of v).sort) (arg_tree ts x).head ≡ true → arg_kind x ≡ TypeKind
 type-value ts v x i f = sym (kind-of ts (arg_number x) (arg_kind x) (there-arg x) i) ∙ type-head (arg_tree ts x).head v f
 
-region-head : (h : Head) → is_region h ≡ true → kind_of h ≡ RegionKind
+pub region-head : (h : Head) → is_region h ≡ true → kind_of h ≡ RegionKind
 region-head (H.Region r) e = refl
 region-head _ e = cc
 

@@ -7,9 +7,13 @@ use Rattle.candidate_ir.specs.declared.ir.kinds.GoalSource.{GoalSource}
 use Rattle.candidate_ir.specs.declared.ir.kinds.VarKind.{VarKind}
 use Rattle.candidate_ir.specs.declared.ir.stop.Stop.{Stop}
 use Rattle.candidate_ir.specs.declared.ir.stop.Stop.TheVariants.{Memory, NodesFull}
+use Rattle.candidate_ir.specs.declared.ir.heads.Head.{Head}
+use Rattle.candidate_ir.specs.declared.ir.heads.Head.TheVariants as H
+use Rattle.candidate_ir.specs.declared.ir.kinds.RegionKind.TheVariants as R
 use Rattle.candidate_eval.specs.declared.eval.variable.VariableKind.{VariableKind}
+use Rattle.candidate_eval.specs.declared.eval.variable.VariableKind.TheVariants.{Term, Region}
 use Rattle.candidate_ir.specs.Context.{parameter_kind}
-use Rattle.candidate_eval.specs.States.{variable_kind}
+use Rattle.candidate_eval.specs.States.{variable_kind, same_kind}
 use Rattle.candidate_rounds.specs.declared.rounds.inference.Entry.{Entry}
 use Rattle.candidate_rounds.specs.declared.rounds.inference.Change.{Change}
 use Rattle.candidate_rounds.specs.declared.rounds.inference.Change.TheVariants as C
@@ -61,6 +65,21 @@ with_variables s (k ∷ ks) = with_variables (with_variable s (variable_kind (pa
 abbrev pub value_of : Option Entry → Option GenericArg
 value_of None = None
 value_of (Some e) = e.value
+
+-- the variable is there, and of that kind
+abbrev pub is_of_kind : VariableKind → Option Entry → Bool
+is_of_kind k None = false
+is_of_kind k (Some e) = same_kind e.kind k
+
+-- the value that is kept of the variable of that number, if it is of that kind
+abbrev pub kept_value : Inference → VariableKind → ℕ → Option GenericArg
+kept_value s k n = if is_of_kind k (slice_get s.variables n) then value_of (slice_get s.variables n) else None
+
+-- A variable's value stands for its head.
+abbrev pub kept_at : Inference → Head → Option GenericArg
+kept_at s (H.Infer v) = kept_value s (Term v.sort) v.number
+kept_at s (H.Region (R.Var n)) = kept_value s Region n
+kept_at s _ = None
 
 abbrev pub assign : Inference → ℕ → GenericArg → Inference
 assign s n v = noted (record s { variables = with_entry s.variables n (with_value (Some v)) }) (C.Value n (value_of (slice_get s.variables n)))

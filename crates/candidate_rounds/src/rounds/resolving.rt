@@ -1,19 +1,29 @@
 //! What variables stand for.
 
-ghost use Rattle.std.specs.Prelude.{◌≡◌, true, Some, None, MatchOption};
+ghost use Rattle.std.specs.Prelude.{◌≡◌, true, Some, None, Ok, MatchOption, IfOk};
+ghost use Rattle.candidate_ir.specs.Context.{Grows};
 ghost use Rattle.candidate_ir.specs.Folds.{IsArg, arg_tree};
 ghost use Rattle.candidate_ir.specs.Kinds.{arg_kind, arg_number, variable_of};
 ghost use Rattle.candidate_ir.specs.Trees.{RegionKind, TypeKind};
-ghost use Rattle.candidate_ir.specs.Words.{IsRegion, IsTy, region_tree, ty_tree};
+ghost use Rattle.candidate_ir.specs.Words.{IsArgs, IsClause, IsConst, IsRegion, IsTy, args_forest, clause_tree, const_tree, region_tree, ty_tree};
 ghost use Rattle.candidate_eval.specs.Evaluators.{resolved_root};
 ghost use Rattle.candidate_eval.specs.Soundness.{fits_kind};
-ghost use Rattle.candidate_eval.specs.States.{resolved_tree, same_kind, value_as};
-ghost use Rattle.candidate_rounds.specs.Known.{state};
+ghost use Rattle.candidate_eval.specs.States.{resolved, resolved_tree, same_kind, value_as};
+ghost use Rattle.candidate_eval.specs.declared.eval.mode.TypingMode.{TypingMode};
+ghost use Rattle.candidate_rounds.specs.Inferences.{kept_at, kept_value};
+ghost use Rattle.candidate_rounds.specs.Known.{Each, IsKnown, SuitsKind, probes, state, state_of};
 
 use crate::rounds::Rounds;
+use crate::rounds::inference::Inference;
 use candidate_eval::eval::variable::VariableKind;
+use candidate_ir::decl::context::Cx;
+use candidate_ir::decl::fold::{fold, fold_args, fold_clause, fold_const};
 use candidate_ir::ir::heads::{Variable, VariableSort};
-use candidate_ir::ir::kinds::{GenericArg, InferTy, Region, RegionKind as Kind, Ty, TyKind};
+use candidate_ir::ir::kinds::{
+    Args, Clause, Const, ConstKind, GenericArg, InferTy, Region, RegionKind as Kind, Ty, TyKind,
+};
+use candidate_ir::ir::stop::Stop;
+use std::alloc::Global;
 
 /// The variable of a type: its sort and number.
 fn variable_of(var: InferTy) -> Variable
@@ -68,6 +78,170 @@ fn is_same_kind(a: VariableKind, b: VariableKind) -> bool
     }
 }
 
+/// The value of the variable of that number, if it is of that kind and has one.
+fn kept_value(inference: &Inference, kind: VariableKind, number: u32) -> Option<GenericArg>
+    ensures { result ≡ kept_value inference.now kind number }
+{
+    let entry = inference.entry(number)?;
+    if !is_same_kind(entry.kind, kind) {
+        return None;
+    }
+    entry.value
+}
+
+/// What stands for a type that is a variable, if that has a value.
+fn value_for_ty(cx: &Cx, inference: &Inference, ty: Ty) -> Option<GenericArg>
+    requires { IsTy cx.now.trees ty }
+    ensures { result ≡ kept_at inference.now (ty_tree cx.now.trees ty).head }
+{
+    let TyKind::Infer(var) = cx.kind(ty) else {
+        return None;
+    };
+    let variable = variable_of(var);
+    kept_value(
+        inference,
+        VariableKind::Term(variable.sort),
+        variable.number,
+    )
+}
+
+/// The same of a constant.
+fn value_for_const(cx: &Cx, inference: &Inference, constant: Const) -> Option<GenericArg>
+    requires { IsConst cx.now.trees constant }
+    ensures { result ≡ kept_at inference.now (const_tree cx.now.trees constant).head }
+{
+    let ConstKind::Infer(number) = cx.const_kind(constant) else {
+        return None;
+    };
+    kept_value(
+        inference,
+        VariableKind::Term(VariableSort::Constant),
+        number,
+    )
+}
+
+/// The same of a region.
+fn value_for_region(cx: &Cx, inference: &Inference, region: Region) -> Option<GenericArg>
+    requires { IsRegion cx.now.trees region }
+    ensures { result ≡ kept_at inference.now (region_tree cx.now.trees region).head }
+{
+    let Kind::Var(number) = cx.region_kind(region) else {
+        return None;
+    };
+    kept_value(inference, VariableKind::Region, number)
+}
+
+/// What stands for a type, constant or region that is a variable, if that has a value.
+fn value_for(cx: &Cx, inference: &Inference, arg: GenericArg) -> Option<GenericArg>
+    requires { IsArg cx.now.trees arg }
+    ensures { result ≡ kept_at inference.now (arg_tree cx.now.trees arg).head }
+{
+    match arg {
+        GenericArg::Ty(ty) => value_for_ty(cx, inference, ty),
+        GenericArg::Const(constant) => value_for_const(cx, inference, constant),
+        GenericArg::Region(region) => value_for_region(cx, inference, region),
+    }
+}
+
+/// The type, with all values put in.
+fn resolved_ty(alloc: Global, cx: &mut Cx, inference: &Inference, ty: Ty) -> Result<Ty, Stop>
+    requires ty { IsTy cx.old.trees ty }
+    requires known { IsKnown cx.old.trees inference.now }
+    requires kinds { Each (SuitsKind cx.old.trees) inference.now.variables }
+    ensures grows { Grows cx.old cx.new }
+    ensures sort { IfOk result (λ t. IsTy cx.new.trees t) }
+    ensures tree { (m : TypingMode) → IfOk result (λ t. ty_tree cx.new.trees t ≡ resolved_tree (state_of cx.old.trees m inference.now) (ty_tree cx.old.trees ty)) }
+{
+    fold(
+        alloc,
+        cx,
+        ty,
+        move |cx: &mut Cx, arg: GenericArg, _: u32| -> Result<Option<GenericArg>, Stop>
+            requires { IsArg cx.old.trees arg }
+            ensures same { cx.new ≡ cx.old }
+            ensures answer { result ≡ Ok (kept_at inference.entry.now (arg_tree cx.old.trees arg).head) }
+        { Ok(value_for(cx, inference, arg)) },
+    )
+}
+
+/// The constant, with all values put in.
+fn resolved_const(
+    alloc: Global,
+    cx: &mut Cx,
+    inference: &Inference,
+    constant: Const,
+) -> Result<Const, Stop>
+    requires constant { IsConst cx.old.trees constant }
+    requires known { IsKnown cx.old.trees inference.now }
+    requires kinds { Each (SuitsKind cx.old.trees) inference.now.variables }
+    ensures grows { Grows cx.old cx.new }
+    ensures sort { IfOk result (λ x. IsConst cx.new.trees x) }
+    ensures tree { (m : TypingMode) → IfOk result (λ x. const_tree cx.new.trees x ≡ resolved_tree (state_of cx.old.trees m inference.now) (const_tree cx.old.trees constant)) }
+{
+    fold_const(
+        alloc,
+        cx,
+        constant,
+        move |cx: &mut Cx, arg: GenericArg, _: u32| -> Result<Option<GenericArg>, Stop>
+            requires { IsArg cx.old.trees arg }
+            ensures same { cx.new ≡ cx.old }
+            ensures answer { result ≡ Ok (kept_at inference.entry.now (arg_tree cx.old.trees arg).head) }
+        { Ok(value_for(cx, inference, arg)) },
+    )
+}
+
+/// The list, with all values put in.
+fn resolved_args(
+    alloc: Global,
+    cx: &mut Cx,
+    inference: &Inference,
+    args: Args,
+) -> Result<Args, Stop>
+    requires args { IsArgs cx.old.trees args }
+    requires known { IsKnown cx.old.trees inference.now }
+    requires kinds { Each (SuitsKind cx.old.trees) inference.now.variables }
+    ensures grows { Grows cx.old cx.new }
+    ensures sort { IfOk result (λ x. IsArgs cx.new.trees x) }
+    ensures tree { (m : TypingMode) → IfOk result (λ x. args_forest cx.new.trees x ≡ resolved (state_of cx.old.trees m inference.now) (args_forest cx.old.trees args)) }
+{
+    fold_args(
+        alloc,
+        cx,
+        args,
+        move |cx: &mut Cx, arg: GenericArg, _: u32| -> Result<Option<GenericArg>, Stop>
+            requires { IsArg cx.old.trees arg }
+            ensures same { cx.new ≡ cx.old }
+            ensures answer { result ≡ Ok (kept_at inference.entry.now (arg_tree cx.old.trees arg).head) }
+        { Ok(value_for(cx, inference, arg)) },
+    )
+}
+
+/// The clause, with all values put in.
+fn resolved_clause(
+    alloc: Global,
+    cx: &mut Cx,
+    inference: &Inference,
+    clause: Clause,
+) -> Result<Clause, Stop>
+    requires clause { IsClause cx.old.trees clause }
+    requires known { IsKnown cx.old.trees inference.now }
+    requires kinds { Each (SuitsKind cx.old.trees) inference.now.variables }
+    ensures grows { Grows cx.old cx.new }
+    ensures sort { IfOk result (λ x. IsClause cx.new.trees x) }
+    ensures tree { (m : TypingMode) → IfOk result (λ x. clause_tree cx.new.trees x ≡ resolved_tree (state_of cx.old.trees m inference.now) (clause_tree cx.old.trees clause)) }
+{
+    fold_clause(
+        alloc,
+        cx,
+        clause,
+        move |cx: &mut Cx, arg: GenericArg, _: u32| -> Result<Option<GenericArg>, Stop>
+            requires { IsArg cx.old.trees arg }
+            ensures same { cx.new ≡ cx.old }
+            ensures answer { result ≡ Ok (kept_at inference.entry.now (arg_tree cx.old.trees arg).head) }
+        { Ok(value_for(cx, inference, arg)) },
+    )
+}
+
 impl Rounds {
     /// The value of the variable of that number, if it is of that kind and has one.
     fn value(&self, kind: VariableKind, number: u32) -> Option<GenericArg>
@@ -110,5 +284,63 @@ impl Rounds {
             Some(value) => region_of(value),
             None => region,
         }
+    }
+
+    /// The type, with all values put in: the value of each variable that has one stands in its place. `Stop::Memory` comes where a
+    /// growth was refused, `Stop::NodesFull` where no numbers are left or what came of a part of the tree would be higher than
+    /// 1,024. After a stop the nodes that were made stay.
+    pub fn resolve_ty_if_possible(&mut self, alloc: Global, ty: Ty) -> Result<Ty, Stop>
+        requires { IsTy self.old.context.trees ty }
+        ensures grows { Grows self.old.context self.new.context }
+        ensures probes { probes self.new ≡ probes self.old }
+        ensures state { state self.new ≡ state self.old }
+        ensures sort { IfOk result (λ x. IsTy self.new.context.trees x) }
+        ensures tree { IfOk result (λ x. ty_tree self.new.context.trees x ≡ resolved_tree (state self.old) (ty_tree self.old.context.trees ty)) }
+    {
+        resolved_ty(alloc, &mut self.cx, &self.inference, ty)
+    }
+
+    /// The constant, with all values put in; what is said of `resolve_ty_if_possible` holds here, too.
+    pub fn resolve_const_if_possible(
+        &mut self,
+        alloc: Global,
+        constant: Const,
+    ) -> Result<Const, Stop>
+        requires { IsConst self.old.context.trees constant }
+        ensures grows { Grows self.old.context self.new.context }
+        ensures probes { probes self.new ≡ probes self.old }
+        ensures state { state self.new ≡ state self.old }
+        ensures sort { IfOk result (λ x. IsConst self.new.context.trees x) }
+        ensures tree { IfOk result (λ x. const_tree self.new.context.trees x ≡ resolved_tree (state self.old) (const_tree self.old.context.trees constant)) }
+    {
+        resolved_const(alloc, &mut self.cx, &self.inference, constant)
+    }
+
+    /// The list, with all values put in; what is said of `resolve_ty_if_possible` holds here, too.
+    pub fn resolve_args_if_possible(&mut self, alloc: Global, args: Args) -> Result<Args, Stop>
+        requires { IsArgs self.old.context.trees args }
+        ensures grows { Grows self.old.context self.new.context }
+        ensures probes { probes self.new ≡ probes self.old }
+        ensures state { state self.new ≡ state self.old }
+        ensures sort { IfOk result (λ x. IsArgs self.new.context.trees x) }
+        ensures tree { IfOk result (λ x. args_forest self.new.context.trees x ≡ resolved (state self.old) (args_forest self.old.context.trees args)) }
+    {
+        resolved_args(alloc, &mut self.cx, &self.inference, args)
+    }
+
+    /// The clause, with all values put in; what is said of `resolve_ty_if_possible` holds here, too.
+    pub fn resolve_clause_if_possible(
+        &mut self,
+        alloc: Global,
+        clause: Clause,
+    ) -> Result<Clause, Stop>
+        requires { IsClause self.old.context.trees clause }
+        ensures grows { Grows self.old.context self.new.context }
+        ensures probes { probes self.new ≡ probes self.old }
+        ensures state { state self.new ≡ state self.old }
+        ensures sort { IfOk result (λ x. IsClause self.new.context.trees x) }
+        ensures tree { IfOk result (λ x. clause_tree self.new.context.trees x ≡ resolved_tree (state self.old) (clause_tree self.old.context.trees clause)) }
+    {
+        resolved_clause(alloc, &mut self.cx, &self.inference, clause)
     }
 }

@@ -1,0 +1,34 @@
+use Rattle.std.proofs.Common.{◌≡◌, reverse, IfOk, ◌∙◌, ap, subst}
+use Rattle.candidate_ir.specs.Words.{clause_tree}
+use Rattle.candidate_eval.specs.States.{resolved_tree}
+use Rattle.candidate_rounds.specs.Known.{Evaluator, state, probes}
+use Rattle.candidate_rounds.proofs.Knowing.{given-grown, probes-grow, state-stays}
+use Rattle.candidate_rounds.proofs.Holding.{kinds-now}
+use Rattle.candidate_rounds.proofs.Probing.{holds-grown}
+use Rattle.candidate_rounds.proofs.rounds.Rounds.resolve_clause_if_possible.Goals as goal
+
+pub resolved_clause-requires-clause-kinds : goal.resolved_clause-requires-clause-kinds
+resolved_clause-requires-clause-kinds c = kinds-now c.self.inside.cx.trees c.self.inside.inference (reverse c.self.inside.probes.items) c.self.invariant.consistent
+
+pub invariant_of-self : goal.invariant_of-self
+invariant_of-self c =
+    let i = c.self.inside in
+    record {
+      consistent = holds-grown i.cx.trees c.resolved_clause.new.cx.trees i.inference (reverse i.probes.items) c.resolved_clause.ensures.grows.kept c.self.invariant.consistent;
+      given = given-grown i.cx.trees c.resolved_clause.new.cx.trees i.normal.items i.opaques.items c.resolved_clause.ensures.grows.kept c.self.invariant.given;
+    }
+
+pub returns-clause-probes : goal.returns-clause-probes
+returns-clause-probes c =
+    let i = c.self.inside in
+    probes-grow i.cx.trees c.resolved_clause.new.cx.trees i.mode i.inference (reverse i.probes.items) c.resolved_clause.ensures.grows.kept c.self.invariant.consistent.known ∙ ap probes c.self.view_is
+
+pub returns-clause-state : goal.returns-clause-state
+returns-clause-state c =
+    let i = c.self.inside in
+    state-stays i.cx.trees c.resolved_clause.new.cx.trees i.mode i.inference c.resolved_clause.ensures.grows.kept c.self.invariant.consistent.known ∙ ap state c.self.view_is
+
+pub returns-clause-tree : goal.returns-clause-tree
+returns-clause-tree c =
+    subst (λ (e : Evaluator). IfOk c.resolved_clause.result (λ x. clause_tree c.resolved_clause.new.cx.trees x ≡ resolved_tree (state e) (clause_tree e.context.trees c.args.clause))) c.self.view_is
+    (c.resolved_clause.ensures.tree c.self.inside.mode)
