@@ -17,7 +17,7 @@ use Rattle.candidate_ir.proofs.Kept.{grows-refl}
 use Rattle.candidate_ir.specs.Kinds.{arg_kind, arg_number}
 use Rattle.candidate_ir.specs.Nodes.{Extends}
 use Rattle.candidate_ir.specs.Substitutions.{fits_sort, is_constant_kind}
-use Rattle.candidate_ir.specs.Trees.{Kind, ConstantKind, TypeKind, Tree, kind_of, sort_kind}
+use Rattle.candidate_ir.specs.Trees.{Kind, ConstantKind, Tree, kind_of, sort_kind}
 use Rattle.candidate_ir.proofs.Rows.{kind-of}
 use Rattle.candidate_eval.specs.declared.eval.mode.TypingMode.{TypingMode}
 use Rattle.candidate_eval.specs.declared.eval.variable.VariableKind.{VariableKind}

@@ -1,5 +1,5 @@
 -- The values that are kept are those of the state.
-use Rattle.std.proofs.Common.{◌≡◌, ℕ, Bool, true, false, List, map, slice_get, Option, Some, None, MatchOption, refl, sym, ◌∙◌, ap, subst, if◌then◌else◌}
+use Rattle.std.proofs.Common.{◌≡◌, ℕ, true, false, List, slice_get, Option, Some, None, MatchOption, refl, sym, ◌∙◌, ap, subst, if◌then◌else◌}
 use Rattle.std.specs.Option.{option_map}
 use Rattle.std.proofs.lemmas.Option.{slice_get-map}
 use Rattle.candidate_ir.specs.declared.ir.kinds.GenericArg.{GenericArg}
@@ -13,10 +13,9 @@ use Rattle.candidate_ir.specs.Trees.{Kind, TypeKind, RegionKind, Tree, kind_of, 
 use Rattle.candidate_ir.proofs.Rows.{kind-of}
 use Rattle.candidate_eval.specs.declared.eval.variable.VariableKind.TheVariants.{Term}
 use Rattle.candidate_eval.specs.declared.eval.variable.VariableKind.{VariableKind}
-use Rattle.candidate_eval.specs.States.{State, value_in, value_as, same_kind, has_kind}
+use Rattle.candidate_eval.specs.States.{value_in, value_as, same_kind, has_kind}
 use Rattle.candidate_eval.specs.Soundness.{fits_kind, is_region}
 use Rattle.candidate_rounds.specs.declared.rounds.inference.Entry.{Entry}
-use Rattle.candidate_rounds.specs.Inferences.{Inference}
 use Rattle.candidate_rounds.specs.Known.{Evaluator, state, info_of, IsValue, IsEntry, SuitsKind, IsConsistent}
 use Rattle.candidate_rounds.proofs.Knowing.{each-get, there-arg}
 use Rattle.candidate_rounds.proofs.Holding.{kinds-now}

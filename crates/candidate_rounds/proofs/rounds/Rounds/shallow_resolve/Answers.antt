@@ -1,9 +1,7 @@
-use Rattle.std.proofs.Common.{◌≡◌, true, sym, ◌∙◌, ap, subst}
+use Rattle.std.proofs.Common.{◌≡◌, true, ◌∙◌, ap, subst}
 use Rattle.candidate_ir.specs.declared.ir.heads.Variable.{Variable}
 use Rattle.candidate_ir.specs.Folds.{arg_tree}
-use Rattle.candidate_ir.specs.Kinds.{arg_kind}
 use Rattle.candidate_ir.specs.Nodes.{kind_at}
-use Rattle.candidate_ir.specs.Trees.{TypeKind}
 use Rattle.candidate_eval.specs.declared.eval.variable.VariableKind.TheVariants.{Term}
 use Rattle.candidate_eval.specs.Soundness.{fits_kind}
 use Rattle.candidate_rounds.proofs.Values.{type-value}
