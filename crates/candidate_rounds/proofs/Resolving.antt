@@ -26,11 +26,12 @@ use Rattle.candidate_eval.specs.States.{value_in, value_as, value_at, same_kind,
 use Rattle.candidate_eval.specs.Soundness.{fits_kind}
 use Rattle.candidate_rounds.specs.declared.rounds.inference.Entry.{Entry}
 use Rattle.candidate_rounds.specs.Inferences.{Inference, value_of, is_of_kind, kept_value, kept_at}
-use Rattle.candidate_rounds.specs.Known.{state_of, info_of, Each, IsValue, IsEntry, SuitsKind, IsKnown}
+use Rattle.candidate_rounds.specs.Known.{Evaluator, IsConsistent, state_of, info_of, Each, IsValue, IsEntry, SuitsKind, IsKnown}
 use Rattle.candidate_rounds.proofs.Knowing.{each-get, there-arg, state-stays, known-stays, kinds-grown}
+use Rattle.candidate_rounds.proofs.Holding.{kinds-now}
 use Rattle.candidate_rounds.proofs.Bound.{integer_is_type, float_is_type}
 use Rattle.candidate_rounds.proofs.Solving.{kind_same}
-use Rattle.candidate_rounds.proofs.Values.{is-type-kind, region-head}
+use Rattle.candidate_rounds.proofs.Values.{IsValueOf, is-type-kind, region-head}
 
 -- The tree of what is kept is the state's value.
 
@@ -98,6 +99,13 @@ module _ (ts : List Tree) (s : Inference) (i : Each (IsEntry ts) s.variables) (f
       at : (o : Option GenericArg) → kept_at s (arg_tree ts x).head ≡ o → IsOfKind ts x o
       at None q = tt
       at (Some v) q = let p = kept-kind (arg_tree ts x).head v q in (p.0, p.1 ∙ kind-of ts (arg_number x) (arg_kind x) (there-arg x) a)
+
+-- so the kept value is the evaluator's
+pub own-value : (r : Evaluator) (k : VariableKind) (n : ℕ) (o : Option GenericArg) → IsConsistent r.context.trees r.inference r.marks → o ≡ kept_value r.inference k n → IsValueOf r k n o
+own-value r k n None c e = sym (value-tree r.context.trees r.mode r.inference k n) ∙ ap (option_map (arg_tree r.context.trees)) (sym e)
+own-value r k n (Some v) c e =
+    let p = value-fits r.context.trees r.inference c.known.values (kinds-now r.context.trees r.inference r.marks c) k n v (sym e) in
+    (p.0, sym (value-tree r.context.trees r.mode r.inference k n) ∙ ap (option_map (arg_tree r.context.trees)) (sym e), p.1)
 
 -- As more numbers are given.
 

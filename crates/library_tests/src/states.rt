@@ -3,17 +3,22 @@
 ghost use Rattle.std.specs.Prelude.{◌≡◌};
 ghost use Rattle.candidate_ir.specs.Context.{Grows};
 ghost use Rattle.candidate_ir.specs.Folds.{IsArg};
-ghost use Rattle.candidate_ir.specs.Words.{IsArgs};
+ghost use Rattle.candidate_ir.specs.Words.{IsArgs, IsClause, IsConst, IsTy};
 ghost use Rattle.candidate_rounds.specs.Known.{probes};
 
 use crate::asserts::equals;
+use crate::builders::{clause, constant, region, ty, variables};
 use crate::samples::declared;
 use candidate_eval::eval::context::ProbeKind;
 use candidate_eval::eval::mode::TypingMode;
 use candidate_eval::eval::response::CandidateHeadUsages;
 use candidate_eval::eval::variable::VariableKind;
+use candidate_ir::decl::context::Cx;
 use candidate_ir::ir::heads::{Flag, VariableSort};
-use candidate_ir::ir::kinds::{Args, GenericArg, VarKind};
+use candidate_ir::ir::kinds::{
+    Args, Binder, Clause, ClauseKind, Const, ConstKind, GenericArg, InferTy, RegionKind, Ty,
+    TyKind, VarKind,
+};
 use candidate_rounds::rounds::Rounds;
 use std::alloc::Global;
 use std::process::Abort;
@@ -156,4 +161,86 @@ fn puts_off_faults(rt: HostRuntime) {
     rounds.delay_bug("an alias").expect(&rt, "a fault put off");
     rounds.ignore_candidate_head_usages(CandidateHeadUsages::new(alloc));
     equals(&rt, &rounds.cx().delayed_bugs().len(), &1, "one fault");
+}
+
+/// An evaluator over the context.
+fn over(alloc: Global, cx: Cx) -> Rounds
+    ensures { result.context ≡ cx }
+{
+    let mode = TypingMode::Coherence;
+    Rounds::new(alloc, cx, mode, Vec::new(alloc), Vec::new(alloc))
+}
+
+/// A type in which no variable has a value is its own answer.
+fn check_type(rt: &impl Abort, alloc: Global, cx: Cx, ty: Ty)
+    requires { IsTy cx.trees ty }
+{
+    let mut rounds = over(alloc, cx);
+    let resolved = rounds
+        .resolve_ty_if_possible(alloc, ty)
+        .expect(rt, "a type");
+    let same = rounds.cx().same(ty, resolved);
+    equals(rt, &same, &true, "a type without values");
+}
+
+/// So is a constant.
+fn check_constant(rt: &impl Abort, alloc: Global, cx: Cx, constant: Const)
+    requires { IsConst cx.trees constant }
+{
+    let mut rounds = over(alloc, cx);
+    let resolved = rounds
+        .resolve_const_if_possible(alloc, constant)
+        .expect(rt, "a constant");
+    let same = rounds.cx().same_const(constant, resolved);
+    equals(rt, &same, &true, "a constant without values");
+}
+
+/// So is a clause.
+fn check_clause(rt: &impl Abort, alloc: Global, cx: Cx, clause: Clause)
+    requires { IsClause cx.trees clause }
+{
+    let mut rounds = over(alloc, cx);
+    let resolved = rounds
+        .resolve_clause_if_possible(alloc, clause)
+        .expect(rt, "a clause");
+    let same = rounds.cx().same_clause(clause, resolved);
+    equals(rt, &same, &true, "a clause without values");
+}
+
+/// The clause, under a binder without variables, that a variable outlives another.
+fn outlives(rt: &impl Abort, cx: &mut Cx) -> Clause
+    ensures { IsClause cx.new.trees result }
+{
+    let vars = variables(rt, cx, &[]);
+    let longer = region(rt, cx, RegionKind::Var(1));
+    let variable = ty(rt, cx, TyKind::Infer(InferTy::TyVar(0)));
+    let value = ClauseKind::TypeOutlives(variable, longer);
+    clause(rt, cx, Binder { vars, value })
+}
+
+#[test]
+fn keeps_what_has_no_values(rt: HostRuntime) {
+    let alloc = rt.alloc();
+    let mut cx = declared(&rt, alloc);
+    let variable = ty(&rt, &mut cx, TyKind::Infer(InferTy::TyVar(0)));
+    let slice = ty(&rt, &mut cx, TyKind::Slice(variable));
+    check_type(&rt, alloc, cx, slice);
+    let mut cx = declared(&rt, alloc);
+    let length = constant(&rt, &mut cx, ConstKind::Infer(0));
+    check_constant(&rt, alloc, cx, length);
+    let mut cx = declared(&rt, alloc);
+    let bound = outlives(&rt, &mut cx);
+    check_clause(&rt, alloc, cx, bound);
+}
+
+#[test]
+fn keeps_variables_without_values(rt: HostRuntime) {
+    let alloc = rt.alloc();
+    let mut rounds = started(&rt, alloc, TypingMode::Coherence);
+    let kinds = [VarKind::Ty, VarKind::Const, VarKind::Region];
+    let made = fresh(&rt, alloc, &mut rounds, &kinds);
+    let resolved = rounds.resolve_args_if_possible(alloc, made);
+    let resolved = resolved.expect(&rt, "a list");
+    let same = rounds.cx().same_args(made, resolved);
+    equals(&rt, &same, &true, "a list without values");
 }

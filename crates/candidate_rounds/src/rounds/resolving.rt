@@ -247,11 +247,7 @@ impl Rounds {
     fn value(&self, kind: VariableKind, number: u32) -> Option<GenericArg>
         ensures { MatchOption result (value_as (state self.now) kind number ≡ None) (λ v. IsArg self.now.context.trees v × (value_as (state self.now) kind number ≡ Some (arg_tree self.now.context.trees v)) × (fits_kind kind (arg_tree self.now.context.trees v).head ≡ true)) }
     {
-        let entry = self.inference.entry(number)?;
-        if !is_same_kind(entry.kind, kind) {
-            return None;
-        }
-        entry.value
+        kept_value(&self.inference, kind, number)
     }
 
     /// The type with the value in the place of a variable at its root, if that has one; another type is its own answer.
