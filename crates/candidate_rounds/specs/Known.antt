@@ -123,3 +123,7 @@ probes r = states_at r.context.trees r.mode r.inference r.marks
 -- A variable that comes with a goal is of the root universe.
 abbrev pub with_root : State → VariableKind → State
 with_root S k = record S { variables = S.variables ++ record { kind = k; universe = 0; value = None; is_root = true } ∷ [] }
+
+-- What the evaluator was given besides the context stays as it was.
+abbrev pub KeepsGiven : Evaluator → Evaluator → Type 0
+KeepsGiven old new = (new.normal ≡ old.normal) × (new.opaques ≡ old.opaques)

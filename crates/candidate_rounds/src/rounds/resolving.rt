@@ -11,7 +11,7 @@ ghost use Rattle.candidate_eval.specs.Soundness.{fits_kind};
 ghost use Rattle.candidate_eval.specs.States.{resolved, resolved_tree, same_kind, value_as};
 ghost use Rattle.candidate_eval.specs.declared.eval.mode.TypingMode.{TypingMode};
 ghost use Rattle.candidate_rounds.specs.Inferences.{kept_at, kept_value};
-ghost use Rattle.candidate_rounds.specs.Known.{Each, IsKnown, SuitsKind, probes, state, state_of};
+ghost use Rattle.candidate_rounds.specs.Known.{Each, IsKnown, KeepsGiven, SuitsKind, probes, state, state_of};
 
 use crate::rounds::Rounds;
 use crate::rounds::inference::Inference;
@@ -288,6 +288,7 @@ impl Rounds {
     pub fn resolve_ty_if_possible(&mut self, alloc: Global, ty: Ty) -> Result<Ty, Stop>
         requires { IsTy self.old.context.trees ty }
         ensures grows { Grows self.old.context self.new.context }
+        ensures given { KeepsGiven self.old self.new }
         ensures probes { probes self.new ≡ probes self.old }
         ensures state { state self.new ≡ state self.old }
         ensures sort { IfOk result (λ x. IsTy self.new.context.trees x) }
@@ -304,6 +305,7 @@ impl Rounds {
     ) -> Result<Const, Stop>
         requires { IsConst self.old.context.trees constant }
         ensures grows { Grows self.old.context self.new.context }
+        ensures given { KeepsGiven self.old self.new }
         ensures probes { probes self.new ≡ probes self.old }
         ensures state { state self.new ≡ state self.old }
         ensures sort { IfOk result (λ x. IsConst self.new.context.trees x) }
@@ -316,6 +318,7 @@ impl Rounds {
     pub fn resolve_args_if_possible(&mut self, alloc: Global, args: Args) -> Result<Args, Stop>
         requires { IsArgs self.old.context.trees args }
         ensures grows { Grows self.old.context self.new.context }
+        ensures given { KeepsGiven self.old self.new }
         ensures probes { probes self.new ≡ probes self.old }
         ensures state { state self.new ≡ state self.old }
         ensures sort { IfOk result (λ x. IsArgs self.new.context.trees x) }
@@ -332,6 +335,7 @@ impl Rounds {
     ) -> Result<Clause, Stop>
         requires { IsClause self.old.context.trees clause }
         ensures grows { Grows self.old.context self.new.context }
+        ensures given { KeepsGiven self.old self.new }
         ensures probes { probes self.new ≡ probes self.old }
         ensures state { state self.new ≡ state self.old }
         ensures sort { IfOk result (λ x. IsClause self.new.context.trees x) }

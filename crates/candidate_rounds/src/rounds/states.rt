@@ -12,7 +12,7 @@ ghost use Rattle.candidate_eval.specs.declared.eval.context.ProbeKind.{ProbeKind
 ghost use Rattle.candidate_rounds.specs.Inferences.{with_variable};
 ghost use Rattle.candidate_rounds.specs.RoundsJudge.{hidden_behind};
 ghost use Rattle.candidate_rounds.specs.Leaves.{all_leaves, last_number};
-ghost use Rattle.candidate_rounds.specs.Known.{state, state_of, probes, with_root, IsGiven};
+ghost use Rattle.candidate_rounds.specs.Known.{state, state_of, probes, with_root, IsGiven, KeepsGiven};
 
 use crate::rounds::Rounds;
 use crate::rounds::fresh::{Leaves, leaf_args, variable};
@@ -81,9 +81,11 @@ impl Rounds {
     pub fn add_goal(&mut self, source: GoalSource, goal: Goal<Clause>) -> Result<(), Stop>
         requires { IsGoal self.old.context.trees goal }
         ensures context { self.new.context ≡ self.old.context }
+        ensures given { KeepsGiven self.old self.new }
         ensures probes { probes self.new ≡ probes self.old }
         ensures ok { OnOk result (state self.new ≡ added (state self.old) (pending_of self.old.context.trees source goal)) }
         ensures stopped { OnErr result (self.new ≡ self.old) }
+        ensures cause { IfErr result (λ s. s ≡ Stop.Memory) }
     {
         self.inference.add(source, goal)
     }
@@ -92,9 +94,11 @@ impl Rounds {
     pub fn add_goals(&mut self, source: GoalSource, goals: &[Goal<Clause>]) -> Result<(), Stop>
         requires { All (IsGoal self.old.context.trees) goals.now }
         ensures context { self.new.context ≡ self.old.context }
+        ensures given { KeepsGiven self.old self.new }
         ensures probes { probes self.new ≡ probes self.old }
         ensures ok { OnOk result (state self.new ≡ with_goals_of self.old.context.trees (state self.old) source goals.now) }
         ensures stopped { OnErr result (self.new ≡ self.old) }
+        ensures cause { IfErr result (λ s. s ≡ Stop.Memory) }
     {
         self.inference.add_all(source, goals)
     }
@@ -103,6 +107,7 @@ impl Rounds {
     /// `Stop::NodesFull` where no number is left.
     fn new_variable(&mut self, kind: VariableKind, is_root: bool) -> Result<GenericArg, Stop>
         ensures grows { Grows self.old.context self.new.context }
+        ensures given { KeepsGiven self.old self.new }
         ensures mode { self.new.mode ≡ self.old.mode }
         ensures probes { probes self.new ≡ probes self.old }
         ensures before { state_of self.new.context.trees self.old.mode self.old.inference ≡ state self.old }
@@ -121,6 +126,7 @@ impl Rounds {
     /// where no number is left.
     pub fn new_root_var(&mut self, kind: VariableKind) -> Result<GenericArg, Stop>
         ensures grows { Grows self.old.context self.new.context }
+        ensures given { KeepsGiven self.old self.new }
         ensures probes { probes self.new ≡ probes self.old }
         ensures sort { IfOk result (λ a. IsArg self.new.context.trees a) }
         ensures tree { IfOk result (λ a. arg_tree self.new.context.trees a ≡ variable kind (length (state self.old).variables)) }
@@ -139,6 +145,7 @@ impl Rounds {
     ) -> Result<Args, Stop>
         requires { last_number leaves (length kinds.now) < 2 ^ 32 }
         ensures grows { Grows self.old.context self.new.context }
+        ensures given { KeepsGiven self.old self.new }
         ensures inference { self.new.inference ≡ self.old.inference }
         ensures probes { probes self.new ≡ probes self.old }
         ensures state { state self.new ≡ state self.old }
@@ -151,6 +158,7 @@ impl Rounds {
     /// Fresh variables, in the place of parameters of these kinds; none, where it stops.
     fn add_variables(&mut self, kinds: &[VarKind]) -> Result<(), Stop>
         ensures context { self.new.context ≡ self.old.context }
+        ensures given { KeepsGiven self.old self.new }
         ensures probes { probes self.new ≡ probes self.old }
         ensures made { OnOk result (state self.new ≡ with_fresh_variables (state self.old) (kinds_listed kinds.now)) }
         ensures stopped { OnErr result (self.new ≡ self.old) }
@@ -161,6 +169,7 @@ impl Rounds {
     /// There is a newer universe.
     fn enter(&mut self) -> Result<(), Stop>
         ensures context { self.new.context ≡ self.old.context }
+        ensures given { KeepsGiven self.old self.new }
         ensures probes { probes self.new ≡ probes self.old }
         ensures made { OnOk result (state self.new ≡ with_universe (state self.old)) }
         ensures stopped { OnErr result (self.new ≡ self.old) }
@@ -172,6 +181,7 @@ impl Rounds {
     /// refused, `Stop::NodesFull` where no numbers are left.
     pub fn fresh_args_for_item(&mut self, alloc: Global, kinds: &[VarKind]) -> Result<Args, Stop>
         ensures grows { Grows self.old.context self.new.context }
+        ensures given { KeepsGiven self.old self.new }
         ensures probes { probes self.new ≡ probes self.old }
         ensures sort { IfOk result (λ a. IsArgs self.new.context.trees a) }
         ensures trees { IfOk result (λ a. args_forest self.new.context.trees a ≡ fresh_variables (state self.old) (kinds_listed kinds.now)) }
@@ -188,6 +198,7 @@ impl Rounds {
     /// `Stop::Memory` comes where a growth was refused, `Stop::NodesFull` where no numbers are left.
     pub fn placeholder_args(&mut self, alloc: Global, kinds: &[VarKind]) -> Result<Args, Stop>
         ensures grows { Grows self.old.context self.new.context }
+        ensures given { KeepsGiven self.old self.new }
         ensures probes { probes self.new ≡ probes self.old }
         ensures sort { IfOk result (λ a. IsArgs self.new.context.trees a) }
         ensures trees { IfOk result (λ a. args_forest self.new.context.trees a ≡ rigid (state self.old) (kinds_listed kinds.now)) }
@@ -208,8 +219,10 @@ impl Rounds {
     /// Begins a probe. The only stop is `Stop::Memory`.
     pub fn begin_probe(&mut self, kind: ProbeKind) -> Result<(), Stop>
         ensures context { self.new.context ≡ self.old.context }
+        ensures given { KeepsGiven self.old self.new }
         ensures ok { OnOk result ((state self.new ≡ begun kind (state self.old)) × (probes self.new ≡ state self.old ∷ probes self.old)) }
         ensures stopped { OnErr result (self.new ≡ self.old) }
+        ensures cause { IfErr result (λ s. s ≡ Stop.Memory) }
     {
         match kind {
             ProbeKind::Kept => Ok(self.probes.push(self.inference.changes())?),
@@ -220,8 +233,10 @@ impl Rounds {
     /// Begins a probe in which nothing is pending.
     fn begin_aside(&mut self) -> Result<(), Stop>
         ensures context { self.new.context ≡ self.old.context }
+        ensures given { KeepsGiven self.old self.new }
         ensures ok { OnOk result ((state self.new ≡ begun ProbeKind.SetAside (state self.old)) × (probes self.new ≡ state self.old ∷ probes self.old)) }
         ensures stopped { OnErr result (self.new ≡ self.old) }
+        ensures cause { IfErr result (λ s. s ≡ Stop.Memory) }
     {
         self.probes.push(self.inference.changes())?;
         match self.inference.set_aside() {
@@ -237,6 +252,7 @@ impl Rounds {
     pub fn end_probe(&mut self)
         requires { probes self.old ≢ [] }
         ensures context { self.new.context ≡ self.old.context }
+        ensures given { KeepsGiven self.old self.new }
         ensures closed { (S : State) (others : List State) → probes self.old ≡ S ∷ others → state self.new ≡ S }
         ensures left { (S : State) (others : List State) → probes self.old ≡ S ∷ others → probes self.new ≡ others }
     {
@@ -248,9 +264,11 @@ impl Rounds {
     /// Puts off a fault: its text stands last among those of the context. The only stop is `Stop::Memory`; nothing is changed then.
     pub fn delay_bug(&mut self, text: &str) -> Result<(), Stop>
         ensures state { state self.new ≡ state self.old }
+        ensures given { KeepsGiven self.old self.new }
         ensures probes { probes self.new ≡ probes self.old }
         ensures added { OnOk result (self.new.context ≡ record self.old.context { delayed_bugs = self.old.context.delayed_bugs ++ text.now ∷ [] }) }
         ensures unchanged { OnErr result (self.new.context ≡ self.old.context) }
+        ensures cause { IfErr result (λ s. s ≡ Stop.Memory) }
     {
         self.cx.delay_bug(text)
     }
