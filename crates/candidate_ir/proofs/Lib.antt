@@ -38,6 +38,7 @@ pub mod Ranks
 pub mod Listing
 pub mod Saying
 pub mod Walking
+pub mod Places
 pub mod Choosing
 pub mod Numbering
 pub mod Instances
@@ -57,3 +58,4 @@ pub mod FoldStops
 pub mod Substituting
 pub mod SubstLaws
 pub mod Arguments
+pub mod Opening

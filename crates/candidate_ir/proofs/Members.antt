@@ -4,16 +4,10 @@ use Rattle.candidate_ir.specs.declared.ir.kinds.GenericArg.{GenericArg}
 use Rattle.candidate_ir.specs.declared.ir.kinds.GenericArg.TheVariants as A
 use Rattle.candidate_ir.specs.Kinds.{arg_number, arg_kind}
 use Rattle.candidate_ir.specs.Nodes.{tree_at, kind_at}
-use Rattle.candidate_ir.specs.Trees.{Forest, none, tree, Tree, count, is_list_kind}
+use Rattle.candidate_ir.specs.Trees.{Forest, none, tree, Tree, count, is_list_kind, skip}
 use Rattle.candidate_ir.specs.Words.{ListFits, list_forest}
 use Rattle.candidate_ir.proofs.Lists.{there}
 use Rattle.candidate_ir.proofs.Rows.{row-single}
-
--- the trees from number i on
-abbrev pub skip : ℕ → Forest → Forest
-skip zero f = f
-skip (suc i) none = none
-skip (suc i) (tree h below rest) = skip i rest
 
 pub arg-there : (x : GenericArg) → there (arg_kind x) ≡ true
 arg-there (A.Ty _) = refl

@@ -14,7 +14,7 @@ use Rattle.candidate_ir.specs.Substitutions.{is_constant_kind}
 use Rattle.candidate_ir.specs.Folding.{argument, lacks_argument}
 use Rattle.std.proofs.lemmas.Bool.{lt-ltb}
 use Rattle.candidate_ir.specs.Misplaced.{is_misplaced, parameter_misplaced}
-use Rattle.std.specs.Prelude.{◌≤◌, length, get_or, ◌==◌, if◌then◌else◌, option_map}
+use Rattle.std.specs.Prelude.{◌≤◌, length, get_or, ◌==◌, if◌then◌else◌, option_map, IfSome}
 use Rattle.std.specs.List.{list_any}
 use Rattle.std.proofs.lemmas.Option.{slice_get-map, slice_get_past}
 use Rattle.candidate_ir.specs.declared.ir.kinds.Clause.{Clause}
@@ -28,15 +28,20 @@ use Rattle.candidate_ir.specs.declared.decl.contents.Sizedness.TheVariants as Z
 use Rattle.candidate_ir.specs.declared.decl.definition.DefinitionKind.{DefinitionKind}
 use Rattle.candidate_ir.specs.declared.decl.definition.DefinitionKind.TheVariants as D
 use Rattle.candidate_ir.specs.declared.decl.held.Held.{Held}
+use Rattle.candidate_ir.specs.declared.decl.held.HeldSort.TheVariants as HS
+use Rattle.candidate_ir.specs.declared.decl.definition.FnFlags.{FnFlags}
+use Rattle.candidate_ir.specs.declared.ir.kinds.Binder.{Binder}
+use Rattle.candidate_ir.specs.declared.ir.kinds.FnSig.{FnSig}
+use Rattle.candidate_ir.specs.Signatures.{SignatureHas}
 use Rattle.candidate_ir.specs.declared.decl.held.Owner.{Owner}
 use Rattle.candidate_ir.specs.declared.decl.held.Owner.TheVariants as O
 use Rattle.candidate_ir.specs.declared.decl.misplaced.Misplaced.{Misplaced}
 use Rattle.candidate_ir.specs.Declaration.{Declaration}
 use Rattle.candidate_ir.specs.Declaring.{no_place, place_of, adt_place, trait_place, adt_at, trait_at}
 use Rattle.candidate_ir.specs.Contents.{AdtContents, TraitContents}
-use Rattle.candidate_ir.specs.Lookups.{maybe, constraint, hidden_type, kind_of_declared, definition}
+use Rattle.candidate_ir.specs.Lookups.{maybe, constraint, fn_sig, hidden_type, kind_of_declared, definition}
 use Rattle.candidate_ir.specs.Context.{Context, world, definition_of, sort_of}
-use Rattle.candidate_ir.specs.Worlds.{DefinitionSort, AdtSort, OpaqueSort, TraitSort, parameters, parameters_of, joined, sort_number}
+use Rattle.candidate_ir.specs.Worlds.{DefinitionSort, AdtSort, FunctionSort, OpaqueSort, TraitSort, parameters, parameters_of, joined, sort_number}
 use Rattle.candidate_ir.specs.Held.{held_type, held_types, option_held, adt_held, held_clause, held_clauses, trait_held, if_there, definition_held, definitions_held, impls_held}
 use Rattle.candidate_ir.specs.Misplaced.{held_misplaces, tree_misplaces, kinds_of_owner, kinds_of_declared, with_self, has_self}
 use Rattle.candidate_ir.specs.Faults.{all_that_is_held}
@@ -305,6 +310,52 @@ hidden_has_arguments c t n args p x e = of (slice_get c.declarations n) refl
     of : (o : Option Declaration) → slice_get c.declarations n ≡ o → Goal
     of None q = let z : Some x ≡ None = e ∙ ap (λ (y : Option Declaration). hidden_type (kind_of_declared y)) q in absurd cc
     of (Some d) q = kinds d q d.kind refl (e ∙ ap (λ (y : Option Declaration). hidden_type (kind_of_declared y)) q)
+
+first-held : (f : Held → Bool) (x y z : Held) → list_any f (x ∷ y ∷ z ∷ []) ≡ false → f x ≡ false
+first-held f x y z e = or-left (f x) (list_any f (y ∷ z ∷ [])) e
+
+second-held : (f : Held → Bool) (x y z : Held) → list_any f (x ∷ y ∷ z ∷ []) ≡ false → f y ≡ false
+second-held f x y z e = or-left (f y) (list_any f (z ∷ [])) (or-right (f x) (list_any f (y ∷ z ∷ [])) e)
+
+third-held : (f : Held → Bool) (x y z : Held) → list_any f (x ∷ y ∷ z ∷ []) ≡ false → f z ≡ false
+third-held f x y z e = or-left (f z) false (or-right (f y) (list_any f (z ∷ [])) (or-right (f x) (list_any f (y ∷ z ∷ [])) e))
+
+pub sig_has_arguments : (c : Context) → IsWellFormedTable c → (n : ℕ) (args : Forest) → parameters (world c) FunctionSort n ≡ Some (kinds_of args)
+    → (o : Option (Binder FnSig)) → o ≡ fn_sig (definition c n) → IfSome o (SignatureHas c.trees args)
+sig_has_arguments c t n args p None e = tt
+sig_has_arguments c t n args p (Some s) e = of (slice_get c.declarations n) refl
+  where
+    Goal : Type 0
+    Goal = SignatureHas c.trees args s
+
+    found : (d : Declaration) → slice_get c.declarations n ≡ Some d → (flags : FnFlags) (g : Binder FnSig) → d.kind ≡ D.Function flags g → SignatureHas c.trees args g
+    found d q flags g i =
+        let o = O.Definition n in
+        let kinds = sort-kinds c FunctionSort n args d p q (ap (λ (y : DefinitionKind). sort_number (sort_of y) == 7) i) in
+        let v : Held = record { owner = o; sort = HS.Vars; number = g.vars.0; under_binder = false } in
+        let x : Held = record { owner = o; sort = HS.Args; number = g.value.inputs.0; under_binder = true } in
+        let y : Held = record { owner = o; sort = HS.Ty; number = g.value.output.0; under_binder = true } in
+        record {
+          vars = held-has c t n d q (D.Function flags g) i refl args kinds v refl (λ f l. first-held f v x y l);
+          inputs = held-has c t n d q (D.Function flags g) i refl args kinds x refl (λ f l. second-held f v x y l);
+          output = held-has c t n d q (D.Function flags g) i refl args kinds y refl (λ f l. third-held f v x y l);
+        }
+
+    kinds : (d : Declaration) → slice_get c.declarations n ≡ Some d → (y : DefinitionKind) → d.kind ≡ y → Some s ≡ fn_sig (Some y) → Goal
+    kinds d q (D.Function flags g) i same =
+        let it : s ≡ g = cc in
+        subst (SignatureHas c.trees args) (sym it) (found d q flags g i)
+    kinds d q (D.Adt _ _ _) i same = absurd cc
+    kinds d q (D.Trait _ _) i same = absurd cc
+    kinds d q D.Foreign i same = absurd cc
+    kinds d q (D.Assoc _ _ _ _) i same = absurd cc
+    kinds d q (D.Alias _) i same = absurd cc
+    kinds d q (D.Opaque _ _) i same = absurd cc
+    kinds d q (D.Closure _) i same = absurd cc
+
+    of : (o : Option Declaration) → slice_get c.declarations n ≡ o → Goal
+    of None q = let z : Some s ≡ None = e ∙ ap (λ (y : Option Declaration). fn_sig (kind_of_declared y)) q in absurd cc
+    of (Some d) q = kinds d q d.kind refl (e ∙ ap (λ (y : Option Declaration). fn_sig (kind_of_declared y)) q)
 
 -- a type of a list that fits is a type
 pub listed_type : (ts : List Tree) (xs : List Ty) (k : ℕ) (x : Ty) → TypesFit ts xs → Some x ≡ slice_get xs k → IsTy ts x

@@ -31,3 +31,6 @@ pub mod Unify
 pub mod TypeFlags
 pub mod Parameters
 pub mod Folds
+pub mod Places
+pub mod Opening
+pub mod Signatures

@@ -1,5 +1,5 @@
 -- Finite trees: a head, and children in order.
-use Rattle.std.specs.Prelude.{Bool, true, false, ◌||◌, ℕ, ◌+◌, max, Option, Some, None}
+use Rattle.std.specs.Prelude.{Bool, true, false, ◌||◌, ◌==◌, ℕ, zero, suc, ◌+◌, max, Option, Some, None}
 use Rattle.candidate_ir.specs.declared.ir.kinds.RegionKind.TheVariants as R
 use Rattle.candidate_ir.specs.declared.ir.heads.Head.{Head}
 use Rattle.candidate_ir.specs.declared.ir.heads.Head.TheVariants as H
@@ -78,6 +78,12 @@ abbrev pub count : Forest → ℕ
 count none = 0
 count (tree h below rest) = 1 + count rest
 
+-- the trees from number n on
+abbrev pub skip : ℕ → Forest → Forest
+skip zero ts = ts
+skip (suc n) none = none
+skip (suc n) (tree h below rest) = skip n rest
+
 -- What a node is among the children of another: a list is its members, all else is one tree.
 abbrev pub is_list_kind : Kind → Bool
 is_list_kind ArgumentsKind = true
@@ -155,6 +161,14 @@ abbrev pub variable_number : Head → Option ℕ
 variable_number (H.Infer v) = Some v.number
 variable_number (H.Region (R.Var n)) = Some n
 variable_number _ = None
+
+abbrev pub is_same_number : ℕ → Option ℕ → Bool
+is_same_number n None = false
+is_same_number n (Some m) = m == n
+
+-- it is the variable of that number
+abbrev pub is_number : ℕ → Head → Bool
+is_number n h = is_same_number n (variable_number h)
 
 -- how many binders stand between a head and its children
 abbrev pub binders_of : Head → ℕ

@@ -14,6 +14,7 @@ pub mod impls;
 pub mod lookup;
 pub mod make;
 pub mod misplaced;
+pub mod open;
 pub mod owned;
 pub mod parameters;
 pub mod plain;

@@ -1,15 +1,15 @@
 //! The context: declarations, and the table in which types are made.
 
-ghost use Rattle.std.specs.Prelude.{◌≡◌, ◌++◌, ◌∷◌, [], string_bytes, ◌+◌, ◌<◌, ◌≤◌, ◌↔◌, IsTrue, false, true, length, take, max, map, IfOk, IfErr, MatchOption, Some, None};
+ghost use Rattle.std.specs.Prelude.{◌≡◌, ◌++◌, ◌∷◌, [], string_bytes, ◌+◌, ◌<◌, ◌≤◌, ◌↔◌, IsTrue, false, true, length, take, max, map, IfOk, IfErr, MatchOption, Some, None, suc};
 ghost use Rattle.candidate_ir.specs.Context.{world, Grows};
 ghost use Rattle.candidate_ir.specs.Making.{Makes, a_type, a_constant, a_region, a_list, a_binder, some_bounds, a_signature, a_clause, an_environment};
-ghost use Rattle.candidate_ir.specs.Trees.{height, heights, tree_holds, holds, is_param, variable_number};
+ghost use Rattle.candidate_ir.specs.Trees.{height, heights, tree_holds, holds, is_number, is_param, none, skip, tree, variable_number};
 ghost use Rattle.candidate_ir.specs.Flags.{mark};
 ghost use Rattle.candidate_ir.specs.Folds.{is_asked, IsArg, arg_tree};
 ghost use Rattle.candidate_ir.specs.Kinds.{arg_number, numbers, pred_children};
 ghost use Rattle.candidate_ir.specs.Nodes.{tree_at, AreLeaves};
 ghost use Rattle.candidate_ir.specs.Table.{Below, IsNodeOf};
-ghost use Rattle.candidate_ir.specs.Substitutions.{alone};
+ghost use Rattle.candidate_ir.specs.Substitutions.{alone, is_placeholder_above};
 ghost use Rattle.candidate_ir.specs.WellFormed.{IsWellFormedTable};
 ghost use Rattle.candidate_ir.specs.Unify.{may_unify, trees_may_unify, NoCommonInstance};
 ghost use Rattle.candidate_ir.specs.References.{ArgumentsFit, IsWellFormed, Takes, AllTake};
@@ -120,8 +120,9 @@ impl Cx {
         self.nodes.node(number)
     }
 
-    /// The type, constant or region of a number, if it is of one.
-    pub(crate) fn argument(&self, number: u32) -> Option<GenericArg>
+    /// The type, constant or region of a number, if it is of one: bounds of `dyn` types, signatures, clauses, binders with their
+    /// variables and lists have numbers, too.
+    pub fn argument(&self, number: u32) -> Option<GenericArg>
         requires { number < length self.now.trees }
         ensures { MatchOption result (is_asked (tree_at self.now.trees number).head ≡ false) (λ a. (arg_number a ≡ number) × IsArg self.now.trees a × (is_asked (tree_at self.now.trees number).head ≡ true)) }
     {
@@ -129,11 +130,20 @@ impl Cx {
     }
 
     /// The head of a number's tree.
-    pub(crate) fn head(&self, number: u32) -> Head
+    pub fn head(&self, number: u32) -> Head
         requires { number < length self.now.trees }
         ensures { result ≡ (tree_at self.now.trees number).head }
     {
         self.nodes.head(number)
+    }
+
+    /// The number of the tree of that place below a number, from 0 on, if there are so many. The members of a list stand in the
+    /// list's place.
+    pub fn child(&self, number: u32, place: usize) -> Option<u32>
+        requires { number < length self.now.trees }
+        ensures { MatchOption result (skip place (tree_at self.now.trees number).children ≡ none) (λ c. (c < number) × (skip place (tree_at self.now.trees number).children ≡ tree (tree_at self.now.trees c).head (tree_at self.now.trees c).children (skip (suc place) (tree_at self.now.trees number).children))) }
+    {
+        self.nodes.child(number, place)
     }
 
     /// The number of the variable to be solved that the argument is, if it is one. Types, constants and regions have their
@@ -634,6 +644,30 @@ impl Cx {
         ensures { result ≡ tree_escapes 0 (ty_tree self.now.trees ty) }
     {
         self.nodes.escapes(ty)
+    }
+
+    /// Whether a bound variable stands in the argument that no binder in it binds.
+    pub fn arg_has_escaping_bound_vars(&self, arg: GenericArg) -> bool
+        requires { IsArg self.now.trees arg }
+        ensures { result ≡ tree_escapes 0 (arg_tree self.now.trees arg) }
+    {
+        self.nodes.arg_escapes(arg)
+    }
+
+    /// Whether the variable of that number, which may be of any kind, stands anywhere in the argument.
+    pub fn mentions(&self, arg: GenericArg, variable: u32) -> bool
+        requires { IsArg self.now.trees arg }
+        ensures { result ≡ tree_holds (is_number variable) (arg_tree self.now.trees arg) }
+    {
+        self.nodes.mentions(arg, variable)
+    }
+
+    /// Whether a type's or a constant's placeholder of a universe above that one stands anywhere in the argument.
+    pub fn has_placeholder_above(&self, arg: GenericArg, universe: u32) -> bool
+        requires { IsArg self.now.trees arg }
+        ensures { result ≡ tree_holds (is_placeholder_above universe) (arg_tree self.now.trees arg) }
+    {
+        self.nodes.has_placeholder_above(arg, universe)
     }
 
     /// Whether a bound variable stands in the list that no binder in it binds.

@@ -133,7 +133,7 @@ fn instantiated<M: Make>(
 }
 
 /// Adds the kinds of the variables of a binder.
-fn add_kinds(cx: &Cx, kinds: &mut Vec<VarKind>, vars: Vars) -> Result<(), AllocError>
+pub(crate) fn add_kinds(cx: &Cx, kinds: &mut Vec<VarKind>, vars: Vars) -> Result<(), AllocError>
     requires { IsVars cx.now.trees vars }
     ensures { IfOk result (λ _. rows (map var_kind_tree kinds.new.items) ≡ join (rows (map var_kind_tree kinds.old.items)) (vars_tree cx.now.trees vars).children) }
 {

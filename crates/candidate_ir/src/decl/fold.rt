@@ -3,8 +3,8 @@
 ghost use Rattle.std.specs.Prelude.{◌≡◌, ◌+◌, ◌<◌, ◌≤◌, ◌^◌, true, false, length, map, IfOk, IfErr};
 ghost use Rattle.candidate_ir.specs.Context.{Grows, world};
 ghost use Rattle.candidate_ir.specs.Folding.{Answers, fold as folded, fold_tree};
-ghost use Rattle.candidate_ir.specs.Folds.{IsArg, IsOfKind, MayFold, KeepsKinds, KeepsRest, Says, Said, IsFunction, Outcome, Renumbers, Relists};
-ghost use Rattle.candidate_ir.specs.Kinds.{arg_number, numbers, sorts};
+ghost use Rattle.candidate_ir.specs.Folds.{IsArg, arg_tree, IsOfKind, MayFold, KeepsKinds, KeepsRest, Says, Said, IsFunction, Outcome, Renumbers, Relists};
+ghost use Rattle.candidate_ir.specs.Kinds.{arg_kind, arg_number, numbers, sorts};
 ghost use Rattle.candidate_ir.specs.Names.{principals};
 ghost use Rattle.candidate_ir.specs.Nodes.{tree_at, kind_at, node_tree, head_of, children_of, pred_child, Fits, is_rebuilt, is_bound_kind, have_bound};
 ghost use Rattle.candidate_ir.specs.References.{Takes};
@@ -275,6 +275,37 @@ where
     ensures answer { (a : Answers) → IsFunction M.context M.rest F.FnMut a (ask, make.old) → IfOk result (λ x. region_tree (M.context make.new).trees x ≡ fold_tree a 0 (region_tree (M.context make.old).trees region)) }
 {
     Ok(Region(fold_number(alloc, make, &mut ask, region.0, 0)?))
+}
+
+/// The argument, with what the closure answers put in; what is said of `fold` holds here, too.
+pub fn fold_arg<M, F>(
+    alloc: Global,
+    make: &mut M,
+    arg: GenericArg,
+    ask: F,
+) -> Result<GenericArg, Stop>
+where
+    M: Make,
+    F: FnMut(&mut M, GenericArg, u32) -> Result<Option<GenericArg>, Stop>,
+    requires arg { IsArg (M.context make.old).trees arg }
+    requires callable { MayFold M.context M.rest F.FnMut (ask, make.old) }
+    requires keeps { KeepsKinds M.context M.rest F.FnMut (ask, make.old) }
+    ensures sort { IfOk result (λ a. IsArg (M.context make.new).trees a × (arg_kind a ≡ arg_kind arg)) }
+    ensures outcome { (last : F) × Outcome M.context M.rest F.FnMut (λ ts a. alone (arg_tree ts a)) (ask, make.old) 0 (alone (arg_tree (M.context make.old).trees arg)) result (last, make.new) }
+
+    // Where its calls keep all else of the maker, and where its answers are a function.
+    ensures rest { KeepsRest M.context M.rest F.FnMut (ask, make.old) → M.rest make.new ≡ M.rest make.old }
+    ensures answer { (a : Answers) → IsFunction M.context M.rest F.FnMut a (ask, make.old) → IfOk result (λ x. arg_tree (M.context make.new).trees x ≡ fold_tree a 0 (arg_tree (M.context make.old).trees arg)) }
+{
+    match arg {
+        GenericArg::Ty(ty) => Ok(GenericArg::Ty(fold(alloc, make, ty, ask)?)),
+        GenericArg::Const(constant) => {
+            Ok(GenericArg::Const(fold_const(alloc, make, constant, ask)?))
+        }
+        GenericArg::Region(region) => Ok(GenericArg::Region(fold_region(
+            alloc, make, region, ask,
+        )?)),
+    }
 }
 
 /// The clause, under its binder, with what the closure answers put in; what is said of `fold` holds here, too.

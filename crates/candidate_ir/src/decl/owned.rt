@@ -6,12 +6,14 @@ ghost use Rattle.candidate_ir.specs.Declaring.{adt_at};
 ghost use Rattle.candidate_ir.specs.Folding.{lacks_argument};
 ghost use Rattle.candidate_ir.specs.Lookups as lookup;
 ghost use Rattle.candidate_ir.specs.Trees.{tree_holds};
+ghost use Rattle.candidate_ir.specs.Signatures.{SignatureHas};
+ghost use Rattle.candidate_ir.specs.WellFormed.{SignatureFits};
 ghost use Rattle.candidate_ir.specs.Words.{IsTy, args_forest, ty_tree};
-ghost use Rattle.candidate_ir.specs.Worlds.{AdtSort, OpaqueSort, parameters, kinds_of};
+ghost use Rattle.candidate_ir.specs.Worlds.{AdtSort, FunctionSort, OpaqueSort, parameters, kinds_of};
 
 use crate::decl::contents::Sizedness;
 use crate::decl::context::Cx;
-use crate::ir::kinds::{AdtId, AliasId, Args, Ty};
+use crate::ir::kinds::{AdtId, AliasId, Args, Binder, FnId, FnSig, Ty};
 
 impl Cx {
     /// Each parameter of a field has one of the arguments.
@@ -63,5 +65,18 @@ impl Cx {
         let _ = args;
         self.well_formed_table();
         self.hidden_type(opaque)
+    }
+
+    /// The signature of the function, under its binder, whose parameters have these arguments.
+    #[tactic(auto, using(crate::proofs::Owned::sig_has_arguments))]
+    pub fn fn_sig_of(&self, function: FnId, args: Args) -> Option<Binder<FnSig>>
+        requires { parameters (world self.now) FunctionSort function.0 ≡ Some (kinds_of (args_forest self.now.trees args)) }
+        ensures is { result ≡ lookup.fn_sig (lookup.definition self.now function.0) }
+        ensures fit { IfSome result (λ s. SignatureFits self.now.trees s) }
+        ensures has { IfSome result (λ s. SignatureHas self.now.trees (args_forest self.now.trees args) s) }
+    {
+        let _ = args;
+        self.well_formed_table();
+        self.fn_sig(function)
     }
 }

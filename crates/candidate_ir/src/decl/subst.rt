@@ -8,14 +8,14 @@ ghost use Rattle.candidate_ir.specs.Folds.{IsArg, IsOfKind, arg_tree};
 ghost use Rattle.candidate_ir.specs.Kinds.{arg_kind};
 ghost use Rattle.candidate_ir.specs.Substitutions.{alone};
 ghost use Rattle.candidate_ir.specs.Trees.{Forest, count, height, heights, holds, is_list_kind, is_param, tree_holds};
-ghost use Rattle.candidate_ir.specs.Words.{IsTy, IsConst, IsArgs, IsClause, IsParamEnv, ty_tree, const_tree, args_forest, clause_tree, env_forest};
+ghost use Rattle.candidate_ir.specs.Words.{IsTy, IsConst, IsArgs, IsClause, IsSig, IsParamEnv, ty_tree, const_tree, args_forest, clause_tree, sig_tree, env_forest};
 
 use crate::decl::context::Cx;
 use crate::decl::fold::fold_number;
 use crate::decl::make::Make;
 use crate::ir::heads::{ConstHead, Head};
 use crate::ir::kinds::{
-    Args, BoundVar, Clause, Const, ConstKind, GenericArg, ParamEnv, RegionKind, TraitRef, Ty,
+    Args, BoundVar, Clause, Const, ConstKind, GenericArg, ParamEnv, RegionKind, Sig, TraitRef, Ty,
     TyKind, VarKind,
 };
 use crate::ir::stop::Stop;
@@ -73,7 +73,7 @@ fn further(var: BoundVar, binders: u32, by: u32) -> Result<Option<BoundVar>, Sto
 
 /// The argument in a place under so many more binders: what is bound outside of it is bound so much
 /// further out.
-fn shifted<M: Make>(
+pub(crate) fn shifted<M: Make>(
     alloc: Global,
     make: &mut M,
     arg: GenericArg,
@@ -100,7 +100,7 @@ fn shifted<M: Make>(
 }
 
 /// The argument of that number, if the list has so many.
-fn nth_argument(cx: &Cx, args: Args, index: u32) -> Option<GenericArg>
+pub(crate) fn nth_argument(cx: &Cx, args: Args, index: u32) -> Option<GenericArg>
     requires { IsArgs cx.now.trees args }
     ensures { MatchOption result (nat_lt index (count (args_forest cx.now.trees args)) ≡ false) (λ v. IsArg cx.now.trees v × (nat_lt index (count (args_forest cx.now.trees args)) ≡ true) × (argument (args_forest cx.now.trees args) index ≡ arg_tree cx.now.trees v)) }
 {
@@ -281,6 +281,26 @@ pub fn subst_clause<M: Make>(
     ensures height { IfOk result (λ x. height (clause_tree (M.context make.new).trees x) ≤ height (clause_tree (M.context make.old).trees clause) + heights (args_forest (M.context make.old).trees args)) }
 {
     Ok(Clause(substituted(alloc, make, clause.0, args)?))
+}
+
+/// The signature of a closure, under its binder, with arguments put in; what is said of `subst` holds
+/// here, too.
+pub fn subst_sig<M: Make>(alloc: Global, make: &mut M, sig: Sig, args: Args) -> Result<Sig, Stop>
+    requires sig { IsSig (M.context make.old).trees sig }
+    requires args { IsArgs (M.context make.old).trees args }
+    requires there { tree_holds (lacks_argument (args_forest (M.context make.old).trees args)) (sig_tree (M.context make.old).trees sig) ≡ false }
+    ensures grows { Grows (M.context make.old) (M.context make.new) }
+    ensures rest { M.rest make.new ≡ M.rest make.old }
+    ensures sort { IfOk result (λ x. IsSig (M.context make.new).trees x) }
+    ensures tree { IfOk result (λ x. sig_tree (M.context make.new).trees x ≡ substituted_tree (args_forest (M.context make.old).trees args) (sig_tree (M.context make.old).trees sig)) }
+    ensures cause { IfErr result (λ s. IsSubstStop (length (M.context make.new).trees) (alone (substituted_tree (args_forest (M.context make.old).trees args) (sig_tree (M.context make.old).trees sig))) s) }
+
+    // Laws.
+    ensures unchanged { tree_holds is_param (sig_tree (M.context make.old).trees sig) ≡ false → IfOk result (λ x. sig_tree (M.context make.new).trees x ≡ sig_tree (M.context make.old).trees sig) }
+    ensures twice { (others : Forest) → IfOk result (λ x. substituted_tree others (sig_tree (M.context make.new).trees x) ≡ substituted_tree (substituted others 0 (args_forest (M.context make.old).trees args)) (sig_tree (M.context make.old).trees sig)) }
+    ensures height { IfOk result (λ x. height (sig_tree (M.context make.new).trees x) ≤ height (sig_tree (M.context make.old).trees sig) + heights (args_forest (M.context make.old).trees args)) }
+{
+    Ok(Sig(substituted(alloc, make, sig.0, args)?))
 }
 
 /// The environment, with arguments put in; what is said of `subst` holds here, too.

@@ -2,7 +2,8 @@
 
 ghost use Rattle.std.specs.Prelude.{◌≡◌, ◌≤◌, ◌↔◌, IsTrue};
 ghost use Rattle.candidate_ir.specs.Flags.{mark};
-ghost use Rattle.candidate_ir.specs.Trees.{binders_of, variable_number};
+ghost use Rattle.candidate_ir.specs.Substitutions.{is_placeholder_above};
+ghost use Rattle.candidate_ir.specs.Trees.{binders_of, is_number, variable_number};
 ghost use Rattle.candidate_ir.specs.Binders.{is_beyond};
 ghost use Rattle.candidate_ir.specs.Names.{named, names_unknown};
 
@@ -195,7 +196,7 @@ impl Head {
     }
 
     /// How many binders stand between it and its children.
-    pub(crate) fn binders(self) -> u32
+    pub fn binders(self) -> u32
         ensures is { result ≡ binders_of self }
         ensures most { result ≤ 1 }
     {
@@ -206,8 +207,29 @@ impl Head {
         }
     }
 
+    /// Whether it is the variable of that number.
+    pub(crate) fn is_number(self, number: u32) -> bool
+        ensures { result ≡ is_number number self }
+    {
+        match self.variable_number() {
+            Some(variable) => variable == number,
+            None => false,
+        }
+    }
+
+    /// Whether it is a type's or a constant's placeholder of a universe above that one.
+    pub(crate) fn is_placeholder_above(self, universe: u32) -> bool
+        ensures { result ≡ is_placeholder_above universe self }
+    {
+        match self {
+            Head::Placeholder(placeholder) => placeholder.universe > universe,
+            Head::Const(ConstHead::Placeholder(placeholder)) => placeholder.universe > universe,
+            _ => false,
+        }
+    }
+
     /// The number of the variable to be solved that it is, if it is one.
-    pub(crate) fn variable_number(self) -> Option<u32>
+    pub fn variable_number(self) -> Option<u32>
         ensures { result ≡ variable_number self }
     {
         match self {

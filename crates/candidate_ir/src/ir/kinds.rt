@@ -397,7 +397,8 @@ impl VarKind {
 }
 
 impl GenericArg {
-    pub(crate) fn number(self) -> u32
+    /// The number that it is in its context.
+    pub fn number(self) -> u32
         ensures { result ≡ arg_number self }
     {
         match self {
@@ -427,7 +428,8 @@ impl GenericArg {
 }
 
 impl InferTy {
-    pub(crate) fn variable(self) -> Variable
+    /// The variable that it is: its sort and number.
+    pub fn variable(self) -> Variable
         ensures { result ≡ variable_of self }
     {
         match self {

@@ -4,6 +4,7 @@ ghost use Rattle.std.specs.Prelude.{◌≡◌, ◌<◌, Some, length, slice_get,
 ghost use Rattle.candidate_ir.specs.Kinds.{numbers};
 ghost use Rattle.candidate_ir.specs.Names.{names_unknown};
 ghost use Rattle.candidate_ir.specs.Nodes.{head_of, children_of};
+ghost use Rattle.candidate_ir.specs.Trees.{is_list};
 
 use crate::ir::heads::{Head, ListHead, PartHead};
 use crate::ir::kinds::{
@@ -51,6 +52,13 @@ impl Node {
             Node::Vars(_) => Head::Part(PartHead::Vars),
             Node::Var(kind) => Head::Part(PartHead::Var(*kind)),
         }
+    }
+
+    /// Whether it is a list, whose members stand in its place among the children of another node.
+    pub(crate) fn is_list(&self) -> bool
+        ensures { result ≡ is_list (head_of self.now) }
+    {
+        matches!(self, Node::Args(_) | Node::Preds(_) | Node::Clauses(_))
     }
 
     #[inline(always)]

@@ -1,9 +1,10 @@
 //! What the table says of a number.
 
-ghost use Rattle.std.specs.Prelude.{◌≡◌, ◌<◌, ◌≤◌, false, true, length, MatchOption};
+ghost use Rattle.std.specs.Prelude.{◌≡◌, ◌<◌, ◌≤◌, suc, false, true, length, MatchOption};
 ghost use Rattle.candidate_ir.specs.Folds.{is_asked, IsArg};
 ghost use Rattle.candidate_ir.specs.Kinds.{arg_number, numbers, pred_children};
-ghost use Rattle.candidate_ir.specs.Trees.{PredicateKind};
+ghost use Rattle.candidate_ir.specs.Places.{IsPart, width_at};
+ghost use Rattle.candidate_ir.specs.Trees.{PredicateKind, none, tree, skip};
 ghost use Rattle.candidate_ir.specs.Worlds.{all_of, kinds_of};
 ghost use Rattle.candidate_ir.specs.Names.{principal_of, principals};
 ghost use Rattle.candidate_ir.specs.Nodes.{tree_at};
@@ -39,6 +40,51 @@ impl Nodes {
         ensures { result ≡ (tree_at self.now number).head }
     {
         self.node(number).head()
+    }
+
+    /// How many trees a number is among the children of another: a list is its members, all else is one.
+    fn width(&self, number: u32) -> usize
+        requires { number < length self.now }
+        ensures { result ≡ width_at self.now number }
+    {
+        let node = self.node(number);
+        if node.is_list() {
+            node.child_count()
+        } else {
+            1
+        }
+    }
+
+    /// The number of that place among those that a number is.
+    fn part(&self, number: u32, place: usize) -> u32
+        requires inside { number < length self.now }
+        requires there { place < width_at self.now number }
+        ensures { IsPart self.now number place result }
+    {
+        let node = self.node(number);
+        if node.is_list() {
+            node.child(place)
+        } else {
+            number
+        }
+    }
+
+    /// The number of the tree of that place below a number, if there are so many.
+    pub(crate) fn child(&self, number: u32, place: usize) -> Option<u32>
+        requires { number < length self.now }
+        ensures { MatchOption result (skip place (tree_at self.now number).children ≡ none) (λ c. (c < number) × (skip place (tree_at self.now number).children ≡ tree (tree_at self.now c).head (tree_at self.now c).children (skip (suc place) (tree_at self.now number).children))) }
+    {
+        let node = self.node(number);
+        let mut left = place;
+        for i in 0..node.child_count() {
+            let child = node.child(i);
+            let width = self.width(child);
+            if left < width {
+                return Some(self.part(child, left));
+            }
+            left -= width;
+        }
+        None
     }
 
     /// The kind of a type.

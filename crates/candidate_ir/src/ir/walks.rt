@@ -1,14 +1,16 @@
 //! Walks over the trees of numbers. A tree that stands in several places is walked in each.
 
 ghost use Rattle.std.specs.Prelude.{◌≡◌, ◌+◌, ◌<◌, length, IsTrue, ◌↔◌};
-ghost use Rattle.candidate_ir.specs.Trees.{holds, tree_holds};
+ghost use Rattle.candidate_ir.specs.Substitutions.{is_placeholder_above};
+ghost use Rattle.candidate_ir.specs.Trees.{holds, is_number, tree_holds};
 ghost use Rattle.candidate_ir.specs.Flags.{mark};
 ghost use Rattle.candidate_ir.specs.Binders.{escapes, tree_escapes};
+ghost use Rattle.candidate_ir.specs.Folds.{IsArg, arg_tree};
 ghost use Rattle.candidate_ir.specs.Nodes.{tree_at};
 ghost use Rattle.candidate_ir.specs.Words.{IsTy, IsConst, IsRegion, IsArgs, IsClause, IsParamEnv, ty_tree, const_tree, region_tree, args_forest, clause_tree, env_forest};
 
 use crate::ir::heads::Flag;
-use crate::ir::kinds::{Args, Clause, Const, ParamEnv, Region, Ty};
+use crate::ir::kinds::{Args, Clause, Const, GenericArg, ParamEnv, Region, Ty};
 use crate::ir::nodes::Nodes;
 
 impl Nodes {
@@ -100,6 +102,56 @@ impl Nodes {
         false
     }
 
+    /// Whether the variable of that number stands in a number's tree.
+    fn number_mentions(&self, number: u32, variable: u32) -> bool
+        requires { number < length self.now }
+        ensures { result ≡ tree_holds (is_number variable) (tree_at self.now number) }
+    {
+        let node = self.node(number);
+        if node.head().is_number(variable) {
+            return true;
+        }
+        for i in 0..node.child_count() {
+            if self.number_mentions(node.child(i), variable) {
+                return true;
+            }
+        }
+        false
+    }
+
+    /// Whether a type's or a constant's placeholder of a universe above that one stands in a number's tree.
+    fn number_has_placeholder_above(&self, number: u32, universe: u32) -> bool
+        requires { number < length self.now }
+        ensures { result ≡ tree_holds (is_placeholder_above universe) (tree_at self.now number) }
+    {
+        let node = self.node(number);
+        if node.head().is_placeholder_above(universe) {
+            return true;
+        }
+        for i in 0..node.child_count() {
+            if self.number_has_placeholder_above(node.child(i), universe) {
+                return true;
+            }
+        }
+        false
+    }
+
+    /// Whether the variable of that number stands anywhere in an argument.
+    pub(crate) fn mentions(&self, arg: GenericArg, variable: u32) -> bool
+        requires { IsArg self.now arg }
+        ensures { result ≡ tree_holds (is_number variable) (arg_tree self.now arg) }
+    {
+        self.number_mentions(arg.number(), variable)
+    }
+
+    /// Whether a type's or a constant's placeholder of a universe above that one stands anywhere in an argument.
+    pub(crate) fn has_placeholder_above(&self, arg: GenericArg, universe: u32) -> bool
+        requires { IsArg self.now arg }
+        ensures { result ≡ tree_holds (is_placeholder_above universe) (arg_tree self.now arg) }
+    {
+        self.number_has_placeholder_above(arg.number(), universe)
+    }
+
     /// Whether what the flag says stands anywhere in a type.
     pub(crate) fn has(&self, ty: Ty, flag: Flag) -> bool
         requires { IsTy self.now ty }
@@ -167,6 +219,14 @@ impl Nodes {
         ensures { result ≡ tree_escapes 0 (ty_tree self.now ty) }
     {
         self.number_escapes(ty.0, 0)
+    }
+
+    /// Whether a bound variable stands in the argument that no binder in it binds.
+    pub(crate) fn arg_escapes(&self, arg: GenericArg) -> bool
+        requires { IsArg self.now arg }
+        ensures { result ≡ tree_escapes 0 (arg_tree self.now arg) }
+    {
+        self.number_escapes(arg.number(), 0)
     }
 
     /// Whether a bound variable stands in the list that no binder in it binds.

@@ -1,0 +1,13 @@
+use Rattle.std.proofs.Common.{refl, ◌∙◌, ap}
+use Rattle.std.specs.Prelude.{map}
+use Rattle.candidate_ir.specs.Nodes.{rows}
+use Rattle.candidate_ir.specs.Trees.{join}
+use Rattle.candidate_ir.specs.Words.{var_kind_tree, vars_tree}
+use Rattle.candidate_ir.proofs.Joining.{read-clause}
+use Rattle.candidate_ir.proofs.Opening.{kinds-read}
+use Rattle.candidate_ir.proofs.decl.open.binder_kinds.Goals as goal
+
+pub returns : goal.returns
+returns c =
+    kinds-read c.args.cx.now c.args.clause c.clause.result _ (read-clause c.args.cx.now _ c.args.clause c.clause.result refl c.clause.ensures.fits c.clause.ensures.tree)
+    (c.in_ok-add_kinds.ensures ∙ ap (λ ks. join (rows (map var_kind_tree ks)) (vars_tree c.args.cx.now.trees c.clause.result.vars).children) c.new-kinds.ensures.items)

@@ -1,0 +1,35 @@
+use Rattle.std.proofs.Common.{◌≡◌, ◌∙◌, sym, subst}
+use Rattle.std.specs.Prelude.{IfOk}
+use Rattle.candidate_ir.specs.Context.{Context, world}
+use Rattle.candidate_ir.specs.References.{IsWellFormed}
+use Rattle.candidate_ir.specs.Trees.{Tree}
+use Rattle.candidate_ir.specs.Words.{IsClause, args_forest, clause_tree}
+use Rattle.candidate_ir.proofs.Joining.{clause-kept, read-clause, read-fits}
+use Rattle.candidate_ir.proofs.Opening.{opened-tree, opened-takes}
+use Rattle.candidate_ir.proofs.References.{fit-at}
+use Rattle.candidate_ir.proofs.decl.open.open_clause.Goals as goal
+
+pub clause-value-requires : goal.clause-value-requires
+clause-value-requires g c =
+    subst (λ (y : Context). IsClause y.trees c.in_ok-opened.opened) (sym c.cx-2.ensures) (clause-kept _ _ c.in_ok-opened.opened c.in_ok-vars.ensures.made.kept c.in_ok-opened.ensures.sort).0
+
+pub mk_clause-requires-clause-takes : goal.mk_clause-requires-clause-takes
+mk_clause-requires-clause-takes g c =
+    let new = g.M.Make.context c.mk_vars.new.self in
+    opened-takes (args_forest (g.M.Make.context c.args.make.now).trees c.args.values) (g.M.Make.context c.args.make.now).trees c.args.clause c.requires.clause
+    new c.in_ok-vars.vars c.clause-value.result c.in_ok-opened.opened c.in_ok-vars.ensures.made.sort c.in_ok-vars.ensures.made.tree
+    (read-fits new _ c.clause-value.result c.cx-2.ensures c.clause-value.ensures.fits)
+    (read-clause new _ c.in_ok-opened.opened c.clause-value.result c.cx-2.ensures c.clause-value.ensures.fits c.clause-value.ensures.tree)
+    ((clause-kept _ _ c.in_ok-opened.opened c.in_ok-vars.ensures.made.kept c.in_ok-opened.ensures.sort).1 ∙ c.in_ok-opened.ensures.tree)
+    (world new) (fit-at (world new) new.trees (subst IsWellFormed c.cx.ensures c.well_formed-2.ensures) c.in_ok-opened.opened.0)
+
+pub returns-clause-tree : goal.returns-clause-tree
+returns-clause-tree g c =
+    let new = g.M.Make.context c.mk_vars.new.self in
+    subst (λ (t : Tree). IfOk c.mk_clause.result (λ x. clause_tree (g.M.Make.context c.mk_clause.new.self).trees x ≡ t))
+    (opened-tree (args_forest (g.M.Make.context c.args.make.now).trees c.args.values) (g.M.Make.context c.args.make.now).trees c.args.clause c.requires.clause
+    new c.in_ok-vars.vars c.clause-value.result c.in_ok-opened.opened c.in_ok-vars.ensures.made.sort c.in_ok-vars.ensures.made.tree
+    (read-fits new _ c.clause-value.result c.cx-2.ensures c.clause-value.ensures.fits)
+    (read-clause new _ c.in_ok-opened.opened c.clause-value.result c.cx-2.ensures c.clause-value.ensures.fits c.clause-value.ensures.tree)
+    ((clause-kept _ _ c.in_ok-opened.opened c.in_ok-vars.ensures.made.kept c.in_ok-opened.ensures.sort).1 ∙ c.in_ok-opened.ensures.tree))
+    c.mk_clause.ensures.made.tree

@@ -1,0 +1,41 @@
+use Rattle.std.proofs.Common.{◌≡◌, refl, rules}
+use Rattle.std.specs.Prelude.{◌-◌}
+use Rattle.candidate_ir.specs.Trees.{ClauseKind}
+use Rattle.candidate_ir.specs.Words.{args_forest}
+use Rattle.candidate_ir.proofs.Kept.{args-kept}
+use Rattle.candidate_ir.proofs.Lists.{below_kind}
+use Rattle.candidate_ir.proofs.FoldLaws.{head-number, reached-keeps}
+use Rattle.candidate_ir.proofs.FoldStops.{number-keeps-rest}
+use Rattle.candidate_ir.proofs.Opening.{deeper, opened-only}
+use Rattle.candidate_ir.proofs.decl.open.opened_below.Goals as goal
+
+pub fold_number-requires-clause-inside : goal.fold_number-requires-clause-inside
+fold_number-requires-clause-inside g c = below_kind _ _ ClauseKind refl c.requires.clause
+
+pub fold_number-requires-clause-callable : goal.fold_number-requires-clause-callable
+fold_number-requires-clause-callable g c = record {
+  at = λ s x d lent e l grown i n b.
+      let held = reached-keeps g.M.Make.context g.M.Make.rest _ (λ z. z.1 ≡ c.args.values) (λ s x d r e n p. let k = n.called in let q = n.lends in let v = n.leaves in search rules) _ s l refl in
+      let kept = (args-kept _ _ c.args.values grown c.requires.values).0 in
+      search rules;
+}
+
+pub returns-clause-tree : goal.returns-clause-tree
+returns-clause-tree g c =
+    head-number g.M.Make.context g.M.Make.rest _ _ _ c.args.clause.0 _ ClauseKind c.in_ok-number.ensures refl refl c.requires.clause
+    (deeper (args_forest (g.M.Make.context c.args.make.now).trees c.args.values)) (λ z. z.1 ≡ c.args.values) refl
+    (λ s x d r e n p. let k = n.called in let l = n.lends in let v = n.leaves in search rules)
+    (λ s x d r e n i grown p. let k = n.called in let l = n.lends in let v = n.leaves in let same = (args-kept _ _ c.args.values grown c.requires.values).1 in search rules)
+    (λ d. opened-only (args_forest (g.M.Make.context c.args.make.now).trees c.args.values) (d - 1))
+
+pub returns-clause-rest : goal.returns-clause-rest
+returns-clause-rest g c =
+    number-keeps-rest g.M.Make.context g.M.Make.rest _ (λ z. z.1 ≡ c.args.values) _
+    (λ t x d r u n i l0 grown q. let k = n.called in let l = n.lends in let v = n.leaves in let kept = (args-kept _ _ c.args.values grown c.requires.values).0 in (search rules, search rules))
+    _ 0 c.args.clause.0 c.fold_number.result refl c.fold_number.ensures
+
+pub returns-in_err-number-clause-rest : goal.returns-in_err-number-clause-rest
+returns-in_err-number-clause-rest g c =
+    number-keeps-rest g.M.Make.context g.M.Make.rest _ (λ z. z.1 ≡ c.args.values) _
+    (λ t x d r u n i l0 grown q. let k = n.called in let l = n.lends in let v = n.leaves in let kept = (args-kept _ _ c.args.values grown c.requires.values).0 in (search rules, search rules))
+    _ 0 c.args.clause.0 c.fold_number.result refl c.fold_number.ensures

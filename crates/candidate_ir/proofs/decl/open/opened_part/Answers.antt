@@ -1,0 +1,13 @@
+use Rattle.std.proofs.Common.{sym, ◌∙◌}
+use Rattle.candidate_ir.proofs.Asking.{arg-head, arg-below}
+use Rattle.candidate_ir.proofs.Opening.{answer-kind, bound-kind}
+use Rattle.candidate_ir.proofs.decl.open.opened_part.Goals as goal
+
+pub head-head-requires : goal.head-head-requires
+head-head-requires g c = rw (c.cx.ensures, c.number.ensures) (arg-below (g.M.Make.context c.args.make.now).trees c.args.arg c.requires.arg)
+
+pub returns-in-Some-clause-kind : goal.returns-in-Some-clause-kind
+returns-in-Some-clause-kind g c =
+    answer-kind _ c.args.arg c.in-Some.kind c.opened_variable.result
+    (sym (bound-kind c.in-Some.kind c.in-Some.var) ∙ arg-head _ _ c.args.arg _ _ c.cx.ensures c.number.ensures c.requires.arg (sym c.in-Some.ensures ∙ c.head-head.ensures))
+    c.opened_variable.ensures.sort

@@ -1,0 +1,211 @@
+//! Clauses out of their binders.
+
+ghost use Rattle.std.specs.Prelude.{◌≡◌, ◌-◌, ℕ, Some, None, MatchOption, IfOk, IfSome, option_map};
+ghost use Rattle.candidate_ir.specs.Context.{Grows, parameter_kind};
+ghost use Rattle.candidate_ir.specs.Folding.{leaf, argument, shift_tree, fold_tree};
+ghost use Rattle.candidate_ir.specs.Folds.{IsArg, IsOfKind, arg_tree};
+ghost use Rattle.candidate_ir.specs.Kinds.{arg_kind};
+ghost use Rattle.candidate_ir.specs.Opening.{bound_head, error_of, of_kind, opened_clause, opened_head, opened_variable, under_variables};
+ghost use Rattle.candidate_ir.specs.Trees.{Forest};
+ghost use Rattle.candidate_ir.specs.Words.{IsArgs, IsClause, args_forest, clause_tree};
+
+use crate::decl::context::Cx;
+use crate::decl::elaborate::add_kinds;
+use crate::decl::fold::fold_number;
+use crate::decl::make::Make;
+use crate::decl::subst::{nth_argument, shifted};
+use crate::ir::heads::{ConstHead, Head};
+use crate::ir::kinds::{
+    Args, Binder, BoundVar, Clause, ConstKind, GenericArg, RegionKind, TyKind, VarKind,
+};
+use crate::ir::stop::Stop;
+use std::alloc::{AllocError, Global};
+
+/// The bound variable that a head is, with its kind.
+fn bound_variable_of(head: Head) -> Option<(VarKind, BoundVar)>
+    ensures { MatchOption result ((values : Forest) → (d : ℕ) → opened_head values d head ≡ None) (λ b. head ≡ bound_head b.0 b.1) }
+{
+    match head {
+        Head::Bound(var) => Some((VarKind::Ty, var)),
+        Head::Const(ConstHead::Bound(var)) => Some((VarKind::Const, var)),
+        Head::Region(RegionKind::Bound(var)) => Some((VarKind::Region, var)),
+        _ => None,
+    }
+}
+
+/// The bound variable of that kind.
+fn bound_variable<M: Make>(make: &mut M, kind: VarKind, var: BoundVar) -> Result<GenericArg, Stop>
+    ensures grows { Grows (M.context make.old) (M.context make.new) }
+    ensures rest { M.rest make.new ≡ M.rest make.old }
+    ensures sort { IfOk result (λ a. IsArg (M.context make.new).trees a) }
+    ensures kind { IfOk result (λ a. arg_kind a ≡ parameter_kind kind) }
+    ensures tree { IfOk result (λ a. arg_tree (M.context make.new).trees a ≡ leaf (bound_head kind var)) }
+{
+    match kind {
+        VarKind::Ty => Ok(GenericArg::Ty(make.mk_ty(TyKind::Bound(var))?)),
+        VarKind::Const => Ok(GenericArg::Const(make.mk_const(ConstKind::Bound(var))?)),
+        VarKind::Region => Ok(GenericArg::Region(make.mk_region(RegionKind::Bound(var))?)),
+    }
+}
+
+/// The error of that kind.
+fn error_of<M: Make>(make: &mut M, kind: VarKind) -> Result<GenericArg, Stop>
+    ensures grows { Grows (M.context make.old) (M.context make.new) }
+    ensures rest { M.rest make.new ≡ M.rest make.old }
+    ensures sort { IfOk result (λ a. IsArg (M.context make.new).trees a) }
+    ensures kind { IfOk result (λ a. arg_kind a ≡ parameter_kind kind) }
+    ensures tree { IfOk result (λ a. arg_tree (M.context make.new).trees a ≡ leaf (error_of kind)) }
+{
+    match kind {
+        VarKind::Ty => Ok(GenericArg::Ty(make.mk_ty(TyKind::Error)?)),
+        VarKind::Const => Ok(GenericArg::Const(make.mk_const(ConstKind::Error)?)),
+        VarKind::Region => Ok(GenericArg::Region(make.mk_region(RegionKind::Error)?)),
+    }
+}
+
+/// The value of that number, if there is one and it is of that kind.
+fn value_of_kind(cx: &Cx, values: Args, kind: VarKind, index: u32) -> Option<GenericArg>
+    requires { IsArgs cx.now.trees values }
+    ensures { MatchOption result (of_kind kind (argument (args_forest cx.now.trees values) index) ≡ leaf (error_of kind)) (λ v. IsArg cx.now.trees v × (arg_kind v ≡ parameter_kind kind) × (of_kind kind (argument (args_forest cx.now.trees values) index) ≡ arg_tree cx.now.trees v)) }
+{
+    let value = nth_argument(cx, values, index)?;
+    if value.is_of(kind) { Some(value) } else { None }
+}
+
+/// What stands under so many binders for a variable of the binder that is gone.
+fn value_under<M: Make>(
+    alloc: Global,
+    make: &mut M,
+    values: Args,
+    kind: VarKind,
+    index: u32,
+    binders: u32,
+) -> Result<GenericArg, Stop>
+    requires { IsArgs (M.context make.old).trees values }
+    ensures grows { Grows (M.context make.old) (M.context make.new) }
+    ensures rest { M.rest make.new ≡ M.rest make.old }
+    ensures sort { IfOk result (λ a. IsArg (M.context make.new).trees a) }
+    ensures kind { IfOk result (λ a. arg_kind a ≡ parameter_kind kind) }
+    ensures tree { IfOk result (λ a. arg_tree (M.context make.new).trees a ≡ shift_tree binders (of_kind kind (argument (args_forest (M.context make.old).trees values) index))) }
+{
+    match value_of_kind(make.cx(), values, kind, index) {
+        Some(value) => shifted(alloc, make, value, binders),
+        None => error_of(make, kind),
+    }
+}
+
+/// What stands for a bound variable under so many binders, where something does.
+fn opened_variable<M: Make>(
+    alloc: Global,
+    make: &mut M,
+    values: Args,
+    kind: VarKind,
+    var: BoundVar,
+    binders: u32,
+) -> Result<Option<GenericArg>, Stop>
+    requires { IsArgs (M.context make.old).trees values }
+    ensures grows { Grows (M.context make.old) (M.context make.new) }
+    ensures rest { M.rest make.new ≡ M.rest make.old }
+    ensures sort { IfOk result (λ o. IfSome o (λ a. IsArg (M.context make.new).trees a × (arg_kind a ≡ parameter_kind kind))) }
+    ensures answer { IfOk result (λ o. option_map (arg_tree (M.context make.new).trees) o ≡ opened_variable (args_forest (M.context make.old).trees values) binders kind var) }
+{
+    if var.depth == binders {
+        let value = value_under(alloc, make, values, kind, var.index, binders)?;
+        return Ok(Some(value));
+    }
+    if var.depth < binders {
+        return Ok(None);
+    }
+    let nearer = BoundVar {
+        depth: var.depth - 1,
+        index: var.index,
+    };
+    Ok(Some(bound_variable(make, kind, nearer)?))
+}
+
+/// What stands for a part of a clause, under so many binders with its own.
+fn opened_part<M: Make>(
+    alloc: Global,
+    make: &mut M,
+    values: Args,
+    arg: GenericArg,
+    binders: u32,
+) -> Result<Option<GenericArg>, Stop>
+    requires values { IsArgs (M.context make.old).trees values }
+    requires arg { IsArg (M.context make.old).trees arg }
+    ensures grows { Grows (M.context make.old) (M.context make.new) }
+    ensures rest { M.rest make.new ≡ M.rest make.old }
+    ensures kind { IfOk result (λ o. IsOfKind (M.context make.new).trees arg o) }
+    ensures answer { IfOk result (λ o. option_map (arg_tree (M.context make.new).trees) o ≡ opened_head (args_forest (M.context make.old).trees values) (binders - 1) (arg_tree (M.context make.old).trees arg).head) }
+{
+    let below = binders.saturating_sub(1);
+    let head = make.cx().head(arg.number());
+    match bound_variable_of(head) {
+        Some((kind, var)) => opened_variable(alloc, make, values, kind, var, below),
+        None => Ok(None),
+    }
+}
+
+/// The kinds of the variables of a clause's binder.
+pub fn binder_kinds(alloc: Global, cx: &Cx, clause: Clause) -> Result<Vec<VarKind>, AllocError>
+    requires { IsClause cx.now.trees clause }
+    ensures { IfOk result (λ v. (clause_tree cx.now.trees clause).children ≡ under_variables v.items (clause_tree cx.now.trees clause)) }
+{
+    let mut kinds = Vec::new(alloc);
+    add_kinds(cx, &mut kinds, cx.clause(clause).vars)?;
+    Ok(kinds)
+}
+
+/// The clause with values in the place of the variables of its binder, which still stands above them.
+fn opened_below<M: Make>(
+    alloc: Global,
+    make: &mut M,
+    clause: Clause,
+    values: Args,
+) -> Result<Clause, Stop>
+    requires clause { IsClause (M.context make.old).trees clause }
+    requires values { IsArgs (M.context make.old).trees values }
+    ensures grows { Grows (M.context make.old) (M.context make.new) }
+    ensures rest { M.rest make.new ≡ M.rest make.old }
+    ensures sort { IfOk result (λ x. IsClause (M.context make.new).trees x) }
+    ensures tree { IfOk result (λ x. clause_tree (M.context make.new).trees x ≡ fold_tree (λ d t. opened_head (args_forest (M.context make.old).trees values) (d - 1) t.head) 0 (clause_tree (M.context make.old).trees clause)) }
+{
+    let number = fold_number(
+        alloc,
+        make,
+        &mut move |make: &mut M, arg: GenericArg, binders: u32| -> Result<
+            Option<GenericArg>,
+            Stop,
+        > { opened_part(alloc, make, values, arg, binders) },
+        clause.0,
+        0,
+    )?;
+    Ok(Clause(number))
+}
+
+/// The clause under an empty binder, with the list's value of its number in the place of each variable of its own binder,
+/// shifted by the binders that it stands under. Where there is no value of the variable's kind, the error of that kind stands
+/// there. What is bound further out is bound one binder nearer.
+///
+/// `Stop::Memory` comes where a growth was refused, `Stop::NodesFull` where no numbers are left, or fewer than a list of bounds
+/// takes, the clause would be higher than 1,024, or a bound variable would be bound more than 2^32 - 1 binders out. After a stop
+/// the nodes that were made stay.
+pub fn open_clause<M: Make>(
+    alloc: Global,
+    make: &mut M,
+    clause: Clause,
+    values: Args,
+) -> Result<Clause, Stop>
+    requires clause { IsClause (M.context make.old).trees clause }
+    requires values { IsArgs (M.context make.old).trees values }
+    ensures grows { Grows (M.context make.old) (M.context make.new) }
+    ensures rest { M.rest make.new ≡ M.rest make.old }
+    ensures sort { IfOk result (λ x. IsClause (M.context make.new).trees x) }
+    ensures tree { IfOk result (λ x. clause_tree (M.context make.new).trees x ≡ opened_clause (args_forest (M.context make.old).trees values) (clause_tree (M.context make.old).trees clause)) }
+{
+    let opened = opened_below(alloc, make, clause, values)?;
+    let vars = make.mk_vars(&[])?;
+    make.cx().well_formed();
+    let value = make.cx().clause(opened).value;
+    make.mk_clause(Binder { vars, value })
+}
