@@ -7,10 +7,9 @@ use Rattle.candidate_ir.specs.declared.ir.kinds.Args.{Args}
 use Rattle.candidate_ir.specs.declared.ir.kinds.GenericArg.{GenericArg}
 use Rattle.candidate_ir.specs.declared.ir.kinds.GenericArg.TheVariants as A
 use Rattle.candidate_ir.specs.Context.{Context, Grows}
-use Rattle.candidate_ir.specs.Trees.{Tree, none}
+use Rattle.candidate_ir.specs.Trees.{Tree, none, skip}
 use Rattle.candidate_ir.specs.Words.{IsArgs, ListFits, list_forest, args_forest, ty_tree}
 use Rattle.candidate_ir.proofs.Kept.{grows-refl, grows-trans}
-use Rattle.candidate_ir.proofs.Members.{skip}
 use Rattle.candidate_eval.specs.declared.coherence.NormalizeErr.{NormalizeErr}
 use Rattle.candidate_eval.specs.declared.walk.EarlyExit.{EarlyExit}
 use Rattle.candidate_eval.specs.declared.walk.Walk.{Walk}

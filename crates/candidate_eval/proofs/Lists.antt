@@ -6,9 +6,9 @@ use Rattle.candidate_ir.specs.declared.ir.kinds.GenericArg.{GenericArg}
 use Rattle.candidate_ir.specs.declared.ir.kinds.GenericArg.TheVariants as A
 use Rattle.candidate_ir.specs.Kinds.{arg_number, arg_kind}
 use Rattle.candidate_ir.specs.Nodes.{tree_at, kind_at}
-use Rattle.candidate_ir.specs.Trees.{TypeKind, ConstantKind, RegionKind, Forest, none, tree, Tree, is_type, is_type_kind}
+use Rattle.candidate_ir.specs.Trees.{TypeKind, ConstantKind, RegionKind, Forest, none, tree, Tree, is_type, is_type_kind, skip}
 use Rattle.candidate_ir.specs.Words.{ListFits, list_forest, IsTy, ty_tree}
-use Rattle.candidate_ir.proofs.Members.{skip, member-kind, skip-member}
+use Rattle.candidate_ir.proofs.Members.{member-kind, skip-member}
 use Rattle.candidate_ir.proofs.Rows.{kind-of}
 use Rattle.candidate_eval.specs.declared.walk.Walk.{Walk}
 use Rattle.candidate_eval.specs.Orphan.{View, Step, Class, Entry, entries, first_step, left}

@@ -7,10 +7,10 @@ use Rattle.candidate_ir.specs.declared.ir.kinds.GenericArg.TheVariants as A
 use Rattle.candidate_ir.specs.Context.{Context, Grows}
 use Rattle.candidate_ir.specs.Kinds.{arg_number}
 use Rattle.candidate_ir.specs.Nodes.{tree_at}
-use Rattle.candidate_ir.specs.Trees.{Forest, Tree, count, tree}
+use Rattle.candidate_ir.specs.Trees.{Forest, Tree, count, tree, skip}
 use Rattle.candidate_ir.specs.Words.{IsArgs, ListFits, list_forest, args_forest, ty_tree}
 use Rattle.candidate_ir.proofs.Kept.{args-kept}
-use Rattle.candidate_ir.proofs.Members.{skip, count-members}
+use Rattle.candidate_ir.proofs.Members.{count-members}
 use Rattle.candidate_eval.specs.declared.walk.EarlyExit.{EarlyExit}
 use Rattle.candidate_eval.specs.declared.walk.Walk.{Walk}
 use Rattle.candidate_eval.specs.Normalizer.{Untold}

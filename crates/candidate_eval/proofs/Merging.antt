@@ -1,12 +1,12 @@
 -- Loops over candidates and over the values of a response, step by step.
 use Rattle.std.proofs.Common.{◌≡◌, sym, ap, ◌∙◌, arith, ℕ, zero, suc, ◌<◌, ◌+◌, List, [], ◌∷◌, length, drop, true, false, ◌&&◌, slice_index_or, subst}
 use Rattle.candidate_ir.specs.declared.ir.kinds.GenericArg.{GenericArg}
-use Rattle.candidate_ir.specs.Trees.{Tree}
+use Rattle.candidate_ir.specs.Trees.{Tree, is_number}
 use Rattle.candidate_ir.specs.Folds.{arg_tree}
 use Rattle.candidate_ir.specs.Words.{ListFits, list_forest}
 use Rattle.candidate_ir.proofs.Members.{member}
 use Rattle.candidate_eval.specs.declared.eval.response.Candidate.{Candidate}
-use Rattle.candidate_eval.specs.Responses.{Response, is_number, are_open}
+use Rattle.candidate_eval.specs.Responses.{Response, are_open}
 use Rattle.candidate_eval.specs.ResponseTrees.{AreCandidates, response_of, candidates_of}
 use Rattle.candidate_eval.specs.Merging.{same_response, all_answer}
 

@@ -10,9 +10,10 @@ use Rattle.candidate_ir.specs.declared.ir.stop.Stop.TheVariants.{ConstDepth}
 use Rattle.candidate_ir.specs.Trees.{Kind, TypeKind, ConstantKind, RegionKind, Forest, none, tree, Tree, kind_of, binders_of, holds, is_alias}
 use Rattle.candidate_ir.specs.Substitutions.{alone}
 use Rattle.candidate_ir.specs.Supers.{after_first}
+use Rattle.candidate_ir.specs.Opening.{opened}
 use Rattle.candidate_ir.specs.Context.{parameter_kind}
 use Rattle.candidate_eval.specs.Certainties.{Certainty, Yes, Maybe, Overflow, AllGood, AMBIGUOUS}
-use Rattle.candidate_eval.specs.States.{Env, State, Judge, with_universe, placeholders, opened}
+use Rattle.candidate_eval.specs.States.{Env, State, Judge, with_universe, placeholders}
 
 -- The kinds of a binder's variables.
 

@@ -1,7 +1,7 @@
 -- What an evaluator answers to a goal, and what that says of the variables.
 use Rattle.std.specs.Prelude.{ℕ, suc, Bool, true, false, ◌==◌, ◌&&◌, Option, Some, None, List, [], ◌∷◌}
 use Rattle.candidate_ir.specs.declared.ir.heads.Head.{Head}
-use Rattle.candidate_ir.specs.Trees.{Forest, none, tree, Tree, variable_number}
+use Rattle.candidate_ir.specs.Trees.{Forest, none, tree, Tree, is_number}
 use Rattle.candidate_eval.specs.declared.eval.source.CandidateSource.{CandidateSource}
 use Rattle.candidate_eval.specs.declared.eval.variable.CanonicalVar.{CanonicalVar}
 use Rattle.candidate_eval.specs.Certainties.{Certainty}
@@ -18,14 +18,6 @@ pub record Response : Type 0 where
 pub record Candidate : Type 0 where
   pub source : CandidateSource
   pub result : Response
-
-abbrev pub is_same_number : ℕ → Option ℕ → Bool
-is_same_number n None = false
-is_same_number n (Some m) = m == n
-
--- it is the variable of that number
-abbrev pub is_number : ℕ → Head → Bool
-is_number n h = is_same_number n (variable_number h)
 
 -- The values are the variables from number n on, each its own.
 abbrev pub are_open : ℕ → Forest → Bool

@@ -1,14 +1,13 @@
 -- The state that an evaluator shows, and its judge: what it answers there.
-use Rattle.std.specs.Prelude.{ℕ, suc, Bool, true, false, ◌==◌, ◌-◌, nat_lt, Option, Some, None, List, [], ◌∷◌, ◌++◌, length, slice_get, if◌then◌else◌}
+use Rattle.std.specs.Prelude.{ℕ, suc, Bool, true, false, Option, Some, None, List, [], ◌∷◌, ◌++◌, length, slice_get, if◌then◌else◌}
 use Rattle.candidate_ir.specs.declared.ir.heads.Head.{Head}
 use Rattle.candidate_ir.specs.declared.ir.heads.Head.TheVariants as H
 use Rattle.candidate_ir.specs.declared.ir.heads.ConstHead.TheVariants as C
 use Rattle.candidate_ir.specs.declared.ir.heads.VariableSort.TheVariants as V
 use Rattle.candidate_ir.specs.declared.ir.kinds.RegionKind.TheVariants as R
-use Rattle.candidate_ir.specs.declared.ir.kinds.BoundVar.{BoundVar}
 use Rattle.candidate_ir.specs.declared.ir.kinds.GoalSource.{GoalSource}
 use Rattle.candidate_ir.specs.Trees.{Kind, ConstantKind, RegionKind, Forest, none, tree, Tree}
-use Rattle.candidate_ir.specs.Folding.{fold, fold_tree, leaf, argument, shift_tree}
+use Rattle.candidate_ir.specs.Folding.{fold, fold_tree, leaf}
 use Rattle.candidate_ir.specs.Substitutions.{same_sort}
 use Rattle.candidate_ir.specs.Worlds.{World}
 use Rattle.candidate_eval.specs.declared.eval.mode.TypingMode.{TypingMode}
@@ -96,26 +95,6 @@ placeholders u n (k ∷ ks) = tree (placeholder k u n) none (placeholders u (suc
 
 abbrev pub with_universe : State → State
 with_universe S = record S { newest_universe = suc S.newest_universe }
-
--- What stood under a binder, with trees in the place of its variables, and that binder gone: what is bound further out is
--- bound one binder nearer.
-
-abbrev pub nearer : BoundVar → BoundVar
-nearer v = record { depth = v.depth - 1; index = v.index }
-
-abbrev pub opened_variable : Forest → ℕ → BoundVar → (BoundVar → Head) → Option Tree
-opened_variable values d v head =
-    if v.depth == d then Some (shift_tree d (argument values v.index))
-    else (if nat_lt d v.depth then Some (leaf (head (nearer v))) else None)
-
-abbrev pub opened_head : Forest → ℕ → Head → Option Tree
-opened_head values d (H.Bound v) = opened_variable values d v H.Bound
-opened_head values d (H.Const (C.Bound v)) = opened_variable values d v (λ x. H.Const (C.Bound x))
-opened_head values d (H.Region (R.Bound v)) = opened_variable values d v (λ x. H.Region (R.Bound x))
-opened_head values d _ = None
-
-abbrev pub opened : Forest → Forest → Forest
-opened values ts = fold (λ d t. opened_head values d t.head) 0 ts
 
 -- What stands for heads, if anything does; trees with it put in.
 

@@ -1,6 +1,7 @@
 //! The structural tables: the types that the builtin rules ask about, for each kind of type.
 
 pub(crate) mod asked;
+pub mod callable;
 pub mod destruct;
 mod making;
 pub mod tables;

@@ -197,7 +197,7 @@ fn has_auto_trait_kind(kind: TyKind) -> bool
     }
 }
 
-fn is_no_unknown(kind: TyKind) -> bool
+pub(crate) fn is_no_unknown(kind: TyKind) -> bool
     ensures { result ≡ kind_known kind }
 {
     !matches!(kind, TyKind::Bound(_) | TyKind::Infer(InferTy::TyVar(_)))
