@@ -24,7 +24,7 @@ use Rattle.candidate_rounds.specs.declared.rounds.inference.Change.TheVariants a
 use Rattle.candidate_rounds.specs.declared.rounds.inference.Entry.{Entry}
 use Rattle.candidate_rounds.specs.Inferences.{Inference, shorter, with_entry, with_value, with_universe, before, undone, back_to}
 use Rattle.candidate_rounds.specs.Known.{info_of, state_of, states_at, Each, IsValue, IsEntry, IsChange, IsKnown, AreMarks, AreTypes, IsGiven, SuitsKind}
-use Rattle.candidate_rounds.specs.Standing.{IsFixed, IsListing}
+use Rattle.rounds_judge.specs.Standing.{IsFixed, IsListing}
 use Rattle.candidate_rounds.proofs.Undoing.{IsUndone}
 
 -- Probes stay where they were, whatever is changed.
@@ -85,7 +85,7 @@ each-get P (y ∷ ys) (suc n) x e g = each-get P ys n x e.1 g
 kind-stays : (ts us : List Tree) (n : ℕ) (k : Kind) → Extends ts us → there k ≡ true → kind_at ts n ≡ k → kind_at us n ≡ k
 kind-stays ts us n k x t i = ap (λ ys. kind_at ys n) x.is ∙ (kind_at-append ts x.added n (below_kind ts n k t i) ∙ i)
 
-tree-stays : (ts us : List Tree) (n : ℕ) (k : Kind) → Extends ts us → there k ≡ true → kind_at ts n ≡ k → tree_at us n ≡ tree_at ts n
+pub tree-stays : (ts us : List Tree) (n : ℕ) (k : Kind) → Extends ts us → there k ≡ true → kind_at ts n ≡ k → tree_at us n ≡ tree_at ts n
 tree-stays ts us n k x t i = ap (λ ys. tree_at ys n) x.is ∙ tree_at-append ts x.added n (below_kind ts n k t i)
 
 pub there-arg : (v : GenericArg) → there (arg_kind v) ≡ true
@@ -113,10 +113,10 @@ change-stays ts us C.Region x i = tt
 change-stays ts us C.Goal x i = tt
 change-stays ts us (C.Pending n) x i = tt
 
-clause-stays : (ts us : List Tree) (c : Clause) → Extends ts us → IsClause ts c → clause_tree us c ≡ clause_tree ts c
+pub clause-stays : (ts us : List Tree) (c : Clause) → Extends ts us → IsClause ts c → clause_tree us c ≡ clause_tree ts c
 clause-stays ts us c x i = tree-stays ts us c.0 _ x refl i
 
-is-clause-stays : (ts us : List Tree) (c : Clause) → Extends ts us → IsClause ts c → IsClause us c
+pub is-clause-stays : (ts us : List Tree) (c : Clause) → Extends ts us → IsClause ts c → IsClause us c
 is-clause-stays ts us c x i = kind-stays ts us c.0 _ x refl i
 
 is-goal-stays : (ts us : List Tree) (g : Goal Clause) → Extends ts us → IsGoal ts g → IsGoal us g
@@ -179,13 +179,17 @@ probes-grow ts us mode s (n ∷ ks) x k =
     ap (λ y. y ∷ states_at us mode s ks) (state-stays ts us mode (back_to n s) x (known-back ts s n k))
     ∙ ap (λ ys. state_of ts mode (back_to n s) ∷ ys) (probes-grow ts us mode s ks x k)
 
+-- an alias type is what it was
+pub alias-stays : (ts us : List Tree) (a : AliasTy) → Extends ts us → KindFits ts (K.Alias a) → kind_tree us (K.Alias a) ≡ kind_tree ts (K.Alias a)
+alias-stays ts us a x i = ap (λ zs. kind_tree zs (K.Alias a)) x.is ∙ node_tree-append ts x.added (N.Ty (K.Alias a)) i
+
 -- What was given stays as more numbers are given.
 pub given-grown : (ts us : List Tree) (ps : List (Ty × Ty)) (xs : List AliasTy) → Extends ts us → IsGiven ts ps xs → IsGiven us ps xs
 given-grown ts us ps xs x g = record {
   types = each-imply (AreTypes ts) (AreTypes us) ps (λ p i. (kind-stays ts us p.0.0 _ x refl i.0, kind-stays ts us p.1.0 _ x refl i.1)) g.types;
   listing = subst IsListing (sym (each-map (AreTypes ts) (pair us) (pair ts) ps pair-stays g.types)) g.listing;
   opaques_fit = each-imply (λ a. KindFits ts (K.Alias a)) (λ a. KindFits us (K.Alias a)) xs (λ a i. subst (λ zs. KindFits zs (K.Alias a)) (sym x.is) (Fits-append ts x.added (N.Ty (K.Alias a)) i)) g.opaques_fit;
-  opaques_fixed = subst (Each IsFixed) (sym (each-map (λ a. KindFits ts (K.Alias a)) (λ a. kind_tree us (K.Alias a)) (λ a. kind_tree ts (K.Alias a)) xs (λ a i. alias-stays a i) g.opaques_fit)) g.opaques_fixed;
+  opaques_fixed = subst (Each IsFixed) (sym (each-map (λ a. KindFits ts (K.Alias a)) (λ a. kind_tree us (K.Alias a)) (λ a. kind_tree ts (K.Alias a)) xs (λ a i. alias-stays ts us a x i) g.opaques_fit)) g.opaques_fixed;
 }
   where
     pair : List Tree → Ty × Ty → Tree × Tree
@@ -193,6 +197,3 @@ given-grown ts us ps xs x g = record {
 
     pair-stays : (p : Ty × Ty) → AreTypes ts p → pair us p ≡ pair ts p
     pair-stays p i = let a = tree-stays ts us p.0.0 _ x refl i.0 in let b = tree-stays ts us p.1.0 _ x refl i.1 in λ j. (a j, b j)
-
-    alias-stays : (a : AliasTy) → KindFits ts (K.Alias a) → kind_tree us (K.Alias a) ≡ kind_tree ts (K.Alias a)
-    alias-stays a i = ap (λ zs. kind_tree zs (K.Alias a)) x.is ∙ node_tree-append ts x.added (N.Ty (K.Alias a)) i

@@ -25,18 +25,18 @@ use Rattle.candidate_rounds.specs.declared.rounds.fresh.Leaves.TheVariants.{Vari
 use Rattle.candidate_rounds.proofs.Undoing.{drop-one, drop-beyond}
 use Rattle.candidate_rounds.specs.Leaves.{leaf_of, leaves, all_leaves}
 
-push-fits : (ts : List Tree) (xs : List GenericArg) (x : GenericArg) → ListFits ts xs → IsArg ts x → ListFits ts (xs ++ x ∷ [])
+pub push-fits : (ts : List Tree) (xs : List GenericArg) (x : GenericArg) → ListFits ts xs → IsArg ts x → ListFits ts (xs ++ x ∷ [])
 push-fits ts [] x e k = ap (λ y. y ∷ []) k
 push-fits ts (y ∷ xs) x e k =
     let i : kind_at ts (arg_number y) ≡ arg_kind y = cc in
     let f : ListFits ts xs = cc in
     ap (λ z. z ∷ kinds_at ts (numbers (map arg_child (xs ++ x ∷ [])))) i ∙ ap (λ zs. arg_kind y ∷ zs) (push-fits ts xs x f k)
 
-push-trees : (ts : List Tree) (xs : List GenericArg) (x : GenericArg) → trees_at ts (numbers (map arg_child (xs ++ x ∷ []))) ≡ trees_at ts (numbers (map arg_child xs)) ++ arg_tree ts x ∷ []
+pub push-trees : (ts : List Tree) (xs : List GenericArg) (x : GenericArg) → trees_at ts (numbers (map arg_child (xs ++ x ∷ []))) ≡ trees_at ts (numbers (map arg_child xs)) ++ arg_tree ts x ∷ []
 push-trees ts [] x = refl
 push-trees ts (y ∷ xs) x = ap (λ us. arg_tree ts y ∷ us) (push-trees ts xs x)
 
-below-args : (ts : List Tree) (xs : List GenericArg) → ListFits ts xs → Below (length ts) (numbers (map arg_child xs))
+pub below-args : (ts : List Tree) (xs : List GenericArg) → ListFits ts xs → Below (length ts) (numbers (map arg_child xs))
 below-args ts [] e = tt
 below-args ts (y ∷ xs) e =
     let i : kind_at ts (arg_number y) ≡ arg_kind y = cc in

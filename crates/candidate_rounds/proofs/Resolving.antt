@@ -29,8 +29,8 @@ use Rattle.candidate_rounds.specs.Inferences.{Inference, value_of, is_of_kind, k
 use Rattle.candidate_rounds.specs.Known.{Evaluator, IsConsistent, state_of, info_of, Each, IsValue, IsEntry, SuitsKind, IsKnown}
 use Rattle.candidate_rounds.proofs.Knowing.{each-get, there-arg, state-stays, known-stays, kinds-grown}
 use Rattle.candidate_rounds.proofs.Holding.{kinds-now}
-use Rattle.candidate_rounds.proofs.Bound.{integer_is_type, float_is_type}
-use Rattle.candidate_rounds.proofs.Solving.{kind_same}
+use Rattle.rounds_judge.proofs.Bound.{integer_is_type, float_is_type}
+use Rattle.rounds_judge.proofs.Solving.{kind_same}
 use Rattle.candidate_rounds.proofs.Values.{IsValueOf, is-type-kind, region-head}
 
 -- The tree of what is kept is the state's value.
@@ -93,7 +93,7 @@ module _ (ts : List Tree) (s : Inference) (i : Each (IsEntry ts) s.variables) (f
   kept-kind _ v q = cc
 
   -- what stands for a type, constant or region is one
-  kept-of-kind : (x : GenericArg) → IsArg ts x → IsOfKind ts x (kept_at s (arg_tree ts x).head)
+  pub kept-of-kind : (x : GenericArg) → IsArg ts x → IsOfKind ts x (kept_at s (arg_tree ts x).head)
   kept-of-kind x a = at (kept_at s (arg_tree ts x).head) refl
     where
       at : (o : Option GenericArg) → kept_at s (arg_tree ts x).head ≡ o → IsOfKind ts x o

@@ -22,7 +22,7 @@ use Rattle.candidate_eval.specs.States.{State, value_as, value_at, resolved, res
 use Rattle.candidate_eval.specs.Soundness.{fits_kind, is_region}
 use Rattle.candidate_rounds.specs.Known.{Evaluator, state}
 use Rattle.candidate_rounds.proofs.Knowing.{there-arg}
-use Rattle.candidate_rounds.proofs.Bound.{integer_is_type, float_is_type}
+use Rattle.rounds_judge.proofs.Bound.{integer_is_type, float_is_type}
 
 abbrev pub IsValueOf : Evaluator → VariableKind → ℕ → Option GenericArg → Type 0
 IsValueOf r k n o = MatchOption o (value_as (state r) k n ≡ None) (λ v. IsArg r.context.trees v × (value_as (state r) k n ≡ Some (arg_tree r.context.trees v)) × (fits_kind k (arg_tree r.context.trees v).head ≡ true))

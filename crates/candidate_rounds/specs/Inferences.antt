@@ -1,5 +1,5 @@
 -- What an evaluator of rounds keeps of a state, and how changes of it are undone.
-use Rattle.std.specs.Prelude.{false, ◌≡◌, ◌⊎◌, ◌≤◌, ℕ, zero, suc, ◌-◌, Bool, Option, Some, None, List, [], ◌∷◌, ◌++◌, take, drop, slice_get, if◌then◌else◌}
+use Rattle.std.specs.Prelude.{false, ◌≡◌, ◌⊎◌, ◌≤◌, ℕ, zero, suc, ◌-◌, Bool, Option, Some, None, List, [], ◌∷◌, ◌++◌, take, drop, length, slice_get, if◌then◌else◌}
 use Rattle.candidate_ir.specs.declared.ir.kinds.Clause.{Clause}
 use Rattle.candidate_ir.specs.declared.ir.kinds.GenericArg.{GenericArg}
 use Rattle.candidate_ir.specs.declared.ir.kinds.Goal.{Goal}
@@ -130,3 +130,8 @@ back_to n s = record (undone (drop n s.trail) s) { trail = take n s.trail }
 -- Why nothing was added to so many: a growth was refused, or no more can be told apart.
 abbrev pub IsFullAt : ℕ → Stop → Type 0
 IsFullAt n s = (s ≡ Memory) ⊎ ((s ≡ NodesFull) × (4294967295 ≤ n))
+
+-- What is known is more than it was, or the same: all that changed is noted, so that what was before any change that was noted
+-- then is what it was.
+abbrev pub IsFurther : Inference → Inference → Type 0
+IsFurther s t = (length s.trail ≤ length t.trail) × ((n : ℕ) → n ≤ length s.trail → back_to n t ≡ back_to n s)

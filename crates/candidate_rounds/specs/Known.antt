@@ -2,7 +2,7 @@
 use Rattle.std.specs.Prelude.{◌≡◌, ℕ, ◌≤◌, Option, Some, None, List, [], ◌∷◌, ◌++◌, true, map, drop, length}
 use Rattle.std.specs.Option.{option_map}
 use Rattle.candidate_ir.specs.declared.ir.kinds.GenericArg.{GenericArg}
-use Rattle.candidate_ir.specs.Context.{Context}
+use Rattle.candidate_ir.specs.Context.{Context, Grows}
 use Rattle.candidate_ir.specs.Folds.{IsArg, arg_tree}
 use Rattle.candidate_ir.specs.Trees.{Tree}
 use Rattle.candidate_ir.specs.declared.ir.kinds.AliasTy.{AliasTy}
@@ -17,9 +17,9 @@ use Rattle.candidate_eval.specs.Evaluators.{IsGoal, pendings_of, alias_trees}
 use Rattle.candidate_rounds.specs.declared.rounds.inference.Change.{Change}
 use Rattle.candidate_rounds.specs.declared.rounds.inference.Change.TheVariants as C
 use Rattle.candidate_rounds.specs.declared.rounds.inference.Entry.{Entry}
-use Rattle.candidate_rounds.specs.Listed.{Listing}
-use Rattle.candidate_rounds.specs.Standing.{IsFixed, IsListing}
-use Rattle.candidate_rounds.specs.Inferences.{Inference, back_to}
+use Rattle.rounds_judge.specs.Listed.{Listing}
+use Rattle.rounds_judge.specs.Standing.{AreResolved, IsFixed, IsListing}
+use Rattle.candidate_rounds.specs.Inferences.{Inference, IsFurther, back_to}
 
 -- The trees of numbers of a context.
 
@@ -100,8 +100,19 @@ pub record IsGiven (ts : List Tree) (normal : List (Ty × Ty)) (opaques : List A
   pub opaques_fit : Each (λ a. KindFits ts (K.Alias a)) opaques
   pub opaques_fixed : Each IsFixed (alias_trees ts opaques)
 
+-- Values hold no variable that has a value: now, and when each open probe began. While a variable gets its value, and the values of
+-- others with it, it may be otherwise.
+
+abbrev pub HasResolvedValues : List Tree → Inference → Type 0
+HasResolvedValues ts s = (m : TypingMode) → AreResolved (state_of ts m s)
+
+pub record StaysResolved (ts : List Tree) (s : Inference) (ks : List ℕ) : Type 0 where
+  pub now : HasResolvedValues ts s
+  pub at_marks : Each (λ n. HasResolvedValues ts (back_to n s)) ks
+
 pub record IsEvaluator (ts : List Tree) (s : Inference) (ks : List ℕ) (normal : List (Ty × Ty)) (opaques : List AliasTy) : Type 0 where
   pub consistent : IsConsistent ts s ks
+  pub resolved : StaysResolved ts s ks
   pub given : IsGiven ts normal opaques
 
 -- What contracts see of an evaluator that works in rounds.
@@ -127,3 +138,13 @@ with_root S k = record S { variables = S.variables ++ record { kind = k; univers
 -- What the evaluator was given besides the context stays as it was.
 abbrev pub KeepsGiven : Evaluator → Evaluator → Type 0
 KeepsGiven old new = (new.normal ≡ old.normal) × (new.opaques ≡ old.opaques)
+
+-- The listed pairs by their trees.
+abbrev pub listing : Evaluator → Listing
+listing r = listing_of r.context.trees r.normal
+
+-- The evaluator goes on: nodes may have been made, and what is known may be more. Nothing else is changed, and what is known can
+-- be undone.
+abbrev pub GoesOn : Evaluator → Evaluator → Type 0
+GoesOn old new =
+    Grows old.context new.context × KeepsGiven old new × (new.mode ≡ old.mode) × (new.marks ≡ old.marks) × IsFurther old.inference new.inference

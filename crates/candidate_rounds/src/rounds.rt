@@ -1,9 +1,16 @@
 //! The evaluator's state, and what it answers.
 
+mod binding;
+mod equating;
+pub mod evaluator;
 mod fresh;
 mod inference;
+mod normal_forms;
 mod resolving;
+mod responding;
+mod settling;
 pub mod states;
+mod values;
 
 use crate::rounds::inference::Inference;
 use candidate_eval::eval::mode::TypingMode;

@@ -1,7 +1,7 @@
 //! What is known so far: the variables with their values, the regions recorded, the goals pending; and how each change is taken
 //! back.
 
-ghost use Rattle.std.specs.Prelude.{◌≡◌, ◌+◌, ◌^◌, ◌++◌, ◌∷◌, [], ◌<◌, ◌≤◌, IfOk, IfErr, IfSome, length, slice_get, Some, None};
+ghost use Rattle.std.specs.Prelude.{◌≡◌, ◌+◌, ◌^◌, ◌++◌, ◌∷◌, [], ◌<◌, ◌≤◌, IfOk, IfErr, IfSome, drop, length, slice_get, Some, None};
 ghost use Rattle.candidate_rounds.specs.declared.rounds.inference.Change.{Change};
 ghost use Rattle.candidate_rounds.specs.Inferences.{Inference, with_variable, with_variables, assign, lower, enter, record_region, add, add_all, begin_pending, before, back_to, universe_of, with_entry, with_value, with_universe, IsFullAt};
 
@@ -88,6 +88,13 @@ impl Inference {
         self.trail.len()
     }
 
+    /// The newest universe.
+    pub(crate) fn newest_universe(&self) -> u32
+        ensures { result ≡ self.now.newest_universe }
+    {
+        self.newest_universe
+    }
+
     /// The number of the next variable. `Stop::NodesFull` comes where no more can be numbered.
     pub(crate) fn next_variable(&self) -> Result<u32, Stop>
         ensures number { IfOk result (λ n. n ≡ length self.now.variables) }
@@ -105,6 +112,28 @@ impl Inference {
         ensures { result ≡ slice_get self.now.variables number }
     {
         self.variables.get(number as usize).copied()
+    }
+
+    /// The region constraints that were recorded, in their order.
+    pub(crate) fn regions(&self) -> &[Clause]
+        ensures { result.now ≡ self.now.regions }
+    {
+        self.regions.as_slice()
+    }
+
+    /// The variables, by their numbers.
+    pub(crate) fn variables(&self) -> &[Entry]
+        ensures { result.now ≡ self.now.variables }
+    {
+        self.variables.as_slice()
+    }
+
+    /// The goals that are pending, in their order.
+    pub(crate) fn pending(&self) -> &[(GoalSource, Goal<Clause>)]
+        ensures { result.now ≡ drop self.now.first_pending self.now.goals }
+    {
+        let goals = self.goals.as_slice();
+        &goals[self.first_pending.min(goals.len())..]
     }
 
     /// The number of the first of so many more variables. `Stop::NodesFull` comes where they can't all be numbered.

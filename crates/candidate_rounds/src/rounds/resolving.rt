@@ -11,13 +11,13 @@ ghost use Rattle.candidate_eval.specs.Soundness.{fits_kind};
 ghost use Rattle.candidate_eval.specs.States.{resolved, resolved_tree, same_kind, value_as};
 ghost use Rattle.candidate_eval.specs.declared.eval.mode.TypingMode.{TypingMode};
 ghost use Rattle.candidate_rounds.specs.Inferences.{kept_at, kept_value};
-ghost use Rattle.candidate_rounds.specs.Known.{Each, IsKnown, KeepsGiven, SuitsKind, probes, state, state_of};
+ghost use Rattle.candidate_rounds.specs.Known.{Each, GoesOn, IsKnown, KeepsGiven, SuitsKind, probes, state, state_of};
 
 use crate::rounds::Rounds;
 use crate::rounds::inference::Inference;
 use candidate_eval::eval::variable::VariableKind;
 use candidate_ir::decl::context::Cx;
-use candidate_ir::decl::fold::{fold, fold_args, fold_clause, fold_const};
+use candidate_ir::decl::fold::{fold, fold_arg, fold_args, fold_clause, fold_const};
 use candidate_ir::ir::heads::{Variable, VariableSort};
 use candidate_ir::ir::kinds::{
     Args, Clause, Const, ConstKind, GenericArg, InferTy, Region, RegionKind as Kind, Ty, TyKind,
@@ -26,7 +26,7 @@ use candidate_ir::ir::stop::Stop;
 use std::alloc::Global;
 
 /// The variable of a type: its sort and number.
-fn variable_of(var: InferTy) -> Variable
+pub(crate) fn variable_of(var: InferTy) -> Variable
     ensures { result ≡ variable_of var }
 {
     match var {
@@ -68,7 +68,7 @@ fn region_of(arg: GenericArg) -> Region
 }
 
 /// Whether two kinds of variables are the same.
-fn is_same_kind(a: VariableKind, b: VariableKind) -> bool
+pub(crate) fn is_same_kind(a: VariableKind, b: VariableKind) -> bool
     ensures { result ≡ same_kind a b }
 {
     match (a, b) {
@@ -143,6 +143,21 @@ fn value_for(cx: &Cx, inference: &Inference, arg: GenericArg) -> Option<GenericA
     }
 }
 
+/// The argument with the value in the place of a variable of types or constants at its root, if that has one; another argument is
+/// its own answer.
+pub(crate) fn resolved_root(cx: &Cx, inference: &Inference, arg: GenericArg) -> GenericArg
+    requires arg { IsArg cx.now.trees arg }
+    requires known { IsKnown cx.now.trees inference.now }
+    requires kinds { Each (SuitsKind cx.now.trees) inference.now.variables }
+    ensures sort { IsArg cx.now.trees result × (arg_kind result ≡ arg_kind arg) }
+    ensures tree { (m : TypingMode) → arg_tree cx.now.trees result ≡ resolved_root (state_of cx.now.trees m inference.now) (arg_tree cx.now.trees arg) }
+{
+    if let GenericArg::Region(_) = arg {
+        return arg;
+    }
+    value_for(cx, inference, arg).unwrap_or(arg)
+}
+
 /// The type, with all values put in.
 fn resolved_ty(alloc: Global, cx: &mut Cx, inference: &Inference, ty: Ty) -> Result<Ty, Stop>
     requires ty { IsTy cx.old.trees ty }
@@ -190,8 +205,34 @@ fn resolved_const(
     )
 }
 
+/// The argument, with all values put in.
+pub(crate) fn resolved_arg(
+    alloc: Global,
+    cx: &mut Cx,
+    inference: &Inference,
+    arg: GenericArg,
+) -> Result<GenericArg, Stop>
+    requires arg { IsArg cx.old.trees arg }
+    requires known { IsKnown cx.old.trees inference.now }
+    requires kinds { Each (SuitsKind cx.old.trees) inference.now.variables }
+    ensures grows { Grows cx.old cx.new }
+    ensures sort { IfOk result (λ x. IsArg cx.new.trees x × (arg_kind x ≡ arg_kind arg)) }
+    ensures tree { (m : TypingMode) → IfOk result (λ x. arg_tree cx.new.trees x ≡ resolved_tree (state_of cx.old.trees m inference.now) (arg_tree cx.old.trees arg)) }
+{
+    fold_arg(
+        alloc,
+        cx,
+        arg,
+        move |cx: &mut Cx, arg: GenericArg, _: u32| -> Result<Option<GenericArg>, Stop>
+            requires { IsArg cx.old.trees arg }
+            ensures same { cx.new ≡ cx.old }
+            ensures answer { result ≡ Ok (kept_at inference.entry.now (arg_tree cx.old.trees arg).head) }
+        { Ok(value_for(cx, inference, arg)) },
+    )
+}
+
 /// The list, with all values put in.
-fn resolved_args(
+pub(crate) fn resolved_args(
     alloc: Global,
     cx: &mut Cx,
     inference: &Inference,
@@ -217,7 +258,7 @@ fn resolved_args(
 }
 
 /// The clause, with all values put in.
-fn resolved_clause(
+pub(crate) fn resolved_clause(
     alloc: Global,
     cx: &mut Cx,
     inference: &Inference,
@@ -287,6 +328,7 @@ impl Rounds {
     /// 1,024. After a stop the nodes that were made stay.
     pub fn resolve_ty_if_possible(&mut self, alloc: Global, ty: Ty) -> Result<Ty, Stop>
         requires { IsTy self.old.context.trees ty }
+        ensures goes { GoesOn self.old self.new }
         ensures grows { Grows self.old.context self.new.context }
         ensures given { KeepsGiven self.old self.new }
         ensures probes { probes self.new ≡ probes self.old }

@@ -10,9 +10,9 @@ ghost use Rattle.candidate_eval.specs.Evaluators.{begun, IsGoal, pending_of, wit
 ghost use Rattle.candidate_eval.specs.States.{State, added, variable, fresh_variables, with_fresh_variables, with_universe};
 ghost use Rattle.candidate_eval.specs.declared.eval.context.ProbeKind.{ProbeKind};
 ghost use Rattle.candidate_rounds.specs.Inferences.{with_variable};
-ghost use Rattle.candidate_rounds.specs.RoundsJudge.{hidden_behind};
+ghost use Rattle.rounds_judge.specs.RoundsJudge.{hidden_behind};
 ghost use Rattle.candidate_rounds.specs.Leaves.{all_leaves, last_number};
-ghost use Rattle.candidate_rounds.specs.Known.{state, state_of, probes, with_root, IsGiven, KeepsGiven};
+ghost use Rattle.candidate_rounds.specs.Known.{state, state_of, probes, with_root, GoesOn, IsGiven, KeepsGiven};
 
 use crate::rounds::Rounds;
 use crate::rounds::fresh::{Leaves, leaf_args, variable};
@@ -144,6 +144,7 @@ impl Rounds {
         kinds: &[VarKind],
     ) -> Result<Args, Stop>
         requires { last_number leaves (length kinds.now) < 2 ^ 32 }
+        ensures goes { GoesOn self.old self.new }
         ensures grows { Grows self.old.context self.new.context }
         ensures given { KeepsGiven self.old self.new }
         ensures inference { self.new.inference ≡ self.old.inference }
@@ -167,10 +168,11 @@ impl Rounds {
     }
 
     /// There is a newer universe.
-    fn enter(&mut self) -> Result<(), Stop>
+    pub(crate) fn enter(&mut self) -> Result<(), Stop>
         ensures context { self.new.context ≡ self.old.context }
         ensures given { KeepsGiven self.old self.new }
         ensures probes { probes self.new ≡ probes self.old }
+        ensures goes { GoesOn self.old self.new }
         ensures made { OnOk result (state self.new ≡ with_universe (state self.old)) }
         ensures stopped { OnErr result (self.new ≡ self.old) }
     {
@@ -196,7 +198,9 @@ impl Rounds {
 
     /// Placeholders of a fresh universe, in the place of a binder's variables of these kinds; without variables there is none.
     /// `Stop::Memory` comes where a growth was refused, `Stop::NodesFull` where no numbers are left.
+    #[tactic(auto, using(crate::proofs::Trying::going_on))]
     pub fn placeholder_args(&mut self, alloc: Global, kinds: &[VarKind]) -> Result<Args, Stop>
+        ensures goes { GoesOn self.old self.new }
         ensures grows { Grows self.old.context self.new.context }
         ensures given { KeepsGiven self.old self.new }
         ensures probes { probes self.new ≡ probes self.old }

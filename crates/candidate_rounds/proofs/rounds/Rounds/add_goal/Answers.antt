@@ -4,13 +4,20 @@ use Rattle.candidate_eval.specs.States.{added}
 use Rattle.candidate_rounds.specs.Known.{Evaluator, state, state_of, probes}
 use Rattle.candidate_rounds.proofs.Knowing.{probes-stay}
 use Rattle.candidate_rounds.proofs.Holding.{goal-holds, goal-undone, goal-state}
+use Rattle.candidate_rounds.proofs.ResolvedValues.{evaluator-changed, resolved-goal}
+use Rattle.candidate_rounds.proofs.Going.{further-goal}
+use Rattle.candidate_rounds.proofs.Holding.{holds-goal}
+use Rattle.candidate_rounds.specs.Inferences.{add}
 use Rattle.candidate_rounds.proofs.rounds.Rounds.add_goal.Goals as goal
 
 pub invariant_of-self : goal.invariant_of-self
 invariant_of-self c =
     let i = c.self.inside in
+    let ks = reverse i.probes.items in
     let g = subst (λ (e : Evaluator). IsGoal e.context.trees c.args.goal) (sym c.self.view_is) c.requires in
-    record { consistent = goal-holds i.cx.trees i.inference c.add.new.self (reverse i.probes.items) c.args.source c.args.goal c.add.result c.self.invariant.consistent g c.add.ensures.added c.add.ensures.unchanged; given = c.self.invariant.given }
+    evaluator-changed i.cx.trees i.inference c.add.new.self (add i.inference c.args.source c.args.goal) ks i.normal.items i.opaques.items c.add.result c.self.invariant (further-goal i.inference c.args.source c.args.goal)
+    (holds-goal i.cx.trees i.inference ks c.args.source c.args.goal c.self.invariant.consistent g) (resolved-goal i.cx.trees i.inference c.args.source c.args.goal c.self.invariant.resolved.now)
+    c.add.ensures.added c.add.ensures.unchanged
 
 pub returns-clause-probes : goal.returns-clause-probes
 returns-clause-probes c =

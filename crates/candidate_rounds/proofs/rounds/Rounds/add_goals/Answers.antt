@@ -3,13 +3,21 @@ use Rattle.candidate_eval.specs.Evaluators.{IsGoal, with_goals_of}
 use Rattle.candidate_rounds.specs.Known.{Evaluator, state, state_of, probes}
 use Rattle.candidate_rounds.proofs.Knowing.{probes-stay, each-of-all}
 use Rattle.candidate_rounds.proofs.Holding.{goals-hold, goals-undone, goals-state}
+use Rattle.candidate_rounds.proofs.ResolvedValues.{evaluator-changed, resolved-goals}
+use Rattle.candidate_rounds.proofs.Going.{further-goals}
+use Rattle.candidate_rounds.proofs.Holding.{holds-goals}
+use Rattle.candidate_rounds.specs.Inferences.{add_all}
 use Rattle.candidate_rounds.proofs.rounds.Rounds.add_goals.Goals as goal
 
 pub invariant_of-self : goal.invariant_of-self
 invariant_of-self c =
     let i = c.self.inside in
-    let g = each-of-all (IsGoal i.cx.trees) c.args.goals.now (subst (λ (e : Evaluator). All (IsGoal e.context.trees) c.args.goals.now) (sym c.self.view_is) c.requires) in
-    record { consistent = goals-hold i.cx.trees i.inference c.add_all.new.self (reverse i.probes.items) c.args.source c.args.goals.now c.add_all.result c.self.invariant.consistent g c.add_all.ensures.added c.add_all.ensures.unchanged; given = c.self.invariant.given }
+    let ks = reverse i.probes.items in
+    let gs = c.args.goals.now in
+    let g = each-of-all (IsGoal i.cx.trees) gs (subst (λ (e : Evaluator). All (IsGoal e.context.trees) gs) (sym c.self.view_is) c.requires) in
+    evaluator-changed i.cx.trees i.inference c.add_all.new.self (add_all i.inference c.args.source gs) ks i.normal.items i.opaques.items c.add_all.result c.self.invariant (further-goals i.inference c.args.source gs)
+    (holds-goals i.cx.trees i.inference ks c.args.source gs c.self.invariant.consistent g) (resolved-goals i.cx.trees i.inference c.args.source gs c.self.invariant.resolved.now)
+    c.add_all.ensures.added c.add_all.ensures.unchanged
 
 pub returns-clause-probes : goal.returns-clause-probes
 returns-clause-probes c =

@@ -5,13 +5,18 @@ use Rattle.candidate_rounds.specs.Inferences.{with_variables}
 use Rattle.candidate_rounds.specs.Known.{Evaluator, state, probes}
 use Rattle.candidate_rounds.proofs.Knowing.{probes-stay}
 use Rattle.candidate_rounds.proofs.Holding.{holds-variables, undo-variables, state-variables, change-holds, change-undone, change-state}
+use Rattle.candidate_rounds.proofs.ResolvedValues.{evaluator-changed, resolved-variables}
+use Rattle.candidate_rounds.proofs.Going.{further-variables}
 use Rattle.candidate_rounds.proofs.rounds.Rounds.add_variables.Goals as goal
 
 pub invariant_of-self : goal.invariant_of-self
 invariant_of-self c =
     let i = c.self.inside in
     let ks = reverse i.probes.items in
-    record { consistent = change-holds i.cx.trees i.inference c.add_variables.new.self (with_variables i.inference c.args.kinds.now) ks c.add_variables.result c.self.invariant.consistent (holds-variables i.cx.trees i.inference ks c.args.kinds.now c.self.invariant.consistent) c.add_variables.ensures.added c.add_variables.ensures.unchanged; given = c.self.invariant.given }
+    let vs = c.args.kinds.now in
+    evaluator-changed i.cx.trees i.inference c.add_variables.new.self (with_variables i.inference vs) ks i.normal.items i.opaques.items c.add_variables.result c.self.invariant (further-variables i.inference vs)
+    (holds-variables i.cx.trees i.inference ks vs c.self.invariant.consistent) (resolved-variables i.cx.trees i.inference vs c.self.invariant.resolved.now)
+    c.add_variables.ensures.added c.add_variables.ensures.unchanged
 
 pub returns-clause-probes : goal.returns-clause-probes
 returns-clause-probes c =

@@ -1,4 +1,4 @@
-use Rattle.std.proofs.Common.{◌≡◌, ◌∷◌, [], length, reverse, sym, ◌∙◌, ap, subst}
+use Rattle.std.proofs.Common.{◌≡◌, ◌∷◌, [], length, reverse, sym, ◌∙◌, ap, subst, arith}
 use Rattle.std.proofs.lemmas.List.{reverse-append}
 use Rattle.candidate_eval.specs.States.{with_pending}
 use Rattle.candidate_rounds.specs.Inferences.{begin_pending}
@@ -6,6 +6,9 @@ use Rattle.candidate_rounds.specs.Known.{Evaluator, state, probes, state_of, sta
 use Rattle.candidate_rounds.proofs.Undoing.{undo-pending}
 use Rattle.candidate_rounds.proofs.Probing.{probe-begins, none-pending}
 use Rattle.candidate_rounds.proofs.Holding.{holds-begun}
+use Rattle.candidate_rounds.proofs.ResolvedValues.{resolved-begun, resolved-further, resolved-pending}
+use Rattle.candidate_rounds.proofs.Going.{further-pending}
+use Rattle.candidate_rounds.specs.Known.{IsEvaluator}
 use Rattle.candidate_rounds.proofs.rounds.Rounds.begin_aside.Goals as goal
 
 marks-are : (c : goal.In-Ok) → reverse c.push.new.self.items ≡ length c.self.inside.inference.trail ∷ reverse c.self.inside.probes.items
@@ -15,11 +18,18 @@ marks-are c =
 
 pub invariant_of-self-in-Ok : goal.invariant_of-self-in-Ok
 invariant_of-self-in-Ok c =
-    let i = c.self.inside.inference in
-    let ts = c.self.inside.cx.trees in
+    let s = c.self.inside in
+    let i = s.inference in
+    let ts = s.cx.trees in
+    let ks = reverse s.probes.items in
     let t = begin_pending i (length i.goals) in
-    let one = holds-begun ts i (reverse c.self.inside.probes.items) c.self.invariant.consistent in
-    record { consistent = subst (λ x. IsConsistent ts x (reverse c.push.new.self.items)) (sym c.in-Ok.ensures.aside) (subst (IsConsistent ts t) (sym (marks-are c)) one); given = c.self.invariant.given }
+    let m = c.self.invariant.consistent.marks in
+    let begun : IsEvaluator ts t (length i.trail ∷ ks) s.normal.items s.opaques.items = record {
+      consistent = holds-begun ts i ks c.self.invariant.consistent;
+      resolved = resolved-further ts i t (length i.trail ∷ ks) (omega arith, m) (further-pending i (length i.goals)) (resolved-pending ts i (length i.goals) c.self.invariant.resolved.now) (resolved-begun ts i ks c.self.invariant.resolved);
+      given = c.self.invariant.given;
+    } in
+    subst (λ x. IsEvaluator ts x (reverse c.push.new.self.items) s.normal.items s.opaques.items) (sym c.in-Ok.ensures.aside) (subst (λ ks. IsEvaluator ts t ks s.normal.items s.opaques.items) (sym (marks-are c)) begun)
 
 pub returns-in-Ok-clause-ok : goal.returns-in-Ok-clause-ok
 returns-in-Ok-clause-ok c =

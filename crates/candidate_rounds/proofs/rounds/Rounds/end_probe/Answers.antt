@@ -3,6 +3,8 @@ use Rattle.std.proofs.lemmas.List.{reverse-append}
 use Rattle.candidate_rounds.specs.Inferences.{back_to}
 use Rattle.candidate_rounds.specs.Known.{probes, state_of, states_at, AreMarks, IsConsistent}
 use Rattle.candidate_rounds.proofs.Probing.{others-stay, holds-back}
+use Rattle.candidate_rounds.proofs.ResolvedValues.{resolved-back}
+use Rattle.candidate_rounds.specs.Known.{IsEvaluator, StaysResolved}
 use Rattle.candidate_rounds.proofs.rounds.Rounds.end_probe.Goals as goal
 
 marks-were : (c : goal.After-undo_to) → reverse c.self.inside.probes.items ≡ c.in-Some.changes ∷ reverse c.pop.new.self.items
@@ -10,10 +12,15 @@ marks-were c = ap reverse c.in-Some.ensures.items ∙ reverse-append c.pop.new.s
 
 pub invariant_of-self : goal.invariant_of-self
 invariant_of-self c =
-    let i = c.self.inside.inference in
-    let ts = c.self.inside.cx.trees in
+    let s = c.self.inside in
+    let i = s.inference in
+    let ts = s.cx.trees in
+    let n = c.in-Some.changes in
+    let ks = reverse c.pop.new.self.items in
     let h = subst (IsConsistent ts i) (marks-were c) c.self.invariant.consistent in
-    record { consistent = subst (λ x. IsConsistent ts x (reverse c.pop.new.self.items)) (sym c.undo_to.ensures) (holds-back ts i c.in-Some.changes (reverse c.pop.new.self.items) h); given = c.self.invariant.given }
+    let r = subst (StaysResolved ts i) (marks-were c) c.self.invariant.resolved in
+    subst (λ x. IsEvaluator ts x ks s.normal.items s.opaques.items) (sym c.undo_to.ensures)
+    (record { consistent = holds-back ts i n ks h; resolved = resolved-back ts i n ks h.marks.1 r.at_marks.0 r.at_marks.1; given = c.self.invariant.given })
 
 pub returns-in-Some-clause-left : goal.returns-in-Some-clause-left
 returns-in-Some-clause-left c S others e =

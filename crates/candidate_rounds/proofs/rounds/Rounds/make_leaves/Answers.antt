@@ -3,12 +3,13 @@ use Rattle.candidate_rounds.specs.Known.{state, probes}
 use Rattle.candidate_rounds.proofs.Knowing.{probes-grow, state-stays}
 use Rattle.candidate_rounds.proofs.Probing.{holds-grown}
 use Rattle.candidate_rounds.proofs.Knowing.{given-grown}
+use Rattle.candidate_rounds.proofs.ResolvedValues.{evaluator-grown}
 use Rattle.candidate_rounds.proofs.rounds.Rounds.make_leaves.Goals as goal
 
 pub invariant_of-self : goal.invariant_of-self
 invariant_of-self c =
     let i = c.self.inside in
-    record { consistent = holds-grown i.cx.trees c.leaf_args.new.cx.trees i.inference (reverse i.probes.items) c.leaf_args.ensures.grows.kept c.self.invariant.consistent; given = given-grown c.self.inside.cx.trees c.leaf_args.new.cx.trees c.self.inside.normal.items c.self.inside.opaques.items c.leaf_args.ensures.grows.kept c.self.invariant.given }
+    evaluator-grown i.cx.trees c.leaf_args.new.cx.trees i.inference (reverse i.probes.items) i.normal.items i.opaques.items c.leaf_args.ensures.grows.kept c.self.invariant
 
 pub returns-clause-probes : goal.returns-clause-probes
 returns-clause-probes c =

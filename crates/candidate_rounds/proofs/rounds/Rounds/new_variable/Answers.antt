@@ -6,12 +6,16 @@ use Rattle.candidate_rounds.proofs.Knowing.{probes-stay, probes-grow}
 use Rattle.candidate_rounds.proofs.Probing.{holds-grown}
 use Rattle.candidate_rounds.proofs.Holding.{holds-variable, before-grown}
 use Rattle.candidate_rounds.proofs.Knowing.{given-grown}
+use Rattle.candidate_rounds.proofs.ResolvedValues.{evaluator-further, evaluator-grown, resolved-variable}
+use Rattle.candidate_rounds.proofs.Going.{further-variable}
+use Rattle.candidate_rounds.specs.Inferences.{with_variable}
+use Rattle.candidate_rounds.specs.Known.{IsEvaluator}
 use Rattle.candidate_rounds.proofs.rounds.Rounds.new_variable.Goals as goal
 
 pub invariant_of-self : goal.invariant_of-self
 invariant_of-self c =
     let i = c.self.inside in
-    record { consistent = holds-grown i.cx.trees c.variable.new.cx.trees i.inference (reverse i.probes.items) c.variable.ensures.grows.kept c.self.invariant.consistent; given = given-grown c.self.inside.cx.trees c.variable.new.cx.trees c.self.inside.normal.items c.self.inside.opaques.items c.variable.ensures.grows.kept c.self.invariant.given }
+    evaluator-grown i.cx.trees c.variable.new.cx.trees i.inference (reverse i.probes.items) i.normal.items i.opaques.items c.variable.ensures.grows.kept c.self.invariant
 
 pub returns-in_err-arg-clause-probes : goal.returns-in_err-arg-clause-probes
 returns-in_err-arg-clause-probes c =
@@ -21,11 +25,8 @@ returns-in_err-arg-clause-probes c =
 pub invariant_of-self-in_err-add_variable : goal.invariant_of-self-in_err-add_variable
 invariant_of-self-in_err-add_variable c =
     let i = c.self.inside in
-    record {
-      consistent = subst (λ x. IsConsistent c.variable.new.cx.trees x (reverse i.probes.items)) (sym c.in_err-add_variable.ensures.unchanged)
-          (holds-grown i.cx.trees c.variable.new.cx.trees i.inference (reverse i.probes.items) c.variable.ensures.grows.kept c.self.invariant.consistent);
-      given = given-grown c.self.inside.cx.trees c.variable.new.cx.trees c.self.inside.normal.items c.self.inside.opaques.items c.variable.ensures.grows.kept c.self.invariant.given;
-    }
+    subst (λ x. IsEvaluator c.variable.new.cx.trees x (reverse i.probes.items) i.normal.items i.opaques.items) (sym c.in_err-add_variable.ensures.unchanged)
+    (evaluator-grown i.cx.trees c.variable.new.cx.trees i.inference (reverse i.probes.items) i.normal.items i.opaques.items c.variable.ensures.grows.kept c.self.invariant)
 
 pub returns-in_err-add_variable-clause-probes : goal.returns-in_err-add_variable-clause-probes
 returns-in_err-add_variable-clause-probes c =
@@ -36,12 +37,12 @@ returns-in_err-add_variable-clause-probes c =
 pub invariant_of-self-2 : goal.invariant_of-self-2
 invariant_of-self-2 c =
     let i = c.self.inside in
-    record {
-      consistent = subst (λ x. IsConsistent c.variable.new.cx.trees x (reverse i.probes.items)) (sym c.in_ok-add_variable.ensures.added)
-          (holds-variable c.variable.new.cx.trees i.inference (reverse i.probes.items) c.args.kind c.args.is_root
-          (holds-grown i.cx.trees c.variable.new.cx.trees i.inference (reverse i.probes.items) c.variable.ensures.grows.kept c.self.invariant.consistent));
-      given = given-grown c.self.inside.cx.trees c.variable.new.cx.trees c.self.inside.normal.items c.self.inside.opaques.items c.variable.ensures.grows.kept c.self.invariant.given;
-    }
+    let us = c.variable.new.cx.trees in
+    let ks = reverse i.probes.items in
+    let grown = evaluator-grown i.cx.trees c.variable.new.cx.trees i.inference (reverse i.probes.items) i.normal.items i.opaques.items c.variable.ensures.grows.kept c.self.invariant in
+    subst (λ x. IsEvaluator us x ks i.normal.items i.opaques.items) (sym c.in_ok-add_variable.ensures.added)
+    (evaluator-further us i.inference (with_variable i.inference c.args.kind c.args.is_root) ks i.normal.items i.opaques.items grown (further-variable i.inference c.args.kind c.args.is_root)
+    (holds-variable us i.inference ks c.args.kind c.args.is_root grown.consistent) (resolved-variable us i.inference c.args.kind c.args.is_root grown.resolved.now))
 
 pub returns-clause-probes : goal.returns-clause-probes
 returns-clause-probes c =

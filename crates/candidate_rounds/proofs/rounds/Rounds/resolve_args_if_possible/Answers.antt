@@ -5,6 +5,7 @@ use Rattle.candidate_rounds.specs.Known.{Evaluator, state, probes}
 use Rattle.candidate_rounds.proofs.Knowing.{given-grown, probes-grow, state-stays}
 use Rattle.candidate_rounds.proofs.Holding.{kinds-now}
 use Rattle.candidate_rounds.proofs.Probing.{holds-grown}
+use Rattle.candidate_rounds.proofs.ResolvedValues.{evaluator-grown}
 use Rattle.candidate_rounds.proofs.rounds.Rounds.resolve_args_if_possible.Goals as goal
 
 pub resolved_args-requires-clause-kinds : goal.resolved_args-requires-clause-kinds
@@ -13,10 +14,7 @@ resolved_args-requires-clause-kinds c = kinds-now c.self.inside.cx.trees c.self.
 pub invariant_of-self : goal.invariant_of-self
 invariant_of-self c =
     let i = c.self.inside in
-    record {
-      consistent = holds-grown i.cx.trees c.resolved_args.new.cx.trees i.inference (reverse i.probes.items) c.resolved_args.ensures.grows.kept c.self.invariant.consistent;
-      given = given-grown i.cx.trees c.resolved_args.new.cx.trees i.normal.items i.opaques.items c.resolved_args.ensures.grows.kept c.self.invariant.given;
-    }
+    evaluator-grown i.cx.trees c.resolved_args.new.cx.trees i.inference (reverse i.probes.items) i.normal.items i.opaques.items c.resolved_args.ensures.grows.kept c.self.invariant
 
 pub returns-clause-probes : goal.returns-clause-probes
 returns-clause-probes c =

@@ -1,0 +1,423 @@
+-- Variables that get values, one after another.
+use Rattle.std.proofs.Common.{◌≡◌, ◌≤◌, ◌<◌, ℕ, zero, suc, ◌+◌, Bool, true, false, not, ◌&&◌, ◌||◌, ◌==◌, min, List, [], ◌∷◌, ◌++◌, Option, Some, None, Result, Ok, Err, IfOk, IfErr, OnOk, ◌⊎◌, inl, inr, length, map, slice_get, refl, sym, ap, subst, ◌∙◌, arith, if◌then◌else◌}
+use Rattle.std.specs.Option.{option_map, unwrap_or}
+use Rattle.std.proofs.lemmas.Bool.{and_parts, eq-eqb}
+use Rattle.std.proofs.lemmas.Option.{slice_get-map}
+use Rattle.std.proofs.lemmas.List.{length-append}
+use Rattle.candidate_ir.specs.declared.ir.heads.Head.{Head}
+use Rattle.candidate_ir.specs.declared.ir.heads.Head.TheVariants as H
+use Rattle.candidate_ir.specs.declared.ir.heads.Variable.{Variable}
+use Rattle.candidate_ir.specs.declared.ir.heads.VariableSort.{VariableSort}
+use Rattle.candidate_ir.specs.declared.ir.heads.VariableSort.TheVariants as V
+use Rattle.candidate_ir.specs.declared.ir.kinds.GenericArg.{GenericArg}
+use Rattle.candidate_ir.specs.declared.ir.kinds.TyKind.{TyKind}
+use Rattle.candidate_ir.specs.declared.ir.kinds.TyKind.TheVariants as K
+use Rattle.candidate_ir.specs.declared.ir.stop.Stop.{Stop}
+use Rattle.candidate_ir.specs.Binders.{is_beyond, escapes, tree_escapes}
+use Rattle.candidate_ir.specs.Context.{Context, Grows}
+use Rattle.candidate_ir.specs.Folding.{fold}
+use Rattle.candidate_ir.specs.Folds.{IsArg, IsOfKind, arg_tree, is_asked, is_asked_kind}
+use Rattle.candidate_ir.specs.Kinds.{arg_kind, arg_number}
+use Rattle.candidate_ir.specs.Nodes.{Extends}
+use Rattle.candidate_ir.specs.Substitutions.{alone, fits_sort, is_constant_kind, is_placeholder_above, same_sort, same_variable}
+use Rattle.candidate_ir.specs.Trees.{Forest, none, tree, Kind, ConstantKind, TypeKind, RegionKind, Tree, binders_of, erase, erased_head, holds, tree_holds, kind_of, is_type_kind, sort_kind, is_number}
+use Rattle.candidate_ir.proofs.Folding.{fold-nothing}
+use Rattle.candidate_ir.proofs.Implying.{arg-kept}
+use Rattle.candidate_ir.proofs.Kept.{grows-refl}
+use Rattle.candidate_ir.proofs.Rows.{kind-of}
+use Rattle.candidate_eval.specs.declared.eval.mode.TypingMode.{TypingMode}
+use Rattle.candidate_eval.specs.declared.eval.variable.VariableKind.{VariableKind}
+use Rattle.candidate_eval.specs.declared.eval.variable.VariableKind.TheVariants.{Term, Region}
+use Rattle.candidate_eval.specs.States.{State, VariableInfo, valued_tree, has_kind, same_kind}
+use Rattle.candidate_eval.specs.Alike.{info}
+use Rattle.candidate_eval.specs.Soundness.{fits_kind, universe_in}
+use Rattle.candidate_rounds.specs.declared.rounds.inference.Change.TheVariants as C
+use Rattle.candidate_rounds.specs.declared.rounds.inference.Entry.{Entry}
+use Rattle.candidate_rounds.specs.Assigning.{single_arg, with_member, partly, with_info, with_its_value, with_its_universe, bound_up_to, allows}
+use Rattle.rounds_judge.specs.Binding.{occurs, single, info_after, numbered, bound, may_take}
+use Rattle.candidate_rounds.specs.Inferences.{Inference, IsFurther, assign, lower, with_entry, with_value, with_universe, is_of_kind, back_to, value_of}
+use Rattle.candidate_rounds.specs.Known.{info_of, state_of, Each, IsChange, IsConsistent, IsEntry, IsKnown, IsValue, SuitsKind, AreMarks}
+use Rattle.rounds_judge.proofs.Bound.{integer_is_type, float_is_type, put_kind, same_variable_is, single_is}
+use Rattle.candidate_rounds.proofs.Going.{further-refl}
+use Rattle.candidate_rounds.proofs.Holding.{kinds-now, tidy-now}
+use Rattle.candidate_rounds.proofs.Knowing.{each-append, each-entry, each-get, there-arg, state-stays}
+use Rattle.rounds_judge.proofs.Marks.{holds_erased}
+use Rattle.rounds_judge.proofs.Solving.{kind_same}
+use Rattle.candidate_rounds.proofs.Probing.{holds-after, holds-back}
+use Rattle.candidate_rounds.proofs.Undoing.{undo-assign, undo-lower}
+use Rattle.candidate_rounds.proofs.Values.{is-type-kind}
+
+-- A tree alone in a row
+
+or-none : (b : Bool) → b || false ≡ b
+or-none true = refl
+or-none false = refl
+
+pub holds-alone : (mark : Head → Bool) (t : Tree) → holds mark (alone t) ≡ tree_holds mark t
+holds-alone mark t = ap (λ b. mark t.head || b) (or-none (holds mark t.children))
+
+pub escapes-alone : (t : Tree) → escapes 0 (alone t) ≡ tree_escapes 0 t
+escapes-alone t = ap (λ b. is_beyond 0 t.head || b) (or-none (escapes (0 + binders_of t.head) t.children))
+
+-- regions are no placeholders of types or constants
+erased-placeholder : (u : ℕ) (h : Head) → is_placeholder_above u (erased_head h) ≡ is_placeholder_above u h
+erased-placeholder u (H.Region r) = refl
+erased-placeholder u _ = refl
+
+holds-by : (a b : Head → Bool) → ((h : Head) → a h ≡ b h) → (ts : Forest) → holds a ts ≡ holds b ts
+holds-by a b f none = refl
+holds-by a b f (tree h below rest) = rw (f h, holds-by a b f below, holds-by a b f rest) refl
+
+pub placeholders-alone : (u : ℕ) (t : Tree) → holds (is_placeholder_above u) (erase (alone t)) ≡ tree_holds (is_placeholder_above u) t
+placeholders-alone u t =
+    holds_erased (is_placeholder_above u) (alone t)
+    ∙ (holds-by (λ h. is_placeholder_above u (erased_head h)) (is_placeholder_above u) (erased-placeholder u) (alone t)
+    ∙ holds-alone (is_placeholder_above u) t)
+
+-- so the walks over a tree say whether it is allowed
+
+pub held-refused : (n u : ℕ) (t : Tree) → tree_holds (is_number n) t ≡ true → false ≡ allows n u t
+held-refused n u t e = sym (ap (λ b. not b && (not (escapes 0 (alone t)) && not (holds (is_placeholder_above u) (erase (alone t))))) (holds-alone (is_number n) t ∙ e))
+
+pub open-refused : (n u : ℕ) (t : Tree) → tree_escapes 0 t ≡ true → false ≡ allows n u t
+open-refused n u t e = sym (ap (λ b. not (occurs n t) && (not b && not (holds (is_placeholder_above u) (erase (alone t))))) (escapes-alone t ∙ e) ∙ at (not (occurs n t)))
+  where
+    at : (b : Bool) → b && false ≡ false
+    at true = refl
+    at false = refl
+
+pub else-allowed : (n u : ℕ) (t : Tree) (b : Bool) → tree_holds (is_number n) t ≡ false → tree_escapes 0 t ≡ false → b ≡ tree_holds (is_placeholder_above u) t → not b ≡ allows n u t
+else-allowed n u t b p q r =
+    let x : occurs n t ≡ false = holds-alone (is_number n) t ∙ p in
+    let y : escapes 0 (alone t) ≡ false = escapes-alone t ∙ q in
+    let z : holds (is_placeholder_above u) (erase (alone t)) ≡ b = placeholders-alone u t ∙ sym r in
+    sym (ap (λ a. not a && (not (escapes 0 (alone t)) && not (holds (is_placeholder_above u) (erase (alone t))))) x
+    ∙ (ap (λ a. not a && not (holds (is_placeholder_above u) (erase (alone t)))) y
+    ∙ ap not z))
+
+-- Sorts
+
+-- what fits no type and no constant fits no sort
+pub no-sort : (s : VariableSort) (h : Head) → kind_of h ≡ RegionKind → fits_sort s h ≡ false
+no-sort V.General h e = ap is_type_kind e
+no-sort V.Integer h e = at (fits_sort V.Integer h) refl
+  where
+    at : (b : Bool) → fits_sort V.Integer h ≡ b → b ≡ false
+    at false f = refl
+    at true f = let clash : false ≡ true = sym (ap is_type_kind e) ∙ integer_is_type h f in cc
+no-sort V.Floating h e = at (fits_sort V.Floating h) refl
+  where
+    at : (b : Bool) → fits_sort V.Floating h ≡ b → b ≡ false
+    at false f = refl
+    at true f = let clash : false ≡ true = sym (ap is_type_kind e) ∙ float_is_type h f in cc
+no-sort V.Constant h e = ap is_constant_kind e
+
+-- Members
+
+pub with_member-same : {A : Type 0} (xs : List A) (n : ℕ) (f : A → A) → ((x : A) → slice_get xs n ≡ Some x → f x ≡ x) → with_member xs n f ≡ xs
+with_member-same [] n f k = refl
+with_member-same (x ∷ xs) zero f k = ap (λ y. y ∷ xs) (k x refl)
+with_member-same (x ∷ xs) (suc n) f k = ap (λ ys. x ∷ ys) (with_member-same xs n f k)
+
+pub with_member-twice : {A : Type 0} (xs : List A) (n : ℕ) (f g : A → A) → with_member (with_member xs n f) n g ≡ with_member xs n (λ x. g (f x))
+with_member-twice [] n f g = refl
+with_member-twice (x ∷ xs) zero f g = refl
+with_member-twice (x ∷ xs) (suc n) f g = ap (λ ys. x ∷ ys) (with_member-twice xs n f g)
+
+map-with_entry : (g : Entry → VariableInfo) (es : List Entry) (n : ℕ) (f : Entry → Entry) (h : VariableInfo → VariableInfo) → ((e : Entry) → slice_get es n ≡ Some e → g (f e) ≡ h (g e))
+    → map g (with_entry es n f) ≡ with_member (map g es) n h
+map-with_entry g [] n f h k = refl
+map-with_entry g (e ∷ es) zero f h k = ap (λ y. y ∷ map g es) (k e refl)
+map-with_entry g (e ∷ es) (suc n) f h k = ap (λ ys. g e ∷ ys) (map-with_entry g es n f h k)
+
+map-same : (g : Entry → VariableInfo) (es : List Entry) (n : ℕ) (h : VariableInfo → VariableInfo) → ((e : Entry) → slice_get es n ≡ Some e → h (g e) ≡ g e) → with_member (map g es) n h ≡ map g es
+map-same g [] n h k = refl
+map-same g (e ∷ es) zero h k = ap (λ y. y ∷ map g es) (k e refl)
+map-same g (e ∷ es) (suc n) h k = ap (λ ys. g e ∷ ys) (map-same g es n h k)
+
+each-at : (P : Entry → Type 0) (es : List Entry) (n : ℕ) (f : Entry → Entry) → ((e : Entry) → slice_get es n ≡ Some e → P (f e)) → Each P es → Each P (with_entry es n f)
+each-at P [] n f h k = tt
+each-at P (e ∷ es) zero f h k = (h e refl, k.1)
+each-at P (e ∷ es) (suc n) f h k = (k.0, each-at P es n f h k.1)
+
+pub partly-more : {A : Type 0} (f : ℕ → A → A) (n k : ℕ) (xs : List A) → with_member (partly f n k xs) k (f (n + k)) ≡ partly f n (suc k) xs
+partly-more f n zero [] = refl
+partly-more f n zero (x ∷ xs) = ap (λ i. f i x ∷ xs) (let e : n + 0 ≡ n = omega arith in e)
+partly-more f n (suc k) [] = refl
+partly-more f n (suc k) (x ∷ xs) = ap (λ i. f n x ∷ with_member (partly f (suc n) k xs) k (f i)) (let e : n + suc k ≡ suc n + k = omega arith in e) ∙ ap (λ ys. f n x ∷ ys) (partly-more f (suc n) k xs)
+
+pub partly-all : {A : Type 0} (f : ℕ → A → A) (n k : ℕ) (xs : List A) → k ≡ length xs → partly f n k xs ≡ numbered f n xs
+partly-all f n zero [] e = refl
+partly-all f n zero (x ∷ xs) e = absurd (omega (arith, e))
+partly-all f n (suc k) [] e = refl
+partly-all f n (suc k) (x ∷ xs) e = ap (λ ys. f n x ∷ ys) (partly-all f (suc n) k xs (omega (arith, e)))
+
+pub get-below : {A : Type 0} (xs : List A) (n : ℕ) (x : A) → slice_get xs n ≡ Some x → n < length xs
+get-below [] n x e = cc
+get-below (y ∷ ys) zero x e = omega arith
+get-below (y ∷ ys) (suc n) x e = let l = get-below ys n x e in omega (arith, l)
+
+pub some-is : {A : Type 0} {x y : A} → Some x ≡ Some y → x ≡ y
+some-is e = cc
+
+-- What is kept still holds
+
+one-more : {A : Type 0} (xs : List A) (x : A) → length (xs ++ x ∷ []) ≡ suc (length xs)
+one-more xs x = length-append xs (x ∷ []) ∙ omega arith
+
+pub holds-lower : (ts : List Tree) (s : Inference) (ks : List ℕ) (n u : ℕ) → IsConsistent ts s ks → IsConsistent ts (lower s n u) ks
+holds-lower ts s ks n u h =
+    holds-after ts s (lower s n u) ks h (undo-lower s n u) (one-more s.trail _)
+    (record { values = each-entry (IsEntry ts) s.variables n (with_universe u) (λ e j. j) h.known.values; regions = h.known.regions; goals = h.known.goals; changes = each-append (IsChange ts) s.trail _ h.known.changes tt })
+    (record { pending = (tidy-now ts s ks h).pending; kinds = each-entry (SuitsKind ts) s.variables n (with_universe u) (λ e j. j) (kinds-now ts s ks h) })
+
+value-there : (ts : List Tree) (es : List Entry) (n : ℕ) → Each (IsEntry ts) es → IsValue ts (value_of (slice_get es n))
+value-there ts es n k = at (slice_get es n) refl
+  where
+    at : (o : Option Entry) → slice_get es n ≡ o → IsValue ts (value_of o)
+    at None g = tt
+    at (Some e) g = each-get (IsEntry ts) es n e k g
+
+pub holds-assign : (ts : List Tree) (s : Inference) (ks : List ℕ) (n : ℕ) (x : GenericArg) → IsConsistent ts s ks → IsArg ts x → ((e : Entry) → slice_get s.variables n ≡ Some e → fits_kind e.kind (arg_tree ts x).head ≡ true)
+    → IsConsistent ts (assign s n x) ks
+holds-assign ts s ks n x h i f =
+    holds-after ts s (assign s n x) ks h (undo-assign s n x) (one-more s.trail _)
+    (record { values = each-entry (IsEntry ts) s.variables n (with_value (Some x)) (λ e j. i) h.known.values; regions = h.known.regions; goals = h.known.goals; changes = each-append (IsChange ts) s.trail _ h.known.changes (value-there ts s.variables n h.known.values) })
+    (record { pending = (tidy-now ts s ks h).pending; kinds = each-at (SuitsKind ts) s.variables n (with_value (Some x)) (λ e g v q. let same : x ≡ v = cc in subst (λ y. fits_kind e.kind (arg_tree ts y).head ≡ true) same (f e g)) (kinds-now ts s ks h) })
+
+-- of a call that made one change or none
+pub call-holds : {A : Type 0} (ts : List Tree) (s t u : Inference) (ks : List ℕ) (r : Result A Stop) → IsConsistent ts s ks → IsConsistent ts u ks → IfOk r (λ _. t ≡ u) → IfErr r (λ _. t ≡ s) → IsConsistent ts t ks
+call-holds ts s t u ks (Ok a) h k p q = subst (λ x. IsConsistent ts x ks) (sym p) k
+call-holds ts s t u ks (Err e) h k p q = subst (λ x. IsConsistent ts x ks) (sym q) h
+
+-- going back to where no open probe began later
+pub holds-back-to : (ts : List Tree) (s : Inference) (n : ℕ) (ks : List ℕ) → IsConsistent ts s ks → n ≤ length s.trail → AreMarks n ks → IsConsistent ts (back_to n s) ks
+holds-back-to ts s n ks h l m = holds-back ts s n ks (record { known = h.known; marks = (l, m); tidy = h.tidy })
+
+-- The probes that were open are, where what is known is more.
+pub holds-marks : (ts : List Tree) (s t : Inference) (ks : List ℕ) → AreMarks (length s.trail) ks → IsFurther s t → IsConsistent ts t [] → IsConsistent ts t ks
+holds-marks ts s t ks m f h = record { known = h.known; marks = later (length s.trail) (length t.trail) ks f.0 m; tidy = h.tidy }
+  where
+    later : (n m : ℕ) (ks : List ℕ) → n ≤ m → AreMarks n ks → AreMarks m ks
+    later n m [] l a = tt
+    later n m (k ∷ ks) l a = (omega (arith, l, a.0), a.1)
+
+pub holds-unmarked : (ts : List Tree) (s : Inference) (ks : List ℕ) → IsConsistent ts s ks → IsConsistent ts s []
+holds-unmarked ts s ks h = record { known = h.known; marks = tt; tidy = h.tidy }
+
+-- The universe of a variable, renewed
+
+module _ (ts : List Tree) (m : TypingMode) (s : Inference) (n u : ℕ) (t : Tree) where
+  pub universe-stays : ((e : Entry) → slice_get s.variables n ≡ Some e → (tree_holds (is_number n) t ≡ false) ⊎ (e.universe ≤ u)) → state_of ts m s ≡ with_info (state_of ts m s) n (with_its_universe u t n)
+  universe-stays k = ap (λ vs. record (state_of ts m s) { variables = vs }) (sym (map-same (info_of ts) s.variables n (with_its_universe u t n) (λ e g. by e (k e g))))
+    where
+      by : (e : Entry) → (tree_holds (is_number n) t ≡ false) ⊎ (e.universe ≤ u) → with_its_universe u t n (info_of ts e) ≡ info_of ts e
+      by e (inl f) = ap (λ (b : Bool). record (info_of ts e) { universe = if b then min e.universe u else e.universe }) (holds-alone (is_number n) t ∙ f)
+      by e (inr l) = ap (λ (k : ℕ). record (info_of ts e) { universe = k }) (at (occurs n t))
+        where
+          least : min e.universe u ≡ e.universe
+          least = omega (arith, l)
+
+          at : (b : Bool) → (if b then min e.universe u else e.universe) ≡ e.universe
+          at true = least
+          at false = refl
+
+  pub universe-lowered : (e : Entry) → slice_get s.variables n ≡ Some e → u ≤ e.universe → tree_holds (is_number n) t ≡ true → state_of ts m (lower s n u) ≡ with_info (state_of ts m s) n (with_its_universe u t n)
+  universe-lowered e g l h = ap (λ vs. record (state_of ts m s) { variables = vs }) (map-with_entry (info_of ts) s.variables n (with_universe u) (with_its_universe u t n) by)
+    where
+      by : (d : Entry) → slice_get s.variables n ≡ Some d → info_of ts (with_universe u d) ≡ with_its_universe u t n (info_of ts d)
+      by d k =
+          let same : e ≡ d = cc in
+          let below : u ≤ d.universe = subst (λ (x : Entry). u ≤ x.universe) same l in
+          let least : u ≡ min d.universe u = omega (arith, below) in
+          ap (λ (k : ℕ). record (info_of ts d) { universe = k }) (least ∙ ap (λ b. if b then min d.universe u else d.universe) (sym (holds-alone (is_number n) t ∙ h)))
+
+pub renewed-call : {A : Type 0} (ts : List Tree) (m : TypingMode) (t u : Inference) (S : State) (r : Result A Stop) → state_of ts m u ≡ S → IfOk r (λ _. t ≡ u) → OnOk r (state_of ts m t ≡ S)
+renewed-call ts m t u S (Ok a) k p = ap (state_of ts m) p ∙ k
+renewed-call ts m t u S (Err e) k p = tt
+
+-- The value of a variable, renewed
+
+put-nowhere : (v : Variable) (t y : Tree) → tree_holds (is_number v.number) y ≡ false → valued_tree (single v t) y ≡ y
+put-nowhere v t y e = ap first (fold-nothing (λ d x. single v t x.head) (is_number v.number) (λ d x q. quiet x.head q) 0 (alone y) (holds-alone (is_number v.number) y ∙ e))
+  where
+    first : Forest → Tree
+    first none = y
+    first (tree h a r) = record { head = h; children = a }
+
+    quiet : (h : Head) → is_number v.number h ≡ false → single v t h ≡ None
+    quiet h q = at (single v t h) refl
+      where
+        at : (o : Option Tree) → single v t h ≡ o → o ≡ None
+        at None g = refl
+        at (Some x) g = let clash : true ≡ false = sym (eq-eqb v.number v.number refl) ∙ (sym (ap (is_number v.number) (single_is v t h x g).0) ∙ q) in cc
+
+module _ (ts : List Tree) (m : TypingMode) (s : Inference) (n : ℕ) (v : Variable) where
+  pub value-own : (x : GenericArg) → n ≡ v.number → state_of ts m (assign s n x) ≡ with_info (state_of ts m s) n (with_its_value v (arg_tree ts x) n)
+  value-own x e = ap (λ vs. record (state_of ts m s) { variables = vs }) (map-with_entry (info_of ts) s.variables n (with_value (Some x)) (with_its_value v (arg_tree ts x) n) by)
+    where
+      by : (d : Entry) → slice_get s.variables n ≡ Some d → info_of ts (with_value (Some x) d) ≡ with_its_value v (arg_tree ts x) n (info_of ts d)
+      by d g = ap (λ (o : Option Tree). record (info_of ts d) { value = o }) (sym (ap (λ b. if b then Some (arg_tree ts x) else option_map (valued_tree (single v (arg_tree ts x))) (option_map (arg_tree ts) d.value)) (eq-eqb n v.number e)))
+
+  pub value-put : (t : Tree) (x y : GenericArg) (e : Entry) → (n == v.number) ≡ false → slice_get s.variables n ≡ Some e → e.value ≡ Some y → arg_tree ts x ≡ valued_tree (single v t) (arg_tree ts y)
+      → state_of ts m (assign s n x) ≡ with_info (state_of ts m s) n (with_its_value v t n)
+  value-put t x y e o g f k = ap (λ vs. record (state_of ts m s) { variables = vs }) (map-with_entry (info_of ts) s.variables n (with_value (Some x)) (with_its_value v t n) by)
+    where
+      by : (d : Entry) → slice_get s.variables n ≡ Some d → info_of ts (with_value (Some x) d) ≡ with_its_value v t n (info_of ts d)
+      by d h =
+          let same : e ≡ d = cc in
+          let has : d.value ≡ Some y = subst (λ (z : Entry). z.value ≡ Some y) same f in
+          ap (λ (o : Option Tree). record (info_of ts d) { value = o }) (ap Some k ∙ (sym (ap (λ z. option_map (valued_tree (single v t)) (option_map (arg_tree ts) z)) has) ∙ sym (ap (λ b. if b then Some t else option_map (valued_tree (single v t)) (option_map (arg_tree ts) d.value)) o)))
+
+  pub value-stays : (t : Tree) → (n == v.number) ≡ false → ((e : Entry) (y : GenericArg) → slice_get s.variables n ≡ Some e → e.value ≡ Some y → tree_holds (is_number v.number) (arg_tree ts y) ≡ false)
+      → state_of ts m s ≡ with_info (state_of ts m s) n (with_its_value v t n)
+  value-stays t o k = ap (λ vs. record (state_of ts m s) { variables = vs }) (sym (map-same (info_of ts) s.variables n (with_its_value v t n) by))
+    where
+      by : (e : Entry) → slice_get s.variables n ≡ Some e → with_its_value v t n (info_of ts e) ≡ info_of ts e
+      by e g = ap (λ (o : Option Tree). record (info_of ts e) { value = o }) (ap (λ b. if b then Some t else option_map (valued_tree (single v t)) (option_map (arg_tree ts) e.value)) o ∙ at e.value refl)
+        where
+          at : (z : Option GenericArg) → e.value ≡ z → option_map (valued_tree (single v t)) (option_map (arg_tree ts) z) ≡ option_map (arg_tree ts) z
+          at None f = refl
+          at (Some y) f = ap Some (put-nowhere v t (arg_tree ts y) (k e y g f))
+
+-- All variables, one after another
+
+pub bound-more : (k : ℕ) (v : Variable) (u : ℕ) (t : Tree) (S : State) → with_info (with_info (bound_up_to k v u t S) k (with_its_value v t k)) k (with_its_universe u t k) ≡ bound_up_to (suc k) v u t S
+bound-more k v u t S =
+    let zero-more : k ≡ 0 + k = omega arith in
+    ap (λ vs. record S { variables = vs })
+    (with_member-twice (partly (info_after v u t) 0 k S.variables) k (with_its_value v t k) (with_its_universe u t k)
+    ∙ (ap (λ j. with_member (partly (info_after v u t) 0 k S.variables) k (info_after v u t j)) zero-more
+    ∙ partly-more (info_after v u t) 0 k S.variables))
+
+pub bound-all : (k : ℕ) (v : Variable) (u : ℕ) (t : Tree) (S : State) → k ≡ length S.variables → u ≡ universe_in (info S v.number) → bound_up_to k v u t S ≡ bound S v t
+bound-all k v u t S e f =
+    ap (λ vs. record S { variables = vs }) (partly-all (info_after v u t) 0 k S.variables e)
+    ∙ ap (λ j. record S { variables = numbered (info_after v j t) 0 S.variables }) f
+
+kind-after : (k : VariableKind) (v : Variable) (u : ℕ) (t : Tree) (n i : ℕ) (xs : List VariableInfo) (m : ℕ) → has_kind k (slice_get (partly (info_after v u t) n i xs) m) ≡ has_kind k (slice_get xs m)
+kind-after k v u t n zero xs m = refl
+kind-after k v u t n (suc i) [] m = refl
+kind-after k v u t n (suc i) (x ∷ xs) zero = refl
+kind-after k v u t n (suc i) (x ∷ xs) (suc m) = kind-after k v u t (suc n) i xs m
+
+kind-kept : (ts : List Tree) (k : VariableKind) (o : Option Entry) → has_kind k (option_map (info_of ts) o) ≡ is_of_kind k o
+kind-kept ts k None = refl
+kind-kept ts k (Some e) = refl
+
+pub kind-of-state : (ts : List Tree) (m : TypingMode) (s : Inference) (k : VariableKind) (n : ℕ) → has_kind k (slice_get (state_of ts m s).variables n) ≡ is_of_kind k (slice_get s.variables n)
+kind-of-state ts m s k n = ap (has_kind k) (slice_get-map (info_of ts) s.variables n) ∙ kind-kept ts k (slice_get s.variables n)
+
+-- the variable is of its kind still
+pub kind-so-far : (ts us : List Tree) (m : TypingMode) (s r : Inference) (k : VariableKind) (n i : ℕ) (v : Variable) (u : ℕ) (t : Tree) → state_of us m r ≡ bound_up_to i v u t (state_of ts m s)
+    → is_of_kind k (slice_get s.variables n) ≡ true → is_of_kind k (slice_get r.variables n) ≡ true
+kind-so-far ts us m s r k n i v u t e h =
+    sym (kind-of-state us m r k n)
+    ∙ (ap (λ (S : State). has_kind k (slice_get S.variables n)) e
+    ∙ (kind-after k v u t 0 i (state_of ts m s).variables n
+    ∙ (kind-of-state ts m s k n ∙ h)))
+
+pub kind-suits : (k : VariableKind) (o : Option Entry) (e : Entry) → o ≡ Some e → is_of_kind k o ≡ true → e.kind ≡ k
+kind-suits k o e g h = kind_same e.kind k (sym (ap (is_of_kind k) g) ∙ h)
+
+-- What is put in
+
+single-tree : (ts : List Tree) (v : Variable) (x : GenericArg) (h : Head) → option_map (arg_tree ts) (single_arg v x h) ≡ single v (arg_tree ts x) h
+single-tree ts v x (H.Infer w) = at (same_variable v w)
+  where
+    at : (b : Bool) → option_map (arg_tree ts) (if b then Some x else None) ≡ (if b then Some (arg_tree ts x) else None)
+    at true = refl
+    at false = refl
+single-tree ts v x _ = refl
+
+-- it is of its variable's kind
+sort-head : (s : VariableSort) (h : Head) → fits_sort s h ≡ true → kind_of h ≡ sort_kind s
+sort-head V.General h f = is-type-kind (kind_of h) f
+sort-head V.Integer h f = is-type-kind (kind_of h) (integer_is_type h f)
+sort-head V.Floating h f = is-type-kind (kind_of h) (float_is_type h f)
+sort-head V.Constant h f = constant (kind_of h) f
+  where
+    constant : (k : Kind) → is_constant_kind k ≡ true → k ≡ ConstantKind
+    constant ConstantKind e = refl
+    constant _ e = cc
+
+pub data SingleArg (v : Variable) (x : GenericArg) (h : Head) : Option GenericArg → Type 0 where
+  put : h ≡ H.Infer v → SingleArg v x h (Some x)
+  leaves : SingleArg v x h None
+
+which-arg : (v : Variable) (x : GenericArg) (h : Head) → SingleArg v x h (single_arg v x h)
+which-arg v x (H.Infer w) = at (same_variable v w) refl
+  where
+    at : (b : Bool) → same_variable v w ≡ b → SingleArg v x (H.Infer w) (if b then Some x else None)
+    at true e = put (ap H.Infer (sym (same_variable_is v w e)))
+    at false e = leaves
+which-arg v x _ = leaves
+
+single-of-kind : (ts : List Tree) (v : Variable) (x y : GenericArg) → IsArg ts x → fits_sort v.sort (arg_tree ts x).head ≡ true → IsArg ts y → IsOfKind ts y (single_arg v x (arg_tree ts y).head)
+single-of-kind ts v x y i f j = at (single_arg v x (arg_tree ts y).head) (which-arg v x (arg_tree ts y).head)
+  where
+    at : (o : Option GenericArg) → SingleArg v x (arg_tree ts y).head o → IsOfKind ts y o
+    at _ (put e) = (i, sym (kind-of ts (arg_number x) (arg_kind x) (there-arg x) i) ∙ (sort-head v.sort (arg_tree ts x).head f ∙ (sym (ap kind_of e) ∙ kind-of ts (arg_number y) (arg_kind y) (there-arg y) j)))
+    at _ leaves = tt
+
+pub put-keeps : (c s e : Context) (v : Variable) (x y : GenericArg) (r : Result (Option GenericArg) Stop) → Grows c s → IsArg c.trees x → fits_sort v.sort (arg_tree c.trees x).head ≡ true → IsArg s.trees y
+    → e ≡ s → r ≡ Ok (single_arg v x (arg_tree s.trees y).head) → Grows s e × IfOk r (λ o. IsOfKind e.trees y o)
+put-keeps c s e v x y r g i f j same q =
+    let k = arg-kept c s x g i in
+    let l : fits_sort v.sort (arg_tree s.trees x).head ≡ true = ap (λ (t : Tree). fits_sort v.sort t.head) k.1 ∙ f in
+    subst (λ u. Grows s u × IfOk r (λ o. IsOfKind u.trees y o)) (sym same)
+    (grows-refl s, subst (λ w. IfOk w (λ o. IsOfKind s.trees y o)) (sym q) (single-of-kind s.trees v x y k.0 l j))
+
+pub put-answers : (c s e : Context) (v : Variable) (x y : GenericArg) (r : Result (Option GenericArg) Stop) → Grows c s → IsArg c.trees x → e ≡ s
+    → r ≡ Ok (single_arg v x (arg_tree s.trees y).head) → IfOk r (λ o. option_map (arg_tree e.trees) o ≡ single v (arg_tree c.trees x) (arg_tree s.trees y).head)
+put-answers c s e v x y r g i same q =
+    let k = arg-kept c s x g i in
+    subst (λ u. IfOk r (λ o. option_map (arg_tree u.trees) o ≡ single v (arg_tree c.trees x) (arg_tree s.trees y).head)) (sym same)
+    (subst (λ w. IfOk w (λ o. option_map (arg_tree s.trees) o ≡ single v (arg_tree c.trees x) (arg_tree s.trees y).head)) (sym q)
+    (single-tree s.trees v x (arg_tree s.trees y).head ∙ ap (λ t. single v t (arg_tree s.trees y).head) k.1))
+
+-- Nothing else is put in for.
+pub put-unasked : (v : Variable) (t : Tree) (h : Head) → is_asked h ≡ false → single v t h ≡ None
+put-unasked v t (H.Infer w) e = absurd (at w.sort e)
+  where
+    at : (s : VariableSort) → is_asked_kind (sort_kind s) ≡ false → ⊥
+    at V.General e = cc
+    at V.Integer e = cc
+    at V.Floating e = cc
+    at V.Constant e = cc
+put-unasked v t _ e = refl
+
+-- A variable of a region stands for no type or constant.
+pub put-region : (v : Variable) (x : GenericArg) (h : Head) → kind_of h ≡ RegionKind → None ≡ single_arg v x h
+put-region v x (H.Infer w) e = absurd (at w.sort e)
+  where
+    at : (s : VariableSort) → sort_kind s ≡ RegionKind → ⊥
+    at V.General e = cc
+    at V.Integer e = cc
+    at V.Floating e = cc
+    at V.Constant e = cc
+put-region v x _ e = refl
+
+pub const-sort : (s : VariableSort) (b : Bool) (h : Head) → kind_of h ≡ ConstantKind → b ≡ same_sort s V.Constant → b ≡ fits_sort s h
+const-sort V.General b h e q = q ∙ sym (ap is_type_kind e)
+const-sort V.Constant b h e q = q ∙ sym (ap is_constant_kind e)
+const-sort V.Integer b h e q = q ∙ sym (at (fits_sort V.Integer h) refl)
+  where
+    at : (b : Bool) → fits_sort V.Integer h ≡ b → b ≡ false
+    at false f = refl
+    at true f = let clash : false ≡ true = sym (ap is_type_kind e) ∙ integer_is_type h f in cc
+const-sort V.Floating b h e q = q ∙ sym (at (fits_sort V.Floating h) refl)
+  where
+    at : (b : Bool) → fits_sort V.Floating h ≡ b → b ≡ false
+    at false f = refl
+    at true f = let clash : false ≡ true = sym (ap is_type_kind e) ∙ float_is_type h f in cc
+
+pub arg-head : (ts : List Tree) (a : GenericArg) (k : Kind) → IsArg ts a → arg_kind a ≡ k → kind_of (arg_tree ts a).head ≡ k
+arg-head ts a k i e = kind-of ts (arg_number a) (arg_kind a) (there-arg a) i ∙ e
+
+-- Whether a variable that is there may get the value
+pub may-entry : (ts : List Tree) (m : TypingMode) (s : Inference) (v : Variable) (t : Tree) (e : Entry) → slice_get s.variables v.number ≡ Some e
+    → may_take (state_of ts m s) v t ≡ same_kind e.kind (Term v.sort) && (fits_sort v.sort t.head && allows v.number e.universe t)
+may-entry ts m s v t e g =
+    let is : info (state_of ts m s) v.number ≡ Some (info_of ts e) = slice_get-map (info_of ts) s.variables v.number ∙ ap (option_map (info_of ts)) g in
+    ap (λ o. has_kind (Term v.sort) o && (fits_sort v.sort t.head && allows v.number (universe_in o) t)) is

@@ -1,0 +1,377 @@
+-- Pending goals are evaluated: what the parts come to.
+use Rattle.std.proofs.Common.{◌≡◌, ◌≤◌, ◌<◌, ◌+◌, ◌-◌, ℕ, zero, suc, Bool, true, false, nat_lt, List, [], ◌∷◌, ◌++◌, length, map, take, drop, slice_index_or, append_assoc, Option, Some, None, IfSome, if◌then◌else◌, refl, sym, ◌∙◌, ap, subst, arith}
+use Rattle.std.specs.Option.{option_map, option_to_list}
+use Rattle.std.proofs.lemmas.List.{append-nil, length-append, map-append}
+use Rattle.candidate_ir.specs.declared.ir.heads.Head.{Head}
+use Rattle.candidate_ir.specs.declared.ir.heads.Head.TheVariants as H
+use Rattle.candidate_ir.specs.declared.ir.heads.PartHead.TheVariants as P
+use Rattle.candidate_ir.specs.declared.ir.heads.ClauseHead.TheVariants as Cl
+use Rattle.candidate_ir.specs.declared.ir.kinds.Clause.{Clause}
+use Rattle.candidate_ir.specs.declared.ir.kinds.GenericArg.{GenericArg}
+use Rattle.candidate_ir.specs.declared.ir.kinds.Goal.{Goal}
+use Rattle.candidate_ir.specs.declared.ir.kinds.GoalSource.{GoalSource}
+use Rattle.candidate_ir.specs.declared.ir.kinds.ProjectionPredicate.{ProjectionPredicate}
+use Rattle.candidate_ir.specs.declared.ir.kinds.VarKind.{VarKind}
+use Rattle.candidate_ir.specs.Context.{Context, Grows}
+use Rattle.candidate_ir.specs.Folds.{arg_tree}
+use Rattle.candidate_ir.specs.Nodes.{rows}
+use Rattle.candidate_ir.specs.Substitutions.{alone}
+use Rattle.candidate_ir.specs.Supers.{after_first}
+use Rattle.candidate_ir.specs.Trees.{Kind, ClausesKind, Forest, Tree}
+use Rattle.candidate_ir.specs.Words.{IsParamEnv, clause_tree, env_forest, kind_tree, ty_tree, var_kind_tree}
+use Rattle.candidate_ir.proofs.Joining.{clause-kept}
+use Rattle.candidate_ir.proofs.Made.{kind_at-grows}
+use Rattle.candidate_eval.specs.Characterization.{binder_kinds, bound_kinds}
+use Rattle.candidate_eval.specs.Evaluators.{IsGoal, kinds_listed, pending_of, pendings_of}
+use Rattle.candidate_eval.specs.States.{Env, Pending, State, added, next, resolved_tree, with_pending}
+use Rattle.candidate_rounds.specs.declared.rounds.inference.Change.TheVariants as C
+use Rattle.candidate_rounds.specs.declared.rounds.inference.Entry.{Entry}
+use Rattle.rounds_judge.specs.Equating.{count_unbound, equated, unbound_of, without_goals}
+use Rattle.candidate_rounds.specs.Inferences.{Inference, begin_pending}
+use Rattle.candidate_rounds.specs.Known.{Each, Evaluator, GoesOn, IsChange, IsConsistent, IsGiven, info_of, listing, state}
+use Rattle.rounds_judge.specs.Listed.{Listing, listed}
+use Rattle.rounds_judge.specs.Settling.{Outcome, before, certainty_of, instance_of, instantiated, pass, passes, projected, settled, term_of, tried, tried_all, tried_as, with_certainty, with_facts, with_staying}
+use Rattle.candidate_rounds.specs.Trying.{IsProjection, answered, answered_by, evaluated_as, left_of, projection_of, second_if_bound, unbound_entries, unbound_value}
+use Rattle.candidate_rounds.proofs.Going.{goes-listing, goes-trans}
+use Rattle.candidate_rounds.proofs.Holding.{kinds-now}
+use Rattle.candidate_rounds.proofs.Knowing.{each-append, each-imply, tree-stays}
+use Rattle.candidate_rounds.proofs.Probing.{holds-after}
+use Rattle.candidate_rounds.proofs.Projecting.{alias-is, term-is}
+use Rattle.candidate_rounds.proofs.Undoing.{drop-beyond, drop-one, undo-pending}
+
+-- An alias for which no type is listed, and one for which one is.
+
+pub not-listed : (l m : Listing) (S T : State) (a t r : Tree) → m ≡ l → T ≡ S → r ≡ resolved_tree S a → listed m r ≡ None → answered l S a t ≡ Some (false, T)
+not-listed l m S T a t r i j e n =
+    ap (answered_by l S t) (ap (listed l) (sym e) ∙ (ap (λ k. listed k r) (sym i) ∙ n)) ∙ ap (λ U. Some (false, U)) (sym j)
+
+is-listed : (l m : Listing) (S T : State) (a t r u s : Tree) → m ≡ l → T ≡ S → r ≡ resolved_tree S a → s ≡ t → listed m r ≡ Some u
+    → answered l S a t ≡ next (equated m T (alone u) (alone s)) (λ U. Some (true, U))
+is-listed l m S T a t r u s i j e f n =
+    ap (answered_by l S t) (ap (listed l) (sym e) ∙ (ap (λ k. listed k r) (sym i) ∙ n))
+    ∙ ap (λ (o : Option State). next o (λ U. Some (true, U)))
+    (ap (λ k. equated k S (alone u) (alone t)) (sym i) ∙ (ap (λ U. equated m U (alone u) (alone t)) (sym j) ∙ ap (λ x. equated m T (alone u) (alone x)) (sym f)))
+
+pub listed-equal : (l m : Listing) (S T U : State) (a t r u s : Tree) → m ≡ l → T ≡ S → r ≡ resolved_tree S a → s ≡ t → listed m r ≡ Some u
+    → equated m T (alone u) (alone s) ≡ Some U → answered l S a t ≡ Some (true, U)
+listed-equal l m S T U a t r u s i j e f n q = is-listed l m S T a t r u s i j e f n ∙ ap (λ (o : Option State). next o (λ V. Some (true, V))) q
+
+pub listed-refused : (l m : Listing) (S T : State) (a t r u s : Tree) → m ≡ l → T ≡ S → r ≡ resolved_tree S a → s ≡ t → listed m r ≡ Some u
+    → equated m T (alone u) (alone s) ≡ None → answered l S a t ≡ None
+listed-refused l m S T a t r u s i j e f n q = is-listed l m S T a t r u s i j e f n ∙ ap (λ (o : Option State). next o (λ V. Some (true, V))) q
+
+pub answered-same : (l m : Listing) (S T : State) (a b t s : Tree) → m ≡ l → T ≡ S → b ≡ a → s ≡ t → answered m T b s ≡ answered l S a t
+answered-same l m S T a b t s i j e f =
+    ap (λ k. answered k T b s) i ∙ (ap (λ U. answered l U b s) j ∙ (ap (λ x. answered l S x s) e ∙ ap (answered l S a) f))
+
+-- A goal by its instance: whether nothing stays of it.
+
+abbrev pub outcome : Pending → Bool × State → Outcome
+outcome p q = Some ((if q.0 then [] else p ∷ []), q.1)
+
+projected-by : (l : Listing) (S : State) (p : Pending) (t : Tree) (o : Option Tree) → projected l S p t o ≡ next (answered_by l S t o) (outcome p)
+projected-by l S p t None = refl
+projected-by l S p t (Some u) = at (equated l S (alone u) (alone t))
+  where
+    at : (o : Option State) → without_goals o ≡ next (next o (λ T. Some (true, T))) (outcome p)
+    at None = refl
+    at (Some T) = refl
+
+tried-by : (l : Listing) (S : State) (p : Pending) (ts : Forest) (h : Head) → tried_as l S p ts h ≡ next (evaluated_as l S p.goal.clause ts h) (outcome p)
+tried-by l S p ts (H.Part (P.Clause (Cl.Projection i))) = projected-by l S p _ _
+tried-by l S p ts (H.Part (P.Clause Cl.TypeOutlives)) = refl
+tried-by l S p ts (H.Part (P.Clause Cl.RegionOutlives)) = refl
+tried-by l S p ts _ = refl
+
+-- The instance of a goal, by the kinds of the variables of its binder.
+
+pub instance-made : (p : Pending) (ks : List VarKind) (bs : List Kind) (ts : Forest) (e : Env) (c : Tree) → kinds_listed ks ≡ bs → e ≡ p.goal.env
+    → c ≡ second_if_bound ks p.goal.clause (with_facts p.goal.clause ts) → (let q : Pending = record { source = p.source; goal = record { env = e; clause = c } } in q) ≡ instance_of p bs ts
+instance-made p ks bs ts e c k i j = at ks j ∙ ap (λ xs. instance_of p xs ts) k
+  where
+    at : (ks : List VarKind) → c ≡ second_if_bound ks p.goal.clause (with_facts p.goal.clause ts)
+        → (let q : Pending = record { source = p.source; goal = record { env = e; clause = c } } in q) ≡ instance_of p (kinds_listed ks) ts
+    at [] j = λ n. record { source = p.source; goal = record { env = i n; clause = j n } }
+    at (k ∷ ks) j = λ n. record { source = p.source; goal = record { env = i n; clause = j n } }
+
+evaluated-same : (l m : Listing) (S T : State) (c d x y : Tree) → m ≡ l → T ≡ S → d ≡ c → y ≡ x → evaluated_as m T d (after_first y.children) y.head ≡ evaluated_as l S c (after_first x.children) x.head
+evaluated-same l m S T c d x y i j e f =
+    ap (λ k. evaluated_as k T d (after_first y.children) y.head) i
+    ∙ (ap (λ U. evaluated_as l U d (after_first y.children) y.head) j
+    ∙ (ap (λ t. evaluated_as l S t (after_first y.children) y.head) e
+    ∙ ap (λ (t : Tree). evaluated_as l S c (after_first t.children) t.head) f))
+
+module _ (l m : Listing) (S T : State) (p : Pending) (ks : List VarKind) (x d : Tree) (i : m ≡ l) (k : kinds_listed ks ≡ bound_kinds p.goal.clause.children)
+    (j : T ≡ (instantiated S p.goal.clause).0) (f : x ≡ with_facts p.goal.clause (instantiated S p.goal.clause).1)
+    (e : d ≡ second_if_bound ks p.goal.clause (with_facts p.goal.clause (instantiated S p.goal.clause).1)) where
+  abbrev pub left_goal : Pending
+  left_goal = instance_of p (bound_kinds p.goal.clause.children) (instantiated S p.goal.clause).1
+
+  tried-so : tried l S p ≡ next (evaluated_as m T d (after_first x.children) x.head) (outcome left_goal)
+  tried-so =
+      let q = instance-made p ks (bound_kinds p.goal.clause.children) (instantiated S p.goal.clause).1 p.goal.env d k refl e in
+      tried-by l (instantiated S p.goal.clause).0 left_goal (instantiated S p.goal.clause).1 p.goal.clause.head
+      ∙ ap (λ o. next o (outcome left_goal))
+      (sym (evaluated-same l m (instantiated S p.goal.clause).0 T left_goal.goal.clause d (with_facts p.goal.clause (instantiated S p.goal.clause).1) x i j (ap (λ (r : Pending). r.goal.clause) q) f))
+
+  pub tried-done : (U : State) (b : Bool) → b ≡ true → evaluated_as m T d (after_first x.children) x.head ≡ Some (b, U) → tried l S p ≡ Some ([], U)
+  tried-done U b t h = tried-so ∙ (ap (λ o. next o (outcome left_goal)) h ∙ ap (λ c. outcome left_goal (c, U)) t)
+
+  pub tried-stays : (U : State) (b : Bool) (g : Pending) → b ≡ false → g ≡ left_goal → evaluated_as m T d (after_first x.children) x.head ≡ Some (b, U) → tried l S p ≡ Some (g ∷ [], U)
+  tried-stays U b g t q h = tried-so ∙ (ap (λ o. next o (outcome left_goal)) h ∙ (ap (λ c. outcome left_goal (c, U)) t ∙ ap (λ (r : Pending). Some (r ∷ [], U)) (sym q)))
+
+  pub tried-refused : evaluated_as m T d (after_first x.children) x.head ≡ None → tried l S p ≡ None
+  tried-refused h = tried-so ∙ ap (λ o. next o (outcome left_goal)) h
+
+-- The clause that is left of a goal, and its kinds.
+
+pub kinds-of-variables : (ks : List VarKind) → binder_kinds (rows (map var_kind_tree ks)) ≡ kinds_listed ks
+kinds-of-variables [] = refl
+kinds-of-variables (k ∷ ks) = ap (λ js. kinds_listed (k ∷ []) ++ js) (kinds-of-variables ks)
+
+pub second-holds : {A : Type 0} (P : A → Type 0) (ks : List VarKind) (a b : A) → P a → P b → P (second_if_bound ks a b)
+second-holds P [] a b x y = x
+second-holds P (k ∷ ks) a b x y = y
+
+pub second-tree : (ts : List Tree) (ks : List VarKind) (a b : Clause) (s t : Tree) → clause_tree ts a ≡ s → clause_tree ts b ≡ t → clause_tree ts (second_if_bound ks a b) ≡ second_if_bound ks s t
+second-tree ts [] a b s t x y = x
+second-tree ts (k ∷ ks) a b s t x y = y
+
+-- Goals are goals still, and mean the same.
+
+pub env-kept : (a b : Context) (g : Goal Clause) → Grows a b → IsParamEnv a.trees g.param_env → env_forest b.trees g.param_env ≡ env_forest a.trees g.param_env
+env-kept a b g x i = ap (λ (t : Tree). t.children) (tree-stays a.trees b.trees g.param_env.0 ClausesKind x.kept refl i)
+
+pub goal-kept : (a b : Context) (g : Goal Clause) → Grows a b → IsGoal a.trees g → IsGoal b.trees g
+goal-kept a b g x i = (kind_at-grows a b g.param_env.0 ClausesKind x refl i.0, (clause-kept a b g.predicate x i.1).0)
+
+pub pending-kept : (a b : Context) (f : GoalSource) (g : Goal Clause) → Grows a b → IsGoal a.trees g → pending_of b.trees f g ≡ pending_of a.trees f g
+pending-kept a b f g x i =
+    let e = env-kept a b g x i.0 in
+    let c = (clause-kept a b g.predicate x i.1).1 in
+    λ n. record { source = f; goal = record { env = e n; clause = c n } }
+
+-- Goals with their sources, one after another.
+
+abbrev pub Sourced : Type 0
+Sourced = GoalSource × Goal Clause
+
+pub goals-kept : (a b : Context) (gs : List Sourced) → Grows a b → Each (λ g. IsGoal a.trees g.1) gs → Each (λ g. IsGoal b.trees g.1) gs
+goals-kept a b gs x e = each-imply (λ (g : Sourced). IsGoal a.trees g.1) (λ g. IsGoal b.trees g.1) gs (λ g i. goal-kept a b g.1 x i) e
+
+pub pendings-kept : (a b : Context) (gs : List Sourced) → Grows a b → Each (λ g. IsGoal a.trees g.1) gs → pendings_of b.trees gs ≡ pendings_of a.trees gs
+pendings-kept a b [] x e = refl
+pendings-kept a b (g ∷ gs) x e = ap (λ p. p ∷ pendings_of b.trees gs) (pending-kept a b g.0 g.1 x e.0) ∙ ap (λ ps. pending_of a.trees g.0 g.1 ∷ ps) (pendings-kept a b gs x e.1)
+
+each-two : {A : Type 0} (P : A → Type 0) (xs ys : List A) → Each P xs → Each P ys → Each P (xs ++ ys)
+each-two P [] ys a b = b
+each-two P (x ∷ xs) ys a b = (a.0, each-two P xs ys a.1 b)
+
+before-twice : (xs ys : List Pending) (o : Outcome) → before xs (before ys o) ≡ before (xs ++ ys) o
+before-twice xs ys None = refl
+before-twice xs ys (Some q) = ap (λ (ps : List Pending). Some (ps, q.1)) (sym (append_assoc xs ys q.0))
+
+pub record TriesSoFar (old now : Evaluator) (gs : List Sourced) (i : ℕ) (staying : List Sourced) : Type 0 where
+  pub goes : GoesOn old now
+  pub fit : Each (λ g. IsGoal now.context.trees g.1) staying
+  pub is : tried_all (listing old) (state old) (pendings_of old.context.trees gs) ≡ before (pendings_of now.context.trees staying) (tried_all (listing old) (state now) (pendings_of old.context.trees (drop i gs)))
+
+no-tries-is : (o : Outcome) → o ≡ before [] o
+no-tries-is None = refl
+no-tries-is (Some q) = refl
+
+pub no-tries : (old : Evaluator) (gs xs : List Sourced) → xs ≡ [] → GoesOn old old → TriesSoFar old old gs 0 xs
+no-tries old gs xs e g = subst (TriesSoFar old old gs 0) (sym e) (record { goes = g; fit = tt; is = no-tries-is _ })
+
+left-pendings : (ts : List Tree) (o : Option Sourced) → left_of ts o ≡ pendings_of ts (option_to_list o)
+left-pendings ts None = refl
+left-pendings ts (Some g) = refl
+
+left-each : (ts : List Tree) (o : Option Sourced) → IfSome o (λ g. IsGoal ts g.1) → Each (λ g. IsGoal ts g.1) (option_to_list o)
+left-each ts None i = tt
+left-each ts (Some g) i = (i, tt)
+
+module _ (old now new : Evaluator) (gs : List Sourced) (i : ℕ) (d : Sourced) (staying : List Sourced) (given : IsGiven old.context.trees old.normal old.opaques) (fits : Each (λ g. IsGoal old.context.trees g.1) gs)
+    (a : TriesSoFar old now gs i staying) (l : i < length gs) (fit : IsGoal old.context.trees (slice_index_or gs i d).1) where
+  rest-is : (T : State) → tried_all (listing old) T (pendings_of old.context.trees (drop i gs))
+      ≡ next (tried (listing now) T (pending_of now.context.trees (slice_index_or gs i d).0 (slice_index_or gs i d).1)) (λ q. before q.0 (tried_all (listing old) q.1 (pendings_of old.context.trees (drop (suc i) gs))))
+  rest-is T =
+      ap (λ xs. tried_all (listing old) T (pendings_of old.context.trees xs)) (drop-one gs i d l)
+      ∙ (ap (λ p. next (tried (listing old) T p) (λ q. before q.0 (tried_all (listing old) q.1 (pendings_of old.context.trees (drop (suc i) gs))))) (sym (pending-kept old.context now.context (slice_index_or gs i d).0 (slice_index_or gs i d).1 a.goes.0 fit))
+      ∙ ap (λ m. next (tried m T (pending_of now.context.trees (slice_index_or gs i d).0 (slice_index_or gs i d).1)) (λ q. before q.0 (tried_all (listing old) q.1 (pendings_of old.context.trees (drop (suc i) gs))))) (sym (goes-listing old now a.goes given)))
+
+  pub one-more-try : (o : Option Sourced) (made : List Sourced) → GoesOn now new → IfSome o (λ g. IsGoal new.context.trees g.1)
+      → tried (listing now) (state now) (pending_of now.context.trees (slice_index_or gs i d).0 (slice_index_or gs i d).1) ≡ Some (left_of new.context.trees o, state new)
+      → made ≡ staying ++ option_to_list o → TriesSoFar old new gs (i + 1) made
+  one-more-try o made g s t m = subst (TriesSoFar old new gs (i + 1)) (sym m) (record {
+    goes = goes-trans old now new a.goes g;
+    fit = each-two (λ (x : Sourced). IsGoal new.context.trees x.1) staying (option_to_list o) (goals-kept now.context new.context staying g.0 a.fit) (left-each new.context.trees o s);
+    is =
+        a.is
+        ∙ (ap (before (pendings_of now.context.trees staying)) (rest-is (state now) ∙ ap (λ r. next r (λ q. before q.0 (tried_all (listing old) q.1 (pendings_of old.context.trees (drop (suc i) gs))))) t)
+        ∙ (before-twice (pendings_of now.context.trees staying) (left_of new.context.trees o) (tried_all (listing old) (state new) (pendings_of old.context.trees (drop (suc i) gs)))
+        ∙ (ap (λ ps. before ps (tried_all (listing old) (state new) (pendings_of old.context.trees (drop (suc i) gs)))) joined
+        ∙ ap (λ n. before (pendings_of new.context.trees (staying ++ option_to_list o)) (tried_all (listing old) (state new) (pendings_of old.context.trees (drop n gs)))) next-one)));
+  })
+    where
+      next-one : suc i ≡ i + 1
+      next-one = omega arith
+
+      joined : pendings_of now.context.trees staying ++ left_of new.context.trees o ≡ pendings_of new.context.trees (staying ++ option_to_list o)
+      joined =
+          ap (λ ps. ps ++ left_of new.context.trees o) (sym (pendings-kept now.context new.context staying g.0 a.fit))
+          ∙ (ap (λ ps. pendings_of new.context.trees staying ++ ps) (left-pendings new.context.trees o)
+          ∙ sym (map-append (λ (x : Sourced). pending_of new.context.trees x.0 x.1) staying (option_to_list o)))
+
+  pub try-refused : tried (listing now) (state now) (pending_of now.context.trees (slice_index_or gs i d).0 (slice_index_or gs i d).1) ≡ None → tried_all (listing old) (state old) (pendings_of old.context.trees gs) ≡ None
+  try-refused t = a.is ∙ ap (before (pendings_of now.context.trees staying)) (rest-is (state now) ∙ ap (λ r. next r (λ q. before q.0 (tried_all (listing old) q.1 (pendings_of old.context.trees (drop (suc i) gs))))) t)
+
+pub all-tried : (old now : Evaluator) (gs : List Sourced) (i : ℕ) (staying : List Sourced) → TriesSoFar old now gs i staying → length gs ≤ i
+    → tried_all (listing old) (state old) (pendings_of old.context.trees gs) ≡ Some (pendings_of now.context.trees staying, state now)
+all-tried old now gs i staying a l =
+    a.is
+    ∙ (ap (λ xs. before (pendings_of now.context.trees staying) (tried_all (listing old) (state now) (pendings_of old.context.trees xs))) (drop-beyond gs i l)
+    ∙ ap (λ (ps : List Pending). Some (ps, state now)) (append-nil (pendings_of now.context.trees staying)))
+
+-- Goals become pending, one after another, where none was.
+
+take-one : {A : Type 0} (xs : List A) (i : ℕ) (d : A) → i < length xs → take (suc i) xs ≡ take i xs ++ slice_index_or xs i d ∷ []
+take-one [] i d l = absurd (omega (arith, l))
+take-one (x ∷ xs) zero d l = refl
+take-one (x ∷ xs) (suc i) d l = ap (λ ys. x ∷ ys) (take-one xs i d (omega (arith, l)))
+
+take-more : {A : Type 0} (xs : List A) (i : ℕ) (d : A) → i < length xs → take (i + 1) xs ≡ take i xs ++ slice_index_or xs i d ∷ []
+take-more xs i d l = let next-one : i + 1 ≡ suc i = omega arith in ap (λ n. take n xs) next-one ∙ take-one xs i d l
+
+take-all : {A : Type 0} (xs : List A) (i : ℕ) → length xs ≤ i → take i xs ≡ xs
+take-all [] zero l = refl
+take-all [] (suc i) l = refl
+take-all (x ∷ xs) zero l = absurd (omega (arith, l))
+take-all (x ∷ xs) (suc i) l = ap (λ ys. x ∷ ys) (take-all xs i (omega (arith, l)))
+
+pub record PendingSoFar (old now : Evaluator) (gs : List Sourced) (i : ℕ) : Type 0 where
+  pub goes : GoesOn old now
+  pub context : now.context ≡ old.context
+  pub state_is : state now ≡ with_pending (state old) (pendings_of old.context.trees (take i gs))
+
+pub one-more-pending : (old now new : Evaluator) (gs : List Sourced) (i : ℕ) (d : Sourced) → PendingSoFar old now gs i → i < length gs → GoesOn now new → new.context ≡ now.context
+    → state new ≡ added (state now) (pending_of now.context.trees (slice_index_or gs i d).0 (slice_index_or gs i d).1) → PendingSoFar old new gs (i + 1)
+one-more-pending old now new gs i d a l g c s = record {
+  goes = goes-trans old now new a.goes g;
+  context = c ∙ a.context;
+  state_is =
+      s
+      ∙ (ap (λ (x : Context). added (state now) (pending_of x.trees (slice_index_or gs i d).0 (slice_index_or gs i d).1)) a.context
+      ∙ (ap (λ S. added S (pending_of old.context.trees (slice_index_or gs i d).0 (slice_index_or gs i d).1)) a.state_is
+      ∙ ap (with_pending (state old)) (sym (ap (pendings_of old.context.trees) (take-more gs i d l) ∙ map-append (λ (x : Sourced). pending_of old.context.trees x.0 x.1) (take i gs) (slice_index_or gs i d ∷ [])))));
+}
+
+pub all-pending : (old now : Evaluator) (gs : List Sourced) (i : ℕ) → PendingSoFar old now gs i → length gs ≤ i → state now ≡ with_pending (state old) (pendings_of old.context.trees gs)
+all-pending old now gs i a l = a.state_is ∙ ap (λ xs. with_pending (state old) (pendings_of old.context.trees xs)) (take-all gs i l)
+
+-- None is pending from now on.
+pub holds-aside : (ts : List Tree) (s : Inference) (ks : List ℕ) → IsConsistent ts s ks → IsConsistent ts (begin_pending s (length s.goals)) ks
+holds-aside ts s ks h =
+    holds-after ts s (begin_pending s (length s.goals)) ks h (undo-pending s (length s.goals)) (length-append s.trail (C.Pending s.first_pending ∷ []) ∙ omega arith)
+    (record { values = h.known.values; regions = h.known.regions; goals = h.known.goals; changes = each-append (IsChange ts) s.trail _ h.known.changes tt })
+    (record { pending = omega arith; kinds = kinds-now ts s ks h })
+
+-- All goals, once.
+
+pub passed : (l : Listing) (S T U : State) (ps qs : List Pending) → ps ≡ S.pending → tried_all l S ps ≡ Some (qs, T) → U ≡ with_pending T qs → pass l S ≡ Some U
+passed l S T U ps qs e t u = ap (λ xs. next (tried_all l S xs) (λ q. Some (with_staying q))) (sym e) ∙ (ap (λ o. next o (λ q. Some (with_staying q))) t ∙ ap (λ V. Some V) (sym u))
+
+pub pass-refused : (l : Listing) (S : State) (ps : List Pending) → ps ≡ S.pending → tried_all l S ps ≡ None → pass l S ≡ None
+pass-refused l S ps e t = ap (λ xs. next (tried_all l S xs) (λ q. Some (with_staying q))) (sym e) ∙ ap (λ o. next o (λ q. Some (with_staying q))) t
+
+-- Several times.
+
+pub record PassesSoFar (old now : Evaluator) (most i : ℕ) : Type 0 where
+  pub goes : GoesOn old now
+  pub is : passes (listing old) most (state old) ≡ passes (listing old) (most - i) (state now)
+
+module _ (old now : Evaluator) (most i : ℕ) (given : IsGiven old.context.trees old.normal old.opaques) (a : PassesSoFar old now most i) (l : i < most) where
+  abbrev again : State → Option State
+  again T = if nat_lt (count_unbound T.variables) (count_unbound (state now).variables) then passes (listing old) (most - (i + 1)) T else Some T
+
+  this-pass : passes (listing old) most (state old) ≡ next (pass (listing now) (state now)) again
+  this-pass =
+      let n : most - i ≡ suc (most - (i + 1)) = omega (arith, l) in
+      a.is
+      ∙ (ap (λ k. passes (listing old) k (state now)) n
+      ∙ ap (λ m. next (pass m (state now)) again) (sym (goes-listing old now a.goes given)))
+
+  not-less : (n m : ℕ) → m ≤ n → nat_lt n m ≡ false
+  not-less n m h = grind (arith, h)
+
+  less : (n m : ℕ) → n < m → nat_lt n m ≡ true
+  less n m h = grind (arith, h)
+
+  pub one-more-pass : (new : Evaluator) → GoesOn now new → pass (listing now) (state now) ≡ Some (state new) → count_unbound (state new).variables < count_unbound (state now).variables → PassesSoFar old new most (i + 1)
+  one-more-pass new g p c = record {
+    goes = goes-trans old now new a.goes g;
+    is =
+        this-pass
+        ∙ (ap (λ o. next o again) p
+        ∙ ap (λ b. if b then passes (listing old) (most - (i + 1)) (state new) else Some (state new)) (less (count_unbound (state new).variables) (count_unbound (state now).variables) c));
+  }
+
+  pub last-pass : (T : State) → pass (listing now) (state now) ≡ Some T → count_unbound (state now).variables ≤ count_unbound T.variables → passes (listing old) most (state old) ≡ Some T
+  last-pass T p c =
+      this-pass
+      ∙ (ap (λ o. next o again) p
+      ∙ ap (λ b. if b then passes (listing old) (most - (i + 1)) T else Some T) (not-less (count_unbound T.variables) (count_unbound (state now).variables) c))
+
+  pub passes-refused : pass (listing now) (state now) ≡ None → passes (listing old) most (state old) ≡ None
+  passes-refused p = this-pass ∙ ap (λ o. next o again) p
+
+pub no-passes : (old : Evaluator) (most : ℕ) → GoesOn old old → PassesSoFar old old most 0
+no-passes old most g = record { goes = g; is = (let n : most ≡ most - 0 = omega arith in ap (λ k. passes (listing old) k (state old)) n) }
+
+pub all-passes : (old now : Evaluator) (most i : ℕ) → PassesSoFar old now most i → most ≤ i → passes (listing old) most (state old) ≡ Some (state now)
+all-passes old now most i a l = let n : most - i ≡ 0 = omega (arith, l) in a.is ∙ ap (λ k. passes (listing old) k (state now)) n
+
+pub settled-by : (l : Listing) (S T : State) → passes l 8 S ≡ Some T → settled l S ≡ Some (certainty_of T.pending, T)
+settled-by l S T e = ap (λ (o : Option State). next o (λ U. Some (with_certainty U))) e
+
+pub settled-refused : (l : Listing) (S : State) → passes l 8 S ≡ None → settled l S ≡ None
+settled-refused l S e = ap (λ (o : Option State). next o (λ U. Some (with_certainty U))) e
+
+-- Variables without values.
+
+pub unbound-are : (ts : List Tree) (es : List Entry) → unbound_entries es ≡ count_unbound (map (info_of ts) es)
+unbound-are ts [] = refl
+unbound-are ts (e ∷ es) = ap (λ n. unbound_value e.value + n) (unbound-are ts es) ∙ at e.value
+  where
+    at : (v : Option GenericArg) → unbound_value v + count_unbound (map (info_of ts) es) ≡ unbound_of (option_map (arg_tree ts) v) + count_unbound (map (info_of ts) es)
+    at None = refl
+    at (Some x) = refl
+
+pub record UnboundSoFar (es : List Entry) (i n : ℕ) : Type 0 where
+  pub few : n ≤ i
+  pub is : n + unbound_entries (drop i es) ≡ unbound_entries es
+
+one-unbound : (es : List Entry) (i : ℕ) (d : Entry) → i < length es → unbound_entries (drop i es) ≡ unbound_value (slice_index_or es i d).value + unbound_entries (drop (suc i) es)
+one-unbound es i d l = ap unbound_entries (drop-one es i d l)
+
+pub one-more-unbound : (es : List Entry) (i n m k : ℕ) (d : Entry) → UnboundSoFar es i n → i < length es → unbound_value (slice_index_or es i d).value ≡ k → k ≤ 1 → m ≡ n + k → UnboundSoFar es (i + 1) m
+one-more-unbound es i n m k d a l v f e = record {
+  few = (let p = a.few in omega (arith, p, f, e));
+  is =
+      (let q = a.is in
+      let o = one-unbound es i d l in
+      let s : suc i ≡ i + 1 = omega arith in
+      let t = ap (λ j. unbound_entries (drop j es)) s in
+      omega (arith, q, o, t, v, e));
+}
+
+pub all-unbound : (es : List Entry) (i n : ℕ) → UnboundSoFar es i n → length es ≤ i → n ≡ unbound_entries es
+all-unbound es i n a l = let q = a.is in let z = ap unbound_entries (drop-beyond es i l) in omega (arith, q, z)
+
+-- A projection that is evaluated is its alias answered with its term.
+pub projection-evaluated : (l : Listing) (S : State) (t : Tree) (c : Context) (x : Tree) (p : ProjectionPredicate) → IsProjection c x p
+    → answered l S (kind_tree c.trees (projection_of p)) (ty_tree c.trees p.term) ≡ evaluated_as l S t (after_first x.children) x.head
+projection-evaluated l S t c x p r =
+    sym
+    (ap (evaluated_as l S t (after_first x.children)) r.head
+    ∙ (ap (λ a. answered l S a (term_of (after_first x.children))) (alias-is c x p r) ∙ ap (answered l S (kind_tree c.trees (projection_of p))) (term-is c x p r)))

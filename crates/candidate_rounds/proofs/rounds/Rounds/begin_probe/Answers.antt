@@ -1,0 +1,15 @@
+use Rattle.std.proofs.Common.{◌≡◌, ◌∷◌, [], length, reverse, sym, ◌∙◌, ap, subst}
+use Rattle.std.proofs.lemmas.List.{reverse-append}
+use Rattle.candidate_rounds.specs.Known.{IsEvaluator}
+use Rattle.candidate_rounds.proofs.Holding.{holds-kept}
+use Rattle.candidate_rounds.proofs.ResolvedValues.{resolved-begun}
+use Rattle.candidate_rounds.proofs.rounds.Rounds.begin_probe.Goals as goal
+
+pub invariant_of-self-in-Kept : goal.invariant_of-self-in-Kept
+invariant_of-self-in-Kept c =
+    let s = c.self.inside in
+    let ks = reverse s.probes.items in
+    let marks : reverse c.push.new.self.items ≡ length s.inference.trail ∷ ks =
+    ap reverse c.in_ok-push-in-Kept.ensures.items ∙ (reverse-append s.probes.items (c.changes.result ∷ []) ∙ ap (λ n. n ∷ ks) c.changes.ensures) in
+    subst (λ ms. IsEvaluator s.cx.trees s.inference ms s.normal.items s.opaques.items) (sym marks)
+    (record { consistent = holds-kept s.cx.trees s.inference ks c.self.invariant.consistent; resolved = resolved-begun s.cx.trees s.inference ks c.self.invariant.resolved; given = c.self.invariant.given })

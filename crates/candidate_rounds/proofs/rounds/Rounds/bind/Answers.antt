@@ -1,0 +1,40 @@
+use Rattle.std.proofs.Common.{◌≡◌, true, None, OnOk, reverse, sym, subst}
+use Rattle.candidate_ir.specs.Folds.{arg_tree}
+use Rattle.candidate_ir.specs.Substitutions.{alone}
+use Rattle.candidate_eval.specs.declared.eval.mode.TypingMode.{TypingMode}
+use Rattle.candidate_eval.specs.Soundness.{IsResolved}
+use Rattle.candidate_eval.specs.States.{value_of}
+use Rattle.rounds_judge.specs.Binding.{bound, may_take}
+use Rattle.candidate_rounds.specs.Known.{Evaluator, state, state_of}
+use Rattle.candidate_rounds.proofs.Assigning.{holds-marks}
+use Rattle.rounds_judge.proofs.Ending.{CanGet}
+use Rattle.candidate_rounds.proofs.Knowing.{given-grown}
+use Rattle.candidate_rounds.proofs.ResolvedValues.{can-get, resolved-bound, resolved-further, resolved-grown}
+use Rattle.candidate_rounds.proofs.rounds.Rounds.bind.Goals as goal
+
+pub invariant_of-self : goal.invariant_of-self
+invariant_of-self c =
+    let i = c.self.inside in
+    let us = c.bind_in.new.cx.trees in
+    let ks = reverse i.probes.items in
+    let v = c.args.variable in
+    let x = arg_tree i.cx.trees c.args.value in
+    let may = subst (λ (e : Evaluator). may_take (state e) v (arg_tree e.context.trees c.args.value) ≡ true) (sym c.self.view_is) c.requires.may in
+    let free = subst (λ (e : Evaluator). value_of (state e) v.number ≡ None) (sym c.self.view_is) c.requires.free in
+    let whole = subst (λ (e : Evaluator). IsResolved (state e) (alone (arg_tree e.context.trees c.args.value))) (sym c.self.view_is) c.requires.resolved in
+    let can : (m : TypingMode) → CanGet (state_of i.cx.trees m i.inference) v x = λ m. can-get (state_of i.cx.trees m i.inference) v x may free whole in
+    let consistent = c.self.invariant.consistent in
+    record {
+      consistent = holds-marks us i.inference c.bind_in.new.inference ks consistent.marks c.bind_in.ensures.further c.bind_in.ensures.consistent;
+      resolved =
+          resolved-further us i.inference c.bind_in.new.inference ks consistent.marks c.bind_in.ensures.further
+          (resolved-bound i.cx.trees us i.inference c.bind_in.new.inference v x c.bind_in.result c.self.invariant.resolved.now can c.bind_in.ensures.grows.kept consistent.known c.bind_in.ensures.bound c.bind_in.ensures.undone)
+          (resolved-grown i.cx.trees us i.inference ks c.bind_in.ensures.grows.kept consistent.known c.self.invariant.resolved);
+      given = given-grown i.cx.trees us i.normal.items i.opaques.items c.bind_in.ensures.grows.kept c.self.invariant.given;
+    }
+
+pub returns-clause-bound : goal.returns-clause-bound
+returns-clause-bound c =
+    let i = c.self.inside in
+    subst (λ (e : Evaluator). OnOk c.bind_in.result (state_of c.bind_in.new.cx.trees i.mode c.bind_in.new.inference ≡ bound (state e) c.args.variable (arg_tree e.context.trees c.args.value))) c.self.view_is
+    (c.bind_in.ensures.bound i.mode)

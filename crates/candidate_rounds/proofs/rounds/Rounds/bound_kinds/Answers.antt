@@ -1,0 +1,13 @@
+use Rattle.std.proofs.Common.{◌≡◌, sym, ◌∙◌, ap, subst}
+use Rattle.candidate_ir.specs.Words.{clause_tree}
+use Rattle.candidate_eval.specs.Characterization.{bound_kinds}
+use Rattle.candidate_eval.specs.Evaluators.{kinds_listed}
+use Rattle.candidate_rounds.specs.Known.{Evaluator}
+use Rattle.candidate_rounds.proofs.Evaluating.{kinds-of-variables}
+use Rattle.candidate_rounds.proofs.rounds.Rounds.bound_kinds.Goals as goal
+
+pub returns : goal.returns
+returns c =
+    let items = c.in_ok-binder_kinds.field-0.items in
+    subst (λ (e : Evaluator). kinds_listed items ≡ bound_kinds (clause_tree e.context.trees c.args.clause).children) c.self.view_is
+    (sym (ap bound_kinds c.in_ok-binder_kinds.ensures ∙ kinds-of-variables items))

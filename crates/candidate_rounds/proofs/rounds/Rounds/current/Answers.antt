@@ -1,0 +1,28 @@
+use Rattle.std.proofs.Common.{◌≡◌, reverse, IfOk, ◌∙◌, ap, subst}
+use Rattle.candidate_ir.specs.Folds.{arg_tree}
+use Rattle.rounds_judge.specs.Listed.{current}
+use Rattle.candidate_rounds.specs.Known.{Evaluator, listing, listing_of, state, state_of}
+use Rattle.candidate_rounds.proofs.Knowing.{given-grown, state-stays}
+use Rattle.candidate_rounds.proofs.Holding.{kinds-now}
+use Rattle.candidate_rounds.proofs.Probing.{holds-grown}
+use Rattle.candidate_rounds.proofs.ResolvedValues.{evaluator-grown}
+use Rattle.candidate_rounds.proofs.rounds.Rounds.current.Goals as goal
+
+pub current_in-requires-clause-kinds : goal.current_in-requires-clause-kinds
+current_in-requires-clause-kinds c = kinds-now c.self.inside.cx.trees c.self.inside.inference (reverse c.self.inside.probes.items) c.self.invariant.consistent
+
+pub invariant_of-self : goal.invariant_of-self
+invariant_of-self c =
+    let i = c.self.inside in
+    evaluator-grown i.cx.trees c.current_in.new.cx.trees i.inference (reverse i.probes.items) i.normal.items i.opaques.items c.current_in.ensures.grows.kept c.self.invariant
+
+pub returns-clause-state : goal.returns-clause-state
+returns-clause-state c =
+    let i = c.self.inside in
+    state-stays i.cx.trees c.current_in.new.cx.trees i.mode i.inference c.current_in.ensures.grows.kept c.self.invariant.consistent.known ∙ ap state c.self.view_is
+
+pub returns-clause-tree : goal.returns-clause-tree
+returns-clause-tree c =
+    subst (λ (e : Evaluator). IfOk c.current_in.result (λ x. arg_tree c.current_in.new.cx.trees x ≡ current (listing e) (state e) (arg_tree e.context.trees c.args.arg))) c.self.view_is
+    (subst (λ ps. IfOk c.current_in.result (λ x. arg_tree c.current_in.new.cx.trees x ≡ current (listing_of c.self.inside.cx.trees ps) (state_of c.self.inside.cx.trees c.self.inside.mode c.self.inside.inference) (arg_tree c.self.inside.cx.trees c.args.arg)))
+    c.as_slice.ensures.value (c.current_in.ensures.tree c.self.inside.mode))

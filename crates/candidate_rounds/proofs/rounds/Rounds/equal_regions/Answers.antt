@@ -1,0 +1,30 @@
+use Rattle.std.proofs.Common.{◌∙◌, ap}
+use Rattle.candidate_ir.specs.Words.{region_tree}
+use Rattle.candidate_rounds.specs.Known.{state}
+use Rattle.rounds_judge.specs.Scopes.{placed_tree}
+use Rattle.std.proofs.Common.{reverse}
+use Rattle.candidate_rounds.proofs.Going.{goes-trans, region-kept}
+use Rattle.candidate_rounds.proofs.Offering.{regions-equal}
+use Rattle.candidate_rounds.proofs.rounds.Rounds.equal_regions.Goals as goal
+
+pub placed_region-requires-2 : goal.placed_region-requires-2
+placed_region-requires-2 c = (region-kept c.args.self.now.context c.placed_region.new.self.context c.args.right c.placed_region.ensures.goes.0 c.requires.right).0
+
+pub record_equal_regions-requires-clause-first : goal.record_equal_regions-requires-clause-first
+record_equal_regions-requires-clause-first c = (region-kept c.placed_region.new.self.context c.placed_region-2.new.self.context c.in_ok-left.left c.placed_region-2.ensures.goes.0 c.in_ok-left.ensures.sort).0
+
+pub returns-clause-goes : goal.returns-clause-goes
+returns-clause-goes c =
+    goes-trans c.args.self.now c.placed_region.new.self c.record_equal_regions.new.self c.placed_region.ensures.goes
+    (goes-trans c.placed_region.new.self c.placed_region-2.new.self c.record_equal_regions.new.self c.placed_region-2.ensures.goes c.record_equal_regions.ensures.goes)
+
+pub returns-clause-recorded : goal.returns-clause-recorded
+returns-clause-recorded c =
+    let old = c.args.self.now in
+    let mid = c.placed_region.new.self in
+    let new = c.placed_region-2.new.self in
+    let us = reverse c.args.universes.now in
+    let left = (region-kept mid.context new.context c.in_ok-left.left c.placed_region-2.ensures.goes.0 c.in_ok-left.ensures.sort).1 ∙ c.in_ok-left.ensures.tree in
+    let right = c.in_ok-right.ensures.tree ∙ ap (placed_tree us) (region-kept old.context mid.context c.args.right c.placed_region.ensures.goes.0 c.requires.right).1 in
+    regions-equal c.record_equal_regions.result (state c.record_equal_regions.new.self) (state old) (state mid) (state new) (region_tree new.context.trees c.in_ok-left.left) (region_tree new.context.trees c.in_ok-right.right)
+    (placed_tree us (region_tree old.context.trees c.args.left)) (placed_tree us (region_tree old.context.trees c.args.right)) c.placed_region-2.ensures.state c.placed_region.ensures.state left right c.record_equal_regions.ensures.recorded

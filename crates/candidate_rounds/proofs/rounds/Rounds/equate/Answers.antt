@@ -1,0 +1,22 @@
+use Rattle.std.proofs.Common.{◌≡◌, sym, ◌∙◌, ap, subst}
+use Rattle.candidate_ir.proofs.Asking.{arg-below}
+use Rattle.candidate_rounds.specs.Inferences.{back_to}
+use Rattle.candidate_rounds.specs.Known.{HasResolvedValues}
+use Rattle.candidate_rounds.proofs.Going.{goes-back}
+use Rattle.candidate_rounds.proofs.ResolvedValues.{resolved-with}
+use Rattle.candidate_rounds.proofs.rounds.Rounds.equate.Goals as goal
+
+pub equate_numbers-result-requires-clause-left : goal.equate_numbers-result-requires-clause-left
+equate_numbers-result-requires-clause-left c = rw c.number.ensures (arg-below c.args.self.now.context.trees c.args.a c.requires.left)
+
+pub equate_numbers-result-requires-clause-right : goal.equate_numbers-result-requires-clause-right
+equate_numbers-result-requires-clause-right c = rw c.number-2.ensures (arg-below c.args.self.now.context.trees c.args.b c.requires.right)
+
+pub undo_to-requires-clause-resolved : goal.undo_to-requires-clause-resolved
+undo_to-requires-clause-resolved c =
+    let old = c.args.self.now in
+    let new = c.equate_numbers-result.new.self in
+    let goes = c.equate_numbers-result.ensures.goes in
+    let kept = c.well_kept.ensures in
+    let back : back_to c.changes-changes.result new.inference ≡ old.inference = ap (λ n. back_to n new.inference) c.changes-changes.ensures ∙ goes-back old new goes in
+    subst (HasResolvedValues new.context.trees) (sym back) (resolved-with old.context.trees new.context.trees old.inference goes.0.kept kept.consistent.known kept.resolved.now)

@@ -1,0 +1,15 @@
+use Rattle.std.proofs.Common.{◌≡◌, sym, ◌∙◌, ap, subst}
+use Rattle.candidate_rounds.specs.Inferences.{back_to}
+use Rattle.candidate_rounds.specs.Known.{HasResolvedValues}
+use Rattle.candidate_rounds.proofs.Going.{goes-back}
+use Rattle.candidate_rounds.proofs.ResolvedValues.{resolved-with}
+use Rattle.candidate_rounds.proofs.rounds.Rounds.equate_args.Goals as goal
+
+pub undo_to-requires-clause-resolved : goal.undo_to-requires-clause-resolved
+undo_to-requires-clause-resolved c =
+    let old = c.args.self.now in
+    let new = c.equate_below-result.new.self in
+    let goes = c.equate_below-result.ensures.goes in
+    let kept = c.well_kept.ensures in
+    let back : back_to c.changes-changes.result new.inference ≡ old.inference = ap (λ n. back_to n new.inference) c.changes-changes.ensures ∙ goes-back old new goes in
+    subst (HasResolvedValues new.context.trees) (sym back) (resolved-with old.context.trees new.context.trees old.inference goes.0.kept kept.consistent.known kept.resolved.now)

@@ -1,0 +1,31 @@
+use Rattle.candidate_rounds.proofs.Going.{goes-probes, goes-same, goes-trans}
+use Rattle.candidate_rounds.proofs.Trying.{resolved-again, taken-back}
+use Rattle.candidate_rounds.proofs.rounds.Rounds.evaluate_added_goals_and_make_canonical_response.Goals as goal
+
+pub undo_to-requires-clause-resolved : goal.undo_to-requires-clause-resolved
+undo_to-requires-clause-resolved c =
+    let old = c.args.self.now in
+    let new = c.make_canonical_response.new.self in
+    let kept = c.well_kept.ensures in
+    resolved-again old new c.changes-changes.result c.changes-changes.ensures (goes-trans old c.try_evaluate_added_goals.new.self new c.try_evaluate_added_goals.ensures.goes c.make_canonical_response.ensures.goes)
+    kept.consistent.known kept.resolved.now
+
+pub returns-in-Ok-clause-goes : goal.returns-in-Ok-clause-goes
+returns-in-Ok-clause-goes c =
+    goes-trans c.args.self.now c.try_evaluate_added_goals.new.self c.make_canonical_response.new.self c.try_evaluate_added_goals.ensures.goes c.make_canonical_response.ensures.goes
+
+pub returns-in-Err-clause-probes : goal.returns-in-Err-clause-probes
+returns-in-Err-clause-probes c =
+    let old = c.args.self.now in
+    let new = c.make_canonical_response.new.self in
+    let kept = c.well_kept.ensures.consistent in
+    let goes = goes-trans old c.try_evaluate_added_goals.new.self new c.try_evaluate_added_goals.ensures.goes c.make_canonical_response.ensures.goes in
+    goes-probes old c.undo_to.new.self (taken-back old new c.undo_to.new.self c.changes-changes.result c.changes-changes.ensures goes c.undo_to.ensures).0 kept.known kept.marks
+
+pub returns-in-Err-clause-undone : goal.returns-in-Err-clause-undone
+returns-in-Err-clause-undone c =
+    let old = c.args.self.now in
+    let new = c.make_canonical_response.new.self in
+    let goes = goes-trans old c.try_evaluate_added_goals.new.self new c.try_evaluate_added_goals.ensures.goes c.make_canonical_response.ensures.goes in
+    let t = taken-back old new c.undo_to.new.self c.changes-changes.result c.changes-changes.ensures goes c.undo_to.ensures in
+    goes-same old c.undo_to.new.self t.0 t.1 c.well_kept.ensures.consistent.known

@@ -1,0 +1,32 @@
+use Rattle.std.proofs.Common.{◌≡◌, ◌++◌, ◌∷◌, []}
+use Rattle.candidate_rounds.specs.Frames.{pair_of, pairs_of}
+use Rattle.candidate_rounds.specs.Known.{listing, state}
+use Rattle.candidate_rounds.proofs.Going.{goes-listing}
+use Rattle.rounds_judge.proofs.Stepping.{look-less, look-on, look-refused}
+use Rattle.candidate_rounds.proofs.Visiting.{pairs-cut}
+use Rattle.candidate_rounds.proofs.rounds.Rounds.look.Goals as goal
+
+-- all that is left, from the frame on
+whole : (c : goal.After-visit) → pair_of c.args.self.now.context.trees c.truncate.new.self.items c.args.frame ∷ pairs_of c.args.self.now.context.trees c.truncate.new.self.items c.args.rest.now.frames.items
+    ≡ pairs_of c.args.self.now.context.trees c.args.rest.now.universes.items (c.args.rest.now.frames.items ++ c.args.frame ∷ [])
+whole c = pairs-cut c.args.self.now.context.trees c.args.rest.now.universes.items c.truncate.new.self.items c.args.rest.now.frames.items c.args.frame c.truncate.ensures.items c.requires
+
+pub returns-clause-less : goal.returns-clause-less
+returns-clause-less c =
+    let old = c.args.self.now in
+    let kept = c.well_kept.ensures in
+    look-less (listing old) kept.given.listing (state old) (kept.resolved.now old.mode) c.visit.result _ _ (listing c.visit.new.self) (state c.visit.new.self) _
+    (goes-listing old c.visit.new.self c.visit.ensures.goes kept.given) (whole c) c.visit.ensures.ok
+
+pub returns-clause-ok : goal.returns-clause-ok
+returns-clause-ok c =
+    let old = c.args.self.now in
+    let kept = c.well_kept.ensures in
+    look-on (listing old) kept.given.listing (state old) (kept.resolved.now old.mode) c.visit.result _ _ (listing c.visit.new.self) (state c.visit.new.self) _
+    (goes-listing old c.visit.new.self c.visit.ensures.goes kept.given) (whole c) c.visit.ensures.ok
+
+pub returns-clause-refused : goal.returns-clause-refused
+returns-clause-refused c =
+    let old = c.args.self.now in
+    let kept = c.well_kept.ensures in
+    look-refused (listing old) kept.given.listing (state old) (kept.resolved.now old.mode) c.visit.result _ _ (whole c) c.visit.ensures.refused

@@ -1,0 +1,31 @@
+use Rattle.std.proofs.Common.{◌≡◌, reverse, IfOk, ◌∙◌, ap, subst}
+use Rattle.candidate_eval.specs.ResponseTrees.{response_of}
+use Rattle.candidate_rounds.specs.Known.{Evaluator, state, probes}
+use Rattle.rounds_judge.specs.Responding.{response}
+use Rattle.candidate_rounds.proofs.Knowing.{given-grown, probes-grow, state-stays}
+use Rattle.candidate_rounds.proofs.Holding.{kinds-now}
+use Rattle.candidate_rounds.proofs.Probing.{holds-grown}
+use Rattle.candidate_rounds.proofs.ResolvedValues.{evaluator-grown}
+use Rattle.candidate_rounds.proofs.rounds.Rounds.make_canonical_response.Goals as goal
+
+pub response-requires-clause-kinds : goal.response-requires-clause-kinds
+response-requires-clause-kinds c = kinds-now c.self.inside.cx.trees c.self.inside.inference (reverse c.self.inside.probes.items) c.self.invariant.consistent
+
+pub invariant_of-self : goal.invariant_of-self
+invariant_of-self c =
+    let i = c.self.inside in
+    evaluator-grown i.cx.trees c.response.new.cx.trees i.inference (reverse i.probes.items) i.normal.items i.opaques.items c.response.ensures.grows.kept c.self.invariant
+
+pub returns-clause-probes : goal.returns-clause-probes
+returns-clause-probes c =
+    let i = c.self.inside in
+    probes-grow i.cx.trees c.response.new.cx.trees i.mode i.inference (reverse i.probes.items) c.response.ensures.grows.kept c.self.invariant.consistent.known ∙ ap probes c.self.view_is
+
+pub returns-clause-state : goal.returns-clause-state
+returns-clause-state c =
+    let i = c.self.inside in
+    state-stays i.cx.trees c.response.new.cx.trees i.mode i.inference c.response.ensures.grows.kept c.self.invariant.consistent.known ∙ ap state c.self.view_is
+
+pub returns-clause-is : goal.returns-clause-is
+returns-clause-is c =
+    subst (λ (e : Evaluator). IfOk c.response.result (λ r. response_of c.response.new.cx.trees r ≡ response (state e) c.args.certainty)) c.self.view_is (c.response.ensures.is c.self.inside.mode)

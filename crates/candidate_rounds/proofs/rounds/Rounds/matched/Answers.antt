@@ -1,0 +1,20 @@
+use Rattle.std.proofs.Common.{ap}
+use Rattle.candidate_ir.specs.Nodes.{tree_at}
+use Rattle.candidate_ir.specs.Words.{region_tree}
+use Rattle.candidate_rounds.specs.Frames.{pairs_of}
+use Rattle.candidate_rounds.specs.Known.{state}
+use Rattle.candidate_rounds.proofs.Framing.{pairs-kept}
+use Rattle.candidate_rounds.proofs.Offering.{regions-matched}
+use Rattle.candidate_rounds.proofs.rounds.Rounds.matched.Goals as goal
+
+pub returns-in-Some-clause-ok : goal.returns-in-Some-clause-ok
+returns-in-Some-clause-ok c =
+    let old = c.args.self.now in
+    let new = c.equal_regions.new.self in
+    let ts = old.context.trees in
+    let us = c.args.rest.now.universes.items in
+    let fs = c.args.rest.now.frames.items in
+    let is = c.in-Some.ensures in
+    regions-matched (state old) (state new) us c.as_slice.result.now (tree_at ts c.args.left) (tree_at ts c.args.right) (region_tree ts c.in-Some.left) (region_tree ts c.in-Some.right)
+    (pairs_of ts us fs) (pairs_of new.context.trees us fs) is.4 c.as_slice.ensures.value (ap (tree_at ts) is.0) (ap (tree_at ts) is.1)
+    (pairs-kept ts new.context.trees us fs c.equal_regions.ensures.goes.0.kept c.requires.frames) c.in_ok-equal_regions.ensures.recorded

@@ -1,0 +1,84 @@
+use Rattle.std.proofs.Common.{◌≡◌, reverse, sym, ◌∙◌, ap}
+use Rattle.candidate_ir.specs.Nodes.{tree_at}
+use Rattle.candidate_rounds.specs.Frames.{pairs_of}
+use Rattle.candidate_rounds.specs.Known.{listing, state}
+use Rattle.candidate_rounds.proofs.Framing.{frames-kept, pairs-kept}
+use Rattle.candidate_rounds.proofs.Going.{goes-trans}
+use Rattle.candidate_rounds.proofs.Visiting.{by-answer, left-takes, matched-on, neither-takes, offered-on, ok-from, refused-from, right-takes}
+use Rattle.rounds_judge.specs.Equating.{Left, Refused, matched, met}
+use Rattle.candidate_rounds.proofs.rounds.Rounds.meet.Goals as goal
+
+pub returns-then-branch-clause-ok : goal.returns-then-branch-clause-ok
+returns-then-branch-clause-ok c =
+    let old = c.args.self.now in
+    let new = c.offered.new.self in
+    let ts = old.context.trees in
+    let us = c.args.rest.now.universes.items in
+    let fs = c.args.rest.now.frames.items in
+    let more = pairs_of ts us fs in
+    let x = tree_at ts c.args.left in
+    let y = tree_at ts c.args.right in
+    left-takes (listing old) (state old) (state new) (reverse us) x y more (pairs_of new.context.trees us fs)
+    (by-answer (listing old) (state old) (state new) us c.as_slice.result.now x.head y more _ _ c.as_slice.ensures.value c.if-branch.true (c.in_ok-offered.ensures.taken more))
+    (pairs-kept ts new.context.trees us fs c.offered.ensures.goes.0.kept c.requires.frames)
+
+pub returns-then-branch-2-clause-frames : goal.returns-then-branch-2-clause-frames
+returns-then-branch-2-clause-frames c =
+    let goes = goes-trans c.args.self.now c.offered.new.self c.offered-2.new.self c.offered.ensures.goes c.offered-2.ensures.goes in
+    frames-kept c.args.self.now.context.trees c.offered-2.new.self.context.trees c.args.rest.now.universes.items c.args.rest.now.frames.items goes.0.kept c.requires.frames
+
+pub returns-then-branch-2-clause-ok : goal.returns-then-branch-2-clause-ok
+returns-then-branch-2-clause-ok c =
+    let old = c.args.self.now in
+    let mid = c.offered.new.self in
+    let new = c.offered-2.new.self in
+    let ts = old.context.trees in
+    let us = c.args.rest.now.universes.items in
+    let fs = c.args.rest.now.frames.items in
+    let more = pairs_of ts us fs in
+    let x = tree_at ts c.args.left in
+    let y = tree_at ts c.args.right in
+    let goes = goes-trans old mid new c.offered.ensures.goes c.offered-2.ensures.goes in
+    let same = c.in_ok-offered.ensures.declined c.if-branch.false in
+    right-takes (listing old) (state old) (state new) (reverse us) x y more (pairs_of new.context.trees us fs)
+    (by-answer (listing old) (state old) (state mid) us c.as_slice.result.now x.head y more _ _ c.as_slice.ensures.value c.if-branch.false (c.in_ok-offered.ensures.taken more))
+    (offered-on old mid c.offered.ensures.goes c.well_kept.ensures.given same (reverse us) c.args.right c.args.left more c.requires.right c.requires.left
+    ∙ by-answer (listing mid) (state mid) (state new) us c.as_slice-2.result.now (tree_at mid.context.trees c.args.right).head (tree_at mid.context.trees c.args.left) more _ _ c.as_slice-2.ensures.value c.if-branch-2.true (c.in_ok-offered-2.ensures.taken more))
+    (pairs-kept ts new.context.trees us fs goes.0.kept c.requires.frames)
+
+pub matched-requires-clause-frames : goal.matched-requires-clause-frames
+matched-requires-clause-frames c =
+    let goes = goes-trans c.args.self.now c.offered.new.self c.offered-2.new.self c.offered.ensures.goes c.offered-2.ensures.goes in
+    frames-kept c.args.self.now.context.trees c.offered-2.new.self.context.trees c.args.rest.now.universes.items c.args.rest.now.frames.items goes.0.kept c.requires.frames
+
+-- where neither takes the other, it comes to what their match comes to
+met-is : (c : goal.After-matched) →
+    met (listing c.args.self.now) (state c.args.self.now) (reverse c.args.rest.now.universes.items) (tree_at c.args.self.now.context.trees c.args.left) (tree_at c.args.self.now.context.trees c.args.right)
+    (pairs_of c.args.self.now.context.trees c.args.rest.now.universes.items c.args.rest.now.frames.items)
+    ≡ matched (state c.offered-2.new.self) (reverse c.args.rest.now.universes.items) (tree_at c.offered-2.new.self.context.trees c.args.left) (tree_at c.offered-2.new.self.context.trees c.args.right)
+    (pairs_of c.offered-2.new.self.context.trees c.args.rest.now.universes.items c.args.rest.now.frames.items)
+met-is c =
+    let old = c.args.self.now in
+    let mid = c.offered.new.self in
+    let new = c.offered-2.new.self in
+    let ts = old.context.trees in
+    let us = c.args.rest.now.universes.items in
+    let fs = c.args.rest.now.frames.items in
+    let more = pairs_of ts us fs in
+    let x = tree_at ts c.args.left in
+    let y = tree_at ts c.args.right in
+    let goes = goes-trans old mid new c.offered.ensures.goes c.offered-2.ensures.goes in
+    let first = c.in_ok-offered.ensures.declined c.if-branch.false in
+    let second = c.in_ok-offered-2.ensures.declined c.if-branch-2.false in
+    neither-takes (listing old) (state old) (reverse us) x y more
+    (by-answer (listing old) (state old) (state mid) us c.as_slice.result.now x.head y more _ _ c.as_slice.ensures.value c.if-branch.false (c.in_ok-offered.ensures.taken more))
+    (offered-on old mid c.offered.ensures.goes c.well_kept.ensures.given first (reverse us) c.args.right c.args.left more c.requires.right c.requires.left
+    ∙ by-answer (listing mid) (state mid) (state new) us c.as_slice-2.result.now (tree_at mid.context.trees c.args.right).head (tree_at mid.context.trees c.args.left) more _ _ c.as_slice-2.ensures.value c.if-branch-2.false (c.in_ok-offered-2.ensures.taken more))
+    ∙ matched-on old new goes c.well_kept.ensures.given (second ∙ first) (reverse us) c.args.left c.args.right more (pairs_of new.context.trees us fs) c.requires.left c.requires.right
+    (pairs-kept ts new.context.trees us fs goes.0.kept c.requires.frames)
+
+pub returns-clause-ok : goal.returns-clause-ok
+returns-clause-ok c = ok-from c.matched.result _ _ _ (met-is c) c.matched.ensures.ok
+
+pub returns-clause-refused : goal.returns-clause-refused
+returns-clause-refused c = refused-from c.matched.result _ _ _ (met-is c) c.matched.ensures.refused

@@ -1,0 +1,83 @@
+use Rattle.std.proofs.Common.{◌≡◌, refl, reverse, sym, ◌∙◌, ap}
+use Rattle.candidate_ir.specs.Nodes.{tree_at}
+use Rattle.candidate_ir.specs.Trees.{Tree}
+use Rattle.candidate_ir.proofs.Kept.{number-kept}
+use Rattle.candidate_eval.specs.Evaluators.{root_value}
+use Rattle.rounds_judge.specs.Equating.{met}
+use Rattle.candidate_rounds.specs.Frames.{pairs_of}
+use Rattle.candidate_rounds.specs.Known.{listing, state}
+use Rattle.rounds_judge.specs.Listed.{current}
+use Rattle.rounds_judge.proofs.Ending.{current_rests}
+use Rattle.candidate_rounds.proofs.Framing.{frames-kept, pairs-kept}
+use Rattle.candidate_rounds.proofs.Going.{goes-listing, goes-trans}
+use Rattle.candidate_rounds.proofs.Visiting.{current-on, met-same, number-on, ok-from, refused-from}
+use Rattle.candidate_rounds.proofs.rounds.Rounds.meet_current.Goals as goal
+
+pub meet-requires-clause-left_free : goal.meet-requires-clause-left_free
+meet-requires-clause-left_free c =
+    let old = c.args.self.now in
+    let mid = c.current_number.new.self in
+    let new = c.current_number-2.new.self in
+    let S = state old in
+    let x = tree_at old.context.trees c.args.left in
+    let is = (number-kept mid.context.trees new.context.trees c.in_ok-left.left c.current_number-2.ensures.goes.0.kept c.in_ok-left.ensures.inside).1 ∙ c.in_ok-left.ensures.tree in
+    ap (λ T. root_value T (tree_at new.context.trees c.in_ok-left.left).head) (c.current_number-2.ensures.state ∙ c.current_number.ensures.state)
+    ∙ (ap (λ (t : Tree). root_value S t.head) is ∙ current_rests (listing old) c.well_kept.ensures.given.listing S (c.well_kept.ensures.resolved.now old.mode) x)
+
+pub meet-requires-clause-right_free : goal.meet-requires-clause-right_free
+meet-requires-clause-right_free c =
+    let old = c.args.self.now in
+    let mid = c.current_number.new.self in
+    let new = c.current_number-2.new.self in
+    let S = state old in
+    let y = tree_at old.context.trees c.args.right in
+    let is =
+    c.in_ok-right.ensures.tree
+    ∙ current-on old mid c.current_number.ensures.goes c.well_kept.ensures.given c.current_number.ensures.state (tree_at mid.context.trees c.args.right) y
+    (number-on old mid c.current_number.ensures.goes c.well_kept.ensures.given c.current_number.ensures.state c.args.right c.requires.right) in
+    ap (λ T. root_value T (tree_at new.context.trees c.in_ok-right.right).head) (c.current_number-2.ensures.state ∙ c.current_number.ensures.state)
+    ∙ (ap (λ (t : Tree). root_value S t.head) is ∙ current_rests (listing old) c.well_kept.ensures.given.listing S (c.well_kept.ensures.resolved.now old.mode) y)
+
+pub meet-requires-clause-frames : goal.meet-requires-clause-frames
+meet-requires-clause-frames c =
+    let goes = goes-trans c.args.self.now c.current_number.new.self c.current_number-2.new.self c.current_number.ensures.goes c.current_number-2.ensures.goes in
+    frames-kept c.args.self.now.context.trees c.current_number-2.new.self.context.trees c.args.rest.now.universes.items c.args.rest.now.frames.items goes.0.kept c.requires.frames
+
+pub returns-clause-goes : goal.returns-clause-goes
+returns-clause-goes c =
+    goes-trans c.args.self.now c.current_number.new.self c.meet.new.self c.current_number.ensures.goes
+    (goes-trans c.current_number.new.self c.current_number-2.new.self c.meet.new.self c.current_number-2.ensures.goes c.meet.ensures.goes)
+
+-- what both are then meets
+met-is : (c : goal.After-meet) →
+    met (listing c.args.self.now) (state c.args.self.now) (reverse c.args.rest.now.universes.items)
+    (current (listing c.args.self.now) (state c.args.self.now) (tree_at c.args.self.now.context.trees c.args.left)) (current (listing c.args.self.now) (state c.args.self.now) (tree_at c.args.self.now.context.trees c.args.right))
+    (pairs_of c.args.self.now.context.trees c.args.rest.now.universes.items c.args.rest.now.frames.items)
+    ≡ met (listing c.current_number-2.new.self) (state c.current_number-2.new.self) (reverse c.args.rest.now.universes.items)
+    (tree_at c.current_number-2.new.self.context.trees c.in_ok-left.left) (tree_at c.current_number-2.new.self.context.trees c.in_ok-right.right)
+    (pairs_of c.current_number-2.new.self.context.trees c.args.rest.now.universes.items c.args.rest.now.frames.items)
+met-is c =
+    let old = c.args.self.now in
+    let mid = c.current_number.new.self in
+    let new = c.current_number-2.new.self in
+    let ts = old.context.trees in
+    let us = c.args.rest.now.universes.items in
+    let fs = c.args.rest.now.frames.items in
+    let goes = goes-trans old mid new c.current_number.ensures.goes c.current_number-2.ensures.goes in
+    let given = c.well_kept.ensures.given in
+    met-same (listing old) (listing new) (state old) (state new) (reverse us) (reverse us)
+    (current (listing old) (state old) (tree_at ts c.args.left)) (current (listing old) (state old) (tree_at ts c.args.right))
+    (tree_at new.context.trees c.in_ok-left.left) (tree_at new.context.trees c.in_ok-right.right)
+    (pairs_of ts us fs) (pairs_of new.context.trees us fs)
+    (goes-listing old new goes given) (c.current_number-2.ensures.state ∙ c.current_number.ensures.state) refl
+    ((number-kept mid.context.trees new.context.trees c.in_ok-left.left c.current_number-2.ensures.goes.0.kept c.in_ok-left.ensures.inside).1 ∙ c.in_ok-left.ensures.tree)
+    (c.in_ok-right.ensures.tree
+    ∙ current-on old mid c.current_number.ensures.goes given c.current_number.ensures.state (tree_at mid.context.trees c.args.right) (tree_at ts c.args.right)
+    (number-on old mid c.current_number.ensures.goes given c.current_number.ensures.state c.args.right c.requires.right))
+    (pairs-kept ts new.context.trees us fs goes.0.kept c.requires.frames)
+
+pub returns-clause-ok : goal.returns-clause-ok
+returns-clause-ok c = ok-from c.meet.result _ _ _ (met-is c) c.meet.ensures.ok
+
+pub returns-clause-refused : goal.returns-clause-refused
+returns-clause-refused c = refused-from c.meet.result _ _ _ (met-is c) c.meet.ensures.refused

@@ -1,0 +1,48 @@
+use Rattle.std.proofs.Common.{OnOk, reverse, sym, ◌∙◌, subst, ◌≡◌}
+use Rattle.candidate_ir.specs.Words.{region_tree}
+use Rattle.rounds_judge.specs.Equating.{with_equal_regions}
+use Rattle.candidate_rounds.specs.Known.{Evaluator, GoesOn, state, state_of}
+use Rattle.candidate_rounds.proofs.Going.{goes-both}
+use Rattle.candidate_rounds.proofs.Knowing.{given-grown}
+use Rattle.candidate_rounds.proofs.Probing.{holds-grown}
+use Rattle.candidate_rounds.proofs.Recording.{further-both, holds-both, equal-recorded}
+use Rattle.candidate_rounds.proofs.ResolvedValues.{evaluator-changed, evaluator-grown, resolved-region}
+use Rattle.candidate_rounds.proofs.Going.{further-region, further-trans}
+use Rattle.candidate_rounds.proofs.Recording.{both, holds-region}
+use Rattle.candidate_rounds.specs.Inferences.{record_region}
+use Rattle.candidate_rounds.proofs.rounds.Rounds.record_equal_regions.Goals as goal
+
+pub invariant_of-self : goal.invariant_of-self
+invariant_of-self c =
+    let i = c.self.inside in
+    evaluator-grown i.cx.trees c.equal_regions.new.cx.trees i.inference (reverse i.probes.items) i.normal.items i.opaques.items c.equal_regions.ensures.grows.kept c.self.invariant
+
+pub invariant_of-self-2 : goal.invariant_of-self-2
+invariant_of-self-2 c =
+    let i = c.self.inside in
+    let us = c.equal_regions.new.cx.trees in
+    let ks = reverse i.probes.items in
+    let one = c.in_ok-one.one in
+    let other = c.in_ok-one.other in
+    let grown = evaluator-grown i.cx.trees us i.inference ks i.normal.items i.opaques.items c.equal_regions.ensures.grows.kept c.self.invariant in
+    evaluator-changed us i.inference c.record_both.new.inference (both i.inference one other) ks i.normal.items i.opaques.items c.record_both.result grown
+    (further-trans i.inference (record_region i.inference one) (both i.inference one other) (further-region i.inference one) (further-region (record_region i.inference one) other))
+    (holds-region us (record_region i.inference one) ks other (holds-region us i.inference ks one grown.consistent c.in_ok-one.ensures.one.0) c.in_ok-one.ensures.other.0)
+    (resolved-region us (record_region i.inference one) other (resolved-region us i.inference one grown.resolved.now))
+    c.record_both.ensures.recorded c.record_both.ensures.unchanged
+
+pub returns-clause-goes : goal.returns-clause-goes
+returns-clause-goes c =
+    let i = c.self.inside in
+    let v : Evaluator = record { context = i.cx; mode = i.mode; normal = i.normal.items; opaques = i.opaques.items; inference = i.inference; marks = reverse i.probes.items } in
+    subst (λ (e : Evaluator). GoesOn e (record v { context = c.equal_regions.new.cx; inference = c.record_both.new.inference })) c.self.view_is
+    (goes-both v c.equal_regions.new.cx c.record_both.new.inference c.equal_regions.ensures.grows
+    (further-both i.inference c.record_both.new.inference c.in_ok-one.one c.in_ok-one.other c.record_both.result c.record_both.ensures.recorded c.record_both.ensures.unchanged))
+
+pub returns-clause-recorded : goal.returns-clause-recorded
+returns-clause-recorded c =
+    let i = c.self.inside in
+    let us = c.equal_regions.new.cx.trees in
+    subst (λ (e : Evaluator). OnOk c.record_both.result (state_of us i.mode c.record_both.new.inference ≡ with_equal_regions (state e) (region_tree e.context.trees c.args.a) (region_tree e.context.trees c.args.b))) c.self.view_is
+    (equal-recorded i.cx.trees us i.mode i.inference c.record_both.new.inference c.in_ok-one.one c.in_ok-one.other (region_tree i.cx.trees c.args.a) (region_tree i.cx.trees c.args.b) c.record_both.result
+    c.equal_regions.ensures.grows.kept c.self.invariant.consistent.known (sym c.is_same_region.ensures ∙ c.if-is_same_region.false) c.in_ok-one.ensures.one.1 c.in_ok-one.ensures.other.1 c.record_both.ensures.recorded)

@@ -1,0 +1,38 @@
+use Rattle.std.proofs.Common.{sym, ◌∙◌}
+use Rattle.std.proofs.lemmas.Result.{err_from_is_err_and}
+use Rattle.candidate_ir.specs.Words.{ty_tree}
+use Rattle.candidate_ir.proofs.Kept.{ty-kept}
+use Rattle.candidate_rounds.specs.Known.{listing, state}
+use Rattle.candidate_rounds.proofs.Evaluating.{listed-equal, listed-refused, not-listed}
+use Rattle.candidate_rounds.proofs.Going.{goes-listing}
+use Rattle.candidate_rounds.proofs.rounds.Rounds.try_alias.Goals as goal
+
+pub returns-in_default-clause-ok : goal.returns-in_default-clause-ok
+returns-in_default-clause-ok c =
+    let old = c.args.self.now in
+    let mid = c.resolve_ty_if_possible.new.self in
+    not-listed (listing old) (listing mid) (state old) (state mid) (ty_tree old.context.trees c.args.alias) (ty_tree old.context.trees c.args.term) (ty_tree mid.context.trees c.in_ok-resolved.resolved)
+    (goes-listing old mid c.resolve_ty_if_possible.ensures.goes c.well_kept.ensures.given) c.resolve_ty_if_possible.ensures.state c.in_ok-resolved.ensures.tree c.in_default.ensures
+
+pub equate-requires-clause-right : goal.equate-requires-clause-right
+equate-requires-clause-right c = (ty-kept c.args.self.now.context c.resolve_ty_if_possible.new.self.context c.args.term c.resolve_ty_if_possible.ensures.goes.0 c.requires.term).0
+
+pub returns-in_err-equate-clause-refused : goal.returns-in_err-equate-clause-refused
+returns-in_err-equate-clause-refused c =
+    let old = c.args.self.now in
+    let mid = c.resolve_ty_if_possible.new.self in
+    let p = err_from_is_err_and c.from_residual-in_err-equate.result c.from_residual-in_err-equate.ensures.1 in
+    rw p.1
+    (λ e. listed-refused (listing old) (listing mid) (state old) (state mid) (ty_tree old.context.trees c.args.alias) (ty_tree old.context.trees c.args.term) (ty_tree mid.context.trees c.in_ok-resolved.resolved)
+    (ty_tree mid.context.trees c.in-Some.listed) (ty_tree mid.context.trees c.args.term)
+    (goes-listing old mid c.resolve_ty_if_possible.ensures.goes c.well_kept.ensures.given) c.resolve_ty_if_possible.ensures.state c.in_ok-resolved.ensures.tree
+    (ty-kept old.context mid.context c.args.term c.resolve_ty_if_possible.ensures.goes.0 c.requires.term).1 c.in-Some.ensures.1 (c.in_err-equate.ensures.refused (sym p.2 ∙ e)))
+
+pub returns-clause-ok : goal.returns-clause-ok
+returns-clause-ok c =
+    let old = c.args.self.now in
+    let mid = c.resolve_ty_if_possible.new.self in
+    listed-equal (listing old) (listing mid) (state old) (state mid) (state c.equate.new.self) (ty_tree old.context.trees c.args.alias) (ty_tree old.context.trees c.args.term) (ty_tree mid.context.trees c.in_ok-resolved.resolved)
+    (ty_tree mid.context.trees c.in-Some.listed) (ty_tree mid.context.trees c.args.term)
+    (goes-listing old mid c.resolve_ty_if_possible.ensures.goes c.well_kept.ensures.given) c.resolve_ty_if_possible.ensures.state c.in_ok-resolved.ensures.tree
+    (ty-kept old.context mid.context c.args.term c.resolve_ty_if_possible.ensures.goes.0 c.requires.term).1 c.in-Some.ensures.1 c.in_ok-equate.ensures.ok

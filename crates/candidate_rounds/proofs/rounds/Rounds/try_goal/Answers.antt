@@ -1,0 +1,93 @@
+use Rattle.std.proofs.Common.{refl, sym, ◌∙◌, ap, subst}
+use Rattle.std.proofs.lemmas.Result.{err_from_is_err_and}
+use Rattle.candidate_ir.specs.Trees.{ClausesKind}
+use Rattle.candidate_ir.specs.Words.{IsClause, clause_tree, env_forest}
+use Rattle.candidate_ir.proofs.Joining.{clause-kept}
+use Rattle.candidate_ir.proofs.Kept.{grows-trans}
+use Rattle.candidate_ir.proofs.Made.{kind_at-grows}
+use Rattle.candidate_eval.specs.Characterization.{bound_kinds}
+use Rattle.candidate_eval.specs.Evaluators.{kinds_listed, pending_of}
+use Rattle.candidate_rounds.specs.Known.{listing, state}
+use Rattle.rounds_judge.specs.Settling.{instantiated}
+use Rattle.candidate_rounds.proofs.Evaluating.{env-kept, instance-made, second-holds, second-tree, tried-done, tried-refused, tried-stays}
+use Rattle.candidate_rounds.proofs.Going.{goes-listing}
+use Rattle.candidate_rounds.proofs.rounds.Rounds.try_goal.Goals as goal
+
+pub try_instance-requires-clause-clause : goal.try_instance-requires-clause-clause
+try_instance-requires-clause-clause c =
+    let old = c.args.self.now in
+    let mid = c.instantiate.new.self in
+    let g = c.instantiate.ensures.goes in
+    let left = subst (IsClause mid.context.trees) (sym c.left_clause-predicate.ensures)
+    (second-holds (IsClause mid.context.trees) c.as_slice-2.result.now c.args.goal.predicate c.in_ok-instance.instance (clause-kept old.context mid.context c.args.goal.predicate g.0 c.requires.1).0 c.in_ok-instance.ensures.sort) in
+    left
+
+pub returns-in_err-try_instance-clause-refused : goal.returns-in_err-try_instance-clause-refused
+returns-in_err-try_instance-clause-refused c =
+    let old = c.args.self.now in
+    let mid = c.instantiate.new.self in
+    let p = pending_of old.context.trees c.args.source c.args.goal in
+    let ks = c.as_slice-2.result.now in
+    let k = ap kinds_listed c.as_slice-2.ensures.value ∙ c.in_ok-kinds.ensures in
+    let g = c.instantiate.ensures.goes in
+    let was = clause-kept old.context mid.context c.args.goal.predicate g.0 c.requires.1 in
+    let e = ap (clause_tree mid.context.trees) c.left_clause-predicate.ensures
+    ∙ second-tree mid.context.trees ks c.args.goal.predicate c.in_ok-instance.instance _ _ was.1 c.in_ok-instance.ensures.tree in
+    let i = goes-listing old mid g c.well_kept.ensures.given in
+    let r = err_from_is_err_and c.from_residual-in_err-try_instance.result c.from_residual-in_err-try_instance.ensures.1 in
+    rw r.1
+    (λ n. tried-refused (listing old) (listing mid) (state old) (state mid) p ks (clause_tree mid.context.trees c.in_ok-instance.instance) (clause_tree mid.context.trees c.left_clause-predicate.result) i k c.in_ok-instance.ensures.state
+    c.in_ok-instance.ensures.tree e
+    (c.in_err-try_instance.ensures.refused (sym r.2 ∙ n)))
+
+pub returns-then-branch-clause-ok : goal.returns-then-branch-clause-ok
+returns-then-branch-clause-ok c =
+    let old = c.args.self.now in
+    let mid = c.instantiate.new.self in
+    let p = pending_of old.context.trees c.args.source c.args.goal in
+    let ks = c.as_slice-2.result.now in
+    let k = ap kinds_listed c.as_slice-2.ensures.value ∙ c.in_ok-kinds.ensures in
+    let g = c.instantiate.ensures.goes in
+    let was = clause-kept old.context mid.context c.args.goal.predicate g.0 c.requires.1 in
+    let e = ap (clause_tree mid.context.trees) c.left_clause-predicate.ensures
+    ∙ second-tree mid.context.trees ks c.args.goal.predicate c.in_ok-instance.instance _ _ was.1 c.in_ok-instance.ensures.tree in
+    let i = goes-listing old mid g c.well_kept.ensures.given in
+    tried-done (listing old) (listing mid) (state old) (state mid) p ks (clause_tree mid.context.trees c.in_ok-instance.instance) (clause_tree mid.context.trees c.left_clause-predicate.result) i k c.in_ok-instance.ensures.state
+    c.in_ok-instance.ensures.tree e
+    (state c.try_instance.new.self) c.in_ok-try_instance.field-0 c.if-branch.true c.in_ok-try_instance.ensures.ok
+
+pub returns-clause-sort : goal.returns-clause-sort
+returns-clause-sort c =
+    let old = c.args.self.now in
+    let mid = c.instantiate.new.self in
+    let new = c.try_instance.new.self in
+    let g = c.instantiate.ensures.goes in
+    let left = subst (IsClause mid.context.trees) (sym c.left_clause-predicate.ensures)
+    (second-holds (IsClause mid.context.trees) c.as_slice-2.result.now c.args.goal.predicate c.in_ok-instance.instance (clause-kept old.context mid.context c.args.goal.predicate g.0 c.requires.1).0 c.in_ok-instance.ensures.sort) in (
+      kind_at-grows old.context new.context c.args.goal.param_env.0 ClausesKind (grows-trans old.context mid.context new.context g.0 c.try_instance.ensures.goes.0) refl c.requires.0,
+      (clause-kept mid.context new.context c.left_clause-predicate.result c.try_instance.ensures.goes.0 left).0,
+    )
+
+pub returns-clause-ok : goal.returns-clause-ok
+returns-clause-ok c =
+    let old = c.args.self.now in
+    let mid = c.instantiate.new.self in
+    let p = pending_of old.context.trees c.args.source c.args.goal in
+    let ks = c.as_slice-2.result.now in
+    let k = ap kinds_listed c.as_slice-2.ensures.value ∙ c.in_ok-kinds.ensures in
+    let g = c.instantiate.ensures.goes in
+    let was = clause-kept old.context mid.context c.args.goal.predicate g.0 c.requires.1 in
+    let e = ap (clause_tree mid.context.trees) c.left_clause-predicate.ensures
+    ∙ second-tree mid.context.trees ks c.args.goal.predicate c.in_ok-instance.instance _ _ was.1 c.in_ok-instance.ensures.tree in
+    let i = goes-listing old mid g c.well_kept.ensures.given in
+    let left = subst (IsClause mid.context.trees) (sym c.left_clause-predicate.ensures)
+    (second-holds (IsClause mid.context.trees) c.as_slice-2.result.now c.args.goal.predicate c.in_ok-instance.instance (clause-kept old.context mid.context c.args.goal.predicate g.0 c.requires.1).0 c.in_ok-instance.ensures.sort) in
+    let new = c.try_instance.new.self in
+    let grown = grows-trans old.context mid.context new.context g.0 c.try_instance.ensures.goes.0 in
+    tried-stays (listing old) (listing mid) (state old) (state mid) p ks (clause_tree mid.context.trees c.in_ok-instance.instance) (clause_tree mid.context.trees c.left_clause-predicate.result) i k c.in_ok-instance.ensures.state
+    c.in_ok-instance.ensures.tree e
+    (state new) c.in_ok-try_instance.field-0 (pending_of new.context.trees c.args.source (record { param_env = c.args.goal.param_env; predicate = c.left_clause-predicate.result })) c.if-branch.false
+    (instance-made p ks (bound_kinds p.goal.clause.children) (instantiated (state old) p.goal.clause).1 (env_forest new.context.trees c.args.goal.param_env) (clause_tree new.context.trees c.left_clause-predicate.result) k
+    (env-kept old.context new.context c.args.goal grown c.requires.0)
+    ((clause-kept mid.context new.context c.left_clause-predicate.result c.try_instance.ensures.goes.0 left).1 ∙ e))
+    c.in_ok-try_instance.ensures.ok

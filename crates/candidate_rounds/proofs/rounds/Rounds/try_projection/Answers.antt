@@ -1,0 +1,35 @@
+use Rattle.std.proofs.Common.{◌≡◌, IfErr, IfOk, None, Option, Some, Bool, ◌∙◌, ap, subst}
+use Rattle.candidate_eval.specs.declared.eval.refusal.NoSolutionOrStop.TheVariants.{NoSolution}
+use Rattle.candidate_eval.specs.States.{State}
+use Rattle.candidate_ir.specs.declared.ir.kinds.AliasTy.{AliasTy}
+use Rattle.candidate_ir.specs.declared.ir.kinds.TyKind.TheVariants as K
+use Rattle.candidate_ir.specs.Words.{kind_tree, ty_tree}
+use Rattle.candidate_ir.proofs.Kept.{ty-kept}
+use Rattle.candidate_rounds.specs.Known.{listing, state}
+use Rattle.candidate_rounds.specs.Trying.{projection_of}
+use Rattle.candidate_rounds.proofs.Evaluating.{answered-same}
+use Rattle.candidate_rounds.proofs.Going.{goes-listing}
+use Rattle.candidate_rounds.proofs.rounds.Rounds.try_projection.Goals as goal
+
+pub try_alias-requires-clause-term : goal.try_alias-requires-clause-term
+try_alias-requires-clause-term c = (ty-kept c.args.self.now.context c.make_ty.new.self.context c.args.projection.term c.make_ty.ensures.goes.0 c.requires.term).0
+
+pub returns-clause-ok : goal.returns-clause-ok
+returns-clause-ok c =
+    let old = c.args.self.now in
+    let mid = c.make_ty.new.self in
+    subst (λ (o : Option (Bool × State)). IfOk c.try_alias.result (λ b. o ≡ Some (b, state c.try_alias.new.self)))
+    (answered-same (listing old) (listing mid) (state old) (state mid) (kind_tree old.context.trees (projection_of c.args.projection)) (ty_tree mid.context.trees c.in_ok-alias.alias)
+    (ty_tree old.context.trees c.args.projection.term) (ty_tree mid.context.trees c.args.projection.term)
+    (goes-listing old mid c.make_ty.ensures.goes c.well_kept.ensures.given) c.make_ty.ensures.state (c.in_ok-alias.ensures.tree ∙ ap (λ (a : AliasTy). kind_tree old.context.trees (K.Alias a)) c.projection.ensures) (ty-kept old.context mid.context c.args.projection.term c.make_ty.ensures.goes.0 c.requires.term).1)
+    c.try_alias.ensures.ok
+
+pub returns-clause-refused : goal.returns-clause-refused
+returns-clause-refused c =
+    let old = c.args.self.now in
+    let mid = c.make_ty.new.self in
+    subst (λ (o : Option (Bool × State)). IfErr c.try_alias.result (λ e. e ≡ NoSolution → o ≡ None))
+    (answered-same (listing old) (listing mid) (state old) (state mid) (kind_tree old.context.trees (projection_of c.args.projection)) (ty_tree mid.context.trees c.in_ok-alias.alias)
+    (ty_tree old.context.trees c.args.projection.term) (ty_tree mid.context.trees c.args.projection.term)
+    (goes-listing old mid c.make_ty.ensures.goes c.well_kept.ensures.given) c.make_ty.ensures.state (c.in_ok-alias.ensures.tree ∙ ap (λ (a : AliasTy). kind_tree old.context.trees (K.Alias a)) c.projection.ensures) (ty-kept old.context mid.context c.args.projection.term c.make_ty.ensures.goes.0 c.requires.term).1)
+    c.try_alias.ensures.refused

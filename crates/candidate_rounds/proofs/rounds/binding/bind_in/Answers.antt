@@ -1,0 +1,22 @@
+use Rattle.std.proofs.Common.{◌≡◌, [], sym, ◌∙◌, ap, subst}
+use Rattle.candidate_ir.specs.Folds.{arg_tree}
+use Rattle.candidate_rounds.specs.Inferences.{back_to}
+use Rattle.candidate_rounds.specs.Known.{IsConsistent}
+use Rattle.candidate_rounds.proofs.Going.{back-to-before}
+use Rattle.candidate_rounds.proofs.Probing.{holds-grown}
+use Rattle.candidate_rounds.proofs.Renewing.{all-renewed}
+use Rattle.candidate_rounds.proofs.rounds.binding.bind_in.Goals as goal
+
+pub returns-in-Err-clause-consistent : goal.returns-in-Err-clause-consistent
+returns-in-Err-clause-consistent c =
+    let s = c.args.inference.now in
+    let t = c.renew_all.new.inference in
+    let us = c.renew_all.new.cx.trees in
+    let back : c.undo_to.new.self ≡ s = c.undo_to.ensures ∙ (ap (λ n. back_to n t) c.changes-changes.ensures ∙ back-to-before s t c.renew_all.ensures.further) in
+    subst (λ x. IsConsistent us x []) (sym back) (holds-grown c.args.cx.now.trees us s [] c.renew_all.ensures.grows.kept c.requires.consistent)
+
+pub returns-clause-bound : goal.returns-clause-bound
+returns-clause-bound c = λ m.
+    let s = c.args.inference.now in
+    c.in_default-renew_all.ensures.renewed m
+    ∙ all-renewed c.args.cx.now.trees m s c.args.variable (arg_tree c.args.cx.now.trees c.args.value) c.in-Some.entry (sym c.entry.ensures ∙ c.in-Some.is)

@@ -1,0 +1,20 @@
+use Rattle.candidate_ir.specs.Context.{world}
+use Rattle.candidate_rounds.proofs.Going.{region-kept}
+use Rattle.candidate_rounds.proofs.Recording.{outlives-fits, outlives-takes, outlives-made}
+use Rattle.candidate_rounds.proofs.rounds.binding.outlives.Goals as goal
+
+pub mk_clause-requires-clause-fits : goal.mk_clause-requires-clause-fits
+mk_clause-requires-clause-fits c =
+    outlives-fits c.mk_vars.new.self.trees c.in_ok-vars.vars c.args.a c.args.b c.in_ok-vars.ensures.sort
+    (region-kept c.args.cx.now c.mk_vars.new.self c.args.a c.mk_vars.ensures.kept c.requires.first).0
+    (region-kept c.args.cx.now c.mk_vars.new.self c.args.b c.mk_vars.ensures.kept c.requires.second).0
+
+pub mk_clause-requires-clause-takes : goal.mk_clause-requires-clause-takes
+mk_clause-requires-clause-takes c =
+    outlives-takes (world c.mk_vars.new.self) c.mk_vars.new.self.trees c.in_ok-vars.vars c.args.a c.args.b c.in_ok-vars.ensures.sort
+    (region-kept c.args.cx.now c.mk_vars.new.self c.args.a c.mk_vars.ensures.kept c.requires.first).0
+    (region-kept c.args.cx.now c.mk_vars.new.self c.args.b c.mk_vars.ensures.kept c.requires.second).0
+
+pub returns-clause-tree : goal.returns-clause-tree
+returns-clause-tree c =
+    outlives-made c.args.cx.now c.mk_vars.new.self c.mk_clause.new.self.trees c.in_ok-vars.vars c.args.a c.args.b c.mk_clause.result c.mk_vars.ensures.kept c.in_ok-vars.ensures.sort c.requires.first c.requires.second c.in_ok-vars.ensures.tree c.mk_clause.ensures.tree

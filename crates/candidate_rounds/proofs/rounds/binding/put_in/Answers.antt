@@ -1,0 +1,23 @@
+use Rattle.std.proofs.Common.{◌≡◌, refl, rules}
+use Rattle.candidate_ir.specs.Folds.{arg_tree}
+use Rattle.candidate_ir.proofs.FoldLaws.{reached-keeps, head-function}
+use Rattle.rounds_judge.specs.Binding.{single}
+use Rattle.candidate_rounds.proofs.Assigning.{put-keeps, put-answers, put-unasked}
+use Rattle.candidate_rounds.proofs.rounds.binding.put_in.Goals as goal
+
+pub fold_arg-requires-clause-keeps : goal.fold_arg-requires-clause-keeps
+fold_arg-requires-clause-keeps c = record {
+  at = λ s x d r e l grown i n b y.
+      let held = reached-keeps _ _ _ (λ z. (z.0 ≡ c.args.variable) × (z.1 ≡ c.args.value)) (λ s x d r e n p. let k = n.called in let q = n.lends in let v = n.leaves in search rules) _ s l (refl, refl) in
+      let k = y.called in let q = y.lends in let v = y.leaves in
+      put-keeps c.args.cx.now s.1 e.1 c.args.variable c.args.value x r grown c.requires.value c.requires.fits i (search rules) (search rules);
+}
+
+pub returns-clause-tree : goal.returns-clause-tree
+returns-clause-tree c =
+    c.fold_arg.ensures.answer (λ d t. single c.args.variable (arg_tree c.args.cx.now.trees c.args.value) t.head)
+    (head-function _ _ _ (λ d h. single c.args.variable (arg_tree c.args.cx.now.trees c.args.value) h) (λ z. (z.0 ≡ c.args.variable) × (z.1 ≡ c.args.value)) _ (refl, refl)
+    (λ s x d r e n p. let k = n.called in let q = n.lends in let v = n.leaves in search rules)
+    (λ s x d r e y i grown p. let k = y.called in let q = y.lends in let v = y.leaves in
+    put-answers c.args.cx.now s.1 e.1 c.args.variable c.args.value x r grown c.requires.value (search rules) (search rules))
+    (λ d h e. put-unasked c.args.variable (arg_tree c.args.cx.now.trees c.args.value) h e))

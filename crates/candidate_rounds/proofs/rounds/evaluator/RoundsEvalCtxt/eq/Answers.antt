@@ -1,0 +1,22 @@
+use Rattle.candidate_ir.specs.Trees.{none}
+use Rattle.candidate_ir.specs.Substitutions.{alone}
+use Rattle.candidate_ir.specs.Folds.{arg_tree}
+use Rattle.candidate_rounds.specs.Known.{state}
+use Rattle.candidate_rounds.proofs.Interface.{eq-ok, eq-refused, eq-stopped, keeps-going}
+use Rattle.candidate_rounds.proofs.rounds.evaluator.RoundsEvalCtxt.eq.Goals as goal
+
+pub returns-clause-kept : goal.returns-clause-kept
+returns-clause-kept c = keeps-going c.args.self.now c.equate.new.self c.equate.ensures.goes c.well_kept.ensures
+
+pub returns-clause-ok : goal.returns-clause-ok
+returns-clause-ok c =
+    let old = c.args.self.now in
+    eq-ok c.equate.result old none (alone (arg_tree old.context.trees c.args.a)) (alone (arg_tree old.context.trees c.args.b)) (state c.equate.new.self) c.well_kept.ensures.given c.equate.ensures.ok
+
+pub returns-clause-refused : goal.returns-clause-refused
+returns-clause-refused c =
+    let old = c.args.self.now in
+    eq-refused c.equate.result old none (alone (arg_tree old.context.trees c.args.a)) (alone (arg_tree old.context.trees c.args.b)) c.well_kept.ensures.given c.equate.ensures.refused
+
+pub returns-clause-stopped : goal.returns-clause-stopped
+returns-clause-stopped c = eq-stopped c.equate.result c.args.self.now c.equate.new.self c.equate.ensures.goes c.well_kept.ensures c.equate.ensures.undone

@@ -1,0 +1,21 @@
+use Rattle.candidate_ir.specs.Trees.{none}
+use Rattle.candidate_ir.specs.Words.{args_forest}
+use Rattle.candidate_rounds.specs.Known.{state}
+use Rattle.candidate_rounds.proofs.Interface.{eq-ok, eq-refused, eq-stopped, keeps-going}
+use Rattle.candidate_rounds.proofs.rounds.evaluator.RoundsEvalCtxt.eq_args.Goals as goal
+
+pub returns-clause-kept : goal.returns-clause-kept
+returns-clause-kept c = keeps-going c.args.self.now c.equate_args.new.self c.equate_args.ensures.goes c.well_kept.ensures
+
+pub returns-clause-ok : goal.returns-clause-ok
+returns-clause-ok c =
+    let old = c.args.self.now in
+    eq-ok c.equate_args.result old none (args_forest old.context.trees c.args.a) (args_forest old.context.trees c.args.b) (state c.equate_args.new.self) c.well_kept.ensures.given c.equate_args.ensures.ok
+
+pub returns-clause-refused : goal.returns-clause-refused
+returns-clause-refused c =
+    let old = c.args.self.now in
+    eq-refused c.equate_args.result old none (args_forest old.context.trees c.args.a) (args_forest old.context.trees c.args.b) c.well_kept.ensures.given c.equate_args.ensures.refused
+
+pub returns-clause-stopped : goal.returns-clause-stopped
+returns-clause-stopped c = eq-stopped c.equate_args.result c.args.self.now c.equate_args.new.self c.equate_args.ensures.goes c.well_kept.ensures c.equate_args.ensures.undone

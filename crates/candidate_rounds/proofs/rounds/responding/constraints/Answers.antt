@@ -1,0 +1,33 @@
+use Rattle.std.proofs.Common.{map, sym, ◌∙◌, ap, subst}
+use Rattle.candidate_ir.specs.Words.{IsClause, clause_tree}
+use Rattle.candidate_eval.specs.declared.eval.mode.TypingMode.{TypingMode}
+use Rattle.candidate_eval.specs.States.{resolved_tree}
+use Rattle.candidate_rounds.specs.Known.{Each, state_of}
+use Rattle.candidate_rounds.proofs.Knowing.{is-clause-stays, kinds-grown, known-stays}
+use Rattle.candidate_rounds.proofs.Gathering.{all-clauses, clause-later, each-index, one-more-clause}
+use Rattle.candidate_rounds.proofs.rounds.responding.constraints.Goals as goal
+
+pub resolved_clause-requires-clause-clause : goal.resolved_clause-requires-clause-clause
+resolved_clause-requires-clause-clause c =
+    let f = subst (Each (IsClause c.args.cx.now.trees)) (sym c.regions-regions.ensures) c.requires.known.regions in
+    is-clause-stays c.args.cx.now.trees c.loop-i.cx.trees _ c.loop-i.invariant.grows.kept (each-index (IsClause c.args.cx.now.trees) c.regions-regions.result.now c.loop-i.i _ f c.loop-i-test.true)
+
+pub resolved_clause-requires-clause-known : goal.resolved_clause-requires-clause-known
+resolved_clause-requires-clause-known c = known-stays c.args.cx.now.trees c.loop-i.cx.trees c.args.inference.now c.loop-i.invariant.grows.kept c.requires.known
+
+pub resolved_clause-requires-clause-kinds : goal.resolved_clause-requires-clause-kinds
+resolved_clause-requires-clause-kinds c = kinds-grown c.args.cx.now.trees c.loop-i.cx.trees c.args.inference.now.variables c.loop-i.invariant.grows.kept c.requires.known.values c.requires.kinds
+
+pub loop-i-preserved : goal.loop-i-preserved
+loop-i-preserved c =
+    let f = subst (Each (IsClause c.args.cx.now.trees)) (sym c.regions-regions.ensures) c.requires.known.regions in
+    one-more-clause TypingMode (λ m. resolved_tree (state_of c.args.cx.now.trees m c.args.inference.now)) c.args.cx.now c.loop-i.cx c.resolved_clause.new.cx c.regions-regions.result.now c.loop-i.i _ c.loop-i.list.items
+    c.push.new.self.items c.in_ok-resolved_clause.field-0 c.loop-i.invariant c.loop-i-test.true c.resolved_clause.ensures.grows c.in_ok-resolved_clause.ensures.sort
+    (λ m. clause-later m c.args.inference.now c.args.cx.now c.loop-i.cx c.regions-regions.result.now c.loop-i.i _ _ c.requires.known c.loop-i.invariant.grows c.loop-i-test.true f (c.in_ok-resolved_clause.ensures.tree m))
+    c.in_ok-push.ensures.items
+
+pub returns-clause-trees : goal.returns-clause-trees
+returns-clause-trees c = λ m.
+    let S = state_of c.args.cx.now.trees m c.args.inference.now in
+    all-clauses TypingMode (λ m. resolved_tree (state_of c.args.cx.now.trees m c.args.inference.now)) c.args.cx.now c.loop-i.cx c.regions-regions.result.now c.loop-i.i c.loop-i.list.items c.loop-i.invariant c.loop-i-test.false m
+    ∙ ap (λ cs. map (resolved_tree S) (map (clause_tree c.args.cx.now.trees) cs)) c.regions-regions.ensures

@@ -1,0 +1,8 @@
+use Rattle.candidate_eval.specs.declared.eval.mode.TypingMode.{TypingMode}
+use Rattle.candidate_eval.specs.States.{resolved_tree}
+use Rattle.candidate_rounds.specs.Known.{state_of}
+use Rattle.candidate_rounds.proofs.Gathering.{ClausesSoFar}
+use Rattle.candidate_rounds.proofs.rounds.responding.constraints.Given as goal
+
+abbrev pub invariant-loop-i : goal.invariant-loop-i
+invariant-loop-i l = ClausesSoFar TypingMode (λ m. resolved_tree (state_of l.initial.cx.trees m l.inference)) l.initial.cx l.cx l.regions l.i l.list.items

@@ -1,0 +1,22 @@
+use Rattle.std.proofs.Common.{◌∙◌, ap}
+use Rattle.candidate_ir.proofs.Made.{IsClause-listed}
+use Rattle.rounds_judge.specs.Responding.{renumbered_tree}
+use Rattle.candidate_rounds.proofs.Knowing.{clause-stays}
+use Rattle.candidate_rounds.proofs.Gathering.{all-clauses, clauses-kept, one-more-clause}
+use Rattle.candidate_rounds.proofs.rounds.responding.renumbered_clauses.Goals as goal
+
+pub renumbered_clause-requires : goal.renumbered_clause-requires
+renumbered_clause-requires c =
+    IsClause-listed c.loop-i.cx.trees c.args.clauses.now c.loop-i.i _ c.loop-i-test.true (clauses-kept c.args.cx.now c.loop-i.cx c.args.clauses.now c.loop-i.invariant.grows c.requires).0
+
+pub loop-i-preserved : goal.loop-i-preserved
+loop-i-preserved c =
+    let i = IsClause-listed c.args.cx.now.trees c.args.clauses.now c.loop-i.i _ c.loop-i-test.true c.requires in
+    one-more-clause (Unit {0}) (λ m. renumbered_tree c.args.numbers.now) c.args.cx.now c.loop-i.cx c.renumbered_clause.new.cx c.args.clauses.now c.loop-i.i _ c.loop-i.list.items c.push.new.self.items
+    c.in_ok-renumbered_clause.field-0 c.loop-i.invariant c.loop-i-test.true c.renumbered_clause.ensures.grows c.in_ok-renumbered_clause.ensures.sort
+    (λ m. c.in_ok-renumbered_clause.ensures.tree ∙ ap (renumbered_tree c.args.numbers.now) (clause-stays c.args.cx.now.trees c.loop-i.cx.trees _ c.loop-i.invariant.grows.kept i))
+    c.in_ok-push.ensures.items
+
+pub returns-clause-trees : goal.returns-clause-trees
+returns-clause-trees c =
+    all-clauses (Unit {0}) (λ m. renumbered_tree c.args.numbers.now) c.args.cx.now c.loop-i.cx c.args.clauses.now c.loop-i.i c.loop-i.list.items c.loop-i.invariant c.loop-i-test.false tt

@@ -1,0 +1,31 @@
+use Rattle.std.proofs.Common.{◌≡◌, refl, rules}
+use Rattle.candidate_ir.proofs.FoldLaws.{reached-keeps}
+use Rattle.candidate_rounds.specs.Known.{listing_of}
+use Rattle.rounds_judge.specs.Listed.{listed}
+use Rattle.candidate_rounds.proofs.Listing.{grown-function, listed-answer, listed-keeps, listed-unasked, types-kept}
+use Rattle.candidate_rounds.proofs.rounds.values.normalized.Goals as goal
+
+pub fold_arg-requires-clause-callable : goal.fold_arg-requires-clause-callable
+fold_arg-requires-clause-callable c = record {
+  at = λ s x d lent e l grown i n b.
+      let held = reached-keeps _ _ _ (λ z. z.0.now ≡ c.args.normal.now) (λ s x d r e n p. let k = n.called in let q = n.lends in let v = n.leaves in search rules) _ s l refl in
+      let kept = types-kept c.args.cx.now s.1 c.args.normal.now grown c.requires.types in
+      search rules;
+}
+
+pub fold_arg-requires-clause-keeps : goal.fold_arg-requires-clause-keeps
+fold_arg-requires-clause-keeps c = record {
+  at = λ s x d r e l grown i n b y.
+      let k = y.called in let q = y.lends in let v = y.leaves in
+      listed-keeps s.1 e.1 x r (search rules) (search rules);
+}
+
+pub returns-clause-tree : goal.returns-clause-tree
+returns-clause-tree c =
+    let ts = c.args.cx.now.trees in
+    c.fold_arg.ensures.answer (λ d t. listed (listing_of ts c.args.normal.now) t)
+    (grown-function _ _ _ (listed (listing_of ts c.args.normal.now)) (λ z. z.0.now ≡ c.args.normal.now) _ refl
+    (λ s x d r e n p. let k = n.called in let q = n.lends in let v = n.leaves in search rules)
+    (λ s x d r e n i grown p. let k = n.called in let q = n.lends in let v = n.leaves in
+    listed-answer c.args.cx.now s.1 e.1 c.args.normal.now x r grown c.requires.types (search rules) (search rules))
+    (λ t e. listed-unasked ts c.args.normal.now t c.requires.types e))

@@ -1,0 +1,50 @@
+-- What an evaluator of rounds is to generic code.
+use Rattle.std.specs.Prelude.{◌≡◌, ℕ, false, List, Option, None, unwrap_or, refl}
+use Rattle.std.proofs.Common.{ap}
+use Rattle.candidate_ir.specs.declared.ir.heads.Head.{Head}
+use Rattle.candidate_ir.specs.declared.ir.heads.Head.TheVariants as H
+use Rattle.candidate_ir.specs.Context.{world}
+use Rattle.candidate_ir.specs.Substitutions.{is_variable}
+use Rattle.candidate_ir.specs.Trees.{Tree}
+use Rattle.candidate_ir.specs.Worlds.{World}
+use Rattle.candidate_eval.specs.Evaluators.{alias_trees, resolved_root, root_value}
+use Rattle.candidate_eval.specs.States.{Judge, State}
+use Rattle.rounds_judge.specs.Listed.{Listing}
+use Rattle.rounds_judge.specs.RoundsJudge.{rounds_judge}
+use Rattle.rounds_judge.specs.WellListed.{well_listed}
+use Rattle.candidate_rounds.specs.Known.{Evaluator, listing, probes, state}
+
+-- What stays fixed: what is declared, the crate, and what it was given, by trees.
+pub record Fixed : Type 0 where
+  pub world : World
+  pub local_crate : ℕ
+  pub listing : Listing
+  pub opaques : List Tree
+
+abbrev pub fixed : Evaluator → Fixed
+fixed r = record { world = world r.context; local_crate = r.context.local.0; listing = listing r; opaques = alias_trees r.context.trees r.opaques }
+
+-- The laws speak of all that could be given, an evaluator's listed pairs all may be listed.
+abbrev pub judge_of : Fixed → Judge
+judge_of f = rounds_judge f.world f.local_crate (well_listed f.listing) f.opaques
+
+-- What making nodes leaves as it is.
+pub record Rest : Type 0 where
+  pub fixed : Fixed
+  pub state : State
+  pub probes : List State
+
+abbrev pub rest : Evaluator → Rest
+rest r = record { fixed = fixed r; state = state r; probes = probes r }
+
+-- Two laws of the interface.
+
+pub rest_parts : (r s : Evaluator) → rest s ≡ rest r → (fixed s ≡ fixed r) × (state s ≡ state r) × (probes s ≡ probes r)
+rest_parts r s e = (ap (λ (x : Rest). x.fixed) e, ap (λ (x : Rest). x.state) e, ap (λ (x : Rest). x.probes) e)
+
+pub root_stays : (S : State) (t : Tree) → is_variable t.head ≡ false → resolved_root S t ≡ t
+root_stays S t e = ap (λ (o : Option Tree). unwrap_or o t) (at t.head e)
+  where
+    at : (h : Head) → is_variable h ≡ false → root_value S h ≡ None
+    at (H.Infer v) e = cc
+    at _ e = refl

@@ -1,0 +1,85 @@
+-- What the parts of an evaluated goal come to.
+use Rattle.std.specs.Prelude.{◌≡◌, ℕ, ◌+◌, Bool, true, false, Option, Some, None, List, [], ◌∷◌}
+use Rattle.candidate_ir.specs.declared.ir.heads.Head.{Head}
+use Rattle.candidate_ir.specs.declared.ir.heads.Head.TheVariants as H
+use Rattle.candidate_ir.specs.declared.ir.heads.PartHead.TheVariants as P
+use Rattle.candidate_ir.specs.declared.ir.heads.ClauseHead.TheVariants as Cl
+use Rattle.candidate_ir.specs.declared.ir.kinds.AliasKind.TheVariants as A
+use Rattle.candidate_ir.specs.declared.ir.kinds.Clause.{Clause}
+use Rattle.candidate_ir.specs.declared.ir.kinds.ClauseKind.{ClauseKind}
+use Rattle.candidate_ir.specs.declared.ir.kinds.ClauseKind.TheVariants as CK
+use Rattle.candidate_ir.specs.declared.ir.kinds.GenericArg.{GenericArg}
+use Rattle.candidate_ir.specs.declared.ir.kinds.Goal.{Goal}
+use Rattle.candidate_ir.specs.declared.ir.kinds.GoalSource.{GoalSource}
+use Rattle.candidate_ir.specs.declared.ir.kinds.ProjectionPredicate.{ProjectionPredicate}
+use Rattle.candidate_ir.specs.declared.ir.kinds.TyKind.{TyKind}
+use Rattle.candidate_ir.specs.declared.ir.kinds.TyKind.TheVariants as K
+use Rattle.candidate_ir.specs.declared.ir.kinds.VarKind.{VarKind}
+use Rattle.candidate_ir.specs.Context.{Context, world}
+use Rattle.candidate_ir.specs.References.{Takes}
+use Rattle.candidate_ir.specs.Substitutions.{alone}
+use Rattle.candidate_ir.specs.Supers.{after_first}
+use Rattle.candidate_ir.specs.Trees.{Forest, Tree, join}
+use Rattle.candidate_ir.specs.Words.{IsArgs, IsTy, args_forest, kind_tree, ty_tree}
+use Rattle.candidate_eval.specs.Evaluators.{pending_of}
+use Rattle.candidate_eval.specs.States.{State, Pending, resolved_tree, next}
+use Rattle.candidate_rounds.specs.declared.rounds.inference.Entry.{Entry}
+use Rattle.rounds_judge.specs.Equating.{equated}
+use Rattle.rounds_judge.specs.Listed.{Listing, listed}
+use Rattle.rounds_judge.specs.Settling.{alias_of, recorded, term_of}
+
+-- the goal that stays, if one does
+abbrev pub left_of : List Tree → Option (GoalSource × Goal Clause) → List Pending
+left_of ts None = []
+left_of ts (Some g) = pending_of ts g.0 g.1 ∷ []
+
+-- An alias of which all values were put in, by the type that is listed for it: that is made equal to the term. The answer says
+-- whether one is listed.
+
+abbrev pub answered_by : Listing → State → Tree → Option Tree → Option (Bool × State)
+answered_by l S t None = Some (false, S)
+answered_by l S t (Some u) = next (equated l S (alone u) (alone t)) (λ T. Some (true, T))
+
+abbrev pub answered : Listing → State → Tree → Tree → Option (Bool × State)
+answered l S a t = answered_by l S t (listed l (resolved_tree S a))
+
+-- the alias of a projection
+abbrev pub projection_of : ProjectionPredicate → TyKind
+projection_of p = K.Alias (record { kind = A.Projection; id = record { 0 = p.projection_term.def_id.0 }; args = p.projection_term.args })
+
+-- An instance with these facts, by the head of its clause: whether nothing stays of it, and the state then.
+abbrev pub evaluated_as : Listing → State → Tree → Forest → Head → Option (Bool × State)
+evaluated_as l S c ts (H.Part (P.Clause (Cl.Projection i))) = answered l S (alias_of i ts) (term_of ts)
+evaluated_as l S c ts (H.Part (P.Clause Cl.TypeOutlives)) = Some (true, recorded S c)
+evaluated_as l S c ts (H.Part (P.Clause Cl.RegionOutlives)) = Some (true, recorded S c)
+evaluated_as l S c ts _ = Some (false, S)
+
+-- What is read of a clause, by what it says: its head, and of a projection its alias and its term.
+
+pub record IsProjection (c : Context) (x : Tree) (p : ProjectionPredicate) : Type 0 where
+  pub arguments : IsArgs c.trees p.projection_term.args
+  pub term : IsTy c.trees p.term
+  pub head : x.head ≡ H.Part (P.Clause (Cl.Projection p.projection_term.def_id))
+  pub facts : after_first x.children ≡ join (args_forest c.trees p.projection_term.args) (alone (ty_tree c.trees p.term))
+  pub takes : Takes (world c) (kind_tree c.trees (projection_of p))
+
+abbrev pub Says : Context → Tree → ClauseKind → Type 0
+Says c x (CK.Trait p) = x.head ≡ H.Part (P.Clause (Cl.Trait p.trait_ref.def_id p.polarity))
+Says c x (CK.Projection p) = IsProjection c x p
+Says c x (CK.TypeOutlives t r) = x.head ≡ H.Part (P.Clause Cl.TypeOutlives)
+Says c x (CK.RegionOutlives s r) = x.head ≡ H.Part (P.Clause Cl.RegionOutlives)
+
+-- the second, where there are variables
+abbrev pub second_if_bound : {A : Type 0} → List VarKind → A → A → A
+second_if_bound [] a b = a
+second_if_bound (k ∷ ks) a b = b
+
+-- how many variables have no value
+
+abbrev pub unbound_value : Option GenericArg → ℕ
+unbound_value None = 1
+unbound_value (Some v) = 0
+
+abbrev pub unbound_entries : List Entry → ℕ
+unbound_entries [] = 0
+unbound_entries (e ∷ es) = unbound_value e.value + unbound_entries es

@@ -1,0 +1,437 @@
+//! Variables that get values.
+
+ghost use Rattle.std.specs.Prelude.{◌≡◌, ◌≤◌, true, [], None, Ok, IfOk, IfErr, OnOk, length, slice_get};
+ghost use Rattle.candidate_ir.specs.Context.{Grows};
+ghost use Rattle.candidate_ir.specs.Folds.{IsArg, arg_tree};
+ghost use Rattle.candidate_ir.specs.Kinds.{arg_kind, ty_head};
+ghost use Rattle.candidate_ir.specs.Substitutions.{alone, fits_sort, is_float, is_integer, same_sort, same_variable};
+ghost use Rattle.candidate_ir.specs.Unify.{same_head};
+ghost use Rattle.candidate_ir.specs.Words.{IsClause, IsConst, IsRegion, IsTy, clause_tree, const_tree, region_tree, ty_tree};
+ghost use Rattle.candidate_eval.specs.Soundness.{IsResolved};
+ghost use Rattle.candidate_eval.specs.States.{value_of, valued_tree};
+ghost use Rattle.candidate_eval.specs.declared.eval.mode.TypingMode.{TypingMode};
+ghost use Rattle.candidate_eval.specs.declared.eval.variable.VariableKind.TheVariants.{Term};
+ghost use Rattle.candidate_rounds.specs.Assigning.{allows, single_arg, with_info, with_its_value, with_its_universe, bound_up_to};
+ghost use Rattle.rounds_judge.specs.Binding.{may_take, bound, single};
+ghost use Rattle.rounds_judge.specs.Equating.{outlives, with_equal_regions};
+ghost use Rattle.candidate_rounds.specs.Inferences.{IsFurther, is_of_kind, back_to, record_region};
+ghost use Rattle.candidate_rounds.specs.Known.{AreMarks, GoesOn, HasResolvedValues, IsConsistent, IsEvaluator, state, state_of};
+
+use crate::rounds::Rounds;
+use crate::rounds::inference::Inference;
+use crate::rounds::resolving::{is_same_kind, variable_of};
+use candidate_eval::eval::variable::VariableKind;
+use candidate_ir::decl::context::Cx;
+use candidate_ir::decl::fold::fold_arg;
+use candidate_ir::ir::heads::{Variable, VariableSort};
+use candidate_ir::ir::kinds::{
+    Binder, Clause, ClauseKind, Const, ConstKind, GenericArg, InferTy, Region, Ty, TyKind,
+};
+use candidate_ir::ir::stop::Stop;
+use std::alloc::Global;
+
+/// Whether it is an integer type, or a variable for one.
+fn is_integer(kind: TyKind) -> bool
+    ensures { result ≡ is_integer (ty_head kind) }
+{
+    matches!(
+        kind,
+        TyKind::Int(_) | TyKind::Uint(_) | TyKind::Infer(InferTy::IntVar(_))
+    )
+}
+
+/// Whether it is a floating-point type, or a variable for one.
+fn is_float(kind: TyKind) -> bool
+    ensures { result ≡ is_float (ty_head kind) }
+{
+    matches!(kind, TyKind::Float(_) | TyKind::Infer(InferTy::FloatVar(_)))
+}
+
+/// Whether a variable of the sort may go to the type.
+fn ty_fits_sort(cx: &Cx, sort: VariableSort, ty: Ty) -> bool
+    requires { IsTy cx.now.trees ty }
+    ensures { result ≡ fits_sort sort (ty_tree cx.now.trees ty).head }
+{
+    match sort {
+        VariableSort::General => true,
+        VariableSort::Integer => is_integer(cx.kind(ty)),
+        VariableSort::Floating => is_float(cx.kind(ty)),
+        VariableSort::Constant => false,
+    }
+}
+
+/// Whether it is the sort of constants.
+fn is_constant_sort(sort: VariableSort) -> bool
+    ensures { result ≡ same_sort sort VariableSort.Constant }
+{
+    sort == VariableSort::Constant
+}
+
+/// Whether a variable of the sort may go to the argument.
+fn fits_sort(cx: &Cx, sort: VariableSort, arg: GenericArg) -> bool
+    requires { IsArg cx.now.trees arg }
+    ensures { result ≡ fits_sort sort (arg_tree cx.now.trees arg).head }
+{
+    match arg {
+        GenericArg::Ty(ty) => ty_fits_sort(cx, sort, ty),
+        GenericArg::Const(_) => is_constant_sort(sort),
+        GenericArg::Region(_) => false,
+    }
+}
+
+/// Whether the argument, of which its sort isn't looked at, may be the value of a variable of that number and universe: it
+/// doesn't hold it, is closed, and names no placeholder of a universe above the variable's.
+fn is_allowed(cx: &Cx, number: u32, universe: u32, value: GenericArg) -> bool
+    requires { IsArg cx.now.trees value }
+    ensures { result ≡ allows number universe (arg_tree cx.now.trees value) }
+{
+    if cx.mentions(value, number) {
+        return false;
+    }
+    if cx.arg_has_escaping_bound_vars(value) {
+        return false;
+    }
+    !cx.has_placeholder_above(value, universe)
+}
+
+/// Whether the variable is there, and may get the value.
+fn may_take(cx: &Cx, inference: &Inference, variable: Variable, value: GenericArg) -> bool
+    requires { IsArg cx.now.trees value }
+    ensures { (m : TypingMode) → result ≡ may_take (state_of cx.now.trees m inference.now) variable (arg_tree cx.now.trees value) }
+{
+    let Some(entry) = inference.entry(variable.number) else {
+        return false;
+    };
+    if !is_same_kind(entry.kind, VariableKind::Term(variable.sort)) {
+        return false;
+    }
+    if !fits_sort(cx, variable.sort, value) {
+        return false;
+    }
+    is_allowed(cx, variable.number, entry.universe, value)
+}
+
+/// Whether two variables are the same.
+fn is_same_variable(a: Variable, b: Variable) -> bool
+    ensures { result ≡ same_variable a b }
+{
+    a.sort == b.sort && a.number == b.number
+}
+
+/// What is put in the place of a type: the value in that of the variable.
+fn put_for_ty(cx: &Cx, variable: Variable, value: GenericArg, ty: Ty) -> Option<GenericArg>
+    requires { IsTy cx.now.trees ty }
+    ensures { result ≡ single_arg variable value (ty_tree cx.now.trees ty).head }
+{
+    let TyKind::Infer(var) = cx.kind(ty) else {
+        return None;
+    };
+    if is_same_variable(variable, variable_of(var)) {
+        Some(value)
+    } else {
+        None
+    }
+}
+
+/// The same of a constant.
+fn put_for_const(
+    cx: &Cx,
+    variable: Variable,
+    value: GenericArg,
+    constant: Const,
+) -> Option<GenericArg>
+    requires { IsConst cx.now.trees constant }
+    ensures { result ≡ single_arg variable value (const_tree cx.now.trees constant).head }
+{
+    let ConstKind::Infer(number) = cx.const_kind(constant) else {
+        return None;
+    };
+    let other = Variable {
+        sort: VariableSort::Constant,
+        number,
+    };
+    if is_same_variable(variable, other) {
+        Some(value)
+    } else {
+        None
+    }
+}
+
+/// What is put in the place of an argument.
+fn put_for(cx: &Cx, variable: Variable, value: GenericArg, arg: GenericArg) -> Option<GenericArg>
+    requires { IsArg cx.now.trees arg }
+    ensures { result ≡ single_arg variable value (arg_tree cx.now.trees arg).head }
+{
+    match arg {
+        GenericArg::Ty(ty) => put_for_ty(cx, variable, value, ty),
+        GenericArg::Const(constant) => put_for_const(cx, variable, value, constant),
+        GenericArg::Region(_) => None,
+    }
+}
+
+/// The argument, with the value put in for the variable.
+fn put_in(
+    alloc: Global,
+    cx: &mut Cx,
+    variable: Variable,
+    value: GenericArg,
+    arg: GenericArg,
+) -> Result<GenericArg, Stop>
+    requires arg { IsArg cx.old.trees arg }
+    requires value { IsArg cx.old.trees value }
+    requires fits { fits_sort variable.sort (arg_tree cx.old.trees value).head ≡ true }
+    ensures grows { Grows cx.old cx.new }
+    ensures sort { IfOk result (λ x. IsArg cx.new.trees x) }
+    ensures tree { IfOk result (λ x. arg_tree cx.new.trees x ≡ valued_tree (single variable (arg_tree cx.old.trees value)) (arg_tree cx.old.trees arg)) }
+{
+    fold_arg(
+        alloc,
+        cx,
+        arg,
+        move |cx: &mut Cx, arg: GenericArg, _: u32| -> Result<Option<GenericArg>, Stop>
+            requires { IsArg cx.old.trees arg }
+            ensures same { cx.new ≡ cx.old }
+            ensures answer { result ≡ Ok (single_arg variable value (arg_tree cx.old.trees arg).head) }
+        { Ok(put_for(cx, variable, value, arg)) },
+    )
+}
+
+/// The variable of that number gets its value, once a variable has the value: the value itself, or its own with the value put
+/// in, which is noted only where that changes it. A growth that is refused and numbers that run out stop it; nothing is noted then.
+fn renew_value(
+    alloc: Global,
+    cx: &mut Cx,
+    inference: &mut Inference,
+    number: u32,
+    variable: Variable,
+    value: GenericArg,
+) -> Result<(), Stop>
+    requires value { IsArg cx.old.trees value }
+    requires fits { fits_sort variable.sort (arg_tree cx.old.trees value).head ≡ true }
+    requires kind { is_of_kind (Term variable.sort) (slice_get inference.old.variables variable.number) ≡ true }
+    requires consistent { IsConsistent cx.old.trees inference.old [] }
+    ensures grows { Grows cx.old cx.new }
+    ensures further { IsFurther inference.old inference.new }
+    ensures consistent { IsConsistent cx.new.trees inference.new [] }
+    ensures renewed { (m : TypingMode) → OnOk result (state_of cx.new.trees m inference.new ≡ with_info (state_of cx.old.trees m inference.old) number (with_its_value variable (arg_tree cx.old.trees value) number)) }
+    ensures unchanged { IfErr result (λ _. inference.new ≡ inference.old) }
+{
+    let Some(entry) = inference.entry(number) else {
+        return Ok(());
+    };
+    if number == variable.number {
+        return inference.assign(number, value);
+    }
+    let Some(old) = entry.value else {
+        return Ok(());
+    };
+    if !cx.mentions(old, variable.number) {
+        return Ok(());
+    }
+    let new = put_in(alloc, cx, variable, value, old)?;
+    inference.assign(number, new)
+}
+
+/// The universe of the variable of that number falls to that one, if it is above it and the variable stands in the value.
+fn renew_universe(
+    cx: &Cx,
+    inference: &mut Inference,
+    number: u32,
+    value: GenericArg,
+    universe: u32,
+) -> Result<(), Stop>
+    requires value { IsArg cx.now.trees value }
+    requires consistent { IsConsistent cx.now.trees inference.old [] }
+    ensures further { IsFurther inference.old inference.new }
+    ensures consistent { IsConsistent cx.now.trees inference.new [] }
+    ensures renewed { (m : TypingMode) → OnOk result (state_of cx.now.trees m inference.new ≡ with_info (state_of cx.now.trees m inference.old) number (with_its_universe universe (arg_tree cx.now.trees value) number)) }
+{
+    let Some(entry) = inference.entry(number) else {
+        return Ok(());
+    };
+    if entry.universe <= universe {
+        return Ok(());
+    }
+    if !cx.mentions(value, number) {
+        return Ok(());
+    }
+    inference.lower(number, universe)
+}
+
+/// The first so many variables become what they are once the variable, of that universe, has the value.
+fn renew_all(
+    alloc: Global,
+    cx: &mut Cx,
+    inference: &mut Inference,
+    variable: Variable,
+    value: GenericArg,
+    universe: u32,
+) -> Result<(), Stop>
+    requires value { IsArg cx.old.trees value }
+    requires fits { fits_sort variable.sort (arg_tree cx.old.trees value).head ≡ true }
+    requires kind { is_of_kind (Term variable.sort) (slice_get inference.old.variables variable.number) ≡ true }
+    requires consistent { IsConsistent cx.old.trees inference.old [] }
+    ensures grows { Grows cx.old cx.new }
+    ensures further { IsFurther inference.old inference.new }
+    ensures consistent { IsConsistent cx.new.trees inference.new [] }
+    ensures renewed { (m : TypingMode) → OnOk result (state_of cx.new.trees m inference.new ≡ bound_up_to (length inference.old.variables) variable universe (arg_tree cx.old.trees value) (state_of cx.old.trees m inference.old)) }
+{
+    let count = inference.next_variables(0)?;
+    for number in 0..count {
+        renew_value(alloc, cx, inference, number, variable, value)?;
+        renew_universe(cx, inference, number, value, universe)?;
+    }
+    Ok(())
+}
+
+/// The variable gets the value, as `Rounds::bind` says.
+fn bind_in(
+    alloc: Global,
+    cx: &mut Cx,
+    inference: &mut Inference,
+    variable: Variable,
+    value: GenericArg,
+) -> Result<(), Stop>
+    requires value { IsArg cx.old.trees value }
+    requires fits { fits_sort variable.sort (arg_tree cx.old.trees value).head ≡ true }
+    requires kind { is_of_kind (Term variable.sort) (slice_get inference.old.variables variable.number) ≡ true }
+    requires consistent { IsConsistent cx.old.trees inference.old [] }
+    ensures grows { Grows cx.old cx.new }
+    ensures further { IsFurther inference.old inference.new }
+    ensures consistent { IsConsistent cx.new.trees inference.new [] }
+    ensures bound { (m : TypingMode) → OnOk result (state_of cx.new.trees m inference.new ≡ bound (state_of cx.old.trees m inference.old) variable (arg_tree cx.old.trees value)) }
+    ensures undone { IfErr result (λ _. inference.new ≡ inference.old) }
+{
+    let Some(entry) = inference.entry(variable.number) else {
+        return Ok(());
+    };
+    let changes = inference.changes();
+    if let Err(stop) = renew_all(alloc, cx, inference, variable, value, entry.universe) {
+        inference.undo_to(changes);
+        return Err(stop);
+    }
+    Ok(())
+}
+
+/// The clause that one region outlives another.
+fn outlives(cx: &mut Cx, a: Region, b: Region) -> Result<Clause, Stop>
+    requires first { IsRegion cx.old.trees a }
+    requires second { IsRegion cx.old.trees b }
+    ensures grows { Grows cx.old cx.new }
+    ensures sort { IfOk result (λ c. IsClause cx.new.trees c) }
+    ensures tree { IfOk result (λ c. clause_tree cx.new.trees c ≡ outlives (region_tree cx.old.trees a) (region_tree cx.old.trees b)) }
+{
+    let vars = cx.mk_vars(&[])?;
+    cx.mk_clause(Binder {
+        vars,
+        value: ClauseKind::RegionOutlives(a, b),
+    })
+}
+
+/// The clauses that two regions are equal: each outlives the other.
+fn equal_regions(cx: &mut Cx, a: Region, b: Region) -> Result<(Clause, Clause), Stop>
+    requires first { IsRegion cx.old.trees a }
+    requires second { IsRegion cx.old.trees b }
+    ensures grows { Grows cx.old cx.new }
+    ensures one { IfOk result (λ p. IsClause cx.new.trees p.0 × (clause_tree cx.new.trees p.0 ≡ outlives (region_tree cx.old.trees a) (region_tree cx.old.trees b))) }
+    ensures other { IfOk result (λ p. IsClause cx.new.trees p.1 × (clause_tree cx.new.trees p.1 ≡ outlives (region_tree cx.old.trees b) (region_tree cx.old.trees a))) }
+{
+    let one = outlives(cx, a, b)?;
+    let other = outlives(cx, b, a)?;
+    Ok((one, other))
+}
+
+/// Whether two regions are the same.
+fn is_same_region(cx: &Cx, a: Region, b: Region) -> bool
+    requires first { IsRegion cx.now.trees a }
+    requires second { IsRegion cx.now.trees b }
+    ensures { result ≡ same_head (region_tree cx.now.trees a).head (region_tree cx.now.trees b).head }
+{
+    cx.region_kind(a) == cx.region_kind(b)
+}
+
+/// Records two region constraints; none, where it stops. The only stop is `Stop::Memory`.
+fn record_both(inference: &mut Inference, one: Clause, other: Clause) -> Result<(), Stop>
+    ensures recorded { IfOk result (λ _. inference.new ≡ record_region (record_region inference.old one) other) }
+    ensures unchanged { IfErr result (λ _. inference.new ≡ inference.old) }
+    ensures cause { IfErr result (λ s. s ≡ Stop.Memory) }
+{
+    let changes = inference.changes();
+    inference.record_region(one)?;
+    if let Err(stop) = inference.record_region(other) {
+        inference.undo_to(changes);
+        return Err(stop);
+    }
+    Ok(())
+}
+
+impl Rounds {
+    /// Whether the variable is there, and may get the value: it is of its sort, doesn't hold it, is closed, and names no placeholder of a
+    /// universe above the variable's.
+    pub(crate) fn may_take(&self, variable: Variable, value: GenericArg) -> bool
+        requires { IsArg self.now.context.trees value }
+        ensures { result ≡ may_take (state self.now) variable (arg_tree self.now.context.trees value) }
+    {
+        may_take(&self.cx, &self.inference, variable, value)
+    }
+
+    /// The variable, which has none yet, gets the value, which it may take: it is put into all values that hold the variable, and what
+    /// stands in it is of no universe above the variable's. `Stop::Memory` comes where a growth was refused, `Stop::NodesFull` where no
+    /// numbers are left or a tree would be higher than 1,024; nothing is known then that wasn't.
+    pub(crate) fn bind(
+        &mut self,
+        alloc: Global,
+        variable: Variable,
+        value: GenericArg,
+    ) -> Result<(), Stop>
+        requires value { IsArg self.old.context.trees value }
+        requires may { may_take (state self.old) variable (arg_tree self.old.context.trees value) ≡ true }
+        requires free { value_of (state self.old) variable.number ≡ None }
+        requires resolved { IsResolved (state self.old) (alone (arg_tree self.old.context.trees value)) }
+        ensures goes { GoesOn self.old self.new }
+        ensures bound { OnOk result (state self.new ≡ bound (state self.old) variable (arg_tree self.old.context.trees value)) }
+        ensures undone { IfErr result (λ _. self.new.inference ≡ self.old.inference) }
+    {
+        bind_in(alloc, &mut self.cx, &mut self.inference, variable, value)
+    }
+
+    /// Records that two regions are equal, where they differ: each outlives the other. `Stop::Memory` comes where a growth was refused,
+    /// `Stop::NodesFull` where no numbers are left; nothing is recorded then.
+    pub(crate) fn record_equal_regions(&mut self, a: Region, b: Region) -> Result<(), Stop>
+        requires first { IsRegion self.old.context.trees a }
+        requires second { IsRegion self.old.context.trees b }
+        ensures goes { GoesOn self.old self.new }
+        ensures recorded { OnOk result (state self.new ≡ with_equal_regions (state self.old) (region_tree self.old.context.trees a) (region_tree self.old.context.trees b)) }
+        ensures undone { IfErr result (λ _. self.new.inference ≡ self.old.inference) }
+    {
+        if is_same_region(&self.cx, a, b) {
+            return Ok(());
+        }
+        let (one, other) = equal_regions(&mut self.cx, a, b)?;
+        record_both(&mut self.inference, one, other)
+    }
+
+    /// How many changes there are to undo.
+    pub(crate) fn changes(&self) -> usize
+        ensures { result ≡ length self.now.inference.trail }
+    {
+        self.inference.changes()
+    }
+
+    /// What holds between calls, said to a caller that needs it. Nothing is done.
+    pub(crate) fn well_kept(&self)
+        ensures { IsEvaluator self.now.context.trees self.now.inference self.now.marks self.now.normal self.now.opaques }
+    {
+        let _ = &self.inference;
+    }
+
+    /// Takes back all changes of what is known but the first so many, of which each open probe has no more.
+    pub(crate) fn undo_to(&mut self, changes: usize)
+        requires few { changes ≤ length self.old.inference.trail }
+        requires probes { AreMarks changes self.old.marks }
+        requires resolved { HasResolvedValues self.old.context.trees (back_to changes self.old.inference) }
+        ensures { self.new ≡ record self.old { inference = back_to changes self.old.inference } }
+    {
+        self.inference.undo_to(changes);
+    }
+}

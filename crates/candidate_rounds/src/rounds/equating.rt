@@ -1,0 +1,407 @@
+//! Trees are made equal: what is first on both sides is looked at, and then what is left.
+
+ghost use Rattle.std.specs.Prelude.{◌≡◌, ◌≢◌, ◌<◌, Some, None, List, [], ◌∷◌, ◌++◌, IfOk, IfErr, OnOk, OnErr, MatchOption, length, reverse, ◌&&◌, false, true};
+ghost use Rattle.candidate_ir.specs.Context.{Grows};
+ghost use Rattle.candidate_ir.specs.Folds.{IsArg, arg_tree};
+ghost use Rattle.candidate_ir.specs.Nodes.{tree_at};
+ghost use Rattle.candidate_ir.specs.Substitutions.{alone};
+ghost use Rattle.candidate_ir.specs.Unify.{same_head};
+ghost use Rattle.candidate_ir.specs.Words.{IsArgs, IsRegion, args_forest, region_tree};
+ghost use Rattle.candidate_eval.specs.Soundness.{is_region};
+ghost use Rattle.candidate_eval.specs.Evaluators.{root_value};
+ghost use Rattle.rounds_judge.specs.Equating.{Pair, Left, Refused, equated, looks, matched, met, offered, unified, visited, with_equal_regions};
+ghost use Rattle.candidate_rounds.specs.Frames.{AreFrames, IsFrame, pair_of, pairs_of, taken_if, with_binder};
+ghost use Rattle.candidate_rounds.specs.Known.{GoesOn, listing, state};
+ghost use Rattle.rounds_judge.specs.Listed.{current};
+ghost use Rattle.rounds_judge.specs.Scopes.{entered, has_variables, placed_tree, scope_below};
+
+use crate::rounds::Rounds;
+use candidate_eval::eval::refusal::NoSolutionOrStop;
+use candidate_ir::ir::heads::Head;
+use candidate_ir::ir::kinds::{Args, GenericArg, Region};
+use candidate_ir::ir::stop::Stop;
+use std::alloc::Global;
+
+/// Two nodes of which what stands below is still to be made equal, from a place on.
+#[derive(Clone, Copy)]
+pub(crate) struct Frame {
+    left: u32,
+    right: u32,
+    place: usize,
+    /// How many of the binders that were entered are around them.
+    binders: usize,
+}
+
+/// What is left of an equation.
+#[derive(Drop)]
+pub(crate) struct Rest {
+    /// What comes next stands last.
+    frames: Vec<Frame>,
+    /// For each binder that was entered, the universe of the placeholders that stand for its variables; the innermost last.
+    universes: Vec<u32>,
+}
+
+impl Rest {
+    /// What is left of an equation of which nothing was looked at yet.
+    fn new(alloc: Global) -> Rest
+        ensures frames { result.frames.items ≡ [] }
+        ensures universes { result.universes.items ≡ [] }
+    {
+        Rest {
+            frames: Vec::new(alloc),
+            universes: Vec::new(alloc),
+        }
+    }
+
+    /// How many binders were entered.
+    fn binders(&self) -> usize
+        ensures { result ≡ length self.now.universes.items }
+    {
+        self.universes.len()
+    }
+
+    /// A frame comes next. The only stop is `Stop::Memory`.
+    fn push(&mut self, frame: Frame) -> Result<(), Stop>
+        ensures universes { self.new.universes.items ≡ self.old.universes.items }
+        ensures frames { OnOk result (self.new.frames.items ≡ self.old.frames.items ++ frame ∷ []) }
+    {
+        Ok(self.frames.push(frame)?)
+    }
+}
+
+impl Rounds {
+    /// The second number is offered as its value to the first, if that is a variable, which has none. Says whether it takes it. It stops
+    /// as `bind` does.
+    fn offered(
+        &mut self,
+        alloc: Global,
+        universes: &[u32],
+        to: u32,
+        number: u32,
+    ) -> Result<bool, Stop>
+        requires to { to < length self.old.context.trees }
+        requires number { number < length self.old.context.trees }
+        requires free { root_value (state self.old) (tree_at self.old.context.trees to).head ≡ None }
+        ensures goes { GoesOn self.old self.new }
+        ensures taken { (more : List Pair) → IfOk result (λ b. offered (listing self.old) (state self.old) (reverse universes.now) (tree_at self.old.context.trees to).head (tree_at self.old.context.trees number) more ≡ taken_if b (state self.new) more) }
+        ensures declined { IfOk result (λ b. b ≡ false → state self.new ≡ state self.old) }
+    {
+        self.well_kept();
+        let Head::Infer(variable) = self.cx.head(to) else {
+            return Ok(false);
+        };
+        let Some(arg) = self.cx.argument(number) else {
+            return Ok(false);
+        };
+        let value = self.value_for(alloc, universes, arg)?;
+        if !self.may_take(variable, value) {
+            return Ok(false);
+        }
+        self.bind(alloc, variable, value)?;
+        Ok(true)
+    }
+
+    /// Two regions are recorded as equal, under the binders that were entered.
+    fn equal_regions(&mut self, universes: &[u32], left: Region, right: Region) -> Result<(), Stop>
+        requires left { IsRegion self.old.context.trees left }
+        requires right { IsRegion self.old.context.trees right }
+        ensures goes { GoesOn self.old self.new }
+        ensures recorded { OnOk result (state self.new ≡ with_equal_regions (state self.old) (placed_tree (reverse universes.now) (region_tree self.old.context.trees left)) (placed_tree (reverse universes.now) (region_tree self.old.context.trees right))) }
+    {
+        let left = self.placed_region(universes, left)?;
+        let right = self.placed_region(universes, right)?;
+        self.record_equal_regions(left, right)
+    }
+
+    /// Whether the binder of a number, which is its first child, has variables.
+    fn has_variables(&self, number: u32) -> bool
+        requires { number < length self.now.context.trees }
+        ensures { result ≡ has_variables (tree_at self.now.context.trees number).children }
+    {
+        match self.cx.child(number, 0) {
+            Some(binder) => self.cx.child(binder, 0).is_some(),
+            None => false,
+        }
+    }
+
+    /// Enters the binder of a number, with a fresh universe if it has variables. Says what the newest universe is then. It stops as
+    /// `enter` does.
+    fn enter_binder(&mut self, number: u32) -> Result<u32, Stop>
+        requires { number < length self.old.context.trees }
+        ensures goes { GoesOn self.old self.new }
+        ensures context { self.new.context ≡ self.old.context }
+        ensures entered { OnOk result (state self.new ≡ with_binder (has_variables (tree_at self.old.context.trees number).children) (state self.old)) }
+        ensures universe { IfOk result (λ u. u ≡ (state self.new).newest_universe) }
+    {
+        if self.has_variables(number) {
+            self.enter()?;
+        }
+        Ok(self.inference.newest_universe())
+    }
+
+    /// What is below two numbers of one head is left, before all else; a binder is entered, with a fresh universe if it has
+    /// variables. It stops as `enter` does.
+    fn enter_below(&mut self, rest: &mut Rest, left: u32, right: u32) -> Result<(), Stop>
+        requires left { left < length self.old.context.trees }
+        requires right { right < length self.old.context.trees }
+        requires frames { AreFrames self.old.context.trees rest.old.universes.items rest.old.frames.items }
+        ensures goes { GoesOn self.old self.new }
+        ensures context { self.new.context ≡ self.old.context }
+        ensures frames { OnOk result (AreFrames self.old.context.trees rest.new.universes.items rest.new.frames.items) }
+        ensures state { OnOk result (state self.new ≡ entered (state self.old) (tree_at self.old.context.trees left).head (tree_at self.old.context.trees left).children) }
+        ensures below { OnOk result (pairs_of self.old.context.trees rest.new.universes.items rest.new.frames.items ≡ record { scope = scope_below (state self.old) (reverse rest.old.universes.items) (tree_at self.old.context.trees left).head (tree_at self.old.context.trees left).children; left = (tree_at self.old.context.trees left).children; right = (tree_at self.old.context.trees right).children } ∷ pairs_of self.old.context.trees rest.old.universes.items rest.old.frames.items) }
+    {
+        if self.cx.head(left).binders() == 1 {
+            let universe = self.enter_binder(left)?;
+            rest.universes.push(universe)?;
+        }
+        let binders = rest.binders();
+        rest.push(Frame {
+            left,
+            right,
+            place: 0,
+            binders,
+        })
+    }
+
+    /// The regions of two numbers, if both are of regions.
+    fn regions(&self, left: u32, right: u32) -> Option<(Region, Region)>
+        requires left { left < length self.now.context.trees }
+        requires right { right < length self.now.context.trees }
+        ensures { MatchOption result (is_region (tree_at self.now.context.trees left).head && is_region (tree_at self.now.context.trees right).head ≡ false) (λ p. (p.0.0 ≡ left) × (p.1.0 ≡ right) × IsRegion self.now.context.trees p.0 × IsRegion self.now.context.trees p.1 × (is_region (tree_at self.now.context.trees left).head && is_region (tree_at self.now.context.trees right).head ≡ true)) }
+    {
+        match (self.cx.head(left), self.cx.head(right)) {
+            (Head::Region(_), Head::Region(_)) => Some((Region(left), Region(right))),
+            _ => None,
+        }
+    }
+
+    /// Whether two numbers have one head.
+    fn have_one_head(&self, left: u32, right: u32) -> bool
+        requires left { left < length self.now.context.trees }
+        requires right { right < length self.now.context.trees }
+        ensures { result ≡ same_head (tree_at self.now.context.trees left).head (tree_at self.now.context.trees right).head }
+    {
+        self.cx.head(left) == self.cx.head(right)
+    }
+
+    /// Two regions are recorded as equal, and two numbers of one head leave what is below them; others can't be made equal.
+    fn matched(&mut self, rest: &mut Rest, left: u32, right: u32) -> Result<(), NoSolutionOrStop>
+        requires left { left < length self.old.context.trees }
+        requires right { right < length self.old.context.trees }
+        requires frames { AreFrames self.old.context.trees rest.old.universes.items rest.old.frames.items }
+        ensures goes { GoesOn self.old self.new }
+        ensures frames { OnOk result (AreFrames self.new.context.trees rest.new.universes.items rest.new.frames.items) }
+        ensures ok { OnOk result (matched (state self.old) (reverse rest.old.universes.items) (tree_at self.old.context.trees left) (tree_at self.old.context.trees right) (pairs_of self.old.context.trees rest.old.universes.items rest.old.frames.items) ≡ Left (state self.new) (pairs_of self.new.context.trees rest.new.universes.items rest.new.frames.items)) }
+        ensures refused { IfErr result (λ e. e ≡ NoSolutionOrStop.NoSolution → matched (state self.old) (reverse rest.old.universes.items) (tree_at self.old.context.trees left) (tree_at self.old.context.trees right) (pairs_of self.old.context.trees rest.old.universes.items rest.old.frames.items) ≡ Refused) }
+    {
+        if let Some((left, right)) = self.regions(left, right) {
+            return Ok(self.equal_regions(rest.universes.as_slice(), left, right)?);
+        }
+        if !self.have_one_head(left, right) {
+            return Err(NoSolutionOrStop::NoSolution);
+        }
+        Ok(self.enter_below(rest, left, right)?)
+    }
+
+    /// What a number is at the state: see `current`. What is no type, constant or region is itself.
+    fn current_number(&mut self, alloc: Global, number: u32) -> Result<u32, Stop>
+        requires { number < length self.old.context.trees }
+        ensures goes { GoesOn self.old self.new }
+        ensures state { state self.new ≡ state self.old }
+        ensures inside { IfOk result (λ n. n < length self.new.context.trees) }
+        ensures tree { IfOk result (λ n. tree_at self.new.context.trees n ≡ current (listing self.old) (state self.old) (tree_at self.old.context.trees number)) }
+    {
+        match self.cx.argument(number) {
+            Some(arg) => Ok(self.current(alloc, arg)?.number()),
+            None => Ok(number),
+        }
+    }
+
+    /// Two trees meet, of which none is a variable with a value: the left one's variable goes before the right one's, and where neither
+    /// takes the other they have to match.
+    fn meet(
+        &mut self,
+        alloc: Global,
+        rest: &mut Rest,
+        left: u32,
+        right: u32,
+    ) -> Result<(), NoSolutionOrStop>
+        requires left { left < length self.old.context.trees }
+        requires right { right < length self.old.context.trees }
+        requires left_free { root_value (state self.old) (tree_at self.old.context.trees left).head ≡ None }
+        requires right_free { root_value (state self.old) (tree_at self.old.context.trees right).head ≡ None }
+        requires frames { AreFrames self.old.context.trees rest.old.universes.items rest.old.frames.items }
+        ensures goes { GoesOn self.old self.new }
+        ensures frames { OnOk result (AreFrames self.new.context.trees rest.new.universes.items rest.new.frames.items) }
+        ensures ok { OnOk result (met (listing self.old) (state self.old) (reverse rest.old.universes.items) (tree_at self.old.context.trees left) (tree_at self.old.context.trees right) (pairs_of self.old.context.trees rest.old.universes.items rest.old.frames.items) ≡ Left (state self.new) (pairs_of self.new.context.trees rest.new.universes.items rest.new.frames.items)) }
+        ensures refused { IfErr result (λ e. e ≡ NoSolutionOrStop.NoSolution → met (listing self.old) (state self.old) (reverse rest.old.universes.items) (tree_at self.old.context.trees left) (tree_at self.old.context.trees right) (pairs_of self.old.context.trees rest.old.universes.items rest.old.frames.items) ≡ Refused) }
+    {
+        self.well_kept();
+        if self.offered(alloc, rest.universes.as_slice(), left, right)? {
+            return Ok(());
+        }
+        if self.offered(alloc, rest.universes.as_slice(), right, left)? {
+            return Ok(());
+        }
+        self.matched(rest, left, right)
+    }
+
+    /// Two trees meet as they are at the state.
+    fn meet_current(
+        &mut self,
+        alloc: Global,
+        rest: &mut Rest,
+        left: u32,
+        right: u32,
+    ) -> Result<(), NoSolutionOrStop>
+        requires left { left < length self.old.context.trees }
+        requires right { right < length self.old.context.trees }
+        requires frames { AreFrames self.old.context.trees rest.old.universes.items rest.old.frames.items }
+        ensures goes { GoesOn self.old self.new }
+        ensures frames { OnOk result (AreFrames self.new.context.trees rest.new.universes.items rest.new.frames.items) }
+        ensures ok { OnOk result (met (listing self.old) (state self.old) (reverse rest.old.universes.items) (current (listing self.old) (state self.old) (tree_at self.old.context.trees left)) (current (listing self.old) (state self.old) (tree_at self.old.context.trees right)) (pairs_of self.old.context.trees rest.old.universes.items rest.old.frames.items) ≡ Left (state self.new) (pairs_of self.new.context.trees rest.new.universes.items rest.new.frames.items)) }
+        ensures refused { IfErr result (λ e. e ≡ NoSolutionOrStop.NoSolution → met (listing self.old) (state self.old) (reverse rest.old.universes.items) (current (listing self.old) (state self.old) (tree_at self.old.context.trees left)) (current (listing self.old) (state self.old) (tree_at self.old.context.trees right)) (pairs_of self.old.context.trees rest.old.universes.items rest.old.frames.items) ≡ Refused) }
+    {
+        self.well_kept();
+        let left = self.current_number(alloc, left)?;
+        let right = self.current_number(alloc, right)?;
+        self.meet(alloc, rest, left, right)
+    }
+
+    /// Looks at what is first on both sides of a frame, which is taken off what is left.
+    fn visit(
+        &mut self,
+        alloc: Global,
+        rest: &mut Rest,
+        frame: Frame,
+    ) -> Result<(), NoSolutionOrStop>
+        requires frame { IsFrame self.old.context.trees frame }
+        requires binders { frame.binders ≡ length rest.old.universes.items }
+        requires frames { AreFrames self.old.context.trees rest.old.universes.items rest.old.frames.items }
+        ensures goes { GoesOn self.old self.new }
+        ensures frames { OnOk result (AreFrames self.new.context.trees rest.new.universes.items rest.new.frames.items) }
+        ensures ok { OnOk result (visited (listing self.old) (state self.old) (pair_of self.old.context.trees rest.old.universes.items frame ∷ pairs_of self.old.context.trees rest.old.universes.items rest.old.frames.items) ≡ Left (state self.new) (pairs_of self.new.context.trees rest.new.universes.items rest.new.frames.items)) }
+        ensures refused { IfErr result (λ e. e ≡ NoSolutionOrStop.NoSolution → visited (listing self.old) (state self.old) (pair_of self.old.context.trees rest.old.universes.items frame ∷ pairs_of self.old.context.trees rest.old.universes.items rest.old.frames.items) ≡ Refused) }
+    {
+        let left = self.cx.child(frame.left, frame.place);
+        let right = self.cx.child(frame.right, frame.place);
+        match (left, right) {
+            (None, None) => Ok(()),
+            (Some(left), Some(right)) => {
+                let Some(place) = frame.place.checked_add(1) else {
+                    return Err(NoSolutionOrStop::Stop(Stop::NodesFull));
+                };
+                rest.push(Frame { place, ..frame })?;
+                self.meet_current(alloc, rest, left, right)
+            }
+            _ => Err(NoSolutionOrStop::NoSolution),
+        }
+    }
+
+    /// One look: what is first on both sides of a frame, which stood last, under the binders that are around it.
+    fn look(&mut self, alloc: Global, rest: &mut Rest, frame: Frame) -> Result<(), NoSolutionOrStop>
+        requires { AreFrames self.old.context.trees rest.old.universes.items (rest.old.frames.items ++ frame ∷ []) }
+        ensures goes { GoesOn self.old self.new }
+        ensures frames { OnOk result (AreFrames self.new.context.trees rest.new.universes.items rest.new.frames.items) }
+        ensures less { OnOk result (looks (listing self.new) (state self.new) (pairs_of self.new.context.trees rest.new.universes.items rest.new.frames.items) < looks (listing self.old) (state self.old) (pairs_of self.old.context.trees rest.old.universes.items (rest.old.frames.items ++ frame ∷ []))) }
+        ensures ok { OnOk result (unified (listing self.old) (state self.old) (pairs_of self.old.context.trees rest.old.universes.items (rest.old.frames.items ++ frame ∷ [])) ≡ unified (listing self.new) (state self.new) (pairs_of self.new.context.trees rest.new.universes.items rest.new.frames.items)) }
+        ensures refused { IfErr result (λ e. e ≡ NoSolutionOrStop.NoSolution → unified (listing self.old) (state self.old) (pairs_of self.old.context.trees rest.old.universes.items (rest.old.frames.items ++ frame ∷ [])) ≡ None) }
+    {
+        self.well_kept();
+        rest.universes.truncate(frame.binders);
+        self.visit(alloc, rest, frame)
+    }
+
+    /// Looks at what is left until nothing is.
+    fn unify(&mut self, alloc: Global, rest: &mut Rest) -> Result<(), NoSolutionOrStop>
+        requires { AreFrames self.old.context.trees rest.old.universes.items rest.old.frames.items }
+        ensures goes { GoesOn self.old self.new }
+        ensures ok { OnOk result (unified (listing self.old) (state self.old) (pairs_of self.old.context.trees rest.old.universes.items rest.old.frames.items) ≡ Some (state self.new)) }
+        ensures refused { IfErr result (λ e. e ≡ NoSolutionOrStop.NoSolution → unified (listing self.old) (state self.old) (pairs_of self.old.context.trees rest.old.universes.items rest.old.frames.items) ≡ None) }
+    {
+        while let Some(frame) = rest.frames.pop() {
+            self.look(alloc, rest, frame)?;
+        }
+        Ok(())
+    }
+
+    /// Two types, constants or regions are made equal. Where they can't be, and where it stops, what is known is what it was. Besides
+    /// `Stop::Memory`, `Stop::NodesFull` comes where no numbers are left or a tree would be higher than 1,024.
+    pub(crate) fn equate(
+        &mut self,
+        alloc: Global,
+        a: GenericArg,
+        b: GenericArg,
+    ) -> Result<(), NoSolutionOrStop>
+        requires left { IsArg self.old.context.trees a }
+        requires right { IsArg self.old.context.trees b }
+        ensures goes { GoesOn self.old self.new }
+        ensures ok { OnOk result (equated (listing self.old) (state self.old) (alone (arg_tree self.old.context.trees a)) (alone (arg_tree self.old.context.trees b)) ≡ Some (state self.new)) }
+        ensures refused { IfErr result (λ e. e ≡ NoSolutionOrStop.NoSolution → equated (listing self.old) (state self.old) (alone (arg_tree self.old.context.trees a)) (alone (arg_tree self.old.context.trees b)) ≡ None) }
+        ensures undone { OnErr result (self.new.inference ≡ self.old.inference) }
+    {
+        self.well_kept();
+        let changes = self.changes();
+        let result = self.equate_numbers(alloc, a.number(), b.number());
+        if result.is_err() {
+            self.undo_to(changes);
+        }
+        result
+    }
+
+    /// Two lists are made equal, member by member; what is said of `equate` holds here, too.
+    pub(crate) fn equate_args(
+        &mut self,
+        alloc: Global,
+        a: Args,
+        b: Args,
+    ) -> Result<(), NoSolutionOrStop>
+        requires left { IsArgs self.old.context.trees a }
+        requires right { IsArgs self.old.context.trees b }
+        ensures goes { GoesOn self.old self.new }
+        ensures ok { OnOk result (equated (listing self.old) (state self.old) (args_forest self.old.context.trees a) (args_forest self.old.context.trees b) ≡ Some (state self.new)) }
+        ensures refused { IfErr result (λ e. e ≡ NoSolutionOrStop.NoSolution → equated (listing self.old) (state self.old) (args_forest self.old.context.trees a) (args_forest self.old.context.trees b) ≡ None) }
+        ensures undone { OnErr result (self.new.inference ≡ self.old.inference) }
+    {
+        self.well_kept();
+        let changes = self.changes();
+        let result = self.equate_below(alloc, a, b);
+        if result.is_err() {
+            self.undo_to(changes);
+        }
+        result
+    }
+
+    /// The members of two lists are made equal. After a refusal or a stop some changes may be left.
+    fn equate_below(&mut self, alloc: Global, a: Args, b: Args) -> Result<(), NoSolutionOrStop>
+        requires left { IsArgs self.old.context.trees a }
+        requires right { IsArgs self.old.context.trees b }
+        ensures goes { GoesOn self.old self.new }
+        ensures ok { OnOk result (equated (listing self.old) (state self.old) (args_forest self.old.context.trees a) (args_forest self.old.context.trees b) ≡ Some (state self.new)) }
+        ensures refused { IfErr result (λ e. e ≡ NoSolutionOrStop.NoSolution → equated (listing self.old) (state self.old) (args_forest self.old.context.trees a) (args_forest self.old.context.trees b) ≡ None) }
+    {
+        let mut rest = Rest::new(alloc);
+        rest.push(Frame {
+            left: a.0,
+            right: b.0,
+            place: 0,
+            binders: 0,
+        })?;
+        self.unify(alloc, &mut rest)
+    }
+
+    /// The trees of two numbers are made equal. After a refusal or a stop some changes may be left.
+    fn equate_numbers(&mut self, alloc: Global, a: u32, b: u32) -> Result<(), NoSolutionOrStop>
+        requires left { a < length self.old.context.trees }
+        requires right { b < length self.old.context.trees }
+        ensures goes { GoesOn self.old self.new }
+        ensures ok { OnOk result (equated (listing self.old) (state self.old) (alone (tree_at self.old.context.trees a)) (alone (tree_at self.old.context.trees b)) ≡ Some (state self.new)) }
+        ensures refused { IfErr result (λ e. e ≡ NoSolutionOrStop.NoSolution → equated (listing self.old) (state self.old) (alone (tree_at self.old.context.trees a)) (alone (tree_at self.old.context.trees b)) ≡ None) }
+    {
+        self.well_kept();
+        let mut rest = Rest::new(alloc);
+        self.meet_current(alloc, &mut rest, a, b)?;
+        self.unify(alloc, &mut rest)
+    }
+}

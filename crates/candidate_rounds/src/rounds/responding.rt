@@ -1,0 +1,388 @@
+//! Responses: what is known of the root variables, with the variables that it leaves open numbered anew.
+
+ghost use Rattle.std.specs.Prelude.{◌≡◌, ◌<◌, ◌++◌, List, [], Some, None, length, map, slice_get, option_map, IfErr, IfOk, IfSome, MatchOption, OnErr, OnOk};
+ghost use Rattle.std.specs.Option.{option_to_list};
+ghost use Rattle.candidate_ir.specs.Context.{Grows};
+ghost use Rattle.candidate_ir.specs.Folds.{IsArg, IsOfKind, arg_tree};
+ghost use Rattle.candidate_ir.specs.Nodes.{tree_at};
+ghost use Rattle.candidate_ir.specs.Substitutions.{alone};
+ghost use Rattle.candidate_ir.specs.Trees.{Tree, variable_number};
+ghost use Rattle.candidate_ir.specs.Words.{ClauseListFits, IsArgs, IsClause, args_forest, clause_tree};
+ghost use Rattle.candidate_eval.specs.ResponseTrees.{IsResponse, response_of};
+ghost use Rattle.candidate_eval.specs.States.{next, variable};
+ghost use Rattle.candidate_eval.specs.declared.eval.mode.TypingMode.{TypingMode};
+ghost use Rattle.candidate_rounds.specs.Gathered.{open_entry, renumbered_at, root_at};
+ghost use Rattle.candidate_rounds.specs.Known.{Each, GoesOn, IsKnown, KeepsGiven, SuitsKind, info_of, listing, probes, state, state_of};
+ghost use Rattle.rounds_judge.specs.Responding.{constraints, is_seen, place_of, renumbered, renumbered_tree, responded, response, root_values, roots_from, with_number, with_numbers, with_numbers_of};
+ghost use Rattle.rounds_judge.specs.Settling.{settled};
+
+use crate::rounds::Rounds;
+use crate::rounds::fresh::variable;
+use crate::rounds::inference::Inference;
+use crate::rounds::resolving::{resolved_args, resolved_clause, variable_of};
+use candidate_eval::eval::certainty::Certainty;
+use candidate_eval::eval::refusal::NoSolutionOrStop;
+use candidate_eval::eval::response::CanonicalResponse;
+use candidate_eval::eval::variable::{CanonicalVar, VariableKind};
+use candidate_ir::decl::context::Cx;
+use candidate_ir::decl::fold::{fold_args, fold_clause};
+use candidate_ir::ir::heads::VariableSort;
+use candidate_ir::ir::kinds::{Args, Clause, ConstKind, GenericArg, RegionKind, TyKind};
+use candidate_ir::ir::stop::Stop;
+use std::alloc::Global;
+
+/// The place of a number among these; where it isn't there, how many they are.
+fn place_of(numbers: &[u32], number: u32) -> usize
+    ensures { result ≡ place_of numbers.now number }
+{
+    for i in 0..numbers.len() {
+        if numbers[i] == number {
+            return i;
+        }
+    }
+    numbers.len()
+}
+
+/// Whether the number is among these.
+#[tactic(auto, using(crate::proofs::Places::seen_is))]
+fn is_seen(numbers: &[u32], number: u32) -> bool
+    ensures { result ≡ is_seen numbers.now number }
+{
+    place_of(numbers, number) < numbers.len()
+}
+
+/// Notes a variable's number, unless it is among those seen. The only stop is `Stop::Memory`.
+fn note_number(numbers: &mut Vec<u32>, number: Option<u32>) -> Result<(), Stop>
+    ensures { IfOk result (λ _. numbers.new.items ≡ with_number numbers.old.items number) }
+{
+    match number {
+        Some(number) if !is_seen(numbers.as_slice(), number) => Ok(numbers.push(number)?),
+        _ => Ok(()),
+    }
+}
+
+/// Notes the numbers of the variables below a number of the context. It stops by `Stop::Memory`, or by `Stop::NodesFull` where there
+/// are more children than can be counted.
+fn note_below(cx: &Cx, numbers: &mut Vec<u32>, number: u32) -> Result<(), Stop>
+    requires { number < length cx.now.trees }
+    ensures { IfOk result (λ _. numbers.new.items ≡ with_numbers numbers.old.items (tree_at cx.now.trees number).children) }
+{
+    for place in 0..usize::MAX {
+        let Some(child) = cx.child(number, place) else {
+            return Ok(());
+        };
+        note_number(numbers, cx.head(child).variable_number())?;
+        note_below(cx, numbers, child)?;
+    }
+    Err(Stop::NodesFull)
+}
+
+/// Notes the numbers of the variables of a clause; it stops as `note_below` does.
+fn note_clause(cx: &Cx, numbers: &mut Vec<u32>, clause: Clause) -> Result<(), Stop>
+    requires { IsClause cx.now.trees clause }
+    ensures { IfOk result (λ _. numbers.new.items ≡ with_numbers numbers.old.items (alone (clause_tree cx.now.trees clause))) }
+{
+    note_number(numbers, cx.head(clause.0).variable_number())?;
+    note_below(cx, numbers, clause.0)
+}
+
+/// The numbers of the variables of a list and of clauses, each once, in the order in which they first occur; it stops as
+/// `note_below` does.
+fn numbers_of(alloc: Global, cx: &Cx, args: Args, clauses: &[Clause]) -> Result<Vec<u32>, Stop>
+    requires args { IsArgs cx.now.trees args }
+    requires clauses { ClauseListFits cx.now.trees clauses.now }
+    ensures { IfOk result (λ v. v.items ≡ with_numbers_of (with_numbers [] (args_forest cx.now.trees args)) (map (clause_tree cx.now.trees) clauses.now)) }
+{
+    let mut numbers = Vec::new(alloc);
+    note_below(cx, &mut numbers, args.0)?;
+    for i in 0..clauses.len() {
+        note_clause(cx, &mut numbers, clauses[i])?;
+    }
+    Ok(numbers)
+}
+
+/// The variable of that number, if it is a root. `Stop::Memory` comes where a growth was refused, `Stop::NodesFull` where no number is
+/// left.
+fn root_variable(
+    cx: &mut Cx,
+    inference: &Inference,
+    number: u32,
+) -> Result<Option<GenericArg>, Stop>
+    ensures grows { Grows cx.old cx.new }
+    ensures sort { IfOk result (λ o. IfSome o (λ a. IsArg cx.new.trees a)) }
+    ensures tree { IfOk result (λ o. option_map (arg_tree cx.new.trees) o ≡ root_at number (slice_get inference.now.variables number)) }
+{
+    match inference.entry(number) {
+        Some(entry) if entry.is_root => Ok(Some(variable(cx, entry.kind, number)?)),
+        _ => Ok(None),
+    }
+}
+
+/// Puts an argument, if there is one, at a list's end. The only stop is `Stop::Memory`.
+fn push_some(list: &mut Vec<GenericArg>, arg: Option<GenericArg>) -> Result<(), Stop>
+    ensures { IfOk result (λ _. list.new.items ≡ list.old.items ++ option_to_list arg) }
+{
+    if let Some(arg) = arg {
+        list.push(arg)?;
+    }
+    Ok(())
+}
+
+/// The root variables, in their order; it stops as `root_variable` does.
+fn root_variables(alloc: Global, cx: &mut Cx, inference: &Inference) -> Result<Args, Stop>
+    ensures grows { Grows cx.old cx.new }
+    ensures sort { IfOk result (λ a. IsArgs cx.new.trees a) }
+    ensures trees { (ts : List Tree) → IfOk result (λ a. args_forest cx.new.trees a ≡ roots_from 0 (map (info_of ts) inference.now.variables)) }
+{
+    let count = inference.next_variable()?;
+    let mut list = Vec::new(alloc);
+    for number in 0..count {
+        let root = root_variable(cx, inference, number)?;
+        push_some(&mut list, root)?;
+    }
+    cx.mk_args(list.as_slice())
+}
+
+/// The values of the root variables, with all values put in; what is said of `Rounds::resolve_ty_if_possible` holds here, too.
+fn root_values(alloc: Global, cx: &mut Cx, inference: &Inference) -> Result<Args, Stop>
+    requires known { IsKnown cx.old.trees inference.now }
+    requires kinds { Each (SuitsKind cx.old.trees) inference.now.variables }
+    ensures grows { Grows cx.old cx.new }
+    ensures sort { IfOk result (λ a. IsArgs cx.new.trees a) }
+    ensures trees { (m : TypingMode) → IfOk result (λ a. args_forest cx.new.trees a ≡ root_values (state_of cx.old.trees m inference.now)) }
+{
+    let roots = root_variables(alloc, cx, inference)?;
+    resolved_args(alloc, cx, inference, roots)
+}
+
+/// The region constraints, with all values put in; what is said of `Rounds::resolve_ty_if_possible` holds here, too.
+fn constraints(alloc: Global, cx: &mut Cx, inference: &Inference) -> Result<Vec<Clause>, Stop>
+    requires known { IsKnown cx.old.trees inference.now }
+    requires kinds { Each (SuitsKind cx.old.trees) inference.now.variables }
+    ensures grows { Grows cx.old cx.new }
+    ensures fit { IfOk result (λ v. ClauseListFits cx.new.trees v.items) }
+    ensures trees { (m : TypingMode) → IfOk result (λ v. map (clause_tree cx.new.trees) v.items ≡ constraints (state_of cx.old.trees m inference.now)) }
+{
+    let regions = inference.regions();
+    let mut list = Vec::new(alloc);
+    for i in 0..regions.len() {
+        list.push(resolved_clause(alloc, cx, inference, regions[i])?)?;
+    }
+    Ok(list)
+}
+
+/// The variable that an argument is, if it is one: its kind and its number.
+fn variable_in(cx: &Cx, arg: GenericArg) -> Option<(VariableKind, u32)>
+    requires { IsArg cx.now.trees arg }
+    ensures { MatchOption result (variable_number (arg_tree cx.now.trees arg).head ≡ None) (λ v. arg_tree cx.now.trees arg ≡ variable v.0 v.1) }
+{
+    match arg {
+        GenericArg::Ty(ty) => match cx.kind(ty) {
+            TyKind::Infer(var) => {
+                let variable = variable_of(var);
+                Some((VariableKind::Term(variable.sort), variable.number))
+            }
+            _ => None,
+        },
+        GenericArg::Const(constant) => match cx.const_kind(constant) {
+            ConstKind::Infer(number) => {
+                Some((VariableKind::Term(VariableSort::Constant), number))
+            }
+            _ => None,
+        },
+        GenericArg::Region(region) => match cx.region_kind(region) {
+            RegionKind::Var(number) => Some((VariableKind::Region, number)),
+            _ => None,
+        },
+    }
+}
+
+/// What stands for a variable, whose new number is the place of its old one. `Stop::Memory` comes where a growth was refused,
+/// `Stop::NodesFull` where no number is left.
+fn renumbered_at(cx: &mut Cx, numbers: &[u32], arg: GenericArg) -> Result<Option<GenericArg>, Stop>
+    requires { IsArg cx.old.trees arg }
+    ensures grows { Grows cx.old cx.new }
+    ensures kind { IfOk result (λ o. IsOfKind cx.new.trees arg o) }
+    ensures answer { IfOk result (λ o. option_map (arg_tree cx.new.trees) o ≡ renumbered_at numbers.now (arg_tree cx.old.trees arg)) }
+{
+    let Some((kind, number)) = variable_in(cx, arg) else {
+        return Ok(None);
+    };
+    let place = place_of(numbers, number);
+    if place > u32::MAX as usize {
+        return Err(Stop::NodesFull);
+    }
+    Ok(Some(variable(cx, kind, place as u32)?))
+}
+
+/// The list, with its variables numbered anew; what is said of `Rounds::resolve_ty_if_possible` holds here, too.
+fn renumbered_args(alloc: Global, cx: &mut Cx, numbers: &[u32], args: Args) -> Result<Args, Stop>
+    requires { IsArgs cx.old.trees args }
+    ensures grows { Grows cx.old cx.new }
+    ensures sort { IfOk result (λ a. IsArgs cx.new.trees a) }
+    ensures trees { IfOk result (λ a. args_forest cx.new.trees a ≡ renumbered numbers.now (args_forest cx.old.trees args)) }
+{
+    fold_args(
+        alloc,
+        cx,
+        args,
+        move |cx: &mut Cx, arg: GenericArg, _: u32| -> Result<Option<GenericArg>, Stop>
+            requires { IsArg cx.old.trees arg }
+            ensures grows { Grows cx.old cx.new }
+            ensures kind { IfOk result (λ o. IsOfKind cx.new.trees arg o) }
+            ensures answer { IfOk result (λ o. option_map (arg_tree cx.new.trees) o ≡ renumbered_at numbers.entry.now (arg_tree cx.old.trees arg)) }
+        { renumbered_at(cx, numbers, arg) },
+    )
+}
+
+/// The same of a clause.
+fn renumbered_clause(
+    alloc: Global,
+    cx: &mut Cx,
+    numbers: &[u32],
+    clause: Clause,
+) -> Result<Clause, Stop>
+    requires { IsClause cx.old.trees clause }
+    ensures grows { Grows cx.old cx.new }
+    ensures sort { IfOk result (λ x. IsClause cx.new.trees x) }
+    ensures tree { IfOk result (λ x. clause_tree cx.new.trees x ≡ renumbered_tree numbers.now (clause_tree cx.old.trees clause)) }
+{
+    fold_clause(
+        alloc,
+        cx,
+        clause,
+        move |cx: &mut Cx, arg: GenericArg, _: u32| -> Result<Option<GenericArg>, Stop>
+            requires { IsArg cx.old.trees arg }
+            ensures grows { Grows cx.old cx.new }
+            ensures kind { IfOk result (λ o. IsOfKind cx.new.trees arg o) }
+            ensures answer { IfOk result (λ o. option_map (arg_tree cx.new.trees) o ≡ renumbered_at numbers.entry.now (arg_tree cx.old.trees arg)) }
+        { renumbered_at(cx, numbers, arg) },
+    )
+}
+
+/// The clauses, with their variables numbered anew.
+fn renumbered_clauses(
+    alloc: Global,
+    cx: &mut Cx,
+    numbers: &[u32],
+    clauses: &[Clause],
+) -> Result<Vec<Clause>, Stop>
+    requires { ClauseListFits cx.old.trees clauses.now }
+    ensures grows { Grows cx.old cx.new }
+    ensures fit { IfOk result (λ v. ClauseListFits cx.new.trees v.items) }
+    ensures trees { IfOk result (λ v. map (clause_tree cx.new.trees) v.items ≡ map (renumbered_tree numbers.now) (map (clause_tree cx.old.trees) clauses.now)) }
+{
+    let mut list = Vec::new(alloc);
+    for i in 0..clauses.len() {
+        list.push(renumbered_clause(alloc, cx, numbers, clauses[i])?)?;
+    }
+    Ok(list)
+}
+
+/// What the variable of that number is: its kind and its universe.
+fn open_variable(inference: &Inference, number: u32) -> CanonicalVar
+    ensures { result ≡ open_entry (slice_get inference.now.variables number) }
+{
+    match inference.entry(number) {
+        Some(entry) => CanonicalVar {
+            kind: entry.kind,
+            universe: entry.universe,
+        },
+        None => CanonicalVar {
+            kind: VariableKind::Region,
+            universe: 0,
+        },
+    }
+}
+
+/// What the variables of these numbers are. The only stop is `Stop::Memory`.
+fn open_variables(
+    alloc: Global,
+    inference: &Inference,
+    numbers: &[u32],
+) -> Result<Vec<CanonicalVar>, Stop>
+    ensures { IfOk result (λ v. v.items ≡ map (λ n. open_entry (slice_get inference.now.variables n)) numbers.now) }
+{
+    let mut list = Vec::new(alloc);
+    for i in 0..numbers.len() {
+        list.push(open_variable(inference, numbers[i]))?;
+    }
+    Ok(list)
+}
+
+/// The response of what is known, with that certainty; what is said of `Rounds::resolve_ty_if_possible` holds here, too.
+fn response(
+    alloc: Global,
+    cx: &mut Cx,
+    inference: &Inference,
+    certainty: Certainty,
+) -> Result<CanonicalResponse, Stop>
+    requires known { IsKnown cx.old.trees inference.now }
+    requires kinds { Each (SuitsKind cx.old.trees) inference.now.variables }
+    ensures grows { Grows cx.old cx.new }
+    ensures sort { IfOk result (λ r. IsResponse cx.new.trees r) }
+    ensures is { (m : TypingMode) → IfOk result (λ r. response_of cx.new.trees r ≡ response (state_of cx.old.trees m inference.now) certainty) }
+{
+    let values = root_values(alloc, cx, inference)?;
+    let regions = constraints(alloc, cx, inference)?;
+    let numbers = numbers_of(alloc, cx, values, regions.as_slice())?;
+    let vars = open_variables(alloc, inference, numbers.as_slice())?;
+    let new_values = renumbered_args(alloc, cx, numbers.as_slice(), values)?;
+    let new_regions = renumbered_clauses(alloc, cx, numbers.as_slice(), regions.as_slice())?;
+    Ok(CanonicalResponse {
+        vars,
+        values: new_values,
+        regions: new_regions,
+        certainty,
+    })
+}
+
+impl Rounds {
+    /// The response of what is known, with that certainty. Nothing that is pending is evaluated; nodes are made, and nothing else is
+    /// changed. `Stop::Memory` comes where a growth was refused, `Stop::NodesFull` where no numbers are left or a tree would be higher
+    /// than 1,024. After a stop the nodes that were made stay.
+    pub fn make_canonical_response(
+        &mut self,
+        alloc: Global,
+        certainty: Certainty,
+    ) -> Result<CanonicalResponse, Stop>
+        ensures goes { GoesOn self.old self.new }
+        ensures grows { Grows self.old.context self.new.context }
+        ensures given { KeepsGiven self.old self.new }
+        ensures probes { probes self.new ≡ probes self.old }
+        ensures state { state self.new ≡ state self.old }
+        ensures sort { IfOk result (λ r. IsResponse self.new.context.trees r) }
+        ensures is { IfOk result (λ r. response_of self.new.context.trees r ≡ response (state self.old) certainty) }
+    {
+        response(alloc, &mut self.cx, &self.inference, certainty)
+    }
+
+    /// What is pending is evaluated, as `try_evaluate_added_goals` does, and then comes the response, with at most that certainty. Where
+    /// it is refused, or stops, nothing that is known changes; it stops as those two do.
+    pub fn evaluate_added_goals_and_make_canonical_response(
+        &mut self,
+        alloc: Global,
+        certainty: Certainty,
+    ) -> Result<CanonicalResponse, NoSolutionOrStop>
+        ensures goes { GoesOn self.old self.new }
+        ensures grows { Grows self.old.context self.new.context }
+        ensures given { KeepsGiven self.old self.new }
+        ensures probes { probes self.new ≡ probes self.old }
+        ensures sort { IfOk result (λ r. IsResponse self.new.context.trees r) }
+        ensures ok { IfOk result (λ r. responded (listing self.old) (state self.old) certainty ≡ Some (response_of self.new.context.trees r)) }
+        ensures left { OnOk result (next (settled (listing self.old) (state self.old)) (λ q. Some q.1) ≡ Some (state self.new)) }
+        ensures refused { IfErr result (λ e. e ≡ NoSolutionOrStop.NoSolution → responded (listing self.old) (state self.old) certainty ≡ None) }
+        ensures undone { OnErr result (state self.new ≡ state self.old) }
+    {
+        self.well_kept();
+        let changes = self.changes();
+        let settled = self.try_evaluate_added_goals(alloc)?;
+        match self.make_canonical_response(alloc, certainty.and(settled)) {
+            Ok(response) => Ok(response),
+            Err(stop) => {
+                self.undo_to(changes);
+                Err(NoSolutionOrStop::Stop(stop))
+            }
+        }
+    }
+}

@@ -1,0 +1,365 @@
+//! Pending goals are evaluated.
+
+ghost use Rattle.std.specs.Prelude.{◌≡◌, ◌++◌, [], IfErr, IfOk, IfSome, None, OnErr, OnOk, Some};
+ghost use Rattle.std.specs.Option.{option_to_list};
+ghost use Rattle.candidate_ir.specs.Context.{Grows, world};
+ghost use Rattle.candidate_ir.specs.Opening.{opened_clause};
+ghost use Rattle.candidate_ir.specs.References.{Takes};
+ghost use Rattle.candidate_ir.specs.Supers.{after_first};
+ghost use Rattle.candidate_ir.specs.Words.{IsArgs, IsClause, IsTy, KindFits, args_forest, clause_tree, kind_tree, ty_tree};
+ghost use Rattle.candidate_eval.specs.Characterization.{bound_kinds};
+ghost use Rattle.candidate_eval.specs.Evaluators.{IsGoal, kinds_listed, pending_of, pendings_of};
+ghost use Rattle.candidate_eval.specs.States.{added, with_pending};
+ghost use Rattle.rounds_judge.specs.Equating.{count_unbound};
+ghost use Rattle.candidate_rounds.specs.Known.{Each, GoesOn, KeepsGiven, listing, probes, state};
+ghost use Rattle.rounds_judge.specs.Settling.{certainty_of, instantiated, pass, passes, recorded, settled, tried, tried_all, with_facts};
+ghost use Rattle.candidate_rounds.specs.Trying.{Says, answered, evaluated_as, left_of, projection_of, second_if_bound, unbound_entries};
+
+use crate::rounds::Rounds;
+use crate::rounds::inference::Entry;
+use candidate_eval::eval::certainty::Certainty;
+use candidate_eval::eval::refusal::NoSolutionOrStop;
+use candidate_ir::decl::open::{binder_kinds, open_clause};
+use candidate_ir::ir::kinds::{
+    AliasTy, Args, Clause, ClauseKind, GenericArg, Goal, GoalSource, ProjectionPredicate, Ty,
+    TyKind, VarKind,
+};
+use candidate_ir::ir::stop::Stop;
+use std::alloc::Global;
+
+impl Rounds {
+    /// Records a region constraint. The only stop is `Stop::Memory`; nothing is recorded then.
+    fn record_region(&mut self, region: Clause) -> Result<(), Stop>
+        requires { IsClause self.old.context.trees region }
+        ensures goes { GoesOn self.old self.new }
+        ensures made { OnOk result (state self.new ≡ recorded (state self.old) (clause_tree self.old.context.trees region)) }
+    {
+        self.inference.record_region(region)
+    }
+
+    /// The clause under an empty binder, with the list's values in the place of the variables of its own: nodes are made, and nothing
+    /// else.
+    fn open(&mut self, alloc: Global, clause: Clause, values: Args) -> Result<Clause, Stop>
+        requires clause { IsClause self.old.context.trees clause }
+        requires values { IsArgs self.old.context.trees values }
+        ensures goes { GoesOn self.old self.new }
+        ensures state { state self.new ≡ state self.old }
+        ensures sort { IfOk result (λ x. IsClause self.new.context.trees x) }
+        ensures tree { IfOk result (λ x. clause_tree self.new.context.trees x ≡ opened_clause (args_forest self.old.context.trees values) (clause_tree self.old.context.trees clause)) }
+    {
+        open_clause(alloc, &mut self.cx, clause, values)
+    }
+
+    /// The clause under an empty binder, with placeholders of a fresh universe for the variables of its own, which are of these
+    /// kinds.
+    #[tactic(auto, using(crate::proofs::Trying::going_on))]
+    fn instantiate(
+        &mut self,
+        alloc: Global,
+        clause: Clause,
+        kinds: &[VarKind],
+    ) -> Result<Clause, Stop>
+        requires clause { IsClause self.old.context.trees clause }
+        requires kinds { kinds_listed kinds.now ≡ bound_kinds (clause_tree self.old.context.trees clause).children }
+        ensures goes { GoesOn self.old self.new }
+        ensures state { OnOk result (state self.new ≡ (instantiated (state self.old) (clause_tree self.old.context.trees clause)).0) }
+        ensures sort { IfOk result (λ x. IsClause self.new.context.trees x) }
+        ensures tree { IfOk result (λ x. clause_tree self.new.context.trees x ≡ with_facts (clause_tree self.old.context.trees clause) (instantiated (state self.old) (clause_tree self.old.context.trees clause)).1) }
+    {
+        let values = self.placeholder_args(alloc, kinds)?;
+        self.open(alloc, clause, values)
+    }
+
+    /// Where all values are put in, the type that is listed for an alias is made equal to the term, and the answer is true; no
+    /// type is listed where it is false.
+    #[tactic(auto, using(crate::proofs::Trying::going_on))]
+    fn try_alias(&mut self, alloc: Global, alias: Ty, term: Ty) -> Result<bool, NoSolutionOrStop>
+        requires alias { IsTy self.old.context.trees alias }
+        requires term { IsTy self.old.context.trees term }
+        ensures goes { GoesOn self.old self.new }
+        ensures ok { IfOk result (λ b. answered (listing self.old) (state self.old) (ty_tree self.old.context.trees alias) (ty_tree self.old.context.trees term) ≡ Some (b, state self.new)) }
+        ensures refused { IfErr result (λ e. e ≡ NoSolutionOrStop.NoSolution → answered (listing self.old) (state self.old) (ty_tree self.old.context.trees alias) (ty_tree self.old.context.trees term) ≡ None) }
+    {
+        self.well_kept();
+        let resolved = self.resolve_ty_if_possible(alloc, alias)?;
+        let Some(listed) = self.listed(resolved) else {
+            return Ok(false);
+        };
+        self.equate(alloc, GenericArg::Ty(listed), GenericArg::Ty(term))?;
+        Ok(true)
+    }
+
+    /// The type of that kind.
+    fn make_ty(&mut self, kind: TyKind) -> Result<Ty, Stop>
+        requires fits { KindFits self.old.context.trees kind }
+        requires takes { Takes (world self.old.context) (kind_tree self.old.context.trees kind) }
+        ensures goes { GoesOn self.old self.new }
+        ensures state { state self.new ≡ state self.old }
+        ensures sort { IfOk result (λ t. IsTy self.new.context.trees t) }
+        ensures tree { IfOk result (λ t. ty_tree self.new.context.trees t ≡ kind_tree self.old.context.trees kind) }
+    {
+        self.cx.mk_ty(kind)
+    }
+
+    /// The type that is listed for the alias of a projection is made equal to its term. The answer says whether one is listed.
+    #[tactic(auto, using(crate::proofs::Trying::going_on))]
+    fn try_projection(
+        &mut self,
+        alloc: Global,
+        projection: ProjectionPredicate,
+    ) -> Result<bool, NoSolutionOrStop>
+        requires term { IsTy self.old.context.trees projection.term }
+        requires fits { KindFits self.old.context.trees (projection_of projection) }
+        requires takes { Takes (world self.old.context) (kind_tree self.old.context.trees (projection_of projection)) }
+        ensures goes { GoesOn self.old self.new }
+        ensures ok { IfOk result (λ b. answered (listing self.old) (state self.old) (kind_tree self.old.context.trees (projection_of projection)) (ty_tree self.old.context.trees projection.term) ≡ Some (b, state self.new)) }
+        ensures refused { IfErr result (λ e. e ≡ NoSolutionOrStop.NoSolution → answered (listing self.old) (state self.old) (kind_tree self.old.context.trees (projection_of projection)) (ty_tree self.old.context.trees projection.term) ≡ None) }
+    {
+        self.well_kept();
+        let alias = projection.projection_term;
+        let kind = TyKind::Alias(AliasTy::projection(alias.def_id, alias.args));
+        let alias = self.make_ty(kind)?;
+        self.try_alias(alloc, alias, projection.term)
+    }
+}
+
+/// What is left of a goal's clause: where its binder has variables, of these kinds, its instance.
+fn left_clause(kinds: &[VarKind], clause: Clause, instance: Clause) -> Clause
+    ensures { result ≡ second_if_bound kinds.now clause instance }
+{
+    if kinds.is_empty() { clause } else { instance }
+}
+
+/// Puts a goal, if there is one, at a list's end.
+fn push_some(
+    list: &mut Vec<(GoalSource, Goal<Clause>)>,
+    goal: Option<(GoalSource, Goal<Clause>)>,
+) -> Result<(), Stop>
+    ensures { IfOk result (λ _. list.new.items ≡ list.old.items ++ option_to_list goal) }
+{
+    if let Some(goal) = goal {
+        list.push(goal)?;
+    }
+    Ok(())
+}
+
+/// How many of the variables have no value.
+fn count_unbound(variables: &[Entry]) -> usize
+    ensures { result ≡ unbound_entries variables.now }
+{
+    let mut unbound = 0;
+    for i in 0..variables.len() {
+        if variables[i].value.is_none() {
+            unbound += 1;
+        }
+    }
+    unbound
+}
+
+/// How often goals that stay pending are evaluated at most.
+const MOST_PASSES: u32 = 8;
+
+impl Rounds {
+    /// What the clause says, without its binder.
+    fn said(&self, clause: Clause) -> ClauseKind
+        requires { IsClause self.now.context.trees clause }
+        ensures { Says self.now.context (clause_tree self.now.context.trees clause) result }
+    {
+        self.cx.well_formed();
+        self.cx.clause(clause).value
+    }
+
+    /// The kinds of the variables of a clause's binder.
+    fn bound_kinds(&self, alloc: Global, clause: Clause) -> Result<Vec<VarKind>, Stop>
+        requires { IsClause self.now.context.trees clause }
+        ensures { IfOk result (λ v. kinds_listed v.items ≡ bound_kinds (clause_tree self.now.context.trees clause).children) }
+    {
+        Ok(binder_kinds(alloc, &self.cx, clause)?)
+    }
+
+    /// An instance is evaluated; the answer is whether nothing stays of it. What is recorded of a region constraint is the clause
+    /// beside it.
+    fn try_instance(
+        &mut self,
+        alloc: Global,
+        instance: Clause,
+        clause: Clause,
+    ) -> Result<bool, NoSolutionOrStop>
+        requires instance { IsClause self.old.context.trees instance }
+        requires clause { IsClause self.old.context.trees clause }
+        ensures goes { GoesOn self.old self.new }
+        ensures ok { IfOk result (λ b. evaluated_as (listing self.old) (state self.old) (clause_tree self.old.context.trees clause) (after_first (clause_tree self.old.context.trees instance).children) (clause_tree self.old.context.trees instance).head ≡ Some (b, state self.new)) }
+        ensures refused { IfErr result (λ e. e ≡ NoSolutionOrStop.NoSolution → evaluated_as (listing self.old) (state self.old) (clause_tree self.old.context.trees clause) (after_first (clause_tree self.old.context.trees instance).children) (clause_tree self.old.context.trees instance).head ≡ None) }
+    {
+        match self.said(instance) {
+            ClauseKind::Trait(_) => Ok(false),
+            ClauseKind::Projection(projection) => self.try_projection(alloc, projection),
+            ClauseKind::TypeOutlives(_, _) | ClauseKind::RegionOutlives(_, _) => {
+                self.record_region(clause)?;
+                Ok(true)
+            }
+        }
+    }
+
+    /// A goal is evaluated: what stays of it is the answer.
+    fn try_goal(
+        &mut self,
+        alloc: Global,
+        source: GoalSource,
+        goal: Goal<Clause>,
+    ) -> Result<Option<(GoalSource, Goal<Clause>)>, NoSolutionOrStop>
+        requires { IsGoal self.old.context.trees goal }
+        ensures goes { GoesOn self.old self.new }
+        ensures sort { IfOk result (λ o. IfSome o (λ g. IsGoal self.new.context.trees g.1)) }
+        ensures ok { IfOk result (λ o. tried (listing self.old) (state self.old) (pending_of self.old.context.trees source goal) ≡ Some (left_of self.new.context.trees o, state self.new)) }
+        ensures refused { IfErr result (λ e. e ≡ NoSolutionOrStop.NoSolution → tried (listing self.old) (state self.old) (pending_of self.old.context.trees source goal) ≡ None) }
+    {
+        self.well_kept();
+        let kinds = self.bound_kinds(alloc, goal.predicate)?;
+        let instance = self.instantiate(alloc, goal.predicate, kinds.as_slice())?;
+        let predicate = left_clause(kinds.as_slice(), goal.predicate, instance);
+        if self.try_instance(alloc, instance, predicate)? {
+            return Ok(None);
+        }
+        let param_env = goal.param_env;
+        Ok(Some((
+            source,
+            Goal {
+                param_env,
+                predicate,
+            },
+        )))
+    }
+
+    /// The goals that are pending.
+    fn pending(&self, alloc: Global) -> Result<Vec<(GoalSource, Goal<Clause>)>, Stop>
+        ensures fit { IfOk result (λ v. Each (λ g. IsGoal self.now.context.trees g.1) v.items) }
+        ensures goals { IfOk result (λ v. pendings_of self.now.context.trees v.items ≡ (state self.now).pending) }
+    {
+        Ok(Vec::from_slice(alloc, self.inference.pending())?)
+    }
+
+    /// The goals are evaluated in order: what stays of them is the answer.
+    fn try_goals(
+        &mut self,
+        alloc: Global,
+        goals: &[(GoalSource, Goal<Clause>)],
+    ) -> Result<Vec<(GoalSource, Goal<Clause>)>, NoSolutionOrStop>
+        requires { Each (λ g. IsGoal self.old.context.trees g.1) goals.now }
+        ensures goes { GoesOn self.old self.new }
+        ensures fit { IfOk result (λ v. Each (λ g. IsGoal self.new.context.trees g.1) v.items) }
+        ensures ok { IfOk result (λ v. tried_all (listing self.old) (state self.old) (pendings_of self.old.context.trees goals.now) ≡ Some (pendings_of self.new.context.trees v.items, state self.new)) }
+        ensures refused { IfErr result (λ e. e ≡ NoSolutionOrStop.NoSolution → tried_all (listing self.old) (state self.old) (pendings_of self.old.context.trees goals.now) ≡ None) }
+    {
+        self.well_kept();
+        let mut staying = Vec::new(alloc);
+        for i in 0..goals.len() {
+            let left = self.try_goal(alloc, goals[i].0, goals[i].1)?;
+            push_some(&mut staying, left)?;
+        }
+        Ok(staying)
+    }
+
+    /// Nothing is pending from now on.
+    fn set_aside(&mut self) -> Result<(), Stop>
+        ensures goes { GoesOn self.old self.new }
+        ensures context { self.new.context ≡ self.old.context }
+        ensures made { OnOk result (state self.new ≡ with_pending (state self.old) []) }
+    {
+        self.inference.set_aside()
+    }
+
+    /// The goal is pending, after all others.
+    fn push_pending(&mut self, source: GoalSource, goal: Goal<Clause>) -> Result<(), Stop>
+        requires { IsGoal self.old.context.trees goal }
+        ensures goes { GoesOn self.old self.new }
+        ensures context { self.new.context ≡ self.old.context }
+        ensures made { OnOk result (state self.new ≡ added (state self.old) (pending_of self.old.context.trees source goal)) }
+    {
+        self.inference.add(source, goal)
+    }
+
+    /// From now on these goals are pending, and no others.
+    fn set_pending(&mut self, goals: &[(GoalSource, Goal<Clause>)]) -> Result<(), Stop>
+        requires { Each (λ g. IsGoal self.old.context.trees g.1) goals.now }
+        ensures goes { GoesOn self.old self.new }
+        ensures context { self.new.context ≡ self.old.context }
+        ensures made { OnOk result (state self.new ≡ with_pending (state self.old) (pendings_of self.old.context.trees goals.now)) }
+    {
+        self.set_aside()?;
+        for i in 0..goals.len() {
+            self.push_pending(goals[i].0, goals[i].1)?;
+        }
+        Ok(())
+    }
+
+    /// All pending goals are evaluated once; what stays of them is pending then.
+    fn settle_once(&mut self, alloc: Global) -> Result<(), NoSolutionOrStop>
+        ensures goes { GoesOn self.old self.new }
+        ensures ok { OnOk result (pass (listing self.old) (state self.old) ≡ Some (state self.new)) }
+        ensures refused { IfErr result (λ e. e ≡ NoSolutionOrStop.NoSolution → pass (listing self.old) (state self.old) ≡ None) }
+    {
+        let goals = self.pending(alloc)?;
+        let staying = self.try_goals(alloc, goals.as_slice())?;
+        self.set_pending(staying.as_slice())?;
+        Ok(())
+    }
+
+    /// How many variables have no value.
+    fn count_unbound(&self) -> usize
+        ensures { result ≡ count_unbound (state self.now).variables }
+    {
+        count_unbound(self.inference.variables())
+    }
+
+    /// What is pending is evaluated so many times at most, and again only while the last time gave a variable a value.
+    fn settle(&mut self, alloc: Global, most: u32) -> Result<(), NoSolutionOrStop>
+        ensures goes { GoesOn self.old self.new }
+        ensures ok { OnOk result (passes (listing self.old) most (state self.old) ≡ Some (state self.new)) }
+        ensures refused { IfErr result (λ e. e ≡ NoSolutionOrStop.NoSolution → passes (listing self.old) most (state self.old) ≡ None) }
+    {
+        self.well_kept();
+        for _pass in 0..most {
+            let unbound = self.count_unbound();
+            self.settle_once(alloc)?;
+            if self.count_unbound() >= unbound {
+                return Ok(());
+            }
+        }
+        Ok(())
+    }
+
+    /// Sure, if nothing is pending.
+    fn certainty(&self) -> Certainty
+        ensures { result ≡ certainty_of (state self.now).pending }
+    {
+        if self.inference.pending().is_empty() {
+            Certainty::Yes
+        } else {
+            Certainty::AMBIGUOUS
+        }
+    }
+
+    /// How sure what is pending is, together. What is settled is pending no more. Where it is refused, or stops, nothing that is known
+    /// changes. `Stop::Memory` comes where a growth was refused, `Stop::NodesFull` where no numbers are left or a tree would be higher
+    /// than 1,024.
+    pub fn try_evaluate_added_goals(&mut self, alloc: Global) -> Result<Certainty, NoSolutionOrStop>
+        ensures goes { GoesOn self.old self.new }
+        ensures grows { Grows self.old.context self.new.context }
+        ensures given { KeepsGiven self.old self.new }
+        ensures probes { probes self.new ≡ probes self.old }
+        ensures ok { IfOk result (λ c. settled (listing self.old) (state self.old) ≡ Some (c, state self.new)) }
+        ensures refused { IfErr result (λ e. e ≡ NoSolutionOrStop.NoSolution → settled (listing self.old) (state self.old) ≡ None) }
+        ensures undone { OnErr result (state self.new ≡ state self.old) }
+    {
+        self.well_kept();
+        let changes = self.changes();
+        match self.settle(alloc, MOST_PASSES) {
+            Ok(()) => Ok(self.certainty()),
+            Err(refusal) => {
+                self.undo_to(changes);
+                Err(refusal)
+            }
+        }
+    }
+}

@@ -1,0 +1,29 @@
+-- The laws of an evaluator on what an equation leaves, of equations that are solved by looks.
+use Rattle.std.proofs.Common.{◌≡◌, List, [], Option, Some, None, ap, subst}
+use Rattle.std.proofs.lemmas.List.Elements.{All-nil}
+use Rattle.candidate_ir.specs.Trees.{Forest}
+use Rattle.candidate_eval.specs.States.{State, Pending}
+use Rattle.candidate_eval.specs.Soundness.{Live, IsSound, ValuesFit, AreTreesOf, GoalIsOf, Follows}
+use Rattle.candidate_eval.specs.Lawful.{LeavesGoals}
+use Rattle.rounds_judge.specs.Listed.{Listing}
+use Rattle.rounds_judge.specs.Equating.{equated, without_goals}
+use Rattle.rounds_judge.specs.Standing.{IsListing}
+use Rattle.rounds_judge.proofs.Looks.{equated_follows, equated_pending}
+
+pub record NoGoals (o : Option State) (gs : List Pending) (T : State) : Type 0 where
+  pub is : o ≡ Some T
+  pub none : [] ≡ gs
+
+pub no_goals : (o : Option State) (gs : List Pending) (T : State) → without_goals o ≡ Some (gs, T) → NoGoals o gs T
+no_goals None gs T e = cc
+no_goals (Some R) gs T e = record { is = ap Some (ap (λ (q : List Pending × State). q.1) (let is : ([], R) ≡ (gs, T) = cc in is)); none = ap (λ (q : List Pending × State). q.0) (let is : ([], R) ≡ (gs, T) = cc in is) }
+
+pub equating_keeps_pending : (l : Listing) (S T : State) (a b : Forest) (gs : List Pending) → without_goals (equated l S a b) ≡ Some (gs, T) → T.pending ≡ S.pending
+equating_keeps_pending l S T a b gs e = equated_pending l S T a b (no_goals (equated l S a b) gs T e).is
+
+pub equating_follows : (l : Listing) → IsListing l → (S T : State) (L : Live) (a b : Forest) (gs : List Pending) → IsSound S L → ValuesFit S → AreTreesOf S L a → AreTreesOf S L b
+    → without_goals (equated l S a b) ≡ Some (gs, T) → LeavesGoals S T L gs
+equating_follows l listing S T L a b gs sound fits left right e =
+    let n = no_goals (equated l S a b) gs T e in
+    let f : Follows S T L = equated_follows l listing S T L a b sound fits left right n.is in
+    subst (λ gs. LeavesGoals S T L gs) n.none (record { follows = f; goals = All-nil (λ (p : Pending). GoalIsOf T f.live p.goal) })

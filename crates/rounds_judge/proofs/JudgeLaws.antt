@@ -1,0 +1,196 @@
+-- The laws of the judge that need nothing but its definitions: alike states, normal forms, and when Yes is answered.
+use Rattle.std.proofs.Common.{◌≡◌, ℕ, suc, Bool, true, false, List, [], Option, Some, None, nat_lt, arith, refl, sym, ap, subst, ◌∙◌, if◌then◌else◌}
+use Rattle.std.specs.Option.{unwrap_or}
+use Rattle.std.proofs.lemmas.Bool.{le-ltb}
+use Rattle.candidate_ir.specs.declared.ir.heads.Head.{Head}
+use Rattle.candidate_ir.specs.declared.ir.heads.Head.TheVariants as H
+use Rattle.candidate_ir.specs.declared.ir.kinds.RegionKind.TheVariants as R
+use Rattle.candidate_ir.specs.Trees.{Forest, none, tree, Tree, holds, is_alias, is_param}
+use Rattle.candidate_ir.specs.Binders.{escapes}
+use Rattle.candidate_ir.specs.Substitutions.{alone}
+use Rattle.candidate_ir.specs.Worlds.{World}
+use Rattle.candidate_eval.specs.declared.eval.certainty.Certainty.{Certainty}
+use Rattle.candidate_eval.specs.declared.eval.certainty.Certainty.TheVariants.{Yes, Maybe}
+use Rattle.candidate_eval.specs.Certainties.{certainty_and}
+use Rattle.candidate_eval.specs.declared.eval.variable.VariableKind.TheVariants.{Term, Region}
+use Rattle.candidate_eval.specs.Responses.{Response}
+use Rattle.candidate_eval.specs.States.{Env, State, Judge, value_in, value_at, resolved_tree, with_pending, next}
+use Rattle.candidate_eval.specs.Judging.{Place, Normal, normal_at, is_at, run, comes_to}
+use Rattle.candidate_eval.specs.Alike.{info, LooksAlike, BothNormal, JudgesAlike}
+use Rattle.candidate_eval.specs.Soundness.{Live, IsSound, ValuesFit, IsResolved, AreTreesOf, Follows, is_strange}
+use Rattle.candidate_eval.specs.Lawful.{IsNormalForm, NormalFormLaws, IsAnswered, HasNoParameter}
+use Rattle.rounds_judge.specs.Listed.{Listing, listed}
+use Rattle.rounds_judge.specs.Standing.{IsListing}
+use Rattle.rounds_judge.specs.Equating.{count_unbound}
+use Rattle.rounds_judge.specs.Normalizing.{type_or_itself, normalized}
+use Rattle.rounds_judge.specs.Settling.{tried_all, with_staying, passes, certainty_of, with_certainty}
+use Rattle.rounds_judge.specs.Responding.{response, responded}
+use Rattle.rounds_judge.specs.RoundsJudge.{rounds_judge}
+use Rattle.rounds_judge.proofs.Marks.{fold_marked}
+use Rattle.rounds_judge.proofs.Later.{later_itself, resolved_stays, resolved_known, resolved_closed, has_info, value_as_of}
+use Rattle.rounds_judge.proofs.Current.{listed_fixed, listed_known}
+
+-- States that are alike are equal
+
+same_normal : (o : Option Normal) → BothNormal (λ p q. (q.state ≡ p.state) × (q.locals ≡ p.locals)) o o
+same_normal None = BothNormal.refused
+same_normal (Some m) = BothNormal.normal refl refl (refl, refl)
+
+same_place : (p q : Place) → (q.state ≡ p.state) × (q.locals ≡ p.locals) → q ≡ p
+same_place p q s = ap (λ S. let r : Place = record { state = S; locals = q.locals } in r) s.0 ∙ ap (λ ls. let r : Place = record { state = p.state; locals = ls } in r) s.1
+
+looks_alike : (S : State) → LooksAlike S S
+looks_alike S = record { newest_universe = refl; regions = refl; pending = refl; mode = refl; kept = λ n i e. e; no_root = λ n i a b. absurd (let clash : None ≡ Some i = sym a ∙ b in cc) }
+
+module _ (w : World) (local : ℕ) (l : Listing) (os : List Tree) where
+  abbrev J : Judge
+  J = rounds_judge w local l os
+
+  pub alike_judged_alike : JudgesAlike J
+  alike_judged_alike = record {
+    alike_same = λ S. refl;
+    alike_along = λ S T U p q. q ∙ p;
+    alike_looks = λ S T e. subst (LooksAlike S) (sym e) (looks_alike S);
+    alike_places = λ S T ls e b. (e, refl);
+    same_answers = λ n p q e steps end s a b c. ap (λ x. comes_to J e x steps end) (same_place p q s);
+    same_refusals = λ n p q e steps s a b. ap (λ x. is_at (run J e x steps)) (same_place p q s);
+    same_normal_forms = λ n p q e t s a b.
+        subst (λ x. BothNormal (λ p q. (q.state ≡ p.state) × (q.locals ≡ p.locals)) (normal_at J e p t) (normal_at J e x t)) (sym (same_place p q s)) (same_normal (normal_at J e p t));
+  }
+
+-- Normal forms
+
+-- what the tree is, or a listed type
+pub data WhichType (l : Listing) (t : Tree) : Tree → Type 0 where
+  is_type : (u : Tree) → listed l t ≡ Some u → WhichType l t u
+  itself : WhichType l t t
+
+pub which_type : (l : Listing) (t : Tree) → WhichType l t (type_or_itself l t)
+which_type l t = at (is_alias t.head)
+  where
+    by : (o : Option Tree) → listed l t ≡ o → WhichType l t (unwrap_or o t)
+    by None e = itself
+    by (Some u) e = is_type u e
+
+    at : (b : Bool) → WhichType l t (if b then unwrap_or (listed l t) t else t)
+    at true = by (listed l t) refl
+    at false = itself
+
+abbrev pub follows_itself : (S : State) (L : Live) → IsSound S L → Follows S S L
+follows_itself S L sound = record { live = L; within = λ n l c. c; sound = sound; later = later_itself S L sound }
+
+module _ (l : Listing) (listing : IsListing l) (S : State) where
+  normal_known : (L : Live) → IsSound S L → (t : Tree) → AreTreesOf S L (alone t) → holds (is_strange S L) (alone (type_or_itself l (resolved_tree S t))) ≡ false
+  normal_known L sound t a = at (type_or_itself l (resolved_tree S t)) (which_type l (resolved_tree S t))
+    where
+      at : (u : Tree) → WhichType l (resolved_tree S t) u → holds (is_strange S L) (alone u) ≡ false
+      at _ (is_type u e) = listed_known l listing (resolved_tree S t) u e S L
+      at _ itself = resolved_known S L sound (alone t) a.known
+
+  normal_closed : ValuesFit S → (t : Tree) → escapes 0 (alone t) ≡ false → escapes 0 (alone (type_or_itself l (resolved_tree S t))) ≡ false
+  normal_closed fits t e = at (type_or_itself l (resolved_tree S t)) (which_type l (resolved_tree S t))
+    where
+      at : (u : Tree) → WhichType l (resolved_tree S t) u → escapes 0 (alone u) ≡ false
+      at _ (is_type u f) = (listed_fixed l listing (resolved_tree S t) u f).is_closed
+      at _ itself = resolved_closed S fits 0 (alone t) e
+
+  -- values of what counts hold no parameter
+  value_no_parameter : (L : Live) → HasNoParameter S L → (h : Head) (t : Tree) → is_strange S L h ≡ false → value_at S h ≡ Some t → holds is_param (alone t) ≡ false
+  value_no_parameter L free (H.Infer v) t e f = let i = has_info (L v.number) (Term v.sort) (info S v.number) e in free v.number i.0 t i.2 i.1 (sym (ap value_in i.1) ∙ value_as_of S (Term v.sort) v.number t f)
+  value_no_parameter L free (H.Region (R.Var n)) t e f = let i = has_info (L n) Region (info S n) e in free n i.0 t i.2 i.1 (sym (ap value_in i.1) ∙ value_as_of S Region n t f)
+  value_no_parameter L free _ t e f = cc
+
+  normal_no_parameter : (L : Live) → HasNoParameter S L → (t : Tree) → AreTreesOf S L (alone t) → holds is_param (alone t) ≡ false → holds is_param (alone (type_or_itself l (resolved_tree S t))) ≡ false
+  normal_no_parameter L free t a p = at (type_or_itself l (resolved_tree S t)) (which_type l (resolved_tree S t))
+    where
+      at : (u : Tree) → WhichType l (resolved_tree S t) u → holds is_param (alone u) ≡ false
+      at _ (is_type u f) = (listed_fixed l listing (resolved_tree S t) u f).no_parameter
+      at _ itself = fold_marked (λ d t. value_at S t.head) (is_strange S L) is_param is_param (λ d t a b e. b) (λ d t u a b e. value_no_parameter L free t.head u a e) 0 (alone t) a.known p
+
+  normal_form : (L : Live) (e : Env) (t : Tree) → IsSound S L → ValuesFit S → AreTreesOf S L (alone t) → IsNormalForm S S L e t (type_or_itself l (resolved_tree S t))
+  normal_form L e t sound fits a = record {
+    follows = follows_itself S L sound;
+    tree = record { known = normal_known L sound t a; is_closed = normal_closed fits t a.is_closed };
+    no_parameter = λ free f p. (free, normal_no_parameter L free t a p);
+  }
+
+pub record IsNormal (l : Listing) (S T : State) (t u : Tree) : Type 0 where
+  pub tree : type_or_itself l (resolved_tree S t) ≡ u
+  pub state : S ≡ T
+
+pub is_normal : (l : Listing) (S T : State) (e : Env) (t u : Tree) → normalized l S e t ≡ Some (u, T) → IsNormal l S T t u
+is_normal l S T e t u h =
+    let is : (type_or_itself l (resolved_tree S t), S) ≡ (u, T) = cc in
+    record { tree = ap (λ (q : Tree × State). q.0) is; state = ap (λ (q : Tree × State). q.1) is }
+
+rigid_stays : (l : Listing) (S : State) (t : Tree) → IsResolved S (alone t) → is_alias t.head ≡ false → type_or_itself l (resolved_tree S t) ≡ t
+rigid_stays l S t r a =
+    let is : resolved_tree S t ≡ t = ap (argument_of t) (resolved_stays S (alone t) r) in
+    ap (type_or_itself l) is ∙ ap (λ b. if b then unwrap_or (listed l t) t else t) a
+  where
+    argument_of : Tree → Forest → Tree
+    argument_of t none = t
+    argument_of t (tree h below rest) = record { head = h; children = below }
+
+module _ (w : World) (local : ℕ) (l : Listing) (os : List Tree) where
+  pub normal_form_laws : IsListing l → NormalFormLaws (rounds_judge w local l os)
+  normal_form_laws listing = record {
+    rigid_is_normal = λ S e t r k a. ap (λ u. Some (u, S)) (rigid_stays l S t r a);
+    normalizing_keeps_pending = λ S T e t u h. ap (λ (R : State). R.pending) (sym (is_normal l S T e t u h).state);
+    normalizing_follows = λ S T L e t u sound fits env a h.
+        let n = is_normal l S T e t u h in
+        subst (λ T. IsNormalForm S T L e t u) n.state (subst (IsNormalForm S S L e t) n.tree (normal_form l listing S L e t sound fits a));
+  }
+
+-- Certainties
+
+pub and_yes : (c : Certainty) → certainty_and c Yes ≡ c
+and_yes Yes = refl
+and_yes (Maybe a) = refl
+
+pub yes_both : (c d : Certainty) → certainty_and c d ≡ Yes → (c ≡ Yes) × (d ≡ Yes)
+yes_both Yes d e = (refl, e)
+yes_both (Maybe a) Yes e = cc
+yes_both (Maybe a) (Maybe b) e = cc
+
+-- With nothing pending one pass is made, which changes nothing.
+
+go_on : (l : Listing) (n : ℕ) (S T : State) → S ≡ T → (if nat_lt (count_unbound T.variables) (count_unbound S.variables) then passes l n T else Some T) ≡ Some S
+go_on l n S T e =
+    let same : count_unbound S.variables ≡ count_unbound T.variables = ap (λ (R : State). count_unbound R.variables) e in
+    ap (λ b. if b then passes l n T else Some T) (le-ltb (count_unbound T.variables) (count_unbound S.variables) (omega (arith, same))) ∙ ap Some (sym e)
+
+nothing_tried : (l : Listing) (n : ℕ) (S : State) → S.pending ≡ [] → passes l (suc n) S ≡ Some S
+nothing_tried l n S e =
+    ap (λ ps. next (next (tried_all l S ps) (λ q. Some (with_staying q))) (λ T. if nat_lt (count_unbound T.variables) (count_unbound S.variables) then passes l n T else Some T)) e
+    ∙ go_on l n S (with_pending S []) (ap (with_pending S) e)
+
+-- The state that a response is of.
+pub record Answered (l : Listing) (S : State) (c : Certainty) (r : Response) : Type 0 where
+  pub last : State
+  pub passed : passes l 8 S ≡ Some last
+  pub is : response last (certainty_and c (certainty_of last.pending)) ≡ r
+
+answered_yes : (l : Listing) (S : State) (c : Certainty) (r : Response) (o : Option State) → passes l 8 S ≡ o
+    → next (next o (λ T. Some (with_certainty T))) (λ q. Some (response q.1 (certainty_and c q.0))) ≡ Some r → Answered l S c r
+answered_yes l S c r None p e = cc
+answered_yes l S c r (Some T) p e = record { last = T; passed = p; is = let is : response T (certainty_and c (certainty_of T.pending)) ≡ r = cc in is }
+
+pub answered : (l : Listing) (S : State) (c : Certainty) (r : Response) → responded l S c ≡ Some r → Answered l S c r
+answered l S c r e = answered_yes l S c r (passes l 8 S) refl e
+
+pub both_sure : (l : Listing) (S : State) (c : Certainty) (r : Response) → (a : Answered l S c r) → r.certainty ≡ Yes → (c ≡ Yes) × (certainty_of a.last.pending ≡ Yes)
+both_sure l S c r a y = yes_both c (certainty_of a.last.pending) (ap (λ (r : Response). r.certainty) a.is ∙ y)
+
+module _ (w : World) (local : ℕ) (l : Listing) (os : List Tree) where
+  -- With nothing pending no response is refused, and its certainty is the one asked.
+  pub empty_is_answered : (S : State) (c : Certainty) → S.pending ≡ [] → IsAnswered (rounds_judge w local l os) S c
+  empty_is_answered S c e = record {
+    response = response S (certainty_and c (certainty_of S.pending));
+    is = ap (λ o. next (next o (λ T. Some (with_certainty T))) (λ q. Some (response q.1 (certainty_and c q.0)))) (nothing_tried l 7 S e);
+    as_asked = ap (λ ps. certainty_and c (certainty_of ps)) e ∙ and_yes c;
+  }
+
+  -- Yes is answered only where Yes was asked.
+  pub yes_was_asked : (S : State) (c : Certainty) (r : Response) → responded l S c ≡ Some r → r.certainty ≡ Yes → c ≡ Yes
+  yes_was_asked S c r e y = (both_sure l S c r (answered l S c r e) y).0

@@ -1,0 +1,44 @@
+-- The goals that are vouched for.
+use Rattle.std.specs.Prelude.{◌≡◌, ℕ, ◌<◌, false, List, [], ◌∷◌}
+use Rattle.candidate_ir.specs.declared.ir.heads.Head.{Head}
+use Rattle.candidate_ir.specs.declared.ir.heads.Head.TheVariants as H
+use Rattle.candidate_ir.specs.declared.ir.heads.PartHead.TheVariants as P
+use Rattle.candidate_ir.specs.declared.ir.heads.ClauseHead.TheVariants as Cl
+use Rattle.candidate_ir.specs.Trees.{Kind, Forest, Tree, join, holds}
+use Rattle.candidate_ir.specs.Supers.{after_first}
+use Rattle.candidate_ir.specs.Opening.{opened}
+use Rattle.candidate_ir.specs.Substitutions.{Universes}
+use Rattle.candidate_eval.specs.States.{State, Goal, resolved, placeholders}
+use Rattle.candidate_eval.specs.Characterization.{bound_kinds}
+use Rattle.candidate_eval.specs.Soundness.{universes}
+use Rattle.candidate_eval.specs.Instances.{is_of_universe}
+use Rattle.rounds_judge.specs.Listed.{Listing}
+use Rattle.rounds_judge.specs.Congruence.{SameTree}
+use Rattle.rounds_judge.specs.Settling.{alias_of, term_of}
+
+-- The facts of a clause, by its head: a projection whose sides are equal, and all that outlives.
+abbrev pub FactsGranted : Listing → Head → Forest → Type 0
+FactsGranted l (H.Part (P.Clause (Cl.Projection i))) ts = SameTree l (alias_of i ts) (term_of ts)
+FactsGranted l (H.Part (P.Clause Cl.TypeOutlives)) ts = Unit {0}
+FactsGranted l (H.Part (P.Clause Cl.RegionOutlives)) ts = Unit {0}
+FactsGranted l _ ts = ⊥
+
+-- The universe is above the root, and above those of all variables and placeholders that the trees mention.
+pub record IsFresh (u : Universes) (n : ℕ) (ts : Forest) : Type 0 where
+  pub above_root : 0 < n
+  pub unmentioned : holds (is_of_universe u n) ts ≡ false
+
+-- A binder's variables need a fresh universe; no variables, no universe.
+abbrev pub IsFreshFor : Universes → List Kind → ℕ → Forest → Type 0
+IsFreshFor u [] n ts = Unit {0}
+IsFreshFor u (k ∷ ks) n ts = IsFresh u n ts
+
+-- the facts, with placeholders of that universe for what the binder binds
+abbrev pub facts_in : ℕ → Tree → Forest
+facts_in n c = opened (placeholders n 0 (bound_kinds c.children)) (after_first c.children)
+
+-- A goal is granted where the instance with placeholders of one fresh universe is, with all values put in.
+pub record IsGranted (l : Listing) (S : State) (g : Goal) : Type 0 where
+  pub universe : ℕ
+  pub is_fresh : IsFreshFor (universes S) (bound_kinds g.clause.children) universe (join g.env (after_first g.clause.children))
+  pub facts : FactsGranted l g.clause.head (resolved S (facts_in universe g.clause))

@@ -1,0 +1,12 @@
+pub mod Listed
+pub mod Scopes
+pub mod Binding
+pub mod Equating
+pub mod Standing
+pub mod Normalizing
+pub mod Settling
+pub mod Responding
+pub mod Congruence
+pub mod Granted
+pub mod RoundsJudge
+pub mod WellListed

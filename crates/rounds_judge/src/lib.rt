@@ -1,0 +1,17 @@
+//! What an evaluator that works in rounds is to answer: its judge. The definitions are in `specs`, and that they keep the laws of an
+//! evaluator is proved in `proofs`. There is no code but one function that says so.
+#![tactic(auto)]
+
+ghost use Rattle.std.specs.Prelude.{ℕ, List};
+ghost use Rattle.candidate_ir.specs.Trees.{Tree};
+ghost use Rattle.candidate_ir.specs.Worlds.{World};
+ghost use Rattle.candidate_eval.specs.Lawful.{Lawful};
+ghost use Rattle.rounds_judge.specs.Listed.{Listing};
+ghost use Rattle.rounds_judge.specs.WellListed.{well_listed};
+ghost use Rattle.rounds_judge.specs.RoundsJudge.{rounds_judge};
+
+/// Whatever is declared, and whatever pairs and opaque types it is given, of which those pairs count that may be listed, the judge
+/// keeps the laws of an evaluator. Nothing is done.
+pub fn keeps_the_laws()
+    ensures { (w : World) (local : ℕ) (pairs : Listing) (opaques : List Tree) → Lawful (rounds_judge w local (well_listed pairs) opaques) }
+{}
