@@ -2,3 +2,4 @@ pub mod Fitting
 pub mod Pieces
 pub mod Kept
 pub mod Lists
+pub mod Grown

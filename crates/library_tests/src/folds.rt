@@ -10,7 +10,7 @@ use crate::builders::{adt, args, clause, constant, environment, region, ty, vari
 use crate::samples::{LENGTH, TRAIT, VEC, declared};
 use candidate_ir::decl::context::Cx;
 use candidate_ir::decl::fold::{
-    fold, fold_args, fold_clause, fold_const, fold_env, fold_region, fold_trait_ref,
+    fold, fold_arg, fold_args, fold_clause, fold_const, fold_env, fold_region, fold_trait_ref,
 };
 use candidate_ir::ir::kinds::{
     Args, Binder, Clause, ClauseKind, Const, ConstKind, GenericArg, ParamEnv, Region, RegionKind,
@@ -179,6 +179,38 @@ pub fn folded_const(rt: &impl Abort, alloc: Global, cx: &mut Cx, constant: Const
         { answer(cx, arg, binders, Way::Parameters) },
     );
     folded.expect(rt, "a fold of a constant")
+}
+
+/// The argument with a byte for each parameter, by the fold of an argument.
+fn folded_arg(rt: &impl Abort, alloc: Global, cx: &mut Cx, arg: GenericArg) -> GenericArg
+    requires { IsArg cx.old.trees arg }
+    ensures grows { Grows cx.old cx.new }
+    ensures sort { IsArg cx.new.trees result }
+{
+    let folded = fold_arg(
+        alloc,
+        cx,
+        arg,
+        |cx: &mut Cx, arg: GenericArg, binders: u32| -> Result<Option<GenericArg>, Stop>
+            requires { IsArg cx.old.trees arg }
+            ensures grows { Grows cx.old cx.new }
+            ensures kind { IfOk result (λ o. IsOfKind cx.new.trees arg o) }
+        { answer(cx, arg, binders, Way::Parameters) },
+    );
+    folded.expect(rt, "a fold of an argument")
+}
+
+#[test]
+fn folds_an_argument(rt: HostRuntime) {
+    let alloc = rt.alloc();
+    let mut cx = declared(&rt, alloc);
+    let param = ty(&rt, &mut cx, TyKind::Param(0));
+    let folded = folded_arg(&rt, alloc, &mut cx, GenericArg::Ty(param));
+    let is_byte = match folded {
+        GenericArg::Ty(ty) => matches!(cx.kind(ty), TyKind::Uint(UintTy::U8)),
+        _ => false,
+    };
+    holds(&rt, is_byte, "a byte");
 }
 
 pub fn folded_region(rt: &impl Abort, alloc: Global, cx: &mut Cx, region: Region) -> Region

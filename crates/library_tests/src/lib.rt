@@ -12,6 +12,8 @@ mod bounds;
 #[cfg(test)]
 mod builders;
 #[cfg(test)]
+mod callables;
+#[cfg(test)]
 mod checks;
 #[cfg(test)]
 mod clauses;
@@ -25,6 +27,8 @@ mod contexts;
 mod declarations;
 #[cfg(test)]
 mod elaborations;
+#[cfg(test)]
+mod equations;
 #[cfg(test)]
 mod folds;
 #[cfg(test)]
@@ -40,11 +44,17 @@ mod merging;
 #[cfg(test)]
 mod normalisers;
 #[cfg(test)]
+mod numbers;
+#[cfg(test)]
+mod opening;
+#[cfg(test)]
 mod parts;
 #[cfg(test)]
 mod reading;
 #[cfg(test)]
 mod rejections;
+#[cfg(test)]
+mod responses;
 #[cfg(test)]
 mod samples;
 #[cfg(test)]

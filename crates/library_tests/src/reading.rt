@@ -115,6 +115,7 @@ fn marked(word: &str) -> Option<TyKind>
         "^1_1" => Some(TyKind::Bound(second_at(1))),
         "^last" => Some(TyKind::Bound(bound_at(u32::MAX))),
         "?" => Some(TyKind::Infer(InferTy::TyVar(0))),
+        "?1" => Some(TyKind::Infer(InferTy::TyVar(1))),
         "?int" => Some(TyKind::Infer(InferTy::IntVar(0))),
         "?float" => Some(TyKind::Infer(InferTy::FloatVar(0))),
         "error" => Some(TyKind::Error),

@@ -66,6 +66,8 @@ i8 'static ref => i8 tuple; unit; unit; refused
 unit => unit; unit; unit; unit
 u8 str both => u8 str both; str tuple; str tuple; u8 str both
 u8 i8 fn_closure => i8 tuple; unit; unit; i8 tuple
+u8 T fn_closure => T tuple; unit; unit; T tuple
+u8 T vec fn_closure => T vec tuple; unit; unit; T vec tuple
 i8 region_binder => under i8 tuple; under i8 tuple; under i8 tuple; refused
 foreign => unit; refused; refused; refused
 u16 vec => u16 u16 slice both; u16 slice tuple; u16 tuple; refused
@@ -81,7 +83,7 @@ T => excluded; refused; refused; refused
 ^0 => excluded; excluded; excluded; excluded";
 
 /// The tuple of the types.
-fn tuple_of(rt: &impl Abort, alloc: Global, cx: &mut Cx, types: &[Ty]) -> Ty
+pub fn tuple_of(rt: &impl Abort, alloc: Global, cx: &mut Cx, types: &[Ty]) -> Ty
     requires { TypesFit cx.old.trees types.now }
     ensures grows { Grows cx.old cx.new }
     ensures sort { IsTy cx.new.trees result }
