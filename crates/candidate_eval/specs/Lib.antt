@@ -16,6 +16,7 @@ pub mod Evaluators
 pub mod Tables
 pub mod Asked
 pub mod Destruct
+pub mod Objects
 pub mod Callable
 pub mod Normalizer
 pub mod Answers

@@ -4,6 +4,7 @@ pub(crate) mod asked;
 pub mod callable;
 pub mod destruct;
 mod making;
+pub mod object;
 pub mod tables;
 
 use candidate_ir::ir::kinds::{Ty, Vars};

@@ -1,7 +1,9 @@
 -- Variables that get values, one after another.
 use Rattle.std.proofs.Common.{◌≡◌, ◌≤◌, ◌<◌, ℕ, zero, suc, ◌+◌, Bool, true, false, not, ◌&&◌, ◌||◌, ◌==◌, min, List, [], ◌∷◌, ◌++◌, Option, Some, None, Result, Ok, Err, IfOk, IfErr, OnOk, ◌⊎◌, inl, inr, length, map, slice_get, refl, sym, ap, subst, ◌∙◌, arith, if◌then◌else◌}
 use Rattle.std.specs.Option.{option_map, unwrap_or}
-use Rattle.std.proofs.lemmas.Bool.{and_parts, eq-eqb}
+use Rattle.std.specs.Prelude.{nat_le, nat_lt}
+use Rattle.std.proofs.Math.Dec.{leb}
+use Rattle.std.proofs.lemmas.Bool.{and_parts, eq-eqb, ne_eqb, leb-true, leb-false, le-leb, lt-leb, le-ltb, lt-ltb}
 use Rattle.std.proofs.lemmas.Option.{slice_get-map}
 use Rattle.std.proofs.lemmas.List.{length-append}
 use Rattle.candidate_ir.specs.declared.ir.heads.Head.{Head}
@@ -15,6 +17,8 @@ use Rattle.candidate_ir.specs.declared.ir.kinds.TyKind.TheVariants as K
 use Rattle.candidate_ir.specs.declared.ir.stop.Stop.{Stop}
 use Rattle.candidate_ir.specs.Binders.{is_beyond, escapes, tree_escapes}
 use Rattle.candidate_ir.specs.Context.{Context, Grows}
+use Rattle.candidate_ir.specs.declared.ir.heads.Flag.TheVariants as F
+use Rattle.candidate_ir.specs.Flags.{mark, of_constant, of_type}
 use Rattle.candidate_ir.specs.Folding.{fold}
 use Rattle.candidate_ir.specs.Folds.{IsArg, IsOfKind, arg_tree, is_asked, is_asked_kind}
 use Rattle.candidate_ir.specs.Kinds.{arg_kind, arg_number}
@@ -33,14 +37,14 @@ use Rattle.candidate_eval.specs.Alike.{info}
 use Rattle.candidate_eval.specs.Soundness.{fits_kind, universe_in}
 use Rattle.candidate_rounds.specs.declared.rounds.inference.Change.TheVariants as C
 use Rattle.candidate_rounds.specs.declared.rounds.inference.Entry.{Entry}
-use Rattle.candidate_rounds.specs.Assigning.{single_arg, with_member, partly, with_info, with_its_value, with_its_universe, bound_up_to, allows}
+use Rattle.candidate_rounds.specs.Assigning.{single_arg, with_member, partly, within, with_info, with_its_value, with_its_universe, with_values_within, with_values, with_universes_up_to, with_universes, allows}
 use Rattle.rounds_judge.specs.Binding.{occurs, single, info_after, numbered, bound, may_take}
 use Rattle.candidate_rounds.specs.Inferences.{Inference, IsFurther, assign, lower, with_entry, with_value, with_universe, is_of_kind, back_to, value_of}
-use Rattle.candidate_rounds.specs.Known.{info_of, state_of, Each, IsChange, IsConsistent, IsEntry, IsKnown, IsValue, SuitsKind, AreMarks}
+use Rattle.candidate_rounds.specs.Known.{info_of, state_of, Each, IsChange, IsConsistent, IsEntry, IsKnown, IsValue, IsTidy, IsWithin, SuitsKind, AreMarks, EachAt, is_open}
 use Rattle.rounds_judge.proofs.Bound.{integer_is_type, float_is_type, put_kind, same_variable_is, single_is}
 use Rattle.candidate_rounds.proofs.Going.{further-refl}
 use Rattle.candidate_rounds.proofs.Holding.{kinds-now, tidy-now}
-use Rattle.candidate_rounds.proofs.Knowing.{each-append, each-entry, each-get, there-arg, state-stays}
+use Rattle.candidate_rounds.proofs.Knowing.{each-append, each-entry, each-at-entry, each-at-imply, each-get, there-arg, state-stays}
 use Rattle.rounds_judge.proofs.Marks.{holds_erased}
 use Rattle.rounds_judge.proofs.Solving.{kind_same}
 use Rattle.candidate_rounds.proofs.Probing.{holds-after, holds-back}
@@ -165,11 +169,16 @@ some-is e = cc
 one-more : {A : Type 0} (xs : List A) (x : A) → length (xs ++ x ∷ []) ≡ suc (length xs)
 one-more xs x = length-append xs (x ∷ []) ∙ omega arith
 
-pub holds-lower : (ts : List Tree) (s : Inference) (ks : List ℕ) (n u : ℕ) → IsConsistent ts s ks → IsConsistent ts (lower s n u) ks
-holds-lower ts s ks n u h =
+pub holds-lower : (ts : List Tree) (s : Inference) (ks : List ℕ) (n u : ℕ) → IsConsistent ts s ks → u ≤ s.newest_universe → IsConsistent ts (lower s n u) ks
+holds-lower ts s ks n u h l =
     holds-after ts s (lower s n u) ks h (undo-lower s n u) (one-more s.trail _)
     (record { values = each-entry (IsEntry ts) s.variables n (with_universe u) (λ e j. j) h.known.values; regions = h.known.regions; goals = h.known.goals; changes = each-append (IsChange ts) s.trail _ h.known.changes tt })
-    (record { pending = (tidy-now ts s ks h).pending; kinds = each-entry (SuitsKind ts) s.variables n (with_universe u) (λ e j. j) (kinds-now ts s ks h) })
+    (let t = tidy-now ts s ks h in record {
+      pending = t.pending;
+      kinds = each-entry (SuitsKind ts) s.variables n (with_universe u) (λ e j. j) t.kinds;
+      room = each-at-entry (IsWithin ts s.first_open s.end_open) 0 s.variables n (with_universe u) (λ e g j. j) t.room;
+      universes = each-entry (λ (e : Entry). e.universe ≤ s.newest_universe) s.variables n (with_universe u) (λ e j. l) t.universes;
+    })
 
 value-there : (ts : List Tree) (es : List Entry) (n : ℕ) → Each (IsEntry ts) es → IsValue ts (value_of (slice_get es n))
 value-there ts es n k = at (slice_get es n) refl
@@ -179,11 +188,16 @@ value-there ts es n k = at (slice_get es n) refl
     at (Some e) g = each-get (IsEntry ts) es n e k g
 
 pub holds-assign : (ts : List Tree) (s : Inference) (ks : List ℕ) (n : ℕ) (x : GenericArg) → IsConsistent ts s ks → IsArg ts x → ((e : Entry) → slice_get s.variables n ≡ Some e → fits_kind e.kind (arg_tree ts x).head ≡ true)
-    → IsConsistent ts (assign s n x) ks
-holds-assign ts s ks n x h i f =
+    → (tree_holds is_open (arg_tree ts x) ≡ true → (s.first_open ≤ n) × (n < s.end_open)) → IsConsistent ts (assign s n x) ks
+holds-assign ts s ks n x h i f o =
     holds-after ts s (assign s n x) ks h (undo-assign s n x) (one-more s.trail _)
     (record { values = each-entry (IsEntry ts) s.variables n (with_value (Some x)) (λ e j. i) h.known.values; regions = h.known.regions; goals = h.known.goals; changes = each-append (IsChange ts) s.trail _ h.known.changes (value-there ts s.variables n h.known.values) })
-    (record { pending = (tidy-now ts s ks h).pending; kinds = each-at (SuitsKind ts) s.variables n (with_value (Some x)) (λ e g v q. let same : x ≡ v = cc in subst (λ y. fits_kind e.kind (arg_tree ts y).head ≡ true) same (f e g)) (kinds-now ts s ks h) })
+    (let t = tidy-now ts s ks h in record {
+      pending = t.pending;
+      kinds = each-at (SuitsKind ts) s.variables n (with_value (Some x)) (λ e g v q. let same : x ≡ v = cc in subst (λ y. fits_kind e.kind (arg_tree ts y).head ≡ true) same (f e g)) t.kinds;
+      room = each-at-entry (IsWithin ts s.first_open s.end_open) 0 s.variables n (with_value (Some x)) (λ e g j v q p. let same : v ≡ x = cc in let l = o (ap (λ y. tree_holds is_open (arg_tree ts y)) (sym same) ∙ p) in (omega (arith, l.0), omega (arith, l.1))) t.room;
+      universes = each-entry (λ (e : Entry). e.universe ≤ s.newest_universe) s.variables n (with_value (Some x)) (λ e j. j) t.universes;
+    })
 
 -- of a call that made one change or none
 pub call-holds : {A : Type 0} (ts : List Tree) (s t u : Inference) (ks : List ℕ) (r : Result A Stop) → IsConsistent ts s ks → IsConsistent ts u ks → IfOk r (λ _. t ≡ u) → IfErr r (λ _. t ≡ s) → IsConsistent ts t ks
@@ -280,26 +294,193 @@ module _ (ts : List Tree) (m : TypingMode) (s : Inference) (n : ℕ) (v : Variab
           at None f = refl
           at (Some y) f = ap Some (put-nowhere v t (arg_tree ts y) (k e y g f))
 
--- All variables, one after another
+-- Members of a range of numbers
 
-pub bound-more : (k : ℕ) (v : Variable) (u : ℕ) (t : Tree) (S : State) → with_info (with_info (bound_up_to k v u t S) k (with_its_value v t k)) k (with_its_universe u t k) ≡ bound_up_to (suc k) v u t S
-bound-more k v u t S =
+abbrev in-range : ℕ → ℕ → ℕ → Bool
+in-range first end n = nat_le first n && nat_lt n end
+
+below-range : (first end n : ℕ) → n < first → in-range first end n ≡ false
+below-range first end n l = ap (λ b. b && nat_lt n end) (lt-leb first n l)
+
+above-range : (first end n : ℕ) → end ≤ n → in-range first end n ≡ false
+above-range first end n l = ap (λ b. nat_le first n && b) (le-ltb n end l) ∙ at (nat_le first n)
+  where
+    at : (b : Bool) → b && false ≡ false
+    at true = refl
+    at false = refl
+
+inside-range : (first end n : ℕ) → first ≤ n → n < end → in-range first end n ≡ true
+inside-range first end n l k = ap (λ b. b && nat_lt n end) (le-leb first n l) ∙ lt-ltb n end k
+
+within-nothing : {A : Type 0} (f : ℕ → A → A) (first end n : ℕ) (xs : List A) → end ≤ first → within f first end n xs ≡ xs
+within-nothing f first end n [] l = refl
+within-nothing f first end n (x ∷ xs) l = ap (λ b. (if b then f n x else x) ∷ within f first end (suc n) xs) (outside (leb first n) refl) ∙ ap (λ ys. x ∷ ys) (within-nothing f first end (suc n) xs l)
+  where
+    outside : (b : Bool) → leb first n ≡ b → in-range first end n ≡ false
+    outside true e = above-range first end n (let k = leb-true first n e in omega (arith, l, k))
+    outside false e = below-range first end n (leb-false first n e)
+
+within-above : {A : Type 0} (f : ℕ → A → A) (first end n : ℕ) (xs : List A) → end ≤ n → within f first end n xs ≡ xs
+within-above f first end n [] l = refl
+within-above f first end n (x ∷ xs) l = ap (λ b. (if b then f n x else x) ∷ within f first end (suc n) xs) (above-range first end n l) ∙ ap (λ ys. x ∷ ys) (within-above f first end (suc n) xs (omega (arith, l)))
+
+-- one more
+within-more : {A : Type 0} (f : ℕ → A → A) (first n j k : ℕ) (xs : List A) → first ≤ k → n + j ≡ k → with_member (within f first k n xs) j (f k) ≡ within f first (suc k) n xs
+within-more f first n j k [] l e = refl
+within-more f first n zero k (x ∷ xs) l e =
+    let same : n ≡ k = omega (arith, e) in
+    ap (λ b. f k (if b then f n x else x) ∷ within f first k (suc n) xs) (above-range first k n (omega (arith, same)))
+    ∙ (ap (λ i. f i x ∷ within f first k (suc n) xs) (sym same)
+    ∙ (ap (λ ys. f n x ∷ ys) (within-above f first k (suc n) xs (omega (arith, same)) ∙ sym (within-above f first (suc k) (suc n) xs (omega (arith, same))))
+    ∙ ap (λ b. (if b then f n x else x) ∷ within f first (suc k) (suc n) xs) (sym (inside-range first (suc k) n (omega (arith, l, same)) (omega (arith, same))))))
+within-more f first n (suc j) k (x ∷ xs) l e =
+    ap (λ ys. (if in-range first k n then f n x else x) ∷ ys) (within-more f first (suc n) j k xs l (omega (arith, e)))
+    ∙ ap (λ b. (if b then f n x else x) ∷ within f first (suc k) (suc n) xs) (same (leb first n) refl)
+  where
+    same : (b : Bool) → leb first n ≡ b → in-range first k n ≡ in-range first (suc k) n
+    same true e2 = let p = leb-true first n e2 in inside-range first k n p (omega (arith, e)) ∙ sym (inside-range first (suc k) n p (omega (arith, e)))
+    same false e2 = let p = leb-false first n e2 in below-range first k n p ∙ sym (below-range first (suc k) n p)
+
+pub values-more : (first k : ℕ) (v : Variable) (t : Tree) (S : State) → first ≤ k → with_info (with_values_within first k v t S) k (with_its_value v t k) ≡ with_values_within first (suc k) v t S
+values-more first k v t S l = ap (λ vs. record S { variables = vs }) (within-more (with_its_value v t) first 0 k k S.variables l (omega arith))
+
+pub no-values : (first : ℕ) (v : Variable) (t : Tree) (S : State) → with_values_within first first v t S ≡ S
+no-values first v t S = ap (λ vs. record S { variables = vs }) (within-nothing (with_its_value v t) first first 0 S.variables (omega arith))
+
+-- Values in which no variable stands stay, and where the others are all renewed, all are.
+
+-- where no variable of a type stands, and none of a constant, none stands
+pub no-variable : (t : Tree) → tree_holds (mark F.TyInfer) t ≡ false → tree_holds (mark F.ConstInfer) t ≡ false → tree_holds is_open t ≡ false
+no-variable t a b = sym (holds-alone is_open t) ∙ go (alone t) (holds-alone (mark F.TyInfer) t ∙ a) (holds-alone (mark F.ConstInfer) t ∙ b)
+  where
+    sorts : (s : VariableSort) → of_type s ≡ false → of_constant s ≡ false → ⊥
+    sorts V.General p q = cc
+    sorts V.Integer p q = cc
+    sorts V.Floating p q = cc
+    sorts V.Constant p q = cc
+
+    head : (h : Head) → mark F.TyInfer h ≡ false → mark F.ConstInfer h ≡ false → is_open h ≡ false
+    head (H.Infer v) p q = absurd (sorts v.sort p q)
+    head _ p q = refl
+
+    left : (x y : Bool) → x || y ≡ false → x ≡ false
+    left false y e = refl
+    left true y e = cc
+
+    right : (x y : Bool) → x || y ≡ false → y ≡ false
+    right false y e = e
+    right true y e = cc
+
+    go : (ts : Forest) → holds (mark F.TyInfer) ts ≡ false → holds (mark F.ConstInfer) ts ≡ false → holds is_open ts ≡ false
+    go none p q = refl
+    go (tree h below rest) p q =
+        let p1 = right (mark F.TyInfer h) _ p in
+        let q1 = right (mark F.ConstInfer h) _ q in
+        ap (λ x. x || (holds is_open below || holds is_open rest)) (head h (left (mark F.TyInfer h) _ p) (left (mark F.ConstInfer h) _ q))
+        ∙ (ap (λ x. x || holds is_open rest) (go below (left (holds (mark F.TyInfer) below) _ p1) (left (holds (mark F.ConstInfer) below) _ q1))
+        ∙ go rest (right (holds (mark F.TyInfer) below) _ p1) (right (holds (mark F.ConstInfer) below) _ q1))
+
+put-closed : (v : Variable) (t y : Tree) → tree_holds is_open y ≡ false → valued_tree (single v t) y ≡ y
+put-closed v t y e = ap first (fold-nothing (λ d x. single v t x.head) is_open (λ d x q. quiet x.head q) 0 (alone y) (holds-alone is_open y ∙ e))
+  where
+    first : Forest → Tree
+    first none = y
+    first (tree h a r) = record { head = h; children = a }
+
+    quiet : (h : Head) → is_open h ≡ false → single v t h ≡ None
+    quiet (H.Infer w) q = cc
+    quiet _ q = refl
+
+module _ (ts : List Tree) (v : Variable) (t : Tree) (first end : ℕ) where
+  closed-stays : (n : ℕ) (e : Entry) → (n == v.number) ≡ false → IsWithin ts first end n e → in-range first end n ≡ false → with_its_value v t n (info_of ts e) ≡ info_of ts e
+  closed-stays n e o w r = ap (λ (o : Option Tree). record (info_of ts e) { value = o }) (ap (λ b. if b then Some t else option_map (valued_tree (single v t)) (option_map (arg_tree ts) e.value)) o ∙ at e.value refl)
+    where
+      at : (z : Option GenericArg) → e.value ≡ z → option_map (valued_tree (single v t)) (option_map (arg_tree ts) z) ≡ option_map (arg_tree ts) z
+      at None f = refl
+      at (Some y) f = ap Some (put-closed v t (arg_tree ts y) (closed (tree_holds is_open (arg_tree ts y)) refl))
+        where
+          closed : (b : Bool) → tree_holds is_open (arg_tree ts y) ≡ b → tree_holds is_open (arg_tree ts y) ≡ false
+          closed false g = g
+          closed true g = let p = w y f g in let clash : true ≡ false = sym (inside-range first end n p.0 p.1) ∙ r in cc
+
+  either-way : (n : ℕ) (e : Entry) → (n == v.number) ≡ false → IsWithin ts first end n e → (if in-range first end n then with_its_value v t n (info_of ts e) else info_of ts e) ≡ with_its_value v t n (info_of ts e)
+  either-way n e o w = at (in-range first end n) refl
+    where
+      at : (b : Bool) → in-range first end n ≡ b → (if b then with_its_value v t n (info_of ts e) else info_of ts e) ≡ with_its_value v t n (info_of ts e)
+      at true r = refl
+      at false r = sym (closed-stays n e o w r)
+
+  own-value : (i : VariableInfo) → with_its_value v t v.number i ≡ record i { value = Some t }
+  own-value i = ap (λ b. let o : Option Tree = if b then Some t else option_map (valued_tree (single v t)) i.value in record i { value = o }) (eq-eqb v.number v.number refl)
+
+  beyond : (n : ℕ) (es : List Entry) → v.number < n → EachAt (IsWithin ts first end) n es → within (with_its_value v t) first end n (map (info_of ts) es) ≡ numbered (with_its_value v t) n (map (info_of ts) es)
+  beyond n [] l k = refl
+  beyond n (e ∷ es) l k =
+      ap (λ i. i ∷ within (with_its_value v t) first end (suc n) (map (info_of ts) es)) (either-way n e (ne_eqb n v.number (λ x. omega (arith, l, x))) k.0)
+      ∙ ap (λ is. with_its_value v t n (info_of ts e) ∷ is) (beyond (suc n) es (omega (arith, l)) k.1)
+
+  with-own : (n j : ℕ) (es : List Entry) → n + j ≡ v.number → EachAt (IsWithin ts first end) n es
+      → with_member (within (with_its_value v t) first end n (map (info_of ts) es)) j (with_its_value v t v.number) ≡ numbered (with_its_value v t) n (map (info_of ts) es)
+  with-own n j [] e k = refl
+  with-own n zero (d ∷ es) e k =
+      let same : n ≡ v.number = omega (arith, e) in
+      ap (λ i. i ∷ within (with_its_value v t) first end (suc n) (map (info_of ts) es)) (twice (in-range first end n) same)
+      ∙ ap (λ is. with_its_value v t n (info_of ts d) ∷ is) (beyond (suc n) es (omega (arith, same)) k.1)
+    where
+      twice : (b : Bool) → n ≡ v.number → with_its_value v t v.number (if b then with_its_value v t n (info_of ts d) else info_of ts d) ≡ with_its_value v t n (info_of ts d)
+      twice true same = own-value (with_its_value v t n (info_of ts d)) ∙ (sym (own-value (info_of ts d)) ∙ ap (λ m. with_its_value v t m (info_of ts d)) (sym same))
+      twice false same = ap (λ m. with_its_value v t m (info_of ts d)) (sym same)
+  with-own n (suc j) (d ∷ es) e k =
+      ap (λ i. i ∷ with_member (within (with_its_value v t) first end (suc n) (map (info_of ts) es)) j (with_its_value v t v.number)) (either-way n d (ne_eqb n v.number (λ x. omega (arith, e, x))) k.0)
+      ∙ ap (λ is. with_its_value v t n (info_of ts d) ∷ is) (with-own (suc n) j es (omega (arith, e)) k.1)
+
+-- All variables have the values that they have then.
+pub all-values : (ts : List Tree) (m : TypingMode) (s : Inference) (v : Variable) (t : Tree) (end : ℕ) → IsTidy ts s → s.end_open ≤ end
+    → with_info (with_values_within s.first_open end v t (state_of ts m s)) v.number (with_its_value v t v.number) ≡ with_values v t (state_of ts m s)
+all-values ts m s v t end h l =
+    let more = each-at-imply (IsWithin ts s.first_open s.end_open) (IsWithin ts s.first_open end) 0 s.variables (λ n e w y q p. let k = w y q p in (k.0, omega (arith, k.1, l))) h.room in
+    ap (λ vs. record (state_of ts m s) { variables = vs }) (with-own ts v t s.first_open end 0 v.number s.variables (omega arith) more)
+
+-- The universes, of all variables
+
+pub universes-more : (k u : ℕ) (t : Tree) (S : State) → with_info (with_universes_up_to k u t S) k (with_its_universe u t k) ≡ with_universes_up_to (suc k) u t S
+universes-more k u t S =
     let zero-more : k ≡ 0 + k = omega arith in
-    ap (λ vs. record S { variables = vs })
-    (with_member-twice (partly (info_after v u t) 0 k S.variables) k (with_its_value v t k) (with_its_universe u t k)
-    ∙ (ap (λ j. with_member (partly (info_after v u t) 0 k S.variables) k (info_after v u t j)) zero-more
-    ∙ partly-more (info_after v u t) 0 k S.variables))
+    ap (λ vs. record S { variables = vs }) (ap (λ j. with_member (partly (with_its_universe u t) 0 k S.variables) k (with_its_universe u t j)) zero-more ∙ partly-more (with_its_universe u t) 0 k S.variables)
 
-pub bound-all : (k : ℕ) (v : Variable) (u : ℕ) (t : Tree) (S : State) → k ≡ length S.variables → u ≡ universe_in (info S v.number) → bound_up_to k v u t S ≡ bound S v t
-bound-all k v u t S e f =
-    ap (λ vs. record S { variables = vs }) (partly-all (info_after v u t) 0 k S.variables e)
-    ∙ ap (λ j. record S { variables = numbered (info_after v j t) 0 S.variables }) f
+pub universes-all : (k u : ℕ) (t : Tree) (S : State) → k ≡ length S.variables → with_universes_up_to k u t S ≡ with_universes u t S
+universes-all k u t S e = ap (λ vs. record S { variables = vs }) (partly-all (with_its_universe u t) 0 k S.variables e)
 
-kind-after : (k : VariableKind) (v : Variable) (u : ℕ) (t : Tree) (n i : ℕ) (xs : List VariableInfo) (m : ℕ) → has_kind k (slice_get (partly (info_after v u t) n i xs) m) ≡ has_kind k (slice_get xs m)
-kind-after k v u t n zero xs m = refl
-kind-after k v u t n (suc i) [] m = refl
-kind-after k v u t n (suc i) (x ∷ xs) zero = refl
-kind-after k v u t n (suc i) (x ∷ xs) (suc m) = kind-after k v u t (suc n) i xs m
+-- where none is above
+pub universes-stay : (ts : List Tree) (m : TypingMode) (s : Inference) (u : ℕ) (t : Tree) → IsTidy ts s → s.newest_universe ≤ u → with_universes u t (state_of ts m s) ≡ state_of ts m s
+universes-stay ts m s u t h l = ap (λ vs. record (state_of ts m s) { variables = vs }) (go 0 s.variables h.universes)
+  where
+    least : (e : Entry) (b : Bool) → e.universe ≤ s.newest_universe → (if b then min e.universe u else e.universe) ≡ e.universe
+    least e true k = omega (arith, k, l)
+    least e false k = refl
+
+    go : (n : ℕ) (es : List Entry) → Each (λ (e : Entry). e.universe ≤ s.newest_universe) es → numbered (with_its_universe u t) n (map (info_of ts) es) ≡ map (info_of ts) es
+    go n [] k = refl
+    go n (e ∷ es) k =
+        ap (λ (x : ℕ). record (info_of ts e) { universe = x } ∷ numbered (with_its_universe u t) (suc n) (map (info_of ts) es)) (least e (occurs n t) k.0)
+        ∙ ap (λ is. info_of ts e ∷ is) (go (suc n) es k.1)
+
+-- Both together are what variables are once the variable has its value.
+pub bound-of-both : (v : Variable) (u : ℕ) (t : Tree) (S : State) → u ≡ universe_in (info S v.number) → with_universes u t (with_values v t S) ≡ bound S v t
+bound-of-both v u t S e = ap (λ vs. record S { variables = vs }) (both 0 S.variables) ∙ ap (λ j. record S { variables = numbered (info_after v j t) 0 S.variables }) e
+  where
+    both : (n : ℕ) (xs : List VariableInfo) → numbered (with_its_universe u t) n (numbered (with_its_value v t) n xs) ≡ numbered (info_after v u t) n xs
+    both n [] = refl
+    both n (x ∷ xs) = ap (λ ys. info_after v u t n x ∷ ys) (both (suc n) xs)
+
+kind-after : (k : VariableKind) (v : Variable) (t : Tree) (first end n : ℕ) (xs : List VariableInfo) (m : ℕ) → has_kind k (slice_get (within (with_its_value v t) first end n xs) m) ≡ has_kind k (slice_get xs m)
+kind-after k v t first end n [] m = refl
+kind-after k v t first end n (x ∷ xs) zero = at (in-range first end n)
+  where
+    at : (b : Bool) → has_kind k (Some (if b then with_its_value v t n x else x)) ≡ has_kind k (Some x)
+    at true = refl
+    at false = refl
+kind-after k v t first end n (x ∷ xs) (suc m) = kind-after k v t first end (suc n) xs m
 
 kind-kept : (ts : List Tree) (k : VariableKind) (o : Option Entry) → has_kind k (option_map (info_of ts) o) ≡ is_of_kind k o
 kind-kept ts k None = refl
@@ -309,12 +490,12 @@ pub kind-of-state : (ts : List Tree) (m : TypingMode) (s : Inference) (k : Varia
 kind-of-state ts m s k n = ap (has_kind k) (slice_get-map (info_of ts) s.variables n) ∙ kind-kept ts k (slice_get s.variables n)
 
 -- the variable is of its kind still
-pub kind-so-far : (ts us : List Tree) (m : TypingMode) (s r : Inference) (k : VariableKind) (n i : ℕ) (v : Variable) (u : ℕ) (t : Tree) → state_of us m r ≡ bound_up_to i v u t (state_of ts m s)
+pub kind-so-far : (ts us : List Tree) (m : TypingMode) (s r : Inference) (k : VariableKind) (n first end : ℕ) (v : Variable) (t : Tree) → state_of us m r ≡ with_values_within first end v t (state_of ts m s)
     → is_of_kind k (slice_get s.variables n) ≡ true → is_of_kind k (slice_get r.variables n) ≡ true
-kind-so-far ts us m s r k n i v u t e h =
+kind-so-far ts us m s r k n first end v t e h =
     sym (kind-of-state us m r k n)
     ∙ (ap (λ (S : State). has_kind k (slice_get S.variables n)) e
-    ∙ (kind-after k v u t 0 i (state_of ts m s).variables n
+    ∙ (kind-after k v t first end 0 (state_of ts m s).variables n
     ∙ (kind-of-state ts m s k n ∙ h)))
 
 pub kind-suits : (k : VariableKind) (o : Option Entry) (e : Entry) → o ≡ Some e → is_of_kind k o ≡ true → e.kind ≡ k

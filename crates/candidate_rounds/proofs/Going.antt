@@ -19,9 +19,9 @@ use Rattle.candidate_ir.proofs.Lists.{there, below_kind}
 use Rattle.candidate_eval.specs.declared.eval.variable.VariableKind.{VariableKind}
 use Rattle.candidate_eval.specs.States.{variable_kind}
 use Rattle.candidate_rounds.specs.declared.rounds.inference.Change.{Change}
-use Rattle.candidate_rounds.specs.Inferences.{Inference, IsFurther, with_variable, with_variables, assign, lower, enter, record_region, add, add_all, begin_pending, back_to}
+use Rattle.candidate_rounds.specs.Inferences.{Inference, IsFurther, with_variable, with_variables, assign, lower, enter, record_region, add, add_all, widen, begin_pending, back_to}
 use Rattle.candidate_rounds.specs.Known.{Evaluator, GoesOn, KeepsGiven, IsKnown, IsConsistent, IsGiven, IsEvaluator, AreTypes, AreMarks, Each, state, state_of, states_at, probes, listing, listing_of}
-use Rattle.candidate_rounds.proofs.Undoing.{IsUndone, undo-variable, undo-assign, undo-lower, undo-enter, undo-region, undo-goal, undo-pending, back-to-now}
+use Rattle.candidate_rounds.proofs.Undoing.{IsUndone, undo-variable, undo-assign, undo-lower, undo-enter, undo-region, undo-goal, undo-pending, undo-widen, back-to-now}
 use Rattle.candidate_rounds.proofs.Knowing.{probes-stay, probes-grow, state-stays, each-map}
 use Rattle.candidate_rounds.proofs.Holding.{undo-goals, undo-variables}
 
@@ -56,6 +56,9 @@ further-goal s f g = (one-longer s _, undo-goal s f g)
 
 pub further-pending : (s : Inference) (n : ℕ) → IsFurther s (begin_pending s n)
 further-pending s n = (one-longer s _, undo-pending s n)
+
+pub further-widen : (s : Inference) (n : ℕ) → IsFurther s (widen s n)
+further-widen s n = (one-longer s _, undo-widen s n)
 
 pub further-goals : (s : Inference) (f : GoalSource) (gs : List (Goal Clause)) → IsFurther s (add_all s f gs)
 further-goals s f [] = further-refl s

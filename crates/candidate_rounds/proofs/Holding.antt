@@ -1,5 +1,5 @@
 -- What holds of all that is kept holds after each change; and what the state is then.
-use Rattle.std.proofs.Common.{◌≡◌, ℕ, suc, ◌≤◌, Bool, true, false, List, [], ◌∷◌, ◌++◌, length, drop, map, Result, Ok, Err, IfOk, IfErr, OnOk, OnErr, append_assoc, refl, sym, ◌∙◌, ap, subst, arith}
+use Rattle.std.proofs.Common.{◌≡◌, ℕ, suc, ◌≤◌, min, max, Bool, true, false, List, [], ◌∷◌, ◌++◌, length, drop, map, Result, Ok, Err, IfOk, IfErr, OnOk, OnErr, append_assoc, refl, sym, ◌∙◌, ap, subst, arith}
 use Rattle.std.proofs.lemmas.List.{length-append, map-append, drop-append-le, append-nil}
 use Rattle.candidate_ir.specs.declared.ir.kinds.Clause.{Clause}
 use Rattle.candidate_ir.specs.declared.ir.kinds.Goal.{Goal}
@@ -14,10 +14,11 @@ use Rattle.candidate_eval.specs.declared.eval.variable.VariableKind.{VariableKin
 use Rattle.candidate_eval.specs.States.{State, added, with_pending, with_fresh, with_fresh_variables, variable_kind, with_universe}
 use Rattle.candidate_eval.specs.Evaluators.{IsGoal, pending_of, pendings_of, with_goals_of, kinds_listed}
 use Rattle.candidate_rounds.specs.declared.rounds.inference.Change.TheVariants as C
-use Rattle.candidate_rounds.specs.Inferences.{Inference, with_variable, with_variables, enter, add, add_all, begin_pending, back_to}
-use Rattle.candidate_rounds.specs.Known.{info_of, state_of, IsEntry, IsChange, IsConsistent, IsKnown, IsTidy, SuitsKind, Each, Evaluator, state, with_root}
-use Rattle.candidate_rounds.proofs.Undoing.{IsUndone, undo-variable, undo-enter, undo-goal, undo-pending, back-to-now}
-use Rattle.candidate_rounds.proofs.Knowing.{state-stays, each-append}
+use Rattle.candidate_rounds.specs.declared.rounds.inference.Entry.{Entry}
+use Rattle.candidate_rounds.specs.Inferences.{Inference, universe_for, with_variable, with_variables, enter, add, add_all, widen, begin_pending, back_to}
+use Rattle.candidate_rounds.specs.Known.{info_of, state_of, IsEntry, IsChange, IsConsistent, IsKnown, IsTidy, IsWithin, SuitsKind, Each, Evaluator, state, with_root}
+use Rattle.candidate_rounds.proofs.Undoing.{IsUndone, undo-variable, undo-enter, undo-goal, undo-pending, undo-widen, back-to-now}
+use Rattle.candidate_rounds.proofs.Knowing.{state-stays, each-append, each-at-append, each-at-imply, each-imply}
 use Rattle.candidate_rounds.proofs.Probing.{holds-after}
 
 one-more : {A : Type 0} (xs : List A) (x : A) → length (xs ++ x ∷ []) ≡ suc (length xs)
@@ -39,7 +40,7 @@ holds-begun ts s ks h =
     holds-after ts s (begin_pending s (length s.goals)) (length s.trail ∷ ks) (record { known = h.known; marks = (omega arith, h.marks); tidy = h.tidy })
     (undo-pending s (length s.goals)) (one-more s.trail _)
     (record { values = h.known.values; regions = h.known.regions; goals = h.known.goals; changes = each-append (IsChange ts) s.trail _ h.known.changes tt })
-    (record { pending = omega arith; kinds = kinds-now ts s ks h })
+    (let t = tidy-now ts s ks h in record { pending = omega arith; kinds = t.kinds; room = t.room; universes = t.universes })
 
 -- One began in which what was pending is.
 pub holds-kept : (ts : List Tree) (s : Inference) (ks : List ℕ) → IsConsistent ts s ks → IsConsistent ts s (length s.trail ∷ ks)
@@ -49,19 +50,45 @@ pub holds-goal : (ts : List Tree) (s : Inference) (ks : List ℕ) (f : GoalSourc
 holds-goal ts s ks f g h i =
     holds-after ts s (add s f g) ks h (undo-goal s f g) (one-more s.trail _)
     (record { values = h.known.values; regions = h.known.regions; goals = each-append (λ (x : GoalSource × Goal Clause). IsGoal ts x.1) s.goals (f, g) h.known.goals i; changes = each-append (IsChange ts) s.trail _ h.known.changes tt })
-    (record { pending = (let n = one-more s.goals (f, g) in let p = first-fits ts s ks h in omega (arith, n, p)); kinds = kinds-now ts s ks h })
+    (let t = tidy-now ts s ks h in record { pending = (let n = one-more s.goals (f, g) in let p = first-fits ts s ks h in omega (arith, n, p)); kinds = t.kinds; room = t.room; universes = t.universes })
+
+universe-fits : (s : Inference) (r : Bool) → universe_for s r ≤ s.newest_universe
+universe-fits s true = omega arith
+universe-fits s false = omega arith
 
 pub holds-variable : (ts : List Tree) (s : Inference) (ks : List ℕ) (k : VariableKind) (r : Bool) → IsConsistent ts s ks → IsConsistent ts (with_variable s k r) ks
 holds-variable ts s ks k r h =
     holds-after ts s (with_variable s k r) ks h (undo-variable s k r) (one-more s.trail _)
     (record { values = each-append (IsEntry ts) s.variables _ h.known.values tt; regions = h.known.regions; goals = h.known.goals; changes = each-append (IsChange ts) s.trail _ h.known.changes tt })
-    (record { pending = first-fits ts s ks h; kinds = each-append (SuitsKind ts) s.variables _ (kinds-now ts s ks h) (λ v e. cc) })
+    (let t = tidy-now ts s ks h in record {
+      pending = t.pending;
+      kinds = each-append (SuitsKind ts) s.variables _ t.kinds (λ v e. cc);
+      room = each-at-append (IsWithin ts s.first_open s.end_open) 0 s.variables _ t.room (λ m v e. cc);
+      universes = each-append (λ (e : Entry). e.universe ≤ s.newest_universe) s.variables _ t.universes (universe-fits s r);
+    })
 
 pub holds-enter : (ts : List Tree) (s : Inference) (ks : List ℕ) → IsConsistent ts s ks → IsConsistent ts (enter s) ks
 holds-enter ts s ks h =
     holds-after ts s (enter s) ks h (undo-enter s) (one-more s.trail _)
     (record { values = h.known.values; regions = h.known.regions; goals = h.known.goals; changes = each-append (IsChange ts) s.trail _ h.known.changes tt })
-    (record { pending = first-fits ts s ks h; kinds = kinds-now ts s ks h })
+    (let t = tidy-now ts s ks h in record {
+      pending = t.pending;
+      kinds = t.kinds;
+      room = t.room;
+      universes = each-imply (λ (e : Entry). e.universe ≤ s.newest_universe) (λ (e : Entry). e.universe ≤ suc s.newest_universe) s.variables (λ e l. omega (arith, l)) t.universes;
+    })
+
+-- Where values in which a variable stands may be in more places, they are in these, too.
+pub holds-widen : (ts : List Tree) (s : Inference) (ks : List ℕ) (n : ℕ) → IsConsistent ts s ks → IsConsistent ts (widen s n) ks
+holds-widen ts s ks n h =
+    holds-after ts s (widen s n) ks h (undo-widen s n) (one-more s.trail _)
+    (record { values = h.known.values; regions = h.known.regions; goals = h.known.goals; changes = each-append (IsChange ts) s.trail _ h.known.changes tt })
+    (let t = tidy-now ts s ks h in record {
+      pending = t.pending;
+      kinds = t.kinds;
+      room = each-at-imply (IsWithin ts s.first_open s.end_open) (IsWithin ts (min s.first_open n) (max s.end_open (suc n))) 0 s.variables (λ m e k v q o. let l = k v q o in (omega (arith, l.0), omega (arith, l.1))) t.room;
+      universes = t.universes;
+    })
 
 -- The state after each change.
 

@@ -1,5 +1,5 @@
 -- States as numbers get trees, and as changes are undone.
-use Rattle.std.proofs.Common.{◌≡◌, ℕ, zero, suc, ◌≤◌, true, List, [], ◌∷◌, ◌++◌, length, take, drop, map, slice_get, Option, Some, None, All, refl, sym, ◌∙◌, ap, subst, arith}
+use Rattle.std.proofs.Common.{◌≡◌, ℕ, zero, suc, ◌+◌, ◌≤◌, true, List, [], ◌∷◌, ◌++◌, length, take, drop, map, slice_get, Option, Some, None, All, refl, sym, ◌∙◌, ap, subst, arith}
 use Rattle.std.specs.Option.{option_map}
 use Rattle.candidate_ir.specs.declared.ir.kinds.Clause.{Clause}
 use Rattle.candidate_ir.specs.declared.ir.kinds.GenericArg.{GenericArg}
@@ -9,7 +9,7 @@ use Rattle.candidate_ir.specs.declared.ir.kinds.GoalSource.{GoalSource}
 use Rattle.candidate_ir.specs.Folds.{arg_tree}
 use Rattle.candidate_ir.specs.Kinds.{arg_number, arg_kind}
 use Rattle.candidate_ir.specs.Nodes.{Extends, kind_at, tree_at}
-use Rattle.candidate_ir.specs.Trees.{Kind, Tree}
+use Rattle.candidate_ir.specs.Trees.{Kind, Tree, tree_holds}
 use Rattle.candidate_ir.specs.declared.ir.kinds.AliasTy.{AliasTy}
 use Rattle.candidate_ir.specs.declared.ir.kinds.Ty.{Ty}
 use Rattle.candidate_ir.specs.declared.ir.kinds.TyKind.TheVariants as K
@@ -23,7 +23,7 @@ use Rattle.candidate_rounds.specs.declared.rounds.inference.Change.{Change}
 use Rattle.candidate_rounds.specs.declared.rounds.inference.Change.TheVariants as C
 use Rattle.candidate_rounds.specs.declared.rounds.inference.Entry.{Entry}
 use Rattle.candidate_rounds.specs.Inferences.{Inference, shorter, with_entry, with_value, with_universe, before, undone, back_to}
-use Rattle.candidate_rounds.specs.Known.{info_of, state_of, states_at, Each, IsValue, IsEntry, IsChange, IsKnown, AreMarks, AreTypes, IsGiven, SuitsKind}
+use Rattle.candidate_rounds.specs.Known.{info_of, state_of, states_at, Each, IsValue, IsEntry, IsChange, IsKnown, AreMarks, AreTypes, IsGiven, SuitsKind, EachAt, IsWithin, is_open}
 use Rattle.rounds_judge.specs.Standing.{IsFixed, IsListing}
 use Rattle.candidate_rounds.proofs.Undoing.{IsUndone}
 
@@ -112,6 +112,7 @@ change-stays ts us C.NewestUniverse x i = tt
 change-stays ts us C.Region x i = tt
 change-stays ts us C.Goal x i = tt
 change-stays ts us (C.Pending n) x i = tt
+change-stays ts us (C.Open n m) x i = tt
 
 pub clause-stays : (ts us : List Tree) (c : Clause) → Extends ts us → IsClause ts c → clause_tree us c ≡ clause_tree ts c
 clause-stays ts us c x i = tree-stays ts us c.0 _ x refl i
@@ -152,6 +153,43 @@ kinds-grown ts us (e ∷ es) x i k = (one, kinds-grown ts us es x i.1 k.1)
     one : SuitsKind us e
     one v q = ap (λ (t : Tree). fits_kind e.kind t.head) (tree-stays ts us (arg_number v) (arg_kind v) x (there-arg v) (subst (IsValue ts) q i.0)) ∙ k.0 v q
 
+-- Of each member, told its number
+
+pub each-at-append : {A : Type 0} (P : ℕ → A → Type 0) (n : ℕ) (xs : List A) (x : A) → EachAt P n xs → ((m : ℕ) → P m x) → EachAt P n (xs ++ x ∷ [])
+each-at-append P n [] x e p = (p n, tt)
+each-at-append P n (y ∷ ys) x e p = (e.0, each-at-append P (suc n) ys x e.1 p)
+
+pub each-at-imply : {A : Type 0} (P Q : ℕ → A → Type 0) (n : ℕ) (xs : List A) → ((m : ℕ) (x : A) → P m x → Q m x) → EachAt P n xs → EachAt Q n xs
+each-at-imply P Q n [] f e = tt
+each-at-imply P Q n (x ∷ xs) f e = (f n x e.0, each-at-imply P Q (suc n) xs f e.1)
+
+pub each-at-get : {A : Type 0} (P : ℕ → A → Type 0) (n : ℕ) (xs : List A) (i : ℕ) (x : A) → EachAt P n xs → slice_get xs i ≡ Some x → P (n + i) x
+each-at-get P n [] i x e g = cc
+each-at-get P n (y ∷ ys) zero x e g =
+    let h : y ≡ x = cc in
+    let z : n ≡ n + 0 = omega arith in
+    subst (λ m. P m x) z (subst (P n) h e.0)
+each-at-get P n (y ∷ ys) (suc i) x e g =
+    let z : suc n + i ≡ n + suc i = omega arith in
+    subst (λ m. P m x) z (each-at-get P (suc n) ys i x e.1 g)
+
+pub each-at-entry : (P : ℕ → Entry → Type 0) (n : ℕ) (es : List Entry) (i : ℕ) (f : Entry → Entry) → ((e : Entry) → slice_get es i ≡ Some e → P (n + i) e → P (n + i) (f e)) → EachAt P n es → EachAt P n (with_entry es i f)
+each-at-entry P n [] i f h k = tt
+each-at-entry P n (e ∷ es) zero f h k =
+    let z : n + 0 ≡ n = omega arith in
+    (subst (λ m. P m (f e)) z (h e refl (subst (λ m. P m e) (sym z) k.0)), k.1)
+each-at-entry P n (e ∷ es) (suc i) f h k =
+    let z : n + suc i ≡ suc n + i = omega arith in
+    (k.0, each-at-entry P (suc n) es i f (λ d g p. subst (λ m. P m (f d)) z (h d g (subst (λ m. P m d) (sym z) p))) k.1)
+
+-- Values in which a variable stands are where they were said to be.
+pub open-grown : (ts us : List Tree) (first end n : ℕ) (es : List Entry) → Extends ts us → Each (IsEntry ts) es → EachAt (IsWithin ts first end) n es → EachAt (IsWithin us first end) n es
+open-grown ts us first end n [] x i k = tt
+open-grown ts us first end n (e ∷ es) x i k = (one, open-grown ts us first end (suc n) es x i.1 k.1)
+  where
+    one : IsWithin us first end n e
+    one v q h = k.0 v q (sym (ap (tree_holds is_open) (tree-stays ts us (arg_number v) (arg_kind v) x (there-arg v) (subst (IsValue ts) q i.0))) ∙ h)
+
 -- What was before is known, too.
 
 known-before : (ts : List Tree) (c : Change) (s : Inference) → IsChange ts c → IsKnown ts s → IsKnown ts (before c s)
@@ -162,6 +200,7 @@ known-before ts C.NewestUniverse s i k = record { values = k.values; regions = k
 known-before ts C.Region s i k = record { values = k.values; regions = each-shorter (IsClause ts) s.regions k.regions; goals = k.goals; changes = k.changes }
 known-before ts C.Goal s i k = record { values = k.values; regions = k.regions; goals = each-shorter (λ (g : GoalSource × Goal Clause). IsGoal ts g.1) s.goals k.goals; changes = k.changes }
 known-before ts (C.Pending n) s i k = record { values = k.values; regions = k.regions; goals = k.goals; changes = k.changes }
+known-before ts (C.Open n m) s i k = record { values = k.values; regions = k.regions; goals = k.goals; changes = k.changes }
 
 known-undone : (ts : List Tree) (cs : List Change) (s : Inference) → Each (IsChange ts) cs → IsKnown ts s → IsKnown ts (undone cs s)
 known-undone ts [] s e k = k

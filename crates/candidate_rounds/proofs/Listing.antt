@@ -1,9 +1,10 @@
 -- The type that pairs list for a tree, and folds that put such types in.
-use Rattle.std.proofs.Common.{◌≡◌, ◌↔◌, ℕ, suc, ◌<◌, ◌≤◌, ◌+◌, Bool, true, false, IsTrue, List, [], ◌∷◌, length, drop, slice_index_or, Option, Some, None, Result, Ok, ◌⊎◌, inl, inr, refl, sym, ◌∙◌, ap, subst, arith, if◌then◌else◌}
+use Rattle.std.proofs.Common.{◌≡◌, ◌↔◌, ℕ, suc, ◌<◌, ◌≤◌, ◌+◌, ◌==◌, ◌||◌, Bool, true, false, IsTrue, List, [], ◌∷◌, length, drop, slice_index_or, Option, Some, None, Result, Ok, ◌⊎◌, inl, inr, refl, sym, ◌∙◌, ap, subst, arith, if◌then◌else◌}
 use Rattle.std.specs.Prelude.{IfOk}
 use Rattle.std.specs.Option.{option_map, unwrap_or}
 use Rattle.std.specs.Fn.{Mut}
 use Rattle.std.specs.Borrow.{MutBor}
+use Rattle.std.proofs.lemmas.Bool.{eqb-true}
 use Rattle.candidate_ir.specs.declared.ir.kinds.Const.{Const}
 use Rattle.candidate_ir.specs.declared.ir.kinds.GenericArg.{GenericArg}
 use Rattle.candidate_ir.specs.declared.ir.kinds.GenericArg.TheVariants as A
@@ -14,16 +15,17 @@ use Rattle.candidate_ir.specs.Context.{Context, Grows}
 use Rattle.candidate_ir.specs.Elaboration.{same_tree}
 use Rattle.candidate_ir.specs.Folds.{IsArg, IsFunction, IsOfKind, IsReached, Says, arg_tree, here, by_call, by_nodes, is_asked, is_asked_kind}
 use Rattle.candidate_ir.specs.Kinds.{arg_kind, arg_number}
-use Rattle.candidate_ir.specs.Trees.{TypeKind, Tree, is_alias, kind_of}
+use Rattle.candidate_ir.specs.Trees.{TypeKind, Tree, Forest, none, tree, binders_of, holds, is_alias, kind_of}
 use Rattle.candidate_ir.specs.Words.{IsTy, ty_tree}
 use Rattle.candidate_ir.proofs.Elaboration.{tree_is, tree_itself}
 use Rattle.candidate_ir.proofs.FoldLaws.{reached-keeps}
+use Rattle.candidate_ir.proofs.Folding.{fold-nothing}
 use Rattle.candidate_ir.proofs.Implying.{arg-kept}
 use Rattle.candidate_ir.proofs.Kept.{grows-refl, grows-trans, ty-kept}
 use Rattle.candidate_ir.proofs.Rows.{kind-of}
 use Rattle.candidate_eval.specs.States.{State, resolved_tree}
 use Rattle.candidate_rounds.specs.Known.{AreTypes, Each, listing_of}
-use Rattle.rounds_judge.specs.Listed.{listed, listed_at}
+use Rattle.rounds_judge.specs.Listed.{listed, listed_at, normalized_tree}
 use Rattle.candidate_rounds.proofs.Gathering.{each-index}
 use Rattle.candidate_rounds.proofs.Knowing.{each-imply, each-map, there-arg}
 use Rattle.candidate_rounds.proofs.Undoing.{drop-one, drop-beyond}
@@ -158,3 +160,18 @@ module _ {M Rest F : Type 0} (context : M → Context) (others : M → Rest)
         ap a (sym k.tree) ∙ (sym q ∙ k.seen);
     only = λ d t x. only t x;
   }
+
+-- Where nothing is listed, a tree is as it stands.
+
+unmarked : (ts : Forest) → holds (λ h. false) ts ≡ false
+unmarked none = refl
+unmarked (tree h below rest) = ap (λ b. b || holds (λ h. false) rest) (unmarked below) ∙ unmarked rest
+
+nothing-listed : (t : Tree) → normalized_tree [] t ≡ t
+nothing-listed t =
+    ap (λ (b : Forest). let u : Tree = record { head = t.head; children = b } in u)
+    (fold-nothing (λ d u. listed [] u) (λ h. false) (λ d u e. refl) (0 + binders_of t.head) t.children (unmarked t.children))
+
+pub empty-listing : (ts : List Tree) (ps : List (Ty × Ty)) (t : Tree) → (length ps == 0) ≡ true → t ≡ normalized_tree (listing_of ts ps) t
+empty-listing ts [] t e = sym (nothing-listed t)
+empty-listing ts (p ∷ ps) t e = let z = eqb-true (suc (length ps)) 0 e in absurd (omega (arith, z))

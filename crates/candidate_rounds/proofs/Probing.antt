@@ -13,7 +13,7 @@ use Rattle.candidate_rounds.specs.declared.rounds.inference.Change.{Change}
 use Rattle.candidate_rounds.specs.Inferences.{Inference, begin_pending, before, undone, back_to}
 use Rattle.candidate_rounds.specs.Known.{state_of, states_at, AreMarks, IsTidy, StaysTidy, IsKnown, IsConsistent}
 use Rattle.candidate_rounds.proofs.Undoing.{IsUndone, undone-trail, back-to-now}
-use Rattle.candidate_rounds.proofs.Knowing.{probes-stay, known-back, known-stays, kinds-grown}
+use Rattle.candidate_rounds.proofs.Knowing.{probes-stay, known-back, known-stays, kinds-grown, open-grown}
 
 -- A probe that begins is the newest.
 pub probe-begins : (ts : List Tree) (mode : TypingMode) (s t : Inference) (ks : List ℕ) → AreMarks (length s.trail) ks → IsUndone s t
@@ -108,7 +108,12 @@ tidy-back ts s k p n = at (leb n k) refl
     at false e = subst (IsTidy ts) (sym (back-beyond n (back_to k s) (let g = leb-false n k e in let h = shorter-than k s.trail in omega (arith, g, h)))) (p k)
 
 tidy-grown : (ts us : List Tree) (s : Inference) → Extends ts us → IsKnown ts s → IsTidy ts s → IsTidy us s
-tidy-grown ts us s x k t = record { pending = t.pending; kinds = kinds-grown ts us s.variables x k.values t.kinds }
+tidy-grown ts us s x k t = record {
+  pending = t.pending;
+  kinds = kinds-grown ts us s.variables x k.values t.kinds;
+  room = open-grown ts us s.first_open s.end_open 0 s.variables x k.values t.room;
+  universes = t.universes;
+}
 
 -- A change keeps what holds of all that is kept; and so does going back, and giving more numbers.
 

@@ -86,7 +86,7 @@ pub holds-region : (ts : List Tree) (s : Inference) (ks : List ℕ) (c : Clause)
 holds-region ts s ks c h i =
     holds-after ts s (record_region s c) ks h (undo-region s c) (one-more s.trail _)
     (record { values = h.known.values; regions = each-append (IsClause ts) s.regions c h.known.regions i; goals = h.known.goals; changes = each-append (IsChange ts) s.trail _ h.known.changes tt })
-    (record { pending = (tidy-now ts s ks h).pending; kinds = kinds-now ts s ks h })
+    (let t = tidy-now ts s ks h in record { pending = t.pending; kinds = t.kinds; room = t.room; universes = t.universes })
 
 -- Two are.
 

@@ -1,5 +1,5 @@
 -- Changes, and what was before them.
-use Rattle.std.proofs.Common.{false, Bool, ◌+◌, ◌≡◌, ℕ, zero, suc, ◌<◌, ◌≤◌, List, [], ◌∷◌, ◌++◌, length, take, drop, set, slice_get, slice_index_or, Option, Some, None, IsSome, ◌↔◌, refl, sym, ◌∙◌, ap, subst, arith}
+use Rattle.std.proofs.Common.{false, Bool, ◌+◌, ◌≡◌, ℕ, zero, suc, ◌<◌, ◌≤◌, min, max, List, [], ◌∷◌, ◌++◌, length, take, drop, set, slice_get, slice_index_or, Option, Some, None, IsSome, ◌↔◌, refl, sym, ◌∙◌, ap, subst, arith}
 use Rattle.std.proofs.Math.Seq.{drop-length, take-length}
 use Rattle.std.proofs.lemmas.List.{take-append-le, drop-append-le, length-append}
 use Rattle.std.specs.Option.{option_to_list}
@@ -14,7 +14,7 @@ use Rattle.candidate_eval.specs.declared.eval.variable.VariableKind.{VariableKin
 use Rattle.candidate_rounds.specs.declared.rounds.inference.Entry.{Entry}
 use Rattle.candidate_rounds.specs.declared.rounds.inference.Change.{Change}
 use Rattle.candidate_rounds.specs.declared.rounds.inference.Change.TheVariants as C
-use Rattle.candidate_rounds.specs.Inferences.{Inference, shorter, with_entry, with_value, with_universe, value_of, universe_of, universe_for, noted, with_variable, with_variables, assign, lower, enter, record_region, add, add_all, begin_pending, before, undone, back_to}
+use Rattle.candidate_rounds.specs.Inferences.{Inference, shorter, with_entry, with_value, with_universe, value_of, universe_of, universe_for, noted, with_variable, with_variables, assign, lower, enter, record_region, add, add_all, widen, begin_pending, before, undone, back_to}
 
 -- A variable that is set is changed, and where there is none nothing is.
 
@@ -66,6 +66,7 @@ before-trail C.NewestUniverse s x = refl
 before-trail C.Region s x = refl
 before-trail C.Goal s x = refl
 before-trail (C.Pending n) s x = refl
+before-trail (C.Open n m) s x = refl
 
 pub undone-trail : (cs : List Change) (s : Inference) (x : List Change) → undone cs (record s { trail = x }) ≡ record (undone cs s) { trail = x }
 undone-trail [] s x = refl
@@ -91,6 +92,7 @@ before-keeps-trail C.NewestUniverse s = refl
 before-keeps-trail C.Region s = refl
 before-keeps-trail C.Goal s = refl
 before-keeps-trail (C.Pending n) s = refl
+before-keeps-trail (C.Open n m) s = refl
 
 -- To undo the newest change leaves what was before the others.
 pub back-before : (s t : Inference) (c : Change) (n : ℕ) → noted t c ≡ s → n ≤ length t.trail → back_to n (before c t) ≡ back_to n s
@@ -129,6 +131,9 @@ undo-goal s f g n l = back-noted s (record s { goals = s.goals ++ (f, g) ∷ [] 
 
 pub undo-pending : (s : Inference) (i : ℕ) → IsUndone s (begin_pending s i)
 undo-pending s i n l = back-noted s (record s { first_pending = i }) (C.Pending s.first_pending) n l refl refl
+
+pub undo-widen : (s : Inference) (i : ℕ) → IsUndone s (widen s i)
+undo-widen s i n l = back-noted s (record s { first_open = min s.first_open i; end_open = max s.end_open (suc i) }) (C.Open s.first_open s.end_open) n l refl refl
 
 pub back-to-now : (s : Inference) → back_to (length s.trail) s ≡ s
 back-to-now s =

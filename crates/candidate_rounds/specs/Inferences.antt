@@ -1,5 +1,5 @@
 -- What an evaluator of rounds keeps of a state, and how changes of it are undone.
-use Rattle.std.specs.Prelude.{false, ◌≡◌, ◌⊎◌, ◌≤◌, ℕ, zero, suc, ◌-◌, Bool, Option, Some, None, List, [], ◌∷◌, ◌++◌, take, drop, length, slice_get, if◌then◌else◌}
+use Rattle.std.specs.Prelude.{false, ◌≡◌, ◌⊎◌, ◌≤◌, ℕ, zero, suc, ◌-◌, min, max, Bool, Option, Some, None, List, [], ◌∷◌, ◌++◌, take, drop, length, slice_get, if◌then◌else◌}
 use Rattle.candidate_ir.specs.declared.ir.kinds.Clause.{Clause}
 use Rattle.candidate_ir.specs.declared.ir.kinds.GenericArg.{GenericArg}
 use Rattle.candidate_ir.specs.declared.ir.kinds.Goal.{Goal}
@@ -24,6 +24,9 @@ pub record Inference : Type 0 where
   pub regions : List Clause
   pub goals : List (GoalSource × Goal Clause)
   pub first_pending : ℕ
+  -- values in which a variable stands are of variables from the one number on, up to below the other
+  pub first_open : ℕ
+  pub end_open : ℕ
   -- the changes, the newest last
   pub trail : List Change
 
@@ -104,6 +107,10 @@ abbrev pub add_all : Inference → GoalSource → List (Goal Clause) → Inferen
 add_all s from [] = s
 add_all s from (g ∷ gs) = add_all (add s from g) from gs
 
+-- the variable of that number may have a value in which a variable stands
+abbrev pub widen : Inference → ℕ → Inference
+widen s n = noted (record s { first_open = min s.first_open n; end_open = max s.end_open (suc n) }) (C.Open s.first_open s.end_open)
+
 -- the goals from there on are pending
 abbrev pub begin_pending : Inference → ℕ → Inference
 begin_pending s n = noted (record s { first_pending = n }) (C.Pending s.first_pending)
@@ -117,6 +124,7 @@ before C.NewestUniverse s = record s { newest_universe = s.newest_universe - 1 }
 before C.Region s = record s { regions = shorter s.regions }
 before C.Goal s = record s { goals = shorter s.goals }
 before (C.Pending n) s = record s { first_pending = n }
+before (C.Open n m) s = record s { first_open = n; end_open = m }
 
 -- What was before these changes, of which the newest is undone first.
 abbrev pub undone : List Change → Inference → Inference

@@ -1,10 +1,12 @@
 -- What is known so far, as a state.
-use Rattle.std.specs.Prelude.{◌≡◌, ℕ, ◌≤◌, Option, Some, None, List, [], ◌∷◌, ◌++◌, true, map, drop, length}
+use Rattle.std.specs.Prelude.{◌≡◌, ℕ, suc, ◌≤◌, ◌<◌, Bool, false, Option, Some, None, List, [], ◌∷◌, ◌++◌, true, map, drop, length}
 use Rattle.std.specs.Option.{option_map}
+use Rattle.candidate_ir.specs.declared.ir.heads.Head.{Head}
+use Rattle.candidate_ir.specs.declared.ir.heads.Head.TheVariants as H
 use Rattle.candidate_ir.specs.declared.ir.kinds.GenericArg.{GenericArg}
 use Rattle.candidate_ir.specs.Context.{Context, Grows}
 use Rattle.candidate_ir.specs.Folds.{IsArg, arg_tree}
-use Rattle.candidate_ir.specs.Trees.{Tree}
+use Rattle.candidate_ir.specs.Trees.{Tree, tree_holds}
 use Rattle.candidate_ir.specs.declared.ir.kinds.AliasTy.{AliasTy}
 use Rattle.candidate_ir.specs.declared.ir.kinds.Ty.{Ty}
 use Rattle.candidate_ir.specs.declared.ir.kinds.TyKind.TheVariants as K
@@ -71,10 +73,27 @@ AreMarks n (k ∷ ks) = (k ≤ n) × AreMarks k ks
 abbrev pub SuitsKind : List Tree → Entry → Type 0
 SuitsKind ts e = (v : GenericArg) → e.value ≡ Some v → fits_kind e.kind (arg_tree ts v).head ≡ true
 
--- The goals that are pending are among those that were added, and values are of their variables' kinds.
+-- a variable of types or constants
+abbrev pub is_open : Head → Bool
+is_open (H.Infer v) = true
+is_open _ = false
+
+-- Where a variable stands in its value, the number of the variable that has it is one of these.
+abbrev pub IsWithin : List Tree → ℕ → ℕ → ℕ → Entry → Type 0
+IsWithin ts first end n e = (v : GenericArg) → e.value ≡ Some v → tree_holds is_open (arg_tree ts v) ≡ true → (first ≤ n) × (n < end)
+
+-- of each member, told its number
+abbrev pub EachAt : {A : Type 0} → (ℕ → A → Type 0) → ℕ → List A → Type 0
+EachAt P n [] = Unit {0}
+EachAt P n (x ∷ xs) = P n x × EachAt P (suc n) xs
+
+-- The goals that are pending are among those that were added, values are of their variables' kinds, those in which a variable stands
+-- are where they are said to be, and no universe is above the newest.
 pub record IsTidy (ts : List Tree) (s : Inference) : Type 0 where
   pub pending : s.first_pending ≤ length s.goals
   pub kinds : Each (SuitsKind ts) s.variables
+  pub room : EachAt (IsWithin ts s.first_open s.end_open) 0 s.variables
+  pub universes : Each (λ (e : Entry). e.universe ≤ s.newest_universe) s.variables
 
 -- It is so now, and whatever is undone.
 abbrev pub StaysTidy : List Tree → Inference → Type 0

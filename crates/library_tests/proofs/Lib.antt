@@ -3,3 +3,4 @@ pub mod Pieces
 pub mod Kept
 pub mod Lists
 pub mod Grown
+pub mod Settled

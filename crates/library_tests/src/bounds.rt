@@ -69,7 +69,7 @@ pub fn auto_and(rt: &impl Abort, cx: &mut Cx, vars: Vars, value: ExistentialPred
 }
 
 /// The same in the other order.
-fn and_auto(rt: &impl Abort, cx: &mut Cx, vars: Vars, value: ExistentialPredicate) -> Preds
+pub fn and_auto(rt: &impl Abort, cx: &mut Cx, vars: Vars, value: ExistentialPredicate) -> Preds
     requires vars { IsVars cx.old.trees vars }
     requires fits { IsBound cx.old.trees vars value }
     ensures grows { Grows cx.old cx.new }

@@ -5,110 +5,421 @@ ghost use Rattle.candidate_ir.specs.Context.{Grows};
 ghost use Rattle.candidate_ir.specs.Words.{IsParamEnv, IsTy};
 
 use crate::asserts::{equals, equals_in_row, holds};
+use crate::listed;
 use crate::reading::{Reader, Reading};
 use crate::samples::declared;
 use candidate_eval::eval::ambiguity::{bail_with_ambiguity, flounder};
 use candidate_eval::eval::certainty::Certainty;
-use candidate_eval::eval::context::EvalCtxt;
-use candidate_eval::eval::mode::TypingMode;
+use candidate_eval::eval::context::{EvalCtxt, ProbeKind};
 use candidate_eval::eval::refusal::NoSolutionOrStop;
 use candidate_eval::eval::variable::VariableKind;
 use candidate_ir::decl::context::Cx;
 use candidate_ir::ir::heads::VariableSort;
-use candidate_ir::ir::kinds::{GenericArg, ParamEnv, Ty};
+use candidate_ir::ir::kinds::{GenericArg, ParamEnv, Ty, VarKind};
 use candidate_rounds::rounds::Rounds;
 use std::alloc::Global;
 use std::process::Abort;
 
-/// An evaluator with two root variables: the first of that sort, the second for any type.
-fn over(rt: &impl Abort, alloc: Global, cx: Cx, sort: VariableSort) -> Rounds
+const TYPE: VariableKind = VariableKind::Term(VariableSort::General);
+
+const INTEGER: VariableKind = VariableKind::Term(VariableSort::Integer);
+
+const FLOATING: VariableKind = VariableKind::Term(VariableSort::Floating);
+
+const CONSTANT: VariableKind = VariableKind::Term(VariableSort::Constant);
+
+/// An evaluator with two root variables of these kinds and a variable for any type of the universe of `!`, which the roots' values can't
+/// name. The types listed for `u8 out` and `usize out` are `u16`.
+fn over(rt: &impl Abort, alloc: Global, cx: Cx, first: VariableKind, second: VariableKind) -> Rounds
     ensures { Grows cx result.context }
 {
-    let mode = TypingMode::Coherence;
-    let mut rounds = Rounds::new(alloc, cx, mode, Vec::new(alloc), Vec::new(alloc));
-    let first = VariableKind::Term(sort);
+    let mut rounds = listed::over(rt, alloc, cx);
     rounds.new_root_var(first).expect(rt, "the first variable");
-    let second = VariableKind::Term(VariableSort::General);
     rounds
         .new_root_var(second)
         .expect(rt, "the second variable");
     rounds
+        .placeholder_args(alloc, &[VarKind::Ty])
+        .expect(rt, "a placeholder");
+    rounds
+        .fresh_args_for_item(alloc, &[VarKind::Ty])
+        .expect(rt, "a newer variable");
+    rounds
 }
 
-fn can_be_equal(rounds: &mut Rounds, env: ParamEnv, left: Ty, right: Ty) -> bool
+/// Two types are made equal: how many constraints of regions are recorded then, or nothing where it is refused.
+fn equated(
+    rt: &impl Abort,
+    alloc: Global,
+    rounds: &mut Rounds,
+    env: ParamEnv,
+    left: Ty,
+    right: Ty,
+) -> Option<usize>
     requires env { IsParamEnv rounds.old.context.trees env }
     requires left { IsTy rounds.old.context.trees left }
     requires right { IsTy rounds.old.context.trees right }
+    ensures { Grows rounds.old.context rounds.new.context }
 {
-    EvalCtxt::eq(rounds, env, GenericArg::Ty(left), GenericArg::Ty(right)).is_ok()
+    let equal = EvalCtxt::eq(rounds, env, GenericArg::Ty(left), GenericArg::Ty(right));
+    if let Err(error) = equal {
+        equals(rt, &error, &NoSolutionOrStop::NoSolution, "a refusal");
+        return None;
+    }
+    let response = rounds
+        .make_canonical_response(alloc, Certainty::Yes)
+        .expect(rt, "a response");
+    Some(response.regions.len())
 }
 
-/// The sort of the first variable, two types, and whether they can be made equal.
+/// Two types, and how many constraints of regions make them equal, if they can be.
 #[derive(Clone, Copy)]
-struct Row<'a>(VariableSort, &'a str, &'a str, bool);
+struct Row<'a>(&'a str, &'a str, Option<usize>);
 
-fn check_row(rt: &impl Abort, alloc: Global, row: Row<'_>, number: usize) {
+/// The row, where the root variables are of these kinds.
+fn check_row(
+    rt: &impl Abort,
+    alloc: Global,
+    first: VariableKind,
+    second: VariableKind,
+    row: Row<'_>,
+    number: usize,
+) {
     let mut reader = Reader::new(rt, alloc);
-    let env = reader.env(rt, Reading::Parameters, "holds: u8 u8");
-    let left = reader.ty(rt, Reading::Parameters, row.1);
-    let right = reader.ty(rt, Reading::Parameters, row.2);
-    let mut rounds = over(rt, alloc, reader.cx, row.0);
-    let equal = can_be_equal(&mut rounds, env, left, right);
-    equals_in_row(rt, &equal, &row.3, number);
+    let env = reader.env_of(rt, &[]);
+    let left = reader.ty(rt, Reading::Parameters, row.0);
+    let right = reader.ty(rt, Reading::Parameters, row.1);
+    let mut rounds = over(rt, alloc, reader.cx, first, second);
+    let recorded = equated(rt, alloc, &mut rounds, env, left, right);
+    equals_in_row(rt, &recorded, &row.2, number);
+}
+
+/// The row with its sides in either order.
+fn check_both(
+    rt: &impl Abort,
+    alloc: Global,
+    first: VariableKind,
+    second: VariableKind,
+    row: Row<'_>,
+    number: usize,
+) {
+    check_row(rt, alloc, first, second, row, number);
+    let swapped = Row(row.1, row.0, row.2);
+    check_row(rt, alloc, first, second, swapped, number);
+}
+
+/// The rows, where both root variables stand for any type.
+fn check_rows(rt: &impl Abort, alloc: Global, rows: &[Row<'_>]) {
+    for (number, row) in rows.iter().enumerate() {
+        check_both(rt, alloc, TYPE, TYPE, *row, number);
+    }
+}
+
+#[test]
+fn makes_variables_equal(rt: HostRuntime) {
+    let (accepted, refused) = (Some(0), None);
+    let rows = [
+        (TYPE, TYPE, Row("?", "?", accepted)),
+        (TYPE, TYPE, Row("?", "?1", accepted)),
+        (TYPE, INTEGER, Row("?", "?int1", accepted)),
+        (TYPE, FLOATING, Row("?", "?float1", accepted)),
+        (TYPE, CONSTANT, Row("?", "u8 #?1 array", accepted)),
+        (INTEGER, INTEGER, Row("?int", "?int1", accepted)),
+        (FLOATING, FLOATING, Row("?float", "?float1", accepted)),
+        (INTEGER, FLOATING, Row("?int", "?float1", refused)),
+        (INTEGER, CONSTANT, Row("?int", "u8 #?1 array", refused)),
+        (FLOATING, CONSTANT, Row("?float", "u8 #?1 array", refused)),
+        (
+            CONSTANT,
+            CONSTANT,
+            Row("u8 #? array", "u8 #?1 array", accepted),
+        ),
+        // A variable that isn't the evaluator's gets no value.
+        (INTEGER, TYPE, Row("?", "u8", refused)),
+    ];
+    for (number, (first, second, row)) in rows.iter().enumerate() {
+        check_both(&rt, rt.alloc(), *first, *second, *row, number);
+    }
+}
+
+/// A type, and whether a variable for any type, one for integers and one for floating-point types take it.
+#[derive(Clone, Copy)]
+struct Taken<'a>(&'a str, bool, bool, bool);
+
+fn check_taken(rt: &impl Abort, alloc: Global, row: Taken<'_>, number: usize) {
+    let sorts = [
+        (TYPE, "?", row.1),
+        (INTEGER, "?int", row.2),
+        (FLOATING, "?float", row.3),
+    ];
+    for (kind, variable, takes) in sorts {
+        let recorded = if takes { Some(0) } else { None };
+        let row = Row(variable, row.0, recorded);
+        check_both(rt, alloc, kind, TYPE, row, number);
+    }
+}
+
+#[test]
+fn gives_values_of_a_variables_sort(rt: HostRuntime) {
+    let rows = [
+        Taken("u8", true, true, false),
+        Taken("i8", true, true, false),
+        Taken("f32", true, false, true),
+        Taken("bool", true, false, false),
+        Taken("char", true, false, false),
+        Taken("u8 vec", true, false, false),
+        Taken("u8 'static ref", true, false, false),
+        Taken("u16 out", true, false, false),
+        // The type that is listed for the alias.
+        Taken("u8 out", true, true, false),
+        Taken("p0", true, false, false),
+        Taken("error", true, false, false),
+        Taken("!", false, false, false),
+    ];
+    for (number, row) in rows.iter().enumerate() {
+        check_taken(&rt, rt.alloc(), *row, number);
+    }
+}
+
+#[test]
+fn makes_constants_equal(rt: HostRuntime) {
+    let (accepted, refused) = (Some(0), None);
+    let rows = [
+        Row("u8 #? array", "u8 #3 array", accepted),
+        Row("u8 #? array", "u8 #p1 array", accepted),
+        Row("u8 #? array", "u8 #length array", accepted),
+        Row("u8 #? array", "u8 #error array", accepted),
+        Row("u8 #? array", "u8 #! array", refused),
+        Row(
+            "u8 #? array const_binder",
+            "u8 #^0 array const_binder",
+            refused,
+        ),
+        Row("u8 #3 array", "u8 #3 array", accepted),
+        Row("u8 #3 array", "u8 #4 array", refused),
+        Row("u8 #3 array", "u16 #3 array", refused),
+        Row("u8 #p1 array", "u8 #3 array", refused),
+        Row("u8 #! array", "u8 #! array", accepted),
+        Row("#3 buffer", "#? buffer", accepted),
+        Row("#3 buffer", "#4 buffer", refused),
+    ];
+    for (number, row) in rows.iter().enumerate() {
+        check_both(&rt, rt.alloc(), CONSTANT, TYPE, *row, number);
+    }
+}
+
+#[test]
+fn records_regions_that_differ(rt: HostRuntime) {
+    let rows = [
+        Row("u8 'static ref", "u8 'static ref", Some(0)),
+        Row("u8 '! ref", "u8 'static ref", Some(2)),
+        Row("u8 '? ref", "u8 'static ref", Some(2)),
+        Row("u8 '? ref", "u8 '! ref", Some(2)),
+        Row("u8 '? ref", "u8 'error ref", Some(2)),
+        Row("u8 '?1 ref", "u8 '? ref", Some(2)),
+        Row("u8 '? ref", "u8 '? ref", Some(0)),
+        Row("u8 '? ref '?1 ref", "u8 '! ref 'static ref", Some(4)),
+        Row("'? guard", "'static guard", Some(2)),
+        Row("u8 '? ref", "u16 'static ref", None),
+        // Placeholders stand for what a binder binds.
+        Row(
+            "u8 '^0 ref region_binder",
+            "u8 '^0 ref region_binder",
+            Some(0),
+        ),
+        Row(
+            "u8 '^0 ref region_binder",
+            "u8 'static ref region_binder",
+            Some(2),
+        ),
+        Row(
+            "u8 '^0 ref region_binder region_binder",
+            "u8 '^1 ref region_binder region_binder",
+            Some(2),
+        ),
+    ];
+    let region = VariableKind::Region;
+    for (number, row) in rows.iter().enumerate() {
+        check_both(&rt, rt.alloc(), region, region, *row, number);
+    }
 }
 
 #[test]
 fn makes_types_equal(rt: HostRuntime) {
-    let alloc = rt.alloc();
-    let general = VariableSort::General;
-    let integer = VariableSort::Integer;
-    let floating = VariableSort::Floating;
+    let (accepted, refused) = (Some(0), None);
     let rows = [
-        // A variable takes a type, from either side, and another variable.
-        Row(general, "?", "bool", true),
-        Row(general, "bool", "?", true),
-        Row(general, "?", "?1", true),
-        Row(general, "?", "?", true),
-        Row(general, "?", "?1 vec", true),
-        Row(general, "? vec", "bool vec", true),
-        // It isn't a type that holds it, and, of the root universe, names no newer placeholder.
-        Row(general, "?", "? vec", false),
-        Row(general, "?", "!", false),
-        Row(general, "?", "! vec", false),
-        Row(general, "!", "!", true),
-        // A variable for integers is an integer, and one for floating-point types is one of those.
-        Row(integer, "?int", "u8", true),
-        Row(integer, "?int", "bool", false),
-        Row(integer, "f32", "?int", false),
-        Row(integer, "?int", "?1", true),
-        Row(integer, "?1", "?int", true),
-        Row(integer, "?int", "u8 slice", false),
-        Row(floating, "?float", "f64", true),
-        Row(floating, "?float", "u8", false),
         // Of two types of one head what is below them is made equal, and of two heads nothing is.
-        Row(general, "u8", "u8", true),
-        Row(general, "u8", "u16", false),
-        Row(general, "u8 slice", "u8 slice", true),
-        Row(general, "u8 slice", "u8 ptr", false),
-        Row(general, "u8 slice", "bool slice", false),
-        Row(general, "? slice", "u8 slice slice", true),
-        // What stands for an alias isn't known: it is equal to itself, and to a variable.
-        Row(general, "u8 out", "u8 out", true),
-        Row(general, "u8 out", "u8", false),
-        Row(general, "u8 out", "?", true),
-        // Regions are recorded, where they differ.
-        Row(general, "'static u8 ref", "'static u8 ref", true),
+        Row("u8", "u8", accepted),
+        Row("u8", "u16", refused),
+        Row("u8 slice", "u8 slice", accepted),
+        Row("u8 slice", "u8 ptr", refused),
+        Row("u8 slice", "bool slice", refused),
+        Row("? slice", "u8 slice slice", accepted),
+        Row("? vec", "bool vec", accepted),
+        Row("? ? both", "u8 u16 both", refused),
+        Row("? ? both", "u8 u8 both", accepted),
+        // A variable isn't a type that holds it, nor one that does by what is known of others.
+        Row("?", "? vec", refused),
+        Row("? ?1 both", "?1 vec ? vec both", refused),
+        Row("? ? both", "?1 ?1 vec both", refused),
+        Row("? ?1 both", "?1 vec ?1 both", accepted),
+        Row("? ?1 both", "?1 ? both", accepted),
+        // A listed alias is its type, and any other alias itself alone.
+        Row("u8 out", "u16", accepted),
+        Row("u8 out", "u8", refused),
+        Row("u8 out", "usize out", accepted),
+        Row("u8 out vec", "u16 vec", accepted),
+        Row("u8 out", "u16 out", refused),
+        Row("u16 out", "u16 out", accepted),
+        Row("u16 out", "u16", refused),
+        Row("u8 out out", "u16 out", accepted),
+        Row("? out", "u8 out", refused),
     ];
-    for (number, row) in rows.iter().enumerate() {
-        check_row(&rt, alloc, *row, number);
+    check_rows(&rt, rt.alloc(), &rows);
+}
+
+#[test]
+fn compares_binders_and_bounds_in_order(rt: HostRuntime) {
+    let (accepted, refused) = (Some(0), None);
+    let rows = [
+        Row("u8 binder", "u8 binder", accepted),
+        Row("u8 binder", "u8", refused),
+        Row("u8 binder", "u8 type_binder", refused),
+        Row("u8 type_binder", "u8 region_binder", refused),
+        Row("u8 type_binder", "u8 type_region_binder", refused),
+        Row("u8 type_region_binder", "u8 region_type_binder", refused),
+        Row("u8 region_binder", "u16 region_binder", refused),
+        Row("^0 type_binder", "^0 type_binder", accepted),
+        Row(
+            "^0 type_region_type_binder",
+            "^0_1 type_region_type_binder",
+            refused,
+        ),
+        Row("? region_binder", "u8 region_binder", accepted),
+        Row("u8 'static dyn", "? 'static dyn", accepted),
+        Row("u8 'static dyn", "u16 'static dyn", refused),
+        Row(
+            "u8 'static dyn_auto_and",
+            "u8 'static dyn_auto_and",
+            accepted,
+        ),
+        Row(
+            "u8 'static dyn_auto_and",
+            "u8 'static dyn_and_auto",
+            refused,
+        ),
+        Row("u8 'static dyn_auto_and", "u8 'static dyn", refused),
+    ];
+    check_rows(&rt, rt.alloc(), &rows);
+}
+
+#[test]
+fn keeps_newer_placeholders_out_of_values(rt: HostRuntime) {
+    let (accepted, refused) = (Some(0), None);
+    let rows = [
+        // Of a binder that is entered a value names only regions.
+        Row("? type_binder", "^0 type_binder", refused),
+        Row("?2 type_binder", "^0 type_binder", refused),
+        Row(
+            "?2 type_binder type_binder",
+            "^1 type_binder type_binder",
+            refused,
+        ),
+        Row("? region_binder", "u8 '^0 ref region_binder", accepted),
+        Row("?", "! vec", refused),
+        Row("? region_binder", "! region_binder", refused),
+        Row("?2", "!", accepted),
+        Row("?2", "! vec", accepted),
+        Row("?2 region_binder", "! region_binder", accepted),
+        Row("! ? both", "! ! both", refused),
+        Row("! ?2 both", "! ! both", accepted),
+        // What stands in the value of an older variable is as old, whichever comes first.
+        Row("? ?2 both", "?2 vec ! both", refused),
+        Row("? ?2 both", "?2 ! both", refused),
+        Row("?2 ? both", "! ?2 vec both", refused),
+        Row("? ?2 both", "?2 vec u8 both", accepted),
+        Row("?2 ? both", "! u8 both", accepted),
+    ];
+    check_rows(&rt, rt.alloc(), &rows);
+}
+
+/// Two types are made equal, and the root variables stand for these two then.
+fn check_values(rt: &impl Abort, alloc: Global, left: &str, right: &str, values: &str) {
+    let mut reader = Reader::new(rt, alloc);
+    let env = reader.env_of(rt, &[]);
+    let first = reader.ty(rt, Reading::Parameters, left);
+    let second = reader.ty(rt, Reading::Parameters, right);
+    let roots = reader.ty(rt, Reading::Parameters, "? ?1 both");
+    let want = reader.ty(rt, Reading::Parameters, values);
+    let mut rounds = over(rt, alloc, reader.cx, TYPE, TYPE);
+    let recorded = equated(rt, alloc, &mut rounds, env, first, second);
+    equals(rt, &recorded, &Some(0), left);
+    let resolved = rounds
+        .resolve_ty_if_possible(alloc, roots)
+        .expect(rt, "values");
+    equals(rt, &rounds.cx().same(resolved, want), &true, values);
+}
+
+#[test]
+fn puts_values_in(rt: HostRuntime) {
+    let rows = [
+        ("? u8 both", "u16 ?1 both", "u16 u8 both"),
+        ("? ?1 both", "?1 vec u8 both", "u8 vec u8 both"),
+        ("?1 ? both", "u8 ?1 vec both", "u8 vec u8 both"),
+        ("u8 out", "?", "u16 ?1 both"),
+        ("? ?1 both", "?1 ? both", "?1 ?1 both"),
+        ("u8 slice", "u8 slice", "? ?1 both"),
+    ];
+    for (left, right, values) in rows {
+        check_values(&rt, rt.alloc(), left, right, values);
     }
+}
+
+/// What the type stands for at its root.
+fn check_resolved(rt: &impl Abort, rounds: &Rounds, ty: Ty, want: Ty)
+    requires ty { IsTy rounds.now.context.trees ty }
+    requires want { IsTy rounds.now.context.trees want }
+{
+    let resolved = rounds.shallow_resolve(ty);
+    equals(rt, &rounds.cx().same(resolved, want), &true, "its value");
+}
+
+/// A list is made equal to that of the first variable and `u8` in a probe, in which the variable stands for that type then. After it, it
+/// stands for itself.
+fn check_probe(
+    rt: &impl Abort,
+    alloc: Global,
+    list: &str,
+    want: Result<(), NoSolutionOrStop>,
+    value: &str,
+) {
+    let mut reader = Reader::new(rt, alloc);
+    let env = reader.env_of(rt, &[]);
+    let left = reader.list_of_both(rt, "? u8");
+    let right = reader.list_of_both(rt, list);
+    let variable = reader.ty(rt, Reading::Parameters, "?");
+    let value = reader.ty(rt, Reading::Parameters, value);
+    let mut rounds = over(rt, alloc, reader.cx, TYPE, TYPE);
+    rounds.begin_probe(ProbeKind::Kept).expect(rt, "a probe");
+    let equal = EvalCtxt::eq_args(&mut rounds, env, left, right);
+    equals(rt, &equal, &want, list);
+    check_resolved(rt, &rounds, variable, value);
+    rounds.end_probe();
+    check_resolved(rt, &rounds, variable, variable);
+}
+
+#[test]
+fn forgets_values_of_what_is_refused_or_undone(rt: HostRuntime) {
+    let refused = Err(NoSolutionOrStop::NoSolution);
+    check_probe(&rt, rt.alloc(), "u16 bool", refused, "?");
+    check_probe(&rt, rt.alloc(), "u16 u8", Ok(()), "u16");
 }
 
 #[test]
 fn answers_that_too_little_is_known(rt: HostRuntime) {
     let alloc = rt.alloc();
     let cx = declared(&rt, alloc);
-    let mut rounds = over(&rt, alloc, cx, VariableSort::General);
+    let mut rounds = over(&rt, alloc, cx, TYPE, TYPE);
     let response = bail_with_ambiguity(&mut rounds).expect(&rt, "a response");
     equals(&rt, &response.certainty, &Certainty::AMBIGUOUS, "not sure");
     equals(&rt, &response.vars.len(), &2, "both are open");

@@ -40,6 +40,8 @@ mod kinds;
 #[cfg(test)]
 mod large;
 #[cfg(test)]
+mod listed;
+#[cfg(test)]
 mod merging;
 #[cfg(test)]
 mod normalisers;
@@ -57,6 +59,8 @@ mod rejections;
 mod responses;
 #[cfg(test)]
 mod samples;
+#[cfg(test)]
+mod settling;
 #[cfg(test)]
 mod states;
 #[cfg(test)]

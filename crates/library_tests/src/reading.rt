@@ -7,7 +7,7 @@ ghost use Rattle.candidate_ir.specs.Kinds.{ty_children, const_children};
 ghost use Rattle.candidate_ir.specs.Words.{IsTy, IsConst, IsRegion, IsArgs, IsVars, IsPreds, IsSig, IsClause, IsParamEnv, KindFits, ConstKindFits, ListFits, ClauseFits, ClauseListFits};
 
 use crate::asserts::holds;
-use crate::bounds::{auto_and, bound, by_auto_trait, by_projection, by_trait};
+use crate::bounds::{and_auto, auto_and, bound, by_auto_trait, by_projection, by_trait};
 use crate::builders::{
     args, clause, constant, environment, push_arg, region, signature, ty, variables,
 };
@@ -116,8 +116,11 @@ fn marked(word: &str) -> Option<TyKind>
         "^last" => Some(TyKind::Bound(bound_at(u32::MAX))),
         "?" => Some(TyKind::Infer(InferTy::TyVar(0))),
         "?1" => Some(TyKind::Infer(InferTy::TyVar(1))),
+        "?2" => Some(TyKind::Infer(InferTy::TyVar(2))),
         "?int" => Some(TyKind::Infer(InferTy::IntVar(0))),
+        "?int1" => Some(TyKind::Infer(InferTy::IntVar(1))),
         "?float" => Some(TyKind::Infer(InferTy::FloatVar(0))),
+        "?float1" => Some(TyKind::Infer(InferTy::FloatVar(1))),
         "error" => Some(TyKind::Error),
         _ => None,
     }
@@ -350,6 +353,16 @@ impl Reader {
         self.args(rt, &[GenericArg::Ty(ty)])
     }
 
+    /// The list of the last two types.
+    #[tactic(auto, using(crate::proofs::Kept::kept))]
+    fn both(&mut self, rt: &impl Abort) -> Args
+        ensures grows { Grows self.old.cx self.new.cx }
+        ensures sort { IsArgs self.new.cx.trees result }
+    {
+        let (before, ty) = (self.before, self.ty);
+        self.args(rt, &[GenericArg::Ty(before), GenericArg::Ty(ty)])
+    }
+
     /// The variables of a binder.
     #[tactic(auto, using(crate::proofs::Kept::kept))]
     pub fn vars(&mut self, rt: &impl Abort, kinds: &[VarKind]) -> Vars
@@ -387,6 +400,7 @@ impl Reader {
             "dyn_out" => Some(bound(rt, cx, vars, by_projection(none, ty))),
             "dyn_auto" => Some(bound(rt, cx, vars, by_auto_trait())),
             "dyn_auto_and" => Some(auto_and(rt, cx, vars, by_trait(list))),
+            "dyn_and_auto" => Some(and_auto(rt, cx, vars, by_trait(list))),
             _ => None,
         }
     }
@@ -548,8 +562,7 @@ impl Reader {
                 self.replace(rt, TyKind::Tuple(list));
             }
             "both" => {
-                let (before, ty) = (self.before, self.ty);
-                let list = self.args(rt, &[GenericArg::Ty(before), GenericArg::Ty(ty)]);
+                let list = self.both(rt);
                 self.replace(rt, TyKind::Tuple(list));
             }
             "#length" => {
@@ -798,6 +811,16 @@ impl Reader {
     {
         self.read(rt, reading, text);
         self.list(rt)
+    }
+
+    /// The list of the two types of the words.
+    #[tactic(auto, using(crate::proofs::Kept::kept))]
+    pub fn list_of_both(&mut self, rt: &impl Abort, text: &str) -> Args
+        ensures grows { Grows self.old.cx self.new.cx }
+        ensures sort { IsArgs self.new.cx.trees result }
+    {
+        self.read(rt, Reading::Parameters, text);
+        self.both(rt)
     }
 
     /// The environment of the clauses.

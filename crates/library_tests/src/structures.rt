@@ -1,13 +1,13 @@
 //! The types that the builtin rules ask about, for each kind of type.
 
-ghost use Rattle.std.specs.Prelude.{◌≡◌, IfOk};
+ghost use Rattle.std.specs.Prelude.{◌≡◌, IfOk, IfSome};
 ghost use Rattle.candidate_ir.specs.Context.{Grows};
 ghost use Rattle.candidate_ir.specs.WellFormed.{TypesFit};
 ghost use Rattle.candidate_ir.specs.Words.{IsTy};
 ghost use Rattle.candidate_eval.specs.Asked.{ArePartsIn};
 
 use crate::asserts::{equals, holds};
-use crate::builders::{adt, args, push_arg, ty};
+use crate::builders::{args, push_arg, ty};
 use crate::kinds::sides;
 use crate::reading::{Reader, Reading};
 use crate::samples::{BOX, VEC, add_samples};
@@ -22,8 +22,8 @@ use candidate_eval::structural::{Constituents, Under};
 use candidate_ir::decl::builder::DeclsBuilder;
 use candidate_ir::decl::contents::{Destructor, LangItem, Sizedness};
 use candidate_ir::decl::context::Cx;
-use candidate_ir::decl::definition::{AdtFlags, AdtShape, CrateId, TraitFlags};
-use candidate_ir::ir::kinds::{AdtId, GenericArg, Ty, TyKind, UintTy};
+use candidate_ir::decl::definition::{AdtFlags, CrateId, TraitFlags};
+use candidate_ir::ir::kinds::{Args, GenericArg, TraitId, TraitRef, Ty, TyKind, UintTy};
 use std::alloc::Global;
 use std::process::Abort;
 
@@ -41,46 +41,47 @@ const COLUMNS: [Column; 4] = [
     Column::Copy,
 ];
 
-/// Types, and what the columns ask about, as a tuple: for auto traits, `Sized`, `MetaSized`, and `Copy`. The fields of `vec` are
-/// of its parameter and of slices of it, which have to be sized for it to be; `box` is the marker type, with another field.
-const TABLE: &str = "bool => unit; unit; unit; refused
-char => unit; unit; unit; refused
-i8 => unit; unit; unit; refused
-u16 => unit; unit; unit; refused
-f32 => unit; unit; unit; refused
-never => unit; unit; unit; refused
-u8 fn => unit; unit; unit; unit
-u8 fn_ptr => unit; unit; unit; unit
-error => unit; unit; unit; unit
-? => excluded; excluded; excluded; excluded
-?int => excluded; unit; unit; refused
-?float => excluded; unit; unit; refused
-str => u8 slice tuple; refused; unit; refused
-i8 slice => i8 tuple; refused; unit; refused
-i8 'static dyn => excluded; refused; unit; refused
-i8 #3 array => i8 tuple; unit; unit; refused
-i8 not_null => i8 tuple; unit; unit; i8 tuple
-i8 #3 #4 range => i8 tuple; unit; unit; i8 tuple
-i8 ptr => i8 tuple; unit; unit; refused
-i8 'static ref => i8 tuple; unit; unit; refused
-unit => unit; unit; unit; unit
-u8 str both => u8 str both; str tuple; str tuple; u8 str both
-u8 i8 fn_closure => i8 tuple; unit; unit; i8 tuple
-u8 T fn_closure => T tuple; unit; unit; T tuple
-u8 T vec fn_closure => T vec tuple; unit; unit; T vec tuple
-i8 region_binder => under i8 tuple; under i8 tuple; under i8 tuple; refused
-foreign => unit; refused; refused; refused
-u16 vec => u16 u16 slice both; u16 slice tuple; u16 tuple; refused
-T vec => T T slice both; T slice tuple; T tuple; refused
-u16 box => u16 tuple; unit; unit; refused
-local => unit; unit; unit; refused
-u16 opaque => u16 tuple; refused; refused; refused
-i8 out => excluded; refused; refused; refused
-i8 inherent => excluded; refused; refused; refused
-i8 free => excluded; refused; refused; refused
-T => excluded; refused; refused; refused
-! => excluded; refused; refused; refused
-^0 => excluded; excluded; excluded; excluded";
+/// Types, and what the columns ask about, as a tuple: for auto traits, `Sized`, `MetaSized`, `Copy`, and `Destruct`. The fields of `vec`
+/// are of its parameter and of slices of it, which have to be sized for it to be; `box` is the marker type, with a field that isn't its
+/// argument.
+const TABLE: &str = "bool => unit; unit; unit; refused; unit
+char => unit; unit; unit; refused; unit
+i8 => unit; unit; unit; refused; unit
+u16 => unit; unit; unit; refused; unit
+f32 => unit; unit; unit; refused; unit
+never => unit; unit; unit; refused; unit
+u8 fn => unit; unit; unit; unit; unit
+u8 fn_ptr => unit; unit; unit; unit; unit
+error => unit; unit; unit; unit; unit
+? => excluded; excluded; excluded; excluded; excluded
+?int => excluded; unit; unit; refused; unit
+?float => excluded; unit; unit; refused; unit
+str => u8 slice tuple; refused; unit; refused; unit
+i8 slice => i8 tuple; refused; unit; refused; i8 tuple
+i8 'static dyn => excluded; refused; unit; refused; refused
+i8 #3 array => i8 tuple; unit; unit; refused; i8 tuple
+i8 not_null => i8 tuple; unit; unit; i8 tuple; i8 tuple
+i8 #3 #4 range => i8 tuple; unit; unit; i8 tuple; i8 tuple
+i8 ptr => i8 tuple; unit; unit; refused; unit
+i8 'static ref => i8 tuple; unit; unit; refused; unit
+unit => unit; unit; unit; unit; unit
+u8 str both => u8 str both; str tuple; str tuple; u8 str both; u8 str both
+u8 i8 fn_closure => i8 tuple; unit; unit; i8 tuple; i8 tuple
+u8 T fn_closure => T tuple; unit; unit; T tuple; T tuple
+u8 T vec fn_closure => T vec tuple; unit; unit; T vec tuple; T vec tuple
+i8 region_binder => under i8 tuple; under i8 tuple; under i8 tuple; refused; refused
+foreign => unit; refused; refused; refused; refused
+u16 vec => u16 u16 slice both; u16 slice tuple; u16 tuple; refused; u16 u16 slice both
+T vec => T T slice both; T slice tuple; T tuple; refused; T T slice both
+u16 box => u16 tuple; unit; unit; refused; u8 tuple
+local => unit; unit; unit; refused; unit
+u16 opaque => u16 tuple; refused; refused; refused; refused
+i8 out => excluded; refused; refused; refused; refused
+i8 inherent => excluded; refused; refused; refused; refused
+i8 free => excluded; refused; refused; refused; refused
+T => excluded; refused; refused; refused; refused
+! => excluded; refused; refused; refused; refused
+^0 => excluded; excluded; excluded; excluded; excluded";
 
 /// The tuple of the types.
 pub fn tuple_of(rt: &impl Abort, alloc: Global, cx: &mut Cx, types: &[Ty]) -> Ty
@@ -197,120 +198,198 @@ fn check_cell(
     }
 }
 
-/// A data type with a field, its destructor, and the lang items that are declared.
+/// The traits that come after the samples.
+const DESTRUCT: TraitId = TraitId(18);
+
+const DROP: TraitId = TraitId(19);
+
+/// The first type of a list.
+fn first_type(rt: &impl Abort, cx: &Cx, list: Args) -> Option<Ty>
+    ensures { IfSome result (λ t. IsTy cx.now.trees t) }
+{
+    let inside = (list.0 as usize) < cx.node_count();
+    holds(rt, inside, "a number of the context");
+    let first = cx.child(list.0, 0)?;
+    match cx.argument(first)? {
+        GenericArg::Ty(ty) => Some(ty),
+        _ => None,
+    }
+}
+
+/// The type that a condition is about: `Drop` has to hold of the type that is dropped, and `Destruct` of any other.
+fn type_of(rt: &impl Abort, cx: &Cx, condition: TraitRef, dropped: Ty) -> Ty
+    requires { IsTy cx.now.trees dropped }
+    ensures { IsTy cx.now.trees result }
+{
+    let ty = first_type(rt, cx, condition.args).expect(rt, "a type");
+    let of = if cx.same(ty, dropped) { DROP } else { DESTRUCT };
+    equals(rt, &condition.def_id.0, &of.0, "a trait");
+    ty
+}
+
+/// The tuple of the types that the conditions are about.
+fn tuple_about(
+    rt: &impl Abort,
+    alloc: Global,
+    cx: &mut Cx,
+    conditions: &[TraitRef],
+    dropped: Ty,
+) -> Ty
+    requires { IsTy cx.old.trees dropped }
+    ensures grows { Grows cx.old cx.new }
+    ensures sort { IsTy cx.new.trees result }
+{
+    let mut list = Vec::new(alloc);
+    for condition in conditions {
+        let ty = type_of(rt, cx, *condition, dropped);
+        push_arg(rt, &mut list, GenericArg::Ty(ty));
+    }
+    let args = args(rt, cx, list.as_slice());
+    ty(rt, cx, TyKind::Tuple(args))
+}
+
+/// The conditions for `Destruct` are about the types of that tuple.
+fn check_conditions(rt: &impl Abort, alloc: Global, cx: &mut Cx, ty: Ty, want: Ty)
+    requires ty { IsTy cx.old.trees ty }
+    requires want { IsTy cx.old.trees want }
+    ensures { Grows cx.old cx.new }
+{
+    holds(rt, has_destruct_cell(cx, ty), "a type that is dropped");
+    let Ok(conditions) = const_conditions_for_destruct(alloc, cx, ty) else {
+        holds(rt, false, "conditions");
+        return;
+    };
+    let tuple = tuple_about(rt, alloc, cx, conditions.as_slice(), ty);
+    holds(rt, cx.same(tuple, want), "the types");
+}
+
+fn check_undroppable(rt: &impl Abort, alloc: Global, cx: &mut Cx, ty: Ty)
+    requires { IsTy cx.old.trees ty }
+    ensures { Grows cx.old cx.new }
+{
+    holds(rt, has_destruct_cell(cx, ty), "a type that is dropped");
+    match const_conditions_for_destruct(alloc, cx, ty) {
+        Ok(_) => holds(rt, false, "a refusal"),
+        Err(error) => equals(rt, &error, &NoSolutionOrStop::NoSolution, "a refusal"),
+    }
+}
+
+/// The cell in the column of `Destruct`.
+fn check_dropped(rt: &impl Abort, alloc: Global, reader: &mut Reader, text: &str, want: &str) {
+    let ty = reader.ty(rt, Reading::Parameters, text);
+    match want {
+        "excluded" => holds(rt, !has_destruct_cell(&reader.cx, ty), text),
+        "refused" => check_undroppable(rt, alloc, &mut reader.cx, ty),
+        _ => {
+            let tuple = reader.ty(rt, Reading::Parameters, want);
+            check_conditions(rt, alloc, &mut reader.cx, ty, tuple);
+        }
+    }
+}
+
+/// What is declared of `box`, and of the two traits after the samples.
 #[derive(Clone, Copy)]
 struct Dropped {
+    flags: AdtFlags,
     destructor: Option<Destructor>,
-    is_manual: bool,
     items: [Option<LangItem>; 2],
 }
 
 fn with_both(destructor: Option<Destructor>) -> Dropped {
     Dropped {
+        flags: AdtFlags::default(),
         destructor,
-        is_manual: false,
         items: [Some(LangItem::Destruct), Some(LangItem::Drop)],
     }
 }
 
-const DROPPED: AdtId = AdtId(0);
+fn add_fields(rt: &impl Abort, builder: &mut DeclsBuilder) {
+    let field = builder.mk_ty(TyKind::Param(0)).expect(rt, "a parameter");
+    let slice = builder.mk_ty(TyKind::Slice(field)).expect(rt, "a slice");
+    let byte = builder.mk_ty(TyKind::Uint(UintTy::U8)).expect(rt, "a type");
+    builder.push_field(VEC, field).expect(rt, "a field");
+    builder.push_field(VEC, slice).expect(rt, "a field");
+    builder.push_field(BOX, byte).expect(rt, "a field");
+    builder.set_constraint(VEC, Sizedness::Sized, slice);
+    builder.set_constraint(VEC, Sizedness::MetaSized, field);
+}
 
-/// Two traits come after it: `Destruct` and `Drop`, where they are declared so.
-fn declared_dropped(rt: &impl Abort, alloc: Global, of: Dropped) -> Cx {
+/// The samples, with fields, and those two traits.
+fn declared(rt: &impl Abort, alloc: Global, of: Dropped) -> Cx {
     let mut builder = DeclsBuilder::new(alloc);
-    let krate = builder.add_crate().expect(rt, "a crate");
-    let flags = AdtFlags {
-        manually_drop: of.is_manual,
-        ..AdtFlags::default()
-    };
-    let adt = builder.add_adt(krate, AdtShape::Struct, &[], flags);
-    holds(rt, adt.is_ok(), "a struct");
-    let field = builder.mk_ty(TyKind::Uint(UintTy::U8)).expect(rt, "a type");
-    builder.push_field(DROPPED, field).expect(rt, "a field");
+    add_samples(rt, &mut builder, of.flags);
+    add_fields(rt, &mut builder);
     if let Some(destructor) = of.destructor {
-        builder.set_destructor(DROPPED, destructor);
+        builder.set_destructor(BOX, destructor);
     }
     for item in of.items {
-        let added = builder.add_trait(krate, &[], TraitFlags::default());
+        let added = builder.add_trait(CrateId(1), &[], TraitFlags::default());
         let added = added.expect(rt, "a trait");
         if let Some(item) = item {
             builder.lang_item(item, added);
         }
     }
-    Cx::new(builder.finish().expect(rt, "no fault"))
-}
-
-/// The traits of its conditions, by their numbers; nothing where they are refused.
-fn check_conditions(rt: &impl Abort, alloc: Global, of: Dropped, want: Option<&[u32]>) {
-    let mut cx = declared_dropped(rt, alloc, of);
-    let ty = adt(rt, &mut cx, DROPPED, &[]);
-    holds(rt, has_destruct_cell(&cx, ty), "a data type");
-    match (const_conditions_for_destruct(alloc, &mut cx, ty), want) {
-        (Ok(conditions), Some(want)) => {
-            equals(rt, &conditions.len(), &want.len(), "conditions");
-            for (condition, number) in conditions.iter().zip(want) {
-                equals(rt, &condition.def_id.0, number, "a condition");
-            }
-        }
-        (Err(error), None) => equals(rt, &error, &NoSolutionOrStop::NoSolution, "a refusal"),
-        _ => holds(rt, false, "conditions or a refusal"),
-    }
-}
-
-/// The samples, with fields.
-fn declared(rt: &impl Abort, alloc: Global) -> Cx {
-    let mut builder = DeclsBuilder::new(alloc);
-    let marker = AdtFlags {
-        phantom_data: true,
-        ..AdtFlags::default()
-    };
-    add_samples(rt, &mut builder, marker);
-    let field = builder.mk_ty(TyKind::Param(0)).expect(rt, "a parameter");
-    let slice = builder.mk_ty(TyKind::Slice(field)).expect(rt, "a slice");
-    let other = builder.mk_ty(TyKind::Bool).expect(rt, "a type");
-    builder.push_field(VEC, field).expect(rt, "a field");
-    builder.push_field(VEC, slice).expect(rt, "a field");
-    builder.push_field(BOX, other).expect(rt, "a field");
-    builder.set_constraint(VEC, Sizedness::Sized, slice);
-    builder.set_constraint(VEC, Sizedness::MetaSized, field);
     builder.set_local(CrateId(0));
     Cx::new(builder.finish().expect(rt, "no fault"))
 }
 
 #[test]
 fn asks_about_the_parts_of_types(rt: HostRuntime) {
-    let mut reader = Reader::in_context(&rt, rt.alloc(), declared(&rt, rt.alloc()));
+    let flags = AdtFlags {
+        phantom_data: true,
+        ..AdtFlags::default()
+    };
+    let marker = Dropped {
+        flags,
+        ..with_both(None)
+    };
+    let cx = declared(&rt, rt.alloc(), marker);
+    let mut reader = Reader::in_context(&rt, rt.alloc(), cx);
     for row in TABLE.lines() {
         let (text, cells) = sides(&rt, row);
-        for (column, want) in COLUMNS.iter().zip(cells.split("; ")) {
+        let (others, dropped) = cells.rsplit_once("; ").expect(&rt, "five cells");
+        for (column, want) in COLUMNS.iter().zip(others.split("; ")) {
             check_cell(&rt, rt.alloc(), &mut reader, text, *column, want);
         }
+        check_dropped(&rt, rt.alloc(), &mut reader, text, dropped);
     }
+}
+
+/// What has to hold for `u16 box` to be dropped.
+fn check_destructor(rt: &impl Abort, alloc: Global, of: Dropped, want: &str) {
+    let mut reader = Reader::in_context(rt, alloc, declared(rt, alloc, of));
+    check_dropped(rt, alloc, &mut reader, "u16 box", want);
 }
 
 #[test]
 fn asks_what_a_destructor_needs(rt: HostRuntime) {
-    check_conditions(
-        &rt,
-        rt.alloc(),
-        with_both(Some(Destructor::Const)),
-        Some(&[1, 2]),
-    );
-    check_conditions(&rt, rt.alloc(), with_both(Some(Destructor::NotConst)), None);
-    check_conditions(&rt, rt.alloc(), with_both(None), Some(&[1]));
-    let manual = Dropped {
-        is_manual: true,
-        ..with_both(Some(Destructor::NotConst))
+    let alloc = rt.alloc();
+    let (of_constants, of_others) = (Some(Destructor::Const), Some(Destructor::NotConst));
+    check_destructor(&rt, alloc, with_both(of_constants), "u8 u16 box both");
+    check_destructor(&rt, alloc, with_both(of_others), "refused");
+    check_destructor(&rt, alloc, with_both(None), "u8 tuple");
+    let flags = AdtFlags {
+        manually_drop: true,
+        ..AdtFlags::default()
     };
-    check_conditions(&rt, rt.alloc(), manual, Some(&[]));
+    let manual = Dropped {
+        flags,
+        ..with_both(of_others)
+    };
+    check_destructor(&rt, alloc, manual, "unit");
     let without_drop = Dropped {
         items: [Some(LangItem::Destruct), None],
-        ..with_both(Some(Destructor::Const))
+        ..with_both(of_constants)
     };
-    check_conditions(&rt, rt.alloc(), without_drop, None);
+    check_destructor(&rt, alloc, without_drop, "refused");
     let without_destruct = Dropped {
         items: [None, Some(LangItem::Drop)],
-        ..with_both(Some(Destructor::Const))
+        ..with_both(of_constants)
     };
-    check_conditions(&rt, rt.alloc(), without_destruct, None);
+    check_destructor(&rt, alloc, without_destruct, "refused");
+    let neither_needed = Dropped {
+        items: [Some(LangItem::Destruct), None],
+        ..with_both(None)
+    };
+    check_destructor(&rt, alloc, neither_needed, "u8 tuple");
 }

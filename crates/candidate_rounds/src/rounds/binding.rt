@@ -1,21 +1,22 @@
 //! Variables that get values.
 
-ghost use Rattle.std.specs.Prelude.{◌≡◌, ◌≤◌, true, [], None, Ok, IfOk, IfErr, OnOk, length, slice_get};
+ghost use Rattle.std.specs.Prelude.{◌≡◌, ◌≤◌, true, false, [], None, Ok, IfOk, IfErr, OnOk, length, slice_get};
 ghost use Rattle.candidate_ir.specs.Context.{Grows};
 ghost use Rattle.candidate_ir.specs.Folds.{IsArg, arg_tree};
 ghost use Rattle.candidate_ir.specs.Kinds.{arg_kind, ty_head};
 ghost use Rattle.candidate_ir.specs.Substitutions.{alone, fits_sort, is_float, is_integer, same_sort, same_variable};
+ghost use Rattle.candidate_ir.specs.Trees.{tree_holds};
 ghost use Rattle.candidate_ir.specs.Unify.{same_head};
 ghost use Rattle.candidate_ir.specs.Words.{IsClause, IsConst, IsRegion, IsTy, clause_tree, const_tree, region_tree, ty_tree};
 ghost use Rattle.candidate_eval.specs.Soundness.{IsResolved};
 ghost use Rattle.candidate_eval.specs.States.{value_of, valued_tree};
 ghost use Rattle.candidate_eval.specs.declared.eval.mode.TypingMode.{TypingMode};
 ghost use Rattle.candidate_eval.specs.declared.eval.variable.VariableKind.TheVariants.{Term};
-ghost use Rattle.candidate_rounds.specs.Assigning.{allows, single_arg, with_info, with_its_value, with_its_universe, bound_up_to};
+ghost use Rattle.candidate_rounds.specs.Assigning.{IsRoom, allows, single_arg, with_info, with_its_value, with_its_universe, with_universes, with_values};
 ghost use Rattle.rounds_judge.specs.Binding.{may_take, bound, single};
 ghost use Rattle.rounds_judge.specs.Equating.{outlives, with_equal_regions};
 ghost use Rattle.candidate_rounds.specs.Inferences.{IsFurther, is_of_kind, back_to, record_region};
-ghost use Rattle.candidate_rounds.specs.Known.{AreMarks, GoesOn, HasResolvedValues, IsConsistent, IsEvaluator, state, state_of};
+ghost use Rattle.candidate_rounds.specs.Known.{AreMarks, GoesOn, HasResolvedValues, IsConsistent, IsEvaluator, is_open, state, state_of};
 
 use crate::rounds::Rounds;
 use crate::rounds::inference::Inference;
@@ -23,7 +24,7 @@ use crate::rounds::resolving::{is_same_kind, variable_of};
 use candidate_eval::eval::variable::VariableKind;
 use candidate_ir::decl::context::Cx;
 use candidate_ir::decl::fold::fold_arg;
-use candidate_ir::ir::heads::{Variable, VariableSort};
+use candidate_ir::ir::heads::{Flag, Variable, VariableSort};
 use candidate_ir::ir::kinds::{
     Binder, Clause, ClauseKind, Const, ConstKind, GenericArg, InferTy, Region, Ty, TyKind,
 };
@@ -196,6 +197,20 @@ fn put_in(
     )
 }
 
+/// Whether a variable of types or constants may stand in the argument: where it says no, none does.
+fn is_open(cx: &Cx, arg: GenericArg) -> bool
+    requires { IsArg cx.now.trees arg }
+    ensures { result ≡ false → tree_holds is_open (arg_tree cx.now.trees arg) ≡ false }
+{
+    match arg {
+        GenericArg::Ty(ty) => cx.has(ty, Flag::TyInfer) || cx.has(ty, Flag::ConstInfer),
+        GenericArg::Const(constant) => {
+            cx.const_has(constant, Flag::TyInfer) || cx.const_has(constant, Flag::ConstInfer)
+        }
+        GenericArg::Region(_) => true,
+    }
+}
+
 /// The variable of that number gets its value, once a variable has the value: the value itself, or its own with the value put
 /// in, which is noted only where that changes it. A growth that is refused and numbers that run out stop it; nothing is noted then.
 fn renew_value(
@@ -209,10 +224,12 @@ fn renew_value(
     requires value { IsArg cx.old.trees value }
     requires fits { fits_sort variable.sort (arg_tree cx.old.trees value).head ≡ true }
     requires kind { is_of_kind (Term variable.sort) (slice_get inference.old.variables variable.number) ≡ true }
+    requires room { IsRoom inference.old number variable (arg_tree cx.old.trees value) }
     requires consistent { IsConsistent cx.old.trees inference.old [] }
     ensures grows { Grows cx.old cx.new }
     ensures further { IsFurther inference.old inference.new }
     ensures consistent { IsConsistent cx.new.trees inference.new [] }
+    ensures room { (inference.new.first_open ≡ inference.old.first_open) × (inference.new.end_open ≡ inference.old.end_open) }
     ensures renewed { (m : TypingMode) → OnOk result (state_of cx.new.trees m inference.new ≡ with_info (state_of cx.old.trees m inference.old) number (with_its_value variable (arg_tree cx.old.trees value) number)) }
     ensures unchanged { IfErr result (λ _. inference.new ≡ inference.old) }
 {
@@ -258,7 +275,78 @@ fn renew_universe(
     inference.lower(number, universe)
 }
 
-/// The first so many variables become what they are once the variable, of that universe, has the value.
+/// Notes that the variable may get the value, where a variable stands in it. `Stop::Memory` comes where a growth was refused,
+/// `Stop::NodesFull` where the variable's number is too large to be noted; nothing is noted then.
+fn make_room(
+    cx: &Cx,
+    inference: &mut Inference,
+    variable: Variable,
+    value: GenericArg,
+) -> Result<(), Stop>
+    requires value { IsArg cx.now.trees value }
+    requires consistent { IsConsistent cx.now.trees inference.old [] }
+    ensures further { IsFurther inference.old inference.new }
+    ensures consistent { IsConsistent cx.now.trees inference.new [] }
+    ensures variables { inference.new.variables ≡ inference.old.variables }
+    ensures state { (m : TypingMode) → state_of cx.now.trees m inference.new ≡ state_of cx.now.trees m inference.old }
+    ensures room { OnOk result (IsRoom inference.new variable.number variable (arg_tree cx.now.trees value)) }
+{
+    if !is_open(cx, value) {
+        return Ok(());
+    }
+    inference.widen(variable.number)
+}
+
+/// All variables get the values that they have once the variable has the value. Only those are looked at in whose values a variable may
+/// stand.
+fn renew_values(
+    alloc: Global,
+    cx: &mut Cx,
+    inference: &mut Inference,
+    variable: Variable,
+    value: GenericArg,
+) -> Result<(), Stop>
+    requires value { IsArg cx.old.trees value }
+    requires fits { fits_sort variable.sort (arg_tree cx.old.trees value).head ≡ true }
+    requires kind { is_of_kind (Term variable.sort) (slice_get inference.old.variables variable.number) ≡ true }
+    requires room { IsRoom inference.old variable.number variable (arg_tree cx.old.trees value) }
+    requires consistent { IsConsistent cx.old.trees inference.old [] }
+    ensures grows { Grows cx.old cx.new }
+    ensures further { IsFurther inference.old inference.new }
+    ensures consistent { IsConsistent cx.new.trees inference.new [] }
+    ensures renewed { (m : TypingMode) → OnOk result (state_of cx.new.trees m inference.new ≡ with_values variable (arg_tree cx.old.trees value) (state_of cx.old.trees m inference.old)) }
+{
+    let (first, end) = inference.open_values();
+    for number in first..end {
+        renew_value(alloc, cx, inference, number, variable, value)?;
+    }
+    renew_value(alloc, cx, inference, variable.number, variable, value)
+}
+
+/// The universes of all variables in the value fall to that one, where they are above it; none is, where that is the newest.
+fn renew_universes(
+    cx: &Cx,
+    inference: &mut Inference,
+    value: GenericArg,
+    universe: u32,
+) -> Result<(), Stop>
+    requires value { IsArg cx.now.trees value }
+    requires consistent { IsConsistent cx.now.trees inference.old [] }
+    ensures further { IsFurther inference.old inference.new }
+    ensures consistent { IsConsistent cx.now.trees inference.new [] }
+    ensures renewed { (m : TypingMode) → OnOk result (state_of cx.now.trees m inference.new ≡ with_universes universe (arg_tree cx.now.trees value) (state_of cx.now.trees m inference.old)) }
+{
+    if inference.newest_universe() <= universe {
+        return Ok(());
+    }
+    let count = inference.next_variables(0)?;
+    for number in 0..count {
+        renew_universe(cx, inference, number, value, universe)?;
+    }
+    Ok(())
+}
+
+/// All variables become what they are once the variable, of that universe, has the value.
 fn renew_all(
     alloc: Global,
     cx: &mut Cx,
@@ -274,14 +362,11 @@ fn renew_all(
     ensures grows { Grows cx.old cx.new }
     ensures further { IsFurther inference.old inference.new }
     ensures consistent { IsConsistent cx.new.trees inference.new [] }
-    ensures renewed { (m : TypingMode) → OnOk result (state_of cx.new.trees m inference.new ≡ bound_up_to (length inference.old.variables) variable universe (arg_tree cx.old.trees value) (state_of cx.old.trees m inference.old)) }
+    ensures renewed { (m : TypingMode) → OnOk result (state_of cx.new.trees m inference.new ≡ with_universes universe (arg_tree cx.old.trees value) (with_values variable (arg_tree cx.old.trees value) (state_of cx.old.trees m inference.old))) }
 {
-    let count = inference.next_variables(0)?;
-    for number in 0..count {
-        renew_value(alloc, cx, inference, number, variable, value)?;
-        renew_universe(cx, inference, number, value, universe)?;
-    }
-    Ok(())
+    make_room(cx, inference, variable, value)?;
+    renew_values(alloc, cx, inference, variable, value)?;
+    renew_universes(cx, inference, value, universe)
 }
 
 /// The variable gets the value, as `Rounds::bind` says.

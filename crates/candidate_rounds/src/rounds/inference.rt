@@ -3,7 +3,7 @@
 
 ghost use Rattle.std.specs.Prelude.{◌≡◌, ◌+◌, ◌^◌, ◌++◌, ◌∷◌, [], ◌<◌, ◌≤◌, IfOk, IfErr, IfSome, drop, length, slice_get, Some, None};
 ghost use Rattle.candidate_rounds.specs.declared.rounds.inference.Change.{Change};
-ghost use Rattle.candidate_rounds.specs.Inferences.{Inference, with_variable, with_variables, assign, lower, enter, record_region, add, add_all, begin_pending, before, back_to, universe_of, with_entry, with_value, with_universe, IsFullAt};
+ghost use Rattle.candidate_rounds.specs.Inferences.{Inference, with_variable, with_variables, assign, lower, enter, record_region, add, add_all, begin_pending, before, back_to, universe_of, with_entry, with_value, with_universe, IsFullAt, widen};
 
 use crate::rounds::fresh::variable_kind;
 use candidate_eval::eval::variable::VariableKind;
@@ -41,6 +41,8 @@ pub(crate) enum Change {
     Goal,
     /// The goals that are pending begin further on; before they began here.
     Pending(usize),
+    /// Values in which a variable stands were of variables of these numbers alone.
+    Open(u32, u32),
 }
 
 /// What is known so far. Each change is the last of a trail, from which it can be undone.
@@ -52,6 +54,9 @@ pub(crate) struct Inference {
     /// The goals that were added, with their sources. Those from `first_pending` on are pending.
     goals: Vec<(GoalSource, Goal<Clause>)>,
     first_pending: usize,
+    /// Values in which a variable stands are of variables from the one number on, up to below the other.
+    first_open: u32,
+    end_open: u32,
     trail: Vec<Change>,
 }
 
@@ -60,7 +65,7 @@ impl Model for Inference {
 
     ghost Value = { seen.Inference };
 
-    ghost view = { λ s. record { newest_universe = s.newest_universe; variables = s.variables.items; regions = s.regions.items; goals = s.goals.items; first_pending = s.first_pending; trail = s.trail.items } };
+    ghost view = { λ s. record { newest_universe = s.newest_universe; variables = s.variables.items; regions = s.regions.items; goals = s.goals.items; first_pending = s.first_pending; first_open = s.first_open; end_open = s.end_open; trail = s.trail.items } };
 }
 
 /// How many variables and universes there may be.
@@ -69,7 +74,7 @@ const MOST: u32 = 0xffff_ffff;
 impl Inference {
     /// Nothing is known.
     pub(crate) fn new(alloc: Global) -> Inference
-        ensures { result ≡ record { newest_universe = 0; variables = []; regions = []; goals = []; first_pending = 0; trail = [] } }
+        ensures { result ≡ record { newest_universe = 0; variables = []; regions = []; goals = []; first_pending = 0; first_open = 4294967295; end_open = 0; trail = [] } }
     {
         Inference {
             newest_universe: 0,
@@ -77,6 +82,8 @@ impl Inference {
             regions: Vec::new(alloc),
             goals: Vec::new(alloc),
             first_pending: 0,
+            first_open: MOST,
+            end_open: 0,
             trail: Vec::new(alloc),
         }
     }
@@ -245,6 +252,29 @@ impl Inference {
         Ok(())
     }
 
+    /// From which number on variables have values in which a variable stands, and up to below which.
+    pub(crate) fn open_values(&self) -> (u32, u32)
+        ensures { result ≡ (self.now.first_open, self.now.end_open) }
+    {
+        (self.first_open, self.end_open)
+    }
+
+    /// The variable of that number may get a value in which a variable stands. Besides `Stop::Memory`, `Stop::NodesFull` comes where the
+    /// number is too large to be noted; no variable has such a number.
+    pub(crate) fn widen(&mut self, number: u32) -> Result<(), Stop>
+        ensures widened { IfOk result (λ _. self.new ≡ widen self.old number) }
+        ensures unchanged { IfErr result (λ _. self.new ≡ self.old) }
+        ensures cause { IfErr result (λ s. IsFullAt number s) }
+    {
+        if number >= MOST {
+            return Err(Stop::NodesFull);
+        }
+        self.note(Change::Open(self.first_open, self.end_open))?;
+        self.first_open = self.first_open.min(number);
+        self.end_open = self.end_open.max(number + 1);
+        Ok(())
+    }
+
     /// There is a newer universe. Besides `Stop::Memory`, `Stop::NodesFull` comes where no more can be told apart.
     pub(crate) fn enter(&mut self) -> Result<(), Stop>
         ensures entered { IfOk result (λ _. self.new ≡ enter self.old) }
@@ -347,6 +377,10 @@ impl Inference {
                 self.goals.pop();
             }
             Change::Pending(first) => self.first_pending = first,
+            Change::Open(first, end) => {
+                self.first_open = first;
+                self.end_open = end;
+            }
         }
     }
 

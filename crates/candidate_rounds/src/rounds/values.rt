@@ -51,7 +51,7 @@ fn listed_arg(cx: &Cx, normal: &[(Ty, Ty)], arg: GenericArg) -> Option<GenericAr
 }
 
 /// The argument, with the type of its pair in the place of each type that one of these pairs lists, from the top. It stops as
-/// `Rounds::resolve_ty_if_possible` does.
+/// `Rounds::resolve_ty_if_possible` does, and not where nothing is listed.
 fn normalized(
     alloc: Global,
     cx: &mut Cx,
@@ -64,6 +64,9 @@ fn normalized(
     ensures sort { IfOk result (λ x. IsArg cx.new.trees x × (arg_kind x ≡ arg_kind arg)) }
     ensures tree { IfOk result (λ x. arg_tree cx.new.trees x ≡ normalized_tree (listing_of cx.old.trees normal.now) (arg_tree cx.old.trees arg)) }
 {
+    if normal.is_empty() {
+        return Ok(arg);
+    }
     fold_arg(
         alloc,
         cx,

@@ -4,7 +4,7 @@ use Rattle.candidate_rounds.specs.Inferences.{back_to}
 use Rattle.candidate_rounds.specs.Known.{IsConsistent}
 use Rattle.candidate_rounds.proofs.Going.{back-to-before}
 use Rattle.candidate_rounds.proofs.Probing.{holds-grown}
-use Rattle.candidate_rounds.proofs.Renewing.{all-renewed}
+use Rattle.candidate_rounds.proofs.Renewing.{all-bound}
 use Rattle.candidate_rounds.proofs.rounds.binding.bind_in.Goals as goal
 
 pub returns-in-Err-clause-consistent : goal.returns-in-Err-clause-consistent
@@ -18,5 +18,5 @@ returns-in-Err-clause-consistent c =
 pub returns-clause-bound : goal.returns-clause-bound
 returns-clause-bound c = λ m.
     let s = c.args.inference.now in
-    c.in_default-renew_all.ensures.renewed m
-    ∙ all-renewed c.args.cx.now.trees m s c.args.variable (arg_tree c.args.cx.now.trees c.args.value) c.in-Some.entry (sym c.entry.ensures ∙ c.in-Some.is)
+    let x = arg_tree c.args.cx.now.trees c.args.value in
+    all-bound c.args.cx.now.trees c.renew_all.new.cx.trees m s c.renew_all.new.inference c.args.variable x c.in-Some.entry (sym c.entry.ensures ∙ c.in-Some.is) (c.in_default-renew_all.ensures.renewed m)

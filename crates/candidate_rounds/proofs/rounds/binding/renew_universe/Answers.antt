@@ -4,6 +4,7 @@ use Rattle.candidate_rounds.specs.Inferences.{lower}
 use Rattle.candidate_ir.specs.Folds.{arg_tree}
 use Rattle.candidate_rounds.proofs.Assigning.{get-below, some-is, holds-lower, call-holds, universe-stays, universe-lowered, renewed-call}
 use Rattle.candidate_rounds.proofs.Going.{further-lower, further-call}
+use Rattle.candidate_rounds.proofs.Renewing.{universe-is}
 use Rattle.candidate_rounds.proofs.rounds.binding.renew_universe.Goals as goal
 
 pub returns-in_default-clause-renewed : goal.returns-in_default-clause-renewed
@@ -24,7 +25,7 @@ pub returns-clause-further : goal.returns-clause-further
 returns-clause-further c = further-call c.args.inference.now c.lower.new.self (lower c.args.inference.now c.args.number c.args.universe) c.lower.result (further-lower c.args.inference.now c.args.number c.args.universe) c.lower.ensures.lowered c.lower.ensures.unchanged
 
 pub returns-clause-consistent : goal.returns-clause-consistent
-returns-clause-consistent c = call-holds c.args.cx.now.trees c.args.inference.now c.lower.new.self (lower c.args.inference.now c.args.number c.args.universe) [] c.lower.result c.requires.consistent (holds-lower c.args.cx.now.trees c.args.inference.now [] c.args.number c.args.universe c.requires.consistent) c.lower.ensures.lowered c.lower.ensures.unchanged
+returns-clause-consistent c = call-holds c.args.cx.now.trees c.args.inference.now c.lower.new.self (lower c.args.inference.now c.args.number c.args.universe) [] c.lower.result c.requires.consistent (holds-lower c.args.cx.now.trees c.args.inference.now [] c.args.number c.args.universe c.requires.consistent (let l = universe-is c.args.cx.now.trees c.args.inference.now c.args.number c.in-Some.entry c.requires.consistent (sym c.entry.ensures ∙ c.in-Some.is) in omega (arith, l, c.if-entry-universe.false))) c.lower.ensures.lowered c.lower.ensures.unchanged
 
 pub returns-clause-renewed : goal.returns-clause-renewed
 returns-clause-renewed c = λ m. renewed-call c.args.cx.now.trees m c.lower.new.self (lower c.args.inference.now c.args.number c.args.universe) _ c.lower.result

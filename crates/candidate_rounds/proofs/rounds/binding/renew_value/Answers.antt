@@ -22,7 +22,7 @@ returns-then-number-variable-clause-further c = further-call c.args.inference.no
 
 pub returns-then-number-variable-clause-consistent : goal.returns-then-number-variable-clause-consistent
 returns-then-number-variable-clause-consistent c =
-    holds-own c.args.cx.now.trees c.args.inference.now c.assign.new.self c.args.number c.args.variable c.args.value c.assign.result c.requires.consistent c.requires.value c.requires.fits c.requires.kind c.if-number-variable.true c.assign.ensures.assigned c.assign.ensures.unchanged
+    holds-own c.args.cx.now.trees c.args.inference.now c.assign.new.self c.args.number c.args.variable c.args.value c.assign.result c.requires.consistent c.requires.value c.requires.fits c.requires.kind c.if-number-variable.true c.requires.room c.assign.ensures.assigned c.assign.ensures.unchanged
 
 pub returns-then-number-variable-clause-renewed : goal.returns-then-number-variable-clause-renewed
 returns-then-number-variable-clause-renewed c = λ m.
@@ -60,7 +60,7 @@ returns-clause-further c = further-call c.args.inference.now c.assign-2.new.self
 pub returns-clause-consistent : goal.returns-clause-consistent
 returns-clause-consistent c =
     holds-put c.args.cx.now.trees c.put_in.new.cx.trees c.args.inference.now c.assign-2.new.self c.args.number c.args.variable (arg_tree c.args.cx.now.trees c.args.value) c.in-Some.entry c.in_ok-new.new c.in-Some-value.old c.assign-2.result
-    c.put_in.ensures.grows.kept c.requires.consistent c.in_ok-new.ensures.sort c.requires.fits (sym c.entry.ensures ∙ c.in-Some.is) c.in-Some-value.is c.in_ok-new.ensures.tree c.assign-2.ensures.assigned c.assign-2.ensures.unchanged
+    c.put_in.ensures.grows.kept c.requires.consistent c.in_ok-new.ensures.sort c.requires.fits (sym c.entry.ensures ∙ c.in-Some.is) c.in-Some-value.is c.in_ok-new.ensures.tree c.if-number-variable.false c.requires.room c.assign-2.ensures.assigned c.assign-2.ensures.unchanged
 
 pub returns-clause-renewed : goal.returns-clause-renewed
 returns-clause-renewed c = λ m.

@@ -1,8 +1,9 @@
-use Rattle.std.proofs.Common.{◌≡◌, refl, rules}
+use Rattle.std.proofs.Common.{◌≡◌, refl, rules, sym, ◌∙◌}
+use Rattle.candidate_ir.specs.Folds.{arg_tree}
 use Rattle.candidate_ir.proofs.FoldLaws.{reached-keeps}
 use Rattle.candidate_rounds.specs.Known.{listing_of}
 use Rattle.rounds_judge.specs.Listed.{listed}
-use Rattle.candidate_rounds.proofs.Listing.{grown-function, listed-answer, listed-keeps, listed-unasked, types-kept}
+use Rattle.candidate_rounds.proofs.Listing.{empty-listing, grown-function, listed-answer, listed-keeps, listed-unasked, types-kept}
 use Rattle.candidate_rounds.proofs.rounds.values.normalized.Goals as goal
 
 pub fold_arg-requires-clause-callable : goal.fold_arg-requires-clause-callable
@@ -29,3 +30,6 @@ returns-clause-tree c =
     (λ s x d r e n i grown p. let k = n.called in let q = n.lends in let v = n.leaves in
     listed-answer c.args.cx.now s.1 e.1 c.args.normal.now x r grown c.requires.types (search rules) (search rules))
     (λ t e. listed-unasked ts c.args.normal.now t c.requires.types e))
+
+pub returns-then-is_empty-clause-tree : goal.returns-then-is_empty-clause-tree
+returns-then-is_empty-clause-tree c = empty-listing c.args.cx.now.trees c.args.normal.now (arg_tree c.args.cx.now.trees c.args.arg) (sym c.is_empty.ensures ∙ c.if-is_empty.true)

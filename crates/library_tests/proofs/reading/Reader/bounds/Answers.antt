@@ -67,3 +67,23 @@ invariant_of-self-in-dyn_auto_and g c = record {
   region_is = IsRegion-grows _ _ c.list-list.new.self.region c.auto_and.ensures.grows c.list-list.new.self.region_is;
   other_is = IsRegion-grows _ _ c.list-list.new.self.other c.auto_and.ensures.grows c.list-list.new.self.other_is;
 }
+
+pub and_auto-requires-clause-vars : goal.and_auto-requires-clause-vars
+and_auto-requires-clause-vars g c =
+    let vars = IsVars-grows _ _ _ (grows-trans _ _ _ c.args-none.ensures.grows c.list-list.ensures.grows) c.vars-vars.ensures.sort in
+    vars
+
+pub and_auto-requires-clause-fits : goal.and_auto-requires-clause-fits
+and_auto-requires-clause-fits g c =
+    let vars = IsVars-grows _ _ _ (grows-trans _ _ _ c.args-none.ensures.grows c.list-list.ensures.grows) c.vars-vars.ensures.sort in
+    trait_bound-fits _ _ _ _ _ c.by_trait-in-dyn_and_auto.ensures vars c.list-list.ensures.sort
+
+pub invariant_of-self-in-dyn_and_auto : goal.invariant_of-self-in-dyn_and_auto
+invariant_of-self-in-dyn_and_auto g c = record {
+  ty_is = IsTy-grows _ _ c.list-list.new.self.ty c.and_auto.ensures.grows c.list-list.new.self.ty_is;
+  before_is = IsTy-grows _ _ c.list-list.new.self.before c.and_auto.ensures.grows c.list-list.new.self.before_is;
+  constant_is = IsConst-grows _ _ c.list-list.new.self.constant c.and_auto.ensures.grows c.list-list.new.self.constant_is;
+  least_is = IsConst-grows _ _ c.list-list.new.self.least c.and_auto.ensures.grows c.list-list.new.self.least_is;
+  region_is = IsRegion-grows _ _ c.list-list.new.self.region c.and_auto.ensures.grows c.list-list.new.self.region_is;
+  other_is = IsRegion-grows _ _ c.list-list.new.self.other c.and_auto.ensures.grows c.list-list.new.self.other_is;
+}

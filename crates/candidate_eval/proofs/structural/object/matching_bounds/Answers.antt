@@ -1,0 +1,67 @@
+use Rattle.std.proofs.Common.{rules, ◌≡◌, true, false, [], ◌∷◌, ◌++◌, refl, ◌∙◌, ap, subst}
+use Rattle.candidate_ir.specs.Trees.{Forest}
+use Rattle.candidate_ir.specs.Words.{args_forest, clause_tree, env_forest}
+use Rattle.candidate_ir.proofs.Kept.{args-kept}
+use Rattle.candidate_eval.specs.Objects.{Projection, projection_at}
+use Rattle.candidate_eval.proofs.Objects.{env-kept}
+use Rattle.candidate_eval.proofs.Tries.{bound-listed, none-tried, one-found, one-passed, said-then}
+use Rattle.candidate_eval.proofs.structural.object.matching_bounds.Goals.{then-branch+in_ok-push, else-branch}
+use Rattle.candidate_eval.proofs.structural.object.matching_bounds.Goals as goal
+
+pub loop-bound-init : goal.loop-bound-init
+loop-bound-init g c =
+    let E = g.E.EvalCtxt in
+    let old = c.args.ecx.now in
+    let start = g.E.Make.context old in (
+      none-tried (E.judge (E.fixed old)) (env_forest start.trees c.args.env) (projection_at start.trees c.args.projection) start (E.state old) c.args.bounds.now c.new-found.result.items (g.met.E.EvalCtxt.lawful (E.fixed old))
+          c.new-found.ensures.items,
+      refl,
+      refl,
+    )
+
+pub bound_matches-requires-clause-env : goal.bound_matches-requires-clause-env
+bound_matches-requires-clause-env g c = (env-kept (g.E.Make.context c.args.ecx.now) (g.E.Make.context c.loop-bound.ecx) c.args.env c.loop-bound.invariant.0.grows c.requires.env).0
+
+pub bound_matches-requires-clause-bound : goal.bound_matches-requires-clause-bound
+bound_matches-requires-clause-bound g c =
+    (bound-listed (g.E.Make.context c.args.ecx.now) (g.E.Make.context c.loop-bound.ecx) c.args.bounds.now c.loop-bound.bound-index _ c.loop-bound.invariant.0.grows c.requires.bounds c.loop-bound-test.true).0
+
+pub bound_matches-requires-clause-args : goal.bound_matches-requires-clause-args
+bound_matches-requires-clause-args g c = (args-kept (g.E.Make.context c.args.ecx.now) (g.E.Make.context c.loop-bound.ecx) c.args.projection.args c.loop-bound.invariant.0.grows c.requires.args).0
+
+pub loop-bound-preserved : goal.loop-bound-preserved
+loop-bound-preserved g c =
+    let E = g.E.EvalCtxt in
+    let old = c.args.ecx.now in
+    let now = c.loop-bound.ecx in
+    let new = c.bound_matches.new.ecx in
+    let start = g.E.Make.context old in
+    let mid = g.E.Make.context now in
+    let last = g.E.Make.context new in
+    let kept = c.bound_matches.ensures.kept in
+    let so = c.loop-bound.invariant.0 in
+    let fixed = c.loop-bound.invariant.1 in
+    let lawful = g.met.E.EvalCtxt.lawful (E.fixed old) in
+    let e = env_forest start.trees c.args.env in
+    let p = projection_at start.trees c.args.projection in
+    let listed = bound-listed start mid c.args.bounds.now c.loop-bound.bound-index _ so.grows c.requires.bounds c.loop-bound-test.true in
+    let args = ap (λ (f : Forest). let q : Projection = record { item = c.args.projection.def_id.0; arguments = f } in q) (args-kept start mid c.args.projection.args so.grows c.requires.args).1 in
+    let alike = subst (λ f. (E.judge f).alike (E.state now) (E.state new)) fixed c.bound_matches.ensures.alike in
+    let said = said-then E.judge (E.fixed old) (E.fixed now) (E.state now) e (env_forest mid.trees c.args.env) _ _ p (projection_at mid.trees c.args.projection) c.in_ok-bound_matches.field-0 fixed
+    (env-kept start mid c.args.env so.grows c.requires.env).1 listed.1 args c.in_ok-bound_matches.ensures.answer in (
+      elim c.if-branch.branch [
+        | then-branch+in_ok-push w ↦
+            let yes : c.in_ok-bound_matches.field-0 ≡ true = search rules in
+            let items : c.if-branch.found.items ≡ c.loop-bound.found.items ++ _ ∷ [] = search rules in
+            one-found (E.judge (E.fixed old)) e p start mid last (E.state old) (E.state now) (E.state new) c.args.bounds.now c.loop-bound.bound-index _ c.loop-bound.found.items c.if-branch.found.items lawful so c.requires.bounds
+            c.loop-bound-test.true kept.2 alike (said ∙ yes) items
+        | else-branch w ↦
+            let no : c.in_ok-bound_matches.field-0 ≡ false = search rules in
+            let same : c.if-branch.found.items ≡ c.loop-bound.found.items = search rules in
+            rw same
+            (one-passed (E.judge (E.fixed old)) e p start mid last (E.state old) (E.state now) (E.state new) c.args.bounds.now c.loop-bound.bound-index _ c.loop-bound.found.items lawful so
+            c.loop-bound-test.true kept.2 alike (said ∙ no))
+      ],
+      kept.0 ∙ fixed,
+      kept.1 ∙ c.loop-bound.invariant.2,
+    )

@@ -1,0 +1,239 @@
+//! What an object's own bounds say of its associated types.
+
+ghost use Rattle.std.specs.Prelude.{◌≡◌, [], ◌∷◌, ◌++◌, map, Some, None, MatchOption, IfOk, IfErr, OnOk, true, false};
+ghost use Rattle.candidate_ir.specs.Context.{Grows};
+ghost use Rattle.candidate_ir.specs.Opening.{opened_clause};
+ghost use Rattle.candidate_ir.specs.Words.{IsArgs, IsClause, IsParamEnv, IsTy, ClauseListFits, args_forest, clause_tree, env_forest, ty_tree};
+ghost use Rattle.candidate_eval.specs.Characterization.{bound_kinds};
+ghost use Rattle.candidate_eval.specs.Evaluators.{Keeps, kinds_listed};
+ghost use Rattle.candidate_eval.specs.Objects.{is_about, IsBound, fresh_instance, with_instance, bound_equated, is_equated, projection_at, term_in, Tried, IsPicked, IsAmbiguous};
+ghost use Rattle.candidate_eval.specs.Objects as seen;
+ghost use Rattle.candidate_eval.specs.declared.structural.object.AmbiguousOrStop.TheVariants as ambiguous;
+
+use crate::eval::context::{EvalCtxt, ProbeKind};
+use crate::eval::refusal::NoSolutionOrStop;
+use candidate_ir::decl::Cx;
+use candidate_ir::decl::make::Make;
+use candidate_ir::decl::open::{binder_kinds, open_clause};
+use candidate_ir::ir::kinds::{
+    AliasTerm, Args, AssocId, Clause, ClauseKind, ParamEnv, ProjectionPredicate, Ty, VarKind,
+};
+use candidate_ir::ir::stop::Stop;
+use std::alloc::{AllocError, Global};
+
+/// Too little is known to say what a projection is; or a call gave up.
+#[derive(Clone, Copy, Debug, PartialEq, Eq)]
+pub enum AmbiguousOrStop {
+    Ambiguous,
+    Stop(Stop),
+}
+
+impl From<Stop> for AmbiguousOrStop {
+    ghost from_gives = { λ s e. e ≡ ambiguous.Stop s };
+
+    fn from(stop: Stop) -> Self {
+        AmbiguousOrStop::Stop(stop)
+    }
+}
+
+/// What a bound says, if it is about that associated type.
+fn bound_about(cx: &Cx, bound: Clause, item: AssocId) -> Option<ProjectionPredicate>
+    requires { IsClause cx.now.trees bound }
+    ensures { MatchOption result (is_about item.0 (clause_tree cx.now.trees bound).head ≡ false) (λ p. IsBound cx.now.trees (clause_tree cx.now.trees bound) p × (is_about item.0 (clause_tree cx.now.trees bound).head ≡ true)) }
+{
+    match cx.clause(bound).value {
+        ClauseKind::Projection(predicate) => {
+            if predicate.projection_term.def_id.0 == item.0 {
+                Some(predicate)
+            } else {
+                None
+            }
+        }
+        _ => None,
+    }
+}
+
+/// The kinds of the variables of a clause's binder.
+fn kinds_bound(alloc: Global, cx: &Cx, clause: Clause) -> Result<Vec<VarKind>, AllocError>
+    requires { IsClause cx.now.trees clause }
+    ensures { IfOk result (λ v. kinds_listed v.items ≡ bound_kinds (clause_tree cx.now.trees clause).children) }
+{
+    binder_kinds(alloc, cx, clause)
+}
+
+/// The clause under an empty binder, with values in the place of the variables of its own.
+fn open<E: EvalCtxt>(
+    alloc: Global,
+    ecx: &mut E,
+    clause: Clause,
+    values: Args,
+) -> Result<Clause, Stop>
+    requires clause { IsClause (E.context ecx.old).trees clause }
+    requires values { IsArgs (E.context ecx.old).trees values }
+    ensures kept { Keeps E.fixed E.probes E.context ecx.old ecx.new }
+    ensures same { E.state ecx.new ≡ E.state ecx.old }
+    ensures sort { IfOk result (λ x. IsClause (E.context ecx.new).trees x) }
+    ensures tree { IfOk result (λ x. clause_tree (E.context ecx.new).trees x ≡ opened_clause (args_forest (E.context ecx.old).trees values) (clause_tree (E.context ecx.old).trees clause)) }
+{
+    open_clause(alloc, ecx, clause, values)
+}
+
+/// The clause under an empty binder, with fresh variables in the place of those of its own.
+///
+/// `Stop::Memory` comes where a growth was refused, other stops as they come of `open_clause` and of the evaluator's fresh
+/// variables. After a stop the variables that were made stay.
+pub fn instantiate_binder_with_infer<E: EvalCtxt>(
+    alloc: Global,
+    ecx: &mut E,
+    clause: Clause,
+) -> Result<Clause, Stop>
+    requires { IsClause (E.context ecx.old).trees clause }
+    ensures kept { Keeps E.fixed E.probes E.context ecx.old ecx.new }
+    ensures state { OnOk result (E.state ecx.new ≡ with_instance (E.state ecx.old) (clause_tree (E.context ecx.old).trees clause)) }
+    ensures sort { IfOk result (λ x. IsClause (E.context ecx.new).trees x) }
+    ensures tree { IfOk result (λ x. clause_tree (E.context ecx.new).trees x ≡ fresh_instance (E.state ecx.old) (clause_tree (E.context ecx.old).trees clause)) }
+{
+    let kinds = kinds_bound(alloc, ecx.cx(), clause)?;
+    let values = ecx.fresh_args_for_item(kinds.as_slice())?;
+    open(alloc, ecx, clause, values)
+}
+
+/// Equates the arguments of an instance of the bound with those of the projection of the same associated type, and gives the
+/// instance's term. The goals that this leaves become pending.
+fn equate_bound<E: EvalCtxt>(
+    alloc: Global,
+    ecx: &mut E,
+    env: ParamEnv,
+    bound: Clause,
+    projection: AliasTerm,
+) -> Result<Ty, NoSolutionOrStop>
+    requires env { IsParamEnv (E.context ecx.old).trees env }
+    requires bound { IsClause (E.context ecx.old).trees bound }
+    requires args { IsArgs (E.context ecx.old).trees projection.args }
+    requires about { is_about projection.def_id.0 (clause_tree (E.context ecx.old).trees bound).head ≡ true }
+    ensures kept { Keeps E.fixed E.probes E.context ecx.old ecx.new }
+    ensures sort { IfOk result (λ t. IsTy (E.context ecx.new).trees t) }
+    ensures term { IfOk result (λ t. ty_tree (E.context ecx.new).trees t ≡ term_in (fresh_instance (E.state ecx.old) (clause_tree (E.context ecx.old).trees bound))) }
+    ensures ok { IfOk result (λ _. bound_equated (E.judge (E.fixed ecx.old)) (env_forest (E.context ecx.old).trees env) (E.state ecx.old) (clause_tree (E.context ecx.old).trees bound) (args_forest (E.context ecx.old).trees projection.args) ≡ Some (E.state ecx.new)) }
+    ensures refused { IfErr result (λ e. e ≡ NoSolutionOrStop.NoSolution → bound_equated (E.judge (E.fixed ecx.old)) (env_forest (E.context ecx.old).trees env) (E.state ecx.old) (clause_tree (E.context ecx.old).trees bound) (args_forest (E.context ecx.old).trees projection.args) ≡ None) }
+{
+    let instance = instantiate_binder_with_infer(alloc, ecx, bound)?;
+    match bound_about(ecx.cx(), instance, projection.def_id) {
+        Some(predicate) => {
+            ecx.eq_args(env, predicate.projection_term.args, projection.args)?;
+            Ok(predicate.term)
+        }
+        None => unreachable!(),
+    }
+}
+
+/// The same, and evaluates all that is pending then.
+fn equate_and_evaluate<E: EvalCtxt>(
+    alloc: Global,
+    ecx: &mut E,
+    env: ParamEnv,
+    bound: Clause,
+    projection: AliasTerm,
+) -> Result<(), NoSolutionOrStop>
+    requires env { IsParamEnv (E.context ecx.old).trees env }
+    requires bound { IsClause (E.context ecx.old).trees bound }
+    requires args { IsArgs (E.context ecx.old).trees projection.args }
+    requires about { is_about projection.def_id.0 (clause_tree (E.context ecx.old).trees bound).head ≡ true }
+    ensures kept { Keeps E.fixed E.probes E.context ecx.old ecx.new }
+    ensures ok { IfOk result (λ _. is_equated (E.judge (E.fixed ecx.old)) (bound_equated (E.judge (E.fixed ecx.old)) (env_forest (E.context ecx.old).trees env) (E.state ecx.old) (clause_tree (E.context ecx.old).trees bound) (args_forest (E.context ecx.old).trees projection.args)) ≡ true) }
+    ensures refused { IfErr result (λ e. e ≡ NoSolutionOrStop.NoSolution → is_equated (E.judge (E.fixed ecx.old)) (bound_equated (E.judge (E.fixed ecx.old)) (env_forest (E.context ecx.old).trees env) (E.state ecx.old) (clause_tree (E.context ecx.old).trees bound) (args_forest (E.context ecx.old).trees projection.args)) ≡ false) }
+{
+    let _term = equate_bound(alloc, ecx, env, bound, projection)?;
+    let _certainty = ecx.try_evaluate_added_goals()?;
+    Ok(())
+}
+
+/// Whether the bound matches the projection, by a probe with nothing pending: it is about the same associated type, its
+/// arguments, with fresh variables in the place of its binder's, can be equated with the projection's, and the goals that this
+/// leaves aren't refused.
+///
+/// `Stop::Memory` comes where a growth was refused; other stops are the evaluator's, and those of `open_clause`.
+pub fn bound_matches<E: EvalCtxt>(
+    alloc: Global,
+    ecx: &mut E,
+    env: ParamEnv,
+    bound: Clause,
+    projection: AliasTerm,
+) -> Result<bool, Stop>
+    requires env { IsParamEnv (E.context ecx.old).trees env }
+    requires bound { IsClause (E.context ecx.old).trees bound }
+    requires args { IsArgs (E.context ecx.old).trees projection.args }
+    ensures kept { Keeps E.fixed E.probes E.context ecx.old ecx.new }
+    ensures alike { (E.judge (E.fixed ecx.old)).alike (E.state ecx.old) (E.state ecx.new) }
+    ensures answer { IfOk result (λ b. b ≡ seen.bound_matches (E.judge (E.fixed ecx.old)) (env_forest (E.context ecx.old).trees env) (E.state ecx.old) (clause_tree (E.context ecx.old).trees bound) (projection_at (E.context ecx.old).trees projection)) }
+{
+    if bound_about(ecx.cx(), bound, projection.def_id).is_none() {
+        return Ok(false);
+    }
+    let probe = ecx.begin_probe(ProbeKind::SetAside)?;
+    let answer = equate_and_evaluate(alloc, ecx, env, bound, projection);
+    let _usages = ecx.end_probe(probe);
+    match answer {
+        Ok(()) => Ok(true),
+        Err(NoSolutionOrStop::NoSolution) => Ok(false),
+        Err(NoSolutionOrStop::Stop(stop)) => Err(stop),
+    }
+}
+
+/// Those of the bounds that match the projection, in their order. Each is tried in a probe of its own.
+///
+/// It stops as `bound_matches` does, and `Stop::Memory` comes where the list can't grow, too.
+pub fn matching_bounds<E: EvalCtxt>(
+    alloc: Global,
+    ecx: &mut E,
+    env: ParamEnv,
+    bounds: &[Clause],
+    projection: AliasTerm,
+) -> Result<Vec<Clause>, Stop>
+    requires env { IsParamEnv (E.context ecx.old).trees env }
+    requires bounds { ClauseListFits (E.context ecx.old).trees bounds.now }
+    requires args { IsArgs (E.context ecx.old).trees projection.args }
+    ensures kept { Keeps E.fixed E.probes E.context ecx.old ecx.new }
+    ensures alike { (E.judge (E.fixed ecx.old)).alike (E.state ecx.old) (E.state ecx.new) }
+    ensures sort { IfOk result (λ v. ClauseListFits (E.context ecx.new).trees v.items) }
+    ensures tried { IfOk result (λ v. Tried (E.judge (E.fixed ecx.old)) (env_forest (E.context ecx.old).trees env) (projection_at (E.context ecx.old).trees projection) (E.state ecx.old) (map (clause_tree (E.context ecx.old).trees) bounds.now) (map (clause_tree (E.context ecx.new).trees) v.items) (E.state ecx.new)) }
+{
+    let mut found = Vec::new(alloc);
+    for bound in bounds {
+        if bound_matches(alloc, ecx, env, *bound, projection)? {
+            found.push(*bound)?;
+        }
+    }
+    Ok(found)
+}
+
+/// The term of the only bound that matches the projection: an instance of it is equated with the projection, and the goals that
+/// this leaves become pending.
+///
+/// `Ambiguous` comes where none of the bounds matches, where two or more do, and where the equation of the only one is refused.
+/// It stops as `matching_bounds` does. After an error variables that were made stay.
+pub fn pick_bound<E: EvalCtxt>(
+    alloc: Global,
+    ecx: &mut E,
+    env: ParamEnv,
+    bounds: &[Clause],
+    projection: AliasTerm,
+) -> Result<Ty, AmbiguousOrStop>
+    requires env { IsParamEnv (E.context ecx.old).trees env }
+    requires bounds { ClauseListFits (E.context ecx.old).trees bounds.now }
+    requires args { IsArgs (E.context ecx.old).trees projection.args }
+    ensures kept { Keeps E.fixed E.probes E.context ecx.old ecx.new }
+    ensures sort { IfOk result (λ t. IsTy (E.context ecx.new).trees t) }
+    ensures picked { IfOk result (λ t. IsPicked (E.judge (E.fixed ecx.old)) (env_forest (E.context ecx.old).trees env) (projection_at (E.context ecx.old).trees projection) (E.state ecx.old) (map (clause_tree (E.context ecx.old).trees) bounds.now) (ty_tree (E.context ecx.new).trees t) (E.state ecx.new)) }
+    ensures ambiguous { IfErr result (λ e. e ≡ AmbiguousOrStop.Ambiguous → IsAmbiguous (E.judge (E.fixed ecx.old)) (env_forest (E.context ecx.old).trees env) (projection_at (E.context ecx.old).trees projection) (E.state ecx.old) (map (clause_tree (E.context ecx.old).trees) bounds.now)) }
+{
+    let found = matching_bounds(alloc, ecx, env, bounds, projection)?;
+    if found.len() != 1 {
+        return Err(AmbiguousOrStop::Ambiguous);
+    }
+    match equate_bound(alloc, ecx, env, found[0], projection) {
+        Ok(term) => Ok(term),
+        Err(NoSolutionOrStop::NoSolution) => Err(AmbiguousOrStop::Ambiguous),
+        Err(NoSolutionOrStop::Stop(stop)) => Err(AmbiguousOrStop::Stop(stop)),
+    }
+}

@@ -1,0 +1,6 @@
+use Rattle.candidate_ir.specs.Folds.{arg_tree}
+use Rattle.candidate_rounds.proofs.Renewing.{UniversesSoFar}
+use Rattle.candidate_rounds.proofs.rounds.binding.renew_universes.Given as goal
+
+abbrev pub invariant-loop-number : goal.invariant-loop-number
+invariant-loop-number l = UniversesSoFar l.cx.trees l.initial.inference l.inference l.universe (arg_tree l.cx.trees l.value) l.number

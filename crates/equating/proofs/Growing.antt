@@ -1,0 +1,13 @@
+-- Numbers stay what they are while a context grows.
+use Rattle.std.proofs.Common.{◌≡◌}
+use Rattle.candidate_ir.specs.declared.ir.kinds.GenericArg.{GenericArg}
+use Rattle.candidate_ir.specs.Context.{Context, Grows}
+use Rattle.candidate_ir.specs.Folds.{IsArg}
+use Rattle.candidate_ir.proofs.Implying.{arg-kept}
+use Rattle.candidate_ir.proofs.Kept.{grows-trans}
+use Rattle.candidate_ir.proofs.Made.{IsArgs-grows, IsParamEnv-grows}
+
+pub IsArg-grows : (a b : Context) (x : GenericArg) → Grows a b → IsArg a.trees x → IsArg b.trees x
+IsArg-grows a b x g i = (arg-kept a b x g i).0
+
+pub ruleset growing = (IsArg-grows, IsArgs-grows, IsParamEnv-grows, grows-trans)

@@ -1,0 +1,8 @@
+use Rattle.std.specs.Prelude.{◌≡◌}
+use Rattle.candidate_ir.specs.Context.{Grows}
+use Rattle.candidate_ir.specs.Folds.{IsArg}
+use Rattle.candidate_rounds.specs.Known.{probes}
+use Rattle.equating.proofs.work.chain.Given as goal
+
+abbrev pub invariant-loop : goal.invariant-loop
+invariant-loop l = Grows l.fn.rounds.context l.rounds.context × ((probes l.rounds ≡ probes l.fn.rounds) × IsArg l.rounds.context.trees l.last)

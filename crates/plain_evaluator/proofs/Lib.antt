@@ -1,0 +1,4 @@
+pub mod Keeping
+pub mod Leafing
+pub mod Plain
+pub mod Looks

@@ -1,0 +1,110 @@
+//! Trees that stand for parameters and for what binders bind.
+
+ghost use Rattle.std.specs.Prelude.{◌≡◌, ◌+◌, ◌<◌, ◌≤◌, ◌^◌, IfOk, length, map};
+ghost use Rattle.candidate_ir.specs.Context.{Grows, parameter_kind};
+ghost use Rattle.candidate_ir.specs.Folds.{IsArg, arg_tree};
+ghost use Rattle.candidate_ir.specs.Nodes.{rows};
+ghost use Rattle.candidate_ir.specs.Words.{IsArgs, args_forest};
+ghost use Rattle.candidate_eval.specs.States.{variable, variable_kind};
+ghost use Rattle.plain_evaluator.specs.Leaves.{leaf_of, all_leaves, last_number};
+
+use candidate_eval::eval::variable::VariableKind;
+use candidate_ir::decl::context::Cx;
+use candidate_ir::ir::heads::VariableSort;
+use candidate_ir::ir::kinds::{
+    Args, ConstKind, GenericArg, InferTy, Placeholder, RegionKind, TyKind, VarKind,
+};
+use candidate_ir::ir::stop::Stop;
+use std::alloc::Global;
+
+/// What stands for parameters, one after another.
+#[derive(Clone, Copy)]
+pub(crate) enum Leaves {
+    /// Variables, from that number on.
+    Variables(u32),
+    /// Placeholders of that universe.
+    Placeholders(u32),
+}
+
+/// The variable of that number.
+pub(crate) fn variable(cx: &mut Cx, kind: VariableKind, number: u32) -> Result<GenericArg, Stop>
+    ensures grows { Grows cx.old cx.new }
+    ensures sort { IfOk result (λ a. IsArg cx.new.trees a) }
+    ensures tree { IfOk result (λ a. arg_tree cx.new.trees a ≡ variable kind number) }
+{
+    match kind {
+        VariableKind::Term(VariableSort::General) => {
+            let kind = TyKind::Infer(InferTy::TyVar(number));
+            Ok(GenericArg::Ty(cx.mk_ty(kind)?))
+        }
+        VariableKind::Term(VariableSort::Integer) => {
+            let kind = TyKind::Infer(InferTy::IntVar(number));
+            Ok(GenericArg::Ty(cx.mk_ty(kind)?))
+        }
+        VariableKind::Term(VariableSort::Floating) => {
+            let kind = TyKind::Infer(InferTy::FloatVar(number));
+            Ok(GenericArg::Ty(cx.mk_ty(kind)?))
+        }
+        VariableKind::Term(VariableSort::Constant) => {
+            let kind = ConstKind::Infer(number);
+            Ok(GenericArg::Const(cx.mk_const(kind)?))
+        }
+        VariableKind::Region => Ok(GenericArg::Region(cx.mk_region(RegionKind::Var(number))?)),
+    }
+}
+
+/// The kind of the variables that stand for a parameter.
+pub(crate) fn variable_kind(kind: VarKind) -> VariableKind
+    ensures { result ≡ variable_kind (parameter_kind kind) }
+{
+    match kind {
+        VarKind::Ty => VariableKind::Term(VariableSort::General),
+        VarKind::Const => VariableKind::Term(VariableSort::Constant),
+        VarKind::Region => VariableKind::Region,
+    }
+}
+
+/// What stands for the parameter of that index.
+fn leaf(cx: &mut Cx, leaves: Leaves, kind: VarKind, index: u32) -> Result<GenericArg, Stop>
+    requires { last_number leaves index < 2 ^ 32 }
+    ensures grows { Grows cx.old cx.new }
+    ensures sort { IfOk result (λ a. IsArg cx.new.trees a) }
+    ensures tree { IfOk result (λ a. arg_tree cx.new.trees a ≡ leaf_of leaves kind index) }
+{
+    match leaves {
+        Leaves::Variables(first) => variable(cx, variable_kind(kind), first + index),
+        Leaves::Placeholders(universe) => {
+            let placeholder = Placeholder { universe, index };
+            match kind {
+                VarKind::Ty => Ok(GenericArg::Ty(cx.mk_ty(TyKind::Placeholder(placeholder))?)),
+                VarKind::Const => {
+                    let kind = ConstKind::Placeholder(placeholder);
+                    Ok(GenericArg::Const(cx.mk_const(kind)?))
+                }
+                VarKind::Region => {
+                    let kind = RegionKind::Placeholder(placeholder);
+                    Ok(GenericArg::Region(cx.mk_region(kind)?))
+                }
+            }
+        }
+    }
+}
+
+/// What stands for parameters of these kinds.
+pub(crate) fn leaf_args(
+    alloc: Global,
+    cx: &mut Cx,
+    leaves: Leaves,
+    kinds: &[VarKind],
+) -> Result<Args, Stop>
+    requires { last_number leaves (length kinds.now) < 2 ^ 32 }
+    ensures grows { Grows cx.old cx.new }
+    ensures sort { IfOk result (λ a. IsArgs cx.new.trees a) }
+    ensures trees { IfOk result (λ a. args_forest cx.new.trees a ≡ rows (all_leaves leaves kinds.now)) }
+{
+    let mut list = Vec::new(alloc);
+    for i in 0..kinds.len() {
+        list.push(leaf(cx, leaves, kinds[i], i as u32)?)?;
+    }
+    cx.mk_args(list.as_slice())
+}
