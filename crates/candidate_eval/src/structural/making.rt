@@ -64,7 +64,7 @@ fn last_type(list: &[GenericArg]) -> Option<Ty>
 }
 
 /// The first argument, if it is a type.
-fn first_type(list: &[GenericArg]) -> Option<Ty>
+pub(crate) fn first_type(list: &[GenericArg]) -> Option<Ty>
     ensures { result ≡ first_ty list.now }
 {
     match list {

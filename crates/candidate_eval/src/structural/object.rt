@@ -37,7 +37,7 @@ impl From<Stop> for AmbiguousOrStop {
 }
 
 /// What a bound says, if it is about that associated type.
-fn bound_about(cx: &Cx, bound: Clause, item: AssocId) -> Option<ProjectionPredicate>
+pub(crate) fn bound_about(cx: &Cx, bound: Clause, item: AssocId) -> Option<ProjectionPredicate>
     requires { IsClause cx.now.trees bound }
     ensures { MatchOption result (is_about item.0 (clause_tree cx.now.trees bound).head ≡ false) (λ p. IsBound cx.now.trees (clause_tree cx.now.trees bound) p × (is_about item.0 (clause_tree cx.now.trees bound).head ≡ true)) }
 {

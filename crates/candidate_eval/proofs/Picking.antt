@@ -1,0 +1,96 @@
+-- Terms that bounds give for projections, one after the other.
+use Rattle.std.proofs.Common.{◌≡◌, ℕ, zero, suc, ◌+◌, ◌<◌, ◌≤◌, get_or, take, drop, length, List, [], ◌∷◌, ◌++◌, map, refl, sym, ◌∙◌, ap, subst, arith}
+use Rattle.std.proofs.lemmas.List.{map_push, map_more, take_all, length-map, append-nil}
+use Rattle.candidate_ir.specs.declared.ir.kinds.AliasTerm.{AliasTerm}
+use Rattle.candidate_ir.specs.declared.ir.kinds.Clause.{Clause}
+use Rattle.candidate_ir.specs.declared.ir.kinds.Ty.{Ty}
+use Rattle.candidate_ir.specs.Context.{Context, Grows}
+use Rattle.candidate_ir.specs.Trees.{Forest, Tree}
+use Rattle.candidate_ir.specs.WellFormed.{TypesFit}
+use Rattle.candidate_ir.specs.Words.{IsArgs, IsTy, ty_tree}
+use Rattle.candidate_ir.proofs.Kept.{args-kept, grows-refl, grows-trans}
+use Rattle.candidate_eval.specs.Objects.{IsAmbiguous, IsPicked, Projection, projection_at}
+use Rattle.candidate_eval.specs.Replacing.{AreProjections, IsStuck, Picks, projections_at, types_at}
+use Rattle.candidate_eval.specs.States.{Env, State, Judge}
+use Rattle.candidate_eval.proofs.Types.{pushed_fit, types_kept}
+
+module _ (J : Judge) (e : Env) (bounds : List Tree) where
+  pub picks-then : {S T U : State} {ps : List Projection} {us : List Tree} (p : Projection) (u : Tree) → Picks J e bounds S ps us T → IsPicked J e p T bounds u U → Picks J e bounds S (ps ++ p ∷ []) (us ++ u ∷ []) U
+  picks-then p u Picks.none_left i = Picks.one i Picks.none_left
+  picks-then p u (Picks.one x r) i = Picks.one x (picks-then p u r i)
+
+-- Projections that have their terms so far.
+pub record PickedSoFar (J : Judge) (e : Env) (bounds : List Tree) (start now : Context) (S T : State) (ps : List AliasTerm) (k : ℕ) (terms : List Ty) : Type 0 where
+  pub grows : Grows start now
+  pub fit : TypesFit now.trees terms
+  pub picked : Picks J e bounds S (projections_at start.trees (take k ps)) (types_at now.trees terms) T
+
+pub none-picked : (J : Judge) (e : Env) (bounds : List Tree) (start : Context) (S : State) (ps : List AliasTerm) (terms : List Ty) → terms ≡ [] → PickedSoFar J e bounds start start S S ps 0 terms
+none-picked J e bounds start S ps terms n = record {
+  grows = grows-refl start;
+  fit = subst (TypesFit start.trees) (sym n) refl;
+  picked = subst (λ (xs : List Ty). Picks J e bounds S [] (types_at start.trees xs) S) (sym n) Picks.none_left;
+}
+
+-- a projection of the list, in a context that has grown
+pub projection-listed : (ts : List Tree) (ps : List AliasTerm) (k : ℕ) (d : AliasTerm) → AreProjections ts ps → k < length ps → IsArgs ts (get_or ps k d).args
+projection-listed ts [] k d a l = absurd (omega (arith, l))
+projection-listed ts (p ∷ ps) zero d a l = a.0
+projection-listed ts (p ∷ ps) (suc k) d a l = projection-listed ts ps k d a.1 (omega (arith, l))
+
+pub projection-later : (start now : Context) (ps : List AliasTerm) (k : ℕ) (d : AliasTerm) → Grows start now → AreProjections start.trees ps → k < length ps
+    → IsArgs now.trees (get_or ps k d).args × (projection_at now.trees (get_or ps k d) ≡ projection_at start.trees (get_or ps k d))
+projection-later start now ps k d g a l =
+    let p = get_or ps k d in
+    let k = args-kept start now p.args g (projection-listed start.trees ps k d a l) in
+    (k.0, ap (λ (f : Forest). let v : Projection = record { item = p.def_id.0; arguments = f } in v) k.1)
+
+pub one-picked : (J : Judge) (e : Env) (bounds : List Tree) (start now new : Context) (S T U : State) (ps : List AliasTerm) (k : ℕ) (d : AliasTerm) (terms more : List Ty) (u : Ty)
+    → PickedSoFar J e bounds start now S T ps k terms → k < length ps → Grows now new → IsTy new.trees u → IsPicked J e (projection_at start.trees (get_or ps k d)) T bounds (ty_tree new.trees u) U
+    → more ≡ terms ++ u ∷ [] → PickedSoFar J e bounds start new S U ps (k + 1) more
+one-picked J e bounds start now new S T U ps k d terms more u s l g i p m =
+    let c = types_kept now.trees new.trees terms g.kept s.fit in
+    let all : types_at new.trees more ≡ types_at now.trees terms ++ ty_tree new.trees u ∷ [] = ap (types_at new.trees) m ∙ (map_push (ty_tree new.trees) terms u ∙ ap (λ (xs : List Tree). xs ++ ty_tree new.trees u ∷ []) c.1) in
+    let then = picks-then J e bounds (projection_at start.trees (get_or ps k d)) (ty_tree new.trees u) s.picked p in
+    record {
+      grows = grows-trans start now new s.grows g;
+      fit = pushed_fit now new terms more u g s.fit i m;
+      picked = subst (λ (xs : List Tree). Picks J e bounds S (projections_at start.trees (take (k + 1) ps)) xs U) (sym all)
+          (subst (λ (qs : List Projection). Picks J e bounds S qs (types_at now.trees terms ++ ty_tree new.trees u ∷ []) U) (sym (map_more (projection_at start.trees) ps k d l)) then);
+    }
+
+pub all-picked : (J : Judge) (e : Env) (bounds : List Tree) (start now : Context) (S T : State) (ps : List AliasTerm) (k : ℕ) (terms : List Ty) → PickedSoFar J e bounds start now S T ps k terms → length ps ≤ k
+    → Picks J e bounds S (projections_at start.trees ps) (types_at now.trees terms) T
+all-picked J e bounds start now S T ps k terms s l = subst (λ (qs : List AliasTerm). Picks J e bounds S (projections_at start.trees qs) (types_at now.trees terms) T) (take_all k ps l) s.picked
+
+parts : {A B : Type 0} (f : A → B) (xs : List A) (k : ℕ) (d : A) → k < length xs → map f xs ≡ map f (take k xs) ++ f (get_or xs k d) ∷ map f (drop (suc k) xs)
+parts f [] k d l = absurd (omega (arith, l))
+parts f (x ∷ xs) zero d l = refl
+parts {B = B} f (x ∷ xs) (suc k) d l = ap (λ (ys : List B). f x ∷ ys) (parts f xs k d (omega (arith, l)))
+
+pub one-stuck : (J : Judge) (e : Env) (bounds : List Tree) (start now : Context) (S T : State) (ps : List AliasTerm) (k : ℕ) (d : AliasTerm) (terms : List Ty)
+    → PickedSoFar J e bounds start now S T ps k terms → k < length ps → IsAmbiguous J e (projection_at start.trees (get_or ps k d)) T bounds → IsStuck J e bounds S (projections_at start.trees ps)
+one-stuck J e bounds start now S T ps k d terms s l a = record {
+  before = projections_at start.trees (take k ps);
+  terms = types_at now.trees terms;
+  last = T;
+  projection = projection_at start.trees (get_or ps k d);
+  after = projections_at start.trees (drop (suc k) ps);
+  are = parts (projection_at start.trees) ps k d l;
+  picked = s.picked;
+  ambiguous = a;
+}
+
+-- What is said in a context that has grown, said in the one at the start.
+module _ {F : Type 0} (judge : F → Judge) where
+  pub picked-then : (f g : F) (e d : Env) (p q : Projection) (T U : State) (bs cs : List Tree) (u : Tree) → g ≡ f → d ≡ e → q ≡ p → cs ≡ bs → IsPicked (judge g) d q T cs u U → IsPicked (judge f) e p T bs u U
+  picked-then f g e d p q T U bs cs u h i j k x =
+      subst (λ (y : F). IsPicked (judge y) e p T bs u U) h
+      (subst (λ (y : Env). IsPicked (judge g) y p T bs u U) i
+      (subst (λ (y : Projection). IsPicked (judge g) d y T bs u U) j (subst (λ (y : List Tree). IsPicked (judge g) d q T y u U) k x)))
+
+  pub ambiguous-then : (f g : F) (e d : Env) (p q : Projection) (T : State) (bs cs : List Tree) → g ≡ f → d ≡ e → q ≡ p → cs ≡ bs → IsAmbiguous (judge g) d q T cs → IsAmbiguous (judge f) e p T bs
+  ambiguous-then f g e d p q T bs cs h i j k x =
+      subst (λ (y : F). IsAmbiguous (judge y) e p T bs) h
+      (subst (λ (y : Env). IsAmbiguous (judge g) y p T bs) i
+      (subst (λ (y : Projection). IsAmbiguous (judge g) d y T bs) j (subst (λ (y : List Tree). IsAmbiguous (judge g) d q T y) k x)))

@@ -1,0 +1,70 @@
+use Rattle.std.proofs.Common.{rules, ◌≡◌, refl, sym, ◌∙◌}
+use Rattle.std.proofs.lemmas.Result.{err_from_is_err_and}
+use Rattle.candidate_ir.specs.Words.{env_forest}
+use Rattle.candidate_ir.proofs.Kept.{grows-trans}
+use Rattle.candidate_eval.specs.Objects.{projection_at}
+use Rattle.candidate_eval.specs.Replacing.{clauses_at}
+use Rattle.candidate_eval.proofs.Objects.{env-kept}
+use Rattle.candidate_eval.proofs.Picking.{ambiguous-then, none-picked, one-picked, one-stuck, picked-then, projection-later}
+use Rattle.candidate_eval.proofs.Responding.{clauses-kept}
+use Rattle.candidate_eval.proofs.structural.replacing.pick_all.Goals as goal
+
+pub loop-projection-init : goal.loop-projection-init
+loop-projection-init g c =
+    let E = g.E.EvalCtxt in
+    let old = c.args.ecx.now in
+    let start = g.E.Make.context old in
+    (none-picked (E.judge (E.fixed old)) (env_forest start.trees c.args.env) (clauses_at start.trees c.args.bounds.now) start (E.state old) c.args.projections.now c.new-terms.result.items c.new-terms.ensures.items, refl, refl)
+
+pub pick_bound-requires-clause-env : goal.pick_bound-requires-clause-env
+pick_bound-requires-clause-env g c = (env-kept (g.E.Make.context c.args.ecx.now) (g.E.Make.context c.loop-projection.ecx) c.args.env c.loop-projection.invariant.0.grows c.requires.env).0
+
+pub pick_bound-requires-clause-bounds : goal.pick_bound-requires-clause-bounds
+pick_bound-requires-clause-bounds g c = (clauses-kept (g.E.Make.context c.args.ecx.now) (g.E.Make.context c.loop-projection.ecx) c.args.bounds.now c.loop-projection.invariant.0.grows c.requires.bounds).0
+
+pub pick_bound-requires-clause-args : goal.pick_bound-requires-clause-args
+pick_bound-requires-clause-args g c =
+    (projection-later (g.E.Make.context c.args.ecx.now) (g.E.Make.context c.loop-projection.ecx) c.args.projections.now c.loop-projection.projection-index _ c.loop-projection.invariant.0.grows c.requires.projections
+    c.loop-projection-test.true).0
+
+pub returns-in_err-term-clause-ambiguous : goal.returns-in_err-term-clause-ambiguous
+returns-in_err-term-clause-ambiguous g c =
+    let E = g.E.EvalCtxt in
+    let old = c.args.ecx.now in
+    let now = c.loop-projection.ecx in
+    let start = g.E.Make.context old in
+    let mid = g.E.Make.context now in
+    let s = c.loop-projection.invariant.0 in
+    let p = projection-later start mid c.args.projections.now c.loop-projection.projection-index _ s.grows c.requires.projections c.loop-projection-test.true in
+    let r = err_from_is_err_and c.from_residual.result c.from_residual.ensures.1 in
+    rw r.1 (λ n. one-stuck (E.judge (E.fixed old)) (env_forest start.trees c.args.env) (clauses_at start.trees c.args.bounds.now) start mid (E.state old) (E.state now) c.args.projections.now c.loop-projection.projection-index _
+    c.loop-projection.terms.items s c.loop-projection-test.true
+    (ambiguous-then E.judge (E.fixed old) (E.fixed now) (env_forest start.trees c.args.env) (env_forest mid.trees c.args.env) _ _ (E.state now) (clauses_at start.trees c.args.bounds.now) (clauses_at mid.trees c.args.bounds.now)
+    c.loop-projection.invariant.1 (env-kept start mid c.args.env s.grows c.requires.env).1 p.1 (clauses-kept start mid c.args.bounds.now s.grows c.requires.bounds).1 (c.in_err-term.ensures.ambiguous (sym r.2 ∙ n))))
+
+pub returns-in_err-push_term-clause-kept : goal.returns-in_err-push_term-clause-kept
+returns-in_err-push_term-clause-kept g c =
+    let kept = c.pick_bound.ensures.kept in
+    let s = c.loop-projection.invariant in
+    (kept.0 ∙ s.1, kept.1 ∙ s.2, grows-trans (g.E.Make.context c.args.ecx.now) (g.E.Make.context c.loop-projection.ecx) (g.E.Make.context c.pick_bound.new.ecx) s.0.grows kept.2)
+
+pub loop-projection-preserved : goal.loop-projection-preserved
+loop-projection-preserved g c =
+    let E = g.E.EvalCtxt in
+    let old = c.args.ecx.now in
+    let now = c.loop-projection.ecx in
+    let new = c.pick_bound.new.ecx in
+    let start = g.E.Make.context old in
+    let mid = g.E.Make.context now in
+    let last = g.E.Make.context new in
+    let s = c.loop-projection.invariant in
+    let kept = c.pick_bound.ensures.kept in
+    let p = projection-later start mid c.args.projections.now c.loop-projection.projection-index _ s.0.grows c.requires.projections c.loop-projection-test.true in (
+      one-picked (E.judge (E.fixed old)) (env_forest start.trees c.args.env) (clauses_at start.trees c.args.bounds.now) start mid last (E.state old) (E.state now) (E.state new) c.args.projections.now
+          c.loop-projection.projection-index _ c.loop-projection.terms.items _ c.in_ok-term.term s.0 c.loop-projection-test.true kept.2 c.in_ok-term.ensures.sort
+          (picked-then E.judge (E.fixed old) (E.fixed now) (env_forest start.trees c.args.env) (env_forest mid.trees c.args.env) _ _ (E.state now) (E.state new) (clauses_at start.trees c.args.bounds.now)
+          (clauses_at mid.trees c.args.bounds.now) _ s.1 (env-kept start mid c.args.env s.0.grows c.requires.env).1 p.1 (clauses-kept start mid c.args.bounds.now s.0.grows c.requires.bounds).1 c.in_ok-term.ensures.picked)
+          c.in_ok-push_term.ensures,
+      kept.0 ∙ s.1,
+      kept.1 ∙ s.2,
+    )
