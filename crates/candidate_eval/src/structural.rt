@@ -5,6 +5,7 @@ pub mod callable;
 pub mod destruct;
 mod making;
 pub mod object;
+pub mod required;
 pub mod tables;
 
 use candidate_ir::ir::kinds::{Ty, Vars};
