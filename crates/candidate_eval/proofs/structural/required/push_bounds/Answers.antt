@@ -1,14 +1,14 @@
-use Rattle.std.proofs.Common.{◌≡◌, List, true, sym, subst}
+use Rattle.std.proofs.Common.{◌≡◌, List, subst}
 use Rattle.std.specs.Prelude.{map, IfOk}
 use Rattle.candidate_ir.specs.Trees.{Tree}
 use Rattle.candidate_ir.specs.WellFormed.{IsWellFormedTable}
 use Rattle.candidate_ir.specs.Words.{clause_tree}
-use Rattle.candidate_ir.proofs.Kept.{args-kept, grows-trans}
+use Rattle.candidate_ir.proofs.Kept.{args-kept}
 use Rattle.candidate_eval.proofs.Requiring.{both_bounds}
 use Rattle.candidate_eval.proofs.structural.required.push_bounds.Goals as goal
 
-pub push_declared-2-requires-clause-args : goal.push_declared-2-requires-clause-args
-push_declared-2-requires-clause-args g c = (args-kept _ _ c.args.args c.in_ok-push_declared.ensures.grows c.requires.args).0
+pub push_declared-requires-2-clause-args : goal.push_declared-requires-2-clause-args
+push_declared-requires-2-clause-args g c = (args-kept _ _ c.args.args c.in_ok-push_declared.ensures.grows c.requires.args).0
 
 pub returns-clause-trees : goal.returns-clause-trees
 returns-clause-trees g c =
