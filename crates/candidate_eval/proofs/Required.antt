@@ -1,16 +1,14 @@
 -- Clauses that are added to a list, and what bounds of an object's type say as clauses.
-use Rattle.std.proofs.Common.{◌≡◌, ℕ, zero, suc, ◌+◌, ◌<◌, ◌≤◌, List, [], ◌∷◌, ◌++◌, length, get_or, take, true, false, Option, Some, None, refl, sym, ◌∙◌, ap, subst, arith, append_assoc}
+use Rattle.std.proofs.Common.{◌≡◌, ℕ, zero, suc, ◌+◌, ◌<◌, ◌≤◌, List, [], ◌∷◌, ◌++◌, length, get_or, take, Option, Some, None, refl, sym, ◌∙◌, ap, subst, arith, append_assoc}
 use Rattle.std.specs.Prelude.{map, slice_get, option_map}
 use Rattle.std.specs.List.{flat_map}
 use Rattle.std.proofs.lemmas.List.{append-nil, map_push, map-append, take_all}
 use Rattle.std.proofs.lemmas.Grind.{flat_map-append}
 use Rattle.std.proofs.lemmas.Option.{slice_get-map}
-use Rattle.candidate_ir.specs.declared.ir.heads.Head.{Head}
 use Rattle.candidate_ir.specs.declared.ir.heads.Head.TheVariants as H
 use Rattle.candidate_ir.specs.declared.ir.heads.PartHead.TheVariants as P
 use Rattle.candidate_ir.specs.declared.ir.heads.PredHead.TheVariants as PH
 use Rattle.candidate_ir.specs.declared.ir.heads.ClauseHead.TheVariants as Cl
-use Rattle.candidate_ir.specs.declared.ir.kinds.AliasTerm.{AliasTerm}
 use Rattle.candidate_ir.specs.declared.ir.kinds.Args.{Args}
 use Rattle.candidate_ir.specs.declared.ir.kinds.AssocId.{AssocId}
 use Rattle.candidate_ir.specs.declared.ir.kinds.Binder.{Binder}
@@ -24,19 +22,16 @@ use Rattle.candidate_ir.specs.declared.ir.kinds.GenericArg.{GenericArg}
 use Rattle.candidate_ir.specs.declared.ir.kinds.GenericArg.TheVariants as G
 use Rattle.candidate_ir.specs.declared.ir.kinds.Pred.{Pred}
 use Rattle.candidate_ir.specs.declared.ir.kinds.Preds.{Preds}
-use Rattle.candidate_ir.specs.declared.ir.kinds.ProjectionPredicate.{ProjectionPredicate}
 use Rattle.candidate_ir.specs.declared.ir.kinds.Ty.{Ty}
 use Rattle.candidate_ir.specs.Context.{Context, Grows, world}
-use Rattle.candidate_ir.specs.Kinds.{fact_children, numbers}
 use Rattle.candidate_ir.specs.Nodes.{kind_at, tree_at, trees_at, rows}
 use Rattle.candidate_ir.specs.References.{IsWellFormed, FitsAmong, Takes}
 use Rattle.candidate_ir.specs.Substitutions.{alone}
-use Rattle.candidate_ir.specs.Supers.{after_first}
-use Rattle.candidate_ir.specs.Trees.{Kind, TypeKind, PredicateKind, ClauseKind as OfClause, BinderKind, ArgumentsKind, Forest, none, tree, Tree, kind_of, row, join}
-use Rattle.candidate_ir.specs.Words.{IsArgs, IsClause, IsPred, IsPreds, IsTy, IsVars, ClauseFits, ClauseListFits, ListFits, PredFits, PredListFits, args_forest, clause_kind_tree, clause_tree, list_forest, pred_kind_tree, pred_list_forest, pred_tree, preds_forest, ty_tree, vars_tree}
+use Rattle.candidate_ir.specs.Trees.{Kind, TypeKind, PredicateKind, BinderKind, ArgumentsKind, Forest, none, tree, Tree, kind_of, join}
+use Rattle.candidate_ir.specs.Words.{IsArgs, IsClause, IsPred, IsPreds, IsTy, IsVars, ClauseFits, ClauseListFits, PredFits, PredListFits, args_forest, clause_kind_tree, clause_tree, list_forest, pred_kind_tree, pred_list_forest, pred_tree, preds_forest, ty_tree, vars_tree}
 use Rattle.candidate_ir.specs.Worlds.{World, AssociatedTypeSort, joined, kinds_of, parameters}
-use Rattle.candidate_ir.proofs.Joining.{below_binder, clause-over, over}
-use Rattle.candidate_ir.proofs.Kept.{args-kept, grows-refl, grows-trans, preds-kept, ty-kept, world-kept}
+use Rattle.candidate_ir.proofs.Joining.{clause-over, over}
+use Rattle.candidate_ir.proofs.Kept.{grows-refl, grows-trans, preds-kept, ty-kept, world-kept}
 use Rattle.candidate_ir.proofs.Listing.{clauses_kept, pushed_fits, vars_kept}
 use Rattle.candidate_ir.proofs.References.{fit-at}
 use Rattle.candidate_ir.proofs.Rows.{kind-of, row-list, row-single}

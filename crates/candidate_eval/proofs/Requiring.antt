@@ -12,7 +12,6 @@ use Rattle.candidate_ir.specs.declared.decl.definition.DefinitionKind.TheVariant
 use Rattle.candidate_ir.specs.declared.ir.heads.Head.{Head}
 use Rattle.candidate_ir.specs.declared.ir.heads.Head.TheVariants as H
 use Rattle.candidate_ir.specs.declared.ir.heads.PartHead.TheVariants as P
-use Rattle.candidate_ir.specs.declared.ir.heads.ClauseHead.{ClauseHead}
 use Rattle.candidate_ir.specs.declared.ir.heads.ClauseHead.TheVariants as Cl
 use Rattle.candidate_ir.specs.declared.ir.kinds.Args.{Args}
 use Rattle.candidate_ir.specs.declared.ir.kinds.AssocId.{AssocId}
@@ -22,7 +21,7 @@ use Rattle.candidate_ir.specs.Contents.{Bounds, TraitContents}
 use Rattle.candidate_ir.specs.Context.{Context, Grows, world, definition_of, parameter_kind, sort_of}
 use Rattle.candidate_ir.specs.Declaration.{Declaration}
 use Rattle.candidate_ir.specs.Declaring.{bounds_at, bounds_place, place_of, trait_at, trait_place}
-use Rattle.candidate_ir.specs.Elaboration.{SuperClauses, Elaborates, ended, step, IsElaboration, implied, implied_by, super_clauses, supers_if, unlisted}
+use Rattle.candidate_ir.specs.Elaboration.{SuperClauses, Elaborates, ended, step, IsElaboration, implied, implied_by, super_clauses, unlisted}
 use Rattle.candidate_ir.specs.Folding.{lacks_argument, substituted_tree}
 use Rattle.candidate_ir.specs.Held.{definition_held}
 use Rattle.candidate_ir.specs.Lookups.{assoc_kind, kind_of_declared, maybe, requires_sized_self}

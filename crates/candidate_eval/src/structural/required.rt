@@ -99,8 +99,11 @@ fn push_own<M: Make>(
     make.cx().well_formed();
     let bound = make.cx().pred(bound);
     if let ExistentialPredicate::Projection(value) = bound.value {
-        let vars = bound.vars;
-        let clause = said(alloc, make, object, Binder { vars, value })?;
+        let bound = Binder {
+            vars: bound.vars,
+            value,
+        };
+        let clause = said(alloc, make, object, bound)?;
         list.push(clause)?;
     }
     Ok(())
@@ -338,9 +341,10 @@ fn push_required<M: Make>(
 
 /// All that an object of the reference's trait has to fulfil: the elaboration of the trait's super clauses, then the bounds of
 /// its associated types but of those that require `Self: Sized`, in the order of their declaration. Each clause has the
-/// reference's arguments in the place of its parameters; one of whose parameters there is no argument stays as it is declared.
+/// reference's arguments in the place of its parameters; where one of its parameters has no argument of its kind, it stays as it
+/// is declared.
 ///
-/// It stops as `subst_clause` and `elaborate` do, `Stop::Memory` comes where a list can't grow, too. After a stop the nodes that
+/// It stops as `subst_clause` and `elaborate` do; `Stop::Memory` comes where a list can't grow, too. After a stop the nodes that
 /// were made stay.
 pub fn requirements<M: Make>(
     alloc: Global,

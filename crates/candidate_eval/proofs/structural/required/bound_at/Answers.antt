@@ -8,5 +8,4 @@ returns-in-Some-clause-is c = bound_found c.args.cx.now.trees c.preds.result.now
 
 pub returns-in-None-clause-is : goal.returns-in-None-clause-is
 returns-in-None-clause-is c =
-
     bound_found c.args.cx.now.trees c.preds.result.now c.args.bounds c.args.place None c.preds.ensures.fits c.preds.ensures.tree (sym (slice_get_past c.preds.result.now c.args.place c.in-None.ensures.lookup.3))

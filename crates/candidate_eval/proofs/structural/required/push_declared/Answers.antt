@@ -1,9 +1,9 @@
-use Rattle.std.proofs.Common.{rules, ◌≡◌, ◌≤◌, ◌++◌, List, length, refl, sym, ◌∙◌, ap, take}
+use Rattle.std.proofs.Common.{rules, ◌+◌, ◌≤◌, ◌++◌, List, length, refl, sym, ◌∙◌, ap, take}
 use Rattle.std.specs.Prelude.{map}
 use Rattle.candidate_ir.specs.Trees.{Tree}
 use Rattle.candidate_ir.specs.Words.{args_forest}
 use Rattle.candidate_ir.proofs.Kept.{args-kept}
-use Rattle.candidate_eval.specs.Required.{declared_trees, with_arguments}
+use Rattle.candidate_eval.specs.Required.{declared_trees, in_place, with_arguments}
 use Rattle.candidate_eval.proofs.Required.{more_added, next_mapped, none_added}
 use Rattle.candidate_eval.proofs.Requiring.{all_declared, declared_read, place_stays}
 use Rattle.candidate_eval.proofs.structural.required.push_declared.Goals as goal
@@ -17,13 +17,17 @@ push_declared_at-requires-clause-args g c = (args-kept _ _ c.args.args c.loop-pl
 pub loop-place-preserved : goal.loop-place-preserved
 loop-place-preserved g c =
     let start = g.M.Make.context c.args.make.now in
+    let now = g.M.Make.context c.loop-place.make in
     let f = with_arguments (args_forest start.trees c.args.args) in
     let ts = declared_trees start c.args.of in
     let so = c.loop-place.invariant.0 in
     let read = declared_read start _ c.args.of c.declared_clauses-count.result.now c.cx.ensures c.declared_clauses-count.ensures.is c.declared_clauses-count.ensures.fit in
-    let stays = place_stays start (g.M.Make.context c.loop-place.make) c.args.of c.args.args c.loop-place.place so.grows c.requires.args read.1 in
-    let next = next_mapped f ts c.loop-place.place ∙ ap (λ (us : List Tree). map f (take c.loop-place.place ts) ++ us) (sym stays) in
-    (more_added _ _ _ _ _ _ _ _ _ so c.push_declared_at.ensures.grows c.in_ok-push_declared_at.ensures.sort c.in_ok-push_declared_at.ensures.trees next, c.push_declared_at.ensures.rest ∙ c.loop-place.invariant.1)
+    let stays = place_stays start now c.args.of c.args.args c.loop-place.place so.grows c.requires.args read.1 in
+    let next = next_mapped f ts c.loop-place.place ∙ ap (λ (us : List Tree). map f (take c.loop-place.place ts) ++ us) (sym stays) in (
+      more_added start now (g.M.Make.context c.push_declared_at.new.make) c.args.list.now.items c.loop-place.list.items c.push_declared_at.new.list.items (map f (take c.loop-place.place ts))
+          (map (with_arguments (args_forest now.trees c.args.args)) (in_place (declared_trees now c.args.of) c.loop-place.place)) (map f (take (c.loop-place.place + 1) ts)) so c.push_declared_at.ensures.grows c.in_ok-push_declared_at.ensures.sort c.in_ok-push_declared_at.ensures.trees next,
+      c.push_declared_at.ensures.rest ∙ c.loop-place.invariant.1,
+    )
 
 pub returns-clause-trees : goal.returns-clause-trees
 returns-clause-trees g c =

@@ -1,4 +1,4 @@
-use Rattle.std.proofs.Common.{rules, ◌≡◌, ◌≤◌, ◌++◌, List, length, refl, sym, ◌∙◌, ap, subst, take}
+use Rattle.std.proofs.Common.{rules, ◌+◌, ◌≤◌, ◌++◌, List, length, refl, sym, ◌∙◌, ap, subst, take}
 use Rattle.std.specs.Prelude.{map}
 use Rattle.candidate_ir.specs.declared.ir.kinds.AssocId.{AssocId}
 use Rattle.candidate_ir.specs.Context.{Context}
@@ -29,8 +29,11 @@ loop-place-preserved g c =
     let stays =
     ap (λ (x : Forest). map (with_arguments x) (bounds_of_items now (in_place (items_of now i) k))) (args-kept start now c.args.trait_ref.args so.grows c.requires.args).1
     ∙ ap (map f) (item_stays start now i k table so.grows) in
-    let next = next_item start f (items_of start i) k ∙ ap (λ (us : List Tree). map f (bounds_of_items start (take k (items_of start i))) ++ us) (sym stays) in
-    (more_added _ _ _ _ _ _ _ _ _ so c.push_required_at.ensures.grows c.in_ok-push_required_at.ensures.sort c.in_ok-push_required_at.ensures.trees next, c.push_required_at.ensures.rest ∙ c.loop-place.invariant.1)
+    let next = next_item start f (items_of start i) k ∙ ap (λ (us : List Tree). map f (bounds_of_items start (take k (items_of start i))) ++ us) (sym stays) in (
+      more_added start now (g.M.Make.context c.push_required_at.new.make) c.args.list.now.items c.loop-place.list.items c.push_required_at.new.list.items (map f (bounds_of_items start (take k (items_of start i))))
+          (map (with_arguments (args_forest now.trees c.args.trait_ref.args)) (bounds_of_items now (in_place (items_of now i) k))) (map f (bounds_of_items start (take (k + 1) (items_of start i)))) so c.push_required_at.ensures.grows c.in_ok-push_required_at.ensures.sort c.in_ok-push_required_at.ensures.trees next,
+      c.push_required_at.ensures.rest ∙ c.loop-place.invariant.1,
+    )
 
 pub returns-clause-trees : goal.returns-clause-trees
 returns-clause-trees g c =
