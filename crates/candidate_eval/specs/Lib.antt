@@ -17,6 +17,7 @@ pub mod Tables
 pub mod Asked
 pub mod Destruct
 pub mod Objects
+pub mod Required
 pub mod Replacing
 pub mod Callable
 pub mod Normalizer

@@ -6,6 +6,7 @@ pub mod destruct;
 mod making;
 pub mod object;
 pub mod replacing;
+pub mod required;
 pub mod tables;
 
 use candidate_ir::ir::kinds::{Ty, Vars};

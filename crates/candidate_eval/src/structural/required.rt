@@ -1,0 +1,368 @@
+//! What a type has to fulfil so as to be an object of a trait, and what the bounds of the object's type say of it as clauses.
+
+ghost use Rattle.std.specs.Prelude.{◌≡◌, ◌++◌, map, slice_get, option_map, IfOk, IfSome, true};
+ghost use Rattle.std.specs.List.{flat_map};
+ghost use Rattle.candidate_ir.specs.Context.{Grows, world};
+ghost use Rattle.candidate_ir.specs.References.{Takes};
+ghost use Rattle.candidate_ir.specs.Trees.{tree};
+ghost use Rattle.candidate_ir.specs.Words.{IsArgs, IsClause, IsPred, IsPreds, IsTy, ClauseListFits, ListFits, PredFits, args_forest, clause_tree, list_forest, pred_kind_tree, pred_tree, preds_forest, ty_tree};
+ghost use Rattle.candidate_eval.specs.Required.{AreRequirements, as_bound, bounds_of_items, declared_at, declared_trees, each_of, in_place, is_required, item_bounds, items_of, own_bound, own_bounds, required_bounds, said_of};
+ghost use Rattle.candidate_eval.specs.Required as seen;
+
+use candidate_ir::decl::Cx;
+use candidate_ir::decl::definition::AssocKind;
+use candidate_ir::decl::elaborate::elaborate;
+use candidate_ir::decl::make::Make;
+use candidate_ir::decl::parameters::clause_has_arguments;
+use candidate_ir::decl::subst::subst_clause;
+use candidate_ir::ir::kinds::{
+    AliasId, AliasTerm, Args, AssocId, Binder, Clause, ClauseKind, ExistentialPredicate,
+    ExistentialProjection, GenericArg, Pred, Preds, ProjectionPredicate, TraitId, TraitRef, Ty,
+};
+use candidate_ir::ir::stop::Stop;
+use std::alloc::{AllocError, Global};
+
+/// Where clauses are declared.
+#[derive(Clone, Copy)]
+pub(crate) enum Declared {
+    /// The super clauses of a trait.
+    SuperClauses(TraitId),
+    /// The bounds of an associated type itself.
+    SelfBounds(AliasId),
+    /// The bounds of what it is a projection of.
+    NonSelfBounds(AliasId),
+}
+
+/// The object, and then the arguments.
+fn with_object(
+    alloc: Global,
+    cx: &Cx,
+    object: Ty,
+    args: Args,
+) -> Result<Vec<GenericArg>, AllocError>
+    requires object { IsTy cx.now.trees object }
+    requires args { IsArgs cx.now.trees args }
+    ensures fit { IfOk result (λ v. ListFits cx.now.trees v.items) }
+    ensures forest { IfOk result (λ v. list_forest cx.now.trees v.items ≡ tree (ty_tree cx.now.trees object).head (ty_tree cx.now.trees object).children (args_forest cx.now.trees args)) }
+{
+    let mut list = Vec::new(alloc);
+    list.push(GenericArg::Ty(object))?;
+    list.extend_from_slice(cx.args(args))?;
+    Ok(list)
+}
+
+/// What a projection bound says of the object.
+fn said<M: Make>(
+    alloc: Global,
+    make: &mut M,
+    object: Ty,
+    bound: Binder<ExistentialProjection>,
+) -> Result<Clause, Stop>
+    requires object { IsTy (M.context make.old).trees object }
+    requires fits { PredFits (M.context make.old).trees (as_bound bound) }
+    requires takes { Takes (world (M.context make.old)) (pred_kind_tree (M.context make.old).trees (as_bound bound)) }
+    ensures grows { Grows (M.context make.old) (M.context make.new) }
+    ensures rest { M.rest make.new ≡ M.rest make.old }
+    ensures sort { IfOk result (λ x. IsClause (M.context make.new).trees x) }
+    ensures tree { IfOk result (λ x. clause_tree (M.context make.new).trees x ≡ said_of (ty_tree (M.context make.old).trees object) (pred_kind_tree (M.context make.old).trees (as_bound bound))) }
+{
+    let list = with_object(alloc, make.cx(), object, bound.value.args)?;
+    let args = make.mk_args(list.as_slice())?;
+    make.mk_clause(Binder {
+        vars: bound.vars,
+        value: ClauseKind::Projection(ProjectionPredicate {
+            projection_term: AliasTerm {
+                def_id: bound.value.def_id,
+                args,
+            },
+            term: bound.value.term,
+        }),
+    })
+}
+
+/// Adds what the bound says of the object, if it is a projection bound.
+fn push_own<M: Make>(
+    alloc: Global,
+    make: &mut M,
+    list: &mut Vec<Clause>,
+    object: Ty,
+    bound: Pred,
+) -> Result<(), Stop>
+    requires list { ClauseListFits (M.context make.old).trees list.old.items }
+    requires object { IsTy (M.context make.old).trees object }
+    requires bound { IsPred (M.context make.old).trees bound }
+    ensures grows { Grows (M.context make.old) (M.context make.new) }
+    ensures rest { M.rest make.new ≡ M.rest make.old }
+    ensures sort { IfOk result (λ _. ClauseListFits (M.context make.new).trees list.new.items) }
+    ensures trees { IfOk result (λ _. map (clause_tree (M.context make.new).trees) list.new.items ≡ map (clause_tree (M.context make.old).trees) list.old.items ++ own_bound (ty_tree (M.context make.old).trees object) (pred_tree (M.context make.old).trees bound)) }
+{
+    make.cx().well_formed();
+    let bound = make.cx().pred(bound);
+    if let ExistentialPredicate::Projection(value) = bound.value {
+        let bound = Binder {
+            vars: bound.vars,
+            value,
+        };
+        let clause = said(alloc, make, object, bound)?;
+        list.push(clause)?;
+    }
+    Ok(())
+}
+
+/// The bound in that place, if there are so many.
+#[tactic(auto, using(crate::proofs::Required::listed_pred, crate::proofs::Required::bound_found))]
+fn bound_at(cx: &Cx, bounds: Preds, place: usize) -> Option<Pred>
+    requires { IsPreds cx.now.trees bounds }
+    ensures sort { IfSome result (λ b. IsPred cx.now.trees b) }
+    ensures is { option_map (pred_tree cx.now.trees) result ≡ slice_get (each_of (preds_forest cx.now.trees bounds)) place }
+{
+    match cx.preds(bounds).get(place) {
+        Some(bound) => Some(*bound),
+        None => None,
+    }
+}
+
+/// Adds what the bound in that place says of the object.
+fn push_own_at<M: Make>(
+    alloc: Global,
+    make: &mut M,
+    list: &mut Vec<Clause>,
+    object: Ty,
+    bounds: Preds,
+    place: usize,
+) -> Result<(), Stop>
+    requires list { ClauseListFits (M.context make.old).trees list.old.items }
+    requires object { IsTy (M.context make.old).trees object }
+    requires bounds { IsPreds (M.context make.old).trees bounds }
+    ensures grows { Grows (M.context make.old) (M.context make.new) }
+    ensures rest { M.rest make.new ≡ M.rest make.old }
+    ensures sort { IfOk result (λ _. ClauseListFits (M.context make.new).trees list.new.items) }
+    ensures trees { IfOk result (λ _. map (clause_tree (M.context make.new).trees) list.new.items ≡ map (clause_tree (M.context make.old).trees) list.old.items ++ flat_map (own_bound (ty_tree (M.context make.old).trees object)) (in_place (each_of (preds_forest (M.context make.old).trees bounds)) place)) }
+{
+    match bound_at(make.cx(), bounds, place) {
+        Some(bound) => push_own(alloc, make, list, object, bound),
+        None => Ok(()),
+    }
+}
+
+/// What the projection bounds of the object's type say of it, in order: for each that an associated type, of the object and of
+/// the bound's arguments, is the bound's term, under the bound's binder. Bounds that name traits say nothing here.
+///
+/// `Stop::Memory` comes where a growth was refused, `Stop::NodesFull` where a list of arguments or a clause was not made, as by
+/// `mk_args` and `mk_clause`. After a stop the nodes that were made stay.
+pub fn own_bounds<M: Make>(
+    alloc: Global,
+    make: &mut M,
+    object: Ty,
+    bounds: Preds,
+) -> Result<Vec<Clause>, Stop>
+    requires object { IsTy (M.context make.old).trees object }
+    requires bounds { IsPreds (M.context make.old).trees bounds }
+    ensures grows { Grows (M.context make.old) (M.context make.new) }
+    ensures rest { M.rest make.new ≡ M.rest make.old }
+    ensures sort { IfOk result (λ v. ClauseListFits (M.context make.new).trees v.items) }
+    ensures trees { IfOk result (λ v. map (clause_tree (M.context make.new).trees) v.items ≡ own_bounds (ty_tree (M.context make.old).trees object) (preds_forest (M.context make.old).trees bounds)) }
+{
+    let count = make.cx().preds(bounds).len();
+    let mut list = Vec::new(alloc);
+    for place in 0..count {
+        push_own_at(alloc, make, &mut list, object, bounds, place)?;
+    }
+    Ok(list)
+}
+
+/// The clause with the arguments put in; as it is declared where one of its parameters has none.
+#[tactic(auto, using(crate::proofs::Requiring::all_there, crate::proofs::Requiring::one_missing))]
+fn with_arguments<M: Make>(
+    alloc: Global,
+    make: &mut M,
+    clause: Clause,
+    args: Args,
+) -> Result<Clause, Stop>
+    requires clause { IsClause (M.context make.old).trees clause }
+    requires args { IsArgs (M.context make.old).trees args }
+    ensures grows { Grows (M.context make.old) (M.context make.new) }
+    ensures rest { M.rest make.new ≡ M.rest make.old }
+    ensures sort { IfOk result (λ x. IsClause (M.context make.new).trees x) }
+    ensures tree { IfOk result (λ x. clause_tree (M.context make.new).trees x ≡ seen.with_arguments (args_forest (M.context make.old).trees args) (clause_tree (M.context make.old).trees clause)) }
+{
+    if clause_has_arguments(make.cx(), clause, args) {
+        subst_clause(alloc, make, clause, args)
+    } else {
+        Ok(clause)
+    }
+}
+
+/// The clauses that are declared there, in order.
+fn declared_clauses(cx: &Cx, of: Declared) -> &[Clause]
+    ensures is { result.now ≡ declared_at cx.now of }
+    ensures fit { ClauseListFits cx.now.trees result.now }
+{
+    match of {
+        Declared::SuperClauses(id) => cx.super_clauses(id),
+        Declared::SelfBounds(alias) => cx.self_bounds(alias),
+        Declared::NonSelfBounds(alias) => cx.non_self_bounds(alias),
+    }
+}
+
+/// The clause in that place of those that are declared there, if there are so many.
+fn clause_in_place(cx: &Cx, of: Declared, place: usize) -> Option<Clause>
+    ensures is { result ≡ slice_get (declared_at cx.now of) place }
+    ensures sort { IfSome result (λ x. IsClause cx.now.trees x) }
+{
+    match declared_clauses(cx, of).get(place) {
+        Some(clause) => Some(*clause),
+        None => None,
+    }
+}
+
+/// Adds the clause in that place of those that are declared there, with the arguments put in.
+#[tactic(auto, using(crate::proofs::Required::pushed_fit))]
+fn push_declared_at<M: Make>(
+    alloc: Global,
+    make: &mut M,
+    list: &mut Vec<Clause>,
+    of: Declared,
+    args: Args,
+    place: usize,
+) -> Result<(), Stop>
+    requires list { ClauseListFits (M.context make.old).trees list.old.items }
+    requires args { IsArgs (M.context make.old).trees args }
+    ensures grows { Grows (M.context make.old) (M.context make.new) }
+    ensures rest { M.rest make.new ≡ M.rest make.old }
+    ensures sort { IfOk result (λ _. ClauseListFits (M.context make.new).trees list.new.items) }
+    ensures trees { IfOk result (λ _. map (clause_tree (M.context make.new).trees) list.new.items ≡ map (clause_tree (M.context make.old).trees) list.old.items ++ map (seen.with_arguments (args_forest (M.context make.old).trees args)) (in_place (declared_trees (M.context make.old) of) place)) }
+{
+    if let Some(clause) = clause_in_place(make.cx(), of, place) {
+        let clause = with_arguments(alloc, make, clause, args)?;
+        list.push(clause)?;
+    }
+    Ok(())
+}
+
+/// Adds the clauses that are declared there, with the arguments put in, in order.
+fn push_declared<M: Make>(
+    alloc: Global,
+    make: &mut M,
+    list: &mut Vec<Clause>,
+    of: Declared,
+    args: Args,
+) -> Result<(), Stop>
+    requires list { ClauseListFits (M.context make.old).trees list.old.items }
+    requires args { IsArgs (M.context make.old).trees args }
+    ensures grows { Grows (M.context make.old) (M.context make.new) }
+    ensures rest { M.rest make.new ≡ M.rest make.old }
+    ensures sort { IfOk result (λ _. ClauseListFits (M.context make.new).trees list.new.items) }
+    ensures trees { IfOk result (λ _. map (clause_tree (M.context make.new).trees) list.new.items ≡ map (clause_tree (M.context make.old).trees) list.old.items ++ map (seen.with_arguments (args_forest (M.context make.old).trees args)) (declared_trees (M.context make.old) of)) }
+{
+    let count = declared_clauses(make.cx(), of).len();
+    for place in 0..count {
+        push_declared_at(alloc, make, list, of, args, place)?;
+    }
+    Ok(())
+}
+
+/// Whether an object has the item: an associated type that doesn't require that `Self` is sized.
+fn is_required(cx: &Cx, item: AssocId) -> bool
+    ensures { result ≡ is_required cx.now item }
+{
+    matches!(cx.assoc_kind(item), Some(AssocKind::Type)) && !cx.requires_sized_self(item)
+}
+
+/// Adds the bounds of the associated type, with the arguments put in: its self bounds, and then the others.
+fn push_bounds<M: Make>(
+    alloc: Global,
+    make: &mut M,
+    list: &mut Vec<Clause>,
+    item: AssocId,
+    args: Args,
+) -> Result<(), Stop>
+    requires list { ClauseListFits (M.context make.old).trees list.old.items }
+    requires args { IsArgs (M.context make.old).trees args }
+    requires required { is_required (M.context make.old) item ≡ true }
+    ensures grows { Grows (M.context make.old) (M.context make.new) }
+    ensures rest { M.rest make.new ≡ M.rest make.old }
+    ensures sort { IfOk result (λ _. ClauseListFits (M.context make.new).trees list.new.items) }
+    ensures trees { IfOk result (λ _. map (clause_tree (M.context make.new).trees) list.new.items ≡ map (clause_tree (M.context make.old).trees) list.old.items ++ map (seen.with_arguments (args_forest (M.context make.old).trees args)) (item_bounds (M.context make.old) item)) }
+{
+    make.cx().well_formed_table();
+    let alias = AliasId(item.0);
+    push_declared(alloc, make, list, Declared::SelfBounds(alias), args)?;
+    push_declared(alloc, make, list, Declared::NonSelfBounds(alias), args)
+}
+
+/// Adds the bounds of the item in that place of the trait's, with the arguments put in, if an object has it.
+fn push_required_at<M: Make>(
+    alloc: Global,
+    make: &mut M,
+    list: &mut Vec<Clause>,
+    trait_ref: TraitRef,
+    place: usize,
+) -> Result<(), Stop>
+    requires list { ClauseListFits (M.context make.old).trees list.old.items }
+    requires args { IsArgs (M.context make.old).trees trait_ref.args }
+    ensures grows { Grows (M.context make.old) (M.context make.new) }
+    ensures rest { M.rest make.new ≡ M.rest make.old }
+    ensures sort { IfOk result (λ _. ClauseListFits (M.context make.new).trees list.new.items) }
+    ensures trees { IfOk result (λ _. map (clause_tree (M.context make.new).trees) list.new.items ≡ map (clause_tree (M.context make.old).trees) list.old.items ++ map (seen.with_arguments (args_forest (M.context make.old).trees trait_ref.args)) (bounds_of_items (M.context make.old) (in_place (items_of (M.context make.old) trait_ref.def_id.0) place))) }
+{
+    let item = match make.cx().associated_items(trait_ref.def_id).get(place) {
+        Some(item) => *item,
+        None => return Ok(()),
+    };
+    if !is_required(make.cx(), item) {
+        return Ok(());
+    }
+    push_bounds(alloc, make, list, item, trait_ref.args)
+}
+
+/// Adds the bounds of all associated types that an object of the trait has, with the arguments put in, in the order of their
+/// declaration.
+fn push_required<M: Make>(
+    alloc: Global,
+    make: &mut M,
+    list: &mut Vec<Clause>,
+    trait_ref: TraitRef,
+) -> Result<(), Stop>
+    requires list { ClauseListFits (M.context make.old).trees list.old.items }
+    requires args { IsArgs (M.context make.old).trees trait_ref.args }
+    ensures grows { Grows (M.context make.old) (M.context make.new) }
+    ensures rest { M.rest make.new ≡ M.rest make.old }
+    ensures sort { IfOk result (λ _. ClauseListFits (M.context make.new).trees list.new.items) }
+    ensures trees { IfOk result (λ _. map (clause_tree (M.context make.new).trees) list.new.items ≡ map (clause_tree (M.context make.old).trees) list.old.items ++ map (seen.with_arguments (args_forest (M.context make.old).trees trait_ref.args)) (required_bounds (M.context make.old) trait_ref.def_id.0)) }
+{
+    make.cx().well_formed_table();
+    let count = make.cx().associated_items(trait_ref.def_id).len();
+    for place in 0..count {
+        push_required_at(alloc, make, list, trait_ref, place)?;
+    }
+    Ok(())
+}
+
+/// All that an object of the reference's trait has to fulfil: the elaboration of the trait's super clauses, then the bounds of
+/// its associated types but of those that require `Self: Sized`, in the order of their declaration. Each clause has the
+/// reference's arguments in the place of its parameters; where one of its parameters has no argument of its kind, it stays as it
+/// is declared.
+///
+/// It stops as `subst_clause` and `elaborate` do; `Stop::Memory` comes where a list can't grow, too. After a stop the nodes that
+/// were made stay.
+pub fn requirements<M: Make>(
+    alloc: Global,
+    make: &mut M,
+    trait_ref: TraitRef,
+) -> Result<Vec<Clause>, Stop>
+    requires args { IsArgs (M.context make.old).trees trait_ref.args }
+    ensures grows { Grows (M.context make.old) (M.context make.new) }
+    ensures rest { M.rest make.new ≡ M.rest make.old }
+    ensures sort { IfOk result (λ v. ClauseListFits (M.context make.new).trees v.items) }
+    ensures requirements { IfOk result (λ v. AreRequirements (M.context make.old) trait_ref.def_id.0 (args_forest (M.context make.old).trees trait_ref.args) (map (clause_tree (M.context make.new).trees) v.items)) }
+{
+    make.cx().well_formed_table();
+    let of = Declared::SuperClauses(trait_ref.def_id);
+    let mut supers = Vec::new(alloc);
+    push_declared(alloc, make, &mut supers, of, trait_ref.args)?;
+    let mut list = elaborate(alloc, make, supers.as_slice())?;
+    make.cx().well_formed();
+    push_required(alloc, make, &mut list, trait_ref)?;
+    Ok(list)
+}
