@@ -17,7 +17,7 @@ use Rattle.candidate_ir.specs.Words.{ClauseListFits, IsTy, ty_tree}
 use Rattle.candidate_ir.proofs.FoldSteps.{folds-reached, reached-then}
 use Rattle.candidate_ir.proofs.Kept.{grows-refl, grows-trans, ty-kept}
 use Rattle.candidate_eval.specs.Objects.{Projection}
-use Rattle.candidate_eval.specs.Replacing.{Filled, Finds, after_first, answered, clauses_at, filled, filled_clause, filled_from, finds_own, first_or, left_by, own_projection, then_filled, types_at}
+use Rattle.candidate_eval.specs.Replacing.{Filled, Finds, without_first, answered, clauses_at, filled, filled_clause, filled_from, finds_own, first_or, left_by, own_projection, then_filled, types_at}
 use Rattle.candidate_eval.proofs.Replacing.{left-fit, left-types}
 use Rattle.candidate_eval.proofs.Responding.{clauses-kept}
 use Rattle.candidate_eval.proofs.Types.{types_kept}
@@ -54,7 +54,7 @@ module _ {M Rest F : Type 0} (context : M → Context) (others : M → Rest)
         at (Some y) q a b r =
             let z : first_or (node h below) (left s.0) ≡ node j inner = let w = sym (ap (λ (o : Option Projection). answered o (node h below) (left s.0)) q) ∙ a in cc in
             ap (λ (o : Option Projection). filled_from o (node h below) (filled f below (left s.0)) (left s.0) (filled f rest)) q
-            ∙ (ap (λ (t : Tree). then_filled t (filled f rest (after_first (left s.0)))) z
+            ∙ (ap (λ (t : Tree). then_filled t (filled f rest (without_first (left s.0)))) z
             ∙ ap (then_filled (node j inner)) (ap (filled f rest) (sym (b ∙ ap (λ (o : Option Projection). left_by o (left s.0)) q)) ∙ r))
     folds-fill {s = s} {e = e} l (opened {m = m} {n = n} {d = d} {h = h} {below = below} {inner = inner} {rest = rest} {us = us} x i p r) =
         let a = answers s d (node h below) None m l i in

@@ -7,11 +7,14 @@ use Rattle.candidate_ir.specs.declared.ir.kinds.Ty.{Ty}
 use Rattle.candidate_ir.specs.Context.{Context, Grows}
 use Rattle.candidate_ir.specs.Trees.{Forest, Tree}
 use Rattle.candidate_ir.specs.WellFormed.{TypesFit}
-use Rattle.candidate_ir.specs.Words.{IsArgs, IsTy, ty_tree}
-use Rattle.candidate_ir.proofs.Kept.{args-kept, grows-refl, grows-trans}
+use Rattle.candidate_ir.specs.Words.{ClauseListFits, IsArgs, IsClause, IsTy, clause_tree, ty_tree}
+use Rattle.candidate_ir.proofs.Joining.{clause-kept}
+use Rattle.candidate_ir.proofs.Kept.{args-kept, grows-refl, grows-trans, ty-kept}
 use Rattle.candidate_eval.specs.Objects.{IsAmbiguous, IsPicked, Projection, projection_at}
-use Rattle.candidate_eval.specs.Replacing.{AreProjections, IsStuck, Picks, projections_at, types_at}
+use Rattle.candidate_eval.specs.Replacing.{AreProjections, AreReplaced, AreStuck, IsReplaced, IsStuck, Picks, clauses_at, filled_clause, finds_own, own_projection, projections, projections_at, types_at}
 use Rattle.candidate_eval.specs.States.{Env, State, Judge}
+use Rattle.candidate_ir.proofs.Listing.{pushed_fits}
+use Rattle.candidate_eval.proofs.Responding.{clauses-kept}
 use Rattle.candidate_eval.proofs.Types.{pushed_fit, types_kept}
 
 module _ (J : Judge) (e : Env) (bounds : List Tree) where
@@ -94,3 +97,87 @@ module _ {F : Type 0} (judge : F → Judge) where
       subst (λ (y : F). IsAmbiguous (judge y) e p T bs) h
       (subst (λ (y : Env). IsAmbiguous (judge g) y p T bs) i
       (subst (λ (y : Projection). IsAmbiguous (judge g) d y T bs) j (subst (λ (y : List Tree). IsAmbiguous (judge g) d q T y) k x)))
+
+  pub replaced-then : (f g : F) (e d : Env) (o p c x u : Tree) (S T : State) (bs cs : List Tree) → g ≡ f → d ≡ e → p ≡ o → x ≡ c → cs ≡ bs → IsReplaced (judge g) d p cs S x u T → IsReplaced (judge f) e o bs S c u T
+  replaced-then f g e d o p c x u S T bs cs h i j l k r =
+      subst (λ (y : F). IsReplaced (judge y) e o bs S c u T) h
+      (subst (λ (y : Env). IsReplaced (judge g) y o bs S c u T) i
+      (subst (λ (y : Tree). IsReplaced (judge g) d y bs S c u T) j
+      (subst (λ (y : Tree). IsReplaced (judge g) d p bs S y u T) l (subst (λ (y : List Tree). IsReplaced (judge g) d p y S x u T) k r))))
+
+  -- of the projections in a clause
+  pub stuck-at : (f g : F) (e d : Env) (o p c x : Tree) (T : State) (bs cs : List Tree) → g ≡ f → d ≡ e → p ≡ o → x ≡ c → cs ≡ bs → IsStuck (judge g) d cs T (projections (own_projection p cs) x.children)
+      → IsStuck (judge f) e bs T (projections (own_projection o bs) c.children)
+  stuck-at f g e d o p c x T bs cs h i j l k r =
+      subst (λ (y : F). IsStuck (judge y) e bs T (projections (own_projection o bs) c.children)) h
+      (subst (λ (y : Env). IsStuck (judge g) y bs T (projections (own_projection o bs) c.children)) i
+      (subst (λ (y : Tree). IsStuck (judge g) d bs T (projections (own_projection y bs) c.children)) j
+      (subst (λ (y : Tree). IsStuck (judge g) d bs T (projections (own_projection p bs) y.children)) l
+      (subst (λ (y : List Tree). IsStuck (judge g) d y T (projections (own_projection p y) x.children)) k r))))
+
+-- Clauses that are replaced so far.
+
+module _ (J : Judge) (e : Env) (object : Tree) (bounds : List Tree) where
+  pub are-replaced-then : {S T U : State} {cs ds : List Tree} (c d : Tree) → AreReplaced J e object bounds S cs ds T → IsReplaced J e object bounds T c d U → AreReplaced J e object bounds S (cs ++ c ∷ []) (ds ++ d ∷ []) U
+  are-replaced-then c d AreReplaced.none_left i = AreReplaced.one i AreReplaced.none_left
+  are-replaced-then c d (AreReplaced.one x r) i = AreReplaced.one x (are-replaced-then c d r i)
+
+pub record ReplacedSoFar (J : Judge) (e : Env) (object : Tree) (bounds : List Tree) (start now : Context) (S T : State) (cs : List Clause) (k : ℕ) (ds : List Clause) : Type 0 where
+  pub grows : Grows start now
+  pub fit : ClauseListFits now.trees ds
+  pub replaced : AreReplaced J e object bounds S (clauses_at start.trees (take k cs)) (clauses_at now.trees ds) T
+
+pub none-replaced : (J : Judge) (e : Env) (object : Tree) (bounds : List Tree) (start : Context) (S : State) (cs ds : List Clause) → ds ≡ [] → ReplacedSoFar J e object bounds start start S S cs 0 ds
+none-replaced J e object bounds start S cs ds n = record {
+  grows = grows-refl start;
+  fit = subst (ClauseListFits start.trees) (sym n) refl;
+  replaced = subst (λ (xs : List Clause). AreReplaced J e object bounds S [] (clauses_at start.trees xs) S) (sym n) AreReplaced.none_left;
+}
+
+pub one-replaced : (J : Judge) (e : Env) (object : Tree) (bounds : List Tree) (start now new : Context) (S T U : State) (cs : List Clause) (k : ℕ) (c : Clause) (ds more : List Clause) (d : Clause)
+    → ReplacedSoFar J e object bounds start now S T cs k ds → k < length cs → Grows now new → IsClause new.trees d → IsReplaced J e object bounds T (clause_tree start.trees (get_or cs k c)) (clause_tree new.trees d) U
+    → more ≡ ds ++ d ∷ [] → ReplacedSoFar J e object bounds start new S U cs (k + 1) more
+one-replaced J e object bounds start now new S T U cs k c ds more d s l g i p m =
+    let kept = clauses-kept now new ds g s.fit in
+    let all : clauses_at new.trees more ≡ clauses_at now.trees ds ++ clause_tree new.trees d ∷ [] =
+    ap (clauses_at new.trees) m ∙ (map_push (clause_tree new.trees) ds d ∙ ap (λ (xs : List Tree). xs ++ clause_tree new.trees d ∷ []) kept.1) in
+    let then = are-replaced-then J e object bounds (clause_tree start.trees (get_or cs k c)) (clause_tree new.trees d) s.replaced p in
+    record {
+      grows = grows-trans start now new s.grows g;
+      fit = pushed_fits new.trees ds more d kept.0 i m;
+      replaced = subst (λ (xs : List Tree). AreReplaced J e object bounds S (clauses_at start.trees (take (k + 1) cs)) xs U) (sym all)
+          (subst (λ (qs : List Tree). AreReplaced J e object bounds S qs (clauses_at now.trees ds ++ clause_tree new.trees d ∷ []) U) (sym (map_more (clause_tree start.trees) cs k c l)) then);
+    }
+
+pub all-replaced : (J : Judge) (e : Env) (object : Tree) (bounds : List Tree) (start now : Context) (S T : State) (cs : List Clause) (k : ℕ) (ds : List Clause)
+    → ReplacedSoFar J e object bounds start now S T cs k ds → length cs ≤ k → AreReplaced J e object bounds S (clauses_at start.trees cs) (clauses_at now.trees ds) T
+all-replaced J e object bounds start now S T cs k ds s l = subst (λ (qs : List Clause). AreReplaced J e object bounds S (clauses_at start.trees qs) (clauses_at now.trees ds) T) (take_all k cs l) s.replaced
+
+pub one-clause-stuck : (J : Judge) (e : Env) (object : Tree) (bounds : List Tree) (start now : Context) (S T : State) (cs : List Clause) (k : ℕ) (c : Clause) (ds : List Clause)
+    → ReplacedSoFar J e object bounds start now S T cs k ds → k < length cs → IsStuck J e bounds T (projections (own_projection object bounds) (clause_tree start.trees (get_or cs k c)).children)
+    → AreStuck J e object bounds S (clauses_at start.trees cs)
+one-clause-stuck J e object bounds start now S T cs k c ds s l a = record {
+  before = clauses_at start.trees (take k cs);
+  replaced = clauses_at now.trees ds;
+  last = T;
+  clause = clause_tree start.trees (get_or cs k c);
+  after = clauses_at start.trees (drop (suc k) cs);
+  are = parts (clause_tree start.trees) cs k c l;
+  first = s.replaced;
+  stuck = a;
+}
+
+-- A clause whose projections were picked and which was filled then.
+pub replaced-by : (J : Judge) (e : Env) (a b : Context) (object : Ty) (bounds : List Clause) (clause : Clause) (u : Tree) (qs : List Projection) (us : List Tree) (S T U : State) → Grows a b
+    → IsTy a.trees object → ClauseListFits a.trees bounds → IsClause a.trees clause → qs ≡ projections (finds_own a.trees object bounds) (clause_tree a.trees clause).children
+    → Picks J e (clauses_at a.trees bounds) S qs us T → U ≡ T → u ≡ filled_clause (finds_own b.trees object bounds) us (clause_tree b.trees clause)
+    → IsReplaced J e (ty_tree a.trees object) (clauses_at a.trees bounds) S (clause_tree a.trees clause) u U
+replaced-by J e a b object bounds clause u qs us S T U g i cs k q p s f = record {
+  terms = us;
+  picked = subst (λ (y : State). Picks J e (clauses_at a.trees bounds) S (projections (finds_own a.trees object bounds) (clause_tree a.trees clause).children) us y) (sym s)
+      (subst (λ (y : List Projection). Picks J e (clauses_at a.trees bounds) S y us T) q p);
+  is = f
+      ∙ (ap (λ (y : Tree). filled_clause (own_projection y (clauses_at b.trees bounds)) us (clause_tree b.trees clause)) (ty-kept a b object g i).1
+      ∙ (ap (λ (y : List Tree). filled_clause (own_projection (ty_tree a.trees object) y) us (clause_tree b.trees clause)) (clauses-kept a b bounds g cs).1
+      ∙ ap (filled_clause (own_projection (ty_tree a.trees object) (clauses_at a.trees bounds)) us) (clause-kept a b clause g k).1));
+}

@@ -19,6 +19,7 @@ pub mod Destruct
 pub mod Objects
 pub mod Required
 pub mod Replacing
+pub mod ObjectRequirements
 pub mod Callable
 pub mod Normalizer
 pub mod Answers

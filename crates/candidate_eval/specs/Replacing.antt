@@ -67,9 +67,9 @@ abbrev pub first_or : Tree → List Tree → Tree
 first_or t [] = t
 first_or t (u ∷ us) = u
 
-abbrev pub after_first : {X : Type 0} → List X → List X
-after_first [] = []
-after_first (u ∷ us) = us
+abbrev pub without_first : {X : Type 0} → List X → List X
+without_first [] = []
+without_first (u ∷ us) = us
 
 abbrev pub then_filled : Tree → Filled → Filled
 then_filled t rest = record { trees = tree t.head t.children rest.trees; left = rest.left }
@@ -77,7 +77,7 @@ then_filled t rest = record { trees = tree t.head t.children rest.trees; left = 
 -- What comes of a row that begins with the tree: of what is below it with these terms, and of the rest with what is then left.
 abbrev pub filled_from : Option Projection → Tree → Filled → List Tree → (List Tree → Filled) → Filled
 filled_from None t below us rest = then_filled (node t.head below.trees) (rest below.left)
-filled_from (Some p) t below us rest = then_filled (first_or t us) (rest (after_first us))
+filled_from (Some p) t below us rest = then_filled (first_or t us) (rest (without_first us))
 
 abbrev pub filled : Finds → Forest → List Tree → Filled
 filled f none us = record { trees = none; left = us }
@@ -90,7 +90,7 @@ answered (Some p) t us = Some (first_or t us)
 
 abbrev pub left_by : {X : Type 0} → Option Projection → List X → List X
 left_by None us = us
-left_by (Some p) us = after_first us
+left_by (Some p) us = without_first us
 
 -- a clause is no projection itself
 abbrev pub filled_clause : Finds → List Tree → Tree → Tree

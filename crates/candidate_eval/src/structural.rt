@@ -5,6 +5,7 @@ pub mod callable;
 pub mod destruct;
 mod making;
 pub mod object;
+pub mod object_candidate;
 pub mod replacing;
 pub mod required;
 pub mod tables;

@@ -289,3 +289,92 @@ fn fill<M: Make>(
         { Ok(next_term(make.cx(), object, bounds, &mut left, arg)) },
     )
 }
+
+/// The same for an evaluator, whose state stays as it is.
+fn filled<E: EvalCtxt>(
+    alloc: Global,
+    ecx: &mut E,
+    object: Ty,
+    bounds: &[Clause],
+    clause: Clause,
+    terms: &[Ty],
+) -> Result<Clause, Stop>
+    requires object { IsTy (E.context ecx.old).trees object }
+    requires bounds { ClauseListFits (E.context ecx.old).trees bounds.now }
+    requires clause { IsClause (E.context ecx.old).trees clause }
+    requires terms { TypesFit (E.context ecx.old).trees terms.now }
+    ensures kept { Keeps E.fixed E.probes E.context ecx.old ecx.new }
+    ensures same { E.state ecx.new ≡ E.state ecx.old }
+    ensures sort { IfOk result (λ x. IsClause (E.context ecx.new).trees x) }
+    ensures tree { IfOk result (λ x. clause_tree (E.context ecx.new).trees x ≡ filled_clause (finds_own (E.context ecx.old).trees object bounds.now) (types_at (E.context ecx.old).trees terms.now) (clause_tree (E.context ecx.old).trees clause)) }
+{
+    fill(alloc, ecx, object, bounds, clause, terms)
+}
+
+/// The clause with what the bounds say in the place of each projection of the object's own.
+///
+/// `Ambiguous` comes as it comes of `pick_bound`. It stops as `pick_bound` does, and `Stop::Memory` comes where a list can't grow,
+/// `Stop::NodesFull` where the clause is not made, too. After an error what was equated before stays.
+fn replaced_clause<E: EvalCtxt>(
+    alloc: Global,
+    ecx: &mut E,
+    env: ParamEnv,
+    object: Ty,
+    bounds: &[Clause],
+    clause: Clause,
+) -> Result<Clause, AmbiguousOrStop>
+    requires env { IsParamEnv (E.context ecx.old).trees env }
+    requires object { IsTy (E.context ecx.old).trees object }
+    requires bounds { ClauseListFits (E.context ecx.old).trees bounds.now }
+    requires clause { IsClause (E.context ecx.old).trees clause }
+    ensures kept { Keeps E.fixed E.probes E.context ecx.old ecx.new }
+    ensures sort { IfOk result (λ x. IsClause (E.context ecx.new).trees x) }
+    ensures replaced { IfOk result (λ x. IsReplaced (E.judge (E.fixed ecx.old)) (env_forest (E.context ecx.old).trees env) (ty_tree (E.context ecx.old).trees object) (clauses_at (E.context ecx.old).trees bounds.now) (E.state ecx.old) (clause_tree (E.context ecx.old).trees clause) (clause_tree (E.context ecx.new).trees x) (E.state ecx.new)) }
+    ensures ambiguous { IfErr result (λ e. e ≡ AmbiguousOrStop.Ambiguous → IsStuck (E.judge (E.fixed ecx.old)) (env_forest (E.context ecx.old).trees env) (clauses_at (E.context ecx.old).trees bounds.now) (E.state ecx.old) (projections (finds_own (E.context ecx.old).trees object bounds.now) (clause_tree (E.context ecx.old).trees clause).children)) }
+{
+    let projections = own_projections(alloc, ecx.cx(), object, bounds, clause)?;
+    let terms = pick_all(alloc, ecx, env, bounds, projections.as_slice())?;
+    Ok(filled(
+        alloc,
+        ecx,
+        object,
+        bounds,
+        clause,
+        terms.as_slice(),
+    )?)
+}
+
+/// Puts a clause at a list's end. The only stop is `Stop::Memory`.
+fn push_clause(list: &mut Vec<Clause>, clause: Clause) -> Result<(), Stop>
+    ensures { IfOk result (λ _. list.new.items ≡ list.old.items ++ clause ∷ []) }
+{
+    list.push(clause)?;
+    Ok(())
+}
+
+/// The clauses, one after the other, with what the bounds say in the place of each projection of the object's own; what is said
+/// of the errors of `replaced_clause` holds here, too.
+pub(crate) fn replaced<E: EvalCtxt>(
+    alloc: Global,
+    ecx: &mut E,
+    env: ParamEnv,
+    object: Ty,
+    bounds: &[Clause],
+    clauses: &[Clause],
+) -> Result<Vec<Clause>, AmbiguousOrStop>
+    requires env { IsParamEnv (E.context ecx.old).trees env }
+    requires object { IsTy (E.context ecx.old).trees object }
+    requires bounds { ClauseListFits (E.context ecx.old).trees bounds.now }
+    requires clauses { ClauseListFits (E.context ecx.old).trees clauses.now }
+    ensures kept { Keeps E.fixed E.probes E.context ecx.old ecx.new }
+    ensures sort { IfOk result (λ v. ClauseListFits (E.context ecx.new).trees v.items) }
+    ensures replaced { IfOk result (λ v. AreReplaced (E.judge (E.fixed ecx.old)) (env_forest (E.context ecx.old).trees env) (ty_tree (E.context ecx.old).trees object) (clauses_at (E.context ecx.old).trees bounds.now) (E.state ecx.old) (clauses_at (E.context ecx.old).trees clauses.now) (clauses_at (E.context ecx.new).trees v.items) (E.state ecx.new)) }
+    ensures ambiguous { IfErr result (λ e. e ≡ AmbiguousOrStop.Ambiguous → AreStuck (E.judge (E.fixed ecx.old)) (env_forest (E.context ecx.old).trees env) (ty_tree (E.context ecx.old).trees object) (clauses_at (E.context ecx.old).trees bounds.now) (E.state ecx.old) (clauses_at (E.context ecx.old).trees clauses.now)) }
+{
+    let mut list = Vec::new(alloc);
+    for clause in clauses {
+        let made = replaced_clause(alloc, ecx, env, object, bounds, *clause)?;
+        push_clause(&mut list, made)?;
+    }
+    Ok(list)
+}

@@ -1,0 +1,29 @@
+use Rattle.std.proofs.Common.{◌≡◌, sym, ◌∙◌, ap, subst}
+use Rattle.candidate_ir.specs.Words.{clause_tree, env_forest}
+use Rattle.candidate_ir.proofs.Joining.{clause-kept}
+use Rattle.candidate_ir.proofs.Kept.{ty-kept}
+use Rattle.candidate_eval.specs.Replacing.{clauses_at, projections_at, types_at}
+use Rattle.candidate_eval.proofs.Picking.{replaced-by}
+use Rattle.candidate_eval.proofs.Responding.{clauses-kept}
+use Rattle.candidate_eval.proofs.structural.replacing.replaced_clause.Goals as goal
+
+pub filled-requires-clause-object : goal.filled-requires-clause-object
+filled-requires-clause-object g c = (ty-kept (g.E.Make.context c.args.ecx.now) (g.E.Make.context c.pick_all.new.ecx) c.args.object c.pick_all.ensures.kept.2 c.requires.object).0
+
+pub filled-requires-clause-bounds : goal.filled-requires-clause-bounds
+filled-requires-clause-bounds g c = (clauses-kept (g.E.Make.context c.args.ecx.now) (g.E.Make.context c.pick_all.new.ecx) c.args.bounds.now c.pick_all.ensures.kept.2 c.requires.bounds).0
+
+pub filled-requires-clause-clause : goal.filled-requires-clause-clause
+filled-requires-clause-clause g c = (clause-kept (g.E.Make.context c.args.ecx.now) (g.E.Make.context c.pick_all.new.ecx) c.args.clause c.pick_all.ensures.kept.2 c.requires.clause).0
+
+pub returns-clause-replaced : goal.returns-clause-replaced
+returns-clause-replaced g c =
+    let E = g.E.EvalCtxt in
+    let old = c.args.ecx.now in
+    let mid = c.pick_all.new.ecx in
+    let new = c.filled.new.ecx in
+    let start = g.E.Make.context old in
+    let after = g.E.Make.context mid in
+    replaced-by (E.judge (E.fixed old)) (env_forest start.trees c.args.env) start after c.args.object c.args.bounds.now c.args.clause (clause_tree (g.E.Make.context new).trees c.in_ok-filled.field-0) _ _ (E.state old)
+    (E.state mid) (E.state new) c.pick_all.ensures.kept.2 c.requires.object c.requires.bounds c.requires.clause c.in_ok-projections.ensures.projections c.in_ok-terms.ensures.picked c.filled.ensures.same
+    c.in_ok-filled.ensures.tree
