@@ -41,13 +41,10 @@ use Rattle.candidate_eval.specs.declared.structural.required.Declared.TheVariant
 use Rattle.candidate_eval.specs.Required.{AreRequirements, bounds_of_items, declared_at, declared_trees, in_place, is_required, is_type_item, item_bounds, items_of, non_self_bounds, required_bounds, self_bounds, with_arguments}
 use Rattle.candidate_eval.proofs.Required.{AddedSoFar, next_place}
 
--- A clause with arguments put in, or as it is declared
+-- A clause with arguments put in
 
 pub all_there : (args : Forest) (t : Tree) → tree_holds (lacks_argument args) t ≡ false → substituted_tree args t ≡ with_arguments args t
 all_there args t e = rw e refl
-
-pub one_missing : (args : Forest) (t : Tree) → tree_holds (lacks_argument args) t ≡ true → t ≡ with_arguments args t
-one_missing args t e = rw e refl
 
 -- What is declared stays
 

@@ -110,7 +110,7 @@ fn push_own<M: Make>(
 }
 
 /// The bound in that place, if there are so many.
-#[tactic(auto, using(crate::proofs::Required::listed_pred, crate::proofs::Required::bound_found))]
+#[tactic(auto, using(crate::proofs::Required::listed_pred))]
 fn bound_at(cx: &Cx, bounds: Preds, place: usize) -> Option<Pred>
     requires { IsPreds cx.now.trees bounds }
     ensures sort { IfSome result (λ b. IsPred cx.now.trees b) }
@@ -172,7 +172,6 @@ pub fn own_bounds<M: Make>(
 }
 
 /// The clause with the arguments put in; as it is declared where one of its parameters has none.
-#[tactic(auto, using(crate::proofs::Requiring::all_there, crate::proofs::Requiring::one_missing))]
 fn with_arguments<M: Make>(
     alloc: Global,
     make: &mut M,
@@ -217,7 +216,6 @@ fn clause_in_place(cx: &Cx, of: Declared, place: usize) -> Option<Clause>
 }
 
 /// Adds the clause in that place of those that are declared there, with the arguments put in.
-#[tactic(auto, using(crate::proofs::Required::pushed_fit))]
 fn push_declared_at<M: Make>(
     alloc: Global,
     make: &mut M,
