@@ -17,6 +17,7 @@ use Rattle.candidate_ir.specs.declared.ir.kinds.Args.{Args}
 use Rattle.candidate_ir.specs.declared.ir.kinds.AssocId.{AssocId}
 use Rattle.candidate_ir.specs.declared.ir.kinds.Clause.{Clause}
 use Rattle.candidate_ir.specs.declared.ir.kinds.PredicatePolarity.TheVariants as Polarity
+use Rattle.candidate_ir.specs.declared.ir.kinds.TraitRef.{TraitRef}
 use Rattle.candidate_ir.specs.Contents.{Bounds, TraitContents}
 use Rattle.candidate_ir.specs.Context.{Context, Grows, world, definition_of, parameter_kind, sort_of}
 use Rattle.candidate_ir.specs.Declaration.{Declaration}
@@ -25,7 +26,7 @@ use Rattle.candidate_ir.specs.Elaboration.{SuperClauses, Elaborates, ended, step
 use Rattle.candidate_ir.specs.Folding.{lacks_argument, substituted_tree}
 use Rattle.candidate_ir.specs.Held.{definition_held}
 use Rattle.candidate_ir.specs.Lookups.{assoc_kind, kind_of_declared, maybe, requires_sized_self}
-use Rattle.candidate_ir.specs.References.{IsWellFormed, FitsAmong}
+use Rattle.candidate_ir.specs.References.{ArgumentsFit, IsWellFormed, FitsAmong}
 use Rattle.candidate_ir.specs.Supers.{supers_at}
 use Rattle.candidate_ir.specs.Supertraits.{head_trait}
 use Rattle.candidate_ir.specs.Trees.{Kind, TypeKind, BinderKind, Forest, Tree, tree_holds}
@@ -225,9 +226,9 @@ supers-stay start now i ks t g p =
 
 -- What a clause implies stays: it names a trait that is declared.
 
-record IsParameters (w : World) (i : ℕ) : Type 0 where
-  kinds : List Kind
-  are : parameters w TraitSort i ≡ Some kinds
+pub record IsParameters (w : World) (i : ℕ) : Type 0 where
+  pub kinds : List Kind
+  pub are : parameters w TraitSort i ≡ Some kinds
 
 trait-parameters : (w : World) (i : ℕ) (o : Option (List Kind)) (ks : List Kind) → parameters w TraitSort i ≡ o → joined (Some (BinderKind ∷ [])) (joined (Some (TypeKind ∷ [])) o) ≡ Some ks → IsParameters w i
 trait-parameters w i None ks e j = absurd cc
@@ -334,4 +335,28 @@ are_requirements start mid last new i a supers all list t w g h k first walk res
           rest
           ∙ (ap (λ (f : Forest). whole ++ map (with_arguments f) (required_bounds last i)) (args-kept start last a far k).1
           ∙ ap (λ (ts : List Tree). whole ++ map (with_arguments args) ts) (required_stays start last i t far));
+    }
+
+-- Requirements of a context that has grown are those of the one at the start, where the trait is declared.
+
+pub declared-parameters : (start now : Context) (r : TraitRef) → Grows start now → ArgumentsFit now r → IsParameters (world start) r.def_id.0
+declared-parameters start now r g f = at (parameters (world start) TraitSort r.def_id.0) refl
+  where
+    at : (o : Option (List Kind)) → parameters (world start) TraitSort r.def_id.0 ≡ o → IsParameters (world start) r.def_id.0
+    at None e =
+        let same : joined (Some (TypeKind ∷ [])) (parameters (world start) TraitSort r.def_id.0) ≡ Some (kinds_of (args_forest now.trees r.args)) =
+        ap (λ (w : World). joined (Some (TypeKind ∷ [])) (parameters w TraitSort r.def_id.0)) (sym (world-kept start now g).0) ∙ f in
+        let z = sym (ap (joined (Some (TypeKind ∷ []))) e) ∙ same in absurd cc
+    at (Some ks) e = record { kinds = ks; are = e }
+
+pub requirements-back : (start now last : Context) (i : ℕ) (args : Forest) (items : List Clause) → IsWellFormedTable start → IsWellFormed last → Grows start now → Grows start last → IsParameters (world start) i
+    → AreRequirements now i args (map (clause_tree last.trees) items) → AreRequirements start i args (map (clause_tree last.trees) items)
+requirements-back start now last i args items t w g h p r =
+    let all = subst (AreStill (super_clauses now) (super_clauses start)) r.are (all-still start now last items t g h w) in
+    record {
+      supers = r.supers;
+      elaborated =
+          elaborates-still (super_clauses start) (subst (λ (ts : List Tree). IsElaboration now (map (with_arguments args) ts) r.supers) (supers-stay start now i p.kinds t g p.are) r.elaborated)
+          (first-still (super_clauses now) (super_clauses start) r.supers (map (with_arguments args) (required_bounds now i)) all);
+      are = r.are ∙ ap (λ (ts : List Tree). r.supers ++ map (with_arguments args) ts) (required_stays start now i t g);
     }

@@ -7,6 +7,7 @@ ghost use Rattle.candidate_ir.specs.Words.{IsArgs, IsClause, IsParamEnv, IsPreds
 ghost use Rattle.candidate_eval.specs.Evaluators.{IsGoal, Keeps, goal_of};
 ghost use Rattle.candidate_eval.specs.Objects.{with_instance};
 ghost use Rattle.candidate_eval.specs.ObjectRequirements.{AreAsked, AreUnknown, arguments_of, first_tree, fresh_arguments, goals_in, reference_clause, trait_held};
+ghost use Rattle.candidate_eval.specs.Replacing.{clauses_at};
 ghost use Rattle.candidate_eval.specs.Required.{AreRequirements};
 ghost use Rattle.candidate_eval.specs.Required as seen;
 
@@ -127,6 +128,44 @@ fn required<E: EvalCtxt>(
     requirements(alloc, ecx, trait_ref)
 }
 
+/// The object's type, what its own bounds say of it, and what an object of its trait has to fulfil.
+#[derive(Drop)]
+struct Prepared {
+    object: Ty,
+    bounds: Vec<Clause>,
+    required: Vec<Clause>,
+}
+
+/// All this of a reference, of which the binder is instantiated with fresh variables.
+fn prepare<E: EvalCtxt>(
+    alloc: Global,
+    ecx: &mut E,
+    trait_ref: Binder<TraitRef>,
+    object_bounds: Preds,
+) -> Result<Prepared, Stop>
+    requires fits { ClauseFits (E.context ecx.old).trees (reference_clause trait_ref) }
+    requires takes { Takes (world (E.context ecx.old)) (clause_kind_tree (E.context ecx.old).trees (reference_clause trait_ref)) }
+    requires bounds { IsPreds (E.context ecx.old).trees object_bounds }
+    ensures kept { Keeps E.fixed E.probes E.context ecx.old ecx.new }
+    ensures state { OnOk result (E.state ecx.new ≡ with_instance (E.state ecx.old) (clause_kind_tree (E.context ecx.old).trees (reference_clause trait_ref))) }
+    ensures sort { IfOk result (λ p. IsTy (E.context ecx.new).trees p.object × ClauseListFits (E.context ecx.new).trees p.bounds.items × ClauseListFits (E.context ecx.new).trees p.required.items) }
+    ensures object { IfOk result (λ p. ty_tree (E.context ecx.new).trees p.object ≡ first_tree (fresh_arguments (E.state ecx.old) (clause_kind_tree (E.context ecx.old).trees (reference_clause trait_ref)))) }
+    ensures bounds { IfOk result (λ p. clauses_at (E.context ecx.new).trees p.bounds.items ≡ seen.own_bounds (first_tree (fresh_arguments (E.state ecx.old) (clause_kind_tree (E.context ecx.old).trees (reference_clause trait_ref)))) (preds_forest (E.context ecx.old).trees object_bounds)) }
+    ensures required { IfOk result (λ p. AreRequirements (E.context ecx.old) trait_ref.value.def_id.0 (fresh_arguments (E.state ecx.old) (clause_kind_tree (E.context ecx.old).trees (reference_clause trait_ref))) (clauses_at (E.context ecx.new).trees p.required.items)) }
+{
+    ecx.cx().well_formed_table();
+    let reference = instance(alloc, ecx, trait_ref)?;
+    let object = self_ty(ecx.cx(), reference);
+    let bounds = bounds_of(alloc, ecx, object, object_bounds)?;
+    let required = required(alloc, ecx, reference)?;
+    ecx.cx().well_formed();
+    Ok(Prepared {
+        object,
+        bounds,
+        required,
+    })
+}
+
 /// The clauses as goals in the environment.
 fn goals(alloc: Global, env: ParamEnv, clauses: &[Clause]) -> Result<Vec<Goal<Clause>>, Stop>
     ensures { IfOk result (λ v. v.items ≡ goals_in env clauses.now) }
@@ -169,13 +208,8 @@ pub fn predicates_for_object_candidate<E: EvalCtxt>(
     ensures asked { IfOk result (λ v. AreAsked (E.judge (E.fixed ecx.old)) (env_forest (E.context ecx.old).trees env) (E.context ecx.old) (E.state ecx.old) trait_ref.value.def_id.0 (clause_kind_tree (E.context ecx.old).trees (reference_clause trait_ref)) (preds_forest (E.context ecx.old).trees object_bounds) (map (goal_of (E.context ecx.new).trees) v.items) (E.state ecx.new)) }
     ensures ambiguous { IfErr result (λ e. e ≡ AmbiguousOrStop.Ambiguous → AreUnknown (E.judge (E.fixed ecx.old)) (env_forest (E.context ecx.old).trees env) (E.context ecx.old) (E.state ecx.old) trait_ref.value.def_id.0 (clause_kind_tree (E.context ecx.old).trees (reference_clause trait_ref)) (preds_forest (E.context ecx.old).trees object_bounds)) }
 {
-    ecx.cx().well_formed_table();
-    let trait_ref = instance(alloc, ecx, trait_ref)?;
-    let object = self_ty(ecx.cx(), trait_ref);
-    let bounds = bounds_of(alloc, ecx, object, object_bounds)?;
-    let required = required(alloc, ecx, trait_ref)?;
-    ecx.cx().well_formed();
-    let (bounds, required) = (bounds.as_slice(), required.as_slice());
-    let clauses = replaced(alloc, ecx, env, object, bounds, required)?;
+    let prepared = prepare(alloc, ecx, trait_ref, object_bounds)?;
+    let (bounds, required) = (prepared.bounds.as_slice(), prepared.required.as_slice());
+    let clauses = replaced(alloc, ecx, env, prepared.object, bounds, required)?;
     Ok(goals(alloc, env, clauses.as_slice())?)
 }

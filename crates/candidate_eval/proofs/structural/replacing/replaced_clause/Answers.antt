@@ -1,8 +1,10 @@
-use Rattle.std.proofs.Common.{◌≡◌, sym, ◌∙◌, ap, subst}
+use Rattle.std.proofs.Common.{◌≡◌, List, sym, ◌∙◌, ap, subst}
+use Rattle.candidate_ir.specs.declared.ir.kinds.Ty.{Ty}
+use Rattle.candidate_ir.specs.Context.{Context}
 use Rattle.candidate_ir.specs.Words.{clause_tree, env_forest}
 use Rattle.candidate_ir.proofs.Joining.{clause-kept}
 use Rattle.candidate_ir.proofs.Kept.{ty-kept}
-use Rattle.candidate_eval.specs.Replacing.{clauses_at, projections_at, types_at}
+use Rattle.candidate_eval.specs.Replacing.{Picks, clauses_at, finds_own, projections, projections_at, types_at}
 use Rattle.candidate_eval.proofs.Picking.{replaced-by}
 use Rattle.candidate_eval.proofs.Responding.{clauses-kept}
 use Rattle.candidate_eval.proofs.structural.replacing.replaced_clause.Goals as goal
@@ -24,6 +26,10 @@ returns-clause-replaced g c =
     let new = c.filled.new.ecx in
     let start = g.E.Make.context old in
     let after = g.E.Make.context mid in
+    let found = c.in_ok-projections.projections.items in
+    let listed = subst (λ (y : Context). projections_at y.trees found ≡ projections (finds_own y.trees c.args.object c.args.bounds.now) (clause_tree y.trees c.args.clause).children) c.cx.ensures c.in_ok-projections.ensures.projections in
+    let picked = subst (λ (us : List Ty). Picks (E.judge (E.fixed old)) (env_forest start.trees c.args.env) (clauses_at start.trees c.args.bounds.now) (E.state old) (projections_at start.trees c.as_slice.result.now)
+    (types_at after.trees us) (E.state mid)) (sym c.as_slice-2.ensures.value) c.in_ok-terms.ensures.picked in
     replaced-by (E.judge (E.fixed old)) (env_forest start.trees c.args.env) start after c.args.object c.args.bounds.now c.args.clause (clause_tree (g.E.Make.context new).trees c.in_ok-filled.field-0) _ _ (E.state old)
-    (E.state mid) (E.state new) c.pick_all.ensures.kept.2 c.requires.object c.requires.bounds c.requires.clause c.in_ok-projections.ensures.projections c.in_ok-terms.ensures.picked c.filled.ensures.same
+    (E.state mid) (E.state new) c.pick_all.ensures.kept.2 c.requires.object c.requires.bounds c.requires.clause (ap (projections_at start.trees) c.as_slice.ensures.value ∙ listed) picked c.filled.ensures.same
     c.in_ok-filled.ensures.tree

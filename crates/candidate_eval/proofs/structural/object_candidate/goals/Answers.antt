@@ -1,0 +1,20 @@
+use Rattle.std.proofs.Common.{◌≡◌, [], ◌∷◌, ◌++◌, List, get_or, sym, ◌∙◌, ap}
+use Rattle.std.proofs.lemmas.List.{map_more, take_all}
+use Rattle.candidate_ir.specs.declared.ir.kinds.Clause.{Clause}
+use Rattle.candidate_ir.specs.declared.ir.kinds.Goal.{Goal}
+use Rattle.candidate_eval.specs.ObjectRequirements.{goals_in}
+use Rattle.candidate_eval.proofs.ObjectCandidates.{goal_with}
+use Rattle.candidate_eval.proofs.structural.object_candidate.goals.Goals as goal
+
+pub loop-clause-init : goal.loop-clause-init
+loop-clause-init c = c.new-list.ensures.items
+
+pub loop-clause-preserved : goal.loop-clause-preserved
+loop-clause-preserved c =
+    let past : Clause = record { 0 = 0 } in
+    let x = get_or c.args.clauses.now c.loop-clause.clause-index past in
+    c.in_ok-push.ensures.items
+    ∙ (ap (λ (gs : List (Goal Clause)). gs ++ goal_with c.args.env x ∷ []) c.loop-clause.invariant ∙ sym (map_more (goal_with c.args.env) c.args.clauses.now c.loop-clause.clause-index past c.loop-clause-test.true))
+
+pub returns : goal.returns
+returns c = c.loop-clause.invariant ∙ ap (goals_in c.args.env) (take_all c.loop-clause.clause-index c.args.clauses.now c.loop-clause-test.false)
