@@ -44,6 +44,8 @@ mod large;
 #[cfg(test)]
 mod listed;
 #[cfg(test)]
+mod making;
+#[cfg(test)]
 mod merging;
 #[cfg(test)]
 mod normalisers;
