@@ -2,9 +2,11 @@
 
 ghost use Rattle.std.specs.Prelude.{◌≡◌};
 ghost use Rattle.candidate_ir.specs.Context.{Grows};
+ghost use Rattle.candidate_ir.specs.Folds.{IsArg};
 ghost use Rattle.candidate_ir.specs.Words.{IsParamEnv, IsTy};
 
 use crate::asserts::{equals, equals_in_row, holds};
+use crate::heads::head_at;
 use crate::listed;
 use crate::reading::{Reader, Reading};
 use crate::samples::declared;
@@ -12,10 +14,11 @@ use candidate_eval::eval::ambiguity::{bail_with_ambiguity, flounder};
 use candidate_eval::eval::certainty::Certainty;
 use candidate_eval::eval::context::{EvalCtxt, ProbeKind};
 use candidate_eval::eval::refusal::NoSolutionOrStop;
+use candidate_eval::eval::response::CanonicalResponse;
 use candidate_eval::eval::variable::VariableKind;
 use candidate_ir::decl::context::Cx;
-use candidate_ir::ir::heads::VariableSort;
-use candidate_ir::ir::kinds::{GenericArg, ParamEnv, Ty, VarKind};
+use candidate_ir::ir::heads::{Head, VariableSort};
+use candidate_ir::ir::kinds::{GenericArg, ParamEnv, Placeholder, RegionKind, Ty, VarKind};
 use candidate_rounds::rounds::Rounds;
 use std::alloc::Global;
 use std::process::Abort;
@@ -47,6 +50,28 @@ fn over(rt: &impl Abort, alloc: Global, cx: Cx, first: VariableKind, second: Var
     rounds
 }
 
+/// Two sides are made equal: the response then, or nothing where it is refused.
+fn answered(
+    rt: &impl Abort,
+    alloc: Global,
+    rounds: &mut Rounds,
+    env: ParamEnv,
+    left: GenericArg,
+    right: GenericArg,
+) -> Option<CanonicalResponse>
+    requires env { IsParamEnv rounds.old.context.trees env }
+    requires left { IsArg rounds.old.context.trees left }
+    requires right { IsArg rounds.old.context.trees right }
+    ensures { Grows rounds.old.context rounds.new.context }
+{
+    if let Err(error) = EvalCtxt::eq(rounds, env, left, right) {
+        equals(rt, &error, &NoSolutionOrStop::NoSolution, "a refusal");
+        return None;
+    }
+    let response = rounds.make_canonical_response(alloc, Certainty::Yes);
+    Some(response.expect(rt, "a response"))
+}
+
 /// Two types are made equal: how many constraints of regions are recorded then, or nothing where it is refused.
 fn equated(
     rt: &impl Abort,
@@ -61,14 +86,8 @@ fn equated(
     requires right { IsTy rounds.old.context.trees right }
     ensures { Grows rounds.old.context rounds.new.context }
 {
-    let equal = EvalCtxt::eq(rounds, env, GenericArg::Ty(left), GenericArg::Ty(right));
-    if let Err(error) = equal {
-        equals(rt, &error, &NoSolutionOrStop::NoSolution, "a refusal");
-        return None;
-    }
-    let response = rounds
-        .make_canonical_response(alloc, Certainty::Yes)
-        .expect(rt, "a response");
+    let (left, right) = (GenericArg::Ty(left), GenericArg::Ty(right));
+    let response = answered(rt, alloc, rounds, env, left, right)?;
     Some(response.regions.len())
 }
 
@@ -341,6 +360,141 @@ fn keeps_newer_placeholders_out_of_values(rt: HostRuntime) {
         Row("?2 ? both", "! u8 both", accepted),
     ];
     check_rows(&rt, rt.alloc(), &rows);
+}
+
+/// What is made equal first, which is accepted, and next: how many constraints of regions are recorded then, or nothing where it is refused.
+#[derive(Clone, Copy)]
+struct Next<'a>((&'a str, &'a str), (&'a str, &'a str), Option<usize>);
+
+/// The row, where both root variables are of that kind, and all four sides of the other one.
+fn check_next(
+    rt: &impl Abort,
+    alloc: Global,
+    roots: VariableKind,
+    kind: VarKind,
+    row: Next<'_>,
+    number: usize,
+) {
+    let mut reader = Reader::new(rt, alloc);
+    let env = reader.env_of(rt, &[]);
+    let left = reader.arg(rt, kind, row.0.0);
+    let right = reader.arg(rt, kind, row.0.1);
+    let next_left = reader.arg(rt, kind, row.1.0);
+    let next_right = reader.arg(rt, kind, row.1.1);
+    let mut rounds = over(rt, alloc, reader.cx, roots, roots);
+    let accepted = answered(rt, alloc, &mut rounds, env, left, right).is_some();
+    equals_in_row(rt, &accepted, &true, number);
+    let recorded = match answered(rt, alloc, &mut rounds, env, next_left, next_right) {
+        Some(response) => Some(response.regions.len()),
+        None => None,
+    };
+    equals_in_row(rt, &recorded, &row.2, number);
+}
+
+#[test]
+fn makes_constants_equal_that_stand_alone(rt: HostRuntime) {
+    let (accepted, refused) = (Some(0), None);
+    let rows = [
+        Next(("#3", "#3"), ("#p1", "#p1"), accepted),
+        Next(("#3", "#3"), ("#3", "#4"), refused),
+        Next(("#3", "#3"), ("#!", "#?"), refused),
+        Next(("#!", "#!"), ("#?", "u8 #length"), accepted),
+        // A variable that has a value already.
+        Next(("#?", "#3"), ("#?", "#3"), accepted),
+        Next(("#?", "#3"), ("#4", "#?"), refused),
+        Next(("#?", "#3"), ("#?1", "#?"), accepted),
+        Next(("#?1", "#?"), ("#?", "#3"), accepted),
+    ];
+    for (number, row) in rows.iter().enumerate() {
+        check_next(&rt, rt.alloc(), CONSTANT, VarKind::Const, *row, number);
+    }
+}
+
+#[test]
+fn makes_regions_equal_that_stand_alone(rt: HostRuntime) {
+    let rows = [
+        Next(("'static", "'static"), ("'!", "'!"), Some(0)),
+        Next(("'?", "'?"), ("'?", "'?1"), Some(2)),
+        Next(("'?", "'?"), ("'static", "'!"), Some(2)),
+        // A region gets no value: what is recorded stands beside what was.
+        Next(("'?", "'static"), ("'?", "'static"), Some(4)),
+        Next(("'?", "'static"), ("'!", "'?"), Some(4)),
+        Next(("'?", "'static"), ("'?", "'?"), Some(2)),
+    ];
+    let region = VariableKind::Region;
+    for (number, row) in rows.iter().enumerate() {
+        check_next(&rt, rt.alloc(), region, VarKind::Region, *row, number);
+    }
+}
+
+/// Two types or regions, and which region is recorded to outlive which when they are equal, in order.
+#[derive(Clone, Copy)]
+struct Recorded<'a>(VarKind, &'a str, &'a str, &'a [(RegionKind, RegionKind)]);
+
+fn check_recorded(rt: &impl Abort, alloc: Global, row: Recorded<'_>, number: usize) {
+    let mut reader = Reader::new(rt, alloc);
+    let env = reader.env_of(rt, &[]);
+    let left = reader.arg(rt, row.0, row.1);
+    let right = reader.arg(rt, row.0, row.2);
+    let region = VariableKind::Region;
+    let mut rounds = over(rt, alloc, reader.cx, region, region);
+    let response = answered(rt, alloc, &mut rounds, env, left, right);
+    let recorded = response.expect(rt, "a response").regions;
+    equals_in_row(rt, &recorded.len(), &row.3.len(), number);
+    for (clause, (longer, shorter)) in recorded.iter().zip(row.3) {
+        // The first place is that of the binder's variables.
+        let first = head_at(rt, rounds.cx(), clause.0, 1);
+        let is_longer = first == Some(Head::Region(*longer));
+        equals_in_row(rt, &is_longer, &true, number);
+        let second = head_at(rt, rounds.cx(), clause.0, 2);
+        let is_shorter = second == Some(Head::Region(*shorter));
+        equals_in_row(rt, &is_shorter, &true, number);
+    }
+}
+
+/// The placeholder that is the first of its universe.
+fn placeholder(universe: u32) -> RegionKind {
+    RegionKind::Placeholder(Placeholder { universe, index: 0 })
+}
+
+#[test]
+fn records_that_each_region_outlives_the_other(rt: HostRuntime) {
+    let (ty, region) = (VarKind::Ty, VarKind::Region);
+    let (first, second) = (RegionKind::Var(0), RegionKind::Var(1));
+    let fixed = RegionKind::Static;
+    let (older, newer) = (placeholder(1), placeholder(2));
+    let rows = [
+        Recorded(region, "'!", "'!", &[]),
+        Recorded(region, "'?", "'static", &[(first, fixed), (fixed, first)]),
+        Recorded(region, "'static", "'?", &[(fixed, first), (first, fixed)]),
+        Recorded(
+            ty,
+            "'? guard",
+            "'?1 guard",
+            &[(first, second), (second, first)],
+        ),
+        Recorded(
+            ty,
+            "u8 '? ref '?1 ref",
+            "u8 '! ref 'static ref",
+            &[
+                (second, fixed),
+                (fixed, second),
+                (first, older),
+                (older, first),
+            ],
+        ),
+        // A placeholder stands for what a binder binds.
+        Recorded(
+            ty,
+            "u8 '^0 ref region_binder",
+            "u8 '! ref region_binder",
+            &[(newer, older), (older, newer)],
+        ),
+    ];
+    for (number, row) in rows.iter().enumerate() {
+        check_recorded(&rt, rt.alloc(), *row, number);
+    }
 }
 
 /// Two types are made equal, and the root variables stand for these two then.

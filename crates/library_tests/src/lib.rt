@@ -34,6 +34,8 @@ mod folds;
 #[cfg(test)]
 mod functions;
 #[cfg(test)]
+mod heads;
+#[cfg(test)]
 mod impls;
 #[cfg(test)]
 mod kinds;
@@ -41,6 +43,8 @@ mod kinds;
 mod large;
 #[cfg(test)]
 mod listed;
+#[cfg(test)]
+mod making;
 #[cfg(test)]
 mod merging;
 #[cfg(test)]
@@ -52,6 +56,8 @@ mod opening;
 #[cfg(test)]
 mod parts;
 #[cfg(test)]
+mod pending;
+#[cfg(test)]
 mod reading;
 #[cfg(test)]
 mod rejections;
@@ -61,6 +67,8 @@ mod responses;
 mod samples;
 #[cfg(test)]
 mod settling;
+#[cfg(test)]
+mod small_evaluator;
 #[cfg(test)]
 mod states;
 #[cfg(test)]

@@ -3,6 +3,7 @@
 
 ghost use Rattle.std.specs.Prelude.{◌≡◌, [], IfSome};
 ghost use Rattle.candidate_ir.specs.Context.{Grows};
+ghost use Rattle.candidate_ir.specs.Folds.{IsArg};
 ghost use Rattle.candidate_ir.specs.Kinds.{ty_children, const_children};
 ghost use Rattle.candidate_ir.specs.Words.{IsTy, IsConst, IsRegion, IsArgs, IsVars, IsPreds, IsSig, IsClause, IsParamEnv, KindFits, ConstKindFits, ListFits, ClauseFits, ClauseListFits};
 
@@ -752,6 +753,20 @@ impl Reader {
     {
         self.read(rt, Reading::Parameters, word);
         self.region
+    }
+
+    /// What the words make last of that kind.
+    #[tactic(auto, using(crate::proofs::Kept::kept))]
+    pub fn arg(&mut self, rt: &impl Abort, kind: VarKind, text: &str) -> GenericArg
+        ensures grows { Grows self.old.cx self.new.cx }
+        ensures sort { IsArg self.new.cx.trees result }
+    {
+        self.read(rt, Reading::Parameters, text);
+        match kind {
+            VarKind::Ty => GenericArg::Ty(self.ty),
+            VarKind::Const => GenericArg::Const(self.constant),
+            VarKind::Region => GenericArg::Region(self.region),
+        }
     }
 
     /// A clause under the binder of these variables, of the last types and regions; the list is of the type before the last one.
