@@ -1,6 +1,9 @@
 -- Bounds of an object that are tried one after the other, and the only one that matches.
 use Rattle.std.proofs.Common.{◌≡◌, ℕ, zero, suc, Bool, true, false, ◌&&◌, ◌+◌, ◌<◌, ◌≤◌, get_or, take, length, List, [], ◌∷◌, ◌++◌, map, refl, sym, ◌∙◌, ap, subst, arith}
-use Rattle.std.proofs.lemmas.List.{map_push, map_more, take_all, length-map}
+use Rattle.std.specs.Prelude.{if◌then◌else◌}
+use Rattle.std.specs.List.{filter}
+use Rattle.std.proofs.lemmas.List.{map_push, map_more, take_all, length-map, append-nil}
+use Rattle.std.proofs.lemmas.List.Elements.{filter-append}
 use Rattle.candidate_ir.specs.declared.ir.kinds.Clause.{Clause}
 use Rattle.candidate_ir.specs.Context.{Context, Grows}
 use Rattle.candidate_ir.specs.Nodes.{kind_at}
@@ -10,7 +13,7 @@ use Rattle.candidate_ir.proofs.Joining.{clause-kept}
 use Rattle.candidate_ir.proofs.Kept.{grows-refl, grows-trans}
 use Rattle.candidate_ir.proofs.Listing.{pushed_fits}
 use Rattle.candidate_eval.specs.Lawful.{Lawful}
-use Rattle.candidate_eval.specs.Objects.{Projection, Tried, bound_equated, bound_matches, is_about}
+use Rattle.candidate_eval.specs.Objects.{IsExact, IsPicked, IsPickedAtOnce, Projection, Tried, bound_equated, bound_matches, fresh_instance, is_about, term_in}
 use Rattle.candidate_eval.specs.States.{Env, State, Judge}
 use Rattle.candidate_eval.proofs.Responding.{clauses-kept}
 
@@ -136,3 +139,35 @@ only-tried J e p S T cs ts xs x t l i =
 
 pub not-one : (ts : List Tree) (xs : List Clause) (n : ℕ) → n ≡ length xs → (n ≡ 1 → ⊥) → length (map (clause_tree ts) xs) ≡ 1 → ⊥
 not-one ts xs n e h o = h (e ∙ (sym (length-map xs (clause_tree ts)) ∙ o))
+
+-- Where closed probes leave the very state before.
+
+module _ (J : Judge) (e : Env) (p : Projection) (x : IsExact J) where
+  one-kept : (S : State) (cs : List Tree) (c : Tree) → bound_matches J e S c p ≡ true → filter (λ d. bound_matches J e S d p) (cs ++ c ∷ []) ≡ filter (λ d. bound_matches J e S d p) cs ++ c ∷ []
+  one-kept S cs c m = filter-append (λ d. bound_matches J e S d p) cs (c ∷ []) ∙ ap (λ (b : Bool). filter (λ d. bound_matches J e S d p) cs ++ (if b then c ∷ [] else [])) m
+
+  one-left : (S : State) (cs : List Tree) (c : Tree) → bound_matches J e S c p ≡ false → filter (λ d. bound_matches J e S d p) (cs ++ c ∷ []) ≡ filter (λ d. bound_matches J e S d p) cs
+  one-left S cs c m =
+      filter-append (λ d. bound_matches J e S d p) cs (c ∷ [])
+      ∙ (ap (λ (b : Bool). filter (λ d. bound_matches J e S d p) cs ++ (if b then c ∷ [] else [])) m ∙ append-nil (filter (λ d. bound_matches J e S d p) cs))
+
+  pub tried-at-once : {S T : State} {cs ds : List Tree} → Tried J e p S cs ds T → (T ≡ S) × (ds ≡ filter (λ c. bound_matches J e S c p) cs)
+  tried-at-once Tried.none_yet = (refl, refl)
+  tried-at-once {S = S} (Tried.found T c cs ds {U} t m a) =
+      let s = tried-at-once t in
+      let here : bound_matches J e S c p ≡ true = sym (ap (λ (R : State). bound_matches J e R c p) s.0) ∙ m in
+      (x T U a ∙ s.0, ap (λ (es : List Tree). es ++ c ∷ []) s.1 ∙ sym (one-kept S cs c here))
+  tried-at-once {S = S} (Tried.passed T c cs ds {U} t m a) =
+      let s = tried-at-once t in
+      let here : bound_matches J e S c p ≡ false = sym (ap (λ (R : State). bound_matches J e R c p) s.0) ∙ m in
+      (x T U a ∙ s.0, s.1 ∙ sym (one-left S cs c here))
+
+  pub picked-at-once : {S T : State} {cs : List Tree} {t : Tree} → IsPicked J e p S cs t T → IsPickedAtOnce J e p S cs t T
+  picked-at-once {S = S} {T = T} {t = t} r =
+      let s = tried-at-once r.tried in
+      record {
+        bound = r.bound;
+        only = sym s.1;
+        equated = sym (ap (λ (R : State). bound_equated J e R r.bound p.arguments) s.0) ∙ r.equated;
+        is = r.is ∙ ap (λ (R : State). term_in (fresh_instance R r.bound)) s.0;
+      }

@@ -1,5 +1,6 @@
 -- What an object's own bounds say of its associated types.
 use Rattle.std.specs.Prelude.{◌≡◌, ℕ, Bool, true, false, ◌==◌, ◌&&◌, Option, Some, None, List, [], ◌∷◌, ◌++◌, length}
+use Rattle.std.specs.List.{filter}
 use Rattle.candidate_ir.specs.declared.ir.heads.Head.{Head}
 use Rattle.candidate_ir.specs.declared.ir.heads.Head.TheVariants as H
 use Rattle.candidate_ir.specs.declared.ir.heads.PartHead.TheVariants as P
@@ -87,3 +88,15 @@ pub record IsBound (ts : List Tree) (c : Tree) (p : ProjectionPredicate) : Type 
   pub head : c.head ≡ H.Part (P.Clause (Cl.Projection p.projection_term.def_id))
   pub arguments_are : arguments_in c ≡ args_forest ts p.projection_term.args
   pub term_is : term_in c ≡ ty_tree ts p.term
+
+-- Where closed probes leave the very state before, all bounds are tried at one state, at which the only one that matches is
+-- equated.
+
+abbrev pub IsExact : Judge → Type 0
+IsExact J = (S T : State) → J.alike S T → T ≡ S
+
+pub record IsPickedAtOnce (J : Judge) (e : Env) (p : Projection) (S : State) (cs : List Tree) (term : Tree) (T : State) : Type 0 where
+  pub bound : Tree
+  pub only : filter (λ c. bound_matches J e S c p) cs ≡ bound ∷ []
+  pub equated : bound_equated J e S bound p.arguments ≡ Some T
+  pub is : term ≡ term_in (fresh_instance S bound)

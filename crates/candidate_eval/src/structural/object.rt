@@ -6,7 +6,7 @@ ghost use Rattle.candidate_ir.specs.Opening.{opened_clause};
 ghost use Rattle.candidate_ir.specs.Words.{IsArgs, IsClause, IsParamEnv, IsTy, ClauseListFits, args_forest, clause_tree, env_forest, ty_tree};
 ghost use Rattle.candidate_eval.specs.Characterization.{bound_kinds};
 ghost use Rattle.candidate_eval.specs.Evaluators.{Keeps, kinds_listed};
-ghost use Rattle.candidate_eval.specs.Objects.{is_about, IsBound, fresh_instance, with_instance, bound_equated, is_equated, projection_at, term_in, Tried, IsPicked, IsAmbiguous};
+ghost use Rattle.candidate_eval.specs.Objects.{is_about, IsBound, fresh_instance, with_instance, bound_equated, is_equated, projection_at, term_in, Tried, IsPicked, IsPickedAtOnce, IsExact, IsAmbiguous};
 ghost use Rattle.candidate_eval.specs.Objects as seen;
 ghost use Rattle.candidate_eval.specs.declared.structural.object.AmbiguousOrStop.TheVariants as ambiguous;
 
@@ -226,6 +226,9 @@ pub fn pick_bound<E: EvalCtxt>(
     ensures sort { IfOk result (λ t. IsTy (E.context ecx.new).trees t) }
     ensures picked { IfOk result (λ t. IsPicked (E.judge (E.fixed ecx.old)) (env_forest (E.context ecx.old).trees env) (projection_at (E.context ecx.old).trees projection) (E.state ecx.old) (map (clause_tree (E.context ecx.old).trees) bounds.now) (ty_tree (E.context ecx.new).trees t) (E.state ecx.new)) }
     ensures ambiguous { IfErr result (λ e. e ≡ AmbiguousOrStop.Ambiguous → IsAmbiguous (E.judge (E.fixed ecx.old)) (env_forest (E.context ecx.old).trees env) (projection_at (E.context ecx.old).trees projection) (E.state ecx.old) (map (clause_tree (E.context ecx.old).trees) bounds.now)) }
+
+    // Where closed probes leave the very state before, all bounds are tried at one state.
+    ensures at_once { IsExact (E.judge (E.fixed ecx.old)) → IfOk result (λ t. IsPickedAtOnce (E.judge (E.fixed ecx.old)) (env_forest (E.context ecx.old).trees env) (projection_at (E.context ecx.old).trees projection) (E.state ecx.old) (map (clause_tree (E.context ecx.old).trees) bounds.now) (ty_tree (E.context ecx.new).trees t) (E.state ecx.new)) }
 {
     let found = matching_bounds(alloc, ecx, env, bounds, projection)?;
     if found.len() != 1 {

@@ -7,7 +7,7 @@ use Rattle.candidate_eval.specs.declared.eval.refusal.NoSolutionOrStop.TheVarian
 use Rattle.candidate_eval.specs.Objects.{IsAmbiguous, projection_at}
 use Rattle.candidate_eval.proofs.Objects.{env-kept}
 use Rattle.candidate_eval.proofs.Probing.{of-error}
-use Rattle.candidate_eval.proofs.Tries.{equated-then, not-one, only-tried}
+use Rattle.candidate_eval.proofs.Tries.{equated-then, not-one, only-tried, picked-at-once}
 use Rattle.candidate_eval.proofs.structural.object.pick_bound.Goals as goal
 
 pub returns-then-len-ne1-clause-ambiguous : goal.returns-then-len-ne1-clause-ambiguous
@@ -71,3 +71,8 @@ returns-in-Err-NoSolution-clause-ambiguous g c =
     (args_forest start.trees c.args.projection.args) (args_forest after.trees c.args.projection.args) kept.0 (env-kept start after c.args.env kept.2 c.requires.env).1 (args-kept start after c.args.projection.args kept.2 c.requires.args).1 in
     let is : c.in-Err-NoSolution.field-0 ≡ NoSolution = search rules in
     λ _. IsAmbiguous.refused (E.state mid) (clause_tree after.trees x) only.0 (sym comes ∙ of-error c.equate_bound.result c.in-Err-NoSolution.field-0 _ c.in-Err-NoSolution.is c.equate_bound.ensures.refused is)
+
+pub returns-in-Ok-clause-at_once : goal.returns-in-Ok-clause-at_once
+returns-in-Ok-clause-at_once g c = λ x.
+    picked-at-once (g.E.EvalCtxt.judge (g.E.EvalCtxt.fixed c.args.ecx.now)) (env_forest (g.E.Make.context c.args.ecx.now).trees c.args.env) (projection_at (g.E.Make.context c.args.ecx.now).trees c.args.projection) x
+    (returns-in-Ok-clause-picked g c)
