@@ -1,6 +1,6 @@
 -- What can be called, over the trees of kinds.
 use Rattle.std.proofs.Common.{◌≡◌, ◌↔◌, IsTrue, ◌+◌, ◌≤◌, ℕ, List, [], ◌∷◌, Bool, true, false, not, Option, Some, None, inl, inr, refl, sym, ◌∙◌, ap, subst, arith}
-use Rattle.std.specs.Prelude.{length, drop, map, ◌&&◌, ◌||◌, if◌then◌else◌}
+use Rattle.std.specs.Prelude.{length, drop, ◌&&◌, ◌||◌, if◌then◌else◌}
 use Rattle.std.specs.List.{list_all}
 use Rattle.candidate_ir.specs.declared.decl.definition.FnFlags.{FnFlags}
 use Rattle.candidate_ir.specs.declared.ir.heads.Builtin.TheVariants as B
@@ -36,7 +36,7 @@ use Rattle.candidate_ir.specs.References.{Takes}
 use Rattle.candidate_ir.specs.Signatures.{SignatureHas}
 use Rattle.candidate_ir.specs.Substitutions.{alone}
 use Rattle.candidate_ir.specs.WellFormed.{SignatureFits}
-use Rattle.candidate_ir.specs.Words.{IsTy, IsArgs, IsVars, IsSig, SigFits, KindFits, ListFits, IsMkStop, list_forest, ty_tree, kind_tree, sig_tree, sig_kind_tree, args_forest}
+use Rattle.candidate_ir.specs.Words.{IsTy, IsArgs, SigFits, KindFits, ListFits, IsMkStop, list_forest, ty_tree, kind_tree, sig_tree, sig_kind_tree, args_forest}
 use Rattle.candidate_ir.specs.Worlds.{FunctionSort, all_of, kinds_of, parameters}
 use Rattle.candidate_ir.proofs.Folding.{or-right}
 use Rattle.candidate_ir.proofs.Lists.{there, below_kind}
@@ -44,10 +44,9 @@ use Rattle.candidate_ir.proofs.Kept.{number-kept, args-kept}
 use Rattle.candidate_ir.proofs.Rows.{join-none, kind-of, row-single, row-list}
 use Rattle.candidate_eval.specs.declared.structural.callable.CallableId.TheVariants as I
 use Rattle.candidate_eval.specs.declared.structural.callable.Called.{Called}
-use Rattle.candidate_eval.specs.declared.structural.callable.Called.TheVariants as W
 use Rattle.candidate_eval.specs.Asked.{kind_known}
 use Rattle.candidate_eval.specs.Tables.{IsTypesStop}
-use Rattle.candidate_eval.specs.Callable.{Callable, Calls, Refused, CalledWith, ConstCalls, ConstRefused, ConstCalledWith, IsMadeStop, IsCallStop, IsConstCallStop, IsCallable, CalledFits, calls, makes, const_calls, const_makes, is_unknown, signature_callable, pointer_callable, pointer_calls, pointer_makes, callable_of, tuple_of, all_but_first, all_but_last, last_tree, last_but_one, are_types, can_be_called, signature_if_callable, function_signature, declared_signature, instance_calls, instance_makes, function_calls, function_makes, closure_calls, called_of, called_calls, called_makes, called_const_calls, called_const_makes, is_const_function, called_there, const_function_calls, const_function_makes, const_closure_calls}
+use Rattle.candidate_eval.specs.Callable.{Callable, Calls, Refused, CalledWith, ConstCalls, ConstRefused, ConstCalledWith, IsMadeStop, IsCallStop, IsConstCallStop, IsCallable, CalledFits, calls, makes, const_calls, const_makes, is_unknown, signature_callable, pointer_callable, pointer_calls, pointer_makes, callable_of, tuple_of, all_but_last, last_tree, last_but_one, are_types, can_be_called, signature_if_callable, function_signature, declared_signature, instance_calls, instance_makes, function_calls, function_makes, closure_calls, called_of, called_calls, called_makes, called_const_calls, called_const_makes, is_const_function, called_there, const_function_calls, const_function_makes, const_closure_calls}
 
 -- A closure's signature
 

@@ -1,5 +1,5 @@
 -- Terms put in the place of projections, by a fold.
-use Rattle.std.proofs.Common.{◌≡◌, ℕ, ◌+◌, false, List, Option, Some, None, Result, Ok, Err, refl, sym, ◌∙◌, ap, subst}
+use Rattle.std.proofs.Common.{◌≡◌, ℕ, false, List, Option, Some, None, Result, Ok, Err, refl, sym, ◌∙◌, ap, subst}
 use Rattle.std.specs.Prelude.{IfOk, option_map}
 use Rattle.std.specs.Fn.{Mut}
 use Rattle.std.specs.Borrow.{MutBor}
@@ -11,7 +11,7 @@ use Rattle.candidate_ir.specs.declared.ir.stop.Stop.{Stop}
 use Rattle.candidate_ir.specs.Context.{Context, Grows}
 use Rattle.candidate_ir.specs.Folds.{Asks, FoldsBy, IsReached, arg_tree, by_call, by_nodes, ended, here, is_asked, made, node, opened, passed, replaced}
 use Rattle.candidate_ir.specs.Substitutions.{alone}
-use Rattle.candidate_ir.specs.Trees.{Forest, none, tree, Tree, binders_of}
+use Rattle.candidate_ir.specs.Trees.{Forest, none, tree, Tree}
 use Rattle.candidate_ir.specs.WellFormed.{TypesFit}
 use Rattle.candidate_ir.specs.Words.{ClauseListFits, IsTy, ty_tree}
 use Rattle.candidate_ir.proofs.FoldSteps.{folds-reached, reached-then}

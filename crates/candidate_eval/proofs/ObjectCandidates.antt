@@ -1,7 +1,6 @@
 -- What object candidates ask for.
-use Rattle.std.proofs.Common.{rules, ◌≡◌, ℕ, List, [], ◌∷◌, ◌++◌, Option, Some, None, All, map, refl, sym, ◌∙◌, ap, subst}
+use Rattle.std.proofs.Common.{rules, ◌≡◌, ℕ, List, [], ◌∷◌, Option, Some, None, All, map, refl, sym, ◌∙◌, ap, subst}
 use Rattle.std.proofs.lemmas.List.Elements.{All-cons}
-use Rattle.candidate_ir.specs.declared.ir.kinds.Args.{Args}
 use Rattle.candidate_ir.specs.declared.ir.kinds.Binder.{Binder}
 use Rattle.candidate_ir.specs.declared.ir.kinds.Clause.{Clause}
 use Rattle.candidate_ir.specs.declared.ir.kinds.ClauseKind.{ClauseKind}
@@ -14,15 +13,15 @@ use Rattle.candidate_ir.specs.declared.ir.kinds.PredicatePolarity.TheVariants as
 use Rattle.candidate_ir.specs.declared.ir.kinds.TraitPredicate.{TraitPredicate}
 use Rattle.candidate_ir.specs.declared.ir.kinds.TraitRef.{TraitRef}
 use Rattle.candidate_ir.specs.declared.ir.kinds.Ty.{Ty}
-use Rattle.candidate_ir.specs.Context.{Context, Grows, world}
+use Rattle.candidate_ir.specs.Context.{Context, world}
 use Rattle.candidate_ir.specs.Elaboration.{said, said_if}
-use Rattle.candidate_ir.specs.Kinds.{clause_head, fact_children, numbers}
+use Rattle.candidate_ir.specs.Kinds.{fact_children, numbers}
 use Rattle.candidate_ir.specs.Nodes.{kind_at, rows, tree_at, trees_at}
 use Rattle.candidate_ir.specs.References.{ArgumentsFit, IsWellFormed}
 use Rattle.candidate_ir.specs.Trees.{Kind, TypeKind, ConstantKind, RegionKind, ArgumentsKind, Forest, none, tree, Tree, kind_of}
-use Rattle.candidate_ir.specs.Words.{IsArgs, IsClause, IsParamEnv, IsTy, ClauseFits, ClauseListFits, ListFits, args_forest, clause_kind_tree, clause_tree, env_forest, list_forest, ty_tree, vars_tree}
+use Rattle.candidate_ir.specs.Words.{IsArgs, IsClause, IsParamEnv, IsTy, ClauseFits, ClauseListFits, ListFits, args_forest, clause_kind_tree, clause_tree, env_forest, list_forest, ty_tree}
 use Rattle.candidate_ir.specs.Worlds.{TraitSort, joined, kinds_of, parameters}
-use Rattle.candidate_ir.proofs.Joining.{below_binder, clause-over, over}
+use Rattle.candidate_ir.proofs.Joining.{below_binder, clause-over}
 use Rattle.candidate_ir.proofs.Rows.{join-none, kind-of, row-list, row-single}
 use Rattle.candidate_ir.proofs.Saying.{said_fits, said_takes}
 use Rattle.candidate_eval.specs.Asked.{first_ty}

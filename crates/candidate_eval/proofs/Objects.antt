@@ -1,8 +1,6 @@
 -- Bounds of objects, as they are read and instantiated.
-use Rattle.std.proofs.Common.{rules, ◌≡◌, ℕ, Bool, true, false, ◌==◌, ◌&&◌, List, [], ◌∷◌, ◌++◌, Option, Some, None, map, refl, sym, ◌∙◌, ap, subst}
+use Rattle.std.proofs.Common.{rules, ◌≡◌, ℕ, Bool, true, ◌==◌, ◌&&◌, List, [], ◌∷◌, ◌++◌, map, refl, sym, ◌∙◌, ap, subst}
 use Rattle.candidate_ir.specs.declared.ir.heads.Head.{Head}
-use Rattle.candidate_ir.specs.declared.ir.heads.Head.TheVariants as H
-use Rattle.candidate_ir.specs.declared.ir.heads.PartHead.TheVariants as P
 use Rattle.candidate_ir.specs.declared.ir.heads.ClauseHead.TheVariants as Cl
 use Rattle.candidate_ir.specs.declared.ir.kinds.Binder.{Binder}
 use Rattle.candidate_ir.specs.declared.ir.kinds.Clause.{Clause}
@@ -16,7 +14,6 @@ use Rattle.candidate_ir.specs.Kinds.{clause_head, fact_children, numbers}
 use Rattle.candidate_ir.specs.Nodes.{tree_at, trees_at, rows}
 use Rattle.candidate_ir.specs.Opening.{under_variables}
 use Rattle.candidate_ir.specs.Substitutions.{alone}
-use Rattle.candidate_ir.specs.Supers.{after_first}
 use Rattle.candidate_ir.specs.Trees.{TypeKind, ArgumentsKind, ClausesKind, Forest, none, tree, Tree, join}
 use Rattle.candidate_ir.specs.Words.{IsArgs, IsTy, IsParamEnv, ClauseFits, args_forest, clause_tree, clause_kind_tree, env_forest, ty_tree, vars_tree, var_kind_tree}
 use Rattle.candidate_ir.proofs.Joining.{below_binder, clause-over, over}

@@ -1,6 +1,6 @@
 -- Terms that bounds give for projections, one after the other.
 use Rattle.std.proofs.Common.{◌≡◌, ℕ, zero, suc, ◌+◌, ◌<◌, ◌≤◌, get_or, take, drop, length, List, [], ◌∷◌, ◌++◌, map, refl, sym, ◌∙◌, ap, subst, arith}
-use Rattle.std.proofs.lemmas.List.{map_push, map_more, take_all, length-map, append-nil}
+use Rattle.std.proofs.lemmas.List.{map_push, map_more, take_all}
 use Rattle.candidate_ir.specs.declared.ir.kinds.AliasTerm.{AliasTerm}
 use Rattle.candidate_ir.specs.declared.ir.kinds.Clause.{Clause}
 use Rattle.candidate_ir.specs.declared.ir.kinds.Ty.{Ty}

@@ -1,6 +1,5 @@
 -- What an evaluator answers to a goal, and what that says of the variables.
-use Rattle.std.specs.Prelude.{ℕ, suc, Bool, true, false, ◌==◌, ◌&&◌, Option, Some, None, List, [], ◌∷◌}
-use Rattle.candidate_ir.specs.declared.ir.heads.Head.{Head}
+use Rattle.std.specs.Prelude.{ℕ, suc, Bool, true, false, ◌&&◌, List, [], ◌∷◌}
 use Rattle.candidate_ir.specs.Trees.{Forest, none, tree, Tree, is_number}
 use Rattle.candidate_eval.specs.declared.eval.source.CandidateSource.{CandidateSource}
 use Rattle.candidate_eval.specs.declared.eval.variable.CanonicalVar.{CanonicalVar}

@@ -102,12 +102,7 @@ fn is_own(cx: &Cx, object: Ty, bounds: &[Clause], projection: AliasTerm) -> bool
 }
 
 /// The projection that the argument is: of the object's own type, where one of the bounds is about its associated type.
-fn own_projection(
-    cx: &Cx,
-    object: Ty,
-    bounds: &[Clause],
-    arg: GenericArg,
-) -> Option<AliasTerm>
+fn own_projection(cx: &Cx, object: Ty, bounds: &[Clause], arg: GenericArg) -> Option<AliasTerm>
     requires object { IsTy cx.now.trees object }
     requires bounds { ClauseListFits cx.now.trees bounds.now }
     requires arg { IsArg cx.now.trees arg }
@@ -334,14 +329,7 @@ fn replaced_clause<E: EvalCtxt>(
 {
     let projections = own_projections(alloc, ecx.cx(), object, bounds, clause)?;
     let terms = pick_all(alloc, ecx, env, bounds, projections.as_slice())?;
-    Ok(filled(
-        alloc,
-        ecx,
-        object,
-        bounds,
-        clause,
-        terms.as_slice(),
-    )?)
+    Ok(filled(alloc, ecx, object, bounds, clause, terms.as_slice())?)
 }
 
 /// Puts a clause at a list's end. The only stop is `Stop::Memory`.

@@ -1,4 +1,4 @@
-use Rattle.std.proofs.Common.{◌≡◌, IfOk, sym, ◌∙◌, ap, subst}
+use Rattle.std.proofs.Common.{◌≡◌, ◌∙◌, ap, subst}
 use Rattle.candidate_ir.specs.Context.{Context}
 use Rattle.candidate_eval.specs.Characterization.{bound_kinds}
 use Rattle.std.proofs.lemmas.Result.{IfOk-weaker}

@@ -1,6 +1,6 @@
 use Rattle.std.proofs.Common.{rules, ◌≡◌, true, false, [], ◌∷◌, ◌++◌, refl, ◌∙◌, ap, subst}
 use Rattle.candidate_ir.specs.Trees.{Forest}
-use Rattle.candidate_ir.specs.Words.{args_forest, clause_tree, env_forest}
+use Rattle.candidate_ir.specs.Words.{env_forest}
 use Rattle.candidate_ir.proofs.Kept.{args-kept}
 use Rattle.candidate_eval.specs.Objects.{Projection, projection_at}
 use Rattle.candidate_eval.proofs.Objects.{env-kept}

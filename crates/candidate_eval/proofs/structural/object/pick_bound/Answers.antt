@@ -1,5 +1,4 @@
-use Rattle.std.proofs.Common.{rules, ◌≡◌, length, sym, ◌∙◌, subst}
-use Rattle.candidate_ir.specs.Context.{Context}
+use Rattle.std.proofs.Common.{rules, ◌≡◌, length, sym, ◌∙◌}
 use Rattle.candidate_ir.specs.Words.{args_forest, clause_tree, env_forest}
 use Rattle.candidate_ir.proofs.Kept.{args-kept}
 use Rattle.std.specs.Prelude.{map}

@@ -1,4 +1,4 @@
-use Rattle.std.proofs.Common.{◌≡◌, List, All, map, sym, ◌∙◌, ap, subst}
+use Rattle.std.proofs.Common.{List, All, map, sym, ◌∙◌, ap, subst}
 use Rattle.std.proofs.lemmas.Result.{err_from_is_err_and}
 use Rattle.candidate_ir.specs.declared.ir.kinds.Clause.{Clause}
 use Rattle.candidate_ir.specs.Words.{ClauseListFits, clause_kind_tree, env_forest, preds_forest, ty_tree}

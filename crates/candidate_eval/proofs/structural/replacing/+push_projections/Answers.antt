@@ -1,7 +1,6 @@
-use Rattle.std.proofs.Common.{rules, ◌≡◌, ◌++◌, ◌∷◌, [], Some, None, sym, ◌∙◌, ap, arith, ◌+◌, suc, ℕ}
+use Rattle.std.proofs.Common.{rules, ◌≡◌, ◌++◌, ◌∷◌, [], None, ◌∙◌, ap, arith, ◌+◌, suc, ℕ}
 use Rattle.candidate_ir.specs.Nodes.{tree_at}
 use Rattle.candidate_ir.specs.Trees.{skip, tree}
-use Rattle.candidate_eval.specs.Objects.{projection_at}
 use Rattle.candidate_eval.specs.Replacing.{AreProjections, finds_own, projections, projections_at}
 use Rattle.candidate_eval.proofs.Replacing.{one-below, one-found}
 use Rattle.candidate_eval.proofs.structural.replacing.+push_projections.Goals.{in-Some-own_projection_at+in_ok-push-in-Some-own_projection_at, in-None+in_ok-push_projections-in-None}

@@ -1,10 +1,8 @@
-use Rattle.std.proofs.Common.{rules, ◌≡◌, List, Option, refl, sym, ◌∙◌, ap, subst}
+use Rattle.std.proofs.Common.{rules, ◌≡◌, refl, sym, ◌∙◌, ap}
 use Rattle.std.specs.Prelude.{option_map}
-use Rattle.candidate_ir.specs.declared.ir.kinds.GenericArg.{GenericArg}
 use Rattle.candidate_ir.specs.Folds.{arg_tree, here}
-use Rattle.candidate_ir.specs.Trees.{Tree}
 use Rattle.candidate_ir.specs.WellFormed.{TypesFit}
-use Rattle.candidate_ir.specs.Words.{ClauseListFits, IsTy, clause_tree, ty_tree}
+use Rattle.candidate_ir.specs.Words.{clause_tree, ty_tree}
 use Rattle.candidate_ir.proofs.FoldLaws.{reached-keeps}
 use Rattle.candidate_ir.proofs.Kept.{ty-kept}
 use Rattle.candidate_eval.specs.Replacing.{answered, finds_own, left_by, types_at, clauses_at}

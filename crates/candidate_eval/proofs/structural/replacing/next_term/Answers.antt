@@ -1,6 +1,4 @@
-use Rattle.std.proofs.Common.{rules, ◌≡◌, ◌∷◌, None, sym, subst}
-use Rattle.candidate_ir.specs.Kinds.{arg_kind}
-use Rattle.candidate_ir.specs.Trees.{TypeKind}
+use Rattle.std.proofs.Common.{rules, ◌≡◌, ◌∷◌, subst}
 use Rattle.candidate_ir.specs.WellFormed.{TypesFit}
 use Rattle.candidate_eval.proofs.Replacing.{first-type-fits, is-a-type}
 use Rattle.candidate_eval.proofs.structural.replacing.next_term.Goals as goal

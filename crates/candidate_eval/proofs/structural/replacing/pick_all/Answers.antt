@@ -1,8 +1,7 @@
-use Rattle.std.proofs.Common.{rules, ◌≡◌, refl, sym, ◌∙◌}
+use Rattle.std.proofs.Common.{refl, sym, ◌∙◌}
 use Rattle.std.proofs.lemmas.Result.{err_from_is_err_and}
 use Rattle.candidate_ir.specs.Words.{env_forest}
 use Rattle.candidate_ir.proofs.Kept.{grows-trans}
-use Rattle.candidate_eval.specs.Objects.{projection_at}
 use Rattle.candidate_eval.specs.Replacing.{clauses_at}
 use Rattle.candidate_eval.proofs.Objects.{env-kept}
 use Rattle.candidate_eval.proofs.Picking.{ambiguous-then, none-picked, one-picked, one-stuck, picked-then, projection-later}

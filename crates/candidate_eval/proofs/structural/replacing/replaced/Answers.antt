@@ -1,6 +1,6 @@
-use Rattle.std.proofs.Common.{◌≡◌, refl, sym, ◌∙◌}
+use Rattle.std.proofs.Common.{refl, sym, ◌∙◌}
 use Rattle.std.proofs.lemmas.Result.{err_from_is_err_and}
-use Rattle.candidate_ir.specs.Words.{clause_tree, env_forest, ty_tree}
+use Rattle.candidate_ir.specs.Words.{env_forest, ty_tree}
 use Rattle.candidate_ir.proofs.Kept.{grows-trans, ty-kept}
 use Rattle.candidate_eval.specs.Replacing.{clauses_at}
 use Rattle.candidate_eval.proofs.Objects.{env-kept}
