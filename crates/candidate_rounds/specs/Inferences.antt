@@ -139,6 +139,10 @@ back_to n s = record (undone (drop n s.trail) s) { trail = take n s.trail }
 abbrev pub IsFullAt : ℕ → Stop → Type 0
 IsFullAt n s = (s ≡ Memory) ⊎ ((s ≡ NodesFull) × (4294967295 ≤ n))
 
+-- the same where so many more are to be added
+abbrev pub IsOutOfRoom : ℕ → ℕ → Stop → Type 0
+IsOutOfRoom n more s = (s ≡ Memory) ⊎ ((s ≡ NodesFull) × (4294967295 < n + more))
+
 -- What is known is more than it was, or the same: all that changed is noted, so that what was before any change that was noted
 -- then is what it was.
 abbrev pub IsFurther : Inference → Inference → Type 0

@@ -3,7 +3,7 @@
 
 ghost use Rattle.std.specs.Prelude.{◌≡◌, ◌+◌, ◌^◌, ◌++◌, ◌∷◌, [], ◌<◌, ◌≤◌, IfOk, IfErr, IfSome, drop, length, slice_get, Some, None};
 ghost use Rattle.candidate_rounds.specs.declared.rounds.inference.Change.{Change};
-ghost use Rattle.candidate_rounds.specs.Inferences.{Inference, with_variable, with_variables, assign, lower, enter, record_region, add, add_all, begin_pending, before, back_to, universe_of, with_entry, with_value, with_universe, IsFullAt, widen};
+ghost use Rattle.candidate_rounds.specs.Inferences.{Inference, with_variable, with_variables, assign, lower, enter, record_region, add, add_all, begin_pending, before, back_to, universe_of, with_entry, with_value, with_universe, IsFullAt, IsOutOfRoom, widen};
 
 use crate::rounds::fresh::variable_kind;
 use candidate_eval::eval::variable::VariableKind;
@@ -147,6 +147,7 @@ impl Inference {
     pub(crate) fn next_variables(&self, count: usize) -> Result<u32, Stop>
         ensures number { IfOk result (λ n. n ≡ length self.now.variables) }
         ensures room { IfOk result (λ n. n + count < 2 ^ 32) }
+        ensures cause { IfErr result (λ s. (s ≡ Stop.NodesFull) × (4294967295 < length self.now.variables + count)) }
     {
         let number = self.variables.len();
         if number > MOST as usize || count > MOST as usize - number {
@@ -157,7 +158,8 @@ impl Inference {
 
     /// The universe that comes next. `Stop::NodesFull` comes where no more can be told apart.
     pub(crate) fn next_universe(&self) -> Result<u32, Stop>
-        ensures { IfOk result (λ u. u ≡ self.now.newest_universe + 1) }
+        ensures universe { IfOk result (λ u. u ≡ self.now.newest_universe + 1) }
+        ensures cause { IfErr result (λ s. (s ≡ Stop.NodesFull) × (4294967295 ≤ self.now.newest_universe)) }
     {
         if self.newest_universe >= MOST {
             return Err(Stop::NodesFull);
@@ -321,6 +323,7 @@ impl Inference {
     pub(crate) fn add_variables(&mut self, kinds: &[VarKind]) -> Result<(), Stop>
         ensures added { IfOk result (λ _. self.new ≡ with_variables self.old kinds.now) }
         ensures unchanged { IfErr result (λ _. self.new ≡ self.old) }
+        ensures cause { IfErr result (λ s. IsOutOfRoom (length self.old.variables) (length kinds.now) s) }
     {
         let changes = self.changes();
         for i in 0..kinds.len() {

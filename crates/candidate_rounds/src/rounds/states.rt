@@ -1,6 +1,6 @@
 //! The state: variables, goals, probes.
 
-ghost use Rattle.std.specs.Prelude.{All, ◌<◌, ◌^◌, false, length, IfErr, ◌≡◌, ◌≢◌, List, [], ◌∷◌, ◌++◌, IfOk, OnOk, OnErr};
+ghost use Rattle.std.specs.Prelude.{All, ◌⊎◌, ◌<◌, ◌^◌, false, length, IfErr, ◌≡◌, ◌≢◌, List, [], ◌∷◌, ◌++◌, IfOk, OnOk, OnErr};
 ghost use Rattle.candidate_ir.specs.Context.{Grows};
 ghost use Rattle.candidate_ir.specs.Folds.{IsArg, arg_tree};
 ghost use Rattle.candidate_ir.specs.Nodes.{rows};
@@ -9,7 +9,7 @@ ghost use Rattle.candidate_ir.specs.Words.{IsArgs, IsTy, KindFits, args_forest, 
 ghost use Rattle.candidate_eval.specs.Evaluators.{begun, IsGoal, pending_of, with_goals_of, kinds_listed, rigid, with_rigid, alias_trees};
 ghost use Rattle.candidate_eval.specs.States.{State, added, variable, fresh_variables, with_fresh_variables, with_universe};
 ghost use Rattle.candidate_eval.specs.declared.eval.context.ProbeKind.{ProbeKind};
-ghost use Rattle.candidate_rounds.specs.Inferences.{with_variable};
+ghost use Rattle.candidate_rounds.specs.Inferences.{IsFullAt, IsOutOfRoom, with_variable};
 ghost use Rattle.rounds_judge.specs.RoundsJudge.{hidden_behind};
 ghost use Rattle.candidate_rounds.specs.Leaves.{all_leaves, last_number};
 ghost use Rattle.candidate_rounds.specs.Known.{state, state_of, probes, with_root, GoesOn, IsGiven, KeepsGiven};
@@ -115,6 +115,7 @@ impl Rounds {
         ensures tree { IfOk result (λ a. arg_tree self.new.context.trees a ≡ variable kind (length self.old.inference.variables)) }
         ensures made { IfOk result (λ _. self.new.inference ≡ with_variable self.old.inference kind is_root) }
         ensures stopped { IfErr result (λ _. self.new.inference ≡ self.old.inference) }
+        ensures cause { IfErr result (λ s. IsFullAt (length self.old.inference.variables) s ⊎ IsFullAt (length self.new.context.trees) s) }
     {
         let number = self.inference.next_variable()?;
         let arg = variable(&mut self.cx, kind, number)?;
@@ -132,6 +133,7 @@ impl Rounds {
         ensures tree { IfOk result (λ a. arg_tree self.new.context.trees a ≡ variable kind (length (state self.old).variables)) }
         ensures made { OnOk result (state self.new ≡ with_root (state self.old) kind) }
         ensures stopped { OnErr result (state self.new ≡ state self.old) }
+        ensures cause { IfErr result (λ s. IsFullAt (length (state self.old).variables) s ⊎ IsFullAt (length self.new.context.trees) s) }
     {
         self.new_variable(kind, true)
     }
@@ -152,6 +154,7 @@ impl Rounds {
         ensures state { state self.new ≡ state self.old }
         ensures sort { IfOk result (λ a. IsArgs self.new.context.trees a) }
         ensures trees { IfOk result (λ a. args_forest self.new.context.trees a ≡ rows (all_leaves leaves kinds.now)) }
+        ensures cause { IfErr result (λ s. IsFullAt (length self.new.context.trees) s) }
     {
         leaf_args(alloc, &mut self.cx, leaves, kinds)
     }
@@ -163,6 +166,7 @@ impl Rounds {
         ensures probes { probes self.new ≡ probes self.old }
         ensures made { OnOk result (state self.new ≡ with_fresh_variables (state self.old) (kinds_listed kinds.now)) }
         ensures stopped { OnErr result (self.new ≡ self.old) }
+        ensures cause { IfErr result (λ s. IsOutOfRoom (length (state self.old).variables) (length kinds.now) s) }
     {
         self.inference.add_variables(kinds)
     }
@@ -175,6 +179,7 @@ impl Rounds {
         ensures goes { GoesOn self.old self.new }
         ensures made { OnOk result (state self.new ≡ with_universe (state self.old)) }
         ensures stopped { OnErr result (self.new ≡ self.old) }
+        ensures cause { IfErr result (λ s. IsFullAt (state self.old).newest_universe s) }
     {
         self.inference.enter()
     }
@@ -189,6 +194,7 @@ impl Rounds {
         ensures trees { IfOk result (λ a. args_forest self.new.context.trees a ≡ fresh_variables (state self.old) (kinds_listed kinds.now)) }
         ensures made { OnOk result (state self.new ≡ with_fresh_variables (state self.old) (kinds_listed kinds.now)) }
         ensures stopped { OnErr result (state self.new ≡ state self.old) }
+        ensures cause { IfErr result (λ s. IsOutOfRoom (length (state self.old).variables) (length kinds.now) s ⊎ IsFullAt (length self.new.context.trees) s) }
     {
         let first = self.inference.next_variables(kinds.len())?;
         let args = self.make_leaves(alloc, Leaves::Variables(first), kinds)?;
@@ -208,6 +214,7 @@ impl Rounds {
         ensures trees { IfOk result (λ a. args_forest self.new.context.trees a ≡ rigid (state self.old) (kinds_listed kinds.now)) }
         ensures made { OnOk result (state self.new ≡ with_rigid (state self.old) (kinds_listed kinds.now)) }
         ensures stopped { OnErr result (state self.new ≡ state self.old) }
+        ensures cause { IfErr result (λ s. IsFullAt (length kinds.now) s ⊎ IsFullAt (state self.old).newest_universe s ⊎ IsFullAt (length self.new.context.trees) s) }
     {
         if kinds.len() >= u32::MAX as usize {
             return Err(Stop::NodesFull);
