@@ -4,6 +4,7 @@ pub mod Probing
 pub mod Holding
 pub mod ResolvedValues
 pub mod Leafing
+pub mod Rooms
 pub mod Values
 pub mod Going
 pub mod Assigning

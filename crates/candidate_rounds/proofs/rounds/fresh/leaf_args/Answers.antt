@@ -1,7 +1,13 @@
 use Rattle.candidate_rounds.proofs.Leafing.{one-more-leaf}
+use Rattle.candidate_rounds.proofs.Rooms.{leaves-stop}
 use Rattle.candidate_rounds.proofs.rounds.fresh.leaf_args.Goals as goal
 
 pub loop-i-preserved : goal.loop-i-preserved
 loop-i-preserved c =
     one-more-leaf c.args.cx.now c.loop-i.cx c.leaf.new.cx c.args.leaves c.args.kinds.now c.loop-i.i c.loop-i.list.items c.push.new.self.items c.in_ok-leaf.field-0 _ c.loop-i.invariant c.loop-i-test.true
     c.leaf.ensures.grows c.in_ok-leaf.ensures.sort c.in_ok-leaf.ensures.tree c.in_ok-push.ensures.items
+
+pub returns-clause-cause : goal.returns-clause-cause
+returns-clause-cause c =
+    leaves-stop c.args.cx.now c.loop-i.cx c.mk_args.new.self c.args.leaves c.args.kinds.now c.loop-i.i c.loop-i.list.items c.as_slice.result.now c.mk_args.result c.loop-i.invariant c.loop-i-test.false c.as_slice.ensures.value
+    c.mk_args.ensures.cause c.mk_args.ensures.unchanged
