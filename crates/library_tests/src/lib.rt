@@ -48,6 +48,8 @@ mod normalisers;
 #[cfg(test)]
 mod numbers;
 #[cfg(test)]
+mod object_candidates;
+#[cfg(test)]
 mod opening;
 #[cfg(test)]
 mod parts;
