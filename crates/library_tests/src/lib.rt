@@ -50,6 +50,8 @@ mod numbers;
 #[cfg(test)]
 mod object_candidates;
 #[cfg(test)]
+mod objects;
+#[cfg(test)]
 mod opening;
 #[cfg(test)]
 mod parts;

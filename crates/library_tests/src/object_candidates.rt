@@ -1,17 +1,15 @@
-//! What an object candidate asks for, and how it finds what the object's own bounds say of associated types.
-//!
-//! Here `Foo` is the first trait, with the associated type `Bar`, which is `out`. `Baz` is the local trait, and `Copy` the fundamental one.
+//! What an object candidate asks for, and which of the object's own bounds it finds.
 
-ghost use Rattle.std.specs.Prelude.{◌≡◌, ◌++◌, ◌∷◌, [], All, IfOk, IfSome};
+ghost use Rattle.std.specs.Prelude.{All, IfOk, IfSome};
 ghost use Rattle.candidate_ir.specs.Context.{Grows};
 ghost use Rattle.candidate_ir.specs.Words.{IsArgs, IsClause, IsParamEnv, IsPreds, IsTy, ClauseFits, ClauseListFits};
 ghost use Rattle.candidate_eval.specs.Evaluators.{IsGoal};
 ghost use Rattle.candidate_eval.specs.ObjectRequirements.{reference_clause};
 
 use crate::asserts::{equals, equals_in_row, holds};
-use crate::declarations::{Item, add_all};
+use crate::objects::{Bound, Of, SIZED, bounds_of, check_clauses, clauses, declared, push_clause};
 use crate::reading::{Reader, Reading};
-use crate::samples::{FUNDAMENTAL_TRAIT, GIVEN, LOCAL_TRAIT, OUT, TRAIT, TRAIT1, add_samples};
+use crate::samples::{GIVEN, OUT, TRAIT, TRAIT1};
 use crate::states::root;
 use crate::{listed, settling};
 use candidate_eval::eval::certainty::Certainty;
@@ -20,142 +18,16 @@ use candidate_eval::structural::object::{
     AmbiguousOrStop, bound_matches, instantiate_binder_with_infer, matching_bounds, pick_bound,
 };
 use candidate_eval::structural::object_candidate::predicates_for_object_candidate;
-use candidate_eval::structural::required::{own_bounds, requirements};
-use candidate_ir::decl::builder::DeclsBuilder;
 use candidate_ir::decl::contents::AliasBoundKind;
 use candidate_ir::decl::context::Cx;
-use candidate_ir::decl::definition::{AdtFlags, AssocKind, CrateId};
 use candidate_ir::ir::heads::VariableSort;
 use candidate_ir::ir::kinds::{
-    AliasId, AliasTerm, AliasTy, AssocId, Binder, Clause, ClauseKind, GenericArg, Goal, ParamEnv,
-    PredicatePolarity, Preds, TraitId, TraitPredicate, TraitRef, Ty, TyKind, UintTy, VarKind,
+    AliasTerm, Binder, Clause, ClauseKind, Goal, ParamEnv, PredicatePolarity, Preds,
+    TraitPredicate, TraitRef, Ty, VarKind,
 };
 use candidate_rounds::rounds::Rounds;
 use std::alloc::Global;
 use std::process::Abort;
-
-/// An associated type of `Foo` that requires `Self: Sized`.
-const SIZED: AssocId = AssocId(19);
-
-/// The type that a bound says to be `Copy`: the associated type of `Self`, a slice of it, or the associated type of `u8`.
-#[derive(Clone, Copy)]
-enum Of {
-    Own,
-    Slice,
-    Byte,
-}
-
-/// A bound of an associated type.
-#[derive(Clone, Copy)]
-struct Bound(AssocId, AliasBoundKind, Of);
-
-/// The associated type of a type, and of the trait's parameter where it has one.
-fn projection(rt: &impl Abort, builder: &mut DeclsBuilder, item: AssocId, ty: Ty) -> Ty
-    requires { IsTy builder.old.trees ty }
-    ensures { IsTy builder.new.trees result }
-{
-    let parameter = builder.mk_ty(TyKind::Param(1)).expect(rt, "a parameter");
-    let list = [GenericArg::Ty(ty), GenericArg::Ty(parameter)];
-    let count = if item.0 == GIVEN.0 { 2 } else { 1 };
-    let args = builder.mk_args(&list[..count]).expect(rt, "arguments");
-    let alias = TyKind::Alias(AliasTy::projection(item, args));
-    builder.mk_ty(alias).expect(rt, "an associated type")
-}
-
-/// The type that the bound is about.
-fn bounded(rt: &impl Abort, builder: &mut DeclsBuilder, item: AssocId, of: Of) -> Ty
-    ensures { IsTy builder.new.trees result }
-{
-    let kind = match of {
-        Of::Own | Of::Slice => TyKind::Param(0),
-        Of::Byte => TyKind::Uint(UintTy::U8),
-    };
-    let ty = builder.mk_ty(kind).expect(rt, "a type");
-    let ty = projection(rt, builder, item, ty);
-    match of {
-        Of::Own | Of::Byte => ty,
-        Of::Slice => builder.mk_ty(TyKind::Slice(ty)).expect(rt, "a slice"),
-    }
-}
-
-/// That the trait holds of the type.
-fn clause_of(rt: &impl Abort, builder: &mut DeclsBuilder, def_id: TraitId, ty: Ty) -> Clause
-    requires { IsTy builder.old.trees ty }
-{
-    let args = builder
-        .mk_args(&[GenericArg::Ty(ty)])
-        .expect(rt, "arguments");
-    let vars = builder.mk_vars(&[]).expect(rt, "no variables");
-    let value = ClauseKind::Trait(TraitPredicate {
-        trait_ref: TraitRef { def_id, args },
-        polarity: PredicatePolarity::Positive,
-    });
-    let clause = builder.mk_clause(Binder { vars, value });
-    clause.expect(rt, "a clause")
-}
-
-/// The samples, where `Foo: Baz`, and associated types have these bounds.
-fn declared(rt: &impl Abort, alloc: Global, bounds: &[Bound]) -> Cx {
-    let mut builder = DeclsBuilder::new(alloc);
-    add_samples(rt, &mut builder, AdtFlags::default());
-    add_all(
-        rt,
-        &mut builder,
-        &[Item::Assoc(TRAIT, AssocKind::Type, true)],
-    );
-    let itself = builder.mk_ty(TyKind::Param(0)).expect(rt, "`Self`");
-    let clause = clause_of(rt, &mut builder, LOCAL_TRAIT, itself);
-    builder
-        .push_super(TRAIT, clause)
-        .expect(rt, "a super clause");
-    for Bound(item, kind, of) in bounds {
-        let ty = bounded(rt, &mut builder, *item, *of);
-        let clause = clause_of(rt, &mut builder, FUNDAMENTAL_TRAIT, ty);
-        let pushed = builder.push_bound(AliasId(item.0), *kind, clause);
-        holds(rt, pushed.is_ok(), "a bound");
-    }
-    builder.set_local(CrateId(0));
-    Cx::new(builder.finish().expect(rt, "no fault"))
-}
-
-/// Adds the clause to the list.
-fn push_clause(rt: &impl Abort, list: &mut Vec<Clause>, clause: Clause)
-    ensures { list.new.items ≡ list.old.items ++ clause ∷ [] }
-{
-    list.push(clause).expect(rt, "memory");
-}
-
-/// The clauses of these words under binders of variables of these kinds. The words of each follow those of the object.
-fn clauses(
-    rt: &impl Abort,
-    reader: &mut Reader,
-    object: &str,
-    kinds: &[VarKind],
-    texts: &[&str],
-) -> Vec<Clause>
-    ensures grows { Grows reader.old.cx reader.new.cx }
-    ensures fit { ClauseListFits reader.new.cx.trees result.items }
-{
-    let mut list = Vec::new(reader.alloc);
-    for text in texts {
-        reader.read(rt, Reading::Parameters, object);
-        let clause = reader.clause(rt, Reading::Parameters, text, kinds);
-        push_clause(rt, &mut list, clause);
-    }
-    list
-}
-
-/// The clauses are these, in this order.
-fn check_clauses(rt: &impl Abort, cx: &Cx, got: &[Clause], want: &[Clause], row: usize)
-    requires got { ClauseListFits cx.now.trees got.now }
-    requires want { ClauseListFits cx.now.trees want.now }
-{
-    equals_in_row(rt, &got.len(), &want.len(), row);
-    for place in 0..got.len().min(want.len()) {
-        let same = cx.same_clause(got[place], want[place]);
-        equals_in_row(rt, &same, &true, row);
-    }
-}
 
 /// The clauses of the goals, which are all in that environment.
 fn predicates(
@@ -175,18 +47,6 @@ fn predicates(
         push_clause(rt, &mut list, goal.predicate);
     }
     list
-}
-
-/// The bounds of the `dyn` type.
-fn bounds_of(rt: &impl Abort, cx: &Cx, object: Ty) -> Preds
-    requires { IsTy cx.now.trees object }
-    ensures { IsPreds cx.now.trees result }
-{
-    let bounds = match cx.kind(object) {
-        TyKind::Dynamic(bounds, _) => Some(bounds),
-        _ => None,
-    };
-    bounds.expect(rt, "an object")
 }
 
 /// `Foo` of the last type or, where there are words of an argument, the second trait of it and of that argument.
@@ -258,14 +118,12 @@ fn check_answer(
     env: ParamEnv,
     answer: Result<Vec<Goal<Clause>>, AmbiguousOrStop>,
     want: &[Clause],
-    is_known: bool,
     row: usize,
 )
     requires env { IsParamEnv cx.now.trees env }
     requires answer { IfOk answer (λ v. All (IsGoal cx.now.trees) v.items) }
     requires want { ClauseListFits cx.now.trees want.now }
 {
-    equals_in_row(rt, &answer.is_ok(), &is_known, row);
     match answer {
         Ok(goals) => {
             let got = predicates(rt, alloc, cx, env, goals.as_slice());
@@ -300,17 +158,8 @@ fn check_row(rt: &impl Abort, alloc: Global, row: Row<'_>, is_pending: bool, num
     let pending = if is_pending { Some(refused) } else { None };
     let mut rounds = over(rt, alloc, reader.cx, env, pending);
     let answer = asked(rt, alloc, &mut rounds, env, Binder { vars, value }, bounds);
-    let (cx, is_known) = (rounds.cx(), row.3.is_some());
-    check_answer(
-        rt,
-        alloc,
-        cx,
-        env,
-        answer,
-        want.as_slice(),
-        is_known,
-        number,
-    );
+    equals_in_row(rt, &answer.is_ok(), &row.3.is_some(), number);
+    check_answer(rt, alloc, rounds.cx(), env, answer, want.as_slice(), number);
     check_pending(rt, alloc, &mut rounds, is_pending, number);
 }
 
@@ -320,60 +169,38 @@ fn asks_what_an_object_has_to_fulfil(rt: HostRuntime) {
     let copy = Bound(OUT, selves, Of::Own);
     let (of_slice, of_byte) = (Bound(OUT, others, Of::Slice), Bound(OUT, others, Of::Byte));
     let (sized, given) = (Bound(SIZED, selves, Of::Own), Bound(GIVEN, selves, Of::Own));
+    let (byte, wide) = ("u8 'static dyn_out", "u16 'static dyn_out");
+    let of_region = "u8 '^0 ref u16 '^0 ref 'static dyn_given";
     let baz = "holds_locally: u8";
-    let stays: Option<&[&str]> = Some(&[baz, "holds_fundamentally: out u8"]);
+    let stays: Option<&[&str]> = Some(&[baz, "copies: out u8"]);
+    let both = ["copies: u16 u8", "copies: u16 slice u8"];
     let rows = [
-        Row(
-            &[copy],
-            "u8 'static dyn_out",
-            None,
-            Some(&[baz, "holds_fundamentally: u8 u8"]),
-        ),
+        Row(&[copy], byte, None, Some(&[baz, "copies: u8 u8"])),
         // Without a bound about the associated type, the projection stays.
         Row(&[copy], "u8 'static dyn_auto", None, stays),
         Row(&[copy], "u8 u16 'static dyn_given", None, stays),
         // Two bounds match.
         Row(&[copy], "u8 u16 'static dyn_outs", None, None),
         // What requires `Self: Sized` asks for nothing.
-        Row(&[sized], "u8 'static dyn_out", None, Some(&[baz])),
-        // Self bounds come first. A projection is replaced below a type, too.
+        Row(&[sized], byte, None, Some(&[baz])),
+        // Self bounds come first. A projection is replaced inside a slice, too.
         Row(
             &[of_slice, copy],
-            "u16 'static dyn_out",
+            wide,
             None,
-            Some(&[
-                baz,
-                "holds_fundamentally: u16 u8",
-                "holds_fundamentally: u16 slice u8",
-            ]),
+            Some(&[baz, both[0], both[1]]),
         ),
         // That of another type stays.
-        Row(
-            &[of_byte],
-            "u16 'static dyn_out",
-            None,
-            Some(&[baz, "holds_fundamentally: u8 out u8"]),
-        ),
+        Row(&[of_byte], wide, None, Some(&[baz, "copies: u8 out u8"])),
         // A variable stands for the region of the bound's binder.
         Row(
-            &[copy],
-            "u8 '^0 ref 'static dyn_out",
-            None,
-            Some(&[baz, "holds_fundamentally: u8 '?1 ref u8"]),
-        ),
-        Row(
             &[given],
-            "u8 '^0 ref u16 '^0 ref 'static dyn_given",
+            of_region,
             Some("u8 '^0 ref"),
-            Some(&["holds_fundamentally: u16 '?1 ref u8"]),
+            Some(&["copies: u16 '?1 ref u8"]),
         ),
-        // Its arguments don't match.
-        Row(
-            &[given],
-            "u8 '^0 ref u16 'static dyn_given",
-            Some("u16 '^0 ref"),
-            None,
-        ),
+        // The arguments don't match.
+        Row(&[given], of_region, Some("u16 '^0 ref"), None),
     ];
     for (number, row) in rows.iter().enumerate() {
         for is_pending in [false, true] {
@@ -445,7 +272,6 @@ fn picks_the_only_bound_that_matches(rt: HostRuntime) {
             None,
         ),
         Picked(&["projects: u8 u8", "holds: u16 u8"], &[], None),
-        Picked(&[], &[], None),
     ];
     for (number, row) in rows.iter().enumerate() {
         check_picked(&rt, rt.alloc(), *row, number);
@@ -466,36 +292,13 @@ fn check_instance(rt: &impl Abort, alloc: Global) {
     equals(rt, &matches, &Ok(true), "a match");
     let instance = instantiate_binder_with_infer(alloc, &mut rounds, bound);
     let instance = instance.expect(rt, "an instance");
-    equals(
-        rt,
-        &rounds.cx().same_clause(instance, want),
-        &true,
-        "an instance",
-    );
+    let same = rounds.cx().same_clause(instance, want);
+    equals(rt, &same, &true, "an instance");
     let next = root(rt, &mut rounds, VariableSort::General);
     equals(rt, &next, &Some(1), "a variable");
 }
 
-/// What the bounds of `dyn Foo<Bar = u8>` say, and what it has to fulfil.
-fn check_parts(rt: &impl Abort, alloc: Global) {
-    let copy = Bound(OUT, AliasBoundKind::SelfBounds, Of::Own);
-    let mut reader = Reader::in_context(rt, alloc, declared(rt, alloc, &[copy]));
-    let text = "u8 'static dyn_out";
-    let said = clauses(rt, &mut reader, text, &[VarKind::Region], &["projects: u8"]);
-    let texts = ["holds_locally: u8", "holds_fundamentally: out u8"];
-    let required = clauses(rt, &mut reader, text, &[], &texts);
-    let object = reader.ty(rt, Reading::Parameters, text);
-    let bounds = bounds_of(rt, &reader.cx, object);
-    let trait_ref = trait_ref(rt, &mut reader, None);
-    let mut cx = reader.cx;
-    let got = own_bounds(alloc, &mut cx, object, bounds).expect(rt, "bounds");
-    check_clauses(rt, &cx, got.as_slice(), said.as_slice(), 0);
-    let got = requirements(alloc, &mut cx, trait_ref).expect(rt, "clauses");
-    check_clauses(rt, &cx, got.as_slice(), required.as_slice(), 1);
-}
-
 #[test]
-fn reads_bounds_and_requirements(rt: HostRuntime) {
+fn instantiates_a_bound_that_matches(rt: HostRuntime) {
     check_instance(&rt, rt.alloc());
-    check_parts(&rt, rt.alloc());
 }

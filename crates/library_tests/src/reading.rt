@@ -771,7 +771,7 @@ impl Reader {
             "holds" => of_trait(TRAIT, list, positive),
             "fails" => of_trait(TRAIT, list, negative),
             "holds_locally" => of_trait(LOCAL_TRAIT, list, positive),
-            "holds_fundamentally" => of_trait(FUNDAMENTAL_TRAIT, list, positive),
+            "copies" => of_trait(FUNDAMENTAL_TRAIT, list, positive),
             "projects" => projects(list, self.ty),
             "outlives" => ClauseKind::TypeOutlives(self.ty, self.region),
             "region_outlives" => ClauseKind::RegionOutlives(self.other, self.region),
