@@ -2,13 +2,13 @@
 
 ghost use Rattle.std.specs.Prelude.{◌≡◌};
 ghost use Rattle.candidate_ir.specs.Context.{Grows};
-ghost use Rattle.candidate_ir.specs.Words.{IsPreds, IsVars};
+ghost use Rattle.candidate_ir.specs.Words.{IsArgs, IsPreds, IsTy, IsVars};
 ghost use Rattle.library_tests.specs.Pieces.{IsBound};
 
 use crate::asserts::equals;
 use crate::builders::bounds;
 use crate::parts::make_parts;
-use crate::samples::{LOCAL_TRAIT, OUT, TRAIT1, declared};
+use crate::samples::{GIVEN, LOCAL_TRAIT, OUT, TRAIT1, declared};
 use candidate_ir::decl::context::Cx;
 use candidate_ir::ir::kinds::{
     Args, Binder, ExistentialPredicate, ExistentialProjection, ExistentialTraitRef, Preds, TraitId,
@@ -33,6 +33,17 @@ pub fn by_projection(args: Args, term: Ty) -> ExistentialPredicate
 {
     ExistentialPredicate::Projection(ExistentialProjection {
         def_id: OUT,
+        args,
+        term,
+    })
+}
+
+/// A bound that says what the associated type with a parameter is.
+pub fn by_given(args: Args, term: Ty) -> ExistentialPredicate
+    ensures { result ≡ ExistentialPredicate.Projection (record { def_id = record { 0 = 18 }; args = args; term = term }) }
+{
+    ExistentialPredicate::Projection(ExistentialProjection {
+        def_id: GIVEN,
         args,
         term,
     })
@@ -80,6 +91,26 @@ pub fn and_auto(rt: &impl Abort, cx: &mut Cx, vars: Vars, value: ExistentialPred
         value: ExistentialPredicate::AutoTrait(LOCAL_TRAIT),
     };
     bounds(rt, cx, &[Binder { vars, value }, auto])
+}
+
+/// Two bounds that say what the associated type is, each under a binder of these variables.
+pub fn by_both(rt: &impl Abort, cx: &mut Cx, vars: Vars, args: Args, first: Ty, second: Ty) -> Preds
+    requires vars { IsVars cx.old.trees vars }
+    requires args { IsArgs cx.old.trees args }
+    requires first { IsTy cx.old.trees first }
+    requires second { IsTy cx.old.trees second }
+    ensures grows { Grows cx.old cx.new }
+    ensures sort { IsPreds cx.new.trees result }
+{
+    let first = Binder {
+        vars,
+        value: by_projection(args, first),
+    };
+    let second = Binder {
+        vars,
+        value: by_projection(args, second),
+    };
+    bounds(rt, cx, &[first, second])
 }
 
 /// A bound as a letter: a trait, an associated type, an auto trait.

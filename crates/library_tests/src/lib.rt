@@ -52,6 +52,10 @@ mod normalisers;
 #[cfg(test)]
 mod numbers;
 #[cfg(test)]
+mod object_candidates;
+#[cfg(test)]
+mod objects;
+#[cfg(test)]
 mod opening;
 #[cfg(test)]
 mod parts;

@@ -8,13 +8,15 @@ ghost use Rattle.candidate_ir.specs.Kinds.{ty_children, const_children};
 ghost use Rattle.candidate_ir.specs.Words.{IsTy, IsConst, IsRegion, IsArgs, IsVars, IsPreds, IsSig, IsClause, IsParamEnv, KindFits, ConstKindFits, ListFits, ClauseFits, ClauseListFits};
 
 use crate::asserts::holds;
-use crate::bounds::{and_auto, auto_and, bound, by_auto_trait, by_projection, by_trait};
+use crate::bounds::{
+    and_auto, auto_and, bound, by_auto_trait, by_both, by_given, by_projection, by_trait,
+};
 use crate::builders::{
     args, clause, constant, environment, push_arg, region, signature, ty, variables,
 };
 use crate::samples::{
-    BOX, BUFFER, CLOSURE, FN, FOREIGN, FREE, GUARD, INHERENT, LENGTH, LOCAL_TRAIT, LOCAL_TYPE,
-    OPAQUE, OTHER_FN, OUT, TRAIT, VEC, declared,
+    BOX, BUFFER, CLOSURE, FN, FOREIGN, FREE, FUNDAMENTAL_TRAIT, GUARD, INHERENT, LENGTH,
+    LOCAL_TRAIT, LOCAL_TYPE, OPAQUE, OTHER_FN, OUT, TRAIT, VEC, declared,
 };
 use candidate_ir::decl::context::Cx;
 use candidate_ir::ir::kinds::{
@@ -385,7 +387,7 @@ impl Reader {
         signature(rt, &mut self.cx, Binder { vars, value })
     }
 
-    /// The bounds of a `dyn` type: of the last type, by their word.
+    /// The bounds of a `dyn` type: of the last type, and of the one before it, by their word.
     #[tactic(auto, using(crate::proofs::Kept::kept))]
     fn bounds(&mut self, rt: &impl Abort, word: &str) -> Option<Preds>
         ensures grows { Grows self.old.cx self.new.cx }
@@ -394,7 +396,8 @@ impl Reader {
         let vars = self.vars(rt, &[VarKind::Region]);
         let none = self.args(rt, &[]);
         let list = self.list(rt);
-        let ty = self.ty;
+        let given = self.list_before(rt);
+        let (before, ty) = (self.before, self.ty);
         let cx = &mut self.cx;
         match word {
             "dyn" => Some(bound(rt, cx, vars, by_trait(list))),
@@ -402,6 +405,8 @@ impl Reader {
             "dyn_auto" => Some(bound(rt, cx, vars, by_auto_trait())),
             "dyn_auto_and" => Some(auto_and(rt, cx, vars, by_trait(list))),
             "dyn_and_auto" => Some(and_auto(rt, cx, vars, by_trait(list))),
+            "dyn_outs" => Some(by_both(rt, cx, vars, none, before, ty)),
+            "dyn_given" => Some(bound(rt, cx, vars, by_given(given, ty))),
             _ => None,
         }
     }
@@ -781,6 +786,7 @@ impl Reader {
             "holds" => of_trait(TRAIT, list, positive),
             "fails" => of_trait(TRAIT, list, negative),
             "holds_locally" => of_trait(LOCAL_TRAIT, list, positive),
+            "copies" => of_trait(FUNDAMENTAL_TRAIT, list, positive),
             "projects" => projects(list, self.ty),
             "outlives" => ClauseKind::TypeOutlives(self.ty, self.region),
             "region_outlives" => ClauseKind::RegionOutlives(self.other, self.region),

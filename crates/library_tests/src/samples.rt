@@ -59,6 +59,9 @@ pub const INHERENT: AliasId = AliasId(17);
 
 pub const FREE: AliasId = AliasId(17);
 
+/// An associated type of the second trait, so with a parameter besides `Self`.
+pub const GIVEN: AssocId = AssocId(18);
+
 /// The local crate, and one above it with the types `Vec` and `Box` and the traits.
 pub fn declared(rt: &impl Abort, alloc: Global) -> Cx {
     let mut builder = DeclsBuilder::new(alloc);
@@ -100,6 +103,7 @@ pub fn add_samples(rt: &impl Abort, builder: &mut DeclsBuilder, of_box: AdtFlags
         Item::Closure(1, &[VarKind::Ty]),
         Item::Opaque(1, &[VarKind::Ty]),
         Item::Alias(1, AliasShape::Inherent, &[VarKind::Ty]),
+        Item::Assoc(TRAIT1, AssocKind::Type, false),
     ];
     add_all(rt, builder, &items);
 }

@@ -17,7 +17,7 @@ use std::alloc::Global;
 use std::process::Abort;
 
 /// The goal becomes pending.
-fn add(rt: &impl Abort, rounds: &mut Rounds, param_env: ParamEnv, predicate: Clause)
+pub fn add(rt: &impl Abort, rounds: &mut Rounds, param_env: ParamEnv, predicate: Clause)
     requires env { IsParamEnv rounds.old.context.trees param_env }
     requires clause { IsClause rounds.old.context.trees predicate }
     ensures { rounds.new.context ≡ rounds.old.context }

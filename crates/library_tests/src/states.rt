@@ -52,7 +52,7 @@ fn placeholders(rt: &impl Abort, alloc: Global, rounds: &mut Rounds, kinds: &[Va
 }
 
 /// The number of the next root variable.
-fn root(rt: &impl Abort, rounds: &mut Rounds, sort: VariableSort) -> Option<u32> {
+pub fn root(rt: &impl Abort, rounds: &mut Rounds, sort: VariableSort) -> Option<u32> {
     let kind = VariableKind::Term(sort);
     let root = rounds.new_root_var(kind).expect(rt, "a root variable");
     rounds.cx().variable_number(root)

@@ -199,9 +199,9 @@ fn check_cell(
 }
 
 /// The traits that come after the samples.
-const DESTRUCT: TraitId = TraitId(18);
+const DESTRUCT: TraitId = TraitId(19);
 
-const DROP: TraitId = TraitId(19);
+const DROP: TraitId = TraitId(20);
 
 /// The first type of a list.
 fn first_type(rt: &impl Abort, cx: &Cx, list: Args) -> Option<Ty>
