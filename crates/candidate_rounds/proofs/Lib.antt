@@ -23,4 +23,5 @@ pub mod Visiting
 pub mod Trying
 pub mod Projecting
 pub mod Evaluating
+pub mod Alone
 pub mod Interface

@@ -16,6 +16,7 @@ ghost use Rattle.rounds_judge.specs.Listed.{current};
 ghost use Rattle.rounds_judge.specs.Scopes.{entered, has_variables, placed_tree, scope_below};
 
 use crate::rounds::Rounds;
+use crate::rounds::resolving::variable_at;
 use candidate_eval::eval::refusal::NoSolutionOrStop;
 use candidate_ir::ir::heads::Head;
 use candidate_ir::ir::kinds::{Args, GenericArg, Region};
@@ -87,7 +88,7 @@ impl Rounds {
         ensures declined { IfOk result (λ b. b ≡ false → state self.new ≡ state self.old) }
     {
         self.well_kept();
-        let Head::Infer(variable) = self.cx.head(to) else {
+        let Some(variable) = variable_at(&self.cx, to) else {
             return Ok(false);
         };
         let Some(arg) = self.cx.argument(number) else {
