@@ -29,6 +29,11 @@ IsOfHead h L.Plain = is_plain h ≡ true
 abbrev pub IsLone : Tree → Lone → Type 0
 IsLone t l = IsOfHead t.head l × (t.children ≡ none)
 
+-- the number of the variable that it is
+abbrev pub lone_number : Lone → Option ℕ
+lone_number (L.Variable v) = Some v.number
+lone_number L.Plain = None
+
 -- whether it is the variable of that number
 abbrev pub has_number : ℕ → Lone → Bool
 has_number n (L.Variable v) = v.number == n

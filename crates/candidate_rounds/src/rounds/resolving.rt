@@ -13,7 +13,7 @@ ghost use Rattle.candidate_eval.specs.States.{resolved, resolved_tree, same_kind
 ghost use Rattle.candidate_eval.specs.declared.eval.mode.TypingMode.{TypingMode};
 ghost use Rattle.candidate_rounds.specs.Inferences.{kept_at, kept_value};
 ghost use Rattle.candidate_rounds.specs.Known.{Each, GoesOn, IsKnown, KeepsGiven, SuitsKind, probes, state, state_of};
-ghost use Rattle.candidate_rounds.specs.Lone.{IsLone, IsOfHead, has_number, infer_at, lone_value};
+ghost use Rattle.candidate_rounds.specs.Lone.{IsLone, IsOfHead, has_number, infer_at, lone_number, lone_value};
 
 use crate::rounds::Rounds;
 use crate::rounds::inference::Inference;
@@ -84,6 +84,16 @@ impl Lone {
         ensures { result ≡ false → self ≡ Lone.Plain }
     {
         matches!(self, Lone::Variable(_))
+    }
+
+    /// The number of the variable that it is, if it is one.
+    pub(crate) fn number(self) -> Option<u32>
+        ensures { result ≡ lone_number self }
+    {
+        match self {
+            Lone::Variable(variable) => Some(variable.number),
+            Lone::Plain => None,
+        }
     }
 
     /// Whether it is the variable of that number.

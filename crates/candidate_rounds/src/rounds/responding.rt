@@ -19,7 +19,7 @@ ghost use Rattle.rounds_judge.specs.Settling.{settled};
 use crate::rounds::Rounds;
 use crate::rounds::fresh::variable;
 use crate::rounds::inference::Inference;
-use crate::rounds::resolving::{resolved_args, resolved_clause, variable_of};
+use crate::rounds::resolving::{Lone, resolved_args, resolved_clause, variable_of};
 use candidate_eval::eval::certainty::Certainty;
 use candidate_eval::eval::refusal::NoSolutionOrStop;
 use candidate_eval::eval::response::CanonicalResponse;
@@ -77,6 +77,30 @@ fn note_below(cx: &Cx, numbers: &mut Vec<u32>, number: u32) -> Result<(), Stop>
     Err(Stop::NodesFull)
 }
 
+/// Notes the numbers of the variables of an argument; it stops as `note_below` does.
+fn note_arg(cx: &Cx, numbers: &mut Vec<u32>, arg: GenericArg) -> Result<(), Stop>
+    requires { IsArg cx.now.trees arg }
+    ensures { IfOk result (λ _. numbers.new.items ≡ with_numbers numbers.old.items (alone (arg_tree cx.now.trees arg))) }
+{
+    if let Some(lone) = Lone::of(cx, arg) {
+        return note_number(numbers, lone.number());
+    }
+    note_number(numbers, cx.variable_number(arg))?;
+    note_below(cx, numbers, arg.number())
+}
+
+/// Notes the numbers of the variables of a list; it stops as `note_below` does.
+fn note_args(cx: &Cx, numbers: &mut Vec<u32>, args: Args) -> Result<(), Stop>
+    requires { IsArgs cx.now.trees args }
+    ensures { IfOk result (λ _. numbers.new.items ≡ with_numbers numbers.old.items (args_forest cx.now.trees args)) }
+{
+    let list = cx.args(args);
+    for i in 0..list.len() {
+        note_arg(cx, numbers, list[i])?;
+    }
+    Ok(())
+}
+
 /// Notes the numbers of the variables of a clause; it stops as `note_below` does.
 fn note_clause(cx: &Cx, numbers: &mut Vec<u32>, clause: Clause) -> Result<(), Stop>
     requires { IsClause cx.now.trees clause }
@@ -94,7 +118,7 @@ fn numbers_of(alloc: Global, cx: &Cx, args: Args, clauses: &[Clause]) -> Result<
     ensures { IfOk result (λ v. v.items ≡ with_numbers_of (with_numbers [] (args_forest cx.now.trees args)) (map (clause_tree cx.now.trees) clauses.now)) }
 {
     let mut numbers = Vec::new(alloc);
-    note_below(cx, &mut numbers, args.0)?;
+    note_args(cx, &mut numbers, args)?;
     for i in 0..clauses.len() {
         note_clause(cx, &mut numbers, clauses[i])?;
     }
@@ -235,6 +259,20 @@ fn renumbered_args(alloc: Global, cx: &mut Cx, numbers: &[u32], args: Args) -> R
     )
 }
 
+/// The same where all variables of the list have these numbers: where there are none it stays as it is.
+fn numbered_args(alloc: Global, cx: &mut Cx, numbers: &[u32], args: Args) -> Result<Args, Stop>
+    requires args { IsArgs cx.old.trees args }
+    requires all { numbers.now ≡ [] → with_numbers [] (args_forest cx.old.trees args) ≡ [] }
+    ensures grows { Grows cx.old cx.new }
+    ensures sort { IfOk result (λ a. IsArgs cx.new.trees a) }
+    ensures trees { IfOk result (λ a. args_forest cx.new.trees a ≡ renumbered numbers.now (args_forest cx.old.trees args)) }
+{
+    if numbers.is_empty() {
+        return Ok(args);
+    }
+    renumbered_args(alloc, cx, numbers, args)
+}
+
 /// The same of a clause.
 fn renumbered_clause(
     alloc: Global,
@@ -327,7 +365,7 @@ fn response(
     let regions = constraints(alloc, cx, inference)?;
     let numbers = numbers_of(alloc, cx, values, regions.as_slice())?;
     let vars = open_variables(alloc, inference, numbers.as_slice())?;
-    let new_values = renumbered_args(alloc, cx, numbers.as_slice(), values)?;
+    let new_values = numbered_args(alloc, cx, numbers.as_slice(), values)?;
     let new_regions = renumbered_clauses(alloc, cx, numbers.as_slice(), regions.as_slice())?;
     Ok(CanonicalResponse {
         vars,
