@@ -1,25 +1,25 @@
 //! Responses: what is known of the root variables, with the variables that it leaves open numbered anew.
 
-ghost use Rattle.std.specs.Prelude.{◌≡◌, ◌<◌, ◌++◌, List, [], Some, None, length, map, slice_get, option_map, IfErr, IfOk, IfSome, MatchOption, OnErr, OnOk};
+ghost use Rattle.std.specs.Prelude.{◌≡◌, ◌<◌, ◌++◌, [], Some, None, length, map, slice_get, option_map, IfErr, IfOk, IfSome, MatchOption, OnErr, OnOk};
 ghost use Rattle.std.specs.Option.{option_to_list};
 ghost use Rattle.candidate_ir.specs.Context.{Grows};
 ghost use Rattle.candidate_ir.specs.Folds.{IsArg, IsOfKind, arg_tree};
 ghost use Rattle.candidate_ir.specs.Nodes.{tree_at};
 ghost use Rattle.candidate_ir.specs.Substitutions.{alone};
-ghost use Rattle.candidate_ir.specs.Trees.{Tree, variable_number};
+ghost use Rattle.candidate_ir.specs.Trees.{variable_number};
 ghost use Rattle.candidate_ir.specs.Words.{ClauseListFits, IsArgs, IsClause, args_forest, clause_tree};
 ghost use Rattle.candidate_eval.specs.ResponseTrees.{IsResponse, response_of};
-ghost use Rattle.candidate_eval.specs.States.{next, variable};
+ghost use Rattle.candidate_eval.specs.States.{next, resolved_tree, variable};
 ghost use Rattle.candidate_eval.specs.declared.eval.mode.TypingMode.{TypingMode};
 ghost use Rattle.candidate_rounds.specs.Gathered.{open_entry, renumbered_at, root_at};
-ghost use Rattle.candidate_rounds.specs.Known.{Each, GoesOn, IsKnown, KeepsGiven, SuitsKind, info_of, listing, probes, state, state_of};
-ghost use Rattle.rounds_judge.specs.Responding.{constraints, is_seen, place_of, renumbered, renumbered_tree, responded, response, root_values, roots_from, with_number, with_numbers, with_numbers_of};
+ghost use Rattle.candidate_rounds.specs.Known.{Each, GoesOn, IsKnown, KeepsGiven, SuitsKind, listing, probes, state, state_of};
+ghost use Rattle.rounds_judge.specs.Responding.{constraints, is_seen, place_of, renumbered, renumbered_tree, responded, response, root_values, with_number, with_numbers, with_numbers_of};
 ghost use Rattle.rounds_judge.specs.Settling.{settled};
 
 use crate::rounds::Rounds;
 use crate::rounds::fresh::variable;
 use crate::rounds::inference::Inference;
-use crate::rounds::resolving::{Lone, resolved_args, resolved_clause, variable_of};
+use crate::rounds::resolving::{Lone, resolved_clause, variable_of};
 use candidate_eval::eval::certainty::Certainty;
 use candidate_eval::eval::refusal::NoSolutionOrStop;
 use candidate_eval::eval::response::CanonicalResponse;
@@ -125,21 +125,24 @@ fn numbers_of(alloc: Global, cx: &Cx, args: Args, clauses: &[Clause]) -> Result<
     Ok(numbers)
 }
 
-/// The variable of that number, if it is a root. `Stop::Memory` comes where a growth was refused, `Stop::NodesFull` where no number is
-/// left.
-fn root_variable(
-    cx: &mut Cx,
-    inference: &Inference,
-    number: u32,
-) -> Result<Option<GenericArg>, Stop>
+/// What stands for the variable of that number, if it is a root: its value, or itself, where it has none. `Stop::Memory` comes where a
+/// growth was refused, `Stop::NodesFull` where no number is left.
+fn root_value(cx: &mut Cx, inference: &Inference, number: u32) -> Result<Option<GenericArg>, Stop>
+    requires { IsKnown cx.old.trees inference.now }
     ensures grows { Grows cx.old cx.new }
     ensures sort { IfOk result (λ o. IfSome o (λ a. IsArg cx.new.trees a)) }
-    ensures tree { IfOk result (λ o. option_map (arg_tree cx.new.trees) o ≡ root_at number (slice_get inference.now.variables number)) }
+    ensures tree { (m : TypingMode) → IfOk result (λ o. option_map (arg_tree cx.new.trees) o ≡ option_map (resolved_tree (state_of cx.old.trees m inference.now)) (root_at number (slice_get inference.now.variables number))) }
 {
-    match inference.entry(number) {
-        Some(entry) if entry.is_root => Ok(Some(variable(cx, entry.kind, number)?)),
-        _ => Ok(None),
+    let Some(entry) = inference.entry(number) else {
+        return Ok(None);
+    };
+    if !entry.is_root {
+        return Ok(None);
     }
+    if entry.value.is_some() {
+        return Ok(entry.value);
+    }
+    Ok(Some(variable(cx, entry.kind, number)?))
 }
 
 /// Puts an argument, if there is one, at a list's end. The only stop is `Stop::Memory`.
@@ -152,31 +155,21 @@ fn push_some(list: &mut Vec<GenericArg>, arg: Option<GenericArg>) -> Result<(), 
     Ok(())
 }
 
-/// The root variables, in their order; it stops as `root_variable` does.
-fn root_variables(alloc: Global, cx: &mut Cx, inference: &Inference) -> Result<Args, Stop>
-    ensures grows { Grows cx.old cx.new }
-    ensures sort { IfOk result (λ a. IsArgs cx.new.trees a) }
-    ensures trees { (ts : List Tree) → IfOk result (λ a. args_forest cx.new.trees a ≡ roots_from 0 (map (info_of ts) inference.now.variables)) }
-{
-    let count = inference.next_variable()?;
-    let mut list = Vec::new(alloc);
-    for number in 0..count {
-        let root = root_variable(cx, inference, number)?;
-        push_some(&mut list, root)?;
-    }
-    cx.mk_args(list.as_slice())
-}
-
-/// The values of the root variables, with all values put in; what is said of `Rounds::resolve_ty_if_possible` holds here, too.
+/// The values of the root variables, in their order, with the variables themselves where they have none; it stops as `root_value`
+/// does.
 fn root_values(alloc: Global, cx: &mut Cx, inference: &Inference) -> Result<Args, Stop>
-    requires known { IsKnown cx.old.trees inference.now }
-    requires kinds { Each (SuitsKind cx.old.trees) inference.now.variables }
+    requires { IsKnown cx.old.trees inference.now }
     ensures grows { Grows cx.old cx.new }
     ensures sort { IfOk result (λ a. IsArgs cx.new.trees a) }
     ensures trees { (m : TypingMode) → IfOk result (λ a. args_forest cx.new.trees a ≡ root_values (state_of cx.old.trees m inference.now)) }
 {
-    let roots = root_variables(alloc, cx, inference)?;
-    resolved_args(alloc, cx, inference, roots)
+    let count = inference.next_variable()?;
+    let mut list = Vec::new(alloc);
+    for number in 0..count {
+        let root = root_value(cx, inference, number)?;
+        push_some(&mut list, root)?;
+    }
+    cx.mk_arg_list(list)
 }
 
 /// The region constraints, with all values put in; what is said of `Rounds::resolve_ty_if_possible` holds here, too.
