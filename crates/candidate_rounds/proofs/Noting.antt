@@ -1,18 +1,22 @@
--- The numbers of the variables in a list, member by member, and lists in which there are none.
+-- The members of a list, the numbers of the variables in them, and lists in which there are none.
 use Rattle.std.proofs.Common.{◌≡◌, ◌≤◌, ◌<◌, ◌+◌, ◌==◌, ℕ, zero, suc, Bool, true, false, List, [], ◌∷◌, ◌++◌, length, map, drop, slice_index_or, Option, Some, None, refl, sym, ◌∙◌, ap, subst, arith, if◌then◌else◌}
 use Rattle.std.specs.Option.{unwrap_or}
 use Rattle.std.proofs.lemmas.Bool.{eqb-true}
 use Rattle.candidate_ir.specs.declared.ir.heads.Head.{Head}
+use Rattle.candidate_ir.specs.declared.ir.heads.Head.TheVariants as H
+use Rattle.candidate_ir.specs.declared.ir.heads.ListHead.TheVariants as L
 use Rattle.candidate_ir.specs.declared.ir.kinds.GenericArg.{GenericArg}
 use Rattle.candidate_ir.specs.declared.ir.kinds.GenericArg.TheVariants as A
 use Rattle.candidate_ir.specs.Folding.{fold}
 use Rattle.candidate_ir.specs.Folds.{IsArg, arg_tree, node}
 use Rattle.candidate_ir.specs.Kinds.{arg_child, arg_kind, arg_number, numbers}
-use Rattle.candidate_ir.specs.Nodes.{kind_at, trees_at}
+use Rattle.candidate_ir.specs.Nodes.{kind_at, tree_at, trees_at}
 use Rattle.candidate_ir.specs.Substitutions.{alone}
-use Rattle.candidate_ir.specs.Trees.{Forest, none, tree, Tree, binders_of, is_list_kind, put, row, variable_number}
+use Rattle.candidate_ir.specs.Trees.{ArgumentsKind, Forest, none, tree, Tree, binders_of, is_list_kind, kind_of, put, row, skip, variable_number}
 use Rattle.candidate_ir.specs.Words.{ListFits, list_forest}
+use Rattle.candidate_ir.proofs.Asking.{arg-below}
 use Rattle.candidate_ir.proofs.Folding.{begin}
+use Rattle.candidate_ir.proofs.Lists.{kind_of-tree_at}
 use Rattle.candidate_ir.proofs.Rows.{kind-of}
 use Rattle.rounds_judge.specs.Responding.{is_seen, renumbered, with_number, with_numbers, with_numbers_of}
 use Rattle.candidate_rounds.proofs.Anew.{answers, fold-is, no-variable}
@@ -44,6 +48,47 @@ pub arg-listed : (ts : List Tree) (xs : List GenericArg) (i : ℕ) (d : GenericA
 arg-listed ts [] i d l f = absurd (omega (arith, l))
 arg-listed ts (x ∷ xs) zero d l f = cc
 arg-listed ts (x ∷ xs) (suc i) d l f = let g : ListFits ts xs = cc in arg-listed ts xs i d (omega (arith, l)) g
+
+-- The member of a place.
+
+skip-none : (i : ℕ) → skip i none ≡ none
+skip-none zero = refl
+skip-none (suc i) = refl
+
+module _ (ts : List Tree) where
+  first : (x : GenericArg) (xs : List GenericArg) → ListFits ts (x ∷ xs) → list_forest ts (x ∷ xs) ≡ begin (arg_tree ts x) (list_forest ts xs)
+  first x xs f = let a : IsArg ts x = cc in arg-row ts x (list_forest ts xs) a
+
+  skip-member : (xs : List GenericArg) (i : ℕ) (d : GenericArg) → ListFits ts xs → i < length xs → skip i (list_forest ts xs) ≡ begin (arg_tree ts (slice_index_or xs i d)) (skip (suc i) (list_forest ts xs))
+  skip-member [] i d f l = absurd (omega (arith, l))
+  skip-member (x ∷ xs) zero d f l = first x xs f ∙ ap (begin (arg_tree ts x)) (sym (ap (skip 1) (first x xs f)))
+  skip-member (x ∷ xs) (suc i) d f l =
+      let g : ListFits ts xs = cc in
+      ap (skip (suc i)) (first x xs f)
+      ∙ (skip-member xs i d g (omega (arith, l)) ∙ ap (begin (arg_tree ts (slice_index_or xs i d))) (sym (ap (skip (suc (suc i))) (first x xs f))))
+
+  skip-members : (xs : List GenericArg) (i : ℕ) → ListFits ts xs → length xs ≤ i → skip i (list_forest ts xs) ≡ none
+  skip-members [] i f l = skip-none i
+  skip-members (x ∷ xs) zero f l = absurd (omega (arith, l))
+  skip-members (x ∷ xs) (suc i) f l =
+      let g : ListFits ts xs = cc in
+      ap (skip (suc i)) (first x xs f) ∙ skip-members xs i g (omega (arith, l))
+
+  -- of the list of a number
+  module _ (n : ℕ) (xs : List GenericArg) (f : ListFits ts xs) (e : list_forest ts xs ≡ (tree_at ts n).children) where
+    pub member-at : (i c : ℕ) (d : GenericArg) → i < length xs → c ≡ arg_number (slice_index_or xs i d)
+        → (c < length ts) × (skip i (tree_at ts n).children ≡ tree (tree_at ts c).head (tree_at ts c).children (skip (suc i) (tree_at ts n).children))
+    member-at i c d l k =
+        let x = slice_index_or xs i d in
+        let one : c < length ts = subst (λ m. m < length ts) (sym k) (arg-below ts x (arg-listed ts xs i d l f)) in
+        let two = subst (λ r. skip i r ≡ begin (arg_tree ts x) (skip (suc i) r)) e (skip-member xs i d f l) in
+        (one, two ∙ ap (λ m. begin (tree_at ts m) (skip (suc i) (tree_at ts n).children)) (sym k))
+
+    pub members-end : (i : ℕ) → length xs ≤ i → skip i (tree_at ts n).children ≡ none
+    members-end i l = subst (λ r. skip i r ≡ none) e (skip-members xs i f l)
+
+pub args-at : (ts : List Tree) (n : ℕ) → n < length ts → (tree_at ts n).head ≡ H.List L.Args → kind_at ts n ≡ ArgumentsKind
+args-at ts n l e = kind_of-tree_at ts n l ∙ ap kind_of e
 
 -- One member after the other.
 

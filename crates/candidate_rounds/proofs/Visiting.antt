@@ -91,7 +91,7 @@ rows-begin l S us a b r s x y more e f =
 
 -- a child, and what stands after it
 pub child-row : (ts : List Tree) (n place : ℕ) (o : Option ℕ) (k : ℕ) → o ≡ Some k
-    → MatchOption o (skip place (tree_at ts n).children ≡ none) (λ c. (c < n) × (skip place (tree_at ts n).children ≡ tree (tree_at ts c).head (tree_at ts c).children (skip (suc place) (tree_at ts n).children)))
+    → MatchOption o (skip place (tree_at ts n).children ≡ none) (λ c. (c < length ts) × (skip place (tree_at ts n).children ≡ tree (tree_at ts c).head (tree_at ts c).children (skip (suc place) (tree_at ts n).children)))
     → skip place (tree_at ts n).children ≡ tree (tree_at ts k).head (tree_at ts k).children (skip (suc place) (tree_at ts n).children)
 child-row ts n place None k e m = cc
 child-row ts n place (Some j) k e m =
