@@ -208,6 +208,7 @@ fn value_for_region(cx: &Cx, inference: &Inference, region: Region) -> Option<Ge
 }
 
 /// What stands for a type, constant or region that is a variable, if that has a value.
+#[inline(always)]
 fn value_for(cx: &Cx, inference: &Inference, arg: GenericArg) -> Option<GenericArg>
     requires { IsArg cx.now.trees arg }
     ensures { result ≡ kept_at inference.now (arg_tree cx.now.trees arg).head }
