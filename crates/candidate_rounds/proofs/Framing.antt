@@ -32,9 +32,9 @@ longer : (ts us : List Tree) → Extends ts us → length ts ≤ length us
 longer ts us e = let n = ap length e.is in let m = length-append ts e.added in omega (arith, n, m)
 
 pub frames-kept : (ts us : List Tree) (ns : List ℕ) (fs : List Frame) → Extends ts us → AreFrames ts ns fs → AreFrames us ns fs
-frames-kept ts us ns fs e a =
-    let l = longer ts us e in
-    (each-imply (IsFrame ts) (IsFrame us) (reverse fs) (λ f i. (omega (arith, i.0, l), omega (arith, i.1, l))) a.0, a.1)
+frames-kept ts us ns fs x a =
+    let l = longer ts us x in
+    (each-imply (IsFrame ts) (IsFrame us) (reverse fs) (λ f i. (omega (arith, i.0, l), omega (arith, i.1, l), λ e. let k = i.2 e in ((number-kept ts us f.left x i.0).0 ∙ k.0, (number-kept ts us f.right x i.1).0 ∙ k.1))) a.0, a.1)
 
 -- Binders
 

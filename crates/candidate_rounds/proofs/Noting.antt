@@ -3,8 +3,6 @@ use Rattle.std.proofs.Common.{◌≡◌, ◌≤◌, ◌<◌, ◌+◌, ◌==◌, 
 use Rattle.std.specs.Option.{unwrap_or}
 use Rattle.std.proofs.lemmas.Bool.{eqb-true}
 use Rattle.candidate_ir.specs.declared.ir.heads.Head.{Head}
-use Rattle.candidate_ir.specs.declared.ir.heads.Head.TheVariants as H
-use Rattle.candidate_ir.specs.declared.ir.heads.ListHead.TheVariants as L
 use Rattle.candidate_ir.specs.declared.ir.kinds.GenericArg.{GenericArg}
 use Rattle.candidate_ir.specs.declared.ir.kinds.GenericArg.TheVariants as A
 use Rattle.candidate_ir.specs.Folding.{fold}
@@ -12,11 +10,10 @@ use Rattle.candidate_ir.specs.Folds.{IsArg, arg_tree, node}
 use Rattle.candidate_ir.specs.Kinds.{arg_child, arg_kind, arg_number, numbers}
 use Rattle.candidate_ir.specs.Nodes.{kind_at, tree_at, trees_at}
 use Rattle.candidate_ir.specs.Substitutions.{alone}
-use Rattle.candidate_ir.specs.Trees.{ArgumentsKind, Forest, none, tree, Tree, binders_of, is_list_kind, kind_of, put, row, skip, variable_number}
+use Rattle.candidate_ir.specs.Trees.{Forest, none, tree, Tree, binders_of, is_list_kind, put, row, skip, variable_number}
 use Rattle.candidate_ir.specs.Words.{ListFits, list_forest}
 use Rattle.candidate_ir.proofs.Asking.{arg-below}
 use Rattle.candidate_ir.proofs.Folding.{begin}
-use Rattle.candidate_ir.proofs.Lists.{kind_of-tree_at}
 use Rattle.candidate_ir.proofs.Rows.{kind-of}
 use Rattle.rounds_judge.specs.Responding.{is_seen, renumbered, with_number, with_numbers, with_numbers_of}
 use Rattle.candidate_rounds.proofs.Anew.{answers, fold-is, no-variable}
@@ -86,9 +83,6 @@ module _ (ts : List Tree) where
 
     pub members-end : (i : ℕ) → length xs ≤ i → skip i (tree_at ts n).children ≡ none
     members-end i l = subst (λ r. skip i r ≡ none) e (skip-members xs i f l)
-
-pub args-at : (ts : List Tree) (n : ℕ) → n < length ts → (tree_at ts n).head ≡ H.List L.Args → kind_at ts n ≡ ArgumentsKind
-args-at ts n l e = kind_of-tree_at ts n l ∙ ap kind_of e
 
 -- One member after the other.
 

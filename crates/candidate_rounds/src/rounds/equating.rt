@@ -20,7 +20,7 @@ use crate::rounds::Rounds;
 use crate::rounds::resolving::variable_at;
 use candidate_eval::eval::refusal::NoSolutionOrStop;
 use candidate_ir::decl::context::Cx;
-use candidate_ir::ir::heads::{Head, ListHead};
+use candidate_ir::ir::heads::Head;
 use candidate_ir::ir::kinds::{Args, GenericArg, Region};
 use candidate_ir::ir::stop::Stop;
 use std::alloc::Global;
@@ -33,6 +33,8 @@ pub(crate) struct Frame {
     place: usize,
     /// How many of the binders that were entered are around them.
     binders: usize,
+    /// True only where both are lists of arguments.
+    are_lists: bool,
 }
 
 /// What is left of an equation.
@@ -74,13 +76,14 @@ impl Rest {
 
 /// The number of the tree of that place below a number, from 0 on, if there are so many. A list of arguments isn't walked to the
 /// place.
-fn child_at(cx: &Cx, number: u32, place: usize) -> Option<u32>
-    requires { number < length cx.now.trees }
+fn child_at(cx: &Cx, number: u32, place: usize, is_list: bool) -> Option<u32>
+    requires number { number < length cx.now.trees }
+    requires list { is_list ≡ true → IsArgs cx.now.trees (record { 0 = number }) }
     ensures { MatchOption result (skip place (tree_at cx.now.trees number).children ≡ none) (λ c. (c < length cx.now.trees) × (skip place (tree_at cx.now.trees number).children ≡ tree (tree_at cx.now.trees c).head (tree_at cx.now.trees c).children (skip (suc place) (tree_at cx.now.trees number).children))) }
 {
-    let Head::List(ListHead::Args) = cx.head(number) else {
+    if !is_list {
         return cx.child(number, place);
-    };
+    }
     let list = cx.args(Args(number));
     if place >= list.len() {
         return None;
@@ -180,6 +183,7 @@ impl Rounds {
             right,
             place: 0,
             binders,
+            are_lists: false,
         })
     }
 
@@ -303,8 +307,8 @@ impl Rounds {
         ensures ok { OnOk result (visited (listing self.old) (state self.old) (pair_of self.old.context.trees rest.old.universes.items frame ∷ pairs_of self.old.context.trees rest.old.universes.items rest.old.frames.items) ≡ Left (state self.new) (pairs_of self.new.context.trees rest.new.universes.items rest.new.frames.items)) }
         ensures refused { IfErr result (λ e. e ≡ NoSolutionOrStop.NoSolution → visited (listing self.old) (state self.old) (pair_of self.old.context.trees rest.old.universes.items frame ∷ pairs_of self.old.context.trees rest.old.universes.items rest.old.frames.items) ≡ Refused) }
     {
-        let left = child_at(&self.cx, frame.left, frame.place);
-        let right = child_at(&self.cx, frame.right, frame.place);
+        let left = child_at(&self.cx, frame.left, frame.place, frame.are_lists);
+        let right = child_at(&self.cx, frame.right, frame.place, frame.are_lists);
         match (left, right) {
             (None, None) => Ok(()),
             (Some(left), Some(right)) => {
@@ -406,6 +410,7 @@ impl Rounds {
             right: b.0,
             place: 0,
             binders: 0,
+            are_lists: true,
         })?;
         self.unify(alloc, &mut rest)
     }

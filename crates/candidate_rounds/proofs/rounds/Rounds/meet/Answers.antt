@@ -8,6 +8,10 @@ use Rattle.candidate_rounds.proofs.Visiting.{by-answer, left-takes, matched-on, 
 use Rattle.rounds_judge.specs.Equating.{Left, Refused, matched, met}
 use Rattle.candidate_rounds.proofs.rounds.Rounds.meet.Goals as goal
 
+pub returns-then-branch-clause-frames : goal.returns-then-branch-clause-frames
+returns-then-branch-clause-frames c =
+    frames-kept c.args.self.now.context.trees c.offered.new.self.context.trees c.args.rest.now.universes.items c.args.rest.now.frames.items c.offered.ensures.goes.0.kept c.requires.frames
+
 pub returns-then-branch-clause-ok : goal.returns-then-branch-clause-ok
 returns-then-branch-clause-ok c =
     let old = c.args.self.now in

@@ -1,10 +1,5 @@
-use Rattle.std.proofs.Common.{sym, ◌∙◌, ap}
-use Rattle.candidate_ir.specs.declared.ir.heads.Head.TheVariants as H
-use Rattle.candidate_rounds.proofs.Noting.{args-at, member-at, members-end}
+use Rattle.candidate_rounds.proofs.Noting.{member-at, members-end}
 use Rattle.candidate_rounds.proofs.rounds.equating.child_at.Goals as goal
-
-pub args-list-requires : goal.args-list-requires
-args-list-requires c = args-at c.args.cx.now.trees c.args.number c.requires (sym c.head.ensures ∙ (c.in-List-Args.is ∙ ap H.List c.in-List-Args.field-0-is))
 
 pub returns-then-place-list : goal.returns-then-place-list
 returns-then-place-list c = members-end c.args.cx.now.trees c.args.number c.args-list.result.now c.args-list.ensures.fits c.args-list.ensures.tree c.args.place c.if-place-list.true
