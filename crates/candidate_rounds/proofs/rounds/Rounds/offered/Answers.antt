@@ -3,7 +3,6 @@ use Rattle.candidate_ir.specs.Folds.{arg_tree}
 use Rattle.candidate_ir.specs.Nodes.{tree_at}
 use Rattle.candidate_ir.specs.Substitutions.{alone}
 use Rattle.candidate_eval.specs.Soundness.{IsResolved}
-use Rattle.candidate_eval.specs.States.{State}
 use Rattle.rounds_judge.specs.Binding.{bound, may_take}
 use Rattle.rounds_judge.specs.Equating.{Left, offered, value_for}
 use Rattle.candidate_rounds.specs.Known.{Evaluator, listing, state, state_of}
