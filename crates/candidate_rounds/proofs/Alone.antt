@@ -1,4 +1,4 @@
--- Types without children that are neither bound nor placeholders: what walks and folds say of them.
+-- Variables and types without children that are neither bound nor placeholders: what folds say of them.
 use Rattle.std.proofs.Common.{◌≡◌, ◌+◌, Bool, true, false, List, Option, Some, None, refl, sym, ◌∙◌, ap, subst, if◌then◌else◌}
 use Rattle.std.specs.Option.{option_map, unwrap_or}
 use Rattle.candidate_ir.specs.declared.ir.heads.Builtin.{Builtin}
@@ -23,7 +23,7 @@ use Rattle.candidate_rounds.specs.declared.rounds.resolving.Lone.TheVariants as 
 use Rattle.candidate_rounds.specs.Assigning.{single_arg}
 use Rattle.candidate_rounds.specs.Inferences.{Inference, kept_at}
 use Rattle.candidate_rounds.specs.Known.{Each, IsKnown, SuitsKind, state_of}
-use Rattle.candidate_rounds.specs.Lone.{IsLone, infer_at, is_plain, lone_value}
+use Rattle.candidate_rounds.specs.Lone.{IsLone, infer_at, is_lone, is_plain, lone_value}
 use Rattle.candidate_rounds.proofs.Assigning.{some-is}
 use Rattle.candidate_rounds.proofs.Knowing.{there-arg}
 use Rattle.candidate_rounds.proofs.Listing.{or-itself, or-of-kind}
@@ -72,15 +72,29 @@ pub infer-is : (h : Head) (v : Variable) → infer_at h ≡ Some v → h ≡ H.I
 infer-is (H.Infer w) v e = ap H.Infer (some-is e)
 infer-is _ v e = cc
 
-pub region-infers : (ts : List Tree) (x : GenericArg) (r : Region) → IsArg ts x → x ≡ A.Region r → None ≡ infer_at (arg_tree ts x).head
-region-infers ts x r i e = at (arg_tree ts x).head (kind-of ts (arg_number x) (arg_kind x) (there-arg x) i ∙ ap arg_kind e)
-  where
-    sort : (s : VariableSort) → sort_kind s ≡ RegionKind → ⊥
-    sort V.General e = cc
-    sort V.Integer e = cc
-    sort V.Floating e = cc
-    sort V.Constant e = cc
+-- A region is neither.
 
-    at : (h : Head) → kind_of h ≡ RegionKind → None ≡ infer_at h
-    at (H.Infer v) e = absurd (sort v.sort e)
-    at _ e = refl
+region-sort : (s : VariableSort) → sort_kind s ≡ RegionKind → ⊥
+region-sort V.General e = cc
+region-sort V.Integer e = cc
+region-sort V.Floating e = cc
+region-sort V.Constant e = cc
+
+module _ (ts : List Tree) (x : GenericArg) (r : Region) (i : IsArg ts x) (e : x ≡ A.Region r) where
+  region-kind : kind_of (arg_tree ts x).head ≡ RegionKind
+  region-kind = kind-of ts (arg_number x) (arg_kind x) (there-arg x) i ∙ ap arg_kind e
+
+  pub region-infers : None ≡ infer_at (arg_tree ts x).head
+  region-infers = at (arg_tree ts x).head region-kind
+    where
+      at : (h : Head) → kind_of h ≡ RegionKind → None ≡ infer_at h
+      at (H.Infer v) k = absurd (region-sort v.sort k)
+      at _ k = refl
+
+  pub region-is-not : is_lone (arg_tree ts x).head ≡ false
+  region-is-not = at (arg_tree ts x).head region-kind
+    where
+      at : (h : Head) → kind_of h ≡ RegionKind → is_lone h ≡ false
+      at (H.Infer v) k = absurd (region-sort v.sort k)
+      at (H.Region s) k = refl
+      at _ k = cc

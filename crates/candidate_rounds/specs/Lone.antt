@@ -1,4 +1,4 @@
--- Types without children that are neither bound nor placeholders.
+-- Variables and types without children that are neither bound nor placeholders.
 use Rattle.std.specs.Prelude.{◌≡◌, ◌==◌, ℕ, Bool, true, false, Option, Some, None}
 use Rattle.candidate_ir.specs.declared.ir.heads.Builtin.TheVariants as B
 use Rattle.candidate_ir.specs.declared.ir.heads.Head.{Head}
@@ -21,6 +21,10 @@ is_plain (H.Builtin B.Str) = true
 is_plain (H.Builtin B.Never) = true
 is_plain _ = false
 
+abbrev pub is_lone : Head → Bool
+is_lone (H.Infer v) = true
+is_lone h = is_plain h
+
 -- it is of the head
 abbrev pub IsOfHead : Head → Lone → Type 0
 IsOfHead h (L.Variable v) = h ≡ H.Infer v
@@ -28,6 +32,10 @@ IsOfHead h L.Plain = is_plain h ≡ true
 
 abbrev pub IsLone : Tree → Lone → Type 0
 IsLone t l = IsOfHead t.head l × (t.children ≡ none)
+
+abbrev pub is_variable : Lone → Bool
+is_variable (L.Variable v) = true
+is_variable L.Plain = false
 
 -- the number of the variable that it is
 abbrev pub lone_number : Lone → Option ℕ

@@ -1,9 +1,9 @@
 //! What variables stand for.
 
-ghost use Rattle.std.specs.Prelude.{◌≡◌, ◌<◌, [], length, false, true, Some, None, Ok, MatchOption, IfOk, IfSome};
+ghost use Rattle.std.specs.Prelude.{◌≡◌, ◌<◌, [], length, false, true, Some, None, Ok, MatchOption, IfOk};
 ghost use Rattle.candidate_ir.specs.Context.{Grows};
 ghost use Rattle.candidate_ir.specs.Folds.{IsArg, arg_tree};
-ghost use Rattle.candidate_ir.specs.Kinds.{arg_kind, arg_number, ty_children, ty_head, variable_of};
+ghost use Rattle.candidate_ir.specs.Kinds.{arg_kind, arg_number, const_children, const_head, ty_children, ty_head, variable_of};
 ghost use Rattle.candidate_ir.specs.Nodes.{tree_at};
 ghost use Rattle.candidate_ir.specs.Trees.{RegionKind, TypeKind};
 ghost use Rattle.candidate_ir.specs.Words.{IsArgs, IsClause, IsConst, IsRegion, IsTy, args_forest, clause_tree, const_tree, region_tree, ty_tree};
@@ -13,7 +13,7 @@ ghost use Rattle.candidate_eval.specs.States.{resolved, resolved_tree, same_kind
 ghost use Rattle.candidate_eval.specs.declared.eval.mode.TypingMode.{TypingMode};
 ghost use Rattle.candidate_rounds.specs.Inferences.{kept_at, kept_value};
 ghost use Rattle.candidate_rounds.specs.Known.{Each, GoesOn, IsKnown, KeepsGiven, SuitsKind, probes, state, state_of};
-ghost use Rattle.candidate_rounds.specs.Lone.{IsLone, IsOfHead, has_number, infer_at, lone_number, lone_value};
+ghost use Rattle.candidate_rounds.specs.Lone.{IsLone, IsOfHead, has_number, infer_at, is_lone, is_variable, lone_number, lone_value};
 
 use crate::rounds::Rounds;
 use crate::rounds::inference::Inference;
@@ -47,18 +47,19 @@ pub(crate) fn variable_of(var: InferTy) -> Variable
     }
 }
 
-/// A type without children that is neither bound nor a placeholder.
+/// What no walk is needed for.
 #[derive(Clone, Copy)]
 pub(crate) enum Lone {
+    /// A variable of types or constants.
     Variable(Variable),
-    /// It is no variable.
+    /// A builtin type without children.
     Plain,
 }
 
 impl Lone {
     /// What the type of that kind is, if it is lone.
     fn of_kind(kind: TyKind) -> Option<Lone>
-        ensures { IfSome result (λ l. IsOfHead (ty_head kind) l × (ty_children kind ≡ [])) }
+        ensures { MatchOption result (is_lone (ty_head kind) ≡ false) (λ l. IsOfHead (ty_head kind) l × (ty_children kind ≡ [])) }
     {
         match kind {
             TyKind::Infer(var) => Some(Lone::Variable(variable_of(var))),
@@ -68,20 +69,32 @@ impl Lone {
         }
     }
 
+    /// What the constant of that kind is, if it is lone.
+    fn of_const(kind: ConstKind) -> Option<Lone>
+        ensures { MatchOption result (is_lone (const_head kind) ≡ false) (λ l. IsOfHead (const_head kind) l × (const_children kind ≡ [])) }
+    {
+        let ConstKind::Infer(number) = kind else {
+            return None;
+        };
+        let sort = VariableSort::Constant;
+        Some(Lone::Variable(Variable { sort, number }))
+    }
+
     /// What the argument is, if it is lone.
     pub(crate) fn of(cx: &Cx, arg: GenericArg) -> Option<Lone>
         requires { IsArg cx.now.trees arg }
-        ensures { IfSome result (IsLone (arg_tree cx.now.trees arg)) }
+        ensures { MatchOption result (is_lone (arg_tree cx.now.trees arg).head ≡ false) (IsLone (arg_tree cx.now.trees arg)) }
     {
         match arg {
             GenericArg::Ty(ty) => Lone::of_kind(cx.kind(ty)),
-            GenericArg::Const(_) | GenericArg::Region(_) => None,
+            GenericArg::Const(constant) => Lone::of_const(cx.const_kind(constant)),
+            GenericArg::Region(_) => None,
         }
     }
 
     /// Whether it is a variable.
     pub(crate) fn is_variable(self) -> bool
-        ensures { result ≡ false → self ≡ Lone.Plain }
+        ensures { result ≡ is_variable self }
     {
         matches!(self, Lone::Variable(_))
     }
