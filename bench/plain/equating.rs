@@ -1,7 +1,8 @@
 //! What the program `equating` does, written in plain Rust with the same algorithm and data: a table of nodes with their
 //! heights, in which lists own their members, an evaluator with a trail of changes, equations by looks at what is left, values
 //! with all values put in, and responses. It is there to be measured beside the program, and has no aliases, binders and
-//! constants, since the program's work has none.
+//! constants, since the program's work has none. As there, a type without children is looked at once, and never folded; a variable
+//! is of a sort, of which its value has to be; and variables are counted.
 
 use std::env;
 use std::process::exit;
@@ -9,10 +10,24 @@ use std::process::exit;
 const MAX_HEIGHT: u32 = 1024;
 const LENGTH: u32 = 1000;
 
+/// What a variable stands for.
+#[derive(Clone, Copy, PartialEq)]
+enum Sort {
+    General,
+    #[allow(dead_code)]
+    Integer,
+}
+
+#[derive(Clone, Copy, PartialEq)]
+struct Variable {
+    sort: Sort,
+    number: u32,
+}
+
 #[derive(Clone, Copy, PartialEq)]
 enum Kind {
     Uint(u8),
-    Infer(u32),
+    Infer(Variable),
     Slice(u32),
 }
 
@@ -29,7 +44,7 @@ struct Row {
 #[derive(Clone, Copy, PartialEq)]
 enum Head {
     Uint(u8),
-    Infer(u32),
+    Infer(Variable),
     Slice,
     Args,
 }
@@ -66,10 +81,16 @@ impl Node {
     fn head(&self) -> Head {
         match self {
             Node::Ty(Kind::Uint(width)) => Head::Uint(*width),
-            Node::Ty(Kind::Infer(number)) => Head::Infer(*number),
+            Node::Ty(Kind::Infer(variable)) => Head::Infer(*variable),
             Node::Ty(Kind::Slice(_)) => Head::Slice,
             Node::Args(_) => Head::Args,
         }
+    }
+}
+
+impl Head {
+    fn is_number(self, number: u32) -> bool {
+        matches!(self, Head::Infer(variable) if variable.number == number)
     }
 }
 
@@ -104,6 +125,24 @@ impl Nodes {
         self.push(Node::Args(list.to_vec()))
     }
 
+    /// Whether it is a type without children.
+    fn is_lone(&self, number: u32) -> bool {
+        matches!(self.node(number), Node::Ty(Kind::Uint(_) | Kind::Infer(_)))
+    }
+
+    /// Notes the numbers of the variables, each once, by first occurrence.
+    fn note(&self, number: u32, order: &mut Vec<u32>) {
+        let node = self.node(number);
+        if let Head::Infer(variable) = node.head() {
+            if !order.contains(&variable.number) {
+                order.push(variable.number);
+            }
+        }
+        for i in 0..node.child_count() {
+            self.note(node.child(i), order);
+        }
+    }
+
     /// Whether the mark stands at a node of the tree.
     fn holds(&self, number: u32, mark: &impl Fn(Head) -> bool) -> bool {
         let node = self.node(number);
@@ -134,6 +173,7 @@ impl Nodes {
 
 #[derive(Clone, Copy)]
 struct Entry {
+    sort: Sort,
     universe: u32,
     value: Option<u32>,
     is_root: bool,
@@ -188,10 +228,13 @@ impl Rounds {
     }
 
     fn new_root_var(&mut self) -> Fallible<u32> {
-        let number = self.variables.len() as u32;
-        let arg = self.nodes.push(Node::Ty(Kind::Infer(number)))?;
+        if self.variables.len() >= u32::MAX as usize {
+            return Err(Fault::NodesFull);
+        }
+        let (sort, number) = (Sort::General, self.variables.len() as u32);
+        let arg = self.nodes.push(Node::Ty(Kind::Infer(Variable { sort, number })))?;
         self.trail.push(Change::Variable);
-        self.variables.push(Entry { universe: 0, value: None, is_root: true });
+        self.variables.push(Entry { sort, universe: 0, value: None, is_root: true });
         Ok(arg)
     }
 
@@ -218,7 +261,10 @@ impl Rounds {
 
     fn value_of(variables: &[Entry], nodes: &Nodes, number: u32) -> Option<u32> {
         match nodes.head(number) {
-            Head::Infer(variable) => variables.get(variable as usize)?.value,
+            Head::Infer(variable) => {
+                let entry = variables.get(variable.number as usize)?;
+                if entry.sort == variable.sort { entry.value } else { None }
+            }
             _ => None,
         }
     }
@@ -232,15 +278,35 @@ impl Rounds {
         self.nodes.fold(number, &mut |nodes, at| Rounds::value_of(variables, nodes, at))
     }
 
-    /// With all values put in, and with listed types, of which there are none.
+    /// With all values put in; no types are listed.
     fn value_for(&mut self, number: u32) -> Fallible<u32> {
-        let resolved = self.resolved(number)?;
-        self.nodes.fold(resolved, &mut |_, _| None)
+        if self.nodes.is_lone(number) {
+            return Ok(self.current(number));
+        }
+        self.resolved(number)
     }
 
-    fn may_take(&self, variable: u32, value: u32) -> bool {
-        self.variables.get(variable as usize).is_some()
-            && !self.nodes.holds(value, &|head| head == Head::Infer(variable))
+    /// Whether the tree is of the sort.
+    fn fits(&self, sort: Sort, value: u32) -> bool {
+        match (sort, self.nodes.head(value)) {
+            (Sort::General, _) | (_, Head::Uint(_)) => true,
+            (_, Head::Infer(variable)) => variable.sort == sort,
+            _ => false,
+        }
+    }
+
+    /// The variable doesn't stand in the value, nor do bound variables, nor placeholders of universes above its own.
+    fn may_take(&self, variable: Variable, value: u32) -> bool {
+        let Some(entry) = self.variables.get(variable.number as usize) else {
+            return false;
+        };
+        if entry.sort != variable.sort || !self.fits(variable.sort, value) {
+            return false;
+        }
+        if self.nodes.is_lone(value) {
+            return !self.nodes.head(value).is_number(variable.number);
+        }
+        !self.nodes.holds(value, &|head| head.is_number(variable.number))
             && !self.nodes.holds(value, &|_| false)
             && !self.nodes.holds(value, &|_| false)
     }
@@ -251,18 +317,18 @@ impl Rounds {
         self.variables[number as usize].value = Some(value);
     }
 
-    fn renew_value(&mut self, number: u32, variable: u32, value: u32) -> Fallible<()> {
+    fn renew_value(&mut self, number: u32, variable: Variable, value: u32) -> Fallible<()> {
         let Some(entry) = self.variables.get(number as usize).copied() else {
             return Ok(());
         };
-        if number == variable {
+        if number == variable.number {
             self.assign(number, value);
             return Ok(());
         }
         let Some(old) = entry.value else {
             return Ok(());
         };
-        if !self.nodes.holds(old, &|head| head == Head::Infer(variable)) {
+        if !self.nodes.holds(old, &|head| head.is_number(variable.number)) {
             return Ok(());
         }
         let new = self.nodes.fold(old, &mut |nodes, at| if nodes.head(at) == Head::Infer(variable) { Some(value) } else { None })?;
@@ -270,23 +336,23 @@ impl Rounds {
         Ok(())
     }
 
-    fn bind(&mut self, variable: u32, value: u32) -> Fallible<()> {
-        let universe = self.variables[variable as usize].universe;
+    fn bind(&mut self, variable: Variable, value: u32) -> Fallible<()> {
+        let universe = self.variables[variable.number as usize].universe;
         if self.nodes.holds(value, &|head| matches!(head, Head::Infer(_))) {
             self.trail.push(Change::Open(self.first_open, self.end_open));
-            self.first_open = self.first_open.min(variable);
-            self.end_open = self.end_open.max(variable + 1);
+            self.first_open = self.first_open.min(variable.number);
+            self.end_open = self.end_open.max(variable.number + 1);
         }
         for number in self.first_open..self.end_open {
             self.renew_value(number, variable, value)?;
         }
-        self.renew_value(variable, variable, value)?;
+        self.renew_value(variable.number, variable, value)?;
         if self.newest_universe <= universe {
             return Ok(());
         }
         for number in 0..self.variables.len() as u32 {
             let entry = self.variables[number as usize];
-            if entry.universe > universe && self.nodes.holds(value, &|head| head == Head::Infer(number)) {
+            if entry.universe > universe && self.nodes.holds(value, &|head| head.is_number(number)) {
                 self.trail.push(Change::Universe(number, entry.universe));
                 self.variables[number as usize].universe = universe;
             }
@@ -353,33 +419,43 @@ impl Rounds {
         self.undone_unless(changes, result)
     }
 
+    /// The values of the roots, or the roots themselves, where they have none.
+    fn root_values(&mut self) -> Fallible<u32> {
+        let mut values = Vec::new();
+        for number in 0..self.variables.len() as u32 {
+            let entry = self.variables[number as usize];
+            if !entry.is_root {
+                continue;
+            }
+            let value = match entry.value {
+                Some(value) => value,
+                None => self.nodes.push(Node::Ty(Kind::Infer(Variable { sort: entry.sort, number })))?,
+            };
+            values.push(value);
+        }
+        self.nodes.push(Node::Args(values))
+    }
+
+    /// The list, with its variables numbered by their places.
+    fn renumbered(&mut self, list: u32, order: &[u32]) -> Fallible<u32> {
+        let mut leaves = Vec::new();
+        for (place, number) in order.iter().enumerate() {
+            let sort = self.variables[*number as usize].sort;
+            let variable = Variable { sort, number: place as u32 };
+            leaves.push(self.nodes.push(Node::Ty(Kind::Infer(variable)))?);
+        }
+        self.nodes.fold(list, &mut |nodes, at| match nodes.head(at) {
+            Head::Infer(variable) => order.iter().position(|it| *it == variable.number).map(|place| leaves[place]),
+            _ => None,
+        })
+    }
+
     /// The values of the roots, with the variables that are left numbered anew by first occurrence.
     fn respond(&mut self) -> Fallible<Response> {
-        let mut roots = Vec::new();
-        for number in 0..self.variables.len() as u32 {
-            if self.variables[number as usize].is_root {
-                roots.push(self.nodes.push(Node::Ty(Kind::Infer(number)))?);
-            }
-        }
-        let list = self.nodes.push(Node::Args(roots))?;
-        let resolved = self.resolved(list)?;
-        let mut order: Vec<u32> = Vec::new();
-        self.nodes.fold(resolved, &mut |nodes, at| {
-            if let Head::Infer(number) = nodes.head(at) {
-                if !order.contains(&number) {
-                    order.push(number);
-                }
-            }
-            None
-        })?;
-        let mut leaves = Vec::new();
-        for place in 0..order.len() as u32 {
-            leaves.push(self.nodes.push(Node::Ty(Kind::Infer(place)))?);
-        }
-        let values = self.nodes.fold(resolved, &mut |nodes, at| match nodes.head(at) {
-            Head::Infer(number) => order.iter().position(|it| *it == number).map(|place| leaves[place]),
-            _ => None,
-        })?;
+        let list = self.root_values()?;
+        let mut order = Vec::new();
+        self.nodes.note(list, &mut order);
+        let values = if order.is_empty() { list } else { self.renumbered(list, &order)? };
         let vars = order.iter().map(|number| (self.variables[*number as usize].universe, true)).collect();
         Ok(Response { values, vars })
     }

@@ -1,17 +1,16 @@
 -- What is left of an equation, by numbers.
-use Rattle.std.proofs.Common.{◌≡◌, ℕ, zero, suc, ◌+◌, ◌<◌, ◌≤◌, ◌-◌, Bool, true, false, ◌&&◌, List, [], ◌∷◌, ◌++◌, length, take, map, reverse, Option, Some, None, Result, Ok, Err, OnOk, refl, sym, ◌∙◌, ap, subst, arith, if◌then◌else◌}
-use Rattle.std.proofs.lemmas.List.{reverse-append, take-append-le, append-nil, length-append, length-reverse}
+use Rattle.std.proofs.Common.{◌≡◌, ℕ, ◌≤◌, Bool, true, false, ◌&&◌, List, [], ◌∷◌, ◌++◌, length, map, reverse, Result, Ok, Err, OnOk, refl, sym, ◌∙◌, ap, subst, arith, if◌then◌else◌}
+use Rattle.std.proofs.lemmas.List.{reverse-append, take-append-le, length-append}
 use Rattle.std.proofs.Math.Seq.{take-length}
 use Rattle.candidate_ir.specs.declared.ir.heads.Head.{Head}
-use Rattle.candidate_ir.specs.Context.{Context, Grows}
 use Rattle.candidate_ir.specs.Nodes.{Extends, tree_at}
-use Rattle.candidate_ir.specs.Trees.{Forest, none, tree, Tree, skip}
+use Rattle.candidate_ir.specs.Trees.{Forest, Tree, skip}
 use Rattle.candidate_ir.specs.Unify.{same_head}
 use Rattle.candidate_ir.proofs.Kept.{number-kept}
 use Rattle.candidate_eval.specs.States.{State, with_universe}
 use Rattle.candidate_eval.specs.Soundness.{is_region}
 use Rattle.candidate_rounds.specs.declared.rounds.equating.Frame.{Frame}
-use Rattle.rounds_judge.specs.Equating.{Pair, Visit, Left, Refused, matched, with_equal_regions}
+use Rattle.rounds_judge.specs.Equating.{Pair, Left, Refused, matched, with_equal_regions}
 use Rattle.candidate_rounds.specs.Frames.{scope_of, pair_of, pairs_of, IsFrame, AreNested, AreFrames, with_binder}
 use Rattle.candidate_rounds.specs.Known.{Each}
 use Rattle.rounds_judge.specs.Scopes.{Scope, placed_tree, entered, has_binder, has_variables, scope_below}
@@ -32,9 +31,9 @@ longer : (ts us : List Tree) → Extends ts us → length ts ≤ length us
 longer ts us e = let n = ap length e.is in let m = length-append ts e.added in omega (arith, n, m)
 
 pub frames-kept : (ts us : List Tree) (ns : List ℕ) (fs : List Frame) → Extends ts us → AreFrames ts ns fs → AreFrames us ns fs
-frames-kept ts us ns fs e a =
-    let l = longer ts us e in
-    (each-imply (IsFrame ts) (IsFrame us) (reverse fs) (λ f i. (omega (arith, i.0, l), omega (arith, i.1, l))) a.0, a.1)
+frames-kept ts us ns fs x a =
+    let l = longer ts us x in
+    (each-imply (IsFrame ts) (IsFrame us) (reverse fs) (λ f i. (omega (arith, i.0, l), omega (arith, i.1, l), λ e. let k = i.2 e in ((number-kept ts us f.left x i.0).0 ∙ k.0, (number-kept ts us f.right x i.1).0 ∙ k.1))) a.0, a.1)
 
 -- Binders
 

@@ -1,25 +1,25 @@
 -- Root variables and clauses, gathered one after another.
 use Rattle.std.proofs.Common.{◌≡◌, ◌≤◌, ◌<◌, ◌+◌, ℕ, zero, suc, Bool, true, false, List, [], ◌∷◌, ◌++◌, length, map, drop, slice_get, slice_index_or, append_assoc, Option, Some, None, refl, sym, ◌∙◌, ap, subst, arith, if◌then◌else◌}
 use Rattle.std.specs.Prelude.{IfOk, IfSome, Result, Ok, Err}
-use Rattle.std.specs.Option.{option_map, option_to_list}
+use Rattle.std.specs.Option.{option_map, option_to_list, unwrap_or}
 use Rattle.std.proofs.lemmas.List.{append-nil}
 use Rattle.std.proofs.lemmas.Option.{slice_get-map}
-use Rattle.candidate_ir.specs.declared.ir.heads.VariableSort.TheVariants as V
 use Rattle.candidate_ir.specs.declared.ir.kinds.Args.{Args}
 use Rattle.candidate_ir.specs.declared.ir.kinds.Clause.{Clause}
 use Rattle.candidate_ir.specs.declared.ir.kinds.GenericArg.{GenericArg}
 use Rattle.candidate_ir.specs.Context.{Context, Grows}
 use Rattle.candidate_ir.specs.Folds.{IsArg, arg_tree}
 use Rattle.candidate_ir.specs.Kinds.{arg_child, numbers}
-use Rattle.candidate_ir.specs.Nodes.{Extends, clause_child, kinds_at, trees_at, rows}
-use Rattle.candidate_ir.specs.Trees.{Forest, tree, Tree, row, ClauseKind}
+use Rattle.candidate_ir.specs.Nodes.{Extends, clause_child, kinds_at, trees_at}
+use Rattle.candidate_ir.specs.Trees.{Forest, tree, Tree, ClauseKind}
 use Rattle.candidate_ir.specs.Words.{ClauseListFits, IsArgs, IsClause, ListFits, args_forest, clause_tree, list_forest}
+use Rattle.candidate_ir.proofs.Folding.{begin}
 use Rattle.candidate_ir.proofs.Kept.{args-kept, grows-trans}
 use Rattle.candidate_ir.proofs.Lists.{trees_at-append}
 use Rattle.candidate_ir.proofs.Made.{ListFits-grows}
 use Rattle.candidate_eval.specs.declared.eval.variable.VariableKind.{VariableKind}
 use Rattle.candidate_eval.specs.declared.eval.variable.VariableKind.TheVariants.{Term, Region}
-use Rattle.candidate_eval.specs.States.{resolved_tree, variable}
+use Rattle.candidate_eval.specs.States.{State, resolved, resolved_tree, same_kind, variable}
 use Rattle.candidate_rounds.specs.declared.rounds.inference.Entry.{Entry}
 use Rattle.candidate_eval.specs.declared.eval.response.CanonicalResponse.{CanonicalResponse}
 use Rattle.candidate_eval.specs.declared.eval.mode.TypingMode.{TypingMode}
@@ -27,11 +27,14 @@ use Rattle.candidate_eval.specs.declared.eval.variable.CanonicalVar.{CanonicalVa
 use Rattle.candidate_eval.specs.Alike.{info}
 use Rattle.candidate_eval.specs.ResponseTrees.{response_of}
 use Rattle.candidate_rounds.specs.Gathered.{open_entry, root_at}
-use Rattle.candidate_rounds.specs.Inferences.{Inference}
+use Rattle.candidate_rounds.specs.Inferences.{Inference, is_of_kind, kept_value, value_of}
 use Rattle.candidate_rounds.specs.Known.{Each, IsKnown, info_of, state_of}
 use Rattle.rounds_judge.specs.Responding.{constraints, open_numbers, open_variable, renumbered, renumbered_tree, response, root_values, roots_from, with_numbers, with_numbers_of}
 use Rattle.candidate_rounds.proofs.Knowing.{clause-stays, is-clause-stays, state-stays}
 use Rattle.candidate_rounds.proofs.Leafing.{below-args, push-fits, push-trees}
+use Rattle.candidate_rounds.proofs.Noting.{in_row, list-row}
+use Rattle.candidate_rounds.proofs.Resolving.{kept-tree}
+use Rattle.rounds_judge.proofs.Bound.{same_sort_itself}
 use Rattle.candidate_rounds.proofs.Undoing.{drop-one, drop-beyond}
 
 -- The root variables' trees, from a number on.
@@ -44,30 +47,29 @@ abbrev pub root_trees : ℕ → List Entry → List Tree
 root_trees n [] = []
 root_trees n (e ∷ es) = with_some (root_at n (Some e)) (root_trees (suc n) es)
 
-variable-row : (k : VariableKind) (n : ℕ) (r : Forest) → row (variable k n) r ≡ tree (variable k n).head (variable k n).children r
-variable-row (Term V.General) n r = refl
-variable-row (Term V.Integer) n r = refl
-variable-row (Term V.Floating) n r = refl
-variable-row (Term V.Constant) n r = refl
-variable-row Region n r = refl
-
-roots-rows : (ts : List Tree) (n : ℕ) (es : List Entry) → rows (root_trees n es) ≡ roots_from n (map (info_of ts) es)
-roots-rows ts n [] = refl
-roots-rows ts n (e ∷ es) = at e.is_root (roots-rows ts (suc n) es)
+-- their values, in a row
+roots-row : (ts : List Tree) (S : State) (n : ℕ) (es : List Entry) → in_row (map (resolved_tree S) (root_trees n es)) ≡ resolved S (roots_from n (map (info_of ts) es))
+roots-row ts S n [] = refl
+roots-row ts S n (e ∷ es) = at e.is_root (roots-row ts S (suc n) es)
   where
-    at : (b : Bool) → rows (root_trees (suc n) es) ≡ roots_from (suc n) (map (info_of ts) es) → rows (with_some (if b then Some (variable e.kind n) else None) (root_trees (suc n) es))
-        ≡ (if b then tree (variable e.kind n).head (variable e.kind n).children (roots_from (suc n) (map (info_of ts) es)) else roots_from (suc n) (map (info_of ts) es))
-    at true r = variable-row e.kind n (rows (root_trees (suc n) es)) ∙ ap (λ r. tree (variable e.kind n).head (variable e.kind n).children r) r
+    one : (k : VariableKind) (r : Forest) → begin (resolved_tree S (variable k n)) (resolved S r) ≡ resolved S (tree (variable k n).head (variable k n).children r)
+    one (Term s) r = refl
+    one Region r = refl
+
+    at : (b : Bool) → in_row (map (resolved_tree S) (root_trees (suc n) es)) ≡ resolved S (roots_from (suc n) (map (info_of ts) es))
+        → in_row (map (resolved_tree S) (with_some (if b then Some (variable e.kind n) else None) (root_trees (suc n) es)))
+        ≡ resolved S (if b then tree (variable e.kind n).head (variable e.kind n).children (roots_from (suc n) (map (info_of ts) es)) else roots_from (suc n) (map (info_of ts) es))
+    at true r = ap (begin (resolved_tree S (variable e.kind n))) r ∙ one e.kind (roots_from (suc n) (map (info_of ts) es))
     at false r = r
 
--- Those of so many variables were made: with what is left they are all.
-pub record RootsSoFar (old now : Context) (es : List Entry) (i : ℕ) (xs : List GenericArg) : Type 0 where
+-- Trees of those of so many variables were made, as each function of a family says: with what is left they are all.
+pub record RootsSoFar (F : Type 0) (f : F → Tree → Tree) (old now : Context) (es : List Entry) (i : ℕ) (xs : List GenericArg) : Type 0 where
   pub grows : Grows old now
   pub fits : ListFits now.trees xs
-  pub left : trees_at now.trees (numbers (map arg_child xs)) ++ root_trees i (drop i es) ≡ root_trees 0 es
+  pub left : (m : F) → trees_at now.trees (numbers (map arg_child xs)) ++ map (f m) (root_trees i (drop i es)) ≡ map (f m) (root_trees 0 es)
 
-pub no-roots : (c : Context) (es : List Entry) → Grows c c → RootsSoFar c c es 0 []
-no-roots c es g = record { grows = g; fits = refl; left = refl }
+pub no-roots : (F : Type 0) (f : F → Tree → Tree) (c : Context) (es : List Entry) → Grows c c → RootsSoFar F f c c es 0 []
+no-roots F f c es g = record { grows = g; fits = refl; left = λ m. refl }
 
 trees-stay : (b c : Context) (xs : List GenericArg) → Grows b c → ListFits b.trees xs → trees_at c.trees (numbers (map arg_child xs)) ≡ trees_at b.trees (numbers (map arg_child xs))
 trees-stay b c xs g f = ap (λ us. trees_at us (numbers (map arg_child xs))) g.kept.is ∙ trees_at-append b.trees g.kept.added (numbers (map arg_child xs)) (below-args b.trees xs f)
@@ -77,44 +79,72 @@ get-one [] i l = absurd (omega (arith, l))
 get-one (x ∷ xs) zero l = (x, refl, refl)
 get-one (x ∷ xs) (suc i) l = get-one xs i (omega (arith, l))
 
-next-roots : (es : List Entry) (i : ℕ) (o : Option Tree) → i < length es → o ≡ root_at i (slice_get es i) → root_trees i (drop i es) ≡ with_some o (root_trees (suc i) (drop (suc i) es))
-next-roots es i o l e =
-    let g = get-one es i l in
-    ap (root_trees i) g.2 ∙ ap (λ p. with_some p (root_trees (suc i) (drop (suc i) es))) (sym (e ∙ ap (root_at i) g.1))
+mapped-some : (g : Tree → Tree) (o : Option Tree) (us : List Tree) → map g (with_some o us) ≡ with_some (option_map g o) (map g us)
+mapped-some g None us = refl
+mapped-some g (Some t) us = refl
 
-pub no-root : (a b c : Context) (es : List Entry) (i : ℕ) (xs : List GenericArg) → RootsSoFar a b es i xs → i < length es → Grows b c → None ≡ root_at i (slice_get es i) → RootsSoFar a c es (i + 1) xs
-no-root a b c es i xs s l g e = record {
-  grows = grows-trans a b c s.grows g;
-  fits = ListFits-grows b c xs g s.fits;
-  left =
-      ap (λ n. trees_at c.trees (numbers (map arg_child xs)) ++ root_trees n (drop n es)) (let n : i + 1 ≡ suc i = omega arith in n)
-      ∙ (ap (λ us. us ++ root_trees (suc i) (drop (suc i) es)) (trees-stay b c xs g s.fits)
-      ∙ (ap (λ us. trees_at b.trees (numbers (map arg_child xs)) ++ us) (sym (next-roots es i None l e)) ∙ s.left));
-}
+next-roots : (g : Tree → Tree) (es : List Entry) (i : ℕ) (o : Option Tree) → i < length es → o ≡ option_map g (root_at i (slice_get es i))
+    → map g (root_trees i (drop i es)) ≡ with_some o (map g (root_trees (suc i) (drop (suc i) es)))
+next-roots g es i o l e =
+    let p = get-one es i l in
+    let us = root_trees (suc i) (drop (suc i) es) in
+    ap (λ ds. map g (root_trees i ds)) p.2
+    ∙ (mapped-some g (root_at i (Some p.0)) us ∙ ap (λ q. with_some q (map g us)) (sym (e ∙ ap (λ w. option_map g (root_at i w)) p.1)))
 
-pub one-more-root : (a b c : Context) (es : List Entry) (i : ℕ) (xs ys : List GenericArg) (x : GenericArg) → RootsSoFar a b es i xs → i < length es → Grows b c
-    → IsArg c.trees x → Some (arg_tree c.trees x) ≡ root_at i (slice_get es i) → ys ≡ xs ++ x ∷ [] → RootsSoFar a c es (i + 1) ys
-one-more-root a b c es i xs ys x s l g k e q = subst (λ zs. RootsSoFar a c es (i + 1) zs) (sym q) (record {
-  grows = grows-trans a b c s.grows g;
-  fits = push-fits c.trees xs x (ListFits-grows b c xs g s.fits) k;
-  left =
-      ap (λ n. trees_at c.trees (numbers (map arg_child (xs ++ x ∷ []))) ++ root_trees n (drop n es)) (let n : i + 1 ≡ suc i = omega arith in n)
-      ∙ (ap (λ us. us ++ root_trees (suc i) (drop (suc i) es)) (push-trees c.trees xs x)
-      ∙ (append_assoc (trees_at c.trees (numbers (map arg_child xs))) (arg_tree c.trees x ∷ []) (root_trees (suc i) (drop (suc i) es))
-      ∙ (ap (λ us. us ++ arg_tree c.trees x ∷ root_trees (suc i) (drop (suc i) es)) (trees-stay b c xs g s.fits)
-      ∙ (ap (λ us. trees_at b.trees (numbers (map arg_child xs)) ++ us) (sym (next-roots es i (Some (arg_tree c.trees x)) l e)) ∙ s.left))));
-})
+module _ (F : Type 0) (f : F → Tree → Tree) (a b c : Context) (es : List Entry) (i : ℕ) (xs : List GenericArg) (s : RootsSoFar F f a b es i xs) (l : i < length es) (g : Grows b c) where
+  no-root : ((m : F) → None ≡ option_map (f m) (root_at i (slice_get es i))) → RootsSoFar F f a c es (i + 1) xs
+  no-root e = record {
+    grows = grows-trans a b c s.grows g;
+    fits = ListFits-grows b c xs g s.fits;
+    left = λ m.
+        ap (λ n. trees_at c.trees (numbers (map arg_child xs)) ++ map (f m) (root_trees n (drop n es))) (let n : i + 1 ≡ suc i = omega arith in n)
+        ∙ (ap (λ us. us ++ map (f m) (root_trees (suc i) (drop (suc i) es))) (trees-stay b c xs g s.fits)
+        ∙ (ap (λ us. trees_at b.trees (numbers (map arg_child xs)) ++ us) (sym (next-roots (f m) es i None l (e m))) ∙ s.left m));
+  }
 
-pub more-roots : (a b c : Context) (es : List Entry) (i : ℕ) (xs ys : List GenericArg) (o : Option GenericArg) → RootsSoFar a b es i xs → i < length es → Grows b c
-    → IfSome o (λ x. IsArg c.trees x) → option_map (arg_tree c.trees) o ≡ root_at i (slice_get es i) → ys ≡ xs ++ option_to_list o → RootsSoFar a c es (i + 1) ys
-more-roots a b c es i xs ys None s l g k e q = subst (λ zs. RootsSoFar a c es (i + 1) zs) (sym (q ∙ append-nil xs)) (no-root a b c es i xs s l g e)
-more-roots a b c es i xs ys (Some x) s l g k e q = one-more-root a b c es i xs ys x s l g k e q
+  one-more-root : (ys : List GenericArg) (x : GenericArg) → IsArg c.trees x → ((m : F) → Some (arg_tree c.trees x) ≡ option_map (f m) (root_at i (slice_get es i))) → ys ≡ xs ++ x ∷ []
+      → RootsSoFar F f a c es (i + 1) ys
+  one-more-root ys x k e q = subst (λ zs. RootsSoFar F f a c es (i + 1) zs) (sym q) (record {
+    grows = grows-trans a b c s.grows g;
+    fits = push-fits c.trees xs x (ListFits-grows b c xs g s.fits) k;
+    left = λ m.
+        let us = map (f m) (root_trees (suc i) (drop (suc i) es)) in
+        ap (λ n. trees_at c.trees (numbers (map arg_child (xs ++ x ∷ []))) ++ map (f m) (root_trees n (drop n es))) (let n : i + 1 ≡ suc i = omega arith in n)
+        ∙ (ap (λ ts. ts ++ us) (push-trees c.trees xs x)
+        ∙ (append_assoc (trees_at c.trees (numbers (map arg_child xs))) (arg_tree c.trees x ∷ []) us
+        ∙ (ap (λ ts. ts ++ arg_tree c.trees x ∷ us) (trees-stay b c xs g s.fits)
+        ∙ (ap (λ ts. trees_at b.trees (numbers (map arg_child xs)) ++ ts) (sym (next-roots (f m) es i (Some (arg_tree c.trees x)) l (e m))) ∙ s.left m))));
+  })
 
-pub all-roots : (a b : Context) (ts : List Tree) (es : List Entry) (i : ℕ) (xs : List GenericArg) → RootsSoFar a b es i xs → length es ≤ i → list_forest b.trees xs ≡ roots_from 0 (map (info_of ts) es)
-all-roots a b ts es i xs s l =
-    ap rows (sym (append-nil (trees_at b.trees (numbers (map arg_child xs))))
-    ∙ (ap (λ us. trees_at b.trees (numbers (map arg_child xs)) ++ root_trees i us) (sym (drop-beyond es i l)) ∙ s.left))
-    ∙ roots-rows ts 0 es
+  pub more-roots : (ys : List GenericArg) (o : Option GenericArg) → IfSome o (λ x. IsArg c.trees x) → ((m : F) → option_map (arg_tree c.trees) o ≡ option_map (f m) (root_at i (slice_get es i)))
+      → ys ≡ xs ++ option_to_list o → RootsSoFar F f a c es (i + 1) ys
+  more-roots ys None k e q = subst (λ zs. RootsSoFar F f a c es (i + 1) zs) (sym (q ∙ append-nil xs)) (no-root e)
+  more-roots ys (Some x) k e q = one-more-root ys x k e q
+
+pub all-roots : (F : Type 0) (S : F → State) (a b : Context) (ts : List Tree) (es : List Entry) (i : ℕ) (xs : List GenericArg) → RootsSoFar F (λ m. resolved_tree (S m)) a b es i xs → length es ≤ i
+    → (m : F) → list_forest b.trees xs ≡ resolved (S m) (roots_from 0 (map (info_of ts) es))
+all-roots F S a b ts es i xs s l m =
+    let us = trees_at b.trees (numbers (map arg_child xs)) in
+    list-row b.trees xs s.fits
+    ∙ (ap in_row (sym (append-nil us) ∙ (ap (λ ds. us ++ map (resolved_tree (S m)) (root_trees i ds)) (sym (drop-beyond es i l)) ∙ s.left m))
+    ∙ roots-row ts (S m) 0 es)
+
+-- What stands for a root: its value, or itself.
+
+same-itself : (k : VariableKind) → same_kind k k ≡ true
+same-itself (Term s) = same_sort_itself s
+same-itself Region = refl
+
+pub root-resolved : (ts : List Tree) (m : TypingMode) (s : Inference) (n : ℕ) (e : Entry) → slice_get s.variables n ≡ Some e
+    → resolved_tree (state_of ts m s) (variable e.kind n) ≡ unwrap_or (option_map (arg_tree ts) e.value) (variable e.kind n)
+root-resolved ts m s n e g = at e.kind e.value own
+  where
+    own : kept_value s e.kind n ≡ e.value
+    own = ap (λ o. if is_of_kind e.kind o then value_of o else None) g ∙ ap (λ b. if b then e.value else None) (same-itself e.kind)
+
+    at : (k : VariableKind) (o : Option GenericArg) → kept_value s k n ≡ o → resolved_tree (state_of ts m s) (variable k n) ≡ unwrap_or (option_map (arg_tree ts) o) (variable k n)
+    at (Term t) o q = ap (λ u. unwrap_or u (variable (Term t) n)) (sym (kept-tree ts m s (variable (Term t) n).head) ∙ ap (option_map (arg_tree ts)) q)
+    at Region o q = ap (λ u. unwrap_or u (variable Region n)) (sym (kept-tree ts m s (variable Region n).head) ∙ ap (option_map (arg_tree ts)) q)
 
 -- Clauses that were made of others, one after the other, as each function of a family says.
 pub record ClausesSoFar (F : Type 0) (f : F → Tree → Tree) (old now : Context) (cs : List Clause) (i : ℕ) (xs : List Clause) : Type 0 where

@@ -24,4 +24,6 @@ pub mod Visiting
 pub mod Trying
 pub mod Projecting
 pub mod Evaluating
+pub mod Alone
+pub mod Noting
 pub mod Interface

@@ -129,6 +129,15 @@ module _ (a b : Context) (S : State) (ps : List (Ty × Ty)) (x : GenericArg) whe
   pub other-root : is_alias (arg_tree a.trees x).head ≡ false → arg_tree a.trees x ≡ listed_at (listing_of a.trees ps) S (arg_tree a.trees x)
   other-root q = sym (ap (λ c. if c then unwrap_or (listed (listing_of a.trees ps) (resolved_tree S (arg_tree a.trees x))) (arg_tree a.trees x) else arg_tree a.trees x) q)
 
+-- Where nothing is listed it stays.
+pub empty-root : (ts : List Tree) (ps : List (Ty × Ty)) (S : State) (t : Tree) → (length ps == 0) ≡ true → t ≡ listed_at (listing_of ts ps) S t
+empty-root ts [] S t e = at (is_alias t.head)
+  where
+    at : (b : Bool) → t ≡ (if b then t else t)
+    at true = refl
+    at false = refl
+empty-root ts (p ∷ ps) S t e = let z = eqb-true (suc (length ps)) 0 e in absurd (omega (arith, z))
+
 -- A call that answers what is listed.
 pub listed-answer : (c s e : Context) (ps : List (Ty × Ty)) (x : GenericArg) (r : Result (Option GenericArg) Stop) → Grows c s → Each (AreTypes c.trees) ps → e ≡ s
     → IfOk r (λ o. option_map (arg_tree s.trees) o ≡ listed (listing_of s.trees ps) (arg_tree s.trees x)) → IfOk r (λ o. option_map (arg_tree e.trees) o ≡ listed (listing_of c.trees ps) (arg_tree s.trees x))

@@ -1,5 +1,5 @@
 -- Looks by numbers: what was found at an evaluator holds of one that went on without knowing more.
-use Rattle.std.proofs.Common.{◌≡◌, ◌<◌, ◌≤◌, ◌+◌, ℕ, suc, Bool, true, false, List, [], ◌∷◌, ◌++◌, length, map, take, drop, reverse, Option, Some, None, Result, Ok, Err, IfErr, MatchOption, OnOk, refl, sym, ◌∙◌, ap, subst, arith}
+use Rattle.std.proofs.Common.{◌≡◌, ◌<◌, ℕ, suc, Bool, List, [], ◌∷◌, ◌++◌, length, map, take, drop, reverse, Option, Some, None, Result, Ok, Err, IfErr, MatchOption, OnOk, sym, ◌∙◌, ap, subst, arith}
 use Rattle.std.proofs.lemmas.List.{length-take-le, take-append-drop}
 use Rattle.candidate_ir.specs.declared.ir.heads.Head.{Head}
 use Rattle.candidate_ir.specs.Nodes.{tree_at}
@@ -8,12 +8,12 @@ use Rattle.candidate_ir.proofs.Kept.{number-kept}
 use Rattle.candidate_eval.specs.declared.eval.refusal.NoSolutionOrStop.{NoSolutionOrStop}
 use Rattle.candidate_eval.specs.States.{State}
 use Rattle.candidate_rounds.specs.declared.rounds.equating.Frame.{Frame}
-use Rattle.rounds_judge.specs.Equating.{Left, Pair, Refused, Visit, first_of, looks, matched, met, offered, unified, visited}
+use Rattle.rounds_judge.specs.Equating.{Left, Pair, first_of, matched, met, offered, visited}
 use Rattle.candidate_rounds.specs.Frames.{AreFrames, AreNested, pair_of, pairs_of, scope_of, taken_if}
 use Rattle.candidate_rounds.specs.Known.{Evaluator, GoesOn, IsGiven, listing, state}
 use Rattle.rounds_judge.specs.Listed.{Listing, current}
 use Rattle.rounds_judge.specs.Scopes.{Scope}
-use Rattle.candidate_rounds.proofs.Framing.{nested-kept, pairs-kept, pairs-pushed, reverse-one, scope-all}
+use Rattle.candidate_rounds.proofs.Framing.{nested-kept, pairs-pushed, reverse-one, scope-all}
 use Rattle.candidate_rounds.proofs.Going.{goes-listing}
 
 -- An answer by another name for what it is of.
@@ -91,7 +91,7 @@ rows-begin l S us a b r s x y more e f =
 
 -- a child, and what stands after it
 pub child-row : (ts : List Tree) (n place : ℕ) (o : Option ℕ) (k : ℕ) → o ≡ Some k
-    → MatchOption o (skip place (tree_at ts n).children ≡ none) (λ c. (c < n) × (skip place (tree_at ts n).children ≡ tree (tree_at ts c).head (tree_at ts c).children (skip (suc place) (tree_at ts n).children)))
+    → MatchOption o (skip place (tree_at ts n).children ≡ none) (λ c. (c < length ts) × (skip place (tree_at ts n).children ≡ tree (tree_at ts c).head (tree_at ts c).children (skip (suc place) (tree_at ts n).children)))
     → skip place (tree_at ts n).children ≡ tree (tree_at ts k).head (tree_at ts k).children (skip (suc place) (tree_at ts n).children)
 child-row ts n place None k e m = cc
 child-row ts n place (Some j) k e m =

@@ -2,6 +2,7 @@
 use Rattle.std.specs.Prelude.{◌≡◌, ◌<◌, ◌≤◌, ℕ, Bool, true, false, Option, Some, None, List, [], ◌∷◌, map, length, reverse, take}
 use Rattle.candidate_ir.specs.Nodes.{tree_at}
 use Rattle.candidate_ir.specs.Trees.{Tree, skip}
+use Rattle.candidate_ir.specs.Words.{IsArgs}
 use Rattle.candidate_rounds.specs.declared.rounds.equating.Frame.{Frame}
 use Rattle.candidate_eval.specs.States.{State, with_universe}
 use Rattle.rounds_judge.specs.Equating.{Pair, Visit, Left}
@@ -24,9 +25,9 @@ pair_of ts us f = record {
 abbrev pub pairs_of : List Tree → List ℕ → List Frame → List Pair
 pairs_of ts us fs = map (pair_of ts us) (reverse fs)
 
--- The numbers are the context's.
+-- The numbers are the context's, and of lists where they are said to be.
 abbrev pub IsFrame : List Tree → Frame → Type 0
-IsFrame ts f = (f.left < length ts) × (f.right < length ts)
+IsFrame ts f = (f.left < length ts) × (f.right < length ts) × (f.are_lists ≡ true → IsArgs ts (record { 0 = f.left }) × IsArgs ts (record { 0 = f.right }))
 
 -- Those last are under as many binders as those before, or more, and under so many at most.
 abbrev pub AreNested : ℕ → List Frame → Type 0

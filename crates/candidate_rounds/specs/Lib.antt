@@ -5,4 +5,5 @@ pub mod Assigning
 pub mod Frames
 pub mod Trying
 pub mod Gathered
+pub mod Lone
 pub mod Interface

@@ -5,7 +5,7 @@ ghost use Rattle.candidate_ir.specs.Context.{Grows};
 ghost use Rattle.candidate_ir.specs.Folds.{IsArg, arg_tree};
 ghost use Rattle.candidate_ir.specs.Kinds.{arg_kind, ty_head};
 ghost use Rattle.candidate_ir.specs.Substitutions.{alone, fits_sort, is_float, is_integer, same_sort, same_variable};
-ghost use Rattle.candidate_ir.specs.Trees.{tree_holds};
+ghost use Rattle.candidate_ir.specs.Trees.{is_number, tree_holds};
 ghost use Rattle.candidate_ir.specs.Unify.{same_head};
 ghost use Rattle.candidate_ir.specs.Words.{IsClause, IsConst, IsRegion, IsTy, clause_tree, const_tree, region_tree, ty_tree};
 ghost use Rattle.candidate_eval.specs.Soundness.{IsResolved};
@@ -20,7 +20,7 @@ ghost use Rattle.candidate_rounds.specs.Known.{AreMarks, GoesOn, HasResolvedValu
 
 use crate::rounds::Rounds;
 use crate::rounds::inference::Inference;
-use crate::rounds::resolving::{is_same_kind, variable_of};
+use crate::rounds::resolving::{Lone, is_same_kind, variable_of};
 use candidate_eval::eval::variable::VariableKind;
 use candidate_ir::decl::context::Cx;
 use candidate_ir::decl::fold::fold_arg;
@@ -80,12 +80,26 @@ fn fits_sort(cx: &Cx, sort: VariableSort, arg: GenericArg) -> bool
     }
 }
 
+/// Whether the variable of that number stands anywhere in the argument.
+fn mentions(cx: &Cx, arg: GenericArg, number: u32) -> bool
+    requires { IsArg cx.now.trees arg }
+    ensures { result ≡ tree_holds (is_number number) (arg_tree cx.now.trees arg) }
+{
+    match Lone::of(cx, arg) {
+        Some(lone) => lone.has_number(number),
+        None => cx.mentions(arg, number),
+    }
+}
+
 /// Whether the argument, of which its sort isn't looked at, may be the value of a variable of that number and universe: it
 /// doesn't hold it, is closed, and names no placeholder of a universe above the variable's.
 fn is_allowed(cx: &Cx, number: u32, universe: u32, value: GenericArg) -> bool
     requires { IsArg cx.now.trees value }
     ensures { result ≡ allows number universe (arg_tree cx.now.trees value) }
 {
+    if let Some(lone) = Lone::of(cx, value) {
+        return !lone.has_number(number);
+    }
     if cx.mentions(value, number) {
         return false;
     }
@@ -185,6 +199,9 @@ fn put_in(
     ensures sort { IfOk result (λ x. IsArg cx.new.trees x) }
     ensures tree { IfOk result (λ x. arg_tree cx.new.trees x ≡ valued_tree (single variable (arg_tree cx.old.trees value)) (arg_tree cx.old.trees arg)) }
 {
+    if let Some(put) = put_for(cx, variable, value, arg) {
+        return Ok(put);
+    }
     fold_arg(
         alloc,
         cx,
@@ -202,6 +219,9 @@ fn is_open(cx: &Cx, arg: GenericArg) -> bool
     requires { IsArg cx.now.trees arg }
     ensures { result ≡ false → tree_holds is_open (arg_tree cx.now.trees arg) ≡ false }
 {
+    if let Some(lone) = Lone::of(cx, arg) {
+        return lone.is_variable();
+    }
     match arg {
         GenericArg::Ty(ty) => cx.has(ty, Flag::TyInfer) || cx.has(ty, Flag::ConstInfer),
         GenericArg::Const(constant) => {
@@ -242,7 +262,7 @@ fn renew_value(
     let Some(old) = entry.value else {
         return Ok(());
     };
-    if !cx.mentions(old, variable.number) {
+    if !mentions(cx, old, variable.number) {
         return Ok(());
     }
     let new = put_in(alloc, cx, variable, value, old)?;

@@ -1,10 +1,11 @@
 //! Trees are made equal: what is first on both sides is looked at, and then what is left.
 
-ghost use Rattle.std.specs.Prelude.{◌≡◌, ◌≢◌, ◌<◌, Some, None, List, [], ◌∷◌, ◌++◌, IfOk, IfErr, OnOk, OnErr, MatchOption, length, reverse, ◌&&◌, false, true};
+ghost use Rattle.std.specs.Prelude.{◌≡◌, ◌≢◌, ◌<◌, Some, None, List, [], ◌∷◌, ◌++◌, IfOk, IfErr, OnOk, OnErr, MatchOption, length, reverse, suc, ◌&&◌, false, true};
 ghost use Rattle.candidate_ir.specs.Context.{Grows};
 ghost use Rattle.candidate_ir.specs.Folds.{IsArg, arg_tree};
 ghost use Rattle.candidate_ir.specs.Nodes.{tree_at};
 ghost use Rattle.candidate_ir.specs.Substitutions.{alone};
+ghost use Rattle.candidate_ir.specs.Trees.{none, skip, tree};
 ghost use Rattle.candidate_ir.specs.Unify.{same_head};
 ghost use Rattle.candidate_ir.specs.Words.{IsArgs, IsRegion, args_forest, region_tree};
 ghost use Rattle.candidate_eval.specs.Soundness.{is_region};
@@ -16,7 +17,9 @@ ghost use Rattle.rounds_judge.specs.Listed.{current};
 ghost use Rattle.rounds_judge.specs.Scopes.{entered, has_variables, placed_tree, scope_below};
 
 use crate::rounds::Rounds;
+use crate::rounds::resolving::variable_at;
 use candidate_eval::eval::refusal::NoSolutionOrStop;
+use candidate_ir::decl::context::Cx;
 use candidate_ir::ir::heads::Head;
 use candidate_ir::ir::kinds::{Args, GenericArg, Region};
 use candidate_ir::ir::stop::Stop;
@@ -30,6 +33,8 @@ pub(crate) struct Frame {
     place: usize,
     /// How many of the binders that were entered are around them.
     binders: usize,
+    /// True only where both are lists of arguments.
+    are_lists: bool,
 }
 
 /// What is left of an equation.
@@ -69,6 +74,23 @@ impl Rest {
     }
 }
 
+/// The number of the tree of that place below a number, from 0 on, if there are so many. A list of arguments isn't walked to the
+/// place.
+fn child_at(cx: &Cx, number: u32, place: usize, is_list: bool) -> Option<u32>
+    requires number { number < length cx.now.trees }
+    requires list { is_list ≡ true → IsArgs cx.now.trees (record { 0 = number }) }
+    ensures { MatchOption result (skip place (tree_at cx.now.trees number).children ≡ none) (λ c. (c < length cx.now.trees) × (skip place (tree_at cx.now.trees number).children ≡ tree (tree_at cx.now.trees c).head (tree_at cx.now.trees c).children (skip (suc place) (tree_at cx.now.trees number).children))) }
+{
+    if !is_list {
+        return cx.child(number, place);
+    }
+    let list = cx.args(Args(number));
+    if place >= list.len() {
+        return None;
+    }
+    Some(list[place].number())
+}
+
 impl Rounds {
     /// The second number is offered as its value to the first, if that is a variable, which has none. Says whether it takes it. It stops
     /// as `bind` does.
@@ -87,7 +109,7 @@ impl Rounds {
         ensures declined { IfOk result (λ b. b ≡ false → state self.new ≡ state self.old) }
     {
         self.well_kept();
-        let Head::Infer(variable) = self.cx.head(to) else {
+        let Some(variable) = variable_at(&self.cx, to) else {
             return Ok(false);
         };
         let Some(arg) = self.cx.argument(number) else {
@@ -161,6 +183,7 @@ impl Rounds {
             right,
             place: 0,
             binders,
+            are_lists: false,
         })
     }
 
@@ -284,8 +307,8 @@ impl Rounds {
         ensures ok { OnOk result (visited (listing self.old) (state self.old) (pair_of self.old.context.trees rest.old.universes.items frame ∷ pairs_of self.old.context.trees rest.old.universes.items rest.old.frames.items) ≡ Left (state self.new) (pairs_of self.new.context.trees rest.new.universes.items rest.new.frames.items)) }
         ensures refused { IfErr result (λ e. e ≡ NoSolutionOrStop.NoSolution → visited (listing self.old) (state self.old) (pair_of self.old.context.trees rest.old.universes.items frame ∷ pairs_of self.old.context.trees rest.old.universes.items rest.old.frames.items) ≡ Refused) }
     {
-        let left = self.cx.child(frame.left, frame.place);
-        let right = self.cx.child(frame.right, frame.place);
+        let left = child_at(&self.cx, frame.left, frame.place, frame.are_lists);
+        let right = child_at(&self.cx, frame.right, frame.place, frame.are_lists);
         match (left, right) {
             (None, None) => Ok(()),
             (Some(left), Some(right)) => {
@@ -387,6 +410,7 @@ impl Rounds {
             right: b.0,
             place: 0,
             binders: 0,
+            are_lists: true,
         })?;
         self.unify(alloc, &mut rest)
     }

@@ -1,9 +1,10 @@
 //! What variables stand for.
 
-ghost use Rattle.std.specs.Prelude.{◌≡◌, true, Some, None, Ok, MatchOption, IfOk};
+ghost use Rattle.std.specs.Prelude.{◌≡◌, ◌<◌, [], length, false, true, Some, None, Ok, MatchOption, IfOk};
 ghost use Rattle.candidate_ir.specs.Context.{Grows};
 ghost use Rattle.candidate_ir.specs.Folds.{IsArg, arg_tree};
-ghost use Rattle.candidate_ir.specs.Kinds.{arg_kind, arg_number, variable_of};
+ghost use Rattle.candidate_ir.specs.Kinds.{arg_kind, arg_number, const_children, const_head, ty_children, ty_head, variable_of};
+ghost use Rattle.candidate_ir.specs.Nodes.{tree_at};
 ghost use Rattle.candidate_ir.specs.Trees.{RegionKind, TypeKind};
 ghost use Rattle.candidate_ir.specs.Words.{IsArgs, IsClause, IsConst, IsRegion, IsTy, args_forest, clause_tree, const_tree, region_tree, ty_tree};
 ghost use Rattle.candidate_eval.specs.Evaluators.{resolved_root};
@@ -12,6 +13,7 @@ ghost use Rattle.candidate_eval.specs.States.{resolved, resolved_tree, same_kind
 ghost use Rattle.candidate_eval.specs.declared.eval.mode.TypingMode.{TypingMode};
 ghost use Rattle.candidate_rounds.specs.Inferences.{kept_at, kept_value};
 ghost use Rattle.candidate_rounds.specs.Known.{Each, GoesOn, IsKnown, KeepsGiven, SuitsKind, probes, state, state_of};
+ghost use Rattle.candidate_rounds.specs.Lone.{IsLone, IsOfHead, has_number, infer_at, is_lone, is_variable, lone_number, lone_value};
 
 use crate::rounds::Rounds;
 use crate::rounds::inference::Inference;
@@ -42,6 +44,93 @@ pub(crate) fn variable_of(var: InferTy) -> Variable
             sort: VariableSort::Floating,
             number,
         },
+    }
+}
+
+/// What no walk is needed for.
+#[derive(Clone, Copy)]
+pub(crate) enum Lone {
+    /// A variable of types or constants.
+    Variable(Variable),
+    /// A builtin type without children.
+    Plain,
+}
+
+impl Lone {
+    /// What the type of that kind is, if it is lone.
+    fn of_kind(kind: TyKind) -> Option<Lone>
+        ensures { MatchOption result (is_lone (ty_head kind) ≡ false) (λ l. IsOfHead (ty_head kind) l × (ty_children kind ≡ [])) }
+    {
+        match kind {
+            TyKind::Infer(var) => Some(Lone::Variable(variable_of(var))),
+            TyKind::Bool | TyKind::Char | TyKind::Str | TyKind::Never => Some(Lone::Plain),
+            TyKind::Int(_) | TyKind::Uint(_) | TyKind::Float(_) => Some(Lone::Plain),
+            _ => None,
+        }
+    }
+
+    /// What the constant of that kind is, if it is lone.
+    fn of_const(kind: ConstKind) -> Option<Lone>
+        ensures { MatchOption result (is_lone (const_head kind) ≡ false) (λ l. IsOfHead (const_head kind) l × (const_children kind ≡ [])) }
+    {
+        let ConstKind::Infer(number) = kind else {
+            return None;
+        };
+        let sort = VariableSort::Constant;
+        Some(Lone::Variable(Variable { sort, number }))
+    }
+
+    /// What the argument is, if it is lone.
+    pub(crate) fn of(cx: &Cx, arg: GenericArg) -> Option<Lone>
+        requires { IsArg cx.now.trees arg }
+        ensures { MatchOption result (is_lone (arg_tree cx.now.trees arg).head ≡ false) (IsLone (arg_tree cx.now.trees arg)) }
+    {
+        match arg {
+            GenericArg::Ty(ty) => Lone::of_kind(cx.kind(ty)),
+            GenericArg::Const(constant) => Lone::of_const(cx.const_kind(constant)),
+            GenericArg::Region(_) => None,
+        }
+    }
+
+    /// Whether it is a variable.
+    pub(crate) fn is_variable(self) -> bool
+        ensures { result ≡ is_variable self }
+    {
+        matches!(self, Lone::Variable(_))
+    }
+
+    /// The number of the variable that it is, if it is one.
+    pub(crate) fn number(self) -> Option<u32>
+        ensures { result ≡ lone_number self }
+    {
+        match self {
+            Lone::Variable(variable) => Some(variable.number),
+            Lone::Plain => None,
+        }
+    }
+
+    /// Whether it is the variable of that number.
+    pub(crate) fn has_number(self, number: u32) -> bool
+        ensures { result ≡ has_number number self }
+    {
+        match self {
+            Lone::Variable(variable) => variable.number == number,
+            Lone::Plain => false,
+        }
+    }
+
+    /// The value of the variable that it is, if it is one that has a value.
+    fn value(self, inference: &Inference) -> Option<GenericArg>
+        ensures { result ≡ lone_value inference.now self }
+    {
+        match self {
+            Lone::Variable(variable) => kept_value(
+                inference,
+                VariableKind::Term(variable.sort),
+                variable.number,
+            ),
+            Lone::Plain => None,
+        }
     }
 }
 
@@ -132,6 +221,7 @@ fn value_for_region(cx: &Cx, inference: &Inference, region: Region) -> Option<Ge
 }
 
 /// What stands for a type, constant or region that is a variable, if that has a value.
+#[inline(always)]
 fn value_for(cx: &Cx, inference: &Inference, arg: GenericArg) -> Option<GenericArg>
     requires { IsArg cx.now.trees arg }
     ensures { result ≡ kept_at inference.now (arg_tree cx.now.trees arg).head }
@@ -156,6 +246,36 @@ pub(crate) fn resolved_root(cx: &Cx, inference: &Inference, arg: GenericArg) -> 
         return arg;
     }
     value_for(cx, inference, arg).unwrap_or(arg)
+}
+
+/// The variable of types or constants that the argument is, if it is one.
+fn term_variable(cx: &Cx, arg: GenericArg) -> Option<Variable>
+    requires { IsArg cx.now.trees arg }
+    ensures { result ≡ infer_at (arg_tree cx.now.trees arg).head }
+{
+    match arg {
+        GenericArg::Ty(ty) => match cx.kind(ty) {
+            TyKind::Infer(var) => Some(variable_of(var)),
+            _ => None,
+        },
+        GenericArg::Const(constant) => match cx.const_kind(constant) {
+            ConstKind::Infer(number) => Some(Variable {
+                sort: VariableSort::Constant,
+                number,
+            }),
+            _ => None,
+        },
+        GenericArg::Region(_) => None,
+    }
+}
+
+/// The variable of types or constants that a number is, if it is one.
+pub(crate) fn variable_at(cx: &Cx, number: u32) -> Option<Variable>
+    requires { number < length cx.now.trees }
+    ensures { result ≡ infer_at (tree_at cx.now.trees number).head }
+{
+    let arg = cx.argument(number)?;
+    term_variable(cx, arg)
 }
 
 /// The type, with all values put in.
@@ -219,6 +339,9 @@ pub(crate) fn resolved_arg(
     ensures sort { IfOk result (λ x. IsArg cx.new.trees x × (arg_kind x ≡ arg_kind arg)) }
     ensures tree { (m : TypingMode) → IfOk result (λ x. arg_tree cx.new.trees x ≡ resolved_tree (state_of cx.old.trees m inference.now) (arg_tree cx.old.trees arg)) }
 {
+    if let Some(lone) = Lone::of(cx, arg) {
+        return Ok(lone.value(inference).unwrap_or(arg));
+    }
     fold_arg(
         alloc,
         cx,

@@ -1,25 +1,25 @@
 //! Responses: what is known of the root variables, with the variables that it leaves open numbered anew.
 
-ghost use Rattle.std.specs.Prelude.{◌≡◌, ◌<◌, ◌++◌, List, [], Some, None, length, map, slice_get, option_map, IfErr, IfOk, IfSome, MatchOption, OnErr, OnOk};
+ghost use Rattle.std.specs.Prelude.{◌≡◌, ◌<◌, ◌++◌, [], Some, None, length, map, slice_get, option_map, IfErr, IfOk, IfSome, MatchOption, OnErr, OnOk};
 ghost use Rattle.std.specs.Option.{option_to_list};
 ghost use Rattle.candidate_ir.specs.Context.{Grows};
 ghost use Rattle.candidate_ir.specs.Folds.{IsArg, IsOfKind, arg_tree};
 ghost use Rattle.candidate_ir.specs.Nodes.{tree_at};
 ghost use Rattle.candidate_ir.specs.Substitutions.{alone};
-ghost use Rattle.candidate_ir.specs.Trees.{Tree, variable_number};
+ghost use Rattle.candidate_ir.specs.Trees.{variable_number};
 ghost use Rattle.candidate_ir.specs.Words.{ClauseListFits, IsArgs, IsClause, args_forest, clause_tree};
 ghost use Rattle.candidate_eval.specs.ResponseTrees.{IsResponse, response_of};
-ghost use Rattle.candidate_eval.specs.States.{next, variable};
+ghost use Rattle.candidate_eval.specs.States.{next, resolved_tree, variable};
 ghost use Rattle.candidate_eval.specs.declared.eval.mode.TypingMode.{TypingMode};
 ghost use Rattle.candidate_rounds.specs.Gathered.{open_entry, renumbered_at, root_at};
-ghost use Rattle.candidate_rounds.specs.Known.{Each, GoesOn, IsKnown, KeepsGiven, SuitsKind, info_of, listing, probes, state, state_of};
-ghost use Rattle.rounds_judge.specs.Responding.{constraints, is_seen, place_of, renumbered, renumbered_tree, responded, response, root_values, roots_from, with_number, with_numbers, with_numbers_of};
+ghost use Rattle.candidate_rounds.specs.Known.{Each, GoesOn, IsKnown, KeepsGiven, SuitsKind, listing, probes, state, state_of};
+ghost use Rattle.rounds_judge.specs.Responding.{constraints, is_seen, place_of, renumbered, renumbered_tree, responded, response, root_values, with_number, with_numbers, with_numbers_of};
 ghost use Rattle.rounds_judge.specs.Settling.{settled};
 
 use crate::rounds::Rounds;
 use crate::rounds::fresh::variable;
 use crate::rounds::inference::Inference;
-use crate::rounds::resolving::{resolved_args, resolved_clause, variable_of};
+use crate::rounds::resolving::{Lone, resolved_clause, variable_of};
 use candidate_eval::eval::certainty::Certainty;
 use candidate_eval::eval::refusal::NoSolutionOrStop;
 use candidate_eval::eval::response::CanonicalResponse;
@@ -77,6 +77,30 @@ fn note_below(cx: &Cx, numbers: &mut Vec<u32>, number: u32) -> Result<(), Stop>
     Err(Stop::NodesFull)
 }
 
+/// Notes the numbers of the variables of an argument; it stops as `note_below` does.
+fn note_arg(cx: &Cx, numbers: &mut Vec<u32>, arg: GenericArg) -> Result<(), Stop>
+    requires { IsArg cx.now.trees arg }
+    ensures { IfOk result (λ _. numbers.new.items ≡ with_numbers numbers.old.items (alone (arg_tree cx.now.trees arg))) }
+{
+    if let Some(lone) = Lone::of(cx, arg) {
+        return note_number(numbers, lone.number());
+    }
+    note_number(numbers, cx.variable_number(arg))?;
+    note_below(cx, numbers, arg.number())
+}
+
+/// Notes the numbers of the variables of a list; it stops as `note_below` does.
+fn note_args(cx: &Cx, numbers: &mut Vec<u32>, args: Args) -> Result<(), Stop>
+    requires { IsArgs cx.now.trees args }
+    ensures { IfOk result (λ _. numbers.new.items ≡ with_numbers numbers.old.items (args_forest cx.now.trees args)) }
+{
+    let list = cx.args(args);
+    for i in 0..list.len() {
+        note_arg(cx, numbers, list[i])?;
+    }
+    Ok(())
+}
+
 /// Notes the numbers of the variables of a clause; it stops as `note_below` does.
 fn note_clause(cx: &Cx, numbers: &mut Vec<u32>, clause: Clause) -> Result<(), Stop>
     requires { IsClause cx.now.trees clause }
@@ -94,28 +118,31 @@ fn numbers_of(alloc: Global, cx: &Cx, args: Args, clauses: &[Clause]) -> Result<
     ensures { IfOk result (λ v. v.items ≡ with_numbers_of (with_numbers [] (args_forest cx.now.trees args)) (map (clause_tree cx.now.trees) clauses.now)) }
 {
     let mut numbers = Vec::new(alloc);
-    note_below(cx, &mut numbers, args.0)?;
+    note_args(cx, &mut numbers, args)?;
     for i in 0..clauses.len() {
         note_clause(cx, &mut numbers, clauses[i])?;
     }
     Ok(numbers)
 }
 
-/// The variable of that number, if it is a root. `Stop::Memory` comes where a growth was refused, `Stop::NodesFull` where no number is
-/// left.
-fn root_variable(
-    cx: &mut Cx,
-    inference: &Inference,
-    number: u32,
-) -> Result<Option<GenericArg>, Stop>
+/// What stands for the variable of that number, if it is a root: its value, or itself, where it has none. `Stop::Memory` comes where a
+/// growth was refused, `Stop::NodesFull` where no number is left.
+fn root_value(cx: &mut Cx, inference: &Inference, number: u32) -> Result<Option<GenericArg>, Stop>
+    requires { IsKnown cx.old.trees inference.now }
     ensures grows { Grows cx.old cx.new }
     ensures sort { IfOk result (λ o. IfSome o (λ a. IsArg cx.new.trees a)) }
-    ensures tree { IfOk result (λ o. option_map (arg_tree cx.new.trees) o ≡ root_at number (slice_get inference.now.variables number)) }
+    ensures tree { (m : TypingMode) → IfOk result (λ o. option_map (arg_tree cx.new.trees) o ≡ option_map (resolved_tree (state_of cx.old.trees m inference.now)) (root_at number (slice_get inference.now.variables number))) }
 {
-    match inference.entry(number) {
-        Some(entry) if entry.is_root => Ok(Some(variable(cx, entry.kind, number)?)),
-        _ => Ok(None),
+    let Some(entry) = inference.entry(number) else {
+        return Ok(None);
+    };
+    if !entry.is_root {
+        return Ok(None);
     }
+    if entry.value.is_some() {
+        return Ok(entry.value);
+    }
+    Ok(Some(variable(cx, entry.kind, number)?))
 }
 
 /// Puts an argument, if there is one, at a list's end. The only stop is `Stop::Memory`.
@@ -128,31 +155,21 @@ fn push_some(list: &mut Vec<GenericArg>, arg: Option<GenericArg>) -> Result<(), 
     Ok(())
 }
 
-/// The root variables, in their order; it stops as `root_variable` does.
-fn root_variables(alloc: Global, cx: &mut Cx, inference: &Inference) -> Result<Args, Stop>
-    ensures grows { Grows cx.old cx.new }
-    ensures sort { IfOk result (λ a. IsArgs cx.new.trees a) }
-    ensures trees { (ts : List Tree) → IfOk result (λ a. args_forest cx.new.trees a ≡ roots_from 0 (map (info_of ts) inference.now.variables)) }
-{
-    let count = inference.next_variable()?;
-    let mut list = Vec::new(alloc);
-    for number in 0..count {
-        let root = root_variable(cx, inference, number)?;
-        push_some(&mut list, root)?;
-    }
-    cx.mk_args(list.as_slice())
-}
-
-/// The values of the root variables, with all values put in; what is said of `Rounds::resolve_ty_if_possible` holds here, too.
+/// The values of the root variables, in their order, with the variables themselves where they have none; it stops as `root_value`
+/// does.
 fn root_values(alloc: Global, cx: &mut Cx, inference: &Inference) -> Result<Args, Stop>
-    requires known { IsKnown cx.old.trees inference.now }
-    requires kinds { Each (SuitsKind cx.old.trees) inference.now.variables }
+    requires { IsKnown cx.old.trees inference.now }
     ensures grows { Grows cx.old cx.new }
     ensures sort { IfOk result (λ a. IsArgs cx.new.trees a) }
     ensures trees { (m : TypingMode) → IfOk result (λ a. args_forest cx.new.trees a ≡ root_values (state_of cx.old.trees m inference.now)) }
 {
-    let roots = root_variables(alloc, cx, inference)?;
-    resolved_args(alloc, cx, inference, roots)
+    let count = inference.next_variable()?;
+    let mut list = Vec::new(alloc);
+    for number in 0..count {
+        let root = root_value(cx, inference, number)?;
+        push_some(&mut list, root)?;
+    }
+    cx.mk_arg_list(list)
 }
 
 /// The region constraints, with all values put in; what is said of `Rounds::resolve_ty_if_possible` holds here, too.
@@ -233,6 +250,20 @@ fn renumbered_args(alloc: Global, cx: &mut Cx, numbers: &[u32], args: Args) -> R
             ensures answer { IfOk result (λ o. option_map (arg_tree cx.new.trees) o ≡ renumbered_at numbers.entry.now (arg_tree cx.old.trees arg)) }
         { renumbered_at(cx, numbers, arg) },
     )
+}
+
+/// The same where all variables of the list have these numbers: where there are none it stays as it is.
+fn numbered_args(alloc: Global, cx: &mut Cx, numbers: &[u32], args: Args) -> Result<Args, Stop>
+    requires args { IsArgs cx.old.trees args }
+    requires all { numbers.now ≡ [] → with_numbers [] (args_forest cx.old.trees args) ≡ [] }
+    ensures grows { Grows cx.old cx.new }
+    ensures sort { IfOk result (λ a. IsArgs cx.new.trees a) }
+    ensures trees { IfOk result (λ a. args_forest cx.new.trees a ≡ renumbered numbers.now (args_forest cx.old.trees args)) }
+{
+    if numbers.is_empty() {
+        return Ok(args);
+    }
+    renumbered_args(alloc, cx, numbers, args)
 }
 
 /// The same of a clause.
@@ -327,7 +358,7 @@ fn response(
     let regions = constraints(alloc, cx, inference)?;
     let numbers = numbers_of(alloc, cx, values, regions.as_slice())?;
     let vars = open_variables(alloc, inference, numbers.as_slice())?;
-    let new_values = renumbered_args(alloc, cx, numbers.as_slice(), values)?;
+    let new_values = numbered_args(alloc, cx, numbers.as_slice(), values)?;
     let new_regions = renumbered_clauses(alloc, cx, numbers.as_slice(), regions.as_slice())?;
     Ok(CanonicalResponse {
         vars,

@@ -226,6 +226,9 @@ fn listed_root(
     ensures sort { IfOk result (λ x. IsArg cx.new.trees x × (arg_kind x ≡ arg_kind arg)) }
     ensures tree { (m : TypingMode) → IfOk result (λ x. arg_tree cx.new.trees x ≡ listed_at (listing_of cx.old.trees normal.now) (state_of cx.old.trees m inference.now) (arg_tree cx.old.trees arg)) }
 {
+    if normal.is_empty() {
+        return Ok(arg);
+    }
     if !is_alias(cx, arg) {
         return Ok(arg);
     }

@@ -1,4 +1,4 @@
-use Rattle.std.proofs.Common.{◌≡◌, ◌==◌, true, false, [], ◌∷◌, reverse, refl, sym, ◌∙◌, ap}
+use Rattle.std.proofs.Common.{◌≡◌, false, [], ◌∷◌, reverse, sym, ◌∙◌, ap}
 use Rattle.std.proofs.lemmas.Bool.{eq-eqb, ne_eqb}
 use Rattle.std.proofs.lemmas.List.{append-nil}
 use Rattle.candidate_ir.specs.Nodes.{tree_at}
@@ -6,13 +6,12 @@ use Rattle.candidate_ir.specs.Trees.{binders_of}
 use Rattle.candidate_rounds.specs.declared.rounds.equating.Frame.{Frame}
 use Rattle.candidate_rounds.specs.declared.rounds.equating.Rest.{Rest}
 use Rattle.candidate_rounds.specs.Known.{Evaluator, state}
-use Rattle.rounds_judge.specs.Scopes.{scope_below}
 use Rattle.candidate_rounds.proofs.Framing.{below-frames, below-pairs, scope-else, scope-then}
 use Rattle.candidate_rounds.proofs.rounds.Rounds.enter_below.Goals as goal
 use Rattle.candidate_rounds.proofs.rounds.Rounds.enter_below.Goals.{then-binders-eq1+in_ok-universe+in_ok-push, else-binders-eq1}
 
 abbrev frame : goal.After-push-2 → Frame
-frame c = record { left = c.args.left; right = c.args.right; place = 0; binders = c.binders-binders.result }
+frame c = record { left = c.args.left; right = c.args.right; place = 0; binders = c.binders-binders.result; are_lists = false }
 
 count-is : (c : goal.After-push-2) → c.binders.result ≡ binders_of (tree_at c.args.self.now.context.trees c.args.left).head
 count-is c = c.binders.ensures.is ∙ ap binders_of (c.head.ensures ∙ ap (λ (e : Evaluator). (tree_at e.context.trees c.args.left).head) c.self.view_is)
@@ -28,10 +27,10 @@ returns-clause-frames c =
     elim c.if-binders-eq1.branch [
       | then-binders-eq1+in_ok-universe+in_ok-push w ↦
           below-frames c.push-2.result ts us (w.in_ok-universe.universe ∷ []) vs new.universes.items fs gs new.frames.items (frame c) (ap (λ (r : Rest). r.universes.items) w.rest-is ∙ w.in_ok-push.ensures.items)
-          (ap (λ (r : Rest). r.frames.items) w.rest-is) c.push-2.ensures.universes c.binders-binders.ensures c.requires.frames c.push-2.ensures.frames (c.requires.left, c.requires.right)
+          (ap (λ (r : Rest). r.frames.items) w.rest-is) c.push-2.ensures.universes c.binders-binders.ensures c.requires.frames c.push-2.ensures.frames (c.requires.left, c.requires.right, λ e. absurd cc)
       | else-binders-eq1 w ↦
           below-frames c.push-2.result ts us [] vs new.universes.items fs gs new.frames.items (frame c) (ap (λ (r : Rest). r.universes.items) w.rest-is ∙ sym (append-nil us))
-          (ap (λ (r : Rest). r.frames.items) w.rest-is) c.push-2.ensures.universes c.binders-binders.ensures c.requires.frames c.push-2.ensures.frames (c.requires.left, c.requires.right)
+          (ap (λ (r : Rest). r.frames.items) w.rest-is) c.push-2.ensures.universes c.binders-binders.ensures c.requires.frames c.push-2.ensures.frames (c.requires.left, c.requires.right, λ e. absurd cc)
     ]
 
 pub returns-clause-below : goal.returns-clause-below

@@ -3,9 +3,13 @@ use Rattle.candidate_ir.specs.Nodes.{tree_at}
 use Rattle.candidate_ir.specs.Words.{region_tree}
 use Rattle.candidate_rounds.specs.Frames.{pairs_of}
 use Rattle.candidate_rounds.specs.Known.{state}
-use Rattle.candidate_rounds.proofs.Framing.{pairs-kept}
+use Rattle.candidate_rounds.proofs.Framing.{frames-kept, pairs-kept}
 use Rattle.candidate_rounds.proofs.Offering.{regions-matched}
 use Rattle.candidate_rounds.proofs.rounds.Rounds.matched.Goals as goal
+
+pub returns-in-Some-clause-frames : goal.returns-in-Some-clause-frames
+returns-in-Some-clause-frames c =
+    frames-kept c.args.self.now.context.trees c.equal_regions.new.self.context.trees c.args.rest.now.universes.items c.args.rest.now.frames.items c.equal_regions.ensures.goes.0.kept c.requires.frames
 
 pub returns-in-Some-clause-ok : goal.returns-in-Some-clause-ok
 returns-in-Some-clause-ok c =

@@ -1,12 +1,16 @@
-use Rattle.std.proofs.Common.{◌≡◌, reverse, sym, ◌∙◌, ap}
+use Rattle.std.proofs.Common.{◌≡◌, reverse, ◌∙◌}
 use Rattle.candidate_ir.specs.Nodes.{tree_at}
 use Rattle.candidate_rounds.specs.Frames.{pairs_of}
 use Rattle.candidate_rounds.specs.Known.{listing, state}
 use Rattle.candidate_rounds.proofs.Framing.{frames-kept, pairs-kept}
 use Rattle.candidate_rounds.proofs.Going.{goes-trans}
 use Rattle.candidate_rounds.proofs.Visiting.{by-answer, left-takes, matched-on, neither-takes, offered-on, ok-from, refused-from, right-takes}
-use Rattle.rounds_judge.specs.Equating.{Left, Refused, matched, met}
+use Rattle.rounds_judge.specs.Equating.{matched, met}
 use Rattle.candidate_rounds.proofs.rounds.Rounds.meet.Goals as goal
+
+pub returns-then-branch-clause-frames : goal.returns-then-branch-clause-frames
+returns-then-branch-clause-frames c =
+    frames-kept c.args.self.now.context.trees c.offered.new.self.context.trees c.args.rest.now.universes.items c.args.rest.now.frames.items c.offered.ensures.goes.0.kept c.requires.frames
 
 pub returns-then-branch-clause-ok : goal.returns-then-branch-clause-ok
 returns-then-branch-clause-ok c =

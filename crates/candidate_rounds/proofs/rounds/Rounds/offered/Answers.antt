@@ -3,11 +3,11 @@ use Rattle.candidate_ir.specs.Folds.{arg_tree}
 use Rattle.candidate_ir.specs.Nodes.{tree_at}
 use Rattle.candidate_ir.specs.Substitutions.{alone}
 use Rattle.candidate_eval.specs.Soundness.{IsResolved}
-use Rattle.candidate_eval.specs.States.{State}
 use Rattle.rounds_judge.specs.Binding.{bound, may_take}
 use Rattle.rounds_judge.specs.Equating.{Left, offered, value_for}
 use Rattle.candidate_rounds.specs.Known.{Evaluator, listing, state, state_of}
 use Rattle.rounds_judge.proofs.Ending.{value_resolved}
+use Rattle.candidate_rounds.proofs.Alone.{infer-is}
 use Rattle.candidate_rounds.proofs.Going.{goes-trans}
 use Rattle.candidate_rounds.proofs.Offering.{declined, none-asked, taken-by}
 use Rattle.candidate_rounds.proofs.rounds.Rounds.offered.Goals as goal
@@ -17,19 +17,19 @@ returns-in_default-argument-clause-taken c more =
     let i = c.self.inside in
     let us = reverse c.args.universes.now in
     subst (λ (e : Evaluator). offered (listing e) (state e) us (tree_at e.context.trees c.args.to).head (tree_at e.context.trees c.args.number) more ≡ None) c.self.view_is
-    (none-asked i.cx.trees i.normal.items (state_of i.cx.trees i.mode i.inference) us (tree_at i.cx.trees c.args.to).head c.in-Infer.variable (tree_at i.cx.trees c.args.number) more
-    c.self.invariant.given.types (sym c.in-Infer.ensures) c.in_default-argument.ensures)
+    (none-asked i.cx.trees i.normal.items (state_of i.cx.trees i.mode i.inference) us (tree_at i.cx.trees c.args.to).head c.in-Some.variable (tree_at i.cx.trees c.args.number) more
+    c.self.invariant.given.types (infer-is (tree_at i.cx.trees c.args.to).head c.in-Some.variable (sym c.variable_at.ensures ∙ c.in-Some.is)) c.in_default-argument.ensures)
 
 pub returns-then-not-may_take-clause-taken : goal.returns-then-not-may_take-clause-taken
 returns-then-not-may_take-clause-taken c more =
     let old = c.args.self.now in
-    let v = c.in-Infer.variable in
+    let v = c.in-Some.variable in
     let us = reverse c.args.universes.now in
     let t = tree_at old.context.trees c.args.number in
     let x = arg_tree c.value_for.new.self.context.trees c.in_ok-value.value in
-    let is : x ≡ value_for (listing old) (state old) us t = c.in_ok-value.ensures.tree ∙ ap (λ n. value_for (listing old) (state old) us (tree_at old.context.trees n)) c.in-Some.ensures.0 in
+    let is : x ≡ value_for (listing old) (state old) us t = c.in_ok-value.ensures.tree ∙ ap (λ n. value_for (listing old) (state old) us (tree_at old.context.trees n)) c.in-Some-argument.ensures.0 in
     let may = ap (may_take (state old) v) (sym is) ∙ (ap (λ S. may_take S v x) (sym c.value_for.ensures.state) ∙ (sym c.may_take.ensures ∙ c.if-not-may_take.true)) in
-    let head = ap (λ (e : Evaluator). (tree_at e.context.trees c.args.to).head) (sym c.self.view_is) ∙ sym c.in-Infer.ensures in
+    let head = ap (λ (e : Evaluator). (tree_at e.context.trees c.args.to).head) (sym c.self.view_is) ∙ infer-is (tree_at c.self.inside.cx.trees c.args.to).head v (sym c.variable_at.ensures ∙ c.in-Some.is) in
     declined (listing old) (state old) us (tree_at old.context.trees c.args.to).head v t more head may
 
 pub bind-requires-clause-resolved : goal.bind-requires-clause-resolved
@@ -37,7 +37,7 @@ bind-requires-clause-resolved c =
     let old = c.args.self.now in
     let us = reverse c.args.universes.now in
     let x = arg_tree c.value_for.new.self.context.trees c.in_ok-value.value in
-    let whole = value_resolved (listing old) c.well_kept.ensures.given.listing (state old) (c.well_kept.ensures.resolved.now old.mode) us (arg_tree old.context.trees c.in-Some.arg) in
+    let whole = value_resolved (listing old) c.well_kept.ensures.given.listing (state old) (c.well_kept.ensures.resolved.now old.mode) us (arg_tree old.context.trees c.in-Some-argument.arg) in
     subst (λ S. IsResolved S (alone x)) (sym c.value_for.ensures.state) (subst (λ y. IsResolved (state old) (alone y)) (sym c.in_ok-value.ensures.tree) whole)
 
 pub returns-clause-goes : goal.returns-clause-goes
@@ -46,12 +46,12 @@ returns-clause-goes c = goes-trans c.args.self.now c.value_for.new.self c.bind.n
 pub returns-clause-taken : goal.returns-clause-taken
 returns-clause-taken c more =
     let old = c.args.self.now in
-    let v = c.in-Infer.variable in
+    let v = c.in-Some.variable in
     let us = reverse c.args.universes.now in
     let t = tree_at old.context.trees c.args.number in
     let x = arg_tree c.value_for.new.self.context.trees c.in_ok-value.value in
-    let is : x ≡ value_for (listing old) (state old) us t = c.in_ok-value.ensures.tree ∙ ap (λ n. value_for (listing old) (state old) us (tree_at old.context.trees n)) c.in-Some.ensures.0 in
+    let is : x ≡ value_for (listing old) (state old) us t = c.in_ok-value.ensures.tree ∙ ap (λ n. value_for (listing old) (state old) us (tree_at old.context.trees n)) c.in-Some-argument.ensures.0 in
     let may = ap (may_take (state old) v) (sym is) ∙ (ap (λ S. may_take S v x) (sym c.value_for.ensures.state) ∙ (sym c.may_take.ensures ∙ c.if-not-may_take.false)) in
-    let head = ap (λ (e : Evaluator). (tree_at e.context.trees c.args.to).head) (sym c.self.view_is) ∙ sym c.in-Infer.ensures in
+    let head = ap (λ (e : Evaluator). (tree_at e.context.trees c.args.to).head) (sym c.self.view_is) ∙ infer-is (tree_at c.self.inside.cx.trees c.args.to).head v (sym c.variable_at.ensures ∙ c.in-Some.is) in
     taken-by (listing old) (state old) us (tree_at old.context.trees c.args.to).head v t more head may
     ∙ sym (ap (λ S. Some (Left S more)) (c.in_ok-bind.ensures.bound ∙ (ap (λ S. bound S v x) c.value_for.ensures.state ∙ ap (bound (state old) v) is)))

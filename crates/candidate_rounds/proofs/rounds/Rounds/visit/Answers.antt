@@ -1,4 +1,4 @@
-use Rattle.std.proofs.Common.{◌≡◌, ◌∷◌, suc, reverse, refl, sym, ◌∙◌, ap, subst, arith}
+use Rattle.std.proofs.Common.{◌≡◌, ◌∷◌, suc, reverse, refl, ◌∙◌, ap, subst, arith}
 use Rattle.candidate_ir.specs.Nodes.{tree_at}
 use Rattle.candidate_ir.specs.Trees.{tree, skip}
 use Rattle.rounds_judge.specs.Equating.{met, visited}
@@ -25,9 +25,9 @@ first-is c =
     let x = tree_at ts c.in-Some-Some.left in
     let y = tree_at ts c.in-Some-Some.right in
     let left = subst (λ (e : Evaluator). skip n (tree_at e.context.trees f.left).children ≡ tree (tree_at e.context.trees c.in-Some-Some.left).head (tree_at e.context.trees c.in-Some-Some.left).children (skip (suc n) (tree_at e.context.trees f.left).children))
-    c.self.view_is (child-row i.cx.trees f.left n c.child-left.result c.in-Some-Some.left c.in-Some-Some.is-0 c.child-left.ensures) in
+    c.self.view_is (child-row i.cx.trees f.left n c.child_at-left.result c.in-Some-Some.left c.in-Some-Some.is-0 c.child_at-left.ensures) in
     let right = subst (λ (e : Evaluator). skip n (tree_at e.context.trees f.right).children ≡ tree (tree_at e.context.trees c.in-Some-Some.right).head (tree_at e.context.trees c.in-Some-Some.right).children (skip (suc n) (tree_at e.context.trees f.right).children))
-    c.self.view_is (child-row i.cx.trees f.right n c.child-right.result c.in-Some-Some.right c.in-Some-Some.is-1 c.child-right.ensures) in
+    c.self.view_is (child-row i.cx.trees f.right n c.child_at-right.result c.in-Some-Some.right c.in-Some-Some.is-1 c.child_at-right.ensures) in
     let next : c.in-Some.place ≡ suc n = let k = c.in-Some.ensures in omega (arith, k) in
     ap (λ sc. visited (listing old) (state old) (record { scope = sc; left = skip n (tree_at ts f.left).children; right = skip n (tree_at ts f.right).children } ∷ pairs_of ts us fs)) (frame-scope us f c.requires.binders)
     ∙ (rows-begin (listing old) (state old) (reverse us) (skip n (tree_at ts f.left).children) (skip n (tree_at ts f.right).children) (skip (suc n) (tree_at ts f.left).children) (skip (suc n) (tree_at ts f.right).children) x y (pairs_of ts us fs) left right

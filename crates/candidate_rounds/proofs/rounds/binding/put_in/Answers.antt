@@ -1,9 +1,15 @@
-use Rattle.std.proofs.Common.{◌≡◌, refl, rules}
-use Rattle.candidate_ir.specs.Folds.{arg_tree}
+use Rattle.std.proofs.Common.{◌≡◌, refl, rules, sym, ◌∙◌, subst}
+use Rattle.candidate_ir.specs.Folds.{IsArg, arg_tree}
 use Rattle.candidate_ir.proofs.FoldLaws.{reached-keeps, head-function}
 use Rattle.rounds_judge.specs.Binding.{single}
+use Rattle.candidate_rounds.proofs.Alone.{single-itself}
 use Rattle.candidate_rounds.proofs.Assigning.{put-keeps, put-answers, put-unasked}
 use Rattle.candidate_rounds.proofs.rounds.binding.put_in.Goals as goal
+
+pub returns-in-Some-clause-sort : goal.returns-in-Some-clause-sort
+returns-in-Some-clause-sort c =
+    let ts = c.args.cx.now.trees in
+    subst (IsArg ts) (single-itself c.args.variable c.args.value c.in-Some.put (arg_tree ts c.args.arg).head (sym c.put_for.ensures ∙ c.in-Some.is)) c.requires.value
 
 pub fold_arg-requires-clause-keeps : goal.fold_arg-requires-clause-keeps
 fold_arg-requires-clause-keeps c = record {

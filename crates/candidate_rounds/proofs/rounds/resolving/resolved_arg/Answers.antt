@@ -1,9 +1,19 @@
-use Rattle.std.proofs.Common.{◌≡◌, refl, rules}
+use Rattle.std.proofs.Common.{◌≡◌, refl, rules, ◌∙◌, ap}
+use Rattle.candidate_ir.specs.Folds.{arg_tree}
 use Rattle.candidate_eval.specs.States.{value_at}
 use Rattle.candidate_ir.proofs.FoldLaws.{reached-keeps, head-function}
 use Rattle.candidate_rounds.specs.Known.{state_of}
+use Rattle.candidate_rounds.proofs.Alone.{lone-resolved, lone-sort}
 use Rattle.candidate_rounds.proofs.Resolving.{call-keeps, call-answers, unasked}
 use Rattle.candidate_rounds.proofs.rounds.resolving.resolved_arg.Goals as goal
+
+pub returns-in-Some-clause-sort : goal.returns-in-Some-clause-sort
+returns-in-Some-clause-sort c =
+    rw c.unwrap_or.ensures (lone-sort c.args.cx.now.trees c.args.inference.now c.args.arg c.in-Some.lone c.value.result c.in-Some.ensures c.value.ensures c.requires.arg c.requires.known c.requires.kinds)
+
+pub returns-in-Some-clause-tree : goal.returns-in-Some-clause-tree
+returns-in-Some-clause-tree c = λ m.
+    ap (arg_tree c.args.cx.now.trees) c.unwrap_or.ensures ∙ lone-resolved c.args.cx.now.trees c.args.inference.now c.args.arg c.in-Some.lone c.value.result c.in-Some.ensures c.value.ensures m
 
 pub fold_arg-requires-clause-keeps : goal.fold_arg-requires-clause-keeps
 fold_arg-requires-clause-keeps c = record {

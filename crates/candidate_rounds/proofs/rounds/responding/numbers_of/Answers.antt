@@ -1,11 +1,5 @@
-use Rattle.std.proofs.Common.{refl}
-use Rattle.candidate_ir.specs.Trees.{ArgumentsKind}
-use Rattle.candidate_ir.proofs.Lists.{below_kind}
 use Rattle.candidate_ir.proofs.Made.{IsClause-listed}
 use Rattle.candidate_rounds.proofs.rounds.responding.numbers_of.Goals as goal
-
-pub note_below-requires : goal.note_below-requires
-note_below-requires c = below_kind c.args.cx.now.trees c.args.args.0 ArgumentsKind refl c.requires.args
 
 pub note_clause-requires : goal.note_clause-requires
 note_clause-requires c = IsClause-listed c.args.cx.now.trees c.args.clauses.now c.loop-i.i _ c.loop-i-test.true c.requires.clauses

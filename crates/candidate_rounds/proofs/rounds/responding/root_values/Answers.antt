@@ -1,20 +1,29 @@
-use Rattle.std.proofs.Common.{◌∙◌, ap}
-use Rattle.candidate_ir.specs.Words.{args_forest}
-use Rattle.candidate_eval.specs.States.{resolved}
+use Rattle.std.proofs.Common.{slice_get, ◌∙◌, ap, arith}
+use Rattle.std.specs.Option.{option_map}
+use Rattle.candidate_eval.specs.declared.eval.mode.TypingMode.{TypingMode}
+use Rattle.candidate_eval.specs.States.{resolved_tree}
+use Rattle.candidate_rounds.specs.Gathered.{root_at}
 use Rattle.candidate_rounds.specs.Known.{state_of}
-use Rattle.candidate_rounds.proofs.Knowing.{kinds-grown, known-stays}
-use Rattle.candidate_rounds.proofs.Gathering.{if-ok-then, state-later}
+use Rattle.candidate_rounds.proofs.Gathering.{all-roots, if-ok-then, more-roots, state-later}
+use Rattle.candidate_rounds.proofs.Knowing.{known-stays}
 use Rattle.candidate_rounds.proofs.rounds.responding.root_values.Goals as goal
 
-pub resolved_args-requires-clause-known : goal.resolved_args-requires-clause-known
-resolved_args-requires-clause-known c = known-stays c.args.cx.now.trees c.root_variables.new.cx.trees c.args.inference.now c.root_variables.ensures.grows.kept c.requires.known
+pub root_value-requires : goal.root_value-requires
+root_value-requires c = known-stays c.args.cx.now.trees c.loop-number.cx.trees c.args.inference.now c.loop-number.invariant.grows.kept c.requires
 
-pub resolved_args-requires-clause-kinds : goal.resolved_args-requires-clause-kinds
-resolved_args-requires-clause-kinds c = kinds-grown c.args.cx.now.trees c.root_variables.new.cx.trees c.args.inference.now.variables c.root_variables.ensures.grows.kept c.requires.known.values c.requires.kinds
+pub loop-number-preserved : goal.loop-number-preserved
+loop-number-preserved c =
+    let s = c.args.inference.now in
+    let n = c.loop-number.number in
+    more-roots TypingMode (λ m. resolved_tree (state_of c.args.cx.now.trees m s)) c.args.cx.now c.loop-number.cx c.root_value.new.cx s.variables n c.loop-number.list.items c.loop-number.invariant
+    (let a = c.loop-number-test.true in let b = c.in_ok-count.ensures.number in omega (arith, a, b)) c.root_value.ensures.grows c.push_some.new.list.items c.in_ok-root.root c.in_ok-root.ensures.sort
+    (λ m. c.in_ok-root.ensures.tree m ∙ ap (λ S. option_map (resolved_tree S) (root_at n (slice_get s.variables n))) (state-later m s c.args.cx.now c.loop-number.cx c.requires c.loop-number.invariant.grows))
+    c.in_ok-push_some.ensures
 
 pub returns-clause-trees : goal.returns-clause-trees
 returns-clause-trees c = λ m.
-    if-ok-then c.resolved_args.result _ _
-    (λ a e. e ∙ (ap (λ S. resolved S (args_forest c.root_variables.new.cx.trees c.in_ok-roots.roots)) (state-later m c.args.inference.now c.args.cx.now c.root_variables.new.cx c.requires.known c.root_variables.ensures.grows)
-    ∙ ap (resolved (state_of c.args.cx.now.trees m c.args.inference.now)) (c.in_ok-roots.ensures.trees c.args.cx.now.trees)))
-    (c.resolved_args.ensures.tree m)
+    let s = c.args.inference.now in
+    if-ok-then c.mk_arg_list.result _ _
+    (λ a e. e ∙ all-roots TypingMode (λ m. state_of c.args.cx.now.trees m s) c.args.cx.now c.loop-number.cx c.args.cx.now.trees s.variables c.loop-number.number c.loop-number.list.items c.loop-number.invariant
+    (let a = c.loop-number-test.false in let b = c.in_ok-count.ensures.number in omega (arith, a, b)) m)
+    c.mk_arg_list.ensures.tree

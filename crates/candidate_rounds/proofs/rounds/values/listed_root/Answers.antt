@@ -2,8 +2,12 @@ use Rattle.std.proofs.Common.{sym, ◌∙◌, ap}
 use Rattle.candidate_ir.specs.Folds.{arg_tree}
 use Rattle.candidate_rounds.specs.Known.{state_of}
 use Rattle.candidate_ir.proofs.Implying.{arg-kept}
-use Rattle.candidate_rounds.proofs.Listing.{listed-root, or-of-kind, other-root, types-kept}
+use Rattle.candidate_rounds.proofs.Listing.{empty-root, listed-root, or-of-kind, other-root, types-kept}
 use Rattle.candidate_rounds.proofs.rounds.values.listed_root.Goals as goal
+
+pub returns-then-is_empty-clause-tree : goal.returns-then-is_empty-clause-tree
+returns-then-is_empty-clause-tree c = λ m.
+    empty-root c.args.cx.now.trees c.args.normal.now (state_of c.args.cx.now.trees m c.args.inference.now) (arg_tree c.args.cx.now.trees c.args.arg) (sym c.is_empty.ensures ∙ c.if-is_empty.true)
 
 pub returns-then-not-is_alias-clause-tree : goal.returns-then-not-is_alias-clause-tree
 returns-then-not-is_alias-clause-tree c = λ m.

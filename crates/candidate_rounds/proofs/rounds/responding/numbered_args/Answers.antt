@@ -1,0 +1,7 @@
+use Rattle.std.proofs.Common.{sym, ◌∙◌}
+use Rattle.candidate_ir.specs.Words.{args_forest}
+use Rattle.candidate_rounds.proofs.Noting.{none-anew}
+use Rattle.candidate_rounds.proofs.rounds.responding.numbered_args.Goals as goal
+
+pub returns-then-is_empty-clause-trees : goal.returns-then-is_empty-clause-trees
+returns-then-is_empty-clause-trees c = none-anew c.args.numbers.now (args_forest c.args.cx.now.trees c.args.args) (sym c.is_empty.ensures ∙ c.if-is_empty.true) c.requires.all
