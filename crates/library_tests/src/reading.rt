@@ -392,10 +392,10 @@ impl Reader {
         ensures grows { Grows self.old.cx self.new.cx }
         ensures sort { IfSome result (λ p. IsPreds self.new.cx.trees p) }
     {
+        let given = self.list_before(rt);
         let vars = self.vars(rt, &[VarKind::Region]);
         let none = self.args(rt, &[]);
         let list = self.list(rt);
-        let given = self.list_before(rt);
         let (before, ty) = (self.before, self.ty);
         let cx = &mut self.cx;
         match word {
