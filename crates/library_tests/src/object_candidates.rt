@@ -1,4 +1,4 @@
-//! What an object candidate asks for, and which of the object's own bounds it finds.
+//! What an object candidate asks for, and which of the object's own bounds it finds. `Foo`, `Baz` and `Copy` are those of `objects`.
 
 ghost use Rattle.std.specs.Prelude.{All, IfOk, IfSome};
 ghost use Rattle.candidate_ir.specs.Context.{Grows};

@@ -759,7 +759,8 @@ impl Reader {
         self.region
     }
 
-    /// A clause under the binder of these variables, of the last types and regions; the list is of the type before the last one.
+    /// A clause under the binder of these variables, of the last types and regions; the list is of the type before the last one. The
+    /// fundamental trait stands for `Copy`.
     #[tactic(auto, using(crate::proofs::Kept::kept))]
     fn clause_kind(&self, vars: Vars, list: Args, word: &str) -> Option<Binder<ClauseKind>>
         requires vars { IsVars self.now.cx.trees vars }

@@ -21,10 +21,10 @@ over-rounds-requires-clause-pending g c =
     let object = grows-trans _ _ _ c.vars-vars.ensures.grows (grows-trans _ _ _ c.ty-object.ensures.grows c.trait_ref-value.ensures.grows) in
     let refused = IsClause-grows _ _ _ (grows-trans _ _ _ c.clauses-want.ensures.grows object) c.clause-refused.ensures.sort in
     let Fits : Option Clause → Type 0 = λ o. IfSome o (λ x. IsClause c.trait_ref-value.new.reader.cx.trees x) in (
-      elim c.if-is_pending.branch [
-        | then-is_pending w ↦ subst Fits (sym w.pending-is) refused
-        | else-is_pending w ↦ subst Fits (sym w.pending-is) tt
-      ]
+    elim c.if-is_pending.branch [
+      | then-is_pending w ↦ subst Fits (sym w.pending-is) refused
+      | else-is_pending w ↦ subst Fits (sym w.pending-is) tt
+    ]
     )
 
 pub asked-answer-requires-clause-env : goal.asked-answer-requires-clause-env
