@@ -101,7 +101,7 @@ fn add_definitions(rt: &impl Abort, builder: &mut DeclsBuilder) {
 }
 
 /// The type of the sample; of nothing it is some type.
-fn sample_ty(rt: &impl Abort, builder: &mut DeclsBuilder, sample: Sample) -> Ty
+pub fn sample_ty(rt: &impl Abort, builder: &mut DeclsBuilder, sample: Sample) -> Ty
     ensures grows { Grows builder.old builder.new }
     ensures sort { IsTy builder.new.trees result }
 {
@@ -134,7 +134,7 @@ fn twice(rt: &impl Abort, builder: &mut DeclsBuilder, sample: Sample) -> Args
     builder.mk_args(&[ty, ty]).expect(rt, "arguments")
 }
 
-fn no_variables(rt: &impl Abort, builder: &mut DeclsBuilder) -> Vars
+pub fn no_variables(rt: &impl Abort, builder: &mut DeclsBuilder) -> Vars
     ensures grows { Grows builder.old builder.new }
     ensures sort { IsVars builder.new.trees result }
 {

@@ -1,4 +1,4 @@
-//! What an object candidate asks for, and which of the object's own bounds it finds.
+//! What an object candidate asks for, and which of the object's own bounds it finds. `Foo`, `Baz` and `Copy` are those of `objects`.
 
 ghost use Rattle.std.specs.Prelude.{All, IfOk, IfSome};
 ghost use Rattle.candidate_ir.specs.Context.{Grows};
@@ -163,44 +163,67 @@ fn check_row(rt: &impl Abort, alloc: Global, row: Row<'_>, is_pending: bool, num
     check_pending(rt, alloc, &mut rounds, is_pending, number);
 }
 
+const SELF: AliasBoundKind = AliasBoundKind::SelfBounds;
+
+const NON_SELF: AliasBoundKind = AliasBoundKind::NonSelfBounds;
+
+const COPY: Bound = Bound(OUT, SELF, Of::Own);
+
+const COPY_SLICE: Bound = Bound(OUT, NON_SELF, Of::Slice);
+
+const COPY_OF_BYTE: Bound = Bound(OUT, NON_SELF, Of::Byte);
+
+const COPY_SIZED: Bound = Bound(SIZED, SELF, Of::Own);
+
+const COPY_GIVEN: Bound = Bound(GIVEN, SELF, Of::Own);
+
+/// That the object is `Baz`.
+const BAZ: &str = "holds_locally: u8";
+
+/// Objects of `Foo` whose associated type is `u8` or `u16`, and one of the second trait under a binder.
+const BYTE: &str = "u8 'static dyn_out";
+
+const WIDE: &str = "u16 'static dyn_out";
+
+const BOUND: &str = "u8 '^0 ref u16 '^0 ref 'static dyn_given";
+
+/// What is asked for where the projection stays.
+const STAYS: [&str; 2] = [BAZ, "copies: out u8"];
+
 #[test]
 fn asks_what_an_object_has_to_fulfil(rt: HostRuntime) {
-    let (selves, others) = (AliasBoundKind::SelfBounds, AliasBoundKind::NonSelfBounds);
-    let copy = Bound(OUT, selves, Of::Own);
-    let (of_slice, of_byte) = (Bound(OUT, others, Of::Slice), Bound(OUT, others, Of::Byte));
-    let (sized, given) = (Bound(SIZED, selves, Of::Own), Bound(GIVEN, selves, Of::Own));
-    let (byte, wide) = ("u8 'static dyn_out", "u16 'static dyn_out");
-    let of_region = "u8 '^0 ref u16 '^0 ref 'static dyn_given";
-    let baz = "holds_locally: u8";
-    let stays: Option<&[&str]> = Some(&[baz, "copies: out u8"]);
-    let both = ["copies: u16 u8", "copies: u16 slice u8"];
     let rows = [
-        Row(&[copy], byte, None, Some(&[baz, "copies: u8 u8"])),
+        Row(&[COPY], BYTE, None, Some(&[BAZ, "copies: u8 u8"])),
         // Without a bound about the associated type, the projection stays.
-        Row(&[copy], "u8 'static dyn_auto", None, stays),
-        Row(&[copy], "u8 u16 'static dyn_given", None, stays),
+        Row(&[COPY], "u8 'static dyn_auto", None, Some(&STAYS)),
+        Row(&[COPY], "u8 u16 'static dyn_given", None, Some(&STAYS)),
         // Two bounds match.
-        Row(&[copy], "u8 u16 'static dyn_outs", None, None),
+        Row(&[COPY], "u8 u16 'static dyn_outs", None, None),
         // What requires `Self: Sized` asks for nothing.
-        Row(&[sized], byte, None, Some(&[baz])),
+        Row(&[COPY_SIZED], BYTE, None, Some(&[BAZ])),
         // Self bounds come first. A projection is replaced inside a slice, too.
         Row(
-            &[of_slice, copy],
-            wide,
+            &[COPY_SLICE, COPY],
+            WIDE,
             None,
-            Some(&[baz, both[0], both[1]]),
+            Some(&[BAZ, "copies: u16 u8", "copies: u16 slice u8"]),
         ),
         // That of another type stays.
-        Row(&[of_byte], wide, None, Some(&[baz, "copies: u8 out u8"])),
+        Row(
+            &[COPY_OF_BYTE],
+            WIDE,
+            None,
+            Some(&[BAZ, "copies: u8 out u8"]),
+        ),
         // A variable stands for the region of the bound's binder.
         Row(
-            &[given],
-            of_region,
+            &[COPY_GIVEN],
+            BOUND,
             Some("u8 '^0 ref"),
             Some(&["copies: u16 '?1 ref u8"]),
         ),
         // The arguments don't match.
-        Row(&[given], of_region, Some("u16 '^0 ref"), None),
+        Row(&[COPY_GIVEN], BOUND, Some("u16 '^0 ref"), None),
     ];
     for (number, row) in rows.iter().enumerate() {
         for is_pending in [false, true] {

@@ -4,9 +4,10 @@
 
 ghost use Rattle.std.specs.Prelude.{◌≡◌, ◌++◌, ◌∷◌, []};
 ghost use Rattle.candidate_ir.specs.Context.{Grows};
-ghost use Rattle.candidate_ir.specs.Words.{IsPreds, IsTy, ClauseListFits};
+ghost use Rattle.candidate_ir.specs.Words.{IsArgs, IsPreds, IsTy, ClauseListFits, ListFits};
 
 use crate::asserts::{equals_in_row, holds};
+use crate::contents::{Sample, no_variables, sample_ty};
 use crate::declarations::{Item, add_all};
 use crate::reading::{Reader, Reading};
 use crate::samples::{FUNDAMENTAL_TRAIT, GIVEN, LOCAL_TRAIT, OUT, TRAIT, add_samples};
@@ -16,8 +17,8 @@ use candidate_ir::decl::contents::AliasBoundKind;
 use candidate_ir::decl::context::Cx;
 use candidate_ir::decl::definition::{AdtFlags, AssocKind, CrateId};
 use candidate_ir::ir::kinds::{
-    AliasId, AliasTy, AssocId, Binder, Clause, ClauseKind, GenericArg, PredicatePolarity, Preds,
-    TraitId, TraitPredicate, TraitRef, Ty, TyKind, UintTy, VarKind,
+    AliasId, AliasTy, Args, AssocId, Binder, Clause, ClauseKind, GenericArg, PredicatePolarity,
+    Preds, TraitId, TraitPredicate, TraitRef, Ty, TyKind, UintTy, VarKind,
 };
 use std::alloc::Global;
 use std::process::Abort;
@@ -37,18 +38,29 @@ pub enum Of {
 #[derive(Clone, Copy)]
 pub struct Bound(pub AssocId, pub AliasBoundKind, pub Of);
 
+/// The list, among the builder's.
+fn list_of(rt: &impl Abort, builder: &mut DeclsBuilder, list: &[GenericArg]) -> Args
+    requires { ListFits builder.old.trees list.now }
+    ensures grows { Grows builder.old builder.new }
+    ensures sort { IsArgs builder.new.trees result }
+{
+    builder.mk_args(list).expect(rt, "arguments")
+}
+
 /// The associated type of a type, and of the trait's parameter where it has one.
 fn projection(rt: &impl Abort, builder: &mut DeclsBuilder, item: AssocId, ty: Ty) -> Ty
     requires { IsTy builder.old.trees ty }
     ensures { IsTy builder.new.trees result }
 {
-    let parameter = builder.mk_ty(TyKind::Param(1)).expect(rt, "a parameter");
-    let (ty, parameter) = (GenericArg::Ty(ty), GenericArg::Ty(parameter));
+    let parameter = sample_ty(rt, builder, Sample::Param(1));
     let args = match item {
-        GIVEN => builder.mk_args(&[ty, parameter]),
-        _ => builder.mk_args(&[ty]),
+        GIVEN => list_of(
+            rt,
+            builder,
+            &[GenericArg::Ty(ty), GenericArg::Ty(parameter)],
+        ),
+        _ => list_of(rt, builder, &[GenericArg::Ty(ty)]),
     };
-    let args = args.expect(rt, "arguments");
     let alias = TyKind::Alias(AliasTy::projection(item, args));
     builder.mk_ty(alias).expect(rt, "an associated type")
 }
@@ -73,9 +85,8 @@ fn bounded(rt: &impl Abort, builder: &mut DeclsBuilder, item: AssocId, of: Of) -
 fn clause_of(rt: &impl Abort, builder: &mut DeclsBuilder, def_id: TraitId, ty: Ty) -> Clause
     requires { IsTy builder.old.trees ty }
 {
-    let args = builder.mk_args(&[GenericArg::Ty(ty)]);
-    let args = args.expect(rt, "arguments");
-    let vars = builder.mk_vars(&[]).expect(rt, "no variables");
+    let args = list_of(rt, builder, &[GenericArg::Ty(ty)]);
+    let vars = no_variables(rt, builder);
     let value = ClauseKind::Trait(TraitPredicate {
         trait_ref: TraitRef { def_id, args },
         polarity: PredicatePolarity::Positive,
@@ -90,7 +101,7 @@ pub fn declared(rt: &impl Abort, alloc: Global, bounds: &[Bound]) -> Cx {
     add_samples(rt, &mut builder, AdtFlags::default());
     let sized = Item::Assoc(TRAIT, AssocKind::Type, true);
     add_all(rt, &mut builder, &[sized]);
-    let itself = builder.mk_ty(TyKind::Param(0)).expect(rt, "`Self`");
+    let itself = sample_ty(rt, &mut builder, Sample::Param(0));
     let clause = clause_of(rt, &mut builder, LOCAL_TRAIT, itself);
     let pushed = builder.push_super(TRAIT, clause);
     holds(rt, pushed.is_ok(), "a super clause");
@@ -137,9 +148,11 @@ pub fn check_clauses(rt: &impl Abort, cx: &Cx, got: &[Clause], want: &[Clause], 
     requires want { ClauseListFits cx.now.trees want.now }
 {
     equals_in_row(rt, &got.len(), &want.len(), row);
-    for place in 0..got.len().min(want.len()) {
-        let same = cx.same_clause(got[place], want[place]);
-        equals_in_row(rt, &same, &true, row);
+    for place in 0..got.len() {
+        if let Some(want) = want.get(place) {
+            let same = cx.same_clause(got[place], *want);
+            equals_in_row(rt, &same, &true, row);
+        }
     }
 }
 

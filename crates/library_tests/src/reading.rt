@@ -393,10 +393,10 @@ impl Reader {
         ensures grows { Grows self.old.cx self.new.cx }
         ensures sort { IfSome result (λ p. IsPreds self.new.cx.trees p) }
     {
+        let given = self.list_before(rt);
         let vars = self.vars(rt, &[VarKind::Region]);
         let none = self.args(rt, &[]);
         let list = self.list(rt);
-        let given = self.list_before(rt);
         let (before, ty) = (self.before, self.ty);
         let cx = &mut self.cx;
         match word {
@@ -760,6 +760,7 @@ impl Reader {
         self.region
     }
 
+<<<<<<< HEAD
     /// What the words make last of that kind.
     #[tactic(auto, using(crate::proofs::Kept::kept))]
     pub fn arg(&mut self, rt: &impl Abort, kind: VarKind, text: &str) -> GenericArg
@@ -775,6 +776,10 @@ impl Reader {
     }
 
     /// A clause under the binder of these variables, of the last types and regions; the list is of the type before the last one.
+=======
+    /// A clause under the binder of these variables, of the last types and regions; the list is of the type before the last one. The
+    /// fundamental trait stands for `Copy`.
+>>>>>>> 4d39082e6ca1fe1b162decd7807bcbb3e1a72757
     #[tactic(auto, using(crate::proofs::Kept::kept))]
     fn clause_kind(&self, vars: Vars, list: Args, word: &str) -> Option<Binder<ClauseKind>>
         requires vars { IsVars self.now.cx.trees vars }

@@ -87,3 +87,36 @@ invariant_of-self-in-dyn_and_auto g c = record {
   region_is = IsRegion-grows _ _ c.list-list.new.self.region c.and_auto.ensures.grows c.list-list.new.self.region_is;
   other_is = IsRegion-grows _ _ c.list-list.new.self.other c.and_auto.ensures.grows c.list-list.new.self.other_is;
 }
+
+pub by_both-requires-clause-vars : goal.by_both-requires-clause-vars
+by_both-requires-clause-vars g c = IsVars-grows _ _ _ (grows-trans _ _ _ c.args-none.ensures.grows c.list-list.ensures.grows) c.vars-vars.ensures.sort
+
+pub by_both-requires-clause-args : goal.by_both-requires-clause-args
+by_both-requires-clause-args g c = IsArgs-grows _ _ _ c.list-list.ensures.grows c.args-none.ensures.sort
+
+pub invariant_of-self-in-dyn_outs : goal.invariant_of-self-in-dyn_outs
+invariant_of-self-in-dyn_outs g c = record {
+  ty_is = IsTy-grows _ _ c.list-list.new.self.ty c.by_both.ensures.grows c.list-list.new.self.ty_is;
+  before_is = IsTy-grows _ _ c.list-list.new.self.before c.by_both.ensures.grows c.list-list.new.self.before_is;
+  constant_is = IsConst-grows _ _ c.list-list.new.self.constant c.by_both.ensures.grows c.list-list.new.self.constant_is;
+  least_is = IsConst-grows _ _ c.list-list.new.self.least c.by_both.ensures.grows c.list-list.new.self.least_is;
+  region_is = IsRegion-grows _ _ c.list-list.new.self.region c.by_both.ensures.grows c.list-list.new.self.region_is;
+  other_is = IsRegion-grows _ _ c.list-list.new.self.other c.by_both.ensures.grows c.list-list.new.self.other_is;
+}
+
+pub bound-requires-in-dyn_given : goal.bound-requires-in-dyn_given
+bound-requires-in-dyn_given g c =
+    let more = grows-trans _ _ _ c.args-none.ensures.grows c.list-list.ensures.grows in
+    let vars = IsVars-grows _ _ _ more c.vars-vars.ensures.sort in
+    let given = IsArgs-grows _ _ _ (grows-trans _ _ _ c.vars-vars.ensures.grows more) c.list_before-given.ensures.sort in
+    projection_bound-fits _ _ _ _ _ _ c.by_given.ensures vars given c.list-list.new.self.ty_is
+
+pub invariant_of-self-in-dyn_given : goal.invariant_of-self-in-dyn_given
+invariant_of-self-in-dyn_given g c = record {
+  ty_is = IsTy-grows _ _ c.list-list.new.self.ty c.bound-in-dyn_given.ensures.grows c.list-list.new.self.ty_is;
+  before_is = IsTy-grows _ _ c.list-list.new.self.before c.bound-in-dyn_given.ensures.grows c.list-list.new.self.before_is;
+  constant_is = IsConst-grows _ _ c.list-list.new.self.constant c.bound-in-dyn_given.ensures.grows c.list-list.new.self.constant_is;
+  least_is = IsConst-grows _ _ c.list-list.new.self.least c.bound-in-dyn_given.ensures.grows c.list-list.new.self.least_is;
+  region_is = IsRegion-grows _ _ c.list-list.new.self.region c.bound-in-dyn_given.ensures.grows c.list-list.new.self.region_is;
+  other_is = IsRegion-grows _ _ c.list-list.new.self.other c.bound-in-dyn_given.ensures.grows c.list-list.new.self.other_is;
+}
