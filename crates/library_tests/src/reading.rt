@@ -760,7 +760,6 @@ impl Reader {
         self.region
     }
 
-<<<<<<< HEAD
     /// What the words make last of that kind.
     #[tactic(auto, using(crate::proofs::Kept::kept))]
     pub fn arg(&mut self, rt: &impl Abort, kind: VarKind, text: &str) -> GenericArg
@@ -775,11 +774,8 @@ impl Reader {
         }
     }
 
-    /// A clause under the binder of these variables, of the last types and regions; the list is of the type before the last one.
-=======
     /// A clause under the binder of these variables, of the last types and regions; the list is of the type before the last one. The
     /// fundamental trait stands for `Copy`.
->>>>>>> 4d39082e6ca1fe1b162decd7807bcbb3e1a72757
     #[tactic(auto, using(crate::proofs::Kept::kept))]
     fn clause_kind(&self, vars: Vars, list: Args, word: &str) -> Option<Binder<ClauseKind>>
         requires vars { IsVars self.now.cx.trees vars }
