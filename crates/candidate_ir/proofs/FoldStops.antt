@@ -264,6 +264,25 @@ module _ {M Rest F : Type 0} (context : M → Context) (others : M → Rest)
         let t = unwrap_or (a d (node h below)) (node h (fold a (d + binders_of h) below)) in
         cause.of_rest (numbers_given context e) t.head t.children (fold a d rest) x (stops-cause (reached-then context others g l (folds-reached context others g p)) q)
 
+  -- So a fold of a row has the causes of the trees that would have come, where calls that stop have those of their answers.
+  pub fold-stop : {A : Type 0} (C : ℕ → Forest → Stop → Type 0) → IsCause C → (a : Answers) (s e : F × M) (d : ℕ) (ts : Forest) (r : Result A Stop) → IsFunction context others g a s
+      → ((t : F × M) (y : GenericArg) (n : ℕ) (x : Stop) (u : F × M) → Says context others g t y n (Err x) u → IsArg (context t.1).trees y → Grows (context s.1) (context t.1)
+      → IsReached context others g s t → SaidOfAnswer C (numbers_given context u) (a n (arg_tree (context t.1).trees y)) x)
+      → IfErr r (λ x. StopsBy context others g s d ts x e) → IfErr r (λ x. C (numbers_given context e) (fold a d ts) x)
+  fold-stop C cause a s e d ts (Ok v) f stops p = tt
+  fold-stop C cause a s e d ts (Err x) f stops p =
+      stops-cause C cause a s f
+      (λ t u n w z l k. let A : Tree → Type 0 = λ v. SaidOfAnswer C (numbers_given context u) (a n v) z in
+      subst A k.tree (stops t k.of n z u k.says k.is (reached-grows s t l) l))
+      here p
+
+  -- where no call stops, those of the trees alone
+  pub fold-cause : {A : Type 0} (a : Answers) (s e : F × M) (d : ℕ) (ts : Forest) (r : Result A Stop) → IsFunction context others g a s
+      → ((t : F × M) (y : GenericArg) (n : ℕ) (q : Result (Option GenericArg) Stop) (u : F × M) → Says context others g t y n q u → IsArg (context t.1).trees y → Grows (context s.1) (context t.1)
+      → IfErr q (λ _. ⊥))
+      → IfErr r (λ x. StopsBy context others g s d ts x e) → IfErr r (λ x. IsSubstStop (numbers_given context e) (fold a d ts) x)
+  fold-cause a s e d ts r f never p = fold-stop IsSubstStop subst-cause a s e d ts r f (λ t y n x u k i l h. absurd (never t y n (Err x) u k i l)) p
+
   -- so a fold of a number by answers that look at the head alone
   pub head-stop : (C : ℕ → Forest → Stop → Type 0) → IsCause C → (a : ℕ → Head → Option Tree) (P : F → Type 0) (s e : F × M) (n : ℕ) (x : Stop) → P s.0
       → ((t : F × M) (y : GenericArg) (d : ℕ) (r : Result (Option GenericArg) Stop) (u : F × M) → Says context others g t y d r u → P t.0 → P u.0)

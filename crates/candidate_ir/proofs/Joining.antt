@@ -163,7 +163,7 @@ joint-stop old new ks variables (Err s) e u (inr (n, inr tall)) =
 abbrev pub over : ClauseHead → Forest → Forest → Tree
 over c variables below = record { head = H.Part (P.Clause c); children = tree (H.Part P.Vars) variables below }
 
-binder-head : (h : Head) → kind_of h ≡ BinderKind → h ≡ H.Part P.Vars
+pub binder-head : (h : Head) → kind_of h ≡ BinderKind → h ≡ H.Part P.Vars
 binder-head (H.Part (P.Clause c)) e = absurd cc
 binder-head (H.Part (P.Pred c)) e = absurd cc
 binder-head (H.Part P.Sig) e = absurd cc
@@ -271,7 +271,7 @@ below-mark mark c vs below m n o v =
     ∙ (or-nothing (holds mark (tree (H.Part P.Vars) vs below))
     ∙ (or-false (mark (H.Part P.Vars)) _ n ∙ or-false (holds mark vs) (holds mark below) (no-mark mark o vs v)))
 
-below-subst : (given : ℕ) (c : ClauseHead) (vs below : Forest) (x : Stop) → AreVariables vs → IsSubstStop given (alone (over c vs below)) x → IsSubstStop given below x
+pub below-subst : (given : ℕ) (c : ClauseHead) (vs below : Forest) (x : Stop) → AreVariables vs → IsSubstStop given (alone (over c vs below)) x → IsSubstStop given below x
 below-subst given c vs below x v no_memory = no_memory
 below-subst given c vs below x v (few_numbers l) =
     few_numbers (let a = no-most vs v in let b = row-bounds below in omega (arith, l, a, b))
@@ -398,16 +398,23 @@ module _ (os args : Forest) (n : ℕ) (s : Tree) (h : ClauseHead) (vs below : Fo
         subst (Takes w) (sym (instance-tree ∙ whole)) again
 
 -- a clause that was not made
+pub clause-unmade : (old new : Context) (made t : Tree) (r : Result Clause Stop) → made ≡ t → IfErr r (λ _. new ≡ old) → IfErr r (λ s. IsMkStop old.trees (height made) s)
+    → IfErr r (λ s. IsSubstStop (length new.trees) (alone t) s)
+clause-unmade old new made t (Ok x) e u c = tt
+clause-unmade old new made t (Err s) e u (inl m) = let Q : Stop → Type 0 = λ y. IsSubstStop (length new.trees) (alone t) y in subst Q (sym m) no_memory
+clause-unmade old new made t (Err s) e u (inr (m, inl full)) =
+    let Q : Stop → Type 0 = λ y. IsSubstStop (length new.trees) (alone t) y in
+    let same = ap (λ (x : Context). length x.trees) u in
+    subst Q (sym m) (few_numbers (omega (arith, full, same)))
+clause-unmade old new made t (Err s) e u (inr (m, inr tall)) =
+    let Q : Stop → Type 0 = λ y. IsSubstStop (length new.trees) (alone t) y in
+    let same = ap height e in
+    subst Q (sym m) (high_tree (omega (arith, tall, same)))
+
 pub clause-stop : (old new : Context) (made t : Tree) (r : Result Clause Stop) → made ≡ t → IfErr r (λ _. new ≡ old) → IfErr r (λ s. IsMkStop old.trees (height made) s)
     → IfErr r (λ s. IsInstanceStop (length new.trees) t s)
-clause-stop old new made t (Ok x) e u c = tt
-clause-stop old new made t (Err s) e u (inl m) =
-    let Q : Stop → Type 0 = λ y. IsRenumberStop (length new.trees) (alone t) y in inl (subst Q (sym m) (unput no_memory))
-clause-stop old new made t (Err s) e u (inr (m, inl full)) =
-    let Q : Stop → Type 0 = λ y. IsRenumberStop (length new.trees) (alone t) y in
-    let same = ap (λ (x : Context). length x.trees) u in
-    inl (subst Q (sym m) (unput (few_numbers (omega (arith, full, same)))))
-clause-stop old new made t (Err s) e u (inr (m, inr tall)) =
-    let Q : Stop → Type 0 = λ y. IsRenumberStop (length new.trees) (alone t) y in
-    let same = ap height e in
-    inl (subst Q (sym m) (unput (high_tree (omega (arith, tall, same)))))
+clause-stop old new made t r e u c = at r (clause-unmade old new made t r e u c)
+  where
+    at : (q : Result Clause Stop) → IfErr q (λ s. IsSubstStop (length new.trees) (alone t) s) → IfErr q (λ s. IsInstanceStop (length new.trees) t s)
+    at (Ok x) k = tt
+    at (Err s) k = inl (unput k)

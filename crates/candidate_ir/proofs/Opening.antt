@@ -1,10 +1,7 @@
 -- Clauses out of their binders.
-use Rattle.std.proofs.Common.{◌≡◌, ℕ, zero, suc, ◌+◌, ◌-◌, ◌<◌, arith, List, Option, Some, None, Bool, true, false, refl, sym, ◌∙◌, ap, subst}
+use Rattle.std.proofs.Common.{◌≡◌, ℕ, zero, suc, ◌+◌, ◌-◌, ◌<◌, arith, List, [], ◌∷◌, length, Option, Some, None, Bool, true, false, refl, sym, ◌∙◌, ap, subst, inl, inr}
 use Rattle.std.specs.Prelude.{Result, Ok, Err, IfOk, IfSome, map, nat_lt, if◌then◌else◌}
-use Rattle.std.specs.Option.{unwrap_or}
 use Rattle.candidate_ir.specs.declared.ir.heads.ClauseHead.{ClauseHead}
-use Rattle.candidate_ir.specs.declared.ir.heads.ConstHead.{ConstHead}
-use Rattle.candidate_ir.specs.declared.ir.heads.ConstHead.TheVariants as C
 use Rattle.candidate_ir.specs.declared.ir.heads.Head.{Head}
 use Rattle.candidate_ir.specs.declared.ir.heads.Head.TheVariants as H
 use Rattle.candidate_ir.specs.declared.ir.heads.ListHead.{ListHead}
@@ -18,27 +15,27 @@ use Rattle.candidate_ir.specs.declared.ir.kinds.Clause.{Clause}
 use Rattle.candidate_ir.specs.declared.ir.kinds.ClauseKind.{ClauseKind}
 use Rattle.candidate_ir.specs.declared.ir.kinds.GenericArg.{GenericArg}
 use Rattle.candidate_ir.specs.declared.ir.kinds.GenericArg.TheVariants as A
-use Rattle.candidate_ir.specs.declared.ir.kinds.RegionKind.{RegionKind}
-use Rattle.candidate_ir.specs.declared.ir.kinds.RegionKind.TheVariants as R
 use Rattle.candidate_ir.specs.declared.ir.kinds.VarKind.{VarKind}
 use Rattle.candidate_ir.specs.declared.ir.kinds.VarKind.TheVariants as K
 use Rattle.candidate_ir.specs.declared.ir.kinds.Vars.{Vars}
 use Rattle.candidate_ir.specs.declared.ir.stop.Stop.{Stop}
 use Rattle.candidate_ir.specs.Context.{Context, parameter_kind}
 use Rattle.candidate_ir.specs.Elaboration.{under_binder}
-use Rattle.candidate_ir.specs.Folding.{fold, fold_tree, leaf, argument}
+use Rattle.candidate_ir.specs.Folding.{fold, fold_tree, leaf, argument, IsSubstStop, no_memory, few_numbers}
 use Rattle.candidate_ir.specs.Folds.{is_asked, node, IsArg, IsOfKind, arg_tree}
 use Rattle.candidate_ir.specs.Kinds.{arg_number, arg_kind, clause_head}
-use Rattle.candidate_ir.specs.Nodes.{error_tree, tree_at, kind_at, rows}
+use Rattle.candidate_ir.specs.Nodes.{error_tree, rows}
 use Rattle.candidate_ir.specs.Opening.{is_of, of_kind, error_of, bound_head, opened_head, opened, opened_clause, under_variables}
 use Rattle.candidate_ir.specs.References.{FitsAmong, Takes}
+use Rattle.candidate_ir.specs.Substitutions.{alone}
 use Rattle.candidate_ir.specs.Supers.{after_first}
-use Rattle.candidate_ir.specs.Trees.{Kind, ClauseKind as ClauseKindOf, Forest, none, tree, Tree, kind_of, count, sort_kind, list_kind}
-use Rattle.candidate_ir.specs.Words.{IsVars, IsClause, ClauseFits, clause_tree, clause_kind_tree, vars_tree, var_kind_tree}
-use Rattle.candidate_ir.specs.Worlds.{World}
+use Rattle.candidate_ir.specs.Trees.{Kind, BinderKind, VariableKind, ClauseKind as ClauseKindOf, Forest, none, tree, Tree, kind_of, count, row, sort_kind, list_kind}
+use Rattle.candidate_ir.specs.Words.{IsVars, IsClause, ClauseFits, clause_tree, clause_kind_tree, vars_tree, var_kind_tree, IsMkListStop}
+use Rattle.candidate_ir.specs.Worlds.{World, Fits, child_kinds, clause_kinds, kinds_of, joined, all_of}
 use Rattle.candidate_ir.proofs.FoldKinds.{takes-again}
 use Rattle.candidate_ir.proofs.Folding.{HeadAnswers, by_head}
-use Rattle.candidate_ir.proofs.Joining.{over, below_binder, clause-over, joint-fits, one-deeper}
+use Rattle.candidate_ir.proofs.FoldStops.{subst-cause}
+use Rattle.candidate_ir.proofs.Joining.{AreVariables, fold-variables, over, binder-head, below_binder, below-subst, clause-over, joint-fits, one-deeper}
 use Rattle.candidate_ir.proofs.Kept.{grows-refl}
 use Rattle.candidate_ir.proofs.Members.{arg-there}
 use Rattle.candidate_ir.proofs.Rows.{kind-of}
@@ -175,6 +172,94 @@ module _ (values : Forest) (old : List Tree) (x : Clause) (sort : IsClause old x
       let own : FitsAmong w (over (clause_head b) vs (below_binder new.trees b)) = subst (FitsAmong w) r fit in
       let again : Takes w (over (clause_head b) none (below_binder new.trees b)) = takes-again w (over (clause_head b) vs (below_binder new.trees b)) (tree (H.Part P.Vars) none (below_binder new.trees b)) own refl in
       subst (Takes w) (sym made-over) again
+
+-- A clause that fits has its binder first, which has variables alone.
+variable-head : (h : Head) → kind_of h ≡ VariableKind → (k : VarKind) × (h ≡ H.Part (P.Var k))
+variable-head (H.Part (P.Clause c)) e = absurd cc
+variable-head (H.Part (P.Pred c)) e = absurd cc
+variable-head (H.Part P.Sig) e = absurd cc
+variable-head (H.Part P.Vars) e = absurd cc
+variable-head (H.Part (P.Var k)) e = (k, refl)
+variable-head (H.Infer v) e = at v.sort e
+  where
+    at : (s : VariableSort) → sort_kind s ≡ VariableKind → (k : VarKind) × (H.Infer v ≡ H.Part (P.Var k))
+    at V.Constant e = absurd cc
+    at _ e = absurd cc
+variable-head (H.List l) e = at l e
+  where
+    at : (m : ListHead) → list_kind m ≡ VariableKind → (k : VarKind) × (H.List l ≡ H.Part (P.Var k))
+    at L.Args e = absurd cc
+    at L.Preds e = absurd cc
+    at L.Clauses e = absurd cc
+variable-head _ e = absurd cc
+
+no-kinds : (ts : Forest) → Some [] ≡ Some (kinds_of ts) → ts ≡ none
+no-kinds none e = refl
+no-kinds (tree h below rest) e = absurd cc
+
+all-variables : (w : World) (ts : Forest) → Some (all_of VariableKind (kinds_of ts)) ≡ Some (kinds_of ts) → Fits w ts → AreVariables ts
+all-variables w none e f = tt
+all-variables w (tree h below rest) e f =
+    let kind : kind_of h ≡ VariableKind = cc in
+    let others : Some (all_of VariableKind (kinds_of rest)) ≡ Some (kinds_of rest) = cc in
+    let is = variable-head h kind in
+    let own = subst (λ (x : Head). child_kinds w x (kinds_of below) ≡ Some (kinds_of below)) is.1 f.0 in
+    (is, no-kinds below own, all-variables w rest others f.2)
+
+first-kind : (k : Kind) (o : Option (List Kind)) (ks : List Kind) → joined (Some (k ∷ [])) o ≡ Some ks → (more : List Kind) × (ks ≡ k ∷ more)
+first-kind k None ks e = absurd cc
+first-kind k (Some more) ks e = (more, cc)
+
+record Parts (t : Tree) : Type 0 where
+  pub said : ClauseHead
+  pub variables : Forest
+  pub under : Forest
+  pub is : t ≡ over said variables under
+  pub are : AreVariables variables
+
+parts : (w : World) (t : Tree) → kind_of t.head ≡ ClauseKindOf → FitsAmong w t → Parts t
+parts w t k f =
+    let headed = clause-headed t.head k in
+    let own : Fits w (alone (node (H.Part (P.Clause headed.0)) t.children)) = subst (λ (h : Head). Fits w (row (node h t.children) none)) headed.1 f in
+    subst Parts (ap (λ (h : Head). node h t.children) (sym headed.1)) (at headed.0 t.children own.0 own.1)
+  where
+    at : (c : ClauseHead) (ts : Forest) → child_kinds w (H.Part (P.Clause c)) (kinds_of ts) ≡ Some (kinds_of ts) → Fits w ts → Parts (node (H.Part (P.Clause c)) ts)
+    at c none e f = let first = (first-kind BinderKind (clause_kinds w c) [] e).1 in absurd cc
+    at c (tree h vs below) e f =
+        let first = (first-kind BinderKind (clause_kinds w c) (kind_of h ∷ kinds_of below) e).1 in
+        let kind : kind_of h ≡ BinderKind = cc in
+        let binder = binder-head h kind in
+        record {
+          said = c;
+          variables = vs;
+          under = below;
+          is = ap (λ (x : Head). node (H.Part (P.Clause c)) (tree x vs below)) binder;
+          are = all-variables w vs (subst (λ (x : Head). child_kinds w x (kinds_of vs) ≡ Some (kinds_of vs)) binder f.0) f.1;
+        }
+
+-- Why its fold stopped, so did the clause that was to be made of it.
+pub opened-cause : (given : ℕ) (w : World) (values : Forest) (s : Tree) (x : Stop) → kind_of s.head ≡ ClauseKindOf → FitsAmong w s
+    → IsSubstStop given (alone (fold_tree (by_head (deeper values)) 0 s)) x → IsSubstStop given (alone (opened_clause values s)) x
+opened-cause given w values s x k f c =
+    let p = parts w s k f in
+    let Stopped : Tree → Type 0 = λ t. IsSubstStop given (alone t) x in
+    let below = opened values p.under in
+    let still : fold_tree (by_head (deeper values)) 0 s ≡ over p.said p.variables below =
+    ap (fold_tree (by_head (deeper values)) 0) p.is
+    ∙ (ap (λ (vs : Forest). over p.said vs (fold (by_head (deeper values)) 1 p.under)) (fold-variables (deeper values) (λ d v. refl) 1 p.variables p.are)
+    ∙ ap (over p.said p.variables) (one-deeper (opened_head values) 0 p.under)) in
+    subst Stopped (sym (ap (opened_clause values) p.is))
+    (subst-cause.of_below given (H.Part (P.Clause p.said)) (tree (H.Part P.Vars) none below) none x
+    (subst-cause.of_rest given (H.Part P.Vars) none below x (below-subst given p.said p.variables below x p.are (subst Stopped still c))))
+
+-- an empty binder that was not made
+pub binder-stop : (old new : Context) (made : Forest) (x : Stop) → new ≡ old → IsMkListStop old.trees 1 0 x → IsSubstStop (length new.trees) made x
+binder-stop old new made x e (inl m) = let P : Stop → Type 0 = λ y. IsSubstStop (length new.trees) made y in subst P (sym m) no_memory
+binder-stop old new made x e (inr (m, inl few)) =
+    let P : Stop → Type 0 = λ y. IsSubstStop (length new.trees) made y in
+    let same = ap (λ (c : Context). length c.trees) e in
+    subst P (sym m) (few_numbers (omega (arith, few, same)))
+binder-stop old new made x e (inr (m, inr tall)) = absurd (omega (arith, tall))
 
 -- The kinds of a binder's variables that were read.
 pub kinds-read : (c : Context) (x : Clause) (b : Binder ClauseKind) (ks : List VarKind) → clause_tree c.trees x ≡ over (clause_head b) (vars_tree c.trees b.vars).children (below_binder c.trees b)

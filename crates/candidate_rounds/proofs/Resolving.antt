@@ -1,6 +1,6 @@
 -- What folds that put values in ask about.
 use Rattle.std.proofs.Common.{◌≡◌, ℕ, Bool, true, false, List, slice_get, Option, Some, None, Result, Ok, refl, sym, ◌∙◌, ap, subst, if◌then◌else◌}
-use Rattle.std.specs.Prelude.{IfOk}
+use Rattle.std.specs.Prelude.{IfOk, IfErr}
 use Rattle.std.specs.Option.{option_map}
 use Rattle.std.proofs.lemmas.Option.{slice_get-map}
 use Rattle.candidate_ir.specs.declared.ir.kinds.GenericArg.{GenericArg}
@@ -141,3 +141,6 @@ call-answers c s e m n x r g k same q =
     subst (λ u. IfOk r (λ o. option_map (arg_tree u.trees) o ≡ value_at (state_of c.trees m n) (arg_tree s.trees x).head)) (sym same)
     (subst (λ w. IfOk w (λ o. option_map (arg_tree s.trees) o ≡ value_at (state_of c.trees m n) (arg_tree s.trees x).head)) (sym q)
     (later-tree c.trees s.trees m n g.kept k (arg_tree s.trees x).head))
+
+pub call-answered : (o : Option GenericArg) (r : Result (Option GenericArg) Stop) → r ≡ Ok o → IfErr r (λ _. ⊥)
+call-answered o r q = subst (λ w. IfErr w (λ _. ⊥)) (sym q) tt

@@ -1,11 +1,12 @@
 //! Clauses out of their binders.
 
-ghost use Rattle.std.specs.Prelude.{◌≡◌, ◌-◌, ℕ, Some, None, MatchOption, IfOk, IfSome, option_map};
+ghost use Rattle.std.specs.Prelude.{◌≡◌, ◌-◌, ℕ, length, Some, None, MatchOption, IfOk, IfErr, IfSome, option_map};
 ghost use Rattle.candidate_ir.specs.Context.{Grows, parameter_kind};
-ghost use Rattle.candidate_ir.specs.Folding.{leaf, argument, shift_tree, fold_tree};
+ghost use Rattle.candidate_ir.specs.Folding.{leaf, argument, shift_tree, fold_tree, IsSubstStop, IsAnswerStop};
 ghost use Rattle.candidate_ir.specs.Folds.{IsArg, IsOfKind, arg_tree};
 ghost use Rattle.candidate_ir.specs.Kinds.{arg_kind};
 ghost use Rattle.candidate_ir.specs.Opening.{bound_head, error_of, of_kind, opened_clause, opened_head, opened_variable, under_variables};
+ghost use Rattle.candidate_ir.specs.Substitutions.{alone};
 ghost use Rattle.candidate_ir.specs.Trees.{Forest};
 ghost use Rattle.candidate_ir.specs.Words.{IsArgs, IsClause, args_forest, clause_tree};
 
@@ -40,6 +41,7 @@ fn bound_variable<M: Make>(make: &mut M, kind: VarKind, var: BoundVar) -> Result
     ensures sort { IfOk result (λ a. IsArg (M.context make.new).trees a) }
     ensures kind { IfOk result (λ a. arg_kind a ≡ parameter_kind kind) }
     ensures tree { IfOk result (λ a. arg_tree (M.context make.new).trees a ≡ leaf (bound_head kind var)) }
+    ensures cause { IfErr result (λ s. IsSubstStop (length (M.context make.new).trees) (alone (leaf (bound_head kind var))) s) }
 {
     match kind {
         VarKind::Ty => Ok(GenericArg::Ty(make.mk_ty(TyKind::Bound(var))?)),
@@ -55,6 +57,7 @@ fn error_of<M: Make>(make: &mut M, kind: VarKind) -> Result<GenericArg, Stop>
     ensures sort { IfOk result (λ a. IsArg (M.context make.new).trees a) }
     ensures kind { IfOk result (λ a. arg_kind a ≡ parameter_kind kind) }
     ensures tree { IfOk result (λ a. arg_tree (M.context make.new).trees a ≡ leaf (error_of kind)) }
+    ensures cause { IfErr result (λ s. IsSubstStop (length (M.context make.new).trees) (alone (leaf (error_of kind))) s) }
 {
     match kind {
         VarKind::Ty => Ok(GenericArg::Ty(make.mk_ty(TyKind::Error)?)),
@@ -87,6 +90,7 @@ fn value_under<M: Make>(
     ensures sort { IfOk result (λ a. IsArg (M.context make.new).trees a) }
     ensures kind { IfOk result (λ a. arg_kind a ≡ parameter_kind kind) }
     ensures tree { IfOk result (λ a. arg_tree (M.context make.new).trees a ≡ shift_tree binders (of_kind kind (argument (args_forest (M.context make.old).trees values) index))) }
+    ensures cause { IfErr result (λ s. IsSubstStop (length (M.context make.new).trees) (alone (shift_tree binders (of_kind kind (argument (args_forest (M.context make.old).trees values) index)))) s) }
 {
     match value_of_kind(make.cx(), values, kind, index) {
         Some(value) => shifted(alloc, make, value, binders),
@@ -108,6 +112,7 @@ fn opened_variable<M: Make>(
     ensures rest { M.rest make.new ≡ M.rest make.old }
     ensures sort { IfOk result (λ o. IfSome o (λ a. IsArg (M.context make.new).trees a × (arg_kind a ≡ parameter_kind kind))) }
     ensures answer { IfOk result (λ o. option_map (arg_tree (M.context make.new).trees) o ≡ opened_variable (args_forest (M.context make.old).trees values) binders kind var) }
+    ensures cause { IfErr result (λ s. IsAnswerStop (length (M.context make.new).trees) (opened_variable (args_forest (M.context make.old).trees values) binders kind var) s) }
 {
     if var.depth == binders {
         let value = value_under(alloc, make, values, kind, var.index, binders)?;
@@ -137,6 +142,7 @@ fn opened_part<M: Make>(
     ensures rest { M.rest make.new ≡ M.rest make.old }
     ensures kind { IfOk result (λ o. IsOfKind (M.context make.new).trees arg o) }
     ensures answer { IfOk result (λ o. option_map (arg_tree (M.context make.new).trees) o ≡ opened_head (args_forest (M.context make.old).trees values) (binders - 1) (arg_tree (M.context make.old).trees arg).head) }
+    ensures cause { IfErr result (λ s. IsAnswerStop (length (M.context make.new).trees) (opened_head (args_forest (M.context make.old).trees values) (binders - 1) (arg_tree (M.context make.old).trees arg).head) s) }
 {
     let below = binders.saturating_sub(1);
     let head = make.cx().head(arg.number());
@@ -169,6 +175,7 @@ fn opened_below<M: Make>(
     ensures rest { M.rest make.new ≡ M.rest make.old }
     ensures sort { IfOk result (λ x. IsClause (M.context make.new).trees x) }
     ensures tree { IfOk result (λ x. clause_tree (M.context make.new).trees x ≡ fold_tree (λ d t. opened_head (args_forest (M.context make.old).trees values) (d - 1) t.head) 0 (clause_tree (M.context make.old).trees clause)) }
+    ensures cause { IfErr result (λ s. IsSubstStop (length (M.context make.new).trees) (alone (fold_tree (λ d t. opened_head (args_forest (M.context make.old).trees values) (d - 1) t.head) 0 (clause_tree (M.context make.old).trees clause))) s) }
 {
     let number = fold_number(
         alloc,
@@ -202,7 +209,9 @@ pub fn open_clause<M: Make>(
     ensures rest { M.rest make.new ≡ M.rest make.old }
     ensures sort { IfOk result (λ x. IsClause (M.context make.new).trees x) }
     ensures tree { IfOk result (λ x. clause_tree (M.context make.new).trees x ≡ opened_clause (args_forest (M.context make.old).trees values) (clause_tree (M.context make.old).trees clause)) }
+    ensures cause { IfErr result (λ s. IsSubstStop (length (M.context make.new).trees) (alone (opened_clause (args_forest (M.context make.old).trees values) (clause_tree (M.context make.old).trees clause))) s) }
 {
+    make.cx().well_formed();
     let opened = opened_below(alloc, make, clause, values)?;
     let vars = make.mk_vars(&[])?;
     make.cx().well_formed();

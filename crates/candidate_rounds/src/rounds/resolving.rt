@@ -1,10 +1,12 @@
 //! What variables stand for.
 
-ghost use Rattle.std.specs.Prelude.{◌≡◌, ◌<◌, [], length, false, true, Some, None, Ok, MatchOption, IfOk};
+ghost use Rattle.std.specs.Prelude.{◌≡◌, ◌<◌, [], length, false, true, Some, None, Ok, MatchOption, IfOk, IfErr};
 ghost use Rattle.candidate_ir.specs.Context.{Grows};
+ghost use Rattle.candidate_ir.specs.Folding.{IsSubstStop};
 ghost use Rattle.candidate_ir.specs.Folds.{IsArg, arg_tree};
 ghost use Rattle.candidate_ir.specs.Kinds.{arg_kind, arg_number, const_children, const_head, ty_children, ty_head, variable_of};
 ghost use Rattle.candidate_ir.specs.Nodes.{tree_at};
+ghost use Rattle.candidate_ir.specs.Substitutions.{alone};
 ghost use Rattle.candidate_ir.specs.Trees.{RegionKind, TypeKind};
 ghost use Rattle.candidate_ir.specs.Words.{IsArgs, IsClause, IsConst, IsRegion, IsTy, args_forest, clause_tree, const_tree, region_tree, ty_tree};
 ghost use Rattle.candidate_eval.specs.Evaluators.{resolved_root};
@@ -286,6 +288,7 @@ fn resolved_ty(alloc: Global, cx: &mut Cx, inference: &Inference, ty: Ty) -> Res
     ensures grows { Grows cx.old cx.new }
     ensures sort { IfOk result (λ t. IsTy cx.new.trees t) }
     ensures tree { (m : TypingMode) → IfOk result (λ t. ty_tree cx.new.trees t ≡ resolved_tree (state_of cx.old.trees m inference.now) (ty_tree cx.old.trees ty)) }
+    ensures cause { (m : TypingMode) → IfErr result (λ s. IsSubstStop (length cx.new.trees) (alone (resolved_tree (state_of cx.old.trees m inference.now) (ty_tree cx.old.trees ty))) s) }
 {
     fold(
         alloc,
@@ -312,6 +315,7 @@ fn resolved_const(
     ensures grows { Grows cx.old cx.new }
     ensures sort { IfOk result (λ x. IsConst cx.new.trees x) }
     ensures tree { (m : TypingMode) → IfOk result (λ x. const_tree cx.new.trees x ≡ resolved_tree (state_of cx.old.trees m inference.now) (const_tree cx.old.trees constant)) }
+    ensures cause { (m : TypingMode) → IfErr result (λ s. IsSubstStop (length cx.new.trees) (alone (resolved_tree (state_of cx.old.trees m inference.now) (const_tree cx.old.trees constant))) s) }
 {
     fold_const(
         alloc,
@@ -338,6 +342,7 @@ pub(crate) fn resolved_arg(
     ensures grows { Grows cx.old cx.new }
     ensures sort { IfOk result (λ x. IsArg cx.new.trees x × (arg_kind x ≡ arg_kind arg)) }
     ensures tree { (m : TypingMode) → IfOk result (λ x. arg_tree cx.new.trees x ≡ resolved_tree (state_of cx.old.trees m inference.now) (arg_tree cx.old.trees arg)) }
+    ensures cause { (m : TypingMode) → IfErr result (λ s. IsSubstStop (length cx.new.trees) (alone (resolved_tree (state_of cx.old.trees m inference.now) (arg_tree cx.old.trees arg))) s) }
 {
     if let Some(lone) = Lone::of(cx, arg) {
         return Ok(lone.value(inference).unwrap_or(arg));
@@ -367,6 +372,7 @@ pub(crate) fn resolved_args(
     ensures grows { Grows cx.old cx.new }
     ensures sort { IfOk result (λ x. IsArgs cx.new.trees x) }
     ensures tree { (m : TypingMode) → IfOk result (λ x. args_forest cx.new.trees x ≡ resolved (state_of cx.old.trees m inference.now) (args_forest cx.old.trees args)) }
+    ensures cause { (m : TypingMode) → IfErr result (λ s. IsSubstStop (length cx.new.trees) (resolved (state_of cx.old.trees m inference.now) (args_forest cx.old.trees args)) s) }
 {
     fold_args(
         alloc,
@@ -393,6 +399,7 @@ pub(crate) fn resolved_clause(
     ensures grows { Grows cx.old cx.new }
     ensures sort { IfOk result (λ x. IsClause cx.new.trees x) }
     ensures tree { (m : TypingMode) → IfOk result (λ x. clause_tree cx.new.trees x ≡ resolved_tree (state_of cx.old.trees m inference.now) (clause_tree cx.old.trees clause)) }
+    ensures cause { (m : TypingMode) → IfErr result (λ s. IsSubstStop (length cx.new.trees) (alone (resolved_tree (state_of cx.old.trees m inference.now) (clause_tree cx.old.trees clause))) s) }
 {
     fold_clause(
         alloc,
@@ -458,6 +465,7 @@ impl Rounds {
         ensures state { state self.new ≡ state self.old }
         ensures sort { IfOk result (λ x. IsTy self.new.context.trees x) }
         ensures tree { IfOk result (λ x. ty_tree self.new.context.trees x ≡ resolved_tree (state self.old) (ty_tree self.old.context.trees ty)) }
+        ensures cause { IfErr result (λ s. IsSubstStop (length self.new.context.trees) (alone (resolved_tree (state self.old) (ty_tree self.old.context.trees ty))) s) }
     {
         resolved_ty(alloc, &mut self.cx, &self.inference, ty)
     }
@@ -475,6 +483,7 @@ impl Rounds {
         ensures state { state self.new ≡ state self.old }
         ensures sort { IfOk result (λ x. IsConst self.new.context.trees x) }
         ensures tree { IfOk result (λ x. const_tree self.new.context.trees x ≡ resolved_tree (state self.old) (const_tree self.old.context.trees constant)) }
+        ensures cause { IfErr result (λ s. IsSubstStop (length self.new.context.trees) (alone (resolved_tree (state self.old) (const_tree self.old.context.trees constant))) s) }
     {
         resolved_const(alloc, &mut self.cx, &self.inference, constant)
     }
@@ -488,6 +497,7 @@ impl Rounds {
         ensures state { state self.new ≡ state self.old }
         ensures sort { IfOk result (λ x. IsArgs self.new.context.trees x) }
         ensures tree { IfOk result (λ x. args_forest self.new.context.trees x ≡ resolved (state self.old) (args_forest self.old.context.trees args)) }
+        ensures cause { IfErr result (λ s. IsSubstStop (length self.new.context.trees) (resolved (state self.old) (args_forest self.old.context.trees args)) s) }
     {
         resolved_args(alloc, &mut self.cx, &self.inference, args)
     }
@@ -505,6 +515,7 @@ impl Rounds {
         ensures state { state self.new ≡ state self.old }
         ensures sort { IfOk result (λ x. IsClause self.new.context.trees x) }
         ensures tree { IfOk result (λ x. clause_tree self.new.context.trees x ≡ resolved_tree (state self.old) (clause_tree self.old.context.trees clause)) }
+        ensures cause { IfErr result (λ s. IsSubstStop (length self.new.context.trees) (alone (resolved_tree (state self.old) (clause_tree self.old.context.trees clause))) s) }
     {
         resolved_clause(alloc, &mut self.cx, &self.inference, clause)
     }

@@ -1,11 +1,12 @@
 use Rattle.std.proofs.Common.{◌≡◌, refl, rules}
 use Rattle.std.specs.Prelude.{◌-◌}
+use Rattle.std.proofs.lemmas.Result.{err_from_is_err_and}
 use Rattle.candidate_ir.specs.Trees.{ClauseKind}
 use Rattle.candidate_ir.specs.Words.{args_forest}
 use Rattle.candidate_ir.proofs.Kept.{args-kept}
 use Rattle.candidate_ir.proofs.Lists.{below_kind}
 use Rattle.candidate_ir.proofs.FoldLaws.{head-number, reached-keeps}
-use Rattle.candidate_ir.proofs.FoldStops.{number-keeps-rest}
+use Rattle.candidate_ir.proofs.FoldStops.{number-keeps-rest, single-cause, head-cause}
 use Rattle.candidate_ir.proofs.Opening.{deeper, opened-only}
 use Rattle.candidate_ir.proofs.decl.open.opened_below.Goals as goal
 
@@ -39,3 +40,14 @@ returns-in_err-number-clause-rest g c =
     number-keeps-rest g.M.Make.context g.M.Make.rest _ (λ z. z.1 ≡ c.args.values) _
     (λ t x d r u n i l0 grown q. let k = n.called in let l = n.lends in let v = n.leaves in let kept = (args-kept _ _ c.args.values grown c.requires.values).0 in (search rules, search rules))
     _ 0 c.args.clause.0 c.fold_number.result refl c.fold_number.ensures
+
+pub returns-in_err-number-clause-cause : goal.returns-in_err-number-clause-cause
+returns-in_err-number-clause-cause g c =
+    let p = err_from_is_err_and c.from_residual.result c.from_residual.ensures.1 in
+    rw (p.1, p.2)
+    (single-cause (λ d t. deeper (args_forest (g.M.Make.context c.args.make.now).trees c.args.values) d t.head) _ (g.M.Make.context c.args.make.now).trees c.args.clause.0 ClauseKind _ refl refl c.requires.clause
+    (head-cause g.M.Make.context g.M.Make.rest _ (deeper (args_forest (g.M.Make.context c.args.make.now).trees c.args.values)) (λ z. z.1 ≡ c.args.values) _ _ _ _ refl
+    (λ s x d r e n p. let k = n.called in let l = n.lends in let v = n.leaves in search rules)
+    (λ s x d r e n i grown p. let k = n.called in let l = n.lends in let v = n.leaves in let same = (args-kept _ _ c.args.values grown c.requires.values).1 in search rules)
+    (λ s x d r e n i grown p. let k = n.called in let l = n.lends in let v = n.leaves in let same = (args-kept _ _ c.args.values grown c.requires.values).1 in search rules)
+    (λ d. opened-only (args_forest (g.M.Make.context c.args.make.now).trees c.args.values) (d - 1)) c.in_err-number.ensures))

@@ -1,10 +1,11 @@
-use Rattle.std.proofs.Common.{◌≡◌, reverse, IfOk, ◌∙◌, ap, subst}
+use Rattle.std.proofs.Common.{◌≡◌, length, reverse, IfOk, ◌∙◌, ap, subst}
+use Rattle.std.specs.Prelude.{IfErr}
+use Rattle.candidate_ir.specs.Folding.{IsSubstStop}
 use Rattle.candidate_ir.specs.Words.{args_forest}
 use Rattle.candidate_eval.specs.States.{resolved}
 use Rattle.candidate_rounds.specs.Known.{Evaluator, state, probes}
-use Rattle.candidate_rounds.proofs.Knowing.{given-grown, probes-grow, state-stays}
+use Rattle.candidate_rounds.proofs.Knowing.{probes-grow, state-stays}
 use Rattle.candidate_rounds.proofs.Holding.{kinds-now}
-use Rattle.candidate_rounds.proofs.Probing.{holds-grown}
 use Rattle.candidate_rounds.proofs.ResolvedValues.{evaluator-grown}
 use Rattle.candidate_rounds.proofs.rounds.Rounds.resolve_args_if_possible.Goals as goal
 
@@ -30,3 +31,8 @@ pub returns-clause-tree : goal.returns-clause-tree
 returns-clause-tree c =
     subst (λ (e : Evaluator). IfOk c.resolved_args.result (λ x. args_forest c.resolved_args.new.cx.trees x ≡ resolved (state e) (args_forest e.context.trees c.args.args))) c.self.view_is
     (c.resolved_args.ensures.tree c.self.inside.mode)
+
+pub returns-clause-cause : goal.returns-clause-cause
+returns-clause-cause c =
+    subst (λ (e : Evaluator). IfErr c.resolved_args.result (λ s. IsSubstStop (length c.resolved_args.new.cx.trees) (resolved (state e) (args_forest e.context.trees c.args.args)) s)) c.self.view_is
+    (c.resolved_args.ensures.cause c.self.inside.mode)

@@ -1,10 +1,12 @@
-use Rattle.std.proofs.Common.{◌≡◌, reverse, IfOk, ◌∙◌, ap, subst}
+use Rattle.std.proofs.Common.{◌≡◌, length, reverse, IfOk, ◌∙◌, ap, subst}
+use Rattle.std.specs.Prelude.{IfErr}
+use Rattle.candidate_ir.specs.Folding.{IsSubstStop}
+use Rattle.candidate_ir.specs.Substitutions.{alone}
 use Rattle.candidate_ir.specs.Words.{ty_tree}
 use Rattle.candidate_eval.specs.States.{resolved_tree}
 use Rattle.candidate_rounds.specs.Known.{Evaluator, state, probes}
-use Rattle.candidate_rounds.proofs.Knowing.{given-grown, probes-grow, state-stays}
+use Rattle.candidate_rounds.proofs.Knowing.{probes-grow, state-stays}
 use Rattle.candidate_rounds.proofs.Holding.{kinds-now}
-use Rattle.candidate_rounds.proofs.Probing.{holds-grown}
 use Rattle.candidate_rounds.proofs.ResolvedValues.{evaluator-grown}
 use Rattle.candidate_rounds.proofs.rounds.Rounds.resolve_ty_if_possible.Goals as goal
 
@@ -30,3 +32,8 @@ pub returns-clause-tree : goal.returns-clause-tree
 returns-clause-tree c =
     subst (λ (e : Evaluator). IfOk c.resolved_ty.result (λ x. ty_tree c.resolved_ty.new.cx.trees x ≡ resolved_tree (state e) (ty_tree e.context.trees c.args.ty))) c.self.view_is
     (c.resolved_ty.ensures.tree c.self.inside.mode)
+
+pub returns-clause-cause : goal.returns-clause-cause
+returns-clause-cause c =
+    subst (λ (e : Evaluator). IfErr c.resolved_ty.result (λ s. IsSubstStop (length c.resolved_ty.new.cx.trees) (alone (resolved_tree (state e) (ty_tree e.context.trees c.args.ty))) s)) c.self.view_is
+    (c.resolved_ty.ensures.cause c.self.inside.mode)
