@@ -32,3 +32,4 @@ pub mod Walk
 pub mod Visits
 pub mod Exits
 pub mod Second
+pub mod Naming
