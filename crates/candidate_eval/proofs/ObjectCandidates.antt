@@ -108,9 +108,9 @@ module _ {F : Type 0} (judge : F → Judge) where
       (subst (λ (y : Tree). AreReplaced (judge g) d y bs S cs ds T) j
       (subst (λ (y : List Tree). AreReplaced (judge g) d p y S cs ds T) k (subst (λ (y : State). AreReplaced (judge g) d p xs y cs ds T) l r))))
 
-  pub are-stuck-at : (f g : F) (e d : Env) (o p : Tree) (bs xs cs : List Tree) (S R : State) → g ≡ f → d ≡ e → p ≡ o → xs ≡ bs → R ≡ S → AreStuck (judge g) d p xs R cs → AreStuck (judge f) e o bs S cs
-  are-stuck-at f g e d o p bs xs cs S R h i j k l r =
-      subst (λ (y : F). AreStuck (judge y) e o bs S cs) h
-      (subst (λ (y : Env). AreStuck (judge g) y o bs S cs) i
-      (subst (λ (y : Tree). AreStuck (judge g) d y bs S cs) j
-      (subst (λ (y : List Tree). AreStuck (judge g) d p y S cs) k (subst (λ (y : State). AreStuck (judge g) d p xs y cs) l r))))
+  pub are-stuck-at : (f g : F) (e d : Env) (o p : Tree) (bs xs cs : List Tree) (S R T : State) → g ≡ f → d ≡ e → p ≡ o → xs ≡ bs → R ≡ S → AreStuck (judge g) d p xs R cs T → AreStuck (judge f) e o bs S cs T
+  are-stuck-at f g e d o p bs xs cs S R T h i j k l r =
+      subst (λ (y : F). AreStuck (judge y) e o bs S cs T) h
+      (subst (λ (y : Env). AreStuck (judge g) y o bs S cs T) i
+      (subst (λ (y : Tree). AreStuck (judge g) d y bs S cs T) j
+      (subst (λ (y : List Tree). AreStuck (judge g) d p y S cs T) k (subst (λ (y : State). AreStuck (judge g) d p xs y cs T) l r))))

@@ -1,5 +1,5 @@
 -- Bounds of objects, as they are read and instantiated.
-use Rattle.std.proofs.Common.{rules, ◌≡◌, ℕ, Bool, true, ◌==◌, ◌&&◌, List, [], ◌∷◌, ◌++◌, map, refl, sym, ◌∙◌, ap, subst}
+use Rattle.std.proofs.Common.{rules, ◌≡◌, ℕ, Bool, true, ◌==◌, ◌&&◌, List, Option, [], ◌∷◌, ◌++◌, map, refl, sym, ◌∙◌, ap, subst}
 use Rattle.candidate_ir.specs.declared.ir.heads.Head.{Head}
 use Rattle.candidate_ir.specs.declared.ir.heads.ClauseHead.TheVariants as Cl
 use Rattle.candidate_ir.specs.declared.ir.kinds.Binder.{Binder}
@@ -15,8 +15,8 @@ use Rattle.candidate_ir.specs.Nodes.{tree_at, trees_at, rows}
 use Rattle.candidate_ir.specs.Opening.{under_variables}
 use Rattle.candidate_ir.specs.Substitutions.{alone}
 use Rattle.candidate_ir.specs.Trees.{TypeKind, ArgumentsKind, ClausesKind, Forest, none, tree, Tree, join}
-use Rattle.candidate_ir.specs.Words.{IsArgs, IsTy, IsParamEnv, ClauseFits, args_forest, clause_tree, clause_kind_tree, env_forest, ty_tree, vars_tree, var_kind_tree}
-use Rattle.candidate_ir.proofs.Joining.{below_binder, clause-over, over}
+use Rattle.candidate_ir.specs.Words.{IsArgs, IsClause, IsTy, IsParamEnv, ClauseFits, args_forest, clause_tree, clause_kind_tree, env_forest, ty_tree, vars_tree, var_kind_tree}
+use Rattle.candidate_ir.proofs.Joining.{below_binder, clause-kept, clause-over, over}
 use Rattle.candidate_ir.proofs.Kept.{number-kept}
 use Rattle.candidate_ir.proofs.Lists.{below_kind}
 use Rattle.candidate_ir.proofs.Rows.{row-list, row-single}
@@ -24,7 +24,7 @@ use Rattle.candidate_eval.specs.Callable.{all_but_last, last_tree}
 use Rattle.candidate_eval.specs.Characterization.{binder_kinds, bound_kinds}
 use Rattle.candidate_eval.specs.Evaluators.{accepted, kinds_listed}
 use Rattle.candidate_eval.specs.Objects.{IsBound, arguments_in, term_in, is_about, bound_equated, bound_matches, fresh_instance, is_equated, with_instance}
-use Rattle.candidate_eval.specs.States.{Env, State, Judge, with_pending}
+use Rattle.candidate_eval.specs.States.{Env, State, Judge, with_pending, is_some}
 
 -- The last of several trees, and those before it.
 
@@ -122,3 +122,19 @@ module _ {F : Type 0} (judge : F → Judge) where
       ∙ (ap (λ (k : Tree). is_equated (judge f) (bound_equated (judge f) e (with_pending S []) k b)) u
       ∙ (ap (λ (k : Forest). is_equated (judge f) (bound_equated (judge f) e (with_pending S []) c k)) v
       ∙ ap (λ (k : Bool). k && is_equated (judge f) (bound_equated (judge f) e (with_pending S []) c args)) (sym w))))))
+
+  -- what a probe with what is pending says of a bound's equation
+  pub kept-answer : (f g : F) (S T : State) (e d : Env) (c x : Tree) (args b : Forest) (o : Option State) → g ≡ f → T ≡ S → d ≡ e → x ≡ c → b ≡ args
+      → bound_equated (judge g) d T x b ≡ o → is_some (bound_equated (judge f) e S c args) ≡ is_some o
+  kept-answer f g S T e d c x args b o p q s u v h =
+      ap is_some
+      (sym (ap (λ (k : F). bound_equated (judge k) d T x b) p
+      ∙ (ap (λ (U : State). bound_equated (judge f) d U x b) q
+      ∙ (ap (λ (k : Env). bound_equated (judge f) k S x b) s
+      ∙ (ap (λ (k : Tree). bound_equated (judge f) e S k b) u
+      ∙ ap (bound_equated (judge f) e S c) v))))
+      ∙ h)
+
+-- a bound is still about the associated type in a context that has grown
+pub about-kept : (a b : Context) (x : Clause) (i : ℕ) → Grows a b → IsClause a.trees x → is_about i (clause_tree a.trees x).head ≡ true → is_about i (clause_tree b.trees x).head ≡ true
+about-kept a b x i g c e = ap (λ (t : Tree). is_about i t.head) (clause-kept a b x g c).1 ∙ e

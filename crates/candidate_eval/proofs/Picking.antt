@@ -72,8 +72,8 @@ parts f (x ∷ xs) zero d l = refl
 parts {B = B} f (x ∷ xs) (suc k) d l = ap (λ (ys : List B). f x ∷ ys) (parts f xs k d (omega (arith, l)))
 
 pub one-stuck : (J : Judge) (e : Env) (bounds : List Tree) (start now : Context) (S T : State) (ps : List AliasTerm) (k : ℕ) (d : AliasTerm) (terms : List Ty)
-    → PickedSoFar J e bounds start now S T ps k terms → k < length ps → IsAmbiguous J e (projection_at start.trees (get_or ps k d)) T bounds → IsStuck J e bounds S (projections_at start.trees ps)
-one-stuck J e bounds start now S T ps k d terms s l a = record {
+    → PickedSoFar J e bounds start now S T ps k terms → k < length ps → (U : State) → IsAmbiguous J e (projection_at start.trees (get_or ps k d)) T bounds U → IsStuck J e bounds S (projections_at start.trees ps) U
+one-stuck J e bounds start now S T ps k d terms s l U a = record {
   before = projections_at start.trees (take k ps);
   terms = types_at now.trees terms;
   last = T;
@@ -92,11 +92,11 @@ module _ {F : Type 0} (judge : F → Judge) where
       (subst (λ (y : Env). IsPicked (judge g) y p T bs u U) i
       (subst (λ (y : Projection). IsPicked (judge g) d y T bs u U) j (subst (λ (y : List Tree). IsPicked (judge g) d q T y u U) k x)))
 
-  pub ambiguous-then : (f g : F) (e d : Env) (p q : Projection) (T : State) (bs cs : List Tree) → g ≡ f → d ≡ e → q ≡ p → cs ≡ bs → IsAmbiguous (judge g) d q T cs → IsAmbiguous (judge f) e p T bs
-  ambiguous-then f g e d p q T bs cs h i j k x =
-      subst (λ (y : F). IsAmbiguous (judge y) e p T bs) h
-      (subst (λ (y : Env). IsAmbiguous (judge g) y p T bs) i
-      (subst (λ (y : Projection). IsAmbiguous (judge g) d y T bs) j (subst (λ (y : List Tree). IsAmbiguous (judge g) d q T y) k x)))
+  pub ambiguous-then : (f g : F) (e d : Env) (p q : Projection) (T U : State) (bs cs : List Tree) → g ≡ f → d ≡ e → q ≡ p → cs ≡ bs → IsAmbiguous (judge g) d q T cs U → IsAmbiguous (judge f) e p T bs U
+  ambiguous-then f g e d p q T U bs cs h i j k x =
+      subst (λ (y : F). IsAmbiguous (judge y) e p T bs U) h
+      (subst (λ (y : Env). IsAmbiguous (judge g) y p T bs U) i
+      (subst (λ (y : Projection). IsAmbiguous (judge g) d y T bs U) j (subst (λ (y : List Tree). IsAmbiguous (judge g) d q T y U) k x)))
 
   pub replaced-then : (f g : F) (e d : Env) (o p c x u : Tree) (S T : State) (bs cs : List Tree) → g ≡ f → d ≡ e → p ≡ o → x ≡ c → cs ≡ bs → IsReplaced (judge g) d p cs S x u T → IsReplaced (judge f) e o bs S c u T
   replaced-then f g e d o p c x u S T bs cs h i j l k r =
@@ -106,14 +106,14 @@ module _ {F : Type 0} (judge : F → Judge) where
       (subst (λ (y : Tree). IsReplaced (judge g) d p bs S y u T) l (subst (λ (y : List Tree). IsReplaced (judge g) d p y S x u T) k r))))
 
   -- of the projections in a clause
-  pub stuck-at : (f g : F) (e d : Env) (o p c x : Tree) (T : State) (bs cs : List Tree) → g ≡ f → d ≡ e → p ≡ o → x ≡ c → cs ≡ bs → IsStuck (judge g) d cs T (projections (own_projection p cs) x.children)
-      → IsStuck (judge f) e bs T (projections (own_projection o bs) c.children)
-  stuck-at f g e d o p c x T bs cs h i j l k r =
-      subst (λ (y : F). IsStuck (judge y) e bs T (projections (own_projection o bs) c.children)) h
-      (subst (λ (y : Env). IsStuck (judge g) y bs T (projections (own_projection o bs) c.children)) i
-      (subst (λ (y : Tree). IsStuck (judge g) d bs T (projections (own_projection y bs) c.children)) j
-      (subst (λ (y : Tree). IsStuck (judge g) d bs T (projections (own_projection p bs) y.children)) l
-      (subst (λ (y : List Tree). IsStuck (judge g) d y T (projections (own_projection p y) x.children)) k r))))
+  pub stuck-at : (f g : F) (e d : Env) (o p c x : Tree) (T U : State) (bs cs : List Tree) → g ≡ f → d ≡ e → p ≡ o → x ≡ c → cs ≡ bs → IsStuck (judge g) d cs T (projections (own_projection p cs) x.children) U
+      → IsStuck (judge f) e bs T (projections (own_projection o bs) c.children) U
+  stuck-at f g e d o p c x T U bs cs h i j l k r =
+      subst (λ (y : F). IsStuck (judge y) e bs T (projections (own_projection o bs) c.children) U) h
+      (subst (λ (y : Env). IsStuck (judge g) y bs T (projections (own_projection o bs) c.children) U) i
+      (subst (λ (y : Tree). IsStuck (judge g) d bs T (projections (own_projection y bs) c.children) U) j
+      (subst (λ (y : Tree). IsStuck (judge g) d bs T (projections (own_projection p bs) y.children) U) l
+      (subst (λ (y : List Tree). IsStuck (judge g) d y T (projections (own_projection p y) x.children) U) k r))))
 
 -- Clauses that are replaced so far.
 
@@ -154,9 +154,9 @@ pub all-replaced : (J : Judge) (e : Env) (object : Tree) (bounds : List Tree) (s
 all-replaced J e object bounds start now S T cs k ds s l = subst (λ (qs : List Clause). AreReplaced J e object bounds S (clauses_at start.trees qs) (clauses_at now.trees ds) T) (take_all k cs l) s.replaced
 
 pub one-clause-stuck : (J : Judge) (e : Env) (object : Tree) (bounds : List Tree) (start now : Context) (S T : State) (cs : List Clause) (k : ℕ) (c : Clause) (ds : List Clause)
-    → ReplacedSoFar J e object bounds start now S T cs k ds → k < length cs → IsStuck J e bounds T (projections (own_projection object bounds) (clause_tree start.trees (get_or cs k c)).children)
-    → AreStuck J e object bounds S (clauses_at start.trees cs)
-one-clause-stuck J e object bounds start now S T cs k c ds s l a = record {
+    → ReplacedSoFar J e object bounds start now S T cs k ds → k < length cs → (U : State) → IsStuck J e bounds T (projections (own_projection object bounds) (clause_tree start.trees (get_or cs k c)).children) U
+    → AreStuck J e object bounds S (clauses_at start.trees cs) U
+one-clause-stuck J e object bounds start now S T cs k c ds s l U a = record {
   before = clauses_at start.trees (take k cs);
   replaced = clauses_at now.trees ds;
   last = T;

@@ -1,5 +1,5 @@
 -- Bounds of an object that are tried one after the other, and the only one that matches.
-use Rattle.std.proofs.Common.{◌≡◌, ℕ, zero, suc, Bool, true, false, ◌&&◌, ◌+◌, ◌<◌, ◌≤◌, get_or, take, length, List, [], ◌∷◌, ◌++◌, map, refl, sym, ◌∙◌, ap, subst, arith}
+use Rattle.std.proofs.Common.{◌≡◌, ℕ, zero, suc, Bool, true, false, ◌&&◌, ◌+◌, ◌<◌, ◌≤◌, get_or, take, length, List, Option, Some, None, [], ◌∷◌, ◌++◌, map, refl, sym, ◌∙◌, ap, subst, arith}
 use Rattle.std.specs.Prelude.{if◌then◌else◌}
 use Rattle.std.specs.List.{filter}
 use Rattle.std.proofs.lemmas.List.{map_push, map_more, take_all, length-map, append-nil}
@@ -14,7 +14,7 @@ use Rattle.candidate_ir.proofs.Kept.{grows-refl, grows-trans}
 use Rattle.candidate_ir.proofs.Listing.{pushed_fits}
 use Rattle.candidate_eval.specs.Lawful.{Lawful}
 use Rattle.candidate_eval.specs.Objects.{IsExact, IsPicked, IsPickedAtOnce, Projection, Tried, bound_equated, bound_matches, fresh_instance, is_about, term_in}
-use Rattle.candidate_eval.specs.States.{Env, State, Judge}
+use Rattle.candidate_eval.specs.States.{Env, State, Judge, is_some}
 use Rattle.candidate_eval.proofs.Responding.{clauses-kept}
 
 -- Bounds that were tried so far.
@@ -98,11 +98,16 @@ module _ {F : Type 0} (judge : F → Judge) where
       ∙ (ap (λ (y : Tree). bound_matches (judge f) e T y q) j
       ∙ ap (bound_matches (judge f) e T c) k))))
 
-  pub equated-then : (f g : F) (T : State) (e d : Env) (c : Tree) (args b : Forest) → g ≡ f → d ≡ e → b ≡ args → bound_equated (judge g) d T c b ≡ bound_equated (judge f) e T c args
-  equated-then f g T e d c args b h i j =
-      ap (λ (y : F). bound_equated (judge y) d T c b) h
-      ∙ (ap (λ (y : Env). bound_equated (judge f) y T c b) i
-      ∙ ap (bound_equated (judge f) e T c) j)
+  pub equated-then : (f g : F) (T : State) (e d : Env) (c x : Tree) (args b : Forest) → g ≡ f → d ≡ e → x ≡ c → b ≡ args → bound_equated (judge g) d T x b ≡ bound_equated (judge f) e T c args
+  equated-then f g T e d c x args b h i k j =
+      ap (λ (y : F). bound_equated (judge y) d T x b) h
+      ∙ (ap (λ (y : Env). bound_equated (judge f) y T x b) i
+      ∙ (ap (λ (y : Tree). bound_equated (judge f) e T y b) k
+      ∙ ap (bound_equated (judge f) e T c) j))
+
+pub refused-is : {A : Type 0} (o : Option A) → is_some o ≡ false → o ≡ None
+refused-is None e = refl
+refused-is (Some a) e = cc
 
 -- What matches is about the associated type.
 
@@ -129,6 +134,9 @@ one-item : (xs : List Clause) (x : Clause) → length xs ≡ 1 → x ≡ get_or 
 one-item [] x l e = absurd (omega (arith, l))
 one-item (y ∷ []) x l e = ap (λ (z : Clause). z ∷ []) (sym e)
 one-item (y ∷ z ∷ zs) x l e = absurd (omega (arith, l))
+
+pub only-fits : (ts : List Tree) (xs : List Clause) (x : Clause) → ClauseListFits ts xs → length xs ≡ 1 → x ≡ get_or xs 0 x → IsClause ts x
+only-fits ts xs x f l i = subst (IsClause ts) (sym i) (listed-clause ts xs 0 x f (omega (arith, l)))
 
 pub only-tried : (J : Judge) (e : Env) (p : Projection) (S T : State) (cs : List Tree) (ts : List Tree) (xs : List Clause) (x : Clause) → Tried J e p S cs (map (clause_tree ts) xs) T → length xs ≡ 1 → x ≡ get_or xs 0 x
     → Tried J e p S cs (clause_tree ts x ∷ []) T × (is_about p.item (clause_tree ts x).head ≡ true)
@@ -165,9 +173,10 @@ module _ (J : Judge) (e : Env) (p : Projection) (x : IsExact J) where
   pub picked-at-once : {S T : State} {cs : List Tree} {t : Tree} → IsPicked J e p S cs t T → IsPickedAtOnce J e p S cs t T
   picked-at-once {S = S} {T = T} {t = t} r =
       let s = tried-at-once r.tried in
+      let same = x r.last r.now r.alike ∙ s.0 in
       record {
         bound = r.bound;
         only = sym s.1;
-        equated = sym (ap (λ (R : State). bound_equated J e R r.bound p.arguments) s.0) ∙ r.equated;
-        is = r.is ∙ ap (λ (R : State). term_in (fresh_instance R r.bound)) s.0;
+        equated = sym (ap (λ (R : State). bound_equated J e R r.bound p.arguments) same) ∙ r.equated;
+        is = r.is ∙ ap (λ (R : State). term_in (fresh_instance R r.bound)) same;
       }

@@ -33,3 +33,4 @@ pub mod Visits
 pub mod Exits
 pub mod Second
 pub mod Naming
+pub mod ObjectRules

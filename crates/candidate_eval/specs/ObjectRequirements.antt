@@ -58,11 +58,11 @@ pub record AreAsked (J : Judge) (e : Env) (c : Context) (S : State) (i : ℕ) (r
   pub are_replaced : AreReplaced J e (first_tree (fresh_arguments S reference)) (own_bounds (first_tree (fresh_arguments S reference)) bounds) (with_instance S reference) required replaced T
   pub are : goals ≡ map (goal_in e) replaced
 
--- Too little is known of one of the projections.
-pub record AreUnknown (J : Judge) (e : Env) (c : Context) (S : State) (i : ℕ) (reference : Tree) (bounds : Forest) : Type 0 where
+-- Too little is known of one of the projections; the state then.
+pub record AreUnknown (J : Judge) (e : Env) (c : Context) (S : State) (i : ℕ) (reference : Tree) (bounds : Forest) (T : State) : Type 0 where
   pub required : List Tree
   pub requirements : AreRequirements c i (fresh_arguments S reference) required
-  pub stuck : AreStuck J e (first_tree (fresh_arguments S reference)) (own_bounds (first_tree (fresh_arguments S reference)) bounds) (with_instance S reference) required
+  pub stuck : AreStuck J e (first_tree (fresh_arguments S reference)) (own_bounds (first_tree (fresh_arguments S reference)) bounds) (with_instance S reference) required T
 
 -- Clauses as goals in an environment.
 abbrev pub goals_in : ParamEnv → List Clause → List (OfNumbers Clause)

@@ -68,18 +68,24 @@ pub data Tried (J : Judge) (e : Env) (p : Projection) (S : State) : List Tree �
   found : (T : State) (c : Tree) (cs ds : List Tree) {U : State} → Tried J e p S cs ds T → bound_matches J e T c p ≡ true → J.alike T U → Tried J e p S (cs ++ c ∷ []) (ds ++ c ∷ []) U
   passed : (T : State) (c : Tree) (cs ds : List Tree) {U : State} → Tried J e p S cs ds T → bound_matches J e T c p ≡ false → J.alike T U → Tried J e p S (cs ++ c ∷ []) ds U
 
--- The only bound that matches was equated, at the state that trying leaves, and gives its term; the state then.
+-- The only bound that matches was equated, at a state alike the one that trying leaves, and gives its term; the state then. In between
+-- the equation is tried in a probe, so that a refusal leaves nothing behind.
 pub record IsPicked (J : Judge) (e : Env) (p : Projection) (S : State) (cs : List Tree) (term : Tree) (T : State) : Type 0 where
   pub last : State
+  pub now : State
   pub bound : Tree
   pub tried : Tried J e p S cs (bound ∷ []) last
-  pub equated : bound_equated J e last bound p.arguments ≡ Some T
-  pub is : term ≡ term_in (fresh_instance last bound)
+  pub alike : J.alike last now
+  pub equated : bound_equated J e now bound p.arguments ≡ Some T
+  pub is : term ≡ term_in (fresh_instance now bound)
 
--- No bound was picked: none matches, or two or more do; or the equation of the only one that matches is refused.
-pub data IsAmbiguous (J : Judge) (e : Env) (p : Projection) (S : State) (cs : List Tree) : Type 0 where
-  not_one : (T : State) (ds : List Tree) → Tried J e p S cs ds T → (length ds ≡ 1 → ⊥) → IsAmbiguous J e p S cs
-  refused : (T : State) (d : Tree) → Tried J e p S cs (d ∷ []) T → bound_equated J e T d p.arguments ≡ None → IsAmbiguous J e p S cs
+-- No bound was picked, and the state then: none matches, or two or more do; or the equation of the only one that matches is refused, by
+-- a probe. The last is what no evaluator does of which the trees mention its state's variables alone: it refuses what it accepted in
+-- the probe before; what it leaves then isn't said.
+pub data IsAmbiguous (J : Judge) (e : Env) (p : Projection) (S : State) (cs : List Tree) (T : State) : Type 0 where
+  not_one : (ds : List Tree) → Tried J e p S cs ds T → (length ds ≡ 1 → ⊥) → IsAmbiguous J e p S cs T
+  refused : (R : State) (d : Tree) → Tried J e p S cs (d ∷ []) R → bound_equated J e R d p.arguments ≡ None → J.alike R T → IsAmbiguous J e p S cs T
+  changed : (R Q : State) (d : Tree) → Tried J e p S cs (d ∷ []) R → is_some (bound_equated J e R d p.arguments) ≡ true → J.alike R Q → bound_equated J e Q d p.arguments ≡ None → IsAmbiguous J e p S cs T
 
 -- What is read of a bound.
 pub record IsBound (ts : List Tree) (c : Tree) (p : ProjectionPredicate) : Type 0 where

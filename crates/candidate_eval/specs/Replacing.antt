@@ -101,8 +101,8 @@ pub data Picks (J : Judge) (e : Env) (bounds : List Tree) : State → List Proje
   none_left : {S : State} → Picks J e bounds S [] [] S
   one : {S T U : State} {p : Projection} {ps : List Projection} {u : Tree} {us : List Tree} → IsPicked J e p S bounds u T → Picks J e bounds T ps us U → Picks J e bounds S (p ∷ ps) (u ∷ us) U
 
--- For one of them too little is known, after those before it.
-pub record IsStuck (J : Judge) (e : Env) (bounds : List Tree) (S : State) (ps : List Projection) : Type 0 where
+-- For one of them too little is known, after those before it; the state then.
+pub record IsStuck (J : Judge) (e : Env) (bounds : List Tree) (S : State) (ps : List Projection) (T : State) : Type 0 where
   pub before : List Projection
   pub terms : List Tree
   pub last : State
@@ -110,7 +110,7 @@ pub record IsStuck (J : Judge) (e : Env) (bounds : List Tree) (S : State) (ps : 
   pub after : List Projection
   pub are : ps ≡ before ++ projection ∷ after
   pub picked : Picks J e bounds S before terms last
-  pub ambiguous : IsAmbiguous J e projection last bounds
+  pub ambiguous : IsAmbiguous J e projection last bounds T
 
 -- One clause, with the terms in it, and the state then.
 pub record IsReplaced (J : Judge) (e : Env) (object : Tree) (bounds : List Tree) (S : State) (c d : Tree) (T : State) : Type 0 where
@@ -123,8 +123,8 @@ pub data AreReplaced (J : Judge) (e : Env) (object : Tree) (bounds : List Tree) 
   none_left : {S : State} → AreReplaced J e object bounds S [] [] S
   one : {S T U : State} {c d : Tree} {cs ds : List Tree} → IsReplaced J e object bounds S c d T → AreReplaced J e object bounds T cs ds U → AreReplaced J e object bounds S (c ∷ cs) (d ∷ ds) U
 
--- In one of them too little is known, after those before it.
-pub record AreStuck (J : Judge) (e : Env) (object : Tree) (bounds : List Tree) (S : State) (cs : List Tree) : Type 0 where
+-- In one of them too little is known, after those before it; the state then.
+pub record AreStuck (J : Judge) (e : Env) (object : Tree) (bounds : List Tree) (S : State) (cs : List Tree) (T : State) : Type 0 where
   pub before : List Tree
   pub replaced : List Tree
   pub last : State
@@ -132,7 +132,7 @@ pub record AreStuck (J : Judge) (e : Env) (object : Tree) (bounds : List Tree) (
   pub after : List Tree
   pub are : cs ≡ before ++ clause ∷ after
   pub first : AreReplaced J e object bounds S before replaced last
-  pub stuck : IsStuck J e bounds last (projections (own_projection object bounds) clause.children)
+  pub stuck : IsStuck J e bounds last (projections (own_projection object bounds) clause.children) T
 
 -- Projections by their numbers.
 

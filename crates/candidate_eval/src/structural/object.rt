@@ -8,6 +8,7 @@ ghost use Rattle.candidate_eval.specs.Characterization.{bound_kinds};
 ghost use Rattle.candidate_eval.specs.Evaluators.{Keeps, kinds_listed};
 ghost use Rattle.candidate_eval.specs.Objects.{is_about, IsBound, fresh_instance, with_instance, bound_equated, is_equated, projection_at, term_in, Tried, IsPicked, IsPickedAtOnce, IsExact, IsAmbiguous};
 ghost use Rattle.candidate_eval.specs.Objects as seen;
+ghost use Rattle.candidate_eval.specs.States.{is_some};
 ghost use Rattle.candidate_eval.specs.declared.structural.object.AmbiguousOrStop.TheVariants as ambiguous;
 
 use crate::eval::context::{EvalCtxt, ProbeKind};
@@ -207,11 +208,39 @@ pub fn matching_bounds<E: EvalCtxt>(
     Ok(found)
 }
 
+/// Whether the arguments of an instance of the bound can be equated with those of the projection, by a probe with what is pending: so
+/// that a refusal leaves nothing behind. It stops as `bound_matches` does.
+fn can_be_equated<E: EvalCtxt>(
+    alloc: Global,
+    ecx: &mut E,
+    env: ParamEnv,
+    bound: Clause,
+    projection: AliasTerm,
+) -> Result<bool, Stop>
+    requires env { IsParamEnv (E.context ecx.old).trees env }
+    requires bound { IsClause (E.context ecx.old).trees bound }
+    requires args { IsArgs (E.context ecx.old).trees projection.args }
+    requires about { is_about projection.def_id.0 (clause_tree (E.context ecx.old).trees bound).head ≡ true }
+    ensures kept { Keeps E.fixed E.probes E.context ecx.old ecx.new }
+    ensures alike { (E.judge (E.fixed ecx.old)).alike (E.state ecx.old) (E.state ecx.new) }
+    ensures answer { IfOk result (λ b. is_some (bound_equated (E.judge (E.fixed ecx.old)) (env_forest (E.context ecx.old).trees env) (E.state ecx.old) (clause_tree (E.context ecx.old).trees bound) (args_forest (E.context ecx.old).trees projection.args)) ≡ b) }
+{
+    let probe = ecx.begin_probe(ProbeKind::Kept)?;
+    let answer = equate_bound(alloc, ecx, env, bound, projection);
+    let _usages = ecx.end_probe(probe);
+    match answer {
+        Ok(_term) => Ok(true),
+        Err(NoSolutionOrStop::NoSolution) => Ok(false),
+        Err(NoSolutionOrStop::Stop(stop)) => Err(stop),
+    }
+}
+
 /// The term of the only bound that matches the projection: an instance of it is equated with the projection, and the goals that
 /// this leaves become pending.
 ///
-/// `Ambiguous` comes where none of the bounds matches, where two or more do, and where the equation of the only one is refused.
-/// It stops as `matching_bounds` does. After an error variables that were made stay.
+/// `Ambiguous` comes where none of the bounds matches, where two or more do, and where the equation of the only one is refused,
+/// which a probe says before; the state is alike the one before then. It stops as `matching_bounds` does. After a stop variables that
+/// were made stay.
 pub fn pick_bound<E: EvalCtxt>(
     alloc: Global,
     ecx: &mut E,
@@ -225,7 +254,7 @@ pub fn pick_bound<E: EvalCtxt>(
     ensures kept { Keeps E.fixed E.probes E.context ecx.old ecx.new }
     ensures sort { IfOk result (λ t. IsTy (E.context ecx.new).trees t) }
     ensures picked { IfOk result (λ t. IsPicked (E.judge (E.fixed ecx.old)) (env_forest (E.context ecx.old).trees env) (projection_at (E.context ecx.old).trees projection) (E.state ecx.old) (map (clause_tree (E.context ecx.old).trees) bounds.now) (ty_tree (E.context ecx.new).trees t) (E.state ecx.new)) }
-    ensures ambiguous { IfErr result (λ e. e ≡ AmbiguousOrStop.Ambiguous → IsAmbiguous (E.judge (E.fixed ecx.old)) (env_forest (E.context ecx.old).trees env) (projection_at (E.context ecx.old).trees projection) (E.state ecx.old) (map (clause_tree (E.context ecx.old).trees) bounds.now)) }
+    ensures ambiguous { IfErr result (λ e. e ≡ AmbiguousOrStop.Ambiguous → IsAmbiguous (E.judge (E.fixed ecx.old)) (env_forest (E.context ecx.old).trees env) (projection_at (E.context ecx.old).trees projection) (E.state ecx.old) (map (clause_tree (E.context ecx.old).trees) bounds.now) (E.state ecx.new)) }
 
     // Where closed probes leave the very state before, all bounds are tried at one state.
     ensures at_once { IsExact (E.judge (E.fixed ecx.old)) → IfOk result (λ t. IsPickedAtOnce (E.judge (E.fixed ecx.old)) (env_forest (E.context ecx.old).trees env) (projection_at (E.context ecx.old).trees projection) (E.state ecx.old) (map (clause_tree (E.context ecx.old).trees) bounds.now) (ty_tree (E.context ecx.new).trees t) (E.state ecx.new)) }
@@ -234,7 +263,11 @@ pub fn pick_bound<E: EvalCtxt>(
     if found.len() != 1 {
         return Err(AmbiguousOrStop::Ambiguous);
     }
-    match equate_bound(alloc, ecx, env, found[0], projection) {
+    let only = found[0];
+    if !can_be_equated(alloc, ecx, env, only, projection)? {
+        return Err(AmbiguousOrStop::Ambiguous);
+    }
+    match equate_bound(alloc, ecx, env, only, projection) {
         Ok(term) => Ok(term),
         Err(NoSolutionOrStop::NoSolution) => Err(AmbiguousOrStop::Ambiguous),
         Err(NoSolutionOrStop::Stop(stop)) => Err(AmbiguousOrStop::Stop(stop)),

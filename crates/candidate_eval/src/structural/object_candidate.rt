@@ -206,7 +206,7 @@ pub fn predicates_for_object_candidate<E: EvalCtxt>(
     ensures kept { Keeps E.fixed E.probes E.context ecx.old ecx.new }
     ensures sort { IfOk result (λ v. All (IsGoal (E.context ecx.new).trees) v.items) }
     ensures asked { IfOk result (λ v. AreAsked (E.judge (E.fixed ecx.old)) (env_forest (E.context ecx.old).trees env) (E.context ecx.old) (E.state ecx.old) trait_ref.value.def_id.0 (clause_kind_tree (E.context ecx.old).trees (reference_clause trait_ref)) (preds_forest (E.context ecx.old).trees object_bounds) (map (goal_of (E.context ecx.new).trees) v.items) (E.state ecx.new)) }
-    ensures ambiguous { IfErr result (λ e. e ≡ AmbiguousOrStop.Ambiguous → AreUnknown (E.judge (E.fixed ecx.old)) (env_forest (E.context ecx.old).trees env) (E.context ecx.old) (E.state ecx.old) trait_ref.value.def_id.0 (clause_kind_tree (E.context ecx.old).trees (reference_clause trait_ref)) (preds_forest (E.context ecx.old).trees object_bounds)) }
+    ensures ambiguous { IfErr result (λ e. e ≡ AmbiguousOrStop.Ambiguous → AreUnknown (E.judge (E.fixed ecx.old)) (env_forest (E.context ecx.old).trees env) (E.context ecx.old) (E.state ecx.old) trait_ref.value.def_id.0 (clause_kind_tree (E.context ecx.old).trees (reference_clause trait_ref)) (preds_forest (E.context ecx.old).trees object_bounds) (E.state ecx.new)) }
 {
     let prepared = prepare(alloc, ecx, trait_ref, object_bounds)?;
     let (bounds, required) = (prepared.bounds.as_slice(), prepared.required.as_slice());

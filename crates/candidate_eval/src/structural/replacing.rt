@@ -200,7 +200,7 @@ fn pick_all<E: EvalCtxt>(
     ensures kept { Keeps E.fixed E.probes E.context ecx.old ecx.new }
     ensures sort { IfOk result (λ v. TypesFit (E.context ecx.new).trees v.items) }
     ensures picked { IfOk result (λ v. Picks (E.judge (E.fixed ecx.old)) (env_forest (E.context ecx.old).trees env) (clauses_at (E.context ecx.old).trees bounds.now) (E.state ecx.old) (projections_at (E.context ecx.old).trees projections.now) (types_at (E.context ecx.new).trees v.items) (E.state ecx.new)) }
-    ensures ambiguous { IfErr result (λ e. e ≡ AmbiguousOrStop.Ambiguous → IsStuck (E.judge (E.fixed ecx.old)) (env_forest (E.context ecx.old).trees env) (clauses_at (E.context ecx.old).trees bounds.now) (E.state ecx.old) (projections_at (E.context ecx.old).trees projections.now)) }
+    ensures ambiguous { IfErr result (λ e. e ≡ AmbiguousOrStop.Ambiguous → IsStuck (E.judge (E.fixed ecx.old)) (env_forest (E.context ecx.old).trees env) (clauses_at (E.context ecx.old).trees bounds.now) (E.state ecx.old) (projections_at (E.context ecx.old).trees projections.now) (E.state ecx.new)) }
 {
     let mut terms = Vec::new(alloc);
     for projection in projections {
@@ -325,7 +325,7 @@ fn replaced_clause<E: EvalCtxt>(
     ensures kept { Keeps E.fixed E.probes E.context ecx.old ecx.new }
     ensures sort { IfOk result (λ x. IsClause (E.context ecx.new).trees x) }
     ensures replaced { IfOk result (λ x. IsReplaced (E.judge (E.fixed ecx.old)) (env_forest (E.context ecx.old).trees env) (ty_tree (E.context ecx.old).trees object) (clauses_at (E.context ecx.old).trees bounds.now) (E.state ecx.old) (clause_tree (E.context ecx.old).trees clause) (clause_tree (E.context ecx.new).trees x) (E.state ecx.new)) }
-    ensures ambiguous { IfErr result (λ e. e ≡ AmbiguousOrStop.Ambiguous → IsStuck (E.judge (E.fixed ecx.old)) (env_forest (E.context ecx.old).trees env) (clauses_at (E.context ecx.old).trees bounds.now) (E.state ecx.old) (projections (finds_own (E.context ecx.old).trees object bounds.now) (clause_tree (E.context ecx.old).trees clause).children)) }
+    ensures ambiguous { IfErr result (λ e. e ≡ AmbiguousOrStop.Ambiguous → IsStuck (E.judge (E.fixed ecx.old)) (env_forest (E.context ecx.old).trees env) (clauses_at (E.context ecx.old).trees bounds.now) (E.state ecx.old) (projections (finds_own (E.context ecx.old).trees object bounds.now) (clause_tree (E.context ecx.old).trees clause).children) (E.state ecx.new)) }
 {
     let projections = own_projections(alloc, ecx.cx(), object, bounds, clause)?;
     let terms = pick_all(alloc, ecx, env, bounds, projections.as_slice())?;
@@ -357,7 +357,7 @@ pub(crate) fn replaced<E: EvalCtxt>(
     ensures kept { Keeps E.fixed E.probes E.context ecx.old ecx.new }
     ensures sort { IfOk result (λ v. ClauseListFits (E.context ecx.new).trees v.items) }
     ensures replaced { IfOk result (λ v. AreReplaced (E.judge (E.fixed ecx.old)) (env_forest (E.context ecx.old).trees env) (ty_tree (E.context ecx.old).trees object) (clauses_at (E.context ecx.old).trees bounds.now) (E.state ecx.old) (clauses_at (E.context ecx.old).trees clauses.now) (clauses_at (E.context ecx.new).trees v.items) (E.state ecx.new)) }
-    ensures ambiguous { IfErr result (λ e. e ≡ AmbiguousOrStop.Ambiguous → AreStuck (E.judge (E.fixed ecx.old)) (env_forest (E.context ecx.old).trees env) (ty_tree (E.context ecx.old).trees object) (clauses_at (E.context ecx.old).trees bounds.now) (E.state ecx.old) (clauses_at (E.context ecx.old).trees clauses.now)) }
+    ensures ambiguous { IfErr result (λ e. e ≡ AmbiguousOrStop.Ambiguous → AreStuck (E.judge (E.fixed ecx.old)) (env_forest (E.context ecx.old).trees env) (ty_tree (E.context ecx.old).trees object) (clauses_at (E.context ecx.old).trees bounds.now) (E.state ecx.old) (clauses_at (E.context ecx.old).trees clauses.now) (E.state ecx.new)) }
 {
     let mut list = Vec::new(alloc);
     for clause in clauses {

@@ -37,8 +37,8 @@ returns-in_err-term-clause-ambiguous g c =
     let p = projection-later start mid c.args.projections.now c.loop-projection.projection-index _ s.grows c.requires.projections c.loop-projection-test.true in
     let r = err_from_is_err_and c.from_residual.result c.from_residual.ensures.1 in
     rw r.1 (λ n. one-stuck (E.judge (E.fixed old)) (env_forest start.trees c.args.env) (clauses_at start.trees c.args.bounds.now) start mid (E.state old) (E.state now) c.args.projections.now c.loop-projection.projection-index _
-    c.loop-projection.terms.items s c.loop-projection-test.true
-    (ambiguous-then E.judge (E.fixed old) (E.fixed now) (env_forest start.trees c.args.env) (env_forest mid.trees c.args.env) _ _ (E.state now) (clauses_at start.trees c.args.bounds.now) (clauses_at mid.trees c.args.bounds.now)
+    c.loop-projection.terms.items s c.loop-projection-test.true (E.state c.pick_bound.new.ecx)
+    (ambiguous-then E.judge (E.fixed old) (E.fixed now) (env_forest start.trees c.args.env) (env_forest mid.trees c.args.env) _ _ (E.state now) (E.state c.pick_bound.new.ecx) (clauses_at start.trees c.args.bounds.now) (clauses_at mid.trees c.args.bounds.now)
     c.loop-projection.invariant.1 (env-kept start mid c.args.env s.grows c.requires.env).1 p.1 (clauses-kept start mid c.args.bounds.now s.grows c.requires.bounds).1 (c.in_err-term.ensures.ambiguous (sym r.2 ∙ n))))
 
 pub returns-in_err-push_term-clause-kept : goal.returns-in_err-push_term-clause-kept

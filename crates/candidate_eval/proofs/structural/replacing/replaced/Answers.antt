@@ -56,8 +56,8 @@ returns-in_err-made-clause-ambiguous g c =
     let listed = bound-listed start mid c.args.clauses.now c.loop-clause.clause-index _ s.grows c.requires.clauses c.loop-clause-test.true in
     let r = err_from_is_err_and c.from_residual.result c.from_residual.ensures.1 in
     rw r.1 (λ n. one-clause-stuck (E.judge (E.fixed old)) (env_forest start.trees c.args.env) (ty_tree start.trees c.args.object) (clauses_at start.trees c.args.bounds.now) start mid (E.state old) (E.state now) c.args.clauses.now
-    c.loop-clause.clause-index _ c.loop-clause.list.items s c.loop-clause-test.true
-    (stuck-at E.judge (E.fixed old) (E.fixed now) (env_forest start.trees c.args.env) (env_forest mid.trees c.args.env) (ty_tree start.trees c.args.object) (ty_tree mid.trees c.args.object) _ _ (E.state now)
+    c.loop-clause.clause-index _ c.loop-clause.list.items s c.loop-clause-test.true (E.state c.replaced_clause.new.ecx)
+    (stuck-at E.judge (E.fixed old) (E.fixed now) (env_forest start.trees c.args.env) (env_forest mid.trees c.args.env) (ty_tree start.trees c.args.object) (ty_tree mid.trees c.args.object) _ _ (E.state now) (E.state c.replaced_clause.new.ecx)
     (clauses_at start.trees c.args.bounds.now) (clauses_at mid.trees c.args.bounds.now) c.loop-clause.invariant.1 (env-kept start mid c.args.env s.grows c.requires.env).1 (ty-kept start mid c.args.object s.grows c.requires.object).1
     listed.1 (clauses-kept start mid c.args.bounds.now s.grows c.requires.bounds).1 (c.in_err-made.ensures.ambiguous (sym r.2 ∙ n))))
 

@@ -1,0 +1,52 @@
+use Rattle.std.proofs.Common.{rules, ◌≡◌, true, false}
+use Rattle.candidate_ir.specs.Words.{args_forest, clause_tree, env_forest}
+use Rattle.candidate_ir.proofs.Joining.{clause-kept}
+use Rattle.candidate_ir.proofs.Kept.{args-kept}
+use Rattle.candidate_eval.specs.declared.eval.refusal.NoSolutionOrStop.TheVariants.{NoSolution}
+use Rattle.candidate_eval.proofs.Objects.{env-kept, about-kept, kept-answer}
+use Rattle.candidate_eval.proofs.Probing.{of-error}
+use Rattle.candidate_eval.proofs.structural.object.can_be_equated.Goals as goal
+
+pub equate_bound-answer-requires-clause-env : goal.equate_bound-answer-requires-clause-env
+equate_bound-answer-requires-clause-env g c =
+    (env-kept (g.E.Make.context c.args.ecx.now) (g.E.Make.context c.begin_probe.new.self) c.args.env c.begin_probe.ensures.grows c.requires.env).0
+
+pub equate_bound-answer-requires-clause-bound : goal.equate_bound-answer-requires-clause-bound
+equate_bound-answer-requires-clause-bound g c =
+    (clause-kept (g.E.Make.context c.args.ecx.now) (g.E.Make.context c.begin_probe.new.self) c.args.bound c.begin_probe.ensures.grows c.requires.bound).0
+
+pub equate_bound-answer-requires-clause-args : goal.equate_bound-answer-requires-clause-args
+equate_bound-answer-requires-clause-args g c =
+    (args-kept (g.E.Make.context c.args.ecx.now) (g.E.Make.context c.begin_probe.new.self) c.args.projection.args c.begin_probe.ensures.grows c.requires.args).0
+
+pub equate_bound-answer-requires-clause-about : goal.equate_bound-answer-requires-clause-about
+equate_bound-answer-requires-clause-about g c =
+    about-kept (g.E.Make.context c.args.ecx.now) (g.E.Make.context c.begin_probe.new.self) c.args.bound c.args.projection.def_id.0 c.begin_probe.ensures.grows c.requires.bound c.requires.about
+
+pub returns-in-Ok-clause-answer : goal.returns-in-Ok-clause-answer
+returns-in-Ok-clause-answer g c =
+    let E = g.E.EvalCtxt in
+    let old = c.args.ecx.now in
+    let mid = c.begin_probe.new.self in
+    let before = g.E.Make.context old in
+    let after = g.E.Make.context mid in
+    let grows = c.begin_probe.ensures.grows in
+    kept-answer E.judge (E.fixed old) (E.fixed mid) (E.state old) (E.state mid) (env_forest before.trees c.args.env) (env_forest after.trees c.args.env) (clause_tree before.trees c.args.bound) (clause_tree after.trees c.args.bound)
+    (args_forest before.trees c.args.projection.args) (args_forest after.trees c.args.projection.args) _
+    c.begin_probe.ensures.fixed c.in_ok-probe.ensures.ok.0 (env-kept before after c.args.env grows c.requires.env).1 (clause-kept before after c.args.bound grows c.requires.bound).1
+    (args-kept before after c.args.projection.args grows c.requires.args).1 c.in-Ok.ensures.ok
+
+pub returns-in-Err-NoSolution-clause-answer : goal.returns-in-Err-NoSolution-clause-answer
+returns-in-Err-NoSolution-clause-answer g c =
+    let E = g.E.EvalCtxt in
+    let old = c.args.ecx.now in
+    let mid = c.begin_probe.new.self in
+    let before = g.E.Make.context old in
+    let after = g.E.Make.context mid in
+    let grows = c.begin_probe.ensures.grows in
+    let ran = c.equate_bound-answer in
+    let is : c.in-Err-NoSolution.field-0 ≡ NoSolution = search rules in
+    kept-answer E.judge (E.fixed old) (E.fixed mid) (E.state old) (E.state mid) (env_forest before.trees c.args.env) (env_forest after.trees c.args.env) (clause_tree before.trees c.args.bound) (clause_tree after.trees c.args.bound)
+    (args_forest before.trees c.args.projection.args) (args_forest after.trees c.args.projection.args) _
+    c.begin_probe.ensures.fixed c.in_ok-probe.ensures.ok.0 (env-kept before after c.args.env grows c.requires.env).1 (clause-kept before after c.args.bound grows c.requires.bound).1
+    (args-kept before after c.args.projection.args grows c.requires.args).1 (of-error ran.result c.in-Err-NoSolution.field-0 _ c.in-Err-NoSolution.is ran.ensures.refused is)
