@@ -1,38 +1,321 @@
--- Clauses opened by names of a rule.
-use Rattle.std.proofs.Common.{◌≡◌, ℕ, false, ◌+◌, ◌≤◌, List, ◌++◌, length, All}
-use Rattle.candidate_ir.specs.Binders.{escapes}
-use Rattle.candidate_ir.specs.Folding.{substituted, substituted_tree}
+-- Clauses opened by names: with the row's next trees in the place of the names, they are the clauses opened by these trees.
+use Rattle.std.proofs.Common.{◌≡◌, ℕ, zero, suc, ◌+◌, ◌==◌, ◌<◌, ◌≤◌, Bool, true, false, List, [], ◌∷◌, length, Option, Some, None, arith, nat_le, nat_lt, refl, sym, ap, ◌∙◌}
+use Rattle.std.proofs.lemmas.List.{length-append}
+use Rattle.std.specs.Prelude.{slice_get, if◌then◌else◌}
+use Rattle.std.specs.Option.{unwrap_or}
+use Rattle.candidate_ir.specs.declared.ir.heads.ConstHead.{ConstHead}
+use Rattle.candidate_ir.specs.declared.ir.heads.ConstHead.TheVariants as C
+use Rattle.candidate_ir.specs.declared.ir.heads.Head.{Head}
+use Rattle.candidate_ir.specs.declared.ir.heads.Head.TheVariants as H
+use Rattle.candidate_ir.specs.declared.ir.heads.PartHead.TheVariants as P
+use Rattle.candidate_ir.specs.declared.ir.kinds.BoundVar.{BoundVar}
+use Rattle.candidate_ir.specs.declared.ir.kinds.RegionKind.{RegionKind}
+use Rattle.candidate_ir.specs.declared.ir.kinds.RegionKind.TheVariants as R
+use Rattle.candidate_ir.specs.declared.ir.kinds.VarKind.{VarKind}
+use Rattle.candidate_ir.specs.declared.ir.kinds.VarKind.TheVariants as V
+use Rattle.candidate_ir.specs.Context.{parameter_kind}
+use Rattle.candidate_ir.specs.Folding.{Answers, fold, fold_tree, leaf, shift_tree, argument, put, substituted, substituted_tree}
+use Rattle.candidate_ir.specs.Folds.{node}
+use Rattle.candidate_ir.specs.Nodes.{error_tree}
+use Rattle.candidate_ir.specs.Opening.{is_of, of_kind, error_of, bound_head, nearer, opened, opened_variable, opened_head}
 use Rattle.candidate_ir.specs.Substitutions.{alone}
-use Rattle.candidate_ir.specs.Trees.{Forest, Tree, count, holds, is_param, join}
-use Rattle.candidate_eval.specs.Characterization.{bound_kinds}
-use Rattle.candidate_eval.specs.Mentions.{IsBelow}
-use Rattle.candidate_eval.specs.Naming.{named_clause, names_from}
-use Rattle.candidate_eval.specs.ObjectRules.{row_of}
+use Rattle.candidate_ir.specs.Supers.{after_first}
+use Rattle.candidate_ir.specs.Trees.{Kind, Forest, none, tree, Tree, kind_of, binders_of, count, holds, is_param, join}
+use Rattle.candidate_ir.proofs.Folding.{HeadAnswers, begin, by_head}
+use Rattle.candidate_eval.specs.declared.eval.variable.VariableKind.{VariableKind}
+use Rattle.candidate_eval.specs.declared.eval.variable.VariableKind.TheVariants.{Term, Region}
+use Rattle.candidate_eval.specs.Callable.{all_but_last, last_tree}
+use Rattle.candidate_eval.specs.Characterization.{binder_kinds, bound_kinds}
+use Rattle.candidate_eval.specs.Mentions.{IsBelow, is_from}
 use Rattle.candidate_eval.specs.Objects.{arguments_in, fresh_instance, term_in, with_instance}
-use Rattle.candidate_eval.specs.Replacing.{Finds, filled_clause, projections}
-use Rattle.candidate_eval.specs.States.{State, fresh_variables}
+use Rattle.candidate_eval.specs.States.{State, fresh_info, fresh_variables, variable, variable_kind, with_fresh, with_fresh_variables}
+use Rattle.candidate_eval.proofs.Holds.{holds_parts}
+use Rattle.candidate_eval.proofs.Marking.{IsUnmarked, after-unmarked, argument-unmarked, but-last-unmarked, below-more, below-shifted, fold-unmarked, last-unmarked, unmarked}
+use Rattle.candidate_eval.specs.Naming.{name_of, named_clause, named_head, named_variable}
 
-pub named-arguments : (S : State) (ls : Forest) (c : Tree) → holds is_param c.children ≡ false → substituted (join ls (fresh_variables S (bound_kinds c.children))) 0 (arguments_in (named_clause (count ls) c)) ≡ arguments_in (fresh_instance S c)
-named-arguments S ls c e = ?
+-- Folds one after another.
 
-pub named-term : (S : State) (ls : Forest) (c : Tree) → holds is_param c.children ≡ false → substituted_tree (join ls (fresh_variables S (bound_kinds c.children))) (term_in (named_clause (count ls) c)) ≡ term_in (fresh_instance S c)
-named-term S ls c e = ?
+-- what stands in a place after both: the first's answer with the second's put in, and where it has none, the second's
+abbrev pub both_answers : (Tree → Tree) → Option Tree → Option Tree → Option Tree
+both_answers put_second None o = o
+both_answers put_second (Some u) o = Some (put_second u)
+
+-- One fold after another is the fold by the answers of both, asked of heads without the mark.
+module _ (f g k : HeadAnswers) (mark : Head → Bool)
+    (same : (d : ℕ) (h : Head) → mark h ≡ false → k d h ≡ both_answers (fold_tree (by_head g) d) (f d h) (g d h)) where
+  pub fold-twice : (d : ℕ) (ts : Forest) → holds mark ts ≡ false → fold (by_head g) d (fold (by_head f) d ts) ≡ fold (by_head k) d ts
+  fold-twice d none e = refl
+  fold-twice d (tree h below rest) e =
+      let p = holds_parts mark h below rest e in
+      at (f d h) (fold-twice (d + binders_of h) below p.under)
+      ∙ (ap (λ (o : Option Tree). begin (unwrap_or o (node h (fold (by_head k) (d + binders_of h) below))) (fold (by_head g) d (fold (by_head f) d rest))) (sym (same d h p.here))
+      ∙ ap (begin (unwrap_or (k d h) (node h (fold (by_head k) (d + binders_of h) below)))) (fold-twice d rest p.others))
+    where
+      at : (o : Option Tree) → fold (by_head g) (d + binders_of h) (fold (by_head f) (d + binders_of h) below) ≡ fold (by_head k) (d + binders_of h) below
+          → fold (by_head g) d (begin (unwrap_or o (node h (fold (by_head f) (d + binders_of h) below))) (fold (by_head f) d rest))
+          ≡ begin (unwrap_or (both_answers (fold_tree (by_head g) d) o (g d h)) (node h (fold (by_head k) (d + binders_of h) below))) (fold (by_head g) d (fold (by_head f) d rest))
+      at None under = ap (λ (b : Forest). begin (unwrap_or (g d h) (node h b)) (fold (by_head g) d (fold (by_head f) d rest))) under
+      at (Some u) under = refl
+
+-- Rows.
+
+pub argument-join : (a b : Forest) (i : ℕ) → argument (join a b) (count a + i) ≡ argument b i
+argument-join none b i = let e : 0 + i ≡ i = omega arith in ap (argument b) e
+argument-join (tree h below rest) b i =
+    let e : 1 + count rest + i ≡ suc (count rest + i) = omega arith in
+    ap (argument (tree h below (join rest b))) e ∙ argument-join rest b i
+
+-- The kinds of a binder's variables are those of types, constants and regions.
+
+-- a fresh variable for such a kind is of that kind
+abbrev pub AreOfVariables : List Kind → Type 0
+AreOfVariables [] = Unit {0}
+AreOfVariables (k ∷ ks) = ((n : ℕ) → kind_of (variable (variable_kind k) n).head ≡ k) × AreOfVariables ks
+
+variable-of : (k : VarKind) (n : ℕ) → kind_of (variable (variable_kind (parameter_kind k)) n).head ≡ parameter_kind k
+variable-of V.Ty n = refl
+variable-of V.Const n = refl
+variable-of V.Region n = refl
+
+binder-kinds : (ts : Forest) → AreOfVariables (binder_kinds ts)
+binder-kinds none = tt
+binder-kinds (tree (H.Part (P.Var k)) below rest) = (variable-of k, binder-kinds rest)
+binder-kinds (tree _ below rest) = binder-kinds rest
+
+pub kinds-bound : (ts : Forest) → AreOfVariables (bound_kinds ts)
+kinds-bound none = tt
+kinds-bound (tree h below rest) = binder-kinds below
+
+-- Fresh variables by their numbers.
+
+fresh-kind : (S : State) (ks : List Kind) (i : ℕ) (k : Kind) → AreOfVariables ks → slice_get ks i ≡ Some k → kind_of (argument (fresh_variables S ks) i).head ≡ k
+fresh-kind S [] i k a e = absurd cc
+fresh-kind S (j ∷ ks) zero k a e = let same : j ≡ k = cc in a.0 _ ∙ same
+fresh-kind S (j ∷ ks) (suc i) k a e = fresh-kind (with_fresh S (variable_kind j)) ks i k a.1 e
+
+fresh-none : (S : State) (ks : List Kind) (i : ℕ) → slice_get ks i ≡ None → argument (fresh_variables S ks) i ≡ error_tree
+fresh-none S [] i e = refl
+fresh-none S (j ∷ ks) zero e = absurd cc
+fresh-none S (j ∷ ks) (suc i) e = fresh-none (with_fresh S (variable_kind j)) ks i e
+
+-- What is put in for a name is what stands for the variable.
+module _ (S : State) (ls : Forest) (ks : List Kind) (fit : AreOfVariables ks) where
+  abbrev fresh_row : Forest
+  fresh_row = fresh_variables S ks
+
+  abbrev put_fresh : HeadAnswers
+  put_fresh = put (join ls (fresh_variables S ks))
+
+  error-put : (d : ℕ) (k : VarKind) → fold_tree (by_head put_fresh) d (leaf (error_of k)) ≡ shift_tree d (leaf (error_of k))
+  error-put d V.Ty = refl
+  error-put d V.Const = refl
+  error-put d V.Region = refl
+
+  name-put : (d : ℕ) (k : VarKind) (i : ℕ) → fold_tree (by_head put_fresh) d (name_of (count ls) k i (slice_get ks i)) ≡ shift_tree d (of_kind k (argument fresh_row i))
+  name-put d k i = at (slice_get ks i) refl
+    where
+      error-kept : (k : VarKind) → leaf (error_of k) ≡ of_kind k error_tree
+      error-kept V.Ty = refl
+      error-kept V.Const = refl
+      error-kept V.Region = refl
+
+      by : (b : Bool) → fold_tree (by_head put_fresh) d (if b then leaf (H.Param (count ls + i)) else leaf (error_of k)) ≡ shift_tree d (if b then argument fresh_row i else leaf (error_of k))
+      by true = ap (shift_tree d) (argument-join ls fresh_row i)
+      by false = error-put d k
+
+      at : (o : Option Kind) → slice_get ks i ≡ o → fold_tree (by_head put_fresh) d (name_of (count ls) k i o) ≡ shift_tree d (of_kind k (argument fresh_row i))
+      at None e = error-put d k ∙ ap (shift_tree d) (error-kept k ∙ ap (of_kind k) (sym (fresh-none S ks i e)))
+      at (Some j) e =
+          by (is_of k j)
+          ∙ ap (λ (l : Kind). shift_tree d (if is_of k l then argument fresh_row i else leaf (error_of k))) (sym (fresh-kind S ks i j fit e))
+
+  variable-put : (d : ℕ) (k : VarKind) (v : BoundVar) → opened_variable fresh_row d k v ≡ both_answers (fold_tree (by_head put_fresh) d) (named_variable (count ls) ks d k v) None
+  variable-put d k v = at (v.depth == d)
+    where
+      bound-put : (k : VarKind) (x : BoundVar) → leaf (bound_head k x) ≡ fold_tree (by_head put_fresh) d (leaf (bound_head k x))
+      bound-put V.Ty x = refl
+      bound-put V.Const x = refl
+      bound-put V.Region x = refl
+
+      by : (b : Bool) → (if b then Some (leaf (bound_head k (nearer v))) else None)
+          ≡ both_answers (fold_tree (by_head put_fresh) d) (if b then Some (leaf (bound_head k (nearer v))) else None) None
+      by true = ap Some (bound-put k (nearer v))
+      by false = refl
+
+      at : (b : Bool) → (if b then Some (shift_tree d (of_kind k (argument fresh_row v.index))) else (if nat_lt d v.depth then Some (leaf (bound_head k (nearer v))) else None))
+          ≡ both_answers (fold_tree (by_head put_fresh) d) (if b then Some (name_of (count ls) k v.index (slice_get ks v.index)) else (if nat_lt d v.depth then Some (leaf (bound_head k (nearer v))) else None)) None
+      at true = ap Some (sym (name-put d k v.index))
+      at false = by (nat_lt d v.depth)
+
+  head-put : (d : ℕ) (h : Head) → is_param h ≡ false → opened_head fresh_row d h ≡ both_answers (fold_tree (by_head put_fresh) d) (named_head (count ls) ks d h) (put_fresh d h)
+  head-put d (H.Bound v) e = variable-put d V.Ty v
+  head-put d (H.Param i) e = absurd cc
+  head-put d (H.Const c) e = at c e
+    where
+      at : (c : ConstHead) → is_param (H.Const c) ≡ false
+          → opened_head fresh_row d (H.Const c) ≡ both_answers (fold_tree (by_head put_fresh) d) (named_head (count ls) ks d (H.Const c)) (put_fresh d (H.Const c))
+      at (C.Bound v) e = variable-put d V.Const v
+      at (C.Param i) e = absurd cc
+      at _ e = refl
+  head-put d (H.Region r) e = at r
+    where
+      at : (r : RegionKind)
+          → opened_head fresh_row d (H.Region r) ≡ both_answers (fold_tree (by_head put_fresh) d) (named_head (count ls) ks d (H.Region r)) (put_fresh d (H.Region r))
+      at (R.Bound v) = variable-put d V.Region v
+      at _ = refl
+  head-put d _ e = refl
+
+-- A clause that is opened by names, with fresh variables in their place, is the clause with fresh variables.
+pub named-instance : (S : State) (ls : Forest) (c : Tree) → holds is_param c.children ≡ false
+    → substituted (join ls (fresh_variables S (bound_kinds c.children))) 0 (after_first (named_clause (count ls) c).children) ≡ after_first (fresh_instance S c).children
+named-instance S ls c e =
+    let ks = bound_kinds c.children in
+    fold-twice (named_head (count ls) ks) (put (join ls (fresh_variables S ks))) (opened_head (fresh_variables S ks)) is_param (head-put S ls ks (kinds-bound c.children)) 0 (after_first c.children)
+    (after-unmarked is_param c.children e)
+
+-- The last tree of a row that is folded, and those before it.
+
+but-last-folded : (f : Answers) (d : ℕ) (ts : Forest) → fold f d (all_but_last ts) ≡ all_but_last (fold f d ts)
+but-last-folded f d none = refl
+but-last-folded f d (tree h below none) = refl
+but-last-folded f d (tree h below (tree g inner rest)) = ap (begin (fold_tree f d (node h below))) (but-last-folded f d (tree g inner rest))
+
+pub but-last-substituted : (args : Forest) (ts : Forest) → substituted args 0 (all_but_last ts) ≡ all_but_last (substituted args 0 ts)
+but-last-substituted args ts = but-last-folded (by_head (put args)) 0 ts
+
+pub last-substituted : (args : Forest) (ts : Forest) → substituted_tree args (last_tree ts) ≡ last_tree (substituted args 0 ts)
+last-substituted args none = refl
+last-substituted args (tree h below none) = refl
+last-substituted args (tree h below (tree g inner rest)) = last-substituted args (tree g inner rest)
+
+pub named-arguments : (S : State) (ls : Forest) (c : Tree) → holds is_param c.children ≡ false
+    → substituted (join ls (fresh_variables S (bound_kinds c.children))) 0 (arguments_in (named_clause (count ls) c)) ≡ arguments_in (fresh_instance S c)
+named-arguments S ls c e =
+    but-last-substituted (join ls (fresh_variables S (bound_kinds c.children))) (after_first (named_clause (count ls) c).children) ∙ ap all_but_last (named-instance S ls c e)
+
+pub named-term : (S : State) (ls : Forest) (c : Tree) → holds is_param c.children ≡ false
+    → substituted_tree (join ls (fresh_variables S (bound_kinds c.children))) (term_in (named_clause (count ls) c)) ≡ term_in (fresh_instance S c)
+named-term S ls c e =
+    last-substituted (join ls (fresh_variables S (bound_kinds c.children))) (after_first (named_clause (count ls) c).children) ∙ ap last_tree (named-instance S ls c e)
+
+-- Which variables are mentioned.
+
+error-below : (n : ℕ) (k : VarKind) → IsBelow n (alone (leaf (error_of k)))
+error-below n V.Ty = refl
+error-below n V.Const = refl
+error-below n V.Region = refl
+
+bound-below : (n : ℕ) (k : VarKind) (v : BoundVar) → IsBelow n (alone (leaf (bound_head k v)))
+bound-below n V.Ty v = refl
+bound-below n V.Const v = refl
+bound-below n V.Region v = refl
+
+named-variable-below : (n first : ℕ) (ks : List Kind) (d : ℕ) (k : VarKind) (v : BoundVar) → IsUnmarked (is_from n) (named_variable first ks d k v)
+named-variable-below n first ks d k v = at (v.depth == d) (nat_lt d v.depth)
+  where
+    name : (b : Bool) → IsBelow n (alone (if b then leaf (H.Param (first + v.index)) else leaf (error_of k)))
+    name true = refl
+    name false = error-below n k
+
+    named : (o : Option Kind) → IsBelow n (alone (name_of first k v.index o))
+    named None = error-below n k
+    named (Some j) = name (is_of k j)
+
+    at : (b further : Bool) → IsUnmarked (is_from n) (if b then Some (name_of first k v.index (slice_get ks v.index)) else (if further then Some (leaf (bound_head k (nearer v))) else None))
+    at true further = named (slice_get ks v.index)
+    at false true = bound-below n k (nearer v)
+    at false false = tt
+
+named-head-below : (n first : ℕ) (ks : List Kind) (d : ℕ) (h : Head) → IsUnmarked (is_from n) (named_head first ks d h)
+named-head-below n first ks d (H.Bound v) = named-variable-below n first ks d V.Ty v
+named-head-below n first ks d (H.Const (C.Bound v)) = named-variable-below n first ks d V.Const v
+named-head-below n first ks d (H.Region (R.Bound v)) = named-variable-below n first ks d V.Region v
+named-head-below n first ks d _ = tt
+
+-- what stands under a clause's binder
+under-below : (n : ℕ) (c : Tree) → IsBelow n (alone c) → IsBelow n (after_first c.children)
+under-below n c e = after-unmarked (is_from n) c.children (holds_parts (is_from n) c.head c.children none e).under
 
 pub named-below : (n first : ℕ) (c : Tree) → IsBelow n (alone c) → IsBelow n (arguments_in (named_clause first c)) × IsBelow n (alone (term_in (named_clause first c)))
-named-below n first c e = ?
+named-below n first c e =
+    let ks = bound_kinds c.children in
+    let all : IsBelow n (after_first (named_clause first c).children) =
+    fold-unmarked (named_head first ks) (is_from n) (is_from n) (λ h m. m) (named-head-below n first ks) 0 (after_first c.children) (under-below n c e) in (
+      but-last-unmarked (is_from n) (after_first (named_clause first c).children) all,
+      last-unmarked (is_from n) (after_first (named_clause first c).children) refl all,
+    )
 
-pub term-below : (S : State) (c : Tree) → IsBelow (length S.variables) (alone c) → IsBelow (length (with_instance S c).variables) (alone (term_in (fresh_instance S c)))
-term-below S c e = ?
+-- Fresh variables are the highest of the state with them.
+
+fresh-longer : (S : State) (ks : List Kind) → length S.variables ≤ length (with_fresh_variables S ks).variables
+fresh-longer S [] = omega arith
+fresh-longer S (k ∷ ks) =
+    let more = fresh-longer (with_fresh S (variable_kind k)) ks in
+    let one = length-append S.variables (fresh_info S (variable_kind k) ∷ []) in
+    omega (arith, more, one)
 
 pub instance-longer : (S : State) (c : Tree) → length S.variables ≤ length (with_instance S c).variables
-instance-longer S c = ?
+instance-longer S c = fresh-longer S (bound_kinds c.children)
 
-pub below-more : (n m : ℕ) (ts : Forest) → n ≤ m → IsBelow n ts → IsBelow m ts
-below-more n m ts l e = ?
+variable-below : (m : ℕ) (w : VariableKind) (n : ℕ) → n < m → is_from m (variable w n).head ≡ false
+variable-below m w n l = at w
+  where
+    under : nat_le m n ≡ false
+    under = grind (arith, l)
 
-pub term-closed : (S : State) (c : Tree) → escapes 0 (alone c) ≡ false → escapes 0 (alone (term_in (fresh_instance S c))) ≡ false
-term-closed S c e = ?
+    at : (w : VariableKind) → is_from m (variable w n).head ≡ false
+    at (Term s) = under
+    at Region = under
 
-pub filled-names : (f : Finds) (ls : Forest) (vs us ws : List Tree) (c : Tree) → holds is_param (alone c) ≡ false → All (λ u. escapes 0 (alone u) ≡ false) us → length us ≡ length (projections f c.children)
-    → substituted_tree (join ls (row_of (vs ++ (us ++ ws)))) (filled_clause f (names_from (count ls + length vs) (length us)) c) ≡ filled_clause f us c
-filled-names f ls vs us ws c e a l = ?
+variable-leaf : (w : VariableKind) (n : ℕ) → (variable w n).children ≡ none
+variable-leaf (Term s) n = refl
+variable-leaf Region n = refl
+
+fresh-below : (S : State) (ks : List Kind) (m : ℕ) → length (with_fresh_variables S ks).variables ≤ m → IsBelow m (fresh_variables S ks)
+fresh-below S [] m l = refl
+fresh-below S (k ∷ ks) m l =
+    let t : Tree = variable (variable_kind k) (length S.variables) in
+    let more = fresh-longer (with_fresh S (variable_kind k)) ks in
+    let one = length-append S.variables (fresh_info S (variable_kind k) ∷ []) in
+    let inside : length S.variables < m = omega (arith, more, one, l) in
+    unmarked (is_from m) t.head t.children (fresh_variables (with_fresh S (variable_kind k)) ks) (variable-below m (variable_kind k) (length S.variables) inside)
+    (ap (holds (is_from m)) (variable-leaf (variable_kind k) (length S.variables))) (fresh-below (with_fresh S (variable_kind k)) ks m l)
+
+module _ (m : ℕ) (values : Forest) (below : IsBelow m values) where
+  value-below : (d : ℕ) (k : VarKind) (i : ℕ) → IsBelow m (alone (shift_tree d (of_kind k (argument values i))))
+  value-below d k i = below-shifted m d (of_kind k (argument values i)) (at (is_of k (kind_of (argument values i).head)))
+    where
+      at : (b : Bool) → IsBelow m (alone (if b then argument values i else leaf (error_of k)))
+      at true = argument-unmarked (is_from m) values i refl below
+      at false = error-below m k
+
+  opened-variable-below : (d : ℕ) (k : VarKind) (v : BoundVar) → IsUnmarked (is_from m) (opened_variable values d k v)
+  opened-variable-below d k v = at (v.depth == d) (nat_lt d v.depth)
+    where
+      at : (b further : Bool) → IsUnmarked (is_from m) (if b then Some (shift_tree d (of_kind k (argument values v.index))) else (if further then Some (leaf (bound_head k (nearer v))) else None))
+      at true further = value-below d k v.index
+      at false true = bound-below m k (nearer v)
+      at false false = tt
+
+  opened-head-below : (d : ℕ) (h : Head) → IsUnmarked (is_from m) (opened_head values d h)
+  opened-head-below d (H.Bound v) = opened-variable-below d V.Ty v
+  opened-head-below d (H.Const (C.Bound v)) = opened-variable-below d V.Const v
+  opened-head-below d (H.Region (R.Bound v)) = opened-variable-below d V.Region v
+  opened-head-below d _ = tt
+
+  pub opened-below : (ts : Forest) → IsBelow m ts → IsBelow m (opened values ts)
+  opened-below ts e = fold-unmarked (opened_head values) (is_from m) (is_from m) (λ h x. x) opened-head-below 0 ts e
+
+-- A clause with fresh variables mentions none but those of the state then; so do its arguments and its term.
+pub instance-below : (S : State) (c : Tree) → IsBelow (length S.variables) (alone c) → IsBelow (length (with_instance S c).variables) (after_first (fresh_instance S c).children)
+instance-below S c e =
+    let ks = bound_kinds c.children in
+    let m = length (with_instance S c).variables in
+    opened-below m (fresh_variables S ks) (fresh-below S ks m (omega arith)) (after_first c.children)
+    (below-more (length S.variables) m (after_first c.children) (instance-longer S c) (under-below (length S.variables) c e))
+
+pub arguments-below : (S : State) (c : Tree) → IsBelow (length S.variables) (alone c) → IsBelow (length (with_instance S c).variables) (arguments_in (fresh_instance S c))
+arguments-below S c e = but-last-unmarked (is_from (length (with_instance S c).variables)) (after_first (fresh_instance S c).children) (instance-below S c e)
+
+pub term-below : (S : State) (c : Tree) → IsBelow (length S.variables) (alone c) → IsBelow (length (with_instance S c).variables) (alone (term_in (fresh_instance S c)))
+term-below S c e = last-unmarked (is_from (length (with_instance S c).variables)) (after_first (fresh_instance S c).children) refl (instance-below S c e)

@@ -1,9 +1,9 @@
 -- States that differ only in what nothing mentions, and what a judge answers at them.
-use Rattle.std.specs.Prelude.{◌≡◌, ℕ, false, Option, Some, None, List, length, slice_get}
+use Rattle.std.specs.Prelude.{◌≡◌, ℕ, false, Option, Some, None, List, [], length, slice_get}
 use Rattle.candidate_ir.specs.Trees.{Forest, Tree}
 use Rattle.candidate_ir.specs.Substitutions.{alone}
 use Rattle.candidate_ir.specs.Worlds.{kinds_of}
-use Rattle.candidate_eval.specs.States.{Env, State, VariableInfo, Judge}
+use Rattle.candidate_eval.specs.States.{Env, State, VariableInfo, Judge, with_pending}
 use Rattle.candidate_eval.specs.Rules.{Step, Ending}
 use Rattle.candidate_eval.specs.Judging.{Place, Normal, normal_at, is_at, run, comes_to}
 use Rattle.candidate_eval.specs.Mentions.{IsBelow, StepsBelow, EndingBelow}
@@ -33,6 +33,8 @@ pub record JudgesAlike (J : Judge) : Type 0 where
   -- a state is alike itself, and so on along states
   pub alike_same : (S : State) → J.alike S S
   pub alike_along : (S T U : State) → J.alike S T → J.alike T U → J.alike S U
+  -- so are states that are alike, with what is pending set aside in both
+  pub alike_aside : (S T : State) → J.alike S T → J.alike (with_pending S []) (with_pending T [])
   -- states that are alike differ only in variables that nothing mentions
   pub alike_looks : (S T : State) → J.alike S T → LooksAlike S T
   -- at both, trees of the first stand at places that are alike in its variables

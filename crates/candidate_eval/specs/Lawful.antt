@@ -1,5 +1,5 @@
 -- The laws of an evaluator. They speak of its judge.
-use Rattle.std.specs.Prelude.{◌≡◌, Bool, true, false, Some, None, List, []}
+use Rattle.std.specs.Prelude.{◌≡◌, ◌≤◌, Bool, true, false, Some, None, List, [], length}
 use Rattle.std.specs.List.{All}
 use Rattle.candidate_ir.specs.Trees.{Kind, TypeKind, ConstantKind, Forest, Tree, kind_of, erase, holds, is_alias, is_error, is_param}
 use Rattle.candidate_ir.specs.Substitutions.{Substitution, alone, apply}
@@ -95,6 +95,8 @@ pub record EquationLaws (J : Judge) : Type 0 where
       → J.equated S e a b ≡ Some (gs, T) → Within S L M → IsSound T M → (s : Substitution) → Solves S L a b s → IsKept S T L M s
   -- A refused equation has no solution.
   pub refused_has_no_solution : (S : State) (L : Live) (e : Env) (a b : Forest) → AreSides S L a b → J.equated S e a b ≡ None → (s : Substitution) → Solves S L a b s → ⊥
+  -- Equating takes no variable away.
+  pub equating_keeps_variables : (S T : State) (e : Env) (a b : Forest) (gs : List Pending) → J.equated S e a b ≡ Some (gs, T) → length S.variables ≤ length T.variables
   -- Equating leaves what is pending as it is; the goals that the equation leaves are goals of the state, which follows.
   pub equating_keeps_pending : (S T : State) (e : Env) (a b : Forest) (gs : List Pending) → J.equated S e a b ≡ Some (gs, T) → T.pending ≡ S.pending
   pub equating_follows : (S T : State) (L : Live) (e : Env) (a b : Forest) (gs : List Pending) → IsSound S L → ValuesFit S → AreTreesOf S L e → AreTreesOf S L a → AreTreesOf S L b

@@ -9,7 +9,7 @@ use Rattle.candidate_ir.specs.declared.ir.kinds.BoundVar.{BoundVar}
 use Rattle.candidate_ir.specs.declared.ir.kinds.RegionKind.TheVariants as R
 use Rattle.candidate_ir.specs.declared.ir.kinds.VarKind.{VarKind}
 use Rattle.candidate_ir.specs.declared.ir.kinds.VarKind.TheVariants as V
-use Rattle.candidate_ir.specs.Trees.{Kind, Forest, tree, none, Tree}
+use Rattle.candidate_ir.specs.Trees.{Kind, tree, none, Tree}
 use Rattle.candidate_ir.specs.Folding.{fold, leaf}
 use Rattle.candidate_ir.specs.Opening.{is_of, error_of, bound_head, nearer}
 use Rattle.candidate_ir.specs.Supers.{after_first}

@@ -58,10 +58,10 @@ pub record IsRuleTree (n : ℕ) (t : Tree) : Type 0 where
   pub below : IsBelow n (alone t)
 
 -- What is asked for makes up a rule at a state, where the rule's variables stand for these trees.
-pub record IsRuleAt (S : State) (ls : Forest) (n : ℕ) (e : Env) (bounds required : List Tree) : Type 0 where
+pub record IsRuleAt (S : State) (ls : Forest) (n : ℕ) (e : Env) (bs cs : List Tree) : Type 0 where
   pub env : IsBelow n e
-  pub bounds : All (IsRuleTree n) bounds
-  pub required : All (IsRuleTree n) required
+  pub bounds : All (IsRuleTree n) bs
+  pub required : All (IsRuleTree n) cs
   pub there : n ≤ length S.variables
   pub locals : IsBelow (length S.variables) ls
 
