@@ -13,6 +13,7 @@ use Rattle.candidate_ir.specs.declared.ir.kinds.RegionKind.{RegionKind}
 use Rattle.candidate_ir.specs.declared.ir.kinds.RegionKind.TheVariants as R
 use Rattle.candidate_ir.specs.declared.ir.kinds.VarKind.{VarKind}
 use Rattle.candidate_ir.specs.declared.ir.kinds.VarKind.TheVariants as V
+use Rattle.candidate_ir.specs.Binders.{is_beyond, escapes}
 use Rattle.candidate_ir.specs.Context.{parameter_kind}
 use Rattle.candidate_ir.specs.Folding.{Answers, fold, fold_tree, leaf, shift_tree, argument, put, substituted, substituted_tree}
 use Rattle.candidate_ir.specs.Folds.{node}
@@ -30,6 +31,7 @@ use Rattle.candidate_eval.specs.Mentions.{IsBelow, is_from}
 use Rattle.candidate_eval.specs.Objects.{arguments_in, fresh_instance, term_in, with_instance}
 use Rattle.candidate_eval.specs.States.{State, fresh_info, fresh_variables, variable, variable_kind, with_fresh, with_fresh_variables}
 use Rattle.candidate_eval.proofs.Holds.{holds_parts}
+use Rattle.candidate_eval.proofs.Closed.{after-closed, binder-one, closed, closed-on, closed-parts, closed-shift, last-closed}
 use Rattle.candidate_eval.proofs.Marking.{IsUnmarked, after-unmarked, argument-unmarked, but-last-unmarked, below-more, below-shifted, fold-unmarked, last-unmarked, unmarked}
 use Rattle.candidate_eval.specs.Naming.{name_of, named_clause, named_head, named_variable}
 
@@ -319,3 +321,81 @@ arguments-below S c e = but-last-unmarked (is_from (length (with_instance S c).v
 
 pub term-below : (S : State) (c : Tree) → IsBelow (length S.variables) (alone c) → IsBelow (length (with_instance S c).variables) (alone (term_in (fresh_instance S c)))
 term-below S c e = last-unmarked (is_from (length (with_instance S c).variables)) (after_first (fresh_instance S c).children) refl (instance-below S c e)
+
+-- Nothing escapes from a clause's term with fresh variables, where nothing escapes from the clause.
+
+-- what stands in a place lets nothing escape; where nothing stands, the head is bound
+abbrev IsClosedAnswer : ℕ → Bool → Option Tree → Type 0
+IsClosedAnswer d escaped None = escaped ≡ false
+IsClosedAnswer d escaped (Some t) = escapes d (alone t) ≡ false
+
+module _ (values : Forest) (are_closed : (k : VarKind) (i : ℕ) → escapes 0 (alone (of_kind k (argument values i))) ≡ false) where
+  value-closed : (d : ℕ) (k : VarKind) (i : ℕ) → escapes d (alone (shift_tree d (of_kind k (argument values i)))) ≡ false
+  value-closed d k i =
+      let t = of_kind k (argument values i) in
+      ap (λ (u : Tree). escapes d (alone u)) (closed-shift d t (are_closed k i)) ∙ closed-on 0 d (alone t) (omega arith) (are_closed k i)
+
+  opened-variable-closed : (d : ℕ) (k : VarKind) (v : BoundVar) → nat_le (suc d) v.depth ≡ false → IsClosedAnswer d (nat_le d v.depth) (opened_variable values d k v)
+  opened-variable-closed d k v e = at (v.depth == d) (nat_lt d v.depth) refl refl
+    where
+      not_further : (n m : ℕ) → nat_le (suc n) m ≡ false → nat_lt n m ≡ true → ⊥
+      not_further n m e l = grind (arith, e, l)
+
+      nearer_still : (n m : ℕ) → (m == n) ≡ false → nat_lt n m ≡ false → nat_le n m ≡ false
+      nearer_still n m s l = grind (arith, s, l)
+
+      at : (same further : Bool) → (v.depth == d) ≡ same → nat_lt d v.depth ≡ further
+          → IsClosedAnswer d (nat_le d v.depth) (if same then Some (shift_tree d (of_kind k (argument values v.index))) else (if further then Some (leaf (bound_head k (nearer v))) else None))
+      at true further s l = value-closed d k v.index
+      at false true s l = absurd (not_further d v.depth e l)
+      at false false s l = nearer_still d v.depth s l
+
+  opened-head-closed : (d : ℕ) (h : Head) → is_beyond (suc d) h ≡ false → IsClosedAnswer d (is_beyond d h) (opened_head values d h)
+  opened-head-closed d (H.Bound v) e = opened-variable-closed d V.Ty v e
+  opened-head-closed d (H.Const (C.Bound v)) e = opened-variable-closed d V.Const v e
+  opened-head-closed d (H.Region (R.Bound v)) e = opened-variable-closed d V.Region v e
+  opened-head-closed d _ e = refl
+
+  pub opened-closed : (d : ℕ) (ts : Forest) → escapes (suc d) ts ≡ false → escapes d (fold (by_head (opened_head values)) d ts) ≡ false
+  opened-closed d none e = refl
+  opened-closed d (tree h below rest) e =
+      let p = closed-parts (suc d) h below rest e in
+      at (opened_head values d h) (opened-head-closed d h p.here)
+      (opened-closed (d + binders_of h) below (closed-on (suc d + binders_of h) (suc (d + binders_of h)) below (omega arith) p.under)) (opened-closed d rest p.others)
+    where
+      at : (o : Option Tree) → IsClosedAnswer d (is_beyond d h) o → escapes (d + binders_of h) (fold (by_head (opened_head values)) (d + binders_of h) below) ≡ false
+          → escapes d (fold (by_head (opened_head values)) d rest) ≡ false
+          → escapes d (begin (unwrap_or o (node h (fold (by_head (opened_head values)) (d + binders_of h) below))) (fold (by_head (opened_head values)) d rest)) ≡ false
+      at None n under others = closed d h (fold (by_head (opened_head values)) (d + binders_of h) below) (fold (by_head (opened_head values)) d rest) n under others
+      at (Some u) n under others =
+          let p = closed-parts d u.head u.children none n in
+          closed d u.head u.children (fold (by_head (opened_head values)) d rest) p.here p.under others
+
+fresh-closed : (S : State) (ks : List Kind) (k : VarKind) (i : ℕ) → escapes 0 (alone (of_kind k (argument (fresh_variables S ks) i))) ≡ false
+fresh-closed S ks k i = at (is_of k (kind_of (argument (fresh_variables S ks) i).head))
+  where
+    error : (k : VarKind) → escapes 0 (alone (leaf (error_of k))) ≡ false
+    error V.Ty = refl
+    error V.Const = refl
+    error V.Region = refl
+
+    one : (w : VariableKind) (n : ℕ) → escapes 0 (alone (variable w n)) ≡ false
+    one (Term s) n = refl
+    one Region n = refl
+
+    each : (S : State) (ks : List Kind) (i : ℕ) → escapes 0 (alone (argument (fresh_variables S ks) i)) ≡ false
+    each S [] i = refl
+    each S (j ∷ js) zero = one (variable_kind j) (length S.variables)
+    each S (j ∷ js) (suc i) = each (with_fresh S (variable_kind j)) js i
+
+    at : (b : Bool) → escapes 0 (alone (if b then argument (fresh_variables S ks) i else leaf (error_of k))) ≡ false
+    at true = each S ks i
+    at false = error k
+
+pub term-closed : (S : State) (c : Tree) → escapes 0 (alone c) ≡ false → escapes 0 (alone (term_in (fresh_instance S c))) ≡ false
+term-closed S c e =
+    let ks = bound_kinds c.children in
+    let p = closed-parts 0 c.head c.children none e in
+    let one = binder-one c.head in
+    let below : escapes 1 c.children ≡ false = closed-on (0 + binders_of c.head) 1 c.children (omega (arith, one)) p.under in
+    last-closed 0 (after_first (fresh_instance S c).children) (opened-closed (fresh_variables S ks) (fresh-closed S ks) 0 (after_first c.children) (after-closed 1 c.children below))

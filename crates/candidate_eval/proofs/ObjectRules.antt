@@ -9,7 +9,7 @@ use Rattle.candidate_ir.specs.declared.ir.heads.Head.{Head}
 use Rattle.candidate_ir.specs.Binders.{escapes}
 use Rattle.candidate_ir.specs.Substitutions.{alone}
 use Rattle.candidate_ir.specs.Trees.{Kind, Forest, none, tree, Tree, count, holds, is_param, join}
-use Rattle.candidate_ir.specs.Folding.{substituted}
+use Rattle.candidate_ir.specs.Folding.{substituted, substituted_tree}
 use Rattle.candidate_ir.proofs.Folding.{substituted-nothing}
 use Rattle.candidate_ir.proofs.FoldRows.{join-assoc}
 use Rattle.candidate_ir.proofs.Rows.{join-none}
@@ -19,15 +19,17 @@ use Rattle.candidate_eval.specs.Certainties.{Certainty, AMBIGUOUS}
 use Rattle.candidate_eval.specs.Characterization.{bound_kinds}
 use Rattle.candidate_eval.specs.Judging.{Place, Reached, At, Ambiguous, Over, Judged, Refused, comes_to, concluded, continued, asked, at_state, go_on, matched, matched_and_settled, matches, made_fresh, picked, put_in, put_in_tree, reached, run, is_at, settled_at, source_of, step, taken, equated_at, with_goals}
 use Rattle.candidate_eval.specs.Lawful.{Lawful}
-use Rattle.candidate_eval.specs.Mentions.{IsBelow, StepBelow, StepsBelow, EndingBelow, MatchesBelow}
-use Rattle.candidate_eval.specs.ObjectRules.{match_of, matches_of, picks_of, projections_in, named_clauses, row_of, IsRuleTree, IsRuleAt, place_at, IsAskedByRule, IsUnknownByRule}
+use Rattle.candidate_eval.specs.Mentions.{IsBelow, is_from, StepBelow, StepsBelow, EndingBelow, MatchesBelow}
+use Rattle.candidate_eval.specs.ObjectRules.{match_of, matches_of, picks_of, projections_in, named_clauses, IsRuleTree, IsRuleAt, place_at, IsAskedByRule, IsUnknownByRule}
 use Rattle.candidate_eval.specs.Objects.{Projection, IsAmbiguous, IsPicked, Tried, arguments_in, bound_equated, bound_matches, fresh_instance, is_about, is_equated, term_in, with_instance}
-use Rattle.candidate_eval.specs.Naming.{named_clause, names_from}
-use Rattle.candidate_eval.specs.Replacing.{AreReplaced, AreStuck, Finds, IsReplaced, IsStuck, Picks, filled_clause, found_or, own_projection, projections}
+use Rattle.candidate_eval.specs.Evaluators.{with_left}
+use Rattle.candidate_eval.specs.Naming.{named_clause, names_from, row_of}
+use Rattle.candidate_eval.specs.Replacing.{AreReplaced, AreStuck, Finds, IsReplaced, IsStuck, Picks, any_is_about, filled_clause, found_or, item_of, own_item, own_projection, projection_if, projections, starts_with}
 use Rattle.candidate_eval.specs.Rules.{Match, Require, Step, fresh, enter, equate, quick, add, settle, pick, still_general, unknowable, Ending, ask, characterise}
 use Rattle.candidate_eval.specs.States.{Env, State, Judge, Pending, fresh_variables, with_fresh_variables, with_pending, is_some, next}
 use Rattle.candidate_eval.proofs.Marking.{below-more}
-use Rattle.candidate_eval.proofs.Naming.{named-arguments, named-term, named-below, term-below, instance-longer}
+use Rattle.candidate_eval.proofs.NamedTerms.{AreClosed, filled-names-among}
+use Rattle.candidate_eval.proofs.Naming.{named-arguments, named-term, named-below, term-below, term-closed, instance-longer}
 
 -- A bound is matched at a place as it is equated at its state.
 
@@ -362,5 +364,233 @@ module _ (J : Judge) (laws : Lawful J) (e : Env) (n : ℕ) (env : IsBelow n e) (
       let clash : true ≡ false = sym x ∙ (there ∙ (sym here ∙ ap is_some r)) in
       absurd cc
 
-  pub stuck-comes-pub : ℕ
-  stuck-comes-pub = 0
+  -- Where the rule stands after a pick.
+
+  longer-equated : (o : Option (List Pending × State)) (R T : State) → (((q : List Pending × State) → o ≡ Some q → length R.variables ≤ length q.1.variables)) → next o (λ q. Some (with_left q)) ≡ Some T
+      → length R.variables ≤ length T.variables
+  longer-equated None R T l q = cc
+  longer-equated (Some r) R T l q = let same : with_left r ≡ T = cc in subst (λ (U : State). length R.variables ≤ length U.variables) same (l r refl)
+
+  after-pick : (S T : State) (p : Projection) (u : Tree) → n ≤ length S.variables → IsPickable n p → IsPicked J e p S bs u T → (length S.variables ≤ length T.variables) × IsBelow (length T.variables) (alone u)
+  after-pick S T p u l i picked-by =
+      let t = tried-are J law e S p picked-by.tried (fits S p l i) in
+      let R = picked-by.now in
+      let bound = picked-by.bound in
+      let first = longer-alike S R (law.alike_looks S R (law.alike_along S picked-by.last R t.0 picked-by.alike)) in
+      let second = instance-longer R bound in
+      let third = longer-equated (J.equated (with_instance R bound) e (arguments_in (fresh_instance R bound)) p.arguments) (with_instance R bound) T
+      (λ q h. laws.equations.equating_keeps_variables (with_instance R bound) q.1 e (arguments_in (fresh_instance R bound)) p.arguments q.0 h) picked-by.equated in
+      let below = below-more n (length R.variables) (alone bound) (omega (arith, l, first)) (found-fits (λ c. bound_matches J e S c p) bound t.1).below in
+      (omega (arith, first, second, third),
+      subst (λ (v : Tree). IsBelow (length T.variables) (alone v)) (sym picked-by.is)
+      (below-more (length (with_instance R bound).variables) (length T.variables) (alone (term_in (fresh_instance R bound))) third (term-below R bound below)))
+
+  below-join : (m : ℕ) (a b : Forest) → IsBelow m a → IsBelow m b → IsBelow m (join a b)
+  below-join m a b x y = holds-join (is_from m) a b ∙ (ap (λ z. z || holds (is_from m) b) x ∙ y)
+
+  stands-after : (S T : State) (ls : Forest) (p : Projection) (u : Tree) → Stands S ls → IsPickable n p → IsPicked J e p S bs u T → Stands T (join ls (alone u))
+  stands-after S T ls p u w i picked-by =
+      let a = after-pick S T p u w.there i picked-by in
+      record {
+        there = let l = w.there in omega (arith, l, a.0);
+        locals = below-join (length T.variables) ls (alone u) (below-more (length S.variables) (length T.variables) ls a.0 w.locals) a.1;
+      }
+
+  count-one : (ls : Forest) (u : Tree) → count (join ls (alone u)) ≡ suc (count ls)
+  count-one ls u = count-join ls (alone u) ∙ (let s : count ls + 1 ≡ suc (count ls) = omega arith in s)
+
+  -- Several picks.
+
+  all-stand : (S T : State) (ls : Forest) (ps : List Projection) (us : List Tree) → Stands S ls → All (IsPickable n) ps → Picks J e bs S ps us T → Stands T (join ls (row_of us))
+  all-stand S T ls ps us w a Picks.none_left = subst (Stands S) (sym (join-none ls)) w
+  all-stand S U ls ps us w a (Picks.one {T = T} {p = p} {ps = qs} {u = u} {us = vs} i r) =
+      subst (Stands U) (join-assoc ls (alone u) (row_of vs))
+      (all-stand T U (join ls (alone u)) qs vs (stands-after S T ls p u w (All-head (IsPickable n) p qs a) i) (All-tail (IsPickable n) p qs a) r)
+
+  all-come : (S T : State) (ls : Forest) (ps : List Projection) (us : List Tree) → Stands S ls → All (IsPickable n) ps → Picks J e bs S ps us T
+      → (more : List Step) (end : Ending) → StepsBelow n more → EndingBelow n end
+      → comes_to J e (place_at S ls) (picks_of (count ls) bs ps ++ more) end ≡ comes_to J e (place_at T (join ls (row_of us))) more end
+  all-come S T ls ps us w a Picks.none_left more end b c = ap (λ ms. comes_to J e (place_at S ms) more end) (sym (join-none ls))
+  all-come S U ls ps us w a (Picks.one {T = T} {p = p} {ps = qs} {u = u} {us = vs} i r) more end b c =
+      let here = All-head (IsPickable n) p qs a in
+      let rest = All-tail (IsPickable n) p qs a in
+      let ms = join ls (alone u) in
+      one-comes S T ls p u w here i (picks_of (suc (count ls)) bs qs ++ more) end (steps-join n (picks_of (suc (count ls)) bs qs) more (picks-below n (suc (count ls)) bs qs bounds rest) b) c
+      ∙ (ap (λ k. comes_to J e (place_at T ms) (picks_of k bs qs ++ more) end) (sym (count-one ls u))
+      ∙ (all-come T U ms qs vs (stands-after S T ls p u w here i) rest r more end b c
+      ∙ ap (λ xs. comes_to J e (place_at U xs) more end) (join-assoc ls (alone u) (row_of vs))))
+
+  picks-length : (S T : State) (ps : List Projection) (us : List Tree) → Picks J e bs S ps us T → length us ≡ length ps
+  picks-length S T ps us Picks.none_left = refl
+  picks-length S U ps us (Picks.one {T = T} {ps = qs} {us = vs} i r) = ap suc (picks-length T U qs vs r)
+
+  count-row : (us : List Tree) → count (row_of us) ≡ length us
+  count-row [] = refl
+  count-row (u ∷ us) = let i = count-row us in omega (arith, i)
+
+  picks-then : (k : ℕ) (ps qs : List Projection) → picks_of k bs (ps ++ qs) ≡ picks_of k bs ps ++ picks_of (k + length ps) bs qs
+  picks-then k [] qs = ap (λ m. picks_of m bs qs) (let s : k ≡ k + 0 = omega arith in s)
+  picks-then k (p ∷ ps) qs =
+      ap (λ ss. pick Require (matches_of k bs p) ∷ ss) (picks-then (suc k) ps qs ∙ ap (λ m. picks_of (suc k) bs ps ++ picks_of m bs qs) (let s : suc k + length ps ≡ k + suc (length ps) = omega arith in s))
+
+  -- where too little is known of one of them
+  all-stuck : (S T U : State) (ls : Forest) (ps : List Projection) (p : Projection) (qs : List Projection) (us : List Tree) → Stands S ls → All (IsPickable n) (ps ++ p ∷ qs)
+      → Picks J e bs S ps us T → IsAmbiguous J e p T bs U → (more : List Step) (end : Ending) → StepsBelow n more → EndingBelow n end
+      → comes_to J e (place_at S ls) (picks_of (count ls) bs (ps ++ p ∷ qs) ++ more) end ≡ asked J U (source_of end) AMBIGUOUS
+  all-stuck S T U ls ps p qs us w a r i more end b c =
+      let before = first-all ps (p ∷ qs) a in
+      let after = last-all ps (p ∷ qs) a in
+      let k = count ls + length ps in
+      let ms = join ls (row_of us) in
+      let rest = picks_of (suc k) bs qs ++ more in
+      let below = steps-join n (picks_of (suc k) bs qs) more (picks-below n (suc k) bs qs bounds (All-tail (IsPickable n) p qs after)) b in
+      let here = All-head (IsPickable n) p qs after in
+      let number : count ms ≡ k = count-join ls (row_of us) ∙ ap (λ m. count ls + m) (count-row us ∙ picks-length S T ps us r) in
+      ap (λ ss. comes_to J e (place_at S ls) (ss ++ more) end) (picks-then (count ls) ps (p ∷ qs))
+      ∙ (ap (λ ss. comes_to J e (place_at S ls) ss end) (append_assoc (picks_of (count ls) bs ps) (picks_of k bs (p ∷ qs)) more)
+      ∙ (all-come S T ls ps us w before r (picks_of k bs (p ∷ qs) ++ more) end (matches-below n k p bs bounds here.1, below) c
+      ∙ (ap (λ m. comes_to J e (place_at T ms) (pick Require (matches_of m bs p) ∷ rest) end) (sym number)
+      ∙ stuck-comes T U ms p (all-stand S T ls ps us w before r) here i rest end below c)))
+    where
+      first-all : (xs ys : List Projection) → All (IsPickable n) (xs ++ ys) → All (IsPickable n) xs
+      first-all [] ys a = All-nil (IsPickable n)
+      first-all (x ∷ xs) ys a = All-cons (IsPickable n) x xs (All-head (IsPickable n) x (xs ++ ys) a) (first-all xs ys (All-tail (IsPickable n) x (xs ++ ys) a))
+
+      last-all : (xs ys : List Projection) → All (IsPickable n) (xs ++ ys) → All (IsPickable n) ys
+      last-all [] ys a = a
+      last-all (x ∷ xs) ys a = last-all xs ys (All-tail (IsPickable n) x (xs ++ ys) a)
+
+-- The projections in clauses are ones of which a rule may have picks.
+
+own-arguments : (object : Tree) (bs : List Tree) (h : Head) (b : Forest) (p : Projection) → own_projection object bs h b ≡ Some p → p.arguments ≡ b
+own-arguments object bs h b p q = of (item_of h) q
+  where
+    where-own : (i : ℕ) (x : Bool) → projection_if x i b ≡ Some p → p.arguments ≡ b
+    where-own i false q = cc
+    where-own i true q = let same : record { item = i; arguments = b } ≡ p = cc in sym (ap (λ (y : Projection). y.arguments) same)
+
+    of : (o : Option ℕ) → own_item object bs b o ≡ Some p → p.arguments ≡ b
+    of None q = cc
+    of (Some i) q = where-own i (starts_with object b && any_is_about i bs) q
+
+module _ (P : Forest → Type 0) (parts : (h : Head) (b r : Forest) → P (tree h b r) → P b × P r) (f : Finds) (own : (h : Head) (b : Forest) (p : Projection) → f h b ≡ Some p → p.arguments ≡ b) where
+  abbrev IsOf : Projection → Type 0
+  IsOf p = P p.arguments
+
+  in-projections : (ts : Forest) → P ts → All IsOf (projections f ts)
+  in-projections none a = All-nil IsOf
+  in-projections (tree h b r) a =
+      let q = parts h b r a in
+      All-append IsOf (found_or (f h b) (projections f b)) (projections f r) (at (f h b) refl q.0 (in-projections b q.0)) (in-projections r q.1)
+    where
+      at : (o : Option Projection) → f h b ≡ o → P b → All IsOf (projections f b) → All IsOf (found_or o (projections f b))
+      at None e x more = more
+      at (Some p) e x more = All-cons IsOf p [] (subst P (sym (own h b p e)) x) (All-nil IsOf)
+
+free-parts : (mark : Head → Bool) (h : Head) (b r : Forest) → holds mark (tree h b r) ≡ false → (holds mark b ≡ false) × (holds mark r ≡ false)
+free-parts mark h b r e = at (mark h) (holds mark b) (holds mark r) e
+  where
+    at : (x y z : Bool) → x || (y || z) ≡ false → (y ≡ false) × (z ≡ false)
+    at true y z e = absurd cc
+    at false true z e = absurd cc
+    at false false z e = (refl, e)
+
+pickable : (n : ℕ) (object : Tree) (bs : List Tree) (c : Tree) → IsRuleTree n c → All (IsPickable n) (projections (own_projection object bs) c.children)
+pickable n object bs c i =
+    in-projections (λ ts. (holds is_param ts ≡ false) × IsBelow n ts)
+    (λ h b r a. let x = free-parts is_param h b r a.0 in let y = free-parts (is_from n) h b r a.1 in ((x.0, y.0), (x.1, y.1)))
+    (own_projection object bs) (own-arguments object bs) c.children (below-free is_param c i.no_parameter, below-free (is_from n) c i.below)
+
+all-pickable : (n : ℕ) (object : Tree) (bs cs : List Tree) → All (IsRuleTree n) cs → All (IsPickable n) (projections_in (own_projection object bs) cs)
+all-pickable n object bs [] a = All-nil (IsPickable n)
+all-pickable n object bs (c ∷ cs) a =
+    All-append (IsPickable n) (projections (own_projection object bs) c.children) (projections_in (own_projection object bs) cs)
+    (pickable n object bs c (All-head (IsRuleTree n) c cs a)) (all-pickable n object bs cs (All-tail (IsRuleTree n) c cs a))
+
+-- Clauses whose projections are replaced, one after the other.
+
+module _ (J : Judge) (e : Env) (object : Tree) (bs : List Tree) where
+  abbrev own : Finds
+  own = own_projection object bs
+
+  picks-join : (S T U : State) (ps qs : List Projection) (us vs : List Tree) → Picks J e bs S ps us T → Picks J e bs T qs vs U → Picks J e bs S (ps ++ qs) (us ++ vs) U
+  picks-join S T U ps qs us vs Picks.none_left r = r
+  picks-join S T U ps qs us vs (Picks.one {T = R} {ps = os} {us = ws} i more) r = Picks.one i (picks-join R T U os qs ws vs more r)
+
+  terms-of : (S T : State) (cs ds : List Tree) → AreReplaced J e object bs S cs ds T → List Tree
+  terms-of S T cs ds AreReplaced.none_left = []
+  terms-of S U cs ds (AreReplaced.one {T = T} {cs = xs} {ds = ys} i r) = i.terms ++ terms-of T U xs ys r
+
+  all-picks : (S T : State) (cs ds : List Tree) (r : AreReplaced J e object bs S cs ds T) → Picks J e bs S (projections_in own cs) (terms-of S T cs ds r) T
+  unfolding terms-of
+  all-picks S T cs ds AreReplaced.none_left = Picks.none_left
+  all-picks S U cs ds (AreReplaced.one {T = T} {c = c} {cs = xs} {ds = ys} i r) =
+      picks-join S T U (projections own c.children) (projections_in own xs) i.terms (terms-of T U xs ys r) i.picked (all-picks T U xs ys r)
+
+  module _ (laws : Lawful J) (n : ℕ) (env : IsBelow n e) (bounds : All (IsRuleTree n) bs) where
+    picks-closed : (S T : State) (ps : List Projection) (us : List Tree) → n ≤ length S.variables → All (IsPickable n) ps → Picks J e bs S ps us T → AreClosed us
+    picks-closed S T ps us l a Picks.none_left = All-nil (λ u. escapes 0 (alone u) ≡ false)
+    picks-closed S U ps us l a (Picks.one {T = T} {p = p} {ps = qs} {u = u} {us = vs} i r) =
+        let here = All-head (IsPickable n) p qs a in
+        let t = tried-are J laws.alike_judged_alike e S p i.tried (fits J laws e n env bs bounds S p l here) in
+        let bound = found-fits J laws e n env bs bounds (λ c. bound_matches J e S c p) i.bound t.1 in
+        let longer = after-pick J laws e n env bs bounds S T p u l here i in
+        All-cons (λ v. escapes 0 (alone v) ≡ false) u vs (ap (λ (v : Tree). escapes 0 (alone v)) i.is ∙ term-closed i.now i.bound bound.is_closed)
+        (picks-closed T U qs vs (let k = longer.0 in omega (arith, l, k)) (All-tail (IsPickable n) p qs a) r)
+
+    goals-are : (S T : State) (cs ds : List Tree) (r : AreReplaced J e object bs S cs ds T) → n ≤ length S.variables → All (IsRuleTree n) cs → (ls : Forest) (vs ws : List Tree)
+        → map (substituted_tree (join ls (row_of (vs ++ terms-of S T cs ds r ++ ws)))) (named_clauses own (count ls + length vs) cs) ≡ ds
+    unfolding terms-of
+    goals-are S T cs ds AreReplaced.none_left l a ls vs ws = refl
+    goals-are S U cs ds (AreReplaced.one {T = T} {c = c} {d = d} {cs = xs} {ds = ys} i r) l a ls vs ws =
+        let us = i.terms in
+        let rest = terms-of T U xs ys r in
+        let m = length (projections own c.children) in
+        let here = All-head (IsRuleTree n) c xs a in
+        let ready = pickable n object bs c here in
+        let many : length us ≡ m = picks-length J laws e n env bs bounds S T (projections own c.children) us i.picked in
+        let w : Stands J laws e n env bs bounds S none = record { there = l; locals = refl } in
+        let later = (all-stand J laws e n env bs bounds S T none (projections own c.children) us w ready i.picked).there in
+        let row : vs ++ (us ++ rest) ++ ws ≡ vs ++ us ++ (rest ++ ws) = ap (λ (xs : List Tree). xs ++ ws) (sym (append_assoc vs us rest)) ∙ append_assoc (vs ++ us) rest ws in
+        let first : substituted_tree (join ls (row_of (vs ++ (us ++ rest) ++ ws))) (filled_clause own (names_from (count ls + length vs) m) c) ≡ d =
+        ap (λ (xs : List Tree). substituted_tree (join ls (row_of xs)) (filled_clause own (names_from (count ls + length vs) m) c)) row
+        ∙ (ap (λ k. substituted_tree (join ls (row_of (vs ++ us ++ (rest ++ ws)))) (filled_clause own (names_from (count ls + length vs) k) c)) (sym many)
+        ∙ (filled-names-among own ls vs us (rest ++ ws) c here.no_parameter (picks-closed S T (projections own c.children) us l ready i.picked) ∙ sym i.is)) in
+        let from : count ls + length vs + m ≡ count ls + length (vs ++ us) = let k = length-append vs us in omega (arith, k, many) in
+        let more : map (substituted_tree (join ls (row_of (vs ++ (us ++ rest) ++ ws)))) (named_clauses own (count ls + length vs + m) xs) ≡ ys =
+        ap (λ (zs : List Tree). map (substituted_tree (join ls (row_of (zs ++ ws)))) (named_clauses own (count ls + length vs + m) xs)) (sym (append_assoc vs us rest))
+        ∙ (ap (λ k. map (substituted_tree (join ls (row_of (vs ++ us ++ rest ++ ws)))) (named_clauses own k xs)) from
+        ∙ goals-are T U xs ys r later (All-tail (IsRuleTree n) c xs a) ls (vs ++ us) ws) in
+        ap (λ t. t ∷ map (substituted_tree (join ls (row_of (vs ++ (us ++ rest) ++ ws)))) (named_clauses own (count ls + length vs + m) xs)) first ∙ ap (λ ts. d ∷ ts) more
+
+  -- What is asked for is what the rule comes to.
+  pub asked-by-rule : Lawful J → (S T : State) (cs ds : List Tree) → AreReplaced J e object bs S cs ds T → IsAskedByRule J e object bs S cs ds T
+  asked-by-rule laws S T cs ds r = record {
+    terms = terms-of S T cs ds r;
+    comes = λ n ls i more end b c. all-come J laws e n i.env bs i.bounds S T ls (projections_in own cs) (terms-of S T cs ds r) (record { there = i.there; locals = i.locals })
+        (all-pickable n object bs cs i.required) (all-picks S T cs ds r) more end b c;
+    goals = λ n ls i.
+        ap (λ (us : List Tree). map (substituted_tree (join ls (row_of us))) (named_clauses own (count ls) cs)) (sym (append-nil (terms-of S T cs ds r)))
+        ∙ (ap (λ k. map (substituted_tree (join ls (row_of (terms-of S T cs ds r ++ [])))) (named_clauses own k cs)) (let s : count ls ≡ count ls + 0 = omega arith in s)
+        ∙ goals-are laws n i.env i.bounds S T cs ds r i.there i.required ls [] []);
+  }
+
+  projections-join : (xs ys : List Tree) → projections_in own (xs ++ ys) ≡ projections_in own xs ++ projections_in own ys
+  projections-join [] ys = refl
+  projections-join (x ∷ xs) ys = ap (λ ps. projections own x.children ++ ps) (projections-join xs ys) ∙ sym (append_assoc (projections own x.children) (projections_in own xs) (projections_in own ys))
+
+  -- So is an ambiguity.
+  pub unknown-by-rule : Lawful J → (S T : State) (cs : List Tree) → AreStuck J e object bs S cs T → IsUnknownByRule J e object bs S cs T
+  unknown-by-rule laws S T cs r = λ n ls i more end b c.
+      let s = r.stuck in
+      let before = projections_in own r.before in
+      let first = terms-of S r.last r.before r.replaced r.first in
+      let whole : projections_in own cs ≡ (before ++ s.before) ++ s.projection ∷ (s.after ++ projections_in own r.after) =
+      ap (projections_in own) r.are
+      ∙ (projections-join r.before (r.clause ∷ r.after)
+      ∙ (ap (λ ps. before ++ (ps ++ projections_in own r.after)) s.are
+      ∙ (ap (λ ps. before ++ ps) (append_assoc s.before (s.projection ∷ s.after) (projections_in own r.after)) ∙ sym (append_assoc before s.before (s.projection ∷ (s.after ++ projections_in own r.after)))))) in
+      let ready = subst (All (IsPickable n)) whole (all-pickable n object bs cs i.required) in
+      ap (λ ps. comes_to J e (place_at S ls) (picks_of (count ls) bs ps ++ more) end) whole
+      ∙ all-stuck J laws e n i.env bs i.bounds S s.last T ls (before ++ s.before) s.projection (s.after ++ projections_in own r.after) (first ++ s.terms) (record { there = i.there; locals = i.locals }) ready
+      (picks-join S r.last s.last before s.before first s.terms (all-picks S r.last r.before r.replaced r.first) s.picked) s.ambiguous more end b c

@@ -9,7 +9,7 @@ use Rattle.candidate_ir.specs.declared.ir.kinds.BoundVar.{BoundVar}
 use Rattle.candidate_ir.specs.declared.ir.kinds.RegionKind.TheVariants as R
 use Rattle.candidate_ir.specs.declared.ir.kinds.VarKind.{VarKind}
 use Rattle.candidate_ir.specs.declared.ir.kinds.VarKind.TheVariants as V
-use Rattle.candidate_ir.specs.Trees.{Kind, tree, none, Tree}
+use Rattle.candidate_ir.specs.Trees.{Kind, Forest, tree, none, Tree}
 use Rattle.candidate_ir.specs.Folding.{fold, leaf}
 use Rattle.candidate_ir.specs.Opening.{is_of, error_of, bound_head, nearer}
 use Rattle.candidate_ir.specs.Supers.{after_first}
@@ -43,3 +43,8 @@ named_clause first c = record {
 abbrev pub names_from : ℕ → ℕ → List Tree
 names_from first zero = []
 names_from first (suc n) = leaf (H.Param first) ∷ names_from (suc first) n
+
+-- trees in a row
+abbrev pub row_of : List Tree → Forest
+row_of [] = none
+row_of (t ∷ ts) = tree t.head t.children (row_of ts)

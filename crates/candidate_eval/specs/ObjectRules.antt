@@ -8,7 +8,7 @@ use Rattle.candidate_eval.specs.Certainties.{AMBIGUOUS}
 use Rattle.candidate_eval.specs.Characterization.{bound_kinds}
 use Rattle.candidate_eval.specs.Judging.{Place, comes_to, asked, put_in_tree, source_of}
 use Rattle.candidate_eval.specs.Mentions.{IsBelow, StepsBelow, EndingBelow}
-use Rattle.candidate_eval.specs.Naming.{named_clause, names_from}
+use Rattle.candidate_eval.specs.Naming.{named_clause, names_from, row_of}
 use Rattle.candidate_eval.specs.Objects.{Projection, arguments_in, is_about, term_in}
 use Rattle.candidate_eval.specs.Replacing.{Finds, filled_clause, own_projection, projections}
 use Rattle.candidate_eval.specs.Rules.{Match, Require, Step, pick, Ending}
@@ -44,11 +44,6 @@ named_clauses f first [] = []
 named_clauses f first (c ∷ cs) =
     let n = length (projections f c.children) in
     filled_clause f (names_from first n) c ∷ named_clauses f (first + n) cs
-
--- trees in a row
-abbrev pub row_of : List Tree → Forest
-row_of [] = none
-row_of (t ∷ ts) = tree t.head t.children (row_of ts)
 
 -- A tree that a rule may hold: no name of a rule stands in it, no bound variable escapes from it, and it mentions the first n variables
 -- alone.

@@ -10,7 +10,7 @@ use Rattle.candidate_eval.specs.Replacing.{AreReplaced, AreStuck, clauses_at}
 use Rattle.candidate_eval.specs.Required.{own_bounds}
 use Rattle.candidate_eval.proofs.ObjectCandidates.{are-replaced-at, are-stuck-at, goals-are, goals-fit}
 use Rattle.candidate_eval.proofs.Objects.{env-kept}
-use Rattle.candidate_eval.proofs.ObjectRules.{stuck-comes-pub}
+use Rattle.candidate_eval.proofs.ObjectRules.{asked-by-rule, unknown-by-rule}
 use Rattle.candidate_eval.proofs.structural.object_candidate.predicates_for_object_candidate.Goals as goal
 
 pub replaced-requires-clause-env : goal.replaced-requires-clause-env
