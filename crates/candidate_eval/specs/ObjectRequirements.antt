@@ -19,6 +19,7 @@ use Rattle.candidate_ir.specs.Nodes.{error_tree}
 use Rattle.candidate_ir.specs.Supers.{after_first}
 use Rattle.candidate_ir.specs.Trees.{Forest, none, tree, Tree}
 use Rattle.candidate_eval.specs.Objects.{fresh_instance, with_instance}
+use Rattle.candidate_eval.specs.ObjectRules.{IsAskedByRule, IsUnknownByRule}
 use Rattle.candidate_eval.specs.Replacing.{AreReplaced, AreStuck}
 use Rattle.candidate_eval.specs.Required.{AreRequirements, own_bounds}
 use Rattle.candidate_eval.specs.States.{Env, State, Goal, Judge}
@@ -57,12 +58,16 @@ pub record AreAsked (J : Judge) (e : Env) (c : Context) (S : State) (i : ℕ) (r
   pub replaced : List Tree
   pub are_replaced : AreReplaced J e (first_tree (fresh_arguments S reference)) (own_bounds (first_tree (fresh_arguments S reference)) bounds) (with_instance S reference) required replaced T
   pub are : goals ≡ map (goal_in e) replaced
+  -- and as the data of a rule
+  pub as_rule : IsAskedByRule J e (first_tree (fresh_arguments S reference)) (own_bounds (first_tree (fresh_arguments S reference)) bounds) (with_instance S reference) required replaced T
 
 -- Too little is known of one of the projections; the state then.
 pub record AreUnknown (J : Judge) (e : Env) (c : Context) (S : State) (i : ℕ) (reference : Tree) (bounds : Forest) (T : State) : Type 0 where
   pub required : List Tree
   pub requirements : AreRequirements c i (fresh_arguments S reference) required
   pub stuck : AreStuck J e (first_tree (fresh_arguments S reference)) (own_bounds (first_tree (fresh_arguments S reference)) bounds) (with_instance S reference) required T
+  -- and as the data of a rule
+  pub as_rule : IsUnknownByRule J e (first_tree (fresh_arguments S reference)) (own_bounds (first_tree (fresh_arguments S reference)) bounds) (with_instance S reference) required T
 
 -- Clauses as goals in an environment.
 abbrev pub goals_in : ParamEnv → List Clause → List (OfNumbers Clause)
