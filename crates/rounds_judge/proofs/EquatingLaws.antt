@@ -1,5 +1,5 @@
 -- The laws of an evaluator on what an equation leaves, of equations that are solved by looks.
-use Rattle.std.proofs.Common.{◌≡◌, List, [], Option, Some, None, ap, subst}
+use Rattle.std.proofs.Common.{◌≡◌, ◌≤◌, List, [], Option, Some, None, length, ap, subst, arith}
 use Rattle.std.proofs.lemmas.List.Elements.{All-nil}
 use Rattle.candidate_ir.specs.Trees.{Forest}
 use Rattle.candidate_eval.specs.States.{State, Pending}
@@ -8,7 +8,7 @@ use Rattle.candidate_eval.specs.Lawful.{LeavesGoals}
 use Rattle.rounds_judge.specs.Listed.{Listing}
 use Rattle.rounds_judge.specs.Equating.{equated, without_goals}
 use Rattle.rounds_judge.specs.Standing.{IsListing}
-use Rattle.rounds_judge.proofs.Looks.{equated_follows, equated_pending}
+use Rattle.rounds_judge.proofs.Looks.{equated_follows, equated_pending, equated_variables}
 
 pub record NoGoals (o : Option State) (gs : List Pending) (T : State) : Type 0 where
   pub is : o ≡ Some T
@@ -20,6 +20,9 @@ no_goals (Some R) gs T e = record { is = ap Some (ap (λ (q : List Pending × St
 
 pub equating_keeps_pending : (l : Listing) (S T : State) (a b : Forest) (gs : List Pending) → without_goals (equated l S a b) ≡ Some (gs, T) → T.pending ≡ S.pending
 equating_keeps_pending l S T a b gs e = equated_pending l S T a b (no_goals (equated l S a b) gs T e).is
+
+pub equating_keeps_variables : (l : Listing) (S T : State) (a b : Forest) (gs : List Pending) → without_goals (equated l S a b) ≡ Some (gs, T) → length S.variables ≤ length T.variables
+equating_keeps_variables l S T a b gs e = let same = equated_variables l S T a b (no_goals (equated l S a b) gs T e).is in omega (arith, same)
 
 pub equating_follows : (l : Listing) → IsListing l → (S T : State) (L : Live) (a b : Forest) (gs : List Pending) → IsSound S L → ValuesFit S → AreTreesOf S L a → AreTreesOf S L b
     → without_goals (equated l S a b) ≡ Some (gs, T) → LeavesGoals S T L gs

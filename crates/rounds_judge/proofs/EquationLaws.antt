@@ -6,7 +6,7 @@ use Rattle.candidate_eval.specs.Lawful.{EquationLaws}
 use Rattle.rounds_judge.specs.Listed.{Listing}
 use Rattle.rounds_judge.specs.Equating.{equated, without_goals}
 use Rattle.rounds_judge.specs.Standing.{IsListing}
-use Rattle.rounds_judge.proofs.EquatingLaws.{no_goals, equating_keeps_pending, equating_follows}
+use Rattle.rounds_judge.proofs.EquatingLaws.{no_goals, equating_keeps_pending, equating_keeps_variables, equating_follows}
 use Rattle.rounds_judge.proofs.Solutions.{equated_equal, equated_general, unequated_unsolved}
 
 no_answer : (o : Option State) → without_goals o ≡ None → o ≡ None
@@ -25,6 +25,7 @@ module _ (l : Listing) (listing : IsListing l) (J : Judge) (answers : (S : State
     equation_equates = λ S T L e a b gs sides x y h. equated_equal l listing S L a b sides T (accepted S T e a b gs h);
     equation_is_most_general = λ S T L M e a b gs sides x y h within wide s solves. equated_general l listing S L a b sides T M (accepted S T e a b gs h) within wide s solves;
     refused_has_no_solution = λ S L e a b sides h s solves. unequated_unsolved l listing S L a b sides (refused S e a b h) s solves;
+    equating_keeps_variables = λ S T e a b gs h. equating_keeps_variables l S T a b gs (sym (answers S e a b) ∙ h);
     equating_keeps_pending = λ S T e a b gs h. equating_keeps_pending l S T a b gs (sym (answers S e a b) ∙ h);
     equating_follows = λ S T L e a b gs sound fits env left right h. equating_follows l listing S T L a b gs sound fits left right (sym (answers S e a b) ∙ h);
   }

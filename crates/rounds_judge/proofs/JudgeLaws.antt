@@ -50,6 +50,7 @@ module _ (w : World) (local : ℕ) (l : Listing) (os : List Tree) where
   alike_judged_alike = record {
     alike_same = λ S. refl;
     alike_along = λ S T U p q. q ∙ p;
+    alike_aside = λ S T e. ap (λ R. with_pending R []) e;
     alike_looks = λ S T e. subst (LooksAlike S) (sym e) (looks_alike S);
     alike_places = λ S T ls e b. (e, refl);
     same_answers = λ n p q e steps end s a b c. ap (λ x. comes_to J e x steps end) (same_place p q s);

@@ -23,7 +23,7 @@ use Rattle.rounds_judge.specs.Equating.{Pair, Visit, Done, Refused, Left, outliv
 use Rattle.rounds_judge.specs.Standing.{IsListing, PairStands, Stands}
 use Rattle.rounds_judge.proofs.Marks.{whole, escape_parts, escape_whole}
 use Rattle.rounds_judge.proofs.Later.{known_later, later_along, later_itself, later_universe, sound_universe}
-use Rattle.rounds_judge.proofs.Bound.{CanTake, bound_sound, bound_later}
+use Rattle.rounds_judge.proofs.Bound.{CanTake, bound_sound, bound_later, length_bound}
 use Rattle.rounds_judge.proofs.Current.{current_known, current_rests, current_closed, can_take}
 
 -- What a look comes to
@@ -88,38 +88,40 @@ only_regions S r s = at (same_head r.head s.head)
     at true = (S.regions, refl)
     at false = (S.regions ++ outlives r s ∷ outlives s r ∷ [], refl)
 
--- What is pending stays
+-- What a value, regions and a fresh universe leave as it is stays: what is pending does, and how many variables there are.
 
-entered_pending : (S : State) (h : Head) (below : Forest) → (entered S h below).pending ≡ S.pending
-entered_pending S h below = at (has_binder h && has_variables below)
-  where
-    at : (b : Bool) → (if b then with_universe S else S).pending ≡ S.pending
-    at true = refl
-    at false = refl
+module _ {X : Type 0} (what : State → X) (by_value : (S : State) (v : Variable) (t : Tree) → what (bound S v t) ≡ what S) (by_regions : (S : State) (rs : List Tree) → what (with_regions S rs) ≡ what S)
+    (by_universe : (S : State) → what (with_universe S) ≡ what S) where
+  entered_stays : (S : State) (h : Head) (below : Forest) → what (entered S h below) ≡ what S
+  entered_stays S h below = at (has_binder h && has_variables below)
+    where
+      at : (b : Bool) → what (if b then with_universe S else S) ≡ what S
+      at true = by_universe S
+      at false = refl
 
-pub visited_pending : (l : Listing) (S T : State) (ps rest : List Pair) → visited l S ps ≡ Left T rest → T.pending ≡ S.pending
-visited_pending l S T [] rest e = cc
-visited_pending l S T (p ∷ more) rest e = rows p.left p.right e
-  where
-    rows : (a b : Forest) → visited l S (record { scope = p.scope; left = a; right = b } ∷ more) ≡ Left T rest → T.pending ≡ S.pending
-    rows none none e = same_left (λ R ps. R.pending ≡ S.pending) S T more rest e refl
-    rows none (tree g b s) e = cc
-    rows (tree h a r) none e = cc
-    rows (tree h a r) (tree g b s) e =
-        meets l S p.scope (current l S (record { head = h; children = a })) (current l S (record { head = g; children = b })) (record { scope = p.scope; left = r; right = s } ∷ more)
-        (λ R ps. R.pending ≡ S.pending) (λ v i m. refl) (λ v i m. refl)
-        (λ n. ap (λ (R : State). R.pending) (only_regions S (placed_tree p.scope (current l S (record { head = h; children = a }))) (placed_tree p.scope (current l S (record { head = g; children = b })))).1)
-        (λ n i. entered_pending S (current l S (record { head = h; children = a })).head (current l S (record { head = h; children = a })).children) T rest e
+  visited_stays : (l : Listing) (S T : State) (ps rest : List Pair) → visited l S ps ≡ Left T rest → what T ≡ what S
+  visited_stays l S T [] rest e = cc
+  visited_stays l S T (p ∷ more) rest e = rows p.left p.right e
+    where
+      rows : (a b : Forest) → visited l S (record { scope = p.scope; left = a; right = b } ∷ more) ≡ Left T rest → what T ≡ what S
+      rows none none e = same_left (λ R ps. what R ≡ what S) S T more rest e refl
+      rows none (tree g b s) e = cc
+      rows (tree h a r) none e = cc
+      rows (tree h a r) (tree g b s) e =
+          meets l S p.scope (current l S (record { head = h; children = a })) (current l S (record { head = g; children = b })) (record { scope = p.scope; left = r; right = s } ∷ more)
+          (λ R ps. what R ≡ what S) (λ v i m. by_value S v (value_for l S p.scope (current l S (record { head = g; children = b })))) (λ v i m. by_value S v (value_for l S p.scope (current l S (record { head = h; children = a }))))
+          (λ n. let o = only_regions S (placed_tree p.scope (current l S (record { head = h; children = a }))) (placed_tree p.scope (current l S (record { head = g; children = b }))) in ap what o.1 ∙ by_regions S o.0)
+          (λ n i. entered_stays S (current l S (record { head = h; children = a })).head (current l S (record { head = h; children = a })).children) T rest e
 
-pub looked_pending : (l : Listing) (n : ℕ) (S T : State) (ps : List Pair) → looked l n S ps ≡ Some T → T.pending ≡ S.pending
-looked_pending l zero S T ps e = cc
-looked_pending l (suc n) S T ps e = at (visited l S ps) refl (λ R rest. looked_pending l n R T rest) e
-  where
-    at : (w : Visit) → visited l S ps ≡ w → ((R : State) (rest : List Pair) → looked l n R rest ≡ Some T → T.pending ≡ R.pending)
-        → elim w [ Done ↦ Some S | Refused ↦ None | Left R more ↦ looked l n R more ] ≡ Some T → T.pending ≡ S.pending
-    at Done f ih e = ap (λ (R : State). R.pending) (let is : T ≡ S = cc in is)
-    at Refused f ih e = cc
-    at (Left R rest) f ih e = ih R rest e ∙ visited_pending l S R ps rest f
+  looked_stays : (l : Listing) (n : ℕ) (S T : State) (ps : List Pair) → looked l n S ps ≡ Some T → what T ≡ what S
+  looked_stays l zero S T ps e = cc
+  looked_stays l (suc n) S T ps e = at (visited l S ps) refl (λ R rest. looked_stays l n R T rest) e
+    where
+      at : (w : Visit) → visited l S ps ≡ w → ((R : State) (rest : List Pair) → looked l n R rest ≡ Some T → what T ≡ what R)
+          → elim w [ Done ↦ Some S | Refused ↦ None | Left R more ↦ looked l n R more ] ≡ Some T → what T ≡ what S
+      at Done f ih e = ap what (let is : T ≡ S = cc in is)
+      at Refused f ih e = cc
+      at (Left R rest) f ih e = ih R rest e ∙ visited_stays l S R ps rest f
 
 -- What a look keeps
 
@@ -327,4 +329,10 @@ equated_follows l listing S T L a b sound fits left right e =
 pub equated_pending : (l : Listing) (S T : State) (a b : Forest) → equated l S a b ≡ Some T → T.pending ≡ S.pending
 equated_pending l S T a b e =
     let ps : List Pair = record { scope = []; left = a; right = b } ∷ [] in
-    looked_pending l (looks l S ps) S T ps e
+    looked_stays (λ (R : State). R.pending) (λ S v t. refl) (λ S rs. refl) (λ S. refl) l (looks l S ps) S T ps e
+
+-- No variable goes away.
+pub equated_variables : (l : Listing) (S T : State) (a b : Forest) → equated l S a b ≡ Some T → length T.variables ≡ length S.variables
+equated_variables l S T a b e =
+    let ps : List Pair = record { scope = []; left = a; right = b } ∷ [] in
+    looked_stays (λ (R : State). length R.variables) length_bound (λ S rs. refl) (λ S. refl) l (looks l S ps) S T ps e
