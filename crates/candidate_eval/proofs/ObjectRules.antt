@@ -380,10 +380,11 @@ module _ (J : Judge) (laws : Lawful J) (e : Env) (n : ℕ) (env : IsBelow n e) (
       let second = instance-longer R bound in
       let third = longer-equated (J.equated (with_instance R bound) e (arguments_in (fresh_instance R bound)) p.arguments) (with_instance R bound) T
       (λ q h. laws.equations.equating_keeps_variables (with_instance R bound) q.1 e (arguments_in (fresh_instance R bound)) p.arguments q.0 h) picked-by.equated in
-      let below = below-more n (length R.variables) (alone bound) (omega (arith, l, first)) (found-fits (λ c. bound_matches J e S c p) bound t.1).below in
-      (omega (arith, first, second, third),
-      subst (λ (v : Tree). IsBelow (length T.variables) (alone v)) (sym picked-by.is)
-      (below-more (length (with_instance R bound).variables) (length T.variables) (alone (term_in (fresh_instance R bound))) third (term-below R bound below)))
+      let below = below-more n (length R.variables) (alone bound) (omega (arith, l, first)) (found-fits (λ c. bound_matches J e S c p) bound t.1).below in (
+        omega (arith, first, second, third),
+        subst (λ (v : Tree). IsBelow (length T.variables) (alone v)) (sym picked-by.is)
+            (below-more (length (with_instance R bound).variables) (length T.variables) (alone (term_in (fresh_instance R bound))) third (term-below R bound below)),
+      )
 
   below-join : (m : ℕ) (a b : Forest) → IsBelow m a → IsBelow m b → IsBelow m (join a b)
   below-join m a b x y = holds-join (is_from m) a b ∙ (ap (λ z. z || holds (is_from m) b) x ∙ y)

@@ -11,6 +11,10 @@ use Rattle.candidate_ir.specs.declared.ir.kinds.VarKind.{VarKind}
 use Rattle.candidate_ir.specs.Trees.{Kind, Forest, Tree}
 use Rattle.candidate_ir.specs.Context.{Context, Grows, parameter_kind}
 use Rattle.candidate_ir.specs.Words.{IsParamEnv, IsClause, env_forest, clause_tree, kind_tree}
+use Rattle.candidate_ir.specs.declared.ir.stop.Stop.{Stop}
+use Rattle.candidate_ir.specs.declared.ir.stop.Stop.TheVariants as S
+use Rattle.candidate_eval.specs.declared.eval.refusal.NoSolutionOrStop.{NoSolutionOrStop}
+use Rattle.candidate_eval.specs.declared.eval.refusal.NoSolutionOrStop.TheVariants as N
 use Rattle.candidate_eval.specs.declared.eval.context.ProbeKind.{ProbeKind}
 use Rattle.candidate_eval.specs.declared.eval.context.ProbeKind.TheVariants as P
 use Rattle.candidate_eval.specs.States.{Env, State, Goal, Pending, Judge, with_pending, with_universe, placeholders, value_at, next}
@@ -75,3 +79,17 @@ with_rigid S (k ∷ ks) = with_universe S
 -- the trees of alias types
 abbrev pub alias_trees : List Tree → List AliasTy → List Tree
 alias_trees ts xs = map (λ a. kind_tree ts (K.Alias a)) xs
+
+-- The stops of an evaluator: a growth was refused, numbers or heights ran out, or its own limit was reached. The others come of walks that
+-- no evaluator takes.
+
+abbrev pub IsEvaluatorStop : Stop → Type 0
+IsEvaluatorStop S.Memory = Unit {0}
+IsEvaluatorStop S.NodesFull = Unit {0}
+IsEvaluatorStop S.EvaluatorLimit = Unit {0}
+IsEvaluatorStop _ = ⊥
+
+-- a refusal is none
+abbrev pub IsEvaluatorRefusal : NoSolutionOrStop → Type 0
+IsEvaluatorRefusal N.NoSolution = Unit {0}
+IsEvaluatorRefusal (N.Stop s) = IsEvaluatorStop s

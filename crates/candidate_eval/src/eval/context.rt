@@ -8,7 +8,7 @@ ghost use Rattle.candidate_ir.specs.Substitutions.{alone};
 ghost use Rattle.candidate_ir.specs.Trees.{Tree};
 ghost use Rattle.candidate_ir.specs.Words.{IsTy, IsConst, IsRegion, IsArgs, IsClause, IsParamEnv, KindFits, ty_tree, const_tree, region_tree, args_forest, clause_tree, env_forest};
 ghost use Rattle.candidate_eval.specs.Calls.{depth_limit};
-ghost use Rattle.candidate_eval.specs.Evaluators.{Keeps, IsGoal, pending_of, pendings_of, with_goals_of, accepted, resolved_root, begun, kinds_listed, rigid, with_rigid, alias_trees};
+ghost use Rattle.candidate_eval.specs.Evaluators.{Keeps, IsGoal, pending_of, pendings_of, with_goals_of, accepted, resolved_root, begun, kinds_listed, rigid, with_rigid, alias_trees, IsEvaluatorStop, IsEvaluatorRefusal};
 ghost use Rattle.candidate_eval.specs.Lawful.{Lawful};
 ghost use Rattle.candidate_eval.specs.ResponseTrees.{IsResponse, response_of};
 ghost use Rattle.candidate_eval.specs.States.{State, Judge, added, fresh_variables, with_fresh_variables, resolved, resolved_tree};
@@ -34,7 +34,8 @@ pub enum ProbeKind {
 
 /// An evaluator.
 ///
-/// A call that answers a stop leaves a state alike the one before: the same universes, values, regions and pending goals.
+/// A call that answers a stop leaves a state alike the one before: the same universes, values, regions and pending goals. Its stop is
+/// `Memory`, `NodesFull`, or `EvaluatorLimit`: others come of walks that no evaluator takes.
 pub trait EvalCtxt: InferCtxtLike {
     /// What `begin_probe` gives and `end_probe` takes. It is not `Drop`, so it must be spent.
     type Probe;
@@ -64,7 +65,8 @@ pub trait EvalCtxt: InferCtxtLike {
         ensures kept { Keeps fixed probes Self.context self.old self.new }
         ensures same { state self.new ≡ state self.old }
         ensures sort { IfOk result (λ x. IsTy (Self.context self.new).trees x) }
-        ensures tree { IfOk result (λ x. ty_tree (Self.context self.new).trees x ≡ resolved_tree (state self.old) (ty_tree (Self.context self.old).trees ty)) };
+        ensures tree { IfOk result (λ x. ty_tree (Self.context self.new).trees x ≡ resolved_tree (state self.old) (ty_tree (Self.context self.old).trees ty)) }
+        ensures cause { IfErr result IsEvaluatorStop };
 
     /// The constant, with all values put in.
     fn resolve_const_if_possible(&mut self, constant: Const) -> Result<Const, Stop>
@@ -72,7 +74,8 @@ pub trait EvalCtxt: InferCtxtLike {
         ensures kept { Keeps fixed probes Self.context self.old self.new }
         ensures same { state self.new ≡ state self.old }
         ensures sort { IfOk result (λ x. IsConst (Self.context self.new).trees x) }
-        ensures tree { IfOk result (λ x. const_tree (Self.context self.new).trees x ≡ resolved_tree (state self.old) (const_tree (Self.context self.old).trees constant)) };
+        ensures tree { IfOk result (λ x. const_tree (Self.context self.new).trees x ≡ resolved_tree (state self.old) (const_tree (Self.context self.old).trees constant)) }
+        ensures cause { IfErr result IsEvaluatorStop };
 
     /// The list, with all values put in.
     fn resolve_args_if_possible(&mut self, list: Args) -> Result<Args, Stop>
@@ -80,7 +83,8 @@ pub trait EvalCtxt: InferCtxtLike {
         ensures kept { Keeps fixed probes Self.context self.old self.new }
         ensures same { state self.new ≡ state self.old }
         ensures sort { IfOk result (λ x. IsArgs (Self.context self.new).trees x) }
-        ensures tree { IfOk result (λ x. args_forest (Self.context self.new).trees x ≡ resolved (state self.old) (args_forest (Self.context self.old).trees list)) };
+        ensures tree { IfOk result (λ x. args_forest (Self.context self.new).trees x ≡ resolved (state self.old) (args_forest (Self.context self.old).trees list)) }
+        ensures cause { IfErr result IsEvaluatorStop };
 
     /// The clause, with all values put in.
     fn resolve_clause_if_possible(&mut self, clause: Clause) -> Result<Clause, Stop>
@@ -88,7 +92,8 @@ pub trait EvalCtxt: InferCtxtLike {
         ensures kept { Keeps fixed probes Self.context self.old self.new }
         ensures same { state self.new ≡ state self.old }
         ensures sort { IfOk result (λ x. IsClause (Self.context self.new).trees x) }
-        ensures tree { IfOk result (λ x. clause_tree (Self.context self.new).trees x ≡ resolved_tree (state self.old) (clause_tree (Self.context self.old).trees clause)) };
+        ensures tree { IfOk result (λ x. clause_tree (Self.context self.new).trees x ≡ resolved_tree (state self.old) (clause_tree (Self.context self.old).trees clause)) }
+        ensures cause { IfErr result IsEvaluatorStop };
 
     /// The region with its value in its place, if it is a variable that has one.
     fn eager_resolve_region(&self, region: Region) -> Region
@@ -104,7 +109,8 @@ pub trait EvalCtxt: InferCtxtLike {
         ensures sort { IfOk result (λ x. IsTy (Self.context self.new).trees x) }
         ensures ok { IfOk result (λ x. (judge (fixed self.old)).normalized (state self.old) (env_forest (Self.context self.old).trees env) (ty_tree (Self.context self.old).trees ty) ≡ Some (ty_tree (Self.context self.new).trees x, state self.new)) }
         ensures refused { IfErr result (λ e. e ≡ NoSolutionOrStop.NoSolution → (judge (fixed self.old)).normalized (state self.old) (env_forest (Self.context self.old).trees env) (ty_tree (Self.context self.old).trees ty) ≡ None) }
-        ensures undone { OnErr result ((judge (fixed self.old)).alike (state self.old) (state self.new)) };
+        ensures undone { OnErr result ((judge (fixed self.old)).alike (state self.old) (state self.new)) }
+        ensures cause { IfErr result IsEvaluatorRefusal };
 
     /// The constant in normal form. A refusal leaves the state alike, too.
     fn structurally_normalize_const(
@@ -118,7 +124,8 @@ pub trait EvalCtxt: InferCtxtLike {
         ensures sort { IfOk result (λ x. IsConst (Self.context self.new).trees x) }
         ensures ok { IfOk result (λ x. (judge (fixed self.old)).normalized (state self.old) (env_forest (Self.context self.old).trees env) (const_tree (Self.context self.old).trees constant) ≡ Some (const_tree (Self.context self.new).trees x, state self.new)) }
         ensures refused { IfErr result (λ e. e ≡ NoSolutionOrStop.NoSolution → (judge (fixed self.old)).normalized (state self.old) (env_forest (Self.context self.old).trees env) (const_tree (Self.context self.old).trees constant) ≡ None) }
-        ensures undone { OnErr result ((judge (fixed self.old)).alike (state self.old) (state self.new)) };
+        ensures undone { OnErr result ((judge (fixed self.old)).alike (state self.old) (state self.new)) }
+        ensures cause { IfErr result IsEvaluatorRefusal };
 
     /// Fresh variables of the newest universe, in the place of parameters of these kinds.
     fn fresh_args_for_item(&mut self, kinds: &[VarKind]) -> Result<Args, Stop>
@@ -126,7 +133,8 @@ pub trait EvalCtxt: InferCtxtLike {
         ensures sort { IfOk result (λ a. IsArgs (Self.context self.new).trees a) }
         ensures trees { IfOk result (λ a. args_forest (Self.context self.new).trees a ≡ fresh_variables (state self.old) (kinds_listed kinds.now)) }
         ensures made { OnOk result (state self.new ≡ with_fresh_variables (state self.old) (kinds_listed kinds.now)) }
-        ensures stopped { OnErr result ((judge (fixed self.old)).alike (state self.old) (state self.new)) };
+        ensures stopped { OnErr result ((judge (fixed self.old)).alike (state self.old) (state self.new)) }
+        ensures cause { IfErr result IsEvaluatorStop };
 
     /// Placeholders of a fresh universe, in the place of a binder's variables of these kinds. Without variables there is none.
     fn placeholder_args(&mut self, kinds: &[VarKind]) -> Result<Args, Stop>
@@ -134,7 +142,8 @@ pub trait EvalCtxt: InferCtxtLike {
         ensures sort { IfOk result (λ a. IsArgs (Self.context self.new).trees a) }
         ensures trees { IfOk result (λ a. args_forest (Self.context self.new).trees a ≡ rigid (state self.old) (kinds_listed kinds.now)) }
         ensures made { OnOk result (state self.new ≡ with_rigid (state self.old) (kinds_listed kinds.now)) }
-        ensures stopped { OnErr result ((judge (fixed self.old)).alike (state self.old) (state self.new)) };
+        ensures stopped { OnErr result ((judge (fixed self.old)).alike (state self.old) (state self.new)) }
+        ensures cause { IfErr result IsEvaluatorStop };
 
     /// Two lists are made equal, argument by argument. The goals that this leaves become pending.
     fn eq_args(&mut self, env: ParamEnv, a: Args, b: Args) -> Result<(), NoSolutionOrStop>
@@ -144,7 +153,8 @@ pub trait EvalCtxt: InferCtxtLike {
         ensures kept { Keeps fixed probes Self.context self.old self.new }
         ensures ok { IfOk result (λ _. accepted (judge (fixed self.old)) (state self.old) (env_forest (Self.context self.old).trees env) (args_forest (Self.context self.old).trees a) (args_forest (Self.context self.old).trees b) ≡ Some (state self.new)) }
         ensures refused { IfErr result (λ e. e ≡ NoSolutionOrStop.NoSolution → accepted (judge (fixed self.old)) (state self.old) (env_forest (Self.context self.old).trees env) (args_forest (Self.context self.old).trees a) (args_forest (Self.context self.old).trees b) ≡ None) }
-        ensures stopped { IfErr result (λ e. e ≢ NoSolutionOrStop.NoSolution → (judge (fixed self.old)).alike (state self.old) (state self.new)) };
+        ensures stopped { IfErr result (λ e. e ≢ NoSolutionOrStop.NoSolution → (judge (fixed self.old)).alike (state self.old) (state self.new)) }
+        ensures cause { IfErr result IsEvaluatorRefusal };
 
     /// Two types, constants or regions are made equal. The goals that this leaves become pending.
     fn eq(&mut self, env: ParamEnv, a: GenericArg, b: GenericArg) -> Result<(), NoSolutionOrStop>
@@ -154,7 +164,8 @@ pub trait EvalCtxt: InferCtxtLike {
         ensures kept { Keeps fixed probes Self.context self.old self.new }
         ensures ok { IfOk result (λ _. accepted (judge (fixed self.old)) (state self.old) (env_forest (Self.context self.old).trees env) (alone (arg_tree (Self.context self.old).trees a)) (alone (arg_tree (Self.context self.old).trees b)) ≡ Some (state self.new)) }
         ensures refused { IfErr result (λ e. e ≡ NoSolutionOrStop.NoSolution → accepted (judge (fixed self.old)) (state self.old) (env_forest (Self.context self.old).trees env) (alone (arg_tree (Self.context self.old).trees a)) (alone (arg_tree (Self.context self.old).trees b)) ≡ None) }
-        ensures stopped { IfErr result (λ e. e ≢ NoSolutionOrStop.NoSolution → (judge (fixed self.old)).alike (state self.old) (state self.new)) };
+        ensures stopped { IfErr result (λ e. e ≢ NoSolutionOrStop.NoSolution → (judge (fixed self.old)).alike (state self.old) (state self.new)) }
+        ensures cause { IfErr result IsEvaluatorRefusal };
 
     /// The same, where the goals that this leaves are answered, each with its source, and don't become pending.
     fn eq_and_get_goals(
@@ -170,28 +181,32 @@ pub trait EvalCtxt: InferCtxtLike {
         ensures sort { IfOk result (λ v. All (λ g. IsGoal (Self.context self.new).trees g.1) v.items) }
         ensures ok { IfOk result (λ v. (judge (fixed self.old)).equated (state self.old) (env_forest (Self.context self.old).trees env) (alone (arg_tree (Self.context self.old).trees a)) (alone (arg_tree (Self.context self.old).trees b)) ≡ Some (pendings_of (Self.context self.new).trees v.items, state self.new)) }
         ensures refused { IfErr result (λ e. e ≡ NoSolutionOrStop.NoSolution → (judge (fixed self.old)).equated (state self.old) (env_forest (Self.context self.old).trees env) (alone (arg_tree (Self.context self.old).trees a)) (alone (arg_tree (Self.context self.old).trees b)) ≡ None) }
-        ensures stopped { IfErr result (λ e. e ≢ NoSolutionOrStop.NoSolution → (judge (fixed self.old)).alike (state self.old) (state self.new)) };
+        ensures stopped { IfErr result (λ e. e ≢ NoSolutionOrStop.NoSolution → (judge (fixed self.old)).alike (state self.old) (state self.new)) }
+        ensures cause { IfErr result IsEvaluatorRefusal };
 
     /// A goal becomes pending, after all others.
     fn add_goal(&mut self, source: GoalSource, goal: Goal<Clause>) -> Result<(), Stop>
         requires { IsGoal (Self.context self.old).trees goal }
         ensures kept { Keeps fixed probes Self.context self.old self.new }
         ensures ok { OnOk result (state self.new ≡ added (state self.old) (pending_of (Self.context self.old).trees source goal)) }
-        ensures stopped { OnErr result (state self.new ≡ state self.old) };
+        ensures stopped { OnErr result (state self.new ≡ state self.old) }
+        ensures cause { IfErr result IsEvaluatorStop };
 
     /// Goals become pending, in order, after all others; none where it stops.
     fn add_goals(&mut self, source: GoalSource, goals: &[Goal<Clause>]) -> Result<(), Stop>
         requires { All (IsGoal (Self.context self.old).trees) goals.now }
         ensures kept { Keeps fixed probes Self.context self.old self.new }
         ensures ok { OnOk result (state self.new ≡ with_goals_of (Self.context self.old).trees (state self.old) source goals.now) }
-        ensures stopped { OnErr result (state self.new ≡ state self.old) };
+        ensures stopped { OnErr result (state self.new ≡ state self.old) }
+        ensures cause { IfErr result IsEvaluatorStop };
 
     /// How sure what is pending is, together. What is settled is pending no more.
     fn try_evaluate_added_goals(&mut self) -> Result<Certainty, NoSolutionOrStop>
         ensures kept { Keeps fixed probes Self.context self.old self.new }
         ensures ok { IfOk result (λ c. (judge (fixed self.old)).settled (state self.old) ≡ Some (c, state self.new)) }
         ensures refused { IfErr result (λ e. e ≡ NoSolutionOrStop.NoSolution → (judge (fixed self.old)).settled (state self.old) ≡ None) }
-        ensures stopped { IfErr result (λ e. e ≢ NoSolutionOrStop.NoSolution → (judge (fixed self.old)).alike (state self.old) (state self.new)) };
+        ensures stopped { IfErr result (λ e. e ≢ NoSolutionOrStop.NoSolution → (judge (fixed self.old)).alike (state self.old) (state self.new)) }
+        ensures cause { IfErr result IsEvaluatorRefusal };
 
     /// The response, with at most that certainty. Nothing is said of the state that it leaves: it is asked for in a probe.
     fn evaluate_added_goals_and_make_canonical_response(
@@ -202,14 +217,16 @@ pub trait EvalCtxt: InferCtxtLike {
         ensures sort { IfOk result (λ r. IsResponse (Self.context self.new).trees r) }
         ensures ok { IfOk result (λ r. (judge (fixed self.old)).responded (state self.old) certainty ≡ Some (response_of (Self.context self.new).trees r)) }
         ensures refused { IfErr result (λ e. e ≡ NoSolutionOrStop.NoSolution → (judge (fixed self.old)).responded (state self.old) certainty ≡ None) }
-        ensures stopped { IfErr result (λ e. e ≢ NoSolutionOrStop.NoSolution → (judge (fixed self.old)).alike (state self.old) (state self.new)) };
+        ensures stopped { IfErr result (λ e. e ≢ NoSolutionOrStop.NoSolution → (judge (fixed self.old)).alike (state self.old) (state self.new)) }
+        ensures cause { IfErr result IsEvaluatorRefusal };
 
     /// Begins a probe.
     fn begin_probe(&mut self, kind: ProbeKind) -> Result<Self::Probe, Stop>
         ensures fixed { fixed self.new ≡ fixed self.old }
         ensures grows { Grows (Self.context self.old) (Self.context self.new) }
         ensures ok { OnOk result ((state self.new ≡ begun kind (state self.old)) × (probes self.new ≡ state self.old ∷ probes self.old)) }
-        ensures stopped { OnErr result ((state self.new ≡ state self.old) × (probes self.new ≡ probes self.old)) };
+        ensures stopped { OnErr result ((state self.new ≡ state self.old) × (probes self.new ≡ probes self.old)) }
+        ensures cause { IfErr result IsEvaluatorStop };
 
     /// Ends the newest probe. The state is then alike the one at which it began, what was pending there included.
     fn end_probe(&mut self, probe: Self::Probe) -> CandidateHeadUsages
@@ -225,7 +242,8 @@ pub trait EvalCtxt: InferCtxtLike {
         ensures kept { Keeps fixed probes Self.context self.old self.new }
         ensures same { state self.new ≡ state self.old }
         ensures fit { IfOk result (λ v. All (λ a. KindFits (Self.context self.new).trees (K.Alias a)) v.items) }
-        ensures ok { IfOk result (λ v. alias_trees (Self.context self.new).trees v.items ≡ (judge (fixed self.old)).opaques (state self.old) (ty_tree (Self.context self.old).trees ty)) };
+        ensures ok { IfOk result (λ v. alias_trees (Self.context self.new).trees v.items ≡ (judge (fixed self.old)).opaques (state self.old) (ty_tree (Self.context self.old).trees ty)) }
+        ensures cause { IfErr result IsEvaluatorStop };
 
     /// Forgets which goals a candidate has used.
     fn ignore_candidate_head_usages(&mut self, usages: CandidateHeadUsages)
@@ -237,7 +255,8 @@ pub trait EvalCtxt: InferCtxtLike {
         ensures kept { (fixed self.new ≡ fixed self.old) × (probes self.new ≡ probes self.old) }
         ensures same { state self.new ≡ state self.old }
         ensures added { OnOk result (Self.context self.new ≡ record (Self.context self.old) { delayed_bugs = (Self.context self.old).delayed_bugs ++ text.now ∷ [] }) }
-        ensures unchanged { OnErr result (Self.context self.new ≡ Self.context self.old) };
+        ensures unchanged { OnErr result (Self.context self.new ≡ Self.context self.old) }
+        ensures cause { IfErr result IsEvaluatorStop };
 
     /// The judge keeps the laws.
     ghost lawful: { (f : Fixed) → Lawful (judge f) };

@@ -36,7 +36,6 @@ can_be_equated-requires-clause-about g c =
     (only-tried (E.judge (E.fixed old)) (env_forest start.trees c.args.env) (projection_at start.trees c.args.projection) (E.state old) (E.state mid) (map (clause_tree start.trees) c.args.bounds.now)
     (g.E.Make.context mid).trees c.in_ok-found.found.items c.index-only.result.now c.in_ok-found.ensures.tried l c.index-only.ensures).1
 
-
 pub equate_bound-requires-clause-env : goal.equate_bound-requires-clause-env
 equate_bound-requires-clause-env g c =
     let a = g.E.Make.context c.args.ecx.now in

@@ -30,18 +30,18 @@ returns-in_err-clauses-clause-ambiguous g c =
     let start = with_instance (E.state old) reference in
     let r = err_from_is_err_and c.from_residual-in_err-clauses.result c.from_residual-in_err-clauses.ensures.1 in
     rw r.1 (λ n.
-      let stuck : AreStuck (E.judge (E.fixed old)) (env_forest a.trees c.args.env) object bounds start (clauses_at b.trees p.required.items) (E.state c.replaced.new.ecx) =
-      are-stuck-at E.judge (E.fixed old) (E.fixed mid) (env_forest a.trees c.args.env) (env_forest b.trees c.args.env) object (ty_tree b.trees p.object) (own_bounds object (preds_forest a.trees c.args.object_bounds))
-      (clauses_at b.trees c.as_slice-bounds.result.now) (clauses_at b.trees p.required.items) (with_instance (E.state old) reference) (E.state mid) (E.state c.replaced.new.ecx) c.prepare.ensures.kept.0
-      (env-kept a b c.args.env c.prepare.ensures.kept.2 c.requires.env).1 c.in_ok-prepared.ensures.object (ap (clauses_at b.trees) c.as_slice-bounds.ensures.value ∙ c.in_ok-prepared.ensures.bounds) c.in_ok-prepared.ensures.state
-      (subst (λ (xs : List Clause). AreStuck (E.judge (E.fixed mid)) (env_forest b.trees c.args.env) (ty_tree b.trees p.object) (clauses_at b.trees c.as_slice-bounds.result.now) (E.state mid) (clauses_at b.trees xs) (E.state c.replaced.new.ecx))
-      c.as_slice-required.ensures.value (c.in_err-clauses.ensures.ambiguous (sym r.2 ∙ n))) in
-      record {
-        required = clauses_at b.trees p.required.items;
-        requirements = c.in_ok-prepared.ensures.required;
-        stuck = stuck;
-        as_rule = unknown-by-rule (E.judge (E.fixed old)) (env_forest a.trees c.args.env) object bounds (g.met.E.EvalCtxt.lawful (E.fixed old)) start (E.state c.replaced.new.ecx) (clauses_at b.trees p.required.items) stuck;
-      })
+    let stuck : AreStuck (E.judge (E.fixed old)) (env_forest a.trees c.args.env) object bounds start (clauses_at b.trees p.required.items) (E.state c.replaced.new.ecx) =
+    are-stuck-at E.judge (E.fixed old) (E.fixed mid) (env_forest a.trees c.args.env) (env_forest b.trees c.args.env) object (ty_tree b.trees p.object) (own_bounds object (preds_forest a.trees c.args.object_bounds))
+    (clauses_at b.trees c.as_slice-bounds.result.now) (clauses_at b.trees p.required.items) (with_instance (E.state old) reference) (E.state mid) (E.state c.replaced.new.ecx) c.prepare.ensures.kept.0
+    (env-kept a b c.args.env c.prepare.ensures.kept.2 c.requires.env).1 c.in_ok-prepared.ensures.object (ap (clauses_at b.trees) c.as_slice-bounds.ensures.value ∙ c.in_ok-prepared.ensures.bounds) c.in_ok-prepared.ensures.state
+    (subst (λ (xs : List Clause). AreStuck (E.judge (E.fixed mid)) (env_forest b.trees c.args.env) (ty_tree b.trees p.object) (clauses_at b.trees c.as_slice-bounds.result.now) (E.state mid) (clauses_at b.trees xs) (E.state c.replaced.new.ecx))
+    c.as_slice-required.ensures.value (c.in_err-clauses.ensures.ambiguous (sym r.2 ∙ n))) in
+    record {
+      required = clauses_at b.trees p.required.items;
+      requirements = c.in_ok-prepared.ensures.required;
+      stuck = stuck;
+      as_rule = unknown-by-rule (E.judge (E.fixed old)) (env_forest a.trees c.args.env) object bounds (g.met.E.EvalCtxt.lawful (E.fixed old)) start (E.state c.replaced.new.ecx) (clauses_at b.trees p.required.items) stuck;
+    })
 
 pub returns-clause-sort : goal.returns-clause-sort
 returns-clause-sort g c =
