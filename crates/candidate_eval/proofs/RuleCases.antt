@@ -1,5 +1,5 @@
 -- Rules worked out on the small judge: an impl, a bound that is picked among others, a clause that is characterised.
-use Rattle.std.proofs.Common.{◌≡◌, refl, ℕ, List, [], ◌∷◌, Bool, true, false}
+use Rattle.std.proofs.Common.{◌≡◌, refl, ℕ, List, [], ◌∷◌, ◌++◌, Bool, true, false}
 use Rattle.candidate_ir.specs.declared.ir.heads.Head.TheVariants as H
 use Rattle.candidate_ir.specs.declared.ir.heads.ListHead.TheVariants as L
 use Rattle.candidate_ir.specs.declared.ir.kinds.PredicatePolarity.TheVariants as Polarity
@@ -7,7 +7,9 @@ use Rattle.candidate_ir.specs.declared.ir.kinds.VarKind.TheVariants as K
 use Rattle.candidate_ir.specs.declared.decl.contents.ImplPolarity.{ImplPolarity}
 use Rattle.candidate_ir.specs.declared.decl.contents.ImplPolarity.TheVariants as I
 use Rattle.candidate_ir.specs.Contents.{Impl}
-use Rattle.candidate_ir.specs.Trees.{TypeKind, Forest, none, Tree}
+use Rattle.candidate_ir.specs.declared.ir.heads.PartHead.TheVariants as P
+use Rattle.candidate_ir.specs.declared.ir.heads.ClauseHead.TheVariants as Cl
+use Rattle.candidate_ir.specs.Trees.{TypeKind, Forest, none, tree, Tree}
 use Rattle.candidate_ir.specs.Substitutions.{alone}
 use Rattle.candidate_eval.specs.declared.eval.mode.TypingMode.{TypingMode}
 use Rattle.candidate_eval.specs.declared.eval.mode.TypingMode.TheVariants.{Coherence, PostAnalysis}
@@ -20,6 +22,8 @@ use Rattle.candidate_eval.specs.Rules.{Rule, Step, Match, Upcast, Require, fresh
 use Rattle.candidate_eval.specs.Judging.{Judged, Gives, Refused, Stopped, judged}
 use Rattle.candidate_eval.specs.Characterization.{too_deep}
 use Rattle.candidate_eval.specs.ImplRules.{TraitGoal, impl_rule}
+use Rattle.candidate_eval.specs.ObjectRules.{matches_of, picks_of, IsRuleTree}
+use Rattle.candidate_eval.specs.Objects.{Projection}
 use Rattle.candidate_ir.specs.Worlds.{World, Reference, TraitSort}
 use Rattle.candidate_eval.proofs.RuleToy.{judge, start_with, u8, u16, slice, param, rigid, rigid_above, bound, var, meets}
 
@@ -139,6 +143,37 @@ requires_none = refl
 -- two are ambiguous, and equate nothing; what follows isn't done
 pub picks_two : by_steps 1 (pick Upcast (both (var 0)) ∷ equate (alone u8) (alone u16) ∷ []) ≡ misc_says (alone (var 0)) AMBIGUOUS
 picks_two = refl
+
+-- The same bounds as an object's: of its associated type with any slice, that it is the slice's element; with `u16`, that it is that.
+
+abbrev pub bound_says : Forest → Tree → Tree → Tree
+bound_says vs argument term = record {
+  head = H.Part (P.Clause (Cl.Projection (record { 0 = 0 })));
+  children = tree (H.Part P.Vars) vs (tree u8.head u8.children (tree argument.head argument.children (alone term)));
+}
+
+abbrev pub own_bounds : List Tree
+own_bounds = bound_says (tree (H.Part (P.Var K.Ty)) none none) (slice bound) bound ∷ bound_says none u16 u16 ∷ []
+
+abbrev pub of_target : Tree → Projection
+of_target t = record { item = 0; arguments = tree u8.head u8.children (alone t) }
+
+-- opened by names they are such matches, with the object's type before the target
+pub matches_by_names : (t : Tree) → matches_of 0 own_bounds (of_target t)
+    ≡ record { entered = []; instantiated = TypeKind ∷ []; left = tree u8.head u8.children (alone (slice (param 0))); right = tree u8.head u8.children (alone t); term = param 0 }
+    ∷ record { entered = []; instantiated = []; left = tree u8.head u8.children (alone u16); right = tree u8.head u8.children (alone t); term = u16 } ∷ []
+matches_by_names t = refl
+
+-- the terms of two picks are the rule's first variables
+pub object_picks : by_steps 1 (picks_of 0 own_bounds (of_target (slice u8) ∷ of_target u16 ∷ []) ++ equate (alone (var 0)) (alone (param 0)) ∷ []) ≡ misc_says (alone u8) Yes
+object_picks = refl
+
+pub object_unknown : by_steps 1 (picks_of 0 own_bounds (of_target u16 ∷ of_target u8 ∷ []) ++ equate (alone (var 0)) (alone (param 0)) ∷ []) ≡ misc_says (alone (var 0)) AMBIGUOUS
+object_unknown = refl
+
+-- a rule may hold them, whatever its variables
+pub own_bounds_in_rules : (n : ℕ) → IsRuleTree n (bound_says (tree (H.Part (P.Var K.Ty)) none none) (slice bound) bound)
+own_bounds_in_rules n = record { no_parameter = refl; is_closed = refl; below = refl }
 
 -- A variable that has got a value is no general variable any more.
 

@@ -80,8 +80,13 @@ with_rigid S (k ∷ ks) = with_universe S
 abbrev pub alias_trees : List Tree → List AliasTy → List Tree
 alias_trees ts xs = map (λ a. kind_tree ts (K.Alias a)) xs
 
--- The stops of an evaluator: a growth was refused, numbers or heights ran out, or its own limit was reached. The others come of walks that
--- no evaluator takes.
+-- The stops of what makes nodes and lists: a growth was refused, or numbers or heights ran out.
+abbrev pub IsMakingStop : Stop → Type 0
+IsMakingStop S.Memory = Unit {0}
+IsMakingStop S.NodesFull = Unit {0}
+IsMakingStop _ = ⊥
+
+-- The stops of an evaluator: these, or its own limit was reached. The others come of walks that no evaluator takes.
 
 abbrev pub IsEvaluatorStop : Stop → Type 0
 IsEvaluatorStop S.Memory = Unit {0}

@@ -13,7 +13,9 @@ use Rattle.candidate_ir.specs.Supers.{after_first}
 use Rattle.candidate_ir.specs.Words.{IsArgs, IsTy, args_forest, ty_tree}
 use Rattle.candidate_eval.specs.Callable.{all_but_last, last_tree}
 use Rattle.candidate_eval.specs.Characterization.{bound_kinds}
-use Rattle.candidate_eval.specs.Evaluators.{accepted}
+use Rattle.candidate_eval.specs.declared.structural.object.AmbiguousOrStop.{AmbiguousOrStop}
+use Rattle.candidate_eval.specs.declared.structural.object.AmbiguousOrStop.TheVariants as A
+use Rattle.candidate_eval.specs.Evaluators.{accepted, IsEvaluatorStop}
 use Rattle.candidate_eval.specs.States.{Env, State, Judge, fresh_variables, with_fresh_variables, with_pending, is_some}
 
 -- A bound is a clause of the object's type: that an associated type of it, with these arguments, is this term.
@@ -106,3 +108,8 @@ pub record IsPickedAtOnce (J : Judge) (e : Env) (p : Projection) (S : State) (cs
   pub only : filter (λ c. bound_matches J e S c p) cs ≡ bound ∷ []
   pub equated : bound_equated J e S bound p.arguments ≡ Some T
   pub is : term ≡ term_in (fresh_instance S bound)
+
+-- What an error says: too little is known, or a stop that an evaluator may answer.
+abbrev pub IsObjectError : AmbiguousOrStop → Type 0
+IsObjectError A.Ambiguous = Unit {0}
+IsObjectError (A.Stop s) = IsEvaluatorStop s

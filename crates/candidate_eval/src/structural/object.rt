@@ -5,8 +5,8 @@ ghost use Rattle.candidate_ir.specs.Context.{Grows};
 ghost use Rattle.candidate_ir.specs.Opening.{opened_clause};
 ghost use Rattle.candidate_ir.specs.Words.{IsArgs, IsClause, IsParamEnv, IsTy, ClauseListFits, args_forest, clause_tree, env_forest, ty_tree};
 ghost use Rattle.candidate_eval.specs.Characterization.{bound_kinds};
-ghost use Rattle.candidate_eval.specs.Evaluators.{Keeps, kinds_listed};
-ghost use Rattle.candidate_eval.specs.Objects.{is_about, IsBound, fresh_instance, with_instance, bound_equated, is_equated, projection_at, term_in, Tried, IsPicked, IsPickedAtOnce, IsExact, IsAmbiguous};
+ghost use Rattle.candidate_eval.specs.Evaluators.{IsEvaluatorRefusal, IsEvaluatorStop, IsMakingStop, Keeps, kinds_listed};
+ghost use Rattle.candidate_eval.specs.Objects.{is_about, IsBound, fresh_instance, with_instance, bound_equated, is_equated, projection_at, term_in, Tried, IsPicked, IsPickedAtOnce, IsExact, IsAmbiguous, IsObjectError};
 ghost use Rattle.candidate_eval.specs.Objects as seen;
 ghost use Rattle.candidate_eval.specs.States.{is_some};
 ghost use Rattle.candidate_eval.specs.declared.structural.object.AmbiguousOrStop.TheVariants as ambiguous;
@@ -75,6 +75,7 @@ fn open<E: EvalCtxt>(
     ensures same { E.state ecx.new ≡ E.state ecx.old }
     ensures sort { IfOk result (λ x. IsClause (E.context ecx.new).trees x) }
     ensures tree { IfOk result (λ x. clause_tree (E.context ecx.new).trees x ≡ opened_clause (args_forest (E.context ecx.old).trees values) (clause_tree (E.context ecx.old).trees clause)) }
+    ensures cause { IfErr result IsMakingStop }
 {
     open_clause(alloc, ecx, clause, values)
 }
@@ -93,6 +94,7 @@ pub fn instantiate_binder_with_infer<E: EvalCtxt>(
     ensures state { OnOk result (E.state ecx.new ≡ with_instance (E.state ecx.old) (clause_tree (E.context ecx.old).trees clause)) }
     ensures sort { IfOk result (λ x. IsClause (E.context ecx.new).trees x) }
     ensures tree { IfOk result (λ x. clause_tree (E.context ecx.new).trees x ≡ fresh_instance (E.state ecx.old) (clause_tree (E.context ecx.old).trees clause)) }
+    ensures cause { IfErr result IsEvaluatorStop }
 {
     let kinds = kinds_bound(alloc, ecx.cx(), clause)?;
     let values = ecx.fresh_args_for_item(kinds.as_slice())?;
@@ -117,6 +119,7 @@ fn equate_bound<E: EvalCtxt>(
     ensures term { IfOk result (λ t. ty_tree (E.context ecx.new).trees t ≡ term_in (fresh_instance (E.state ecx.old) (clause_tree (E.context ecx.old).trees bound))) }
     ensures ok { IfOk result (λ _. bound_equated (E.judge (E.fixed ecx.old)) (env_forest (E.context ecx.old).trees env) (E.state ecx.old) (clause_tree (E.context ecx.old).trees bound) (args_forest (E.context ecx.old).trees projection.args) ≡ Some (E.state ecx.new)) }
     ensures refused { IfErr result (λ e. e ≡ NoSolutionOrStop.NoSolution → bound_equated (E.judge (E.fixed ecx.old)) (env_forest (E.context ecx.old).trees env) (E.state ecx.old) (clause_tree (E.context ecx.old).trees bound) (args_forest (E.context ecx.old).trees projection.args) ≡ None) }
+    ensures cause { IfErr result IsEvaluatorRefusal }
 {
     let instance = instantiate_binder_with_infer(alloc, ecx, bound)?;
     match bound_about(ecx.cx(), instance, projection.def_id) {
@@ -143,6 +146,7 @@ fn equate_and_evaluate<E: EvalCtxt>(
     ensures kept { Keeps E.fixed E.probes E.context ecx.old ecx.new }
     ensures ok { IfOk result (λ _. is_equated (E.judge (E.fixed ecx.old)) (bound_equated (E.judge (E.fixed ecx.old)) (env_forest (E.context ecx.old).trees env) (E.state ecx.old) (clause_tree (E.context ecx.old).trees bound) (args_forest (E.context ecx.old).trees projection.args)) ≡ true) }
     ensures refused { IfErr result (λ e. e ≡ NoSolutionOrStop.NoSolution → is_equated (E.judge (E.fixed ecx.old)) (bound_equated (E.judge (E.fixed ecx.old)) (env_forest (E.context ecx.old).trees env) (E.state ecx.old) (clause_tree (E.context ecx.old).trees bound) (args_forest (E.context ecx.old).trees projection.args)) ≡ false) }
+    ensures cause { IfErr result IsEvaluatorRefusal }
 {
     let _term = equate_bound(alloc, ecx, env, bound, projection)?;
     let _certainty = ecx.try_evaluate_added_goals()?;
@@ -167,6 +171,7 @@ pub fn bound_matches<E: EvalCtxt>(
     ensures kept { Keeps E.fixed E.probes E.context ecx.old ecx.new }
     ensures alike { (E.judge (E.fixed ecx.old)).alike (E.state ecx.old) (E.state ecx.new) }
     ensures answer { IfOk result (λ b. b ≡ seen.bound_matches (E.judge (E.fixed ecx.old)) (env_forest (E.context ecx.old).trees env) (E.state ecx.old) (clause_tree (E.context ecx.old).trees bound) (projection_at (E.context ecx.old).trees projection)) }
+    ensures cause { IfErr result IsEvaluatorStop }
 {
     if bound_about(ecx.cx(), bound, projection.def_id).is_none() {
         return Ok(false);
@@ -198,6 +203,7 @@ pub fn matching_bounds<E: EvalCtxt>(
     ensures alike { (E.judge (E.fixed ecx.old)).alike (E.state ecx.old) (E.state ecx.new) }
     ensures sort { IfOk result (λ v. ClauseListFits (E.context ecx.new).trees v.items) }
     ensures tried { IfOk result (λ v. Tried (E.judge (E.fixed ecx.old)) (env_forest (E.context ecx.old).trees env) (projection_at (E.context ecx.old).trees projection) (E.state ecx.old) (map (clause_tree (E.context ecx.old).trees) bounds.now) (map (clause_tree (E.context ecx.new).trees) v.items) (E.state ecx.new)) }
+    ensures cause { IfErr result IsEvaluatorStop }
 {
     let mut found = Vec::new(alloc);
     for bound in bounds {
@@ -224,6 +230,7 @@ fn can_be_equated<E: EvalCtxt>(
     ensures kept { Keeps E.fixed E.probes E.context ecx.old ecx.new }
     ensures alike { (E.judge (E.fixed ecx.old)).alike (E.state ecx.old) (E.state ecx.new) }
     ensures answer { IfOk result (λ b. is_some (bound_equated (E.judge (E.fixed ecx.old)) (env_forest (E.context ecx.old).trees env) (E.state ecx.old) (clause_tree (E.context ecx.old).trees bound) (args_forest (E.context ecx.old).trees projection.args)) ≡ b) }
+    ensures cause { IfErr result IsEvaluatorStop }
 {
     let probe = ecx.begin_probe(ProbeKind::Kept)?;
     let answer = equate_bound(alloc, ecx, env, bound, projection);
@@ -258,6 +265,7 @@ pub fn pick_bound<E: EvalCtxt>(
 
     // Where closed probes leave the very state before, all bounds are tried at one state.
     ensures at_once { IsExact (E.judge (E.fixed ecx.old)) → IfOk result (λ t. IsPickedAtOnce (E.judge (E.fixed ecx.old)) (env_forest (E.context ecx.old).trees env) (projection_at (E.context ecx.old).trees projection) (E.state ecx.old) (map (clause_tree (E.context ecx.old).trees) bounds.now) (ty_tree (E.context ecx.new).trees t) (E.state ecx.new)) }
+    ensures cause { IfErr result IsObjectError }
 {
     let found = matching_bounds(alloc, ecx, env, bounds, projection)?;
     if found.len() != 1 {

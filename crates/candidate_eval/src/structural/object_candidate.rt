@@ -4,8 +4,8 @@ ghost use Rattle.std.specs.Prelude.{◌≡◌, map, Some, None, MatchOption, IfO
 ghost use Rattle.candidate_ir.specs.Context.{Grows, world};
 ghost use Rattle.candidate_ir.specs.References.{ArgumentsFit, Takes};
 ghost use Rattle.candidate_ir.specs.Words.{IsArgs, IsClause, IsParamEnv, IsPreds, IsTy, ClauseFits, ClauseListFits, args_forest, clause_kind_tree, clause_tree, env_forest, preds_forest, ty_tree};
-ghost use Rattle.candidate_eval.specs.Evaluators.{IsGoal, Keeps, goal_of};
-ghost use Rattle.candidate_eval.specs.Objects.{with_instance};
+ghost use Rattle.candidate_eval.specs.Evaluators.{IsEvaluatorStop, IsGoal, IsMakingStop, Keeps, goal_of};
+ghost use Rattle.candidate_eval.specs.Objects.{with_instance, IsObjectError};
 ghost use Rattle.candidate_eval.specs.ObjectRequirements.{AreAsked, AreUnknown, arguments_of, first_tree, fresh_arguments, goals_in, reference_clause, trait_held};
 ghost use Rattle.candidate_eval.specs.Replacing.{clauses_at};
 ghost use Rattle.candidate_eval.specs.Required.{AreRequirements};
@@ -51,6 +51,7 @@ fn held<E: EvalCtxt>(ecx: &mut E, trait_ref: Binder<TraitRef>) -> Result<Clause,
     ensures same { E.state ecx.new ≡ E.state ecx.old }
     ensures sort { IfOk result (λ x. IsClause (E.context ecx.new).trees x) }
     ensures tree { IfOk result (λ x. clause_tree (E.context ecx.new).trees x ≡ clause_kind_tree (E.context ecx.old).trees (reference_clause trait_ref)) }
+    ensures cause { IfErr result IsMakingStop }
 {
     ecx.mk_clause(Binder {
         vars: trait_ref.vars,
@@ -74,6 +75,7 @@ fn instance<E: EvalCtxt>(
     ensures id { IfOk result (λ r. r.def_id ≡ trait_ref.value.def_id) }
     ensures sort { IfOk result (λ r. IsArgs (E.context ecx.new).trees r.args × ArgumentsFit (E.context ecx.new) r) }
     ensures arguments { IfOk result (λ r. args_forest (E.context ecx.new).trees r.args ≡ fresh_arguments (E.state ecx.old) (clause_kind_tree (E.context ecx.old).trees (reference_clause trait_ref))) }
+    ensures cause { IfErr result IsEvaluatorStop }
 {
     let clause = held(ecx, trait_ref)?;
     let instance = instantiate_binder_with_infer(alloc, ecx, clause)?;
@@ -109,6 +111,7 @@ fn bounds_of<E: EvalCtxt>(
     ensures same { E.state ecx.new ≡ E.state ecx.old }
     ensures sort { IfOk result (λ v. ClauseListFits (E.context ecx.new).trees v.items) }
     ensures trees { IfOk result (λ v. map (clause_tree (E.context ecx.new).trees) v.items ≡ seen.own_bounds (ty_tree (E.context ecx.old).trees object) (preds_forest (E.context ecx.old).trees bounds)) }
+    ensures cause { IfErr result IsMakingStop }
 {
     own_bounds(alloc, ecx, object, bounds)
 }
@@ -124,6 +127,7 @@ fn required<E: EvalCtxt>(
     ensures same { E.state ecx.new ≡ E.state ecx.old }
     ensures sort { IfOk result (λ v. ClauseListFits (E.context ecx.new).trees v.items) }
     ensures requirements { IfOk result (λ v. AreRequirements (E.context ecx.old) trait_ref.def_id.0 (args_forest (E.context ecx.old).trees trait_ref.args) (map (clause_tree (E.context ecx.new).trees) v.items)) }
+    ensures cause { IfErr result IsMakingStop }
 {
     requirements(alloc, ecx, trait_ref)
 }
@@ -152,6 +156,7 @@ fn prepare<E: EvalCtxt>(
     ensures object { IfOk result (λ p. ty_tree (E.context ecx.new).trees p.object ≡ first_tree (fresh_arguments (E.state ecx.old) (clause_kind_tree (E.context ecx.old).trees (reference_clause trait_ref)))) }
     ensures bounds { IfOk result (λ p. clauses_at (E.context ecx.new).trees p.bounds.items ≡ seen.own_bounds (first_tree (fresh_arguments (E.state ecx.old) (clause_kind_tree (E.context ecx.old).trees (reference_clause trait_ref)))) (preds_forest (E.context ecx.old).trees object_bounds)) }
     ensures required { IfOk result (λ p. AreRequirements (E.context ecx.old) trait_ref.value.def_id.0 (fresh_arguments (E.state ecx.old) (clause_kind_tree (E.context ecx.old).trees (reference_clause trait_ref))) (clauses_at (E.context ecx.new).trees p.required.items)) }
+    ensures cause { IfErr result IsEvaluatorStop }
 {
     ecx.cx().well_formed_table();
     let reference = instance(alloc, ecx, trait_ref)?;
@@ -168,7 +173,8 @@ fn prepare<E: EvalCtxt>(
 
 /// The clauses as goals in the environment.
 fn goals(alloc: Global, env: ParamEnv, clauses: &[Clause]) -> Result<Vec<Goal<Clause>>, Stop>
-    ensures { IfOk result (λ v. v.items ≡ goals_in env clauses.now) }
+    ensures are { IfOk result (λ v. v.items ≡ goals_in env clauses.now) }
+    ensures cause { IfErr result IsMakingStop }
 {
     let mut list = Vec::new(alloc);
     for clause in clauses {
@@ -207,6 +213,7 @@ pub fn predicates_for_object_candidate<E: EvalCtxt>(
     ensures sort { IfOk result (λ v. All (IsGoal (E.context ecx.new).trees) v.items) }
     ensures asked { IfOk result (λ v. AreAsked (E.judge (E.fixed ecx.old)) (env_forest (E.context ecx.old).trees env) (E.context ecx.old) (E.state ecx.old) trait_ref.value.def_id.0 (clause_kind_tree (E.context ecx.old).trees (reference_clause trait_ref)) (preds_forest (E.context ecx.old).trees object_bounds) (map (goal_of (E.context ecx.new).trees) v.items) (E.state ecx.new)) }
     ensures ambiguous { IfErr result (λ e. e ≡ AmbiguousOrStop.Ambiguous → AreUnknown (E.judge (E.fixed ecx.old)) (env_forest (E.context ecx.old).trees env) (E.context ecx.old) (E.state ecx.old) trait_ref.value.def_id.0 (clause_kind_tree (E.context ecx.old).trees (reference_clause trait_ref)) (preds_forest (E.context ecx.old).trees object_bounds) (E.state ecx.new)) }
+    ensures cause { IfErr result IsObjectError }
 {
     let prepared = prepare(alloc, ecx, trait_ref, object_bounds)?;
     let (bounds, required) = (prepared.bounds.as_slice(), prepared.required.as_slice());

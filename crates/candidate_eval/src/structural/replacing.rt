@@ -9,8 +9,8 @@ ghost use Rattle.candidate_ir.specs.Nodes.{tree_at};
 ghost use Rattle.candidate_ir.specs.Trees.{TypeKind};
 ghost use Rattle.candidate_ir.specs.WellFormed.{TypesFit};
 ghost use Rattle.candidate_ir.specs.Words.{IsArgs, IsClause, IsParamEnv, IsTy, ClauseListFits, args_forest, clause_tree, env_forest, ty_tree};
-ghost use Rattle.candidate_eval.specs.Evaluators.{Keeps};
-ghost use Rattle.candidate_eval.specs.Objects.{is_about, projection_at};
+ghost use Rattle.candidate_eval.specs.Evaluators.{IsMakingStop, Keeps};
+ghost use Rattle.candidate_eval.specs.Objects.{is_about, projection_at, IsObjectError};
 ghost use Rattle.candidate_eval.specs.Replacing.{alias_in, any_is_about, answered, item_of, left_by, starts_with, projections, filled_clause, Picks, IsStuck, IsReplaced, AreReplaced, AreStuck, AreProjections, projections_at, clauses_at, types_at, finds_own};
 
 use crate::eval::context::EvalCtxt;
@@ -145,6 +145,7 @@ fn push_projections(
     requires number { number < length cx.now.trees }
     ensures sort { IfOk result (λ _. AreProjections cx.now.trees found.new.items) }
     ensures projections { IfOk result (λ _. projections_at cx.now.trees found.new.items ≡ projections_at cx.now.trees found.old.items ++ projections (finds_own cx.now.trees object bounds.now) (tree_at cx.now.trees number).children) }
+    ensures cause { IfErr result IsMakingStop }
 {
     for place in 0..usize::MAX {
         let Some(child) = cx.child(number, place) else {
@@ -171,6 +172,7 @@ fn own_projections(
     requires clause { IsClause cx.now.trees clause }
     ensures sort { IfOk result (λ v. AreProjections cx.now.trees v.items) }
     ensures projections { IfOk result (λ v. projections_at cx.now.trees v.items ≡ projections (finds_own cx.now.trees object bounds.now) (clause_tree cx.now.trees clause).children) }
+    ensures cause { IfErr result IsMakingStop }
 {
     let mut found = Vec::new(alloc);
     push_projections(cx, object, bounds, &mut found, clause.0)?;
@@ -179,7 +181,8 @@ fn own_projections(
 
 /// Puts a type at a list's end. The only stop is `Stop::Memory`.
 fn push_term(terms: &mut Vec<Ty>, term: Ty) -> Result<(), Stop>
-    ensures { IfOk result (λ _. terms.new.items ≡ terms.old.items ++ term ∷ []) }
+    ensures pushed { IfOk result (λ _. terms.new.items ≡ terms.old.items ++ term ∷ []) }
+    ensures cause { IfErr result IsMakingStop }
 {
     terms.push(term)?;
     Ok(())
@@ -201,6 +204,7 @@ fn pick_all<E: EvalCtxt>(
     ensures sort { IfOk result (λ v. TypesFit (E.context ecx.new).trees v.items) }
     ensures picked { IfOk result (λ v. Picks (E.judge (E.fixed ecx.old)) (env_forest (E.context ecx.old).trees env) (clauses_at (E.context ecx.old).trees bounds.now) (E.state ecx.old) (projections_at (E.context ecx.old).trees projections.now) (types_at (E.context ecx.new).trees v.items) (E.state ecx.new)) }
     ensures ambiguous { IfErr result (λ e. e ≡ AmbiguousOrStop.Ambiguous → IsStuck (E.judge (E.fixed ecx.old)) (env_forest (E.context ecx.old).trees env) (clauses_at (E.context ecx.old).trees bounds.now) (E.state ecx.old) (projections_at (E.context ecx.old).trees projections.now) (E.state ecx.new)) }
+    ensures cause { IfErr result IsObjectError }
 {
     let mut terms = Vec::new(alloc);
     for projection in projections {
@@ -265,6 +269,7 @@ fn fill<M: Make>(
     ensures rest { M.rest make.new ≡ M.rest make.old }
     ensures sort { IfOk result (λ x. IsClause (M.context make.new).trees x) }
     ensures tree { IfOk result (λ x. clause_tree (M.context make.new).trees x ≡ filled_clause (finds_own (M.context make.old).trees object bounds.now) (types_at (M.context make.old).trees terms.now) (clause_tree (M.context make.old).trees clause)) }
+    ensures cause { IfErr result IsMakingStop }
 {
     let mut left = terms;
     fold_clause(
@@ -281,6 +286,7 @@ fn fill<M: Make>(
             ensures answer { IfOk result (λ o. option_map (arg_tree (M.context make.old).trees) o ≡ answered (finds_own (M.context make.old).trees object bounds.entry.now (arg_tree (M.context make.old).trees arg).head (arg_tree (M.context make.old).trees arg).children) (arg_tree (M.context make.old).trees arg) (types_at (M.context make.old).trees left.entry.now)) }
             ensures left { left.exit.now ≡ left_by (finds_own (M.context make.old).trees object bounds.entry.now (arg_tree (M.context make.old).trees arg).head (arg_tree (M.context make.old).trees arg).children) left.entry.now }
             ensures kept { bounds.exit.now ≡ bounds.entry.now }
+            ensures never { IfErr result (λ _. ⊥) }
         { Ok(next_term(make.cx(), object, bounds, &mut left, arg)) },
     )
 }
@@ -302,6 +308,7 @@ fn filled<E: EvalCtxt>(
     ensures same { E.state ecx.new ≡ E.state ecx.old }
     ensures sort { IfOk result (λ x. IsClause (E.context ecx.new).trees x) }
     ensures tree { IfOk result (λ x. clause_tree (E.context ecx.new).trees x ≡ filled_clause (finds_own (E.context ecx.old).trees object bounds.now) (types_at (E.context ecx.old).trees terms.now) (clause_tree (E.context ecx.old).trees clause)) }
+    ensures cause { IfErr result IsMakingStop }
 {
     fill(alloc, ecx, object, bounds, clause, terms)
 }
@@ -326,6 +333,7 @@ fn replaced_clause<E: EvalCtxt>(
     ensures sort { IfOk result (λ x. IsClause (E.context ecx.new).trees x) }
     ensures replaced { IfOk result (λ x. IsReplaced (E.judge (E.fixed ecx.old)) (env_forest (E.context ecx.old).trees env) (ty_tree (E.context ecx.old).trees object) (clauses_at (E.context ecx.old).trees bounds.now) (E.state ecx.old) (clause_tree (E.context ecx.old).trees clause) (clause_tree (E.context ecx.new).trees x) (E.state ecx.new)) }
     ensures ambiguous { IfErr result (λ e. e ≡ AmbiguousOrStop.Ambiguous → IsStuck (E.judge (E.fixed ecx.old)) (env_forest (E.context ecx.old).trees env) (clauses_at (E.context ecx.old).trees bounds.now) (E.state ecx.old) (projections (finds_own (E.context ecx.old).trees object bounds.now) (clause_tree (E.context ecx.old).trees clause).children) (E.state ecx.new)) }
+    ensures cause { IfErr result IsObjectError }
 {
     let projections = own_projections(alloc, ecx.cx(), object, bounds, clause)?;
     let terms = pick_all(alloc, ecx, env, bounds, projections.as_slice())?;
@@ -334,7 +342,8 @@ fn replaced_clause<E: EvalCtxt>(
 
 /// Puts a clause at a list's end. The only stop is `Stop::Memory`.
 fn push_clause(list: &mut Vec<Clause>, clause: Clause) -> Result<(), Stop>
-    ensures { IfOk result (λ _. list.new.items ≡ list.old.items ++ clause ∷ []) }
+    ensures pushed { IfOk result (λ _. list.new.items ≡ list.old.items ++ clause ∷ []) }
+    ensures cause { IfErr result IsMakingStop }
 {
     list.push(clause)?;
     Ok(())
@@ -358,6 +367,7 @@ pub(crate) fn replaced<E: EvalCtxt>(
     ensures sort { IfOk result (λ v. ClauseListFits (E.context ecx.new).trees v.items) }
     ensures replaced { IfOk result (λ v. AreReplaced (E.judge (E.fixed ecx.old)) (env_forest (E.context ecx.old).trees env) (ty_tree (E.context ecx.old).trees object) (clauses_at (E.context ecx.old).trees bounds.now) (E.state ecx.old) (clauses_at (E.context ecx.old).trees clauses.now) (clauses_at (E.context ecx.new).trees v.items) (E.state ecx.new)) }
     ensures ambiguous { IfErr result (λ e. e ≡ AmbiguousOrStop.Ambiguous → AreStuck (E.judge (E.fixed ecx.old)) (env_forest (E.context ecx.old).trees env) (ty_tree (E.context ecx.old).trees object) (clauses_at (E.context ecx.old).trees bounds.now) (E.state ecx.old) (clauses_at (E.context ecx.old).trees clauses.now) (E.state ecx.new)) }
+    ensures cause { IfErr result IsObjectError }
 {
     let mut list = Vec::new(alloc);
     for clause in clauses {

@@ -1,6 +1,7 @@
 //! What a type has to fulfil so as to be an object of a trait, and what the bounds of the object's type say of it as clauses.
 
-ghost use Rattle.std.specs.Prelude.{◌≡◌, ◌++◌, map, slice_get, option_map, IfOk, IfSome, true};
+ghost use Rattle.std.specs.Prelude.{◌≡◌, ◌++◌, map, slice_get, option_map, IfErr, IfOk, IfSome, true};
+ghost use Rattle.candidate_eval.specs.Evaluators.{IsMakingStop};
 ghost use Rattle.std.specs.List.{flat_map};
 ghost use Rattle.candidate_ir.specs.Context.{Grows, world};
 ghost use Rattle.candidate_ir.specs.References.{Takes};
@@ -65,6 +66,7 @@ fn said<M: Make>(
     ensures rest { M.rest make.new ≡ M.rest make.old }
     ensures sort { IfOk result (λ x. IsClause (M.context make.new).trees x) }
     ensures tree { IfOk result (λ x. clause_tree (M.context make.new).trees x ≡ said_of (ty_tree (M.context make.old).trees object) (pred_kind_tree (M.context make.old).trees (as_bound bound))) }
+    ensures cause { IfErr result IsMakingStop }
 {
     let list = with_object(alloc, make.cx(), object, bound.value.args)?;
     let args = make.mk_args(list.as_slice())?;
@@ -95,6 +97,7 @@ fn push_own<M: Make>(
     ensures rest { M.rest make.new ≡ M.rest make.old }
     ensures sort { IfOk result (λ _. ClauseListFits (M.context make.new).trees list.new.items) }
     ensures trees { IfOk result (λ _. map (clause_tree (M.context make.new).trees) list.new.items ≡ map (clause_tree (M.context make.old).trees) list.old.items ++ own_bound (ty_tree (M.context make.old).trees object) (pred_tree (M.context make.old).trees bound)) }
+    ensures cause { IfErr result IsMakingStop }
 {
     make.cx().well_formed();
     let bound = make.cx().pred(bound);
@@ -138,6 +141,7 @@ fn push_own_at<M: Make>(
     ensures rest { M.rest make.new ≡ M.rest make.old }
     ensures sort { IfOk result (λ _. ClauseListFits (M.context make.new).trees list.new.items) }
     ensures trees { IfOk result (λ _. map (clause_tree (M.context make.new).trees) list.new.items ≡ map (clause_tree (M.context make.old).trees) list.old.items ++ flat_map (own_bound (ty_tree (M.context make.old).trees object)) (in_place (each_of (preds_forest (M.context make.old).trees bounds)) place)) }
+    ensures cause { IfErr result IsMakingStop }
 {
     match bound_at(make.cx(), bounds, place) {
         Some(bound) => push_own(alloc, make, list, object, bound),
@@ -162,6 +166,7 @@ pub fn own_bounds<M: Make>(
     ensures rest { M.rest make.new ≡ M.rest make.old }
     ensures sort { IfOk result (λ v. ClauseListFits (M.context make.new).trees v.items) }
     ensures trees { IfOk result (λ v. map (clause_tree (M.context make.new).trees) v.items ≡ own_bounds (ty_tree (M.context make.old).trees object) (preds_forest (M.context make.old).trees bounds)) }
+    ensures cause { IfErr result IsMakingStop }
 {
     let count = make.cx().preds(bounds).len();
     let mut list = Vec::new(alloc);
@@ -184,6 +189,7 @@ fn with_arguments<M: Make>(
     ensures rest { M.rest make.new ≡ M.rest make.old }
     ensures sort { IfOk result (λ x. IsClause (M.context make.new).trees x) }
     ensures tree { IfOk result (λ x. clause_tree (M.context make.new).trees x ≡ seen.with_arguments (args_forest (M.context make.old).trees args) (clause_tree (M.context make.old).trees clause)) }
+    ensures cause { IfErr result IsMakingStop }
 {
     if clause_has_arguments(make.cx(), clause, args) {
         subst_clause(alloc, make, clause, args)
@@ -230,6 +236,7 @@ fn push_declared_at<M: Make>(
     ensures rest { M.rest make.new ≡ M.rest make.old }
     ensures sort { IfOk result (λ _. ClauseListFits (M.context make.new).trees list.new.items) }
     ensures trees { IfOk result (λ _. map (clause_tree (M.context make.new).trees) list.new.items ≡ map (clause_tree (M.context make.old).trees) list.old.items ++ map (seen.with_arguments (args_forest (M.context make.old).trees args)) (in_place (declared_trees (M.context make.old) of) place)) }
+    ensures cause { IfErr result IsMakingStop }
 {
     if let Some(clause) = clause_in_place(make.cx(), of, place) {
         let clause = with_arguments(alloc, make, clause, args)?;
@@ -252,6 +259,7 @@ fn push_declared<M: Make>(
     ensures rest { M.rest make.new ≡ M.rest make.old }
     ensures sort { IfOk result (λ _. ClauseListFits (M.context make.new).trees list.new.items) }
     ensures trees { IfOk result (λ _. map (clause_tree (M.context make.new).trees) list.new.items ≡ map (clause_tree (M.context make.old).trees) list.old.items ++ map (seen.with_arguments (args_forest (M.context make.old).trees args)) (declared_trees (M.context make.old) of)) }
+    ensures cause { IfErr result IsMakingStop }
 {
     let count = declared_clauses(make.cx(), of).len();
     for place in 0..count {
@@ -282,6 +290,7 @@ fn push_bounds<M: Make>(
     ensures rest { M.rest make.new ≡ M.rest make.old }
     ensures sort { IfOk result (λ _. ClauseListFits (M.context make.new).trees list.new.items) }
     ensures trees { IfOk result (λ _. map (clause_tree (M.context make.new).trees) list.new.items ≡ map (clause_tree (M.context make.old).trees) list.old.items ++ map (seen.with_arguments (args_forest (M.context make.old).trees args)) (item_bounds (M.context make.old) item)) }
+    ensures cause { IfErr result IsMakingStop }
 {
     make.cx().well_formed_table();
     let alias = AliasId(item.0);
@@ -303,6 +312,7 @@ fn push_required_at<M: Make>(
     ensures rest { M.rest make.new ≡ M.rest make.old }
     ensures sort { IfOk result (λ _. ClauseListFits (M.context make.new).trees list.new.items) }
     ensures trees { IfOk result (λ _. map (clause_tree (M.context make.new).trees) list.new.items ≡ map (clause_tree (M.context make.old).trees) list.old.items ++ map (seen.with_arguments (args_forest (M.context make.old).trees trait_ref.args)) (bounds_of_items (M.context make.old) (in_place (items_of (M.context make.old) trait_ref.def_id.0) place))) }
+    ensures cause { IfErr result IsMakingStop }
 {
     let item = match make.cx().associated_items(trait_ref.def_id).get(place) {
         Some(item) => *item,
@@ -328,6 +338,7 @@ fn push_required<M: Make>(
     ensures rest { M.rest make.new ≡ M.rest make.old }
     ensures sort { IfOk result (λ _. ClauseListFits (M.context make.new).trees list.new.items) }
     ensures trees { IfOk result (λ _. map (clause_tree (M.context make.new).trees) list.new.items ≡ map (clause_tree (M.context make.old).trees) list.old.items ++ map (seen.with_arguments (args_forest (M.context make.old).trees trait_ref.args)) (required_bounds (M.context make.old) trait_ref.def_id.0)) }
+    ensures cause { IfErr result IsMakingStop }
 {
     make.cx().well_formed_table();
     let count = make.cx().associated_items(trait_ref.def_id).len();
@@ -344,6 +355,7 @@ fn push_required<M: Make>(
 ///
 /// It stops as `subst_clause` and `elaborate` do; `Stop::Memory` comes where a list can't grow, too. After a stop the nodes that
 /// were made stay.
+#[tactic(auto, using(crate::proofs::StopKinds::elaboration_making))]
 pub fn requirements<M: Make>(
     alloc: Global,
     make: &mut M,
@@ -354,6 +366,7 @@ pub fn requirements<M: Make>(
     ensures rest { M.rest make.new ≡ M.rest make.old }
     ensures sort { IfOk result (λ v. ClauseListFits (M.context make.new).trees v.items) }
     ensures requirements { IfOk result (λ v. AreRequirements (M.context make.old) trait_ref.def_id.0 (args_forest (M.context make.old).trees trait_ref.args) (map (clause_tree (M.context make.new).trees) v.items)) }
+    ensures cause { IfErr result IsMakingStop }
 {
     make.cx().well_formed_table();
     let of = Declared::SuperClauses(trait_ref.def_id);

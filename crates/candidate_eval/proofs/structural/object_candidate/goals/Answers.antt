@@ -16,5 +16,5 @@ loop-clause-preserved c =
     c.in_ok-push.ensures.items
     ∙ (ap (λ (gs : List (Goal Clause)). gs ++ goal_with c.args.env x ∷ []) c.loop-clause.invariant ∙ sym (map_more (goal_with c.args.env) c.args.clauses.now c.loop-clause.clause-index past c.loop-clause-test.true))
 
-pub returns : goal.returns
-returns c = c.loop-clause.invariant ∙ ap (goals_in c.args.env) (take_all c.loop-clause.clause-index c.args.clauses.now c.loop-clause-test.false)
+pub returns-clause-are : goal.returns-clause-are
+returns-clause-are c = c.loop-clause.invariant ∙ ap (goals_in c.args.env) (take_all c.loop-clause.clause-index c.args.clauses.now c.loop-clause-test.false)

@@ -49,7 +49,7 @@ returns-clause-sort g c =
     let b = g.E.Make.context c.prepare.new.ecx in
     let d = g.E.Make.context c.replaced.new.ecx in
     let env = env-kept a d c.args.env (grows-trans a b d c.prepare.ensures.kept.2 c.replaced.ensures.kept.2) c.requires.env in
-    subst (All (IsGoal d.trees)) (sym c.in_ok-goals.ensures)
+    subst (All (IsGoal d.trees)) (sym c.in_ok-goals.ensures.are)
     (goals-fit d.trees c.args.env c.as_slice.result.now env.0 (subst (ClauseListFits d.trees) (sym c.as_slice.ensures.value) c.in_ok-clauses.ensures.sort))
 
 pub returns-clause-asked : goal.returns-clause-asked
@@ -80,6 +80,6 @@ returns-clause-asked g c =
       replaced = clauses_at d.trees made;
       are_replaced = all;
       as_rule = asked-by-rule (E.judge (E.fixed old)) (env_forest a.trees c.args.env) object bounds (g.met.E.EvalCtxt.lawful (E.fixed old)) start (E.state new) (clauses_at b.trees p.required.items) (clauses_at d.trees made) all;
-      are = ap (map (goal_of d.trees)) c.in_ok-goals.ensures
+      are = ap (map (goal_of d.trees)) c.in_ok-goals.ensures.are
           ∙ (goals-are d.trees c.args.env (env_forest a.trees c.args.env) c.as_slice.result.now later.1 ∙ ap (λ (xs : List Clause). map (goal_in (env_forest a.trees c.args.env)) (clauses_at d.trees xs)) c.as_slice.ensures.value);
     }

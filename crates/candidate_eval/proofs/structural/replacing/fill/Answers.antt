@@ -9,6 +9,7 @@ use Rattle.candidate_eval.specs.Replacing.{answered, finds_own, left_by, types_a
 use Rattle.candidate_eval.proofs.Filling.{clause-fill, left-by-fit, ok-then, reached-grows, said-at-start}
 use Rattle.candidate_eval.proofs.Replacing.{clause-none, unasked-none}
 use Rattle.candidate_eval.proofs.Responding.{clauses-kept}
+use Rattle.candidate_eval.proofs.StopKinds.{fold-making}
 use Rattle.candidate_eval.proofs.Types.{types_kept}
 use Rattle.candidate_eval.proofs.structural.replacing.fill.Goals as goal
 
@@ -48,3 +49,8 @@ returns-clause-tree g c =
     said-at-start a b c.args.object c.args.bounds.now s.0.2.now e.0.2.now k.of t k.answer o grown c.requires.object c.requires.bounds held.2 k.tree seen answer left)
     (clause_tree a.trees c.args.clause) (clause_tree (g.M.Make.context c.fold_clause.new.make).trees x) here (clause-none a.trees c.args.clause c.args.object c.args.bounds.now c.requires.clause) p)
     c.fold_clause.ensures.outcome.1.folded
+
+pub returns-clause-cause : goal.returns-clause-cause
+returns-clause-cause g c =
+    fold-making g.M.Make.context g.M.Make.rest _ (λ t u y n z says. let called = says.called in let q = says.lends in let v = says.leaves in search rules)
+    _ _ 0 _ c.fold_clause.result c.fold_clause.ensures.outcome.1.stopped

@@ -63,7 +63,7 @@ loop-projection-preserved g c =
           c.loop-projection.projection-index _ c.loop-projection.terms.items _ c.in_ok-term.term s.0 c.loop-projection-test.true kept.2 c.in_ok-term.ensures.sort
           (picked-then E.judge (E.fixed old) (E.fixed now) (env_forest start.trees c.args.env) (env_forest mid.trees c.args.env) _ _ (E.state now) (E.state new) (clauses_at start.trees c.args.bounds.now)
           (clauses_at mid.trees c.args.bounds.now) _ s.1 (env-kept start mid c.args.env s.0.grows c.requires.env).1 p.1 (clauses-kept start mid c.args.bounds.now s.0.grows c.requires.bounds).1 c.in_ok-term.ensures.picked)
-          c.in_ok-push_term.ensures,
+          c.in_ok-push_term.ensures.pushed,
       kept.0 ∙ s.1,
       kept.1 ∙ s.2,
     )

@@ -78,7 +78,7 @@ loop-clause-preserved g c =
           (replaced-then E.judge (E.fixed old) (E.fixed now) (env_forest start.trees c.args.env) (env_forest mid.trees c.args.env) (ty_tree start.trees c.args.object) (ty_tree mid.trees c.args.object) _ _ _ (E.state now)
           (E.state new) (clauses_at start.trees c.args.bounds.now) (clauses_at mid.trees c.args.bounds.now) s.1 (env-kept start mid c.args.env s.0.grows c.requires.env).1
           (ty-kept start mid c.args.object s.0.grows c.requires.object).1 listed.1 (clauses-kept start mid c.args.bounds.now s.0.grows c.requires.bounds).1 c.in_ok-made.ensures.replaced)
-          c.in_ok-push_clause.ensures,
+          c.in_ok-push_clause.ensures.pushed,
       kept.0 ∙ s.1,
       kept.1 ∙ s.2,
     )
