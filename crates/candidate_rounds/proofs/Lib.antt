@@ -5,6 +5,7 @@ pub mod Holding
 pub mod ResolvedValues
 pub mod Leafing
 pub mod Rooms
+pub mod Stopping
 pub mod Values
 pub mod Going
 pub mod Assigning
