@@ -15,6 +15,7 @@ pub mod Gathering
 pub mod Anew
 pub mod Recording
 pub mod Renewing
+pub mod BindingStops
 pub mod Listing
 pub mod Placing
 pub mod Rooted

@@ -1,6 +1,6 @@
 -- Why calls of an evaluator that works in rounds stop: a growth was refused, numbers ran out, or a tree would be higher than 1,024. A stop
 -- is said of what would have been made, at the state that the judge says is there then, and of the context's trees at the stop.
-use Rattle.std.specs.Prelude.{◌≡◌, ◌<◌, ◌≤◌, ℕ, length, Some, List, [], ◌∷◌}
+use Rattle.std.specs.Prelude.{◌≡◌, ◌≢◌, ◌<◌, ◌≤◌, ℕ, length, Some, List, [], ◌∷◌}
 use Rattle.std.specs.List.{Contains}
 use Rattle.candidate_ir.specs.declared.ir.heads.Head.{Head}
 use Rattle.candidate_ir.specs.declared.ir.heads.Head.TheVariants as H
@@ -43,11 +43,17 @@ pub data IsValueStop (ts : List Tree) (l : Listing) (S : State) (us : Scope) (t 
   of_listed : IsTreeStop ts (normalized_tree l (resolved_tree S t)) s → IsValueStop ts l S us t s
   of_placed : IsTreeStop ts (value_for l S us t) s → IsValueStop ts l S us t s
 
+-- Why the variable of a number didn't get the value that it has once that variable has the value: its own value, with this one put in,
+-- wasn't made.
+pub data IsRenewalStop (ts : List Tree) (S : State) (v : Variable) (t : Tree) (n : ℕ) : Stop → Type 0 where
+  not_noted : IsRenewalStop ts S v t n Memory
+  of_value : {s : Stop} (u : Tree) → n ≢ v.number → value_of S n ≡ Some u → IsTreeStop ts (valued_tree (single v t) u) s → IsRenewalStop ts S v t n s
+
 -- Why a variable didn't get the value: another's value, with this one put in, wasn't made; or too many variables are there.
 pub data IsBindingStop (ts : List Tree) (S : State) (v : Variable) (t : Tree) : Stop → Type 0 where
   no_memory : IsBindingStop ts S v t Memory
   many_variables : 4294967295 ≤ length S.variables → IsBindingStop ts S v t NodesFull
-  of_renewed : {s : Stop} (n : ℕ) (u : Tree) → value_of S n ≡ Some u → IsTreeStop ts (valued_tree (single v t) u) s → IsBindingStop ts S v t s
+  of_renewed : {s : Stop} (n : ℕ) → IsRenewalStop ts S v t n s → IsBindingStop ts S v t s
 
 -- Why it wasn't recorded that two regions are equal.
 pub data IsRegionsStop (ts : List Tree) (a b : Tree) : Stop → Type 0 where
