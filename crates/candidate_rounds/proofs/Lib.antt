@@ -23,6 +23,7 @@ pub mod Normals
 pub mod Framing
 pub mod Offering
 pub mod Visiting
+pub mod EquatingStops
 pub mod Trying
 pub mod Projecting
 pub mod Evaluating

@@ -61,17 +61,24 @@ pub data IsRegionsStop (ts : List Tree) (a b : Tree) : Stop → Type 0 where
   of_first : {s : Stop} → IsTreeStop ts (outlives a b) s → IsRegionsStop ts a b s
   of_second : {s : Stop} → IsTreeStop ts (outlives b a) s → IsRegionsStop ts a b s
 
--- Why two trees, as they are at the state, weren't made equal under these binders.
-pub data IsMeetingStop (ts : List Tree) (l : Listing) (S : State) (us : Scope) (x y : Tree) : Stop → Type 0 where
-  no_space : IsMeetingStop ts l S us x y Memory
-  of_right_value : {s : Stop} → IsValueStop ts l S us y s → IsMeetingStop ts l S us x y s
-  of_left_value : {s : Stop} → IsValueStop ts l S us x s → IsMeetingStop ts l S us x y s
-  of_left_binding : {s : Stop} (v : Variable) → x.head ≡ H.Infer v → IsBindingStop ts S v (value_for l S us y) s → IsMeetingStop ts l S us x y s
-  of_right_binding : {s : Stop} (v : Variable) → y.head ≡ H.Infer v → IsBindingStop ts S v (value_for l S us x) s → IsMeetingStop ts l S us x y s
-  of_left_region : {s : Stop} → IsTreeStop ts (placed_tree us x) s → IsMeetingStop ts l S us x y s
-  of_right_region : {s : Stop} → IsTreeStop ts (placed_tree us y) s → IsMeetingStop ts l S us x y s
-  of_regions : {s : Stop} → IsRegionsStop ts (placed_tree us x) (placed_tree us y) s → IsMeetingStop ts l S us x y s
-  no_universe : {s : Stop} → IsFullAt S.newest_universe s → IsMeetingStop ts l S us x y s
+-- Why it wasn't found out whether the head is a variable that takes the tree as its value, or it didn't get it.
+pub data IsOfferStop (ts : List Tree) (l : Listing) (S : State) (us : Scope) (h : Head) (t : Tree) (s : Stop) : Type 0 where
+  of_offered : (v : Variable) → h ≡ H.Infer v → IsValueStop ts l S us t s → IsOfferStop ts l S us h t s
+  of_taken : (v : Variable) → h ≡ H.Infer v → IsBindingStop ts S v (value_for l S us t) s → IsOfferStop ts l S us h t s
+
+-- Why two trees weren't matched under these binders: as regions, or because there is no universe for a binder below.
+pub data IsMatchStop (ts : List Tree) (S : State) (us : Scope) (x y : Tree) : Stop → Type 0 where
+  no_space : IsMatchStop ts S us x y Memory
+  of_left_region : {s : Stop} → IsTreeStop ts (placed_tree us x) s → IsMatchStop ts S us x y s
+  of_right_region : {s : Stop} → IsTreeStop ts (placed_tree us y) s → IsMatchStop ts S us x y s
+  of_regions : {s : Stop} → IsRegionsStop ts (placed_tree us x) (placed_tree us y) s → IsMatchStop ts S us x y s
+  no_universe : {s : Stop} → IsFullAt S.newest_universe s → IsMatchStop ts S us x y s
+
+-- Why two trees, as they are at the state, weren't made equal under these binders: one was offered to the other, or both were matched.
+pub data IsMeetingStop (ts : List Tree) (l : Listing) (S : State) (us : Scope) (x y : Tree) (s : Stop) : Type 0 where
+  of_left_offer : IsOfferStop ts l S us x.head y s → IsMeetingStop ts l S us x y s
+  of_right_offer : IsOfferStop ts l S us y.head x s → IsMeetingStop ts l S us x y s
+  of_match : IsMatchStop ts S us x y s → IsMeetingStop ts l S us x y s
 
 -- Why a look at the first trees of two rows stopped: what they are at the state wasn't made, or they weren't made equal.
 pub data IsLookStop (ts : List Tree) (l : Listing) (S : State) (us : Scope) (t u : Tree) : Stop → Type 0 where
@@ -87,6 +94,10 @@ pub data IsUnifyingStop (ts : List Tree) (l : Listing) (s : Stop) : State → Li
       → IsLookStop ts l S us (record { head = h; children = a }) (record { head = g; children = b }) s
       → IsUnifyingStop ts l s S (record { scope = us; left = tree h a r; right = tree g b q } ∷ more)
   later : {S T : State} {ps qs : List Pair} → visited l S ps ≡ Left T qs → IsUnifyingStop ts l s T qs → IsUnifyingStop ts l s S ps
+
+-- Each stop of what is left at a state is one of what was left at a state before.
+abbrev pub StopsAsBefore : Listing → State → List Pair → Listing → State → List Pair → Type 0
+StopsAsBefore l S ps m T qs = (ts : List Tree) (s : Stop) → IsUnifyingStop ts m s T qs → IsUnifyingStop ts l s S ps
 
 -- Why two rows weren't made equal: nothing was begun, or what was left stopped.
 pub data IsEquationStop (ts : List Tree) (l : Listing) (S : State) (a b : Forest) : Stop → Type 0 where
