@@ -24,6 +24,7 @@ pub mod Framing
 pub mod Offering
 pub mod Visiting
 pub mod EquatingStops
+pub mod StopKinds
 pub mod Trying
 pub mod Projecting
 pub mod Evaluating
