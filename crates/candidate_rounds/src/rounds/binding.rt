@@ -234,7 +234,8 @@ fn is_open(cx: &Cx, arg: GenericArg) -> bool
 }
 
 /// The variable of that number gets its value, once a variable has the value: the value itself, or its own with the value put
-/// in, which is noted only where that changes it. A growth that is refused and numbers that run out stop it; nothing is noted then.
+/// in, which is noted only where that changes it. It stops where a growth is refused, and where its own value with the value put in
+/// can't be made; nothing is noted then.
 fn renew_value(
     alloc: Global,
     cx: &mut Cx,
@@ -272,7 +273,8 @@ fn renew_value(
     inference.assign(number, new)
 }
 
-/// The universe of the variable of that number falls to that one, if it is above it and the variable stands in the value.
+/// The universe of the variable of that number falls to that one, if it is above it and the variable stands in the value. The only stop
+/// is `Stop::Memory`.
 fn renew_universe(
     cx: &Cx,
     inference: &mut Inference,
@@ -349,7 +351,8 @@ fn renew_values(
     renew_value(alloc, cx, inference, variable.number, variable, value)
 }
 
-/// The universes of all variables in the value fall to that one, where they are above it; none is, where that is the newest.
+/// The universes of all variables in the value fall to that one, where they are above it; none is, where that is the newest. Besides
+/// `Stop::Memory`, `Stop::NodesFull` comes where more variables are there than can be numbered.
 fn renew_universes(
     cx: &Cx,
     inference: &mut Inference,

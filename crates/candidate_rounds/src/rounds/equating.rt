@@ -304,7 +304,8 @@ impl Rounds {
         self.meet(alloc, rest, left, right)
     }
 
-    /// Looks at what is first on both sides of a frame, which is taken off what is left.
+    /// Looks at what is first on both sides of a frame, which is taken off what is left. Besides what stops `meet_current`,
+    /// `Stop::NodesFull` comes where a place can't be counted.
     fn visit(
         &mut self,
         alloc: Global,
@@ -335,7 +336,8 @@ impl Rounds {
         }
     }
 
-    /// One look: what is first on both sides of a frame, which stood last, under the binders that are around it.
+    /// One look: what is first on both sides of a frame, which stood last, under the binders that are around it. Whatever stops what is
+    /// left then is among what stops all that was left.
     fn look(&mut self, alloc: Global, rest: &mut Rest, frame: Frame) -> Result<(), NoSolutionOrStop>
         requires { AreFrames self.old.context.trees rest.old.universes.items (rest.old.frames.items ++ frame ∷ []) }
         ensures goes { GoesOn self.old self.new }
@@ -366,7 +368,8 @@ impl Rounds {
     }
 
     /// Two types, constants or regions are made equal. Where they can't be, and where it stops, what is known is what it was. Besides
-    /// `Stop::Memory`, `Stop::NodesFull` comes where no numbers are left or a tree would be higher than 1,024.
+    /// `Stop::Memory`, `Stop::NodesFull` comes where no numbers are left, a tree would be higher than 1,024, or a node has more children
+    /// than can be counted.
     pub(crate) fn equate(
         &mut self,
         alloc: Global,
