@@ -302,7 +302,7 @@ in-range first end n = nat_le first n && nat_lt n end
 below-range : (first end n : ℕ) → n < first → in-range first end n ≡ false
 below-range first end n l = ap (λ b. b && nat_lt n end) (lt-leb first n l)
 
-above-range : (first end n : ℕ) → end ≤ n → in-range first end n ≡ false
+pub above-range : (first end n : ℕ) → end ≤ n → in-range first end n ≡ false
 above-range first end n l = ap (λ b. nat_le first n && b) (le-ltb n end l) ∙ at (nat_le first n)
   where
     at : (b : Bool) → b && false ≡ false

@@ -5,6 +5,7 @@ pub mod Holding
 pub mod ResolvedValues
 pub mod Leafing
 pub mod Rooms
+pub mod Stopping
 pub mod Values
 pub mod Going
 pub mod Assigning
@@ -14,6 +15,7 @@ pub mod Gathering
 pub mod Anew
 pub mod Recording
 pub mod Renewing
+pub mod BindingStops
 pub mod Listing
 pub mod Placing
 pub mod Rooted
@@ -21,6 +23,8 @@ pub mod Normals
 pub mod Framing
 pub mod Offering
 pub mod Visiting
+pub mod EquatingStops
+pub mod StopKinds
 pub mod Trying
 pub mod Projecting
 pub mod Evaluating

@@ -57,14 +57,18 @@ outlives-tree ts vs a b v i j e =
     over f = record { head = H.Part (P.Clause Cl.RegionOutlives); children = f }
 
 -- the same in the context before its binder was made
+pub outlives-before : (old mid : Context) (vs : Vars) (a b : Region) → Grows old mid → IsVars mid.trees vs → IsRegion old.trees a → IsRegion old.trees b → vars_tree mid.trees vs ≡ binder_tree []
+    → clause_kind_tree mid.trees (said vs a b) ≡ outlives (region_tree old.trees a) (region_tree old.trees b)
+outlives-before old mid vs a b g v i j e =
+    let x = region-kept old mid a g i in
+    let y = region-kept old mid b g j in
+    outlives-tree mid.trees vs a b v x.0 y.0 e ∙ (ap (λ t. outlives t (region_tree mid.trees b)) x.1 ∙ ap (outlives (region_tree old.trees a)) y.1)
+
 pub outlives-made : (old mid : Context) (ts : List Tree) (vs : Vars) (a b : Region) (r : Result Clause Stop) → Grows old mid → IsVars mid.trees vs → IsRegion old.trees a → IsRegion old.trees b
     → vars_tree mid.trees vs ≡ binder_tree [] → IfOk r (λ c. clause_tree ts c ≡ clause_kind_tree mid.trees (said vs a b))
     → IfOk r (λ c. clause_tree ts c ≡ outlives (region_tree old.trees a) (region_tree old.trees b))
 outlives-made old mid ts vs a b (Err s) g v i j e k = tt
-outlives-made old mid ts vs a b (Ok c) g v i j e k =
-    let x = region-kept old mid a g i in
-    let y = region-kept old mid b g j in
-    k ∙ (outlives-tree mid.trees vs a b v x.0 y.0 e ∙ (ap (λ t. outlives t (region_tree mid.trees b)) x.1 ∙ ap (outlives (region_tree old.trees a)) y.1))
+outlives-made old mid ts vs a b (Ok c) g v i j e k = k ∙ outlives-before old mid vs a b g v i j e
 
 -- one that was made stays, with its tree
 pub clause-kept : (old new : Context) (c : Clause) (t : Tree) → Grows old new → IsClause old.trees c → clause_tree old.trees c ≡ t → IsClause new.trees c × (clause_tree new.trees c ≡ t)

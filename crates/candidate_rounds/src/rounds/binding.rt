@@ -15,7 +15,8 @@ ghost use Rattle.candidate_eval.specs.declared.eval.variable.VariableKind.TheVar
 ghost use Rattle.candidate_rounds.specs.Assigning.{IsRoom, allows, single_arg, with_info, with_its_value, with_its_universe, with_universes, with_values};
 ghost use Rattle.rounds_judge.specs.Binding.{may_take, bound, single};
 ghost use Rattle.rounds_judge.specs.Equating.{outlives, with_equal_regions};
-ghost use Rattle.candidate_rounds.specs.Inferences.{IsFurther, is_of_kind, back_to, record_region};
+ghost use Rattle.candidate_rounds.specs.Inferences.{IsFullAt, IsFurther, is_of_kind, back_to, record_region};
+ghost use Rattle.candidate_rounds.specs.Stopping.{IsBindingStop, IsRegionsStop, IsRenewalStop, IsTreeStop};
 ghost use Rattle.candidate_rounds.specs.Known.{AreMarks, GoesOn, HasResolvedValues, IsConsistent, IsEvaluator, is_open, state, state_of};
 
 use crate::rounds::Rounds;
@@ -198,6 +199,7 @@ fn put_in(
     ensures grows { Grows cx.old cx.new }
     ensures sort { IfOk result (λ x. IsArg cx.new.trees x) }
     ensures tree { IfOk result (λ x. arg_tree cx.new.trees x ≡ valued_tree (single variable (arg_tree cx.old.trees value)) (arg_tree cx.old.trees arg)) }
+    ensures cause { IfErr result (λ s. IsTreeStop cx.new.trees (valued_tree (single variable (arg_tree cx.old.trees value)) (arg_tree cx.old.trees arg)) s) }
 {
     if let Some(put) = put_for(cx, variable, value, arg) {
         return Ok(put);
@@ -232,7 +234,8 @@ fn is_open(cx: &Cx, arg: GenericArg) -> bool
 }
 
 /// The variable of that number gets its value, once a variable has the value: the value itself, or its own with the value put
-/// in, which is noted only where that changes it. A growth that is refused and numbers that run out stop it; nothing is noted then.
+/// in, which is noted only where that changes it. It stops where a growth is refused, and where its own value with the value put in
+/// can't be made; nothing is noted then.
 fn renew_value(
     alloc: Global,
     cx: &mut Cx,
@@ -252,6 +255,7 @@ fn renew_value(
     ensures room { (inference.new.first_open ≡ inference.old.first_open) × (inference.new.end_open ≡ inference.old.end_open) }
     ensures renewed { (m : TypingMode) → OnOk result (state_of cx.new.trees m inference.new ≡ with_info (state_of cx.old.trees m inference.old) number (with_its_value variable (arg_tree cx.old.trees value) number)) }
     ensures unchanged { IfErr result (λ _. inference.new ≡ inference.old) }
+    ensures cause { (m : TypingMode) → IfErr result (λ s. IsRenewalStop cx.new.trees (state_of cx.old.trees m inference.old) variable (arg_tree cx.old.trees value) number s) }
 {
     let Some(entry) = inference.entry(number) else {
         return Ok(());
@@ -269,7 +273,8 @@ fn renew_value(
     inference.assign(number, new)
 }
 
-/// The universe of the variable of that number falls to that one, if it is above it and the variable stands in the value.
+/// The universe of the variable of that number falls to that one, if it is above it and the variable stands in the value. The only stop
+/// is `Stop::Memory`.
 fn renew_universe(
     cx: &Cx,
     inference: &mut Inference,
@@ -282,6 +287,7 @@ fn renew_universe(
     ensures further { IsFurther inference.old inference.new }
     ensures consistent { IsConsistent cx.now.trees inference.new [] }
     ensures renewed { (m : TypingMode) → OnOk result (state_of cx.now.trees m inference.new ≡ with_info (state_of cx.now.trees m inference.old) number (with_its_universe universe (arg_tree cx.now.trees value) number)) }
+    ensures cause { IfErr result (λ s. s ≡ Stop.Memory) }
 {
     let Some(entry) = inference.entry(number) else {
         return Ok(());
@@ -310,6 +316,7 @@ fn make_room(
     ensures variables { inference.new.variables ≡ inference.old.variables }
     ensures state { (m : TypingMode) → state_of cx.now.trees m inference.new ≡ state_of cx.now.trees m inference.old }
     ensures room { OnOk result (IsRoom inference.new variable.number variable (arg_tree cx.now.trees value)) }
+    ensures cause { IfErr result (λ s. IsFullAt variable.number s) }
 {
     if !is_open(cx, value) {
         return Ok(());
@@ -335,6 +342,7 @@ fn renew_values(
     ensures further { IsFurther inference.old inference.new }
     ensures consistent { IsConsistent cx.new.trees inference.new [] }
     ensures renewed { (m : TypingMode) → OnOk result (state_of cx.new.trees m inference.new ≡ with_values variable (arg_tree cx.old.trees value) (state_of cx.old.trees m inference.old)) }
+    ensures cause { (m : TypingMode) → IfErr result (λ s. IsBindingStop cx.new.trees (state_of cx.old.trees m inference.old) variable (arg_tree cx.old.trees value) s) }
 {
     let (first, end) = inference.open_values();
     for number in first..end {
@@ -343,7 +351,8 @@ fn renew_values(
     renew_value(alloc, cx, inference, variable.number, variable, value)
 }
 
-/// The universes of all variables in the value fall to that one, where they are above it; none is, where that is the newest.
+/// The universes of all variables in the value fall to that one, where they are above it; none is, where that is the newest. Besides
+/// `Stop::Memory`, `Stop::NodesFull` comes where more variables are there than can be numbered.
 fn renew_universes(
     cx: &Cx,
     inference: &mut Inference,
@@ -355,6 +364,7 @@ fn renew_universes(
     ensures further { IsFurther inference.old inference.new }
     ensures consistent { IsConsistent cx.now.trees inference.new [] }
     ensures renewed { (m : TypingMode) → OnOk result (state_of cx.now.trees m inference.new ≡ with_universes universe (arg_tree cx.now.trees value) (state_of cx.now.trees m inference.old)) }
+    ensures cause { IfErr result (λ s. IsFullAt (length inference.old.variables) s) }
 {
     if inference.newest_universe() <= universe {
         return Ok(());
@@ -383,6 +393,7 @@ fn renew_all(
     ensures further { IsFurther inference.old inference.new }
     ensures consistent { IsConsistent cx.new.trees inference.new [] }
     ensures renewed { (m : TypingMode) → OnOk result (state_of cx.new.trees m inference.new ≡ with_universes universe (arg_tree cx.old.trees value) (with_values variable (arg_tree cx.old.trees value) (state_of cx.old.trees m inference.old))) }
+    ensures cause { (m : TypingMode) → IfErr result (λ s. IsBindingStop cx.new.trees (state_of cx.old.trees m inference.old) variable (arg_tree cx.old.trees value) s) }
 {
     make_room(cx, inference, variable, value)?;
     renew_values(alloc, cx, inference, variable, value)?;
@@ -406,6 +417,7 @@ fn bind_in(
     ensures consistent { IsConsistent cx.new.trees inference.new [] }
     ensures bound { (m : TypingMode) → OnOk result (state_of cx.new.trees m inference.new ≡ bound (state_of cx.old.trees m inference.old) variable (arg_tree cx.old.trees value)) }
     ensures undone { IfErr result (λ _. inference.new ≡ inference.old) }
+    ensures cause { (m : TypingMode) → IfErr result (λ s. IsBindingStop cx.new.trees (state_of cx.old.trees m inference.old) variable (arg_tree cx.old.trees value) s) }
 {
     let Some(entry) = inference.entry(variable.number) else {
         return Ok(());
@@ -425,6 +437,7 @@ fn outlives(cx: &mut Cx, a: Region, b: Region) -> Result<Clause, Stop>
     ensures grows { Grows cx.old cx.new }
     ensures sort { IfOk result (λ c. IsClause cx.new.trees c) }
     ensures tree { IfOk result (λ c. clause_tree cx.new.trees c ≡ outlives (region_tree cx.old.trees a) (region_tree cx.old.trees b)) }
+    ensures cause { IfErr result (λ s. IsTreeStop cx.new.trees (outlives (region_tree cx.old.trees a) (region_tree cx.old.trees b)) s) }
 {
     let vars = cx.mk_vars(&[])?;
     cx.mk_clause(Binder {
@@ -440,6 +453,7 @@ fn equal_regions(cx: &mut Cx, a: Region, b: Region) -> Result<(Clause, Clause), 
     ensures grows { Grows cx.old cx.new }
     ensures one { IfOk result (λ p. IsClause cx.new.trees p.0 × (clause_tree cx.new.trees p.0 ≡ outlives (region_tree cx.old.trees a) (region_tree cx.old.trees b))) }
     ensures other { IfOk result (λ p. IsClause cx.new.trees p.1 × (clause_tree cx.new.trees p.1 ≡ outlives (region_tree cx.old.trees b) (region_tree cx.old.trees a))) }
+    ensures cause { IfErr result (λ s. IsRegionsStop cx.new.trees (region_tree cx.old.trees a) (region_tree cx.old.trees b) s) }
 {
     let one = outlives(cx, a, b)?;
     let other = outlives(cx, b, a)?;
@@ -496,6 +510,7 @@ impl Rounds {
         ensures goes { GoesOn self.old self.new }
         ensures bound { OnOk result (state self.new ≡ bound (state self.old) variable (arg_tree self.old.context.trees value)) }
         ensures undone { IfErr result (λ _. self.new.inference ≡ self.old.inference) }
+        ensures cause { IfErr result (λ s. IsBindingStop self.new.context.trees (state self.old) variable (arg_tree self.old.context.trees value) s) }
     {
         bind_in(alloc, &mut self.cx, &mut self.inference, variable, value)
     }
@@ -508,6 +523,7 @@ impl Rounds {
         ensures goes { GoesOn self.old self.new }
         ensures recorded { OnOk result (state self.new ≡ with_equal_regions (state self.old) (region_tree self.old.context.trees a) (region_tree self.old.context.trees b)) }
         ensures undone { IfErr result (λ _. self.new.inference ≡ self.old.inference) }
+        ensures cause { IfErr result (λ s. IsRegionsStop self.new.context.trees (region_tree self.old.context.trees a) (region_tree self.old.context.trees b) s) }
     {
         if is_same_region(&self.cx, a, b) {
             return Ok(());

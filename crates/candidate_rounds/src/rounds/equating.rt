@@ -9,10 +9,13 @@ ghost use Rattle.candidate_ir.specs.Trees.{none, skip, tree};
 ghost use Rattle.candidate_ir.specs.Unify.{same_head};
 ghost use Rattle.candidate_ir.specs.Words.{IsArgs, IsRegion, args_forest, region_tree};
 ghost use Rattle.candidate_eval.specs.Soundness.{is_region};
-ghost use Rattle.candidate_eval.specs.Evaluators.{root_value};
+ghost use Rattle.candidate_eval.specs.Evaluators.{resolved_root, root_value};
+ghost use Rattle.candidate_eval.specs.States.{resolved_tree};
 ghost use Rattle.rounds_judge.specs.Equating.{Pair, Left, Refused, equated, looks, matched, met, offered, unified, visited, with_equal_regions};
 ghost use Rattle.candidate_rounds.specs.Frames.{AreFrames, IsFrame, pair_of, pairs_of, taken_if, with_binder};
+ghost use Rattle.candidate_rounds.specs.Inferences.{IsFullAt};
 ghost use Rattle.candidate_rounds.specs.Known.{GoesOn, listing, state};
+ghost use Rattle.candidate_rounds.specs.Stopping.{IsEquationStop, IsLookStop, IsMatchStop, IsMeetingStop, IsOfferStop, IsTreeStop, IsUnifyingStop, StopsAsBefore};
 ghost use Rattle.rounds_judge.specs.Listed.{current};
 ghost use Rattle.rounds_judge.specs.Scopes.{entered, has_variables, placed_tree, scope_below};
 
@@ -69,6 +72,7 @@ impl Rest {
     fn push(&mut self, frame: Frame) -> Result<(), Stop>
         ensures universes { self.new.universes.items ≡ self.old.universes.items }
         ensures frames { OnOk result (self.new.frames.items ≡ self.old.frames.items ++ frame ∷ []) }
+        ensures cause { IfErr result (λ s. s ≡ Stop.Memory) }
     {
         Ok(self.frames.push(frame)?)
     }
@@ -107,6 +111,7 @@ impl Rounds {
         ensures goes { GoesOn self.old self.new }
         ensures taken { (more : List Pair) → IfOk result (λ b. offered (listing self.old) (state self.old) (reverse universes.now) (tree_at self.old.context.trees to).head (tree_at self.old.context.trees number) more ≡ taken_if b (state self.new) more) }
         ensures declined { IfOk result (λ b. b ≡ false → state self.new ≡ state self.old) }
+        ensures cause { IfErr result (λ s. IsOfferStop self.new.context.trees (listing self.old) (state self.old) (reverse universes.now) (tree_at self.old.context.trees to).head (tree_at self.old.context.trees number) s) }
     {
         self.well_kept();
         let Some(variable) = variable_at(&self.cx, to) else {
@@ -129,6 +134,7 @@ impl Rounds {
         requires right { IsRegion self.old.context.trees right }
         ensures goes { GoesOn self.old self.new }
         ensures recorded { OnOk result (state self.new ≡ with_equal_regions (state self.old) (placed_tree (reverse universes.now) (region_tree self.old.context.trees left)) (placed_tree (reverse universes.now) (region_tree self.old.context.trees right))) }
+        ensures cause { IfErr result (λ s. IsMatchStop self.new.context.trees (state self.old) (reverse universes.now) (region_tree self.old.context.trees left) (region_tree self.old.context.trees right) s) }
     {
         let left = self.placed_region(universes, left)?;
         let right = self.placed_region(universes, right)?;
@@ -154,6 +160,7 @@ impl Rounds {
         ensures context { self.new.context ≡ self.old.context }
         ensures entered { OnOk result (state self.new ≡ with_binder (has_variables (tree_at self.old.context.trees number).children) (state self.old)) }
         ensures universe { IfOk result (λ u. u ≡ (state self.new).newest_universe) }
+        ensures cause { IfErr result (λ s. IsFullAt (state self.old).newest_universe s) }
     {
         if self.has_variables(number) {
             self.enter()?;
@@ -172,6 +179,7 @@ impl Rounds {
         ensures frames { OnOk result (AreFrames self.old.context.trees rest.new.universes.items rest.new.frames.items) }
         ensures state { OnOk result (state self.new ≡ entered (state self.old) (tree_at self.old.context.trees left).head (tree_at self.old.context.trees left).children) }
         ensures below { OnOk result (pairs_of self.old.context.trees rest.new.universes.items rest.new.frames.items ≡ record { scope = scope_below (state self.old) (reverse rest.old.universes.items) (tree_at self.old.context.trees left).head (tree_at self.old.context.trees left).children; left = (tree_at self.old.context.trees left).children; right = (tree_at self.old.context.trees right).children } ∷ pairs_of self.old.context.trees rest.old.universes.items rest.old.frames.items) }
+        ensures cause { IfErr result (λ s. IsFullAt (state self.old).newest_universe s) }
     {
         if self.cx.head(left).binders() == 1 {
             let universe = self.enter_binder(left)?;
@@ -217,6 +225,7 @@ impl Rounds {
         ensures frames { OnOk result (AreFrames self.new.context.trees rest.new.universes.items rest.new.frames.items) }
         ensures ok { OnOk result (matched (state self.old) (reverse rest.old.universes.items) (tree_at self.old.context.trees left) (tree_at self.old.context.trees right) (pairs_of self.old.context.trees rest.old.universes.items rest.old.frames.items) ≡ Left (state self.new) (pairs_of self.new.context.trees rest.new.universes.items rest.new.frames.items)) }
         ensures refused { IfErr result (λ e. e ≡ NoSolutionOrStop.NoSolution → matched (state self.old) (reverse rest.old.universes.items) (tree_at self.old.context.trees left) (tree_at self.old.context.trees right) (pairs_of self.old.context.trees rest.old.universes.items rest.old.frames.items) ≡ Refused) }
+        ensures cause { IfErr result (λ e. (s : Stop) → e ≡ NoSolutionOrStop.Stop s → IsMatchStop self.new.context.trees (state self.old) (reverse rest.old.universes.items) (tree_at self.old.context.trees left) (tree_at self.old.context.trees right) s) }
     {
         if let Some((left, right)) = self.regions(left, right) {
             return Ok(self.equal_regions(rest.universes.as_slice(), left, right)?);
@@ -234,6 +243,7 @@ impl Rounds {
         ensures state { state self.new ≡ state self.old }
         ensures inside { IfOk result (λ n. n < length self.new.context.trees) }
         ensures tree { IfOk result (λ n. tree_at self.new.context.trees n ≡ current (listing self.old) (state self.old) (tree_at self.old.context.trees number)) }
+        ensures cause { IfErr result (λ s. IsTreeStop self.new.context.trees (resolved_tree (state self.old) (resolved_root (state self.old) (tree_at self.old.context.trees number))) s) }
     {
         match self.cx.argument(number) {
             Some(arg) => Ok(self.current(alloc, arg)?.number()),
@@ -259,6 +269,7 @@ impl Rounds {
         ensures frames { OnOk result (AreFrames self.new.context.trees rest.new.universes.items rest.new.frames.items) }
         ensures ok { OnOk result (met (listing self.old) (state self.old) (reverse rest.old.universes.items) (tree_at self.old.context.trees left) (tree_at self.old.context.trees right) (pairs_of self.old.context.trees rest.old.universes.items rest.old.frames.items) ≡ Left (state self.new) (pairs_of self.new.context.trees rest.new.universes.items rest.new.frames.items)) }
         ensures refused { IfErr result (λ e. e ≡ NoSolutionOrStop.NoSolution → met (listing self.old) (state self.old) (reverse rest.old.universes.items) (tree_at self.old.context.trees left) (tree_at self.old.context.trees right) (pairs_of self.old.context.trees rest.old.universes.items rest.old.frames.items) ≡ Refused) }
+        ensures cause { IfErr result (λ e. (s : Stop) → e ≡ NoSolutionOrStop.Stop s → IsMeetingStop self.new.context.trees (listing self.old) (state self.old) (reverse rest.old.universes.items) (tree_at self.old.context.trees left) (tree_at self.old.context.trees right) s) }
     {
         self.well_kept();
         if self.offered(alloc, rest.universes.as_slice(), left, right)? {
@@ -285,6 +296,7 @@ impl Rounds {
         ensures frames { OnOk result (AreFrames self.new.context.trees rest.new.universes.items rest.new.frames.items) }
         ensures ok { OnOk result (met (listing self.old) (state self.old) (reverse rest.old.universes.items) (current (listing self.old) (state self.old) (tree_at self.old.context.trees left)) (current (listing self.old) (state self.old) (tree_at self.old.context.trees right)) (pairs_of self.old.context.trees rest.old.universes.items rest.old.frames.items) ≡ Left (state self.new) (pairs_of self.new.context.trees rest.new.universes.items rest.new.frames.items)) }
         ensures refused { IfErr result (λ e. e ≡ NoSolutionOrStop.NoSolution → met (listing self.old) (state self.old) (reverse rest.old.universes.items) (current (listing self.old) (state self.old) (tree_at self.old.context.trees left)) (current (listing self.old) (state self.old) (tree_at self.old.context.trees right)) (pairs_of self.old.context.trees rest.old.universes.items rest.old.frames.items) ≡ Refused) }
+        ensures cause { IfErr result (λ e. (s : Stop) → e ≡ NoSolutionOrStop.Stop s → IsLookStop self.new.context.trees (listing self.old) (state self.old) (reverse rest.old.universes.items) (tree_at self.old.context.trees left) (tree_at self.old.context.trees right) s) }
     {
         self.well_kept();
         let left = self.current_number(alloc, left)?;
@@ -292,7 +304,8 @@ impl Rounds {
         self.meet(alloc, rest, left, right)
     }
 
-    /// Looks at what is first on both sides of a frame, which is taken off what is left.
+    /// Looks at what is first on both sides of a frame, which is taken off what is left. Besides what stops `meet_current`,
+    /// `Stop::NodesFull` comes where a place can't be counted.
     fn visit(
         &mut self,
         alloc: Global,
@@ -306,6 +319,7 @@ impl Rounds {
         ensures frames { OnOk result (AreFrames self.new.context.trees rest.new.universes.items rest.new.frames.items) }
         ensures ok { OnOk result (visited (listing self.old) (state self.old) (pair_of self.old.context.trees rest.old.universes.items frame ∷ pairs_of self.old.context.trees rest.old.universes.items rest.old.frames.items) ≡ Left (state self.new) (pairs_of self.new.context.trees rest.new.universes.items rest.new.frames.items)) }
         ensures refused { IfErr result (λ e. e ≡ NoSolutionOrStop.NoSolution → visited (listing self.old) (state self.old) (pair_of self.old.context.trees rest.old.universes.items frame ∷ pairs_of self.old.context.trees rest.old.universes.items rest.old.frames.items) ≡ Refused) }
+        ensures cause { IfErr result (λ e. (s : Stop) → e ≡ NoSolutionOrStop.Stop s → IsUnifyingStop self.new.context.trees (listing self.old) s (state self.old) (pair_of self.old.context.trees rest.old.universes.items frame ∷ pairs_of self.old.context.trees rest.old.universes.items rest.old.frames.items)) }
     {
         let left = child_at(&self.cx, frame.left, frame.place, frame.are_lists);
         let right = child_at(&self.cx, frame.right, frame.place, frame.are_lists);
@@ -322,14 +336,17 @@ impl Rounds {
         }
     }
 
-    /// One look: what is first on both sides of a frame, which stood last, under the binders that are around it.
+    /// One look: what is first on both sides of a frame, which stood last, under the binders that are around it. Whatever stops what is
+    /// left then is among what stops all that was left.
     fn look(&mut self, alloc: Global, rest: &mut Rest, frame: Frame) -> Result<(), NoSolutionOrStop>
         requires { AreFrames self.old.context.trees rest.old.universes.items (rest.old.frames.items ++ frame ∷ []) }
         ensures goes { GoesOn self.old self.new }
         ensures frames { OnOk result (AreFrames self.new.context.trees rest.new.universes.items rest.new.frames.items) }
+        ensures later { OnOk result (StopsAsBefore (listing self.old) (state self.old) (pairs_of self.old.context.trees rest.old.universes.items (rest.old.frames.items ++ frame ∷ [])) (listing self.new) (state self.new) (pairs_of self.new.context.trees rest.new.universes.items rest.new.frames.items)) }
         ensures less { OnOk result (looks (listing self.new) (state self.new) (pairs_of self.new.context.trees rest.new.universes.items rest.new.frames.items) < looks (listing self.old) (state self.old) (pairs_of self.old.context.trees rest.old.universes.items (rest.old.frames.items ++ frame ∷ []))) }
         ensures ok { OnOk result (unified (listing self.old) (state self.old) (pairs_of self.old.context.trees rest.old.universes.items (rest.old.frames.items ++ frame ∷ [])) ≡ unified (listing self.new) (state self.new) (pairs_of self.new.context.trees rest.new.universes.items rest.new.frames.items)) }
         ensures refused { IfErr result (λ e. e ≡ NoSolutionOrStop.NoSolution → unified (listing self.old) (state self.old) (pairs_of self.old.context.trees rest.old.universes.items (rest.old.frames.items ++ frame ∷ [])) ≡ None) }
+        ensures cause { IfErr result (λ e. (s : Stop) → e ≡ NoSolutionOrStop.Stop s → IsUnifyingStop self.new.context.trees (listing self.old) s (state self.old) (pairs_of self.old.context.trees rest.old.universes.items (rest.old.frames.items ++ frame ∷ []))) }
     {
         self.well_kept();
         rest.universes.truncate(frame.binders);
@@ -342,6 +359,7 @@ impl Rounds {
         ensures goes { GoesOn self.old self.new }
         ensures ok { OnOk result (unified (listing self.old) (state self.old) (pairs_of self.old.context.trees rest.old.universes.items rest.old.frames.items) ≡ Some (state self.new)) }
         ensures refused { IfErr result (λ e. e ≡ NoSolutionOrStop.NoSolution → unified (listing self.old) (state self.old) (pairs_of self.old.context.trees rest.old.universes.items rest.old.frames.items) ≡ None) }
+        ensures cause { IfErr result (λ e. (s : Stop) → e ≡ NoSolutionOrStop.Stop s → IsUnifyingStop self.new.context.trees (listing self.old) s (state self.old) (pairs_of self.old.context.trees rest.old.universes.items rest.old.frames.items)) }
     {
         while let Some(frame) = rest.frames.pop() {
             self.look(alloc, rest, frame)?;
@@ -350,7 +368,8 @@ impl Rounds {
     }
 
     /// Two types, constants or regions are made equal. Where they can't be, and where it stops, what is known is what it was. Besides
-    /// `Stop::Memory`, `Stop::NodesFull` comes where no numbers are left or a tree would be higher than 1,024.
+    /// `Stop::Memory`, `Stop::NodesFull` comes where no numbers are left, a tree would be higher than 1,024, or a node has more children
+    /// than can be counted.
     pub(crate) fn equate(
         &mut self,
         alloc: Global,
@@ -362,6 +381,7 @@ impl Rounds {
         ensures goes { GoesOn self.old self.new }
         ensures ok { OnOk result (equated (listing self.old) (state self.old) (alone (arg_tree self.old.context.trees a)) (alone (arg_tree self.old.context.trees b)) ≡ Some (state self.new)) }
         ensures refused { IfErr result (λ e. e ≡ NoSolutionOrStop.NoSolution → equated (listing self.old) (state self.old) (alone (arg_tree self.old.context.trees a)) (alone (arg_tree self.old.context.trees b)) ≡ None) }
+        ensures cause { IfErr result (λ e. (s : Stop) → e ≡ NoSolutionOrStop.Stop s → IsEquationStop self.new.context.trees (listing self.old) (state self.old) (alone (arg_tree self.old.context.trees a)) (alone (arg_tree self.old.context.trees b)) s) }
         ensures undone { OnErr result (self.new.inference ≡ self.old.inference) }
     {
         self.well_kept();
@@ -385,6 +405,7 @@ impl Rounds {
         ensures goes { GoesOn self.old self.new }
         ensures ok { OnOk result (equated (listing self.old) (state self.old) (args_forest self.old.context.trees a) (args_forest self.old.context.trees b) ≡ Some (state self.new)) }
         ensures refused { IfErr result (λ e. e ≡ NoSolutionOrStop.NoSolution → equated (listing self.old) (state self.old) (args_forest self.old.context.trees a) (args_forest self.old.context.trees b) ≡ None) }
+        ensures cause { IfErr result (λ e. (s : Stop) → e ≡ NoSolutionOrStop.Stop s → IsEquationStop self.new.context.trees (listing self.old) (state self.old) (args_forest self.old.context.trees a) (args_forest self.old.context.trees b) s) }
         ensures undone { OnErr result (self.new.inference ≡ self.old.inference) }
     {
         self.well_kept();
@@ -403,6 +424,7 @@ impl Rounds {
         ensures goes { GoesOn self.old self.new }
         ensures ok { OnOk result (equated (listing self.old) (state self.old) (args_forest self.old.context.trees a) (args_forest self.old.context.trees b) ≡ Some (state self.new)) }
         ensures refused { IfErr result (λ e. e ≡ NoSolutionOrStop.NoSolution → equated (listing self.old) (state self.old) (args_forest self.old.context.trees a) (args_forest self.old.context.trees b) ≡ None) }
+        ensures cause { IfErr result (λ e. (s : Stop) → e ≡ NoSolutionOrStop.Stop s → IsEquationStop self.new.context.trees (listing self.old) (state self.old) (args_forest self.old.context.trees a) (args_forest self.old.context.trees b) s) }
     {
         let mut rest = Rest::new(alloc);
         rest.push(Frame {
@@ -422,6 +444,7 @@ impl Rounds {
         ensures goes { GoesOn self.old self.new }
         ensures ok { OnOk result (equated (listing self.old) (state self.old) (alone (tree_at self.old.context.trees a)) (alone (tree_at self.old.context.trees b)) ≡ Some (state self.new)) }
         ensures refused { IfErr result (λ e. e ≡ NoSolutionOrStop.NoSolution → equated (listing self.old) (state self.old) (alone (tree_at self.old.context.trees a)) (alone (tree_at self.old.context.trees b)) ≡ None) }
+        ensures cause { IfErr result (λ e. (s : Stop) → e ≡ NoSolutionOrStop.Stop s → IsEquationStop self.new.context.trees (listing self.old) (state self.old) (alone (tree_at self.old.context.trees a)) (alone (tree_at self.old.context.trees b)) s) }
     {
         self.well_kept();
         let mut rest = Rest::new(alloc);

@@ -1,15 +1,19 @@
 //! The value for a variable that meets a tree, and what a tree is at a state.
 
-ghost use Rattle.std.specs.Prelude.{◌≡◌, ◌-◌, Some, None, IfOk, MatchOption, nat_le, option_map, reverse, slice_get, if◌then◌else◌};
+ghost use Rattle.std.specs.Prelude.{◌≡◌, ◌-◌, Some, None, IfOk, IfErr, IsOk, MatchOption, length, nat_le, option_map, reverse, slice_get, if◌then◌else◌};
 ghost use Rattle.candidate_ir.specs.declared.ir.heads.Head.TheVariants as H;
 ghost use Rattle.candidate_ir.specs.Context.{Grows};
+ghost use Rattle.candidate_ir.specs.Folding.{IsAnswerStop};
 ghost use Rattle.candidate_ir.specs.Folds.{IsArg, IsOfKind, arg_tree};
 ghost use Rattle.candidate_ir.specs.Kinds.{arg_kind};
 ghost use Rattle.candidate_ir.specs.Trees.{is_alias};
 ghost use Rattle.candidate_ir.specs.Words.{IsRegion, IsTy, region_kind_tree, region_tree, ty_tree};
 ghost use Rattle.candidate_eval.specs.declared.eval.mode.TypingMode.{TypingMode};
+ghost use Rattle.candidate_eval.specs.Evaluators.{resolved_root};
+ghost use Rattle.candidate_eval.specs.States.{resolved_tree};
 ghost use Rattle.rounds_judge.specs.Equating.{value_for};
 ghost use Rattle.candidate_rounds.specs.Known.{AreTypes, Each, GoesOn, IsKnown, SuitsKind, listing, listing_of, state, state_of};
+ghost use Rattle.candidate_rounds.specs.Stopping.{IsTreeStop, IsValueStop};
 ghost use Rattle.rounds_judge.specs.Listed.{current, listed, listed_at, normalized_tree};
 ghost use Rattle.rounds_judge.specs.Scopes.{placed_head, placed_tree};
 
@@ -63,6 +67,7 @@ fn normalized(
     ensures grows { Grows cx.old cx.new }
     ensures sort { IfOk result (λ x. IsArg cx.new.trees x × (arg_kind x ≡ arg_kind arg)) }
     ensures tree { IfOk result (λ x. arg_tree cx.new.trees x ≡ normalized_tree (listing_of cx.old.trees normal.now) (arg_tree cx.old.trees arg)) }
+    ensures cause { IfErr result (λ s. IsTreeStop cx.new.trees (normalized_tree (listing_of cx.old.trees normal.now) (arg_tree cx.old.trees arg)) s) }
 {
     if normal.is_empty() {
         return Ok(arg);
@@ -75,6 +80,7 @@ fn normalized(
             requires arg { IsArg cx.old.trees arg }
             requires types { Each (AreTypes cx.old.trees) normal.now }
             ensures same { cx.new ≡ cx.old }
+            ensures answers { IsOk result }
             ensures kind { IfOk result (λ o. IsOfKind cx.old.trees arg o) }
             ensures answer { IfOk result (λ o. option_map (arg_tree cx.old.trees) o ≡ listed (listing_of cx.old.trees normal.entry.now) (arg_tree cx.old.trees arg)) }
         { Ok(listed_arg(cx, normal, arg)) },
@@ -122,6 +128,7 @@ fn placed_arg(
     ensures grows { Grows cx.old cx.new }
     ensures kind { IfOk result (λ o. IsOfKind cx.new.trees arg o) }
     ensures answer { IfOk result (λ o. option_map (arg_tree cx.new.trees) o ≡ placed_head (reverse universes.now) binders (arg_tree cx.old.trees arg).head) }
+    ensures cause { IfErr result (λ s. IsAnswerStop (length cx.new.trees) (placed_head (reverse universes.now) binders (arg_tree cx.old.trees arg).head) s) }
 {
     let Head::Region(kind) = cx.head(arg.number()) else {
         return Ok(None);
@@ -139,6 +146,7 @@ fn placed_region(cx: &mut Cx, universes: &[u32], region: Region) -> Result<Regio
     ensures grows { Grows cx.old cx.new }
     ensures sort { IfOk result (λ r. IsRegion cx.new.trees r) }
     ensures tree { IfOk result (λ r. region_tree cx.new.trees r ≡ placed_tree (reverse universes.now) (region_tree cx.old.trees region)) }
+    ensures cause { IfErr result (λ s. IsTreeStop cx.new.trees (placed_tree (reverse universes.now) (region_tree cx.old.trees region)) s) }
 {
     match placeholder_for(universes, 0, cx.region_kind(region)) {
         Some(placeholder) => cx.mk_region(placeholder),
@@ -158,6 +166,7 @@ fn placed(
     ensures grows { Grows cx.old cx.new }
     ensures sort { IfOk result (λ x. IsArg cx.new.trees x × (arg_kind x ≡ arg_kind arg)) }
     ensures tree { IfOk result (λ x. arg_tree cx.new.trees x ≡ placed_tree (reverse universes.now) (arg_tree cx.old.trees arg)) }
+    ensures cause { IfErr result (λ s. IsTreeStop cx.new.trees (placed_tree (reverse universes.now) (arg_tree cx.old.trees arg)) s) }
 {
     if universes.is_empty() {
         return Ok(arg);
@@ -171,6 +180,7 @@ fn placed(
             ensures grows { Grows cx.old cx.new }
             ensures kind { IfOk result (λ o. IsOfKind cx.new.trees arg o) }
             ensures answer { IfOk result (λ o. option_map (arg_tree cx.new.trees) o ≡ placed_head (reverse universes.entry.now) binders (arg_tree cx.old.trees arg).head) }
+            ensures cause { IfErr result (λ s. IsAnswerStop (length cx.new.trees) (placed_head (reverse universes.entry.now) binders (arg_tree cx.old.trees arg).head) s) }
         { placed_arg(cx, universes, binders, arg) },
     )
 }
@@ -191,6 +201,7 @@ fn value_in(
     ensures grows { Grows cx.old cx.new }
     ensures sort { IfOk result (λ x. IsArg cx.new.trees x × (arg_kind x ≡ arg_kind arg)) }
     ensures tree { (m : TypingMode) → IfOk result (λ x. arg_tree cx.new.trees x ≡ value_for (listing_of cx.old.trees normal.now) (state_of cx.old.trees m inference.now) (reverse universes.now) (arg_tree cx.old.trees arg)) }
+    ensures cause { (m : TypingMode) → IfErr result (λ s. IsValueStop cx.new.trees (listing_of cx.old.trees normal.now) (state_of cx.old.trees m inference.now) (reverse universes.now) (arg_tree cx.old.trees arg) s) }
 {
     let resolved = resolved_arg(alloc, cx, inference, arg)?;
     let listed = normalized(alloc, cx, normal, resolved)?;
@@ -225,6 +236,7 @@ fn listed_root(
     ensures grows { Grows cx.old cx.new }
     ensures sort { IfOk result (λ x. IsArg cx.new.trees x × (arg_kind x ≡ arg_kind arg)) }
     ensures tree { (m : TypingMode) → IfOk result (λ x. arg_tree cx.new.trees x ≡ listed_at (listing_of cx.old.trees normal.now) (state_of cx.old.trees m inference.now) (arg_tree cx.old.trees arg)) }
+    ensures cause { (m : TypingMode) → IfErr result (λ s. IsTreeStop cx.new.trees (resolved_tree (state_of cx.old.trees m inference.now) (arg_tree cx.old.trees arg)) s) }
 {
     if normal.is_empty() {
         return Ok(arg);
@@ -251,6 +263,7 @@ fn current_in(
     ensures grows { Grows cx.old cx.new }
     ensures sort { IfOk result (λ x. IsArg cx.new.trees x × (arg_kind x ≡ arg_kind arg)) }
     ensures tree { (m : TypingMode) → IfOk result (λ x. arg_tree cx.new.trees x ≡ current (listing_of cx.old.trees normal.now) (state_of cx.old.trees m inference.now) (arg_tree cx.old.trees arg)) }
+    ensures cause { (m : TypingMode) → IfErr result (λ s. IsTreeStop cx.new.trees (resolved_tree (state_of cx.old.trees m inference.now) (resolved_root (state_of cx.old.trees m inference.now) (arg_tree cx.old.trees arg))) s) }
 {
     let root = resolved_root(cx, inference, arg);
     listed_root(alloc, cx, inference, normal, root)
@@ -274,6 +287,7 @@ impl Rounds {
         ensures state { state self.new ≡ state self.old }
         ensures sort { IfOk result (λ x. IsArg self.new.context.trees x) }
         ensures tree { IfOk result (λ x. arg_tree self.new.context.trees x ≡ current (listing self.old) (state self.old) (arg_tree self.old.context.trees arg)) }
+        ensures cause { IfErr result (λ s. IsTreeStop self.new.context.trees (resolved_tree (state self.old) (resolved_root (state self.old) (arg_tree self.old.context.trees arg))) s) }
     {
         current_in(
             alloc,
@@ -299,6 +313,7 @@ impl Rounds {
         ensures state { state self.new ≡ state self.old }
         ensures sort { IfOk result (λ x. IsArg self.new.context.trees x) }
         ensures tree { IfOk result (λ x. arg_tree self.new.context.trees x ≡ value_for (listing self.old) (state self.old) (reverse universes.now) (arg_tree self.old.context.trees arg)) }
+        ensures cause { IfErr result (λ s. IsValueStop self.new.context.trees (listing self.old) (state self.old) (reverse universes.now) (arg_tree self.old.context.trees arg) s) }
     {
         value_in(
             alloc,
@@ -322,6 +337,7 @@ impl Rounds {
         ensures state { state self.new ≡ state self.old }
         ensures sort { IfOk result (λ r. IsRegion self.new.context.trees r) }
         ensures tree { IfOk result (λ r. region_tree self.new.context.trees r ≡ placed_tree (reverse universes.now) (region_tree self.old.context.trees region)) }
+        ensures cause { IfErr result (λ s. IsTreeStop self.new.context.trees (placed_tree (reverse universes.now) (region_tree self.old.context.trees region)) s) }
     {
         placed_region(&mut self.cx, universes, region)
     }

@@ -1,4 +1,4 @@
-use Rattle.std.proofs.Common.{◌≡◌, reverse, IfOk, ◌∙◌, ap, subst}
+use Rattle.std.proofs.Common.{◌≡◌, reverse, IfOk, ◌∙◌, ap, subst, IfErr}
 use Rattle.candidate_ir.specs.Folds.{arg_tree}
 use Rattle.rounds_judge.specs.Listed.{current}
 use Rattle.candidate_rounds.specs.Known.{Evaluator, listing, listing_of, state, state_of}
@@ -6,6 +6,9 @@ use Rattle.candidate_rounds.proofs.Knowing.{given-grown, state-stays}
 use Rattle.candidate_rounds.proofs.Holding.{kinds-now}
 use Rattle.candidate_rounds.proofs.Probing.{holds-grown}
 use Rattle.candidate_rounds.proofs.ResolvedValues.{evaluator-grown}
+use Rattle.candidate_rounds.specs.Stopping.{IsTreeStop}
+use Rattle.candidate_eval.specs.States.{resolved_tree}
+use Rattle.candidate_eval.specs.Evaluators.{resolved_root}
 use Rattle.candidate_rounds.proofs.rounds.Rounds.current.Goals as goal
 
 pub current_in-requires-clause-kinds : goal.current_in-requires-clause-kinds
@@ -26,3 +29,8 @@ returns-clause-tree c =
     subst (λ (e : Evaluator). IfOk c.current_in.result (λ x. arg_tree c.current_in.new.cx.trees x ≡ current (listing e) (state e) (arg_tree e.context.trees c.args.arg))) c.self.view_is
     (subst (λ ps. IfOk c.current_in.result (λ x. arg_tree c.current_in.new.cx.trees x ≡ current (listing_of c.self.inside.cx.trees ps) (state_of c.self.inside.cx.trees c.self.inside.mode c.self.inside.inference) (arg_tree c.self.inside.cx.trees c.args.arg)))
     c.as_slice.ensures.value (c.current_in.ensures.tree c.self.inside.mode))
+
+pub returns-clause-cause : goal.returns-clause-cause
+returns-clause-cause c =
+    subst (λ (e : Evaluator). IfErr c.current_in.result (λ s. IsTreeStop c.current_in.new.cx.trees (resolved_tree (state e) (resolved_root (state e) (arg_tree e.context.trees c.args.arg))) s)) c.self.view_is
+    (c.current_in.ensures.cause c.self.inside.mode)

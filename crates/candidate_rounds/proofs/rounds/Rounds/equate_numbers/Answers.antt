@@ -1,4 +1,4 @@
-use Rattle.std.proofs.Common.{◌≡◌, ℕ, [], reverse, sym, ◌∙◌, ap}
+use Rattle.std.proofs.Common.{◌≡◌, ℕ, [], reverse, sym, ◌∙◌, ap, subst, ◌∷◌}
 use Rattle.std.proofs.lemmas.Result.{err_from_is_err_and}
 use Rattle.candidate_ir.specs.Nodes.{tree_at}
 use Rattle.candidate_ir.specs.Substitutions.{alone}
@@ -10,6 +10,9 @@ use Rattle.rounds_judge.specs.Listed.{current}
 use Rattle.candidate_rounds.proofs.Going.{goes-listing}
 use Rattle.rounds_judge.proofs.Stepping.{equated-left, equated-refused}
 use Rattle.candidate_rounds.proofs.Visiting.{ok-from, refused-from}
+use Rattle.candidate_ir.specs.Trees.{none}
+use Rattle.candidate_rounds.specs.Stopping.{IsLookStop, IsUnifyingStop, begun, later, at_once}
+use Rattle.candidate_rounds.proofs.EquatingStops.{each-stop, first-left, stops-onto, through}
 use Rattle.candidate_rounds.proofs.rounds.Rounds.equate_numbers.Goals as goal
 
 -- nothing else is left at the beginning
@@ -48,3 +51,28 @@ returns-clause-ok c = ok-from c.unify.result _ _ _ (others-are c) c.unify.ensure
 
 pub returns-clause-refused : goal.returns-clause-refused
 returns-clause-refused c = refused-from c.unify.result _ _ _ (others-are c) c.unify.ensures.refused
+
+pub returns-in_err-meet_current-clause-cause : goal.returns-in_err-meet_current-clause-cause
+returns-in_err-meet_current-clause-cause c =
+    let old = c.args.self.now in
+    let ts = old.context.trees in
+    through _ c.from_residual.result _ c.from_residual.ensures.1
+    (λ s n. begun
+    (at_once (subst (λ us. IsLookStop c.meet_current.new.self.context.trees (listing old) (state old) (reverse us) (tree_at ts c.args.a) (tree_at ts c.args.b) s) c.new-rest.ensures.universes (c.in_err-meet_current.ensures.cause s n))))
+
+pub returns-clause-cause : goal.returns-clause-cause
+returns-clause-cause c =
+    let old = c.args.self.now in
+    let mid = c.meet_current.new.self in
+    let kept = c.well_kept.ensures in
+    let ts = c.unify.new.self.context.trees in
+    let left = pairs_of mid.context.trees c.meet_current.new.rest.universes.items c.meet_current.new.rest.frames.items in
+    let first =
+    first-left (listing old) (state old) (state mid) (tree_at old.context.trees c.args.a) (tree_at old.context.trees c.args.b) left
+    (met-first old c.new-rest.result c.args.a c.args.b c.new-rest.ensures.universes c.new-rest.ensures.frames ∙ c.in_ok-meet_current.ensures.ok) in
+    each-stop _ _ c.unify.result
+    (λ s k. begun
+    (later first
+    (stops-onto ts (listing old) s (state mid) left (record { scope = []; left = none; right = none } ∷ [])
+    (subst (λ l. IsUnifyingStop ts l s (state mid) left) (goes-listing old mid c.meet_current.ensures.goes kept.given) k))))
+    c.unify.ensures.cause

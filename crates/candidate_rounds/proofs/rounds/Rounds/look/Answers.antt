@@ -1,9 +1,11 @@
-use Rattle.std.proofs.Common.{◌≡◌, ◌++◌, ◌∷◌, []}
+use Rattle.std.proofs.Common.{◌≡◌, ◌++◌, ◌∷◌, [], subst}
 use Rattle.candidate_rounds.specs.Frames.{pair_of, pairs_of}
 use Rattle.candidate_rounds.specs.Known.{listing, state}
 use Rattle.candidate_rounds.proofs.Going.{goes-listing}
 use Rattle.rounds_judge.proofs.Stepping.{look-less, look-on, look-refused}
 use Rattle.candidate_rounds.proofs.Visiting.{pairs-cut}
+use Rattle.candidate_rounds.specs.Stopping.{IsUnifyingStop}
+use Rattle.candidate_rounds.proofs.EquatingStops.{each-stop, look-later}
 use Rattle.candidate_rounds.proofs.rounds.Rounds.look.Goals as goal
 
 -- all that is left, from the frame on
@@ -30,3 +32,14 @@ returns-clause-refused c =
     let old = c.args.self.now in
     let kept = c.well_kept.ensures in
     look-refused (listing old) kept.given.listing (state old) (kept.resolved.now old.mode) c.visit.result _ _ (whole c) c.visit.ensures.refused
+
+pub returns-clause-later : goal.returns-clause-later
+returns-clause-later c =
+    let old = c.args.self.now in
+    let new = c.visit.new.self in
+    look-later c.visit.result (listing old) (listing new) (state old) (state new) _ _ _ (goes-listing old new c.visit.ensures.goes c.well_kept.ensures.given) (whole c) c.visit.ensures.ok
+
+pub returns-clause-cause : goal.returns-clause-cause
+returns-clause-cause c =
+    let old = c.args.self.now in
+    each-stop _ _ c.visit.result (λ s k. subst (λ ps. IsUnifyingStop c.visit.new.self.context.trees (listing old) s (state old) ps) (whole c) k) c.visit.ensures.cause

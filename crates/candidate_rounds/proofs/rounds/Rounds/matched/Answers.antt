@@ -5,6 +5,8 @@ use Rattle.candidate_rounds.specs.Frames.{pairs_of}
 use Rattle.candidate_rounds.specs.Known.{state}
 use Rattle.candidate_rounds.proofs.Framing.{frames-kept, pairs-kept}
 use Rattle.candidate_rounds.proofs.Offering.{regions-matched}
+use Rattle.candidate_rounds.specs.Stopping.{no_universe}
+use Rattle.candidate_rounds.proofs.EquatingStops.{question}
 use Rattle.candidate_rounds.proofs.rounds.Rounds.matched.Goals as goal
 
 pub returns-in-Some-clause-frames : goal.returns-in-Some-clause-frames
@@ -22,3 +24,6 @@ returns-in-Some-clause-ok c =
     regions-matched (state old) (state new) us c.as_slice.result.now (tree_at ts c.args.left) (tree_at ts c.args.right) (region_tree ts c.in-Some.left) (region_tree ts c.in-Some.right)
     (pairs_of ts us fs) (pairs_of new.context.trees us fs) is.4 c.as_slice.ensures.value (ap (tree_at ts) is.0) (ap (tree_at ts) is.1)
     (pairs-kept ts new.context.trees us fs c.equal_regions.ensures.goes.0.kept c.requires.frames) c.in_ok-equal_regions.ensures.recorded
+
+pub returns-in_err-enter_below-clause-cause : goal.returns-in_err-enter_below-clause-cause
+returns-in_err-enter_below-clause-cause c = question _ c.from_residual-in_err-enter_below.result _ c.from_residual-in_err-enter_below.ensures.1 (no_universe c.in_err-enter_below.ensures.cause)

@@ -1,4 +1,4 @@
-use Rattle.std.proofs.Common.{◌≡◌, reverse, ◌∙◌}
+use Rattle.std.proofs.Common.{◌≡◌, reverse, ◌∙◌, subst}
 use Rattle.candidate_ir.specs.Nodes.{tree_at}
 use Rattle.candidate_rounds.specs.Frames.{pairs_of}
 use Rattle.candidate_rounds.specs.Known.{listing, state}
@@ -6,6 +6,8 @@ use Rattle.candidate_rounds.proofs.Framing.{frames-kept, pairs-kept}
 use Rattle.candidate_rounds.proofs.Going.{goes-trans}
 use Rattle.candidate_rounds.proofs.Visiting.{by-answer, left-takes, matched-on, neither-takes, offered-on, ok-from, refused-from, right-takes}
 use Rattle.rounds_judge.specs.Equating.{matched, met}
+use Rattle.candidate_rounds.specs.Stopping.{IsOfferStop, of_left_offer, of_right_offer, of_match}
+use Rattle.candidate_rounds.proofs.EquatingStops.{each-stop, match-before, offer-before, question}
 use Rattle.candidate_rounds.proofs.rounds.Rounds.meet.Goals as goal
 
 pub returns-then-branch-clause-frames : goal.returns-then-branch-clause-frames
@@ -86,3 +88,43 @@ returns-clause-ok c = ok-from c.matched.result _ _ _ (met-is c) c.matched.ensure
 
 pub returns-clause-refused : goal.returns-clause-refused
 returns-clause-refused c = refused-from c.matched.result _ _ _ (met-is c) c.matched.ensures.refused
+
+pub returns-clause-goes : goal.returns-clause-goes
+returns-clause-goes c =
+    goes-trans c.args.self.now c.offered.new.self c.matched.new.self c.offered.ensures.goes
+    (goes-trans c.offered.new.self c.offered-2.new.self c.matched.new.self c.offered-2.ensures.goes c.matched.ensures.goes)
+
+pub returns-in_err-offered-clause-cause : goal.returns-in_err-offered-clause-cause
+returns-in_err-offered-clause-cause c =
+    let old = c.args.self.now in
+    let ts = old.context.trees in
+    let s = c.in_err-offered.field-0.0 in
+    question _ c.from_residual.result _ c.from_residual.ensures.1
+    (of_left_offer
+    (subst (λ us. IsOfferStop c.offered.new.self.context.trees (listing old) (state old) (reverse us) (tree_at ts c.args.left).head (tree_at ts c.args.right) s) c.as_slice.ensures.value c.in_err-offered.ensures.cause))
+
+pub returns-in_err-offered-2-clause-cause : goal.returns-in_err-offered-2-clause-cause
+returns-in_err-offered-2-clause-cause c =
+    let old = c.args.self.now in
+    let mid = c.offered.new.self in
+    let ts = c.offered-2.new.self.context.trees in
+    let us = c.args.rest.now.universes.items in
+    let s = c.in_err-offered-2.field-0.0 in
+    let same = c.in_ok-offered.ensures.declined c.if-branch.false in
+    question _ c.from_residual-in_err-offered-2.result _ c.from_residual-in_err-offered-2.ensures.1
+    (of_right_offer
+    (offer-before old mid c.offered.ensures.goes c.well_kept.ensures.given same ts (reverse us) c.args.right c.args.left c.requires.right c.requires.left s
+    (subst (λ us. IsOfferStop ts (listing mid) (state mid) (reverse us) (tree_at mid.context.trees c.args.right).head (tree_at mid.context.trees c.args.left) s) c.as_slice-2.ensures.value
+    c.in_err-offered-2.ensures.cause)))
+
+pub returns-clause-cause : goal.returns-clause-cause
+returns-clause-cause c =
+    let old = c.args.self.now in
+    let mid = c.offered.new.self in
+    let new = c.offered-2.new.self in
+    let goes = goes-trans old mid new c.offered.ensures.goes c.offered-2.ensures.goes in
+    let first = c.in_ok-offered.ensures.declined c.if-branch.false in
+    let second = c.in_ok-offered-2.ensures.declined c.if-branch-2.false in
+    each-stop _ _ c.matched.result
+    (λ s k. of_match (match-before old new goes c.well_kept.ensures.given (second ∙ first) c.matched.new.self.context.trees (reverse c.args.rest.now.universes.items) c.args.left c.args.right c.requires.left c.requires.right s k))
+    c.matched.ensures.cause

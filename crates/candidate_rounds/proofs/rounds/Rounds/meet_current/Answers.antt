@@ -1,8 +1,8 @@
-use Rattle.std.proofs.Common.{◌≡◌, refl, reverse, sym, ◌∙◌, ap}
+use Rattle.std.proofs.Common.{◌≡◌, refl, reverse, sym, ◌∙◌, ap, subst}
 use Rattle.candidate_ir.specs.Nodes.{tree_at}
 use Rattle.candidate_ir.specs.Trees.{Tree}
 use Rattle.candidate_ir.proofs.Kept.{number-kept}
-use Rattle.candidate_eval.specs.Evaluators.{root_value}
+use Rattle.candidate_eval.specs.Evaluators.{root_value, resolved_root}
 use Rattle.rounds_judge.specs.Equating.{met}
 use Rattle.candidate_rounds.specs.Frames.{pairs_of}
 use Rattle.candidate_rounds.specs.Known.{listing, state}
@@ -11,6 +11,9 @@ use Rattle.rounds_judge.proofs.Ending.{current_rests}
 use Rattle.candidate_rounds.proofs.Framing.{frames-kept, pairs-kept}
 use Rattle.candidate_rounds.proofs.Going.{goes-listing, goes-trans}
 use Rattle.candidate_rounds.proofs.Visiting.{current-on, met-same, number-on, ok-from, refused-from}
+use Rattle.candidate_eval.specs.States.{State, resolved_tree}
+use Rattle.candidate_rounds.specs.Stopping.{IsTreeStop, of_left, of_right, of_meeting}
+use Rattle.candidate_rounds.proofs.EquatingStops.{each-stop, meeting-same, question}
 use Rattle.candidate_rounds.proofs.rounds.Rounds.meet_current.Goals as goal
 
 pub meet-requires-clause-left_free : goal.meet-requires-clause-left_free
@@ -81,3 +84,38 @@ returns-clause-ok c = ok-from c.meet.result _ _ _ (met-is c) c.meet.ensures.ok
 
 pub returns-clause-refused : goal.returns-clause-refused
 returns-clause-refused c = refused-from c.meet.result _ _ _ (met-is c) c.meet.ensures.refused
+
+pub returns-in_err-left-clause-cause : goal.returns-in_err-left-clause-cause
+returns-in_err-left-clause-cause c = question _ c.from_residual.result _ c.from_residual.ensures.1 (of_left c.in_err-left.ensures.cause)
+
+pub returns-in_err-right-clause-cause : goal.returns-in_err-right-clause-cause
+returns-in_err-right-clause-cause c =
+    let old = c.args.self.now in
+    let mid = c.current_number.new.self in
+    let ts = c.current_number-2.new.self.context.trees in
+    let s = c.in_err-right.field-0.0 in
+    let same = number-on old mid c.current_number.ensures.goes c.well_kept.ensures.given c.current_number.ensures.state c.args.right c.requires.right in
+    question _ c.from_residual-in_err-right.result _ c.from_residual-in_err-right.ensures.1
+    (of_right
+    (subst (λ t. IsTreeStop ts (resolved_tree (state old) (resolved_root (state old) t)) s) same
+    (subst (λ S. IsTreeStop ts (resolved_tree S (resolved_root S (tree_at mid.context.trees c.args.right))) s) c.current_number.ensures.state c.in_err-right.ensures.cause)))
+
+pub returns-clause-cause : goal.returns-clause-cause
+returns-clause-cause c =
+    let old = c.args.self.now in
+    let mid = c.current_number.new.self in
+    let new = c.current_number-2.new.self in
+    let ts = old.context.trees in
+    let goes = goes-trans old mid new c.current_number.ensures.goes c.current_number-2.ensures.goes in
+    let given = c.well_kept.ensures.given in
+    each-stop _ _ c.meet.result
+    (λ s k. of_meeting
+    (meeting-same c.meet.new.self.context.trees (listing old) (listing new) (state old) (state new) (reverse c.args.rest.now.universes.items)
+    (current (listing old) (state old) (tree_at ts c.args.left)) (current (listing old) (state old) (tree_at ts c.args.right))
+    (tree_at new.context.trees c.in_ok-left.left) (tree_at new.context.trees c.in_ok-right.right) s
+    (goes-listing old new goes given) (c.current_number-2.ensures.state ∙ c.current_number.ensures.state)
+    ((number-kept mid.context.trees new.context.trees c.in_ok-left.left c.current_number-2.ensures.goes.0.kept c.in_ok-left.ensures.inside).1 ∙ c.in_ok-left.ensures.tree)
+    (c.in_ok-right.ensures.tree
+    ∙ current-on old mid c.current_number.ensures.goes given c.current_number.ensures.state (tree_at mid.context.trees c.args.right) (tree_at ts c.args.right)
+    (number-on old mid c.current_number.ensures.goes given c.current_number.ensures.state c.args.right c.requires.right)) k))
+    c.meet.ensures.cause

@@ -10,6 +10,8 @@ use Rattle.rounds_judge.proofs.Ending.{value_resolved}
 use Rattle.candidate_rounds.proofs.Alone.{infer-is}
 use Rattle.candidate_rounds.proofs.Going.{goes-trans}
 use Rattle.candidate_rounds.proofs.Offering.{declined, none-asked, taken-by}
+use Rattle.std.proofs.lemmas.Result.{err_from_is_err_and}
+use Rattle.candidate_rounds.specs.Stopping.{IsBindingStop, IsValueStop, of_offered, of_taken}
 use Rattle.candidate_rounds.proofs.rounds.Rounds.offered.Goals as goal
 
 pub returns-in_default-argument-clause-taken : goal.returns-in_default-argument-clause-taken
@@ -55,3 +57,28 @@ returns-clause-taken c more =
     let head = ap (λ (e : Evaluator). (tree_at e.context.trees c.args.to).head) (sym c.self.view_is) ∙ infer-is (tree_at c.self.inside.cx.trees c.args.to).head v (sym c.variable_at.ensures ∙ c.in-Some.is) in
     taken-by (listing old) (state old) us (tree_at old.context.trees c.args.to).head v t more head may
     ∙ sym (ap (λ S. Some (Left S more)) (c.in_ok-bind.ensures.bound ∙ (ap (λ S. bound S v x) c.value_for.ensures.state ∙ ap (bound (state old) v) is)))
+
+pub returns-in_err-value-clause-cause : goal.returns-in_err-value-clause-cause
+returns-in_err-value-clause-cause c =
+    let old = c.args.self.now in
+    let v = c.in-Some.variable in
+    let us = reverse c.args.universes.now in
+    let p = err_from_is_err_and c.from_residual.result c.from_residual.ensures.1 in
+    let head = ap (λ (e : Evaluator). (tree_at e.context.trees c.args.to).head) (sym c.self.view_is) ∙ infer-is (tree_at c.self.inside.cx.trees c.args.to).head v (sym c.variable_at.ensures ∙ c.in-Some.is) in
+    rw (p.1, p.2)
+    (of_offered v head
+    (subst (λ n. IsValueStop c.value_for.new.self.context.trees (listing old) (state old) us (tree_at old.context.trees n) c.in_err-value.field-0.0) c.in-Some-argument.ensures.0 c.in_err-value.ensures.cause))
+
+pub returns-in_err-bind-clause-cause : goal.returns-in_err-bind-clause-cause
+returns-in_err-bind-clause-cause c =
+    let old = c.args.self.now in
+    let v = c.in-Some.variable in
+    let us = reverse c.args.universes.now in
+    let t = tree_at old.context.trees c.args.number in
+    let x = arg_tree c.value_for.new.self.context.trees c.in_ok-value.value in
+    let ts = c.bind.new.self.context.trees in
+    let s = c.in_err-bind.field-0.0 in
+    let p = err_from_is_err_and c.from_residual-in_err-bind.result c.from_residual-in_err-bind.ensures.1 in
+    let is : x ≡ value_for (listing old) (state old) us t = c.in_ok-value.ensures.tree ∙ ap (λ n. value_for (listing old) (state old) us (tree_at old.context.trees n)) c.in-Some-argument.ensures.0 in
+    let head = ap (λ (e : Evaluator). (tree_at e.context.trees c.args.to).head) (sym c.self.view_is) ∙ infer-is (tree_at c.self.inside.cx.trees c.args.to).head v (sym c.variable_at.ensures ∙ c.in-Some.is) in
+    rw (p.1, p.2) (of_taken v head (subst (λ y. IsBindingStop ts (state old) v y s) is (subst (λ S. IsBindingStop ts S v x s) c.value_for.ensures.state c.in_err-bind.ensures.cause)))

@@ -10,6 +10,7 @@ use Rattle.candidate_rounds.proofs.ResolvedValues.{evaluator-changed, evaluator-
 use Rattle.candidate_rounds.proofs.Going.{further-region, further-trans}
 use Rattle.candidate_rounds.proofs.Recording.{both, holds-region}
 use Rattle.candidate_rounds.specs.Inferences.{record_region}
+use Rattle.candidate_rounds.proofs.BindingStops.{unrecorded}
 use Rattle.candidate_rounds.proofs.rounds.Rounds.record_equal_regions.Goals as goal
 
 pub invariant_of-self : goal.invariant_of-self
@@ -46,3 +47,6 @@ returns-clause-recorded c =
     subst (λ (e : Evaluator). OnOk c.record_both.result (state_of us i.mode c.record_both.new.inference ≡ with_equal_regions (state e) (region_tree e.context.trees c.args.a) (region_tree e.context.trees c.args.b))) c.self.view_is
     (equal-recorded i.cx.trees us i.mode i.inference c.record_both.new.inference c.in_ok-one.one c.in_ok-one.other (region_tree i.cx.trees c.args.a) (region_tree i.cx.trees c.args.b) c.record_both.result
     c.equal_regions.ensures.grows.kept c.self.invariant.consistent.known (sym c.is_same_region.ensures ∙ c.if-is_same_region.false) c.in_ok-one.ensures.one.1 c.in_ok-one.ensures.other.1 c.record_both.ensures.recorded)
+
+pub returns-clause-cause : goal.returns-clause-cause
+returns-clause-cause c = unrecorded _ _ _ c.record_both.result c.record_both.ensures.cause

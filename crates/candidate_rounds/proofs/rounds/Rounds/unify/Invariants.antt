@@ -2,6 +2,7 @@ use Rattle.std.proofs.Common.{◌≡◌}
 use Rattle.rounds_judge.specs.Equating.{looks, unified}
 use Rattle.candidate_rounds.specs.Frames.{AreFrames, pairs_of}
 use Rattle.candidate_rounds.specs.Known.{GoesOn, listing, state}
+use Rattle.candidate_rounds.specs.Stopping.{StopsAsBefore}
 use Rattle.candidate_rounds.proofs.rounds.Rounds.unify.Given as goal
 
 abbrev pub decreases-loop-frame : goal.decreases-loop-frame
@@ -13,3 +14,5 @@ invariant-loop-frame l =
     × AreFrames l.self.context.trees l.rest.universes.items l.rest.frames.items
     × (unified (listing l.initial.self) (state l.initial.self) (pairs_of l.initial.self.context.trees l.initial.rest.universes.items l.initial.rest.frames.items)
     ≡ unified (listing l.self) (state l.self) (pairs_of l.self.context.trees l.rest.universes.items l.rest.frames.items))
+    × StopsAsBefore (listing l.initial.self) (state l.initial.self) (pairs_of l.initial.self.context.trees l.initial.rest.universes.items l.initial.rest.frames.items)
+    (listing l.self) (state l.self) (pairs_of l.self.context.trees l.rest.universes.items l.rest.frames.items)

@@ -1,4 +1,4 @@
-use Rattle.std.proofs.Common.{◌≡◌, reverse, IfOk, ◌∙◌, ap, subst}
+use Rattle.std.proofs.Common.{◌≡◌, reverse, IfOk, ◌∙◌, ap, subst, IfErr}
 use Rattle.candidate_ir.specs.Folds.{arg_tree}
 use Rattle.rounds_judge.specs.Equating.{value_for}
 use Rattle.candidate_rounds.specs.Known.{Evaluator, listing, listing_of, state, state_of}
@@ -6,6 +6,7 @@ use Rattle.candidate_rounds.proofs.Knowing.{given-grown, state-stays}
 use Rattle.candidate_rounds.proofs.Holding.{kinds-now}
 use Rattle.candidate_rounds.proofs.Probing.{holds-grown}
 use Rattle.candidate_rounds.proofs.ResolvedValues.{evaluator-grown}
+use Rattle.candidate_rounds.specs.Stopping.{IsValueStop}
 use Rattle.candidate_rounds.proofs.rounds.Rounds.value_for.Goals as goal
 
 pub value_in-requires-clause-kinds : goal.value_in-requires-clause-kinds
@@ -26,3 +27,9 @@ returns-clause-tree c =
     subst (λ (e : Evaluator). IfOk c.value_in.result (λ x. arg_tree c.value_in.new.cx.trees x ≡ value_for (listing e) (state e) (reverse c.args.universes.now) (arg_tree e.context.trees c.args.arg))) c.self.view_is
     (subst (λ ps. IfOk c.value_in.result (λ x. arg_tree c.value_in.new.cx.trees x ≡ value_for (listing_of c.self.inside.cx.trees ps) (state_of c.self.inside.cx.trees c.self.inside.mode c.self.inside.inference) (reverse c.args.universes.now) (arg_tree c.self.inside.cx.trees c.args.arg)))
     c.as_slice.ensures.value (c.value_in.ensures.tree c.self.inside.mode))
+
+pub returns-clause-cause : goal.returns-clause-cause
+returns-clause-cause c =
+    subst (λ (e : Evaluator). IfErr c.value_in.result (λ s. IsValueStop c.value_in.new.cx.trees (listing e) (state e) (reverse c.args.universes.now) (arg_tree e.context.trees c.args.arg) s)) c.self.view_is
+    (subst (λ ps. IfErr c.value_in.result (λ s. IsValueStop c.value_in.new.cx.trees (listing_of c.self.inside.cx.trees ps) (state_of c.self.inside.cx.trees c.self.inside.mode c.self.inside.inference) (reverse c.args.universes.now) (arg_tree c.self.inside.cx.trees c.args.arg) s))
+    c.as_slice.ensures.value (c.value_in.ensures.cause c.self.inside.mode))

@@ -1,11 +1,14 @@
-use Rattle.std.proofs.Common.{◌≡◌, ◌∷◌, suc, reverse, refl, ◌∙◌, ap, subst, arith}
+use Rattle.std.proofs.Common.{◌≡◌, ◌∷◌, suc, reverse, refl, ◌∙◌, ap, subst, arith, ◌≤◌, sym}
 use Rattle.candidate_ir.specs.Nodes.{tree_at}
 use Rattle.candidate_ir.specs.Trees.{tree, skip}
 use Rattle.rounds_judge.specs.Equating.{met, visited}
-use Rattle.candidate_rounds.specs.Frames.{pair_of, pairs_of}
+use Rattle.candidate_rounds.specs.Frames.{pair_of, pairs_of, scope_of}
 use Rattle.candidate_rounds.specs.Known.{Evaluator, listing, state}
 use Rattle.rounds_judge.specs.Listed.{current}
 use Rattle.candidate_rounds.proofs.Visiting.{child-row, frame-scope, met-same, next-pairs, ok-from, refused-from, rows-begin}
+use Rattle.candidate_rounds.proofs.EquatingStops.{question, child-of, children-beyond, each-stop, look-stops}
+use Rattle.candidate_rounds.specs.Stopping.{IsLookStop, IsUnifyingStop, refused_growth, wide_node, HasWideNode}
+use Rattle.candidate_ir.specs.declared.ir.stop.Stop.TheVariants.{NodesFull}
 use Rattle.candidate_rounds.proofs.rounds.Rounds.visit.Goals as goal
 
 -- both rows begin with trees, which meet
@@ -43,3 +46,48 @@ returns-in_ok-push-in-Some-Some-clause-ok c = ok-from c.meet_current.result _ _ 
 
 pub returns-in_ok-push-in-Some-Some-clause-refused : goal.returns-in_ok-push-in-Some-Some-clause-refused
 returns-in_ok-push-in-Some-Some-clause-refused c = refused-from c.meet_current.result _ _ _ (first-is c) c.meet_current.ensures.refused
+
+pub returns-in_default-checked_add-clause-cause : goal.returns-in_default-checked_add-clause-cause
+returns-in_default-checked_add-clause-cause c = λ s n.
+    let i = c.self.inside in
+    let ts = c.args.self.now.context.trees in
+    let f = c.args.frame in
+    let same = ap (λ (e : Evaluator). e.context.trees) c.self.view_is in
+    let left = child-of i.cx.trees ts f.left f.place c.child_at-left.result c.in-Some-Some.left same c.in-Some-Some.is-0 c.child_at-left.ensures in
+    let right = child-of i.cx.trees ts f.right f.place c.child_at-right.result c.in-Some-Some.right same c.in-Some-Some.is-1 c.child_at-right.ensures in
+    let far : 18446744073709551615 ≤ f.place = omega (arith, c.in_default-checked_add.ensures) in
+    let many = children-beyond f.place (tree_at ts f.left).children _ _ _ left in
+    let wide : HasWideNode ts = record { number = f.left; inside = c.requires.frame.0; wide = omega (arith, far, many) } in
+    let full : NodesFull ≡ s = cc in
+    subst (λ z. IsUnifyingStop ts (listing c.args.self.now) z (state c.args.self.now) (pair_of ts c.args.rest.now.universes.items f ∷ pairs_of ts c.args.rest.now.universes.items c.args.rest.now.frames.items)) full
+    (look-stops ts (listing c.args.self.now) (state c.args.self.now) _ _ _ _ _ _ (tree_at ts c.in-Some-Some.left) (tree_at ts c.in-Some-Some.right) _ _ left right refl (wide_node wide))
+
+pub returns-in_err-push-in-Some-Some-clause-cause : goal.returns-in_err-push-in-Some-Some-clause-cause
+returns-in_err-push-in-Some-Some-clause-cause c =
+    let i = c.self.inside in
+    let ts = c.args.self.now.context.trees in
+    let f = c.args.frame in
+    let same = ap (λ (e : Evaluator). e.context.trees) c.self.view_is in
+    let left = child-of i.cx.trees ts f.left f.place c.child_at-left.result c.in-Some-Some.left same c.in-Some-Some.is-0 c.child_at-left.ensures in
+    let right = child-of i.cx.trees ts f.right f.place c.child_at-right.result c.in-Some-Some.right same c.in-Some-Some.is-1 c.child_at-right.ensures in
+    let old = c.args.self.now in
+    let x = tree_at ts c.in-Some-Some.left in
+    let y = tree_at ts c.in-Some-Some.right in
+    let us = scope_of c.args.rest.now.universes.items f.binders in
+    question _ c.from_residual.result _ c.from_residual.ensures.1
+    (look-stops ts (listing old) (state old) us us _ _ _ _ x y _ _ left right refl
+    (subst (λ z. IsLookStop ts (listing old) (state old) us x y z) (sym c.in_err-push-in-Some-Some.ensures.cause) refused_growth))
+
+pub returns-in_ok-push-in-Some-Some-clause-cause : goal.returns-in_ok-push-in-Some-Some-clause-cause
+returns-in_ok-push-in-Some-Some-clause-cause c =
+    let i = c.self.inside in
+    let ts = c.args.self.now.context.trees in
+    let f = c.args.frame in
+    let same = ap (λ (e : Evaluator). e.context.trees) c.self.view_is in
+    let left = child-of i.cx.trees ts f.left f.place c.child_at-left.result c.in-Some-Some.left same c.in-Some-Some.is-0 c.child_at-left.ensures in
+    let right = child-of i.cx.trees ts f.right f.place c.child_at-right.result c.in-Some-Some.right same c.in-Some-Some.is-1 c.child_at-right.ensures in
+    let old = c.args.self.now in
+    each-stop _ _ c.meet_current.result
+    (λ s k. look-stops c.meet_current.new.self.context.trees (listing old) (state old) _ _ _ _ _ _ (tree_at ts c.in-Some-Some.left) (tree_at ts c.in-Some-Some.right) _ s left right
+    (ap reverse c.push.ensures.universes ∙ sym (frame-scope c.args.rest.now.universes.items f c.requires.binders)) k)
+    c.meet_current.ensures.cause

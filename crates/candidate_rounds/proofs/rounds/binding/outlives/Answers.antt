@@ -1,6 +1,9 @@
 use Rattle.candidate_ir.specs.Context.{world}
 use Rattle.candidate_rounds.proofs.Going.{region-kept}
-use Rattle.candidate_rounds.proofs.Recording.{outlives-fits, outlives-takes, outlives-made}
+use Rattle.candidate_rounds.proofs.Recording.{outlives-fits, outlives-takes, outlives-made, outlives-before}
+use Rattle.std.proofs.lemmas.Result.{err_from_is_err_and}
+use Rattle.candidate_ir.proofs.Joining.{clause-unmade}
+use Rattle.candidate_ir.proofs.Opening.{binder-stop}
 use Rattle.candidate_rounds.proofs.rounds.binding.outlives.Goals as goal
 
 pub mk_clause-requires-clause-fits : goal.mk_clause-requires-clause-fits
@@ -18,3 +21,14 @@ mk_clause-requires-clause-takes c =
 pub returns-clause-tree : goal.returns-clause-tree
 returns-clause-tree c =
     outlives-made c.args.cx.now c.mk_vars.new.self c.mk_clause.new.self.trees c.in_ok-vars.vars c.args.a c.args.b c.mk_clause.result c.mk_vars.ensures.kept c.in_ok-vars.ensures.sort c.requires.first c.requires.second c.in_ok-vars.ensures.tree c.mk_clause.ensures.tree
+
+pub returns-in_err-vars-clause-cause : goal.returns-in_err-vars-clause-cause
+returns-in_err-vars-clause-cause c =
+    let p = err_from_is_err_and c.from_residual.result c.from_residual.ensures.1 in
+    rw (p.1, p.2) (binder-stop _ _ _ _ c.in_err-vars.ensures.unchanged c.in_err-vars.ensures.cause)
+
+pub returns-clause-cause : goal.returns-clause-cause
+returns-clause-cause c =
+    clause-unmade c.mk_vars.new.self c.mk_clause.new.self _ _ c.mk_clause.result
+    (outlives-before c.args.cx.now c.mk_vars.new.self c.in_ok-vars.vars c.args.a c.args.b c.mk_vars.ensures.kept c.in_ok-vars.ensures.sort c.requires.first c.requires.second c.in_ok-vars.ensures.tree)
+    c.mk_clause.ensures.unchanged c.mk_clause.ensures.cause

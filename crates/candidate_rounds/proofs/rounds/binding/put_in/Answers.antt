@@ -4,6 +4,9 @@ use Rattle.candidate_ir.proofs.FoldLaws.{reached-keeps, head-function}
 use Rattle.rounds_judge.specs.Binding.{single}
 use Rattle.candidate_rounds.proofs.Alone.{single-itself}
 use Rattle.candidate_rounds.proofs.Assigning.{put-keeps, put-answers, put-unasked}
+use Rattle.candidate_ir.proofs.FoldStops.{fold-cause}
+use Rattle.candidate_rounds.specs.Assigning.{single_arg}
+use Rattle.candidate_rounds.proofs.Resolving.{call-answered}
 use Rattle.candidate_rounds.proofs.rounds.binding.put_in.Goals as goal
 
 pub returns-in-Some-clause-sort : goal.returns-in-Some-clause-sort
@@ -27,3 +30,15 @@ returns-clause-tree c =
     (λ s x d r e y i grown p. let k = y.called in let q = y.lends in let v = y.leaves in
     put-answers c.args.cx.now s.1 e.1 c.args.variable c.args.value x r grown c.requires.value (search rules) (search rules))
     (λ d h e. put-unasked c.args.variable (arg_tree c.args.cx.now.trees c.args.value) h e))
+
+pub returns-clause-cause : goal.returns-clause-cause
+returns-clause-cause c =
+    let w = arg_tree c.args.cx.now.trees c.args.value in
+    fold-cause _ _ _ (λ d t. single c.args.variable w t.head) _ _ 0 _ c.fold_arg.result
+    (head-function _ _ _ (λ d h. single c.args.variable w h) (λ z. (z.0 ≡ c.args.variable) × (z.1 ≡ c.args.value)) _ (refl, refl)
+    (λ s x d r e n p. let k = n.called in let q = n.lends in let v = n.leaves in search rules)
+    (λ s x d r e y i grown p. let k = y.called in let q = y.lends in let v = y.leaves in
+    put-answers c.args.cx.now s.1 e.1 c.args.variable c.args.value x r grown c.requires.value (search rules) (search rules))
+    (λ d h e. put-unasked c.args.variable w h e))
+    (λ s x d r e y i grown. let k = y.called in let q = y.lends in let v = y.leaves in call-answered (single_arg s.0.0 s.0.1 (arg_tree s.1.trees x).head) r (search rules))
+    c.fold_arg.ensures.outcome.1.stopped

@@ -9,6 +9,10 @@ use Rattle.candidate_rounds.proofs.Assigning.{get-below, some-is, value-stays, v
 use Rattle.candidate_rounds.proofs.Going.{further-assign, further-call}
 use Rattle.candidate_rounds.proofs.Probing.{holds-grown}
 use Rattle.candidate_rounds.proofs.Renewing.{none-there, holds-own, value-is, holds-put, renewed-put}
+use Rattle.std.proofs.lemmas.Result.{err_from_is_err_and}
+use Rattle.candidate_rounds.specs.Stopping.{of_value}
+use Rattle.candidate_rounds.specs.Known.{state_of}
+use Rattle.candidate_rounds.proofs.BindingStops.{not-noted, value-there}
 use Rattle.candidate_rounds.proofs.rounds.binding.renew_value.Goals as goal
 
 pub returns-in_default-clause-renewed : goal.returns-in_default-clause-renewed
@@ -66,3 +70,17 @@ pub returns-clause-renewed : goal.returns-clause-renewed
 returns-clause-renewed c = λ m.
     renewed-put c.args.cx.now c.put_in.new.cx m c.args.inference.now c.assign-2.new.self c.args.number c.args.variable (arg_tree c.args.cx.now.trees c.args.value) c.in-Some.entry c.in_ok-new.new c.in-Some-value.old c.assign-2.result
     c.put_in.ensures.grows c.requires.consistent.known c.if-number-variable.false (sym c.entry.ensures ∙ c.in-Some.is) c.in-Some-value.is c.in_ok-new.ensures.tree c.assign-2.ensures.assigned
+
+pub returns-then-number-variable-clause-cause : goal.returns-then-number-variable-clause-cause
+returns-then-number-variable-clause-cause c = λ m. not-noted _ (state_of c.args.cx.now.trees m c.args.inference.now) c.args.variable _ c.args.number c.assign.result c.assign.ensures.cause
+
+pub returns-in_err-new-clause-cause : goal.returns-in_err-new-clause-cause
+returns-in_err-new-clause-cause c = λ m.
+    let ts = c.args.cx.now.trees in
+    let p = err_from_is_err_and c.from_residual.result c.from_residual.ensures.1 in
+    rw (p.1, p.2)
+    (of_value (arg_tree ts c.in-Some-value.old) c.if-number-variable.false
+    (value-there ts m c.args.inference.now c.args.number c.in-Some.entry c.in-Some-value.old (sym c.entry.ensures ∙ c.in-Some.is) c.in-Some-value.is) c.in_err-new.ensures.cause)
+
+pub returns-clause-cause : goal.returns-clause-cause
+returns-clause-cause c = λ m. not-noted _ (state_of c.args.cx.now.trees m c.args.inference.now) c.args.variable _ c.args.number c.assign-2.result c.assign-2.ensures.cause

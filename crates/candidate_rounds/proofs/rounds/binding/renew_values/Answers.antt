@@ -1,5 +1,7 @@
 use Rattle.std.proofs.Common.{◌≡◌, ◌≤◌, ℕ, ap, arith}
 use Rattle.candidate_rounds.proofs.Renewing.{none-renewed, so-far-value, so-far-fits, so-far-kind, so-far-own-room, one-more-renewed, all-renewed-call}
+use Rattle.std.proofs.lemmas.Result.{err_from_is_err_and}
+use Rattle.candidate_rounds.proofs.BindingStops.{own-renewal, renewal-before}
 use Rattle.candidate_rounds.proofs.rounds.binding.renew_values.Goals as goal
 
 pub loop-number-init : goal.loop-number-init
@@ -45,3 +47,13 @@ returns-clause-renewed c = λ m.
     let end : c.open_values-first.result.1 ≡ c.args.inference.now.end_open = ap (λ (p : ℕ × ℕ). p.1) c.open_values-first.ensures in
     all-renewed-call c.args.cx.now c.loop-number.cx c.args.inference.now c.loop-number.inference c.args.variable c.args.value c.open_values-first.result.0 c.loop-number.number
     c.renew_value-2.new.cx c.renew_value-2.new.inference m c.renew_value-2.result c.loop-number.invariant c.requires.value c.requires.consistent first (omega (arith, end, c.loop-number-test.false)) (c.renew_value-2.ensures.renewed m)
+
+pub returns-in_err-renew_value-clause-cause : goal.returns-in_err-renew_value-clause-cause
+returns-in_err-renew_value-clause-cause c = λ m.
+    let p = err_from_is_err_and c.from_residual.result c.from_residual.ensures.1 in
+    rw (p.1, p.2)
+    (renewal-before c.args.cx.now c.loop-number.cx c.args.inference.now c.loop-number.inference c.args.variable c.args.value c.open_values-first.result.0 c.loop-number.number c.loop-number.invariant c.requires.value m _ _
+    (c.in_err-renew_value.ensures.cause m))
+
+pub returns-clause-cause : goal.returns-clause-cause
+returns-clause-cause c = λ m. own-renewal _ _ _ c.args.variable _ _ c.renew_value-2.result (c.renew_value-2.ensures.cause m)

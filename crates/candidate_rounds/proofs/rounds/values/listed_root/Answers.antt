@@ -3,6 +3,7 @@ use Rattle.candidate_ir.specs.Folds.{arg_tree}
 use Rattle.candidate_rounds.specs.Known.{state_of}
 use Rattle.candidate_ir.proofs.Implying.{arg-kept}
 use Rattle.candidate_rounds.proofs.Listing.{empty-root, listed-root, or-of-kind, other-root, types-kept}
+use Rattle.std.proofs.lemmas.Result.{err_from_is_err_and}
 use Rattle.candidate_rounds.proofs.rounds.values.listed_root.Goals as goal
 
 pub returns-then-is_empty-clause-tree : goal.returns-then-is_empty-clause-tree
@@ -27,3 +28,8 @@ returns-clause-tree c = λ m.
     ap (arg_tree c.resolved_arg.new.cx.trees) c.unwrap_or.ensures
     ∙ listed-root c.args.cx.now c.resolved_arg.new.cx (state_of c.args.cx.now.trees m c.args.inference.now) c.args.normal.now c.args.arg c.in_ok-resolved.resolved c.listed_arg.result
     c.resolved_arg.ensures.grows c.requires.arg c.requires.types (sym c.is_alias.ensures ∙ c.if-not-is_alias.false) (c.in_ok-resolved.ensures.tree m) c.listed_arg.ensures.tree
+
+pub returns-in_err-resolved-clause-cause : goal.returns-in_err-resolved-clause-cause
+returns-in_err-resolved-clause-cause c = λ m.
+    let p = err_from_is_err_and c.from_residual.result c.from_residual.ensures.1 in
+    rw (p.1, p.2) (c.in_err-resolved.ensures.cause m)

@@ -4,6 +4,8 @@ use Rattle.candidate_ir.proofs.FoldLaws.{reached-keeps}
 use Rattle.candidate_rounds.specs.Known.{listing_of}
 use Rattle.rounds_judge.specs.Listed.{listed}
 use Rattle.candidate_rounds.proofs.Listing.{empty-listing, grown-function, listed-answer, listed-keeps, listed-unasked, types-kept}
+use Rattle.candidate_ir.proofs.FoldStops.{fold-cause}
+use Rattle.candidate_rounds.proofs.Stopping.{always-answers}
 use Rattle.candidate_rounds.proofs.rounds.values.normalized.Goals as goal
 
 pub fold_arg-requires-clause-callable : goal.fold_arg-requires-clause-callable
@@ -33,3 +35,15 @@ returns-clause-tree c =
 
 pub returns-then-is_empty-clause-tree : goal.returns-then-is_empty-clause-tree
 returns-then-is_empty-clause-tree c = empty-listing c.args.cx.now.trees c.args.normal.now (arg_tree c.args.cx.now.trees c.args.arg) (sym c.is_empty.ensures ∙ c.if-is_empty.true)
+
+pub returns-clause-cause : goal.returns-clause-cause
+returns-clause-cause c =
+    let ts = c.args.cx.now.trees in
+    fold-cause _ _ _ (λ d t. listed (listing_of ts c.args.normal.now) t) _ _ 0 _ c.fold_arg.result
+    (grown-function _ _ _ (listed (listing_of ts c.args.normal.now)) (λ z. z.0.now ≡ c.args.normal.now) _ refl
+    (λ s x d r e n p. let k = n.called in let q = n.lends in let v = n.leaves in search rules)
+    (λ s x d r e n i grown p. let k = n.called in let q = n.lends in let v = n.leaves in
+    listed-answer c.args.cx.now s.1 e.1 c.args.normal.now x r grown c.requires.types (search rules) (search rules))
+    (λ t e. listed-unasked ts c.args.normal.now t c.requires.types e))
+    (λ s x d r e n i grown. let k = n.called in let q = n.lends in let v = n.leaves in always-answers r (search rules))
+    c.fold_arg.ensures.outcome.1.stopped

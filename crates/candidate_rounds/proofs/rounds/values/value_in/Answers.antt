@@ -1,10 +1,15 @@
-use Rattle.std.proofs.Common.{reverse, ◌∙◌, ap}
+use Rattle.std.proofs.Common.{reverse, ◌∙◌, ap, ◌≡◌, subst}
 use Rattle.candidate_ir.specs.Folds.{arg_tree}
-use Rattle.candidate_rounds.specs.Known.{listing_of}
+use Rattle.candidate_rounds.specs.Known.{listing_of, state_of}
 use Rattle.rounds_judge.specs.Listed.{normalized_tree}
 use Rattle.rounds_judge.specs.Scopes.{placed_tree}
 use Rattle.candidate_rounds.proofs.Gathering.{if-ok-then}
 use Rattle.candidate_rounds.proofs.Listing.{listing-kept, types-kept}
+use Rattle.std.proofs.lemmas.Result.{err_from_is_err_and, IfErr-weaker}
+use Rattle.candidate_rounds.proofs.Stopping.{normal-is}
+use Rattle.candidate_rounds.specs.Stopping.{IsTreeStop, of_resolved, of_listed, of_placed}
+use Rattle.candidate_eval.specs.States.{resolved_tree}
+use Rattle.candidate_eval.specs.declared.eval.mode.TypingMode.{TypingMode}
 use Rattle.candidate_rounds.proofs.rounds.values.value_in.Goals as goal
 
 pub normalized-requires-clause-types : goal.normalized-requires-clause-types
@@ -19,3 +24,24 @@ returns-clause-tree c = λ m.
     ∙ (ap (λ l. normalized_tree l (arg_tree c.resolved_arg.new.cx.trees c.in_ok-resolved.resolved)) (listing-kept c.args.cx.now c.resolved_arg.new.cx c.args.normal.now c.resolved_arg.ensures.grows c.requires.types)
     ∙ ap (normalized_tree (listing_of ts c.args.normal.now)) (c.in_ok-resolved.ensures.tree m))))
     c.placed.ensures.tree
+
+pub returns-in_err-resolved-clause-cause : goal.returns-in_err-resolved-clause-cause
+returns-in_err-resolved-clause-cause c = λ m.
+    let p = err_from_is_err_and c.from_residual.result c.from_residual.ensures.1 in
+    rw (p.1, p.2) (of_resolved (c.in_err-resolved.ensures.cause m))
+
+pub returns-in_err-listed-clause-cause : goal.returns-in_err-listed-clause-cause
+returns-in_err-listed-clause-cause c = λ m.
+    let p = err_from_is_err_and c.from_residual-in_err-listed.result c.from_residual-in_err-listed.ensures.1 in
+    let is =
+    normal-is c.args.cx.now c.resolved_arg.new.cx c.args.normal.now (state_of c.args.cx.now.trees m c.args.inference.now) c.args.arg c.in_ok-resolved.resolved c.resolved_arg.ensures.grows c.requires.types
+    (c.in_ok-resolved.ensures.tree m) in
+    rw (p.1, p.2) (of_listed (subst (λ t. IsTreeStop c.normalized.new.cx.trees t c.in_err-listed.field-0.0) is c.in_err-listed.ensures.cause))
+
+pub returns-clause-cause : goal.returns-clause-cause
+returns-clause-cause c = λ m.
+    let us = reverse c.args.universes.now in
+    let is =
+    normal-is c.args.cx.now c.resolved_arg.new.cx c.args.normal.now (state_of c.args.cx.now.trees m c.args.inference.now) c.args.arg c.in_ok-resolved.resolved c.resolved_arg.ensures.grows c.requires.types
+    (c.in_ok-resolved.ensures.tree m) in
+    IfErr-weaker c.placed.result _ _ (λ s k. of_placed (subst (λ t. IsTreeStop c.placed.new.cx.trees (placed_tree us t) s) (c.in_ok-listed.ensures.tree ∙ is) k)) c.placed.ensures.cause

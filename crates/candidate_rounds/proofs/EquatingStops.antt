@@ -1,0 +1,167 @@
+-- Why equations stop.
+use Rattle.std.proofs.Common.{◌≡◌, ℕ, zero, suc, ◌+◌, ◌≤◌, ◌<◌, length, IsErrAnd, MatchOption, ◌&&◌, Bool, true, false, List, [], ◌∷◌, ◌++◌, Option, Some, None, Result, Ok, Err, IfErr, OnOk, refl, sym, ◌∙◌, ap, subst, arith, if◌then◌else◌}
+use Rattle.std.specs.Option.{option_map}
+use Rattle.candidate_ir.specs.declared.ir.heads.Head.{Head}
+use Rattle.candidate_ir.specs.declared.ir.heads.Head.TheVariants as H
+use Rattle.candidate_ir.specs.declared.ir.heads.Variable.{Variable}
+use Rattle.candidate_ir.specs.declared.ir.stop.Stop.{Stop}
+use Rattle.candidate_ir.specs.declared.ir.stop.Stop.TheVariants.{Memory, NodesFull}
+use Rattle.candidate_ir.specs.Substitutions.{alone}
+use Rattle.candidate_ir.specs.Trees.{Forest, none, tree, Tree, count, skip}
+use Rattle.candidate_ir.specs.Unify.{same_head}
+use Rattle.candidate_eval.specs.declared.eval.refusal.NoSolutionOrStop.{NoSolutionOrStop}
+use Rattle.candidate_eval.specs.States.{State}
+use Rattle.candidate_eval.specs.Soundness.{is_region}
+use Rattle.rounds_judge.specs.Binding.{may_take, bound}
+use Rattle.rounds_judge.specs.Equating.{Pair, Visit, Done, Refused, Left, count_unbound, enough, first_of, looked, looks, matched, met, offered, size_of_pairs, taken, unified, value_for, visited, with_equal_regions}
+use Rattle.rounds_judge.specs.Listed.{Listing, current}
+use Rattle.rounds_judge.specs.Scopes.{Scope, entered, placed_tree, scope_below}
+use Rattle.candidate_ir.specs.Nodes.{tree_at}
+use Rattle.candidate_rounds.specs.Known.{Evaluator, GoesOn, IsGiven, listing, state}
+use Rattle.candidate_rounds.specs.Stopping.{IsLookStop, IsMatchStop, IsMeetingStop, IsOfferStop, IsUnifyingStop, StopsAsBefore, at_once, later}
+use Rattle.candidate_rounds.proofs.Going.{goes-listing}
+use Rattle.candidate_rounds.proofs.Visiting.{child-row, number-on}
+
+-- The error that `?` makes of a stop is of that stop.
+pub stopped-by : (P : Stop → Type 0) (e : NoSolutionOrStop) (z s : Stop) → e ≡ NoSolutionOrStop.Stop z → P z → e ≡ NoSolutionOrStop.Stop s → P s
+stopped-by P e z s is k n = let same : z ≡ s = let both = sym is ∙ n in cc in subst P same k
+
+-- What a call by `?` stops with, stops the whole.
+
+pub question : {A : Type 0} (P : Stop → Type 0) (r : Result A NoSolutionOrStop) (z : Stop) → IsErrAnd r (λ e. e ≡ NoSolutionOrStop.Stop z) → P z → IfErr r (λ e. (s : Stop) → e ≡ NoSolutionOrStop.Stop s → P s)
+question P (Ok a) z h k = tt
+question P (Err e) z h k = λ s n. stopped-by P e z s h k n
+
+pub through : {A : Type 0} (Q : NoSolutionOrStop → Type 0) (r : Result A NoSolutionOrStop) (e : NoSolutionOrStop) → IsErrAnd r (λ x. x ≡ e) → Q e → IfErr r Q
+through Q (Ok a) e h k = tt
+through Q (Err x) e h k = subst Q (sym h) k
+
+pub each-stop : {A : Type 0} (P Q : Stop → Type 0) (r : Result A NoSolutionOrStop) → ((s : Stop) → P s → Q s) → IfErr r (λ e. (s : Stop) → e ≡ NoSolutionOrStop.Stop s → P s)
+    → IfErr r (λ e. (s : Stop) → e ≡ NoSolutionOrStop.Stop s → Q s)
+each-stop P Q (Ok a) f k = tt
+each-stop P Q (Err e) f k = λ s n. f s (k s n)
+
+-- Where nothing is left, both sides are equal.
+
+some-looks : (u n : ℕ) → 1 ≤ enough u n
+some-looks zero n = omega arith
+some-looks (suc u) n = omega arith
+
+pub nothing-left : (l : Listing) (S : State) → unified l S [] ≡ Some S
+nothing-left l S = at (looks l S []) (some-looks (count_unbound S.variables) (size_of_pairs l S []))
+  where
+    at : (k : ℕ) → 1 ≤ k → looked l k S [] ≡ Some S
+    at zero e = absurd (omega (arith, e))
+    at (suc k) e = refl
+
+-- What is left after a look
+pub look-later : {A E : Type 0} (r : Result A E) (l m : Listing) (S T : State) (ps all qs : List Pair) → m ≡ l → ps ≡ all → OnOk r (visited l S ps ≡ Left T qs) → OnOk r (StopsAsBefore l S all m T qs)
+look-later (Ok a) l m S T ps all qs e f v = λ ts s k. later (ap (visited l S) (sym f) ∙ v) (subst (λ n. IsUnifyingStop ts n s T qs) e k)
+look-later (Err a) l m S T ps all qs e f v = tt
+
+-- An evaluator that went on, and knows what it knew: why a tree isn't offered, or two don't match.
+module _ (old mid : Evaluator) (g : GoesOn old mid) (given : IsGiven old.context.trees old.normal old.opaques) (s : state mid ≡ state old) (ts : List Tree) (us : Scope) (a b : ℕ)
+    (i : a < length old.context.trees) (j : b < length old.context.trees) (z : Stop) where
+  pub offer-before : IsOfferStop ts (listing mid) (state mid) us (tree_at mid.context.trees a).head (tree_at mid.context.trees b) z
+      → IsOfferStop ts (listing old) (state old) us (tree_at old.context.trees a).head (tree_at old.context.trees b) z
+  offer-before k =
+      subst (λ t. IsOfferStop ts (listing old) (state old) us (tree_at old.context.trees a).head t z) (number-on old mid g given s b j)
+      (subst (λ (t : Tree). IsOfferStop ts (listing old) (state old) us t.head (tree_at mid.context.trees b) z) (number-on old mid g given s a i)
+      (subst (λ S. IsOfferStop ts (listing old) S us (tree_at mid.context.trees a).head (tree_at mid.context.trees b) z) s
+      (subst (λ l. IsOfferStop ts l (state mid) us (tree_at mid.context.trees a).head (tree_at mid.context.trees b) z) (goes-listing old mid g given) k)))
+
+  pub match-before : IsMatchStop ts (state mid) us (tree_at mid.context.trees a) (tree_at mid.context.trees b) z → IsMatchStop ts (state old) us (tree_at old.context.trees a) (tree_at old.context.trees b) z
+  match-before k =
+      subst (λ t. IsMatchStop ts (state old) us (tree_at old.context.trees a) t z) (number-on old mid g given s b j)
+      (subst (λ t. IsMatchStop ts (state old) us t (tree_at mid.context.trees b) z) (number-on old mid g given s a i)
+      (subst (λ S. IsMatchStop ts S us (tree_at mid.context.trees a) (tree_at mid.context.trees b) z) s k))
+
+pub meeting-same : (ts : List Tree) (l m : Listing) (S T : State) (us : Scope) (x y p q : Tree) (z : Stop) → m ≡ l → T ≡ S → p ≡ x → q ≡ y → IsMeetingStop ts m T us p q z → IsMeetingStop ts l S us x y z
+meeting-same ts l m S T us x y p q z a b c d k =
+    subst (λ t. IsMeetingStop ts l S us x t z) d (subst (λ t. IsMeetingStop ts l S us t q z) c (subst (λ R. IsMeetingStop ts l R us p q z) b (subst (λ n. IsMeetingStop ts n T us p q z) a k)))
+
+-- A look at rows that begin with trees.
+pub look-stops : (ts : List Tree) (l : Listing) (S : State) (us sc : Scope) (a b r q : Forest) (x y : Tree) (more : List Pair) (s : Stop) → a ≡ tree x.head x.children r → b ≡ tree y.head y.children q → us ≡ sc
+    → IsLookStop ts l S us x y s → IsUnifyingStop ts l s S (record { scope = sc; left = a; right = b } ∷ more)
+look-stops ts l S us sc a b r q x y more s e f g k =
+    let P : Forest → Forest → Type 0 = λ c d. IsUnifyingStop ts l s S (record { scope = sc; left = c; right = d } ∷ more) in
+    subst (λ d. P a d) (sym f) (subst (λ c. P c (tree y.head y.children q)) (sym e) (at_once (subst (λ vs. IsLookStop ts l S vs x y s) g k)))
+
+-- a child, in the trees of an evaluator by another name
+pub child-of : (us ts : List Tree) (n place : ℕ) (o : Option ℕ) (k : ℕ) → us ≡ ts → o ≡ Some k
+    → MatchOption o (skip place (tree_at us n).children ≡ none) (λ c. (c < length us) × (skip place (tree_at us n).children ≡ tree (tree_at us c).head (tree_at us c).children (skip (suc place) (tree_at us n).children)))
+    → skip place (tree_at ts n).children ≡ tree (tree_at ts k).head (tree_at ts k).children (skip (suc place) (tree_at ts n).children)
+child-of us ts n place o k e f m =
+    subst (λ ws. skip place (tree_at ws n).children ≡ tree (tree_at ws k).head (tree_at ws k).children (skip (suc place) (tree_at ws n).children)) e (child-row us n place o k f m)
+
+-- So many trees and one more are below a node that has a child at the place.
+pub children-beyond : (n : ℕ) (ts : Forest) (h : Head) (a r : Forest) → skip n ts ≡ tree h a r → suc n ≤ count ts
+children-beyond zero none h a r e = absurd cc
+children-beyond zero (tree g b q) h a r e = omega arith
+children-beyond (suc n) none h a r e = absurd cc
+children-beyond (suc n) (tree g b q) h a r e = let l = children-beyond n q h a r e in omega (arith, l)
+
+-- Where more pairs stand at the end, what is left stops all the same.
+
+abbrev onto : List Pair → Visit → Visit
+onto es Done = Done
+onto es Refused = Refused
+onto es (Left T ps) = Left T (ps ++ es)
+
+module _ (S : State) (es : List Pair) where
+  taken-onto : (v : Variable) (t : Tree) (more : List Pair) → taken S v t (more ++ es) ≡ option_map (onto es) (taken S v t more)
+  taken-onto v t more = at (may_take S v t)
+    where
+      at : (b : Bool) → ◌≡◌ {A = Option Visit} (if b then Some (Left (bound S v t) (more ++ es)) else None) (option_map (onto es) (if b then Some (Left (bound S v t) more) else None))
+      at true = refl
+      at false = refl
+
+  offered-onto : (l : Listing) (us : Scope) (h : Head) (t : Tree) (more : List Pair) → offered l S us h t (more ++ es) ≡ option_map (onto es) (offered l S us h t more)
+  offered-onto l us (H.Infer v) t more = taken-onto v (value_for l S us t) more
+  offered-onto l us _ t more = refl
+
+  matched-onto : (us : Scope) (x y : Tree) (more : List Pair) → matched S us x y (more ++ es) ≡ onto es (matched S us x y more)
+  matched-onto us x y more =
+      at (with_equal_regions S (placed_tree us x) (placed_tree us y)) (entered S x.head x.children) (record { scope = scope_below S us x.head x.children; left = x.children; right = y.children })
+      (is_region x.head && is_region y.head) (same_head x.head y.head)
+    where
+      at : (R B : State) (p : Pair) (b c : Bool) → ◌≡◌ {A = Visit} (if b then Left R (more ++ es) else (if c then Left B (p ∷ (more ++ es)) else Refused)) (onto es (if b then Left R more else (if c then Left B (p ∷ more) else Refused)))
+      at R B p true c = refl
+      at R B p false true = refl
+      at R B p false false = refl
+
+  first-onto : (o q : Option Visit) (w : Visit) → first_of (option_map (onto es) o) (option_map (onto es) q) (onto es w) ≡ onto es (first_of o q w)
+  first-onto (Some v) q w = refl
+  first-onto None (Some v) w = refl
+  first-onto None None w = refl
+
+  met-onto : (l : Listing) (us : Scope) (x y : Tree) (more : List Pair) → met l S us x y (more ++ es) ≡ onto es (met l S us x y more)
+  met-onto l us x y more =
+      ap (λ o. first_of o (offered l S us y.head x (more ++ es)) (matched S us x y (more ++ es))) (offered-onto l us x.head y more)
+      ∙ (ap (λ o. first_of (option_map (onto es) (offered l S us x.head y more)) o (matched S us x y (more ++ es))) (offered-onto l us y.head x more)
+      ∙ (ap (λ w. first_of (option_map (onto es) (offered l S us x.head y more)) (option_map (onto es) (offered l S us y.head x more)) w) (matched-onto us x y more)
+      ∙ first-onto (offered l S us x.head y more) (offered l S us y.head x more) (matched S us x y more)))
+
+  visited-onto : (l : Listing) (p : Pair) (more : List Pair) → visited l S (p ∷ (more ++ es)) ≡ onto es (visited l S (p ∷ more))
+  visited-onto l p more = rows p.left p.right
+    where
+      rows : (a b : Forest) → visited l S (record { scope = p.scope; left = a; right = b } ∷ (more ++ es)) ≡ onto es (visited l S (record { scope = p.scope; left = a; right = b } ∷ more))
+      rows none none = refl
+      rows none (tree g b s) = refl
+      rows (tree h a r) none = refl
+      rows (tree h a r) (tree g b s) = met-onto l p.scope (current l S (record { head = h; children = a })) (current l S (record { head = g; children = b })) (record p { left = r; right = s } ∷ more)
+
+  left-onto : (l : Listing) (T : State) (ps qs : List Pair) → visited l S ps ≡ Left T qs → visited l S (ps ++ es) ≡ Left T (qs ++ es)
+  left-onto l T [] qs v = absurd cc
+  left-onto l T (p ∷ more) qs v = visited-onto l p more ∙ ap (onto es) v
+
+pub stops-onto : (ts : List Tree) (l : Listing) (s : Stop) (S : State) (ps es : List Pair) → IsUnifyingStop ts l s S ps → IsUnifyingStop ts l s S (ps ++ es)
+stops-onto ts l s S ps es (at_once k) = at_once k
+stops-onto ts l s S ps es (later {T = T} {qs = qs} v k) = later (left-onto S es l T ps qs v) (stops-onto ts l s T qs es k)
+
+-- Two trees that meet first
+pub first-left : (l : Listing) (S T : State) (x y : Tree) (ps : List Pair) → met l S [] (current l S x) (current l S y) [] ≡ Left T ps
+    → visited l S (record { scope = []; left = alone x; right = alone y } ∷ []) ≡ Left T (ps ++ record { scope = []; left = none; right = none } ∷ [])
+first-left l S T x y ps e =
+    let es : List Pair = record { scope = []; left = none; right = none } ∷ [] in
+    met-onto S es l [] (current l S x) (current l S y) [] ∙ ap (onto es) e
