@@ -1,24 +1,21 @@
 -- Why a variable doesn't get a value.
-use Rattle.std.proofs.Common.{◌≡◌, ◌≢◌, ◌⊎◌, inl, inr, ℕ, zero, suc, ◌+◌, ◌≤◌, ◌<◌, Bool, true, false, ◌&&◌, List, [], ◌∷◌, length, map, Some, None, Option, Result, Ok, Err, IfErr, slice_get, refl, sym, ◌∙◌, ap, subst, arith, if◌then◌else◌}
+use Rattle.std.proofs.Common.{◌≡◌, inl, inr, ℕ, zero, suc, ◌+◌, ◌≤◌, true, List, [], ◌∷◌, length, map, Some, None, Option, Result, Ok, Err, IfErr, slice_get, refl, sym, ◌∙◌, ap, subst, arith, if◌then◌else◌}
 use Rattle.std.specs.Option.{option_map}
 use Rattle.std.proofs.lemmas.List.{length-map}
 use Rattle.std.proofs.lemmas.Option.{slice_get-map}
 use Rattle.candidate_ir.specs.declared.ir.heads.Variable.{Variable}
-use Rattle.candidate_ir.specs.declared.ir.kinds.Binder.{Binder}
-use Rattle.candidate_ir.specs.declared.ir.kinds.Clause.{Clause}
 use Rattle.candidate_ir.specs.declared.ir.kinds.GenericArg.{GenericArg}
 use Rattle.candidate_ir.specs.declared.ir.stop.Stop.{Stop}
-use Rattle.candidate_ir.specs.declared.ir.stop.Stop.TheVariants.{Memory, NodesFull}
+use Rattle.candidate_ir.specs.declared.ir.stop.Stop.TheVariants.{Memory}
 use Rattle.candidate_ir.specs.Context.{Context}
 use Rattle.candidate_ir.specs.Folds.{IsArg, arg_tree}
 use Rattle.candidate_ir.specs.Trees.{Tree}
 use Rattle.candidate_eval.specs.declared.eval.mode.TypingMode.{TypingMode}
-use Rattle.candidate_eval.specs.declared.eval.mode.TypingMode.TheVariants as M
 use Rattle.candidate_eval.specs.declared.eval.variable.VariableKind.{VariableKind}
-use Rattle.candidate_eval.specs.States.{State, VariableInfo, value_in, value_of, valued_tree}
+use Rattle.candidate_eval.specs.States.{State, value_in, value_of, valued_tree}
 use Rattle.candidate_rounds.specs.declared.rounds.inference.Entry.{Entry}
 use Rattle.rounds_judge.specs.Binding.{numbered, single}
-use Rattle.candidate_rounds.specs.Assigning.{with_its_value, with_values, with_values_within, within}
+use Rattle.candidate_rounds.specs.Assigning.{with_its_value, with_values, within}
 use Rattle.candidate_rounds.specs.Inferences.{Inference, IsFullAt, is_of_kind}
 use Rattle.candidate_rounds.specs.Known.{info_of, state_of}
 use Rattle.candidate_rounds.specs.Stopping.{IsBindingStop, IsRegionsStop, IsRenewalStop, IsTreeStop, no_memory, many_variables, not_noted, of_renewed, of_value, no_room}

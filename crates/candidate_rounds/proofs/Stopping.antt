@@ -1,14 +1,13 @@
 -- Why calls of an evaluator that works in rounds stop.
-use Rattle.std.proofs.Common.{◌≡◌, ℕ, ◌≤◌, Bool, true, List, reverse, Option, Some, None, Result, Ok, Err, is_ok, refl, sym, ◌∙◌, ap, subst, arith}
-use Rattle.std.specs.Prelude.{IfErr, IsOk, length, option_map}
-use Rattle.std.specs.Option.{unwrap_or}
+use Rattle.std.proofs.Common.{◌≡◌, ℕ, ◌≤◌, List, reverse, Option, Some, None, Result, Ok, Err, ◌∙◌, ap, subst, arith}
+use Rattle.std.specs.Prelude.{IfErr, IsOk, length}
 use Rattle.candidate_ir.specs.declared.ir.heads.Head.{Head}
 use Rattle.candidate_ir.specs.declared.ir.kinds.RegionKind.{RegionKind}
 use Rattle.candidate_ir.specs.declared.ir.stop.Stop.{Stop}
 use Rattle.candidate_ir.specs.declared.ir.kinds.GenericArg.{GenericArg}
 use Rattle.candidate_ir.specs.declared.ir.kinds.Ty.{Ty}
 use Rattle.candidate_ir.specs.Context.{Context, Grows}
-use Rattle.candidate_ir.specs.Folds.{IsArg, arg_tree}
+use Rattle.candidate_ir.specs.Folds.{arg_tree}
 use Rattle.candidate_ir.specs.Folding.{IsSubstStop, IsAnswerStop}
 use Rattle.candidate_ir.specs.Trees.{Tree, height}
 use Rattle.candidate_ir.specs.Words.{IsMkStop, region_kind_tree}

@@ -61,12 +61,13 @@ pub data IsRegionsStop (ts : List Tree) (a b : Tree) : Stop → Type 0 where
   of_first : {s : Stop} → IsTreeStop ts (outlives a b) s → IsRegionsStop ts a b s
   of_second : {s : Stop} → IsTreeStop ts (outlives b a) s → IsRegionsStop ts a b s
 
--- Why it wasn't found out whether the head is a variable that takes the tree as its value, or it didn't get it.
+-- Why a variable, which the head is, wasn't offered the tree as its value: the value wasn't made, or the variable didn't get it.
 pub data IsOfferStop (ts : List Tree) (l : Listing) (S : State) (us : Scope) (h : Head) (t : Tree) (s : Stop) : Type 0 where
   of_offered : (v : Variable) → h ≡ H.Infer v → IsValueStop ts l S us t s → IsOfferStop ts l S us h t s
   of_taken : (v : Variable) → h ≡ H.Infer v → IsBindingStop ts S v (value_for l S us t) s → IsOfferStop ts l S us h t s
 
--- Why two trees weren't matched under these binders: as regions, or because there is no universe for a binder below.
+-- Why two trees weren't matched under these binders: of two regions, what stands for one there wasn't made, or it wasn't recorded that
+-- they are equal; of other trees, no universe was left for their binder.
 pub data IsMatchStop (ts : List Tree) (S : State) (us : Scope) (x y : Tree) : Stop → Type 0 where
   no_space : IsMatchStop ts S us x y Memory
   of_left_region : {s : Stop} → IsTreeStop ts (placed_tree us x) s → IsMatchStop ts S us x y s

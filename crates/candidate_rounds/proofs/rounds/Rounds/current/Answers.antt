@@ -2,9 +2,8 @@ use Rattle.std.proofs.Common.{◌≡◌, reverse, IfOk, ◌∙◌, ap, subst, If
 use Rattle.candidate_ir.specs.Folds.{arg_tree}
 use Rattle.rounds_judge.specs.Listed.{current}
 use Rattle.candidate_rounds.specs.Known.{Evaluator, listing, listing_of, state, state_of}
-use Rattle.candidate_rounds.proofs.Knowing.{given-grown, state-stays}
+use Rattle.candidate_rounds.proofs.Knowing.{state-stays}
 use Rattle.candidate_rounds.proofs.Holding.{kinds-now}
-use Rattle.candidate_rounds.proofs.Probing.{holds-grown}
 use Rattle.candidate_rounds.proofs.ResolvedValues.{evaluator-grown}
 use Rattle.candidate_rounds.specs.Stopping.{IsTreeStop}
 use Rattle.candidate_eval.specs.States.{resolved_tree}

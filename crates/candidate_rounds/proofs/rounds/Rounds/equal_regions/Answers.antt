@@ -1,8 +1,8 @@
-use Rattle.std.proofs.Common.{◌∙◌, ap, subst, ◌≡◌}
+use Rattle.std.proofs.Common.{◌∙◌, ap, subst}
 use Rattle.candidate_ir.specs.Words.{region_tree}
 use Rattle.candidate_rounds.specs.Known.{state}
 use Rattle.rounds_judge.specs.Scopes.{placed_tree}
-use Rattle.std.proofs.Common.{reverse, subst, ◌≡◌}
+use Rattle.std.proofs.Common.{reverse, subst}
 use Rattle.candidate_rounds.proofs.Going.{goes-trans, region-kept}
 use Rattle.candidate_rounds.proofs.Offering.{regions-equal}
 use Rattle.std.proofs.lemmas.Result.{err_from_is_err_and, IfErr-weaker}

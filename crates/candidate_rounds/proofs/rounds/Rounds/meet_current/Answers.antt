@@ -1,4 +1,4 @@
-use Rattle.std.proofs.Common.{◌≡◌, refl, reverse, sym, ◌∙◌, ap, subst}
+use Rattle.std.proofs.Common.{◌≡◌, refl, reverse, ◌∙◌, ap, subst}
 use Rattle.candidate_ir.specs.Nodes.{tree_at}
 use Rattle.candidate_ir.specs.Trees.{Tree}
 use Rattle.candidate_ir.proofs.Kept.{number-kept}
@@ -11,7 +11,7 @@ use Rattle.rounds_judge.proofs.Ending.{current_rests}
 use Rattle.candidate_rounds.proofs.Framing.{frames-kept, pairs-kept}
 use Rattle.candidate_rounds.proofs.Going.{goes-listing, goes-trans}
 use Rattle.candidate_rounds.proofs.Visiting.{current-on, met-same, number-on, ok-from, refused-from}
-use Rattle.candidate_eval.specs.States.{State, resolved_tree}
+use Rattle.candidate_eval.specs.States.{resolved_tree}
 use Rattle.candidate_rounds.specs.Stopping.{IsTreeStop, of_left, of_right, of_meeting}
 use Rattle.candidate_rounds.proofs.EquatingStops.{each-stop, meeting-same, question}
 use Rattle.candidate_rounds.proofs.rounds.Rounds.meet_current.Goals as goal

@@ -3,9 +3,7 @@ use Rattle.candidate_ir.specs.Words.{region_tree}
 use Rattle.rounds_judge.specs.Equating.{with_equal_regions}
 use Rattle.candidate_rounds.specs.Known.{Evaluator, GoesOn, state, state_of}
 use Rattle.candidate_rounds.proofs.Going.{goes-both}
-use Rattle.candidate_rounds.proofs.Knowing.{given-grown}
-use Rattle.candidate_rounds.proofs.Probing.{holds-grown}
-use Rattle.candidate_rounds.proofs.Recording.{further-both, holds-both, equal-recorded}
+use Rattle.candidate_rounds.proofs.Recording.{further-both, equal-recorded}
 use Rattle.candidate_rounds.proofs.ResolvedValues.{evaluator-changed, evaluator-grown, resolved-region}
 use Rattle.candidate_rounds.proofs.Going.{further-region, further-trans}
 use Rattle.candidate_rounds.proofs.Recording.{both, holds-region}

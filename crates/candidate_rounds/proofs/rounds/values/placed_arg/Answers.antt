@@ -1,4 +1,4 @@
-use Rattle.std.proofs.Common.{refl, sym, ◌∙◌, ap, ◌≡◌, reverse}
+use Rattle.std.proofs.Common.{refl, sym, ◌∙◌, ap, reverse}
 use Rattle.candidate_ir.specs.Trees.{kind_of}
 use Rattle.candidate_ir.proofs.Asking.{arg-below, arg-head}
 use Rattle.std.proofs.lemmas.Result.{err_from_is_err_and}

@@ -1,4 +1,4 @@
-use Rattle.std.proofs.Common.{reverse, ◌∙◌, ap, ◌≡◌, subst}
+use Rattle.std.proofs.Common.{reverse, ◌∙◌, ap, subst}
 use Rattle.candidate_ir.specs.Folds.{arg_tree}
 use Rattle.candidate_rounds.specs.Known.{listing_of, state_of}
 use Rattle.rounds_judge.specs.Listed.{normalized_tree}
@@ -8,8 +8,6 @@ use Rattle.candidate_rounds.proofs.Listing.{listing-kept, types-kept}
 use Rattle.std.proofs.lemmas.Result.{err_from_is_err_and, IfErr-weaker}
 use Rattle.candidate_rounds.proofs.Stopping.{normal-is}
 use Rattle.candidate_rounds.specs.Stopping.{IsTreeStop, of_resolved, of_listed, of_placed}
-use Rattle.candidate_eval.specs.States.{resolved_tree}
-use Rattle.candidate_eval.specs.declared.eval.mode.TypingMode.{TypingMode}
 use Rattle.candidate_rounds.proofs.rounds.values.value_in.Goals as goal
 
 pub normalized-requires-clause-types : goal.normalized-requires-clause-types
