@@ -7,3 +7,4 @@ pub mod Trying
 pub mod Gathered
 pub mod Lone
 pub mod Interface
+pub mod Stopping

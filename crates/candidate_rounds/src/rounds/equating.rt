@@ -13,6 +13,7 @@ ghost use Rattle.candidate_eval.specs.Evaluators.{root_value};
 ghost use Rattle.rounds_judge.specs.Equating.{Pair, Left, Refused, equated, looks, matched, met, offered, unified, visited, with_equal_regions};
 ghost use Rattle.candidate_rounds.specs.Frames.{AreFrames, IsFrame, pair_of, pairs_of, taken_if, with_binder};
 ghost use Rattle.candidate_rounds.specs.Known.{GoesOn, listing, state};
+ghost use Rattle.candidate_rounds.specs.Stopping.{IsEquationStop};
 ghost use Rattle.rounds_judge.specs.Listed.{current};
 ghost use Rattle.rounds_judge.specs.Scopes.{entered, has_variables, placed_tree, scope_below};
 
@@ -363,6 +364,7 @@ impl Rounds {
         ensures ok { OnOk result (equated (listing self.old) (state self.old) (alone (arg_tree self.old.context.trees a)) (alone (arg_tree self.old.context.trees b)) ≡ Some (state self.new)) }
         ensures refused { IfErr result (λ e. e ≡ NoSolutionOrStop.NoSolution → equated (listing self.old) (state self.old) (alone (arg_tree self.old.context.trees a)) (alone (arg_tree self.old.context.trees b)) ≡ None) }
         ensures undone { OnErr result (self.new.inference ≡ self.old.inference) }
+        ensures cause { IfErr result (λ e. (s : Stop) → e ≡ NoSolutionOrStop.Stop s → IsEquationStop self.new.context.trees (listing self.old) (state self.old) (alone (arg_tree self.old.context.trees a)) (alone (arg_tree self.old.context.trees b)) s) }
     {
         self.well_kept();
         let changes = self.changes();

@@ -1,0 +1,140 @@
+-- Why calls of an evaluator that works in rounds stop: a growth was refused, numbers ran out, or a tree would be higher than 1,024. A stop
+-- is said of what would have been made, at the state that the judge says is there then, and of the context's trees at the stop.
+use Rattle.std.specs.Prelude.{◌≡◌, ◌<◌, ◌≤◌, ℕ, length, Some, List, [], ◌∷◌}
+use Rattle.std.specs.List.{Contains}
+use Rattle.candidate_ir.specs.declared.ir.heads.Head.{Head}
+use Rattle.candidate_ir.specs.declared.ir.heads.Head.TheVariants as H
+use Rattle.candidate_ir.specs.declared.ir.heads.Variable.{Variable}
+use Rattle.candidate_ir.specs.declared.ir.heads.PartHead.TheVariants as P
+use Rattle.candidate_ir.specs.declared.ir.heads.ClauseHead.TheVariants as Cl
+use Rattle.candidate_ir.specs.declared.ir.kinds.AssocId.{AssocId}
+use Rattle.candidate_ir.specs.declared.ir.stop.Stop.{Stop}
+use Rattle.candidate_ir.specs.declared.ir.stop.Stop.TheVariants.{Memory, NodesFull}
+use Rattle.candidate_ir.specs.Folding.{IsSubstStop}
+use Rattle.candidate_ir.specs.Nodes.{tree_at}
+use Rattle.candidate_ir.specs.Substitutions.{alone}
+use Rattle.candidate_ir.specs.Trees.{Forest, tree, Tree, count}
+use Rattle.candidate_eval.specs.declared.eval.certainty.Certainty.{Certainty}
+use Rattle.candidate_eval.specs.Characterization.{bound_kinds}
+use Rattle.candidate_eval.specs.Evaluators.{resolved_root}
+use Rattle.candidate_eval.specs.States.{State, Pending, resolved_tree, valued_tree, value_of}
+use Rattle.rounds_judge.specs.Binding.{single}
+use Rattle.rounds_judge.specs.Equating.{Pair, Left, outlives, value_for, visited}
+use Rattle.rounds_judge.specs.Listed.{Listing, current, listed, normalized_tree}
+use Rattle.rounds_judge.specs.Responding.{constraints, open_numbers, renumbered, renumbered_tree, root_values}
+use Rattle.rounds_judge.specs.Scopes.{Scope, placed_tree}
+use Rattle.rounds_judge.specs.Settling.{alias_of, instantiated, pass, settled, term_of, tried, with_facts}
+use Rattle.candidate_rounds.specs.Inferences.{IsFullAt}
+
+-- Why a tree wasn't made.
+abbrev pub IsTreeStop : List Tree → Tree → Stop → Type 0
+IsTreeStop ts t s = IsSubstStop (length ts) (alone t) s
+
+-- A node of the context has 2^64 - 1 children or more: they can't be counted.
+pub record HasWideNode (ts : List Tree) : Type 0 where
+  pub number : ℕ
+  pub inside : number < length ts
+  pub wide : 18446744073709551615 ≤ count (tree_at ts number).children
+
+-- Why the value for a variable that meets the tree wasn't made: with all values put in, then with listed types in the place of their
+-- aliases, then with placeholders.
+pub data IsValueStop (ts : List Tree) (l : Listing) (S : State) (us : Scope) (t : Tree) (s : Stop) : Type 0 where
+  of_resolved : IsTreeStop ts (resolved_tree S t) s → IsValueStop ts l S us t s
+  of_listed : IsTreeStop ts (normalized_tree l (resolved_tree S t)) s → IsValueStop ts l S us t s
+  of_placed : IsTreeStop ts (value_for l S us t) s → IsValueStop ts l S us t s
+
+-- Why a variable didn't get the value: another's value, with this one put in, wasn't made; or too many variables are there.
+pub data IsBindingStop (ts : List Tree) (S : State) (v : Variable) (t : Tree) : Stop → Type 0 where
+  no_memory : IsBindingStop ts S v t Memory
+  many_variables : 4294967295 ≤ length S.variables → IsBindingStop ts S v t NodesFull
+  of_renewed : {s : Stop} (n : ℕ) (u : Tree) → value_of S n ≡ Some u → IsTreeStop ts (valued_tree (single v t) u) s → IsBindingStop ts S v t s
+
+-- Why it wasn't recorded that two regions are equal.
+pub data IsRegionsStop (ts : List Tree) (a b : Tree) : Stop → Type 0 where
+  no_room : IsRegionsStop ts a b Memory
+  of_first : {s : Stop} → IsTreeStop ts (outlives a b) s → IsRegionsStop ts a b s
+  of_second : {s : Stop} → IsTreeStop ts (outlives b a) s → IsRegionsStop ts a b s
+
+-- Why two trees, as they are at the state, weren't made equal under these binders.
+pub data IsMeetingStop (ts : List Tree) (l : Listing) (S : State) (us : Scope) (x y : Tree) : Stop → Type 0 where
+  no_space : IsMeetingStop ts l S us x y Memory
+  of_right_value : {s : Stop} → IsValueStop ts l S us y s → IsMeetingStop ts l S us x y s
+  of_left_value : {s : Stop} → IsValueStop ts l S us x s → IsMeetingStop ts l S us x y s
+  of_left_binding : {s : Stop} (v : Variable) → x.head ≡ H.Infer v → IsBindingStop ts S v (value_for l S us y) s → IsMeetingStop ts l S us x y s
+  of_right_binding : {s : Stop} (v : Variable) → y.head ≡ H.Infer v → IsBindingStop ts S v (value_for l S us x) s → IsMeetingStop ts l S us x y s
+  of_left_region : {s : Stop} → IsTreeStop ts (placed_tree us x) s → IsMeetingStop ts l S us x y s
+  of_right_region : {s : Stop} → IsTreeStop ts (placed_tree us y) s → IsMeetingStop ts l S us x y s
+  of_regions : {s : Stop} → IsRegionsStop ts (placed_tree us x) (placed_tree us y) s → IsMeetingStop ts l S us x y s
+  no_universe : {s : Stop} → IsFullAt S.newest_universe s → IsMeetingStop ts l S us x y s
+
+-- Why a look at the first trees of two rows stopped: what they are at the state wasn't made, or they weren't made equal.
+pub data IsLookStop (ts : List Tree) (l : Listing) (S : State) (us : Scope) (t u : Tree) : Stop → Type 0 where
+  refused_growth : IsLookStop ts l S us t u Memory
+  wide_node : HasWideNode ts → IsLookStop ts l S us t u NodesFull
+  of_left : {s : Stop} → IsTreeStop ts (resolved_tree S (resolved_root S t)) s → IsLookStop ts l S us t u s
+  of_right : {s : Stop} → IsTreeStop ts (resolved_tree S (resolved_root S u)) s → IsLookStop ts l S us t u s
+  of_meeting : {s : Stop} → IsMeetingStop ts l S us (current l S t) (current l S u) s → IsLookStop ts l S us t u s
+
+-- Why an equation of which this is left stopped: at the look at what is first, or after it.
+pub data IsUnifyingStop (ts : List Tree) (l : Listing) (s : Stop) : State → List Pair → Type 0 where
+  at_once : {S : State} {us : Scope} {h g : Head} {a b : Forest} {r q : Forest} {more : List Pair}
+      → IsLookStop ts l S us (record { head = h; children = a }) (record { head = g; children = b }) s
+      → IsUnifyingStop ts l s S (record { scope = us; left = tree h a r; right = tree g b q } ∷ more)
+  later : {S T : State} {ps qs : List Pair} → visited l S ps ≡ Left T qs → IsUnifyingStop ts l s T qs → IsUnifyingStop ts l s S ps
+
+-- Why two rows weren't made equal: nothing was begun, or what was left stopped.
+pub data IsEquationStop (ts : List Tree) (l : Listing) (S : State) (a b : Forest) : Stop → Type 0 where
+  not_begun : IsEquationStop ts l S a b Memory
+  begun : {s : Stop} → IsUnifyingStop ts l s S (record { scope = []; left = a; right = b } ∷ []) → IsEquationStop ts l S a b s
+
+-- Pending goals.
+
+-- Why the instance of a clause, with placeholders of a fresh universe, wasn't made.
+pub data IsInstanceStop (ts : List Tree) (S : State) (c : Tree) (s : Stop) : Type 0 where
+  of_list : IsFullAt (length ts) s → IsInstanceStop ts S c s
+  of_universe : IsFullAt S.newest_universe s → IsInstanceStop ts S c s
+  of_kinds : IsFullAt (length (bound_kinds c.children)) s → IsInstanceStop ts S c s
+  of_instance : IsTreeStop ts (with_facts c (instantiated S c).1) s → IsInstanceStop ts S c s
+
+-- Why the type that is listed for the alias of a projection, with these facts, wasn't equated with its term.
+pub data IsProjectionStop (ts : List Tree) (l : Listing) (S : State) (a t : Tree) (s : Stop) : Type 0 where
+  of_alias : IsTreeStop ts a s → IsProjectionStop ts l S a t s
+  of_resolved_alias : IsTreeStop ts (resolved_tree S a) s → IsProjectionStop ts l S a t s
+  of_equation : (u : Tree) → listed l (resolved_tree S a) ≡ Some u → IsEquationStop ts l S (alone u) (alone t) s → IsProjectionStop ts l S a t s
+
+-- Why a goal wasn't evaluated.
+pub data IsGoalStop (ts : List Tree) (l : Listing) (S : State) (p : Pending) : Stop → Type 0 where
+  goal_memory : IsGoalStop ts l S p Memory
+  of_clause : {s : Stop} → IsInstanceStop ts S p.goal.clause s → IsGoalStop ts l S p s
+  of_projection : {s : Stop} (i : AssocId) → p.goal.clause.head ≡ H.Part (P.Clause (Cl.Projection i))
+      → (f : State × Forest) → f ≡ instantiated S p.goal.clause → IsProjectionStop ts l f.0 (alias_of i f.1) (term_of f.1) s → IsGoalStop ts l S p s
+
+-- Why goals, one after the other, weren't evaluated: one of them stopped.
+pub data AreGoalsStop (ts : List Tree) (l : Listing) (s : Stop) : State → List Pending → Type 0 where
+  this_goal : {S : State} {p : Pending} {ps : List Pending} → IsGoalStop ts l S p s → AreGoalsStop ts l s S (p ∷ ps)
+  later_goal : {S T : State} {p : Pending} {ps qs : List Pending} → tried l S p ≡ Some (qs, T) → AreGoalsStop ts l s T ps → AreGoalsStop ts l s S (p ∷ ps)
+
+-- Why what is pending wasn't evaluated: one of the passes stopped.
+pub data IsSettlingStop (ts : List Tree) (l : Listing) : State → Stop → Type 0 where
+  pass_memory : {S : State} → IsSettlingStop ts l S Memory
+  this_pass : {S : State} {s : Stop} → AreGoalsStop ts l s S S.pending → IsSettlingStop ts l S s
+  later_pass : {S T : State} {s : Stop} → pass l S ≡ Some T → IsSettlingStop ts l T s → IsSettlingStop ts l S s
+
+-- Responses.
+
+-- Why the response of what is known wasn't made.
+pub data IsResponseStop (ts : List Tree) (S : State) : Stop → Type 0 where
+  response_memory : IsResponseStop ts S Memory
+  full_table : {s : Stop} → IsFullAt (length ts) s → IsResponseStop ts S s
+  too_many_variables : 4294967295 ≤ length S.variables → IsResponseStop ts S NodesFull
+  too_many_open : 4294967295 < length (open_numbers S) → IsResponseStop ts S NodesFull
+  of_wide_node : HasWideNode ts → IsResponseStop ts S NodesFull
+  of_roots : {s : Stop} → IsSubstStop (length ts) (root_values S) s → IsResponseStop ts S s
+  of_constraint : {s : Stop} (c : Tree) → Contains S.regions c → IsTreeStop ts (resolved_tree S c) s → IsResponseStop ts S s
+  of_values : {s : Stop} → IsSubstStop (length ts) (renumbered (open_numbers S) (root_values S)) s → IsResponseStop ts S s
+  of_renumbered : {s : Stop} (c : Tree) → Contains (constraints S) c → IsTreeStop ts (renumbered_tree (open_numbers S) c) s → IsResponseStop ts S s
+
+-- Why what is pending wasn't evaluated, or no response was made of what is known then.
+pub data IsAnsweringStop (ts : List Tree) (l : Listing) (S : State) (s : Stop) : Type 0 where
+  of_settling : IsSettlingStop ts l S s → IsAnsweringStop ts l S s
+  of_response : (c : Certainty) (T : State) → settled l S ≡ Some (c, T) → IsResponseStop ts T s → IsAnsweringStop ts l S s
