@@ -27,3 +27,4 @@ pub mod Evaluating
 pub mod Alone
 pub mod Noting
 pub mod Interface
+pub mod ResponseStops

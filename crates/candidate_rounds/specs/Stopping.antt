@@ -1,6 +1,6 @@
 -- Why calls of an evaluator that works in rounds stop: a growth was refused, numbers ran out, or a tree would be higher than 1,024. A stop
 -- is said of what would have been made, at the state that the judge says is there then, and of the context's trees at the stop.
-use Rattle.std.specs.Prelude.{◌≡◌, ◌<◌, ◌≤◌, ℕ, length, Some, List, [], ◌∷◌}
+use Rattle.std.specs.Prelude.{◌≡◌, ◌<◌, ◌≤◌, ℕ, length, Option, Some, None, List, [], ◌∷◌}
 use Rattle.std.specs.List.{Contains}
 use Rattle.candidate_ir.specs.declared.ir.heads.Head.{Head}
 use Rattle.candidate_ir.specs.declared.ir.heads.Head.TheVariants as H
@@ -122,17 +122,37 @@ pub data IsSettlingStop (ts : List Tree) (l : Listing) : State → Stop → Type
 
 -- Responses.
 
+-- Why the variables in trees of the context weren't noted.
+pub data IsNotingStop (ts : List Tree) : Stop → Type 0 where
+  refused_note : IsNotingStop ts Memory
+  at_wide_node : HasWideNode ts → IsNotingStop ts NodesFull
+
+-- Why variables weren't numbered anew, where so many are noted and so many numbers of nodes are given: there are more variables than
+-- numbers, or the trees weren't made that were to come.
+pub data IsRenumberingStop (many given : ℕ) (made : Forest) : Stop → Type 0 where
+  too_many_open : 4294967295 < many → IsRenumberingStop many given made NodesFull
+  of_made : {s : Stop} → IsSubstStop given made s → IsRenumberingStop many given made s
+
+-- the same of an answer; where nothing is answered, nothing stops
+abbrev pub IsNewNumberStop : ℕ → ℕ → Option Tree → Stop → Type 0
+IsNewNumberStop many given None s = ⊥
+IsNewNumberStop many given (Some t) s = IsRenumberingStop many given (alone t) s
+
+-- the same of trees, one after the other, whose new numbers are the places of the old ones among these
+pub data AreRenumberingStops (ts : List Tree) (ns : List ℕ) (cs : List Tree) : Stop → Type 0 where
+  no_list : AreRenumberingStops ts ns cs Memory
+  of_one : {s : Stop} (c : Tree) → Contains cs c → IsRenumberingStop (length ns) (length ts) (alone (renumbered_tree ns c)) s → AreRenumberingStops ts ns cs s
+
 -- Why the response of what is known wasn't made.
 pub data IsResponseStop (ts : List Tree) (S : State) : Stop → Type 0 where
   response_memory : IsResponseStop ts S Memory
   full_table : {s : Stop} → IsFullAt (length ts) s → IsResponseStop ts S s
   too_many_variables : 4294967295 ≤ length S.variables → IsResponseStop ts S NodesFull
-  too_many_open : 4294967295 < length (open_numbers S) → IsResponseStop ts S NodesFull
-  of_wide_node : HasWideNode ts → IsResponseStop ts S NodesFull
   of_roots : {s : Stop} → IsSubstStop (length ts) (root_values S) s → IsResponseStop ts S s
   of_constraint : {s : Stop} (c : Tree) → Contains S.regions c → IsTreeStop ts (resolved_tree S c) s → IsResponseStop ts S s
-  of_values : {s : Stop} → IsSubstStop (length ts) (renumbered (open_numbers S) (root_values S)) s → IsResponseStop ts S s
-  of_renumbered : {s : Stop} (c : Tree) → Contains (constraints S) c → IsTreeStop ts (renumbered_tree (open_numbers S) c) s → IsResponseStop ts S s
+  of_noting : {s : Stop} → IsNotingStop ts s → IsResponseStop ts S s
+  of_values : {s : Stop} → IsRenumberingStop (length (open_numbers S)) (length ts) (renumbered (open_numbers S) (root_values S)) s → IsResponseStop ts S s
+  of_renumbered : {s : Stop} → AreRenumberingStops ts (open_numbers S) (constraints S) s → IsResponseStop ts S s
 
 -- Why what is pending wasn't evaluated, or no response was made of what is known then.
 pub data IsAnsweringStop (ts : List Tree) (l : Listing) (S : State) (s : Stop) : Type 0 where
