@@ -28,3 +28,4 @@ pub mod Alone
 pub mod Noting
 pub mod Interface
 pub mod ResponseStops
+pub mod SettlingStops

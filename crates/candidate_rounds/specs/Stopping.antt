@@ -96,28 +96,37 @@ pub data IsInstanceStop (ts : List Tree) (S : State) (c : Tree) (s : Stop) : Typ
   of_kinds : IsFullAt (length (bound_kinds c.children)) s → IsInstanceStop ts S c s
   of_instance : IsTreeStop ts (with_facts c (instantiated S c).1) s → IsInstanceStop ts S c s
 
--- Why the type that is listed for the alias of a projection, with these facts, wasn't equated with its term.
+-- Why the type that is listed for this alias wasn't equated with this term.
 pub data IsProjectionStop (ts : List Tree) (l : Listing) (S : State) (a t : Tree) (s : Stop) : Type 0 where
   of_alias : IsTreeStop ts a s → IsProjectionStop ts l S a t s
   of_resolved_alias : IsTreeStop ts (resolved_tree S a) s → IsProjectionStop ts l S a t s
   of_equation : (u : Tree) → listed l (resolved_tree S a) ≡ Some u → IsEquationStop ts l S (alone u) (alone t) s → IsProjectionStop ts l S a t s
 
--- Why a goal wasn't evaluated.
+-- Why an instance with these facts wasn't evaluated, by the head of its clause: it wasn't recorded, or what it says of a projection
+-- wasn't made to hold.
+pub data IsEvaluationStop (ts : List Tree) (l : Listing) (S : State) (h : Head) (f : Forest) : Stop → Type 0 where
+  not_recorded : IsEvaluationStop ts l S h f Memory
+  of_projection : {s : Stop} (i : AssocId) → h ≡ H.Part (P.Clause (Cl.Projection i)) → IsProjectionStop ts l S (alias_of i f) (term_of f) s → IsEvaluationStop ts l S h f s
+
+-- Why a goal wasn't evaluated: its instance wasn't made, or wasn't evaluated at the state that has its placeholders.
 pub data IsGoalStop (ts : List Tree) (l : Listing) (S : State) (p : Pending) : Stop → Type 0 where
   goal_memory : IsGoalStop ts l S p Memory
   of_clause : {s : Stop} → IsInstanceStop ts S p.goal.clause s → IsGoalStop ts l S p s
-  of_projection : {s : Stop} (i : AssocId) → p.goal.clause.head ≡ H.Part (P.Clause (Cl.Projection i))
-      → (f : State × Forest) → f ≡ instantiated S p.goal.clause → IsProjectionStop ts l f.0 (alias_of i f.1) (term_of f.1) s → IsGoalStop ts l S p s
+  of_evaluation : {s : Stop} → IsEvaluationStop ts l (instantiated S p.goal.clause).0 p.goal.clause.head (instantiated S p.goal.clause).1 s → IsGoalStop ts l S p s
 
 -- Why goals, one after the other, weren't evaluated: one of them stopped.
 pub data AreGoalsStop (ts : List Tree) (l : Listing) (s : Stop) : State → List Pending → Type 0 where
   this_goal : {S : State} {p : Pending} {ps : List Pending} → IsGoalStop ts l S p s → AreGoalsStop ts l s S (p ∷ ps)
   later_goal : {S T : State} {p : Pending} {ps qs : List Pending} → tried l S p ≡ Some (qs, T) → AreGoalsStop ts l s T ps → AreGoalsStop ts l s S (p ∷ ps)
 
+-- Why what is pending wasn't evaluated once: a goal stopped, or what stayed didn't become pending.
+pub data IsPassStop (ts : List Tree) (l : Listing) (S : State) : Stop → Type 0 where
+  pass_memory : IsPassStop ts l S Memory
+  of_goals : {s : Stop} → AreGoalsStop ts l s S S.pending → IsPassStop ts l S s
+
 -- Why what is pending wasn't evaluated: one of the passes stopped.
 pub data IsSettlingStop (ts : List Tree) (l : Listing) : State → Stop → Type 0 where
-  pass_memory : {S : State} → IsSettlingStop ts l S Memory
-  this_pass : {S : State} {s : Stop} → AreGoalsStop ts l s S S.pending → IsSettlingStop ts l S s
+  this_pass : {S : State} {s : Stop} → IsPassStop ts l S s → IsSettlingStop ts l S s
   later_pass : {S T : State} {s : Stop} → pass l S ≡ Some T → IsSettlingStop ts l T s → IsSettlingStop ts l S s
 
 -- Responses.

@@ -14,7 +14,7 @@ ghost use Rattle.candidate_eval.specs.declared.eval.mode.TypingMode.{TypingMode}
 ghost use Rattle.candidate_rounds.specs.Gathered.{open_entry, renumbered_at, root_at};
 ghost use Rattle.candidate_rounds.specs.Inferences.{IsFullAt};
 ghost use Rattle.candidate_rounds.specs.Known.{Each, GoesOn, IsKnown, KeepsGiven, SuitsKind, listing, probes, state, state_of};
-ghost use Rattle.candidate_rounds.specs.Stopping.{AreRenumberingStops, IsNewNumberStop, IsNotingStop, IsRenumberingStop, IsResponseStop};
+ghost use Rattle.candidate_rounds.specs.Stopping.{AreRenumberingStops, IsAnsweringStop, IsNewNumberStop, IsNotingStop, IsRenumberingStop, IsResponseStop};
 ghost use Rattle.rounds_judge.specs.Responding.{constraints, is_seen, place_of, renumbered, renumbered_tree, responded, response, root_values, with_number, with_numbers, with_numbers_of};
 ghost use Rattle.rounds_judge.specs.Settling.{settled};
 
@@ -227,7 +227,7 @@ fn variable_in(cx: &Cx, arg: GenericArg) -> Option<(VariableKind, u32)>
 }
 
 /// What stands for a variable, whose new number is the place of its old one. `Stop::Memory` comes where a growth was refused,
-/// `Stop::NodesFull` where no number is left.
+/// `Stop::NodesFull` where no number is left, or the place is too large to be one.
 fn renumbered_at(cx: &mut Cx, numbers: &[u32], arg: GenericArg) -> Result<Option<GenericArg>, Stop>
     requires { IsArg cx.old.trees arg }
     ensures grows { Grows cx.old cx.new }
@@ -245,7 +245,7 @@ fn renumbered_at(cx: &mut Cx, numbers: &[u32], arg: GenericArg) -> Result<Option
     Ok(Some(variable(cx, kind, place as u32)?))
 }
 
-/// The list, with its variables numbered anew; what is said of `Rounds::resolve_ty_if_possible` holds here, too.
+/// The list, with its variables numbered anew; what is said of `Rounds::resolve_ty_if_possible` holds here, too, and of `renumbered_at`.
 fn renumbered_args(alloc: Global, cx: &mut Cx, numbers: &[u32], args: Args) -> Result<Args, Stop>
     requires { IsArgs cx.old.trees args }
     ensures grows { Grows cx.old cx.new }
@@ -361,7 +361,7 @@ fn open_variables(
     Ok(list)
 }
 
-/// The response of what is known, with that certainty; what is said of `Rounds::resolve_ty_if_possible` holds here, too.
+/// The response of what is known, with that certainty. It stops as its parts do; the nodes that were made stay then.
 fn response(
     alloc: Global,
     cx: &mut Cx,
@@ -391,8 +391,8 @@ fn response(
 
 impl Rounds {
     /// The response of what is known, with that certainty. Nothing that is pending is evaluated; nodes are made, and nothing else is
-    /// changed. `Stop::Memory` comes where a growth was refused, `Stop::NodesFull` where no numbers are left or a tree would be higher
-    /// than 1,024. After a stop the nodes that were made stay.
+    /// changed. `Stop::Memory` comes where a growth was refused, `Stop::NodesFull` where no numbers are left, a tree would be higher than
+    /// 1,024, or the variables that are left open or the children of a node are too many. After a stop the nodes that were made stay.
     pub fn make_canonical_response(
         &mut self,
         alloc: Global,
@@ -426,6 +426,7 @@ impl Rounds {
         ensures left { OnOk result (next (settled (listing self.old) (state self.old)) (λ q. Some q.1) ≡ Some (state self.new)) }
         ensures refused { IfErr result (λ e. e ≡ NoSolutionOrStop.NoSolution → responded (listing self.old) (state self.old) certainty ≡ None) }
         ensures undone { OnErr result (state self.new ≡ state self.old) }
+        ensures cause { IfErr result (λ e. (s : Stop) → e ≡ NoSolutionOrStop.Stop s → IsAnsweringStop self.new.context.trees (listing self.old) (state self.old) s) }
     {
         self.well_kept();
         let changes = self.changes();
