@@ -29,3 +29,4 @@ pub mod Noting
 pub mod Interface
 pub mod ResponseStops
 pub mod SettlingStops
+pub mod SettlingStopKinds
