@@ -31,3 +31,6 @@ pub mod Evaluating
 pub mod Alone
 pub mod Noting
 pub mod Interface
+pub mod ResponseStops
+pub mod SettlingStops
+pub mod SettlingStopKinds

@@ -1,6 +1,6 @@
 -- Why calls of an evaluator that works in rounds stop: a growth was refused, numbers ran out, or a tree would be higher than 1,024. A stop
 -- is said of what would have been made, at the state that the judge says is there then, and of the context's trees at the stop.
-use Rattle.std.specs.Prelude.{◌≡◌, ◌≢◌, ◌<◌, ◌≤◌, ℕ, length, Some, List, [], ◌∷◌}
+use Rattle.std.specs.Prelude.{◌≡◌, ◌≢◌, ◌<◌, ◌≤◌, ℕ, length, Option, Some, None, List, [], ◌∷◌}
 use Rattle.std.specs.List.{Contains}
 use Rattle.candidate_ir.specs.declared.ir.heads.Head.{Head}
 use Rattle.candidate_ir.specs.declared.ir.heads.Head.TheVariants as H
@@ -114,43 +114,72 @@ pub data IsInstanceStop (ts : List Tree) (S : State) (c : Tree) (s : Stop) : Typ
   of_kinds : IsFullAt (length (bound_kinds c.children)) s → IsInstanceStop ts S c s
   of_instance : IsTreeStop ts (with_facts c (instantiated S c).1) s → IsInstanceStop ts S c s
 
--- Why the type that is listed for the alias of a projection, with these facts, wasn't equated with its term.
+-- Why the type that is listed for this alias wasn't equated with this term.
 pub data IsProjectionStop (ts : List Tree) (l : Listing) (S : State) (a t : Tree) (s : Stop) : Type 0 where
   of_alias : IsTreeStop ts a s → IsProjectionStop ts l S a t s
   of_resolved_alias : IsTreeStop ts (resolved_tree S a) s → IsProjectionStop ts l S a t s
   of_equation : (u : Tree) → listed l (resolved_tree S a) ≡ Some u → IsEquationStop ts l S (alone u) (alone t) s → IsProjectionStop ts l S a t s
 
--- Why a goal wasn't evaluated.
+-- Why an instance with these facts wasn't evaluated, by the head of its clause: it wasn't recorded, or what it says of a projection
+-- wasn't made to hold.
+pub data IsEvaluationStop (ts : List Tree) (l : Listing) (S : State) (h : Head) (f : Forest) : Stop → Type 0 where
+  not_recorded : IsEvaluationStop ts l S h f Memory
+  of_projection : {s : Stop} (i : AssocId) → h ≡ H.Part (P.Clause (Cl.Projection i)) → IsProjectionStop ts l S (alias_of i f) (term_of f) s → IsEvaluationStop ts l S h f s
+
+-- Why a goal wasn't evaluated: its instance wasn't made, or wasn't evaluated at the state that has its placeholders.
 pub data IsGoalStop (ts : List Tree) (l : Listing) (S : State) (p : Pending) : Stop → Type 0 where
   goal_memory : IsGoalStop ts l S p Memory
   of_clause : {s : Stop} → IsInstanceStop ts S p.goal.clause s → IsGoalStop ts l S p s
-  of_projection : {s : Stop} (i : AssocId) → p.goal.clause.head ≡ H.Part (P.Clause (Cl.Projection i))
-      → (f : State × Forest) → f ≡ instantiated S p.goal.clause → IsProjectionStop ts l f.0 (alias_of i f.1) (term_of f.1) s → IsGoalStop ts l S p s
+  of_evaluation : {s : Stop} → IsEvaluationStop ts l (instantiated S p.goal.clause).0 p.goal.clause.head (instantiated S p.goal.clause).1 s → IsGoalStop ts l S p s
 
 -- Why goals, one after the other, weren't evaluated: one of them stopped.
 pub data AreGoalsStop (ts : List Tree) (l : Listing) (s : Stop) : State → List Pending → Type 0 where
   this_goal : {S : State} {p : Pending} {ps : List Pending} → IsGoalStop ts l S p s → AreGoalsStop ts l s S (p ∷ ps)
   later_goal : {S T : State} {p : Pending} {ps qs : List Pending} → tried l S p ≡ Some (qs, T) → AreGoalsStop ts l s T ps → AreGoalsStop ts l s S (p ∷ ps)
 
+-- Why what is pending wasn't evaluated once: a goal stopped, or what stayed didn't become pending.
+pub data IsPassStop (ts : List Tree) (l : Listing) (S : State) : Stop → Type 0 where
+  pass_memory : IsPassStop ts l S Memory
+  of_goals : {s : Stop} → AreGoalsStop ts l s S S.pending → IsPassStop ts l S s
+
 -- Why what is pending wasn't evaluated: one of the passes stopped.
 pub data IsSettlingStop (ts : List Tree) (l : Listing) : State → Stop → Type 0 where
-  pass_memory : {S : State} → IsSettlingStop ts l S Memory
-  this_pass : {S : State} {s : Stop} → AreGoalsStop ts l s S S.pending → IsSettlingStop ts l S s
+  this_pass : {S : State} {s : Stop} → IsPassStop ts l S s → IsSettlingStop ts l S s
   later_pass : {S T : State} {s : Stop} → pass l S ≡ Some T → IsSettlingStop ts l T s → IsSettlingStop ts l S s
 
 -- Responses.
+
+-- Why the variables in trees of the context weren't noted.
+pub data IsNotingStop (ts : List Tree) : Stop → Type 0 where
+  refused_note : IsNotingStop ts Memory
+  at_wide_node : HasWideNode ts → IsNotingStop ts NodesFull
+
+-- Why variables weren't numbered anew, where so many are noted and so many numbers of nodes are given: there are more variables than
+-- numbers, or the trees weren't made that were to come.
+pub data IsRenumberingStop (many given : ℕ) (made : Forest) : Stop → Type 0 where
+  too_many_open : 4294967295 < many → IsRenumberingStop many given made NodesFull
+  of_made : {s : Stop} → IsSubstStop given made s → IsRenumberingStop many given made s
+
+-- the same of an answer; where nothing is answered, nothing stops
+abbrev pub IsNewNumberStop : ℕ → ℕ → Option Tree → Stop → Type 0
+IsNewNumberStop many given None s = ⊥
+IsNewNumberStop many given (Some t) s = IsRenumberingStop many given (alone t) s
+
+-- the same of trees, one after the other, whose new numbers are the places of the old ones among these
+pub data AreRenumberingStops (ts : List Tree) (ns : List ℕ) (cs : List Tree) : Stop → Type 0 where
+  no_list : AreRenumberingStops ts ns cs Memory
+  of_one : {s : Stop} (c : Tree) → Contains cs c → IsRenumberingStop (length ns) (length ts) (alone (renumbered_tree ns c)) s → AreRenumberingStops ts ns cs s
 
 -- Why the response of what is known wasn't made.
 pub data IsResponseStop (ts : List Tree) (S : State) : Stop → Type 0 where
   response_memory : IsResponseStop ts S Memory
   full_table : {s : Stop} → IsFullAt (length ts) s → IsResponseStop ts S s
   too_many_variables : 4294967295 ≤ length S.variables → IsResponseStop ts S NodesFull
-  too_many_open : 4294967295 < length (open_numbers S) → IsResponseStop ts S NodesFull
-  of_wide_node : HasWideNode ts → IsResponseStop ts S NodesFull
   of_roots : {s : Stop} → IsSubstStop (length ts) (root_values S) s → IsResponseStop ts S s
   of_constraint : {s : Stop} (c : Tree) → Contains S.regions c → IsTreeStop ts (resolved_tree S c) s → IsResponseStop ts S s
-  of_values : {s : Stop} → IsSubstStop (length ts) (renumbered (open_numbers S) (root_values S)) s → IsResponseStop ts S s
-  of_renumbered : {s : Stop} (c : Tree) → Contains (constraints S) c → IsTreeStop ts (renumbered_tree (open_numbers S) c) s → IsResponseStop ts S s
+  of_noting : {s : Stop} → IsNotingStop ts s → IsResponseStop ts S s
+  of_values : {s : Stop} → IsRenumberingStop (length (open_numbers S)) (length ts) (renumbered (open_numbers S) (root_values S)) s → IsResponseStop ts S s
+  of_renumbered : {s : Stop} → AreRenumberingStops ts (open_numbers S) (constraints S) s → IsResponseStop ts S s
 
 -- Why what is pending wasn't evaluated, or no response was made of what is known then.
 pub data IsAnsweringStop (ts : List Tree) (l : Listing) (S : State) (s : Stop) : Type 0 where

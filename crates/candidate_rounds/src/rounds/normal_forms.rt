@@ -1,10 +1,11 @@
 //! Normal forms.
 
-ghost use Rattle.std.specs.Prelude.{◌≡◌, Some, IfOk};
+ghost use Rattle.std.specs.Prelude.{◌≡◌, Some, IfErr, IfOk};
 ghost use Rattle.candidate_ir.specs.Context.{Grows};
 ghost use Rattle.candidate_ir.specs.Words.{IsConst, IsTy, const_tree, ty_tree};
-ghost use Rattle.candidate_eval.specs.States.{Env};
+ghost use Rattle.candidate_eval.specs.States.{Env, resolved_tree};
 ghost use Rattle.candidate_rounds.specs.Known.{KeepsGiven, listing, probes, state};
+ghost use Rattle.candidate_rounds.specs.Stopping.{IsTreeStop};
 ghost use Rattle.rounds_judge.specs.Normalizing.{normalized, type_or_itself};
 
 use crate::rounds::Rounds;
@@ -38,6 +39,7 @@ impl Rounds {
         ensures sort { IfOk result (λ x. IsTy self.new.context.trees x) }
         ensures ok { (e : Env) → IfOk result (λ x. normalized (listing self.old) (state self.old) e (ty_tree self.old.context.trees ty) ≡ Some (ty_tree self.new.context.trees x, state self.new)) }
         ensures undone { state self.new ≡ state self.old }
+        ensures cause { IfErr result (λ s. IsTreeStop self.new.context.trees (resolved_tree (state self.old) (ty_tree self.old.context.trees ty)) s) }
     {
         let _ = &self.normal;
         let resolved = self.resolve_ty_if_possible(alloc, ty)?;
@@ -57,6 +59,7 @@ impl Rounds {
         ensures sort { IfOk result (λ x. IsConst self.new.context.trees x) }
         ensures ok { (e : Env) → IfOk result (λ x. normalized (listing self.old) (state self.old) e (const_tree self.old.context.trees constant) ≡ Some (const_tree self.new.context.trees x, state self.new)) }
         ensures undone { state self.new ≡ state self.old }
+        ensures cause { IfErr result (λ s. IsTreeStop self.new.context.trees (resolved_tree (state self.old) (const_tree self.old.context.trees constant)) s) }
     {
         let _ = &self.normal;
         self.resolve_const_if_possible(alloc, constant)

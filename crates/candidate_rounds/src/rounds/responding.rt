@@ -12,7 +12,9 @@ ghost use Rattle.candidate_eval.specs.ResponseTrees.{IsResponse, response_of};
 ghost use Rattle.candidate_eval.specs.States.{next, resolved_tree, variable};
 ghost use Rattle.candidate_eval.specs.declared.eval.mode.TypingMode.{TypingMode};
 ghost use Rattle.candidate_rounds.specs.Gathered.{open_entry, renumbered_at, root_at};
+ghost use Rattle.candidate_rounds.specs.Inferences.{IsFullAt};
 ghost use Rattle.candidate_rounds.specs.Known.{Each, GoesOn, IsKnown, KeepsGiven, SuitsKind, listing, probes, state, state_of};
+ghost use Rattle.candidate_rounds.specs.Stopping.{AreRenumberingStops, IsAnsweringStop, IsNewNumberStop, IsNotingStop, IsRenumberingStop, IsResponseStop};
 ghost use Rattle.rounds_judge.specs.Responding.{constraints, is_seen, place_of, renumbered, renumbered_tree, responded, response, root_values, with_number, with_numbers, with_numbers_of};
 ghost use Rattle.rounds_judge.specs.Settling.{settled};
 
@@ -53,7 +55,8 @@ fn is_seen(numbers: &[u32], number: u32) -> bool
 
 /// Notes a variable's number, unless it is among those seen. The only stop is `Stop::Memory`.
 fn note_number(numbers: &mut Vec<u32>, number: Option<u32>) -> Result<(), Stop>
-    ensures { IfOk result (λ _. numbers.new.items ≡ with_number numbers.old.items number) }
+    ensures noted { IfOk result (λ _. numbers.new.items ≡ with_number numbers.old.items number) }
+    ensures cause { IfErr result (λ s. s ≡ Stop.Memory) }
 {
     match number {
         Some(number) if !is_seen(numbers.as_slice(), number) => Ok(numbers.push(number)?),
@@ -65,7 +68,8 @@ fn note_number(numbers: &mut Vec<u32>, number: Option<u32>) -> Result<(), Stop>
 /// are more children than can be counted.
 fn note_below(cx: &Cx, numbers: &mut Vec<u32>, number: u32) -> Result<(), Stop>
     requires { number < length cx.now.trees }
-    ensures { IfOk result (λ _. numbers.new.items ≡ with_numbers numbers.old.items (tree_at cx.now.trees number).children) }
+    ensures noted { IfOk result (λ _. numbers.new.items ≡ with_numbers numbers.old.items (tree_at cx.now.trees number).children) }
+    ensures cause { IfErr result (λ s. IsNotingStop cx.now.trees s) }
 {
     for place in 0..usize::MAX {
         let Some(child) = cx.child(number, place) else {
@@ -80,7 +84,8 @@ fn note_below(cx: &Cx, numbers: &mut Vec<u32>, number: u32) -> Result<(), Stop>
 /// Notes the numbers of the variables of an argument; it stops as `note_below` does.
 fn note_arg(cx: &Cx, numbers: &mut Vec<u32>, arg: GenericArg) -> Result<(), Stop>
     requires { IsArg cx.now.trees arg }
-    ensures { IfOk result (λ _. numbers.new.items ≡ with_numbers numbers.old.items (alone (arg_tree cx.now.trees arg))) }
+    ensures noted { IfOk result (λ _. numbers.new.items ≡ with_numbers numbers.old.items (alone (arg_tree cx.now.trees arg))) }
+    ensures cause { IfErr result (λ s. IsNotingStop cx.now.trees s) }
 {
     if let Some(lone) = Lone::of(cx, arg) {
         return note_number(numbers, lone.number());
@@ -92,7 +97,8 @@ fn note_arg(cx: &Cx, numbers: &mut Vec<u32>, arg: GenericArg) -> Result<(), Stop
 /// Notes the numbers of the variables of a list; it stops as `note_below` does.
 fn note_args(cx: &Cx, numbers: &mut Vec<u32>, args: Args) -> Result<(), Stop>
     requires { IsArgs cx.now.trees args }
-    ensures { IfOk result (λ _. numbers.new.items ≡ with_numbers numbers.old.items (args_forest cx.now.trees args)) }
+    ensures noted { IfOk result (λ _. numbers.new.items ≡ with_numbers numbers.old.items (args_forest cx.now.trees args)) }
+    ensures cause { IfErr result (λ s. IsNotingStop cx.now.trees s) }
 {
     let list = cx.args(args);
     for i in 0..list.len() {
@@ -104,7 +110,8 @@ fn note_args(cx: &Cx, numbers: &mut Vec<u32>, args: Args) -> Result<(), Stop>
 /// Notes the numbers of the variables of a clause; it stops as `note_below` does.
 fn note_clause(cx: &Cx, numbers: &mut Vec<u32>, clause: Clause) -> Result<(), Stop>
     requires { IsClause cx.now.trees clause }
-    ensures { IfOk result (λ _. numbers.new.items ≡ with_numbers numbers.old.items (alone (clause_tree cx.now.trees clause))) }
+    ensures noted { IfOk result (λ _. numbers.new.items ≡ with_numbers numbers.old.items (alone (clause_tree cx.now.trees clause))) }
+    ensures cause { IfErr result (λ s. IsNotingStop cx.now.trees s) }
 {
     note_number(numbers, cx.head(clause.0).variable_number())?;
     note_below(cx, numbers, clause.0)
@@ -115,7 +122,8 @@ fn note_clause(cx: &Cx, numbers: &mut Vec<u32>, clause: Clause) -> Result<(), St
 fn numbers_of(alloc: Global, cx: &Cx, args: Args, clauses: &[Clause]) -> Result<Vec<u32>, Stop>
     requires args { IsArgs cx.now.trees args }
     requires clauses { ClauseListFits cx.now.trees clauses.now }
-    ensures { IfOk result (λ v. v.items ≡ with_numbers_of (with_numbers [] (args_forest cx.now.trees args)) (map (clause_tree cx.now.trees) clauses.now)) }
+    ensures numbers { IfOk result (λ v. v.items ≡ with_numbers_of (with_numbers [] (args_forest cx.now.trees args)) (map (clause_tree cx.now.trees) clauses.now)) }
+    ensures cause { IfErr result (λ s. IsNotingStop cx.now.trees s) }
 {
     let mut numbers = Vec::new(alloc);
     note_args(cx, &mut numbers, args)?;
@@ -132,6 +140,7 @@ fn root_value(cx: &mut Cx, inference: &Inference, number: u32) -> Result<Option<
     ensures grows { Grows cx.old cx.new }
     ensures sort { IfOk result (λ o. IfSome o (λ a. IsArg cx.new.trees a)) }
     ensures tree { (m : TypingMode) → IfOk result (λ o. option_map (arg_tree cx.new.trees) o ≡ option_map (resolved_tree (state_of cx.old.trees m inference.now)) (root_at number (slice_get inference.now.variables number))) }
+    ensures cause { IfErr result (λ s. IsFullAt (length cx.new.trees) s) }
 {
     let Some(entry) = inference.entry(number) else {
         return Ok(None);
@@ -147,7 +156,8 @@ fn root_value(cx: &mut Cx, inference: &Inference, number: u32) -> Result<Option<
 
 /// Puts an argument, if there is one, at a list's end. The only stop is `Stop::Memory`.
 fn push_some(list: &mut Vec<GenericArg>, arg: Option<GenericArg>) -> Result<(), Stop>
-    ensures { IfOk result (λ _. list.new.items ≡ list.old.items ++ option_to_list arg) }
+    ensures pushed { IfOk result (λ _. list.new.items ≡ list.old.items ++ option_to_list arg) }
+    ensures cause { IfErr result (λ s. s ≡ Stop.Memory) }
 {
     if let Some(arg) = arg {
         list.push(arg)?;
@@ -162,6 +172,7 @@ fn root_values(alloc: Global, cx: &mut Cx, inference: &Inference) -> Result<Args
     ensures grows { Grows cx.old cx.new }
     ensures sort { IfOk result (λ a. IsArgs cx.new.trees a) }
     ensures trees { (m : TypingMode) → IfOk result (λ a. args_forest cx.new.trees a ≡ root_values (state_of cx.old.trees m inference.now)) }
+    ensures cause { (m : TypingMode) → IfErr result (λ s. IsResponseStop cx.new.trees (state_of cx.old.trees m inference.now) s) }
 {
     let count = inference.next_variable()?;
     let mut list = Vec::new(alloc);
@@ -179,6 +190,7 @@ fn constraints(alloc: Global, cx: &mut Cx, inference: &Inference) -> Result<Vec<
     ensures grows { Grows cx.old cx.new }
     ensures fit { IfOk result (λ v. ClauseListFits cx.new.trees v.items) }
     ensures trees { (m : TypingMode) → IfOk result (λ v. map (clause_tree cx.new.trees) v.items ≡ constraints (state_of cx.old.trees m inference.now)) }
+    ensures cause { (m : TypingMode) → IfErr result (λ s. IsResponseStop cx.new.trees (state_of cx.old.trees m inference.now) s) }
 {
     let regions = inference.regions();
     let mut list = Vec::new(alloc);
@@ -215,12 +227,13 @@ fn variable_in(cx: &Cx, arg: GenericArg) -> Option<(VariableKind, u32)>
 }
 
 /// What stands for a variable, whose new number is the place of its old one. `Stop::Memory` comes where a growth was refused,
-/// `Stop::NodesFull` where no number is left.
+/// `Stop::NodesFull` where no number is left, or the place is too large to be one.
 fn renumbered_at(cx: &mut Cx, numbers: &[u32], arg: GenericArg) -> Result<Option<GenericArg>, Stop>
     requires { IsArg cx.old.trees arg }
     ensures grows { Grows cx.old cx.new }
     ensures kind { IfOk result (λ o. IsOfKind cx.new.trees arg o) }
     ensures answer { IfOk result (λ o. option_map (arg_tree cx.new.trees) o ≡ renumbered_at numbers.now (arg_tree cx.old.trees arg)) }
+    ensures cause { IfErr result (λ s. IsNewNumberStop (length numbers.now) (length cx.new.trees) (renumbered_at numbers.now (arg_tree cx.old.trees arg)) s) }
 {
     let Some((kind, number)) = variable_in(cx, arg) else {
         return Ok(None);
@@ -232,12 +245,13 @@ fn renumbered_at(cx: &mut Cx, numbers: &[u32], arg: GenericArg) -> Result<Option
     Ok(Some(variable(cx, kind, place as u32)?))
 }
 
-/// The list, with its variables numbered anew; what is said of `Rounds::resolve_ty_if_possible` holds here, too.
+/// The list, with its variables numbered anew; what is said of `Rounds::resolve_ty_if_possible` holds here, too, and of `renumbered_at`.
 fn renumbered_args(alloc: Global, cx: &mut Cx, numbers: &[u32], args: Args) -> Result<Args, Stop>
     requires { IsArgs cx.old.trees args }
     ensures grows { Grows cx.old cx.new }
     ensures sort { IfOk result (λ a. IsArgs cx.new.trees a) }
     ensures trees { IfOk result (λ a. args_forest cx.new.trees a ≡ renumbered numbers.now (args_forest cx.old.trees args)) }
+    ensures cause { IfErr result (λ s. IsRenumberingStop (length numbers.now) (length cx.new.trees) (renumbered numbers.now (args_forest cx.old.trees args)) s) }
 {
     fold_args(
         alloc,
@@ -248,6 +262,7 @@ fn renumbered_args(alloc: Global, cx: &mut Cx, numbers: &[u32], args: Args) -> R
             ensures grows { Grows cx.old cx.new }
             ensures kind { IfOk result (λ o. IsOfKind cx.new.trees arg o) }
             ensures answer { IfOk result (λ o. option_map (arg_tree cx.new.trees) o ≡ renumbered_at numbers.entry.now (arg_tree cx.old.trees arg)) }
+            ensures cause { IfErr result (λ s. IsNewNumberStop (length numbers.entry.now) (length cx.new.trees) (renumbered_at numbers.entry.now (arg_tree cx.old.trees arg)) s) }
         { renumbered_at(cx, numbers, arg) },
     )
 }
@@ -259,6 +274,7 @@ fn numbered_args(alloc: Global, cx: &mut Cx, numbers: &[u32], args: Args) -> Res
     ensures grows { Grows cx.old cx.new }
     ensures sort { IfOk result (λ a. IsArgs cx.new.trees a) }
     ensures trees { IfOk result (λ a. args_forest cx.new.trees a ≡ renumbered numbers.now (args_forest cx.old.trees args)) }
+    ensures cause { IfErr result (λ s. IsRenumberingStop (length numbers.now) (length cx.new.trees) (renumbered numbers.now (args_forest cx.old.trees args)) s) }
 {
     if numbers.is_empty() {
         return Ok(args);
@@ -277,6 +293,7 @@ fn renumbered_clause(
     ensures grows { Grows cx.old cx.new }
     ensures sort { IfOk result (λ x. IsClause cx.new.trees x) }
     ensures tree { IfOk result (λ x. clause_tree cx.new.trees x ≡ renumbered_tree numbers.now (clause_tree cx.old.trees clause)) }
+    ensures cause { IfErr result (λ s. IsRenumberingStop (length numbers.now) (length cx.new.trees) (alone (renumbered_tree numbers.now (clause_tree cx.old.trees clause))) s) }
 {
     fold_clause(
         alloc,
@@ -287,6 +304,7 @@ fn renumbered_clause(
             ensures grows { Grows cx.old cx.new }
             ensures kind { IfOk result (λ o. IsOfKind cx.new.trees arg o) }
             ensures answer { IfOk result (λ o. option_map (arg_tree cx.new.trees) o ≡ renumbered_at numbers.entry.now (arg_tree cx.old.trees arg)) }
+            ensures cause { IfErr result (λ s. IsNewNumberStop (length numbers.entry.now) (length cx.new.trees) (renumbered_at numbers.entry.now (arg_tree cx.old.trees arg)) s) }
         { renumbered_at(cx, numbers, arg) },
     )
 }
@@ -302,6 +320,7 @@ fn renumbered_clauses(
     ensures grows { Grows cx.old cx.new }
     ensures fit { IfOk result (λ v. ClauseListFits cx.new.trees v.items) }
     ensures trees { IfOk result (λ v. map (clause_tree cx.new.trees) v.items ≡ map (renumbered_tree numbers.now) (map (clause_tree cx.old.trees) clauses.now)) }
+    ensures cause { IfErr result (λ s. AreRenumberingStops cx.new.trees numbers.now (map (clause_tree cx.old.trees) clauses.now) s) }
 {
     let mut list = Vec::new(alloc);
     for i in 0..clauses.len() {
@@ -332,7 +351,8 @@ fn open_variables(
     inference: &Inference,
     numbers: &[u32],
 ) -> Result<Vec<CanonicalVar>, Stop>
-    ensures { IfOk result (λ v. v.items ≡ map (λ n. open_entry (slice_get inference.now.variables n)) numbers.now) }
+    ensures variables { IfOk result (λ v. v.items ≡ map (λ n. open_entry (slice_get inference.now.variables n)) numbers.now) }
+    ensures cause { IfErr result (λ s. s ≡ Stop.Memory) }
 {
     let mut list = Vec::new(alloc);
     for i in 0..numbers.len() {
@@ -341,7 +361,7 @@ fn open_variables(
     Ok(list)
 }
 
-/// The response of what is known, with that certainty; what is said of `Rounds::resolve_ty_if_possible` holds here, too.
+/// The response of what is known, with that certainty. It stops as its parts do; the nodes that were made stay then.
 fn response(
     alloc: Global,
     cx: &mut Cx,
@@ -353,6 +373,7 @@ fn response(
     ensures grows { Grows cx.old cx.new }
     ensures sort { IfOk result (λ r. IsResponse cx.new.trees r) }
     ensures is { (m : TypingMode) → IfOk result (λ r. response_of cx.new.trees r ≡ response (state_of cx.old.trees m inference.now) certainty) }
+    ensures cause { (m : TypingMode) → IfErr result (λ s. IsResponseStop cx.new.trees (state_of cx.old.trees m inference.now) s) }
 {
     let values = root_values(alloc, cx, inference)?;
     let regions = constraints(alloc, cx, inference)?;
@@ -370,8 +391,8 @@ fn response(
 
 impl Rounds {
     /// The response of what is known, with that certainty. Nothing that is pending is evaluated; nodes are made, and nothing else is
-    /// changed. `Stop::Memory` comes where a growth was refused, `Stop::NodesFull` where no numbers are left or a tree would be higher
-    /// than 1,024. After a stop the nodes that were made stay.
+    /// changed. `Stop::Memory` comes where a growth was refused, `Stop::NodesFull` where no numbers are left, a tree would be higher than
+    /// 1,024, or the variables that are left open or the children of a node are too many. After a stop the nodes that were made stay.
     pub fn make_canonical_response(
         &mut self,
         alloc: Global,
@@ -384,6 +405,7 @@ impl Rounds {
         ensures state { state self.new ≡ state self.old }
         ensures sort { IfOk result (λ r. IsResponse self.new.context.trees r) }
         ensures is { IfOk result (λ r. response_of self.new.context.trees r ≡ response (state self.old) certainty) }
+        ensures cause { IfErr result (λ s. IsResponseStop self.new.context.trees (state self.old) s) }
     {
         response(alloc, &mut self.cx, &self.inference, certainty)
     }
@@ -404,6 +426,7 @@ impl Rounds {
         ensures left { OnOk result (next (settled (listing self.old) (state self.old)) (λ q. Some q.1) ≡ Some (state self.new)) }
         ensures refused { IfErr result (λ e. e ≡ NoSolutionOrStop.NoSolution → responded (listing self.old) (state self.old) certainty ≡ None) }
         ensures undone { OnErr result (state self.new ≡ state self.old) }
+        ensures cause { IfErr result (λ e. (s : Stop) → e ≡ NoSolutionOrStop.Stop s → IsAnsweringStop self.new.context.trees (listing self.old) (state self.old) s) }
     {
         self.well_kept();
         let changes = self.changes();

@@ -13,6 +13,7 @@ ghost use Rattle.candidate_eval.specs.States.{added, with_pending};
 ghost use Rattle.rounds_judge.specs.Equating.{count_unbound};
 ghost use Rattle.candidate_rounds.specs.Known.{Each, GoesOn, KeepsGiven, listing, probes, state};
 ghost use Rattle.rounds_judge.specs.Settling.{certainty_of, instantiated, pass, passes, recorded, settled, tried, tried_all, with_facts};
+ghost use Rattle.candidate_rounds.specs.Stopping.{AreGoalsStop, IsEvaluationStop, IsGoalStop, IsInstanceStop, IsPassStop, IsProjectionStop, IsSettlingStop, IsTreeStop};
 ghost use Rattle.candidate_rounds.specs.Trying.{Says, answered, evaluated_as, left_of, projection_of, second_if_bound, unbound_entries};
 
 use crate::rounds::Rounds;
@@ -33,6 +34,7 @@ impl Rounds {
         requires { IsClause self.old.context.trees region }
         ensures goes { GoesOn self.old self.new }
         ensures made { OnOk result (state self.new ≡ recorded (state self.old) (clause_tree self.old.context.trees region)) }
+        ensures cause { IfErr result (λ s. s ≡ Stop.Memory) }
     {
         self.inference.record_region(region)
     }
@@ -46,6 +48,7 @@ impl Rounds {
         ensures state { state self.new ≡ state self.old }
         ensures sort { IfOk result (λ x. IsClause self.new.context.trees x) }
         ensures tree { IfOk result (λ x. clause_tree self.new.context.trees x ≡ opened_clause (args_forest self.old.context.trees values) (clause_tree self.old.context.trees clause)) }
+        ensures cause { IfErr result (λ s. IsTreeStop self.new.context.trees (opened_clause (args_forest self.old.context.trees values) (clause_tree self.old.context.trees clause)) s) }
     {
         open_clause(alloc, &mut self.cx, clause, values)
     }
@@ -65,6 +68,7 @@ impl Rounds {
         ensures state { OnOk result (state self.new ≡ (instantiated (state self.old) (clause_tree self.old.context.trees clause)).0) }
         ensures sort { IfOk result (λ x. IsClause self.new.context.trees x) }
         ensures tree { IfOk result (λ x. clause_tree self.new.context.trees x ≡ with_facts (clause_tree self.old.context.trees clause) (instantiated (state self.old) (clause_tree self.old.context.trees clause)).1) }
+        ensures cause { IfErr result (λ s. IsInstanceStop self.new.context.trees (state self.old) (clause_tree self.old.context.trees clause) s) }
     {
         let values = self.placeholder_args(alloc, kinds)?;
         self.open(alloc, clause, values)
@@ -79,6 +83,7 @@ impl Rounds {
         ensures goes { GoesOn self.old self.new }
         ensures ok { IfOk result (λ b. answered (listing self.old) (state self.old) (ty_tree self.old.context.trees alias) (ty_tree self.old.context.trees term) ≡ Some (b, state self.new)) }
         ensures refused { IfErr result (λ e. e ≡ NoSolutionOrStop.NoSolution → answered (listing self.old) (state self.old) (ty_tree self.old.context.trees alias) (ty_tree self.old.context.trees term) ≡ None) }
+        ensures cause { IfErr result (λ e. (s : Stop) → e ≡ NoSolutionOrStop.Stop s → IsProjectionStop self.new.context.trees (listing self.old) (state self.old) (ty_tree self.old.context.trees alias) (ty_tree self.old.context.trees term) s) }
     {
         self.well_kept();
         let resolved = self.resolve_ty_if_possible(alloc, alias)?;
@@ -97,6 +102,7 @@ impl Rounds {
         ensures state { state self.new ≡ state self.old }
         ensures sort { IfOk result (λ t. IsTy self.new.context.trees t) }
         ensures tree { IfOk result (λ t. ty_tree self.new.context.trees t ≡ kind_tree self.old.context.trees kind) }
+        ensures cause { IfErr result (λ s. IsTreeStop self.new.context.trees (kind_tree self.old.context.trees kind) s) }
     {
         self.cx.mk_ty(kind)
     }
@@ -114,6 +120,7 @@ impl Rounds {
         ensures goes { GoesOn self.old self.new }
         ensures ok { IfOk result (λ b. answered (listing self.old) (state self.old) (kind_tree self.old.context.trees (projection_of projection)) (ty_tree self.old.context.trees projection.term) ≡ Some (b, state self.new)) }
         ensures refused { IfErr result (λ e. e ≡ NoSolutionOrStop.NoSolution → answered (listing self.old) (state self.old) (kind_tree self.old.context.trees (projection_of projection)) (ty_tree self.old.context.trees projection.term) ≡ None) }
+        ensures cause { IfErr result (λ e. (s : Stop) → e ≡ NoSolutionOrStop.Stop s → IsProjectionStop self.new.context.trees (listing self.old) (state self.old) (kind_tree self.old.context.trees (projection_of projection)) (ty_tree self.old.context.trees projection.term) s) }
     {
         self.well_kept();
         let alias = projection.projection_term;
@@ -130,12 +137,13 @@ fn left_clause(kinds: &[VarKind], clause: Clause, instance: Clause) -> Clause
     if kinds.is_empty() { clause } else { instance }
 }
 
-/// Puts a goal, if there is one, at a list's end.
+/// Puts a goal, if there is one, at a list's end. The only stop is `Stop::Memory`.
 fn push_some(
     list: &mut Vec<(GoalSource, Goal<Clause>)>,
     goal: Option<(GoalSource, Goal<Clause>)>,
 ) -> Result<(), Stop>
-    ensures { IfOk result (λ _. list.new.items ≡ list.old.items ++ option_to_list goal) }
+    ensures pushed { IfOk result (λ _. list.new.items ≡ list.old.items ++ option_to_list goal) }
+    ensures cause { IfErr result (λ s. s ≡ Stop.Memory) }
 {
     if let Some(goal) = goal {
         list.push(goal)?;
@@ -169,10 +177,11 @@ impl Rounds {
         self.cx.clause(clause).value
     }
 
-    /// The kinds of the variables of a clause's binder.
+    /// The kinds of the variables of a clause's binder. The only stop is `Stop::Memory`.
     fn bound_kinds(&self, alloc: Global, clause: Clause) -> Result<Vec<VarKind>, Stop>
         requires { IsClause self.now.context.trees clause }
-        ensures { IfOk result (λ v. kinds_listed v.items ≡ bound_kinds (clause_tree self.now.context.trees clause).children) }
+        ensures kinds { IfOk result (λ v. kinds_listed v.items ≡ bound_kinds (clause_tree self.now.context.trees clause).children) }
+        ensures cause { IfErr result (λ s. s ≡ Stop.Memory) }
     {
         Ok(binder_kinds(alloc, &self.cx, clause)?)
     }
@@ -190,6 +199,7 @@ impl Rounds {
         ensures goes { GoesOn self.old self.new }
         ensures ok { IfOk result (λ b. evaluated_as (listing self.old) (state self.old) (clause_tree self.old.context.trees clause) (after_first (clause_tree self.old.context.trees instance).children) (clause_tree self.old.context.trees instance).head ≡ Some (b, state self.new)) }
         ensures refused { IfErr result (λ e. e ≡ NoSolutionOrStop.NoSolution → evaluated_as (listing self.old) (state self.old) (clause_tree self.old.context.trees clause) (after_first (clause_tree self.old.context.trees instance).children) (clause_tree self.old.context.trees instance).head ≡ None) }
+        ensures cause { IfErr result (λ e. (s : Stop) → e ≡ NoSolutionOrStop.Stop s → IsEvaluationStop self.new.context.trees (listing self.old) (state self.old) (clause_tree self.old.context.trees instance).head (after_first (clause_tree self.old.context.trees instance).children) s) }
     {
         match self.said(instance) {
             ClauseKind::Trait(_) => Ok(false),
@@ -213,6 +223,7 @@ impl Rounds {
         ensures sort { IfOk result (λ o. IfSome o (λ g. IsGoal self.new.context.trees g.1)) }
         ensures ok { IfOk result (λ o. tried (listing self.old) (state self.old) (pending_of self.old.context.trees source goal) ≡ Some (left_of self.new.context.trees o, state self.new)) }
         ensures refused { IfErr result (λ e. e ≡ NoSolutionOrStop.NoSolution → tried (listing self.old) (state self.old) (pending_of self.old.context.trees source goal) ≡ None) }
+        ensures cause { IfErr result (λ e. (s : Stop) → e ≡ NoSolutionOrStop.Stop s → IsGoalStop self.new.context.trees (listing self.old) (state self.old) (pending_of self.old.context.trees source goal) s) }
     {
         self.well_kept();
         let kinds = self.bound_kinds(alloc, goal.predicate)?;
@@ -231,10 +242,11 @@ impl Rounds {
         )))
     }
 
-    /// The goals that are pending.
+    /// The goals that are pending. The only stop is `Stop::Memory`.
     fn pending(&self, alloc: Global) -> Result<Vec<(GoalSource, Goal<Clause>)>, Stop>
         ensures fit { IfOk result (λ v. Each (λ g. IsGoal self.now.context.trees g.1) v.items) }
         ensures goals { IfOk result (λ v. pendings_of self.now.context.trees v.items ≡ (state self.now).pending) }
+        ensures cause { IfErr result (λ s. s ≡ Stop.Memory) }
     {
         Ok(Vec::from_slice(alloc, self.inference.pending())?)
     }
@@ -250,6 +262,7 @@ impl Rounds {
         ensures fit { IfOk result (λ v. Each (λ g. IsGoal self.new.context.trees g.1) v.items) }
         ensures ok { IfOk result (λ v. tried_all (listing self.old) (state self.old) (pendings_of self.old.context.trees goals.now) ≡ Some (pendings_of self.new.context.trees v.items, state self.new)) }
         ensures refused { IfErr result (λ e. e ≡ NoSolutionOrStop.NoSolution → tried_all (listing self.old) (state self.old) (pendings_of self.old.context.trees goals.now) ≡ None) }
+        ensures cause { IfErr result (λ e. (s : Stop) → e ≡ NoSolutionOrStop.Stop s → AreGoalsStop self.new.context.trees (listing self.old) s (state self.old) (pendings_of self.old.context.trees goals.now)) }
     {
         self.well_kept();
         let mut staying = Vec::new(alloc);
@@ -260,11 +273,12 @@ impl Rounds {
         Ok(staying)
     }
 
-    /// Nothing is pending from now on.
+    /// Nothing is pending from now on. The only stop is `Stop::Memory`, here and in the next two.
     fn set_aside(&mut self) -> Result<(), Stop>
         ensures goes { GoesOn self.old self.new }
         ensures context { self.new.context ≡ self.old.context }
         ensures made { OnOk result (state self.new ≡ with_pending (state self.old) []) }
+        ensures cause { IfErr result (λ s. s ≡ Stop.Memory) }
     {
         self.inference.set_aside()
     }
@@ -275,6 +289,7 @@ impl Rounds {
         ensures goes { GoesOn self.old self.new }
         ensures context { self.new.context ≡ self.old.context }
         ensures made { OnOk result (state self.new ≡ added (state self.old) (pending_of self.old.context.trees source goal)) }
+        ensures cause { IfErr result (λ s. s ≡ Stop.Memory) }
     {
         self.inference.add(source, goal)
     }
@@ -285,6 +300,7 @@ impl Rounds {
         ensures goes { GoesOn self.old self.new }
         ensures context { self.new.context ≡ self.old.context }
         ensures made { OnOk result (state self.new ≡ with_pending (state self.old) (pendings_of self.old.context.trees goals.now)) }
+        ensures cause { IfErr result (λ s. s ≡ Stop.Memory) }
     {
         self.set_aside()?;
         for i in 0..goals.len() {
@@ -298,6 +314,7 @@ impl Rounds {
         ensures goes { GoesOn self.old self.new }
         ensures ok { OnOk result (pass (listing self.old) (state self.old) ≡ Some (state self.new)) }
         ensures refused { IfErr result (λ e. e ≡ NoSolutionOrStop.NoSolution → pass (listing self.old) (state self.old) ≡ None) }
+        ensures cause { IfErr result (λ e. (s : Stop) → e ≡ NoSolutionOrStop.Stop s → IsPassStop self.new.context.trees (listing self.old) (state self.old) s) }
     {
         let goals = self.pending(alloc)?;
         let staying = self.try_goals(alloc, goals.as_slice())?;
@@ -317,6 +334,7 @@ impl Rounds {
         ensures goes { GoesOn self.old self.new }
         ensures ok { OnOk result (passes (listing self.old) most (state self.old) ≡ Some (state self.new)) }
         ensures refused { IfErr result (λ e. e ≡ NoSolutionOrStop.NoSolution → passes (listing self.old) most (state self.old) ≡ None) }
+        ensures cause { IfErr result (λ e. (s : Stop) → e ≡ NoSolutionOrStop.Stop s → IsSettlingStop self.new.context.trees (listing self.old) (state self.old) s) }
     {
         self.well_kept();
         for _pass in 0..most {
@@ -341,8 +359,8 @@ impl Rounds {
     }
 
     /// How sure what is pending is, together. What is settled is pending no more. Where it is refused, or stops, nothing that is known
-    /// changes. `Stop::Memory` comes where a growth was refused, `Stop::NodesFull` where no numbers are left or a tree would be higher
-    /// than 1,024.
+    /// changes. `Stop::Memory` comes where a growth was refused, `Stop::NodesFull` where no numbers are left, a tree would be higher than
+    /// 1,024, a variable would be bound too far out, or the children of a node are too many.
     pub fn try_evaluate_added_goals(&mut self, alloc: Global) -> Result<Certainty, NoSolutionOrStop>
         ensures goes { GoesOn self.old self.new }
         ensures grows { Grows self.old.context self.new.context }
@@ -351,6 +369,7 @@ impl Rounds {
         ensures ok { IfOk result (λ c. settled (listing self.old) (state self.old) ≡ Some (c, state self.new)) }
         ensures refused { IfErr result (λ e. e ≡ NoSolutionOrStop.NoSolution → settled (listing self.old) (state self.old) ≡ None) }
         ensures undone { OnErr result (state self.new ≡ state self.old) }
+        ensures cause { IfErr result (λ e. (s : Stop) → e ≡ NoSolutionOrStop.Stop s → IsSettlingStop self.new.context.trees (listing self.old) (state self.old) s) }
     {
         self.well_kept();
         let changes = self.changes();

@@ -6,8 +6,8 @@ use Rattle.candidate_rounds.specs.Known.{Evaluator}
 use Rattle.candidate_rounds.proofs.Evaluating.{kinds-of-variables}
 use Rattle.candidate_rounds.proofs.rounds.Rounds.bound_kinds.Goals as goal
 
-pub returns : goal.returns
-returns c =
+pub returns-clause-kinds : goal.returns-clause-kinds
+returns-clause-kinds c =
     let items = c.in_ok-binder_kinds.field-0.items in
     subst (λ (e : Evaluator). kinds_listed items ≡ bound_kinds (clause_tree e.context.trees c.args.clause).children) c.self.view_is
     (sym (ap bound_kinds c.in_ok-binder_kinds.ensures ∙ kinds-of-variables items))

@@ -1,5 +1,8 @@
+use Rattle.std.proofs.Common.{ap}
+use Rattle.candidate_rounds.specs.Known.{Evaluator, listing, state}
 use Rattle.candidate_rounds.proofs.Going.{goes-probes, goes-same, goes-trans}
 use Rattle.candidate_rounds.proofs.Trying.{resolved-again, taken-back}
+use Rattle.candidate_rounds.proofs.SettlingStops.{response-stop}
 use Rattle.candidate_rounds.proofs.rounds.Rounds.evaluate_added_goals_and_make_canonical_response.Goals as goal
 
 pub undo_to-requires-clause-resolved : goal.undo_to-requires-clause-resolved
@@ -29,3 +32,10 @@ returns-in-Err-clause-undone c =
     let goes = goes-trans old c.try_evaluate_added_goals.new.self new c.try_evaluate_added_goals.ensures.goes c.make_canonical_response.ensures.goes in
     let t = taken-back old new c.undo_to.new.self c.changes-changes.result c.changes-changes.ensures goes c.undo_to.ensures in
     goes-same old c.undo_to.new.self t.0 t.1 c.well_kept.ensures.consistent.known
+
+pub returns-in-Err-clause-cause : goal.returns-in-Err-clause-cause
+returns-in-Err-clause-cause c =
+    let old = c.args.self.now in
+    let mid = c.try_evaluate_added_goals.new.self in
+    response-stop c.make_canonical_response.new.self.context.trees c.undo_to.new.self.context.trees (listing old) (state old) (state mid) c.in_ok-settled.settled c.in-Err.stop c.in_ok-settled.ensures.ok
+    (ap (λ (e : Evaluator). e.context.trees) c.undo_to.ensures) c.in-Err.ensures.cause

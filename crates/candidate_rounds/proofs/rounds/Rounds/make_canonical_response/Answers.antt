@@ -1,10 +1,11 @@
 use Rattle.std.proofs.Common.{◌≡◌, reverse, IfOk, ◌∙◌, ap, subst}
+use Rattle.std.specs.Prelude.{IfErr}
 use Rattle.candidate_eval.specs.ResponseTrees.{response_of}
 use Rattle.candidate_rounds.specs.Known.{Evaluator, state, probes}
+use Rattle.candidate_rounds.specs.Stopping.{IsResponseStop}
 use Rattle.rounds_judge.specs.Responding.{response}
-use Rattle.candidate_rounds.proofs.Knowing.{given-grown, probes-grow, state-stays}
+use Rattle.candidate_rounds.proofs.Knowing.{probes-grow, state-stays}
 use Rattle.candidate_rounds.proofs.Holding.{kinds-now}
-use Rattle.candidate_rounds.proofs.Probing.{holds-grown}
 use Rattle.candidate_rounds.proofs.ResolvedValues.{evaluator-grown}
 use Rattle.candidate_rounds.proofs.rounds.Rounds.make_canonical_response.Goals as goal
 
@@ -29,3 +30,7 @@ returns-clause-state c =
 pub returns-clause-is : goal.returns-clause-is
 returns-clause-is c =
     subst (λ (e : Evaluator). IfOk c.response.result (λ r. response_of c.response.new.cx.trees r ≡ response (state e) c.args.certainty)) c.self.view_is (c.response.ensures.is c.self.inside.mode)
+
+pub returns-clause-cause : goal.returns-clause-cause
+returns-clause-cause c =
+    subst (λ (e : Evaluator). IfErr c.response.result (λ s. IsResponseStop c.response.new.cx.trees (state e) s)) c.self.view_is (c.response.ensures.cause c.self.inside.mode)

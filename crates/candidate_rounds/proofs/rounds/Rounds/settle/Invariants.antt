@@ -1,5 +1,5 @@
-use Rattle.candidate_rounds.proofs.Evaluating.{PassesSoFar}
+use Rattle.candidate_rounds.proofs.SettlingStops.{PassesOn}
 use Rattle.candidate_rounds.proofs.rounds.Rounds.settle.Given as goal
 
 abbrev pub invariant-loop-pass : goal.invariant-loop-pass
-invariant-loop-pass l = PassesSoFar l.fn.self l.self l.most l._pass
+invariant-loop-pass l = PassesOn l.fn.self l.self l.most l._pass

@@ -1,10 +1,13 @@
 use Rattle.std.proofs.Common.{sym, ◌∙◌}
 use Rattle.std.proofs.lemmas.Result.{err_from_is_err_and}
 use Rattle.candidate_ir.specs.Words.{ty_tree}
+use Rattle.candidate_ir.specs.Substitutions.{alone}
 use Rattle.candidate_ir.proofs.Kept.{ty-kept}
 use Rattle.candidate_rounds.specs.Known.{listing, state}
+use Rattle.candidate_rounds.specs.Stopping.{IsEquationStop, IsProjectionStop, of_resolved_alias}
 use Rattle.candidate_rounds.proofs.Evaluating.{listed-equal, listed-refused, not-listed}
 use Rattle.candidate_rounds.proofs.Going.{goes-listing}
+use Rattle.candidate_rounds.proofs.SettlingStops.{alias-unequal, refusal-passed, stop-becomes}
 use Rattle.candidate_rounds.proofs.rounds.Rounds.try_alias.Goals as goal
 
 pub returns-in_default-clause-ok : goal.returns-in_default-clause-ok
@@ -36,3 +39,23 @@ returns-clause-ok c =
     (ty_tree mid.context.trees c.in-Some.listed) (ty_tree mid.context.trees c.args.term)
     (goes-listing old mid c.resolve_ty_if_possible.ensures.goes c.well_kept.ensures.given) c.resolve_ty_if_possible.ensures.state c.in_ok-resolved.ensures.tree
     (ty-kept old.context mid.context c.args.term c.resolve_ty_if_possible.ensures.goes.0 c.requires.term).1 c.in-Some.ensures.1 c.in_ok-equate.ensures.ok
+
+pub returns-in_err-resolved-clause-cause : goal.returns-in_err-resolved-clause-cause
+returns-in_err-resolved-clause-cause c =
+    let old = c.args.self.now in
+    let ts = c.resolve_ty_if_possible.new.self.context.trees in
+    stop-becomes (IsProjectionStop ts (listing old) (state old) (ty_tree old.context.trees c.args.alias) (ty_tree old.context.trees c.args.term)) c.from_residual.result c.in_err-resolved.field-0.0 c.from_residual.ensures.1
+    (of_resolved_alias c.in_err-resolved.ensures.cause)
+
+pub returns-in_err-equate-clause-cause : goal.returns-in_err-equate-clause-cause
+returns-in_err-equate-clause-cause c =
+    let old = c.args.self.now in
+    let mid = c.resolve_ty_if_possible.new.self in
+    let ts = c.equate.new.self.context.trees in
+    let u = ty_tree mid.context.trees c.in-Some.listed in
+    let x = ty_tree mid.context.trees c.args.term in
+    let g = c.resolve_ty_if_possible.ensures.goes in
+    refusal-passed (IsProjectionStop ts (listing old) (state old) (ty_tree old.context.trees c.args.alias) (ty_tree old.context.trees c.args.term)) (IsEquationStop ts (listing mid) (state mid) (alone u) (alone x))
+    c.from_residual-in_err-equate.result c.in_err-equate.field-0.0 c.from_residual-in_err-equate.ensures.1 c.in_err-equate.ensures.cause
+    (λ s k. alias-unequal ts (listing old) (listing mid) (state old) (state mid) (ty_tree old.context.trees c.args.alias) (ty_tree old.context.trees c.args.term) (ty_tree mid.context.trees c.in_ok-resolved.resolved) u x s
+    (goes-listing old mid g c.well_kept.ensures.given) c.resolve_ty_if_possible.ensures.state c.in_ok-resolved.ensures.tree (ty-kept old.context mid.context c.args.term g.0 c.requires.term).1 c.in-Some.ensures.1 k)

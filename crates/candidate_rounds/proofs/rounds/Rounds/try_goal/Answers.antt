@@ -2,15 +2,18 @@ use Rattle.std.proofs.Common.{refl, sym, ◌∙◌, ap, subst}
 use Rattle.std.proofs.lemmas.Result.{err_from_is_err_and}
 use Rattle.candidate_ir.specs.Trees.{ClausesKind}
 use Rattle.candidate_ir.specs.Words.{IsClause, clause_tree, env_forest}
+use Rattle.candidate_ir.specs.Supers.{after_first}
 use Rattle.candidate_ir.proofs.Joining.{clause-kept}
 use Rattle.candidate_ir.proofs.Kept.{grows-trans}
 use Rattle.candidate_ir.proofs.Made.{kind_at-grows}
 use Rattle.candidate_eval.specs.Characterization.{bound_kinds}
 use Rattle.candidate_eval.specs.Evaluators.{kinds_listed, pending_of}
 use Rattle.candidate_rounds.specs.Known.{listing, state}
+use Rattle.candidate_rounds.specs.Stopping.{IsEvaluationStop, IsGoalStop, goal_memory, of_clause}
 use Rattle.rounds_judge.specs.Settling.{instantiated}
 use Rattle.candidate_rounds.proofs.Evaluating.{env-kept, instance-made, second-holds, second-tree, tried-done, tried-refused, tried-stays}
 use Rattle.candidate_rounds.proofs.Going.{goes-listing}
+use Rattle.candidate_rounds.proofs.SettlingStops.{evaluation-stop, growth-becomes, refusal-passed, stop-becomes}
 use Rattle.candidate_rounds.proofs.rounds.Rounds.try_goal.Goals as goal
 
 pub try_instance-requires-clause-clause : goal.try_instance-requires-clause-clause
@@ -28,7 +31,7 @@ returns-in_err-try_instance-clause-refused c =
     let mid = c.instantiate.new.self in
     let p = pending_of old.context.trees c.args.source c.args.goal in
     let ks = c.as_slice-2.result.now in
-    let k = ap kinds_listed c.as_slice-2.ensures.value ∙ c.in_ok-kinds.ensures in
+    let k = ap kinds_listed c.as_slice-2.ensures.value ∙ c.in_ok-kinds.ensures.kinds in
     let g = c.instantiate.ensures.goes in
     let was = clause-kept old.context mid.context c.args.goal.predicate g.0 c.requires.1 in
     let e = ap (clause_tree mid.context.trees) c.left_clause-predicate.ensures
@@ -46,7 +49,7 @@ returns-then-branch-clause-ok c =
     let mid = c.instantiate.new.self in
     let p = pending_of old.context.trees c.args.source c.args.goal in
     let ks = c.as_slice-2.result.now in
-    let k = ap kinds_listed c.as_slice-2.ensures.value ∙ c.in_ok-kinds.ensures in
+    let k = ap kinds_listed c.as_slice-2.ensures.value ∙ c.in_ok-kinds.ensures.kinds in
     let g = c.instantiate.ensures.goes in
     let was = clause-kept old.context mid.context c.args.goal.predicate g.0 c.requires.1 in
     let e = ap (clause_tree mid.context.trees) c.left_clause-predicate.ensures
@@ -74,7 +77,7 @@ returns-clause-ok c =
     let mid = c.instantiate.new.self in
     let p = pending_of old.context.trees c.args.source c.args.goal in
     let ks = c.as_slice-2.result.now in
-    let k = ap kinds_listed c.as_slice-2.ensures.value ∙ c.in_ok-kinds.ensures in
+    let k = ap kinds_listed c.as_slice-2.ensures.value ∙ c.in_ok-kinds.ensures.kinds in
     let g = c.instantiate.ensures.goes in
     let was = clause-kept old.context mid.context c.args.goal.predicate g.0 c.requires.1 in
     let e = ap (clause_tree mid.context.trees) c.left_clause-predicate.ensures
@@ -91,3 +94,26 @@ returns-clause-ok c =
     (env-kept old.context new.context c.args.goal grown c.requires.0)
     ((clause-kept mid.context new.context c.left_clause-predicate.result c.try_instance.ensures.goes.0 left).1 ∙ e))
     c.in_ok-try_instance.ensures.ok
+
+pub returns-in_err-kinds-clause-cause : goal.returns-in_err-kinds-clause-cause
+returns-in_err-kinds-clause-cause c =
+    let old = c.args.self.now in
+    growth-becomes (IsGoalStop old.context.trees (listing old) (state old) (pending_of old.context.trees c.args.source c.args.goal)) c.from_residual.result c.in_err-kinds.field-0.0 c.from_residual.ensures.1
+    c.in_err-kinds.ensures.cause goal_memory
+
+pub returns-in_err-instance-clause-cause : goal.returns-in_err-instance-clause-cause
+returns-in_err-instance-clause-cause c =
+    let old = c.args.self.now in
+    stop-becomes (IsGoalStop c.instantiate.new.self.context.trees (listing old) (state old) (pending_of old.context.trees c.args.source c.args.goal)) c.from_residual-in_err-instance.result c.in_err-instance.field-0.0
+    c.from_residual-in_err-instance.ensures.1 (of_clause c.in_err-instance.ensures.cause)
+
+pub returns-in_err-try_instance-clause-cause : goal.returns-in_err-try_instance-clause-cause
+returns-in_err-try_instance-clause-cause c =
+    let old = c.args.self.now in
+    let mid = c.instantiate.new.self in
+    let ts = c.try_instance.new.self.context.trees in
+    let p = pending_of old.context.trees c.args.source c.args.goal in
+    let x = clause_tree mid.context.trees c.in_ok-instance.instance in
+    refusal-passed (IsGoalStop ts (listing old) (state old) p) (IsEvaluationStop ts (listing mid) (state mid) x.head (after_first x.children)) c.from_residual-in_err-try_instance.result c.in_err-try_instance.field-0.0
+    c.from_residual-in_err-try_instance.ensures.1 c.in_err-try_instance.ensures.cause
+    (λ s k. evaluation-stop ts (listing old) (listing mid) (state old) (state mid) p x s (goes-listing old mid c.instantiate.ensures.goes c.well_kept.ensures.given) c.in_ok-instance.ensures.state c.in_ok-instance.ensures.tree k)

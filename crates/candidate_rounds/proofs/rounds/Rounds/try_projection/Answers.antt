@@ -1,14 +1,17 @@
 use Rattle.std.proofs.Common.{◌≡◌, IfErr, IfOk, None, Option, Some, Bool, ◌∙◌, ap, subst}
-use Rattle.candidate_eval.specs.declared.eval.refusal.NoSolutionOrStop.TheVariants.{NoSolution}
-use Rattle.candidate_eval.specs.States.{State}
 use Rattle.candidate_ir.specs.declared.ir.kinds.AliasTy.{AliasTy}
 use Rattle.candidate_ir.specs.declared.ir.kinds.TyKind.TheVariants as K
 use Rattle.candidate_ir.specs.Words.{kind_tree, ty_tree}
+use Rattle.candidate_ir.specs.Trees.{Tree}
 use Rattle.candidate_ir.proofs.Kept.{ty-kept}
+use Rattle.candidate_eval.specs.declared.eval.refusal.NoSolutionOrStop.TheVariants.{NoSolution}
+use Rattle.candidate_eval.specs.States.{State}
 use Rattle.candidate_rounds.specs.Known.{listing, state}
 use Rattle.candidate_rounds.specs.Trying.{projection_of}
+use Rattle.candidate_rounds.specs.Stopping.{IsProjectionStop, IsTreeStop, of_alias}
 use Rattle.candidate_rounds.proofs.Evaluating.{answered-same}
 use Rattle.candidate_rounds.proofs.Going.{goes-listing}
+use Rattle.candidate_rounds.proofs.SettlingStops.{projection-same, stop-becomes, stops-then}
 use Rattle.candidate_rounds.proofs.rounds.Rounds.try_projection.Goals as goal
 
 pub try_alias-requires-clause-term : goal.try_alias-requires-clause-term
@@ -33,3 +36,25 @@ returns-clause-refused c =
     (ty_tree old.context.trees c.args.projection.term) (ty_tree mid.context.trees c.args.projection.term)
     (goes-listing old mid c.make_ty.ensures.goes c.well_kept.ensures.given) c.make_ty.ensures.state (c.in_ok-alias.ensures.tree ∙ ap (λ (a : AliasTy). kind_tree old.context.trees (K.Alias a)) c.projection.ensures) (ty-kept old.context mid.context c.args.projection.term c.make_ty.ensures.goes.0 c.requires.term).1)
     c.try_alias.ensures.refused
+
+pub returns-in_err-alias-clause-cause : goal.returns-in_err-alias-clause-cause
+returns-in_err-alias-clause-cause c =
+    let old = c.args.self.now in
+    let ts = c.make_ty.new.self.context.trees in
+    stop-becomes (IsProjectionStop ts (listing old) (state old) (kind_tree old.context.trees (projection_of c.args.projection)) (ty_tree old.context.trees c.args.projection.term)) c.from_residual.result
+    c.in_err-alias.field-0.0 c.from_residual.ensures.1
+    (of_alias
+    (subst (λ (t : Tree). IsTreeStop ts t c.in_err-alias.field-0.0) (ap (λ (a : AliasTy). kind_tree old.context.trees (K.Alias a)) c.projection.ensures) c.in_err-alias.ensures.cause))
+
+pub returns-clause-cause : goal.returns-clause-cause
+returns-clause-cause c =
+    let old = c.args.self.now in
+    let mid = c.make_ty.new.self in
+    let ts = c.try_alias.new.self.context.trees in
+    let t = kind_tree old.context.trees (projection_of c.args.projection) in
+    let u = ty_tree mid.context.trees c.in_ok-alias.alias in
+    let x = ty_tree mid.context.trees c.args.projection.term in
+    stops-then (IsProjectionStop ts (listing old) (state old) t (ty_tree old.context.trees c.args.projection.term)) (IsProjectionStop ts (listing mid) (state mid) u x) c.try_alias.result c.try_alias.ensures.cause
+    (λ s k. projection-same ts (listing old) (listing mid) (state old) (state mid) t u (ty_tree old.context.trees c.args.projection.term) x s (goes-listing old mid c.make_ty.ensures.goes c.well_kept.ensures.given)
+    c.make_ty.ensures.state (c.in_ok-alias.ensures.tree ∙ ap (λ (a : AliasTy). kind_tree old.context.trees (K.Alias a)) c.projection.ensures)
+    (ty-kept old.context mid.context c.args.projection.term c.make_ty.ensures.goes.0 c.requires.term).1 k)

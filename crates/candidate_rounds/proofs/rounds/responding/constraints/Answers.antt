@@ -1,10 +1,13 @@
 use Rattle.std.proofs.Common.{map, sym, ◌∙◌, ap, subst}
 use Rattle.candidate_ir.specs.Words.{IsClause, clause_tree}
+use Rattle.candidate_ir.specs.declared.ir.stop.Stop.TheVariants.{Memory}
 use Rattle.candidate_eval.specs.declared.eval.mode.TypingMode.{TypingMode}
 use Rattle.candidate_eval.specs.States.{resolved_tree}
 use Rattle.candidate_rounds.specs.Known.{Each, state_of}
+use Rattle.candidate_rounds.specs.Stopping.{IsResponseStop, response_memory}
 use Rattle.candidate_rounds.proofs.Knowing.{is-clause-stays, kinds-grown, known-stays}
 use Rattle.candidate_rounds.proofs.Gathering.{all-clauses, clause-later, each-index, one-more-clause}
+use Rattle.candidate_rounds.proofs.ResponseStops.{constraint-stop, passed-on}
 use Rattle.candidate_rounds.proofs.rounds.responding.constraints.Goals as goal
 
 pub resolved_clause-requires-clause-clause : goal.resolved_clause-requires-clause-clause
@@ -31,3 +34,13 @@ returns-clause-trees c = λ m.
     let S = state_of c.args.cx.now.trees m c.args.inference.now in
     all-clauses TypingMode (λ m. resolved_tree (state_of c.args.cx.now.trees m c.args.inference.now)) c.args.cx.now c.loop-i.cx c.regions-regions.result.now c.loop-i.i c.loop-i.list.items c.loop-i.invariant c.loop-i-test.false m
     ∙ ap (λ cs. map (resolved_tree S) (map (clause_tree c.args.cx.now.trees) cs)) c.regions-regions.ensures
+
+pub returns-in_err-resolved_clause-clause-cause : goal.returns-in_err-resolved_clause-clause-cause
+returns-in_err-resolved_clause-clause-cause c = λ m.
+    passed-on (IsResponseStop c.resolved_clause.new.cx.trees (state_of c.args.cx.now.trees m c.args.inference.now)) c.from_residual.result c.in_err-resolved_clause.field-0.0 c.from_residual.ensures.1
+    (constraint-stop m c.args.inference.now c.args.cx.now c.loop-i.cx c.resolved_clause.new.cx c.regions-regions.result.now c.loop-i.i _ c.in_err-resolved_clause.field-0.0 c.requires.known c.loop-i.invariant.grows
+    c.loop-i-test.true c.regions-regions.ensures (c.in_err-resolved_clause.ensures.cause m))
+
+pub returns-in_err-push-clause-cause : goal.returns-in_err-push-clause-cause
+returns-in_err-push-clause-cause c = λ m.
+    passed-on (IsResponseStop c.resolved_clause.new.cx.trees (state_of c.args.cx.now.trees m c.args.inference.now)) c.from_residual-in_err-push.result Memory c.from_residual-in_err-push.ensures.1 response_memory

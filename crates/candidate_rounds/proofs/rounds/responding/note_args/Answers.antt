@@ -7,4 +7,4 @@ note_arg-requires c = arg-listed c.args.cx.now.trees c.args-list.result.now c.lo
 pub loop-i-preserved : goal.loop-i-preserved
 loop-i-preserved c =
     one-more-noted c.args.cx.now.trees c.args.numbers.now.items c.args-list.result.now c.loop-i.i _ c.loop-i.numbers.items c.note_arg.new.numbers.items
-    c.args-list.ensures.fits c.loop-i.invariant c.loop-i-test.true c.in_ok-note_arg.ensures
+    c.args-list.ensures.fits c.loop-i.invariant c.loop-i-test.true c.in_ok-note_arg.ensures.noted

@@ -1,6 +1,8 @@
 use Rattle.std.proofs.Common.{refl}
 use Rattle.candidate_ir.specs.Trees.{ClauseKind}
 use Rattle.candidate_ir.proofs.Lists.{below_kind}
+use Rattle.candidate_rounds.specs.Stopping.{IsNotingStop, refused_note}
+use Rattle.candidate_rounds.proofs.ResponseStops.{passed-growth}
 use Rattle.candidate_rounds.proofs.rounds.responding.note_clause.Goals as goal
 
 pub head-requires : goal.head-requires
@@ -8,3 +10,7 @@ head-requires c = below_kind c.args.cx.now.trees c.args.clause.0 ClauseKind refl
 
 pub note_below-requires : goal.note_below-requires
 note_below-requires c = below_kind c.args.cx.now.trees c.args.clause.0 ClauseKind refl c.requires
+
+pub returns-in_err-note_number-clause-cause : goal.returns-in_err-note_number-clause-cause
+returns-in_err-note_number-clause-cause c =
+    passed-growth (IsNotingStop c.args.cx.now.trees) c.from_residual.result c.in_err-note_number.field-0.0 c.from_residual.ensures.1 c.in_err-note_number.ensures.cause refused_note

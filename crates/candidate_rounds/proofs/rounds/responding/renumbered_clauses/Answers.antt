@@ -1,8 +1,12 @@
-use Rattle.std.proofs.Common.{◌∙◌, ap}
+use Rattle.std.proofs.Common.{◌∙◌, ap, map}
+use Rattle.candidate_ir.specs.declared.ir.stop.Stop.TheVariants.{Memory}
+use Rattle.candidate_ir.specs.Words.{clause_tree}
 use Rattle.candidate_ir.proofs.Made.{IsClause-listed}
+use Rattle.candidate_rounds.specs.Stopping.{AreRenumberingStops, no_list}
 use Rattle.rounds_judge.specs.Responding.{renumbered_tree}
 use Rattle.candidate_rounds.proofs.Knowing.{clause-stays}
 use Rattle.candidate_rounds.proofs.Gathering.{all-clauses, clauses-kept, one-more-clause}
+use Rattle.candidate_rounds.proofs.ResponseStops.{clause-unnumbered, passed-on}
 use Rattle.candidate_rounds.proofs.rounds.responding.renumbered_clauses.Goals as goal
 
 pub renumbered_clause-requires : goal.renumbered_clause-requires
@@ -20,3 +24,14 @@ loop-i-preserved c =
 pub returns-clause-trees : goal.returns-clause-trees
 returns-clause-trees c =
     all-clauses (Unit {0}) (λ m. renumbered_tree c.args.numbers.now) c.args.cx.now c.loop-i.cx c.args.clauses.now c.loop-i.i c.loop-i.list.items c.loop-i.invariant c.loop-i-test.false tt
+
+pub returns-in_err-renumbered_clause-clause-cause : goal.returns-in_err-renumbered_clause-clause-cause
+returns-in_err-renumbered_clause-clause-cause c =
+    passed-on (AreRenumberingStops c.renumbered_clause.new.cx.trees c.args.numbers.now (map (clause_tree c.args.cx.now.trees) c.args.clauses.now)) c.from_residual.result c.in_err-renumbered_clause.field-0.0
+    c.from_residual.ensures.1
+    (clause-unnumbered c.args.cx.now c.loop-i.cx c.renumbered_clause.new.cx c.args.numbers.now c.args.clauses.now c.loop-i.i _ c.in_err-renumbered_clause.field-0.0 c.loop-i-test.true c.requires c.loop-i.invariant.grows
+    c.in_err-renumbered_clause.ensures.cause)
+
+pub returns-in_err-push-clause-cause : goal.returns-in_err-push-clause-cause
+returns-in_err-push-clause-cause c =
+    passed-on (AreRenumberingStops c.renumbered_clause.new.cx.trees c.args.numbers.now (map (clause_tree c.args.cx.now.trees) c.args.clauses.now)) c.from_residual-in_err-push.result Memory c.from_residual-in_err-push.ensures.1 no_list

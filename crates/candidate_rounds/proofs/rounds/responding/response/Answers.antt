@@ -1,10 +1,13 @@
-use Rattle.std.proofs.Common.{[], map, rules}
+use Rattle.std.proofs.Common.{[], map, rules, ◌≡◌, length, ◌∙◌}
 use Rattle.candidate_ir.specs.Words.{args_forest, clause_tree}
 use Rattle.candidate_ir.proofs.Kept.{args-kept}
+use Rattle.candidate_rounds.specs.Stopping.{AreRenumberingStops, IsRenumberingStop, IsResponseStop, of_noting, response_memory}
+use Rattle.candidate_rounds.specs.Known.{state_of}
+use Rattle.rounds_judge.specs.Responding.{with_numbers, renumbered, with_numbers_of}
 use Rattle.candidate_rounds.proofs.Knowing.{kinds-grown, known-stays}
-use Rattle.rounds_judge.specs.Responding.{with_numbers}
 use Rattle.candidate_rounds.proofs.Gathering.{clauses-kept, gathered}
 use Rattle.candidate_rounds.proofs.Noting.{numbers-of-from}
+use Rattle.candidate_rounds.proofs.ResponseStops.{gathered-before, passed-on, passed-growth, regions-stop, state-stops, values-stop}
 use Rattle.candidate_rounds.proofs.rounds.responding.response.Goals as goal
 
 pub constraints-requires-clause-known : goal.constraints-requires-clause-known
@@ -51,3 +54,39 @@ returns-clause-is c = λ m.
       others_are = search rules;
       news_are = search rules;
     })
+
+pub returns-in_err-regions-clause-cause : goal.returns-in_err-regions-clause-cause
+returns-in_err-regions-clause-cause c = λ m.
+    passed-on (IsResponseStop c.constraints.new.cx.trees (state_of c.args.cx.now.trees m c.args.inference.now)) c.from_residual-in_err-regions.result c.in_err-regions.field-0.0 c.from_residual-in_err-regions.ensures.1
+    (state-stops c.constraints.new.cx.trees m c.args.inference.now c.args.cx.now c.root_values.new.cx c.in_err-regions.field-0.0 c.requires.known c.root_values.ensures.grows (c.in_err-regions.ensures.cause m))
+
+pub returns-in_err-numbers-clause-cause : goal.returns-in_err-numbers-clause-cause
+returns-in_err-numbers-clause-cause c = λ m.
+    passed-on (IsResponseStop c.constraints.new.cx.trees (state_of c.args.cx.now.trees m c.args.inference.now)) c.from_residual-in_err-numbers.result c.in_err-numbers.field-0.0 c.from_residual-in_err-numbers.ensures.1 (of_noting c.in_err-numbers.ensures.cause)
+
+pub returns-in_err-vars-clause-cause : goal.returns-in_err-vars-clause-cause
+returns-in_err-vars-clause-cause c = λ m.
+    passed-growth (IsResponseStop c.constraints.new.cx.trees (state_of c.args.cx.now.trees m c.args.inference.now)) c.from_residual-in_err-vars.result c.in_err-vars.field-0.0 c.from_residual-in_err-vars.ensures.1 c.in_err-vars.ensures.cause response_memory
+
+pub returns-in_err-new_values-clause-cause : goal.returns-in_err-new_values-clause-cause
+returns-in_err-new_values-clause-cause c = λ m.
+    let S = state_of c.args.cx.now.trees m c.args.inference.now in
+    let ns = c.in_ok-numbers.numbers.items in
+    let n : ns ≡ with_numbers_of (with_numbers [] (args_forest c.constraints.new.cx.trees c.in_ok-values.values)) (map (clause_tree c.constraints.new.cx.trees) c.in_ok-regions.regions.items) = search rules in
+    let s : IsRenumberingStop (length ns) (length c.numbered_args.new.cx.trees) (renumbered ns (args_forest c.constraints.new.cx.trees c.in_ok-values.values)) c.in_err-new_values.field-0.0 = search rules in
+    let g = gathered-before m c.args.inference.now c.args.cx.now c.root_values.new.cx c.constraints.new.cx c.in_ok-values.values c.in_ok-regions.regions.items ns c.requires.known c.root_values.ensures.grows
+    c.constraints.ensures.grows c.in_ok-values.ensures.sort (c.in_ok-values.ensures.trees m) (c.in_ok-regions.ensures.trees m) n in
+    passed-on (IsResponseStop c.numbered_args.new.cx.trees S) c.from_residual-in_err-new_values.result c.in_err-new_values.field-0.0 c.from_residual-in_err-new_values.ensures.1
+    (values-stop c.numbered_args.new.cx.trees S ns (args_forest c.constraints.new.cx.trees c.in_ok-values.values) c.in_err-new_values.field-0.0 g.0 g.2 s)
+
+pub returns-in_err-new_regions-clause-cause : goal.returns-in_err-new_regions-clause-cause
+returns-in_err-new_regions-clause-cause c = λ m.
+    let S = state_of c.args.cx.now.trees m c.args.inference.now in
+    let ns = c.in_ok-numbers.numbers.items in
+    let n : ns ≡ with_numbers_of (with_numbers [] (args_forest c.constraints.new.cx.trees c.in_ok-values.values)) (map (clause_tree c.constraints.new.cx.trees) c.in_ok-regions.regions.items) = search rules in
+    let s : AreRenumberingStops c.renumbered_clauses.new.cx.trees ns (map (clause_tree c.numbered_args.new.cx.trees) c.in_ok-regions.regions.items) c.in_err-new_regions.field-0.0 = search rules in
+    let g = gathered-before m c.args.inference.now c.args.cx.now c.root_values.new.cx c.constraints.new.cx c.in_ok-values.values c.in_ok-regions.regions.items ns c.requires.known c.root_values.ensures.grows
+    c.constraints.ensures.grows c.in_ok-values.ensures.sort (c.in_ok-values.ensures.trees m) (c.in_ok-regions.ensures.trees m) n in
+    passed-on (IsResponseStop c.renumbered_clauses.new.cx.trees S) c.from_residual-in_err-new_regions.result c.in_err-new_regions.field-0.0 c.from_residual-in_err-new_regions.ensures.1
+    (regions-stop c.renumbered_clauses.new.cx.trees S ns (map (clause_tree c.numbered_args.new.cx.trees) c.in_ok-regions.regions.items) c.in_err-new_regions.field-0.0
+    ((clauses-kept c.constraints.new.cx c.numbered_args.new.cx c.in_ok-regions.regions.items c.numbered_args.ensures.grows c.in_ok-regions.ensures.fit).1 ∙ g.1) g.2 s)

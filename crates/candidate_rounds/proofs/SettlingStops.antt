@@ -1,0 +1,211 @@
+-- Why goals that are pending aren't evaluated.
+use Rattle.std.proofs.Common.{◌≡◌, ◌⊎◌, inl, inr, ℕ, suc, ◌<◌, ◌+◌, List, [], ◌∷◌, ◌++◌, length, drop, slice_index_or, Option, Some, IfSome, Result, Ok, Err, refl, sym, ◌∙◌, ap, subst, arith}
+use Rattle.std.proofs.lemmas.List.{length-drop}
+use Rattle.std.specs.Prelude.{IfErr, IsErrAnd}
+use Rattle.std.specs.Option.{option_to_list}
+use Rattle.candidate_ir.specs.declared.ir.kinds.ProjectionPredicate.{ProjectionPredicate}
+use Rattle.candidate_ir.specs.declared.ir.kinds.VarKind.{VarKind}
+use Rattle.candidate_ir.specs.declared.ir.stop.Stop.{Stop}
+use Rattle.candidate_ir.specs.declared.ir.stop.Stop.TheVariants.{Memory, NodesFull}
+use Rattle.candidate_ir.specs.Context.{Context}
+use Rattle.candidate_ir.specs.Folding.{no_memory, few_numbers, high_tree}
+use Rattle.candidate_ir.specs.Substitutions.{alone}
+use Rattle.candidate_ir.specs.Supers.{after_first}
+use Rattle.candidate_ir.specs.Trees.{Tree, height}
+use Rattle.candidate_ir.specs.Words.{IsMkStop, kind_tree, ty_tree}
+use Rattle.candidate_eval.specs.declared.eval.certainty.Certainty.{Certainty}
+use Rattle.candidate_eval.specs.declared.eval.refusal.NoSolutionOrStop.{NoSolutionOrStop}
+use Rattle.candidate_eval.specs.declared.eval.refusal.NoSolutionOrStop.TheVariants as refusal
+use Rattle.candidate_eval.specs.Characterization.{bound_kinds}
+use Rattle.candidate_eval.specs.Evaluators.{IsGoal, kinds_listed, pending_of, pendings_of}
+use Rattle.candidate_eval.specs.States.{Pending, State, resolved_tree}
+use Rattle.candidate_rounds.specs.Inferences.{IsFullAt}
+use Rattle.candidate_rounds.specs.Known.{Each, Evaluator, GoesOn, IsGiven, listing, state}
+use Rattle.candidate_rounds.specs.Stopping.{IsTreeStop, IsEquationStop, IsInstanceStop, of_list, of_universe, of_kinds, of_instance, IsProjectionStop, of_equation, IsEvaluationStop, of_projection, IsGoalStop, goal_memory, of_evaluation, AreGoalsStop, this_goal, later_goal, IsPassStop, of_goals, IsSettlingStop, this_pass, later_pass, IsResponseStop, IsAnsweringStop, of_response}
+use Rattle.candidate_rounds.specs.Trying.{IsProjection, left_of, projection_of}
+use Rattle.rounds_judge.specs.Equating.{count_unbound}
+use Rattle.rounds_judge.specs.Listed.{Listing, listed}
+use Rattle.rounds_judge.specs.Settling.{alias_of, instantiated, pass, settled, tried, with_facts}
+use Rattle.candidate_rounds.proofs.Evaluating.{PassesSoFar, Sourced, TriesSoFar, no-passes, no-tries, one-more-pass, one-more-try, pending-kept}
+use Rattle.candidate_rounds.proofs.Going.{goes-listing}
+use Rattle.candidate_rounds.proofs.Projecting.{alias-is, term-is}
+use Rattle.candidate_rounds.proofs.Undoing.{drop-one}
+
+-- What a call that is refused or stops says of its stops.
+abbrev pub IfStops : {A : Type 0} → Result A NoSolutionOrStop → (Stop → Type 0) → Type 0
+IfStops r P = IfErr r (λ e. (s : Stop) → e ≡ refusal.Stop s → P s)
+
+one-stop : (x s : Stop) → refusal.Stop x ≡ refusal.Stop s → x ≡ s
+one-stop x s e = cc
+
+-- A stop becomes such a stop, or is passed on as one.
+
+pub stop-said : (P : Stop → Type 0) (x : Stop) → P x → (s : Stop) → refusal.Stop x ≡ refusal.Stop s → P s
+stop-said P x p s e = subst P (one-stop x s e) p
+
+pub stop-becomes : {A : Type 0} (P : Stop → Type 0) (r : Result A NoSolutionOrStop) (x : Stop) → IsErrAnd r (λ e. e ≡ refusal.Stop x) → P x → IfStops r P
+stop-becomes P (Ok a) x q p = absurd q
+stop-becomes P (Err e) x q p = λ s k. subst P (one-stop x s (sym q ∙ k)) p
+
+pub growth-becomes : {A : Type 0} (P : Stop → Type 0) (r : Result A NoSolutionOrStop) (x : Stop) → IsErrAnd r (λ e. e ≡ refusal.Stop x) → x ≡ Memory → P Memory → IfStops r P
+growth-becomes P r x q m p = stop-becomes P r x q (subst P (sym m) p)
+
+pub refusal-passed : {A : Type 0} (P Q : Stop → Type 0) (r : Result A NoSolutionOrStop) (x : NoSolutionOrStop) → IsErrAnd r (λ e. e ≡ x) → ((s : Stop) → x ≡ refusal.Stop s → Q s) → ((s : Stop) → Q s → P s)
+    → IfStops r P
+refusal-passed P Q (Ok a) x q f g = absurd q
+refusal-passed P Q (Err e) x q f g = λ s k. g s (f s (sym q ∙ k))
+
+pub stops-then : {A : Type 0} (P Q : Stop → Type 0) (r : Result A NoSolutionOrStop) → IfStops r Q → ((s : Stop) → Q s → P s) → IfStops r P
+stops-then P Q (Ok a) f g = tt
+stops-then P Q (Err e) f g = λ s k. g s (f s k)
+
+pub cause-then : {A : Type 0} (P Q : Stop → Type 0) (r : Result A Stop) → IfErr r Q → ((s : Stop) → Q s → P s) → IfErr r P
+cause-then P Q (Ok a) f g = tt
+cause-then P Q (Err s) f g = g s f
+
+-- A type that is made.
+type-unmade : (a b : Context) (t : Tree) (s : Stop) → b ≡ a → IsMkStop a.trees (height t) s → IsTreeStop b.trees t s
+type-unmade a b t s e (inl z) = subst (IsTreeStop b.trees t) (sym z) no_memory
+type-unmade a b t s e (inr (z, inl few)) = let same = ap (λ (c : Context). length c.trees) e in subst (IsTreeStop b.trees t) (sym z) (few_numbers (omega (arith, few, same)))
+type-unmade a b t s e (inr (z, inr tall)) = subst (IsTreeStop b.trees t) (sym z) (high_tree (omega (arith, tall)))
+
+pub type-stop : {A : Type 0} (a b : Context) (t : Tree) (r : Result A Stop) → IfErr r (λ _. b ≡ a) → IfErr r (λ s. IsMkStop a.trees (height t) s) → IfErr r (λ s. IsTreeStop b.trees t s)
+type-stop a b t (Ok x) e c = tt
+type-stop a b t (Err s) e c = type-unmade a b t s e c
+
+-- An instance that isn't made.
+
+kinds-length : (ks : List VarKind) → length (kinds_listed ks) ≡ length ks
+kinds-length [] = refl
+kinds-length (k ∷ ks) = ap suc (kinds-length ks)
+
+many-kinds : (n m : ℕ) (s : Stop) → n ≡ m → IsFullAt n s → IsFullAt m s
+many-kinds n m s e f = subst (λ k. IsFullAt k s) e f
+
+pub instance-unmade : (ts : List Tree) (S : State) (c : Tree) (ks : List VarKind) (s : Stop) → kinds_listed ks ≡ bound_kinds c.children
+    → IsFullAt (length ks) s ⊎ IsFullAt S.newest_universe s ⊎ IsFullAt (length ts) s → IsInstanceStop ts S c s
+instance-unmade ts S c ks s e f = at f
+  where
+    at : IsFullAt (length ks) s ⊎ IsFullAt S.newest_universe s ⊎ IsFullAt (length ts) s → IsInstanceStop ts S c s
+    at (inl f) = of_kinds (many-kinds (length ks) (length (bound_kinds c.children)) s (sym (kinds-length ks) ∙ ap length e) f)
+    at (inr (inl f)) = of_universe f
+    at (inr (inr f)) = of_list f
+
+pub instance-stop : {A : Type 0} (ts : List Tree) (S : State) (c t : Tree) (r : Result A Stop) → t ≡ with_facts c (instantiated S c).1 → IfErr r (λ s. IsTreeStop ts t s) → IfErr r (λ s. IsInstanceStop ts S c s)
+instance-stop ts S c t r e f = cause-then (IsInstanceStop ts S c) (IsTreeStop ts t) r f (λ s k. of_instance (subst (λ u. IsTreeStop ts u s) e k))
+
+-- A listed type that isn't equated with the term.
+
+pub alias-unequal : (ts : List Tree) (l m : Listing) (S T : State) (a t r u x : Tree) (s : Stop) → m ≡ l → T ≡ S → r ≡ resolved_tree S a → x ≡ t → listed m r ≡ Some u
+    → IsEquationStop ts m T (alone u) (alone x) s → IsProjectionStop ts l S a t s
+alias-unequal ts l m S T a t r u x s i j e f n c =
+    let found : listed l (resolved_tree S a) ≡ Some u = ap (listed l) (sym e) ∙ (ap (λ k. listed k r) (sym i) ∙ n) in
+    of_equation u found
+    (subst (λ (y : Tree). IsEquationStop ts l S (alone u) (alone y) s) f (subst (λ V. IsEquationStop ts l V (alone u) (alone x) s) j (subst (λ k. IsEquationStop ts k T (alone u) (alone x) s) i c)))
+
+pub projection-same : (ts : List Tree) (l m : Listing) (S T : State) (a b t u : Tree) (s : Stop) → m ≡ l → T ≡ S → b ≡ a → u ≡ t → IsProjectionStop ts m T b u s → IsProjectionStop ts l S a t s
+projection-same ts l m S T a b t u s i j e f c =
+    subst (λ y. IsProjectionStop ts l S a y s) f
+    (subst (λ x. IsProjectionStop ts l S x u s) e (subst (λ V. IsProjectionStop ts l V b u s) j (subst (λ k. IsProjectionStop ts k T b u s) i c)))
+
+-- what a projection says
+pub projection-evaluates : (ts : List Tree) (l : Listing) (S : State) (c : Context) (x : Tree) (p : ProjectionPredicate) (s : Stop) → IsProjection c x p
+    → IsProjectionStop ts l S (kind_tree c.trees (projection_of p)) (ty_tree c.trees p.term) s → IsEvaluationStop ts l S x.head (after_first x.children) s
+projection-evaluates ts l S c x p s r k =
+    of_projection p.projection_term.def_id r.head
+    (subst (λ y. IsProjectionStop ts l S (alias_of p.projection_term.def_id (after_first x.children)) y s) (sym (term-is c x p r))
+    (subst (λ y. IsProjectionStop ts l S y (ty_tree c.trees p.term) s) (sym (alias-is c x p r)) k))
+
+-- the instance of a goal
+pub evaluation-stop : (ts : List Tree) (l m : Listing) (S T : State) (p : Pending) (x : Tree) (s : Stop) → m ≡ l → T ≡ (instantiated S p.goal.clause).0
+    → x ≡ with_facts p.goal.clause (instantiated S p.goal.clause).1 → IsEvaluationStop ts m T x.head (after_first x.children) s → IsGoalStop ts l S p s
+evaluation-stop ts l m S T p x s i j e c =
+    of_evaluation
+    (subst (λ (y : Tree). IsEvaluationStop ts l (instantiated S p.goal.clause).0 y.head (after_first y.children) s) e
+    (subst (λ V. IsEvaluationStop ts l V x.head (after_first x.children) s) j (subst (λ k. IsEvaluationStop ts k T x.head (after_first x.children) s) i c)))
+
+-- Goals, one after another: what stops those that are left stops all.
+
+pub record TriesOn (old now : Evaluator) (gs : List Sourced) (i : ℕ) (staying : List Sourced) : Type 0 where
+  pub tries : TriesSoFar old now gs i staying
+  pub stops : (ts : List Tree) (s : Stop) → AreGoalsStop ts (listing old) s (state now) (pendings_of old.context.trees (drop i gs))
+      → AreGoalsStop ts (listing old) s (state old) (pendings_of old.context.trees gs)
+
+pub begin-tries : (old : Evaluator) (gs xs : List Sourced) → xs ≡ [] → GoesOn old old → TriesOn old old gs 0 xs
+begin-tries old gs xs e g = record { tries = no-tries old gs xs e g; stops = λ ts s c. c }
+
+module _ (old now new : Evaluator) (gs : List Sourced) (i : ℕ) (d : Sourced) (staying : List Sourced) (given : IsGiven old.context.trees old.normal old.opaques) (fits : Each (λ g. IsGoal old.context.trees g.1) gs)
+    (a : TriesOn old now gs i staying) (l : i < length gs) (fit : IsGoal old.context.trees (slice_index_or gs i d).1) where
+  abbrev first : Pending
+  first = pending_of old.context.trees (slice_index_or gs i d).0 (slice_index_or gs i d).1
+
+  abbrev others : List Pending
+  others = pendings_of old.context.trees (drop (suc i) gs)
+
+  left-are : pendings_of old.context.trees (drop i gs) ≡ first ∷ others
+  left-are = ap (pendings_of old.context.trees) (drop-one gs i d l)
+
+  first-is : pending_of now.context.trees (slice_index_or gs i d).0 (slice_index_or gs i d).1 ≡ first
+  first-is = pending-kept old.context now.context (slice_index_or gs i d).0 (slice_index_or gs i d).1 a.tries.goes.0 fit
+
+  stops-here : (ts : List Tree) (s : Stop) → AreGoalsStop ts (listing old) s (state now) (first ∷ others) → AreGoalsStop ts (listing old) s (state old) (pendings_of old.context.trees gs)
+  stops-here ts s c = a.stops ts s (subst (λ ps. AreGoalsStop ts (listing old) s (state now) ps) (sym left-are) c)
+
+  pub goal-stops : (ts : List Tree) (s : Stop) → IsGoalStop ts (listing now) (state now) (pending_of now.context.trees (slice_index_or gs i d).0 (slice_index_or gs i d).1) s
+      → AreGoalsStop ts (listing old) s (state old) (pendings_of old.context.trees gs)
+  goal-stops ts s c =
+      let p = pending_of now.context.trees (slice_index_or gs i d).0 (slice_index_or gs i d).1 in
+      stops-here ts s
+      (this_goal (subst (λ q. IsGoalStop ts (listing old) (state now) q s) first-is (subst (λ m. IsGoalStop ts m (state now) p s) (goes-listing old now a.tries.goes given) c)))
+
+  pub one-more-goal : (o : Option Sourced) (made : List Sourced) → GoesOn now new → IfSome o (λ g. IsGoal new.context.trees g.1)
+      → tried (listing now) (state now) (pending_of now.context.trees (slice_index_or gs i d).0 (slice_index_or gs i d).1) ≡ Some (left_of new.context.trees o, state new)
+      → made ≡ staying ++ option_to_list o → TriesOn old new gs (i + 1) made
+  one-more-goal o made g s t m = record {
+    tries = one-more-try old now new gs i d staying given fits a.tries l fit o made g s t m;
+    stops = λ ts x c.
+        let next-one : i + 1 ≡ suc i = omega arith in
+        let t' : tried (listing old) (state now) first ≡ Some (left_of new.context.trees o, state new)
+        = ap (tried (listing old) (state now)) (sym first-is)
+        ∙ (ap (λ k. tried k (state now) (pending_of now.context.trees (slice_index_or gs i d).0 (slice_index_or gs i d).1)) (sym (goes-listing old now a.tries.goes given)) ∙ t) in
+        stops-here ts x (later_goal t' (subst (λ n. AreGoalsStop ts (listing old) x (state new) (pendings_of old.context.trees (drop n gs))) next-one c));
+  }
+
+-- where a growth was refused while a goal was evaluated
+pub growth-stops : (old now : Evaluator) (gs : List Sourced) (i : ℕ) (staying : List Sourced) → TriesOn old now gs i staying → i < length gs → (ts : List Tree)
+    → AreGoalsStop ts (listing old) Memory (state old) (pendings_of old.context.trees gs)
+growth-stops old now gs i staying a l ts = let n = length-drop i gs in a.stops ts Memory (at (drop i gs) (omega (arith, n, l)))
+  where
+    at : (xs : List Sourced) → 0 < length xs → AreGoalsStop ts (listing old) Memory (state now) (pendings_of old.context.trees xs)
+    at [] k = absurd (omega (arith, k))
+    at (x ∷ xs) k = this_goal goal_memory
+
+-- Passes, one after another.
+
+pub record PassesOn (old now : Evaluator) (most i : ℕ) : Type 0 where
+  pub passes : PassesSoFar old now most i
+  pub stops : (ts : List Tree) (s : Stop) → IsSettlingStop ts (listing old) (state now) s → IsSettlingStop ts (listing old) (state old) s
+
+pub begin-passes : (old : Evaluator) (most : ℕ) → GoesOn old old → PassesOn old old most 0
+begin-passes old most g = record { passes = no-passes old most g; stops = λ ts s c. c }
+
+module _ (old now : Evaluator) (most i : ℕ) (given : IsGiven old.context.trees old.normal old.opaques) (a : PassesOn old now most i) (l : i < most) where
+  pub pass-stops : (ts : List Tree) (s : Stop) → IsPassStop ts (listing now) (state now) s → IsSettlingStop ts (listing old) (state old) s
+  pass-stops ts s c = a.stops ts s (this_pass (subst (λ k. IsPassStop ts k (state now) s) (goes-listing old now a.passes.goes given) c))
+
+  pub one-more-settled : (new : Evaluator) → GoesOn now new → pass (listing now) (state now) ≡ Some (state new) → count_unbound (state new).variables < count_unbound (state now).variables → PassesOn old new most (i + 1)
+  one-more-settled new g p c = record {
+    passes = one-more-pass old now most i given a.passes l new g p c;
+    stops = λ ts s k.
+        let p' : pass (listing old) (state now) ≡ Some (state new) = ap (λ m. pass m (state now)) (sym (goes-listing old now a.passes.goes given)) ∙ p in
+        a.stops ts s (later_pass p' k);
+  }
+
+-- What is pending is evaluated, and then comes the response.
+
+pub pass-goals : (ts : List Tree) (l : Listing) (S : State) (ps : List Pending) (s : Stop) → ps ≡ S.pending → AreGoalsStop ts l s S ps → IsPassStop ts l S s
+pass-goals ts l S ps s e c = of_goals (subst (λ qs. AreGoalsStop ts l s S qs) e c)
+
+pub response-stop : (ts us : List Tree) (l : Listing) (S T : State) (c : Certainty) (x : Stop) → settled l S ≡ Some (c, T) → us ≡ ts → IsResponseStop ts T x → (s : Stop) → refusal.Stop x ≡ refusal.Stop s
+    → IsAnsweringStop us l S s
+response-stop ts us l S T c x e same k = stop-said (IsAnsweringStop us l S) x (of_response c T e (subst (λ vs. IsResponseStop vs T x) (sym same) k))

@@ -1,0 +1,19 @@
+use Rattle.std.proofs.Common.{◌∙◌, ap}
+use Rattle.candidate_ir.specs.Nodes.{tree_at}
+use Rattle.candidate_ir.specs.Trees.{variable_number}
+use Rattle.candidate_rounds.specs.Stopping.{IsNotingStop, refused_note}
+use Rattle.rounds_judge.specs.Responding.{with_number}
+use Rattle.candidate_rounds.proofs.ResponseStops.{one-more-noted-below, passed-growth, wide-node}
+use Rattle.candidate_rounds.proofs.rounds.responding.+note_below.Goals as goal
+
+pub returns-in_err-note_number-clause-cause : goal.returns-in_err-note_number-clause-cause
+returns-in_err-note_number-clause-cause t c = passed-growth (IsNotingStop c.args.cx.now.trees) c.from_residual.result c.in_err-note_number.field-0.0 c.from_residual.ensures.1 c.in_err-note_number.ensures.cause refused_note
+
+pub loop-place-preserved : goal.loop-place-preserved
+loop-place-preserved t c =
+    let ns = c.loop-place.numbers.items in
+    one-more-noted-below c.args.cx.now.trees c.args.numbers.now.items ns c.note_number.new.numbers.items c.note_below.new.numbers.items (tree_at c.args.cx.now.trees c.args.number).children c.loop-place.place c.in-Some.child
+    c.loop-place.invariant c.in-Some.ensures.1 (c.in_ok-note_number.ensures.noted ∙ ap (with_number ns) (c.variable_number.ensures ∙ ap variable_number c.head.ensures)) c.in_ok-note_below.ensures.noted
+
+pub returns-clause-cause : goal.returns-clause-cause
+returns-clause-cause t c = wide-node c.args.cx.now.trees c.args.number c.loop-place.place c.requires c.loop-place.invariant.fewer c.loop-place-test.false
