@@ -4,7 +4,7 @@ ghost use Rattle.std.specs.Prelude.{◌≡◌, ◌+◌, ◌++◌, ◌∷◌, [],
 ghost use Rattle.candidate_ir.specs.Folds.{IsArg, arg_tree};
 ghost use Rattle.candidate_ir.specs.Nodes.{rows};
 ghost use Rattle.candidate_ir.specs.Words.{IsArgs, args_forest};
-ghost use Rattle.candidate_eval.specs.Evaluators.{kinds_listed, resolved_root};
+ghost use Rattle.candidate_eval.specs.Evaluators.{IsEvaluatorRefusal, IsEvaluatorStop, kinds_listed, resolved_root};
 ghost use Rattle.candidate_eval.specs.ResponseTrees.{IsResponse, response_of};
 ghost use Rattle.candidate_eval.specs.States.{with_fresh_variables, with_universe};
 ghost use Rattle.plain_evaluator.specs.Deciding.{IsDecided};
@@ -102,6 +102,7 @@ impl PlainEvaluator {
         ensures state { state self.new ≡ state self.old }
         ensures sort { IfOk result (λ a. IsArgs self.new.context.trees a) }
         ensures trees { IfOk result (λ a. args_forest self.new.context.trees a ≡ rows (all_leaves leaves kinds.now)) }
+        ensures cause { IfErr result IsEvaluatorStop }
     {
         leaf_args(self.allocator(), &mut self.cx, leaves, kinds)
     }
@@ -112,6 +113,7 @@ impl PlainEvaluator {
         ensures context { self.new.context ≡ self.old.context }
         ensures made { OnOk result (state self.new ≡ with_fresh_variables (state self.old) (kinds_listed kinds.now)) }
         ensures stopped { OnErr result (self.new ≡ self.old) }
+        ensures cause { IfErr result IsEvaluatorStop }
     {
         self.known.add_variables(kinds)
     }
@@ -122,6 +124,7 @@ impl PlainEvaluator {
         ensures context { self.new.context ≡ self.old.context }
         ensures made { OnOk result (state self.new ≡ with_universe (state self.old)) }
         ensures stopped { OnErr result (self.new ≡ self.old) }
+        ensures cause { IfErr result IsEvaluatorStop }
     {
         self.known.enter()
     }
@@ -132,6 +135,7 @@ impl PlainEvaluator {
         requires right { IsArg self.now.context.trees b }
         ensures ok { OnOk result (IsDecided (arg_tree self.now.context.trees a) (arg_tree self.now.context.trees b) true) }
         ensures refused { IfErr result (λ e. e ≡ NoSolutionOrStop.NoSolution → IsDecided (arg_tree self.now.context.trees a) (arg_tree self.now.context.trees b) false) }
+        ensures cause { IfErr result IsEvaluatorRefusal }
     {
         match decided(&self.cx, a, b) {
             Some(true) => Ok(()),
@@ -146,6 +150,7 @@ impl PlainEvaluator {
         ensures state { state self.new ≡ state self.old }
         ensures sort { IfOk result (λ r. IsResponse self.new.context.trees r) }
         ensures is { IfOk result (λ r. response_of self.new.context.trees r ≡ plain_response certainty) }
+        ensures cause { IfErr result IsEvaluatorStop }
     {
         let alloc = self.allocator();
         let values = self.cx.mk_args(&[])?;

@@ -1,6 +1,7 @@
 //! What is known so far. It is copied where a probe begins.
 
 ghost use Rattle.std.specs.Prelude.{◌≡◌, ◌+◌, ◌++◌, ◌∷◌, [], ◌<◌, ◌^◌, true, IfOk, IfErr, length};
+ghost use Rattle.candidate_eval.specs.Evaluators.{IsEvaluatorStop};
 ghost use Rattle.plain_evaluator.specs.Known.{Known, fresh, from_source};
 
 use crate::leaves::variable_kind;
@@ -68,7 +69,8 @@ impl Known {
 
     /// All of it once more.
     pub(crate) fn copied(&self) -> Result<Known, Stop>
-        ensures { IfOk result (λ k. k ≡ self.now) }
+        ensures all { IfOk result (λ k. k ≡ self.now) }
+        ensures cause { IfErr result IsEvaluatorStop }
     {
         Ok(Known {
             newest_universe: self.newest_universe,
@@ -88,6 +90,7 @@ impl Known {
     pub(crate) fn next_variables(&self, count: usize) -> Result<u32, Stop>
         ensures number { IfOk result (λ n. n ≡ length self.now.variables) }
         ensures room { IfOk result (λ n. n + count < 2 ^ 32) }
+        ensures cause { IfErr result IsEvaluatorStop }
     {
         let most = u32::MAX as usize;
         let number = self.variables.len();
@@ -101,6 +104,7 @@ impl Known {
     pub(crate) fn add_variables(&mut self, kinds: &[VarKind]) -> Result<(), Stop>
         ensures added { IfOk result (λ _. self.new ≡ record self.old { variables = self.old.variables ++ fresh self.old.newest_universe kinds.now }) }
         ensures unchanged { IfErr result (λ _. self.new ≡ self.old) }
+        ensures cause { IfErr result IsEvaluatorStop }
     {
         let mut variables = self.variables.clone()?;
         for i in 0..kinds.len() {
@@ -118,6 +122,7 @@ impl Known {
         ensures entered { IfOk result (λ _. self.new ≡ record self.old { newest_universe = self.old.newest_universe + 1 }) }
         ensures room { IfOk result (λ _. self.old.newest_universe + 1 < 2 ^ 32) }
         ensures unchanged { IfErr result (λ _. self.new ≡ self.old) }
+        ensures cause { IfErr result IsEvaluatorStop }
     {
         if self.newest_universe == u32::MAX {
             return Err(Stop::NodesFull);
@@ -130,6 +135,7 @@ impl Known {
     pub(crate) fn add_goal(&mut self, source: GoalSource, goal: Goal<Clause>) -> Result<(), Stop>
         ensures added { IfOk result (λ _. self.new ≡ record self.old { pending = self.old.pending ++ (source, goal) ∷ [] }) }
         ensures unchanged { IfErr result (λ _. self.new ≡ self.old) }
+        ensures cause { IfErr result IsEvaluatorStop }
     {
         self.pending.push((source, goal))?;
         Ok(())
@@ -143,6 +149,7 @@ impl Known {
     ) -> Result<(), Stop>
         ensures added { IfOk result (λ _. self.new ≡ record self.old { pending = self.old.pending ++ from_source source goals.now }) }
         ensures unchanged { IfErr result (λ _. self.new ≡ self.old) }
+        ensures cause { IfErr result IsEvaluatorStop }
     {
         let mut pending = self.pending.clone()?;
         for i in 0..goals.len() {

@@ -1,10 +1,11 @@
 //! Trees that stand for parameters and for what binders bind.
 
-ghost use Rattle.std.specs.Prelude.{◌≡◌, ◌+◌, ◌<◌, ◌≤◌, ◌^◌, IfOk, length, map};
+ghost use Rattle.std.specs.Prelude.{◌≡◌, ◌+◌, ◌<◌, ◌≤◌, ◌^◌, IfOk, IfErr, length, map};
 ghost use Rattle.candidate_ir.specs.Context.{Grows, parameter_kind};
 ghost use Rattle.candidate_ir.specs.Folds.{IsArg, arg_tree};
 ghost use Rattle.candidate_ir.specs.Nodes.{rows};
 ghost use Rattle.candidate_ir.specs.Words.{IsArgs, args_forest};
+ghost use Rattle.candidate_eval.specs.Evaluators.{IsEvaluatorStop};
 ghost use Rattle.candidate_eval.specs.States.{variable, variable_kind};
 ghost use Rattle.plain_evaluator.specs.Leaves.{leaf_of, all_leaves, last_number};
 
@@ -31,6 +32,7 @@ pub(crate) fn variable(cx: &mut Cx, kind: VariableKind, number: u32) -> Result<G
     ensures grows { Grows cx.old cx.new }
     ensures sort { IfOk result (λ a. IsArg cx.new.trees a) }
     ensures tree { IfOk result (λ a. arg_tree cx.new.trees a ≡ variable kind number) }
+    ensures cause { IfErr result IsEvaluatorStop }
 {
     match kind {
         VariableKind::Term(VariableSort::General) => {
@@ -70,6 +72,7 @@ fn leaf(cx: &mut Cx, leaves: Leaves, kind: VarKind, index: u32) -> Result<Generi
     ensures grows { Grows cx.old cx.new }
     ensures sort { IfOk result (λ a. IsArg cx.new.trees a) }
     ensures tree { IfOk result (λ a. arg_tree cx.new.trees a ≡ leaf_of leaves kind index) }
+    ensures cause { IfErr result IsEvaluatorStop }
 {
     match leaves {
         Leaves::Variables(first) => variable(cx, variable_kind(kind), first + index),
@@ -101,6 +104,7 @@ pub(crate) fn leaf_args(
     ensures grows { Grows cx.old cx.new }
     ensures sort { IfOk result (λ a. IsArgs cx.new.trees a) }
     ensures trees { IfOk result (λ a. args_forest cx.new.trees a ≡ rows (all_leaves leaves kinds.now)) }
+    ensures cause { IfErr result IsEvaluatorStop }
 {
     let mut list = Vec::new(alloc);
     for i in 0..kinds.len() {
