@@ -33,4 +33,3 @@ pub mod Noting
 pub mod Interface
 pub mod ResponseStops
 pub mod SettlingStops
-pub mod SettlingStopKinds

@@ -1,130 +1,176 @@
--- Each stop is by a refused growth, or because numbers ran out or a tree would be too high.
-use Rattle.std.proofs.Common.{◌≡◌, ◌⊎◌, inl, inr, ℕ, List, refl}
+-- Each stop is a refused growth, or that numbers ran out or a tree would be too high: none is an evaluator's own limit.
+use Rattle.std.proofs.Common.{◌≡◌, inl, inr, ℕ, List, Result, Ok, Err, refl, sym, subst}
+use Rattle.std.specs.Prelude.{IfErr}
 use Rattle.candidate_ir.specs.declared.ir.stop.Stop.{Stop}
-use Rattle.candidate_ir.specs.declared.ir.stop.Stop.TheVariants.{Memory, NodesFull}
+use Rattle.candidate_ir.specs.declared.ir.stop.Stop.TheVariants as K
 use Rattle.candidate_ir.specs.declared.ir.heads.Head.{Head}
 use Rattle.candidate_ir.specs.declared.ir.heads.Variable.{Variable}
-use Rattle.candidate_ir.specs.Folding.{IsSubstStop, no_memory as unmade, few_numbers, high_tree, far_variable}
+use Rattle.candidate_ir.specs.Folding.{IsSubstStop}
 use Rattle.candidate_ir.specs.Trees.{Forest, Tree}
+use Rattle.candidate_eval.specs.declared.eval.refusal.NoSolutionOrStop.{NoSolutionOrStop}
+use Rattle.candidate_eval.specs.declared.eval.refusal.NoSolutionOrStop.TheVariants as N
+use Rattle.candidate_eval.specs.Evaluators.{IsEvaluatorRefusal, IsEvaluatorStop, IsMakingStop}
 use Rattle.candidate_eval.specs.States.{State, Pending}
+use Rattle.candidate_eval.proofs.StopKinds.{subst_making}
 use Rattle.rounds_judge.specs.Equating.{Pair}
 use Rattle.rounds_judge.specs.Listed.{Listing}
 use Rattle.rounds_judge.specs.Scopes.{Scope}
-use Rattle.candidate_rounds.specs.Inferences.{IsFullAt, IsOutOfRoom}
-use Rattle.candidate_rounds.specs.Stopping.{IsAnsweringStop, IsBindingStop, IsEquationStop, IsGoalStop, IsInstanceStop, IsLookStop, IsMatchStop, IsMeetingStop, IsOfferStop, IsProjectionStop, IsRegionsStop, IsRenewalStop, IsResponseStop, IsSettlingStop, IsTreeStop, IsUnifyingStop, IsValueStop, AreGoalsStop}
+use Rattle.candidate_rounds.specs.Inferences.{IsFullAt}
 use Rattle.candidate_rounds.specs.Stopping as W
+use Rattle.candidate_rounds.specs.Stopping.{IsAnsweringStop, IsBindingStop, IsEquationStop, IsEvaluationStop, IsGoalStop, IsInstanceStop, IsLookStop, IsMatchStop, IsMeetingStop, IsNotingStop, IsOfferStop, IsPassStop, IsProjectionStop, IsRegionsStop, IsRenewalStop, IsRenumberingStop, IsResponseStop, IsSettlingStop, IsTreeStop, IsUnifyingStop, IsValueStop, AreGoalsStop, AreRenumberingStops}
 
-pub full-kind : {n : ℕ} {s : Stop} → IsFullAt n s → (s ≡ Memory) ⊎ (s ≡ NodesFull)
-full-kind (inl e) = inl e
-full-kind (inr k) = inr k.0
+full_making : {n : ℕ} {s : Stop} → IsFullAt n s → IsMakingStop s
+full_making (inl e) = subst IsMakingStop (sym e) tt
+full_making (inr e) = subst IsMakingStop (sym e.0) tt
 
-pub room-kind : (n more : ℕ) (s : Stop) → IsOutOfRoom n more s → (s ≡ Memory) ⊎ (s ≡ NodesFull)
-room-kind n more s (inl e) = inl e
-room-kind n more s (inr k) = inr k.0
-
--- Trees
-
-pub subst-stop-kind : {given : ℕ} {made : Forest} {s : Stop} → IsSubstStop given made s → (s ≡ Memory) ⊎ (s ≡ NodesFull)
-subst-stop-kind unmade = inl refl
-subst-stop-kind (few_numbers l) = inr refl
-subst-stop-kind (high_tree l) = inr refl
-subst-stop-kind (far_variable e) = inr refl
-
-pub tree-stop-kind : (ts : List Tree) (t : Tree) (s : Stop) → IsTreeStop ts t s → (s ≡ Memory) ⊎ (s ≡ NodesFull)
-tree-stop-kind ts t s k = subst-stop-kind k
+tree_making : {given : ℕ} {made : Forest} {s : Stop} → IsSubstStop given made s → IsMakingStop s
+tree_making {given} {made} {s} k = subst_making given made s k
 
 -- Equations
 
-pub value-stop-kind : {ts : List Tree} {l : Listing} {S : State} {us : Scope} {t : Tree} {s : Stop} → IsValueStop ts l S us t s → (s ≡ Memory) ⊎ (s ≡ NodesFull)
-value-stop-kind (W.of_resolved k) = subst-stop-kind k
-value-stop-kind (W.of_listed k) = subst-stop-kind k
-value-stop-kind (W.of_placed k) = subst-stop-kind k
+value_making : {ts : List Tree} {l : Listing} {S : State} {us : Scope} {t : Tree} {s : Stop} → IsValueStop ts l S us t s → IsMakingStop s
+value_making (W.of_resolved k) = tree_making k
+value_making (W.of_listed k) = tree_making k
+value_making (W.of_placed k) = tree_making k
 
-pub renewal-stop-kind : {ts : List Tree} {S : State} {v : Variable} {t : Tree} {n : ℕ} {s : Stop} → IsRenewalStop ts S v t n s → (s ≡ Memory) ⊎ (s ≡ NodesFull)
-renewal-stop-kind W.not_noted = inl refl
-renewal-stop-kind (W.of_value u apart is k) = subst-stop-kind k
+renewal_making : {ts : List Tree} {S : State} {v : Variable} {t : Tree} {n : ℕ} {s : Stop} → IsRenewalStop ts S v t n s → IsMakingStop s
+renewal_making W.not_noted = tt
+renewal_making (W.of_value u apart is k) = tree_making k
 
-pub binding-stop-kind : {ts : List Tree} {S : State} {v : Variable} {t : Tree} {s : Stop} → IsBindingStop ts S v t s → (s ≡ Memory) ⊎ (s ≡ NodesFull)
-binding-stop-kind W.no_memory = inl refl
-binding-stop-kind (W.many_variables l) = inr refl
-binding-stop-kind (W.of_renewed n k) = renewal-stop-kind k
+binding_making : {ts : List Tree} {S : State} {v : Variable} {t : Tree} {s : Stop} → IsBindingStop ts S v t s → IsMakingStop s
+binding_making W.no_memory = tt
+binding_making (W.many_variables l) = tt
+binding_making (W.of_renewed n k) = renewal_making k
 
-pub regions-stop-kind : {ts : List Tree} {a b : Tree} {s : Stop} → IsRegionsStop ts a b s → (s ≡ Memory) ⊎ (s ≡ NodesFull)
-regions-stop-kind W.no_room = inl refl
-regions-stop-kind (W.of_first k) = subst-stop-kind k
-regions-stop-kind (W.of_second k) = subst-stop-kind k
+regions_making : {ts : List Tree} {a b : Tree} {s : Stop} → IsRegionsStop ts a b s → IsMakingStop s
+regions_making W.no_room = tt
+regions_making (W.of_first k) = tree_making k
+regions_making (W.of_second k) = tree_making k
 
-pub offer-stop-kind : {ts : List Tree} {l : Listing} {S : State} {us : Scope} {h : Head} {t : Tree} {s : Stop} → IsOfferStop ts l S us h t s → (s ≡ Memory) ⊎ (s ≡ NodesFull)
-offer-stop-kind (W.of_offered v e k) = value-stop-kind k
-offer-stop-kind (W.of_taken v e k) = binding-stop-kind k
+offer_making : {ts : List Tree} {l : Listing} {S : State} {us : Scope} {h : Head} {t : Tree} {s : Stop} → IsOfferStop ts l S us h t s → IsMakingStop s
+offer_making (W.of_offered v e k) = value_making k
+offer_making (W.of_taken v e k) = binding_making k
 
-pub match-stop-kind : {ts : List Tree} {S : State} {us : Scope} {x y : Tree} {s : Stop} → IsMatchStop ts S us x y s → (s ≡ Memory) ⊎ (s ≡ NodesFull)
-match-stop-kind W.no_space = inl refl
-match-stop-kind (W.of_left_region k) = subst-stop-kind k
-match-stop-kind (W.of_right_region k) = subst-stop-kind k
-match-stop-kind (W.of_regions k) = regions-stop-kind k
-match-stop-kind (W.no_universe k) = full-kind k
+match_making : {ts : List Tree} {S : State} {us : Scope} {x y : Tree} {s : Stop} → IsMatchStop ts S us x y s → IsMakingStop s
+match_making W.no_space = tt
+match_making (W.of_left_region k) = tree_making k
+match_making (W.of_right_region k) = tree_making k
+match_making (W.of_regions k) = regions_making k
+match_making (W.no_universe k) = full_making k
 
-pub meeting-stop-kind : {ts : List Tree} {l : Listing} {S : State} {us : Scope} {x y : Tree} {s : Stop} → IsMeetingStop ts l S us x y s → (s ≡ Memory) ⊎ (s ≡ NodesFull)
-meeting-stop-kind (W.of_left_offer k) = offer-stop-kind k
-meeting-stop-kind (W.of_right_offer k) = offer-stop-kind k
-meeting-stop-kind (W.of_match k) = match-stop-kind k
+meeting_making : {ts : List Tree} {l : Listing} {S : State} {us : Scope} {x y : Tree} {s : Stop} → IsMeetingStop ts l S us x y s → IsMakingStop s
+meeting_making (W.of_left_offer k) = offer_making k
+meeting_making (W.of_right_offer k) = offer_making k
+meeting_making (W.of_match k) = match_making k
 
-pub look-stop-kind : {ts : List Tree} {l : Listing} {S : State} {us : Scope} {t u : Tree} {s : Stop} → IsLookStop ts l S us t u s → (s ≡ Memory) ⊎ (s ≡ NodesFull)
-look-stop-kind W.refused_growth = inl refl
-look-stop-kind (W.wide_node w) = inr refl
-look-stop-kind (W.of_left k) = subst-stop-kind k
-look-stop-kind (W.of_right k) = subst-stop-kind k
-look-stop-kind (W.of_meeting k) = meeting-stop-kind k
+look_making : {ts : List Tree} {l : Listing} {S : State} {us : Scope} {t u : Tree} {s : Stop} → IsLookStop ts l S us t u s → IsMakingStop s
+look_making W.refused_growth = tt
+look_making (W.wide_node w) = tt
+look_making (W.of_left k) = tree_making k
+look_making (W.of_right k) = tree_making k
+look_making (W.of_meeting k) = meeting_making k
 
-pub unifying-stop-kind : {ts : List Tree} {l : Listing} {s : Stop} {S : State} {ps : List Pair} → IsUnifyingStop ts l s S ps → (s ≡ Memory) ⊎ (s ≡ NodesFull)
-unifying-stop-kind (W.at_once k) = look-stop-kind k
-unifying-stop-kind (W.later v k) = unifying-stop-kind k
+unifying_making : {ts : List Tree} {l : Listing} {s : Stop} {S : State} {ps : List Pair} → IsUnifyingStop ts l s S ps → IsMakingStop s
+unifying_making (W.at_once k) = look_making k
+unifying_making (W.later v k) = unifying_making k
 
-pub equation-stop-kind : {ts : List Tree} {l : Listing} {S : State} {a b : Forest} {s : Stop} → IsEquationStop ts l S a b s → (s ≡ Memory) ⊎ (s ≡ NodesFull)
-equation-stop-kind W.not_begun = inl refl
-equation-stop-kind (W.begun k) = unifying-stop-kind k
+equation_making : {ts : List Tree} {l : Listing} {S : State} {a b : Forest} {s : Stop} → IsEquationStop ts l S a b s → IsMakingStop s
+equation_making W.not_begun = tt
+equation_making (W.begun k) = unifying_making k
 
 -- Pending goals
 
-pub instance-stop-kind : {ts : List Tree} {S : State} {c : Tree} {s : Stop} → IsInstanceStop ts S c s → (s ≡ Memory) ⊎ (s ≡ NodesFull)
-instance-stop-kind (W.of_list k) = full-kind k
-instance-stop-kind (W.of_universe k) = full-kind k
-instance-stop-kind (W.of_kinds k) = full-kind k
-instance-stop-kind (W.of_instance k) = subst-stop-kind k
+instance_making : {ts : List Tree} {S : State} {c : Tree} {s : Stop} → IsInstanceStop ts S c s → IsMakingStop s
+instance_making (W.of_list k) = full_making k
+instance_making (W.of_universe k) = full_making k
+instance_making (W.of_kinds k) = full_making k
+instance_making (W.of_instance k) = tree_making k
 
-pub projection-stop-kind : {ts : List Tree} {l : Listing} {S : State} {a t : Tree} {s : Stop} → IsProjectionStop ts l S a t s → (s ≡ Memory) ⊎ (s ≡ NodesFull)
-projection-stop-kind (W.of_alias k) = subst-stop-kind k
-projection-stop-kind (W.of_resolved_alias k) = subst-stop-kind k
-projection-stop-kind (W.of_equation u e k) = equation-stop-kind k
+projection_making : {ts : List Tree} {l : Listing} {S : State} {a t : Tree} {s : Stop} → IsProjectionStop ts l S a t s → IsMakingStop s
+projection_making (W.of_alias k) = tree_making k
+projection_making (W.of_resolved_alias k) = tree_making k
+projection_making (W.of_equation u e k) = equation_making k
 
-pub goal-stop-kind : {ts : List Tree} {l : Listing} {S : State} {p : Pending} {s : Stop} → IsGoalStop ts l S p s → (s ≡ Memory) ⊎ (s ≡ NodesFull)
-goal-stop-kind W.goal_memory = inl refl
-goal-stop-kind (W.of_clause k) = instance-stop-kind k
-goal-stop-kind (W.of_projection i e f g k) = projection-stop-kind k
+evaluation_making : {ts : List Tree} {l : Listing} {S : State} {h : Head} {f : Forest} {s : Stop} → IsEvaluationStop ts l S h f s → IsMakingStop s
+evaluation_making W.not_recorded = tt
+evaluation_making (W.of_projection i e k) = projection_making k
 
-pub goals-stop-kind : {ts : List Tree} {l : Listing} {s : Stop} {S : State} {ps : List Pending} → AreGoalsStop ts l s S ps → (s ≡ Memory) ⊎ (s ≡ NodesFull)
-goals-stop-kind (W.this_goal k) = goal-stop-kind k
-goals-stop-kind (W.later_goal v k) = goals-stop-kind k
+goal_making : {ts : List Tree} {l : Listing} {S : State} {p : Pending} {s : Stop} → IsGoalStop ts l S p s → IsMakingStop s
+goal_making W.goal_memory = tt
+goal_making (W.of_clause k) = instance_making k
+goal_making (W.of_evaluation k) = evaluation_making k
 
-pub settling-stop-kind : {ts : List Tree} {l : Listing} {S : State} {s : Stop} → IsSettlingStop ts l S s → (s ≡ Memory) ⊎ (s ≡ NodesFull)
-settling-stop-kind W.pass_memory = inl refl
-settling-stop-kind (W.this_pass k) = goals-stop-kind k
-settling-stop-kind (W.later_pass v k) = settling-stop-kind k
+goals_making : {ts : List Tree} {l : Listing} {s : Stop} {S : State} {ps : List Pending} → AreGoalsStop ts l s S ps → IsMakingStop s
+goals_making (W.this_goal k) = goal_making k
+goals_making (W.later_goal v k) = goals_making k
+
+pass_making : {ts : List Tree} {l : Listing} {S : State} {s : Stop} → IsPassStop ts l S s → IsMakingStop s
+pass_making W.pass_memory = tt
+pass_making (W.of_goals k) = goals_making k
+
+settling_making : {ts : List Tree} {l : Listing} {S : State} {s : Stop} → IsSettlingStop ts l S s → IsMakingStop s
+settling_making (W.this_pass k) = pass_making k
+settling_making (W.later_pass v k) = settling_making k
 
 -- Responses
 
-pub response-stop-kind : {ts : List Tree} {S : State} {s : Stop} → IsResponseStop ts S s → (s ≡ Memory) ⊎ (s ≡ NodesFull)
-response-stop-kind W.response_memory = inl refl
-response-stop-kind (W.full_table k) = full-kind k
-response-stop-kind (W.too_many_variables l) = inr refl
-response-stop-kind (W.too_many_open l) = inr refl
-response-stop-kind (W.of_wide_node w) = inr refl
-response-stop-kind (W.of_roots k) = subst-stop-kind k
-response-stop-kind (W.of_constraint c i k) = subst-stop-kind k
-response-stop-kind (W.of_values k) = subst-stop-kind k
-response-stop-kind (W.of_renumbered c i k) = subst-stop-kind k
+noting_making : {ts : List Tree} {s : Stop} → IsNotingStop ts s → IsMakingStop s
+noting_making W.refused_note = tt
+noting_making (W.at_wide_node w) = tt
 
-pub answering-stop-kind : {ts : List Tree} {l : Listing} {S : State} {s : Stop} → IsAnsweringStop ts l S s → (s ≡ Memory) ⊎ (s ≡ NodesFull)
-answering-stop-kind (W.of_settling k) = settling-stop-kind k
-answering-stop-kind (W.of_response c T e k) = response-stop-kind k
+renumbering_making : {many given : ℕ} {made : Forest} {s : Stop} → IsRenumberingStop many given made s → IsMakingStop s
+renumbering_making (W.too_many_open l) = tt
+renumbering_making (W.of_made k) = tree_making k
+
+renumberings_making : {ts : List Tree} {ns : List ℕ} {cs : List Tree} {s : Stop} → AreRenumberingStops ts ns cs s → IsMakingStop s
+renumberings_making W.no_list = tt
+renumberings_making (W.of_one c i k) = renumbering_making k
+
+response_making : {ts : List Tree} {S : State} {s : Stop} → IsResponseStop ts S s → IsMakingStop s
+response_making W.response_memory = tt
+response_making (W.full_table k) = full_making k
+response_making (W.too_many_variables l) = tt
+response_making (W.of_roots k) = tree_making k
+response_making (W.of_constraint c i k) = tree_making k
+response_making (W.of_noting k) = noting_making k
+response_making (W.of_values k) = renumbering_making k
+response_making (W.of_renumbered k) = renumberings_making k
+
+answering_making : {ts : List Tree} {l : Listing} {S : State} {s : Stop} → IsAnsweringStop ts l S s → IsMakingStop s
+answering_making (W.of_settling k) = settling_making k
+answering_making (W.of_response c T e k) = response_making k
+
+-- So an error is one that an evaluator may answer.
+
+evaluator-stop : (s : Stop) → IsMakingStop s → IsEvaluatorStop s
+evaluator-stop K.Memory k = tt
+evaluator-stop K.NodesFull k = tt
+evaluator-stop K.WalkDepth k = absurd k
+evaluator-stop K.AliasDepth k = absurd k
+evaluator-stop K.ConstDepth k = absurd k
+evaluator-stop K.Unnameable k = absurd k
+evaluator-stop K.EvaluatorLimit k = absurd k
+
+refusal-of : (P : Stop → Type 0) → ((s : Stop) → P s → IsMakingStop s) → (e : NoSolutionOrStop) → ((s : Stop) → e ≡ N.Stop s → P s) → IsEvaluatorRefusal e
+refusal-of P making N.NoSolution k = tt
+refusal-of P making (N.Stop s) k = evaluator-stop s (making s (k s refl))
+
+refusals : {A : Type 0} (P : Stop → Type 0) → ((s : Stop) → P s → IsMakingStop s) → (r : Result A NoSolutionOrStop) → IfErr r (λ e. (s : Stop) → e ≡ N.Stop s → P s) → IfErr r IsEvaluatorRefusal
+refusals P making (Ok v) k = tt
+refusals P making (Err e) k = refusal-of P making e k
+
+pub equation-refusal : {A : Type 0} {ts : List Tree} {l : Listing} {S : State} {a b : Forest} (r : Result A NoSolutionOrStop) → IfErr r (λ e. (s : Stop) → e ≡ N.Stop s → IsEquationStop ts l S a b s) → IfErr r IsEvaluatorRefusal
+equation-refusal r k = refusals _ (λ s p. equation_making p) r k
+
+pub equation-error : {ts : List Tree} {l : Listing} {S : State} {a b : Forest} (e : NoSolutionOrStop) → ((s : Stop) → e ≡ N.Stop s → IsEquationStop ts l S a b s) → IsEvaluatorRefusal e
+equation-error e k = refusal-of _ (λ s p. equation_making p) e k
+
+pub settling-refusal : {A : Type 0} {ts : List Tree} {l : Listing} {S : State} (r : Result A NoSolutionOrStop) → IfErr r (λ e. (s : Stop) → e ≡ N.Stop s → IsSettlingStop ts l S s) → IfErr r IsEvaluatorRefusal
+settling-refusal r k = refusals _ (λ s p. settling_making p) r k
+
+pub answering-refusal : {A : Type 0} {ts : List Tree} {l : Listing} {S : State} (r : Result A NoSolutionOrStop) → IfErr r (λ e. (s : Stop) → e ≡ N.Stop s → IsAnsweringStop ts l S s) → IfErr r IsEvaluatorRefusal
+answering-refusal r k = refusals _ (λ s p. answering_making p) r k
+
+-- of a stop alone
+pub stop-refusal : (s : Stop) (given : ℕ) (made : Forest) → IsSubstStop given made s → IsEvaluatorRefusal (N.Stop s)
+stop-refusal s given made k = evaluator-stop s (tree_making k)

@@ -3,6 +3,7 @@ use Rattle.candidate_ir.specs.Substitutions.{alone}
 use Rattle.candidate_ir.specs.Folds.{arg_tree}
 use Rattle.candidate_rounds.specs.Known.{state}
 use Rattle.candidate_rounds.proofs.Interface.{eq-ok, eq-refused, eq-stopped, keeps-going}
+use Rattle.candidate_rounds.proofs.StopKinds.{equation-refusal}
 use Rattle.candidate_rounds.proofs.rounds.evaluator.RoundsEvalCtxt.eq.Goals as goal
 
 pub returns-clause-kept : goal.returns-clause-kept
@@ -20,3 +21,6 @@ returns-clause-refused c =
 
 pub returns-clause-stopped : goal.returns-clause-stopped
 returns-clause-stopped c = eq-stopped c.equate.result c.args.self.now c.equate.new.self c.equate.ensures.goes c.well_kept.ensures c.equate.ensures.undone
+
+pub returns-clause-cause : goal.returns-clause-cause
+returns-clause-cause c = equation-refusal c.equate.result c.equate.ensures.cause

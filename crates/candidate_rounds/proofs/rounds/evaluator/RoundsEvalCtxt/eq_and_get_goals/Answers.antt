@@ -1,4 +1,4 @@
-use Rattle.std.proofs.Common.{Some, sym, ◌∙◌, ap}
+use Rattle.std.proofs.Common.{Some, sym, ◌∙◌, ap, subst}
 use Rattle.std.proofs.lemmas.Result.{err_from_is_err_and}
 use Rattle.candidate_ir.specs.Folds.{arg_tree}
 use Rattle.candidate_ir.specs.Substitutions.{alone}
@@ -6,6 +6,9 @@ use Rattle.candidate_eval.specs.Evaluators.{pendings_of}
 use Rattle.candidate_rounds.specs.Known.{state}
 use Rattle.candidate_rounds.proofs.Going.{goes-same}
 use Rattle.candidate_rounds.proofs.Interface.{equated-none, equated-some, keeps-going}
+
+use Rattle.candidate_eval.specs.Evaluators.{IsEvaluatorRefusal}
+use Rattle.candidate_rounds.proofs.StopKinds.{equation-error}
 use Rattle.candidate_rounds.proofs.rounds.evaluator.RoundsEvalCtxt.eq_and_get_goals.Goals as goal
 
 pub returns-in_err-equate-clause-kept : goal.returns-in_err-equate-clause-kept
@@ -31,3 +34,8 @@ returns-clause-ok c =
     let new = c.equate.new.self in
     equated-some old (alone (arg_tree old.context.trees c.args.a)) (alone (arg_tree old.context.trees c.args.b)) (state new) c.well_kept.ensures.given c.in_ok-equate.ensures.ok
     ∙ ap (λ gs. Some (pendings_of new.context.trees gs, state new)) (sym c.new.ensures.items)
+
+pub returns-in_err-equate-clause-cause : goal.returns-in_err-equate-clause-cause
+returns-in_err-equate-clause-cause c =
+    let r = err_from_is_err_and c.from_residual.result c.from_residual.ensures.1 in
+    rw r.1 (subst IsEvaluatorRefusal r.2 (equation-error _ c.in_err-equate.ensures.cause))

@@ -2,6 +2,7 @@ use Rattle.candidate_ir.specs.Trees.{none}
 use Rattle.candidate_ir.specs.Words.{args_forest}
 use Rattle.candidate_rounds.specs.Known.{state}
 use Rattle.candidate_rounds.proofs.Interface.{eq-ok, eq-refused, eq-stopped, keeps-going}
+use Rattle.candidate_rounds.proofs.StopKinds.{equation-refusal}
 use Rattle.candidate_rounds.proofs.rounds.evaluator.RoundsEvalCtxt.eq_args.Goals as goal
 
 pub returns-clause-kept : goal.returns-clause-kept
@@ -19,3 +20,6 @@ returns-clause-refused c =
 
 pub returns-clause-stopped : goal.returns-clause-stopped
 returns-clause-stopped c = eq-stopped c.equate_args.result c.args.self.now c.equate_args.new.self c.equate_args.ensures.goes c.well_kept.ensures c.equate_args.ensures.undone
+
+pub returns-clause-cause : goal.returns-clause-cause
+returns-clause-cause c = equation-refusal c.equate_args.result c.equate_args.ensures.cause

@@ -5,6 +5,7 @@ use Rattle.rounds_judge.specs.Responding.{responded}
 use Rattle.rounds_judge.proofs.WellListed.{all-listed}
 use Rattle.candidate_rounds.specs.Known.{listing, state}
 use Rattle.candidate_rounds.proofs.Interface.{keeps-all}
+use Rattle.candidate_rounds.proofs.StopKinds.{answering-refusal}
 use Rattle.candidate_rounds.proofs.rounds.evaluator.RoundsEvalCtxt.evaluate_added_goals_and_make_canonical_response.Goals as goal
 
 pub returns-clause-kept : goal.returns-clause-kept
@@ -19,3 +20,6 @@ pub returns-clause-refused : goal.returns-clause-refused
 returns-clause-refused c =
     let old = c.args.self.now in
     subst (λ l. IfErr c.evaluate_added_goals_and_make_canonical_response.result (λ e. e ≡ NoSolutionOrStop.NoSolution → responded l (state old) c.args.certainty ≡ None)) (sym (all-listed (listing old) c.well_kept.ensures.given.listing)) c.evaluate_added_goals_and_make_canonical_response.ensures.refused
+
+pub returns-clause-cause : goal.returns-clause-cause
+returns-clause-cause c = answering-refusal c.evaluate_added_goals_and_make_canonical_response.result c.evaluate_added_goals_and_make_canonical_response.ensures.cause

@@ -4,6 +4,7 @@ use Rattle.rounds_judge.specs.Settling.{settled}
 use Rattle.rounds_judge.proofs.WellListed.{all-listed}
 use Rattle.candidate_rounds.specs.Known.{listing, state}
 use Rattle.candidate_rounds.proofs.Interface.{keeps-all}
+use Rattle.candidate_rounds.proofs.StopKinds.{settling-refusal}
 use Rattle.candidate_rounds.proofs.rounds.evaluator.RoundsEvalCtxt.try_evaluate_added_goals.Goals as goal
 
 pub returns-clause-kept : goal.returns-clause-kept
@@ -18,3 +19,6 @@ pub returns-clause-refused : goal.returns-clause-refused
 returns-clause-refused c =
     let old = c.args.self.now in
     subst (λ l. IfErr c.try_evaluate_added_goals.result (λ e. e ≡ NoSolutionOrStop.NoSolution → settled l (state old) ≡ None)) (sym (all-listed (listing old) c.well_kept.ensures.given.listing)) c.try_evaluate_added_goals.ensures.refused
+
+pub returns-clause-cause : goal.returns-clause-cause
+returns-clause-cause c = settling-refusal c.try_evaluate_added_goals.result c.try_evaluate_added_goals.ensures.cause
