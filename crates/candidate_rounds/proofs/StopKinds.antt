@@ -159,18 +159,14 @@ refusals : {A : Type 0} (P : Stop → Type 0) → ((s : Stop) → P s → IsMaki
 refusals P making (Ok v) k = tt
 refusals P making (Err e) k = refusal-of P making e k
 
-pub equation-refusal : {A : Type 0} {ts : List Tree} {l : Listing} {S : State} {a b : Forest} (r : Result A NoSolutionOrStop) → IfErr r (λ e. (s : Stop) → e ≡ N.Stop s → IsEquationStop ts l S a b s) → IfErr r IsEvaluatorRefusal
-equation-refusal r k = refusals _ (λ s p. equation_making p) r k
+pub equation-refusal : {A : Type 0} (ts : List Tree) (l : Listing) (S : State) (a b : Forest) (r : Result A NoSolutionOrStop) → IfErr r (λ e. (s : Stop) → e ≡ N.Stop s → IsEquationStop ts l S a b s) → IfErr r IsEvaluatorRefusal
+equation-refusal ts l S a b r k = refusals _ (λ s p. equation_making p) r k
 
-pub equation-error : {ts : List Tree} {l : Listing} {S : State} {a b : Forest} (e : NoSolutionOrStop) → ((s : Stop) → e ≡ N.Stop s → IsEquationStop ts l S a b s) → IsEvaluatorRefusal e
-equation-error e k = refusal-of _ (λ s p. equation_making p) e k
+pub equation-error : (ts : List Tree) (l : Listing) (S : State) (a b : Forest) (e : NoSolutionOrStop) → ((s : Stop) → e ≡ N.Stop s → IsEquationStop ts l S a b s) → IsEvaluatorRefusal e
+equation-error ts l S a b e k = refusal-of _ (λ s p. equation_making p) e k
 
-pub settling-refusal : {A : Type 0} {ts : List Tree} {l : Listing} {S : State} (r : Result A NoSolutionOrStop) → IfErr r (λ e. (s : Stop) → e ≡ N.Stop s → IsSettlingStop ts l S s) → IfErr r IsEvaluatorRefusal
-settling-refusal r k = refusals _ (λ s p. settling_making p) r k
+pub settling-refusal : {A : Type 0} (ts : List Tree) (l : Listing) (S : State) (r : Result A NoSolutionOrStop) → IfErr r (λ e. (s : Stop) → e ≡ N.Stop s → IsSettlingStop ts l S s) → IfErr r IsEvaluatorRefusal
+settling-refusal ts l S r k = refusals _ (λ s p. settling_making p) r k
 
-pub answering-refusal : {A : Type 0} {ts : List Tree} {l : Listing} {S : State} (r : Result A NoSolutionOrStop) → IfErr r (λ e. (s : Stop) → e ≡ N.Stop s → IsAnsweringStop ts l S s) → IfErr r IsEvaluatorRefusal
-answering-refusal r k = refusals _ (λ s p. answering_making p) r k
-
--- of a stop alone
-pub stop-refusal : (s : Stop) (given : ℕ) (made : Forest) → IsSubstStop given made s → IsEvaluatorRefusal (N.Stop s)
-stop-refusal s given made k = evaluator-stop s (tree_making k)
+pub answering-refusal : {A : Type 0} (ts : List Tree) (l : Listing) (S : State) (r : Result A NoSolutionOrStop) → IfErr r (λ e. (s : Stop) → e ≡ N.Stop s → IsAnsweringStop ts l S s) → IfErr r IsEvaluatorRefusal
+answering-refusal ts l S r k = refusals _ (λ s p. answering_making p) r k

@@ -23,4 +23,4 @@ pub returns-clause-stopped : goal.returns-clause-stopped
 returns-clause-stopped c = eq-stopped c.equate.result c.args.self.now c.equate.new.self c.equate.ensures.goes c.well_kept.ensures c.equate.ensures.undone
 
 pub returns-clause-cause : goal.returns-clause-cause
-returns-clause-cause c = equation-refusal c.equate.result c.equate.ensures.cause
+returns-clause-cause c = equation-refusal _ _ _ _ _ c.equate.result c.equate.ensures.cause

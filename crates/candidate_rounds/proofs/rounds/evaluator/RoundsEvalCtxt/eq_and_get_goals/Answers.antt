@@ -6,7 +6,6 @@ use Rattle.candidate_eval.specs.Evaluators.{pendings_of}
 use Rattle.candidate_rounds.specs.Known.{state}
 use Rattle.candidate_rounds.proofs.Going.{goes-same}
 use Rattle.candidate_rounds.proofs.Interface.{equated-none, equated-some, keeps-going}
-
 use Rattle.candidate_eval.specs.Evaluators.{IsEvaluatorRefusal}
 use Rattle.candidate_rounds.proofs.StopKinds.{equation-error}
 use Rattle.candidate_rounds.proofs.rounds.evaluator.RoundsEvalCtxt.eq_and_get_goals.Goals as goal
@@ -38,4 +37,4 @@ returns-clause-ok c =
 pub returns-in_err-equate-clause-cause : goal.returns-in_err-equate-clause-cause
 returns-in_err-equate-clause-cause c =
     let r = err_from_is_err_and c.from_residual.result c.from_residual.ensures.1 in
-    rw r.1 (subst IsEvaluatorRefusal r.2 (equation-error _ c.in_err-equate.ensures.cause))
+    rw r.1 (subst IsEvaluatorRefusal (sym r.2) (equation-error _ _ _ _ _ _ c.in_err-equate.ensures.cause))

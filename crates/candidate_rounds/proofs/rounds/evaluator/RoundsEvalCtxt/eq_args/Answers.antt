@@ -22,4 +22,4 @@ pub returns-clause-stopped : goal.returns-clause-stopped
 returns-clause-stopped c = eq-stopped c.equate_args.result c.args.self.now c.equate_args.new.self c.equate_args.ensures.goes c.well_kept.ensures c.equate_args.ensures.undone
 
 pub returns-clause-cause : goal.returns-clause-cause
-returns-clause-cause c = equation-refusal c.equate_args.result c.equate_args.ensures.cause
+returns-clause-cause c = equation-refusal _ _ _ _ _ c.equate_args.result c.equate_args.ensures.cause

@@ -22,4 +22,4 @@ returns-clause-refused c =
     subst (λ l. IfErr c.evaluate_added_goals_and_make_canonical_response.result (λ e. e ≡ NoSolutionOrStop.NoSolution → responded l (state old) c.args.certainty ≡ None)) (sym (all-listed (listing old) c.well_kept.ensures.given.listing)) c.evaluate_added_goals_and_make_canonical_response.ensures.refused
 
 pub returns-clause-cause : goal.returns-clause-cause
-returns-clause-cause c = answering-refusal c.evaluate_added_goals_and_make_canonical_response.result c.evaluate_added_goals_and_make_canonical_response.ensures.cause
+returns-clause-cause c = answering-refusal _ _ _ c.evaluate_added_goals_and_make_canonical_response.result c.evaluate_added_goals_and_make_canonical_response.ensures.cause

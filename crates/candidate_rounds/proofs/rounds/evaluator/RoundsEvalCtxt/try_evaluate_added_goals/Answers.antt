@@ -21,4 +21,4 @@ returns-clause-refused c =
     subst (λ l. IfErr c.try_evaluate_added_goals.result (λ e. e ≡ NoSolutionOrStop.NoSolution → settled l (state old) ≡ None)) (sym (all-listed (listing old) c.well_kept.ensures.given.listing)) c.try_evaluate_added_goals.ensures.refused
 
 pub returns-clause-cause : goal.returns-clause-cause
-returns-clause-cause c = settling-refusal c.try_evaluate_added_goals.result c.try_evaluate_added_goals.ensures.cause
+returns-clause-cause c = settling-refusal _ _ _ c.try_evaluate_added_goals.result c.try_evaluate_added_goals.ensures.cause
