@@ -1,32 +1,32 @@
 -- What an object candidate asks for is what a rule with picks comes to.
 use Rattle.std.proofs.Common.{◌≡◌, ℕ, suc, Bool, true, false, ◌&&◌, ◌+◌, ◌≤◌, Option, Some, None, List, [], ◌∷◌, ◌++◌, map, length, refl, sym, ◌∙◌, ap, subst, arith, append_assoc, All, slice_get}
 use Rattle.std.specs.Prelude.{if◌then◌else◌, ◌||◌}
-use Rattle.std.specs.List.{filter, flat_map}
+use Rattle.std.specs.List.{filter}
 use Rattle.std.proofs.lemmas.List.{append-nil, length-append, length-map}
 use Rattle.std.proofs.lemmas.Option.{slice_get-get_or, slice_get_within}
 use Rattle.std.proofs.lemmas.List.Elements.{All-append, All-cons, All-filter, All-head, All-nil, All-same, All-tail, All-weaker, filter-append}
 use Rattle.candidate_ir.specs.declared.ir.heads.Head.{Head}
 use Rattle.candidate_ir.specs.Binders.{escapes}
 use Rattle.candidate_ir.specs.Substitutions.{alone}
-use Rattle.candidate_ir.specs.Trees.{Kind, Forest, none, tree, Tree, count, holds, is_param, join}
-use Rattle.candidate_ir.specs.Folding.{substituted, substituted_tree}
+use Rattle.candidate_ir.specs.Trees.{Forest, none, tree, Tree, count, holds, is_param, join}
+use Rattle.candidate_ir.specs.Folding.{substituted_tree}
 use Rattle.candidate_ir.proofs.Folding.{substituted-nothing}
 use Rattle.candidate_ir.proofs.FoldRows.{join-assoc}
 use Rattle.candidate_ir.proofs.Rows.{join-none}
 use Rattle.candidate_ir.proofs.Splits.{count-join, holds-join}
-use Rattle.candidate_eval.specs.Alike.{JudgesAlike, LooksAlike, info}
+use Rattle.candidate_eval.specs.Alike.{JudgesAlike, LooksAlike}
 use Rattle.candidate_eval.specs.Certainties.{Certainty, AMBIGUOUS}
 use Rattle.candidate_eval.specs.Characterization.{bound_kinds}
-use Rattle.candidate_eval.specs.Judging.{Place, Reached, At, Ambiguous, Over, Judged, Refused, comes_to, concluded, continued, asked, at_state, go_on, matched, matched_and_settled, matches, made_fresh, picked, put_in, put_in_tree, reached, run, is_at, settled_at, source_of, step, taken, equated_at, with_goals}
+use Rattle.candidate_eval.specs.Judging.{Place, At, Ambiguous, Refused, comes_to, concluded, continued, asked, at_state, go_on, matched, matches, made_fresh, picked, put_in, reached, run, is_at, settled_at, source_of, step, taken, with_goals}
 use Rattle.candidate_eval.specs.Lawful.{Lawful}
 use Rattle.candidate_eval.specs.Mentions.{IsBelow, is_from, StepBelow, StepsBelow, EndingBelow, MatchesBelow}
-use Rattle.candidate_eval.specs.ObjectRules.{match_of, matches_of, picks_of, projections_in, named_clauses, IsRuleTree, IsRuleAt, place_at, IsAskedByRule, IsUnknownByRule}
+use Rattle.candidate_eval.specs.ObjectRules.{match_of, matches_of, picks_of, projections_in, named_clauses, IsRuleTree, place_at, IsAskedByRule, IsUnknownByRule}
 use Rattle.candidate_eval.specs.Objects.{Projection, IsAmbiguous, IsPicked, Tried, arguments_in, bound_equated, bound_matches, fresh_instance, is_about, is_equated, term_in, with_instance}
 use Rattle.candidate_eval.specs.Evaluators.{with_left}
 use Rattle.candidate_eval.specs.Naming.{named_clause, names_from, row_of}
-use Rattle.candidate_eval.specs.Replacing.{AreReplaced, AreStuck, Finds, IsReplaced, IsStuck, Picks, any_is_about, filled_clause, found_or, item_of, own_item, own_projection, projection_if, projections, starts_with}
+use Rattle.candidate_eval.specs.Replacing.{AreReplaced, AreStuck, Finds, Picks, any_is_about, filled_clause, found_or, item_of, own_item, own_projection, projection_if, projections, starts_with}
 use Rattle.candidate_eval.specs.Rules.{Match, Require, Step, fresh, enter, equate, quick, add, settle, pick, still_general, unknowable, Ending, ask, characterise}
-use Rattle.candidate_eval.specs.States.{Env, State, Judge, Pending, fresh_variables, with_fresh_variables, with_pending, is_some, next}
+use Rattle.candidate_eval.specs.States.{Env, State, Judge, Pending, fresh_variables, with_pending, is_some, next}
 use Rattle.candidate_eval.proofs.Marking.{below-more}
 use Rattle.candidate_eval.proofs.NamedTerms.{AreClosed, filled-names-among}
 use Rattle.candidate_eval.proofs.Naming.{named-arguments, named-term, named-below, term-below, term-closed, instance-longer}

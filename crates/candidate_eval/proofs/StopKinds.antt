@@ -1,11 +1,10 @@
 -- Stops of what makes nodes.
-use Rattle.std.proofs.Common.{◌≡◌, ◌⊎◌, ℕ, ◌<◌, inl, inr, List, Option, Result, Ok, Err, sym, subst}
+use Rattle.std.proofs.Common.{ℕ, inl, inr, List, Option, Result, Ok, Err, sym, subst}
 use Rattle.std.specs.Prelude.{IfErr}
 use Rattle.std.specs.Fn.{Mut}
 use Rattle.std.specs.Borrow.{MutBor}
 use Rattle.candidate_ir.specs.declared.ir.kinds.GenericArg.{GenericArg}
 use Rattle.candidate_ir.specs.declared.ir.stop.Stop.{Stop}
-use Rattle.candidate_ir.specs.declared.ir.stop.Stop.TheVariants.{NodesFull}
 use Rattle.candidate_ir.specs.Context.{Context}
 use Rattle.candidate_ir.specs.Elaboration.{IsElaborationStop, IsInstanceStop, IsRenumberStop, SuperClauses}
 use Rattle.candidate_ir.specs.Folding.{IsSubstStop}

@@ -3,7 +3,7 @@ use Rattle.std.specs.Prelude.{◌≡◌, ◌≤◌, ℕ, suc, ◌+◌, false, Li
 use Rattle.std.specs.List.{All, filter, flat_map}
 use Rattle.candidate_ir.specs.Binders.{escapes}
 use Rattle.candidate_ir.specs.Substitutions.{alone}
-use Rattle.candidate_ir.specs.Trees.{Forest, none, tree, Tree, count, holds, is_param, join}
+use Rattle.candidate_ir.specs.Trees.{Forest, Tree, count, holds, is_param, join}
 use Rattle.candidate_eval.specs.Certainties.{AMBIGUOUS}
 use Rattle.candidate_eval.specs.Characterization.{bound_kinds}
 use Rattle.candidate_eval.specs.Judging.{Place, comes_to, asked, put_in_tree, source_of}

@@ -8,7 +8,7 @@ use Rattle.candidate_ir.specs.declared.ir.heads.Head.{Head}
 use Rattle.candidate_ir.specs.declared.ir.heads.Head.TheVariants as H
 use Rattle.candidate_ir.specs.declared.ir.heads.Variable.{Variable}
 use Rattle.candidate_ir.specs.declared.ir.kinds.RegionKind.TheVariants as R
-use Rattle.candidate_ir.specs.Trees.{Forest, none, tree, Tree, holds, is_alias, is_number}
+use Rattle.candidate_ir.specs.Trees.{Forest, none, tree, Tree, is_number}
 use Rattle.candidate_ir.specs.Substitutions.{alone, fits_sort, same_sort, same_variable}
 use Rattle.candidate_ir.specs.Unify.{same_head}
 use Rattle.candidate_ir.proofs.Equal.{head_is}
@@ -26,13 +26,13 @@ use Rattle.rounds_judge.specs.Scopes.{Scope, placed_head, placed_tree, has_binde
 use Rattle.rounds_judge.specs.Binding.{occurs, may_take, single, bound}
 use Rattle.rounds_judge.specs.Equating.{Pair, Visit, Done, Refused, Left, value_for, met, visited, looked, size, size_of_types, size_of_pairs, count_unbound, enough, looks, unified}
 use Rattle.rounds_judge.specs.Standing.{IsListing, AreResolved}
-use Rattle.rounds_judge.proofs.Marks.{fold_marked, valued_node, valued_twice, whole, holds_to}
-use Rattle.rounds_judge.proofs.Later.{no_value, value_as_is, value_as_kind, value_as_of, resolved_stays}
+use Rattle.rounds_judge.proofs.Marks.{fold_marked, valued_node, valued_twice, holds_to}
+use Rattle.rounds_judge.proofs.Later.{no_value, value_as_is, value_as_of, resolved_stays}
 use Rattle.rounds_judge.proofs.Bound.{Single, given, stays, which_single, single_is, same_sort_itself, kind_bound, value_as_other, value_own}
 use Rattle.rounds_judge.proofs.Putting.{nowhere}
 use Rattle.rounds_judge.proofs.Current.{WhichListed, is_type, itself, which_listed, placed_is, root_at, root_free, listed_resolved}
 use Rattle.rounds_judge.proofs.Looks.{same_left, meets, with_regions, only_regions}
-use Rattle.rounds_judge.proofs.Sizes.{size_begin, size_two, size_below, size_alias, size_grows, listed_size, count_bound, enough_fewer, enough_bound}
+use Rattle.rounds_judge.proofs.Sizes.{size_begin, size_two, size_alias, size_grows, listed_size, count_bound, enough_fewer, enough_bound}
 use Rattle.rounds_judge.proofs.Ends.{same_le, alias_unvalued, rests, kept_root, value_for_size, children_size, entered_looks, regions_looks}
 
 -- a variable that is there, and of that kind, is known
