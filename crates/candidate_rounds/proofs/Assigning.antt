@@ -1,9 +1,9 @@
 -- Variables that get values, one after another.
 use Rattle.std.proofs.Common.{◌≡◌, ◌≤◌, ◌<◌, ℕ, zero, suc, ◌+◌, Bool, true, false, not, ◌&&◌, ◌||◌, ◌==◌, min, List, [], ◌∷◌, ◌++◌, Option, Some, None, Result, Ok, Err, IfOk, IfErr, OnOk, ◌⊎◌, inl, inr, length, map, slice_get, refl, sym, ap, subst, ◌∙◌, arith, if◌then◌else◌}
-use Rattle.std.specs.Option.{option_map, unwrap_or}
+use Rattle.std.specs.Option.{option_map}
 use Rattle.std.specs.Prelude.{nat_le, nat_lt}
 use Rattle.std.proofs.Math.Dec.{leb}
-use Rattle.std.proofs.lemmas.Bool.{and_parts, eq-eqb, ne_eqb, leb-true, leb-false, le-leb, lt-leb, le-ltb, lt-ltb}
+use Rattle.std.proofs.lemmas.Bool.{eq-eqb, ne_eqb, leb-true, leb-false, le-leb, lt-leb, le-ltb, lt-ltb}
 use Rattle.std.proofs.lemmas.Option.{slice_get-map}
 use Rattle.std.proofs.lemmas.List.{length-append}
 use Rattle.candidate_ir.specs.declared.ir.heads.Head.{Head}
@@ -12,39 +12,33 @@ use Rattle.candidate_ir.specs.declared.ir.heads.Variable.{Variable}
 use Rattle.candidate_ir.specs.declared.ir.heads.VariableSort.{VariableSort}
 use Rattle.candidate_ir.specs.declared.ir.heads.VariableSort.TheVariants as V
 use Rattle.candidate_ir.specs.declared.ir.kinds.GenericArg.{GenericArg}
-use Rattle.candidate_ir.specs.declared.ir.kinds.TyKind.{TyKind}
-use Rattle.candidate_ir.specs.declared.ir.kinds.TyKind.TheVariants as K
 use Rattle.candidate_ir.specs.declared.ir.stop.Stop.{Stop}
 use Rattle.candidate_ir.specs.Binders.{is_beyond, escapes, tree_escapes}
 use Rattle.candidate_ir.specs.Context.{Context, Grows}
 use Rattle.candidate_ir.specs.declared.ir.heads.Flag.TheVariants as F
 use Rattle.candidate_ir.specs.Flags.{mark, of_constant, of_type}
-use Rattle.candidate_ir.specs.Folding.{fold}
 use Rattle.candidate_ir.specs.Folds.{IsArg, IsOfKind, arg_tree, is_asked, is_asked_kind}
 use Rattle.candidate_ir.specs.Kinds.{arg_kind, arg_number}
-use Rattle.candidate_ir.specs.Nodes.{Extends}
 use Rattle.candidate_ir.specs.Substitutions.{alone, fits_sort, is_constant_kind, is_placeholder_above, same_sort, same_variable}
-use Rattle.candidate_ir.specs.Trees.{Forest, none, tree, Kind, ConstantKind, TypeKind, RegionKind, Tree, binders_of, erase, erased_head, holds, tree_holds, kind_of, is_type_kind, sort_kind, is_number}
+use Rattle.candidate_ir.specs.Trees.{Forest, none, tree, Kind, ConstantKind, RegionKind, Tree, binders_of, erase, erased_head, holds, tree_holds, kind_of, is_type_kind, sort_kind, is_number}
 use Rattle.candidate_ir.proofs.Folding.{fold-nothing}
 use Rattle.candidate_ir.proofs.Implying.{arg-kept}
 use Rattle.candidate_ir.proofs.Kept.{grows-refl}
 use Rattle.candidate_ir.proofs.Rows.{kind-of}
 use Rattle.candidate_eval.specs.declared.eval.mode.TypingMode.{TypingMode}
 use Rattle.candidate_eval.specs.declared.eval.variable.VariableKind.{VariableKind}
-use Rattle.candidate_eval.specs.declared.eval.variable.VariableKind.TheVariants.{Term, Region}
+use Rattle.candidate_eval.specs.declared.eval.variable.VariableKind.TheVariants.{Term}
 use Rattle.candidate_eval.specs.States.{State, VariableInfo, valued_tree, has_kind, same_kind}
 use Rattle.candidate_eval.specs.Alike.{info}
 use Rattle.candidate_eval.specs.Soundness.{fits_kind, universe_in}
-use Rattle.candidate_rounds.specs.declared.rounds.inference.Change.TheVariants as C
 use Rattle.candidate_rounds.specs.declared.rounds.inference.Entry.{Entry}
 use Rattle.candidate_rounds.specs.Assigning.{single_arg, with_member, partly, within, with_info, with_its_value, with_its_universe, with_values_within, with_values, with_universes_up_to, with_universes, allows}
 use Rattle.rounds_judge.specs.Binding.{occurs, single, info_after, numbered, bound, may_take}
 use Rattle.candidate_rounds.specs.Inferences.{Inference, IsFurther, assign, lower, with_entry, with_value, with_universe, is_of_kind, back_to, value_of}
-use Rattle.candidate_rounds.specs.Known.{info_of, state_of, Each, IsChange, IsConsistent, IsEntry, IsKnown, IsValue, IsTidy, IsWithin, SuitsKind, AreMarks, EachAt, is_open}
-use Rattle.rounds_judge.proofs.Bound.{integer_is_type, float_is_type, put_kind, same_variable_is, single_is}
-use Rattle.candidate_rounds.proofs.Going.{further-refl}
-use Rattle.candidate_rounds.proofs.Holding.{kinds-now, tidy-now}
-use Rattle.candidate_rounds.proofs.Knowing.{each-append, each-entry, each-at-entry, each-at-imply, each-get, there-arg, state-stays}
+use Rattle.candidate_rounds.specs.Known.{info_of, state_of, Each, IsChange, IsConsistent, IsEntry, IsValue, IsTidy, IsWithin, SuitsKind, AreMarks, EachAt, is_open}
+use Rattle.rounds_judge.proofs.Bound.{integer_is_type, float_is_type, same_variable_is, single_is}
+use Rattle.candidate_rounds.proofs.Holding.{tidy-now}
+use Rattle.candidate_rounds.proofs.Knowing.{each-append, each-entry, each-at-entry, each-at-imply, each-get, there-arg}
 use Rattle.rounds_judge.proofs.Marks.{holds_erased}
 use Rattle.rounds_judge.proofs.Solving.{kind_same}
 use Rattle.candidate_rounds.proofs.Probing.{holds-after, holds-back}

@@ -33,7 +33,7 @@ use Rattle.rounds_judge.specs.Listed.{Listing, listed}
 use Rattle.rounds_judge.specs.Settling.{Outcome, before, certainty_of, instance_of, instantiated, pass, passes, projected, settled, term_of, tried, tried_all, tried_as, with_certainty, with_facts, with_staying}
 use Rattle.candidate_rounds.specs.Trying.{IsProjection, answered, answered_by, evaluated_as, left_of, projection_of, second_if_bound, unbound_entries, unbound_value}
 use Rattle.candidate_rounds.proofs.Going.{goes-listing, goes-trans}
-use Rattle.candidate_rounds.proofs.Holding.{tidy-now, kinds-now}
+use Rattle.candidate_rounds.proofs.Holding.{tidy-now}
 use Rattle.candidate_rounds.proofs.Knowing.{each-append, each-imply, tree-stays}
 use Rattle.candidate_rounds.proofs.Probing.{holds-after}
 use Rattle.candidate_rounds.proofs.Projecting.{alias-is, term-is}

@@ -1,5 +1,5 @@
 -- An evaluator that goes on: what it was is kept, and what is known can be undone.
-use Rattle.std.proofs.Common.{◌≡◌, ℕ, suc, ◌≤◌, Bool, true, false, List, ◌∷◌, [], ◌++◌, length, map, Result, Ok, Err, IfOk, IfErr, refl, sym, ◌∙◌, ap, subst, arith}
+use Rattle.std.proofs.Common.{◌≡◌, ℕ, ◌≤◌, Bool, true, false, List, ◌∷◌, [], ◌++◌, length, Result, Ok, Err, IfOk, IfErr, refl, sym, ◌∙◌, ap, subst, arith}
 use Rattle.std.proofs.lemmas.List.{length-append}
 use Rattle.candidate_ir.specs.declared.ir.kinds.Clause.{Clause}
 use Rattle.candidate_ir.specs.declared.ir.kinds.Const.{Const}
@@ -20,10 +20,9 @@ use Rattle.candidate_eval.specs.declared.eval.variable.VariableKind.{VariableKin
 use Rattle.candidate_eval.specs.States.{variable_kind}
 use Rattle.candidate_rounds.specs.declared.rounds.inference.Change.{Change}
 use Rattle.candidate_rounds.specs.Inferences.{Inference, IsFurther, with_variable, with_variables, assign, lower, enter, record_region, add, add_all, widen, begin_pending, back_to}
-use Rattle.candidate_rounds.specs.Known.{Evaluator, GoesOn, KeepsGiven, IsKnown, IsConsistent, IsGiven, IsEvaluator, AreTypes, AreMarks, Each, state, state_of, states_at, probes, listing, listing_of}
-use Rattle.candidate_rounds.proofs.Undoing.{IsUndone, undo-variable, undo-assign, undo-lower, undo-enter, undo-region, undo-goal, undo-pending, undo-widen, back-to-now}
+use Rattle.candidate_rounds.specs.Known.{Evaluator, GoesOn, KeepsGiven, IsKnown, IsGiven, IsEvaluator, AreTypes, AreMarks, state, state_of, states_at, probes, listing, listing_of}
+use Rattle.candidate_rounds.proofs.Undoing.{undo-variable, undo-assign, undo-lower, undo-enter, undo-region, undo-goal, undo-pending, undo-widen, back-to-now}
 use Rattle.candidate_rounds.proofs.Knowing.{probes-stay, probes-grow, state-stays, each-map}
-use Rattle.candidate_rounds.proofs.Holding.{undo-goals, undo-variables}
 
 -- What is known goes further, and further from there.
 

@@ -1,24 +1,22 @@
 -- A variable that meets a tree: whether it takes it, by numbers.
-use Rattle.std.proofs.Common.{◌≡◌, ◌+◌, ◌&&◌, ◌++◌, Bool, true, false, List, [], ◌∷◌, Option, Some, None, Result, Ok, Err, OnOk, reverse, refl, sym, ◌∙◌, ap, subst, if◌then◌else◌}
+use Rattle.std.proofs.Common.{◌≡◌, ◌+◌, ◌&&◌, Bool, true, false, List, Option, Some, None, Result, Ok, Err, OnOk, reverse, refl, sym, ◌∙◌, ap, if◌then◌else◌}
 use Rattle.std.specs.Option.{unwrap_or}
 use Rattle.candidate_ir.specs.declared.ir.heads.Head.{Head}
 use Rattle.candidate_ir.specs.declared.ir.heads.Head.TheVariants as H
 use Rattle.candidate_ir.specs.declared.ir.heads.Variable.{Variable}
 use Rattle.candidate_ir.specs.declared.ir.heads.VariableSort.{VariableSort}
 use Rattle.candidate_ir.specs.declared.ir.heads.VariableSort.TheVariants as V
-use Rattle.candidate_ir.specs.declared.ir.kinds.RegionKind.TheVariants as R
 use Rattle.candidate_ir.specs.declared.ir.kinds.Ty.{Ty}
 use Rattle.candidate_ir.specs.Folding.{Answers, fold, fold_tree}
 use Rattle.candidate_ir.specs.Folds.{is_asked, is_asked_kind}
 use Rattle.candidate_ir.specs.Substitutions.{fits_sort, is_constant_kind}
-use Rattle.candidate_ir.specs.Trees.{Kind, TypeKind, ConstantKind, RegionKind, Tree, binders_of, is_type, is_type_kind, kind_of}
+use Rattle.candidate_ir.specs.Trees.{Kind, TypeKind, ConstantKind, Tree, binders_of, is_type_kind, kind_of}
 use Rattle.candidate_eval.specs.declared.eval.variable.VariableKind.TheVariants.{Term}
 use Rattle.candidate_eval.specs.States.{State, has_kind, resolved_tree, value_at}
 use Rattle.candidate_eval.specs.Alike.{info}
 use Rattle.candidate_eval.specs.Soundness.{is_region}
 use Rattle.rounds_judge.specs.Binding.{bound, may_take}
-use Rattle.rounds_judge.specs.Equating.{Left, Pair, Visit, matched, offered, taken, value_for, with_equal_regions}
-use Rattle.candidate_rounds.specs.Frames.{taken_if}
+use Rattle.rounds_judge.specs.Equating.{Left, Pair, matched, offered, value_for, with_equal_regions}
 use Rattle.candidate_rounds.specs.Known.{AreTypes, Each, listing_of}
 use Rattle.rounds_judge.specs.Listed.{Listing, listed, normalized_tree}
 use Rattle.rounds_judge.specs.Scopes.{Scope, placed_head, placed_tree}

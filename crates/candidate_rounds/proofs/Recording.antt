@@ -26,7 +26,7 @@ use Rattle.rounds_judge.specs.Equating.{outlives, with_equal_regions}
 use Rattle.candidate_rounds.specs.Inferences.{Inference, IsFurther, record_region, back_to}
 use Rattle.candidate_rounds.specs.Known.{IsChange, IsConsistent, IsKnown, state_of}
 use Rattle.candidate_rounds.proofs.Going.{back-to-before, further-call, further-region, further-trans, region-kept}
-use Rattle.candidate_rounds.proofs.Holding.{change-holds, kinds-now, tidy-now}
+use Rattle.candidate_rounds.proofs.Holding.{change-holds, tidy-now}
 use Rattle.candidate_rounds.proofs.Knowing.{clause-stays, each-append, is-clause-stays, state-stays}
 use Rattle.candidate_rounds.proofs.Probing.{holds-after, holds-grown}
 use Rattle.candidate_rounds.proofs.Undoing.{undo-region}

@@ -1,5 +1,5 @@
 -- Values hold no variable that has a value: this stays so.
-use Rattle.std.proofs.Common.{◌≡◌, ℕ, zero, suc, ◌≤◌, Bool, true, false, not, List, [], ◌∷◌, ◌++◌, length, slice_get, map, Option, Some, None, Result, Ok, Err, IfOk, IfErr, OnOk, if◌then◌else◌, refl, sym, ◌∙◌, ap, subst, arith}
+use Rattle.std.proofs.Common.{◌≡◌, ℕ, zero, suc, ◌≤◌, Bool, true, false, not, List, [], ◌∷◌, ◌++◌, length, slice_get, Option, None, Result, Ok, Err, IfOk, IfErr, OnOk, if◌then◌else◌, refl, sym, ◌∙◌, ap, subst, arith}
 use Rattle.std.proofs.lemmas.Bool.{and_parts, not-true}
 use Rattle.std.proofs.lemmas.List.{map-append}
 use Rattle.candidate_ir.specs.declared.ir.heads.Head.{Head}

@@ -1,5 +1,5 @@
 -- Why variables and placeholders aren't made: no numbers are left.
-use Rattle.std.proofs.Common.{◌≡◌, ◌⊎◌, ℕ, zero, suc, ◌+◌, ◌-◌, ◌<◌, ◌≤◌, List, [], ◌∷◌, false, inl, inr, length, drop, Result, Ok, Err, refl, sym, ◌∙◌, ap, subst, arith}
+use Rattle.std.proofs.Common.{◌≡◌, ◌⊎◌, ℕ, suc, ◌+◌, ◌<◌, ◌≤◌, List, [], ◌∷◌, false, inl, inr, length, drop, Result, Ok, Err, sym, ◌∙◌, ap, subst, arith}
 use Rattle.std.specs.Prelude.{IfErr}
 use Rattle.std.proofs.lemmas.List.{length-append, length-drop}
 use Rattle.std.proofs.Math.Nat.{max-le}
@@ -10,7 +10,7 @@ use Rattle.candidate_ir.specs.declared.ir.stop.Stop.{Stop}
 use Rattle.candidate_ir.specs.declared.ir.stop.Stop.TheVariants.{NodesFull}
 use Rattle.candidate_ir.specs.Context.{Context, parameter_kind}
 use Rattle.candidate_ir.specs.Nodes.{rows}
-use Rattle.candidate_ir.specs.Trees.{Tree, heights}
+use Rattle.candidate_ir.specs.Trees.{heights}
 use Rattle.candidate_ir.specs.Words.{IsMkStop, list_forest}
 use Rattle.candidate_eval.specs.States.{variable_kind}
 use Rattle.candidate_rounds.specs.declared.rounds.fresh.Leaves.{Leaves}

@@ -3,7 +3,7 @@ use Rattle.candidate_eval.specs.Evaluators.{IsGoal, pending_of}
 use Rattle.candidate_eval.specs.States.{added}
 use Rattle.candidate_rounds.specs.Known.{Evaluator, state, state_of, probes}
 use Rattle.candidate_rounds.proofs.Knowing.{probes-stay}
-use Rattle.candidate_rounds.proofs.Holding.{goal-holds, goal-undone, goal-state}
+use Rattle.candidate_rounds.proofs.Holding.{goal-undone, goal-state}
 use Rattle.candidate_rounds.proofs.ResolvedValues.{evaluator-changed, resolved-goal}
 use Rattle.candidate_rounds.proofs.Going.{further-goal}
 use Rattle.candidate_rounds.proofs.Holding.{holds-goal}

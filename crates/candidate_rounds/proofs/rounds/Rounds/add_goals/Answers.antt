@@ -2,7 +2,7 @@ use Rattle.std.proofs.Common.{◌≡◌, All, OnOk, reverse, sym, ◌∙◌, ap,
 use Rattle.candidate_eval.specs.Evaluators.{IsGoal, with_goals_of}
 use Rattle.candidate_rounds.specs.Known.{Evaluator, state, state_of, probes}
 use Rattle.candidate_rounds.proofs.Knowing.{probes-stay, each-of-all}
-use Rattle.candidate_rounds.proofs.Holding.{goals-hold, goals-undone, goals-state}
+use Rattle.candidate_rounds.proofs.Holding.{goals-undone, goals-state}
 use Rattle.candidate_rounds.proofs.ResolvedValues.{evaluator-changed, resolved-goals}
 use Rattle.candidate_rounds.proofs.Going.{further-goals}
 use Rattle.candidate_rounds.proofs.Holding.{holds-goals}

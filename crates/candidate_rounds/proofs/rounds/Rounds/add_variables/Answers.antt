@@ -4,7 +4,7 @@ use Rattle.candidate_eval.specs.Evaluators.{kinds_listed}
 use Rattle.candidate_rounds.specs.Inferences.{with_variables}
 use Rattle.candidate_rounds.specs.Known.{Evaluator, state, probes}
 use Rattle.candidate_rounds.proofs.Knowing.{probes-stay}
-use Rattle.candidate_rounds.proofs.Holding.{holds-variables, undo-variables, state-variables, change-holds, change-undone, change-state}
+use Rattle.candidate_rounds.proofs.Holding.{holds-variables, undo-variables, state-variables, change-undone, change-state}
 use Rattle.candidate_rounds.proofs.ResolvedValues.{evaluator-changed, resolved-variables}
 use Rattle.candidate_rounds.proofs.Going.{further-variables}
 use Rattle.candidate_rounds.proofs.rounds.Rounds.add_variables.Goals as goal

@@ -2,7 +2,7 @@ use Rattle.std.proofs.Common.{◌≡◌, ◌∷◌, [], length, reverse, sym, �
 use Rattle.std.proofs.lemmas.List.{reverse-append}
 use Rattle.candidate_eval.specs.States.{with_pending}
 use Rattle.candidate_rounds.specs.Inferences.{begin_pending}
-use Rattle.candidate_rounds.specs.Known.{Evaluator, state, probes, state_of, states_at, IsConsistent}
+use Rattle.candidate_rounds.specs.Known.{Evaluator, state, probes, state_of, states_at}
 use Rattle.candidate_rounds.proofs.Undoing.{undo-pending}
 use Rattle.candidate_rounds.proofs.Probing.{probe-begins, none-pending}
 use Rattle.candidate_rounds.proofs.Holding.{holds-begun}

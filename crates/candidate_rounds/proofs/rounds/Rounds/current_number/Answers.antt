@@ -1,4 +1,3 @@
-use Rattle.std.proofs.Common.{◌<◌, length, subst, sym}
 use Rattle.candidate_ir.proofs.Asking.{arg-below}
 use Rattle.candidate_rounds.proofs.rounds.Rounds.current_number.Goals as goal
 

@@ -4,7 +4,7 @@ use Rattle.candidate_rounds.specs.Inferences.{enter}
 use Rattle.candidate_rounds.specs.Known.{Evaluator, GoesOn, state, probes}
 use Rattle.candidate_rounds.proofs.Undoing.{undo-enter}
 use Rattle.candidate_rounds.proofs.Knowing.{probes-stay}
-use Rattle.candidate_rounds.proofs.Holding.{holds-enter, state-enter, change-holds, change-undone, change-state}
+use Rattle.candidate_rounds.proofs.Holding.{holds-enter, state-enter, change-undone, change-state}
 use Rattle.candidate_rounds.proofs.Going.{further-enter, further-call, goes-further}
 use Rattle.candidate_rounds.proofs.ResolvedValues.{evaluator-changed, resolved-enter}
 use Rattle.candidate_rounds.proofs.rounds.Rounds.enter.Goals as goal

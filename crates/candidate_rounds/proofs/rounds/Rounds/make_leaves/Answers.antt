@@ -1,8 +1,6 @@
 use Rattle.std.proofs.Common.{reverse, ◌∙◌, ap}
 use Rattle.candidate_rounds.specs.Known.{state, probes}
 use Rattle.candidate_rounds.proofs.Knowing.{probes-grow, state-stays}
-use Rattle.candidate_rounds.proofs.Probing.{holds-grown}
-use Rattle.candidate_rounds.proofs.Knowing.{given-grown}
 use Rattle.candidate_rounds.proofs.ResolvedValues.{evaluator-grown}
 use Rattle.candidate_rounds.proofs.rounds.Rounds.make_leaves.Goals as goal
 

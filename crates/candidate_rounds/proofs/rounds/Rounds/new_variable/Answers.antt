@@ -1,11 +1,9 @@
 use Rattle.std.proofs.Common.{reverse, sym, ◌∙◌, ap, subst}
 use Rattle.candidate_rounds.specs.Inferences.{with_variable}
-use Rattle.candidate_rounds.specs.Known.{states_at, probes, IsConsistent}
+use Rattle.candidate_rounds.specs.Known.{states_at, probes}
 use Rattle.candidate_rounds.proofs.Undoing.{undo-variable}
 use Rattle.candidate_rounds.proofs.Knowing.{probes-stay, probes-grow}
-use Rattle.candidate_rounds.proofs.Probing.{holds-grown}
 use Rattle.candidate_rounds.proofs.Holding.{holds-variable, before-grown}
-use Rattle.candidate_rounds.proofs.Knowing.{given-grown}
 use Rattle.candidate_rounds.proofs.ResolvedValues.{evaluator-further, evaluator-grown, resolved-variable}
 use Rattle.candidate_rounds.proofs.Going.{further-variable}
 use Rattle.candidate_rounds.specs.Inferences.{with_variable}

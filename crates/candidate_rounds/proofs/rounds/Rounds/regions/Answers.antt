@@ -1,4 +1,4 @@
-use Rattle.std.proofs.Common.{◌≡◌, ◌&&◌, true, refl, sym, ◌∙◌, ap}
+use Rattle.std.proofs.Common.{◌&&◌, refl, sym, ◌∙◌, ap}
 use Rattle.candidate_ir.specs.Nodes.{tree_at}
 use Rattle.candidate_ir.specs.Trees.{kind_of}
 use Rattle.candidate_ir.proofs.Lists.{kind_of-tree_at}

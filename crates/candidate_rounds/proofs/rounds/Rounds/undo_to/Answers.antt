@@ -1,5 +1,5 @@
 use Rattle.std.proofs.Common.{◌≤◌, length, reverse, sym, subst}
-use Rattle.candidate_rounds.specs.Known.{Evaluator, AreMarks, IsConsistent}
+use Rattle.candidate_rounds.specs.Known.{Evaluator, AreMarks}
 use Rattle.candidate_rounds.proofs.Assigning.{holds-back-to}
 use Rattle.candidate_rounds.proofs.ResolvedValues.{resolved-back}
 use Rattle.candidate_rounds.specs.Known.{HasResolvedValues, IsEvaluator}

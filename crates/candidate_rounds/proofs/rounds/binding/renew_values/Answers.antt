@@ -1,4 +1,4 @@
-use Rattle.std.proofs.Common.{◌≡◌, ◌≤◌, ℕ, ap, arith}
+use Rattle.std.proofs.Common.{◌≡◌, ℕ, ap, arith}
 use Rattle.candidate_rounds.proofs.Renewing.{none-renewed, so-far-value, so-far-fits, so-far-kind, so-far-own-room, one-more-renewed, all-renewed-call}
 use Rattle.std.proofs.lemmas.Result.{err_from_is_err_and}
 use Rattle.candidate_rounds.proofs.BindingStops.{own-renewal, renewal-before}

@@ -1,4 +1,3 @@
-use Rattle.std.specs.Prelude.{◌≤◌}
 use Rattle.candidate_rounds.proofs.Renewing.{ValuesSoFar}
 use Rattle.candidate_rounds.proofs.rounds.binding.renew_values.Given as goal
 
