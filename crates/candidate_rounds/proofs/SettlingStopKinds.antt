@@ -7,7 +7,7 @@ use Rattle.candidate_ir.specs.Folding.{IsSubstStop, no_memory, few_numbers, high
 use Rattle.candidate_ir.specs.Trees.{Forest, Tree}
 use Rattle.candidate_eval.specs.States.{Pending, State}
 use Rattle.candidate_rounds.specs.Inferences.{IsFullAt}
-use Rattle.candidate_rounds.specs.Stopping.{IsEquationStop, IsInstanceStop, of_list, of_universe, of_kinds, of_instance, IsProjectionStop, of_alias, of_resolved_alias, of_equation, IsEvaluationStop, not_recorded, of_projection, IsGoalStop, goal_memory, of_clause, of_evaluation, AreGoalsStop, this_goal, later_goal, IsPassStop, pass_memory, of_goals, IsSettlingStop, this_pass, later_pass, IsNotingStop, refused_note, at_wide_node, IsRenumberingStop, too_many_open, of_made, AreRenumberingStops, no_list, of_one, IsResponseStop, response_memory, full_table, too_many_variables, of_roots, of_constraint, of_noting, of_values, of_renumbered, IsAnsweringStop, of_settling, of_response}
+use Rattle.candidate_rounds.specs.Stopping.{IsEquationStop, IsInstanceStop, of_list, of_universe, of_kinds, of_instance, IsProjectionStop, of_alias, of_resolved_alias, of_equation, IsEvaluationStop, not_recorded, of_projection, IsGoalStop, goal_memory, of_clause, of_evaluation, AreGoalsStop, this_goal, later_goal, IsPassStop, pass_memory, of_goals, ArePassesStop, this_pass, later_pass, IsSettlingStop, IsNotingStop, refused_note, at_wide_node, IsRenumberingStop, too_many_open, of_made, AreRenumberingStops, no_list, of_one, IsResponseStop, response_memory, full_table, too_many_variables, of_roots, of_constraint, of_noting, of_values, of_renumbered, IsAnsweringStop, of_settling, of_response}
 use Rattle.rounds_judge.specs.Listed.{Listing}
 
 -- it is one of these two stops
@@ -76,9 +76,12 @@ module _ (equation-kind : (ts : List Tree) (l : Listing) (S : State) (a b : Fore
   pass-kind ts l S s pass_memory = inl refl
   pass-kind ts l S s (of_goals k) = goals-kind ts l s S _ k
 
+  passes-kind : (ts : List Tree) (l : Listing) (s : Stop) (n : ℕ) (S : State) → ArePassesStop ts l s n S → IsMemoryOrFull s
+  passes-kind ts l s n S (this_pass k) = pass-kind ts l S s k
+  passes-kind ts l s n S (later_pass e f k) = passes-kind ts l s _ _ k
+
   pub settling-stop-kind : (ts : List Tree) (l : Listing) (S : State) (s : Stop) → IsSettlingStop ts l S s → IsMemoryOrFull s
-  settling-stop-kind ts l S s (this_pass k) = pass-kind ts l S s k
-  settling-stop-kind ts l S s (later_pass e k) = settling-stop-kind ts l _ s k
+  settling-stop-kind ts l S s k = passes-kind ts l s 8 S k
 
   pub answering-stop-kind : (ts : List Tree) (l : Listing) (S : State) (s : Stop) → IsAnsweringStop ts l S s → IsMemoryOrFull s
   answering-stop-kind ts l S s (of_settling k) = settling-stop-kind ts l S s k
