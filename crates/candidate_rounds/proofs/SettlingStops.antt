@@ -1,12 +1,11 @@
 -- Why goals that are pending aren't evaluated.
-use Rattle.std.proofs.Common.{◌≡◌, ◌⊎◌, inl, inr, ℕ, suc, ◌<◌, ◌+◌, ◌-◌, List, [], ◌∷◌, ◌++◌, length, drop, slice_index_or, Option, Some, IfSome, Result, Ok, Err, refl, sym, ◌∙◌, ap, subst, arith}
+use Rattle.std.proofs.Common.{◌≡◌, inl, inr, ℕ, suc, ◌<◌, ◌+◌, ◌-◌, List, [], ◌∷◌, ◌++◌, length, drop, slice_index_or, Option, Some, IfSome, Result, Ok, Err, sym, ◌∙◌, ap, subst, arith}
 use Rattle.std.proofs.lemmas.List.{length-drop}
 use Rattle.std.specs.Prelude.{IfErr, IsErrAnd}
 use Rattle.std.specs.Option.{option_to_list}
 use Rattle.candidate_ir.specs.declared.ir.kinds.ProjectionPredicate.{ProjectionPredicate}
-use Rattle.candidate_ir.specs.declared.ir.kinds.VarKind.{VarKind}
 use Rattle.candidate_ir.specs.declared.ir.stop.Stop.{Stop}
-use Rattle.candidate_ir.specs.declared.ir.stop.Stop.TheVariants.{Memory, NodesFull}
+use Rattle.candidate_ir.specs.declared.ir.stop.Stop.TheVariants.{Memory}
 use Rattle.candidate_ir.specs.Context.{Context}
 use Rattle.candidate_ir.specs.Folding.{no_memory, few_numbers, high_tree}
 use Rattle.candidate_ir.specs.Substitutions.{alone}
@@ -16,12 +15,10 @@ use Rattle.candidate_ir.specs.Words.{IsMkStop, kind_tree, ty_tree}
 use Rattle.candidate_eval.specs.declared.eval.certainty.Certainty.{Certainty}
 use Rattle.candidate_eval.specs.declared.eval.refusal.NoSolutionOrStop.{NoSolutionOrStop}
 use Rattle.candidate_eval.specs.declared.eval.refusal.NoSolutionOrStop.TheVariants as refusal
-use Rattle.candidate_eval.specs.Characterization.{bound_kinds}
-use Rattle.candidate_eval.specs.Evaluators.{IsGoal, kinds_listed, pending_of, pendings_of}
+use Rattle.candidate_eval.specs.Evaluators.{IsGoal, pending_of, pendings_of}
 use Rattle.candidate_eval.specs.States.{Pending, State, resolved_tree}
-use Rattle.candidate_rounds.specs.Inferences.{IsFullAt}
 use Rattle.candidate_rounds.specs.Known.{Each, Evaluator, GoesOn, IsGiven, listing, state}
-use Rattle.candidate_rounds.specs.Stopping.{IsTreeStop, IsEquationStop, IsInstanceStop, of_list, of_universe, of_kinds, of_instance, IsProjectionStop, of_equation, IsEvaluationStop, of_projection, IsGoalStop, goal_memory, of_evaluation, AreGoalsStop, this_goal, later_goal, IsPassStop, of_goals, ArePassesStop, this_pass, later_pass, IsResponseStop, IsAnsweringStop, of_response}
+use Rattle.candidate_rounds.specs.Stopping.{IsTreeStop, IsEquationStop, IsInstanceStop, of_instance, IsProjectionStop, of_equation, IsEvaluationStop, of_projection, IsGoalStop, goal_memory, of_evaluation, AreGoalsStop, this_goal, later_goal, IsPassStop, of_goals, ArePassesStop, this_pass, later_pass, IsResponseStop, IsAnsweringStop, of_response}
 use Rattle.candidate_rounds.specs.Trying.{IsProjection, left_of, projection_of}
 use Rattle.rounds_judge.specs.Equating.{count_unbound}
 use Rattle.rounds_judge.specs.Listed.{Listing, listed}
@@ -74,23 +71,6 @@ type-stop a b t (Ok x) e c = tt
 type-stop a b t (Err s) e c = type-unmade a b t s e c
 
 -- An instance that isn't made.
-
-kinds-length : (ks : List VarKind) → length (kinds_listed ks) ≡ length ks
-kinds-length [] = refl
-kinds-length (k ∷ ks) = ap suc (kinds-length ks)
-
-many-kinds : (n m : ℕ) (s : Stop) → n ≡ m → IsFullAt n s → IsFullAt m s
-many-kinds n m s e f = subst (λ k. IsFullAt k s) e f
-
-pub instance-unmade : (ts : List Tree) (S : State) (c : Tree) (ks : List VarKind) (s : Stop) → kinds_listed ks ≡ bound_kinds c.children
-    → IsFullAt (length ks) s ⊎ IsFullAt S.newest_universe s ⊎ IsFullAt (length ts) s → IsInstanceStop ts S c s
-instance-unmade ts S c ks s e f = at f
-  where
-    at : IsFullAt (length ks) s ⊎ IsFullAt S.newest_universe s ⊎ IsFullAt (length ts) s → IsInstanceStop ts S c s
-    at (inl f) = of_kinds (many-kinds (length ks) (length (bound_kinds c.children)) s (sym (kinds-length ks) ∙ ap length e) f)
-    at (inr (inl f)) = of_universe f
-    at (inr (inr f)) = of_list f
-
 pub instance-stop : {A : Type 0} (ts : List Tree) (S : State) (c t : Tree) (r : Result A Stop) → t ≡ with_facts c (instantiated S c).1 → IfErr r (λ s. IsTreeStop ts t s) → IfErr r (λ s. IsInstanceStop ts S c s)
 instance-stop ts S c t r e f = cause-then (IsInstanceStop ts S c) (IsTreeStop ts t) r f (λ s k. of_instance (subst (λ u. IsTreeStop ts u s) e k))
 
