@@ -1,10 +1,9 @@
 -- Why goals that are pending aren't evaluated.
-use Rattle.std.proofs.Common.{◌≡◌, ◌⊎◌, inl, inr, ℕ, suc, ◌<◌, ◌+◌, List, [], ◌∷◌, ◌++◌, length, drop, slice_index_or, Option, Some, IfSome, Result, Ok, Err, refl, sym, ◌∙◌, ap, subst, arith}
+use Rattle.std.proofs.Common.{◌≡◌, inl, inr, ℕ, suc, ◌<◌, ◌+◌, ◌-◌, List, [], ◌∷◌, ◌++◌, length, drop, slice_index_or, Option, Some, IfSome, Result, Ok, Err, sym, ◌∙◌, ap, subst, arith}
 use Rattle.std.proofs.lemmas.List.{length-drop}
 use Rattle.std.specs.Prelude.{IfErr, IsErrAnd}
 use Rattle.std.specs.Option.{option_to_list}
 use Rattle.candidate_ir.specs.declared.ir.kinds.ProjectionPredicate.{ProjectionPredicate}
-use Rattle.candidate_ir.specs.declared.ir.kinds.VarKind.{VarKind}
 use Rattle.candidate_ir.specs.declared.ir.stop.Stop.{Stop}
 use Rattle.candidate_ir.specs.declared.ir.stop.Stop.TheVariants.{Memory}
 use Rattle.candidate_ir.specs.Context.{Context}
@@ -16,12 +15,10 @@ use Rattle.candidate_ir.specs.Words.{IsMkStop, kind_tree, ty_tree}
 use Rattle.candidate_eval.specs.declared.eval.certainty.Certainty.{Certainty}
 use Rattle.candidate_eval.specs.declared.eval.refusal.NoSolutionOrStop.{NoSolutionOrStop}
 use Rattle.candidate_eval.specs.declared.eval.refusal.NoSolutionOrStop.TheVariants as refusal
-use Rattle.candidate_eval.specs.Characterization.{bound_kinds}
-use Rattle.candidate_eval.specs.Evaluators.{IsGoal, kinds_listed, pending_of, pendings_of}
+use Rattle.candidate_eval.specs.Evaluators.{IsGoal, pending_of, pendings_of}
 use Rattle.candidate_eval.specs.States.{Pending, State, resolved_tree}
-use Rattle.candidate_rounds.specs.Inferences.{IsFullAt}
 use Rattle.candidate_rounds.specs.Known.{Each, Evaluator, GoesOn, IsGiven, listing, state}
-use Rattle.candidate_rounds.specs.Stopping.{IsTreeStop, IsEquationStop, IsInstanceStop, of_list, of_universe, of_kinds, of_instance, IsProjectionStop, of_equation, IsEvaluationStop, of_projection, IsGoalStop, goal_memory, of_evaluation, AreGoalsStop, this_goal, later_goal, IsPassStop, of_goals, IsSettlingStop, this_pass, later_pass, IsResponseStop, IsAnsweringStop, of_response}
+use Rattle.candidate_rounds.specs.Stopping.{IsTreeStop, IsEquationStop, IsInstanceStop, of_instance, IsProjectionStop, of_equation, IsEvaluationStop, of_projection, IsGoalStop, goal_memory, of_evaluation, AreGoalsStop, this_goal, later_goal, IsPassStop, of_goals, ArePassesStop, this_pass, later_pass, IsResponseStop, IsAnsweringStop, of_response}
 use Rattle.candidate_rounds.specs.Trying.{IsProjection, left_of, projection_of}
 use Rattle.rounds_judge.specs.Equating.{count_unbound}
 use Rattle.rounds_judge.specs.Listed.{Listing, listed}
@@ -74,23 +71,6 @@ type-stop a b t (Ok x) e c = tt
 type-stop a b t (Err s) e c = type-unmade a b t s e c
 
 -- An instance that isn't made.
-
-kinds-length : (ks : List VarKind) → length (kinds_listed ks) ≡ length ks
-kinds-length [] = refl
-kinds-length (k ∷ ks) = ap suc (kinds-length ks)
-
-many-kinds : (n m : ℕ) (s : Stop) → n ≡ m → IsFullAt n s → IsFullAt m s
-many-kinds n m s e f = subst (λ k. IsFullAt k s) e f
-
-pub instance-unmade : (ts : List Tree) (S : State) (c : Tree) (ks : List VarKind) (s : Stop) → kinds_listed ks ≡ bound_kinds c.children
-    → IsFullAt (length ks) s ⊎ IsFullAt S.newest_universe s ⊎ IsFullAt (length ts) s → IsInstanceStop ts S c s
-instance-unmade ts S c ks s e f = at f
-  where
-    at : IsFullAt (length ks) s ⊎ IsFullAt S.newest_universe s ⊎ IsFullAt (length ts) s → IsInstanceStop ts S c s
-    at (inl f) = of_kinds (many-kinds (length ks) (length (bound_kinds c.children)) s (sym (kinds-length ks) ∙ ap length e) f)
-    at (inr (inl f)) = of_universe f
-    at (inr (inr f)) = of_list f
-
 pub instance-stop : {A : Type 0} (ts : List Tree) (S : State) (c t : Tree) (r : Result A Stop) → t ≡ with_facts c (instantiated S c).1 → IfErr r (λ s. IsTreeStop ts t s) → IfErr r (λ s. IsInstanceStop ts S c s)
 instance-stop ts S c t r e f = cause-then (IsInstanceStop ts S c) (IsTreeStop ts t) r f (λ s k. of_instance (subst (λ u. IsTreeStop ts u s) e k))
 
@@ -184,21 +164,27 @@ growth-stops old now gs i staying a l ts = let n = length-drop i gs in a.stops t
 
 pub record PassesOn (old now : Evaluator) (most i : ℕ) : Type 0 where
   pub passes : PassesSoFar old now most i
-  pub stops : (ts : List Tree) (s : Stop) → IsSettlingStop ts (listing old) (state now) s → IsSettlingStop ts (listing old) (state old) s
+  pub stops : (ts : List Tree) (s : Stop) → ArePassesStop ts (listing old) s (most - i) (state now) → ArePassesStop ts (listing old) s most (state old)
 
 pub begin-passes : (old : Evaluator) (most : ℕ) → GoesOn old old → PassesOn old old most 0
-begin-passes old most g = record { passes = no-passes old most g; stops = λ ts s c. c }
+begin-passes old most g = record {
+  passes = no-passes old most g;
+  stops = λ ts s c. let n : most - 0 ≡ most = omega arith in subst (λ k. ArePassesStop ts (listing old) s k (state old)) n c;
+}
 
 module _ (old now : Evaluator) (most i : ℕ) (given : IsGiven old.context.trees old.normal old.opaques) (a : PassesOn old now most i) (l : i < most) where
-  pub pass-stops : (ts : List Tree) (s : Stop) → IsPassStop ts (listing now) (state now) s → IsSettlingStop ts (listing old) (state old) s
-  pass-stops ts s c = a.stops ts s (this_pass (subst (λ k. IsPassStop ts k (state now) s) (goes-listing old now a.passes.goes given) c))
+  stops-now : (ts : List Tree) (s : Stop) → ArePassesStop ts (listing old) s (suc (most - (i + 1))) (state now) → ArePassesStop ts (listing old) s most (state old)
+  stops-now ts s c = let n : suc (most - (i + 1)) ≡ most - i = omega (arith, l) in a.stops ts s (subst (λ k. ArePassesStop ts (listing old) s k (state now)) n c)
+
+  pub pass-stops : (ts : List Tree) (s : Stop) → IsPassStop ts (listing now) (state now) s → ArePassesStop ts (listing old) s most (state old)
+  pass-stops ts s c = stops-now ts s (this_pass (subst (λ k. IsPassStop ts k (state now) s) (goes-listing old now a.passes.goes given) c))
 
   pub one-more-settled : (new : Evaluator) → GoesOn now new → pass (listing now) (state now) ≡ Some (state new) → count_unbound (state new).variables < count_unbound (state now).variables → PassesOn old new most (i + 1)
-  one-more-settled new g p c = record {
-    passes = one-more-pass old now most i given a.passes l new g p c;
+  one-more-settled new g p fewer = record {
+    passes = one-more-pass old now most i given a.passes l new g p fewer;
     stops = λ ts s k.
         let p' : pass (listing old) (state now) ≡ Some (state new) = ap (λ m. pass m (state now)) (sym (goes-listing old now a.passes.goes given)) ∙ p in
-        a.stops ts s (later_pass p' k);
+        stops-now ts s (later_pass p' fewer k);
   }
 
 -- What is pending is evaluated, and then comes the response.

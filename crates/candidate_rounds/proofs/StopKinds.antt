@@ -17,7 +17,7 @@ use Rattle.rounds_judge.specs.Listed.{Listing}
 use Rattle.rounds_judge.specs.Scopes.{Scope}
 use Rattle.candidate_rounds.specs.Inferences.{IsFullAt}
 use Rattle.candidate_rounds.specs.Stopping as W
-use Rattle.candidate_rounds.specs.Stopping.{IsAnsweringStop, IsBindingStop, IsEquationStop, IsEvaluationStop, IsGoalStop, IsInstanceStop, IsLookStop, IsMatchStop, IsMeetingStop, IsNotingStop, IsOfferStop, IsPassStop, IsProjectionStop, IsRegionsStop, IsRenewalStop, IsRenumberingStop, IsResponseStop, IsSettlingStop, IsTreeStop, IsUnifyingStop, IsValueStop, AreGoalsStop, AreRenumberingStops}
+use Rattle.candidate_rounds.specs.Stopping.{IsAnsweringStop, IsBindingStop, IsEquationStop, IsEvaluationStop, IsGoalStop, IsInstanceStop, IsLookStop, IsMatchStop, IsMeetingStop, IsNotingStop, IsOfferStop, IsPassStop, IsProjectionStop, IsRegionsStop, IsRenewalStop, IsRenumberingStop, IsResponseStop, IsSettlingStop, IsTreeStop, IsUnifyingStop, IsValueStop, AreGoalsStop, ArePassesStop, AreRenumberingStops}
 
 full_making : {n : ℕ} {s : Stop} → IsFullAt n s → IsMakingStop s
 full_making (inl e) = subst IsMakingStop (sym e) tt
@@ -108,9 +108,12 @@ pass_making : {ts : List Tree} {l : Listing} {S : State} {s : Stop} → IsPassSt
 pass_making W.pass_memory = tt
 pass_making (W.of_goals k) = goals_making k
 
+passes_making : {ts : List Tree} {l : Listing} {s : Stop} {n : ℕ} {S : State} → ArePassesStop ts l s n S → IsMakingStop s
+passes_making (W.this_pass k) = pass_making k
+passes_making (W.later_pass v less k) = passes_making k
+
 settling_making : {ts : List Tree} {l : Listing} {S : State} {s : Stop} → IsSettlingStop ts l S s → IsMakingStop s
-settling_making (W.this_pass k) = pass_making k
-settling_making (W.later_pass v k) = settling_making k
+settling_making k = passes_making k
 
 -- Responses
 

@@ -1,6 +1,6 @@
 -- Why calls of an evaluator that works in rounds stop: a growth was refused, numbers ran out, or a tree would be higher than 1,024. A stop
 -- is said of what would have been made, at the state that the judge says is there then, and of the context's trees at the stop.
-use Rattle.std.specs.Prelude.{◌≡◌, ◌≢◌, ◌<◌, ◌≤◌, ℕ, length, Option, Some, None, List, [], ◌∷◌}
+use Rattle.std.specs.Prelude.{◌≡◌, ◌≢◌, ◌<◌, ◌≤◌, ℕ, suc, length, Option, Some, None, List, [], ◌∷◌}
 use Rattle.std.specs.List.{Contains}
 use Rattle.candidate_ir.specs.declared.ir.heads.Head.{Head}
 use Rattle.candidate_ir.specs.declared.ir.heads.Head.TheVariants as H
@@ -19,7 +19,7 @@ use Rattle.candidate_eval.specs.Characterization.{bound_kinds}
 use Rattle.candidate_eval.specs.Evaluators.{resolved_root}
 use Rattle.candidate_eval.specs.States.{State, Pending, resolved_tree, valued_tree, value_of}
 use Rattle.rounds_judge.specs.Binding.{single}
-use Rattle.rounds_judge.specs.Equating.{Pair, Left, outlives, value_for, visited}
+use Rattle.rounds_judge.specs.Equating.{Pair, Left, count_unbound, outlives, value_for, visited}
 use Rattle.rounds_judge.specs.Listed.{Listing, current, listed, normalized_tree}
 use Rattle.rounds_judge.specs.Responding.{constraints, open_numbers, renumbered, renumbered_tree, root_values}
 use Rattle.rounds_judge.specs.Scopes.{Scope, placed_tree}
@@ -142,10 +142,14 @@ pub data IsPassStop (ts : List Tree) (l : Listing) (S : State) : Stop → Type 0
   pass_memory : IsPassStop ts l S Memory
   of_goals : {s : Stop} → AreGoalsStop ts l s S S.pending → IsPassStop ts l S s
 
+-- Why what is pending wasn't evaluated so many times at most: one pass stopped, and each before it gave a variable a value.
+pub data ArePassesStop (ts : List Tree) (l : Listing) (s : Stop) : ℕ → State → Type 0 where
+  this_pass : {n : ℕ} {S : State} → IsPassStop ts l S s → ArePassesStop ts l s (suc n) S
+  later_pass : {n : ℕ} {S T : State} → pass l S ≡ Some T → count_unbound T.variables < count_unbound S.variables → ArePassesStop ts l s n T → ArePassesStop ts l s (suc n) S
+
 -- Why what is pending wasn't evaluated: one of the passes stopped.
-pub data IsSettlingStop (ts : List Tree) (l : Listing) : State → Stop → Type 0 where
-  this_pass : {S : State} {s : Stop} → IsPassStop ts l S s → IsSettlingStop ts l S s
-  later_pass : {S T : State} {s : Stop} → pass l S ≡ Some T → IsSettlingStop ts l T s → IsSettlingStop ts l S s
+abbrev pub IsSettlingStop : List Tree → Listing → State → Stop → Type 0
+IsSettlingStop ts l S s = ArePassesStop ts l s 8 S
 
 -- Responses.
 

@@ -13,7 +13,7 @@ ghost use Rattle.candidate_eval.specs.States.{added, with_pending};
 ghost use Rattle.rounds_judge.specs.Equating.{count_unbound};
 ghost use Rattle.candidate_rounds.specs.Known.{Each, GoesOn, KeepsGiven, listing, probes, state};
 ghost use Rattle.rounds_judge.specs.Settling.{certainty_of, instantiated, pass, passes, recorded, settled, tried, tried_all, with_facts};
-ghost use Rattle.candidate_rounds.specs.Stopping.{AreGoalsStop, IsEvaluationStop, IsGoalStop, IsInstanceStop, IsPassStop, IsProjectionStop, IsSettlingStop, IsTreeStop};
+ghost use Rattle.candidate_rounds.specs.Stopping.{AreGoalsStop, ArePassesStop, IsEvaluationStop, IsGoalStop, IsInstanceStop, IsPassStop, IsProjectionStop, IsSettlingStop, IsTreeStop};
 ghost use Rattle.candidate_rounds.specs.Trying.{Says, answered, evaluated_as, left_of, projection_of, second_if_bound, unbound_entries};
 
 use crate::rounds::Rounds;
@@ -334,7 +334,7 @@ impl Rounds {
         ensures goes { GoesOn self.old self.new }
         ensures ok { OnOk result (passes (listing self.old) most (state self.old) ≡ Some (state self.new)) }
         ensures refused { IfErr result (λ e. e ≡ NoSolutionOrStop.NoSolution → passes (listing self.old) most (state self.old) ≡ None) }
-        ensures cause { IfErr result (λ e. (s : Stop) → e ≡ NoSolutionOrStop.Stop s → IsSettlingStop self.new.context.trees (listing self.old) (state self.old) s) }
+        ensures cause { IfErr result (λ e. (s : Stop) → e ≡ NoSolutionOrStop.Stop s → ArePassesStop self.new.context.trees (listing self.old) s most (state self.old)) }
     {
         self.well_kept();
         for _pass in 0..most {

@@ -1,7 +1,7 @@
 use Rattle.std.proofs.Common.{sym, ◌∙◌, arith}
 use Rattle.std.proofs.lemmas.Result.{err_from_is_err_and}
 use Rattle.candidate_rounds.specs.Known.{state, listing}
-use Rattle.candidate_rounds.specs.Stopping.{IsPassStop, IsSettlingStop}
+use Rattle.candidate_rounds.specs.Stopping.{ArePassesStop, IsPassStop}
 use Rattle.candidate_rounds.proofs.Evaluating.{last-pass, passes-refused}
 use Rattle.candidate_rounds.proofs.SettlingStops.{one-more-settled, pass-stops, refusal-passed}
 use Rattle.candidate_rounds.proofs.rounds.Rounds.settle.Goals as goal
@@ -30,5 +30,5 @@ returns-in_err-settle_once-clause-cause c =
     let old = c.args.self.now in
     let now = c.loop-pass.self in
     let ts = c.settle_once.new.self.context.trees in
-    refusal-passed (IsSettlingStop ts (listing old) (state old)) (IsPassStop ts (listing now) (state now)) c.from_residual.result c.in_err-settle_once.field-0.0 c.from_residual.ensures.1 c.in_err-settle_once.ensures.cause
+    refusal-passed (λ s. ArePassesStop ts (listing old) s c.args.most (state old)) (IsPassStop ts (listing now) (state now)) c.from_residual.result c.in_err-settle_once.field-0.0 c.from_residual.ensures.1 c.in_err-settle_once.ensures.cause
     (λ s k. pass-stops old now c.args.most c.loop-pass._pass c.well_kept.ensures.given c.loop-pass.invariant c.loop-pass-test.true ts s k)
