@@ -16,6 +16,7 @@ use Rattle.rounds_judge.specs.Equating.{Pair, Visit, Done, Refused, Left, count_
 use Rattle.rounds_judge.specs.Listed.{Listing, current}
 use Rattle.rounds_judge.specs.Scopes.{Scope, entered, placed_tree, scope_below}
 use Rattle.candidate_ir.specs.Nodes.{tree_at}
+use Rattle.rounds_judge.proofs.Stepping.{met-onto, onto, visited-onto}
 use Rattle.candidate_rounds.specs.Known.{Evaluator, GoesOn, IsGiven, listing, state}
 use Rattle.candidate_rounds.specs.Stopping.{IsLookStop, IsMatchStop, IsMeetingStop, IsOfferStop, IsUnifyingStop, StopsAsBefore, at_once, later}
 use Rattle.candidate_rounds.proofs.Going.{goes-listing}
@@ -102,57 +103,10 @@ children-beyond (suc n) (tree g b q) h a r e = let l = children-beyond n q h a r
 
 -- Where more pairs stand at the end, what is left stops all the same.
 
-abbrev onto : List Pair → Visit → Visit
-onto es Done = Done
-onto es Refused = Refused
-onto es (Left T ps) = Left T (ps ++ es)
-
 module _ (S : State) (es : List Pair) where
-  taken-onto : (v : Variable) (t : Tree) (more : List Pair) → taken S v t (more ++ es) ≡ option_map (onto es) (taken S v t more)
-  taken-onto v t more = at (may_take S v t)
-    where
-      at : (b : Bool) → ◌≡◌ {A = Option Visit} (if b then Some (Left (bound S v t) (more ++ es)) else None) (option_map (onto es) (if b then Some (Left (bound S v t) more) else None))
-      at true = refl
-      at false = refl
-
-  offered-onto : (l : Listing) (us : Scope) (h : Head) (t : Tree) (more : List Pair) → offered l S us h t (more ++ es) ≡ option_map (onto es) (offered l S us h t more)
-  offered-onto l us (H.Infer v) t more = taken-onto v (value_for l S us t) more
-  offered-onto l us _ t more = refl
-
-  matched-onto : (us : Scope) (x y : Tree) (more : List Pair) → matched S us x y (more ++ es) ≡ onto es (matched S us x y more)
-  matched-onto us x y more =
-      at (with_equal_regions S (placed_tree us x) (placed_tree us y)) (entered S x.head x.children) (record { scope = scope_below S us x.head x.children; left = x.children; right = y.children })
-      (is_region x.head && is_region y.head) (same_head x.head y.head)
-    where
-      at : (R B : State) (p : Pair) (b c : Bool) → ◌≡◌ {A = Visit} (if b then Left R (more ++ es) else (if c then Left B (p ∷ (more ++ es)) else Refused)) (onto es (if b then Left R more else (if c then Left B (p ∷ more) else Refused)))
-      at R B p true c = refl
-      at R B p false true = refl
-      at R B p false false = refl
-
-  first-onto : (o q : Option Visit) (w : Visit) → first_of (option_map (onto es) o) (option_map (onto es) q) (onto es w) ≡ onto es (first_of o q w)
-  first-onto (Some v) q w = refl
-  first-onto None (Some v) w = refl
-  first-onto None None w = refl
-
-  met-onto : (l : Listing) (us : Scope) (x y : Tree) (more : List Pair) → met l S us x y (more ++ es) ≡ onto es (met l S us x y more)
-  met-onto l us x y more =
-      ap (λ o. first_of o (offered l S us y.head x (more ++ es)) (matched S us x y (more ++ es))) (offered-onto l us x.head y more)
-      ∙ (ap (λ o. first_of (option_map (onto es) (offered l S us x.head y more)) o (matched S us x y (more ++ es))) (offered-onto l us y.head x more)
-      ∙ (ap (λ w. first_of (option_map (onto es) (offered l S us x.head y more)) (option_map (onto es) (offered l S us y.head x more)) w) (matched-onto us x y more)
-      ∙ first-onto (offered l S us x.head y more) (offered l S us y.head x more) (matched S us x y more)))
-
-  visited-onto : (l : Listing) (p : Pair) (more : List Pair) → visited l S (p ∷ (more ++ es)) ≡ onto es (visited l S (p ∷ more))
-  visited-onto l p more = rows p.left p.right
-    where
-      rows : (a b : Forest) → visited l S (record { scope = p.scope; left = a; right = b } ∷ (more ++ es)) ≡ onto es (visited l S (record { scope = p.scope; left = a; right = b } ∷ more))
-      rows none none = refl
-      rows none (tree g b s) = refl
-      rows (tree h a r) none = refl
-      rows (tree h a r) (tree g b s) = met-onto l p.scope (current l S (record { head = h; children = a })) (current l S (record { head = g; children = b })) (record p { left = r; right = s } ∷ more)
-
   left-onto : (l : Listing) (T : State) (ps qs : List Pair) → visited l S ps ≡ Left T qs → visited l S (ps ++ es) ≡ Left T (qs ++ es)
   left-onto l T [] qs v = absurd cc
-  left-onto l T (p ∷ more) qs v = visited-onto l p more ∙ ap (onto es) v
+  left-onto l T (p ∷ more) qs v = visited-onto S es l p more ∙ ap (onto es) v
 
 pub stops-onto : (ts : List Tree) (l : Listing) (s : Stop) (S : State) (ps es : List Pair) → IsUnifyingStop ts l s S ps → IsUnifyingStop ts l s S (ps ++ es)
 stops-onto ts l s S ps es (at_once k) = at_once k

@@ -20,7 +20,7 @@ use Rattle.rounds_judge.proofs.Ending.{looked_enough, looks_some, unified_visit,
 
 -- Further pairs stay at the end.
 
-abbrev onto : List Pair → Visit → Visit
+abbrev pub onto : List Pair → Visit → Visit
 onto es Done = Done
 onto es Refused = Refused
 onto es (Left T ps) = Left T (ps ++ es)
@@ -52,14 +52,14 @@ module _ (S : State) (es : List Pair) where
   first-onto None (Some v) w = refl
   first-onto None None w = refl
 
-  met-onto : (l : Listing) (us : Scope) (x y : Tree) (more : List Pair) → met l S us x y (more ++ es) ≡ onto es (met l S us x y more)
+  pub met-onto : (l : Listing) (us : Scope) (x y : Tree) (more : List Pair) → met l S us x y (more ++ es) ≡ onto es (met l S us x y more)
   met-onto l us x y more =
       ap (λ o. first_of o (offered l S us y.head x (more ++ es)) (matched S us x y (more ++ es))) (offered-onto l us x.head y more)
       ∙ (ap (λ o. first_of (option_map (onto es) (offered l S us x.head y more)) o (matched S us x y (more ++ es))) (offered-onto l us y.head x more)
       ∙ (ap (λ w. first_of (option_map (onto es) (offered l S us x.head y more)) (option_map (onto es) (offered l S us y.head x more)) w) (matched-onto us x y more)
       ∙ first-onto (offered l S us x.head y more) (offered l S us y.head x more) (matched S us x y more)))
 
-  visited-onto : (l : Listing) (p : Pair) (more : List Pair) → visited l S (p ∷ (more ++ es)) ≡ onto es (visited l S (p ∷ more))
+  pub visited-onto : (l : Listing) (p : Pair) (more : List Pair) → visited l S (p ∷ (more ++ es)) ≡ onto es (visited l S (p ∷ more))
   visited-onto l p more = rows p.left p.right
     where
       rows : (a b : Forest) → visited l S (record { scope = p.scope; left = a; right = b } ∷ (more ++ es)) ≡ onto es (visited l S (record { scope = p.scope; left = a; right = b } ∷ more))
