@@ -1,10 +1,11 @@
 -- Why equations stop.
-use Rattle.std.proofs.Common.{◌≡◌, ℕ, zero, suc, ◌≤◌, ◌<◌, length, IsErrAnd, MatchOption, ◌&&◌, Bool, true, false, List, [], ◌∷◌, ◌++◌, Option, Some, None, Result, Ok, Err, IfErr, OnOk, refl, sym, ◌∙◌, ap, subst, arith, if◌then◌else◌}
+use Rattle.std.proofs.Common.{◌≡◌, ℕ, zero, suc, ◌≤◌, ◌<◌, length, reverse, ◌⊎◌, inl, inr, IsErrAnd, MatchOption, ◌&&◌, Bool, true, false, List, [], ◌∷◌, ◌++◌, Option, Some, None, Result, Ok, Err, IfErr, OnOk, refl, sym, ◌∙◌, ap, subst, arith, if◌then◌else◌}
 use Rattle.std.specs.Option.{option_map}
 use Rattle.candidate_ir.specs.declared.ir.heads.Head.{Head}
 use Rattle.candidate_ir.specs.declared.ir.heads.Head.TheVariants as H
 use Rattle.candidate_ir.specs.declared.ir.heads.Variable.{Variable}
 use Rattle.candidate_ir.specs.declared.ir.stop.Stop.{Stop}
+use Rattle.candidate_ir.specs.declared.ir.stop.Stop.TheVariants.{Memory}
 use Rattle.candidate_ir.specs.Substitutions.{alone}
 use Rattle.candidate_ir.specs.Trees.{Forest, none, tree, Tree, count, skip}
 use Rattle.candidate_ir.specs.Unify.{same_head}
@@ -14,11 +15,12 @@ use Rattle.candidate_eval.specs.Soundness.{is_region}
 use Rattle.rounds_judge.specs.Binding.{may_take, bound}
 use Rattle.rounds_judge.specs.Equating.{Pair, Visit, Done, Refused, Left, count_unbound, enough, first_of, looked, looks, matched, met, offered, size_of_pairs, taken, unified, value_for, visited, with_equal_regions}
 use Rattle.rounds_judge.specs.Listed.{Listing, current}
-use Rattle.rounds_judge.specs.Scopes.{Scope, entered, placed_tree, scope_below}
+use Rattle.rounds_judge.specs.Scopes.{Scope, entered, has_binder, has_variables, placed_tree, scope_below}
 use Rattle.candidate_ir.specs.Nodes.{tree_at}
 use Rattle.rounds_judge.proofs.Stepping.{met-onto, onto, visited-onto}
 use Rattle.candidate_rounds.specs.Known.{Evaluator, GoesOn, IsGiven, listing, state}
-use Rattle.candidate_rounds.specs.Stopping.{IsLookStop, IsMatchStop, IsMeetingStop, IsOfferStop, IsUnifyingStop, StopsAsBefore, at_once, later}
+use Rattle.candidate_rounds.specs.Inferences.{IsFullAt}
+use Rattle.candidate_rounds.specs.Stopping.{IsEqualityStop, IsLookStop, IsMatchStop, IsMeetingStop, IsOfferStop, IsUnifyingStop, StopsAsBefore, at_once, later, no_space, no_universe, of_equality}
 use Rattle.candidate_rounds.proofs.Going.{goes-listing}
 use Rattle.candidate_rounds.proofs.Visiting.{child-row, number-on}
 
@@ -40,6 +42,18 @@ pub each-stop : {A : Type 0} (P Q : Stop → Type 0) (r : Result A NoSolutionOrS
     → IfErr r (λ e. (s : Stop) → e ≡ NoSolutionOrStop.Stop s → Q s)
 each-stop P Q (Ok a) f k = tt
 each-stop P Q (Err e) f k = λ s n. f s (k s n)
+
+-- Why two trees don't match, said of the numbers that a call was given.
+
+pub regions-unmatched : (ts : List Tree) (S : State) (us vs : List ℕ) (x y r q : Tree) (s : Stop) → is_region x.head && is_region y.head ≡ true → vs ≡ us → r ≡ x → q ≡ y
+    → IsEqualityStop ts (reverse vs) r q s → IsMatchStop ts S (reverse us) x y s
+regions-unmatched ts S us vs x y r q s both e f g k =
+    of_equality both
+    (subst (λ (ws : List ℕ). IsEqualityStop ts (reverse ws) x y s) e (subst (λ t. IsEqualityStop ts (reverse vs) t y s) f (subst (λ t. IsEqualityStop ts (reverse vs) r t s) g k)))
+
+pub below-unmatched : (ts : List Tree) (S : State) (us : Scope) (x y : Tree) (s : Stop) → (s ≡ Memory) ⊎ ((has_binder x.head && has_variables x.children ≡ true) × IsFullAt S.newest_universe s) → IsMatchStop ts S us x y s
+below-unmatched ts S us x y s (inl e) = subst (IsMatchStop ts S us x y) (sym e) no_space
+below-unmatched ts S us x y s (inr k) = no_universe k.0 k.1
 
 -- Where nothing is left, both sides are equal.
 

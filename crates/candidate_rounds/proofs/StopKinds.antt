@@ -17,7 +17,7 @@ use Rattle.rounds_judge.specs.Listed.{Listing}
 use Rattle.rounds_judge.specs.Scopes.{Scope}
 use Rattle.candidate_rounds.specs.Inferences.{IsFullAt}
 use Rattle.candidate_rounds.specs.Stopping as W
-use Rattle.candidate_rounds.specs.Stopping.{IsAnsweringStop, IsBindingStop, IsEquationStop, IsEvaluationStop, IsGoalStop, IsInstanceStop, IsLookStop, IsMatchStop, IsMeetingStop, IsNotingStop, IsOfferStop, IsPassStop, IsProjectionStop, IsRegionsStop, IsRenewalStop, IsRenumberingStop, IsResponseStop, IsSettlingStop, IsTreeStop, IsUnifyingStop, IsValueStop, AreGoalsStop, ArePassesStop, AreRenumberingStops}
+use Rattle.candidate_rounds.specs.Stopping.{IsAnsweringStop, IsBindingStop, IsEqualityStop, IsEquationStop, IsEvaluationStop, IsGoalStop, IsInstanceStop, IsLookStop, IsMatchStop, IsMeetingStop, IsNotingStop, IsOfferStop, IsPassStop, IsProjectionStop, IsRegionsStop, IsRenewalStop, IsRenumberingStop, IsResponseStop, IsSettlingStop, IsTreeStop, IsUnifyingStop, IsValueStop, AreGoalsStop, ArePassesStop, AreRenumberingStops}
 
 full_making : {n : ℕ} {s : Stop} → IsFullAt n s → IsMakingStop s
 full_making (inl e) = subst IsMakingStop (sym e) tt
@@ -51,12 +51,15 @@ offer_making : {ts : List Tree} {l : Listing} {S : State} {us : Scope} {h : Head
 offer_making (W.of_offered v e k) = value_making k
 offer_making (W.of_taken v e k) = binding_making k
 
+equality_making : {ts : List Tree} {us : Scope} {x y : Tree} {s : Stop} → IsEqualityStop ts us x y s → IsMakingStop s
+equality_making (W.of_left_region k) = tree_making k
+equality_making (W.of_right_region k) = tree_making k
+equality_making (W.of_regions k) = regions_making k
+
 match_making : {ts : List Tree} {S : State} {us : Scope} {x y : Tree} {s : Stop} → IsMatchStop ts S us x y s → IsMakingStop s
 match_making W.no_space = tt
-match_making (W.of_left_region k) = tree_making k
-match_making (W.of_right_region k) = tree_making k
-match_making (W.of_regions k) = regions_making k
-match_making (W.no_universe k) = full_making k
+match_making (W.of_equality e k) = equality_making k
+match_making (W.no_universe e k) = full_making k
 
 meeting_making : {ts : List Tree} {l : Listing} {S : State} {us : Scope} {x y : Tree} {s : Stop} → IsMeetingStop ts l S us x y s → IsMakingStop s
 meeting_making (W.of_left_offer k) = offer_making k

@@ -1,6 +1,6 @@
 -- Why calls of an evaluator that works in rounds stop: a growth was refused, numbers ran out, or a tree would be higher than 1,024. A stop
 -- is said of what would have been made, at the state that the judge says is there then, and of the context's trees at the stop.
-use Rattle.std.specs.Prelude.{◌≡◌, ◌≢◌, ◌<◌, ◌≤◌, ℕ, suc, length, Option, Some, None, List, [], ◌∷◌}
+use Rattle.std.specs.Prelude.{◌≡◌, ◌≢◌, ◌<◌, ◌≤◌, ℕ, suc, length, true, ◌&&◌, Option, Some, None, List, [], ◌∷◌}
 use Rattle.std.specs.List.{Contains}
 use Rattle.candidate_ir.specs.declared.ir.heads.Head.{Head}
 use Rattle.candidate_ir.specs.declared.ir.heads.Head.TheVariants as H
@@ -17,12 +17,13 @@ use Rattle.candidate_ir.specs.Trees.{Forest, tree, Tree, count}
 use Rattle.candidate_eval.specs.declared.eval.certainty.Certainty.{Certainty}
 use Rattle.candidate_eval.specs.Characterization.{bound_kinds}
 use Rattle.candidate_eval.specs.Evaluators.{resolved_root}
+use Rattle.candidate_eval.specs.Soundness.{is_region}
 use Rattle.candidate_eval.specs.States.{State, Pending, resolved_tree, valued_tree, value_of}
 use Rattle.rounds_judge.specs.Binding.{single}
 use Rattle.rounds_judge.specs.Equating.{Pair, Left, count_unbound, outlives, value_for, visited}
 use Rattle.rounds_judge.specs.Listed.{Listing, current, listed, normalized_tree}
 use Rattle.rounds_judge.specs.Responding.{constraints, open_numbers, renumbered, renumbered_tree, root_values}
-use Rattle.rounds_judge.specs.Scopes.{Scope, placed_tree}
+use Rattle.rounds_judge.specs.Scopes.{Scope, has_binder, has_variables, placed_tree}
 use Rattle.rounds_judge.specs.Settling.{alias_of, instantiated, pass, settled, term_of, tried, with_facts}
 use Rattle.candidate_rounds.specs.Inferences.{IsFullAt}
 
@@ -66,14 +67,18 @@ pub data IsOfferStop (ts : List Tree) (l : Listing) (S : State) (us : Scope) (h 
   of_offered : (v : Variable) → h ≡ H.Infer v → IsValueStop ts l S us t s → IsOfferStop ts l S us h t s
   of_taken : (v : Variable) → h ≡ H.Infer v → IsBindingStop ts S v (value_for l S us t) s → IsOfferStop ts l S us h t s
 
--- Why two trees weren't matched under these binders: of two regions, what stands for one there wasn't made, or it wasn't recorded that
--- they are equal; of other trees, no universe was left for their binder.
+-- Why two regions weren't recorded as equal under these binders: what stands for one of them there wasn't made, or both weren't recorded.
+pub data IsEqualityStop (ts : List Tree) (us : Scope) (x y : Tree) (s : Stop) : Type 0 where
+  of_left_region : IsTreeStop ts (placed_tree us x) s → IsEqualityStop ts us x y s
+  of_right_region : IsTreeStop ts (placed_tree us y) s → IsEqualityStop ts us x y s
+  of_regions : IsRegionsStop ts (placed_tree us x) (placed_tree us y) s → IsEqualityStop ts us x y s
+
+-- Why two trees weren't matched under these binders: two regions weren't recorded as equal; or no universe was left for a binder, which
+-- has variables.
 pub data IsMatchStop (ts : List Tree) (S : State) (us : Scope) (x y : Tree) : Stop → Type 0 where
   no_space : IsMatchStop ts S us x y Memory
-  of_left_region : {s : Stop} → IsTreeStop ts (placed_tree us x) s → IsMatchStop ts S us x y s
-  of_right_region : {s : Stop} → IsTreeStop ts (placed_tree us y) s → IsMatchStop ts S us x y s
-  of_regions : {s : Stop} → IsRegionsStop ts (placed_tree us x) (placed_tree us y) s → IsMatchStop ts S us x y s
-  no_universe : {s : Stop} → IsFullAt S.newest_universe s → IsMatchStop ts S us x y s
+  of_equality : {s : Stop} → is_region x.head && is_region y.head ≡ true → IsEqualityStop ts us x y s → IsMatchStop ts S us x y s
+  no_universe : {s : Stop} → has_binder x.head && has_variables x.children ≡ true → IsFullAt S.newest_universe s → IsMatchStop ts S us x y s
 
 -- Why two trees, as they are at the state, weren't made equal under these binders: one was offered to the other, or both were matched.
 pub data IsMeetingStop (ts : List Tree) (l : Listing) (S : State) (us : Scope) (x y : Tree) (s : Stop) : Type 0 where

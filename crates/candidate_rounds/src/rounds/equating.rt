@@ -1,6 +1,6 @@
 //! Trees are made equal: what is first on both sides is looked at, and then what is left.
 
-ghost use Rattle.std.specs.Prelude.{◌≡◌, ◌≢◌, ◌<◌, Some, None, List, [], ◌∷◌, ◌++◌, IfOk, IfErr, OnOk, OnErr, MatchOption, length, reverse, suc, ◌&&◌, false, true};
+ghost use Rattle.std.specs.Prelude.{◌≡◌, ◌≢◌, ◌<◌, ◌⊎◌, Some, None, List, [], ◌∷◌, ◌++◌, IfOk, IfErr, OnOk, OnErr, MatchOption, length, reverse, suc, ◌&&◌, false, true};
 ghost use Rattle.candidate_ir.specs.Context.{Grows};
 ghost use Rattle.candidate_ir.specs.Folds.{IsArg, arg_tree};
 ghost use Rattle.candidate_ir.specs.Nodes.{tree_at};
@@ -15,9 +15,9 @@ ghost use Rattle.rounds_judge.specs.Equating.{Pair, Left, Refused, equated, look
 ghost use Rattle.candidate_rounds.specs.Frames.{AreFrames, IsFrame, pair_of, pairs_of, taken_if, with_binder};
 ghost use Rattle.candidate_rounds.specs.Inferences.{IsFullAt};
 ghost use Rattle.candidate_rounds.specs.Known.{GoesOn, listing, state};
-ghost use Rattle.candidate_rounds.specs.Stopping.{IsEquationStop, IsLookStop, IsMatchStop, IsMeetingStop, IsOfferStop, IsTreeStop, IsUnifyingStop, StopsAsBefore};
+ghost use Rattle.candidate_rounds.specs.Stopping.{IsEqualityStop, IsEquationStop, IsLookStop, IsMatchStop, IsMeetingStop, IsOfferStop, IsTreeStop, IsUnifyingStop, StopsAsBefore};
 ghost use Rattle.rounds_judge.specs.Listed.{current};
-ghost use Rattle.rounds_judge.specs.Scopes.{entered, has_variables, placed_tree, scope_below};
+ghost use Rattle.rounds_judge.specs.Scopes.{entered, has_binder, has_variables, placed_tree, scope_below};
 
 use crate::rounds::Rounds;
 use crate::rounds::resolving::variable_at;
@@ -134,7 +134,7 @@ impl Rounds {
         requires right { IsRegion self.old.context.trees right }
         ensures goes { GoesOn self.old self.new }
         ensures recorded { OnOk result (state self.new ≡ with_equal_regions (state self.old) (placed_tree (reverse universes.now) (region_tree self.old.context.trees left)) (placed_tree (reverse universes.now) (region_tree self.old.context.trees right))) }
-        ensures cause { IfErr result (λ s. IsMatchStop self.new.context.trees (state self.old) (reverse universes.now) (region_tree self.old.context.trees left) (region_tree self.old.context.trees right) s) }
+        ensures cause { IfErr result (λ s. IsEqualityStop self.new.context.trees (reverse universes.now) (region_tree self.old.context.trees left) (region_tree self.old.context.trees right) s) }
     {
         let left = self.placed_region(universes, left)?;
         let right = self.placed_region(universes, right)?;
@@ -160,7 +160,7 @@ impl Rounds {
         ensures context { self.new.context ≡ self.old.context }
         ensures entered { OnOk result (state self.new ≡ with_binder (has_variables (tree_at self.old.context.trees number).children) (state self.old)) }
         ensures universe { IfOk result (λ u. u ≡ (state self.new).newest_universe) }
-        ensures cause { IfErr result (λ s. IsFullAt (state self.old).newest_universe s) }
+        ensures cause { IfErr result (λ s. (has_variables (tree_at self.old.context.trees number).children ≡ true) × IsFullAt (state self.old).newest_universe s) }
     {
         if self.has_variables(number) {
             self.enter()?;
@@ -179,7 +179,7 @@ impl Rounds {
         ensures frames { OnOk result (AreFrames self.old.context.trees rest.new.universes.items rest.new.frames.items) }
         ensures state { OnOk result (state self.new ≡ entered (state self.old) (tree_at self.old.context.trees left).head (tree_at self.old.context.trees left).children) }
         ensures below { OnOk result (pairs_of self.old.context.trees rest.new.universes.items rest.new.frames.items ≡ record { scope = scope_below (state self.old) (reverse rest.old.universes.items) (tree_at self.old.context.trees left).head (tree_at self.old.context.trees left).children; left = (tree_at self.old.context.trees left).children; right = (tree_at self.old.context.trees right).children } ∷ pairs_of self.old.context.trees rest.old.universes.items rest.old.frames.items) }
-        ensures cause { IfErr result (λ s. IsFullAt (state self.old).newest_universe s) }
+        ensures cause { IfErr result (λ s. (s ≡ Stop.Memory) ⊎ ((has_binder (tree_at self.old.context.trees left).head && has_variables (tree_at self.old.context.trees left).children ≡ true) × IsFullAt (state self.old).newest_universe s)) }
     {
         if self.cx.head(left).binders() == 1 {
             let universe = self.enter_binder(left)?;

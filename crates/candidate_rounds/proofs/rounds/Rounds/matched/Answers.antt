@@ -5,8 +5,7 @@ use Rattle.candidate_rounds.specs.Frames.{pairs_of}
 use Rattle.candidate_rounds.specs.Known.{state}
 use Rattle.candidate_rounds.proofs.Framing.{frames-kept, pairs-kept}
 use Rattle.candidate_rounds.proofs.Offering.{regions-matched}
-use Rattle.candidate_rounds.specs.Stopping.{no_universe}
-use Rattle.candidate_rounds.proofs.EquatingStops.{question}
+use Rattle.candidate_rounds.proofs.EquatingStops.{below-unmatched, question, regions-unmatched}
 use Rattle.candidate_rounds.proofs.rounds.Rounds.matched.Goals as goal
 
 pub returns-in-Some-clause-frames : goal.returns-in-Some-clause-frames
@@ -25,5 +24,15 @@ returns-in-Some-clause-ok c =
     (pairs_of ts us fs) (pairs_of new.context.trees us fs) is.4 c.as_slice.ensures.value (ap (tree_at ts) is.0) (ap (tree_at ts) is.1)
     (pairs-kept ts new.context.trees us fs c.equal_regions.ensures.goes.0.kept c.requires.frames) c.in_ok-equal_regions.ensures.recorded
 
+pub returns-in_err-equal_regions-clause-cause : goal.returns-in_err-equal_regions-clause-cause
+returns-in_err-equal_regions-clause-cause c =
+    let old = c.args.self.now in
+    let ts = old.context.trees in
+    let is = c.in-Some.ensures in
+    question _ c.from_residual.result _ c.from_residual.ensures.1
+    (regions-unmatched c.equal_regions.new.self.context.trees (state old) c.args.rest.now.universes.items c.as_slice.result.now (tree_at ts c.args.left) (tree_at ts c.args.right) (region_tree ts c.in-Some.left)
+    (region_tree ts c.in-Some.right) _ is.4 c.as_slice.ensures.value (ap (tree_at ts) is.0) (ap (tree_at ts) is.1) c.in_err-equal_regions.ensures.cause)
+
 pub returns-in_err-enter_below-clause-cause : goal.returns-in_err-enter_below-clause-cause
-returns-in_err-enter_below-clause-cause c = question _ c.from_residual-in_err-enter_below.result _ c.from_residual-in_err-enter_below.ensures.1 (no_universe c.in_err-enter_below.ensures.cause)
+returns-in_err-enter_below-clause-cause c =
+    question _ c.from_residual-in_err-enter_below.result _ c.from_residual-in_err-enter_below.ensures.1 (below-unmatched _ _ _ _ _ _ c.in_err-enter_below.ensures.cause)
