@@ -1,21 +1,16 @@
 -- Why equations stop.
-use Rattle.std.proofs.Common.{◌≡◌, ℕ, zero, suc, ◌≤◌, ◌<◌, length, reverse, ◌⊎◌, inl, inr, IsErrAnd, MatchOption, ◌&&◌, Bool, true, false, List, [], ◌∷◌, ◌++◌, Option, Some, None, Result, Ok, Err, IfErr, OnOk, refl, sym, ◌∙◌, ap, subst, arith, if◌then◌else◌}
-use Rattle.std.specs.Option.{option_map}
+use Rattle.std.proofs.Common.{◌≡◌, ℕ, zero, suc, ◌≤◌, ◌<◌, length, reverse, ◌⊎◌, inl, inr, IsErrAnd, MatchOption, ◌&&◌, true, List, [], ◌∷◌, ◌++◌, Option, Some, Result, Ok, Err, IfErr, OnOk, refl, sym, ◌∙◌, ap, subst, arith}
 use Rattle.candidate_ir.specs.declared.ir.heads.Head.{Head}
-use Rattle.candidate_ir.specs.declared.ir.heads.Head.TheVariants as H
-use Rattle.candidate_ir.specs.declared.ir.heads.Variable.{Variable}
 use Rattle.candidate_ir.specs.declared.ir.stop.Stop.{Stop}
 use Rattle.candidate_ir.specs.declared.ir.stop.Stop.TheVariants.{Memory}
 use Rattle.candidate_ir.specs.Substitutions.{alone}
 use Rattle.candidate_ir.specs.Trees.{Forest, none, tree, Tree, count, skip}
-use Rattle.candidate_ir.specs.Unify.{same_head}
 use Rattle.candidate_eval.specs.declared.eval.refusal.NoSolutionOrStop.{NoSolutionOrStop}
 use Rattle.candidate_eval.specs.States.{State}
 use Rattle.candidate_eval.specs.Soundness.{is_region}
-use Rattle.rounds_judge.specs.Binding.{may_take, bound}
-use Rattle.rounds_judge.specs.Equating.{Pair, Visit, Done, Refused, Left, count_unbound, enough, first_of, looked, looks, matched, met, offered, size_of_pairs, taken, unified, value_for, visited, with_equal_regions}
+use Rattle.rounds_judge.specs.Equating.{Pair, Left, count_unbound, enough, looked, looks, met, size_of_pairs, unified, visited}
 use Rattle.rounds_judge.specs.Listed.{Listing, current}
-use Rattle.rounds_judge.specs.Scopes.{Scope, entered, has_binder, has_variables, placed_tree, scope_below}
+use Rattle.rounds_judge.specs.Scopes.{Scope, has_binder, has_variables}
 use Rattle.candidate_ir.specs.Nodes.{tree_at}
 use Rattle.rounds_judge.proofs.Stepping.{met-onto, onto, visited-onto}
 use Rattle.candidate_rounds.specs.Known.{Evaluator, GoesOn, IsGiven, listing, state}
