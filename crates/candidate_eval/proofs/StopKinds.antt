@@ -1,16 +1,20 @@
 -- Stops of what makes nodes.
-use Rattle.std.proofs.Common.{ℕ, inl, inr, List, Option, Result, Ok, Err, sym, subst}
+use Rattle.std.proofs.Common.{◌≡◌, ◌<◌, ◌≤◌, ℕ, zero, suc, List, Option, Result, Ok, Err, IsErrAnd, length, inl, inr, arith, sym, subst}
 use Rattle.std.specs.Prelude.{IfErr}
 use Rattle.std.specs.Fn.{Mut}
 use Rattle.std.specs.Borrow.{MutBor}
 use Rattle.candidate_ir.specs.declared.ir.kinds.GenericArg.{GenericArg}
 use Rattle.candidate_ir.specs.declared.ir.stop.Stop.{Stop}
+use Rattle.candidate_ir.specs.declared.ir.stop.Stop.TheVariants.{Memory, NodesFull}
 use Rattle.candidate_ir.specs.Context.{Context}
 use Rattle.candidate_ir.specs.Elaboration.{IsElaborationStop, IsInstanceStop, IsRenumberStop, SuperClauses}
+use Rattle.candidate_ir.specs.declared.ir.heads.Head.{Head}
+use Rattle.candidate_ir.specs.Nodes.{tree_at}
 use Rattle.candidate_ir.specs.Folding.{IsSubstStop}
 use Rattle.candidate_ir.specs.Folds.{Says, StopsBy, memory, refused, too_high, full, too_few, after, below_asked, below_passed, later}
-use Rattle.candidate_ir.specs.Trees.{Forest, Tree}
+use Rattle.candidate_ir.specs.Trees.{Forest, none, tree, Tree, count, skip}
 use Rattle.candidate_eval.specs.Evaluators.{IsMakingStop}
+use Rattle.candidate_eval.specs.Noting.{IsNotingStop}
 
 -- of trees with something put in, of instances, of elaborations
 
@@ -32,6 +36,11 @@ pub elaboration_making : (supers : SuperClauses) (start : List Tree) (given : �
 elaboration_making supers start given _ IsElaborationStop.no_memory = tt
 elaboration_making supers start given s (IsElaborationStop.unmade {u = u} i c) = instance_making given u s c
 
+-- of lists of what stands below nodes
+pub noting_making : (ts : List Tree) (s : Stop) → IsNotingStop ts s → IsMakingStop s
+noting_making ts _ IsNotingStop.refused_note = tt
+noting_making ts _ (IsNotingStop.at_wide_node w) = tt
+
 -- of folds by a closure that never stops
 module _ {M Rest F : Type 0} (context : M → Context) (others : M → Rest)
     (g : Mut F (MutBor M × (GenericArg × (ℕ × Unit {0}))) (Result (Option GenericArg) Stop × (MutBor M × Unit {0})))
@@ -50,3 +59,19 @@ module _ {M Rest F : Type 0} (context : M → Context) (others : M → Rest)
   pub fold-making : {A : Type 0} (s e : F × M) (d : ℕ) (ts : Forest) (r : Result A Stop) → IfErr r (λ x. StopsBy context others g s d ts x e) → IfErr r IsMakingStop
   fold-making s e d ts (Ok v) p = tt
   fold-making s e d ts (Err x) p = stops_making p
+
+-- a list that didn't grow
+pub growth_noted : {A : Type 0} (ts : List Tree) (r : Result A Stop) → IsErrAnd r (λ e. e ≡ Memory) → IfErr r (IsNotingStop ts)
+growth_noted ts (Ok v) k = tt
+growth_noted ts (Err e) k = subst (IsNotingStop ts) (sym k) IsNotingStop.refused_note
+
+-- Places below a node: one more is there than the place of a child; and where all that can be counted are children, the node is wide.
+
+pub child-beyond : (n : ℕ) (ts : Forest) (h : Head) (a r : Forest) → skip n ts ≡ tree h a r → suc n ≤ count ts
+child-beyond zero none h a r e = absurd cc
+child-beyond zero (tree g b q) h a r e = omega arith
+child-beyond (suc n) none h a r e = absurd cc
+child-beyond (suc n) (tree g b q) h a r e = let l = child-beyond n q h a r e in omega (arith, l)
+
+pub wide-node : (ts : List Tree) (n place : ℕ) → n < length ts → place ≤ count (tree_at ts n).children → 18446744073709551615 ≤ place → IsNotingStop ts NodesFull
+wide-node ts n place l f m = IsNotingStop.at_wide_node (record { number = n; inside = l; wide = omega (arith, f, m) })

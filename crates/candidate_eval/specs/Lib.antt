@@ -34,3 +34,4 @@ pub mod Exits
 pub mod Second
 pub mod Naming
 pub mod ObjectRules
+pub mod Noting

@@ -58,7 +58,7 @@ pub record AreAsked (J : Judge) (e : Env) (c : Context) (S : State) (i : ℕ) (r
   pub replaced : List Tree
   pub are_replaced : AreReplaced J e (first_tree (fresh_arguments S reference)) (own_bounds (first_tree (fresh_arguments S reference)) bounds) (with_instance S reference) required replaced T
   pub are : goals ≡ map (goal_in e) replaced
-  -- and as the data of a rule
+  -- and as the data of a rule, from the state to which its step for these fresh variables leads
   pub as_rule : IsAskedByRule J e (first_tree (fresh_arguments S reference)) (own_bounds (first_tree (fresh_arguments S reference)) bounds) (with_instance S reference) required replaced T
 
 -- Too little is known of one of the projections; the state then.
@@ -66,7 +66,7 @@ pub record AreUnknown (J : Judge) (e : Env) (c : Context) (S : State) (i : ℕ) 
   pub required : List Tree
   pub requirements : AreRequirements c i (fresh_arguments S reference) required
   pub stuck : AreStuck J e (first_tree (fresh_arguments S reference)) (own_bounds (first_tree (fresh_arguments S reference)) bounds) (with_instance S reference) required T
-  -- and as the data of a rule
+  -- and as the data of a rule, from the state to which its step for these fresh variables leads
   pub as_rule : IsUnknownByRule J e (first_tree (fresh_arguments S reference)) (own_bounds (first_tree (fresh_arguments S reference)) bounds) (with_instance S reference) required T
 
 -- Clauses as goals in an environment.

@@ -103,13 +103,6 @@ pub child-of : (us ts : List Tree) (n place : ℕ) (o : Option ℕ) (k : ℕ) �
 child-of us ts n place o k e f m =
     subst (λ ws. skip place (tree_at ws n).children ≡ tree (tree_at ws k).head (tree_at ws k).children (skip (suc place) (tree_at ws n).children)) e (child-row us n place o k f m)
 
--- So many trees and one more are below a node that has a child at the place.
-pub children-beyond : (n : ℕ) (ts : Forest) (h : Head) (a r : Forest) → skip n ts ≡ tree h a r → suc n ≤ count ts
-children-beyond zero none h a r e = absurd cc
-children-beyond zero (tree g b q) h a r e = omega arith
-children-beyond (suc n) none h a r e = absurd cc
-children-beyond (suc n) (tree g b q) h a r e = let l = children-beyond n q h a r e in omega (arith, l)
-
 -- Where more pairs stand at the end, what is left stops all the same.
 
 module _ (S : State) (es : List Pair) where

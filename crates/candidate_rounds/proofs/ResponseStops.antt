@@ -22,7 +22,8 @@ use Rattle.candidate_eval.specs.States.{State, resolved_tree, variable}
 use Rattle.candidate_rounds.specs.Gathered.{renumbered_at}
 use Rattle.candidate_rounds.specs.Inferences.{Inference, IsFullAt}
 use Rattle.candidate_rounds.specs.Known.{Each, IsKnown, info_of, state_of}
-use Rattle.candidate_rounds.specs.Stopping.{IsNotingStop, at_wide_node, IsRenumberingStop, too_many_open, of_made, IsNewNumberStop, AreRenumberingStops, of_one, IsResponseStop, too_many_variables, of_roots, of_constraint, of_values, of_renumbered, IsTreeStop}
+use Rattle.candidate_eval.specs.Noting.{IsNotingStop, at_wide_node}
+use Rattle.candidate_rounds.specs.Stopping.{IsRenumberingStop, too_many_open, of_made, IsNewNumberStop, AreRenumberingStops, of_one, IsResponseStop, too_many_variables, of_roots, of_constraint, of_values, of_renumbered, IsTreeStop}
 use Rattle.rounds_judge.specs.Responding.{constraints, open_numbers, place_of, renumbered, renumbered_tree, root_values, with_number, with_numbers, with_numbers_of}
 use Rattle.candidate_rounds.proofs.Anew.{variable-anew}
 use Rattle.candidate_rounds.proofs.Gathering.{each-index, state-later}
@@ -65,10 +66,6 @@ one-more-noted-below ts from ns ms new below place child a e m n = record {
       ∙ (ap (with_numbers ns) (sym e) ∙ a.noted)));
   fewer = one-more-child place below (tree_at ts child).head (tree_at ts child).children (skip (suc place) below) e;
 }
-
--- A node whose children can't be counted.
-pub wide-node : (ts : List Tree) (n place : ℕ) → n < length ts → place ≤ count (tree_at ts n).children → 18446744073709551615 ≤ place → IsNotingStop ts NodesFull
-wide-node ts n place l f m = at_wide_node (record { number = n; inside = l; wide = omega (arith, f, m) })
 
 -- What is made of nothing isn't made for want of numbers alone.
 full-stop : (given : ℕ) (made : Forest) (s : Stop) → IsFullAt given s → IsSubstStop given made s

@@ -11,13 +11,14 @@ use Rattle.candidate_eval.specs.declared.eval.refusal.NoSolutionOrStop.{NoSoluti
 use Rattle.candidate_eval.specs.declared.eval.refusal.NoSolutionOrStop.TheVariants as N
 use Rattle.candidate_eval.specs.Evaluators.{IsEvaluatorRefusal, IsEvaluatorStop, IsMakingStop}
 use Rattle.candidate_eval.specs.States.{State, Pending}
-use Rattle.candidate_eval.proofs.StopKinds.{subst_making}
+use Rattle.candidate_eval.specs.Noting.{IsNotingStop}
+use Rattle.candidate_eval.proofs.StopKinds.{noting_making, subst_making}
 use Rattle.rounds_judge.specs.Equating.{Pair}
 use Rattle.rounds_judge.specs.Listed.{Listing}
 use Rattle.rounds_judge.specs.Scopes.{Scope}
 use Rattle.candidate_rounds.specs.Inferences.{IsFullAt}
 use Rattle.candidate_rounds.specs.Stopping as W
-use Rattle.candidate_rounds.specs.Stopping.{IsAnsweringStop, IsBindingStop, IsEqualityStop, IsEquationStop, IsEvaluationStop, IsGoalStop, IsInstanceStop, IsLookStop, IsMatchStop, IsMeetingStop, IsNotingStop, IsOfferStop, IsPassStop, IsProjectionStop, IsRegionsStop, IsRenewalStop, IsRenumberingStop, IsResponseStop, IsSettlingStop, IsTreeStop, IsUnifyingStop, IsValueStop, AreGoalsStop, ArePassesStop, AreRenumberingStops}
+use Rattle.candidate_rounds.specs.Stopping.{IsAnsweringStop, IsBindingStop, IsEqualityStop, IsEquationStop, IsEvaluationStop, IsGoalStop, IsInstanceStop, IsLookStop, IsMatchStop, IsMeetingStop, IsOfferStop, IsPassStop, IsProjectionStop, IsRegionsStop, IsRenewalStop, IsRenumberingStop, IsResponseStop, IsSettlingStop, IsTreeStop, IsUnifyingStop, IsValueStop, AreGoalsStop, ArePassesStop, AreRenumberingStops}
 
 full_making : {n : ℕ} {s : Stop} → IsFullAt n s → IsMakingStop s
 full_making (inl e) = subst IsMakingStop (sym e) tt
@@ -120,10 +121,6 @@ settling_making k = passes_making k
 
 -- Responses
 
-noting_making : {ts : List Tree} {s : Stop} → IsNotingStop ts s → IsMakingStop s
-noting_making W.refused_note = tt
-noting_making (W.at_wide_node w) = tt
-
 renumbering_making : {many given : ℕ} {made : Forest} {s : Stop} → IsRenumberingStop many given made s → IsMakingStop s
 renumbering_making (W.too_many_open l) = tt
 renumbering_making (W.of_made k) = tree_making k
@@ -138,7 +135,7 @@ response_making (W.full_table k) = full_making k
 response_making (W.too_many_variables l) = tt
 response_making (W.of_roots k) = tree_making k
 response_making (W.of_constraint c i k) = tree_making k
-response_making (W.of_noting k) = noting_making k
+response_making {ts} {S} {s} (W.of_noting k) = noting_making ts s k
 response_making (W.of_values k) = renumbering_making k
 response_making (W.of_renumbered k) = renumberings_making k
 

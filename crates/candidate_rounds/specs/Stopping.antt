@@ -17,6 +17,7 @@ use Rattle.candidate_ir.specs.Trees.{Forest, tree, Tree, count}
 use Rattle.candidate_eval.specs.declared.eval.certainty.Certainty.{Certainty}
 use Rattle.candidate_eval.specs.Characterization.{bound_kinds}
 use Rattle.candidate_eval.specs.Evaluators.{resolved_root}
+use Rattle.candidate_eval.specs.Noting.{HasWideNode, IsNotingStop}
 use Rattle.candidate_eval.specs.Soundness.{is_region}
 use Rattle.candidate_eval.specs.States.{State, Pending, resolved_tree, valued_tree, value_of}
 use Rattle.rounds_judge.specs.Binding.{single}
@@ -30,12 +31,6 @@ use Rattle.candidate_rounds.specs.Inferences.{IsFullAt}
 -- Why a tree wasn't made.
 abbrev pub IsTreeStop : List Tree → Tree → Stop → Type 0
 IsTreeStop ts t s = IsSubstStop (length ts) (alone t) s
-
--- A node of the context has 2^64 - 1 children or more: they can't be counted.
-pub record HasWideNode (ts : List Tree) : Type 0 where
-  pub number : ℕ
-  pub inside : number < length ts
-  pub wide : 18446744073709551615 ≤ count (tree_at ts number).children
 
 -- Why the value for a variable that meets the tree wasn't made: with all values put in, then with listed types in the place of their
 -- aliases, then with placeholders.
@@ -157,11 +152,6 @@ abbrev pub IsSettlingStop : List Tree → Listing → State → Stop → Type 0
 IsSettlingStop ts l S s = ArePassesStop ts l s 8 S
 
 -- Responses.
-
--- Why the variables in trees of the context weren't noted.
-pub data IsNotingStop (ts : List Tree) : Stop → Type 0 where
-  refused_note : IsNotingStop ts Memory
-  at_wide_node : HasWideNode ts → IsNotingStop ts NodesFull
 
 -- Why variables weren't numbered anew, where so many are noted and so many numbers of nodes are given: there are more variables than
 -- numbers, or the trees weren't made that were to come.

@@ -10,6 +10,7 @@ ghost use Rattle.candidate_ir.specs.Trees.{TypeKind};
 ghost use Rattle.candidate_ir.specs.WellFormed.{TypesFit};
 ghost use Rattle.candidate_ir.specs.Words.{IsArgs, IsClause, IsParamEnv, IsTy, ClauseListFits, args_forest, clause_tree, env_forest, ty_tree};
 ghost use Rattle.candidate_eval.specs.Evaluators.{IsMakingStop, Keeps};
+ghost use Rattle.candidate_eval.specs.Noting.{IsNotingStop};
 ghost use Rattle.candidate_eval.specs.Objects.{is_about, projection_at, IsObjectError};
 ghost use Rattle.candidate_eval.specs.Replacing.{alias_in, any_is_about, answered, item_of, left_by, starts_with, projections, filled_clause, Picks, IsStuck, IsReplaced, AreReplaced, AreStuck, AreProjections, projections_at, clauses_at, types_at, finds_own};
 
@@ -145,7 +146,7 @@ fn push_projections(
     requires number { number < length cx.now.trees }
     ensures sort { IfOk result (λ _. AreProjections cx.now.trees found.new.items) }
     ensures projections { IfOk result (λ _. projections_at cx.now.trees found.new.items ≡ projections_at cx.now.trees found.old.items ++ projections (finds_own cx.now.trees object bounds.now) (tree_at cx.now.trees number).children) }
-    ensures cause { IfErr result IsMakingStop }
+    ensures cause { IfErr result (λ s. IsNotingStop cx.now.trees s) }
 {
     for place in 0..usize::MAX {
         let Some(child) = cx.child(number, place) else {
@@ -172,7 +173,7 @@ fn own_projections(
     requires clause { IsClause cx.now.trees clause }
     ensures sort { IfOk result (λ v. AreProjections cx.now.trees v.items) }
     ensures projections { IfOk result (λ v. projections_at cx.now.trees v.items ≡ projections (finds_own cx.now.trees object bounds.now) (clause_tree cx.now.trees clause).children) }
-    ensures cause { IfErr result IsMakingStop }
+    ensures cause { IfErr result (λ s. IsNotingStop cx.now.trees s) }
 {
     let mut found = Vec::new(alloc);
     push_projections(cx, object, bounds, &mut found, clause.0)?;

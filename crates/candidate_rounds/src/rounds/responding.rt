@@ -14,7 +14,8 @@ ghost use Rattle.candidate_eval.specs.declared.eval.mode.TypingMode.{TypingMode}
 ghost use Rattle.candidate_rounds.specs.Gathered.{open_entry, renumbered_at, root_at};
 ghost use Rattle.candidate_rounds.specs.Inferences.{IsFullAt};
 ghost use Rattle.candidate_rounds.specs.Known.{Each, GoesOn, IsKnown, KeepsGiven, SuitsKind, listing, probes, state, state_of};
-ghost use Rattle.candidate_rounds.specs.Stopping.{AreRenumberingStops, IsAnsweringStop, IsNewNumberStop, IsNotingStop, IsRenumberingStop, IsResponseStop};
+ghost use Rattle.candidate_eval.specs.Noting.{IsNotingStop};
+ghost use Rattle.candidate_rounds.specs.Stopping.{AreRenumberingStops, IsAnsweringStop, IsNewNumberStop, IsRenumberingStop, IsResponseStop};
 ghost use Rattle.rounds_judge.specs.Responding.{constraints, is_seen, place_of, renumbered, renumbered_tree, responded, response, root_values, with_number, with_numbers, with_numbers_of};
 ghost use Rattle.rounds_judge.specs.Settling.{settled};
 

@@ -1,6 +1,6 @@
-use Rattle.std.proofs.Common.{◌≡◌, ◌++◌}
+use Rattle.std.proofs.Common.{◌≡◌, ◌≤◌, ◌++◌}
 use Rattle.candidate_ir.specs.Nodes.{tree_at}
-use Rattle.candidate_ir.specs.Trees.{skip}
+use Rattle.candidate_ir.specs.Trees.{count, skip}
 use Rattle.candidate_eval.specs.Replacing.{AreProjections, finds_own, projections, projections_at}
 use Rattle.candidate_eval.proofs.structural.replacing.+push_projections.Given as goal
 
@@ -13,4 +13,4 @@ invariant-loop-place l =
     let ts = l.cx.trees in
     let below = (tree_at ts l.number).children in
     let f = finds_own ts l.fn.object l.fn.bounds in
-    AreProjections ts l.found.items × (projections_at ts l.fn.found.items ++ projections f below ≡ projections_at ts l.found.items ++ projections f (skip l.place below))
+    (l.place ≤ count below) × AreProjections ts l.found.items × (projections_at ts l.fn.found.items ++ projections f below ≡ projections_at ts l.found.items ++ projections f (skip l.place below))

@@ -6,8 +6,10 @@ use Rattle.candidate_rounds.specs.Frames.{pair_of, pairs_of, scope_of}
 use Rattle.candidate_rounds.specs.Known.{Evaluator, listing, state}
 use Rattle.rounds_judge.specs.Listed.{current}
 use Rattle.candidate_rounds.proofs.Visiting.{child-row, frame-scope, met-same, next-pairs, ok-from, refused-from, rows-begin}
-use Rattle.candidate_rounds.proofs.EquatingStops.{question, child-of, children-beyond, each-stop, look-stops}
-use Rattle.candidate_rounds.specs.Stopping.{IsLookStop, IsUnifyingStop, refused_growth, wide_node, HasWideNode}
+use Rattle.candidate_eval.proofs.StopKinds.{child-beyond}
+use Rattle.candidate_rounds.proofs.EquatingStops.{question, child-of, each-stop, look-stops}
+use Rattle.candidate_eval.specs.Noting.{HasWideNode}
+use Rattle.candidate_rounds.specs.Stopping.{IsLookStop, IsUnifyingStop, refused_growth, wide_node}
 use Rattle.candidate_ir.specs.declared.ir.stop.Stop.TheVariants.{NodesFull}
 use Rattle.candidate_rounds.proofs.rounds.Rounds.visit.Goals as goal
 
@@ -56,7 +58,7 @@ returns-in_default-checked_add-clause-cause c = λ s n.
     let left = child-of i.cx.trees ts f.left f.place c.child_at-left.result c.in-Some-Some.left same c.in-Some-Some.is-0 c.child_at-left.ensures in
     let right = child-of i.cx.trees ts f.right f.place c.child_at-right.result c.in-Some-Some.right same c.in-Some-Some.is-1 c.child_at-right.ensures in
     let far : 18446744073709551615 ≤ f.place = omega (arith, c.in_default-checked_add.ensures) in
-    let many = children-beyond f.place (tree_at ts f.left).children _ _ _ left in
+    let many = child-beyond f.place (tree_at ts f.left).children _ _ _ left in
     let wide : HasWideNode ts = record { number = f.left; inside = c.requires.frame.0; wide = omega (arith, far, many) } in
     let full : NodesFull ≡ s = cc in
     subst (λ z. IsUnifyingStop ts (listing c.args.self.now) z (state c.args.self.now) (pair_of ts c.args.rest.now.universes.items f ∷ pairs_of ts c.args.rest.now.universes.items c.args.rest.now.frames.items)) full

@@ -1,5 +1,5 @@
 use Rattle.candidate_ir.proofs.Asking.{arg-below}
-use Rattle.candidate_rounds.specs.Stopping.{IsNotingStop, refused_note}
+use Rattle.candidate_eval.specs.Noting.{IsNotingStop, refused_note}
 use Rattle.candidate_rounds.proofs.ResponseStops.{passed-growth, refused-growth}
 use Rattle.candidate_rounds.proofs.rounds.responding.note_arg.Goals as goal
 

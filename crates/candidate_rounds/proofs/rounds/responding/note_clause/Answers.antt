@@ -1,7 +1,7 @@
 use Rattle.std.proofs.Common.{refl}
 use Rattle.candidate_ir.specs.Trees.{ClauseKind}
 use Rattle.candidate_ir.proofs.Lists.{below_kind}
-use Rattle.candidate_rounds.specs.Stopping.{IsNotingStop, refused_note}
+use Rattle.candidate_eval.specs.Noting.{IsNotingStop, refused_note}
 use Rattle.candidate_rounds.proofs.ResponseStops.{passed-growth}
 use Rattle.candidate_rounds.proofs.rounds.responding.note_clause.Goals as goal
 
