@@ -1,10 +1,9 @@
 -- Why equations stop.
 use Rattle.std.proofs.Common.{◌≡◌, ℕ, zero, suc, ◌≤◌, ◌<◌, length, reverse, ◌⊎◌, inl, inr, IsErrAnd, MatchOption, ◌&&◌, true, List, [], ◌∷◌, ◌++◌, Option, Some, Result, Ok, Err, IfErr, OnOk, refl, sym, ◌∙◌, ap, subst, arith}
-use Rattle.candidate_ir.specs.declared.ir.heads.Head.{Head}
 use Rattle.candidate_ir.specs.declared.ir.stop.Stop.{Stop}
 use Rattle.candidate_ir.specs.declared.ir.stop.Stop.TheVariants.{Memory}
 use Rattle.candidate_ir.specs.Substitutions.{alone}
-use Rattle.candidate_ir.specs.Trees.{Forest, none, tree, Tree, count, skip}
+use Rattle.candidate_ir.specs.Trees.{Forest, none, tree, Tree, skip}
 use Rattle.candidate_eval.specs.declared.eval.refusal.NoSolutionOrStop.{NoSolutionOrStop}
 use Rattle.candidate_eval.specs.States.{State}
 use Rattle.candidate_eval.specs.Soundness.{is_region}

@@ -22,7 +22,6 @@ use Rattle.candidate_eval.specs.States.{State, resolved_tree, variable}
 use Rattle.candidate_rounds.specs.Gathered.{renumbered_at}
 use Rattle.candidate_rounds.specs.Inferences.{Inference, IsFullAt}
 use Rattle.candidate_rounds.specs.Known.{Each, IsKnown, info_of, state_of}
-use Rattle.candidate_eval.specs.Noting.{IsNotingStop, at_wide_node}
 use Rattle.candidate_rounds.specs.Stopping.{IsRenumberingStop, too_many_open, of_made, IsNewNumberStop, AreRenumberingStops, of_one, IsResponseStop, too_many_variables, of_roots, of_constraint, of_values, of_renumbered, IsTreeStop}
 use Rattle.rounds_judge.specs.Responding.{constraints, open_numbers, place_of, renumbered, renumbered_tree, root_values, with_number, with_numbers, with_numbers_of}
 use Rattle.candidate_rounds.proofs.Anew.{variable-anew}

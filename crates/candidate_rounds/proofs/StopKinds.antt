@@ -11,7 +11,6 @@ use Rattle.candidate_eval.specs.declared.eval.refusal.NoSolutionOrStop.{NoSoluti
 use Rattle.candidate_eval.specs.declared.eval.refusal.NoSolutionOrStop.TheVariants as N
 use Rattle.candidate_eval.specs.Evaluators.{IsEvaluatorRefusal, IsEvaluatorStop, IsMakingStop}
 use Rattle.candidate_eval.specs.States.{State, Pending}
-use Rattle.candidate_eval.specs.Noting.{IsNotingStop}
 use Rattle.candidate_eval.proofs.StopKinds.{noting_making, subst_making}
 use Rattle.rounds_judge.specs.Equating.{Pair}
 use Rattle.rounds_judge.specs.Listed.{Listing}
