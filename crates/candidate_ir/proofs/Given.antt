@@ -77,6 +77,7 @@ option-fits ts o (Some t) e = type-kind (kind_at ts t.0) (first-given ts (held_t
 -- What a definition holds
 
 definition_at : (c : Context) → IsWellFormedTable c → (n : ℕ) (d : Declaration) → slice_get c.declarations n ≡ Some d → AreGiven c (definition_held c.contents n d.kind)
+unfolding IsWellFormedTable
 definition_at c t n d e =
     let all = any-of (is_not_given c.trees) (definitions_held c.contents 0 c.declarations) (impls_held 0 c.contents.impls) t.given in
     definition-passes (is_not_given c.trees) c.contents 0 c.declarations n n d all e (omega arith)
@@ -173,6 +174,7 @@ impl-fits c (i ∷ is) (suc n) x f e = impl-fits c is n x f.1 e
 
 -- what it holds is there, and its header has the arguments that it takes
 pub impl_given : (c : Context) → IsWellFormedTable c → (n : ImplId) → IfSome (impl_at c n) (λ x. AreGiven c (impl_held n.0 x) × HeaderFits c x.trait_ref)
+unfolding IsWellFormedTable
 impl_given c t n = of (impl_at c n) refl
   where
     of : (o : Option Impl) → impl_at c n ≡ o → IfSome o (λ x. AreGiven c (impl_held n.0 x) × HeaderFits c x.trait_ref)

@@ -8,6 +8,8 @@ use Rattle.candidate_ir.specs.Trees.{Tree, TypeKind, ArgumentsKind, PredicatesKi
 use Rattle.candidate_ir.specs.Nodes.{tree_at, kind_at, Extends}
 use Rattle.candidate_ir.specs.Context.{Context, Grows, world}
 use Rattle.candidate_ir.specs.Words.{IsTy, IsArgs, IsPreds, ty_tree, args_forest, preds_forest}
+use Rattle.candidate_ir.specs.declared.ir.kinds.TraitRef.{TraitRef}
+use Rattle.candidate_ir.specs.References.{ArgumentsFit}
 use Rattle.candidate_ir.proofs.Lists.{below_kind, kind_at-append, tree_at-append}
 
 pub number-kept : (old new : List Tree) (n : ℕ) → Extends old new → n < length old
@@ -49,3 +51,10 @@ grows-trans a b c g h = record {
 
 pub world-kept : (old new : Context) → Grows old new → (world new ≡ world old) × (new.local ≡ old.local)
 world-kept old new g = (ap world g.same, ap (λ (c : Context). c.local) g.same)
+
+-- the arguments of a reference still fit its trait
+pub header-kept : (old new : Context) (r : TraitRef) → Grows old new → IsArgs old.trees r.args → ArgumentsFit old r → ArgumentsFit new r
+header-kept old new r g a f =
+    let w = (world-kept old new g).0 in
+    let args = (args-kept old new r.args g a).1 in
+    rw (w, args) f

@@ -47,6 +47,7 @@ pub mod MayUnify
 pub mod UnifyCases
 pub mod Rebuild
 pub mod Asking
+mod Bound
 pub mod Folds
 pub mod FoldRows
 pub mod FoldSteps

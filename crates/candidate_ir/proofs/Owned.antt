@@ -16,7 +16,7 @@ use Rattle.std.proofs.lemmas.Bool.{lt-ltb}
 use Rattle.candidate_ir.specs.Misplaced.{is_misplaced, parameter_misplaced}
 use Rattle.std.specs.Prelude.{◌≤◌, length, get_or, ◌==◌, if◌then◌else◌, option_map, IfSome}
 use Rattle.std.specs.List.{list_any}
-use Rattle.std.proofs.lemmas.Option.{slice_get-map, slice_get_past}
+use Rattle.std.proofs.lemmas.Option.{slice_get-map, slice_get_past, slice_get_within, get_or_from_slice_get}
 use Rattle.candidate_ir.specs.declared.ir.kinds.Clause.{Clause}
 use Rattle.candidate_ir.specs.declared.ir.kinds.Ty.{Ty}
 use Rattle.candidate_ir.specs.declared.ir.kinds.TraitRef.{TraitRef}
@@ -47,10 +47,13 @@ use Rattle.candidate_ir.specs.Misplaced.{held_misplaces, tree_misplaces, kinds_o
 use Rattle.candidate_ir.specs.Faults.{all_that_is_held}
 use Rattle.candidate_ir.specs.References.{ArgumentsFit}
 use Rattle.candidate_ir.specs.WellFormed.{IsWellFormedTable, TypesFit}
-use Rattle.candidate_ir.specs.Words.{IsTy, args_forest, clause_tree, ty_tree}
+use Rattle.candidate_ir.specs.Words.{IsTy, IsClause, ClauseListFits, args_forest, clause_tree, ty_tree}
+use Rattle.candidate_ir.specs.Supers.{supers_at}
 use Rattle.candidate_ir.specs.Nodes.{tree_at}
 use Rattle.candidate_ir.proofs.WellFormed.{any-of, any-right, definition-passes}
 use Rattle.candidate_ir.proofs.Folding.{or-left, or-right}
+use Rattle.candidate_ir.proofs.Listing.{listed_clause}
+use Rattle.candidate_ir.proofs.Walking.{all_supers_fit}
 
 -- there is an argument for each parameter, of its kind
 argument-there : (args : Forest) (ks : List VarKind) (i : ℕ) (k : VarKind) → kinds_of args ≡ map parameter_kind ks → slice_get ks i ≡ Some k
@@ -131,9 +134,11 @@ abbrev NoneMisplaced : Misplaced → Context → Type 0
 NoneMisplaced m c = list_any (held_misplaces m c.trees c.declarations c.contents.impls) (all_that_is_held c) ≡ false
 
 none-past-them : (c : Context) → IsWellFormedTable c → NoneMisplaced M.Past c
+unfolding IsWellFormedTable
 none-past-them c t = or-right _ _ (or-right _ _ t.parameters)
 
 none-stray : (c : Context) → IsWellFormedTable c → NoneMisplaced M.Stray c
+unfolding IsWellFormedTable
 none-stray c t = or-left _ _ t.kinds
 
 pub super_has_arguments : (c : Context) → IsWellFormedTable c → length c.contents.traits ≤ no_place → (r : TraitRef) → ArgumentsFit c r → (a : TraitContents)
@@ -180,6 +185,26 @@ super_has_arguments c t l r f a s k x b e = of (slice_get c.declarations r.def_i
     of : (o : Option Declaration) → slice_get c.declarations n ≡ o → Goal
     of None q = none-past 0 (sym (ap (λ (y : Option Declaration). slice_get c.contents.traits (place_of trait_place y)) q) ∙ s)
     of (Some d) q = kinds d q d.kind refl (sym (ap (λ (y : Option Declaration). slice_get c.contents.traits (place_of trait_place y)) q) ∙ s)
+
+-- the super clause in that place, if there is one
+pub super_clause_fits : (c : Context) → IsWellFormedTable c → length c.contents.traits ≤ no_place → (r : TraitRef) → ArgumentsFit c r → (k : ℕ)
+    → IfSome (slice_get (supers_at (trait_at c r.def_id.0)) k) (λ x. IsClause c.trees x × (tree_holds (lacks_argument (args_forest c.trees r.args)) (clause_tree c.trees x) ≡ false))
+super_clause_fits c t l r f k = of (trait_at c r.def_id.0) refl
+  where
+    Fits : Clause → Type 0
+    Fits x = IsClause c.trees x × (tree_holds (lacks_argument (args_forest c.trees r.args)) (clause_tree c.trees x) ≡ false)
+
+    there : (a : TraitContents) → trait_at c r.def_id.0 ≡ Some a → (o : Option Clause) → slice_get a.supers k ≡ o → IfSome o Fits
+    there a s None e = tt
+    there a s (Some x) e =
+        let fit : ClauseListFits c.trees a.supers = subst (λ (o : Option TraitContents). ClauseListFits c.trees (supers_at o)) s (all_supers_fit c t l r.def_id.0) in
+        let low = slice_get_within a.supers k x e in
+        let is = sym (get_or_from_slice_get a.supers k x x e) in
+        (listed_clause c.trees a.supers k x fit low is, super_has_arguments c t l r f a s k x low is)
+
+    of : (o : Option TraitContents) → trait_at c r.def_id.0 ≡ o → IfSome (slice_get (supers_at o) k) Fits
+    of None e = tt
+    of (Some a) e = there a e (slice_get a.supers k) refl
 
 -- What a definition holds has an argument for each parameter, among arguments of the kinds of its parameters.
 

@@ -60,6 +60,7 @@ ranked_clauses c l a = record { lower = lower }
 
 -- Over finished declarations every list of clauses has its elaboration.
 pub elaborated : (c : Context) → IsWellFormedTable c → length c.contents.traits ≤ no_place → (ts : List Tree) → (all : List Tree) × IsElaboration c ts all
+unfolding IsWellFormedTable
 elaborated c t l ts =
     let e = has_elaboration (super_clauses c) t.supertraits.rank (ranked_clauses c l t.supertraits) [] (unlisted [] ts) in
     (e.all, e.elaborates)

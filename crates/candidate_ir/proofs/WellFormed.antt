@@ -2,6 +2,7 @@
 use Rattle.std.proofs.Common.{◌≡◌, ℕ, zero, suc, ◌+◌, ◌≤◌, List, [], ◌∷◌, ◌++◌, length, take, drop, Bool, false, Option, Some, None, refl, sym, ◌∙◌, ap, subst, arith}
 use Rattle.std.specs.Prelude.{not, ◌||◌, map, slice_get, min}
 use Rattle.std.specs.List.{list_any}
+use Rattle.std.proofs.Math.Seq.{take-length}
 use Rattle.std.proofs.lemmas.List.{take-append-le, take-append-drop, length-append, length-take}
 use Rattle.std.proofs.lemmas.List.Folds.{list_any-append}
 use Rattle.candidate_ir.specs.declared.ir.kinds.Clause.{Clause}
@@ -40,6 +41,7 @@ use Rattle.candidate_ir.proofs.Misplacing.{given_below}
 table-of-all : (c : Context) → has_unknown_id c ≡ false → has_wrong_parameters c ≡ false → AllArgumentsFit c → has_wrong_kind c ≡ false → IsAcyclic c
     → list_any (λ d. lacks_tail c.contents d.kind) c.declarations ≡ false → list_any (item_has_wrong_arity c.declarations c.contents.lang_items) all_items ≡ false
     → IsWellFormedTable c
+unfolding IsWellFormedTable
 table-of-all c u p a k z t i =
     let rest = or-right (declarations_misname c) (contents_misname c || nodes_misname c) u in
     let nodes = or-right (contents_misname c) (nodes_misname c) rest in
@@ -62,6 +64,7 @@ nothing_wrong c u p a k z t i = (faultless c u p a k z t i, table-of-all c u p a
 
 -- however many of its nodes are said to be declared
 pub declared_all : (c : Context) (n : ℕ) → IsWellFormedTable c → IsWellFormedTable (record c { declared_nodes = n })
+unfolding IsWellFormedTable
 declared_all c n t = record {
   definitions = t.definitions;
   impls = t.impls;
@@ -72,6 +75,15 @@ declared_all c n t = record {
   supertraits = record { rank = t.supertraits.rank; falls = t.supertraits.falls };
   tails = t.tails;
   items = t.items;
+}
+
+-- finished declarations make a context of theirs alone
+pub finished : (c : Context) → c.declared_nodes ≡ length c.trees → IsWellFormedTable c → IsWellFormedContext c
+unfolding IsWellFormedTable
+finished c e t = record {
+  nodes = t.arguments.nodes;
+  declared = subst (λ (us : List Tree). let d : Context = record c { trees = us } in IsWellFormedTable d) (sym (ap (λ (n : ℕ). take n c.trees) e ∙ take-length c.trees)) t;
+  there = omega (arith, e);
 }
 
 -- A context with more nodes
@@ -220,6 +232,7 @@ impls-kept w old new (i ∷ is) e f = (impl-kept w old new i e f.0, impls-kept w
 
 -- Nothing is wrong with the declarations of a context, over all its nodes.
 pub table_stays : (c : Context) → IsWellFormedContext c → IsWellFormedTable c
+unfolding IsWellFormedTable
 table_stays c w =
     let old = take c.declared_nodes c.trees in
     let e : Extends old c.trees = record { added = drop c.declared_nodes c.trees; is = sym (take-append-drop c.declared_nodes c.trees) } in
@@ -248,6 +261,7 @@ table_stays c w =
     }
 
 pub table_of : (c : Context) → IsWellFormedContext (record c { delayed_bugs = [] }) → IsWellFormedTable c
+unfolding IsWellFormedTable
 table_of c w =
     let t = table_stays (record c { delayed_bugs = [] }) w in
     record {

@@ -35,6 +35,12 @@ bound_head V.Ty v = H.Bound v
 bound_head V.Const v = H.Const (C.Bound v)
 bound_head V.Region v = H.Region (R.Bound v)
 
+abbrev pub is_bound_variable : Head → Bool
+is_bound_variable (H.Bound v) = true
+is_bound_variable (H.Const (C.Bound v)) = true
+is_bound_variable (H.Region (R.Bound v)) = true
+is_bound_variable _ = false
+
 abbrev pub nearer : BoundVar → BoundVar
 nearer v = record { depth = v.depth - 1; index = v.index }
 

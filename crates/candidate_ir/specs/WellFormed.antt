@@ -16,8 +16,8 @@ use Rattle.candidate_ir.specs.Supertraits.{IsAcyclic}
 use Rattle.candidate_ir.specs.Misplaced.{is_not_given}
 use Rattle.candidate_ir.specs.Faults.{all_that_is_held, declarations_misname, contents_misname, has_wrong_parameters, AllArgumentsFit, has_wrong_kind, lacks_tail, item_has_wrong_arity, all_items}
 
--- Nothing is wrong with the declarations, over the trees of the context.
-pub record IsWellFormedTable (c : Context) : Type 0 where
+-- what it means that nothing is wrong with the declarations
+pub record TableParts (c : Context) : Type 0 where
   -- each crate, definition and impl that is named is there, and so is each type, clause, list and binder that is held
   pub definitions : declarations_misname c ≡ false
   pub impls : contents_misname c ≡ false
@@ -35,6 +35,11 @@ pub record IsWellFormedTable (c : Context) : Type 0 where
   pub tails : list_any (λ d. lacks_tail c.contents d.kind) c.declarations ≡ false
   -- lang items have the parameters of their items
   pub items : list_any (item_has_wrong_arity c.declarations c.contents.lang_items) all_items ≡ false
+
+-- Nothing is wrong with the declarations, over the trees of the context. It is opaque: a tactic reads each part of a fact that
+-- it can see into, and few proofs need one.
+unfoldable pub IsWellFormedTable : Context → Type 0
+IsWellFormedTable c = TableParts c
 
 -- the context as its declarations left it
 abbrev pub declared_part : Context → Context

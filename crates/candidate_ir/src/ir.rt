@@ -1,5 +1,6 @@
 //! Types, constants and regions: their kinds, the heads of their trees, and the table that holds them.
 
+pub(crate) mod at;
 pub mod flags;
 pub mod heads;
 pub mod kinds;

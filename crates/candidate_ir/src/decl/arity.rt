@@ -15,6 +15,7 @@ ghost use Rattle.candidate_ir.specs.Worlds.{parameters, joined, alias_kinds};
 use crate::decl::contents::Impl;
 use crate::decl::definition::{Declaration, DefinitionSort, are_type_args};
 use crate::decl::misplaced::is_args;
+use crate::ir::at::at;
 use crate::ir::kinds::{
     AliasKind, AliasTy, Binder, ClauseKind, ConstKind, ExistentialPredicate, GenericArg, TyKind,
 };
@@ -30,7 +31,7 @@ fn takes(
 ) -> bool
     ensures { IsTrue result ↔ (parameters (world_of definitions.now) sort number ≡ Some (map arg_kind list.now)) }
 {
-    match definitions.get(number as usize) {
+    match at(definitions, number as usize) {
         Some(definition) => definition.takes(sort, list),
         None => false,
     }

@@ -1,13 +1,15 @@
 //! The builder of declarations.
 
-ghost use Rattle.std.specs.Prelude.{◌≡◌, ◌↔◌, ◌+◌, ◌<◌, ◌++◌, ◌∷◌, IsTrue, true, false, [], length, slice_set, IfOk, IfErr, MatchResult, MatchOption, ◌⊎◌, Some};
-ghost use Rattle.candidate_ir.specs.Context.{declared};
-ghost use Rattle.candidate_ir.specs.Declaring.{nothing, declared_adt, declared_trait, declared_opaque, declared_assoc, declared_impl, with_adt, with_trait, with_bounds, with_impl, with_constraint, with_bound, item_number};
+ghost use Rattle.std.specs.Prelude.{◌≡◌, ◌↔◌, ◌+◌, ◌<◌, ◌++◌, ◌∷◌, IsTrue, true, false, [], length, slice_get, slice_set, vec_len, vec_capacity, IfOk, IfErr, MatchResult, MatchOption, ◌⊎◌, Some};
+ghost use Rattle.candidate_ir.specs.Context.{declared, crate_of, parameters_of};
+ghost use Rattle.candidate_ir.specs.Parameters.{kinds_of};
+ghost use Rattle.candidate_ir.specs.Declaring.{nothing, declared_adt, declared_trait, declared_opaque, declared_assoc, declared_impl, with_adt, with_trait, with_bounds, with_impl, with_constraint, with_bound, item_number, entered};
 ghost use Rattle.candidate_ir.specs.Faults.{all_that_is_held, declarations_misname, contents_misname, has_unknown_id, has_wrong_parameters, AllArgumentsFit, has_wrong_kind, HasFault, IsFaultless, IsLowestFault};
 ghost use Rattle.candidate_ir.specs.Plain.{AllArePlain};
 ghost use Rattle.candidate_ir.specs.WellFormed.{IsWellFormedTable};
 ghost use Rattle.candidate_ir.specs.Supertraits.{HasSupertraitCycle, IsAcyclic};
 ghost use Rattle.candidate_ir.specs.Making.{Makes, a_type, a_constant, a_region, a_list, a_binder, some_bounds, a_signature, a_clause, an_environment};
+ghost use Rattle.candidate_ir.specs.Nodes.{tree_at};
 ghost use Rattle.candidate_ir.specs.Words.{KindFits, ConstKindFits, ListFits, BoundsFit, SigFits, ClauseFits, ClauseListFits, AtMostOnePrincipal};
 ghost use Rattle.candidate_ir.specs.declared.decl.builder.DeclFault.TheVariants.{Memory};
 
@@ -29,6 +31,8 @@ use crate::decl::held::{Held, all_held};
 use crate::decl::misplaced::{Misplaced, any_escapes, any_misplaces, any_not_given};
 use crate::decl::plain::all_are_plain;
 use crate::decl::supers::any_has_wrong_super;
+use crate::ir::at::at;
+use crate::ir::heads::Head;
 use crate::ir::kinds::{
     AdtId, AliasId, Args, AssocId, Binder, Clause, ClauseKind, ClosureId, ClosureSig, Const,
     ConstKind, ExistentialPredicate, FnId, FnSig, ForeignId, GenericArg, ParamEnv, Preds, Region,
@@ -207,11 +211,10 @@ impl DeclsBuilder {
         ensures cause { IfErr result (λ e. e ≡ DeclFault.Memory) }
     {
         let alloc = *self.definitions.allocator();
-        let place = numbered(self.contents.adts.len())?;
-        self.contents.adts.reserve(1)?;
+        let place = next_number(&mut self.contents.adts)?;
         let kind = DefinitionKind::Adt(shape, flags, place);
         let number = add(&mut self.definitions, krate, parameters, kind)?;
-        self.contents.adts.push(AdtContents::new(alloc))?;
+        self.contents.adts.push_reserved(AdtContents::new(alloc));
         Ok(AdtId(number))
     }
 
@@ -230,11 +233,12 @@ impl DeclsBuilder {
         ensures cause { IfErr result (λ e. e ≡ DeclFault.Memory) }
     {
         let alloc = *self.definitions.allocator();
-        let place = numbered(self.contents.traits.len())?;
-        self.contents.traits.reserve(1)?;
+        let place = next_number(&mut self.contents.traits)?;
         let kind = DefinitionKind::Trait(flags, place);
         let number = add(&mut self.definitions, krate, parameters, kind)?;
-        self.contents.traits.push(TraitContents::new(alloc))?;
+        self.contents
+            .traits
+            .push_reserved(TraitContents::new(alloc));
         Ok(TraitId(number))
     }
 
@@ -266,24 +270,18 @@ impl DeclsBuilder {
         ensures cause { IfErr result (λ e. e ≡ DeclFault.Memory) }
     {
         let alloc = *self.definitions.allocator();
-        let number = numbered(self.definitions.len())?;
-        let place = numbered(self.contents.bounds.len())?;
-        let trait_place = trait_place(self.definitions.as_slice(), of);
-        self.definitions.reserve(1)?;
-        self.contents.bounds.reserve(1)?;
-        let (krate, parameters) = match self.definitions.get(of.0 as usize) {
-            Some(declaration) => (declaration.krate, declaration.parameters.copied(alloc)?),
-            None => (NO_CRATE, Parameters::none()),
-        };
-        if let Some(of) = self.contents.traits.get_mut(trait_place) {
-            of.items.push(AssocId(number))?;
-        }
-        self.contents.bounds.push(Bounds::new(alloc))?;
-        self.definitions.push(Declaration {
+        let number = next_number(&mut self.definitions)?;
+        let place = next_number(&mut self.contents.bounds)?;
+        let definitions = self.definitions.as_slice();
+        let trait_place = trait_place(definitions, of);
+        let (krate, parameters) = of_trait(alloc, definitions, of)?;
+        enter_item(&mut self.contents.traits, trait_place, AssocId(number))?;
+        self.contents.bounds.push_reserved(Bounds::new(alloc));
+        self.definitions.push_reserved(Declaration {
             krate,
             parameters,
             kind: DefinitionKind::Assoc(of, kind, requires_sized_self, place),
-        })?;
+        });
         Ok(AssocId(number))
     }
 
@@ -321,11 +319,10 @@ impl DeclsBuilder {
         ensures cause { IfErr result (λ e. e ≡ DeclFault.Memory) }
     {
         let alloc = *self.definitions.allocator();
-        let place = numbered(self.contents.bounds.len())?;
-        self.contents.bounds.reserve(1)?;
+        let place = next_number(&mut self.contents.bounds)?;
         let kind = DefinitionKind::Opaque(hidden, place);
         let number = add(&mut self.definitions, krate, parameters, kind)?;
-        self.contents.bounds.push(Bounds::new(alloc))?;
+        self.contents.bounds.push_reserved(Bounds::new(alloc));
         Ok(AliasId(number))
     }
 
@@ -383,16 +380,13 @@ impl DeclsBuilder {
         ensures cause { IfErr result (λ e. e ≡ DeclFault.Memory) }
     {
         let alloc = *self.definitions.allocator();
-        let number = numbered(self.contents.impls.len())?;
+        let number = next_number(&mut self.contents.impls)?;
         let trait_place = trait_place(self.definitions.as_slice(), trait_ref.def_id);
-        self.contents.impls.reserve(1)?;
         let parameters = Parameters::of(alloc, parameters)?;
-        if let Some(of) = self.contents.traits.get_mut(trait_place) {
-            of.impls.push(ImplId(number))?;
-        }
+        enter_impl(&mut self.contents.traits, trait_place, ImplId(number))?;
         self.contents
             .impls
-            .push(Impl::new(alloc, krate, parameters, trait_ref, polarity))?;
+            .push_reserved(Impl::new(alloc, krate, parameters, trait_ref, polarity));
         Ok(ImplId(number))
     }
 
@@ -572,6 +566,21 @@ impl DeclsBuilder {
         ensures { self.new ≡ record self.old { contents = record self.old.contents { lang_items = slice_set self.old.contents.lang_items (item_number item) (Some of) } } }
     {
         self.contents.lang_items[item.number()] = Some(of);
+    }
+
+    /// How many numbers of nodes are given.
+    pub fn node_count(&self) -> usize
+        ensures { result ≡ length self.now.trees }
+    {
+        self.nodes.len()
+    }
+
+    /// The head of a number's tree.
+    pub fn head(&self, number: u32) -> Head
+        requires { number < length self.now.trees }
+        ensures { result ≡ (tree_at self.now.trees number).head }
+    {
+        self.nodes.head(number)
     }
 
     /// The type of that kind. Its arguments may be of any number and kinds until `finish`; it stops as
@@ -813,6 +822,60 @@ fn numbered(count: usize) -> Result<u32, DeclFault>
     Ok(count as u32)
 }
 
+/// The number of the next one in the list, which has room for it then.
+fn next_number<T: Drop>(list: &mut Vec<T>) -> Result<u32, DeclFault>
+    ensures is { IfOk result (λ n. n ≡ length list.old.items) }
+    ensures room { IfOk result (λ _. vec_len list.new < vec_capacity list.new) }
+    ensures kept { list.new.items ≡ list.old.items }
+    ensures cause { IfErr result (λ e. e ≡ DeclFault.Memory) }
+{
+    let number = numbered(list.len())?;
+    list.reserve(1)?;
+    Ok(number)
+}
+
+/// The crate and the parameters of a trait, which are those of its items.
+fn of_trait(
+    alloc: Global,
+    definitions: &[Declaration],
+    of: TraitId,
+) -> Result<(CrateId, Parameters), AllocError>
+    ensures { IfOk result (λ p. (p.0 ≡ crate_of (slice_get definitions.now of.0)) × (kinds_of p.1 ≡ parameters_of (slice_get definitions.now of.0))) }
+{
+    match at(definitions, of.0 as usize) {
+        Some(declaration) => Ok((declaration.krate, declaration.parameters.copied(alloc)?)),
+        None => Ok((NO_CRATE, Parameters::none())),
+    }
+}
+
+/// Enters an associated item with the trait in that place, if there is one.
+fn enter_item(traits: &mut Vec<TraitContents>, place: usize, item: AssocId) -> Result<(), DeclFault>
+    ensures added { IfOk result (λ _. traits.new.items ≡ entered place (λ t. record t { items = t.items ++ item ∷ [] }) traits.old.items (slice_get traits.old.items place)) }
+    ensures unchanged { IfErr result (λ _. traits.new.items ≡ traits.old.items) }
+    ensures cause { IfErr result (λ e. e ≡ DeclFault.Memory) }
+{
+    if let Some(of) = traits.get_mut(place) {
+        of.items.push(item)?;
+    }
+    Ok(())
+}
+
+/// Enters an impl with the trait in that place, if there is one.
+fn enter_impl(
+    traits: &mut Vec<TraitContents>,
+    place: usize,
+    impl_id: ImplId,
+) -> Result<(), DeclFault>
+    ensures added { IfOk result (λ _. traits.new.items ≡ entered place (λ t. record t { impls = t.impls ++ impl_id ∷ [] }) traits.old.items (slice_get traits.old.items place)) }
+    ensures unchanged { IfErr result (λ _. traits.new.items ≡ traits.old.items) }
+    ensures cause { IfErr result (λ e. e ≡ DeclFault.Memory) }
+{
+    if let Some(of) = traits.get_mut(place) {
+        of.impls.push(impl_id)?;
+    }
+    Ok(())
+}
+
 /// Adds a definition, with the next number.
 fn add(
     definitions: &mut Vec<Declaration>,
@@ -825,13 +888,12 @@ fn add(
     ensures unchanged { IfErr result (λ _. definitions.new.items ≡ definitions.old.items) }
     ensures cause { IfErr result (λ e. e ≡ DeclFault.Memory) }
 {
-    let number = numbered(definitions.len())?;
-    definitions.reserve(1)?;
+    let number = next_number(definitions)?;
     let parameters = Parameters::of(*definitions.allocator(), parameters)?;
-    definitions.push(Declaration {
+    definitions.push_reserved(Declaration {
         krate,
         parameters,
         kind,
-    })?;
+    });
     Ok(number)
 }

@@ -6,6 +6,7 @@ ghost use Rattle.candidate_ir.specs.Declaring.{place, adt_place, trait_place, bo
 ghost use Rattle.candidate_ir.specs.Parameters.{kinds_of};
 
 use crate::decl::definition::{AssocKind, CrateId, Declaration, DefinitionKind, Parameters};
+use crate::ir::at::at;
 use crate::ir::kinds::{AdtId, AliasId, AssocId, Clause, TraitId, TraitRef, Ty};
 use std::alloc::Global;
 use std::marker::Model;
@@ -282,7 +283,7 @@ const NO_PLACE: usize = usize::MAX;
 pub(crate) fn adt_place(definitions: &[Declaration], adt: AdtId) -> usize
     ensures { result ≡ place adt_place definitions.now adt.0 }
 {
-    match definitions.get(adt.0 as usize) {
+    match at(definitions, adt.0 as usize) {
         Some(definition) => match definition.kind {
             DefinitionKind::Adt(_, _, place) => place as usize,
             _ => NO_PLACE,
@@ -295,7 +296,7 @@ pub(crate) fn adt_place(definitions: &[Declaration], adt: AdtId) -> usize
 pub(crate) fn trait_place(definitions: &[Declaration], of: TraitId) -> usize
     ensures { result ≡ place trait_place definitions.now of.0 }
 {
-    match definitions.get(of.0 as usize) {
+    match at(definitions, of.0 as usize) {
         Some(definition) => match definition.kind {
             DefinitionKind::Trait(_, place) => place as usize,
             _ => NO_PLACE,
@@ -308,7 +309,7 @@ pub(crate) fn trait_place(definitions: &[Declaration], of: TraitId) -> usize
 pub(crate) fn bounds_place(definitions: &[Declaration], alias: AliasId) -> usize
     ensures { result ≡ place bounds_place definitions.now alias.0 }
 {
-    match definitions.get(alias.0 as usize) {
+    match at(definitions, alias.0 as usize) {
         Some(definition) => match definition.kind {
             DefinitionKind::Assoc(_, AssocKind::Type, _, place) => place as usize,
             DefinitionKind::Opaque(_, place) => place as usize,

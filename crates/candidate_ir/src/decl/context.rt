@@ -23,6 +23,7 @@ use crate::decl::builder::Decls;
 use crate::decl::contents::Contents;
 use crate::decl::definition::{CrateId, Declaration, DefinitionSort};
 use crate::decl::misplaced::is_args;
+use crate::ir::at::at;
 use crate::ir::flags::{TypeFlags, bit_if};
 use crate::ir::heads::{Flag, Head};
 use crate::ir::kinds::{
@@ -197,7 +198,7 @@ impl Cx {
     fn is_local(&self, definition: u32) -> bool
         ensures { result ≡ is_local (world self.now) (Some self.now.local.0) definition }
     {
-        match self.definitions.get(definition as usize) {
+        match at(self.definitions.as_slice(), definition as usize) {
             Some(declaration) => declaration.krate() == self.local,
             None => false,
         }
@@ -206,7 +207,7 @@ impl Cx {
     fn is_fundamental(&self, definition: u32) -> bool
         ensures { result ≡ is_fundamental (world self.now) definition }
     {
-        match self.definitions.get(definition as usize) {
+        match at(self.definitions.as_slice(), definition as usize) {
             Some(declaration) => declaration.is_fundamental(),
             None => false,
         }

@@ -8,6 +8,7 @@ ghost use Rattle.candidate_ir.specs.Supertraits.{clause_trait, clause_supertrait
 use crate::decl::contents::Contents;
 use crate::decl::definition::{Declaration, DefinitionKind};
 use crate::decl::misplaced::is_clause;
+use crate::ir::at::at;
 use crate::ir::heads::ClauseHead;
 use crate::ir::kinds::{Clause, PredicatePolarity, TraitId};
 use crate::ir::nodes::Nodes;
@@ -75,13 +76,13 @@ fn declared_supers<'a>(
 ) -> &'a [Clause]
     ensures { result.now ≡ declared_supers (contents_of contents.now) (slice_get definitions.now number) }
 {
-    let Some(definition) = definitions.get(number) else {
+    let Some(definition) = at(definitions, number) else {
         return &[];
     };
     let DefinitionKind::Trait(_, place) = definition.kind() else {
         return &[];
     };
-    match contents.traits.get(place as usize) {
+    match at(contents.traits.as_slice(), place as usize) {
         Some(of) => of.supers.as_slice(),
         None => &[],
     }
@@ -135,7 +136,7 @@ impl Search {
         ensures open { IfOk result (λ b. b ≡ is_open (visit_of self.old number)) }
         ensures met { IfOk result (λ _. self.new ≡ met number self.old) }
     {
-        let Some(visit) = self.visits.get(number) else {
+        let Some(visit) = at(self.visits.as_slice(), number) else {
             return Ok(false);
         };
         match *visit {

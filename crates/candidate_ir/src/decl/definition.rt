@@ -6,6 +6,7 @@ ghost use Rattle.candidate_ir.specs.Context.{begins_with_type as begins, paramet
 ghost use Rattle.candidate_ir.specs.Kinds.{arg_kind};
 ghost use Rattle.candidate_ir.specs.Parameters.{is_type_kind, is_type_arg};
 
+use crate::ir::at::at;
 use crate::ir::kinds::{AdtId, AliasId, AssocId, Binder, FnSig, GenericArg, TraitId, Ty, VarKind};
 use std::alloc::{AllocError, Global};
 use std::marker::Model;
@@ -238,7 +239,7 @@ impl Parameters {
                     None
                 }
             }
-            Parameters::Kinds(kinds) => kinds.get(number).copied(),
+            Parameters::Kinds(kinds) => at(kinds.as_slice(), number).copied(),
         }
     }
 
@@ -371,7 +372,7 @@ impl Declaration {
         ensures { result ≡ lacks_trait definitions.now self.now.kind }
     {
         match self.kind {
-            DefinitionKind::Assoc(of, _, _, _) => match definitions.get(of.0 as usize) {
+            DefinitionKind::Assoc(of, _, _, _) => match at(definitions, of.0 as usize) {
                 Some(declaration) => !declaration.is_trait(),
                 None => true,
             },

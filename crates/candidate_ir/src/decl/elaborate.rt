@@ -17,6 +17,7 @@ ghost use Rattle.candidate_ir.specs.Words.{IsArgs, IsClause, IsVars, ClauseListF
 use crate::decl::context::Cx;
 use crate::decl::fold::fold_number;
 use crate::decl::make::Make;
+use crate::decl::open::{bound_variable, bound_variable_of};
 use crate::decl::subst::put;
 use crate::ir::heads::{ClauseHead, ConstHead, Head, PartHead};
 use crate::ir::kinds::{
@@ -60,20 +61,12 @@ fn renumbered<M: Make>(
     ensures cause { IfErr result (λ s. IsHeadStop (length (M.context make.new).trees) (later_head by binders (arg_tree (M.context make.old).trees arg).head) s) }
 {
     let head = make.cx().head(arg.number());
-    match head {
-        Head::Bound(var) => match later(var, binders, by)? {
-            Some(var) => Ok(Some(GenericArg::Ty(make.mk_ty(TyKind::Bound(var))?))),
-            None => Ok(None),
-        },
-        Head::Const(ConstHead::Bound(var)) => match later(var, binders, by)? {
-            Some(var) => Ok(Some(GenericArg::Const(make.mk_const(ConstKind::Bound(var))?))),
-            None => Ok(None),
-        },
-        Head::Region(RegionKind::Bound(var)) => match later(var, binders, by)? {
-            Some(var) => Ok(Some(GenericArg::Region(make.mk_region(RegionKind::Bound(var))?))),
-            None => Ok(None),
-        },
-        _ => Ok(None),
+    let Some((kind, var)) = bound_variable_of(head) else {
+        return Ok(None);
+    };
+    match later(var, binders, by)? {
+        Some(var) => Ok(Some(bound_variable(make, kind, var)?)),
+        None => Ok(None),
     }
 }
 
@@ -204,20 +197,24 @@ impl Cx {
         self.well_formed_table();
     }
 
+    /// A super clause of the trait of a reference is of the context, and each of its parameters has an argument there.
+    fn super_clause_fits(&self, trait_ref: TraitRef, place: usize)
+        requires { ArgumentsFit self.now trait_ref }
+        ensures { IfSome (slice_get (supers_at (trait_at self.now trait_ref.def_id.0)) place) (λ x. IsClause self.now.trees x × (tree_holds (lacks_argument (args_forest self.now.trees trait_ref.args)) (clause_tree self.now.trees x) ≡ false)) }
+    {
+        let _ = self.contents.traits.len();
+        self.well_formed_table();
+    }
+
     /// The super clause in that place of the trait of a reference: each of its parameters has an argument there.
-    #[tactic(auto, using(crate::proofs::Owned::super_has_arguments, crate::proofs::Listing::listed_clause))]
     fn super_clause(&self, trait_ref: TraitRef, place: usize) -> Option<Clause>
         requires { ArgumentsFit self.now trait_ref }
         ensures is { result ≡ slice_get (supers_at (trait_at self.now trait_ref.def_id.0)) place }
         ensures sort { IfSome result (λ x. IsClause self.now.trees x) }
         ensures has { IfSome result (λ x. tree_holds (lacks_argument (args_forest self.now.trees trait_ref.args)) (clause_tree self.now.trees x) ≡ false) }
     {
-        let _ = self.contents.traits.len();
-        self.well_formed_table();
-        match self.super_clauses(trait_ref.def_id).get(place) {
-            Some(clause) => Some(*clause),
-            None => None,
-        }
+        self.super_clause_fits(trait_ref, place);
+        self.super_clauses(trait_ref.def_id).get(place).copied()
     }
 }
 
@@ -266,7 +263,7 @@ fn each_once(alloc: Global, cx: &Cx, clauses: &[Clause]) -> Result<Vec<Clause>, 
 
 /// Adds what the super clauses of its trait say of a reference under a binder of these variables, each
 /// unless the list has it.
-#[tactic(auto, using(crate::proofs::Listing::no_supers, crate::proofs::Listing::no_more_supers, crate::proofs::Listing::all_supers))]
+#[tactic(auto, using(crate::proofs::Listing::no_supers, crate::proofs::Listing::no_more_supers))]
 fn push_supers<M: Make>(
     alloc: Global,
     make: &mut M,

@@ -9,13 +9,14 @@ ghost use Rattle.candidate_ir.specs.Parameters.{kinds_of};
 
 use crate::decl::contents::{AdtContents, Contents, Impl, ImplId, LangItem};
 use crate::decl::definition::{AdtShape, Declaration, DefinitionKind, Parameters};
+use crate::ir::at::at;
 use crate::ir::kinds::TraitId;
 
 /// Whether it is the number of a trait.
 fn is_declared_trait(definitions: &[Declaration], number: TraitId) -> bool
     ensures { result ≡ is_declared_trait (slice_get definitions.now number.0) }
 {
-    match definitions.get(number.0 as usize) {
+    match at(definitions, number.0 as usize) {
         Some(definition) => definition.is_trait(),
         None => false,
     }
@@ -66,7 +67,10 @@ fn unsizes_past(contents: &Contents, definition: &Declaration) -> bool
 {
     match definition.kind {
         DefinitionKind::Adt(_, _, place) => {
-            has_past_unsizing(&definition.parameters, contents.adts.get(place as usize))
+            has_past_unsizing(
+                &definition.parameters,
+                at(contents.adts.as_slice(), place as usize),
+            )
         }
         _ => false,
     }
@@ -84,7 +88,7 @@ fn lacks_tail(contents: &Contents, kind: DefinitionKind) -> bool
 {
     match kind {
         DefinitionKind::Adt(shape, _, place) => {
-            unsizes_without_tail(shape, contents.adts.get(place as usize))
+            unsizes_without_tail(shape, at(contents.adts.as_slice(), place as usize))
         }
         _ => false,
     }
@@ -168,7 +172,7 @@ fn item_has_wrong_arity(
     let Some(of) = items[item.number()] else {
         return false;
     };
-    match definitions.get(of.0 as usize) {
+    match at(definitions, of.0 as usize) {
         Some(definition) => !has_item_parameters(item, &definition.parameters),
         None => false,
     }

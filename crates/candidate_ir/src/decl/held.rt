@@ -6,6 +6,7 @@ ghost use Rattle.candidate_ir.specs.Declaring.{contents_of};
 
 use crate::decl::contents::{AdtContents, Bounds, Contents, Impl, TraitContents};
 use crate::decl::definition::{Declaration, DefinitionKind};
+use crate::ir::at::at;
 use crate::ir::kinds::{Binder, Clause, FnSig, Ty};
 use std::alloc::{AllocError, Global};
 
@@ -34,16 +35,28 @@ pub(crate) struct Held {
     pub(crate) under_binder: bool,
 }
 
-fn add_type(held: &mut Vec<Held>, owner: Owner, ty: Ty) -> Result<(), AllocError>
-    ensures { IfOk result (λ _. held.new.items ≡ held.old.items ++ held_type owner ty ∷ []) }
+fn add(
+    held: &mut Vec<Held>,
+    owner: Owner,
+    sort: HeldSort,
+    number: u32,
+    under_binder: bool,
+) -> Result<(), AllocError>
+    ensures { IfOk result (λ _. held.new.items ≡ held.old.items ++ record { owner = owner; sort = sort; number = number; under_binder = under_binder } ∷ []) }
 {
     held.push(Held {
         owner,
-        sort: HeldSort::Ty,
-        number: ty.0,
-        under_binder: false,
+        sort,
+        number,
+        under_binder,
     })?;
     Ok(())
+}
+
+fn add_type(held: &mut Vec<Held>, owner: Owner, ty: Ty) -> Result<(), AllocError>
+    ensures { IfOk result (λ _. held.new.items ≡ held.old.items ++ held_type owner ty ∷ []) }
+{
+    add(held, owner, HeldSort::Ty, ty.0, false)
 }
 
 fn add_types(held: &mut Vec<Held>, owner: Owner, types: &[Ty]) -> Result<(), AllocError>
@@ -68,12 +81,7 @@ fn add_clauses(held: &mut Vec<Held>, owner: Owner, clauses: &[Clause]) -> Result
     ensures { IfOk result (λ _. held.new.items ≡ held.old.items ++ held_clauses owner clauses.now) }
 {
     for clause in clauses {
-        held.push(Held {
-            owner,
-            sort: HeldSort::Clause,
-            number: clause.0,
-            under_binder: false,
-        })?;
+        add(held, owner, HeldSort::Clause, clause.0, false)?;
     }
     Ok(())
 }
@@ -81,25 +89,9 @@ fn add_clauses(held: &mut Vec<Held>, owner: Owner, clauses: &[Clause]) -> Result
 fn add_sig(held: &mut Vec<Held>, owner: Owner, sig: Binder<FnSig>) -> Result<(), AllocError>
     ensures { IfOk result (λ _. held.new.items ≡ held.old.items ++ held_sig owner sig) }
 {
-    held.push(Held {
-        owner,
-        sort: HeldSort::Vars,
-        number: sig.vars.0,
-        under_binder: false,
-    })?;
-    held.push(Held {
-        owner,
-        sort: HeldSort::Args,
-        number: sig.value.inputs.0,
-        under_binder: true,
-    })?;
-    held.push(Held {
-        owner,
-        sort: HeldSort::Ty,
-        number: sig.value.output.0,
-        under_binder: true,
-    })?;
-    Ok(())
+    add(held, owner, HeldSort::Vars, sig.vars.0, false)?;
+    add(held, owner, HeldSort::Args, sig.value.inputs.0, true)?;
+    add(held, owner, HeldSort::Ty, sig.value.output.0, true)
 }
 
 fn add_adt(held: &mut Vec<Held>, owner: Owner, adt: Option<&AdtContents>) -> Result<(), AllocError>
@@ -141,8 +133,7 @@ fn add_opaque(
     ensures { IfOk result (λ _. held.new.items ≡ held.old.items ++ opaque_held owner hidden (option_copied bounds.entry)) }
 {
     add_type(held, owner, hidden)?;
-    add_bounds(held, owner, bounds)?;
-    Ok(())
+    add_bounds(held, owner, bounds)
 }
 
 /// What a definition holds. What says that it has contents which aren't there holds nothing.
@@ -157,16 +148,21 @@ fn add_definition(
     let owner = Owner::Definition(number);
     match kind {
         DefinitionKind::Adt(_, _, place) => {
-            add_adt(held, owner, contents.adts.get(place as usize))
+            add_adt(held, owner, at(contents.adts.as_slice(), place as usize))
         }
         DefinitionKind::Trait(_, place) => {
-            add_trait(held, owner, contents.traits.get(place as usize))
+            add_trait(held, owner, at(contents.traits.as_slice(), place as usize))
         }
         DefinitionKind::Assoc(_, _, _, place) => {
-            add_bounds(held, owner, contents.bounds.get(place as usize))
+            add_bounds(held, owner, at(contents.bounds.as_slice(), place as usize))
         }
         DefinitionKind::Opaque(hidden, place) => {
-            add_opaque(held, owner, hidden, contents.bounds.get(place as usize))
+            add_opaque(
+                held,
+                owner,
+                hidden,
+                at(contents.bounds.as_slice(), place as usize),
+            )
         }
         DefinitionKind::Function(_, sig) => add_sig(held, owner, sig),
         DefinitionKind::Foreign | DefinitionKind::Alias(_) | DefinitionKind::Closure(_) => Ok(()),
@@ -177,12 +173,7 @@ fn add_impl(held: &mut Vec<Held>, number: usize, of: &Impl) -> Result<(), AllocE
     ensures { IfOk result (λ _. held.new.items ≡ held.old.items ++ impl_held number of.now) }
 {
     let owner = Owner::Impl(number);
-    held.push(Held {
-        owner,
-        sort: HeldSort::Args,
-        number: of.trait_ref.args.0,
-        under_binder: false,
-    })?;
+    add(held, owner, HeldSort::Args, of.trait_ref.args.0, false)?;
     add_clauses(held, owner, of.wheres.as_slice())?;
     add_clauses(held, owner, of.super_outlives.as_slice())
 }

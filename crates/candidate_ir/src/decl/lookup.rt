@@ -15,6 +15,7 @@ use crate::decl::contents::{
 };
 use crate::decl::context::Cx;
 use crate::decl::definition::{AdtFlags, AdtShape, AssocKind, DefinitionKind, FnFlags, TraitFlags};
+use crate::ir::at::at;
 use crate::ir::kinds::{
     AdtId, AliasId, AssocId, Binder, Clause, ClosureId, FnId, FnSig, TraitId, TraitRef, Ty,
 };
@@ -64,7 +65,7 @@ impl Cx {
         ensures given { IfSome result (λ k. AreGiven self.now (definition_held self.now.contents number k)) }
     {
         self.definition_is_given(number);
-        match self.definitions.get(number as usize) {
+        match at(self.definitions.as_slice(), number as usize) {
             Some(definition) => Some(definition.kind()),
             None => None,
         }
@@ -180,7 +181,7 @@ impl Cx {
     {
         self.adt_is_given(adt);
         let place = adt_place(self.definitions.as_slice(), adt);
-        self.contents.adts.get(place)
+        at(self.contents.adts.as_slice(), place)
     }
 
     fn trait_contents(&self, of: TraitId) -> Option<&TraitContents>
@@ -189,7 +190,7 @@ impl Cx {
     {
         self.trait_is_given(of);
         let place = trait_place(self.definitions.as_slice(), of);
-        self.contents.traits.get(place)
+        at(self.contents.traits.as_slice(), place)
     }
 
     fn bounds(&self, alias: AliasId) -> Option<&Bounds>
@@ -198,7 +199,7 @@ impl Cx {
     {
         self.bounds_are_given(alias);
         let place = bounds_place(self.definitions.as_slice(), alias);
-        self.contents.bounds.get(place)
+        at(self.contents.bounds.as_slice(), place)
     }
 
     fn impl_contents(&self, of: ImplId) -> Option<&Impl>
@@ -206,7 +207,7 @@ impl Cx {
         ensures given { IfSome (option_copied result) (λ x. AreGiven self.now (impl_held of.0 x) × HeaderFits self.now x.trait_ref) }
     {
         self.impl_is_given(of);
-        self.contents.impls.get(of.0 as usize)
+        at(self.contents.impls.as_slice(), of.0 as usize)
     }
 
     /// The types of the fields of the data type, in order.

@@ -11,6 +11,7 @@ ghost use Rattle.candidate_ir.specs.Words.{IsArgs, IsClause};
 use crate::decl::contents::Impl;
 use crate::decl::definition::{Declaration, Parameters};
 use crate::decl::held::{Held, HeldSort, Owner};
+use crate::ir::at::at;
 use crate::ir::heads::{ConstHead, Head};
 use crate::ir::kinds::{Args, Clause, RegionKind, VarKind};
 use crate::ir::node::Node;
@@ -186,7 +187,6 @@ fn impl_misplaces(nodes: &Nodes, number: u32, what: Misplaced, owner: Option<&Im
 }
 
 /// Whether something misplaced stands in what is held. What is of no owner misplaces nothing.
-#[tactic(auto, using(crate::proofs::Misplacing::given_below))]
 fn held_misplaces(
     nodes: &Nodes,
     definitions: &[Declaration],
@@ -198,8 +198,8 @@ fn held_misplaces(
     ensures { result ≡ held_misplaces what nodes.now definitions.now impls.now held }
 {
     match held.owner {
-        Owner::Definition(i) => definition_misplaces(nodes, held.number, what, definitions.get(i)),
-        Owner::Impl(i) => impl_misplaces(nodes, held.number, what, impls.get(i)),
+        Owner::Definition(i) => definition_misplaces(nodes, held.number, what, at(definitions, i)),
+        Owner::Impl(i) => impl_misplaces(nodes, held.number, what, at(impls, i)),
     }
 }
 

@@ -1,13 +1,12 @@
 //! Clauses out of their binders.
 
-ghost use Rattle.std.specs.Prelude.{◌≡◌, ◌-◌, ℕ, length, Some, None, MatchOption, IfOk, IfErr, IfSome, option_map};
+ghost use Rattle.std.specs.Prelude.{◌≡◌, ◌-◌, length, false, MatchOption, IfOk, IfErr, IfSome, option_map};
 ghost use Rattle.candidate_ir.specs.Context.{Grows, parameter_kind};
 ghost use Rattle.candidate_ir.specs.Folding.{leaf, argument, shift_tree, fold_tree, IsSubstStop, IsAnswerStop};
 ghost use Rattle.candidate_ir.specs.Folds.{IsArg, IsOfKind, arg_tree};
 ghost use Rattle.candidate_ir.specs.Kinds.{arg_kind};
-ghost use Rattle.candidate_ir.specs.Opening.{bound_head, error_of, of_kind, opened_clause, opened_head, opened_variable, under_variables};
+ghost use Rattle.candidate_ir.specs.Opening.{bound_head, is_bound_variable, error_of, of_kind, opened_clause, opened_head, opened_variable, under_variables};
 ghost use Rattle.candidate_ir.specs.Substitutions.{alone};
-ghost use Rattle.candidate_ir.specs.Trees.{Forest};
 ghost use Rattle.candidate_ir.specs.Words.{IsArgs, IsClause, args_forest, clause_tree};
 
 use crate::decl::context::Cx;
@@ -23,8 +22,8 @@ use crate::ir::stop::Stop;
 use std::alloc::{AllocError, Global};
 
 /// The bound variable that a head is, with its kind.
-fn bound_variable_of(head: Head) -> Option<(VarKind, BoundVar)>
-    ensures { MatchOption result ((values : Forest) → (d : ℕ) → opened_head values d head ≡ None) (λ b. head ≡ bound_head b.0 b.1) }
+pub(crate) fn bound_variable_of(head: Head) -> Option<(VarKind, BoundVar)>
+    ensures { MatchOption result (is_bound_variable head ≡ false) (λ b. head ≡ bound_head b.0 b.1) }
 {
     match head {
         Head::Bound(var) => Some((VarKind::Ty, var)),
@@ -35,7 +34,11 @@ fn bound_variable_of(head: Head) -> Option<(VarKind, BoundVar)>
 }
 
 /// The bound variable of that kind.
-fn bound_variable<M: Make>(make: &mut M, kind: VarKind, var: BoundVar) -> Result<GenericArg, Stop>
+pub(crate) fn bound_variable<M: Make>(
+    make: &mut M,
+    kind: VarKind,
+    var: BoundVar,
+) -> Result<GenericArg, Stop>
     ensures grows { Grows (M.context make.old) (M.context make.new) }
     ensures rest { M.rest make.new ≡ M.rest make.old }
     ensures sort { IfOk result (λ a. IsArg (M.context make.new).trees a) }

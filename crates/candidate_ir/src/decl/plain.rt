@@ -13,6 +13,7 @@ use crate::decl::contents::Impl;
 use crate::decl::definition::{Declaration, Parameters};
 use crate::decl::held::{Held, Owner};
 use crate::decl::misplaced::parameter_kind;
+use crate::ir::at::at;
 use crate::ir::kinds::{ConstKind, RegionKind, TyKind, VarKind};
 use crate::ir::node::Node;
 use crate::ir::nodes::Nodes;
@@ -84,14 +85,14 @@ fn impl_is_plain(nodes: &Nodes, number: u32, owner: Option<&Impl>) -> bool
     }
 }
 
-#[tactic(auto, using(crate::proofs::Misplacing::given_below, crate::proofs::Plain::plain_held))]
+#[tactic(auto, using(crate::proofs::Plain::plain_held))]
 fn held_is_plain(nodes: &Nodes, definitions: &[Declaration], impls: &[Impl], held: Held) -> bool
     requires { is_not_given nodes.now held ≡ false }
     ensures { IsTrue result → HeldIsPlain nodes.now definitions.now impls.now held }
 {
     match held.owner {
-        Owner::Definition(i) => definition_is_plain(nodes, held.number, definitions.get(i)),
-        Owner::Impl(i) => impl_is_plain(nodes, held.number, impls.get(i)),
+        Owner::Definition(i) => definition_is_plain(nodes, held.number, at(definitions, i)),
+        Owner::Impl(i) => impl_is_plain(nodes, held.number, at(impls, i)),
     }
 }
 

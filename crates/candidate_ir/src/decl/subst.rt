@@ -13,6 +13,7 @@ ghost use Rattle.candidate_ir.specs.Words.{IsTy, IsConst, IsArgs, IsClause, IsSi
 use crate::decl::context::Cx;
 use crate::decl::fold::fold_number;
 use crate::decl::make::Make;
+use crate::decl::open::{bound_variable, bound_variable_of};
 use crate::ir::heads::{ConstHead, Head};
 use crate::ir::kinds::{
     Args, BoundVar, Clause, Const, ConstKind, GenericArg, ParamEnv, RegionKind, Sig, TraitRef, Ty,
@@ -37,20 +38,12 @@ fn moved<M: Make>(
     ensures cause { IfErr result (λ s. IsAnswerStop (length (M.context make.new).trees) (moved by binders (arg_tree (M.context make.old).trees arg).head) s) }
 {
     let head = make.cx().head(arg.number());
-    match head {
-        Head::Bound(var) => match further(var, binders, by)? {
-            Some(var) => Ok(Some(GenericArg::Ty(make.mk_ty(TyKind::Bound(var))?))),
-            None => Ok(None),
-        },
-        Head::Const(ConstHead::Bound(var)) => match further(var, binders, by)? {
-            Some(var) => Ok(Some(GenericArg::Const(make.mk_const(ConstKind::Bound(var))?))),
-            None => Ok(None),
-        },
-        Head::Region(RegionKind::Bound(var)) => match further(var, binders, by)? {
-            Some(var) => Ok(Some(GenericArg::Region(make.mk_region(RegionKind::Bound(var))?))),
-            None => Ok(None),
-        },
-        _ => Ok(None),
+    let Some((kind, var)) = bound_variable_of(head) else {
+        return Ok(None);
+    };
+    match further(var, binders, by)? {
+        Some(var) => Ok(Some(bound_variable(make, kind, var)?)),
+        None => Ok(None),
     }
 }
 

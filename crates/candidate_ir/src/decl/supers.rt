@@ -10,6 +10,7 @@ ghost use Rattle.candidate_ir.specs.Words.{IsArgs, ClauseFits, args_forest, clau
 use crate::decl::contents::{Contents, TraitContents};
 use crate::decl::definition::{Declaration, DefinitionKind};
 use crate::decl::misplaced::is_clause;
+use crate::ir::at::at;
 use crate::ir::heads::{ClauseHead, Head};
 use crate::ir::kinds::{Args, Binder, Clause, ClauseKind, PredicatePolarity};
 use crate::ir::nodes::Nodes;
@@ -114,7 +115,7 @@ fn has_wrong_super(nodes: &Nodes, contents: &Contents, kind: DefinitionKind) -> 
 {
     match kind {
         DefinitionKind::Trait(_, place) => {
-            any_is_no_super(nodes, contents.traits.get(place as usize))
+            any_is_no_super(nodes, at(contents.traits.as_slice(), place as usize))
         }
         _ => false,
     }

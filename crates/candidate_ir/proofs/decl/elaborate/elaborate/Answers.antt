@@ -4,7 +4,7 @@ use Rattle.std.proofs.lemmas.Result.{err_from_is_err_and}
 use Rattle.candidate_ir.specs.Context.{Context}
 use Rattle.candidate_ir.specs.Elaboration.{unlisted}
 use Rattle.candidate_ir.specs.Words.{ClauseListFits, clause_tree}
-use Rattle.candidate_ir.proofs.Kept.{grows-refl}
+use Rattle.candidate_ir.proofs.Kept.{grows-refl, grows-trans}
 use Rattle.candidate_ir.proofs.Listing.{listed_clause}
 use Rattle.candidate_ir.proofs.Walking.{SupersFit, walk_begins, walk_goes_on, walk_ends, walk_stops, begins_without_memory}
 use Rattle.candidate_ir.proofs.decl.elaborate.elaborate.Goals as goal
@@ -54,3 +54,6 @@ pub returns-clause-list : goal.returns-clause-list
 returns-clause-list g c =
     let past : length c.loop-walked.list.items ≤ c.loop-walked.walked = search rules in
     walk_ends _ _ c.args.clauses.now c.loop-walked.list.items c.loop-walked.walked c.loop-walked.invariant.0 past
+
+pub returns-in_err-push_implied-clause-grows : goal.returns-in_err-push_implied-clause-grows
+returns-in_err-push_implied-clause-grows g c = grows-trans _ _ _ c.loop-walked.invariant.0.grows c.push_implied.ensures.grows

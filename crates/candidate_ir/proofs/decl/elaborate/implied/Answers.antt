@@ -7,7 +7,7 @@ use Rattle.candidate_ir.specs.Context.{world}
 use Rattle.candidate_ir.specs.References.{IsWellFormed}
 use Rattle.candidate_ir.specs.Words.{args_forest, clause_tree, vars_tree}
 use Rattle.candidate_ir.specs.Elaboration.{IsRenumberStop}
-use Rattle.candidate_ir.proofs.Kept.{args-kept}
+use Rattle.candidate_ir.proofs.Kept.{args-kept, grows-trans}
 use Rattle.candidate_ir.proofs.References.{fit-at}
 use Rattle.candidate_ir.proofs.Joining.{below_binder, read-clause, read-fits, read-count, joint-variables, clause-kept, fold-kept, under-lacks, joint-fits, joint-cause, instance-cause, instance-tree, instance-takes, clause-stop}
 use Rattle.candidate_ir.proofs.decl.elaborate.implied.Goals as goal
@@ -87,3 +87,9 @@ returns-clause-cause g c =
     (read-clause (g.M.Make.context c.instantiated.new.make) _ c.in_ok-instance.instance c.clause-value-2.result c.cx-4.ensures c.clause-value-2.ensures.fits c.clause-value-2.ensures.tree)
     (c.in_ok-instance.ensures.tree ∙ fold-kept (g.M.Make.context c.args.make.now) (g.M.Make.context c.joint_vars.new.make) c.args.args c.args.clause _ c.in_ok-joint.ensures.grows c.requires.args c.requires.clause))
     c.mk_clause.ensures.made.unchanged c.mk_clause.ensures.made.cause
+
+pub returns-in_err-instance-clause-grows : goal.returns-in_err-instance-clause-grows
+returns-in_err-instance-clause-grows g c = grows-trans _ _ _ c.in_ok-joint.ensures.grows c.instantiated.ensures.grows
+
+pub returns-clause-grows : goal.returns-clause-grows
+returns-clause-grows g c = grows-trans _ _ _ (grows-trans _ _ _ c.in_ok-joint.ensures.grows c.in_ok-instance.ensures.grows) c.mk_clause.ensures.made.kept

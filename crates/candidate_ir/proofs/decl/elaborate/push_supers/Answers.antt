@@ -1,4 +1,4 @@
-use Rattle.std.proofs.Common.{◌≡◌, sym, ◌∙◌, subst, inr}
+use Rattle.std.proofs.Common.{◌≡◌, ◌≤◌, length, sym, ◌∙◌, ap, subst, inr, arith}
 use Rattle.std.proofs.lemmas.Result.{err_from_is_err_and}
 use Rattle.std.specs.Prelude.{◌++◌, ◌∷◌, [], map, Some, None, slice_get}
 use Rattle.candidate_ir.specs.Declaring.{trait_at}
@@ -6,8 +6,8 @@ use Rattle.candidate_ir.specs.Supers.{supers_at}
 use Rattle.candidate_ir.specs.Context.{Context}
 use Rattle.candidate_ir.specs.Words.{ClauseListFits, clause_tree}
 use Rattle.candidate_ir.specs.Elaboration.{unlisted}
-use Rattle.candidate_ir.proofs.Kept.{args-kept, grows-trans}
-use Rattle.candidate_ir.proofs.Listing.{clauses_kept, no_more_supers, one_more_super, vars_kept, instance_kept, supers_read, super_unmade}
+use Rattle.candidate_ir.proofs.Kept.{args-kept, grows-trans, header-kept}
+use Rattle.candidate_ir.proofs.Listing.{all_supers, clauses_kept, no_more_supers, one_more_super, vars_kept, instance_kept, supers_read, super_unmade}
 use Rattle.candidate_ir.proofs.decl.elaborate.push_supers.Goals as goal
 use Rattle.candidate_ir.proofs.decl.elaborate.push_supers.Goals.{in-Some+in_ok-clause+in_ok-push_unlisted, in_default}
 
@@ -66,3 +66,15 @@ returns-in_err-clause-clause-cause g c =
     (inr
     (super_unmade start now c.args.list.now.items c.loop-place.list.items _ _ i c.loop-place.place _ c.in-Some.own _ _ c.loop-place.invariant.0
     (instance_kept start now c.args.vars c.args.trait_ref.args (clause_tree now.trees c.in-Some.own) c.loop-place.invariant.0.grows c.requires.vars c.requires.args) own supers.1 c.in_err-clause.ensures.cause))
+
+pub super_clause-requires : goal.super_clause-requires
+super_clause-requires g c =
+    rw c.cx-in-loop-place.ensures (header-kept (g.M.Make.context c.args.make.now) (g.M.Make.context c.loop-place.make) c.args.trait_ref c.loop-place.invariant.0.grows c.requires.args c.requires.fit)
+
+pub returns-clause-trees : goal.returns-clause-trees
+returns-clause-trees g c =
+    let start = g.M.Make.context c.args.make.now in
+    let i = c.args.trait_ref.def_id.0 in
+    let supers = supers_read start _ i c.super_clauses-count.result.now c.cx.ensures c.super_clauses-count.ensures.is c.super_clauses-count.ensures.fit in
+    let all : length (supers_at (trait_at start i)) ≤ c.loop-place.place = omega (arith, ap length supers.0, c.loop-place-test.false) in
+    all_supers start _ c.args.list.now.items c.loop-place.list.items _ _ i c.loop-place.place c.loop-place.invariant.0 all

@@ -6,6 +6,7 @@ use Rattle.candidate_ir.specs.Folds.{arg_tree}
 use Rattle.candidate_ir.specs.Elaboration.{IsHeadStop}
 use Rattle.candidate_ir.specs.Words.{args_forest}
 use Rattle.candidate_ir.proofs.Implying.{arg-kept, put-stop, passed}
+use Rattle.candidate_ir.proofs.Kept.{grows-trans}
 use Rattle.candidate_ir.proofs.decl.elaborate.put_or_renumber.Goals as goal
 
 pub returns-in_err-value-clause-cause : goal.returns-in_err-value-clause-cause
@@ -29,3 +30,6 @@ returns-in-None-clause-cause g c =
     subst (λ (t : Option Tree). IfErr c.renumbered.result (λ s. IsHeadStop (length (g.M.Make.context c.renumbered.new.make).trees) t s))
     (passed (args_forest (g.M.Make.context c.args.make.now).trees c.args.args) c.args.by _ _ _ _ c.args.arg _ c.requires.arg c.put.ensures.grows c.saturating_sub-below.ensures c.in-None.is c.in_ok-value.ensures.answer)
     c.renumbered.ensures.cause
+
+pub returns-in-None-clause-grows : goal.returns-in-None-clause-grows
+returns-in-None-clause-grows g c = grows-trans _ _ _ c.in_ok-value.ensures.grows c.renumbered.ensures.grows

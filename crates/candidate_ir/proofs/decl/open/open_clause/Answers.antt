@@ -9,6 +9,7 @@ use Rattle.candidate_ir.proofs.Joining.{clause-kept, clause-unmade, read-clause,
 use Rattle.candidate_ir.proofs.Opening.{binder-stop, opened-cause, opened-tree, opened-takes}
 use Rattle.candidate_ir.proofs.References.{fit-at}
 use Rattle.candidate_ir.proofs.Rows.{kind-of}
+use Rattle.candidate_ir.proofs.Kept.{grows-trans}
 use Rattle.candidate_ir.proofs.decl.open.open_clause.Goals as goal
 
 pub clause-value-requires : goal.clause-value-requires
@@ -60,3 +61,9 @@ returns-clause-cause g c =
     (read-clause new _ c.in_ok-opened.opened c.clause-value.result c.cx-3.ensures c.clause-value.ensures.fits c.clause-value.ensures.tree)
     ((clause-kept _ _ c.in_ok-opened.opened c.in_ok-vars.ensures.made.kept c.in_ok-opened.ensures.sort).1 ∙ c.in_ok-opened.ensures.tree))
     c.mk_clause.ensures.made.unchanged c.mk_clause.ensures.made.cause
+
+pub returns-in_err-vars-clause-grows : goal.returns-in_err-vars-clause-grows
+returns-in_err-vars-clause-grows g c = grows-trans _ _ _ c.in_ok-opened.ensures.grows c.mk_vars.ensures.made.kept
+
+pub returns-clause-grows : goal.returns-clause-grows
+returns-clause-grows g c = grows-trans _ _ _ (grows-trans _ _ _ c.in_ok-opened.ensures.grows c.in_ok-vars.ensures.made.kept) c.mk_clause.ensures.made.kept
