@@ -20,8 +20,10 @@ use Rattle.candidate_eval.specs.declared.eval.context.ProbeKind.TheVariants as P
 use Rattle.candidate_eval.specs.States.{Env, State, Goal, Pending, Judge, with_pending, with_universe, placeholders, value_at, next}
 
 -- A call keeps what is fixed and the open probes, and numbers have their trees still: of the evaluator only its state changes.
-abbrev pub Keeps : {E F : Type 0} → (E → F) → (E → List State) → (E → Context) → E → E → Type 0
-Keeps fixed probes context old new = (fixed new ≡ fixed old) × (probes new ≡ probes old) × Grows (context old) (context new)
+pub record Keeps {E F : Type 0} (fixed : E → F) (probes : E → List State) (context : E → Context) (old new : E) : Type 0 where
+  pub fixed_same : fixed new ≡ fixed old
+  pub probes_same : probes new ≡ probes old
+  pub grows : Grows (context old) (context new)
 
 -- The trees of a goal's numbers.
 

@@ -3,7 +3,7 @@ use Rattle.candidate_eval.specs.declared.eval.refusal.NoSolutionOrStop.TheVarian
 use Rattle.candidate_eval.specs.Certainties.{AMBIGUOUS}
 use Rattle.candidate_eval.specs.ResponseTrees.{response_of}
 use Rattle.candidate_eval.specs.States.{with_pending}
-use Rattle.candidate_eval.proofs.Probing.{keeps-probe, of-error}
+use Rattle.candidate_eval.proofs.Probing.{alike-probe, keeps-probe, of-error}
 use Rattle.candidate_eval.proofs.Responding.{response-fits, response-kept, not-refused, as-asked}
 use Rattle.candidate_eval.proofs.eval.ambiguity.bail_with_ambiguity.Goals as goal
 
@@ -50,3 +50,30 @@ unreachable-requires g c =
     let is : c.in-Err-NoSolution.field-0 ≡ NoSolution = search rules in
     let refused = of-error ran.result c.in-Err-NoSolution.field-0 _ c.in-Err-NoSolution.is ran.ensures.refused is in
     not-refused (E.judge (E.fixed c.args.ecx.now)) (g.met.E.EvalCtxt.lawful (E.fixed c.args.ecx.now)) S AMBIGUOUS (rw (began.fixed, began.ok.0) at refused)
+
+pub returns-in-Ok-clause-alike : goal.returns-in-Ok-clause-alike
+returns-in-Ok-clause-alike g c =
+    let E = g.E.EvalCtxt in
+    let ran = c.evaluate_added_goals_and_make_canonical_response-answer in
+    let end = c.end_probe-usages in
+    let began = c.in_ok-probe.ensures in
+    alike-probe E.fixed E.probes E.judge E.state c.args.ecx.now c.begin_probe.new.self ran.new.self end.new.self
+    began.fixed began.ok.1 ran.ensures.kept.fixed_same ran.ensures.kept.probes_same end.ensures.closed
+
+pub returns-in-Err-Stop-clause-kept : goal.returns-in-Err-Stop-clause-kept
+returns-in-Err-Stop-clause-kept g c =
+    let E = g.E.EvalCtxt in
+    let ran = c.evaluate_added_goals_and_make_canonical_response-answer in
+    let end = c.end_probe-usages in
+    let began = c.in_ok-probe.ensures in
+    keeps-probe E.fixed E.probes g.E.Make.context c.args.ecx.now c.begin_probe.new.self ran.new.self end.new.self (E.state c.args.ecx.now)
+    began.fixed began.grows began.ok.1 ran.ensures.kept end.ensures.fixed end.ensures.grows end.ensures.left
+
+pub returns-in-Err-Stop-clause-alike : goal.returns-in-Err-Stop-clause-alike
+returns-in-Err-Stop-clause-alike g c =
+    let E = g.E.EvalCtxt in
+    let ran = c.evaluate_added_goals_and_make_canonical_response-answer in
+    let end = c.end_probe-usages in
+    let began = c.in_ok-probe.ensures in
+    alike-probe E.fixed E.probes E.judge E.state c.args.ecx.now c.begin_probe.new.self ran.new.self end.new.self
+    began.fixed began.ok.1 ran.ensures.kept.fixed_same ran.ensures.kept.probes_same end.ensures.closed

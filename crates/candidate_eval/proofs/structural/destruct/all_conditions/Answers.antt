@@ -1,3 +1,4 @@
+use Rattle.candidate_ir.proofs.Kept.{grows-trans}
 use Rattle.candidate_ir.proofs.Made.{IsTy-grows}
 use Rattle.candidate_eval.proofs.Conditions.{own_kept}
 use Rattle.candidate_eval.proofs.structural.destruct.all_conditions.Goals as goal
@@ -8,3 +9,11 @@ push_own-requires-clause-ty g c = IsTy-grows _ _ c.args.ty c.push_conditions.ens
 pub returns-clause-trees : goal.returns-clause-trees
 returns-clause-trees g c =
     own_kept c.args.of _ (g.M.Make.context c.args.make.now) _ c.args.ty c.args.own _ _ c.push_conditions.ensures.grows c.requires.ty c.in_ok-push_conditions.ensures.trees c.in_ok-push_own.ensures.trees
+
+pub returns-in_err-push_own-clause-grows : goal.returns-in_err-push_own-clause-grows
+returns-in_err-push_own-clause-grows g c =
+    grows-trans _ _ _ c.push_conditions.ensures.grows c.push_own.ensures.grows
+
+pub returns-clause-grows : goal.returns-clause-grows
+returns-clause-grows g c =
+    grows-trans _ _ _ c.push_conditions.ensures.grows c.push_own.ensures.grows

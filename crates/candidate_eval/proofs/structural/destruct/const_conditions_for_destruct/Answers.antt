@@ -5,7 +5,7 @@ use Rattle.candidate_ir.specs.declared.decl.contents.LangItem.TheVariants as L
 use Rattle.candidate_ir.specs.declared.ir.stop.Stop.{Stop}
 use Rattle.candidate_ir.specs.Context.{Context}
 use Rattle.candidate_ir.specs.Words.{ty_tree}
-use Rattle.candidate_ir.proofs.Kept.{ty-kept}
+use Rattle.candidate_ir.proofs.Kept.{ty-kept, grows-trans}
 use Rattle.candidate_eval.specs.Tables.{row_of}
 use Rattle.candidate_eval.specs.Asked.{asked_cell}
 use Rattle.candidate_eval.specs.Destruct.{lang, own_conditions, own_destructor, own_references, destruct_conditions, IsConditionsStop}
@@ -63,3 +63,11 @@ returns-clause-conditions g c =
     let types = ap (map (ty_tree mid.trees)) c.as_slice.ensures.value ∙ c.in_ok-types.ensures.trees in
     all_are start (ty_tree start.trees ty) (ty_tree mid.trees ty) asked of own _ _ item cell (sym c.is_refused.ensures ∙ c.if-is_refused.false) some types
     (ty-kept start mid ty c.made.ensures.grows c.requires.ty).1 c.in_ok-conditions.ensures.trees
+
+pub returns-in_err-conditions-clause-grows : goal.returns-in_err-conditions-clause-grows
+returns-in_err-conditions-clause-grows g c =
+    grows-trans _ _ _ c.made.ensures.grows c.all_conditions.ensures.grows
+
+pub returns-clause-grows : goal.returns-clause-grows
+returns-clause-grows g c =
+    grows-trans _ _ _ c.made.ensures.grows c.all_conditions.ensures.grows

@@ -1,3 +1,4 @@
+use Rattle.candidate_ir.proofs.Kept.{grows-trans}
 use Rattle.std.proofs.Common.{◌∙◌}
 use Rattle.std.proofs.lemmas.Result.{err_from_is_err_and}
 use Rattle.candidate_ir.proofs.Made.{IsTy-grows}
@@ -20,3 +21,7 @@ loop-ty-preserved g c = (
       c.push_condition.ensures.grows c.in_ok-push_condition.ensures.sort c.in_ok-push_condition.ensures.trees,
   c.push_condition.ensures.rest ∙ c.loop-ty.invariant.1,
 )
+
+pub returns-in_err-push_condition-clause-grows : goal.returns-in_err-push_condition-clause-grows
+returns-in_err-push_condition-clause-grows g c =
+    grows-trans _ _ _ c.loop-ty.invariant.0.grows c.push_condition.ensures.grows

@@ -1,3 +1,4 @@
+use Rattle.candidate_ir.proofs.Kept.{grows-trans}
 use Rattle.std.proofs.Common.{arith}
 use Rattle.std.proofs.lemmas.Result.{err_from_is_err_and}
 use Rattle.candidate_eval.proofs.Types.{made_stop, slice_stop}
@@ -10,3 +11,7 @@ returns-in_err-byte-clause-cause g c =
 
 pub returns-clause-cause : goal.returns-clause-cause
 returns-clause-cause g c = slice_stop _ _ c.in_ok-byte.byte _ c.in_ok-byte.ensures.made.tree c.mk_ty-2.ensures.made
+
+pub returns-clause-grows : goal.returns-clause-grows
+returns-clause-grows g c =
+    grows-trans _ _ _ c.mk_ty.ensures.made.kept c.mk_ty-2.ensures.made.kept

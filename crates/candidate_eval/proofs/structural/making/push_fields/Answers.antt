@@ -1,6 +1,6 @@
 use Rattle.std.proofs.Common.{◌∙◌}
 use Rattle.std.proofs.lemmas.Result.{err_from_is_err_and}
-use Rattle.candidate_ir.proofs.Kept.{args-kept}
+use Rattle.candidate_ir.proofs.Kept.{args-kept, grows-trans}
 use Rattle.candidate_eval.proofs.Types.{fields_read, one_more_field, field_stop, parameters_kept}
 use Rattle.candidate_eval.proofs.structural.making.push_fields.Goals as goal
 
@@ -26,3 +26,7 @@ loop-place-preserved g c =
           c.in_ok-push_field.ensures.trees,
       c.push_field.ensures.rest ∙ c.loop-place.invariant.1,
     )
+
+pub returns-in_err-push_field-clause-grows : goal.returns-in_err-push_field-clause-grows
+returns-in_err-push_field-clause-grows g c =
+    grows-trans _ _ _ c.loop-place.invariant.0.grows c.push_field.ensures.grows

@@ -4,7 +4,7 @@ use Rattle.candidate_ir.proofs.Joining.{clause-kept}
 use Rattle.candidate_ir.proofs.Kept.{args-kept}
 use Rattle.candidate_eval.specs.declared.eval.refusal.NoSolutionOrStop.TheVariants.{NoSolution}
 use Rattle.candidate_eval.proofs.Objects.{env-kept, about-kept, kept-answer}
-use Rattle.candidate_eval.proofs.Probing.{of-error}
+use Rattle.candidate_eval.proofs.Probing.{of-error, keeps-probe, alike-probe}
 use Rattle.candidate_eval.proofs.structural.object.can_be_equated.Goals as goal
 
 pub equate_bound-answer-requires-clause-env : goal.equate_bound-answer-requires-clause-env
@@ -50,3 +50,57 @@ returns-in-Err-NoSolution-clause-answer g c =
     (args_forest before.trees c.args.projection.args) (args_forest after.trees c.args.projection.args) _
     c.begin_probe.ensures.fixed c.in_ok-probe.ensures.ok.0 (env-kept before after c.args.env grows c.requires.env).1 (clause-kept before after c.args.bound grows c.requires.bound).1
     (args-kept before after c.args.projection.args grows c.requires.args).1 (of-error ran.result c.in-Err-NoSolution.field-0 _ c.in-Err-NoSolution.is ran.ensures.refused is)
+
+pub returns-in-Ok-clause-kept : goal.returns-in-Ok-clause-kept
+returns-in-Ok-clause-kept g c =
+    let E = g.E.EvalCtxt in
+    let ran = c.equate_bound-answer in
+    let end = c.end_probe-usages in
+    let began = c.in_ok-probe.ensures in
+    keeps-probe E.fixed E.probes g.E.Make.context c.args.ecx.now c.begin_probe.new.self ran.new.ecx end.new.self (E.state c.args.ecx.now)
+    began.fixed began.grows began.ok.1 ran.ensures.kept end.ensures.fixed end.ensures.grows end.ensures.left
+
+pub returns-in-Ok-clause-alike : goal.returns-in-Ok-clause-alike
+returns-in-Ok-clause-alike g c =
+    let E = g.E.EvalCtxt in
+    let ran = c.equate_bound-answer in
+    let end = c.end_probe-usages in
+    let began = c.in_ok-probe.ensures in
+    alike-probe E.fixed E.probes E.judge E.state c.args.ecx.now c.begin_probe.new.self ran.new.ecx end.new.self
+    began.fixed began.ok.1 ran.ensures.kept.fixed_same ran.ensures.kept.probes_same end.ensures.closed
+
+pub returns-in-Err-NoSolution-clause-kept : goal.returns-in-Err-NoSolution-clause-kept
+returns-in-Err-NoSolution-clause-kept g c =
+    let E = g.E.EvalCtxt in
+    let ran = c.equate_bound-answer in
+    let end = c.end_probe-usages in
+    let began = c.in_ok-probe.ensures in
+    keeps-probe E.fixed E.probes g.E.Make.context c.args.ecx.now c.begin_probe.new.self ran.new.ecx end.new.self (E.state c.args.ecx.now)
+    began.fixed began.grows began.ok.1 ran.ensures.kept end.ensures.fixed end.ensures.grows end.ensures.left
+
+pub returns-in-Err-NoSolution-clause-alike : goal.returns-in-Err-NoSolution-clause-alike
+returns-in-Err-NoSolution-clause-alike g c =
+    let E = g.E.EvalCtxt in
+    let ran = c.equate_bound-answer in
+    let end = c.end_probe-usages in
+    let began = c.in_ok-probe.ensures in
+    alike-probe E.fixed E.probes E.judge E.state c.args.ecx.now c.begin_probe.new.self ran.new.ecx end.new.self
+    began.fixed began.ok.1 ran.ensures.kept.fixed_same ran.ensures.kept.probes_same end.ensures.closed
+
+pub returns-clause-kept : goal.returns-clause-kept
+returns-clause-kept g c =
+    let E = g.E.EvalCtxt in
+    let ran = c.equate_bound-answer in
+    let end = c.end_probe-usages in
+    let began = c.in_ok-probe.ensures in
+    keeps-probe E.fixed E.probes g.E.Make.context c.args.ecx.now c.begin_probe.new.self ran.new.ecx end.new.self (E.state c.args.ecx.now)
+    began.fixed began.grows began.ok.1 ran.ensures.kept end.ensures.fixed end.ensures.grows end.ensures.left
+
+pub returns-clause-alike : goal.returns-clause-alike
+returns-clause-alike g c =
+    let E = g.E.EvalCtxt in
+    let ran = c.equate_bound-answer in
+    let end = c.end_probe-usages in
+    let began = c.in_ok-probe.ensures in
+    alike-probe E.fixed E.probes E.judge E.state c.args.ecx.now c.begin_probe.new.self ran.new.ecx end.new.self
+    began.fixed began.ok.1 ran.ensures.kept.fixed_same ran.ensures.kept.probes_same end.ensures.closed

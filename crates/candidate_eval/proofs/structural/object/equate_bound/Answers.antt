@@ -1,3 +1,4 @@
+use Rattle.candidate_eval.proofs.Probing.{then}
 use Rattle.std.proofs.Common.{sym, ◌∙◌, ap, subst}
 use Rattle.std.proofs.lemmas.Result.{err_from_is_err_and}
 use Rattle.candidate_ir.specs.Context.{Context}
@@ -9,11 +10,11 @@ use Rattle.candidate_eval.proofs.structural.object.equate_bound.Goals as goal
 
 pub eq_args-requires-clause-env : goal.eq_args-requires-clause-env
 eq_args-requires-clause-env g c =
-    (env-kept (g.E.Make.context c.args.ecx.now) (g.E.Make.context c.instantiate_binder_with_infer.new.ecx) c.args.env c.instantiate_binder_with_infer.ensures.kept.2 c.requires.env).0
+    (env-kept (g.E.Make.context c.args.ecx.now) (g.E.Make.context c.instantiate_binder_with_infer.new.ecx) c.args.env c.instantiate_binder_with_infer.ensures.kept.grows c.requires.env).0
 
 pub eq_args-requires-clause-right : goal.eq_args-requires-clause-right
 eq_args-requires-clause-right g c =
-    (args-kept (g.E.Make.context c.args.ecx.now) (g.E.Make.context c.instantiate_binder_with_infer.new.ecx) c.args.projection.args c.instantiate_binder_with_infer.ensures.kept.2 c.requires.args).0
+    (args-kept (g.E.Make.context c.args.ecx.now) (g.E.Make.context c.instantiate_binder_with_infer.new.ecx) c.args.projection.args c.instantiate_binder_with_infer.ensures.kept.grows c.requires.args).0
 
 pub returns-in_err-eq_args-in-Some-clause-refused : goal.returns-in_err-eq_args-in-Some-clause-refused
 returns-in_err-eq_args-in-Some-clause-refused g c =
@@ -25,11 +26,11 @@ returns-in_err-eq_args-in-Some-clause-refused g c =
     let after = g.E.Make.context mid in
     let x = c.in_ok-instance.instance in
     let read = subst (λ (y : Context). IsBound y.trees (clause_tree y.trees x) c.in-Some.predicate) c.cx.ensures c.in-Some.ensures.0 in
-    let env = env-kept before after c.args.env kept.2 c.requires.env in
-    let args = args-kept before after c.args.projection.args kept.2 c.requires.args in
+    let env = env-kept before after c.args.env kept.grows c.requires.env in
+    let args = args-kept before after c.args.projection.args kept.grows c.requires.args in
     let comes = instance-accepted E.judge (E.fixed old) (E.fixed mid) (E.state old) (E.state mid) (env_forest before.trees c.args.env) (env_forest after.trees c.args.env) (clause_tree before.trees c.args.bound) (clause_tree after.trees x)
     (args_forest before.trees c.args.projection.args) (args_forest after.trees c.in-Some.predicate.projection_term.args) (args_forest after.trees c.args.projection.args)
-    kept.0 c.in_ok-instance.ensures.state env.1 c.in_ok-instance.ensures.tree (sym read.arguments_are) args.1 in
+    kept.fixed_same c.in_ok-instance.ensures.state env.1 c.in_ok-instance.ensures.tree (sym read.arguments_are) args.1 in
     let r = err_from_is_err_and c.from_residual-in_err-eq_args-in-Some.result c.from_residual-in_err-eq_args-in-Some.ensures.1 in
     rw r.1 (λ n. sym comes ∙ c.in_err-eq_args-in-Some.ensures.refused (sym r.2 ∙ n))
 
@@ -43,21 +44,29 @@ returns-clause-ok g c =
     let after = g.E.Make.context mid in
     let x = c.in_ok-instance.instance in
     let read = subst (λ (y : Context). IsBound y.trees (clause_tree y.trees x) c.in-Some.predicate) c.cx.ensures c.in-Some.ensures.0 in
-    let env = env-kept before after c.args.env kept.2 c.requires.env in
-    let args = args-kept before after c.args.projection.args kept.2 c.requires.args in
+    let env = env-kept before after c.args.env kept.grows c.requires.env in
+    let args = args-kept before after c.args.projection.args kept.grows c.requires.args in
     let comes = instance-accepted E.judge (E.fixed old) (E.fixed mid) (E.state old) (E.state mid) (env_forest before.trees c.args.env) (env_forest after.trees c.args.env) (clause_tree before.trees c.args.bound) (clause_tree after.trees x)
     (args_forest before.trees c.args.projection.args) (args_forest after.trees c.in-Some.predicate.projection_term.args) (args_forest after.trees c.args.projection.args)
-    kept.0 c.in_ok-instance.ensures.state env.1 c.in_ok-instance.ensures.tree (sym read.arguments_are) args.1 in
+    kept.fixed_same c.in_ok-instance.ensures.state env.1 c.in_ok-instance.ensures.tree (sym read.arguments_are) args.1 in
     sym comes ∙ c.in_ok-eq_args-in-Some.ensures.ok
 
 pub returns-clause-sort : goal.returns-clause-sort
 returns-clause-sort g c =
     let after = g.E.Make.context c.instantiate_binder_with_infer.new.ecx in
     let read = subst (λ (y : Context). IsBound y.trees (clause_tree y.trees c.in_ok-instance.instance) c.in-Some.predicate) c.cx.ensures c.in-Some.ensures.0 in
-    (ty-kept after (g.E.Make.context c.eq_args.new.self) c.in-Some.predicate.term c.eq_args.ensures.kept.2 read.term).0
+    (ty-kept after (g.E.Make.context c.eq_args.new.self) c.in-Some.predicate.term c.eq_args.ensures.kept.grows read.term).0
 
 pub returns-clause-term : goal.returns-clause-term
 returns-clause-term g c =
     let after = g.E.Make.context c.instantiate_binder_with_infer.new.ecx in
     let read = subst (λ (y : Context). IsBound y.trees (clause_tree y.trees c.in_ok-instance.instance) c.in-Some.predicate) c.cx.ensures c.in-Some.ensures.0 in
-    (ty-kept after (g.E.Make.context c.eq_args.new.self) c.in-Some.predicate.term c.eq_args.ensures.kept.2 read.term).1 ∙ (sym read.term_is ∙ ap term_in c.in_ok-instance.ensures.tree)
+    (ty-kept after (g.E.Make.context c.eq_args.new.self) c.in-Some.predicate.term c.eq_args.ensures.kept.grows read.term).1 ∙ (sym read.term_is ∙ ap term_in c.in_ok-instance.ensures.tree)
+
+pub returns-in_err-eq_args-in-Some-clause-kept : goal.returns-in_err-eq_args-in-Some-clause-kept
+returns-in_err-eq_args-in-Some-clause-kept g c =
+    then c.instantiate_binder_with_infer.ensures.kept c.eq_args.ensures.kept
+
+pub returns-clause-kept : goal.returns-clause-kept
+returns-clause-kept g c =
+    then c.instantiate_binder_with_infer.ensures.kept c.eq_args.ensures.kept

@@ -1,3 +1,4 @@
+use Rattle.candidate_eval.proofs.Probing.{keeps-trans}
 use Rattle.std.proofs.Common.{rules, ◌≡◌, true, false, [], ◌∷◌, ◌++◌, refl, ◌∙◌, ap, subst}
 use Rattle.candidate_ir.specs.Trees.{Forest}
 use Rattle.candidate_ir.specs.Words.{env_forest}
@@ -54,14 +55,34 @@ loop-bound-preserved g c =
             let yes : c.in_ok-bound_matches.field-0 ≡ true = search rules in
             let items : c.if-branch.found.items ≡ c.loop-bound.found.items ++ _ ∷ [] = search rules in
             one-found (E.judge (E.fixed old)) e p start mid last (E.state old) (E.state now) (E.state new) c.args.bounds.now c.loop-bound.bound-index _ c.loop-bound.found.items c.if-branch.found.items lawful so c.requires.bounds
-            c.loop-bound-test.true kept.2 alike (said ∙ yes) items
+            c.loop-bound-test.true kept.grows alike (said ∙ yes) items
         | else-branch w ↦
             let no : c.in_ok-bound_matches.field-0 ≡ false = search rules in
             let same : c.if-branch.found.items ≡ c.loop-bound.found.items = search rules in
             rw same
             (one-passed (E.judge (E.fixed old)) e p start mid last (E.state old) (E.state now) (E.state new) c.args.bounds.now c.loop-bound.bound-index _ c.loop-bound.found.items lawful so
-            c.loop-bound-test.true kept.2 alike (said ∙ no))
+            c.loop-bound-test.true kept.grows alike (said ∙ no))
       ],
-      kept.0 ∙ fixed,
-      kept.1 ∙ c.loop-bound.invariant.2,
+      kept.fixed_same ∙ fixed,
+      kept.probes_same ∙ c.loop-bound.invariant.2,
     )
+
+pub returns-in_err-bound_matches-clause-kept : goal.returns-in_err-bound_matches-clause-kept
+returns-in_err-bound_matches-clause-kept g c =
+    let E = g.E.EvalCtxt in
+    keeps-trans E.fixed E.probes g.E.Make.context c.args.ecx.now c.loop-bound.ecx c.bound_matches.new.ecx (record { fixed_same = c.loop-bound.invariant.1; probes_same = c.loop-bound.invariant.2; grows = c.loop-bound.invariant.0.grows }) c.bound_matches.ensures.kept
+
+pub returns-in_err-bound_matches-clause-alike : goal.returns-in_err-bound_matches-clause-alike
+returns-in_err-bound_matches-clause-alike g c =
+    let E = g.E.EvalCtxt in
+    (g.met.E.EvalCtxt.lawful (E.fixed c.args.ecx.now)).alike_judged_alike.alike_along (E.state c.args.ecx.now) (E.state c.loop-bound.ecx) (E.state c.bound_matches.new.ecx) c.loop-bound.invariant.0.alike (subst (λ f. (E.judge f).alike (E.state c.loop-bound.ecx) (E.state c.bound_matches.new.ecx)) c.loop-bound.invariant.1 c.bound_matches.ensures.alike)
+
+pub returns-in_err-push-clause-kept : goal.returns-in_err-push-clause-kept
+returns-in_err-push-clause-kept g c =
+    let E = g.E.EvalCtxt in
+    keeps-trans E.fixed E.probes g.E.Make.context c.args.ecx.now c.loop-bound.ecx c.bound_matches.new.ecx (record { fixed_same = c.loop-bound.invariant.1; probes_same = c.loop-bound.invariant.2; grows = c.loop-bound.invariant.0.grows }) c.bound_matches.ensures.kept
+
+pub returns-in_err-push-clause-alike : goal.returns-in_err-push-clause-alike
+returns-in_err-push-clause-alike g c =
+    let E = g.E.EvalCtxt in
+    (g.met.E.EvalCtxt.lawful (E.fixed c.args.ecx.now)).alike_judged_alike.alike_along (E.state c.args.ecx.now) (E.state c.loop-bound.ecx) (E.state c.bound_matches.new.ecx) c.loop-bound.invariant.0.alike (subst (λ f. (E.judge f).alike (E.state c.loop-bound.ecx) (E.state c.bound_matches.new.ecx)) c.loop-bound.invariant.1 c.bound_matches.ensures.alike)

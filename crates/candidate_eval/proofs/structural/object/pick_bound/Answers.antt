@@ -8,7 +8,7 @@ use Rattle.candidate_eval.specs.declared.eval.refusal.NoSolutionOrStop.TheVarian
 use Rattle.candidate_eval.specs.Objects.{IsAmbiguous, projection_at, fresh_instance, term_in}
 use Rattle.candidate_eval.specs.States.{is_some}
 use Rattle.candidate_eval.proofs.Objects.{about-kept, env-kept}
-use Rattle.candidate_eval.proofs.Probing.{of-error}
+use Rattle.candidate_eval.proofs.Probing.{of-error, then}
 use Rattle.candidate_eval.proofs.Tries.{equated-then, not-one, only-fits, only-tried, picked-at-once, refused-is}
 use Rattle.candidate_eval.proofs.structural.object.pick_bound.Goals as goal
 
@@ -20,11 +20,11 @@ returns-then-len-ne1-clause-ambiguous g c =
     λ _. IsAmbiguous.not_one (map (clause_tree ts) c.in_ok-found.found.items) c.in_ok-found.ensures.tried (not-one ts c.in_ok-found.found.items c.len.result e c.if-len-ne1.true)
 
 pub can_be_equated-requires-clause-env : goal.can_be_equated-requires-clause-env
-can_be_equated-requires-clause-env g c = (env-kept (g.E.Make.context c.args.ecx.now) (g.E.Make.context c.matching_bounds.new.ecx) c.args.env c.matching_bounds.ensures.kept.2 c.requires.env).0
+can_be_equated-requires-clause-env g c = (env-kept (g.E.Make.context c.args.ecx.now) (g.E.Make.context c.matching_bounds.new.ecx) c.args.env c.matching_bounds.ensures.kept.grows c.requires.env).0
 
 pub can_be_equated-requires-clause-args : goal.can_be_equated-requires-clause-args
 can_be_equated-requires-clause-args g c =
-    (args-kept (g.E.Make.context c.args.ecx.now) (g.E.Make.context c.matching_bounds.new.ecx) c.args.projection.args c.matching_bounds.ensures.kept.2 c.requires.args).0
+    (args-kept (g.E.Make.context c.args.ecx.now) (g.E.Make.context c.matching_bounds.new.ecx) c.args.projection.args c.matching_bounds.ensures.kept.grows c.requires.args).0
 
 pub can_be_equated-requires-clause-about : goal.can_be_equated-requires-clause-about
 can_be_equated-requires-clause-about g c =
@@ -41,20 +41,20 @@ equate_bound-requires-clause-env g c =
     let a = g.E.Make.context c.args.ecx.now in
     let b = g.E.Make.context c.matching_bounds.new.ecx in
     let d = g.E.Make.context c.can_be_equated.new.ecx in
-    (env-kept a d c.args.env (grows-trans a b d c.matching_bounds.ensures.kept.2 c.can_be_equated.ensures.kept.2) c.requires.env).0
+    (env-kept a d c.args.env (grows-trans a b d c.matching_bounds.ensures.kept.grows c.can_be_equated.ensures.kept.grows) c.requires.env).0
 
 pub equate_bound-requires-clause-bound : goal.equate_bound-requires-clause-bound
 equate_bound-requires-clause-bound g c =
     let l : length c.in_ok-found.found.items ≡ 1 = search rules in
     let b = g.E.Make.context c.matching_bounds.new.ecx in
-    (clause-kept b (g.E.Make.context c.can_be_equated.new.ecx) c.index-only.result.now c.can_be_equated.ensures.kept.2 (only-fits b.trees c.in_ok-found.found.items _ c.in_ok-found.ensures.sort l c.index-only.ensures)).0
+    (clause-kept b (g.E.Make.context c.can_be_equated.new.ecx) c.index-only.result.now c.can_be_equated.ensures.kept.grows (only-fits b.trees c.in_ok-found.found.items _ c.in_ok-found.ensures.sort l c.index-only.ensures)).0
 
 pub equate_bound-requires-clause-args : goal.equate_bound-requires-clause-args
 equate_bound-requires-clause-args g c =
     let a = g.E.Make.context c.args.ecx.now in
     let b = g.E.Make.context c.matching_bounds.new.ecx in
     let d = g.E.Make.context c.can_be_equated.new.ecx in
-    (args-kept a d c.args.projection.args (grows-trans a b d c.matching_bounds.ensures.kept.2 c.can_be_equated.ensures.kept.2) c.requires.args).0
+    (args-kept a d c.args.projection.args (grows-trans a b d c.matching_bounds.ensures.kept.grows c.can_be_equated.ensures.kept.grows) c.requires.args).0
 
 pub equate_bound-requires-clause-about : goal.equate_bound-requires-clause-about
 equate_bound-requires-clause-about g c =
@@ -63,7 +63,7 @@ equate_bound-requires-clause-about g c =
     let start = g.E.Make.context old in
     let l : length c.in_ok-found.found.items ≡ 1 = search rules in
     let b = g.E.Make.context c.matching_bounds.new.ecx in
-    about-kept b (g.E.Make.context c.can_be_equated.new.ecx) c.index-only.result.now c.args.projection.def_id.0 c.can_be_equated.ensures.kept.2 (only-fits b.trees c.in_ok-found.found.items _ c.in_ok-found.ensures.sort l c.index-only.ensures)
+    about-kept b (g.E.Make.context c.can_be_equated.new.ecx) c.index-only.result.now c.args.projection.def_id.0 c.can_be_equated.ensures.kept.grows (only-fits b.trees c.in_ok-found.found.items _ c.in_ok-found.ensures.sort l c.index-only.ensures)
     (only-tried (E.judge (E.fixed old)) (env_forest start.trees c.args.env) (projection_at start.trees c.args.projection) (E.state old) (E.state c.matching_bounds.new.ecx) (map (clause_tree start.trees) c.args.bounds.now)
     b.trees c.in_ok-found.found.items c.index-only.result.now c.in_ok-found.ensures.tried l c.index-only.ensures).1
 
@@ -81,10 +81,10 @@ returns-then-not-branch-clause-ambiguous g c =
     let only = only-tried (E.judge (E.fixed old)) (env_forest start.trees c.args.env) (projection_at start.trees c.args.projection) (E.state old) (E.state mid) (map (clause_tree start.trees) c.args.bounds.now)
     after.trees c.in_ok-found.found.items x c.in_ok-found.ensures.tried l c.index-only.ensures in
     let comes = equated-then E.judge (E.fixed old) (E.fixed mid) (E.state mid) (env_forest start.trees c.args.env) (env_forest after.trees c.args.env) (clause_tree after.trees x) (clause_tree after.trees x)
-    (args_forest start.trees c.args.projection.args) (args_forest after.trees c.args.projection.args) kept.0 (env-kept start after c.args.env kept.2 c.requires.env).1 refl (args-kept start after c.args.projection.args kept.2 c.requires.args).1 in
+    (args_forest start.trees c.args.projection.args) (args_forest after.trees c.args.projection.args) kept.fixed_same (env-kept start after c.args.env kept.grows c.requires.env).1 refl (args-kept start after c.args.projection.args kept.grows c.requires.args).1 in
     let no : c.in_ok-can_be_equated.field-0 ≡ false = search rules in
     λ _. IsAmbiguous.refused (E.state mid) (clause_tree after.trees x) only.0 (sym comes ∙ refused-is _ (c.in_ok-can_be_equated.ensures.answer ∙ no))
-    (subst (λ f. (E.judge f).alike (E.state mid) (E.state now)) kept.0 c.can_be_equated.ensures.alike)
+    (subst (λ f. (E.judge f).alike (E.state mid) (E.state now)) kept.fixed_same c.can_be_equated.ensures.alike)
 
 pub returns-in-Ok-clause-picked : goal.returns-in-Ok-clause-picked
 returns-in-Ok-clause-picked g c =
@@ -94,23 +94,23 @@ returns-in-Ok-clause-picked g c =
     let now = c.can_be_equated.new.ecx in
     let start = g.E.Make.context old in
     let after = g.E.Make.context mid in
-    let then = g.E.Make.context now in
+    let later = g.E.Make.context now in
     let kept = c.matching_bounds.ensures.kept in
     let more = c.can_be_equated.ensures.kept in
-    let grows = grows-trans start after then kept.2 more.2 in
+    let grows = grows-trans start after later kept.grows more.grows in
     let x = c.index-only.result.now in
     let l : length c.in_ok-found.found.items ≡ 1 = search rules in
     let only = only-tried (E.judge (E.fixed old)) (env_forest start.trees c.args.env) (projection_at start.trees c.args.projection) (E.state old) (E.state mid) (map (clause_tree start.trees) c.args.bounds.now)
     after.trees c.in_ok-found.found.items x c.in_ok-found.ensures.tried l c.index-only.ensures in
-    let same = (clause-kept after then x more.2 (only-fits after.trees c.in_ok-found.found.items x c.in_ok-found.ensures.sort l c.index-only.ensures)).1 in
-    let comes = equated-then E.judge (E.fixed old) (E.fixed now) (E.state now) (env_forest start.trees c.args.env) (env_forest then.trees c.args.env) (clause_tree after.trees x) (clause_tree then.trees x)
-    (args_forest start.trees c.args.projection.args) (args_forest then.trees c.args.projection.args) (more.0 ∙ kept.0) (env-kept start then c.args.env grows c.requires.env).1 same (args-kept start then c.args.projection.args grows c.requires.args).1 in
+    let same = (clause-kept after later x more.grows (only-fits after.trees c.in_ok-found.found.items x c.in_ok-found.ensures.sort l c.index-only.ensures)).1 in
+    let comes = equated-then E.judge (E.fixed old) (E.fixed now) (E.state now) (env_forest start.trees c.args.env) (env_forest later.trees c.args.env) (clause_tree after.trees x) (clause_tree later.trees x)
+    (args_forest start.trees c.args.projection.args) (args_forest later.trees c.args.projection.args) (more.fixed_same ∙ kept.fixed_same) (env-kept start later c.args.env grows c.requires.env).1 same (args-kept start later c.args.projection.args grows c.requires.args).1 in
     record {
       last = E.state mid;
       now = E.state now;
       bound = clause_tree after.trees x;
       tried = only.0;
-      alike = subst (λ f. (E.judge f).alike (E.state mid) (E.state now)) kept.0 c.can_be_equated.ensures.alike;
+      alike = subst (λ f. (E.judge f).alike (E.state mid) (E.state now)) kept.fixed_same c.can_be_equated.ensures.alike;
       equated = sym comes ∙ c.in-Ok.ensures.ok;
       is = c.in-Ok.ensures.term ∙ ap (λ (t : Tree). term_in (fresh_instance (E.state now) t)) same;
     }
@@ -123,26 +123,46 @@ returns-in-Err-NoSolution-clause-ambiguous g c =
     let now = c.can_be_equated.new.ecx in
     let start = g.E.Make.context old in
     let after = g.E.Make.context mid in
-    let then = g.E.Make.context now in
+    let later = g.E.Make.context now in
     let kept = c.matching_bounds.ensures.kept in
     let more = c.can_be_equated.ensures.kept in
-    let grows = grows-trans start after then kept.2 more.2 in
+    let grows = grows-trans start after later kept.grows more.grows in
     let x = c.index-only.result.now in
     let l : length c.in_ok-found.found.items ≡ 1 = search rules in
     let only = only-tried (E.judge (E.fixed old)) (env_forest start.trees c.args.env) (projection_at start.trees c.args.projection) (E.state old) (E.state mid) (map (clause_tree start.trees) c.args.bounds.now)
     after.trees c.in_ok-found.found.items x c.in_ok-found.ensures.tried l c.index-only.ensures in
-    let same = (clause-kept after then x more.2 (only-fits after.trees c.in_ok-found.found.items x c.in_ok-found.ensures.sort l c.index-only.ensures)).1 in
+    let same = (clause-kept after later x more.grows (only-fits after.trees c.in_ok-found.found.items x c.in_ok-found.ensures.sort l c.index-only.ensures)).1 in
     let before = equated-then E.judge (E.fixed old) (E.fixed mid) (E.state mid) (env_forest start.trees c.args.env) (env_forest after.trees c.args.env) (clause_tree after.trees x) (clause_tree after.trees x)
-    (args_forest start.trees c.args.projection.args) (args_forest after.trees c.args.projection.args) kept.0 (env-kept start after c.args.env kept.2 c.requires.env).1 refl (args-kept start after c.args.projection.args kept.2 c.requires.args).1 in
-    let comes = equated-then E.judge (E.fixed old) (E.fixed now) (E.state now) (env_forest start.trees c.args.env) (env_forest then.trees c.args.env) (clause_tree after.trees x) (clause_tree then.trees x)
-    (args_forest start.trees c.args.projection.args) (args_forest then.trees c.args.projection.args) (more.0 ∙ kept.0) (env-kept start then c.args.env grows c.requires.env).1 same (args-kept start then c.args.projection.args grows c.requires.args).1 in
+    (args_forest start.trees c.args.projection.args) (args_forest after.trees c.args.projection.args) kept.fixed_same (env-kept start after c.args.env kept.grows c.requires.env).1 refl (args-kept start after c.args.projection.args kept.grows c.requires.args).1 in
+    let comes = equated-then E.judge (E.fixed old) (E.fixed now) (E.state now) (env_forest start.trees c.args.env) (env_forest later.trees c.args.env) (clause_tree after.trees x) (clause_tree later.trees x)
+    (args_forest start.trees c.args.projection.args) (args_forest later.trees c.args.projection.args) (more.fixed_same ∙ kept.fixed_same) (env-kept start later c.args.env grows c.requires.env).1 same (args-kept start later c.args.projection.args grows c.requires.args).1 in
     let yes : c.in_ok-can_be_equated.field-0 ≡ true = search rules in
     let is : c.in-Err-NoSolution.field-0 ≡ NoSolution = search rules in
     λ _. IsAmbiguous.changed (E.state mid) (E.state now) (clause_tree after.trees x) only.0 (ap is_some (sym before) ∙ (c.in_ok-can_be_equated.ensures.answer ∙ yes))
-    (subst (λ f. (E.judge f).alike (E.state mid) (E.state now)) kept.0 c.can_be_equated.ensures.alike)
+    (subst (λ f. (E.judge f).alike (E.state mid) (E.state now)) kept.fixed_same c.can_be_equated.ensures.alike)
     (sym comes ∙ of-error c.equate_bound.result c.in-Err-NoSolution.field-0 _ c.in-Err-NoSolution.is c.equate_bound.ensures.refused is)
 
 pub returns-in-Ok-clause-at_once : goal.returns-in-Ok-clause-at_once
 returns-in-Ok-clause-at_once g c = λ x.
     picked-at-once (g.E.EvalCtxt.judge (g.E.EvalCtxt.fixed c.args.ecx.now)) (env_forest (g.E.Make.context c.args.ecx.now).trees c.args.env) (projection_at (g.E.Make.context c.args.ecx.now).trees c.args.projection) x
     (returns-in-Ok-clause-picked g c)
+
+pub returns-in_err-can_be_equated-clause-kept : goal.returns-in_err-can_be_equated-clause-kept
+returns-in_err-can_be_equated-clause-kept g c =
+    then c.matching_bounds.ensures.kept c.can_be_equated.ensures.kept
+
+pub returns-then-not-branch-clause-kept : goal.returns-then-not-branch-clause-kept
+returns-then-not-branch-clause-kept g c =
+    then c.matching_bounds.ensures.kept c.can_be_equated.ensures.kept
+
+pub returns-in-Ok-clause-kept : goal.returns-in-Ok-clause-kept
+returns-in-Ok-clause-kept g c =
+    then (then c.matching_bounds.ensures.kept c.can_be_equated.ensures.kept) c.equate_bound.ensures.kept
+
+pub returns-in-Err-NoSolution-clause-kept : goal.returns-in-Err-NoSolution-clause-kept
+returns-in-Err-NoSolution-clause-kept g c =
+    then (then c.matching_bounds.ensures.kept c.can_be_equated.ensures.kept) c.equate_bound.ensures.kept
+
+pub returns-clause-kept : goal.returns-clause-kept
+returns-clause-kept g c =
+    then (then c.matching_bounds.ensures.kept c.can_be_equated.ensures.kept) c.equate_bound.ensures.kept

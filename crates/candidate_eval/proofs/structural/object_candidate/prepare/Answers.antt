@@ -1,3 +1,4 @@
+use Rattle.candidate_eval.proofs.Probing.{keeps-trans}
 use Rattle.std.proofs.Common.{◌≡◌, ◌∙◌, ap, subst}
 use Rattle.candidate_ir.specs.declared.ir.kinds.TraitId.{TraitId}
 use Rattle.candidate_ir.specs.Context.{Context}
@@ -14,11 +15,11 @@ use Rattle.candidate_eval.proofs.Responding.{clauses-kept}
 use Rattle.candidate_eval.proofs.structural.object_candidate.prepare.Goals as goal
 
 pub bounds_of-requires-clause-bounds : goal.bounds_of-requires-clause-bounds
-bounds_of-requires-clause-bounds g c = (preds-kept (g.E.Make.context c.args.ecx.now) (g.E.Make.context c.instance.new.ecx) c.args.object_bounds c.instance.ensures.kept.2 c.requires.bounds).0
+bounds_of-requires-clause-bounds g c = (preds-kept (g.E.Make.context c.args.ecx.now) (g.E.Make.context c.instance.new.ecx) c.args.object_bounds c.instance.ensures.kept.grows c.requires.bounds).0
 
 pub required-requires : goal.required-requires
 required-requires g c = record {
-  args = (args-kept (g.E.Make.context c.instance.new.ecx) (g.E.Make.context c.bounds_of.new.ecx) c.in_ok-reference.reference.args c.bounds_of.ensures.kept.2 c.in_ok-reference.ensures.sort.0).0;
+  args = (args-kept (g.E.Make.context c.instance.new.ecx) (g.E.Make.context c.bounds_of.new.ecx) c.in_ok-reference.reference.args c.bounds_of.ensures.kept.grows c.in_ok-reference.ensures.sort.0).0;
 }
 
 pub returns-clause-sort : goal.returns-clause-sort
@@ -28,8 +29,8 @@ returns-clause-sort g c =
     let b3 = g.E.Make.context c.required.new.ecx in
     let object = c.self_ty-object.result in
     let is = subst (λ (y : Context). IsTy y.trees object) c.cx-2.ensures c.self_ty-object.ensures.sort in
-    let later = grows-trans b1 b2 b3 c.bounds_of.ensures.kept.2 c.required.ensures.kept.2 in
-    ((ty-kept b1 b3 object later is).0, (clauses-kept b2 b3 c.in_ok-bounds.bounds.items c.required.ensures.kept.2 c.in_ok-bounds.ensures.sort).0, c.in_ok-required.ensures.sort)
+    let later = grows-trans b1 b2 b3 c.bounds_of.ensures.kept.grows c.required.ensures.kept.grows in
+    ((ty-kept b1 b3 object later is).0, (clauses-kept b2 b3 c.in_ok-bounds.bounds.items c.required.ensures.kept.grows c.in_ok-bounds.ensures.sort).0, c.in_ok-required.ensures.sort)
 
 pub returns-clause-object : goal.returns-clause-object
 returns-clause-object g c =
@@ -39,7 +40,7 @@ returns-clause-object g c =
     let object = c.self_ty-object.result in
     let is = subst (λ (y : Context). IsTy y.trees object) c.cx-2.ensures c.self_ty-object.ensures.sort in
     let tree = subst (λ (y : Context). ty_tree y.trees object ≡ first_tree (args_forest y.trees c.in_ok-reference.reference.args)) c.cx-2.ensures c.self_ty-object.ensures.tree in
-    let later = grows-trans b1 b2 b3 c.bounds_of.ensures.kept.2 c.required.ensures.kept.2 in
+    let later = grows-trans b1 b2 b3 c.bounds_of.ensures.kept.grows c.required.ensures.kept.grows in
     (ty-kept b1 b3 object later is).1 ∙ (tree ∙ ap first_tree c.in_ok-reference.ensures.arguments)
 
 pub returns-clause-bounds : goal.returns-clause-bounds
@@ -51,10 +52,10 @@ returns-clause-bounds g c =
     let object = c.self_ty-object.result in
     let fresh = fresh_arguments (g.E.EvalCtxt.state c.args.ecx.now) (clause_kind_tree a.trees (reference_clause c.args.trait_ref)) in
     let tree = subst (λ (y : Context). ty_tree y.trees object ≡ first_tree (args_forest y.trees c.in_ok-reference.reference.args)) c.cx-2.ensures c.self_ty-object.ensures.tree in
-    (clauses-kept b2 b3 c.in_ok-bounds.bounds.items c.required.ensures.kept.2 c.in_ok-bounds.ensures.sort).1
+    (clauses-kept b2 b3 c.in_ok-bounds.bounds.items c.required.ensures.kept.grows c.in_ok-bounds.ensures.sort).1
     ∙ (c.in_ok-bounds.ensures.trees
     ∙ (ap (λ (t : Tree). own_bounds t (preds_forest b1.trees c.args.object_bounds)) (tree ∙ ap first_tree c.in_ok-reference.ensures.arguments)
-    ∙ ap (own_bounds (first_tree fresh)) (preds-kept a b1 c.args.object_bounds c.instance.ensures.kept.2 c.requires.bounds).1))
+    ∙ ap (own_bounds (first_tree fresh)) (preds-kept a b1 c.args.object_bounds c.instance.ensures.kept.grows c.requires.bounds).1))
 
 pub returns-clause-required : goal.returns-clause-required
 returns-clause-required g c =
@@ -67,10 +68,25 @@ returns-clause-required g c =
     let fresh = fresh_arguments (g.E.EvalCtxt.state c.args.ecx.now) (clause_kind_tree a.trees (reference_clause c.args.trait_ref)) in
     let table = subst IsWellFormedTable c.cx.ensures c.well_formed_table.ensures in
     let well = subst IsWellFormed c.cx-3.ensures c.well_formed-2.ensures in
-    let first = c.instance.ensures.kept.2 in
-    let second = grows-trans a b1 b2 first c.bounds_of.ensures.kept.2 in
-    let third = grows-trans a b2 b3 second c.required.ensures.kept.2 in
-    let args = (args-kept b1 b2 r.args c.bounds_of.ensures.kept.2 c.in_ok-reference.ensures.sort.0).1 ∙ c.in_ok-reference.ensures.arguments in
+    let first = c.instance.ensures.kept.grows in
+    let second = grows-trans a b1 b2 first c.bounds_of.ensures.kept.grows in
+    let third = grows-trans a b2 b3 second c.required.ensures.kept.grows in
+    let args = (args-kept b1 b2 r.args c.bounds_of.ensures.kept.grows c.in_ok-reference.ensures.sort.0).1 ∙ c.in_ok-reference.ensures.arguments in
     let there = subst (λ (x : Forest). AreRequirements b2 r.def_id.0 x (clauses_at b3.trees items)) args c.in_ok-required.ensures.requirements in
     let back = requirements-back a b2 b3 r.def_id.0 fresh items table well second third (declared-parameters a b1 r first c.in_ok-reference.ensures.sort.1) there in
     subst (λ (i : TraitId). AreRequirements a i.0 fresh (clauses_at b3.trees items)) c.in_ok-reference.ensures.id back
+
+pub returns-in_err-bounds-clause-kept : goal.returns-in_err-bounds-clause-kept
+returns-in_err-bounds-clause-kept g c =
+    let E = g.E.EvalCtxt in
+    keeps-trans E.fixed E.probes g.E.Make.context c.args.ecx.now c.instance.new.ecx c.bounds_of.new.ecx c.instance.ensures.kept c.bounds_of.ensures.kept
+
+pub returns-in_err-required-clause-kept : goal.returns-in_err-required-clause-kept
+returns-in_err-required-clause-kept g c =
+    let E = g.E.EvalCtxt in
+    keeps-trans E.fixed E.probes g.E.Make.context c.args.ecx.now c.bounds_of.new.ecx c.required.new.ecx (keeps-trans E.fixed E.probes g.E.Make.context c.args.ecx.now c.instance.new.ecx c.bounds_of.new.ecx c.instance.ensures.kept c.bounds_of.ensures.kept) c.required.ensures.kept
+
+pub returns-clause-kept : goal.returns-clause-kept
+returns-clause-kept g c =
+    let E = g.E.EvalCtxt in
+    keeps-trans E.fixed E.probes g.E.Make.context c.args.ecx.now c.bounds_of.new.ecx c.required.new.ecx (keeps-trans E.fixed E.probes g.E.Make.context c.args.ecx.now c.instance.new.ecx c.bounds_of.new.ecx c.instance.ensures.kept c.bounds_of.ensures.kept) c.required.ensures.kept

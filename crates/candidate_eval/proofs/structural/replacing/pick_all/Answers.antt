@@ -1,3 +1,4 @@
+use Rattle.candidate_eval.proofs.Probing.{keeps-trans}
 use Rattle.std.proofs.Common.{refl, sym, ◌∙◌}
 use Rattle.std.proofs.lemmas.Result.{err_from_is_err_and}
 use Rattle.candidate_ir.specs.Words.{env_forest}
@@ -45,7 +46,7 @@ pub returns-in_err-push_term-clause-kept : goal.returns-in_err-push_term-clause-
 returns-in_err-push_term-clause-kept g c =
     let kept = c.pick_bound.ensures.kept in
     let s = c.loop-projection.invariant in
-    (kept.0 ∙ s.1, kept.1 ∙ s.2, grows-trans (g.E.Make.context c.args.ecx.now) (g.E.Make.context c.loop-projection.ecx) (g.E.Make.context c.pick_bound.new.ecx) s.0.grows kept.2)
+    record { fixed_same = kept.fixed_same ∙ s.1; probes_same = kept.probes_same ∙ s.2; grows = grows-trans (g.E.Make.context c.args.ecx.now) (g.E.Make.context c.loop-projection.ecx) (g.E.Make.context c.pick_bound.new.ecx) s.0.grows kept.grows }
 
 pub loop-projection-preserved : goal.loop-projection-preserved
 loop-projection-preserved g c =
@@ -60,10 +61,15 @@ loop-projection-preserved g c =
     let kept = c.pick_bound.ensures.kept in
     let p = projection-later start mid c.args.projections.now c.loop-projection.projection-index _ s.0.grows c.requires.projections c.loop-projection-test.true in (
       one-picked (E.judge (E.fixed old)) (env_forest start.trees c.args.env) (clauses_at start.trees c.args.bounds.now) start mid last (E.state old) (E.state now) (E.state new) c.args.projections.now
-          c.loop-projection.projection-index _ c.loop-projection.terms.items _ c.in_ok-term.term s.0 c.loop-projection-test.true kept.2 c.in_ok-term.ensures.sort
+          c.loop-projection.projection-index _ c.loop-projection.terms.items _ c.in_ok-term.term s.0 c.loop-projection-test.true kept.grows c.in_ok-term.ensures.sort
           (picked-then E.judge (E.fixed old) (E.fixed now) (env_forest start.trees c.args.env) (env_forest mid.trees c.args.env) _ _ (E.state now) (E.state new) (clauses_at start.trees c.args.bounds.now)
           (clauses_at mid.trees c.args.bounds.now) _ s.1 (env-kept start mid c.args.env s.0.grows c.requires.env).1 p.1 (clauses-kept start mid c.args.bounds.now s.0.grows c.requires.bounds).1 c.in_ok-term.ensures.picked)
           c.in_ok-push_term.ensures.pushed,
-      kept.0 ∙ s.1,
-      kept.1 ∙ s.2,
+      kept.fixed_same ∙ s.1,
+      kept.probes_same ∙ s.2,
     )
+
+pub returns-in_err-term-clause-kept : goal.returns-in_err-term-clause-kept
+returns-in_err-term-clause-kept g c =
+    let E = g.E.EvalCtxt in
+    keeps-trans E.fixed E.probes g.E.Make.context c.args.ecx.now c.loop-projection.ecx c.pick_bound.new.ecx (record { fixed_same = c.loop-projection.invariant.1; probes_same = c.loop-projection.invariant.2; grows = c.loop-projection.invariant.0.grows }) c.pick_bound.ensures.kept

@@ -2,7 +2,7 @@ use Rattle.std.proofs.Common.{rules, ◌+◌, ◌≤◌, [], ◌++◌, List, len
 use Rattle.std.specs.List.{flat_map}
 use Rattle.candidate_ir.specs.Trees.{Tree}
 use Rattle.candidate_ir.specs.Words.{preds_forest, ty_tree}
-use Rattle.candidate_ir.proofs.Kept.{preds-kept, ty-kept}
+use Rattle.candidate_ir.proofs.Kept.{preds-kept, ty-kept, grows-trans}
 use Rattle.candidate_eval.specs.Required.{each_of, in_place, own_bound}
 use Rattle.candidate_eval.proofs.Required.{all_bounds, more_added, next_gathered, none_added, own_stays, preds_read}
 use Rattle.candidate_eval.proofs.structural.required.own_bounds.Goals as goal
@@ -36,3 +36,7 @@ returns-clause-trees g c =
     let read = preds_read start _ c.args.bounds c.preds-count.result.now c.cx.ensures c.preds-count.ensures.fits c.preds-count.ensures.tree in
     let past : length c.preds-count.result.now ≤ c.loop-place.place = search rules in
     all_bounds start _ c.args.object c.args.bounds c.preds-count.result.now c.loop-place.list.items c.loop-place.place read.0 read.1 c.loop-place.invariant.0 past
+
+pub returns-in_err-push_own_at-clause-grows : goal.returns-in_err-push_own_at-clause-grows
+returns-in_err-push_own_at-clause-grows g c =
+    grows-trans _ _ _ c.loop-place.invariant.0.grows c.push_own_at.ensures.grows

@@ -3,7 +3,7 @@ use Rattle.std.specs.Prelude.{map, IfOk}
 use Rattle.candidate_ir.specs.Trees.{Tree}
 use Rattle.candidate_ir.specs.WellFormed.{IsWellFormedTable}
 use Rattle.candidate_ir.specs.Words.{clause_tree}
-use Rattle.candidate_ir.proofs.Kept.{args-kept}
+use Rattle.candidate_ir.proofs.Kept.{args-kept, grows-trans}
 use Rattle.candidate_eval.proofs.Requiring.{both_bounds}
 use Rattle.candidate_eval.proofs.structural.required.push_bounds.Goals as goal
 
@@ -17,3 +17,7 @@ returns-clause-trees g c =
     subst (λ (ts : List Tree). IfOk c.push_declared-2.result (λ _. map (clause_tree (g.M.Make.context c.push_declared-2.new.make).trees) c.push_declared-2.new.list.items ≡ ts))
     (both_bounds start (g.M.Make.context c.push_declared.new.make) c.args.item c.args.args c.args.list.now.items c.push_declared.new.list.items table c.requires.required c.requires.args c.in_ok-push_declared.ensures.grows
     c.in_ok-push_declared.ensures.trees) c.push_declared-2.ensures.trees
+
+pub returns-clause-grows : goal.returns-clause-grows
+returns-clause-grows g c =
+    grows-trans _ _ _ c.push_declared.ensures.grows c.push_declared-2.ensures.grows

@@ -2,7 +2,7 @@ use Rattle.std.proofs.Common.{rules, ◌+◌, ◌≤◌, ◌++◌, List, length,
 use Rattle.std.specs.Prelude.{map}
 use Rattle.candidate_ir.specs.Trees.{Tree}
 use Rattle.candidate_ir.specs.Words.{args_forest}
-use Rattle.candidate_ir.proofs.Kept.{args-kept}
+use Rattle.candidate_ir.proofs.Kept.{args-kept, grows-trans}
 use Rattle.candidate_eval.specs.Required.{declared_trees, in_place, with_arguments}
 use Rattle.candidate_eval.proofs.Required.{more_added, next_mapped, none_added}
 use Rattle.candidate_eval.proofs.Requiring.{all_declared, declared_read, place_stays}
@@ -35,3 +35,7 @@ returns-clause-trees g c =
     let read = declared_read start _ c.args.of c.declared_clauses-count.result.now c.cx.ensures c.declared_clauses-count.ensures.is c.declared_clauses-count.ensures.fit in
     let past : length c.declared_clauses-count.result.now ≤ c.loop-place.place = search rules in
     all_declared start _ _ _ (with_arguments (args_forest start.trees c.args.args)) c.args.of c.declared_clauses-count.result.now c.loop-place.place c.loop-place.invariant.0 read.0 past
+
+pub returns-in_err-push_declared_at-clause-grows : goal.returns-in_err-push_declared_at-clause-grows
+returns-in_err-push_declared_at-clause-grows g c =
+    grows-trans _ _ _ c.loop-place.invariant.0.grows c.push_declared_at.ensures.grows

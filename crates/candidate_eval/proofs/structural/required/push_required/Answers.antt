@@ -5,7 +5,7 @@ use Rattle.candidate_ir.specs.Context.{Context}
 use Rattle.candidate_ir.specs.Trees.{Forest, Tree}
 use Rattle.candidate_ir.specs.WellFormed.{IsWellFormedTable}
 use Rattle.candidate_ir.specs.Words.{args_forest}
-use Rattle.candidate_ir.proofs.Kept.{args-kept}
+use Rattle.candidate_ir.proofs.Kept.{args-kept, grows-trans}
 use Rattle.candidate_eval.specs.Required.{bounds_of_items, in_place, items_of, with_arguments}
 use Rattle.candidate_eval.proofs.Required.{more_added, none_added}
 use Rattle.candidate_eval.proofs.Requiring.{all_items, item_stays, next_item}
@@ -43,3 +43,7 @@ returns-clause-trees g c =
     let past : length c.associated_items-count.result.now ≤ c.loop-place.place = search rules in
     let whole = subst (λ (is : List AssocId). length is ≤ c.loop-place.place) items past in
     all_items start _ _ _ (with_arguments (args_forest start.trees c.args.trait_ref.args)) i c.loop-place.place c.loop-place.invariant.0 whole
+
+pub returns-in_err-push_required_at-clause-grows : goal.returns-in_err-push_required_at-clause-grows
+returns-in_err-push_required_at-clause-grows g c =
+    grows-trans _ _ _ c.loop-place.invariant.0.grows c.push_required_at.ensures.grows

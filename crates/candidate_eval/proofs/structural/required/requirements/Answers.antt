@@ -28,3 +28,15 @@ returns-clause-requirements g c =
     are_requirements start mid last (g.M.Make.context c.push_required.new.make) i c.args.trait_ref.args supers all c.push_required.new.list.items
     (subst IsWellFormedTable c.cx.ensures c.well_formed_table.ensures) (subst IsWellFormed c.cx-2.ensures c.well_formed-2.ensures) c.in_ok-push_declared.ensures.grows c.in_ok-list.ensures.grows c.requires.args first walk
     c.in_ok-push_required.ensures.trees
+
+pub returns-in_err-list-clause-grows : goal.returns-in_err-list-clause-grows
+returns-in_err-list-clause-grows g c =
+    grows-trans _ _ _ c.push_declared.ensures.grows c.elaborate.ensures.grows
+
+pub returns-in_err-push_required-clause-grows : goal.returns-in_err-push_required-clause-grows
+returns-in_err-push_required-clause-grows g c =
+    grows-trans _ _ _ (grows-trans _ _ _ c.push_declared.ensures.grows c.elaborate.ensures.grows) c.push_required.ensures.grows
+
+pub returns-clause-grows : goal.returns-clause-grows
+returns-clause-grows g c =
+    grows-trans _ _ _ (grows-trans _ _ _ c.push_declared.ensures.grows c.elaborate.ensures.grows) c.push_required.ensures.grows

@@ -1,3 +1,4 @@
+use Rattle.candidate_ir.proofs.Kept.{grows-trans}
 use Rattle.std.proofs.Common.{◌≡◌, List, ◌∙◌, ap, subst}
 use Rattle.std.specs.Prelude.{IfOk}
 use Rattle.candidate_ir.specs.declared.ir.kinds.GenericArg.{GenericArg}
@@ -30,3 +31,7 @@ returns-clause-tree g c =
     subst (λ (t : Tree). IfOk c.mk_clause.result (λ x. clause_tree (g.M.Make.context c.mk_clause.new.self).trees x ≡ t))
     (said_tree start (g.M.Make.context c.mk_args.new.self) c.args.object c.args.bound c.in_ok-args.args c.requires.fits c.in_ok-args.ensures.made.kept c.in_ok-args.ensures.made.sort forest)
     c.mk_clause.ensures.made.tree
+
+pub returns-clause-grows : goal.returns-clause-grows
+returns-clause-grows g c =
+    grows-trans _ _ _ c.mk_args.ensures.made.kept c.mk_clause.ensures.made.kept

@@ -1,0 +1,6 @@
+use Rattle.candidate_ir.proofs.Kept.{grows-trans}
+use Rattle.candidate_eval.proofs.structural.callable.declared.Goals as goal
+
+pub returns-clause-grows : goal.returns-clause-grows
+returns-clause-grows g c =
+    grows-trans _ _ _ c.mk_ty.ensures.made.kept c.mk_sig.ensures.made.kept
