@@ -21,6 +21,7 @@ use Rattle.candidate_eval.specs.States.{variable_kind}
 use Rattle.candidate_rounds.specs.declared.rounds.inference.Change.{Change}
 use Rattle.candidate_rounds.specs.Inferences.{Inference, IsFurther, with_variable, with_variables, assign, lower, enter, record_region, add, add_all, widen, begin_pending, back_to}
 use Rattle.candidate_rounds.specs.Known.{Evaluator, GoesOn, KeepsGiven, IsKnown, IsGiven, IsEvaluator, AreTypes, AreMarks, state, state_of, states_at, probes, listing, listing_of}
+use Rattle.candidate_rounds.proofs.Between.{parts}
 use Rattle.candidate_rounds.proofs.Undoing.{undo-variable, undo-assign, undo-lower, undo-enter, undo-region, undo-goal, undo-pending, undo-widen, back-to-now}
 use Rattle.candidate_rounds.proofs.Knowing.{probes-stay, probes-grow, state-stays, each-map}
 
@@ -162,9 +163,9 @@ goes-listing r s g k =
 pub goes-all : (r s : Evaluator) → GoesOn r s → IsEvaluator r.context.trees r.inference r.marks r.normal r.opaques
     → (state_of s.context.trees r.mode r.inference ≡ state r) × (probes s ≡ probes r) × (listing s ≡ listing r)
 goes-all r s g h = (
-  goes-before r s g h.consistent.known,
-  goes-probes r s g h.consistent.known h.consistent.marks,
-  goes-listing r s g h.given,
+  goes-before r s g (parts h).consistent.known,
+  goes-probes r s g (parts h).consistent.known (parts h).consistent.marks,
+  goes-listing r s g (parts h).given,
 )
 
 -- Numbers have their kinds and trees still.

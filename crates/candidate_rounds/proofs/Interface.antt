@@ -16,6 +16,7 @@ use Rattle.rounds_judge.specs.WellListed.{well_listed}
 use Rattle.rounds_judge.proofs.WellListed.{all-listed}
 use Rattle.candidate_rounds.specs.Interface.{fixed, judge_of, rest}
 use Rattle.candidate_rounds.specs.Known.{Each, Evaluator, GoesOn, IsEvaluator, IsGiven, KeepsGiven, listing, listing_of, probes, state}
+use Rattle.candidate_rounds.proofs.Between.{parts}
 use Rattle.candidate_rounds.proofs.Going.{goes-context, goes-probes, goes-same}
 use Rattle.candidate_rounds.proofs.Knowing.{alias-stays, each-map}
 use Rattle.candidate_rounds.proofs.Listing.{listing-kept}
@@ -41,10 +42,10 @@ fixed-same old new k d n t =
     λ i. record { world = world_of (d i); local_crate = (n i).0; listing = listed i; opaques = hidden i }
 
 pub keeps-all : (old new : Evaluator) → Grows old.context new.context → KeepsGiven old new → IsGiven old.context.trees old.normal old.opaques → probes new ≡ probes old → Keeps fixed probes (λ r. r.context) old new
-keeps-all old new g k given p = (fixed-kept old new g k given, p, g)
+keeps-all old new g k given p = record { fixed_same = fixed-kept old new g k given; probes_same = p; grows = g }
 
 pub keeps-going : (old new : Evaluator) → GoesOn old new → IsEvaluator old.context.trees old.inference old.marks old.normal old.opaques → Keeps fixed probes (λ r. r.context) old new
-keeps-going old new g h = keeps-all old new g.0 g.1 h.given (goes-probes old new g h.consistent.known h.consistent.marks)
+keeps-going old new g h = keeps-all old new g.0 g.1 (parts h).given (goes-probes old new g (parts h).consistent.known (parts h).consistent.marks)
 
 -- All that nodes leave is what it was.
 pub rest-kept : (old new : Evaluator) → fixed new ≡ fixed old → state new ≡ state old → probes new ≡ probes old → rest new ≡ rest old
@@ -73,12 +74,16 @@ equated-none r a b given q = ap without_goals (as-judged r (state r) a b given �
 pub made-rest : (r : Evaluator) (x : Context) → Grows r.context x → IsEvaluator r.context.trees r.inference r.marks r.normal r.opaques → rest (record r { context = x }) ≡ rest r
 made-rest r x g h =
     let goes = goes-context r x g in
-    rest-kept r (record r { context = x }) (fixed-kept r (record r { context = x }) g (refl, refl) h.given) (goes-same r (record r { context = x }) goes refl h.consistent.known)
-    (goes-probes r (record r { context = x }) goes h.consistent.known h.consistent.marks)
+    rest-kept r (record r { context = x }) (fixed-kept r (record r { context = x }) g (refl, refl) (parts h).given) (goes-same r (record r { context = x }) goes refl (parts h).consistent.known)
+    (goes-probes r (record r { context = x }) goes (parts h).consistent.known (parts h).consistent.marks)
 
 -- a call that changes what is known, and makes no node
 pub keeps-same : (old new : Evaluator) → new.context ≡ old.context → KeepsGiven old new → probes new ≡ probes old → Keeps fixed probes (λ r. r.context) old new
-keeps-same old new e k p = (fixed-same old new k (ap (λ (c : Context). c.declarations) e) (ap (λ (c : Context). c.local) e) (ap (λ (c : Context). c.trees) e), p, subst (Grows old.context) (sym e) (grows-refl old.context))
+keeps-same old new e k p = record {
+  fixed_same = fixed-same old new k (ap (λ (c : Context). c.declarations) e) (ap (λ (c : Context). c.local) e) (ap (λ (c : Context). c.trees) e);
+  probes_same = p;
+  grows = subst (Grows old.context) (sym e) (grows-refl old.context);
+}
 
 -- An answer of a call by its result.
 
@@ -95,4 +100,4 @@ eq-refused (Err x) r e a b given h = λ n. accepted-none r e a b given (h n)
 pub eq-stopped : {A : Type 0} (q : Result A NoSolutionOrStop) (old new : Evaluator) → GoesOn old new → IsEvaluator old.context.trees old.inference old.marks old.normal old.opaques → OnErr q (new.inference ≡ old.inference)
     → IfErr q (λ f. f ≢ NoSolutionOrStop.NoSolution → state new ≡ state old)
 eq-stopped (Ok x) old new g h u = tt
-eq-stopped (Err x) old new g h u = λ n. goes-same old new g u h.consistent.known
+eq-stopped (Err x) old new g h u = λ n. goes-same old new g u (parts h).consistent.known

@@ -1,3 +1,4 @@
+pub mod Between
 pub mod Undoing
 pub mod Knowing
 pub mod Probing
@@ -30,6 +31,7 @@ pub mod Projecting
 pub mod Evaluating
 pub mod Alone
 pub mod Noting
+pub mod Exits
 pub mod Interface
 pub mod ResponseStops
 pub mod SettlingStops

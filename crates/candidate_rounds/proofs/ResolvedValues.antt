@@ -29,6 +29,7 @@ use Rattle.candidate_rounds.specs.Inferences.{Inference, IsFurther, add, add_all
 use Rattle.candidate_rounds.specs.Known.{AreMarks, Each, HasResolvedValues, IsConsistent, IsEvaluator, IsKnown, StaysResolved, info_of, state_of}
 use Rattle.rounds_judge.specs.Standing.{AreResolved}
 use Rattle.rounds_judge.proofs.Ending.{CanGet, resolved_then}
+use Rattle.candidate_rounds.proofs.Between.{of-parts, parts}
 use Rattle.candidate_rounds.proofs.Knowing.{each-imply, given-grown, known-back, state-stays}
 use Rattle.rounds_judge.proofs.Marks.{holds_to}
 use Rattle.candidate_rounds.proofs.Probing.{back-back, holds-grown}
@@ -48,11 +49,11 @@ resolved-grown ts us s ks e k r = record {
 }
 
 pub evaluator-grown : (ts us : List Tree) (s : Inference) (ks : List ℕ) (ns : List (Ty × Ty)) (os : List AliasTy) → Extends ts us → IsEvaluator ts s ks ns os → IsEvaluator us s ks ns os
-evaluator-grown ts us s ks ns os e h = record {
-  consistent = holds-grown ts us s ks e h.consistent;
-  resolved = resolved-grown ts us s ks e h.consistent.known h.resolved;
-  given = given-grown ts us ns os e h.given;
-}
+evaluator-grown ts us s ks ns os e h = of-parts (record {
+  consistent = holds-grown ts us s ks e (parts h).consistent;
+  resolved = resolved-grown ts us s ks e (parts h).consistent.known (parts h).resolved;
+  given = given-grown ts us ns os e (parts h).given;
+})
 
 -- What is known is more.
 
@@ -67,7 +68,7 @@ resolved-further ts s t ks m f h r = record { now = h; at_marks = go (length s.t
 
 pub evaluator-further : (ts : List Tree) (s t : Inference) (ks : List ℕ) (ns : List (Ty × Ty)) (os : List AliasTy) → IsEvaluator ts s ks ns os → IsFurther s t → IsConsistent ts t ks → HasResolvedValues ts t
     → IsEvaluator ts t ks ns os
-evaluator-further ts s t ks ns os h f c r = record { consistent = c; resolved = resolved-further ts s t ks h.consistent.marks f r h.resolved; given = h.given }
+evaluator-further ts s t ks ns os h f c r = of-parts (record { consistent = c; resolved = resolved-further ts s t ks (parts h).consistent.marks f r (parts h).resolved; given = (parts h).given })
 
 -- A call that made one change or none.
 pub evaluator-changed : {A : Type 0} (ts : List Tree) (s t u : Inference) (ks : List ℕ) (ns : List (Ty × Ty)) (os : List AliasTy) (r : Result A Stop) → IsEvaluator ts s ks ns os → IsFurther s u → IsConsistent ts u ks

@@ -16,11 +16,8 @@ use Rattle.candidate_eval.specs.States.{State}
 use Rattle.candidate_rounds.specs.Inferences.{Inference, back_to, record_region}
 use Rattle.candidate_rounds.specs.Known.{Evaluator, GoesOn, HasResolvedValues, IsKnown, state_of}
 use Rattle.rounds_judge.specs.Settling.{instantiated, recorded, with_facts}
-use Rattle.candidate_rounds.proofs.Going.{goes-back, goes-trans, goes-undone}
+use Rattle.candidate_rounds.proofs.Going.{goes-back, goes-undone}
 use Rattle.candidate_rounds.proofs.ResolvedValues.{resolved-with}
-
--- What goes on, and then goes on, has gone on.
-pub ruleset going_on = (goes-trans)
 
 -- What is known is taken back to what it was: all that is kept has gone on, and what is known is the same.
 

@@ -129,10 +129,15 @@ pub record StaysResolved (ts : List Tree) (s : Inference) (ks : List ℕ) : Type
   pub now : HasResolvedValues ts s
   pub at_marks : Each (λ n. HasResolvedValues ts (back_to n s)) ks
 
-pub record IsEvaluator (ts : List Tree) (s : Inference) (ks : List ℕ) (normal : List (Ty × Ty)) (opaques : List AliasTy) : Type 0 where
+pub record EvaluatorParts (ts : List Tree) (s : Inference) (ks : List ℕ) (normal : List (Ty × Ty)) (opaques : List AliasTy) : Type 0 where
   pub consistent : IsConsistent ts s ks
   pub resolved : StaysResolved ts s ks
   pub given : IsGiven ts normal opaques
+
+-- All that holds of an evaluator between calls. It is opaque: a tactic reads each part of a fact that it can see into, and few proofs
+-- need one.
+unfoldable pub IsEvaluator : List Tree → Inference → List ℕ → List (Ty × Ty) → List AliasTy → Type 0
+IsEvaluator ts s ks normal opaques = EvaluatorParts ts s ks normal opaques
 
 -- What contracts see of an evaluator that works in rounds.
 pub record Evaluator : Type 0 where

@@ -55,7 +55,6 @@ impl Rounds {
 
     /// The clause under an empty binder, with placeholders of a fresh universe for the variables of its own, which are of these
     /// kinds.
-    #[tactic(auto, using(crate::proofs::Trying::going_on))]
     fn instantiate(
         &mut self,
         alloc: Global,
@@ -76,7 +75,6 @@ impl Rounds {
 
     /// Where all values are put in, the type that is listed for an alias is made equal to the term, and the answer is true; no
     /// type is listed where it is false.
-    #[tactic(auto, using(crate::proofs::Trying::going_on))]
     fn try_alias(&mut self, alloc: Global, alias: Ty, term: Ty) -> Result<bool, NoSolutionOrStop>
         requires alias { IsTy self.old.context.trees alias }
         requires term { IsTy self.old.context.trees term }
@@ -108,7 +106,6 @@ impl Rounds {
     }
 
     /// The type that is listed for the alias of a projection is made equal to its term. The answer says whether one is listed.
-    #[tactic(auto, using(crate::proofs::Trying::going_on))]
     fn try_projection(
         &mut self,
         alloc: Global,
@@ -243,6 +240,7 @@ impl Rounds {
     }
 
     /// The goals that are pending. The only stop is `Stop::Memory`.
+    #[tactic(auto, unfolding(crate::specs::Known::IsEvaluator))]
     fn pending(&self, alloc: Global) -> Result<Vec<(GoalSource, Goal<Clause>)>, Stop>
         ensures fit { IfOk result (λ v. Each (λ g. IsGoal self.now.context.trees g.1) v.items) }
         ensures goals { IfOk result (λ v. pendings_of self.now.context.trees v.items ≡ (state self.now).pending) }

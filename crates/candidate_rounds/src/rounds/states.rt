@@ -29,6 +29,7 @@ use std::alloc::Global;
 impl Rounds {
     /// An evaluator over the context that knows nothing of variables yet. It normalises each alias of `normal` to the type that
     /// stands beside it; the opaque types of `opaques` may be hidden behind a variable. Neither holds a variable or a parameter.
+    #[tactic(auto, unfolding(crate::specs::Known::IsEvaluator))]
     pub fn new(
         alloc: Global,
         cx: Cx,
@@ -54,6 +55,7 @@ impl Rounds {
     }
 
     /// The context, and what the evaluator was given besides it.
+    #[tactic(auto, unfolding(crate::specs::Known::IsEvaluator))]
     pub fn into_parts(self) -> (Cx, Vec<(Ty, Ty)>, Vec<AliasTy>)
         ensures context { result.0 ≡ self.context }
         ensures normal { result.1.items ≡ self.normal }
@@ -204,7 +206,6 @@ impl Rounds {
 
     /// Placeholders of a fresh universe, in the place of a binder's variables of these kinds; without variables there is none.
     /// `Stop::Memory` comes where a growth was refused, `Stop::NodesFull` where no numbers are left.
-    #[tactic(auto, using(crate::proofs::Trying::going_on))]
     pub fn placeholder_args(&mut self, alloc: Global, kinds: &[VarKind]) -> Result<Args, Stop>
         ensures goes { GoesOn self.old self.new }
         ensures grows { Grows self.old.context self.new.context }
@@ -293,6 +294,7 @@ impl Rounds {
 
     /// The opaque types that may be hidden behind the type: where it stands for a general variable all that the evaluator was given, else
     /// none. The only stop is `Stop::Memory`.
+    #[tactic(auto, unfolding(crate::specs::Known::IsEvaluator))]
     pub fn opaques_with_sub_unified_hidden_type(
         &self,
         alloc: Global,

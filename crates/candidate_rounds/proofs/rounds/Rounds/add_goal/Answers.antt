@@ -8,6 +8,7 @@ use Rattle.candidate_rounds.proofs.ResolvedValues.{evaluator-changed, resolved-g
 use Rattle.candidate_rounds.proofs.Going.{further-goal}
 use Rattle.candidate_rounds.proofs.Holding.{holds-goal}
 use Rattle.candidate_rounds.specs.Inferences.{add}
+use Rattle.candidate_rounds.proofs.Between.{parts}
 use Rattle.candidate_rounds.proofs.rounds.Rounds.add_goal.Goals as goal
 
 pub invariant_of-self : goal.invariant_of-self
@@ -16,17 +17,17 @@ invariant_of-self c =
     let ks = reverse i.probes.items in
     let g = subst (λ (e : Evaluator). IsGoal e.context.trees c.args.goal) (sym c.self.view_is) c.requires in
     evaluator-changed i.cx.trees i.inference c.add.new.self (add i.inference c.args.source c.args.goal) ks i.normal.items i.opaques.items c.add.result c.self.invariant (further-goal i.inference c.args.source c.args.goal)
-    (holds-goal i.cx.trees i.inference ks c.args.source c.args.goal c.self.invariant.consistent g) (resolved-goal i.cx.trees i.inference c.args.source c.args.goal c.self.invariant.resolved.now)
+    (holds-goal i.cx.trees i.inference ks c.args.source c.args.goal (parts c.self.invariant).consistent g) (resolved-goal i.cx.trees i.inference c.args.source c.args.goal (parts c.self.invariant).resolved.now)
     c.add.ensures.added c.add.ensures.unchanged
 
 pub returns-clause-probes : goal.returns-clause-probes
 returns-clause-probes c =
     let i = c.self.inside in
-    probes-stay i.cx.trees i.mode i.inference c.add.new.self (reverse i.probes.items) c.self.invariant.consistent.marks (goal-undone i.inference c.add.new.self c.args.source c.args.goal c.add.result c.add.ensures.added c.add.ensures.unchanged)
+    probes-stay i.cx.trees i.mode i.inference c.add.new.self (reverse i.probes.items) (parts c.self.invariant).consistent.marks (goal-undone i.inference c.add.new.self c.args.source c.args.goal c.add.result c.add.ensures.added c.add.ensures.unchanged)
     ∙ ap probes c.self.view_is
 
 pub returns-clause-ok : goal.returns-clause-ok
 returns-clause-ok c =
     let i = c.self.inside in
-    let s = goal-state i.cx.trees i.mode i.inference c.add.new.self (reverse i.probes.items) c.args.source c.args.goal c.add.result c.self.invariant.consistent c.add.ensures.added in
+    let s = goal-state i.cx.trees i.mode i.inference c.add.new.self (reverse i.probes.items) c.args.source c.args.goal c.add.result (parts c.self.invariant).consistent c.add.ensures.added in
     subst (λ (e : Evaluator). OnOk c.add.result (state_of i.cx.trees i.mode c.add.new.self ≡ added (state e) (pending_of e.context.trees c.args.source c.args.goal))) c.self.view_is s

@@ -7,6 +7,7 @@ use Rattle.candidate_rounds.proofs.ResolvedValues.{evaluator-changed, resolved-g
 use Rattle.candidate_rounds.proofs.Going.{further-goals}
 use Rattle.candidate_rounds.proofs.Holding.{holds-goals}
 use Rattle.candidate_rounds.specs.Inferences.{add_all}
+use Rattle.candidate_rounds.proofs.Between.{parts}
 use Rattle.candidate_rounds.proofs.rounds.Rounds.add_goals.Goals as goal
 
 pub invariant_of-self : goal.invariant_of-self
@@ -16,18 +17,18 @@ invariant_of-self c =
     let gs = c.args.goals.now in
     let g = each-of-all (IsGoal i.cx.trees) gs (subst (λ (e : Evaluator). All (IsGoal e.context.trees) gs) (sym c.self.view_is) c.requires) in
     evaluator-changed i.cx.trees i.inference c.add_all.new.self (add_all i.inference c.args.source gs) ks i.normal.items i.opaques.items c.add_all.result c.self.invariant (further-goals i.inference c.args.source gs)
-    (holds-goals i.cx.trees i.inference ks c.args.source gs c.self.invariant.consistent g) (resolved-goals i.cx.trees i.inference c.args.source gs c.self.invariant.resolved.now)
+    (holds-goals i.cx.trees i.inference ks c.args.source gs (parts c.self.invariant).consistent g) (resolved-goals i.cx.trees i.inference c.args.source gs (parts c.self.invariant).resolved.now)
     c.add_all.ensures.added c.add_all.ensures.unchanged
 
 pub returns-clause-probes : goal.returns-clause-probes
 returns-clause-probes c =
     let i = c.self.inside in
-    probes-stay i.cx.trees i.mode i.inference c.add_all.new.self (reverse i.probes.items) c.self.invariant.consistent.marks (goals-undone i.inference c.add_all.new.self c.args.source c.args.goals.now c.add_all.result c.add_all.ensures.added c.add_all.ensures.unchanged)
+    probes-stay i.cx.trees i.mode i.inference c.add_all.new.self (reverse i.probes.items) (parts c.self.invariant).consistent.marks (goals-undone i.inference c.add_all.new.self c.args.source c.args.goals.now c.add_all.result c.add_all.ensures.added c.add_all.ensures.unchanged)
     ∙ ap probes c.self.view_is
 
 pub returns-clause-ok : goal.returns-clause-ok
 returns-clause-ok c =
     let i = c.self.inside in
     let g = each-of-all (IsGoal i.cx.trees) c.args.goals.now (subst (λ (e : Evaluator). All (IsGoal e.context.trees) c.args.goals.now) (sym c.self.view_is) c.requires) in
-    let s = goals-state i.cx.trees i.mode i.inference c.add_all.new.self (reverse i.probes.items) c.args.source c.args.goals.now c.add_all.result c.self.invariant.consistent g c.add_all.ensures.added in
+    let s = goals-state i.cx.trees i.mode i.inference c.add_all.new.self (reverse i.probes.items) c.args.source c.args.goals.now c.add_all.result (parts c.self.invariant).consistent g c.add_all.ensures.added in
     subst (λ (e : Evaluator). OnOk c.add_all.result (state_of i.cx.trees i.mode c.add_all.new.self ≡ with_goals_of e.context.trees (state e) c.args.source c.args.goals.now)) c.self.view_is s

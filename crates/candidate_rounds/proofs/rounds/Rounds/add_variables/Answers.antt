@@ -7,6 +7,7 @@ use Rattle.candidate_rounds.proofs.Knowing.{probes-stay}
 use Rattle.candidate_rounds.proofs.Holding.{holds-variables, undo-variables, state-variables, change-undone, change-state}
 use Rattle.candidate_rounds.proofs.ResolvedValues.{evaluator-changed, resolved-variables}
 use Rattle.candidate_rounds.proofs.Going.{further-variables}
+use Rattle.candidate_rounds.proofs.Between.{parts}
 use Rattle.candidate_rounds.proofs.rounds.Rounds.add_variables.Goals as goal
 
 pub invariant_of-self : goal.invariant_of-self
@@ -15,13 +16,13 @@ invariant_of-self c =
     let ks = reverse i.probes.items in
     let vs = c.args.kinds.now in
     evaluator-changed i.cx.trees i.inference c.add_variables.new.self (with_variables i.inference vs) ks i.normal.items i.opaques.items c.add_variables.result c.self.invariant (further-variables i.inference vs)
-    (holds-variables i.cx.trees i.inference ks vs c.self.invariant.consistent) (resolved-variables i.cx.trees i.inference vs c.self.invariant.resolved.now)
+    (holds-variables i.cx.trees i.inference ks vs (parts c.self.invariant).consistent) (resolved-variables i.cx.trees i.inference vs (parts c.self.invariant).resolved.now)
     c.add_variables.ensures.added c.add_variables.ensures.unchanged
 
 pub returns-clause-probes : goal.returns-clause-probes
 returns-clause-probes c =
     let i = c.self.inside in
-    probes-stay i.cx.trees i.mode i.inference c.add_variables.new.self (reverse i.probes.items) c.self.invariant.consistent.marks
+    probes-stay i.cx.trees i.mode i.inference c.add_variables.new.self (reverse i.probes.items) (parts c.self.invariant).consistent.marks
     (change-undone i.inference c.add_variables.new.self (with_variables i.inference c.args.kinds.now) c.add_variables.result (undo-variables i.inference c.args.kinds.now) c.add_variables.ensures.added c.add_variables.ensures.unchanged)
     ∙ ap probes c.self.view_is
 

@@ -9,6 +9,7 @@ use Rattle.candidate_rounds.proofs.Holding.{holds-begun}
 use Rattle.candidate_rounds.proofs.ResolvedValues.{resolved-begun, resolved-further, resolved-pending}
 use Rattle.candidate_rounds.proofs.Going.{further-pending}
 use Rattle.candidate_rounds.specs.Known.{IsEvaluator}
+use Rattle.candidate_rounds.proofs.Between.{of-parts, parts}
 use Rattle.candidate_rounds.proofs.rounds.Rounds.begin_aside.Goals as goal
 
 marks-are : (c : goal.In-Ok) → reverse c.push.new.self.items ≡ length c.self.inside.inference.trail ∷ reverse c.self.inside.probes.items
@@ -23,12 +24,12 @@ invariant_of-self-in-Ok c =
     let ts = s.cx.trees in
     let ks = reverse s.probes.items in
     let t = begin_pending i (length i.goals) in
-    let m = c.self.invariant.consistent.marks in
-    let begun : IsEvaluator ts t (length i.trail ∷ ks) s.normal.items s.opaques.items = record {
-      consistent = holds-begun ts i ks c.self.invariant.consistent;
-      resolved = resolved-further ts i t (length i.trail ∷ ks) (omega arith, m) (further-pending i (length i.goals)) (resolved-pending ts i (length i.goals) c.self.invariant.resolved.now) (resolved-begun ts i ks c.self.invariant.resolved);
-      given = c.self.invariant.given;
-    } in
+    let m = (parts c.self.invariant).consistent.marks in
+    let begun : IsEvaluator ts t (length i.trail ∷ ks) s.normal.items s.opaques.items = of-parts (record {
+      consistent = holds-begun ts i ks (parts c.self.invariant).consistent;
+      resolved = resolved-further ts i t (length i.trail ∷ ks) (omega arith, m) (further-pending i (length i.goals)) (resolved-pending ts i (length i.goals) (parts c.self.invariant).resolved.now) (resolved-begun ts i ks (parts c.self.invariant).resolved);
+      given = (parts c.self.invariant).given;
+    }) in
     subst (λ x. IsEvaluator ts x (reverse c.push.new.self.items) s.normal.items s.opaques.items) (sym c.in-Ok.ensures.aside) (subst (λ ks. IsEvaluator ts t ks s.normal.items s.opaques.items) (sym (marks-are c)) begun)
 
 pub returns-in-Ok-clause-ok : goal.returns-in-Ok-clause-ok
@@ -42,6 +43,6 @@ returns-in-Ok-clause-ok c =
     let st = ap (state_of ts mode) aside ∙ (none-pending ts mode i ∙ ap (λ (e : Evaluator). with_pending (state e) []) c.self.view_is) in
     let ps = ap (λ ns. states_at ts mode c.set_aside.new.self ns) marks
     ∙ (ap (λ x. states_at ts mode x (length i.trail ∷ ks)) aside
-    ∙ (probe-begins ts mode i (begin_pending i (length i.goals)) ks c.self.invariant.consistent.marks (undo-pending i (length i.goals))
+    ∙ (probe-begins ts mode i (begin_pending i (length i.goals)) ks (parts c.self.invariant).consistent.marks (undo-pending i (length i.goals))
     ∙ ap (λ (e : Evaluator). state e ∷ probes e) c.self.view_is)) in
     (st, ps)

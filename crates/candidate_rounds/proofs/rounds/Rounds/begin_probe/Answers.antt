@@ -3,6 +3,7 @@ use Rattle.std.proofs.lemmas.List.{reverse-append}
 use Rattle.candidate_rounds.specs.Known.{IsEvaluator}
 use Rattle.candidate_rounds.proofs.Holding.{holds-kept}
 use Rattle.candidate_rounds.proofs.ResolvedValues.{resolved-begun}
+use Rattle.candidate_rounds.proofs.Between.{of-parts, parts}
 use Rattle.candidate_rounds.proofs.rounds.Rounds.begin_probe.Goals as goal
 
 pub invariant_of-self-in-Kept : goal.invariant_of-self-in-Kept
@@ -12,4 +13,4 @@ invariant_of-self-in-Kept c =
     let marks : reverse c.push.new.self.items ≡ length s.inference.trail ∷ ks =
     ap reverse c.in_ok-push-in-Kept.ensures.items ∙ (reverse-append s.probes.items (c.changes.result ∷ []) ∙ ap (λ n. n ∷ ks) c.changes.ensures) in
     subst (λ ms. IsEvaluator s.cx.trees s.inference ms s.normal.items s.opaques.items) (sym marks)
-    (record { consistent = holds-kept s.cx.trees s.inference ks c.self.invariant.consistent; resolved = resolved-begun s.cx.trees s.inference ks c.self.invariant.resolved; given = c.self.invariant.given })
+    (of-parts (record { consistent = holds-kept s.cx.trees s.inference ks (parts c.self.invariant).consistent; resolved = resolved-begun s.cx.trees s.inference ks (parts c.self.invariant).resolved; given = (parts c.self.invariant).given }))

@@ -7,6 +7,7 @@ use Rattle.candidate_rounds.proofs.Knowing.{probes-stay}
 use Rattle.candidate_rounds.proofs.Holding.{holds-enter, state-enter, change-undone, change-state}
 use Rattle.candidate_rounds.proofs.Going.{further-enter, further-call, goes-further}
 use Rattle.candidate_rounds.proofs.ResolvedValues.{evaluator-changed, resolved-enter}
+use Rattle.candidate_rounds.proofs.Between.{parts}
 use Rattle.candidate_rounds.proofs.rounds.Rounds.enter.Goals as goal
 
 pub invariant_of-self : goal.invariant_of-self
@@ -14,12 +15,12 @@ invariant_of-self c =
     let i = c.self.inside in
     let ks = reverse i.probes.items in
     evaluator-changed i.cx.trees i.inference c.enter.new.self (enter i.inference) ks i.normal.items i.opaques.items c.enter.result c.self.invariant (further-enter i.inference)
-    (holds-enter i.cx.trees i.inference ks c.self.invariant.consistent) (resolved-enter i.cx.trees i.inference c.self.invariant.resolved.now) c.enter.ensures.entered c.enter.ensures.unchanged
+    (holds-enter i.cx.trees i.inference ks (parts c.self.invariant).consistent) (resolved-enter i.cx.trees i.inference (parts c.self.invariant).resolved.now) c.enter.ensures.entered c.enter.ensures.unchanged
 
 pub returns-clause-probes : goal.returns-clause-probes
 returns-clause-probes c =
     let i = c.self.inside in
-    probes-stay i.cx.trees i.mode i.inference c.enter.new.self (reverse i.probes.items) c.self.invariant.consistent.marks
+    probes-stay i.cx.trees i.mode i.inference c.enter.new.self (reverse i.probes.items) (parts c.self.invariant).consistent.marks
     (change-undone i.inference c.enter.new.self (enter i.inference) c.enter.result (undo-enter i.inference) c.enter.ensures.entered c.enter.ensures.unchanged)
     ∙ ap probes c.self.view_is
 

@@ -58,3 +58,6 @@ returns-clause-cause c =
     (λ s k. of_regions
     (subst (λ t. IsRegionsStop ts (placed_tree us (region_tree old.context.trees c.args.left)) t s) right (subst (λ t. IsRegionsStop ts t (region_tree new.context.trees c.in_ok-right.right) s) left k)))
     c.record_equal_regions.ensures.cause
+
+pub returns-in_err-right-clause-goes : goal.returns-in_err-right-clause-goes
+returns-in_err-right-clause-goes c = goes-trans c.args.self.now c.placed_region.new.self c.placed_region-2.new.self c.placed_region.ensures.goes c.placed_region-2.ensures.goes

@@ -1,10 +1,11 @@
-use Rattle.std.proofs.Common.{inl, inr, length, ◌∙◌, ap, arith}
+use Rattle.std.proofs.Common.{ap, arith, inl, inr, length, subst, sym, ◌∙◌}
 use Rattle.std.proofs.lemmas.Result.{err_from_is_err_and}
 use Rattle.std.proofs.lemmas.List.{length-map}
-use Rattle.candidate_ir.specs.Context.{Context}
-use Rattle.candidate_ir.specs.Words.{args_forest}
+use Rattle.candidate_ir.specs.Context.{Context, Grows}
+use Rattle.candidate_ir.specs.Words.{IsArgs, args_forest}
 use Rattle.candidate_rounds.specs.Known.{Evaluator, state, info_of}
 use Rattle.candidate_rounds.proofs.Leafing.{variables-are}
+use Rattle.candidate_rounds.proofs.Exits.{given-trans}
 use Rattle.candidate_rounds.proofs.rounds.Rounds.fresh_args_for_item.Goals as goal
 
 pub returns-clause-trees : goal.returns-clause-trees
@@ -22,3 +23,24 @@ returns-in_err-first-clause-cause c =
     let k = ap (λ (e : Evaluator). length (state e).variables) c.self.view_is in
     let more = c.in_err-first.ensures.cause.1 in
     rw r.1 (inl (inr (r.2 ∙ c.in_err-first.ensures.cause.0, omega (arith, m, k, more))))
+
+pub returns-in_err-add_variables-clause-grows : goal.returns-in_err-add_variables-clause-grows
+returns-in_err-add_variables-clause-grows c = subst (Grows c.args.self.now.context) (sym c.add_variables.ensures.context) c.make_leaves.ensures.grows
+
+pub returns-in_err-add_variables-clause-given : goal.returns-in_err-add_variables-clause-given
+returns-in_err-add_variables-clause-given c = given-trans c.args.self.now c.make_leaves.new.self c.add_variables.new.self c.make_leaves.ensures.given c.add_variables.ensures.given
+
+pub returns-in_err-add_variables-clause-probes : goal.returns-in_err-add_variables-clause-probes
+returns-in_err-add_variables-clause-probes c = c.add_variables.ensures.probes ∙ c.make_leaves.ensures.probes
+
+pub returns-clause-grows : goal.returns-clause-grows
+returns-clause-grows c = subst (Grows c.args.self.now.context) (sym c.add_variables.ensures.context) c.make_leaves.ensures.grows
+
+pub returns-clause-given : goal.returns-clause-given
+returns-clause-given c = given-trans c.args.self.now c.make_leaves.new.self c.add_variables.new.self c.make_leaves.ensures.given c.add_variables.ensures.given
+
+pub returns-clause-probes : goal.returns-clause-probes
+returns-clause-probes c = c.add_variables.ensures.probes ∙ c.make_leaves.ensures.probes
+
+pub returns-clause-sort : goal.returns-clause-sort
+returns-clause-sort c = subst (λ (x : Context). IsArgs x.trees c.in_ok-args.args) (sym c.add_variables.ensures.context) c.in_ok-args.ensures.sort

@@ -7,6 +7,7 @@ use Rattle.candidate_eval.specs.Evaluators.{kinds_listed, rigid}
 use Rattle.candidate_rounds.specs.Known.{state}
 use Rattle.candidate_rounds.proofs.Trying.{instantiated-state, instantiated-tree, on-ok}
 use Rattle.candidate_rounds.proofs.SettlingStops.{instance-stop}
+use Rattle.candidate_rounds.proofs.Going.{goes-trans}
 use Rattle.candidate_rounds.proofs.rounds.Rounds.instantiate.Goals as goal
 
 pub open-requires-clause-clause : goal.open-requires-clause-clause
@@ -42,3 +43,6 @@ returns-clause-cause c =
     ∙ (ap (opened_clause (rigid (state old) (kinds_listed c.args.kinds.now))) (clause-kept old.context mid.context c.args.clause c.placeholder_args.ensures.goes.0 c.requires.clause).1
     ∙ instantiated-tree (state old) was c.args.kinds.now c.requires.kinds))
     c.open.ensures.cause
+
+pub returns-clause-goes : goal.returns-clause-goes
+returns-clause-goes c = goes-trans c.args.self.now c.placeholder_args.new.self c.open.new.self c.placeholder_args.ensures.goes c.open.ensures.goes

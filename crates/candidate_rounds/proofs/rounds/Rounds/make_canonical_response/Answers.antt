@@ -1,16 +1,18 @@
 use Rattle.std.proofs.Common.{◌≡◌, reverse, IfOk, ◌∙◌, ap, subst}
 use Rattle.std.specs.Prelude.{IfErr}
 use Rattle.candidate_eval.specs.ResponseTrees.{response_of}
-use Rattle.candidate_rounds.specs.Known.{Evaluator, state, probes}
+use Rattle.candidate_rounds.specs.Known.{Evaluator, GoesOn, probes, state}
 use Rattle.candidate_rounds.specs.Stopping.{IsResponseStop}
 use Rattle.rounds_judge.specs.Responding.{response}
 use Rattle.candidate_rounds.proofs.Knowing.{probes-grow, state-stays}
 use Rattle.candidate_rounds.proofs.Holding.{kinds-now}
 use Rattle.candidate_rounds.proofs.ResolvedValues.{evaluator-grown}
+use Rattle.candidate_rounds.proofs.Between.{parts}
+use Rattle.candidate_rounds.proofs.Going.{goes-context}
 use Rattle.candidate_rounds.proofs.rounds.Rounds.make_canonical_response.Goals as goal
 
 pub response-requires-clause-kinds : goal.response-requires-clause-kinds
-response-requires-clause-kinds c = kinds-now c.self.inside.cx.trees c.self.inside.inference (reverse c.self.inside.probes.items) c.self.invariant.consistent
+response-requires-clause-kinds c = kinds-now c.self.inside.cx.trees c.self.inside.inference (reverse c.self.inside.probes.items) (parts c.self.invariant).consistent
 
 pub invariant_of-self : goal.invariant_of-self
 invariant_of-self c =
@@ -20,12 +22,12 @@ invariant_of-self c =
 pub returns-clause-probes : goal.returns-clause-probes
 returns-clause-probes c =
     let i = c.self.inside in
-    probes-grow i.cx.trees c.response.new.cx.trees i.mode i.inference (reverse i.probes.items) c.response.ensures.grows.kept c.self.invariant.consistent.known ∙ ap probes c.self.view_is
+    probes-grow i.cx.trees c.response.new.cx.trees i.mode i.inference (reverse i.probes.items) c.response.ensures.grows.kept (parts c.self.invariant).consistent.known ∙ ap probes c.self.view_is
 
 pub returns-clause-state : goal.returns-clause-state
 returns-clause-state c =
     let i = c.self.inside in
-    state-stays i.cx.trees c.response.new.cx.trees i.mode i.inference c.response.ensures.grows.kept c.self.invariant.consistent.known ∙ ap state c.self.view_is
+    state-stays i.cx.trees c.response.new.cx.trees i.mode i.inference c.response.ensures.grows.kept (parts c.self.invariant).consistent.known ∙ ap state c.self.view_is
 
 pub returns-clause-is : goal.returns-clause-is
 returns-clause-is c =
@@ -34,3 +36,12 @@ returns-clause-is c =
 pub returns-clause-cause : goal.returns-clause-cause
 returns-clause-cause c =
     subst (λ (e : Evaluator). IfErr c.response.result (λ s. IsResponseStop c.response.new.cx.trees (state e) s)) c.self.view_is (c.response.ensures.cause c.self.inside.mode)
+
+pub response-requires-clause-known : goal.response-requires-clause-known
+response-requires-clause-known c = (parts c.self.invariant).consistent.known
+
+pub returns-clause-goes : goal.returns-clause-goes
+returns-clause-goes c =
+    let i = c.self.inside in
+    let v : Evaluator = record { context = i.cx; mode = i.mode; normal = i.normal.items; opaques = i.opaques.items; inference = i.inference; marks = reverse i.probes.items } in
+    subst (λ (e : Evaluator). GoesOn e (record v { context = c.response.new.cx })) c.self.view_is (goes-context v c.response.new.cx c.response.ensures.grows)

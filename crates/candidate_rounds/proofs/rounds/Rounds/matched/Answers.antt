@@ -6,6 +6,7 @@ use Rattle.candidate_rounds.specs.Known.{state}
 use Rattle.candidate_rounds.proofs.Framing.{frames-kept, pairs-kept}
 use Rattle.candidate_rounds.proofs.Offering.{regions-matched}
 use Rattle.candidate_rounds.proofs.EquatingStops.{below-unmatched, question, regions-unmatched}
+use Rattle.candidate_rounds.proofs.Exits.{not-refused}
 use Rattle.candidate_rounds.proofs.rounds.Rounds.matched.Goals as goal
 
 pub returns-in-Some-clause-frames : goal.returns-in-Some-clause-frames
@@ -36,3 +37,9 @@ returns-in_err-equal_regions-clause-cause c =
 pub returns-in_err-enter_below-clause-cause : goal.returns-in_err-enter_below-clause-cause
 returns-in_err-enter_below-clause-cause c =
     question _ c.from_residual-in_err-enter_below.result _ c.from_residual-in_err-enter_below.ensures.1 (below-unmatched _ _ _ _ _ _ c.in_err-enter_below.ensures.cause)
+
+pub returns-in_err-equal_regions-clause-refused : goal.returns-in_err-equal_regions-clause-refused
+returns-in_err-equal_regions-clause-refused c = not-refused _ c.from_residual.result _ c.from_residual.ensures.1
+
+pub returns-in_err-enter_below-clause-refused : goal.returns-in_err-enter_below-clause-refused
+returns-in_err-enter_below-clause-refused c = not-refused _ c.from_residual-in_err-enter_below.result _ c.from_residual-in_err-enter_below.ensures.1

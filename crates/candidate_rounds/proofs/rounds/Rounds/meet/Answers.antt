@@ -8,6 +8,8 @@ use Rattle.candidate_rounds.proofs.Visiting.{by-answer, left-takes, matched-on, 
 use Rattle.rounds_judge.specs.Equating.{matched, met}
 use Rattle.candidate_rounds.specs.Stopping.{IsOfferStop, of_left_offer, of_right_offer, of_match}
 use Rattle.candidate_rounds.proofs.EquatingStops.{each-stop, match-before, offer-before, question}
+use Rattle.candidate_rounds.proofs.Between.{parts}
+use Rattle.candidate_rounds.proofs.Exits.{below-goes, free-goes, not-refused}
 use Rattle.candidate_rounds.proofs.rounds.Rounds.meet.Goals as goal
 
 pub returns-then-branch-clause-frames : goal.returns-then-branch-clause-frames
@@ -48,7 +50,7 @@ returns-then-branch-2-clause-ok c =
     let same = c.in_ok-offered.ensures.declined c.if-branch.false in
     right-takes (listing old) (state old) (state new) (reverse us) x y more (pairs_of new.context.trees us fs)
     (by-answer (listing old) (state old) (state mid) us c.as_slice.result.now x.head y more _ _ c.as_slice.ensures.value c.if-branch.false (c.in_ok-offered.ensures.taken more))
-    (offered-on old mid c.offered.ensures.goes c.well_kept.ensures.given same (reverse us) c.args.right c.args.left more c.requires.right c.requires.left
+    (offered-on old mid c.offered.ensures.goes (parts c.well_kept.ensures).given same (reverse us) c.args.right c.args.left more c.requires.right c.requires.left
     ∙ by-answer (listing mid) (state mid) (state new) us c.as_slice-2.result.now (tree_at mid.context.trees c.args.right).head (tree_at mid.context.trees c.args.left) more _ _ c.as_slice-2.ensures.value c.if-branch-2.true (c.in_ok-offered-2.ensures.taken more))
     (pairs-kept ts new.context.trees us fs goes.0.kept c.requires.frames)
 
@@ -78,9 +80,9 @@ met-is c =
     let second = c.in_ok-offered-2.ensures.declined c.if-branch-2.false in
     neither-takes (listing old) (state old) (reverse us) x y more
     (by-answer (listing old) (state old) (state mid) us c.as_slice.result.now x.head y more _ _ c.as_slice.ensures.value c.if-branch.false (c.in_ok-offered.ensures.taken more))
-    (offered-on old mid c.offered.ensures.goes c.well_kept.ensures.given first (reverse us) c.args.right c.args.left more c.requires.right c.requires.left
+    (offered-on old mid c.offered.ensures.goes (parts c.well_kept.ensures).given first (reverse us) c.args.right c.args.left more c.requires.right c.requires.left
     ∙ by-answer (listing mid) (state mid) (state new) us c.as_slice-2.result.now (tree_at mid.context.trees c.args.right).head (tree_at mid.context.trees c.args.left) more _ _ c.as_slice-2.ensures.value c.if-branch-2.false (c.in_ok-offered-2.ensures.taken more))
-    ∙ matched-on old new goes c.well_kept.ensures.given (second ∙ first) (reverse us) c.args.left c.args.right more (pairs_of new.context.trees us fs) c.requires.left c.requires.right
+    ∙ matched-on old new goes (parts c.well_kept.ensures).given (second ∙ first) (reverse us) c.args.left c.args.right more (pairs_of new.context.trees us fs) c.requires.left c.requires.right
     (pairs-kept ts new.context.trees us fs goes.0.kept c.requires.frames)
 
 pub returns-clause-ok : goal.returns-clause-ok
@@ -113,7 +115,7 @@ returns-in_err-offered-2-clause-cause c =
     let same = c.in_ok-offered.ensures.declined c.if-branch.false in
     question _ c.from_residual-in_err-offered-2.result _ c.from_residual-in_err-offered-2.ensures.1
     (of_right_offer
-    (offer-before old mid c.offered.ensures.goes c.well_kept.ensures.given same ts (reverse us) c.args.right c.args.left c.requires.right c.requires.left s
+    (offer-before old mid c.offered.ensures.goes (parts c.well_kept.ensures).given same ts (reverse us) c.args.right c.args.left c.requires.right c.requires.left s
     (subst (λ us. IsOfferStop ts (listing mid) (state mid) (reverse us) (tree_at mid.context.trees c.args.right).head (tree_at mid.context.trees c.args.left) s) c.as_slice-2.ensures.value
     c.in_err-offered-2.ensures.cause)))
 
@@ -126,5 +128,32 @@ returns-clause-cause c =
     let first = c.in_ok-offered.ensures.declined c.if-branch.false in
     let second = c.in_ok-offered-2.ensures.declined c.if-branch-2.false in
     each-stop _ _ c.matched.result
-    (λ s k. of_match (match-before old new goes c.well_kept.ensures.given (second ∙ first) c.matched.new.self.context.trees (reverse c.args.rest.now.universes.items) c.args.left c.args.right c.requires.left c.requires.right s k))
+    (λ s k. of_match (match-before old new goes (parts c.well_kept.ensures).given (second ∙ first) c.matched.new.self.context.trees (reverse c.args.rest.now.universes.items) c.args.left c.args.right c.requires.left c.requires.right s k))
     c.matched.ensures.cause
+
+pub offered-requires-2-clause-to : goal.offered-requires-2-clause-to
+offered-requires-2-clause-to c = below-goes c.args.self.now c.offered.new.self c.args.right c.offered.ensures.goes c.requires.right
+
+pub offered-requires-2-clause-number : goal.offered-requires-2-clause-number
+offered-requires-2-clause-number c = below-goes c.args.self.now c.offered.new.self c.args.left c.offered.ensures.goes c.requires.left
+
+pub offered-requires-2-clause-free : goal.offered-requires-2-clause-free
+offered-requires-2-clause-free c = free-goes c.args.self.now c.offered.new.self c.args.right c.offered.ensures.goes (c.in_ok-offered.ensures.declined c.if-branch.false) c.requires.right c.requires.right_free
+
+pub returns-in_err-offered-clause-refused : goal.returns-in_err-offered-clause-refused
+returns-in_err-offered-clause-refused c = not-refused _ c.from_residual.result _ c.from_residual.ensures.1
+
+pub returns-in_err-offered-2-clause-goes : goal.returns-in_err-offered-2-clause-goes
+returns-in_err-offered-2-clause-goes c = goes-trans c.args.self.now c.offered.new.self c.offered-2.new.self c.offered.ensures.goes c.offered-2.ensures.goes
+
+pub returns-in_err-offered-2-clause-refused : goal.returns-in_err-offered-2-clause-refused
+returns-in_err-offered-2-clause-refused c = not-refused _ c.from_residual-in_err-offered-2.result _ c.from_residual-in_err-offered-2.ensures.1
+
+pub returns-then-branch-2-clause-goes : goal.returns-then-branch-2-clause-goes
+returns-then-branch-2-clause-goes c = goes-trans c.args.self.now c.offered.new.self c.offered-2.new.self c.offered.ensures.goes c.offered-2.ensures.goes
+
+pub matched-requires-clause-left : goal.matched-requires-clause-left
+matched-requires-clause-left c = below-goes c.args.self.now c.offered-2.new.self c.args.left (goes-trans c.args.self.now c.offered.new.self c.offered-2.new.self c.offered.ensures.goes c.offered-2.ensures.goes) c.requires.left
+
+pub matched-requires-clause-right : goal.matched-requires-clause-right
+matched-requires-clause-right c = below-goes c.args.self.now c.offered-2.new.self c.args.right (goes-trans c.args.self.now c.offered.new.self c.offered-2.new.self c.offered.ensures.goes c.offered-2.ensures.goes) c.requires.right

@@ -8,6 +8,7 @@ use Rattle.candidate_rounds.proofs.ResolvedValues.{evaluator-further, evaluator-
 use Rattle.candidate_rounds.proofs.Going.{further-variable}
 use Rattle.candidate_rounds.specs.Inferences.{with_variable}
 use Rattle.candidate_rounds.specs.Known.{IsEvaluator}
+use Rattle.candidate_rounds.proofs.Between.{parts}
 use Rattle.candidate_rounds.proofs.rounds.Rounds.new_variable.Goals as goal
 
 pub invariant_of-self : goal.invariant_of-self
@@ -18,7 +19,7 @@ invariant_of-self c =
 pub returns-in_err-arg-clause-probes : goal.returns-in_err-arg-clause-probes
 returns-in_err-arg-clause-probes c =
     let i = c.self.inside in
-    probes-grow i.cx.trees c.variable.new.cx.trees i.mode i.inference (reverse i.probes.items) c.variable.ensures.grows.kept c.self.invariant.consistent.known ∙ ap probes c.self.view_is
+    probes-grow i.cx.trees c.variable.new.cx.trees i.mode i.inference (reverse i.probes.items) c.variable.ensures.grows.kept (parts c.self.invariant).consistent.known ∙ ap probes c.self.view_is
 
 pub invariant_of-self-in_err-add_variable : goal.invariant_of-self-in_err-add_variable
 invariant_of-self-in_err-add_variable c =
@@ -30,7 +31,7 @@ pub returns-in_err-add_variable-clause-probes : goal.returns-in_err-add_variable
 returns-in_err-add_variable-clause-probes c =
     let i = c.self.inside in
     ap (λ x. states_at c.variable.new.cx.trees i.mode x (reverse i.probes.items)) c.in_err-add_variable.ensures.unchanged
-    ∙ (probes-grow i.cx.trees c.variable.new.cx.trees i.mode i.inference (reverse i.probes.items) c.variable.ensures.grows.kept c.self.invariant.consistent.known ∙ ap probes c.self.view_is)
+    ∙ (probes-grow i.cx.trees c.variable.new.cx.trees i.mode i.inference (reverse i.probes.items) c.variable.ensures.grows.kept (parts c.self.invariant).consistent.known ∙ ap probes c.self.view_is)
 
 pub invariant_of-self-2 : goal.invariant_of-self-2
 invariant_of-self-2 c =
@@ -40,7 +41,7 @@ invariant_of-self-2 c =
     let grown = evaluator-grown i.cx.trees c.variable.new.cx.trees i.inference (reverse i.probes.items) i.normal.items i.opaques.items c.variable.ensures.grows.kept c.self.invariant in
     subst (λ x. IsEvaluator us x ks i.normal.items i.opaques.items) (sym c.in_ok-add_variable.ensures.added)
     (evaluator-further us i.inference (with_variable i.inference c.args.kind c.args.is_root) ks i.normal.items i.opaques.items grown (further-variable i.inference c.args.kind c.args.is_root)
-    (holds-variable us i.inference ks c.args.kind c.args.is_root grown.consistent) (resolved-variable us i.inference c.args.kind c.args.is_root grown.resolved.now))
+    (holds-variable us i.inference ks c.args.kind c.args.is_root (parts grown).consistent) (resolved-variable us i.inference c.args.kind c.args.is_root (parts grown).resolved.now))
 
 pub returns-clause-probes : goal.returns-clause-probes
 returns-clause-probes c =
@@ -48,14 +49,14 @@ returns-clause-probes c =
     let us = c.variable.new.cx.trees in
     let ks = reverse i.probes.items in
     ap (λ x. states_at us i.mode x ks) c.in_ok-add_variable.ensures.added
-    ∙ (probes-stay us i.mode i.inference (with_variable i.inference c.args.kind c.args.is_root) ks c.self.invariant.consistent.marks (undo-variable i.inference c.args.kind c.args.is_root)
-    ∙ (probes-grow i.cx.trees us i.mode i.inference ks c.variable.ensures.grows.kept c.self.invariant.consistent.known ∙ ap probes c.self.view_is))
+    ∙ (probes-stay us i.mode i.inference (with_variable i.inference c.args.kind c.args.is_root) ks (parts c.self.invariant).consistent.marks (undo-variable i.inference c.args.kind c.args.is_root)
+    ∙ (probes-grow i.cx.trees us i.mode i.inference ks c.variable.ensures.grows.kept (parts c.self.invariant).consistent.known ∙ ap probes c.self.view_is))
 
 pub returns-in_err-arg-clause-before : goal.returns-in_err-arg-clause-before
-returns-in_err-arg-clause-before c = before-grown c.variable.new.cx.trees _ c.args.self.now c.self.view_is c.variable.ensures.grows.kept c.self.invariant.consistent.known
+returns-in_err-arg-clause-before c = before-grown c.variable.new.cx.trees _ c.args.self.now c.self.view_is c.variable.ensures.grows.kept (parts c.self.invariant).consistent.known
 
 pub returns-in_err-add_variable-clause-before : goal.returns-in_err-add_variable-clause-before
-returns-in_err-add_variable-clause-before c = before-grown c.variable.new.cx.trees _ c.args.self.now c.self.view_is c.variable.ensures.grows.kept c.self.invariant.consistent.known
+returns-in_err-add_variable-clause-before c = before-grown c.variable.new.cx.trees _ c.args.self.now c.self.view_is c.variable.ensures.grows.kept (parts c.self.invariant).consistent.known
 
 pub returns-clause-before : goal.returns-clause-before
-returns-clause-before c = before-grown c.variable.new.cx.trees _ c.args.self.now c.self.view_is c.variable.ensures.grows.kept c.self.invariant.consistent.known
+returns-clause-before c = before-grown c.variable.new.cx.trees _ c.args.self.now c.self.view_is c.variable.ensures.grows.kept (parts c.self.invariant).consistent.known

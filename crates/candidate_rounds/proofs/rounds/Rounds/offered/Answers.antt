@@ -12,6 +12,8 @@ use Rattle.candidate_rounds.proofs.Going.{goes-trans}
 use Rattle.candidate_rounds.proofs.Offering.{declined, none-asked, taken-by}
 use Rattle.std.proofs.lemmas.Result.{err_from_is_err_and}
 use Rattle.candidate_rounds.specs.Stopping.{IsBindingStop, IsValueStop, of_offered, of_taken}
+use Rattle.candidate_rounds.proofs.Between.{parts}
+use Rattle.candidate_rounds.proofs.Exits.{free-value}
 use Rattle.candidate_rounds.proofs.rounds.Rounds.offered.Goals as goal
 
 pub returns-in_default-argument-clause-taken : goal.returns-in_default-argument-clause-taken
@@ -20,7 +22,7 @@ returns-in_default-argument-clause-taken c more =
     let us = reverse c.args.universes.now in
     subst (λ (e : Evaluator). offered (listing e) (state e) us (tree_at e.context.trees c.args.to).head (tree_at e.context.trees c.args.number) more ≡ None) c.self.view_is
     (none-asked i.cx.trees i.normal.items (state_of i.cx.trees i.mode i.inference) us (tree_at i.cx.trees c.args.to).head c.in-Some.variable (tree_at i.cx.trees c.args.number) more
-    c.self.invariant.given.types (infer-is (tree_at i.cx.trees c.args.to).head c.in-Some.variable (sym c.variable_at.ensures ∙ c.in-Some.is)) c.in_default-argument.ensures)
+    (parts c.self.invariant).given.types (infer-is (tree_at i.cx.trees c.args.to).head c.in-Some.variable (sym c.variable_at.ensures ∙ c.in-Some.is)) c.in_default-argument.ensures)
 
 pub returns-then-not-may_take-clause-taken : goal.returns-then-not-may_take-clause-taken
 returns-then-not-may_take-clause-taken c more =
@@ -39,7 +41,7 @@ bind-requires-clause-resolved c =
     let old = c.args.self.now in
     let us = reverse c.args.universes.now in
     let x = arg_tree c.value_for.new.self.context.trees c.in_ok-value.value in
-    let whole = value_resolved (listing old) c.well_kept.ensures.given.listing (state old) (c.well_kept.ensures.resolved.now old.mode) us (arg_tree old.context.trees c.in-Some-argument.arg) in
+    let whole = value_resolved (listing old) (parts c.well_kept.ensures).given.listing (state old) ((parts c.well_kept.ensures).resolved.now old.mode) us (arg_tree old.context.trees c.in-Some-argument.arg) in
     subst (λ S. IsResolved S (alone x)) (sym c.value_for.ensures.state) (subst (λ y. IsResolved (state old) (alone y)) (sym c.in_ok-value.ensures.tree) whole)
 
 pub returns-clause-goes : goal.returns-clause-goes
@@ -82,3 +84,20 @@ returns-in_err-bind-clause-cause c =
     let is : x ≡ value_for (listing old) (state old) us t = c.in_ok-value.ensures.tree ∙ ap (λ n. value_for (listing old) (state old) us (tree_at old.context.trees n)) c.in-Some-argument.ensures.0 in
     let head = ap (λ (e : Evaluator). (tree_at e.context.trees c.args.to).head) (sym c.self.view_is) ∙ infer-is (tree_at c.self.inside.cx.trees c.args.to).head v (sym c.variable_at.ensures ∙ c.in-Some.is) in
     rw (p.1, p.2) (of_taken v head (subst (λ y. IsBindingStop ts (state old) v y s) is (subst (λ S. IsBindingStop ts S v x s) c.value_for.ensures.state c.in_err-bind.ensures.cause)))
+
+pub bind-requires-clause-value : goal.bind-requires-clause-value
+bind-requires-clause-value c = c.in_ok-value.ensures.sort
+
+pub bind-requires-clause-may : goal.bind-requires-clause-may
+bind-requires-clause-may c = sym c.may_take.ensures ∙ c.if-not-may_take.false
+
+pub bind-requires-clause-free : goal.bind-requires-clause-free
+bind-requires-clause-free c =
+    let old = c.args.self.now in
+    let v = c.in-Some.variable in
+    let head = ap (λ (e : Evaluator). (tree_at e.context.trees c.args.to).head) (sym c.self.view_is) ∙ infer-is (tree_at c.self.inside.cx.trees c.args.to).head v (sym c.variable_at.ensures ∙ c.in-Some.is) in
+    free-value (state old) (state c.value_for.new.self) v (tree_at old.context.trees c.args.to).head (arg_tree c.value_for.new.self.context.trees c.in_ok-value.value) head c.requires.free c.value_for.ensures.state
+    (sym c.may_take.ensures ∙ c.if-not-may_take.false)
+
+pub returns-in_err-bind-clause-goes : goal.returns-in_err-bind-clause-goes
+returns-in_err-bind-clause-goes c = goes-trans c.args.self.now c.value_for.new.self c.bind.new.self c.value_for.ensures.goes c.bind.ensures.goes

@@ -6,6 +6,7 @@ use Rattle.candidate_rounds.specs.Known.{Evaluator, GoesOn, state, state_of}
 use Rattle.candidate_rounds.proofs.Going.{further-call, further-goal, goes-further}
 use Rattle.candidate_rounds.proofs.Holding.{goal-state, holds-goal}
 use Rattle.candidate_rounds.proofs.ResolvedValues.{evaluator-changed, resolved-goal}
+use Rattle.candidate_rounds.proofs.Between.{parts}
 use Rattle.candidate_rounds.proofs.rounds.Rounds.push_pending.Goals as goal
 
 pub invariant_of-self : goal.invariant_of-self
@@ -14,7 +15,7 @@ invariant_of-self c =
     let ks = reverse i.probes.items in
     let g = subst (λ (e : Evaluator). IsGoal e.context.trees c.args.goal) (sym c.self.view_is) c.requires in
     evaluator-changed i.cx.trees i.inference c.add.new.self (add i.inference c.args.source c.args.goal) ks i.normal.items i.opaques.items c.add.result c.self.invariant (further-goal i.inference c.args.source c.args.goal)
-    (holds-goal i.cx.trees i.inference ks c.args.source c.args.goal c.self.invariant.consistent g) (resolved-goal i.cx.trees i.inference c.args.source c.args.goal c.self.invariant.resolved.now)
+    (holds-goal i.cx.trees i.inference ks c.args.source c.args.goal (parts c.self.invariant).consistent g) (resolved-goal i.cx.trees i.inference c.args.source c.args.goal (parts c.self.invariant).resolved.now)
     c.add.ensures.added c.add.ensures.unchanged
 
 pub returns-clause-goes : goal.returns-clause-goes
@@ -27,5 +28,5 @@ returns-clause-goes c =
 pub returns-clause-made : goal.returns-clause-made
 returns-clause-made c =
     let i = c.self.inside in
-    let s = goal-state i.cx.trees i.mode i.inference c.add.new.self (reverse i.probes.items) c.args.source c.args.goal c.add.result c.self.invariant.consistent c.add.ensures.added in
+    let s = goal-state i.cx.trees i.mode i.inference c.add.new.self (reverse i.probes.items) c.args.source c.args.goal c.add.result (parts c.self.invariant).consistent c.add.ensures.added in
     subst (λ (e : Evaluator). OnOk c.add.result (state_of i.cx.trees i.mode c.add.new.self ≡ added (state e) (pending_of e.context.trees c.args.source c.args.goal))) c.self.view_is s

@@ -9,6 +9,7 @@ use Rattle.candidate_rounds.proofs.Going.{further-region, further-trans}
 use Rattle.candidate_rounds.proofs.Recording.{both, holds-region}
 use Rattle.candidate_rounds.specs.Inferences.{record_region}
 use Rattle.candidate_rounds.proofs.BindingStops.{unrecorded}
+use Rattle.candidate_rounds.proofs.Between.{parts}
 use Rattle.candidate_rounds.proofs.rounds.Rounds.record_equal_regions.Goals as goal
 
 pub invariant_of-self : goal.invariant_of-self
@@ -26,8 +27,8 @@ invariant_of-self-2 c =
     let grown = evaluator-grown i.cx.trees us i.inference ks i.normal.items i.opaques.items c.equal_regions.ensures.grows.kept c.self.invariant in
     evaluator-changed us i.inference c.record_both.new.inference (both i.inference one other) ks i.normal.items i.opaques.items c.record_both.result grown
     (further-trans i.inference (record_region i.inference one) (both i.inference one other) (further-region i.inference one) (further-region (record_region i.inference one) other))
-    (holds-region us (record_region i.inference one) ks other (holds-region us i.inference ks one grown.consistent c.in_ok-one.ensures.one.0) c.in_ok-one.ensures.other.0)
-    (resolved-region us (record_region i.inference one) other (resolved-region us i.inference one grown.resolved.now))
+    (holds-region us (record_region i.inference one) ks other (holds-region us i.inference ks one (parts grown).consistent c.in_ok-one.ensures.one.0) c.in_ok-one.ensures.other.0)
+    (resolved-region us (record_region i.inference one) other (resolved-region us i.inference one (parts grown).resolved.now))
     c.record_both.ensures.recorded c.record_both.ensures.unchanged
 
 pub returns-clause-goes : goal.returns-clause-goes
@@ -44,7 +45,7 @@ returns-clause-recorded c =
     let us = c.equal_regions.new.cx.trees in
     subst (λ (e : Evaluator). OnOk c.record_both.result (state_of us i.mode c.record_both.new.inference ≡ with_equal_regions (state e) (region_tree e.context.trees c.args.a) (region_tree e.context.trees c.args.b))) c.self.view_is
     (equal-recorded i.cx.trees us i.mode i.inference c.record_both.new.inference c.in_ok-one.one c.in_ok-one.other (region_tree i.cx.trees c.args.a) (region_tree i.cx.trees c.args.b) c.record_both.result
-    c.equal_regions.ensures.grows.kept c.self.invariant.consistent.known (sym c.is_same_region.ensures ∙ c.if-is_same_region.false) c.in_ok-one.ensures.one.1 c.in_ok-one.ensures.other.1 c.record_both.ensures.recorded)
+    c.equal_regions.ensures.grows.kept (parts c.self.invariant).consistent.known (sym c.is_same_region.ensures ∙ c.if-is_same_region.false) c.in_ok-one.ensures.one.1 c.in_ok-one.ensures.other.1 c.record_both.ensures.recorded)
 
 pub returns-clause-cause : goal.returns-clause-cause
 returns-clause-cause c = unrecorded _ _ _ c.record_both.result c.record_both.ensures.cause

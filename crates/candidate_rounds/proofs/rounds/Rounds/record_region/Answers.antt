@@ -8,6 +8,7 @@ use Rattle.candidate_rounds.proofs.Holding.{change-state}
 use Rattle.candidate_rounds.proofs.Recording.{holds-region}
 use Rattle.candidate_rounds.proofs.ResolvedValues.{evaluator-changed, resolved-region}
 use Rattle.candidate_rounds.proofs.Trying.{state-region}
+use Rattle.candidate_rounds.proofs.Between.{parts}
 use Rattle.candidate_rounds.proofs.rounds.Rounds.record_region.Goals as goal
 
 pub invariant_of-self : goal.invariant_of-self
@@ -16,7 +17,7 @@ invariant_of-self c =
     let ks = reverse i.probes.items in
     let fits = subst (λ (e : Evaluator). IsClause e.context.trees c.args.region) (sym c.self.view_is) c.requires in
     evaluator-changed i.cx.trees i.inference c.record_region.new.self (record_region i.inference c.args.region) ks i.normal.items i.opaques.items c.record_region.result c.self.invariant (further-region i.inference c.args.region)
-    (holds-region i.cx.trees i.inference ks c.args.region c.self.invariant.consistent fits) (resolved-region i.cx.trees i.inference c.args.region c.self.invariant.resolved.now) c.record_region.ensures.recorded c.record_region.ensures.unchanged
+    (holds-region i.cx.trees i.inference ks c.args.region (parts c.self.invariant).consistent fits) (resolved-region i.cx.trees i.inference c.args.region (parts c.self.invariant).resolved.now) c.record_region.ensures.recorded c.record_region.ensures.unchanged
 
 pub returns-clause-goes : goal.returns-clause-goes
 returns-clause-goes c =

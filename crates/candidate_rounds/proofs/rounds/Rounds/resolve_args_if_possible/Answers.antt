@@ -7,10 +7,11 @@ use Rattle.candidate_rounds.specs.Known.{Evaluator, state, probes}
 use Rattle.candidate_rounds.proofs.Knowing.{probes-grow, state-stays}
 use Rattle.candidate_rounds.proofs.Holding.{kinds-now}
 use Rattle.candidate_rounds.proofs.ResolvedValues.{evaluator-grown}
+use Rattle.candidate_rounds.proofs.Between.{parts}
 use Rattle.candidate_rounds.proofs.rounds.Rounds.resolve_args_if_possible.Goals as goal
 
 pub resolved_args-requires-clause-kinds : goal.resolved_args-requires-clause-kinds
-resolved_args-requires-clause-kinds c = kinds-now c.self.inside.cx.trees c.self.inside.inference (reverse c.self.inside.probes.items) c.self.invariant.consistent
+resolved_args-requires-clause-kinds c = kinds-now c.self.inside.cx.trees c.self.inside.inference (reverse c.self.inside.probes.items) (parts c.self.invariant).consistent
 
 pub invariant_of-self : goal.invariant_of-self
 invariant_of-self c =
@@ -20,12 +21,12 @@ invariant_of-self c =
 pub returns-clause-probes : goal.returns-clause-probes
 returns-clause-probes c =
     let i = c.self.inside in
-    probes-grow i.cx.trees c.resolved_args.new.cx.trees i.mode i.inference (reverse i.probes.items) c.resolved_args.ensures.grows.kept c.self.invariant.consistent.known ∙ ap probes c.self.view_is
+    probes-grow i.cx.trees c.resolved_args.new.cx.trees i.mode i.inference (reverse i.probes.items) c.resolved_args.ensures.grows.kept (parts c.self.invariant).consistent.known ∙ ap probes c.self.view_is
 
 pub returns-clause-state : goal.returns-clause-state
 returns-clause-state c =
     let i = c.self.inside in
-    state-stays i.cx.trees c.resolved_args.new.cx.trees i.mode i.inference c.resolved_args.ensures.grows.kept c.self.invariant.consistent.known ∙ ap state c.self.view_is
+    state-stays i.cx.trees c.resolved_args.new.cx.trees i.mode i.inference c.resolved_args.ensures.grows.kept (parts c.self.invariant).consistent.known ∙ ap state c.self.view_is
 
 pub returns-clause-tree : goal.returns-clause-tree
 returns-clause-tree c =
@@ -36,3 +37,6 @@ pub returns-clause-cause : goal.returns-clause-cause
 returns-clause-cause c =
     subst (λ (e : Evaluator). IfErr c.resolved_args.result (λ s. IsSubstStop (length c.resolved_args.new.cx.trees) (resolved (state e) (args_forest e.context.trees c.args.args)) s)) c.self.view_is
     (c.resolved_args.ensures.cause c.self.inside.mode)
+
+pub resolved_args-requires-clause-known : goal.resolved_args-requires-clause-known
+resolved_args-requires-clause-known c = (parts c.self.invariant).consistent.known

@@ -8,10 +8,11 @@ use Rattle.candidate_rounds.specs.Known.{Evaluator, state, probes}
 use Rattle.candidate_rounds.proofs.Knowing.{probes-grow, state-stays}
 use Rattle.candidate_rounds.proofs.Holding.{kinds-now}
 use Rattle.candidate_rounds.proofs.ResolvedValues.{evaluator-grown}
+use Rattle.candidate_rounds.proofs.Between.{parts}
 use Rattle.candidate_rounds.proofs.rounds.Rounds.resolve_const_if_possible.Goals as goal
 
 pub resolved_const-requires-clause-kinds : goal.resolved_const-requires-clause-kinds
-resolved_const-requires-clause-kinds c = kinds-now c.self.inside.cx.trees c.self.inside.inference (reverse c.self.inside.probes.items) c.self.invariant.consistent
+resolved_const-requires-clause-kinds c = kinds-now c.self.inside.cx.trees c.self.inside.inference (reverse c.self.inside.probes.items) (parts c.self.invariant).consistent
 
 pub invariant_of-self : goal.invariant_of-self
 invariant_of-self c =
@@ -21,12 +22,12 @@ invariant_of-self c =
 pub returns-clause-probes : goal.returns-clause-probes
 returns-clause-probes c =
     let i = c.self.inside in
-    probes-grow i.cx.trees c.resolved_const.new.cx.trees i.mode i.inference (reverse i.probes.items) c.resolved_const.ensures.grows.kept c.self.invariant.consistent.known ∙ ap probes c.self.view_is
+    probes-grow i.cx.trees c.resolved_const.new.cx.trees i.mode i.inference (reverse i.probes.items) c.resolved_const.ensures.grows.kept (parts c.self.invariant).consistent.known ∙ ap probes c.self.view_is
 
 pub returns-clause-state : goal.returns-clause-state
 returns-clause-state c =
     let i = c.self.inside in
-    state-stays i.cx.trees c.resolved_const.new.cx.trees i.mode i.inference c.resolved_const.ensures.grows.kept c.self.invariant.consistent.known ∙ ap state c.self.view_is
+    state-stays i.cx.trees c.resolved_const.new.cx.trees i.mode i.inference c.resolved_const.ensures.grows.kept (parts c.self.invariant).consistent.known ∙ ap state c.self.view_is
 
 pub returns-clause-tree : goal.returns-clause-tree
 returns-clause-tree c =
@@ -37,3 +38,6 @@ pub returns-clause-cause : goal.returns-clause-cause
 returns-clause-cause c =
     subst (λ (e : Evaluator). IfErr c.resolved_const.result (λ s. IsSubstStop (length c.resolved_const.new.cx.trees) (alone (resolved_tree (state e) (const_tree e.context.trees c.args.constant))) s)) c.self.view_is
     (c.resolved_const.ensures.cause c.self.inside.mode)
+
+pub resolved_const-requires-clause-known : goal.resolved_const-requires-clause-known
+resolved_const-requires-clause-known c = (parts c.self.invariant).consistent.known

@@ -4,6 +4,7 @@ use Rattle.candidate_rounds.specs.Known.{Evaluator, GoesOn}
 use Rattle.candidate_rounds.proofs.Evaluating.{holds-aside}
 use Rattle.candidate_rounds.proofs.Going.{further-call, further-pending, goes-further}
 use Rattle.candidate_rounds.proofs.ResolvedValues.{evaluator-changed, resolved-pending}
+use Rattle.candidate_rounds.proofs.Between.{parts}
 use Rattle.candidate_rounds.proofs.rounds.Rounds.set_aside.Goals as goal
 
 pub invariant_of-self : goal.invariant_of-self
@@ -11,7 +12,7 @@ invariant_of-self c =
     let i = c.self.inside in
     let ks = reverse i.probes.items in
     evaluator-changed i.cx.trees i.inference c.set_aside.new.self (begin_pending i.inference (length i.inference.goals)) ks i.normal.items i.opaques.items c.set_aside.result c.self.invariant
-    (further-pending i.inference (length i.inference.goals)) (holds-aside i.cx.trees i.inference ks c.self.invariant.consistent) (resolved-pending i.cx.trees i.inference (length i.inference.goals) c.self.invariant.resolved.now)
+    (further-pending i.inference (length i.inference.goals)) (holds-aside i.cx.trees i.inference ks (parts c.self.invariant).consistent) (resolved-pending i.cx.trees i.inference (length i.inference.goals) (parts c.self.invariant).resolved.now)
     c.set_aside.ensures.aside c.set_aside.ensures.unchanged
 
 pub returns-clause-goes : goal.returns-clause-goes

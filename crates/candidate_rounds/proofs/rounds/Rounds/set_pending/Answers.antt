@@ -1,4 +1,6 @@
 use Rattle.candidate_rounds.proofs.Evaluating.{all-pending, one-more-pending}
+use Rattle.candidate_rounds.proofs.Going.{goes-trans}
+use Rattle.std.proofs.Common.{◌∙◌}
 use Rattle.candidate_rounds.proofs.rounds.Rounds.set_pending.Goals as goal
 
 pub loop-i-preserved : goal.loop-i-preserved
@@ -7,3 +9,9 @@ loop-i-preserved c =
 
 pub returns-clause-made : goal.returns-clause-made
 returns-clause-made c = all-pending c.args.self.now c.loop-i.self c.args.goals.now c.loop-i.i c.loop-i.invariant c.loop-i-test.false
+
+pub returns-in_err-push_pending-clause-goes : goal.returns-in_err-push_pending-clause-goes
+returns-in_err-push_pending-clause-goes c = goes-trans c.args.self.now c.loop-i.self c.push_pending.new.self c.loop-i.invariant.goes c.push_pending.ensures.goes
+
+pub returns-in_err-push_pending-clause-context : goal.returns-in_err-push_pending-clause-context
+returns-in_err-push_pending-clause-context c = c.push_pending.ensures.context ∙ c.loop-i.invariant.context

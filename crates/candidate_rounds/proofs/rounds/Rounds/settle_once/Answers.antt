@@ -3,6 +3,8 @@ use Rattle.candidate_eval.specs.Evaluators.{pendings_of}
 use Rattle.candidate_rounds.specs.Stopping.{AreGoalsStop, IsPassStop, pass_memory}
 use Rattle.candidate_rounds.specs.Known.{listing, state}
 use Rattle.candidate_rounds.proofs.SettlingStops.{growth-becomes, pass-goals, refusal-passed}
+use Rattle.candidate_rounds.proofs.Going.{goes-refl, goes-trans}
+use Rattle.candidate_rounds.proofs.Exits.{not-refused}
 use Rattle.candidate_rounds.proofs.rounds.Rounds.settle_once.Goals as goal
 
 pub returns-in_err-goals-clause-cause : goal.returns-in_err-goals-clause-cause
@@ -24,3 +26,18 @@ returns-in_err-set_pending-clause-cause c =
     let old = c.args.self.now in
     growth-becomes (IsPassStop c.set_pending.new.self.context.trees (listing old) (state old)) c.from_residual-in_err-set_pending.result c.in_err-set_pending.field-0.0 c.from_residual-in_err-set_pending.ensures.1
     c.in_err-set_pending.ensures.cause pass_memory
+
+pub returns-in_err-goals-clause-goes : goal.returns-in_err-goals-clause-goes
+returns-in_err-goals-clause-goes c = goes-refl c.args.self.now
+
+pub returns-in_err-goals-clause-refused : goal.returns-in_err-goals-clause-refused
+returns-in_err-goals-clause-refused c = not-refused _ c.from_residual.result _ c.from_residual.ensures.1
+
+pub returns-in_err-set_pending-clause-goes : goal.returns-in_err-set_pending-clause-goes
+returns-in_err-set_pending-clause-goes c = goes-trans c.args.self.now c.try_goals.new.self c.set_pending.new.self c.try_goals.ensures.goes c.set_pending.ensures.goes
+
+pub returns-in_err-set_pending-clause-refused : goal.returns-in_err-set_pending-clause-refused
+returns-in_err-set_pending-clause-refused c = not-refused _ c.from_residual-in_err-set_pending.result _ c.from_residual-in_err-set_pending.ensures.1
+
+pub returns-clause-goes : goal.returns-clause-goes
+returns-clause-goes c = goes-trans c.args.self.now c.try_goals.new.self c.set_pending.new.self c.try_goals.ensures.goes c.set_pending.ensures.goes

@@ -12,8 +12,10 @@ use Rattle.candidate_rounds.specs.Known.{listing, state}
 use Rattle.candidate_rounds.specs.Stopping.{IsEvaluationStop, IsGoalStop, goal_memory, of_clause}
 use Rattle.rounds_judge.specs.Settling.{instantiated}
 use Rattle.candidate_rounds.proofs.Evaluating.{env-kept, instance-made, second-holds, second-tree, tried-done, tried-refused, tried-stays}
-use Rattle.candidate_rounds.proofs.Going.{goes-listing}
+use Rattle.candidate_rounds.proofs.Going.{goes-listing, goes-refl, goes-trans}
 use Rattle.candidate_rounds.proofs.SettlingStops.{evaluation-stop, growth-becomes, refusal-passed, stop-becomes}
+use Rattle.candidate_rounds.proofs.Between.{parts}
+use Rattle.candidate_rounds.proofs.Exits.{not-refused}
 use Rattle.candidate_rounds.proofs.rounds.Rounds.try_goal.Goals as goal
 
 pub try_instance-requires-clause-clause : goal.try_instance-requires-clause-clause
@@ -36,7 +38,7 @@ returns-in_err-try_instance-clause-refused c =
     let was = clause-kept old.context mid.context c.args.goal.predicate g.0 c.requires.1 in
     let e = ap (clause_tree mid.context.trees) c.left_clause-predicate.ensures
     ∙ second-tree mid.context.trees ks c.args.goal.predicate c.in_ok-instance.instance _ _ was.1 c.in_ok-instance.ensures.tree in
-    let i = goes-listing old mid g c.well_kept.ensures.given in
+    let i = goes-listing old mid g (parts c.well_kept.ensures).given in
     let r = err_from_is_err_and c.from_residual-in_err-try_instance.result c.from_residual-in_err-try_instance.ensures.1 in
     rw r.1
     (λ n. tried-refused (listing old) (listing mid) (state old) (state mid) p ks (clause_tree mid.context.trees c.in_ok-instance.instance) (clause_tree mid.context.trees c.left_clause-predicate.result) i k c.in_ok-instance.ensures.state
@@ -54,7 +56,7 @@ returns-then-branch-clause-ok c =
     let was = clause-kept old.context mid.context c.args.goal.predicate g.0 c.requires.1 in
     let e = ap (clause_tree mid.context.trees) c.left_clause-predicate.ensures
     ∙ second-tree mid.context.trees ks c.args.goal.predicate c.in_ok-instance.instance _ _ was.1 c.in_ok-instance.ensures.tree in
-    let i = goes-listing old mid g c.well_kept.ensures.given in
+    let i = goes-listing old mid g (parts c.well_kept.ensures).given in
     tried-done (listing old) (listing mid) (state old) (state mid) p ks (clause_tree mid.context.trees c.in_ok-instance.instance) (clause_tree mid.context.trees c.left_clause-predicate.result) i k c.in_ok-instance.ensures.state
     c.in_ok-instance.ensures.tree e
     (state c.try_instance.new.self) c.in_ok-try_instance.field-0 c.if-branch.true c.in_ok-try_instance.ensures.ok
@@ -82,7 +84,7 @@ returns-clause-ok c =
     let was = clause-kept old.context mid.context c.args.goal.predicate g.0 c.requires.1 in
     let e = ap (clause_tree mid.context.trees) c.left_clause-predicate.ensures
     ∙ second-tree mid.context.trees ks c.args.goal.predicate c.in_ok-instance.instance _ _ was.1 c.in_ok-instance.ensures.tree in
-    let i = goes-listing old mid g c.well_kept.ensures.given in
+    let i = goes-listing old mid g (parts c.well_kept.ensures).given in
     let left = subst (IsClause mid.context.trees) (sym c.left_clause-predicate.ensures)
     (second-holds (IsClause mid.context.trees) c.as_slice-2.result.now c.args.goal.predicate c.in_ok-instance.instance (clause-kept old.context mid.context c.args.goal.predicate g.0 c.requires.1).0 c.in_ok-instance.ensures.sort) in
     let new = c.try_instance.new.self in
@@ -116,4 +118,25 @@ returns-in_err-try_instance-clause-cause c =
     let x = clause_tree mid.context.trees c.in_ok-instance.instance in
     refusal-passed (IsGoalStop ts (listing old) (state old) p) (IsEvaluationStop ts (listing mid) (state mid) x.head (after_first x.children)) c.from_residual-in_err-try_instance.result c.in_err-try_instance.field-0.0
     c.from_residual-in_err-try_instance.ensures.1 c.in_err-try_instance.ensures.cause
-    (λ s k. evaluation-stop ts (listing old) (listing mid) (state old) (state mid) p x s (goes-listing old mid c.instantiate.ensures.goes c.well_kept.ensures.given) c.in_ok-instance.ensures.state c.in_ok-instance.ensures.tree k)
+    (λ s k. evaluation-stop ts (listing old) (listing mid) (state old) (state mid) p x s (goes-listing old mid c.instantiate.ensures.goes (parts c.well_kept.ensures).given) c.in_ok-instance.ensures.state c.in_ok-instance.ensures.tree k)
+
+pub instantiate-requires-clause-kinds : goal.instantiate-requires-clause-kinds
+instantiate-requires-clause-kinds c = ap kinds_listed c.as_slice.ensures.value ∙ c.in_ok-kinds.ensures.kinds
+
+pub returns-in_err-kinds-clause-goes : goal.returns-in_err-kinds-clause-goes
+returns-in_err-kinds-clause-goes c = goes-refl c.args.self.now
+
+pub returns-in_err-kinds-clause-refused : goal.returns-in_err-kinds-clause-refused
+returns-in_err-kinds-clause-refused c = not-refused _ c.from_residual.result _ c.from_residual.ensures.1
+
+pub returns-in_err-instance-clause-refused : goal.returns-in_err-instance-clause-refused
+returns-in_err-instance-clause-refused c = not-refused _ c.from_residual-in_err-instance.result _ c.from_residual-in_err-instance.ensures.1
+
+pub returns-in_err-try_instance-clause-goes : goal.returns-in_err-try_instance-clause-goes
+returns-in_err-try_instance-clause-goes c = goes-trans c.args.self.now c.instantiate.new.self c.try_instance.new.self c.instantiate.ensures.goes c.try_instance.ensures.goes
+
+pub returns-then-branch-clause-goes : goal.returns-then-branch-clause-goes
+returns-then-branch-clause-goes c = goes-trans c.args.self.now c.instantiate.new.self c.try_instance.new.self c.instantiate.ensures.goes c.try_instance.ensures.goes
+
+pub returns-clause-goes : goal.returns-clause-goes
+returns-clause-goes c = goes-trans c.args.self.now c.instantiate.new.self c.try_instance.new.self c.instantiate.ensures.goes c.try_instance.ensures.goes

@@ -10,8 +10,10 @@ use Rattle.candidate_rounds.specs.Known.{listing, state}
 use Rattle.candidate_rounds.specs.Trying.{projection_of}
 use Rattle.candidate_rounds.specs.Stopping.{IsProjectionStop, IsTreeStop, of_alias}
 use Rattle.candidate_rounds.proofs.Evaluating.{answered-same}
-use Rattle.candidate_rounds.proofs.Going.{goes-listing}
+use Rattle.candidate_rounds.proofs.Going.{goes-listing, goes-trans}
 use Rattle.candidate_rounds.proofs.SettlingStops.{projection-same, stop-becomes, stops-then}
+use Rattle.candidate_rounds.proofs.Between.{parts}
+use Rattle.candidate_rounds.proofs.Exits.{not-refused}
 use Rattle.candidate_rounds.proofs.rounds.Rounds.try_projection.Goals as goal
 
 pub try_alias-requires-clause-term : goal.try_alias-requires-clause-term
@@ -24,7 +26,7 @@ returns-clause-ok c =
     subst (λ (o : Option (Bool × State)). IfOk c.try_alias.result (λ b. o ≡ Some (b, state c.try_alias.new.self)))
     (answered-same (listing old) (listing mid) (state old) (state mid) (kind_tree old.context.trees (projection_of c.args.projection)) (ty_tree mid.context.trees c.in_ok-alias.alias)
     (ty_tree old.context.trees c.args.projection.term) (ty_tree mid.context.trees c.args.projection.term)
-    (goes-listing old mid c.make_ty.ensures.goes c.well_kept.ensures.given) c.make_ty.ensures.state (c.in_ok-alias.ensures.tree ∙ ap (λ (a : AliasTy). kind_tree old.context.trees (K.Alias a)) c.projection.ensures) (ty-kept old.context mid.context c.args.projection.term c.make_ty.ensures.goes.0 c.requires.term).1)
+    (goes-listing old mid c.make_ty.ensures.goes (parts c.well_kept.ensures).given) c.make_ty.ensures.state (c.in_ok-alias.ensures.tree ∙ ap (λ (a : AliasTy). kind_tree old.context.trees (K.Alias a)) c.projection.ensures) (ty-kept old.context mid.context c.args.projection.term c.make_ty.ensures.goes.0 c.requires.term).1)
     c.try_alias.ensures.ok
 
 pub returns-clause-refused : goal.returns-clause-refused
@@ -34,7 +36,7 @@ returns-clause-refused c =
     subst (λ (o : Option (Bool × State)). IfErr c.try_alias.result (λ e. e ≡ NoSolution → o ≡ None))
     (answered-same (listing old) (listing mid) (state old) (state mid) (kind_tree old.context.trees (projection_of c.args.projection)) (ty_tree mid.context.trees c.in_ok-alias.alias)
     (ty_tree old.context.trees c.args.projection.term) (ty_tree mid.context.trees c.args.projection.term)
-    (goes-listing old mid c.make_ty.ensures.goes c.well_kept.ensures.given) c.make_ty.ensures.state (c.in_ok-alias.ensures.tree ∙ ap (λ (a : AliasTy). kind_tree old.context.trees (K.Alias a)) c.projection.ensures) (ty-kept old.context mid.context c.args.projection.term c.make_ty.ensures.goes.0 c.requires.term).1)
+    (goes-listing old mid c.make_ty.ensures.goes (parts c.well_kept.ensures).given) c.make_ty.ensures.state (c.in_ok-alias.ensures.tree ∙ ap (λ (a : AliasTy). kind_tree old.context.trees (K.Alias a)) c.projection.ensures) (ty-kept old.context mid.context c.args.projection.term c.make_ty.ensures.goes.0 c.requires.term).1)
     c.try_alias.ensures.refused
 
 pub returns-in_err-alias-clause-cause : goal.returns-in_err-alias-clause-cause
@@ -55,6 +57,12 @@ returns-clause-cause c =
     let u = ty_tree mid.context.trees c.in_ok-alias.alias in
     let x = ty_tree mid.context.trees c.args.projection.term in
     stops-then (IsProjectionStop ts (listing old) (state old) t (ty_tree old.context.trees c.args.projection.term)) (IsProjectionStop ts (listing mid) (state mid) u x) c.try_alias.result c.try_alias.ensures.cause
-    (λ s k. projection-same ts (listing old) (listing mid) (state old) (state mid) t u (ty_tree old.context.trees c.args.projection.term) x s (goes-listing old mid c.make_ty.ensures.goes c.well_kept.ensures.given)
+    (λ s k. projection-same ts (listing old) (listing mid) (state old) (state mid) t u (ty_tree old.context.trees c.args.projection.term) x s (goes-listing old mid c.make_ty.ensures.goes (parts c.well_kept.ensures).given)
     c.make_ty.ensures.state (c.in_ok-alias.ensures.tree ∙ ap (λ (a : AliasTy). kind_tree old.context.trees (K.Alias a)) c.projection.ensures)
     (ty-kept old.context mid.context c.args.projection.term c.make_ty.ensures.goes.0 c.requires.term).1 k)
+
+pub returns-in_err-alias-clause-refused : goal.returns-in_err-alias-clause-refused
+returns-in_err-alias-clause-refused c = not-refused _ c.from_residual.result _ c.from_residual.ensures.1
+
+pub returns-clause-goes : goal.returns-clause-goes
+returns-clause-goes c = goes-trans c.args.self.now c.make_ty.new.self c.try_alias.new.self c.make_ty.ensures.goes c.try_alias.ensures.goes

@@ -4,6 +4,7 @@ use Rattle.candidate_rounds.proofs.Assigning.{holds-back-to}
 use Rattle.candidate_rounds.proofs.ResolvedValues.{resolved-back}
 use Rattle.candidate_rounds.specs.Known.{HasResolvedValues, IsEvaluator}
 use Rattle.candidate_rounds.specs.Inferences.{back_to}
+use Rattle.candidate_rounds.proofs.Between.{of-parts, parts}
 use Rattle.candidate_rounds.proofs.rounds.Rounds.undo_to.Goals as goal
 
 pub invariant_of-self : goal.invariant_of-self
@@ -14,8 +15,8 @@ invariant_of-self c =
     let marks = subst (λ (e : Evaluator). AreMarks c.args.changes e.marks) (sym c.self.view_is) c.requires.probes in
     let resolved = subst (λ (e : Evaluator). HasResolvedValues e.context.trees (back_to c.args.changes e.inference)) (sym c.self.view_is) c.requires.resolved in
     subst (λ x. IsEvaluator i.cx.trees x ks i.normal.items i.opaques.items) (sym c.undo_to.ensures)
-    (record {
-      consistent = holds-back-to i.cx.trees i.inference c.args.changes ks c.self.invariant.consistent few marks;
-      resolved = resolved-back i.cx.trees i.inference c.args.changes ks marks resolved c.self.invariant.resolved.at_marks;
-      given = c.self.invariant.given;
-    })
+    (of-parts (record {
+      consistent = holds-back-to i.cx.trees i.inference c.args.changes ks (parts c.self.invariant).consistent few marks;
+      resolved = resolved-back i.cx.trees i.inference c.args.changes ks marks resolved (parts c.self.invariant).resolved.at_marks;
+      given = (parts c.self.invariant).given;
+    }))

@@ -35,3 +35,6 @@ returns-clause-ok c =
     let us = c.loop-frame.rest.universes.items in
     let nothing : c.loop-frame.rest.frames.items ≡ [] = search rules in
     c.loop-frame.invariant.2 ∙ (ap (λ fs. unified (listing mid) (state mid) (pairs_of mid.context.trees us fs)) nothing ∙ nothing-left (listing mid) (state mid))
+
+pub returns-in_err-look-clause-goes : goal.returns-in_err-look-clause-goes
+returns-in_err-look-clause-goes c = goes-trans c.args.self.now c.loop-frame.self c.look.new.self c.loop-frame.invariant.0 c.look.ensures.goes

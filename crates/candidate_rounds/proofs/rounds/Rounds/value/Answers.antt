@@ -2,6 +2,7 @@ use Rattle.std.proofs.Common.{reverse, subst}
 use Rattle.candidate_rounds.specs.Known.{Evaluator}
 use Rattle.candidate_rounds.proofs.Values.{IsValueOf}
 use Rattle.candidate_rounds.proofs.Resolving.{own-value}
+use Rattle.candidate_rounds.proofs.Between.{parts}
 use Rattle.candidate_rounds.proofs.rounds.Rounds.value.Goals as goal
 
 pub returns : goal.returns
@@ -9,4 +10,4 @@ returns c =
     let i = c.self.inside in
     let r : Evaluator = record { context = i.cx; mode = i.mode; normal = i.normal.items; opaques = i.opaques.items; inference = i.inference; marks = reverse i.probes.items } in
     subst (λ (e : Evaluator). IsValueOf e c.args.kind c.args.number c.kept_value.result) c.self.view_is
-    (own-value r c.args.kind c.args.number c.kept_value.result c.self.invariant.consistent c.kept_value.ensures)
+    (own-value r c.args.kind c.args.number c.kept_value.result (parts c.self.invariant).consistent c.kept_value.ensures)

@@ -1,15 +1,17 @@
-use Rattle.std.proofs.Common.{◌≡◌, reverse, IfOk, ◌∙◌, ap, subst, IfErr}
+use Rattle.std.proofs.Common.{IfErr, IfOk, ap, reverse, subst, sym, ◌∙◌, ◌≡◌}
 use Rattle.candidate_ir.specs.Folds.{arg_tree}
 use Rattle.rounds_judge.specs.Equating.{value_for}
-use Rattle.candidate_rounds.specs.Known.{Evaluator, listing, listing_of, state, state_of}
+use Rattle.candidate_rounds.specs.Known.{AreTypes, Each, Evaluator, GoesOn, listing, listing_of, state, state_of}
 use Rattle.candidate_rounds.proofs.Knowing.{state-stays}
 use Rattle.candidate_rounds.proofs.Holding.{kinds-now}
 use Rattle.candidate_rounds.proofs.ResolvedValues.{evaluator-grown}
 use Rattle.candidate_rounds.specs.Stopping.{IsValueStop}
+use Rattle.candidate_rounds.proofs.Between.{parts}
+use Rattle.candidate_rounds.proofs.Going.{goes-context}
 use Rattle.candidate_rounds.proofs.rounds.Rounds.value_for.Goals as goal
 
 pub value_in-requires-clause-kinds : goal.value_in-requires-clause-kinds
-value_in-requires-clause-kinds c = kinds-now c.self.inside.cx.trees c.self.inside.inference (reverse c.self.inside.probes.items) c.self.invariant.consistent
+value_in-requires-clause-kinds c = kinds-now c.self.inside.cx.trees c.self.inside.inference (reverse c.self.inside.probes.items) (parts c.self.invariant).consistent
 
 pub invariant_of-self : goal.invariant_of-self
 invariant_of-self c =
@@ -19,7 +21,7 @@ invariant_of-self c =
 pub returns-clause-state : goal.returns-clause-state
 returns-clause-state c =
     let i = c.self.inside in
-    state-stays i.cx.trees c.value_in.new.cx.trees i.mode i.inference c.value_in.ensures.grows.kept c.self.invariant.consistent.known ∙ ap state c.self.view_is
+    state-stays i.cx.trees c.value_in.new.cx.trees i.mode i.inference c.value_in.ensures.grows.kept (parts c.self.invariant).consistent.known ∙ ap state c.self.view_is
 
 pub returns-clause-tree : goal.returns-clause-tree
 returns-clause-tree c =
@@ -32,3 +34,15 @@ returns-clause-cause c =
     subst (λ (e : Evaluator). IfErr c.value_in.result (λ s. IsValueStop c.value_in.new.cx.trees (listing e) (state e) (reverse c.args.universes.now) (arg_tree e.context.trees c.args.arg) s)) c.self.view_is
     (subst (λ ps. IfErr c.value_in.result (λ s. IsValueStop c.value_in.new.cx.trees (listing_of c.self.inside.cx.trees ps) (state_of c.self.inside.cx.trees c.self.inside.mode c.self.inside.inference) (reverse c.args.universes.now) (arg_tree c.self.inside.cx.trees c.args.arg) s))
     c.as_slice.ensures.value (c.value_in.ensures.cause c.self.inside.mode))
+
+pub value_in-requires-clause-known : goal.value_in-requires-clause-known
+value_in-requires-clause-known c = (parts c.self.invariant).consistent.known
+
+pub value_in-requires-clause-types : goal.value_in-requires-clause-types
+value_in-requires-clause-types c = subst (Each (AreTypes c.self.inside.cx.trees)) (sym c.as_slice.ensures.value) (parts c.self.invariant).given.types
+
+pub returns-clause-goes : goal.returns-clause-goes
+returns-clause-goes c =
+    let i = c.self.inside in
+    let v : Evaluator = record { context = i.cx; mode = i.mode; normal = i.normal.items; opaques = i.opaques.items; inference = i.inference; marks = reverse i.probes.items } in
+    subst (λ (e : Evaluator). GoesOn e (record v { context = c.value_in.new.cx })) c.self.view_is (goes-context v c.value_in.new.cx c.value_in.ensures.grows)

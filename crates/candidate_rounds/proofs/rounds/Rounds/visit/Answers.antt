@@ -11,6 +11,7 @@ use Rattle.candidate_rounds.proofs.EquatingStops.{question, child-of, each-stop,
 use Rattle.candidate_eval.specs.Noting.{HasWideNode}
 use Rattle.candidate_rounds.specs.Stopping.{IsLookStop, IsUnifyingStop, refused_growth, wide_node}
 use Rattle.candidate_ir.specs.declared.ir.stop.Stop.TheVariants.{NodesFull}
+use Rattle.candidate_rounds.proofs.Exits.{not-refused}
 use Rattle.candidate_rounds.proofs.rounds.Rounds.visit.Goals as goal
 
 -- both rows begin with trees, which meet
@@ -93,3 +94,6 @@ returns-in_ok-push-in-Some-Some-clause-cause c =
     (λ s k. look-stops c.meet_current.new.self.context.trees (listing old) (state old) _ _ _ _ _ _ (tree_at ts c.in-Some-Some.left) (tree_at ts c.in-Some-Some.right) _ s left right
     (ap reverse c.push.ensures.universes ∙ sym (frame-scope c.args.rest.now.universes.items f c.requires.binders)) k)
     c.meet_current.ensures.cause
+
+pub returns-in_err-push-in-Some-Some-clause-refused : goal.returns-in_err-push-in-Some-Some-clause-refused
+returns-in_err-push-in-Some-Some-clause-refused c = not-refused _ c.from_residual.result _ c.from_residual.ensures.1

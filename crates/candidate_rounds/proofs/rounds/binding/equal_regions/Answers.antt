@@ -5,6 +5,7 @@ use Rattle.std.proofs.Common.{subst}
 use Rattle.candidate_rounds.specs.Stopping.{IsTreeStop, of_first, of_second}
 use Rattle.candidate_ir.specs.Words.{region_tree}
 use Rattle.rounds_judge.specs.Equating.{outlives}
+use Rattle.candidate_ir.proofs.Kept.{grows-trans}
 use Rattle.candidate_rounds.proofs.rounds.binding.equal_regions.Goals as goal
 
 pub outlives-requires-2-clause-first : goal.outlives-requires-2-clause-first
@@ -35,3 +36,9 @@ returns-in_err-other-clause-cause c =
     rw (p.1, p.2)
     (of_second
     (subst (λ t. IsTreeStop ts (outlives t (region_tree c.args.cx.now.trees c.args.a)) s) y (subst (λ t. IsTreeStop ts (outlives (region_tree mid.trees c.args.b) t) s) x c.in_err-other.ensures.cause)))
+
+pub returns-in_err-other-clause-grows : goal.returns-in_err-other-clause-grows
+returns-in_err-other-clause-grows c = grows-trans _ _ _ c.outlives.ensures.grows c.outlives-2.ensures.grows
+
+pub returns-clause-grows : goal.returns-clause-grows
+returns-clause-grows c = grows-trans _ _ _ c.outlives.ensures.grows c.outlives-2.ensures.grows

@@ -8,6 +8,7 @@ use Rattle.candidate_rounds.specs.Stopping.{IsResponseStop, response_memory}
 use Rattle.candidate_rounds.proofs.Knowing.{is-clause-stays, kinds-grown, known-stays}
 use Rattle.candidate_rounds.proofs.Gathering.{all-clauses, clause-later, each-index, one-more-clause}
 use Rattle.candidate_rounds.proofs.ResponseStops.{constraint-stop, passed-on}
+use Rattle.candidate_ir.proofs.Kept.{grows-trans}
 use Rattle.candidate_rounds.proofs.rounds.responding.constraints.Goals as goal
 
 pub resolved_clause-requires-clause-clause : goal.resolved_clause-requires-clause-clause
@@ -44,3 +45,9 @@ returns-in_err-resolved_clause-clause-cause c = λ m.
 pub returns-in_err-push-clause-cause : goal.returns-in_err-push-clause-cause
 returns-in_err-push-clause-cause c = λ m.
     passed-on (IsResponseStop c.resolved_clause.new.cx.trees (state_of c.args.cx.now.trees m c.args.inference.now)) c.from_residual-in_err-push.result Memory c.from_residual-in_err-push.ensures.1 response_memory
+
+pub returns-in_err-resolved_clause-clause-grows : goal.returns-in_err-resolved_clause-clause-grows
+returns-in_err-resolved_clause-clause-grows c = grows-trans _ _ _ c.loop-i.invariant.grows c.resolved_clause.ensures.grows
+
+pub returns-in_err-push-clause-grows : goal.returns-in_err-push-clause-grows
+returns-in_err-push-clause-grows c = grows-trans _ _ _ c.loop-i.invariant.grows c.resolved_clause.ensures.grows

@@ -7,6 +7,7 @@ use Rattle.rounds_judge.specs.Responding.{renumbered_tree}
 use Rattle.candidate_rounds.proofs.Knowing.{clause-stays}
 use Rattle.candidate_rounds.proofs.Gathering.{all-clauses, clauses-kept, one-more-clause}
 use Rattle.candidate_rounds.proofs.ResponseStops.{clause-unnumbered, passed-on}
+use Rattle.candidate_ir.proofs.Kept.{grows-trans}
 use Rattle.candidate_rounds.proofs.rounds.responding.renumbered_clauses.Goals as goal
 
 pub renumbered_clause-requires : goal.renumbered_clause-requires
@@ -35,3 +36,9 @@ returns-in_err-renumbered_clause-clause-cause c =
 pub returns-in_err-push-clause-cause : goal.returns-in_err-push-clause-cause
 returns-in_err-push-clause-cause c =
     passed-on (AreRenumberingStops c.renumbered_clause.new.cx.trees c.args.numbers.now (map (clause_tree c.args.cx.now.trees) c.args.clauses.now)) c.from_residual-in_err-push.result Memory c.from_residual-in_err-push.ensures.1 no_list
+
+pub returns-in_err-renumbered_clause-clause-grows : goal.returns-in_err-renumbered_clause-clause-grows
+returns-in_err-renumbered_clause-clause-grows c = grows-trans _ _ _ c.loop-i.invariant.grows c.renumbered_clause.ensures.grows
+
+pub returns-in_err-push-clause-grows : goal.returns-in_err-push-clause-grows
+returns-in_err-push-clause-grows c = grows-trans _ _ _ c.loop-i.invariant.grows c.renumbered_clause.ensures.grows

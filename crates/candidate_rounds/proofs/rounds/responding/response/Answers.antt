@@ -1,6 +1,6 @@
 use Rattle.std.proofs.Common.{[], map, rules, ◌≡◌, length, ◌∙◌}
 use Rattle.candidate_ir.specs.Words.{args_forest, clause_tree}
-use Rattle.candidate_ir.proofs.Kept.{args-kept}
+use Rattle.candidate_ir.proofs.Kept.{args-kept, grows-trans}
 use Rattle.candidate_rounds.specs.Stopping.{AreRenumberingStops, IsRenumberingStop, IsResponseStop, of_noting, response_memory}
 use Rattle.candidate_rounds.specs.Known.{state_of}
 use Rattle.rounds_judge.specs.Responding.{with_numbers, renumbered, with_numbers_of}
@@ -90,3 +90,27 @@ returns-in_err-new_regions-clause-cause c = λ m.
     passed-on (IsResponseStop c.renumbered_clauses.new.cx.trees S) c.from_residual-in_err-new_regions.result c.in_err-new_regions.field-0.0 c.from_residual-in_err-new_regions.ensures.1
     (regions-stop c.renumbered_clauses.new.cx.trees S ns (map (clause_tree c.numbered_args.new.cx.trees) c.in_ok-regions.regions.items) c.in_err-new_regions.field-0.0
     ((clauses-kept c.constraints.new.cx c.numbered_args.new.cx c.in_ok-regions.regions.items c.numbered_args.ensures.grows c.in_ok-regions.ensures.fit).1 ∙ g.1) g.2 s)
+
+pub returns-in_err-regions-clause-grows : goal.returns-in_err-regions-clause-grows
+returns-in_err-regions-clause-grows c =
+    grows-trans _ _ _ c.root_values.ensures.grows c.constraints.ensures.grows
+
+pub returns-in_err-numbers-clause-grows : goal.returns-in_err-numbers-clause-grows
+returns-in_err-numbers-clause-grows c =
+    grows-trans _ _ _ c.root_values.ensures.grows c.constraints.ensures.grows
+
+pub returns-in_err-vars-clause-grows : goal.returns-in_err-vars-clause-grows
+returns-in_err-vars-clause-grows c =
+    grows-trans _ _ _ c.root_values.ensures.grows c.constraints.ensures.grows
+
+pub returns-in_err-new_values-clause-grows : goal.returns-in_err-new_values-clause-grows
+returns-in_err-new_values-clause-grows c =
+    grows-trans _ _ _ (grows-trans _ _ _ c.root_values.ensures.grows c.constraints.ensures.grows) c.numbered_args.ensures.grows
+
+pub returns-in_err-new_regions-clause-grows : goal.returns-in_err-new_regions-clause-grows
+returns-in_err-new_regions-clause-grows c =
+    grows-trans _ _ _ (grows-trans _ _ _ (grows-trans _ _ _ c.root_values.ensures.grows c.constraints.ensures.grows) c.numbered_args.ensures.grows) c.renumbered_clauses.ensures.grows
+
+pub returns-clause-grows : goal.returns-clause-grows
+returns-clause-grows c =
+    grows-trans _ _ _ (grows-trans _ _ _ (grows-trans _ _ _ c.root_values.ensures.grows c.constraints.ensures.grows) c.numbered_args.ensures.grows) c.renumbered_clauses.ensures.grows

@@ -9,6 +9,7 @@ use Rattle.candidate_rounds.specs.Stopping.{IsResponseStop, full_table, response
 use Rattle.candidate_rounds.proofs.Gathering.{all-roots, if-ok-then, more-roots, state-later}
 use Rattle.candidate_rounds.proofs.Knowing.{known-stays}
 use Rattle.candidate_rounds.proofs.ResponseStops.{many-variables, passed-on, passed-growth, roots-stop}
+use Rattle.candidate_ir.proofs.Kept.{grows-trans}
 use Rattle.candidate_rounds.proofs.rounds.responding.root_values.Goals as goal
 
 pub root_value-requires : goal.root_value-requires
@@ -52,3 +53,12 @@ returns-clause-cause c = λ m.
     (all-roots TypingMode (λ m. state_of c.args.cx.now.trees m s) c.args.cx.now c.loop-number.cx c.args.cx.now.trees s.variables c.loop-number.number c.loop-number.list.items c.loop-number.invariant
     (let a = c.loop-number-test.false in let b = c.in_ok-count.ensures.number in omega (arith, a, b)) m)
     c.mk_arg_list.ensures.unchanged c.mk_arg_list.ensures.cause
+
+pub returns-in_err-root-clause-grows : goal.returns-in_err-root-clause-grows
+returns-in_err-root-clause-grows c = grows-trans _ _ _ c.loop-number.invariant.grows c.root_value.ensures.grows
+
+pub returns-in_err-push_some-clause-grows : goal.returns-in_err-push_some-clause-grows
+returns-in_err-push_some-clause-grows c = grows-trans _ _ _ c.loop-number.invariant.grows c.root_value.ensures.grows
+
+pub returns-clause-grows : goal.returns-clause-grows
+returns-clause-grows c = grows-trans _ _ _ c.loop-number.invariant.grows c.mk_arg_list.ensures.kept

@@ -8,6 +8,7 @@ use Rattle.candidate_rounds.proofs.Listing.{listing-kept, types-kept}
 use Rattle.std.proofs.lemmas.Result.{err_from_is_err_and, IfErr-weaker}
 use Rattle.candidate_rounds.proofs.Stopping.{normal-is}
 use Rattle.candidate_rounds.specs.Stopping.{IsTreeStop, of_resolved, of_listed, of_placed}
+use Rattle.candidate_ir.proofs.Kept.{grows-trans}
 use Rattle.candidate_rounds.proofs.rounds.values.value_in.Goals as goal
 
 pub normalized-requires-clause-types : goal.normalized-requires-clause-types
@@ -43,3 +44,9 @@ returns-clause-cause c = λ m.
     normal-is c.args.cx.now c.resolved_arg.new.cx c.args.normal.now (state_of c.args.cx.now.trees m c.args.inference.now) c.args.arg c.in_ok-resolved.resolved c.resolved_arg.ensures.grows c.requires.types
     (c.in_ok-resolved.ensures.tree m) in
     IfErr-weaker c.placed.result _ _ (λ s k. of_placed (subst (λ t. IsTreeStop c.placed.new.cx.trees (placed_tree us t) s) (c.in_ok-listed.ensures.tree ∙ is) k)) c.placed.ensures.cause
+
+pub returns-in_err-listed-clause-grows : goal.returns-in_err-listed-clause-grows
+returns-in_err-listed-clause-grows c = grows-trans _ _ _ c.resolved_arg.ensures.grows c.normalized.ensures.grows
+
+pub returns-clause-grows : goal.returns-clause-grows
+returns-clause-grows c = grows-trans _ _ _ (grows-trans _ _ _ c.resolved_arg.ensures.grows c.normalized.ensures.grows) c.placed.ensures.grows

@@ -4,6 +4,7 @@ use Rattle.candidate_ir.specs.Folds.{arg_tree}
 use Rattle.candidate_rounds.specs.Known.{state}
 use Rattle.candidate_rounds.proofs.Interface.{eq-ok, eq-refused, eq-stopped, keeps-going}
 use Rattle.candidate_rounds.proofs.StopKinds.{equation-refusal}
+use Rattle.candidate_rounds.proofs.Between.{parts}
 use Rattle.candidate_rounds.proofs.rounds.evaluator.RoundsEvalCtxt.eq.Goals as goal
 
 pub returns-clause-kept : goal.returns-clause-kept
@@ -12,12 +13,12 @@ returns-clause-kept c = keeps-going c.args.self.now c.equate.new.self c.equate.e
 pub returns-clause-ok : goal.returns-clause-ok
 returns-clause-ok c =
     let old = c.args.self.now in
-    eq-ok c.equate.result old none (alone (arg_tree old.context.trees c.args.a)) (alone (arg_tree old.context.trees c.args.b)) (state c.equate.new.self) c.well_kept.ensures.given c.equate.ensures.ok
+    eq-ok c.equate.result old none (alone (arg_tree old.context.trees c.args.a)) (alone (arg_tree old.context.trees c.args.b)) (state c.equate.new.self) (parts c.well_kept.ensures).given c.equate.ensures.ok
 
 pub returns-clause-refused : goal.returns-clause-refused
 returns-clause-refused c =
     let old = c.args.self.now in
-    eq-refused c.equate.result old none (alone (arg_tree old.context.trees c.args.a)) (alone (arg_tree old.context.trees c.args.b)) c.well_kept.ensures.given c.equate.ensures.refused
+    eq-refused c.equate.result old none (alone (arg_tree old.context.trees c.args.a)) (alone (arg_tree old.context.trees c.args.b)) (parts c.well_kept.ensures).given c.equate.ensures.refused
 
 pub returns-clause-stopped : goal.returns-clause-stopped
 returns-clause-stopped c = eq-stopped c.equate.result c.args.self.now c.equate.new.self c.equate.ensures.goes c.well_kept.ensures c.equate.ensures.undone

@@ -8,6 +8,7 @@ use Rattle.candidate_rounds.proofs.Going.{goes-same}
 use Rattle.candidate_rounds.proofs.Interface.{equated-none, equated-some, keeps-going}
 use Rattle.candidate_eval.specs.Evaluators.{IsEvaluatorRefusal}
 use Rattle.candidate_rounds.proofs.StopKinds.{equation-error}
+use Rattle.candidate_rounds.proofs.Between.{parts}
 use Rattle.candidate_rounds.proofs.rounds.evaluator.RoundsEvalCtxt.eq_and_get_goals.Goals as goal
 
 pub returns-in_err-equate-clause-kept : goal.returns-in_err-equate-clause-kept
@@ -17,12 +18,12 @@ pub returns-in_err-equate-clause-refused : goal.returns-in_err-equate-clause-ref
 returns-in_err-equate-clause-refused c =
     let old = c.args.self.now in
     let r = err_from_is_err_and c.from_residual.result c.from_residual.ensures.1 in
-    rw r.1 (λ n. equated-none old (alone (arg_tree old.context.trees c.args.a)) (alone (arg_tree old.context.trees c.args.b)) c.well_kept.ensures.given (c.in_err-equate.ensures.refused (sym r.2 ∙ n)))
+    rw r.1 (λ n. equated-none old (alone (arg_tree old.context.trees c.args.a)) (alone (arg_tree old.context.trees c.args.b)) (parts c.well_kept.ensures).given (c.in_err-equate.ensures.refused (sym r.2 ∙ n)))
 
 pub returns-in_err-equate-clause-stopped : goal.returns-in_err-equate-clause-stopped
 returns-in_err-equate-clause-stopped c =
     let r = err_from_is_err_and c.from_residual.result c.from_residual.ensures.1 in
-    rw r.1 (λ n. goes-same c.args.self.now c.equate.new.self c.equate.ensures.goes c.in_err-equate.ensures.undone c.well_kept.ensures.consistent.known)
+    rw r.1 (λ n. goes-same c.args.self.now c.equate.new.self c.equate.ensures.goes c.in_err-equate.ensures.undone (parts c.well_kept.ensures).consistent.known)
 
 pub returns-clause-kept : goal.returns-clause-kept
 returns-clause-kept c = keeps-going c.args.self.now c.equate.new.self c.equate.ensures.goes c.well_kept.ensures
@@ -31,7 +32,7 @@ pub returns-clause-ok : goal.returns-clause-ok
 returns-clause-ok c =
     let old = c.args.self.now in
     let new = c.equate.new.self in
-    equated-some old (alone (arg_tree old.context.trees c.args.a)) (alone (arg_tree old.context.trees c.args.b)) (state new) c.well_kept.ensures.given c.in_ok-equate.ensures.ok
+    equated-some old (alone (arg_tree old.context.trees c.args.a)) (alone (arg_tree old.context.trees c.args.b)) (state new) (parts c.well_kept.ensures).given c.in_ok-equate.ensures.ok
     ∙ ap (λ gs. Some (pendings_of new.context.trees gs, state new)) (sym c.new.ensures.items)
 
 pub returns-in_err-equate-clause-cause : goal.returns-in_err-equate-clause-cause

@@ -3,6 +3,7 @@ use Rattle.candidate_ir.specs.Words.{args_forest}
 use Rattle.candidate_rounds.specs.Known.{state}
 use Rattle.candidate_rounds.proofs.Interface.{eq-ok, eq-refused, eq-stopped, keeps-going}
 use Rattle.candidate_rounds.proofs.StopKinds.{equation-refusal}
+use Rattle.candidate_rounds.proofs.Between.{parts}
 use Rattle.candidate_rounds.proofs.rounds.evaluator.RoundsEvalCtxt.eq_args.Goals as goal
 
 pub returns-clause-kept : goal.returns-clause-kept
@@ -11,12 +12,12 @@ returns-clause-kept c = keeps-going c.args.self.now c.equate_args.new.self c.equ
 pub returns-clause-ok : goal.returns-clause-ok
 returns-clause-ok c =
     let old = c.args.self.now in
-    eq-ok c.equate_args.result old none (args_forest old.context.trees c.args.a) (args_forest old.context.trees c.args.b) (state c.equate_args.new.self) c.well_kept.ensures.given c.equate_args.ensures.ok
+    eq-ok c.equate_args.result old none (args_forest old.context.trees c.args.a) (args_forest old.context.trees c.args.b) (state c.equate_args.new.self) (parts c.well_kept.ensures).given c.equate_args.ensures.ok
 
 pub returns-clause-refused : goal.returns-clause-refused
 returns-clause-refused c =
     let old = c.args.self.now in
-    eq-refused c.equate_args.result old none (args_forest old.context.trees c.args.a) (args_forest old.context.trees c.args.b) c.well_kept.ensures.given c.equate_args.ensures.refused
+    eq-refused c.equate_args.result old none (args_forest old.context.trees c.args.a) (args_forest old.context.trees c.args.b) (parts c.well_kept.ensures).given c.equate_args.ensures.refused
 
 pub returns-clause-stopped : goal.returns-clause-stopped
 returns-clause-stopped c = eq-stopped c.equate_args.result c.args.self.now c.equate_args.new.self c.equate_args.ensures.goes c.well_kept.ensures c.equate_args.ensures.undone

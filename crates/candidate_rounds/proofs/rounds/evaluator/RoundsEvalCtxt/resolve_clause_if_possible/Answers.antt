@@ -1,5 +1,6 @@
 use Rattle.candidate_rounds.proofs.Interface.{keeps-all}
+use Rattle.candidate_rounds.proofs.Between.{parts}
 use Rattle.candidate_rounds.proofs.rounds.evaluator.RoundsEvalCtxt.resolve_clause_if_possible.Goals as goal
 
 pub returns-clause-kept : goal.returns-clause-kept
-returns-clause-kept c = keeps-all c.args.self.now c.resolve_clause_if_possible.new.self c.resolve_clause_if_possible.ensures.grows c.resolve_clause_if_possible.ensures.given c.well_kept.ensures.given c.resolve_clause_if_possible.ensures.probes
+returns-clause-kept c = keeps-all c.args.self.now c.resolve_clause_if_possible.new.self c.resolve_clause_if_possible.ensures.grows c.resolve_clause_if_possible.ensures.given (parts c.well_kept.ensures).given c.resolve_clause_if_possible.ensures.probes

@@ -1,0 +1,15 @@
+-- What holds of an evaluator between calls, taken apart and put together.
+use Rattle.std.proofs.Common.{ℕ, List}
+use Rattle.candidate_ir.specs.Trees.{Tree}
+use Rattle.candidate_ir.specs.declared.ir.kinds.AliasTy.{AliasTy}
+use Rattle.candidate_ir.specs.declared.ir.kinds.Ty.{Ty}
+use Rattle.candidate_rounds.specs.Inferences.{Inference}
+use Rattle.candidate_rounds.specs.Known.{EvaluatorParts, IsEvaluator}
+
+pub parts : {ts : List Tree} {s : Inference} {ks : List ℕ} {ns : List (Ty × Ty)} {os : List AliasTy} → IsEvaluator ts s ks ns os → EvaluatorParts ts s ks ns os
+unfolding IsEvaluator
+parts h = h
+
+pub of-parts : {ts : List Tree} {s : Inference} {ks : List ℕ} {ns : List (Ty × Ty)} {os : List AliasTy} → EvaluatorParts ts s ks ns os → IsEvaluator ts s ks ns os
+unfolding IsEvaluator
+of-parts h = h

@@ -1,0 +1,11 @@
+use Rattle.std.proofs.Common.{◌∙◌}
+use Rattle.candidate_ir.proofs.Kept.{grows-trans}
+use Rattle.candidate_ir.proofs.Made.{IsArgs-grows, IsParamEnv-grows}
+use Rattle.equating.proofs.Growing.{IsArg-grows}
+use Rattle.equating.proofs.work.equate_and_respond.Goals as goal
+
+pub returns-clause-grows : goal.returns-clause-grows
+returns-clause-grows c = grows-trans _ _ _ c.equate.ensures.grows c.respond.ensures.grows
+
+pub returns-clause-probes : goal.returns-clause-probes
+returns-clause-probes c = c.respond.ensures.probes ∙ c.equate.ensures.probes
