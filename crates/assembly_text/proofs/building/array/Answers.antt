@@ -2,6 +2,7 @@ use Rattle.std.proofs.Common.{refl}
 use Rattle.candidate_ir.specs.Trees.{TypeKind}
 use Rattle.candidate_ir.proofs.Made.{IsTy-grows}
 use Rattle.assembly_text.proofs.Lacking.{lacks-grows, made-lacks, const-lacks, array-lacks}
+use Rattle.candidate_ir.proofs.Kept.{grows-trans}
 use Rattle.assembly_text.proofs.building.array.Goals as goal
 
 pub ty-requires : goal.ty-requires
@@ -16,3 +17,6 @@ returns-clause-no_param g c =
     (λ s. array-lacks _ c.args.target c.in_ok-constant.constant
     (lacks-grows _ _ c.args.target.0 TypeKind c.constant.ensures.kept refl c.requires.target (c.requires.no_param s))
     (const-lacks _ c.in_ok-constant.constant c.args.length c.in_ok-constant.ensures.tree))
+
+pub returns-clause-grows : goal.returns-clause-grows
+returns-clause-grows g c = grows-trans _ _ _ c.constant.ensures.kept c.ty.ensures.grows

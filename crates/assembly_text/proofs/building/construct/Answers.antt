@@ -5,6 +5,7 @@ use Rattle.candidate_ir.specs.Trees.{holds, tree_holds, is_param}
 use Rattle.candidate_ir.specs.Nodes.{tree_at}
 use Rattle.assembly_text.specs.Params.{LacksParam}
 use Rattle.assembly_text.proofs.Lacking.{made-lacks, same-lacks, args-lacks, tuple-lacks, adt-lacks, alias-lacks}
+use Rattle.candidate_ir.proofs.Kept.{grows-trans}
 use Rattle.assembly_text.proofs.building.construct.Goals as goal
 use Rattle.assembly_text.proofs.building.construct.Goals.{in-Tuple, in-Adt, in-Projection, in-Opaque}
 
@@ -21,3 +22,6 @@ returns-clause-no_param g c =
       | in-Projection w ↦ same-lacks ts _ _ w.kind-is (alias-lacks ts w.projection.result (ap (λ (x : AliasTy). tree_holds is_param (tree_at ts x.args.0)) w.projection.ensures ∙ below))
       | in-Opaque w ↦ same-lacks ts _ _ w.kind-is (alias-lacks ts (record { kind = AliasKind.Opaque; id = w.in-Opaque.id; args = args }) below)
     ])
+
+pub returns-clause-grows : goal.returns-clause-grows
+returns-clause-grows g c = grows-trans _ _ _ c.args-2.ensures.kept c.ty.ensures.grows

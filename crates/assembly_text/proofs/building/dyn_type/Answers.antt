@@ -5,6 +5,7 @@ use Rattle.candidate_ir.specs.Words.{bounds_forest}
 use Rattle.candidate_ir.specs.Trees.{PredicatesKind, holds, is_param}
 use Rattle.candidate_ir.proofs.Made.{IsPreds-grows}
 use Rattle.assembly_text.proofs.Lacking.{lacks-grows, made-lacks, region-lacks, preds-lacks, dyn-lacks}
+use Rattle.candidate_ir.proofs.Kept.{grows-trans}
 use Rattle.assembly_text.proofs.building.dyn_type.Goals as goal
 
 pub ty-requires : goal.ty-requires
@@ -22,3 +23,9 @@ returns-clause-no_param g c =
     (λ s. dyn-lacks _ preds c.in_ok-region.region
     (lacks-grows _ _ preds.0 PredicatesKind c.static_region.ensures.kept refl is (preds-lacks _ preds is (ap (holds is_param) c.in_ok-preds.ensures.tree ∙ (ap (λ (bs : List (Binder ExistentialPredicate)). holds is_param (bounds_forest ts bs)) c.as_slice.ensures.value ∙ c.requires.no_param s))))
     (region-lacks _ c.in_ok-region.region c.in_ok-region.ensures.tree))
+
+pub returns-in_err-region-clause-grows : goal.returns-in_err-region-clause-grows
+returns-in_err-region-clause-grows g c = grows-trans _ _ _ c.bounds.ensures.grows c.static_region.ensures.kept
+
+pub returns-clause-grows : goal.returns-clause-grows
+returns-clause-grows g c = grows-trans _ _ _ (grows-trans _ _ _ c.bounds.ensures.grows c.static_region.ensures.kept) c.ty.ensures.grows

@@ -2,6 +2,7 @@ use Rattle.std.proofs.Common.{refl, ◌∙◌, ap}
 use Rattle.candidate_ir.specs.Trees.{TypeKind, ArgumentsKind, holds, is_param}
 use Rattle.candidate_ir.proofs.Made.{IsTy-grows, IsArgs-grows}
 use Rattle.assembly_text.proofs.Lacking.{lacks-grows, made-lacks, args-lacks, vars-lack, fn-lacks}
+use Rattle.candidate_ir.proofs.Kept.{grows-trans}
 use Rattle.assembly_text.proofs.building.fn_pointer.Goals as goal
 
 pub ty-requires : goal.ty-requires
@@ -23,3 +24,9 @@ returns-clause-no_param g c =
     (lacks-grows _ _ inputs.0 ArgumentsKind c.no_vars.ensures.kept refl is (args-lacks _ inputs is (ap (holds is_param) c.in_ok-inputs.ensures.tree ∙ c.requires.no_param s)))
     (lacks-grows _ _ output.0 TypeKind c.no_vars.ensures.kept refl now
     (lacks-grows _ _ output.0 TypeKind c.args-2.ensures.kept refl c.requires.output (c.requires.output_no_param s))))
+
+pub returns-in_err-vars-clause-grows : goal.returns-in_err-vars-clause-grows
+returns-in_err-vars-clause-grows g c = grows-trans _ _ _ c.args-2.ensures.kept c.no_vars.ensures.kept
+
+pub returns-clause-grows : goal.returns-clause-grows
+returns-clause-grows g c = grows-trans _ _ _ (grows-trans _ _ _ c.args-2.ensures.kept c.no_vars.ensures.kept) c.ty.ensures.grows

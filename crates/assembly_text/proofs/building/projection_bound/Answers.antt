@@ -2,6 +2,7 @@ use Rattle.std.proofs.Common.{refl, ◌∙◌, ap}
 use Rattle.candidate_ir.specs.Trees.{TypeKind, ArgumentsKind, holds, is_param}
 use Rattle.candidate_ir.proofs.Made.{IsTy-grows, IsArgs-grows}
 use Rattle.assembly_text.proofs.Lacking.{lacks-grows, args-lacks, vars-lack, projection-lacks}
+use Rattle.candidate_ir.proofs.Kept.{grows-trans}
 use Rattle.assembly_text.proofs.building.projection_bound.Goals as goal
 
 pub returns-clause-fits : goal.returns-clause-fits
@@ -23,3 +24,9 @@ returns-clause-no_param g c = λ s.
     projection-lacks _ c.in_ok-vars.vars c.args.id args term (vars-lack _ c.in_ok-vars.vars c.in_ok-vars.ensures.tree)
     (lacks-grows _ _ args.0 ArgumentsKind c.no_vars.ensures.kept refl is below)
     (lacks-grows _ _ term.0 TypeKind c.no_vars.ensures.kept refl now lacks)
+
+pub returns-in_err-vars-clause-grows : goal.returns-in_err-vars-clause-grows
+returns-in_err-vars-clause-grows g c = grows-trans _ _ _ c.args-2.ensures.kept c.no_vars.ensures.kept
+
+pub returns-clause-grows : goal.returns-clause-grows
+returns-clause-grows g c = grows-trans _ _ _ c.args-2.ensures.kept c.no_vars.ensures.kept

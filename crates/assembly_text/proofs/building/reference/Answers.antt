@@ -2,6 +2,7 @@ use Rattle.std.proofs.Common.{refl}
 use Rattle.candidate_ir.specs.Trees.{TypeKind}
 use Rattle.candidate_ir.proofs.Made.{IsTy-grows}
 use Rattle.assembly_text.proofs.Lacking.{lacks-grows, made-lacks, region-lacks, ref-lacks}
+use Rattle.candidate_ir.proofs.Kept.{grows-trans}
 use Rattle.assembly_text.proofs.building.reference.Goals as goal
 
 pub ty-requires : goal.ty-requires
@@ -16,3 +17,6 @@ returns-clause-no_param g c =
     (λ s. ref-lacks _ c.in_ok-region.region c.args.target c.args.mutability
     (region-lacks _ c.in_ok-region.region c.in_ok-region.ensures.tree)
     (lacks-grows _ _ c.args.target.0 TypeKind c.static_region.ensures.kept refl c.requires.target (c.requires.no_param s)))
+
+pub returns-clause-grows : goal.returns-clause-grows
+returns-clause-grows g c = grows-trans _ _ _ c.static_region.ensures.kept c.ty.ensures.grows

@@ -2,6 +2,7 @@ use Rattle.std.proofs.Common.{refl, ◌∙◌, ap}
 use Rattle.candidate_ir.specs.Trees.{ArgumentsKind, holds, is_param}
 use Rattle.candidate_ir.proofs.Made.{IsArgs-grows}
 use Rattle.assembly_text.proofs.Lacking.{lacks-grows, args-lacks, vars-lack, trait-lacks}
+use Rattle.candidate_ir.proofs.Kept.{grows-trans}
 use Rattle.assembly_text.proofs.building.trait_bound.Goals as goal
 
 pub returns-clause-fits : goal.returns-clause-fits
@@ -17,3 +18,9 @@ returns-clause-no_param g c = λ s.
     let below = args-lacks _ args is (ap (holds is_param) c.in_ok-args.ensures.tree ∙ c.requires.no_param s) in
     trait-lacks _ c.in_ok-vars.vars c.args.id args (vars-lack _ c.in_ok-vars.vars c.in_ok-vars.ensures.tree)
     (lacks-grows _ _ args.0 ArgumentsKind c.no_vars.ensures.kept refl is below)
+
+pub returns-in_err-vars-clause-grows : goal.returns-in_err-vars-clause-grows
+returns-in_err-vars-clause-grows g c = grows-trans _ _ _ c.args-2.ensures.kept c.no_vars.ensures.kept
+
+pub returns-clause-grows : goal.returns-clause-grows
+returns-clause-grows g c = grows-trans _ _ _ c.args-2.ensures.kept c.no_vars.ensures.kept

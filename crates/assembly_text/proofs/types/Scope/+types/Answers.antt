@@ -50,3 +50,39 @@ read_type-fn_pointer-requires-clause-fit g t c =
 pub read_type-fn_pointer-requires-clause-no_param : goal.read_type-fn_pointer-requires-clause-no_param
 read_type-fn_pointer-requires-clause-no_param g t c = λ s.
     list-lacks-grows _ _ _ c.read_type-in-Fn.ensures.grows c.in_ok-inputs-in-Fn.ensures.fits (c.in_ok-inputs-in-Fn.ensures.no_param s)
+
+pub read_bound-returns-in_err-term-in-Projection-clause-grows : goal.read_bound-returns-in_err-term-in-Projection-clause-grows
+read_bound-returns-in_err-term-in-Projection-clause-grows g t c = grows-trans _ _ _ c.read_types-in-Projection.ensures.grows c.read_type.ensures.grows
+
+pub read_bound-returns-in_ok-list-in-Trait-clause-grows : goal.read_bound-returns-in_ok-list-in-Trait-clause-grows
+read_bound-returns-in_ok-list-in-Trait-clause-grows g t c = grows-trans _ _ _ c.read_types.ensures.grows c.trait_bound.ensures.grows
+
+pub read_bound-returns-in_ok-term-in-Projection-clause-grows : goal.read_bound-returns-in_ok-term-in-Projection-clause-grows
+read_bound-returns-in_ok-term-in-Projection-clause-grows g t c = grows-trans _ _ _ (grows-trans _ _ _ c.read_types-in-Projection.ensures.grows c.read_type.ensures.grows) c.projection_bound.ensures.grows
+
+pub read_bounds-returns-in_err-bound-clause-grows : goal.read_bounds-returns-in_err-bound-clause-grows
+read_bounds-returns-in_err-bound-clause-grows g t c = grows-trans _ _ _ c.loop.invariant.grows c.read_bound.ensures.grows
+
+pub read_bounds-returns-in_err-push-clause-grows : goal.read_bounds-returns-in_err-push-clause-grows
+read_bounds-returns-in_err-push-clause-grows g t c = grows-trans _ _ _ c.loop.invariant.grows c.read_bound.ensures.grows
+
+pub read_type-returns-in_ok-target-in-Before-clause-grows : goal.read_type-returns-in_ok-target-in-Before-clause-grows
+read_type-returns-in_ok-target-in-Before-clause-grows g t c = grows-trans _ _ _ c.read_type.ensures.grows c.pointer_to.ensures.grows
+
+pub read_type-returns-in_ok-list-in-Over-clause-grows : goal.read_type-returns-in_ok-list-in-Over-clause-grows
+read_type-returns-in_ok-list-in-Over-clause-grows g t c = grows-trans _ _ _ c.read_types.ensures.grows c.construct.ensures.grows
+
+pub read_type-returns-in_err-output-in-Fn-clause-grows : goal.read_type-returns-in_err-output-in-Fn-clause-grows
+read_type-returns-in_err-output-in-Fn-clause-grows g t c = grows-trans _ _ _ c.read_types-in-Fn.ensures.grows c.read_type-in-Fn.ensures.grows
+
+pub read_type-returns-in_ok-output-in-Fn-clause-grows : goal.read_type-returns-in_ok-output-in-Fn-clause-grows
+read_type-returns-in_ok-output-in-Fn-clause-grows g t c = grows-trans _ _ _ (grows-trans _ _ _ c.read_types-in-Fn.ensures.grows c.read_type-in-Fn.ensures.grows) c.fn_pointer.ensures.grows
+
+pub read_type-returns-in_ok-bounds-in-Dyn-clause-grows : goal.read_type-returns-in_ok-bounds-in-Dyn-clause-grows
+read_type-returns-in_ok-bounds-in-Dyn-clause-grows g t c = grows-trans _ _ _ c.read_bounds.ensures.grows c.dyn_type.ensures.grows
+
+pub read_types-returns-in_err-read_type-clause-grows : goal.read_types-returns-in_err-read_type-clause-grows
+read_types-returns-in_err-read_type-clause-grows g t c = grows-trans _ _ _ c.loop.invariant.grows c.read_type.ensures.grows
+
+pub read_types-returns-in_err-push-clause-grows : goal.read_types-returns-in_err-push-clause-grows
+read_types-returns-in_err-push-clause-grows g t c = grows-trans _ _ _ c.loop.invariant.grows c.read_type.ensures.grows

@@ -1,4 +1,0 @@
-pub mod Keeping
-pub mod Leafing
-pub mod Plain
-pub mod Looks
