@@ -5,6 +5,9 @@
 processors, then all steps, and last the line that `rt ci` ends with; the status is that of `rt ci`. A step is the proof of
 a crate, of its tests, or all its must-fail edits. Its time is read off the processes that work on it, once a second, so it
 is right to a second or two.
+
+After a run without failure the file `.git/gate-passed` has one line: the hash of the tree that passed, and whether anything
+was uncommitted when the run began.
 """
 
 import os
@@ -79,8 +82,28 @@ class Watch(threading.Thread):
         return f"{minutes(last - first)} min, {minutes(used)} of the processors"
 
 
+def git(*words):
+    """What git says, or nothing outside a work tree."""
+    ran = subprocess.run(["git", *words], cwd=ROOT, capture_output=True, text=True, errors="replace")
+    return ran.stdout.strip() if ran.returncode == 0 else ""
+
+
+def tree_at_hand():
+    """The committed tree, and whether the files differ from it."""
+    tree = git("rev-parse", "HEAD^{tree}")
+    return f"{tree} {'uncommitted changes' if git('status', '--porcelain') else 'committed'}" if tree else ""
+
+
+def note_passed(tree):
+    """Keeps which tree passed beside what git keeps."""
+    folder = git("rev-parse", "--absolute-git-dir")
+    if tree and folder:
+        with open(os.path.join(folder, "gate-passed"), "w") as file:
+            print(tree, file=file)
+
+
 def main():
-    start, watch, held = time.monotonic(), Watch(), ""
+    start, watch, held, tree = time.monotonic(), Watch(), "", tree_at_hand()
     watch.start()
     gate = subprocess.Popen(["rt", "ci"], cwd=ROOT, stdout=subprocess.PIPE, text=True, errors="replace")
     for line in gate.stdout:
@@ -92,6 +115,8 @@ def main():
             line = f"{line.rstrip()} ({watch.time_of(step)})\n"
         held = line
     status = gate.wait()
+    if status == 0:
+        note_passed(tree)
     watch.done.set()
     watch.join()
     for crate, part in sorted(watch.spans):

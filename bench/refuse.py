@@ -1,14 +1,22 @@
 #!/usr/bin/env python3
-"""What the program `assembly` prints where memory is refused.
+"""What the programs print where memory is refused.
 
-`python3 bench/refuse.py` builds the program with its proofs, and runs it on the stored run, on a
-text with every command, and on made texts. It counts the growths of each run, and runs the program
-again with each growth refused, and once more with each growth and all later ones refused. In the
-place of an answer a query may print `stop 1` then, and a line may end the run with
-`line N: stop 1`; all else must stay. It prints what it saw, and ends with status 1 where a run did
-anything else. It needs a C compiler, `cc`.
+    refuse.py                            the program `assembly`
+    refuse.py rows_ir|rows_eval|rows_rounds [--most N]      a program of rows, with N of its growths (all if left out)
+
+`assembly` is built with its proofs, and run on the stored run, on a text with every command, and on made texts. The growths
+of each run are counted, and the program is run again with each growth refused, and once more with each growth and all later
+ones refused. In the place of an answer a query may print `stop 1` then, and a line may end the run with
+`line N: stop 1`; all else must stay.
+
+A program of rows runs its own rows, with each growth refused in turn: the run is the same but for `stop 1` as the answer of
+one row, which the program asks once more then. Where its text or its answers have no room it prints nothing, and its status
+isn't 0. With --most the growths are spread over the run.
+
+It prints what it saw, and ends with status 1 where a run did anything else. It needs a C compiler, `cc`.
 """
 
+import argparse
 import collections
 import os
 import re
@@ -16,7 +24,7 @@ import subprocess
 import sys
 import tempfile
 
-from run import CRATE, PROGRAM, Text, build
+from run import CRATE, PROGRAM, ROOT, Text, build
 
 # Stands between the program and its memory. It refuses the growth of the number REFUSE, and all
 # later ones where LATER is set; without REFUSE it says at the end how many there were.
@@ -178,7 +186,73 @@ def refuse_each(name, library, text):
     return is_well
 
 
-def main():
+class Rows:
+    """A program of rows over its own rows, with its memory in our hands."""
+
+    def __init__(self, name, library):
+        self.folder = os.path.join(ROOT, "crates", name)
+        self.program = os.path.join(self.folder, "out", name)
+        self.library = library
+        with open(os.path.join(self.folder, "stdin"), "rb") as given:
+            self.rows = given.read()
+        built = subprocess.run(["rt", "run"], cwd=self.folder, input=self.rows, capture_output=True)
+        if built.returncode != 0:
+            sys.exit("%s can't be built: %s" % (name, built.stderr.decode(errors="replace")[-2000:]))
+
+    def run(self, **refused):
+        """The status, the lines that it printed, and what it wrote on the standard error."""
+        with open(os.path.join(self.folder, "stdin"), "rb") as given:
+            done = subprocess.run(
+                [self.program], stdin=given, capture_output=True, env={"LD_PRELOAD": self.library, **refused}, timeout=120
+            )
+        return done.returncode, done.stdout.decode().splitlines(), done.stderr.decode()
+
+    def kind(self, answers, status, printed):
+        """How a run ended of which a growth was refused, or None where it may not end so."""
+        if status != 0:
+            return None if printed else "no room for the text or the answers"
+        if len(printed) != len(answers):
+            return None
+        other = [(line, answer) for line, answer in zip(printed, answers) if line != answer]
+        stopped = [line for line, answer in other if line == answer.partition(" => ")[0] + " => stop 1"]
+        if len(other) > 1 or len(stopped) != len(other):
+            return None
+        return "stopped at a row" if stopped else "the same"
+
+
+def refuse_rows(name, library, most):
+    """Refuses growths of a program of rows in turn, and says whether all was as it should be."""
+    program = Rows(name, library)
+    status, answers, growths = program.run()
+    if status != 0 or not growths.strip().isdigit():
+        print("%s: the plain run ended with status %d: %s" % (name, status, growths))
+        return False
+    count = int(growths)
+    tried = range(1, count + 1, max(1, count // most) if most else 1)
+    print("%s: %d lines, %d growths, %d of them refused in turn" % (name, len(answers), count, len(tried)))
+    kinds = collections.Counter()
+    for number in tried:
+        status, printed, _ = program.run(REFUSE=str(number))
+        kind = program.kind(answers, status, printed)
+        if kind is None:
+            other = [line for line, answer in zip(printed, answers) if line != answer]
+            print("  growth %d: status %d, %d lines: %r" % (number, status, len(printed), other[:3]))
+        kinds[kind] += 1
+    print("  " + ", ".join("%d %s" % (many, kind) for kind, many in sorted(kinds.items(), key=str)))
+    return None not in kinds
+
+
+def made_library(folder):
+    """What refuses growths, compiled."""
+    source, library = os.path.join(folder, "refusing.c"), os.path.join(folder, "refusing.so")
+    with open(source, "w") as taken:
+        taken.write(REFUSING)
+    subprocess.run(["cc", "-O1", "-shared", "-fPIC", "-o", library, source], check=True)
+    return library
+
+
+def refuse_assembly():
+    """Refuses each growth of runs of `assembly`, and says whether all was as it should be."""
     build()
     with open(os.path.join(CRATE, "stdin")) as given:
         texts = [("the stored run", given.read()), ("every command", EVERY_COMMAND)]
@@ -187,18 +261,24 @@ def main():
         lines = made.declarations + made.queries
         texts.append(("a made text", "\n".join(lines) + "\n"))
     with tempfile.TemporaryDirectory() as folder:
-        source = os.path.join(folder, "refusing.c")
-        library = os.path.join(folder, "refusing.so")
-        with open(source, "w") as taken:
-            taken.write(REFUSING)
-        subprocess.run(["cc", "-O1", "-shared", "-fPIC", "-o", library, source], check=True)
-        well = []
+        library, well = made_library(folder), []
         for name, lines in texts:
             text = os.path.join(folder, "text")
             with open(text, "w") as taken:
                 taken.write(lines)
             well.append(refuse_each(name, library, text))
-    sys.exit(0 if all(well) else 1)
+    return all(well)
+
+
+def main():
+    words = argparse.ArgumentParser(description=__doc__, formatter_class=argparse.RawDescriptionHelpFormatter)
+    words.add_argument("program", nargs="?", help="a program of rows; `assembly` if left out")
+    words.add_argument("--most", type=int, default=0, help="how many growths of a program of rows are refused")
+    asked = words.parse_args()
+    if not asked.program:
+        sys.exit(0 if refuse_assembly() else 1)
+    with tempfile.TemporaryDirectory() as folder:
+        sys.exit(0 if refuse_rows(asked.program, made_library(folder), asked.most) else 1)
 
 
 if __name__ == "__main__":
