@@ -10,11 +10,6 @@ pub fn equals<T: PartialEq + Debug>(rt: &impl Abort, got: &T, want: &T, label: &
     assert_eq!(rt; got, want, "{label}");
 }
 
-/// The same, in the row of a table.
-pub fn equals_in_row<T: PartialEq + Debug>(rt: &impl Abort, got: &T, want: &T, row: usize) {
-    assert_eq!(rt; got, want, "row {row}");
-}
-
 /// The condition has to hold.
 pub fn holds(rt: &impl Abort, condition: bool, label: &str)
     ensures { condition ≡ true }

@@ -1,43 +1,58 @@
 //! Checks whose normalisers make nodes, or hold a type.
 
+ghost use Rattle.std.specs.Prelude.{◌≡◌, IfOk};
+ghost use Rattle.candidate_ir.specs.References.{ArgumentsFit};
+ghost use Rattle.candidate_ir.specs.Words.{IsArgs, IsTy};
+
 use crate::asserts::holds;
-use crate::samples::{Named, TRAIT, declared, sample, trait_ref};
 use candidate_eval::coherence::{InCrate, OrphanCheckMode, OrphanStop};
-use candidate_ir::decl::context::Cx;
+use candidate_ir::ir::kinds::{GenericArg, TraitRef, Ty, TyKind, UintTy};
 use candidate_ir::ir::stop::Stop;
+use client::{Declared, adt, declare, reference};
 use normaliser_examples::{checked_as, checked_by_reference};
-use std::alloc::Global;
 use std::process::Abort;
 
 const PROPER: InCrate = InCrate::Local {
     mode: OrphanCheckMode::Proper,
 };
 
-fn makes_nodes(rt: &impl Abort, alloc: Global, cx: &mut Cx) {
-    let of_byte = trait_ref(rt, alloc, cx, TRAIT, &[Named::U8]);
-    let has_param = cx.has_param(of_byte);
-    holds(rt, !has_param, "no parameter");
-    let fits = cx.trait_ref_args_fit(of_byte);
-    holds(rt, fits, "arguments that fit");
-    let checked = checked_by_reference(alloc, cx, of_byte, PROPER);
-    let is_too_deep = matches!(checked, Err(OrphanStop::Stop(Stop::WalkDepth)));
-    holds(rt, is_too_deep, "a reference for each byte");
-}
-
-fn holds_a_type(rt: &impl Abort, alloc: Global, cx: &mut Cx) {
-    let of_byte = trait_ref(rt, alloc, cx, TRAIT, &[Named::U8]);
-    let local = sample(rt, cx, Named::LocalType);
-    let has_param = cx.has_param(of_byte);
-    holds(rt, !has_param, "no parameter");
-    let fits = cx.trait_ref_args_fit(of_byte);
-    holds(rt, fits, "arguments that fit");
-    let checked = checked_as(alloc, cx, of_byte, PROPER, local);
-    holds(rt, matches!(checked, Ok(Ok(()))), "a local type for each");
+/// `u8: From<u8>`, and the local type.
+#[tactic(auto, using(candidate_ir::proofs::Made::making))]
+fn byte_from_byte(rt: &impl Abort, declared: &mut Declared) -> Result<(TraitRef, Ty), Stop>
+    ensures sort { IfOk result (λ r. IsArgs declared.new.cx.trees r.0.args) }
+    ensures fit { IfOk result (λ r. ArgumentsFit declared.new.cx r.0) }
+    ensures local { IfOk result (λ r. IsTy declared.new.cx.trees r.1) }
+{
+    let cx = &mut declared.cx;
+    let kind = TyKind::Uint(UintTy::U8);
+    holds(rt, cx.args_fit(kind), "no arguments");
+    let byte = cx.mk_ty(kind)?;
+    let local = adt(cx, declared.local_type, &[])?;
+    let list = [GenericArg::Ty(byte), GenericArg::Ty(byte)];
+    Ok((reference(cx, declared.from, &list)?, local))
 }
 
 #[test]
-fn normalisers_make_nodes_and_hold_types(rt: HostRuntime) {
-    let mut cx = declared(&rt, rt.alloc());
-    makes_nodes(&rt, rt.alloc(), &mut cx);
-    holds_a_type(&rt, rt.alloc(), &mut cx);
+fn a_normaliser_makes_nodes(rt: HostRuntime) {
+    let mut declared = declare(rt.alloc()).expect(&rt, "memory");
+    let made = byte_from_byte(&rt, &mut declared);
+    let (of_byte, _) = made.expect(&rt, "a reference");
+    let mut cx = declared.cx;
+    let has_param = cx.has_param(of_byte);
+    holds(&rt, !has_param, "no parameter");
+    let checked = checked_by_reference(rt.alloc(), &mut cx, of_byte, PROPER);
+    let is_too_deep = matches!(checked, Err(OrphanStop::Stop(Stop::WalkDepth)));
+    holds(&rt, is_too_deep, "a reference for each byte");
+}
+
+#[test]
+fn a_normaliser_holds_a_type(rt: HostRuntime) {
+    let mut declared = declare(rt.alloc()).expect(&rt, "memory");
+    let made = byte_from_byte(&rt, &mut declared);
+    let (of_byte, local) = made.expect(&rt, "a reference");
+    let mut cx = declared.cx;
+    let has_param = cx.has_param(of_byte);
+    holds(&rt, !has_param, "no parameter");
+    let checked = checked_as(rt.alloc(), &mut cx, of_byte, PROPER, local);
+    holds(&rt, matches!(checked, Ok(Ok(()))), "a local type for each");
 }

@@ -1,6 +1,0 @@
-pub mod Fitting
-pub mod Pieces
-pub mod Kept
-pub mod Lists
-pub mod Grown
-pub mod Settled

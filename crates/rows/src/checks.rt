@@ -1,0 +1,217 @@
+//! Rows that ask the orphan check, and what is known of impls.
+
+ghost use Rattle.std.specs.Prelude.{◌≡◌, IfOk};
+ghost use Rattle.candidate_ir.specs.Context.{Grows};
+ghost use Rattle.candidate_ir.specs.Words.{IsArgs, IsTy};
+
+use crate::answers::{Answer, Item};
+use crate::refusals::Failure;
+use crate::rows::Row;
+use crate::typed::args_at;
+use candidate_eval::coherence::{
+    Conflict, InCrate, IsFirstInputType, NormalizeErr, OrphanCheckErr, OrphanCheckMode, OrphanStop,
+    UncoveredTyParams, orphan_check_trait_ref, trait_ref_is_knowable,
+    trait_ref_is_local_or_fundamental, trait_ref_is_plain,
+};
+use candidate_eval::eval::InferCtxtLike;
+use candidate_ir::decl::make::Make;
+use candidate_ir::ir::kinds::{Mutability, RegionKind, TraitRef, Ty, TyKind, UintTy};
+use candidate_ir::ir::stop::Stop;
+use std::alloc::{AllocError, Global};
+
+/// How a normaliser answers.
+#[derive(Clone, Copy)]
+enum Way {
+    /// With its input.
+    Plain,
+    /// With `&u8` at `u8`.
+    RefersToU8,
+    /// It fails at `u8`.
+    FailsAtU8,
+    /// It stops at `u16`.
+    StopsAtU16,
+}
+
+fn way_of(word: &str) -> Option<Way> {
+    match word {
+        "plain" => Some(Way::Plain),
+        "refers_to_u8" => Some(Way::RefersToU8),
+        "fails_at_u8" => Some(Way::FailsAtU8),
+        "stops_at_u16" => Some(Way::StopsAtU16),
+        _ => None,
+    }
+}
+
+fn in_crate(word: &str) -> Option<InCrate> {
+    match word {
+        "proper" => Some(InCrate::Local {
+            mode: OrphanCheckMode::Proper,
+        }),
+        "compat" => Some(InCrate::Local {
+            mode: OrphanCheckMode::Compat,
+        }),
+        "remote" => Some(InCrate::Remote),
+        _ => None,
+    }
+}
+
+fn reference<M: Make>(maker: &mut M, target: Ty) -> Result<Ty, Stop>
+    requires { IsTy (M.context maker.old).trees target }
+    ensures grows { Grows (M.context maker.old) (M.context maker.new) }
+    ensures sort { IfOk result (λ ty. IsTy (M.context maker.new).trees ty) }
+{
+    let region = maker.mk_region(RegionKind::Static)?;
+    maker.mk_ty(TyKind::Ref(region, target, Mutability::Not))
+}
+
+fn normal<M: Make>(maker: &mut M, ty: Ty, way: Way) -> Result<Ty, NormalizeErr<u32>>
+    requires { IsTy (M.context maker.old).trees ty }
+    ensures grows { Grows (M.context maker.old) (M.context maker.new) }
+    ensures sort { IfOk result (λ t. IsTy (M.context maker.new).trees t) }
+{
+    match (way, maker.cx().kind(ty)) {
+        (Way::RefersToU8, TyKind::Uint(UintTy::U8)) => match reference(maker, ty) {
+            Ok(ty) => Ok(ty),
+            Err(stop) => Err(NormalizeErr::Stop(stop)),
+        },
+        (Way::FailsAtU8, TyKind::Uint(UintTy::U8)) => Err(NormalizeErr::Failed(7)),
+        (Way::StopsAtU16, TyKind::Uint(UintTy::U16)) => {
+            Err(NormalizeErr::Stop(Stop::EvaluatorLimit))
+        }
+        _ => Ok(ty),
+    }
+}
+
+/// The types that aren't local, in order, and which of them is the first input.
+fn not_local(alloc: Global, types: &[(Ty, IsFirstInputType)]) -> Result<Answer, AllocError> {
+    let mut items = Vec::new(alloc);
+    items.push(Item::Word("not_local"))?;
+    for (ty, is_first) in types {
+        items.push(Item::Node(ty.0))?;
+        if *is_first == IsFirstInputType::Yes {
+            items.push(Item::Word("first"))?;
+        }
+    }
+    Ok(Answer::Row(items))
+}
+
+/// What no type covers, and the first local type, if there is one.
+fn uncovered(alloc: Global, found: &UncoveredTyParams<Ty>) -> Result<Answer, AllocError> {
+    let mut items = Vec::new(alloc);
+    items.push(Item::Word("uncovered"))?;
+    items.push(Item::Node(found.uncovered.0))?;
+    if let Some(local) = found.local_ty {
+        items.push(Item::Word("before"))?;
+        items.push(Item::Node(local.0))?;
+    }
+    Ok(Answer::Row(items))
+}
+
+/// Why a check has no answer: its normaliser failed with a number, or it stopped.
+fn stopped(alloc: Global, stop: OrphanStop<u32>) -> Result<Answer, Failure> {
+    match stop {
+        OrphanStop::Normalize(number) => {
+            let mut items = Vec::new(alloc);
+            items.push(Item::Word("failed"))?;
+            items.push(Item::Count(number as usize))?;
+            Ok(Answer::Row(items))
+        }
+        OrphanStop::Stop(stop) => Err(Failure::Stop(stop)),
+    }
+}
+
+/// What the orphan check says of the reference.
+fn check<C: InferCtxtLike>(
+    alloc: Global,
+    infcx: &mut C,
+    trait_ref: TraitRef,
+    in_crate: InCrate,
+    way: Way,
+) -> Result<Answer, Failure>
+    requires { IsArgs (C.context infcx.old).trees trait_ref.args }
+{
+    if infcx.cx().has_param(trait_ref) || !infcx.cx().trait_ref_args_fit(trait_ref) {
+        return Err(Failure::Condition);
+    }
+    let checked = orphan_check_trait_ref(
+        alloc,
+        infcx,
+        trait_ref,
+        in_crate,
+        move |cx: &mut C, ty: Ty| -> Result<Ty, NormalizeErr<u32>>
+            requires { IsTy (C.context cx.old).trees ty }
+            ensures grows { Grows (C.context cx.old) (C.context cx.new) }
+            ensures sort { IfOk result (λ t. IsTy (C.context cx.new).trees t) }
+        { normal(cx, ty, way) },
+    );
+    match checked {
+        Ok(Ok(())) => Ok(Answer::One(Item::Word("passes"))),
+        Ok(Err(OrphanCheckErr::NonLocalInputType(types))) => {
+            Ok(not_local(alloc, types.as_slice())?)
+        }
+        Ok(Err(OrphanCheckErr::UncoveredTyParams(found))) => Ok(uncovered(alloc, &found)?),
+        Err(stop) => stopped(alloc, stop),
+    }
+}
+
+/// What is known of the reference's impls.
+fn knowable<C: InferCtxtLike>(
+    alloc: Global,
+    infcx: &mut C,
+    trait_ref: TraitRef,
+    way: Way,
+) -> Result<Answer, Failure>
+    requires { IsArgs (C.context infcx.old).trees trait_ref.args }
+{
+    if infcx.cx().has_param(trait_ref) || !infcx.cx().trait_ref_args_fit(trait_ref) {
+        return Err(Failure::Condition);
+    }
+    let known = trait_ref_is_knowable(
+        alloc,
+        infcx,
+        trait_ref,
+        move |cx: &mut C, ty: Ty| -> Result<Ty, NormalizeErr<u32>>
+            requires { IsTy (C.context cx.old).trees ty }
+            ensures grows { Grows (C.context cx.old) (C.context cx.new) }
+            ensures sort { IfOk result (λ t. IsTy (C.context cx.new).trees t) }
+        { normal(cx, ty, way) },
+    );
+    match known {
+        Ok(Ok(())) => Ok(Answer::One(Item::Word("known"))),
+        Ok(Err(Conflict::Upstream)) => Ok(Answer::One(Item::Word("upstream"))),
+        Ok(Err(Conflict::Downstream)) => Ok(Answer::One(Item::Word("downstream"))),
+        Err(stop) => stopped(alloc, stop),
+    }
+}
+
+/// What the row asks of a reference, if it is one of these rows.
+pub fn answer<C: InferCtxtLike>(
+    alloc: Global,
+    infcx: &mut C,
+    row: Row<'_>,
+    reference: TraitRef,
+) -> Result<Answer, Failure> {
+    let args = args_at(infcx.cx(), reference.args.0)?;
+    let trait_ref = TraitRef {
+        def_id: reference.def_id,
+        args,
+    };
+    match row.verb {
+        "check" => match (in_crate(row.first), way_of(row.second)) {
+            (Some(in_crate), Some(way)) => check(alloc, infcx, trait_ref, in_crate, way),
+            _ => Err(Failure::Condition),
+        },
+        "knowable" => match way_of(row.first) {
+            Some(way) => knowable(alloc, infcx, trait_ref, way),
+            None => Err(Failure::Condition),
+        },
+        "is_plain" => {
+            let is_plain = trait_ref_is_plain(infcx.cx(), trait_ref);
+            Ok(Answer::One(Item::Truth(is_plain)))
+        }
+        _ => {
+            let is_either = trait_ref_is_local_or_fundamental(infcx.cx(), trait_ref);
+            Ok(Answer::One(Item::Truth(is_either)))
+        }
+    }
+}

@@ -1,0 +1,59 @@
+//! Rows that call what stands over a context: the orphan check, the tables of types, and merging.
+
+use crate::answers::Answer;
+use crate::parts::Table;
+use crate::reader::Reader;
+use crate::refusals::Refusal;
+use crate::rows::Row;
+use crate::{checks, merging, structures};
+use candidate_ir::decl::context::Cx;
+
+/// The nodes that a row's operands are; where it has fewer, numbers of none.
+#[derive(Clone, Copy)]
+pub struct Operands {
+    pub left: u32,
+    pub right: u32,
+    pub third: u32,
+}
+
+/// Makes the row's operands.
+pub fn made<'a, T: Table>(
+    reader: &mut Reader<'a>,
+    table: &mut T,
+    row: Row<'a>,
+) -> Result<Operands, Refusal<'a>> {
+    Ok(Operands {
+        left: reader.operand(table, row.left)?.node(),
+        right: reader.operand(table, row.right)?.node(),
+        third: reader.operand(table, row.third)?.node(),
+    })
+}
+
+/// What the row answers.
+pub fn answer<'a>(
+    reader: &mut Reader<'a>,
+    cx: &mut Cx,
+    row: Row<'a>,
+) -> Result<Answer, Refusal<'a>> {
+    let alloc = reader.alloc;
+    match row.verb {
+        "and" => Ok(merging::both(alloc, row)?),
+        "check" | "knowable" | "is_plain" | "is_local_or_fundamental" => {
+            let reference = reader.operand(cx, row.left)?.reference();
+            Ok(checks::answer(alloc, cx, row, reference)?)
+        }
+        "requirements" => {
+            let reference = reader.operand(cx, row.left)?.reference();
+            Ok(structures::required(alloc, cx, reference)?)
+        }
+        "cell" | "call" | "const_call" | "own_bounds" => {
+            let of = made(reader, cx, row)?;
+            Ok(structures::answer(alloc, cx, row, of.left)?)
+        }
+        "constraints" | "merge" => {
+            let of = made(reader, cx, row)?;
+            Ok(merging::answer(alloc, cx, row, of)?)
+        }
+        _ => reader.answer(cx, row),
+    }
+}

@@ -1,0 +1,558 @@
+//! Rows that call what a context can.
+
+ghost use Rattle.std.specs.Prelude.{◌≡◌, ◌<◌, IfOk, length};
+ghost use Rattle.candidate_ir.specs.Context.{Grows};
+ghost use Rattle.candidate_ir.specs.Folds.{IsArg, IsOfKind};
+ghost use Rattle.candidate_ir.specs.Words.{IsVars, IsPreds};
+
+use crate::answers::{Answer, Item};
+use crate::leaves::number_in;
+use crate::lookups::{clause_items, held, impl_items, said_of};
+use crate::parts::{NodeSort, Part, is_at, make, sort_at};
+use crate::reader::Reader;
+use crate::refusals::Refusal;
+use crate::rows::Row;
+use crate::values::Value;
+use candidate_ir::decl::context::Cx;
+use candidate_ir::decl::elaborate::{elaborate, implied, supertrait_def_ids, supertraits};
+use candidate_ir::decl::fold::{
+    fold, fold_arg, fold_args, fold_clause, fold_const, fold_env, fold_region, fold_trait_ref,
+};
+use candidate_ir::decl::open::{binder_kinds, open_clause};
+use candidate_ir::decl::parameters::{
+    args_have_arguments, clause_has_arguments, const_has_arguments, env_has_arguments,
+    has_arguments, trait_ref_has_arguments,
+};
+use candidate_ir::decl::subst::{
+    subst, subst_args, subst_clause, subst_const, subst_env, subst_trait_ref,
+};
+use candidate_ir::ir::flags::TypeFlags;
+use candidate_ir::ir::heads::Flag;
+use candidate_ir::ir::kinds::{
+    Args, Binder, Clause, Const, ExistentialPredicate, FnId, GenericArg, ParamEnv, Preds, Region,
+    Sig, TraitId, Ty, TyKind, UintTy, VarKind, Vars,
+};
+use candidate_ir::ir::stop::Stop;
+use candidate_ir::ir::unify::RightSide;
+use std::alloc::{AllocError, Global};
+
+/// Whether two nodes of one sort are equal, or may be equal where the second is of that side.
+fn compared(cx: &Cx, right: Option<RightSide>, a: u32, b: u32) -> Option<bool> {
+    let sort = sort_at(cx, a)?;
+    if !is_at(cx, b, sort) {
+        return None;
+    }
+    match (sort, right) {
+        (NodeSort::Ty, None) => Some(cx.same(Ty(a), Ty(b))),
+        (NodeSort::Const, None) => Some(cx.same_const(Const(a), Const(b))),
+        (NodeSort::Region, None) => Some(cx.same_region(Region(a), Region(b))),
+        (NodeSort::Args, None) => Some(cx.same_args(Args(a), Args(b))),
+        (NodeSort::Clause, None) => Some(cx.same_clause(Clause(a), Clause(b))),
+        (NodeSort::Env, None) => Some(cx.same_env(ParamEnv(a), ParamEnv(b))),
+        (NodeSort::Ty, Some(right)) => Some(cx.may_unify(Ty(a), Ty(b), right)),
+        (NodeSort::Const, Some(right)) => Some(cx.consts_may_unify(Const(a), Const(b), right)),
+        (NodeSort::Args, Some(right)) => Some(cx.args_may_unify(Args(a), Args(b), right)),
+        _ => None,
+    }
+}
+
+/// Whether each parameter of the value has an argument in the list.
+fn have_arguments(cx: &Cx, value: Value, list: u32) -> Option<bool> {
+    if !is_at(cx, list, NodeSort::Args) {
+        return None;
+    }
+    let (a, args) = (value.node(), Args(list));
+    if let Value::Reference(reference) = value {
+        if !is_at(cx, reference.args.0, NodeSort::Args) {
+            return None;
+        }
+        return Some(trait_ref_has_arguments(cx, reference, args));
+    }
+    match sort_at(cx, a)? {
+        NodeSort::Ty => Some(has_arguments(cx, Ty(a), args)),
+        NodeSort::Const => Some(const_has_arguments(cx, Const(a), args)),
+        NodeSort::Args => Some(args_have_arguments(cx, Args(a), args)),
+        NodeSort::Clause => Some(clause_has_arguments(cx, Clause(a), args)),
+        NodeSort::Env => Some(env_has_arguments(cx, ParamEnv(a), args)),
+        _ => None,
+    }
+}
+
+/// The value with the list's arguments in the place of its parameters.
+fn substituted(alloc: Global, cx: &mut Cx, value: Value, list: u32) -> Result<Option<Item>, Stop> {
+    if !is_at(cx, list, NodeSort::Args) {
+        return Ok(None);
+    }
+    let (a, args) = (value.node(), Args(list));
+    let number = match (sort_at(cx, a), value) {
+        (Some(NodeSort::Ty), _) if has_arguments(cx, Ty(a), args) => {
+            subst(alloc, cx, Ty(a), args)?.0
+        }
+        (Some(NodeSort::Const), _) if const_has_arguments(cx, Const(a), args) => {
+            subst_const(alloc, cx, Const(a), args)?.0
+        }
+        (Some(NodeSort::Args), _) if args_have_arguments(cx, Args(a), args) => {
+            subst_args(alloc, cx, Args(a), args)?.0
+        }
+        (Some(NodeSort::Clause), _) if clause_has_arguments(cx, Clause(a), args) => {
+            subst_clause(alloc, cx, Clause(a), args)?.0
+        }
+        (Some(NodeSort::Env), _) if env_has_arguments(cx, ParamEnv(a), args) => {
+            subst_env(alloc, cx, ParamEnv(a), args)?.0
+        }
+        (None, Value::Reference(of))
+            if is_at(cx, of.args.0, NodeSort::Args) && trait_ref_has_arguments(cx, of, args) => {
+            let made = subst_trait_ref(alloc, cx, of, args)?;
+            return Ok(Some(Item::Reference(made)));
+        }
+        _ => return Ok(None),
+    };
+    Ok(Some(Item::Node(number)))
+}
+
+/// What a fold of that way puts in the place of an argument under so many binders. By `parameters` it is a byte for each parameter,
+/// and a wider number under a binder; by `slices` a byte for each slice, and a wider number for each parameter; by `stops` it stops
+/// at each parameter.
+fn replaced(
+    cx: &mut Cx,
+    arg: GenericArg,
+    binders: u32,
+    way: &str,
+) -> Result<Option<GenericArg>, Stop>
+    requires { IsArg cx.old.trees arg }
+    ensures grows { Grows cx.old cx.new }
+    ensures kind { IfOk result (λ o. IsOfKind cx.new.trees arg o) }
+{
+    let GenericArg::Ty(ty) = arg else {
+        return Ok(None);
+    };
+    let width = match (way, cx.kind(ty)) {
+        ("stops", TyKind::Param(_)) => return Err(Stop::EvaluatorLimit),
+        ("slices", TyKind::Slice(_)) => UintTy::U8,
+        ("parameters", TyKind::Param(_)) if binders == 0 => UintTy::U8,
+        (_, TyKind::Param(_)) => UintTy::U16,
+        _ => return Ok(None),
+    };
+    match cx.mk_ty(TyKind::Uint(width)) {
+        Ok(made) => Ok(Some(GenericArg::Ty(made))),
+        Err(stop) => Err(stop),
+    }
+}
+
+/// The value with what that way puts in; of a type, where it is asked so, by the fold of an argument.
+fn folded(
+    alloc: Global,
+    cx: &mut Cx,
+    value: Value,
+    way: &str,
+    as_arg: bool,
+) -> Result<Option<Item>, Stop> {
+    let ask = |cx: &mut Cx, arg: GenericArg, binders: u32| -> Result<Option<GenericArg>, Stop>
+        requires { IsArg cx.old.trees arg }
+        ensures grows { Grows cx.old cx.new }
+        ensures kind { IfOk result (λ o. IsOfKind cx.new.trees arg o) }
+    { replaced(cx, arg, binders, way) };
+    if let Value::Reference(reference) = value {
+        if !is_at(cx, reference.args.0, NodeSort::Args) {
+            return Ok(None);
+        }
+        let made = fold_trait_ref(alloc, cx, reference, ask)?;
+        return Ok(Some(Item::Reference(made)));
+    }
+    let a = value.node();
+    let number = match sort_at(cx, a) {
+        Some(NodeSort::Ty) if as_arg => fold_arg(alloc, cx, GenericArg::Ty(Ty(a)), ask)?.number(),
+        Some(NodeSort::Ty) => fold(alloc, cx, Ty(a), ask)?.0,
+        Some(NodeSort::Const) => fold_const(alloc, cx, Const(a), ask)?.0,
+        Some(NodeSort::Region) => fold_region(alloc, cx, Region(a), ask)?.0,
+        Some(NodeSort::Args) => fold_args(alloc, cx, Args(a), ask)?.0,
+        Some(NodeSort::Clause) => fold_clause(alloc, cx, Clause(a), ask)?.0,
+        Some(NodeSort::Env) => fold_env(alloc, cx, ParamEnv(a), ask)?.0,
+        _ => return Ok(None),
+    };
+    Ok(Some(Item::Node(number)))
+}
+
+/// The node as it is read, made again; of a list, where it is asked so, as one that the context keeps.
+fn again(alloc: Global, cx: &mut Cx, a: u32, whole: bool) -> Result<Option<Item>, Stop> {
+    let Some(sort) = sort_at(cx, a) else {
+        return Ok(None);
+    };
+    let part = match sort {
+        NodeSort::Ty => Part::Ty(cx.kind(Ty(a))),
+        NodeSort::Const => Part::Const(cx.const_kind(Const(a))),
+        NodeSort::Region => Part::Region(cx.region_kind(Region(a))),
+        NodeSort::Sig => Part::Sig(cx.sig(Sig(a))),
+        NodeSort::Clause => Part::Clause(cx.clause(Clause(a))),
+        NodeSort::Args if whole => {
+            let list = cx.args(Args(a)).to_vec(alloc)?;
+            return Ok(Some(Item::Node(cx.mk_arg_list(list)?.0)));
+        }
+        NodeSort::Args => Part::Args(cx.args(Args(a)).to_vec(alloc)?),
+        NodeSort::Env => Part::Env(cx.param_env(ParamEnv(a)).to_vec(alloc)?),
+        NodeSort::Vars => Part::Vars(kinds_of(alloc, cx, Vars(a))?),
+        NodeSort::Preds => Part::Preds(bounds_of(alloc, cx, Preds(a))?),
+        NodeSort::Pred | NodeSort::Var => return Ok(None),
+    };
+    made(cx, &part)
+}
+
+/// The kinds of a binder's variables.
+fn kinds_of(alloc: Global, cx: &Cx, vars: Vars) -> Result<Vec<VarKind>, AllocError>
+    requires { IsVars cx.now.trees vars }
+{
+    let mut kinds = Vec::new(alloc);
+    for var in cx.vars(vars) {
+        if is_at(cx, var.0, NodeSort::Var) {
+            kinds.push(cx.var(*var))?;
+        }
+    }
+    Ok(kinds)
+}
+
+/// The bounds of a list.
+fn bounds_of(
+    alloc: Global,
+    cx: &Cx,
+    preds: Preds,
+) -> Result<Vec<Binder<ExistentialPredicate>>, AllocError>
+    requires { IsPreds cx.now.trees preds }
+{
+    let mut bounds = Vec::new(alloc);
+    for pred in cx.preds(preds) {
+        if is_at(cx, pred.0, NodeSort::Pred) {
+            bounds.push(cx.pred(*pred))?;
+        }
+    }
+    Ok(bounds)
+}
+
+/// The node of the part, made.
+fn made(cx: &mut Cx, part: &Part) -> Result<Option<Item>, Stop> {
+    match make(cx, part)? {
+        Some(number) => Ok(Some(Item::Node(number))),
+        None => Ok(None),
+    }
+}
+
+/// The words of flags.
+const FLAGS: [(&str, Flag); 12] = [
+    ("ty_infer", Flag::TyInfer),
+    ("region_infer", Flag::RegionInfer),
+    ("const_infer", Flag::ConstInfer),
+    ("ty_placeholder", Flag::TyPlaceholder),
+    ("region_placeholder", Flag::RegionPlaceholder),
+    ("const_placeholder", Flag::ConstPlaceholder),
+    ("ty_bound", Flag::TyBound),
+    ("region_bound", Flag::RegionBound),
+    ("const_bound", Flag::ConstBound),
+    ("param", Flag::Param),
+    ("alias", Flag::Alias),
+    ("error", Flag::Error),
+];
+
+/// The words of the flags of types; the last two stand for all of a sort.
+const TYPE_FLAGS: [(&str, TypeFlags); 14] = [
+    ("ty_infer", TypeFlags::HAS_TY_INFER),
+    ("region_infer", TypeFlags::HAS_RE_INFER),
+    ("const_infer", TypeFlags::HAS_CT_INFER),
+    ("ty_placeholder", TypeFlags::HAS_TY_PLACEHOLDER),
+    ("region_placeholder", TypeFlags::HAS_RE_PLACEHOLDER),
+    ("const_placeholder", TypeFlags::HAS_CT_PLACEHOLDER),
+    ("ty_bound", TypeFlags::HAS_TY_BOUND),
+    ("region_bound", TypeFlags::HAS_RE_BOUND),
+    ("const_bound", TypeFlags::HAS_CT_BOUND),
+    ("param", TypeFlags::HAS_PARAM),
+    ("alias", TypeFlags::HAS_ALIAS),
+    ("error", TypeFlags::HAS_ERROR),
+    ("infer", TypeFlags::HAS_INFER),
+    ("placeholder", TypeFlags::HAS_PLACEHOLDER),
+];
+
+/// Whether the flag of the word is in the node.
+fn has(cx: &Cx, a: u32, word: &str) -> Option<bool> {
+    for (name, flag) in FLAGS {
+        if name != word {
+            continue;
+        }
+        return match sort_at(cx, a)? {
+            NodeSort::Ty => Some(cx.has(Ty(a), flag)),
+            NodeSort::Const => Some(cx.const_has(Const(a), flag)),
+            NodeSort::Args => Some(cx.args_have(Args(a), flag)),
+            NodeSort::Clause => Some(cx.clause_has(Clause(a), flag)),
+            NodeSort::Env => Some(cx.env_has(ParamEnv(a), flag)),
+            _ => None,
+        };
+    }
+    None
+}
+
+/// The words of the type's flags, and those of all flags of a sort where it has them.
+fn flags(alloc: Global, cx: &Cx, a: u32) -> Result<Option<Vec<Item>>, Stop> {
+    if !is_at(cx, a, NodeSort::Ty) {
+        return Ok(None);
+    }
+    let flags = cx.flags(Ty(a)).0;
+    let mut items = Vec::new(alloc);
+    for (word, flag) in TYPE_FLAGS {
+        if flags & flag.0 == flag.0 {
+            items.push(Item::Word(word))?;
+        }
+    }
+    Ok(Some(items))
+}
+
+/// What is said of one node; the number is a variable's, a universe or a place.
+fn said(cx: &Cx, verb: &str, a: u32, number: u32) -> Option<Item> {
+    let item = match (verb, sort_at(cx, a)?) {
+        ("sort", NodeSort::Ty) => {
+            let kind = cx.kind(Ty(a));
+            match (kind.is_ty_var(), kind.is_known_rigid()) {
+                (true, false) => Item::Word("variable"),
+                (false, true) => Item::Word("rigid"),
+                (false, false) => Item::Word("neither"),
+                (true, true) => Item::Word("both"),
+            }
+        }
+        ("escapes", NodeSort::Ty) => Item::Truth(cx.has_escaping_bound_vars(Ty(a))),
+        ("escapes", NodeSort::Args) => Item::Truth(cx.args_have_escaping_bound_vars(Args(a))),
+        ("escapes", NodeSort::Clause) => Item::Truth(cx.clause_has_escaping_bound_vars(Clause(a))),
+        ("principal", NodeSort::Preds) => Item::Definition(cx.principal(Preds(a))?.0),
+        ("head", _) => Item::Head(cx.head(a)),
+        ("binders", _) => Item::Count(cx.head(a).binders() as usize),
+        ("child", _) => Item::Node(cx.child(a, number as usize)?),
+        ("mentions", _) => Item::Truth(cx.mentions(cx.argument(a)?, number)),
+        ("above", _) => Item::Truth(cx.has_placeholder_above(cx.argument(a)?, number)),
+        ("arg_escapes", _) => Item::Truth(cx.arg_has_escaping_bound_vars(cx.argument(a)?)),
+        ("variable", _) => Item::Count(cx.variable_number(cx.argument(a)?)? as usize),
+        _ => return None,
+    };
+    Some(item)
+}
+
+/// Letters that say of each member whether the node is equal to it, or may be.
+fn letters(
+    alloc: Global,
+    cx: &Cx,
+    members: &[u32],
+    how: &str,
+    a: u32,
+) -> Result<String, AllocError> {
+    let (plain, header) = match how {
+        "unify" => (Some(RightSide::Plain), Some(RightSide::Header)),
+        _ => (None, None),
+    };
+    let mut text = String::new(alloc);
+    for b in members {
+        let letter = match (compared(cx, plain, a, *b), compared(cx, header, a, *b)) {
+            (Some(true), Some(true)) => 'y',
+            (Some(false), Some(true)) => 'h',
+            (Some(false), Some(false)) => 'n',
+            _ => '?',
+        };
+        text.push(letter)?;
+    }
+    Ok(text)
+}
+
+/// What is said of a reference or of a signature.
+fn said_of_value(cx: &Cx, verb: &str, value: Value) -> Option<bool> {
+    match (verb, value) {
+        ("compatible", Value::Signature(sig)) => Some(sig.value.is_fn_trait_compatible()),
+        ("fits", Value::Reference(reference)) if is_at(cx, reference.args.0, NodeSort::Args) => {
+            Some(cx.trait_ref_args_fit(reference))
+        }
+        ("has_param", Value::Reference(reference)) if is_at(cx, reference.args.0, NodeSort::Args) =>
+            { Some(cx.has_param(reference)) }
+        _ => None,
+    }
+}
+
+/// What follows from the clause, by the verb.
+fn following(
+    alloc: Global,
+    cx: &mut Cx,
+    verb: &str,
+    clause: u32,
+) -> Result<Option<Vec<Item>>, Stop> {
+    if !is_at(cx, clause, NodeSort::Clause) {
+        return Ok(None);
+    }
+    let list = match verb {
+        "elaborate" => elaborate(alloc, cx, &[Clause(clause)])?,
+        _ => supertraits(alloc, cx, Clause(clause))?,
+    };
+    Ok(Some(clause_items(alloc, list.as_slice())?))
+}
+
+/// The traits of the supertraits of the clause.
+fn supertrait_items(alloc: Global, cx: &mut Cx, clause: u32) -> Result<Option<Vec<Item>>, Stop> {
+    if !is_at(cx, clause, NodeSort::Clause) {
+        return Ok(None);
+    }
+    let list = supertrait_def_ids(alloc, cx, Clause(clause))?;
+    let items = list.iter().map(|id| Item::Definition(id.0));
+    Ok(Some(items.collect(alloc)?))
+}
+
+/// How many variables the clause's binder has.
+fn width(alloc: Global, cx: &Cx, clause: u32) -> Result<Option<Item>, Stop> {
+    if !is_at(cx, clause, NodeSort::Clause) {
+        return Ok(None);
+    }
+    let kinds = binder_kinds(alloc, cx, Clause(clause))?;
+    Ok(Some(Item::Count(kinds.len())))
+}
+
+/// The clause out of its binder, with the list's values in the place of its variables; or what it says as a super clause of the list,
+/// which stands under a binder of these variables.
+fn instance(
+    alloc: Global,
+    cx: &mut Cx,
+    vars: Option<u32>,
+    list: u32,
+    clause: u32,
+) -> Result<Option<Item>, Stop> {
+    if !is_at(cx, list, NodeSort::Args) || !is_at(cx, clause, NodeSort::Clause) {
+        return Ok(None);
+    }
+    let (args, of) = (Args(list), Clause(clause));
+    let Some(vars) = vars else {
+        return Ok(Some(Item::Node(open_clause(alloc, cx, of, args)?.0)));
+    };
+    if !is_at(cx, vars, NodeSort::Vars) || !clause_has_arguments(cx, of, args) {
+        return Ok(None);
+    }
+    let said = implied(alloc, cx, Vars(vars), args, of)?;
+    Ok(Some(Item::Node(said.0)))
+}
+
+/// The impls of the trait that may be for the type, or where no type is said, those that are for any.
+fn impls(alloc: Global, cx: &Cx, of: u32, ty: Value) -> Result<Option<Vec<Item>>, Stop> {
+    let impls = match ty {
+        Value::Nothing => cx.for_each_blanket_impl(TraitId(of))?,
+        _ if is_at(cx, ty.node(), NodeSort::Ty) => {
+            cx.for_each_relevant_impl(TraitId(of), Ty(ty.node()))?
+        }
+        _ => return Ok(None),
+    };
+    Ok(Some(impl_items(alloc, impls.as_slice())?))
+}
+
+/// The faults that were put off.
+pub fn bugs(alloc: Global, cx: &Cx) -> Result<String, AllocError> {
+    let mut text = String::new(alloc);
+    for bug in cx.delayed_bugs() {
+        text.push_str(bug.as_str())?;
+        text.push_str(";")?;
+    }
+    Ok(text)
+}
+
+/// The item as an answer; where there is none, the row's condition isn't met.
+fn one<'a>(item: Result<Option<Item>, Stop>) -> Result<Answer, Refusal<'a>> {
+    match item {
+        Ok(Some(item)) => Ok(Answer::One(item)),
+        Ok(None) => Err(Refusal::Condition),
+        Err(stop) => Err(Refusal::Stop(stop)),
+    }
+}
+
+/// The same of a truth.
+fn truth<'a>(truth: Option<bool>) -> Result<Answer, Refusal<'a>> {
+    match truth {
+        Some(truth) => Ok(Answer::One(Item::Truth(truth))),
+        None => Err(Refusal::Condition),
+    }
+}
+
+/// The same of a list.
+fn list<'a>(list: Result<Option<Vec<Item>>, Stop>) -> Result<Answer, Refusal<'a>> {
+    match list {
+        Ok(Some(items)) => Ok(Answer::List(items)),
+        Ok(None) => Err(Refusal::Condition),
+        Err(stop) => Err(Refusal::Stop(stop)),
+    }
+}
+
+impl<'a> Reader<'a> {
+    /// What the row answers in the context.
+    pub fn answer(&mut self, cx: &mut Cx, row: Row<'a>) -> Result<Answer, Refusal<'a>> {
+        let alloc = self.alloc;
+        let left = self.operand(cx, row.left)?;
+        let right = self.operand(cx, row.right)?;
+        let third = self.operand(cx, row.third)?.node();
+        let (a, b) = (left.node(), right.node());
+        match row.verb {
+            "let" => self.name_node(cx, row),
+            "show" => Ok(Answer::One(Item::Node(a))),
+            "same" => truth(compared(cx, None, a, b)),
+            "unify" => truth(compared(cx, Some(RightSide::Plain), a, b)),
+            "header" => truth(compared(cx, Some(RightSide::Header), a, b)),
+            "has" => truth(has(cx, a, row.first)),
+            "has_arguments" => truth(have_arguments(cx, left, b)),
+            "subst" => one(substituted(alloc, cx, left, b)),
+            "fold" => one(folded(alloc, cx, left, row.first, row.has("arg"))),
+            "open" => one(instance(alloc, cx, None, b, a)),
+            "implied" => one(instance(alloc, cx, Some(a), b, third)),
+            "flags" => list(flags(alloc, cx, a)),
+            "impls" => list(impls(alloc, cx, self.number(row.first), left)),
+            "elaborate" | "supertraits" => list(following(alloc, cx, row.verb, a)),
+            "ids" => list(supertrait_items(alloc, cx, a)),
+            "width" => one(width(alloc, cx, a)),
+            "compatible" | "fits" | "has_param" => truth(said_of_value(cx, row.verb, left)),
+            "again" => one(again(alloc, cx, a, row.has("whole"))),
+            "member" | "clear" | "each" => self.answer_of_members(cx, row, a),
+            "count" | "take_back" | "delay" | "bugs" => self.answer_of_context(cx, row),
+            _ if !row.left.is_empty() => {
+                let item = said(cx, row.verb, a, number_in(row.first));
+                Ok(Answer::One(item.unwrap_or(Item::Nothing)))
+            }
+            _ => self.answer_of_declarations(cx, row),
+        }
+    }
+
+    /// Notes the node, or forgets all; or says in letters whether the node is equal to each of those that were noted, or may be: `h`
+    /// where it may be only where that is of a header.
+    fn answer_of_members(&mut self, cx: &Cx, row: Row<'a>, a: u32) -> Result<Answer, Refusal<'a>> {
+        match row.verb {
+            "member" => self.members.push(a)?,
+            "clear" => self.members.clear(),
+            _ => {
+                let text = letters(self.alloc, cx, self.members.as_slice(), row.first, a)?;
+                return Ok(Answer::Text(text));
+            }
+        }
+        Ok(Answer::One(Item::Count(self.members.len())))
+    }
+
+    /// Nodes that are taken back, and how many there are then; a fault that is put off, and all of them.
+    fn answer_of_context(&mut self, cx: &mut Cx, row: Row<'a>) -> Result<Answer, Refusal<'a>> {
+        match row.verb {
+            "take_back" => cx.truncate(number_in(row.first) as usize),
+            "delay" => {
+                cx.delay_bug(row.first)?;
+                return Ok(Answer::One(Item::Done));
+            }
+            "bugs" => return Ok(Answer::Text(bugs(self.alloc, cx)?)),
+            _ => {}
+        }
+        Ok(Answer::One(Item::Count(cx.node_count())))
+    }
+
+    /// What is read of the definition that the row names.
+    fn answer_of_declarations(&mut self, cx: &mut Cx, row: Row<'a>) -> Result<Answer, Refusal<'a>> {
+        let of = self.number(row.first);
+        if let Some(items) = held(self.alloc, cx, row.verb, of) {
+            return Ok(Answer::List(items?));
+        }
+        if row.verb == "fn_sig" {
+            let Some(sig) = cx.fn_sig(FnId(of)) else {
+                return Ok(Answer::One(Item::Nothing));
+            };
+            let pointer = Part::Ty(TyKind::FnPtr(sig));
+            return one(made(cx, &pointer));
+        }
+        Ok(Answer::One(said_of(cx, row, of).unwrap_or(Item::Nothing)))
+    }
+}

@@ -1,0 +1,86 @@
+//! Types, constants and regions without parts, by their words.
+
+use crate::parts::Part;
+use candidate_ir::ir::kinds::{
+    BoundVar, ConstKind, FloatTy, InferTy, IntTy, Placeholder, RegionKind, TyKind, UintTy,
+};
+
+/// The words of types without parts.
+const TYPES: [(&str, TyKind); 21] = [
+    ("bool", TyKind::Bool),
+    ("char", TyKind::Char),
+    ("str", TyKind::Str),
+    ("never", TyKind::Never),
+    ("error", TyKind::Error),
+    ("i8", TyKind::Int(IntTy::I8)),
+    ("i16", TyKind::Int(IntTy::I16)),
+    ("i32", TyKind::Int(IntTy::I32)),
+    ("i64", TyKind::Int(IntTy::I64)),
+    ("i128", TyKind::Int(IntTy::I128)),
+    ("isize", TyKind::Int(IntTy::Isize)),
+    ("u8", TyKind::Uint(UintTy::U8)),
+    ("u16", TyKind::Uint(UintTy::U16)),
+    ("u32", TyKind::Uint(UintTy::U32)),
+    ("u64", TyKind::Uint(UintTy::U64)),
+    ("u128", TyKind::Uint(UintTy::U128)),
+    ("usize", TyKind::Uint(UintTy::Usize)),
+    ("f16", TyKind::Float(FloatTy::F16)),
+    ("f32", TyKind::Float(FloatTy::F32)),
+    ("f64", TyKind::Float(FloatTy::F64)),
+    ("f128", TyKind::Float(FloatTy::F128)),
+];
+
+/// The number of the digits, or that of nothing.
+pub fn number_in(digits: &str) -> u32 {
+    digits.parse::<u32>().unwrap_or(u32::MAX)
+}
+
+/// What the word says, if it is the word of a leaf.
+pub fn leaf(word: &str) -> Option<Part> {
+    for (name, kind) in TYPES {
+        if name == word {
+            return Some(Part::Ty(kind));
+        }
+    }
+    match word {
+        "#error" => Some(Part::Const(ConstKind::Error)),
+        "'static" => Some(Part::Region(RegionKind::Static)),
+        "'error" => Some(Part::Region(RegionKind::Error)),
+        _ => marked(word),
+    }
+}
+
+/// The leaf whose word is a mark and a number, or two numbers with a point between them.
+fn marked(word: &str) -> Option<Part> {
+    let digits = word.trim_start_matches(|sign: char| !sign.is_ascii_digit());
+    let mark = word.strip_suffix(digits)?;
+    if mark == "#" {
+        return Some(Part::Const(ConstKind::Value(digits.parse().ok()?)));
+    }
+    let (first, second) = digits.split_once('.').unwrap_or((digits, "0"));
+    let (number, index) = (number_in(first), number_in(second));
+    let bound = BoundVar {
+        depth: number,
+        index,
+    };
+    let placeholder = Placeholder {
+        universe: number,
+        index,
+    };
+    match mark {
+        "p" => Some(Part::Ty(TyKind::Param(number))),
+        "^" => Some(Part::Ty(TyKind::Bound(bound))),
+        "!" => Some(Part::Ty(TyKind::Placeholder(placeholder))),
+        "?" => Some(Part::Ty(TyKind::Infer(InferTy::TyVar(number)))),
+        "?i" => Some(Part::Ty(TyKind::Infer(InferTy::IntVar(number)))),
+        "?f" => Some(Part::Ty(TyKind::Infer(InferTy::FloatVar(number)))),
+        "#p" => Some(Part::Const(ConstKind::Param(number))),
+        "#^" => Some(Part::Const(ConstKind::Bound(bound))),
+        "#!" => Some(Part::Const(ConstKind::Placeholder(placeholder))),
+        "#?" => Some(Part::Const(ConstKind::Infer(number))),
+        "'^" => Some(Part::Region(RegionKind::Bound(bound))),
+        "'!" => Some(Part::Region(RegionKind::Placeholder(placeholder))),
+        "'?" => Some(Part::Region(RegionKind::Var(number))),
+        _ => None,
+    }
+}

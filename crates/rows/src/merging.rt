@@ -1,0 +1,182 @@
+//! Rows that ask how sure answers are, what a response asks for, and what candidates are merged to.
+
+ghost use Rattle.std.specs.Prelude.{◌≡◌, [], IfOk};
+ghost use Rattle.candidate_ir.specs.Words.{IsArgs};
+ghost use Rattle.candidate_eval.specs.ResponseTrees.{AreCandidates, IsResponse};
+
+use crate::answers::{Answer, Item};
+use crate::eval::Operands;
+use crate::refusals::Failure;
+use crate::rows::Row;
+use crate::typed::args_at;
+use candidate_eval::eval::certainty::{Certainty, MaybeCause, MaybeInfo, OpaqueTypesJank};
+use candidate_eval::eval::response::{
+    Candidate, CandidateHeadUsages, CanonicalResponse, MergeCandidateInfo,
+    has_no_inference_or_external_constraints, has_only_region_constraints, try_merge_candidates,
+};
+use candidate_eval::eval::source::{BuiltinImplSource, CandidateSource};
+use candidate_eval::eval::variable::VariableKind;
+use candidate_ir::decl::context::Cx;
+use candidate_ir::ir::heads::VariableSort;
+use candidate_ir::ir::kinds::Args;
+use std::alloc::{AllocError, Global};
+
+/// How sure the words say that an answer is: `yes`, or `ambiguous` or `overflow` with what else is said of it.
+pub fn certainty(words: &str) -> Option<Certainty> {
+    let mut said = words.split_whitespace();
+    let cause = match said.next()? {
+        "yes" => return Some(Certainty::Yes),
+        "ambiguous" => MaybeCause::Ambiguity,
+        "overflow" => MaybeCause::Overflow {
+            suggest_increasing_limit: words.contains("suggest"),
+            keep_constraints: words.contains("keep"),
+        },
+        _ => return None,
+    };
+    let opaque_types_jank = if words.contains("jank") {
+        OpaqueTypesJank::ErrorIfRigidSelfTy
+    } else {
+        OpaqueTypesJank::AllGood
+    };
+    Some(Certainty::Maybe(MaybeInfo {
+        cause,
+        opaque_types_jank,
+    }))
+}
+
+/// Adds these words.
+pub fn push_certainty(items: &mut Vec<Item>, certainty: Certainty) -> Result<(), AllocError> {
+    let Certainty::Maybe(info) = certainty else {
+        items.push(Item::Word("yes"))?;
+        return Ok(());
+    };
+    let (cause, suggests, keeps) = match info.cause {
+        MaybeCause::Ambiguity => ("ambiguous", false, false),
+        MaybeCause::Overflow {
+            suggest_increasing_limit,
+            keep_constraints,
+        } => ("overflow", suggest_increasing_limit, keep_constraints),
+    };
+    items.push(Item::Word(cause))?;
+    let is_janky = info.opaque_types_jank == OpaqueTypesJank::ErrorIfRigidSelfTy;
+    for (is_said, word) in [(suggests, "suggest"), (keeps, "keep"), (is_janky, "jank")] {
+        if is_said {
+            items.push(Item::Word(word))?;
+        }
+    }
+    Ok(())
+}
+
+/// How sure something is.
+pub fn sure(alloc: Global, certainty: Certainty) -> Result<Answer, AllocError> {
+    let mut items = Vec::new(alloc);
+    push_certainty(&mut items, certainty)?;
+    Ok(Answer::Row(items))
+}
+
+/// How sure two answers are together.
+pub fn both(alloc: Global, row: Row<'_>) -> Result<Answer, Failure> {
+    match (certainty(row.left), certainty(row.right)) {
+        (Some(left), Some(right)) => Ok(sure(alloc, left.and(right))?),
+        _ => Err(Failure::Condition),
+    }
+}
+
+/// The word of a variable's kind.
+fn variable_word(kind: VariableKind) -> &'static str {
+    match kind {
+        VariableKind::Term(VariableSort::General) => "general",
+        VariableKind::Term(VariableSort::Integer) => "integer",
+        VariableKind::Term(VariableSort::Floating) => "floating",
+        VariableKind::Term(VariableSort::Constant) => "constant",
+        VariableKind::Region => "region",
+    }
+}
+
+/// How sure the response is, the list of its values, the kinds and universes of the variables that it leaves open, and its regions.
+pub fn responded(alloc: Global, response: &CanonicalResponse) -> Result<Answer, AllocError> {
+    let mut items = Vec::new(alloc);
+    push_certainty(&mut items, response.certainty)?;
+    items.push(Item::Node(response.values.0))?;
+    for var in &response.vars {
+        items.push(Item::Word(variable_word(var.kind)))?;
+        items.push(Item::Count(var.universe as usize))?;
+    }
+    for region in &response.regions {
+        items.push(Item::Node(region.0))?;
+    }
+    Ok(Answer::Row(items))
+}
+
+/// A response with these values, for which nothing else is asked.
+fn response(alloc: Global, values: Args, certainty: Certainty) -> CanonicalResponse
+    ensures values { result.values ≡ values }
+    ensures regions { result.regions.items ≡ [] }
+{
+    CanonicalResponse {
+        vars: Vec::new(alloc),
+        values,
+        regions: Vec::new(alloc),
+        certainty,
+    }
+}
+
+/// Whether a response with these values has no constraints but of regions, and whether it has none at all.
+fn constraints(alloc: Global, cx: &Cx, number: u32) -> Result<Answer, Failure> {
+    let values = args_at(cx, number)?;
+    let response = response(alloc, values, Certainty::Yes);
+    let mut items = Vec::new(alloc);
+    let of_regions = has_only_region_constraints(cx, &response);
+    items.push(Item::Truth(of_regions))?;
+    let has_none = has_no_inference_or_external_constraints(cx, &response);
+    items.push(Item::Truth(has_none))?;
+    Ok(Answer::Row(items))
+}
+
+/// A candidate with that response.
+fn candidate(alloc: Global, cx: &Cx, number: u32, words: &str) -> Result<Candidate, Failure>
+    ensures { IfOk result (λ c. IsResponse cx.now.trees c.result) }
+{
+    let values = args_at(cx, number)?;
+    match certainty(words) {
+        Some(certainty) => Ok(Candidate {
+            source: CandidateSource::BuiltinImpl(BuiltinImplSource::Misc),
+            result: response(alloc, values, certainty),
+            head_usages: CandidateHeadUsages::new(alloc),
+        }),
+        None => Err(Failure::Condition),
+    }
+}
+
+/// What the candidates come to together, and why.
+fn merge(alloc: Global, cx: &Cx, candidates: &[Candidate]) -> Result<Answer, Failure>
+    requires { AreCandidates cx.now.trees candidates.now }
+{
+    let Some((response, info)) = try_merge_candidates(cx, candidates)? else {
+        return Ok(Answer::One(Item::Nothing));
+    };
+    let mut items = Vec::new(alloc);
+    match info {
+        MergeCandidateInfo::AlwaysApplicable(number) => {
+            items.push(Item::Word("applicable"))?;
+            items.push(Item::Count(number))?;
+        }
+        MergeCandidateInfo::EqualResponse => items.push(Item::Word("equal"))?,
+    }
+    push_certainty(&mut items, response.certainty)?;
+    items.push(Item::Node(response.values.0))?;
+    Ok(Answer::Row(items))
+}
+
+/// What the row asks of the lists of these numbers.
+pub fn answer(alloc: Global, cx: &Cx, row: Row<'_>, of: Operands) -> Result<Answer, Failure> {
+    if row.verb == "constraints" {
+        return constraints(alloc, cx, of.left);
+    }
+    if row.first.is_empty() {
+        return merge(alloc, cx, &[]);
+    }
+    let first = candidate(alloc, cx, of.left, row.first)?;
+    let second = candidate(alloc, cx, of.right, row.second)?;
+    merge(alloc, cx, &[first, second])
+}

@@ -1,0 +1,62 @@
+//! Numbers that are looked at: each stands for what is asked, or the call of the row may not be made.
+
+ghost use Rattle.std.specs.Prelude.{IfOk};
+ghost use Rattle.candidate_ir.specs.Folds.{IsArg};
+ghost use Rattle.candidate_ir.specs.Words.{IsArgs, IsClause, IsParamEnv, IsTy};
+
+use crate::parts::{NodeSort, is_at, sort_at};
+use crate::refusals::Failure;
+use candidate_ir::decl::context::Cx;
+use candidate_ir::ir::kinds::{Args, Clause, Const, GenericArg, ParamEnv, Region, Ty};
+
+pub fn ty_at(cx: &Cx, number: u32) -> Result<Ty, Failure>
+    ensures { IfOk result (λ x. IsTy cx.now.trees x) }
+{
+    if is_at(cx, number, NodeSort::Ty) {
+        Ok(Ty(number))
+    } else {
+        Err(Failure::Condition)
+    }
+}
+
+pub fn args_at(cx: &Cx, number: u32) -> Result<Args, Failure>
+    ensures { IfOk result (λ x. IsArgs cx.now.trees x) }
+{
+    if is_at(cx, number, NodeSort::Args) {
+        Ok(Args(number))
+    } else {
+        Err(Failure::Condition)
+    }
+}
+
+pub fn clause_at(cx: &Cx, number: u32) -> Result<Clause, Failure>
+    ensures { IfOk result (λ x. IsClause cx.now.trees x) }
+{
+    if is_at(cx, number, NodeSort::Clause) {
+        Ok(Clause(number))
+    } else {
+        Err(Failure::Condition)
+    }
+}
+
+pub fn env_at(cx: &Cx, number: u32) -> Result<ParamEnv, Failure>
+    ensures { IfOk result (λ x. IsParamEnv cx.now.trees x) }
+{
+    if is_at(cx, number, NodeSort::Env) {
+        Ok(ParamEnv(number))
+    } else {
+        Err(Failure::Condition)
+    }
+}
+
+/// The type, the constant or the region of that number.
+pub fn arg_at(cx: &Cx, number: u32) -> Result<GenericArg, Failure>
+    ensures { IfOk result (λ x. IsArg cx.now.trees x) }
+{
+    match sort_at(cx, number) {
+        Some(NodeSort::Ty) => Ok(GenericArg::Ty(Ty(number))),
+        Some(NodeSort::Const) => Ok(GenericArg::Const(Const(number))),
+        Some(NodeSort::Region) => Ok(GenericArg::Region(Region(number))),
+        _ => Err(Failure::Condition),
+    }
+}
