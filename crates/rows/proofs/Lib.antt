@@ -1,2 +1,3 @@
 mod Listed
+pub mod Lists
 pub mod Sorts

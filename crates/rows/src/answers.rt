@@ -96,7 +96,7 @@ pub fn write_outcome(
     out: &mut String,
     names: &[Name<'_>],
     cx: Option<&Cx>,
-    outcome: Result<Answer, Refusal<'_>>,
+    outcome: Result<Answer, Refusal>,
 ) -> Result<(), AllocError> {
     out.push_str(" => ")?;
     match outcome {
@@ -109,7 +109,7 @@ pub fn write_outcome(
         Ok(Answer::Row(items)) => write_items(out, names, cx, items.as_slice(), " ")?,
         Ok(Answer::Text(text)) => out.push_str(text.as_str())?,
         Err(Refusal::Condition) => out.push_str("condition")?,
-        Err(Refusal::UnknownWord(word)) => write!(out, "unknown word {word}")?,
+        Err(Refusal::UnknownWord) => out.push_str("unknown word")?,
         Err(Refusal::Stop(stop)) => write!(out, "stop {}", stop as u8)?,
         Err(Refusal::NoSolution) => out.push_str("refused")?,
         Err(Refusal::Ambiguous) => out.push_str("ambiguous")?,

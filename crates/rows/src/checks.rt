@@ -5,7 +5,7 @@ ghost use Rattle.candidate_ir.specs.Context.{Grows};
 ghost use Rattle.candidate_ir.specs.Words.{IsArgs, IsTy};
 
 use crate::answers::{Answer, Item};
-use crate::refusals::Failure;
+use crate::refusals::Refusal;
 use crate::rows::Row;
 use crate::typed::args_at;
 use candidate_eval::coherence::{
@@ -83,7 +83,7 @@ fn normal<M: Make>(maker: &mut M, ty: Ty, way: Way) -> Result<Ty, NormalizeErr<u
 }
 
 /// The types that aren't local, in order, and which of them is the first input.
-fn not_local(alloc: Global, types: &[(Ty, IsFirstInputType)]) -> Result<Answer, AllocError> {
+fn not_local(alloc: Global, types: &[(Ty, IsFirstInputType)]) -> Result<Answer, Refusal> {
     let mut items = Vec::new(alloc);
     items.push(Item::Word("not_local"))?;
     for (ty, is_first) in types {
@@ -96,7 +96,7 @@ fn not_local(alloc: Global, types: &[(Ty, IsFirstInputType)]) -> Result<Answer, 
 }
 
 /// What no type covers, and the first local type, if there is one.
-fn uncovered(alloc: Global, found: &UncoveredTyParams<Ty>) -> Result<Answer, AllocError> {
+fn uncovered(alloc: Global, found: &UncoveredTyParams<Ty>) -> Result<Answer, Refusal> {
     let mut items = Vec::new(alloc);
     items.push(Item::Word("uncovered"))?;
     items.push(Item::Node(found.uncovered.0))?;
@@ -108,7 +108,7 @@ fn uncovered(alloc: Global, found: &UncoveredTyParams<Ty>) -> Result<Answer, All
 }
 
 /// Why a check has no answer: its normaliser failed with a number, or it stopped.
-fn stopped(alloc: Global, stop: OrphanStop<u32>) -> Result<Answer, Failure> {
+fn stopped(alloc: Global, stop: OrphanStop<u32>) -> Result<Answer, Refusal> {
     match stop {
         OrphanStop::Normalize(number) => {
             let mut items = Vec::new(alloc);
@@ -116,71 +116,60 @@ fn stopped(alloc: Global, stop: OrphanStop<u32>) -> Result<Answer, Failure> {
             items.push(Item::Count(number as usize))?;
             Ok(Answer::Row(items))
         }
-        OrphanStop::Stop(stop) => Err(Failure::Stop(stop)),
+        OrphanStop::Stop(stop) => Err(Refusal::Stop(stop)),
     }
 }
 
-/// What the orphan check says of the reference.
-fn check<C: InferCtxtLike>(
+/// What the orphan check says of a reference.
+fn checked(
     alloc: Global,
-    infcx: &mut C,
-    trait_ref: TraitRef,
-    in_crate: InCrate,
-    way: Way,
-) -> Result<Answer, Failure>
-    requires { IsArgs (C.context infcx.old).trees trait_ref.args }
-{
-    if infcx.cx().has_param(trait_ref) || !infcx.cx().trait_ref_args_fit(trait_ref) {
-        return Err(Failure::Condition);
-    }
-    let checked = orphan_check_trait_ref(
-        alloc,
-        infcx,
-        trait_ref,
-        in_crate,
-        move |cx: &mut C, ty: Ty| -> Result<Ty, NormalizeErr<u32>>
-            requires { IsTy (C.context cx.old).trees ty }
-            ensures grows { Grows (C.context cx.old) (C.context cx.new) }
-            ensures sort { IfOk result (λ t. IsTy (C.context cx.new).trees t) }
-        { normal(cx, ty, way) },
-    );
-    match checked {
+    outcome: Result<Result<(), OrphanCheckErr<Ty>>, OrphanStop<u32>>,
+) -> Result<Answer, Refusal> {
+    match outcome {
         Ok(Ok(())) => Ok(Answer::One(Item::Word("passes"))),
-        Ok(Err(OrphanCheckErr::NonLocalInputType(types))) => {
-            Ok(not_local(alloc, types.as_slice())?)
-        }
-        Ok(Err(OrphanCheckErr::UncoveredTyParams(found))) => Ok(uncovered(alloc, &found)?),
+        Ok(Err(OrphanCheckErr::NonLocalInputType(types))) => not_local(alloc, types.as_slice()),
+        Ok(Err(OrphanCheckErr::UncoveredTyParams(found))) => uncovered(alloc, &found),
         Err(stop) => stopped(alloc, stop),
     }
 }
 
-/// What is known of the reference's impls.
-fn knowable<C: InferCtxtLike>(
+/// What is known of a reference's impls.
+fn known(
     alloc: Global,
-    infcx: &mut C,
-    trait_ref: TraitRef,
-    way: Way,
-) -> Result<Answer, Failure>
-    requires { IsArgs (C.context infcx.old).trees trait_ref.args }
-{
-    if infcx.cx().has_param(trait_ref) || !infcx.cx().trait_ref_args_fit(trait_ref) {
-        return Err(Failure::Condition);
-    }
-    let known = trait_ref_is_knowable(
-        alloc,
-        infcx,
-        trait_ref,
-        move |cx: &mut C, ty: Ty| -> Result<Ty, NormalizeErr<u32>>
-            requires { IsTy (C.context cx.old).trees ty }
-            ensures grows { Grows (C.context cx.old) (C.context cx.new) }
-            ensures sort { IfOk result (λ t. IsTy (C.context cx.new).trees t) }
-        { normal(cx, ty, way) },
-    );
-    match known {
+    outcome: Result<Result<(), Conflict>, OrphanStop<u32>>,
+) -> Result<Answer, Refusal> {
+    match outcome {
         Ok(Ok(())) => Ok(Answer::One(Item::Word("known"))),
         Ok(Err(Conflict::Upstream)) => Ok(Answer::One(Item::Word("upstream"))),
         Ok(Err(Conflict::Downstream)) => Ok(Answer::One(Item::Word("downstream"))),
         Err(stop) => stopped(alloc, stop),
+    }
+}
+
+/// What the orphan check says of the reference, or where no crate is named, what is known of its impls.
+fn coherence<C: InferCtxtLike>(
+    alloc: Global,
+    infcx: &mut C,
+    trait_ref: TraitRef,
+    in_crate: Option<InCrate>,
+    way: Way,
+) -> Result<Answer, Refusal>
+    requires { IsArgs (C.context infcx.old).trees trait_ref.args }
+{
+    if infcx.cx().has_param(trait_ref) || !infcx.cx().trait_ref_args_fit(trait_ref) {
+        return Err(Refusal::Condition);
+    }
+    let normalize = move |cx: &mut C, ty: Ty| -> Result<Ty, NormalizeErr<u32>>
+        requires { IsTy (C.context cx.old).trees ty }
+        ensures grows { Grows (C.context cx.old) (C.context cx.new) }
+        ensures sort { IfOk result (λ t. IsTy (C.context cx.new).trees t) }
+    { normal(cx, ty, way) };
+    match in_crate {
+        Some(in_crate) => {
+            let outcome = orphan_check_trait_ref(alloc, infcx, trait_ref, in_crate, normalize);
+            checked(alloc, outcome)
+        }
+        None => known(alloc, trait_ref_is_knowable(alloc, infcx, trait_ref, normalize)),
     }
 }
 
@@ -190,28 +179,24 @@ pub fn answer<C: InferCtxtLike>(
     infcx: &mut C,
     row: Row<'_>,
     reference: TraitRef,
-) -> Result<Answer, Failure> {
+) -> Result<Answer, Refusal> {
     let args = args_at(infcx.cx(), reference.args.0)?;
-    let trait_ref = TraitRef {
-        def_id: reference.def_id,
-        args,
-    };
-    match row.verb {
-        "check" => match (in_crate(row.first), way_of(row.second)) {
-            (Some(in_crate), Some(way)) => check(alloc, infcx, trait_ref, in_crate, way),
-            _ => Err(Failure::Condition),
-        },
-        "knowable" => match way_of(row.first) {
-            Some(way) => knowable(alloc, infcx, trait_ref, way),
-            None => Err(Failure::Condition),
-        },
-        "is_plain" => {
-            let is_plain = trait_ref_is_plain(infcx.cx(), trait_ref);
-            Ok(Answer::One(Item::Truth(is_plain)))
-        }
+    let def_id = reference.def_id;
+    let trait_ref = TraitRef { def_id, args };
+    let truth = match row.verb {
+        "is_plain" => trait_ref_is_plain(infcx.cx(), trait_ref),
+        "is_local_or_fundamental" => trait_ref_is_local_or_fundamental(infcx.cx(), trait_ref),
         _ => {
-            let is_either = trait_ref_is_local_or_fundamental(infcx.cx(), trait_ref);
-            Ok(Answer::One(Item::Truth(is_either)))
+            let (in_crate, way) = match row.verb {
+                "check" => (in_crate(row.first), way_of(row.second)),
+                _ => (None, way_of(row.first)),
+            };
+            if row.verb == "check" && in_crate.is_none() {
+                return Err(Refusal::Condition);
+            }
+            let way = way.ok_or(Refusal::Condition)?;
+            return coherence(alloc, infcx, trait_ref, in_crate, way);
         }
-    }
+    };
+    Ok(Answer::One(Item::Truth(truth)))
 }

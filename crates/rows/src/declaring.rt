@@ -65,7 +65,7 @@ impl<'a> Reader<'a> {
         &mut self,
         builder: &mut DeclsBuilder,
         row: Row<'a>,
-    ) -> Result<Answer, Refusal<'a>> {
+    ) -> Result<Answer, Refusal> {
         let (first, second) = (self.number(row.first), self.number(row.second));
         let done = match row.verb {
             "let" => return self.name_node(builder, row),
@@ -105,7 +105,7 @@ impl<'a> Reader<'a> {
         builder: &mut DeclsBuilder,
         row: Row<'a>,
         of: u32,
-    ) -> Result<Answer, Refusal<'a>> {
+    ) -> Result<Answer, Refusal> {
         let number = self.operand(builder, row.left)?.node();
         let (ty, clause) = (Ty(number), Clause(number));
         let (own, other) = (AliasBoundKind::SelfBounds, AliasBoundKind::NonSelfBounds);
@@ -135,7 +135,7 @@ impl<'a> Reader<'a> {
         builder: &mut DeclsBuilder,
         row: Row<'a>,
         of: u32,
-    ) -> Result<Answer, Refusal<'a>> {
+    ) -> Result<Answer, Refusal> {
         let value = self.operand(builder, row.left)?;
         let (word, letters) = row.second.split_once(':').unwrap_or((row.second, ""));
         self.kinds = kinds(self.alloc, letters)?;
@@ -144,23 +144,15 @@ impl<'a> Reader<'a> {
             Some(name) => name.arity,
             None => parameters.len(),
         };
-        let (arity, number) = match sort {
-            Some(Sort::Trait) => {
-                let flags = trait_flags(row);
-                let added = builder.add_trait(CrateId(of), parameters, flags)?;
-                (arity.saturating_add(1), added.0)
-            }
-            Some(Sort::AssociatedType) => {
-                let sized = row.has("sized");
-                let added = builder.add_assoc(TraitId(of), AssocKind::Type, sized)?;
-                (arity, added.0)
-            }
-            Some(Sort::AssociatedConst) => {
-                let sized = row.has("sized");
-                let added = builder.add_assoc(TraitId(of), AssocKind::Const, sized)?;
-                (arity, added.0)
-            }
-            _ => (arity, define_other(builder, row, parameters, value)?),
+        let number = match sort {
+            Some(Sort::Trait) => builder.add_trait(CrateId(of), parameters, trait_flags(row))?.0,
+            Some(Sort::AssociatedType) => add_item(builder, of, AssocKind::Type, row)?,
+            Some(Sort::AssociatedConst) => add_item(builder, of, AssocKind::Const, row)?,
+            _ => define_other(builder, row, parameters, value)?,
+        };
+        let arity = match sort {
+            Some(Sort::Trait) => arity.saturating_add(1),
+            _ => arity,
         };
         if let Some(sort) = sort {
             self.names.push(Name {
@@ -172,6 +164,17 @@ impl<'a> Reader<'a> {
         }
         Ok(Answer::One(Item::Count(number as usize)))
     }
+}
+
+/// Declares an item of the trait of that number.
+fn add_item(
+    builder: &mut DeclsBuilder,
+    of: u32,
+    kind: AssocKind,
+    row: Row<'_>,
+) -> Result<u32, DeclFault> {
+    let added = builder.add_assoc(TraitId(of), kind, row.has("sized"))?;
+    Ok(added.0)
 }
 
 /// How a type is dropped: where nothing else is said, only where the program runs.
@@ -217,12 +220,12 @@ fn define_adt(
 
 /// Declares a crate, or of the crate that the row names what is neither a trait nor an item: an opaque type with the type that it
 /// hides, a function with its signature, an impl with its reference.
-fn define_other<'a>(
+fn define_other(
     builder: &mut DeclsBuilder,
-    row: Row<'a>,
+    row: Row<'_>,
     parameters: &[VarKind],
     value: Value,
-) -> Result<u32, Refusal<'a>> {
+) -> Result<u32, Refusal> {
     let krate = CrateId(number_in(row.first));
     Ok(match (row.verb, value) {
         ("crate", _) => builder.add_crate()?.0,
@@ -260,17 +263,17 @@ fn define_other<'a>(
             let added = builder.add_impl(krate, parameters, reference, polarity)?;
             added.0
         }
-        _ => return Err(Refusal::UnknownWord(row.verb)),
+        _ => return Err(Refusal::UnknownWord),
     })
 }
 
 /// Declares traits with one parameter, with the numbers from 0 to the last one: each a direct supertrait of the one before, or in a
 /// fan all of the first.
-fn declare_traits<'a>(
+fn declare_traits(
     builder: &mut DeclsBuilder,
     last: u32,
     is_fan: bool,
-) -> Result<Answer, Refusal<'a>> {
+) -> Result<Answer, Refusal> {
     for _ in 0..last.saturating_add(1) {
         builder.add_trait(CrateId(0), &[VarKind::Ty], TraitFlags::default())?;
     }

@@ -21,7 +21,7 @@ pub fn made<'a, T: Table>(
     reader: &mut Reader<'a>,
     table: &mut T,
     row: Row<'a>,
-) -> Result<Operands, Refusal<'a>> {
+) -> Result<Operands, Refusal> {
     Ok(Operands {
         left: reader.operand(table, row.left)?.node(),
         right: reader.operand(table, row.right)?.node(),
@@ -29,31 +29,33 @@ pub fn made<'a, T: Table>(
     })
 }
 
-/// What the row answers.
+/// What the row answers; a node is noted.
 pub fn answer<'a>(
     reader: &mut Reader<'a>,
     cx: &mut Cx,
     row: Row<'a>,
-) -> Result<Answer, Refusal<'a>> {
+) -> Result<Answer, Refusal> {
     let alloc = reader.alloc;
-    match row.verb {
-        "and" => Ok(merging::both(alloc, row)?),
+    let of = match row.verb {
+        "and" => return merging::both(alloc, row),
         "check" | "knowable" | "is_plain" | "is_local_or_fundamental" => {
             let reference = reader.operand(cx, row.left)?.reference();
-            Ok(checks::answer(alloc, cx, row, reference)?)
+            return checks::answer(alloc, cx, row, reference);
         }
         "requirements" => {
             let reference = reader.operand(cx, row.left)?.reference();
-            Ok(structures::required(alloc, cx, reference)?)
+            return structures::required(alloc, cx, reference);
         }
-        "cell" | "call" | "const_call" | "own_bounds" => {
-            let of = made(reader, cx, row)?;
-            Ok(structures::answer(alloc, cx, row, of.left)?)
+        "cell" | "call" | "const_call" | "own_bounds" | "constraints" | "merge" => {
+            made(reader, cx, row)?
         }
-        "constraints" | "merge" => {
-            let of = made(reader, cx, row)?;
-            Ok(merging::answer(alloc, cx, row, of)?)
+        _ => {
+            let outcome = reader.answer(cx, row);
+            return reader.noted(row, outcome);
         }
-        _ => reader.answer(cx, row),
+    };
+    match row.verb {
+        "constraints" | "merge" => merging::answer(alloc, cx, row, of),
+        _ => structures::answer(alloc, cx, row, of.left),
     }
 }

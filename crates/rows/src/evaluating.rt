@@ -10,33 +10,46 @@ use crate::evaluator::{self, mode};
 use crate::listing::listed;
 use crate::parts::{NodeSort, sort_at};
 use crate::reader::Reader;
-use crate::refusals::{Failure, Refusal};
+use crate::refusals::Refusal;
 use crate::rows::Row;
 use crate::run::{Phase, Session};
 use crate::typed::args_at;
 use candidate_eval::eval::context::{EvalCtxt, ProbeKind};
+use candidate_eval::eval::mode::TypingMode;
 use candidate_ir::decl::context::Cx;
 use candidate_ir::decl::parameters::{env_has_arguments, has_arguments};
 use candidate_ir::decl::subst::{subst, subst_env};
 use candidate_ir::ir::kinds::{AssocId, ParamEnv, Ty};
 use candidate_rounds::rounds::Rounds;
-use std::alloc::{AllocError, Global};
+use std::alloc::Global;
 
 /// How deep probes may be nested.
 const NESTED: u32 = 8;
 
-/// What stands beside aliases: nothing, or what is listed for the associated type that the row names.
-fn pairs(reader: &Reader<'_>, cx: &mut Cx, row: Row<'_>) -> Result<Vec<(Ty, Ty)>, Failure>
-    ensures { IfOk result (λ v. IsGiven cx.new.trees v.items []) }
+/// The mode of an evaluator, and what stands beside aliases: nothing, or what is listed for the associated type that the row names.
+fn asked_for(
+    reader: &Reader<'_>,
+    cx: &mut Cx,
+    row: Row<'_>,
+) -> Result<(TypingMode, Vec<(Ty, Ty)>), Refusal>
+    ensures { IfOk result (λ r. IsGiven cx.new.trees (r.1).items []) }
 {
+    let mode = mode(row.first).ok_or(Refusal::UnknownWord)?;
     if row.second.is_empty() {
-        return Ok(Vec::new(reader.alloc));
+        return Ok((mode, Vec::new(reader.alloc)));
     }
-    listed(reader.alloc, cx, AssocId(reader.number(row.second)))
+    let pairs = listed(reader.alloc, cx, AssocId(reader.number(row.second)))?;
+    Ok((mode, pairs))
+}
+
+/// Two numbers as an answer.
+fn counted(alloc: Global, first: usize, second: usize) -> Result<Answer, Refusal> {
+    let items = [Item::Count(first), Item::Count(second)];
+    Ok(Answer::List(Vec::from_slice(alloc, &items)?))
 }
 
 /// The type or the environment with the arguments in the place of parameters.
-fn substituted(alloc: Global, rounds: &mut Rounds, of: Operands) -> Result<Answer, Failure> {
+fn substituted(alloc: Global, rounds: &mut Rounds, of: Operands) -> Result<Answer, Refusal> {
     let args = args_at(rounds.cx(), of.right)?;
     let (ty, env) = (Ty(of.left), ParamEnv(of.left));
     let made = match sort_at(rounds.cx(), of.left) {
@@ -46,82 +59,69 @@ fn substituted(alloc: Global, rounds: &mut Rounds, of: Operands) -> Result<Answe
         Some(NodeSort::Env) if env_has_arguments(rounds.cx(), env, args) => {
             subst_env(alloc, rounds, env, args)?.0
         }
-        _ => return Err(Failure::Condition),
+        _ => return Err(Refusal::Condition),
     };
     Ok(Answer::One(Item::Node(made)))
 }
 
 impl<'a> Session<'a> {
     /// Begins an evaluator over the context, in the mode that the row says.
-    pub fn begin_rounds(&mut self, mut cx: Cx, row: Row<'a>) -> Result<Phase, AllocError> {
-        let alloc = self.reader.alloc;
-        let pairs = pairs(&self.reader, &mut cx, row);
-        let Some(mode) = mode(row.first) else {
-            self.print(None, Err(Refusal::UnknownWord(row.first)))?;
-            return Ok(Phase::Declared(cx));
-        };
-        match pairs {
-            Ok(pairs) => {
-                self.print(None, Ok(Answer::One(Item::Done)))?;
-                let rounds = Rounds::new(alloc, cx, mode, pairs, Vec::new(alloc));
-                Ok(Phase::Evaluating(rounds))
+    pub fn begin_rounds(&mut self, mut cx: Cx, row: Row<'a>) -> Phase {
+        match asked_for(&self.reader, &mut cx, row) {
+            Ok((mode, pairs)) => {
+                self.print_done();
+                let alloc = self.reader.alloc;
+                Phase::Evaluating(Rounds::new(alloc, cx, mode, pairs, Vec::new(alloc)))
             }
-            Err(failure) => {
-                self.print(None, Err(Refusal::from(failure)))?;
-                Ok(Phase::Declared(cx))
+            Err(refusal) => {
+                self.print(None, Err(refusal));
+                Phase::Declared(cx)
             }
         }
     }
 
-    /// Answers a row that is asked of an evaluator, and says what the next ones are asked of.
-    pub fn evaluate(&mut self, mut rounds: Rounds, row: Row<'a>) -> Result<Phase, AllocError> {
-        match row.verb {
-            "rounds" => {
-                let (cx, _, _) = rounds.into_parts();
-                self.begin_rounds(cx, row)
-            }
-            "leave" => {
-                let (cx, normal, opaques) = rounds.into_parts();
-                let mut items = Vec::new(self.reader.alloc);
-                items.push(Item::Count(normal.len()))?;
-                items.push(Item::Count(opaques.len()))?;
-                self.print(None, Ok(Answer::List(items)))?;
-                Ok(Phase::Declared(cx))
-            }
-            "probe" => {
-                self.probe(&mut rounds, row, NESTED)?;
-                Ok(Phase::Evaluating(rounds))
-            }
-            _ => {
-                let outcome = self.ask_evaluator(&mut rounds, row);
-                self.print(Some(rounds.cx()), outcome)?;
-                Ok(Phase::Evaluating(rounds))
-            }
+    /// Ends the evaluator, and says how many pairs and opaque types it was given.
+    pub fn leave(&mut self, rounds: Rounds) -> Cx {
+        let (cx, normal, opaques) = rounds.into_parts();
+        let counts = counted(self.reader.alloc, normal.len(), opaques.len());
+        self.print(None, counts);
+        cx
+    }
+
+    /// Answers a row that is asked of an evaluator.
+    pub fn evaluate(&mut self, rounds: &mut Rounds, row: Row<'a>) {
+        if row.verb == "probe" {
+            self.probe(rounds, row, NESTED);
+            return;
+        }
+        let outcome = self.ask_evaluator(rounds, row);
+        if self.print(Some(rounds.cx()), outcome) {
+            let _ = self.ask_evaluator(rounds, row);
         }
     }
 
     /// What a row answers whose operands are made first.
-    fn ask_evaluator(&mut self, rounds: &mut Rounds, row: Row<'a>) -> Result<Answer, Refusal<'a>> {
+    fn ask_evaluator(&mut self, rounds: &mut Rounds, row: Row<'a>) -> Result<Answer, Refusal> {
         let alloc = self.reader.alloc;
         match row.verb {
             "let" => self.reader.name_node(rounds, row),
             "check" | "knowable" => {
                 let reference = self.reader.operand(rounds, row.left)?.reference();
-                Ok(checks::answer(alloc, rounds, row, reference)?)
+                checks::answer(alloc, rounds, row, reference)
             }
             "subst" => {
                 let of = made(&mut self.reader, rounds, row)?;
-                Ok(substituted(alloc, rounds, of)?)
+                substituted(alloc, rounds, of)
             }
             _ => {
                 let of = made(&mut self.reader, rounds, row)?;
-                Ok(evaluator::answer(&self.reader, rounds, row, of)?)
+                evaluator::answer(&self.reader, rounds, row, of)
             }
         }
     }
 
     /// What a row answers each of whose operands is a name.
-    fn ask_by_names(&mut self, rounds: &mut Rounds, row: Row<'a>) -> Result<Answer, Refusal<'a>>
+    fn ask_by_names(&mut self, rounds: &mut Rounds, row: Row<'a>) -> Result<Answer, Refusal>
         ensures { probes rounds.new ≡ probes rounds.old }
     {
         let reader = &self.reader;
@@ -130,12 +130,12 @@ impl<'a> Session<'a> {
             right: reader.number(row.right),
             third: reader.number(row.third),
         };
-        Ok(evaluator::answer(reader, rounds, row, of)?)
+        evaluator::answer(reader, rounds, row, of)
     }
 
     /// Answers the rows up to `end` in a probe. Their operands are names, since nothing is made in a probe but by a call.
     #[cycle(probes)]
-    fn probe(&mut self, rounds: &mut Rounds, row: Row<'a>, depth: u32) -> Result<(), AllocError>
+    fn probe(&mut self, rounds: &mut Rounds, row: Row<'a>, depth: u32)
         ensures { probes rounds.new ≡ probes rounds.old }
     {
         let kind = if row.first == "aside" {
@@ -143,37 +143,47 @@ impl<'a> Session<'a> {
         } else {
             ProbeKind::Kept
         };
-        let probe = match EvalCtxt::begin_probe(rounds, kind) {
-            Ok(probe) => probe,
-            Err(stop) => return self.print(None, Err(Refusal::Stop(stop))),
-        };
-        let answered = self.answer_in_probe(rounds, depth);
-        let usages = EvalCtxt::end_probe(rounds, probe);
-        EvalCtxt::ignore_candidate_head_usages(rounds, usages);
-        answered?;
-        self.print(None, Ok(Answer::One(Item::Done)))
+        match EvalCtxt::begin_probe(rounds, kind) {
+            Ok(probe) => {
+                self.answer_in_probe(rounds, depth);
+                let usages = EvalCtxt::end_probe(rounds, probe);
+                EvalCtxt::ignore_candidate_head_usages(rounds, usages);
+                self.print_done();
+            }
+            Err(stop) => {
+                self.print(None, Err(Refusal::Stop(stop)));
+            }
+        }
     }
 
     /// Answers the rows up to `end`, which is printed without its answer.
     #[cycle(probes)]
-    fn answer_in_probe(&mut self, rounds: &mut Rounds, depth: u32) -> Result<(), AllocError>
+    fn answer_in_probe(&mut self, rounds: &mut Rounds, depth: u32)
         ensures { probes rounds.new ≡ probes rounds.old }
     {
-        self.print(None, Ok(Answer::One(Item::Done)))?;
+        self.print_done();
         for _ in 0..u64::MAX {
-            let Some(row) = self.next_row()? else {
+            let Some(row) = self.next_row() else {
                 break;
             };
             if row.verb == "end" {
                 break;
             }
             if row.verb == "probe" && depth > 0 {
-                self.probe(rounds, row, depth - 1)?;
+                self.probe(rounds, row, depth - 1);
             } else {
-                let outcome = self.ask_by_names(rounds, row);
-                self.print(Some(rounds.cx()), outcome)?;
+                self.evaluate_by_names(rounds, row);
             }
         }
-        Ok(())
+    }
+
+    /// Answers a row each of whose operands is a name.
+    fn evaluate_by_names(&mut self, rounds: &mut Rounds, row: Row<'a>)
+        ensures { probes rounds.new ≡ probes rounds.old }
+    {
+        let outcome = self.ask_by_names(rounds, row);
+        if self.print(Some(rounds.cx()), outcome) {
+            let _ = self.ask_by_names(rounds, row);
+        }
     }
 }

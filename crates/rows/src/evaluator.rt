@@ -8,11 +8,11 @@ use crate::eval::Operands;
 use crate::ir::bugs;
 use crate::merging::{certainty, responded, sure};
 use crate::objects;
+use crate::lookups::listed;
 use crate::parts::{NodeSort, Part, Table, make_in, sort_at};
 use crate::reader::{Reader, kinds};
-use crate::refusals::Failure;
+use crate::refusals::Refusal;
 use crate::rows::Row;
-use crate::structures::clauses;
 use crate::typed::{arg_at, args_at, clause_at, env_at, ty_at};
 use candidate_eval::eval::ambiguity::{bail_with_ambiguity, flounder};
 use candidate_eval::eval::certainty::Certainty;
@@ -79,13 +79,13 @@ fn variable_kind(word: &str) -> Option<VariableKind> {
 }
 
 /// Asks for the mode, for variables and placeholders, and puts off faults.
-fn state(alloc: Global, rounds: &mut Rounds, row: Row<'_>) -> Result<Answer, Failure>
+fn state(alloc: Global, rounds: &mut Rounds, row: Row<'_>) -> Result<Answer, Refusal>
     ensures { probes rounds.new ≡ probes rounds.old }
 {
     let item = match row.verb {
         "mode" => Item::Word(mode_word(EvalCtxt::typing_mode(rounds))),
         "root" => {
-            let kind = variable_kind(row.first).ok_or(Failure::Condition)?;
+            let kind = variable_kind(row.first).ok_or(Refusal::Condition)?;
             Item::Node(rounds.new_root_var(kind)?.number())
         }
         "fresh" => {
@@ -111,25 +111,25 @@ fn state(alloc: Global, rounds: &mut Rounds, row: Row<'_>) -> Result<Answer, Fai
 }
 
 /// Asks how sure what is pending is, and for responses.
-fn respond(alloc: Global, rounds: &mut Rounds, row: Row<'_>) -> Result<Answer, Failure>
+fn respond(alloc: Global, rounds: &mut Rounds, row: Row<'_>) -> Result<Answer, Refusal>
     ensures { probes rounds.new ≡ probes rounds.old }
 {
     let asked = certainty(row.first).unwrap_or(Certainty::Yes);
     let response = match row.verb {
         "settle" => {
             let settled = EvalCtxt::try_evaluate_added_goals(rounds)?;
-            return Ok(sure(alloc, settled)?);
+            return sure(alloc, settled);
         }
         "bail" => bail_with_ambiguity(rounds)?,
         "flounder" => flounder(rounds, &[])?,
         "response" => rounds.make_canonical_response(alloc, asked)?,
         _ => EvalCtxt::evaluate_added_goals_and_make_canonical_response(rounds, asked)?,
     };
-    Ok(responded(alloc, &response)?)
+    responded(alloc, &response)
 }
 
 /// The node with all values put in.
-fn resolve(rounds: &mut Rounds, number: u32) -> Result<Answer, Failure>
+fn resolve(rounds: &mut Rounds, number: u32) -> Result<Answer, Refusal>
     ensures { probes rounds.new ≡ probes rounds.old }
 {
     let resolved = match sort_at(rounds.cx(), number) {
@@ -138,13 +138,13 @@ fn resolve(rounds: &mut Rounds, number: u32) -> Result<Answer, Failure>
         Some(NodeSort::Args) => EvalCtxt::resolve_args_if_possible(rounds, Args(number))?.0,
         Some(NodeSort::Clause) => EvalCtxt::resolve_clause_if_possible(rounds, Clause(number))?.0,
         Some(NodeSort::Region) => EvalCtxt::eager_resolve_region(rounds, Region(number)).0,
-        _ => return Err(Failure::Condition),
+        _ => return Err(Refusal::Condition),
     };
     Ok(Answer::One(Item::Node(resolved)))
 }
 
 /// The type or the constant in normal form.
-fn normalize(rounds: &mut Rounds, of: Operands) -> Result<Answer, Failure>
+fn normalize(rounds: &mut Rounds, of: Operands) -> Result<Answer, Refusal>
     ensures { probes rounds.new ≡ probes rounds.old }
 {
     let (env, number) = (env_at(rounds.cx(), of.left)?, of.right);
@@ -153,13 +153,13 @@ fn normalize(rounds: &mut Rounds, of: Operands) -> Result<Answer, Failure>
         Some(NodeSort::Const) => {
             EvalCtxt::structurally_normalize_const(rounds, env, Const(number))?.0
         }
-        _ => return Err(Failure::Condition),
+        _ => return Err(Refusal::Condition),
     };
     Ok(Answer::One(Item::Node(normal)))
 }
 
 /// The opaque types that may be hidden behind the type.
-fn hidden(alloc: Global, rounds: &mut Rounds, number: u32) -> Result<Answer, Failure>
+fn hidden(alloc: Global, rounds: &mut Rounds, number: u32) -> Result<Answer, Refusal>
     ensures { probes rounds.new ≡ probes rounds.old }
 {
     let ty = ty_at(rounds.cx(), number)?;
@@ -171,7 +171,7 @@ fn hidden(alloc: Global, rounds: &mut Rounds, number: u32) -> Result<Answer, Fai
 }
 
 /// Makes both sides equal.
-fn equate(alloc: Global, rounds: &mut Rounds, row: Row<'_>, of: Operands) -> Result<Answer, Failure>
+fn equate(alloc: Global, rounds: &mut Rounds, row: Row<'_>, of: Operands) -> Result<Answer, Refusal>
     ensures { probes rounds.new ≡ probes rounds.old }
 {
     let env = env_at(rounds.cx(), of.left)?;
@@ -195,7 +195,7 @@ fn equate(alloc: Global, rounds: &mut Rounds, row: Row<'_>, of: Operands) -> Res
 }
 
 /// The constraints of regions that are recorded where both sides are equal.
-fn recorded(alloc: Global, rounds: &mut Rounds, left: u32, right: u32) -> Result<Answer, Failure>
+fn recorded(alloc: Global, rounds: &mut Rounds, left: u32, right: u32) -> Result<Answer, Refusal>
     ensures { probes rounds.new ≡ probes rounds.old }
 {
     let env = rounds.mk_param_env(&[])?;
@@ -203,11 +203,11 @@ fn recorded(alloc: Global, rounds: &mut Rounds, left: u32, right: u32) -> Result
     let right = arg_at(rounds.cx(), right)?;
     EvalCtxt::eq(rounds, env, left, right)?;
     let response = rounds.make_canonical_response(alloc, Certainty::Yes)?;
-    Ok(clauses(alloc, response.regions.as_slice())?)
+    listed(alloc, response.regions.as_slice())
 }
 
 /// The same, in a probe.
-fn equal(alloc: Global, rounds: &mut Rounds, left: u32, right: u32) -> Result<Answer, Failure>
+fn equal(alloc: Global, rounds: &mut Rounds, left: u32, right: u32) -> Result<Answer, Refusal>
     ensures { probes rounds.new ≡ probes rounds.old }
 {
     let probe = EvalCtxt::begin_probe(rounds, ProbeKind::Kept)?;
@@ -218,13 +218,13 @@ fn equal(alloc: Global, rounds: &mut Rounds, left: u32, right: u32) -> Result<An
 }
 
 /// The goal becomes pending, or two goals do, or none.
-fn add(rounds: &mut Rounds, row: Row<'_>, of: Operands) -> Result<Answer, Failure>
+fn add(rounds: &mut Rounds, row: Row<'_>, of: Operands) -> Result<Answer, Refusal>
     ensures { probes rounds.new ≡ probes rounds.old }
 {
     let source = match row.first {
         "misc" => GoalSource::Misc,
         "where" => GoalSource::ImplWhereBound,
-        word => return Err(Failure::Condition),
+        word => return Err(Refusal::Condition),
     };
     let param_env = env_at(rounds.cx(), of.left)?;
     if row.right.is_empty() {
@@ -255,7 +255,7 @@ pub fn answer(
     rounds: &mut Rounds,
     row: Row<'_>,
     of: Operands,
-) -> Result<Answer, Failure>
+) -> Result<Answer, Refusal>
     ensures { probes rounds.new ≡ probes rounds.old }
 {
     let alloc = reader.alloc;

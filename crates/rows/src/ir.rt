@@ -7,7 +7,7 @@ ghost use Rattle.candidate_ir.specs.Words.{IsVars, IsPreds};
 
 use crate::answers::{Answer, Item};
 use crate::leaves::number_in;
-use crate::lookups::{clause_items, held, impl_items, said_of};
+use crate::lookups::{held, listed, said_of};
 use crate::parts::{NodeSort, Part, is_at, make, sort_at};
 use crate::reader::Reader;
 use crate::refusals::Refusal;
@@ -79,9 +79,9 @@ fn have_arguments(cx: &Cx, value: Value, list: u32) -> Option<bool> {
 }
 
 /// The value with the list's arguments in the place of its parameters.
-fn substituted(alloc: Global, cx: &mut Cx, value: Value, list: u32) -> Result<Option<Item>, Stop> {
+fn substituted(alloc: Global, cx: &mut Cx, value: Value, list: u32) -> Result<Answer, Refusal> {
     if !is_at(cx, list, NodeSort::Args) {
-        return Ok(None);
+        return Err(Refusal::Condition);
     }
     let (a, args) = (value.node(), Args(list));
     let number = match (sort_at(cx, a), value) {
@@ -103,11 +103,11 @@ fn substituted(alloc: Global, cx: &mut Cx, value: Value, list: u32) -> Result<Op
         (None, Value::Reference(of))
             if is_at(cx, of.args.0, NodeSort::Args) && trait_ref_has_arguments(cx, of, args) => {
             let made = subst_trait_ref(alloc, cx, of, args)?;
-            return Ok(Some(Item::Reference(made)));
+            return Ok(Answer::One(Item::Reference(made)));
         }
-        _ => return Ok(None),
+        _ => return Err(Refusal::Condition),
     };
-    Ok(Some(Item::Node(number)))
+    Ok(Answer::One(Item::Node(number)))
 }
 
 /// What a fold of that way puts in the place of an argument under so many binders. By `parameters` it is a byte for each parameter,
@@ -146,7 +146,7 @@ fn folded(
     value: Value,
     way: &str,
     as_arg: bool,
-) -> Result<Option<Item>, Stop> {
+) -> Result<Answer, Refusal> {
     let ask = |cx: &mut Cx, arg: GenericArg, binders: u32| -> Result<Option<GenericArg>, Stop>
         requires { IsArg cx.old.trees arg }
         ensures grows { Grows cx.old cx.new }
@@ -154,10 +154,10 @@ fn folded(
     { replaced(cx, arg, binders, way) };
     if let Value::Reference(reference) = value {
         if !is_at(cx, reference.args.0, NodeSort::Args) {
-            return Ok(None);
+            return Err(Refusal::Condition);
         }
         let made = fold_trait_ref(alloc, cx, reference, ask)?;
-        return Ok(Some(Item::Reference(made)));
+        return Ok(Answer::One(Item::Reference(made)));
     }
     let a = value.node();
     let number = match sort_at(cx, a) {
@@ -168,17 +168,14 @@ fn folded(
         Some(NodeSort::Args) => fold_args(alloc, cx, Args(a), ask)?.0,
         Some(NodeSort::Clause) => fold_clause(alloc, cx, Clause(a), ask)?.0,
         Some(NodeSort::Env) => fold_env(alloc, cx, ParamEnv(a), ask)?.0,
-        _ => return Ok(None),
+        _ => return Err(Refusal::Condition),
     };
-    Ok(Some(Item::Node(number)))
+    Ok(Answer::One(Item::Node(number)))
 }
 
 /// The node as it is read, made again; of a list, where it is asked so, as one that the context keeps.
-fn again(alloc: Global, cx: &mut Cx, a: u32, whole: bool) -> Result<Option<Item>, Stop> {
-    let Some(sort) = sort_at(cx, a) else {
-        return Ok(None);
-    };
-    let part = match sort {
+fn again(alloc: Global, cx: &mut Cx, a: u32, whole: bool) -> Result<Answer, Refusal> {
+    let part = match sort_at(cx, a).ok_or(Refusal::Condition)? {
         NodeSort::Ty => Part::Ty(cx.kind(Ty(a))),
         NodeSort::Const => Part::Const(cx.const_kind(Const(a))),
         NodeSort::Region => Part::Region(cx.region_kind(Region(a))),
@@ -186,13 +183,13 @@ fn again(alloc: Global, cx: &mut Cx, a: u32, whole: bool) -> Result<Option<Item>
         NodeSort::Clause => Part::Clause(cx.clause(Clause(a))),
         NodeSort::Args if whole => {
             let list = cx.args(Args(a)).to_vec(alloc)?;
-            return Ok(Some(Item::Node(cx.mk_arg_list(list)?.0)));
+            return Ok(Answer::One(Item::Node(cx.mk_arg_list(list)?.0)));
         }
         NodeSort::Args => Part::Args(cx.args(Args(a)).to_vec(alloc)?),
         NodeSort::Env => Part::Env(cx.param_env(ParamEnv(a)).to_vec(alloc)?),
         NodeSort::Vars => Part::Vars(kinds_of(alloc, cx, Vars(a))?),
         NodeSort::Preds => Part::Preds(bounds_of(alloc, cx, Preds(a))?),
-        NodeSort::Pred | NodeSort::Var => return Ok(None),
+        NodeSort::Pred | NodeSort::Var => return Err(Refusal::Condition),
     };
     made(cx, &part)
 }
@@ -228,10 +225,10 @@ fn bounds_of(
 }
 
 /// The node of the part, made.
-fn made(cx: &mut Cx, part: &Part) -> Result<Option<Item>, Stop> {
+fn made(cx: &mut Cx, part: &Part) -> Result<Answer, Refusal> {
     match make(cx, part)? {
-        Some(number) => Ok(Some(Item::Node(number))),
-        None => Ok(None),
+        Some(number) => Ok(Answer::One(Item::Node(number))),
+        None => Err(Refusal::Condition),
     }
 }
 
@@ -288,9 +285,9 @@ fn has(cx: &Cx, a: u32, word: &str) -> Option<bool> {
 }
 
 /// The words of the type's flags, and those of all flags of a sort where it has them.
-fn flags(alloc: Global, cx: &Cx, a: u32) -> Result<Option<Vec<Item>>, Stop> {
+fn flags(alloc: Global, cx: &Cx, a: u32) -> Result<Answer, Refusal> {
     if !is_at(cx, a, NodeSort::Ty) {
-        return Ok(None);
+        return Err(Refusal::Condition);
     }
     let flags = cx.flags(Ty(a)).0;
     let mut items = Vec::new(alloc);
@@ -299,11 +296,11 @@ fn flags(alloc: Global, cx: &Cx, a: u32) -> Result<Option<Vec<Item>>, Stop> {
             items.push(Item::Word(word))?;
         }
     }
-    Ok(Some(items))
+    Ok(Answer::List(items))
 }
 
-/// What is said of one node; the number is a variable's, a universe or a place.
-fn said(cx: &Cx, verb: &str, a: u32, number: u32) -> Option<Item> {
+/// What is said of a node by its sort.
+fn said_by_sort(cx: &Cx, verb: &str, a: u32) -> Option<Item> {
     let item = match (verb, sort_at(cx, a)?) {
         ("sort", NodeSort::Ty) => {
             let kind = cx.kind(Ty(a));
@@ -318,16 +315,44 @@ fn said(cx: &Cx, verb: &str, a: u32, number: u32) -> Option<Item> {
         ("escapes", NodeSort::Args) => Item::Truth(cx.args_have_escaping_bound_vars(Args(a))),
         ("escapes", NodeSort::Clause) => Item::Truth(cx.clause_has_escaping_bound_vars(Clause(a))),
         ("principal", NodeSort::Preds) => Item::Definition(cx.principal(Preds(a))?.0),
-        ("head", _) => Item::Head(cx.head(a)),
-        ("binders", _) => Item::Count(cx.head(a).binders() as usize),
-        ("child", _) => Item::Node(cx.child(a, number as usize)?),
-        ("mentions", _) => Item::Truth(cx.mentions(cx.argument(a)?, number)),
-        ("above", _) => Item::Truth(cx.has_placeholder_above(cx.argument(a)?, number)),
-        ("arg_escapes", _) => Item::Truth(cx.arg_has_escaping_bound_vars(cx.argument(a)?)),
-        ("variable", _) => Item::Count(cx.variable_number(cx.argument(a)?)? as usize),
         _ => return None,
     };
     Some(item)
+}
+
+/// What is said of a type, a constant or a region as an argument; the number is a variable's, or a universe.
+fn said_of_argument(cx: &Cx, verb: &str, arg: GenericArg, number: u32) -> Option<Item>
+    requires { IsArg cx.now.trees arg }
+{
+    match verb {
+        "mentions" => Some(Item::Truth(cx.mentions(arg, number))),
+        "above" => Some(Item::Truth(cx.has_placeholder_above(arg, number))),
+        "arg_escapes" => Some(Item::Truth(cx.arg_has_escaping_bound_vars(arg))),
+        "variable" => match cx.variable_number(arg) {
+            Some(variable) => Some(Item::Count(variable as usize)),
+            None => None,
+        },
+        _ => None,
+    }
+}
+
+/// What is said of one node; the number is a variable's, a universe or a place.
+fn said(cx: &Cx, verb: &str, a: u32, number: u32) -> Option<Item>
+    requires { a < length cx.now.trees }
+{
+    match verb {
+        "head" => Some(Item::Head(cx.head(a))),
+        "binders" => Some(Item::Count(cx.head(a).binders() as usize)),
+        "child" => match cx.child(a, number as usize) {
+            Some(child) => Some(Item::Node(child)),
+            None => None,
+        },
+        "sort" | "escapes" | "principal" => said_by_sort(cx, verb, a),
+        _ => match cx.argument(a) {
+            Some(arg) => said_of_argument(cx, verb, arg, number),
+            None => None,
+        },
+    }
 }
 
 /// Letters that say of each member whether the node is equal to it, or may be.
@@ -368,40 +393,26 @@ fn said_of_value(cx: &Cx, verb: &str, value: Value) -> Option<bool> {
     }
 }
 
-/// What follows from the clause, by the verb.
+/// What follows from the clause, by the verb: clauses, or the traits of its supertraits; or how many variables its binder has.
 fn following(
     alloc: Global,
     cx: &mut Cx,
     verb: &str,
-    clause: u32,
-) -> Result<Option<Vec<Item>>, Stop> {
-    if !is_at(cx, clause, NodeSort::Clause) {
-        return Ok(None);
+    number: u32,
+) -> Result<Answer, Refusal> {
+    if !is_at(cx, number, NodeSort::Clause) {
+        return Err(Refusal::Condition);
     }
-    let list = match verb {
-        "elaborate" => elaborate(alloc, cx, &[Clause(clause)])?,
-        _ => supertraits(alloc, cx, Clause(clause))?,
-    };
-    Ok(Some(clause_items(alloc, list.as_slice())?))
-}
-
-/// The traits of the supertraits of the clause.
-fn supertrait_items(alloc: Global, cx: &mut Cx, clause: u32) -> Result<Option<Vec<Item>>, Stop> {
-    if !is_at(cx, clause, NodeSort::Clause) {
-        return Ok(None);
+    let clause = Clause(number);
+    match verb {
+        "elaborate" => listed(alloc, elaborate(alloc, cx, &[clause])?.as_slice()),
+        "supertraits" => listed(alloc, supertraits(alloc, cx, clause)?.as_slice()),
+        "ids" => listed(alloc, supertrait_def_ids(alloc, cx, clause)?.as_slice()),
+        _ => {
+            let kinds = binder_kinds(alloc, cx, clause)?;
+            Ok(Answer::One(Item::Count(kinds.len())))
+        }
     }
-    let list = supertrait_def_ids(alloc, cx, Clause(clause))?;
-    let items = list.iter().map(|id| Item::Definition(id.0));
-    Ok(Some(items.collect(alloc)?))
-}
-
-/// How many variables the clause's binder has.
-fn width(alloc: Global, cx: &Cx, clause: u32) -> Result<Option<Item>, Stop> {
-    if !is_at(cx, clause, NodeSort::Clause) {
-        return Ok(None);
-    }
-    let kinds = binder_kinds(alloc, cx, Clause(clause))?;
-    Ok(Some(Item::Count(kinds.len())))
 }
 
 /// The clause out of its binder, with the list's values in the place of its variables; or what it says as a super clause of the list,
@@ -412,31 +423,33 @@ fn instance(
     vars: Option<u32>,
     list: u32,
     clause: u32,
-) -> Result<Option<Item>, Stop> {
+) -> Result<Answer, Refusal> {
     if !is_at(cx, list, NodeSort::Args) || !is_at(cx, clause, NodeSort::Clause) {
-        return Ok(None);
+        return Err(Refusal::Condition);
     }
     let (args, of) = (Args(list), Clause(clause));
     let Some(vars) = vars else {
-        return Ok(Some(Item::Node(open_clause(alloc, cx, of, args)?.0)));
+        let opened = open_clause(alloc, cx, of, args)?;
+        return Ok(Answer::One(Item::Node(opened.0)));
     };
     if !is_at(cx, vars, NodeSort::Vars) || !clause_has_arguments(cx, of, args) {
-        return Ok(None);
+        return Err(Refusal::Condition);
     }
     let said = implied(alloc, cx, Vars(vars), args, of)?;
-    Ok(Some(Item::Node(said.0)))
+    Ok(Answer::One(Item::Node(said.0)))
 }
 
 /// The impls of the trait that may be for the type, or where no type is said, those that are for any.
-fn impls(alloc: Global, cx: &Cx, of: u32, ty: Value) -> Result<Option<Vec<Item>>, Stop> {
+fn impls(alloc: Global, cx: &Cx, of: u32, ty: Value) -> Result<Answer, Refusal> {
+    let number = ty.node();
     let impls = match ty {
         Value::Nothing => cx.for_each_blanket_impl(TraitId(of))?,
-        _ if is_at(cx, ty.node(), NodeSort::Ty) => {
-            cx.for_each_relevant_impl(TraitId(of), Ty(ty.node()))?
+        _ if is_at(cx, number, NodeSort::Ty) => {
+            cx.for_each_relevant_impl(TraitId(of), Ty(number))?
         }
-        _ => return Ok(None),
+        _ => return Err(Refusal::Condition),
     };
-    Ok(Some(impl_items(alloc, impls.as_slice())?))
+    listed(alloc, impls.as_slice())
 }
 
 /// The faults that were put off.
@@ -449,72 +462,130 @@ pub fn bugs(alloc: Global, cx: &Cx) -> Result<String, AllocError> {
     Ok(text)
 }
 
-/// The item as an answer; where there is none, the row's condition isn't met.
-fn one<'a>(item: Result<Option<Item>, Stop>) -> Result<Answer, Refusal<'a>> {
-    match item {
-        Ok(Some(item)) => Ok(Answer::One(item)),
-        Ok(None) => Err(Refusal::Condition),
-        Err(stop) => Err(Refusal::Stop(stop)),
-    }
-}
-
-/// The same of a truth.
-fn truth<'a>(truth: Option<bool>) -> Result<Answer, Refusal<'a>> {
+/// The truth as an answer; where there is none, the row's condition isn't met.
+fn truth(truth: Option<bool>) -> Result<Answer, Refusal> {
     match truth {
         Some(truth) => Ok(Answer::One(Item::Truth(truth))),
         None => Err(Refusal::Condition),
     }
 }
 
-/// The same of a list.
-fn list<'a>(list: Result<Option<Vec<Item>>, Stop>) -> Result<Answer, Refusal<'a>> {
-    match list {
-        Ok(Some(items)) => Ok(Answer::List(items)),
-        Ok(None) => Err(Refusal::Condition),
-        Err(stop) => Err(Refusal::Stop(stop)),
+/// Whether what the row asks holds, if it is asked of nodes that it may be asked of.
+fn holds(cx: &Cx, row: Row<'_>, left: Value, right: Value) -> Option<bool> {
+    let (a, b) = (left.node(), right.node());
+    match row.verb {
+        "same" => compared(cx, None, a, b),
+        "unify" => compared(cx, Some(RightSide::Plain), a, b),
+        "header" => compared(cx, Some(RightSide::Header), a, b),
+        "has" => has(cx, a, row.first),
+        "has_arguments" => have_arguments(cx, left, b),
+        verb => said_of_value(cx, verb, left),
     }
+}
+
+/// What the row makes of its operands.
+fn changed(
+    alloc: Global,
+    cx: &mut Cx,
+    row: Row<'_>,
+    left: Value,
+    (b, third): (u32, u32),
+) -> Result<Answer, Refusal> {
+    let a = left.node();
+    match row.verb {
+        "subst" => substituted(alloc, cx, left, b),
+        "fold" => folded(alloc, cx, left, row.first, row.has("arg")),
+        "open" => instance(alloc, cx, None, b, a),
+        "implied" => instance(alloc, cx, Some(a), b, third),
+        _ => again(alloc, cx, a, row.has("whole")),
+    }
+}
+
+/// What the row asks of its first operand, and of the definition of that number.
+fn asked(
+    alloc: Global,
+    cx: &mut Cx,
+    row: Row<'_>,
+    of: u32,
+    left: Value,
+) -> Result<Answer, Refusal> {
+    let a = left.node();
+    match row.verb {
+        "show" => Ok(Answer::One(Item::Node(a))),
+        "flags" => flags(alloc, cx, a),
+        "impls" => impls(alloc, cx, of, left),
+        "elaborate" | "supertraits" | "ids" | "width" => following(alloc, cx, row.verb, a),
+        "count" | "take_back" | "delay" | "bugs" => asked_of_context(alloc, cx, row),
+        _ if row.left.is_empty() => asked_of_declarations(alloc, cx, row, of),
+        _ if (a as usize) < cx.node_count() => {
+            let item = said(cx, row.verb, a, number_in(row.first));
+            Ok(Answer::One(item.unwrap_or(Item::Nothing)))
+        }
+        _ => Ok(Answer::One(Item::Nothing)),
+    }
+}
+
+/// Nodes that are taken back, and how many there are then; a fault that is put off, and all of them.
+fn asked_of_context(alloc: Global, cx: &mut Cx, row: Row<'_>) -> Result<Answer, Refusal> {
+    match row.verb {
+        "take_back" => cx.truncate(number_in(row.first) as usize),
+        "delay" => {
+            cx.delay_bug(row.first)?;
+            return Ok(Answer::One(Item::Done));
+        }
+        "bugs" => return Ok(Answer::Text(bugs(alloc, cx)?)),
+        _ => {}
+    }
+    Ok(Answer::One(Item::Count(cx.node_count())))
+}
+
+/// What is read of the definition of that number.
+fn asked_of_declarations(
+    alloc: Global,
+    cx: &mut Cx,
+    row: Row<'_>,
+    of: u32,
+) -> Result<Answer, Refusal> {
+    if let Some(answer) = held(alloc, cx, row.verb, of) {
+        return answer;
+    }
+    if row.verb == "fn_sig" {
+        let Some(sig) = cx.fn_sig(FnId(of)) else {
+            return Ok(Answer::One(Item::Nothing));
+        };
+        let pointer = Part::Ty(TyKind::FnPtr(sig));
+        return made(cx, &pointer);
+    }
+    Ok(Answer::One(said_of(cx, row, of).unwrap_or(Item::Nothing)))
 }
 
 impl<'a> Reader<'a> {
     /// What the row answers in the context.
-    pub fn answer(&mut self, cx: &mut Cx, row: Row<'a>) -> Result<Answer, Refusal<'a>> {
-        let alloc = self.alloc;
+    pub fn answer(&mut self, cx: &mut Cx, row: Row<'a>) -> Result<Answer, Refusal> {
+        if row.verb == "let" {
+            return self.name_node(cx, row);
+        }
         let left = self.operand(cx, row.left)?;
         let right = self.operand(cx, row.right)?;
-        let third = self.operand(cx, row.third)?.node();
-        let (a, b) = (left.node(), right.node());
+        let third = self.operand(cx, row.third)?;
+        let alloc = self.alloc;
         match row.verb {
-            "let" => self.name_node(cx, row),
-            "show" => Ok(Answer::One(Item::Node(a))),
-            "same" => truth(compared(cx, None, a, b)),
-            "unify" => truth(compared(cx, Some(RightSide::Plain), a, b)),
-            "header" => truth(compared(cx, Some(RightSide::Header), a, b)),
-            "has" => truth(has(cx, a, row.first)),
-            "has_arguments" => truth(have_arguments(cx, left, b)),
-            "subst" => one(substituted(alloc, cx, left, b)),
-            "fold" => one(folded(alloc, cx, left, row.first, row.has("arg"))),
-            "open" => one(instance(alloc, cx, None, b, a)),
-            "implied" => one(instance(alloc, cx, Some(a), b, third)),
-            "flags" => list(flags(alloc, cx, a)),
-            "impls" => list(impls(alloc, cx, self.number(row.first), left)),
-            "elaborate" | "supertraits" => list(following(alloc, cx, row.verb, a)),
-            "ids" => list(supertrait_items(alloc, cx, a)),
-            "width" => one(width(alloc, cx, a)),
-            "compatible" | "fits" | "has_param" => truth(said_of_value(cx, row.verb, left)),
-            "again" => one(again(alloc, cx, a, row.has("whole"))),
-            "member" | "clear" | "each" => self.answer_of_members(cx, row, a),
-            "count" | "take_back" | "delay" | "bugs" => self.answer_of_context(cx, row),
-            _ if !row.left.is_empty() => {
-                let item = said(cx, row.verb, a, number_in(row.first));
-                Ok(Answer::One(item.unwrap_or(Item::Nothing)))
+            "member" | "clear" | "each" => self.answer_of_members(cx, row, left.node()),
+            "same" | "unify" | "header" | "has" | "has_arguments" | "compatible" | "fits"
+            | "has_param" => truth(holds(cx, row, left, right)),
+            "subst" | "fold" | "open" | "implied" | "again" => {
+                changed(alloc, cx, row, left, (right.node(), third.node()))
             }
-            _ => self.answer_of_declarations(cx, row),
+            _ => {
+                let of = self.number(row.first);
+                asked(alloc, cx, row, of, left)
+            }
         }
     }
 
     /// Notes the node, or forgets all; or says in letters whether the node is equal to each of those that were noted, or may be: `h`
     /// where it may be only where that is of a header.
-    fn answer_of_members(&mut self, cx: &Cx, row: Row<'a>, a: u32) -> Result<Answer, Refusal<'a>> {
+    fn answer_of_members(&mut self, cx: &Cx, row: Row<'a>, a: u32) -> Result<Answer, Refusal> {
         match row.verb {
             "member" => self.members.push(a)?,
             "clear" => self.members.clear(),
@@ -524,35 +595,5 @@ impl<'a> Reader<'a> {
             }
         }
         Ok(Answer::One(Item::Count(self.members.len())))
-    }
-
-    /// Nodes that are taken back, and how many there are then; a fault that is put off, and all of them.
-    fn answer_of_context(&mut self, cx: &mut Cx, row: Row<'a>) -> Result<Answer, Refusal<'a>> {
-        match row.verb {
-            "take_back" => cx.truncate(number_in(row.first) as usize),
-            "delay" => {
-                cx.delay_bug(row.first)?;
-                return Ok(Answer::One(Item::Done));
-            }
-            "bugs" => return Ok(Answer::Text(bugs(self.alloc, cx)?)),
-            _ => {}
-        }
-        Ok(Answer::One(Item::Count(cx.node_count())))
-    }
-
-    /// What is read of the definition that the row names.
-    fn answer_of_declarations(&mut self, cx: &mut Cx, row: Row<'a>) -> Result<Answer, Refusal<'a>> {
-        let of = self.number(row.first);
-        if let Some(items) = held(self.alloc, cx, row.verb, of) {
-            return Ok(Answer::List(items?));
-        }
-        if row.verb == "fn_sig" {
-            let Some(sig) = cx.fn_sig(FnId(of)) else {
-                return Ok(Answer::One(Item::Nothing));
-            };
-            let pointer = Part::Ty(TyKind::FnPtr(sig));
-            return one(made(cx, &pointer));
-        }
-        Ok(Answer::One(said_of(cx, row, of).unwrap_or(Item::Nothing)))
     }
 }

@@ -30,6 +30,9 @@ const TYPES: [(&str, TyKind); 21] = [
     ("f128", TyKind::Float(FloatTy::F128)),
 ];
 
+/// What stands before the numbers of leaves.
+const MARKS: [char; 8] = ['#', '\'', 'p', '^', '!', '?', 'i', 'f'];
+
 /// The number of the digits, or that of nothing.
 pub fn number_in(digits: &str) -> u32 {
     digits.parse::<u32>().unwrap_or(u32::MAX)
@@ -52,7 +55,10 @@ pub fn leaf(word: &str) -> Option<Part> {
 
 /// The leaf whose word is a mark and a number, or two numbers with a point between them.
 fn marked(word: &str) -> Option<Part> {
-    let digits = word.trim_start_matches(|sign: char| !sign.is_ascii_digit());
+    let digits = word.trim_start_matches(MARKS);
+    if !digits.bytes().next()?.is_ascii_digit() {
+        return None;
+    }
     let mark = word.strip_suffix(digits)?;
     if mark == "#" {
         return Some(Part::Const(ConstKind::Value(digits.parse().ok()?)));

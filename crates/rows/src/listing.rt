@@ -6,27 +6,27 @@ ghost use Rattle.candidate_ir.specs.Words.{IsTy, ty_tree};
 ghost use Rattle.candidate_rounds.specs.Known.{IsGiven};
 ghost use Rattle.rows.specs.Listed.{number_tree, out_tree};
 
-use crate::refusals::Failure;
+use crate::refusals::Refusal;
 use candidate_ir::decl::context::Cx;
 use candidate_ir::ir::kinds::{AliasTy, AssocId, GenericArg, Ty, TyKind, UintTy};
 use std::alloc::Global;
 
 /// A number's type, by its tree.
-fn number(cx: &mut Cx, width: UintTy) -> Result<Ty, Failure>
+fn number(cx: &mut Cx, width: UintTy) -> Result<Ty, Refusal>
     ensures grows { Grows cx.old cx.new }
     ensures sort { IfOk result (λ t. IsTy cx.new.trees t) }
     ensures tree { IfOk result (λ t. ty_tree cx.new.trees t ≡ number_tree width) }
 {
     let kind = TyKind::Uint(width);
     if !cx.args_fit(kind) {
-        return Err(Failure::Condition);
+        return Err(Refusal::Condition);
     }
     let made = cx.mk_ty(kind)?;
     Ok(made)
 }
 
 /// The associated type of a type, by its tree.
-fn projection(cx: &mut Cx, of: AssocId, ty: Ty) -> Result<Ty, Failure>
+fn projection(cx: &mut Cx, of: AssocId, ty: Ty) -> Result<Ty, Refusal>
     requires { IsTy cx.old.trees ty }
     ensures grows { Grows cx.old cx.new }
     ensures sort { IfOk result (λ t. IsTy cx.new.trees t) }
@@ -35,14 +35,14 @@ fn projection(cx: &mut Cx, of: AssocId, ty: Ty) -> Result<Ty, Failure>
     let args = cx.mk_args(&[GenericArg::Ty(ty)])?;
     let kind = TyKind::Alias(AliasTy::projection(of, args));
     if !cx.args_fit(kind) {
-        return Err(Failure::Condition);
+        return Err(Refusal::Condition);
     }
     let made = cx.mk_ty(kind)?;
     Ok(made)
 }
 
 /// The associated type of a number's type.
-fn projection_of_number(cx: &mut Cx, of: AssocId, width: UintTy) -> Result<Ty, Failure>
+fn projection_of_number(cx: &mut Cx, of: AssocId, width: UintTy) -> Result<Ty, Refusal>
     ensures grows { Grows cx.old cx.new }
     ensures sort { IfOk result (λ t. IsTy cx.new.trees t) }
     ensures tree { IfOk result (λ t. ty_tree cx.new.trees t ≡ out_tree of (number_tree width)) }
@@ -52,7 +52,7 @@ fn projection_of_number(cx: &mut Cx, of: AssocId, width: UintTy) -> Result<Ty, F
 }
 
 /// Those pairs.
-pub fn listed(alloc: Global, cx: &mut Cx, of: AssocId) -> Result<Vec<(Ty, Ty)>, Failure>
+pub fn listed(alloc: Global, cx: &mut Cx, of: AssocId) -> Result<Vec<(Ty, Ty)>, Refusal>
     ensures { IfOk result (λ v. IsGiven cx.new.trees v.items []) }
 {
     let of_byte = projection_of_number(cx, of, UintTy::U8)?;

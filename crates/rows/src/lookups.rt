@@ -1,61 +1,81 @@
 //! What contexts say of definitions.
 
-use crate::answers::Item;
+use crate::answers::{Answer, Item};
 use crate::declaring::{lang_item, sizedness};
+use crate::refusals::Refusal;
 use crate::rows::Row;
 use candidate_ir::decl::contents::{Destructor, ImplId, ImplPolarity};
 use candidate_ir::decl::context::Cx;
 use candidate_ir::decl::definition::{AdtFlags, AdtShape, AssocKind, FnFlags, TraitFlags};
 use candidate_ir::ir::kinds::{
-    AdtId, AliasId, AssocId, Clause, ClosureId, FnId, ForeignId, TraitId,
+    AdtId, AliasId, AssocId, Clause, ClosureId, FnId, ForeignId, TraitId, Ty,
 };
-use std::alloc::{AllocError, Global};
+use std::alloc::Global;
 
-/// The clauses' nodes.
-pub fn clause_items(alloc: Global, clauses: &[Clause]) -> Result<Vec<Item>, AllocError> {
-    let mut items = Vec::new(alloc);
-    for clause in clauses {
-        items.push(Item::Node(clause.0))?;
-    }
-    Ok(items)
+/// What stands in a list that is answered.
+pub trait Member: Copy {
+    fn item(self) -> Item;
 }
 
-/// The impls as they are answered.
-pub fn impl_items(alloc: Global, impls: &[ImplId]) -> Result<Vec<Item>, AllocError> {
-    let mut items = Vec::new(alloc);
-    for id in impls {
-        items.push(Item::Impl(*id))?;
+impl Member for Ty {
+    fn item(self) -> Item {
+        Item::Node(self.0)
     }
-    Ok(items)
+}
+
+impl Member for Clause {
+    fn item(self) -> Item {
+        Item::Node(self.0)
+    }
+}
+
+impl Member for ImplId {
+    fn item(self) -> Item {
+        Item::Impl(self)
+    }
+}
+
+impl Member for TraitId {
+    fn item(self) -> Item {
+        Item::Definition(self.0)
+    }
+}
+
+impl Member for AssocId {
+    fn item(self) -> Item {
+        Item::Definition(self.0)
+    }
+}
+
+impl Member for u32 {
+    fn item(self) -> Item {
+        Item::Count(self as usize)
+    }
+}
+
+/// The list as it is answered.
+pub fn listed<M: Member>(alloc: Global, list: &[M]) -> Result<Answer, Refusal> {
+    let mut items = Vec::new(alloc);
+    for member in list {
+        items.push(member.item())?;
+    }
+    Ok(Answer::List(items))
 }
 
 /// The list that something holds that was declared, if the verb asks for one.
-pub fn held(alloc: Global, cx: &Cx, verb: &str, of: u32) -> Option<Result<Vec<Item>, AllocError>> {
+pub fn held(alloc: Global, cx: &Cx, verb: &str, of: u32) -> Option<Result<Answer, Refusal>> {
     match verb {
-        "supers" => Some(clause_items(alloc, cx.super_clauses(TraitId(of)))),
-        "wheres" => Some(clause_items(alloc, cx.trait_where_clauses(TraitId(of)))),
-        "bounds" => Some(clause_items(alloc, cx.self_bounds(AliasId(of)))),
-        "other_bounds" => Some(clause_items(alloc, cx.non_self_bounds(AliasId(of)))),
-        "impl_wheres" => Some(clause_items(alloc, cx.impl_where_clauses(ImplId(of)))),
-        "impl_super_outlives" => Some(clause_items(alloc, cx.impl_super_outlives(ImplId(of)))),
-        "impls_of" => Some(impl_items(alloc, cx.impls_of(TraitId(of)))),
-        "specialized" => Some(impl_items(alloc, cx.specialized_impls(ImplId(of)))),
-        "fields" => {
-            let fields = cx.fields(AdtId(of)).iter();
-            Some(fields.map(|ty| Item::Node(ty.0)).collect(alloc))
-        }
-        "items" => {
-            let items = cx.associated_items(TraitId(of)).iter();
-            Some(items.map(|id| Item::Definition(id.0)).collect(alloc))
-        }
-        "unsizing" => {
-            let numbers = cx.unsizing_parameters(AdtId(of)).iter();
-            Some(
-                numbers
-                    .map(|number| Item::Count(*number as usize))
-                    .collect(alloc),
-            )
-        }
+        "supers" => Some(listed(alloc, cx.super_clauses(TraitId(of)))),
+        "wheres" => Some(listed(alloc, cx.trait_where_clauses(TraitId(of)))),
+        "bounds" => Some(listed(alloc, cx.self_bounds(AliasId(of)))),
+        "other_bounds" => Some(listed(alloc, cx.non_self_bounds(AliasId(of)))),
+        "impl_wheres" => Some(listed(alloc, cx.impl_where_clauses(ImplId(of)))),
+        "impl_super_outlives" => Some(listed(alloc, cx.impl_super_outlives(ImplId(of)))),
+        "impls_of" => Some(listed(alloc, cx.impls_of(TraitId(of)))),
+        "specialized" => Some(listed(alloc, cx.specialized_impls(ImplId(of)))),
+        "fields" => Some(listed(alloc, cx.fields(AdtId(of)))),
+        "items" => Some(listed(alloc, cx.associated_items(TraitId(of)))),
+        "unsizing" => Some(listed(alloc, cx.unsizing_parameters(AdtId(of)))),
         _ => None,
     }
 }
@@ -103,6 +123,46 @@ fn flag(cx: &Cx, row: Row<'_>, of: u32) -> Option<bool> {
     }
 }
 
+/// The word of what a definition or impl is, if the verb asks for one.
+fn word_of(cx: &Cx, verb: &str, of: u32) -> Option<&'static str> {
+    match verb {
+        "destructor" => match cx.destructor(AdtId(of))? {
+            Destructor::Const => Some("const"),
+            Destructor::NotConst => Some("not_const"),
+        },
+        "shape" => match cx.adt_shape(AdtId(of))? {
+            AdtShape::Struct => Some("struct"),
+            AdtShape::Enum => Some("enum"),
+            AdtShape::Union => Some("union"),
+        },
+        "item_kind" => match cx.assoc_kind(AssocId(of))? {
+            AssocKind::Type => Some("type"),
+            AssocKind::Const => Some("const"),
+        },
+        "polarity" => match cx.impl_polarity(ImplId(of))? {
+            ImplPolarity::Positive => Some("positive"),
+            ImplPolarity::Negative => Some("negative"),
+            ImplPolarity::Reservation => Some("reservation"),
+        },
+        _ => None,
+    }
+}
+
+/// Whether it holds of the definition or impl, if the verb asks that.
+fn truth_of(cx: &Cx, row: Row<'_>, of: u32) -> Option<bool> {
+    match row.verb {
+        "needs_sized" => Some(cx.requires_sized_self(AssocId(of))),
+        "is_default" => Some(cx.impl_is_default(ImplId(of))),
+        "is_const_closure" => Some(cx.closure_is_const(ClosureId(of))),
+        "adt_is_local" => Some(cx.adt_is_local(AdtId(of))),
+        "adt_is_fundamental" => Some(cx.adt_is_fundamental(AdtId(of))),
+        "foreign_is_local" => Some(cx.foreign_is_local(ForeignId(of))),
+        "trait_is_local" => Some(cx.trait_is_local(TraitId(of))),
+        "trait_is_fundamental" => Some(cx.trait_is_fundamental(TraitId(of))),
+        _ => flag(cx, row, of),
+    }
+}
+
 /// What is said of the definition or impl, if there is something that the verb asks for.
 pub fn said_of(cx: &Cx, row: Row<'_>, of: u32) -> Option<Item> {
     let item = match row.verb {
@@ -111,33 +171,10 @@ pub fn said_of(cx: &Cx, row: Row<'_>, of: u32) -> Option<Item> {
         "item_trait" => Item::Definition(cx.assoc_trait(AssocId(of))?.0),
         "impl_ref" => Item::Reference(cx.impl_trait_ref(ImplId(of))?),
         "lang_item" => Item::Definition(cx.lang_item(lang_item(row.first))?.0),
-        "destructor" => Item::Word(match cx.destructor(AdtId(of))? {
-            Destructor::Const => "const",
-            Destructor::NotConst => "not_const",
-        }),
-        "shape" => Item::Word(match cx.adt_shape(AdtId(of))? {
-            AdtShape::Struct => "struct",
-            AdtShape::Enum => "enum",
-            AdtShape::Union => "union",
-        }),
-        "item_kind" => Item::Word(match cx.assoc_kind(AssocId(of))? {
-            AssocKind::Type => "type",
-            AssocKind::Const => "const",
-        }),
-        "polarity" => Item::Word(match cx.impl_polarity(ImplId(of))? {
-            ImplPolarity::Positive => "positive",
-            ImplPolarity::Negative => "negative",
-            ImplPolarity::Reservation => "reservation",
-        }),
-        "needs_sized" => Item::Truth(cx.requires_sized_self(AssocId(of))),
-        "is_default" => Item::Truth(cx.impl_is_default(ImplId(of))),
-        "is_const_closure" => Item::Truth(cx.closure_is_const(ClosureId(of))),
-        "adt_is_local" => Item::Truth(cx.adt_is_local(AdtId(of))),
-        "adt_is_fundamental" => Item::Truth(cx.adt_is_fundamental(AdtId(of))),
-        "foreign_is_local" => Item::Truth(cx.foreign_is_local(ForeignId(of))),
-        "trait_is_local" => Item::Truth(cx.trait_is_local(TraitId(of))),
-        "trait_is_fundamental" => Item::Truth(cx.trait_is_fundamental(TraitId(of))),
-        _ => Item::Truth(flag(cx, row, of)?),
+        verb => match word_of(cx, verb, of) {
+            Some(word) => Item::Word(word),
+            None => Item::Truth(truth_of(cx, row, of)?),
+        },
     };
     Some(item)
 }

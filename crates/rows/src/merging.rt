@@ -6,7 +6,7 @@ ghost use Rattle.candidate_eval.specs.ResponseTrees.{AreCandidates, IsResponse};
 
 use crate::answers::{Answer, Item};
 use crate::eval::Operands;
-use crate::refusals::Failure;
+use crate::refusals::Refusal;
 use crate::rows::Row;
 use crate::typed::args_at;
 use candidate_eval::eval::certainty::{Certainty, MaybeCause, MaybeInfo, OpaqueTypesJank};
@@ -68,17 +68,17 @@ pub fn push_certainty(items: &mut Vec<Item>, certainty: Certainty) -> Result<(),
 }
 
 /// How sure something is.
-pub fn sure(alloc: Global, certainty: Certainty) -> Result<Answer, AllocError> {
+pub fn sure(alloc: Global, certainty: Certainty) -> Result<Answer, Refusal> {
     let mut items = Vec::new(alloc);
     push_certainty(&mut items, certainty)?;
     Ok(Answer::Row(items))
 }
 
 /// How sure two answers are together.
-pub fn both(alloc: Global, row: Row<'_>) -> Result<Answer, Failure> {
+pub fn both(alloc: Global, row: Row<'_>) -> Result<Answer, Refusal> {
     match (certainty(row.left), certainty(row.right)) {
-        (Some(left), Some(right)) => Ok(sure(alloc, left.and(right))?),
-        _ => Err(Failure::Condition),
+        (Some(left), Some(right)) => sure(alloc, left.and(right)),
+        _ => Err(Refusal::Condition),
     }
 }
 
@@ -94,7 +94,7 @@ fn variable_word(kind: VariableKind) -> &'static str {
 }
 
 /// How sure the response is, the list of its values, the kinds and universes of the variables that it leaves open, and its regions.
-pub fn responded(alloc: Global, response: &CanonicalResponse) -> Result<Answer, AllocError> {
+pub fn responded(alloc: Global, response: &CanonicalResponse) -> Result<Answer, Refusal> {
     let mut items = Vec::new(alloc);
     push_certainty(&mut items, response.certainty)?;
     items.push(Item::Node(response.values.0))?;
@@ -122,7 +122,7 @@ fn response(alloc: Global, values: Args, certainty: Certainty) -> CanonicalRespo
 }
 
 /// Whether a response with these values has no constraints but of regions, and whether it has none at all.
-fn constraints(alloc: Global, cx: &Cx, number: u32) -> Result<Answer, Failure> {
+fn constraints(alloc: Global, cx: &Cx, number: u32) -> Result<Answer, Refusal> {
     let values = args_at(cx, number)?;
     let response = response(alloc, values, Certainty::Yes);
     let mut items = Vec::new(alloc);
@@ -134,7 +134,7 @@ fn constraints(alloc: Global, cx: &Cx, number: u32) -> Result<Answer, Failure> {
 }
 
 /// A candidate with that response.
-fn candidate(alloc: Global, cx: &Cx, number: u32, words: &str) -> Result<Candidate, Failure>
+fn candidate(alloc: Global, cx: &Cx, number: u32, words: &str) -> Result<Candidate, Refusal>
     ensures { IfOk result (λ c. IsResponse cx.now.trees c.result) }
 {
     let values = args_at(cx, number)?;
@@ -144,12 +144,12 @@ fn candidate(alloc: Global, cx: &Cx, number: u32, words: &str) -> Result<Candida
             result: response(alloc, values, certainty),
             head_usages: CandidateHeadUsages::new(alloc),
         }),
-        None => Err(Failure::Condition),
+        None => Err(Refusal::Condition),
     }
 }
 
 /// What the candidates come to together, and why.
-fn merge(alloc: Global, cx: &Cx, candidates: &[Candidate]) -> Result<Answer, Failure>
+fn merge(alloc: Global, cx: &Cx, candidates: &[Candidate]) -> Result<Answer, Refusal>
     requires { AreCandidates cx.now.trees candidates.now }
 {
     let Some((response, info)) = try_merge_candidates(cx, candidates)? else {
@@ -169,7 +169,7 @@ fn merge(alloc: Global, cx: &Cx, candidates: &[Candidate]) -> Result<Answer, Fai
 }
 
 /// What the row asks of the lists of these numbers.
-pub fn answer(alloc: Global, cx: &Cx, row: Row<'_>, of: Operands) -> Result<Answer, Failure> {
+pub fn answer(alloc: Global, cx: &Cx, row: Row<'_>, of: Operands) -> Result<Answer, Refusal> {
     if row.verb == "constraints" {
         return constraints(alloc, cx, of.left);
     }

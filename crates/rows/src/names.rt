@@ -6,7 +6,7 @@ use candidate_ir::ir::kinds::{
 };
 
 /// What a number stands for that has a name.
-#[derive(Clone, Copy, PartialEq, Eq)]
+#[derive(Clone, Copy)]
 pub enum Sort {
     Adt,
     Foreign,

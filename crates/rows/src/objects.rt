@@ -5,11 +5,11 @@ ghost use Rattle.candidate_rounds.specs.Known.{probes};
 
 use crate::answers::{Answer, Item};
 use crate::eval::Operands;
+use crate::lookups::listed;
 use crate::parts::clause_fits;
 use crate::reader::Reader;
-use crate::refusals::Failure;
+use crate::refusals::Refusal;
 use crate::rows::Row;
-use crate::structures::clauses;
 use crate::typed::{args_at, clause_at, env_at, ty_at};
 use candidate_eval::structural::object::{
     bound_matches, instantiate_binder_with_infer, matching_bounds, pick_bound,
@@ -22,7 +22,7 @@ use candidate_rounds::rounds::Rounds;
 use std::alloc::Global;
 
 /// What an object candidate asks for, for the reference that a clause says to hold: goals, each of a clause and its environment.
-fn asked(alloc: Global, rounds: &mut Rounds, of: Operands) -> Result<Answer, Failure>
+fn asked(alloc: Global, rounds: &mut Rounds, of: Operands) -> Result<Answer, Refusal>
     ensures { probes rounds.new ≡ probes rounds.old }
 {
     let env = env_at(rounds.cx(), of.left)?;
@@ -33,7 +33,7 @@ fn asked(alloc: Global, rounds: &mut Rounds, of: Operands) -> Result<Answer, Fai
         clause.value,
         rounds.cx().kind(object),
     ) else {
-        return Err(Failure::Condition);
+        return Err(Refusal::Condition);
     };
     let (vars, trait_ref) = (clause.vars, predicate.trait_ref);
     let polarity = PredicatePolarity::Positive;
@@ -43,7 +43,7 @@ fn asked(alloc: Global, rounds: &mut Rounds, of: Operands) -> Result<Answer, Fai
     });
     let holds = Binder { vars, value };
     if !clause_fits(rounds.cx(), holds) || !rounds.cx().clause_args_fit(holds) {
-        return Err(Failure::Condition);
+        return Err(Refusal::Condition);
     }
     let value = trait_ref;
     let goals = predicates_for_object_candidate(
@@ -68,7 +68,7 @@ fn of_bounds(
     row: Row<'_>,
     def_id: AssocId,
     of: Operands,
-) -> Result<Answer, Failure>
+) -> Result<Answer, Refusal>
     ensures { probes rounds.new ≡ probes rounds.old }
 {
     let env = env_at(rounds.cx(), of.left)?;
@@ -81,7 +81,7 @@ fn of_bounds(
         return Ok(Answer::One(Item::Node(term.0)));
     }
     let found = matching_bounds(alloc, rounds, env, bounds.as_slice(), projection)?;
-    Ok(clauses(alloc, found.as_slice())?)
+    listed(alloc, found.as_slice())
 }
 
 /// Whether the bound matches the associated type of the list.
@@ -90,7 +90,7 @@ fn matches(
     rounds: &mut Rounds,
     def_id: AssocId,
     of: Operands,
-) -> Result<Answer, Failure>
+) -> Result<Answer, Refusal>
     ensures { probes rounds.new ≡ probes rounds.old }
 {
     let env = env_at(rounds.cx(), of.left)?;
@@ -107,7 +107,7 @@ pub fn answer(
     rounds: &mut Rounds,
     row: Row<'_>,
     of: Operands,
-) -> Result<Answer, Failure>
+) -> Result<Answer, Refusal>
     ensures { probes rounds.new ≡ probes rounds.old }
 {
     let alloc = reader.alloc;
@@ -123,6 +123,6 @@ pub fn answer(
     match row.verb {
         "matching" | "pick" => of_bounds(alloc, rounds, row, def_id, of),
         "matches" => matches(alloc, rounds, def_id, of),
-        verb => Err(Failure::Condition),
+        verb => Err(Refusal::Condition),
     }
 }

@@ -1,11 +1,12 @@
 //! What is to be made, and in what: while declarations are made a builder, then a context, or what is over one.
 
 ghost use Rattle.std.specs.Prelude.{◌≡◌, ◌<◌, IsTrue, IfSome, List, length};
+ghost use Rattle.candidate_ir.specs.Context.{world};
 ghost use Rattle.candidate_ir.specs.Trees.{Tree, kind_of};
 ghost use Rattle.candidate_ir.specs.Nodes.{tree_at, kind_at};
 ghost use Rattle.candidate_ir.specs.Folds.{IsArg};
-ghost use Rattle.candidate_ir.specs.Words.{KindFits, ClauseFits, PredFits, BoundsFit, AtMostOnePrincipal};
-ghost use Rattle.rows.specs.Parts.{kind_of_sort, PartFits};
+ghost use Rattle.candidate_ir.specs.Words.{KindFits, ClauseFits, PredFits, BoundsFit, AtMostOnePrincipal, ListFits, ClauseListFits};
+ghost use Rattle.rows.specs.Parts.{kind_of_sort, PartFits, PartTakes};
 
 use candidate_ir::decl::builder::DeclsBuilder;
 use candidate_ir::decl::context::Cx;
@@ -135,6 +136,7 @@ pub fn make_in<M: Make>(make: &mut M, part: &Part) -> Result<Option<u32>, Stop>
 /// Whether the arguments in the node are those that it takes.
 fn takes(cx: &Cx, part: &Part) -> bool
     requires { PartFits cx.now.trees part.now }
+    ensures { IsTrue result → PartTakes (world cx.now) cx.now.trees part.now }
 {
     match part {
         Part::Ty(kind) => cx.args_fit(*kind),
@@ -302,6 +304,22 @@ fn arg_fits<T: Table>(table: &T, arg: GenericArg) -> bool
     }
 }
 
+/// Whether all arguments are given, and of their sorts.
+#[tactic(auto, using(crate::proofs::Lists::args_listed))]
+fn args_fit<T: Table>(table: &T, list: &[GenericArg]) -> bool
+    ensures { IsTrue result → ListFits (T.trees table.now) list.now }
+{
+    list.iter().all(|arg| arg_fits(table, *arg))
+}
+
+/// Whether all clauses are given.
+#[tactic(auto, using(crate::proofs::Lists::clauses_listed))]
+fn clauses_fit<T: Table>(table: &T, list: &[Clause]) -> bool
+    ensures { IsTrue result → ClauseListFits (T.trees table.now) list.now }
+{
+    list.iter().all(|clause| is_at(table, clause.0, NodeSort::Clause))
+}
+
 /// Whether all numbers in the part are given, and of their sorts.
 fn fits<T: Table>(table: &T, part: &Part) -> bool
     ensures { IsTrue result → PartFits (T.trees table.now) part.now }
@@ -309,7 +327,7 @@ fn fits<T: Table>(table: &T, part: &Part) -> bool
     match part {
         Part::Ty(kind) => kind_fits(table, *kind),
         Part::Const(ConstKind::Unevaluated(_, list)) => is_at(table, list.0, NodeSort::Args),
-        Part::Args(list) => list.iter().all(|arg| arg_fits(table, *arg)),
+        Part::Args(list) => args_fit(table, list.as_slice()),
         Part::Preds(bounds) => bounds_fit(table, bounds.as_slice()),
         Part::Sig(sig) => {
             is_at(table, sig.vars.0, NodeSort::Vars)
@@ -317,10 +335,7 @@ fn fits<T: Table>(table: &T, part: &Part) -> bool
                 && is_at(table, sig.value.output.0, NodeSort::Ty)
         }
         Part::Clause(clause) => clause_fits(table, *clause),
-        Part::Env(list) => {
-            list.iter()
-                .all(|clause| is_at(table, clause.0, NodeSort::Clause))
-        }
+        Part::Env(list) => clauses_fit(table, list.as_slice()),
         Part::Const(_) | Part::Region(_) | Part::Vars(_) => true,
     }
 }

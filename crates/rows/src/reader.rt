@@ -4,7 +4,7 @@ use crate::answers::{Answer, Item};
 use crate::leaves::{leaf, number_in};
 use crate::names::{Name, Sort, named, over_list, sort_of};
 use crate::operators::{node_over, value_over};
-use crate::parts::{NodeSort, Part, Table, make, sort_at};
+use crate::parts::{NodeSort, Part, Table, is_at, make, sort_at};
 use crate::refusals::Refusal;
 use crate::rows::Row;
 use crate::values::{Last, Value};
@@ -58,7 +58,7 @@ impl<'a> Reader<'a> {
         &mut self,
         table: &mut T,
         row: Row<'a>,
-    ) -> Result<Answer, Refusal<'a>> {
+    ) -> Result<Answer, Refusal> {
         let number = self.operand(table, row.left)?.node();
         self.names.push(Name {
             word: row.first,
@@ -73,8 +73,8 @@ impl<'a> Reader<'a> {
     pub fn noted(
         &mut self,
         row: Row<'a>,
-        outcome: Result<Answer, Refusal<'a>>,
-    ) -> Result<Answer, Refusal<'a>> {
+        outcome: Result<Answer, Refusal>,
+    ) -> Result<Answer, Refusal> {
         if let Ok(Answer::One(Item::Node(number))) = outcome {
             self.it = number;
             if row.has("quiet") {
@@ -97,7 +97,7 @@ impl<'a> Reader<'a> {
         &mut self,
         table: &mut T,
         text: &'a str,
-    ) -> Result<Value, Refusal<'a>> {
+    ) -> Result<Value, Refusal> {
         self.values.clear();
         for word in text.split_whitespace() {
             let (times, words) = word.split_once('*').unwrap_or(("1", word));
@@ -114,8 +114,17 @@ impl<'a> Reader<'a> {
         }
     }
 
-    fn read<T: Table>(&mut self, table: &mut T, word: &'a str) -> Result<(), Refusal<'a>> {
+    fn read<T: Table>(&mut self, table: &mut T, word: &'a str) -> Result<(), Refusal> {
         let last = self.last();
+        match (word, last[0]) {
+            ("copy", value) => return self.push(0, value),
+            ("it", _) => return self.push(0, Value::Node(self.it)),
+            ("nothing", _) => return self.push(0, Value::Node(u32::MAX)),
+            ("args" | "env" | "preds", Value::Count(count)) => {
+                return self.push_list(table, word, 1, count as usize);
+            }
+            _ => {}
+        }
         if let Some((count, part)) = node_over(word, last) {
             return self.push_made(table, count, &part);
         }
@@ -132,20 +141,12 @@ impl<'a> Reader<'a> {
         if let Ok(count) = word.parse::<u32>() {
             return self.push(0, Value::Count(count));
         }
-        match (word, last[0]) {
-            ("copy", value) => self.push(0, value),
-            ("it", _) => self.push(0, Value::Node(self.it)),
-            ("nothing", _) => self.push(0, Value::Node(u32::MAX)),
-            ("args" | "env" | "preds", Value::Count(count)) => {
-                self.push_list(table, word, 1, count as usize)
-            }
-            _ => self.read_name(table, word),
-        }
+        self.read_name(table, word)
     }
 
     /// Reads a name: with a dot before it the definition itself, else the definition over a list or over its arguments. Behind `as_`
     /// stands of which sort the last definition is taken to be.
-    fn read_name<T: Table>(&mut self, table: &mut T, word: &'a str) -> Result<(), Refusal<'a>> {
+    fn read_name<T: Table>(&mut self, table: &mut T, word: &'a str) -> Result<(), Refusal> {
         if let Some(name) = word.strip_prefix('.') {
             return self.push(0, Value::Definition(self.number(name)));
         }
@@ -154,27 +155,27 @@ impl<'a> Reader<'a> {
                 let _ = self.values.pop();
                 Name {
                     word,
-                    sort: sort_of(sort).ok_or(Refusal::UnknownWord(word))?,
+                    sort: sort_of(sort).ok_or(Refusal::UnknownWord)?,
                     number,
                     arity: 0,
                 }
             }
-            _ => named(self.names.as_slice(), word).ok_or(Refusal::UnknownWord(word))?,
+            _ => named(self.names.as_slice(), word).ok_or(Refusal::UnknownWord)?,
         };
         self.push_named(table, name)
     }
 
     /// The definition over the list before it, or over as many arguments as it takes, or the node of that name.
-    fn push_named<T: Table>(&mut self, table: &mut T, name: Name<'a>) -> Result<(), Refusal<'a>> {
+    fn push_named<T: Table>(&mut self, table: &mut T, name: Name<'a>) -> Result<(), Refusal> {
         let number = name.number;
-        if name.sort == Sort::Node {
+        if let Sort::Node = name.sort {
             return self.push(0, Value::Node(number));
         }
-        if sort_at(table, self.last()[0].node()) != Some(NodeSort::Args) {
+        if !is_at(table, self.last()[0].node(), NodeSort::Args) {
             self.push_list(table, "args", 0, name.arity)?;
         }
         let args = Args(self.last()[0].node());
-        if name.sort == Sort::Trait {
+        if let Sort::Trait = name.sort {
             let def_id = TraitId(number);
             return self.push(1, Value::Reference(TraitRef { def_id, args }));
         }
@@ -189,7 +190,7 @@ impl<'a> Reader<'a> {
         word: &str,
         left_out: usize,
         count: usize,
-    ) -> Result<(), Refusal<'a>> {
+    ) -> Result<(), Refusal> {
         let taken = count.saturating_add(left_out);
         let first = self.values.len().saturating_sub(taken);
         let values = self.values.as_slice();
@@ -214,7 +215,7 @@ impl<'a> Reader<'a> {
     }
 
     /// The value stands in the place of the last ones, which are so many.
-    fn push(&mut self, count: usize, value: Value) -> Result<(), Refusal<'a>> {
+    fn push(&mut self, count: usize, value: Value) -> Result<(), Refusal> {
         self.values
             .truncate(self.values.len().saturating_sub(count));
         self.values.push(value)?;
@@ -227,7 +228,7 @@ impl<'a> Reader<'a> {
         table: &mut T,
         count: usize,
         part: &Part,
-    ) -> Result<(), Refusal<'a>> {
+    ) -> Result<(), Refusal> {
         match make(table, part)? {
             Some(number) => self.push(count, Value::Node(number)),
             None => Err(Refusal::Condition),
@@ -236,12 +237,12 @@ impl<'a> Reader<'a> {
 }
 
 /// The list of the values that the word makes: of arguments, of clauses or of bounds.
-fn list_of<'a, T: Table>(
+fn list_of<T: Table>(
     alloc: Global,
     table: &T,
     word: &str,
     values: &[Value],
-) -> Result<Part, Refusal<'a>> {
+) -> Result<Part, Refusal> {
     let (mut args, mut clauses, mut bounds) = (Vec::new(alloc), Vec::new(alloc), Vec::new(alloc));
     for value in values {
         let number = value.node();

@@ -8,10 +8,11 @@ use std::alloc::{AllocError, AllocFailed};
 
 /// Why a row has no answer.
 #[derive(Clone, Copy)]
-pub enum Refusal<'a> {
+pub enum Refusal {
     /// A call that the row asks for may not be made of its operands.
     Condition,
-    UnknownWord(&'a str),
+    /// A word is no name, and makes nothing.
+    UnknownWord,
     /// The call gave up.
     Stop(Stop),
     /// Declarations were refused.
@@ -22,86 +23,44 @@ pub enum Refusal<'a> {
     Ambiguous,
 }
 
-impl From<Stop> for Refusal<'_> {
+impl From<Stop> for Refusal {
     fn from(stop: Stop) -> Self {
         Refusal::Stop(stop)
     }
 }
 
-impl From<DeclFault> for Refusal<'_> {
+impl From<DeclFault> for Refusal {
     fn from(fault: DeclFault) -> Self {
         Refusal::Fault(fault)
     }
 }
 
-impl From<AllocError> for Refusal<'_> {
+impl From<AllocError> for Refusal {
     fn from(_: AllocError) -> Self {
         Refusal::Stop(Stop::Memory)
     }
 }
 
-impl<T: Drop> From<AllocFailed<T>> for Refusal<'_> {
+impl<T: Drop> From<AllocFailed<T>> for Refusal {
     fn from(_: AllocFailed<T>) -> Self {
         Refusal::Stop(Stop::Memory)
     }
 }
 
-/// Why a call that a row asks for gives nothing.
-#[derive(Clone, Copy)]
-pub enum Failure {
-    /// It may not be made of the row's operands.
-    Condition,
-    /// It gave up.
-    Stop(Stop),
-    /// What was asked doesn't hold.
-    NoSolution,
-    /// Too little is known.
-    Ambiguous,
-}
-
-impl From<Failure> for Refusal<'_> {
-    fn from(failure: Failure) -> Self {
-        match failure {
-            Failure::Condition => Refusal::Condition,
-            Failure::Stop(stop) => Refusal::Stop(stop),
-            Failure::NoSolution => Refusal::NoSolution,
-            Failure::Ambiguous => Refusal::Ambiguous,
-        }
-    }
-}
-
-impl From<Stop> for Failure {
-    fn from(stop: Stop) -> Self {
-        Failure::Stop(stop)
-    }
-}
-
-impl From<AllocError> for Failure {
-    fn from(_: AllocError) -> Self {
-        Failure::Stop(Stop::Memory)
-    }
-}
-
-impl<T: Drop> From<AllocFailed<T>> for Failure {
-    fn from(_: AllocFailed<T>) -> Self {
-        Failure::Stop(Stop::Memory)
-    }
-}
-
-impl From<NoSolutionOrStop> for Failure {
+impl From<NoSolutionOrStop> for Refusal {
     fn from(error: NoSolutionOrStop) -> Self {
         match error {
-            NoSolutionOrStop::NoSolution => Failure::NoSolution,
-            NoSolutionOrStop::Stop(stop) => Failure::Stop(stop),
+            NoSolutionOrStop::NoSolution => Refusal::NoSolution,
+            NoSolutionOrStop::Stop(stop) => Refusal::Stop(stop),
         }
     }
 }
 
-impl From<AmbiguousOrStop> for Failure {
+impl From<AmbiguousOrStop> for Refusal {
     fn from(error: AmbiguousOrStop) -> Self {
         match error {
-            AmbiguousOrStop::Ambiguous => Failure::Ambiguous,
-            AmbiguousOrStop::Stop(stop) => Failure::Stop(stop),
+            AmbiguousOrStop::Ambiguous => Refusal::Ambiguous,
+            AmbiguousOrStop::Stop(stop) => Refusal::Stop(stop),
         }
     }
 }

@@ -7,6 +7,7 @@ use crate::refusals::Refusal;
 use crate::rows::Row;
 use candidate_ir::decl::builder::DeclsBuilder;
 use candidate_ir::decl::context::Cx;
+use candidate_ir::ir::stop::Stop;
 use candidate_rounds::rounds::Rounds;
 use std::alloc::{AllocError, Global};
 
@@ -24,106 +25,152 @@ pub enum Phase {
 #[derive(Drop)]
 pub struct Session<'a> {
     pub reader: Reader<'a>,
-    pub out: String,
+    out: String,
+    /// Whether all was printed; what comes behind a growth that was refused is not.
+    written: Result<(), AllocError>,
     rest: &'a str,
     /// Rows that declare, to be read again.
     common: &'a str,
 }
 
-/// What is printed for the rows of the text.
+/// How many times as long as the rows the transcript may be before it has to grow.
+const TRANSCRIPT: usize = 2;
+
+/// What is printed for the rows of the text; an error where the transcript's memory was refused.
 pub fn run(alloc: Global, text: &str) -> Result<String, AllocError> {
+    let mut out = String::new(alloc);
+    out.reserve(text.len().saturating_mul(TRANSCRIPT))?;
     let mut session = Session {
         reader: Reader::new(alloc),
-        out: String::new(alloc),
+        out,
+        written: Ok(()),
         rest: text,
         common: "",
     };
     let mut phase = Phase::Outside;
     for _ in 0..u64::MAX {
-        let Some(row) = session.next_row()? else {
+        let Some(row) = session.next_row() else {
             break;
         };
-        phase = session.step(phase, row)?;
+        phase = session.step(phase, row);
     }
+    session.written?;
     Ok(session.out)
 }
 
 impl<'a> Session<'a> {
     /// The next row, which is printed. What is empty or begins with `//` is printed, too, but is no row.
-    pub fn next_row(&mut self) -> Result<Option<Row<'a>>, AllocError> {
+    pub fn next_row(&mut self) -> Option<Row<'a>> {
         for _ in 0..u64::MAX {
             if self.rest.is_empty() {
                 break;
             }
             let (line, rest) = self.rest.split_once('\n').unwrap_or((self.rest, ""));
             self.rest = rest;
-            self.out.push_str(line)?;
+            self.write(line);
             if !line.is_empty() && !line.starts_with("//") {
-                return Ok(Some(Row::new(line)));
+                return Some(Row::new(line));
             }
-            self.out.push_str("\n")?;
+            self.write("\n");
         }
-        Ok(None)
+        None
     }
 
-    /// Prints the answer behind its row.
-    pub fn print(
-        &mut self,
-        cx: Option<&Cx>,
-        outcome: Result<Answer, Refusal<'a>>,
-    ) -> Result<(), AllocError> {
-        write_outcome(&mut self.out, self.reader.names.as_slice(), cx, outcome)
+    fn write(&mut self, text: &str) {
+        if self.written.is_ok() {
+            self.written = self.out.push_str(text);
+        }
+    }
+
+    /// Prints the answer behind its row, and says whether memory was refused to it, so that it is to be asked again.
+    pub fn print(&mut self, cx: Option<&Cx>, outcome: Result<Answer, Refusal>) -> bool {
+        let is_again = matches!(outcome, Err(Refusal::Stop(Stop::Memory)));
+        if self.written.is_ok() {
+            let names = self.reader.names.as_slice();
+            self.written = write_outcome(&mut self.out, names, cx, outcome);
+        }
+        is_again
+    }
+
+    /// Prints that the row is done.
+    pub fn print_done(&mut self) {
+        self.print(None, Ok(Answer::One(Item::Done)));
     }
 
     /// Answers the row, and says what the next ones are asked of.
-    fn step(&mut self, phase: Phase, row: Row<'a>) -> Result<Phase, AllocError> {
-        let done = Ok(Answer::One(Item::Done));
+    fn step(&mut self, phase: Phase, row: Row<'a>) -> Phase {
         match (row.verb, phase) {
             ("common", phase) => {
                 let (common, _) = self.rest.split_once("\n\n").unwrap_or((self.rest, ""));
                 self.common = common;
-                self.print(None, done)?;
-                Ok(phase)
+                self.print_done();
+                phase
             }
-            ("begin", _) => {
-                self.reader.names.clear();
-                self.reader.members.clear();
-                self.print(None, done)?;
-                let mut builder = DeclsBuilder::new(self.reader.alloc);
-                if row.first == "common" {
-                    for line in self.common.lines() {
-                        let _ = self.reader.declare(&mut builder, Row::new(line));
-                    }
-                }
-                Ok(Phase::Declaring(builder))
-            }
-            ("finish", Phase::Declaring(builder)) => match builder.finish() {
-                Ok(decls) => {
-                    self.print(None, done)?;
-                    Ok(Phase::Declared(Cx::new(decls)))
-                }
-                Err(fault) => {
-                    self.print(None, Err(Refusal::Fault(fault)))?;
-                    Ok(Phase::Outside)
-                }
-            },
-            (_, Phase::Declaring(mut builder)) => {
-                let outcome = self.reader.declare(&mut builder, row);
-                self.print(None, outcome)?;
-                Ok(Phase::Declaring(builder))
-            }
+            ("begin", _) => Phase::Declaring(self.begin(row)),
+            ("finish", Phase::Declaring(builder)) => self.finish(builder),
             ("rounds", Phase::Declared(cx)) => self.begin_rounds(cx, row),
-            (_, Phase::Evaluating(rounds)) => self.evaluate(rounds, row),
+            ("rounds", Phase::Evaluating(rounds)) => {
+                let (cx, _, _) = rounds.into_parts();
+                self.begin_rounds(cx, row)
+            }
+            ("leave", Phase::Evaluating(rounds)) => Phase::Declared(self.leave(rounds)),
+            (_, Phase::Declaring(mut builder)) => {
+                self.declare(&mut builder, row);
+                Phase::Declaring(builder)
+            }
             (_, Phase::Declared(mut cx)) => {
-                let outcome = eval::answer(&mut self.reader, &mut cx, row);
-                let outcome = self.reader.noted(row, outcome);
-                self.print(Some(&cx), outcome)?;
-                Ok(Phase::Declared(cx))
+                self.ask(&mut cx, row);
+                Phase::Declared(cx)
+            }
+            (_, Phase::Evaluating(mut rounds)) => {
+                self.evaluate(&mut rounds, row);
+                Phase::Evaluating(rounds)
             }
             (_, Phase::Outside) => {
-                self.print(None, Err(Refusal::Condition))?;
-                Ok(Phase::Outside)
+                self.print(None, Err(Refusal::Condition));
+                Phase::Outside
             }
+        }
+    }
+
+    /// Begins declarations anew, with the common ones where the row asks for them.
+    fn begin(&mut self, row: Row<'a>) -> DeclsBuilder {
+        self.reader.names.clear();
+        self.reader.members.clear();
+        self.print_done();
+        let mut builder = DeclsBuilder::new(self.reader.alloc);
+        if row.first == "common" {
+            for line in self.common.lines() {
+                let _ = self.reader.declare(&mut builder, Row::new(line));
+            }
+        }
+        builder
+    }
+
+    fn finish(&mut self, builder: DeclsBuilder) -> Phase {
+        match builder.finish() {
+            Ok(decls) => {
+                self.print_done();
+                Phase::Declared(Cx::new(decls))
+            }
+            Err(fault) => {
+                self.print(None, Err(Refusal::Fault(fault)));
+                Phase::Outside
+            }
+        }
+    }
+
+    fn declare(&mut self, builder: &mut DeclsBuilder, row: Row<'a>) {
+        let outcome = self.reader.declare(builder, row);
+        if self.print(None, outcome) {
+            let _ = self.reader.declare(builder, row);
+        }
+    }
+
+    fn ask(&mut self, cx: &mut Cx, row: Row<'a>) {
+        let outcome = eval::answer(&mut self.reader, cx, row);
+        if self.print(Some(cx), outcome) {
+            let _ = eval::answer(&mut self.reader, cx, row);
         }
     }
 }

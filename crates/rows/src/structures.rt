@@ -1,7 +1,8 @@
 //! Rows that ask about the parts of types, what can be called, and what an object has to fulfil.
 
 use crate::answers::{Answer, Item};
-use crate::refusals::Failure;
+use crate::lookups;
+use crate::refusals::Refusal;
 use crate::rows::Row;
 use crate::typed::{args_at, ty_at};
 use candidate_eval::structural::callable::{
@@ -18,7 +19,7 @@ use candidate_eval::structural::tables::{
 use candidate_eval::structural::{Constituents, Under};
 use candidate_ir::decl::contents::Sizedness;
 use candidate_ir::decl::context::Cx;
-use candidate_ir::ir::kinds::{Binder, Clause, ClosureKind, TraitRef, Ty, TyKind};
+use candidate_ir::ir::kinds::{Binder, ClosureKind, TraitRef, Ty, TyKind};
 use std::alloc::{AllocError, Global};
 
 /// What the row answers where a type has no cell in the column.
@@ -30,7 +31,7 @@ fn constituents(
     cx: &mut Cx,
     column: &str,
     number: u32,
-) -> Result<Option<Constituents>, Failure> {
+) -> Result<Option<Constituents>, Refusal> {
     let ty = ty_at(cx, number)?;
     let found = match column {
         "auto" if has_auto_trait_cell(cx, ty) => {
@@ -46,13 +47,13 @@ fn constituents(
             instantiate_constituent_tys_for_copy_clone_trait(alloc, cx, ty)
         }
         "auto" | "sized" | "meta_sized" | "copy" => return Ok(None),
-        _ => return Err(Failure::Condition),
+        _ => return Err(Refusal::Condition),
     };
     Ok(Some(found?))
 }
 
 /// The types, behind their binder, if they stand under one.
-fn listed(alloc: Global, found: &Constituents) -> Result<Answer, AllocError> {
+fn listed(alloc: Global, found: &Constituents) -> Result<Answer, Refusal> {
     let mut items = Vec::new(alloc);
     if let Under::Binder(vars) = found.under {
         items.push(Item::Node(vars.0))?;
@@ -64,7 +65,7 @@ fn listed(alloc: Global, found: &Constituents) -> Result<Answer, AllocError> {
 }
 
 /// The references that have to hold for the type to be dropped.
-fn conditions(alloc: Global, cx: &mut Cx, number: u32) -> Result<Answer, Failure> {
+fn conditions(alloc: Global, cx: &mut Cx, number: u32) -> Result<Answer, Refusal> {
     let ty = ty_at(cx, number)?;
     if !has_destruct_cell(cx, ty) {
         return Ok(EXCLUDED);
@@ -76,12 +77,12 @@ fn conditions(alloc: Global, cx: &mut Cx, number: u32) -> Result<Answer, Failure
     Ok(Answer::List(items))
 }
 
-fn cell(alloc: Global, cx: &mut Cx, column: &str, number: u32) -> Result<Answer, Failure> {
+fn cell(alloc: Global, cx: &mut Cx, column: &str, number: u32) -> Result<Answer, Refusal> {
     if column == "destruct" {
         return conditions(alloc, cx, number);
     }
     match constituents(alloc, cx, column, number)? {
-        Some(found) => Ok(listed(alloc, &found)?),
+        Some(found) => listed(alloc, &found),
         None => Ok(EXCLUDED),
     }
 }
@@ -104,7 +105,7 @@ fn push_callable(items: &mut Vec<Item>, found: Binder<(Ty, Ty)>) -> Result<(), A
 }
 
 /// With which inputs and output the type is called in that way.
-fn call(alloc: Global, cx: &mut Cx, kind: ClosureKind, number: u32) -> Result<Answer, Failure> {
+fn call(alloc: Global, cx: &mut Cx, kind: ClosureKind, number: u32) -> Result<Answer, Refusal> {
     let ty = ty_at(cx, number)?;
     if !has_callable_cell(cx, ty) {
         return Ok(EXCLUDED);
@@ -120,7 +121,7 @@ fn call(alloc: Global, cx: &mut Cx, kind: ClosureKind, number: u32) -> Result<An
 }
 
 /// What is called where a constant is computed, with its own arguments.
-fn const_call(alloc: Global, cx: &mut Cx, number: u32) -> Result<Answer, Failure> {
+fn const_call(alloc: Global, cx: &mut Cx, number: u32) -> Result<Answer, Refusal> {
     let ty = ty_at(cx, number)?;
     if !has_callable_cell(cx, ty) {
         return Ok(EXCLUDED);
@@ -136,42 +137,33 @@ fn const_call(alloc: Global, cx: &mut Cx, number: u32) -> Result<Answer, Failure
     Ok(Answer::Row(items))
 }
 
-/// The list of the clauses.
-pub fn clauses(alloc: Global, list: &[Clause]) -> Result<Answer, AllocError> {
-    let mut items = Vec::new(alloc);
-    for clause in list {
-        items.push(Item::Node(clause.0))?;
-    }
-    Ok(Answer::List(items))
-}
-
 /// What the bounds of the object's type say of it.
-fn said(alloc: Global, cx: &mut Cx, number: u32) -> Result<Answer, Failure> {
+fn said(alloc: Global, cx: &mut Cx, number: u32) -> Result<Answer, Refusal> {
     let object = ty_at(cx, number)?;
     let TyKind::Dynamic(bounds, _) = cx.kind(object) else {
-        return Err(Failure::Condition);
+        return Err(Refusal::Condition);
     };
     let list = own_bounds(alloc, cx, object, bounds)?;
-    Ok(clauses(alloc, list.as_slice())?)
+    lookups::listed(alloc, list.as_slice())
 }
 
 /// What an object of the reference's trait has to fulfil.
-pub fn required(alloc: Global, cx: &mut Cx, reference: TraitRef) -> Result<Answer, Failure> {
+pub fn required(alloc: Global, cx: &mut Cx, reference: TraitRef) -> Result<Answer, Refusal> {
     let args = args_at(cx, reference.args.0)?;
     let def_id = reference.def_id;
     let list = requirements(alloc, cx, TraitRef { def_id, args })?;
-    Ok(clauses(alloc, list.as_slice())?)
+    lookups::listed(alloc, list.as_slice())
 }
 
 /// What the row asks of the type of that number.
-pub fn answer(alloc: Global, cx: &mut Cx, row: Row<'_>, number: u32) -> Result<Answer, Failure> {
+pub fn answer(alloc: Global, cx: &mut Cx, row: Row<'_>, number: u32) -> Result<Answer, Refusal> {
     match row.verb {
         "cell" => cell(alloc, cx, row.first, number),
         "const_call" => const_call(alloc, cx, number),
         "own_bounds" => said(alloc, cx, number),
         _ => match closure_kind(row.first) {
             Some(kind) => call(alloc, cx, kind, number),
-            None => Err(Failure::Condition),
+            None => Err(Refusal::Condition),
         },
     }
 }

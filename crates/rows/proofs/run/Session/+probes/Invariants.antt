@@ -1,6 +1,6 @@
 use Rattle.std.proofs.Common.{◌≡◌, ◌+◌, ◌*◌}
 use Rattle.candidate_rounds.specs.Known.{probes}
-use Rattle.rows.proofs.evaluating.+probes.Given as goal
+use Rattle.rows.proofs.run.Session.+probes.Given as goal
 
 abbrev pub decreases-probe : goal.decreases-probe
 decreases-probe l = 2 * l.depth + 1
