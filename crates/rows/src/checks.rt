@@ -169,7 +169,10 @@ fn coherence<C: InferCtxtLike>(
             let outcome = orphan_check_trait_ref(alloc, infcx, trait_ref, in_crate, normalize);
             checked(alloc, outcome)
         }
-        None => known(alloc, trait_ref_is_knowable(alloc, infcx, trait_ref, normalize)),
+        None => known(
+            alloc,
+            trait_ref_is_knowable(alloc, infcx, trait_ref, normalize),
+        ),
     }
 }
 

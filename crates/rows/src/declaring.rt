@@ -61,11 +61,7 @@ pub fn sizedness(row: Row<'_>) -> Sizedness {
 
 impl<'a> Reader<'a> {
     /// Does what the row says, and answers the number of what it declares.
-    pub fn declare(
-        &mut self,
-        builder: &mut DeclsBuilder,
-        row: Row<'a>,
-    ) -> Result<Answer, Refusal> {
+    pub fn declare(&mut self, builder: &mut DeclsBuilder, row: Row<'a>) -> Result<Answer, Refusal> {
         let (first, second) = (self.number(row.first), self.number(row.second));
         let done = match row.verb {
             "let" => return self.name_node(builder, row),
@@ -145,7 +141,9 @@ impl<'a> Reader<'a> {
             None => parameters.len(),
         };
         let number = match sort {
-            Some(Sort::Trait) => builder.add_trait(CrateId(of), parameters, trait_flags(row))?.0,
+            Some(Sort::Trait) => builder
+                .add_trait(CrateId(of), parameters, trait_flags(row))?
+                .0,
             Some(Sort::AssociatedType) => add_item(builder, of, AssocKind::Type, row)?,
             Some(Sort::AssociatedConst) => add_item(builder, of, AssocKind::Const, row)?,
             _ => define_other(builder, row, parameters, value)?,
@@ -269,11 +267,7 @@ fn define_other(
 
 /// Declares traits with one parameter, with the numbers from 0 to the last one: each a direct supertrait of the one before, or in a
 /// fan all of the first.
-fn declare_traits(
-    builder: &mut DeclsBuilder,
-    last: u32,
-    is_fan: bool,
-) -> Result<Answer, Refusal> {
+fn declare_traits(builder: &mut DeclsBuilder, last: u32, is_fan: bool) -> Result<Answer, Refusal> {
     for _ in 0..last.saturating_add(1) {
         builder.add_trait(CrateId(0), &[VarKind::Ty], TraitFlags::default())?;
     }

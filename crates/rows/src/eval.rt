@@ -30,11 +30,7 @@ pub fn made<'a, T: Table>(
 }
 
 /// What the row answers; a node is noted.
-pub fn answer<'a>(
-    reader: &mut Reader<'a>,
-    cx: &mut Cx,
-    row: Row<'a>,
-) -> Result<Answer, Refusal> {
+pub fn answer<'a>(reader: &mut Reader<'a>, cx: &mut Cx, row: Row<'a>) -> Result<Answer, Refusal> {
     let alloc = reader.alloc;
     let of = match row.verb {
         "and" => return merging::both(alloc, row),

@@ -394,12 +394,7 @@ fn said_of_value(cx: &Cx, verb: &str, value: Value) -> Option<bool> {
 }
 
 /// What follows from the clause, by the verb: clauses, or the traits of its supertraits; or how many variables its binder has.
-fn following(
-    alloc: Global,
-    cx: &mut Cx,
-    verb: &str,
-    number: u32,
-) -> Result<Answer, Refusal> {
+fn following(alloc: Global, cx: &mut Cx, verb: &str, number: u32) -> Result<Answer, Refusal> {
     if !is_at(cx, number, NodeSort::Clause) {
         return Err(Refusal::Condition);
     }
@@ -571,7 +566,13 @@ impl<'a> Reader<'a> {
         let alloc = self.alloc;
         match row.verb {
             "member" | "clear" | "each" => self.answer_of_members(cx, row, left.node()),
-            "same" | "unify" | "header" | "has" | "has_arguments" | "compatible" | "fits"
+            "same"
+            | "unify"
+            | "header"
+            | "has"
+            | "has_arguments"
+            | "compatible"
+            | "fits"
             | "has_param" => truth(holds(cx, row, left, right)),
             "subst" | "fold" | "open" | "implied" | "again" => {
                 changed(alloc, cx, row, left, (right.node(), third.node()))

@@ -317,7 +317,8 @@ fn args_fit<T: Table>(table: &T, list: &[GenericArg]) -> bool
 fn clauses_fit<T: Table>(table: &T, list: &[Clause]) -> bool
     ensures { IsTrue result → ClauseListFits (T.trees table.now) list.now }
 {
-    list.iter().all(|clause| is_at(table, clause.0, NodeSort::Clause))
+    list.iter()
+        .all(|clause| is_at(table, clause.0, NodeSort::Clause))
 }
 
 /// Whether all numbers in the part are given, and of their sorts.

@@ -54,11 +54,7 @@ impl<'a> Reader<'a> {
     }
 
     /// Gives the node of the row a name.
-    pub fn name_node<T: Table>(
-        &mut self,
-        table: &mut T,
-        row: Row<'a>,
-    ) -> Result<Answer, Refusal> {
+    pub fn name_node<T: Table>(&mut self, table: &mut T, row: Row<'a>) -> Result<Answer, Refusal> {
         let number = self.operand(table, row.left)?.node();
         self.names.push(Name {
             word: row.first,
@@ -93,11 +89,7 @@ impl<'a> Reader<'a> {
     }
 
     /// The value of the operand, or nothing where there is none. Words that leave more than one value, or none, say nothing.
-    pub fn operand<T: Table>(
-        &mut self,
-        table: &mut T,
-        text: &'a str,
-    ) -> Result<Value, Refusal> {
+    pub fn operand<T: Table>(&mut self, table: &mut T, text: &'a str) -> Result<Value, Refusal> {
         self.values.clear();
         for word in text.split_whitespace() {
             let (times, words) = word.split_once('*').unwrap_or(("1", word));
