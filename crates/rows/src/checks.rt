@@ -17,7 +17,7 @@ use candidate_eval::eval::InferCtxtLike;
 use candidate_ir::decl::make::Make;
 use candidate_ir::ir::kinds::{Mutability, RegionKind, TraitRef, Ty, TyKind, UintTy};
 use candidate_ir::ir::stop::Stop;
-use std::alloc::{AllocError, Global};
+use std::alloc::Global;
 
 /// How a normaliser answers.
 #[derive(Clone, Copy)]

@@ -1,6 +1,6 @@
 //! Rows that ask an evaluator.
 
-ghost use Rattle.std.specs.Prelude.{◌≡◌, IfOk};
+ghost use Rattle.std.specs.Prelude.{◌≡◌};
 ghost use Rattle.candidate_rounds.specs.Known.{probes};
 
 use crate::answers::{Answer, Item};

@@ -6,7 +6,7 @@ use crate::refusals::Refusal;
 use crate::rows::Row;
 use candidate_ir::decl::contents::{Destructor, ImplId, ImplPolarity};
 use candidate_ir::decl::context::Cx;
-use candidate_ir::decl::definition::{AdtFlags, AdtShape, AssocKind, FnFlags, TraitFlags};
+use candidate_ir::decl::definition::{AdtFlags, AdtShape, AssocKind, TraitFlags};
 use candidate_ir::ir::kinds::{
     AdtId, AliasId, AssocId, Clause, ClosureId, FnId, ForeignId, TraitId, Ty,
 };
