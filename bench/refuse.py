@@ -160,14 +160,21 @@ class Program:
         return None
 
 
-def refuse_each(name, library, text):
-    """Refuses each growth of a run over that file, and says whether all was as it should be."""
-    program = Program(library, text)
+def plain_run(name, program):
+    """The answers of a run to which nothing is refused, and how many growths it asks for; no answers where it failed."""
     status, answers, growths = program.run()
     if status != 0 or not growths.strip().isdigit():
         print("%s: the plain run ended with status %d: %s" % (name, status, growths))
+        return None, 0
+    return answers, int(growths)
+
+
+def refuse_each(name, library, text):
+    """Refuses each growth of a run over that file, and says whether all was as it should be."""
+    program = Program(library, text)
+    answers, count = plain_run(name, program)
+    if answers is None:
         return False
-    count = int(growths)
     print("%s: %d answers, %d growths" % (name, len(answers), count))
     is_well = True
     for later, most_stops in (({}, 1), ({"LATER": "1"}, len(answers) + 1)):
@@ -223,11 +230,9 @@ class Rows:
 def refuse_rows(name, library, most):
     """Refuses growths of a program of rows in turn, and says whether all was as it should be."""
     program = Rows(name, library)
-    status, answers, growths = program.run()
-    if status != 0 or not growths.strip().isdigit():
-        print("%s: the plain run ended with status %d: %s" % (name, status, growths))
+    answers, count = plain_run(name, program)
+    if answers is None:
         return False
-    count = int(growths)
     tried = range(1, count + 1, max(1, count // most) if most else 1)
     print("%s: %d lines, %d growths, %d of them refused in turn" % (name, len(answers), count, len(tried)))
     kinds = collections.Counter()
