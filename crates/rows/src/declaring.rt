@@ -91,7 +91,7 @@ impl<'a> Reader<'a> {
         };
         match done {
             Ok(()) => Ok(Answer::One(Item::Done)),
-            Err(fault) => Err(Refusal::Fault(fault)),
+            Err(fault) => Err(Refusal::from(fault)),
         }
     }
 
@@ -120,7 +120,7 @@ impl<'a> Reader<'a> {
         };
         match done {
             Ok(()) => Ok(Answer::One(Item::Done)),
-            Err(fault) => Err(Refusal::Fault(fault)),
+            Err(fault) => Err(Refusal::from(fault)),
         }
     }
 

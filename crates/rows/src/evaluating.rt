@@ -67,15 +67,33 @@ fn substituted(alloc: Global, rounds: &mut Rounds, of: Operands) -> Result<Answe
 impl<'a> Session<'a> {
     /// Begins an evaluator over the context, in the mode that the row says.
     pub fn begin_rounds(&mut self, mut cx: Cx, row: Row<'a>) -> Phase {
-        match asked_for(&self.reader, &mut cx, row) {
+        match self.settings(&mut cx, row) {
             Ok((mode, pairs)) => {
-                self.print_done();
                 let alloc = self.reader.alloc;
                 Phase::Evaluating(Rounds::new(alloc, cx, mode, pairs, Vec::new(alloc)))
             }
+            Err(_) => Phase::Declared(cx),
+        }
+    }
+
+    /// What the row asks an evaluator to begin with, where it can be had; that is printed.
+    fn settings(
+        &mut self,
+        cx: &mut Cx,
+        row: Row<'a>,
+    ) -> Result<(TypingMode, Vec<(Ty, Ty)>), Refusal>
+        ensures { IfOk result (λ r. IsGiven cx.new.trees (r.1).items []) }
+    {
+        match asked_for(&self.reader, cx, row) {
+            Ok(found) => {
+                self.print_done();
+                Ok(found)
+            }
             Err(refusal) => {
-                self.print(None, Err(refusal));
-                Phase::Declared(cx)
+                if self.print(None, Err(refusal)) {
+                    return asked_for(&self.reader, cx, row);
+                }
+                Err(refusal)
             }
         }
     }

@@ -30,8 +30,12 @@ impl From<Stop> for Refusal {
 }
 
 impl From<DeclFault> for Refusal {
+    /// A growth that was refused is the same stop everywhere.
     fn from(fault: DeclFault) -> Self {
-        Refusal::Fault(fault)
+        match fault {
+            DeclFault::Memory => Refusal::Stop(Stop::Memory),
+            fault => Refusal::Fault(fault),
+        }
     }
 }
 

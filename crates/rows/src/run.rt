@@ -58,6 +58,11 @@ pub fn run(alloc: Global, text: &str) -> Result<String, AllocError> {
     Ok(session.out)
 }
 
+/// Whether memory was refused to the row.
+fn is_refused_growth(outcome: &Result<Answer, Refusal>) -> bool {
+    matches!(outcome, Err(Refusal::Stop(Stop::Memory)))
+}
+
 impl<'a> Session<'a> {
     /// The next row, which is printed. What is empty or begins with `//` is printed, too, but is no row.
     pub fn next_row(&mut self) -> Option<Row<'a>> {
@@ -84,7 +89,7 @@ impl<'a> Session<'a> {
 
     /// Prints the answer behind its row, and says whether memory was refused to it, so that it is to be asked again.
     pub fn print(&mut self, cx: Option<&Cx>, outcome: Result<Answer, Refusal>) -> bool {
-        let is_again = matches!(outcome, Err(Refusal::Stop(Stop::Memory)));
+        let is_again = is_refused_growth(&outcome);
         if self.written.is_ok() {
             let names = self.reader.names.as_slice();
             self.written = write_outcome(&mut self.out, names, cx, outcome);
@@ -141,7 +146,10 @@ impl<'a> Session<'a> {
         let mut builder = DeclsBuilder::new(self.reader.alloc);
         if row.first == "common" {
             for line in self.common.lines() {
-                let _ = self.reader.declare(&mut builder, Row::new(line));
+                let row = Row::new(line);
+                if is_refused_growth(&self.reader.declare(&mut builder, row)) {
+                    let _ = self.reader.declare(&mut builder, row);
+                }
             }
         }
         builder
@@ -154,7 +162,7 @@ impl<'a> Session<'a> {
                 Phase::Declared(Cx::new(decls))
             }
             Err(fault) => {
-                self.print(None, Err(Refusal::Fault(fault)));
+                self.print(None, Err(Refusal::from(fault)));
                 Phase::Outside
             }
         }
