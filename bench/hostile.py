@@ -3,7 +3,7 @@
 
 `python3 bench/hostile.py` makes 100,000 declarations whose names are picked at random, as many whose
 names all have one hash under the hasher that the library's hash map has by default (its seed is
-fixed), and as many whose numbers, by which the program finds them, leave them few places. All names
+fixed), and as many whose names begin alike, so that all comparisons go to their last bytes. All names
 have one length. It runs the program `assembly` on each, declarations and queries, and prints
 the times and their ratios, and those of instructions where `valgrind` is there to count them. Then it
 runs texts of short lines that claim much (definitions of 65,535 parameters, types that are nested
@@ -29,8 +29,6 @@ LENGTH = 48
 MASK = (1 << 64) - 1
 SEED = 0x243F6A8885A308D3
 MULTIPLIER = 0x9E3779B97F4A7C15
-# So many places the program has for 65,536 to 131,071 names.
-PLACES = 1 << 18
 
 
 def folded(a, b):
@@ -72,26 +70,9 @@ def of_one_hash(source):
     return lambda: beginning + "".join(source.choices(ALLOWED, k=LENGTH - len(beginning)))
 
 
-def number_after(text, number=0):
-    """The number that the program makes of a name, or of what follows a beginning with that number."""
-    for byte in text.encode():
-        number = (number ^ byte) * MULTIPLIER & MASK
-        number ^= number >> 32
-    return number
-
-
-def of_few_places(source):
-    """Names that share a sixteenth of the program's places, so that most of them find none."""
+def of_one_beginning(source):
     beginning = random_name(source, LENGTH - 6)
-    number = number_after(beginning)
-
-    def make():
-        while True:
-            end = "".join(source.choices(ALLOWED, k=6))
-            if number_after(end, number) % PLACES < PLACES // 16:
-                return beginning + end
-
-    return make
+    return lambda: beginning + "".join(source.choices(ALLOWED, k=6))
 
 
 def names(source, size, make):
@@ -165,7 +146,7 @@ def main():
     kinds = [
         ("ordinary", lambda: random_name(source)),
         ("of one hash", of_one_hash(source)),
-        ("of few places", of_few_places(source)),
+        ("of one beginning", of_one_beginning(source)),
     ]
     ordinary = None
     counted = None

@@ -1,5 +1,5 @@
 //! What the program `assembly` does, written in plain Rust with the same algorithm and data: a table of
-//! nodes in which each query begins behind the declarations, names in places by a number, the contents of
+//! nodes in which each query begins behind the declarations, names in an ordered map, the contents of
 //! definitions in lists, a pass over all that is declared for each fault, one walk a check. It is there to be
 //! measured beside the program, and reads texts without a bad line and without a fault only, of the lines for
 //! what definitions hold `impl`, `super` and `field`, and no type of functions and arrays.
@@ -11,7 +11,6 @@ const CRATES: u32 = 10;
 const MAX_HEIGHT: u32 = 1024;
 const WALK_DEPTH: u16 = 256;
 const FEW_TYPES: usize = 4;
-const TRIED_PLACES: usize = 8;
 
 #[derive(Clone, Copy, PartialEq)]
 enum Kind {
@@ -265,23 +264,14 @@ enum Visit {
 
 struct Program<'a> {
     local: u32,
-    names: Vec<(&'a str, Item)>,
-    /// Which name each definition has.
-    defined: Vec<u32>,
-    places: Vec<Option<(u32, u32)>>,
-    crowded: BTreeMap<(u64, &'a str), u32>,
+    names: BTreeMap<&'a str, Item>,
+    /// The names of the definitions.
+    defined: Vec<&'a str>,
     definitions: Vec<Declaration>,
     contents: Contents,
     rows: Vec<Row>,
     /// How many nodes the declarations have, once they have ended.
     declared: Option<usize>,
-}
-
-fn number_of(name: &str) -> u64 {
-    name.bytes().fold(0u64, |number, byte| {
-        let number = (number ^ u64::from(byte)).wrapping_mul(0x9e37_79b9_7f4a_7c15);
-        number ^ (number >> 32)
-    })
 }
 
 const WORDS: [&str; 20] = [
@@ -436,7 +426,7 @@ impl<'a> Program<'a> {
             super_outlives: Vec::new(),
             specializes: Vec::new(),
         });
-        self.give_name(name, Item { kind: 'i', number, arity: 0, is_auto: false });
+        self.names.insert(name, Item { kind: 'i', number, arity: 0, is_auto: false });
         Ok(())
     }
 
@@ -502,8 +492,8 @@ impl<'a> Program<'a> {
         item.is_auto = flags.is_auto;
         let parameters = Parameters::Types(usize::from(item.arity));
         self.definitions.push(Declaration { krate, parameters, flags, kind });
-        self.defined.push(self.names.len() as u32);
-        self.give_name(name, item);
+        self.defined.push(name);
+        self.names.insert(name, item);
     }
 
     fn empty_contents(&mut self, command: &str) -> DefinitionKind {
@@ -522,12 +512,12 @@ impl<'a> Program<'a> {
 
     fn unused(&self, name: &'a str) -> &'a str {
         assert!(name.bytes().all(|byte| byte.is_ascii_alphanumeric() || byte == b'_'));
-        assert!(self.find(name).is_none());
+        assert!(!self.names.contains_key(name));
         name
     }
 
     fn name(&self, definition: u32) -> &'a str {
-        self.names[self.defined[definition as usize] as usize].0
+        self.defined[definition as usize]
     }
 
     /// Ends the declarations, which have no fault.
@@ -714,54 +704,8 @@ impl<'a> Program<'a> {
         false
     }
 
-    fn give_name(&mut self, name: &'a str, item: Item) {
-        let next = self.names.len() as u32;
-        self.names.push((name, item));
-        if self.names.len() <= self.places.len() / 2 {
-            self.settle(name, next);
-            return;
-        }
-        let count = (self.places.len() * 2).max(64);
-        self.places.clear();
-        self.places.resize(count, None);
-        for i in 0..self.names.len() {
-            self.settle(self.names[i].0, i as u32);
-        }
-    }
-
-    fn settle(&mut self, name: &'a str, definition: u32) {
-        let number = number_of(name);
-        for step in 0..TRIED_PLACES {
-            let index = self.index(number, step);
-            if self.places[index].is_none() {
-                self.places[index] = Some(((number >> 32) as u32, definition));
-                return;
-            }
-        }
-        self.crowded.insert((number, name), definition);
-    }
-
-    fn index(&self, number: u64, step: usize) -> usize {
-        (number as usize).wrapping_add(step) & (self.places.len() - 1)
-    }
-
-    fn find(&self, word: &'a str) -> Option<Item> {
-        if self.places.is_empty() {
-            return None;
-        }
-        let number = number_of(word);
-        for step in 0..TRIED_PLACES {
-            let (upper, definition) = self.places[self.index(number, step)]?;
-            let (name, item) = self.names[definition as usize];
-            if upper == (number >> 32) as u32 && name == word {
-                return Some(item);
-            }
-        }
-        Some(self.names[*self.crowded.get(&(number, word))? as usize].1)
-    }
-
     fn item(&self, word: &'a str) -> Item {
-        self.find(word).expect("a name")
+        *self.names.get(word).expect("a name")
     }
 
     fn read_type(&mut self, words: &mut Words<'a>) -> Result<u32, Stop> {
@@ -1093,10 +1037,8 @@ fn main() -> io::Result<()> {
     io::stdin().read_to_end(&mut text)?;
     let mut program = Program {
         local: 0,
-        names: Vec::new(),
+        names: BTreeMap::new(),
         defined: Vec::new(),
-        places: Vec::new(),
-        crowded: BTreeMap::new(),
         definitions: Vec::new(),
         contents: Contents::default(),
         rows: Vec::new(),

@@ -10,7 +10,8 @@ use Rattle.candidate_ir.specs.Trees.{Tree, Kind, is_alias}
 use Rattle.candidate_ir.specs.Nodes.{kind_at, Extends}
 use Rattle.candidate_ir.specs.Context.{Context, Grows}
 use Rattle.candidate_ir.specs.Words.{IsTy, IsClause}
-use Rattle.candidate_ir.proofs.Lists.{there, below_kind}
+use Rattle.candidate_ir.proofs.Lists.{below_kind}
+use Rattle.candidate_ir.specs.Trees.{there}
 use Rattle.candidate_ir.proofs.Kept.{number-kept}
 use Rattle.assembly_text.specs.declared.given.Given.{Given}
 use Rattle.assembly_text.specs.Given.{names_alias, IsNormalForm, GivenFits, GivenIsDeclared}

@@ -28,6 +28,23 @@ pub enum Query {
     Knowable,
 }
 
+/// For which crate a reference is checked.
+const CRATES: [(&str, InCrate); 3] = [
+    (
+        "local",
+        InCrate::Local {
+            mode: OrphanCheckMode::Proper,
+        },
+    ),
+    (
+        "compat",
+        InCrate::Local {
+            mode: OrphanCheckMode::Compat,
+        },
+    ),
+    ("remote", InCrate::Remote),
+];
+
 /// What is declared, and the answer that was made last.
 #[derive(Drop)]
 pub struct Asking<'a> {
@@ -108,7 +125,7 @@ impl<'a> Asking<'a> {
             self.scope.alloc,
             &mut self.scope.maker,
             trait_ref,
-            |_, ty| -> Result<Ty, NormalizeErr<Infallible>> { Ok(ty) },
+            unchanged,
         )
     }
 
@@ -128,7 +145,7 @@ impl<'a> Asking<'a> {
     }
 
     fn orphan(&mut self, words: &mut Words<'a>) -> Result<Result<(), Stop>, Fault<'a>> {
-        let in_crate = in_crate(words.word()?)?;
+        let in_crate = words.flag(&CRATES)?;
         let trait_ref = self.last_trait_ref(words)?;
         let checked = self.checked(trait_ref, in_crate);
         Ok(self.print_orphan(checked))
@@ -152,7 +169,7 @@ impl<'a> Asking<'a> {
             &mut self.scope.maker,
             trait_ref,
             in_crate,
-            |_, ty| -> Result<Ty, NormalizeErr<Infallible>> { Ok(ty) },
+            unchanged,
         )
     }
 
@@ -218,16 +235,10 @@ impl<'a> Asking<'a> {
     }
 }
 
-/// For which crate the word says that a reference is checked, else `Fault::BadFlag`.
-fn in_crate<'a>(word: &'a str) -> Result<InCrate, Fault<'a>> {
-    match word {
-        "local" => Ok(InCrate::Local {
-            mode: OrphanCheckMode::Proper,
-        }),
-        "compat" => Ok(InCrate::Local {
-            mode: OrphanCheckMode::Compat,
-        }),
-        "remote" => Ok(InCrate::Remote),
-        _ => Err(Fault::BadFlag(word)),
-    }
+/// The normal form of a type where none is normalised.
+fn unchanged(cx: &mut Cx, ty: Ty) -> Result<Ty, NormalizeErr<Infallible>>
+    ensures answer { result ≡ Ok ty }
+    ensures context { cx.new ≡ cx.old }
+{
+    Ok(ty)
 }

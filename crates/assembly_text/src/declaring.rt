@@ -8,7 +8,7 @@ use crate::given::Given;
 use crate::making::Draft;
 use crate::names::{Item, NamedTrait, Names};
 use crate::types::{DEEPEST, Scope};
-use crate::words::{Words, listed};
+use crate::words::Words;
 use candidate_eval::eval::mode::TypingMode;
 use candidate_ir::decl::builder::DeclsBuilder;
 use candidate_ir::decl::contents::{AliasBoundKind, ImplId, ImplPolarity, LangItem, Sizedness};
@@ -279,7 +279,7 @@ impl<'a> Declaring<'a> {
     fn impl_line(&mut self, words: &mut Words<'a>) -> Result<(), Fault<'a>> {
         let (krate, name) = self.declared(words)?;
         let arity = words.number(u16::MAX)?;
-        let polarity = flag(&POLARITIES, words)?;
+        let polarity = words.flag(&POLARITIES)?;
         let trait_ref = self.scope.read_trait_ref(words)?;
         words.end()?;
         let draft = &mut self.scope.maker;
@@ -374,7 +374,7 @@ impl<'a> Declaring<'a> {
     }
 
     fn lang(&mut self, words: &mut Words<'a>) -> Result<(), Fault<'a>> {
-        let item = flag(&LANG_ITEMS, words)?;
+        let item = words.flag(&LANG_ITEMS)?;
         let of = self.scope.names.trait_named(words.word()?)?;
         words.end()?;
         let draft = &mut self.scope.maker;
@@ -402,20 +402,11 @@ impl<'a> Declaring<'a> {
     }
 
     fn mode(&mut self, words: &mut Words<'a>) -> Result<(), Fault<'a>> {
-        let mode = flag(&MODES, words)?;
+        let mode = words.flag(&MODES)?;
         words.end()?;
         let draft = &mut self.scope.maker;
         draft.given.mode = mode;
         Ok(())
-    }
-}
-
-/// What the next word says by the table, else `Fault::BadFlag`.
-fn flag<'a, T: Copy>(table: &[(&'static str, T)], words: &mut Words<'a>) -> Result<T, Fault<'a>> {
-    let word = words.word()?;
-    match listed(table, word) {
-        Some(value) => Ok(value),
-        None => Err(Fault::BadFlag(word)),
     }
 }
 

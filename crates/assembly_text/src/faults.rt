@@ -84,59 +84,26 @@ impl From<DeclFault> for Fault<'_> {
     }
 }
 
-impl<'a> Fault<'a> {
-    /// What is wrong, without the word or the number that is named.
-    fn reason(self) -> &'static str {
-        match self {
-            Fault::BadByte => "bad byte",
-            Fault::UnknownWord => "unknown word",
-            Fault::LateDeclaration => "late declaration",
-            Fault::ShortLine => "short line",
-            Fault::UnknownName(_) => "unknown name ",
-            Fault::NameTwice(_) => "name twice ",
-            Fault::BadName(_) => "bad name ",
-            Fault::BadNumber(_) => "bad number ",
-            Fault::BadFlag(_) => "bad flag ",
-            Fault::Variable => "variable",
-            Fault::Parameter => "parameter",
-            Fault::NotAnAlias => "not an alias",
-            Fault::Alias => "alias",
-            Fault::TwoPrincipals => "two principals",
-            Fault::LongLine => "long line",
-            Fault::Stop(_) => "stop ",
-            Fault::Declarations(_) => "declaration fault ",
-        }
-    }
-
-    /// The word that is named, or nothing.
-    fn word(self) -> &'a str {
-        match self {
-            Fault::UnknownName(word)
-            | Fault::NameTwice(word)
-            | Fault::BadName(word)
-            | Fault::BadNumber(word)
-            | Fault::BadFlag(word) => word,
-            _ => "",
-        }
-    }
-
-    /// The number that is named, if there is one.
-    fn number(self) -> Option<u8> {
-        match self {
-            Fault::Stop(stop) => Some(stop as u8),
-            Fault::Declarations(fault) => Some(fault as u8),
-            _ => None,
-        }
-    }
-}
-
 impl fmt::Display for Fault<'_> {
     fn fmt<W: fmt::Write>(&self, f: &mut fmt::Formatter<W>) -> fmt::Result {
-        f.write_str(self.reason())?;
-        f.write_str(self.word())?;
-        match self.number() {
-            Some(number) => write!(f, "{number}"),
-            None => Ok(()),
+        match *self {
+            Fault::BadByte => f.write_str("bad byte"),
+            Fault::UnknownWord => f.write_str("unknown word"),
+            Fault::LateDeclaration => f.write_str("late declaration"),
+            Fault::ShortLine => f.write_str("short line"),
+            Fault::UnknownName(word) => write!(f, "unknown name {word}"),
+            Fault::NameTwice(word) => write!(f, "name twice {word}"),
+            Fault::BadName(word) => write!(f, "bad name {word}"),
+            Fault::BadNumber(word) => write!(f, "bad number {word}"),
+            Fault::BadFlag(word) => write!(f, "bad flag {word}"),
+            Fault::Variable => f.write_str("variable"),
+            Fault::Parameter => f.write_str("parameter"),
+            Fault::NotAnAlias => f.write_str("not an alias"),
+            Fault::Alias => f.write_str("alias"),
+            Fault::TwoPrincipals => f.write_str("two principals"),
+            Fault::LongLine => f.write_str("long line"),
+            Fault::Stop(stop) => write!(f, "stop {}", stop as u8),
+            Fault::Declarations(fault) => write!(f, "declaration fault {}", fault as u8),
         }
     }
 }

@@ -1,11 +1,11 @@
 //! The words that types are written in.
 
-ghost use Rattle.std.specs.Prelude.{◌≤◌, IfOk, IfSome};
-ghost use Rattle.assembly_text.specs.Notation.{IsChildless, IsLeaf};
+ghost use Rattle.std.specs.Prelude.{◌≡◌, IfOk, IfErr, IfSome};
+ghost use Rattle.assembly_text.specs.Notation.{IsChildless};
 
 use crate::building::{Constructor, Pointer};
 use crate::faults::Fault;
-use crate::words::{is_digits, number_in};
+use crate::words::{is_digits, listed, number_in};
 use candidate_ir::ir::kinds::{FloatTy, InferTy, IntTy, Mutability, Placeholder, TyKind, UintTy};
 
 /// The greatest number of a variable.
@@ -26,185 +26,108 @@ pub enum Head {
     Dyn(u16),
 }
 
+/// What a number says, by what stands around it in its word.
+#[derive(Clone, Copy)]
+enum Counted {
+    Parameter,
+    Variable,
+    Placeholder,
+    Tuple,
+    Fn,
+    Dyn,
+}
+
+/// The words with a number: what stands before it and behind it, the greatest one, and what it says.
+const COUNTED: [(&str, &str, u16, Counted); 6] = [
+    ("#", "", u16::MAX, Counted::Parameter),
+    ("$", "", LAST_VARIABLE, Counted::Variable),
+    ("(", ")", u16::MAX, Counted::Tuple),
+    ("!", "", u16::MAX, Counted::Placeholder),
+    ("fn(", ")", u16::MAX, Counted::Fn),
+    ("dyn(", ")", u16::MAX, Counted::Dyn),
+];
+
+/// The words without a number.
+const FIXED: [(&str, Head); 26] = [
+    ("&", Head::Before(Pointer::Ref(Mutability::Not))),
+    ("[]", Head::Before(Pointer::Slice)),
+    ("&mut", Head::Before(Pointer::Ref(Mutability::Mut))),
+    ("*const", Head::Before(Pointer::RawPtr(Mutability::Not))),
+    ("*mut", Head::Before(Pointer::RawPtr(Mutability::Mut))),
+    ("bool", Head::Leaf(TyKind::Bool)),
+    ("char", Head::Leaf(TyKind::Char)),
+    ("str", Head::Leaf(TyKind::Str)),
+    ("!", Head::Leaf(TyKind::Never)),
+    ("u8", Head::Leaf(TyKind::Uint(UintTy::U8))),
+    ("u16", Head::Leaf(TyKind::Uint(UintTy::U16))),
+    ("u32", Head::Leaf(TyKind::Uint(UintTy::U32))),
+    ("u64", Head::Leaf(TyKind::Uint(UintTy::U64))),
+    ("u128", Head::Leaf(TyKind::Uint(UintTy::U128))),
+    ("usize", Head::Leaf(TyKind::Uint(UintTy::Usize))),
+    ("i8", Head::Leaf(TyKind::Int(IntTy::I8))),
+    ("i16", Head::Leaf(TyKind::Int(IntTy::I16))),
+    ("i32", Head::Leaf(TyKind::Int(IntTy::I32))),
+    ("i64", Head::Leaf(TyKind::Int(IntTy::I64))),
+    ("i128", Head::Leaf(TyKind::Int(IntTy::I128))),
+    ("isize", Head::Leaf(TyKind::Int(IntTy::Isize))),
+    ("f16", Head::Leaf(TyKind::Float(FloatTy::F16))),
+    ("f32", Head::Leaf(TyKind::Float(FloatTy::F32))),
+    ("f64", Head::Leaf(TyKind::Float(FloatTy::F64))),
+    ("f128", Head::Leaf(TyKind::Float(FloatTy::F128))),
+    ("error", Head::Leaf(TyKind::Error)),
+];
+
 /// What the first word of a type makes of the words that follow, or none where only a name can say it.
 ///
-/// `Fault::BadNumber` comes where the number in the word is too great, `Fault::UnknownName` where
-/// the word has a mark, but no number.
+/// The only error is `Fault::BadNumber`, where the number in the word is too great.
 pub fn head_of<'a>(word: &'a str) -> Result<Option<Head>, Fault<'a>>
-    ensures { IfOk result (λ found. IfSome found IsChildless) }
+    ensures head { IfOk result (λ found. IfSome found IsChildless) }
+    ensures cause { IfErr result (λ e. e ≡ Fault.BadNumber word.entry) }
 {
-    match word.as_bytes().first() {
-        Some(b'A'..=b'Z' | b'a'..=b'z') => lettered_head(word),
-        Some(mark) => match word.split_at_checked(1) {
-            Some((_, rest)) => marked_head(word, *mark, rest),
-            None => Ok(None),
-        },
-        None => Ok(None),
+    for (before, after, most, counted) in &COUNTED {
+        if let Some(digits) = digits_between(word, before, after) {
+            let number = number_in(word, digits, u64::from(*most))? as u16;
+            return Ok(Some(counted_head(*counted, number)));
+        }
+    }
+    match digits_between(word, "[", "]") {
+        Some(digits) => {
+            let length = number_in(word, digits, u64::MAX)?;
+            Ok(Some(Head::Before(Pointer::Array(length))))
+        }
+        None => Ok(fixed_head(word)),
     }
 }
 
-#[inline(never)]
-fn lettered_head<'a>(word: &'a str) -> Result<Option<Head>, Fault<'a>>
-    ensures { IfOk result (λ found. IfSome found IsChildless) }
-{
-    if let Some(kind) = leaf(word) {
-        return Ok(Some(Head::Leaf(kind)));
-    }
-    if let Some(rest) = word.strip_prefix("dyn(") {
-        return Ok(Some(Head::Dyn(bracketed_number(word, rest)?)));
-    }
-    if let Some(rest) = word.strip_prefix("fn(") {
-        return Ok(Some(Head::Fn(bracketed_number(word, rest)?)));
-    }
-    Ok(None)
-}
-
-/// What a word makes that is this mark and the rest.
-#[inline(never)]
-fn marked_head<'a>(word: &'a str, mark: u8, rest: &str) -> Result<Option<Head>, Fault<'a>>
-    ensures { IfOk result (λ found. IfSome found IsChildless) }
-{
-    match mark {
-        b'&' => Ok(reference_head(rest)),
-        b'*' => Ok(raw_pointer_head(rest)),
-        b'[' => Ok(Some(bracket_head(word, rest)?)),
-        b'(' => {
-            let count = u32::from(bracketed_number(word, rest)?);
-            Ok(Some(Head::Over(Constructor::Tuple, count)))
-        }
-        b'$' => {
-            let number = u32::from(marked_number(word, rest, LAST_VARIABLE)?);
-            Ok(Some(Head::Leaf(TyKind::Infer(InferTy::TyVar(number)))))
-        }
-        b'!' => Ok(Some(Head::Leaf(never_or_placeholder(word, rest)?))),
-        b'#' => {
-            let index = u32::from(marked_number(word, rest, u16::MAX)?);
-            Ok(Some(Head::Leaf(TyKind::Param(index))))
-        }
-        _ => Ok(None),
-    }
-}
-
-fn reference_head(rest: &str) -> Option<Head>
+/// What a word without a number makes of the words that follow, if it is one.
+pub fn fixed_head(word: &str) -> Option<Head>
     ensures { IfSome result IsChildless }
 {
-    match rest {
-        "" => Some(Head::Before(Pointer::Ref(Mutability::Not))),
-        "mut" => Some(Head::Before(Pointer::Ref(Mutability::Mut))),
-        _ => None,
-    }
+    listed(&FIXED, word)
 }
 
-fn raw_pointer_head(rest: &str) -> Option<Head>
-    ensures { IfSome result IsChildless }
-{
-    match rest {
-        "const" => Some(Head::Before(Pointer::RawPtr(Mutability::Not))),
-        "mut" => Some(Head::Before(Pointer::RawPtr(Mutability::Mut))),
-        _ => None,
-    }
-}
-
-/// A slice, or an array of the length in the rest.
-fn bracket_head<'a>(word: &'a str, rest: &str) -> Result<Head, Fault<'a>>
-    ensures { IfOk result IsChildless }
-{
-    if rest == "]" {
-        return Ok(Head::Before(Pointer::Slice));
-    }
-    Ok(Head::Before(Pointer::Array(array_length(word, rest)?)))
-}
-
-fn never_or_placeholder<'a>(word: &'a str, rest: &str) -> Result<TyKind, Fault<'a>>
-    ensures { IfOk result IsLeaf }
-{
-    if rest.is_empty() {
-        return Ok(TyKind::Never);
-    }
-    let index = u32::from(marked_number(word, rest, u16::MAX)?);
-    Ok(TyKind::Placeholder(Placeholder { universe: 0, index }))
-}
-
-/// The number in the rest of a word after the bracket of an array.
-fn array_length<'a>(word: &'a str, rest: &str) -> Result<u64, Fault<'a>> {
-    match rest.strip_suffix(']') {
-        Some(digits) if is_digits(digits) => number_in(word, digits, u64::MAX),
-        _ => Err(Fault::UnknownName(word)),
-    }
-}
-
-/// The number in the rest of a word after its bracket.
-fn bracketed_number<'a>(word: &'a str, rest: &str) -> Result<u16, Fault<'a>> {
-    match rest.strip_suffix(')') {
-        Some(digits) => marked_number(word, digits, u16::MAX),
-        None => Err(Fault::UnknownName(word)),
-    }
-}
-
-fn marked_number<'a>(word: &'a str, digits: &str, most: u16) -> Result<u16, Fault<'a>> {
+/// The digits that stand in the word between the two texts, if nothing else does.
+#[inline(always)]
+fn digits_between<'w>(word: &'w str, before: &str, after: &str) -> Option<&'w str> {
+    let digits = word.strip_prefix(before)?.strip_suffix(after)?;
     if is_digits(digits) {
-        Ok(number_in(word, digits, u64::from(most))? as u16)
+        Some(digits)
     } else {
-        Err(Fault::UnknownName(word))
+        None
     }
 }
 
-/// The type that the word alone is, which begins with a letter. The first byte tells most other words from it at once.
-pub fn leaf(word: &str) -> Option<TyKind>
-    ensures { IfSome result IsLeaf }
+fn counted_head(counted: Counted, number: u16) -> Head
+    ensures { IsChildless result }
 {
-    match word.as_bytes().first()? {
-        b'i' => Some(TyKind::Int(int_width(word)?)),
-        b'u' => Some(TyKind::Uint(uint_width(word)?)),
-        b'f' => Some(TyKind::Float(float_width(word)?)),
-        b'b' | b'c' | b's' | b'e' => other_leaf(word),
-        _ => None,
-    }
-}
-
-fn other_leaf(word: &str) -> Option<TyKind>
-    ensures { IfSome result IsLeaf }
-{
-    match word {
-        "bool" => Some(TyKind::Bool),
-        "char" => Some(TyKind::Char),
-        "str" => Some(TyKind::Str),
-        "error" => Some(TyKind::Error),
-        _ => None,
-    }
-}
-
-fn int_width(word: &str) -> Option<IntTy> {
-    match word {
-        "i8" => Some(IntTy::I8),
-        "i16" => Some(IntTy::I16),
-        "i32" => Some(IntTy::I32),
-        "i64" => Some(IntTy::I64),
-        "i128" => Some(IntTy::I128),
-        "isize" => Some(IntTy::Isize),
-        _ => None,
-    }
-}
-
-fn uint_width(word: &str) -> Option<UintTy> {
-    match word {
-        "u8" => Some(UintTy::U8),
-        "u16" => Some(UintTy::U16),
-        "u32" => Some(UintTy::U32),
-        "u64" => Some(UintTy::U64),
-        "u128" => Some(UintTy::U128),
-        "usize" => Some(UintTy::Usize),
-        _ => None,
-    }
-}
-
-fn float_width(word: &str) -> Option<FloatTy> {
-    match word {
-        "f16" => Some(FloatTy::F16),
-        "f32" => Some(FloatTy::F32),
-        "f64" => Some(FloatTy::F64),
-        "f128" => Some(FloatTy::F128),
-        _ => None,
+    let index = u32::from(number);
+    match counted {
+        Counted::Parameter => Head::Leaf(TyKind::Param(index)),
+        Counted::Variable => Head::Leaf(TyKind::Infer(InferTy::TyVar(index))),
+        Counted::Placeholder => Head::Leaf(TyKind::Placeholder(Placeholder { universe: 0, index })),
+        Counted::Tuple => Head::Over(Constructor::Tuple, index),
+        Counted::Fn => Head::Fn(number),
+        Counted::Dyn => Head::Dyn(number),
     }
 }
 

@@ -18,13 +18,14 @@ use crate::faults::Fault;
 use crate::making::{Draft, Maker};
 use crate::names::{Item, NamedTrait, Names};
 use crate::notation::{Head, head_of, word_of};
-use crate::words::{Words, begins_with_capital};
+use crate::words::Words;
 use candidate_ir::decl::context::Cx;
 use candidate_ir::ir::kinds::{
     Args, AssocId, Binder, Clause, Const, ConstKind, ExistentialPredicate, GenericArg, InferTy,
     Preds, TraitId, TraitRef, Ty, TyKind,
 };
 use candidate_ir::ir::stop::Stop;
+use candidate_ir::ir::trees::Trees;
 use std::alloc::Global;
 
 /// How deep the words of a type may be nested.
@@ -211,24 +212,12 @@ impl<'a, M: Maker> Scope<'a, M> {
         Ok((word, self.head(word)?, below))
     }
 
-    /// What the next word says as the first one of a bound.
-    fn next_bound_head(
-        &self,
-        words: &mut Words<'a>,
-        has_principal: bool,
-    ) -> Result<BoundHead, Fault<'a>>
-        ensures { IfOk result (λ head. has_principal ≡ true → IsNoPrincipal head) }
-    {
-        let word = words.word()?;
-        self.bound_head(word, has_principal)
-    }
-
     /// What the first word of a type makes of the words that follow.
     fn head(&self, word: &'a str) -> Result<Head, Fault<'a>>
         ensures { IfOk result IsChildless }
     {
         // Only names begin with a capital letter.
-        if begins_with_capital(word) {
+        if let Some(b'A'..=b'Z') = word.as_bytes().first() {
             return self.named_head(word);
         }
         match head_of(word)? {
@@ -253,10 +242,15 @@ impl<'a, M: Maker> Scope<'a, M> {
         }
     }
 
-    /// What the first word of a bound says. `Fault::TwoPrincipals` comes at a principal after another.
-    fn bound_head(&self, name: &'a str, has_principal: bool) -> Result<BoundHead, Fault<'a>>
+    /// What the next word says as the first one of a bound. `Fault::TwoPrincipals` comes at a principal after another.
+    fn next_bound_head(
+        &self,
+        words: &mut Words<'a>,
+        has_principal: bool,
+    ) -> Result<BoundHead, Fault<'a>>
         ensures { IfOk result (λ head. has_principal ≡ true → IsNoPrincipal head) }
     {
+        let name = words.word()?;
         match self.names.item(name)? {
             Item::Trait(found) if found.is_auto => Ok(BoundHead::AutoTrait(found.id)),
             Item::Trait(_) if has_principal => Err(Fault::TwoPrincipals),

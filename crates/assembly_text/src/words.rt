@@ -1,6 +1,6 @@
 //! The words of a line, from left to right.
 
-ghost use Rattle.std.specs.Prelude.{◌≡◌, ◌≤◌, IfOk, IfErr};
+ghost use Rattle.std.specs.Prelude.{◌≡◌, ◌≤◌, IfOk, IfErr, IfSome, Contains, map};
 
 use crate::faults::Fault;
 use std::str;
@@ -34,12 +34,12 @@ impl<'a> Words<'a> {
 
     /// The next word, if one is left.
     pub fn next_word(&mut self) -> Option<&'a str> {
-        let (_, rest) = self.rest.split_at_checked(spaces_before(self.rest))?;
+        let (_, rest) = self.rest.split_at_checked(leading(self.rest, true))?;
         if rest.is_empty() {
             return None;
         }
         let (word, rest) = rest
-            .split_at_checked(end_of_word(rest))
+            .split_at_checked(leading(rest, false))
             .unwrap_or((rest, ""));
         self.rest = rest;
         Some(word)
@@ -65,6 +65,19 @@ impl<'a> Words<'a> {
         Ok(number_in(word, word, u64::from(most))? as u16)
     }
 
+    /// What the next word says by the table.
+    ///
+    /// Its errors are `Fault::ShortLine`, and `Fault::BadFlag` where the table doesn't have the word.
+    pub fn flag<T: Copy>(&mut self, table: &[(&'static str, T)]) -> Result<T, Fault<'a>>
+        ensures { IfOk result (Contains (map (λ row. row.1) table.now)) }
+    {
+        let word = self.word()?;
+        match listed(table, word) {
+            Some(value) => Ok(value),
+            None => Err(Fault::BadFlag(word)),
+        }
+    }
+
     /// Nothing if no word is left, else `Fault::LongLine`.
     pub fn end(&mut self) -> Result<(), Fault<'a>>
         ensures { IfErr result (λ e. e ≡ Fault.LongLine) }
@@ -77,7 +90,9 @@ impl<'a> Words<'a> {
 }
 
 /// What the word stands for in a table of words.
-pub fn listed<T: Copy>(table: &[(&'static str, T)], word: &str) -> Option<T> {
+pub fn listed<T: Copy>(table: &[(&'static str, T)], word: &str) -> Option<T>
+    ensures { IfSome result (Contains (map (λ row. row.1) table.now)) }
+{
     for (listed, value) in table {
         if *listed == word {
             return Some(*value);
@@ -86,21 +101,11 @@ pub fn listed<T: Copy>(table: &[(&'static str, T)], word: &str) -> Option<T> {
     None
 }
 
-/// Where the first byte stands that is no space, or the end of the text.
-fn spaces_before(text: &str) -> usize {
-    for (start, byte) in text.bytes().enumerate() {
-        if byte != b' ' {
-            return start;
-        }
-    }
-    text.len()
-}
-
-/// Where the first space stands, or the end of the text.
-fn end_of_word(text: &str) -> usize {
-    for (end, byte) in text.bytes().enumerate() {
-        if byte == b' ' {
-            return end;
+/// How many bytes before the rest are spaces, or are none.
+fn leading(text: &str, are_spaces: bool) -> usize {
+    for (count, byte) in text.bytes().enumerate() {
+        if (byte == b' ') != are_spaces {
+            return count;
         }
     }
     text.len()
@@ -113,22 +118,6 @@ fn is_visible(line: &[u8]) -> bool {
         is_visible &= matches!(byte, b' '..=b'~');
     }
     is_visible
-}
-
-/// Whether the first byte is a letter.
-pub fn begins_with_letter(word: &str) -> bool {
-    match word.as_bytes().first() {
-        Some(byte) => byte.is_ascii_alphabetic(),
-        None => false,
-    }
-}
-
-/// Whether the first byte is a capital letter.
-pub fn begins_with_capital(word: &str) -> bool {
-    match word.as_bytes().first() {
-        Some(byte) => byte.is_ascii_uppercase(),
-        None => false,
-    }
 }
 
 /// Whether the text is decimal digits, at least one.

@@ -39,7 +39,8 @@ use Rattle.candidate_ir.specs.WellFormed.{SignatureFits}
 use Rattle.candidate_ir.specs.Words.{IsTy, IsArgs, SigFits, KindFits, ListFits, IsMkStop, list_forest, ty_tree, kind_tree, sig_tree, sig_kind_tree, args_forest}
 use Rattle.candidate_ir.specs.Worlds.{FunctionSort, all_of, kinds_of, parameters}
 use Rattle.candidate_ir.proofs.Folding.{or-right}
-use Rattle.candidate_ir.proofs.Lists.{there, below_kind}
+use Rattle.candidate_ir.proofs.Lists.{below_kind}
+use Rattle.candidate_ir.specs.Trees.{there}
 use Rattle.candidate_ir.proofs.Kept.{number-kept, args-kept}
 use Rattle.candidate_ir.proofs.Rows.{join-none, kind-of, row-single, row-list}
 use Rattle.candidate_eval.specs.declared.structural.callable.CallableId.TheVariants as I

@@ -1,6 +1,7 @@
 -- The cells of the table, over the trees of kinds.
 use Rattle.std.proofs.Common.{◌≡◌, ◌↔◌, IsTrue, not, ℕ, List, [], ◌∷◌, ◌++◌, Bool, true, false, Some, refl, sym, ◌∙◌, ap, subst}
 use Rattle.std.specs.Prelude.{if◌then◌else◌}
+use Rattle.candidate_ir.specs.declared.ir.heads.Head.TheVariants as H
 use Rattle.candidate_ir.specs.declared.ir.kinds.TyKind.{TyKind}
 use Rattle.candidate_ir.specs.declared.ir.kinds.TyKind.TheVariants as K
 use Rattle.candidate_ir.specs.declared.ir.kinds.Pattern.{Pattern}
@@ -14,7 +15,6 @@ use Rattle.candidate_ir.specs.declared.ir.kinds.AliasKind.TheVariants as AK
 use Rattle.candidate_ir.specs.declared.ir.kinds.AliasTy.{AliasTy}
 use Rattle.candidate_ir.specs.declared.ir.kinds.AdtId.{AdtId}
 use Rattle.candidate_ir.specs.declared.ir.kinds.Args.{Args}
-use Rattle.candidate_ir.specs.declared.decl.contents.Sizedness.{Sizedness}
 use Rattle.candidate_ir.specs.declared.decl.contents.Sizedness.TheVariants as S
 use Rattle.candidate_ir.specs.Trees.{Kind, TypeKind, ConstantKind, RegionKind, BinderKind, SignatureKind, ArgumentsKind, Forest, none, tree, Tree, kind_of, is_type_kind, is_list_kind, row, join}
 use Rattle.candidate_ir.specs.Nodes.{tree_at, kind_at}
@@ -25,15 +25,19 @@ use Rattle.candidate_ir.specs.Lookups.{adt_flags, definition}
 use Rattle.candidate_ir.specs.References.{Takes, IsWellFormed}
 use Rattle.candidate_ir.specs.Words.{IsTy, KindFits, IsArgs, ty_tree, kind_tree, args_forest}
 use Rattle.candidate_ir.specs.Worlds.{AdtSort, OpaqueSort, Fits, alias_kinds, child_kinds, parameters, kinds_of}
-use Rattle.candidate_ir.proofs.Lists.{there, below_kind}
+use Rattle.candidate_ir.proofs.Lists.{below_kind}
+use Rattle.candidate_ir.specs.Trees.{there}
 use Rattle.candidate_ir.proofs.Kept.{number-kept}
 use Rattle.candidate_ir.proofs.References.{fit-at}
 use Rattle.candidate_ir.proofs.Rows.{join-none, kind-of, row-single, row-list}
 use Rattle.candidate_eval.specs.declared.structural.asked.Asked.{Asked}
 use Rattle.candidate_eval.specs.declared.structural.asked.Asked.TheVariants as A
 use Rattle.candidate_eval.specs.declared.structural.Under.{Under}
-use Rattle.candidate_eval.specs.Tables.{Cell, Refused, Asks, IsTypesStop, IsCellStop, asks, under, types_of, last_of, first_of, last_type, is_phantom, is_manually_drop, is_excluded, field_types, constraint_types, hidden_types, alias_row, row_of}
-use Rattle.candidate_eval.specs.Asked.{asked_types, asked_variables, asked_cell, is_refused, under_of, variables, IsUnder, AskedFits, alias_asked, auto_asked, unsized_asked, sizedness_asked, copy_asked, destruct_asked, is_opaque, auto_known, kind_known}
+use Rattle.candidate_eval.specs.declared.structural.Column.{Column}
+use Rattle.candidate_eval.specs.declared.structural.Column.TheVariants as C
+use Rattle.candidate_eval.specs.Tables.{Cell, Excluded, Refused, Asks, IsTypesStop, IsCellStop, always, asks, cell, cells, under, types_of, last_of, first_of, last_type, is_phantom, is_manually_drop, is_excluded, field_types, constraint_types, hidden_types, alias_row, row_of}
+use Rattle.candidate_eval.specs.Tables as tables
+use Rattle.candidate_eval.specs.Asked.{asked_types, asked_variables, asked_cell, is_refused, under_of, variables, IsUnder, AskedFits, alias_asked, asked_for, known}
 
 -- The types among the children of a kind.
 
@@ -59,10 +63,10 @@ types-join (tree h below rest) b =
     let t : Tree = record { head = h; children = below } in
     ap (λ (xs : List Tree). if is_type_kind (kind_of h) then t ∷ xs else xs) (types-join rest b) ∙ types-if-join (is_type_kind (kind_of h)) t (types_of rest) (types_of b)
 
-last-pushed : {X : Type 0} (xs : List X) (x : X) → last_of (xs ++ x ∷ []) ≡ x ∷ []
-last-pushed [] x = refl
-last-pushed (y ∷ []) x = refl
-last-pushed (y ∷ (z ∷ zs)) x = last-pushed (z ∷ zs) x
+pub last_pushed : {X : Type 0} (xs : List X) (x : X) → last_of (xs ++ x ∷ []) ≡ x ∷ []
+last_pushed [] x = refl
+last_pushed (y ∷ []) x = refl
+last_pushed (y ∷ (z ∷ zs)) x = last_pushed (z ∷ zs) x
 
 closure-last : (ts : List Tree) (p s u : ℕ) → kind_at ts p ≡ ArgumentsKind → kind_at ts s ≡ SignatureKind → kind_at ts u ≡ TypeKind
     → last_type (row (tree_at ts p) (row (tree_at ts s) (row (tree_at ts u) none))) ≡ tree_at ts u ∷ []
@@ -70,7 +74,7 @@ closure-last ts p s u e f g =
     let below = (tree_at ts p).children in
     let own : types_of (row (tree_at ts s) (row (tree_at ts u) none)) ≡ tree_at ts u ∷ [] = no-more ts s SignatureKind _ refl refl refl f ∙ one-more ts u none g in
     ap last_type (row-list ts p ArgumentsKind _ refl refl e)
-    ∙ (ap last_of (types-join below (row (tree_at ts s) (row (tree_at ts u) none)) ∙ ap (λ (xs : List Tree). types_of below ++ xs) own) ∙ last-pushed (types_of below) (tree_at ts u))
+    ∙ (ap last_of (types-join below (row (tree_at ts s) (row (tree_at ts u) none)) ∙ ap (λ (xs : List Tree). types_of below ++ xs) own) ∙ last_pushed (types_of below) (tree_at ts u))
 
 binder-cell : (ts : List Tree) (v t : ℕ) → kind_at ts v ≡ BinderKind → kind_at ts t ≡ TypeKind
     → Asks (record { variables = (tree_at ts v).children; types = tree_at ts t ∷ [] }) ≡ under (row (tree_at ts v) (row (tree_at ts t) none))
@@ -95,140 +99,104 @@ closure-types ts i a f =
     let h : kind_at ts a.upvars.0 ≡ TypeKind = cc in
     closure-last ts a.parent.0 a.sig.0 a.upvars.0 e g h
 
--- Auto traits
+-- A cell that asks about one type, about a list of them, or about one under a binder
+
+one-cell : (c : Context) (t : Ty) (ts : List Tree) → ts ≡ ty_tree c.trees t ∷ [] → asked_cell c (A.Type t) ≡ asks ts
+one-cell c t ts e = sym (ap asks e)
+
+members-cell : (c : Context) (a : Args) → IsArgs c.trees a → asked_cell c (A.Members a) ≡ asks (types_of (row (tree_at c.trees a.0) none))
+members-cell c a e = sym (ap (λ (y : Forest). asks (types_of y)) (below-list c.trees a e))
+
+array-types : (ts : List Tree) (t : Ty) (n : ℕ) → IsTy ts t → kind_at ts n ≡ ConstantKind → types_of (row (tree_at ts t.0) (row (tree_at ts n) none)) ≡ ty_tree ts t ∷ []
+array-types ts t n e g = one-more ts t.0 _ e ∙ ap (λ (xs : List Tree). tree_at ts t.0 ∷ xs) (no-more ts n ConstantKind none refl refl refl g)
 
 owned-cell : (c : Context) (i : AdtId) (a : Args) (b : Bool) (f : Forest) → f ≡ args_forest c.trees a
     → asked_cell c (if b then A.FirstArgument a else A.Fields i a) ≡ asks (if b then first_of f else field_types c i.0 f)
 owned-cell c i a true f e = ap (λ (x : Forest). asks (first_of x)) (sym e)
 owned-cell c i a false f e = ap (λ (x : Forest). asks (field_types c i.0 x)) (sym e)
 
-alias-cell : (c : Context) (a : AliasTy) (k : AliasKind) (f : Forest) → f ≡ args_forest c.trees a.args → is_excluded (alias_row c k a.id.0 f).auto ≡ false
-    → asked_cell c (alias_asked k a) ≡ (alias_row c k a.id.0 f).auto
-alias-cell c a AK.Opaque f e x = ap (λ (y : Forest). asks (hidden_types c a.id.0 y)) (sym e)
-alias-cell c a AK.Projection f e x = absurd cc
-alias-cell c a AK.Inherent f e x = absurd cc
-alias-cell c a AK.Free f e x = absurd cc
+dropped-cell : (c : Context) (i : AdtId) (a : Args) (b : Bool) (f : Forest) → f ≡ args_forest c.trees a
+    → asked_cell c (if b then A.Nothing else A.Fields i a) ≡ asks (if b then [] else field_types c i.0 f)
+dropped-cell c i a true f e = refl
+dropped-cell c i a false f e = ap (λ (x : Forest). asks (field_types c i.0 x)) (sym e)
 
-pub auto_cell : (c : Context) (k : TyKind) → KindFits c.trees k → is_excluded (row_of c (kind_tree c.trees k)).auto ≡ false → asked_cell c (auto_asked c k) ≡ (row_of c (kind_tree c.trees k)).auto
-auto_cell c K.Bool f x = refl
-auto_cell c K.Char f x = refl
-auto_cell c (K.Int w) f x = refl
-auto_cell c (K.Uint w) f x = refl
-auto_cell c (K.Float w) f x = refl
-auto_cell c K.Str f x = refl
-auto_cell c K.Never f x = refl
-auto_cell c (K.Adt i a) f x = let e : IsArgs c.trees a = cc in owned-cell c i a (is_phantom (adt_flags (definition c i.0))) _ (below-list c.trees a e)
-auto_cell c (K.Foreign i) f x = refl
-auto_cell c (K.Array t n) f x =
+adt-cell : (c : Context) (o : Column) (i : AdtId) (a : Args) (f : Forest) → f ≡ args_forest c.trees a → asked_cell c (asked_for c o (K.Adt i a)) ≡ cell o (tables.row c (H.Adt i) f)
+adt-cell c C.Auto i a f e = owned-cell c i a (is_phantom (adt_flags (definition c i.0))) f e
+adt-cell c (C.Sizedness s) i a f e = sym (ap (λ (y : Forest). asks (constraint_types c i.0 y s)) e)
+adt-cell c C.CopyClone i a f e = refl
+adt-cell c C.Destruct i a f e = dropped-cell c i a (is_manually_drop (adt_flags (definition c i.0))) f e
+
+alias-cell : (c : Context) (o : Column) (a : AliasTy) (k : AliasKind) → a.kind ≡ k → (f : Forest) → f ≡ args_forest c.trees a.args → is_excluded (cell o (alias_row c k a.id.0 f)) ≡ false
+    → asked_cell c (asked_for c o (K.Alias a)) ≡ cell o (alias_row c k a.id.0 f)
+alias-cell c C.Auto a AK.Opaque q f e x = ap (λ (k : AliasKind). asked_cell c (alias_asked k a)) q ∙ ap (λ (y : Forest). asks (hidden_types c a.id.0 y)) (sym e)
+alias-cell c C.Auto a AK.Projection q f e x = absurd cc
+alias-cell c C.Auto a AK.Inherent q f e x = absurd cc
+alias-cell c C.Auto a AK.Free q f e x = absurd cc
+alias-cell c _ a AK.Opaque q f e x = refl
+alias-cell c _ a _ q f e x = refl
+
+excluded : (o : Column) → is_excluded (cell o (cells Excluded (always Excluded) Excluded Excluded)) ≡ false → ⊥
+excluded C.Auto x = absurd cc
+excluded (C.Sizedness s) x = absurd cc
+excluded C.CopyClone x = absurd cc
+excluded C.Destruct x = absurd cc
+
+-- The cell of a kind, in each column
+
+pub kind_cell : (c : Context) (o : Column) (k : TyKind) → KindFits c.trees k → is_excluded (cell o (row_of c (kind_tree c.trees k))) ≡ false
+    → asked_cell c (asked_for c o k) ≡ cell o (row_of c (kind_tree c.trees k))
+kind_cell c o (K.Adt i a) f x = let e : IsArgs c.trees a = cc in adt-cell c o i a _ (below-list c.trees a e)
+kind_cell c o (K.Alias a) f x = let e : IsArgs c.trees a.args = cc in alias-cell c o a a.kind refl _ (below-list c.trees a.args e) x
+kind_cell c C.Auto (K.Array t n) f x =
     let e : kind_at c.trees t.0 ≡ TypeKind = cc in
     let g : kind_at c.trees n.0 ≡ ConstantKind = cc in
-    sym (ap asks (one-more c.trees t.0 _ e ∙ ap (λ (xs : List Tree). tree_at c.trees t.0 ∷ xs) (no-more c.trees n.0 ConstantKind none refl refl refl g)))
-auto_cell c (K.Slice t) f x = let e : kind_at c.trees t.0 ≡ TypeKind = cc in sym (ap asks (one-more c.trees t.0 none e))
-auto_cell c (K.Pat t Pat.NotNull) f x = sym (ap asks (pattern-types c.trees t Pat.NotNull f))
-auto_cell c (K.Pat t (Pat.Range from to)) f x = sym (ap asks (pattern-types c.trees t (Pat.Range from to) f))
-auto_cell c (K.RawPtr t m) f x = let e : kind_at c.trees t.0 ≡ TypeKind = cc in sym (ap asks (one-more c.trees t.0 none e))
-auto_cell c (K.Ref r t m) f x =
+    one-cell c t _ (array-types c.trees t n.0 e g)
+kind_cell c C.Destruct (K.Array t n) f x =
+    let e : kind_at c.trees t.0 ≡ TypeKind = cc in
+    let g : kind_at c.trees n.0 ≡ ConstantKind = cc in
+    one-cell c t _ (array-types c.trees t n.0 e g)
+kind_cell c (C.Sizedness S.Sized) (K.Slice t) f x = refl
+kind_cell c (C.Sizedness S.MetaSized) (K.Slice t) f x = refl
+kind_cell c C.CopyClone (K.Slice t) f x = refl
+kind_cell c _ (K.Slice t) f x = let e : kind_at c.trees t.0 ≡ TypeKind = cc in one-cell c t _ (one-more c.trees t.0 none e)
+kind_cell c (C.Sizedness s) (K.Pat t Pat.NotNull) f x = refl
+kind_cell c _ (K.Pat t Pat.NotNull) f x = one-cell c t _ (pattern-types c.trees t Pat.NotNull f)
+kind_cell c (C.Sizedness s) (K.Pat t (Pat.Range from to)) f x = refl
+kind_cell c _ (K.Pat t (Pat.Range from to)) f x = one-cell c t _ (pattern-types c.trees t (Pat.Range from to) f)
+kind_cell c C.Auto (K.RawPtr t m) f x = let e : kind_at c.trees t.0 ≡ TypeKind = cc in one-cell c t _ (one-more c.trees t.0 none e)
+kind_cell c C.Auto (K.Ref r t m) f x =
     let e : kind_at c.trees r.0 ≡ RegionKind = cc in
     let g : kind_at c.trees t.0 ≡ TypeKind = cc in
-    sym (ap asks (no-more c.trees r.0 RegionKind _ refl refl refl e ∙ one-more c.trees t.0 none g))
-auto_cell c (K.FnDef i a) f x = refl
-auto_cell c (K.FnPtr s) f x = refl
-auto_cell c (K.UnsafeBinder b) f x =
+    one-cell c t _ (no-more c.trees r.0 RegionKind _ refl refl refl e ∙ one-more c.trees t.0 none g)
+kind_cell c C.Auto (K.UnsafeBinder b) f x =
     let e : kind_at c.trees b.vars.0 ≡ BinderKind = cc in
     let g : kind_at c.trees b.value.0 ≡ TypeKind = cc in
     binder-cell c.trees b.vars.0 b.value.0 e g
-auto_cell c (K.Dynamic p r) f x = absurd cc
-auto_cell c (K.Closure i a) f x = sym (ap asks (closure-types c.trees i a f))
-auto_cell c (K.Tuple a) f x = let e : IsArgs c.trees a = cc in sym (ap (λ (y : Forest). asks (types_of y)) (below-list c.trees a e))
-auto_cell c (K.Alias a) f x = let e : IsArgs c.trees a.args = cc in alias-cell c a a.kind _ (below-list c.trees a.args e) x
-auto_cell c (K.Param n) f x = absurd cc
-auto_cell c (K.Placeholder p) f x = absurd cc
-auto_cell c (K.Bound v) f x = absurd cc
-auto_cell c (K.Infer (I.TyVar n)) f x = absurd cc
-auto_cell c (K.Infer (I.IntVar n)) f x = absurd cc
-auto_cell c (K.Infer (I.FloatVar n)) f x = absurd cc
-auto_cell c K.Error f x = refl
-
--- Sizedness traits
-
-pub sizedness_cell : (c : Context) (s : Sizedness) (k : TyKind) → KindFits c.trees k → is_excluded ((row_of c (kind_tree c.trees k)).sizedness s) ≡ false
-    → asked_cell c (sizedness_asked s k) ≡ (row_of c (kind_tree c.trees k)).sizedness s
-sizedness_cell c S.Sized K.Str f x = refl
-sizedness_cell c S.MetaSized K.Str f x = refl
-sizedness_cell c S.Sized (K.Slice t) f x = refl
-sizedness_cell c S.MetaSized (K.Slice t) f x = refl
-sizedness_cell c S.Sized (K.Dynamic p r) f x = refl
-sizedness_cell c S.MetaSized (K.Dynamic p r) f x = refl
-sizedness_cell c s K.Bool f x = refl
-sizedness_cell c s K.Char f x = refl
-sizedness_cell c s (K.Int w) f x = refl
-sizedness_cell c s (K.Uint w) f x = refl
-sizedness_cell c s (K.Float w) f x = refl
-sizedness_cell c s K.Never f x = refl
-sizedness_cell c s (K.Adt i a) f x = let e : IsArgs c.trees a = cc in sym (ap (λ (y : Forest). asks (constraint_types c i.0 y s)) (below-list c.trees a e))
-sizedness_cell c s (K.Foreign i) f x = refl
-sizedness_cell c s (K.Array t n) f x = refl
-sizedness_cell c s (K.Pat t Pat.NotNull) f x = refl
-sizedness_cell c s (K.Pat t (Pat.Range from to)) f x = refl
-sizedness_cell c s (K.RawPtr t m) f x = refl
-sizedness_cell c s (K.Ref r t m) f x = refl
-sizedness_cell c s (K.FnDef i a) f x = refl
-sizedness_cell c s (K.FnPtr g) f x = refl
-sizedness_cell c s (K.UnsafeBinder b) f x =
+kind_cell c (C.Sizedness s) (K.UnsafeBinder b) f x =
     let e : kind_at c.trees b.vars.0 ≡ BinderKind = cc in
     let g : kind_at c.trees b.value.0 ≡ TypeKind = cc in
     binder-cell c.trees b.vars.0 b.value.0 e g
-sizedness_cell c s (K.Closure i a) f x = refl
-sizedness_cell c s (K.Tuple a) f x = let e : IsArgs c.trees a = cc in sym (ap (λ (y : Forest). asks (last_type y)) (below-list c.trees a e))
-sizedness_cell c s (K.Alias a) f x = of a.kind _
-  where
-    of : (k : AliasKind) → (g : Forest) → asked_cell c A.Refused ≡ (alias_row c k a.id.0 g).sizedness s
-    of AK.Opaque g = refl
-    of _ g = refl
-sizedness_cell c s (K.Param n) f x = refl
-sizedness_cell c s (K.Placeholder p) f x = refl
-sizedness_cell c s (K.Bound v) f x = absurd cc
-sizedness_cell c s (K.Infer (I.TyVar n)) f x = absurd cc
-sizedness_cell c s (K.Infer (I.IntVar n)) f x = refl
-sizedness_cell c s (K.Infer (I.FloatVar n)) f x = refl
-sizedness_cell c s K.Error f x = refl
-
--- `Copy` and `Clone`
-
-pub copy_cell : (c : Context) (k : TyKind) → KindFits c.trees k → is_excluded (row_of c (kind_tree c.trees k)).copy ≡ false → asked_cell c (copy_asked k) ≡ (row_of c (kind_tree c.trees k)).copy
-copy_cell c K.Bool f x = refl
-copy_cell c K.Char f x = refl
-copy_cell c (K.Int w) f x = refl
-copy_cell c (K.Uint w) f x = refl
-copy_cell c (K.Float w) f x = refl
-copy_cell c K.Str f x = refl
-copy_cell c K.Never f x = refl
-copy_cell c (K.Adt i a) f x = refl
-copy_cell c (K.Foreign i) f x = refl
-copy_cell c (K.Array t n) f x = refl
-copy_cell c (K.Slice t) f x = refl
-copy_cell c (K.Pat t Pat.NotNull) f x = sym (ap asks (pattern-types c.trees t Pat.NotNull f))
-copy_cell c (K.Pat t (Pat.Range from to)) f x = sym (ap asks (pattern-types c.trees t (Pat.Range from to) f))
-copy_cell c (K.RawPtr t m) f x = refl
-copy_cell c (K.Ref r t m) f x = refl
-copy_cell c (K.FnDef i a) f x = refl
-copy_cell c (K.FnPtr s) f x = refl
-copy_cell c (K.UnsafeBinder b) f x = refl
-copy_cell c (K.Dynamic p r) f x = refl
-copy_cell c (K.Closure i a) f x = sym (ap asks (closure-types c.trees i a f))
-copy_cell c (K.Tuple a) f x = let e : IsArgs c.trees a = cc in sym (ap (λ (y : Forest). asks (types_of y)) (below-list c.trees a e))
-copy_cell c (K.Alias a) f x = of a.kind _
-  where
-    of : (k : AliasKind) → (g : Forest) → asked_cell c A.Refused ≡ (alias_row c k a.id.0 g).copy
-    of AK.Opaque g = refl
-    of _ g = refl
-copy_cell c (K.Param n) f x = refl
-copy_cell c (K.Placeholder p) f x = refl
-copy_cell c (K.Bound v) f x = absurd cc
-copy_cell c (K.Infer (I.TyVar n)) f x = absurd cc
-copy_cell c (K.Infer (I.IntVar n)) f x = refl
-copy_cell c (K.Infer (I.FloatVar n)) f x = refl
-copy_cell c K.Error f x = refl
+kind_cell c (C.Sizedness s) (K.Closure i a) f x = refl
+kind_cell c _ (K.Closure i a) f x = one-cell c a.upvars _ (closure-types c.trees i a f)
+kind_cell c (C.Sizedness s) (K.Tuple a) f x = let e : IsArgs c.trees a = cc in sym (ap (λ (y : Forest). asks (last_type y)) (below-list c.trees a e))
+kind_cell c _ (K.Tuple a) f x = let e : IsArgs c.trees a = cc in members-cell c a e
+kind_cell c (C.Sizedness S.Sized) K.Str f x = refl
+kind_cell c (C.Sizedness S.MetaSized) K.Str f x = refl
+kind_cell c (C.Sizedness S.Sized) (K.Dynamic p r) f x = refl
+kind_cell c (C.Sizedness S.MetaSized) (K.Dynamic p r) f x = refl
+kind_cell c C.Auto (K.Dynamic p r) f x = absurd cc
+kind_cell c C.Auto (K.Param n) f x = absurd cc
+kind_cell c C.Auto (K.Placeholder p) f x = absurd cc
+kind_cell c o (K.Bound v) f x = absurd (excluded o x)
+kind_cell c o (K.Infer (I.TyVar n)) f x = absurd (excluded o x)
+kind_cell c C.Auto (K.Infer (I.IntVar n)) f x = absurd cc
+kind_cell c _ (K.Infer (I.IntVar n)) f x = refl
+kind_cell c C.Auto (K.Infer (I.FloatVar n)) f x = absurd cc
+kind_cell c _ (K.Infer (I.FloatVar n)) f x = refl
+kind_cell c C.Auto _ f x = refl
+kind_cell c (C.Sizedness s) _ f x = refl
+kind_cell c C.CopyClone _ f x = refl
+kind_cell c C.Destruct _ f x = refl
 
 -- What a cell is read from fits the context
 
@@ -252,39 +220,40 @@ owned-fits : (c : Context) (i : AdtId) (a : Args) (b : Bool) → IsArgs c.trees 
 owned-fits c i a true e = e.0
 owned-fits c i a false e = e
 
-pub auto_fits : (c : Context) (k : TyKind) → KindFits c.trees k → Takes (world c) (kind_tree c.trees k) → AskedFits c (auto_asked c k)
-auto_fits c (K.Adt i a) f t = owned-fits c i a (is_phantom (adt_flags (definition c i.0))) (adt-fits c i a f t)
-auto_fits c (K.Array t n) f x = cc
-auto_fits c (K.Slice t) f x = cc
-auto_fits c (K.Pat t Pat.NotNull) f x = cc
-auto_fits c (K.Pat t (Pat.Range from to)) f x = cc
-auto_fits c (K.RawPtr t m) f x = cc
-auto_fits c (K.Ref r t m) f x = cc
-auto_fits c (K.UnsafeBinder b) f x = (cc, cc)
-auto_fits c (K.Closure i a) f x = cc
-auto_fits c (K.Tuple a) f x = cc
-auto_fits c (K.Alias a) f t = alias-fits c a a.kind refl f t
-auto_fits c _ f x = tt
+dropped-fits : (c : Context) (i : AdtId) (a : Args) (b : Bool) → IsArgs c.trees a × (parameters (world c) AdtSort i.0 ≡ Some (kinds_of (args_forest c.trees a)))
+    → AskedFits c (if b then A.Nothing else A.Fields i a)
+dropped-fits c i a true e = tt
+dropped-fits c i a false e = e
 
-unsized-fits : (c : Context) (s : Sizedness) → AskedFits c (unsized_asked s)
-unsized-fits c S.Sized = tt
-unsized-fits c S.MetaSized = tt
-
-pub sizedness_fits : (c : Context) (s : Sizedness) (k : TyKind) → KindFits c.trees k → Takes (world c) (kind_tree c.trees k) → AskedFits c (sizedness_asked s k)
-sizedness_fits c s K.Str f t = unsized-fits c s
-sizedness_fits c s (K.Slice u) f t = unsized-fits c s
-sizedness_fits c s (K.Dynamic p r) f t = unsized-fits c s
-sizedness_fits c s (K.Adt i a) f t = adt-fits c i a f t
-sizedness_fits c s (K.UnsafeBinder b) f t = (cc, cc)
-sizedness_fits c s (K.Tuple a) f t = cc
-sizedness_fits c s _ f t = tt
-
-pub copy_fits : (c : Context) (k : TyKind) → KindFits c.trees k → AskedFits c (copy_asked k)
-copy_fits c (K.Pat t Pat.NotNull) f = cc
-copy_fits c (K.Pat t (Pat.Range from to)) f = cc
-copy_fits c (K.Closure i a) f = cc
-copy_fits c (K.Tuple a) f = cc
-copy_fits c _ f = tt
+pub kind_fits : (c : Context) (o : Column) (k : TyKind) → KindFits c.trees k → Takes (world c) (kind_tree c.trees k) → AskedFits c (asked_for c o k)
+kind_fits c C.Auto (K.Adt i a) f t = owned-fits c i a (is_phantom (adt_flags (definition c i.0))) (adt-fits c i a f t)
+kind_fits c (C.Sizedness s) (K.Adt i a) f t = adt-fits c i a f t
+kind_fits c C.Destruct (K.Adt i a) f t = dropped-fits c i a (is_manually_drop (adt_flags (definition c i.0))) (adt-fits c i a f t)
+kind_fits c C.Auto (K.Alias a) f t = alias-fits c a a.kind refl f t
+kind_fits c (C.Sizedness S.Sized) K.Str f t = tt
+kind_fits c (C.Sizedness S.MetaSized) K.Str f t = tt
+kind_fits c (C.Sizedness S.Sized) (K.Slice u) f t = tt
+kind_fits c (C.Sizedness S.MetaSized) (K.Slice u) f t = tt
+kind_fits c C.CopyClone (K.Slice u) f t = tt
+kind_fits c _ (K.Slice u) f t = cc
+kind_fits c (C.Sizedness S.Sized) (K.Dynamic p r) f t = tt
+kind_fits c (C.Sizedness S.MetaSized) (K.Dynamic p r) f t = tt
+kind_fits c C.Auto (K.Array u n) f t = cc
+kind_fits c C.Destruct (K.Array u n) f t = cc
+kind_fits c (C.Sizedness s) (K.Pat u p) f t = tt
+kind_fits c _ (K.Pat u Pat.NotNull) f t = cc
+kind_fits c _ (K.Pat u (Pat.Range from to)) f t = cc
+kind_fits c C.Auto (K.RawPtr u m) f t = cc
+kind_fits c C.Auto (K.Ref r u m) f t = cc
+kind_fits c C.Auto (K.UnsafeBinder b) f t = (cc, cc)
+kind_fits c (C.Sizedness s) (K.UnsafeBinder b) f t = (cc, cc)
+kind_fits c (C.Sizedness s) (K.Closure i a) f t = tt
+kind_fits c _ (K.Closure i a) f t = cc
+kind_fits c _ (K.Tuple a) f t = cc
+kind_fits c C.Auto _ f t = tt
+kind_fits c (C.Sizedness s) _ f t = tt
+kind_fits c C.CopyClone _ f t = tt
+kind_fits c C.Destruct _ f t = tt
 
 -- The cell of a type of that kind
 
@@ -294,23 +263,14 @@ kind_takes c t k w i e = λ l.
     let one = subst (Fits (world c)) (row-single c.trees t.0 TypeKind none refl refl i) fit in
     subst (λ (u : Tree). child_kinds (world c) u.head (kinds_of u.children) ≡ Some (kinds_of u.children)) (sym e) one.0
 
-pub auto_cell_of : (c : Context) (t : Ty) (k : TyKind) (a : Asked) → KindFits c.trees k → kind_tree c.trees k ≡ ty_tree c.trees t → is_excluded (row_of c (ty_tree c.trees t)).auto ≡ false
-    → a ≡ auto_asked c k → asked_cell c a ≡ (row_of c (ty_tree c.trees t)).auto
-auto_cell_of c t k a f e x q =
-    ap (asked_cell c) q
-    ∙ (auto_cell c k f (ap (λ (u : Tree). is_excluded (row_of c u).auto) e ∙ x) ∙ ap (λ (u : Tree). (row_of c u).auto) e)
+pub asked_fits : (c : Context) (o : Column) (k : TyKind) (a : Asked) → KindFits c.trees k → Takes (world c) (kind_tree c.trees k) → a ≡ asked_for c o k → AskedFits c a
+asked_fits c o k a f t q = subst (AskedFits c) (sym q) (kind_fits c o k f t)
 
-pub sizedness_cell_of : (c : Context) (s : Sizedness) (t : Ty) (k : TyKind) (a : Asked) → KindFits c.trees k → kind_tree c.trees k ≡ ty_tree c.trees t
-    → is_excluded ((row_of c (ty_tree c.trees t)).sizedness s) ≡ false → a ≡ sizedness_asked s k → asked_cell c a ≡ (row_of c (ty_tree c.trees t)).sizedness s
-sizedness_cell_of c s t k a f e x q =
+pub cell_of_kind : (c : Context) (o : Column) (t : Ty) (k : TyKind) (a : Asked) → KindFits c.trees k → kind_tree c.trees k ≡ ty_tree c.trees t → is_excluded (cell o (row_of c (ty_tree c.trees t))) ≡ false
+    → a ≡ asked_for c o k → asked_cell c a ≡ cell o (row_of c (ty_tree c.trees t))
+cell_of_kind c o t k a f e x q =
     ap (asked_cell c) q
-    ∙ (sizedness_cell c s k f (ap (λ (u : Tree). is_excluded ((row_of c u).sizedness s)) e ∙ x) ∙ ap (λ (u : Tree). (row_of c u).sizedness s) e)
-
-pub copy_cell_of : (c : Context) (t : Ty) (k : TyKind) (a : Asked) → KindFits c.trees k → kind_tree c.trees k ≡ ty_tree c.trees t → is_excluded (row_of c (ty_tree c.trees t)).copy ≡ false
-    → a ≡ copy_asked k → asked_cell c a ≡ (row_of c (ty_tree c.trees t)).copy
-copy_cell_of c t k a f e x q =
-    ap (asked_cell c) q
-    ∙ (copy_cell c k f (ap (λ (u : Tree). is_excluded (row_of c u).copy) e ∙ x) ∙ ap (λ (u : Tree). (row_of c u).copy) e)
+    ∙ (kind_cell c o k f (ap (λ (u : Tree). is_excluded (cell o (row_of c u))) e ∙ x) ∙ ap (λ (u : Tree). cell o (row_of c u)) e)
 
 -- A cell whose types were made
 
@@ -347,141 +307,37 @@ known-of : (b : Bool) (x : Bool) → x ≡ not b → IsTrue b ↔ (x ≡ false)
 known-of true x e = (λ t. e, λ t. refl)
 known-of false x e = (λ t. absurd cc, λ t. absurd (let z = sym e ∙ t in cc))
 
-auto_known-is : (c : Context) (k : TyKind) → is_excluded (row_of c (kind_tree c.trees k)).auto ≡ not (auto_known k)
-auto_known-is c (K.Pat t Pat.NotNull) = refl
-auto_known-is c (K.Pat t (Pat.Range from to)) = refl
-auto_known-is c (K.Alias a) = of a.kind _
+known-is : (c : Context) (o : Column) (k : TyKind) → is_excluded (cell o (row_of c (kind_tree c.trees k))) ≡ not (known o k)
+known-is c (C.Sizedness S.Sized) K.Str = refl
+known-is c (C.Sizedness S.MetaSized) K.Str = refl
+known-is c (C.Sizedness S.Sized) (K.Slice t) = refl
+known-is c (C.Sizedness S.MetaSized) (K.Slice t) = refl
+known-is c (C.Sizedness S.Sized) (K.Dynamic p r) = refl
+known-is c (C.Sizedness S.MetaSized) (K.Dynamic p r) = refl
+known-is c _ (K.Pat t Pat.NotNull) = refl
+known-is c _ (K.Pat t (Pat.Range from to)) = refl
+known-is c o (K.Alias a) = of o a.kind _
   where
-    of : (k : AliasKind) → (g : Forest) → is_excluded (alias_row c k a.id.0 g).auto ≡ not (is_opaque k)
-    of AK.Opaque g = refl
-    of AK.Projection g = refl
-    of AK.Inherent g = refl
-    of AK.Free g = refl
-auto_known-is c (K.Infer (I.TyVar n)) = refl
-auto_known-is c (K.Infer (I.IntVar n)) = refl
-auto_known-is c (K.Infer (I.FloatVar n)) = refl
-auto_known-is c _ = refl
+    of : (p : Column) → (k : AliasKind) → (g : Forest) → is_excluded (cell p (alias_row c k a.id.0 g)) ≡ not (known p (K.Alias (record a { kind = k })))
+    of C.Auto AK.Opaque g = refl
+    of C.Auto _ g = refl
+    of (C.Sizedness s) AK.Opaque g = refl
+    of (C.Sizedness s) _ g = refl
+    of C.CopyClone AK.Opaque g = refl
+    of C.CopyClone _ g = refl
+    of C.Destruct AK.Opaque g = refl
+    of C.Destruct _ g = refl
+known-is c C.Auto (K.Infer (I.TyVar n)) = refl
+known-is c (C.Sizedness s) (K.Infer (I.TyVar n)) = refl
+known-is c C.CopyClone (K.Infer (I.TyVar n)) = refl
+known-is c C.Destruct (K.Infer (I.TyVar n)) = refl
+known-is c _ (K.Infer (I.IntVar n)) = refl
+known-is c _ (K.Infer (I.FloatVar n)) = refl
+known-is c C.Auto _ = refl
+known-is c (C.Sizedness s) _ = refl
+known-is c C.CopyClone _ = refl
+known-is c C.Destruct _ = refl
 
-sizedness_known-is : (c : Context) (s : Sizedness) (k : TyKind) → is_excluded ((row_of c (kind_tree c.trees k)).sizedness s) ≡ not (kind_known k)
-sizedness_known-is c S.Sized K.Str = refl
-sizedness_known-is c S.MetaSized K.Str = refl
-sizedness_known-is c S.Sized (K.Slice t) = refl
-sizedness_known-is c S.MetaSized (K.Slice t) = refl
-sizedness_known-is c S.Sized (K.Dynamic p r) = refl
-sizedness_known-is c S.MetaSized (K.Dynamic p r) = refl
-sizedness_known-is c s (K.Pat t Pat.NotNull) = refl
-sizedness_known-is c s (K.Pat t (Pat.Range from to)) = refl
-sizedness_known-is c s (K.Alias a) = of a.kind _
-  where
-    of : (k : AliasKind) → (g : Forest) → is_excluded ((alias_row c k a.id.0 g).sizedness s) ≡ false
-    of AK.Opaque g = refl
-    of _ g = refl
-sizedness_known-is c s (K.Infer (I.TyVar n)) = refl
-sizedness_known-is c s (K.Infer (I.IntVar n)) = refl
-sizedness_known-is c s (K.Infer (I.FloatVar n)) = refl
-sizedness_known-is c s _ = refl
-
-copy_known-is : (c : Context) (k : TyKind) → is_excluded (row_of c (kind_tree c.trees k)).copy ≡ not (kind_known k)
-copy_known-is c (K.Pat t Pat.NotNull) = refl
-copy_known-is c (K.Pat t (Pat.Range from to)) = refl
-copy_known-is c (K.Alias a) = of a.kind _
-  where
-    of : (k : AliasKind) → (g : Forest) → is_excluded (alias_row c k a.id.0 g).copy ≡ false
-    of AK.Opaque g = refl
-    of _ g = refl
-copy_known-is c (K.Infer (I.TyVar n)) = refl
-copy_known-is c (K.Infer (I.IntVar n)) = refl
-copy_known-is c (K.Infer (I.FloatVar n)) = refl
-copy_known-is c _ = refl
-
-pub auto_known_of : (c : Context) (t : Ty) (k : TyKind) (b : Bool) → kind_tree c.trees k ≡ ty_tree c.trees t → b ≡ auto_known k → IsTrue b ↔ (is_excluded (row_of c (ty_tree c.trees t)).auto ≡ false)
-auto_known_of c t k b e q = known-of b _ (sym (ap (λ (u : Tree). is_excluded (row_of c u).auto) e) ∙ (auto_known-is c k ∙ sym (ap not q)))
-
-pub sizedness_known_of : (c : Context) (s : Sizedness) (t : Ty) (k : TyKind) (b : Bool) → kind_tree c.trees k ≡ ty_tree c.trees t → b ≡ kind_known k
-    → IsTrue b ↔ (is_excluded ((row_of c (ty_tree c.trees t)).sizedness s) ≡ false)
-sizedness_known_of c s t k b e q = known-of b _ (sym (ap (λ (u : Tree). is_excluded ((row_of c u).sizedness s)) e) ∙ (sizedness_known-is c s k ∙ sym (ap not q)))
-
-pub copy_known_of : (c : Context) (t : Ty) (k : TyKind) (b : Bool) → kind_tree c.trees k ≡ ty_tree c.trees t → b ≡ kind_known k → IsTrue b ↔ (is_excluded (row_of c (ty_tree c.trees t)).copy ≡ false)
-copy_known_of c t k b e q = known-of b _ (sym (ap (λ (u : Tree). is_excluded (row_of c u).copy) e) ∙ (copy_known-is c k ∙ sym (ap not q)))
-
--- `Destruct`
-
-dropped-cell : (c : Context) (i : AdtId) (a : Args) (b : Bool) (f : Forest) → f ≡ args_forest c.trees a
-    → asked_cell c (if b then A.Nothing else A.Fields i a) ≡ asks (if b then [] else field_types c i.0 f)
-dropped-cell c i a true f e = refl
-dropped-cell c i a false f e = ap (λ (x : Forest). asks (field_types c i.0 x)) (sym e)
-
-destruct_cell : (c : Context) (k : TyKind) → KindFits c.trees k → is_excluded (row_of c (kind_tree c.trees k)).destruct ≡ false → asked_cell c (destruct_asked c k) ≡ (row_of c (kind_tree c.trees k)).destruct
-destruct_cell c K.Bool f x = refl
-destruct_cell c K.Char f x = refl
-destruct_cell c (K.Int w) f x = refl
-destruct_cell c (K.Uint w) f x = refl
-destruct_cell c (K.Float w) f x = refl
-destruct_cell c K.Str f x = refl
-destruct_cell c K.Never f x = refl
-destruct_cell c (K.Adt i a) f x = let e : IsArgs c.trees a = cc in dropped-cell c i a (is_manually_drop (adt_flags (definition c i.0))) _ (below-list c.trees a e)
-destruct_cell c (K.Foreign i) f x = refl
-destruct_cell c (K.Array t n) f x =
-    let e : kind_at c.trees t.0 ≡ TypeKind = cc in
-    let g : kind_at c.trees n.0 ≡ ConstantKind = cc in
-    sym (ap asks (one-more c.trees t.0 _ e ∙ ap (λ (xs : List Tree). tree_at c.trees t.0 ∷ xs) (no-more c.trees n.0 ConstantKind none refl refl refl g)))
-destruct_cell c (K.Slice t) f x = let e : kind_at c.trees t.0 ≡ TypeKind = cc in sym (ap asks (one-more c.trees t.0 none e))
-destruct_cell c (K.Pat t Pat.NotNull) f x = sym (ap asks (pattern-types c.trees t Pat.NotNull f))
-destruct_cell c (K.Pat t (Pat.Range from to)) f x = sym (ap asks (pattern-types c.trees t (Pat.Range from to) f))
-destruct_cell c (K.RawPtr t m) f x = refl
-destruct_cell c (K.Ref r t m) f x = refl
-destruct_cell c (K.FnDef i a) f x = refl
-destruct_cell c (K.FnPtr s) f x = refl
-destruct_cell c (K.UnsafeBinder b) f x = refl
-destruct_cell c (K.Dynamic p r) f x = refl
-destruct_cell c (K.Closure i a) f x = sym (ap asks (closure-types c.trees i a f))
-destruct_cell c (K.Tuple a) f x = let e : IsArgs c.trees a = cc in sym (ap (λ (y : Forest). asks (types_of y)) (below-list c.trees a e))
-destruct_cell c (K.Alias a) f x = of a.kind _
-  where
-    of : (k : AliasKind) → (g : Forest) → asked_cell c A.Refused ≡ (alias_row c k a.id.0 g).destruct
-    of AK.Opaque g = refl
-    of _ g = refl
-destruct_cell c (K.Param n) f x = refl
-destruct_cell c (K.Placeholder p) f x = refl
-destruct_cell c (K.Bound v) f x = absurd cc
-destruct_cell c (K.Infer (I.TyVar n)) f x = absurd cc
-destruct_cell c (K.Infer (I.IntVar n)) f x = refl
-destruct_cell c (K.Infer (I.FloatVar n)) f x = refl
-destruct_cell c K.Error f x = refl
-
-dropped-fits : (c : Context) (i : AdtId) (a : Args) (b : Bool) → IsArgs c.trees a × (parameters (world c) AdtSort i.0 ≡ Some (kinds_of (args_forest c.trees a)))
-    → AskedFits c (if b then A.Nothing else A.Fields i a)
-dropped-fits c i a true e = tt
-dropped-fits c i a false e = e
-
-pub destruct_fits : (c : Context) (k : TyKind) → KindFits c.trees k → Takes (world c) (kind_tree c.trees k) → AskedFits c (destruct_asked c k)
-destruct_fits c (K.Adt i a) f t = dropped-fits c i a (is_manually_drop (adt_flags (definition c i.0))) (adt-fits c i a f t)
-destruct_fits c (K.Array t n) f x = cc
-destruct_fits c (K.Slice t) f x = cc
-destruct_fits c (K.Pat t Pat.NotNull) f x = cc
-destruct_fits c (K.Pat t (Pat.Range from to)) f x = cc
-destruct_fits c (K.Closure i a) f x = cc
-destruct_fits c (K.Tuple a) f x = cc
-destruct_fits c _ f x = tt
-
-pub destruct_cell_of : (c : Context) (t : Ty) (k : TyKind) (a : Asked) → KindFits c.trees k → kind_tree c.trees k ≡ ty_tree c.trees t → is_excluded (row_of c (ty_tree c.trees t)).destruct ≡ false
-    → a ≡ destruct_asked c k → asked_cell c a ≡ (row_of c (ty_tree c.trees t)).destruct
-destruct_cell_of c t k a f e x q =
-    ap (asked_cell c) q
-    ∙ (destruct_cell c k f (ap (λ (u : Tree). is_excluded (row_of c u).destruct) e ∙ x) ∙ ap (λ (u : Tree). (row_of c u).destruct) e)
-
-destruct_known-is : (c : Context) (k : TyKind) → is_excluded (row_of c (kind_tree c.trees k)).destruct ≡ not (kind_known k)
-destruct_known-is c (K.Pat t Pat.NotNull) = refl
-destruct_known-is c (K.Pat t (Pat.Range from to)) = refl
-destruct_known-is c (K.Alias a) = of a.kind _
-  where
-    of : (k : AliasKind) → (g : Forest) → is_excluded (alias_row c k a.id.0 g).destruct ≡ false
-    of AK.Opaque g = refl
-    of _ g = refl
-destruct_known-is c (K.Infer (I.TyVar n)) = refl
-destruct_known-is c (K.Infer (I.IntVar n)) = refl
-destruct_known-is c (K.Infer (I.FloatVar n)) = refl
-destruct_known-is c _ = refl
-
-pub destruct_known_of : (c : Context) (t : Ty) (k : TyKind) (b : Bool) → kind_tree c.trees k ≡ ty_tree c.trees t → b ≡ kind_known k → IsTrue b ↔ (is_excluded (row_of c (ty_tree c.trees t)).destruct ≡ false)
-destruct_known_of c t k b e q = known-of b _ (sym (ap (λ (u : Tree). is_excluded (row_of c u).destruct) e) ∙ (destruct_known-is c k ∙ sym (ap not q)))
+pub known_of : (c : Context) (o : Column) (t : Ty) (k : TyKind) (b : Bool) → kind_tree c.trees k ≡ ty_tree c.trees t → b ≡ known o k
+    → IsTrue b ↔ (is_excluded (cell o (row_of c (ty_tree c.trees t))) ≡ false)
+known_of c o t k b e q = known-of b _ (sym (ap (λ (u : Tree). is_excluded (cell o (row_of c u))) e) ∙ (known-is c o k ∙ sym (ap not q)))

@@ -6,12 +6,12 @@ use Rattle.candidate_eval.specs.declared.eval.refusal.NoSolutionOrStop.TheVarian
 use Rattle.std.proofs.lemmas.List.{map_push, map_more, take_all, append-nil}
 use Rattle.std.proofs.lemmas.Option.{slice_get-get_or, slice_get-map}
 use Rattle.candidate_ir.specs.WellFormed.{TypesFit}
-use Rattle.candidate_ir.proofs.Owned.{listed_type}
 use Rattle.candidate_eval.specs.Tables.{Cell, Excluded, Refused, Asks, row_of, IsTypesStop}
 use Rattle.candidate_eval.specs.declared.structural.asked.Asked.{Asked}
 use Rattle.candidate_eval.specs.Asked as made
 use Rattle.candidate_eval.specs.Asked.{asked_cell, asked_types}
 use Rattle.candidate_eval.proofs.Cells.{refused_cell, not-refused}
+use Rattle.candidate_eval.proofs.Types.{ty_at}
 use Rattle.candidate_ir.specs.declared.ir.kinds.Args.{Args}
 use Rattle.candidate_ir.specs.declared.ir.kinds.GenericArg.TheVariants as G
 use Rattle.candidate_ir.specs.declared.ir.kinds.TraitId.{TraitId}
@@ -91,16 +91,13 @@ no_conditions start of types rs e = record {
   are = ap (references_of start.trees) e;
 }
 
-pub listed : (ts : List Tree) (types : List Ty) (k : ℕ) (d : Ty) → TypesFit ts types → k < length types → IsTy ts (get_or types k d)
-listed ts types k d f l = listed_type ts types k (get_or types k d) f (sym (slice_get-get_or types k d l))
-
 pub one_more_condition : (start now new : Context) (of : TraitId) (types : List Ty) (k : ℕ) (d : Ty) (old rs : List TraitRef) → ConditionsSoFar start now of types k old → TypesFit start.trees types
     → k < length types → Grows now new → AreReferences new.trees rs → references_of new.trees rs ≡ references_of now.trees old ++ meets of (ty_tree now.trees (get_or types k d)) ∷ []
     → ConditionsSoFar start new of types (k + 1) rs
 one_more_condition start now new of types k d old rs s f l g r e =
     let x = get_or types k d in
     let h : Ty → Reference = λ t. meets of (ty_tree start.trees t) in
-    let same : ty_tree now.trees x ≡ ty_tree start.trees x = (ty-kept start now x s.grows (listed start.trees types k d f l)).1 in
+    let same : ty_tree now.trees x ≡ ty_tree start.trees x = (ty-kept start now x s.grows (ty_at start.trees types k d f l)).1 in
     record {
       grows = grows-trans start now new s.grows g;
       fit = r;
@@ -122,7 +119,7 @@ pub condition_stop : (start now : Context) (of : TraitId) (types : List Ty) (k g
 condition_stop start now of types k given d rs s w f l (inl m) = inl m
 condition_stop start now of types k given d rs s w f l (inr h) =
     let x = get_or types k d in
-    let same : ty_tree now.trees x ≡ ty_tree start.trees x = (ty-kept start now x w.grows (listed start.trees types k d f l)).1 in
+    let same : ty_tree now.trees x ≡ ty_tree start.trees x = (ty-kept start now x w.grows (ty_at start.trees types k d f l)).1 in
     inr (record {
       place = k;
       type = ty_tree start.trees x;

@@ -1,7 +1,11 @@
 -- What an answer whether two things are equal says in the words of definitions.
 use Rattle.std.proofs.Common.{◌≡◌, refl, sym, ap, ◌∙◌, List, [], ◌∷◌, IsTrue, ◌↔◌, ◌&&◌, Bool, true, false}
 use Rattle.std.specs.Cmp.Lexicographic.{pointwise}
-use Rattle.candidate_ir.specs.Trees.{Forest, Tree}
+use Rattle.candidate_ir.specs.Trees.{Forest, Tree, ArgumentsKind}
+use Rattle.candidate_ir.specs.Nodes.{tree_at}
+use Rattle.candidate_ir.specs.Words.{IsArgs, args_forest}
+use Rattle.candidate_ir.specs.declared.ir.kinds.Args.{Args}
+use Rattle.candidate_ir.proofs.Splits.{lists-agree}
 use Rattle.candidate_ir.specs.Elaboration.{same_forest, same_tree}
 use Rattle.candidate_ir.proofs.Elaboration.{forest_is, forest_itself, tree_is, tree_itself}
 
@@ -36,6 +40,13 @@ says same x y false is itself e = of (same x y) refl
 
 pub forest_says : (a b : Forest) (r : Bool) → IsTrue r ↔ (a ≡ b) → r ≡ same_forest a b
 forest_says a b r e = says same_forest a b r (forest_is a b) (λ q. ap (same_forest a) (sym q) ∙ forest_itself a) e
+
+-- the same of two lists of a context, which are equal as trees where their members are
+pub lists_say : (ts : List Tree) (a b : Args) (r : Bool) → IsArgs ts a → IsArgs ts b → IsTrue r ↔ (tree_at ts a.0 ≡ tree_at ts b.0) → r ≡ same_forest (args_forest ts a) (args_forest ts b)
+lists_say ts a b r x y e = forest_says (args_forest ts a) (args_forest ts b) r (
+  (λ h. ap (λ (t : Tree). t.children) (e.0 h)),
+  (λ h. e.1 (lists-agree ts a.0 b.0 ArgumentsKind _ refl refl x y h)),
+)
 
 pub row_says : (ts us : List Tree) (r : Bool) → IsTrue r ↔ (ts ≡ us) → r ≡ pointwise same_tree ts us
 row_says ts us r e = says (pointwise same_tree) ts us r (row_is ts us) (λ q. ap (pointwise same_tree ts) (sym q) ∙ row_itself ts) e

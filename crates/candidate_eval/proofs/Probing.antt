@@ -1,5 +1,5 @@
 -- What calls of an evaluator keep, one after the other and in a probe.
-use Rattle.std.proofs.Common.{◌≡◌, subst, ◌∙◌, List, ◌∷◌, Result, Err, IfErr}
+use Rattle.std.proofs.Common.{◌≡◌, subst, ◌∙◌, List, ◌∷◌, Result, Ok, Err, IfErr, OnOk}
 use Rattle.candidate_ir.specs.Context.{Context, Grows}
 use Rattle.candidate_ir.proofs.Kept.{grows-trans}
 use Rattle.candidate_eval.specs.States.{State, Judge}
@@ -31,6 +31,11 @@ module _ {E F : Type 0} (fixed : E → F) (probes : E → List State) (context :
 pub of-error : {A E : Type 0} (r : Result A E) (e : E) (P : E → Type 0) → r ≡ Err e → IfErr r P → P e
 of-error {A = A} {E = E} r e P is h = subst (λ (x : Result A E). IfErr x P) is h
 
+-- what holds whatever was answered
+pub on-ok : {A E : Type 0} {P : Type 0} (r : Result A E) → P → OnOk r P
+on-ok (Ok x) p = p
+on-ok (Err e) p = tt
+
 -- The state after a probe has ended is alike the one at which it began.
 module _ {E F : Type 0} (fixed : E → F) (probes : E → List State) (judge : F → Judge) (state : E → State) where
   pub alike-probe : (old began ran new : E) → fixed began ≡ fixed old → probes began ≡ state old ∷ probes old → fixed ran ≡ fixed began → probes ran ≡ probes began
@@ -40,3 +45,8 @@ module _ {E F : Type 0} (fixed : E → F) (probes : E → List State) (judge : F
 -- What one call keeps, and the next.
 pub then : {E F : Type 0} {fixed : E → F} {probes : E → List State} {context : E → Context} {a b c : E} → Keeps fixed probes context a b → Keeps fixed probes context b c → Keeps fixed probes context a c
 then {fixed = fixed} {probes = probes} {context = context} {a = a} {b = b} {c = c} g h = keeps-trans fixed probes context a b c g h
+
+-- What making nodes keeps of an evaluator: nothing is done but a context grows.
+pub made : {E F P : Type 0} {fixed : E → F} {probes : E → List State} {context : E → Context} {a b : E} → (fixed b ≡ fixed a) × P × (probes b ≡ probes a) → Grows (context a) (context b)
+    → Keeps fixed probes context a b
+made r g = record { fixed_same = r.0; probes_same = r.2; grows = g }

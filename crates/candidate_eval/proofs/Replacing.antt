@@ -23,7 +23,7 @@ use Rattle.candidate_ir.specs.Trees.{Kind, TypeKind, ConstantKind, RegionKind, A
 use Rattle.candidate_ir.specs.WellFormed.{TypesFit}
 use Rattle.candidate_ir.specs.Words.{IsArgs, IsClause, IsTy, KindFits, ListFits, args_forest, clause_tree, kind_tree, list_forest, ty_tree}
 use Rattle.candidate_ir.proofs.Elaboration.{tree_is, tree_itself}
-use Rattle.candidate_ir.proofs.Lists.{there}
+use Rattle.candidate_ir.specs.Trees.{there}
 use Rattle.candidate_ir.proofs.Rows.{join-none, kind-of, row-list, row-single}
 use Rattle.candidate_eval.specs.Asked.{first_ty}
 use Rattle.candidate_eval.specs.Objects.{Projection, is_about, projection_at}
@@ -123,6 +123,11 @@ one-below ts f whole xs ys h b now next a w n e y = (
 no-alias : (h : Head) → (kind_of h ≡ TypeKind → ⊥) → item_of h ≡ None
 no-alias (H.Alias k i) x = absurd (x refl)
 no-alias _ x = refl
+
+pub no-type-kind : (a : GenericArg) → ((t : Ty) → a ≡ G.Ty t → ⊥) → arg_kind a ≡ TypeKind → ⊥
+no-type-kind (G.Ty t) n e = n t refl
+no-type-kind (G.Const t) n e = absurd cc
+no-type-kind (G.Region t) n e = absurd cc
 
 pub not-type : (ts : List Tree) (a : GenericArg) (object : Ty) (bounds : List Clause) → IsArg ts a → (arg_kind a ≡ TypeKind → ⊥) → finds_own ts object bounds (arg_tree ts a).head (arg_tree ts a).children ≡ None
 not-type ts a object bounds i x =

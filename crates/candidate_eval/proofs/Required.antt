@@ -1,10 +1,10 @@
 -- Clauses that are added to a list, and what bounds of an object's type say as clauses.
-use Rattle.std.proofs.Common.{◌≡◌, ℕ, zero, suc, ◌+◌, ◌<◌, ◌≤◌, List, [], ◌∷◌, ◌++◌, length, get_or, take, Option, Some, None, refl, sym, ◌∙◌, ap, subst, arith, append_assoc}
-use Rattle.std.specs.Prelude.{map, slice_get, option_map}
+use Rattle.std.proofs.Common.{◌≡◌, ℕ, ◌+◌, ◌<◌, ◌≤◌, List, [], ◌∷◌, ◌++◌, length, get_or, take, Option, Some, None, refl, sym, ◌∙◌, ap, subst, append_assoc}
+use Rattle.std.specs.Prelude.{map}
 use Rattle.std.specs.List.{flat_map}
-use Rattle.std.proofs.lemmas.List.{append-nil, map_push, map-append, take_all}
+use Rattle.std.proofs.lemmas.List.{append-nil, map_push, take_all, take_more}
+use Rattle.std.proofs.lemmas.List.Folds.{flat_map-map}
 use Rattle.std.proofs.lemmas.Grind.{flat_map-append}
-use Rattle.std.proofs.lemmas.Option.{slice_get-map}
 use Rattle.candidate_ir.specs.declared.ir.heads.Head.TheVariants as H
 use Rattle.candidate_ir.specs.declared.ir.heads.PartHead.TheVariants as P
 use Rattle.candidate_ir.specs.declared.ir.heads.PredHead.TheVariants as PH
@@ -28,14 +28,15 @@ use Rattle.candidate_ir.specs.Nodes.{kind_at, tree_at, trees_at, rows}
 use Rattle.candidate_ir.specs.References.{IsWellFormed, FitsAmong, Takes}
 use Rattle.candidate_ir.specs.Substitutions.{alone}
 use Rattle.candidate_ir.specs.Trees.{Kind, TypeKind, PredicateKind, BinderKind, ArgumentsKind, Forest, none, tree, Tree, kind_of, join}
-use Rattle.candidate_ir.specs.Words.{IsArgs, IsClause, IsPred, IsPreds, IsTy, IsVars, ClauseFits, ClauseListFits, PredFits, PredListFits, args_forest, clause_kind_tree, clause_tree, list_forest, pred_kind_tree, pred_list_forest, pred_tree, preds_forest, ty_tree, vars_tree}
+use Rattle.candidate_ir.specs.Words.{IsArgs, IsClause, IsPred, IsTy, IsVars, ClauseFits, ClauseListFits, PredFits, PredListFits, args_forest, clause_kind_tree, clause_tree, list_forest, pred_kind_tree, pred_list_forest, pred_tree, preds_forest, ty_tree, vars_tree}
 use Rattle.candidate_ir.specs.Worlds.{World, AssociatedTypeSort, joined, kinds_of, parameters}
 use Rattle.candidate_ir.proofs.Joining.{clause-over, over}
-use Rattle.candidate_ir.proofs.Kept.{grows-refl, grows-trans, preds-kept, ty-kept, world-kept}
+use Rattle.candidate_ir.proofs.Kept.{grows-refl, grows-trans, number-kept, ty-kept, world-kept}
+use Rattle.candidate_ir.proofs.Lists.{below_kind}
 use Rattle.candidate_ir.proofs.Listing.{clauses_kept, pushed_fits, vars_kept}
 use Rattle.candidate_ir.proofs.References.{fit-at}
 use Rattle.candidate_ir.proofs.Rows.{kind-of, row-list, row-single}
-use Rattle.candidate_eval.specs.Required.{as_bound, each_of, in_place, own_bound, own_bounds, said_of}
+use Rattle.candidate_eval.specs.Required.{as_bound, each_of, own_bound, own_bounds, said_of}
 
 -- One clause more
 
@@ -75,29 +76,19 @@ more_added start now new before old list added more all s g f e n = record {
       ∙ (append_assoc (map (clause_tree start.trees) before) added more ∙ ap (λ (ts : List Tree). map (clause_tree start.trees) before ++ ts) (sym n)));
 }
 
--- One place more of a list
+-- What is gathered of the members of a list, one after the other
 
-take-place : {X : Type 0} (xs : List X) (k : ℕ) → take (suc k) xs ≡ take k xs ++ in_place xs k
-take-place [] zero = refl
-take-place [] (suc k) = refl
-take-place (x ∷ xs) zero = refl
-take-place {X} (x ∷ xs) (suc k) = ap (λ (ys : List X). x ∷ ys) (take-place xs k)
+pub more_gathered : {X : Type 0} (start now new : Context) (before old list : List Clause) (f : X → List Tree) (xs : List X) (k : ℕ) (d : X) → AddedSoFar start now before old (flat_map f (take k xs))
+    → k < length xs → Grows now new → ClauseListFits new.trees list → map (clause_tree new.trees) list ≡ map (clause_tree now.trees) old ++ f (get_or xs k d)
+    → AddedSoFar start new before list (flat_map f (take (k + 1) xs))
+more_gathered start now new before old list f xs k d s l g fit e =
+    let one : flat_map f (get_or xs k d ∷ []) ≡ f (get_or xs k d) = append-nil (f (get_or xs k d)) in
+    let next = ap (flat_map f) (take_more xs k d l) ∙ (flat_map-append f (take k xs) (get_or xs k d ∷ []) ∙ ap (λ (us : List Tree). flat_map f (take k xs) ++ us) one) in
+    more_added start now new before old list (flat_map f (take k xs)) (f (get_or xs k d)) (flat_map f (take (k + 1) xs)) s g fit e next
 
-pub next_place : {X : Type 0} (xs : List X) (k : ℕ) → take (k + 1) xs ≡ take k xs ++ in_place xs k
-next_place {X} xs k = let one : k + 1 ≡ suc k = omega arith in ap (λ (n : ℕ). take n xs) one ∙ take-place xs k
-
--- what is made of each member by itself
-pub next_mapped : (f : Tree → Tree) (xs : List Tree) (k : ℕ) → map f (take (k + 1) xs) ≡ map f (take k xs) ++ map f (in_place xs k)
-next_mapped f xs k = ap (map f) (next_place xs k) ∙ map-append f (take k xs) (in_place xs k)
-
-pub next_gathered : {X : Type 0} (f : X → List Tree) (xs : List X) (k : ℕ) → flat_map f (take (k + 1) xs) ≡ flat_map f (take k xs) ++ flat_map f (in_place xs k)
-next_gathered f xs k = ap (flat_map f) (next_place xs k) ∙ flat_map-append f (take k xs) (in_place xs k)
-
-pub found_place : {X Y : Type 0} (f : X → Y) (xs : List X) (k : ℕ) (x : X) → Some x ≡ slice_get xs k → in_place (map f xs) k ≡ f x ∷ []
-found_place f xs k x e = rw (slice_get-map f xs k, ← e) refl
-
-pub no_place_found : {X Y : Type 0} (f : X → Y) (xs : List X) (k : ℕ) → None ≡ slice_get xs k → in_place (map f xs) k ≡ []
-no_place_found f xs k e = rw (slice_get-map f xs k, ← e) refl
+pub all_gathered : {X : Type 0} (start now : Context) (before list : List Clause) (f : X → List Tree) (xs : List X) (k : ℕ) → AddedSoFar start now before list (flat_map f (take k xs)) → length xs ≤ k
+    → map (clause_tree now.trees) list ≡ map (clause_tree start.trees) before ++ flat_map f xs
+all_gathered {X} start now before list f xs k s l = s.trees ∙ ap (λ (ys : List X). map (clause_tree start.trees) before ++ flat_map f ys) (take_all k xs l)
 
 -- The object before the arguments of a bound
 
@@ -225,13 +216,9 @@ no_projection ts object x b s n = ap (own_bound object) (sym s) ∙ of b.value r
 
 -- The bounds of a row
 
-pub listed_pred : (ts : List Tree) (xs : List Pred) (i : ℕ) (x : Pred) → PredListFits ts xs → i < length xs → x ≡ get_or xs i x → IsPred ts x
-listed_pred ts [] i x f l e = absurd (omega (arith, l))
-listed_pred ts (y ∷ ys) zero x f l e = let here : kind_at ts y.0 ≡ PredicateKind = cc in ap (λ (z : Pred). kind_at ts z.0) e ∙ here
-listed_pred ts (y ∷ ys) (suc i) x f l e =
-    let g : PredListFits ts ys = cc in
-    let m : i < length ys = omega (arith, l) in
-    listed_pred ts ys i x g m e
+-- what one of them says of the object
+abbrev pub bound_said : List Tree → Ty → Pred → List Tree
+bound_said ts o x = own_bound (ty_tree ts o) (pred_tree ts x)
 
 each-pred : (ts : List Tree) (xs : List Pred) → PredListFits ts xs → each_of (pred_list_forest ts xs) ≡ map (pred_tree ts) xs
 each-pred ts [] f = refl
@@ -240,41 +227,17 @@ each-pred ts (x ∷ xs) f =
     let others : PredListFits ts xs = cc in
     ap each_of (row-single ts x.0 PredicateKind (pred_list_forest ts xs) refl refl here) ∙ ap (λ (us : List Tree). pred_tree ts x ∷ us) (each-pred ts xs others)
 
-pub bound_found : (ts : List Tree) (xs : List Pred) (p : Preds) (k : ℕ) (o : Option Pred) → PredListFits ts xs → pred_list_forest ts xs ≡ preds_forest ts p → o ≡ slice_get xs k
-    → option_map (pred_tree ts) o ≡ slice_get (each_of (preds_forest ts p)) k
-bound_found ts xs p k o f e g =
-    ap (option_map (pred_tree ts)) g
-    ∙ (sym (slice_get-map (pred_tree ts) xs k) ∙ ap (λ (us : List Tree). slice_get us k) (sym (each-pred ts xs f) ∙ ap each_of e))
+pub all_said : (ts : List Tree) (o : Ty) (p : Preds) (xs : List Pred) → PredListFits ts xs → pred_list_forest ts xs ≡ preds_forest ts p → flat_map (bound_said ts o) xs ≡ own_bounds (ty_tree ts o) (preds_forest ts p)
+all_said ts o p xs f e =
+    sym (flat_map-map (own_bound (ty_tree ts o)) (pred_tree ts) xs)
+    ∙ ap (flat_map (own_bound (ty_tree ts o))) (sym (each-pred ts xs f) ∙ ap each_of e)
 
--- what the bound in a place says, or that there is none
-pub own_found : (object t : Tree) (us : List Tree) (k : ℕ) (o : Option Tree) → o ≡ slice_get us k → o ≡ Some t → own_bound object t ≡ flat_map (own_bound object) (in_place us k)
-own_found object t us k o e s = rw (← e, s) (sym (append-nil (own_bound object t)))
+pub preds_read : (c d : Context) (p : Preds) (xs ys : List Pred) → d ≡ c → ys ≡ xs → PredListFits d.trees xs → pred_list_forest d.trees xs ≡ preds_forest d.trees p
+    → PredListFits c.trees ys × (pred_list_forest c.trees ys ≡ preds_forest c.trees p)
+preds_read c d p xs ys q s f e = rw s (subst (λ (x : Context). PredListFits x.trees xs) q f, subst (λ (x : Context). pred_list_forest x.trees xs ≡ preds_forest x.trees p) q e)
 
-pub none_found : (object : Tree) (us : List Tree) (k : ℕ) (o : Option Tree) → o ≡ slice_get us k → o ≡ None → flat_map (own_bound object) (in_place us k) ≡ []
-none_found object us k o e s = rw (← e, s) refl
-
--- all of them
-pub all_bounds : (start now : Context) (o : Ty) (p : Preds) (xs : List Pred) (list : List Clause) (k : ℕ) → PredListFits start.trees xs → pred_list_forest start.trees xs ≡ preds_forest start.trees p
-    → AddedSoFar start now [] list (flat_map (own_bound (ty_tree start.trees o)) (take k (each_of (preds_forest start.trees p)))) → length xs ≤ k
-    → map (clause_tree now.trees) list ≡ own_bounds (ty_tree start.trees o) (preds_forest start.trees p)
-all_bounds start now o p xs list k f e s l =
-    s.trees ∙ ap (flat_map (own_bound (ty_tree start.trees o))) (take_all k (each_of (preds_forest start.trees p)) (long xs f (ap each_of (sym e)) l))
-  where
-    count : (ys : List Pred) → length (map (pred_tree start.trees) ys) ≡ length ys
-    count [] = refl
-    count (y ∷ ys) = ap suc (count ys)
-
-    long : (ys : List Pred) → PredListFits start.trees ys → each_of (preds_forest start.trees p) ≡ each_of (pred_list_forest start.trees ys) → length ys ≤ k
-        → length (each_of (preds_forest start.trees p)) ≤ k
-    long ys g q m = let n : length (each_of (preds_forest start.trees p)) ≡ length ys = ap length (q ∙ each-pred start.trees ys g) ∙ count ys in omega (arith, m, n)
-
-pub preds_read : (c d : Context) (p : Preds) (xs : List Pred) → d ≡ c → PredListFits d.trees xs → pred_list_forest d.trees xs ≡ preds_forest d.trees p
-    → PredListFits c.trees xs × (pred_list_forest c.trees xs ≡ preds_forest c.trees p)
-preds_read c d p xs q f e = (subst (λ (x : Context). PredListFits x.trees xs) q f, subst (λ (x : Context). pred_list_forest x.trees xs ≡ preds_forest x.trees p) q e)
-
--- what is read of the object and its bounds stays
-pub own_stays : (start now : Context) (o : Ty) (p : Preds) (k : ℕ) → Grows start now → IsTy start.trees o → IsPreds start.trees p
-    → flat_map (own_bound (ty_tree now.trees o)) (in_place (each_of (preds_forest now.trees p)) k) ≡ flat_map (own_bound (ty_tree start.trees o)) (in_place (each_of (preds_forest start.trees p)) k)
-own_stays start now o p k g i j =
-    ap (λ (t : Tree). flat_map (own_bound t) (in_place (each_of (preds_forest now.trees p)) k)) (ty-kept start now o g i).1
-    ∙ ap (λ (f : Forest). flat_map (own_bound (ty_tree start.trees o)) (in_place (each_of f) k)) (preds-kept start now p g j).1
+-- what is read of the object and of a bound stays
+pub said_stays : (start now : Context) (o : Ty) (x : Pred) → Grows start now → IsTy start.trees o → IsPred start.trees x → IsPred now.trees x × (bound_said now.trees o x ≡ bound_said start.trees o x)
+said_stays start now o x g i j =
+    let k = number-kept start.trees now.trees x.0 g.kept (below_kind start.trees x.0 PredicateKind refl j) in
+    (k.0 ∙ j, ap (λ (t : Tree). own_bound t (pred_tree now.trees x)) (ty-kept start now o g i).1 ∙ ap (own_bound (ty_tree start.trees o)) k.1)

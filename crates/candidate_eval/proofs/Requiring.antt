@@ -1,10 +1,9 @@
 -- What an object has to fulfil, over a context that grows.
-use Rattle.std.proofs.Common.{◌≡◌, ℕ, ◌+◌, ◌≤◌, List, [], ◌∷◌, ◌++◌, length, take, Bool, true, false, Option, Some, None, refl, sym, ◌∙◌, ap, subst, arith, append_assoc}
+use Rattle.std.proofs.Common.{◌≡◌, ℕ, List, [], ◌∷◌, ◌++◌, Bool, true, false, Option, Some, None, refl, sym, ◌∙◌, ap, subst, append_assoc}
 use Rattle.std.specs.Prelude.{map, slice_get, option_map, IfSome, not, ◌&&◌, if◌then◌else◌, ◌==◌}
-use Rattle.std.specs.List.{filter, flat_map}
-use Rattle.std.proofs.lemmas.List.{append-nil, length-map, map-append, take_all}
-use Rattle.std.proofs.lemmas.List.Elements.{filter-append}
-use Rattle.std.proofs.lemmas.Grind.{flat_map-append}
+use Rattle.std.specs.List.{flat_map}
+use Rattle.std.proofs.lemmas.List.{append-nil, map-append}
+use Rattle.std.proofs.lemmas.List.Concat.{flat_map_single}
 use Rattle.std.proofs.lemmas.Option.{slice_get-map}
 use Rattle.candidate_ir.specs.declared.decl.definition.AssocKind.TheVariants as A
 use Rattle.candidate_ir.specs.declared.decl.definition.DefinitionKind.{DefinitionKind}
@@ -31,16 +30,16 @@ use Rattle.candidate_ir.specs.Supers.{supers_at}
 use Rattle.candidate_ir.specs.Supertraits.{head_trait}
 use Rattle.candidate_ir.specs.Trees.{Kind, TypeKind, BinderKind, Forest, Tree, tree_holds}
 use Rattle.candidate_ir.specs.WellFormed.{IsWellFormedTable, AreGiven}
-use Rattle.candidate_ir.specs.Words.{IsArgs, ClauseListFits, args_forest, clause_tree}
+use Rattle.candidate_ir.specs.Words.{IsArgs, IsClause, ClauseListFits, args_forest, clause_tree}
 use Rattle.candidate_ir.specs.Worlds.{World, TraitSort, joined, kinds_of, parameters, parameters_of, sort_number}
 use Rattle.candidate_ir.proofs.Given.{definition_given, non_self_bounds_fit, self_bounds_fit, supers_fit}
+use Rattle.candidate_ir.proofs.Joining.{clause-kept}
 use Rattle.candidate_ir.proofs.Kept.{args-kept, grows-trans, world-kept}
 use Rattle.candidate_ir.proofs.Listing.{clauses_kept}
 use Rattle.candidate_ir.proofs.References.{fit-at}
 use Rattle.candidate_eval.specs.declared.structural.required.Declared.{Declared}
 use Rattle.candidate_eval.specs.declared.structural.required.Declared.TheVariants as W
-use Rattle.candidate_eval.specs.Required.{AreRequirements, bounds_of_items, declared_at, declared_trees, in_place, is_required, is_type_item, item_bounds, items_of, non_self_bounds, required_bounds, self_bounds, with_arguments}
-use Rattle.candidate_eval.proofs.Required.{AddedSoFar, next_place}
+use Rattle.candidate_eval.specs.Required.{AreRequirements, bounds_of_items, declared_at, declared_trees, is_required, is_type_item, item_bounds, items_of, non_self_bounds, required_bounds, self_bounds, with_arguments}
 
 -- A clause with arguments put in
 
@@ -62,24 +61,26 @@ pub declared_stays : (start now : Context) (of : Declared) (a : Args) → Grows 
 declared_stays start now of a g i f =
     ap (λ (x : Forest). map (with_arguments x) (declared_trees now of)) (args-kept start now a g i).1 ∙ ap (map (with_arguments (args_forest start.trees a))) (trees-stay start now of g f)
 
-pub place_stays : (start now : Context) (of : Declared) (a : Args) (k : ℕ) → Grows start now → IsArgs start.trees a → ClauseListFits start.trees (declared_at start of)
-    → map (with_arguments (args_forest now.trees a)) (in_place (declared_trees now of) k) ≡ map (with_arguments (args_forest start.trees a)) (in_place (declared_trees start of) k)
-place_stays start now of a k g i f =
-    ap (λ (x : Forest). map (with_arguments x) (in_place (declared_trees now of) k)) (args-kept start now a g i).1
-    ∙ ap (λ (ts : List Tree). map (with_arguments (args_forest start.trees a)) (in_place ts k)) (trees-stay start now of g f)
+-- one clause, with the arguments put in
+abbrev pub clause_with : List Tree → Args → Clause → List Tree
+clause_with ts a x = with_arguments (args_forest ts a) (clause_tree ts x) ∷ []
 
-pub declared_read : (c d : Context) (of : Declared) (xs : List Clause) → d ≡ c → xs ≡ declared_at d of → ClauseListFits d.trees xs → (xs ≡ declared_at c of) × ClauseListFits c.trees (declared_at c of)
-declared_read c d of xs q e f =
-    let same : xs ≡ declared_at c of = e ∙ ap (λ (x : Context). declared_at x of) q in
-    let there : ClauseListFits c.trees xs = subst (λ (x : Context). ClauseListFits x.trees xs) q f in
-    (same, subst (ClauseListFits c.trees) same there)
+pub clause_stays : (start now : Context) (a : Args) (x : Clause) → Grows start now → IsArgs start.trees a → IsClause start.trees x
+    → with_arguments (args_forest now.trees a) (clause_tree now.trees x) ≡ with_arguments (args_forest start.trees a) (clause_tree start.trees x)
+clause_stays start now a x g i j =
+    ap (λ (f : Forest). with_arguments f (clause_tree now.trees x)) (args-kept start now a g i).1 ∙ ap (with_arguments (args_forest start.trees a)) (clause-kept start now x g j).1
 
-pub all_declared : (start now : Context) (before list : List Clause) (f : Tree → Tree) (of : Declared) (xs : List Clause) (k : ℕ) → AddedSoFar start now before list (map f (take k (declared_trees start of)))
-    → xs ≡ declared_at start of → length xs ≤ k → map (clause_tree now.trees) list ≡ map (clause_tree start.trees) before ++ map f (declared_trees start of)
-all_declared start now before list f of xs k s e l =
-    let n = length-map (declared_at start of) (clause_tree start.trees) in
-    let m : length xs ≡ length (declared_at start of) = ap length e in
-    s.trees ∙ ap (λ (ts : List Tree). map (clause_tree start.trees) before ++ map f ts) (take_all k (declared_trees start of) (omega (arith, l, n, m)))
+pub declared_read : (c d : Context) (of : Declared) (xs ys : List Clause) → d ≡ c → ys ≡ xs → xs ≡ declared_at d of → ClauseListFits d.trees xs → (ys ≡ declared_at c of) × ClauseListFits c.trees ys
+declared_read c d of xs ys q s e f = (s ∙ (e ∙ ap (λ (x : Context). declared_at x of) q), rw s (subst (λ (x : Context). ClauseListFits x.trees xs) q f))
+
+pub all_declared : (c : Context) (a : Args) (of : Declared) (xs : List Clause) → xs ≡ declared_at c of → flat_map (clause_with c.trees a) xs ≡ map (with_arguments (args_forest c.trees a)) (declared_trees c of)
+all_declared c a of xs e =
+    flat_map_single (λ (x : Clause). with_arguments (args_forest c.trees a) (clause_tree c.trees x)) xs
+    ∙ (sym (map-map xs) ∙ ap (λ (ys : List Clause). map (with_arguments (args_forest c.trees a)) (map (clause_tree c.trees) ys)) e)
+  where
+    map-map : (ys : List Clause) → map (with_arguments (args_forest c.trees a)) (map (clause_tree c.trees) ys) ≡ map (λ (x : Clause). with_arguments (args_forest c.trees a) (clause_tree c.trees x)) ys
+    map-map [] = refl
+    map-map (y ∷ ys) = ap (λ (us : List Tree). with_arguments (args_forest c.trees a) (clause_tree c.trees y) ∷ us) (map-map ys)
 
 -- What a definition holds is there
 
@@ -143,9 +144,6 @@ items_stay start now (i ∷ is) t g = one-stays start now i is t g (is_required 
 pub required_stays : (start now : Context) (i : ℕ) → IsWellFormedTable start → Grows start now → required_bounds now i ≡ required_bounds start i
 required_stays start now i t g = ap (λ (c : Context). bounds_of_items now (items_of c i)) g.same ∙ items_stay start now (items_of start i) t g
 
-pub item_stays : (start now : Context) (i k : ℕ) → IsWellFormedTable start → Grows start now → bounds_of_items now (in_place (items_of now i) k) ≡ bounds_of_items start (in_place (items_of start i) k)
-item_stays start now i k t g = ap (λ (c : Context). bounds_of_items now (in_place (items_of c i) k)) g.same ∙ items_stay start now (in_place (items_of start i) k) t g
-
 -- One item
 
 pub both_bounds : (old mid : Context) (i : AssocId) (a : Args) (before between : List Clause) → IsWellFormedTable old → is_required old i ≡ true → IsArgs old.trees a → Grows old mid
@@ -162,27 +160,33 @@ both_bounds old mid i a before between t r h g first =
     ∙ (ap (λ (ts : List Tree). ts ++ map f others) first
     ∙ (append_assoc start (map f own) (map f others) ∙ ap (λ (ts : List Tree). start ++ ts) (sym (map-append f own others))))
 
-pub item_there : (c : Context) (is : List AssocId) (k : ℕ) (i : AssocId) → slice_get is k ≡ Some i → is_required c i ≡ true → item_bounds c i ≡ bounds_of_items c (in_place is k)
-item_there c is k i e r = rw (e, r) (sym (append-nil (item_bounds c i)))
+pub required_now : (c d : Context) (i : AssocId) (b x : Bool) → d ≡ c → b ≡ is_required d i → b ≡ x → is_required c i ≡ x
+required_now c d i b x q e f = ap (λ (y : Context). is_required y i) (sym q) ∙ (sym e ∙ f)
 
-pub item_left : (c : Context) (is : List AssocId) (k : ℕ) (i : AssocId) → slice_get is k ≡ Some i → is_required c i ≡ false → bounds_of_items c (in_place is k) ≡ []
-item_left c is k i e r = rw (e, r) refl
+-- the bounds of an item, with the arguments put in, if an object has it
+abbrev pub item_with : Context → Forest → AssocId → List Tree
+item_with c args i = map (with_arguments args) (bounds_of_items c (i ∷ []))
 
-pub no_item : (c : Context) (is : List AssocId) (k : ℕ) → slice_get is k ≡ None → bounds_of_items c (in_place is k) ≡ []
-no_item c is k e = rw e refl
+pub item_there : (start now : Context) (a : Args) (i : AssocId) → IsWellFormedTable start → Grows start now → IsArgs start.trees a → is_required now i ≡ true
+    → map (with_arguments (args_forest now.trees a)) (item_bounds now i) ≡ item_with start (args_forest start.trees a) i
+item_there start now a i t g h r =
+    let own : bounds_of_items now (i ∷ []) ≡ item_bounds now i = rw r (append-nil (item_bounds now i)) in
+    ap (λ (f : Forest). map (with_arguments f) (item_bounds now i)) (args-kept start now a g h).1
+    ∙ ap (map (with_arguments (args_forest start.trees a))) (sym own ∙ items_stay start now (i ∷ []) t g)
 
-pub next_item : (c : Context) (f : Tree → Tree) (is : List AssocId) (k : ℕ)
-    → map f (bounds_of_items c (take (k + 1) is)) ≡ map f (bounds_of_items c (take k is)) ++ map f (bounds_of_items c (in_place is k))
-next_item c f is k =
-    ap (λ (js : List AssocId). map f (bounds_of_items c js)) (next_place is k)
-    ∙ (ap (λ (js : List AssocId). map f (flat_map (item_bounds c) js)) (filter-append (is_required c) (take k is) (in_place is k))
-    ∙ (ap (map f) (flat_map-append (item_bounds c) (filter (is_required c) (take k is)) (filter (is_required c) (in_place is k)))
-    ∙ map-append f (bounds_of_items c (take k is)) (bounds_of_items c (in_place is k))))
+pub item_left : (start now : Context) (args : Forest) (i : AssocId) → Grows start now → is_required now i ≡ false → item_with start args i ≡ []
+item_left start now args i g r = let none = sym (ap (λ (c : Context). is_required c i) g.same) ∙ r in rw none refl
 
-pub all_items : (start now : Context) (before list : List Clause) (f : Tree → Tree) (i k : ℕ) → AddedSoFar start now before list (map f (bounds_of_items start (take k (items_of start i))))
-    → length (items_of start i) ≤ k → map (clause_tree now.trees) list ≡ map (clause_tree start.trees) before ++ map f (required_bounds start i)
-all_items start now before list f i k s l =
-    s.trees ∙ ap (λ (is : List AssocId). map (clause_tree start.trees) before ++ map f (bounds_of_items start is)) (take_all k (items_of start i) l)
+pub all_items : (c : Context) (args : Forest) (is : List AssocId) → flat_map (item_with c args) is ≡ map (with_arguments args) (bounds_of_items c is)
+all_items c args [] = refl
+all_items c args (i ∷ is) =
+    ap (λ (us : List Tree). item_with c args i ++ us) (all_items c args is)
+    ∙ (sym (map-append (with_arguments args) (bounds_of_items c (i ∷ [])) (bounds_of_items c is))
+    ∙ ap (map (with_arguments args)) (joined-items (is_required c i) refl))
+  where
+    joined-items : (b : Bool) → is_required c i ≡ b → bounds_of_items c (i ∷ []) ++ bounds_of_items c is ≡ bounds_of_items c (i ∷ is)
+    joined-items true q = rw q (ap (λ (us : List Tree). us ++ bounds_of_items c is) (append-nil (item_bounds c i)))
+    joined-items false q = rw q refl
 
 -- The super clauses of a declared trait are clauses.
 

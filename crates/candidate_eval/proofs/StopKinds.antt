@@ -13,7 +13,7 @@ use Rattle.candidate_ir.specs.Nodes.{tree_at}
 use Rattle.candidate_ir.specs.Folding.{IsSubstStop}
 use Rattle.candidate_ir.specs.Folds.{Says, StopsBy, memory, refused, too_high, full, too_few, after, below_asked, below_passed, later}
 use Rattle.candidate_ir.specs.Trees.{Forest, none, tree, Tree, count, skip}
-use Rattle.candidate_eval.specs.Evaluators.{IsMakingStop}
+use Rattle.candidate_eval.specs.Evaluators.{IsEvaluatorStop, IsMakingStop}
 use Rattle.candidate_eval.specs.Noting.{IsNotingStop}
 
 -- of trees with something put in, of instances, of elaborations
@@ -23,6 +23,14 @@ subst_making given made _ IsSubstStop.no_memory = tt
 subst_making given made _ (IsSubstStop.few_numbers l) = tt
 subst_making given made _ (IsSubstStop.high_tree l) = tt
 subst_making given made _ (IsSubstStop.far_variable e) = tt
+
+-- where there was one, an evaluator's own
+pub subst_stop : {A : Type 0} (given : ℕ) (made : Forest) (r : Result A Stop) → IfErr r (λ s. IsSubstStop given made s) → IfErr r IsEvaluatorStop
+subst_stop given made (Ok v) h = tt
+subst_stop given made (Err _) IsSubstStop.no_memory = tt
+subst_stop given made (Err _) (IsSubstStop.few_numbers l) = tt
+subst_stop given made (Err _) (IsSubstStop.high_tree l) = tt
+subst_stop given made (Err _) (IsSubstStop.far_variable e) = tt
 
 renumber_making : (given : ℕ) (made : Forest) (s : Stop) → IsRenumberStop given made s → IsMakingStop s
 renumber_making given made s (IsRenumberStop.unput c) = subst_making given made s c

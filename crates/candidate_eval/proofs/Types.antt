@@ -1,32 +1,29 @@
 -- The types that a cell asks about, as they are made.
-use Rattle.std.proofs.Common.{◌≡◌, ℕ, zero, suc, ◌+◌, ◌<◌, ◌≤◌, List, [], ◌∷◌, ◌++◌, length, get_or, take, Bool, true, false, Option, Some, None, inl, inr, refl, sym, ◌∙◌, ap, subst, arith}
-use Rattle.std.specs.Prelude.{if◌then◌else◌, map, slice_get, option_map, Result, Ok, Err, IfErr}
-use Rattle.std.proofs.lemmas.List.{map_push, take_more, take_all, length-map}
-use Rattle.std.proofs.lemmas.Option.{slice_get-map}
+use Rattle.std.proofs.Common.{◌≡◌, ℕ, ◌+◌, ◌<◌, ◌≤◌, List, [], ◌∷◌, ◌++◌, length, get_or, take, Bool, true, false, Option, Some, None, inl, inr, refl, sym, ◌∙◌, ap, subst, arith}
+use Rattle.std.specs.Prelude.{if◌then◌else◌, map, option_map, Result, Ok, Err, IfOk}
+use Rattle.std.proofs.lemmas.List.{append-nil, map_push, map_more, take_more, take_all}
+use Rattle.std.proofs.lemmas.Option.{slice_get-map, slice_get-get_or}
 use Rattle.candidate_ir.specs.declared.ir.kinds.GenericArg.{GenericArg}
 use Rattle.candidate_ir.specs.declared.ir.kinds.GenericArg.TheVariants as G
 use Rattle.candidate_ir.specs.declared.ir.kinds.Args.{Args}
 use Rattle.candidate_ir.specs.declared.ir.kinds.Ty.{Ty}
 use Rattle.candidate_ir.specs.declared.ir.stop.Stop.{Stop}
-use Rattle.candidate_ir.specs.Trees.{Kind, TypeKind, ConstantKind, RegionKind, is_type_kind, is_list_kind, Forest, none, Tree, row, height, heights}
+use Rattle.candidate_ir.specs.Trees.{Kind, TypeKind, ConstantKind, RegionKind, is_type_kind, is_list_kind, Forest, none, Tree, tree_holds, row, height, heights}
 use Rattle.candidate_ir.specs.declared.ir.kinds.TyKind.TheVariants as K
-use Rattle.candidate_ir.specs.Making.{Makes, a_type}
 use Rattle.candidate_ir.specs.Nodes.{kind_at, tree_at, Extends}
-use Rattle.candidate_ir.specs.Context.{Context, Grows, world}
-use Rattle.candidate_ir.specs.Worlds.{World, AdtSort, parameters, kinds_of}
-use Rattle.candidate_ir.specs.Folding.{substituted_tree, IsSubstStop, few_numbers}
+use Rattle.candidate_ir.specs.Context.{Context, Grows}
+use Rattle.candidate_ir.specs.Folding.{substituted_tree, lacks_argument, IsSubstStop, few_numbers}
 use Rattle.candidate_ir.specs.Substitutions.{alone}
-use Rattle.candidate_ir.specs.Contents.{AdtContents}
-use Rattle.candidate_ir.specs.Declaring.{adt_at}
-use Rattle.candidate_ir.specs.Lookups.{maybe}
 use Rattle.candidate_ir.specs.WellFormed.{TypesFit}
 use Rattle.candidate_ir.specs.Words.{IsTy, IsArgs, ListFits, list_forest, IsMkStop, ty_tree, args_forest, kind_tree}
-use Rattle.candidate_ir.proofs.Kept.{number-kept, ty-kept, args-kept, world-kept, grows-refl, grows-trans}
-use Rattle.candidate_ir.proofs.Lists.{there, below_kind}
+use Rattle.candidate_ir.proofs.Kept.{number-kept, ty-kept, args-kept, grows-refl, grows-trans}
+use Rattle.candidate_ir.proofs.Lists.{below_kind}
+use Rattle.candidate_ir.specs.Trees.{there}
+use Rattle.candidate_ir.proofs.Owned.{listed_type}
 use Rattle.candidate_ir.proofs.Rows.{kind-of, row-single}
-use Rattle.candidate_eval.specs.Tables.{u8, bytes, types_of, first_of, last_type, last_of, optional, tree_list, with_args, field_types, one_at, IsTypeStop, IsTypesStop}
-use Rattle.candidate_eval.specs.Asked.{ty_args, first_ty}
-use Rattle.candidate_eval.proofs.Cells.{one-more, no-more}
+use Rattle.candidate_eval.specs.Tables.{u8, bytes, types_of, first_of, last_type, last_of, optional, with_args, IsTypesStop}
+use Rattle.candidate_eval.specs.Asked.{ty_args, first_ty, HaveArguments}
+use Rattle.candidate_eval.proofs.Cells.{one-more, no-more, last_pushed}
 
 args-join : (xs ys : List GenericArg) → ty_args (xs ++ ys) ≡ ty_args xs ++ ty_args ys
 args-join [] ys = refl
@@ -44,12 +41,28 @@ pub record TypesSoFar (list : List GenericArg) (i : ℕ) (types : List Ty) : Typ
 pub no_types : (list : List GenericArg) → TypesSoFar list 0 []
 no_types list = record { are = refl }
 
-pub one_more_type : (list : List GenericArg) (old new : List Ty) (i : ℕ) (d : GenericArg) → TypesSoFar list i old → i < length list → new ≡ old ++ ty_args (get_or list i d ∷ [])
+one_more_type : (list : List GenericArg) (old new : List Ty) (i : ℕ) (d : GenericArg) → TypesSoFar list i old → i < length list → new ≡ old ++ ty_args (get_or list i d ∷ [])
     → TypesSoFar list (i + 1) new
 one_more_type list old new i d s l e = record { are = e ∙ (ap (λ (ts : List Ty). ts ++ ty_args (get_or list i d ∷ [])) s.are ∙ sym (taken list i d l)) }
 
 pub all_types : (list : List GenericArg) (types : List Ty) (i : ℕ) → TypesSoFar list i types → length list ≤ i → types ≡ ty_args list
 all_types list types i s l = s.are ∙ ap ty_args (take_all i list l)
+
+-- what an argument is, if it is a type, and if it is none
+one-type : (x : GenericArg) (t : Ty) → x ≡ G.Ty t → ty_args (x ∷ []) ≡ t ∷ []
+one-type x t e = ap (λ (y : GenericArg). ty_args (y ∷ [])) e
+
+not-type : (x : GenericArg) → ((t : Ty) → x ≡ G.Ty t → ⊥) → ty_args (x ∷ []) ≡ []
+not-type (G.Ty t) n = absurd (n t refl)
+not-type (G.Const c) n = refl
+not-type (G.Region r) n = refl
+
+pub another_type : (list : List GenericArg) (old new : List Ty) (i : ℕ) (d : GenericArg) (t : Ty) → TypesSoFar list i old → i < length list → get_or list i d ≡ G.Ty t → new ≡ old ++ t ∷ []
+    → TypesSoFar list (i + 1) new
+another_type list old new i d t s l e n = one_more_type list old new i d s l (n ∙ ap (λ (ts : List Ty). old ++ ts) (sym (one-type (get_or list i d) t e)))
+
+pub no_type : (list : List GenericArg) (old : List Ty) (i : ℕ) (d : GenericArg) → TypesSoFar list i old → i < length list → ((t : Ty) → get_or list i d ≡ G.Ty t → ⊥) → TypesSoFar list (i + 1) old
+no_type list old i d s l n = one_more_type list old old i d s l (sym (append-nil old) ∙ ap (λ (ts : List Ty). old ++ ts) (sym (not-type (get_or list i d) n)))
 
 -- the last of them so far
 pub record LastSoFar (list : List GenericArg) (i : ℕ) (last : Option Ty) : Type 0 where
@@ -63,11 +76,23 @@ last-again [] ys = refl
 last-again (x ∷ []) ys = refl
 last-again (x ∷ (y ∷ zs)) ys = last-again (y ∷ zs) ys
 
-pub one_more_last : (list : List GenericArg) (old new : Option Ty) (i : ℕ) (d : GenericArg) → LastSoFar list i old → i < length list
+one_more_last : (list : List GenericArg) (old new : Option Ty) (i : ℕ) (d : GenericArg) → LastSoFar list i old → i < length list
     → optional new ≡ last_of (optional old ++ ty_args (get_or list i d ∷ [])) → LastSoFar list (i + 1) new
 one_more_last list old new i d s l e =
     let own = ty_args (get_or list i d ∷ []) in
     record { is = e ∙ (ap (λ (ts : List Ty). last_of (ts ++ own)) s.is ∙ (last-again (ty_args (take i list)) own ∙ sym (ap last_of (taken list i d l)))) }
+
+pub another_last : (list : List GenericArg) (old : Option Ty) (i : ℕ) (d : GenericArg) (t : Ty) → LastSoFar list i old → i < length list → get_or list i d ≡ G.Ty t → LastSoFar list (i + 1) (Some t)
+another_last list old i d t s l e =
+    one_more_last list old (Some t) i d s l (sym (last_pushed (optional old) t) ∙ ap (λ (ts : List Ty). last_of (optional old ++ ts)) (sym (one-type (get_or list i d) t e)))
+
+pub same_last : (list : List GenericArg) (old : Option Ty) (i : ℕ) (d : GenericArg) → LastSoFar list i old → i < length list → ((t : Ty) → get_or list i d ≡ G.Ty t → ⊥) → LastSoFar list (i + 1) old
+same_last list old i d s l n =
+    one_more_last list old old i d s l (alone old ∙ ap last_of (sym (append-nil (optional old)) ∙ ap (λ (ts : List Ty). optional old ++ ts) (sym (not-type (get_or list i d) n))))
+  where
+    alone : (o : Option Ty) → optional o ≡ last_of (optional o)
+    alone None = refl
+    alone (Some t) = refl
 
 pub all_last : (list : List GenericArg) (last : Option Ty) (i : ℕ) → LastSoFar list i last → length list ≤ i → optional last ≡ last_of (ty_args list)
 all_last list last i s l = s.is ∙ ap (λ (xs : List GenericArg). last_of (ty_args xs)) (take_all i list l)
@@ -96,123 +121,68 @@ types-push ts (y ∷ ys) x f e =
 pub pushed_fit : (c d : Context) (old new : List Ty) (x : Ty) → Grows c d → TypesFit c.trees old → IsTy d.trees x → new ≡ old ++ x ∷ [] → TypesFit d.trees new
 pushed_fit c d old new x g f e n = subst (TypesFit d.trees) (sym n) (types-push d.trees old x (types_kept c.trees d.trees old g.kept f).0 e)
 
-pub pushed_trees : (c d : Context) (old new : List Ty) (x : Ty) (args : Forest) (t : Ty) → Grows c d → TypesFit c.trees old → new ≡ old ++ x ∷ []
-    → ty_tree d.trees x ≡ substituted_tree args (ty_tree c.trees t) → map (ty_tree d.trees) new ≡ map (ty_tree c.trees) old ++ with_args c args (optional (Some t))
-pushed_trees c d old new x args t g f n e =
-    ap (map (ty_tree d.trees)) n
-    ∙ (map_push (ty_tree d.trees) old x
-    ∙ (ap (λ (ts : List Tree). ts ++ ty_tree d.trees x ∷ []) (types_kept c.trees d.trees old g.kept f).1 ∙ ap (λ (u : Tree). map (ty_tree c.trees) old ++ u ∷ []) e))
+-- a type of a list of types
+pub ty_at : (ts : List Tree) (types : List Ty) (k : ℕ) (d : Ty) → TypesFit ts types → k < length types → IsTy ts (get_or types k d)
+ty_at ts types k d f l = listed_type ts types k (get_or types k d) f (sym (slice_get-get_or types k d l))
 
-pub unmade_type : (given : ℕ) (c : Context) (args : Forest) (t : Ty) (s : Stop) → IsSubstStop given (alone (substituted_tree args (ty_tree c.trees t))) s
-    → IsTypesStop given (with_args c args (optional (Some t))) s
-unmade_type given c args t s h = inr (record { place = 0; type = substituted_tree args (ty_tree c.trees t); is = refl; stop = h })
-
--- Fields
-
-with-one : (c : Context) (args : Forest) (xs : List Ty) (k : ℕ) (o : Option Ty) → o ≡ slice_get xs k → with_args c args (optional o) ≡ one_at (with_args c args xs) k
-with-one c args xs k o e =
-    of o ∙ ap tree_list (ap (option_map f) e ∙ sym (slice_get-map f xs k))
-  where
-    f : Ty → Tree
-    f t = substituted_tree args (ty_tree c.trees t)
-
-    of : (p : Option Ty) → with_args c args (optional p) ≡ tree_list (option_map (λ (t : Ty). substituted_tree args (ty_tree c.trees t)) p)
-    of None = refl
-    of (Some t) = refl
-
-pub field_at : (c : Context) (args : Forest) (i k : ℕ) (o : Option Ty) → o ≡ slice_get (maybe [] (λ (a : AdtContents). a.fields) (adt_at c i)) k
-    → with_args c args (optional o) ≡ one_at (field_types c i args) k
-field_at c args i k o e = with-one c args (maybe [] (λ (a : AdtContents). a.fields) (adt_at c i)) k o e
-
-stop-at : (given : ℕ) (ts us : List Tree) (k : ℕ) (s : Stop) → ts ≡ one_at us k → IsTypesStop given ts s → IsTypesStop given us s
-stop-at given ts us k s e (inl m) = inl m
-stop-at given ts us k s e (inr u) = inr (of (slice_get us k) refl)
-  where
-    place : (t : Tree) (n : ℕ) → slice_get (t ∷ []) n ≡ Some u.type → t ≡ u.type
-    place t zero q = cc
-    place t (suc n) q = absurd cc
-
-    there : slice_get (one_at us k) u.place ≡ Some u.type
-    there = ap (λ (xs : List Tree). slice_get xs u.place) (sym e) ∙ u.is
-
-    of : (o : Option Tree) → slice_get us k ≡ o → IsTypeStop given us s
-    of None q = absurd (let z : slice_get [] u.place ≡ Some u.type = sym (ap (λ (x : Option Tree). slice_get (tree_list x) u.place) q) ∙ there in cc)
-    of (Some t) q =
-        let same = place t u.place (sym (ap (λ (x : Option Tree). slice_get (tree_list x) u.place) q) ∙ there) in
-        record { place = k; type = u.type; is = q ∙ ap Some same; stop = u.stop }
-
-pub unmade_field : (given : ℕ) (c : Context) (args : Forest) (i k : ℕ) (o : Option Ty) (s : Stop) → o ≡ slice_get (maybe [] (λ (a : AdtContents). a.fields) (adt_at c i)) k
-    → IsTypesStop given (with_args c args (optional o)) s → IsTypesStop given (field_types c i args) s
-unmade_field given c args i k o s e h = stop-at given _ (field_types c i args) k s (field_at c args i k o e) h
-
--- The fields so far.
-pub record FieldsSoFar (start now : Context) (i : ℕ) (args : Forest) (k : ℕ) (types : List Ty) : Type 0 where
+-- The types of a list so far, with arguments put in.
+pub record PutSoFar (start now : Context) (args : Forest) (declared : List Ty) (k : ℕ) (types : List Ty) : Type 0 where
   pub grows : Grows start now
   pub fit : TypesFit now.trees types
-  pub trees : map (ty_tree now.trees) types ≡ take k (field_types start i args)
+  pub trees : map (ty_tree now.trees) types ≡ with_args start args (take k declared)
 
-pub no_fields : (start : Context) (i : ℕ) (args : Forest) (types : List Ty) → types ≡ [] → FieldsSoFar start start i args 0 types
-no_fields start i args types e = record {
-  grows = grows-refl start;
-  fit = subst (TypesFit start.trees) (sym e) refl;
-  trees = ap (map (ty_tree start.trees)) e;
-}
+pub none_put : (start : Context) (args : Forest) (declared : List Ty) → PutSoFar start start args declared 0 []
+none_put start args declared = record { grows = grows-refl start; fit = refl; trees = refl }
 
-with-kept : (old new : Context) (args : Forest) (xs : List Ty) → Grows old new → TypesFit old.trees xs → with_args new args xs ≡ with_args old args xs
-with-kept old new args [] g f = refl
-with-kept old new args (x ∷ xs) g f =
-    let here : IsTy old.trees x = cc in
-    let others : TypesFit old.trees xs = cc in
-    ap (λ (t : Tree). substituted_tree args t ∷ with_args new args xs) (ty-kept old new x g here).1
-    ∙ ap (λ (ts : List Tree). substituted_tree args (ty_tree old.trees x) ∷ ts) (with-kept old new args xs g others)
+put-now : (start now : Context) (a : Args) (t : Ty) → Grows start now → IsArgs start.trees a → IsTy start.trees t
+    → substituted_tree (args_forest now.trees a) (ty_tree now.trees t) ≡ substituted_tree (args_forest start.trees a) (ty_tree start.trees t)
+put-now start now a t g h e =
+    ap (λ (f : Forest). substituted_tree f (ty_tree now.trees t)) (args-kept start now a g h).1
+    ∙ ap (substituted_tree (args_forest start.trees a)) (ty-kept start now t g e).1
 
--- types with arguments put in stay while a table grows
-pub fields_stay : (start now : Context) (i : ℕ) (args : Forest) → Grows start now → TypesFit start.trees (maybe [] (λ (a : AdtContents). a.fields) (adt_at start i))
-    → field_types now i args ≡ field_types start i args
-fields_stay start now i args g f =
-    ap (λ (c : Context). with_args now args (maybe [] (λ (a : AdtContents). a.fields) (adt_at c i))) g.same
-    ∙ with-kept start now args (maybe [] (λ (a : AdtContents). a.fields) (adt_at start i)) g f
+-- its parameters have arguments in a context that grew
+pub has_now : (start now : Context) (a : Args) (declared : List Ty) (k : ℕ) (d : Ty) → Grows start now → IsArgs start.trees a → TypesFit start.trees declared → k < length declared
+    → HaveArguments start a declared → tree_holds (lacks_argument (args_forest now.trees a)) (ty_tree now.trees (get_or declared k d)) ≡ false
+has_now start now a declared k d g h f l have =
+    let t = get_or declared k d in
+    ap (λ (x : Forest). tree_holds (lacks_argument x) (ty_tree now.trees t)) (args-kept start now a g h).1
+    ∙ (ap (tree_holds (lacks_argument (args_forest start.trees a))) (ty-kept start now t g (ty_at start.trees declared k d f l)).1 ∙ have k d l)
 
-take-one : (us : List Tree) (k : ℕ) → take (suc k) us ≡ take k us ++ one_at us k
-take-one [] zero = refl
-take-one [] (suc k) = refl
-take-one (u ∷ us) zero = refl
-take-one (u ∷ us) (suc k) = ap (λ (ts : List Tree). u ∷ ts) (take-one us k)
-
-pub one_more_field : (start now new : Context) (i : ℕ) (a : Args) (k : ℕ) (old types : List Ty) → IsArgs start.trees a → FieldsSoFar start now i (args_forest start.trees a) k old
-    → TypesFit start.trees (maybe [] (λ (x : AdtContents). x.fields) (adt_at start i)) → Grows now new → TypesFit new.trees types
-    → map (ty_tree new.trees) types ≡ map (ty_tree now.trees) old ++ one_at (field_types now i (args_forest now.trees a)) k
-    → FieldsSoFar start new i (args_forest start.trees a) (k + 1) types
-one_more_field start now new i a k old types h s f g fit e =
+pub one_more_put : (start now new : Context) (a : Args) (declared : List Ty) (k : ℕ) (d : Ty) (old types : List Ty) (x : Ty) → PutSoFar start now (args_forest start.trees a) declared k old
+    → IsArgs start.trees a → TypesFit start.trees declared → k < length declared → Grows now new → IsTy new.trees x
+    → ty_tree new.trees x ≡ substituted_tree (args_forest now.trees a) (ty_tree now.trees (get_or declared k d)) → types ≡ old ++ x ∷ []
+    → PutSoFar start new (args_forest start.trees a) declared (k + 1) types
+one_more_put start now new a declared k d old types x s h f l g i e n =
     let args = args_forest start.trees a in
-    let one : k + 1 ≡ suc k = omega arith in
-    let same : field_types now i (args_forest now.trees a) ≡ field_types start i args = ap (field_types now i) (args-kept start now a s.grows h).1 ∙ fields_stay start now i args s.grows f in
+    let put : Ty → Tree = λ t. substituted_tree args (ty_tree start.trees t) in
+    let same = e ∙ put-now start now a (get_or declared k d) s.grows h (ty_at start.trees declared k d f l) in
     record {
       grows = grows-trans start now new s.grows g;
-      fit = fit;
-      trees = e
-          ∙ (ap (λ (ts : List Tree). ts ++ one_at (field_types now i (args_forest now.trees a)) k) s.trees
-          ∙ (ap (λ (us : List Tree). take k (field_types start i args) ++ one_at us k) same
-          ∙ (sym (take-one (field_types start i args) k) ∙ ap (λ (m : ℕ). take m (field_types start i args)) (sym one))));
+      fit = pushed_fit now new old types x g s.fit i n;
+      trees = ap (map (ty_tree new.trees)) n
+          ∙ (map_push (ty_tree new.trees) old x
+          ∙ (ap (λ (ts : List Tree). ts ++ ty_tree new.trees x ∷ []) ((types_kept now.trees new.trees old g.kept s.fit).1 ∙ s.trees)
+          ∙ (ap (λ (t : Tree). map put (take k declared) ++ t ∷ []) same ∙ sym (map_more put declared k d l))));
     }
 
-pub all_fields : (start now : Context) (i : ℕ) (args : Forest) (k : ℕ) (types : List Ty) → FieldsSoFar start now i args k types
-    → length (maybe [] (λ (a : AdtContents). a.fields) (adt_at start i)) ≤ k → map (ty_tree now.trees) types ≡ field_types start i args
-all_fields start now i args k types s l =
-    let n = length-map (maybe [] (λ (a : AdtContents). a.fields) (adt_at start i)) (λ (t : Ty). substituted_tree args (ty_tree start.trees t)) in
-    s.trees ∙ take_all k (field_types start i args) (omega (arith, l, n))
+pub all_put : (start now : Context) (args : Forest) (declared : List Ty) (k : ℕ) (types : List Ty) → PutSoFar start now args declared k types → length declared ≤ k
+    → map (ty_tree now.trees) types ≡ with_args start args declared
+all_put start now args declared k types s l = s.trees ∙ ap (with_args start args) (take_all k declared l)
 
-pub field_stop : (start now : Context) (i : ℕ) (a : Args) (k given : ℕ) (old : List Ty) (s : Stop) → IsArgs start.trees a → FieldsSoFar start now i (args_forest start.trees a) k old
-    → TypesFit start.trees (maybe [] (λ (x : AdtContents). x.fields) (adt_at start i)) → IsTypesStop given (field_types now i (args_forest now.trees a)) s
-    → IsTypesStop given (field_types start i (args_forest start.trees a)) s
-field_stop start now i a k given old s h w f c =
-    subst (λ (ts : List Tree). IsTypesStop given ts s) (ap (field_types now i) (args-kept start now a w.grows h).1 ∙ fields_stay start now i (args_forest start.trees a) w.grows f) c
-
--- the fields that were read at the start
-pub fields_read : (c d : Context) (i : ℕ) (xs : List Ty) → d ≡ c → xs ≡ maybe [] (λ (a : AdtContents). a.fields) (adt_at d i) → TypesFit d.trees xs
-    → TypesFit c.trees (maybe [] (λ (a : AdtContents). a.fields) (adt_at c i))
-fields_read c d i xs q e f =
-    subst (λ (x : Context). TypesFit x.trees (maybe [] (λ (a : AdtContents). a.fields) (adt_at x i))) q (subst (TypesFit d.trees) e f)
+pub put_stop : (start now : Context) (a : Args) (declared : List Ty) (k : ℕ) (d : Ty) (types : List Ty) (given : ℕ) (s : Stop) → PutSoFar start now (args_forest start.trees a) declared k types
+    → IsArgs start.trees a → TypesFit start.trees declared → k < length declared
+    → IsSubstStop given (alone (substituted_tree (args_forest now.trees a) (ty_tree now.trees (get_or declared k d)))) s
+    → IsTypesStop given (with_args start (args_forest start.trees a) declared) s
+put_stop start now a declared k d types given s so h f l c =
+    let args = args_forest start.trees a in
+    let put : Ty → Tree = λ t. substituted_tree args (ty_tree start.trees t) in
+    let t = get_or declared k d in
+    inr (record {
+      place = k;
+      type = put t;
+      is = slice_get-map put declared k ∙ ap (option_map put) (slice_get-get_or declared k d l);
+      stop = subst (λ (u : Tree). IsSubstStop given (alone u) s) (put-now start now a t so.grows h (ty_at start.trees declared k d f l)) c;
+    })
 
 -- The slice of bytes
 
@@ -223,16 +193,11 @@ made_stop old new high s e (inr (f, inl n)) l =
     inr (record { place = 0; type = bytes; is = refl; stop = subst (IsSubstStop (length new.trees) (alone bytes)) (sym f) (few_numbers (omega (arith, same))) })
 made_stop old new high s e (inr (f, inr h)) l = absurd (omega (arith, h, l))
 
-pub slice_stop : (old new : Context) (b : Ty) (r : Result Ty Stop) → ty_tree old.trees b ≡ u8 → Makes (a_type (K.Slice b)) old new r → IfErr r (λ s. IsTypesStop (length new.trees) (bytes ∷ []) s)
-slice_stop old new b (Ok t) e m = tt
-slice_stop old new b (Err s) e m =
+pub slice_stop : (old new : Context) (b : Ty) (s : Stop) → ty_tree old.trees b ≡ u8 → new ≡ old → IsMkStop old.trees (height (kind_tree old.trees (K.Slice b))) s
+    → IsTypesStop (length new.trees) (bytes ∷ []) s
+slice_stop old new b s e same cause =
     let high : height (kind_tree old.trees (K.Slice b)) ≡ 2 = ap (λ (t : Tree). 1 + heights (row t none)) e in
-    made_stop old new (height (kind_tree old.trees (K.Slice b))) s m.unchanged m.cause (omega (arith, high))
-
-pub parameters_kept : (start now : Context) (i : ℕ) (a : Args) → Grows start now → IsArgs start.trees a → parameters (world start) AdtSort i ≡ Some (kinds_of (args_forest start.trees a))
-    → parameters (world now) AdtSort i ≡ Some (kinds_of (args_forest now.trees a))
-parameters_kept start now i a g h p =
-    ap (λ (w : World). parameters w AdtSort i) (world-kept start now g).0 ∙ (p ∙ ap (λ (f : Forest). Some (kinds_of f)) (sym (args-kept start now a g h).1))
+    made_stop old new (height (kind_tree old.trees (K.Slice b))) s same cause (omega (arith, high))
 
 -- The types among the arguments of a list
 pub listed_fit : (ts : List Tree) (xs : List GenericArg) → ListFits ts xs → TypesFit ts (ty_args xs) × (map (ty_tree ts) (ty_args xs) ≡ types_of (list_forest ts xs))
@@ -305,3 +270,8 @@ first_given ts a xs v f e q =
     of (G.Region x ∷ ys) g =
         let here : kind_at ts x.0 ≡ RegionKind = cc in
         (refl, sym (first-tree ts x.0 RegionKind (list_forest ts ys) refl refl here))
+
+-- what holds of a list where it was made
+pub if_ok : {E : Type 0} → {X : Type 0} → {P : X → Type 0} → {Q : X → Type 0} → (r : Result X E) → ((v : X) → P v → Q v) → IfOk r P → IfOk r Q
+if_ok (Ok v) f h = f v h
+if_ok (Err e) f h = tt

@@ -1,5 +1,5 @@
 -- What each cell is read from, where a type is given by its kind: the tables over numbers.
-use Rattle.std.specs.Prelude.{◌≡◌, Bool, true, false, Option, Some, None, List, [], ◌∷◌, map, if◌then◌else◌}
+use Rattle.std.specs.Prelude.{◌≡◌, All, Bool, true, false, Option, Some, None, List, [], ◌∷◌, map, if◌then◌else◌}
 use Rattle.candidate_ir.specs.declared.ir.kinds.TyKind.{TyKind}
 use Rattle.candidate_ir.specs.declared.ir.kinds.TyKind.TheVariants as K
 use Rattle.candidate_ir.specs.declared.ir.kinds.AliasKind.{AliasKind}
@@ -13,7 +13,8 @@ use Rattle.candidate_ir.specs.declared.ir.kinds.GenericArg.TheVariants as G
 use Rattle.candidate_ir.specs.declared.ir.kinds.Ty.{Ty}
 use Rattle.candidate_ir.specs.declared.decl.contents.Sizedness.{Sizedness}
 use Rattle.candidate_ir.specs.declared.decl.contents.Sizedness.TheVariants as S
-use Rattle.candidate_ir.specs.Trees.{Forest, none, Tree}
+use Rattle.candidate_ir.specs.Folding.{lacks_argument}
+use Rattle.candidate_ir.specs.Trees.{Forest, none, Tree, tree_holds}
 use Rattle.candidate_ir.specs.Context.{Context, world}
 use Rattle.candidate_ir.specs.Lookups.{adt_flags, definition}
 use Rattle.candidate_ir.specs.Words.{IsTy, IsArgs, IsVars, ty_tree, args_forest, vars_tree}
@@ -21,10 +22,12 @@ use Rattle.candidate_ir.specs.WellFormed.{TypesFit}
 use Rattle.candidate_ir.specs.Worlds.{AdtSort, OpaqueSort, parameters, kinds_of}
 use Rattle.candidate_eval.specs.declared.structural.asked.Asked.{Asked}
 use Rattle.candidate_eval.specs.declared.structural.asked.Asked.TheVariants as A
+use Rattle.candidate_eval.specs.declared.structural.Column.{Column}
+use Rattle.candidate_eval.specs.declared.structural.Column.TheVariants as C
 use Rattle.candidate_eval.specs.declared.structural.Constituents.{Constituents}
 use Rattle.candidate_eval.specs.declared.structural.Under.{Under}
 use Rattle.candidate_eval.specs.declared.structural.Under.TheVariants as U
-use Rattle.candidate_eval.specs.Tables.{Parts, Cell, Refused, Asks, types_of, last_type, first_of, bytes, is_phantom, is_manually_drop, field_types, constraint_types, hidden_types}
+use Rattle.candidate_eval.specs.Tables.{Parts, Cell, Refused, Asks, types_of, last_type, first_of, bytes, is_phantom, is_manually_drop, field_types, constraint_types, hidden_types, with_args}
 
 -- the types that it asks about, and the variables of the binder that they stand under
 abbrev pub asked_types : Context → Asked → List Tree
@@ -69,13 +72,26 @@ AskedFits c (A.Constraint i a s) = IsArgs c.trees a × (parameters (world c) Adt
 AskedFits c (A.Hidden i a) = IsArgs c.trees a × (parameters (world c) OpaqueSort i.0 ≡ Some (kinds_of (args_forest c.trees a)))
 AskedFits c _ = Unit {0}
 
--- whether no type has to be made for it
-abbrev pub is_given : Asked → Bool
-is_given A.Bytes = false
-is_given (A.Fields i a) = false
-is_given (A.Constraint i a s) = false
-is_given (A.Hidden i a) = false
-is_given _ = true
+-- whether the types are there: the slice of bytes is made
+abbrev pub is_listed : Asked → Bool
+is_listed A.Bytes = false
+is_listed _ = true
+
+-- the arguments that are put into what is declared
+abbrev pub arguments_of : Asked → Option Args
+arguments_of (A.Fields i a) = Some a
+arguments_of (A.Constraint i a s) = Some a
+arguments_of (A.Hidden i a) = Some a
+arguments_of _ = None
+
+-- each parameter in the types has one of the arguments
+abbrev pub HaveArguments : Context → Args → List Ty → Type 0
+HaveArguments c a ts = All (λ t. tree_holds (lacks_argument (args_forest c.trees a)) (ty_tree c.trees t) ≡ false) ts
+
+-- the trees of types, with the arguments put in, if there are any
+abbrev pub trees_with : Context → Option Args → List Ty → List Tree
+trees_with c None ts = map (ty_tree c.trees) ts
+trees_with c (Some a) ts = with_args c (args_forest c.trees a) ts
 
 -- The columns.
 
@@ -151,6 +167,13 @@ destruct_asked c (K.Placeholder p) = A.Refused
 destruct_asked c (K.Bound v) = A.Refused
 destruct_asked c _ = A.Nothing
 
+-- what the column asks about a type of that kind
+abbrev pub asked_for : Context → Column → TyKind → Asked
+asked_for c C.Auto k = auto_asked c k
+asked_for c (C.Sizedness s) k = sizedness_asked s k
+asked_for c C.CopyClone k = copy_asked k
+asked_for c C.Destruct k = destruct_asked c k
+
 -- The kinds that a column excludes none of.
 
 abbrev pub is_opaque : AliasKind → Bool
@@ -170,6 +193,10 @@ abbrev pub kind_known : TyKind → Bool
 kind_known (K.Bound v) = false
 kind_known (K.Infer (I.TyVar n)) = false
 kind_known _ = true
+
+abbrev pub known : Column → TyKind → Bool
+known C.Auto k = auto_known k
+known _ k = kind_known k
 
 -- What was made.
 

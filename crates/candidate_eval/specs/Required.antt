@@ -1,7 +1,6 @@
 -- What a type has to fulfil so as to be an object of a trait, and what the bounds of the object's type say of it as clauses.
-use Rattle.std.specs.Prelude.{◌≡◌, ℕ, Bool, true, false, not, ◌&&◌, Option, Some, List, [], ◌∷◌, ◌++◌, map, slice_get, if◌then◌else◌}
+use Rattle.std.specs.Prelude.{◌≡◌, ℕ, Bool, true, false, not, ◌&&◌, Option, Some, List, [], ◌∷◌, ◌++◌, map, if◌then◌else◌}
 use Rattle.std.specs.List.{filter, flat_map}
-use Rattle.std.specs.Option.{option_to_list}
 use Rattle.candidate_ir.specs.declared.ir.heads.Head.{Head}
 use Rattle.candidate_ir.specs.declared.ir.heads.Head.TheVariants as H
 use Rattle.candidate_ir.specs.declared.ir.heads.PartHead.TheVariants as P
@@ -115,7 +114,3 @@ declared_at c (D.NonSelfBounds i) = non_self_bounds c i.0
 
 abbrev pub declared_trees : Context → Declared → List Tree
 declared_trees c d = map (clause_tree c.trees) (declared_at c d)
-
--- the member in that place of a list, if there is one
-abbrev pub in_place : {X : Type 0} → List X → ℕ → List X
-in_place xs k = option_to_list (slice_get xs k)

@@ -23,6 +23,8 @@ use Rattle.candidate_ir.specs.Declaring.{adt_at}
 use Rattle.candidate_ir.specs.Elaboration.{first_children}
 use Rattle.candidate_ir.specs.Lookups.{maybe, constraint, adt_flags, hidden_type, definition}
 use Rattle.candidate_ir.specs.Words.{ty_tree}
+use Rattle.candidate_eval.specs.declared.structural.Column.{Column}
+use Rattle.candidate_eval.specs.declared.structural.Column.TheVariants as C
 
 -- types, and the variables of the binder that they stand under, if there is one
 pub record Parts : Type 0 where
@@ -101,10 +103,6 @@ abbrev pub optional : Option Ty → List Ty
 optional None = []
 optional (Some t) = t ∷ []
 
-abbrev pub tree_list : Option Tree → List Tree
-tree_list None = []
-tree_list (Some t) = t ∷ []
-
 abbrev pub constraint_types : Context → ℕ → Forest → Sizedness → List Tree
 constraint_types c i args s = with_args c args (optional (maybe None (constraint s) (adt_at c i)))
 
@@ -176,13 +174,16 @@ row c _ below = cells Excluded (always Excluded) Excluded Excluded
 abbrev pub row_of : Context → Tree → Row
 row_of c t = row c t.head t.children
 
+-- the cell of a line in a column
+abbrev pub cell : Column → Row → Cell
+cell C.Auto r = r.auto
+cell (C.Sizedness s) r = r.sizedness s
+cell C.CopyClone r = r.copy
+cell C.Destruct r = r.destruct
+
 abbrev pub is_excluded : Cell → Bool
 is_excluded Excluded = true
 is_excluded _ = false
-
--- the tree in that place of a list, if there is one
-abbrev pub one_at : List Tree → ℕ → List Tree
-one_at ts k = tree_list (slice_get ts k)
 
 -- One of the types was not made.
 pub record IsTypeStop (given : ℕ) (ts : List Tree) (s : Stop) : Type 0 where

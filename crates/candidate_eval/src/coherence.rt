@@ -21,6 +21,7 @@ use candidate_ir::decl::Cx;
 use candidate_ir::ir::heads::Flag;
 use candidate_ir::ir::kinds::{Args, TraitRef, Ty};
 use candidate_ir::ir::stop::Stop;
+use candidate_ir::ir::trees::Trees;
 use std::alloc::Global;
 use std::fmt;
 
@@ -260,7 +261,7 @@ where
 pub fn trait_ref_is_local_or_fundamental(cx: &Cx, trait_ref: TraitRef) -> bool
     ensures { result ≡ local_or_fundamental (world cx.now) cx.now.local.0 trait_ref.def_id.0 }
 {
-    cx.trait_is_local(trait_ref.def_id) || cx.trait_is_fundamental(trait_ref.def_id)
+    cx.is_local(trait_ref.def_id.0) || cx.is_fundamental(trait_ref.def_id.0)
 }
 
 /// Whether neither an alias nor an error stands anywhere in the reference: the test, at run time, of
@@ -270,7 +271,7 @@ pub fn trait_ref_is_plain(cx: &Cx, trait_ref: TraitRef) -> bool
     ensures exact { result ≡ not (holds is_alias (args_forest cx.now.trees trait_ref.args) || holds (mark Flag.Error) (args_forest cx.now.trees trait_ref.args)) }
     ensures plain { IsTrue result → HasNoAliasOrError cx.now trait_ref }
 {
-    !cx.args_have(trait_ref.args, Flag::Alias) && !cx.args_have(trait_ref.args, Flag::Error)
+    !cx.has(trait_ref.args, Flag::Alias) && !cx.has(trait_ref.args, Flag::Error)
 }
 
 /// Who may write impls of a reference that aren't known here.

@@ -10,7 +10,20 @@ pub mod replacing;
 pub mod required;
 pub mod tables;
 
+use candidate_ir::decl::contents::Sizedness;
 use candidate_ir::ir::kinds::{Ty, Vars};
+
+/// A column of the tables.
+#[derive(Clone, Copy)]
+pub enum Column {
+    /// Auto traits.
+    Auto,
+    /// A sizedness trait.
+    Sizedness(Sizedness),
+    /// `Copy`, `Clone` and `TrivialClone`.
+    CopyClone,
+    Destruct,
+}
 
 /// Whether types stand under a binder.
 #[derive(Clone, Copy)]

@@ -12,9 +12,8 @@ ghost use Rattle.candidate_eval.specs.Shapes.{IsShape};
 use crate::coherence::{InCrate, OrphanCheckMode};
 use candidate_ir::decl::Cx;
 use candidate_ir::ir::heads::Flag;
-use candidate_ir::ir::kinds::{
-    AdtId, AliasKind, Args, ForeignId, Pattern, Preds, TraitId, Ty, TyKind,
-};
+use candidate_ir::ir::kinds::{AdtId, AliasKind, Args, Pattern, Preds, Ty, TyKind};
+use candidate_ir::ir::trees::Trees;
 
 /// The classes of the items of a frontier.
 #[derive(Clone, Copy)]
@@ -70,29 +69,12 @@ fn owned_class(is_local: bool) -> ViewClass
     }
 }
 
-fn adt_is_local(cx: &Cx, in_crate: InCrate, id: AdtId) -> bool
-    ensures { result ≡ is_local (world cx.now) (crate_test in_crate cx.now.local.0) id.0 }
+/// Whether the definition of that number is of a crate that the check is for.
+fn passes(cx: &Cx, in_crate: InCrate, definition: u32) -> bool
+    ensures { result ≡ is_local (world cx.now) (crate_test in_crate cx.now.local.0) definition }
 {
     match in_crate {
-        InCrate::Local { .. } => cx.adt_is_local(id),
-        InCrate::Remote => false,
-    }
-}
-
-fn foreign_is_local(cx: &Cx, in_crate: InCrate, id: ForeignId) -> bool
-    ensures { result ≡ is_local (world cx.now) (crate_test in_crate cx.now.local.0) id.0 }
-{
-    match in_crate {
-        InCrate::Local { .. } => cx.foreign_is_local(id),
-        InCrate::Remote => false,
-    }
-}
-
-fn trait_is_local(cx: &Cx, in_crate: InCrate, id: TraitId) -> bool
-    ensures { result ≡ is_local (world cx.now) (crate_test in_crate cx.now.local.0) id.0 }
-{
-    match in_crate {
-        InCrate::Local { .. } => cx.trait_is_local(id),
+        InCrate::Local { .. } => cx.is_local(definition),
         InCrate::Remote => false,
     }
 }
@@ -101,9 +83,9 @@ fn shape_of_adt(cx: &Cx, in_crate: InCrate, id: AdtId, args: Args) -> Shape
     requires { KindFits cx.now.trees (TyKind.Adt id args) }
     ensures { IsShape cx.now in_crate (kind_tree cx.now.trees (TyKind.Adt id args)) result }
 {
-    if adt_is_local(cx, in_crate, id) {
+    if passes(cx, in_crate, id.0) {
         Shape::Item(ViewClass::Local)
-    } else if cx.adt_is_fundamental(id) {
+    } else if cx.is_fundamental(id.0) {
         Shape::Arguments(args)
     } else {
         Shape::Item(ViewClass::NonLocal) // whatever its arguments are
@@ -115,7 +97,7 @@ fn principal_class(cx: &Cx, in_crate: InCrate, preds: Preds) -> ViewClass
     ensures { result ≡ owned_in (principal_passes (world cx.now) (crate_test in_crate cx.now.local.0) (preds_forest cx.now.trees preds)) }
 {
     match cx.principal(preds) {
-        Some(id) => owned_class(trait_is_local(cx, in_crate, id)),
+        Some(id) => owned_class(passes(cx, in_crate, id.0)),
         None => ViewClass::NonLocal,
     }
 }
@@ -154,7 +136,7 @@ fn shape_of_kind(cx: &Cx, in_crate: InCrate, ty: Ty, kind: TyKind) -> Shape
             Shape::Item(ViewClass::NonLocal)
         }
         TyKind::Adt(id, args) => shape_of_adt(cx, in_crate, id, args),
-        TyKind::Foreign(id) => Shape::Item(owned_class(foreign_is_local(cx, in_crate, id))),
+        TyKind::Foreign(id) => Shape::Item(owned_class(passes(cx, in_crate, id.0))),
         TyKind::Dynamic(preds, _) => Shape::Item(principal_class(cx, in_crate, preds)),
         TyKind::Ref(_, target, _) => Shape::Target(target),
         TyKind::Alias(alias) => if has_loose(cx, ty) {

@@ -14,6 +14,7 @@ use crate::table::{Shape, ViewClass, shape_of};
 use candidate_ir::decl::Cx;
 use candidate_ir::ir::kinds::{Args, GenericArg, InferTy, Ty, TyKind};
 use candidate_ir::ir::stop::Stop;
+use candidate_ir::ir::trees::Trees;
 use std::alloc::AllocFailed;
 
 /// How a walk goes on, and what it has recorded.

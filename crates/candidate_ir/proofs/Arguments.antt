@@ -10,7 +10,7 @@ use Rattle.candidate_ir.specs.Nodes.{tree_at, kind_at}
 use Rattle.candidate_ir.specs.Folding.{argument, lacks_argument}
 use Rattle.candidate_ir.specs.Words.{ListFits, list_forest}
 use Rattle.candidate_ir.proofs.Children.{or-false}
-use Rattle.candidate_ir.proofs.Lists.{there}
+use Rattle.candidate_ir.specs.Trees.{there}
 use Rattle.candidate_ir.proofs.Members.{arg-there}
 use Rattle.candidate_ir.proofs.Rows.{kind-of}
 use Rattle.candidate_ir.proofs.Splits.{list-head}

@@ -42,7 +42,7 @@ use Rattle.candidate_ir.specs.Declaration.{Declaration}
 use Rattle.candidate_ir.specs.Context.{Context, Grows, world_of}
 use Rattle.candidate_ir.specs.References.{Takes, AllTake, ArgumentsFit}
 use Rattle.candidate_ir.specs.Words.{IsArgs, IsPreds, KindFits, ConstKindFits, PredFits, ClauseFits, ListFits, PredListFits, kind_tree, const_kind_tree, pred_kind_tree, clause_kind_tree, args_forest, preds_forest, list_forest, pred_list_forest, bounds_forest}
-use Rattle.candidate_ir.proofs.Lists.{there}
+use Rattle.candidate_ir.specs.Trees.{there}
 use Rattle.candidate_ir.proofs.Kept.{preds-kept}
 use Rattle.candidate_ir.proofs.Made.{list-kinds}
 use Rattle.std.proofs.Math.Nat.{eq-or-lt_of_le}

@@ -14,10 +14,11 @@ use Rattle.candidate_ir.specs.Kinds.{Child, numbers, arg_child, arg_number}
 use Rattle.candidate_ir.specs.declared.ir.node.Node.{Node}
 use Rattle.candidate_ir.specs.Nodes.{kind_at, tree_at, trees_at, rows, tallest, any_holds, children_of, node_tree, head_of, pred_child, clause_child, var_child, Fits}
 use Rattle.candidate_ir.specs.Table.{Below, IsNodeOf}
-use Rattle.candidate_ir.specs.Flags.{mark}
+use Rattle.candidate_ir.specs.Flags.{mark, mark_of_list}
 use Rattle.candidate_ir.specs.declared.ir.heads.Flag.{Flag}
 use Rattle.candidate_ir.specs.declared.ir.heads.Flag.TheVariants as F
-use Rattle.candidate_ir.proofs.Lists.{there, below_kind, kind_of-tree_at}
+use Rattle.candidate_ir.proofs.Lists.{below_kind, kind_of-tree_at}
+use Rattle.candidate_ir.specs.Trees.{there}
 use Rattle.candidate_ir.proofs.Splits.{list-head, nodes-agree, rows-holds, rows-height}
 
 pub Below-get : (n : ℕ) (ks : List ℕ) (i k : ℕ) → Below n ks → slice_get ks i ≡ Some k → k < n
@@ -166,21 +167,6 @@ height_end ts d i high e n =
     let t : tallest (trees_at ts (drop i (numbers (children_of d)))) ≡ 0 = ap tallest n in
     omega (arith, rows-height (trees_at ts (numbers (children_of d))), e, t)
 
--- no flag marks a list
-pub mark-list : (f : Flag) (l : ListHead) → mark f (H.List l) ≡ false
-mark-list F.TyInfer l = refl
-mark-list F.RegionInfer l = refl
-mark-list F.ConstInfer l = refl
-mark-list F.TyPlaceholder l = refl
-mark-list F.RegionPlaceholder l = refl
-mark-list F.ConstPlaceholder l = refl
-mark-list F.TyBound l = refl
-mark-list F.RegionBound l = refl
-mark-list F.ConstBound l = refl
-mark-list F.Param l = refl
-mark-list F.Alias l = refl
-mark-list F.Error l = refl
-
 -- what is marked in a list stands among its members
 pub list-holds : (ts : List Tree) (n : ℕ) (f : Flag) (k : Kind) → there k ≡ true → is_list_kind k ≡ true → kind_at ts n ≡ k
     → tree_holds (mark f) (tree_at ts n) ≡ holds (mark f) (tree_at ts n).children
@@ -188,4 +174,4 @@ list-holds ts n f k h i e =
     let t = tree_at ts n in
     let k : is_list t.head ≡ true = ap is_list_kind (sym (kind_of-tree_at ts n (below_kind ts n k h e)) ∙ e) ∙ i in
     let l = list-head t.head k in
-    or-false (mark f t.head) (holds (mark f) t.children) (ap (mark f) l.1 ∙ mark-list f l.0)
+    or-false (mark f t.head) (holds (mark f) t.children) (ap (mark f) l.1 ∙ mark_of_list f l.0)

@@ -2,7 +2,7 @@
 use Rattle.std.proofs.Common.{◌≡◌, ℕ, ◌+◌, List, [], ◌∷◌, drop, Some, slice_get, refl, sym, ◌∙◌, ap, arith}
 use Rattle.std.specs.Prelude.{Bool, true, false, ◌||◌}
 use Rattle.candidate_ir.specs.declared.ir.heads.Head.{Head}
-use Rattle.candidate_ir.specs.Trees.{ArgumentsKind, Forest, none, tree, Tree, is_list, is_list_kind, put, join, binders_of}
+use Rattle.candidate_ir.specs.Trees.{Kind, there, Forest, none, tree, Tree, is_list, is_list_kind, put, join, binders_of}
 use Rattle.candidate_ir.specs.Binders.{is_beyond, escapes, tree_escapes}
 use Rattle.candidate_ir.specs.Kinds.{numbers}
 use Rattle.candidate_ir.specs.declared.ir.node.Node.{Node}
@@ -72,7 +72,7 @@ escape-none n ts k d i m a b h l e =
     let here : escapes (n + binders_of (head_of d)) (rows cs) ≡ false = ap (λ (x : ℕ). escapes x (rows cs)) (sym b) ∙ all in
     sym (ap (tree_escapes n) a.tree ∙ (or-false (is_beyond n (head_of d)) _ h ∙ here))
 
--- what escapes from a list of arguments escapes from its members
-pub args-escape : (ts : List Tree) (n : ℕ) → kind_at ts n ≡ ArgumentsKind → tree_escapes 0 (tree_at ts n) ≡ escapes 0 (tree_at ts n).children
-args-escape ts n e =
-    list-escapes 0 (tree_at ts n) (ap is_list_kind (sym (kind_of-tree_at ts n (below_kind ts n ArgumentsKind refl e)) ∙ e))
+-- what escapes from a list escapes from its members
+pub members-escape : (ts : List Tree) (n : ℕ) (k : Kind) → there k ≡ true → is_list_kind k ≡ true → kind_at ts n ≡ k → tree_escapes 0 (tree_at ts n) ≡ escapes 0 (tree_at ts n).children
+members-escape ts n k t l e =
+    list-escapes 0 (tree_at ts n) (ap is_list_kind (sym (kind_of-tree_at ts n (below_kind ts n k t e)) ∙ e) ∙ l)

@@ -15,7 +15,7 @@ use Rattle.candidate_ir.specs.Context.{Context, Grows}
 use Rattle.candidate_ir.proofs.Kept.{grows-refl, grows-trans}
 use Rattle.candidate_ir.specs.Folding.{Answers, fold, fold_tree, moved}
 use Rattle.candidate_ir.specs.Folds.{IsArg, arg_tree, Says, is_asked, node, ended, made, replaced, opened, passed, FoldsBy, StopsBy, IsReached, here, by_call, by_nodes, IsFunction, Outcome, Renumbers}
-use Rattle.candidate_ir.proofs.Lists.{there}
+use Rattle.candidate_ir.specs.Trees.{there}
 use Rattle.candidate_ir.proofs.Rows.{row-single, row-list, join-none}
 use Rattle.candidate_ir.proofs.Folding.{same_row}
 use Rattle.candidate_ir.proofs.FoldSteps.{reached-then, folds-reached}

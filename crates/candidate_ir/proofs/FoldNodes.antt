@@ -43,7 +43,8 @@ use Rattle.candidate_ir.proofs.References.{fit-at}
 use Rattle.candidate_ir.proofs.FoldKinds.{takes-again, folds-kinds}
 use Rattle.candidate_ir.specs.Folds.{is_asked, is_asked_kind, node, ended, replaced, opened, passed, memory, refused, below_asked, below_passed, Asks, Refuses, OnlyMakes, FoldsBy, StopsBy, IsReached, here, by_call, by_nodes, full, numbers_given, Outcome, IsSaid, Said, Renumbers, Relists}
 use Rattle.candidate_ir.proofs.Kept.{grows-trans, number-kept, world-kept}
-use Rattle.candidate_ir.proofs.Lists.{there, below_kind, kind_of-tree_at}
+use Rattle.candidate_ir.proofs.Lists.{below_kind, kind_of-tree_at}
+use Rattle.candidate_ir.specs.Trees.{there}
 use Rattle.candidate_ir.proofs.Splits.{list_of, list-head, list-head_of, rows-height}
 use Rattle.candidate_ir.proofs.Rows.{join-none}
 use Rattle.candidate_ir.proofs.FoldRows.{folds-made, row-high}

@@ -21,7 +21,8 @@ use Rattle.candidate_ir.specs.Table.{Below}
 use Rattle.candidate_ir.specs.Context.{Context, Grows}
 use Rattle.candidate_ir.specs.Folds.{is_asked, ended, made, replaced, opened, passed, memory, Asks, Refuses, OnlyMakes, FoldsBy, StopsBy, IsReached, here, by_call, by_nodes, numbers_given, MayFold, KeepsKinds, Renumbers, Relists}
 use Rattle.candidate_ir.proofs.Kept.{grows-refl, grows-trans, number-kept}
-use Rattle.candidate_ir.proofs.Lists.{there, below_kind, kind_of-tree_at, trees_at-append, kinds_at-append}
+use Rattle.candidate_ir.proofs.Lists.{below_kind, kind_of-tree_at, trees_at-append, kinds_at-append}
+use Rattle.candidate_ir.specs.Trees.{there}
 use Rattle.candidate_ir.proofs.Children.{Below-get}
 use Rattle.candidate_ir.proofs.Splits.{list-head}
 use Rattle.candidate_ir.proofs.Rows.{join-none}

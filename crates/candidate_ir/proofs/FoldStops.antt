@@ -20,7 +20,7 @@ use Rattle.candidate_ir.specs.Context.{Context, Grows}
 use Rattle.candidate_ir.specs.Folding.{Answers, fold, fold_tree, leaf, further, moved, moved_leaf, is_too_far, bounds_in, most_bounds, IsSubstStop, no_memory, few_numbers, high_tree, far_variable, IsAnswerStop}
 use Rattle.candidate_ir.specs.Folds.{is_asked, node, IsArg, arg_tree, are_bounds, numbers_given, Says, Refuses, OnlyMakes, FoldsBy, StopsBy, memory, refused, too_high, full, too_few, after, below_asked, below_passed, later, IsReached, here, by_call, by_nodes, IsFunction, KeepsRest, Renumbers}
 use Rattle.candidate_ir.proofs.Kept.{grows-refl, grows-trans}
-use Rattle.candidate_ir.proofs.Lists.{there}
+use Rattle.candidate_ir.specs.Trees.{there}
 use Rattle.candidate_ir.proofs.Rows.{row-single}
 use Rattle.candidate_ir.proofs.Splits.{heights-join}
 use Rattle.candidate_ir.proofs.Folding.{begin}

@@ -27,7 +27,7 @@ use Rattle.candidate_ir.specs.Nodes.{kind_at}
 use Rattle.candidate_ir.specs.Held.{held_type, held_clause, held_types, held_clauses, held_sig, option_held, adt_held, trait_held, bounds_held, opaque_held, if_there, definition_held, definitions_held, impl_held, impls_held}
 use Rattle.candidate_ir.specs.Misplaced.{is_held_kind, is_not_given}
 use Rattle.candidate_ir.specs.Faults.{ImplFits, ImplsFit}
-use Rattle.candidate_ir.specs.WellFormed.{IsWellFormedTable, TypesFit, SignatureFits, HeaderFits, AreGiven}
+use Rattle.candidate_ir.specs.WellFormed.{IsWellFormedTable, TypesFit, SignatureFits, ImplIsGiven, AreGiven}
 use Rattle.candidate_ir.specs.Words.{IsTy, ClauseListFits}
 use Rattle.candidate_ir.proofs.Folding.{or-left, or-right}
 use Rattle.candidate_ir.proofs.WellFormed.{any-of, any-right, definition-passes}
@@ -172,17 +172,31 @@ impl-fits c (i ∷ is) zero x f e =
     subst (λ (y : Impl). ImplFits (world c) c.trees y) same f.0
 impl-fits c (i ∷ is) (suc n) x f e = impl-fits c is n x f.1 e
 
+-- what an impl holds besides its header
+impl-clauses : (c : Context) (n : ℕ) (a : Impl) → AreGiven c (impl_held n a) → AreGiven c (held_clauses (O.Impl n) a.wheres ++ held_clauses (O.Impl n) a.super_outlives)
+impl-clauses c n a g = or-right _ _ g
+
+pub impl_wheres_fit : (c : Context) (n : ℕ) (a : Impl) → AreGiven c (impl_held n a) → ClauseListFits c.trees a.wheres
+impl_wheres_fit c n a g =
+    clauses-fit c.trees (O.Impl n) a.wheres (any-of (is_not_given c.trees) (held_clauses (O.Impl n) a.wheres) (held_clauses (O.Impl n) a.super_outlives) (impl-clauses c n a g))
+
+pub impl_outlives_fit : (c : Context) (n : ℕ) (a : Impl) → AreGiven c (impl_held n a) → ClauseListFits c.trees a.super_outlives
+impl_outlives_fit c n a g =
+    clauses-fit c.trees (O.Impl n) a.super_outlives
+    (any-right (is_not_given c.trees) (held_clauses (O.Impl n) a.wheres) (held_clauses (O.Impl n) a.super_outlives) (impl-clauses c n a g))
+
 -- what it holds is there, and its header has the arguments that it takes
-pub impl_given : (c : Context) → IsWellFormedTable c → (n : ImplId) → IfSome (impl_at c n) (λ x. AreGiven c (impl_held n.0 x) × HeaderFits c x.trait_ref)
+pub impl_given : (c : Context) → IsWellFormedTable c → (n : ImplId) → IfSome (impl_at c n) (ImplIsGiven c)
 unfolding IsWellFormedTable
 impl_given c t n = of (impl_at c n) refl
   where
-    of : (o : Option Impl) → impl_at c n ≡ o → IfSome o (λ x. AreGiven c (impl_held n.0 x) × HeaderFits c x.trait_ref)
+    of : (o : Option Impl) → impl_at c n ≡ o → IfSome o (ImplIsGiven c)
     of None e = tt
     of (Some x) e =
         let all = any-right (is_not_given c.trees) (definitions_held c.contents 0 c.declarations) (impls_held 0 c.contents.impls) t.given in
         let f = impl-fits c c.contents.impls n.0 x t.arguments.impls e in
-        (impl-given c.trees 0 c.contents.impls n.0 n.0 x all e (omega arith), record { list = f.given; fit = f.takes })
+        let held : AreGiven c (impl_held n.0 x) = impl-given c.trees 0 c.contents.impls n.0 n.0 x all e (omega arith) in
+        record { header = record { list = f.given; fit = f.takes }; wheres = impl_wheres_fit c n.0 x held; super_outlives = impl_outlives_fit c n.0 x held }
 
 -- The parts
 
@@ -210,18 +224,6 @@ self_bounds_fit c o a g = clauses-fit c.trees o a.self_bounds (any-of (is_not_gi
 
 pub non_self_bounds_fit : (c : Context) (o : Owner) (a : Bounds) → AreGiven c (bounds_held o a) → ClauseListFits c.trees a.non_self_bounds
 non_self_bounds_fit c o a g = clauses-fit c.trees o a.non_self_bounds (any-right (is_not_given c.trees) (held_clauses o a.self_bounds) (held_clauses o a.non_self_bounds) g)
-
-impl-clauses : (c : Context) (n : ℕ) (a : Impl) → AreGiven c (impl_held n a) → AreGiven c (held_clauses (O.Impl n) a.wheres ++ held_clauses (O.Impl n) a.super_outlives)
-impl-clauses c n a g = or-right _ _ g
-
-pub impl_wheres_fit : (c : Context) (n : ℕ) (a : Impl) → AreGiven c (impl_held n a) → ClauseListFits c.trees a.wheres
-impl_wheres_fit c n a g =
-    clauses-fit c.trees (O.Impl n) a.wheres (any-of (is_not_given c.trees) (held_clauses (O.Impl n) a.wheres) (held_clauses (O.Impl n) a.super_outlives) (impl-clauses c n a g))
-
-pub impl_outlives_fit : (c : Context) (n : ℕ) (a : Impl) → AreGiven c (impl_held n a) → ClauseListFits c.trees a.super_outlives
-impl_outlives_fit c n a g =
-    clauses-fit c.trees (O.Impl n) a.super_outlives
-    (any-right (is_not_given c.trees) (held_clauses (O.Impl n) a.wheres) (held_clauses (O.Impl n) a.super_outlives) (impl-clauses c n a g))
 
 pub hidden_fits : (c : Context) (n p : ℕ) (hidden : Ty) → AreGiven c (definition_held c.contents n (D.Opaque hidden p)) → IsTy c.trees hidden
 hidden_fits c n p hidden g =

@@ -19,7 +19,7 @@ use Rattle.candidate_ir.specs.Kinds.{arg_number}
 use Rattle.candidate_ir.proofs.Kept.{number-kept}
 use Rattle.candidate_ir.proofs.Asking.{arg-below}
 use Rattle.candidate_ir.proofs.FoldStops.{IsCause, SaidOfAnswer, subst-cause}
-use Rattle.candidate_ir.proofs.Lists.{there}
+use Rattle.candidate_ir.specs.Trees.{there}
 use Rattle.candidate_ir.proofs.Rows.{row-single}
 use Rattle.candidate_ir.specs.Nodes.{tree_at, kind_at}
 

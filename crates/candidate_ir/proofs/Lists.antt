@@ -22,14 +22,10 @@ use Rattle.candidate_ir.specs.declared.ir.kinds.GenericArg.TheVariants as A
 use Rattle.candidate_ir.specs.Trees.{Kind, NoKind, Tree, kind_of}
 use Rattle.candidate_ir.specs.Kinds.{numbers, sorts, arg_child, ty_children, const_children, pred_children, clause_children}
 use Rattle.candidate_ir.specs.Nodes.{tree_at, kind_at, trees_at, kinds_at, error_tree, rows, node_tree, head_of, children_of, pred_child, clause_child, var_child, Fits}
+use Rattle.candidate_ir.specs.Trees.{there}
 use Rattle.candidate_ir.specs.declared.ir.node.Node.{Node}
 use Rattle.candidate_ir.specs.declared.ir.node.Node.TheVariants as N
 use Rattle.candidate_ir.specs.Table.{Below}
-
--- whether there is such a tree
-abbrev pub there : Kind → Bool
-there NoKind = false
-there _ = true
 
 abbrev pub all_there : List Kind → Bool
 all_there [] = true

@@ -32,7 +32,8 @@ use Rattle.candidate_ir.specs.declared.ir.kinds.Ty.{Ty}
 use Rattle.candidate_ir.specs.declared.ir.kinds.GenericArg.{GenericArg}
 use Rattle.candidate_ir.specs.declared.ir.kinds.GenericArg.TheVariants as A
 use Rattle.candidate_ir.proofs.Kept.{world-kept, grows-trans}
-use Rattle.candidate_ir.proofs.Lists.{there, all_there, kind_at-append, below_kind, kinds_at-append, Below-there, Fits-append}
+use Rattle.candidate_ir.proofs.Lists.{all_there, kind_at-append, below_kind, kinds_at-append, Below-there, Fits-append}
+use Rattle.candidate_ir.specs.Trees.{there}
 use Rattle.candidate_ir.proofs.References.{args-fit}
 use Rattle.candidate_ir.proofs.Rows.{row-list, row-single, join-none, kind-of}
 

@@ -6,7 +6,7 @@ use Rattle.candidate_ir.specs.Kinds.{arg_number, arg_kind}
 use Rattle.candidate_ir.specs.Nodes.{tree_at, kind_at}
 use Rattle.candidate_ir.specs.Trees.{Forest, none, tree, Tree, count, is_list_kind, skip}
 use Rattle.candidate_ir.specs.Words.{ListFits, list_forest}
-use Rattle.candidate_ir.proofs.Lists.{there}
+use Rattle.candidate_ir.specs.Trees.{there}
 use Rattle.candidate_ir.proofs.Rows.{row-single}
 
 pub arg-there : (x : GenericArg) → there (arg_kind x) ≡ true

@@ -19,7 +19,8 @@ use Rattle.candidate_ir.specs.declared.ir.kinds.Clause.{Clause}
 use Rattle.candidate_ir.specs.Words.{IsArgs, IsClause}
 use Rattle.candidate_ir.specs.Table.{IsNodeOf}
 use Rattle.candidate_ir.specs.Misplaced.{is_misplaced, is_held_kind, is_held_node, is_not_given}
-use Rattle.candidate_ir.proofs.Lists.{there, kind_at-present, below_kind}
+use Rattle.candidate_ir.proofs.Lists.{kind_at-present, below_kind}
+use Rattle.candidate_ir.specs.Trees.{there}
 use Rattle.candidate_ir.proofs.Sorts.{node_kind, ty_is_type, const_is_constant}
 
 -- a list is never misplaced

@@ -14,9 +14,9 @@ use Rattle.candidate_ir.specs.Substitutions.{is_constant_kind}
 use Rattle.candidate_ir.specs.Folding.{argument, lacks_argument}
 use Rattle.std.proofs.lemmas.Bool.{lt-ltb}
 use Rattle.candidate_ir.specs.Misplaced.{is_misplaced, parameter_misplaced}
-use Rattle.std.specs.Prelude.{◌≤◌, length, get_or, ◌==◌, if◌then◌else◌, option_map, IfSome}
+use Rattle.std.specs.Prelude.{◌≤◌, length, get_or, ◌==◌, if◌then◌else◌, option_map, All, IfSome}
 use Rattle.std.specs.List.{list_any}
-use Rattle.std.proofs.lemmas.Option.{slice_get-map, slice_get_past, slice_get_within, get_or_from_slice_get}
+use Rattle.std.proofs.lemmas.Option.{slice_get-map, slice_get_past, slice_get_within, slice_get-get_or, get_or_from_slice_get}
 use Rattle.candidate_ir.specs.declared.ir.kinds.Clause.{Clause}
 use Rattle.candidate_ir.specs.declared.ir.kinds.Ty.{Ty}
 use Rattle.candidate_ir.specs.declared.ir.kinds.TraitRef.{TraitRef}
@@ -275,7 +275,7 @@ type-at f o [] k x e n = absurd cc
 type-at f o (y ∷ ys) zero x e n = let same : x ≡ y = cc in ap (λ (z : Ty). f (held_type o z)) same ∙ or-left _ _ n
 type-at f o (y ∷ ys) (suc k) x e n = type-at f o ys k x e (or-right _ _ n)
 
-pub field_has_arguments : (c : Context) → IsWellFormedTable c → length c.contents.adts ≤ no_place → (n : ℕ) (args : Forest) → parameters (world c) AdtSort n ≡ Some (kinds_of args)
+field_has_arguments : (c : Context) → IsWellFormedTable c → length c.contents.adts ≤ no_place → (n : ℕ) (args : Forest) → parameters (world c) AdtSort n ≡ Some (kinds_of args)
     → (k : ℕ) (x : Ty) → Some x ≡ slice_get (maybe [] (λ (a : AdtContents). a.fields) (adt_at c n)) k
     → tree_holds (lacks_argument args) (ty_tree c.trees x) ≡ false
 field_has_arguments c t l n args p k x e = of (adt_at c n) refl
@@ -288,6 +288,11 @@ field_has_arguments c t l n args p k x e = of (adt_at c n) refl
     of (Some a) q =
         let z : Some x ≡ slice_get a.fields k = there ∙ ap (λ (y : Option AdtContents). slice_get (maybe [] (λ (b : AdtContents). b.fields) y) k) q in
         adt-type c t l n args p a q x (λ f g. type-at f (O.Definition n) a.fields k x z (any-of f (held_types (O.Definition n) a.fields) (option_held (O.Definition n) a.sized ++ option_held (O.Definition n) a.meta_sized) g))
+
+pub fields_have_arguments : (c : Context) → IsWellFormedTable c → length c.contents.adts ≤ no_place → (n : ℕ) (args : Forest) → parameters (world c) AdtSort n ≡ Some (kinds_of args)
+    → (xs : List Ty) → xs ≡ maybe [] (λ (a : AdtContents). a.fields) (adt_at c n) → All (λ t. tree_holds (lacks_argument args) (ty_tree c.trees t) ≡ false) xs
+fields_have_arguments c t l n args p xs e = λ k d b.
+    field_has_arguments c t l n args p k (get_or xs k d) (sym (slice_get-get_or xs k d b) ∙ ap (λ (ys : List Ty). slice_get ys k) e)
 
 option-at : (f : Held → Bool) (o : Owner) (y : Option Ty) (x : Ty) → Some x ≡ y → list_any f (option_held o y) ≡ false → f (held_type o x) ≡ false
 option-at f o None x e n = absurd cc

@@ -12,7 +12,8 @@ use Rattle.candidate_ir.specs.Trees.{Kind, ClauseKind, Tree}
 use Rattle.candidate_ir.specs.Kinds.{Child, numbers, sorts, ty_children}
 use Rattle.candidate_ir.specs.Nodes.{tree_at, kind_at, rows, node_of, children_of, clause_child}
 use Rattle.candidate_ir.proofs.Children.{length_clauses}
-use Rattle.candidate_ir.proofs.Lists.{there, below_kind, kind_of-tree_at}
+use Rattle.candidate_ir.proofs.Lists.{below_kind, kind_of-tree_at}
+use Rattle.candidate_ir.specs.Trees.{there}
 use Rattle.candidate_ir.proofs.Splits.{list_of, list-head_of}
 
 module _ {X : Type 0} (c : X → Child) where

@@ -18,7 +18,7 @@ use Rattle.candidate_ir.specs.Words.{IsArgs, args_forest, var_kind_tree, SigFits
 use Rattle.candidate_ir.specs.References.{reference_of, IsReference, Takes, AllTake, FitsAmong, AllFit, IsWellFormed}
 use Rattle.candidate_ir.proofs.Kept.{args-kept, world-kept}
 use Rattle.candidate_ir.proofs.Rows.{join-none, row-list, row-single, kind-of}
-use Rattle.candidate_ir.proofs.Lists.{there}
+use Rattle.candidate_ir.specs.Trees.{there}
 
 -- a reference of a context stays one
 pub reference-kept : (old new : Context) (r : TraitRef) → Grows old new → IsArgs old.trees r.args → IsReference old r → IsReference new r

@@ -2,7 +2,8 @@
 use Rattle.std.proofs.Common.{◌≡◌, ℕ, List, Bool, true, false, refl, sym, ◌∙◌, ap}
 use Rattle.candidate_ir.specs.Trees.{Kind, Forest, none, tree, Tree, kind_of, is_list, is_list_kind, put, row, join}
 use Rattle.candidate_ir.specs.Nodes.{tree_at, kind_at}
-use Rattle.candidate_ir.proofs.Lists.{there, below_kind, kind_of-tree_at}
+use Rattle.candidate_ir.proofs.Lists.{below_kind, kind_of-tree_at}
+use Rattle.candidate_ir.specs.Trees.{there}
 
 pub join-none : (a : Forest) → join a none ≡ a
 join-none none = refl

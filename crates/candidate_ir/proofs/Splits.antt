@@ -34,7 +34,8 @@ use Rattle.candidate_ir.specs.Nodes.{tree_at, kind_at, trees_at, kinds_at, rows,
 use Rattle.candidate_ir.specs.declared.ir.node.Node.{Node}
 use Rattle.candidate_ir.specs.declared.ir.node.Node.TheVariants as N
 use Rattle.candidate_ir.specs.Table.{Below}
-use Rattle.candidate_ir.proofs.Lists.{there, below_kind, Fits-below, kind_of-tree_at}
+use Rattle.candidate_ir.proofs.Lists.{below_kind, Fits-below, kind_of-tree_at}
+use Rattle.candidate_ir.specs.Trees.{there}
 
 abbrev pub list_of : Kind → Option ListHead
 list_of ArgumentsKind = Some L.Args

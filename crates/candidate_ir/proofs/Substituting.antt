@@ -21,7 +21,8 @@ use Rattle.candidate_ir.specs.Folds.{is_asked, node, IsArg, arg_tree, numbers_gi
 use Rattle.candidate_ir.proofs.Folding.{HeadAnswers, by_head, same_row, or-left, or-right}
 use Rattle.candidate_ir.proofs.Members.{arg-there, member, member-kind, count-members}
 use Rattle.candidate_ir.proofs.Rows.{kind-of, row-single, row-list, join-none}
-use Rattle.candidate_ir.proofs.Lists.{there, kind_of-tree_at}
+use Rattle.candidate_ir.proofs.Lists.{kind_of-tree_at}
+use Rattle.candidate_ir.specs.Trees.{there}
 use Rattle.candidate_ir.proofs.FoldSteps.{there-head}
 use Rattle.candidate_ir.proofs.Splits.{list-head}
 use Rattle.candidate_ir.proofs.FoldLaws.{head-number, head-function, list-outcome, folds-by}

@@ -1,10 +1,11 @@
 -- The mark of each flag.
-use Rattle.std.specs.Prelude.{Bool, true, false}
+use Rattle.std.specs.Prelude.{◌≡◌, refl, Bool, true, false}
 use Rattle.candidate_ir.specs.declared.ir.heads.Head.{Head}
 use Rattle.candidate_ir.specs.declared.ir.heads.Head.TheVariants as H
 use Rattle.candidate_ir.specs.declared.ir.heads.Flag.{Flag}
 use Rattle.candidate_ir.specs.declared.ir.heads.Flag.TheVariants as F
 use Rattle.candidate_ir.specs.declared.ir.heads.ConstHead.TheVariants as C
+use Rattle.candidate_ir.specs.declared.ir.heads.ListHead.{ListHead}
 use Rattle.candidate_ir.specs.declared.ir.heads.VariableSort.{VariableSort}
 use Rattle.candidate_ir.specs.declared.ir.heads.VariableSort.TheVariants as V
 use Rattle.candidate_ir.specs.declared.ir.kinds.RegionKind.TheVariants as R
@@ -34,3 +35,18 @@ mark F.Error H.Error = true
 mark F.Error (H.Const C.Error) = true
 mark F.Error (H.Region R.Error) = true
 mark _ _ = false
+
+-- no flag marks a list
+pub mark_of_list : (f : Flag) (l : ListHead) → mark f (H.List l) ≡ false
+mark_of_list F.TyInfer l = refl
+mark_of_list F.RegionInfer l = refl
+mark_of_list F.ConstInfer l = refl
+mark_of_list F.TyPlaceholder l = refl
+mark_of_list F.RegionPlaceholder l = refl
+mark_of_list F.ConstPlaceholder l = refl
+mark_of_list F.TyBound l = refl
+mark_of_list F.RegionBound l = refl
+mark_of_list F.ConstBound l = refl
+mark_of_list F.Param l = refl
+mark_of_list F.Alias l = refl
+mark_of_list F.Error l = refl

@@ -1,5 +1,5 @@
 -- The root and the children of each kind.
-use Rattle.std.specs.Prelude.{ℕ, Bool, true, false, not, ◌&&◌, List, [], ◌∷◌, map}
+use Rattle.std.specs.Prelude.{◌≡◌, refl, ℕ, Bool, true, false, not, ◌&&◌, List, [], ◌∷◌, map}
 use Rattle.candidate_ir.specs.declared.ir.kinds.TyKind.{TyKind}
 use Rattle.candidate_ir.specs.declared.ir.kinds.TyKind.TheVariants as K
 use Rattle.candidate_ir.specs.declared.ir.kinds.Pattern.TheVariants as Pat
@@ -27,7 +27,7 @@ use Rattle.candidate_ir.specs.declared.ir.heads.ClauseHead.{ClauseHead}
 use Rattle.candidate_ir.specs.declared.ir.heads.ClauseHead.TheVariants as ClH
 use Rattle.candidate_ir.specs.declared.ir.heads.Variable.{Variable}
 use Rattle.candidate_ir.specs.declared.ir.heads.VariableSort.TheVariants as V
-use Rattle.candidate_ir.specs.Trees.{Kind, TypeKind, ConstantKind, RegionKind, SignatureKind, BinderKind, ArgumentsKind, PredicatesKind}
+use Rattle.candidate_ir.specs.Trees.{there, Kind, TypeKind, ConstantKind, RegionKind, SignatureKind, BinderKind, ArgumentsKind, PredicatesKind}
 
 abbrev pub variable_of : InferTy → Variable
 variable_of (I.TyVar n) = record { sort = V.General; number = n }
@@ -99,6 +99,12 @@ abbrev pub arg_kind : GenericArg → Kind
 arg_kind (A.Ty _) = TypeKind
 arg_kind (A.Const _) = ConstantKind
 arg_kind (A.Region _) = RegionKind
+
+-- an argument stands for something
+pub arg_there : (a : GenericArg) → there (arg_kind a) ≡ true
+arg_there (A.Ty _) = refl
+arg_there (A.Const _) = refl
+arg_there (A.Region _) = refl
 
 -- a child: its number, and what it stands for
 abbrev pub Child : Type 0

@@ -84,6 +84,11 @@ skip zero ts = ts
 skip (suc n) none = none
 skip (suc n) (tree h below rest) = skip n rest
 
+-- something stands there
+abbrev pub there : Kind → Bool
+there NoKind = false
+there _ = true
+
 -- What a node is among the children of another: a list is its members, all else is one tree.
 abbrev pub is_list_kind : Kind → Bool
 is_list_kind ArgumentsKind = true

@@ -5,7 +5,8 @@ use Rattle.candidate_ir.specs.declared.ir.kinds.Ty.{Ty}
 use Rattle.candidate_ir.specs.declared.ir.kinds.FnSig.{FnSig}
 use Rattle.candidate_ir.specs.declared.ir.kinds.Binder.{Binder}
 use Rattle.candidate_ir.specs.declared.decl.held.Held.{Held}
-use Rattle.candidate_ir.specs.Words.{IsTy, IsArgs, IsVars}
+use Rattle.candidate_ir.specs.Contents.{Impl}
+use Rattle.candidate_ir.specs.Words.{IsTy, IsArgs, IsVars, ClauseListFits}
 use Rattle.candidate_ir.specs.Trees.{Tree, TypeKind}
 use Rattle.candidate_ir.specs.Kinds.{Child, numbers, sorts}
 use Rattle.candidate_ir.specs.Nodes.{kinds_at}
@@ -68,6 +69,12 @@ pub record SignatureFits (ts : List Tree) (s : Binder FnSig) : Type 0 where
 pub record HeaderFits (c : Context) (r : TraitRef) : Type 0 where
   pub list : IsArgs c.trees r.args
   pub fit : ArgumentsFit c r
+
+-- what is lent of an impl: its header fits, and its clauses are clauses of the context
+pub record ImplIsGiven (c : Context) (x : Impl) : Type 0 where
+  pub header : HeaderFits c x.trait_ref
+  pub wheres : ClauseListFits c.trees x.wheres
+  pub super_outlives : ClauseListFits c.trees x.super_outlives
 
 -- all that is held among these is there
 abbrev pub AreGiven : Context → List Held → Type 0

@@ -84,13 +84,6 @@ module _ (ts : List Tree) (x : GenericArg) (r : Region) (i : IsArg ts x) (e : x 
   region-kind : kind_of (arg_tree ts x).head ≡ RegionKind
   region-kind = kind-of ts (arg_number x) (arg_kind x) (there-arg x) i ∙ ap arg_kind e
 
-  pub region-infers : None ≡ infer_at (arg_tree ts x).head
-  region-infers = at (arg_tree ts x).head region-kind
-    where
-      at : (h : Head) → kind_of h ≡ RegionKind → None ≡ infer_at h
-      at (H.Infer v) k = absurd (region-sort v.sort k)
-      at _ k = refl
-
   pub region-is-not : is_lone (arg_tree ts x).head ≡ false
   region-is-not = at (arg_tree ts x).head region-kind
     where

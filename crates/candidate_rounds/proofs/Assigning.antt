@@ -12,6 +12,9 @@ use Rattle.candidate_ir.specs.declared.ir.heads.Variable.{Variable}
 use Rattle.candidate_ir.specs.declared.ir.heads.VariableSort.{VariableSort}
 use Rattle.candidate_ir.specs.declared.ir.heads.VariableSort.TheVariants as V
 use Rattle.candidate_ir.specs.declared.ir.kinds.GenericArg.{GenericArg}
+use Rattle.candidate_ir.specs.declared.ir.kinds.GenericArg.TheVariants as A
+use Rattle.candidate_ir.specs.declared.ir.kinds.Ty.{Ty}
+use Rattle.candidate_ir.specs.declared.ir.kinds.Const.{Const}
 use Rattle.candidate_ir.specs.declared.ir.stop.Stop.{Stop}
 use Rattle.candidate_ir.specs.Binders.{is_beyond, escapes, tree_escapes}
 use Rattle.candidate_ir.specs.Context.{Context, Grows}
@@ -19,8 +22,8 @@ use Rattle.candidate_ir.specs.declared.ir.heads.Flag.TheVariants as F
 use Rattle.candidate_ir.specs.Flags.{mark, of_constant, of_type}
 use Rattle.candidate_ir.specs.Folds.{IsArg, IsOfKind, arg_tree, is_asked, is_asked_kind}
 use Rattle.candidate_ir.specs.Kinds.{arg_kind, arg_number}
-use Rattle.candidate_ir.specs.Substitutions.{alone, fits_sort, is_constant_kind, is_placeholder_above, same_sort, same_variable}
-use Rattle.candidate_ir.specs.Trees.{Forest, none, tree, Kind, ConstantKind, RegionKind, Tree, binders_of, erase, erased_head, holds, tree_holds, kind_of, is_type_kind, sort_kind, is_number}
+use Rattle.candidate_ir.specs.Substitutions.{alone, fits_sort, is_constant_kind, is_placeholder_above, same_variable}
+use Rattle.candidate_ir.specs.Trees.{Forest, none, tree, Kind, ConstantKind, Tree, binders_of, erase, erased_head, holds, tree_holds, kind_of, is_type_kind, sort_kind, is_number}
 use Rattle.candidate_ir.proofs.Folding.{fold-nothing}
 use Rattle.candidate_ir.proofs.Implying.{arg-kept}
 use Rattle.candidate_ir.proofs.Kept.{grows-refl}
@@ -95,20 +98,23 @@ else-allowed n u t b p q r =
 
 -- Sorts
 
--- what fits no type and no constant fits no sort
-pub no-sort : (s : VariableSort) (h : Head) → kind_of h ≡ RegionKind → fits_sort s h ≡ false
-no-sort V.General h e = ap is_type_kind e
-no-sort V.Integer h e = at (fits_sort V.Integer h) refl
-  where
-    at : (b : Bool) → fits_sort V.Integer h ≡ b → b ≡ false
-    at false f = refl
-    at true f = let clash : false ≡ true = sym (ap is_type_kind e) ∙ integer_is_type h f in cc
-no-sort V.Floating h e = at (fits_sort V.Floating h) refl
-  where
-    at : (b : Bool) → fits_sort V.Floating h ≡ b → b ≡ false
-    at false f = refl
-    at true f = let clash : false ≡ true = sym (ap is_type_kind e) ∙ float_is_type h f in cc
-no-sort V.Constant h e = ap is_constant_kind e
+-- a variable for types of any sort goes to types, and one for constants to constants
+
+pub fits-general : (ts : List Tree) (a : GenericArg) → IsArg ts a → fits_sort V.General (arg_tree ts a).head ≡ is_type_kind (arg_kind a)
+fits-general ts a i = ap is_type_kind (kind-of ts (arg_number a) (arg_kind a) (there-arg a) i)
+
+pub fits-constant : (ts : List Tree) (a : GenericArg) → IsArg ts a → fits_sort V.Constant (arg_tree ts a).head ≡ is_constant_kind (arg_kind a)
+fits-constant ts a i = ap is_constant_kind (kind-of ts (arg_number a) (arg_kind a) (there-arg a) i)
+
+pub not-type : (a : GenericArg) → ((t : Ty) → a ≡ A.Ty t → ⊥) → is_type_kind (arg_kind a) ≡ false
+not-type (A.Ty t) n = absurd (n t refl)
+not-type (A.Const c) n = refl
+not-type (A.Region r) n = refl
+
+pub not-constant : (a : GenericArg) → ((c : Const) → a ≡ A.Const c → ⊥) → is_constant_kind (arg_kind a) ≡ false
+not-constant (A.Ty t) n = refl
+not-constant (A.Const c) n = absurd (n c refl)
+not-constant (A.Region r) n = refl
 
 -- Members
 
@@ -561,34 +567,6 @@ put-unasked v t (H.Infer w) e = absurd (at w.sort e)
     at V.Floating e = cc
     at V.Constant e = cc
 put-unasked v t _ e = refl
-
--- A variable of a region stands for no type or constant.
-pub put-region : (v : Variable) (x : GenericArg) (h : Head) → kind_of h ≡ RegionKind → None ≡ single_arg v x h
-put-region v x (H.Infer w) e = absurd (at w.sort e)
-  where
-    at : (s : VariableSort) → sort_kind s ≡ RegionKind → ⊥
-    at V.General e = cc
-    at V.Integer e = cc
-    at V.Floating e = cc
-    at V.Constant e = cc
-put-region v x _ e = refl
-
-pub const-sort : (s : VariableSort) (b : Bool) (h : Head) → kind_of h ≡ ConstantKind → b ≡ same_sort s V.Constant → b ≡ fits_sort s h
-const-sort V.General b h e q = q ∙ sym (ap is_type_kind e)
-const-sort V.Constant b h e q = q ∙ sym (ap is_constant_kind e)
-const-sort V.Integer b h e q = q ∙ sym (at (fits_sort V.Integer h) refl)
-  where
-    at : (b : Bool) → fits_sort V.Integer h ≡ b → b ≡ false
-    at false f = refl
-    at true f = let clash : false ≡ true = sym (ap is_type_kind e) ∙ integer_is_type h f in cc
-const-sort V.Floating b h e q = q ∙ sym (at (fits_sort V.Floating h) refl)
-  where
-    at : (b : Bool) → fits_sort V.Floating h ≡ b → b ≡ false
-    at false f = refl
-    at true f = let clash : false ≡ true = sym (ap is_type_kind e) ∙ float_is_type h f in cc
-
-pub arg-head : (ts : List Tree) (a : GenericArg) (k : Kind) → IsArg ts a → arg_kind a ≡ k → kind_of (arg_tree ts a).head ≡ k
-arg-head ts a k i e = kind-of ts (arg_number a) (arg_kind a) (there-arg a) i ∙ e
 
 -- Whether a variable that is there may get the value
 pub may-entry : (ts : List Tree) (m : TypingMode) (s : Inference) (v : Variable) (t : Tree) (e : Entry) → slice_get s.variables v.number ≡ Some e

@@ -15,7 +15,8 @@ use Rattle.candidate_ir.specs.Trees.{Tree, Kind, ConstantKind, RegionKind}
 use Rattle.candidate_ir.specs.Nodes.{kind_at, tree_at}
 use Rattle.candidate_ir.specs.Words.{IsConst, IsRegion, ty_tree, const_tree, region_tree}
 use Rattle.candidate_ir.proofs.Kept.{grows-refl, grows-trans, number-kept, ty-kept}
-use Rattle.candidate_ir.proofs.Lists.{there, below_kind}
+use Rattle.candidate_ir.proofs.Lists.{below_kind}
+use Rattle.candidate_ir.specs.Trees.{there}
 use Rattle.candidate_eval.specs.declared.eval.variable.VariableKind.{VariableKind}
 use Rattle.candidate_eval.specs.States.{variable_kind}
 use Rattle.candidate_rounds.specs.declared.rounds.inference.Change.{Change}

@@ -77,6 +77,21 @@ made-rest r x g h =
     rest-kept r (record r { context = x }) (fixed-kept r (record r { context = x }) g (refl, refl) (parts h).given) (goes-same r (record r { context = x }) goes refl (parts h).consistent.known)
     (goes-probes r (record r { context = x }) goes (parts h).consistent.known (parts h).consistent.marks)
 
+-- A call that makes nodes, and nothing else, of an evaluator that is as its fields say.
+
+pub made-goes : {old v : Evaluator} {x : Context} → v ≡ old → Grows v.context x → GoesOn old (record v { context = x })
+made-goes {old} {v} {x} e g = subst (λ (r : Evaluator). GoesOn r (record v { context = x })) e (goes-context v x g)
+
+pub made-kept : {old v : Evaluator} {x : Context} → v ≡ old → Grows v.context x → IsEvaluator v.context.trees v.inference v.marks v.normal v.opaques → Keeps fixed probes (λ r. r.context) old (record v { context = x })
+made-kept {old} {v} {x} e g h = subst (λ (r : Evaluator). Keeps fixed probes (λ s. s.context) r (record v { context = x })) e (keeps-going v (record v { context = x }) (goes-context v x g) h)
+
+pub made-same : {old v : Evaluator} {x : Context} → v ≡ old → Grows v.context x → IsEvaluator v.context.trees v.inference v.marks v.normal v.opaques → state (record v { context = x }) ≡ state old
+made-same {old} {v} {x} e g h = goes-same v (record v { context = x }) (goes-context v x g) refl (parts h).consistent.known ∙ ap state e
+
+-- nothing happens
+pub keeps-refl : (r : Evaluator) → Keeps fixed probes (λ s. s.context) r r
+keeps-refl r = record { fixed_same = refl; probes_same = refl; grows = grows-refl r.context }
+
 -- a call that changes what is known, and makes no node
 pub keeps-same : (old new : Evaluator) → new.context ≡ old.context → KeepsGiven old new → probes new ≡ probes old → Keeps fixed probes (λ r. r.context) old new
 keeps-same old new e k p = record {

@@ -15,7 +15,8 @@ use Rattle.candidate_ir.specs.declared.ir.kinds.Ty.{Ty}
 use Rattle.candidate_ir.specs.declared.ir.kinds.TyKind.TheVariants as K
 use Rattle.candidate_ir.specs.declared.ir.node.Node.TheVariants as N
 use Rattle.candidate_ir.specs.Words.{IsClause, KindFits, ty_tree, kind_tree, clause_tree}
-use Rattle.candidate_ir.proofs.Lists.{there, below_kind, kind_at-append, tree_at-append, Fits-append, node_tree-append}
+use Rattle.candidate_ir.proofs.Lists.{below_kind, kind_at-append, tree_at-append, Fits-append, node_tree-append}
+use Rattle.candidate_ir.specs.Trees.{there}
 use Rattle.candidate_eval.specs.declared.eval.mode.TypingMode.{TypingMode}
 use Rattle.candidate_eval.specs.Soundness.{fits_kind}
 use Rattle.candidate_eval.specs.Evaluators.{IsGoal, pending_of}

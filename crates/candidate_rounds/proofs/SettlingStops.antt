@@ -61,7 +61,7 @@ cause-then P Q (Ok a) f g = tt
 cause-then P Q (Err s) f g = g s f
 
 -- A type that is made.
-type-unmade : (a b : Context) (t : Tree) (s : Stop) → b ≡ a → IsMkStop a.trees (height t) s → IsTreeStop b.trees t s
+pub type-unmade : (a b : Context) (t : Tree) (s : Stop) → b ≡ a → IsMkStop a.trees (height t) s → IsTreeStop b.trees t s
 type-unmade a b t s e (inl z) = subst (IsTreeStop b.trees t) (sym z) no_memory
 type-unmade a b t s e (inr (z, inl few)) = let same = ap (λ (c : Context). length c.trees) e in subst (IsTreeStop b.trees t) (sym z) (few_numbers (omega (arith, few, same)))
 type-unmade a b t s e (inr (z, inr tall)) = subst (IsTreeStop b.trees t) (sym z) (high_tree (omega (arith, tall)))

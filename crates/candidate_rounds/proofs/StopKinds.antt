@@ -153,6 +153,13 @@ evaluator-stop K.ConstDepth k = absurd k
 evaluator-stop K.Unnameable k = absurd k
 evaluator-stop K.EvaluatorLimit k = absurd k
 
+stops : {A : Type 0} (P : Stop → Type 0) → ((s : Stop) → P s → IsMakingStop s) → (r : Result A Stop) → IfErr r P → IfErr r IsEvaluatorStop
+stops P making (Ok v) k = tt
+stops P making (Err s) k = evaluator-stop s (making s k)
+
+pub substitution-stop : {A : Type 0} (given : ℕ) (made : Forest) (r : Result A Stop) → IfErr r (λ s. IsSubstStop given made s) → IfErr r IsEvaluatorStop
+substitution-stop given made r k = stops _ (λ s p. tree_making p) r k
+
 refusal-of : (P : Stop → Type 0) → ((s : Stop) → P s → IsMakingStop s) → (e : NoSolutionOrStop) → ((s : Stop) → e ≡ N.Stop s → P s) → IsEvaluatorRefusal e
 refusal-of P making N.NoSolution k = tt
 refusal-of P making (N.Stop s) k = evaluator-stop s (making s (k s refl))
@@ -160,6 +167,9 @@ refusal-of P making (N.Stop s) k = evaluator-stop s (making s (k s refl))
 refusals : {A : Type 0} (P : Stop → Type 0) → ((s : Stop) → P s → IsMakingStop s) → (r : Result A NoSolutionOrStop) → IfErr r (λ e. (s : Stop) → e ≡ N.Stop s → P s) → IfErr r IsEvaluatorRefusal
 refusals P making (Ok v) k = tt
 refusals P making (Err e) k = refusal-of P making e k
+
+pub normal-refusal : {A : Type 0} (given : ℕ) (made : Forest) (r : Result A NoSolutionOrStop) → IfErr r (λ e. (s : Stop) → e ≡ N.Stop s → IsSubstStop given made s) → IfErr r IsEvaluatorRefusal
+normal-refusal given made r k = refusals _ (λ s p. tree_making p) r k
 
 pub equation-refusal : {A : Type 0} (ts : List Tree) (l : Listing) (S : State) (a b : Forest) (r : Result A NoSolutionOrStop) → IfErr r (λ e. (s : Stop) → e ≡ N.Stop s → IsEquationStop ts l S a b s) → IfErr r IsEvaluatorRefusal
 equation-refusal ts l S a b r k = refusals _ (λ s p. equation_making p) r k
@@ -169,6 +179,12 @@ equation-error ts l S a b e k = refusal-of _ (λ s p. equation_making p) e k
 
 pub settling-refusal : {A : Type 0} (ts : List Tree) (l : Listing) (S : State) (r : Result A NoSolutionOrStop) → IfErr r (λ e. (s : Stop) → e ≡ N.Stop s → IsSettlingStop ts l S s) → IfErr r IsEvaluatorRefusal
 settling-refusal ts l S r k = refusals _ (λ s p. settling_making p) r k
+
+pub settling-error : (ts : List Tree) (l : Listing) (S : State) (e : NoSolutionOrStop) → ((s : Stop) → e ≡ N.Stop s → IsSettlingStop ts l S s) → IsEvaluatorRefusal e
+settling-error ts l S e k = refusal-of _ (λ s p. settling_making p) e k
+
+pub response-evaluator-stop : (ts : List Tree) (S : State) (s : Stop) → IsResponseStop ts S s → IsEvaluatorStop s
+response-evaluator-stop ts S s k = evaluator-stop s (response_making k)
 
 pub answering-refusal : {A : Type 0} (ts : List Tree) (l : Listing) (S : State) (r : Result A NoSolutionOrStop) → IfErr r (λ e. (s : Stop) → e ≡ N.Stop s → IsAnsweringStop ts l S s) → IfErr r IsEvaluatorRefusal
 answering-refusal ts l S r k = refusals _ (λ s p. answering_making p) r k

@@ -5,7 +5,6 @@ use Rattle.candidate_ir.specs.declared.ir.kinds.GenericArg.{GenericArg}
 use Rattle.candidate_ir.specs.Folds.{IsArg, arg_tree}
 use Rattle.candidate_ir.specs.declared.ir.heads.Head.{Head}
 use Rattle.candidate_ir.specs.declared.ir.heads.Head.TheVariants as H
-use Rattle.candidate_ir.specs.declared.ir.kinds.InferTy.{InferTy}
 use Rattle.candidate_ir.specs.declared.ir.kinds.InferTy.TheVariants as I
 use Rattle.candidate_ir.specs.declared.ir.kinds.TyKind.{TyKind}
 use Rattle.candidate_ir.specs.declared.ir.kinds.TyKind.TheVariants as K
@@ -13,16 +12,14 @@ use Rattle.candidate_ir.specs.declared.ir.kinds.Pattern.TheVariants as Pat
 use Rattle.candidate_ir.specs.Words.{kind_tree}
 use Rattle.candidate_eval.specs.Orphan.{is_general}
 use Rattle.candidate_eval.specs.Evaluators.{resolved_root}
-use Rattle.candidate_ir.specs.Kinds.{arg_kind, arg_number, variable_of, ty_head, is_general_variable}
+use Rattle.candidate_ir.specs.Kinds.{arg_kind, arg_number, ty_head, is_general_variable}
 use Rattle.candidate_ir.specs.Trees.{Kind, TypeKind, RegionKind, Tree, kind_of, is_type_kind}
 use Rattle.candidate_ir.proofs.Rows.{kind-of}
-use Rattle.candidate_eval.specs.declared.eval.variable.VariableKind.TheVariants.{Term}
 use Rattle.candidate_eval.specs.declared.eval.variable.VariableKind.{VariableKind}
 use Rattle.candidate_eval.specs.States.{State, value_as, value_at, resolved, resolved_tree}
 use Rattle.candidate_eval.specs.Soundness.{fits_kind, is_region}
 use Rattle.candidate_rounds.specs.Known.{Evaluator, state}
 use Rattle.candidate_rounds.proofs.Knowing.{there-arg}
-use Rattle.rounds_judge.proofs.Bound.{integer_is_type, float_is_type}
 
 abbrev pub IsValueOf : Evaluator → VariableKind → ℕ → Option GenericArg → Type 0
 IsValueOf r k n o = MatchOption o (value_as (state r) k n ≡ None) (λ v. IsArg r.context.trees v × (value_as (state r) k n ≡ Some (arg_tree r.context.trees v)) × (fits_kind k (arg_tree r.context.trees v).head ≡ true))
@@ -30,15 +27,6 @@ IsValueOf r k n o = MatchOption o (value_as (state r) k n ≡ None) (λ v. IsArg
 pub is-type-kind : (k : Kind) → is_type_kind k ≡ true → k ≡ TypeKind
 is-type-kind TypeKind e = refl
 is-type-kind _ e = cc
-
-type-head : (h : Head) (v : InferTy) → fits_kind (Term (variable_of v).sort) h ≡ true → kind_of h ≡ TypeKind
-type-head h (I.TyVar n) f = is-type-kind (kind_of h) f
-type-head h (I.IntVar n) f = is-type-kind (kind_of h) (integer_is_type h f)
-type-head h (I.FloatVar n) f = is-type-kind (kind_of h) (float_is_type h f)
-
--- A value of a type's variable is a type.
-pub type-value : (ts : List Tree) (v : InferTy) (x : GenericArg) → IsArg ts x → fits_kind (Term (variable_of v).sort) (arg_tree ts x).head ≡ true → arg_kind x ≡ TypeKind
-type-value ts v x i f = sym (kind-of ts (arg_number x) (arg_kind x) (there-arg x) i) ∙ type-head (arg_tree ts x).head v f
 
 pub region-head : (h : Head) → is_region h ≡ true → kind_of h ≡ RegionKind
 region-head (H.Region r) e = refl

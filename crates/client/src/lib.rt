@@ -17,6 +17,7 @@ use candidate_eval::coherence::{
 use candidate_ir::decl::{AdtFlags, AdtShape, Cx, DeclFault, DeclsBuilder, TraitFlags};
 use candidate_ir::ir::kinds::{AdtId, GenericArg, TraitId, TraitRef, Ty, TyKind, VarKind};
 use candidate_ir::ir::stop::Stop;
+use candidate_ir::ir::trees::Trees;
 use std::alloc::Global;
 use std::convert::Infallible;
 

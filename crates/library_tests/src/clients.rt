@@ -11,6 +11,7 @@ use candidate_ir::decl::Cx;
 use candidate_ir::ir::heads::Flag;
 use candidate_ir::ir::kinds::{GenericArg, TraitRef, Ty};
 use candidate_ir::ir::stop::Stop;
+use candidate_ir::ir::trees::Trees;
 use client::{Declared, adt, declare, may_write, reference, vec_from_local};
 use std::alloc::Global;
 use std::convert::Infallible;
@@ -43,7 +44,7 @@ fn all_known(
     requires fit { ArgumentsFit cx.old trait_ref }
     ensures { result ≡ Ok true → NoUnnamedHeaderHere cx.old trait_ref }
 {
-    if cx.has_param(trait_ref) || cx.args_have(trait_ref.args, Flag::Alias) {
+    if cx.has_param(trait_ref) || cx.has(trait_ref.args, Flag::Alias) {
         return Ok(false);
     }
     let known = trait_ref_is_knowable(

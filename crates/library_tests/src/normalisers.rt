@@ -8,6 +8,7 @@ use crate::asserts::holds;
 use candidate_eval::coherence::{InCrate, OrphanCheckMode, OrphanStop};
 use candidate_ir::ir::kinds::{GenericArg, TraitRef, Ty, TyKind, UintTy};
 use candidate_ir::ir::stop::Stop;
+use candidate_ir::ir::trees::Trees;
 use client::{Declared, adt, declare, reference};
 use normaliser_examples::{checked_as, checked_by_reference};
 use std::process::Abort;

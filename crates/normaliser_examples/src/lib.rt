@@ -16,6 +16,7 @@ use candidate_eval::coherence::{
 use candidate_ir::decl::Cx;
 use candidate_ir::ir::kinds::{Mutability, RegionKind, TraitRef, Ty, TyKind, UintTy};
 use candidate_ir::ir::stop::Stop;
+use candidate_ir::ir::trees::Trees;
 use std::alloc::Global;
 use std::convert::Infallible;
 

@@ -11,7 +11,7 @@ use std::alloc::AllocError;
 
 /// A part of an answer.
 #[derive(Clone, Copy)]
-pub enum Item {
+pub(crate) enum Item {
     Done,
     /// There is no value.
     Nothing,
@@ -28,7 +28,7 @@ pub enum Item {
 
 /// What a row answers.
 #[derive(Drop)]
-pub enum Answer {
+pub(crate) enum Answer {
     One(Item),
     List(Vec<Item>),
     /// Items with spaces between them.
@@ -50,7 +50,7 @@ fn write_node(
 }
 
 /// Writes the item.
-pub fn write_item(
+pub(crate) fn write_item(
     out: &mut String,
     names: &[Name<'_>],
     cx: Option<&Cx>,
@@ -92,7 +92,7 @@ fn write_items(
 }
 
 /// Writes what the row answers, or why it answers nothing, and ends the line.
-pub fn write_outcome(
+pub(crate) fn write_outcome(
     out: &mut String,
     names: &[Name<'_>],
     cx: Option<&Cx>,

@@ -7,6 +7,7 @@ ghost use Rattle.candidate_ir.specs.Words.{IsArgs, IsTy};
 use crate::answers::{Answer, Item};
 use crate::refusals::Refusal;
 use crate::rows::Row;
+use crate::tables::value_of;
 use crate::typed::args_at;
 use candidate_eval::coherence::{
     Conflict, InCrate, IsFirstInputType, NormalizeErr, OrphanCheckErr, OrphanCheckMode, OrphanStop,
@@ -17,6 +18,7 @@ use candidate_eval::eval::InferCtxtLike;
 use candidate_ir::decl::make::Make;
 use candidate_ir::ir::kinds::{Mutability, RegionKind, TraitRef, Ty, TyKind, UintTy};
 use candidate_ir::ir::stop::Stop;
+use candidate_ir::ir::trees::Trees;
 use std::alloc::Global;
 
 /// How a normaliser answers.
@@ -32,28 +34,30 @@ enum Way {
     StopsAtU16,
 }
 
-fn way_of(word: &str) -> Option<Way> {
-    match word {
-        "plain" => Some(Way::Plain),
-        "refers_to_u8" => Some(Way::RefersToU8),
-        "fails_at_u8" => Some(Way::FailsAtU8),
-        "stops_at_u16" => Some(Way::StopsAtU16),
-        _ => None,
-    }
-}
+/// The words of normalisers.
+const WAYS: [(&str, Way); 4] = [
+    ("plain", Way::Plain),
+    ("refers_to_u8", Way::RefersToU8),
+    ("fails_at_u8", Way::FailsAtU8),
+    ("stops_at_u16", Way::StopsAtU16),
+];
 
-fn in_crate(word: &str) -> Option<InCrate> {
-    match word {
-        "proper" => Some(InCrate::Local {
+/// For which crate a reference is checked.
+const CRATES: [(&str, InCrate); 3] = [
+    (
+        "proper",
+        InCrate::Local {
             mode: OrphanCheckMode::Proper,
-        }),
-        "compat" => Some(InCrate::Local {
+        },
+    ),
+    (
+        "compat",
+        InCrate::Local {
             mode: OrphanCheckMode::Compat,
-        }),
-        "remote" => Some(InCrate::Remote),
-        _ => None,
-    }
-}
+        },
+    ),
+    ("remote", InCrate::Remote),
+];
 
 fn reference<M: Make>(maker: &mut M, target: Ty) -> Result<Ty, Stop>
     requires { IsTy (M.context maker.old).trees target }
@@ -177,7 +181,7 @@ fn coherence<C: InferCtxtLike>(
 }
 
 /// What the row asks of a reference, if it is one of these rows.
-pub fn answer<C: InferCtxtLike>(
+pub(crate) fn answer<C: InferCtxtLike>(
     alloc: Global,
     infcx: &mut C,
     row: Row<'_>,
@@ -191,8 +195,8 @@ pub fn answer<C: InferCtxtLike>(
         "is_local_or_fundamental" => trait_ref_is_local_or_fundamental(infcx.cx(), trait_ref),
         _ => {
             let (in_crate, way) = match row.verb {
-                "check" => (in_crate(row.first), way_of(row.second)),
-                _ => (None, way_of(row.first)),
+                "check" => (value_of(&CRATES, row.first), value_of(&WAYS, row.second)),
+                _ => (None, value_of(&WAYS, row.first)),
             };
             if row.verb == "check" && in_crate.is_none() {
                 return Err(Refusal::Condition);

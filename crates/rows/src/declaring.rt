@@ -2,11 +2,12 @@
 
 use crate::answers::{Answer, Item};
 use crate::leaves::number_in;
-use crate::names::{Name, Sort, named, sort_of};
+use crate::names::{Name, SORTS, Sort, named};
 use crate::parts::{Part, make};
 use crate::reader::{Reader, kinds};
 use crate::refusals::Refusal;
 use crate::rows::Row;
+use crate::tables::value_of;
 use crate::values::Value;
 use candidate_ir::decl::builder::{DeclFault, DeclsBuilder};
 use candidate_ir::decl::contents::{
@@ -20,38 +21,36 @@ use candidate_ir::ir::kinds::{
     TraitPredicate, TraitRef, Ty, TyKind, VarKind,
 };
 
-/// The words of lang items, in their order.
-const LANG_ITEMS: [&str; 16] = [
-    "sized",
-    "meta_sized",
-    "copy",
-    "clone",
-    "trivial_clone",
-    "fn",
-    "fn_mut",
-    "fn_once",
-    "fn_ptr_trait",
-    "tuple",
-    "pointee_trait",
-    "discriminant_kind",
-    "destruct",
-    "drop",
-    "bikeshed_guaranteed_no_drop",
-    "unsize",
+/// The words of lang items.
+const LANG_ITEMS: [(&str, LangItem); 16] = [
+    ("sized", LangItem::Sized),
+    ("meta_sized", LangItem::MetaSized),
+    ("copy", LangItem::Copy),
+    ("clone", LangItem::Clone),
+    ("trivial_clone", LangItem::TrivialClone),
+    ("fn", LangItem::Fn),
+    ("fn_mut", LangItem::FnMut),
+    ("fn_once", LangItem::FnOnce),
+    ("fn_ptr_trait", LangItem::FnPtrTrait),
+    ("tuple", LangItem::Tuple),
+    ("pointee_trait", LangItem::PointeeTrait),
+    ("discriminant_kind", LangItem::DiscriminantKind),
+    ("destruct", LangItem::Destruct),
+    ("drop", LangItem::Drop),
+    (
+        "bikeshed_guaranteed_no_drop",
+        LangItem::BikeshedGuaranteedNoDrop,
+    ),
+    ("unsize", LangItem::Unsize),
 ];
 
 /// The lang item of the word; of another word it is `sized`.
-pub fn lang_item(word: &str) -> LangItem {
-    for (name, item) in LANG_ITEMS.iter().zip(LangItem::ALL) {
-        if *name == word {
-            return item;
-        }
-    }
-    LangItem::Sized
+pub(crate) fn lang_item(word: &str) -> LangItem {
+    value_of(&LANG_ITEMS, word).unwrap_or(LangItem::Sized)
 }
 
 /// Which types have to be sized, and in which sense: where nothing else is said, when the program is compiled.
-pub fn sizedness(row: Row<'_>) -> Sizedness {
+pub(crate) fn sizedness(row: Row<'_>) -> Sizedness {
     if row.has("meta_sized") {
         Sizedness::MetaSized
     } else {
@@ -61,7 +60,11 @@ pub fn sizedness(row: Row<'_>) -> Sizedness {
 
 impl<'a> Reader<'a> {
     /// Does what the row says, and answers the number of what it declares.
-    pub fn declare(&mut self, builder: &mut DeclsBuilder, row: Row<'a>) -> Result<Answer, Refusal> {
+    pub(crate) fn declare(
+        &mut self,
+        builder: &mut DeclsBuilder,
+        row: Row<'a>,
+    ) -> Result<Answer, Refusal> {
         let (first, second) = (self.number(row.first), self.number(row.second));
         let done = match row.verb {
             "let" => return self.name_node(builder, row),
@@ -70,7 +73,12 @@ impl<'a> Reader<'a> {
                 Ok(())
             }
             "destructor" => {
-                builder.set_destructor(AdtId(first), destructor(row));
+                let destructor = if row.has("const") {
+                    Destructor::Const
+                } else {
+                    Destructor::NotConst
+                };
+                builder.set_destructor(AdtId(first), destructor);
                 Ok(())
             }
             "default" => {
@@ -135,7 +143,7 @@ impl<'a> Reader<'a> {
         let value = self.operand(builder, row.left)?;
         let (word, letters) = row.second.split_once(':').unwrap_or((row.second, ""));
         self.kinds = kinds(self.alloc, letters)?;
-        let (sort, parameters) = (sort_of(row.verb), self.kinds.as_slice());
+        let (sort, parameters) = (value_of(&SORTS, row.verb), self.kinds.as_slice());
         let arity = match named(self.names.as_slice(), row.first) {
             Some(name) => name.arity,
             None => parameters.len(),
@@ -144,8 +152,16 @@ impl<'a> Reader<'a> {
             Some(Sort::Trait) => builder
                 .add_trait(CrateId(of), parameters, trait_flags(row))?
                 .0,
-            Some(Sort::AssociatedType) => add_item(builder, of, AssocKind::Type, row)?,
-            Some(Sort::AssociatedConst) => add_item(builder, of, AssocKind::Const, row)?,
+            Some(Sort::AssociatedType) => {
+                let is_sized = row.has("sized");
+                builder.add_assoc(TraitId(of), AssocKind::Type, is_sized)?.0
+            }
+            Some(Sort::AssociatedConst) => {
+                let is_sized = row.has("sized");
+                builder
+                    .add_assoc(TraitId(of), AssocKind::Const, is_sized)?
+                    .0
+            }
             _ => define_other(builder, row, parameters, value)?,
         };
         let arity = match sort {
@@ -161,26 +177,6 @@ impl<'a> Reader<'a> {
             })?;
         }
         Ok(Answer::One(Item::Count(number as usize)))
-    }
-}
-
-/// Declares an item of the trait of that number.
-fn add_item(
-    builder: &mut DeclsBuilder,
-    of: u32,
-    kind: AssocKind,
-    row: Row<'_>,
-) -> Result<u32, DeclFault> {
-    let added = builder.add_assoc(TraitId(of), kind, row.has("sized"))?;
-    Ok(added.0)
-}
-
-/// How a type is dropped: where nothing else is said, only where the program runs.
-fn destructor(row: Row<'_>) -> Destructor {
-    if row.has("const") {
-        Destructor::Const
-    } else {
-        Destructor::NotConst
     }
 }
 
@@ -283,10 +279,9 @@ fn declare_traits(builder: &mut DeclsBuilder, last: u32, is_fan: bool) -> Result
         };
         let value = ClauseKind::Trait(predicate);
         let part = Part::Clause(Binder { vars, value });
-        if let Some(clause) = make(builder, &part)? {
-            let of = if is_fan { 0 } else { number };
-            builder.push_super(TraitId(of), Clause(clause))?;
-        }
+        let clause = Clause(make(builder, &part)?);
+        let of = if is_fan { 0 } else { number };
+        builder.push_super(TraitId(of), clause)?;
     }
     Ok(Answer::One(Item::Done))
 }

@@ -10,14 +10,14 @@ use candidate_ir::decl::context::Cx;
 
 /// The nodes that a row's operands are; where it has fewer, numbers of none.
 #[derive(Clone, Copy)]
-pub struct Operands {
-    pub left: u32,
-    pub right: u32,
-    pub third: u32,
+pub(crate) struct Operands {
+    pub(crate) left: u32,
+    pub(crate) right: u32,
+    pub(crate) third: u32,
 }
 
 /// Makes the row's operands.
-pub fn made<'a, T: Table>(
+pub(crate) fn made<'a, T: Table>(
     reader: &mut Reader<'a>,
     table: &mut T,
     row: Row<'a>,
@@ -30,7 +30,11 @@ pub fn made<'a, T: Table>(
 }
 
 /// What the row answers; a node is noted.
-pub fn answer<'a>(reader: &mut Reader<'a>, cx: &mut Cx, row: Row<'a>) -> Result<Answer, Refusal> {
+pub(crate) fn answer<'a>(
+    reader: &mut Reader<'a>,
+    cx: &mut Cx,
+    row: Row<'a>,
+) -> Result<Answer, Refusal> {
     let alloc = reader.alloc;
     let of = match row.verb {
         "and" => return merging::both(alloc, row),

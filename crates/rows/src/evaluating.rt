@@ -6,20 +6,20 @@ ghost use Rattle.candidate_rounds.specs.Known.{IsGiven, probes};
 use crate::answers::{Answer, Item};
 use crate::checks;
 use crate::eval::{Operands, made};
-use crate::evaluator::{self, mode};
+use crate::evaluator::{self, MODES};
+use crate::ir::substituted;
 use crate::listing::listed;
-use crate::parts::{NodeSort, sort_at};
 use crate::reader::Reader;
 use crate::refusals::Refusal;
 use crate::rows::Row;
 use crate::run::{Phase, Session};
-use crate::typed::args_at;
+use crate::tables::value_of;
+use crate::values::Value;
 use candidate_eval::eval::context::{EvalCtxt, ProbeKind};
 use candidate_eval::eval::mode::TypingMode;
 use candidate_ir::decl::context::Cx;
-use candidate_ir::decl::parameters::{env_has_arguments, has_arguments};
-use candidate_ir::decl::subst::{subst, subst_env};
-use candidate_ir::ir::kinds::{AssocId, ParamEnv, Ty};
+use candidate_ir::decl::make::Make;
+use candidate_ir::ir::kinds::{AssocId, Ty};
 use candidate_rounds::rounds::Rounds;
 use std::alloc::Global;
 
@@ -34,7 +34,7 @@ fn asked_for(
 ) -> Result<(TypingMode, Vec<(Ty, Ty)>), Refusal>
     ensures { IfOk result (λ r. IsGiven cx.new.trees (r.1).items []) }
 {
-    let mode = mode(row.first).ok_or(Refusal::UnknownWord)?;
+    let mode = value_of(&MODES, row.first).ok_or(Refusal::UnknownWord)?;
     if row.second.is_empty() {
         return Ok((mode, Vec::new(reader.alloc)));
     }
@@ -42,31 +42,9 @@ fn asked_for(
     Ok((mode, pairs))
 }
 
-/// Two numbers as an answer.
-fn counted(alloc: Global, first: usize, second: usize) -> Result<Answer, Refusal> {
-    let items = [Item::Count(first), Item::Count(second)];
-    Ok(Answer::List(Vec::from_slice(alloc, &items)?))
-}
-
-/// The type or the environment with the arguments in the place of parameters.
-fn substituted(alloc: Global, rounds: &mut Rounds, of: Operands) -> Result<Answer, Refusal> {
-    let args = args_at(rounds.cx(), of.right)?;
-    let (ty, env) = (Ty(of.left), ParamEnv(of.left));
-    let made = match sort_at(rounds.cx(), of.left) {
-        Some(NodeSort::Ty) if has_arguments(rounds.cx(), ty, args) => {
-            subst(alloc, rounds, ty, args)?.0
-        }
-        Some(NodeSort::Env) if env_has_arguments(rounds.cx(), env, args) => {
-            subst_env(alloc, rounds, env, args)?.0
-        }
-        _ => return Err(Refusal::Condition),
-    };
-    Ok(Answer::One(Item::Node(made)))
-}
-
 impl<'a> Session<'a> {
     /// Begins an evaluator over the context, in the mode that the row says.
-    pub fn begin_rounds(&mut self, mut cx: Cx, row: Row<'a>) -> Phase {
+    pub(crate) fn begin_rounds(&mut self, mut cx: Cx, row: Row<'a>) -> Phase {
         match self.settings(&mut cx, row) {
             Ok((mode, pairs)) => {
                 let alloc = self.reader.alloc;
@@ -99,15 +77,19 @@ impl<'a> Session<'a> {
     }
 
     /// Ends the evaluator, and says how many pairs and opaque types it was given.
-    pub fn leave(&mut self, rounds: Rounds) -> Cx {
+    pub(crate) fn leave(&mut self, rounds: Rounds) -> Cx {
         let (cx, normal, opaques) = rounds.into_parts();
-        let counts = counted(self.reader.alloc, normal.len(), opaques.len());
-        self.print(None, counts);
+        let counts = [Item::Count(normal.len()), Item::Count(opaques.len())];
+        let outcome = match Vec::from_slice(self.reader.alloc, &counts) {
+            Ok(items) => Ok(Answer::List(items)),
+            Err(error) => Err(Refusal::from(error)),
+        };
+        self.print(None, outcome);
         cx
     }
 
     /// Answers a row that is asked of an evaluator.
-    pub fn evaluate(&mut self, rounds: &mut Rounds, row: Row<'a>) {
+    pub(crate) fn evaluate(&mut self, rounds: &mut Rounds, row: Row<'a>) {
         if row.verb == "probe" {
             self.probe(rounds, row, NESTED);
             return;
@@ -129,7 +111,7 @@ impl<'a> Session<'a> {
             }
             "subst" => {
                 let of = made(&mut self.reader, rounds, row)?;
-                substituted(alloc, rounds, of)
+                substituted(alloc, rounds, Value::Node(of.left), of.right)
             }
             _ => {
                 let of = made(&mut self.reader, rounds, row)?;

@@ -13,7 +13,9 @@ use crate::parts::{NodeSort, Part, Table, make_in, sort_at};
 use crate::reader::{Reader, kinds};
 use crate::refusals::Refusal;
 use crate::rows::Row;
+use crate::tables::{UNNAMED, value_of, word_for};
 use crate::typed::{arg_at, args_at, clause_at, env_at, ty_at};
+use candidate_eval::eval::InferCtxtLike;
 use candidate_eval::eval::ambiguity::{bail_with_ambiguity, flounder};
 use candidate_eval::eval::certainty::Certainty;
 use candidate_eval::eval::context::{EvalCtxt, ProbeKind};
@@ -23,19 +25,17 @@ use candidate_eval::eval::variable::VariableKind;
 use candidate_ir::decl::make::Make;
 use candidate_ir::ir::heads::{Head, VariableSort};
 use candidate_ir::ir::kinds::{Args, Clause, Const, Goal, GoalSource, Region, Ty};
+use candidate_ir::ir::numbered::Numbered;
 use candidate_ir::ir::stop::Stop;
+use candidate_ir::ir::trees::Trees;
 use candidate_rounds::rounds::Rounds;
 use std::alloc::Global;
 
 impl Table for Rounds {
     ghost trees = { λ r. r.context.trees };
 
-    fn node_count(&self) -> usize {
-        self.cx().node_count()
-    }
-
-    fn head(&self, number: u32) -> Head {
-        self.cx().head(number)
+    fn head_at(&self, number: u32) -> Option<Head> {
+        self.cx().head_at(number)
     }
 
     fn make(&mut self, part: &Part) -> Result<Option<u32>, Stop> {
@@ -45,47 +45,35 @@ impl Table for Rounds {
 
 const DONE: Answer = Answer::One(Item::Done);
 
-/// The mode of the word.
-pub fn mode(word: &str) -> Option<TypingMode> {
-    match word {
-        "coherence" => Some(TypingMode::Coherence),
-        "analysis" => Some(TypingMode::Analysis),
-        "borrowck" => Some(TypingMode::Borrowck),
-        "post_borrowck" => Some(TypingMode::PostBorrowckAnalysis),
-        "post_analysis" => Some(TypingMode::PostAnalysis),
-        _ => None,
-    }
-}
+/// The words of modes.
+pub(crate) const MODES: [(&str, TypingMode); 5] = [
+    ("coherence", TypingMode::Coherence),
+    ("analysis", TypingMode::Analysis),
+    ("borrowck", TypingMode::Borrowck),
+    ("post_borrowck", TypingMode::PostBorrowckAnalysis),
+    ("post_analysis", TypingMode::PostAnalysis),
+];
 
-fn mode_word(mode: TypingMode) -> &'static str {
-    match mode {
-        TypingMode::Coherence => "coherence",
-        TypingMode::Analysis => "analysis",
-        TypingMode::Borrowck => "borrowck",
-        TypingMode::PostBorrowckAnalysis => "post_borrowck",
-        TypingMode::PostAnalysis => "post_analysis",
-    }
-}
-
-fn variable_kind(word: &str) -> Option<VariableKind> {
-    match word {
-        "general" => Some(VariableKind::Term(VariableSort::General)),
-        "integer" => Some(VariableKind::Term(VariableSort::Integer)),
-        "floating" => Some(VariableKind::Term(VariableSort::Floating)),
-        "constant" => Some(VariableKind::Term(VariableSort::Constant)),
-        "region" => Some(VariableKind::Region),
-        _ => None,
-    }
-}
+/// The words of the kinds of variables.
+pub(crate) const VARIABLES: [(&str, VariableKind); 5] = [
+    ("general", VariableKind::Term(VariableSort::General)),
+    ("integer", VariableKind::Term(VariableSort::Integer)),
+    ("floating", VariableKind::Term(VariableSort::Floating)),
+    ("constant", VariableKind::Term(VariableSort::Constant)),
+    ("region", VariableKind::Region),
+];
 
 /// Asks for the mode, for variables and placeholders, and puts off faults.
 fn state(alloc: Global, rounds: &mut Rounds, row: Row<'_>) -> Result<Answer, Refusal>
     ensures { probes rounds.new ≡ probes rounds.old }
 {
     let item = match row.verb {
-        "mode" => Item::Word(mode_word(EvalCtxt::typing_mode(rounds))),
+        "mode" => {
+            let mode = EvalCtxt::typing_mode(rounds);
+            Item::Word(word_for(&MODES, mode).unwrap_or(UNNAMED))
+        }
         "root" => {
-            let kind = variable_kind(row.first).ok_or(Refusal::Condition)?;
+            let kind = value_of(&VARIABLES, row.first).ok_or(Refusal::Condition)?;
             Item::Node(rounds.new_root_var(kind)?.number())
         }
         "fresh" => {
@@ -250,7 +238,7 @@ fn add(rounds: &mut Rounds, row: Row<'_>, of: Operands) -> Result<Answer, Refusa
 }
 
 /// What the row asks of the evaluator, in a probe or outside of one.
-pub fn answer(
+pub(crate) fn answer(
     reader: &Reader<'_>,
     rounds: &mut Rounds,
     row: Row<'_>,

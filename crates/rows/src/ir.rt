@@ -12,17 +12,16 @@ use crate::parts::{NodeSort, Part, is_at, make, sort_at};
 use crate::reader::Reader;
 use crate::refusals::Refusal;
 use crate::rows::Row;
+use crate::tables::value_of;
 use crate::values::Value;
 use candidate_ir::decl::context::Cx;
 use candidate_ir::decl::elaborate::{elaborate, implied, supertrait_def_ids, supertraits};
 use candidate_ir::decl::fold::{
     fold, fold_arg, fold_args, fold_clause, fold_const, fold_env, fold_region, fold_trait_ref,
 };
+use candidate_ir::decl::make::Make;
 use candidate_ir::decl::open::{binder_kinds, open_clause};
-use candidate_ir::decl::parameters::{
-    args_have_arguments, clause_has_arguments, const_has_arguments, env_has_arguments,
-    has_arguments, trait_ref_has_arguments,
-};
+use candidate_ir::decl::parameters::has_arguments;
 use candidate_ir::decl::subst::{
     subst, subst_args, subst_clause, subst_const, subst_env, subst_trait_ref,
 };
@@ -32,7 +31,9 @@ use candidate_ir::ir::kinds::{
     Args, Binder, Clause, Const, ExistentialPredicate, FnId, GenericArg, ParamEnv, Preds, Region,
     Sig, TraitId, Ty, TyKind, UintTy, VarKind, Vars,
 };
+use candidate_ir::ir::numbered::Numbered;
 use candidate_ir::ir::stop::Stop;
+use candidate_ir::ir::trees::Trees;
 use candidate_ir::ir::unify::RightSide;
 use std::alloc::{AllocError, Global};
 
@@ -44,13 +45,13 @@ fn compared(cx: &Cx, right: Option<RightSide>, a: u32, b: u32) -> Option<bool> {
     }
     match (sort, right) {
         (NodeSort::Ty, None) => Some(cx.same(Ty(a), Ty(b))),
-        (NodeSort::Const, None) => Some(cx.same_const(Const(a), Const(b))),
-        (NodeSort::Region, None) => Some(cx.same_region(Region(a), Region(b))),
-        (NodeSort::Args, None) => Some(cx.same_args(Args(a), Args(b))),
-        (NodeSort::Clause, None) => Some(cx.same_clause(Clause(a), Clause(b))),
-        (NodeSort::Env, None) => Some(cx.same_env(ParamEnv(a), ParamEnv(b))),
+        (NodeSort::Const, None) => Some(cx.same(Const(a), Const(b))),
+        (NodeSort::Region, None) => Some(cx.same(Region(a), Region(b))),
+        (NodeSort::Args, None) => Some(cx.same(Args(a), Args(b))),
+        (NodeSort::Clause, None) => Some(cx.same(Clause(a), Clause(b))),
+        (NodeSort::Env, None) => Some(cx.same(ParamEnv(a), ParamEnv(b))),
         (NodeSort::Ty, Some(right)) => Some(cx.may_unify(Ty(a), Ty(b), right)),
-        (NodeSort::Const, Some(right)) => Some(cx.consts_may_unify(Const(a), Const(b), right)),
+        (NodeSort::Const, Some(right)) => Some(cx.may_unify(Const(a), Const(b), right)),
         (NodeSort::Args, Some(right)) => Some(cx.args_may_unify(Args(a), Args(b), right)),
         _ => None,
     }
@@ -66,43 +67,49 @@ fn have_arguments(cx: &Cx, value: Value, list: u32) -> Option<bool> {
         if !is_at(cx, reference.args.0, NodeSort::Args) {
             return None;
         }
-        return Some(trait_ref_has_arguments(cx, reference, args));
+        return Some(has_arguments(cx, reference.args, args));
     }
     match sort_at(cx, a)? {
         NodeSort::Ty => Some(has_arguments(cx, Ty(a), args)),
-        NodeSort::Const => Some(const_has_arguments(cx, Const(a), args)),
-        NodeSort::Args => Some(args_have_arguments(cx, Args(a), args)),
-        NodeSort::Clause => Some(clause_has_arguments(cx, Clause(a), args)),
-        NodeSort::Env => Some(env_has_arguments(cx, ParamEnv(a), args)),
+        NodeSort::Const => Some(has_arguments(cx, Const(a), args)),
+        NodeSort::Args => Some(has_arguments(cx, Args(a), args)),
+        NodeSort::Clause => Some(has_arguments(cx, Clause(a), args)),
+        NodeSort::Env => Some(has_arguments(cx, ParamEnv(a), args)),
         _ => None,
     }
 }
 
 /// The value with the list's arguments in the place of its parameters.
-fn substituted(alloc: Global, cx: &mut Cx, value: Value, list: u32) -> Result<Answer, Refusal> {
+pub(crate) fn substituted<M: Make>(
+    alloc: Global,
+    make: &mut M,
+    value: Value,
+    list: u32,
+) -> Result<Answer, Refusal> {
+    let cx = make.cx();
     if !is_at(cx, list, NodeSort::Args) {
         return Err(Refusal::Condition);
     }
     let (a, args) = (value.node(), Args(list));
     let number = match (sort_at(cx, a), value) {
         (Some(NodeSort::Ty), _) if has_arguments(cx, Ty(a), args) => {
-            subst(alloc, cx, Ty(a), args)?.0
+            subst(alloc, make, Ty(a), args)?.0
         }
-        (Some(NodeSort::Const), _) if const_has_arguments(cx, Const(a), args) => {
-            subst_const(alloc, cx, Const(a), args)?.0
+        (Some(NodeSort::Const), _) if has_arguments(cx, Const(a), args) => {
+            subst_const(alloc, make, Const(a), args)?.0
         }
-        (Some(NodeSort::Args), _) if args_have_arguments(cx, Args(a), args) => {
-            subst_args(alloc, cx, Args(a), args)?.0
+        (Some(NodeSort::Args), _) if has_arguments(cx, Args(a), args) => {
+            subst_args(alloc, make, Args(a), args)?.0
         }
-        (Some(NodeSort::Clause), _) if clause_has_arguments(cx, Clause(a), args) => {
-            subst_clause(alloc, cx, Clause(a), args)?.0
+        (Some(NodeSort::Clause), _) if has_arguments(cx, Clause(a), args) => {
+            subst_clause(alloc, make, Clause(a), args)?.0
         }
-        (Some(NodeSort::Env), _) if env_has_arguments(cx, ParamEnv(a), args) => {
-            subst_env(alloc, cx, ParamEnv(a), args)?.0
+        (Some(NodeSort::Env), _) if has_arguments(cx, ParamEnv(a), args) => {
+            subst_env(alloc, make, ParamEnv(a), args)?.0
         }
         (None, Value::Reference(of))
-            if is_at(cx, of.args.0, NodeSort::Args) && trait_ref_has_arguments(cx, of, args) => {
-            let made = subst_trait_ref(alloc, cx, of, args)?;
+            if is_at(cx, of.args.0, NodeSort::Args) && has_arguments(cx, of.args, args) => {
+            let made = subst_trait_ref(alloc, make, of, args)?;
             return Ok(Answer::One(Item::Reference(made)));
         }
         _ => return Err(Refusal::Condition),
@@ -191,7 +198,7 @@ fn again(alloc: Global, cx: &mut Cx, a: u32, whole: bool) -> Result<Answer, Refu
         NodeSort::Preds => Part::Preds(bounds_of(alloc, cx, Preds(a))?),
         NodeSort::Pred | NodeSort::Var => return Err(Refusal::Condition),
     };
-    made(cx, &part)
+    Ok(Answer::One(Item::Node(make(cx, &part)?)))
 }
 
 /// The kinds of a binder's variables.
@@ -222,14 +229,6 @@ fn bounds_of(
         }
     }
     Ok(bounds)
-}
-
-/// The node of the part, made.
-fn made(cx: &mut Cx, part: &Part) -> Result<Answer, Refusal> {
-    match make(cx, part)? {
-        Some(number) => Ok(Answer::One(Item::Node(number))),
-        None => Err(Refusal::Condition),
-    }
 }
 
 /// The words of flags.
@@ -268,20 +267,15 @@ const TYPE_FLAGS: [(&str, TypeFlags); 14] = [
 
 /// Whether the flag of the word is in the node.
 fn has(cx: &Cx, a: u32, word: &str) -> Option<bool> {
-    for (name, flag) in FLAGS {
-        if name != word {
-            continue;
-        }
-        return match sort_at(cx, a)? {
-            NodeSort::Ty => Some(cx.has(Ty(a), flag)),
-            NodeSort::Const => Some(cx.const_has(Const(a), flag)),
-            NodeSort::Args => Some(cx.args_have(Args(a), flag)),
-            NodeSort::Clause => Some(cx.clause_has(Clause(a), flag)),
-            NodeSort::Env => Some(cx.env_has(ParamEnv(a), flag)),
-            _ => None,
-        };
+    let flag = value_of(&FLAGS, word)?;
+    match sort_at(cx, a)? {
+        NodeSort::Ty => Some(cx.has(Ty(a), flag)),
+        NodeSort::Const => Some(cx.has(Const(a), flag)),
+        NodeSort::Args => Some(cx.has(Args(a), flag)),
+        NodeSort::Clause => Some(cx.has(Clause(a), flag)),
+        NodeSort::Env => Some(cx.has(ParamEnv(a), flag)),
+        _ => None,
     }
-    None
 }
 
 /// The words of the type's flags, and those of all flags of a sort where it has them.
@@ -312,8 +306,8 @@ fn said_by_sort(cx: &Cx, verb: &str, a: u32) -> Option<Item> {
             }
         }
         ("escapes", NodeSort::Ty) => Item::Truth(cx.has_escaping_bound_vars(Ty(a))),
-        ("escapes", NodeSort::Args) => Item::Truth(cx.args_have_escaping_bound_vars(Args(a))),
-        ("escapes", NodeSort::Clause) => Item::Truth(cx.clause_has_escaping_bound_vars(Clause(a))),
+        ("escapes", NodeSort::Args) => Item::Truth(cx.has_escaping_bound_vars(Args(a))),
+        ("escapes", NodeSort::Clause) => Item::Truth(cx.has_escaping_bound_vars(Clause(a))),
         ("principal", NodeSort::Preds) => Item::Definition(cx.principal(Preds(a))?.0),
         _ => return None,
     };
@@ -327,7 +321,7 @@ fn said_of_argument(cx: &Cx, verb: &str, arg: GenericArg, number: u32) -> Option
     match verb {
         "mentions" => Some(Item::Truth(cx.mentions(arg, number))),
         "above" => Some(Item::Truth(cx.has_placeholder_above(arg, number))),
-        "arg_escapes" => Some(Item::Truth(cx.arg_has_escaping_bound_vars(arg))),
+        "arg_escapes" => Some(Item::Truth(cx.has_escaping_bound_vars(arg))),
         "variable" => match cx.variable_number(arg) {
             Some(variable) => Some(Item::Count(variable as usize)),
             None => None,
@@ -380,19 +374,6 @@ fn letters(
     Ok(text)
 }
 
-/// What is said of a reference or of a signature.
-fn said_of_value(cx: &Cx, verb: &str, value: Value) -> Option<bool> {
-    match (verb, value) {
-        ("compatible", Value::Signature(sig)) => Some(sig.value.is_fn_trait_compatible()),
-        ("fits", Value::Reference(reference)) if is_at(cx, reference.args.0, NodeSort::Args) => {
-            Some(cx.trait_ref_args_fit(reference))
-        }
-        ("has_param", Value::Reference(reference)) if is_at(cx, reference.args.0, NodeSort::Args) =>
-            { Some(cx.has_param(reference)) }
-        _ => None,
-    }
-}
-
 /// What follows from the clause, by the verb: clauses, or the traits of its supertraits; or how many variables its binder has.
 fn following(alloc: Global, cx: &mut Cx, verb: &str, number: u32) -> Result<Answer, Refusal> {
     if !is_at(cx, number, NodeSort::Clause) {
@@ -427,7 +408,7 @@ fn instance(
         let opened = open_clause(alloc, cx, of, args)?;
         return Ok(Answer::One(Item::Node(opened.0)));
     };
-    if !is_at(cx, vars, NodeSort::Vars) || !clause_has_arguments(cx, of, args) {
+    if !is_at(cx, vars, NodeSort::Vars) || !has_arguments(cx, of, args) {
         return Err(Refusal::Condition);
     }
     let said = implied(alloc, cx, Vars(vars), args, of)?;
@@ -448,7 +429,7 @@ fn impls(alloc: Global, cx: &Cx, of: u32, ty: Value) -> Result<Answer, Refusal> 
 }
 
 /// The faults that were put off.
-pub fn bugs(alloc: Global, cx: &Cx) -> Result<String, AllocError> {
+pub(crate) fn bugs(alloc: Global, cx: &Cx) -> Result<String, AllocError> {
     let mut text = String::new(alloc);
     for bug in cx.delayed_bugs() {
         text.push_str(bug.as_str())?;
@@ -457,24 +438,23 @@ pub fn bugs(alloc: Global, cx: &Cx) -> Result<String, AllocError> {
     Ok(text)
 }
 
-/// The truth as an answer; where there is none, the row's condition isn't met.
-fn truth(truth: Option<bool>) -> Result<Answer, Refusal> {
-    match truth {
-        Some(truth) => Ok(Answer::One(Item::Truth(truth))),
-        None => Err(Refusal::Condition),
-    }
-}
-
 /// Whether what the row asks holds, if it is asked of nodes that it may be asked of.
 fn holds(cx: &Cx, row: Row<'_>, left: Value, right: Value) -> Option<bool> {
     let (a, b) = (left.node(), right.node());
-    match row.verb {
-        "same" => compared(cx, None, a, b),
-        "unify" => compared(cx, Some(RightSide::Plain), a, b),
-        "header" => compared(cx, Some(RightSide::Header), a, b),
-        "has" => has(cx, a, row.first),
-        "has_arguments" => have_arguments(cx, left, b),
-        verb => said_of_value(cx, verb, left),
+    match (row.verb, left) {
+        ("same", _) => compared(cx, None, a, b),
+        ("unify", _) => compared(cx, Some(RightSide::Plain), a, b),
+        ("header", _) => compared(cx, Some(RightSide::Header), a, b),
+        ("has", _) => has(cx, a, row.first),
+        ("has_arguments", _) => have_arguments(cx, left, b),
+        ("compatible", Value::Signature(sig)) => Some(sig.value.is_fn_trait_compatible()),
+        ("fits", Value::Reference(of)) if is_at(cx, of.args.0, NodeSort::Args) => {
+            Some(cx.trait_ref_args_fit(of))
+        }
+        ("has_param", Value::Reference(of)) if is_at(cx, of.args.0, NodeSort::Args) => {
+            Some(cx.has_param(of))
+        }
+        _ => None,
     }
 }
 
@@ -549,14 +529,14 @@ fn asked_of_declarations(
             return Ok(Answer::One(Item::Nothing));
         };
         let pointer = Part::Ty(TyKind::FnPtr(sig));
-        return made(cx, &pointer);
+        return Ok(Answer::One(Item::Node(make(cx, &pointer)?)));
     }
     Ok(Answer::One(said_of(cx, row, of).unwrap_or(Item::Nothing)))
 }
 
 impl<'a> Reader<'a> {
     /// What the row answers in the context.
-    pub fn answer(&mut self, cx: &mut Cx, row: Row<'a>) -> Result<Answer, Refusal> {
+    pub(crate) fn answer(&mut self, cx: &mut Cx, row: Row<'a>) -> Result<Answer, Refusal> {
         if row.verb == "let" {
             return self.name_node(cx, row);
         }
@@ -573,7 +553,10 @@ impl<'a> Reader<'a> {
             | "has_arguments"
             | "compatible"
             | "fits"
-            | "has_param" => truth(holds(cx, row, left, right)),
+            | "has_param" => {
+                let truth = holds(cx, row, left, right).ok_or(Refusal::Condition)?;
+                Ok(Answer::One(Item::Truth(truth)))
+            }
             "subst" | "fold" | "open" | "implied" | "again" => {
                 changed(alloc, cx, row, left, (right.node(), third.node()))
             }

@@ -1,6 +1,7 @@
 //! Types, constants and regions without parts, by their words.
 
 use crate::parts::Part;
+use crate::tables::value_of;
 use candidate_ir::ir::kinds::{
     BoundVar, ConstKind, FloatTy, InferTy, IntTy, Placeholder, RegionKind, TyKind, UintTy,
 };
@@ -34,16 +35,14 @@ const TYPES: [(&str, TyKind); 21] = [
 const MARKS: [char; 8] = ['#', '\'', 'p', '^', '!', '?', 'i', 'f'];
 
 /// The number of the digits, or that of nothing.
-pub fn number_in(digits: &str) -> u32 {
+pub(crate) fn number_in(digits: &str) -> u32 {
     digits.parse::<u32>().unwrap_or(u32::MAX)
 }
 
 /// What the word says, if it is the word of a leaf.
-pub fn leaf(word: &str) -> Option<Part> {
-    for (name, kind) in TYPES {
-        if name == word {
-            return Some(Part::Ty(kind));
-        }
+pub(crate) fn leaf(word: &str) -> Option<Part> {
+    if let Some(kind) = value_of(&TYPES, word) {
+        return Some(Part::Ty(kind));
     }
     match word {
         "#error" => Some(Part::Const(ConstKind::Error)),

@@ -52,7 +52,7 @@ fn projection_of_number(cx: &mut Cx, of: AssocId, width: UintTy) -> Result<Ty, R
 }
 
 /// Those pairs.
-pub fn listed(alloc: Global, cx: &mut Cx, of: AssocId) -> Result<Vec<(Ty, Ty)>, Refusal>
+pub(crate) fn listed(alloc: Global, cx: &mut Cx, of: AssocId) -> Result<Vec<(Ty, Ty)>, Refusal>
     ensures { IfOk result (λ v. IsGiven cx.new.trees v.items []) }
 {
     let of_byte = projection_of_number(cx, of, UintTy::U8)?;

@@ -4,16 +4,14 @@ use crate::answers::{Answer, Item};
 use crate::declaring::{lang_item, sizedness};
 use crate::refusals::Refusal;
 use crate::rows::Row;
-use candidate_ir::decl::contents::{Destructor, ImplId, ImplPolarity};
+use candidate_ir::decl::contents::{Destructor, Impl, ImplId, ImplPolarity};
 use candidate_ir::decl::context::Cx;
 use candidate_ir::decl::definition::{AdtFlags, AdtShape, AssocKind, TraitFlags};
-use candidate_ir::ir::kinds::{
-    AdtId, AliasId, AssocId, Clause, ClosureId, FnId, ForeignId, TraitId, Ty,
-};
+use candidate_ir::ir::kinds::{AdtId, AliasId, AssocId, Clause, ClosureId, FnId, TraitId, Ty};
 use std::alloc::Global;
 
 /// What stands in a list that is answered.
-pub trait Member: Copy {
+pub(crate) trait Member: Copy {
     fn item(self) -> Item;
 }
 
@@ -54,7 +52,7 @@ impl Member for u32 {
 }
 
 /// The list as it is answered.
-pub fn listed<M: Member>(alloc: Global, list: &[M]) -> Result<Answer, Refusal> {
+pub(crate) fn listed<M: Member>(alloc: Global, list: &[M]) -> Result<Answer, Refusal> {
     let mut items = Vec::new(alloc);
     for member in list {
         items.push(member.item())?;
@@ -62,20 +60,32 @@ pub fn listed<M: Member>(alloc: Global, list: &[M]) -> Result<Answer, Refusal> {
     Ok(Answer::List(items))
 }
 
+/// The list of the impl that the verb asks for; what is no impl has none.
+fn impl_list(alloc: Global, verb: &str, of: Option<&Impl>) -> Result<Answer, Refusal> {
+    let Some(of) = of else {
+        return Ok(Answer::List(Vec::new(alloc)));
+    };
+    match verb {
+        "impl_wheres" => listed(alloc, of.wheres.as_slice()),
+        "impl_super_outlives" => listed(alloc, of.super_outlives.as_slice()),
+        _ => listed(alloc, of.specializes.as_slice()),
+    }
+}
+
 /// The list that something holds that was declared, if the verb asks for one.
-pub fn held(alloc: Global, cx: &Cx, verb: &str, of: u32) -> Option<Result<Answer, Refusal>> {
+pub(crate) fn held(alloc: Global, cx: &Cx, verb: &str, of: u32) -> Option<Result<Answer, Refusal>> {
     match verb {
         "supers" => Some(listed(alloc, cx.super_clauses(TraitId(of)))),
         "wheres" => Some(listed(alloc, cx.trait_where_clauses(TraitId(of)))),
         "bounds" => Some(listed(alloc, cx.self_bounds(AliasId(of)))),
         "other_bounds" => Some(listed(alloc, cx.non_self_bounds(AliasId(of)))),
-        "impl_wheres" => Some(listed(alloc, cx.impl_where_clauses(ImplId(of)))),
-        "impl_super_outlives" => Some(listed(alloc, cx.impl_super_outlives(ImplId(of)))),
         "impls_of" => Some(listed(alloc, cx.impls_of(TraitId(of)))),
-        "specialized" => Some(listed(alloc, cx.specialized_impls(ImplId(of)))),
         "fields" => Some(listed(alloc, cx.fields(AdtId(of)))),
         "items" => Some(listed(alloc, cx.associated_items(TraitId(of)))),
         "unsizing" => Some(listed(alloc, cx.unsizing_parameters(AdtId(of)))),
+        "impl_wheres" | "impl_super_outlives" | "specialized" => {
+            Some(impl_list(alloc, verb, cx.impl_contents(ImplId(of))))
+        }
         _ => None,
     }
 }
@@ -139,7 +149,7 @@ fn word_of(cx: &Cx, verb: &str, of: u32) -> Option<&'static str> {
             AssocKind::Type => Some("type"),
             AssocKind::Const => Some("const"),
         },
-        "polarity" => match cx.impl_polarity(ImplId(of))? {
+        "polarity" => match cx.impl_contents(ImplId(of))?.polarity {
             ImplPolarity::Positive => Some("positive"),
             ImplPolarity::Negative => Some("negative"),
             ImplPolarity::Reservation => Some("reservation"),
@@ -152,24 +162,21 @@ fn word_of(cx: &Cx, verb: &str, of: u32) -> Option<&'static str> {
 fn truth_of(cx: &Cx, row: Row<'_>, of: u32) -> Option<bool> {
     match row.verb {
         "needs_sized" => Some(cx.requires_sized_self(AssocId(of))),
-        "is_default" => Some(cx.impl_is_default(ImplId(of))),
+        "is_default" => Some(cx.impl_contents(ImplId(of))?.is_default),
         "is_const_closure" => Some(cx.closure_is_const(ClosureId(of))),
-        "adt_is_local" => Some(cx.adt_is_local(AdtId(of))),
-        "adt_is_fundamental" => Some(cx.adt_is_fundamental(AdtId(of))),
-        "foreign_is_local" => Some(cx.foreign_is_local(ForeignId(of))),
-        "trait_is_local" => Some(cx.trait_is_local(TraitId(of))),
-        "trait_is_fundamental" => Some(cx.trait_is_fundamental(TraitId(of))),
+        "is_local" => Some(cx.is_local(of)),
+        "is_fundamental" => Some(cx.is_fundamental(of)),
         _ => flag(cx, row, of),
     }
 }
 
 /// What is said of the definition or impl, if there is something that the verb asks for.
-pub fn said_of(cx: &Cx, row: Row<'_>, of: u32) -> Option<Item> {
+pub(crate) fn said_of(cx: &Cx, row: Row<'_>, of: u32) -> Option<Item> {
     let item = match row.verb {
         "constraint" => Item::Node(cx.sizedness_constraint(AdtId(of), sizedness(row))?.0),
         "hidden" => Item::Node(cx.hidden_type(AliasId(of))?.0),
         "item_trait" => Item::Definition(cx.assoc_trait(AssocId(of))?.0),
-        "impl_ref" => Item::Reference(cx.impl_trait_ref(ImplId(of))?),
+        "impl_ref" => Item::Reference(cx.impl_contents(ImplId(of))?.trait_ref),
         "lang_item" => Item::Definition(cx.lang_item(lang_item(row.first))?.0),
         verb => match word_of(cx, verb, of) {
             Some(word) => Item::Word(word),

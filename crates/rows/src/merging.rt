@@ -5,8 +5,10 @@ ghost use Rattle.candidate_eval.specs.ResponseTrees.{AreCandidates, IsResponse};
 
 use crate::answers::{Answer, Item};
 use crate::eval::Operands;
+use crate::evaluator::VARIABLES;
 use crate::refusals::Refusal;
 use crate::rows::Row;
+use crate::tables::{UNNAMED, word_for};
 use crate::typed::args_at;
 use candidate_eval::eval::certainty::{Certainty, MaybeCause, MaybeInfo, OpaqueTypesJank};
 use candidate_eval::eval::response::{
@@ -14,14 +16,12 @@ use candidate_eval::eval::response::{
     has_no_inference_or_external_constraints, has_only_region_constraints, try_merge_candidates,
 };
 use candidate_eval::eval::source::{BuiltinImplSource, CandidateSource};
-use candidate_eval::eval::variable::VariableKind;
 use candidate_ir::decl::context::Cx;
-use candidate_ir::ir::heads::VariableSort;
 use candidate_ir::ir::kinds::Args;
 use std::alloc::{AllocError, Global};
 
 /// How sure the words say that an answer is: `yes`, or `ambiguous` or `overflow` with what else is said of it.
-pub fn certainty(words: &str) -> Option<Certainty> {
+pub(crate) fn certainty(words: &str) -> Option<Certainty> {
     let mut said = words.split_whitespace();
     let cause = match said.next()? {
         "yes" => return Some(Certainty::Yes),
@@ -44,7 +44,10 @@ pub fn certainty(words: &str) -> Option<Certainty> {
 }
 
 /// Adds these words.
-pub fn push_certainty(items: &mut Vec<Item>, certainty: Certainty) -> Result<(), AllocError> {
+pub(crate) fn push_certainty(
+    items: &mut Vec<Item>,
+    certainty: Certainty,
+) -> Result<(), AllocError> {
     let Certainty::Maybe(info) = certainty else {
         items.push(Item::Word("yes"))?;
         return Ok(());
@@ -67,38 +70,28 @@ pub fn push_certainty(items: &mut Vec<Item>, certainty: Certainty) -> Result<(),
 }
 
 /// How sure something is.
-pub fn sure(alloc: Global, certainty: Certainty) -> Result<Answer, Refusal> {
+pub(crate) fn sure(alloc: Global, certainty: Certainty) -> Result<Answer, Refusal> {
     let mut items = Vec::new(alloc);
     push_certainty(&mut items, certainty)?;
     Ok(Answer::Row(items))
 }
 
 /// How sure two answers are together.
-pub fn both(alloc: Global, row: Row<'_>) -> Result<Answer, Refusal> {
+pub(crate) fn both(alloc: Global, row: Row<'_>) -> Result<Answer, Refusal> {
     match (certainty(row.left), certainty(row.right)) {
         (Some(left), Some(right)) => sure(alloc, left.and(right)),
         _ => Err(Refusal::Condition),
     }
 }
 
-/// The word of a variable's kind.
-fn variable_word(kind: VariableKind) -> &'static str {
-    match kind {
-        VariableKind::Term(VariableSort::General) => "general",
-        VariableKind::Term(VariableSort::Integer) => "integer",
-        VariableKind::Term(VariableSort::Floating) => "floating",
-        VariableKind::Term(VariableSort::Constant) => "constant",
-        VariableKind::Region => "region",
-    }
-}
-
 /// How sure the response is, the list of its values, the kinds and universes of the variables that it leaves open, and its regions.
-pub fn responded(alloc: Global, response: &CanonicalResponse) -> Result<Answer, Refusal> {
+pub(crate) fn responded(alloc: Global, response: &CanonicalResponse) -> Result<Answer, Refusal> {
     let mut items = Vec::new(alloc);
     push_certainty(&mut items, response.certainty)?;
     items.push(Item::Node(response.values.0))?;
     for var in &response.vars {
-        items.push(Item::Word(variable_word(var.kind)))?;
+        let kind = word_for(&VARIABLES, var.kind).unwrap_or(UNNAMED);
+        items.push(Item::Word(kind))?;
         items.push(Item::Count(var.universe as usize))?;
     }
     for region in &response.regions {
@@ -168,7 +161,12 @@ fn merge(alloc: Global, cx: &Cx, candidates: &[Candidate]) -> Result<Answer, Ref
 }
 
 /// What the row asks of the lists of these numbers.
-pub fn answer(alloc: Global, cx: &Cx, row: Row<'_>, of: Operands) -> Result<Answer, Refusal> {
+pub(crate) fn answer(
+    alloc: Global,
+    cx: &Cx,
+    row: Row<'_>,
+    of: Operands,
+) -> Result<Answer, Refusal> {
     if row.verb == "constraints" {
         return constraints(alloc, cx, of.left);
     }

@@ -7,7 +7,7 @@ use candidate_ir::ir::kinds::{
 
 /// What a number stands for that has a name.
 #[derive(Clone, Copy)]
-pub enum Sort {
+pub(crate) enum Sort {
     Adt,
     Foreign,
     Trait,
@@ -25,16 +25,16 @@ pub enum Sort {
 
 /// A name, and what it was given to.
 #[derive(Clone, Copy)]
-pub struct Name<'a> {
-    pub word: &'a str,
-    pub sort: Sort,
-    pub number: u32,
+pub(crate) struct Name<'a> {
+    pub(crate) word: &'a str,
+    pub(crate) sort: Sort,
+    pub(crate) number: u32,
     /// How many arguments it takes.
-    pub arity: usize,
+    pub(crate) arity: usize,
 }
 
 /// The name of this word that was given last.
-pub fn named<'a>(names: &[Name<'a>], word: &str) -> Option<Name<'a>> {
+pub(crate) fn named<'a>(names: &[Name<'a>], word: &str) -> Option<Name<'a>> {
     let mut found = None;
     for name in names {
         if name.word == word {
@@ -45,7 +45,7 @@ pub fn named<'a>(names: &[Name<'a>], word: &str) -> Option<Name<'a>> {
 }
 
 /// The word of the definition of that number, or of the impl.
-pub fn word_of<'a>(names: &[Name<'a>], number: u32, is_impl: bool) -> Option<&'a str> {
+pub(crate) fn word_of<'a>(names: &[Name<'a>], number: u32, is_impl: bool) -> Option<&'a str> {
     for name in names {
         let is_it = match name.sort {
             Sort::Node => false,
@@ -59,26 +59,23 @@ pub fn word_of<'a>(names: &[Name<'a>], number: u32, is_impl: bool) -> Option<&'a
     None
 }
 
-/// The sort of definition that the word declares.
-pub fn sort_of(word: &str) -> Option<Sort> {
-    match word {
-        "adt" => Some(Sort::Adt),
-        "foreign" => Some(Sort::Foreign),
-        "trait" => Some(Sort::Trait),
-        "assoc" => Some(Sort::AssociatedType),
-        "assoc_const" => Some(Sort::AssociatedConst),
-        "opaque" => Some(Sort::Opaque),
-        "inherent" => Some(Sort::Inherent),
-        "free" => Some(Sort::Free),
-        "fn" => Some(Sort::Function),
-        "closure" => Some(Sort::Closure),
-        "impl" => Some(Sort::Impl),
-        _ => None,
-    }
-}
+/// The words that declare, and the sort of definition that each of them does.
+pub(crate) const SORTS: [(&str, Sort); 11] = [
+    ("adt", Sort::Adt),
+    ("foreign", Sort::Foreign),
+    ("trait", Sort::Trait),
+    ("assoc", Sort::AssociatedType),
+    ("assoc_const", Sort::AssociatedConst),
+    ("opaque", Sort::Opaque),
+    ("inherent", Sort::Inherent),
+    ("free", Sort::Free),
+    ("fn", Sort::Function),
+    ("closure", Sort::Closure),
+    ("impl", Sort::Impl),
+];
 
 /// The type or the constant of the definition over the list, if its sort makes one.
-pub fn over_list(sort: Sort, number: u32, args: Args) -> Option<Part> {
+pub(crate) fn over_list(sort: Sort, number: u32, args: Args) -> Option<Part> {
     let kind = match sort {
         Sort::Adt => return Some(Part::Ty(TyKind::Adt(AdtId(number), args))),
         Sort::Function => return Some(Part::Ty(TyKind::FnDef(FnId(number), args))),

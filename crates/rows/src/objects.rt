@@ -15,9 +15,11 @@ use candidate_eval::structural::object::{
     bound_matches, instantiate_binder_with_infer, matching_bounds, pick_bound,
 };
 use candidate_eval::structural::object_candidate::predicates_for_object_candidate;
+use candidate_ir::decl::make::Make;
 use candidate_ir::ir::kinds::{
     AliasTerm, AssocId, Binder, ClauseKind, PredicatePolarity, TraitPredicate, TyKind,
 };
+use candidate_ir::ir::trees::Trees;
 use candidate_rounds::rounds::Rounds;
 use std::alloc::Global;
 
@@ -102,7 +104,7 @@ fn matches(
 }
 
 /// What the row asks, if it is one of these rows.
-pub fn answer(
+pub(crate) fn answer(
     reader: &Reader<'_>,
     rounds: &mut Rounds,
     row: Row<'_>,

@@ -1,13 +1,14 @@
 //! What is to be made, and in what: while declarations are made a builder, then a context, or what is over one.
 
-ghost use Rattle.std.specs.Prelude.{◌≡◌, ◌<◌, IsTrue, IfSome, List, length};
+ghost use Rattle.std.specs.Prelude.{◌≡◌, IsTrue, IfSome, List};
 ghost use Rattle.candidate_ir.specs.Context.{world};
 ghost use Rattle.candidate_ir.specs.Trees.{Tree, kind_of};
-ghost use Rattle.candidate_ir.specs.Nodes.{tree_at, kind_at};
+ghost use Rattle.candidate_ir.specs.Nodes.{kind_at};
 ghost use Rattle.candidate_ir.specs.Folds.{IsArg};
 ghost use Rattle.candidate_ir.specs.Words.{KindFits, ClauseFits, PredFits, BoundsFit, AtMostOnePrincipal, ListFits, ClauseListFits};
 ghost use Rattle.rows.specs.Parts.{kind_of_sort, PartFits, PartTakes};
 
+use crate::refusals::Refusal;
 use candidate_ir::decl::builder::DeclsBuilder;
 use candidate_ir::decl::context::Cx;
 use candidate_ir::decl::make::Make;
@@ -17,10 +18,11 @@ use candidate_ir::ir::kinds::{
     RegionKind, TyKind, VarKind,
 };
 use candidate_ir::ir::stop::Stop;
+use candidate_ir::ir::trees::Trees;
 
 /// A node to be made.
 #[derive(Drop)]
-pub enum Part {
+pub(crate) enum Part {
     Ty(TyKind),
     Const(ConstKind),
     Region(RegionKind),
@@ -34,7 +36,7 @@ pub enum Part {
 
 /// What a node can be asked to be.
 #[derive(Clone, Copy, PartialEq, Eq)]
-pub enum NodeSort {
+pub(crate) enum NodeSort {
     Ty,
     Const,
     Region,
@@ -51,18 +53,13 @@ pub enum NodeSort {
 }
 
 /// What nodes are made in.
-pub trait Table {
+pub(crate) trait Table {
     /// The trees of the numbers given so far.
     ghost trees: { Self → List Tree };
 
-    /// How many numbers are given.
-    fn node_count(&self) -> usize
-        ensures { result ≡ length (trees self.now) };
-
-    /// The head of a number's tree.
-    fn head(&self, number: u32) -> Head
-        requires { number < length (trees self.now) }
-        ensures { result ≡ (tree_at (trees self.now) number).head };
+    /// The head of the number's tree, if the number is given.
+    fn head_at(&self, number: u32) -> Option<Head>
+        ensures { IfSome result (λ h. kind_of h ≡ kind_at (trees self.now) number) };
 
     /// The number of the node, or none where its arguments aren't those that it takes.
     fn make(&mut self, part: &Part) -> Result<Option<u32>, Stop>
@@ -72,12 +69,12 @@ pub trait Table {
 impl Table for DeclsBuilder {
     ghost trees = { λ b. b.trees };
 
-    fn node_count(&self) -> usize {
-        DeclsBuilder::node_count(self)
-    }
-
-    fn head(&self, number: u32) -> Head {
-        DeclsBuilder::head(self, number)
+    fn head_at(&self, number: u32) -> Option<Head> {
+        if (number as usize) < self.node_count() {
+            Some(self.head(number))
+        } else {
+            None
+        }
     }
 
     fn make(&mut self, part: &Part) -> Result<Option<u32>, Stop> {
@@ -99,12 +96,12 @@ impl Table for DeclsBuilder {
 impl Table for Cx {
     ghost trees = { λ c. c.trees };
 
-    fn node_count(&self) -> usize {
-        Cx::node_count(self)
-    }
-
-    fn head(&self, number: u32) -> Head {
-        Cx::head(self, number)
+    fn head_at(&self, number: u32) -> Option<Head> {
+        if (number as usize) < self.node_count() {
+            Some(self.head(number))
+        } else {
+            None
+        }
     }
 
     fn make(&mut self, part: &Part) -> Result<Option<u32>, Stop> {
@@ -113,7 +110,7 @@ impl Table for Cx {
 }
 
 /// The number of the node, or none where its arguments aren't those that it takes.
-pub fn make_in<M: Make>(make: &mut M, part: &Part) -> Result<Option<u32>, Stop>
+pub(crate) fn make_in<M: Make>(make: &mut M, part: &Part) -> Result<Option<u32>, Stop>
     requires { PartFits (M.context make.old).trees part.now }
 {
     if !takes(make.cx(), part) {
@@ -182,25 +179,21 @@ fn sort_of_head(head: Head) -> NodeSort
 }
 
 /// What the number stands for, if it is given.
-pub fn sort_at<T: Table>(table: &T, number: u32) -> Option<NodeSort>
+pub(crate) fn sort_at<T: Table>(table: &T, number: u32) -> Option<NodeSort>
     ensures { IfSome result (λ s. kind_at (T.trees table.now) number ≡ kind_of_sort s) }
 {
-    if (number as usize) < table.node_count() {
-        Some(sort_of_head(table.head(number)))
-    } else {
-        None
-    }
+    Some(sort_of_head(table.head_at(number)?))
 }
 
 /// Whether the number stands for something of the sort.
-pub fn is_at<T: Table>(table: &T, number: u32, sort: NodeSort) -> bool
+pub(crate) fn is_at<T: Table>(table: &T, number: u32, sort: NodeSort) -> bool
     ensures { IsTrue result → kind_at (T.trees table.now) number ≡ kind_of_sort sort }
 {
     sort_at(table, number) == Some(sort)
 }
 
 /// Whether all numbers in the kind are given, and of their sorts.
-pub fn kind_fits<T: Table>(table: &T, kind: TyKind) -> bool
+pub(crate) fn kind_fits<T: Table>(table: &T, kind: TyKind) -> bool
     ensures { IsTrue result → KindFits (T.trees table.now) kind }
 {
     let (a_type, a_list) = (NodeSort::Ty, NodeSort::Args);
@@ -244,7 +237,7 @@ pub fn kind_fits<T: Table>(table: &T, kind: TyKind) -> bool
 }
 
 /// Whether all numbers in the clause are given, and of their sorts.
-pub fn clause_fits<T: Table>(table: &T, clause: Binder<ClauseKind>) -> bool
+pub(crate) fn clause_fits<T: Table>(table: &T, clause: Binder<ClauseKind>) -> bool
     ensures { IsTrue result → ClauseFits (T.trees table.now) clause }
 {
     if !is_at(table, clause.vars.0, NodeSort::Vars) {
@@ -289,8 +282,12 @@ fn bounds_fit<T: Table>(table: &T, bounds: &[Binder<ExistentialPredicate>]) -> b
     let names_trait = |bound: &&Binder<ExistentialPredicate>| {
         matches!(bound.value, ExistentialPredicate::Trait(_))
     };
+    for bound in bounds {
+        if !bound_fits(table, *bound) {
+            return false;
+        }
+    }
     bounds.iter().filter(names_trait).count() <= 1
-        && bounds.iter().all(|bound| bound_fits(table, *bound))
 }
 
 /// Whether the argument's number is given, and of its sort.
@@ -309,7 +306,12 @@ fn arg_fits<T: Table>(table: &T, arg: GenericArg) -> bool
 fn args_fit<T: Table>(table: &T, list: &[GenericArg]) -> bool
     ensures { IsTrue result → ListFits (T.trees table.now) list.now }
 {
-    list.iter().all(|arg| arg_fits(table, *arg))
+    for arg in list {
+        if !arg_fits(table, *arg) {
+            return false;
+        }
+    }
+    true
 }
 
 /// Whether all clauses are given.
@@ -317,8 +319,12 @@ fn args_fit<T: Table>(table: &T, list: &[GenericArg]) -> bool
 fn clauses_fit<T: Table>(table: &T, list: &[Clause]) -> bool
     ensures { IsTrue result → ClauseListFits (T.trees table.now) list.now }
 {
-    list.iter()
-        .all(|clause| is_at(table, clause.0, NodeSort::Clause))
+    for clause in list {
+        if !is_at(table, clause.0, NodeSort::Clause) {
+            return false;
+        }
+    }
+    true
 }
 
 /// Whether all numbers in the part are given, and of their sorts.
@@ -341,11 +347,11 @@ fn fits<T: Table>(table: &T, part: &Part) -> bool
     }
 }
 
-/// The number of the node, if the numbers in it are given and of their sorts, and its arguments are those that it takes.
-pub fn make<T: Table>(table: &mut T, part: &Part) -> Result<Option<u32>, Stop> {
-    if fits(table, part) {
-        table.make(part)
-    } else {
-        Ok(None)
+/// The number of the node. `Refusal::Condition` comes where the numbers in it aren't given or of their sorts, or its arguments aren't
+/// those that it takes.
+pub(crate) fn make<T: Table>(table: &mut T, part: &Part) -> Result<u32, Refusal> {
+    if !fits(table, part) {
+        return Err(Refusal::Condition);
     }
+    table.make(part)?.ok_or(Refusal::Condition)
 }

@@ -12,6 +12,7 @@ use candidate_ir::ir::kinds::{
     AliasKind, ClosureKind, FloatTy, IntTy, Mutability, PredicatePolarity, RegionKind, UintTy,
     VarKind,
 };
+use candidate_ir::ir::trees::Trees;
 use std::alloc::AllocError;
 
 /// What is printed for a head.
@@ -136,7 +137,7 @@ fn head_word(head: Head) -> Word {
 }
 
 /// Writes the name of the definition, or its number where it has none.
-pub fn write_definition(
+pub(crate) fn write_definition(
     out: &mut String,
     names: &[Name<'_>],
     number: u32,
@@ -148,7 +149,11 @@ pub fn write_definition(
 }
 
 /// Writes what is printed for the head.
-pub fn write_head(out: &mut String, names: &[Name<'_>], head: Head) -> Result<(), AllocError> {
+pub(crate) fn write_head(
+    out: &mut String,
+    names: &[Name<'_>],
+    head: Head,
+) -> Result<(), AllocError> {
     match head_word(head) {
         Word::Plain(word) => out.push_str(word),
         Word::Marked(mark, number) => write!(out, "{mark}{number}"),
@@ -161,7 +166,7 @@ pub fn write_head(out: &mut String, names: &[Name<'_>], head: Head) -> Result<()
 }
 
 /// Writes the tree of the number: its root, and behind it in parentheses what stands below.
-pub fn write_tree(
+pub(crate) fn write_tree(
     out: &mut String,
     names: &[Name<'_>],
     cx: &Cx,

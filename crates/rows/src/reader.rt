@@ -2,11 +2,12 @@
 
 use crate::answers::{Answer, Item};
 use crate::leaves::{leaf, number_in};
-use crate::names::{Name, Sort, named, over_list, sort_of};
+use crate::names::{Name, SORTS, Sort, named, over_list};
 use crate::operators::{node_over, value_over};
 use crate::parts::{NodeSort, Part, Table, is_at, make, sort_at};
 use crate::refusals::Refusal;
 use crate::rows::Row;
+use crate::tables::value_of;
 use crate::values::{Last, Value};
 use candidate_ir::ir::kinds::{
     Args, Clause, Const, GenericArg, Region, TraitId, TraitRef, Ty, VarKind,
@@ -15,20 +16,20 @@ use std::alloc::{AllocError, Global};
 
 /// The names that were given, and the values that words left.
 #[derive(Drop)]
-pub struct Reader<'a> {
-    pub alloc: Global,
-    pub names: Vec<Name<'a>>,
+pub(crate) struct Reader<'a> {
+    pub(crate) alloc: Global,
+    pub(crate) names: Vec<Name<'a>>,
     /// Nodes that rows noted, to be compared with others.
-    pub members: Vec<u32>,
+    pub(crate) members: Vec<u32>,
     values: Vec<Value>,
     /// The kinds of the parameters of what is declared.
-    pub kinds: Vec<VarKind>,
+    pub(crate) kinds: Vec<VarKind>,
     /// The node that was answered last.
     it: u32,
 }
 
 /// The kinds of the letters: `T` is a type, `C` a constant, any other a region.
-pub fn kinds(alloc: Global, letters: &str) -> Result<Vec<VarKind>, AllocError> {
+pub(crate) fn kinds(alloc: Global, letters: &str) -> Result<Vec<VarKind>, AllocError> {
     let mut kinds = Vec::new(alloc);
     for letter in letters.bytes() {
         let kind = match letter {
@@ -42,7 +43,7 @@ pub fn kinds(alloc: Global, letters: &str) -> Result<Vec<VarKind>, AllocError> {
 }
 
 impl<'a> Reader<'a> {
-    pub fn new(alloc: Global) -> Self {
+    pub(crate) fn new(alloc: Global) -> Self {
         Reader {
             alloc,
             names: Vec::new(alloc),
@@ -54,7 +55,11 @@ impl<'a> Reader<'a> {
     }
 
     /// Gives the node of the row a name.
-    pub fn name_node<T: Table>(&mut self, table: &mut T, row: Row<'a>) -> Result<Answer, Refusal> {
+    pub(crate) fn name_node<T: Table>(
+        &mut self,
+        table: &mut T,
+        row: Row<'a>,
+    ) -> Result<Answer, Refusal> {
         let number = self.operand(table, row.left)?.node();
         self.names.push(Name {
             word: row.first,
@@ -66,7 +71,7 @@ impl<'a> Reader<'a> {
     }
 
     /// Notes the node that is answered. A row that has the word `quiet` doesn't print it.
-    pub fn noted(
+    pub(crate) fn noted(
         &mut self,
         row: Row<'a>,
         outcome: Result<Answer, Refusal>,
@@ -81,7 +86,7 @@ impl<'a> Reader<'a> {
     }
 
     /// The number of what is named so, or the one whose digits stand in the word or behind its `@`; of another word that of nothing.
-    pub fn number(&self, word: &str) -> u32 {
+    pub(crate) fn number(&self, word: &str) -> u32 {
         match named(self.names.as_slice(), word) {
             Some(name) => name.number,
             None => number_in(word.strip_prefix('@').unwrap_or(word)),
@@ -89,7 +94,11 @@ impl<'a> Reader<'a> {
     }
 
     /// The value of the operand, or nothing where there is none. Words that leave more than one value, or none, say nothing.
-    pub fn operand<T: Table>(&mut self, table: &mut T, text: &'a str) -> Result<Value, Refusal> {
+    pub(crate) fn operand<T: Table>(
+        &mut self,
+        table: &mut T,
+        text: &'a str,
+    ) -> Result<Value, Refusal> {
         self.values.clear();
         for word in text.split_whitespace() {
             let (times, words) = word.split_once('*').unwrap_or(("1", word));
@@ -147,7 +156,7 @@ impl<'a> Reader<'a> {
                 let _ = self.values.pop();
                 Name {
                     word,
-                    sort: sort_of(sort).ok_or(Refusal::UnknownWord)?,
+                    sort: value_of(&SORTS, sort).ok_or(Refusal::UnknownWord)?,
                     number,
                     arity: 0,
                 }
@@ -221,10 +230,8 @@ impl<'a> Reader<'a> {
         count: usize,
         part: &Part,
     ) -> Result<(), Refusal> {
-        match make(table, part)? {
-            Some(number) => self.push(count, Value::Node(number)),
-            None => Err(Refusal::Condition),
-        }
+        let number = make(table, part)?;
+        self.push(count, Value::Node(number))
     }
 }
 

@@ -8,7 +8,7 @@ use std::alloc::{AllocError, AllocFailed};
 
 /// Why a row has no answer.
 #[derive(Clone, Copy)]
-pub enum Refusal {
+pub(crate) enum Refusal {
     /// A call that the row asks for may not be made of its operands.
     Condition,
     /// A word is no name, and makes nothing.

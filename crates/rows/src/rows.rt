@@ -2,19 +2,19 @@
 
 /// A row's verb and the words that follow it, and the operands, each behind a `|`.
 #[derive(Clone, Copy)]
-pub struct Row<'a> {
-    pub verb: &'a str,
-    pub first: &'a str,
-    pub second: &'a str,
+pub(crate) struct Row<'a> {
+    pub(crate) verb: &'a str,
+    pub(crate) first: &'a str,
+    pub(crate) second: &'a str,
     /// All words.
     words: &'a str,
-    pub left: &'a str,
-    pub right: &'a str,
-    pub third: &'a str,
+    pub(crate) left: &'a str,
+    pub(crate) right: &'a str,
+    pub(crate) third: &'a str,
 }
 
 impl<'a> Row<'a> {
-    pub fn new(line: &'a str) -> Self {
+    pub(crate) fn new(line: &'a str) -> Self {
         let (words, operands) = line.split_once(" | ").unwrap_or((line, ""));
         let (left, operands) = operands.split_once(" | ").unwrap_or((operands, ""));
         let (right, third) = operands.split_once(" | ").unwrap_or((operands, ""));
@@ -33,7 +33,7 @@ impl<'a> Row<'a> {
     }
 
     /// Whether the word is among those of the row.
-    pub fn has(self, word: &str) -> bool {
+    pub(crate) fn has(self, word: &str) -> bool {
         for each in self.words.split_whitespace() {
             if each == word {
                 return true;

@@ -13,7 +13,7 @@ use std::alloc::{AllocError, Global};
 
 /// What rows are asked of.
 #[derive(Drop)]
-pub enum Phase {
+pub(crate) enum Phase {
     /// Nothing is declared.
     Outside,
     Declaring(DeclsBuilder),
@@ -23,8 +23,8 @@ pub enum Phase {
 
 /// The rows that are left, what was printed, and the names.
 #[derive(Drop)]
-pub struct Session<'a> {
-    pub reader: Reader<'a>,
+pub(crate) struct Session<'a> {
+    pub(crate) reader: Reader<'a>,
     out: String,
     /// Whether all was printed; what comes behind a growth that was refused is not.
     written: Result<(), AllocError>,
@@ -65,7 +65,7 @@ fn is_refused_growth(outcome: &Result<Answer, Refusal>) -> bool {
 
 impl<'a> Session<'a> {
     /// The next row, which is printed. What is empty or begins with `//` is printed, too, but is no row.
-    pub fn next_row(&mut self) -> Option<Row<'a>> {
+    pub(crate) fn next_row(&mut self) -> Option<Row<'a>> {
         for _ in 0..u64::MAX {
             if self.rest.is_empty() {
                 break;
@@ -88,7 +88,7 @@ impl<'a> Session<'a> {
     }
 
     /// Prints the answer behind its row, and says whether memory was refused to it, so that it is to be asked again.
-    pub fn print(&mut self, cx: Option<&Cx>, outcome: Result<Answer, Refusal>) -> bool {
+    pub(crate) fn print(&mut self, cx: Option<&Cx>, outcome: Result<Answer, Refusal>) -> bool {
         let is_again = is_refused_growth(&outcome);
         if self.written.is_ok() {
             let names = self.reader.names.as_slice();
@@ -98,7 +98,7 @@ impl<'a> Session<'a> {
     }
 
     /// Prints that the row is done.
-    pub fn print_done(&mut self) {
+    pub(crate) fn print_done(&mut self) {
         self.print(None, Ok(Answer::One(Item::Done)));
     }
 

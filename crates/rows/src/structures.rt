@@ -4,6 +4,7 @@ use crate::answers::{Answer, Item};
 use crate::lookups;
 use crate::refusals::Refusal;
 use crate::rows::Row;
+use crate::tables::value_of;
 use crate::typed::{args_at, ty_at};
 use candidate_eval::structural::callable::{
     CallableId, extract_fn_def_from_const_callable, extract_tupled_inputs_and_output_from_callable,
@@ -12,14 +13,15 @@ use candidate_eval::structural::callable::{
 use candidate_eval::structural::destruct::const_conditions_for_destruct;
 use candidate_eval::structural::required::{own_bounds, requirements};
 use candidate_eval::structural::tables::{
-    has_auto_trait_cell, has_copy_clone_trait_cell, has_destruct_cell, has_sizedness_trait_cell,
-    instantiate_constituent_tys_for_auto_trait, instantiate_constituent_tys_for_copy_clone_trait,
+    has_cell, instantiate_constituent_tys_for_auto_trait,
+    instantiate_constituent_tys_for_copy_clone_trait,
     instantiate_constituent_tys_for_sizedness_trait,
 };
-use candidate_eval::structural::{Constituents, Under};
+use candidate_eval::structural::{Column, Constituents, Under};
 use candidate_ir::decl::contents::Sizedness;
 use candidate_ir::decl::context::Cx;
 use candidate_ir::ir::kinds::{Binder, ClosureKind, TraitRef, Ty, TyKind};
+use candidate_ir::ir::trees::Trees;
 use std::alloc::{AllocError, Global};
 
 /// What the row answers where a type has no cell in the column.
@@ -34,16 +36,16 @@ fn constituents(
 ) -> Result<Option<Constituents>, Refusal> {
     let ty = ty_at(cx, number)?;
     let found = match column {
-        "auto" if has_auto_trait_cell(cx, ty) => {
+        "auto" if has_cell(cx, Column::Auto, ty) => {
             instantiate_constituent_tys_for_auto_trait(alloc, cx, ty)
         }
-        "sized" if has_sizedness_trait_cell(cx, Sizedness::Sized, ty) => {
+        "sized" if has_cell(cx, Column::Sizedness(Sizedness::Sized), ty) => {
             instantiate_constituent_tys_for_sizedness_trait(alloc, cx, Sizedness::Sized, ty)
         }
-        "meta_sized" if has_sizedness_trait_cell(cx, Sizedness::MetaSized, ty) => {
+        "meta_sized" if has_cell(cx, Column::Sizedness(Sizedness::MetaSized), ty) => {
             instantiate_constituent_tys_for_sizedness_trait(alloc, cx, Sizedness::MetaSized, ty)
         }
-        "copy" if has_copy_clone_trait_cell(cx, ty) => {
+        "copy" if has_cell(cx, Column::CopyClone, ty) => {
             instantiate_constituent_tys_for_copy_clone_trait(alloc, cx, ty)
         }
         "auto" | "sized" | "meta_sized" | "copy" => return Ok(None),
@@ -67,7 +69,7 @@ fn listed(alloc: Global, found: &Constituents) -> Result<Answer, Refusal> {
 /// The references that have to hold for the type to be dropped.
 fn conditions(alloc: Global, cx: &mut Cx, number: u32) -> Result<Answer, Refusal> {
     let ty = ty_at(cx, number)?;
-    if !has_destruct_cell(cx, ty) {
+    if !has_cell(cx, Column::Destruct, ty) {
         return Ok(EXCLUDED);
     }
     let mut items = Vec::new(alloc);
@@ -87,14 +89,12 @@ fn cell(alloc: Global, cx: &mut Cx, column: &str, number: u32) -> Result<Answer,
     }
 }
 
-fn closure_kind(word: &str) -> Option<ClosureKind> {
-    match word {
-        "fn" => Some(ClosureKind::Fn),
-        "fn_mut" => Some(ClosureKind::FnMut),
-        "fn_once" => Some(ClosureKind::FnOnce),
-        _ => None,
-    }
-}
+/// The ways to call.
+const CALLS: [(&str, ClosureKind); 3] = [
+    ("fn", ClosureKind::Fn),
+    ("fn_mut", ClosureKind::FnMut),
+    ("fn_once", ClosureKind::FnOnce),
+];
 
 /// Adds the binder, the inputs and the output.
 fn push_callable(items: &mut Vec<Item>, found: Binder<(Ty, Ty)>) -> Result<(), AllocError> {
@@ -148,7 +148,7 @@ fn said(alloc: Global, cx: &mut Cx, number: u32) -> Result<Answer, Refusal> {
 }
 
 /// What an object of the reference's trait has to fulfil.
-pub fn required(alloc: Global, cx: &mut Cx, reference: TraitRef) -> Result<Answer, Refusal> {
+pub(crate) fn required(alloc: Global, cx: &mut Cx, reference: TraitRef) -> Result<Answer, Refusal> {
     let args = args_at(cx, reference.args.0)?;
     let def_id = reference.def_id;
     let list = requirements(alloc, cx, TraitRef { def_id, args })?;
@@ -156,12 +156,17 @@ pub fn required(alloc: Global, cx: &mut Cx, reference: TraitRef) -> Result<Answe
 }
 
 /// What the row asks of the type of that number.
-pub fn answer(alloc: Global, cx: &mut Cx, row: Row<'_>, number: u32) -> Result<Answer, Refusal> {
+pub(crate) fn answer(
+    alloc: Global,
+    cx: &mut Cx,
+    row: Row<'_>,
+    number: u32,
+) -> Result<Answer, Refusal> {
     match row.verb {
         "cell" => cell(alloc, cx, row.first, number),
         "const_call" => const_call(alloc, cx, number),
         "own_bounds" => said(alloc, cx, number),
-        _ => match closure_kind(row.first) {
+        _ => match value_of(&CALLS, row.first) {
             Some(kind) => call(alloc, cx, kind, number),
             None => Err(Refusal::Condition),
         },

@@ -9,7 +9,7 @@ use crate::refusals::Refusal;
 use candidate_ir::decl::context::Cx;
 use candidate_ir::ir::kinds::{Args, Clause, Const, GenericArg, ParamEnv, Region, Ty};
 
-pub fn ty_at(cx: &Cx, number: u32) -> Result<Ty, Refusal>
+pub(crate) fn ty_at(cx: &Cx, number: u32) -> Result<Ty, Refusal>
     ensures { IfOk result (λ x. IsTy cx.now.trees x) }
 {
     if is_at(cx, number, NodeSort::Ty) {
@@ -19,7 +19,7 @@ pub fn ty_at(cx: &Cx, number: u32) -> Result<Ty, Refusal>
     }
 }
 
-pub fn args_at(cx: &Cx, number: u32) -> Result<Args, Refusal>
+pub(crate) fn args_at(cx: &Cx, number: u32) -> Result<Args, Refusal>
     ensures { IfOk result (λ x. IsArgs cx.now.trees x) }
 {
     if is_at(cx, number, NodeSort::Args) {
@@ -29,7 +29,7 @@ pub fn args_at(cx: &Cx, number: u32) -> Result<Args, Refusal>
     }
 }
 
-pub fn clause_at(cx: &Cx, number: u32) -> Result<Clause, Refusal>
+pub(crate) fn clause_at(cx: &Cx, number: u32) -> Result<Clause, Refusal>
     ensures { IfOk result (λ x. IsClause cx.now.trees x) }
 {
     if is_at(cx, number, NodeSort::Clause) {
@@ -39,7 +39,7 @@ pub fn clause_at(cx: &Cx, number: u32) -> Result<Clause, Refusal>
     }
 }
 
-pub fn env_at(cx: &Cx, number: u32) -> Result<ParamEnv, Refusal>
+pub(crate) fn env_at(cx: &Cx, number: u32) -> Result<ParamEnv, Refusal>
     ensures { IfOk result (λ x. IsParamEnv cx.now.trees x) }
 {
     if is_at(cx, number, NodeSort::Env) {
@@ -50,7 +50,7 @@ pub fn env_at(cx: &Cx, number: u32) -> Result<ParamEnv, Refusal>
 }
 
 /// The type, the constant or the region of that number.
-pub fn arg_at(cx: &Cx, number: u32) -> Result<GenericArg, Refusal>
+pub(crate) fn arg_at(cx: &Cx, number: u32) -> Result<GenericArg, Refusal>
     ensures { IfOk result (λ x. IsArg cx.now.trees x) }
 {
     match sort_at(cx, number) {

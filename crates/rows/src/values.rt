@@ -8,7 +8,7 @@ const NOWHERE: u32 = u32::MAX;
 
 /// What a word leaves.
 #[derive(Clone, Copy)]
-pub enum Value {
+pub(crate) enum Value {
     /// There is none.
     Nothing,
     /// A type, a constant, a region, a list, the variables of a binder, or another node.
@@ -25,11 +25,11 @@ pub enum Value {
 }
 
 /// The last four values, the last of all first.
-pub type Last = [Value; 4];
+pub(crate) type Last = [Value; 4];
 
 impl Value {
     /// The number of the node or of the definition, or no number of any.
-    pub fn node(self) -> u32 {
+    pub(crate) fn node(self) -> u32 {
         match self {
             Value::Node(number) | Value::Definition(number) => number,
             _ => NOWHERE,
@@ -37,7 +37,7 @@ impl Value {
     }
 
     /// The reference, or one to no trait.
-    pub fn reference(self) -> TraitRef {
+    pub(crate) fn reference(self) -> TraitRef {
         match self {
             Value::Reference(reference) => reference,
             _ => TraitRef {

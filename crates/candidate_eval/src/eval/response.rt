@@ -18,6 +18,7 @@ use candidate_ir::decl::Cx;
 use candidate_ir::decl::make::Make;
 use candidate_ir::ir::kinds::{Args, Clause, GenericArg};
 use candidate_ir::ir::stop::Stop;
+use candidate_ir::ir::trees::Trees;
 use std::alloc::{AllocError, Global};
 use std::fmt;
 
@@ -84,7 +85,7 @@ fn same_clauses(cx: &Cx, a: &[Clause], b: &[Clause]) -> bool
         return false;
     }
     for i in 0..a.len() {
-        if !cx.same_clause(a[i], b[i]) {
+        if !cx.same(a[i], b[i]) {
             return false;
         }
     }
@@ -106,7 +107,7 @@ fn same_values(cx: &Cx, a: &CanonicalResponse, b: &CanonicalResponse) -> bool
     requires b { IsResponse cx.now.trees b.now }
     ensures { result ≡ same_forest (response_of cx.now.trees a.now).values (response_of cx.now.trees b.now).values }
 {
-    cx.same_args(a.values, b.values)
+    cx.same(a.values, b.values)
 }
 
 /// Whether two responses are equal in all their parts.

@@ -3,8 +3,9 @@
 ghost use Rattle.std.specs.Prelude.{◌≡◌, false};
 ghost use Rattle.candidate_ir.specs.Context.{world};
 ghost use Rattle.candidate_ir.specs.Lookups as lookup;
-ghost use Rattle.candidate_eval.specs.Asked.{owned_asked, alias_asked, auto_asked, unsized_asked, sizedness_asked, copy_asked, dropped_asked, destruct_asked};
+ghost use Rattle.candidate_eval.specs.Asked.{owned_asked, alias_asked, auto_asked, unsized_asked, sizedness_asked, copy_asked, dropped_asked, destruct_asked, asked_for};
 
+use crate::structural::Column;
 use candidate_ir::decl::{Cx, Sizedness};
 use candidate_ir::ir::kinds::{
     AdtId, AliasId, AliasKind, AliasTy, Args, Binder, InferTy, Ty, TyKind,
@@ -55,7 +56,7 @@ fn hidden_type(alias: AliasTy) -> Asked
 }
 
 /// The column of auto traits.
-pub(crate) fn asked_for_auto_trait(cx: &Cx, kind: TyKind) -> Asked
+fn asked_for_auto_trait(cx: &Cx, kind: TyKind) -> Asked
     ensures { result ≡ auto_asked cx.now kind }
 {
     match kind {
@@ -95,7 +96,7 @@ fn unsized_type(sizedness: Sizedness) -> Asked
 }
 
 /// The column of sizedness traits.
-pub(crate) fn asked_for_sizedness_trait(sizedness: Sizedness, kind: TyKind) -> Asked
+fn asked_for_sizedness_trait(sizedness: Sizedness, kind: TyKind) -> Asked
     ensures { result ≡ sizedness_asked sizedness kind }
 {
     match kind {
@@ -124,7 +125,7 @@ pub(crate) fn asked_for_sizedness_trait(sizedness: Sizedness, kind: TyKind) -> A
 }
 
 /// The column of `Copy`, `Clone` and `TrivialClone`.
-pub(crate) fn asked_for_copy_clone_trait(kind: TyKind) -> Asked
+fn asked_for_copy_clone_trait(kind: TyKind) -> Asked
     ensures { result ≡ copy_asked kind }
 {
     match kind {
@@ -169,7 +170,7 @@ fn dropped_types(cx: &Cx, adt: AdtId, args: Args) -> Asked
 }
 
 /// The column of `Destruct`, without what the type itself has to meet.
-pub(crate) fn asked_for_destruct(cx: &Cx, kind: TyKind) -> Asked
+fn asked_for_destruct(cx: &Cx, kind: TyKind) -> Asked
     ensures { result ≡ destruct_asked cx.now kind }
 {
     match kind {
@@ -196,5 +197,17 @@ pub(crate) fn asked_for_destruct(cx: &Cx, kind: TyKind) -> Asked
         | TyKind::Param(_)
         | TyKind::Placeholder(_)
         | TyKind::Bound(_) => Asked::Refused,
+    }
+}
+
+/// What the column asks about, by the type's kind.
+pub(crate) fn asked_for(cx: &Cx, column: Column, kind: TyKind) -> Asked
+    ensures { result ≡ asked_for cx.now column kind }
+{
+    match column {
+        Column::Auto => asked_for_auto_trait(cx, kind),
+        Column::Sizedness(sizedness) => asked_for_sizedness_trait(sizedness, kind),
+        Column::CopyClone => asked_for_copy_clone_trait(kind),
+        Column::Destruct => asked_for_destruct(cx, kind),
     }
 }

@@ -1,11 +1,9 @@
 //! What can be called: with which inputs, as one tuple, and to which output.
 
 ghost use Rattle.std.specs.Prelude.{◌≡◌, ◌↔◌, ◌∷◌, [], IsTrue, IfOk, IfErr, IfSome, Some, None, false, true, length};
-ghost use Rattle.std.specs.List.{list_all};
 ghost use Rattle.candidate_ir.specs.Context.{Grows, world};
 ghost use Rattle.candidate_ir.specs.Folding.{IsSubstStop, lacks_argument, substituted_tree};
 ghost use Rattle.candidate_ir.specs.Lookups.{definition, fn_flags};
-ghost use Rattle.candidate_ir.specs.Parameters.{is_type_arg};
 ghost use Rattle.candidate_ir.specs.References.{Takes};
 ghost use Rattle.candidate_ir.specs.Signatures.{SignatureHas};
 ghost use Rattle.candidate_ir.specs.Substitutions.{alone};
@@ -20,14 +18,14 @@ ghost use Rattle.candidate_eval.specs.Callable as seen;
 use crate::eval::refusal::NoSolutionOrStop;
 use crate::structural::tables::{is_no_unknown, kind_of};
 use candidate_ir::decl::Cx;
-use candidate_ir::decl::definition::FnFlags;
+use candidate_ir::decl::definition::{FnFlags, are_type_args};
 use candidate_ir::decl::make::Make;
 use candidate_ir::decl::subst::subst_sig;
 use candidate_ir::ir::kinds::{
-    Args, Binder, ClosureArgs, ClosureId, ClosureKind, ClosureSig, FnId, FnSig, GenericArg, Sig,
-    Ty, TyKind,
+    Args, Binder, ClosureArgs, ClosureId, ClosureKind, ClosureSig, FnId, FnSig, Sig, Ty, TyKind,
 };
 use candidate_ir::ir::stop::Stop;
+use candidate_ir::ir::trees::Trees;
 use std::alloc::Global;
 
 /// What is called where a constant is computed.
@@ -59,23 +57,18 @@ pub fn extends(kind: ClosureKind, asked: ClosureKind) -> bool
     }
 }
 
-fn paired(sig: Binder<ClosureSig>) -> Binder<(Ty, Ty)>
-    ensures { result ≡ record { vars = sig.vars; value = (sig.value.inputs, sig.value.output) } }
-{
-    Binder {
-        vars: sig.vars,
-        value: (sig.value.inputs, sig.value.output),
-    }
-}
-
 /// The inputs, as a tuple, and the output of a closure's signature as they stand.
-#[tactic(auto, using(crate::proofs::Callables::signature_read, crate::proofs::Callables::signature_fits))]
+#[tactic(auto, using(crate::proofs::Callables::signature_fits))]
 fn signature(cx: &Cx, sig: Sig) -> Binder<(Ty, Ty)>
     requires { IsSig cx.now.trees sig }
     ensures sort { IsCallable cx.now.trees result }
     ensures callable { callable_of cx.now.trees result ≡ signature_callable (sig_tree cx.now.trees sig) }
 {
-    paired(cx.sig(sig))
+    let sig = cx.sig(sig);
+    Binder {
+        vars: sig.vars,
+        value: (sig.value.inputs, sig.value.output),
+    }
 }
 
 /// The inputs, as a tuple, and the output of a closure that is called as is asked, under the binder
@@ -145,25 +138,13 @@ pub fn inputs_and_output_of_fn_ptr<M: Make>(
     Ok(tupled(make, sig)?)
 }
 
-fn is_type(arg: GenericArg) -> bool
-    ensures { result ≡ is_type_arg arg }
-{
-    matches!(arg, GenericArg::Ty(_))
-}
-
-fn all_types(list: &[GenericArg]) -> bool
-    ensures { result ≡ list_all is_type_arg list.now }
-{
-    list.iter().all(|arg| is_type(*arg))
-}
-
 /// Whether all arguments of the list are types.
 #[tactic(auto, using(crate::proofs::Callables::types_read))]
 fn are_types(cx: &Cx, list: Args) -> bool
     requires { IsArgs cx.now.trees list }
     ensures { result ≡ are_types (args_forest cx.now.trees list) }
 {
-    all_types(cx.args(list))
+    are_type_args(cx.args(list))
 }
 
 /// Whether a function with these flags and this signature can be called.

@@ -7,19 +7,19 @@ ghost use Rattle.candidate_ir.specs.Substitutions.{alone};
 ghost use Rattle.candidate_ir.specs.WellFormed.{TypesFit};
 ghost use Rattle.candidate_ir.specs.Words.{IsTy, ty_tree};
 ghost use Rattle.candidate_eval.specs.Tables.{row_of, is_excluded, IsTypesStop};
-ghost use Rattle.candidate_eval.specs.Asked.{AskedFits, asked_cell};
 ghost use Rattle.candidate_eval.specs.Destruct.{meets, references_of, AreReferences, own_destructor, own_conditions, kind_destructor, own_drop_of, own_references, all_references, destruct_conditions, IsConditionsStop};
 ghost use Rattle.candidate_eval.specs.Destruct as seen;
 ghost use Rattle.std.specs.Prelude.{true};
 
 use crate::eval::refusal::NoSolutionOrStop;
-use crate::structural::asked::{Asked, asked_for_destruct};
+use crate::structural::Column;
 use crate::structural::making::made;
-use crate::structural::tables::{is_refused as is_refused_cell, kind_of};
+use crate::structural::tables::{cell, is_refused as is_refused_cell};
 use candidate_ir::decl::make::Make;
 use candidate_ir::decl::{Cx, Destructor, LangItem};
 use candidate_ir::ir::kinds::{GenericArg, TraitId, TraitRef, Ty, TyKind};
 use candidate_ir::ir::stop::Stop;
+use candidate_ir::ir::trees::Trees;
 use std::alloc::Global;
 
 /// What a type itself has to meet.
@@ -76,17 +76,6 @@ fn own_condition(cx: &Cx, ty: Ty) -> OwnDrop
     ensures none { seen.is_refused result ≡ true → own_conditions cx.now (ty_tree cx.now.trees ty) (own_destructor cx.now (ty_tree cx.now.trees ty).head) ≡ None }
 {
     own_drop(cx, destructor_of(cx, cx.kind(ty)))
-}
-
-/// What the column of `Destruct` asks about.
-#[tactic(auto, using(crate::proofs::Cells::destruct_cell_of, crate::proofs::Cells::destruct_fits))]
-fn destruct_cell(cx: &Cx, ty: Ty) -> Asked
-    requires ty { IsTy cx.now.trees ty }
-    requires known { is_excluded (row_of cx.now (ty_tree cx.now.trees ty)).destruct ≡ false }
-    ensures fits { AskedFits cx.now result }
-    ensures cell { asked_cell cx.now result ≡ (row_of cx.now (ty_tree cx.now.trees ty)).destruct }
-{
-    asked_for_destruct(cx, kind_of(cx, ty))
 }
 
 /// Adds that the trait holds of the type.
@@ -185,7 +174,7 @@ fn all_conditions<M: Make>(
 /// that are dropped with it are `Destruct`, and then, where it has a destructor that constants can run,
 /// that it is `Drop`.
 ///
-/// No general variable and no bound type is asked about (`has_destruct_cell`). `NoSolution` comes where the table refuses the type, where its destructor is none that constants
+/// No general variable and no bound type is asked about (`has_cell`). `NoSolution` comes where the table refuses the type, where its destructor is none that constants
 /// can run, and where a trait that is needed isn't declared. `Stop::Memory` comes where a growth was
 /// refused, `Stop::NodesFull` where a type or its reference was not made, as by `subst`; after a stop the
 /// nodes that were made stay.
@@ -204,7 +193,7 @@ pub fn const_conditions_for_destruct<M: Make>(
     ensures refused { IfErr result (λ e. e ≡ NoSolutionOrStop.NoSolution → destruct_conditions (M.context make.old) (ty_tree (M.context make.old).trees ty) ≡ None) }
     ensures cause { IfErr result (λ e. (s : Stop) → e ≡ NoSolutionOrStop.Stop s → IsConditionsStop (length (M.context make.new).trees) (destruct_conditions (M.context make.old) (ty_tree (M.context make.old).trees ty)) s) }
 {
-    let asked = destruct_cell(make.cx(), ty);
+    let asked = cell(make.cx(), Column::Destruct, ty);
     let own = own_condition(make.cx(), ty);
     let of = match make.cx().lang_item(LangItem::Destruct) {
         Some(of) => of,

@@ -2,10 +2,8 @@
 
 ghost use Rattle.std.specs.Prelude.{◌≡◌, [], ◌∷◌, ◌++◌, map, Some, None, MatchOption, IfOk, IfErr, OnOk, true, false};
 ghost use Rattle.candidate_ir.specs.Context.{Grows};
-ghost use Rattle.candidate_ir.specs.Opening.{opened_clause};
 ghost use Rattle.candidate_ir.specs.Words.{IsArgs, IsClause, IsParamEnv, IsTy, ClauseListFits, args_forest, clause_tree, env_forest, ty_tree};
-ghost use Rattle.candidate_eval.specs.Characterization.{bound_kinds};
-ghost use Rattle.candidate_eval.specs.Evaluators.{IsEvaluatorRefusal, IsEvaluatorStop, IsMakingStop, Keeps, kinds_listed};
+ghost use Rattle.candidate_eval.specs.Evaluators.{IsEvaluatorRefusal, IsEvaluatorStop, Keeps};
 ghost use Rattle.candidate_eval.specs.Objects.{is_about, IsBound, fresh_instance, with_instance, bound_equated, is_equated, projection_at, term_in, Tried, IsPicked, IsPickedAtOnce, IsExact, IsAmbiguous, IsObjectError};
 ghost use Rattle.candidate_eval.specs.Objects as seen;
 ghost use Rattle.candidate_eval.specs.States.{is_some};
@@ -14,13 +12,13 @@ ghost use Rattle.candidate_eval.specs.declared.structural.object.AmbiguousOrStop
 use crate::eval::context::{EvalCtxt, ProbeKind};
 use crate::eval::refusal::NoSolutionOrStop;
 use candidate_ir::decl::Cx;
-use candidate_ir::decl::make::Make;
 use candidate_ir::decl::open::{binder_kinds, open_clause};
 use candidate_ir::ir::kinds::{
-    AliasTerm, Args, AssocId, Clause, ClauseKind, ParamEnv, ProjectionPredicate, Ty, VarKind,
+    AliasTerm, AssocId, Clause, ClauseKind, ParamEnv, ProjectionPredicate, Ty,
 };
 use candidate_ir::ir::stop::Stop;
-use std::alloc::{AllocError, Global};
+use candidate_ir::ir::trees::Trees;
+use std::alloc::Global;
 
 /// Too little is known to say what a projection is; or a call gave up.
 #[derive(Clone, Copy, Debug, PartialEq, Eq)]
@@ -54,32 +52,6 @@ pub(crate) fn bound_about(cx: &Cx, bound: Clause, item: AssocId) -> Option<Proje
     }
 }
 
-/// The kinds of the variables of a clause's binder.
-fn kinds_bound(alloc: Global, cx: &Cx, clause: Clause) -> Result<Vec<VarKind>, AllocError>
-    requires { IsClause cx.now.trees clause }
-    ensures { IfOk result (λ v. kinds_listed v.items ≡ bound_kinds (clause_tree cx.now.trees clause).children) }
-{
-    binder_kinds(alloc, cx, clause)
-}
-
-/// The clause under an empty binder, with values in the place of the variables of its own.
-fn open<E: EvalCtxt>(
-    alloc: Global,
-    ecx: &mut E,
-    clause: Clause,
-    values: Args,
-) -> Result<Clause, Stop>
-    requires clause { IsClause (E.context ecx.old).trees clause }
-    requires values { IsArgs (E.context ecx.old).trees values }
-    ensures kept { Keeps E.fixed E.probes E.context ecx.old ecx.new }
-    ensures same { E.state ecx.new ≡ E.state ecx.old }
-    ensures sort { IfOk result (λ x. IsClause (E.context ecx.new).trees x) }
-    ensures tree { IfOk result (λ x. clause_tree (E.context ecx.new).trees x ≡ opened_clause (args_forest (E.context ecx.old).trees values) (clause_tree (E.context ecx.old).trees clause)) }
-    ensures cause { IfErr result IsMakingStop }
-{
-    open_clause(alloc, ecx, clause, values)
-}
-
 /// The clause under an empty binder, with fresh variables in the place of those of its own.
 ///
 /// `Stop::Memory` comes where a growth was refused, other stops as they come of `open_clause` and of the evaluator's fresh
@@ -96,9 +68,9 @@ pub fn instantiate_binder_with_infer<E: EvalCtxt>(
     ensures tree { IfOk result (λ x. clause_tree (E.context ecx.new).trees x ≡ fresh_instance (E.state ecx.old) (clause_tree (E.context ecx.old).trees clause)) }
     ensures cause { IfErr result IsEvaluatorStop }
 {
-    let kinds = kinds_bound(alloc, ecx.cx(), clause)?;
+    let kinds = binder_kinds(alloc, ecx.cx(), clause)?;
     let values = ecx.fresh_args_for_item(kinds.as_slice())?;
-    open(alloc, ecx, clause, values)
+    open_clause(alloc, ecx, clause, values)
 }
 
 /// Equates the arguments of an instance of the bound with those of the projection of the same associated type, and gives the

@@ -23,6 +23,7 @@ use candidate_ir::ir::kinds::{
     Ty,
 };
 use candidate_ir::ir::stop::Stop;
+use candidate_ir::ir::trees::Trees;
 use std::alloc::Global;
 
 /// The reference that the clause says to hold.
@@ -98,40 +99,6 @@ fn self_ty(cx: &Cx, trait_ref: TraitRef) -> Ty
     }
 }
 
-/// What the projection bounds of the object's type say of it.
-fn bounds_of<E: EvalCtxt>(
-    alloc: Global,
-    ecx: &mut E,
-    object: Ty,
-    bounds: Preds,
-) -> Result<Vec<Clause>, Stop>
-    requires object { IsTy (E.context ecx.old).trees object }
-    requires bounds { IsPreds (E.context ecx.old).trees bounds }
-    ensures kept { Keeps E.fixed E.probes E.context ecx.old ecx.new }
-    ensures same { E.state ecx.new ≡ E.state ecx.old }
-    ensures sort { IfOk result (λ v. ClauseListFits (E.context ecx.new).trees v.items) }
-    ensures trees { IfOk result (λ v. map (clause_tree (E.context ecx.new).trees) v.items ≡ seen.own_bounds (ty_tree (E.context ecx.old).trees object) (preds_forest (E.context ecx.old).trees bounds)) }
-    ensures cause { IfErr result IsMakingStop }
-{
-    own_bounds(alloc, ecx, object, bounds)
-}
-
-/// What an object of the reference's trait has to fulfil.
-fn required<E: EvalCtxt>(
-    alloc: Global,
-    ecx: &mut E,
-    trait_ref: TraitRef,
-) -> Result<Vec<Clause>, Stop>
-    requires args { IsArgs (E.context ecx.old).trees trait_ref.args }
-    ensures kept { Keeps E.fixed E.probes E.context ecx.old ecx.new }
-    ensures same { E.state ecx.new ≡ E.state ecx.old }
-    ensures sort { IfOk result (λ v. ClauseListFits (E.context ecx.new).trees v.items) }
-    ensures requirements { IfOk result (λ v. AreRequirements (E.context ecx.old) trait_ref.def_id.0 (args_forest (E.context ecx.old).trees trait_ref.args) (map (clause_tree (E.context ecx.new).trees) v.items)) }
-    ensures cause { IfErr result IsMakingStop }
-{
-    requirements(alloc, ecx, trait_ref)
-}
-
 /// The object's type, what its own bounds say of it, and what an object of its trait has to fulfil.
 #[derive(Drop)]
 struct Prepared {
@@ -161,8 +128,8 @@ fn prepare<E: EvalCtxt>(
     ecx.cx().well_formed_table();
     let reference = instance(alloc, ecx, trait_ref)?;
     let object = self_ty(ecx.cx(), reference);
-    let bounds = bounds_of(alloc, ecx, object, object_bounds)?;
-    let required = required(alloc, ecx, reference)?;
+    let bounds = own_bounds(alloc, ecx, object, object_bounds)?;
+    let required = requirements(alloc, ecx, reference)?;
     ecx.cx().well_formed();
     Ok(Prepared {
         object,

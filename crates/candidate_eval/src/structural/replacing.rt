@@ -1,12 +1,10 @@
 //! What an object has to fulfil, where its own bounds say what its associated types are.
 
-ghost use Rattle.std.specs.Prelude.{◌≡◌, ◌≢◌, ◌&&◌, ◌<◌, ◌++◌, [], ◌∷◌, Some, None, MatchOption, IfOk, IfErr, length, option_map};
+ghost use Rattle.std.specs.Prelude.{◌≡◌, ◌&&◌, ◌<◌, ◌++◌, [], ◌∷◌, Some, None, MatchOption, IfOk, IfErr, length, option_map};
 ghost use Rattle.candidate_ir.specs.Context.{Grows};
 ghost use Rattle.candidate_ir.specs.Folds.{IsArg, IsOfKind, arg_tree};
 ghost use Rattle.candidate_ir.specs.declared.ir.heads.Head.TheVariants as H;
-ghost use Rattle.candidate_ir.specs.Kinds.{arg_kind};
 ghost use Rattle.candidate_ir.specs.Nodes.{tree_at};
-ghost use Rattle.candidate_ir.specs.Trees.{TypeKind};
 ghost use Rattle.candidate_ir.specs.WellFormed.{TypesFit};
 ghost use Rattle.candidate_ir.specs.Words.{IsArgs, IsClause, IsParamEnv, IsTy, ClauseListFits, args_forest, clause_tree, env_forest, ty_tree};
 ghost use Rattle.candidate_eval.specs.Evaluators.{IsMakingStop, Keeps};
@@ -24,6 +22,7 @@ use candidate_ir::ir::kinds::{
     AliasKind, AliasTerm, AliasTy, Args, AssocId, Clause, GenericArg, ParamEnv, Ty, TyKind,
 };
 use candidate_ir::ir::stop::Stop;
+use candidate_ir::ir::trees::Trees;
 use std::alloc::Global;
 
 /// Whether the bound is about the associated type.
@@ -82,16 +81,6 @@ fn alias_in(kind: TyKind) -> Option<AliasTy>
     }
 }
 
-/// The type, if the argument is one.
-fn type_in(arg: GenericArg) -> Option<Ty>
-    ensures { MatchOption result (arg_kind arg ≢ TypeKind) (λ t. arg ≡ GenericArg.Ty t) }
-{
-    match arg {
-        GenericArg::Ty(ty) => Some(ty),
-        GenericArg::Const(_) | GenericArg::Region(_) => None,
-    }
-}
-
 /// Whether the projection is of the object's own type, and one of the bounds is about its associated type.
 fn is_own(cx: &Cx, object: Ty, bounds: &[Clause], projection: AliasTerm) -> bool
     requires object { IsTy cx.now.trees object }
@@ -109,7 +98,7 @@ fn own_projection(cx: &Cx, object: Ty, bounds: &[Clause], arg: GenericArg) -> Op
     requires arg { IsArg cx.now.trees arg }
     ensures { MatchOption result (finds_own cx.now.trees object bounds.now (arg_tree cx.now.trees arg).head (arg_tree cx.now.trees arg).children ≡ None) (λ p. IsArgs cx.now.trees p.args × (finds_own cx.now.trees object bounds.now (arg_tree cx.now.trees arg).head (arg_tree cx.now.trees arg).children ≡ Some (projection_at cx.now.trees p))) }
 {
-    let Some(ty) = type_in(arg) else {
+    let GenericArg::Ty(ty) = arg else {
         return None;
     };
     let alias = alias_in(cx.kind(ty))?;
@@ -180,12 +169,12 @@ fn own_projections(
     Ok(found)
 }
 
-/// Puts a type at a list's end. The only stop is `Stop::Memory`.
-fn push_term(terms: &mut Vec<Ty>, term: Ty) -> Result<(), Stop>
-    ensures pushed { IfOk result (λ _. terms.new.items ≡ terms.old.items ++ term ∷ []) }
+/// Puts an item at a list's end. The only stop is `Stop::Memory`.
+fn push<T: Copy>(list: &mut Vec<T>, item: T) -> Result<(), Stop>
+    ensures pushed { IfOk result (λ _. list.new.items ≡ list.old.items ++ item ∷ []) }
     ensures cause { IfErr result IsMakingStop }
 {
-    terms.push(term)?;
+    list.push(item)?;
     Ok(())
 }
 
@@ -210,7 +199,7 @@ fn pick_all<E: EvalCtxt>(
     let mut terms = Vec::new(alloc);
     for projection in projections {
         let term = pick_bound(alloc, ecx, env, bounds, *projection)?;
-        push_term(&mut terms, term)?;
+        push(&mut terms, term)?;
     }
     Ok(terms)
 }
@@ -292,28 +281,6 @@ fn fill<M: Make>(
     )
 }
 
-/// The same for an evaluator, whose state stays as it is.
-fn filled<E: EvalCtxt>(
-    alloc: Global,
-    ecx: &mut E,
-    object: Ty,
-    bounds: &[Clause],
-    clause: Clause,
-    terms: &[Ty],
-) -> Result<Clause, Stop>
-    requires object { IsTy (E.context ecx.old).trees object }
-    requires bounds { ClauseListFits (E.context ecx.old).trees bounds.now }
-    requires clause { IsClause (E.context ecx.old).trees clause }
-    requires terms { TypesFit (E.context ecx.old).trees terms.now }
-    ensures kept { Keeps E.fixed E.probes E.context ecx.old ecx.new }
-    ensures same { E.state ecx.new ≡ E.state ecx.old }
-    ensures sort { IfOk result (λ x. IsClause (E.context ecx.new).trees x) }
-    ensures tree { IfOk result (λ x. clause_tree (E.context ecx.new).trees x ≡ filled_clause (finds_own (E.context ecx.old).trees object bounds.now) (types_at (E.context ecx.old).trees terms.now) (clause_tree (E.context ecx.old).trees clause)) }
-    ensures cause { IfErr result IsMakingStop }
-{
-    fill(alloc, ecx, object, bounds, clause, terms)
-}
-
 /// The clause with what the bounds say in the place of each projection of the object's own.
 ///
 /// `Ambiguous` comes as it comes of `pick_bound`. It stops as `pick_bound` does, and `Stop::Memory` comes where a list can't grow,
@@ -338,16 +305,7 @@ fn replaced_clause<E: EvalCtxt>(
 {
     let projections = own_projections(alloc, ecx.cx(), object, bounds, clause)?;
     let terms = pick_all(alloc, ecx, env, bounds, projections.as_slice())?;
-    Ok(filled(alloc, ecx, object, bounds, clause, terms.as_slice())?)
-}
-
-/// Puts a clause at a list's end. The only stop is `Stop::Memory`.
-fn push_clause(list: &mut Vec<Clause>, clause: Clause) -> Result<(), Stop>
-    ensures pushed { IfOk result (λ _. list.new.items ≡ list.old.items ++ clause ∷ []) }
-    ensures cause { IfErr result IsMakingStop }
-{
-    list.push(clause)?;
-    Ok(())
+    Ok(fill(alloc, ecx, object, bounds, clause, terms.as_slice())?)
 }
 
 /// The clauses, one after the other, with what the bounds say in the place of each projection of the object's own; what is said
@@ -373,7 +331,7 @@ pub(crate) fn replaced<E: EvalCtxt>(
     let mut list = Vec::new(alloc);
     for clause in clauses {
         let made = replaced_clause(alloc, ecx, env, object, bounds, *clause)?;
-        push_clause(&mut list, made)?;
+        push(&mut list, made)?;
     }
     Ok(list)
 }

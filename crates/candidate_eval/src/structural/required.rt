@@ -1,26 +1,26 @@
 //! What a type has to fulfil so as to be an object of a trait, and what the bounds of the object's type say of it as clauses.
 
-ghost use Rattle.std.specs.Prelude.{◌≡◌, ◌++◌, map, slice_get, option_map, IfErr, IfOk, IfSome, true};
+ghost use Rattle.std.specs.Prelude.{◌≡◌, ◌++◌, map, IfErr, IfOk, true};
 ghost use Rattle.candidate_eval.specs.Evaluators.{IsMakingStop};
-ghost use Rattle.std.specs.List.{flat_map};
 ghost use Rattle.candidate_ir.specs.Context.{Grows, world};
 ghost use Rattle.candidate_ir.specs.References.{Takes};
 ghost use Rattle.candidate_ir.specs.Trees.{tree};
 ghost use Rattle.candidate_ir.specs.Words.{IsArgs, IsClause, IsPred, IsPreds, IsTy, ClauseListFits, ListFits, PredFits, args_forest, clause_tree, list_forest, pred_kind_tree, pred_tree, preds_forest, ty_tree};
-ghost use Rattle.candidate_eval.specs.Required.{AreRequirements, as_bound, bounds_of_items, declared_at, declared_trees, each_of, in_place, is_required, item_bounds, items_of, own_bound, own_bounds, required_bounds, said_of};
+ghost use Rattle.candidate_eval.specs.Required.{AreRequirements, as_bound, declared_at, declared_trees, is_required, item_bounds, own_bound, own_bounds, required_bounds, said_of};
 ghost use Rattle.candidate_eval.specs.Required as seen;
 
 use candidate_ir::decl::Cx;
 use candidate_ir::decl::definition::AssocKind;
 use candidate_ir::decl::elaborate::elaborate;
 use candidate_ir::decl::make::Make;
-use candidate_ir::decl::parameters::clause_has_arguments;
+use candidate_ir::decl::parameters::has_arguments;
 use candidate_ir::decl::subst::subst_clause;
 use candidate_ir::ir::kinds::{
     AliasId, AliasTerm, Args, AssocId, Binder, Clause, ClauseKind, ExistentialPredicate,
     ExistentialProjection, GenericArg, Pred, Preds, ProjectionPredicate, TraitId, TraitRef, Ty,
 };
 use candidate_ir::ir::stop::Stop;
+use candidate_ir::ir::trees::Trees;
 use std::alloc::{AllocError, Global};
 
 /// Where clauses are declared.
@@ -112,43 +112,6 @@ fn push_own<M: Make>(
     Ok(())
 }
 
-/// The bound in that place, if there are so many.
-#[tactic(auto, using(crate::proofs::Required::listed_pred))]
-fn bound_at(cx: &Cx, bounds: Preds, place: usize) -> Option<Pred>
-    requires { IsPreds cx.now.trees bounds }
-    ensures sort { IfSome result (λ b. IsPred cx.now.trees b) }
-    ensures is { option_map (pred_tree cx.now.trees) result ≡ slice_get (each_of (preds_forest cx.now.trees bounds)) place }
-{
-    match cx.preds(bounds).get(place) {
-        Some(bound) => Some(*bound),
-        None => None,
-    }
-}
-
-/// Adds what the bound in that place says of the object.
-fn push_own_at<M: Make>(
-    alloc: Global,
-    make: &mut M,
-    list: &mut Vec<Clause>,
-    object: Ty,
-    bounds: Preds,
-    place: usize,
-) -> Result<(), Stop>
-    requires list { ClauseListFits (M.context make.old).trees list.old.items }
-    requires object { IsTy (M.context make.old).trees object }
-    requires bounds { IsPreds (M.context make.old).trees bounds }
-    ensures grows { Grows (M.context make.old) (M.context make.new) }
-    ensures rest { M.rest make.new ≡ M.rest make.old }
-    ensures sort { IfOk result (λ _. ClauseListFits (M.context make.new).trees list.new.items) }
-    ensures trees { IfOk result (λ _. map (clause_tree (M.context make.new).trees) list.new.items ≡ map (clause_tree (M.context make.old).trees) list.old.items ++ flat_map (own_bound (ty_tree (M.context make.old).trees object)) (in_place (each_of (preds_forest (M.context make.old).trees bounds)) place)) }
-    ensures cause { IfErr result IsMakingStop }
-{
-    match bound_at(make.cx(), bounds, place) {
-        Some(bound) => push_own(alloc, make, list, object, bound),
-        None => Ok(()),
-    }
-}
-
 /// What the projection bounds of the object's type say of it, in order: for each that an associated type, of the object and of
 /// the bound's arguments, is the bound's term, under the bound's binder. Bounds that name traits say nothing here.
 ///
@@ -168,10 +131,10 @@ pub fn own_bounds<M: Make>(
     ensures trees { IfOk result (λ v. map (clause_tree (M.context make.new).trees) v.items ≡ own_bounds (ty_tree (M.context make.old).trees object) (preds_forest (M.context make.old).trees bounds)) }
     ensures cause { IfErr result IsMakingStop }
 {
-    let count = make.cx().preds(bounds).len();
+    let listed = Vec::from_slice(alloc, make.cx().preds(bounds))?;
     let mut list = Vec::new(alloc);
-    for place in 0..count {
-        push_own_at(alloc, make, &mut list, object, bounds, place)?;
+    for bound in &listed {
+        push_own(alloc, make, &mut list, object, *bound)?;
     }
     Ok(list)
 }
@@ -191,7 +154,7 @@ fn with_arguments<M: Make>(
     ensures tree { IfOk result (λ x. clause_tree (M.context make.new).trees x ≡ seen.with_arguments (args_forest (M.context make.old).trees args) (clause_tree (M.context make.old).trees clause)) }
     ensures cause { IfErr result IsMakingStop }
 {
-    if clause_has_arguments(make.cx(), clause, args) {
+    if has_arguments(make.cx(), clause, args) {
         subst_clause(alloc, make, clause, args)
     } else {
         Ok(clause)
@@ -210,41 +173,6 @@ fn declared_clauses(cx: &Cx, of: Declared) -> &[Clause]
     }
 }
 
-/// The clause in that place of those that are declared there, if there are so many.
-fn clause_in_place(cx: &Cx, of: Declared, place: usize) -> Option<Clause>
-    ensures is { result ≡ slice_get (declared_at cx.now of) place }
-    ensures sort { IfSome result (λ x. IsClause cx.now.trees x) }
-{
-    match declared_clauses(cx, of).get(place) {
-        Some(clause) => Some(*clause),
-        None => None,
-    }
-}
-
-/// Adds the clause in that place of those that are declared there, with the arguments put in.
-fn push_declared_at<M: Make>(
-    alloc: Global,
-    make: &mut M,
-    list: &mut Vec<Clause>,
-    of: Declared,
-    args: Args,
-    place: usize,
-) -> Result<(), Stop>
-    requires list { ClauseListFits (M.context make.old).trees list.old.items }
-    requires args { IsArgs (M.context make.old).trees args }
-    ensures grows { Grows (M.context make.old) (M.context make.new) }
-    ensures rest { M.rest make.new ≡ M.rest make.old }
-    ensures sort { IfOk result (λ _. ClauseListFits (M.context make.new).trees list.new.items) }
-    ensures trees { IfOk result (λ _. map (clause_tree (M.context make.new).trees) list.new.items ≡ map (clause_tree (M.context make.old).trees) list.old.items ++ map (seen.with_arguments (args_forest (M.context make.old).trees args)) (in_place (declared_trees (M.context make.old) of) place)) }
-    ensures cause { IfErr result IsMakingStop }
-{
-    if let Some(clause) = clause_in_place(make.cx(), of, place) {
-        let clause = with_arguments(alloc, make, clause, args)?;
-        list.push(clause)?;
-    }
-    Ok(())
-}
-
 /// Adds the clauses that are declared there, with the arguments put in, in order.
 fn push_declared<M: Make>(
     alloc: Global,
@@ -261,9 +189,10 @@ fn push_declared<M: Make>(
     ensures trees { IfOk result (λ _. map (clause_tree (M.context make.new).trees) list.new.items ≡ map (clause_tree (M.context make.old).trees) list.old.items ++ map (seen.with_arguments (args_forest (M.context make.old).trees args)) (declared_trees (M.context make.old) of)) }
     ensures cause { IfErr result IsMakingStop }
 {
-    let count = declared_clauses(make.cx(), of).len();
-    for place in 0..count {
-        push_declared_at(alloc, make, list, of, args, place)?;
+    let declared = Vec::from_slice(alloc, declared_clauses(make.cx(), of))?;
+    for clause in &declared {
+        let clause = with_arguments(alloc, make, *clause, args)?;
+        list.push(clause)?;
     }
     Ok(())
 }
@@ -298,32 +227,6 @@ fn push_bounds<M: Make>(
     push_declared(alloc, make, list, Declared::NonSelfBounds(alias), args)
 }
 
-/// Adds the bounds of the item in that place of the trait's, with the arguments put in, if an object has it.
-fn push_required_at<M: Make>(
-    alloc: Global,
-    make: &mut M,
-    list: &mut Vec<Clause>,
-    trait_ref: TraitRef,
-    place: usize,
-) -> Result<(), Stop>
-    requires list { ClauseListFits (M.context make.old).trees list.old.items }
-    requires args { IsArgs (M.context make.old).trees trait_ref.args }
-    ensures grows { Grows (M.context make.old) (M.context make.new) }
-    ensures rest { M.rest make.new ≡ M.rest make.old }
-    ensures sort { IfOk result (λ _. ClauseListFits (M.context make.new).trees list.new.items) }
-    ensures trees { IfOk result (λ _. map (clause_tree (M.context make.new).trees) list.new.items ≡ map (clause_tree (M.context make.old).trees) list.old.items ++ map (seen.with_arguments (args_forest (M.context make.old).trees trait_ref.args)) (bounds_of_items (M.context make.old) (in_place (items_of (M.context make.old) trait_ref.def_id.0) place))) }
-    ensures cause { IfErr result IsMakingStop }
-{
-    let item = match make.cx().associated_items(trait_ref.def_id).get(place) {
-        Some(item) => *item,
-        None => return Ok(()),
-    };
-    if !is_required(make.cx(), item) {
-        return Ok(());
-    }
-    push_bounds(alloc, make, list, item, trait_ref.args)
-}
-
 /// Adds the bounds of all associated types that an object of the trait has, with the arguments put in, in the order of their
 /// declaration.
 fn push_required<M: Make>(
@@ -341,9 +244,12 @@ fn push_required<M: Make>(
     ensures cause { IfErr result IsMakingStop }
 {
     make.cx().well_formed_table();
-    let count = make.cx().associated_items(trait_ref.def_id).len();
-    for place in 0..count {
-        push_required_at(alloc, make, list, trait_ref, place)?;
+    let items = Vec::from_slice(alloc, make.cx().associated_items(trait_ref.def_id))?;
+    for item in &items {
+        if !is_required(make.cx(), *item) {
+            continue;
+        }
+        push_bounds(alloc, make, list, *item, trait_ref.args)?;
     }
     Ok(())
 }

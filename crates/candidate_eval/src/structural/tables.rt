@@ -4,20 +4,19 @@ ghost use Rattle.std.specs.Prelude.{◌≡◌, ◌↔◌, IsTrue, IfOk, IfErr, l
 ghost use Rattle.candidate_ir.specs.Context.{Grows, world};
 ghost use Rattle.candidate_ir.specs.References.{Takes};
 ghost use Rattle.candidate_ir.specs.Words.{IsTy, KindFits, kind_tree, ty_tree};
-ghost use Rattle.candidate_eval.specs.Tables.{Asks, Refused, row_of, is_excluded, IsCellStop};
-ghost use Rattle.candidate_eval.specs.Asked.{AskedFits, asked_cell, under_of, parts_of, ArePartsIn, is_opaque, auto_known, kind_known};
+ghost use Rattle.candidate_eval.specs.Tables.{Asks, Refused, cell, row_of, is_excluded, IsCellStop};
+ghost use Rattle.candidate_eval.specs.Asked.{AskedFits, asked_cell, under_of, parts_of, ArePartsIn, auto_known, kind_known};
 ghost use Rattle.candidate_eval.specs.Asked as seen;
 
 use crate::eval::refusal::NoSolutionOrStop;
-use crate::structural::asked::{
-    Asked, asked_for_auto_trait, asked_for_copy_clone_trait, asked_for_sizedness_trait,
-};
+use crate::structural::asked::{Asked, asked_for};
 use crate::structural::making::made;
-use crate::structural::{Constituents, Under};
+use crate::structural::{Column, Constituents, Under};
 use candidate_ir::decl::make::Make;
 use candidate_ir::decl::{Cx, Sizedness};
-use candidate_ir::ir::kinds::{AliasKind, AliasTy, InferTy, Ty, TyKind};
+use candidate_ir::ir::kinds::{AliasKind, InferTy, Ty, TyKind};
 use candidate_ir::ir::stop::Stop;
+use candidate_ir::ir::trees::Trees;
 use std::alloc::Global;
 
 /// The kind of the type, whose arguments are those that it takes.
@@ -32,37 +31,15 @@ pub(crate) fn kind_of(cx: &Cx, ty: Ty) -> TyKind
     cx.kind(ty)
 }
 
-/// What the column of auto traits asks about.
-#[tactic(auto, using(crate::proofs::Cells::auto_cell_of, crate::proofs::Cells::auto_fits))]
-fn auto_cell(cx: &Cx, ty: Ty) -> Asked
+/// What the column asks about.
+#[tactic(auto, using(crate::proofs::Cells::cell_of_kind, crate::proofs::Cells::asked_fits))]
+pub(crate) fn cell(cx: &Cx, column: Column, ty: Ty) -> Asked
     requires ty { IsTy cx.now.trees ty }
-    requires known { is_excluded (row_of cx.now (ty_tree cx.now.trees ty)).auto ≡ false }
+    requires known { is_excluded (cell column (row_of cx.now (ty_tree cx.now.trees ty))) ≡ false }
     ensures fits { AskedFits cx.now result }
-    ensures cell { asked_cell cx.now result ≡ (row_of cx.now (ty_tree cx.now.trees ty)).auto }
+    ensures cell { asked_cell cx.now result ≡ cell column (row_of cx.now (ty_tree cx.now.trees ty)) }
 {
-    asked_for_auto_trait(cx, kind_of(cx, ty))
-}
-
-/// What the column of sizedness traits asks about.
-#[tactic(auto, using(crate::proofs::Cells::sizedness_cell_of, crate::proofs::Cells::sizedness_fits))]
-fn sizedness_cell(cx: &Cx, sizedness: Sizedness, ty: Ty) -> Asked
-    requires ty { IsTy cx.now.trees ty }
-    requires known { is_excluded ((row_of cx.now (ty_tree cx.now.trees ty)).sizedness sizedness) ≡ false }
-    ensures fits { AskedFits cx.now result }
-    ensures cell { asked_cell cx.now result ≡ (row_of cx.now (ty_tree cx.now.trees ty)).sizedness sizedness }
-{
-    asked_for_sizedness_trait(sizedness, kind_of(cx, ty))
-}
-
-/// What the column of `Copy`, `Clone` and `TrivialClone` asks about.
-#[tactic(auto, using(crate::proofs::Cells::copy_cell_of, crate::proofs::Cells::copy_fits))]
-fn copy_clone_cell(cx: &Cx, ty: Ty) -> Asked
-    requires ty { IsTy cx.now.trees ty }
-    requires known { is_excluded (row_of cx.now (ty_tree cx.now.trees ty)).copy ≡ false }
-    ensures fits { AskedFits cx.now result }
-    ensures cell { asked_cell cx.now result ≡ (row_of cx.now (ty_tree cx.now.trees ty)).copy }
-{
-    asked_for_copy_clone_trait(kind_of(cx, ty))
+    asked_for(cx, column, kind_of(cx, ty))
 }
 
 fn under(asked: Asked) -> Under
@@ -80,21 +57,24 @@ pub(crate) fn is_refused(asked: Asked) -> bool
     matches!(asked, Asked::Refused)
 }
 
-/// The types that a cell asks about, under their binder.
+/// The types that the column asks about, under their binder.
 #[tactic(auto, using(crate::proofs::Cells::refused_cell, crate::proofs::Cells::asked_parts, crate::proofs::Cells::asked_stop, crate::proofs::Cells::under_kept))]
 fn constituents<M: Make>(
     alloc: Global,
     make: &mut M,
-    asked: Asked,
+    column: Column,
+    ty: Ty,
 ) -> Result<Constituents, NoSolutionOrStop>
-    requires { AskedFits (M.context make.old) asked }
+    requires ty { IsTy (M.context make.old).trees ty }
+    requires known { is_excluded (cell column (row_of (M.context make.old) (ty_tree (M.context make.old).trees ty))) ≡ false }
     ensures grows { Grows (M.context make.old) (M.context make.new) }
     ensures rest { M.rest make.new ≡ M.rest make.old }
     ensures sort { IfOk result (λ c. ArePartsIn (M.context make.new).trees c) }
-    ensures parts { IfOk result (λ c. asked_cell (M.context make.old) asked ≡ Asks (parts_of (M.context make.new).trees c)) }
-    ensures refused { IfErr result (λ e. e ≡ NoSolutionOrStop.NoSolution → asked_cell (M.context make.old) asked ≡ Refused) }
-    ensures cause { IfErr result (λ e. (s : Stop) → e ≡ NoSolutionOrStop.Stop s → IsCellStop (length (M.context make.new).trees) (asked_cell (M.context make.old) asked) s) }
+    ensures types { IfOk result (λ c. cell column (row_of (M.context make.old) (ty_tree (M.context make.old).trees ty)) ≡ Asks (parts_of (M.context make.new).trees c)) }
+    ensures refused { IfErr result (λ e. e ≡ NoSolutionOrStop.NoSolution → cell column (row_of (M.context make.old) (ty_tree (M.context make.old).trees ty)) ≡ Refused) }
+    ensures cause { IfErr result (λ e. (s : Stop) → e ≡ NoSolutionOrStop.Stop s → IsCellStop (length (M.context make.new).trees) (cell column (row_of (M.context make.old) (ty_tree (M.context make.old).trees ty))) s) }
 {
+    let asked = cell(make.cx(), column, ty);
     if is_refused(asked) {
         return Err(NoSolutionOrStop::NoSolution);
     }
@@ -108,7 +88,7 @@ fn constituents<M: Make>(
 /// The types that have to meet an auto trait for the type to.
 ///
 /// No integer, float or general variable, no `dyn` type, no parameter, placeholder or bound type, and
-/// no alias but an opaque type is asked about (`has_auto_trait_cell`). It is never refused.
+/// no alias but an opaque type is asked about (`has_cell`). It is never refused.
 /// `Stop::Memory` comes where a growth was refused, `Stop::NodesFull` where one of the types was not
 /// made, as by `subst`; after a stop the nodes that were made stay.
 pub fn instantiate_constituent_tys_for_auto_trait<M: Make>(
@@ -125,13 +105,12 @@ pub fn instantiate_constituent_tys_for_auto_trait<M: Make>(
     ensures refused { IfErr result (λ e. e ≡ NoSolutionOrStop.NoSolution → (row_of (M.context make.old) (ty_tree (M.context make.old).trees ty)).auto ≡ Refused) }
     ensures cause { IfErr result (λ e. (s : Stop) → e ≡ NoSolutionOrStop.Stop s → IsCellStop (length (M.context make.new).trees) (row_of (M.context make.old) (ty_tree (M.context make.old).trees ty)).auto s) }
 {
-    let asked = auto_cell(make.cx(), ty);
-    constituents(alloc, make, asked)
+    constituents(alloc, make, Column::Auto, ty)
 }
 
 /// The types that have to be sized, in this sense, for the type to be.
 ///
-/// No general variable and no bound type is asked about (`has_sizedness_trait_cell`). `NoSolution`
+/// No general variable and no bound type is asked about (`has_cell`). `NoSolution`
 /// comes where the type is never sized, or not known to be: foreign types, aliases, parameters and
 /// placeholders, and for `Sized` also `str`, slices and `dyn` types. It stops as the call for auto
 /// traits does.
@@ -150,14 +129,13 @@ pub fn instantiate_constituent_tys_for_sizedness_trait<M: Make>(
     ensures refused { IfErr result (λ e. e ≡ NoSolutionOrStop.NoSolution → (row_of (M.context make.old) (ty_tree (M.context make.old).trees ty)).sizedness sizedness ≡ Refused) }
     ensures cause { IfErr result (λ e. (s : Stop) → e ≡ NoSolutionOrStop.Stop s → IsCellStop (length (M.context make.new).trees) ((row_of (M.context make.old) (ty_tree (M.context make.old).trees ty)).sizedness sizedness) s) }
 {
-    let asked = sizedness_cell(make.cx(), sizedness, ty);
-    constituents(alloc, make, asked)
+    constituents(alloc, make, Column::Sizedness(sizedness), ty)
 }
 
 /// The types that have to be `Copy`, `Clone` or `TrivialClone` for the type to be, by the rule that
 /// the language has for it.
 ///
-/// No general variable and no bound type is asked about (`has_copy_clone_trait_cell`). `NoSolution`
+/// No general variable and no bound type is asked about (`has_cell`). `NoSolution`
 /// comes where no rule is built in for the type. It stops as the call for auto traits does.
 pub fn instantiate_constituent_tys_for_copy_clone_trait<M: Make>(
     alloc: Global,
@@ -173,21 +151,14 @@ pub fn instantiate_constituent_tys_for_copy_clone_trait<M: Make>(
     ensures refused { IfErr result (λ e. e ≡ NoSolutionOrStop.NoSolution → (row_of (M.context make.old) (ty_tree (M.context make.old).trees ty)).copy ≡ Refused) }
     ensures cause { IfErr result (λ e. (s : Stop) → e ≡ NoSolutionOrStop.Stop s → IsCellStop (length (M.context make.new).trees) (row_of (M.context make.old) (ty_tree (M.context make.old).trees ty)).copy s) }
 {
-    let asked = copy_clone_cell(make.cx(), ty);
-    constituents(alloc, make, asked)
-}
-
-fn is_opaque(alias: AliasTy) -> bool
-    ensures { result ≡ is_opaque alias.kind }
-{
-    matches!(alias.kind, AliasKind::Opaque)
+    constituents(alloc, make, Column::CopyClone, ty)
 }
 
 fn has_auto_trait_kind(kind: TyKind) -> bool
     ensures { result ≡ auto_known kind }
 {
     match kind {
-        TyKind::Alias(alias) => is_opaque(alias),
+        TyKind::Alias(alias) => matches!(alias.kind, AliasKind::Opaque),
         TyKind::Dynamic(_, _)
         | TyKind::Param(_)
         | TyKind::Placeholder(_)
@@ -203,42 +174,16 @@ pub(crate) fn is_no_unknown(kind: TyKind) -> bool
     !matches!(kind, TyKind::Bound(_) | TyKind::Infer(InferTy::TyVar(_)))
 }
 
-/// Whether auto traits are asked about the type: what
-/// `instantiate_constituent_tys_for_auto_trait` takes.
-#[tactic(auto, using(crate::proofs::Cells::auto_known_of))]
-pub fn has_auto_trait_cell(cx: &Cx, ty: Ty) -> bool
+/// Whether the column asks about the type: for which types the call of the column may be made, as
+/// `instantiate_constituent_tys_for_auto_trait` and its like, or `const_conditions_for_destruct`.
+#[tactic(auto, using(crate::proofs::Cells::known_of))]
+pub fn has_cell(cx: &Cx, column: Column, ty: Ty) -> bool
     requires { IsTy cx.now.trees ty }
-    ensures { IsTrue result ↔ (is_excluded (row_of cx.now (ty_tree cx.now.trees ty)).auto ≡ false) }
+    ensures { IsTrue result ↔ (is_excluded (cell column (row_of cx.now (ty_tree cx.now.trees ty))) ≡ false) }
 {
-    has_auto_trait_kind(cx.kind(ty))
-}
-
-/// Whether sizedness traits are asked about the type: what
-/// `instantiate_constituent_tys_for_sizedness_trait` takes.
-#[tactic(auto, using(crate::proofs::Cells::sizedness_known_of))]
-pub fn has_sizedness_trait_cell(cx: &Cx, sizedness: Sizedness, ty: Ty) -> bool
-    requires { IsTy cx.now.trees ty }
-    ensures { IsTrue result ↔ (is_excluded ((row_of cx.now (ty_tree cx.now.trees ty)).sizedness sizedness) ≡ false) }
-{
-    let _ = sizedness;
-    is_no_unknown(cx.kind(ty))
-}
-
-/// Whether `Copy`, `Clone` and `TrivialClone` are asked about the type: what
-/// `instantiate_constituent_tys_for_copy_clone_trait` takes.
-#[tactic(auto, using(crate::proofs::Cells::copy_known_of))]
-pub fn has_copy_clone_trait_cell(cx: &Cx, ty: Ty) -> bool
-    requires { IsTy cx.now.trees ty }
-    ensures { IsTrue result ↔ (is_excluded (row_of cx.now (ty_tree cx.now.trees ty)).copy ≡ false) }
-{
-    is_no_unknown(cx.kind(ty))
-}
-
-/// Whether `Destruct` is asked about the type: what `const_conditions_for_destruct` takes.
-#[tactic(auto, using(crate::proofs::Cells::destruct_known_of))]
-pub fn has_destruct_cell(cx: &Cx, ty: Ty) -> bool
-    requires { IsTy cx.now.trees ty }
-    ensures { IsTrue result ↔ (is_excluded (row_of cx.now (ty_tree cx.now.trees ty)).destruct ≡ false) }
-{
-    is_no_unknown(cx.kind(ty))
+    let kind = cx.kind(ty);
+    match column {
+        Column::Auto => has_auto_trait_kind(kind),
+        Column::Sizedness(_) | Column::CopyClone | Column::Destruct => is_no_unknown(kind),
+    }
 }

@@ -21,6 +21,7 @@ use crate::ir::kinds::{
 };
 use crate::ir::node::Node;
 use crate::ir::nodes::Nodes;
+use crate::ir::trees::Trees;
 
 /// Whether the number is that of a definition of the sort, with parameters of the kinds of these arguments.
 fn takes(

@@ -40,6 +40,7 @@ use crate::ir::kinds::{
 };
 use crate::ir::nodes::Nodes;
 use crate::ir::stop::Stop;
+use crate::ir::trees::Trees;
 use std::alloc::{AllocError, AllocFailed, Global};
 use std::fmt;
 use std::marker::Model;

@@ -166,16 +166,16 @@ impl Model for Bounds {
 
 /// An impl as it was declared.
 #[derive(Drop)]
-pub(crate) struct Impl {
-    pub(crate) krate: CrateId,
-    pub(crate) parameters: Parameters,
-    pub(crate) trait_ref: TraitRef,
-    pub(crate) polarity: ImplPolarity,
-    pub(crate) is_default: bool,
-    pub(crate) wheres: Vec<Clause>,
-    pub(crate) super_outlives: Vec<Clause>,
+pub struct Impl {
+    pub krate: CrateId,
+    pub parameters: Parameters,
+    pub trait_ref: TraitRef,
+    pub polarity: ImplPolarity,
+    pub is_default: bool,
+    pub wheres: Vec<Clause>,
+    pub super_outlives: Vec<Clause>,
     /// The impls that it specialises.
-    pub(crate) specializes: Vec<ImplId>,
+    pub specializes: Vec<ImplId>,
 }
 
 impl Model for Impl {

@@ -24,17 +24,14 @@ use crate::decl::contents::Contents;
 use crate::decl::definition::{CrateId, Declaration, DefinitionSort};
 use crate::decl::misplaced::is_args;
 use crate::ir::at::at;
-use crate::ir::flags::{TypeFlags, bit_if};
-use crate::ir::heads::{Flag, Head};
 use crate::ir::kinds::{
-    AdtId, Args, Binder, Clause, ClauseKind, ClosureSig, Const, ConstKind, ExistentialPredicate,
-    ForeignId, GenericArg, ParamEnv, Pred, Preds, Region, RegionKind, Sig, TraitId, TraitRef, Ty,
-    TyKind, Var, VarKind, Vars,
+    Args, Binder, Clause, ClauseKind, ClosureSig, Const, ConstKind, ExistentialPredicate,
+    GenericArg, ParamEnv, Preds, Region, RegionKind, Sig, TraitRef, Ty, TyKind, VarKind, Vars,
 };
 use crate::ir::node::Node;
 use crate::ir::nodes::Nodes;
 use crate::ir::stop::Stop;
-use crate::ir::unify::RightSide;
+use crate::ir::trees::Trees;
 use std::marker::Model;
 
 /// Declarations without a fault, and the types, constants, regions and lists made so far.
@@ -113,64 +110,11 @@ impl Cx {
         self.delayed_bugs.as_slice()
     }
 
-    /// The node of a number.
-    pub(crate) fn node(&self, number: u32) -> &Node
-        requires { number < length self.now.trees }
-        ensures { IsNodeOf self.now.trees number result.now }
-    {
-        self.nodes.node(number)
-    }
-
-    /// The type, constant or region of a number, if it is of one: bounds of `dyn` types, signatures, clauses, binders with their
-    /// variables and lists have numbers, too.
-    pub fn argument(&self, number: u32) -> Option<GenericArg>
-        requires { number < length self.now.trees }
-        ensures { MatchOption result (is_asked (tree_at self.now.trees number).head ≡ false) (λ a. (arg_number a ≡ number) × IsArg self.now.trees a × (is_asked (tree_at self.now.trees number).head ≡ true)) }
-    {
-        self.nodes.argument(number)
-    }
-
-    /// The head of a number's tree.
-    pub fn head(&self, number: u32) -> Head
-        requires { number < length self.now.trees }
-        ensures { result ≡ (tree_at self.now.trees number).head }
-    {
-        self.nodes.head(number)
-    }
-
-    /// The number of the tree of that place below a number, from 0 on, if there are so many. The members of a list stand in the
-    /// list's place.
-    pub fn child(&self, number: u32, place: usize) -> Option<u32>
-        requires { number < length self.now.trees }
-        ensures { MatchOption result (skip place (tree_at self.now.trees number).children ≡ none) (λ c. (c < number) × (skip place (tree_at self.now.trees number).children ≡ tree (tree_at self.now.trees c).head (tree_at self.now.trees c).children (skip (suc place) (tree_at self.now.trees number).children))) }
-    {
-        self.nodes.child(number, place)
-    }
-
-    /// The number of the variable to be solved that the argument is, if it is one. Types, constants and regions have their
-    /// numbers in one row.
-    pub fn variable_number(&self, arg: GenericArg) -> Option<u32>
-        requires { IsArg self.now.trees arg }
-        ensures { result ≡ variable_number (arg_tree self.now.trees arg).head }
-    {
-        self.head(arg.number()).variable_number()
-    }
-
     /// Whether the number is that of a list of arguments.
     pub(crate) fn is_args(&self, args: Args) -> bool
         ensures { IsTrue result ↔ IsArgs self.now.trees args }
     {
         is_args(&self.nodes, args)
-    }
-
-    /// One bound, whose parts have lower numbers.
-    pub(crate) fn bound(&self, pred: Pred) -> Binder<ExistentialPredicate>
-        requires { IsPred self.now.trees pred }
-        ensures fits { PredFits self.now.trees result }
-        ensures tree { pred_kind_tree self.now.trees result ≡ pred_tree self.now.trees pred }
-        ensures below { Below pred.0 (numbers (pred_children result)) }
-    {
-        self.nodes.pred(pred)
     }
 
     /// No variable of a binder has children.
@@ -195,7 +139,8 @@ impl Cx {
         self.nodes.truncate(node_count.max(self.declared_nodes));
     }
 
-    fn is_local(&self, definition: u32) -> bool
+    /// Whether the definition of that number belongs to the local crate.
+    pub fn is_local(&self, definition: u32) -> bool
         ensures { result ≡ is_local (world self.now) (Some self.now.local.0) definition }
     {
         match at(self.definitions.as_slice(), definition as usize) {
@@ -204,48 +149,14 @@ impl Cx {
         }
     }
 
-    fn is_fundamental(&self, definition: u32) -> bool
+    /// Whether the definition of that number, a data type or a trait, has the flag `fundamental`.
+    pub fn is_fundamental(&self, definition: u32) -> bool
         ensures { result ≡ is_fundamental (world self.now) definition }
     {
         match at(self.definitions.as_slice(), definition as usize) {
             Some(declaration) => declaration.is_fundamental(),
             None => false,
         }
-    }
-
-    /// Whether the type belongs to the local crate.
-    pub fn adt_is_local(&self, id: AdtId) -> bool
-        ensures { result ≡ is_local (world self.now) (Some self.now.local.0) id.0 }
-    {
-        self.is_local(id.0)
-    }
-
-    /// Whether the type has the flag `fundamental`.
-    pub fn adt_is_fundamental(&self, id: AdtId) -> bool
-        ensures { result ≡ is_fundamental (world self.now) id.0 }
-    {
-        self.is_fundamental(id.0)
-    }
-
-    /// Whether the foreign type belongs to the local crate.
-    pub fn foreign_is_local(&self, id: ForeignId) -> bool
-        ensures { result ≡ is_local (world self.now) (Some self.now.local.0) id.0 }
-    {
-        self.is_local(id.0)
-    }
-
-    /// Whether the trait belongs to the local crate.
-    pub fn trait_is_local(&self, id: TraitId) -> bool
-        ensures { result ≡ is_local (world self.now) (Some self.now.local.0) id.0 }
-    {
-        self.is_local(id.0)
-    }
-
-    /// Whether the trait has the flag `fundamental`.
-    pub fn trait_is_fundamental(&self, id: TraitId) -> bool
-        ensures { result ≡ is_fundamental (world self.now) id.0 }
-    {
-        self.is_fundamental(id.0)
     }
 
     /// Every node has the children that its definition takes.
@@ -397,329 +308,12 @@ impl Cx {
     {
         self.nodes.mk_param_env(clauses)
     }
+}
 
-    /// The kind of a type: making it again gives an equal tree.
-    pub fn kind(&self, ty: Ty) -> TyKind
-        requires { IsTy self.now.trees ty }
-        ensures fits { KindFits self.now.trees result }
-        ensures tree { kind_tree self.now.trees result ≡ ty_tree self.now.trees ty }
-    {
-        self.nodes.kind(ty)
-    }
+impl Trees for Cx {
+    ghost trees = { λ c. c.trees };
 
-    /// The arguments of a list.
-    pub fn args(&self, args: Args) -> &[GenericArg]
-        requires { IsArgs self.now.trees args }
-        ensures fits { ListFits self.now.trees result.now }
-        ensures tree { list_forest self.now.trees result.now ≡ args_forest self.now.trees args }
-    {
-        self.nodes.args(args)
-    }
-
-    /// The bounds of a list, of which each is read by `pred`.
-    pub fn preds(&self, preds: Preds) -> &[Pred]
-        requires { IsPreds self.now.trees preds }
-        ensures fits { PredListFits self.now.trees result.now }
-        ensures tree { pred_list_forest self.now.trees result.now ≡ preds_forest self.now.trees preds }
-        ensures principal { principals (preds_forest self.now.trees preds) ≤ 1 }
-    {
-        self.nodes.preds(preds)
-    }
-
-    /// One bound.
-    pub fn pred(&self, pred: Pred) -> Binder<ExistentialPredicate>
-        requires { IsPred self.now.trees pred }
-        ensures fits { PredFits self.now.trees result }
-        ensures tree { pred_kind_tree self.now.trees result ≡ pred_tree self.now.trees pred }
-    {
-        self.bound(pred)
-    }
-
-    /// The kind of a constant.
-    pub fn const_kind(&self, constant: Const) -> ConstKind
-        requires { IsConst self.now.trees constant }
-        ensures fits { ConstKindFits self.now.trees result }
-        ensures tree { const_kind_tree self.now.trees result ≡ const_tree self.now.trees constant }
-    {
-        self.nodes.const_kind(constant)
-    }
-
-    /// The kind of a region.
-    pub fn region_kind(&self, region: Region) -> RegionKind
-        requires { IsRegion self.now.trees region }
-        ensures tree { region_kind_tree result ≡ region_tree self.now.trees region }
-    {
-        self.nodes.region_kind(region)
-    }
-
-    /// The signature of a closure, under its binder.
-    pub fn sig(&self, sig: Sig) -> Binder<ClosureSig>
-        requires { IsSig self.now.trees sig }
-        ensures fits { SigFits self.now.trees result }
-        ensures tree { sig_kind_tree self.now.trees result ≡ sig_tree self.now.trees sig }
-    {
-        self.nodes.sig(sig)
-    }
-
-    /// The clause of a number, under its binder.
-    pub fn clause(&self, clause: Clause) -> Binder<ClauseKind>
-        requires { IsClause self.now.trees clause }
-        ensures fits { ClauseFits self.now.trees result }
-        ensures tree { clause_kind_tree self.now.trees result ≡ clause_tree self.now.trees clause }
-    {
-        self.nodes.clause(clause)
-    }
-
-    /// The clauses of an environment, of which each is read by `clause`.
-    pub fn param_env(&self, env: ParamEnv) -> &[Clause]
-        requires { IsParamEnv self.now.trees env }
-        ensures fits { ClauseListFits self.now.trees result.now }
-        ensures tree { clause_list_forest self.now.trees result.now ≡ env_forest self.now.trees env }
-    {
-        self.nodes.param_env(env)
-    }
-
-    /// The variables of a binder, of which each is read by `var`.
-    pub fn vars(&self, vars: Vars) -> &[Var]
-        requires { IsVars self.now.trees vars }
-        ensures fits { VarListFits self.now.trees result.now }
-        ensures tree { vars_kind_tree self.now.trees result.now ≡ vars_tree self.now.trees vars }
-    {
-        self.nodes.vars(vars)
-    }
-
-    /// What one variable of a binder stands for.
-    pub fn var(&self, var: Var) -> VarKind
-        requires { IsVar self.now.trees var }
-        ensures tree { var_kind_tree result ≡ var_tree self.now.trees var }
-    {
-        self.nodes.var(var)
-    }
-
-    /// Whether two types are equal as trees.
-    pub fn same(&self, a: Ty, b: Ty) -> bool
-        requires a { IsTy self.now.trees a }
-        requires b { IsTy self.now.trees b }
-        ensures { IsTrue result ↔ (ty_tree self.now.trees a ≡ ty_tree self.now.trees b) }
-    {
-        self.nodes.same(a, b)
-    }
-
-    /// Whether two constants are equal as trees.
-    pub fn same_const(&self, a: Const, b: Const) -> bool
-        requires a { IsConst self.now.trees a }
-        requires b { IsConst self.now.trees b }
-        ensures { IsTrue result ↔ (const_tree self.now.trees a ≡ const_tree self.now.trees b) }
-    {
-        self.nodes.same_const(a, b)
-    }
-
-    /// Whether two regions are equal.
-    pub fn same_region(&self, a: Region, b: Region) -> bool
-        requires a { IsRegion self.now.trees a }
-        requires b { IsRegion self.now.trees b }
-        ensures { IsTrue result ↔ (region_tree self.now.trees a ≡ region_tree self.now.trees b) }
-    {
-        self.nodes.same_region(a, b)
-    }
-
-    /// Whether two lists of arguments have equal members, in one order.
-    pub fn same_args(&self, a: Args, b: Args) -> bool
-        requires a { IsArgs self.now.trees a }
-        requires b { IsArgs self.now.trees b }
-        ensures { IsTrue result ↔ (args_forest self.now.trees a ≡ args_forest self.now.trees b) }
-    {
-        self.nodes.same_args(a, b)
-    }
-
-    /// Whether two clauses are equal as trees: their binders bind variables of the same kinds, and all else is equal.
-    pub fn same_clause(&self, a: Clause, b: Clause) -> bool
-        requires a { IsClause self.now.trees a }
-        requires b { IsClause self.now.trees b }
-        ensures { IsTrue result ↔ (clause_tree self.now.trees a ≡ clause_tree self.now.trees b) }
-    {
-        self.nodes.same_clause(a, b)
-    }
-
-    /// Whether two environments have equal clauses, in one order.
-    pub fn same_env(&self, a: ParamEnv, b: ParamEnv) -> bool
-        requires a { IsParamEnv self.now.trees a }
-        requires b { IsParamEnv self.now.trees b }
-        ensures { IsTrue result ↔ (env_forest self.now.trees a ≡ env_forest self.now.trees b) }
-    {
-        self.nodes.same_env(a, b)
-    }
-
-    /// Quick rejection: whether two types could be made equal, by their heads.
-    ///
-    /// A general variable, an alias, an error or a bound type may be equal to any type, and so may a
-    /// parameter on the right side where that is an impl header; an integer variable may be equal to
-    /// integer types and variables, a floating-point variable to floating-point ones. All else needs
-    /// equal heads, and children that may be equal. Regions always may, lists if they are equally
-    /// long and each pair may.
-    ///
-    /// After a no they have no common instance, whatever stands in the place of aliases, errors and
-    /// bound variables, and of a header's parameters; a yes promises nothing. No memory is taken.
-    /// Equal numbers are answered at once. Else both sides are walked as trees, pair by pair, up to
-    /// the first no: at most as many pairs as the smaller one has nodes, where a part that stands at
-    /// several places counts at each.
-    #[tactic(auto, using(crate::proofs::MayUnify::tree_rejected))]
-    pub fn may_unify(&self, a: Ty, b: Ty, right: RightSide) -> bool
-        requires a { IsTy self.now.trees a }
-        requires b { IsTy self.now.trees b }
-        ensures is { result ≡ trees_may_unify right (ty_tree self.now.trees a) (ty_tree self.now.trees b) }
-        ensures no_common_instance { result ≡ false → NoCommonInstance right (alone (ty_tree self.now.trees a)) (alone (ty_tree self.now.trees b)) }
-    {
-        self.nodes.may_unify(a, b, right)
-    }
-
-    /// Whether two constants could be made equal; what is said of `may_unify` holds here, too.
-    ///
-    /// A variable, an unevaluated constant, an error or a bound constant may be equal to any, and so
-    /// may a header's parameter on the right; all others to equal ones alone.
-    #[tactic(auto, using(crate::proofs::MayUnify::tree_rejected))]
-    pub fn consts_may_unify(&self, a: Const, b: Const, right: RightSide) -> bool
-        requires a { IsConst self.now.trees a }
-        requires b { IsConst self.now.trees b }
-        ensures is { result ≡ trees_may_unify right (const_tree self.now.trees a) (const_tree self.now.trees b) }
-        ensures no_common_instance { result ≡ false → NoCommonInstance right (alone (const_tree self.now.trees a)) (alone (const_tree self.now.trees b)) }
-    {
-        self.nodes.consts_may_unify(a, b, right)
-    }
-
-    /// Whether two lists could be made equal: they are equally long, and each pair may; what is said
-    /// of `may_unify` holds here, too.
-    #[tactic(auto, using(crate::proofs::MayUnify::list_rejected))]
-    pub fn args_may_unify(&self, a: Args, b: Args, right: RightSide) -> bool
-        requires a { IsArgs self.now.trees a }
-        requires b { IsArgs self.now.trees b }
-        ensures is { result ≡ may_unify right (args_forest self.now.trees a) (args_forest self.now.trees b) }
-        ensures no_common_instance { result ≡ false → NoCommonInstance right (args_forest self.now.trees a) (args_forest self.now.trees b) }
-    {
-        self.nodes.args_may_unify(a, b, right)
-    }
-
-    /// Whether a head with the flag's mark stands anywhere in the type.
-    pub fn has(&self, ty: Ty, flag: Flag) -> bool
-        requires { IsTy self.now.trees ty }
-        ensures { result ≡ tree_holds (mark flag) (ty_tree self.now.trees ty) }
-    {
-        self.nodes.has(ty, flag)
-    }
-
-    /// Whether a head with the flag's mark stands anywhere in the list.
-    pub fn args_have(&self, args: Args, flag: Flag) -> bool
-        requires { IsArgs self.now.trees args }
-        ensures { result ≡ holds (mark flag) (args_forest self.now.trees args) }
-    {
-        self.nodes.args_have(args, flag)
-    }
-
-    /// Whether a head with the flag's mark stands anywhere in the constant.
-    pub fn const_has(&self, constant: Const, flag: Flag) -> bool
-        requires { IsConst self.now.trees constant }
-        ensures { result ≡ tree_holds (mark flag) (const_tree self.now.trees constant) }
-    {
-        self.nodes.const_has(constant, flag)
-    }
-
-    /// Whether a head with the flag's mark stands anywhere in the clause.
-    pub fn clause_has(&self, clause: Clause, flag: Flag) -> bool
-        requires { IsClause self.now.trees clause }
-        ensures { result ≡ tree_holds (mark flag) (clause_tree self.now.trees clause) }
-    {
-        self.nodes.clause_has(clause, flag)
-    }
-
-    /// Whether a head with the flag's mark stands anywhere in the environment.
-    pub fn env_has(&self, env: ParamEnv, flag: Flag) -> bool
-        requires { IsParamEnv self.now.trees env }
-        ensures { result ≡ holds (mark flag) (env_forest self.now.trees env) }
-    {
-        self.nodes.env_has(env, flag)
-    }
-
-    /// Whether a bound variable stands in the type that no binder in it binds.
-    pub fn has_escaping_bound_vars(&self, ty: Ty) -> bool
-        requires { IsTy self.now.trees ty }
-        ensures { result ≡ tree_escapes 0 (ty_tree self.now.trees ty) }
-    {
-        self.nodes.escapes(ty)
-    }
-
-    /// Whether a bound variable stands in the argument that no binder in it binds.
-    pub fn arg_has_escaping_bound_vars(&self, arg: GenericArg) -> bool
-        requires { IsArg self.now.trees arg }
-        ensures { result ≡ tree_escapes 0 (arg_tree self.now.trees arg) }
-    {
-        self.nodes.arg_escapes(arg)
-    }
-
-    /// Whether the variable of that number, which may be of any kind, stands anywhere in the argument.
-    pub fn mentions(&self, arg: GenericArg, variable: u32) -> bool
-        requires { IsArg self.now.trees arg }
-        ensures { result ≡ tree_holds (is_number variable) (arg_tree self.now.trees arg) }
-    {
-        self.nodes.mentions(arg, variable)
-    }
-
-    /// Whether a type's or a constant's placeholder of a universe above that one stands anywhere in the argument.
-    pub fn has_placeholder_above(&self, arg: GenericArg, universe: u32) -> bool
-        requires { IsArg self.now.trees arg }
-        ensures { result ≡ tree_holds (is_placeholder_above universe) (arg_tree self.now.trees arg) }
-    {
-        self.nodes.has_placeholder_above(arg, universe)
-    }
-
-    /// Whether a bound variable stands in the list that no binder in it binds.
-    pub fn args_have_escaping_bound_vars(&self, args: Args) -> bool
-        requires { IsArgs self.now.trees args }
-        ensures { result ≡ escapes 0 (args_forest self.now.trees args) }
-    {
-        self.nodes.args_escape(args)
-    }
-
-    /// Whether a bound variable stands in the clause that neither its own binder nor one in it binds.
-    pub fn clause_has_escaping_bound_vars(&self, clause: Clause) -> bool
-        requires { IsClause self.now.trees clause }
-        ensures { result ≡ tree_escapes 0 (clause_tree self.now.trees clause) }
-    {
-        self.nodes.clause_escapes(clause)
-    }
-
-    /// Whether a parameter stands anywhere in the reference.
-    pub fn has_param(&self, trait_ref: TraitRef) -> bool
-        requires { IsArgs self.now.trees trait_ref.args }
-        ensures { result ≡ holds is_param (args_forest self.now.trees trait_ref.args) }
-    {
-        self.nodes.args_have(trait_ref.args, Flag::Param)
-    }
-
-    /// The principal of the bounds of a `dyn` type, if they have one.
-    pub fn principal(&self, preds: Preds) -> Option<TraitId>
-        requires { IsPreds self.now.trees preds }
-        ensures { result ≡ principal_of (preds_forest self.now.trees preds) }
-    {
-        self.nodes.principal(preds)
-    }
-
-    /// The flags whose marks stand anywhere in the type.
-    pub fn flags(&self, ty: Ty) -> TypeFlags
-        requires { IsTy self.now.trees ty }
-        ensures { result ≡ type_flags (ty_tree self.now.trees ty) }
-    {
-        let infer = bit_if(self.has(ty, Flag::TyInfer), 1)
-            + bit_if(self.has(ty, Flag::RegionInfer), 2)
-            + bit_if(self.has(ty, Flag::ConstInfer), 4);
-        let placeholder = bit_if(self.has(ty, Flag::TyPlaceholder), 8)
-            + bit_if(self.has(ty, Flag::RegionPlaceholder), 16)
-            + bit_if(self.has(ty, Flag::ConstPlaceholder), 32);
-        let bound = bit_if(self.has(ty, Flag::TyBound), 64)
-            + bit_if(self.has(ty, Flag::RegionBound), 128)
-            + bit_if(self.has(ty, Flag::ConstBound), 256);
-        let other = bit_if(self.has(ty, Flag::Param), 512)
-            + bit_if(self.has(ty, Flag::Alias), 1024)
-            + bit_if(self.has(ty, Flag::Error), 2048);
-        TypeFlags(infer + placeholder + bound + other)
+    fn node(&self, number: u32) -> &Node {
+        self.nodes.node(number)
     }
 }

@@ -12,6 +12,7 @@ use crate::ir::at::at;
 use crate::ir::heads::ClauseHead;
 use crate::ir::kinds::{Clause, PredicatePolarity, TraitId};
 use crate::ir::nodes::Nodes;
+use crate::ir::trees::Trees;
 use std::alloc::{AllocError, Global};
 use std::marker::Model;
 

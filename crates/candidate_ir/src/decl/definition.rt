@@ -7,7 +7,8 @@ ghost use Rattle.candidate_ir.specs.Kinds.{arg_kind};
 ghost use Rattle.candidate_ir.specs.Parameters.{is_type_kind, is_type_arg};
 
 use crate::ir::at::at;
-use crate::ir::kinds::{AdtId, AliasId, AssocId, Binder, FnSig, GenericArg, TraitId, Ty, VarKind};
+use crate::ir::kinds::{Binder, FnSig, GenericArg, TraitId, Ty, VarKind};
+use crate::ir::numbered::Numbered;
 use std::alloc::{AllocError, Global};
 use std::marker::Model;
 
@@ -176,7 +177,7 @@ impl DefinitionKind {
 
 /// The parameters of a definition. Most definitions have types alone, which take no room of their own.
 #[derive(Drop)]
-pub(crate) enum Parameters {
+pub enum Parameters {
     /// So many types.
     Types(usize),
     /// Others, or types among them.
@@ -216,8 +217,9 @@ impl Parameters {
         }
     }
 
+    /// How many there are.
     #[tactic(auto, using(crate::proofs::Parameters::types_count))]
-    pub(crate) fn count(&self) -> usize
+    pub fn count(&self) -> usize
         ensures { result ≡ length (kinds_of self.now) }
     {
         match self {
@@ -228,7 +230,7 @@ impl Parameters {
 
     /// The kind of the parameter of that number, if there is one.
     #[tactic(auto, using(crate::proofs::Parameters::kind_there, crate::proofs::Parameters::kind_missing))]
-    pub(crate) fn kind(&self, number: usize) -> Option<VarKind>
+    pub fn kind(&self, number: usize) -> Option<VarKind>
         ensures { result ≡ slice_get (kinds_of self.now) number }
     {
         match self {
@@ -290,7 +292,7 @@ fn have_kinds(list: &[GenericArg], kinds: &[VarKind]) -> bool
 }
 
 /// Whether all of the arguments are types.
-pub(crate) fn are_type_args(list: &[GenericArg]) -> bool
+pub fn are_type_args(list: &[GenericArg]) -> bool
     ensures { result ≡ list_all is_type_arg list.now }
 {
     list.iter().all(|arg| arg.is_type())

@@ -19,12 +19,14 @@ use crate::decl::fold::fold_number;
 use crate::decl::make::Make;
 use crate::decl::open::{bound_variable, bound_variable_of};
 use crate::decl::subst::put;
-use crate::ir::heads::{ClauseHead, ConstHead, Head, PartHead};
+use crate::ir::heads::{ClauseHead, Head, PartHead};
 use crate::ir::kinds::{
     Args, Binder, BoundVar, Clause, ClauseKind, ConstKind, GenericArg, PredicatePolarity,
     RegionKind, TraitId, TraitRef, TyKind, VarKind, Vars,
 };
+use crate::ir::numbered::Numbered;
 use crate::ir::stop::Stop;
+use crate::ir::trees::Trees;
 use std::alloc::{AllocError, Global};
 
 /// The variable with a number so much higher, if it is of the binder that stands above the binders
@@ -154,7 +156,7 @@ fn joint_vars<M: Make>(alloc: Global, make: &mut M, outer: Vars, inner: Vars) ->
 
 /// What a super clause says of arguments: those of a clause under a binder of these variables, which
 /// says that its trait holds of them. Each parameter of the super clause has an argument of its kind
-/// (`clause_has_arguments`).
+/// (`has_arguments`).
 ///
 /// Both binders become one, of these variables and then those of the super clause; the arguments stand
 /// under it in the place of the parameters. `Stop::Memory` comes where a growth was refused,
@@ -226,7 +228,7 @@ fn lists(cx: &Cx, list: &[Clause], clause: Clause) -> bool
     ensures { result ≡ list_any (is_same_clause cx.now.trees clause) list.now }
 {
     for other in list {
-        if cx.same_clause(*other, clause) {
+        if cx.same(*other, clause) {
             return true;
         }
     }

@@ -16,7 +16,9 @@ ghost use Rattle.candidate_ir.specs.Words.{IsTy, IsConst, IsRegion, IsArgs, IsCl
 use crate::decl::make::Make;
 use crate::ir::kinds::{Args, Clause, Const, GenericArg, ParamEnv, Pred, Region, TraitRef, Ty};
 use crate::ir::node::Node;
+use crate::ir::numbered::Numbered;
 use crate::ir::stop::Stop;
+use crate::ir::trees::Trees;
 use std::alloc::Global;
 
 /// One call of the closure.
@@ -138,7 +140,7 @@ where
     let mut bounds = Vec::new(alloc);
     for i in 0..list.len() {
         make.cx().well_formed();
-        let bound = make.cx().bound(list[i]);
+        let bound = make.cx().pred(list[i]);
         let node = Node::Pred(bound);
         let children = fold_children(alloc, make, fold, &node, list[i].0, binders)?;
         bounds.push(bound.with_children(children.as_slice()))?;

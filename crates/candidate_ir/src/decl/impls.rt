@@ -9,6 +9,7 @@ use crate::decl::contents::ImplId;
 use crate::decl::context::Cx;
 use crate::ir::kinds::{GenericArg, TraitId, Ty, TyKind};
 use crate::ir::stop::Stop;
+use crate::ir::trees::Trees;
 use crate::ir::unify::RightSide;
 
 impl Cx {
@@ -17,7 +18,7 @@ impl Cx {
     fn impl_self_ty(&self, of: ImplId) -> Option<Ty>
         ensures { MatchOption result (self_type self.now.trees (impl_at self.now of) ≡ None) (λ t. IsTy self.now.trees t × (self_type self.now.trees (impl_at self.now of) ≡ Some (ty_tree self.now.trees t))) }
     {
-        let trait_ref = self.impl_trait_ref(of)?;
+        let trait_ref = self.impl_contents(of)?.trait_ref;
         if !self.is_args(trait_ref.args) {
             return None;
         }

@@ -3,21 +3,21 @@
 
 ghost use Rattle.std.specs.Prelude.{◌≡◌, [], None, Some, false, slice_index_or, option_copied, IfSome};
 ghost use Rattle.candidate_ir.specs.Declaring.{adt_at, trait_at, bounds_at, impl_at, item_number};
-ghost use Rattle.candidate_ir.specs.Held.{definition_held, adt_held, trait_held, bounds_held, impl_held, if_there};
+ghost use Rattle.candidate_ir.specs.Held.{definition_held, adt_held, trait_held, bounds_held, if_there};
 ghost use Rattle.candidate_ir.specs.declared.decl.held.Owner.TheVariants as O;
 ghost use Rattle.candidate_ir.specs.Words.{IsTy, IsArgs, ClauseListFits};
 ghost use Rattle.candidate_ir.specs.Lookups as lookup;
-ghost use Rattle.candidate_ir.specs.WellFormed.{TypesFit, SignatureFits, HeaderFits, AreGiven};
+ghost use Rattle.candidate_ir.specs.WellFormed.{TypesFit, SignatureFits, ImplIsGiven, AreGiven};
 
 use crate::decl::contents::{
-    AdtContents, Bounds, Destructor, Impl, ImplId, ImplPolarity, LangItem, Sizedness,
-    TraitContents, adt_place, bounds_place, trait_place,
+    AdtContents, Bounds, Destructor, Impl, ImplId, LangItem, Sizedness, TraitContents, adt_place,
+    bounds_place, trait_place,
 };
 use crate::decl::context::Cx;
 use crate::decl::definition::{AdtFlags, AdtShape, AssocKind, DefinitionKind, FnFlags, TraitFlags};
 use crate::ir::at::at;
 use crate::ir::kinds::{
-    AdtId, AliasId, AssocId, Binder, Clause, ClosureId, FnId, FnSig, TraitId, TraitRef, Ty,
+    AdtId, AliasId, AssocId, Binder, Clause, ClosureId, FnId, FnSig, TraitId, Ty,
 };
 
 impl Cx {
@@ -55,7 +55,7 @@ impl Cx {
 
     #[tactic(auto, using(crate::proofs::Given::impl_given))]
     fn impl_is_given(&self, of: ImplId)
-        ensures { IfSome (impl_at self.now of) (λ x. AreGiven self.now (impl_held of.0 x) × HeaderFits self.now x.trait_ref) }
+        ensures { IfSome (impl_at self.now of) (ImplIsGiven self.now) }
     {
         self.well_formed_table();
     }
@@ -202,9 +202,10 @@ impl Cx {
         at(self.contents.bounds.as_slice(), place)
     }
 
-    fn impl_contents(&self, of: ImplId) -> Option<&Impl>
+    /// The impl as it was declared: its header, what it says of its trait, and its clauses, each list in order.
+    pub fn impl_contents(&self, of: ImplId) -> Option<&Impl>
         ensures is { option_copied result ≡ impl_at self.now of }
-        ensures given { IfSome (option_copied result) (λ x. AreGiven self.now (impl_held of.0 x) × HeaderFits self.now x.trait_ref) }
+        ensures given { IfSome (option_copied result) (ImplIsGiven self.now) }
     {
         self.impl_is_given(of);
         at(self.contents.impls.as_slice(), of.0 as usize)
@@ -321,71 +322,6 @@ impl Cx {
     {
         match self.bounds(alias) {
             Some(contents) => contents.non_self_bounds.as_slice(),
-            None => &[],
-        }
-    }
-
-    /// The header of the impl.
-    pub fn impl_trait_ref(&self, of: ImplId) -> Option<TraitRef>
-        ensures is { result ≡ lookup.maybe None (λ a. Some a.trait_ref) (impl_at self.now of) }
-        ensures fit { IfSome result (λ r. HeaderFits self.now r) }
-    {
-        match self.impl_contents(of) {
-            Some(contents) => Some(contents.trait_ref),
-            None => None,
-        }
-    }
-
-    /// What the impl says of its trait.
-    pub fn impl_polarity(&self, of: ImplId) -> Option<ImplPolarity>
-        ensures { result ≡ lookup.maybe None (λ a. Some a.polarity) (impl_at self.now of) }
-    {
-        match self.impl_contents(of) {
-            Some(contents) => Some(contents.polarity),
-            None => None,
-        }
-    }
-
-    /// Whether the impl is `default`.
-    pub fn impl_is_default(&self, of: ImplId) -> bool
-        ensures { result ≡ lookup.maybe false (λ a. a.is_default) (impl_at self.now of) }
-    {
-        match self.impl_contents(of) {
-            Some(contents) => contents.is_default,
-            None => false,
-        }
-    }
-
-    /// The where clauses of the impl, in order.
-    #[tactic(auto, using(crate::proofs::Given::impl_wheres_fit))]
-    pub fn impl_where_clauses(&self, of: ImplId) -> &[Clause]
-        ensures is { result.now ≡ lookup.maybe [] (λ a. a.wheres) (impl_at self.now of) }
-        ensures fit { ClauseListFits self.now.trees result.now }
-    {
-        match self.impl_contents(of) {
-            Some(found) => found.wheres.as_slice(),
-            None => &[],
-        }
-    }
-
-    /// The clauses about regions that the super clauses of its trait ask of the impl, in order.
-    #[tactic(auto, using(crate::proofs::Given::impl_outlives_fit))]
-    pub fn impl_super_outlives(&self, of: ImplId) -> &[Clause]
-        ensures is { result.now ≡ lookup.maybe [] (λ a. a.super_outlives) (impl_at self.now of) }
-        ensures fit { ClauseListFits self.now.trees result.now }
-    {
-        match self.impl_contents(of) {
-            Some(contents) => contents.super_outlives.as_slice(),
-            None => &[],
-        }
-    }
-
-    /// The impls that the impl specialises, as they were said.
-    pub fn specialized_impls(&self, of: ImplId) -> &[ImplId]
-        ensures { result.now ≡ lookup.maybe [] (λ a. a.specializes) (impl_at self.now of) }
-    {
-        match self.impl_contents(of) {
-            Some(contents) => contents.specializes.as_slice(),
             None => &[],
         }
     }

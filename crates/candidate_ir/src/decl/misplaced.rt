@@ -16,6 +16,8 @@ use crate::ir::heads::{ConstHead, Head};
 use crate::ir::kinds::{Args, Clause, RegionKind, VarKind};
 use crate::ir::node::Node;
 use crate::ir::nodes::Nodes;
+use crate::ir::trees::Trees;
+use crate::ir::walks::number_escapes;
 
 /// What may not stand in a declaration with certain parameters.
 #[derive(Clone, Copy)]
@@ -211,9 +213,9 @@ fn held_escapes(nodes: &Nodes, held: Held) -> bool
 {
     nodes.len(); // so that one more than a number is a number
     if held.under_binder {
-        nodes.number_escapes(held.number, 1)
+        number_escapes(nodes, held.number, 1)
     } else {
-        nodes.number_escapes(held.number, 0)
+        number_escapes(nodes, held.number, 0)
     }
 }
 

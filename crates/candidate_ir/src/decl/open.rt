@@ -18,7 +18,9 @@ use crate::ir::heads::{ConstHead, Head};
 use crate::ir::kinds::{
     Args, Binder, BoundVar, Clause, ConstKind, GenericArg, RegionKind, TyKind, VarKind,
 };
+use crate::ir::numbered::Numbered;
 use crate::ir::stop::Stop;
+use crate::ir::trees::Trees;
 use std::alloc::{AllocError, Global};
 
 /// The bound variable that a head is, with its kind.

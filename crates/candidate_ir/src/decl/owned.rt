@@ -1,13 +1,13 @@
 //! What a definition holds, where arguments are given for its parameters: each parameter has one of its kind.
 
-ghost use Rattle.std.specs.Prelude.{◌≡◌, ℕ, [], None, Some, false, slice_get, IfSome};
+ghost use Rattle.std.specs.Prelude.{◌≡◌, [], None, Some, false, All, IfSome};
 ghost use Rattle.candidate_ir.specs.Context.{world};
 ghost use Rattle.candidate_ir.specs.Declaring.{adt_at};
 ghost use Rattle.candidate_ir.specs.Folding.{lacks_argument};
 ghost use Rattle.candidate_ir.specs.Lookups as lookup;
 ghost use Rattle.candidate_ir.specs.Trees.{tree_holds};
 ghost use Rattle.candidate_ir.specs.Signatures.{SignatureHas};
-ghost use Rattle.candidate_ir.specs.WellFormed.{SignatureFits};
+ghost use Rattle.candidate_ir.specs.WellFormed.{SignatureFits, TypesFit};
 ghost use Rattle.candidate_ir.specs.Words.{IsTy, args_forest, ty_tree};
 ghost use Rattle.candidate_ir.specs.Worlds.{AdtSort, FunctionSort, OpaqueSort, parameters, kinds_of};
 
@@ -16,29 +16,17 @@ use crate::decl::context::Cx;
 use crate::ir::kinds::{AdtId, AliasId, Args, Binder, FnId, FnSig, Ty};
 
 impl Cx {
-    /// Each parameter of a field has one of the arguments.
-    #[tactic(auto, using(crate::proofs::Owned::field_has_arguments))]
-    fn fields_have_arguments(&self, adt: AdtId, args: Args)
+    /// The types of the fields of the data type, in order, whose parameters have these arguments.
+    #[tactic(auto, using(crate::proofs::Owned::fields_have_arguments))]
+    pub fn fields_of(&self, adt: AdtId, args: Args) -> &[Ty]
         requires { parameters (world self.now) AdtSort adt.0 ≡ Some (kinds_of (args_forest self.now.trees args)) }
-        ensures { (k : ℕ) (x : Ty) → Some x ≡ slice_get (lookup.maybe [] (λ a. a.fields) (adt_at self.now adt.0)) k → tree_holds (lacks_argument (args_forest self.now.trees args)) (ty_tree self.now.trees x) ≡ false }
+        ensures is { result.now ≡ lookup.maybe [] (λ a. a.fields) (adt_at self.now adt.0) }
+        ensures fit { TypesFit self.now.trees result.now }
+        ensures have { All (λ t. tree_holds (lacks_argument (args_forest self.now.trees args)) (ty_tree self.now.trees t) ≡ false) result.now }
     {
-        let _ = (adt, args, self.contents.adts.len());
+        let _ = (args, self.contents.adts.len());
         self.well_formed_table();
-    }
-
-    /// The type of the field in that place of the data type, whose parameters have these arguments.
-    pub fn field_of(&self, adt: AdtId, args: Args, place: usize) -> Option<Ty>
-        requires { parameters (world self.now) AdtSort adt.0 ≡ Some (kinds_of (args_forest self.now.trees args)) }
-        ensures is { result ≡ slice_get (lookup.maybe [] (λ a. a.fields) (adt_at self.now adt.0)) place }
-        ensures sort { IfSome result (λ t. IsTy self.now.trees t) }
-        ensures has { IfSome result (λ t. tree_holds (lacks_argument (args_forest self.now.trees args)) (ty_tree self.now.trees t) ≡ false) }
-    {
-        self.fields_have_arguments(adt, args);
-        let fields = self.fields(adt);
-        if place >= fields.len() {
-            return None;
-        }
-        Some(fields[place])
+        self.fields(adt)
     }
 
     /// The type that has to be sized, in this sense, for the data type to be, whose parameters have these arguments.

@@ -17,6 +17,7 @@ use crate::ir::at::at;
 use crate::ir::kinds::{ConstKind, RegionKind, TyKind, VarKind};
 use crate::ir::node::Node;
 use crate::ir::nodes::Nodes;
+use crate::ir::trees::Trees;
 
 fn is_type(kind: Option<VarKind>) -> bool
     ensures { result ≡ is_type kind }

@@ -19,7 +19,9 @@ use crate::ir::kinds::{
     Args, BoundVar, Clause, Const, ConstKind, GenericArg, ParamEnv, RegionKind, Sig, TraitRef, Ty,
     TyKind, VarKind,
 };
+use crate::ir::numbered::Numbered;
 use crate::ir::stop::Stop;
+use crate::ir::trees::Trees;
 use std::alloc::Global;
 
 /// What stands for a bound variable that is bound outside of the binders passed, where so many more

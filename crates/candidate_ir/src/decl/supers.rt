@@ -14,6 +14,8 @@ use crate::ir::at::at;
 use crate::ir::heads::{ClauseHead, Head};
 use crate::ir::kinds::{Args, Binder, Clause, ClauseKind, PredicatePolarity};
 use crate::ir::nodes::Nodes;
+use crate::ir::numbered::Numbered;
+use crate::ir::trees::Trees;
 
 /// The number of the first member of a list.
 #[tactic(auto, using(crate::proofs::Supers::no_first, crate::proofs::Supers::first_of))]

@@ -397,17 +397,6 @@ impl VarKind {
 }
 
 impl GenericArg {
-    /// The number that it is in its context.
-    pub fn number(self) -> u32
-        ensures { result ≡ arg_number self }
-    {
-        match self {
-            GenericArg::Ty(ty) => ty.0,
-            GenericArg::Const(constant) => constant.0,
-            GenericArg::Region(region) => region.0,
-        }
-    }
-
     /// Whether it is a type.
     pub(crate) fn is_type(self) -> bool
         ensures { result ≡ is_type_arg self }

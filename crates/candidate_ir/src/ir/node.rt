@@ -11,6 +11,7 @@ use crate::ir::kinds::{
     Binder, Clause, ClauseKind, ClosureSig, ConstKind, ExistentialPredicate, GenericArg, Pred,
     RegionKind, TyKind, Var, VarKind, one_of_three,
 };
+use crate::ir::numbered::Numbered;
 
 #[derive(Drop)]
 pub enum Node {

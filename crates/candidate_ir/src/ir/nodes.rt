@@ -16,6 +16,7 @@ use crate::ir::kinds::{
 };
 use crate::ir::node::{Node, Row};
 use crate::ir::stop::Stop;
+use crate::ir::trees::Trees;
 use std::alloc::Global;
 use std::marker::Model;
 
@@ -41,6 +42,14 @@ impl Model for Nodes {
     ghost invariant = { λ a. AreRows [] a.rows.items × (length a.rows.items ≤ 4294967295) };
 }
 
+impl Trees for Nodes {
+    ghost trees = { λ nodes. nodes };
+
+    fn node(&self, number: u32) -> &Node {
+        &self.rows[number as usize].node
+    }
+}
+
 /// No tree is higher.
 const MAX_HEIGHT: u32 = 1024;
 
@@ -55,13 +64,6 @@ impl Nodes {
         Nodes {
             rows: Vec::new(alloc),
         }
-    }
-
-    pub(crate) fn node(&self, number: u32) -> &Node
-        requires { number < length self.now }
-        ensures { IsNodeOf self.now number result.now }
-    {
-        &self.rows[number as usize].node
     }
 
     pub(crate) fn height(&self, number: u32) -> u32

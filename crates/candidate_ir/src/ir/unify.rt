@@ -4,12 +4,10 @@ ghost use Rattle.std.specs.Prelude.{◌≡◌, ◌<◌, Bool, None, length};
 ghost use Rattle.std.specs.Option.{unwrap_or};
 ghost use Rattle.candidate_ir.specs.Nodes.{tree_at};
 ghost use Rattle.candidate_ir.specs.Substitutions.{is_integer, is_float};
-ghost use Rattle.candidate_ir.specs.Unify.{meets_any, meets_any_on_right, is_variable_of, pair_may, may_unify, trees_may_unify};
-ghost use Rattle.candidate_ir.specs.Words.{IsTy, IsConst, IsArgs, ty_tree, const_tree, args_forest};
+ghost use Rattle.candidate_ir.specs.Unify.{meets_any, meets_any_on_right, is_variable_of, pair_may, trees_may_unify};
 
 use crate::ir::heads::{Builtin, ConstHead, Flag, Head, VariableSort};
-use crate::ir::kinds::{Args, Const, Ty};
-use crate::ir::nodes::Nodes;
+use crate::ir::trees::Trees;
 
 /// What stands on the right side of a comparison.
 #[derive(Clone, Copy)]
@@ -107,56 +105,27 @@ impl Head {
     }
 }
 
-impl Nodes {
-    /// Whether the trees of two numbers may be made equal.
-    fn numbers_may_unify(&self, a: u32, b: u32, right: RightSide) -> bool
-        requires a { a < length self.now }
-        requires b { b < length self.now }
-        ensures { result ≡ trees_may_unify right (tree_at self.now a) (tree_at self.now b) }
-    {
-        if a == b {
-            return true;
-        }
-        let first = self.node(a);
-        let second = self.node(b);
-        if let Some(said) = first.head().may_unify(second.head(), right) {
-            return said;
-        }
-        if first.child_count() != second.child_count() {
+/// Whether the trees of two numbers may be made equal.
+pub(crate) fn numbers_may_unify<T: Trees>(trees: &T, a: u32, b: u32, right: RightSide) -> bool
+    requires a { a < length (T.trees trees.now) }
+    requires b { b < length (T.trees trees.now) }
+    ensures { result ≡ trees_may_unify right (tree_at (T.trees trees.now) a) (tree_at (T.trees trees.now) b) }
+{
+    if a == b {
+        return true;
+    }
+    let first = trees.node(a);
+    let second = trees.node(b);
+    if let Some(said) = first.head().may_unify(second.head(), right) {
+        return said;
+    }
+    if first.child_count() != second.child_count() {
+        return false;
+    }
+    for i in 0..first.child_count() {
+        if !numbers_may_unify(trees, first.child(i), second.child(i), right) {
             return false;
         }
-        for i in 0..first.child_count() {
-            if !self.numbers_may_unify(first.child(i), second.child(i), right) {
-                return false;
-            }
-        }
-        true
     }
-
-    /// Whether two types may be made equal.
-    pub(crate) fn may_unify(&self, a: Ty, b: Ty, right: RightSide) -> bool
-        requires a { IsTy self.now a }
-        requires b { IsTy self.now b }
-        ensures { result ≡ trees_may_unify right (ty_tree self.now a) (ty_tree self.now b) }
-    {
-        self.numbers_may_unify(a.0, b.0, right)
-    }
-
-    /// Whether two constants may be made equal.
-    pub(crate) fn consts_may_unify(&self, a: Const, b: Const, right: RightSide) -> bool
-        requires a { IsConst self.now a }
-        requires b { IsConst self.now b }
-        ensures { result ≡ trees_may_unify right (const_tree self.now a) (const_tree self.now b) }
-    {
-        self.numbers_may_unify(a.0, b.0, right)
-    }
-
-    /// Whether two lists may be made equal, member by member.
-    pub(crate) fn args_may_unify(&self, a: Args, b: Args, right: RightSide) -> bool
-        requires a { IsArgs self.now a }
-        requires b { IsArgs self.now b }
-        ensures { result ≡ may_unify right (args_forest self.now a) (args_forest self.now b) }
-    {
-        self.numbers_may_unify(a.0, b.0, right)
-    }
+    true
 }

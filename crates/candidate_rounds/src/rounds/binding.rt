@@ -3,11 +3,10 @@
 ghost use Rattle.std.specs.Prelude.{◌≡◌, ◌≤◌, true, false, [], None, Ok, IfOk, IfErr, OnOk, length, slice_get};
 ghost use Rattle.candidate_ir.specs.Context.{Grows};
 ghost use Rattle.candidate_ir.specs.Folds.{IsArg, arg_tree};
-ghost use Rattle.candidate_ir.specs.Kinds.{arg_kind, ty_head};
-ghost use Rattle.candidate_ir.specs.Substitutions.{alone, fits_sort, is_float, is_integer, same_sort, same_variable};
+ghost use Rattle.candidate_ir.specs.Substitutions.{alone, fits_sort, same_variable};
 ghost use Rattle.candidate_ir.specs.Trees.{is_number, tree_holds};
 ghost use Rattle.candidate_ir.specs.Unify.{same_head};
-ghost use Rattle.candidate_ir.specs.Words.{IsClause, IsConst, IsRegion, IsTy, clause_tree, const_tree, region_tree, ty_tree};
+ghost use Rattle.candidate_ir.specs.Words.{IsClause, IsRegion, clause_tree, region_tree};
 ghost use Rattle.candidate_eval.specs.Soundness.{IsResolved};
 ghost use Rattle.candidate_eval.specs.States.{value_of, valued_tree};
 ghost use Rattle.candidate_eval.specs.declared.eval.mode.TypingMode.{TypingMode};
@@ -21,63 +20,36 @@ ghost use Rattle.candidate_rounds.specs.Known.{AreMarks, GoesOn, HasResolvedValu
 
 use crate::rounds::Rounds;
 use crate::rounds::inference::Inference;
-use crate::rounds::resolving::{Lone, is_same_kind, variable_of};
+use crate::rounds::resolving::{Lone, is_same_kind};
 use candidate_eval::eval::variable::VariableKind;
 use candidate_ir::decl::context::Cx;
 use candidate_ir::decl::fold::fold_arg;
-use candidate_ir::ir::heads::{Flag, Variable, VariableSort};
-use candidate_ir::ir::kinds::{
-    Binder, Clause, ClauseKind, Const, ConstKind, GenericArg, InferTy, Region, Ty, TyKind,
-};
+use candidate_ir::ir::heads::{Builtin, Flag, Head, Variable, VariableSort};
+use candidate_ir::ir::kinds::{Binder, Clause, ClauseKind, GenericArg, Region};
+use candidate_ir::ir::numbered::Numbered;
 use candidate_ir::ir::stop::Stop;
+use candidate_ir::ir::trees::Trees;
 use std::alloc::Global;
 
-/// Whether it is an integer type, or a variable for one.
-fn is_integer(kind: TyKind) -> bool
-    ensures { result ≡ is_integer (ty_head kind) }
-{
-    matches!(
-        kind,
-        TyKind::Int(_) | TyKind::Uint(_) | TyKind::Infer(InferTy::IntVar(_))
-    )
-}
-
-/// Whether it is a floating-point type, or a variable for one.
-fn is_float(kind: TyKind) -> bool
-    ensures { result ≡ is_float (ty_head kind) }
-{
-    matches!(kind, TyKind::Float(_) | TyKind::Infer(InferTy::FloatVar(_)))
-}
-
-/// Whether a variable of the sort may go to the type.
-fn ty_fits_sort(cx: &Cx, sort: VariableSort, ty: Ty) -> bool
-    requires { IsTy cx.now.trees ty }
-    ensures { result ≡ fits_sort sort (ty_tree cx.now.trees ty).head }
-{
-    match sort {
-        VariableSort::General => true,
-        VariableSort::Integer => is_integer(cx.kind(ty)),
-        VariableSort::Floating => is_float(cx.kind(ty)),
-        VariableSort::Constant => false,
-    }
-}
-
-/// Whether it is the sort of constants.
-fn is_constant_sort(sort: VariableSort) -> bool
-    ensures { result ≡ same_sort sort VariableSort.Constant }
-{
-    sort == VariableSort::Constant
-}
-
-/// Whether a variable of the sort may go to the argument.
+/// Whether a variable of the sort may go to the argument: one for integers to an integer type or another variable for integers.
 fn fits_sort(cx: &Cx, sort: VariableSort, arg: GenericArg) -> bool
     requires { IsArg cx.now.trees arg }
     ensures { result ≡ fits_sort sort (arg_tree cx.now.trees arg).head }
 {
-    match arg {
-        GenericArg::Ty(ty) => ty_fits_sort(cx, sort, ty),
-        GenericArg::Const(_) => is_constant_sort(sort),
-        GenericArg::Region(_) => false,
+    let head = cx.head(arg.number());
+    match sort {
+        VariableSort::General => matches!(arg, GenericArg::Ty(_)),
+        VariableSort::Integer => match head {
+            Head::Builtin(builtin) => matches!(builtin, Builtin::Int(_) | Builtin::Uint(_)),
+            Head::Infer(variable) => variable.sort == VariableSort::Integer,
+            _ => false,
+        },
+        VariableSort::Floating => match head {
+            Head::Builtin(builtin) => matches!(builtin, Builtin::Float(_)),
+            Head::Infer(variable) => variable.sort == VariableSort::Floating,
+            _ => false,
+        },
+        VariableSort::Constant => matches!(arg, GenericArg::Const(_)),
     }
 }
 
@@ -104,27 +76,10 @@ fn is_allowed(cx: &Cx, number: u32, universe: u32, value: GenericArg) -> bool
     if cx.mentions(value, number) {
         return false;
     }
-    if cx.arg_has_escaping_bound_vars(value) {
+    if cx.has_escaping_bound_vars(value) {
         return false;
     }
     !cx.has_placeholder_above(value, universe)
-}
-
-/// Whether the variable is there, and may get the value.
-fn may_take(cx: &Cx, inference: &Inference, variable: Variable, value: GenericArg) -> bool
-    requires { IsArg cx.now.trees value }
-    ensures { (m : TypingMode) → result ≡ may_take (state_of cx.now.trees m inference.now) variable (arg_tree cx.now.trees value) }
-{
-    let Some(entry) = inference.entry(variable.number) else {
-        return false;
-    };
-    if !is_same_kind(entry.kind, VariableKind::Term(variable.sort)) {
-        return false;
-    }
-    if !fits_sort(cx, variable.sort, value) {
-        return false;
-    }
-    is_allowed(cx, variable.number, entry.universe, value)
 }
 
 /// Whether two variables are the same.
@@ -134,54 +89,14 @@ fn is_same_variable(a: Variable, b: Variable) -> bool
     a.sort == b.sort && a.number == b.number
 }
 
-/// What is put in the place of a type: the value in that of the variable.
-fn put_for_ty(cx: &Cx, variable: Variable, value: GenericArg, ty: Ty) -> Option<GenericArg>
-    requires { IsTy cx.now.trees ty }
-    ensures { result ≡ single_arg variable value (ty_tree cx.now.trees ty).head }
-{
-    let TyKind::Infer(var) = cx.kind(ty) else {
-        return None;
-    };
-    if is_same_variable(variable, variable_of(var)) {
-        Some(value)
-    } else {
-        None
-    }
-}
-
-/// The same of a constant.
-fn put_for_const(
-    cx: &Cx,
-    variable: Variable,
-    value: GenericArg,
-    constant: Const,
-) -> Option<GenericArg>
-    requires { IsConst cx.now.trees constant }
-    ensures { result ≡ single_arg variable value (const_tree cx.now.trees constant).head }
-{
-    let ConstKind::Infer(number) = cx.const_kind(constant) else {
-        return None;
-    };
-    let other = Variable {
-        sort: VariableSort::Constant,
-        number,
-    };
-    if is_same_variable(variable, other) {
-        Some(value)
-    } else {
-        None
-    }
-}
-
-/// What is put in the place of an argument.
+/// What is put in the place of an argument: the value in that of the variable.
 fn put_for(cx: &Cx, variable: Variable, value: GenericArg, arg: GenericArg) -> Option<GenericArg>
     requires { IsArg cx.now.trees arg }
     ensures { result ≡ single_arg variable value (arg_tree cx.now.trees arg).head }
 {
-    match arg {
-        GenericArg::Ty(ty) => put_for_ty(cx, variable, value, ty),
-        GenericArg::Const(constant) => put_for_const(cx, variable, value, constant),
-        GenericArg::Region(_) => None,
+    match cx.head(arg.number()) {
+        Head::Infer(other) if is_same_variable(variable, other) => Some(value),
+        _ => None,
     }
 }
 
@@ -224,13 +139,10 @@ fn is_open(cx: &Cx, arg: GenericArg) -> bool
     if let Some(lone) = Lone::of(cx, arg) {
         return lone.is_variable();
     }
-    match arg {
-        GenericArg::Ty(ty) => cx.has(ty, Flag::TyInfer) || cx.has(ty, Flag::ConstInfer),
-        GenericArg::Const(constant) => {
-            cx.const_has(constant, Flag::TyInfer) || cx.const_has(constant, Flag::ConstInfer)
-        }
-        GenericArg::Region(_) => true,
+    if matches!(arg, GenericArg::Region(_)) {
+        return true;
     }
+    cx.has(arg, Flag::TyInfer) || cx.has(arg, Flag::ConstInfer)
 }
 
 /// The variable of that number gets its value, once a variable has the value: the value itself, or its own with the value put
@@ -491,7 +403,16 @@ impl Rounds {
         requires { IsArg self.now.context.trees value }
         ensures { result ≡ may_take (state self.now) variable (arg_tree self.now.context.trees value) }
     {
-        may_take(&self.cx, &self.inference, variable, value)
+        let Some(entry) = self.inference.entry(variable.number) else {
+            return false;
+        };
+        if !is_same_kind(entry.kind, VariableKind::Term(variable.sort)) {
+            return false;
+        }
+        if !fits_sort(&self.cx, variable.sort, value) {
+            return false;
+        }
+        is_allowed(&self.cx, variable.number, entry.universe, value)
     }
 
     /// The variable, which has none yet, gets the value, which it may take: it is put into all values that hold the variable, and what
@@ -530,13 +451,6 @@ impl Rounds {
         }
         let (one, other) = equal_regions(&mut self.cx, a, b)?;
         record_both(&mut self.inference, one, other)
-    }
-
-    /// How many changes there are to undo.
-    pub(crate) fn changes(&self) -> usize
-        ensures { result ≡ length self.now.inference.trail }
-    {
-        self.inference.changes()
     }
 
     /// What holds between calls, said to a caller that needs it. Nothing is done.

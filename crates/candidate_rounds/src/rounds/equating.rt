@@ -1,7 +1,6 @@
 //! Trees are made equal: what is first on both sides is looked at, and then what is left.
 
-ghost use Rattle.std.specs.Prelude.{◌≡◌, ◌≢◌, ◌<◌, ◌⊎◌, Some, None, List, [], ◌∷◌, ◌++◌, IfOk, IfErr, OnOk, OnErr, MatchOption, length, reverse, suc, ◌&&◌, false, true};
-ghost use Rattle.candidate_ir.specs.Context.{Grows};
+ghost use Rattle.std.specs.Prelude.{◌≡◌, ◌<◌, ◌⊎◌, Some, None, List, [], ◌∷◌, ◌++◌, IfOk, IfErr, OnOk, OnErr, MatchOption, length, reverse, suc, ◌&&◌, false, true};
 ghost use Rattle.candidate_ir.specs.Folds.{IsArg, arg_tree};
 ghost use Rattle.candidate_ir.specs.Nodes.{tree_at};
 ghost use Rattle.candidate_ir.specs.Substitutions.{alone};
@@ -25,7 +24,9 @@ use candidate_eval::eval::refusal::NoSolutionOrStop;
 use candidate_ir::decl::context::Cx;
 use candidate_ir::ir::heads::Head;
 use candidate_ir::ir::kinds::{Args, GenericArg, Region};
+use candidate_ir::ir::numbered::Numbered;
 use candidate_ir::ir::stop::Stop;
+use candidate_ir::ir::trees::Trees;
 use std::alloc::Global;
 
 /// Two nodes of which what stands below is still to be made equal, from a place on.
@@ -385,7 +386,7 @@ impl Rounds {
         ensures undone { OnErr result (self.new.inference ≡ self.old.inference) }
     {
         self.well_kept();
-        let changes = self.changes();
+        let changes = self.inference.changes();
         let result = self.equate_numbers(alloc, a.number(), b.number());
         if result.is_err() {
             self.undo_to(changes);
@@ -409,7 +410,7 @@ impl Rounds {
         ensures undone { OnErr result (self.new.inference ≡ self.old.inference) }
     {
         self.well_kept();
-        let changes = self.changes();
+        let changes = self.inference.changes();
         let result = self.equate_below(alloc, a, b);
         if result.is_err() {
             self.undo_to(changes);

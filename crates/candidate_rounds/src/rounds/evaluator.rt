@@ -1,18 +1,38 @@
-//! The evaluator as generic code knows it.
+//! The evaluator as generic code knows it. What a call says beyond its trait is in clauses of its own, beside the trait's.
 
-ghost use Rattle.std.specs.Prelude.{◌≡◌, ◌++◌, ◌∷◌, [], Some, None, refl, IfOk, IfErr, OnOk, OnErr};
+ghost use Rattle.std.specs.Prelude.{All, List, ◌⊎◌, ◌≡◌, ◌≢◌, ◌++◌, ◌∷◌, [], Some, None, refl, length, IfOk, IfErr, OnOk, OnErr};
+ghost use Rattle.candidate_ir.specs.declared.ir.kinds.TyKind.TheVariants as K;
+ghost use Rattle.candidate_ir.specs.Context.{Grows};
+ghost use Rattle.candidate_ir.specs.Folding.{IsSubstStop};
+ghost use Rattle.candidate_ir.specs.Folds.{IsArg, arg_tree};
+ghost use Rattle.candidate_ir.specs.Substitutions.{alone};
+ghost use Rattle.candidate_ir.specs.Words.{IsArgs, IsClause, IsConst, IsParamEnv, IsTy, KindFits, args_forest, clause_tree, const_tree, env_forest, ty_tree};
+ghost use Rattle.candidate_eval.specs.Evaluators.{IsEvaluatorRefusal, IsEvaluatorStop, IsGoal, Keeps, accepted, alias_trees, begun, kinds_listed, pending_of, pendings_of, resolved_root, rigid, with_goals_of, with_rigid};
+ghost use Rattle.candidate_eval.specs.ResponseTrees.{IsResponse, response_of};
+ghost use Rattle.candidate_eval.specs.States.{Env, State, added, fresh_variables, next, resolved, resolved_tree, with_fresh_variables};
+ghost use Rattle.candidate_rounds.specs.Inferences.{IsFullAt, IsOutOfRoom};
 ghost use Rattle.candidate_rounds.specs.Interface.{Fixed, Rest, fixed, judge_of, rest, rest_parts, root_stays};
-ghost use Rattle.candidate_rounds.specs.Known.{probes, state};
-ghost use Rattle.candidate_eval.specs.Evaluators.{resolved_root};
+ghost use Rattle.candidate_rounds.specs.Known.{GoesOn, KeepsGiven, listing, probes, state};
+ghost use Rattle.candidate_rounds.specs.Stopping.{IsAnsweringStop, IsEquationStop, IsSettlingStop, IsTreeStop};
+ghost use Rattle.rounds_judge.specs.Equating.{equated};
+ghost use Rattle.rounds_judge.specs.Normalizing.{normalized};
+ghost use Rattle.rounds_judge.specs.Responding.{responded};
+ghost use Rattle.rounds_judge.specs.Settling.{settled};
 ghost use Rattle.rounds_judge.proofs.WellListed.{keeps-the-laws};
 
 use crate::rounds::Rounds;
+use crate::rounds::fresh::Leaves;
+use crate::rounds::resolving::{
+    region_of, resolved_args, resolved_clause, resolved_const, resolved_root, resolved_ty, type_of,
+};
+use crate::rounds::settling::MOST_PASSES;
 use candidate_eval::eval::InferCtxtLike;
 use candidate_eval::eval::certainty::Certainty;
 use candidate_eval::eval::context::{EvalCtxt, ProbeKind};
 use candidate_eval::eval::mode::TypingMode;
 use candidate_eval::eval::refusal::NoSolutionOrStop;
 use candidate_eval::eval::response::{CandidateHeadUsages, CanonicalResponse};
+use candidate_eval::eval::variable::VariableKind;
 use candidate_ir::decl::context::Cx;
 use candidate_ir::decl::make::Make;
 use candidate_ir::ir::kinds::{
@@ -21,6 +41,7 @@ use candidate_ir::ir::kinds::{
     Vars,
 };
 use candidate_ir::ir::stop::Stop;
+use candidate_ir::ir::trees::Trees;
 use std::alloc::Global;
 
 impl Make for Rounds {
@@ -77,7 +98,8 @@ impl InferCtxtLike for Rounds {
     ghost stays = { λ r t e. root_stays (state r) t e };
 
     fn shallow_resolve(&self, ty: Ty) -> Ty {
-        Rounds::shallow_resolve(self, ty)
+        self.well_kept();
+        type_of(resolved_root(&self.cx, &self.inference, GenericArg::Ty(ty)))
     }
 }
 
@@ -105,143 +127,411 @@ impl EvalCtxt for Rounds {
     ghost probes = { probes };
 
     fn typing_mode(&self) -> TypingMode {
-        Rounds::typing_mode(self)
+        self.mode
     }
 
-    fn resolve_ty_if_possible(&mut self, ty: Ty) -> Result<Ty, Stop> {
-        self.well_kept();
+    /// All values are put in: the value of each variable that has one stands in its place. `Stop::Memory` comes where a growth was
+    /// refused, `Stop::NodesFull` where no numbers are left or what came of a part of the tree would be higher than 1,024. After a
+    /// stop the nodes that were made stay. The same holds of the three calls below.
+    fn resolve_ty_if_possible(&mut self, ty: Ty) -> Result<Ty, Stop>
+        requires { IsTy self.old.context.trees ty }
+        ensures goes { GoesOn self.old self.new }
+        ensures kept { Keeps fixed probes (λ r. r.context) self.old self.new }
+        ensures same { state self.new ≡ state self.old }
+        ensures sort { IfOk result (λ x. IsTy self.new.context.trees x) }
+        ensures tree { IfOk result (λ x. ty_tree self.new.context.trees x ≡ resolved_tree (state self.old) (ty_tree self.old.context.trees ty)) }
+        ensures cause { IfErr result IsEvaluatorStop }
+        ensures reason { IfErr result (λ s. IsSubstStop (length self.new.context.trees) (alone (resolved_tree (state self.old) (ty_tree self.old.context.trees ty))) s) }
+    {
         let alloc = self.allocator();
-        Rounds::resolve_ty_if_possible(self, alloc, ty)
+        resolved_ty(alloc, &mut self.cx, &self.inference, ty)
     }
 
-    fn resolve_const_if_possible(&mut self, constant: Const) -> Result<Const, Stop> {
-        self.well_kept();
+    fn resolve_const_if_possible(&mut self, constant: Const) -> Result<Const, Stop>
+        requires { IsConst self.old.context.trees constant }
+        ensures goes { GoesOn self.old self.new }
+        ensures kept { Keeps fixed probes (λ r. r.context) self.old self.new }
+        ensures same { state self.new ≡ state self.old }
+        ensures sort { IfOk result (λ x. IsConst self.new.context.trees x) }
+        ensures tree { IfOk result (λ x. const_tree self.new.context.trees x ≡ resolved_tree (state self.old) (const_tree self.old.context.trees constant)) }
+        ensures cause { IfErr result IsEvaluatorStop }
+        ensures reason { IfErr result (λ s. IsSubstStop (length self.new.context.trees) (alone (resolved_tree (state self.old) (const_tree self.old.context.trees constant))) s) }
+    {
         let alloc = self.allocator();
-        Rounds::resolve_const_if_possible(self, alloc, constant)
+        resolved_const(alloc, &mut self.cx, &self.inference, constant)
     }
 
-    fn resolve_args_if_possible(&mut self, list: Args) -> Result<Args, Stop> {
-        self.well_kept();
+    fn resolve_args_if_possible(&mut self, list: Args) -> Result<Args, Stop>
+        requires { IsArgs self.old.context.trees list }
+        ensures goes { GoesOn self.old self.new }
+        ensures kept { Keeps fixed probes (λ r. r.context) self.old self.new }
+        ensures same { state self.new ≡ state self.old }
+        ensures sort { IfOk result (λ x. IsArgs self.new.context.trees x) }
+        ensures tree { IfOk result (λ x. args_forest self.new.context.trees x ≡ resolved (state self.old) (args_forest self.old.context.trees list)) }
+        ensures cause { IfErr result IsEvaluatorStop }
+        ensures reason { IfErr result (λ s. IsSubstStop (length self.new.context.trees) (resolved (state self.old) (args_forest self.old.context.trees list)) s) }
+    {
         let alloc = self.allocator();
-        Rounds::resolve_args_if_possible(self, alloc, list)
+        resolved_args(alloc, &mut self.cx, &self.inference, list)
     }
 
-    fn resolve_clause_if_possible(&mut self, clause: Clause) -> Result<Clause, Stop> {
-        self.well_kept();
+    fn resolve_clause_if_possible(&mut self, clause: Clause) -> Result<Clause, Stop>
+        requires { IsClause self.old.context.trees clause }
+        ensures goes { GoesOn self.old self.new }
+        ensures kept { Keeps fixed probes (λ r. r.context) self.old self.new }
+        ensures same { state self.new ≡ state self.old }
+        ensures sort { IfOk result (λ x. IsClause self.new.context.trees x) }
+        ensures tree { IfOk result (λ x. clause_tree self.new.context.trees x ≡ resolved_tree (state self.old) (clause_tree self.old.context.trees clause)) }
+        ensures cause { IfErr result IsEvaluatorStop }
+        ensures reason { IfErr result (λ s. IsSubstStop (length self.new.context.trees) (alone (resolved_tree (state self.old) (clause_tree self.old.context.trees clause))) s) }
+    {
         let alloc = self.allocator();
-        Rounds::resolve_clause_if_possible(self, alloc, clause)
+        resolved_clause(alloc, &mut self.cx, &self.inference, clause)
     }
 
     fn eager_resolve_region(&self, region: Region) -> Region {
-        Rounds::eager_resolve_region(self, region)
+        match self.cx.region_kind(region) {
+            RegionKind::Var(number) => match self.value(VariableKind::Region, number) {
+                Some(value) => region_of(value),
+                None => region,
+            },
+            _ => region,
+        }
     }
 
-    fn structurally_normalize_ty(
-        &mut self,
-        _env: ParamEnv,
-        ty: Ty,
-    ) -> Result<Ty, NoSolutionOrStop> {
+    /// All values are put in, and if it is a listed alias then, its type stands in its place. It is never refused, and stops as
+    /// `resolve_ty_if_possible` does.
+    fn structurally_normalize_ty(&mut self, env: ParamEnv, ty: Ty) -> Result<Ty, NoSolutionOrStop>
+        requires env { IsParamEnv self.old.context.trees env }
+        requires ty { IsTy self.old.context.trees ty }
+        ensures goes { GoesOn self.old self.new }
+        ensures kept { Keeps fixed probes (λ r. r.context) self.old self.new }
+        ensures same { state self.new ≡ state self.old }
+        ensures sort { IfOk result (λ x. IsTy self.new.context.trees x) }
+        ensures listed { (e : Env) → IfOk result (λ x. normalized (listing self.old) (state self.old) e (ty_tree self.old.context.trees ty) ≡ Some (ty_tree self.new.context.trees x, state self.new)) }
+        ensures ok { IfOk result (λ x. (judge_of (fixed self.old)).normalized (state self.old) (env_forest self.old.context.trees env) (ty_tree self.old.context.trees ty) ≡ Some (ty_tree self.new.context.trees x, state self.new)) }
+        ensures never { IfErr result (λ e. e ≢ NoSolutionOrStop.NoSolution) }
+        ensures refused { IfErr result (λ e. e ≡ NoSolutionOrStop.NoSolution → (judge_of (fixed self.old)).normalized (state self.old) (env_forest self.old.context.trees env) (ty_tree self.old.context.trees ty) ≡ None) }
+        ensures undone { OnErr result ((judge_of (fixed self.old)).alike (state self.old) (state self.new)) }
+        ensures cause { IfErr result IsEvaluatorRefusal }
+        ensures reason { IfErr result (λ e. (s : Stop) → e ≡ NoSolutionOrStop.Stop s → IsTreeStop self.new.context.trees (resolved_tree (state self.old) (ty_tree self.old.context.trees ty)) s) }
+    {
         self.well_kept();
-        let alloc = self.allocator();
-        Ok(Rounds::structurally_normalize_ty(self, alloc, ty)?)
+        let _ = env;
+        let resolved = self.resolve_ty_if_possible(ty)?;
+        Ok(self.listed_or_itself(resolved))
     }
 
+    /// All values are put in. No constant is ever listed, and none is refused; it stops as `resolve_ty_if_possible` does.
     fn structurally_normalize_const(
         &mut self,
-        _env: ParamEnv,
+        env: ParamEnv,
         constant: Const,
-    ) -> Result<Const, NoSolutionOrStop> {
+    ) -> Result<Const, NoSolutionOrStop>
+        requires env { IsParamEnv self.old.context.trees env }
+        requires constant { IsConst self.old.context.trees constant }
+        ensures goes { GoesOn self.old self.new }
+        ensures kept { Keeps fixed probes (λ r. r.context) self.old self.new }
+        ensures same { state self.new ≡ state self.old }
+        ensures sort { IfOk result (λ x. IsConst self.new.context.trees x) }
+        ensures listed { (e : Env) → IfOk result (λ x. normalized (listing self.old) (state self.old) e (const_tree self.old.context.trees constant) ≡ Some (const_tree self.new.context.trees x, state self.new)) }
+        ensures ok { IfOk result (λ x. (judge_of (fixed self.old)).normalized (state self.old) (env_forest self.old.context.trees env) (const_tree self.old.context.trees constant) ≡ Some (const_tree self.new.context.trees x, state self.new)) }
+        ensures never { IfErr result (λ e. e ≢ NoSolutionOrStop.NoSolution) }
+        ensures refused { IfErr result (λ e. e ≡ NoSolutionOrStop.NoSolution → (judge_of (fixed self.old)).normalized (state self.old) (env_forest self.old.context.trees env) (const_tree self.old.context.trees constant) ≡ None) }
+        ensures undone { OnErr result ((judge_of (fixed self.old)).alike (state self.old) (state self.new)) }
+        ensures cause { IfErr result IsEvaluatorRefusal }
+        ensures reason { IfErr result (λ e. (s : Stop) → e ≡ NoSolutionOrStop.Stop s → IsTreeStop self.new.context.trees (resolved_tree (state self.old) (const_tree self.old.context.trees constant)) s) }
+    {
         self.well_kept();
-        let alloc = self.allocator();
-        Ok(Rounds::structurally_normalize_const(self, alloc, constant)?)
+        let _ = env;
+        Ok(self.resolve_const_if_possible(constant)?)
     }
 
-    fn fresh_args_for_item(&mut self, kinds: &[VarKind]) -> Result<Args, Stop> {
+    /// `Stop::Memory` comes where a growth was refused, `Stop::NodesFull` where no numbers are left.
+    fn fresh_args_for_item(&mut self, kinds: &[VarKind]) -> Result<Args, Stop>
+        ensures given { KeepsGiven self.old self.new }
+        ensures kept { Keeps fixed probes (λ r. r.context) self.old self.new }
+        ensures sort { IfOk result (λ a. IsArgs self.new.context.trees a) }
+        ensures trees { IfOk result (λ a. args_forest self.new.context.trees a ≡ fresh_variables (state self.old) (kinds_listed kinds.now)) }
+        ensures made { OnOk result (state self.new ≡ with_fresh_variables (state self.old) (kinds_listed kinds.now)) }
+        ensures stopped { OnErr result ((judge_of (fixed self.old)).alike (state self.old) (state self.new)) }
+        ensures cause { IfErr result IsEvaluatorStop }
+        ensures reason { IfErr result (λ s. IsOutOfRoom (length (state self.old).variables) (length kinds.now) s ⊎ IsFullAt (length self.new.context.trees) s) }
+    {
         self.well_kept();
         let alloc = self.allocator();
-        Rounds::fresh_args_for_item(self, alloc, kinds)
+        let first = self.inference.next_variables(kinds.len())?;
+        let args = self.make_leaves(alloc, Leaves::Variables(first), kinds)?;
+        self.add_variables(kinds)?;
+        Ok(args)
     }
 
-    fn placeholder_args(&mut self, kinds: &[VarKind]) -> Result<Args, Stop> {
+    /// `Stop::Memory` comes where a growth was refused, `Stop::NodesFull` where no numbers are left.
+    fn placeholder_args(&mut self, kinds: &[VarKind]) -> Result<Args, Stop>
+        ensures goes { GoesOn self.old self.new }
+        ensures kept { Keeps fixed probes (λ r. r.context) self.old self.new }
+        ensures sort { IfOk result (λ a. IsArgs self.new.context.trees a) }
+        ensures trees { IfOk result (λ a. args_forest self.new.context.trees a ≡ rigid (state self.old) (kinds_listed kinds.now)) }
+        ensures made { OnOk result (state self.new ≡ with_rigid (state self.old) (kinds_listed kinds.now)) }
+        ensures stopped { OnErr result ((judge_of (fixed self.old)).alike (state self.old) (state self.new)) }
+        ensures cause { IfErr result IsEvaluatorStop }
+        ensures reason { IfErr result (λ s. IsFullAt (length kinds.now) s ⊎ IsFullAt (state self.old).newest_universe s ⊎ IsFullAt (length self.new.context.trees) s) }
+    {
         self.well_kept();
         let alloc = self.allocator();
-        Rounds::placeholder_args(self, alloc, kinds)
+        if kinds.len() >= u32::MAX as usize {
+            return Err(Stop::NodesFull);
+        }
+        let universe = self.inference.next_universe()?;
+        let args = self.make_leaves(alloc, Leaves::Placeholders(universe), kinds)?;
+        if !kinds.is_empty() {
+            self.enter()?;
+        }
+        Ok(args)
     }
 
-    fn eq_args(&mut self, _env: ParamEnv, a: Args, b: Args) -> Result<(), NoSolutionOrStop> {
+    /// Where they can't be made equal, and where it stops, what is known is what it was. Besides `Stop::Memory`, `Stop::NodesFull`
+    /// comes where no numbers are left, a tree would be higher than 1,024, or a node has more children than can be counted. The same
+    /// holds of the two calls below.
+    fn eq_args(&mut self, env: ParamEnv, a: Args, b: Args) -> Result<(), NoSolutionOrStop>
+        requires env { IsParamEnv self.old.context.trees env }
+        requires left { IsArgs self.old.context.trees a }
+        requires right { IsArgs self.old.context.trees b }
+        ensures goes { GoesOn self.old self.new }
+        ensures kept { Keeps fixed probes (λ r. r.context) self.old self.new }
+        ensures listed { OnOk result (equated (listing self.old) (state self.old) (args_forest self.old.context.trees a) (args_forest self.old.context.trees b) ≡ Some (state self.new)) }
+        ensures ok { IfOk result (λ _. accepted (judge_of (fixed self.old)) (state self.old) (env_forest self.old.context.trees env) (args_forest self.old.context.trees a) (args_forest self.old.context.trees b) ≡ Some (state self.new)) }
+        ensures refused { IfErr result (λ e. e ≡ NoSolutionOrStop.NoSolution → accepted (judge_of (fixed self.old)) (state self.old) (env_forest self.old.context.trees env) (args_forest self.old.context.trees a) (args_forest self.old.context.trees b) ≡ None) }
+        ensures undone { OnErr result (self.new.inference ≡ self.old.inference) }
+        ensures stopped { IfErr result (λ e. e ≢ NoSolutionOrStop.NoSolution → (judge_of (fixed self.old)).alike (state self.old) (state self.new)) }
+        ensures cause { IfErr result IsEvaluatorRefusal }
+        ensures reason { IfErr result (λ e. (s : Stop) → e ≡ NoSolutionOrStop.Stop s → IsEquationStop self.new.context.trees (listing self.old) (state self.old) (args_forest self.old.context.trees a) (args_forest self.old.context.trees b) s) }
+    {
         self.well_kept();
+        let _ = env;
         let alloc = self.allocator();
         self.equate_args(alloc, a, b)
     }
 
-    fn eq(&mut self, _env: ParamEnv, a: GenericArg, b: GenericArg) -> Result<(), NoSolutionOrStop> {
+    fn eq(&mut self, env: ParamEnv, a: GenericArg, b: GenericArg) -> Result<(), NoSolutionOrStop>
+        requires env { IsParamEnv self.old.context.trees env }
+        requires left { IsArg self.old.context.trees a }
+        requires right { IsArg self.old.context.trees b }
+        ensures goes { GoesOn self.old self.new }
+        ensures kept { Keeps fixed probes (λ r. r.context) self.old self.new }
+        ensures listed { OnOk result (equated (listing self.old) (state self.old) (alone (arg_tree self.old.context.trees a)) (alone (arg_tree self.old.context.trees b)) ≡ Some (state self.new)) }
+        ensures ok { IfOk result (λ _. accepted (judge_of (fixed self.old)) (state self.old) (env_forest self.old.context.trees env) (alone (arg_tree self.old.context.trees a)) (alone (arg_tree self.old.context.trees b)) ≡ Some (state self.new)) }
+        ensures refused { IfErr result (λ e. e ≡ NoSolutionOrStop.NoSolution → accepted (judge_of (fixed self.old)) (state self.old) (env_forest self.old.context.trees env) (alone (arg_tree self.old.context.trees a)) (alone (arg_tree self.old.context.trees b)) ≡ None) }
+        ensures undone { OnErr result (self.new.inference ≡ self.old.inference) }
+        ensures stopped { IfErr result (λ e. e ≢ NoSolutionOrStop.NoSolution → (judge_of (fixed self.old)).alike (state self.old) (state self.new)) }
+        ensures cause { IfErr result IsEvaluatorRefusal }
+        ensures reason { IfErr result (λ e. (s : Stop) → e ≡ NoSolutionOrStop.Stop s → IsEquationStop self.new.context.trees (listing self.old) (state self.old) (alone (arg_tree self.old.context.trees a)) (alone (arg_tree self.old.context.trees b)) s) }
+    {
         self.well_kept();
+        let _ = env;
         let alloc = self.allocator();
         self.equate(alloc, a, b)
     }
 
     fn eq_and_get_goals(
         &mut self,
-        _env: ParamEnv,
+        env: ParamEnv,
         a: GenericArg,
         b: GenericArg,
-    ) -> Result<Vec<(GoalSource, Goal<Clause>)>, NoSolutionOrStop> {
+    ) -> Result<Vec<(GoalSource, Goal<Clause>)>, NoSolutionOrStop>
+        requires env { IsParamEnv self.old.context.trees env }
+        requires left { IsArg self.old.context.trees a }
+        requires right { IsArg self.old.context.trees b }
+        ensures goes { GoesOn self.old self.new }
+        ensures kept { Keeps fixed probes (λ r. r.context) self.old self.new }
+        ensures listed { OnOk result (equated (listing self.old) (state self.old) (alone (arg_tree self.old.context.trees a)) (alone (arg_tree self.old.context.trees b)) ≡ Some (state self.new)) }
+        ensures sort { IfOk result (λ v. All (λ g. IsGoal self.new.context.trees g.1) v.items) }
+        ensures ok { IfOk result (λ v. (judge_of (fixed self.old)).equated (state self.old) (env_forest self.old.context.trees env) (alone (arg_tree self.old.context.trees a)) (alone (arg_tree self.old.context.trees b)) ≡ Some (pendings_of self.new.context.trees v.items, state self.new)) }
+        ensures refused { IfErr result (λ e. e ≡ NoSolutionOrStop.NoSolution → (judge_of (fixed self.old)).equated (state self.old) (env_forest self.old.context.trees env) (alone (arg_tree self.old.context.trees a)) (alone (arg_tree self.old.context.trees b)) ≡ None) }
+        ensures undone { OnErr result (self.new.inference ≡ self.old.inference) }
+        ensures stopped { IfErr result (λ e. e ≢ NoSolutionOrStop.NoSolution → (judge_of (fixed self.old)).alike (state self.old) (state self.new)) }
+        ensures cause { IfErr result IsEvaluatorRefusal }
+        ensures reason { IfErr result (λ e. (s : Stop) → e ≡ NoSolutionOrStop.Stop s → IsEquationStop self.new.context.trees (listing self.old) (state self.old) (alone (arg_tree self.old.context.trees a)) (alone (arg_tree self.old.context.trees b)) s) }
+    {
         self.well_kept();
+        let _ = env;
         let alloc = self.allocator();
         self.equate(alloc, a, b)?;
         Ok(Vec::new(alloc))
     }
 
-    fn add_goal(&mut self, source: GoalSource, goal: Goal<Clause>) -> Result<(), Stop> {
-        self.well_kept();
-        Rounds::add_goal(self, source, goal)
+    /// The only stop is `Stop::Memory`; nothing is changed then.
+    fn add_goal(&mut self, source: GoalSource, goal: Goal<Clause>) -> Result<(), Stop>
+        requires { IsGoal self.old.context.trees goal }
+        ensures context { self.new.context ≡ self.old.context }
+        ensures given { KeepsGiven self.old self.new }
+        ensures kept { Keeps fixed probes (λ r. r.context) self.old self.new }
+        ensures ok { OnOk result (state self.new ≡ added (state self.old) (pending_of self.old.context.trees source goal)) }
+        ensures unchanged { OnErr result (self.new ≡ self.old) }
+        ensures stopped { OnErr result (state self.new ≡ state self.old) }
+        ensures cause { IfErr result IsEvaluatorStop }
+        ensures reason { IfErr result (λ s. s ≡ Stop.Memory) }
+    {
+        self.inference.add(source, goal)
     }
 
-    fn add_goals(&mut self, source: GoalSource, goals: &[Goal<Clause>]) -> Result<(), Stop> {
-        self.well_kept();
-        Rounds::add_goals(self, source, goals)
+    /// The only stop is `Stop::Memory`; nothing is changed then.
+    fn add_goals(&mut self, source: GoalSource, goals: &[Goal<Clause>]) -> Result<(), Stop>
+        requires { All (IsGoal self.old.context.trees) goals.now }
+        ensures context { self.new.context ≡ self.old.context }
+        ensures given { KeepsGiven self.old self.new }
+        ensures kept { Keeps fixed probes (λ r. r.context) self.old self.new }
+        ensures ok { OnOk result (state self.new ≡ with_goals_of self.old.context.trees (state self.old) source goals.now) }
+        ensures unchanged { OnErr result (self.new ≡ self.old) }
+        ensures stopped { OnErr result (state self.new ≡ state self.old) }
+        ensures cause { IfErr result IsEvaluatorStop }
+        ensures reason { IfErr result (λ s. s ≡ Stop.Memory) }
+    {
+        self.inference.add_all(source, goals)
     }
 
-    fn try_evaluate_added_goals(&mut self) -> Result<Certainty, NoSolutionOrStop> {
+    /// Where it is refused, or stops, nothing that is known changes. `Stop::Memory` comes where a growth was refused, `Stop::NodesFull`
+    /// where no numbers are left, a tree would be higher than 1,024, a variable would be bound too far out, or the children of a node
+    /// are too many.
+    fn try_evaluate_added_goals(&mut self) -> Result<Certainty, NoSolutionOrStop>
+        ensures goes { GoesOn self.old self.new }
+        ensures kept { Keeps fixed probes (λ r. r.context) self.old self.new }
+        ensures listed { IfOk result (λ c. settled (listing self.old) (state self.old) ≡ Some (c, state self.new)) }
+        ensures ok { IfOk result (λ c. (judge_of (fixed self.old)).settled (state self.old) ≡ Some (c, state self.new)) }
+        ensures none_listed { IfErr result (λ e. e ≡ NoSolutionOrStop.NoSolution → settled (listing self.old) (state self.old) ≡ None) }
+        ensures refused { IfErr result (λ e. e ≡ NoSolutionOrStop.NoSolution → (judge_of (fixed self.old)).settled (state self.old) ≡ None) }
+        ensures undone { OnErr result (state self.new ≡ state self.old) }
+        ensures stopped { IfErr result (λ e. e ≢ NoSolutionOrStop.NoSolution → (judge_of (fixed self.old)).alike (state self.old) (state self.new)) }
+        ensures cause { IfErr result IsEvaluatorRefusal }
+        ensures reason { IfErr result (λ e. (s : Stop) → e ≡ NoSolutionOrStop.Stop s → IsSettlingStop self.new.context.trees (listing self.old) (state self.old) s) }
+    {
         self.well_kept();
         let alloc = self.allocator();
-        Rounds::try_evaluate_added_goals(self, alloc)
+        let changes = self.inference.changes();
+        match self.settle(alloc, MOST_PASSES) {
+            Ok(()) => Ok(self.certainty()),
+            Err(refusal) => {
+                self.undo_to(changes);
+                Err(refusal)
+            }
+        }
     }
 
+    /// What is pending is evaluated, as `try_evaluate_added_goals` does, and then comes the response. Where it is refused, or stops,
+    /// nothing that is known changes; it stops as that call and `make_canonical_response` do.
     fn evaluate_added_goals_and_make_canonical_response(
         &mut self,
         certainty: Certainty,
-    ) -> Result<CanonicalResponse, NoSolutionOrStop> {
+    ) -> Result<CanonicalResponse, NoSolutionOrStop>
+        ensures goes { GoesOn self.old self.new }
+        ensures kept { Keeps fixed probes (λ r. r.context) self.old self.new }
+        ensures sort { IfOk result (λ r. IsResponse self.new.context.trees r) }
+        ensures listed { IfOk result (λ r. responded (listing self.old) (state self.old) certainty ≡ Some (response_of self.new.context.trees r)) }
+        ensures ok { IfOk result (λ r. (judge_of (fixed self.old)).responded (state self.old) certainty ≡ Some (response_of self.new.context.trees r)) }
+        ensures left { OnOk result (next (settled (listing self.old) (state self.old)) (λ q. Some q.1) ≡ Some (state self.new)) }
+        ensures none_listed { IfErr result (λ e. e ≡ NoSolutionOrStop.NoSolution → responded (listing self.old) (state self.old) certainty ≡ None) }
+        ensures refused { IfErr result (λ e. e ≡ NoSolutionOrStop.NoSolution → (judge_of (fixed self.old)).responded (state self.old) certainty ≡ None) }
+        ensures undone { OnErr result (state self.new ≡ state self.old) }
+        ensures stopped { IfErr result (λ e. e ≢ NoSolutionOrStop.NoSolution → (judge_of (fixed self.old)).alike (state self.old) (state self.new)) }
+        ensures cause { IfErr result IsEvaluatorRefusal }
+        ensures reason { IfErr result (λ e. (s : Stop) → e ≡ NoSolutionOrStop.Stop s → IsAnsweringStop self.new.context.trees (listing self.old) (state self.old) s) }
+    {
         self.well_kept();
         let alloc = self.allocator();
-        Rounds::evaluate_added_goals_and_make_canonical_response(self, alloc, certainty)
+        let changes = self.inference.changes();
+        let settled = self.try_evaluate_added_goals()?;
+        match self.make_canonical_response(alloc, certainty.and(settled)) {
+            Ok(response) => Ok(response),
+            Err(stop) => {
+                self.undo_to(changes);
+                Err(NoSolutionOrStop::Stop(stop))
+            }
+        }
     }
 
-    fn begin_probe(&mut self, kind: ProbeKind) -> Result<OpenProbe, Stop> {
-        self.well_kept();
-        Rounds::begin_probe(self, kind)?;
-        Ok(OpenProbe(()))
+    /// The only stop is `Stop::Memory`; nothing is changed then.
+    fn begin_probe(&mut self, kind: ProbeKind) -> Result<OpenProbe, Stop>
+        ensures context { self.new.context ≡ self.old.context }
+        ensures given { KeepsGiven self.old self.new }
+        ensures fixed { fixed self.new ≡ fixed self.old }
+        ensures grows { Grows self.old.context self.new.context }
+        ensures ok { OnOk result ((state self.new ≡ begun kind (state self.old)) × (probes self.new ≡ state self.old ∷ probes self.old)) }
+        ensures unchanged { OnErr result (self.new ≡ self.old) }
+        ensures stopped { OnErr result ((state self.new ≡ state self.old) × (probes self.new ≡ probes self.old)) }
+        ensures cause { IfErr result IsEvaluatorStop }
+        ensures reason { IfErr result (λ s. s ≡ Stop.Memory) }
+    {
+        match kind {
+            ProbeKind::Kept => {
+                self.probes.push(self.inference.changes())?;
+                Ok(OpenProbe(()))
+            }
+            ProbeKind::SetAside => {
+                self.begin_aside()?;
+                Ok(OpenProbe(()))
+            }
+        }
     }
 
-    fn end_probe(&mut self, probe: OpenProbe) -> CandidateHeadUsages {
+    /// The state is again what it was when the probe began.
+    fn end_probe(&mut self, probe: OpenProbe) -> CandidateHeadUsages
+        requires { probes self.old ≢ [] }
+        ensures context { self.new.context ≡ self.old.context }
+        ensures given { KeepsGiven self.old self.new }
+        ensures fixed { fixed self.new ≡ fixed self.old }
+        ensures grows { Grows self.old.context self.new.context }
+        ensures closed { (S : State) (others : List State) → probes self.old ≡ S ∷ others → (judge_of (fixed self.old)).alike S (state self.new) }
+        ensures left { (S : State) (others : List State) → probes self.old ≡ S ∷ others → probes self.new ≡ others }
+    {
         let OpenProbe(()) = probe;
-        self.well_kept();
-        Rounds::end_probe(self);
-        CandidateHeadUsages::new(self.allocator())
-    }
-
-    fn opaques_with_sub_unified_hidden_type(&mut self, ty: Ty) -> Result<Vec<AliasTy>, Stop> {
-        self.well_kept();
         let alloc = self.allocator();
-        Rounds::opaques_with_sub_unified_hidden_type(self, alloc, ty)
+        let Some(changes) = self.probes.pop() else {
+            return CandidateHeadUsages::new(alloc);
+        };
+        self.inference.undo_to(changes);
+        CandidateHeadUsages::new(alloc)
     }
 
-    fn ignore_candidate_head_usages(&mut self, usages: CandidateHeadUsages) {
-        Rounds::ignore_candidate_head_usages(self, usages);
+    /// Where the type stands for a general variable these are all that the evaluator was given, else none. The only stop is
+    /// `Stop::Memory`.
+    #[tactic(auto, unfolding(crate::specs::Known::IsEvaluator))]
+    fn opaques_with_sub_unified_hidden_type(&mut self, ty: Ty) -> Result<Vec<AliasTy>, Stop>
+        requires { IsTy self.old.context.trees ty }
+        ensures unchanged { self.new ≡ self.old }
+        ensures kept { Keeps fixed probes (λ r. r.context) self.old self.new }
+        ensures same { state self.new ≡ state self.old }
+        ensures fit { IfOk result (λ v. All (λ a. KindFits self.new.context.trees (K.Alias a)) v.items) }
+        ensures ok { IfOk result (λ v. alias_trees self.new.context.trees v.items ≡ (judge_of (fixed self.old)).opaques (state self.old) (ty_tree self.old.context.trees ty)) }
+        ensures cause { IfErr result IsEvaluatorStop }
+        ensures reason { IfErr result (λ s. s ≡ Stop.Memory) }
+    {
+        let alloc = self.allocator();
+        if !self.cx.kind(self.shallow_resolve(ty)).is_ty_var() {
+            return Ok(Vec::new(alloc));
+        }
+        Ok(Vec::from_slice(alloc, self.opaques.as_slice())?)
     }
 
-    fn delay_bug(&mut self, text: &str) -> Result<(), Stop> {
-        Rounds::delay_bug(self, text)
+    /// Of those goals nothing is kept.
+    fn ignore_candidate_head_usages(&mut self, usages: CandidateHeadUsages)
+        ensures unchanged { self.new ≡ self.old }
+        ensures kept { Keeps fixed probes (λ r. r.context) self.old self.new }
+        ensures same { state self.new ≡ state self.old }
+    {
+        drop(usages);
+    }
+
+    /// The text stands last among those of the context. The only stop is `Stop::Memory`; nothing is changed then.
+    fn delay_bug(&mut self, text: &str) -> Result<(), Stop>
+        ensures given { KeepsGiven self.old self.new }
+        ensures kept { (fixed self.new ≡ fixed self.old) × (probes self.new ≡ probes self.old) }
+        ensures same { state self.new ≡ state self.old }
+        ensures added { OnOk result (self.new.context ≡ record self.old.context { delayed_bugs = self.old.context.delayed_bugs ++ text.now ∷ [] }) }
+        ensures unchanged { OnErr result (self.new.context ≡ self.old.context) }
+        ensures cause { IfErr result IsEvaluatorStop }
+        ensures reason { IfErr result (λ s. s ≡ Stop.Memory) }
+    {
+        self.cx.delay_bug(text)
     }
 
     ghost lawful = { λ f. keeps-the-laws f.world f.local_crate f.listing f.opaques };

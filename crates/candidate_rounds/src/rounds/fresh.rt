@@ -1,6 +1,6 @@
 //! Trees that stand for parameters and for what binders bind.
 
-ghost use Rattle.std.specs.Prelude.{◌≡◌, ◌+◌, ◌<◌, ◌≤◌, ◌^◌, IfErr, IfOk, length, map};
+ghost use Rattle.std.specs.Prelude.{◌≡◌, ◌+◌, ◌<◌, ◌^◌, IfErr, IfOk, length};
 ghost use Rattle.candidate_rounds.specs.Inferences.{IsFullAt};
 ghost use Rattle.candidate_ir.specs.Context.{Grows, parameter_kind};
 ghost use Rattle.candidate_ir.specs.Folds.{IsArg, arg_tree};

@@ -1,9 +1,9 @@
 //! What is known so far: the variables with their values, the regions recorded, the goals pending; and how each change is taken
 //! back.
 
-ghost use Rattle.std.specs.Prelude.{◌≡◌, ◌+◌, ◌^◌, ◌++◌, ◌∷◌, [], ◌<◌, ◌≤◌, IfOk, IfErr, IfSome, drop, length, slice_get, Some, None};
+ghost use Rattle.std.specs.Prelude.{◌≡◌, ◌+◌, ◌^◌, ◌++◌, ◌∷◌, [], ◌<◌, ◌≤◌, IfOk, IfErr, drop, length, slice_get, Some, None};
 ghost use Rattle.candidate_rounds.specs.declared.rounds.inference.Change.{Change};
-ghost use Rattle.candidate_rounds.specs.Inferences.{Inference, with_variable, with_variables, assign, lower, enter, record_region, add, add_all, begin_pending, before, back_to, universe_of, with_entry, with_value, with_universe, IsFullAt, IsOutOfRoom, widen};
+ghost use Rattle.candidate_rounds.specs.Inferences.{Inference, with_variable, with_variables, assign, lower, enter, record_region, add, add_all, begin_pending, before, back_to, with_entry, with_value, with_universe, IsFullAt, IsOutOfRoom, widen};
 
 use crate::rounds::fresh::variable_kind;
 use candidate_eval::eval::variable::VariableKind;

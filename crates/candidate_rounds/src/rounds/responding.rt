@@ -1,6 +1,6 @@
 //! Responses: what is known of the root variables, with the variables that it leaves open numbered anew.
 
-ghost use Rattle.std.specs.Prelude.{◌≡◌, ◌<◌, ◌++◌, [], Some, None, length, map, slice_get, option_map, IfErr, IfOk, IfSome, MatchOption, OnErr, OnOk};
+ghost use Rattle.std.specs.Prelude.{◌≡◌, ◌<◌, ◌++◌, [], Some, None, length, map, slice_get, option_map, IfErr, IfOk, IfSome, MatchOption};
 ghost use Rattle.std.specs.Option.{option_to_list};
 ghost use Rattle.candidate_ir.specs.Context.{Grows};
 ghost use Rattle.candidate_ir.specs.Folds.{IsArg, IsOfKind, arg_tree};
@@ -9,29 +9,29 @@ ghost use Rattle.candidate_ir.specs.Substitutions.{alone};
 ghost use Rattle.candidate_ir.specs.Trees.{variable_number};
 ghost use Rattle.candidate_ir.specs.Words.{ClauseListFits, IsArgs, IsClause, args_forest, clause_tree};
 ghost use Rattle.candidate_eval.specs.ResponseTrees.{IsResponse, response_of};
-ghost use Rattle.candidate_eval.specs.States.{next, resolved_tree, variable};
+ghost use Rattle.candidate_eval.specs.States.{resolved_tree, variable};
 ghost use Rattle.candidate_eval.specs.declared.eval.mode.TypingMode.{TypingMode};
 ghost use Rattle.candidate_rounds.specs.Gathered.{open_entry, renumbered_at, root_at};
 ghost use Rattle.candidate_rounds.specs.Inferences.{IsFullAt};
-ghost use Rattle.candidate_rounds.specs.Known.{Each, GoesOn, IsKnown, KeepsGiven, SuitsKind, listing, probes, state, state_of};
+ghost use Rattle.candidate_rounds.specs.Known.{Each, GoesOn, IsKnown, KeepsGiven, SuitsKind, probes, state, state_of};
 ghost use Rattle.candidate_eval.specs.Noting.{IsNotingStop};
-ghost use Rattle.candidate_rounds.specs.Stopping.{AreRenumberingStops, IsAnsweringStop, IsNewNumberStop, IsRenumberingStop, IsResponseStop};
-ghost use Rattle.rounds_judge.specs.Responding.{constraints, is_seen, place_of, renumbered, renumbered_tree, responded, response, root_values, with_number, with_numbers, with_numbers_of};
-ghost use Rattle.rounds_judge.specs.Settling.{settled};
+ghost use Rattle.candidate_rounds.specs.Stopping.{AreRenumberingStops, IsNewNumberStop, IsRenumberingStop, IsResponseStop};
+ghost use Rattle.rounds_judge.specs.Responding.{constraints, is_seen, place_of, renumbered, renumbered_tree, response, root_values, with_number, with_numbers, with_numbers_of};
 
 use crate::rounds::Rounds;
 use crate::rounds::fresh::variable;
 use crate::rounds::inference::Inference;
-use crate::rounds::resolving::{Lone, resolved_clause, variable_of};
+use crate::rounds::resolving::{Lone, resolved_clause};
 use candidate_eval::eval::certainty::Certainty;
-use candidate_eval::eval::refusal::NoSolutionOrStop;
 use candidate_eval::eval::response::CanonicalResponse;
 use candidate_eval::eval::variable::{CanonicalVar, VariableKind};
 use candidate_ir::decl::context::Cx;
 use candidate_ir::decl::fold::{fold_args, fold_clause};
 use candidate_ir::ir::heads::VariableSort;
 use candidate_ir::ir::kinds::{Args, Clause, ConstKind, GenericArg, RegionKind, TyKind};
+use candidate_ir::ir::numbered::Numbered;
 use candidate_ir::ir::stop::Stop;
+use candidate_ir::ir::trees::Trees;
 use std::alloc::Global;
 
 /// The place of a number among these; where it isn't there, how many they are.
@@ -209,7 +209,7 @@ fn variable_in(cx: &Cx, arg: GenericArg) -> Option<(VariableKind, u32)>
     match arg {
         GenericArg::Ty(ty) => match cx.kind(ty) {
             TyKind::Infer(var) => {
-                let variable = variable_of(var);
+                let variable = var.variable();
                 Some((VariableKind::Term(variable.sort), variable.number))
             }
             _ => None,
@@ -246,14 +246,19 @@ fn renumbered_at(cx: &mut Cx, numbers: &[u32], arg: GenericArg) -> Result<Option
     Ok(Some(variable(cx, kind, place as u32)?))
 }
 
-/// The list, with its variables numbered anew; what is said of `Rounds::resolve_ty_if_possible` holds here, too, and of `renumbered_at`.
-fn renumbered_args(alloc: Global, cx: &mut Cx, numbers: &[u32], args: Args) -> Result<Args, Stop>
-    requires { IsArgs cx.old.trees args }
+/// The list, whose variables all have these numbers, with its variables numbered anew; where there are none it stays as it is. What is
+/// said of `Rounds::resolve_ty_if_possible` holds here, too, and of `renumbered_at`.
+fn numbered_args(alloc: Global, cx: &mut Cx, numbers: &[u32], args: Args) -> Result<Args, Stop>
+    requires args { IsArgs cx.old.trees args }
+    requires all { numbers.now ≡ [] → with_numbers [] (args_forest cx.old.trees args) ≡ [] }
     ensures grows { Grows cx.old cx.new }
     ensures sort { IfOk result (λ a. IsArgs cx.new.trees a) }
     ensures trees { IfOk result (λ a. args_forest cx.new.trees a ≡ renumbered numbers.now (args_forest cx.old.trees args)) }
     ensures cause { IfErr result (λ s. IsRenumberingStop (length numbers.now) (length cx.new.trees) (renumbered numbers.now (args_forest cx.old.trees args)) s) }
 {
+    if numbers.is_empty() {
+        return Ok(args);
+    }
     fold_args(
         alloc,
         cx,
@@ -266,21 +271,6 @@ fn renumbered_args(alloc: Global, cx: &mut Cx, numbers: &[u32], args: Args) -> R
             ensures cause { IfErr result (λ s. IsNewNumberStop (length numbers.entry.now) (length cx.new.trees) (renumbered_at numbers.entry.now (arg_tree cx.old.trees arg)) s) }
         { renumbered_at(cx, numbers, arg) },
     )
-}
-
-/// The same where all variables of the list have these numbers: where there are none it stays as it is.
-fn numbered_args(alloc: Global, cx: &mut Cx, numbers: &[u32], args: Args) -> Result<Args, Stop>
-    requires args { IsArgs cx.old.trees args }
-    requires all { numbers.now ≡ [] → with_numbers [] (args_forest cx.old.trees args) ≡ [] }
-    ensures grows { Grows cx.old cx.new }
-    ensures sort { IfOk result (λ a. IsArgs cx.new.trees a) }
-    ensures trees { IfOk result (λ a. args_forest cx.new.trees a ≡ renumbered numbers.now (args_forest cx.old.trees args)) }
-    ensures cause { IfErr result (λ s. IsRenumberingStop (length numbers.now) (length cx.new.trees) (renumbered numbers.now (args_forest cx.old.trees args)) s) }
-{
-    if numbers.is_empty() {
-        return Ok(args);
-    }
-    renumbered_args(alloc, cx, numbers, args)
 }
 
 /// The same of a clause.
@@ -409,35 +399,5 @@ impl Rounds {
         ensures cause { IfErr result (λ s. IsResponseStop self.new.context.trees (state self.old) s) }
     {
         response(alloc, &mut self.cx, &self.inference, certainty)
-    }
-
-    /// What is pending is evaluated, as `try_evaluate_added_goals` does, and then comes the response, with at most that certainty. Where
-    /// it is refused, or stops, nothing that is known changes; it stops as those two do.
-    pub fn evaluate_added_goals_and_make_canonical_response(
-        &mut self,
-        alloc: Global,
-        certainty: Certainty,
-    ) -> Result<CanonicalResponse, NoSolutionOrStop>
-        ensures goes { GoesOn self.old self.new }
-        ensures grows { Grows self.old.context self.new.context }
-        ensures given { KeepsGiven self.old self.new }
-        ensures probes { probes self.new ≡ probes self.old }
-        ensures sort { IfOk result (λ r. IsResponse self.new.context.trees r) }
-        ensures ok { IfOk result (λ r. responded (listing self.old) (state self.old) certainty ≡ Some (response_of self.new.context.trees r)) }
-        ensures left { OnOk result (next (settled (listing self.old) (state self.old)) (λ q. Some q.1) ≡ Some (state self.new)) }
-        ensures refused { IfErr result (λ e. e ≡ NoSolutionOrStop.NoSolution → responded (listing self.old) (state self.old) certainty ≡ None) }
-        ensures undone { OnErr result (state self.new ≡ state self.old) }
-        ensures cause { IfErr result (λ e. (s : Stop) → e ≡ NoSolutionOrStop.Stop s → IsAnsweringStop self.new.context.trees (listing self.old) (state self.old) s) }
-    {
-        self.well_kept();
-        let changes = self.changes();
-        let settled = self.try_evaluate_added_goals(alloc)?;
-        match self.make_canonical_response(alloc, certainty.and(settled)) {
-            Ok(response) => Ok(response),
-            Err(stop) => {
-                self.undo_to(changes);
-                Err(NoSolutionOrStop::Stop(stop))
-            }
-        }
     }
 }

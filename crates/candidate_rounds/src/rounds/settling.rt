@@ -1,31 +1,32 @@
 //! Pending goals are evaluated.
 
-ghost use Rattle.std.specs.Prelude.{◌≡◌, ◌++◌, [], IfErr, IfOk, IfSome, None, OnErr, OnOk, Some};
+ghost use Rattle.std.specs.Prelude.{◌≡◌, ◌++◌, [], IfErr, IfOk, IfSome, None, OnOk, Some};
 ghost use Rattle.std.specs.Option.{option_to_list};
-ghost use Rattle.candidate_ir.specs.Context.{Grows, world};
-ghost use Rattle.candidate_ir.specs.Opening.{opened_clause};
+ghost use Rattle.candidate_ir.specs.Context.{world};
 ghost use Rattle.candidate_ir.specs.References.{Takes};
 ghost use Rattle.candidate_ir.specs.Supers.{after_first};
-ghost use Rattle.candidate_ir.specs.Words.{IsArgs, IsClause, IsTy, KindFits, args_forest, clause_tree, kind_tree, ty_tree};
+ghost use Rattle.candidate_ir.specs.Words.{IsClause, IsTy, KindFits, clause_tree, kind_tree, ty_tree};
 ghost use Rattle.candidate_eval.specs.Characterization.{bound_kinds};
 ghost use Rattle.candidate_eval.specs.Evaluators.{IsGoal, kinds_listed, pending_of, pendings_of};
 ghost use Rattle.candidate_eval.specs.States.{added, with_pending};
 ghost use Rattle.rounds_judge.specs.Equating.{count_unbound};
-ghost use Rattle.candidate_rounds.specs.Known.{Each, GoesOn, KeepsGiven, listing, probes, state};
-ghost use Rattle.rounds_judge.specs.Settling.{certainty_of, instantiated, pass, passes, recorded, settled, tried, tried_all, with_facts};
-ghost use Rattle.candidate_rounds.specs.Stopping.{AreGoalsStop, ArePassesStop, IsEvaluationStop, IsGoalStop, IsInstanceStop, IsPassStop, IsProjectionStop, IsSettlingStop, IsTreeStop};
+ghost use Rattle.candidate_rounds.specs.Known.{Each, GoesOn, listing, state};
+ghost use Rattle.rounds_judge.specs.Settling.{certainty_of, instantiated, pass, passes, recorded, tried, tried_all, with_facts};
+ghost use Rattle.candidate_rounds.specs.Stopping.{AreGoalsStop, ArePassesStop, IsEvaluationStop, IsGoalStop, IsInstanceStop, IsPassStop, IsProjectionStop};
 ghost use Rattle.candidate_rounds.specs.Trying.{Says, answered, evaluated_as, left_of, projection_of, second_if_bound, unbound_entries};
 
 use crate::rounds::Rounds;
 use crate::rounds::inference::Entry;
 use candidate_eval::eval::certainty::Certainty;
+use candidate_eval::eval::context::EvalCtxt;
 use candidate_eval::eval::refusal::NoSolutionOrStop;
 use candidate_ir::decl::open::{binder_kinds, open_clause};
 use candidate_ir::ir::kinds::{
-    AliasTy, Args, Clause, ClauseKind, GenericArg, Goal, GoalSource, ProjectionPredicate, Ty,
-    TyKind, VarKind,
+    AliasTy, Clause, ClauseKind, GenericArg, Goal, GoalSource, ProjectionPredicate, Ty, TyKind,
+    VarKind,
 };
 use candidate_ir::ir::stop::Stop;
+use candidate_ir::ir::trees::Trees;
 use std::alloc::Global;
 
 impl Rounds {
@@ -37,20 +38,6 @@ impl Rounds {
         ensures cause { IfErr result (λ s. s ≡ Stop.Memory) }
     {
         self.inference.record_region(region)
-    }
-
-    /// The clause under an empty binder, with the list's values in the place of the variables of its own: nodes are made, and nothing
-    /// else.
-    fn open(&mut self, alloc: Global, clause: Clause, values: Args) -> Result<Clause, Stop>
-        requires clause { IsClause self.old.context.trees clause }
-        requires values { IsArgs self.old.context.trees values }
-        ensures goes { GoesOn self.old self.new }
-        ensures state { state self.new ≡ state self.old }
-        ensures sort { IfOk result (λ x. IsClause self.new.context.trees x) }
-        ensures tree { IfOk result (λ x. clause_tree self.new.context.trees x ≡ opened_clause (args_forest self.old.context.trees values) (clause_tree self.old.context.trees clause)) }
-        ensures cause { IfErr result (λ s. IsTreeStop self.new.context.trees (opened_clause (args_forest self.old.context.trees values) (clause_tree self.old.context.trees clause)) s) }
-    {
-        open_clause(alloc, &mut self.cx, clause, values)
     }
 
     /// The clause under an empty binder, with placeholders of a fresh universe for the variables of its own, which are of these
@@ -69,8 +56,8 @@ impl Rounds {
         ensures tree { IfOk result (λ x. clause_tree self.new.context.trees x ≡ with_facts (clause_tree self.old.context.trees clause) (instantiated (state self.old) (clause_tree self.old.context.trees clause)).1) }
         ensures cause { IfErr result (λ s. IsInstanceStop self.new.context.trees (state self.old) (clause_tree self.old.context.trees clause) s) }
     {
-        let values = self.placeholder_args(alloc, kinds)?;
-        self.open(alloc, clause, values)
+        let values = self.placeholder_args(kinds)?;
+        open_clause(alloc, &mut self.cx, clause, values)
     }
 
     /// Where all values are put in, the type that is listed for an alias is made equal to the term, and the answer is true; no
@@ -84,25 +71,12 @@ impl Rounds {
         ensures cause { IfErr result (λ e. (s : Stop) → e ≡ NoSolutionOrStop.Stop s → IsProjectionStop self.new.context.trees (listing self.old) (state self.old) (ty_tree self.old.context.trees alias) (ty_tree self.old.context.trees term) s) }
     {
         self.well_kept();
-        let resolved = self.resolve_ty_if_possible(alloc, alias)?;
+        let resolved = self.resolve_ty_if_possible(alias)?;
         let Some(listed) = self.listed(resolved) else {
             return Ok(false);
         };
         self.equate(alloc, GenericArg::Ty(listed), GenericArg::Ty(term))?;
         Ok(true)
-    }
-
-    /// The type of that kind.
-    fn make_ty(&mut self, kind: TyKind) -> Result<Ty, Stop>
-        requires fits { KindFits self.old.context.trees kind }
-        requires takes { Takes (world self.old.context) (kind_tree self.old.context.trees kind) }
-        ensures goes { GoesOn self.old self.new }
-        ensures state { state self.new ≡ state self.old }
-        ensures sort { IfOk result (λ t. IsTy self.new.context.trees t) }
-        ensures tree { IfOk result (λ t. ty_tree self.new.context.trees t ≡ kind_tree self.old.context.trees kind) }
-        ensures cause { IfErr result (λ s. IsTreeStop self.new.context.trees (kind_tree self.old.context.trees kind) s) }
-    {
-        self.cx.mk_ty(kind)
     }
 
     /// The type that is listed for the alias of a projection is made equal to its term. The answer says whether one is listed.
@@ -122,7 +96,7 @@ impl Rounds {
         self.well_kept();
         let alias = projection.projection_term;
         let kind = TyKind::Alias(AliasTy::projection(alias.def_id, alias.args));
-        let alias = self.make_ty(kind)?;
+        let alias = self.cx.mk_ty(kind)?;
         self.try_alias(alloc, alias, projection.term)
     }
 }
@@ -162,7 +136,7 @@ fn count_unbound(variables: &[Entry]) -> usize
 }
 
 /// How often goals that stay pending are evaluated at most.
-const MOST_PASSES: u32 = 8;
+pub(crate) const MOST_PASSES: u32 = 8;
 
 impl Rounds {
     /// What the clause says, without its binder.
@@ -328,7 +302,7 @@ impl Rounds {
     }
 
     /// What is pending is evaluated so many times at most, and again only while the last time gave a variable a value.
-    fn settle(&mut self, alloc: Global, most: u32) -> Result<(), NoSolutionOrStop>
+    pub(crate) fn settle(&mut self, alloc: Global, most: u32) -> Result<(), NoSolutionOrStop>
         ensures goes { GoesOn self.old self.new }
         ensures ok { OnOk result (passes (listing self.old) most (state self.old) ≡ Some (state self.new)) }
         ensures refused { IfErr result (λ e. e ≡ NoSolutionOrStop.NoSolution → passes (listing self.old) most (state self.old) ≡ None) }
@@ -346,37 +320,13 @@ impl Rounds {
     }
 
     /// Sure, if nothing is pending.
-    fn certainty(&self) -> Certainty
+    pub(crate) fn certainty(&self) -> Certainty
         ensures { result ≡ certainty_of (state self.now).pending }
     {
         if self.inference.pending().is_empty() {
             Certainty::Yes
         } else {
             Certainty::AMBIGUOUS
-        }
-    }
-
-    /// How sure what is pending is, together. What is settled is pending no more. Where it is refused, or stops, nothing that is known
-    /// changes. `Stop::Memory` comes where a growth was refused, `Stop::NodesFull` where no numbers are left, a tree would be higher than
-    /// 1,024, a variable would be bound too far out, or the children of a node are too many.
-    pub fn try_evaluate_added_goals(&mut self, alloc: Global) -> Result<Certainty, NoSolutionOrStop>
-        ensures goes { GoesOn self.old self.new }
-        ensures grows { Grows self.old.context self.new.context }
-        ensures given { KeepsGiven self.old self.new }
-        ensures probes { probes self.new ≡ probes self.old }
-        ensures ok { IfOk result (λ c. settled (listing self.old) (state self.old) ≡ Some (c, state self.new)) }
-        ensures refused { IfErr result (λ e. e ≡ NoSolutionOrStop.NoSolution → settled (listing self.old) (state self.old) ≡ None) }
-        ensures undone { OnErr result (state self.new ≡ state self.old) }
-        ensures cause { IfErr result (λ e. (s : Stop) → e ≡ NoSolutionOrStop.Stop s → IsSettlingStop self.new.context.trees (listing self.old) (state self.old) s) }
-    {
-        self.well_kept();
-        let changes = self.changes();
-        match self.settle(alloc, MOST_PASSES) {
-            Ok(()) => Ok(self.certainty()),
-            Err(refusal) => {
-                self.undo_to(changes);
-                Err(refusal)
-            }
         }
     }
 }

@@ -24,7 +24,9 @@ use candidate_ir::decl::context::Cx;
 use candidate_ir::decl::fold::fold_arg;
 use candidate_ir::ir::heads::{ConstHead, Head};
 use candidate_ir::ir::kinds::{GenericArg, Placeholder, Region, RegionKind, Ty};
+use candidate_ir::ir::numbered::Numbered;
 use candidate_ir::ir::stop::Stop;
+use candidate_ir::ir::trees::Trees;
 use std::alloc::Global;
 
 /// The type of the first of these pairs that lists the type, if one does.
@@ -139,21 +141,6 @@ fn placed_arg(
     Ok(Some(GenericArg::Region(cx.mk_region(placeholder)?)))
 }
 
-/// The region under binders of these universes, the innermost last: a placeholder, where one of them binds it. It stops as
-/// `placed_arg` does.
-fn placed_region(cx: &mut Cx, universes: &[u32], region: Region) -> Result<Region, Stop>
-    requires { IsRegion cx.old.trees region }
-    ensures grows { Grows cx.old cx.new }
-    ensures sort { IfOk result (λ r. IsRegion cx.new.trees r) }
-    ensures tree { IfOk result (λ r. region_tree cx.new.trees r ≡ placed_tree (reverse universes.now) (region_tree cx.old.trees region)) }
-    ensures cause { IfErr result (λ s. IsTreeStop cx.new.trees (placed_tree (reverse universes.now) (region_tree cx.old.trees region)) s) }
-{
-    match placeholder_for(universes, 0, cx.region_kind(region)) {
-        Some(placeholder) => cx.mk_region(placeholder),
-        None => Ok(region),
-    }
-}
-
 /// The argument under binders of these universes, the innermost last, with placeholders for the regions that those bind. It stops as
 /// `Rounds::resolve_ty_if_possible` does, and not where there are no binders.
 fn placed(
@@ -248,27 +235,6 @@ fn listed_root(
     Ok(listed_arg(cx, normal, resolved).unwrap_or(arg))
 }
 
-/// What the argument is, as `Rounds::current` says.
-fn current_in(
-    alloc: Global,
-    cx: &mut Cx,
-    inference: &Inference,
-    normal: &[(Ty, Ty)],
-    arg: GenericArg,
-) -> Result<GenericArg, Stop>
-    requires arg { IsArg cx.old.trees arg }
-    requires known { IsKnown cx.old.trees inference.now }
-    requires kinds { Each (SuitsKind cx.old.trees) inference.now.variables }
-    requires types { Each (AreTypes cx.old.trees) normal.now }
-    ensures grows { Grows cx.old cx.new }
-    ensures sort { IfOk result (λ x. IsArg cx.new.trees x × (arg_kind x ≡ arg_kind arg)) }
-    ensures tree { (m : TypingMode) → IfOk result (λ x. arg_tree cx.new.trees x ≡ current (listing_of cx.old.trees normal.now) (state_of cx.old.trees m inference.now) (arg_tree cx.old.trees arg)) }
-    ensures cause { (m : TypingMode) → IfErr result (λ s. IsTreeStop cx.new.trees (resolved_tree (state_of cx.old.trees m inference.now) (resolved_root (state_of cx.old.trees m inference.now) (arg_tree cx.old.trees arg))) s) }
-{
-    let root = resolved_root(cx, inference, arg);
-    listed_root(alloc, cx, inference, normal, root)
-}
-
 impl Rounds {
     /// The type that is listed for an alias, if one is. All values are put in already.
     pub(crate) fn listed(&self, ty: Ty) -> Option<Ty>
@@ -289,12 +255,13 @@ impl Rounds {
         ensures tree { IfOk result (λ x. arg_tree self.new.context.trees x ≡ current (listing self.old) (state self.old) (arg_tree self.old.context.trees arg)) }
         ensures cause { IfErr result (λ s. IsTreeStop self.new.context.trees (resolved_tree (state self.old) (resolved_root (state self.old) (arg_tree self.old.context.trees arg))) s) }
     {
-        current_in(
+        let root = resolved_root(&self.cx, &self.inference, arg);
+        listed_root(
             alloc,
             &mut self.cx,
             &self.inference,
             self.normal.as_slice(),
-            arg,
+            root,
         )
     }
 
@@ -339,6 +306,9 @@ impl Rounds {
         ensures tree { IfOk result (λ r. region_tree self.new.context.trees r ≡ placed_tree (reverse universes.now) (region_tree self.old.context.trees region)) }
         ensures cause { IfErr result (λ s. IsTreeStop self.new.context.trees (placed_tree (reverse universes.now) (region_tree self.old.context.trees region)) s) }
     {
-        placed_region(&mut self.cx, universes, region)
+        match placeholder_for(universes, 0, self.cx.region_kind(region)) {
+            Some(placeholder) => self.cx.mk_region(placeholder),
+            None => Ok(region),
+        }
     }
 }

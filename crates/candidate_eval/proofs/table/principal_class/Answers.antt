@@ -11,7 +11,7 @@ returns-in-Some c =
     let cx = c.args.cx.now in
     c.owned_class.ensures
     ∙ ap owned_in
-    (c.trait_is_local.ensures
+    (c.passes.ensures
     ∙ sym (principal-some (world cx) (crate_test c.args.in_crate cx.local.0) (preds_forest cx.trees c.args.preds) c.in-Some.id c.in-Some.ensures))
 
 pub returns-in-None : goal.returns-in-None

@@ -1,5 +1,5 @@
-use Rattle.candidate_eval.proofs.Equal.{forest_says}
+use Rattle.candidate_eval.proofs.Equal.{lists_say}
 use Rattle.candidate_eval.proofs.eval.response.same_values.Goals as goal
 
 pub returns : goal.returns
-returns c = forest_says _ _ _ c.same_args.ensures
+returns c = lists_say c.args.cx.now.trees _ _ _ c.requires.a.values c.requires.b.values c.same.ensures

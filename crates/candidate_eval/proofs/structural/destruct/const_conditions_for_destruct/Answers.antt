@@ -16,11 +16,11 @@ pub returns-in_err-types-clause-cause : goal.returns-in_err-types-clause-cause
 returns-in_err-types-clause-cause g c =
     let start = g.M.Make.context c.args.make.now in
     let ty = c.args.ty in
-    let asked = c.destruct_cell-asked.result in
+    let asked = c.cell-asked.result in
     let own = c.own_condition-own.result in
     let of = c.in-Some.of in
     let p = err_from_is_err_and c.from_residual.result c.from_residual.ensures.1 in
-    let cell = subst (λ (x : Context). asked_cell x asked ≡ (row_of x (ty_tree x.trees ty)).destruct) c.cx.ensures c.destruct_cell-asked.ensures.cell in
+    let cell = subst (λ (x : Context). asked_cell x asked ≡ (row_of x (ty_tree x.trees ty)).destruct) c.cx.ensures c.cell-asked.ensures.cell in
     let some = subst (λ (x : Context). own_conditions x (ty_tree x.trees ty) (own_destructor x (ty_tree x.trees ty).head) ≡ Some (own_references (ty_tree x.trees ty) own)) c.cx-2.ensures
     (c.own_condition-own.ensures.some (sym c.is_refused-2.ensures ∙ c.if-is_refused-2.false)) in
     let item = subst (λ (x : Context). Some of ≡ lang x L.Destruct) c.cx-3.ensures (sym c.in-Some.is ∙ c.lang_item.ensures) in
@@ -35,11 +35,11 @@ returns-in_err-conditions-clause-cause g c =
     let start = g.M.Make.context c.args.make.now in
     let mid = g.M.Make.context c.made.new.make in
     let ty = c.args.ty in
-    let asked = c.destruct_cell-asked.result in
+    let asked = c.cell-asked.result in
     let own = c.own_condition-own.result in
     let of = c.in-Some.of in
     let p = err_from_is_err_and c.from_residual-in_err-conditions.result c.from_residual-in_err-conditions.ensures.1 in
-    let cell = subst (λ (x : Context). asked_cell x asked ≡ (row_of x (ty_tree x.trees ty)).destruct) c.cx.ensures c.destruct_cell-asked.ensures.cell in
+    let cell = subst (λ (x : Context). asked_cell x asked ≡ (row_of x (ty_tree x.trees ty)).destruct) c.cx.ensures c.cell-asked.ensures.cell in
     let some = subst (λ (x : Context). own_conditions x (ty_tree x.trees ty) (own_destructor x (ty_tree x.trees ty).head) ≡ Some (own_references (ty_tree x.trees ty) own)) c.cx-2.ensures
     (c.own_condition-own.ensures.some (sym c.is_refused-2.ensures ∙ c.if-is_refused-2.false)) in
     let item = subst (λ (x : Context). Some of ≡ lang x L.Destruct) c.cx-3.ensures (sym c.in-Some.is ∙ c.lang_item.ensures) in
@@ -53,10 +53,10 @@ returns-clause-conditions g c =
     let start = g.M.Make.context c.args.make.now in
     let mid = g.M.Make.context c.made.new.make in
     let ty = c.args.ty in
-    let asked = c.destruct_cell-asked.result in
+    let asked = c.cell-asked.result in
     let own = c.own_condition-own.result in
     let of = c.in-Some.of in
-    let cell = subst (λ (x : Context). asked_cell x asked ≡ (row_of x (ty_tree x.trees ty)).destruct) c.cx.ensures c.destruct_cell-asked.ensures.cell in
+    let cell = subst (λ (x : Context). asked_cell x asked ≡ (row_of x (ty_tree x.trees ty)).destruct) c.cx.ensures c.cell-asked.ensures.cell in
     let some = subst (λ (x : Context). own_conditions x (ty_tree x.trees ty) (own_destructor x (ty_tree x.trees ty).head) ≡ Some (own_references (ty_tree x.trees ty) own)) c.cx-2.ensures
     (c.own_condition-own.ensures.some (sym c.is_refused-2.ensures ∙ c.if-is_refused-2.false)) in
     let item = subst (λ (x : Context). Some of ≡ lang x L.Destruct) c.cx-3.ensures (sym c.in-Some.is ∙ c.lang_item.ensures) in

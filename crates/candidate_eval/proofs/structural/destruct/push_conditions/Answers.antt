@@ -2,11 +2,12 @@ use Rattle.candidate_ir.proofs.Kept.{grows-trans}
 use Rattle.std.proofs.Common.{◌∙◌}
 use Rattle.std.proofs.lemmas.Result.{err_from_is_err_and}
 use Rattle.candidate_ir.proofs.Made.{IsTy-grows}
-use Rattle.candidate_eval.proofs.Conditions.{listed, one_more_condition, condition_stop}
+use Rattle.candidate_eval.proofs.Conditions.{one_more_condition, condition_stop}
+use Rattle.candidate_eval.proofs.Types.{ty_at}
 use Rattle.candidate_eval.proofs.structural.destruct.push_conditions.Goals as goal
 
 pub push_condition-requires-clause-ty : goal.push_condition-requires-clause-ty
-push_condition-requires-clause-ty g c = IsTy-grows _ _ _ c.loop-ty.invariant.0.grows (listed _ c.args.types.now c.loop-ty.ty-index _ c.requires.types c.loop-ty-test.true)
+push_condition-requires-clause-ty g c = IsTy-grows _ _ _ c.loop-ty.invariant.0.grows (ty_at _ c.args.types.now c.loop-ty.ty-index _ c.requires.types c.loop-ty-test.true)
 
 pub returns-in_err-push_condition-clause-cause : goal.returns-in_err-push_condition-clause-cause
 returns-in_err-push_condition-clause-cause g c =

@@ -9,9 +9,13 @@ returns-in_err-byte-clause-cause g c =
     let p = err_from_is_err_and c.from_residual.result c.from_residual.ensures.1 in
     rw (p.1, p.2) (made_stop _ _ 1 _ c.in_err-byte.ensures.made.unchanged c.in_err-byte.ensures.made.cause (omega arith))
 
-pub returns-clause-cause : goal.returns-clause-cause
-returns-clause-cause g c = slice_stop _ _ c.in_ok-byte.byte _ c.in_ok-byte.ensures.made.tree c.mk_ty-2.ensures.made
+pub returns-in_err-slice-clause-cause : goal.returns-in_err-slice-clause-cause
+returns-in_err-slice-clause-cause g c =
+    let p = err_from_is_err_and c.from_residual-in_err-slice.result c.from_residual-in_err-slice.ensures.1 in
+    rw (p.1, p.2) (slice_stop _ _ c.in_ok-byte.byte _ c.in_ok-byte.ensures.made.tree c.in_err-slice.ensures.made.unchanged c.in_err-slice.ensures.made.cause)
+
+pub returns-in_err-slice-clause-grows : goal.returns-in_err-slice-clause-grows
+returns-in_err-slice-clause-grows g c = grows-trans _ _ _ c.mk_ty.ensures.made.kept c.mk_ty-2.ensures.made.kept
 
 pub returns-clause-grows : goal.returns-clause-grows
-returns-clause-grows g c =
-    grows-trans _ _ _ c.mk_ty.ensures.made.kept c.mk_ty-2.ensures.made.kept
+returns-clause-grows g c = grows-trans _ _ _ c.mk_ty.ensures.made.kept c.mk_ty-2.ensures.made.kept

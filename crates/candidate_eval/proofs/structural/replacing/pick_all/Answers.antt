@@ -42,8 +42,8 @@ returns-in_err-term-clause-ambiguous g c =
     (ambiguous-then E.judge (E.fixed old) (E.fixed now) (env_forest start.trees c.args.env) (env_forest mid.trees c.args.env) _ _ (E.state now) (E.state c.pick_bound.new.ecx) (clauses_at start.trees c.args.bounds.now) (clauses_at mid.trees c.args.bounds.now)
     c.loop-projection.invariant.1 (env-kept start mid c.args.env s.grows c.requires.env).1 p.1 (clauses-kept start mid c.args.bounds.now s.grows c.requires.bounds).1 (c.in_err-term.ensures.ambiguous (sym r.2 ∙ n))))
 
-pub returns-in_err-push_term-clause-kept : goal.returns-in_err-push_term-clause-kept
-returns-in_err-push_term-clause-kept g c =
+pub returns-in_err-push-clause-kept : goal.returns-in_err-push-clause-kept
+returns-in_err-push-clause-kept g c =
     let kept = c.pick_bound.ensures.kept in
     let s = c.loop-projection.invariant in
     record { fixed_same = kept.fixed_same ∙ s.1; probes_same = kept.probes_same ∙ s.2; grows = grows-trans (g.E.Make.context c.args.ecx.now) (g.E.Make.context c.loop-projection.ecx) (g.E.Make.context c.pick_bound.new.ecx) s.0.grows kept.grows }
@@ -64,7 +64,7 @@ loop-projection-preserved g c =
           c.loop-projection.projection-index _ c.loop-projection.terms.items _ c.in_ok-term.term s.0 c.loop-projection-test.true kept.grows c.in_ok-term.ensures.sort
           (picked-then E.judge (E.fixed old) (E.fixed now) (env_forest start.trees c.args.env) (env_forest mid.trees c.args.env) _ _ (E.state now) (E.state new) (clauses_at start.trees c.args.bounds.now)
           (clauses_at mid.trees c.args.bounds.now) _ s.1 (env-kept start mid c.args.env s.0.grows c.requires.env).1 p.1 (clauses-kept start mid c.args.bounds.now s.0.grows c.requires.bounds).1 c.in_ok-term.ensures.picked)
-          c.in_ok-push_term.ensures.pushed,
+          c.in_ok-push.ensures.pushed,
       kept.fixed_same ∙ s.1,
       kept.probes_same ∙ s.2,
     )

@@ -39,8 +39,8 @@ returns-in_err-made-clause-kept g c =
     let s = c.loop-clause.invariant in
     record { fixed_same = kept.fixed_same ∙ s.1; probes_same = kept.probes_same ∙ s.2; grows = grows-trans (g.E.Make.context c.args.ecx.now) (g.E.Make.context c.loop-clause.ecx) (g.E.Make.context c.replaced_clause.new.ecx) s.0.grows kept.grows }
 
-pub returns-in_err-push_clause-clause-kept : goal.returns-in_err-push_clause-clause-kept
-returns-in_err-push_clause-clause-kept g c =
+pub returns-in_err-push-clause-kept : goal.returns-in_err-push-clause-kept
+returns-in_err-push-clause-kept g c =
     let kept = c.replaced_clause.ensures.kept in
     let s = c.loop-clause.invariant in
     record { fixed_same = kept.fixed_same ∙ s.1; probes_same = kept.probes_same ∙ s.2; grows = grows-trans (g.E.Make.context c.args.ecx.now) (g.E.Make.context c.loop-clause.ecx) (g.E.Make.context c.replaced_clause.new.ecx) s.0.grows kept.grows }
@@ -78,7 +78,7 @@ loop-clause-preserved g c =
           (replaced-then E.judge (E.fixed old) (E.fixed now) (env_forest start.trees c.args.env) (env_forest mid.trees c.args.env) (ty_tree start.trees c.args.object) (ty_tree mid.trees c.args.object) _ _ _ (E.state now)
           (E.state new) (clauses_at start.trees c.args.bounds.now) (clauses_at mid.trees c.args.bounds.now) s.1 (env-kept start mid c.args.env s.0.grows c.requires.env).1
           (ty-kept start mid c.args.object s.0.grows c.requires.object).1 listed.1 (clauses-kept start mid c.args.bounds.now s.0.grows c.requires.bounds).1 c.in_ok-made.ensures.replaced)
-          c.in_ok-push_clause.ensures.pushed,
+          c.in_ok-push.ensures.pushed,
       kept.fixed_same ∙ s.1,
       kept.probes_same ∙ s.2,
     )

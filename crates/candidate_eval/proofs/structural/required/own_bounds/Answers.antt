@@ -1,42 +1,43 @@
-use Rattle.std.proofs.Common.{rules, ◌+◌, ◌≤◌, [], ◌++◌, List, length, refl, sym, ◌∙◌, ap, take}
-use Rattle.std.specs.List.{flat_map}
+use Rattle.std.proofs.Common.{rules, ◌≤◌, [], ◌++◌, List, length, refl, ◌∙◌, ap}
+use Rattle.std.specs.Prelude.{map}
 use Rattle.candidate_ir.specs.Trees.{Tree}
-use Rattle.candidate_ir.specs.Words.{preds_forest, ty_tree}
-use Rattle.candidate_ir.proofs.Kept.{preds-kept, ty-kept, grows-trans}
-use Rattle.candidate_eval.specs.Required.{each_of, in_place, own_bound}
-use Rattle.candidate_eval.proofs.Required.{all_bounds, more_added, next_gathered, none_added, own_stays, preds_read}
+use Rattle.candidate_ir.specs.Words.{clause_tree}
+use Rattle.candidate_ir.proofs.Kept.{ty-kept, grows-trans}
+use Rattle.candidate_ir.proofs.Made.{IsPred-listed}
+use Rattle.candidate_eval.proofs.Required.{all_gathered, all_said, bound_said, more_gathered, none_added, preds_read, said_stays}
 use Rattle.candidate_eval.proofs.structural.required.own_bounds.Goals as goal
 
-pub loop-place-init : goal.loop-place-init
-loop-place-init g c = (none_added _ _ _ _ refl c.new-list.ensures.items refl, refl)
+pub loop-bound-init : goal.loop-bound-init
+loop-bound-init g c = (none_added _ _ _ _ refl c.new-list.ensures.items refl, refl)
 
-pub push_own_at-requires-clause-object : goal.push_own_at-requires-clause-object
-push_own_at-requires-clause-object g c = (ty-kept _ _ c.args.object c.loop-place.invariant.0.grows c.requires.object).0
+pub push_own-requires-clause-object : goal.push_own-requires-clause-object
+push_own-requires-clause-object g c = (ty-kept _ _ c.args.object c.loop-bound.invariant.0.grows c.requires.object).0
 
-pub push_own_at-requires-clause-bounds : goal.push_own_at-requires-clause-bounds
-push_own_at-requires-clause-bounds g c = (preds-kept _ _ c.args.bounds c.loop-place.invariant.0.grows c.requires.bounds).0
-
-pub loop-place-preserved : goal.loop-place-preserved
-loop-place-preserved g c =
+pub push_own-requires-clause-bound : goal.push_own-requires-clause-bound
+push_own-requires-clause-bound g c =
     let start = g.M.Make.context c.args.make.now in
-    let now = g.M.Make.context c.loop-place.make in
-    let f = own_bound (ty_tree start.trees c.args.object) in
-    let ts = each_of (preds_forest start.trees c.args.bounds) in
-    let so = c.loop-place.invariant.0 in
-    let stays = own_stays start now c.args.object c.args.bounds c.loop-place.place so.grows c.requires.object c.requires.bounds in
-    let next = next_gathered f ts c.loop-place.place ∙ ap (λ (us : List Tree). flat_map f (take c.loop-place.place ts) ++ us) (sym stays) in (
-      more_added start now (g.M.Make.context c.push_own_at.new.make) [] c.loop-place.list.items c.push_own_at.new.list.items (flat_map f (take c.loop-place.place ts))
-          (flat_map (own_bound (ty_tree now.trees c.args.object)) (in_place (each_of (preds_forest now.trees c.args.bounds)) c.loop-place.place)) (flat_map f (take (c.loop-place.place + 1) ts)) so c.push_own_at.ensures.grows c.in_ok-push_own_at.ensures.sort c.in_ok-push_own_at.ensures.trees next,
-      c.push_own_at.ensures.rest ∙ c.loop-place.invariant.1,
+    let read = preds_read start _ c.args.bounds c.preds.result.now _ c.cx.ensures (c.deref-bound-items.ensures.value ∙ c.in_ok-listed.ensures.items) c.preds.ensures.fits c.preds.ensures.tree in
+    (said_stays start _ c.args.object _ c.loop-bound.invariant.0.grows c.requires.object (IsPred-listed start.trees c.deref-bound-items.result.now c.loop-bound.bound-index _ c.loop-bound-test.true read.0)).0
+
+pub loop-bound-preserved : goal.loop-bound-preserved
+loop-bound-preserved g c =
+    let start = g.M.Make.context c.args.make.now in
+    let xs = c.deref-bound-items.result.now in
+    let so = c.loop-bound.invariant.0 in
+    let read = preds_read start _ c.args.bounds c.preds.result.now xs c.cx.ensures (c.deref-bound-items.ensures.value ∙ c.in_ok-listed.ensures.items) c.preds.ensures.fits c.preds.ensures.tree in
+    let stays = said_stays start (g.M.Make.context c.loop-bound.make) c.args.object _ so.grows c.requires.object (IsPred-listed start.trees xs c.loop-bound.bound-index _ c.loop-bound-test.true read.0) in (
+      more_gathered start (g.M.Make.context c.loop-bound.make) (g.M.Make.context c.push_own.new.make) [] c.loop-bound.list.items c.push_own.new.list.items (bound_said start.trees c.args.object) xs c.loop-bound.bound-index _ so
+          c.loop-bound-test.true c.push_own.ensures.grows c.in_ok-push_own.ensures.sort (c.in_ok-push_own.ensures.trees ∙ ap (λ (ts : List Tree). map (clause_tree (g.M.Make.context c.loop-bound.make).trees) c.loop-bound.list.items ++ ts) stays.1),
+      c.push_own.ensures.rest ∙ c.loop-bound.invariant.1,
     )
 
 pub returns-clause-trees : goal.returns-clause-trees
 returns-clause-trees g c =
     let start = g.M.Make.context c.args.make.now in
-    let read = preds_read start _ c.args.bounds c.preds-count.result.now c.cx.ensures c.preds-count.ensures.fits c.preds-count.ensures.tree in
-    let past : length c.preds-count.result.now ≤ c.loop-place.place = search rules in
-    all_bounds start _ c.args.object c.args.bounds c.preds-count.result.now c.loop-place.list.items c.loop-place.place read.0 read.1 c.loop-place.invariant.0 past
+    let xs = c.deref-bound-items.result.now in
+    let read = preds_read start _ c.args.bounds c.preds.result.now xs c.cx.ensures (c.deref-bound-items.ensures.value ∙ c.in_ok-listed.ensures.items) c.preds.ensures.fits c.preds.ensures.tree in
+    let past : length xs ≤ c.loop-bound.bound-index = search rules in
+    all_gathered start _ [] c.loop-bound.list.items (bound_said start.trees c.args.object) xs c.loop-bound.bound-index c.loop-bound.invariant.0 past ∙ all_said start.trees c.args.object c.args.bounds xs read.0 read.1
 
-pub returns-in_err-push_own_at-clause-grows : goal.returns-in_err-push_own_at-clause-grows
-returns-in_err-push_own_at-clause-grows g c =
-    grows-trans _ _ _ c.loop-place.invariant.0.grows c.push_own_at.ensures.grows
+pub returns-in_err-push_own-clause-grows : goal.returns-in_err-push_own-clause-grows
+returns-in_err-push_own-clause-grows g c = grows-trans _ _ _ c.loop-bound.invariant.0.grows c.push_own.ensures.grows

@@ -1,14 +1,13 @@
 use Rattle.std.proofs.Common.{◌≡◌, take}
-use Rattle.std.specs.Prelude.{map}
+use Rattle.std.specs.List.{flat_map}
 use Rattle.candidate_ir.specs.Words.{args_forest}
-use Rattle.candidate_eval.specs.Required.{bounds_of_items, items_of, with_arguments}
 use Rattle.candidate_eval.proofs.Required.{AddedSoFar}
+use Rattle.candidate_eval.proofs.Requiring.{item_with}
 use Rattle.candidate_eval.proofs.structural.required.push_required.Given as goal
 
--- the bounds of the items before that place were added
-abbrev pub invariant-loop-place : goal.invariant-loop-place
-invariant-loop-place g l =
+-- the bounds of the items before were added
+abbrev pub invariant-loop-item : goal.invariant-loop-item
+invariant-loop-item g l =
     let start = g.M.Make.context l.fn.make in
-    AddedSoFar start (g.M.Make.context l.make) l.fn.list.items l.list.items
-    (map (with_arguments (args_forest start.trees l.fn.trait_ref.args)) (bounds_of_items start (take l.place (items_of start l.fn.trait_ref.def_id.0))))
+    AddedSoFar start (g.M.Make.context l.make) l.fn.list.items l.list.items (flat_map (item_with start (args_forest start.trees l.fn.trait_ref.args)) (take l.item-index l.item-items))
     × (g.M.Make.rest l.make ≡ g.M.Make.rest l.fn.make)

@@ -6,8 +6,8 @@ use Rattle.candidate_ir.specs.Words.{args_forest, clause_tree}
 use Rattle.candidate_eval.proofs.Requiring.{all_there}
 use Rattle.candidate_eval.proofs.structural.required.with_arguments.Goals as goal
 
-pub returns-then-clause_has_arguments-clause-tree : goal.returns-then-clause_has_arguments-clause-tree
-returns-then-clause_has_arguments-clause-tree g c =
+pub returns-then-has_arguments-clause-tree : goal.returns-then-has_arguments-clause-tree
+returns-then-has_arguments-clause-tree g c =
     let start = g.M.Make.context c.args.make.now in
     let there : tree_holds (lacks_argument (args_forest start.trees c.args.args)) (clause_tree start.trees c.args.clause) ≡ false = search rules in
     subst (λ (t : Tree). IfOk c.subst_clause.result (λ x. clause_tree (g.M.Make.context c.subst_clause.new.make).trees x ≡ t)) (all_there (args_forest start.trees c.args.args) (clause_tree start.trees c.args.clause) there) c.subst_clause.ensures.tree

@@ -7,18 +7,18 @@ use Rattle.candidate_ir.proofs.Misplacing.{any_in, any_on}
 use Rattle.candidate_ir.proofs.Listing.{same_says, listed_clause}
 use Rattle.candidate_ir.proofs.decl.elaborate.lists.Goals as goal
 
-pub same_clause-requires-clause-a : goal.same_clause-requires-clause-a
-same_clause-requires-clause-a c =
+pub same-requires-clause-a : goal.same-requires-clause-a
+same-requires-clause-a c =
     let past : Clause = record { 0 = 0 } in
     let x = slice_index_or c.args.list.now c.loop-other.other-index past in
     listed_clause _ c.args.list.now c.loop-other.other-index x c.requires.list c.loop-other-test.true (get_or_default c.args.list.now c.loop-other.other-index past x c.loop-other-test.true)
 
-pub returns-then-same_clause : goal.returns-then-same_clause
-returns-then-same_clause c =
+pub returns-then-same : goal.returns-then-same
+returns-then-same c =
     let past : Clause = record { 0 = 0 } in
     let x = slice_index_or c.args.list.now c.loop-other.other-index past in
     let at = get_or_default c.args.list.now c.loop-other.other-index past x c.loop-other-test.true in
-    let same = sym (same_says c.args.cx.now.trees c.args.clause x c.same_clause.result c.same_clause.ensures) ∙ c.if-same_clause.true in
+    let same = sym (same_says c.args.cx.now.trees c.args.clause x c.same.result c.same.ensures) ∙ c.if-same.true in
     sym (any_in (is_same_clause c.args.cx.now.trees c.args.clause) c.args.list.now c.loop-other.other-index x c.loop-other-test.true at same)
 
 pub loop-other-preserved : goal.loop-other-preserved
@@ -26,5 +26,5 @@ loop-other-preserved c =
     let past : Clause = record { 0 = 0 } in
     let x = slice_index_or c.args.list.now c.loop-other.other-index past in
     let at = get_or_default c.args.list.now c.loop-other.other-index past x c.loop-other-test.true in
-    let other = sym (same_says c.args.cx.now.trees c.args.clause x c.same_clause.result c.same_clause.ensures) ∙ c.if-same_clause.false in
+    let other = sym (same_says c.args.cx.now.trees c.args.clause x c.same.result c.same.ensures) ∙ c.if-same.false in
     any_on (is_same_clause c.args.cx.now.trees c.args.clause) c.args.list.now c.loop-other.other-index x c.loop-other-test.true at other c.loop-other.invariant

@@ -88,8 +88,8 @@ pub fold_bounds-loop-i-init : goal.fold_bounds-loop-i-init
 fold_bounds-loop-i-init g t c =
     rw c.new-bounds.ensures.items (bounds-begin g.M.Make.context g.M.Make.rest g.F.FnMut _ _ _)
 
-pub fold_bounds-bound-bound-requires : goal.fold_bounds-bound-bound-requires
-fold_bounds-bound-bound-requires g t c =
+pub fold_bounds-pred-bound-requires : goal.fold_bounds-pred-bound-requires
+fold_bounds-pred-bound-requires g t c =
     let past : Pred = record { 0 = 0 } in
     let was = IsPred-listed _ c.args.list.now c.loop-i.i past (omega arith) c.requires.fits in
     let now = kind_at-grows _ _ (slice_index_or c.args.list.now c.loop-i.i past).0 PredicateKind c.loop-i.invariant.grows refl was in
@@ -103,10 +103,10 @@ fold_bounds-fold_children-requires g t c κs within =
     let at = pred_at c.args.list.now c.loop-i.i pred c.loop-i-test.true (get_or_default c.args.list.now c.loop-i.i past pred c.loop-i-test.true) in
     let inside = Below-get _ ks c.loop-i.i pred.0 (Below-there _ ks _ c.requires.fits (there-preds c.args.list.now)) at in
     let so = c.loop-i.invariant in
-    let FitsIn : Context → Type 0 = λ x. PredFits x.trees c.bound-bound.result in
-    let StandsIn : Context → Type 0 = λ x. pred_kind_tree x.trees c.bound-bound.result ≡ tree_at x.trees pred.0 in
-    let fits : FitsIn (g.M.Make.context c.loop-i.make) = subst FitsIn c.cx-in-loop-i.ensures c.bound-bound.ensures.fits in
-    let stands : StandsIn (g.M.Make.context c.loop-i.make) = subst StandsIn c.cx-in-loop-i.ensures c.bound-bound.ensures.tree in
+    let FitsIn : Context → Type 0 = λ x. PredFits x.trees c.pred-bound.result in
+    let StandsIn : Context → Type 0 = λ x. pred_kind_tree x.trees c.pred-bound.result ≡ tree_at x.trees pred.0 in
+    let fits : FitsIn (g.M.Make.context c.loop-i.make) = subst FitsIn c.cx-in-loop-i.ensures c.pred-bound.ensures.fits in
+    let stands : StandsIn (g.M.Make.context c.loop-i.make) = subst StandsIn c.cx-in-loop-i.ensures c.pred-bound.ensures.tree in
     let small : pred.0 < c.args.number = Below-get c.args.number ks c.loop-i.i pred.0 c.requires.below at in
     let reached = folds-reached g.M.Make.context g.M.Make.rest g.F.FnMut so.folded in (
       omega (arith, small),
@@ -117,9 +117,9 @@ fold_bounds-fold_children-requires g t c κs within =
           (
             fits,
             (
-              c.bound-bound.ensures.below,
+              c.pred-bound.ensures.below,
               (
-                no-bound-pred c.bound-bound.result.value c.bound-bound.result refl,
+                no-bound-pred c.pred-bound.result.value c.pred-bound.result refl,
                 (
                   omega (arith, small, c.requires.room),
                   (may-later g.M.Make.context g.M.Make.rest g.F.FnMut _ _ reached so.grows c.requires.callable, keeps-later g.M.Make.context g.M.Make.rest g.F.FnMut _ _ reached so.grows c.requires.keeps),
@@ -139,12 +139,12 @@ fold_bounds-returns-in_err-children-clause-outcome g t c =
     let at = pred_at c.args.list.now c.loop-i.i pred c.loop-i-test.true (get_or_default c.args.list.now c.loop-i.i past pred c.loop-i-test.true) in
     let inside = Below-get _ ks c.loop-i.i pred.0 (Below-there _ ks _ c.requires.fits (there-preds c.args.list.now)) at in
     let so = c.loop-i.invariant in
-    let FitsIn : Context → Type 0 = λ x. PredFits x.trees c.bound-bound.result in
-    let StandsIn : Context → Type 0 = λ x. pred_kind_tree x.trees c.bound-bound.result ≡ tree_at x.trees pred.0 in
-    let fits : FitsIn (g.M.Make.context c.loop-i.make) = subst FitsIn c.cx-in-loop-i.ensures c.bound-bound.ensures.fits in
-    let stands : StandsIn (g.M.Make.context c.loop-i.make) = subst StandsIn c.cx-in-loop-i.ensures c.bound-bound.ensures.tree in
+    let FitsIn : Context → Type 0 = λ x. PredFits x.trees c.pred-bound.result in
+    let StandsIn : Context → Type 0 = λ x. pred_kind_tree x.trees c.pred-bound.result ≡ tree_at x.trees pred.0 in
+    let fits : FitsIn (g.M.Make.context c.loop-i.make) = subst FitsIn c.cx-in-loop-i.ensures c.pred-bound.ensures.fits in
+    let stands : StandsIn (g.M.Make.context c.loop-i.make) = subst StandsIn c.cx-in-loop-i.ensures c.pred-bound.ensures.tree in
     let p = err_from_is_err_and c.from_residual.result c.from_residual.ensures.1 in
-    rw (p.1, p.2) (bounds-stop g.M.Make.context g.M.Make.rest g.F.FnMut _ _ _ c.args.binders ks c.loop-i.bounds.items c.loop-i.i pred.0 c.bound-bound.result inside so at stands _ _ _ c.in_err-children.ensures)
+    rw (p.1, p.2) (bounds-stop g.M.Make.context g.M.Make.rest g.F.FnMut _ _ _ c.args.binders ks c.loop-i.bounds.items c.loop-i.i pred.0 c.pred-bound.result inside so at stands _ _ _ c.in_err-children.ensures)
 
 pub fold_bounds-returns-in_err-push-clause-outcome : goal.fold_bounds-returns-in_err-push-clause-outcome
 fold_bounds-returns-in_err-push-clause-outcome g t c =
@@ -161,11 +161,11 @@ fold_bounds-loop-i-preserved g t c =
     let at = pred_at c.args.list.now c.loop-i.i pred c.loop-i-test.true (get_or_default c.args.list.now c.loop-i.i past pred c.loop-i-test.true) in
     let inside = Below-get _ ks c.loop-i.i pred.0 (Below-there _ ks _ c.requires.fits (there-preds c.args.list.now)) at in
     let so = c.loop-i.invariant in
-    let FitsIn : Context → Type 0 = λ x. PredFits x.trees c.bound-bound.result in
-    let StandsIn : Context → Type 0 = λ x. pred_kind_tree x.trees c.bound-bound.result ≡ tree_at x.trees pred.0 in
-    let fits : FitsIn (g.M.Make.context c.loop-i.make) = subst FitsIn c.cx-in-loop-i.ensures c.bound-bound.ensures.fits in
-    let stands : StandsIn (g.M.Make.context c.loop-i.make) = subst StandsIn c.cx-in-loop-i.ensures c.bound-bound.ensures.tree in
-    bounds-next g.M.Make.context g.M.Make.rest g.F.FnMut _ _ _ c.args.binders ks c.loop-i.bounds.items c.loop-i.i pred.0 c.bound-bound.result inside so at stands well _ c.in_ok-children.children c.with_children.result _ c.in_ok-children.ensures c.with_children.ensures.head
+    let FitsIn : Context → Type 0 = λ x. PredFits x.trees c.pred-bound.result in
+    let StandsIn : Context → Type 0 = λ x. pred_kind_tree x.trees c.pred-bound.result ≡ tree_at x.trees pred.0 in
+    let fits : FitsIn (g.M.Make.context c.loop-i.make) = subst FitsIn c.cx-in-loop-i.ensures c.pred-bound.ensures.fits in
+    let stands : StandsIn (g.M.Make.context c.loop-i.make) = subst StandsIn c.cx-in-loop-i.ensures c.pred-bound.ensures.tree in
+    bounds-next g.M.Make.context g.M.Make.rest g.F.FnMut _ _ _ c.args.binders ks c.loop-i.bounds.items c.loop-i.i pred.0 c.pred-bound.result inside so at stands well _ c.in_ok-children.children c.with_children.result _ c.in_ok-children.ensures c.with_children.ensures.head
     (c.with_children.ensures.numbers ∙ c.as_slice.ensures.value) c.with_children.ensures.sorts c.in_ok-push.ensures.items
 
 pub fold_bounds-mk_preds-requires : goal.fold_bounds-mk_preds-requires

@@ -8,41 +8,54 @@ use Rattle.candidate_rounds.specs.Known.{state}
 use Rattle.candidate_rounds.proofs.Trying.{instantiated-state, instantiated-tree, on-ok}
 use Rattle.candidate_rounds.proofs.SettlingStops.{instance-stop}
 use Rattle.candidate_rounds.proofs.Going.{goes-trans}
+use Rattle.std.proofs.Common.{sym}
+use Rattle.std.specs.Prelude.{IfErr}
+use Rattle.candidate_ir.specs.Words.{IsArgs, IsClause}
+use Rattle.candidate_rounds.specs.Known.{Evaluator}
+use Rattle.candidate_rounds.specs.Stopping.{IsTreeStop}
+use Rattle.candidate_rounds.proofs.Interface.{made-goes, made-same}
+use Rattle.candidate_rounds.proofs.ResolvedValues.{evaluator-grown}
 use Rattle.candidate_rounds.proofs.rounds.Rounds.instantiate.Goals as goal
 
-pub open-requires-clause-clause : goal.open-requires-clause-clause
-open-requires-clause-clause c = (clause-kept c.args.self.now.context c.placeholder_args.new.self.context c.args.clause c.placeholder_args.ensures.goes.0 c.requires.clause).0
+pub open_clause-requires-clause-clause : goal.open_clause-requires-clause-clause
+open_clause-requires-clause-clause c = subst (λ (e : Evaluator). IsClause e.context.trees c.args.clause) (sym c.self.view_is) (clause-kept c.args.self.now.context c.placeholder_args.new.self.context c.args.clause c.placeholder_args.ensures.goes.0 c.requires.clause).0
 
 pub returns-clause-state : goal.returns-clause-state
 returns-clause-state c =
     let old = c.args.self.now in
-    on-ok c.open.result (c.open.ensures.state ∙ (c.in_ok-values.ensures.made ∙ instantiated-state (state old) (clause_tree old.context.trees c.args.clause) c.args.kinds.now c.requires.kinds))
+    on-ok c.open_clause.result (made-same c.self.view_is c.open_clause.ensures.grows c.self.invariant ∙ (c.in_ok-values.ensures.made ∙ instantiated-state (state old) (clause_tree old.context.trees c.args.clause) c.args.kinds.now c.requires.kinds))
 
 pub returns-clause-tree : goal.returns-clause-tree
 returns-clause-tree c =
     let old = c.args.self.now in
     let mid = c.placeholder_args.new.self in
-    let new = c.open.new.self in
     let was = clause_tree old.context.trees c.args.clause in
     let now = clause_tree mid.context.trees c.args.clause in
-    subst (λ (t : Tree). IfOk c.open.result (λ x. clause_tree new.context.trees x ≡ t))
+    subst (λ (t : Tree). IfOk c.open_clause.result (λ x. clause_tree c.open_clause.new.make.trees x ≡ t))
     (ap (λ (f : Forest). opened_clause f now) c.in_ok-values.ensures.trees
     ∙ (ap (opened_clause (rigid (state old) (kinds_listed c.args.kinds.now))) (clause-kept old.context mid.context c.args.clause c.placeholder_args.ensures.goes.0 c.requires.clause).1
     ∙ instantiated-tree (state old) was c.args.kinds.now c.requires.kinds))
-    c.open.ensures.tree
+    (subst (λ (e : Evaluator). IfOk c.open_clause.result (λ x. clause_tree c.open_clause.new.make.trees x ≡ opened_clause (args_forest e.context.trees c.in_ok-values.values) (clause_tree e.context.trees c.args.clause))) c.self.view_is
+    c.open_clause.ensures.tree)
 
 pub returns-clause-cause : goal.returns-clause-cause
 returns-clause-cause c =
     let old = c.args.self.now in
     let mid = c.placeholder_args.new.self in
-    let new = c.open.new.self in
     let was = clause_tree old.context.trees c.args.clause in
     let now = clause_tree mid.context.trees c.args.clause in
-    instance-stop new.context.trees (state old) was (opened_clause (args_forest mid.context.trees c.in_ok-values.values) now) c.open.result
+    instance-stop c.open_clause.new.make.trees (state old) was (opened_clause (args_forest mid.context.trees c.in_ok-values.values) now) c.open_clause.result
     (ap (λ (f : Forest). opened_clause f now) c.in_ok-values.ensures.trees
     ∙ (ap (opened_clause (rigid (state old) (kinds_listed c.args.kinds.now))) (clause-kept old.context mid.context c.args.clause c.placeholder_args.ensures.goes.0 c.requires.clause).1
     ∙ instantiated-tree (state old) was c.args.kinds.now c.requires.kinds))
-    c.open.ensures.cause
+    (subst (λ (e : Evaluator). IfErr c.open_clause.result (λ x. IsTreeStop c.open_clause.new.make.trees (opened_clause (args_forest e.context.trees c.in_ok-values.values) (clause_tree e.context.trees c.args.clause)) x)) c.self.view_is
+    c.open_clause.ensures.cause)
 
 pub returns-clause-goes : goal.returns-clause-goes
-returns-clause-goes c = goes-trans c.args.self.now c.placeholder_args.new.self c.open.new.self c.placeholder_args.ensures.goes c.open.ensures.goes
+returns-clause-goes c = goes-trans c.args.self.now c.placeholder_args.new.self _ c.placeholder_args.ensures.goes (made-goes c.self.view_is c.open_clause.ensures.grows)
+
+pub open_clause-requires-clause-values : goal.open_clause-requires-clause-values
+open_clause-requires-clause-values c = subst (λ (e : Evaluator). IsArgs e.context.trees c.in_ok-values.values) (sym c.self.view_is) c.in_ok-values.ensures.sort
+
+pub invariant_of-self : goal.invariant_of-self
+invariant_of-self c = evaluator-grown _ _ _ _ _ _ c.open_clause.ensures.grows.kept c.self.invariant

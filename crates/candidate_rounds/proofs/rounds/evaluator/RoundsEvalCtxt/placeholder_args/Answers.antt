@@ -1,6 +1,48 @@
-use Rattle.candidate_rounds.proofs.Interface.{keeps-all}
-use Rattle.candidate_rounds.proofs.Between.{parts}
+use Rattle.std.proofs.Common.{ap, arith, subst, sym, ◌∙◌}
+use Rattle.candidate_ir.specs.Context.{Context}
+use Rattle.candidate_ir.specs.Words.{IsArgs, args_forest}
+use Rattle.candidate_eval.specs.States.{placeholders}
+use Rattle.candidate_eval.specs.Evaluators.{kinds_listed}
+use Rattle.candidate_rounds.specs.Known.{Evaluator}
+use Rattle.candidate_rounds.proofs.Leafing.{placeholders-are}
+use Rattle.candidate_rounds.proofs.Going.{goes-refl, goes-trans}
+use Rattle.candidate_rounds.proofs.Interface.{keeps-going, keeps-refl}
 use Rattle.candidate_rounds.proofs.rounds.evaluator.RoundsEvalCtxt.placeholder_args.Goals as goal
 
-pub returns-clause-kept : goal.returns-clause-kept
-returns-clause-kept c = keeps-all c.args.self.now c.placeholder_args.new.self c.placeholder_args.ensures.grows c.placeholder_args.ensures.given (parts c.well_kept.ensures).given c.placeholder_args.ensures.probes
+pub returns-in_ok-enter-clause-trees : goal.returns-in_ok-enter-clause-trees
+returns-in_ok-enter-clause-trees c =
+    let k = ap (λ (e : Evaluator). e.inference.newest_universe) c.self.view_is in
+    ap (λ (x : Context). args_forest x.trees c.in_ok-args.args) c.in_ok-enter.ensures.context
+    ∙ (c.in_ok-args.ensures.trees
+    ∙ (placeholders-are c.in_ok-universe.universe 0 c.args.kinds.now
+    ∙ ap (λ u. placeholders u 0 (kinds_listed c.args.kinds.now)) (let u = c.in_ok-universe.ensures in omega (arith, u, k))))
+
+pub returns-in_err-enter-clause-goes : goal.returns-in_err-enter-clause-goes
+returns-in_err-enter-clause-goes c = goes-trans c.args.self.now c.make_leaves.new.self c.enter.new.self c.make_leaves.ensures.goes c.enter.ensures.goes
+
+pub returns-in_ok-enter-clause-goes : goal.returns-in_ok-enter-clause-goes
+returns-in_ok-enter-clause-goes c = goes-trans c.args.self.now c.make_leaves.new.self c.enter.new.self c.make_leaves.ensures.goes c.enter.ensures.goes
+
+pub returns-in_ok-enter-clause-sort : goal.returns-in_ok-enter-clause-sort
+returns-in_ok-enter-clause-sort c = subst (λ (x : Context). IsArgs x.trees c.in_ok-args.args) (sym c.in_ok-enter.ensures.context) c.in_ok-args.ensures.sort
+
+pub returns-then-kinds-clause-goes : goal.returns-then-kinds-clause-goes
+returns-then-kinds-clause-goes c = goes-refl c.args.self.now
+
+pub returns-then-kinds-clause-kept : goal.returns-then-kinds-clause-kept
+returns-then-kinds-clause-kept c = keeps-refl c.args.self.now
+
+pub returns-in_err-universe-clause-kept : goal.returns-in_err-universe-clause-kept
+returns-in_err-universe-clause-kept c = keeps-refl c.args.self.now
+
+pub returns-in_err-args-clause-kept : goal.returns-in_err-args-clause-kept
+returns-in_err-args-clause-kept c = keeps-going c.args.self.now c.make_leaves.new.self c.make_leaves.ensures.goes c.well_kept.ensures
+
+pub returns-in_err-enter-clause-kept : goal.returns-in_err-enter-clause-kept
+returns-in_err-enter-clause-kept c = keeps-going c.args.self.now c.enter.new.self (goes-trans c.args.self.now c.make_leaves.new.self c.enter.new.self c.make_leaves.ensures.goes c.enter.ensures.goes) c.well_kept.ensures
+
+pub returns-in_ok-enter-clause-kept : goal.returns-in_ok-enter-clause-kept
+returns-in_ok-enter-clause-kept c = keeps-going c.args.self.now c.enter.new.self (goes-trans c.args.self.now c.make_leaves.new.self c.enter.new.self c.make_leaves.ensures.goes c.enter.ensures.goes) c.well_kept.ensures
+
+pub returns-else-not-is_empty-clause-kept : goal.returns-else-not-is_empty-clause-kept
+returns-else-not-is_empty-clause-kept c = keeps-going c.args.self.now c.make_leaves.new.self c.make_leaves.ensures.goes c.well_kept.ensures

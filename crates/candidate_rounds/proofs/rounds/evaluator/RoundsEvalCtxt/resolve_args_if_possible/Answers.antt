@@ -1,6 +1,41 @@
-use Rattle.candidate_rounds.proofs.Interface.{keeps-all}
+use Rattle.std.proofs.Common.{◌≡◌, length, reverse, IfOk, subst}
+use Rattle.std.specs.Prelude.{IfErr}
+use Rattle.candidate_ir.specs.Folding.{IsSubstStop}
+use Rattle.candidate_ir.specs.Words.{args_forest}
+use Rattle.candidate_eval.specs.States.{resolved}
+use Rattle.candidate_rounds.specs.Known.{Evaluator, state}
 use Rattle.candidate_rounds.proofs.Between.{parts}
+use Rattle.candidate_rounds.proofs.Holding.{kinds-now}
+use Rattle.candidate_rounds.proofs.Interface.{made-goes, made-kept, made-same}
+use Rattle.candidate_rounds.proofs.ResolvedValues.{evaluator-grown}
+use Rattle.candidate_rounds.proofs.StopKinds.{substitution-stop}
 use Rattle.candidate_rounds.proofs.rounds.evaluator.RoundsEvalCtxt.resolve_args_if_possible.Goals as goal
 
+pub resolved_args-requires-clause-known : goal.resolved_args-requires-clause-known
+resolved_args-requires-clause-known c = (parts c.self.invariant).consistent.known
+
+pub resolved_args-requires-clause-kinds : goal.resolved_args-requires-clause-kinds
+resolved_args-requires-clause-kinds c = kinds-now c.self.inside.cx.trees c.self.inside.inference (reverse c.self.inside.probes.items) (parts c.self.invariant).consistent
+
+pub invariant_of-self : goal.invariant_of-self
+invariant_of-self c = evaluator-grown _ _ _ _ _ _ c.resolved_args.ensures.grows.kept c.self.invariant
+
+pub returns-clause-goes : goal.returns-clause-goes
+returns-clause-goes c = made-goes c.self.view_is c.resolved_args.ensures.grows
+
 pub returns-clause-kept : goal.returns-clause-kept
-returns-clause-kept c = keeps-all c.args.self.now c.resolve_args_if_possible.new.self c.resolve_args_if_possible.ensures.grows c.resolve_args_if_possible.ensures.given (parts c.well_kept.ensures).given c.resolve_args_if_possible.ensures.probes
+returns-clause-kept c = made-kept c.self.view_is c.resolved_args.ensures.grows c.self.invariant
+
+pub returns-clause-same : goal.returns-clause-same
+returns-clause-same c = made-same c.self.view_is c.resolved_args.ensures.grows c.self.invariant
+
+pub returns-clause-tree : goal.returns-clause-tree
+returns-clause-tree c =
+    subst (λ (e : Evaluator). IfOk c.resolved_args.result (λ x. args_forest c.resolved_args.new.cx.trees x ≡ resolved (state e) (args_forest e.context.trees c.args.list))) c.self.view_is (c.resolved_args.ensures.tree c.self.inside.mode)
+
+pub returns-clause-cause : goal.returns-clause-cause
+returns-clause-cause c = substitution-stop _ _ c.resolved_args.result (c.resolved_args.ensures.cause c.self.inside.mode)
+
+pub returns-clause-reason : goal.returns-clause-reason
+returns-clause-reason c =
+    subst (λ (e : Evaluator). IfErr c.resolved_args.result (λ s. IsSubstStop (length c.resolved_args.new.cx.trees) (resolved (state e) (args_forest e.context.trees c.args.list)) s)) c.self.view_is (c.resolved_args.ensures.cause c.self.inside.mode)

@@ -1,20 +1,36 @@
+use Rattle.candidate_rounds.proofs.Normals.{constant-normalized}
+use Rattle.candidate_rounds.proofs.Between.{parts}
 use Rattle.std.proofs.Common.{◌∙◌, ap}
 use Rattle.candidate_ir.specs.Trees.{none}
 use Rattle.candidate_ir.specs.Words.{const_tree}
 use Rattle.rounds_judge.specs.Normalizing.{normalized}
 use Rattle.rounds_judge.proofs.WellListed.{all-listed}
 use Rattle.candidate_rounds.specs.Known.{listing, state}
-use Rattle.candidate_rounds.proofs.Interface.{keeps-all}
-use Rattle.candidate_rounds.proofs.Between.{parts}
+use Rattle.candidate_eval.specs.States.{resolved_tree}
+use Rattle.candidate_rounds.specs.Stopping.{IsTreeStop}
+use Rattle.candidate_rounds.proofs.StopKinds.{normal-refusal}
+use Rattle.candidate_rounds.proofs.SettlingStops.{stop-becomes}
+use Rattle.std.proofs.Common.{Ok}
 use Rattle.candidate_rounds.proofs.rounds.evaluator.RoundsEvalCtxt.structurally_normalize_const.Goals as goal
 
-pub returns-in_err-structurally_normalize_const-clause-kept : goal.returns-in_err-structurally_normalize_const-clause-kept
-returns-in_err-structurally_normalize_const-clause-kept c = keeps-all c.args.self.now c.structurally_normalize_const.new.self c.structurally_normalize_const.ensures.grows c.structurally_normalize_const.ensures.given (parts c.well_kept.ensures).given c.structurally_normalize_const.ensures.probes
+pub returns-in_err-resolve_const_if_possible-clause-kept : goal.returns-in_err-resolve_const_if_possible-clause-kept
+returns-in_err-resolve_const_if_possible-clause-kept c = c.resolve_const_if_possible.ensures.kept
 
 pub returns-clause-kept : goal.returns-clause-kept
-returns-clause-kept c = keeps-all c.args.self.now c.structurally_normalize_const.new.self c.structurally_normalize_const.ensures.grows c.structurally_normalize_const.ensures.given (parts c.well_kept.ensures).given c.structurally_normalize_const.ensures.probes
+returns-clause-kept c = c.resolve_const_if_possible.ensures.kept
+
+pub returns-clause-listed : goal.returns-clause-listed
+returns-clause-listed c e =
+    constant-normalized c.args.self.now c.resolve_const_if_possible.new.self c.args.constant e (Ok c.in_ok-resolve_const_if_possible.field-0) c.resolve_const_if_possible.ensures.goes.0 c.resolve_const_if_possible.ensures.goes.1.0 (parts c.well_kept.ensures).given c.resolve_const_if_possible.ensures.same c.in_ok-resolve_const_if_possible.ensures.sort c.in_ok-resolve_const_if_possible.ensures.tree
 
 pub returns-clause-ok : goal.returns-clause-ok
 returns-clause-ok c =
     let old = c.args.self.now in
-    ap (λ l. normalized l (state old) none (const_tree old.context.trees c.args.constant)) (all-listed (listing old) (parts c.well_kept.ensures).given.listing) ∙ c.in_ok-structurally_normalize_const.ensures.ok none
+    ap (λ l. normalized l (state old) none (const_tree old.context.trees c.args.constant)) (all-listed (listing old) (parts c.well_kept.ensures).given.listing)
+    ∙ constant-normalized c.args.self.now c.resolve_const_if_possible.new.self c.args.constant none (Ok c.in_ok-resolve_const_if_possible.field-0) c.resolve_const_if_possible.ensures.goes.0 c.resolve_const_if_possible.ensures.goes.1.0 (parts c.well_kept.ensures).given c.resolve_const_if_possible.ensures.same c.in_ok-resolve_const_if_possible.ensures.sort c.in_ok-resolve_const_if_possible.ensures.tree
+
+pub returns-in_err-resolve_const_if_possible-clause-reason : goal.returns-in_err-resolve_const_if_possible-clause-reason
+returns-in_err-resolve_const_if_possible-clause-reason c = stop-becomes (IsTreeStop c.resolve_const_if_possible.new.self.context.trees (resolved_tree (state c.args.self.now) (const_tree c.args.self.now.context.trees c.args.constant))) c.from_residual.result c.in_err-resolve_const_if_possible.field-0.0 c.from_residual.ensures.1 c.in_err-resolve_const_if_possible.ensures.reason
+
+pub returns-in_err-resolve_const_if_possible-clause-cause : goal.returns-in_err-resolve_const_if_possible-clause-cause
+returns-in_err-resolve_const_if_possible-clause-cause c = normal-refusal _ _ c.from_residual.result (stop-becomes (IsTreeStop c.resolve_const_if_possible.new.self.context.trees (resolved_tree (state c.args.self.now) (const_tree c.args.self.now.context.trees c.args.constant))) c.from_residual.result c.in_err-resolve_const_if_possible.field-0.0 c.from_residual.ensures.1 c.in_err-resolve_const_if_possible.ensures.reason)

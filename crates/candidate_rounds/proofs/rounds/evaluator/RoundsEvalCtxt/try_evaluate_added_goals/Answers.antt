@@ -1,25 +1,59 @@
-use Rattle.std.proofs.Common.{◌≡◌, Some, None, IfErr, IfOk, sym, subst}
-use Rattle.candidate_eval.specs.declared.eval.refusal.NoSolutionOrStop.{NoSolutionOrStop}
+use Rattle.candidate_rounds.proofs.Going.{goes-same}
+use Rattle.candidate_rounds.proofs.Trying.{resolved-again, taken-back}
+use Rattle.candidate_rounds.proofs.Between.{parts}
+use Rattle.candidate_rounds.proofs.Exits.{few-back, marks-back}
+use Rattle.candidate_rounds.proofs.Interface.{keeps-going}
+use Rattle.std.proofs.Common.{Option, Some, ◌∙◌, ap, sym}
 use Rattle.rounds_judge.specs.Settling.{settled}
 use Rattle.rounds_judge.proofs.WellListed.{all-listed}
 use Rattle.candidate_rounds.specs.Known.{listing, state}
-use Rattle.candidate_rounds.proofs.Interface.{keeps-all}
-use Rattle.candidate_rounds.proofs.StopKinds.{settling-refusal}
-use Rattle.candidate_rounds.proofs.Between.{parts}
+use Rattle.candidate_rounds.proofs.StopKinds.{settling-error}
+use Rattle.candidate_eval.specs.States.{State, next}
+use Rattle.rounds_judge.specs.Settling.{certainty_of}
+use Rattle.candidate_rounds.specs.Known.{Evaluator}
+use Rattle.std.proofs.Common.{length}
 use Rattle.candidate_rounds.proofs.rounds.evaluator.RoundsEvalCtxt.try_evaluate_added_goals.Goals as goal
 
-pub returns-clause-kept : goal.returns-clause-kept
-returns-clause-kept c = keeps-all c.args.self.now c.try_evaluate_added_goals.new.self c.try_evaluate_added_goals.ensures.grows c.try_evaluate_added_goals.ensures.given (parts c.well_kept.ensures).given c.try_evaluate_added_goals.ensures.probes
+pub undo_to-requires-clause-resolved : goal.undo_to-requires-clause-resolved
+undo_to-requires-clause-resolved c =
+    let kept = parts c.well_kept.ensures in
+    resolved-again c.args.self.now c.settle.new.self c.changes-changes.result (c.changes-changes.ensures ∙ ap (λ (e : Evaluator). length e.inference.trail) c.self.view_is) c.settle.ensures.goes kept.consistent.known kept.resolved.now
 
-pub returns-clause-ok : goal.returns-clause-ok
-returns-clause-ok c =
+pub returns-in-Err-clause-undone : goal.returns-in-Err-clause-undone
+returns-in-Err-clause-undone c =
+    let t = taken-back c.args.self.now c.settle.new.self c.undo_to.new.self c.changes-changes.result (c.changes-changes.ensures ∙ ap (λ (e : Evaluator). length e.inference.trail) c.self.view_is) c.settle.ensures.goes c.undo_to.ensures in
+    goes-same c.args.self.now c.undo_to.new.self t.0 t.1 (parts c.well_kept.ensures).consistent.known
+
+pub undo_to-requires-clause-few : goal.undo_to-requires-clause-few
+undo_to-requires-clause-few c = few-back c.args.self.now c.settle.new.self c.changes-changes.result (c.changes-changes.ensures ∙ ap (λ (e : Evaluator). length e.inference.trail) c.self.view_is) c.settle.ensures.goes
+
+pub returns-in-Ok-clause-kept : goal.returns-in-Ok-clause-kept
+returns-in-Ok-clause-kept c = keeps-going c.args.self.now c.settle.new.self c.settle.ensures.goes c.well_kept.ensures
+
+pub returns-in-Err-clause-goes : goal.returns-in-Err-clause-goes
+returns-in-Err-clause-goes c = (taken-back c.args.self.now c.settle.new.self c.undo_to.new.self c.changes-changes.result (c.changes-changes.ensures ∙ ap (λ (e : Evaluator). length e.inference.trail) c.self.view_is) c.settle.ensures.goes c.undo_to.ensures).0
+
+pub returns-in-Err-clause-kept : goal.returns-in-Err-clause-kept
+returns-in-Err-clause-kept c = keeps-going c.args.self.now c.undo_to.new.self (taken-back c.args.self.now c.settle.new.self c.undo_to.new.self c.changes-changes.result (c.changes-changes.ensures ∙ ap (λ (e : Evaluator). length e.inference.trail) c.self.view_is) c.settle.ensures.goes c.undo_to.ensures).0 c.well_kept.ensures
+
+pub undo_to-requires-clause-probes : goal.undo_to-requires-clause-probes
+undo_to-requires-clause-probes c = marks-back c.args.self.now c.settle.new.self c.changes-changes.result (c.changes-changes.ensures ∙ ap (λ (e : Evaluator). length e.inference.trail) c.self.view_is) c.settle.ensures.goes (parts c.well_kept.ensures).consistent.marks
+
+pub returns-in-Ok-clause-ok : goal.returns-in-Ok-clause-ok
+returns-in-Ok-clause-ok c =
     let old = c.args.self.now in
-    subst (λ l. IfOk c.try_evaluate_added_goals.result (λ x. settled l (state old) ≡ Some (x, state c.try_evaluate_added_goals.new.self))) (sym (all-listed (listing old) (parts c.well_kept.ensures).given.listing)) c.try_evaluate_added_goals.ensures.ok
+    ap (λ l. settled l (state old)) (all-listed (listing old) (parts c.well_kept.ensures).given.listing)
+    ∙ (ap (λ (o : Option State). next o (λ T. Some (certainty_of T.pending, T))) c.in-Ok.ensures.ok ∙ ap (λ x. Some (x, state c.settle.new.self)) (sym c.certainty.ensures))
 
-pub returns-clause-refused : goal.returns-clause-refused
-returns-clause-refused c =
+pub returns-in-Err-clause-refused : goal.returns-in-Err-clause-refused
+returns-in-Err-clause-refused c =
     let old = c.args.self.now in
-    subst (λ l. IfErr c.try_evaluate_added_goals.result (λ e. e ≡ NoSolutionOrStop.NoSolution → settled l (state old) ≡ None)) (sym (all-listed (listing old) (parts c.well_kept.ensures).given.listing)) c.try_evaluate_added_goals.ensures.refused
+    λ n. ap (λ l. settled l (state old)) (all-listed (listing old) (parts c.well_kept.ensures).given.listing) ∙ ap (λ (o : Option State). next o (λ T. Some (certainty_of T.pending, T))) (c.in-Err.ensures.refused n)
 
-pub returns-clause-cause : goal.returns-clause-cause
-returns-clause-cause c = settling-refusal _ _ _ c.try_evaluate_added_goals.result c.try_evaluate_added_goals.ensures.cause
+pub returns-in-Err-clause-stopped : goal.returns-in-Err-clause-stopped
+returns-in-Err-clause-stopped c =
+    let t = taken-back c.args.self.now c.settle.new.self c.undo_to.new.self c.changes-changes.result (c.changes-changes.ensures ∙ ap (λ (e : Evaluator). length e.inference.trail) c.self.view_is) c.settle.ensures.goes c.undo_to.ensures in
+    λ n. goes-same c.args.self.now c.undo_to.new.self t.0 t.1 (parts c.well_kept.ensures).consistent.known
+
+pub returns-in-Err-clause-cause : goal.returns-in-Err-clause-cause
+returns-in-Err-clause-cause c = settling-error _ _ _ c.in-Err.refusal c.in-Err.ensures.cause

@@ -1,0 +1,10 @@
+use Rattle.std.proofs.Common.{◌≡◌}
+use Rattle.candidate_ir.specs.Words.{args_forest}
+use Rattle.candidate_eval.proofs.Types.{PutSoFar}
+use Rattle.candidate_eval.proofs.structural.making.substituted.Given as goal
+
+-- arguments were put into the types before
+abbrev pub invariant-loop-ty : goal.invariant-loop-ty
+invariant-loop-ty g l =
+    let start = g.M.Make.context l.fn.make in
+    PutSoFar start (g.M.Make.context l.make) (args_forest start.trees l.fn.args) l.fn.declared l.ty-index l.types.items × (g.M.Make.rest l.make ≡ g.M.Make.rest l.fn.make)

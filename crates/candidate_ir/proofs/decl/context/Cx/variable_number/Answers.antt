@@ -1,5 +1,0 @@
-use Rattle.candidate_ir.proofs.Asking.{arg-below}
-use Rattle.candidate_ir.proofs.decl.context.Cx.variable_number.Goals as goal
-
-pub head-requires : goal.head-requires
-head-requires c = rw c.number.ensures (arg-below _ _ c.requires)

@@ -1,0 +1,12 @@
+use Rattle.std.proofs.Common.{◌≡◌, drop}
+use Rattle.candidate_ir.specs.Kinds.{numbers}
+use Rattle.candidate_ir.specs.Nodes.{any_holds, trees_at, children_of}
+use Rattle.candidate_ir.proofs.ir.marks.+number_holds.Given as goal
+
+abbrev pub decreases-number_holds : goal.decreases-number_holds
+decreases-number_holds g l = l.number
+
+abbrev pub invariant-loop-i : goal.invariant-loop-i
+invariant-loop-i g l =
+    let ks = numbers (children_of l.node) in
+    any_holds (g.M.Mark.marks l.mark) (trees_at (g.T.Trees.trees l.trees) ks) ≡ any_holds (g.M.Mark.marks l.mark) (trees_at (g.T.Trees.trees l.trees) (drop l.i ks))

@@ -1,7 +1,0 @@
-use Rattle.candidate_ir.proofs.Lists.{below_kind}
-use Rattle.candidate_ir.specs.Trees.{ConstantKind}
-use Rattle.std.proofs.Common.{refl}
-use Rattle.candidate_ir.proofs.ir.nodes.Nodes.const_has.Goals as goal
-
-pub number_has-requires : goal.number_has-requires
-number_has-requires c = below_kind _ _ ConstantKind refl c.requires

@@ -1,5 +1,0 @@
-use Rattle.candidate_ir.proofs.Arity.{list-of-bounds}
-use Rattle.candidate_ir.proofs.ir.nodes.Nodes.holds_bounds.Goals as goal
-
-pub returns-clause-kinds : goal.returns-clause-kinds
-returns-clause-kinds c = list-of-bounds _ _ _ c.preds.ensures.fits c.preds.ensures.tree

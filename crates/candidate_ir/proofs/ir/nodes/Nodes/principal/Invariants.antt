@@ -1,7 +1,0 @@
-use Rattle.std.proofs.Common.{◌≡◌, drop}
-use Rattle.candidate_ir.specs.Names.{principal_of}
-use Rattle.candidate_ir.specs.Words.{pred_list_forest}
-use Rattle.candidate_ir.proofs.ir.nodes.Nodes.principal.Given as goal
-
-abbrev pub invariant-loop-i : goal.invariant-loop-i
-invariant-loop-i l = principal_of (pred_list_forest l.self l.bounds) ≡ principal_of (pred_list_forest l.self (drop l.i l.bounds))

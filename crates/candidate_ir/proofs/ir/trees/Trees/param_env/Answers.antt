@@ -1,0 +1,13 @@
+use Rattle.candidate_ir.proofs.Sorts.{env_node}
+use Rattle.candidate_ir.proofs.Lists.{below_kind}
+use Rattle.candidate_ir.specs.Trees.{ClausesKind}
+use Rattle.std.proofs.Common.{refl}
+use Rattle.candidate_ir.proofs.ir.trees.Trees.param_env.Goals as goal
+
+pub node-requires : goal.node-requires
+node-requires g c = below_kind _ _ ClausesKind refl c.requires
+
+pub unreachable-requires : goal.unreachable-requires
+unreachable-requires g c =
+    let k = env_node (g.Self.Trees.trees c.args.self.now) c.args.env.0 c.node.result.now c.requires c.node.ensures in
+    c.in_default.not-Clauses k.0 k.1

@@ -1,0 +1,13 @@
+use Rattle.candidate_ir.proofs.Sorts.{preds_node}
+use Rattle.candidate_ir.proofs.Lists.{below_kind}
+use Rattle.candidate_ir.specs.Trees.{PredicatesKind}
+use Rattle.std.proofs.Common.{refl}
+use Rattle.candidate_ir.proofs.ir.trees.Trees.preds.Goals as goal
+
+pub node-requires : goal.node-requires
+node-requires g c = below_kind _ _ PredicatesKind refl c.requires
+
+pub unreachable-requires : goal.unreachable-requires
+unreachable-requires g c =
+    let k = preds_node (g.Self.Trees.trees c.args.self.now) c.args.preds.0 c.node.result.now c.requires c.node.ensures in
+    c.in_default.not-Preds k.0 k.1

@@ -1,0 +1,31 @@
+use Rattle.std.proofs.Common.{ℕ, ◌+◌, arith, sym, ◌∙◌, ap}
+use Rattle.candidate_ir.specs.Trees.{binders_of}
+use Rattle.candidate_ir.specs.Binders.{is_beyond}
+use Rattle.candidate_ir.specs.Kinds.{numbers}
+use Rattle.candidate_ir.specs.Nodes.{children_of}
+use Rattle.candidate_ir.proofs.Children.{Below-get, walk_end}
+use Rattle.candidate_ir.proofs.Escapes.{escape-found, escape-on, escape-none}
+use Rattle.candidate_ir.proofs.ir.walks.+number_escapes.Goals as goal
+
+pub number_escapes-requires : goal.number_escapes-requires
+number_escapes-requires g t c =
+    let b = Below-get _ (numbers (children_of c.node-node.result.now)) c.loop-i.i c.child.result c.node-node.ensures.below c.child.ensures in
+    λ _ o. (omega arith, (o, (omega (arith, c.requires.inside), omega (arith, c.requires.room, c.binders-more.ensures.most))))
+
+pub returns-then-number_escapes : goal.returns-then-number_escapes
+returns-then-number_escapes g t c =
+    escape-found c.args.passed (g.T.Trees.trees c.args.trees.now) c.args.number c.node-node.result.now c.loop-i.i c.child.result _ c.node-node.ensures
+    (ap (λ (n : ℕ). c.args.passed + n) (c.binders-more.ensures.is ∙ ap binders_of c.head-head.ensures)) c.child.ensures c.loop-i.invariant
+    (sym c.number_escapes.ensures ∙ c.if-number_escapes.true)
+
+pub loop-i-preserved : goal.loop-i-preserved
+loop-i-preserved g t c =
+    escape-on _ (g.T.Trees.trees c.args.trees.now) c.node-node.result.now c.loop-i.i c.child.result c.child.ensures c.loop-i.invariant
+    (sym c.number_escapes.ensures ∙ c.if-number_escapes.false)
+
+pub returns : goal.returns
+returns g t c =
+    escape-none c.args.passed (g.T.Trees.trees c.args.trees.now) c.args.number c.node-node.result.now c.loop-i.i _ c.node-node.ensures
+    (ap (λ (n : ℕ). c.args.passed + n) (c.binders-more.ensures.is ∙ ap binders_of c.head-head.ensures))
+    (sym (c.is_bound_beyond.ensures ∙ ap (is_beyond c.args.passed) c.head-head.ensures) ∙ c.if-is_bound_beyond.false) c.loop-i.invariant
+    (walk_end (g.T.Trees.trees c.args.trees.now) (children_of c.node-node.result.now) c.loop-i.i _ c.child_count-i-end.ensures c.loop-i.auto.i-end c.loop-i-test.false)

@@ -1,0 +1,82 @@
+//! Whether something marked stands anywhere in a tree.
+
+ghost use Rattle.std.specs.Prelude.{◌≡◌, Bool, false, length, ◌<◌, refl};
+ghost use Rattle.candidate_ir.specs.Flags.{mark, mark_of_list};
+ghost use Rattle.candidate_ir.specs.Nodes.{tree_at, head_of};
+ghost use Rattle.candidate_ir.specs.Substitutions.{is_placeholder_above};
+ghost use Rattle.candidate_ir.specs.Trees.{is_number, tree_holds};
+ghost use Rattle.candidate_ir.specs.declared.ir.heads.Head.{Head as Heads};
+ghost use Rattle.candidate_ir.specs.declared.ir.heads.Head.TheVariants as H;
+ghost use Rattle.candidate_ir.specs.declared.ir.heads.ListHead.{ListHead};
+
+use crate::ir::heads::Flag;
+use crate::ir::node::Node;
+use crate::ir::trees::Trees;
+
+/// What some heads have and others don't; no list's head has it.
+pub trait Mark {
+    /// The heads that have it.
+    ghost marks: { Self → Heads → Bool };
+
+    /// Whether the head of the node has it.
+    fn is_on(&self, node: &Node) -> bool
+        ensures { result ≡ marks self.now (head_of node.now) };
+
+    /// No list has it.
+    ghost no_list: { (m : Self) (l : ListHead) → marks m (H.List l) ≡ false };
+}
+
+impl Mark for Flag {
+    ghost marks = { mark };
+
+    fn is_on(&self, node: &Node) -> bool {
+        node.head().has(*self)
+    }
+
+    ghost no_list = { mark_of_list };
+}
+
+/// The mark of the variable of a number, which may be of any kind.
+#[derive(Drop)]
+pub(crate) struct VariableNumber(pub(crate) u32);
+
+impl Mark for VariableNumber {
+    ghost marks = { λ m. is_number m.0 };
+
+    fn is_on(&self, node: &Node) -> bool {
+        node.head().is_number(self.0)
+    }
+
+    ghost no_list = { λ _ _. refl };
+}
+
+/// The mark of a type's or a constant's placeholder of a universe above that one.
+#[derive(Drop)]
+pub(crate) struct PlaceholderAbove(pub(crate) u32);
+
+impl Mark for PlaceholderAbove {
+    ghost marks = { λ m. is_placeholder_above m.0 };
+
+    fn is_on(&self, node: &Node) -> bool {
+        node.head().is_placeholder_above(self.0)
+    }
+
+    ghost no_list = { λ _ _. refl };
+}
+
+/// Whether a marked head stands in a number's tree.
+pub(crate) fn number_holds<T: Trees, M: Mark>(trees: &T, number: u32, mark: &M) -> bool
+    requires { number < length (T.trees trees.now) }
+    ensures { result ≡ tree_holds (M.marks mark.now) (tree_at (T.trees trees.now) number) }
+{
+    let node = trees.node(number);
+    if mark.is_on(node) {
+        return true;
+    }
+    for i in 0..node.child_count() {
+        if number_holds(trees, node.child(i), mark) {
+            return true;
+        }
+    }
+    false
+}

@@ -1,0 +1,111 @@
+//! Numbers whose type says what stands there.
+
+ghost use Rattle.std.specs.Prelude.{◌≡◌, ℕ, true, refl};
+ghost use Rattle.candidate_ir.specs.Kinds.{arg_kind, arg_number, arg_there};
+ghost use Rattle.candidate_ir.specs.Trees.{Kind, TypeKind, ConstantKind, RegionKind, ArgumentsKind, ClauseKind, ClausesKind, there};
+
+use crate::ir::kinds::{Args, Clause, Const, GenericArg, ParamEnv, Region, Ty};
+
+/// A number of a context whose type says what stands there.
+pub trait Numbered: Copy {
+    /// The number.
+    ghost number_of: { Self → ℕ };
+
+    /// What stands there.
+    ghost kind: { Self → Kind };
+
+    /// The number that it is in its context.
+    fn number(self) -> u32
+        ensures { result ≡ number_of self };
+
+    /// It is a kind of something.
+    ghost is_there: { (x : Self) → there (kind x) ≡ true };
+}
+
+impl Numbered for Ty {
+    ghost number_of = { λ x. x.0 };
+
+    ghost kind = { λ _. TypeKind };
+
+    fn number(self) -> u32 {
+        self.0
+    }
+
+    ghost is_there = { λ _. refl };
+}
+
+impl Numbered for Const {
+    ghost number_of = { λ x. x.0 };
+
+    ghost kind = { λ _. ConstantKind };
+
+    fn number(self) -> u32 {
+        self.0
+    }
+
+    ghost is_there = { λ _. refl };
+}
+
+impl Numbered for Region {
+    ghost number_of = { λ x. x.0 };
+
+    ghost kind = { λ _. RegionKind };
+
+    fn number(self) -> u32 {
+        self.0
+    }
+
+    ghost is_there = { λ _. refl };
+}
+
+impl Numbered for Args {
+    ghost number_of = { λ x. x.0 };
+
+    ghost kind = { λ _. ArgumentsKind };
+
+    fn number(self) -> u32 {
+        self.0
+    }
+
+    ghost is_there = { λ _. refl };
+}
+
+impl Numbered for Clause {
+    ghost number_of = { λ x. x.0 };
+
+    ghost kind = { λ _. ClauseKind };
+
+    fn number(self) -> u32 {
+        self.0
+    }
+
+    ghost is_there = { λ _. refl };
+}
+
+impl Numbered for ParamEnv {
+    ghost number_of = { λ x. x.0 };
+
+    ghost kind = { λ _. ClausesKind };
+
+    fn number(self) -> u32 {
+        self.0
+    }
+
+    ghost is_there = { λ _. refl };
+}
+
+impl Numbered for GenericArg {
+    ghost number_of = { arg_number };
+
+    ghost kind = { arg_kind };
+
+    fn number(self) -> u32 {
+        match self {
+            GenericArg::Ty(ty) => ty.0,
+            GenericArg::Const(constant) => constant.0,
+            GenericArg::Region(region) => region.0,
+        }
+    }
+
+    ghost is_there = { arg_there };
+}

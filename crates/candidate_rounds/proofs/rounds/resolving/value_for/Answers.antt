@@ -1,0 +1,5 @@
+use Rattle.candidate_ir.proofs.Asking.{arg-below}
+use Rattle.candidate_rounds.proofs.rounds.resolving.value_for.Goals as goal
+
+pub head-requires : goal.head-requires
+head-requires c = rw c.number.ensures (arg-below c.args.cx.now.trees c.args.arg c.requires)
