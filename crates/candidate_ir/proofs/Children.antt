@@ -16,7 +16,6 @@ use Rattle.candidate_ir.specs.Nodes.{kind_at, tree_at, trees_at, rows, tallest, 
 use Rattle.candidate_ir.specs.Table.{Below, IsNodeOf}
 use Rattle.candidate_ir.specs.Flags.{mark, mark_of_list}
 use Rattle.candidate_ir.specs.declared.ir.heads.Flag.{Flag}
-use Rattle.candidate_ir.specs.declared.ir.heads.Flag.TheVariants as F
 use Rattle.candidate_ir.proofs.Lists.{below_kind, kind_of-tree_at}
 use Rattle.candidate_ir.specs.Trees.{there}
 use Rattle.candidate_ir.proofs.Splits.{list-head, nodes-agree, rows-holds, rows-height}

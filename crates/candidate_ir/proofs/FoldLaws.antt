@@ -1,24 +1,48 @@
 -- What folds by a closure come to where its answers are a function.
 use Rattle.candidate_ir.specs.declared.ir.heads.Head.{Head}
 use Rattle.candidate_ir.specs.declared.ir.heads.Head.TheVariants as H
-use Rattle.std.proofs.Common.{◌≡◌, ℕ, ◌+◌, List, Option, Some, None, Result, Ok, Err, true, false, refl, sym, ◌∙◌, ap, subst}
+use Rattle.candidate_ir.specs.declared.ir.heads.ListHead.{ListHead}
+use Rattle.candidate_ir.specs.declared.ir.heads.ListHead.TheVariants as L
+use Rattle.std.proofs.Common.{◌≡◌, ℕ, ◌+◌, List, Bool, Option, Some, None, Result, Ok, Err, true, false, refl, sym, ◌∙◌, ap, subst}
 use Rattle.std.specs.Prelude.{IfOk, option_map}
 use Rattle.std.specs.Option.{unwrap_or}
 use Rattle.std.specs.Fn.{Mut}
 use Rattle.std.specs.Borrow.{MutBor}
 use Rattle.candidate_ir.specs.declared.ir.kinds.GenericArg.{GenericArg}
 use Rattle.candidate_ir.specs.declared.ir.stop.Stop.{Stop}
-use Rattle.candidate_ir.specs.Trees.{Kind, Forest, none, tree, Tree, is_list_kind, binders_of, row}
+use Rattle.candidate_ir.specs.Trees.{Kind, Forest, none, tree, Tree, kind_of, is_list_kind, binders_of, row}
 use Rattle.candidate_ir.specs.Nodes.{tree_at, kind_at}
-use Rattle.candidate_ir.specs.Substitutions.{alone}
+use Rattle.candidate_ir.specs.Substitutions.{alone, as_row, row_of}
 use Rattle.candidate_ir.specs.Context.{Context, Grows}
 use Rattle.candidate_ir.proofs.Kept.{grows-refl, grows-trans}
 use Rattle.candidate_ir.specs.Folding.{Answers, fold, fold_tree, moved}
 use Rattle.candidate_ir.specs.Folds.{IsArg, arg_tree, Says, is_asked, node, ended, made, replaced, opened, passed, FoldsBy, StopsBy, IsReached, here, by_call, by_nodes, IsFunction, Outcome, Renumbers}
 use Rattle.candidate_ir.specs.Trees.{there}
-use Rattle.candidate_ir.proofs.Rows.{row-single, row-list, join-none}
+use Rattle.candidate_ir.proofs.Rows.{kind-of, list-kind, row-of, alone-tree}
+use Rattle.candidate_ir.specs.Kinds.{arg_kind}
 use Rattle.candidate_ir.proofs.Folding.{same_row}
-use Rattle.candidate_ir.proofs.FoldSteps.{reached-then, folds-reached}
+use Rattle.candidate_ir.proofs.Members.{arg-row}
+use Rattle.candidate_ir.proofs.FoldSteps.{reached-then, folds-reached, list-unasked, list-binders}
+use Rattle.candidate_ir.proofs.Splits.{list_of, list-head, list-head_of}
+
+-- A list is folded by its members.
+pub list-by : (a : Answers) (ts us : List Tree) (n m : ℕ) (k : Kind) → there k ≡ true → is_list_kind k ≡ true → kind_at ts n ≡ k → kind_at us m ≡ k → a 0 (tree_at ts n) ≡ None
+    → (tree_at us m).children ≡ fold a 0 (tree_at ts n).children → tree_at us m ≡ fold_tree a 0 (tree_at ts n)
+list-by a ts us n m k th list is same unsaid e =
+    let t = tree_at ts n in
+    let l = list-head t.head (list-kind ts n k th is ∙ list) in
+    let kind : kind_of (tree_at us m).head ≡ kind_of (H.List l.0) = kind-of us m k th same ∙ (sym (kind-of ts n k th is) ∙ ap kind_of l.1) in
+    let q : (tree_at us m).head ≡ t.head = list-head_of (tree_at us m).head l.0 (ap list_of kind ∙ list-named l.0) ∙ sym l.1 in
+    let c : (tree_at us m).children ≡ fold a (0 + binders_of t.head) t.children =
+    e ∙ (ap (λ (d : ℕ). fold a (0 + d) t.children) (sym (list-binders l.0)) ∙ ap (λ (h : Head). fold a (0 + binders_of h) t.children) (sym l.1)) in
+    let kept : Tree = node t.head (fold a (0 + binders_of t.head) t.children) in
+    let built : tree_at us m ≡ kept = λ i. record { head = q i; children = c i } in
+    built ∙ sym (ap (λ (o : Option Tree). unwrap_or o kept) unsaid)
+  where
+    list-named : (l : ListHead) → list_of (kind_of (H.List l)) ≡ Some l
+    list-named L.Args = refl
+    list-named L.Preds = refl
+    list-named L.Clauses = refl
 
 module _ {M Rest F : Type 0} (context : M → Context) (others : M → Rest)
     (g : Mut F (MutBor M × (GenericArg × (ℕ × Unit {0}))) (Result (Option GenericArg) Stop × (MutBor M × Unit {0}))) where
@@ -45,60 +69,59 @@ module _ {M Rest F : Type 0} (context : M → Context) (others : M → Rest)
         opened-row a d h below inner rest us (f.only d (node h below) x) (folds-by l p)
         (folds-by (reached-then context others g l (folds-reached context others g p)) r)
 
-    -- so of one tree
-    pub tree-by : {s e : F × M} {d : ℕ} (t u : Tree) → IsReached context others g s0 s → FoldsBy context others g s d (alone t) (alone u) e → u ≡ fold_tree a d t
-    tree-by {d = d} t u l p = let e = folds-by l p in ap first e
+  -- A number of a kind was folded: what it is in a row became what the result is in one.
+  pub number-folded : (s e : F × M) (d n k : ℕ) (kind : Kind) → there kind ≡ true → kind_at (context s.1).trees n ≡ kind → Renumbers context others g s d n (Ok k) e
+      → FoldsBy context others g s d (row_of kind (tree_at (context s.1).trees n)) (row_of kind (tree_at (context e.1).trees k)) e
+  number-folded s e d n k kind th is r =
+      let From : Forest → Type 0 = λ ts. FoldsBy context others g s d ts (row_of kind (tree_at (context e.1).trees k)) e in
+      let To : Forest → Type 0 = λ us. FoldsBy context others g s d (row (tree_at (context s.1).trees n) none) us e in
+      subst From (row-of (context s.1).trees n kind th is) (subst To (row-of (context e.1).trees k kind th (r.sort ∙ is)) r.folded)
+
+  -- so of what has a number
+  pub outcome-of : {A : Type 0} (number : A → ℕ) (kind : A → Kind) (s e : F × M) (d k : ℕ) (x y : A) → there (kind x) ≡ true → kind_at (context s.1).trees (number x) ≡ kind x
+      → number y ≡ k → kind y ≡ kind x → Renumbers context others g s d (number x) (Ok k) e
+      → Outcome context others g (λ ts z. row_of (kind z) (tree_at ts (number z))) s d (row_of (kind x) (tree_at (context s.1).trees (number x))) (Ok y) e
+  outcome-of number kind s e d k x y th is same like r =
+      let t = tree_at (context s.1).trees (number x) in
+      let At : ℕ → Type 0 = λ m. FoldsBy context others g s d (row_of (kind x) t) (row_of (kind x) (tree_at (context e.1).trees m)) e in
+      let Of : Kind → Type 0 = λ l. FoldsBy context others g s d (row_of (kind x) t) (row_of l (tree_at (context e.1).trees (number y))) e in
+      record { grows = r.grows; folded = subst Of (sym like) (subst At (sym same) (number-folded s e d (number x) k (kind x) th is r)); stopped = tt }
+
+  pub stop-of : {A : Type 0} (seen : List Tree → A → Forest) (s e : F × M) (d n : ℕ) (x : Stop) (kind : Kind) → there kind ≡ true → kind_at (context s.1).trees n ≡ kind
+      → Renumbers context others g s d n (Err x) e → Outcome context others g seen s d (row_of kind (tree_at (context s.1).trees n)) (Err x) e
+  stop-of seen s e d n x kind th is r =
+      let From : Forest → Type 0 = λ ts. StopsBy context others g s d ts x e in
+      record { grows = r.grows; folded = tt; stopped = subst From (row-of (context s.1).trees n kind th is) r.stopped }
+
+  -- An argument is one tree.
+  pub arg-outcome : (x : GenericArg) (s e : F × M) (d : ℕ) (t : Tree) (r : Result GenericArg Stop) → Outcome context others g (λ ts y. row_of (arg_kind y) (arg_tree ts y)) s d (row_of (arg_kind x) t) r e
+      → Outcome context others g (λ ts y. alone (arg_tree ts y)) s d (alone t) r e
+  arg-outcome x s e d t (Ok y) o =
+      let From : Forest → Type 0 = λ ts. FoldsBy context others g s d ts (alone (arg_tree (context e.1).trees y)) e in
+      let To : Forest → Type 0 = λ us. FoldsBy context others g s d (row_of (arg_kind x) t) us e in
+      record { grows = o.grows; folded = subst From (arg-row x t) (subst To (arg-row y (arg_tree (context e.1).trees y)) o.folded); stopped = tt }
+  arg-outcome x s e d t (Err z) o =
+      let From : Forest → Type 0 = λ ts. StopsBy context others g s d ts z e in
+      record { grows = o.grows; folded = tt; stopped = subst From (arg-row x t) o.stopped }
+
+  -- where its answers are a function
+  module _ (a : Answers) (s e : F × M) (n k : ℕ) (kind : Kind) (f : IsFunction context others g a s) (th : there kind ≡ true) (is : kind_at (context s.1).trees n ≡ kind)
+      (r : Renumbers context others g s 0 n (Ok k) e) where
+    rows-by : row_of kind (tree_at (context e.1).trees k) ≡ fold a 0 (row_of kind (tree_at (context s.1).trees n))
+    rows-by = folds-by a s f here (number-folded s e 0 n k kind th is r)
+
+    pub members-by : is_list_kind kind ≡ true → (tree_at (context e.1).trees k).children ≡ fold a 0 (tree_at (context s.1).trees n).children
+    members-by list = subst (λ (b : Bool). as_row b (tree_at (context e.1).trees k) ≡ fold a 0 (as_row b (tree_at (context s.1).trees n))) list rows-by
+
+    pub number-by : tree_at (context e.1).trees k ≡ fold_tree a 0 (tree_at (context s.1).trees n)
+    number-by = at (is_list_kind kind) refl rows-by
       where
-        first : Forest → Tree
-        first none = t
-        first (tree h below rest) = node h below
-
-  -- a number of a kind that is no list stands for one tree, and a list for its members
-  pub one-outcome : {A : Type 0} (number : A → ℕ) (make : ℕ → A) → ((n : ℕ) → number (make n) ≡ n) → (s e : F × M) (d n k : ℕ) (kind : Kind) → there kind ≡ true → is_list_kind kind ≡ false
-      → kind_at (context s.1).trees n ≡ kind → Renumbers context others g s d n (Ok k) e
-      → Outcome context others g (λ ts x. alone (tree_at ts (number x))) s d (alone (tree_at (context s.1).trees n)) (Ok (make k)) e
-  one-outcome number make same s e d n k kind th single is r =
-      let From : Forest → Type 0 = λ ts. FoldsBy context others g s d ts (alone (tree_at (context e.1).trees k)) e in
-      let To : Forest → Type 0 = λ us. FoldsBy context others g s d (row (tree_at (context s.1).trees n) none) us e in
-      let At : ℕ → Type 0 = λ x. FoldsBy context others g s d (alone (tree_at (context s.1).trees n)) (alone (tree_at (context e.1).trees x)) e in
-      record {
-        grows = r.grows;
-        folded = subst At (sym (same k)) (subst From (row-single (context s.1).trees n kind none th single is) (subst To (row-single (context e.1).trees k kind none th single (r.sort ∙ is)) r.folded));
-        stopped = tt;
-      }
-
-  pub list-outcome : {A : Type 0} (number : A → ℕ) (make : ℕ → A) → ((n : ℕ) → number (make n) ≡ n) → (s e : F × M) (d n k : ℕ) (kind : Kind) → there kind ≡ true → is_list_kind kind ≡ true
-      → kind_at (context s.1).trees n ≡ kind → Renumbers context others g s d n (Ok k) e
-      → Outcome context others g (λ ts x. (tree_at ts (number x)).children) s d (tree_at (context s.1).trees n).children (Ok (make k)) e
-  list-outcome number make same s e d n k kind th list is r =
-      let From : Forest → Type 0 = λ ts. FoldsBy context others g s d ts (tree_at (context e.1).trees k).children e in
-      let To : Forest → Type 0 = λ us. FoldsBy context others g s d (row (tree_at (context s.1).trees n) none) us e in
-      let At : ℕ → Type 0 = λ x. FoldsBy context others g s d (tree_at (context s.1).trees n).children (tree_at (context e.1).trees x).children e in
-      record {
-        grows = r.grows;
-        folded = subst At (sym (same k))
-            (subst From (row-list (context s.1).trees n kind none th list is ∙ join-none (tree_at (context s.1).trees n).children)
-            (subst To (row-list (context e.1).trees k kind none th list (r.sort ∙ is) ∙ join-none (tree_at (context e.1).trees k).children) r.folded));
-        stopped = tt;
-      }
-
-  pub one-stop : {A : Type 0} (seen : List Tree → A → Forest) (s e : F × M) (d n : ℕ) (x : Stop) (kind : Kind) → there kind ≡ true → is_list_kind kind ≡ false
-      → kind_at (context s.1).trees n ≡ kind → Renumbers context others g s d n (Err x) e
-      → Outcome context others g seen s d (alone (tree_at (context s.1).trees n)) (Err x) e
-  one-stop seen s e d n x kind th single is r =
-      let From : Forest → Type 0 = λ ts. StopsBy context others g s d ts x e in
-      record { grows = r.grows; folded = tt; stopped = subst From (row-single (context s.1).trees n kind none th single is) r.stopped }
-
-  pub list-stop : {A : Type 0} (seen : List Tree → A → Forest) (s e : F × M) (d n : ℕ) (x : Stop) (kind : Kind) → there kind ≡ true → is_list_kind kind ≡ true
-      → kind_at (context s.1).trees n ≡ kind → Renumbers context others g s d n (Err x) e
-      → Outcome context others g seen s d (tree_at (context s.1).trees n).children (Err x) e
-  list-stop seen s e d n x kind th list is r =
-      let From : Forest → Type 0 = λ ts. StopsBy context others g s d ts x e in
-      record {
-        grows = r.grows;
-        folded = tt;
-        stopped = subst From (row-list (context s.1).trees n kind none th list is ∙ join-none (tree_at (context s.1).trees n).children) r.stopped;
-      }
+        at : (b : Bool) → is_list_kind kind ≡ b → as_row b (tree_at (context e.1).trees k) ≡ fold a 0 (as_row b (tree_at (context s.1).trees n))
+            → tree_at (context e.1).trees k ≡ fold_tree a 0 (tree_at (context s.1).trees n)
+        at true list q =
+            let l = list-head (tree_at (context s.1).trees n).head (list-kind (context s.1).trees n kind th is ∙ list) in
+            list-by a (context s.1).trees (context e.1).trees n k kind th list is (r.sort ∙ is) (f.only 0 (tree_at (context s.1).trees n) (ap is_asked l.1 ∙ list-unasked l.0)) q
+        at false single q = alone-tree (tree_at (context e.1).trees k) (fold_tree a 0 (tree_at (context s.1).trees n)) q
 
   -- what each call keeps of the closure
   pub reached-keeps : (P : F → Type 0) → ((s : F × M) (x : GenericArg) (d : ℕ) (r : Result (Option GenericArg) Stop) (e : F × M) → Says context others g s x d r e → P s.0 → P e.0)
@@ -126,13 +149,6 @@ module _ {M Rest F : Type 0} (context : M → Context) (others : M → Rest)
       reached-grows s (by_call {m = m} l k) = grows-trans (context s0.1) (context m.1) (context s.1) (reached-grows m l) k.grows
       reached-grows s (by_nodes {m = m} l k) = grows-trans (context s0.1) (context m.1) (context s.1) (reached-grows m l) k.grows
 
-  -- so of a number
-  pub number-by : (a : Answers) (s e : F × M) (n k : ℕ) (kind : Kind) → IsFunction context others g a s → there kind ≡ true → is_list_kind kind ≡ false
-      → kind_at (context s.1).trees n ≡ kind → Renumbers context others g s 0 n (Ok k) e → tree_at (context e.1).trees k ≡ fold_tree a 0 (tree_at (context s.1).trees n)
-  number-by a s e n k kind f th single is r =
-      let o = one-outcome (λ (x : ℕ). x) (λ x. x) (λ x. refl) s e 0 n k kind th single is r in
-      tree-by a s f (tree_at (context s.1).trees n) (tree_at (context e.1).trees k) here o.folded
-
   -- of a number that was folded so
   pub head-number : (s e : F × M) (n k : ℕ) (kind : Kind) → Renumbers context others g s 0 n (Ok k) e → there kind ≡ true → is_list_kind kind ≡ false → kind_at (context s.1).trees n ≡ kind
       → (a : ℕ → Head → Option Tree) (P : F → Type 0) → P s.0
@@ -142,7 +158,7 @@ module _ {M Rest F : Type 0} (context : M → Context) (others : M → Rest)
       → ((d : ℕ) (h : Head) → is_asked h ≡ false → a d h ≡ None)
       → tree_at (context e.1).trees k ≡ fold_tree (λ d t. a d t.head) 0 (tree_at (context s.1).trees n)
   head-number s e n k kind r th single is a P p keeps answers only =
-      number-by (λ d t. a d t.head) s e n k kind (head-function a P s p keeps answers only) th single is r
+      number-by (λ d t. a d t.head) s e n k kind (head-function a P s p keeps answers only) th is r
 
 pub moved-only : (n d : ℕ) (h : Head) → is_asked h ≡ false → moved n d h ≡ None
 moved-only n d (H.Bound v) e = absurd cc

@@ -48,14 +48,14 @@ there-head (H.List L.Clauses) = refl
 there-head _ = refl
 
 -- a list isn't asked about, and binds nothing
+pub list-unasked : (l : ListHead) → is_asked (H.List l) ≡ false
+list-unasked L.Args = refl
+list-unasked L.Preds = refl
+list-unasked L.Clauses = refl
+
 pub asked-single : (h : Head) → is_asked h ≡ true → is_list h ≡ false
 asked-single h a = at (is_list h) refl
   where
-    list-unasked : (l : ListHead) → is_asked (H.List l) ≡ false
-    list-unasked L.Args = refl
-    list-unasked L.Preds = refl
-    list-unasked L.Clauses = refl
-
     at : (b : Bool) → is_list h ≡ b → is_list h ≡ false
     at true e =
         let l = list-head h e in
@@ -63,7 +63,7 @@ asked-single h a = at (is_list h) refl
         absurd cc
     at false e = e
 
-list-binders : (l : ListHead) → binders_of (H.List l) ≡ 0
+pub list-binders : (l : ListHead) → binders_of (H.List l) ≡ 0
 list-binders l = refl
 
 take-next : (ks : List ℕ) (i k : ℕ) → slice_get ks i ≡ Some k → take (suc i) ks ≡ take i ks ++ k ∷ []

@@ -19,7 +19,7 @@ use Rattle.candidate_ir.specs.declared.ir.kinds.ClauseKind.{ClauseKind}
 use Rattle.candidate_ir.specs.declared.ir.kinds.ClauseKind.TheVariants as Cl
 use Rattle.candidate_ir.specs.declared.ir.kinds.GenericArg.{GenericArg}
 use Rattle.candidate_ir.specs.declared.ir.kinds.GenericArg.TheVariants as A
-use Rattle.candidate_ir.specs.Trees.{Kind, NoKind, Tree, kind_of}
+use Rattle.candidate_ir.specs.Trees.{Kind, Tree, kind_of}
 use Rattle.candidate_ir.specs.Kinds.{numbers, sorts, arg_child, ty_children, const_children, pred_children, clause_children}
 use Rattle.candidate_ir.specs.Nodes.{tree_at, kind_at, trees_at, kinds_at, error_tree, rows, node_tree, head_of, children_of, pred_child, clause_child, var_child, Fits}
 use Rattle.candidate_ir.specs.Trees.{there}

@@ -1,11 +1,12 @@
 -- The members of a list, one after the other.
-use Rattle.std.proofs.Common.{◌≡◌, ℕ, zero, suc, ◌+◌, ◌<◌, List, [], ◌∷◌, length, get_or, true, false, refl, sym, ◌∙◌, ap, arith, add-one}
+use Rattle.std.proofs.Common.{◌≡◌, ℕ, zero, suc, ◌+◌, ◌<◌, List, [], ◌∷◌, length, get_or, Bool, true, false, refl, sym, ◌∙◌, ap, arith, add-one}
 use Rattle.candidate_ir.specs.declared.ir.kinds.GenericArg.{GenericArg}
 use Rattle.candidate_ir.specs.declared.ir.kinds.GenericArg.TheVariants as A
 use Rattle.candidate_ir.specs.Kinds.{arg_number, arg_kind}
 use Rattle.candidate_ir.specs.Nodes.{tree_at, kind_at}
 use Rattle.candidate_ir.specs.Trees.{Forest, none, tree, Tree, count, is_list_kind, skip}
 use Rattle.candidate_ir.specs.Words.{ListFits, list_forest}
+use Rattle.candidate_ir.specs.Substitutions.{alone, as_row, row_of}
 use Rattle.candidate_ir.specs.Trees.{there}
 use Rattle.candidate_ir.proofs.Rows.{row-single}
 
@@ -18,6 +19,10 @@ pub arg-single : (x : GenericArg) → is_list_kind (arg_kind x) ≡ false
 arg-single (A.Ty _) = refl
 arg-single (A.Const _) = refl
 arg-single (A.Region _) = refl
+
+-- so in a row it is one tree
+pub arg-row : (x : GenericArg) (t : Tree) → row_of (arg_kind x) t ≡ alone t
+arg-row x t = ap (λ (b : Bool). as_row b t) (arg-single x)
 
 pub member : (ts : List Tree) (x : GenericArg) (xs : List GenericArg) → ListFits ts (x ∷ xs)
     → list_forest ts (x ∷ xs) ≡ tree (tree_at ts (arg_number x)).head (tree_at ts (arg_number x)).children (list_forest ts xs)

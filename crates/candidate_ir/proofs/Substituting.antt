@@ -15,17 +15,17 @@ use Rattle.candidate_ir.specs.declared.ir.stop.Stop.{Stop}
 use Rattle.candidate_ir.specs.Context.{Context, Grows}
 use Rattle.candidate_ir.specs.Nodes.{tree_at, kind_at}
 use Rattle.candidate_ir.specs.Words.{ListFits, list_forest}
-use Rattle.candidate_ir.specs.Substitutions.{is_constant_kind, alone}
+use Rattle.candidate_ir.specs.Substitutions.{is_constant_kind, alone, as_row, row_of}
 use Rattle.candidate_ir.specs.Folding.{fold, fold_tree, argument, put, put_if_there, lacks_argument, shift_tree, substituted, substituted_tree, IsSubstStop, IsAnswerStop}
-use Rattle.candidate_ir.specs.Folds.{is_asked, node, IsArg, arg_tree, numbers_given, Says, Renumbers, here}
+use Rattle.candidate_ir.specs.Folds.{is_asked, node, IsArg, arg_tree, numbers_given, Says, Renumbers}
 use Rattle.candidate_ir.proofs.Folding.{HeadAnswers, by_head, same_row, or-left, or-right}
 use Rattle.candidate_ir.proofs.Members.{arg-there, member, member-kind, count-members}
-use Rattle.candidate_ir.proofs.Rows.{kind-of, row-single, row-list, join-none}
+use Rattle.candidate_ir.proofs.Rows.{kind-of, list-kind, row-single, row-list, join-none}
 use Rattle.candidate_ir.proofs.Lists.{kind_of-tree_at}
 use Rattle.candidate_ir.specs.Trees.{there}
 use Rattle.candidate_ir.proofs.FoldSteps.{there-head}
 use Rattle.candidate_ir.proofs.Splits.{list-head}
-use Rattle.candidate_ir.proofs.FoldLaws.{head-number, head-function, list-outcome, folds-by}
+use Rattle.candidate_ir.proofs.FoldLaws.{head-number, head-function, members-by, list-by}
 use Rattle.candidate_ir.proofs.FoldStops.{head-cause}
 
 pub put-only : (args : Forest) (d : ℕ) (h : Head) → is_asked h ≡ false → put_if_there args d h ≡ None
@@ -193,10 +193,9 @@ module _ {M Rest F : Type 0} (context : M → Context) (others : M → Rest)
     pub put-list : (result : Result ℕ Stop) → Renumbers context others g s 0 n result e → is_list_kind (kind_at (context s.1).trees n) ≡ true
         → IfOk result (λ k. (tree_at (context e.1).trees k).children ≡ substituted args 0 (tree_at (context s.1).trees n).children)
     put-list (Ok k) r list =
-        let o = list-outcome context others g (λ (x : ℕ). x) (λ x. x) (λ x. refl) s e 0 n k (kind_at (context s.1).trees n) (there-kind (context s.1).trees n inside) list refl r in
         let f = head-function context others g (put_if_there args) P s p keeps answers (put-only args) in
         let t = tree_at (context s.1).trees n in
-        folds-by context others g (λ d u. put_if_there args d u.head) s f here o.folded
+        members-by context others g (λ d u. put_if_there args d u.head) s e n k (kind_at (context s.1).trees n) f (there-kind (context s.1).trees n inside) refl r list
         ∙ fold-agree (put_if_there args) (put args) (lacks_argument args) (there-is-put args) 0 t.children (or-right (lacks_argument args t.head) (holds (lacks_argument args) t.children) lacks)
     put-list (Err x) r list = tt
 
@@ -208,3 +207,25 @@ list-there args ts n k h l i e =
     let list : is_list t.head ≡ true = ap is_list_kind (kind-of ts n k h i) ∙ l in
     let head = list-head t.head list in
     ap (λ (b : Bool). b || holds (lacks_argument args) t.children) (ap (lacks_argument args) head.1) ∙ e
+
+-- What is substituted in a number: its tree, of a list as of all else.
+pub substituted-number : (args : Forest) (ts us : List Tree) (n m : ℕ) (k : Kind) → there k ≡ true → kind_at ts n ≡ k → kind_at us m ≡ kind_at ts n
+    → (is_list_kind (kind_at ts n) ≡ false → tree_at us m ≡ substituted_tree args (tree_at ts n))
+    → (is_list_kind (kind_at ts n) ≡ true → (tree_at us m).children ≡ substituted args 0 (tree_at ts n).children) → tree_at us m ≡ substituted_tree args (tree_at ts n)
+substituted-number args ts us n m k th is same one members = at (is_list_kind (kind_at ts n)) refl
+  where
+    at : (b : Bool) → is_list_kind (kind_at ts n) ≡ b → tree_at us m ≡ substituted_tree args (tree_at ts n)
+    at false single = one single
+    at true list =
+        let l = list-head (tree_at ts n).head (list-kind ts n k th is ∙ (ap is_list_kind (sym is) ∙ list)) in
+        list-by (λ d u. put args d u.head) ts us n m k th (ap is_list_kind (sym is) ∙ list) is (same ∙ is) (ap (put args 0) l.1) (members list)
+
+-- why that stopped
+pub substituted-stop : (args : Forest) (ts : List Tree) (n given : ℕ) (k : Kind) (s : Stop) → kind_at ts n ≡ k
+    → (is_list_kind (kind_at ts n) ≡ false → IsSubstStop given (alone (substituted_tree args (tree_at ts n))) s)
+    → (is_list_kind (kind_at ts n) ≡ true → IsSubstStop given (substituted args 0 (tree_at ts n).children) s) → IsSubstStop given (substituted args 0 (row_of k (tree_at ts n))) s
+substituted-stop args ts n given k s is one members = at (is_list_kind k) refl
+  where
+    at : (b : Bool) → is_list_kind k ≡ b → IsSubstStop given (substituted args 0 (as_row b (tree_at ts n))) s
+    at false single = one (ap is_list_kind is ∙ single)
+    at true list = members (ap is_list_kind is ∙ list)

@@ -1,8 +1,10 @@
 -- The tree of a node over the trees of a table.
-use Rattle.std.specs.Prelude.{◌≡◌, ℕ, zero, suc, max, List, [], ◌∷◌, ◌++◌, map, get_or, Bool, ◌||◌, true, false}
+use Rattle.std.specs.Prelude.{◌≡◌, refl, ℕ, zero, suc, max, List, [], ◌∷◌, ◌++◌, map, get_or, Bool, ◌||◌, true, false}
 use Rattle.candidate_ir.specs.declared.ir.kinds.Pred.{Pred}
 use Rattle.candidate_ir.specs.declared.ir.kinds.Var.{Var}
 use Rattle.candidate_ir.specs.declared.ir.kinds.Clause.{Clause}
+use Rattle.candidate_ir.specs.declared.ir.kinds.GenericArg.{GenericArg}
+use Rattle.candidate_ir.specs.declared.ir.kinds.GenericArg.TheVariants as A
 use Rattle.candidate_ir.specs.declared.ir.heads.Head.{Head}
 use Rattle.candidate_ir.specs.declared.ir.heads.Head.TheVariants as H
 use Rattle.candidate_ir.specs.declared.ir.heads.PartHead.TheVariants as P
@@ -10,7 +12,7 @@ use Rattle.candidate_ir.specs.declared.ir.heads.ListHead.TheVariants as L
 use Rattle.candidate_ir.specs.declared.ir.node.Node.{Node}
 use Rattle.candidate_ir.specs.declared.ir.node.Node.TheVariants as N
 use Rattle.candidate_ir.specs.Trees.{Kind, PredicateKind, ClauseKind, VariableKind, NoKind, Forest, none, Tree, kind_of, row, height, tree_holds}
-use Rattle.candidate_ir.specs.Kinds.{ty_head, const_head, pred_head, clause_head, Child, arg_child, ty_children, const_children, pred_children, clause_children, sig_children, numbers, sorts}
+use Rattle.candidate_ir.specs.Kinds.{ty_head, const_head, pred_head, clause_head, Child, arg_kind, arg_child, ty_children, const_children, pred_children, clause_children, sig_children, numbers, sorts}
 
 abbrev pub pred_child : Pred → Child
 pred_child p = (p.0, PredicateKind)
@@ -109,6 +111,12 @@ is_rebuilt _ = false
 abbrev pub is_bound_kind : Kind → Bool
 is_bound_kind PredicateKind = true
 is_bound_kind _ = false
+
+-- an argument is none
+pub arg_unbound : (a : GenericArg) → is_bound_kind (arg_kind a) ≡ false
+arg_unbound (A.Ty _) = refl
+arg_unbound (A.Const _) = refl
+arg_unbound (A.Region _) = refl
 
 abbrev pub have_bound : List Kind → Bool
 have_bound [] = false

@@ -1,6 +1,6 @@
 -- Substitutions, and when two references have a common instance.
 use Rattle.std.specs.Prelude.{◌≡◌, ℕ, Bool, true, false, List, [], ◌∷◌, ◌==◌, ◌&&◌, nat_lt, if◌then◌else◌}
-use Rattle.candidate_ir.specs.Trees.{Kind, ConstantKind, Forest, none, tree, Tree, kind_of, is_type, erase, holds}
+use Rattle.candidate_ir.specs.Trees.{Kind, ConstantKind, Forest, none, tree, Tree, kind_of, is_list_kind, is_type, erase, holds}
 use Rattle.candidate_ir.specs.Binders.{escapes}
 use Rattle.candidate_ir.specs.Worlds.{Reference}
 use Rattle.candidate_ir.specs.declared.ir.heads.VariableSort.{VariableSort}
@@ -79,6 +79,14 @@ is_placeholder_above u _ = false
 
 abbrev pub alone : Tree → Forest
 alone t = tree t.head t.children none
+
+abbrev pub as_row : Bool → Tree → Forest
+as_row true t = t.children
+as_row false t = alone t
+
+-- What a tree of a kind is in a row: a list is its members, all else is one tree.
+abbrev pub row_of : Kind → Tree → Forest
+row_of k t = as_row (is_list_kind k) t
 
 -- the universe of each variable
 abbrev pub Universes : Type 0

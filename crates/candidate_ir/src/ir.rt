@@ -4,6 +4,7 @@ pub(crate) mod at;
 pub mod flags;
 pub mod heads;
 pub mod kinds;
+pub mod making;
 pub mod marks;
 pub mod node;
 pub mod nodes;

@@ -72,6 +72,10 @@ module _ (ns : List ℕ) where
           ap (λ c. first t (renumbered_regions ns (begin (unwrap_or (instance (renumbering ns) t.head) (record { head = t.head; children = c })) none)))
           (same_depth (instance (renumbering ns)) 0 (0 + binders_of t.head) t.children)
 
+  -- one tree, in a row and alone
+  pub alone-is : (t : Tree) → renumbered ns (alone t) ≡ alone (renumbered_tree ns t)
+  alone-is t = sym (fold-is 0 (alone t)) ∙ ap alone (fold-tree-is t)
+
   -- Nothing else is asked about.
   pub unasked-stays : (t : Tree) → is_asked t.head ≡ false → renumbered_at ns t ≡ None
   unasked-stays t e = at t.head e

@@ -14,6 +14,7 @@ ghost use Rattle.candidate_eval.specs.Calls.{NoForeignHeaderHere};
 use candidate_eval::coherence::{
     InCrate, NormalizeErr, OrphanCheckMode, OrphanStop, orphan_check_trait_ref, trait_ref_is_plain,
 };
+use candidate_ir::decl::make::Build;
 use candidate_ir::decl::{AdtFlags, AdtShape, Cx, DeclFault, DeclsBuilder, TraitFlags};
 use candidate_ir::ir::kinds::{AdtId, GenericArg, TraitId, TraitRef, Ty, TyKind, VarKind};
 use candidate_ir::ir::stop::Stop;

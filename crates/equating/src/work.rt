@@ -13,7 +13,7 @@ use candidate_eval::eval::refusal::NoSolutionOrStop;
 use candidate_eval::eval::variable::VariableKind;
 use candidate_ir::decl::builder::DeclsBuilder;
 use candidate_ir::decl::context::Cx;
-use candidate_ir::decl::make::Make;
+use candidate_ir::decl::make::{Build, Make};
 use candidate_ir::ir::heads::VariableSort;
 use candidate_ir::ir::kinds::{Args, GenericArg, ParamEnv, TyKind, UintTy};
 use candidate_ir::ir::stop::Stop;

@@ -6,6 +6,7 @@ ghost use Rattle.candidate_ir.specs.Words.{IsArgs, IsTy};
 
 use crate::asserts::holds;
 use candidate_eval::coherence::{InCrate, OrphanCheckMode, OrphanStop};
+use candidate_ir::decl::make::Build;
 use candidate_ir::ir::kinds::{GenericArg, TraitRef, Ty, TyKind, UintTy};
 use candidate_ir::ir::stop::Stop;
 use candidate_ir::ir::trees::Trees;

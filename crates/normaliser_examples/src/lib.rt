@@ -14,6 +14,7 @@ use candidate_eval::coherence::{
     InCrate, NormalizeErr, OrphanCheckErr, OrphanStop, orphan_check_trait_ref,
 };
 use candidate_ir::decl::Cx;
+use candidate_ir::decl::make::Build;
 use candidate_ir::ir::kinds::{Mutability, RegionKind, TraitRef, Ty, TyKind, UintTy};
 use candidate_ir::ir::stop::Stop;
 use candidate_ir::ir::trees::Trees;

@@ -15,7 +15,7 @@ use candidate_eval::coherence::{
     trait_ref_is_local_or_fundamental, trait_ref_is_plain,
 };
 use candidate_eval::eval::InferCtxtLike;
-use candidate_ir::decl::make::Make;
+use candidate_ir::decl::make::{Build, Make};
 use candidate_ir::ir::kinds::{Mutability, RegionKind, TraitRef, Ty, TyKind, UintTy};
 use candidate_ir::ir::stop::Stop;
 use candidate_ir::ir::trees::Trees;

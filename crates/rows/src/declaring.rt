@@ -16,6 +16,7 @@ use candidate_ir::decl::contents::{
 use candidate_ir::decl::definition::{
     AdtFlags, AdtShape, AliasShape, AssocKind, CrateId, FnFlags, TraitFlags,
 };
+use candidate_ir::decl::make::Build;
 use candidate_ir::ir::kinds::{
     AdtId, AliasId, Binder, Clause, ClauseKind, GenericArg, PredicatePolarity, TraitId,
     TraitPredicate, TraitRef, Ty, TyKind, VarKind,

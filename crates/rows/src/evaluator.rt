@@ -22,7 +22,7 @@ use candidate_eval::eval::context::{EvalCtxt, ProbeKind};
 use candidate_eval::eval::mode::TypingMode;
 use candidate_eval::eval::response::CandidateHeadUsages;
 use candidate_eval::eval::variable::VariableKind;
-use candidate_ir::decl::make::Make;
+use candidate_ir::decl::make::{Build, Make};
 use candidate_ir::ir::heads::{Head, VariableSort};
 use candidate_ir::ir::kinds::{Args, Clause, Const, Goal, GoalSource, Region, Ty};
 use candidate_ir::ir::numbered::Numbered;

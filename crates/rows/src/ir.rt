@@ -16,20 +16,16 @@ use crate::tables::value_of;
 use crate::values::Value;
 use candidate_ir::decl::context::Cx;
 use candidate_ir::decl::elaborate::{elaborate, implied, supertrait_def_ids, supertraits};
-use candidate_ir::decl::fold::{
-    fold, fold_arg, fold_args, fold_clause, fold_const, fold_env, fold_region, fold_trait_ref,
-};
-use candidate_ir::decl::make::Make;
+use candidate_ir::decl::fold::fold;
+use candidate_ir::decl::make::{Build, Make};
 use candidate_ir::decl::open::{binder_kinds, open_clause};
 use candidate_ir::decl::parameters::has_arguments;
-use candidate_ir::decl::subst::{
-    subst, subst_args, subst_clause, subst_const, subst_env, subst_trait_ref,
-};
+use candidate_ir::decl::subst::subst;
 use candidate_ir::ir::flags::TypeFlags;
 use candidate_ir::ir::heads::Flag;
 use candidate_ir::ir::kinds::{
     Args, Binder, Clause, Const, ExistentialPredicate, FnId, GenericArg, ParamEnv, Preds, Region,
-    Sig, TraitId, Ty, TyKind, UintTy, VarKind, Vars,
+    Sig, TraitId, TraitRef, Ty, TyKind, UintTy, VarKind, Vars,
 };
 use candidate_ir::ir::numbered::Numbered;
 use candidate_ir::ir::stop::Stop;
@@ -96,21 +92,21 @@ pub(crate) fn substituted<M: Make>(
             subst(alloc, make, Ty(a), args)?.0
         }
         (Some(NodeSort::Const), _) if has_arguments(cx, Const(a), args) => {
-            subst_const(alloc, make, Const(a), args)?.0
+            subst(alloc, make, Const(a), args)?.0
         }
         (Some(NodeSort::Args), _) if has_arguments(cx, Args(a), args) => {
-            subst_args(alloc, make, Args(a), args)?.0
+            subst(alloc, make, Args(a), args)?.0
         }
         (Some(NodeSort::Clause), _) if has_arguments(cx, Clause(a), args) => {
-            subst_clause(alloc, make, Clause(a), args)?.0
+            subst(alloc, make, Clause(a), args)?.0
         }
         (Some(NodeSort::Env), _) if has_arguments(cx, ParamEnv(a), args) => {
-            subst_env(alloc, make, ParamEnv(a), args)?.0
+            subst(alloc, make, ParamEnv(a), args)?.0
         }
         (None, Value::Reference(of))
             if is_at(cx, of.args.0, NodeSort::Args) && has_arguments(cx, of.args, args) => {
-            let made = subst_trait_ref(alloc, make, of, args)?;
-            return Ok(Answer::One(Item::Reference(made)));
+            let made = subst(alloc, make, of.args, args)?;
+            return Ok(Answer::One(Item::Reference(TraitRef { args: made, ..of })));
         }
         _ => return Err(Refusal::Condition),
     };
@@ -163,18 +159,21 @@ fn folded(
         if !is_at(cx, reference.args.0, NodeSort::Args) {
             return Err(Refusal::Condition);
         }
-        let made = fold_trait_ref(alloc, cx, reference, ask)?;
-        return Ok(Answer::One(Item::Reference(made)));
+        let made = fold(alloc, cx, reference.args, ask)?;
+        return Ok(Answer::One(Item::Reference(TraitRef {
+            args: made,
+            ..reference
+        })));
     }
     let a = value.node();
     let number = match sort_at(cx, a) {
-        Some(NodeSort::Ty) if as_arg => fold_arg(alloc, cx, GenericArg::Ty(Ty(a)), ask)?.number(),
+        Some(NodeSort::Ty) if as_arg => fold(alloc, cx, GenericArg::Ty(Ty(a)), ask)?.number(),
         Some(NodeSort::Ty) => fold(alloc, cx, Ty(a), ask)?.0,
-        Some(NodeSort::Const) => fold_const(alloc, cx, Const(a), ask)?.0,
-        Some(NodeSort::Region) => fold_region(alloc, cx, Region(a), ask)?.0,
-        Some(NodeSort::Args) => fold_args(alloc, cx, Args(a), ask)?.0,
-        Some(NodeSort::Clause) => fold_clause(alloc, cx, Clause(a), ask)?.0,
-        Some(NodeSort::Env) => fold_env(alloc, cx, ParamEnv(a), ask)?.0,
+        Some(NodeSort::Const) => fold(alloc, cx, Const(a), ask)?.0,
+        Some(NodeSort::Region) => fold(alloc, cx, Region(a), ask)?.0,
+        Some(NodeSort::Args) => fold(alloc, cx, Args(a), ask)?.0,
+        Some(NodeSort::Clause) => fold(alloc, cx, Clause(a), ask)?.0,
+        Some(NodeSort::Env) => fold(alloc, cx, ParamEnv(a), ask)?.0,
         _ => return Err(Refusal::Condition),
     };
     Ok(Answer::One(Item::Node(number)))

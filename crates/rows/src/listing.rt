@@ -8,6 +8,7 @@ ghost use Rattle.rows.specs.Listed.{number_tree, out_tree};
 
 use crate::refusals::Refusal;
 use candidate_ir::decl::context::Cx;
+use candidate_ir::decl::make::Build;
 use candidate_ir::ir::kinds::{AliasTy, AssocId, GenericArg, Ty, TyKind, UintTy};
 use std::alloc::Global;
 

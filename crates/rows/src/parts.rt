@@ -11,7 +11,7 @@ ghost use Rattle.rows.specs.Parts.{kind_of_sort, PartFits, PartTakes};
 use crate::refusals::Refusal;
 use candidate_ir::decl::builder::DeclsBuilder;
 use candidate_ir::decl::context::Cx;
-use candidate_ir::decl::make::Make;
+use candidate_ir::decl::make::{Build, Make};
 use candidate_ir::ir::heads::{Head, ListHead, PartHead, VariableSort};
 use candidate_ir::ir::kinds::{
     Binder, Clause, ClauseKind, ClosureSig, ConstKind, ExistentialPredicate, GenericArg, Pattern,

@@ -20,7 +20,7 @@ use crate::structural::tables::{is_no_unknown, kind_of};
 use candidate_ir::decl::Cx;
 use candidate_ir::decl::definition::{FnFlags, are_type_args};
 use candidate_ir::decl::make::Make;
-use candidate_ir::decl::subst::subst_sig;
+use candidate_ir::decl::subst::subst;
 use candidate_ir::ir::kinds::{
     Args, Binder, ClosureArgs, ClosureId, ClosureKind, ClosureSig, FnId, FnSig, Sig, Ty, TyKind,
 };
@@ -214,7 +214,7 @@ fn instance<M: Make>(
     ensures cause { IfErr result (λ s. IsTypesStop (length (M.context make.new).trees) (declared_signature (M.context make.old).trees sig ∷ substituted_tree (args_forest (M.context make.old).trees args) (declared_signature (M.context make.old).trees sig) ∷ []) s) }
 {
     let declared = declared(make, sig)?;
-    let made = subst_sig(alloc, make, declared, args)?;
+    let made = subst(alloc, make, declared, args)?;
     Ok(signature(make.cx(), made))
 }
 
@@ -223,7 +223,7 @@ fn instance<M: Make>(
 ///
 /// `NoSolution` comes where it is unsafe, of another ABI or variadic, where it needs features that
 /// the target may lack, and where an input is no type. `Stop::Memory` comes where a growth was
-/// refused, `Stop::NodesFull` where the signature was not made, as by `mk_sig` and `subst_sig`.
+/// refused, `Stop::NodesFull` where the signature was not made, as by `mk_sig` and `subst`.
 #[tactic(auto, using(crate::proofs::Callables::function_called, crate::proofs::Callables::function_refused, crate::proofs::Callables::function_stop))]
 pub fn inputs_and_output_of_fn_def<M: Make>(
     alloc: Global,
@@ -303,7 +303,7 @@ fn how_called(cx: &Cx, ty: Ty) -> Called
 /// variadic; a function that needs features that the target may lack, or one of whose inputs is no
 /// type; a closure whose kind doesn't extend the one asked; and any other type. `Stop::Memory` comes
 /// where a growth was refused, `Stop::NodesFull` where the tuple or the signature was not made, as
-/// by `mk_sig` and `subst_sig`; after a stop the nodes that were made stay.
+/// by `mk_sig` and `subst`; after a stop the nodes that were made stay.
 #[tactic(auto, using(crate::proofs::Callables::call_given, crate::proofs::Callables::call_refused, crate::proofs::Callables::call_stop))]
 pub fn extract_tupled_inputs_and_output_from_callable<M: Make>(
     alloc: Global,

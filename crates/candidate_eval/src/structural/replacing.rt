@@ -16,7 +16,7 @@ use crate::eval::context::EvalCtxt;
 use crate::structural::making::first_type;
 use crate::structural::object::{AmbiguousOrStop, bound_about, pick_bound};
 use candidate_ir::decl::Cx;
-use candidate_ir::decl::fold::fold_clause;
+use candidate_ir::decl::fold::fold;
 use candidate_ir::decl::make::Make;
 use candidate_ir::ir::kinds::{
     AliasKind, AliasTerm, AliasTy, Args, AssocId, Clause, GenericArg, ParamEnv, Ty, TyKind,
@@ -262,7 +262,7 @@ fn fill<M: Make>(
     ensures cause { IfErr result IsMakingStop }
 {
     let mut left = terms;
-    fold_clause(
+    fold(
         alloc,
         make,
         clause,

@@ -14,7 +14,7 @@ use candidate_ir::decl::definition::AssocKind;
 use candidate_ir::decl::elaborate::elaborate;
 use candidate_ir::decl::make::Make;
 use candidate_ir::decl::parameters::has_arguments;
-use candidate_ir::decl::subst::subst_clause;
+use candidate_ir::decl::subst::subst;
 use candidate_ir::ir::kinds::{
     AliasId, AliasTerm, Args, AssocId, Binder, Clause, ClauseKind, ExistentialPredicate,
     ExistentialProjection, GenericArg, Pred, Preds, ProjectionPredicate, TraitId, TraitRef, Ty,
@@ -155,7 +155,7 @@ fn with_arguments<M: Make>(
     ensures cause { IfErr result IsMakingStop }
 {
     if has_arguments(make.cx(), clause, args) {
-        subst_clause(alloc, make, clause, args)
+        subst(alloc, make, clause, args)
     } else {
         Ok(clause)
     }
@@ -259,7 +259,7 @@ fn push_required<M: Make>(
 /// reference's arguments in the place of its parameters; where one of its parameters has no argument of its kind, it stays as it
 /// is declared.
 ///
-/// It stops as `subst_clause` and `elaborate` do; `Stop::Memory` comes where a list can't grow, too. After a stop the nodes that
+/// It stops as `subst` and `elaborate` do; `Stop::Memory` comes where a list can't grow, too. After a stop the nodes that
 /// were made stay.
 #[tactic(auto, using(crate::proofs::StopKinds::elaboration_making))]
 pub fn requirements<M: Make>(

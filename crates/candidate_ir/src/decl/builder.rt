@@ -8,7 +8,7 @@ ghost use Rattle.candidate_ir.specs.Faults.{all_that_is_held, declarations_misna
 ghost use Rattle.candidate_ir.specs.Plain.{AllArePlain};
 ghost use Rattle.candidate_ir.specs.WellFormed.{IsWellFormedTable};
 ghost use Rattle.candidate_ir.specs.Supertraits.{HasSupertraitCycle, IsAcyclic};
-ghost use Rattle.candidate_ir.specs.Making.{Makes, a_type, a_constant, a_region, a_list, a_binder, some_bounds, a_signature, a_clause, an_environment};
+ghost use Rattle.candidate_ir.specs.Making.{Makes, a_list};
 ghost use Rattle.candidate_ir.specs.Nodes.{tree_at};
 ghost use Rattle.candidate_ir.specs.Words.{KindFits, ConstKindFits, ListFits, BoundsFit, SigFits, ClauseFits, ClauseListFits, AtMostOnePrincipal};
 ghost use Rattle.candidate_ir.specs.declared.decl.builder.DeclFault.TheVariants.{Memory};
@@ -28,16 +28,17 @@ use crate::decl::faults::{
     any_item_misnames, any_lacks_tail, any_lacks_trait, any_unsizes_past,
 };
 use crate::decl::held::{Held, all_held};
+use crate::decl::make::Build;
 use crate::decl::misplaced::{Misplaced, any_escapes, any_misplaces, any_not_given};
 use crate::decl::plain::all_are_plain;
 use crate::decl::supers::any_has_wrong_super;
 use crate::ir::at::at;
 use crate::ir::heads::Head;
 use crate::ir::kinds::{
-    AdtId, AliasId, Args, AssocId, Binder, Clause, ClauseKind, ClosureId, ClosureSig, Const,
-    ConstKind, ExistentialPredicate, FnId, FnSig, ForeignId, GenericArg, ParamEnv, Preds, Region,
-    RegionKind, Sig, TraitId, TraitRef, Ty, TyKind, VarKind, Vars,
+    AdtId, AliasId, Args, AssocId, Binder, Clause, ClosureId, FnId, FnSig, ForeignId, GenericArg,
+    TraitId, TraitRef, Ty, VarKind,
 };
+use crate::ir::making::New;
 use crate::ir::nodes::Nodes;
 use crate::ir::stop::Stop;
 use crate::ir::trees::Trees;
@@ -584,85 +585,12 @@ impl DeclsBuilder {
         self.nodes.head(number)
     }
 
-    /// The type of that kind. Its arguments may be of any number and kinds until `finish`; it stops as
-    /// `mk_ty` of a context does, and the builder is then as before.
-    pub fn mk_ty(&mut self, kind: TyKind) -> Result<Ty, Stop>
-        requires { KindFits self.old.trees kind }
-        ensures { Makes (a_type kind) self.old self.new result }
-    {
-        self.nodes.mk_ty(kind)
-    }
-
-    /// The constant of that kind, as `mk_ty`.
-    pub fn mk_const(&mut self, kind: ConstKind) -> Result<Const, Stop>
-        requires { ConstKindFits self.old.trees kind }
-        ensures { Makes (a_constant kind) self.old self.new result }
-    {
-        self.nodes.mk_const(kind)
-    }
-
-    /// The region of that kind, as `mk_ty`.
-    pub fn mk_region(&mut self, kind: RegionKind) -> Result<Region, Stop>
-        ensures { Makes (a_region kind) self.old self.new result }
-    {
-        self.nodes.mk_region(kind)
-    }
-
-    /// The list of these arguments, as `mk_ty`.
-    pub fn mk_args(&mut self, list: &[GenericArg]) -> Result<Args, Stop>
-        requires { ListFits self.old.trees list.now }
-        ensures { Makes (a_list list.now) self.old self.new result }
-    {
-        self.nodes.mk_args(list)
-    }
-
     /// The same as `mk_args`, of a list that the builder keeps.
     pub fn mk_arg_list(&mut self, list: Vec<GenericArg>) -> Result<Args, Stop>
         requires { ListFits self.old.trees list.items }
         ensures { Makes (a_list list.items) self.old self.new result }
     {
         self.nodes.mk_arg_list(list)
-    }
-
-    /// The variables of a binder, by their kinds, as `mk_vars` of a context.
-    pub fn mk_vars(&mut self, kinds: &[VarKind]) -> Result<Vars, Stop>
-        ensures { Makes (a_binder kinds.now) self.old self.new result }
-    {
-        self.nodes.mk_vars(kinds)
-    }
-
-    /// The bounds of a `dyn` type, of which one at most is by a trait that isn't an auto trait, as
-    /// `mk_preds` of a context, whatever arguments they have.
-    pub fn mk_preds(&mut self, bounds: &[Binder<ExistentialPredicate>]) -> Result<Preds, Stop>
-        requires fit { BoundsFit self.old.trees bounds.now }
-        requires principal { AtMostOnePrincipal bounds.now }
-        ensures { Makes (some_bounds bounds.now) self.old self.new result }
-    {
-        self.nodes.mk_preds(bounds)
-    }
-
-    /// The signature of a closure, as `mk_ty`.
-    pub fn mk_sig(&mut self, sig: Binder<ClosureSig>) -> Result<Sig, Stop>
-        requires { SigFits self.old.trees sig }
-        ensures { Makes (a_signature sig) self.old self.new result }
-    {
-        self.nodes.mk_sig(sig)
-    }
-
-    /// The clause under its binder, as `mk_ty`.
-    pub fn mk_clause(&mut self, clause: Binder<ClauseKind>) -> Result<Clause, Stop>
-        requires { ClauseFits self.old.trees clause }
-        ensures { Makes (a_clause clause) self.old self.new result }
-    {
-        self.nodes.mk_clause(clause)
-    }
-
-    /// The environment of these clauses, as `mk_ty`.
-    pub fn mk_param_env(&mut self, clauses: &[Clause]) -> Result<ParamEnv, Stop>
-        requires { ClauseListFits self.old.trees clauses.now }
-        ensures { Makes (an_environment clauses.now) self.old self.new result }
-    {
-        self.nodes.mk_param_env(clauses)
     }
 
     fn declarations_misname(&self) -> bool
@@ -809,6 +737,22 @@ impl DeclsBuilder {
             contents,
             nodes,
         })
+    }
+}
+
+/// What is made may have arguments of any number and kinds until `finish`.
+impl Build for DeclsBuilder {
+    ghost context = { λ b. b };
+
+    ghost Rest = { Unit {0} };
+
+    ghost rest = { λ _. tt };
+
+    ghost is_strict = { false };
+
+    #[inline(always)]
+    fn make(&mut self, new: New<'_>) -> Result<u32, Stop> {
+        self.nodes.make(new)
     }
 }
 

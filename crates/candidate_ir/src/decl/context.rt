@@ -2,7 +2,7 @@
 
 ghost use Rattle.std.specs.Prelude.{◌≡◌, ◌++◌, ◌∷◌, [], string_bytes, ◌+◌, ◌<◌, ◌≤◌, ◌↔◌, IsTrue, false, true, length, take, max, map, IfOk, IfErr, MatchOption, Some, None, suc};
 ghost use Rattle.candidate_ir.specs.Context.{world, Grows};
-ghost use Rattle.candidate_ir.specs.Making.{Makes, a_type, a_constant, a_region, a_list, a_binder, some_bounds, a_signature, a_clause, an_environment};
+ghost use Rattle.candidate_ir.specs.Making.{Makes, a_list};
 ghost use Rattle.candidate_ir.specs.Trees.{height, heights, tree_holds, holds, is_number, is_param, none, skip, tree, variable_number};
 ghost use Rattle.candidate_ir.specs.Flags.{mark};
 ghost use Rattle.candidate_ir.specs.Folds.{is_asked, IsArg, arg_tree};
@@ -22,12 +22,13 @@ use crate::decl::arity::{bounds_fit, clause_fits, const_fits, takes_after_self, 
 use crate::decl::builder::Decls;
 use crate::decl::contents::Contents;
 use crate::decl::definition::{CrateId, Declaration, DefinitionSort};
+use crate::decl::make::Build;
 use crate::decl::misplaced::is_args;
 use crate::ir::at::at;
 use crate::ir::kinds::{
-    Args, Binder, Clause, ClauseKind, ClosureSig, Const, ConstKind, ExistentialPredicate,
-    GenericArg, ParamEnv, Preds, Region, RegionKind, Sig, TraitRef, Ty, TyKind, VarKind, Vars,
+    Args, Binder, ClauseKind, ConstKind, ExistentialPredicate, GenericArg, TraitRef, TyKind,
 };
+use crate::ir::making::New;
 use crate::ir::node::Node;
 use crate::ir::nodes::Nodes;
 use crate::ir::stop::Stop;
@@ -218,42 +219,6 @@ impl Cx {
         )
     }
 
-    /// The type of that kind, whose arguments are those that it takes, as `args_fit` tests.
-    ///
-    /// `Stop::Memory` comes where a growth was refused, `Stop::NodesFull` where no number is left or
-    /// the tree would be higher than 1,024. Neither changes the context.
-    pub fn mk_ty(&mut self, kind: TyKind) -> Result<Ty, Stop>
-        requires fits { KindFits self.old.trees kind }
-        requires takes { Takes (world self.old) (kind_tree self.old.trees kind) }
-        ensures { Makes (a_type kind) self.old self.new result }
-    {
-        self.nodes.mk_ty(kind)
-    }
-
-    /// The constant of that kind, whose arguments are those that it takes, as `const_args_fit` tests; it stops as `mk_ty` does.
-    pub fn mk_const(&mut self, kind: ConstKind) -> Result<Const, Stop>
-        requires fits { ConstKindFits self.old.trees kind }
-        requires takes { Takes (world self.old) (const_kind_tree self.old.trees kind) }
-        ensures { Makes (a_constant kind) self.old self.new result }
-    {
-        self.nodes.mk_const(kind)
-    }
-
-    /// The region of that kind; it stops as `mk_ty` does.
-    pub fn mk_region(&mut self, kind: RegionKind) -> Result<Region, Stop>
-        ensures { Makes (a_region kind) self.old self.new result }
-    {
-        self.nodes.mk_region(kind)
-    }
-
-    /// The list of these arguments, which adds nothing to a height; it stops as `mk_ty` does.
-    pub fn mk_args(&mut self, list: &[GenericArg]) -> Result<Args, Stop>
-        requires { ListFits self.old.trees list.now }
-        ensures { Makes (a_list list.now) self.old self.new result }
-    {
-        self.nodes.mk_args(list)
-    }
-
     /// The same as `mk_args`, of a list that the context keeps.
     pub fn mk_arg_list(&mut self, list: Vec<GenericArg>) -> Result<Args, Stop>
         requires { ListFits self.old.trees list.items }
@@ -261,52 +226,21 @@ impl Cx {
     {
         self.nodes.mk_arg_list(list)
     }
+}
 
-    /// The variables of a binder, by their kinds. They take a number each, and one more.
-    ///
-    /// `Stop::NodesFull` comes where fewer numbers are left; else it stops as `mk_ty` does.
-    pub fn mk_vars(&mut self, kinds: &[VarKind]) -> Result<Vars, Stop>
-        ensures { Makes (a_binder kinds.now) self.old self.new result }
-    {
-        self.nodes.mk_vars(kinds)
-    }
+/// The arguments of what is made in a context are those that it takes.
+impl Build for Cx {
+    ghost context = { λ c. c };
 
-    /// The bounds of a `dyn` type, of which one at most is by a trait that isn't an auto trait, with the
-    /// arguments that they take, as `bounds_args_fit` tests. They take a number each, and one more, and
-    /// add nothing to a height; it stops as `mk_vars` does.
-    pub fn mk_preds(&mut self, bounds: &[Binder<ExistentialPredicate>]) -> Result<Preds, Stop>
-        requires fit { BoundsFit self.old.trees bounds.now }
-        requires take { AllTake (world self.old) (map (pred_kind_tree self.old.trees) bounds.now) }
-        requires principal { AtMostOnePrincipal bounds.now }
-        ensures { Makes (some_bounds bounds.now) self.old self.new result }
-    {
-        self.nodes.mk_preds(bounds)
-    }
+    ghost Rest = { Unit {0} };
 
-    /// The signature of a closure; it stops as `mk_ty` does.
-    pub fn mk_sig(&mut self, sig: Binder<ClosureSig>) -> Result<Sig, Stop>
-        requires { SigFits self.old.trees sig }
-        ensures { Makes (a_signature sig) self.old self.new result }
-    {
-        self.nodes.mk_sig(sig)
-    }
+    ghost rest = { λ _. tt };
 
-    /// The clause under its binder, whose arguments are those that it takes, as `clause_args_fit` tests. It
-    /// adds nothing to a height; it stops as `mk_ty` does.
-    pub fn mk_clause(&mut self, clause: Binder<ClauseKind>) -> Result<Clause, Stop>
-        requires fits { ClauseFits self.old.trees clause }
-        requires takes { Takes (world self.old) (clause_kind_tree self.old.trees clause) }
-        ensures { Makes (a_clause clause) self.old self.new result }
-    {
-        self.nodes.mk_clause(clause)
-    }
+    ghost is_strict = { true };
 
-    /// The environment of these clauses, in their order, which adds nothing to a height; it stops as `mk_ty` does.
-    pub fn mk_param_env(&mut self, clauses: &[Clause]) -> Result<ParamEnv, Stop>
-        requires { ClauseListFits self.old.trees clauses.now }
-        ensures { Makes (an_environment clauses.now) self.old self.new result }
-    {
-        self.nodes.mk_param_env(clauses)
+    #[inline(always)]
+    fn make(&mut self, new: New<'_>) -> Result<u32, Stop> {
+        self.nodes.make(new)
     }
 }
 

@@ -1,22 +1,25 @@
 //! What makes nodes.
 
-ghost use Rattle.std.specs.Prelude.{◌≡◌, ◌+◌, length, map, IfOk, IfErr};
+ghost use Rattle.std.specs.Prelude.{◌≡◌, Bool, true, map};
 ghost use Rattle.candidate_ir.specs.Context.{Context, world};
-ghost use Rattle.candidate_ir.specs.Making.{Makes, a_type, a_constant, a_region, a_list, a_binder, some_bounds, a_signature, a_clause, an_environment};
+ghost use Rattle.candidate_ir.specs.Making.{Makes, a_type, a_constant, a_region, a_list, a_binder, some_bounds, a_signature, a_clause, an_environment, what};
 ghost use Rattle.candidate_ir.specs.References.{Takes, AllTake};
-ghost use Rattle.candidate_ir.specs.Trees.{height, heights};
-ghost use Rattle.candidate_ir.specs.Words.{IsTy, IsConst, IsRegion, IsArgs, IsPreds, IsSig, IsClause, IsParamEnv, IsVars, ty_tree, const_tree, region_tree, args_forest, preds_forest, sig_tree, clause_tree, env_forest, vars_tree, KindFits, ConstKindFits, ListFits, SigFits, ClauseFits, ClauseListFits, BoundsFit, AtMostOnePrincipal, kind_tree, const_kind_tree, region_kind_tree, sig_kind_tree, clause_kind_tree, clause_list_forest, pred_kind_tree, list_forest, bounds_forest, binder_tree, IsMkStop, IsMkListStop};
+ghost use Rattle.candidate_ir.specs.Words.{KindFits, ConstKindFits, ListFits, SigFits, ClauseFits, ClauseListFits, BoundsFit, AtMostOnePrincipal, kind_tree, const_kind_tree, clause_kind_tree, pred_kind_tree};
 
 use crate::decl::context::Cx;
 use crate::ir::kinds::{
     Args, Binder, Clause, ClauseKind, ClosureSig, Const, ConstKind, ExistentialPredicate,
     GenericArg, ParamEnv, Preds, Region, RegionKind, Sig, Ty, TyKind, VarKind, Vars,
 };
+use crate::ir::making::New;
 use crate::ir::stop::Stop;
 
-/// A context, or something over one, that nodes can be added to. Its `mk_*` calls change nothing
-/// else, and stop as those of `Cx` do.
-pub trait Make {
+/// Declarations that go on, a context, or something over one, that nodes can be added to. Its calls change nothing else.
+///
+/// `Stop::Memory` comes where a growth was refused, `Stop::NodesFull` where no number is left or the tree would be higher than
+/// 1,024. Neither changes anything. `mk_vars` and `mk_preds` take a number for each member and one more, and `Stop::NodesFull`
+/// comes where fewer are left. Types and constants add one to a height, all else nothing.
+pub trait Build {
     /// The declarations, and the trees of the numbers given so far.
     ghost context: { Self → Context };
 
@@ -26,112 +29,115 @@ pub trait Make {
     /// All else.
     ghost rest: { Self → Rest };
 
-    /// The context.
-    fn cx(&self) -> &Cx
-        ensures { result.now ≡ context self.now };
+    /// Whether the arguments of what is made have to be those that its definition takes: a context asks it, and `finish` asks it
+    /// of all that a builder made.
+    ghost is_strict: { Bool };
 
-    /// The type of that kind, whose arguments are those that it takes.
-    fn mk_ty(&mut self, kind: TyKind) -> Result<Ty, Stop>
+    /// The number of what is made.
+    fn make(&mut self, new: New<'_>) -> Result<u32, Stop>
+        requires fits { (what new).making.fits (context self.old).trees }
+        requires takes { is_strict ≡ true → (what new).making.takes (world (context self.old)) (context self.old).trees }
+        ensures made { Makes (what new.entry).making (context self.old) (context self.new) result }
+        ensures rest { rest self.new ≡ rest self.old };
+
+    /// The type of that kind, whose arguments are those that it takes, as `Cx::args_fit` tests.
+    #[inline(never)]
+    final fn mk_ty(&mut self, kind: TyKind) -> Result<Ty, Stop>
         requires fits { KindFits (context self.old).trees kind }
-        requires takes { Takes (world (context self.old)) (kind_tree (context self.old).trees kind) }
+        requires takes { is_strict ≡ true → Takes (world (context self.old)) (kind_tree (context self.old).trees kind) }
         ensures made { Makes (a_type kind) (context self.old) (context self.new) result }
-        ensures rest { rest self.new ≡ rest self.old };
+        ensures rest { rest self.new ≡ rest self.old }
+    {
+        Ok(Ty(self.make(New::Ty(kind))?))
+    }
 
-    /// The constant of that kind, whose arguments are those that it takes.
-    fn mk_const(&mut self, kind: ConstKind) -> Result<Const, Stop>
+    /// The constant of that kind, whose arguments are those that it takes, as `Cx::const_args_fit` tests.
+    final fn mk_const(&mut self, kind: ConstKind) -> Result<Const, Stop>
         requires fits { ConstKindFits (context self.old).trees kind }
-        requires takes { Takes (world (context self.old)) (const_kind_tree (context self.old).trees kind) }
+        requires takes { is_strict ≡ true → Takes (world (context self.old)) (const_kind_tree (context self.old).trees kind) }
         ensures made { Makes (a_constant kind) (context self.old) (context self.new) result }
-        ensures rest { rest self.new ≡ rest self.old };
+        ensures rest { rest self.new ≡ rest self.old }
+    {
+        Ok(Const(self.make(New::Const(kind))?))
+    }
 
     /// The region of that kind.
-    fn mk_region(&mut self, kind: RegionKind) -> Result<Region, Stop>
+    #[inline(never)]
+    final fn mk_region(&mut self, kind: RegionKind) -> Result<Region, Stop>
         ensures made { Makes (a_region kind) (context self.old) (context self.new) result }
-        ensures rest { rest self.new ≡ rest self.old };
+        ensures rest { rest self.new ≡ rest self.old }
+    {
+        Ok(Region(self.make(New::Region(kind))?))
+    }
 
     /// The list of these arguments.
-    fn mk_args(&mut self, list: &[GenericArg]) -> Result<Args, Stop>
+    final fn mk_args(&mut self, list: &[GenericArg]) -> Result<Args, Stop>
         requires { ListFits (context self.old).trees list.now }
         ensures made { Makes (a_list list.now) (context self.old) (context self.new) result }
-        ensures rest { rest self.new ≡ rest self.old };
+        ensures rest { rest self.new ≡ rest self.old }
+    {
+        Ok(Args(self.make(New::Args(list))?))
+    }
 
     /// The variables of a binder, by their kinds.
-    fn mk_vars(&mut self, kinds: &[VarKind]) -> Result<Vars, Stop>
+    final fn mk_vars(&mut self, kinds: &[VarKind]) -> Result<Vars, Stop>
         ensures made { Makes (a_binder kinds.now) (context self.old) (context self.new) result }
-        ensures rest { rest self.new ≡ rest self.old };
+        ensures rest { rest self.new ≡ rest self.old }
+    {
+        Ok(Vars(self.make(New::Vars(kinds))?))
+    }
 
-    /// The bounds of a `dyn` type, whose arguments are those that they take.
-    fn mk_preds(&mut self, bounds: &[Binder<ExistentialPredicate>]) -> Result<Preds, Stop>
+    /// The bounds of a `dyn` type, of which one at most is by a trait that isn't an auto trait, with the arguments that they
+    /// take, as `Cx::bounds_args_fit` tests.
+    final fn mk_preds(&mut self, bounds: &[Binder<ExistentialPredicate>]) -> Result<Preds, Stop>
         requires fit { BoundsFit (context self.old).trees bounds.now }
-        requires take { AllTake (world (context self.old)) (map (pred_kind_tree (context self.old).trees) bounds.now) }
+        requires take { is_strict ≡ true → AllTake (world (context self.old)) (map (pred_kind_tree (context self.old).trees) bounds.now) }
         requires principal { AtMostOnePrincipal bounds.now }
         ensures made { Makes (some_bounds bounds.now) (context self.old) (context self.new) result }
-        ensures rest { rest self.new ≡ rest self.old };
+        ensures rest { rest self.new ≡ rest self.old }
+    {
+        Ok(Preds(self.make(New::Preds(bounds))?))
+    }
 
     /// The signature of a closure.
-    fn mk_sig(&mut self, sig: Binder<ClosureSig>) -> Result<Sig, Stop>
+    final fn mk_sig(&mut self, sig: Binder<ClosureSig>) -> Result<Sig, Stop>
         requires { SigFits (context self.old).trees sig }
         ensures made { Makes (a_signature sig) (context self.old) (context self.new) result }
-        ensures rest { rest self.new ≡ rest self.old };
+        ensures rest { rest self.new ≡ rest self.old }
+    {
+        Ok(Sig(self.make(New::Sig(sig))?))
+    }
 
-    /// The clause under its binder, whose arguments are those that it takes.
-    fn mk_clause(&mut self, clause: Binder<ClauseKind>) -> Result<Clause, Stop>
+    /// The clause under its binder, whose arguments are those that it takes, as `Cx::clause_args_fit` tests.
+    #[inline(never)]
+    final fn mk_clause(&mut self, clause: Binder<ClauseKind>) -> Result<Clause, Stop>
         requires fits { ClauseFits (context self.old).trees clause }
-        requires takes { Takes (world (context self.old)) (clause_kind_tree (context self.old).trees clause) }
+        requires takes { is_strict ≡ true → Takes (world (context self.old)) (clause_kind_tree (context self.old).trees clause) }
         ensures made { Makes (a_clause clause) (context self.old) (context self.new) result }
-        ensures rest { rest self.new ≡ rest self.old };
+        ensures rest { rest self.new ≡ rest self.old }
+    {
+        Ok(Clause(self.make(New::Clause(clause))?))
+    }
 
-    /// The environment of these clauses.
-    fn mk_param_env(&mut self, clauses: &[Clause]) -> Result<ParamEnv, Stop>
+    /// The environment of these clauses, in their order.
+    final fn mk_param_env(&mut self, clauses: &[Clause]) -> Result<ParamEnv, Stop>
         requires { ClauseListFits (context self.old).trees clauses.now }
         ensures made { Makes (an_environment clauses.now) (context self.old) (context self.new) result }
-        ensures rest { rest self.new ≡ rest self.old };
+        ensures rest { rest self.new ≡ rest self.old }
+    {
+        Ok(ParamEnv(self.make(New::ParamEnv(clauses))?))
+    }
+}
+
+/// A context, or something over one, that lends it while nodes are made.
+pub trait Make: Build {
+    /// The context.
+    fn cx(&self) -> &Cx
+        ensures { result.now ≡ Self.context self.now };
 }
 
 impl Make for Cx {
-    ghost context = { λ c. c };
-
-    ghost Rest = { Unit {0} };
-
-    ghost rest = { λ _. tt };
-
     fn cx(&self) -> &Cx {
         self
-    }
-
-    fn mk_ty(&mut self, kind: TyKind) -> Result<Ty, Stop> {
-        Cx::mk_ty(self, kind)
-    }
-
-    fn mk_const(&mut self, kind: ConstKind) -> Result<Const, Stop> {
-        Cx::mk_const(self, kind)
-    }
-
-    fn mk_region(&mut self, kind: RegionKind) -> Result<Region, Stop> {
-        Cx::mk_region(self, kind)
-    }
-
-    fn mk_args(&mut self, list: &[GenericArg]) -> Result<Args, Stop> {
-        Cx::mk_args(self, list)
-    }
-
-    fn mk_vars(&mut self, kinds: &[VarKind]) -> Result<Vars, Stop> {
-        Cx::mk_vars(self, kinds)
-    }
-
-    fn mk_preds(&mut self, bounds: &[Binder<ExistentialPredicate>]) -> Result<Preds, Stop> {
-        Cx::mk_preds(self, bounds)
-    }
-
-    fn mk_sig(&mut self, sig: Binder<ClosureSig>) -> Result<Sig, Stop> {
-        Cx::mk_sig(self, sig)
-    }
-
-    fn mk_clause(&mut self, clause: Binder<ClauseKind>) -> Result<Clause, Stop> {
-        Cx::mk_clause(self, clause)
-    }
-
-    fn mk_param_env(&mut self, clauses: &[Clause]) -> Result<ParamEnv, Stop> {
-        Cx::mk_param_env(self, clauses)
     }
 }

@@ -6,19 +6,16 @@ ghost use Rattle.candidate_ir.specs.Folding.{moved, further, shift_tree, argumen
 ghost use Rattle.candidate_ir.specs.Nodes.{kind_at, tree_at, is_bound_kind};
 ghost use Rattle.candidate_ir.specs.Folds.{IsArg, IsOfKind, arg_tree};
 ghost use Rattle.candidate_ir.specs.Kinds.{arg_kind};
-ghost use Rattle.candidate_ir.specs.Substitutions.{alone};
-ghost use Rattle.candidate_ir.specs.Trees.{Forest, count, height, heights, holds, is_list_kind, is_param, tree_holds};
-ghost use Rattle.candidate_ir.specs.Words.{IsTy, IsConst, IsArgs, IsClause, IsSig, IsParamEnv, ty_tree, const_tree, args_forest, clause_tree, sig_tree, env_forest};
+ghost use Rattle.candidate_ir.specs.Substitutions.{alone, row_of};
+ghost use Rattle.candidate_ir.specs.Trees.{Forest, count, height, heights, is_list_kind, is_param, tree_holds};
+ghost use Rattle.candidate_ir.specs.Words.{IsArgs, args_forest};
 
 use crate::decl::context::Cx;
 use crate::decl::fold::fold_number;
 use crate::decl::make::Make;
 use crate::decl::open::{bound_variable, bound_variable_of};
 use crate::ir::heads::{ConstHead, Head};
-use crate::ir::kinds::{
-    Args, BoundVar, Clause, Const, ConstKind, GenericArg, ParamEnv, RegionKind, Sig, TraitRef, Ty,
-    TyKind, VarKind,
-};
+use crate::ir::kinds::{Args, BoundVar, GenericArg, VarKind};
 use crate::ir::numbered::Numbered;
 use crate::ir::stop::Stop;
 use crate::ir::trees::Trees;
@@ -181,171 +178,35 @@ fn substituted<M: Make>(alloc: Global, make: &mut M, number: u32, args: Args) ->
     )
 }
 
-/// The type, with the list's argument of its number in the place of each parameter, shifted by the
-/// binders that it stands under.
+/// The type, constant, list or whatever else it is, with the list's argument of its number in the place
+/// of each parameter, shifted by the binders that it stands under.
 ///
-/// Each parameter of the type has an argument, of its kind. `Stop::Memory` comes where a growth was
+/// Each parameter of it has an argument, of its kind. `Stop::Memory` comes where a growth was
 /// refused, `Stop::NodesFull` where no numbers are left, or fewer than a list of bounds takes, the
 /// tree would be higher than 1,024, or a bound variable would be bound more than 2^32 - 1 binders
 /// out. A tree is walked as a tree; after a stop the nodes that were made stay.
-pub fn subst<M: Make>(alloc: Global, make: &mut M, ty: Ty, args: Args) -> Result<Ty, Stop>
-    requires ty { IsTy (M.context make.old).trees ty }
-    requires args { IsArgs (M.context make.old).trees args }
-    requires there { tree_holds (lacks_argument (args_forest (M.context make.old).trees args)) (ty_tree (M.context make.old).trees ty) ≡ false }
-    ensures grows { Grows (M.context make.old) (M.context make.new) }
-    ensures rest { M.rest make.new ≡ M.rest make.old }
-    ensures sort { IfOk result (λ t. IsTy (M.context make.new).trees t) }
-    ensures tree { IfOk result (λ t. ty_tree (M.context make.new).trees t ≡ substituted_tree (args_forest (M.context make.old).trees args) (ty_tree (M.context make.old).trees ty)) }
-    ensures cause { IfErr result (λ s. IsSubstStop (length (M.context make.new).trees) (alone (substituted_tree (args_forest (M.context make.old).trees args) (ty_tree (M.context make.old).trees ty))) s) }
-
-    // Laws.
-    ensures unchanged { tree_holds is_param (ty_tree (M.context make.old).trees ty) ≡ false → IfOk result (λ t. ty_tree (M.context make.new).trees t ≡ ty_tree (M.context make.old).trees ty) }
-    ensures twice { (others : Forest) → IfOk result (λ t. substituted_tree others (ty_tree (M.context make.new).trees t) ≡ substituted_tree (substituted others 0 (args_forest (M.context make.old).trees args)) (ty_tree (M.context make.old).trees ty)) }
-    ensures height { IfOk result (λ t. height (ty_tree (M.context make.new).trees t) ≤ height (ty_tree (M.context make.old).trees ty) + heights (args_forest (M.context make.old).trees args)) }
-{
-    Ok(Ty(substituted(alloc, make, ty.0, args)?))
-}
-
-/// The constant, with arguments put in; what is said of `subst` holds here, too.
-pub fn subst_const<M: Make>(
+pub fn subst<N: Numbered, M: Make>(
     alloc: Global,
     make: &mut M,
-    constant: Const,
+    value: N,
     args: Args,
-) -> Result<Const, Stop>
-    requires constant { IsConst (M.context make.old).trees constant }
+) -> Result<N, Stop>
+    requires value { kind_at (M.context make.old).trees (N.number_of value) ≡ N.kind value }
     requires args { IsArgs (M.context make.old).trees args }
-    requires there { tree_holds (lacks_argument (args_forest (M.context make.old).trees args)) (const_tree (M.context make.old).trees constant) ≡ false }
+    requires there { tree_holds (lacks_argument (args_forest (M.context make.old).trees args)) (tree_at (M.context make.old).trees (N.number_of value)) ≡ false }
     ensures grows { Grows (M.context make.old) (M.context make.new) }
     ensures rest { M.rest make.new ≡ M.rest make.old }
-    ensures sort { IfOk result (λ x. IsConst (M.context make.new).trees x) }
-    ensures tree { IfOk result (λ x. const_tree (M.context make.new).trees x ≡ substituted_tree (args_forest (M.context make.old).trees args) (const_tree (M.context make.old).trees constant)) }
-    ensures cause { IfErr result (λ s. IsSubstStop (length (M.context make.new).trees) (alone (substituted_tree (args_forest (M.context make.old).trees args) (const_tree (M.context make.old).trees constant))) s) }
+    ensures sort { IfOk result (λ x. kind_at (M.context make.new).trees (N.number_of x) ≡ N.kind x) }
+    ensures kind { IfOk result (λ x. N.kind x ≡ N.kind value) }
+    ensures tree { IfOk result (λ x. tree_at (M.context make.new).trees (N.number_of x) ≡ substituted_tree (args_forest (M.context make.old).trees args) (tree_at (M.context make.old).trees (N.number_of value))) }
+    ensures list { is_list_kind (N.kind value) ≡ true → IfOk result (λ x. (tree_at (M.context make.new).trees (N.number_of x)).children ≡ substituted (args_forest (M.context make.old).trees args) 0 (tree_at (M.context make.old).trees (N.number_of value)).children) }
+    ensures cause { IfErr result (λ s. IsSubstStop (length (M.context make.new).trees) (substituted (args_forest (M.context make.old).trees args) 0 (row_of (N.kind value) (tree_at (M.context make.old).trees (N.number_of value)))) s) }
 
-    // Laws.
-    ensures unchanged { tree_holds is_param (const_tree (M.context make.old).trees constant) ≡ false → IfOk result (λ x. const_tree (M.context make.new).trees x ≡ const_tree (M.context make.old).trees constant) }
-    ensures twice { (others : Forest) → IfOk result (λ x. substituted_tree others (const_tree (M.context make.new).trees x) ≡ substituted_tree (substituted others 0 (args_forest (M.context make.old).trees args)) (const_tree (M.context make.old).trees constant)) }
-    ensures height { IfOk result (λ x. height (const_tree (M.context make.new).trees x) ≤ height (const_tree (M.context make.old).trees constant) + heights (args_forest (M.context make.old).trees args)) }
+    // Laws; those of lists follow from `list` alike.
+    ensures unchanged { tree_holds is_param (tree_at (M.context make.old).trees (N.number_of value)) ≡ false → IfOk result (λ x. tree_at (M.context make.new).trees (N.number_of x) ≡ tree_at (M.context make.old).trees (N.number_of value)) }
+    ensures twice { (others : Forest) → IfOk result (λ x. substituted_tree others (tree_at (M.context make.new).trees (N.number_of x)) ≡ substituted_tree (substituted others 0 (args_forest (M.context make.old).trees args)) (tree_at (M.context make.old).trees (N.number_of value))) }
+    ensures height { IfOk result (λ x. height (tree_at (M.context make.new).trees (N.number_of x)) ≤ height (tree_at (M.context make.old).trees (N.number_of value)) + heights (args_forest (M.context make.old).trees args)) }
 {
-    Ok(Const(substituted(alloc, make, constant.0, args)?))
-}
-
-/// The list, with arguments put in; what is said of `subst` holds here, too.
-pub fn subst_args<M: Make>(
-    alloc: Global,
-    make: &mut M,
-    list: Args,
-    args: Args,
-) -> Result<Args, Stop>
-    requires list { IsArgs (M.context make.old).trees list }
-    requires args { IsArgs (M.context make.old).trees args }
-    requires there { holds (lacks_argument (args_forest (M.context make.old).trees args)) (args_forest (M.context make.old).trees list) ≡ false }
-    ensures grows { Grows (M.context make.old) (M.context make.new) }
-    ensures rest { M.rest make.new ≡ M.rest make.old }
-    ensures sort { IfOk result (λ x. IsArgs (M.context make.new).trees x) }
-    ensures tree { IfOk result (λ x. args_forest (M.context make.new).trees x ≡ substituted (args_forest (M.context make.old).trees args) 0 (args_forest (M.context make.old).trees list)) }
-    ensures cause { IfErr result (λ s. IsSubstStop (length (M.context make.new).trees) (substituted (args_forest (M.context make.old).trees args) 0 (args_forest (M.context make.old).trees list)) s) }
-
-    // Laws.
-    ensures unchanged { holds is_param (args_forest (M.context make.old).trees list) ≡ false → IfOk result (λ x. args_forest (M.context make.new).trees x ≡ args_forest (M.context make.old).trees list) }
-    ensures twice { (others : Forest) → IfOk result (λ x. substituted others 0 (args_forest (M.context make.new).trees x) ≡ substituted (substituted others 0 (args_forest (M.context make.old).trees args)) 0 (args_forest (M.context make.old).trees list)) }
-    ensures height { IfOk result (λ x. heights (args_forest (M.context make.new).trees x) ≤ heights (args_forest (M.context make.old).trees list) + heights (args_forest (M.context make.old).trees args)) }
-{
-    Ok(Args(substituted(alloc, make, list.0, args)?))
-}
-
-/// The clause, under its binder, with arguments put in; what is said of `subst` holds here, too.
-pub fn subst_clause<M: Make>(
-    alloc: Global,
-    make: &mut M,
-    clause: Clause,
-    args: Args,
-) -> Result<Clause, Stop>
-    requires clause { IsClause (M.context make.old).trees clause }
-    requires args { IsArgs (M.context make.old).trees args }
-    requires there { tree_holds (lacks_argument (args_forest (M.context make.old).trees args)) (clause_tree (M.context make.old).trees clause) ≡ false }
-    ensures grows { Grows (M.context make.old) (M.context make.new) }
-    ensures rest { M.rest make.new ≡ M.rest make.old }
-    ensures sort { IfOk result (λ x. IsClause (M.context make.new).trees x) }
-    ensures tree { IfOk result (λ x. clause_tree (M.context make.new).trees x ≡ substituted_tree (args_forest (M.context make.old).trees args) (clause_tree (M.context make.old).trees clause)) }
-    ensures cause { IfErr result (λ s. IsSubstStop (length (M.context make.new).trees) (alone (substituted_tree (args_forest (M.context make.old).trees args) (clause_tree (M.context make.old).trees clause))) s) }
-
-    // Laws.
-    ensures unchanged { tree_holds is_param (clause_tree (M.context make.old).trees clause) ≡ false → IfOk result (λ x. clause_tree (M.context make.new).trees x ≡ clause_tree (M.context make.old).trees clause) }
-    ensures twice { (others : Forest) → IfOk result (λ x. substituted_tree others (clause_tree (M.context make.new).trees x) ≡ substituted_tree (substituted others 0 (args_forest (M.context make.old).trees args)) (clause_tree (M.context make.old).trees clause)) }
-    ensures height { IfOk result (λ x. height (clause_tree (M.context make.new).trees x) ≤ height (clause_tree (M.context make.old).trees clause) + heights (args_forest (M.context make.old).trees args)) }
-{
-    Ok(Clause(substituted(alloc, make, clause.0, args)?))
-}
-
-/// The signature of a closure, under its binder, with arguments put in; what is said of `subst` holds
-/// here, too.
-pub fn subst_sig<M: Make>(alloc: Global, make: &mut M, sig: Sig, args: Args) -> Result<Sig, Stop>
-    requires sig { IsSig (M.context make.old).trees sig }
-    requires args { IsArgs (M.context make.old).trees args }
-    requires there { tree_holds (lacks_argument (args_forest (M.context make.old).trees args)) (sig_tree (M.context make.old).trees sig) ≡ false }
-    ensures grows { Grows (M.context make.old) (M.context make.new) }
-    ensures rest { M.rest make.new ≡ M.rest make.old }
-    ensures sort { IfOk result (λ x. IsSig (M.context make.new).trees x) }
-    ensures tree { IfOk result (λ x. sig_tree (M.context make.new).trees x ≡ substituted_tree (args_forest (M.context make.old).trees args) (sig_tree (M.context make.old).trees sig)) }
-    ensures cause { IfErr result (λ s. IsSubstStop (length (M.context make.new).trees) (alone (substituted_tree (args_forest (M.context make.old).trees args) (sig_tree (M.context make.old).trees sig))) s) }
-
-    // Laws.
-    ensures unchanged { tree_holds is_param (sig_tree (M.context make.old).trees sig) ≡ false → IfOk result (λ x. sig_tree (M.context make.new).trees x ≡ sig_tree (M.context make.old).trees sig) }
-    ensures twice { (others : Forest) → IfOk result (λ x. substituted_tree others (sig_tree (M.context make.new).trees x) ≡ substituted_tree (substituted others 0 (args_forest (M.context make.old).trees args)) (sig_tree (M.context make.old).trees sig)) }
-    ensures height { IfOk result (λ x. height (sig_tree (M.context make.new).trees x) ≤ height (sig_tree (M.context make.old).trees sig) + heights (args_forest (M.context make.old).trees args)) }
-{
-    Ok(Sig(substituted(alloc, make, sig.0, args)?))
-}
-
-/// The environment, with arguments put in; what is said of `subst` holds here, too.
-pub fn subst_env<M: Make>(
-    alloc: Global,
-    make: &mut M,
-    env: ParamEnv,
-    args: Args,
-) -> Result<ParamEnv, Stop>
-    requires env { IsParamEnv (M.context make.old).trees env }
-    requires args { IsArgs (M.context make.old).trees args }
-    requires there { holds (lacks_argument (args_forest (M.context make.old).trees args)) (env_forest (M.context make.old).trees env) ≡ false }
-    ensures grows { Grows (M.context make.old) (M.context make.new) }
-    ensures rest { M.rest make.new ≡ M.rest make.old }
-    ensures sort { IfOk result (λ x. IsParamEnv (M.context make.new).trees x) }
-    ensures tree { IfOk result (λ x. env_forest (M.context make.new).trees x ≡ substituted (args_forest (M.context make.old).trees args) 0 (env_forest (M.context make.old).trees env)) }
-    ensures cause { IfErr result (λ s. IsSubstStop (length (M.context make.new).trees) (substituted (args_forest (M.context make.old).trees args) 0 (env_forest (M.context make.old).trees env)) s) }
-
-    // Laws.
-    ensures unchanged { holds is_param (env_forest (M.context make.old).trees env) ≡ false → IfOk result (λ x. env_forest (M.context make.new).trees x ≡ env_forest (M.context make.old).trees env) }
-    ensures twice { (others : Forest) → IfOk result (λ x. substituted others 0 (env_forest (M.context make.new).trees x) ≡ substituted (substituted others 0 (args_forest (M.context make.old).trees args)) 0 (env_forest (M.context make.old).trees env)) }
-    ensures height { IfOk result (λ x. heights (env_forest (M.context make.new).trees x) ≤ heights (env_forest (M.context make.old).trees env) + heights (args_forest (M.context make.old).trees args)) }
-{
-    Ok(ParamEnv(substituted(alloc, make, env.0, args)?))
-}
-
-/// The reference, with arguments put into its own; what is said of `subst` holds here, too.
-pub fn subst_trait_ref<M: Make>(
-    alloc: Global,
-    make: &mut M,
-    trait_ref: TraitRef,
-    args: Args,
-) -> Result<TraitRef, Stop>
-    requires list { IsArgs (M.context make.old).trees trait_ref.args }
-    requires args { IsArgs (M.context make.old).trees args }
-    requires there { holds (lacks_argument (args_forest (M.context make.old).trees args)) (args_forest (M.context make.old).trees trait_ref.args) ≡ false }
-    ensures grows { Grows (M.context make.old) (M.context make.new) }
-    ensures rest { M.rest make.new ≡ M.rest make.old }
-    ensures sort { IfOk result (λ r. IsArgs (M.context make.new).trees r.args) }
-    ensures same { IfOk result (λ r. r.def_id ≡ trait_ref.def_id) }
-    ensures tree { IfOk result (λ r. args_forest (M.context make.new).trees r.args ≡ substituted (args_forest (M.context make.old).trees args) 0 (args_forest (M.context make.old).trees trait_ref.args)) }
-    ensures cause { IfErr result (λ s. IsSubstStop (length (M.context make.new).trees) (substituted (args_forest (M.context make.old).trees args) 0 (args_forest (M.context make.old).trees trait_ref.args)) s) }
-
-    // Laws.
-    ensures unchanged { holds is_param (args_forest (M.context make.old).trees trait_ref.args) ≡ false → IfOk result (λ r. args_forest (M.context make.new).trees r.args ≡ args_forest (M.context make.old).trees trait_ref.args) }
-    ensures twice { (others : Forest) → IfOk result (λ r. substituted others 0 (args_forest (M.context make.new).trees r.args) ≡ substituted (substituted others 0 (args_forest (M.context make.old).trees args)) 0 (args_forest (M.context make.old).trees trait_ref.args)) }
-    ensures height { IfOk result (λ r. heights (args_forest (M.context make.new).trees r.args) ≤ heights (args_forest (M.context make.old).trees trait_ref.args) + heights (args_forest (M.context make.old).trees args)) }
-{
-    Ok(TraitRef {
-        def_id: trait_ref.def_id,
-        args: subst_args(alloc, make, trait_ref.args, args)?,
-    })
+    let number = substituted(alloc, make, value.number(), args)?;
+    Ok(value.with_number(number))
 }

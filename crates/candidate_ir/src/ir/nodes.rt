@@ -6,14 +6,14 @@ ghost use Rattle.candidate_ir.specs.Nodes.{tree_at, kind_at, node_tree, head_of,
 ghost use Rattle.candidate_ir.specs.Table.{IsNodeOf, IsRow, HasOnePrincipal};
 ghost use Rattle.candidate_ir.specs.Names.{principals};
 ghost use Rattle.candidate_ir.specs.Worlds.{World};
-ghost use Rattle.candidate_ir.specs.Making.{Adds, a_type, a_constant, a_region, a_list, a_binder, some_bounds, a_signature, a_clause, an_environment};
+ghost use Rattle.candidate_ir.specs.Making.{Adds, a_list, a_binder, some_bounds, what};
 ghost use Rattle.candidate_ir.specs.References.{Takes, AllTake, AllFit};
 ghost use Rattle.candidate_ir.specs.Words.{IsTy, IsConst, IsRegion, IsArgs, IsPreds, IsSig, IsClause, IsParamEnv, IsVars, ty_tree, const_tree, region_tree, args_forest, preds_forest, sig_tree, clause_tree, env_forest, vars_tree, KindFits, ConstKindFits, ListFits, PredListFits, VarListFits, PredFits, SigFits, ClauseFits, ClauseListFits, kind_tree, const_kind_tree, region_kind_tree, list_forest, pred_list_forest, pred_kind_tree, sig_kind_tree, clause_kind_tree, clause_list_forest, vars_kind_tree, BoundsFit, AtMostOnePrincipal, bounds_forest, binder_tree, IsMkStop, IsMkListStop};
 
 use crate::ir::kinds::{
-    Args, Binder, Clause, ClauseKind, ClosureSig, Const, ConstKind, ExistentialPredicate,
-    GenericArg, ParamEnv, Pred, Preds, Region, RegionKind, Sig, Ty, TyKind, Var, VarKind, Vars,
+    Args, Binder, ExistentialPredicate, GenericArg, Pred, Preds, Var, VarKind, Vars,
 };
+use crate::ir::making::New;
 use crate::ir::node::{Node, Row};
 use crate::ir::stop::Stop;
 use crate::ir::trees::Trees;
@@ -149,38 +149,29 @@ impl Nodes {
         self.push(Row { node, height })
     }
 
-    /// The type of that kind.
-    #[inline(never)]
-    pub(crate) fn mk_ty(&mut self, kind: TyKind) -> Result<Ty, Stop>
-        requires { KindFits self.old kind }
-        ensures { Adds (a_type kind) self.old self.new result }
+    /// The number of what is made. It is inlined, too.
+    #[inline(always)]
+    pub(crate) fn make(&mut self, new: New<'_>) -> Result<u32, Stop>
+        requires { (what new).making.fits self.old }
+        ensures { Adds (what new.entry).making self.old self.new result }
     {
-        Ok(Ty(self.add(Node::Ty(kind))?))
-    }
-
-    /// The constant of that kind.
-    pub(crate) fn mk_const(&mut self, kind: ConstKind) -> Result<Const, Stop>
-        requires { ConstKindFits self.old kind }
-        ensures { Adds (a_constant kind) self.old self.new result }
-    {
-        Ok(Const(self.add(Node::Const(kind))?))
-    }
-
-    /// The region of that kind.
-    #[inline(never)]
-    pub(crate) fn mk_region(&mut self, kind: RegionKind) -> Result<Region, Stop>
-        ensures { Adds (a_region kind) self.old self.new result }
-    {
-        Ok(Region(self.add(Node::Region(kind))?))
-    }
-
-    /// The list of these arguments.
-    pub(crate) fn mk_args(&mut self, list: &[GenericArg]) -> Result<Args, Stop>
-        requires { ListFits self.old list.now }
-        ensures { Adds (a_list list.now) self.old self.new result }
-    {
-        let list = list.to_vec(*self.rows.allocator())?;
-        self.mk_arg_list(list)
+        match new {
+            New::Ty(kind) => self.add(Node::Ty(kind)),
+            New::Const(kind) => self.add(Node::Const(kind)),
+            New::Region(kind) => self.add(Node::Region(kind)),
+            New::Args(list) => {
+                let list = list.to_vec(*self.rows.allocator())?;
+                self.add(Node::Args(list))
+            }
+            New::Vars(kinds) => Ok(self.mk_vars(kinds)?.0),
+            New::Preds(bounds) => Ok(self.mk_preds(bounds)?.0),
+            New::Sig(sig) => self.add(Node::Sig(sig)),
+            New::Clause(clause) => self.add(Node::Clause(clause)),
+            New::ParamEnv(clauses) => {
+                let clauses = clauses.to_vec(*self.rows.allocator())?;
+                self.add(Node::Clauses(clauses))
+            }
+        }
     }
 
     /// The list of these arguments, which it takes.
@@ -224,10 +215,7 @@ impl Nodes {
     }
 
     /// The bounds of a `dyn` type, with a node for each and one for the list.
-    pub(crate) fn mk_preds(
-        &mut self,
-        bounds: &[Binder<ExistentialPredicate>],
-    ) -> Result<Preds, Stop>
+    fn mk_preds(&mut self, bounds: &[Binder<ExistentialPredicate>]) -> Result<Preds, Stop>
         requires fit { BoundsFit self.old bounds.now }
         requires principal { AtMostOnePrincipal bounds.now }
         ensures { Adds (some_bounds bounds.now) self.old self.new result }
@@ -255,32 +243,6 @@ impl Nodes {
         Ok(Vars(self.add(Node::Vars(list))?))
     }
 
-    /// The signature of a closure.
-    pub(crate) fn mk_sig(&mut self, sig: Binder<ClosureSig>) -> Result<Sig, Stop>
-        requires { SigFits self.old sig }
-        ensures { Adds (a_signature sig) self.old self.new result }
-    {
-        Ok(Sig(self.add(Node::Sig(sig))?))
-    }
-
-    /// The clause under its binder.
-    #[inline(never)]
-    pub(crate) fn mk_clause(&mut self, clause: Binder<ClauseKind>) -> Result<Clause, Stop>
-        requires { ClauseFits self.old clause }
-        ensures { Adds (a_clause clause) self.old self.new result }
-    {
-        Ok(Clause(self.add(Node::Clause(clause))?))
-    }
-
-    /// The environment of these clauses.
-    pub(crate) fn mk_param_env(&mut self, clauses: &[Clause]) -> Result<ParamEnv, Stop>
-        requires { ClauseListFits self.old clauses.now }
-        ensures { Adds (an_environment clauses.now) self.old self.new result }
-    {
-        let clauses = clauses.to_vec(*self.rows.allocator())?;
-        Ok(ParamEnv(self.add(Node::Clauses(clauses))?))
-    }
-
     fn add_vars(&mut self, kinds: &[VarKind]) -> Result<Vars, Stop>
         ensures kept { Extends self.old self.new }
         ensures fit { IfOk result (λ _. (w : World) → AllFit w self.old → AllFit w self.new) }
@@ -297,7 +259,7 @@ impl Nodes {
     }
 
     /// The variables of a binder, with a node for each and one for the list.
-    pub(crate) fn mk_vars(&mut self, kinds: &[VarKind]) -> Result<Vars, Stop>
+    fn mk_vars(&mut self, kinds: &[VarKind]) -> Result<Vars, Stop>
         ensures { Adds (a_binder kinds.now) self.old self.new result }
     {
         let len = self.len();

@@ -1,10 +1,11 @@
 //! Numbers whose type says what stands there.
 
-ghost use Rattle.std.specs.Prelude.{◌≡◌, ℕ, true, refl};
+ghost use Rattle.std.specs.Prelude.{◌≡◌, ℕ, true, false, refl};
 ghost use Rattle.candidate_ir.specs.Kinds.{arg_kind, arg_number, arg_there};
-ghost use Rattle.candidate_ir.specs.Trees.{Kind, TypeKind, ConstantKind, RegionKind, ArgumentsKind, ClauseKind, ClausesKind, there};
+ghost use Rattle.candidate_ir.specs.Nodes.{arg_unbound, is_bound_kind};
+ghost use Rattle.candidate_ir.specs.Trees.{Kind, TypeKind, ConstantKind, RegionKind, SignatureKind, ArgumentsKind, ClauseKind, ClausesKind, there};
 
-use crate::ir::kinds::{Args, Clause, Const, GenericArg, ParamEnv, Region, Ty};
+use crate::ir::kinds::{Args, Clause, Const, GenericArg, ParamEnv, Region, Sig, Ty};
 
 /// A number of a context whose type says what stands there.
 pub trait Numbered: Copy {
@@ -18,8 +19,16 @@ pub trait Numbered: Copy {
     fn number(self) -> u32
         ensures { result ≡ number_of self };
 
+    /// That number, for something of the same kind.
+    fn with_number(self, number: u32) -> Self
+        ensures number { number_of result ≡ number }
+        ensures kind { kind result ≡ kind self };
+
     /// It is a kind of something.
     ghost is_there: { (x : Self) → there (kind x) ≡ true };
+
+    /// It is no single bound of a `dyn` type.
+    ghost is_unbound: { (x : Self) → is_bound_kind (kind x) ≡ false };
 }
 
 impl Numbered for Ty {
@@ -31,7 +40,13 @@ impl Numbered for Ty {
         self.0
     }
 
+    fn with_number(self, number: u32) -> Ty {
+        Ty(number)
+    }
+
     ghost is_there = { λ _. refl };
+
+    ghost is_unbound = { λ _. refl };
 }
 
 impl Numbered for Const {
@@ -43,7 +58,13 @@ impl Numbered for Const {
         self.0
     }
 
+    fn with_number(self, number: u32) -> Const {
+        Const(number)
+    }
+
     ghost is_there = { λ _. refl };
+
+    ghost is_unbound = { λ _. refl };
 }
 
 impl Numbered for Region {
@@ -55,7 +76,13 @@ impl Numbered for Region {
         self.0
     }
 
+    fn with_number(self, number: u32) -> Region {
+        Region(number)
+    }
+
     ghost is_there = { λ _. refl };
+
+    ghost is_unbound = { λ _. refl };
 }
 
 impl Numbered for Args {
@@ -67,7 +94,13 @@ impl Numbered for Args {
         self.0
     }
 
+    fn with_number(self, number: u32) -> Args {
+        Args(number)
+    }
+
     ghost is_there = { λ _. refl };
+
+    ghost is_unbound = { λ _. refl };
 }
 
 impl Numbered for Clause {
@@ -79,7 +112,31 @@ impl Numbered for Clause {
         self.0
     }
 
+    fn with_number(self, number: u32) -> Clause {
+        Clause(number)
+    }
+
     ghost is_there = { λ _. refl };
+
+    ghost is_unbound = { λ _. refl };
+}
+
+impl Numbered for Sig {
+    ghost number_of = { λ x. x.0 };
+
+    ghost kind = { λ _. SignatureKind };
+
+    fn number(self) -> u32 {
+        self.0
+    }
+
+    fn with_number(self, number: u32) -> Sig {
+        Sig(number)
+    }
+
+    ghost is_there = { λ _. refl };
+
+    ghost is_unbound = { λ _. refl };
 }
 
 impl Numbered for ParamEnv {
@@ -91,7 +148,13 @@ impl Numbered for ParamEnv {
         self.0
     }
 
+    fn with_number(self, number: u32) -> ParamEnv {
+        ParamEnv(number)
+    }
+
     ghost is_there = { λ _. refl };
+
+    ghost is_unbound = { λ _. refl };
 }
 
 impl Numbered for GenericArg {
@@ -107,5 +170,15 @@ impl Numbered for GenericArg {
         }
     }
 
+    fn with_number(self, number: u32) -> GenericArg {
+        match self {
+            GenericArg::Ty(_) => GenericArg::Ty(Ty(number)),
+            GenericArg::Const(_) => GenericArg::Const(Const(number)),
+            GenericArg::Region(_) => GenericArg::Region(Region(number)),
+        }
+    }
+
     ghost is_there = { arg_there };
+
+    ghost is_unbound = { arg_unbound };
 }

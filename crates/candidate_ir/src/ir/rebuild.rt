@@ -1,7 +1,7 @@
 //! Nodes like others, over other children.
 
 ghost use Rattle.std.specs.Prelude.{◌≡◌, true, length, IfOk, map};
-ghost use Rattle.candidate_ir.specs.Kinds.{arg_number, arg_kind, numbers, numbers as child_numbers, sorts, arg_child, ty_head, ty_children, const_head, const_children, pred_head, pred_children, clause_head, clause_children, sig_children};
+ghost use Rattle.candidate_ir.specs.Kinds.{numbers, numbers as child_numbers, sorts, arg_child, ty_head, ty_children, const_head, const_children, pred_head, pred_children, clause_head, clause_children, sig_children};
 ghost use Rattle.candidate_ir.specs.Nodes.{head_of, children_of, is_rebuilt, clause_child};
 
 use crate::ir::kinds::{
@@ -10,21 +10,8 @@ use crate::ir::kinds::{
     Pattern, Preds, ProjectionPredicate, Region, Sig, TraitPredicate, TraitRef, Ty, TyKind, Vars,
 };
 use crate::ir::node::Node;
+use crate::ir::numbered::Numbered;
 use std::alloc::{AllocError, Global};
-
-impl GenericArg {
-    /// The argument of that number, of the same kind.
-    pub(crate) fn with_number(self, number: u32) -> GenericArg
-        ensures number { arg_number result ≡ number }
-        ensures sort { arg_kind result ≡ arg_kind self }
-    {
-        match self {
-            GenericArg::Ty(_) => GenericArg::Ty(Ty(number)),
-            GenericArg::Const(_) => GenericArg::Const(Const(number)),
-            GenericArg::Region(_) => GenericArg::Region(Region(number)),
-        }
-    }
-}
 
 impl TyKind {
     /// The kind over these children, which are of the same sorts.

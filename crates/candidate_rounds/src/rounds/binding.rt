@@ -23,7 +23,8 @@ use crate::rounds::inference::Inference;
 use crate::rounds::resolving::{Lone, is_same_kind};
 use candidate_eval::eval::variable::VariableKind;
 use candidate_ir::decl::context::Cx;
-use candidate_ir::decl::fold::fold_arg;
+use candidate_ir::decl::fold::fold;
+use candidate_ir::decl::make::Build;
 use candidate_ir::ir::heads::{Builtin, Flag, Head, Variable, VariableSort};
 use candidate_ir::ir::kinds::{Binder, Clause, ClauseKind, GenericArg, Region};
 use candidate_ir::ir::numbered::Numbered;
@@ -119,7 +120,7 @@ fn put_in(
     if let Some(put) = put_for(cx, variable, value, arg) {
         return Ok(put);
     }
-    fold_arg(
+    fold(
         alloc,
         cx,
         arg,

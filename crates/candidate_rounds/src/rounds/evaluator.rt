@@ -1,6 +1,6 @@
 //! The evaluator as generic code knows it. What a call says beyond its trait is in clauses of its own, beside the trait's.
 
-ghost use Rattle.std.specs.Prelude.{All, List, ◌⊎◌, ◌≡◌, ◌≢◌, ◌++◌, ◌∷◌, [], Some, None, refl, length, IfOk, IfErr, OnOk, OnErr};
+ghost use Rattle.std.specs.Prelude.{true, All, List, ◌⊎◌, ◌≡◌, ◌≢◌, ◌++◌, ◌∷◌, [], Some, None, refl, length, IfOk, IfErr, OnOk, OnErr};
 ghost use Rattle.candidate_ir.specs.declared.ir.kinds.TyKind.TheVariants as K;
 ghost use Rattle.candidate_ir.specs.Context.{Grows};
 ghost use Rattle.candidate_ir.specs.Folding.{IsSubstStop};
@@ -22,9 +22,7 @@ ghost use Rattle.rounds_judge.proofs.WellListed.{keeps-the-laws};
 
 use crate::rounds::Rounds;
 use crate::rounds::fresh::Leaves;
-use crate::rounds::resolving::{
-    region_of, resolved_args, resolved_clause, resolved_const, resolved_root, resolved_ty, type_of,
-};
+use crate::rounds::resolving::{region_of, resolved, resolved_root, type_of};
 use crate::rounds::settling::MOST_PASSES;
 use candidate_eval::eval::InferCtxtLike;
 use candidate_eval::eval::certainty::Certainty;
@@ -34,61 +32,35 @@ use candidate_eval::eval::refusal::NoSolutionOrStop;
 use candidate_eval::eval::response::{CandidateHeadUsages, CanonicalResponse};
 use candidate_eval::eval::variable::VariableKind;
 use candidate_ir::decl::context::Cx;
-use candidate_ir::decl::make::Make;
+use candidate_ir::decl::make::{Build, Make};
 use candidate_ir::ir::kinds::{
     AliasTy, Args, Binder, Clause, ClauseKind, ClosureSig, Const, ConstKind, ExistentialPredicate,
     GenericArg, Goal, GoalSource, ParamEnv, Preds, Region, RegionKind, Sig, Ty, TyKind, VarKind,
     Vars,
 };
+use candidate_ir::ir::making::New;
 use candidate_ir::ir::stop::Stop;
 use candidate_ir::ir::trees::Trees;
 use std::alloc::Global;
 
-impl Make for Rounds {
+impl Build for Rounds {
     ghost context = { λ r. r.context };
 
     ghost Rest = { Rest };
 
     ghost rest = { rest };
 
+    ghost is_strict = { true };
+
+    #[inline(always)]
+    fn make(&mut self, new: New<'_>) -> Result<u32, Stop> {
+        self.cx.make(new)
+    }
+}
+
+impl Make for Rounds {
     fn cx(&self) -> &Cx {
         &self.cx
-    }
-
-    fn mk_ty(&mut self, kind: TyKind) -> Result<Ty, Stop> {
-        self.cx.mk_ty(kind)
-    }
-
-    fn mk_const(&mut self, kind: ConstKind) -> Result<Const, Stop> {
-        self.cx.mk_const(kind)
-    }
-
-    fn mk_region(&mut self, kind: RegionKind) -> Result<Region, Stop> {
-        self.cx.mk_region(kind)
-    }
-
-    fn mk_args(&mut self, list: &[GenericArg]) -> Result<Args, Stop> {
-        self.cx.mk_args(list)
-    }
-
-    fn mk_vars(&mut self, kinds: &[VarKind]) -> Result<Vars, Stop> {
-        self.cx.mk_vars(kinds)
-    }
-
-    fn mk_preds(&mut self, bounds: &[Binder<ExistentialPredicate>]) -> Result<Preds, Stop> {
-        self.cx.mk_preds(bounds)
-    }
-
-    fn mk_sig(&mut self, sig: Binder<ClosureSig>) -> Result<Sig, Stop> {
-        self.cx.mk_sig(sig)
-    }
-
-    fn mk_clause(&mut self, clause: Binder<ClauseKind>) -> Result<Clause, Stop> {
-        self.cx.mk_clause(clause)
-    }
-
-    fn mk_param_env(&mut self, clauses: &[Clause]) -> Result<ParamEnv, Stop> {
-        self.cx.mk_param_env(clauses)
     }
 }
 
@@ -144,7 +116,7 @@ impl EvalCtxt for Rounds {
         ensures reason { IfErr result (λ s. IsSubstStop (length self.new.context.trees) (alone (resolved_tree (state self.old) (ty_tree self.old.context.trees ty))) s) }
     {
         let alloc = self.allocator();
-        resolved_ty(alloc, &mut self.cx, &self.inference, ty)
+        resolved(alloc, &mut self.cx, &self.inference, ty)
     }
 
     fn resolve_const_if_possible(&mut self, constant: Const) -> Result<Const, Stop>
@@ -158,7 +130,7 @@ impl EvalCtxt for Rounds {
         ensures reason { IfErr result (λ s. IsSubstStop (length self.new.context.trees) (alone (resolved_tree (state self.old) (const_tree self.old.context.trees constant))) s) }
     {
         let alloc = self.allocator();
-        resolved_const(alloc, &mut self.cx, &self.inference, constant)
+        resolved(alloc, &mut self.cx, &self.inference, constant)
     }
 
     fn resolve_args_if_possible(&mut self, list: Args) -> Result<Args, Stop>
@@ -172,7 +144,7 @@ impl EvalCtxt for Rounds {
         ensures reason { IfErr result (λ s. IsSubstStop (length self.new.context.trees) (resolved (state self.old) (args_forest self.old.context.trees list)) s) }
     {
         let alloc = self.allocator();
-        resolved_args(alloc, &mut self.cx, &self.inference, list)
+        resolved(alloc, &mut self.cx, &self.inference, list)
     }
 
     fn resolve_clause_if_possible(&mut self, clause: Clause) -> Result<Clause, Stop>
@@ -186,7 +158,7 @@ impl EvalCtxt for Rounds {
         ensures reason { IfErr result (λ s. IsSubstStop (length self.new.context.trees) (alone (resolved_tree (state self.old) (clause_tree self.old.context.trees clause))) s) }
     {
         let alloc = self.allocator();
-        resolved_clause(alloc, &mut self.cx, &self.inference, clause)
+        resolved(alloc, &mut self.cx, &self.inference, clause)
     }
 
     fn eager_resolve_region(&self, region: Region) -> Region {

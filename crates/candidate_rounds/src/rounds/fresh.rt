@@ -11,6 +11,7 @@ ghost use Rattle.candidate_rounds.specs.Leaves.{leaf_of, all_leaves, last_number
 
 use candidate_eval::eval::variable::VariableKind;
 use candidate_ir::decl::context::Cx;
+use candidate_ir::decl::make::Build;
 use candidate_ir::ir::heads::VariableSort;
 use candidate_ir::ir::kinds::{
     Args, ConstKind, GenericArg, InferTy, Placeholder, RegionKind, TyKind, VarKind,

@@ -5,10 +5,9 @@ ghost use Rattle.candidate_ir.specs.Context.{Grows};
 ghost use Rattle.candidate_ir.specs.Folding.{IsSubstStop};
 ghost use Rattle.candidate_ir.specs.Folds.{IsArg, arg_tree};
 ghost use Rattle.candidate_ir.specs.Kinds.{arg_kind, arg_number};
-ghost use Rattle.candidate_ir.specs.Nodes.{tree_at};
-ghost use Rattle.candidate_ir.specs.Substitutions.{alone};
-ghost use Rattle.candidate_ir.specs.Trees.{RegionKind, TypeKind};
-ghost use Rattle.candidate_ir.specs.Words.{IsArgs, IsClause, IsConst, IsTy, args_forest, clause_tree, const_tree, ty_tree};
+ghost use Rattle.candidate_ir.specs.Nodes.{kind_at, tree_at};
+ghost use Rattle.candidate_ir.specs.Substitutions.{alone, row_of};
+ghost use Rattle.candidate_ir.specs.Trees.{RegionKind, TypeKind, is_list_kind};
 ghost use Rattle.candidate_eval.specs.Evaluators.{resolved_root};
 ghost use Rattle.candidate_eval.specs.Soundness.{fits_kind};
 ghost use Rattle.candidate_eval.specs.States.{resolved, resolved_tree, same_kind, value_as};
@@ -21,11 +20,9 @@ use crate::rounds::Rounds;
 use crate::rounds::inference::Inference;
 use candidate_eval::eval::variable::VariableKind;
 use candidate_ir::decl::context::Cx;
-use candidate_ir::decl::fold::{fold, fold_arg, fold_args, fold_clause, fold_const};
+use candidate_ir::decl::fold::fold;
 use candidate_ir::ir::heads::{Head, Variable, VariableSort};
-use candidate_ir::ir::kinds::{
-    Args, Clause, Const, ConstKind, GenericArg, Region, RegionKind as Kind, Ty, TyKind,
-};
+use candidate_ir::ir::kinds::{ConstKind, GenericArg, Region, RegionKind as Kind, Ty, TyKind};
 use candidate_ir::ir::numbered::Numbered;
 use candidate_ir::ir::stop::Stop;
 use candidate_ir::ir::trees::Trees;
@@ -193,52 +190,27 @@ pub(crate) fn variable_at(cx: &Cx, number: u32) -> Option<Variable>
     }
 }
 
-/// The type, with all values put in.
-pub(crate) fn resolved_ty(
+/// The type, constant, list or whatever else it is, with all values put in.
+pub(crate) fn resolved<N: Numbered>(
     alloc: Global,
     cx: &mut Cx,
     inference: &Inference,
-    ty: Ty,
-) -> Result<Ty, Stop>
-    requires ty { IsTy cx.old.trees ty }
+    value: N,
+) -> Result<N, Stop>
+    requires value { kind_at cx.old.trees (N.number_of value) ≡ N.kind value }
     requires known { IsKnown cx.old.trees inference.now }
     requires kinds { Each (SuitsKind cx.old.trees) inference.now.variables }
     ensures grows { Grows cx.old cx.new }
-    ensures sort { IfOk result (λ t. IsTy cx.new.trees t) }
-    ensures tree { (m : TypingMode) → IfOk result (λ t. ty_tree cx.new.trees t ≡ resolved_tree (state_of cx.old.trees m inference.now) (ty_tree cx.old.trees ty)) }
-    ensures cause { (m : TypingMode) → IfErr result (λ s. IsSubstStop (length cx.new.trees) (alone (resolved_tree (state_of cx.old.trees m inference.now) (ty_tree cx.old.trees ty))) s) }
+    ensures sort { IfOk result (λ x. kind_at cx.new.trees (N.number_of x) ≡ N.kind x) }
+    ensures kind { IfOk result (λ x. N.kind x ≡ N.kind value) }
+    ensures tree { (m : TypingMode) → IfOk result (λ x. tree_at cx.new.trees (N.number_of x) ≡ resolved_tree (state_of cx.old.trees m inference.now) (tree_at cx.old.trees (N.number_of value))) }
+    ensures list { is_list_kind (N.kind value) ≡ true → (m : TypingMode) → IfOk result (λ x. (tree_at cx.new.trees (N.number_of x)).children ≡ resolved (state_of cx.old.trees m inference.now) (tree_at cx.old.trees (N.number_of value)).children) }
+    ensures cause { (m : TypingMode) → IfErr result (λ s. IsSubstStop (length cx.new.trees) (resolved (state_of cx.old.trees m inference.now) (row_of (N.kind value) (tree_at cx.old.trees (N.number_of value)))) s) }
 {
     fold(
         alloc,
         cx,
-        ty,
-        move |cx: &mut Cx, arg: GenericArg, _: u32| -> Result<Option<GenericArg>, Stop>
-            requires { IsArg cx.old.trees arg }
-            ensures same { cx.new ≡ cx.old }
-            ensures answer { result ≡ Ok (kept_at inference.entry.now (arg_tree cx.old.trees arg).head) }
-        { Ok(value_for(cx, inference, arg)) },
-    )
-}
-
-/// The constant, with all values put in.
-pub(crate) fn resolved_const(
-    alloc: Global,
-    cx: &mut Cx,
-    inference: &Inference,
-    constant: Const,
-) -> Result<Const, Stop>
-    requires constant { IsConst cx.old.trees constant }
-    requires known { IsKnown cx.old.trees inference.now }
-    requires kinds { Each (SuitsKind cx.old.trees) inference.now.variables }
-    ensures grows { Grows cx.old cx.new }
-    ensures sort { IfOk result (λ x. IsConst cx.new.trees x) }
-    ensures tree { (m : TypingMode) → IfOk result (λ x. const_tree cx.new.trees x ≡ resolved_tree (state_of cx.old.trees m inference.now) (const_tree cx.old.trees constant)) }
-    ensures cause { (m : TypingMode) → IfErr result (λ s. IsSubstStop (length cx.new.trees) (alone (resolved_tree (state_of cx.old.trees m inference.now) (const_tree cx.old.trees constant))) s) }
-{
-    fold_const(
-        alloc,
-        cx,
-        constant,
+        value,
         move |cx: &mut Cx, arg: GenericArg, _: u32| -> Result<Option<GenericArg>, Stop>
             requires { IsArg cx.old.trees arg }
             ensures same { cx.new ≡ cx.old }
@@ -265,70 +237,7 @@ pub(crate) fn resolved_arg(
     if let Some(lone) = Lone::of(cx, arg) {
         return Ok(lone.value(inference).unwrap_or(arg));
     }
-    fold_arg(
-        alloc,
-        cx,
-        arg,
-        move |cx: &mut Cx, arg: GenericArg, _: u32| -> Result<Option<GenericArg>, Stop>
-            requires { IsArg cx.old.trees arg }
-            ensures same { cx.new ≡ cx.old }
-            ensures answer { result ≡ Ok (kept_at inference.entry.now (arg_tree cx.old.trees arg).head) }
-        { Ok(value_for(cx, inference, arg)) },
-    )
-}
-
-/// The list, with all values put in.
-pub(crate) fn resolved_args(
-    alloc: Global,
-    cx: &mut Cx,
-    inference: &Inference,
-    args: Args,
-) -> Result<Args, Stop>
-    requires args { IsArgs cx.old.trees args }
-    requires known { IsKnown cx.old.trees inference.now }
-    requires kinds { Each (SuitsKind cx.old.trees) inference.now.variables }
-    ensures grows { Grows cx.old cx.new }
-    ensures sort { IfOk result (λ x. IsArgs cx.new.trees x) }
-    ensures tree { (m : TypingMode) → IfOk result (λ x. args_forest cx.new.trees x ≡ resolved (state_of cx.old.trees m inference.now) (args_forest cx.old.trees args)) }
-    ensures cause { (m : TypingMode) → IfErr result (λ s. IsSubstStop (length cx.new.trees) (resolved (state_of cx.old.trees m inference.now) (args_forest cx.old.trees args)) s) }
-{
-    fold_args(
-        alloc,
-        cx,
-        args,
-        move |cx: &mut Cx, arg: GenericArg, _: u32| -> Result<Option<GenericArg>, Stop>
-            requires { IsArg cx.old.trees arg }
-            ensures same { cx.new ≡ cx.old }
-            ensures answer { result ≡ Ok (kept_at inference.entry.now (arg_tree cx.old.trees arg).head) }
-        { Ok(value_for(cx, inference, arg)) },
-    )
-}
-
-/// The clause, with all values put in.
-pub(crate) fn resolved_clause(
-    alloc: Global,
-    cx: &mut Cx,
-    inference: &Inference,
-    clause: Clause,
-) -> Result<Clause, Stop>
-    requires clause { IsClause cx.old.trees clause }
-    requires known { IsKnown cx.old.trees inference.now }
-    requires kinds { Each (SuitsKind cx.old.trees) inference.now.variables }
-    ensures grows { Grows cx.old cx.new }
-    ensures sort { IfOk result (λ x. IsClause cx.new.trees x) }
-    ensures tree { (m : TypingMode) → IfOk result (λ x. clause_tree cx.new.trees x ≡ resolved_tree (state_of cx.old.trees m inference.now) (clause_tree cx.old.trees clause)) }
-    ensures cause { (m : TypingMode) → IfErr result (λ s. IsSubstStop (length cx.new.trees) (alone (resolved_tree (state_of cx.old.trees m inference.now) (clause_tree cx.old.trees clause))) s) }
-{
-    fold_clause(
-        alloc,
-        cx,
-        clause,
-        move |cx: &mut Cx, arg: GenericArg, _: u32| -> Result<Option<GenericArg>, Stop>
-            requires { IsArg cx.old.trees arg }
-            ensures same { cx.new ≡ cx.old }
-            ensures answer { result ≡ Ok (kept_at inference.entry.now (arg_tree cx.old.trees arg).head) }
-        { Ok(value_for(cx, inference, arg)) },
-    )
+    resolved(alloc, cx, inference, arg)
 }
 
 impl Rounds {

@@ -1,12 +1,12 @@
 //! Responses: what is known of the root variables, with the variables that it leaves open numbered anew.
 
-ghost use Rattle.std.specs.Prelude.{◌≡◌, ◌<◌, ◌++◌, [], Some, None, length, map, slice_get, option_map, IfErr, IfOk, IfSome, MatchOption};
+ghost use Rattle.std.specs.Prelude.{◌≡◌, ◌<◌, ◌++◌, [], true, Some, None, length, map, slice_get, option_map, IfErr, IfOk, IfSome, MatchOption};
 ghost use Rattle.std.specs.Option.{option_to_list};
 ghost use Rattle.candidate_ir.specs.Context.{Grows};
 ghost use Rattle.candidate_ir.specs.Folds.{IsArg, IsOfKind, arg_tree};
-ghost use Rattle.candidate_ir.specs.Nodes.{tree_at};
-ghost use Rattle.candidate_ir.specs.Substitutions.{alone};
-ghost use Rattle.candidate_ir.specs.Trees.{variable_number};
+ghost use Rattle.candidate_ir.specs.Nodes.{kind_at, tree_at};
+ghost use Rattle.candidate_ir.specs.Substitutions.{alone, row_of};
+ghost use Rattle.candidate_ir.specs.Trees.{is_list_kind, variable_number};
 ghost use Rattle.candidate_ir.specs.Words.{ClauseListFits, IsArgs, IsClause, args_forest, clause_tree};
 ghost use Rattle.candidate_eval.specs.ResponseTrees.{IsResponse, response_of};
 ghost use Rattle.candidate_eval.specs.States.{resolved_tree, variable};
@@ -21,12 +21,12 @@ ghost use Rattle.rounds_judge.specs.Responding.{constraints, is_seen, place_of, 
 use crate::rounds::Rounds;
 use crate::rounds::fresh::variable;
 use crate::rounds::inference::Inference;
-use crate::rounds::resolving::{Lone, resolved_clause};
+use crate::rounds::resolving::{Lone, resolved};
 use candidate_eval::eval::certainty::Certainty;
 use candidate_eval::eval::response::CanonicalResponse;
 use candidate_eval::eval::variable::{CanonicalVar, VariableKind};
 use candidate_ir::decl::context::Cx;
-use candidate_ir::decl::fold::{fold_args, fold_clause};
+use candidate_ir::decl::fold::fold;
 use candidate_ir::ir::heads::VariableSort;
 use candidate_ir::ir::kinds::{Args, Clause, ConstKind, GenericArg, RegionKind, TyKind};
 use candidate_ir::ir::numbered::Numbered;
@@ -196,7 +196,7 @@ fn constraints(alloc: Global, cx: &mut Cx, inference: &Inference) -> Result<Vec<
     let regions = inference.regions();
     let mut list = Vec::new(alloc);
     for i in 0..regions.len() {
-        list.push(resolved_clause(alloc, cx, inference, regions[i])?)?;
+        list.push(resolved(alloc, cx, inference, regions[i])?)?;
     }
     Ok(list)
 }
@@ -246,8 +246,32 @@ fn renumbered_at(cx: &mut Cx, numbers: &[u32], arg: GenericArg) -> Result<Option
     Ok(Some(variable(cx, kind, place as u32)?))
 }
 
-/// The list, whose variables all have these numbers, with its variables numbered anew; where there are none it stays as it is. What is
-/// said of `Rounds::resolve_ty_if_possible` holds here, too, and of `renumbered_at`.
+/// The list, clause or whatever else it is, whose variables all have these numbers, with its variables numbered anew. What is said
+/// of `Rounds::resolve_ty_if_possible` holds here, too, and of `renumbered_at`.
+fn renumbered<N: Numbered>(alloc: Global, cx: &mut Cx, numbers: &[u32], value: N) -> Result<N, Stop>
+    requires { kind_at cx.old.trees (N.number_of value) ≡ N.kind value }
+    ensures grows { Grows cx.old cx.new }
+    ensures sort { IfOk result (λ x. kind_at cx.new.trees (N.number_of x) ≡ N.kind x) }
+    ensures kind { IfOk result (λ x. N.kind x ≡ N.kind value) }
+    ensures tree { IfOk result (λ x. tree_at cx.new.trees (N.number_of x) ≡ renumbered_tree numbers.now (tree_at cx.old.trees (N.number_of value))) }
+    ensures list { is_list_kind (N.kind value) ≡ true → IfOk result (λ x. (tree_at cx.new.trees (N.number_of x)).children ≡ renumbered numbers.now (tree_at cx.old.trees (N.number_of value)).children) }
+    ensures cause { IfErr result (λ s. IsRenumberingStop (length numbers.now) (length cx.new.trees) (renumbered numbers.now (row_of (N.kind value) (tree_at cx.old.trees (N.number_of value)))) s) }
+{
+    fold(
+        alloc,
+        cx,
+        value,
+        move |cx: &mut Cx, arg: GenericArg, _: u32| -> Result<Option<GenericArg>, Stop>
+            requires { IsArg cx.old.trees arg }
+            ensures grows { Grows cx.old cx.new }
+            ensures kind { IfOk result (λ o. IsOfKind cx.new.trees arg o) }
+            ensures answer { IfOk result (λ o. option_map (arg_tree cx.new.trees) o ≡ renumbered_at numbers.entry.now (arg_tree cx.old.trees arg)) }
+            ensures cause { IfErr result (λ s. IsNewNumberStop (length numbers.entry.now) (length cx.new.trees) (renumbered_at numbers.entry.now (arg_tree cx.old.trees arg)) s) }
+        { renumbered_at(cx, numbers, arg) },
+    )
+}
+
+/// The list, numbered anew so; where there are no numbers it stays as it is.
 fn numbered_args(alloc: Global, cx: &mut Cx, numbers: &[u32], args: Args) -> Result<Args, Stop>
     requires args { IsArgs cx.old.trees args }
     requires all { numbers.now ≡ [] → with_numbers [] (args_forest cx.old.trees args) ≡ [] }
@@ -259,45 +283,7 @@ fn numbered_args(alloc: Global, cx: &mut Cx, numbers: &[u32], args: Args) -> Res
     if numbers.is_empty() {
         return Ok(args);
     }
-    fold_args(
-        alloc,
-        cx,
-        args,
-        move |cx: &mut Cx, arg: GenericArg, _: u32| -> Result<Option<GenericArg>, Stop>
-            requires { IsArg cx.old.trees arg }
-            ensures grows { Grows cx.old cx.new }
-            ensures kind { IfOk result (λ o. IsOfKind cx.new.trees arg o) }
-            ensures answer { IfOk result (λ o. option_map (arg_tree cx.new.trees) o ≡ renumbered_at numbers.entry.now (arg_tree cx.old.trees arg)) }
-            ensures cause { IfErr result (λ s. IsNewNumberStop (length numbers.entry.now) (length cx.new.trees) (renumbered_at numbers.entry.now (arg_tree cx.old.trees arg)) s) }
-        { renumbered_at(cx, numbers, arg) },
-    )
-}
-
-/// The same of a clause.
-fn renumbered_clause(
-    alloc: Global,
-    cx: &mut Cx,
-    numbers: &[u32],
-    clause: Clause,
-) -> Result<Clause, Stop>
-    requires { IsClause cx.old.trees clause }
-    ensures grows { Grows cx.old cx.new }
-    ensures sort { IfOk result (λ x. IsClause cx.new.trees x) }
-    ensures tree { IfOk result (λ x. clause_tree cx.new.trees x ≡ renumbered_tree numbers.now (clause_tree cx.old.trees clause)) }
-    ensures cause { IfErr result (λ s. IsRenumberingStop (length numbers.now) (length cx.new.trees) (alone (renumbered_tree numbers.now (clause_tree cx.old.trees clause))) s) }
-{
-    fold_clause(
-        alloc,
-        cx,
-        clause,
-        move |cx: &mut Cx, arg: GenericArg, _: u32| -> Result<Option<GenericArg>, Stop>
-            requires { IsArg cx.old.trees arg }
-            ensures grows { Grows cx.old cx.new }
-            ensures kind { IfOk result (λ o. IsOfKind cx.new.trees arg o) }
-            ensures answer { IfOk result (λ o. option_map (arg_tree cx.new.trees) o ≡ renumbered_at numbers.entry.now (arg_tree cx.old.trees arg)) }
-            ensures cause { IfErr result (λ s. IsNewNumberStop (length numbers.entry.now) (length cx.new.trees) (renumbered_at numbers.entry.now (arg_tree cx.old.trees arg)) s) }
-        { renumbered_at(cx, numbers, arg) },
-    )
+    renumbered(alloc, cx, numbers, args)
 }
 
 /// The clauses, with their variables numbered anew.
@@ -315,7 +301,7 @@ fn renumbered_clauses(
 {
     let mut list = Vec::new(alloc);
     for i in 0..clauses.len() {
-        list.push(renumbered_clause(alloc, cx, numbers, clauses[i])?)?;
+        list.push(renumbered(alloc, cx, numbers, clauses[i])?)?;
     }
     Ok(list)
 }

@@ -20,6 +20,7 @@ use crate::rounds::inference::Entry;
 use candidate_eval::eval::certainty::Certainty;
 use candidate_eval::eval::context::EvalCtxt;
 use candidate_eval::eval::refusal::NoSolutionOrStop;
+use candidate_ir::decl::make::Build;
 use candidate_ir::decl::open::{binder_kinds, open_clause};
 use candidate_ir::ir::kinds::{
     AliasTy, Clause, ClauseKind, GenericArg, Goal, GoalSource, ProjectionPredicate, Ty, TyKind,

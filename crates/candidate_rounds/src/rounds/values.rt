@@ -21,7 +21,8 @@ use crate::rounds::Rounds;
 use crate::rounds::inference::Inference;
 use crate::rounds::resolving::{resolved_arg, resolved_root};
 use candidate_ir::decl::context::Cx;
-use candidate_ir::decl::fold::fold_arg;
+use candidate_ir::decl::fold::fold;
+use candidate_ir::decl::make::Build;
 use candidate_ir::ir::heads::{ConstHead, Head};
 use candidate_ir::ir::kinds::{GenericArg, Placeholder, Region, RegionKind, Ty};
 use candidate_ir::ir::numbered::Numbered;
@@ -74,7 +75,7 @@ fn normalized(
     if normal.is_empty() {
         return Ok(arg);
     }
-    fold_arg(
+    fold(
         alloc,
         cx,
         arg,
@@ -158,7 +159,7 @@ fn placed(
     if universes.is_empty() {
         return Ok(arg);
     }
-    fold_arg(
+    fold(
         alloc,
         cx,
         arg,

@@ -17,7 +17,7 @@ first_local_ty-requires-clause-args g c = (args-kept _ _ c.args.trait_ref.args c
 pub first_local_ty-requires-clause-normaliser : goal.first_local_ty-requires-clause-normaliser
 first_local_ty-requires-clause-normaliser g c =
     let first = rw c.in-Err-Uncovered.field-0-is at c.in-Err-Uncovered.ensures in
-    normalizer-left g.C.Make.context g.F.FnMut first.calls (uncovered-ends _ _ refl) c.requires.normaliser
+    normalizer-left g.C.Build.context g.F.FnMut first.calls (uncovered-ends _ _ refl) c.requires.normaliser
 
 pub returns-in-Ok-first_local_ty-clause-types : goal.returns-in-Ok-first_local_ty-clause-types
 returns-in-Ok-first_local_ty-clause-types g c =
@@ -28,12 +28,12 @@ pub returns-in-Ok-first_local_ty-clause-answer : goal.returns-in-Ok-first_local_
 returns-in-Ok-first_local_ty-clause-answer g c = record {
   at = λ d h told.
       let see = view (λ s u. g.C.InferCtxtLike.resolved s.1 u) d.normal in
-      let last = g.C.Make.context c.first_local_ty.new.infcx in
+      let last = g.C.Build.context c.first_local_ty.new.infcx in
       let first = rw c.in-Err-Uncovered.field-0-is at c.in-Err-Uncovered.ensures in
-      let later = function-left g.C.Make.context g.F.FnMut first.calls (uncovered-ends _ _ refl) g.C.InferCtxtLike.resolved d h in
+      let later = function-left g.C.Build.context g.F.FnMut first.calls (uncovered-ends _ _ refl) g.C.InferCtxtLike.resolved d h in
       let checked : Tree → Checked (g.row.F.Denot × g.row.C.Denot) (Answer g.row.E.Denot) =
       λ t. record { answer = second_answer last.trees t (Ok c.in-Ok-first_local_ty.local_ty); after = d.stands (c.first_local_ty.new.normalize, c.first_local_ty.new.infcx) } in
-      let e = uncovered-checked (g.C.Make.context c.args.infcx.now) (g.C.Make.context c.visit_args.new.infcx) last
+      let e = uncovered-checked (g.C.Build.context c.args.infcx.now) (g.C.Build.context c.visit_args.new.infcx) last
       c.visit_args.ensures.calls.grows c.first_local_ty.ensures.calls.grows c.args.in_crate see depth_limit c.args.trait_ref.args c.requires.args
       (d.stands (c.args.normalize.now, c.args.infcx.now)) (d.stands (c.visit_args.new.normalize, c.visit_args.new.infcx)) c.in-Err-Uncovered.uncovered first.exit
       (first.outcome d h (λ z o. uncovered-is-no-stop _ z)) checked
@@ -45,12 +45,12 @@ pub returns-in-Err-Uncovered-clause-answer : goal.returns-in-Err-Uncovered-claus
 returns-in-Err-Uncovered-clause-answer g c = record {
   at = λ d h told.
       let see = view (λ s u. g.C.InferCtxtLike.resolved s.1 u) d.normal in
-      let last = g.C.Make.context c.first_local_ty.new.infcx in
+      let last = g.C.Build.context c.first_local_ty.new.infcx in
       let first = rw c.in-Err-Uncovered.field-0-is at c.in-Err-Uncovered.ensures in
-      let later = function-left g.C.Make.context g.F.FnMut first.calls (uncovered-ends _ _ refl) g.C.InferCtxtLike.resolved d h in
+      let later = function-left g.C.Build.context g.F.FnMut first.calls (uncovered-ends _ _ refl) g.C.InferCtxtLike.resolved d h in
       let checked : Tree → Checked (g.row.F.Denot × g.row.C.Denot) (Answer g.row.E.Denot) =
       λ t. record { answer = second_answer last.trees t (Err c.in-Err.stop); after = d.stands (c.first_local_ty.new.normalize, c.first_local_ty.new.infcx) } in
-      let e = uncovered-checked (g.C.Make.context c.args.infcx.now) (g.C.Make.context c.visit_args.new.infcx) last
+      let e = uncovered-checked (g.C.Build.context c.args.infcx.now) (g.C.Build.context c.visit_args.new.infcx) last
       c.visit_args.ensures.calls.grows c.first_local_ty.ensures.calls.grows c.args.in_crate see depth_limit c.args.trait_ref.args c.requires.args
       (d.stands (c.args.normalize.now, c.args.infcx.now)) (d.stands (c.visit_args.new.normalize, c.visit_args.new.infcx)) c.in-Err-Uncovered.uncovered first.exit
       (first.outcome d h (λ z o. uncovered-is-no-stop _ z)) checked
@@ -61,34 +61,34 @@ returns-in-Err-Uncovered-clause-answer g c = record {
 pub returns-in-Ok-first_local_ty-clause-calls : goal.returns-in-Ok-first_local_ty-clause-calls
 returns-in-Ok-first_local_ty-clause-calls g c =
     let first = rw c.in-Err-Uncovered.field-0-is at c.in-Err-Uncovered.ensures in
-    left-then g.C.Make.context g.F.FnMut first.calls (uncovered-ends _ _ refl)
+    left-then g.C.Build.context g.F.FnMut first.calls (uncovered-ends _ _ refl)
     (λ s e. absurd (second-ends _ s e)) (λ s e. absurd (check-ends _ s e)) c.in-Ok-first_local_ty.ensures.calls
 
 pub returns-in-Err-Uncovered-clause-calls : goal.returns-in-Err-Uncovered-clause-calls
 returns-in-Err-Uncovered-clause-calls g c =
     let first = rw c.in-Err-Uncovered.field-0-is at c.in-Err-Uncovered.ensures in
-    left-then g.C.Make.context g.F.FnMut first.calls (uncovered-ends _ _ refl)
+    left-then g.C.Build.context g.F.FnMut first.calls (uncovered-ends _ _ refl)
     (second-stops _) (stops-second _) c.in-Err.ensures.calls
 
 pub returns-in-Ok-clause-calls : goal.returns-in-Ok-clause-calls
-returns-in-Ok-clause-calls g c = left-same g.C.Make.context g.F.FnMut depth_limit _ _ _ _ _ _ (λ s e. absurd (walk-goes-on _ s e)) (λ s e. absurd (check-ends _ s e)) c.in-Ok.ensures.calls
+returns-in-Ok-clause-calls g c = left-same g.C.Build.context g.F.FnMut depth_limit _ _ _ _ _ _ (λ s e. absurd (walk-goes-on _ s e)) (λ s e. absurd (check-ends _ s e)) c.in-Ok.ensures.calls
 
 pub returns-in-Err-Local-clause-calls : goal.returns-in-Err-Local-clause-calls
 returns-in-Err-Local-clause-calls g c =
-    left-same g.C.Make.context g.F.FnMut depth_limit _ _ _ _ _ _
+    left-same g.C.Build.context g.F.FnMut depth_limit _ _ _ _ _ _
     (λ s e. absurd (local-ends _ _ c.in-Err-Local.field-0-is s e)) (λ s e. absurd (check-ends _ s e)) c.in-Err-Local.ensures.calls
 
 pub returns-clause-calls : goal.returns-clause-calls
 returns-clause-calls g c =
     let i = c.in-Err-Broken.field-0-is in
-    left-same g.C.Make.context g.F.FnMut depth_limit _ _ _ _ _ _ (walk-stops _ _ i) (stops-walk _ _ i) c.in-Err-Broken.ensures.calls
+    left-same g.C.Build.context g.F.FnMut depth_limit _ _ _ _ _ _ (walk-stops _ _ i) (stops-walk _ _ i) c.in-Err-Broken.ensures.calls
 
 pub returns-in-Ok-clause-answer : goal.returns-in-Ok-clause-answer
 returns-in-Ok-clause-answer g c = record {
   at = λ d h told.
-      passed-checked (g.C.Make.context c.args.infcx.now) c.args.in_crate (view (λ s u. g.C.InferCtxtLike.resolved s.1 u) d.normal) depth_limit
-      (args_forest (g.C.Make.context c.args.infcx.now).trees c.args.trait_ref.args) (d.stands (c.args.normalize.now, c.args.infcx.now))
-      (d.stands (c.visit_args.new.normalize, c.visit_args.new.infcx)) (g.C.Make.context c.visit_args.new.infcx).trees
+      passed-checked (g.C.Build.context c.args.infcx.now) c.args.in_crate (view (λ s u. g.C.InferCtxtLike.resolved s.1 u) d.normal) depth_limit
+      (args_forest (g.C.Build.context c.args.infcx.now).trees c.args.trait_ref.args) (d.stands (c.args.normalize.now, c.args.infcx.now))
+      (d.stands (c.visit_args.new.normalize, c.visit_args.new.infcx)) (g.C.Build.context c.visit_args.new.infcx).trees
       _ _ refl refl c.new.ensures.items (c.in-Ok.ensures.outcome d h);
 }
 
@@ -96,9 +96,9 @@ pub returns-in-Err-Local-clause-answer : goal.returns-in-Err-Local-clause-answer
 returns-in-Err-Local-clause-answer g c = record {
   at = λ d h told.
       let first = rw c.in-Err-Local.field-0-is at c.in-Err-Local.ensures in
-      local-checked (g.C.Make.context c.args.infcx.now) c.args.in_crate (view (λ s u. g.C.InferCtxtLike.resolved s.1 u) d.normal) depth_limit
-      (args_forest (g.C.Make.context c.args.infcx.now).trees c.args.trait_ref.args) (d.stands (c.args.normalize.now, c.args.infcx.now))
-      (d.stands (c.visit_args.new.normalize, c.visit_args.new.infcx)) (g.C.Make.context c.visit_args.new.infcx).trees
+      local-checked (g.C.Build.context c.args.infcx.now) c.args.in_crate (view (λ s u. g.C.InferCtxtLike.resolved s.1 u) d.normal) depth_limit
+      (args_forest (g.C.Build.context c.args.infcx.now).trees c.args.trait_ref.args) (d.stands (c.args.normalize.now, c.args.infcx.now))
+      (d.stands (c.visit_args.new.normalize, c.visit_args.new.infcx)) (g.C.Build.context c.visit_args.new.infcx).trees
       _ (first.outcome d h (λ z o. local-is-no-stop _ z));
 }
 
@@ -106,9 +106,9 @@ pub returns-clause-answer : goal.returns-clause-answer
 returns-clause-answer g c = record {
   at = λ d h told.
       let first = rw c.in-Err-Broken.field-0-is at c.in-Err-Broken.ensures in
-      broken-checked (g.C.Make.context c.args.infcx.now) c.args.in_crate (view (λ s u. g.C.InferCtxtLike.resolved s.1 u) d.normal) depth_limit
-      (args_forest (g.C.Make.context c.args.infcx.now).trees c.args.trait_ref.args) (d.stands (c.args.normalize.now, c.args.infcx.now))
-      (d.stands (c.visit_args.new.normalize, c.visit_args.new.infcx)) (g.C.Make.context c.visit_args.new.infcx).trees
+      broken-checked (g.C.Build.context c.args.infcx.now) c.args.in_crate (view (λ s u. g.C.InferCtxtLike.resolved s.1 u) d.normal) depth_limit
+      (args_forest (g.C.Build.context c.args.infcx.now).trees c.args.trait_ref.args) (d.stands (c.args.normalize.now, c.args.infcx.now))
+      (d.stands (c.visit_args.new.normalize, c.visit_args.new.infcx)) (g.C.Build.context c.visit_args.new.infcx).trees
       c.in-Err-Broken.stop (first.outcome d h (λ z o x. told z o (broken-stops _ z x)));
 }
 
@@ -151,7 +151,7 @@ pub returns-in-Ok-first_local_ty-clause-first_input_once : goal.returns-in-Ok-fi
 returns-in-Ok-first_local_ty-clause-first_input_once g c = λ l e. absurd (uncovered-no-list _ _ l e)
 
 pub returns-in-Err-Uncovered-clause-first_input_once : goal.returns-in-Err-Uncovered-clause-first_input_once
-returns-in-Err-Uncovered-clause-first_input_once g c = λ l e. absurd (stop-no-list (g.C.Make.context c.first_local_ty.new.infcx).trees (O.Stop c.in-Err.stop) l e)
+returns-in-Err-Uncovered-clause-first_input_once g c = λ l e. absurd (stop-no-list (g.C.Build.context c.first_local_ty.new.infcx).trees (O.Stop c.in-Err.stop) l e)
 
 pub returns-clause-first_input_once : goal.returns-clause-first_input_once
-returns-clause-first_input_once g c = λ l e. absurd (stop-no-list (g.C.Make.context c.visit_args.new.infcx).trees c.in-Err-Broken.stop l e)
+returns-clause-first_input_once g c = λ l e. absurd (stop-no-list (g.C.Build.context c.visit_args.new.infcx).trees c.in-Err-Broken.stop l e)

@@ -4,14 +4,14 @@ use Rattle.candidate_eval.proofs.walk.normalized.Goals as goal
 
 pub returns-clause-grows : goal.returns-clause-grows
 returns-clause-grows g c =
-    (call-keeps g.C.Make.context g.F.FnMut _ _ c.args.ty _ _ _ c.requires.normaliser.keeps c.requires.ty (omega arith) c.normalize.ensures).0
+    (call-keeps g.C.Build.context g.F.FnMut _ _ c.args.ty _ _ _ c.requires.normaliser.keeps c.requires.ty (omega arith) c.normalize.ensures).0
 
 pub returns-clause-sort : goal.returns-clause-sort
 returns-clause-sort g c =
-    (call-keeps g.C.Make.context g.F.FnMut _ _ c.args.ty _ _ _ c.requires.normaliser.keeps c.requires.ty (omega arith) c.normalize.ensures).1
+    (call-keeps g.C.Build.context g.F.FnMut _ _ c.args.ty _ _ _ c.requires.normaliser.keeps c.requires.ty (omega arith) c.normalize.ensures).1
 
 pub returns-clause-answer : goal.returns-clause-answer
-returns-clause-answer g c = call-shows g.C.Make.context g.F.FnMut _ _ c.args.ty _ _ _ c.requires.ty (omega arith) c.normalize.ensures g.C.InferCtxtLike.resolved
+returns-clause-answer g c = call-shows g.C.Build.context g.F.FnMut _ _ c.args.ty _ _ _ c.requires.ty (omega arith) c.normalize.ensures g.C.InferCtxtLike.resolved
 
 pub returns-clause-call : goal.returns-clause-call
-returns-clause-call g c = normalizes g.C.Make.context g.F.FnMut _ _ c.args.ty _ _ _ c.normalize.ensures
+returns-clause-call g c = normalizes g.C.Build.context g.F.FnMut _ _ c.args.ty _ _ _ c.normalize.ensures

@@ -1,4 +1,4 @@
-use Rattle.std.proofs.Common.{rules, sym, ◌∙◌}
+use Rattle.std.proofs.Common.{rules, refl, sym, ◌∙◌}
 use Rattle.candidate_eval.proofs.PlainCalls.{answers-its-input}
 use Rattle.library_tests.proofs.clients.all_known.Goals as goal
 

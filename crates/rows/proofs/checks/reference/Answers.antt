@@ -13,4 +13,4 @@ mk_ty-requires-clause-fits g c =
     cc
 
 pub mk_ty-requires-clause-takes : goal.mk_ty-requires-clause-takes
-mk_ty-requires-clause-takes g c = plain-takes (world (g.M.Make.context c.mk_region.new.self)) _ (K.Ref c.in_ok-region.region c.args.target Not) refl (mk_ty-requires-clause-fits g c)
+mk_ty-requires-clause-takes g c = λ _. plain-takes (world (g.M.Build.context c.mk_region.new.self)) _ (K.Ref c.in_ok-region.region c.args.target Not) refl (mk_ty-requires-clause-fits g c)

@@ -13,8 +13,8 @@ pub returns-clause-tree : goal.returns-clause-tree
 returns-clause-tree c =
     let ts = c.mk_args.new.self.trees in
     let i = c.args.of in
-    let args = c.in_ok-args.ensures.tree ∙ row-single c.args.cx.now.trees c.args.ty.0 TypeKind none refl refl c.requires in
-    c.in_ok-made.ensures.tree
+    let args = c.in_ok-args.ensures.made.tree ∙ row-single c.args.cx.now.trees c.args.ty.0 TypeKind none refl refl c.requires in
+    c.in_ok-made.ensures.made.tree
     ∙ (ap (λ (x : AliasTy). kind_tree ts (K.Alias x)) c.projection.ensures
-    ∙ (alias-tree i ts c.in_ok-args.args c.in_ok-args.ensures.sort
+    ∙ (alias-tree i ts c.in_ok-args.args c.in_ok-args.ensures.made.sort
     ∙ ap (λ (f : Forest). let t : Tree = record { head = H.Alias A.Projection (record { 0 = i.0 }); children = f } in t) args))

@@ -13,7 +13,7 @@ returns-in-Ok-clause-kept g c =
     let ran = c.evaluate_added_goals_and_make_canonical_response-answer in
     let end = c.end_probe-usages in
     let began = c.in_ok-probe.ensures in
-    keeps-probe E.fixed E.probes g.E.Make.context c.args.ecx.now c.begin_probe.new.self ran.new.self end.new.self (E.state c.args.ecx.now)
+    keeps-probe E.fixed E.probes g.E.Build.context c.args.ecx.now c.begin_probe.new.self ran.new.self end.new.self (E.state c.args.ecx.now)
     began.fixed began.grows began.ok.1 ran.ensures.kept end.ensures.fixed end.ensures.grows end.ensures.left
 
 pub returns-in-Ok-clause-fits : goal.returns-in-Ok-clause-fits
@@ -27,7 +27,7 @@ returns-in-Ok-clause-answer g c =
     let S = E.state c.args.ecx.now in
     let began = c.in_ok-probe.ensures in
     let ran = c.evaluate_added_goals_and_make_canonical_response-answer in
-    let answer : (E.judge (E.fixed c.args.ecx.now)).responded (with_pending S []) AMBIGUOUS ≡ Some (response_of (g.E.Make.context ran.new.self).trees c.in-Ok.response)
+    let answer : (E.judge (E.fixed c.args.ecx.now)).responded (with_pending S []) AMBIGUOUS ≡ Some (response_of (g.E.Build.context ran.new.self).trees c.in-Ok.response)
     = rw (began.fixed, began.ok.0) at c.in-Ok.ensures.ok in
     answer ∙ ap Some (sym (response-kept _ _ c.in-Ok.response c.end_probe-usages.ensures.grows c.in-Ok.ensures.sort))
 
@@ -37,7 +37,7 @@ returns-in-Ok-clause-certainty g c =
     let S = E.state c.args.ecx.now in
     let began = c.in_ok-probe.ensures in
     let ran = c.evaluate_added_goals_and_make_canonical_response-answer in
-    let answer : (E.judge (E.fixed c.args.ecx.now)).responded (with_pending S []) AMBIGUOUS ≡ Some (response_of (g.E.Make.context ran.new.self).trees c.in-Ok.response)
+    let answer : (E.judge (E.fixed c.args.ecx.now)).responded (with_pending S []) AMBIGUOUS ≡ Some (response_of (g.E.Build.context ran.new.self).trees c.in-Ok.response)
     = rw (began.fixed, began.ok.0) at c.in-Ok.ensures.ok in
     as-asked (E.judge (E.fixed c.args.ecx.now)) (g.met.E.EvalCtxt.lawful (E.fixed c.args.ecx.now)) S AMBIGUOUS _ answer
 
@@ -66,7 +66,7 @@ returns-in-Err-Stop-clause-kept g c =
     let ran = c.evaluate_added_goals_and_make_canonical_response-answer in
     let end = c.end_probe-usages in
     let began = c.in_ok-probe.ensures in
-    keeps-probe E.fixed E.probes g.E.Make.context c.args.ecx.now c.begin_probe.new.self ran.new.self end.new.self (E.state c.args.ecx.now)
+    keeps-probe E.fixed E.probes g.E.Build.context c.args.ecx.now c.begin_probe.new.self ran.new.self end.new.self (E.state c.args.ecx.now)
     began.fixed began.grows began.ok.1 ran.ensures.kept end.ensures.fixed end.ensures.grows end.ensures.left
 
 pub returns-in-Err-Stop-clause-alike : goal.returns-in-Err-Stop-clause-alike

@@ -8,7 +8,7 @@ push_own-requires-clause-ty g c = IsTy-grows _ _ c.args.ty c.push_conditions.ens
 
 pub returns-clause-trees : goal.returns-clause-trees
 returns-clause-trees g c =
-    own_kept c.args.of _ (g.M.Make.context c.args.make.now) _ c.args.ty c.args.own _ _ c.push_conditions.ensures.grows c.requires.ty c.in_ok-push_conditions.ensures.trees c.in_ok-push_own.ensures.trees
+    own_kept c.args.of _ (g.M.Build.context c.args.make.now) _ c.args.ty c.args.own _ _ c.push_conditions.ensures.grows c.requires.ty c.in_ok-push_conditions.ensures.trees c.in_ok-push_own.ensures.trees
 
 pub returns-in_err-push_own-clause-grows : goal.returns-in_err-push_own-clause-grows
 returns-in_err-push_own-clause-grows g c =

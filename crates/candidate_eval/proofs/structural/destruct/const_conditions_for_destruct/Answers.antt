@@ -14,7 +14,7 @@ use Rattle.candidate_eval.proofs.structural.destruct.const_conditions_for_destru
 
 pub returns-in_err-types-clause-cause : goal.returns-in_err-types-clause-cause
 returns-in_err-types-clause-cause g c =
-    let start = g.M.Make.context c.args.make.now in
+    let start = g.M.Build.context c.args.make.now in
     let ty = c.args.ty in
     let asked = c.cell-asked.result in
     let own = c.own_condition-own.result in
@@ -28,12 +28,12 @@ returns-in_err-types-clause-cause g c =
     (made_types_stop _ start (ty_tree start.trees ty) asked of own _ item cell (sym c.is_refused.ensures ∙ c.if-is_refused.false) some c.in_err-types.ensures.cause)
 
 pub all_conditions-requires-clause-ty : goal.all_conditions-requires-clause-ty
-all_conditions-requires-clause-ty g c = (ty-kept (g.M.Make.context c.args.make.now) _ c.args.ty c.made.ensures.grows c.requires.ty).0
+all_conditions-requires-clause-ty g c = (ty-kept (g.M.Build.context c.args.make.now) _ c.args.ty c.made.ensures.grows c.requires.ty).0
 
 pub returns-in_err-conditions-clause-cause : goal.returns-in_err-conditions-clause-cause
 returns-in_err-conditions-clause-cause g c =
-    let start = g.M.Make.context c.args.make.now in
-    let mid = g.M.Make.context c.made.new.make in
+    let start = g.M.Build.context c.args.make.now in
+    let mid = g.M.Build.context c.made.new.make in
     let ty = c.args.ty in
     let asked = c.cell-asked.result in
     let own = c.own_condition-own.result in
@@ -50,8 +50,8 @@ returns-in_err-conditions-clause-cause g c =
 
 pub returns-clause-conditions : goal.returns-clause-conditions
 returns-clause-conditions g c =
-    let start = g.M.Make.context c.args.make.now in
-    let mid = g.M.Make.context c.made.new.make in
+    let start = g.M.Build.context c.args.make.now in
+    let mid = g.M.Build.context c.made.new.make in
     let ty = c.args.ty in
     let asked = c.cell-asked.result in
     let own = c.own_condition-own.result in

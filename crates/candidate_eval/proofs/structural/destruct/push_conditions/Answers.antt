@@ -13,12 +13,12 @@ pub returns-in_err-push_condition-clause-cause : goal.returns-in_err-push_condit
 returns-in_err-push_condition-clause-cause g c =
     let p = err_from_is_err_and c.from_residual.result c.from_residual.ensures.1 in
     rw (p.1, p.2)
-    (condition_stop (g.M.Make.context c.args.make.now) _ c.args.of c.args.types.now c.loop-ty.ty-index _ _ c.loop-ty.conditions.items _ c.loop-ty.invariant.0 c.requires.types c.loop-ty-test.true
+    (condition_stop (g.M.Build.context c.args.make.now) _ c.args.of c.args.types.now c.loop-ty.ty-index _ _ c.loop-ty.conditions.items _ c.loop-ty.invariant.0 c.requires.types c.loop-ty-test.true
     c.in_err-push_condition.ensures.cause)
 
 pub loop-ty-preserved : goal.loop-ty-preserved
 loop-ty-preserved g c = (
-  one_more_condition (g.M.Make.context c.args.make.now) _ _ c.args.of c.args.types.now c.loop-ty.ty-index _ c.loop-ty.conditions.items _ c.loop-ty.invariant.0 c.requires.types c.loop-ty-test.true
+  one_more_condition (g.M.Build.context c.args.make.now) _ _ c.args.of c.args.types.now c.loop-ty.ty-index _ c.loop-ty.conditions.items _ c.loop-ty.invariant.0 c.requires.types c.loop-ty-test.true
       c.push_condition.ensures.grows c.in_ok-push_condition.ensures.sort c.in_ok-push_condition.ensures.trees,
   c.push_condition.ensures.rest ∙ c.loop-ty.invariant.1,
 )

@@ -9,27 +9,27 @@ use Rattle.candidate_eval.proofs.structural.object.can_be_equated.Goals as goal
 
 pub equate_bound-answer-requires-clause-env : goal.equate_bound-answer-requires-clause-env
 equate_bound-answer-requires-clause-env g c =
-    (env-kept (g.E.Make.context c.args.ecx.now) (g.E.Make.context c.begin_probe.new.self) c.args.env c.begin_probe.ensures.grows c.requires.env).0
+    (env-kept (g.E.Build.context c.args.ecx.now) (g.E.Build.context c.begin_probe.new.self) c.args.env c.begin_probe.ensures.grows c.requires.env).0
 
 pub equate_bound-answer-requires-clause-bound : goal.equate_bound-answer-requires-clause-bound
 equate_bound-answer-requires-clause-bound g c =
-    (clause-kept (g.E.Make.context c.args.ecx.now) (g.E.Make.context c.begin_probe.new.self) c.args.bound c.begin_probe.ensures.grows c.requires.bound).0
+    (clause-kept (g.E.Build.context c.args.ecx.now) (g.E.Build.context c.begin_probe.new.self) c.args.bound c.begin_probe.ensures.grows c.requires.bound).0
 
 pub equate_bound-answer-requires-clause-args : goal.equate_bound-answer-requires-clause-args
 equate_bound-answer-requires-clause-args g c =
-    (args-kept (g.E.Make.context c.args.ecx.now) (g.E.Make.context c.begin_probe.new.self) c.args.projection.args c.begin_probe.ensures.grows c.requires.args).0
+    (args-kept (g.E.Build.context c.args.ecx.now) (g.E.Build.context c.begin_probe.new.self) c.args.projection.args c.begin_probe.ensures.grows c.requires.args).0
 
 pub equate_bound-answer-requires-clause-about : goal.equate_bound-answer-requires-clause-about
 equate_bound-answer-requires-clause-about g c =
-    about-kept (g.E.Make.context c.args.ecx.now) (g.E.Make.context c.begin_probe.new.self) c.args.bound c.args.projection.def_id.0 c.begin_probe.ensures.grows c.requires.bound c.requires.about
+    about-kept (g.E.Build.context c.args.ecx.now) (g.E.Build.context c.begin_probe.new.self) c.args.bound c.args.projection.def_id.0 c.begin_probe.ensures.grows c.requires.bound c.requires.about
 
 pub returns-in-Ok-clause-answer : goal.returns-in-Ok-clause-answer
 returns-in-Ok-clause-answer g c =
     let E = g.E.EvalCtxt in
     let old = c.args.ecx.now in
     let mid = c.begin_probe.new.self in
-    let before = g.E.Make.context old in
-    let after = g.E.Make.context mid in
+    let before = g.E.Build.context old in
+    let after = g.E.Build.context mid in
     let grows = c.begin_probe.ensures.grows in
     kept-answer E.judge (E.fixed old) (E.fixed mid) (E.state old) (E.state mid) (env_forest before.trees c.args.env) (env_forest after.trees c.args.env) (clause_tree before.trees c.args.bound) (clause_tree after.trees c.args.bound)
     (args_forest before.trees c.args.projection.args) (args_forest after.trees c.args.projection.args) _
@@ -41,8 +41,8 @@ returns-in-Err-NoSolution-clause-answer g c =
     let E = g.E.EvalCtxt in
     let old = c.args.ecx.now in
     let mid = c.begin_probe.new.self in
-    let before = g.E.Make.context old in
-    let after = g.E.Make.context mid in
+    let before = g.E.Build.context old in
+    let after = g.E.Build.context mid in
     let grows = c.begin_probe.ensures.grows in
     let ran = c.equate_bound-answer in
     let is : c.in-Err-NoSolution.field-0 ≡ NoSolution = search rules in
@@ -57,7 +57,7 @@ returns-in-Ok-clause-kept g c =
     let ran = c.equate_bound-answer in
     let end = c.end_probe-usages in
     let began = c.in_ok-probe.ensures in
-    keeps-probe E.fixed E.probes g.E.Make.context c.args.ecx.now c.begin_probe.new.self ran.new.ecx end.new.self (E.state c.args.ecx.now)
+    keeps-probe E.fixed E.probes g.E.Build.context c.args.ecx.now c.begin_probe.new.self ran.new.ecx end.new.self (E.state c.args.ecx.now)
     began.fixed began.grows began.ok.1 ran.ensures.kept end.ensures.fixed end.ensures.grows end.ensures.left
 
 pub returns-in-Ok-clause-alike : goal.returns-in-Ok-clause-alike
@@ -75,7 +75,7 @@ returns-in-Err-NoSolution-clause-kept g c =
     let ran = c.equate_bound-answer in
     let end = c.end_probe-usages in
     let began = c.in_ok-probe.ensures in
-    keeps-probe E.fixed E.probes g.E.Make.context c.args.ecx.now c.begin_probe.new.self ran.new.ecx end.new.self (E.state c.args.ecx.now)
+    keeps-probe E.fixed E.probes g.E.Build.context c.args.ecx.now c.begin_probe.new.self ran.new.ecx end.new.self (E.state c.args.ecx.now)
     began.fixed began.grows began.ok.1 ran.ensures.kept end.ensures.fixed end.ensures.grows end.ensures.left
 
 pub returns-in-Err-NoSolution-clause-alike : goal.returns-in-Err-NoSolution-clause-alike
@@ -93,7 +93,7 @@ returns-clause-kept g c =
     let ran = c.equate_bound-answer in
     let end = c.end_probe-usages in
     let began = c.in_ok-probe.ensures in
-    keeps-probe E.fixed E.probes g.E.Make.context c.args.ecx.now c.begin_probe.new.self ran.new.ecx end.new.self (E.state c.args.ecx.now)
+    keeps-probe E.fixed E.probes g.E.Build.context c.args.ecx.now c.begin_probe.new.self ran.new.ecx end.new.self (E.state c.args.ecx.now)
     began.fixed began.grows began.ok.1 ran.ensures.kept end.ensures.fixed end.ensures.grows end.ensures.left
 
 pub returns-clause-alike : goal.returns-clause-alike

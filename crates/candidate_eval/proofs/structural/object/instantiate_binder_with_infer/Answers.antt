@@ -15,12 +15,12 @@ use Rattle.candidate_eval.proofs.structural.object.instantiate_binder_with_infer
 
 pub open_clause-requires-clause-clause : goal.open_clause-requires-clause-clause
 open_clause-requires-clause-clause g c =
-    (clause-kept (g.E.Make.context c.args.ecx.now) (g.E.Make.context c.fresh_args_for_item.new.self) c.args.clause c.fresh_args_for_item.ensures.kept.grows c.requires).0
+    (clause-kept (g.E.Build.context c.args.ecx.now) (g.E.Build.context c.fresh_args_for_item.new.self) c.args.clause c.fresh_args_for_item.ensures.kept.grows c.requires).0
 
 pub returns-clause-tree : goal.returns-clause-tree
 returns-clause-tree g c =
-    let old = g.E.Make.context c.args.ecx.now in
-    let mid = g.E.Make.context c.fresh_args_for_item.new.self in
+    let old = g.E.Build.context c.args.ecx.now in
+    let mid = g.E.Build.context c.fresh_args_for_item.new.self in
     let S = g.E.EvalCtxt.state c.args.ecx.now in
     let bound = kinds-read c.in_ok-kinds.kinds.items (clause_tree c.cx.result.now.trees c.args.clause) c.in_ok-kinds.ensures in
     let read = subst (λ (x : Context). kinds_listed c.in_ok-kinds.kinds.items ≡ bound_kinds (clause_tree x.trees c.args.clause).children) c.cx.ensures bound in

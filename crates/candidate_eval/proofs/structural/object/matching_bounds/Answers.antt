@@ -13,7 +13,7 @@ pub loop-bound-init : goal.loop-bound-init
 loop-bound-init g c =
     let E = g.E.EvalCtxt in
     let old = c.args.ecx.now in
-    let start = g.E.Make.context old in (
+    let start = g.E.Build.context old in (
       none-tried (E.judge (E.fixed old)) (env_forest start.trees c.args.env) (projection_at start.trees c.args.projection) start (E.state old) c.args.bounds.now c.new-found.result.items (g.met.E.EvalCtxt.lawful (E.fixed old))
           c.new-found.ensures.items,
       refl,
@@ -21,14 +21,14 @@ loop-bound-init g c =
     )
 
 pub bound_matches-requires-clause-env : goal.bound_matches-requires-clause-env
-bound_matches-requires-clause-env g c = (env-kept (g.E.Make.context c.args.ecx.now) (g.E.Make.context c.loop-bound.ecx) c.args.env c.loop-bound.invariant.0.grows c.requires.env).0
+bound_matches-requires-clause-env g c = (env-kept (g.E.Build.context c.args.ecx.now) (g.E.Build.context c.loop-bound.ecx) c.args.env c.loop-bound.invariant.0.grows c.requires.env).0
 
 pub bound_matches-requires-clause-bound : goal.bound_matches-requires-clause-bound
 bound_matches-requires-clause-bound g c =
-    (bound-listed (g.E.Make.context c.args.ecx.now) (g.E.Make.context c.loop-bound.ecx) c.args.bounds.now c.loop-bound.bound-index _ c.loop-bound.invariant.0.grows c.requires.bounds c.loop-bound-test.true).0
+    (bound-listed (g.E.Build.context c.args.ecx.now) (g.E.Build.context c.loop-bound.ecx) c.args.bounds.now c.loop-bound.bound-index _ c.loop-bound.invariant.0.grows c.requires.bounds c.loop-bound-test.true).0
 
 pub bound_matches-requires-clause-args : goal.bound_matches-requires-clause-args
-bound_matches-requires-clause-args g c = (args-kept (g.E.Make.context c.args.ecx.now) (g.E.Make.context c.loop-bound.ecx) c.args.projection.args c.loop-bound.invariant.0.grows c.requires.args).0
+bound_matches-requires-clause-args g c = (args-kept (g.E.Build.context c.args.ecx.now) (g.E.Build.context c.loop-bound.ecx) c.args.projection.args c.loop-bound.invariant.0.grows c.requires.args).0
 
 pub loop-bound-preserved : goal.loop-bound-preserved
 loop-bound-preserved g c =
@@ -36,9 +36,9 @@ loop-bound-preserved g c =
     let old = c.args.ecx.now in
     let now = c.loop-bound.ecx in
     let new = c.bound_matches.new.ecx in
-    let start = g.E.Make.context old in
-    let mid = g.E.Make.context now in
-    let last = g.E.Make.context new in
+    let start = g.E.Build.context old in
+    let mid = g.E.Build.context now in
+    let last = g.E.Build.context new in
     let kept = c.bound_matches.ensures.kept in
     let so = c.loop-bound.invariant.0 in
     let fixed = c.loop-bound.invariant.1 in
@@ -70,7 +70,7 @@ loop-bound-preserved g c =
 pub returns-in_err-bound_matches-clause-kept : goal.returns-in_err-bound_matches-clause-kept
 returns-in_err-bound_matches-clause-kept g c =
     let E = g.E.EvalCtxt in
-    keeps-trans E.fixed E.probes g.E.Make.context c.args.ecx.now c.loop-bound.ecx c.bound_matches.new.ecx (record { fixed_same = c.loop-bound.invariant.1; probes_same = c.loop-bound.invariant.2; grows = c.loop-bound.invariant.0.grows }) c.bound_matches.ensures.kept
+    keeps-trans E.fixed E.probes g.E.Build.context c.args.ecx.now c.loop-bound.ecx c.bound_matches.new.ecx (record { fixed_same = c.loop-bound.invariant.1; probes_same = c.loop-bound.invariant.2; grows = c.loop-bound.invariant.0.grows }) c.bound_matches.ensures.kept
 
 pub returns-in_err-bound_matches-clause-alike : goal.returns-in_err-bound_matches-clause-alike
 returns-in_err-bound_matches-clause-alike g c =
@@ -80,7 +80,7 @@ returns-in_err-bound_matches-clause-alike g c =
 pub returns-in_err-push-clause-kept : goal.returns-in_err-push-clause-kept
 returns-in_err-push-clause-kept g c =
     let E = g.E.EvalCtxt in
-    keeps-trans E.fixed E.probes g.E.Make.context c.args.ecx.now c.loop-bound.ecx c.bound_matches.new.ecx (record { fixed_same = c.loop-bound.invariant.1; probes_same = c.loop-bound.invariant.2; grows = c.loop-bound.invariant.0.grows }) c.bound_matches.ensures.kept
+    keeps-trans E.fixed E.probes g.E.Build.context c.args.ecx.now c.loop-bound.ecx c.bound_matches.new.ecx (record { fixed_same = c.loop-bound.invariant.1; probes_same = c.loop-bound.invariant.2; grows = c.loop-bound.invariant.0.grows }) c.bound_matches.ensures.kept
 
 pub returns-in_err-push-clause-alike : goal.returns-in_err-push-clause-alike
 returns-in_err-push-clause-alike g c =

@@ -8,6 +8,6 @@ use Rattle.candidate_eval.proofs.structural.object.matching_bounds.Given as goal
 abbrev pub invariant-loop-bound : goal.invariant-loop-bound
 invariant-loop-bound g l =
     let E = g.E.EvalCtxt in
-    let start = g.E.Make.context l.fn.ecx in
-    TriedSoFar (E.judge (E.fixed l.fn.ecx)) (env_forest start.trees l.fn.env) (projection_at start.trees l.fn.projection) start (g.E.Make.context l.ecx) (E.state l.fn.ecx) (E.state l.ecx) l.fn.bounds l.bound-index l.found.items
+    let start = g.E.Build.context l.fn.ecx in
+    TriedSoFar (E.judge (E.fixed l.fn.ecx)) (env_forest start.trees l.fn.env) (projection_at start.trees l.fn.projection) start (g.E.Build.context l.ecx) (E.state l.fn.ecx) (E.state l.ecx) l.fn.bounds l.bound-index l.found.items
     × (E.fixed l.ecx ≡ E.fixed l.fn.ecx) × (E.probes l.ecx ≡ E.probes l.fn.ecx)

@@ -15,55 +15,55 @@ use Rattle.candidate_eval.proofs.structural.object.pick_bound.Goals as goal
 pub returns-then-len-ne1-clause-ambiguous : goal.returns-then-len-ne1-clause-ambiguous
 returns-then-len-ne1-clause-ambiguous g c =
     let mid = c.matching_bounds.new.ecx in
-    let ts = (g.E.Make.context mid).trees in
+    let ts = (g.E.Build.context mid).trees in
     let e : c.len.result ≡ length c.in_ok-found.found.items = search rules in
     λ _. IsAmbiguous.not_one (map (clause_tree ts) c.in_ok-found.found.items) c.in_ok-found.ensures.tried (not-one ts c.in_ok-found.found.items c.len.result e c.if-len-ne1.true)
 
 pub can_be_equated-requires-clause-env : goal.can_be_equated-requires-clause-env
-can_be_equated-requires-clause-env g c = (env-kept (g.E.Make.context c.args.ecx.now) (g.E.Make.context c.matching_bounds.new.ecx) c.args.env c.matching_bounds.ensures.kept.grows c.requires.env).0
+can_be_equated-requires-clause-env g c = (env-kept (g.E.Build.context c.args.ecx.now) (g.E.Build.context c.matching_bounds.new.ecx) c.args.env c.matching_bounds.ensures.kept.grows c.requires.env).0
 
 pub can_be_equated-requires-clause-args : goal.can_be_equated-requires-clause-args
 can_be_equated-requires-clause-args g c =
-    (args-kept (g.E.Make.context c.args.ecx.now) (g.E.Make.context c.matching_bounds.new.ecx) c.args.projection.args c.matching_bounds.ensures.kept.grows c.requires.args).0
+    (args-kept (g.E.Build.context c.args.ecx.now) (g.E.Build.context c.matching_bounds.new.ecx) c.args.projection.args c.matching_bounds.ensures.kept.grows c.requires.args).0
 
 pub can_be_equated-requires-clause-about : goal.can_be_equated-requires-clause-about
 can_be_equated-requires-clause-about g c =
     let E = g.E.EvalCtxt in
     let old = c.args.ecx.now in
     let mid = c.matching_bounds.new.ecx in
-    let start = g.E.Make.context old in
+    let start = g.E.Build.context old in
     let l : length c.in_ok-found.found.items ≡ 1 = search rules in
     (only-tried (E.judge (E.fixed old)) (env_forest start.trees c.args.env) (projection_at start.trees c.args.projection) (E.state old) (E.state mid) (map (clause_tree start.trees) c.args.bounds.now)
-    (g.E.Make.context mid).trees c.in_ok-found.found.items c.index-only.result.now c.in_ok-found.ensures.tried l c.index-only.ensures).1
+    (g.E.Build.context mid).trees c.in_ok-found.found.items c.index-only.result.now c.in_ok-found.ensures.tried l c.index-only.ensures).1
 
 pub equate_bound-requires-clause-env : goal.equate_bound-requires-clause-env
 equate_bound-requires-clause-env g c =
-    let a = g.E.Make.context c.args.ecx.now in
-    let b = g.E.Make.context c.matching_bounds.new.ecx in
-    let d = g.E.Make.context c.can_be_equated.new.ecx in
+    let a = g.E.Build.context c.args.ecx.now in
+    let b = g.E.Build.context c.matching_bounds.new.ecx in
+    let d = g.E.Build.context c.can_be_equated.new.ecx in
     (env-kept a d c.args.env (grows-trans a b d c.matching_bounds.ensures.kept.grows c.can_be_equated.ensures.kept.grows) c.requires.env).0
 
 pub equate_bound-requires-clause-bound : goal.equate_bound-requires-clause-bound
 equate_bound-requires-clause-bound g c =
     let l : length c.in_ok-found.found.items ≡ 1 = search rules in
-    let b = g.E.Make.context c.matching_bounds.new.ecx in
-    (clause-kept b (g.E.Make.context c.can_be_equated.new.ecx) c.index-only.result.now c.can_be_equated.ensures.kept.grows (only-fits b.trees c.in_ok-found.found.items _ c.in_ok-found.ensures.sort l c.index-only.ensures)).0
+    let b = g.E.Build.context c.matching_bounds.new.ecx in
+    (clause-kept b (g.E.Build.context c.can_be_equated.new.ecx) c.index-only.result.now c.can_be_equated.ensures.kept.grows (only-fits b.trees c.in_ok-found.found.items _ c.in_ok-found.ensures.sort l c.index-only.ensures)).0
 
 pub equate_bound-requires-clause-args : goal.equate_bound-requires-clause-args
 equate_bound-requires-clause-args g c =
-    let a = g.E.Make.context c.args.ecx.now in
-    let b = g.E.Make.context c.matching_bounds.new.ecx in
-    let d = g.E.Make.context c.can_be_equated.new.ecx in
+    let a = g.E.Build.context c.args.ecx.now in
+    let b = g.E.Build.context c.matching_bounds.new.ecx in
+    let d = g.E.Build.context c.can_be_equated.new.ecx in
     (args-kept a d c.args.projection.args (grows-trans a b d c.matching_bounds.ensures.kept.grows c.can_be_equated.ensures.kept.grows) c.requires.args).0
 
 pub equate_bound-requires-clause-about : goal.equate_bound-requires-clause-about
 equate_bound-requires-clause-about g c =
     let E = g.E.EvalCtxt in
     let old = c.args.ecx.now in
-    let start = g.E.Make.context old in
+    let start = g.E.Build.context old in
     let l : length c.in_ok-found.found.items ≡ 1 = search rules in
-    let b = g.E.Make.context c.matching_bounds.new.ecx in
-    about-kept b (g.E.Make.context c.can_be_equated.new.ecx) c.index-only.result.now c.args.projection.def_id.0 c.can_be_equated.ensures.kept.grows (only-fits b.trees c.in_ok-found.found.items _ c.in_ok-found.ensures.sort l c.index-only.ensures)
+    let b = g.E.Build.context c.matching_bounds.new.ecx in
+    about-kept b (g.E.Build.context c.can_be_equated.new.ecx) c.index-only.result.now c.args.projection.def_id.0 c.can_be_equated.ensures.kept.grows (only-fits b.trees c.in_ok-found.found.items _ c.in_ok-found.ensures.sort l c.index-only.ensures)
     (only-tried (E.judge (E.fixed old)) (env_forest start.trees c.args.env) (projection_at start.trees c.args.projection) (E.state old) (E.state c.matching_bounds.new.ecx) (map (clause_tree start.trees) c.args.bounds.now)
     b.trees c.in_ok-found.found.items c.index-only.result.now c.in_ok-found.ensures.tried l c.index-only.ensures).1
 
@@ -73,8 +73,8 @@ returns-then-not-branch-clause-ambiguous g c =
     let old = c.args.ecx.now in
     let mid = c.matching_bounds.new.ecx in
     let now = c.can_be_equated.new.ecx in
-    let start = g.E.Make.context old in
-    let after = g.E.Make.context mid in
+    let start = g.E.Build.context old in
+    let after = g.E.Build.context mid in
     let kept = c.matching_bounds.ensures.kept in
     let x = c.index-only.result.now in
     let l : length c.in_ok-found.found.items ≡ 1 = search rules in
@@ -92,9 +92,9 @@ returns-in-Ok-clause-picked g c =
     let old = c.args.ecx.now in
     let mid = c.matching_bounds.new.ecx in
     let now = c.can_be_equated.new.ecx in
-    let start = g.E.Make.context old in
-    let after = g.E.Make.context mid in
-    let later = g.E.Make.context now in
+    let start = g.E.Build.context old in
+    let after = g.E.Build.context mid in
+    let later = g.E.Build.context now in
     let kept = c.matching_bounds.ensures.kept in
     let more = c.can_be_equated.ensures.kept in
     let grows = grows-trans start after later kept.grows more.grows in
@@ -121,9 +121,9 @@ returns-in-Err-NoSolution-clause-ambiguous g c =
     let old = c.args.ecx.now in
     let mid = c.matching_bounds.new.ecx in
     let now = c.can_be_equated.new.ecx in
-    let start = g.E.Make.context old in
-    let after = g.E.Make.context mid in
-    let later = g.E.Make.context now in
+    let start = g.E.Build.context old in
+    let after = g.E.Build.context mid in
+    let later = g.E.Build.context now in
     let kept = c.matching_bounds.ensures.kept in
     let more = c.can_be_equated.ensures.kept in
     let grows = grows-trans start after later kept.grows more.grows in
@@ -144,7 +144,7 @@ returns-in-Err-NoSolution-clause-ambiguous g c =
 
 pub returns-in-Ok-clause-at_once : goal.returns-in-Ok-clause-at_once
 returns-in-Ok-clause-at_once g c = λ x.
-    picked-at-once (g.E.EvalCtxt.judge (g.E.EvalCtxt.fixed c.args.ecx.now)) (env_forest (g.E.Make.context c.args.ecx.now).trees c.args.env) (projection_at (g.E.Make.context c.args.ecx.now).trees c.args.projection) x
+    picked-at-once (g.E.EvalCtxt.judge (g.E.EvalCtxt.fixed c.args.ecx.now)) (env_forest (g.E.Build.context c.args.ecx.now).trees c.args.env) (projection_at (g.E.Build.context c.args.ecx.now).trees c.args.projection) x
     (returns-in-Ok-clause-picked g c)
 
 pub returns-in_err-can_be_equated-clause-kept : goal.returns-in_err-can_be_equated-clause-kept

@@ -15,15 +15,15 @@ use Rattle.candidate_eval.proofs.ObjectRules.{asked-by-rule, unknown-by-rule}
 use Rattle.candidate_eval.proofs.structural.object_candidate.predicates_for_object_candidate.Goals as goal
 
 pub replaced-requires-clause-env : goal.replaced-requires-clause-env
-replaced-requires-clause-env g c = (env-kept (g.E.Make.context c.args.ecx.now) (g.E.Make.context c.prepare.new.ecx) c.args.env c.prepare.ensures.kept.grows c.requires.env).0
+replaced-requires-clause-env g c = (env-kept (g.E.Build.context c.args.ecx.now) (g.E.Build.context c.prepare.new.ecx) c.args.env c.prepare.ensures.kept.grows c.requires.env).0
 
 pub returns-in_err-clauses-clause-ambiguous : goal.returns-in_err-clauses-clause-ambiguous
 returns-in_err-clauses-clause-ambiguous g c =
     let E = g.E.EvalCtxt in
     let old = c.args.ecx.now in
     let mid = c.prepare.new.ecx in
-    let a = g.E.Make.context old in
-    let b = g.E.Make.context mid in
+    let a = g.E.Build.context old in
+    let b = g.E.Build.context mid in
     let p = c.in_ok-prepared.prepared in
     let reference = clause_kind_tree a.trees (reference_clause c.args.trait_ref) in
     let object = first_tree (fresh_arguments (E.state old) reference) in
@@ -46,9 +46,9 @@ returns-in_err-clauses-clause-ambiguous g c =
 
 pub returns-clause-sort : goal.returns-clause-sort
 returns-clause-sort g c =
-    let a = g.E.Make.context c.args.ecx.now in
-    let b = g.E.Make.context c.prepare.new.ecx in
-    let d = g.E.Make.context c.replaced.new.ecx in
+    let a = g.E.Build.context c.args.ecx.now in
+    let b = g.E.Build.context c.prepare.new.ecx in
+    let d = g.E.Build.context c.replaced.new.ecx in
     let env = env-kept a d c.args.env (grows-trans a b d c.prepare.ensures.kept.grows c.replaced.ensures.kept.grows) c.requires.env in
     subst (All (IsGoal d.trees)) (sym c.in_ok-goals.ensures.are)
     (goals-fit d.trees c.args.env c.as_slice.result.now env.0 (subst (ClauseListFits d.trees) (sym c.as_slice.ensures.value) c.in_ok-clauses.ensures.sort))
@@ -59,9 +59,9 @@ returns-clause-asked g c =
     let old = c.args.ecx.now in
     let mid = c.prepare.new.ecx in
     let new = c.replaced.new.ecx in
-    let a = g.E.Make.context old in
-    let b = g.E.Make.context mid in
-    let d = g.E.Make.context new in
+    let a = g.E.Build.context old in
+    let b = g.E.Build.context mid in
+    let d = g.E.Build.context new in
     let p = c.in_ok-prepared.prepared in
     let made = c.in_ok-clauses.clauses.items in
     let reference = clause_kind_tree a.trees (reference_clause c.args.trait_ref) in
@@ -88,14 +88,14 @@ returns-clause-asked g c =
 pub returns-in_err-clauses-clause-kept : goal.returns-in_err-clauses-clause-kept
 returns-in_err-clauses-clause-kept g c =
     let E = g.E.EvalCtxt in
-    keeps-trans E.fixed E.probes g.E.Make.context c.args.ecx.now c.prepare.new.ecx c.replaced.new.ecx c.prepare.ensures.kept c.replaced.ensures.kept
+    keeps-trans E.fixed E.probes g.E.Build.context c.args.ecx.now c.prepare.new.ecx c.replaced.new.ecx c.prepare.ensures.kept c.replaced.ensures.kept
 
 pub returns-in_err-goals-clause-kept : goal.returns-in_err-goals-clause-kept
 returns-in_err-goals-clause-kept g c =
     let E = g.E.EvalCtxt in
-    keeps-trans E.fixed E.probes g.E.Make.context c.args.ecx.now c.prepare.new.ecx c.replaced.new.ecx c.prepare.ensures.kept c.replaced.ensures.kept
+    keeps-trans E.fixed E.probes g.E.Build.context c.args.ecx.now c.prepare.new.ecx c.replaced.new.ecx c.prepare.ensures.kept c.replaced.ensures.kept
 
 pub returns-clause-kept : goal.returns-clause-kept
 returns-clause-kept g c =
     let E = g.E.EvalCtxt in
-    keeps-trans E.fixed E.probes g.E.Make.context c.args.ecx.now c.prepare.new.ecx c.replaced.new.ecx c.prepare.ensures.kept c.replaced.ensures.kept
+    keeps-trans E.fixed E.probes g.E.Build.context c.args.ecx.now c.prepare.new.ecx c.replaced.new.ecx c.prepare.ensures.kept c.replaced.ensures.kept

@@ -15,18 +15,18 @@ use Rattle.candidate_eval.proofs.Responding.{clauses-kept}
 use Rattle.candidate_eval.proofs.structural.object_candidate.prepare.Goals as goal
 
 pub own_bounds-requires-clause-bounds : goal.own_bounds-requires-clause-bounds
-own_bounds-requires-clause-bounds g c = (preds-kept (g.E.Make.context c.args.ecx.now) (g.E.Make.context c.instance.new.ecx) c.args.object_bounds c.instance.ensures.kept.grows c.requires.bounds).0
+own_bounds-requires-clause-bounds g c = (preds-kept (g.E.Build.context c.args.ecx.now) (g.E.Build.context c.instance.new.ecx) c.args.object_bounds c.instance.ensures.kept.grows c.requires.bounds).0
 
 pub requirements-requires : goal.requirements-requires
 requirements-requires g c = record {
-  args = (args-kept (g.E.Make.context c.instance.new.ecx) (g.E.Make.context c.own_bounds.new.make) c.in_ok-reference.reference.args c.own_bounds.ensures.grows c.in_ok-reference.ensures.sort.0).0;
+  args = (args-kept (g.E.Build.context c.instance.new.ecx) (g.E.Build.context c.own_bounds.new.make) c.in_ok-reference.reference.args c.own_bounds.ensures.grows c.in_ok-reference.ensures.sort.0).0;
 }
 
 pub returns-clause-sort : goal.returns-clause-sort
 returns-clause-sort g c =
-    let b1 = g.E.Make.context c.instance.new.ecx in
-    let b2 = g.E.Make.context c.own_bounds.new.make in
-    let b3 = g.E.Make.context c.requirements.new.make in
+    let b1 = g.E.Build.context c.instance.new.ecx in
+    let b2 = g.E.Build.context c.own_bounds.new.make in
+    let b3 = g.E.Build.context c.requirements.new.make in
     let object = c.self_ty-object.result in
     let is = subst (λ (y : Context). IsTy y.trees object) c.cx-2.ensures c.self_ty-object.ensures.sort in
     let later = grows-trans b1 b2 b3 c.own_bounds.ensures.grows c.requirements.ensures.grows in
@@ -34,9 +34,9 @@ returns-clause-sort g c =
 
 pub returns-clause-object : goal.returns-clause-object
 returns-clause-object g c =
-    let b1 = g.E.Make.context c.instance.new.ecx in
-    let b2 = g.E.Make.context c.own_bounds.new.make in
-    let b3 = g.E.Make.context c.requirements.new.make in
+    let b1 = g.E.Build.context c.instance.new.ecx in
+    let b2 = g.E.Build.context c.own_bounds.new.make in
+    let b3 = g.E.Build.context c.requirements.new.make in
     let object = c.self_ty-object.result in
     let is = subst (λ (y : Context). IsTy y.trees object) c.cx-2.ensures c.self_ty-object.ensures.sort in
     let tree = subst (λ (y : Context). ty_tree y.trees object ≡ first_tree (args_forest y.trees c.in_ok-reference.reference.args)) c.cx-2.ensures c.self_ty-object.ensures.tree in
@@ -45,10 +45,10 @@ returns-clause-object g c =
 
 pub returns-clause-bounds : goal.returns-clause-bounds
 returns-clause-bounds g c =
-    let a = g.E.Make.context c.args.ecx.now in
-    let b1 = g.E.Make.context c.instance.new.ecx in
-    let b2 = g.E.Make.context c.own_bounds.new.make in
-    let b3 = g.E.Make.context c.requirements.new.make in
+    let a = g.E.Build.context c.args.ecx.now in
+    let b1 = g.E.Build.context c.instance.new.ecx in
+    let b2 = g.E.Build.context c.own_bounds.new.make in
+    let b3 = g.E.Build.context c.requirements.new.make in
     let object = c.self_ty-object.result in
     let fresh = fresh_arguments (g.E.EvalCtxt.state c.args.ecx.now) (clause_kind_tree a.trees (reference_clause c.args.trait_ref)) in
     let tree = subst (λ (y : Context). ty_tree y.trees object ≡ first_tree (args_forest y.trees c.in_ok-reference.reference.args)) c.cx-2.ensures c.self_ty-object.ensures.tree in
@@ -59,10 +59,10 @@ returns-clause-bounds g c =
 
 pub returns-clause-required : goal.returns-clause-required
 returns-clause-required g c =
-    let a = g.E.Make.context c.args.ecx.now in
-    let b1 = g.E.Make.context c.instance.new.ecx in
-    let b2 = g.E.Make.context c.own_bounds.new.make in
-    let b3 = g.E.Make.context c.requirements.new.make in
+    let a = g.E.Build.context c.args.ecx.now in
+    let b1 = g.E.Build.context c.instance.new.ecx in
+    let b2 = g.E.Build.context c.own_bounds.new.make in
+    let b3 = g.E.Build.context c.requirements.new.make in
     let r = c.in_ok-reference.reference in
     let items = c.in_ok-required.required.items in
     let fresh = fresh_arguments (g.E.EvalCtxt.state c.args.ecx.now) (clause_kind_tree a.trees (reference_clause c.args.trait_ref)) in

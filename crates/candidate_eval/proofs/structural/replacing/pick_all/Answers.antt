@@ -13,18 +13,18 @@ pub loop-projection-init : goal.loop-projection-init
 loop-projection-init g c =
     let E = g.E.EvalCtxt in
     let old = c.args.ecx.now in
-    let start = g.E.Make.context old in
+    let start = g.E.Build.context old in
     (none-picked (E.judge (E.fixed old)) (env_forest start.trees c.args.env) (clauses_at start.trees c.args.bounds.now) start (E.state old) c.args.projections.now c.new-terms.result.items c.new-terms.ensures.items, refl, refl)
 
 pub pick_bound-requires-clause-env : goal.pick_bound-requires-clause-env
-pick_bound-requires-clause-env g c = (env-kept (g.E.Make.context c.args.ecx.now) (g.E.Make.context c.loop-projection.ecx) c.args.env c.loop-projection.invariant.0.grows c.requires.env).0
+pick_bound-requires-clause-env g c = (env-kept (g.E.Build.context c.args.ecx.now) (g.E.Build.context c.loop-projection.ecx) c.args.env c.loop-projection.invariant.0.grows c.requires.env).0
 
 pub pick_bound-requires-clause-bounds : goal.pick_bound-requires-clause-bounds
-pick_bound-requires-clause-bounds g c = (clauses-kept (g.E.Make.context c.args.ecx.now) (g.E.Make.context c.loop-projection.ecx) c.args.bounds.now c.loop-projection.invariant.0.grows c.requires.bounds).0
+pick_bound-requires-clause-bounds g c = (clauses-kept (g.E.Build.context c.args.ecx.now) (g.E.Build.context c.loop-projection.ecx) c.args.bounds.now c.loop-projection.invariant.0.grows c.requires.bounds).0
 
 pub pick_bound-requires-clause-args : goal.pick_bound-requires-clause-args
 pick_bound-requires-clause-args g c =
-    (projection-later (g.E.Make.context c.args.ecx.now) (g.E.Make.context c.loop-projection.ecx) c.args.projections.now c.loop-projection.projection-index _ c.loop-projection.invariant.0.grows c.requires.projections
+    (projection-later (g.E.Build.context c.args.ecx.now) (g.E.Build.context c.loop-projection.ecx) c.args.projections.now c.loop-projection.projection-index _ c.loop-projection.invariant.0.grows c.requires.projections
     c.loop-projection-test.true).0
 
 pub returns-in_err-term-clause-ambiguous : goal.returns-in_err-term-clause-ambiguous
@@ -32,8 +32,8 @@ returns-in_err-term-clause-ambiguous g c =
     let E = g.E.EvalCtxt in
     let old = c.args.ecx.now in
     let now = c.loop-projection.ecx in
-    let start = g.E.Make.context old in
-    let mid = g.E.Make.context now in
+    let start = g.E.Build.context old in
+    let mid = g.E.Build.context now in
     let s = c.loop-projection.invariant.0 in
     let p = projection-later start mid c.args.projections.now c.loop-projection.projection-index _ s.grows c.requires.projections c.loop-projection-test.true in
     let r = err_from_is_err_and c.from_residual.result c.from_residual.ensures.1 in
@@ -46,7 +46,7 @@ pub returns-in_err-push-clause-kept : goal.returns-in_err-push-clause-kept
 returns-in_err-push-clause-kept g c =
     let kept = c.pick_bound.ensures.kept in
     let s = c.loop-projection.invariant in
-    record { fixed_same = kept.fixed_same ∙ s.1; probes_same = kept.probes_same ∙ s.2; grows = grows-trans (g.E.Make.context c.args.ecx.now) (g.E.Make.context c.loop-projection.ecx) (g.E.Make.context c.pick_bound.new.ecx) s.0.grows kept.grows }
+    record { fixed_same = kept.fixed_same ∙ s.1; probes_same = kept.probes_same ∙ s.2; grows = grows-trans (g.E.Build.context c.args.ecx.now) (g.E.Build.context c.loop-projection.ecx) (g.E.Build.context c.pick_bound.new.ecx) s.0.grows kept.grows }
 
 pub loop-projection-preserved : goal.loop-projection-preserved
 loop-projection-preserved g c =
@@ -54,9 +54,9 @@ loop-projection-preserved g c =
     let old = c.args.ecx.now in
     let now = c.loop-projection.ecx in
     let new = c.pick_bound.new.ecx in
-    let start = g.E.Make.context old in
-    let mid = g.E.Make.context now in
-    let last = g.E.Make.context new in
+    let start = g.E.Build.context old in
+    let mid = g.E.Build.context now in
+    let last = g.E.Build.context new in
     let s = c.loop-projection.invariant in
     let kept = c.pick_bound.ensures.kept in
     let p = projection-later start mid c.args.projections.now c.loop-projection.projection-index _ s.0.grows c.requires.projections c.loop-projection-test.true in (
@@ -72,4 +72,4 @@ loop-projection-preserved g c =
 pub returns-in_err-term-clause-kept : goal.returns-in_err-term-clause-kept
 returns-in_err-term-clause-kept g c =
     let E = g.E.EvalCtxt in
-    keeps-trans E.fixed E.probes g.E.Make.context c.args.ecx.now c.loop-projection.ecx c.pick_bound.new.ecx (record { fixed_same = c.loop-projection.invariant.1; probes_same = c.loop-projection.invariant.2; grows = c.loop-projection.invariant.0.grows }) c.pick_bound.ensures.kept
+    keeps-trans E.fixed E.probes g.E.Build.context c.args.ecx.now c.loop-projection.ecx c.pick_bound.new.ecx (record { fixed_same = c.loop-projection.invariant.1; probes_same = c.loop-projection.invariant.2; grows = c.loop-projection.invariant.0.grows }) c.pick_bound.ensures.kept

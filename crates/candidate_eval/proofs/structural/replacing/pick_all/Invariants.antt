@@ -8,6 +8,6 @@ use Rattle.candidate_eval.proofs.structural.replacing.pick_all.Given as goal
 abbrev pub invariant-loop-projection : goal.invariant-loop-projection
 invariant-loop-projection g l =
     let E = g.E.EvalCtxt in
-    let start = g.E.Make.context l.fn.ecx in
-    PickedSoFar (E.judge (E.fixed l.fn.ecx)) (env_forest start.trees l.fn.env) (clauses_at start.trees l.fn.bounds) start (g.E.Make.context l.ecx) (E.state l.fn.ecx) (E.state l.ecx) l.fn.projections l.projection-index l.terms.items
+    let start = g.E.Build.context l.fn.ecx in
+    PickedSoFar (E.judge (E.fixed l.fn.ecx)) (env_forest start.trees l.fn.env) (clauses_at start.trees l.fn.bounds) start (g.E.Build.context l.ecx) (E.state l.fn.ecx) (E.state l.ecx) l.fn.projections l.projection-index l.terms.items
     × (E.fixed l.ecx ≡ E.fixed l.fn.ecx) × (E.probes l.ecx ≡ E.probes l.fn.ecx)

@@ -13,7 +13,7 @@ pub loop-clause-init : goal.loop-clause-init
 loop-clause-init g c =
     let E = g.E.EvalCtxt in
     let old = c.args.ecx.now in
-    let start = g.E.Make.context old in (
+    let start = g.E.Build.context old in (
       none-replaced (E.judge (E.fixed old)) (env_forest start.trees c.args.env) (ty_tree start.trees c.args.object) (clauses_at start.trees c.args.bounds.now) start (E.state old) c.args.clauses.now c.new-list.result.items
           c.new-list.ensures.items,
       refl,
@@ -21,37 +21,37 @@ loop-clause-init g c =
     )
 
 pub replaced_clause-requires-clause-env : goal.replaced_clause-requires-clause-env
-replaced_clause-requires-clause-env g c = (env-kept (g.E.Make.context c.args.ecx.now) (g.E.Make.context c.loop-clause.ecx) c.args.env c.loop-clause.invariant.0.grows c.requires.env).0
+replaced_clause-requires-clause-env g c = (env-kept (g.E.Build.context c.args.ecx.now) (g.E.Build.context c.loop-clause.ecx) c.args.env c.loop-clause.invariant.0.grows c.requires.env).0
 
 pub replaced_clause-requires-clause-object : goal.replaced_clause-requires-clause-object
-replaced_clause-requires-clause-object g c = (ty-kept (g.E.Make.context c.args.ecx.now) (g.E.Make.context c.loop-clause.ecx) c.args.object c.loop-clause.invariant.0.grows c.requires.object).0
+replaced_clause-requires-clause-object g c = (ty-kept (g.E.Build.context c.args.ecx.now) (g.E.Build.context c.loop-clause.ecx) c.args.object c.loop-clause.invariant.0.grows c.requires.object).0
 
 pub replaced_clause-requires-clause-bounds : goal.replaced_clause-requires-clause-bounds
-replaced_clause-requires-clause-bounds g c = (clauses-kept (g.E.Make.context c.args.ecx.now) (g.E.Make.context c.loop-clause.ecx) c.args.bounds.now c.loop-clause.invariant.0.grows c.requires.bounds).0
+replaced_clause-requires-clause-bounds g c = (clauses-kept (g.E.Build.context c.args.ecx.now) (g.E.Build.context c.loop-clause.ecx) c.args.bounds.now c.loop-clause.invariant.0.grows c.requires.bounds).0
 
 pub replaced_clause-requires-clause-clause : goal.replaced_clause-requires-clause-clause
 replaced_clause-requires-clause-clause g c =
-    (bound-listed (g.E.Make.context c.args.ecx.now) (g.E.Make.context c.loop-clause.ecx) c.args.clauses.now c.loop-clause.clause-index _ c.loop-clause.invariant.0.grows c.requires.clauses c.loop-clause-test.true).0
+    (bound-listed (g.E.Build.context c.args.ecx.now) (g.E.Build.context c.loop-clause.ecx) c.args.clauses.now c.loop-clause.clause-index _ c.loop-clause.invariant.0.grows c.requires.clauses c.loop-clause-test.true).0
 
 pub returns-in_err-made-clause-kept : goal.returns-in_err-made-clause-kept
 returns-in_err-made-clause-kept g c =
     let kept = c.replaced_clause.ensures.kept in
     let s = c.loop-clause.invariant in
-    record { fixed_same = kept.fixed_same ∙ s.1; probes_same = kept.probes_same ∙ s.2; grows = grows-trans (g.E.Make.context c.args.ecx.now) (g.E.Make.context c.loop-clause.ecx) (g.E.Make.context c.replaced_clause.new.ecx) s.0.grows kept.grows }
+    record { fixed_same = kept.fixed_same ∙ s.1; probes_same = kept.probes_same ∙ s.2; grows = grows-trans (g.E.Build.context c.args.ecx.now) (g.E.Build.context c.loop-clause.ecx) (g.E.Build.context c.replaced_clause.new.ecx) s.0.grows kept.grows }
 
 pub returns-in_err-push-clause-kept : goal.returns-in_err-push-clause-kept
 returns-in_err-push-clause-kept g c =
     let kept = c.replaced_clause.ensures.kept in
     let s = c.loop-clause.invariant in
-    record { fixed_same = kept.fixed_same ∙ s.1; probes_same = kept.probes_same ∙ s.2; grows = grows-trans (g.E.Make.context c.args.ecx.now) (g.E.Make.context c.loop-clause.ecx) (g.E.Make.context c.replaced_clause.new.ecx) s.0.grows kept.grows }
+    record { fixed_same = kept.fixed_same ∙ s.1; probes_same = kept.probes_same ∙ s.2; grows = grows-trans (g.E.Build.context c.args.ecx.now) (g.E.Build.context c.loop-clause.ecx) (g.E.Build.context c.replaced_clause.new.ecx) s.0.grows kept.grows }
 
 pub returns-in_err-made-clause-ambiguous : goal.returns-in_err-made-clause-ambiguous
 returns-in_err-made-clause-ambiguous g c =
     let E = g.E.EvalCtxt in
     let old = c.args.ecx.now in
     let now = c.loop-clause.ecx in
-    let start = g.E.Make.context old in
-    let mid = g.E.Make.context now in
+    let start = g.E.Build.context old in
+    let mid = g.E.Build.context now in
     let s = c.loop-clause.invariant.0 in
     let listed = bound-listed start mid c.args.clauses.now c.loop-clause.clause-index _ s.grows c.requires.clauses c.loop-clause-test.true in
     let r = err_from_is_err_and c.from_residual.result c.from_residual.ensures.1 in
@@ -67,9 +67,9 @@ loop-clause-preserved g c =
     let old = c.args.ecx.now in
     let now = c.loop-clause.ecx in
     let new = c.replaced_clause.new.ecx in
-    let start = g.E.Make.context old in
-    let mid = g.E.Make.context now in
-    let last = g.E.Make.context new in
+    let start = g.E.Build.context old in
+    let mid = g.E.Build.context now in
+    let last = g.E.Build.context new in
     let s = c.loop-clause.invariant in
     let kept = c.replaced_clause.ensures.kept in
     let listed = bound-listed start mid c.args.clauses.now c.loop-clause.clause-index _ s.0.grows c.requires.clauses c.loop-clause-test.true in (

@@ -8,7 +8,7 @@ use Rattle.candidate_eval.proofs.structural.replacing.replaced.Given as goal
 abbrev pub invariant-loop-clause : goal.invariant-loop-clause
 invariant-loop-clause g l =
     let E = g.E.EvalCtxt in
-    let start = g.E.Make.context l.fn.ecx in
-    ReplacedSoFar (E.judge (E.fixed l.fn.ecx)) (env_forest start.trees l.fn.env) (ty_tree start.trees l.fn.object) (clauses_at start.trees l.fn.bounds) start (g.E.Make.context l.ecx) (E.state l.fn.ecx) (E.state l.ecx)
+    let start = g.E.Build.context l.fn.ecx in
+    ReplacedSoFar (E.judge (E.fixed l.fn.ecx)) (env_forest start.trees l.fn.env) (ty_tree start.trees l.fn.object) (clauses_at start.trees l.fn.bounds) start (g.E.Build.context l.ecx) (E.state l.fn.ecx) (E.state l.ecx)
     l.fn.clauses l.clause-index l.list.items
     × (E.fixed l.ecx ≡ E.fixed l.fn.ecx) × (E.probes l.ecx ≡ E.probes l.fn.ecx)

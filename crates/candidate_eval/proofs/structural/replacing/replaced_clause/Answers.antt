@@ -11,13 +11,13 @@ use Rattle.candidate_eval.proofs.Responding.{clauses-kept}
 use Rattle.candidate_eval.proofs.structural.replacing.replaced_clause.Goals as goal
 
 pub fill-requires-clause-object : goal.fill-requires-clause-object
-fill-requires-clause-object g c = (ty-kept (g.E.Make.context c.args.ecx.now) (g.E.Make.context c.pick_all.new.ecx) c.args.object c.pick_all.ensures.kept.grows c.requires.object).0
+fill-requires-clause-object g c = (ty-kept (g.E.Build.context c.args.ecx.now) (g.E.Build.context c.pick_all.new.ecx) c.args.object c.pick_all.ensures.kept.grows c.requires.object).0
 
 pub fill-requires-clause-bounds : goal.fill-requires-clause-bounds
-fill-requires-clause-bounds g c = (clauses-kept (g.E.Make.context c.args.ecx.now) (g.E.Make.context c.pick_all.new.ecx) c.args.bounds.now c.pick_all.ensures.kept.grows c.requires.bounds).0
+fill-requires-clause-bounds g c = (clauses-kept (g.E.Build.context c.args.ecx.now) (g.E.Build.context c.pick_all.new.ecx) c.args.bounds.now c.pick_all.ensures.kept.grows c.requires.bounds).0
 
 pub fill-requires-clause-clause : goal.fill-requires-clause-clause
-fill-requires-clause-clause g c = (clause-kept (g.E.Make.context c.args.ecx.now) (g.E.Make.context c.pick_all.new.ecx) c.args.clause c.pick_all.ensures.kept.grows c.requires.clause).0
+fill-requires-clause-clause g c = (clause-kept (g.E.Build.context c.args.ecx.now) (g.E.Build.context c.pick_all.new.ecx) c.args.clause c.pick_all.ensures.kept.grows c.requires.clause).0
 
 pub returns-clause-replaced : goal.returns-clause-replaced
 returns-clause-replaced g c =
@@ -25,13 +25,13 @@ returns-clause-replaced g c =
     let old = c.args.ecx.now in
     let mid = c.pick_all.new.ecx in
     let new = c.fill.new.make in
-    let start = g.E.Make.context old in
-    let after = g.E.Make.context mid in
+    let start = g.E.Build.context old in
+    let after = g.E.Build.context mid in
     let found = c.in_ok-projections.projections.items in
     let listed = subst (λ (y : Context). projections_at y.trees found ≡ projections (finds_own y.trees c.args.object c.args.bounds.now) (clause_tree y.trees c.args.clause).children) c.cx.ensures c.in_ok-projections.ensures.projections in
     let picked = subst (λ (us : List Ty). Picks (E.judge (E.fixed old)) (env_forest start.trees c.args.env) (clauses_at start.trees c.args.bounds.now) (E.state old) (projections_at start.trees c.as_slice.result.now)
     (types_at after.trees us) (E.state mid)) (sym c.as_slice-2.ensures.value) c.in_ok-terms.ensures.picked in
-    replaced-by (E.judge (E.fixed old)) (env_forest start.trees c.args.env) start after c.args.object c.args.bounds.now c.args.clause (clause_tree (g.E.Make.context new).trees c.in_ok-fill.field-0) _ _ (E.state old)
+    replaced-by (E.judge (E.fixed old)) (env_forest start.trees c.args.env) start after c.args.object c.args.bounds.now c.args.clause (clause_tree (g.E.Build.context new).trees c.in_ok-fill.field-0) _ _ (E.state old)
     (E.state mid) (E.state new) c.pick_all.ensures.kept.grows c.requires.object c.requires.bounds c.requires.clause (ap (projections_at start.trees) c.as_slice.ensures.value ∙ listed) picked (g.met.E.EvalCtxt.by_rest mid new c.fill.ensures.rest).1
     c.in_ok-fill.ensures.tree
 

@@ -15,25 +15,25 @@ push_own-requires-clause-object g c = (ty-kept _ _ c.args.object c.loop-bound.in
 
 pub push_own-requires-clause-bound : goal.push_own-requires-clause-bound
 push_own-requires-clause-bound g c =
-    let start = g.M.Make.context c.args.make.now in
+    let start = g.M.Build.context c.args.make.now in
     let read = preds_read start _ c.args.bounds c.preds.result.now _ c.cx.ensures (c.deref-bound-items.ensures.value ∙ c.in_ok-listed.ensures.items) c.preds.ensures.fits c.preds.ensures.tree in
     (said_stays start _ c.args.object _ c.loop-bound.invariant.0.grows c.requires.object (IsPred-listed start.trees c.deref-bound-items.result.now c.loop-bound.bound-index _ c.loop-bound-test.true read.0)).0
 
 pub loop-bound-preserved : goal.loop-bound-preserved
 loop-bound-preserved g c =
-    let start = g.M.Make.context c.args.make.now in
+    let start = g.M.Build.context c.args.make.now in
     let xs = c.deref-bound-items.result.now in
     let so = c.loop-bound.invariant.0 in
     let read = preds_read start _ c.args.bounds c.preds.result.now xs c.cx.ensures (c.deref-bound-items.ensures.value ∙ c.in_ok-listed.ensures.items) c.preds.ensures.fits c.preds.ensures.tree in
-    let stays = said_stays start (g.M.Make.context c.loop-bound.make) c.args.object _ so.grows c.requires.object (IsPred-listed start.trees xs c.loop-bound.bound-index _ c.loop-bound-test.true read.0) in (
-      more_gathered start (g.M.Make.context c.loop-bound.make) (g.M.Make.context c.push_own.new.make) [] c.loop-bound.list.items c.push_own.new.list.items (bound_said start.trees c.args.object) xs c.loop-bound.bound-index _ so
-          c.loop-bound-test.true c.push_own.ensures.grows c.in_ok-push_own.ensures.sort (c.in_ok-push_own.ensures.trees ∙ ap (λ (ts : List Tree). map (clause_tree (g.M.Make.context c.loop-bound.make).trees) c.loop-bound.list.items ++ ts) stays.1),
+    let stays = said_stays start (g.M.Build.context c.loop-bound.make) c.args.object _ so.grows c.requires.object (IsPred-listed start.trees xs c.loop-bound.bound-index _ c.loop-bound-test.true read.0) in (
+      more_gathered start (g.M.Build.context c.loop-bound.make) (g.M.Build.context c.push_own.new.make) [] c.loop-bound.list.items c.push_own.new.list.items (bound_said start.trees c.args.object) xs c.loop-bound.bound-index _ so
+          c.loop-bound-test.true c.push_own.ensures.grows c.in_ok-push_own.ensures.sort (c.in_ok-push_own.ensures.trees ∙ ap (λ (ts : List Tree). map (clause_tree (g.M.Build.context c.loop-bound.make).trees) c.loop-bound.list.items ++ ts) stays.1),
       c.push_own.ensures.rest ∙ c.loop-bound.invariant.1,
     )
 
 pub returns-clause-trees : goal.returns-clause-trees
 returns-clause-trees g c =
-    let start = g.M.Make.context c.args.make.now in
+    let start = g.M.Build.context c.args.make.now in
     let xs = c.deref-bound-items.result.now in
     let read = preds_read start _ c.args.bounds c.preds.result.now xs c.cx.ensures (c.deref-bound-items.ensures.value ∙ c.in_ok-listed.ensures.items) c.preds.ensures.fits c.preds.ensures.tree in
     let past : length xs ≤ c.loop-bound.bound-index = search rules in

@@ -6,5 +6,5 @@ use Rattle.candidate_eval.proofs.structural.required.own_bounds.Given as goal
 -- what the bounds before say was added
 abbrev pub invariant-loop-bound : goal.invariant-loop-bound
 invariant-loop-bound g l =
-    let start = g.M.Make.context l.fn.make in
-    AddedSoFar start (g.M.Make.context l.make) [] l.list.items (flat_map (bound_said start.trees l.fn.object) (take l.bound-index l.bound-items)) × (g.M.Make.rest l.make ≡ g.M.Make.rest l.fn.make)
+    let start = g.M.Build.context l.fn.make in
+    AddedSoFar start (g.M.Build.context l.make) [] l.list.items (flat_map (bound_said start.trees l.fn.object) (take l.bound-index l.bound-items)) × (g.M.Build.rest l.make ≡ g.M.Build.rest l.fn.make)

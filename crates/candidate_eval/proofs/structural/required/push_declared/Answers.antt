@@ -17,15 +17,15 @@ with_arguments-requires-clause-args g c = (args-kept _ _ c.args.args c.loop-clau
 
 pub with_arguments-requires-clause-clause : goal.with_arguments-requires-clause-clause
 with_arguments-requires-clause-clause g c =
-    let start = g.M.Make.context c.args.make.now in
+    let start = g.M.Build.context c.args.make.now in
     let read = declared_read start _ c.args.of c.declared_clauses.result.now _ c.cx.ensures (c.deref-clause-items.ensures.value ∙ c.in_ok-declared.ensures.items) c.declared_clauses.ensures.is c.declared_clauses.ensures.fit in
     (clause-kept start _ _ c.loop-clause.invariant.0.grows (IsClause-listed start.trees c.deref-clause-items.result.now c.loop-clause.clause-index _ c.loop-clause-test.true read.1)).0
 
 pub loop-clause-preserved : goal.loop-clause-preserved
 loop-clause-preserved g c =
-    let start = g.M.Make.context c.args.make.now in
-    let now = g.M.Make.context c.loop-clause.make in
-    let new = g.M.Make.context c.with_arguments.new.make in
+    let start = g.M.Build.context c.args.make.now in
+    let now = g.M.Build.context c.loop-clause.make in
+    let new = g.M.Build.context c.with_arguments.new.make in
     let xs = c.deref-clause-items.result.now in
     let so = c.loop-clause.invariant.0 in
     let items : c.push.new.self.items ≡ c.loop-clause.list.items ++ c.in_ok-clause.clause ∷ [] = search rules in
@@ -39,7 +39,7 @@ loop-clause-preserved g c =
 
 pub returns-clause-trees : goal.returns-clause-trees
 returns-clause-trees g c =
-    let start = g.M.Make.context c.args.make.now in
+    let start = g.M.Build.context c.args.make.now in
     let xs = c.deref-clause-items.result.now in
     let read = declared_read start _ c.args.of c.declared_clauses.result.now xs c.cx.ensures (c.deref-clause-items.ensures.value ∙ c.in_ok-declared.ensures.items) c.declared_clauses.ensures.is c.declared_clauses.ensures.fit in
     let past : length xs ≤ c.loop-clause.clause-index = search rules in

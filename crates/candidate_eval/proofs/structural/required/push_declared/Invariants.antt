@@ -7,5 +7,5 @@ use Rattle.candidate_eval.proofs.structural.required.push_declared.Given as goal
 -- the clauses before were added
 abbrev pub invariant-loop-clause : goal.invariant-loop-clause
 invariant-loop-clause g l =
-    let start = g.M.Make.context l.fn.make in
-    AddedSoFar start (g.M.Make.context l.make) l.fn.list.items l.list.items (flat_map (clause_with start.trees l.fn.args) (take l.clause-index l.clause-items)) × (g.M.Make.rest l.make ≡ g.M.Make.rest l.fn.make)
+    let start = g.M.Build.context l.fn.make in
+    AddedSoFar start (g.M.Build.context l.make) l.fn.list.items l.list.items (flat_map (clause_with start.trees l.fn.args) (take l.clause-index l.clause-items)) × (g.M.Build.rest l.make ≡ g.M.Build.rest l.fn.make)

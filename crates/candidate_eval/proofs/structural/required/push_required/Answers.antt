@@ -21,8 +21,8 @@ push_bounds-requires-clause-args g c = (args-kept _ _ c.args.trait_ref.args c.lo
 
 pub loop-item-preserved-then-not-is_required : goal.loop-item-preserved-then-not-is_required
 loop-item-preserved-then-not-is_required g c =
-    let start = g.M.Make.context c.args.make.now in
-    let now = g.M.Make.context c.loop-item.make in
+    let start = g.M.Build.context c.args.make.now in
+    let now = g.M.Build.context c.loop-item.make in
     let args = args_forest start.trees c.args.trait_ref.args in
     let so = c.loop-item.invariant.0 in
     let no = required_now now _ _ _ _ c.cx-in-loop-item.ensures c.is_required.ensures c.if-not-is_required.true in
@@ -33,14 +33,14 @@ loop-item-preserved-then-not-is_required g c =
 
 pub loop-item-preserved : goal.loop-item-preserved
 loop-item-preserved g c =
-    let start = g.M.Make.context c.args.make.now in
-    let now = g.M.Make.context c.loop-item.make in
+    let start = g.M.Build.context c.args.make.now in
+    let now = g.M.Build.context c.loop-item.make in
     let args = args_forest start.trees c.args.trait_ref.args in
     let so = c.loop-item.invariant.0 in
     let table = subst IsWellFormedTable c.cx.ensures c.well_formed_table.ensures in
     let yes = required_now now _ _ _ _ c.cx-in-loop-item.ensures c.is_required.ensures c.if-not-is_required.false in
     let same = item_there start now c.args.trait_ref.args _ table so.grows c.requires.args yes in (
-      more_gathered start now (g.M.Make.context c.push_bounds.new.make) c.args.list.now.items c.loop-item.list.items c.push_bounds.new.list.items (item_with start args) c.deref-item-items.result.now c.loop-item.item-index _ so
+      more_gathered start now (g.M.Build.context c.push_bounds.new.make) c.args.list.now.items c.loop-item.list.items c.push_bounds.new.list.items (item_with start args) c.deref-item-items.result.now c.loop-item.item-index _ so
           c.loop-item-test.true c.push_bounds.ensures.grows c.in_ok-push_bounds.ensures.sort
           (c.in_ok-push_bounds.ensures.trees ∙ ap (λ (ts : List Tree). map (clause_tree now.trees) c.loop-item.list.items ++ ts) same),
       c.push_bounds.ensures.rest ∙ c.loop-item.invariant.1,
@@ -51,7 +51,7 @@ returns-in_err-push_bounds-clause-grows g c = grows-trans _ _ _ c.loop-item.inva
 
 pub returns-clause-trees : goal.returns-clause-trees
 returns-clause-trees g c =
-    let start = g.M.Make.context c.args.make.now in
+    let start = g.M.Build.context c.args.make.now in
     let args = args_forest start.trees c.args.trait_ref.args in
     let xs = c.deref-item-items.result.now in
     let same = c.deref-item-items.ensures.value ∙ (c.in_ok-items.ensures.items ∙ (c.associated_items.ensures ∙ ap (λ (x : Context). items_of x c.args.trait_ref.def_id.0) c.cx-2.ensures)) in

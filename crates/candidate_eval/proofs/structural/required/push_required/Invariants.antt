@@ -8,6 +8,6 @@ use Rattle.candidate_eval.proofs.structural.required.push_required.Given as goal
 -- the bounds of the items before were added
 abbrev pub invariant-loop-item : goal.invariant-loop-item
 invariant-loop-item g l =
-    let start = g.M.Make.context l.fn.make in
-    AddedSoFar start (g.M.Make.context l.make) l.fn.list.items l.list.items (flat_map (item_with start (args_forest start.trees l.fn.trait_ref.args)) (take l.item-index l.item-items))
-    × (g.M.Make.rest l.make ≡ g.M.Make.rest l.fn.make)
+    let start = g.M.Build.context l.fn.make in
+    AddedSoFar start (g.M.Build.context l.make) l.fn.list.items l.list.items (flat_map (item_with start (args_forest start.trees l.fn.trait_ref.args)) (take l.item-index l.item-items))
+    × (g.M.Build.rest l.make ≡ g.M.Build.rest l.fn.make)

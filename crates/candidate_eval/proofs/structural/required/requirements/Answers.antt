@@ -15,9 +15,9 @@ push_required-requires-clause-args g c = (args-kept _ _ c.args.trait_ref.args (g
 
 pub returns-clause-requirements : goal.returns-clause-requirements
 returns-clause-requirements g c =
-    let start = g.M.Make.context c.args.make.now in
-    let mid = g.M.Make.context c.push_declared.new.make in
-    let last = g.M.Make.context c.elaborate.new.make in
+    let start = g.M.Build.context c.args.make.now in
+    let mid = g.M.Build.context c.push_declared.new.make in
+    let last = g.M.Build.context c.elaborate.new.make in
     let i = c.args.trait_ref.def_id.0 in
     let f = with_arguments (args_forest start.trees c.args.trait_ref.args) in
     let all = c.in_ok-list.list.items in
@@ -25,7 +25,7 @@ returns-clause-requirements g c =
     let first =
     subst (λ (xs : List Clause). map (clause_tree mid.trees) supers ≡ map (clause_tree start.trees) xs ++ map f (super_clauses start i)) c.new-supers.ensures.items c.in_ok-push_declared.ensures.trees in
     let walk = subst (λ (xs : List Clause). IsElaboration mid (map (clause_tree mid.trees) xs) (map (clause_tree last.trees) all)) c.as_slice.ensures.value c.in_ok-list.ensures.list in
-    are_requirements start mid last (g.M.Make.context c.push_required.new.make) i c.args.trait_ref.args supers all c.push_required.new.list.items
+    are_requirements start mid last (g.M.Build.context c.push_required.new.make) i c.args.trait_ref.args supers all c.push_required.new.list.items
     (subst IsWellFormedTable c.cx.ensures c.well_formed_table.ensures) (subst IsWellFormed c.cx-2.ensures c.well_formed-2.ensures) c.in_ok-push_declared.ensures.grows c.in_ok-list.ensures.grows c.requires.args first walk
     c.in_ok-push_required.ensures.trees
 

@@ -8,6 +8,6 @@ use Rattle.candidate_eval.proofs.structural.required.with_arguments.Goals as goa
 
 pub returns-then-has_arguments-clause-tree : goal.returns-then-has_arguments-clause-tree
 returns-then-has_arguments-clause-tree g c =
-    let start = g.M.Make.context c.args.make.now in
+    let start = g.M.Build.context c.args.make.now in
     let there : tree_holds (lacks_argument (args_forest start.trees c.args.args)) (clause_tree start.trees c.args.clause) ≡ false = search rules in
-    subst (λ (t : Tree). IfOk c.subst_clause.result (λ x. clause_tree (g.M.Make.context c.subst_clause.new.make).trees x ≡ t)) (all_there (args_forest start.trees c.args.args) (clause_tree start.trees c.args.clause) there) c.subst_clause.ensures.tree
+    subst (λ (t : Tree). IfOk c.subst.result (λ x. clause_tree (g.M.Build.context c.subst.new.make).trees x ≡ t)) (all_there (args_forest start.trees c.args.args) (clause_tree start.trees c.args.clause) there) c.subst.ensures.tree

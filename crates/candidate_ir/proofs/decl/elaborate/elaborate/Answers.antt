@@ -16,7 +16,7 @@ returns-in_err-list-clause-cause g c =
 
 pub loop-walked-init : goal.loop-walked-init
 loop-walked-init g c =
-    let start = g.M.Make.context c.args.make.now in
+    let start = g.M.Build.context c.args.make.now in
     let list = c.in_ok-list.list.items in
     let fit = subst (λ (x : Context). ClauseListFits x.trees list) c.cx-2.ensures c.in_ok-list.ensures.fit in
     let trees =
@@ -32,7 +32,7 @@ push_implied-requires-clause-clause g c =
 pub returns-in_err-push_implied-clause-cause : goal.returns-in_err-push_implied-clause-cause
 returns-in_err-push_implied-clause-cause g c =
     let p = err_from_is_err_and c.from_residual-in_err-push_implied.result c.from_residual-in_err-push_implied.ensures.1 in
-    let start = g.M.Make.context c.args.make.now in
+    let start = g.M.Build.context c.args.make.now in
     let inside : c.loop-walked.walked < length c.loop-walked.list.items = search rules in
     let at : c.index-clause.result.now ≡ get_or c.loop-walked.list.items c.loop-walked.walked c.index-clause.result.now = search rules in
     let supers : SupersFit start = subst SupersFit c.cx.ensures c.supers_fit.ensures in
@@ -41,7 +41,7 @@ returns-in_err-push_implied-clause-cause g c =
 
 pub loop-walked-preserved : goal.loop-walked-preserved
 loop-walked-preserved g c =
-    let start = g.M.Make.context c.args.make.now in
+    let start = g.M.Build.context c.args.make.now in
     let inside : c.loop-walked.walked < length c.loop-walked.list.items = search rules in
     let at : c.index-clause.result.now ≡ get_or c.loop-walked.list.items c.loop-walked.walked c.index-clause.result.now = search rules in
     let supers : SupersFit start = subst SupersFit c.cx.ensures c.supers_fit.ensures in (

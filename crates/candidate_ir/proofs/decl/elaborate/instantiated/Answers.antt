@@ -17,28 +17,28 @@ fold_number-requires-clause-inside g c = below_kind _ _ ClauseKind refl c.requir
 pub fold_number-requires-clause-callable : goal.fold_number-requires-clause-callable
 fold_number-requires-clause-callable g c = record {
   at = λ s x d lent e l grown i n b.
-      let held = reached-keeps g.M.Make.context g.M.Make.rest _ (λ z. z.1 ≡ c.args.args) (λ s x d r e n p. let k = n.called in let q = n.lends in let v = n.leaves in search rules) _ s l refl in
+      let held = reached-keeps g.M.Build.context g.M.Build.rest _ (λ z. z.1 ≡ c.args.args) (λ s x d r e n p. let k = n.called in let q = n.lends in let v = n.leaves in search rules) _ s l refl in
       let kept = (args-kept _ _ c.args.args grown c.requires.args).0 in
       search rules;
 }
 
 pub returns-clause-tree : goal.returns-clause-tree
 returns-clause-tree g c =
-    head-number g.M.Make.context g.M.Make.rest _ _ _ c.args.clause.0 _ ClauseKind c.in_ok-number.ensures refl refl c.requires.clause
-    (λ d. instance_head (args_forest (g.M.Make.context c.args.make.now).trees c.args.args) c.args.by (d - 1)) (λ z. (z.1 ≡ c.args.args) × (z.2 ≡ c.args.by)) (refl, refl)
+    head-number g.M.Build.context g.M.Build.rest _ _ _ c.args.clause.0 _ ClauseKind c.in_ok-number.ensures refl refl c.requires.clause
+    (λ d. instance_head (args_forest (g.M.Build.context c.args.make.now).trees c.args.args) c.args.by (d - 1)) (λ z. (z.1 ≡ c.args.args) × (z.2 ≡ c.args.by)) (refl, refl)
     (λ s x d r e n p. let k = n.called in let l = n.lends in let v = n.leaves in (search rules, search rules))
     (λ s x d r e n i grown p. let k = n.called in let l = n.lends in let v = n.leaves in let same = (args-kept _ _ c.args.args grown c.requires.args).1 in search rules)
-    (λ d. instance-only (args_forest (g.M.Make.context c.args.make.now).trees c.args.args) c.args.by (d - 1))
+    (λ d. instance-only (args_forest (g.M.Build.context c.args.make.now).trees c.args.args) c.args.by (d - 1))
 
 pub returns-clause-rest : goal.returns-clause-rest
 returns-clause-rest g c =
-    number-keeps-rest g.M.Make.context g.M.Make.rest _ (λ z. z.1 ≡ c.args.args) _
+    number-keeps-rest g.M.Build.context g.M.Build.rest _ (λ z. z.1 ≡ c.args.args) _
     (λ t x d r u n i l0 grown q. let k = n.called in let l = n.lends in let v = n.leaves in let kept = (args-kept _ _ c.args.args grown c.requires.args).0 in (search rules, search rules))
     _ 0 c.args.clause.0 c.fold_number.result refl c.fold_number.ensures
 
 pub returns-in_err-number-clause-rest : goal.returns-in_err-number-clause-rest
 returns-in_err-number-clause-rest g c =
-    number-keeps-rest g.M.Make.context g.M.Make.rest _ (λ z. z.1 ≡ c.args.args) _
+    number-keeps-rest g.M.Build.context g.M.Build.rest _ (λ z. z.1 ≡ c.args.args) _
     (λ t x d r u n i l0 grown q. let k = n.called in let l = n.lends in let v = n.leaves in let kept = (args-kept _ _ c.args.args grown c.requires.args).0 in (search rules, search rules))
     _ 0 c.args.clause.0 c.fold_number.result refl c.fold_number.ensures
 
@@ -46,10 +46,10 @@ pub returns-in_err-number-clause-cause : goal.returns-in_err-number-clause-cause
 returns-in_err-number-clause-cause g c =
     let p = err_from_is_err_and c.from_residual.result c.from_residual.ensures.1 in
     rw (p.1, p.2)
-    (single-stop (λ d t. instance_head (args_forest (g.M.Make.context c.args.make.now).trees c.args.args) c.args.by (d - 1) t.head) _ (g.M.Make.context c.args.make.now).trees c.args.clause.0 ClauseKind _ refl refl c.requires.clause
-    (head-stop g.M.Make.context g.M.Make.rest _ IsRenumberStop renumber-cause (λ d. instance_head (args_forest (g.M.Make.context c.args.make.now).trees c.args.args) c.args.by (d - 1))
+    (single-stop (λ d t. instance_head (args_forest (g.M.Build.context c.args.make.now).trees c.args.args) c.args.by (d - 1) t.head) _ (g.M.Build.context c.args.make.now).trees c.args.clause.0 ClauseKind _ refl refl c.requires.clause
+    (head-stop g.M.Build.context g.M.Build.rest _ IsRenumberStop renumber-cause (λ d. instance_head (args_forest (g.M.Build.context c.args.make.now).trees c.args.args) c.args.by (d - 1))
     (λ z. (z.1 ≡ c.args.args) × (z.2 ≡ c.args.by)) _ _ _ _ (refl, refl)
     (λ s x d r e n p. let k = n.called in let l = n.lends in let v = n.leaves in (search rules, search rules))
     (λ s x d r e n i grown p. let k = n.called in let l = n.lends in let v = n.leaves in let same = (args-kept _ _ c.args.args grown c.requires.args).1 in search rules)
     (λ s x d r e n i grown p. let k = n.called in let l = n.lends in let v = n.leaves in let same = (args-kept _ _ c.args.args grown c.requires.args).1 in heads _ _ r (search rules))
-    (λ d. instance-only (args_forest (g.M.Make.context c.args.make.now).trees c.args.args) c.args.by (d - 1)) c.in_err-number.ensures))
+    (λ d. instance-only (args_forest (g.M.Build.context c.args.make.now).trees c.args.args) c.args.by (d - 1)) c.in_err-number.ensures))

@@ -31,8 +31,8 @@ returns-in_err-push_unlisted-clause-grows g c = grows-trans _ _ _ c.loop-place.i
 pub loop-place-preserved : goal.loop-place-preserved
 loop-place-preserved g c = elim c.match-super_clause.branch [
   | in-Some+in_ok-clause+in_ok-push_unlisted w ↦
-      let start = g.M.Make.context c.args.make.now in
-      let new = g.M.Make.context w.implied.new.make in
+      let start = g.M.Build.context c.args.make.now in
+      let new = g.M.Build.context w.implied.new.make in
       let i = c.args.trait_ref.def_id.0 in
       let supers = supers_read start _ i c.super_clauses-count.result.now c.cx.ensures c.super_clauses-count.ensures.is c.super_clauses-count.ensures.fit in
       let list = w.push_unlisted.new.list.items in
@@ -41,7 +41,7 @@ loop-place-preserved g c = elim c.match-super_clause.branch [
       let trees =
       subst (λ (y : Context). map (clause_tree y.trees) list ≡ map (clause_tree y.trees) c.loop-place.list.items ++ unlisted (map (clause_tree y.trees) c.loop-place.list.items) (clause_tree y.trees x ∷ []))
       w.cx-in-Some.ensures w.in_ok-push_unlisted.ensures.trees in
-      let is = w.in_ok-clause.ensures.tree ∙ instance_kept start (g.M.Make.context c.loop-place.make) c.args.vars c.args.trait_ref.args (clause_tree (g.M.Make.context c.loop-place.make).trees w.in-Some.own) c.loop-place.invariant.0.grows c.requires.vars c.requires.args in
+      let is = w.in_ok-clause.ensures.tree ∙ instance_kept start (g.M.Build.context c.loop-place.make) c.args.vars c.args.trait_ref.args (clause_tree (g.M.Build.context c.loop-place.make).trees w.in-Some.own) c.loop-place.invariant.0.grows c.requires.vars c.requires.args in
       let own = subst (λ (y : Context). Some w.in-Some.own ≡ slice_get (supers_at (trait_at y i)) c.loop-place.place) c.cx-in-loop-place.ensures (sym w.in-Some.is ∙ c.super_clause.ensures.is) in
       rw w.make-is
       (rw w.list-is (
@@ -57,8 +57,8 @@ loop-place-preserved g c = elim c.match-super_clause.branch [
 pub returns-in_err-clause-clause-cause : goal.returns-in_err-clause-clause-cause
 returns-in_err-clause-clause-cause g c =
     let p = err_from_is_err_and c.from_residual.result c.from_residual.ensures.1 in
-    let start = g.M.Make.context c.args.make.now in
-    let now = g.M.Make.context c.loop-place.make in
+    let start = g.M.Build.context c.args.make.now in
+    let now = g.M.Build.context c.loop-place.make in
     let i = c.args.trait_ref.def_id.0 in
     let supers = supers_read start _ i c.super_clauses-count.result.now c.cx.ensures c.super_clauses-count.ensures.is c.super_clauses-count.ensures.fit in
     let own = subst (λ (y : Context). Some c.in-Some.own ≡ slice_get (supers_at (trait_at y i)) c.loop-place.place) c.cx-in-loop-place.ensures (sym c.in-Some.is ∙ c.super_clause.ensures.is) in
@@ -69,11 +69,11 @@ returns-in_err-clause-clause-cause g c =
 
 pub super_clause-requires : goal.super_clause-requires
 super_clause-requires g c =
-    rw c.cx-in-loop-place.ensures (header-kept (g.M.Make.context c.args.make.now) (g.M.Make.context c.loop-place.make) c.args.trait_ref c.loop-place.invariant.0.grows c.requires.args c.requires.fit)
+    rw c.cx-in-loop-place.ensures (header-kept (g.M.Build.context c.args.make.now) (g.M.Build.context c.loop-place.make) c.args.trait_ref c.loop-place.invariant.0.grows c.requires.args c.requires.fit)
 
 pub returns-clause-trees : goal.returns-clause-trees
 returns-clause-trees g c =
-    let start = g.M.Make.context c.args.make.now in
+    let start = g.M.Build.context c.args.make.now in
     let i = c.args.trait_ref.def_id.0 in
     let supers = supers_read start _ i c.super_clauses-count.result.now c.cx.ensures c.super_clauses-count.ensures.is c.super_clauses-count.ensures.fit in
     let all : length (supers_at (trait_at start i)) ≤ c.loop-place.place = omega (arith, ap length supers.0, c.loop-place-test.false) in

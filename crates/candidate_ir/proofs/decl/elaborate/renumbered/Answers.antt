@@ -1,12 +1,12 @@
 use Rattle.std.proofs.Common.{sym, ◌∙◌}
 use Rattle.std.proofs.lemmas.Result.{err_from_is_err_and}
 use Rattle.candidate_ir.proofs.Asking.{arg-head, arg-head-is, arg-below}
-use Rattle.candidate_ir.proofs.Bound.{renumbers, keeps-number, unnumbered, renumbers-too-high, renumbers-unmade}
+use Rattle.candidate_ir.proofs.Bound.{renumbers, renumbers-too-high, renumbers-unmade}
 use Rattle.candidate_ir.proofs.Opening.{bound-kind}
 use Rattle.candidate_ir.proofs.decl.elaborate.renumbered.Goals as goal
 
 pub head-head-requires : goal.head-head-requires
-head-head-requires g c = rw (c.cx.ensures, c.number.ensures) (arg-below (g.M.Make.context c.args.make.now).trees c.args.arg c.requires)
+head-head-requires g c = rw (c.cx.ensures, c.number.ensures) (arg-below (g.M.Build.context c.args.make.now).trees c.args.arg c.requires)
 
 pub returns-in_ok-bound_variable-in-Some-2-clause-kind : goal.returns-in_ok-bound_variable-in-Some-2-clause-kind
 returns-in_ok-bound_variable-in-Some-2-clause-kind g c = (

@@ -18,9 +18,9 @@ decreases-fold_number g l = 3 * l.number + 2
 
 abbrev pub invariant-fold_children-loop-i : goal.invariant-fold_children-loop-i
 invariant-fold_children-loop-i g l =
-    ChildrenSoFar g.M.Make.context g.M.Make.rest g.F.FnMut (l.fn.fold, l.fn.make) (l.binders + binders_of (head_of l.node)) (numbers (children_of l.node))
+    ChildrenSoFar g.M.Build.context g.M.Build.rest g.F.FnMut (l.fn.fold, l.fn.make) (l.binders + binders_of (head_of l.node)) (numbers (children_of l.node))
     l.children.items l.i (l.fold, l.make)
 
 abbrev pub invariant-fold_bounds-loop-i : goal.invariant-fold_bounds-loop-i
 invariant-fold_bounds-loop-i g l =
-    BoundsSoFar g.M.Make.context g.M.Make.rest g.F.FnMut (l.fn.fold, l.fn.make) l.binders (numbers (map pred_child l.list)) l.bounds.items l.i (l.fold, l.make)
+    BoundsSoFar g.M.Build.context g.M.Build.rest g.F.FnMut (l.fn.fold, l.fn.make) l.binders (numbers (map pred_child l.list)) l.bounds.items l.i (l.fold, l.make)

@@ -4,10 +4,10 @@ use Rattle.candidate_ir.proofs.decl.fold.call.Goals as goal
 
 pub returns : goal.returns
 returns g c =
-    let k = call-keeps g.M.Make.context g.M.Make.rest g.F.FnMut _ _ c.args.arg c.args.binders _ _ _ c.requires.keeps c.requires.arg c.requires.number (omega arith) c.fold.ensures in
+    let k = call-keeps g.M.Build.context g.M.Build.rest g.F.FnMut _ _ c.args.arg c.args.binders _ _ _ c.requires.keeps c.requires.arg c.requires.number (omega arith) c.fold.ensures in
     record {
       grows = k.0;
-      says = call-says g.M.Make.context g.M.Make.rest g.F.FnMut _ _ c.args.arg c.args.binders _ _ _ c.fold.ensures;
+      says = call-says g.M.Build.context g.M.Build.rest g.F.FnMut _ _ c.args.arg c.args.binders _ _ _ c.fold.ensures;
       kind = k.1;
     }
 

@@ -1,31 +1,50 @@
-use Rattle.std.proofs.Common.{refl}
+use Rattle.std.proofs.Common.{sym, ◌∙◌, ap, ℕ}
 use Rattle.std.proofs.lemmas.Result.{err_from_is_err_and}
-use Rattle.candidate_ir.specs.declared.ir.kinds.Ty.{Ty}
-use Rattle.candidate_ir.specs.Trees.{TypeKind}
-use Rattle.candidate_ir.specs.Folds.{here}
+use Rattle.candidate_ir.specs.Nodes.{kind_at, tree_at, is_bound_kind}
 use Rattle.candidate_ir.proofs.Lists.{below_kind}
-use Rattle.candidate_ir.proofs.FoldLaws.{one-outcome, one-stop, tree-by}
+use Rattle.candidate_ir.proofs.FoldLaws.{outcome-of, stop-of, number-by, members-by}
 use Rattle.candidate_ir.proofs.FoldStops.{number-rest}
 use Rattle.candidate_ir.proofs.decl.fold.fold.Goals as goal
 
 pub fold_number-requires-clause-inside : goal.fold_number-requires-clause-inside
-fold_number-requires-clause-inside g c = below_kind _ _ TypeKind refl c.requires.ty
+fold_number-requires-clause-inside g c = rw c.number.ensures (below_kind _ _ (g.N.Numbered.kind c.args.value) (g.met.N.Numbered.is_there c.args.value) c.requires.value)
 
-pub returns-in_err-fold_number-clause-outcome : goal.returns-in_err-fold_number-clause-outcome
-returns-in_err-fold_number-clause-outcome g c =
-    let p = err_from_is_err_and c.from_residual.result c.from_residual.ensures.1 in
-    rw (p.1, p.2) (_, one-stop g.M.Make.context g.M.Make.rest g.F.FnMut _ _ _ 0 c.args.ty.0 _ TypeKind refl refl c.requires.ty c.in_err-fold_number.ensures)
+pub fold_number-requires-clause-no_bound : goal.fold_number-requires-clause-no_bound
+fold_number-requires-clause-no_bound g c = rw c.number.ensures (ap is_bound_kind c.requires.value ∙ g.met.N.Numbered.is_unbound c.args.value)
 
 pub returns-clause-outcome : goal.returns-clause-outcome
-returns-clause-outcome g c = (_, one-outcome g.M.Make.context g.M.Make.rest g.F.FnMut (λ (x : Ty). x.0) (λ n. record { 0 = n }) (λ n. refl) _ _ 0 c.args.ty.0 c.in_ok-fold_number.field-0 TypeKind refl refl c.requires.ty c.in_ok-fold_number.ensures)
+returns-clause-outcome g c =
+    let made = rw c.number.ensures at c.in_ok-number.ensures in (
+      _,
+      outcome-of g.M.Build.context g.M.Build.rest g.F.FnMut g.N.Numbered.number_of g.N.Numbered.kind _ _ 0 _ c.args.value c.with_number.result (g.met.N.Numbered.is_there c.args.value) c.requires.value
+          c.with_number.ensures.number c.with_number.ensures.kind made,
+    )
+
+pub returns-in_err-number-clause-outcome : goal.returns-in_err-number-clause-outcome
+returns-in_err-number-clause-outcome g c =
+    let p = err_from_is_err_and c.from_residual.result c.from_residual.ensures.1 in
+    let made = rw c.number.ensures at c.in_err-number.ensures in
+    rw (p.1, p.2) (_, stop-of g.M.Build.context g.M.Build.rest g.F.FnMut _ _ _ 0 (g.N.Numbered.number_of c.args.value) _ (g.N.Numbered.kind c.args.value) (g.met.N.Numbered.is_there c.args.value) c.requires.value made)
+
+pub returns-clause-sort : goal.returns-clause-sort
+returns-clause-sort g c =
+    let made = rw c.number.ensures at c.in_ok-number.ensures in
+    ap (kind_at (g.M.Build.context c.fold_number.new.make).trees) c.with_number.ensures.number ∙ (made.sort ∙ (c.requires.value ∙ sym c.with_number.ensures.kind))
 
 pub returns-clause-answer : goal.returns-clause-answer
 returns-clause-answer g c = λ a f.
-    let o = one-outcome g.M.Make.context g.M.Make.rest g.F.FnMut (λ (x : Ty). x.0) (λ n. record { 0 = n }) (λ n. refl) _ _ 0 c.args.ty.0 c.in_ok-fold_number.field-0 TypeKind refl refl c.requires.ty c.in_ok-fold_number.ensures in
-    tree-by g.M.Make.context g.M.Make.rest g.F.FnMut a _ f _ _ here o.folded
+    let made = rw c.number.ensures at c.in_ok-number.ensures in
+    ap (tree_at (g.M.Build.context c.fold_number.new.make).trees) c.with_number.ensures.number
+    ∙ number-by g.M.Build.context g.M.Build.rest g.F.FnMut a _ _ _ _ (g.N.Numbered.kind c.args.value) f (g.met.N.Numbered.is_there c.args.value) c.requires.value made
+
+pub returns-clause-list : goal.returns-clause-list
+returns-clause-list g c = λ list a f.
+    let made = rw c.number.ensures at c.in_ok-number.ensures in
+    ap (λ (n : ℕ). (tree_at (g.M.Build.context c.fold_number.new.make).trees n).children) c.with_number.ensures.number
+    ∙ members-by g.M.Build.context g.M.Build.rest g.F.FnMut a _ _ _ _ (g.N.Numbered.kind c.args.value) f (g.met.N.Numbered.is_there c.args.value) c.requires.value made list
 
 pub returns-clause-rest : goal.returns-clause-rest
-returns-clause-rest g c = number-rest g.M.Make.context g.M.Make.rest g.F.FnMut _ _ 0 c.args.ty.0 c.fold_number.result c.fold_number.ensures
+returns-clause-rest g c = number-rest g.M.Build.context g.M.Build.rest g.F.FnMut _ _ 0 c.number.result c.fold_number.result c.fold_number.ensures
 
-pub returns-in_err-fold_number-clause-rest : goal.returns-in_err-fold_number-clause-rest
-returns-in_err-fold_number-clause-rest g c = number-rest g.M.Make.context g.M.Make.rest g.F.FnMut _ _ 0 c.args.ty.0 c.fold_number.result c.fold_number.ensures
+pub returns-in_err-number-clause-rest : goal.returns-in_err-number-clause-rest
+returns-in_err-number-clause-rest g c = number-rest g.M.Build.context g.M.Build.rest g.F.FnMut _ _ 0 c.number.result c.fold_number.result c.fold_number.ensures

@@ -17,9 +17,9 @@ clause-value-requires g c =
     subst (λ (y : Context). IsClause y.trees c.in_ok-opened.opened) (sym c.cx-3.ensures) (clause-kept _ _ c.in_ok-opened.opened c.in_ok-vars.ensures.made.kept c.in_ok-opened.ensures.sort).0
 
 pub mk_clause-requires-clause-takes : goal.mk_clause-requires-clause-takes
-mk_clause-requires-clause-takes g c =
-    let new = g.M.Make.context c.mk_vars.new.self in
-    opened-takes (args_forest (g.M.Make.context c.args.make.now).trees c.args.values) (g.M.Make.context c.args.make.now).trees c.args.clause c.requires.clause
+mk_clause-requires-clause-takes g c = λ _.
+    let new = g.M.Build.context c.mk_vars.new.self in
+    opened-takes (args_forest (g.M.Build.context c.args.make.now).trees c.args.values) (g.M.Build.context c.args.make.now).trees c.args.clause c.requires.clause
     new c.in_ok-vars.vars c.clause-value.result c.in_ok-opened.opened c.in_ok-vars.ensures.made.sort c.in_ok-vars.ensures.made.tree
     (read-fits new _ c.clause-value.result c.cx-3.ensures c.clause-value.ensures.fits)
     (read-clause new _ c.in_ok-opened.opened c.clause-value.result c.cx-3.ensures c.clause-value.ensures.fits c.clause-value.ensures.tree)
@@ -28,9 +28,9 @@ mk_clause-requires-clause-takes g c =
 
 pub returns-clause-tree : goal.returns-clause-tree
 returns-clause-tree g c =
-    let new = g.M.Make.context c.mk_vars.new.self in
-    subst (λ (t : Tree). IfOk c.mk_clause.result (λ x. clause_tree (g.M.Make.context c.mk_clause.new.self).trees x ≡ t))
-    (opened-tree (args_forest (g.M.Make.context c.args.make.now).trees c.args.values) (g.M.Make.context c.args.make.now).trees c.args.clause c.requires.clause
+    let new = g.M.Build.context c.mk_vars.new.self in
+    subst (λ (t : Tree). IfOk c.mk_clause.result (λ x. clause_tree (g.M.Build.context c.mk_clause.new.self).trees x ≡ t))
+    (opened-tree (args_forest (g.M.Build.context c.args.make.now).trees c.args.values) (g.M.Build.context c.args.make.now).trees c.args.clause c.requires.clause
     new c.in_ok-vars.vars c.clause-value.result c.in_ok-opened.opened c.in_ok-vars.ensures.made.sort c.in_ok-vars.ensures.made.tree
     (read-fits new _ c.clause-value.result c.cx-3.ensures c.clause-value.ensures.fits)
     (read-clause new _ c.in_ok-opened.opened c.clause-value.result c.cx-3.ensures c.clause-value.ensures.fits c.clause-value.ensures.tree)
@@ -40,7 +40,7 @@ returns-clause-tree g c =
 pub returns-in_err-opened-clause-cause : goal.returns-in_err-opened-clause-cause
 returns-in_err-opened-clause-cause g c =
     let p = err_from_is_err_and c.from_residual.result c.from_residual.ensures.1 in
-    let old = g.M.Make.context c.args.make.now in
+    let old = g.M.Build.context c.args.make.now in
     rw (p.1, p.2)
     (opened-cause _ (world old) (args_forest old.trees c.args.values) (clause_tree old.trees c.args.clause) _ (kind-of old.trees c.args.clause.0 ClauseKind refl c.requires.clause)
     (fit-at (world old) old.trees (subst IsWellFormed c.cx.ensures c.well_formed-2.ensures) c.args.clause.0) c.in_err-opened.ensures.cause)
@@ -53,9 +53,9 @@ returns-in_err-vars-clause-cause g c =
 
 pub returns-clause-cause : goal.returns-clause-cause
 returns-clause-cause g c =
-    let new = g.M.Make.context c.mk_vars.new.self in
+    let new = g.M.Build.context c.mk_vars.new.self in
     clause-unmade _ _ _ _ c.mk_clause.result
-    (opened-tree (args_forest (g.M.Make.context c.args.make.now).trees c.args.values) (g.M.Make.context c.args.make.now).trees c.args.clause c.requires.clause
+    (opened-tree (args_forest (g.M.Build.context c.args.make.now).trees c.args.values) (g.M.Build.context c.args.make.now).trees c.args.clause c.requires.clause
     new c.in_ok-vars.vars c.clause-value.result c.in_ok-opened.opened c.in_ok-vars.ensures.made.sort c.in_ok-vars.ensures.made.tree
     (read-fits new _ c.clause-value.result c.cx-3.ensures c.clause-value.ensures.fits)
     (read-clause new _ c.in_ok-opened.opened c.clause-value.result c.cx-3.ensures c.clause-value.ensures.fits c.clause-value.ensures.tree)

@@ -16,28 +16,28 @@ fold_number-requires-clause-inside g c = below_kind _ _ ClauseKind refl c.requir
 pub fold_number-requires-clause-callable : goal.fold_number-requires-clause-callable
 fold_number-requires-clause-callable g c = record {
   at = λ s x d lent e l grown i n b.
-      let held = reached-keeps g.M.Make.context g.M.Make.rest _ (λ z. z.1 ≡ c.args.values) (λ s x d r e n p. let k = n.called in let q = n.lends in let v = n.leaves in search rules) _ s l refl in
+      let held = reached-keeps g.M.Build.context g.M.Build.rest _ (λ z. z.1 ≡ c.args.values) (λ s x d r e n p. let k = n.called in let q = n.lends in let v = n.leaves in search rules) _ s l refl in
       let kept = (args-kept _ _ c.args.values grown c.requires.values).0 in
       search rules;
 }
 
 pub returns-clause-tree : goal.returns-clause-tree
 returns-clause-tree g c =
-    head-number g.M.Make.context g.M.Make.rest _ _ _ c.args.clause.0 _ ClauseKind c.in_ok-number.ensures refl refl c.requires.clause
-    (deeper (args_forest (g.M.Make.context c.args.make.now).trees c.args.values)) (λ z. z.1 ≡ c.args.values) refl
+    head-number g.M.Build.context g.M.Build.rest _ _ _ c.args.clause.0 _ ClauseKind c.in_ok-number.ensures refl refl c.requires.clause
+    (deeper (args_forest (g.M.Build.context c.args.make.now).trees c.args.values)) (λ z. z.1 ≡ c.args.values) refl
     (λ s x d r e n p. let k = n.called in let l = n.lends in let v = n.leaves in search rules)
     (λ s x d r e n i grown p. let k = n.called in let l = n.lends in let v = n.leaves in let same = (args-kept _ _ c.args.values grown c.requires.values).1 in search rules)
-    (λ d. opened-only (args_forest (g.M.Make.context c.args.make.now).trees c.args.values) (d - 1))
+    (λ d. opened-only (args_forest (g.M.Build.context c.args.make.now).trees c.args.values) (d - 1))
 
 pub returns-clause-rest : goal.returns-clause-rest
 returns-clause-rest g c =
-    number-keeps-rest g.M.Make.context g.M.Make.rest _ (λ z. z.1 ≡ c.args.values) _
+    number-keeps-rest g.M.Build.context g.M.Build.rest _ (λ z. z.1 ≡ c.args.values) _
     (λ t x d r u n i l0 grown q. let k = n.called in let l = n.lends in let v = n.leaves in let kept = (args-kept _ _ c.args.values grown c.requires.values).0 in (search rules, search rules))
     _ 0 c.args.clause.0 c.fold_number.result refl c.fold_number.ensures
 
 pub returns-in_err-number-clause-rest : goal.returns-in_err-number-clause-rest
 returns-in_err-number-clause-rest g c =
-    number-keeps-rest g.M.Make.context g.M.Make.rest _ (λ z. z.1 ≡ c.args.values) _
+    number-keeps-rest g.M.Build.context g.M.Build.rest _ (λ z. z.1 ≡ c.args.values) _
     (λ t x d r u n i l0 grown q. let k = n.called in let l = n.lends in let v = n.leaves in let kept = (args-kept _ _ c.args.values grown c.requires.values).0 in (search rules, search rules))
     _ 0 c.args.clause.0 c.fold_number.result refl c.fold_number.ensures
 
@@ -45,9 +45,9 @@ pub returns-in_err-number-clause-cause : goal.returns-in_err-number-clause-cause
 returns-in_err-number-clause-cause g c =
     let p = err_from_is_err_and c.from_residual.result c.from_residual.ensures.1 in
     rw (p.1, p.2)
-    (single-cause (λ d t. deeper (args_forest (g.M.Make.context c.args.make.now).trees c.args.values) d t.head) _ (g.M.Make.context c.args.make.now).trees c.args.clause.0 ClauseKind _ refl refl c.requires.clause
-    (head-cause g.M.Make.context g.M.Make.rest _ (deeper (args_forest (g.M.Make.context c.args.make.now).trees c.args.values)) (λ z. z.1 ≡ c.args.values) _ _ _ _ refl
+    (single-cause (λ d t. deeper (args_forest (g.M.Build.context c.args.make.now).trees c.args.values) d t.head) _ (g.M.Build.context c.args.make.now).trees c.args.clause.0 ClauseKind _ refl refl c.requires.clause
+    (head-cause g.M.Build.context g.M.Build.rest _ (deeper (args_forest (g.M.Build.context c.args.make.now).trees c.args.values)) (λ z. z.1 ≡ c.args.values) _ _ _ _ refl
     (λ s x d r e n p. let k = n.called in let l = n.lends in let v = n.leaves in search rules)
     (λ s x d r e n i grown p. let k = n.called in let l = n.lends in let v = n.leaves in let same = (args-kept _ _ c.args.values grown c.requires.values).1 in search rules)
     (λ s x d r e n i grown p. let k = n.called in let l = n.lends in let v = n.leaves in let same = (args-kept _ _ c.args.values grown c.requires.values).1 in search rules)
-    (λ d. opened-only (args_forest (g.M.Make.context c.args.make.now).trees c.args.values) (d - 1)) c.in_err-number.ensures))
+    (λ d. opened-only (args_forest (g.M.Build.context c.args.make.now).trees c.args.values) (d - 1)) c.in_err-number.ensures))

@@ -4,7 +4,7 @@ use Rattle.candidate_ir.proofs.Opening.{answer-kind, bound-kind}
 use Rattle.candidate_ir.proofs.decl.open.opened_part.Goals as goal
 
 pub head-head-requires : goal.head-head-requires
-head-head-requires g c = rw (c.cx.ensures, c.number.ensures) (arg-below (g.M.Make.context c.args.make.now).trees c.args.arg c.requires.arg)
+head-head-requires g c = rw (c.cx.ensures, c.number.ensures) (arg-below (g.M.Build.context c.args.make.now).trees c.args.arg c.requires.arg)
 
 pub returns-in-Some-clause-kind : goal.returns-in-Some-clause-kind
 returns-in-Some-clause-kind g c =

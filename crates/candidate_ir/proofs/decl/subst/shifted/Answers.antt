@@ -10,13 +10,13 @@ use Rattle.candidate_ir.proofs.Members.{arg-there, arg-single}
 use Rattle.candidate_ir.proofs.decl.subst.shifted.Goals as goal
 
 pub fold_number-requires-clause-inside : goal.fold_number-requires-clause-inside
-fold_number-requires-clause-inside g c = rw c.number.ensures (arg-below (g.M.Make.context c.args.make.now).trees c.args.arg c.requires)
+fold_number-requires-clause-inside g c = rw c.number.ensures (arg-below (g.M.Build.context c.args.make.now).trees c.args.arg c.requires)
 
 pub returns-clause-tree : goal.returns-clause-tree
 returns-clause-tree g c =
     let made = rw c.number.ensures at c.in_ok-number.ensures in
-    ap (tree_at (g.M.Make.context c.fold_number.new.make).trees) c.with_number.ensures.number
-    ∙ head-number g.M.Make.context g.M.Make.rest _ _ _ _ _ (arg_kind c.args.arg) made (arg-there c.args.arg) (arg-single c.args.arg) c.requires
+    ap (tree_at (g.M.Build.context c.fold_number.new.make).trees) c.with_number.ensures.number
+    ∙ head-number g.M.Build.context g.M.Build.rest _ _ _ _ _ (arg_kind c.args.arg) made (arg-there c.args.arg) (arg-single c.args.arg) c.requires
     (moved c.args.by) (λ z. z.0 ≡ c.args.by) refl
     (λ s x d r e n p. let k = n.called in let l = n.lends in let v = n.leaves in search rules)
     (λ s x d r e n i grown p. let k = n.called in let l = n.lends in let v = n.leaves in search rules)
@@ -24,13 +24,13 @@ returns-clause-tree g c =
 
 pub returns-clause-rest : goal.returns-clause-rest
 returns-clause-rest g c =
-    number-keeps-rest g.M.Make.context g.M.Make.rest _ (λ z. z.0 ≡ c.args.by) _
+    number-keeps-rest g.M.Build.context g.M.Build.rest _ (λ z. z.0 ≡ c.args.by) _
     (λ t x d r u n i l0 grown q. let k = n.called in let l = n.lends in let v = n.leaves in (search rules, search rules))
     _ 0 c.number.result c.fold_number.result refl c.fold_number.ensures
 
 pub returns-in_err-number-clause-rest : goal.returns-in_err-number-clause-rest
 returns-in_err-number-clause-rest g c =
-    number-keeps-rest g.M.Make.context g.M.Make.rest _ (λ z. z.0 ≡ c.args.by) _
+    number-keeps-rest g.M.Build.context g.M.Build.rest _ (λ z. z.0 ≡ c.args.by) _
     (λ t x d r u n i l0 grown q. let k = n.called in let l = n.lends in let v = n.leaves in (search rules, search rules))
     _ 0 c.number.result c.fold_number.result refl c.fold_number.ensures
 
@@ -39,8 +39,8 @@ returns-in_err-number-clause-cause g c =
     let p = err_from_is_err_and c.from_residual.result c.from_residual.ensures.1 in
     let made = rw c.number.ensures at c.in_err-number.ensures in
     rw (p.1, p.2)
-    (single-cause (λ d t. moved c.args.by d t.head) _ (g.M.Make.context c.args.make.now).trees (arg_number c.args.arg) (arg_kind c.args.arg) _ (arg-there c.args.arg) (arg-single c.args.arg) c.requires
-    (head-cause g.M.Make.context g.M.Make.rest _ (moved c.args.by) (λ z. z.0 ≡ c.args.by) _ _ _ _ refl
+    (single-cause (λ d t. moved c.args.by d t.head) _ (g.M.Build.context c.args.make.now).trees (arg_number c.args.arg) (arg_kind c.args.arg) _ (arg-there c.args.arg) (arg-single c.args.arg) c.requires
+    (head-cause g.M.Build.context g.M.Build.rest _ (moved c.args.by) (λ z. z.0 ≡ c.args.by) _ _ _ _ refl
     (λ s x d r e n p. let k = n.called in let l = n.lends in let v = n.leaves in search rules)
     (λ s x d r e n i grown p. let k = n.called in let l = n.lends in let v = n.leaves in search rules)
     (λ s x d r e n i grown p. let k = n.called in let l = n.lends in let v = n.leaves in search rules)

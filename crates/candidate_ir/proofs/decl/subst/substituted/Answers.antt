@@ -9,34 +9,34 @@ use Rattle.candidate_ir.proofs.decl.subst.substituted.Goals as goal
 pub fold_number-requires-clause-callable : goal.fold_number-requires-clause-callable
 fold_number-requires-clause-callable g c = record {
   at = λ s x d lent e l grown i n b.
-      let held = reached-keeps g.M.Make.context g.M.Make.rest _ (λ z. z.1 ≡ c.args.args) (λ s x d r e n p. let k = n.called in let q = n.lends in let v = n.leaves in search rules) _ s l refl in
+      let held = reached-keeps g.M.Build.context g.M.Build.rest _ (λ z. z.1 ≡ c.args.args) (λ s x d r e n p. let k = n.called in let q = n.lends in let v = n.leaves in search rules) _ s l refl in
       let kept = (args-kept _ _ c.args.args grown c.requires.args).0 in
       search rules;
 }
 
 pub returns-clause-tree : goal.returns-clause-tree
 returns-clause-tree g c =
-    put-tree g.M.Make.context g.M.Make.rest _ (args_forest (g.M.Make.context c.args.make.now).trees c.args.args) _ _ c.args.number (λ z. z.1 ≡ c.args.args) refl
+    put-tree g.M.Build.context g.M.Build.rest _ (args_forest (g.M.Build.context c.args.make.now).trees c.args.args) _ _ c.args.number (λ z. z.1 ≡ c.args.args) refl
     (λ s x d r e n p. let k = n.called in let l = n.lends in let v = n.leaves in search rules)
     (λ s x d r e n i grown p. let k = n.called in let l = n.lends in let v = n.leaves in let same = (args-kept _ _ c.args.args grown c.requires.args).1 in search rules)
     c.requires.inside c.requires.there c.fold_number.result c.fold_number.ensures
 
 pub returns-clause-list : goal.returns-clause-list
 returns-clause-list g c =
-    put-list g.M.Make.context g.M.Make.rest _ (args_forest (g.M.Make.context c.args.make.now).trees c.args.args) _ _ c.args.number (λ z. z.1 ≡ c.args.args) refl
+    put-list g.M.Build.context g.M.Build.rest _ (args_forest (g.M.Build.context c.args.make.now).trees c.args.args) _ _ c.args.number (λ z. z.1 ≡ c.args.args) refl
     (λ s x d r e n p. let k = n.called in let l = n.lends in let v = n.leaves in search rules)
     (λ s x d r e n i grown p. let k = n.called in let l = n.lends in let v = n.leaves in let same = (args-kept _ _ c.args.args grown c.requires.args).1 in search rules)
     c.requires.inside c.requires.there c.fold_number.result c.fold_number.ensures
 
 pub returns-clause-rest : goal.returns-clause-rest
 returns-clause-rest g c =
-    number-keeps-rest g.M.Make.context g.M.Make.rest _ (λ z. z.1 ≡ c.args.args) _
+    number-keeps-rest g.M.Build.context g.M.Build.rest _ (λ z. z.1 ≡ c.args.args) _
     (λ t x d r u n i l0 grown q. let k = n.called in let l = n.lends in let v = n.leaves in let kept = (args-kept _ _ c.args.args grown c.requires.args).0 in (search rules, search rules))
     _ 0 c.args.number c.fold_number.result refl c.fold_number.ensures
 
 pub returns-clause-tree_cause : goal.returns-clause-tree_cause
 returns-clause-tree_cause g c =
-    put-tree-cause g.M.Make.context g.M.Make.rest _ (args_forest (g.M.Make.context c.args.make.now).trees c.args.args) _ _ c.args.number (λ z. z.1 ≡ c.args.args) refl
+    put-tree-cause g.M.Build.context g.M.Build.rest _ (args_forest (g.M.Build.context c.args.make.now).trees c.args.args) _ _ c.args.number (λ z. z.1 ≡ c.args.args) refl
     (λ s x d r e n p. let k = n.called in let l = n.lends in let v = n.leaves in search rules)
     (λ s x d r e n i grown p. let k = n.called in let l = n.lends in let v = n.leaves in let same = (args-kept _ _ c.args.args grown c.requires.args).1 in search rules)
     c.requires.inside c.requires.there
@@ -45,7 +45,7 @@ returns-clause-tree_cause g c =
 
 pub returns-clause-list_cause : goal.returns-clause-list_cause
 returns-clause-list_cause g c =
-    put-list-cause g.M.Make.context g.M.Make.rest _ (args_forest (g.M.Make.context c.args.make.now).trees c.args.args) _ _ c.args.number (λ z. z.1 ≡ c.args.args) refl
+    put-list-cause g.M.Build.context g.M.Build.rest _ (args_forest (g.M.Build.context c.args.make.now).trees c.args.args) _ _ c.args.number (λ z. z.1 ≡ c.args.args) refl
     (λ s x d r e n p. let k = n.called in let l = n.lends in let v = n.leaves in search rules)
     (λ s x d r e n i grown p. let k = n.called in let l = n.lends in let v = n.leaves in let same = (args-kept _ _ c.args.args grown c.requires.args).1 in search rules)
     c.requires.inside c.requires.there

@@ -10,7 +10,7 @@ loop-i-preserved c =
     let h : c.loop-i.i < length c.args.list.now = omega arith in
     record {
       numbers = numbers-next arg_child _ _ _ c.args.numbers.now c.loop-i.i e c.loop-i.invariant.numbers (omega (arith, h, c.requires)) c.with_number.ensures.number;
-      sorts = sorts-next arg_child _ _ _ c.args.list.now c.loop-i.i _ e c.loop-i.invariant.sorts h c.with_number.ensures.sort;
+      sorts = sorts-next arg_child _ _ _ c.args.list.now c.loop-i.i _ e c.loop-i.invariant.sorts h c.with_number.ensures.kind;
     }
 
 pub returns-clause-numbers : goal.returns-clause-numbers

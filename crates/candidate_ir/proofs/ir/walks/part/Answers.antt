@@ -1,4 +1,4 @@
-use Rattle.std.proofs.Common.{sym, ◌∙◌, arith, subst, ◌<◌, ℕ}
+use Rattle.std.proofs.Common.{sym, ◌∙◌, subst, ◌<◌, ℕ}
 use Rattle.candidate_ir.proofs.Places.{list_width, member_part, own_part}
 use Rattle.candidate_ir.proofs.ir.walks.part.Goals as goal
 

@@ -9,15 +9,15 @@ use Rattle.candidate_rounds.proofs.Stopping.{region-stop}
 use Rattle.candidate_rounds.proofs.rounds.Rounds.placed_region.Goals as goal
 
 pub invariant_of-self : goal.invariant_of-self
-invariant_of-self c = evaluator-grown _ _ _ _ _ _ c.mk_region.ensures.kept.kept c.self.invariant
+invariant_of-self c = evaluator-grown _ _ _ _ _ _ c.mk_region.ensures.made.kept.kept c.self.invariant
 
 pub returns-in-Some-clause-goes : goal.returns-in-Some-clause-goes
-returns-in-Some-clause-goes c = made-goes c.self.view_is c.mk_region.ensures.kept
+returns-in-Some-clause-goes c = made-goes c.self.view_is c.mk_region.ensures.made.kept
 
 pub returns-in-Some-clause-state : goal.returns-in-Some-clause-state
-returns-in-Some-clause-state c = made-same c.self.view_is c.mk_region.ensures.kept c.self.invariant
+returns-in-Some-clause-state c = made-same c.self.view_is c.mk_region.ensures.made.kept c.self.invariant
 
 pub returns-in-Some-clause-cause : goal.returns-in-Some-clause-cause
 returns-in-Some-clause-cause c =
     subst (λ (e : Evaluator). IfErr c.mk_region.result (λ s. IsTreeStop c.mk_region.new.self.trees (placed_tree (reverse c.args.universes.now) (region_tree e.context.trees c.args.region)) s)) c.self.view_is
-    (region-stop c.self.inside.cx c.mk_region.new.self c.in-Some.placeholder _ c.mk_region.result c.mk_region.ensures.unchanged c.mk_region.ensures.cause)
+    (region-stop c.self.inside.cx c.mk_region.new.self c.in-Some.placeholder _ c.mk_region.result c.mk_region.ensures.made.unchanged c.mk_region.ensures.made.cause)

@@ -11,7 +11,7 @@ loop-i-preserved c =
 pub returns-clause-cause : goal.returns-clause-cause
 returns-clause-cause c =
     leaves-stop c.args.cx.now c.loop-i.cx c.mk_args.new.self c.args.leaves c.args.kinds.now c.loop-i.i c.loop-i.list.items c.as_slice.result.now c.mk_args.result c.loop-i.invariant c.loop-i-test.false c.as_slice.ensures.value
-    c.mk_args.ensures.cause c.mk_args.ensures.unchanged
+    c.mk_args.ensures.made.cause c.mk_args.ensures.made.unchanged
 
 pub returns-in_err-leaf-clause-grows : goal.returns-in_err-leaf-clause-grows
 returns-in_err-leaf-clause-grows c = grows-trans _ _ _ c.loop-i.invariant.grows c.leaf.ensures.grows
@@ -20,4 +20,4 @@ pub returns-in_err-push-clause-grows : goal.returns-in_err-push-clause-grows
 returns-in_err-push-clause-grows c = grows-trans _ _ _ c.loop-i.invariant.grows c.leaf.ensures.grows
 
 pub returns-clause-grows : goal.returns-clause-grows
-returns-clause-grows c = grows-trans _ _ _ c.loop-i.invariant.grows c.mk_args.ensures.kept
+returns-clause-grows c = grows-trans _ _ _ c.loop-i.invariant.grows c.mk_args.ensures.made.kept

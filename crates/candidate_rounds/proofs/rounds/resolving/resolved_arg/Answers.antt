@@ -1,12 +1,12 @@
-use Rattle.std.proofs.Common.{◌≡◌, refl, rules, ◌∙◌, ap}
+use Rattle.std.proofs.Common.{◌∙◌, ap, length, subst}
+use Rattle.std.specs.Prelude.{IfErr}
+use Rattle.candidate_ir.specs.Folding.{IsSubstStop}
 use Rattle.candidate_ir.specs.Folds.{arg_tree}
-use Rattle.candidate_eval.specs.States.{value_at}
-use Rattle.candidate_ir.proofs.FoldLaws.{reached-keeps, head-function}
-use Rattle.candidate_ir.proofs.FoldStops.{fold-cause}
-use Rattle.candidate_rounds.specs.Inferences.{kept_at}
+use Rattle.candidate_ir.specs.Trees.{Forest}
+use Rattle.candidate_ir.proofs.Members.{arg-row}
+use Rattle.candidate_eval.specs.States.{resolved}
 use Rattle.candidate_rounds.specs.Known.{state_of}
 use Rattle.candidate_rounds.proofs.Alone.{lone-resolved, lone-sort}
-use Rattle.candidate_rounds.proofs.Resolving.{call-keeps, call-answers, call-answered, unasked}
 use Rattle.candidate_rounds.proofs.rounds.resolving.resolved_arg.Goals as goal
 
 pub returns-in-Some-clause-sort : goal.returns-in-Some-clause-sort
@@ -17,32 +17,7 @@ pub returns-in-Some-clause-tree : goal.returns-in-Some-clause-tree
 returns-in-Some-clause-tree c = λ m.
     ap (arg_tree c.args.cx.now.trees) c.unwrap_or.ensures ∙ lone-resolved c.args.cx.now.trees c.args.inference.now c.args.arg c.in-Some.lone c.value.result c.in-Some.ensures c.value.ensures m
 
-pub fold_arg-requires-clause-keeps : goal.fold_arg-requires-clause-keeps
-fold_arg-requires-clause-keeps c = record {
-  at = λ s x d r e l grown i n b y.
-      let held = reached-keeps _ _ _ (λ z. z.0.now ≡ c.args.inference.now) (λ s x d r e n p. let k = n.called in let q = n.lends in let v = n.leaves in search rules) _ s l refl in
-      let k = y.called in let q = y.lends in let v = y.leaves in
-      call-keeps c.args.cx.now s.1 e.1 c.args.inference.now x r grown c.requires.known c.requires.kinds i (search rules) (search rules);
-}
-
-pub returns-clause-tree : goal.returns-clause-tree
-returns-clause-tree c = λ m.
-    let S = state_of c.args.cx.now.trees m c.args.inference.now in
-    c.fold_arg.ensures.answer (λ d t. value_at S t.head)
-    (head-function _ _ _ (λ d h. value_at S h) (λ z. z.0.now ≡ c.args.inference.now) _ refl
-    (λ s x d r e n p. let k = n.called in let q = n.lends in let v = n.leaves in search rules)
-    (λ s x d r e y i grown p. let k = y.called in let q = y.lends in let v = y.leaves in
-    call-answers c.args.cx.now s.1 e.1 m c.args.inference.now x r grown c.requires.known (search rules) (search rules))
-    (λ d h e. unasked c.args.cx.now.trees m c.args.inference.now h e))
-
 pub returns-clause-cause : goal.returns-clause-cause
 returns-clause-cause c = λ m.
     let S = state_of c.args.cx.now.trees m c.args.inference.now in
-    fold-cause _ _ _ (λ d t. value_at S t.head) _ _ 0 _ c.fold_arg.result
-    (head-function _ _ _ (λ d h. value_at S h) (λ z. z.0.now ≡ c.args.inference.now) _ refl
-    (λ s x d r e n p. let k = n.called in let q = n.lends in let v = n.leaves in search rules)
-    (λ s x d r e y i grown p. let k = y.called in let q = y.lends in let v = y.leaves in
-    call-answers c.args.cx.now s.1 e.1 m c.args.inference.now x r grown c.requires.known (search rules) (search rules))
-    (λ d h e. unasked c.args.cx.now.trees m c.args.inference.now h e))
-    (λ s x d r e y i grown. let k = y.called in let q = y.lends in let v = y.leaves in call-answered (kept_at s.0.0.now (arg_tree s.1.trees x).head) r (search rules))
-    c.fold_arg.ensures.outcome.1.stopped
+    subst (λ (ts : Forest). IfErr c.resolved.result (λ s. IsSubstStop (length c.resolved.new.cx.trees) (resolved S ts) s)) (arg-row c.args.arg (arg_tree c.args.cx.now.trees c.args.arg)) (c.resolved.ensures.cause m)

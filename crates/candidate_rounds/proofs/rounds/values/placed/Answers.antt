@@ -1,6 +1,6 @@
 use Rattle.std.proofs.Common.{◌≡◌, refl, reverse, rules, sym, ◌∙◌}
 use Rattle.candidate_ir.specs.Folds.{arg_tree}
-use Rattle.candidate_ir.proofs.FoldLaws.{head-function, reached-keeps}
+use Rattle.candidate_ir.proofs.FoldLaws.{arg-outcome, head-function, reached-keeps}
 use Rattle.rounds_judge.specs.Scopes.{placed_head}
 use Rattle.candidate_rounds.proofs.Placing.{empty-places, placed-only}
 use Rattle.candidate_ir.specs.Folding.{IsSubstStop}
@@ -10,7 +10,7 @@ use Rattle.candidate_rounds.proofs.rounds.values.placed.Goals as goal
 
 pub returns-clause-tree : goal.returns-clause-tree
 returns-clause-tree c =
-    c.fold_arg.ensures.answer (λ d t. placed_head (reverse c.args.universes.now) d t.head)
+    c.fold.ensures.answer (λ d t. placed_head (reverse c.args.universes.now) d t.head)
     (head-function _ _ _ (placed_head (reverse c.args.universes.now)) (λ z. z.0.now ≡ c.args.universes.now) _ refl
     (λ s x d r e n p. let k = n.called in let q = n.lends in let v = n.leaves in search rules)
     (λ s x d r e n i grown p. let k = n.called in let q = n.lends in let v = n.leaves in search rules)
@@ -22,7 +22,7 @@ returns-then-is_empty-clause-tree c = empty-places c.args.universes.now (arg_tre
 pub returns-clause-cause : goal.returns-clause-cause
 returns-clause-cause c =
     let us = c.args.universes.now in
-    fold-stop _ _ _ IsSubstStop subst-cause (λ d t. placed_head (reverse us) d t.head) _ _ 0 _ c.fold_arg.result
+    fold-stop _ _ _ IsSubstStop subst-cause (λ d t. placed_head (reverse us) d t.head) _ _ 0 _ c.fold.result
     (head-function _ _ _ (placed_head (reverse us)) (λ z. z.0.now ≡ us) _ refl
     (λ s x d r e n p. let k = n.called in let q = n.lends in let v = n.leaves in search rules)
     (λ s x d r e n i grown p. let k = n.called in let q = n.lends in let v = n.leaves in search rules)
@@ -31,4 +31,4 @@ returns-clause-cause c =
     let held = reached-keeps _ _ _ (λ z. z.0.now ≡ us) (λ s x d r e n p. let k = n.called in let q = n.lends in let v = n.leaves in search rules) _ s l refl in
     let k = n.called in let q = n.lends in let v = n.leaves in
     placed-stop us s.0.0.now _ d (arg_tree s.1.trees x).head z held (search rules))
-    c.fold_arg.ensures.outcome.1.stopped
+    (arg-outcome _ _ _ c.args.arg _ _ 0 (arg_tree c.args.cx.now.trees c.args.arg) c.fold.result c.fold.ensures.outcome.1).stopped

@@ -14,7 +14,7 @@ head-requires c = rw c.number.ensures (arg-below c.args.cx.now.trees c.args.arg 
 
 pub returns-clause-kind : goal.returns-clause-kind
 returns-clause-kind c =
-    (c.in_ok-mk_region.ensures.sort, sym (ap kind_of c.in-Region.is) ∙ arg-head c.args.cx.now c.args.cx.now c.args.arg _ _ refl c.number.ensures c.requires c.head.ensures)
+    (c.in_ok-mk_region.ensures.made.sort, sym (ap kind_of c.in-Region.is) ∙ arg-head c.args.cx.now c.args.cx.now c.args.arg _ _ refl c.number.ensures c.requires c.head.ensures)
 
 pub returns-in_err-mk_region-clause-cause : goal.returns-in_err-mk_region-clause-cause
 returns-in_err-mk_region-clause-cause c =
@@ -25,4 +25,4 @@ returns-in_err-mk_region-clause-cause c =
     (region-unmade c.args.cx.now c.mk_region.new.self c.in-Some.placeholder _ _
     (sym (ap (option_map region_kind_tree) c.in-Some.is)
     ∙ (c.placeholder_for.ensures ∙ ap (placed_head us c.args.binders) (sym c.in-Region.is ∙ (c.head.ensures ∙ ap (λ n. (tree_at ts n).head) c.number.ensures))))
-    c.in_err-mk_region.ensures.unchanged c.in_err-mk_region.ensures.cause)
+    c.in_err-mk_region.ensures.made.unchanged c.in_err-mk_region.ensures.made.cause)

@@ -1,4 +1,4 @@
-use Rattle.std.proofs.Common.{arith, ap, ◌∙◌, ◌+◌, ◌-◌, ◌≤◌, ◌≡◌, ℕ, sym}
+use Rattle.std.proofs.Common.{arith, ap, ◌∙◌, ◌+◌, ◌-◌, ◌≤◌, ◌≡◌, ℕ}
 use Rattle.candidate_ir.specs.Kinds.{numbers}
 use Rattle.candidate_ir.specs.Nodes.{children_of}
 use Rattle.candidate_ir.proofs.Children.{Below-get, walk_end}

@@ -12,31 +12,31 @@ use Rattle.candidate_rounds.proofs.ResolvedValues.{evaluator-grown}
 use Rattle.candidate_rounds.proofs.StopKinds.{substitution-stop}
 use Rattle.candidate_rounds.proofs.rounds.evaluator.RoundsEvalCtxt.resolve_const_if_possible.Goals as goal
 
-pub resolved_const-requires-clause-known : goal.resolved_const-requires-clause-known
-resolved_const-requires-clause-known c = (parts c.self.invariant).consistent.known
+pub resolved-requires-clause-known : goal.resolved-requires-clause-known
+resolved-requires-clause-known c = (parts c.self.invariant).consistent.known
 
-pub resolved_const-requires-clause-kinds : goal.resolved_const-requires-clause-kinds
-resolved_const-requires-clause-kinds c = kinds-now c.self.inside.cx.trees c.self.inside.inference (reverse c.self.inside.probes.items) (parts c.self.invariant).consistent
+pub resolved-requires-clause-kinds : goal.resolved-requires-clause-kinds
+resolved-requires-clause-kinds c = kinds-now c.self.inside.cx.trees c.self.inside.inference (reverse c.self.inside.probes.items) (parts c.self.invariant).consistent
 
 pub invariant_of-self : goal.invariant_of-self
-invariant_of-self c = evaluator-grown _ _ _ _ _ _ c.resolved_const.ensures.grows.kept c.self.invariant
+invariant_of-self c = evaluator-grown _ _ _ _ _ _ c.resolved.ensures.grows.kept c.self.invariant
 
 pub returns-clause-goes : goal.returns-clause-goes
-returns-clause-goes c = made-goes c.self.view_is c.resolved_const.ensures.grows
+returns-clause-goes c = made-goes c.self.view_is c.resolved.ensures.grows
 
 pub returns-clause-kept : goal.returns-clause-kept
-returns-clause-kept c = made-kept c.self.view_is c.resolved_const.ensures.grows c.self.invariant
+returns-clause-kept c = made-kept c.self.view_is c.resolved.ensures.grows c.self.invariant
 
 pub returns-clause-same : goal.returns-clause-same
-returns-clause-same c = made-same c.self.view_is c.resolved_const.ensures.grows c.self.invariant
+returns-clause-same c = made-same c.self.view_is c.resolved.ensures.grows c.self.invariant
 
 pub returns-clause-tree : goal.returns-clause-tree
 returns-clause-tree c =
-    subst (λ (e : Evaluator). IfOk c.resolved_const.result (λ x. const_tree c.resolved_const.new.cx.trees x ≡ resolved_tree (state e) (const_tree e.context.trees c.args.constant))) c.self.view_is (c.resolved_const.ensures.tree c.self.inside.mode)
+    subst (λ (e : Evaluator). IfOk c.resolved.result (λ x. const_tree c.resolved.new.cx.trees x ≡ resolved_tree (state e) (const_tree e.context.trees c.args.constant))) c.self.view_is (c.resolved.ensures.tree c.self.inside.mode)
 
 pub returns-clause-cause : goal.returns-clause-cause
-returns-clause-cause c = substitution-stop _ _ c.resolved_const.result (c.resolved_const.ensures.cause c.self.inside.mode)
+returns-clause-cause c = substitution-stop _ _ c.resolved.result (c.resolved.ensures.cause c.self.inside.mode)
 
 pub returns-clause-reason : goal.returns-clause-reason
 returns-clause-reason c =
-    subst (λ (e : Evaluator). IfErr c.resolved_const.result (λ s. IsSubstStop (length c.resolved_const.new.cx.trees) (alone (resolved_tree (state e) (const_tree e.context.trees c.args.constant))) s)) c.self.view_is (c.resolved_const.ensures.cause c.self.inside.mode)
+    subst (λ (e : Evaluator). IfErr c.resolved.result (λ s. IsSubstStop (length c.resolved.new.cx.trees) (alone (resolved_tree (state e) (const_tree e.context.trees c.args.constant))) s)) c.self.view_is (c.resolved.ensures.cause c.self.inside.mode)

@@ -1,0 +1,17 @@
+use Rattle.std.proofs.lemmas.Result.{err_from_is_err_and}
+use Rattle.candidate_ir.proofs.Making.{made-number, made-nothing}
+use Rattle.candidate_ir.proofs.decl.make.Build.mk_clause.Goals as goal
+
+pub make-requires-clause-fits : goal.make-requires-clause-fits
+make-requires-clause-fits g c = c.requires.fits
+
+pub make-requires-clause-takes : goal.make-requires-clause-takes
+make-requires-clause-takes g c = c.requires.takes
+
+pub returns-in_err-make-clause-made : goal.returns-in_err-make-clause-made
+returns-in_err-make-clause-made g c =
+    let p = err_from_is_err_and c.from_residual.result c.from_residual.ensures.1 in
+    rw (p.1, p.2) (made-nothing (λ n. record { 0 = n }) _ _ _ _ c.in_err-make.ensures.made)
+
+pub returns-clause-made : goal.returns-clause-made
+returns-clause-made g c = made-number (λ n. record { 0 = n }) _ _ _ _ c.in_ok-make.ensures.made
