@@ -2,8 +2,9 @@
 """What names cost that an adversary picked, beside ordinary ones.
 
 `python3 bench/hostile.py` makes 100,000 declarations whose names are picked at random, as many whose
-names all have one hash under the hasher that the library's hash map has by default (its seed is
-fixed), and as many whose names begin alike, so that all comparisons go to their last bytes. All names
+names begin alike, and as many whose names begin and end alike. The program keeps a name by the number of
+its last eight bytes, in one of many trees; so names of the last kind are all in one tree, and each comparison
+goes through what they have in common. All names
 have one length. It runs the program `assembly` on each, declarations and queries, and prints
 the times and their ratios, and those of instructions where `valgrind` is there to count them. Then it
 runs texts of short lines that claim much (definitions of 65,535 parameters, types that are nested
@@ -26,53 +27,23 @@ PROGRAM = os.path.join(ROOT, "crates", "assembly", "out", "assembly")
 
 ALLOWED = string.ascii_letters + string.digits
 LENGTH = 48
-MASK = (1 << 64) - 1
-SEED = 0x243F6A8885A308D3
-MULTIPLIER = 0x9E3779B97F4A7C15
-
-
-def folded(a, b):
-    product = a * b
-    return (product & MASK) ^ (product >> 64)
-
-
-def number(text):
-    return int.from_bytes(text.encode(), "little")
-
-
-def state_after(blocks):
-    """The hasher's state after the first blocks of 16 bytes of a name."""
-    state = (SEED + LENGTH) & MASK
-    for at in range(0, len(blocks), 16):
-        state = folded(number(blocks[at : at + 8]) ^ state, number(blocks[at + 8 : at + 16]) ^ MULTIPLIER)
-    return state
+# So many last bytes of a name pick its tree.
+ENDING = 8
 
 
 def random_name(source, length=LENGTH):
     return source.choice(string.ascii_letters) + "".join(source.choices(ALLOWED, k=length - 1))
 
 
-def common_beginning(source):
-    """40 bytes after which a name's hash no longer depends on its last eight.
-
-    The last step multiplies the bytes 32 to 40, joined with the state, by the rest. Where the state
-    itself could stand in a name, it stands there, and one factor is 0.
-    """
-    while True:
-        blocks = random_name(source, 32)
-        state = state_after(blocks).to_bytes(8, "little")
-        if all(byte < 128 and chr(byte) in ALLOWED for byte in state):
-            return blocks + state.decode()
-
-
-def of_one_hash(source):
-    beginning = common_beginning(source)
-    return lambda: beginning + "".join(source.choices(ALLOWED, k=LENGTH - len(beginning)))
-
-
 def of_one_beginning(source):
     beginning = random_name(source, LENGTH - 6)
     return lambda: beginning + "".join(source.choices(ALLOWED, k=6))
+
+
+def of_one_tree(source):
+    beginning = random_name(source, LENGTH - ENDING - 6)
+    ending = "".join(source.choices(ALLOWED, k=ENDING))
+    return lambda: beginning + "".join(source.choices(ALLOWED, k=6)) + ending
 
 
 def names(source, size, make):
@@ -145,8 +116,8 @@ def main():
     source = random.Random(given.seed)
     kinds = [
         ("ordinary", lambda: random_name(source)),
-        ("of one hash", of_one_hash(source)),
         ("of one beginning", of_one_beginning(source)),
+        ("of one tree", of_one_tree(source)),
     ]
     ordinary = None
     counted = None

@@ -1,2 +1,3 @@
 pub mod Giving
 mod Lacking
+mod Tables

@@ -2,4 +2,5 @@ pub mod Faults
 pub mod Given
 pub mod Notation
 pub mod Params
+pub mod Tables
 pub mod Types

@@ -3,9 +3,8 @@
 //!
 //! Each call stops as the calls of `Maker` that it makes, and has their faults.
 
-ghost use Rattle.std.specs.Prelude.{◌≡◌, true, false, IfOk};
+ghost use Rattle.std.specs.Prelude.{◌≡◌, false, IfOk};
 ghost use Rattle.candidate_ir.specs.Context.{Grows};
-ghost use Rattle.candidate_ir.specs.Trees.{tree_holds, is_param};
 ghost use Rattle.candidate_ir.specs.Words.{IsTy, IsArgs, IsClause, ListFits, PredFits, BoundsFit, AtMostOnePrincipal, names_trait};
 ghost use Rattle.assembly_text.specs.Given.{IsNoted};
 ghost use Rattle.assembly_text.specs.Notation.{IsLeaf};
@@ -13,11 +12,12 @@ ghost use Rattle.assembly_text.specs.Params.{Lacks, ListLacks, BoundLacks, Bound
 
 use crate::faults::Fault;
 use crate::making::{Draft, Maker};
+use candidate_ir::decl::make::Build;
 use candidate_ir::ir::kinds::{
-    AdtId, AliasId, AliasKind, AliasTerm, AliasTy, AssocId, Binder, Clause, ClauseKind,
+    AdtId, AliasId, AliasKind, AliasTerm, AliasTy, AssocId, Binder, Clause, ClauseKind, ConstKind,
     ExistentialPredicate, ExistentialProjection, ExistentialTraitRef, FnSig, GenericArg,
-    Mutability, PredicatePolarity, ProjectionPredicate, TraitId, TraitPredicate, TraitRef, Ty,
-    TyKind,
+    Mutability, PredicatePolarity, ProjectionPredicate, RegionKind, TraitId, TraitPredicate,
+    TraitRef, Ty, TyKind,
 };
 
 /// What is made of one type.
@@ -88,7 +88,7 @@ fn reference<'a, M: Maker>(
     ensures no_param { IfOk result (λ ty. Lacks M.is_strict (M.context maker.new).trees ty.0) }
     ensures alias { IfOk result (IsNoted (M.noted maker.new) (M.context maker.new).trees) }
 {
-    let region = maker.static_region()?;
+    let region = maker.mk_region(RegionKind::Static)?;
     maker.ty(TyKind::Ref(region, target, mutability), word)
 }
 
@@ -105,7 +105,7 @@ fn array<'a, M: Maker>(
     ensures no_param { IfOk result (λ ty. Lacks M.is_strict (M.context maker.new).trees ty.0) }
     ensures alias { IfOk result (IsNoted (M.noted maker.new) (M.context maker.new).trees) }
 {
-    let constant = maker.constant(length)?;
+    let constant = maker.mk_const(ConstKind::Value(length))?;
     maker.ty(TyKind::Array(target, constant), word)
 }
 
@@ -155,7 +155,7 @@ pub fn fn_pointer<'a, M: Maker>(
     ensures alias { IfOk result (IsNoted (M.noted maker.new) (M.context maker.new).trees) }
 {
     let inputs = maker.args(list)?;
-    let vars = maker.no_vars()?;
+    let vars = maker.mk_vars(&[])?;
     let value = FnSig {
         inputs,
         output,
@@ -182,7 +182,7 @@ pub fn dyn_type<'a, M: Maker>(
     ensures alias { IfOk result (IsNoted (M.noted maker.new) (M.context maker.new).trees) }
 {
     let preds = maker.bounds(bounds.as_slice(), word)?;
-    let region = maker.static_region()?;
+    let region = maker.mk_region(RegionKind::Static)?;
     maker.ty(TyKind::Dynamic(preds, region), word)
 }
 
@@ -196,7 +196,7 @@ pub fn auto_bound<'a, M: Maker>(
     ensures no_param { IfOk result (λ bound. BoundLacks M.is_strict (M.context maker.new).trees bound) }
     ensures kind { IfOk result (λ bound. names_trait bound.value ≡ false) }
 {
-    let vars = maker.no_vars()?;
+    let vars = maker.mk_vars(&[])?;
     Ok(Binder {
         vars,
         value: ExistentialPredicate::AutoTrait(id),
@@ -216,7 +216,7 @@ pub fn trait_bound<'a, M: Maker>(
     ensures no_param { IfOk result (λ bound. BoundLacks M.is_strict (M.context maker.new).trees bound) }
 {
     let args = maker.args(list)?;
-    let vars = maker.no_vars()?;
+    let vars = maker.mk_vars(&[])?;
     Ok(Binder {
         vars,
         value: ExistentialPredicate::Trait(ExistentialTraitRef { def_id: id, args }),
@@ -240,7 +240,7 @@ pub fn projection_bound<'a, M: Maker>(
     ensures kind { IfOk result (λ bound. names_trait bound.value ≡ false) }
 {
     let args = maker.args(list)?;
-    let vars = maker.no_vars()?;
+    let vars = maker.mk_vars(&[])?;
     Ok(Binder {
         vars,
         value: ExistentialPredicate::Projection(ExistentialProjection {
@@ -260,8 +260,8 @@ pub fn trait_clause<'a>(draft: &mut Draft, trait_ref: TraitRef) -> Result<Clause
         trait_ref,
         polarity: PredicatePolarity::Positive,
     });
-    let vars = draft.no_vars()?;
-    Ok(draft.builder.mk_clause(Binder { vars, value })?)
+    let vars = draft.mk_vars(&[])?;
+    Ok(draft.mk_clause(Binder { vars, value })?)
 }
 
 /// The clause that the associated type with these arguments, of which the first is the self type, is the type.
@@ -276,11 +276,11 @@ pub fn projection_clause<'a>(
     ensures { IfOk result (λ clause. IsClause draft.new.builder.trees clause) }
 {
     let args = draft.args(list)?;
-    let vars = draft.no_vars()?;
+    let vars = draft.mk_vars(&[])?;
     let projection_term = AliasTerm { def_id: id, args };
     let value = ClauseKind::Projection(ProjectionPredicate {
         projection_term,
         term,
     });
-    Ok(draft.builder.mk_clause(Binder { vars, value })?)
+    Ok(draft.mk_clause(Binder { vars, value })?)
 }

@@ -143,7 +143,7 @@ impl<'a> Declaring<'a> {
         Ok(Declaring {
             scope: Scope {
                 alloc,
-                names: Names::new(alloc),
+                names: Names::new(alloc)?,
                 maker,
             },
             parameters: TypeParameters {

@@ -1,64 +1,49 @@
 //! What the types of a text are made in: declarations that go on, or a context over them.
 
 ghost use Rattle.std.specs.Prelude.{◌≡◌, Bool, IsTrue, true, false, Option, Some, None, [], IfOk, IfNone};
-ghost use Rattle.candidate_ir.specs.Context.{Context, Grows};
+ghost use Rattle.candidate_ir.specs.Context.{Grows};
 ghost use Rattle.candidate_ir.specs.Kinds.{ty_head};
-ghost use Rattle.candidate_ir.specs.Making.{Makes, a_constant, a_region, a_list, a_binder};
+ghost use Rattle.candidate_ir.specs.Making.{Makes, a_list};
 ghost use Rattle.candidate_ir.specs.References.{ArgumentsFit};
 ghost use Rattle.candidate_ir.specs.Trees.{is_param};
 ghost use Rattle.candidate_ir.specs.Words.{IsTy, IsArgs, IsPreds, ty_tree, kind_tree, preds_forest, bounds_forest, KindFits, ListFits, BoundsFit, AtMostOnePrincipal};
 ghost use Rattle.assembly_text.specs.Given.{IsNoted, GivenFits};
+ghost use Rattle.assembly_text.specs.declared.given.Given.{Given};
 
 use crate::faults::Fault;
 use crate::given::Given;
 use candidate_ir::decl::builder::DeclsBuilder;
 use candidate_ir::decl::context::Cx;
+use candidate_ir::decl::make::Build;
 use candidate_ir::ir::kinds::{
-    Args, Binder, Const, ConstKind, ExistentialPredicate, GenericArg, InferTy, Preds, Region,
-    RegionKind, TraitRef, Ty, TyKind, Vars,
+    Args, Binder, ExistentialPredicate, GenericArg, InferTy, Preds, TraitRef, Ty, TyKind,
 };
+use candidate_ir::ir::making::New;
 use candidate_ir::ir::stop::Stop;
 
-/// What types can be made in. Each call stops as that of a context or of a builder does.
-pub trait Maker {
-    /// The declarations, and the trees of the numbers given so far.
-    ghost context: { Self → Context };
-
-    /// Whether what is read is asked about: no parameter stands in it, and its arguments fit.
-    ghost is_strict: { Bool };
-
+/// What types can be made in. Where the arguments of what is made have to be those that it takes (`is_strict`), what is read is
+/// asked about: no parameter stands in it, and its arguments fit.
+pub trait Maker: Build {
     /// Whether the type that was made last is an alias, if that is noted.
     ghost noted: { Self → Option Bool };
 
     /// What is wrong with a type of that kind, which a word alone is: it is a parameter or a variable where none may stand.
     fn misplaced<'a>(&self, kind: TyKind) -> Option<Fault<'a>>
-        ensures { IfNone result (is_strict ≡ true → is_param (ty_head kind) ≡ false) };
+        ensures { IfNone result (Self.is_strict ≡ true → is_param (ty_head kind) ≡ false) };
 
     /// The type of that kind, which the word begins. Besides `Fault::Stop`, `Fault::UnknownName` comes where a context's
     /// definitions don't take its arguments.
     fn ty<'a>(&mut self, kind: TyKind, word: &'a str) -> Result<Ty, Fault<'a>>
-        requires { KindFits (context self.old).trees kind }
-        ensures grows { Grows (context self.old) (context self.new) }
-        ensures sort { IfOk result (λ t. IsTy (context self.new).trees t) }
-        ensures tree { IfOk result (λ t. ty_tree (context self.new).trees t ≡ kind_tree (context self.old).trees kind) }
-        ensures alias { IfOk result (IsNoted (noted self.new) (context self.new).trees) };
-
-    /// The constant of that number.
-    fn constant(&mut self, value: u64) -> Result<Const, Stop>
-        ensures { Makes (a_constant (ConstKind.Value value)) (context self.old) (context self.new) result };
-
-    /// The static region.
-    fn static_region(&mut self) -> Result<Region, Stop>
-        ensures { Makes (a_region RegionKind.Static) (context self.old) (context self.new) result };
+        requires { KindFits (Self.context self.old).trees kind }
+        ensures grows { Grows (Self.context self.old) (Self.context self.new) }
+        ensures sort { IfOk result (λ t. IsTy (Self.context self.new).trees t) }
+        ensures tree { IfOk result (λ t. ty_tree (Self.context self.new).trees t ≡ kind_tree (Self.context self.old).trees kind) }
+        ensures alias { IfOk result (IsNoted (noted self.new) (Self.context self.new).trees) };
 
     /// The list of these arguments.
     fn args(&mut self, list: Vec<GenericArg>) -> Result<Args, Stop>
-        requires { ListFits (context self.old).trees list.items }
-        ensures { Makes (a_list list.items) (context self.old) (context self.new) result };
-
-    /// A binder without variables.
-    fn no_vars(&mut self) -> Result<Vars, Stop>
-        ensures { Makes (a_binder []) (context self.old) (context self.new) result };
+        requires { ListFits (Self.context self.old).trees list.items }
+        ensures { Makes (a_list list.items) (Self.context self.old) (Self.context self.new) result };
 
     /// The bounds of a `dyn` type, which the word begins. Its faults are those of `ty`.
     fn bounds<'a>(
@@ -66,24 +51,20 @@ pub trait Maker {
         bounds: &[Binder<ExistentialPredicate>],
         word: &'a str,
     ) -> Result<Preds, Fault<'a>>
-        requires fit { BoundsFit (context self.old).trees bounds.now }
+        requires fit { BoundsFit (Self.context self.old).trees bounds.now }
         requires principal { AtMostOnePrincipal bounds.now }
-        ensures grows { Grows (context self.old) (context self.new) }
-        ensures sort { IfOk result (λ p. IsPreds (context self.new).trees p) }
-        ensures tree { IfOk result (λ p. preds_forest (context self.new).trees p ≡ bounds_forest (context self.old).trees bounds.now) };
+        ensures grows { Grows (Self.context self.old) (Self.context self.new) }
+        ensures sort { IfOk result (λ p. IsPreds (Self.context self.new).trees p) }
+        ensures tree { IfOk result (λ p. preds_forest (Self.context self.new).trees p ≡ bounds_forest (Self.context self.old).trees bounds.now) };
 
     /// Whether the trait takes these arguments, as far as that is asked here.
     fn reference_fits(&self, trait_ref: TraitRef) -> bool
-        requires { IsArgs (context self.now).trees trait_ref.args }
-        ensures { is_strict ≡ true → IsTrue result → ArgumentsFit (context self.now) trait_ref };
+        requires { IsArgs (Self.context self.now).trees trait_ref.args }
+        ensures { Self.is_strict ≡ true → IsTrue result → ArgumentsFit (Self.context self.now) trait_ref };
 }
 
 /// A context, where a query is read: variables may stand, and no parameters.
 impl Maker for Cx {
-    ghost context = { λ c. c };
-
-    ghost is_strict = { true };
-
     ghost noted = { λ _. None };
 
     fn misplaced<'a>(&self, kind: TyKind) -> Option<Fault<'a>> {
@@ -100,20 +81,8 @@ impl Maker for Cx {
         Ok(self.mk_ty(kind)?)
     }
 
-    fn constant(&mut self, value: u64) -> Result<Const, Stop> {
-        self.mk_const(ConstKind::Value(value))
-    }
-
-    fn static_region(&mut self) -> Result<Region, Stop> {
-        self.mk_region(RegionKind::Static)
-    }
-
     fn args(&mut self, list: Vec<GenericArg>) -> Result<Args, Stop> {
         self.mk_arg_list(list)
-    }
-
-    fn no_vars(&mut self) -> Result<Vars, Stop> {
-        self.mk_vars(&[])
     }
 
     fn bounds<'a>(
@@ -147,12 +116,23 @@ pub struct Draft {
     pub ghost alias_is_noted: { has_alias ≡ false → is_alias ≡ false },
 }
 
-/// Declarations, whose arguments are looked at when they end: no variables may stand.
-impl Maker for Draft {
+impl Build for Draft {
     ghost context = { λ d. d.builder };
+
+    ghost Rest = { Given × (Bool × (Bool × Bool)) };
+
+    ghost rest = { λ d. (d.given, (d.has_parameters, (d.is_alias, d.has_alias))) };
 
     ghost is_strict = { false };
 
+    #[inline(always)]
+    fn make(&mut self, new: New<'_>) -> Result<u32, Stop> {
+        self.builder.make(new)
+    }
+}
+
+/// Declarations, whose arguments are looked at when they end: no variables may stand.
+impl Maker for Draft {
     ghost noted = { λ d. Some d.is_alias };
 
     fn misplaced<'a>(&self, kind: TyKind) -> Option<Fault<'a>> {
@@ -169,20 +149,8 @@ impl Maker for Draft {
         Ok(self.builder.mk_ty(kind)?)
     }
 
-    fn constant(&mut self, value: u64) -> Result<Const, Stop> {
-        self.builder.mk_const(ConstKind::Value(value))
-    }
-
-    fn static_region(&mut self) -> Result<Region, Stop> {
-        self.builder.mk_region(RegionKind::Static)
-    }
-
     fn args(&mut self, list: Vec<GenericArg>) -> Result<Args, Stop> {
         self.builder.mk_arg_list(list)
-    }
-
-    fn no_vars(&mut self) -> Result<Vars, Stop> {
-        self.builder.mk_vars(&[])
     }
 
     fn bounds<'a>(

@@ -1,6 +1,6 @@
 //! The names that were declared.
 
-ghost use Rattle.std.specs.Prelude.{◌≡◌, ◌⊎◌, IfOk, IfErr, Some, None};
+ghost use Rattle.std.specs.Prelude.{◌≡◌, ◌⊎◌, IfOk, IfErr};
 
 use crate::faults::Fault;
 use crate::notation::fixed_head;
@@ -11,6 +11,9 @@ use std::collections::BTreeMap;
 
 /// The greatest length of a name.
 const LONGEST: usize = 64;
+
+/// In how many trees names are kept.
+const TREES: u64 = 1021;
 
 /// A trait that was declared.
 #[derive(Clone, Copy)]
@@ -38,18 +41,24 @@ pub enum Item {
 /// The names declared so far, which are words of the text.
 #[derive(Drop)]
 pub struct Names<'a> {
-    items: BTreeMap<&'a str, Item>,
+    /// What was declared, each in the tree that the number of its name picks. Most trees have few names, and one that many
+    /// names pick is still an ordered one.
+    trees: Vec<BTreeMap<(u64, &'a str), Item>>,
     /// The names of the definitions, by their numbers. Impls are none.
     definitions: Vec<&'a str>,
 }
 
 impl<'a> Names<'a> {
     /// No names.
-    pub fn new(alloc: Global) -> Self {
-        Names {
-            items: BTreeMap::new(alloc),
-            definitions: Vec::new(alloc),
+    pub fn new(alloc: Global) -> Result<Self, AllocError> {
+        let mut trees = Vec::new(alloc);
+        for _ in 0..TREES {
+            trees.push(BTreeMap::new(alloc))?;
         }
+        Ok(Names {
+            trees,
+            definitions: Vec::new(alloc),
+        })
     }
 
     /// The word, if it can be the name of something new.
@@ -62,7 +71,7 @@ impl<'a> Names<'a> {
         if !is_name(word) {
             return Err(Fault::BadName(word));
         }
-        if self.items.contains_key(&word) {
+        if self.item(word).is_ok() {
             return Err(Fault::NameTwice(word));
         }
         Ok(word)
@@ -72,10 +81,13 @@ impl<'a> Names<'a> {
     pub fn item(&self, word: &'a str) -> Result<Item, Fault<'a>>
         ensures { IfErr result (λ e. e ≡ Fault.UnknownName word.entry) }
     {
-        match self.items.get(&word) {
-            Some(item) => Ok(*item),
-            None => Err(Fault::UnknownName(word)),
+        let number = number_of(word);
+        if let Some(tree) = self.trees.get((number % TREES) as usize) {
+            if let Some(item) = tree.get(&(number, word)) {
+                return Ok(*item);
+            }
         }
+        Err(Fault::UnknownName(word))
     }
 
     /// The trait of that name, else `Fault::UnknownName`.
@@ -127,7 +139,10 @@ impl<'a> Names<'a> {
 
     /// Gives the name to what is no definition.
     pub fn add(&mut self, name: &'a str, item: Item) -> Result<(), AllocError> {
-        self.items.insert(name, item)?;
+        let number = number_of(name);
+        if let Some(tree) = self.trees.get_mut((number % TREES) as usize) {
+            tree.insert((number, name), item)?;
+        }
         Ok(())
     }
 
@@ -135,6 +150,15 @@ impl<'a> Names<'a> {
     pub fn definition(&self, number: u32) -> Option<&'a str> {
         self.definitions.get(number as usize).copied()
     }
+}
+
+/// The last eight bytes of a name as a number, which tells most names apart.
+fn number_of(name: &str) -> u64 {
+    let mut number = 0;
+    for byte in name.bytes() {
+        number = number << 8 | u64::from(byte);
+    }
+    number
 }
 
 /// Whether the word is a letter and then letters, digits and `_`, not too long, and no type.

@@ -37,73 +37,105 @@ enum Counted {
     Dyn,
 }
 
-/// The words with a number: what stands before it and behind it, the greatest one, and what it says.
-const COUNTED: [(&str, &str, u16, Counted); 6] = [
-    ("#", "", u16::MAX, Counted::Parameter),
-    ("$", "", LAST_VARIABLE, Counted::Variable),
-    ("(", ")", u16::MAX, Counted::Tuple),
-    ("!", "", u16::MAX, Counted::Placeholder),
-    ("fn(", ")", u16::MAX, Counted::Fn),
-    ("dyn(", ")", u16::MAX, Counted::Dyn),
+/// The words without a number, by what they begin with, so that a word is told from most others by its first byte.
+const OTHERS: [(&str, Head); 5] = [
+    ("char", Head::Leaf(TyKind::Char)),
+    ("bool", Head::Leaf(TyKind::Bool)),
+    ("str", Head::Leaf(TyKind::Str)),
+    ("!", Head::Leaf(TyKind::Never)),
+    ("error", Head::Leaf(TyKind::Error)),
 ];
 
-/// The words without a number.
-const FIXED: [(&str, Head); 26] = [
+const POINTERS: [(&str, Head); 5] = [
     ("&", Head::Before(Pointer::Ref(Mutability::Not))),
     ("[]", Head::Before(Pointer::Slice)),
     ("&mut", Head::Before(Pointer::Ref(Mutability::Mut))),
     ("*const", Head::Before(Pointer::RawPtr(Mutability::Not))),
     ("*mut", Head::Before(Pointer::RawPtr(Mutability::Mut))),
-    ("bool", Head::Leaf(TyKind::Bool)),
-    ("char", Head::Leaf(TyKind::Char)),
-    ("str", Head::Leaf(TyKind::Str)),
-    ("!", Head::Leaf(TyKind::Never)),
+];
+
+const UNSIGNED: [(&str, Head); 6] = [
     ("u8", Head::Leaf(TyKind::Uint(UintTy::U8))),
     ("u16", Head::Leaf(TyKind::Uint(UintTy::U16))),
     ("u32", Head::Leaf(TyKind::Uint(UintTy::U32))),
     ("u64", Head::Leaf(TyKind::Uint(UintTy::U64))),
     ("u128", Head::Leaf(TyKind::Uint(UintTy::U128))),
     ("usize", Head::Leaf(TyKind::Uint(UintTy::Usize))),
+];
+
+const SIGNED: [(&str, Head); 6] = [
     ("i8", Head::Leaf(TyKind::Int(IntTy::I8))),
     ("i16", Head::Leaf(TyKind::Int(IntTy::I16))),
     ("i32", Head::Leaf(TyKind::Int(IntTy::I32))),
     ("i64", Head::Leaf(TyKind::Int(IntTy::I64))),
     ("i128", Head::Leaf(TyKind::Int(IntTy::I128))),
     ("isize", Head::Leaf(TyKind::Int(IntTy::Isize))),
+];
+
+const FLOATS: [(&str, Head); 4] = [
     ("f16", Head::Leaf(TyKind::Float(FloatTy::F16))),
     ("f32", Head::Leaf(TyKind::Float(FloatTy::F32))),
     ("f64", Head::Leaf(TyKind::Float(FloatTy::F64))),
     ("f128", Head::Leaf(TyKind::Float(FloatTy::F128))),
-    ("error", Head::Leaf(TyKind::Error)),
 ];
+
+/// How a word with a number is written that begins with that byte: what stands before the number and behind it, the greatest
+/// one, and what it says.
+fn counted_from(first: u8) -> Option<(&'static str, &'static str, u16, Counted)> {
+    Some(match first {
+        b'#' => ("#", "", u16::MAX, Counted::Parameter),
+        b'$' => ("$", "", LAST_VARIABLE, Counted::Variable),
+        b'(' => ("(", ")", u16::MAX, Counted::Tuple),
+        b'!' => ("!", "", u16::MAX, Counted::Placeholder),
+        b'f' => ("fn(", ")", u16::MAX, Counted::Fn),
+        b'd' => ("dyn(", ")", u16::MAX, Counted::Dyn),
+        _ => return None,
+    })
+}
 
 /// What the first word of a type makes of the words that follow, or none where only a name can say it.
 ///
 /// The only error is `Fault::BadNumber`, where the number in the word is too great.
+#[inline(always)]
 pub fn head_of<'a>(word: &'a str) -> Result<Option<Head>, Fault<'a>>
     ensures head { IfOk result (λ found. IfSome found IsChildless) }
     ensures cause { IfErr result (λ e. e ≡ Fault.BadNumber word.entry) }
 {
-    for (before, after, most, counted) in &COUNTED {
-        if let Some(digits) = digits_between(word, before, after) {
-            let number = number_in(word, digits, u64::from(*most))? as u16;
-            return Ok(Some(counted_head(*counted, number)));
-        }
+    if let Some(head) = fixed_head(word) {
+        return Ok(Some(head));
+    }
+    let Some(first) = word.as_bytes().first() else {
+        return Ok(None);
+    };
+    if let Some((before, after, most, counted)) = counted_from(*first) {
+        let Some(digits) = digits_between(word, before, after) else {
+            return Ok(None);
+        };
+        let number = number_in(word, digits, u64::from(most))? as u16;
+        return Ok(Some(counted_head(counted, number)));
     }
     match digits_between(word, "[", "]") {
         Some(digits) => {
             let length = number_in(word, digits, u64::MAX)?;
             Ok(Some(Head::Before(Pointer::Array(length))))
         }
-        None => Ok(fixed_head(word)),
+        None => Ok(None),
     }
 }
 
 /// What a word without a number makes of the words that follow, if it is one.
+#[inline(always)]
 pub fn fixed_head(word: &str) -> Option<Head>
     ensures { IfSome result IsChildless }
 {
-    listed(&FIXED, word)
+    match word.as_bytes().first()? {
+        b'&' | b'*' | b'[' => listed(&POINTERS, word),
+        b'u' => listed(&UNSIGNED, word),
+        b'i' => listed(&SIGNED, word),
+        b'f' => listed(&FLOATS, word),
+        b'b' | b'c' | b's' | b'!' | b'e' => listed(&OTHERS, word),
+        _ => None,
+    }
 }
 
 /// The digits that stand in the word between the two texts, if nothing else does.

@@ -216,10 +216,6 @@ impl<'a, M: Maker> Scope<'a, M> {
     fn head(&self, word: &'a str) -> Result<Head, Fault<'a>>
         ensures { IfOk result IsChildless }
     {
-        // Only names begin with a capital letter.
-        if let Some(b'A'..=b'Z') = word.as_bytes().first() {
-            return self.named_head(word);
-        }
         match head_of(word)? {
             Some(head) => Ok(head),
             None => self.named_head(word),

@@ -1,6 +1,7 @@
 //! The words of a line, from left to right.
 
-ghost use Rattle.std.specs.Prelude.{◌≡◌, ◌≤◌, IfOk, IfErr, IfSome, Contains, map};
+ghost use Rattle.std.specs.Prelude.{◌≡◌, ◌≤◌, ℕ, List, Some, IfOk, IfErr};
+ghost use Rattle.assembly_text.specs.Tables.{table_value, IsNoFlag};
 
 use crate::faults::Fault;
 use std::str;
@@ -34,13 +35,10 @@ impl<'a> Words<'a> {
 
     /// The next word, if one is left.
     pub fn next_word(&mut self) -> Option<&'a str> {
-        let (_, rest) = self.rest.split_at_checked(leading(self.rest, true))?;
-        if rest.is_empty() {
-            return None;
-        }
-        let (word, rest) = rest
-            .split_at_checked(leading(rest, false))
-            .unwrap_or((rest, ""));
+        let start = self.rest.bytes().position(|byte| byte != b' ')?;
+        let (_, rest) = self.rest.split_at_checked(start)?;
+        let end = rest.bytes().position(|byte| byte == b' ');
+        let (word, rest) = rest.split_at_checked(end.unwrap_or(rest.len()))?;
         self.rest = rest;
         Some(word)
     }
@@ -69,7 +67,8 @@ impl<'a> Words<'a> {
     ///
     /// Its errors are `Fault::ShortLine`, and `Fault::BadFlag` where the table doesn't have the word.
     pub fn flag<T: Copy>(&mut self, table: &[(&'static str, T)]) -> Result<T, Fault<'a>>
-        ensures { IfOk result (Contains (map (λ row. row.1) table.now)) }
+        ensures value { IfOk result (λ value. (word : List ℕ) × (table_value table.now word ≡ Some value)) }
+        ensures cause { IfErr result (IsNoFlag table.now) }
     {
         let word = self.word()?;
         match listed(table, word) {
@@ -89,9 +88,9 @@ impl<'a> Words<'a> {
     }
 }
 
-/// What the word stands for in a table of words.
+/// What the word stands for in a table of words, by the first row that has it.
 pub fn listed<T: Copy>(table: &[(&'static str, T)], word: &str) -> Option<T>
-    ensures { IfSome result (Contains (map (λ row. row.1) table.now)) }
+    ensures { result ≡ table_value table.now word.now }
 {
     for (listed, value) in table {
         if *listed == word {
@@ -99,16 +98,6 @@ pub fn listed<T: Copy>(table: &[(&'static str, T)], word: &str) -> Option<T>
         }
     }
     None
-}
-
-/// How many bytes before the rest are spaces, or are none.
-fn leading(text: &str, are_spaces: bool) -> usize {
-    for (count, byte) in text.bytes().enumerate() {
-        if (byte == b' ') != are_spaces {
-            return count;
-        }
-    }
-    text.len()
 }
 
 /// Whether all bytes are spaces and visible ASCII characters.

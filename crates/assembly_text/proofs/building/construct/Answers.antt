@@ -11,7 +11,7 @@ use Rattle.assembly_text.proofs.building.construct.Goals.{in-Tuple, in-Adt, in-P
 
 pub returns-clause-no_param : goal.returns-clause-no_param
 returns-clause-no_param g c =
-    let ts = (g.M.Maker.context c.args-2.new.self).trees in
+    let ts = (g.M.Build.context c.args-2.new.self).trees in
     let args = c.in_ok-args.args in
     made-lacks _ c.ty.result _ _ c.ty.ensures.tree
     (λ s.

@@ -15,7 +15,7 @@ read_types-loop-preserved g t c =
       fits = rw one_more
           (ListFits-ty _ _ _ (ListFits-grows _ _ _ c.read_type.ensures.grows c.loop.invariant.fits) c.in_ok-read_type.ensures.sort);
       no_param = λ s. rw one_more
-          (list-lacks-ty (g.M.Maker.context c.read_type.new.self.maker).trees c.loop.list.items c.in_ok-read_type.field-0 (list-lacks-grows _ _ _ c.read_type.ensures.grows c.loop.invariant.fits (c.loop.invariant.no_param s)) (c.in_ok-read_type.ensures.no_param s));
+          (list-lacks-ty (g.M.Build.context c.read_type.new.self.maker).trees c.loop.list.items c.in_ok-read_type.field-0 (list-lacks-grows _ _ _ c.read_type.ensures.grows c.loop.invariant.fits (c.loop.invariant.no_param s)) (c.in_ok-read_type.ensures.no_param s));
     }
 
 pub read_bounds-loop-preserved : goal.read_bounds-loop-preserved

@@ -35,7 +35,7 @@ abbrev pub decreases-read_bounds : goal.decreases-read_bounds
 decreases-read_bounds g l = 4 * l.depth + 3
 
 abbrev pub invariant-read_types-loop : goal.invariant-read_types-loop
-invariant-read_types-loop g l = IsRead g.M.Maker.is_strict (g.M.Maker.context l.fn.self.maker) (g.M.Maker.context l.self.maker) l.list.items
+invariant-read_types-loop g l = IsRead g.M.Build.is_strict (g.M.Build.context l.fn.self.maker) (g.M.Build.context l.self.maker) l.list.items
 
 abbrev pub invariant-read_bounds-loop : goal.invariant-read_bounds-loop
-invariant-read_bounds-loop g l = AreRead g.M.Maker.is_strict (g.M.Maker.context l.fn.self.maker) (g.M.Maker.context l.self.maker) l.list.items l.has_principal
+invariant-read_bounds-loop g l = AreRead g.M.Build.is_strict (g.M.Build.context l.fn.self.maker) (g.M.Build.context l.self.maker) l.list.items l.has_principal
