@@ -476,6 +476,7 @@ impl TyKind {
         )
     }
 
+    #[inline(always)]
     pub(crate) fn head(self) -> Head
         ensures { result ≡ ty_head self }
     {
@@ -585,6 +586,7 @@ impl TyKind {
 }
 
 impl ConstKind {
+    #[inline(always)]
     pub(crate) fn head(self) -> Head
         ensures { result ≡ const_head self }
     {

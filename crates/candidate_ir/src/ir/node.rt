@@ -36,7 +36,7 @@ pub struct Row {
 }
 
 impl Node {
-    #[inline]
+    #[inline(always)]
     pub(crate) fn head(&self) -> Head
         ensures { result ≡ head_of self.now }
     {

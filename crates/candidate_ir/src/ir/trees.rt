@@ -53,6 +53,7 @@ pub trait Trees {
     }
 
     /// The head of a number's tree.
+    #[inline(always)]
     final fn head(&self, number: u32) -> Head
         requires { number < length (trees self.now) }
         ensures { result ≡ (tree_at (trees self.now) number).head }
