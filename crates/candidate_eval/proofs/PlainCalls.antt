@@ -4,7 +4,7 @@
 -- give it too many instances.
 --
 -- What else the two calls and their promises ask of a reference has a test at run time: `Cx::trait_ref_args_fit`
--- (`ArgumentsFit`), `Cx::has_param` (`HasNoParam`), `trait_ref_is_plain` (`HasNoAliasOrError`), `Cx::args_have` with
+-- (`ArgumentsFit`), `Cx::has_param` (`HasNoParam`), `trait_ref_is_plain` (`HasNoAliasOrError`), `Trees::has` with
 -- `Flag::Alias` (`HasNoAlias`), and `trait_ref_is_local_or_fundamental` (`IsOfForeignTrait`). None has
 -- `IsDecidedByGeneralHere`, nor `IsArgs`, which the call that made the list ensures.
 use Rattle.std.proofs.Common.{◌≡◌, refl, sym, ◌∙◌}
