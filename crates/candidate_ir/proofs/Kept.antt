@@ -1,12 +1,12 @@
 -- What a growing context keeps.
-use Rattle.std.proofs.Common.{◌≡◌, ℕ, ◌<◌, List, [], ◌++◌, length, refl, sym, ◌∙◌, ap, append_assoc}
+use Rattle.std.proofs.Common.{◌≡◌, ℕ, ◌<◌, List, [], ◌∷◌, ◌++◌, length, refl, sym, ◌∙◌, ap, append_assoc}
 use Rattle.std.proofs.lemmas.List.{append-nil}
 use Rattle.candidate_ir.specs.declared.ir.kinds.Ty.{Ty}
 use Rattle.candidate_ir.specs.declared.ir.kinds.Args.{Args}
 use Rattle.candidate_ir.specs.declared.ir.kinds.Preds.{Preds}
 use Rattle.candidate_ir.specs.Trees.{Tree, TypeKind, ArgumentsKind, PredicatesKind}
 use Rattle.candidate_ir.specs.Nodes.{tree_at, kind_at, Extends}
-use Rattle.candidate_ir.specs.Context.{Context, Grows, world}
+use Rattle.candidate_ir.specs.Context.{Context, Grows, HasFaultsOf, world}
 use Rattle.candidate_ir.specs.Words.{IsTy, IsArgs, IsPreds, ty_tree, args_forest, preds_forest}
 use Rattle.candidate_ir.specs.declared.ir.kinds.TraitRef.{TraitRef}
 use Rattle.candidate_ir.specs.References.{ArgumentsFit}
@@ -40,14 +40,25 @@ preds-kept old new p g h =
     let k = number-kept old.trees new.trees p.0 g.kept (below_kind old.trees p.0 PredicatesKind refl h) in
     (k.0 ∙ h, ap (λ (t : Tree). t.children) k.1)
 
+pub faults-same : (old new : Context) → new.delayed_bugs ≡ old.delayed_bugs → HasFaultsOf old new
+faults-same old new e = record { added = []; is = e ∙ sym (append-nil old.delayed_bugs) }
+
 pub grows-refl : (c : Context) → Grows c c
-grows-refl c = record { same = refl; kept = record { added = []; is = sym (append-nil c.trees) } }
+grows-refl c = record { same = refl; kept = record { added = []; is = sym (append-nil c.trees) }; faults = faults-same c c refl }
+
+faults-trans : (a b c : Context) → HasFaultsOf a b → HasFaultsOf b c → HasFaultsOf a c
+faults-trans a b c g h = record { added = g.added ++ h.added; is = h.is ∙ (ap (λ (fs : List (List ℕ)). fs ++ h.added) g.is ∙ append_assoc a.delayed_bugs g.added h.added) }
 
 pub grows-trans : (a b c : Context) → Grows a b → Grows b c → Grows a c
 grows-trans a b c g h = record {
-  same = h.same ∙ ap (λ (x : Context). let y : Context = record x { trees = c.trees } in y) g.same;
+  same = h.same ∙ ap (λ (x : Context). let y : Context = record x { trees = c.trees; delayed_bugs = c.delayed_bugs } in y) g.same;
   kept = record { added = g.kept.added ++ h.kept.added; is = h.kept.is ∙ (ap (λ (ts : List Tree). ts ++ h.kept.added) g.kept.is ∙ append_assoc a.trees g.kept.added h.kept.added) };
+  faults = faults-trans a b c g.faults h.faults;
 }
+
+-- a fault more is put off
+pub faults-grow : (c : Context) (f : List ℕ) → Grows c (record c { delayed_bugs = c.delayed_bugs ++ f ∷ [] })
+faults-grow c f = record { same = refl; kept = record { added = []; is = sym (append-nil c.trees) }; faults = record { added = f ∷ []; is = refl } }
 
 pub world-kept : (old new : Context) → Grows old new → (world new ≡ world old) × (new.local ≡ old.local)
 world-kept old new g = (ap world g.same, ap (λ (c : Context). c.local) g.same)

@@ -5,6 +5,7 @@ use Rattle.candidate_ir.specs.declared.ir.stop.Stop.{Stop}
 use Rattle.candidate_ir.specs.Trees.{Tree}
 use Rattle.candidate_ir.specs.Context.{Context}
 use Rattle.candidate_ir.specs.Making.{Making, Adds, Makes, numbered}
+use Rattle.candidate_ir.proofs.Kept.{faults-same}
 
 unchanged : {N : Type 0} (v : Context) (ts : List Tree) (r : Result N Stop) → IfErr r (λ _. ts ≡ v.trees)
     → IfErr r (λ _. let x : Context = record v { trees = ts } in x ≡ v)
@@ -16,7 +17,8 @@ pub added-made : {N T : Type 0} (m : Making N T) (old v : Context) (ts : List Tr
 added-made m old v ts r e a =
     subst (λ (x : Context). Makes m x (record v { trees = ts }) r) e
     (record {
-      kept = record { same = refl; kept = a.kept };
+      kept = record { same = refl; kept = a.kept; faults = faults-same v (record v { trees = ts }) refl };
+      faults = refl;
       sort = a.sort;
       tree = a.tree;
       unchanged = unchanged v ts r a.unchanged;
@@ -25,10 +27,10 @@ added-made m old v ts r e a =
 
 -- What was made as a number alone, or wasn't, was as a typed one.
 pub made-number : {N T : Type 0} (of : ℕ → N) (m : Making N T) (old new : Context) (n : ℕ) → Makes (numbered of m) old new (Ok n) → Makes m old new (Ok (of n))
-made-number of m old new n a = record { kept = a.kept; sort = a.sort; tree = a.tree; unchanged = tt; cause = tt }
+made-number of m old new n a = record { kept = a.kept; faults = a.faults; sort = a.sort; tree = a.tree; unchanged = tt; cause = tt }
 
 pub made-nothing : {N T : Type 0} (of : ℕ → N) (m : Making N T) (old new : Context) (s : Stop) → Makes (numbered of m) old new (Err s) → Makes m old new (Err s)
-made-nothing of m old new s a = record { kept = a.kept; sort = tt; tree = tt; unchanged = a.unchanged; cause = a.cause }
+made-nothing of m old new s a = record { kept = a.kept; faults = a.faults; sort = tt; tree = tt; unchanged = a.unchanged; cause = a.cause }
 
 -- The same the other way, of a table.
 pub added-number : {N T : Type 0} (number : N → ℕ) (of : ℕ → N) (m : Making N T) (old new : List Tree) (x : N) → of (number x) ≡ x

@@ -80,10 +80,17 @@ abbrev pub parameters_of : Option Declaration → List VarKind
 parameters_of None = []
 parameters_of (Some d) = d.parameters
 
--- The declarations stay, and every number has its tree still.
+-- Faults may have been put off besides those that were.
+pub record HasFaultsOf (old new : Context) : Type 0 where
+  pub added : List (List ℕ)
+  pub is : new.delayed_bugs ≡ old.delayed_bugs ++ added
+
+-- The declarations stay, every number has its tree still, and every fault that was put off is listed still. Calls that put none off say
+-- so beside it.
 pub record Grows (old new : Context) : Type 0 where
-  pub same : new ≡ record old { trees = new.trees }
+  pub same : new ≡ record old { trees = new.trees; delayed_bugs = new.delayed_bugs }
   pub kept : Extends old.trees new.trees
+  pub faults : HasFaultsOf old new
 
 -- whether the first parameter is a type
 abbrev pub begins_with_type : List VarKind → Bool

@@ -48,9 +48,10 @@ pub record Adds {N T : Type 0} (m : Making N T) (old new : List Tree) (result : 
   pub unchanged : IfErr result (λ _. new ≡ old)
   pub cause : IfErr result (λ s. m.causes old s)
 
--- The same of a context, whose declarations stay.
+-- The same of a context, whose declarations stay, and no fault is put off.
 pub record Makes {N T : Type 0} (m : Making N T) (old new : Context) (result : Result N Stop) : Type 0 where
   pub kept : Grows old new
+  pub faults : new.delayed_bugs ≡ old.delayed_bugs
   pub sort : IfOk result (λ n. m.is new.trees n)
   pub tree : IfOk result (λ n. m.seen new.trees n ≡ m.made old.trees)
   pub unchanged : IfErr result (λ _. new ≡ old)

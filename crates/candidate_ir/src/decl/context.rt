@@ -1,6 +1,6 @@
 //! The context: declarations, and the table in which types are made.
 
-ghost use Rattle.std.specs.Prelude.{◌≡◌, ◌++◌, ◌∷◌, [], string_bytes, ◌+◌, ◌<◌, ◌≤◌, ◌↔◌, IsTrue, false, true, length, take, max, map, IfOk, IfErr, MatchOption, Some, None, suc};
+ghost use Rattle.std.specs.Prelude.{ℕ, List, ◌≡◌, ◌++◌, ◌∷◌, [], string_bytes, ◌+◌, ◌<◌, ◌≤◌, ◌↔◌, IsTrue, false, true, length, take, max, map, IfOk, IfErr, MatchOption, Some, None, suc};
 ghost use Rattle.candidate_ir.specs.Context.{world, Grows};
 ghost use Rattle.candidate_ir.specs.Making.{Makes, a_list};
 ghost use Rattle.candidate_ir.specs.Trees.{height, heights, tree_holds, holds, is_number, is_param, none, skip, tree, variable_number};
@@ -232,9 +232,9 @@ impl Cx {
 impl Build for Cx {
     ghost context = { λ c. c };
 
-    ghost Rest = { Unit {0} };
+    ghost Rest = { List (List ℕ) };
 
-    ghost rest = { λ _. tt };
+    ghost rest = { λ c. c.delayed_bugs };
 
     ghost is_strict = { true };
 
