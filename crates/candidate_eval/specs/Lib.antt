@@ -1,3 +1,4 @@
+pub mod Accounts
 pub mod Certainties
 pub mod Responses
 pub mod ResponseTrees

@@ -1,6 +1,6 @@
 -- What an object's own bounds say of its associated types.
 use Rattle.std.specs.Prelude.{◌≡◌, ℕ, Bool, true, false, ◌==◌, ◌&&◌, Option, Some, None, List, [], ◌∷◌, ◌++◌, length}
-use Rattle.std.specs.List.{filter}
+use Rattle.std.specs.List.{filter, Contains}
 use Rattle.candidate_ir.specs.declared.ir.heads.Head.{Head}
 use Rattle.candidate_ir.specs.declared.ir.heads.Head.TheVariants as H
 use Rattle.candidate_ir.specs.declared.ir.heads.PartHead.TheVariants as P
@@ -8,6 +8,8 @@ use Rattle.candidate_ir.specs.declared.ir.heads.ClauseHead.TheVariants as Cl
 use Rattle.candidate_ir.specs.declared.ir.kinds.AliasTerm.{AliasTerm}
 use Rattle.candidate_ir.specs.declared.ir.kinds.ProjectionPredicate.{ProjectionPredicate}
 use Rattle.candidate_ir.specs.Trees.{Forest, Tree}
+use Rattle.candidate_ir.specs.declared.ir.stop.Stop.{Stop}
+use Rattle.candidate_ir.specs.Substitutions.{alone}
 use Rattle.candidate_ir.specs.Opening.{opened_clause}
 use Rattle.candidate_ir.specs.Supers.{after_first}
 use Rattle.candidate_ir.specs.Words.{IsArgs, IsTy, args_forest, ty_tree}
@@ -15,7 +17,7 @@ use Rattle.candidate_eval.specs.Callable.{all_but_last, last_tree}
 use Rattle.candidate_eval.specs.Characterization.{bound_kinds}
 use Rattle.candidate_eval.specs.declared.structural.object.AmbiguousOrStop.{AmbiguousOrStop}
 use Rattle.candidate_eval.specs.declared.structural.object.AmbiguousOrStop.TheVariants as A
-use Rattle.candidate_eval.specs.Evaluators.{accepted, IsEvaluatorStop}
+use Rattle.candidate_eval.specs.Evaluators.{accepted}
 use Rattle.candidate_eval.specs.States.{Env, State, Judge, fresh_variables, with_fresh_variables, with_pending, is_some}
 
 -- A bound is a clause of the object's type: that an associated type of it, with these arguments, is this term.
@@ -109,7 +111,18 @@ pub record IsPickedAtOnce (J : Judge) (e : Env) (p : Projection) (S : State) (cs
   pub equated : bound_equated J e S bound p.arguments ≡ Some T
   pub is : term ≡ term_in (fresh_instance S bound)
 
--- What an error says: too little is known, or a stop that an evaluator may answer.
-abbrev pub IsObjectError : AmbiguousOrStop → Type 0
-IsObjectError A.Ambiguous = Unit {0}
-IsObjectError (A.Stop s) = IsEvaluatorStop s
+-- Too little is known, which wants no cause, or a stop.
+abbrev pub by_object_stop : (Stop → Type 0) → AmbiguousOrStop → Type 0
+by_object_stop P A.Ambiguous = Unit {0}
+by_object_stop P (A.Stop s) = P s
+
+-- An instance of a bound, with variables that were fresh at some state; of one of some bounds.
+
+pub record IsInstance (bound : Tree) (ts : Forest) : Type 0 where
+  pub state : State
+  pub is : ts ≡ alone (fresh_instance state bound)
+
+pub record IsInstanceOfOne (bounds : List Tree) (ts : Forest) : Type 0 where
+  pub bound : Tree
+  pub listed : Contains bounds bound
+  pub instance : IsInstance bound ts

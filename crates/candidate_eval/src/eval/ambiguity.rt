@@ -1,6 +1,7 @@
 //! The answer where too little is known.
 
 ghost use Rattle.std.specs.Prelude.{◌≡◌, ◌≢◌, [], Some, IfOk, IfErr};
+ghost use Rattle.candidate_eval.specs.Accounts.{IsAccounted, by_stop};
 ghost use Rattle.candidate_eval.specs.Certainties.{AMBIGUOUS};
 ghost use Rattle.candidate_eval.specs.Evaluators.{Keeps};
 ghost use Rattle.candidate_eval.specs.ResponseTrees.{IsResponse, response_of};
@@ -21,6 +22,7 @@ pub fn bail_with_ambiguity<E: EvalCtxt>(ecx: &mut E) -> Result<CanonicalResponse
     ensures fits { IfOk result (λ r. IsResponse (E.context ecx.new).trees r) }
     ensures answer { IfOk result (λ r. (E.judge (E.fixed ecx.old)).responded (with_pending (E.state ecx.old) []) AMBIGUOUS ≡ Some (response_of (E.context ecx.new).trees r)) }
     ensures certainty { IfOk result (λ r. r.certainty ≡ AMBIGUOUS) }
+    ensures cause { IfErr result (IsAccounted E.fixed E.context E.state E.stops ecx.old) }
 {
     let probe = ecx.begin_probe(ProbeKind::SetAside)?;
     let answer = ecx.evaluate_added_goals_and_make_canonical_response(Certainty::AMBIGUOUS);
@@ -44,6 +46,7 @@ pub fn flounder<E: EvalCtxt>(
     ensures certainty { IfOk result (λ r. r.certainty ≡ AMBIGUOUS) }
     ensures some { IfOk result (λ _. candidates.now ≢ []) }
     ensures refused { IfErr result (λ e. e ≡ NoSolutionOrStop.NoSolution → candidates.now ≡ []) }
+    ensures cause { IfErr result (by_stop (IsAccounted E.fixed E.context E.state E.stops ecx.old)) }
 {
     if candidates.is_empty() {
         return Err(NoSolutionOrStop::NoSolution);

@@ -1,6 +1,6 @@
 //! What generic code knows of an evaluator.
 
-ghost use Rattle.std.specs.Prelude.{◌≡◌, ◌≢◌, List, [], ◌∷◌, ◌++◌, Some, None, All, IfOk, IfErr, OnOk, OnErr};
+ghost use Rattle.std.specs.Prelude.{◌≡◌, ◌≢◌, List, [], ◌∷◌, ◌++◌, map, Some, None, All, IfOk, IfErr, OnOk, OnErr};
 ghost use Rattle.candidate_ir.specs.declared.ir.kinds.TyKind.TheVariants as K;
 ghost use Rattle.candidate_ir.specs.Context.{Context, Grows, world};
 ghost use Rattle.candidate_ir.specs.Folds.{IsArg, arg_tree};
@@ -8,7 +8,10 @@ ghost use Rattle.candidate_ir.specs.Substitutions.{alone};
 ghost use Rattle.candidate_ir.specs.Trees.{Tree};
 ghost use Rattle.candidate_ir.specs.Words.{IsTy, IsConst, IsRegion, IsArgs, IsClause, IsParamEnv, KindFits, ty_tree, const_tree, region_tree, args_forest, clause_tree, env_forest};
 ghost use Rattle.candidate_eval.specs.Calls.{depth_limit};
-ghost use Rattle.candidate_eval.specs.Evaluators.{Keeps, IsGoal, pending_of, pendings_of, with_goals_of, accepted, resolved_root, begun, kinds_listed, rigid, with_rigid, alias_trees, IsEvaluatorStop, IsEvaluatorRefusal};
+ghost use Rattle.candidate_eval.specs.Evaluators.{Keeps, IsGoal, pending_of, pendings_of, with_goals_of, accepted, resolved_root, begun, kinds_listed, rigid, with_rigid, alias_trees, IsEvaluatorStop};
+ghost use Rattle.candidate_eval.specs.Accounts.{Question, by_stop};
+ghost use Rattle.candidate_eval.specs.Accounts as question;
+ghost use Rattle.candidate_ir.specs.declared.ir.stop.Stop.{Stop};
 ghost use Rattle.candidate_eval.specs.Lawful.{Lawful};
 ghost use Rattle.candidate_eval.specs.ResponseTrees.{IsResponse, response_of};
 ghost use Rattle.candidate_eval.specs.States.{State, Judge, added, fresh_variables, with_fresh_variables, resolved, resolved_tree};
@@ -34,8 +37,8 @@ pub enum ProbeKind {
 
 /// An evaluator.
 ///
-/// A call that answers a stop leaves a state alike the one before: the same universes, values, regions and pending goals. Its stop is
-/// `Memory`, `NodesFull`, or `EvaluatorLimit`: others come of walks that no evaluator takes.
+/// A call that answers a stop leaves a state alike the one before: the same universes, values, regions and pending goals. The evaluator
+/// accounts for each of its stops (`stops`); they are `Memory`, `NodesFull`, or `EvaluatorLimit`.
 pub trait EvalCtxt: InferCtxtLike {
     /// What `begin_probe` gives and `end_probe` takes. It is not `Drop`, so it must be spent.
     type Probe;
@@ -55,6 +58,9 @@ pub trait EvalCtxt: InferCtxtLike {
     /// The states at which the open probes began, the newest first.
     ghost probes: { Self → List State };
 
+    /// Its account of its stops: why a call stopped that left it so, when it was asked that at the state.
+    ghost stops: { Self → State → Question → Stop → Type 0 };
+
     /// What goals are asked for.
     fn typing_mode(&self) -> TypingMode
         ensures { result ≡ (state self.now).mode };
@@ -66,7 +72,7 @@ pub trait EvalCtxt: InferCtxtLike {
         ensures same { state self.new ≡ state self.old }
         ensures sort { IfOk result (λ x. IsTy (Self.context self.new).trees x) }
         ensures tree { IfOk result (λ x. ty_tree (Self.context self.new).trees x ≡ resolved_tree (state self.old) (ty_tree (Self.context self.old).trees ty)) }
-        ensures cause { IfErr result IsEvaluatorStop };
+        ensures cause { IfErr result (stops self.new (state self.old) (question.resolve (alone (ty_tree (Self.context self.old).trees ty)))) };
 
     /// The constant, with all values put in.
     fn resolve_const_if_possible(&mut self, constant: Const) -> Result<Const, Stop>
@@ -75,7 +81,7 @@ pub trait EvalCtxt: InferCtxtLike {
         ensures same { state self.new ≡ state self.old }
         ensures sort { IfOk result (λ x. IsConst (Self.context self.new).trees x) }
         ensures tree { IfOk result (λ x. const_tree (Self.context self.new).trees x ≡ resolved_tree (state self.old) (const_tree (Self.context self.old).trees constant)) }
-        ensures cause { IfErr result IsEvaluatorStop };
+        ensures cause { IfErr result (stops self.new (state self.old) (question.resolve (alone (const_tree (Self.context self.old).trees constant)))) };
 
     /// The list, with all values put in.
     fn resolve_args_if_possible(&mut self, list: Args) -> Result<Args, Stop>
@@ -84,7 +90,7 @@ pub trait EvalCtxt: InferCtxtLike {
         ensures same { state self.new ≡ state self.old }
         ensures sort { IfOk result (λ x. IsArgs (Self.context self.new).trees x) }
         ensures tree { IfOk result (λ x. args_forest (Self.context self.new).trees x ≡ resolved (state self.old) (args_forest (Self.context self.old).trees list)) }
-        ensures cause { IfErr result IsEvaluatorStop };
+        ensures cause { IfErr result (stops self.new (state self.old) (question.resolve (args_forest (Self.context self.old).trees list))) };
 
     /// The clause, with all values put in.
     fn resolve_clause_if_possible(&mut self, clause: Clause) -> Result<Clause, Stop>
@@ -93,7 +99,7 @@ pub trait EvalCtxt: InferCtxtLike {
         ensures same { state self.new ≡ state self.old }
         ensures sort { IfOk result (λ x. IsClause (Self.context self.new).trees x) }
         ensures tree { IfOk result (λ x. clause_tree (Self.context self.new).trees x ≡ resolved_tree (state self.old) (clause_tree (Self.context self.old).trees clause)) }
-        ensures cause { IfErr result IsEvaluatorStop };
+        ensures cause { IfErr result (stops self.new (state self.old) (question.resolve (alone (clause_tree (Self.context self.old).trees clause)))) };
 
     /// The region with its value in its place, if it is a variable that has one.
     fn eager_resolve_region(&self, region: Region) -> Region
@@ -110,7 +116,7 @@ pub trait EvalCtxt: InferCtxtLike {
         ensures ok { IfOk result (λ x. (judge (fixed self.old)).normalized (state self.old) (env_forest (Self.context self.old).trees env) (ty_tree (Self.context self.old).trees ty) ≡ Some (ty_tree (Self.context self.new).trees x, state self.new)) }
         ensures refused { IfErr result (λ e. e ≡ NoSolutionOrStop.NoSolution → (judge (fixed self.old)).normalized (state self.old) (env_forest (Self.context self.old).trees env) (ty_tree (Self.context self.old).trees ty) ≡ None) }
         ensures undone { OnErr result ((judge (fixed self.old)).alike (state self.old) (state self.new)) }
-        ensures cause { IfErr result IsEvaluatorRefusal };
+        ensures cause { IfErr result (by_stop (stops self.new (state self.old) (question.normalize (env_forest (Self.context self.old).trees env) (ty_tree (Self.context self.old).trees ty)))) };
 
     /// The constant in normal form. A refusal leaves the state alike, too.
     fn structurally_normalize_const(
@@ -125,7 +131,7 @@ pub trait EvalCtxt: InferCtxtLike {
         ensures ok { IfOk result (λ x. (judge (fixed self.old)).normalized (state self.old) (env_forest (Self.context self.old).trees env) (const_tree (Self.context self.old).trees constant) ≡ Some (const_tree (Self.context self.new).trees x, state self.new)) }
         ensures refused { IfErr result (λ e. e ≡ NoSolutionOrStop.NoSolution → (judge (fixed self.old)).normalized (state self.old) (env_forest (Self.context self.old).trees env) (const_tree (Self.context self.old).trees constant) ≡ None) }
         ensures undone { OnErr result ((judge (fixed self.old)).alike (state self.old) (state self.new)) }
-        ensures cause { IfErr result IsEvaluatorRefusal };
+        ensures cause { IfErr result (by_stop (stops self.new (state self.old) (question.normalize (env_forest (Self.context self.old).trees env) (const_tree (Self.context self.old).trees constant)))) };
 
     /// Fresh variables of the newest universe, in the place of parameters of these kinds.
     fn fresh_args_for_item(&mut self, kinds: &[VarKind]) -> Result<Args, Stop>
@@ -134,7 +140,7 @@ pub trait EvalCtxt: InferCtxtLike {
         ensures trees { IfOk result (λ a. args_forest (Self.context self.new).trees a ≡ fresh_variables (state self.old) (kinds_listed kinds.now)) }
         ensures made { OnOk result (state self.new ≡ with_fresh_variables (state self.old) (kinds_listed kinds.now)) }
         ensures stopped { OnErr result ((judge (fixed self.old)).alike (state self.old) (state self.new)) }
-        ensures cause { IfErr result IsEvaluatorStop };
+        ensures cause { IfErr result (stops self.new (state self.old) (question.make_variables (kinds_listed kinds.now))) };
 
     /// Placeholders of a fresh universe, in the place of a binder's variables of these kinds. Without variables there is none.
     fn placeholder_args(&mut self, kinds: &[VarKind]) -> Result<Args, Stop>
@@ -143,7 +149,7 @@ pub trait EvalCtxt: InferCtxtLike {
         ensures trees { IfOk result (λ a. args_forest (Self.context self.new).trees a ≡ rigid (state self.old) (kinds_listed kinds.now)) }
         ensures made { OnOk result (state self.new ≡ with_rigid (state self.old) (kinds_listed kinds.now)) }
         ensures stopped { OnErr result ((judge (fixed self.old)).alike (state self.old) (state self.new)) }
-        ensures cause { IfErr result IsEvaluatorStop };
+        ensures cause { IfErr result (stops self.new (state self.old) (question.make_placeholders (kinds_listed kinds.now))) };
 
     /// Two lists are made equal, argument by argument. The goals that this leaves become pending.
     fn eq_args(&mut self, env: ParamEnv, a: Args, b: Args) -> Result<(), NoSolutionOrStop>
@@ -154,7 +160,7 @@ pub trait EvalCtxt: InferCtxtLike {
         ensures ok { IfOk result (λ _. accepted (judge (fixed self.old)) (state self.old) (env_forest (Self.context self.old).trees env) (args_forest (Self.context self.old).trees a) (args_forest (Self.context self.old).trees b) ≡ Some (state self.new)) }
         ensures refused { IfErr result (λ e. e ≡ NoSolutionOrStop.NoSolution → accepted (judge (fixed self.old)) (state self.old) (env_forest (Self.context self.old).trees env) (args_forest (Self.context self.old).trees a) (args_forest (Self.context self.old).trees b) ≡ None) }
         ensures stopped { IfErr result (λ e. e ≢ NoSolutionOrStop.NoSolution → (judge (fixed self.old)).alike (state self.old) (state self.new)) }
-        ensures cause { IfErr result IsEvaluatorRefusal };
+        ensures cause { IfErr result (by_stop (stops self.new (state self.old) (question.equate (env_forest (Self.context self.old).trees env) (args_forest (Self.context self.old).trees a) (args_forest (Self.context self.old).trees b)))) };
 
     /// Two types, constants or regions are made equal. The goals that this leaves become pending.
     fn eq(&mut self, env: ParamEnv, a: GenericArg, b: GenericArg) -> Result<(), NoSolutionOrStop>
@@ -165,7 +171,7 @@ pub trait EvalCtxt: InferCtxtLike {
         ensures ok { IfOk result (λ _. accepted (judge (fixed self.old)) (state self.old) (env_forest (Self.context self.old).trees env) (alone (arg_tree (Self.context self.old).trees a)) (alone (arg_tree (Self.context self.old).trees b)) ≡ Some (state self.new)) }
         ensures refused { IfErr result (λ e. e ≡ NoSolutionOrStop.NoSolution → accepted (judge (fixed self.old)) (state self.old) (env_forest (Self.context self.old).trees env) (alone (arg_tree (Self.context self.old).trees a)) (alone (arg_tree (Self.context self.old).trees b)) ≡ None) }
         ensures stopped { IfErr result (λ e. e ≢ NoSolutionOrStop.NoSolution → (judge (fixed self.old)).alike (state self.old) (state self.new)) }
-        ensures cause { IfErr result IsEvaluatorRefusal };
+        ensures cause { IfErr result (by_stop (stops self.new (state self.old) (question.equate (env_forest (Self.context self.old).trees env) (alone (arg_tree (Self.context self.old).trees a)) (alone (arg_tree (Self.context self.old).trees b))))) };
 
     /// The same, where the goals that this leaves are answered, each with its source, and don't become pending.
     fn eq_and_get_goals(
@@ -182,7 +188,7 @@ pub trait EvalCtxt: InferCtxtLike {
         ensures ok { IfOk result (λ v. (judge (fixed self.old)).equated (state self.old) (env_forest (Self.context self.old).trees env) (alone (arg_tree (Self.context self.old).trees a)) (alone (arg_tree (Self.context self.old).trees b)) ≡ Some (pendings_of (Self.context self.new).trees v.items, state self.new)) }
         ensures refused { IfErr result (λ e. e ≡ NoSolutionOrStop.NoSolution → (judge (fixed self.old)).equated (state self.old) (env_forest (Self.context self.old).trees env) (alone (arg_tree (Self.context self.old).trees a)) (alone (arg_tree (Self.context self.old).trees b)) ≡ None) }
         ensures stopped { IfErr result (λ e. e ≢ NoSolutionOrStop.NoSolution → (judge (fixed self.old)).alike (state self.old) (state self.new)) }
-        ensures cause { IfErr result IsEvaluatorRefusal };
+        ensures cause { IfErr result (by_stop (stops self.new (state self.old) (question.equate (env_forest (Self.context self.old).trees env) (alone (arg_tree (Self.context self.old).trees a)) (alone (arg_tree (Self.context self.old).trees b))))) };
 
     /// A goal becomes pending, after all others.
     fn add_goal(&mut self, source: GoalSource, goal: Goal<Clause>) -> Result<(), Stop>
@@ -190,7 +196,7 @@ pub trait EvalCtxt: InferCtxtLike {
         ensures kept { Keeps fixed probes Self.context self.old self.new }
         ensures ok { OnOk result (state self.new ≡ added (state self.old) (pending_of (Self.context self.old).trees source goal)) }
         ensures stopped { OnErr result (state self.new ≡ state self.old) }
-        ensures cause { IfErr result IsEvaluatorStop };
+        ensures cause { IfErr result (stops self.new (state self.old) (question.add_goals (pending_of (Self.context self.old).trees source goal ∷ []))) };
 
     /// Goals become pending, in order, after all others; none where it stops.
     fn add_goals(&mut self, source: GoalSource, goals: &[Goal<Clause>]) -> Result<(), Stop>
@@ -198,7 +204,7 @@ pub trait EvalCtxt: InferCtxtLike {
         ensures kept { Keeps fixed probes Self.context self.old self.new }
         ensures ok { OnOk result (state self.new ≡ with_goals_of (Self.context self.old).trees (state self.old) source goals.now) }
         ensures stopped { OnErr result (state self.new ≡ state self.old) }
-        ensures cause { IfErr result IsEvaluatorStop };
+        ensures cause { IfErr result (stops self.new (state self.old) (question.add_goals (map (pending_of (Self.context self.old).trees source) goals.now))) };
 
     /// How sure what is pending is, together. What is settled is pending no more.
     fn try_evaluate_added_goals(&mut self) -> Result<Certainty, NoSolutionOrStop>
@@ -206,7 +212,7 @@ pub trait EvalCtxt: InferCtxtLike {
         ensures ok { IfOk result (λ c. (judge (fixed self.old)).settled (state self.old) ≡ Some (c, state self.new)) }
         ensures refused { IfErr result (λ e. e ≡ NoSolutionOrStop.NoSolution → (judge (fixed self.old)).settled (state self.old) ≡ None) }
         ensures stopped { IfErr result (λ e. e ≢ NoSolutionOrStop.NoSolution → (judge (fixed self.old)).alike (state self.old) (state self.new)) }
-        ensures cause { IfErr result IsEvaluatorRefusal };
+        ensures cause { IfErr result (by_stop (stops self.new (state self.old) question.evaluate)) };
 
     /// The response, with at most that certainty. Nothing is said of the state that it leaves: it is asked for in a probe.
     fn evaluate_added_goals_and_make_canonical_response(
@@ -218,7 +224,7 @@ pub trait EvalCtxt: InferCtxtLike {
         ensures ok { IfOk result (λ r. (judge (fixed self.old)).responded (state self.old) certainty ≡ Some (response_of (Self.context self.new).trees r)) }
         ensures refused { IfErr result (λ e. e ≡ NoSolutionOrStop.NoSolution → (judge (fixed self.old)).responded (state self.old) certainty ≡ None) }
         ensures stopped { IfErr result (λ e. e ≢ NoSolutionOrStop.NoSolution → (judge (fixed self.old)).alike (state self.old) (state self.new)) }
-        ensures cause { IfErr result IsEvaluatorRefusal };
+        ensures cause { IfErr result (by_stop (stops self.new (state self.old) (question.respond certainty))) };
 
     /// Begins a probe.
     fn begin_probe(&mut self, kind: ProbeKind) -> Result<Self::Probe, Stop>
@@ -226,7 +232,7 @@ pub trait EvalCtxt: InferCtxtLike {
         ensures grows { Grows (Self.context self.old) (Self.context self.new) }
         ensures ok { OnOk result ((state self.new ≡ begun kind (state self.old)) × (probes self.new ≡ state self.old ∷ probes self.old)) }
         ensures stopped { OnErr result ((state self.new ≡ state self.old) × (probes self.new ≡ probes self.old)) }
-        ensures cause { IfErr result IsEvaluatorStop };
+        ensures cause { IfErr result (stops self.new (state self.old) (question.begin_probe kind)) };
 
     /// Ends the newest probe. The state is then alike the one at which it began, what was pending there included.
     fn end_probe(&mut self, probe: Self::Probe) -> CandidateHeadUsages
@@ -243,7 +249,7 @@ pub trait EvalCtxt: InferCtxtLike {
         ensures same { state self.new ≡ state self.old }
         ensures fit { IfOk result (λ v. All (λ a. KindFits (Self.context self.new).trees (K.Alias a)) v.items) }
         ensures ok { IfOk result (λ v. alias_trees (Self.context self.new).trees v.items ≡ (judge (fixed self.old)).opaques (state self.old) (ty_tree (Self.context self.old).trees ty)) }
-        ensures cause { IfErr result IsEvaluatorStop };
+        ensures cause { IfErr result (stops self.new (state self.old) (question.find_opaques (ty_tree (Self.context self.old).trees ty))) };
 
     /// Forgets which goals a candidate has used.
     fn ignore_candidate_head_usages(&mut self, usages: CandidateHeadUsages)
@@ -252,11 +258,14 @@ pub trait EvalCtxt: InferCtxtLike {
 
     /// Puts off a fault.
     fn delay_bug(&mut self, text: &str) -> Result<(), Stop>
-        ensures kept { (fixed self.new ≡ fixed self.old) × (probes self.new ≡ probes self.old) }
+        ensures kept { Keeps fixed probes Self.context self.old self.new }
         ensures same { state self.new ≡ state self.old }
         ensures added { OnOk result (Self.context self.new ≡ record (Self.context self.old) { delayed_bugs = (Self.context self.old).delayed_bugs ++ text.now ∷ [] }) }
         ensures unchanged { OnErr result (Self.context self.new ≡ Self.context self.old) }
-        ensures cause { IfErr result IsEvaluatorStop };
+        ensures cause { IfErr result (stops self.new (state self.old) (question.delay text.now)) };
+
+    /// It accounts for its own stops alone: others come of walks that no evaluator takes.
+    ghost stops_itself: { (x : Self) (S : State) (q : Question) (s : Stop) → stops x S q s → IsEvaluatorStop s };
 
     /// The judge keeps the laws.
     ghost lawful: { (f : Fixed) → Lawful (judge f) };

@@ -3,8 +3,9 @@
 ghost use Rattle.std.specs.Prelude.{◌≡◌, [], ◌∷◌, ◌++◌, map, Some, None, MatchOption, IfOk, IfErr, OnOk, true, false};
 ghost use Rattle.candidate_ir.specs.Context.{Grows};
 ghost use Rattle.candidate_ir.specs.Words.{IsArgs, IsClause, IsParamEnv, IsTy, ClauseListFits, args_forest, clause_tree, env_forest, ty_tree};
-ghost use Rattle.candidate_eval.specs.Evaluators.{IsEvaluatorRefusal, IsEvaluatorStop, Keeps};
-ghost use Rattle.candidate_eval.specs.Objects.{is_about, IsBound, fresh_instance, with_instance, bound_equated, is_equated, projection_at, term_in, Tried, IsPicked, IsPickedAtOnce, IsExact, IsAmbiguous, IsObjectError};
+ghost use Rattle.candidate_eval.specs.Accounts.{StopsBy, by_stop};
+ghost use Rattle.candidate_eval.specs.Evaluators.{Keeps};
+ghost use Rattle.candidate_eval.specs.Objects.{is_about, IsBound, fresh_instance, with_instance, bound_equated, is_equated, projection_at, term_in, Tried, IsPicked, IsPickedAtOnce, IsExact, IsAmbiguous, IsInstance, IsInstanceOfOne, by_object_stop};
 ghost use Rattle.candidate_eval.specs.Objects as seen;
 ghost use Rattle.candidate_eval.specs.States.{is_some};
 ghost use Rattle.candidate_eval.specs.declared.structural.object.AmbiguousOrStop.TheVariants as ambiguous;
@@ -66,7 +67,7 @@ pub fn instantiate_binder_with_infer<E: EvalCtxt>(
     ensures state { OnOk result (E.state ecx.new ≡ with_instance (E.state ecx.old) (clause_tree (E.context ecx.old).trees clause)) }
     ensures sort { IfOk result (λ x. IsClause (E.context ecx.new).trees x) }
     ensures tree { IfOk result (λ x. clause_tree (E.context ecx.new).trees x ≡ fresh_instance (E.state ecx.old) (clause_tree (E.context ecx.old).trees clause)) }
-    ensures cause { IfErr result IsEvaluatorStop }
+    ensures cause { IfErr result (StopsBy E.fixed E.context E.state E.stops ecx.old (IsInstance (clause_tree (E.context ecx.old).trees clause))) }
 {
     let kinds = binder_kinds(alloc, ecx.cx(), clause)?;
     let values = ecx.fresh_args_for_item(kinds.as_slice())?;
@@ -91,7 +92,7 @@ fn equate_bound<E: EvalCtxt>(
     ensures term { IfOk result (λ t. ty_tree (E.context ecx.new).trees t ≡ term_in (fresh_instance (E.state ecx.old) (clause_tree (E.context ecx.old).trees bound))) }
     ensures ok { IfOk result (λ _. bound_equated (E.judge (E.fixed ecx.old)) (env_forest (E.context ecx.old).trees env) (E.state ecx.old) (clause_tree (E.context ecx.old).trees bound) (args_forest (E.context ecx.old).trees projection.args) ≡ Some (E.state ecx.new)) }
     ensures refused { IfErr result (λ e. e ≡ NoSolutionOrStop.NoSolution → bound_equated (E.judge (E.fixed ecx.old)) (env_forest (E.context ecx.old).trees env) (E.state ecx.old) (clause_tree (E.context ecx.old).trees bound) (args_forest (E.context ecx.old).trees projection.args) ≡ None) }
-    ensures cause { IfErr result IsEvaluatorRefusal }
+    ensures cause { IfErr result (by_stop (StopsBy E.fixed E.context E.state E.stops ecx.old (IsInstance (clause_tree (E.context ecx.old).trees bound)))) }
 {
     let instance = instantiate_binder_with_infer(alloc, ecx, bound)?;
     match bound_about(ecx.cx(), instance, projection.def_id) {
@@ -118,7 +119,7 @@ fn equate_and_evaluate<E: EvalCtxt>(
     ensures kept { Keeps E.fixed E.probes E.context ecx.old ecx.new }
     ensures ok { IfOk result (λ _. is_equated (E.judge (E.fixed ecx.old)) (bound_equated (E.judge (E.fixed ecx.old)) (env_forest (E.context ecx.old).trees env) (E.state ecx.old) (clause_tree (E.context ecx.old).trees bound) (args_forest (E.context ecx.old).trees projection.args)) ≡ true) }
     ensures refused { IfErr result (λ e. e ≡ NoSolutionOrStop.NoSolution → is_equated (E.judge (E.fixed ecx.old)) (bound_equated (E.judge (E.fixed ecx.old)) (env_forest (E.context ecx.old).trees env) (E.state ecx.old) (clause_tree (E.context ecx.old).trees bound) (args_forest (E.context ecx.old).trees projection.args)) ≡ false) }
-    ensures cause { IfErr result IsEvaluatorRefusal }
+    ensures cause { IfErr result (by_stop (StopsBy E.fixed E.context E.state E.stops ecx.old (IsInstance (clause_tree (E.context ecx.old).trees bound)))) }
 {
     let _term = equate_bound(alloc, ecx, env, bound, projection)?;
     let _certainty = ecx.try_evaluate_added_goals()?;
@@ -143,7 +144,7 @@ pub fn bound_matches<E: EvalCtxt>(
     ensures kept { Keeps E.fixed E.probes E.context ecx.old ecx.new }
     ensures alike { (E.judge (E.fixed ecx.old)).alike (E.state ecx.old) (E.state ecx.new) }
     ensures answer { IfOk result (λ b. b ≡ seen.bound_matches (E.judge (E.fixed ecx.old)) (env_forest (E.context ecx.old).trees env) (E.state ecx.old) (clause_tree (E.context ecx.old).trees bound) (projection_at (E.context ecx.old).trees projection)) }
-    ensures cause { IfErr result IsEvaluatorStop }
+    ensures cause { IfErr result (StopsBy E.fixed E.context E.state E.stops ecx.old (IsInstance (clause_tree (E.context ecx.old).trees bound))) }
 {
     if bound_about(ecx.cx(), bound, projection.def_id).is_none() {
         return Ok(false);
@@ -175,7 +176,7 @@ pub fn matching_bounds<E: EvalCtxt>(
     ensures alike { (E.judge (E.fixed ecx.old)).alike (E.state ecx.old) (E.state ecx.new) }
     ensures sort { IfOk result (λ v. ClauseListFits (E.context ecx.new).trees v.items) }
     ensures tried { IfOk result (λ v. Tried (E.judge (E.fixed ecx.old)) (env_forest (E.context ecx.old).trees env) (projection_at (E.context ecx.old).trees projection) (E.state ecx.old) (map (clause_tree (E.context ecx.old).trees) bounds.now) (map (clause_tree (E.context ecx.new).trees) v.items) (E.state ecx.new)) }
-    ensures cause { IfErr result IsEvaluatorStop }
+    ensures cause { IfErr result (StopsBy E.fixed E.context E.state E.stops ecx.old (IsInstanceOfOne (map (clause_tree (E.context ecx.old).trees) bounds.now))) }
 {
     let mut found = Vec::new(alloc);
     for bound in bounds {
@@ -202,7 +203,7 @@ fn can_be_equated<E: EvalCtxt>(
     ensures kept { Keeps E.fixed E.probes E.context ecx.old ecx.new }
     ensures alike { (E.judge (E.fixed ecx.old)).alike (E.state ecx.old) (E.state ecx.new) }
     ensures answer { IfOk result (λ b. is_some (bound_equated (E.judge (E.fixed ecx.old)) (env_forest (E.context ecx.old).trees env) (E.state ecx.old) (clause_tree (E.context ecx.old).trees bound) (args_forest (E.context ecx.old).trees projection.args)) ≡ b) }
-    ensures cause { IfErr result IsEvaluatorStop }
+    ensures cause { IfErr result (StopsBy E.fixed E.context E.state E.stops ecx.old (IsInstance (clause_tree (E.context ecx.old).trees bound))) }
 {
     let probe = ecx.begin_probe(ProbeKind::Kept)?;
     let answer = equate_bound(alloc, ecx, env, bound, projection);
@@ -237,7 +238,7 @@ pub fn pick_bound<E: EvalCtxt>(
 
     // Where closed probes leave the very state before, all bounds are tried at one state.
     ensures at_once { IsExact (E.judge (E.fixed ecx.old)) → IfOk result (λ t. IsPickedAtOnce (E.judge (E.fixed ecx.old)) (env_forest (E.context ecx.old).trees env) (projection_at (E.context ecx.old).trees projection) (E.state ecx.old) (map (clause_tree (E.context ecx.old).trees) bounds.now) (ty_tree (E.context ecx.new).trees t) (E.state ecx.new)) }
-    ensures cause { IfErr result IsObjectError }
+    ensures cause { IfErr result (by_object_stop (StopsBy E.fixed E.context E.state E.stops ecx.old (IsInstanceOfOne (map (clause_tree (E.context ecx.old).trees) bounds.now)))) }
 {
     let found = matching_bounds(alloc, ecx, env, bounds, projection)?;
     if found.len() != 1 {

@@ -4,8 +4,9 @@ ghost use Rattle.std.specs.Prelude.{◌≡◌, map, Some, None, MatchOption, IfO
 ghost use Rattle.candidate_ir.specs.Context.{Grows, world};
 ghost use Rattle.candidate_ir.specs.References.{ArgumentsFit, Takes};
 ghost use Rattle.candidate_ir.specs.Words.{IsArgs, IsClause, IsParamEnv, IsPreds, IsTy, ClauseFits, ClauseListFits, args_forest, clause_kind_tree, clause_tree, env_forest, preds_forest, ty_tree};
-ghost use Rattle.candidate_eval.specs.Evaluators.{IsEvaluatorStop, IsGoal, IsMakingStop, Keeps, goal_of};
-ghost use Rattle.candidate_eval.specs.Objects.{with_instance, IsObjectError};
+ghost use Rattle.candidate_eval.specs.Accounts.{StopsSomehow};
+ghost use Rattle.candidate_eval.specs.Evaluators.{IsGoal, IsMakingStop, Keeps, goal_of};
+ghost use Rattle.candidate_eval.specs.Objects.{with_instance, by_object_stop};
 ghost use Rattle.candidate_eval.specs.ObjectRequirements.{AreAsked, AreUnknown, arguments_of, first_tree, fresh_arguments, goals_in, reference_clause, trait_held};
 ghost use Rattle.candidate_eval.specs.Replacing.{clauses_at};
 ghost use Rattle.candidate_eval.specs.Required.{AreRequirements};
@@ -76,7 +77,7 @@ fn instance<E: EvalCtxt>(
     ensures id { IfOk result (λ r. r.def_id ≡ trait_ref.value.def_id) }
     ensures sort { IfOk result (λ r. IsArgs (E.context ecx.new).trees r.args × ArgumentsFit (E.context ecx.new) r) }
     ensures arguments { IfOk result (λ r. args_forest (E.context ecx.new).trees r.args ≡ fresh_arguments (E.state ecx.old) (clause_kind_tree (E.context ecx.old).trees (reference_clause trait_ref))) }
-    ensures cause { IfErr result IsEvaluatorStop }
+    ensures cause { IfErr result (StopsSomehow E.fixed E.context E.state E.stops ecx.old) }
 {
     let clause = held(ecx, trait_ref)?;
     let instance = instantiate_binder_with_infer(alloc, ecx, clause)?;
@@ -123,7 +124,7 @@ fn prepare<E: EvalCtxt>(
     ensures object { IfOk result (λ p. ty_tree (E.context ecx.new).trees p.object ≡ first_tree (fresh_arguments (E.state ecx.old) (clause_kind_tree (E.context ecx.old).trees (reference_clause trait_ref)))) }
     ensures bounds { IfOk result (λ p. clauses_at (E.context ecx.new).trees p.bounds.items ≡ seen.own_bounds (first_tree (fresh_arguments (E.state ecx.old) (clause_kind_tree (E.context ecx.old).trees (reference_clause trait_ref)))) (preds_forest (E.context ecx.old).trees object_bounds)) }
     ensures required { IfOk result (λ p. AreRequirements (E.context ecx.old) trait_ref.value.def_id.0 (fresh_arguments (E.state ecx.old) (clause_kind_tree (E.context ecx.old).trees (reference_clause trait_ref))) (clauses_at (E.context ecx.new).trees p.required.items)) }
-    ensures cause { IfErr result IsEvaluatorStop }
+    ensures cause { IfErr result (StopsSomehow E.fixed E.context E.state E.stops ecx.old) }
 {
     ecx.cx().well_formed_table();
     let reference = instance(alloc, ecx, trait_ref)?;
@@ -180,7 +181,7 @@ pub fn predicates_for_object_candidate<E: EvalCtxt>(
     ensures sort { IfOk result (λ v. All (IsGoal (E.context ecx.new).trees) v.items) }
     ensures asked { IfOk result (λ v. AreAsked (E.judge (E.fixed ecx.old)) (env_forest (E.context ecx.old).trees env) (E.context ecx.old) (E.state ecx.old) trait_ref.value.def_id.0 (clause_kind_tree (E.context ecx.old).trees (reference_clause trait_ref)) (preds_forest (E.context ecx.old).trees object_bounds) (map (goal_of (E.context ecx.new).trees) v.items) (E.state ecx.new)) }
     ensures ambiguous { IfErr result (λ e. e ≡ AmbiguousOrStop.Ambiguous → AreUnknown (E.judge (E.fixed ecx.old)) (env_forest (E.context ecx.old).trees env) (E.context ecx.old) (E.state ecx.old) trait_ref.value.def_id.0 (clause_kind_tree (E.context ecx.old).trees (reference_clause trait_ref)) (preds_forest (E.context ecx.old).trees object_bounds) (E.state ecx.new)) }
-    ensures cause { IfErr result IsObjectError }
+    ensures cause { IfErr result (by_object_stop (StopsSomehow E.fixed E.context E.state E.stops ecx.old)) }
 {
     let prepared = prepare(alloc, ecx, trait_ref, object_bounds)?;
     let (bounds, required) = (prepared.bounds.as_slice(), prepared.required.as_slice());

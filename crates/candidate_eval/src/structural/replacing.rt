@@ -7,9 +7,10 @@ ghost use Rattle.candidate_ir.specs.declared.ir.heads.Head.TheVariants as H;
 ghost use Rattle.candidate_ir.specs.Nodes.{tree_at};
 ghost use Rattle.candidate_ir.specs.WellFormed.{TypesFit};
 ghost use Rattle.candidate_ir.specs.Words.{IsArgs, IsClause, IsParamEnv, IsTy, ClauseListFits, args_forest, clause_tree, env_forest, ty_tree};
+ghost use Rattle.candidate_eval.specs.Accounts.{StopsSomehow};
 ghost use Rattle.candidate_eval.specs.Evaluators.{IsMakingStop, Keeps};
 ghost use Rattle.candidate_eval.specs.Noting.{IsNotingStop};
-ghost use Rattle.candidate_eval.specs.Objects.{is_about, projection_at, IsObjectError};
+ghost use Rattle.candidate_eval.specs.Objects.{is_about, projection_at, by_object_stop};
 ghost use Rattle.candidate_eval.specs.Replacing.{alias_in, any_is_about, answered, item_of, left_by, starts_with, projections, filled_clause, Picks, IsStuck, IsReplaced, AreReplaced, AreStuck, AreProjections, projections_at, clauses_at, types_at, finds_own};
 
 use crate::eval::context::EvalCtxt;
@@ -194,7 +195,7 @@ fn pick_all<E: EvalCtxt>(
     ensures sort { IfOk result (λ v. TypesFit (E.context ecx.new).trees v.items) }
     ensures picked { IfOk result (λ v. Picks (E.judge (E.fixed ecx.old)) (env_forest (E.context ecx.old).trees env) (clauses_at (E.context ecx.old).trees bounds.now) (E.state ecx.old) (projections_at (E.context ecx.old).trees projections.now) (types_at (E.context ecx.new).trees v.items) (E.state ecx.new)) }
     ensures ambiguous { IfErr result (λ e. e ≡ AmbiguousOrStop.Ambiguous → IsStuck (E.judge (E.fixed ecx.old)) (env_forest (E.context ecx.old).trees env) (clauses_at (E.context ecx.old).trees bounds.now) (E.state ecx.old) (projections_at (E.context ecx.old).trees projections.now) (E.state ecx.new)) }
-    ensures cause { IfErr result IsObjectError }
+    ensures cause { IfErr result (by_object_stop (StopsSomehow E.fixed E.context E.state E.stops ecx.old)) }
 {
     let mut terms = Vec::new(alloc);
     for projection in projections {
@@ -301,7 +302,7 @@ fn replaced_clause<E: EvalCtxt>(
     ensures sort { IfOk result (λ x. IsClause (E.context ecx.new).trees x) }
     ensures replaced { IfOk result (λ x. IsReplaced (E.judge (E.fixed ecx.old)) (env_forest (E.context ecx.old).trees env) (ty_tree (E.context ecx.old).trees object) (clauses_at (E.context ecx.old).trees bounds.now) (E.state ecx.old) (clause_tree (E.context ecx.old).trees clause) (clause_tree (E.context ecx.new).trees x) (E.state ecx.new)) }
     ensures ambiguous { IfErr result (λ e. e ≡ AmbiguousOrStop.Ambiguous → IsStuck (E.judge (E.fixed ecx.old)) (env_forest (E.context ecx.old).trees env) (clauses_at (E.context ecx.old).trees bounds.now) (E.state ecx.old) (projections (finds_own (E.context ecx.old).trees object bounds.now) (clause_tree (E.context ecx.old).trees clause).children) (E.state ecx.new)) }
-    ensures cause { IfErr result IsObjectError }
+    ensures cause { IfErr result (by_object_stop (StopsSomehow E.fixed E.context E.state E.stops ecx.old)) }
 {
     let projections = own_projections(alloc, ecx.cx(), object, bounds, clause)?;
     let terms = pick_all(alloc, ecx, env, bounds, projections.as_slice())?;
@@ -326,7 +327,7 @@ pub(crate) fn replaced<E: EvalCtxt>(
     ensures sort { IfOk result (λ v. ClauseListFits (E.context ecx.new).trees v.items) }
     ensures replaced { IfOk result (λ v. AreReplaced (E.judge (E.fixed ecx.old)) (env_forest (E.context ecx.old).trees env) (ty_tree (E.context ecx.old).trees object) (clauses_at (E.context ecx.old).trees bounds.now) (E.state ecx.old) (clauses_at (E.context ecx.old).trees clauses.now) (clauses_at (E.context ecx.new).trees v.items) (E.state ecx.new)) }
     ensures ambiguous { IfErr result (λ e. e ≡ AmbiguousOrStop.Ambiguous → AreStuck (E.judge (E.fixed ecx.old)) (env_forest (E.context ecx.old).trees env) (ty_tree (E.context ecx.old).trees object) (clauses_at (E.context ecx.old).trees bounds.now) (E.state ecx.old) (clauses_at (E.context ecx.old).trees clauses.now) (E.state ecx.new)) }
-    ensures cause { IfErr result IsObjectError }
+    ensures cause { IfErr result (by_object_stop (StopsSomehow E.fixed E.context E.state E.stops ecx.old)) }
 {
     let mut list = Vec::new(alloc);
     for clause in clauses {

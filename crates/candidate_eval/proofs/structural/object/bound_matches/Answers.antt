@@ -6,6 +6,9 @@ use Rattle.candidate_eval.specs.declared.eval.refusal.NoSolutionOrStop.TheVarian
 use Rattle.candidate_eval.specs.Objects.{is_about}
 use Rattle.candidate_eval.proofs.Objects.{env-kept, probe-answer}
 use Rattle.candidate_eval.proofs.Probing.{of-error, keeps-probe, alike-probe}
+use Rattle.std.proofs.lemmas.Result.{err_from_is_err_and}
+use Rattle.candidate_eval.proofs.Accounts.{accounted-here, at-stop, same-bound, stops-later}
+use Rattle.candidate_eval.specs.Accounts.StopsBy.{accounted}
 use Rattle.candidate_eval.proofs.structural.object.bound_matches.Goals as goal
 
 pub equate_and_evaluate-answer-requires-clause-env : goal.equate_and_evaluate-answer-requires-clause-env
@@ -103,3 +106,15 @@ returns-clause-alike g c =
     let began = c.in_ok-probe.ensures in
     alike-probe E.fixed E.probes E.judge E.state c.args.ecx.now c.begin_probe.new.self ran.new.ecx end.new.self
     began.fixed began.ok.1 ran.ensures.kept.fixed_same ran.ensures.kept.probes_same end.ensures.closed
+
+pub returns-in_err-probe-clause-cause : goal.returns-in_err-probe-clause-cause
+returns-in_err-probe-clause-cause g c =
+    let p = err_from_is_err_and c.from_residual.result c.from_residual.ensures.1 in
+    rw (p.1, p.2) (accounted (accounted-here _ (record { same = c.begin_probe.ensures.fixed; grows = c.begin_probe.ensures.grows }) c.in_err-probe.ensures.cause))
+
+pub returns-clause-cause : goal.returns-clause-cause
+returns-clause-cause g c =
+    let same = (clause-kept (g.E.Build.context c.args.ecx.now) (g.E.Build.context c.begin_probe.new.self) c.args.bound c.begin_probe.ensures.grows c.requires.bound).1 in
+    let ran = c.equate_and_evaluate-answer in
+    stops-later (record { same = c.begin_probe.ensures.fixed; grows = c.begin_probe.ensures.grows }) (same-bound same)
+    (at-stop _ c.in-Err-Stop.field-0 c.in-Err-Stop.stop (search rules) (of-error ran.result c.in-Err-Stop.field-0 _ c.in-Err-Stop.is ran.ensures.cause))

@@ -6,6 +6,8 @@ use Rattle.candidate_ir.specs.Words.{args_forest, clause_tree, env_forest}
 use Rattle.candidate_ir.proofs.Kept.{args-kept, ty-kept}
 use Rattle.candidate_eval.specs.Objects.{IsBound, term_in}
 use Rattle.candidate_eval.proofs.Objects.{env-kept, instance-accepted}
+use Rattle.candidate_eval.proofs.Accounts.{accounted-here, accounted-later, by-stop, reaches}
+use Rattle.candidate_eval.specs.Accounts.StopsBy.{accounted}
 use Rattle.candidate_eval.proofs.structural.object.equate_bound.Goals as goal
 
 pub eq_args-requires-clause-env : goal.eq_args-requires-clause-env
@@ -70,3 +72,9 @@ returns-in_err-eq_args-in-Some-clause-kept g c =
 pub returns-clause-kept : goal.returns-clause-kept
 returns-clause-kept g c =
     then c.instantiate_binder_with_infer.ensures.kept c.eq_args.ensures.kept
+
+pub returns-in_err-eq_args-in-Some-clause-cause : goal.returns-in_err-eq_args-in-Some-clause-cause
+returns-in_err-eq_args-in-Some-clause-cause g c =
+    let p = err_from_is_err_and c.from_residual-in_err-eq_args-in-Some.result c.from_residual-in_err-eq_args-in-Some.ensures.1 in
+    rw (p.1, p.2)
+    (by-stop c.in_err-eq_args-in-Some.field-0.0 (λ s x. accounted (accounted-later (reaches c.instantiate_binder_with_infer.ensures.kept) (accounted-here _ (reaches c.eq_args.ensures.kept) x))) c.in_err-eq_args-in-Some.ensures.cause)

@@ -1,11 +1,14 @@
 use Rattle.candidate_eval.proofs.Probing.{keeps-trans}
 use Rattle.std.proofs.Common.{rules, ◌≡◌, true, false, [], ◌∷◌, ◌++◌, refl, ◌∙◌, ap, subst}
 use Rattle.candidate_ir.specs.Trees.{Forest}
-use Rattle.candidate_ir.specs.Words.{env_forest}
+use Rattle.candidate_ir.specs.Words.{env_forest, clause_tree}
 use Rattle.candidate_ir.proofs.Kept.{args-kept}
 use Rattle.candidate_eval.specs.Objects.{Projection, projection_at}
 use Rattle.candidate_eval.proofs.Objects.{env-kept}
 use Rattle.candidate_eval.proofs.Tries.{bound-listed, none-tried, one-found, one-passed, said-then}
+use Rattle.std.proofs.lemmas.Result.{err_from_is_err_and}
+use Rattle.candidate_eval.proofs.Accounts.{listed-bound, stops-later}
+use Rattle.candidate_eval.specs.Accounts.StopsBy.{no_memory}
 use Rattle.candidate_eval.proofs.structural.object.matching_bounds.Goals.{then-branch+in_ok-push, else-branch}
 use Rattle.candidate_eval.proofs.structural.object.matching_bounds.Goals as goal
 
@@ -86,3 +89,17 @@ pub returns-in_err-push-clause-alike : goal.returns-in_err-push-clause-alike
 returns-in_err-push-clause-alike g c =
     let E = g.E.EvalCtxt in
     (g.met.E.EvalCtxt.lawful (E.fixed c.args.ecx.now)).alike_judged_alike.alike_along (E.state c.args.ecx.now) (E.state c.loop-bound.ecx) (E.state c.bound_matches.new.ecx) c.loop-bound.invariant.0.alike (subst (λ f. (E.judge f).alike (E.state c.loop-bound.ecx) (E.state c.bound_matches.new.ecx)) c.loop-bound.invariant.1 c.bound_matches.ensures.alike)
+
+pub returns-in_err-bound_matches-clause-cause : goal.returns-in_err-bound_matches-clause-cause
+returns-in_err-bound_matches-clause-cause g c =
+    let start = g.E.Build.context c.args.ecx.now in
+    let so = c.loop-bound.invariant.0 in
+    let listed = bound-listed start (g.E.Build.context c.loop-bound.ecx) c.args.bounds.now c.loop-bound.bound-index _ so.grows c.requires.bounds c.loop-bound-test.true in
+    let p = err_from_is_err_and c.from_residual.result c.from_residual.ensures.1 in
+    rw (p.1, p.2)
+    (stops-later (record { same = c.loop-bound.invariant.1; grows = so.grows }) (listed-bound (clause_tree start.trees) c.args.bounds.now c.loop-bound.bound-index _ c.loop-bound-test.true listed.1) c.in_err-bound_matches.ensures.cause)
+
+pub returns-in_err-push-clause-cause : goal.returns-in_err-push-clause-cause
+returns-in_err-push-clause-cause g c =
+    let p = err_from_is_err_and c.from_residual-in_err-push.result c.from_residual-in_err-push.ensures.1 in
+    rw (p.1, p.2) no_memory

@@ -10,6 +10,8 @@ use Rattle.candidate_eval.specs.States.{is_some}
 use Rattle.candidate_eval.proofs.Objects.{about-kept, env-kept}
 use Rattle.candidate_eval.proofs.Probing.{of-error, then}
 use Rattle.candidate_eval.proofs.Tries.{equated-then, not-one, only-fits, only-tried, picked-at-once, refused-is}
+use Rattle.std.proofs.lemmas.Result.{err_from_is_err_and}
+use Rattle.candidate_eval.proofs.Accounts.{at-stop, only-listed, reaches, same-bound, stops-later}
 use Rattle.candidate_eval.proofs.structural.object.pick_bound.Goals as goal
 
 pub returns-then-len-ne1-clause-ambiguous : goal.returns-then-len-ne1-clause-ambiguous
@@ -166,3 +168,30 @@ returns-in-Err-NoSolution-clause-kept g c =
 pub returns-clause-kept : goal.returns-clause-kept
 returns-clause-kept g c =
     then (then c.matching_bounds.ensures.kept c.can_be_equated.ensures.kept) c.equate_bound.ensures.kept
+
+pub returns-in_err-can_be_equated-clause-cause : goal.returns-in_err-can_be_equated-clause-cause
+returns-in_err-can_be_equated-clause-cause g c =
+    let E = g.E.EvalCtxt in
+    let old = c.args.ecx.now in
+    let start = g.E.Build.context old in
+    let mid = c.matching_bounds.new.ecx in
+    let l : length c.in_ok-found.found.items ≡ 1 = search rules in
+    let only = only-tried (E.judge (E.fixed old)) (env_forest start.trees c.args.env) (projection_at start.trees c.args.projection) (E.state old) (E.state mid) (map (clause_tree start.trees) c.args.bounds.now)
+    (g.E.Build.context mid).trees c.in_ok-found.found.items c.index-only.result.now c.in_ok-found.ensures.tried l c.index-only.ensures in
+    let p = err_from_is_err_and c.from_residual-in_err-can_be_equated.result c.from_residual-in_err-can_be_equated.ensures.1 in
+    rw (p.1, p.2) (stops-later (reaches c.matching_bounds.ensures.kept) (only-listed only.0) c.in_err-can_be_equated.ensures.cause)
+
+pub returns-clause-cause : goal.returns-clause-cause
+returns-clause-cause g c =
+    let E = g.E.EvalCtxt in
+    let old = c.args.ecx.now in
+    let start = g.E.Build.context old in
+    let mid = c.matching_bounds.new.ecx in
+    let after = g.E.Build.context mid in
+    let x = c.index-only.result.now in
+    let l : length c.in_ok-found.found.items ≡ 1 = search rules in
+    let only = only-tried (E.judge (E.fixed old)) (env_forest start.trees c.args.env) (projection_at start.trees c.args.projection) (E.state old) (E.state mid) (map (clause_tree start.trees) c.args.bounds.now)
+    after.trees c.in_ok-found.found.items x c.in_ok-found.ensures.tried l c.index-only.ensures in
+    let same = (clause-kept after (g.E.Build.context c.can_be_equated.new.ecx) x c.can_be_equated.ensures.kept.grows (only-fits after.trees c.in_ok-found.found.items x c.in_ok-found.ensures.sort l c.index-only.ensures)).1 in
+    stops-later (reaches (then c.matching_bounds.ensures.kept c.can_be_equated.ensures.kept)) (λ ts i. only-listed only.0 ts (same-bound same ts i))
+    (at-stop _ c.in-Err-Stop.field-0 c.in-Err-Stop.stop (search rules) (of-error c.equate_bound.result c.in-Err-Stop.field-0 _ c.in-Err-Stop.is c.equate_bound.ensures.cause))

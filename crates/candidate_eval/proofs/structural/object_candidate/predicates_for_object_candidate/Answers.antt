@@ -12,6 +12,8 @@ use Rattle.candidate_eval.specs.Required.{own_bounds}
 use Rattle.candidate_eval.proofs.ObjectCandidates.{are-replaced-at, are-stuck-at, goals-are, goals-fit}
 use Rattle.candidate_eval.proofs.Objects.{env-kept}
 use Rattle.candidate_eval.proofs.ObjectRules.{asked-by-rule, unknown-by-rule}
+use Rattle.candidate_eval.specs.Accounts.StopsSomehow.{making}
+use Rattle.candidate_eval.proofs.Accounts.{by-object-stop, reaches, somehow-later}
 use Rattle.candidate_eval.proofs.structural.object_candidate.predicates_for_object_candidate.Goals as goal
 
 pub replaced-requires-clause-env : goal.replaced-requires-clause-env
@@ -99,3 +101,13 @@ pub returns-clause-kept : goal.returns-clause-kept
 returns-clause-kept g c =
     let E = g.E.EvalCtxt in
     keeps-trans E.fixed E.probes g.E.Build.context c.args.ecx.now c.prepare.new.ecx c.replaced.new.ecx c.prepare.ensures.kept c.replaced.ensures.kept
+
+pub returns-in_err-clauses-clause-cause : goal.returns-in_err-clauses-clause-cause
+returns-in_err-clauses-clause-cause g c =
+    let p = err_from_is_err_and c.from_residual-in_err-clauses.result c.from_residual-in_err-clauses.ensures.1 in
+    rw (p.1, p.2) (by-object-stop c.in_err-clauses.field-0.0 (λ s x. somehow-later (reaches c.prepare.ensures.kept) x) c.in_err-clauses.ensures.cause)
+
+pub returns-in_err-goals-clause-cause : goal.returns-in_err-goals-clause-cause
+returns-in_err-goals-clause-cause g c =
+    let p = err_from_is_err_and c.from_residual-in_err-goals.result c.from_residual-in_err-goals.ensures.1 in
+    rw (p.1, p.2) (making c.in_err-goals.ensures.cause)

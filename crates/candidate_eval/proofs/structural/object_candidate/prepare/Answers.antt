@@ -12,6 +12,8 @@ use Rattle.candidate_eval.specs.Replacing.{clauses_at}
 use Rattle.candidate_eval.specs.Required.{AreRequirements, own_bounds}
 use Rattle.candidate_eval.proofs.Requiring.{declared-parameters, requirements-back}
 use Rattle.candidate_eval.proofs.Responding.{clauses-kept}
+use Rattle.std.proofs.lemmas.Result.{err_from_is_err_and}
+use Rattle.candidate_eval.specs.Accounts.StopsSomehow.{making}
 use Rattle.candidate_eval.proofs.structural.object_candidate.prepare.Goals as goal
 
 pub own_bounds-requires-clause-bounds : goal.own_bounds-requires-clause-bounds
@@ -95,3 +97,13 @@ pub returns-clause-state : goal.returns-clause-state
 returns-clause-state g c =
     let law = g.met.E.EvalCtxt.by_rest in
     (law c.own_bounds.new.make c.requirements.new.make c.requirements.ensures.rest).1 ∙ ((law c.instance.new.ecx c.own_bounds.new.make c.own_bounds.ensures.rest).1 ∙ c.in_ok-reference.ensures.state)
+
+pub returns-in_err-bounds-clause-cause : goal.returns-in_err-bounds-clause-cause
+returns-in_err-bounds-clause-cause g c =
+    let p = err_from_is_err_and c.from_residual-in_err-bounds.result c.from_residual-in_err-bounds.ensures.1 in
+    rw (p.1, p.2) (making c.in_err-bounds.ensures.cause)
+
+pub returns-in_err-required-clause-cause : goal.returns-in_err-required-clause-cause
+returns-in_err-required-clause-cause g c =
+    let p = err_from_is_err_and c.from_residual-in_err-required.result c.from_residual-in_err-required.ensures.1 in
+    rw (p.1, p.2) (making c.in_err-required.ensures.cause)

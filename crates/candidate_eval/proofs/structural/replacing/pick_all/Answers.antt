@@ -7,6 +7,8 @@ use Rattle.candidate_eval.specs.Replacing.{clauses_at}
 use Rattle.candidate_eval.proofs.Objects.{env-kept}
 use Rattle.candidate_eval.proofs.Picking.{ambiguous-then, none-picked, one-picked, one-stuck, picked-then, projection-later}
 use Rattle.candidate_eval.proofs.Responding.{clauses-kept}
+use Rattle.candidate_eval.specs.Accounts.StopsSomehow.{making}
+use Rattle.candidate_eval.proofs.Accounts.{by-object-stop, somehow, somehow-later}
 use Rattle.candidate_eval.proofs.structural.replacing.pick_all.Goals as goal
 
 pub loop-projection-init : goal.loop-projection-init
@@ -73,3 +75,13 @@ pub returns-in_err-term-clause-kept : goal.returns-in_err-term-clause-kept
 returns-in_err-term-clause-kept g c =
     let E = g.E.EvalCtxt in
     keeps-trans E.fixed E.probes g.E.Build.context c.args.ecx.now c.loop-projection.ecx c.pick_bound.new.ecx (record { fixed_same = c.loop-projection.invariant.1; probes_same = c.loop-projection.invariant.2; grows = c.loop-projection.invariant.0.grows }) c.pick_bound.ensures.kept
+
+pub returns-in_err-term-clause-cause : goal.returns-in_err-term-clause-cause
+returns-in_err-term-clause-cause g c =
+    let p = err_from_is_err_and c.from_residual.result c.from_residual.ensures.1 in
+    rw (p.1, p.2) (by-object-stop c.in_err-term.field-0.0 (λ s x. somehow-later (record { same = c.loop-projection.invariant.1; grows = c.loop-projection.invariant.0.grows }) (somehow x)) c.in_err-term.ensures.cause)
+
+pub returns-in_err-push-clause-cause : goal.returns-in_err-push-clause-cause
+returns-in_err-push-clause-cause g c =
+    let p = err_from_is_err_and c.from_residual-in_err-push.result c.from_residual-in_err-push.ensures.1 in
+    rw (p.1, p.2) (making c.in_err-push.ensures.cause)

@@ -7,6 +7,8 @@ use Rattle.candidate_eval.proofs.Objects.{env-kept}
 use Rattle.candidate_eval.proofs.Picking.{none-replaced, one-clause-stuck, one-replaced, replaced-then, stuck-at}
 use Rattle.candidate_eval.proofs.Responding.{clauses-kept}
 use Rattle.candidate_eval.proofs.Tries.{bound-listed}
+use Rattle.candidate_eval.specs.Accounts.StopsSomehow.{making}
+use Rattle.candidate_eval.proofs.Accounts.{by-object-stop, somehow-later}
 use Rattle.candidate_eval.proofs.structural.replacing.replaced.Goals as goal
 
 pub loop-clause-init : goal.loop-clause-init
@@ -82,3 +84,13 @@ loop-clause-preserved g c =
       kept.fixed_same ∙ s.1,
       kept.probes_same ∙ s.2,
     )
+
+pub returns-in_err-made-clause-cause : goal.returns-in_err-made-clause-cause
+returns-in_err-made-clause-cause g c =
+    let p = err_from_is_err_and c.from_residual.result c.from_residual.ensures.1 in
+    rw (p.1, p.2) (by-object-stop c.in_err-made.field-0.0 (λ s x. somehow-later (record { same = c.loop-clause.invariant.1; grows = c.loop-clause.invariant.0.grows }) x) c.in_err-made.ensures.cause)
+
+pub returns-in_err-push-clause-cause : goal.returns-in_err-push-clause-cause
+returns-in_err-push-clause-cause g c =
+    let p = err_from_is_err_and c.from_residual-in_err-push.result c.from_residual-in_err-push.ensures.1 in
+    rw (p.1, p.2) (making c.in_err-push.ensures.cause)

@@ -8,6 +8,9 @@ use Rattle.candidate_ir.proofs.Kept.{ty-kept}
 use Rattle.candidate_eval.specs.Replacing.{Picks, clauses_at, finds_own, projections, projections_at, types_at}
 use Rattle.candidate_eval.proofs.Picking.{replaced-by}
 use Rattle.candidate_eval.proofs.Responding.{clauses-kept}
+use Rattle.std.proofs.lemmas.Result.{err_from_is_err_and}
+use Rattle.candidate_eval.specs.Accounts.StopsSomehow.{making}
+use Rattle.candidate_eval.proofs.StopKinds.{noting_making}
 use Rattle.candidate_eval.proofs.structural.replacing.replaced_clause.Goals as goal
 
 pub fill-requires-clause-object : goal.fill-requires-clause-object
@@ -40,3 +43,13 @@ returns-in_err-fill-clause-kept g c = then c.pick_all.ensures.kept (made (g.met.
 
 pub returns-clause-kept : goal.returns-clause-kept
 returns-clause-kept g c = then c.pick_all.ensures.kept (made (g.met.E.EvalCtxt.by_rest c.pick_all.new.ecx c.fill.new.make c.fill.ensures.rest) c.fill.ensures.grows)
+
+pub returns-in_err-projections-clause-cause : goal.returns-in_err-projections-clause-cause
+returns-in_err-projections-clause-cause g c =
+    let p = err_from_is_err_and c.from_residual.result c.from_residual.ensures.1 in
+    rw (p.1, p.2) (making (noting_making _ _ c.in_err-projections.ensures.cause))
+
+pub returns-in_err-fill-clause-cause : goal.returns-in_err-fill-clause-cause
+returns-in_err-fill-clause-cause g c =
+    let p = err_from_is_err_and c.from_residual-in_err-fill.result c.from_residual-in_err-fill.ensures.1 in
+    rw (p.1, p.2) (making c.in_err-fill.ensures.cause)
