@@ -48,8 +48,8 @@ pub keeps-going : (old new : Evaluator) → GoesOn old new → IsEvaluator old.c
 keeps-going old new g h = keeps-all old new g.0 g.1 (parts h).given (goes-probes old new g (parts h).consistent.known (parts h).consistent.marks)
 
 -- All that nodes leave is what it was.
-pub rest-kept : (old new : Evaluator) → fixed new ≡ fixed old → state new ≡ state old → probes new ≡ probes old → rest new ≡ rest old
-rest-kept old new f s p = λ i. record { fixed = f i; state = s i; probes = p i }
+pub rest-kept : (old new : Evaluator) → fixed new ≡ fixed old → state new ≡ state old → probes new ≡ probes old → new.context.delayed_bugs ≡ old.context.delayed_bugs → rest new ≡ rest old
+rest-kept old new f s p d = λ i. record { fixed = f i; state = s i; probes = p i; faults = d i }
 
 -- An equation's answer, as the judge of the interface has it.
 
@@ -71,11 +71,12 @@ pub equated-none : (r : Evaluator) (a b : Forest) → IsGiven r.context.trees r.
 equated-none r a b given q = ap without_goals (as-judged r (state r) a b given ∙ q)
 
 -- Nodes are made, and nothing else.
-pub made-rest : (r : Evaluator) (x : Context) → Grows r.context x → IsEvaluator r.context.trees r.inference r.marks r.normal r.opaques → rest (record r { context = x }) ≡ rest r
-made-rest r x g h =
+pub made-rest : (r : Evaluator) (x : Context) → Grows r.context x → x.delayed_bugs ≡ r.context.delayed_bugs → IsEvaluator r.context.trees r.inference r.marks r.normal r.opaques
+    → rest (record r { context = x }) ≡ rest r
+made-rest r x g d h =
     let goes = goes-context r x g in
     rest-kept r (record r { context = x }) (fixed-kept r (record r { context = x }) g (refl, refl) (parts h).given) (goes-same r (record r { context = x }) goes refl (parts h).consistent.known)
-    (goes-probes r (record r { context = x }) goes (parts h).consistent.known (parts h).consistent.marks)
+    (goes-probes r (record r { context = x }) goes (parts h).consistent.known (parts h).consistent.marks) d
 
 -- A call that makes nodes, and nothing else, of an evaluator that is as its fields say.
 

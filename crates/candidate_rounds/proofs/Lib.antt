@@ -25,7 +25,6 @@ pub mod Framing
 pub mod Offering
 pub mod Visiting
 pub mod EquatingStops
-pub mod StopKinds
 pub mod Trying
 pub mod Projecting
 pub mod Evaluating
@@ -35,3 +34,4 @@ pub mod Exits
 pub mod Interface
 pub mod ResponseStops
 pub mod SettlingStops
+pub mod Accounting

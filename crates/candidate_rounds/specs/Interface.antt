@@ -33,9 +33,10 @@ pub record Rest : Type 0 where
   pub fixed : Fixed
   pub state : State
   pub probes : List State
+  pub faults : List (List ℕ)
 
 abbrev pub rest : Evaluator → Rest
-rest r = record { fixed = fixed r; state = state r; probes = probes r }
+rest r = record { fixed = fixed r; state = state r; probes = probes r; faults = r.context.delayed_bugs }
 
 -- Two laws of the interface.
 

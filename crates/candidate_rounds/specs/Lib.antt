@@ -8,3 +8,4 @@ pub mod Gathered
 pub mod Lone
 pub mod Interface
 pub mod Stopping
+pub mod StopKinds

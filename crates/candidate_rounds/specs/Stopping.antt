@@ -1,6 +1,6 @@
 -- Why calls of an evaluator that works in rounds stop: a growth was refused, numbers ran out, or a tree would be higher than 1,024. A stop
 -- is said of what would have been made, at the state that the judge says is there then, and of the context's trees at the stop.
-use Rattle.std.specs.Prelude.{◌≡◌, ◌≢◌, ◌<◌, ◌≤◌, ℕ, suc, length, true, ◌&&◌, Option, Some, None, List, [], ◌∷◌}
+use Rattle.std.specs.Prelude.{◌≡◌, ◌≢◌, ◌<◌, ◌≤◌, ◌⊎◌, ℕ, suc, length, true, ◌&&◌, Option, Some, None, List, [], ◌∷◌}
 use Rattle.std.specs.List.{Contains}
 use Rattle.candidate_ir.specs.declared.ir.heads.Head.{Head}
 use Rattle.candidate_ir.specs.declared.ir.heads.Head.TheVariants as H
@@ -14,18 +14,21 @@ use Rattle.candidate_ir.specs.Folding.{IsSubstStop}
 use Rattle.candidate_ir.specs.Substitutions.{alone}
 use Rattle.candidate_ir.specs.Trees.{Forest, tree, Tree}
 use Rattle.candidate_eval.specs.declared.eval.certainty.Certainty.{Certainty}
+use Rattle.candidate_eval.specs.Accounts.{Question}
+use Rattle.candidate_eval.specs.Accounts as Q
 use Rattle.candidate_eval.specs.Characterization.{bound_kinds}
 use Rattle.candidate_eval.specs.Evaluators.{resolved_root}
 use Rattle.candidate_eval.specs.Noting.{HasWideNode, IsNotingStop}
 use Rattle.candidate_eval.specs.Soundness.{is_region}
-use Rattle.candidate_eval.specs.States.{State, Pending, resolved_tree, valued_tree, value_of}
+use Rattle.candidate_eval.specs.States.{State, Pending, resolved, resolved_tree, valued_tree, value_of}
 use Rattle.rounds_judge.specs.Binding.{single}
 use Rattle.rounds_judge.specs.Equating.{Pair, Left, count_unbound, outlives, value_for, visited}
 use Rattle.rounds_judge.specs.Listed.{Listing, current, listed, normalized_tree}
 use Rattle.rounds_judge.specs.Responding.{constraints, open_numbers, renumbered, renumbered_tree, root_values}
 use Rattle.rounds_judge.specs.Scopes.{Scope, has_binder, has_variables, placed_tree}
 use Rattle.rounds_judge.specs.Settling.{alias_of, instantiated, pass, settled, term_of, tried, with_facts}
-use Rattle.candidate_rounds.specs.Inferences.{IsFullAt}
+use Rattle.candidate_rounds.specs.Inferences.{IsFullAt, IsOutOfRoom}
+use Rattle.candidate_rounds.specs.Known.{Evaluator, listing}
 
 -- Why a tree wasn't made.
 abbrev pub IsTreeStop : List Tree → Tree → Stop → Type 0
@@ -183,3 +186,17 @@ pub data IsResponseStop (ts : List Tree) (S : State) : Stop → Type 0 where
 pub data IsAnsweringStop (ts : List Tree) (l : Listing) (S : State) (s : Stop) : Type 0 where
   of_settling : IsSettlingStop ts l S s → IsAnsweringStop ts l S s
   of_response : (c : Certainty) (T : State) → settled l S ≡ Some (c, T) → IsResponseStop ts T s → IsAnsweringStop ts l S s
+
+-- The evaluator's account of its stops: of the evaluator that is left, by the state at which it was asked and what.
+abbrev pub accounts : Evaluator → State → Question → Stop → Type 0
+accounts r S (Q.resolve ts) s = IsSubstStop (length r.context.trees) (resolved S ts) s
+accounts r S (Q.normalize e t) s = IsTreeStop r.context.trees (resolved_tree S t) s
+accounts r S (Q.make_variables ks) s = IsOutOfRoom (length S.variables) (length ks) s ⊎ IsFullAt (length r.context.trees) s
+accounts r S (Q.make_placeholders ks) s = IsFullAt (length ks) s ⊎ IsFullAt S.newest_universe s ⊎ IsFullAt (length r.context.trees) s
+accounts r S (Q.equate e a b) s = IsEquationStop r.context.trees (listing r) S a b s
+accounts r S (Q.add_goals ps) s = s ≡ Memory
+accounts r S Q.evaluate s = IsSettlingStop r.context.trees (listing r) S s
+accounts r S (Q.respond c) s = IsAnsweringStop r.context.trees (listing r) S s
+accounts r S (Q.begin_probe k) s = s ≡ Memory
+accounts r S (Q.find_opaques t) s = s ≡ Memory
+accounts r S (Q.delay text) s = s ≡ Memory

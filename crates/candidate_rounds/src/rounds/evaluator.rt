@@ -1,19 +1,22 @@
 //! The evaluator as generic code knows it. What a call says beyond its trait is in clauses of its own, beside the trait's.
 
-ghost use Rattle.std.specs.Prelude.{true, All, List, ◌⊎◌, ◌≡◌, ◌≢◌, ◌++◌, ◌∷◌, [], Some, None, refl, length, IfOk, IfErr, OnOk, OnErr};
+ghost use Rattle.std.specs.Prelude.{true, map, All, List, ◌⊎◌, ◌≡◌, ◌≢◌, ◌++◌, ◌∷◌, [], Some, None, refl, length, IfOk, IfErr, OnOk, OnErr};
 ghost use Rattle.candidate_ir.specs.declared.ir.kinds.TyKind.TheVariants as K;
 ghost use Rattle.candidate_ir.specs.Context.{Grows};
 ghost use Rattle.candidate_ir.specs.Folding.{IsSubstStop};
 ghost use Rattle.candidate_ir.specs.Folds.{IsArg, arg_tree};
 ghost use Rattle.candidate_ir.specs.Substitutions.{alone};
 ghost use Rattle.candidate_ir.specs.Words.{IsArgs, IsClause, IsConst, IsParamEnv, IsTy, KindFits, args_forest, clause_tree, const_tree, env_forest, ty_tree};
-ghost use Rattle.candidate_eval.specs.Evaluators.{IsEvaluatorRefusal, IsEvaluatorStop, IsGoal, Keeps, accepted, alias_trees, begun, kinds_listed, pending_of, pendings_of, resolved_root, rigid, with_goals_of, with_rigid};
+ghost use Rattle.candidate_eval.specs.Accounts.{by_stop};
+ghost use Rattle.candidate_eval.specs.Accounts as question;
+ghost use Rattle.candidate_eval.specs.Evaluators.{IsGoal, Keeps, accepted, alias_trees, begun, kinds_listed, pending_of, pendings_of, resolved_root, rigid, with_goals_of, with_rigid};
 ghost use Rattle.candidate_eval.specs.ResponseTrees.{IsResponse, response_of};
 ghost use Rattle.candidate_eval.specs.States.{Env, State, added, fresh_variables, next, resolved, resolved_tree, with_fresh_variables};
 ghost use Rattle.candidate_rounds.specs.Inferences.{IsFullAt, IsOutOfRoom};
 ghost use Rattle.candidate_rounds.specs.Interface.{Fixed, Rest, fixed, judge_of, rest, rest_parts, root_stays};
 ghost use Rattle.candidate_rounds.specs.Known.{GoesOn, KeepsGiven, listing, probes, state};
-ghost use Rattle.candidate_rounds.specs.Stopping.{IsAnsweringStop, IsEquationStop, IsSettlingStop, IsTreeStop};
+ghost use Rattle.candidate_rounds.specs.StopKinds.{stops_itself};
+ghost use Rattle.candidate_rounds.specs.Stopping.{accounts};
 ghost use Rattle.rounds_judge.specs.Equating.{equated};
 ghost use Rattle.rounds_judge.specs.Normalizing.{normalized};
 ghost use Rattle.rounds_judge.specs.Responding.{responded};
@@ -98,6 +101,8 @@ impl EvalCtxt for Rounds {
 
     ghost probes = { probes };
 
+    ghost stops = { accounts };
+
     fn typing_mode(&self) -> TypingMode {
         self.mode
     }
@@ -112,8 +117,7 @@ impl EvalCtxt for Rounds {
         ensures same { state self.new ≡ state self.old }
         ensures sort { IfOk result (λ x. IsTy self.new.context.trees x) }
         ensures tree { IfOk result (λ x. ty_tree self.new.context.trees x ≡ resolved_tree (state self.old) (ty_tree self.old.context.trees ty)) }
-        ensures cause { IfErr result IsEvaluatorStop }
-        ensures reason { IfErr result (λ s. IsSubstStop (length self.new.context.trees) (alone (resolved_tree (state self.old) (ty_tree self.old.context.trees ty))) s) }
+        ensures cause { IfErr result (accounts self.new (state self.old) (question.resolve (alone (ty_tree self.old.context.trees ty)))) }
     {
         let alloc = self.allocator();
         resolved(alloc, &mut self.cx, &self.inference, ty)
@@ -126,8 +130,7 @@ impl EvalCtxt for Rounds {
         ensures same { state self.new ≡ state self.old }
         ensures sort { IfOk result (λ x. IsConst self.new.context.trees x) }
         ensures tree { IfOk result (λ x. const_tree self.new.context.trees x ≡ resolved_tree (state self.old) (const_tree self.old.context.trees constant)) }
-        ensures cause { IfErr result IsEvaluatorStop }
-        ensures reason { IfErr result (λ s. IsSubstStop (length self.new.context.trees) (alone (resolved_tree (state self.old) (const_tree self.old.context.trees constant))) s) }
+        ensures cause { IfErr result (accounts self.new (state self.old) (question.resolve (alone (const_tree self.old.context.trees constant)))) }
     {
         let alloc = self.allocator();
         resolved(alloc, &mut self.cx, &self.inference, constant)
@@ -140,8 +143,7 @@ impl EvalCtxt for Rounds {
         ensures same { state self.new ≡ state self.old }
         ensures sort { IfOk result (λ x. IsArgs self.new.context.trees x) }
         ensures tree { IfOk result (λ x. args_forest self.new.context.trees x ≡ resolved (state self.old) (args_forest self.old.context.trees list)) }
-        ensures cause { IfErr result IsEvaluatorStop }
-        ensures reason { IfErr result (λ s. IsSubstStop (length self.new.context.trees) (resolved (state self.old) (args_forest self.old.context.trees list)) s) }
+        ensures cause { IfErr result (accounts self.new (state self.old) (question.resolve (args_forest self.old.context.trees list))) }
     {
         let alloc = self.allocator();
         resolved(alloc, &mut self.cx, &self.inference, list)
@@ -154,8 +156,7 @@ impl EvalCtxt for Rounds {
         ensures same { state self.new ≡ state self.old }
         ensures sort { IfOk result (λ x. IsClause self.new.context.trees x) }
         ensures tree { IfOk result (λ x. clause_tree self.new.context.trees x ≡ resolved_tree (state self.old) (clause_tree self.old.context.trees clause)) }
-        ensures cause { IfErr result IsEvaluatorStop }
-        ensures reason { IfErr result (λ s. IsSubstStop (length self.new.context.trees) (alone (resolved_tree (state self.old) (clause_tree self.old.context.trees clause))) s) }
+        ensures cause { IfErr result (accounts self.new (state self.old) (question.resolve (alone (clause_tree self.old.context.trees clause)))) }
     {
         let alloc = self.allocator();
         resolved(alloc, &mut self.cx, &self.inference, clause)
@@ -185,8 +186,7 @@ impl EvalCtxt for Rounds {
         ensures never { IfErr result (λ e. e ≢ NoSolutionOrStop.NoSolution) }
         ensures refused { IfErr result (λ e. e ≡ NoSolutionOrStop.NoSolution → (judge_of (fixed self.old)).normalized (state self.old) (env_forest self.old.context.trees env) (ty_tree self.old.context.trees ty) ≡ None) }
         ensures undone { OnErr result ((judge_of (fixed self.old)).alike (state self.old) (state self.new)) }
-        ensures cause { IfErr result IsEvaluatorRefusal }
-        ensures reason { IfErr result (λ e. (s : Stop) → e ≡ NoSolutionOrStop.Stop s → IsTreeStop self.new.context.trees (resolved_tree (state self.old) (ty_tree self.old.context.trees ty)) s) }
+        ensures cause { IfErr result (by_stop (accounts self.new (state self.old) (question.normalize (env_forest self.old.context.trees env) (ty_tree self.old.context.trees ty)))) }
     {
         self.well_kept();
         let _ = env;
@@ -211,8 +211,7 @@ impl EvalCtxt for Rounds {
         ensures never { IfErr result (λ e. e ≢ NoSolutionOrStop.NoSolution) }
         ensures refused { IfErr result (λ e. e ≡ NoSolutionOrStop.NoSolution → (judge_of (fixed self.old)).normalized (state self.old) (env_forest self.old.context.trees env) (const_tree self.old.context.trees constant) ≡ None) }
         ensures undone { OnErr result ((judge_of (fixed self.old)).alike (state self.old) (state self.new)) }
-        ensures cause { IfErr result IsEvaluatorRefusal }
-        ensures reason { IfErr result (λ e. (s : Stop) → e ≡ NoSolutionOrStop.Stop s → IsTreeStop self.new.context.trees (resolved_tree (state self.old) (const_tree self.old.context.trees constant)) s) }
+        ensures cause { IfErr result (by_stop (accounts self.new (state self.old) (question.normalize (env_forest self.old.context.trees env) (const_tree self.old.context.trees constant)))) }
     {
         self.well_kept();
         let _ = env;
@@ -227,8 +226,7 @@ impl EvalCtxt for Rounds {
         ensures trees { IfOk result (λ a. args_forest self.new.context.trees a ≡ fresh_variables (state self.old) (kinds_listed kinds.now)) }
         ensures made { OnOk result (state self.new ≡ with_fresh_variables (state self.old) (kinds_listed kinds.now)) }
         ensures stopped { OnErr result ((judge_of (fixed self.old)).alike (state self.old) (state self.new)) }
-        ensures cause { IfErr result IsEvaluatorStop }
-        ensures reason { IfErr result (λ s. IsOutOfRoom (length (state self.old).variables) (length kinds.now) s ⊎ IsFullAt (length self.new.context.trees) s) }
+        ensures cause { IfErr result (accounts self.new (state self.old) (question.make_variables (kinds_listed kinds.now))) }
     {
         self.well_kept();
         let alloc = self.allocator();
@@ -246,8 +244,7 @@ impl EvalCtxt for Rounds {
         ensures trees { IfOk result (λ a. args_forest self.new.context.trees a ≡ rigid (state self.old) (kinds_listed kinds.now)) }
         ensures made { OnOk result (state self.new ≡ with_rigid (state self.old) (kinds_listed kinds.now)) }
         ensures stopped { OnErr result ((judge_of (fixed self.old)).alike (state self.old) (state self.new)) }
-        ensures cause { IfErr result IsEvaluatorStop }
-        ensures reason { IfErr result (λ s. IsFullAt (length kinds.now) s ⊎ IsFullAt (state self.old).newest_universe s ⊎ IsFullAt (length self.new.context.trees) s) }
+        ensures cause { IfErr result (accounts self.new (state self.old) (question.make_placeholders (kinds_listed kinds.now))) }
     {
         self.well_kept();
         let alloc = self.allocator();
@@ -276,8 +273,7 @@ impl EvalCtxt for Rounds {
         ensures refused { IfErr result (λ e. e ≡ NoSolutionOrStop.NoSolution → accepted (judge_of (fixed self.old)) (state self.old) (env_forest self.old.context.trees env) (args_forest self.old.context.trees a) (args_forest self.old.context.trees b) ≡ None) }
         ensures undone { OnErr result (self.new.inference ≡ self.old.inference) }
         ensures stopped { IfErr result (λ e. e ≢ NoSolutionOrStop.NoSolution → (judge_of (fixed self.old)).alike (state self.old) (state self.new)) }
-        ensures cause { IfErr result IsEvaluatorRefusal }
-        ensures reason { IfErr result (λ e. (s : Stop) → e ≡ NoSolutionOrStop.Stop s → IsEquationStop self.new.context.trees (listing self.old) (state self.old) (args_forest self.old.context.trees a) (args_forest self.old.context.trees b) s) }
+        ensures cause { IfErr result (by_stop (accounts self.new (state self.old) (question.equate (env_forest self.old.context.trees env) (args_forest self.old.context.trees a) (args_forest self.old.context.trees b)))) }
     {
         self.well_kept();
         let _ = env;
@@ -296,8 +292,7 @@ impl EvalCtxt for Rounds {
         ensures refused { IfErr result (λ e. e ≡ NoSolutionOrStop.NoSolution → accepted (judge_of (fixed self.old)) (state self.old) (env_forest self.old.context.trees env) (alone (arg_tree self.old.context.trees a)) (alone (arg_tree self.old.context.trees b)) ≡ None) }
         ensures undone { OnErr result (self.new.inference ≡ self.old.inference) }
         ensures stopped { IfErr result (λ e. e ≢ NoSolutionOrStop.NoSolution → (judge_of (fixed self.old)).alike (state self.old) (state self.new)) }
-        ensures cause { IfErr result IsEvaluatorRefusal }
-        ensures reason { IfErr result (λ e. (s : Stop) → e ≡ NoSolutionOrStop.Stop s → IsEquationStop self.new.context.trees (listing self.old) (state self.old) (alone (arg_tree self.old.context.trees a)) (alone (arg_tree self.old.context.trees b)) s) }
+        ensures cause { IfErr result (by_stop (accounts self.new (state self.old) (question.equate (env_forest self.old.context.trees env) (alone (arg_tree self.old.context.trees a)) (alone (arg_tree self.old.context.trees b))))) }
     {
         self.well_kept();
         let _ = env;
@@ -322,8 +317,7 @@ impl EvalCtxt for Rounds {
         ensures refused { IfErr result (λ e. e ≡ NoSolutionOrStop.NoSolution → (judge_of (fixed self.old)).equated (state self.old) (env_forest self.old.context.trees env) (alone (arg_tree self.old.context.trees a)) (alone (arg_tree self.old.context.trees b)) ≡ None) }
         ensures undone { OnErr result (self.new.inference ≡ self.old.inference) }
         ensures stopped { IfErr result (λ e. e ≢ NoSolutionOrStop.NoSolution → (judge_of (fixed self.old)).alike (state self.old) (state self.new)) }
-        ensures cause { IfErr result IsEvaluatorRefusal }
-        ensures reason { IfErr result (λ e. (s : Stop) → e ≡ NoSolutionOrStop.Stop s → IsEquationStop self.new.context.trees (listing self.old) (state self.old) (alone (arg_tree self.old.context.trees a)) (alone (arg_tree self.old.context.trees b)) s) }
+        ensures cause { IfErr result (by_stop (accounts self.new (state self.old) (question.equate (env_forest self.old.context.trees env) (alone (arg_tree self.old.context.trees a)) (alone (arg_tree self.old.context.trees b))))) }
     {
         self.well_kept();
         let _ = env;
@@ -341,8 +335,7 @@ impl EvalCtxt for Rounds {
         ensures ok { OnOk result (state self.new ≡ added (state self.old) (pending_of self.old.context.trees source goal)) }
         ensures unchanged { OnErr result (self.new ≡ self.old) }
         ensures stopped { OnErr result (state self.new ≡ state self.old) }
-        ensures cause { IfErr result IsEvaluatorStop }
-        ensures reason { IfErr result (λ s. s ≡ Stop.Memory) }
+        ensures cause { IfErr result (accounts self.new (state self.old) (question.add_goals (pending_of self.old.context.trees source goal ∷ []))) }
     {
         self.inference.add(source, goal)
     }
@@ -356,8 +349,7 @@ impl EvalCtxt for Rounds {
         ensures ok { OnOk result (state self.new ≡ with_goals_of self.old.context.trees (state self.old) source goals.now) }
         ensures unchanged { OnErr result (self.new ≡ self.old) }
         ensures stopped { OnErr result (state self.new ≡ state self.old) }
-        ensures cause { IfErr result IsEvaluatorStop }
-        ensures reason { IfErr result (λ s. s ≡ Stop.Memory) }
+        ensures cause { IfErr result (accounts self.new (state self.old) (question.add_goals (map (pending_of self.old.context.trees source) goals.now))) }
     {
         self.inference.add_all(source, goals)
     }
@@ -374,8 +366,7 @@ impl EvalCtxt for Rounds {
         ensures refused { IfErr result (λ e. e ≡ NoSolutionOrStop.NoSolution → (judge_of (fixed self.old)).settled (state self.old) ≡ None) }
         ensures undone { OnErr result (state self.new ≡ state self.old) }
         ensures stopped { IfErr result (λ e. e ≢ NoSolutionOrStop.NoSolution → (judge_of (fixed self.old)).alike (state self.old) (state self.new)) }
-        ensures cause { IfErr result IsEvaluatorRefusal }
-        ensures reason { IfErr result (λ e. (s : Stop) → e ≡ NoSolutionOrStop.Stop s → IsSettlingStop self.new.context.trees (listing self.old) (state self.old) s) }
+        ensures cause { IfErr result (by_stop (accounts self.new (state self.old) question.evaluate)) }
     {
         self.well_kept();
         let alloc = self.allocator();
@@ -405,8 +396,7 @@ impl EvalCtxt for Rounds {
         ensures refused { IfErr result (λ e. e ≡ NoSolutionOrStop.NoSolution → (judge_of (fixed self.old)).responded (state self.old) certainty ≡ None) }
         ensures undone { OnErr result (state self.new ≡ state self.old) }
         ensures stopped { IfErr result (λ e. e ≢ NoSolutionOrStop.NoSolution → (judge_of (fixed self.old)).alike (state self.old) (state self.new)) }
-        ensures cause { IfErr result IsEvaluatorRefusal }
-        ensures reason { IfErr result (λ e. (s : Stop) → e ≡ NoSolutionOrStop.Stop s → IsAnsweringStop self.new.context.trees (listing self.old) (state self.old) s) }
+        ensures cause { IfErr result (by_stop (accounts self.new (state self.old) (question.respond certainty))) }
     {
         self.well_kept();
         let alloc = self.allocator();
@@ -430,8 +420,7 @@ impl EvalCtxt for Rounds {
         ensures ok { OnOk result ((state self.new ≡ begun kind (state self.old)) × (probes self.new ≡ state self.old ∷ probes self.old)) }
         ensures unchanged { OnErr result (self.new ≡ self.old) }
         ensures stopped { OnErr result ((state self.new ≡ state self.old) × (probes self.new ≡ probes self.old)) }
-        ensures cause { IfErr result IsEvaluatorStop }
-        ensures reason { IfErr result (λ s. s ≡ Stop.Memory) }
+        ensures cause { IfErr result (accounts self.new (state self.old) (question.begin_probe kind)) }
     {
         match kind {
             ProbeKind::Kept => {
@@ -474,8 +463,7 @@ impl EvalCtxt for Rounds {
         ensures same { state self.new ≡ state self.old }
         ensures fit { IfOk result (λ v. All (λ a. KindFits self.new.context.trees (K.Alias a)) v.items) }
         ensures ok { IfOk result (λ v. alias_trees self.new.context.trees v.items ≡ (judge_of (fixed self.old)).opaques (state self.old) (ty_tree self.old.context.trees ty)) }
-        ensures cause { IfErr result IsEvaluatorStop }
-        ensures reason { IfErr result (λ s. s ≡ Stop.Memory) }
+        ensures cause { IfErr result (accounts self.new (state self.old) (question.find_opaques (ty_tree self.old.context.trees ty))) }
     {
         let alloc = self.allocator();
         if !self.cx.kind(self.shallow_resolve(ty)).is_ty_var() {
@@ -496,15 +484,16 @@ impl EvalCtxt for Rounds {
     /// The text stands last among those of the context. The only stop is `Stop::Memory`; nothing is changed then.
     fn delay_bug(&mut self, text: &str) -> Result<(), Stop>
         ensures given { KeepsGiven self.old self.new }
-        ensures kept { (fixed self.new ≡ fixed self.old) × (probes self.new ≡ probes self.old) }
+        ensures kept { Keeps fixed probes (λ r. r.context) self.old self.new }
         ensures same { state self.new ≡ state self.old }
         ensures added { OnOk result (self.new.context ≡ record self.old.context { delayed_bugs = self.old.context.delayed_bugs ++ text.now ∷ [] }) }
         ensures unchanged { OnErr result (self.new.context ≡ self.old.context) }
-        ensures cause { IfErr result IsEvaluatorStop }
-        ensures reason { IfErr result (λ s. s ≡ Stop.Memory) }
+        ensures cause { IfErr result (accounts self.new (state self.old) (question.delay text.now)) }
     {
         self.cx.delay_bug(text)
     }
+
+    ghost stops_itself = { stops_itself };
 
     ghost lawful = { λ f. keeps-the-laws f.world f.local_crate f.listing f.opaques };
 

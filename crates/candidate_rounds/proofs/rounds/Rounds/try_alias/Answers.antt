@@ -47,7 +47,7 @@ returns-in_err-resolved-clause-cause c =
     let old = c.args.self.now in
     let ts = c.resolve_ty_if_possible.new.self.context.trees in
     stop-becomes (IsProjectionStop ts (listing old) (state old) (ty_tree old.context.trees c.args.alias) (ty_tree old.context.trees c.args.term)) c.from_residual.result c.in_err-resolved.field-0.0 c.from_residual.ensures.1
-    (of_resolved_alias c.in_err-resolved.ensures.reason)
+    (of_resolved_alias c.in_err-resolved.ensures.cause)
 
 pub returns-in_err-equate-clause-cause : goal.returns-in_err-equate-clause-cause
 returns-in_err-equate-clause-cause c =

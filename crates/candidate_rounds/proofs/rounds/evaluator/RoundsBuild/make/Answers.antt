@@ -14,4 +14,4 @@ pub returns-clause-rest : goal.returns-clause-rest
 returns-clause-rest c =
     let i = c.self.inside in
     let v : Evaluator = record { context = i.cx; mode = i.mode; normal = i.normal.items; opaques = i.opaques.items; inference = i.inference; marks = reverse i.probes.items } in
-    subst (λ (e : Evaluator). rest (record v { context = c.make.new.self }) ≡ rest e) c.self.view_is (made-rest v c.make.new.self c.make.ensures.made.kept c.self.invariant)
+    subst (λ (e : Evaluator). rest (record v { context = c.make.new.self }) ≡ rest e) c.self.view_is (made-rest v c.make.new.self c.make.ensures.made.kept c.make.ensures.made.faults c.self.invariant)

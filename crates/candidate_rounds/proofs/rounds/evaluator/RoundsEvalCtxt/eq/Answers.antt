@@ -1,10 +1,12 @@
 use Rattle.candidate_ir.specs.Trees.{none}
 use Rattle.candidate_ir.specs.Substitutions.{alone}
 use Rattle.candidate_ir.specs.Folds.{arg_tree}
-use Rattle.candidate_rounds.specs.Known.{state}
+use Rattle.candidate_rounds.specs.Known.{state, listing}
 use Rattle.candidate_rounds.proofs.Interface.{eq-ok, eq-refused, eq-stopped, keeps-going}
-use Rattle.candidate_rounds.proofs.StopKinds.{equation-refusal}
 use Rattle.candidate_rounds.proofs.Between.{parts}
+use Rattle.candidate_rounds.proofs.Accounting.{listed-stop}
+use Rattle.candidate_rounds.proofs.Going.{goes-listing}
+use Rattle.candidate_rounds.specs.Stopping.{IsEquationStop}
 use Rattle.candidate_rounds.proofs.rounds.evaluator.RoundsEvalCtxt.eq.Goals as goal
 
 pub returns-clause-kept : goal.returns-clause-kept
@@ -24,4 +26,8 @@ pub returns-clause-stopped : goal.returns-clause-stopped
 returns-clause-stopped c = eq-stopped c.equate.result c.args.self.now c.equate.new.self c.equate.ensures.goes c.well_kept.ensures c.equate.ensures.undone
 
 pub returns-clause-cause : goal.returns-clause-cause
-returns-clause-cause c = equation-refusal _ _ _ _ _ c.equate.result c.equate.ensures.cause
+returns-clause-cause c =
+    let old = c.args.self.now in
+    let new = c.equate.new.self in
+    listed-stop (λ l s. IsEquationStop new.context.trees l (state old) (alone (arg_tree old.context.trees c.args.a)) (alone (arg_tree old.context.trees c.args.b)) s) (listing old) (listing new) (goes-listing old new c.equate.ensures.goes (parts c.well_kept.ensures).given)
+    c.equate.result c.equate.ensures.cause

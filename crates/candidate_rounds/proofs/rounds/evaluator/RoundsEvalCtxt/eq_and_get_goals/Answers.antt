@@ -3,12 +3,14 @@ use Rattle.std.proofs.lemmas.Result.{err_from_is_err_and}
 use Rattle.candidate_ir.specs.Folds.{arg_tree}
 use Rattle.candidate_ir.specs.Substitutions.{alone}
 use Rattle.candidate_eval.specs.Evaluators.{pendings_of}
-use Rattle.candidate_rounds.specs.Known.{state}
+use Rattle.candidate_rounds.specs.Known.{state, listing}
 use Rattle.candidate_rounds.proofs.Going.{goes-same}
 use Rattle.candidate_rounds.proofs.Interface.{equated-none, equated-some, keeps-going}
 use Rattle.candidate_eval.specs.Evaluators.{IsEvaluatorRefusal}
-use Rattle.candidate_rounds.proofs.StopKinds.{equation-error}
 use Rattle.candidate_rounds.proofs.Between.{parts}
+use Rattle.candidate_rounds.proofs.Accounting.{listed-error}
+use Rattle.candidate_rounds.proofs.Going.{goes-listing}
+use Rattle.candidate_rounds.specs.Stopping.{IsEquationStop}
 use Rattle.candidate_rounds.proofs.rounds.evaluator.RoundsEvalCtxt.eq_and_get_goals.Goals as goal
 
 pub returns-in_err-equate-clause-kept : goal.returns-in_err-equate-clause-kept
@@ -37,5 +39,9 @@ returns-clause-ok c =
 
 pub returns-in_err-equate-clause-cause : goal.returns-in_err-equate-clause-cause
 returns-in_err-equate-clause-cause c =
-    let r = err_from_is_err_and c.from_residual.result c.from_residual.ensures.1 in
-    rw r.1 (subst IsEvaluatorRefusal (sym r.2) (equation-error _ _ _ _ _ _ c.in_err-equate.ensures.cause))
+    let old = c.args.self.now in
+    let new = c.equate.new.self in
+    let p = err_from_is_err_and c.from_residual.result c.from_residual.ensures.1 in
+    rw (p.1, p.2)
+    (listed-error (λ l s. IsEquationStop new.context.trees l (state old) (alone (arg_tree old.context.trees c.args.a)) (alone (arg_tree old.context.trees c.args.b)) s) (listing old) (listing new)
+    (goes-listing old new c.equate.ensures.goes (parts c.well_kept.ensures).given) c.in_err-equate.field-0.0 c.in_err-equate.ensures.cause)

@@ -1,9 +1,11 @@
 use Rattle.candidate_ir.specs.Trees.{none}
 use Rattle.candidate_ir.specs.Words.{args_forest}
-use Rattle.candidate_rounds.specs.Known.{state}
+use Rattle.candidate_rounds.specs.Known.{state, listing}
 use Rattle.candidate_rounds.proofs.Interface.{eq-ok, eq-refused, eq-stopped, keeps-going}
-use Rattle.candidate_rounds.proofs.StopKinds.{equation-refusal}
 use Rattle.candidate_rounds.proofs.Between.{parts}
+use Rattle.candidate_rounds.proofs.Accounting.{listed-stop}
+use Rattle.candidate_rounds.proofs.Going.{goes-listing}
+use Rattle.candidate_rounds.specs.Stopping.{IsEquationStop}
 use Rattle.candidate_rounds.proofs.rounds.evaluator.RoundsEvalCtxt.eq_args.Goals as goal
 
 pub returns-clause-kept : goal.returns-clause-kept
@@ -23,4 +25,8 @@ pub returns-clause-stopped : goal.returns-clause-stopped
 returns-clause-stopped c = eq-stopped c.equate_args.result c.args.self.now c.equate_args.new.self c.equate_args.ensures.goes c.well_kept.ensures c.equate_args.ensures.undone
 
 pub returns-clause-cause : goal.returns-clause-cause
-returns-clause-cause c = equation-refusal _ _ _ _ _ c.equate_args.result c.equate_args.ensures.cause
+returns-clause-cause c =
+    let old = c.args.self.now in
+    let new = c.equate_args.new.self in
+    listed-stop (λ l s. IsEquationStop new.context.trees l (state old) (args_forest old.context.trees c.args.a) (args_forest old.context.trees c.args.b) s) (listing old) (listing new) (goes-listing old new c.equate_args.ensures.goes (parts c.well_kept.ensures).given)
+    c.equate_args.result c.equate_args.ensures.cause

@@ -2,12 +2,18 @@ use Rattle.std.proofs.Common.{ap, ◌∙◌}
 use Rattle.candidate_rounds.specs.Known.{Evaluator, listing, state}
 use Rattle.candidate_rounds.proofs.Going.{goes-same, goes-trans}
 use Rattle.candidate_rounds.proofs.Trying.{resolved-again, taken-back}
+use Rattle.candidate_rounds.proofs.Going.{goes-listing}
 use Rattle.candidate_rounds.proofs.SettlingStops.{response-stop}
 use Rattle.candidate_rounds.proofs.Between.{parts}
 use Rattle.candidate_rounds.proofs.Exits.{few-back, marks-back}
 use Rattle.candidate_rounds.proofs.Interface.{keeps-going}
-use Rattle.candidate_rounds.proofs.StopKinds.{response-evaluator-stop}
 use Rattle.std.proofs.Common.{length}
+use Rattle.std.proofs.lemmas.Result.{err_from_is_err_and}
+use Rattle.candidate_rounds.proofs.Accounting.{listed-error}
+use Rattle.candidate_rounds.specs.Stopping.{IsAnsweringStop}
+use Rattle.candidate_rounds.specs.Stopping.IsAnsweringStop.{of_settling}
+use Rattle.candidate_eval.proofs.Accounts.{by-stop}
+use Rattle.candidate_eval.specs.declared.eval.refusal.NoSolutionOrStop.TheVariants as NoSolutionOrStop
 use Rattle.candidate_rounds.proofs.rounds.evaluator.RoundsEvalCtxt.evaluate_added_goals_and_make_canonical_response.Goals as goal
 
 pub undo_to-requires-clause-resolved : goal.undo_to-requires-clause-resolved
@@ -29,13 +35,6 @@ returns-in-Err-clause-undone c =
     let goes = goes-trans old c.try_evaluate_added_goals.new.self new c.try_evaluate_added_goals.ensures.goes c.make_canonical_response.ensures.goes in
     let t = taken-back old new c.undo_to.new.self c.changes-changes.result (c.changes-changes.ensures ∙ ap (λ (e : Evaluator). length e.inference.trail) c.self.view_is) goes c.undo_to.ensures in
     goes-same old c.undo_to.new.self t.0 t.1 (parts c.well_kept.ensures).consistent.known
-
-pub returns-in-Err-clause-reason : goal.returns-in-Err-clause-reason
-returns-in-Err-clause-reason c =
-    let old = c.args.self.now in
-    let mid = c.try_evaluate_added_goals.new.self in
-    response-stop c.make_canonical_response.new.self.context.trees c.undo_to.new.self.context.trees (listing old) (state old) (state mid) c.in_ok-settled.settled c.in-Err.stop c.in_ok-settled.ensures.listed
-    (ap (λ (e : Evaluator). e.context.trees) c.undo_to.ensures) c.in-Err.ensures.cause
 
 pub undo_to-requires-clause-few : goal.undo_to-requires-clause-few
 undo_to-requires-clause-few c = few-back c.args.self.now c.make_canonical_response.new.self c.changes-changes.result (c.changes-changes.ensures ∙ ap (λ (e : Evaluator). length e.inference.trail) c.self.view_is) (goes-trans c.args.self.now c.try_evaluate_added_goals.new.self c.make_canonical_response.new.self c.try_evaluate_added_goals.ensures.goes c.make_canonical_response.ensures.goes)
@@ -61,4 +60,17 @@ returns-in-Err-clause-stopped c =
     λ n. goes-same old c.undo_to.new.self t.0 t.1 (parts c.well_kept.ensures).consistent.known
 
 pub returns-in-Err-clause-cause : goal.returns-in-Err-clause-cause
-returns-in-Err-clause-cause c = response-evaluator-stop _ _ c.in-Err.stop c.in-Err.ensures.cause
+returns-in-Err-clause-cause c =
+    let old = c.args.self.now in
+    let mid = c.try_evaluate_added_goals.new.self in
+    let new = c.undo_to.new.self in
+    let goes = goes-trans old mid c.make_canonical_response.new.self c.try_evaluate_added_goals.ensures.goes c.make_canonical_response.ensures.goes in
+    let t = taken-back old c.make_canonical_response.new.self new c.changes-changes.result (c.changes-changes.ensures ∙ ap (λ (e : Evaluator). length e.inference.trail) c.self.view_is) goes c.undo_to.ensures in
+    listed-error (λ l s. IsAnsweringStop new.context.trees l (state old) s) (listing old) (listing new) (goes-listing old new t.0 (parts c.well_kept.ensures).given) (NoSolutionOrStop.Stop c.in-Err.stop)
+    (response-stop c.make_canonical_response.new.self.context.trees c.undo_to.new.self.context.trees (listing old) (state old) (state mid) c.in_ok-settled.settled c.in-Err.stop c.in_ok-settled.ensures.listed
+    (ap (λ (e : Evaluator). e.context.trees) c.undo_to.ensures) c.in-Err.ensures.cause)
+
+pub returns-in_err-settled-clause-cause : goal.returns-in_err-settled-clause-cause
+returns-in_err-settled-clause-cause c =
+    let p = err_from_is_err_and c.from_residual.result c.from_residual.ensures.1 in
+    rw (p.1, p.2) (by-stop c.in_err-settled.field-0.0 (λ s k. of_settling k) c.in_err-settled.ensures.cause)

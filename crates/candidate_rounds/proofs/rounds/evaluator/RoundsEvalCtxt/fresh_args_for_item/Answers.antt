@@ -1,7 +1,7 @@
 use Rattle.std.proofs.Common.{ap, arith, inl, inr, length, subst, sym, ◌∙◌}
 use Rattle.std.proofs.lemmas.Result.{err_from_is_err_and}
 use Rattle.std.proofs.lemmas.List.{length-map}
-use Rattle.candidate_ir.specs.Context.{Context, Grows}
+use Rattle.candidate_ir.specs.Context.{Context, Grows, parameter_kind}
 use Rattle.candidate_ir.specs.Words.{IsArgs, args_forest}
 use Rattle.candidate_rounds.specs.Known.{Evaluator, state, info_of}
 use Rattle.candidate_rounds.proofs.Leafing.{variables-are}
@@ -18,13 +18,14 @@ returns-clause-trees c =
     ap (λ (x : Context). args_forest x.trees c.in_ok-args.args) c.in_ok-add_variables.ensures.context
     ∙ (c.in_ok-args.ensures.trees ∙ variables-are (state c.args.self.now) c.in_ok-first.first 0 c.args.kinds.now (omega (arith, n, m, k)))
 
-pub returns-in_err-first-clause-reason : goal.returns-in_err-first-clause-reason
-returns-in_err-first-clause-reason c =
+pub returns-in_err-first-clause-cause : goal.returns-in_err-first-clause-cause
+returns-in_err-first-clause-cause c =
     let m = length-map c.self.inside.inference.variables (info_of c.self.inside.cx.trees) in
     let r = err_from_is_err_and c.from_residual.result c.from_residual.ensures.1 in
     let k = ap (λ (e : Evaluator). length (state e).variables) c.self.view_is in
     let more = c.in_err-first.ensures.cause.1 in
-    rw r.1 (inl (inr (r.2 ∙ c.in_err-first.ensures.cause.0, omega (arith, m, k, more))))
+    let kinds = length-map c.args.kinds.now parameter_kind in
+    rw r.1 (inl (inr (r.2 ∙ c.in_err-first.ensures.cause.0, omega (arith, m, k, more, kinds))))
 
 pub returns-in_err-add_variables-clause-given : goal.returns-in_err-add_variables-clause-given
 returns-in_err-add_variables-clause-given c = given-trans c.args.self.now c.make_leaves.new.self c.add_variables.new.self c.make_leaves.ensures.given c.add_variables.ensures.given

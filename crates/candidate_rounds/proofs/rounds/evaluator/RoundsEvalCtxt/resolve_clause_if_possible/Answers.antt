@@ -9,7 +9,6 @@ use Rattle.candidate_rounds.proofs.Between.{parts}
 use Rattle.candidate_rounds.proofs.Holding.{kinds-now}
 use Rattle.candidate_rounds.proofs.Interface.{made-goes, made-kept, made-same}
 use Rattle.candidate_rounds.proofs.ResolvedValues.{evaluator-grown}
-use Rattle.candidate_rounds.proofs.StopKinds.{substitution-stop}
 use Rattle.candidate_rounds.proofs.rounds.evaluator.RoundsEvalCtxt.resolve_clause_if_possible.Goals as goal
 
 pub resolved-requires-clause-known : goal.resolved-requires-clause-known
@@ -35,8 +34,5 @@ returns-clause-tree c =
     subst (λ (e : Evaluator). IfOk c.resolved.result (λ x. clause_tree c.resolved.new.cx.trees x ≡ resolved_tree (state e) (clause_tree e.context.trees c.args.clause))) c.self.view_is (c.resolved.ensures.tree c.self.inside.mode)
 
 pub returns-clause-cause : goal.returns-clause-cause
-returns-clause-cause c = substitution-stop _ _ c.resolved.result (c.resolved.ensures.cause c.self.inside.mode)
-
-pub returns-clause-reason : goal.returns-clause-reason
-returns-clause-reason c =
+returns-clause-cause c =
     subst (λ (e : Evaluator). IfErr c.resolved.result (λ s. IsSubstStop (length c.resolved.new.cx.trees) (alone (resolved_tree (state e) (clause_tree e.context.trees c.args.clause))) s)) c.self.view_is (c.resolved.ensures.cause c.self.inside.mode)

@@ -7,10 +7,8 @@ use Rattle.rounds_judge.specs.Normalizing.{normalized}
 use Rattle.rounds_judge.proofs.WellListed.{all-listed}
 use Rattle.candidate_rounds.specs.Known.{listing, state}
 use Rattle.candidate_eval.specs.States.{resolved_tree}
-use Rattle.candidate_rounds.specs.Stopping.{IsTreeStop}
-use Rattle.candidate_rounds.proofs.StopKinds.{normal-refusal}
-use Rattle.candidate_rounds.proofs.SettlingStops.{stop-becomes}
 use Rattle.std.proofs.Common.{Ok}
+use Rattle.std.proofs.lemmas.Result.{err_from_is_err_and}
 use Rattle.candidate_rounds.proofs.rounds.evaluator.RoundsEvalCtxt.structurally_normalize_const.Goals as goal
 
 pub returns-in_err-resolve_const_if_possible-clause-kept : goal.returns-in_err-resolve_const_if_possible-clause-kept
@@ -29,8 +27,7 @@ returns-clause-ok c =
     ap (λ l. normalized l (state old) none (const_tree old.context.trees c.args.constant)) (all-listed (listing old) (parts c.well_kept.ensures).given.listing)
     ∙ constant-normalized c.args.self.now c.resolve_const_if_possible.new.self c.args.constant none (Ok c.in_ok-resolve_const_if_possible.field-0) c.resolve_const_if_possible.ensures.goes.0 c.resolve_const_if_possible.ensures.goes.1.0 (parts c.well_kept.ensures).given c.resolve_const_if_possible.ensures.same c.in_ok-resolve_const_if_possible.ensures.sort c.in_ok-resolve_const_if_possible.ensures.tree
 
-pub returns-in_err-resolve_const_if_possible-clause-reason : goal.returns-in_err-resolve_const_if_possible-clause-reason
-returns-in_err-resolve_const_if_possible-clause-reason c = stop-becomes (IsTreeStop c.resolve_const_if_possible.new.self.context.trees (resolved_tree (state c.args.self.now) (const_tree c.args.self.now.context.trees c.args.constant))) c.from_residual.result c.in_err-resolve_const_if_possible.field-0.0 c.from_residual.ensures.1 c.in_err-resolve_const_if_possible.ensures.reason
-
 pub returns-in_err-resolve_const_if_possible-clause-cause : goal.returns-in_err-resolve_const_if_possible-clause-cause
-returns-in_err-resolve_const_if_possible-clause-cause c = normal-refusal _ _ c.from_residual.result (stop-becomes (IsTreeStop c.resolve_const_if_possible.new.self.context.trees (resolved_tree (state c.args.self.now) (const_tree c.args.self.now.context.trees c.args.constant))) c.from_residual.result c.in_err-resolve_const_if_possible.field-0.0 c.from_residual.ensures.1 c.in_err-resolve_const_if_possible.ensures.reason)
+returns-in_err-resolve_const_if_possible-clause-cause c =
+    let p = err_from_is_err_and c.from_residual.result c.from_residual.ensures.1 in
+    rw (p.1, p.2) c.in_err-resolve_const_if_possible.ensures.cause

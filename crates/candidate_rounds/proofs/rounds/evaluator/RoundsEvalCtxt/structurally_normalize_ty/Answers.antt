@@ -7,9 +7,7 @@ use Rattle.rounds_judge.specs.Normalizing.{normalized}
 use Rattle.rounds_judge.proofs.WellListed.{all-listed}
 use Rattle.candidate_rounds.specs.Known.{listing, state}
 use Rattle.candidate_eval.specs.States.{resolved_tree}
-use Rattle.candidate_rounds.specs.Stopping.{IsTreeStop}
-use Rattle.candidate_rounds.proofs.StopKinds.{normal-refusal}
-use Rattle.candidate_rounds.proofs.SettlingStops.{stop-becomes}
+use Rattle.std.proofs.lemmas.Result.{err_from_is_err_and}
 use Rattle.candidate_rounds.proofs.rounds.evaluator.RoundsEvalCtxt.structurally_normalize_ty.Goals as goal
 
 pub returns-in_err-resolved-clause-kept : goal.returns-in_err-resolved-clause-kept
@@ -28,8 +26,7 @@ returns-clause-ok c =
     ap (λ l. normalized l (state old) none (ty_tree old.context.trees c.args.ty)) (all-listed (listing old) (parts c.well_kept.ensures).given.listing)
     ∙ type-normalized c.args.self.now c.resolve_ty_if_possible.new.self c.args.ty c.in_ok-resolved.resolved c.listed_or_itself.result none c.resolve_ty_if_possible.ensures.goes.0 c.resolve_ty_if_possible.ensures.goes.1.0 (parts c.well_kept.ensures).given c.resolve_ty_if_possible.ensures.same c.in_ok-resolved.ensures.tree c.listed_or_itself.ensures.tree
 
-pub returns-in_err-resolved-clause-reason : goal.returns-in_err-resolved-clause-reason
-returns-in_err-resolved-clause-reason c = stop-becomes (IsTreeStop c.resolve_ty_if_possible.new.self.context.trees (resolved_tree (state c.args.self.now) (ty_tree c.args.self.now.context.trees c.args.ty))) c.from_residual.result c.in_err-resolved.field-0.0 c.from_residual.ensures.1 c.in_err-resolved.ensures.reason
-
 pub returns-in_err-resolved-clause-cause : goal.returns-in_err-resolved-clause-cause
-returns-in_err-resolved-clause-cause c = normal-refusal _ _ c.from_residual.result (stop-becomes (IsTreeStop c.resolve_ty_if_possible.new.self.context.trees (resolved_tree (state c.args.self.now) (ty_tree c.args.self.now.context.trees c.args.ty))) c.from_residual.result c.in_err-resolved.field-0.0 c.from_residual.ensures.1 c.in_err-resolved.ensures.reason)
+returns-in_err-resolved-clause-cause c =
+    let p = err_from_is_err_and c.from_residual.result c.from_residual.ensures.1 in
+    rw (p.1, p.2) c.in_err-resolved.ensures.cause

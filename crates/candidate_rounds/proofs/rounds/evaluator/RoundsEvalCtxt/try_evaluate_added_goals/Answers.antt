@@ -1,17 +1,19 @@
 use Rattle.candidate_rounds.proofs.Going.{goes-same}
 use Rattle.candidate_rounds.proofs.Trying.{resolved-again, taken-back}
+use Rattle.candidate_rounds.proofs.Going.{goes-listing}
 use Rattle.candidate_rounds.proofs.Between.{parts}
 use Rattle.candidate_rounds.proofs.Exits.{few-back, marks-back}
 use Rattle.candidate_rounds.proofs.Interface.{keeps-going}
-use Rattle.std.proofs.Common.{Option, Some, ◌∙◌, ap, sym}
+use Rattle.std.proofs.Common.{Option, Some, ◌∙◌, ap, sym, subst}
 use Rattle.rounds_judge.specs.Settling.{settled}
 use Rattle.rounds_judge.proofs.WellListed.{all-listed}
 use Rattle.candidate_rounds.specs.Known.{listing, state}
-use Rattle.candidate_rounds.proofs.StopKinds.{settling-error}
 use Rattle.candidate_eval.specs.States.{State, next}
 use Rattle.rounds_judge.specs.Settling.{certainty_of}
 use Rattle.candidate_rounds.specs.Known.{Evaluator}
 use Rattle.std.proofs.Common.{length}
+use Rattle.candidate_rounds.proofs.Accounting.{listed-error}
+use Rattle.candidate_rounds.specs.Stopping.{IsSettlingStop}
 use Rattle.candidate_rounds.proofs.rounds.evaluator.RoundsEvalCtxt.try_evaluate_added_goals.Goals as goal
 
 pub undo_to-requires-clause-resolved : goal.undo_to-requires-clause-resolved
@@ -56,4 +58,9 @@ returns-in-Err-clause-stopped c =
     λ n. goes-same c.args.self.now c.undo_to.new.self t.0 t.1 (parts c.well_kept.ensures).consistent.known
 
 pub returns-in-Err-clause-cause : goal.returns-in-Err-clause-cause
-returns-in-Err-clause-cause c = settling-error _ _ _ c.in-Err.refusal c.in-Err.ensures.cause
+returns-in-Err-clause-cause c =
+    let old = c.args.self.now in
+    let new = c.undo_to.new.self in
+    let t = taken-back old c.settle.new.self new c.changes-changes.result (c.changes-changes.ensures ∙ ap (λ (e : Evaluator). length e.inference.trail) c.self.view_is) c.settle.ensures.goes c.undo_to.ensures in
+    listed-error (λ l s. IsSettlingStop new.context.trees l (state old) s) (listing old) (listing new) (goes-listing old new t.0 (parts c.well_kept.ensures).given) c.in-Err.refusal
+    (λ s k. subst (λ ts. IsSettlingStop ts (listing old) (state old) s) (sym (ap (λ (e : Evaluator). e.context.trees) c.undo_to.ensures)) (c.in-Err.ensures.cause s k))

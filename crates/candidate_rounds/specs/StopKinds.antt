@@ -1,23 +1,23 @@
 -- Each stop is a refused growth, or that numbers ran out or a tree would be too high: none is an evaluator's own limit.
-use Rattle.std.proofs.Common.{◌≡◌, inl, inr, ℕ, List, Result, Ok, Err, refl, sym, subst}
-use Rattle.std.specs.Prelude.{IfErr}
+use Rattle.std.proofs.Common.{◌≡◌, inl, inr, length, ℕ, List, sym, subst}
 use Rattle.candidate_ir.specs.declared.ir.stop.Stop.{Stop}
 use Rattle.candidate_ir.specs.declared.ir.stop.Stop.TheVariants as K
 use Rattle.candidate_ir.specs.declared.ir.heads.Head.{Head}
 use Rattle.candidate_ir.specs.declared.ir.heads.Variable.{Variable}
 use Rattle.candidate_ir.specs.Folding.{IsSubstStop}
 use Rattle.candidate_ir.specs.Trees.{Forest, Tree}
-use Rattle.candidate_eval.specs.declared.eval.refusal.NoSolutionOrStop.{NoSolutionOrStop}
-use Rattle.candidate_eval.specs.declared.eval.refusal.NoSolutionOrStop.TheVariants as N
-use Rattle.candidate_eval.specs.Evaluators.{IsEvaluatorRefusal, IsEvaluatorStop, IsMakingStop}
+use Rattle.candidate_eval.specs.Accounts.{Question}
+use Rattle.candidate_eval.specs.Accounts as Q
+use Rattle.candidate_eval.specs.Evaluators.{IsEvaluatorStop, IsMakingStop}
 use Rattle.candidate_eval.specs.States.{State, Pending}
 use Rattle.candidate_eval.proofs.StopKinds.{noting_making, subst_making}
 use Rattle.rounds_judge.specs.Equating.{Pair}
 use Rattle.rounds_judge.specs.Listed.{Listing}
 use Rattle.rounds_judge.specs.Scopes.{Scope}
-use Rattle.candidate_rounds.specs.Inferences.{IsFullAt}
+use Rattle.candidate_rounds.specs.Inferences.{IsFullAt, IsOutOfRoom}
+use Rattle.candidate_rounds.specs.Known.{Evaluator}
 use Rattle.candidate_rounds.specs.Stopping as W
-use Rattle.candidate_rounds.specs.Stopping.{IsAnsweringStop, IsBindingStop, IsEqualityStop, IsEquationStop, IsEvaluationStop, IsGoalStop, IsInstanceStop, IsLookStop, IsMatchStop, IsMeetingStop, IsOfferStop, IsPassStop, IsProjectionStop, IsRegionsStop, IsRenewalStop, IsRenumberingStop, IsResponseStop, IsSettlingStop, IsTreeStop, IsUnifyingStop, IsValueStop, AreGoalsStop, ArePassesStop, AreRenumberingStops}
+use Rattle.candidate_rounds.specs.Stopping.{IsAnsweringStop, IsBindingStop, IsEqualityStop, IsEquationStop, IsEvaluationStop, IsGoalStop, IsInstanceStop, IsLookStop, IsMatchStop, IsMeetingStop, IsOfferStop, IsPassStop, IsProjectionStop, IsRegionsStop, IsRenewalStop, IsRenumberingStop, IsResponseStop, IsSettlingStop, IsTreeStop, IsUnifyingStop, IsValueStop, AreGoalsStop, ArePassesStop, AreRenumberingStops, accounts}
 
 full_making : {n : ℕ} {s : Stop} → IsFullAt n s → IsMakingStop s
 full_making (inl e) = subst IsMakingStop (sym e) tt
@@ -142,7 +142,7 @@ answering_making : {ts : List Tree} {l : Listing} {S : State} {s : Stop} → IsA
 answering_making (W.of_settling k) = settling_making k
 answering_making (W.of_response c T e k) = response_making k
 
--- So an error is one that an evaluator may answer.
+-- So the evaluator accounts for its own stops alone.
 
 evaluator-stop : (s : Stop) → IsMakingStop s → IsEvaluatorStop s
 evaluator-stop K.Memory k = tt
@@ -153,38 +153,28 @@ evaluator-stop K.ConstDepth k = absurd k
 evaluator-stop K.Unnameable k = absurd k
 evaluator-stop K.EvaluatorLimit k = absurd k
 
-stops : {A : Type 0} (P : Stop → Type 0) → ((s : Stop) → P s → IsMakingStop s) → (r : Result A Stop) → IfErr r P → IfErr r IsEvaluatorStop
-stops P making (Ok v) k = tt
-stops P making (Err s) k = evaluator-stop s (making s k)
+memory_making : {s : Stop} → s ≡ K.Memory → IsMakingStop s
+memory_making e = subst IsMakingStop (sym e) tt
 
-pub substitution-stop : {A : Type 0} (given : ℕ) (made : Forest) (r : Result A Stop) → IfErr r (λ s. IsSubstStop given made s) → IfErr r IsEvaluatorStop
-substitution-stop given made r k = stops _ (λ s p. tree_making p) r k
+room_making : (n more : ℕ) (s : Stop) → IsOutOfRoom n more s → IsMakingStop s
+room_making n more s (inl e) = memory_making e
+room_making n more s (inr e) = subst IsMakingStop (sym e.0) tt
 
-refusal-of : (P : Stop → Type 0) → ((s : Stop) → P s → IsMakingStop s) → (e : NoSolutionOrStop) → ((s : Stop) → e ≡ N.Stop s → P s) → IsEvaluatorRefusal e
-refusal-of P making N.NoSolution k = tt
-refusal-of P making (N.Stop s) k = evaluator-stop s (making s (k s refl))
+account_making : (r : Evaluator) (S : State) (q : Question) (s : Stop) → accounts r S q s → IsMakingStop s
+account_making r S (Q.resolve ts) s k = tree_making k
+account_making r S (Q.normalize e t) s k = tree_making k
+account_making r S (Q.make_variables ks) s (inl k) = room_making (length S.variables) (length ks) s k
+account_making r S (Q.make_variables ks) s (inr k) = full_making k
+account_making r S (Q.make_placeholders ks) s (inl k) = full_making k
+account_making r S (Q.make_placeholders ks) s (inr (inl k)) = full_making k
+account_making r S (Q.make_placeholders ks) s (inr (inr k)) = full_making k
+account_making r S (Q.equate e a b) s k = equation_making k
+account_making r S (Q.add_goals ps) s k = memory_making k
+account_making r S Q.evaluate s k = settling_making k
+account_making r S (Q.respond c) s k = answering_making k
+account_making r S (Q.begin_probe p) s k = memory_making k
+account_making r S (Q.find_opaques t) s k = memory_making k
+account_making r S (Q.delay text) s k = memory_making k
 
-refusals : {A : Type 0} (P : Stop → Type 0) → ((s : Stop) → P s → IsMakingStop s) → (r : Result A NoSolutionOrStop) → IfErr r (λ e. (s : Stop) → e ≡ N.Stop s → P s) → IfErr r IsEvaluatorRefusal
-refusals P making (Ok v) k = tt
-refusals P making (Err e) k = refusal-of P making e k
-
-pub normal-refusal : {A : Type 0} (given : ℕ) (made : Forest) (r : Result A NoSolutionOrStop) → IfErr r (λ e. (s : Stop) → e ≡ N.Stop s → IsSubstStop given made s) → IfErr r IsEvaluatorRefusal
-normal-refusal given made r k = refusals _ (λ s p. tree_making p) r k
-
-pub equation-refusal : {A : Type 0} (ts : List Tree) (l : Listing) (S : State) (a b : Forest) (r : Result A NoSolutionOrStop) → IfErr r (λ e. (s : Stop) → e ≡ N.Stop s → IsEquationStop ts l S a b s) → IfErr r IsEvaluatorRefusal
-equation-refusal ts l S a b r k = refusals _ (λ s p. equation_making p) r k
-
-pub equation-error : (ts : List Tree) (l : Listing) (S : State) (a b : Forest) (e : NoSolutionOrStop) → ((s : Stop) → e ≡ N.Stop s → IsEquationStop ts l S a b s) → IsEvaluatorRefusal e
-equation-error ts l S a b e k = refusal-of _ (λ s p. equation_making p) e k
-
-pub settling-refusal : {A : Type 0} (ts : List Tree) (l : Listing) (S : State) (r : Result A NoSolutionOrStop) → IfErr r (λ e. (s : Stop) → e ≡ N.Stop s → IsSettlingStop ts l S s) → IfErr r IsEvaluatorRefusal
-settling-refusal ts l S r k = refusals _ (λ s p. settling_making p) r k
-
-pub settling-error : (ts : List Tree) (l : Listing) (S : State) (e : NoSolutionOrStop) → ((s : Stop) → e ≡ N.Stop s → IsSettlingStop ts l S s) → IsEvaluatorRefusal e
-settling-error ts l S e k = refusal-of _ (λ s p. settling_making p) e k
-
-pub response-evaluator-stop : (ts : List Tree) (S : State) (s : Stop) → IsResponseStop ts S s → IsEvaluatorStop s
-response-evaluator-stop ts S s k = evaluator-stop s (response_making k)
-
-pub answering-refusal : {A : Type 0} (ts : List Tree) (l : Listing) (S : State) (r : Result A NoSolutionOrStop) → IfErr r (λ e. (s : Stop) → e ≡ N.Stop s → IsAnsweringStop ts l S s) → IfErr r IsEvaluatorRefusal
-answering-refusal ts l S r k = refusals _ (λ s p. answering_making p) r k
+pub stops_itself : (r : Evaluator) (S : State) (q : Question) (s : Stop) → accounts r S q s → IsEvaluatorStop s
+stops_itself r S q s k = evaluator-stop s (account_making r S q s k)
