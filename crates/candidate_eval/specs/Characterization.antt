@@ -13,7 +13,7 @@ use Rattle.candidate_ir.specs.Supers.{after_first}
 use Rattle.candidate_ir.specs.Opening.{opened}
 use Rattle.candidate_ir.specs.Context.{parameter_kind}
 use Rattle.candidate_eval.specs.Certainties.{Certainty, Yes, Maybe, Overflow, AllGood, AMBIGUOUS}
-use Rattle.candidate_eval.specs.States.{Env, State, Judge, with_universe, placeholders}
+use Rattle.candidate_eval.specs.States.{Env, State, Judge, resolved_tree, with_universe, placeholders}
 
 -- The kinds of a binder's variables.
 
@@ -131,6 +131,7 @@ abbrev pub in_normal_form : Option (Tree × State) → (State → Tree → Walk)
 in_normal_form None k = Refuses
 in_normal_form (Some n) k = k n.1 n.0
 
+-- a region, with its value in its place
 abbrev pub region_seen : State → Head → Walk
 region_seen S h = if is_root_placeholder h || is_any_variable h then Finds S Yes else Goes S
 
@@ -142,7 +143,7 @@ visited_as J e deeper level depth S t TypeKind =
 visited_as J e deeper level depth S t ConstantKind =
     if nat_lt depth J.limits.nested_constants then in_normal_form (J.normalized S e t) (looked (deeper level (suc depth)) false)
     else Stops ConstDepth
-visited_as J e deeper level depth S t RegionKind = region_seen S t.head
+visited_as J e deeper level depth S t RegionKind = region_seen S (resolved_tree S t).head
 visited_as J e deeper level depth S t _ = Goes S
 
 -- The visits end where the levels of types and constants do: the first number is more than both together.

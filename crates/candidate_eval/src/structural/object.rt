@@ -219,8 +219,9 @@ fn can_be_equated<E: EvalCtxt>(
 /// this leaves become pending.
 ///
 /// `Ambiguous` comes where none of the bounds matches, where two or more do, and where the equation of the only one is refused,
-/// which a probe says before; the state is alike the one before then. It stops as `matching_bounds` does. After a stop variables that
-/// were made stay.
+/// which a probe says before; the state is alike the one before then, unless an evaluator refuses what it accepted in that probe. It
+/// stops as `matching_bounds` does: for want of memory, where the evaluator does, or where an instance of a bound isn't made. After a
+/// stop variables that were made stay.
 pub fn pick_bound<E: EvalCtxt>(
     alloc: Global,
     ecx: &mut E,
