@@ -1,5 +1,5 @@
 -- The state that an evaluator shows, and its judge: what it answers there.
-use Rattle.std.specs.Prelude.{ℕ, suc, Bool, true, false, Option, Some, None, List, [], ◌∷◌, ◌++◌, length, slice_get, if◌then◌else◌}
+use Rattle.std.specs.Prelude.{ℕ, suc, Bool, true, false, Option, Some, None, List, [], ◌∷◌, ◌++◌, length, slice_get, unwrap_or, if◌then◌else◌}
 use Rattle.candidate_ir.specs.declared.ir.heads.Head.{Head}
 use Rattle.candidate_ir.specs.declared.ir.heads.Head.TheVariants as H
 use Rattle.candidate_ir.specs.declared.ir.heads.ConstHead.TheVariants as C
@@ -143,6 +143,15 @@ resolved S ts = valued (value_at S) ts
 
 abbrev pub resolved_tree : State → Tree → Tree
 resolved_tree S t = valued_tree (value_at S) t
+
+-- The tree, with the value in the place of a variable of types or constants that is its root.
+
+abbrev pub root_value : State → Head → Option Tree
+root_value S (H.Infer v) = value_at S (H.Infer v)
+root_value S _ = None
+
+abbrev pub resolved_root : State → Tree → Tree
+resolved_root S t = unwrap_or (root_value S t.head) t
 
 -- Where walks end: how many visits of an orphan walk, aliases of a chain and constants may be nested, and how many types a
 -- characterisation goes down.
