@@ -5,7 +5,6 @@ use Rattle.std.specs.Borrow.{MutBor}
 use Rattle.candidate_ir.specs.declared.ir.kinds.Ty.{Ty}
 use Rattle.candidate_ir.specs.declared.ir.kinds.TraitRef.{TraitRef}
 use Rattle.candidate_eval.specs.declared.coherence.NormalizeErr.{NormalizeErr}
-use Rattle.candidate_eval.specs.declared.coherence.TheConstants.{WALK_DEPTH}
 use Rattle.candidate_eval.specs.Answers.{CheckResult, KnownResult, IsKnowledge, answer_of}
 use Rattle.candidate_eval.specs.Normalizer.{IsTold, Description, IsFunction}
 use Rattle.candidate_ir.specs.Trees.{Tree, holds, is_alias, is_param}
@@ -13,11 +12,12 @@ use Rattle.candidate_ir.specs.Context.{Context, world}
 use Rattle.candidate_ir.specs.Words.{args_forest}
 use Rattle.candidate_ir.specs.References.{reference_of}
 use Rattle.candidate_eval.specs.Orphan.{InCrate, view, Checked, Answer, orphan_answer, Knowability, knowability, plain_check, plain_knowability, local_or_fundamental, IsPlainForest}
+use Rattle.candidate_eval.specs.Limits.{declared_limits}
 use Rattle.candidate_eval.specs.Laws.{NoForeignHeader, NoUnnamedHeader, NoCoveredHeader, IsDecidedByGeneral, HasDownstream}
 
--- Visits may be nested so deep: as deep as the calls allow.
+-- Visits may be nested so deep.
 abbrev pub depth_limit : ℕ
-depth_limit = WALK_DEPTH
+depth_limit = declared_limits.orphan_walk
 
 module _ {C F E : Type 0} (context : C → Context) (resolve : C → Tree → Tree) (d : Description F C E) where
   -- The check of a reference of the context, where this crate is local.

@@ -14,6 +14,7 @@ use Rattle.candidate_eval.specs.declared.eval.mode.TypingMode.{TypingMode}
 use Rattle.candidate_eval.specs.declared.eval.variable.VariableKind.{VariableKind}
 use Rattle.candidate_eval.specs.declared.eval.variable.VariableKind.TheVariants.{Term, Region}
 use Rattle.candidate_eval.specs.Certainties.{Certainty}
+pub use Rattle.candidate_eval.specs.Limits.{Limits}
 use Rattle.candidate_eval.specs.Responses.{Response}
 
 -- The clauses that are taken as given, in their order.
@@ -152,14 +153,6 @@ root_value S _ = None
 
 abbrev pub resolved_root : State → Tree → Tree
 resolved_root S t = unwrap_or (root_value S t.head) t
-
--- Where walks end: how many visits of an orphan walk, aliases of a chain and constants may be nested, and how many types a
--- characterisation goes down.
-pub record Limits : Type 0 where
-  pub orphan_walk : ℕ
-  pub alias_chain : ℕ
-  pub nested_constants : ℕ
-  pub recursion : ℕ
 
 -- What stays fixed of an evaluator: what is declared, its limits, and what it answers at a state; `None` is a refusal.
 pub record Judge : Type 1 where

@@ -108,7 +108,7 @@ impl<E: fmt::Display> fmt::Display for OrphanStop<E> {
     }
 }
 
-/// How many visits may be nested. The definitions read it from here (`depth_limit`).
+/// How many visits may be nested: as many as the definitions allow (`depth_limit`).
 pub const WALK_DEPTH: u16 = 256;
 
 /// What a walk that passes over uncovered views found: its first local type, or why it stopped.

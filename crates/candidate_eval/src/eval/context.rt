@@ -7,9 +7,9 @@ ghost use Rattle.candidate_ir.specs.Folds.{IsArg, arg_tree};
 ghost use Rattle.candidate_ir.specs.Substitutions.{alone};
 ghost use Rattle.candidate_ir.specs.Trees.{Tree};
 ghost use Rattle.candidate_ir.specs.Words.{IsTy, IsConst, IsRegion, IsArgs, IsClause, IsParamEnv, KindFits, ty_tree, const_tree, region_tree, args_forest, clause_tree, env_forest};
-ghost use Rattle.candidate_eval.specs.Calls.{depth_limit};
 ghost use Rattle.candidate_eval.specs.Evaluators.{Keeps, IsGoal, pending_of, pendings_of, with_goals_of, accepted, resolved_root, begun, kinds_listed, rigid, with_rigid, alias_trees, IsEvaluatorStop, IsEvaluatorRefusal};
 ghost use Rattle.candidate_eval.specs.Lawful.{Lawful};
+ghost use Rattle.candidate_eval.specs.Limits.{declared_limits};
 ghost use Rattle.candidate_eval.specs.ResponseTrees.{IsResponse, response_of};
 ghost use Rattle.candidate_eval.specs.States.{State, Judge, added, fresh_variables, with_fresh_variables, resolved, resolved_tree};
 
@@ -264,8 +264,8 @@ pub trait EvalCtxt: InferCtxtLike {
     /// Its world and local crate are those that are declared.
     ghost declared: { (s : Self) → ((judge (fixed s)).world ≡ world (Self.context s)) × ((judge (fixed s)).local_crate ≡ (Self.context s).local.0) };
 
-    /// It walks as deep as the orphan check.
-    ghost walks: { (f : Fixed) → (judge f).limits.orphan_walk ≡ depth_limit };
+    /// Its limits are those that are declared: it walks as deep as the code.
+    ghost walks: { (f : Fixed) → (judge f).limits ≡ declared_limits };
 
     /// What a variable resolves to is its value in the state.
     ghost resolves: { (s : Self) (t : Tree) → Self.resolved s t ≡ resolved_root (state s) t };
