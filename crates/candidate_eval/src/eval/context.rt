@@ -101,7 +101,7 @@ pub trait EvalCtxt: InferCtxtLike {
         ensures sort { IsRegion (Self.context self.now).trees result }
         ensures tree { region_tree (Self.context self.now).trees result ≡ resolved_tree (state self.now) (region_tree (Self.context self.now).trees region) };
 
-    /// The type in normal form. A refusal leaves the state alike, too.
+    /// The type in normal form. A refusal leaves the state as it was, a stop one alike.
     fn structurally_normalize_ty(&mut self, env: ParamEnv, ty: Ty) -> Result<Ty, NoSolutionOrStop>
         requires env { IsParamEnv (Self.context self.old).trees env }
         requires ty { IsTy (Self.context self.old).trees ty }
@@ -110,9 +110,10 @@ pub trait EvalCtxt: InferCtxtLike {
         ensures ok { IfOk result (λ x. (judge (fixed self.old)).normalized (state self.old) (env_forest (Self.context self.old).trees env) (ty_tree (Self.context self.old).trees ty) ≡ Some (ty_tree (Self.context self.new).trees x, state self.new)) }
         ensures refused { IfErr result (λ e. e ≡ NoSolutionOrStop.NoSolution → (judge (fixed self.old)).normalized (state self.old) (env_forest (Self.context self.old).trees env) (ty_tree (Self.context self.old).trees ty) ≡ None) }
         ensures undone { OnErr result ((judge (fixed self.old)).alike (state self.old) (state self.new)) }
+        ensures rests { IfErr result (λ e. e ≡ NoSolutionOrStop.NoSolution → state self.new ≡ state self.old) }
         ensures cause { IfErr result IsEvaluatorRefusal };
 
-    /// The constant in normal form. A refusal leaves the state alike, too.
+    /// The constant in normal form. A refusal leaves the state as it was, a stop one alike.
     fn structurally_normalize_const(
         &mut self,
         env: ParamEnv,
@@ -125,6 +126,7 @@ pub trait EvalCtxt: InferCtxtLike {
         ensures ok { IfOk result (λ x. (judge (fixed self.old)).normalized (state self.old) (env_forest (Self.context self.old).trees env) (const_tree (Self.context self.old).trees constant) ≡ Some (const_tree (Self.context self.new).trees x, state self.new)) }
         ensures refused { IfErr result (λ e. e ≡ NoSolutionOrStop.NoSolution → (judge (fixed self.old)).normalized (state self.old) (env_forest (Self.context self.old).trees env) (const_tree (Self.context self.old).trees constant) ≡ None) }
         ensures undone { OnErr result ((judge (fixed self.old)).alike (state self.old) (state self.new)) }
+        ensures rests { IfErr result (λ e. e ≡ NoSolutionOrStop.NoSolution → state self.new ≡ state self.old) }
         ensures cause { IfErr result IsEvaluatorRefusal };
 
     /// Fresh variables of the newest universe, in the place of parameters of these kinds.
@@ -267,8 +269,20 @@ pub trait EvalCtxt: InferCtxtLike {
     /// Its limits are those that are declared: it walks as deep as the code.
     ghost walks: { (f : Fixed) → (judge f).limits ≡ declared_limits };
 
-    /// What a variable resolves to is its value in the state.
-    ghost resolves: { (s : Self) (t : Tree) → Self.resolved s t ≡ resolved_root (state s) t };
+    /// What is seen of an evaluator with that fixed at that state.
+    ghost seen_at: { Fixed → State → Self.Seen };
+
+    /// The state that is seen.
+    ghost state_seen: { Self.Seen → State };
+
+    /// What is fixed and the state say what is seen.
+    ghost sees: { (s : Self) → Self.seen s ≡ seen_at (fixed s) (state s) };
+
+    /// The state is seen.
+    ghost shows: { (f : Fixed) (S : State) → state_seen (seen_at f S) ≡ S };
+
+    /// What a variable resolves to is its value in the state that is seen.
+    ghost resolves: { (v : Self.Seen) (t : Tree) → Self.resolved v t ≡ resolved_root (state_seen v) t };
 
     /// Making a node changes nothing of it.
     ghost by_rest: { (s t : Self) → Self.rest t ≡ Self.rest s → (fixed t ≡ fixed s) × (state t ≡ state s) × (probes t ≡ probes s) };
