@@ -70,14 +70,14 @@ module _ {C F E : Type 0} (context : C → Context) (g : Mut F (MutBor C × (Ty 
 
   pub call-shows : (f : F) (lent : MutBor C) (t : Ty) (r : Result Ty (NormalizeErr E)) (left : MutBor C) (f' : F)
       → IsTy (context lent.now).trees t → t.0 < 2 ^ 32 → Called g f (lent, (t, tt)) (r, (left, tt)) f'
-      → (resolve : C → Tree → Tree) (d : Description F C E) → IsFunction context g resolve d f lent.now → IsToldAnswer d.untold r
+      → {V : Type 0} (shows : C → V) (resolve : V → Tree → Tree) (d : Description F C V E) → IsFunction context g shows resolve d f lent.now → IsToldAnswer d.untold r
       → d.normal (d.stands (f, lent.now)) (ty_tree (context lent.now).trees t) ≡ record { seen = shown (context left.now).trees r; after = d.stands (f', left.now) }
-  call-shows f lent t r left f' s n h resolve d k told =
+  call-shows f lent t r left f' s n h shows resolve d k told =
       k.at f lent.now t r f' left.now (reached-same f lent.now) (grows-refl (context lent.now)) s n (normalizes f lent t r left f' h) told
 
   -- what stands for the context gives variables the same values
-  pub values-here : (f : F) (c : C) (resolve : C → Tree → Tree) (d : Description F C E) → IsFunction context g resolve d f c → (t : Tree) → resolve (d.stands (f, c)).1 t ≡ resolve c t
-  values-here f c resolve d k t = k.values f c t (reached-same f c) (grows-refl (context c))
+  pub values-here : (f : F) (c : C) {V : Type 0} (shows : C → V) (resolve : V → Tree → Tree) (d : Description F C V E) → IsFunction context g shows resolve d f c → (t : Tree) → resolve (d.stands (f, c)).1 t ≡ resolve (shows c) t
+  values-here f c shows resolve d k t = k.values f c t (reached-same f c) (grows-refl (context c))
 
   pub call-may : (f : F) (lent : MutBor C) (t : Ty) → MayNormalize context g f lent.now → IsTy (context lent.now).trees t → t.0 < 2 ^ 32 → g.pre f (lent, (t, tt))
   call-may f lent t k s n = k.at f lent.now t lent refl (reached-same f lent.now) (grows-refl (context lent.now)) s n
@@ -93,13 +93,13 @@ module _ {C F E : Type 0} (context : C → Context) (g : Mut F (MutBor C × (Ty 
     pub normalizer-later : IsNormalizer context g f c → IsNormalizer context g f1 c1
     normalizer-later n = record { callable = may-later n.callable; keeps = keeps-later n.keeps }
 
-    pub function-later : (resolve : C → Tree → Tree) (d : Description F C E) → IsFunction context g resolve d f c → IsFunction context g resolve d f1 c1
-    function-later resolve d m = record {
+    pub function-later : {V : Type 0} (shows : C → V) (resolve : V → Tree → Tree) (d : Description F C V E) → IsFunction context g shows resolve d f c → IsFunction context g shows resolve d f1 c1
+    function-later shows resolve d m = record {
       at = λ e x t r e' x' q k s n w told. m.at e x t r e' x' (reached-then f c f1 c1 e x l q) (grows-trans (context c) (context c1) (context x) h k) s n w told;
       values = λ e x t q k. m.values e x t (reached-then f c f1 c1 e x l q) (grows-trans (context c) (context c1) (context x) h k);
     }
 
   -- a function but for refused growths is one but for all stops
-  pub function-unless-stopped : (resolve : C → Tree → Tree) (u : Untold) (e : IsUntold u Memory) (normal : View (F × C) E) (f : F) (c : C)
-      → IsFunction context g resolve (exactly u e normal) f c → IsFunction context g resolve (exactly any_stop refl normal) f c
-  function-unless-stopped resolve u y normal f c m = record { at = λ e x t r e' x' q k s n w told. m.at e x t r e' x' q k s n w (λ z h i. told z refl i); values = m.values }
+  pub function-unless-stopped : {V : Type 0} (shows : C → V) (resolve : V → Tree → Tree) (u : Untold) (e : IsUntold u Memory) (normal : View (F × V) E) (f : F) (c : C)
+      → IsFunction context g shows resolve (exactly shows u e normal) f c → IsFunction context g shows resolve (exactly shows any_stop refl normal) f c
+  function-unless-stopped shows resolve u y normal f c m = record { at = λ e x t r e' x' q k s n w told. m.at e x t r e' x' q k s n w (λ z h i. told z refl i); values = m.values }

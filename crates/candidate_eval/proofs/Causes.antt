@@ -182,7 +182,7 @@ module _ {C F E : Type 0} (context : C → Context) (g : Mut F (MutBor C × (Ty 
     pub normalizer-left : IsNormalizer context g f c → IsNormalizer context g f1 c1
     normalizer-left = normalizer-later context g f c f1 c1 (left-reached levels f c f1 c1 P r n) r.grows
 
-    pub function-left : (resolve : C → Tree → Tree) (d : Description F C E) → IsFunction context g resolve d f c → IsFunction context g resolve d f1 c1
+    pub function-left : {V : Type 0} (shows : C → V) (resolve : V → Tree → Tree) (d : Description F C V E) → IsFunction context g shows resolve d f c → IsFunction context g shows resolve d f1 c1
     function-left = function-later context g f c f1 c1 (left-reached levels f c f1 c1 P r n) r.grows
 
     -- and the calls of both are those of the whole

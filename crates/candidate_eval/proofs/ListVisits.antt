@@ -23,7 +23,7 @@ use Rattle.candidate_eval.proofs.Lists.{Sofar, sofar-begin, sofar-end}
 use Rattle.candidate_eval.proofs.Loops.{next-skip, next-visit, next-found}
 use Rattle.candidate_eval.proofs.Stops.{walk-goes-on, is-answer}
 
-module _ {C F E : Type 0} (context : C → Context) (resolve : C → Tree → Tree) (g : Mut F (MutBor C × (Ty × Unit {0})) (Result Ty (NormalizeErr E) × (MutBor C × Unit {0})))
+module _ {C F V E : Type 0} (context : C → Context) (shows : C → V) (resolve : V → Tree → Tree) (g : Mut F (MutBor C × (Ty × Unit {0})) (Result Ty (NormalizeErr E) × (MutBor C × Unit {0})))
     (levels : ℕ) (a : Args) (f0 : F) (c0 : C) (start : Walk) where
   -- as many members were visited, and this is left
   pub record AreVisited (i : ℕ) (f : F) (c : C) (walk : Walk) : Type 0 where
@@ -32,7 +32,7 @@ module _ {C F E : Type 0} (context : C → Context) (resolve : C → Tree → Tr
     pub same : SameWalk start walk
     pub recorded : AreTypes (context c).trees walk.non_local.items
     pub firsts : FirstOnce walk.is_first walk.non_local.items
-    pub sofar : (d : Description F C E) → IsFunction context g resolve d f0 c0
+    pub sofar : (d : Description F C V E) → IsFunction context g shows resolve d f0 c0
         → Sofar (setting (context c0) start.in_crate) (view (λ s t. resolve s.1 t) d.normal) levels (context c).trees start walk (d.stands (f0, c0)) (d.stands (f, c))
         (args_forest (context c0).trees a) (skip i (args_forest (context c0).trees a))
 
@@ -56,12 +56,12 @@ module _ {C F E : Type 0} (context : C → Context) (resolve : C → Tree → Tr
         firsts = were.firsts;
       }
 
-      later : (d : Description F C E) → IsFunction context g resolve d f0 c0 → IsFunction context g resolve d f c
-      later d h = function-later context g f0 c0 f c were.calls were.grows resolve d h
+      later : (d : Description F C V E) → IsFunction context g shows resolve d f0 c0 → IsFunction context g shows resolve d f c
+      later d h = function-later context g f0 c0 f c were.calls were.grows shows resolve d h
 
       -- all were visited
       pub visits-all : skip i (args_forest (context c0).trees a) ≡ none
-          → Visits context resolve g (the_list (args_forest (context c0).trees a)) levels f0 c0 start f c walk (Ok tt)
+          → Visits context shows resolve g (the_list (args_forest (context c0).trees a)) levels f0 c0 start f c walk (Ok tt)
       visits-all e = record {
         calls = left-quietly context g levels f0 c0 f c _ were.calls were.grows (walk-goes-on tt);
         same = were.same;
@@ -91,8 +91,8 @@ module _ {C F E : Type 0} (context : C → Context) (resolve : C → Tree → Tr
 
         module _ (u : Ty) (is : get_or xs i arg ≡ A.Ty u) (f1 : F) (c1 : C) (next : Walk) where
           -- a type
-          pub one-visited : Visits context resolve g (the_type (ty_tree (context c).trees u)) levels f c walk f1 c1 next (Ok tt) → next.is_first ≡ false
-              → ((d : Description F C E) → IsFunction context g resolve d f c
+          pub one-visited : Visits context shows resolve g (the_type (ty_tree (context c).trees u)) levels f c walk f1 c1 next (Ok tt) → next.is_first ≡ false
+              → ((d : Description F C V E) → IsFunction context g shows resolve d f c
               → still true (type_steps (setting (context c) walk.in_crate) (view (λ s t. resolve s.1 t) d.normal) levels (d.stands (f, c)) (ty_tree (context c).trees u)) ≡ false)
               → AreVisited (i + 1) f1 c1 next
           one-visited visit first goes = record {
@@ -109,10 +109,10 @@ module _ {C F E : Type 0} (context : C → Context) (resolve : C → Tree → Tr
 
           -- a type that breaks the walk off
           pub one-breaks : (x y : EarlyExit E) (r : Result (Unit {0}) (EarlyExit E)) → r ≡ Err y → y ≡ x
-              → Visits context resolve g (the_type (ty_tree (context c).trees u)) levels f c walk f1 c1 next (Err x)
-              → Visits context resolve g (the_list (args_forest (context c0).trees a)) levels f0 c0 start f1 c1 next r
+              → Visits context shows resolve g (the_type (ty_tree (context c).trees u)) levels f c walk f1 c1 next (Err x)
+              → Visits context shows resolve g (the_list (args_forest (context c0).trees a)) levels f0 c0 start f1 c1 next r
           one-breaks x y r j k visit =
-              let P : Result (Unit {0}) (EarlyExit E) → Type 0 = λ z. Visits context resolve g (the_list (args_forest (context c0).trees a)) levels f0 c0 start f1 c1 next z in
+              let P : Result (Unit {0}) (EarlyExit E) → Type 0 = λ z. Visits context shows resolve g (the_list (args_forest (context c0).trees a)) levels f0 c0 start f1 c1 next z in
               subst P (sym (j ∙ ap Err k))
               (record {
                 calls = left-after context g levels f0 c0 f c f1 c1 _ _ were.calls were.grows (λ z e. e) (λ z e. e) visit.calls;

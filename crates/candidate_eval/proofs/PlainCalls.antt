@@ -27,9 +27,9 @@ AnswersItsInput {C} {F} {E} g =
     (by : F) (lent left : MutBor C) (t : Ty) (answer : Result Ty (NormalizeErr E)) (next : F)
     → Called g by (lent, (t, tt)) (answer, (left, tt)) next → (answer ≡ Ok t) × ((left.now ≡ lent.now) × (next ≡ by))
 
-module _ {C F E : Type 0} {context : C → Context} {resolve : C → Tree → Tree} {g : Mut F (MutBor C × (Ty × Unit {0})) (Result Ty (NormalizeErr E) × (MutBor C × Unit {0}))}
+module _ {C F V E : Type 0} {context : C → Context} {shows : C → V} {resolve : V → Tree → Tree} {g : Mut F (MutBor C × (Ty × Unit {0})) (Result Ty (NormalizeErr E) × (MutBor C × Unit {0}))}
     {f : F} {c : C} where
-  pub is-plain : AnswersItsInput g → IsPlain context g resolve f c
+  pub is-plain : AnswersItsInput g → IsPlain context g shows resolve f c
   is-plain h = record {
     at = λ by x t answer next x' q grows i small n told.
         let p = h by n.lent n.left t answer next n.called in
@@ -41,5 +41,5 @@ module _ {C F E : Type 0} {context : C → Context} {resolve : C → Tree → Tr
 -- over a context in which nothing has a value
 module _ {F E : Type 0} {g : Mut F (MutBor Context × (Ty × Unit {0})) (Result Ty (NormalizeErr E) × (MutBor Context × Unit {0}))}
     {f : F} {c : Context} {r : TraitRef} where
-  pub answers-its-input : AnswersItsInput g → IsPlainCall (λ x. x) (λ _ t. t) g f c r
+  pub answers-its-input : AnswersItsInput g → IsPlainCall (λ x. x) (λ x. x) (λ _ t. t) g f c r
   answers-its-input h = record { normaliser = is-plain h; resolved = all-resolved (args_forest c.trees r.args) }

@@ -33,14 +33,14 @@ use Rattle.candidate_eval.proofs.Walking.{too-deep, types-kept, item-types, item
 abbrev pub ended : Walk → Walk
 ended w = record { in_crate = w.in_crate; seeks_local = w.seeks_local; is_first = false; non_local = w.non_local }
 
-module _ {C F E : Type 0} (context : C → Context) (resolve : C → Tree → Tree) (g : Mut F (MutBor C × (Ty × Unit {0})) (Result Ty (NormalizeErr E) × (MutBor C × Unit {0})))
+module _ {C F V E : Type 0} (context : C → Context) (shows : C → V) (resolve : V → Tree → Tree) (g : Mut F (MutBor C × (Ty × Unit {0})) (Result Ty (NormalizeErr E) × (MutBor C × Unit {0})))
     (f : F) (c : C) (walk : Walk) (levels : ℕ) (ty : Ty) (may : MayVisit context g f c walk) where
   -- a visit of the type that leaves this
   abbrev Comes : F → C → Walk → Result (Unit {0}) (EarlyExit E) → Type 0
-  Comes f' c' walk' r = Visits context resolve g (the_type (ty_tree (context c).trees ty)) levels f c walk f' c' walk' r
+  Comes f' c' walk' r = Visits context shows resolve g (the_type (ty_tree (context c).trees ty)) levels f c walk f' c' walk' r
 
   -- no level is left
-  pub visits-deep : levels ≡ 0 → Visits context resolve g (the_type (ty_tree (context c).trees ty)) levels f c walk f c walk (Err (X.Broken (O.Stop WalkDepth)))
+  pub visits-deep : levels ≡ 0 → Visits context shows resolve g (the_type (ty_tree (context c).trees ty)) levels f c walk f c walk (Err (X.Broken (O.Stop WalkDepth)))
   visits-deep z = record {
     calls = left-deep context g levels f c _ z (deep-ends WalkDepth);
     same = record { in_crate = refl; seeks_local = refl };
@@ -55,10 +55,10 @@ module _ {C F E : Type 0} (context : C → Context) (resolve : C → Tree → Tr
   module _ (some : levels ≢ 0) (f1 : F) (c1 : C) (grows : Grows (context c) (context c1)) where
     -- the normaliser has no answer
     pub visits-nothing : (e : NormalizeErr E) → IsViewed context g f c (Err e) f1 c1
-        → ((d : Description F C E) → IsFunction context g resolve d f c → IsToldAnswer d.untold (Err e)
+        → ((d : Description F C V E) → IsFunction context g shows resolve d f c → IsToldAnswer d.untold (Err e)
         → view (λ s t. resolve s.1 t) d.normal (d.stands (f, c)) (ty_tree (context c).trees ty) ≡ record { seen = shown (context c1).trees (Err e); after = d.stands (f1, c1) })
         → (r : Result (Unit {0}) (EarlyExit E)) (y : EarlyExit E) → r ≡ Err y → y ≡ broken_by e
-        → Visits context resolve g (the_type (ty_tree (context c).trees ty)) levels f c walk f1 c1 walk r
+        → Visits context shows resolve g (the_type (ty_tree (context c).trees ty)) levels f c walk f1 c1 walk r
     visits-nothing e viewed sees r y i j =
         let P : Result (Unit {0}) (EarlyExit E) → Type 0 = λ x. Comes f1 c1 walk x in
         subst P (sym (i ∙ ap Err j))
@@ -75,7 +75,7 @@ module _ {C F E : Type 0} (context : C → Context) (resolve : C → Tree → Tr
         })
 
     module _ (v : Ty) (sort : IsTy (context c1).trees v) (viewed : IsViewed context g f c (Ok v) f1 c1)
-        (sees : (d : Description F C E) → IsFunction context g resolve d f c → IsToldAnswer {E = E} d.untold (Ok v)
+        (sees : (d : Description F C V E) → IsFunction context g shows resolve d f c → IsToldAnswer {E = E} d.untold (Ok v)
         → view (λ s t. resolve s.1 t) d.normal (d.stands (f, c)) (ty_tree (context c).trees ty) ≡ record { seen = shown (context c1).trees (Ok v); after = d.stands (f1, c1) }) where
       -- what is visited below a view
       pub may-visit : MayVisit context g f1 c1 walk
@@ -85,13 +85,13 @@ module _ {C F E : Type 0} (context : C → Context) (resolve : C → Tree → Tr
         firsts = may.firsts;
       }
 
-      later : (d : Description F C E) → IsFunction context g resolve d f c → IsFunction context g resolve d f1 c1
-      later d h = function-later context g f c f1 c1 (viewed-reached context g f c (Ok v) f1 c1 viewed (view-ends v)) grows resolve d h
+      later : (d : Description F C V E) → IsFunction context g shows resolve d f c → IsFunction context g shows resolve d f1 c1
+      later d h = function-later context g f c f1 c1 (viewed-reached context g f c (Ok v) f1 c1 viewed (view-ends v)) grows shows resolve d h
 
       -- an item
       pub visits-item : (k : ViewClass) → IsShape (context c1) walk.in_crate (ty_tree (context c1).trees v) (Sh.Item k)
           → (new : Walk) (r : Result (Unit {0}) (EarlyExit E)) → new.in_crate ≡ walk.in_crate → new.seeks_local ≡ walk.seeks_local → IsTaken walk new k v r
-          → Visits context resolve g (the_type (ty_tree (context c).trees ty)) levels f c walk f1 c1 (ended new) r
+          → Visits context shows resolve g (the_type (ty_tree (context c).trees ty)) levels f c walk f1 c1 (ended new) r
       visits-item k shape new r m s taken = record {
         calls = viewed-item context g f c (Ok v) f1 c1 viewed levels v refl k _ grows
             (λ z e. take-stop walk new k v r z taken e) (λ n. table-unnameable _ _ _ _ _ (shape.1 ∙ n));
@@ -110,10 +110,10 @@ module _ {C F E : Type 0} (context : C → Context) (resolve : C → Tree → Tr
       -- a reference
       pub visits-target : (u : Ty) → IsShape (context c1) walk.in_crate (ty_tree (context c1).trees v) (Sh.Target u)
           → (f2 : F) (c2 : C) (new : Walk) (r : Result (Unit {0}) (EarlyExit E))
-          → Visits context resolve g (the_type (ty_tree (context c1).trees u)) (levels - 1) f1 c1 walk f2 c2 new r
-          → ((d : Description F C E) → IsFunction context g resolve d f1 c1
+          → Visits context shows resolve g (the_type (ty_tree (context c1).trees u)) (levels - 1) f1 c1 walk f2 c2 new r
+          → ((d : Description F C V E) → IsFunction context g shows resolve d f1 c1
           → OnOk r (still true (type_steps (setting (context c1) walk.in_crate) (view (λ s t. resolve s.1 t) d.normal) (levels - 1) (d.stands (f1, c1)) (ty_tree (context c1).trees u)) ≡ false))
-          → Visits context resolve g (the_type (ty_tree (context c).trees ty)) levels f c walk f2 c2 (ended new) r
+          → Visits context shows resolve g (the_type (ty_tree (context c).trees ty)) levels f c walk f2 c2 (ended new) r
       visits-target u shape f2 c2 new r below goes = record {
         calls = viewed-below context g f c (Ok v) f1 c1 viewed levels v refl (some-level levels some) f2 c2 _ _ grows (λ z e. e) (λ z e. e) below.calls;
         same = record { in_crate = below.same.in_crate; seeks_local = below.same.seeks_local };
@@ -130,8 +130,8 @@ module _ {C F E : Type 0} (context : C → Context) (resolve : C → Tree → Tr
       -- a fundamental type
       pub visits-arguments : (a : Args) → IsShape (context c1) walk.in_crate (ty_tree (context c1).trees v) (Sh.Arguments a)
           → (f2 : F) (c2 : C) (new : Walk) (r : Result (Unit {0}) (EarlyExit E))
-          → Visits context resolve g (the_list (args_forest (context c1).trees a)) (levels - 1) f1 c1 walk f2 c2 new r
-          → Visits context resolve g (the_type (ty_tree (context c).trees ty)) levels f c walk f2 c2 (ended new) r
+          → Visits context shows resolve g (the_list (args_forest (context c1).trees a)) (levels - 1) f1 c1 walk f2 c2 new r
+          → Visits context shows resolve g (the_type (ty_tree (context c).trees ty)) levels f c walk f2 c2 (ended new) r
       visits-arguments a shape f2 c2 new r below = record {
         calls = viewed-below context g f c (Ok v) f1 c1 viewed levels v refl (some-level levels some) f2 c2 _ _ grows (λ z e. e) (λ z e. e) below.calls;
         same = record { in_crate = below.same.in_crate; seeks_local = below.same.seeks_local };
@@ -146,7 +146,7 @@ module _ {C F E : Type 0} (context : C → Context) (resolve : C → Tree → Tr
       }
 
       -- each visit that goes on has gone over something
-      module _ (d : Description F C E) (h : IsFunction context g resolve d f c) where
+      module _ (d : Description F C V E) (h : IsFunction context g shows resolve d f c) where
         pub goes-item : (k : ViewClass) → IsShape (context c1) walk.in_crate (ty_tree (context c1).trees v) (Sh.Item k) → (r : Result (Unit {0}) (EarlyExit E))
             → OnOk r (still true (type_steps (setting (context c) walk.in_crate) (view (λ s t. resolve s.1 t) d.normal) levels (d.stands (f, c)) (ty_tree (context c).trees ty)) ≡ false)
         goes-item k shape r =
@@ -154,7 +154,7 @@ module _ {C F E : Type 0} (context : C → Context) (resolve : C → Tree → Tr
             (d.stands (f, c)) (d.stands (f1, c1)) (ty_tree (context c).trees ty) v (sees d h (λ z o. view-ends v z)) k r shape
 
         pub goes-target : (u : Ty) → IsShape (context c1) walk.in_crate (ty_tree (context c1).trees v) (Sh.Target u) → (r : Result (Unit {0}) (EarlyExit E))
-            → ((k : IsFunction context g resolve d f1 c1)
+            → ((k : IsFunction context g shows resolve d f1 c1)
             → OnOk r (still true (type_steps (setting (context c1) walk.in_crate) (view (λ s t. resolve s.1 t) d.normal) (levels - 1) (d.stands (f1, c1)) (ty_tree (context c1).trees u)) ≡ false))
             → OnOk r (still true (type_steps (setting (context c) walk.in_crate) (view (λ s t. resolve s.1 t) d.normal) levels (d.stands (f, c)) (ty_tree (context c).trees ty)) ≡ false)
         goes-target u shape r goes =

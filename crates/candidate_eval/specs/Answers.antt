@@ -54,7 +54,7 @@ IsUncoveredResult _ = ⊥
 
 -- The result is that of the definition, and what the definition leaves stands for the context that is left, with some
 -- normaliser.
-pub record IsAnswer {F C E : Type 0} (ts : List Tree) (stands : F × C → F × C) (result : CheckResult E) (left : C) (checked : Checked (F × C) (Answer E)) : Type 0 where
+pub record IsAnswer {F C V E : Type 0} (ts : List Tree) (stands : F × C → F × V) (result : CheckResult E) (left : C) (checked : Checked (F × V) (Answer E)) : Type 0 where
   pub answer : checked.answer ≡ answer_of ts result
   pub last : F
   pub leaves : checked.after ≡ stands (last, left)
@@ -76,7 +76,7 @@ knowledge_of (Err (O.Normalize e)) = Unknown (Refused e)
 knowledge_of (Err (O.Stop s)) = Unknown (Stopped s)
 
 -- The result is that of the definition, and so is the context that is left, as above.
-pub record IsKnowledge {F C E : Type 0} (stands : F × C → F × C) (result : KnownResult E) (left : C) (checked : Checked (F × C) (Knowability E)) : Type 0 where
+pub record IsKnowledge {F C V E : Type 0} (stands : F × C → F × V) (result : KnownResult E) (left : C) (checked : Checked (F × V) (Knowability E)) : Type 0 where
   pub answer : checked.answer ≡ knowledge_of result
   pub last : F
   pub leaves : checked.after ≡ stands (last, left)

@@ -1,7 +1,5 @@
 -- What contracts say of an evaluator and of its calls.
-use Rattle.std.specs.Prelude.{◌≡◌, suc, Option, Some, None, List, [], ◌∷◌, ◌++◌, map, unwrap_or}
-use Rattle.candidate_ir.specs.declared.ir.heads.Head.{Head}
-use Rattle.candidate_ir.specs.declared.ir.heads.Head.TheVariants as H
+use Rattle.std.specs.Prelude.{◌≡◌, suc, Option, Some, List, [], ◌∷◌, ◌++◌, map}
 use Rattle.candidate_ir.specs.declared.ir.kinds.AliasTy.{AliasTy}
 use Rattle.candidate_ir.specs.declared.ir.kinds.Clause.{Clause}
 use Rattle.candidate_ir.specs.declared.ir.kinds.Goal.{Goal as OfNumbers}
@@ -17,7 +15,8 @@ use Rattle.candidate_eval.specs.declared.eval.refusal.NoSolutionOrStop.{NoSoluti
 use Rattle.candidate_eval.specs.declared.eval.refusal.NoSolutionOrStop.TheVariants as N
 use Rattle.candidate_eval.specs.declared.eval.context.ProbeKind.{ProbeKind}
 use Rattle.candidate_eval.specs.declared.eval.context.ProbeKind.TheVariants as P
-use Rattle.candidate_eval.specs.States.{Env, State, Goal, Pending, Judge, with_pending, with_universe, placeholders, value_at, next}
+use Rattle.candidate_eval.specs.States.{Env, State, Goal, Pending, Judge, with_pending, with_universe, placeholders, next}
+pub use Rattle.candidate_eval.specs.States.{root_value, resolved_root}
 
 -- A call keeps what is fixed and the open probes, and numbers have their trees still: of the evaluator only its state changes.
 pub record Keeps {E F : Type 0} (fixed : E → F) (probes : E → List State) (context : E → Context) (old new : E) : Type 0 where
@@ -51,15 +50,6 @@ with_left q = with_pending q.1 (q.1.pending ++ q.0)
 
 abbrev pub accepted : Judge → State → Env → Forest → Forest → Option State
 accepted J S e a b = next (J.equated S e a b) (λ q. Some (with_left q))
-
--- The tree, with the value in the place of a variable of types or constants that is its root.
-
-abbrev pub root_value : State → Head → Option Tree
-root_value S (H.Infer v) = value_at S (H.Infer v)
-root_value S _ = None
-
-abbrev pub resolved_root : State → Tree → Tree
-resolved_root S t = unwrap_or (root_value S t.head) t
 
 -- the state at which a probe begins
 abbrev pub begun : ProbeKind → State → State

@@ -18,7 +18,7 @@ use Rattle.candidate_eval.specs.declared.eval.source.ParamEnvSource.TheVariants.
 use Rattle.candidate_eval.specs.Orphan.{Fault, Sight, Sees, Fails, View, view, Checked, Knowability, Knowable, Upstream, Downstream, Unknown, knowability, is_general}
 use Rattle.candidate_eval.specs.Certainties.{Certainty, Yes, AMBIGUOUS}
 use Rattle.candidate_eval.specs.Responses.{Response, Candidate}
-use Rattle.candidate_eval.specs.States.{Env, State, Pending, Judge, added, with_pending, with_universe, placeholders, fresh_variables, with_fresh_variables, resolved_tree, is_some, next}
+use Rattle.candidate_eval.specs.States.{Env, State, Pending, Judge, added, with_pending, with_universe, placeholders, fresh_variables, with_fresh_variables, resolved_root, resolved_tree, is_some, next}
 use Rattle.candidate_eval.specs.Characterization.{Walk, Goes, Finds, Refuses, Stops, characterization}
 use Rattle.candidate_eval.specs.Rules.{Match, Pick, Upcast, Require, Step, fresh, enter, equate, quick, add, settle, pick, still_general, unknowable, Ending, ask, characterise, Rule}
 
@@ -105,14 +105,14 @@ picked J e Upcast p (m ∷ []) = taken Upcast p m.term (matched_and_settled J e 
 picked J e Require p (m ∷ []) = taken Require p m.term (matched J e p m)
 picked J e k p ms = Ambiguous p.state
 
--- Whether other crates may write impls: the judge is the normaliser of the orphan check.
+-- Whether other crates may write impls: the judge is the normaliser of the orphan check, which resolves a type at its root alone.
 
 abbrev pub seen_of : State → Option (Tree × State) → Sight State (Unit {0})
 seen_of S None = record { seen = Fails (Fault.Refused tt); after = S }
 seen_of S (Some n) = record { seen = Sees n.0; after = n.1 }
 
 abbrev pub judge_view : Judge → Env → View State (Unit {0})
-judge_view J e = view resolved_tree (λ S t. seen_of S (J.normalized S e t))
+judge_view J e = view resolved_root (λ S t. seen_of S (J.normalized S e t))
 
 abbrev pub judge_knows : Judge → Env → State → Reference → Checked State (Knowability (Unit {0}))
 judge_knows J e S r = knowability J.world J.local_crate (judge_view J e) J.limits.orphan_walk S r

@@ -98,7 +98,7 @@ AreResolved resolve (tree h below rest) =
     × AreResolved resolve below × AreResolved resolve rest
 
 -- A call with the plain normaliser, and a reference in which nothing has a value.
-module _ {C F E : Type 0} (context : C → Context) (resolve : C → Tree → Tree) (g : Mut F (MutBor C × (Ty × Unit {0})) (Result Ty (NormalizeErr E) × (MutBor C × Unit {0}))) where
+module _ {C F V E : Type 0} (context : C → Context) (shows : C → V) (resolve : V → Tree → Tree) (g : Mut F (MutBor C × (Ty × Unit {0})) (Result Ty (NormalizeErr E) × (MutBor C × Unit {0}))) where
   pub record IsPlainCall (f : F) (c : C) (r : TraitRef) : Type 0 where
-    pub normaliser : IsPlain context g resolve f c
-    pub resolved : AreResolved (resolve c) (args_forest (context c).trees r.args)
+    pub normaliser : IsPlain context g shows resolve f c
+    pub resolved : AreResolved (resolve (shows c)) (args_forest (context c).trees r.args)

@@ -3,6 +3,7 @@ pub mod Certainties
 pub mod Responses
 pub mod ResponseTrees
 pub mod Merging
+pub mod Limits
 pub mod States
 pub mod Characterization
 pub mod Rules

@@ -48,17 +48,17 @@ IsTold u r = (s : Stop) → IsUntold u s → r ≡ Err (O.Stop s) → ⊥
 abbrev pub StopsWith : {A E : Type 0} → Result A (OrphanStop E) → Stop → Type 0
 StopsWith r s = r ≡ Err (O.Stop s)
 
--- A description of a normaliser, whose state is itself and the context: what is left open, which state stands for one (so
--- that nodes that it makes needn't count), and what it answers and leaves there.
-pub record Description (F C E : Type 0) : Type 0 where
+-- A description of a normaliser, whose state is itself and what is seen of the context: what is left open, which state stands
+-- for it and a context (so that nodes that it makes needn't count), and what it answers and leaves there.
+pub record Description (F C V E : Type 0) : Type 0 where
   pub untold : Untold
   pub refused : IsUntold untold Memory
-  pub stands : F × C → F × C
-  pub normal : View (F × C) E
+  pub stands : F × C → F × V
+  pub normal : View (F × V) E
 
--- where each state stands for itself
-abbrev pub exactly : {F C E : Type 0} → (u : Untold) → IsUntold u Memory → View (F × C) E → Description F C E
-exactly u e normal = record { untold = u; refused = e; stands = λ s. s; normal = normal }
+-- where itself and what is seen stand for it and a context
+abbrev pub exactly : {F C V E : Type 0} → (C → V) → (u : Untold) → IsUntold u Memory → View (F × V) E → Description F C V E
+exactly shows u e normal = record { untold = u; refused = e; stands = λ s. (s.0, shows s.1); normal = normal }
 
 -- A call: the normaliser and the context that it finds, the type, the answer, and what is left of the two.
 pub record Call (F C E : Type 0) : Type 0 where
@@ -131,16 +131,16 @@ module _ {C F E : Type 0} (context : C → Context) (g : Mut F (MutBor C × (Ty 
     pub keeps : KeepsNumbers f0 c0
 
   -- There its answers and effects, but for what is left open, are functions of the tree and of the state that stands for it
-  -- and the context; what stands for the context gives variables the same values.
-  pub record IsFunction (resolve : C → Tree → Tree) (d : Description F C E) (f0 : F) (c0 : C) : Type 0 where
+  -- and the context; what is seen there gives variables the same values.
+  pub record IsFunction {V : Type 0} (shows : C → V) (resolve : V → Tree → Tree) (d : Description F C V E) (f0 : F) (c0 : C) : Type 0 where
     pub at : (f : F) (c : C) (t : Ty) (r : Result Ty (NormalizeErr E)) (f' : F) (c' : C) → IsReached f0 c0 f c → Grows (context c0) (context c)
         → IsTy (context c).trees t → t.0 < 2 ^ 32 → Normalizes f c t r f' c' → IsToldAnswer d.untold r
         → d.normal (d.stands (f, c)) (ty_tree (context c).trees t) ≡ record { seen = shown (context c').trees r; after = d.stands (f', c') }
-    pub values : (f : F) (c : C) (t : Tree) → IsReached f0 c0 f c → Grows (context c0) (context c) → resolve (d.stands (f, c)).1 t ≡ resolve c t
+    pub values : (f : F) (c : C) (t : Tree) → IsReached f0 c0 f c → Grows (context c0) (context c) → resolve (d.stands (f, c)).1 t ≡ resolve (shows c) t
 
   -- It answers its input, and changes nothing, unless it stops.
-  abbrev pub IsPlain : (C → Tree → Tree) → F → C → Type 0
-  IsPlain resolve f0 c0 = IsFunction resolve (exactly any_stop refl plain) f0 c0
+  abbrev pub IsPlain : {V : Type 0} → (C → V) → (V → Tree → Tree) → F → C → Type 0
+  IsPlain shows resolve f0 c0 = IsFunction shows resolve (exactly shows any_stop refl plain) f0 c0
 
   -- It answers a type that stands in no header, or any type at one.
   pub record SeesUnnameable (k : Call F C E) : Type 0 where

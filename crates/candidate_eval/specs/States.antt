@@ -1,5 +1,5 @@
 -- The state that an evaluator shows, and its judge: what it answers there.
-use Rattle.std.specs.Prelude.{ℕ, suc, Bool, true, false, Option, Some, None, List, [], ◌∷◌, ◌++◌, length, slice_get, if◌then◌else◌}
+use Rattle.std.specs.Prelude.{ℕ, suc, Bool, true, false, Option, Some, None, List, [], ◌∷◌, ◌++◌, length, slice_get, unwrap_or, if◌then◌else◌}
 use Rattle.candidate_ir.specs.declared.ir.heads.Head.{Head}
 use Rattle.candidate_ir.specs.declared.ir.heads.Head.TheVariants as H
 use Rattle.candidate_ir.specs.declared.ir.heads.ConstHead.TheVariants as C
@@ -14,6 +14,7 @@ use Rattle.candidate_eval.specs.declared.eval.mode.TypingMode.{TypingMode}
 use Rattle.candidate_eval.specs.declared.eval.variable.VariableKind.{VariableKind}
 use Rattle.candidate_eval.specs.declared.eval.variable.VariableKind.TheVariants.{Term, Region}
 use Rattle.candidate_eval.specs.Certainties.{Certainty}
+pub use Rattle.candidate_eval.specs.Limits.{Limits}
 use Rattle.candidate_eval.specs.Responses.{Response}
 
 -- The clauses that are taken as given, in their order.
@@ -144,13 +145,14 @@ resolved S ts = valued (value_at S) ts
 abbrev pub resolved_tree : State → Tree → Tree
 resolved_tree S t = valued_tree (value_at S) t
 
--- Where walks end: how many visits of an orphan walk, aliases of a chain and constants may be nested, and how many types a
--- characterisation goes down.
-pub record Limits : Type 0 where
-  pub orphan_walk : ℕ
-  pub alias_chain : ℕ
-  pub nested_constants : ℕ
-  pub recursion : ℕ
+-- The tree, with the value in the place of a variable of types or constants that is its root.
+
+abbrev pub root_value : State → Head → Option Tree
+root_value S (H.Infer v) = value_at S (H.Infer v)
+root_value S _ = None
+
+abbrev pub resolved_root : State → Tree → Tree
+resolved_root S t = unwrap_or (root_value S t.head) t
 
 -- What stays fixed of an evaluator: what is declared, its limits, and what it answers at a state; `None` is a refusal.
 pub record Judge : Type 1 where

@@ -32,17 +32,17 @@ module _ {C F E : Type 0} (context : C → Context) (g : Mut F (MutBor C × (Ty 
     pub recorded : AreTypes (context c).trees walk.non_local.items
     pub firsts : FirstOnce walk.is_first walk.non_local.items
 
-module _ {C F E : Type 0} (context : C → Context) (resolve : C → Tree → Tree) (g : Mut F (MutBor C × (Ty × Unit {0})) (Result Ty (NormalizeErr E) × (MutBor C × Unit {0}))) where
+module _ {C F V E : Type 0} (context : C → Context) (shows : C → V) (resolve : V → Tree → Tree) (g : Mut F (MutBor C × (Ty × Unit {0})) (Result Ty (NormalizeErr E) × (MutBor C × Unit {0}))) where
   -- The visit leaves what its calls leave, and keeps how the walk goes on. What it recorded and what broke it off are types
   -- of the context; in `Remote` that is no uncovered one. For a normaliser that is a function but for what is left open, it
   -- went over the steps of what is visited.
-  pub record Visits (visited : Visited (F × C) E) (levels : ℕ) (f : F) (c : C) (walk : Walk) (f' : F) (c' : C) (walk' : Walk) (result : Result (Unit {0}) (EarlyExit E)) : Type 0 where
+  pub record Visits (visited : Visited (F × V) E) (levels : ℕ) (f : F) (c : C) (walk : Walk) (f' : F) (c' : C) (walk' : Walk) (result : Result (Unit {0}) (EarlyExit E)) : Type 0 where
     pub calls : IsLeftByCalls context g levels f c f' c' (λ s. result ≡ Err (X.Broken (O.Stop s)))
     pub same : SameWalk walk walk'
     pub recorded : AreTypes (context c').trees walk'.non_local.items
     pub firsts : OnOk result (FirstOnce walk'.is_first walk'.non_local.items)
     pub exit : IfErr result (λ x. IsExit (context c').trees x)
     pub covers : (t : Ty) → walk.in_crate ≡ Remote → result ≢ Err (X.Uncovered t)
-    pub outcome : (d : Description F C E) → IsFunction context g resolve d f c
+    pub outcome : (d : Description F C V E) → IsFunction context g shows resolve d f c
         → Outcome d.untold (context c').trees (classes (setting (context c) walk.in_crate)) walk walk' (d.stands (f, c)) (d.stands (f', c'))
         (visited (setting (context c) walk.in_crate) (view (λ s t. resolve s.1 t) d.normal) levels (d.stands (f, c))) result

@@ -108,7 +108,7 @@ impl<E: fmt::Display> fmt::Display for OrphanStop<E> {
     }
 }
 
-/// How many visits may be nested. The definitions read it from here (`depth_limit`).
+/// How many visits may be nested: as many as the definitions allow (`depth_limit`).
 pub const WALK_DEPTH: u16 = 256;
 
 /// What a walk that passes over uncovered views found: its first local type, or why it stopped.
@@ -140,7 +140,7 @@ where
     requires normaliser { IsNormalizer C.context F.FnMut normalize.old infcx.old }
     ensures calls { IsLeftByCalls C.context F.FnMut depth_limit normalize.old infcx.old normalize.new infcx.new (λ s. result ≡ Err s) }
     ensures types { IfOk result (λ o. IfSome o (λ t. IsTy (C.context infcx.new).trees t)) }
-    ensures answer { (d : Description F C E) → IsFunction C.context F.FnMut C.resolved d normalize.old infcx.old → ((s : Stop) → IsUntold d.untold s → result ≡ Err s → ⊥) → (t : Tree) → IsSecond (setting (C.context infcx.old) in_crate) (view (λ s t. C.resolved s.1 t) d.normal) depth_limit (d.stands (normalize.old, infcx.old)) (args_forest (C.context infcx.old).trees args) t (record { answer = second_answer (C.context infcx.new).trees t result; after = d.stands (normalize.new, infcx.new) }) }
+    ensures answer { (d : Description F C C.Seen E) → IsFunction C.context F.FnMut C.seen C.resolved d normalize.old infcx.old → ((s : Stop) → IsUntold d.untold s → result ≡ Err s → ⊥) → (t : Tree) → IsSecond (setting (C.context infcx.old) in_crate) (view (λ s t. C.resolved s.1 t) d.normal) depth_limit (d.stands (normalize.old, infcx.old)) (args_forest (C.context infcx.old).trees args) t (record { answer = second_answer (C.context infcx.new).trees t result; after = d.stands (normalize.new, infcx.new) }) }
 {
     let mut walk = Walk {
         in_crate,
@@ -169,7 +169,7 @@ where
     ensures types { AreAnswerTypes (C.context infcx.new).trees result }
     ensures covers { in_crate ≡ InCrate.Remote → ¬ (IsUncoveredResult result) }
     ensures first_input_once { (l : List Entry) → answer_of (C.context infcx.new).trees result ≡ NonLocalInput l → OnlyFirst l }
-    ensures answer { IsChecked C.context C.resolved F.FnMut normalize.old infcx.old in_crate trait_ref result normalize.new infcx.new }
+    ensures answer { IsChecked C.context C.seen C.resolved F.FnMut normalize.old infcx.old in_crate trait_ref result normalize.new infcx.new }
 {
     let mut walk = Walk {
         in_crate,
@@ -228,13 +228,13 @@ where
     ensures types { AreAnswerTypes (C.context infcx.new).trees result }
 
     // For a normaliser whose answers and effects, but for what is left open, are functions of the tree and the context.
-    ensures answer { (d : Description F C E) → IsFunction C.context F.FnMut C.resolved d normalize infcx.old → IsTold d.untold result → IsAnswer (C.context infcx.new).trees d.stands result infcx.new (check_of C.context C.resolved d in_crate (normalize, infcx.old) trait_ref) }
+    ensures answer { (d : Description F C C.Seen E) → IsFunction C.context F.FnMut C.seen C.resolved d normalize infcx.old → IsTold d.untold result → IsAnswer (C.context infcx.new).trees d.stands result infcx.new (check_of C.context C.seen C.resolved d in_crate (normalize, infcx.old) trait_ref) }
 
     // What passes in `Proper` passes in `Compat`.
-    ensures proper_passes_compat { (d : Description F C E) → IsFunction C.context F.FnMut C.resolved d normalize infcx.old → in_crate ≡ InCrate.Local OrphanCheckMode.Proper → result ≡ Ok (Ok tt) → (check_of C.context C.resolved d (InCrate.Local OrphanCheckMode.Compat) (normalize, infcx.old) trait_ref).answer ≡ Passes }
+    ensures proper_passes_compat { (d : Description F C C.Seen E) → IsFunction C.context F.FnMut C.seen C.resolved d normalize infcx.old → in_crate ≡ InCrate.Local OrphanCheckMode.Proper → result ≡ Ok (Ok tt) → (check_of C.context C.seen C.resolved d (InCrate.Local OrphanCheckMode.Compat) (normalize, infcx.old) trait_ref).answer ≡ Passes }
 
     // In `Remote` the answer is the same whichever crate is local.
-    ensures remote_ignores_the_local_crate { (d : Description F C E) → IsFunction C.context F.FnMut C.resolved d normalize infcx.old → in_crate ≡ InCrate.Remote → IsTold d.untold result → (local : ℕ) → IsAnswer (C.context infcx.new).trees d.stands result infcx.new (check_where C.context C.resolved d local InCrate.Remote (normalize, infcx.old) trait_ref) }
+    ensures remote_ignores_the_local_crate { (d : Description F C C.Seen E) → IsFunction C.context F.FnMut C.seen C.resolved d normalize infcx.old → in_crate ≡ InCrate.Remote → IsTold d.untold result → (local : ℕ) → IsAnswer (C.context infcx.new).trees d.stands result infcx.new (check_where C.context C.seen C.resolved d local InCrate.Remote (normalize, infcx.old) trait_ref) }
 
     // For every normaliser, in `Remote` nothing is uncovered.
     ensures remote_covers { in_crate ≡ InCrate.Remote → ¬ (IsUncoveredResult result) }
@@ -251,7 +251,7 @@ where
     ensures link_safety { LinkSafety }
 
     // What passes in `Proper` is overlapped by no header of another crate, where neither names the other's crate.
-    ensures no_foreign_header { IsPlainCall C.context C.resolved F.FnMut normalize infcx.old trait_ref → HasNoAliasOrError (C.context infcx.old) trait_ref → in_crate ≡ InCrate.Local OrphanCheckMode.Proper → result ≡ Ok (Ok tt) → NoForeignHeaderHere (C.context infcx.old) trait_ref }
+    ensures no_foreign_header { IsPlainCall C.context C.seen C.resolved F.FnMut normalize infcx.old trait_ref → HasNoAliasOrError (C.context infcx.old) trait_ref → in_crate ≡ InCrate.Local OrphanCheckMode.Proper → result ≡ Ok (Ok tt) → NoForeignHeaderHere (C.context infcx.old) trait_ref }
 {
     infcx.cx().well_formed(); // so the reference is one of the declared world
     check(alloc, infcx, trait_ref, in_crate, &mut normalize)
@@ -297,7 +297,7 @@ where
     requires args { IsArgs (C.context infcx.old).trees trait_ref.args }
     requires normaliser { IsNormalizer C.context F.FnMut normalize.old infcx.old }
     ensures calls { IsLeftByCalls C.context F.FnMut depth_limit normalize.old infcx.old normalize.new infcx.new (StopsWith result) }
-    ensures answer { IsKnown C.context C.resolved F.FnMut normalize.old infcx.old trait_ref result normalize.new infcx.new }
+    ensures answer { IsKnown C.context C.seen C.resolved F.FnMut normalize.old infcx.old trait_ref result normalize.new infcx.new }
 {
     let passes_remote = check(alloc, infcx, trait_ref, InCrate::Remote, normalize)?.is_ok();
     if passes_remote {
@@ -343,16 +343,16 @@ where
     ensures calls { IsChangedByCalls C.context F.FnMut depth_limit normalize infcx.old infcx.new result }
 
     // For a normaliser whose answers and effects, but for what is left open, are functions of the tree and the context.
-    ensures answer { (d : Description F C E) → IsFunction C.context F.FnMut C.resolved d normalize infcx.old → IsTold d.untold result → IsKnowledge d.stands result infcx.new (knowledge_about C.context C.resolved d (normalize, infcx.old) trait_ref) }
+    ensures answer { (d : Description F C C.Seen E) → IsFunction C.context F.FnMut C.seen C.resolved d normalize infcx.old → IsTold d.untold result → IsKnowledge d.stands result infcx.new (knowledge_about C.context C.seen C.resolved d (normalize, infcx.old) trait_ref) }
 
     // A known reference is overlapped by no header that a crate which it doesn't name may write.
-    ensures no_unnamed_header { IsPlainCall C.context C.resolved F.FnMut normalize infcx.old trait_ref → HasNoAlias (C.context infcx.old) trait_ref → result ≡ Ok (Ok tt) → NoUnnamedHeaderHere (C.context infcx.old) trait_ref }
+    ensures no_unnamed_header { IsPlainCall C.context C.seen C.resolved F.FnMut normalize infcx.old trait_ref → HasNoAlias (C.context infcx.old) trait_ref → result ≡ Ok (Ok tt) → NoUnnamedHeaderHere (C.context infcx.old) trait_ref }
 
     // Where a general variable makes it a downstream one, some crate may write a header that overlaps.
-    ensures downstream_header { IsPlainCall C.context C.resolved F.FnMut normalize infcx.old trait_ref → HasNoAliasOrError (C.context infcx.old) trait_ref → result ≡ Ok (Err Conflict.Downstream) → IsDecidedByGeneralHere (C.context infcx.old) trait_ref → HasDownstreamHere (C.context infcx.old) trait_ref }
+    ensures downstream_header { IsPlainCall C.context C.seen C.resolved F.FnMut normalize infcx.old trait_ref → HasNoAliasOrError (C.context infcx.old) trait_ref → result ≡ Ok (Err Conflict.Downstream) → IsDecidedByGeneralHere (C.context infcx.old) trait_ref → HasDownstreamHere (C.context infcx.old) trait_ref }
 
     // Known by its own types, it is overlapped by no covered header that names nothing of the local crate.
-    ensures no_covered_header { IsPlainCall C.context C.resolved F.FnMut normalize infcx.old trait_ref → HasNoAlias (C.context infcx.old) trait_ref → result ≡ Ok (Ok tt) → IsOfForeignTrait (C.context infcx.old) trait_ref → NoCoveredHeaderHere (C.context infcx.old) trait_ref }
+    ensures no_covered_header { IsPlainCall C.context C.seen C.resolved F.FnMut normalize infcx.old trait_ref → HasNoAlias (C.context infcx.old) trait_ref → result ≡ Ok (Ok tt) → IsOfForeignTrait (C.context infcx.old) trait_ref → NoCoveredHeaderHere (C.context infcx.old) trait_ref }
 {
     infcx.cx().well_formed(); // so the reference is one of the declared world
     knowable(alloc, infcx, trait_ref, &mut normalize)

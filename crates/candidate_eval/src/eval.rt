@@ -3,6 +3,7 @@
 pub mod ambiguity;
 pub mod certainty;
 pub mod context;
+pub mod limits;
 pub mod mode;
 pub mod refusal;
 pub mod response;
@@ -10,6 +11,7 @@ pub mod source;
 pub mod variable;
 
 ghost use Rattle.std.specs.Prelude.{◌≡◌, false, refl};
+ghost use Rattle.candidate_ir.specs.Context.{Context};
 ghost use Rattle.candidate_ir.specs.Trees.{Tree};
 ghost use Rattle.candidate_ir.specs.Words.{IsTy, ty_tree};
 ghost use Rattle.candidate_eval.specs.Orphan.{is_variable};
@@ -20,21 +22,31 @@ use candidate_ir::ir::kinds::Ty;
 
 /// A context whose variables may have values.
 pub trait InferCtxtLike: Make {
+    /// The type of what is seen of it.
+    ghost Seen: { Type 0 };
+
+    /// What is seen of it: what it answers, and what a normaliser may answer by.
+    ghost seen: { Self → Seen };
+
     /// The tree with the value in place of a variable that is its root.
-    ghost resolved: { Self → Tree → Tree };
+    ghost resolved: { Seen → Tree → Tree };
 
     /// The type with the value in place of a variable at its root; another type is its own answer.
     fn shallow_resolve(&self, ty: Ty) -> Ty
         requires { IsTy (Self.context self.now).trees ty }
         ensures sort { IsTy (Self.context self.now).trees result }
-        ensures tree { ty_tree (Self.context self.now).trees result ≡ resolved self.now (ty_tree (Self.context self.now).trees ty) };
+        ensures tree { ty_tree (Self.context self.now).trees result ≡ resolved (seen self.now) (ty_tree (Self.context self.now).trees ty) };
 
     /// A tree whose root is no variable stays.
-    ghost stays: { (s : Self) (t : Tree) → is_variable t.head ≡ false → resolved s t ≡ t };
+    ghost stays: { (v : Seen) (t : Tree) → is_variable t.head ≡ false → resolved v t ≡ t };
 }
 
-/// A context in which no variable has a value.
+/// A context in which no variable has a value. All of it is seen.
 impl InferCtxtLike for Cx {
+    ghost Seen = { Context };
+
+    ghost seen = { λ c. c };
+
     ghost resolved = { λ _ t. t };
 
     ghost stays = { λ _ _ _. refl };

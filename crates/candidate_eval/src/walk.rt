@@ -67,7 +67,7 @@ where
     ensures grows { Grows (C.context infcx.old) (C.context infcx.new) }
     ensures call { Normalizes C.context F.FnMut normalize.old infcx.old ty result normalize.new infcx.new }
     ensures sort { IfOk result (λ t. IsTy (C.context infcx.new).trees t) }
-    ensures answer { (d : Description F C E) → IsFunction C.context F.FnMut C.resolved d normalize.old infcx.old → IsToldAnswer d.untold result → d.normal (d.stands (normalize.old, infcx.old)) (ty_tree (C.context infcx.old).trees ty) ≡ record { seen = shown (C.context infcx.new).trees result; after = d.stands (normalize.new, infcx.new) } }
+    ensures answer { (d : Description F C C.Seen E) → IsFunction C.context F.FnMut C.seen C.resolved d normalize.old infcx.old → IsToldAnswer d.untold result → d.normal (d.stands (normalize.old, infcx.old)) (ty_tree (C.context infcx.old).trees ty) ≡ record { seen = shown (C.context infcx.new).trees result; after = d.stands (normalize.new, infcx.new) } }
 {
     normalize(infcx, ty)
 }
@@ -86,7 +86,7 @@ where
     ensures grows { Grows (C.context infcx.old) (C.context infcx.new) }
     ensures call { IsViewed C.context F.FnMut normalize.old infcx.old result normalize.new infcx.new }
     ensures sort { IfOk result (λ t. IsTy (C.context infcx.new).trees t) }
-    ensures view { (d : Description F C E) → IsFunction C.context F.FnMut C.resolved d normalize.old infcx.old → IsToldAnswer d.untold result → view (λ s t. C.resolved s.1 t) d.normal (d.stands (normalize.old, infcx.old)) (ty_tree (C.context infcx.old).trees ty) ≡ record { seen = shown (C.context infcx.new).trees result; after = d.stands (normalize.new, infcx.new) } }
+    ensures view { (d : Description F C C.Seen E) → IsFunction C.context F.FnMut C.seen C.resolved d normalize.old infcx.old → IsToldAnswer d.untold result → view (λ s t. C.resolved s.1 t) d.normal (d.stands (normalize.old, infcx.old)) (ty_tree (C.context infcx.old).trees ty) ≡ record { seen = shown (C.context infcx.new).trees result; after = d.stands (normalize.new, infcx.new) } }
 {
     let ty = infcx.shallow_resolve(ty);
     let normal = normalized(infcx, normalize, ty)?;
@@ -141,9 +141,9 @@ where
     F: FnMut(&mut C, Ty) -> Result<Ty, NormalizeErr<E>>,
     requires ty { IsTy (C.context infcx.old).trees ty }
     requires may { MayVisit C.context F.FnMut normalize.old infcx.old walk.old }
-    ensures visits { Visits C.context C.resolved F.FnMut (the_type (ty_tree (C.context infcx.old).trees ty)) levels normalize.old infcx.old walk.old normalize.new infcx.new walk.new result }
+    ensures visits { Visits C.context C.seen C.resolved F.FnMut (the_type (ty_tree (C.context infcx.old).trees ty)) levels normalize.old infcx.old walk.old normalize.new infcx.new walk.new result }
     ensures first { OnOk result (walk.new.is_first ≡ false) }
-    ensures some { (d : Description F C E) → IsFunction C.context F.FnMut C.resolved d normalize.old infcx.old → OnOk result (still true (type_steps (setting (C.context infcx.old) walk.old.in_crate) (view (λ s t. C.resolved s.1 t) d.normal) levels (d.stands (normalize.old, infcx.old)) (ty_tree (C.context infcx.old).trees ty)) ≡ false) }
+    ensures some { (d : Description F C C.Seen E) → IsFunction C.context F.FnMut C.seen C.resolved d normalize.old infcx.old → OnOk result (still true (type_steps (setting (C.context infcx.old) walk.old.in_crate) (view (λ s t. C.resolved s.1 t) d.normal) levels (d.stands (normalize.old, infcx.old)) (ty_tree (C.context infcx.old).trees ty)) ≡ false) }
 {
     if levels == 0 {
         return Err(EarlyExit::Broken(OrphanStop::Stop(Stop::WalkDepth)));
@@ -172,7 +172,7 @@ where
     F: FnMut(&mut C, Ty) -> Result<Ty, NormalizeErr<E>>,
     requires args { IsArgs (C.context infcx.old).trees args }
     requires may { MayVisit C.context F.FnMut normalize.old infcx.old walk.old }
-    ensures { Visits C.context C.resolved F.FnMut (the_list (args_forest (C.context infcx.old).trees args)) levels normalize.old infcx.old walk.old normalize.new infcx.new walk.new result }
+    ensures { Visits C.context C.seen C.resolved F.FnMut (the_list (args_forest (C.context infcx.old).trees args)) levels normalize.old infcx.old walk.old normalize.new infcx.new walk.new result }
 {
     let count = infcx.cx().args(args).len();
     for i in 0..count {

@@ -2,6 +2,7 @@
 use Rattle.std.specs.Prelude.{◌≡◌, ℕ, List, [], if◌then◌else◌}
 use Rattle.candidate_ir.specs.Trees.{Tree}
 use Rattle.candidate_ir.specs.Worlds.{World}
+use Rattle.candidate_eval.specs.Limits.{declared_limits}
 use Rattle.candidate_eval.specs.States.{State, Judge, resolved_tree}
 use Rattle.candidate_eval.specs.Orphan.{is_general}
 use Rattle.rounds_judge.specs.Listed.{Listing}
@@ -21,7 +22,7 @@ abbrev pub rounds_judge : World → ℕ → Listing → List Tree → Judge
 rounds_judge w local l os = record {
   world = w;
   local_crate = local;
-  limits = record { orphan_walk = 256; alias_chain = 64; nested_constants = 128; recursion = 128 };
+  limits = declared_limits;
   alike = λ S T. T ≡ S;
   alike_in = λ n S ls T us. (T ≡ S) × (us ≡ ls);
   granted = IsGranted l;

@@ -7,12 +7,12 @@ ghost use Rattle.candidate_ir.specs.Folds.{IsArg, arg_tree};
 ghost use Rattle.candidate_ir.specs.Substitutions.{alone};
 ghost use Rattle.candidate_ir.specs.Trees.{Tree};
 ghost use Rattle.candidate_ir.specs.Words.{IsTy, IsConst, IsRegion, IsArgs, IsClause, IsParamEnv, KindFits, ty_tree, const_tree, region_tree, args_forest, clause_tree, env_forest};
-ghost use Rattle.candidate_eval.specs.Calls.{depth_limit};
 ghost use Rattle.candidate_eval.specs.Evaluators.{Keeps, IsGoal, pending_of, pendings_of, with_goals_of, accepted, resolved_root, begun, kinds_listed, rigid, with_rigid, alias_trees, IsEvaluatorStop};
 ghost use Rattle.candidate_eval.specs.Accounts.{Question, by_stop};
 ghost use Rattle.candidate_eval.specs.Accounts as question;
 ghost use Rattle.candidate_ir.specs.declared.ir.stop.Stop.{Stop};
 ghost use Rattle.candidate_eval.specs.Lawful.{Lawful};
+ghost use Rattle.candidate_eval.specs.Limits.{declared_limits};
 ghost use Rattle.candidate_eval.specs.ResponseTrees.{IsResponse, response_of};
 ghost use Rattle.candidate_eval.specs.States.{State, Judge, added, fresh_variables, with_fresh_variables, resolved, resolved_tree};
 
@@ -107,7 +107,7 @@ pub trait EvalCtxt: InferCtxtLike {
         ensures sort { IsRegion (Self.context self.now).trees result }
         ensures tree { region_tree (Self.context self.now).trees result ≡ resolved_tree (state self.now) (region_tree (Self.context self.now).trees region) };
 
-    /// The type in normal form. A refusal leaves the state alike, too.
+    /// The type in normal form. A refusal leaves the state as it was, a stop one alike.
     fn structurally_normalize_ty(&mut self, env: ParamEnv, ty: Ty) -> Result<Ty, NoSolutionOrStop>
         requires env { IsParamEnv (Self.context self.old).trees env }
         requires ty { IsTy (Self.context self.old).trees ty }
@@ -116,9 +116,10 @@ pub trait EvalCtxt: InferCtxtLike {
         ensures ok { IfOk result (λ x. (judge (fixed self.old)).normalized (state self.old) (env_forest (Self.context self.old).trees env) (ty_tree (Self.context self.old).trees ty) ≡ Some (ty_tree (Self.context self.new).trees x, state self.new)) }
         ensures refused { IfErr result (λ e. e ≡ NoSolutionOrStop.NoSolution → (judge (fixed self.old)).normalized (state self.old) (env_forest (Self.context self.old).trees env) (ty_tree (Self.context self.old).trees ty) ≡ None) }
         ensures undone { OnErr result ((judge (fixed self.old)).alike (state self.old) (state self.new)) }
+        ensures rests { IfErr result (λ e. e ≡ NoSolutionOrStop.NoSolution → state self.new ≡ state self.old) }
         ensures cause { IfErr result (by_stop (stops self.new (state self.old) (question.normalize (env_forest (Self.context self.old).trees env) (ty_tree (Self.context self.old).trees ty)))) };
 
-    /// The constant in normal form. A refusal leaves the state alike, too.
+    /// The constant in normal form. A refusal leaves the state as it was, a stop one alike.
     fn structurally_normalize_const(
         &mut self,
         env: ParamEnv,
@@ -131,6 +132,7 @@ pub trait EvalCtxt: InferCtxtLike {
         ensures ok { IfOk result (λ x. (judge (fixed self.old)).normalized (state self.old) (env_forest (Self.context self.old).trees env) (const_tree (Self.context self.old).trees constant) ≡ Some (const_tree (Self.context self.new).trees x, state self.new)) }
         ensures refused { IfErr result (λ e. e ≡ NoSolutionOrStop.NoSolution → (judge (fixed self.old)).normalized (state self.old) (env_forest (Self.context self.old).trees env) (const_tree (Self.context self.old).trees constant) ≡ None) }
         ensures undone { OnErr result ((judge (fixed self.old)).alike (state self.old) (state self.new)) }
+        ensures rests { IfErr result (λ e. e ≡ NoSolutionOrStop.NoSolution → state self.new ≡ state self.old) }
         ensures cause { IfErr result (by_stop (stops self.new (state self.old) (question.normalize (env_forest (Self.context self.old).trees env) (const_tree (Self.context self.old).trees constant)))) };
 
     /// Fresh variables of the newest universe, in the place of parameters of these kinds.
@@ -273,11 +275,23 @@ pub trait EvalCtxt: InferCtxtLike {
     /// Its world and local crate are those that are declared.
     ghost declared: { (s : Self) → ((judge (fixed s)).world ≡ world (Self.context s)) × ((judge (fixed s)).local_crate ≡ (Self.context s).local.0) };
 
-    /// It walks as deep as the orphan check.
-    ghost walks: { (f : Fixed) → (judge f).limits.orphan_walk ≡ depth_limit };
+    /// Its limits are those that are declared: it walks as deep as the code.
+    ghost walks: { (f : Fixed) → (judge f).limits ≡ declared_limits };
 
-    /// What a variable resolves to is its value in the state.
-    ghost resolves: { (s : Self) (t : Tree) → Self.resolved s t ≡ resolved_root (state s) t };
+    /// What is seen of an evaluator with that fixed at that state.
+    ghost seen_at: { Fixed → State → Self.Seen };
+
+    /// The state that is seen.
+    ghost state_seen: { Self.Seen → State };
+
+    /// What is fixed and the state say what is seen.
+    ghost sees: { (s : Self) → Self.seen s ≡ seen_at (fixed s) (state s) };
+
+    /// The state is seen.
+    ghost shows: { (f : Fixed) (S : State) → state_seen (seen_at f S) ≡ S };
+
+    /// What a variable resolves to is its value in the state that is seen.
+    ghost resolves: { (v : Self.Seen) (t : Tree) → Self.resolved v t ≡ resolved_root (state_seen v) t };
 
     /// Making a node changes nothing of it.
     ghost by_rest: { (s t : Self) → Self.rest t ≡ Self.rest s → (fixed t ≡ fixed s) × (state t ≡ state s) × (probes t ≡ probes s) };

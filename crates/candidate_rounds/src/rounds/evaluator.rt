@@ -68,9 +68,13 @@ impl Make for Rounds {
 }
 
 impl InferCtxtLike for Rounds {
-    ghost resolved = { λ r t. resolved_root (state r) t };
+    ghost Seen = { State };
 
-    ghost stays = { λ r t e. root_stays (state r) t e };
+    ghost seen = { state };
+
+    ghost resolved = { resolved_root };
+
+    ghost stays = { root_stays };
 
     fn shallow_resolve(&self, ty: Ty) -> Ty {
         self.well_kept();
@@ -186,6 +190,7 @@ impl EvalCtxt for Rounds {
         ensures never { IfErr result (λ e. e ≢ NoSolutionOrStop.NoSolution) }
         ensures refused { IfErr result (λ e. e ≡ NoSolutionOrStop.NoSolution → (judge_of (fixed self.old)).normalized (state self.old) (env_forest self.old.context.trees env) (ty_tree self.old.context.trees ty) ≡ None) }
         ensures undone { OnErr result ((judge_of (fixed self.old)).alike (state self.old) (state self.new)) }
+        ensures rests { IfErr result (λ e. e ≡ NoSolutionOrStop.NoSolution → state self.new ≡ state self.old) }
         ensures cause { IfErr result (by_stop (accounts self.new (state self.old) (question.normalize (env_forest self.old.context.trees env) (ty_tree self.old.context.trees ty)))) }
     {
         self.well_kept();
@@ -211,6 +216,7 @@ impl EvalCtxt for Rounds {
         ensures never { IfErr result (λ e. e ≢ NoSolutionOrStop.NoSolution) }
         ensures refused { IfErr result (λ e. e ≡ NoSolutionOrStop.NoSolution → (judge_of (fixed self.old)).normalized (state self.old) (env_forest self.old.context.trees env) (const_tree self.old.context.trees constant) ≡ None) }
         ensures undone { OnErr result ((judge_of (fixed self.old)).alike (state self.old) (state self.new)) }
+        ensures rests { IfErr result (λ e. e ≡ NoSolutionOrStop.NoSolution → state self.new ≡ state self.old) }
         ensures cause { IfErr result (by_stop (accounts self.new (state self.old) (question.normalize (env_forest self.old.context.trees env) (const_tree self.old.context.trees constant)))) }
     {
         self.well_kept();
@@ -500,6 +506,14 @@ impl EvalCtxt for Rounds {
     ghost declared = { λ _. (refl, refl) };
 
     ghost walks = { λ _. refl };
+
+    ghost seen_at = { λ _ S. S };
+
+    ghost state_seen = { λ S. S };
+
+    ghost sees = { λ _. refl };
+
+    ghost shows = { λ _ _. refl };
 
     ghost resolves = { λ _ _. refl };
 

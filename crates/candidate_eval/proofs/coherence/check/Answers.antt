@@ -30,8 +30,8 @@ returns-in-Ok-first_local_ty-clause-answer g c = record {
       let see = view (λ s u. g.C.InferCtxtLike.resolved s.1 u) d.normal in
       let last = g.C.Build.context c.first_local_ty.new.infcx in
       let first = rw c.in-Err-Uncovered.field-0-is at c.in-Err-Uncovered.ensures in
-      let later = function-left g.C.Build.context g.F.FnMut first.calls (uncovered-ends _ _ refl) g.C.InferCtxtLike.resolved d h in
-      let checked : Tree → Checked (g.row.F.Denot × g.row.C.Denot) (Answer g.row.E.Denot) =
+      let later = function-left g.C.Build.context g.F.FnMut first.calls (uncovered-ends _ _ refl) g.C.InferCtxtLike.seen g.C.InferCtxtLike.resolved d h in
+      let checked : Tree → Checked (g.row.F.Denot × g.C.InferCtxtLike.Seen) (Answer g.row.E.Denot) =
       λ t. record { answer = second_answer last.trees t (Ok c.in-Ok-first_local_ty.local_ty); after = d.stands (c.first_local_ty.new.normalize, c.first_local_ty.new.infcx) } in
       let e = uncovered-checked (g.C.Build.context c.args.infcx.now) (g.C.Build.context c.visit_args.new.infcx) last
       c.visit_args.ensures.calls.grows c.first_local_ty.ensures.calls.grows c.args.in_crate see depth_limit c.args.trait_ref.args c.requires.args
@@ -47,8 +47,8 @@ returns-in-Err-Uncovered-clause-answer g c = record {
       let see = view (λ s u. g.C.InferCtxtLike.resolved s.1 u) d.normal in
       let last = g.C.Build.context c.first_local_ty.new.infcx in
       let first = rw c.in-Err-Uncovered.field-0-is at c.in-Err-Uncovered.ensures in
-      let later = function-left g.C.Build.context g.F.FnMut first.calls (uncovered-ends _ _ refl) g.C.InferCtxtLike.resolved d h in
-      let checked : Tree → Checked (g.row.F.Denot × g.row.C.Denot) (Answer g.row.E.Denot) =
+      let later = function-left g.C.Build.context g.F.FnMut first.calls (uncovered-ends _ _ refl) g.C.InferCtxtLike.seen g.C.InferCtxtLike.resolved d h in
+      let checked : Tree → Checked (g.row.F.Denot × g.C.InferCtxtLike.Seen) (Answer g.row.E.Denot) =
       λ t. record { answer = second_answer last.trees t (Err c.in-Err.stop); after = d.stands (c.first_local_ty.new.normalize, c.first_local_ty.new.infcx) } in
       let e = uncovered-checked (g.C.Build.context c.args.infcx.now) (g.C.Build.context c.visit_args.new.infcx) last
       c.visit_args.ensures.calls.grows c.first_local_ty.ensures.calls.grows c.args.in_crate see depth_limit c.args.trait_ref.args c.requires.args

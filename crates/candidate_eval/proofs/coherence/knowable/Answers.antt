@@ -22,7 +22,7 @@ returns-in_err-check-2-clause-answer g c = record {
       let p = err_from_is_err_and c.from_residual-in_err-check-2.result c.from_residual-in_err-check-2.ensures.1 in
       let see = view (λ s u. g.C.InferCtxtLike.resolved s.1 u) d.normal in
       let c1 = g.C.Build.context c.check.new.infcx in
-      let later = function-left g.C.Build.context g.F.FnMut c.in_ok-check.ensures.calls (check-ends _) g.C.InferCtxtLike.resolved d h in
+      let later = function-left g.C.Build.context g.F.FnMut c.in_ok-check.ensures.calls (check-ends _) g.C.InferCtxtLike.seen g.C.InferCtxtLike.resolved d h in
       let own : local_or_fundamental (world c1) c1.local.0 c.args.trait_ref.def_id.0 ≡ false =
       ap (λ (x : Context). local_or_fundamental (world x) x.local.0 c.args.trait_ref.def_id.0) (sym c.cx.ensures)
       ∙ (sym c.trait_ref_is_local_or_fundamental.ensures ∙ c.if-trait_ref_is_local_or_fundamental.false) in
@@ -39,7 +39,7 @@ returns-then-passes_proper-clause-answer g c = record {
   at = λ d h told.
       let see = view (λ s u. g.C.InferCtxtLike.resolved s.1 u) d.normal in
       let c1 = g.C.Build.context c.check.new.infcx in
-      let later = function-left g.C.Build.context g.F.FnMut c.in_ok-check.ensures.calls (check-ends _) g.C.InferCtxtLike.resolved d h in
+      let later = function-left g.C.Build.context g.F.FnMut c.in_ok-check.ensures.calls (check-ends _) g.C.InferCtxtLike.seen g.C.InferCtxtLike.resolved d h in
       let own : local_or_fundamental (world c1) c1.local.0 c.args.trait_ref.def_id.0 ≡ false =
       ap (λ (x : Context). local_or_fundamental (world x) x.local.0 c.args.trait_ref.def_id.0) (sym c.cx.ensures)
       ∙ (sym c.trait_ref_is_local_or_fundamental.ensures ∙ c.if-trait_ref_is_local_or_fundamental.false) in
@@ -56,7 +56,7 @@ returns-else-passes_proper-clause-answer g c = record {
   at = λ d h told.
       let see = view (λ s u. g.C.InferCtxtLike.resolved s.1 u) d.normal in
       let c1 = g.C.Build.context c.check.new.infcx in
-      let later = function-left g.C.Build.context g.F.FnMut c.in_ok-check.ensures.calls (check-ends _) g.C.InferCtxtLike.resolved d h in
+      let later = function-left g.C.Build.context g.F.FnMut c.in_ok-check.ensures.calls (check-ends _) g.C.InferCtxtLike.seen g.C.InferCtxtLike.resolved d h in
       let own : local_or_fundamental (world c1) c1.local.0 c.args.trait_ref.def_id.0 ≡ false =
       ap (λ (x : Context). local_or_fundamental (world x) x.local.0 c.args.trait_ref.def_id.0) (sym c.cx.ensures)
       ∙ (sym c.trait_ref_is_local_or_fundamental.ensures ∙ c.if-trait_ref_is_local_or_fundamental.false) in

@@ -18,47 +18,47 @@ use Rattle.candidate_eval.proofs.walk.+walk.Goals.{visit_ty-in-Item, visit_ty-in
 
 pub visit_ty-returns-then-levels-eq0-clause-visits : goal.visit_ty-returns-then-levels-eq0-clause-visits
 visit_ty-returns-then-levels-eq0-clause-visits g t c =
-    visits-deep g.C.Build.context g.C.InferCtxtLike.resolved g.F.FnMut c.args.normalize.now c.args.infcx.now c.args.walk.now c.args.levels c.args.ty c.requires.may c.if-levels-eq0.true
+    visits-deep g.C.Build.context g.C.InferCtxtLike.seen g.C.InferCtxtLike.resolved g.F.FnMut c.args.normalize.now c.args.infcx.now c.args.walk.now c.args.levels c.args.ty c.requires.may c.if-levels-eq0.true
 
 pub visit_ty-returns-in_err-view-clause-visits : goal.visit_ty-returns-in_err-view-clause-visits
 visit_ty-returns-in_err-view-clause-visits g t c =
     let p = err_from_is_err_and c.from_residual.result c.from_residual.ensures.1 in
-    visits-nothing g.C.Build.context g.C.InferCtxtLike.resolved g.F.FnMut c.args.normalize.now c.args.infcx.now c.args.walk.now c.args.levels c.args.ty c.requires.may
+    visits-nothing g.C.Build.context g.C.InferCtxtLike.seen g.C.InferCtxtLike.resolved g.F.FnMut c.args.normalize.now c.args.infcx.now c.args.walk.now c.args.levels c.args.ty c.requires.may
     c.if-levels-eq0.false c.view_of.new.normalize c.view_of.new.infcx c.view_of.ensures.grows c.in_err-view.field-0.0 c.in_err-view.ensures.call c.in_err-view.ensures.view
     c.from_residual.result p.0 p.1 p.2
 
 pub visit_ty-visit_ty-outcome-requires : goal.visit_ty-visit_ty-outcome-requires
 visit_ty-visit_ty-outcome-requires g t c κs within =
     let shape = rw c.cx.ensures at c.in-Target.ensures in
-    let may = may-visit g.C.Build.context g.C.InferCtxtLike.resolved g.F.FnMut c.args.normalize.now c.args.infcx.now c.args.walk.now c.args.levels c.args.ty c.requires.may
+    let may = may-visit g.C.Build.context g.C.InferCtxtLike.seen g.C.InferCtxtLike.resolved g.F.FnMut c.args.normalize.now c.args.infcx.now c.args.walk.now c.args.levels c.args.ty c.requires.may
     c.if-levels-eq0.false c.view_of.new.normalize c.view_of.new.infcx c.view_of.ensures.grows c.in_ok-view.view c.in_ok-view.ensures.sort c.in_ok-view.ensures.call c.in_ok-view.ensures.view in
     (omega arith, (within.0, (within.1.0, (within.1.1, (shape.sort, may)))))
 
 pub visit_ty-visit_args-outcome-requires : goal.visit_ty-visit_args-outcome-requires
 visit_ty-visit_args-outcome-requires g t c κs within =
     let shape = rw c.cx.ensures at c.in-Arguments.ensures in
-    let may = may-visit g.C.Build.context g.C.InferCtxtLike.resolved g.F.FnMut c.args.normalize.now c.args.infcx.now c.args.walk.now c.args.levels c.args.ty c.requires.may
+    let may = may-visit g.C.Build.context g.C.InferCtxtLike.seen g.C.InferCtxtLike.resolved g.F.FnMut c.args.normalize.now c.args.infcx.now c.args.walk.now c.args.levels c.args.ty c.requires.may
     c.if-levels-eq0.false c.view_of.new.normalize c.view_of.new.infcx c.view_of.ensures.grows c.in_ok-view.view c.in_ok-view.ensures.sort c.in_ok-view.ensures.call c.in_ok-view.ensures.view in
     (omega arith, (within.0, (within.1.0, (within.1.1, (shape.sort, may)))))
 
 pub visit_ty-returns-clause-visits : goal.visit_ty-returns-clause-visits
 visit_ty-returns-clause-visits g t c =
     let P : g.row.C.Denot → g.row.F.Denot → Walk → Result (Unit {0}) (EarlyExit g.row.E.Denot) → Type 0 =
-    λ i n x o. Visits g.C.Build.context g.C.InferCtxtLike.resolved g.F.FnMut (the_type (ty_tree (g.C.Build.context c.args.infcx.now).trees c.args.ty)) c.args.levels
+    λ i n x o. Visits g.C.Build.context g.C.InferCtxtLike.seen g.C.InferCtxtLike.resolved g.F.FnMut (the_type (ty_tree (g.C.Build.context c.args.infcx.now).trees c.args.ty)) c.args.levels
     c.args.normalize.now c.args.infcx.now c.args.walk.now n i (ended x) o in
     elim c.match-shape_of.branch [
       | visit_ty-in-Item w ↦ after-match P w.infcx-is w.normalize-is w.walk-is w.outcome-is
-          (visits-item g.C.Build.context g.C.InferCtxtLike.resolved g.F.FnMut c.args.normalize.now c.args.infcx.now c.args.walk.now c.args.levels c.args.ty c.requires.may
+          (visits-item g.C.Build.context g.C.InferCtxtLike.seen g.C.InferCtxtLike.resolved g.F.FnMut c.args.normalize.now c.args.infcx.now c.args.walk.now c.args.levels c.args.ty c.requires.may
           c.if-levels-eq0.false c.view_of.new.normalize c.view_of.new.infcx c.view_of.ensures.grows c.in_ok-view.view c.in_ok-view.ensures.sort c.in_ok-view.ensures.call c.in_ok-view.ensures.view
           w.in-Item.class (rw c.cx.ensures at w.in-Item.ensures) w.take-outcome.new.self w.take-outcome.result w.take-outcome.ensures.same.in_crate w.take-outcome.ensures.same.seeks_local
           w.take-outcome.ensures.taken)
       | visit_ty-in-Target w ↦ after-match P w.infcx-is w.normalize-is w.walk-is w.outcome-is
-          (visits-target g.C.Build.context g.C.InferCtxtLike.resolved g.F.FnMut c.args.normalize.now c.args.infcx.now c.args.walk.now c.args.levels c.args.ty c.requires.may
+          (visits-target g.C.Build.context g.C.InferCtxtLike.seen g.C.InferCtxtLike.resolved g.F.FnMut c.args.normalize.now c.args.infcx.now c.args.walk.now c.args.levels c.args.ty c.requires.may
           c.if-levels-eq0.false c.view_of.new.normalize c.view_of.new.infcx c.view_of.ensures.grows c.in_ok-view.view c.in_ok-view.ensures.sort c.in_ok-view.ensures.call c.in_ok-view.ensures.view
           w.in-Target.target (rw c.cx.ensures at w.in-Target.ensures) w.visit_ty-outcome.new.normalize w.visit_ty-outcome.new.infcx w.visit_ty-outcome.new.walk w.visit_ty-outcome.result
           w.visit_ty-outcome.ensures.visits w.visit_ty-outcome.ensures.some)
       | visit_ty-in-Arguments w ↦ after-match P w.infcx-is w.normalize-is w.walk-is w.outcome-is
-          (visits-arguments g.C.Build.context g.C.InferCtxtLike.resolved g.F.FnMut c.args.normalize.now c.args.infcx.now c.args.walk.now c.args.levels c.args.ty c.requires.may
+          (visits-arguments g.C.Build.context g.C.InferCtxtLike.seen g.C.InferCtxtLike.resolved g.F.FnMut c.args.normalize.now c.args.infcx.now c.args.walk.now c.args.levels c.args.ty c.requires.may
           c.if-levels-eq0.false c.view_of.new.normalize c.view_of.new.infcx c.view_of.ensures.grows c.in_ok-view.view c.in_ok-view.ensures.sort c.in_ok-view.ensures.call c.in_ok-view.ensures.view
           w.in-Arguments.args (rw c.cx.ensures at w.in-Arguments.ensures) w.visit_args-outcome.new.normalize w.visit_args-outcome.new.infcx w.visit_args-outcome.new.walk w.visit_args-outcome.result
           w.visit_args-outcome.ensures)
@@ -68,15 +68,15 @@ pub visit_ty-returns-clause-some : goal.visit_ty-returns-clause-some
 visit_ty-returns-clause-some g t c = λ d h.
     elim c.match-shape_of.branch [
       | visit_ty-in-Item w ↦ rw w.outcome-is
-          (goes-item g.C.Build.context g.C.InferCtxtLike.resolved g.F.FnMut c.args.normalize.now c.args.infcx.now c.args.walk.now c.args.levels c.args.ty c.requires.may
+          (goes-item g.C.Build.context g.C.InferCtxtLike.seen g.C.InferCtxtLike.resolved g.F.FnMut c.args.normalize.now c.args.infcx.now c.args.walk.now c.args.levels c.args.ty c.requires.may
           c.if-levels-eq0.false c.view_of.new.normalize c.view_of.new.infcx c.view_of.ensures.grows c.in_ok-view.view c.in_ok-view.ensures.sort c.in_ok-view.ensures.call c.in_ok-view.ensures.view
           d h w.in-Item.class (rw c.cx.ensures at w.in-Item.ensures) w.take-outcome.result)
       | visit_ty-in-Target w ↦ rw w.outcome-is
-          (goes-target g.C.Build.context g.C.InferCtxtLike.resolved g.F.FnMut c.args.normalize.now c.args.infcx.now c.args.walk.now c.args.levels c.args.ty c.requires.may
+          (goes-target g.C.Build.context g.C.InferCtxtLike.seen g.C.InferCtxtLike.resolved g.F.FnMut c.args.normalize.now c.args.infcx.now c.args.walk.now c.args.levels c.args.ty c.requires.may
           c.if-levels-eq0.false c.view_of.new.normalize c.view_of.new.infcx c.view_of.ensures.grows c.in_ok-view.view c.in_ok-view.ensures.sort c.in_ok-view.ensures.call c.in_ok-view.ensures.view
           d h w.in-Target.target (rw c.cx.ensures at w.in-Target.ensures) w.visit_ty-outcome.result (w.visit_ty-outcome.ensures.some d))
       | visit_ty-in-Arguments w ↦ rw w.outcome-is
-          (goes-arguments g.C.Build.context g.C.InferCtxtLike.resolved g.F.FnMut c.args.normalize.now c.args.infcx.now c.args.walk.now c.args.levels c.args.ty c.requires.may
+          (goes-arguments g.C.Build.context g.C.InferCtxtLike.seen g.C.InferCtxtLike.resolved g.F.FnMut c.args.normalize.now c.args.infcx.now c.args.walk.now c.args.levels c.args.ty c.requires.may
           c.if-levels-eq0.false c.view_of.new.normalize c.view_of.new.infcx c.view_of.ensures.grows c.in_ok-view.view c.in_ok-view.ensures.sort c.in_ok-view.ensures.call c.in_ok-view.ensures.view
           d h w.in-Arguments.args (rw c.cx.ensures at w.in-Arguments.ensures) w.visit_args-outcome.result)
     ]
@@ -105,7 +105,7 @@ visit_args-loop-i-init g t c =
     let c0 = g.C.Build.context c.args.infcx.now in
     let ensures = rw c.cx.ensures at c.args-count.ensures in
     record {
-      visited = none-visited g.C.Build.context g.C.InferCtxtLike.resolved g.F.FnMut c.args.levels c.args.args c.args.normalize.now c.args.infcx.now c.args.walk.now c.requires.may;
+      visited = none-visited g.C.Build.context g.C.InferCtxtLike.seen g.C.InferCtxtLike.resolved g.F.FnMut c.args.levels c.args.args c.args.normalize.now c.args.infcx.now c.args.walk.now c.requires.may;
       count_is = sym (count-members c0.trees c.args-count.result.now ensures.fits) ∙ ap count ensures.tree;
     }
 
@@ -127,7 +127,7 @@ visit_args-visit_ty-requires g t c κs within =
     let below = index-below (g.C.Build.context c.args.infcx.now) (g.C.Build.context c.loop-i.infcx) c.args.args c.args-in-loop-i.result.now c.loop-i.i _
     here.visited.grows c.requires.args ensures.fits ensures.tree here.count_is c.loop-i-test.true in
     let sort = (type-at (g.C.Build.context c.loop-i.infcx).trees c.args-in-loop-i.result.now c.loop-i.i _ c.in-Ty.ty ensures.fits below c.in-Ty.is).0 in
-    let may = may-visit-next g.C.Build.context g.C.InferCtxtLike.resolved g.F.FnMut c.args.levels c.args.args c.args.normalize.now c.args.infcx.now c.args.walk.now c.requires.may
+    let may = may-visit-next g.C.Build.context g.C.InferCtxtLike.seen g.C.InferCtxtLike.resolved g.F.FnMut c.args.levels c.args.args c.args.normalize.now c.args.infcx.now c.args.walk.now c.requires.may
     c.loop-i.i c.loop-i.normalize c.loop-i.infcx c.loop-i.walk here.visited in
     (omega arith, (within.0, (within.1.0, (within.1.1, (sort, may)))))
 
@@ -140,7 +140,7 @@ visit_args-loop-i-preserved g t c =
     elim c.match-arg.branch [
       | visit_args-in-Ty+in_ok-visit_ty w ↦ rw (w.infcx-is, w.normalize-is, w.walk-is)
           (record {
-            visited = one-visited g.C.Build.context g.C.InferCtxtLike.resolved g.F.FnMut c.args.levels c.args.args c.args.normalize.now c.args.infcx.now c.args.walk.now c.requires.may
+            visited = one-visited g.C.Build.context g.C.InferCtxtLike.seen g.C.InferCtxtLike.resolved g.F.FnMut c.args.levels c.args.args c.args.normalize.now c.args.infcx.now c.args.walk.now c.requires.may
                 c.loop-i.i c.loop-i.normalize c.loop-i.infcx c.loop-i.walk here.visited c.requires.args c.args-in-loop-i.result.now _ ensures.fits ensures.tree below
                 w.in-Ty.ty w.in-Ty.is w.visit_ty.new.normalize w.visit_ty.new.infcx w.visit_ty.new.walk
                 w.in_ok-visit_ty.ensures.visits w.in_ok-visit_ty.ensures.first w.in_ok-visit_ty.ensures.some;
@@ -148,7 +148,7 @@ visit_args-loop-i-preserved g t c =
           })
       | visit_args-in_default w ↦ rw (w.infcx-is, w.normalize-is, w.walk-is)
           (record {
-            visited = one-skipped g.C.Build.context g.C.InferCtxtLike.resolved g.F.FnMut c.args.levels c.args.args c.args.normalize.now c.args.infcx.now c.args.walk.now c.requires.may
+            visited = one-skipped g.C.Build.context g.C.InferCtxtLike.seen g.C.InferCtxtLike.resolved g.F.FnMut c.args.levels c.args.args c.args.normalize.now c.args.infcx.now c.args.walk.now c.requires.may
                 c.loop-i.i c.loop-i.normalize c.loop-i.infcx c.loop-i.walk here.visited c.requires.args c.args-in-loop-i.result.now _ ensures.fits ensures.tree below w.in_default.not-Ty;
             count_is = here.count_is;
           })
@@ -161,7 +161,7 @@ visit_args-returns-in_err-visit_ty g t c =
     let below = index-below (g.C.Build.context c.args.infcx.now) (g.C.Build.context c.loop-i.infcx) c.args.args c.args-in-loop-i.result.now c.loop-i.i _
     here.visited.grows c.requires.args ensures.fits ensures.tree here.count_is c.loop-i-test.true in
     let p = err_from_is_err_and c.from_residual.result c.from_residual.ensures.1 in
-    one-breaks g.C.Build.context g.C.InferCtxtLike.resolved g.F.FnMut c.args.levels c.args.args c.args.normalize.now c.args.infcx.now c.args.walk.now c.requires.may
+    one-breaks g.C.Build.context g.C.InferCtxtLike.seen g.C.InferCtxtLike.resolved g.F.FnMut c.args.levels c.args.args c.args.normalize.now c.args.infcx.now c.args.walk.now c.requires.may
     c.loop-i.i c.loop-i.normalize c.loop-i.infcx c.loop-i.walk here.visited c.requires.args c.args-in-loop-i.result.now _ ensures.fits ensures.tree below
     c.in-Ty.ty c.in-Ty.is c.visit_ty.new.normalize c.visit_ty.new.infcx c.visit_ty.new.walk _ p.0 c.from_residual.result p.1 p.2 c.in_err-visit_ty.ensures.visits
 
@@ -169,5 +169,5 @@ pub visit_args-returns : goal.visit_args-returns
 visit_args-returns g t c =
     let all = args_forest (g.C.Build.context c.args.infcx.now).trees c.args.args in
     let end : c.loop-i.i ≡ count all = omega (arith, c.loop-i.invariant.count_is) in
-    visits-all g.C.Build.context g.C.InferCtxtLike.resolved g.F.FnMut c.args.levels c.args.args c.args.normalize.now c.args.infcx.now c.args.walk.now c.requires.may
+    visits-all g.C.Build.context g.C.InferCtxtLike.seen g.C.InferCtxtLike.resolved g.F.FnMut c.args.levels c.args.args c.args.normalize.now c.args.infcx.now c.args.walk.now c.requires.may
     c.loop-i.i c.loop-i.normalize c.loop-i.infcx c.loop-i.walk c.loop-i.invariant.visited (skip-all all c.loop-i.i end)

@@ -12,6 +12,6 @@ decreases-visit_args g l = 2 * l.levels + 1
 
 abbrev pub invariant-visit_args-loop-i : goal.invariant-visit_args-loop-i
 invariant-visit_args-loop-i g l = record {
-  visited : AreVisited g.C.Build.context g.C.InferCtxtLike.resolved g.F.FnMut l.levels l.args l.fn.normalize l.fn.infcx l.fn.walk l.i l.normalize l.infcx l.walk;
+  visited : AreVisited g.C.Build.context g.C.InferCtxtLike.seen g.C.InferCtxtLike.resolved g.F.FnMut l.levels l.args l.fn.normalize l.fn.infcx l.fn.walk l.i l.normalize l.infcx l.walk;
   count_is : l.count ≡ count (args_forest (g.C.Build.context l.fn.infcx).trees l.args);
 }

@@ -11,7 +11,7 @@ returns-clause-sort g c =
     (call-keeps g.C.Build.context g.F.FnMut _ _ c.args.ty _ _ _ c.requires.normaliser.keeps c.requires.ty (omega arith) c.normalize.ensures).1
 
 pub returns-clause-answer : goal.returns-clause-answer
-returns-clause-answer g c = call-shows g.C.Build.context g.F.FnMut _ _ c.args.ty _ _ _ c.requires.ty (omega arith) c.normalize.ensures g.C.InferCtxtLike.resolved
+returns-clause-answer g c = call-shows g.C.Build.context g.F.FnMut _ _ c.args.ty _ _ _ c.requires.ty (omega arith) c.normalize.ensures g.C.InferCtxtLike.seen g.C.InferCtxtLike.resolved
 
 pub returns-clause-call : goal.returns-clause-call
 returns-clause-call g c = normalizes g.C.Build.context g.F.FnMut _ _ c.args.ty _ _ _ c.normalize.ensures

@@ -21,7 +21,7 @@ returns-clause-no_foreign_header c = λ p m ok.
 pub returns-clause-answer : goal.returns-clause-answer
 returns-clause-answer c = λ ne.
     let cx = c.args.self.now.scope.maker in
-    let e = c.orphan_check_trait_ref.ensures.answer (exactly refused_growth refl plain)
+    let e = c.orphan_check_trait_ref.ensures.answer (exactly (λ x. x) refused_growth refl plain)
     (record { at = λ f x t a f' x' q g i b n v. let k = n.called in let l = n.lends in let m = n.leaves in search rules; values = λ f x t q g. refl }) (told-unless-refused _ ne) in
     sym (ap bare_answer e.answer)
     ∙ plain_answer _ (world cx) cx.local.0 c.args.in_crate 256 (λ s t. t) _ (args_forest cx.trees c.args.trait_ref.args) (all-resolved _)

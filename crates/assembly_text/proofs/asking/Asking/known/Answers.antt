@@ -37,7 +37,7 @@ returns-clause-no_covered_header c = λ na ok o.
 pub returns-clause-answer : goal.returns-clause-answer
 returns-clause-answer c = λ ne.
     let cx = c.args.self.now.scope.maker in
-    let e = c.trait_ref_is_knowable.ensures.answer (exactly refused_growth refl plain)
+    let e = c.trait_ref_is_knowable.ensures.answer (exactly (λ x. x) refused_growth refl plain)
     (record { at = λ f x t a f' x' q g i b n v. let k = n.called in let l = n.lends in let m = n.leaves in search rules; values = λ f x t q g. refl }) (told-unless-refused _ ne) in
     sym (ap bare_knowledge e.answer)
     ∙ plain_knowledge _ (world cx) cx.local.0 256 (λ s t. t) _ (reference_of cx.trees c.args.trait_ref) (all-resolved _)
