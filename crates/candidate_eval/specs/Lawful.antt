@@ -32,7 +32,7 @@ HasNoParameter S L = OfValues S L (λ n i t. holds is_param (alone t) ≡ false)
 -- Two sides of which the laws on equations speak.
 pub record AreSides (S : State) (L : Live) (a b : Forest) : Type 0 where
   pub sound : IsSound S L
-  pub fits : ValuesFit S
+  pub fits : ValuesFit S L
   pub left : AreTreesOf S L a
   pub right : AreTreesOf S L b
   pub left_has_no_alias : HasNoAlias S a
@@ -84,7 +84,7 @@ pub record NormalFormLaws (J : Judge) : Type 0 where
       → J.normalized S e t ≡ Some (t, S)
   -- Normalising leaves what is pending as it is, and the state follows.
   pub normalizing_keeps_pending : (S T : State) (e : Env) (t u : Tree) → J.normalized S e t ≡ Some (u, T) → T.pending ≡ S.pending
-  pub normalizing_follows : (S T : State) (L : Live) (e : Env) (t u : Tree) → IsSound S L → ValuesFit S → AreTreesOf S L e → AreTreesOf S L (alone t)
+  pub normalizing_follows : (S T : State) (L : Live) (e : Env) (t u : Tree) → IsSound S L → ValuesFit S L → AreTreesOf S L e → AreTreesOf S L (alone t)
       → J.normalized S e t ≡ Some (u, T) → IsNormalForm S T L e t u
 
 pub record EquationLaws (J : Judge) : Type 0 where
@@ -99,7 +99,7 @@ pub record EquationLaws (J : Judge) : Type 0 where
   pub equating_keeps_variables : (S T : State) (e : Env) (a b : Forest) (gs : List Pending) → J.equated S e a b ≡ Some (gs, T) → length S.variables ≤ length T.variables
   -- Equating leaves what is pending as it is; the goals that the equation leaves are goals of the state, which follows.
   pub equating_keeps_pending : (S T : State) (e : Env) (a b : Forest) (gs : List Pending) → J.equated S e a b ≡ Some (gs, T) → T.pending ≡ S.pending
-  pub equating_follows : (S T : State) (L : Live) (e : Env) (a b : Forest) (gs : List Pending) → IsSound S L → ValuesFit S → AreTreesOf S L e → AreTreesOf S L a → AreTreesOf S L b
+  pub equating_follows : (S T : State) (L : Live) (e : Env) (a b : Forest) (gs : List Pending) → IsSound S L → ValuesFit S L → AreTreesOf S L e → AreTreesOf S L a → AreTreesOf S L b
       → J.equated S e a b ≡ Some (gs, T) → LeavesGoals S T L gs
 
 pub record ResponseLaws (J : Judge) : Type 0 where
@@ -107,17 +107,17 @@ pub record ResponseLaws (J : Judge) : Type 0 where
   pub empty_is_answered : (S : State) (c : Certainty) → S.pending ≡ [] → IsAnswered J S c
   -- Yes is answered only where Yes was asked, and where all that was pending is granted.
   pub yes_was_asked : (S : State) (c : Certainty) (r : Response) → J.responded S c ≡ Some r → r.certainty ≡ Yes → c ≡ Yes
-  pub yes_is_granted : (S : State) (L : Live) (c : Certainty) (r : Response) → IsSound S L → ValuesFit S → GoalsAreOf S L S.pending
+  pub yes_is_granted : (S : State) (L : Live) (c : Certainty) (r : Response) → IsSound S L → ValuesFit S L → GoalsAreOf S L S.pending
       → J.responded S c ≡ Some r → r.certainty ≡ Yes → AnswersYes J S L r
 
 pub record GrantedLaws (J : Judge) : Type 0 where
   -- What settling leaves pending are goals of the state that it leaves, which follows.
-  pub settling_follows : (S T : State) (L : Live) (c : Certainty) → IsSound S L → ValuesFit S → GoalsAreOf S L S.pending → J.settled S ≡ Some (c, T) → LeavesGoals S T L T.pending
+  pub settling_follows : (S T : State) (L : Live) (c : Certainty) → IsSound S L → ValuesFit S L → GoalsAreOf S L S.pending → J.settled S ≡ Some (c, T) → LeavesGoals S T L T.pending
   -- What settling drops or replaces is granted at every state that follows and grants what settling leaves.
-  pub settling_drops_granted : (S T U : State) (L : Live) (c : Certainty) → IsSound S L → ValuesFit S → GoalsAreOf S L S.pending → J.settled S ≡ Some (c, T)
+  pub settling_drops_granted : (S T U : State) (L : Live) (c : Certainty) → IsSound S L → ValuesFit S L → GoalsAreOf S L S.pending → J.settled S ≡ Some (c, T)
       → (f : Follows S T L) → GoalsAreOf T f.live T.pending → Follows T U f.live → AreGranted J U T.pending → AreGranted J U S.pending
   -- What is granted stays so at every state that follows.
-  pub granted_stays : (S T : State) (L : Live) (g : Goal) → IsSound S L → ValuesFit S → GoalIsOf S L g → Follows S T L → J.granted S g → J.granted T g
+  pub granted_stays : (S T : State) (L : Live) (g : Goal) → IsSound S L → ValuesFit S L → GoalIsOf S L g → Follows S T L → J.granted S g → J.granted T g
 
 -- All laws.
 pub record Lawful (J : Judge) : Type 0 where

@@ -114,8 +114,9 @@ pub record FitsVariable (o : Option VariableInfo) : Type 0 where
   pub kind : (i : VariableInfo) (t : Tree) → o ≡ Some i → i.value ≡ Some t → fits_kind i.kind t.head ≡ true
   pub is_closed : (i : VariableInfo) (t : Tree) → o ≡ Some i → i.value ≡ Some t → escapes 0 (alone t) ≡ false
 
-abbrev pub ValuesFit : State → Type 0
-ValuesFit S = (n : ℕ) → FitsVariable (info S n)
+-- the values of what counts do
+abbrev pub ValuesFit : State → Live → Type 0
+ValuesFit S L = (n : ℕ) → L n ≡ true → FitsVariable (info S n)
 
 -- The variable is there still, of its kind, and a root if it was one.
 pub record Stays (i : VariableInfo) (o : Option VariableInfo) : Type 0 where
@@ -133,19 +134,20 @@ pub record IsLater (S T : State) (L : Live) : Type 0 where
   pub no_root : (n : ℕ) (j : VariableInfo) → info S n ≡ None → info T n ≡ Some j → j.is_root ≡ false
   -- a variable's universe may fall, since binding lowers it
   pub universes : (n : ℕ) → n < length S.variables → universe_in (info T n) ≤ universe_in (info S n)
-  -- values fit their variables, if they did before
-  pub fits : ValuesFit S → ValuesFit T
+  -- where a variable's value fitted before, or it had none, its value fits
+  pub fits : (n : ℕ) → FitsVariable (info S n) → FitsVariable (info T n)
   -- of what counts, the values are those of the earlier state, or more
   pub values : (ts : Forest) → holds (is_strange S L) ts ≡ false → resolved T (resolved S ts) ≡ resolved T ts
   -- the newest universe doesn't fall
   pub newest : S.newest_universe ≤ T.newest_universe
   pub mode : T.mode ≡ S.mode
 
--- A state that comes after another and is sound. What counted there counts, and maybe more.
+-- A state that comes after another and is sound, and whose values fit. What counted there counts, and maybe more.
 pub record Follows (S T : State) (L : Live) : Type 0 where
   pub live : Live
   pub within : Within S L live
   pub sound : IsSound T live
+  pub fits : ValuesFit T live
   pub later : IsLater S T L
 
 -- A goal of what counts.

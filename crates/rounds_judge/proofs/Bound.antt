@@ -19,7 +19,7 @@ use Rattle.candidate_eval.specs.declared.eval.variable.VariableKind.{VariableKin
 use Rattle.candidate_eval.specs.declared.eval.variable.VariableKind.TheVariants.{Term, Region}
 use Rattle.candidate_eval.specs.States.{State, VariableInfo, value_in, value_of, value_as, value_at, valued, valued_tree, resolved, is_some, has_kind, same_kind}
 use Rattle.candidate_eval.specs.Alike.{info}
-use Rattle.candidate_eval.specs.Soundness.{Live, OfValues, IsSound, ValuesFit, IsResolved, IsLater, universes, universe_in, is_variable_above, has_value, is_strange, is_region, fits_kind}
+use Rattle.candidate_eval.specs.Soundness.{Live, OfValues, IsSound, FitsVariable, IsResolved, IsLater, universes, universe_in, is_variable_above, has_value, is_strange, is_region, fits_kind}
 use Rattle.rounds_judge.specs.Binding.{occurs, single, info_after, numbered, bound}
 use Rattle.rounds_judge.proofs.Marks.{whole, holds_erased, holds_to, fold_marked, fold_closed, valued_twice}
 use Rattle.rounds_judge.proofs.Later.{has_info, kind_there, no_value, value_as_is, value_as_of, resolved_known, idle}
@@ -437,8 +437,8 @@ module _ (S : State) (L : Live) (v : Variable) (t : Tree) (can : CanTake S L v t
       low l = holds_to (higher T (universe_in (info S v.number))) (higher T (universe_in (info S v.number))) (higher T k) (λ h a b. higher_on T (universe_in (info S v.number)) k l h a) (alone t) value_not_higher value_not_higher
 
   -- values fit, whether they count or not
-  pub bound_fits : ValuesFit S → ValuesFit T
-  bound_fits fit m = record { kind = λ i x e f. (both i x e f).0; is_closed = λ i x e f. (both i x e f).1 }
+  pub bound_fits : (m : ℕ) → FitsVariable (info S m) → FitsVariable (info T m)
+  bound_fits m fit = record { kind = λ i x e f. (both i x e f).0; is_closed = λ i x e f. (both i x e f).1 }
     where
       by : (old : VariableInfo) (x : Tree) → info S m ≡ Some old → ValueAfter S v t m old x → (fits_kind old.kind x.head ≡ true) × (escapes 0 (alone x) ≡ false)
       by old x e (own n is) = subst (λ x. (fits_kind old.kind x.head ≡ true) × (escapes 0 (alone x) ≡ false)) is (own_fits old.kind (ap (has_kind (Term v.sort)) (sym (sym (ap (info S) n) ∙ e)) ∙ own_kind), can.is_closed)
@@ -447,8 +447,8 @@ module _ (S : State) (L : Live) (v : Variable) (t : Tree) (can : CanTake S L v t
           own_fits (Term s) g = subst (λ s. fits_sort s t.head ≡ true) (sym (same_sort_is s v.sort g)) can.fits
           own_fits Region g = cc
       by old x e (put y n f is) = subst (λ x. (fits_kind old.kind x.head ≡ true) × (escapes 0 (alone x) ≡ false)) is (
-        put_kind old.kind v t y can.fits ((fit m).kind old y e f),
-        put_closed v t y can.is_closed ((fit m).is_closed old y e f),
+        put_kind old.kind v t y can.fits (fit.kind old y e f),
+        put_closed v t y can.is_closed (fit.is_closed old y e f),
       )
 
       both : (i : VariableInfo) (x : Tree) → info T m ≡ Some i → i.value ≡ Some x → (fits_kind i.kind x.head ≡ true) × (escapes 0 (alone x) ≡ false)

@@ -158,7 +158,7 @@ below_same s h a b l k e = at (erased_head h) (made s a) (made s b) e
     at : (h : Head) (a b : Forest) → tree h a none ≡ tree h b none → a ≡ b
     at h a b e = cc
 
-module _ (l : Listing) (listing : IsListing l) (S : State) (L : Live) (us : Scope) (sound : IsSound S L) (fits : ValuesFit S) (leafy : HasLeafValues S L) (s : Substitution) (m : IsMet S L s)
+module _ (l : Listing) (listing : IsListing l) (S : State) (L : Live) (us : Scope) (sound : IsSound S L) (fits : ValuesFit S L) (leafy : HasLeafValues S L) (s : Substitution) (m : IsMet S L s)
     (p q : Tree) (left : Side S L us (alone p)) (right : Side S L us (alone q)) (e : made s (alone p) ≡ made s (alone q)) where
   absorbs : Absorbs (assigned s) S L
   absorbs = met_absorbs S L s fits leafy m

@@ -1,4 +1,5 @@
 -- Where what is left after a look becomes equal, all that was there before it becomes equal.
+use Rattle.candidate_eval.specs.Alike.{info}
 use Rattle.std.proofs.Common.{◌≡◌, ℕ, zero, suc, true, false, Option, Some, None, List, [], ◌∷◌, refl, sym, ap, subst, ◌∙◌}
 use Rattle.std.specs.Option.{unwrap_or}
 use Rattle.std.specs.List.{All}
@@ -22,7 +23,7 @@ use Rattle.rounds_judge.specs.Binding.{bound}
 use Rattle.rounds_judge.specs.Equating.{Pair, Visit, Done, Refused, Left, value_for, met, visited, looked}
 use Rattle.rounds_judge.specs.Standing.{IsListing, Stands, ArePlain}
 use Rattle.rounds_judge.proofs.Marks.{whole}
-use Rattle.rounds_judge.proofs.Later.{known_later}
+use Rattle.rounds_judge.proofs.Later.{known_later, has_info, fits_later}
 use Rattle.rounds_judge.proofs.Bound.{strange_bound, value_given}
 use Rattle.rounds_judge.proofs.Putting.{node, put_in, valued_is, erased_row, erased_node}
 use Rattle.rounds_judge.proofs.Meeting.{Met, by_left, by_right, regions, below, stuck, meeting}
@@ -58,13 +59,13 @@ bare_region t is l = at t.head t.children is (l.0 (leaf_region t.head is))
     at (H.Region r) c e f = ap (λ c. erase (tree (H.Region r) c none)) f
     at _ c e f = cc
 
-ended_region : (U : State) (L : Live) → ValuesFit U → HasLeafValues U L → (x : Tree) → is_region x.head ≡ true → holds (is_strange U L) (alone x) ≡ false → AreLeaves (alone x)
+ended_region : (U : State) (L : Live) → ValuesFit U L → HasLeafValues U L → (x : Tree) → is_region x.head ≡ true → holds (is_strange U L) (alone x) ≡ false → AreLeaves (alone x)
     → ended U (alone x) ≡ tree (H.Region R.Static) none none
 ended_region U L fits leafy x is k l = at x.head x.children is (holds_parts (is_strange U L) x.head x.children none k).here (l.0 (leaf_region x.head is))
   where
     by : (n : ℕ) (o : Option Tree) → is_strange U L (H.Region (R.Var n)) ≡ false → value_as U Region n ≡ o → erase (alone (unwrap_or o (leaf (H.Region (R.Var n))))) ≡ tree (H.Region R.Static) none none
     by n None k e = refl
-    by n (Some t) k e = bare_region t (value_fits U fits Region n t e) (value_leaves U L leafy (H.Region (R.Var n)) t k e)
+    by n (Some t) k e = bare_region t (value_fits U L fits Region n t (has_info (L n) Region (info U n) k).2 e) (value_leaves U L leafy (H.Region (R.Var n)) t k e)
 
     kinds : (r : RegionKind) → is_strange U L (H.Region r) ≡ false → ended U (tree (H.Region r) none none) ≡ tree (H.Region R.Static) none none
     kinds (R.Var n) k = by n (value_as U Region n) k refl
@@ -133,7 +134,7 @@ module _ (l : Listing) (listing : IsListing l) (L : Live) (S : State) (us : Scop
 
   both_regions : is_region x.head ≡ true → is_region y.head ≡ true → ended U (alone x) ≡ ended U (alone y)
   both_regions i j =
-      let fits = later.fits st.fits in
+      let fits = fits_later later st.fits in
       ended_region U L fits leafy x i (known_later S U L L (λ n lt c. c) later (alone x) root_x.side.known) root_x.side.leaves
       ∙ sym (ended_region U L fits leafy y j (known_later S U L L (λ n lt c. c) later (alone y) root_y.side.known) root_y.side.leaves)
 

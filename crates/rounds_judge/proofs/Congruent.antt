@@ -117,12 +117,12 @@ resolved_stray S L sound ts e =
 abbrev pub terms_of : State → Instance
 terms_of S v = value_at S (H.Infer v)
 
-module _ (l : Listing) (T : State) (M : Live) (fits : ValuesFit T) where
+module _ (l : Listing) (T : State) (M : Live) (fits : ValuesFit T M) where
   pub region_value : (n : ℕ) (t : Tree) → is_strange T M (H.Region (R.Var n)) ≡ false → value_of T n ≡ Some t → is_region t.head ≡ true
   region_value n t e v =
       let i = has_info (M n) Region (info T n) e in
       let kind = kind_there (M n) Region (info T n) e in
-      fitting i.0 (ap (has_kind Region) (sym i.1) ∙ kind) ((fits n).kind i.0 t i.1 (sym (ap value_in i.1) ∙ v))
+      fitting i.0 (ap (has_kind Region) (sym i.1) ∙ kind) ((fits n i.2).kind i.0 t i.1 (sym (ap value_in i.1) ∙ v))
     where
       region_kind : (k : VariableKind) (h : Head) → same_kind k Region ≡ true → fits_kind k h ≡ true → is_region h ≡ true
       region_kind Region h e f = f

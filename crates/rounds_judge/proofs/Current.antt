@@ -147,12 +147,12 @@ module _ (l : Listing) (listing : IsListing l) (S : State) (L : Live) (sound : I
           let r = value_resolved S L sound t.head x (holds_parts (is_strange S L) t.head t.children none k).here (root_at S t.head x e) in
           root_free S x.head (holds_parts (has_value S) x.head x.children none r).here
 
-  root_closed : ValuesFit S → (n : ℕ) (t : Tree) → escapes n (alone t) ≡ false → escapes n (alone (resolved_root S t)) ≡ false
-  root_closed fits n t e = at (root_value S t.head) refl
+  root_closed : ValuesFit S L → (n : ℕ) (t : Tree) → holds (is_strange S L) (alone t) ≡ false → escapes n (alone t) ≡ false → escapes n (alone (resolved_root S t)) ≡ false
+  root_closed fits n t k e = at (root_value S t.head) refl
     where
       at : (o : Option Tree) → root_value S t.head ≡ o → escapes n (alone (unwrap_or o t)) ≡ false
       at None f = e
-      at (Some x) f = escapes_on 0 n (alone x) (omega arith) (value_closed S fits t.head x (root_at S t.head x f))
+      at (Some x) f = escapes_on 0 n (alone x) (omega arith) (value_closed S L fits t.head x (holds_parts (is_strange S L) t.head t.children none k).here (root_at S t.head x f))
 
   pub current_known : (t : Tree) → holds (is_strange S L) (alone t) ≡ false → holds (is_strange S L) (alone (current l S t)) ≡ false
   current_known t k = at (current l S t) (which_listed l S (resolved_root S t))
@@ -169,12 +169,12 @@ module _ (l : Listing) (listing : IsListing l) (S : State) (L : Live) (sound : I
       at _ (is_type u a e) = root_free S u.head (holds_parts (has_value S) u.head u.children none (listed_resolved l listing (resolved_tree S (resolved_root S t)) u e S)).here
       at _ itself = root_rests t k
 
-  pub current_closed : ValuesFit S → (n : ℕ) (t : Tree) → escapes n (alone t) ≡ false → escapes n (alone (current l S t)) ≡ false
-  current_closed fits n t k = at (current l S t) (which_listed l S (resolved_root S t))
+  pub current_closed : ValuesFit S L → (n : ℕ) (t : Tree) → holds (is_strange S L) (alone t) ≡ false → escapes n (alone t) ≡ false → escapes n (alone (current l S t)) ≡ false
+  current_closed fits n t known k = at (current l S t) (which_listed l S (resolved_root S t))
     where
       at : (x : Tree) → WhichListed l S (resolved_root S t) x → escapes n (alone x) ≡ false
       at _ (is_type u a e) = escapes_on 0 n (alone u) (omega arith) (listed_fixed l listing (resolved_tree S (resolved_root S t)) u e).is_closed
-      at _ itself = root_closed fits n t k
+      at _ itself = root_closed fits n t known k
 
   -- The value
 

@@ -1,4 +1,5 @@
 -- What settling drops or replaces is granted at every later state that grants what settling leaves.
+use Rattle.std.proofs.Math.Nat.{le_trans}
 use Rattle.std.proofs.Common.{◌≡◌, ℕ, zero, suc, Bool, true, false, not, ◌&&◌, List, [], ◌∷◌, ◌++◌, Option, Some, None, length, nat_lt, arith, refl, sym, ap, subst, if◌then◌else◌}
 use Rattle.std.specs.List.{All}
 use Rattle.std.proofs.lemmas.Bool.{and_parts, ltb-true, lt-ltb, lt-leb, ltb-false}
@@ -29,7 +30,7 @@ use Rattle.rounds_judge.specs.Equating.{equated, count_unbound}
 use Rattle.rounds_judge.specs.Congruence.{SameTree, along}
 use Rattle.rounds_judge.specs.Settling.{term_of, alias_of, instance_of, Outcome, projected, tried_as, tried, before, tried_all, with_staying, pass, passes, settled}
 use Rattle.rounds_judge.specs.Granted.{FactsGranted, IsFreshFor, IsGranted}
-use Rattle.rounds_judge.proofs.Later.{later_along, later_itself, strange_stays, has_info, kind_there, counted}
+use Rattle.rounds_judge.proofs.Later.{later_along, later_itself, strange_stays, has_info, kind_there, counted, fits_later, fits_fewer}
 use Rattle.rounds_judge.proofs.Current.{listed_fixed, listed_known}
 use Rattle.rounds_judge.proofs.EquatingLaws.{no_goals}
 use Rattle.rounds_judge.proofs.Opening.{opens, closed_stays}
@@ -57,12 +58,12 @@ module _ (S : State) (L : Live) (sound : IsSound S L) where
 
 -- One goal
 
-module _ (l : Listing) (listing : IsListing l) (U : State) (L : Live) (fits_last : ValuesFit U) where
+module _ (l : Listing) (listing : IsListing l) (U : State) (L : Live) (fits_last : ValuesFit U L) where
   abbrev Granted : Pending → Type 0
   Granted p = IsGranted l U p.goal
 
   -- The facts of a goal that was tried are granted: it was done, or it stays, and then it is granted.
-  module _ (S : State) (sound : IsSound S L) (fits : ValuesFit S) (p : Pending) (ts : Forest) (of : AreTreesOf S L ts) where
+  module _ (S : State) (sound : IsSound S L) (fits : ValuesFit S L) (p : Pending) (ts : Forest) (of : AreTreesOf S L ts) where
     projecting : (i : AssocId) (o : Option Tree) → listed l (resolved_tree S (alias_of i ts)) ≡ o → (q : List Pending × State) → projected l S p (term_of ts) o ≡ Some q → IsLater q.1 U L → IsLater S U L
         → (Granted p → SameTree l (alias_of i (resolved U ts)) (term_of (resolved U ts))) → All Granted q.0 → SameTree l (alias_of i (resolved U ts)) (term_of (resolved U ts))
     projecting i None f q e after later keep granted = keep (same_outcome (λ q. All Granted q.0 → Granted p) (p ∷ [], S) q e (λ a. All-head Granted p [] a) granted)
@@ -93,7 +94,7 @@ module _ (l : Listing) (listing : IsListing l) (U : State) (L : Live) (fits_last
   facts_granted g e a = subst (λ ks. FactsGranted l g.clause.head (resolved U (opens a.universe ks 0 (after_first g.clause.children)))) e a.facts
 
   -- What was tried is granted.
-  tried_granted : (S : State) → IsSound S L → ValuesFit S → (p : Pending) → GoalIsOf S L p.goal → (q : List Pending × State) → tried l S p ≡ Some q → IsLater S q.1 L → IsLater q.1 U L → All Granted q.0 → Granted p
+  tried_granted : (S : State) → IsSound S L → ValuesFit S L → (p : Pending) → GoalIsOf S L p.goal → (q : List Pending × State) → tried l S p ≡ Some q → IsLater S q.1 L → IsLater q.1 U L → All Granted q.0 → Granted p
   tried_granted S sound fits p of q e first after granted = at (bound_kinds p.goal.clause.children) refl e
     where
       later : IsLater S U L
@@ -112,7 +113,7 @@ module _ (l : Listing) (listing : IsListing l) (U : State) (L : Live) (fits_last
           let lead = lead_universe S L sound in
           let there = goal_later S R L lead.later p.goal of in
           let facts = facts_of R L n (x ∷ ks) p.goal.clause (omega arith) there.clause in
-          let fits_there = lead.later.fits fits in
+          let fits_there = fits_later lead.later fits in
           let left = instance_leaves l listing L R lead.sound fits_there here (instance_is_of R L p (x ∷ ks) ts there facts) ts facts p.goal.clause.head q e in
           let known = goal_known S L p.goal of in
           let fresh = newest_fresh S L sound (x ∷ ks) (join p.goal.env (after_first p.goal.clause.children)) known in
@@ -126,19 +127,19 @@ module _ (l : Listing) (listing : IsListing l) (U : State) (L : Live) (fits_last
   split [] qs a = (All-nil Granted, a)
   split (p ∷ ps) qs a = let s = split ps qs (All-tail Granted p (ps ++ qs) a) in (All-cons Granted p ps (All-head Granted p (ps ++ qs) a) s.0, s.1)
 
-  all_granted : (S : State) → IsSound S L → ValuesFit S → (ps : List Pending) → GoalsAreOf S L ps → (q : List Pending × State) → tried_all l S ps ≡ Some q → IsLater q.1 U L → All Granted q.0 → All Granted ps
+  all_granted : (S : State) → IsSound S L → ValuesFit S L → (ps : List Pending) → GoalsAreOf S L ps → (q : List Pending × State) → tried_all l S ps ≡ Some q → IsLater q.1 U L → All Granted q.0 → All Granted ps
   all_granted S sound fits [] of q e after granted = All-nil Granted
   all_granted S sound fits (p ∷ ps) of q e after granted =
       at (tried l S p) refl (λ R sound fits of r e after granted. all_granted R sound fits ps of r e after granted) e
     where
       rest : (r : List Pending × State) → tried l S p ≡ Some r → (o : Outcome) → tried_all l r.1 ps ≡ o
-          → ((R : State) → IsSound R L → ValuesFit R → GoalsAreOf R L ps → (s : List Pending × State) → tried_all l R ps ≡ Some s → IsLater s.1 U L → All Granted s.0 → All Granted ps)
+          → ((R : State) → IsSound R L → ValuesFit R L → GoalsAreOf R L ps → (s : List Pending × State) → tried_all l R ps ≡ Some s → IsLater s.1 U L → All Granted s.0 → All Granted ps)
           → before r.0 o ≡ Some q → All Granted (p ∷ ps)
       rest r f None g ih e = cc
       rest r f (Some s) g ih e =
           let is : (r.0 ++ s.0, s.1) ≡ q = cc in
           let left = tried_leaves l listing L S sound fits p (All-head (λ (p : Pending). GoalIsOf S L p.goal) p ps of) r f in
-          let fits_there = left.leads.later.fits fits in
+          let fits_there = fits_later left.leads.later fits in
           let goals = goals_later S r.1 L left.leads.later ps (All-tail (λ (p : Pending). GoalIsOf S L p.goal) p ps of) in
           let more = all_tried_leave l listing L r.1 left.leads.sound fits_there ps goals s g in
           let after_more : IsLater s.1 U L = subst (λ (q : List Pending × State). IsLater q.1 U L) (sym is) after in
@@ -149,14 +150,14 @@ module _ (l : Listing) (listing : IsListing l) (U : State) (L : Live) (fits_last
           (ih r.1 left.leads.sound fits_there goals s g after_more both.1)
 
       at : (o : Outcome) → tried l S p ≡ o
-          → ((R : State) → IsSound R L → ValuesFit R → GoalsAreOf R L ps → (s : List Pending × State) → tried_all l R ps ≡ Some s → IsLater s.1 U L → All Granted s.0 → All Granted ps)
+          → ((R : State) → IsSound R L → ValuesFit R L → GoalsAreOf R L ps → (s : List Pending × State) → tried_all l R ps ≡ Some s → IsLater s.1 U L → All Granted s.0 → All Granted ps)
           → next o (λ r. before r.0 (tried_all l r.1 ps)) ≡ Some q → All Granted (p ∷ ps)
       at None f ih e = cc
       at (Some r) f ih e = rest r f (tried_all l r.1 ps) refl ih e
 
   -- Passes
 
-  pass_granted : (S T : State) → IsSound S L → ValuesFit S → GoalsAreOf S L S.pending → pass l S ≡ Some T → IsLater T U L → All Granted T.pending → All Granted S.pending
+  pass_granted : (S T : State) → IsSound S L → ValuesFit S L → GoalsAreOf S L S.pending → pass l S ≡ Some T → IsLater T U L → All Granted T.pending → All Granted S.pending
   pass_granted S T sound fits of e after granted = at (tried_all l S S.pending) refl e
     where
       at : (o : Outcome) → tried_all l S S.pending ≡ o → next o (λ q. Some (with_staying q)) ≡ Some T → All Granted S.pending
@@ -168,23 +169,23 @@ module _ (l : Listing) (listing : IsListing l) (U : State) (L : Live) (fits_last
           all_granted S sound fits S.pending of q f (later_along q.1 (with_staying q) U L L left.leads.sound (λ n l c. c) lead.later (subst (λ T. IsLater T U L) (sym is) after))
           (subst (λ (T : State). All Granted T.pending) (sym is) granted)
 
-  pub passes_granted : (n : ℕ) (S T : State) → IsSound S L → ValuesFit S → GoalsAreOf S L S.pending → passes l n S ≡ Some T → IsLater T U L → All Granted T.pending → All Granted S.pending
+  pub passes_granted : (n : ℕ) (S T : State) → IsSound S L → ValuesFit S L → GoalsAreOf S L S.pending → passes l n S ≡ Some T → IsLater T U L → All Granted T.pending → All Granted S.pending
   passes_granted zero S T sound fits of e after granted = subst (λ (T : State). All Granted T.pending) (let is : T ≡ S = cc in is) granted
   passes_granted (suc n) S T sound fits of e after granted = at (pass l S) refl (λ R sound fits of e. passes_granted n R T sound fits of e after granted) e
     where
       goes : (R : State) → pass l S ≡ Some R → (b : Bool) → (passes l n R ≡ Some T → All Granted R.pending) → (if b then passes l n R else Some R) ≡ Some T → All Granted S.pending
       goes R f true ih e =
           let left = pass_leaves l listing L S R sound fits of f in
-          let more = passes_leave l listing L n R T left.leads.sound (left.leads.later.fits fits) left.goals e in
+          let more = passes_leave l listing L n R T left.leads.sound (fits_later left.leads.later fits) left.goals e in
           pass_granted S R sound fits of f (later_along R T U L L left.leads.sound (λ n l c. c) more.leads.later after) (ih e)
       goes R f false ih e = let is : T ≡ R = cc in pass_granted S R sound fits of f (subst (λ T. IsLater T U L) is after) (subst (λ (T : State). All Granted T.pending) is granted)
 
-      at : (o : Option State) → pass l S ≡ o → ((R : State) → IsSound R L → ValuesFit R → GoalsAreOf R L R.pending → passes l n R ≡ Some T → All Granted R.pending)
+      at : (o : Option State) → pass l S ≡ o → ((R : State) → IsSound R L → ValuesFit R L → GoalsAreOf R L R.pending → passes l n R ≡ Some T → All Granted R.pending)
           → next o (λ R. if nat_lt (count_unbound R.variables) (count_unbound S.variables) then passes l n R else Some R) ≡ Some T → All Granted S.pending
       at None f ih e = cc
       at (Some R) f ih e =
           let left = pass_leaves l listing L S R sound fits of f in
-          goes R f (nat_lt (count_unbound R.variables) (count_unbound S.variables)) (λ e. ih R left.leads.sound (left.leads.later.fits fits) left.goals e) e
+          goes R f (nat_lt (count_unbound R.variables) (count_unbound S.variables)) (λ e. ih R left.leads.sound (fits_later left.leads.later fits) left.goals e) e
 
 -- Only those that count of the variables that a state has
 
@@ -213,7 +214,7 @@ module _ (S : State) (L : Live) where
   pub known_there : (ts : Forest) → holds (is_strange S L) ts ≡ false → holds (is_strange S (there S L)) ts ≡ false
   known_there ts e = holds_imply (is_strange S L) (is_strange S (there S L)) strange_there ts e
 
-  counts : (n : ℕ) → there S L n ≡ true → L n ≡ true
+  pub counts : (n : ℕ) → there S L n ≡ true → L n ≡ true
   counts n e = (and_parts (nat_lt n (length S.variables)) (L n) e).1
 
   pub sound_there : IsSound S L → IsSound S (there S L)
@@ -230,6 +231,12 @@ module _ (S : State) (L : Live) where
       All-weaker (λ (p : Pending). GoalIsOf S L p.goal) (λ (p : Pending). GoalIsOf S (there S L) p.goal)
       (λ p g. record { env = record { known = known_there p.goal.env g.env.known; is_closed = g.env.is_closed }; clause = record { known = known_there (alone p.goal.clause) g.clause.known; is_closed = g.clause.is_closed } }) ps a
 
+-- the values of what counted before, at the last of three states
+pub fits_last : (S T U : State) (L : Live) (f : Follows S T L) → Follows T U f.live → ValuesFit U (there S L)
+fits_last S T U L f g n c =
+    let less = ltb-true n (length S.variables) (and_parts (nat_lt n (length S.variables)) (L n) c).0 in
+    g.fits n (g.within n (le_trans less f.later.longer) (f.within n less (counts S L n c)))
+
 pub later_fewer : (S T : State) (L M : Live) → IsSound S L → Within S L M → IsLater S T M → IsLater S T L
 later_fewer S T L M sound within a = record {
   longer = a.longer;
@@ -243,12 +250,13 @@ later_fewer S T L M sound within a = record {
 }
 
 -- What settling drops or replaces is granted at every state that follows and grants what settling leaves.
-pub settling_drops_granted : (l : Listing) → IsListing l → (S T U : State) (L : Live) (c : Certainty) → IsSound S L → ValuesFit S → GoalsAreOf S L S.pending → settled l S ≡ Some (c, T)
+pub settling_drops_granted : (l : Listing) → IsListing l → (S T U : State) (L : Live) (c : Certainty) → IsSound S L → ValuesFit S L → GoalsAreOf S L S.pending → settled l S ≡ Some (c, T)
     → (f : Follows S T L) → Follows T U f.live → All (λ (p : Pending). IsGranted l U p.goal) T.pending → All (λ (p : Pending). IsGranted l U p.goal) S.pending
 settling_drops_granted l listing S T U L c sound fits of e f g granted =
     let M : Live = there S L in
     let sound_few = sound_there S L sound in
+    let fits_few = fits_fewer S M L (counts S L) fits in
     let goals = goals_there S L S.pending of in
-    let left = passes_leave l listing M 8 S T sound_few fits goals (settled_is l S T c e) in
+    let left = passes_leave l listing M 8 S T sound_few fits_few goals (settled_is l S T c e) in
     let after : IsLater T U M = later_fewer T U M f.live left.leads.sound (there_within S L f.live f.within T) g.later in
-    passes_granted l listing U M (g.later.fits (f.later.fits fits)) 8 S T sound_few fits goals (settled_is l S T c e) after granted
+    passes_granted l listing U M (fits_last S T U L f g) 8 S T sound_few fits_few goals (settled_is l S T c e) after granted

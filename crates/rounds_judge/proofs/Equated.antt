@@ -69,7 +69,7 @@ pair_listed (p ∷ ps) t u e = at (same_tree p.0 t) refl (pair_listed ps t u) e
 
 -- At a later state
 
-module _ (l : Listing) (listing : IsListing l) (U : State) (L : Live) (fits : ValuesFit U) where
+module _ (l : Listing) (listing : IsListing l) (U : State) (L : Live) (fits : ValuesFit U L) where
   unmade_free : (h : Head) → is_made h ≡ false → value_at U h ≡ None
   unmade_free h e = no_value (value_at U h) (fixed_unvalued U h e)
 
@@ -284,7 +284,7 @@ module _ (l : Listing) (listing : IsListing l) (U : State) (L : Live) (fits : Va
           visited_equal S R ps rest st f (later_along S R U L L st.sound (λ n l c. c) k.later onwards) onwards (ih R rest k.stands e)
 
   -- After an accepted equation both sides are equal.
-  pub equated_equal : (S T : State) (a b : Forest) → IsSound S L → ValuesFit S → AreTreesOf S L a → AreTreesOf S L b → equated l S a b ≡ Some T → IsLater T U L → Same l (resolved U a) (resolved U b)
+  pub equated_equal : (S T : State) (a b : Forest) → IsSound S L → ValuesFit S L → AreTreesOf S L a → AreTreesOf S L b → equated l S a b ≡ Some T → IsLater T U L → Same l (resolved U a) (resolved U b)
   equated_equal S T a b sound fit left right e after =
       let ps : List Pair = record { scope = []; left = a; right = b } ∷ [] in
       All-head EqualAt (record { scope = []; left = a; right = b }) [] (looked_equal (looks l S ps) S T ps (start_stands S L a b sound fit left right) e after)

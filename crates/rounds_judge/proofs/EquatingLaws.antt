@@ -24,7 +24,7 @@ equating_keeps_pending l S T a b gs e = equated_pending l S T a b (no_goals (equ
 pub equating_keeps_variables : (l : Listing) (S T : State) (a b : Forest) (gs : List Pending) → without_goals (equated l S a b) ≡ Some (gs, T) → length S.variables ≤ length T.variables
 equating_keeps_variables l S T a b gs e = let same = equated_variables l S T a b (no_goals (equated l S a b) gs T e).is in omega (arith, same)
 
-pub equating_follows : (l : Listing) → IsListing l → (S T : State) (L : Live) (a b : Forest) (gs : List Pending) → IsSound S L → ValuesFit S → AreTreesOf S L a → AreTreesOf S L b
+pub equating_follows : (l : Listing) → IsListing l → (S T : State) (L : Live) (a b : Forest) (gs : List Pending) → IsSound S L → ValuesFit S L → AreTreesOf S L a → AreTreesOf S L b
     → without_goals (equated l S a b) ≡ Some (gs, T) → LeavesGoals S T L gs
 equating_follows l listing S T L a b gs sound fits left right e =
     let n = no_goals (equated l S a b) gs T e in

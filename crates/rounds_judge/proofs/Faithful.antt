@@ -13,28 +13,29 @@ use Rattle.rounds_judge.specs.Standing.{IsListing}
 use Rattle.rounds_judge.specs.Equating.{equated, without_goals}
 use Rattle.rounds_judge.specs.Congruence.{Same, SameTree, same, heads, regions, pair, back, along}
 use Rattle.rounds_judge.specs.Normalizing.{type_or_itself, normalized}
-use Rattle.rounds_judge.proofs.Later.{later_along}
+use Rattle.rounds_judge.proofs.Later.{later_along, fits_fewer}
 use Rattle.rounds_judge.proofs.EquatingLaws.{no_goals}
 use Rattle.rounds_judge.proofs.Congruent.{same_to}
 use Rattle.rounds_judge.proofs.Equated.{listed_same, equated_equal}
 use Rattle.rounds_judge.proofs.Settling.{lead_equated}
 use Rattle.rounds_judge.proofs.JudgeLaws.{WhichType, is_type, itself, which_type, is_normal}
-use Rattle.rounds_judge.proofs.Dropped.{there, there_within, known_there, sound_there, later_fewer}
+use Rattle.rounds_judge.proofs.Dropped.{there, there_within, known_there, sound_there, later_fewer, counts, fits_last}
 
 -- After an accepted equation both sides are equal at every state that follows.
-pub sides_equal : (l : Listing) → IsListing l → (S R U : State) (L : Live) (a b : Forest) (gs : List Pending) → IsSound S L → ValuesFit S → AreTreesOf S L a → AreTreesOf S L b
+pub sides_equal : (l : Listing) → IsListing l → (S R U : State) (L : Live) (a b : Forest) (gs : List Pending) → IsSound S L → ValuesFit S L → AreTreesOf S L a → AreTreesOf S L b
     → without_goals (equated l S a b) ≡ Some (gs, R) → (f : Follows S R L) → Follows R U f.live → Same l (resolved U a) (resolved U b)
 sides_equal l listing S R U L a b gs sound fits left right e f g =
     let M : Live = there S L in
     let sound_few = sound_there S L sound in
+    let fits_few = fits_fewer S M L (counts S L) fits in
     let left_few : AreTreesOf S M a = record { known = known_there S L a left.known; is_closed = left.is_closed } in
     let right_few : AreTreesOf S M b = record { known = known_there S L b right.known; is_closed = right.is_closed } in
     let n = no_goals (equated l S a b) gs R e in
-    let lead = lead_equated l listing S R M a b sound_few fits left_few right_few n.is in
-    equated_equal l listing U M (g.later.fits (f.later.fits fits)) S R a b sound_few fits left_few right_few n.is (later_fewer R U M f.live lead.sound (there_within S L f.live f.within R) g.later)
+    let lead = lead_equated l listing S R M a b sound_few fits_few left_few right_few n.is in
+    equated_equal l listing U M (fits_last S R U L f g) S R a b sound_few fits_few left_few right_few n.is (later_fewer R U M f.live lead.sound (there_within S L f.live f.within R) g.later)
 
 -- A normal form is equal to what was normalised, at every state that follows.
-pub normal_equal : (l : Listing) → IsListing l → (S R U : State) (L : Live) (e : Env) (t n : Tree) → IsSound S L → ValuesFit S → AreTreesOf S L (alone t) → normalized l S e t ≡ Some (n, R)
+pub normal_equal : (l : Listing) → IsListing l → (S R U : State) (L : Live) (e : Env) (t n : Tree) → IsSound S L → ValuesFit S L → AreTreesOf S L (alone t) → normalized l S e t ≡ Some (n, R)
     → (f : Follows S R L) → Follows R U f.live → SameTree l (resolved_tree U t) (resolved_tree U n)
 normal_equal l listing S R U L e t n sound fits a h f g =
     let m = is_normal l S R e t n h in
@@ -44,7 +45,7 @@ normal_equal l listing S R U L e t n sound fits a h f g =
     (at (type_or_itself l (resolved_tree S t)) (which_type l (resolved_tree S t))))
   where
     at : (u : Tree) → WhichType l (resolved_tree S t) u → Same l (resolved U (alone (resolved_tree S t))) (resolved U (alone u))
-    at _ (is_type u e) = listed_same l listing U L (g.later.fits (f.later.fits fits)) (resolved_tree S t) u e
+    at _ (is_type u e) = listed_same l listing U (there S L) (fits_last S R U L f g) (resolved_tree S t) u e
     at _ itself = same (resolved U (alone (resolved_tree S t)))
 
 -- trees with one region in the place of each

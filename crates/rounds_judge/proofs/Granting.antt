@@ -25,7 +25,7 @@ use Rattle.rounds_judge.specs.Standing.{IsListing}
 use Rattle.rounds_judge.specs.Settling.{last_or, without_last, alias_of, term_of, arguments_of}
 use Rattle.rounds_judge.specs.Granted.{FactsGranted, IsFresh, IsFreshFor, IsGranted}
 use Rattle.rounds_judge.proofs.Marks.{whole, holds_to}
-use Rattle.rounds_judge.proofs.Later.{value_closed, has_info}
+use Rattle.rounds_judge.proofs.Later.{value_closed, has_info, known_later, resolved_known}
 use Rattle.rounds_judge.proofs.Opening.{opens, each_error, opened_valued, opened_marked}
 use Rattle.rounds_judge.proofs.Congruent.{same_to, same_resolved, is_stray, strange_stray, stray_later, resolved_stray}
 use Rattle.rounds_judge.proofs.Settling.{after_first_marked}
@@ -81,7 +81,7 @@ alias_marked mark i ts e b = whole mark (alias_of i ts).head (arguments_of ts) n
 
 -- The values of a state, and placeholders for what a binder binds
 
-module _ (S : State) (fits : ValuesFit S) where
+module _ (S : State) (L : Live) (fits : ValuesFit S L) where
   bound_free : (h : Head) → is_any_bound h ≡ true → value_at S h ≡ None
   bound_free (H.Bound v) e = refl
   bound_free (H.Const (C.Bound v)) e = refl
@@ -93,15 +93,15 @@ module _ (S : State) (fits : ValuesFit S) where
   placeholder_free RegionKind u i = refl
   placeholder_free _ u i = refl
 
-  pub opened_resolved : (u : ℕ) (ks : List Kind) (ts : Forest) → opens u ks 0 (resolved S ts) ≡ resolved S (opens u ks 0 ts)
-  opened_resolved u ks ts = opened_valued (value_at S) bound_free placeholder_free (each_error (λ h. value_at S h ≡ None) refl refl refl) (value_closed S fits) u ks 0 ts
+  pub opened_resolved : (u : ℕ) (ks : List Kind) (ts : Forest) → holds (is_strange S L) ts ≡ false → opens u ks 0 (resolved S ts) ≡ resolved S (opens u ks 0 ts)
+  opened_resolved u ks ts k = opened_valued (value_at S) bound_free placeholder_free (each_error (λ h. value_at S h ≡ None) refl refl refl) (is_strange S L) (value_closed S L fits) u ks 0 ts k
 
 -- what was resolved before is resolved further, whatever the placeholders
-pub resolved_further : (S T : State) (L : Live) → ValuesFit S → IsLater S T L → (u : ℕ) (ks : List Kind) (ts : Forest) → holds (is_strange S L) ts ≡ false
+pub resolved_further : (S T : State) (L M : Live) → IsSound S L → ValuesFit S L → ValuesFit T M → Within S L M → IsLater S T L → (u : ℕ) (ks : List Kind) (ts : Forest) → holds (is_strange S L) ts ≡ false
     → resolved T (resolved S (opens u ks 0 ts)) ≡ resolved T (opens u ks 0 ts)
-resolved_further S T L fits later u ks ts k =
-    ap (resolved T) (sym (opened_resolved S fits u ks ts)) ∙ sym (opened_resolved T (later.fits fits) u ks (resolved S ts))
-    ∙ ap (opens u ks 0) (later.values ts k) ∙ opened_resolved T (later.fits fits) u ks ts
+resolved_further S T L M sound fits then within later u ks ts k =
+    ap (resolved T) (sym (opened_resolved S L fits u ks ts k)) ∙ sym (opened_resolved T M then u ks (resolved S ts) (known_later S T L M within later (resolved S ts) (resolved_known S L sound ts k)))
+    ∙ ap (opens u ks 0) (later.values ts k) ∙ opened_resolved T M then u ks ts (known_later S T L M within later ts k)
 
 module _ (S : State) (L : Live) where
   bound_stray : (h : Head) → is_any_bound h ≡ true → is_stray S L h ≡ false
@@ -140,7 +140,7 @@ module _ (S T : State) (L : Live) (later : IsLater S T L) where
 
 -- Facts
 
-module _ (l : Listing) (listing : IsListing l) (T : State) (M : Live) (fits : ValuesFit T) where
+module _ (l : Listing) (listing : IsListing l) (T : State) (M : Live) (fits : ValuesFit T M) where
   -- granted facts stay so where values are put in
   pub facts_resolved : (h : Head) (ts : Forest) → holds (is_stray T M) ts ≡ false → FactsGranted l h ts → FactsGranted l h (resolved T ts)
   facts_resolved (H.Part (P.Clause (Cl.Projection i))) ts k g =
@@ -160,7 +160,7 @@ facts_known S L g of = after_first_marked (is_strange S L) g.clause.children (ho
 pub goal_known : (S : State) (L : Live) (g : Goal) → GoalIsOf S L g → holds (is_strange S L) (join g.env (after_first g.clause.children)) ≡ false
 goal_known S L g of = join_marked (is_strange S L) g.env (after_first g.clause.children) of.env.known (facts_known S L g of)
 
-module _ (l : Listing) (listing : IsListing l) (S T : State) (L M : Live) (sound : IsSound S L) (fits : ValuesFit S) (within : Within S L M) (later : IsLater S T L) where
+module _ (l : Listing) (listing : IsListing l) (S T : State) (L M : Live) (sound : IsSound S L) (fits : ValuesFit S L) (then : ValuesFit T M) (within : Within S L M) (later : IsLater S T L) where
   still_granted : (g : Goal) → GoalIsOf S L g → IsGranted l S g → IsGranted l T g
   still_granted g of a =
       let ks = bound_kinds g.clause.children in
@@ -171,10 +171,10 @@ module _ (l : Listing) (listing : IsListing l) (S T : State) (L M : Live) (sound
       record {
         universe = a.universe;
         is_fresh = fresh_for_later S T L later ks a.universe (join g.env fs) (goal_known S L g of) a.is_fresh;
-        facts = subst (FactsGranted l g.clause.head) (resolved_further S T L fits later a.universe ks fs known)
-            (facts_resolved l listing T M (later.fits fits) g.clause.head ts (holds_to (is_stray S L) (is_stray S L) (is_stray T M) (λ h e f. stray_later S T L M within later h e) ts counted counted) a.facts);
+        facts = subst (FactsGranted l g.clause.head) (resolved_further S T L M sound fits then within later a.universe ks fs known)
+            (facts_resolved l listing T M then g.clause.head ts (holds_to (is_stray S L) (is_stray S L) (is_stray T M) (λ h e f. stray_later S T L M within later h e) ts counted counted) a.facts);
       }
 
 -- What is granted stays so at every state that follows.
-pub granted_stays : (l : Listing) → IsListing l → (S T : State) (L : Live) (g : Goal) → IsSound S L → ValuesFit S → GoalIsOf S L g → Follows S T L → IsGranted l S g → IsGranted l T g
-granted_stays l listing S T L g sound fits of f a = still_granted l listing S T L f.live sound fits f.within f.later g of a
+pub granted_stays : (l : Listing) → IsListing l → (S T : State) (L : Live) (g : Goal) → IsSound S L → ValuesFit S L → GoalIsOf S L g → Follows S T L → IsGranted l S g → IsGranted l T g
+granted_stays l listing S T L g sound fits of f a = still_granted l listing S T L f.live sound fits f.fits f.within f.later g of a

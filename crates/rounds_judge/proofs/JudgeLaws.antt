@@ -77,8 +77,8 @@ which_type l t = at (is_alias t.head)
     at true = by (listed l t) refl
     at false = itself
 
-abbrev pub follows_itself : (S : State) (L : Live) → IsSound S L → Follows S S L
-follows_itself S L sound = record { live = L; within = λ n l c. c; sound = sound; later = later_itself S L sound }
+abbrev pub follows_itself : (S : State) (L : Live) → IsSound S L → ValuesFit S L → Follows S S L
+follows_itself S L sound fits = record { live = L; within = λ n l c. c; sound = sound; fits = fits; later = later_itself S L sound }
 
 module _ (l : Listing) (listing : IsListing l) (S : State) where
   normal_known : (L : Live) → IsSound S L → (t : Tree) → AreTreesOf S L (alone t) → holds (is_strange S L) (alone (type_or_itself l (resolved_tree S t))) ≡ false
@@ -88,12 +88,12 @@ module _ (l : Listing) (listing : IsListing l) (S : State) where
       at _ (is_type u e) = listed_known l listing (resolved_tree S t) u e S L
       at _ itself = resolved_known S L sound (alone t) a.known
 
-  normal_closed : ValuesFit S → (t : Tree) → escapes 0 (alone t) ≡ false → escapes 0 (alone (type_or_itself l (resolved_tree S t))) ≡ false
-  normal_closed fits t e = at (type_or_itself l (resolved_tree S t)) (which_type l (resolved_tree S t))
+  normal_closed : (L : Live) → ValuesFit S L → (t : Tree) → AreTreesOf S L (alone t) → escapes 0 (alone (type_or_itself l (resolved_tree S t))) ≡ false
+  normal_closed L fits t a = at (type_or_itself l (resolved_tree S t)) (which_type l (resolved_tree S t))
     where
       at : (u : Tree) → WhichType l (resolved_tree S t) u → escapes 0 (alone u) ≡ false
       at _ (is_type u f) = (listed_fixed l listing (resolved_tree S t) u f).is_closed
-      at _ itself = resolved_closed S fits 0 (alone t) e
+      at _ itself = resolved_closed S L fits 0 (alone t) a.known a.is_closed
 
   -- values of what counts hold no parameter
   value_no_parameter : (L : Live) → HasNoParameter S L → (h : Head) (t : Tree) → is_strange S L h ≡ false → value_at S h ≡ Some t → holds is_param (alone t) ≡ false
@@ -108,10 +108,10 @@ module _ (l : Listing) (listing : IsListing l) (S : State) where
       at _ (is_type u f) = (listed_fixed l listing (resolved_tree S t) u f).no_parameter
       at _ itself = fold_marked (λ d t. value_at S t.head) (is_strange S L) is_param is_param (λ d t a b e. b) (λ d t u a b e. value_no_parameter L free t.head u a e) 0 (alone t) a.known p
 
-  normal_form : (L : Live) (e : Env) (t : Tree) → IsSound S L → ValuesFit S → AreTreesOf S L (alone t) → IsNormalForm S S L e t (type_or_itself l (resolved_tree S t))
+  normal_form : (L : Live) (e : Env) (t : Tree) → IsSound S L → ValuesFit S L → AreTreesOf S L (alone t) → IsNormalForm S S L e t (type_or_itself l (resolved_tree S t))
   normal_form L e t sound fits a = record {
-    follows = follows_itself S L sound;
-    tree = record { known = normal_known L sound t a; is_closed = normal_closed fits t a.is_closed };
+    follows = follows_itself S L sound fits;
+    tree = record { known = normal_known L sound t a; is_closed = normal_closed L fits t a };
     no_parameter = λ free f p. (free, normal_no_parameter L free t a p);
   }
 

@@ -16,7 +16,7 @@ use Rattle.candidate_eval.specs.declared.eval.variable.VariableKind.TheVariants.
 use Rattle.candidate_eval.specs.States.{State, VariableInfo, value_in, value_of, value_as, value_at, resolved, is_some, with_universe, has_kind, same_kind}
 use Rattle.candidate_eval.specs.Alike.{info}
 use Rattle.candidate_eval.specs.Soundness.{Live, IsSound, ValuesFit, IsResolved, AreTreesOf, Within, IsLater, Follows, has_value, is_strange}
-use Rattle.rounds_judge.proofs.Marks.{holds_to, fold_marked, fold_closed}
+use Rattle.rounds_judge.proofs.Marks.{holds_to, fold_marked, fold_closed_among}
 
 not_false : (b : Bool) → not b ≡ false → b ≡ true
 not_false true e = refl
@@ -65,20 +65,20 @@ resolved_stays S ts r = fold-nothing (λ d t. value_at S t.head) (has_value S) (
 
 -- What a state resolves
 
-pub value_closed : (S : State) → ValuesFit S → (h : Head) (t : Tree) → value_at S h ≡ Some t → escapes 0 (alone t) ≡ false
-value_closed S fits h t e = at h e
-  where
-    by : (n : ℕ) (o : Option VariableInfo) → info S n ≡ o → value_in o ≡ Some t → escapes 0 (alone t) ≡ false
-    by n None f v = cc
-    by n (Some i) f v = (fits n).is_closed i t f v
+pub value_closed : (S : State) (L : Live) → ValuesFit S L → (h : Head) (t : Tree) → is_strange S L h ≡ false → value_at S h ≡ Some t → escapes 0 (alone t) ≡ false
+value_closed S L fits (H.Infer v) t k e = let i = has_info (L v.number) (Term v.sort) (info S v.number) k in (fits v.number i.2).is_closed i.0 t i.1 (value_there S (Term v.sort) v.number i.0 t i.1 e)
+value_closed S L fits (H.Region (R.Var n)) t k e = let i = has_info (L n) Region (info S n) k in (fits n i.2).is_closed i.0 t i.1 (value_there S Region n i.0 t i.1 e)
+value_closed S L fits _ t k e = cc
 
-    at : (h : Head) → value_at S h ≡ Some t → escapes 0 (alone t) ≡ false
-    at (H.Infer v) e = by v.number (info S v.number) refl (value_as_of S (Term v.sort) v.number t e)
-    at (H.Region (R.Var n)) e = by n (info S n) refl (value_as_of S Region n t e)
-    at _ e = cc
+pub resolved_closed : (S : State) (L : Live) → ValuesFit S L → (n : ℕ) (ts : Forest) → holds (is_strange S L) ts ≡ false → escapes n ts ≡ false → escapes n (resolved S ts) ≡ false
+resolved_closed S L fits n ts k e = fold_closed_among (λ d t. value_at S t.head) (is_strange S L) (λ d t u m f. value_closed S L fits t.head u m f) n 0 ts k e
 
-pub resolved_closed : (S : State) → ValuesFit S → (n : ℕ) (ts : Forest) → escapes n ts ≡ false → escapes n (resolved S ts) ≡ false
-resolved_closed S fits n ts e = fold_closed (λ d t. value_at S t.head) (λ d t u f. value_closed S fits t.head u f) n 0 ts e
+pub fits_later : {S T : State} {L : Live} → IsLater S T L → ValuesFit S L → ValuesFit T L
+fits_later later fits n c = later.fits n (fits n c)
+
+-- where fewer variables count
+pub fits_fewer : (S : State) (L M : Live) → ((n : ℕ) → L n ≡ true → M n ≡ true) → ValuesFit S M → ValuesFit S L
+fits_fewer S L M within fits n c = fits n (within n c)
 
 module _ (S : State) (L : Live) (sound : IsSound S L) where
   pub value_known : (h : Head) (t : Tree) → is_strange S L h ≡ false → value_at S h ≡ Some t → holds (is_strange S L) (alone t) ≡ false
@@ -140,7 +140,7 @@ later_along S R U L M sound within a b = record {
       record { now = y.now; there = y.there; kind = y.kind ∙ x.kind; is_root = y.is_root ∙ x.is_root };
   no_root = no_root;
   universes = λ n h. le_trans (b.universes n (le_trans h a.longer)) (a.universes n h);
-  fits = λ f. b.fits (a.fits f);
+  fits = λ n f. b.fits n (a.fits n f);
   values = λ ts k.
       sym (b.values (resolved S ts) (known_later S R L M within a (resolved S ts) (resolved_known S L sound ts k)))
       ∙ ap (resolved U) (a.values ts k) ∙ b.values ts (known_later S R L M within a ts k);
@@ -164,6 +164,7 @@ follows_along S R U L sound f g = record {
   live = g.live;
   within = λ n l c. g.within n (le_trans l f.later.longer) (f.within n l c);
   sound = g.sound;
+  fits = g.fits;
   later = later_along S R U L f.live sound f.within f.later g.later;
 }
 
@@ -174,7 +175,7 @@ later_itself S L sound = record {
   infos = λ n i e. record { now = i; there = e; kind = refl; is_root = refl };
   no_root = λ n j e f. absurd (let same : None ≡ Some j = sym e ∙ f in cc);
   universes = λ n l. omega arith;
-  fits = λ f. f;
+  fits = λ n f. f;
   values = idle S L sound;
   newest = omega arith;
   mode = refl;

@@ -22,7 +22,7 @@ use Rattle.rounds_judge.specs.Binding.{may_take, bound}
 use Rattle.rounds_judge.specs.Equating.{Pair, Visit, Done, Refused, Left, outlives, value_for, offered, with_equal_regions, matched, first_of, met, visited, looked, looks, equated}
 use Rattle.rounds_judge.specs.Standing.{IsListing, PairStands, Stands}
 use Rattle.rounds_judge.proofs.Marks.{whole, escape_parts, escape_whole}
-use Rattle.rounds_judge.proofs.Later.{known_later, later_along, later_itself, later_universe, sound_universe}
+use Rattle.rounds_judge.proofs.Later.{known_later, later_along, later_itself, later_universe, sound_universe, fits_later}
 use Rattle.rounds_judge.proofs.Bound.{CanTake, bound_sound, bound_later, length_bound}
 use Rattle.rounds_judge.proofs.Current.{current_known, current_rests, current_closed, can_take}
 
@@ -225,10 +225,10 @@ module _ (l : Listing) (listing : IsListing l) (L : Live) where
     y_known = current_known l listing S L st.sound (record { head = g; children = b }) right_known
 
     x_closed : escapes (length us) (alone x) ≡ false
-    x_closed = current_closed l listing S L st.sound st.fits (length us) (record { head = h; children = a }) left_closed
+    x_closed = current_closed l listing S L st.sound st.fits (length us) (record { head = h; children = a }) left_known left_closed
 
     y_closed : escapes (length us) (alone y) ≡ false
-    y_closed = current_closed l listing S L st.sound st.fits (length us) (record { head = g; children = b }) right_closed
+    y_closed = current_closed l listing S L st.sound st.fits (length us) (record { head = g; children = b }) right_known right_closed
 
     pub others_stand : All (PairStands S L) others
     others_stand = All-cons (PairStands S L) (record { scope = us; left = r; right = s }) more (record {
@@ -249,7 +249,7 @@ module _ (l : Listing) (listing : IsListing l) (L : Live) where
         can_take l listing S L st.sound us here.universes y x v y_known (current_rests l listing S L st.sound (record { head = g; children = b }) right_known) i x_known m
 
     later_keeps : (T : State) → SoundLater S L T → Keeps S L T others
-    later_keeps T k = record { stands = record { sound = k.sound; fits = k.later.fits st.fits; pairs = pairs_later S T L k.later others others_stand }; later = k.later }
+    later_keeps T k = record { stands = record { sound = k.sound; fits = fits_later k.later st.fits; pairs = pairs_later S T L k.later others others_stand }; later = k.later }
 
     bound_keeps : (v : Variable) (t : Tree) → CanTake S L v t → Keeps S L (bound S v t) others
     bound_keeps v t can = later_keeps (bound S v t) (record { sound = bound_sound S L v t can st.sound; later = bound_later S L v t can st.sound })
@@ -310,18 +310,18 @@ module _ (l : Listing) (listing : IsListing l) (L : Live) where
   pub looked_follows : (n : ℕ) (S T : State) (ps : List Pair) → Stands S L ps → looked l n S ps ≡ Some T → Follows S T L
   looked_follows n S T ps st e =
       let k = looked_keeps n S T ps st e in
-      record { live = L; within = λ n l c. c; sound = k.sound; later = k.later }
+      record { live = L; within = λ n l c. c; sound = k.sound; fits = fits_later k.later st.fits; later = k.later }
 
 -- Two rows of trees at the start
 
-pub start_stands : (S : State) (L : Live) (a b : Forest) → IsSound S L → ValuesFit S → AreTreesOf S L a → AreTreesOf S L b → Stands S L (record { scope = []; left = a; right = b } ∷ [])
+pub start_stands : (S : State) (L : Live) (a b : Forest) → IsSound S L → ValuesFit S L → AreTreesOf S L a → AreTreesOf S L b → Stands S L (record { scope = []; left = a; right = b } ∷ [])
 start_stands S L a b sound fits left right =
     let p : Pair = record { scope = []; left = a; right = b } in
     let stands : PairStands S L p = record { left = left.known; right = right.known; left_closed = left.is_closed; right_closed = right.is_closed; universes = All-nil (λ u. u ≤ S.newest_universe) } in
     record { sound = sound; fits = fits; pairs = All-cons (PairStands S L) p [] stands (All-nil (PairStands S L)) }
 
 -- The state in which both are equal follows, and what is pending stays.
-pub equated_follows : (l : Listing) → IsListing l → (S T : State) (L : Live) (a b : Forest) → IsSound S L → ValuesFit S → AreTreesOf S L a → AreTreesOf S L b → equated l S a b ≡ Some T → Follows S T L
+pub equated_follows : (l : Listing) → IsListing l → (S T : State) (L : Live) (a b : Forest) → IsSound S L → ValuesFit S L → AreTreesOf S L a → AreTreesOf S L b → equated l S a b ≡ Some T → Follows S T L
 equated_follows l listing S T L a b sound fits left right e =
     let ps : List Pair = record { scope = []; left = a; right = b } ∷ [] in
     looked_follows l listing L (looks l S ps) S T ps (start_stands S L a b sound fits left right) e

@@ -84,21 +84,33 @@ escapes_on n m (tree h below rest) l e =
     let p = escape_parts n h below rest e in
     escape_whole m h below rest (beyond_on n m h l p.here) (escapes_on (n + binders_of h) (m + binders_of h) below (omega (arith, l)) p.under) (escapes_on n m rest l p.others)
 
--- answers from which none escapes let none escape
-module _ (f : Answers) (are_closed : (d : ℕ) (t u : Tree) → f d t ≡ Some u → escapes 0 (alone u) ≡ false) where
-  pub fold_closed : (n d : ℕ) (ts : Forest) → escapes n ts ≡ false → escapes n (fold f d ts) ≡ false
-  fold_closed n d none e = refl
-  fold_closed n d (tree h below rest) e =
+-- answers from which none escapes let none escape; asked of heads without a mark
+module _ (f : Answers) (m : Head → Bool) (are_closed : (d : ℕ) (t u : Tree) → m t.head ≡ false → f d t ≡ Some u → escapes 0 (alone u) ≡ false) where
+  pub fold_closed_among : (n d : ℕ) (ts : Forest) → holds m ts ≡ false → escapes n ts ≡ false → escapes n (fold f d ts) ≡ false
+  fold_closed_among n d none k e = refl
+  fold_closed_among n d (tree h below rest) k e =
       let p = escape_parts n h below rest e in
-      node (f d (record { head = h; children = below })) refl p.here (fold_closed (n + binders_of h) (d + binders_of h) below p.under) (fold_closed n d rest p.others)
+      let q = holds_parts m h below rest k in
+      node (f d (record { head = h; children = below })) refl p.here (fold_closed_among (n + binders_of h) (d + binders_of h) below q.under p.under) (fold_closed_among n d rest q.others p.others)
     where
       node : (o : Option Tree) → f d (record { head = h; children = below }) ≡ o → is_beyond n h ≡ false
           → escapes (n + binders_of h) (fold f (d + binders_of h) below) ≡ false → escapes n (fold f d rest) ≡ false
           → escapes n (begin (unwrap_or o (record { head = h; children = fold f (d + binders_of h) below })) (fold f d rest)) ≡ false
       node None e here under others = escape_whole n h (fold f (d + binders_of h) below) (fold f d rest) here under others
       node (Some u) e here under others =
-          let z = escape_parts n u.head u.children none (escapes_on 0 n (alone u) (omega arith) (are_closed d (record { head = h; children = below }) u e)) in
+          let z = escape_parts n u.head u.children none (escapes_on 0 n (alone u) (omega arith) (are_closed d (record { head = h; children = below }) u (holds_parts m h below rest k).here e)) in
           escape_whole n u.head u.children (fold f d rest) z.here z.under others
+
+no_mark : Head → Bool
+no_mark h = false
+
+unmarked : (ts : Forest) → holds no_mark ts ≡ false
+unfolding no_mark
+unmarked none = refl
+unmarked (tree h below rest) = rw (unmarked below, unmarked rest) refl
+
+pub fold_closed : (f : Answers) → ((d : ℕ) (t u : Tree) → f d t ≡ Some u → escapes 0 (alone u) ≡ false) → (n d : ℕ) (ts : Forest) → escapes n ts ≡ false → escapes n (fold f d ts) ≡ false
+fold_closed f are_closed n d ts e = fold_closed_among f no_mark (λ d t u k q. are_closed d t u q) n d ts (unmarked ts) e
 
 -- Values
 

@@ -181,7 +181,7 @@ pub record IsOffered (S : State) (L : Live) (us : Scope) (y t : Tree) : Type 0 w
   pub is_closed : escapes 0 (erase (alone t)) ≡ false → escapes 0 (alone t) ≡ false
   pub head : is_region y.head ≡ false → t.head ≡ y.head
 
-module _ (l : Listing) (listing : IsListing l) (S : State) (L : Live) (us : Scope) (sound : IsSound S L) (fits : ValuesFit S) (leafy : HasLeafValues S L) where
+module _ (l : Listing) (listing : IsListing l) (S : State) (L : Live) (us : Scope) (sound : IsSound S L) (fits : ValuesFit S L) (leafy : HasLeafValues S L) where
   value_is : (y : Tree) → holds is_alias (resolved S (alone y)) ≡ false → value_for l S us y ≡ placed_tree us (resolved_tree S y)
   value_is y n = ap (placed_tree us) (normal_already l listing (resolved_tree S y) n)
 
@@ -207,7 +207,7 @@ module _ (l : Listing) (listing : IsListing l) (S : State) (L : Live) (us : Scop
     leaves = placed_leaves us 0 (resolved S (alone y)) leaves;
     no_alias = placed_marked us is_alias (λ p. refl) 0 (resolved S (alone y)) s.no_alias;
     same = λ w a q. placed_absorbed us w q 0 (resolved S (alone y)) leaves ∙ resolved_absorbed S L w a (alone y) s.known s.leaves;
-    is_closed = λ e. placed_closed us 0 (resolved S (alone y)) (resolved_closed S fits (0 + length us) (alone y) (subst (λ n. escapes n (alone y) ≡ false) (no_more (length us)) s.is_closed)) e;
+    is_closed = λ e. placed_closed us 0 (resolved S (alone y)) (resolved_closed S L fits (0 + length us) (alone y) s.known (subst (λ n. escapes n (alone y) ≡ false) (no_more (length us)) s.is_closed)) e;
     head = head_stays y free;
   })
     where

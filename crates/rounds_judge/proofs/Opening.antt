@@ -8,6 +8,7 @@ use Rattle.candidate_ir.specs.declared.ir.kinds.BoundVar.{BoundVar}
 use Rattle.candidate_ir.specs.declared.ir.kinds.RegionKind.TheVariants as R
 use Rattle.candidate_ir.specs.declared.ir.kinds.VarKind.{VarKind}
 use Rattle.candidate_ir.specs.declared.ir.kinds.VarKind.TheVariants as V
+use Rattle.candidate_eval.proofs.Holds.{holds_parts}
 use Rattle.candidate_ir.specs.Trees.{Kind, ConstantKind, RegionKind, Forest, none, tree, Tree, kind_of, holds, binders_of}
 use Rattle.candidate_ir.specs.Binders.{is_beyond, escapes}
 use Rattle.candidate_ir.specs.Folding.{fold, leaf, argument, shift_tree}
@@ -157,9 +158,9 @@ module _ (u : ℕ) (ks : List Kind) where
       node d h _ (further_out g b c f) x e = subst (λ t. holds other (alone t) ≡ false) (let is : leaf g ≡ x = cc in is) (single g (bound g c))
       node d h _ (itself f) x e = cc
 
--- Values and placeholders may be put in in either order, where the values are closed and stand for variables alone.
+-- Values and placeholders may be put in in either order, where the values are closed and stand for variables alone; asked of heads without a mark.
 module _ (v : Values) (free : (h : Head) → is_any_bound h ≡ true → v h ≡ None) (placed : (k : Kind) (u i : ℕ) → v (placeholder k u i) ≡ None) (err : (k : VarKind) → v (error_of k) ≡ None)
-    (are_closed : (h : Head) (t : Tree) → v h ≡ Some t → escapes 0 (alone t) ≡ false) (u : ℕ) (ks : List Kind) where
+    (m : Head → Bool) (are_closed : (h : Head) (t : Tree) → m h ≡ false → v h ≡ Some t → escapes 0 (alone t) ≡ false) (u : ℕ) (ks : List Kind) where
   single_stays : (h : Head) → v h ≡ None → valued_tree v (leaf h) ≡ leaf h
   single_stays h e = ap (λ o. unwrap_or o (leaf h)) e
 
@@ -195,16 +196,18 @@ module _ (v : Values) (free : (h : Head) → is_any_bound h ≡ true → v h ≡
     valued_first x e _ (further_out g b c f) = absurd (let clash : None ≡ Some x = sym (free h b) ∙ e in cc)
     valued_first x e _ (itself f) = ap (λ o. begin (unwrap_or o (record { head = h; children = valued v under })) (valued v others)) (sym e) ∙ sym (valued_node v h under others)
 
-    opened_node : opens u ks (d + binders_of h) (valued v below) ≡ valued v under → opens u ks d (valued v rest) ≡ valued v others → (o : Option Tree) → v h ≡ o
+    opened_node : m h ≡ false → opens u ks (d + binders_of h) (valued v below) ≡ valued v under → opens u ks d (valued v rest) ≡ valued v others → (o : Option Tree) → v h ≡ o
         → opens u ks d (begin (unwrap_or o (record { head = h; children = valued v below })) (valued v rest)) ≡ valued v (begin (unwrap_or (opened_head (placeholders u 0 ks) d h) (record { head = h; children = under })) others)
-    opened_node a b None e =
+    opened_node k a b None e =
         ap (λ x. begin (unwrap_or (opened_head (placeholders u 0 ks) d h) (record { head = h; children = x })) (opens u ks d (valued v rest))) a
         ∙ ap (begin (unwrap_or (opened_head (placeholders u 0 ks) d h) (record { head = h; children = valued v under }))) b
         ∙ opened_first e (opened_head (placeholders u 0 ks) d h) (which_opens (placeholders u 0 ks) d h)
-    opened_node a b (Some x) e =
-        closed_first d x (valued v rest) (are_closed h x e) ∙ ap (begin x) b
+    opened_node k a b (Some x) e =
+        closed_first d x (valued v rest) (are_closed h x k e) ∙ ap (begin x) b
         ∙ valued_first x e (opened_head (placeholders u 0 ks) d h) (which_opens (placeholders u 0 ks) d h)
 
-  pub opened_valued : (d : ℕ) (ts : Forest) → opens u ks d (valued v ts) ≡ valued v (opens u ks d ts)
-  opened_valued d none = refl
-  opened_valued d (tree h below rest) = ap (opens u ks d) (valued_node v h below rest) ∙ opened_node d h below rest (opened_valued (d + binders_of h) below) (opened_valued d rest) (v h) refl
+  pub opened_valued : (d : ℕ) (ts : Forest) → holds m ts ≡ false → opens u ks d (valued v ts) ≡ valued v (opens u ks d ts)
+  opened_valued d none k = refl
+  opened_valued d (tree h below rest) k =
+      let p = holds_parts m h below rest k in
+      ap (opens u ks d) (valued_node v h below rest) ∙ opened_node d h below rest p.here (opened_valued (d + binders_of h) below p.under) (opened_valued d rest p.others) (v h) refl

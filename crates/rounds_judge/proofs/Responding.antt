@@ -34,7 +34,7 @@ use Rattle.rounds_judge.specs.Responding.{roots_from, is_seen, place_of, renumbe
 use Rattle.rounds_judge.specs.Granted.{IsGranted}
 use Rattle.rounds_judge.specs.RoundsJudge.{rounds_judge}
 use Rattle.rounds_judge.proofs.Marks.{whole, valued_node}
-use Rattle.rounds_judge.proofs.Later.{later_itself, has_info, kind_there}
+use Rattle.rounds_judge.proofs.Later.{later_itself, has_info, kind_there, fits_later}
 use Rattle.rounds_judge.proofs.Settling.{passes_leave}
 use Rattle.rounds_judge.proofs.Dropped.{passes_granted}
 use Rattle.rounds_judge.proofs.JudgeLaws.{answered, both_sure}
@@ -196,7 +196,7 @@ none_pending (p ∷ ps) e = cc
 
 -- Yes is answered only where all that was pending is granted at the state that it speaks of.
 module _ (w : World) (local : ℕ) (l : Listing) (os : List Tree) (listing : IsListing l) where
-  pub yes_is_granted : (S : State) (L : Live) (c : Certainty) (r : Response) → IsSound S L → ValuesFit S → GoalsAreOf S L S.pending → responded l S c ≡ Some r → r.certainty ≡ Yes
+  pub yes_is_granted : (S : State) (L : Live) (c : Certainty) (r : Response) → IsSound S L → ValuesFit S L → GoalsAreOf S L S.pending → responded l S c ≡ Some r → r.certainty ≡ Yes
       → AnswersYes (rounds_judge w local l os) S L r
   yes_is_granted S L c r sound fits of e y =
       let a = answered l S c r e in
@@ -206,7 +206,7 @@ module _ (w : World) (local : ℕ) (l : Listing) (os : List Tree) (listing : IsL
       let Granted : Pending → Type 0 = λ p. IsGranted l T p.goal in
       record {
         last = T;
-        follows = record { live = L; within = λ n l c. c; sound = left.leads.sound; later = left.leads.later };
-        granted = passes_granted l listing T L (left.leads.later.fits fits) 8 S T sound fits of a.passed (later_itself T L left.leads.sound) (subst (All Granted) (sym empty) (All-nil Granted));
+        follows = record { live = L; within = λ n l c. c; sound = left.leads.sound; fits = fits_later left.leads.later fits; later = left.leads.later };
+        granted = passes_granted l listing T L (fits_later left.leads.later fits) 8 S T sound fits of a.passed (later_itself T L left.leads.sound) (subst (All Granted) (sym empty) (All-nil Granted));
         response = subst (IsResponseOf T L) a.is (response_is T L (certainty_and c (certainty_of T.pending)));
       }

@@ -25,7 +25,7 @@ use Rattle.rounds_judge.specs.Standing.{IsListing}
 use Rattle.rounds_judge.specs.Equating.{Pair, looks, equated, count_unbound}
 use Rattle.rounds_judge.specs.Settling.{term_of, alias_of, last_or, with_facts, instance_of, recorded, Outcome, projected, tried_as, tried, before, tried_all, with_staying, pass, passes, settled, with_certainty}
 use Rattle.rounds_judge.proofs.Marks.{whole, escape_parts, escape_whole, escapes_on}
-use Rattle.rounds_judge.proofs.Later.{trees_later, later_itself, later_along, later_universe, sound_universe}
+use Rattle.rounds_judge.proofs.Later.{trees_later, later_itself, later_along, later_universe, sound_universe, fits_later}
 use Rattle.rounds_judge.proofs.Looks.{SoundLater, regions_keep, looked_keeps, start_stands}
 use Rattle.rounds_judge.proofs.Current.{listed_fixed, listed_known}
 use Rattle.rounds_judge.proofs.EquatingLaws.{no_goals}
@@ -50,7 +50,7 @@ lead_pending S L ps h =
       later = record { longer = l.longer; infos = l.infos; no_root = l.no_root; universes = l.universes; fits = l.fits; values = l.values; newest = l.newest; mode = l.mode };
     }
 
-pub lead_equated : (l : Listing) → IsListing l → (S T : State) (L : Live) (a b : Forest) → IsSound S L → ValuesFit S → AreTreesOf S L a → AreTreesOf S L b → equated l S a b ≡ Some T → SoundLater S L T
+pub lead_equated : (l : Listing) → IsListing l → (S T : State) (L : Live) (a b : Forest) → IsSound S L → ValuesFit S L → AreTreesOf S L a → AreTreesOf S L b → equated l S a b ≡ Some T → SoundLater S L T
 lead_equated l listing S T L a b sound fits left right e =
     let ps : List Pair = record { scope = []; left = a; right = b } ∷ [] in
     looked_keeps l listing L (looks l S ps) S T ps (start_stands S L a b sound fits left right) e
@@ -145,7 +145,7 @@ pub same_outcome : (P : List Pending × State → Type 0) (q r : List Pending ×
 same_outcome P q r e x = subst P (let is : q ≡ r = cc in is) x
 
 module _ (l : Listing) (listing : IsListing l) (L : Live) where
-  module _ (S : State) (sound : IsSound S L) (fits : ValuesFit S) (p : Pending) (of : GoalIsOf S L p.goal) where
+  module _ (S : State) (sound : IsSound S L) (fits : ValuesFit S L) (p : Pending) (of : GoalIsOf S L p.goal) where
     staying : Leaves S L (p ∷ [], S)
     staying = record { leads = lead_itself S L sound; goals = All-cons (λ (p : Pending). GoalIsOf S L p.goal) p [] of (All-nil (λ (p : Pending). GoalIsOf S L p.goal)) }
 
@@ -169,7 +169,7 @@ module _ (l : Listing) (listing : IsListing l) (L : Live) where
     instance_leaves ts a _ q e = same_outcome (Leaves S L) (p ∷ [], S) q e staying
 
   -- the instance with placeholders is one of the state with their universe
-  pub tried_leaves : (S : State) → IsSound S L → ValuesFit S → (p : Pending) → GoalIsOf S L p.goal → (q : List Pending × State) → tried l S p ≡ Some q → Leaves S L q
+  pub tried_leaves : (S : State) → IsSound S L → ValuesFit S L → (p : Pending) → GoalIsOf S L p.goal → (q : List Pending × State) → tried l S p ≡ Some q → Leaves S L q
   tried_leaves S sound fits p of q e = at (bound_kinds p.goal.clause.children) e
     where
       at : (ks : List Kind)
@@ -181,7 +181,7 @@ module _ (l : Listing) (listing : IsListing l) (L : Live) where
           let there = goal_later S R L lead.later p.goal of in
           let facts = facts_of R L (suc S.newest_universe) (k ∷ ks) p.goal.clause (omega arith) there.clause in
           let ts : Forest = opens (suc S.newest_universe) (k ∷ ks) 0 (after_first p.goal.clause.children) in
-          let left = instance_leaves R lead.sound (lead.later.fits fits) (instance_of p (k ∷ ks) ts) (instance_is_of R L p (k ∷ ks) ts there facts) ts facts p.goal.clause.head q e in
+          let left = instance_leaves R lead.sound (fits_later lead.later fits) (instance_of p (k ∷ ks) ts) (instance_is_of R L p (k ∷ ks) ts there facts) ts facts p.goal.clause.head q e in
           record { leads = lead_along S R q.1 L sound lead left.leads; goals = left.goals }
 
   -- Goals in order
@@ -192,7 +192,7 @@ module _ (l : Listing) (listing : IsListing l) (L : Live) where
       All-cons (λ (p : Pending). GoalIsOf T L p.goal) p (ps ++ qs) (goal_later S T L later p.goal (All-head (λ (p : Pending). GoalIsOf S L p.goal) p ps a))
       (both_left S T later ps qs (All-tail (λ (p : Pending). GoalIsOf S L p.goal) p ps a) b)
 
-  pub all_tried_leave : (S : State) → IsSound S L → ValuesFit S → (ps : List Pending) → GoalsAreOf S L ps → (q : List Pending × State) → tried_all l S ps ≡ Some q → Leaves S L q
+  pub all_tried_leave : (S : State) → IsSound S L → ValuesFit S L → (ps : List Pending) → GoalsAreOf S L ps → (q : List Pending × State) → tried_all l S ps ≡ Some q → Leaves S L q
   all_tried_leave S sound fits [] of q e = same_outcome (Leaves S L) ([], S) q e (record { leads = lead_itself S L sound; goals = of })
   all_tried_leave S sound fits (p ∷ ps) of q e =
       at (tried l S p) refl (λ R sound fits of r e. all_tried_leave R sound fits ps of r e) e
@@ -204,12 +204,12 @@ module _ (l : Listing) (listing : IsListing l) (L : Live) where
           same_outcome (Leaves S L) (r.0 ++ s.0, s.1) q e (record { leads = lead_along S r.1 s.1 L sound left.leads more.leads; goals = both_left r.1 s.1 more.leads.later r.0 s.0 left.goals more.goals })
 
       at : (o : Outcome) → tried l S p ≡ o
-          → ((R : State) → IsSound R L → ValuesFit R → GoalsAreOf R L ps → (r : List Pending × State) → tried_all l R ps ≡ Some r → Leaves R L r)
+          → ((R : State) → IsSound R L → ValuesFit R L → GoalsAreOf R L ps → (r : List Pending × State) → tried_all l R ps ≡ Some r → Leaves R L r)
           → next o (λ r. before r.0 (tried_all l r.1 ps)) ≡ Some q → Leaves S L q
       at None f ih e = cc
       at (Some r) f ih e =
           let left = tried_leaves S sound fits p (All-head (λ (p : Pending). GoalIsOf S L p.goal) p ps of) r f in
-          rest r left (tried_all l r.1 ps) (λ s g. ih r.1 left.leads.sound (left.leads.later.fits fits) (goals_later S r.1 L left.leads.later ps (All-tail (λ (p : Pending). GoalIsOf S L p.goal) p ps of)) s g) e
+          rest r left (tried_all l r.1 ps) (λ s g. ih r.1 left.leads.sound (fits_later left.leads.later fits) (goals_later S r.1 L left.leads.later ps (All-tail (λ (p : Pending). GoalIsOf S L p.goal) p ps of)) s g) e
 
   -- Passes
 
@@ -218,7 +218,7 @@ module _ (l : Listing) (listing : IsListing l) (L : Live) where
     pub leads : SoundLater S L T
     pub goals : GoalsAreOf T L T.pending
 
-  pub pass_leaves : (S T : State) → IsSound S L → ValuesFit S → GoalsAreOf S L S.pending → pass l S ≡ Some T → LeavesPending S T
+  pub pass_leaves : (S T : State) → IsSound S L → ValuesFit S L → GoalsAreOf S L S.pending → pass l S ≡ Some T → LeavesPending S T
   pass_leaves S T sound fits of e = at (tried_all l S S.pending) refl e
     where
       at : (o : Outcome) → tried_all l S S.pending ≡ o → next o (λ q. Some (with_staying q)) ≡ Some T → LeavesPending S T
@@ -229,7 +229,7 @@ module _ (l : Listing) (listing : IsListing l) (L : Live) where
           subst (LeavesPending S) (let is : with_staying q ≡ T = cc in is)
           (record { leads = lead_along S q.1 (with_staying q) L sound left.leads lead; goals = goals_later q.1 (with_staying q) L lead.later q.0 left.goals })
 
-  pub passes_leave : (n : ℕ) (S T : State) → IsSound S L → ValuesFit S → GoalsAreOf S L S.pending → passes l n S ≡ Some T → LeavesPending S T
+  pub passes_leave : (n : ℕ) (S T : State) → IsSound S L → ValuesFit S L → GoalsAreOf S L S.pending → passes l n S ≡ Some T → LeavesPending S T
   passes_leave zero S T sound fits of e = subst (LeavesPending S) (let is : S ≡ T = cc in is) (record { leads = lead_itself S L sound; goals = of })
   passes_leave (suc n) S T sound fits of e = at (pass l S) refl (λ R sound fits of e. passes_leave n R T sound fits of e) e
     where
@@ -237,12 +237,12 @@ module _ (l : Listing) (listing : IsListing l) (L : Live) where
       goes R left true f e = let more = f e in record { leads = lead_along S R T L sound left.leads more.leads; goals = more.goals }
       goes R left false f e = subst (LeavesPending S) (let is : R ≡ T = cc in is) left
 
-      at : (o : Option State) → pass l S ≡ o → ((R : State) → IsSound R L → ValuesFit R → GoalsAreOf R L R.pending → passes l n R ≡ Some T → LeavesPending R T)
+      at : (o : Option State) → pass l S ≡ o → ((R : State) → IsSound R L → ValuesFit R L → GoalsAreOf R L R.pending → passes l n R ≡ Some T → LeavesPending R T)
           → next o (λ R. if nat_lt (count_unbound R.variables) (count_unbound S.variables) then passes l n R else Some R) ≡ Some T → LeavesPending S T
       at None f ih e = cc
       at (Some R) f ih e =
           let left = pass_leaves S R sound fits of f in
-          goes R left (nat_lt (count_unbound R.variables) (count_unbound S.variables)) (λ e. ih R left.leads.sound (left.leads.later.fits fits) left.goals e) e
+          goes R left (nat_lt (count_unbound R.variables) (count_unbound S.variables)) (λ e. ih R left.leads.sound (fits_later left.leads.later fits) left.goals e) e
 
 -- What is settled
 
@@ -254,7 +254,7 @@ settled_is l S T c e = at (passes l 8 S) e
     at (Some R) e = ap (λ (q : Certainty × State). Some q.1) (let is : with_certainty R ≡ (c, T) = cc in is)
 
 -- What settling leaves pending are goals of the state that it leaves, which follows.
-pub settling_follows : (l : Listing) → IsListing l → (S T : State) (L : Live) (c : Certainty) → IsSound S L → ValuesFit S → GoalsAreOf S L S.pending → settled l S ≡ Some (c, T) → LeavesGoals S T L T.pending
+pub settling_follows : (l : Listing) → IsListing l → (S T : State) (L : Live) (c : Certainty) → IsSound S L → ValuesFit S L → GoalsAreOf S L S.pending → settled l S ≡ Some (c, T) → LeavesGoals S T L T.pending
 settling_follows l listing S T L c sound fits of e =
     let left = passes_leave l listing L 8 S T sound fits of (settled_is l S T c e) in
-    record { follows = record { live = L; within = λ n l c. c; sound = left.leads.sound; later = left.leads.later }; goals = left.goals }
+    record { follows = record { live = L; within = λ n l c. c; sound = left.leads.sound; fits = fits_later left.leads.later fits; later = left.leads.later }; goals = left.goals }

@@ -98,7 +98,7 @@ pub rooted_same : (S : State) (L : Live) (us : Scope) (w : Values) → Absorbs w
 rooted_same S L us w a x y s r =
     sym (resolved_absorbed S L w a (alone y) r.side.known r.side.leaves) ∙ ap (λ ts. erase (put_in w ts)) r.resolves ∙ resolved_absorbed S L w a (alone x) s.known s.leaves
 
-module _ (S : State) (L : Live) (us : Scope) (sound : IsSound S L) (fits : ValuesFit S) (leafy : HasLeafValues S L) where
+module _ (S : State) (L : Live) (us : Scope) (sound : IsSound S L) (fits : ValuesFit S L) (leafy : HasLeafValues S L) where
   value_rooted : (v : Variable) (a : Forest) (t : Tree) → Side S L us (tree (H.Infer v) a none) → value_at S (H.Infer v) ≡ Some t → Rooted S L us (record { head = H.Infer v; children = a }) t
   value_rooted v a t s e =
       let k = holds_parts (is_strange S L) (H.Infer v) a none s.known in
@@ -108,7 +108,7 @@ module _ (S : State) (L : Live) (us : Scope) (sound : IsSound S L) (fits : Value
       record {
         side = record {
           known = value_known S L sound (H.Infer v) t k.here e;
-          is_closed = escapes_on 0 (length us) (alone t) (omega arith) (value_closed S fits (H.Infer v) t e);
+          is_closed = escapes_on 0 (length us) (alone t) (omega arith) (value_closed S L fits (H.Infer v) t k.here e);
           leaves = value_leaves S L leafy (H.Infer v) t k.here e;
           no_alias = ap (holds is_alias) same ∙ s.no_alias;
         };

@@ -59,12 +59,12 @@ pub kind_is : (i : VariableInfo) (s : VariableSort) → has_kind (Term s) (Some 
 kind_is i s e = kind_same i.kind (Term s) e
 
 -- a value that is put in is of the kind of what it stands for
-pub value_fits : (S : State) → ValuesFit S → (k : VariableKind) (n : ℕ) (t : Tree) → value_as S k n ≡ Some t → fits_kind k t.head ≡ true
-value_fits S fits k n t e = at (info S n) refl (value_as_kind S k n t e)
+pub value_fits : (S : State) (L : Live) → ValuesFit S L → (k : VariableKind) (n : ℕ) (t : Tree) → L n ≡ true → value_as S k n ≡ Some t → fits_kind k t.head ≡ true
+value_fits S L fits k n t counts e = at (info S n) refl (value_as_kind S k n t e)
   where
     at : (o : Option VariableInfo) → info S n ≡ o → has_kind k o ≡ true → fits_kind k t.head ≡ true
     at None there c = cc
-    at (Some i) there c = ap (λ k. fits_kind k t.head) (sym (kind_same i.kind k c)) ∙ (fits n).kind i t there (value_there S k n i t there e)
+    at (Some i) there c = ap (λ k. fits_kind k t.head) (sym (kind_same i.kind k c)) ∙ (fits n counts).kind i t there (value_there S k n i t there e)
 
 pub leaf_region : (h : Head) → is_region h ≡ true → is_leaf h ≡ true
 leaf_region (H.Region r) e = by r
@@ -81,7 +81,7 @@ region_row w none_there t is l = at t.head t.children is (l.0 (leaf_region t.hea
     at (H.Region r) c e f = ap (λ c. erase (put_in w (tree (H.Region r) c none))) f ∙ ap (λ o. erase (alone (unwrap_or o (leaf (H.Region r))))) (none_there r)
     at _ c e f = cc
 
-pub met_absorbs : (S : State) (L : Live) (s : Substitution) → ValuesFit S → HasLeafValues S L → IsMet S L s → Absorbs (assigned s) S L
+pub met_absorbs : (S : State) (L : Live) (s : Substitution) → ValuesFit S L → HasLeafValues S L → IsMet S L s → Absorbs (assigned s) S L
 met_absorbs S L s fits leafy m h t k e = at h k e (value_leaves S L leafy h t k e)
   where
     at : (h : Head) → is_strange S L h ≡ false → value_at S h ≡ Some t → AreLeaves (alone t) → made s (alone t) ≡ made s (tree h none none)
@@ -89,7 +89,7 @@ met_absorbs S L s fits leafy m h t k e = at h k e (value_leaves S L leafy h t k 
         let i = has_info (L v.number) (Term v.sort) (info S v.number) k in
         let kind : i.0.kind ≡ Term v.sort = kind_is i.0 v.sort (sym (ap (has_kind (Term v.sort)) i.1) ∙ kind_there (L v.number) (Term v.sort) (info S v.number) k) in
         sym (made_is s (alone t) l) ∙ sym (m.extends v i.0 t i.2 i.1 kind (value_there S (Term v.sort) v.number i.0 t i.1 e))
-    at (H.Region (R.Var n)) k e l = region_row (assigned s) (λ r. refl) t (value_fits S fits Region n t e) l
+    at (H.Region (R.Var n)) k e l = region_row (assigned s) (λ r. refl) t (value_fits S L fits Region n t (has_info (L n) Region (info S n) k).2 e) l
     at _ k e l = cc
 
 -- What erasing leaves

@@ -54,7 +54,7 @@ pub record PairStands (S : State) (L : Live) (p : Pair) : Type 0 where
 
 pub record Stands (S : State) (L : Live) (ps : List Pair) : Type 0 where
   pub sound : IsSound S L
-  pub fits : ValuesFit S
+  pub fits : ValuesFit S L
   pub pairs : All (PairStands S L) ps
 
 -- No alias is left on either side once values are put in; and variables and regions are leaves, on both sides and in values.
