@@ -195,6 +195,20 @@ module _ (S T : State) (L M : Live) (later : IsLater S T L) (within : Within S L
     agrees = agrees;
   }
 
+-- Each sound state has a solution: where nothing counts nothing is asked of one, and that makes one of all that counts.
+
+abbrev nothing_counts : Live
+nothing_counts n = false
+
+sound_of_none : (S : State) → IsSound S nothing_counts
+sound_of_none S = record { allowed = λ s n i t c. cc; no_higher = λ n i t c. cc; is_resolved = λ n i t c. cc; known = λ n i t c. cc; universes = λ n i c. cc }
+
+pub has_solution : (S : State) (L : Live) → IsSound S L → (s : Substitution) × IsSolution S L s
+has_solution S L wide =
+    let none_there : IsSolution S nothing_counts [] = record { allowed = tt; extends = λ v i t c. cc } in
+    let k = kept S S nothing_counts L (later_itself S nothing_counts (sound_of_none S)) (λ n less c. cc) (sound_of_none S) wide (λ n i t c. cc) [] (solution_met S nothing_counts [] none_there) in
+    (k.further, k.solution)
+
 -- One look
 
 pub solves_all : (S : State) (L : Live) (ps : List Pair) (s : Substitution) → ArePlain S L ps → SolvesAll S L ps s → Solved S L ps s

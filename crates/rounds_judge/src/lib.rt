@@ -6,12 +6,17 @@ ghost use Rattle.std.specs.Prelude.{ℕ, List};
 ghost use Rattle.candidate_ir.specs.Trees.{Tree};
 ghost use Rattle.candidate_ir.specs.Worlds.{World};
 ghost use Rattle.candidate_eval.specs.Lawful.{Lawful};
+ghost use Rattle.candidate_eval.specs.Soundness.{IsSolution, IsSound, Live};
+ghost use Rattle.candidate_eval.specs.States.{State};
+ghost use Rattle.candidate_ir.specs.Substitutions.{Substitution};
 ghost use Rattle.rounds_judge.specs.Listed.{Listing};
 ghost use Rattle.rounds_judge.specs.WellListed.{well_listed};
 ghost use Rattle.rounds_judge.specs.RoundsJudge.{rounds_judge};
 
 /// Whatever is declared, and whatever pairs and opaque types it is given, of which those pairs count that may be listed, the judge
-/// keeps the laws of an evaluator. Nothing is done.
+/// keeps the laws of an evaluator. Each sound state has a solution, so that what is said of equations without one says something. Nothing
+/// is done.
 pub fn keeps_the_laws()
-    ensures { (w : World) (local : ℕ) (pairs : Listing) (opaques : List Tree) → Lawful (rounds_judge w local (well_listed pairs) opaques) }
+    ensures solvable { (S : State) (L : Live) → IsSound S L → (s : Substitution) × IsSolution S L s }
+    ensures lawful { (w : World) (local : ℕ) (pairs : Listing) (opaques : List Tree) → Lawful (rounds_judge w local (well_listed pairs) opaques) }
 {}
