@@ -36,3 +36,4 @@ pub mod Second
 pub mod Naming
 pub mod ObjectRules
 pub mod Noting
+pub mod Knowing

@@ -11,7 +11,7 @@ ghost use Rattle.candidate_eval.specs.Evaluators.{IsEvaluatorRefusal, IsEvaluato
 ghost use Rattle.candidate_eval.specs.ResponseTrees.{IsResponse, response_of};
 ghost use Rattle.candidate_eval.specs.States.{Env, State, added, fresh_variables, next, resolved, resolved_tree, with_fresh_variables};
 ghost use Rattle.candidate_rounds.specs.Inferences.{IsFullAt, IsOutOfRoom};
-ghost use Rattle.candidate_rounds.specs.Interface.{Fixed, Rest, fixed, judge_of, rest, rest_parts, root_stays};
+ghost use Rattle.candidate_rounds.specs.Interface.{Fixed, Rest, fixed, judge_of, rest, rest_parts, root_stays, state_seen};
 ghost use Rattle.candidate_rounds.specs.Known.{GoesOn, KeepsGiven, listing, probes, state};
 ghost use Rattle.candidate_rounds.specs.Stopping.{IsAnsweringStop, IsEquationStop, IsSettlingStop, IsTreeStop};
 ghost use Rattle.rounds_judge.specs.Equating.{equated};
@@ -518,15 +518,9 @@ impl EvalCtxt for Rounds {
 
     ghost walks = { λ _. refl };
 
-    ghost seen_at = { λ _ S. S };
-
-    ghost state_seen = { λ S. S };
-
-    ghost sees = { λ _. refl };
-
-    ghost shows = { λ _ _. refl };
-
     ghost resolves = { λ _ _. refl };
+
+    ghost sees = { state_seen };
 
     ghost by_rest = { rest_parts };
 }
