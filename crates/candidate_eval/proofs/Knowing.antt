@@ -1,5 +1,5 @@
 -- What an evaluator knows of impls is what its judge knows.
-use Rattle.std.proofs.Common.{◌≡◌, ℕ, true, List, [], ◌∷◌, Result, Err, refl, sym, ◌∙◌, ap, subst}
+use Rattle.std.proofs.Common.{◌≡◌, ℕ, inl, inr, true, List, [], ◌∷◌, Result, Err, refl, sym, ◌∙◌, ap, subst}
 use Rattle.std.specs.Fn.{Mut}
 use Rattle.std.specs.Borrow.{MutBor}
 use Rattle.candidate_ir.specs.declared.ir.kinds.ParamEnv.{ParamEnv}
@@ -19,9 +19,9 @@ use Rattle.candidate_eval.specs.Answers.{KnownResult, IsKnowledge, knowledge_of}
 use Rattle.candidate_eval.specs.Calls.{IsKnown, knowledge_about, depth_limit}
 use Rattle.candidate_eval.specs.Evaluators.{Keeps, IsEvaluatorStop}
 use Rattle.candidate_eval.specs.Judging.{seen_of, judge_view, judge_knows}
-use Rattle.candidate_eval.specs.Knowing.{NormalizesAsJudged, SeesStates, own_stop}
+use Rattle.candidate_eval.specs.Knowing.{IsKnowingStop, NormalizesAsJudged, SeesStates, own_stop}
 use Rattle.candidate_eval.specs.Limits.{Limits, declared_limits}
-use Rattle.candidate_eval.specs.Normalizer.{Call, Description, IsFunction, IsReached, IsTold, Lead, Normalizes, shown}
+use Rattle.candidate_eval.specs.Normalizer.{Answers, Call, Description, IsFunction, IsLeftByCalls, IsReached, IsStopCause, IsTold, LastIs, Lead, Normalizes, shown}
 use Rattle.candidate_eval.specs.Orphan.{Sight, View, view, unless_general, Checked, Knowability, knowability}
 use Rattle.candidate_eval.specs.States.{State, Judge}
 use Rattle.candidate_eval.proofs.Objects.{env-kept}
@@ -33,6 +33,12 @@ own-stops Memory h = refl
 own-stops NodesFull h = refl
 own-stops EvaluatorLimit h = refl
 own-stops _ h = absurd h
+
+knowing-stop : (s : Stop) → IsEvaluatorStop s → IsKnowingStop s
+knowing-stop Memory h = tt
+knowing-stop NodesFull h = tt
+knowing-stop EvaluatorLimit h = tt
+knowing-stop _ h = absurd h
 
 module _ {C F X : Type 0} (context : C → Context) (g : Mut F (MutBor C × (Ty × Unit {0})) (Result Ty (NormalizeErr (Unit {0})) × (MutBor C × Unit {0})))
     (fixed : C → X) (probes : C → List State) (state : C → State) (judge : X → Judge) (env : ParamEnv) (Holds : F → Type 0)
@@ -49,6 +55,24 @@ module _ {C F X : Type 0} (context : C → Context) (g : Mut F (MutBor C × (Ty 
       let s = says k.by k.before k.type k.answer k.next k.after here l.2.call in
       let rest = lead-judged ks k.next k.after f' c' (subst Holds (sym s.0) here) l.3 in
       (rest.0, subst (λ (x : C). Keeps fixed probes context x c') l.1 (keeps-trans fixed probes context k.before k.after c' s.1.kept rest.1))
+
+  -- a stop of the last of them is the evaluator's
+  last-stop : (ks : List (Call F C (Unit {0}))) (f : F) (c : C) (f' : F) (c' : C) → Holds f → Lead context g f c ks f' c' → (s : Stop) → LastIs (Answers s) ks → IsEvaluatorStop s
+  last-stop [] f c f' c' h l s e = absurd e
+  last-stop (k ∷ []) f c f' c' h l s e = (says k.by k.before k.type k.answer k.next k.after (subst Holds (sym l.0) h) l.2.call).1.stops s e
+  last-stop (k ∷ j ∷ ks) f c f' c' h l s e =
+      let here = subst Holds (sym l.0) h in
+      let n = says k.by k.before k.type k.answer k.next k.after here l.2.call in
+      last-stop (j ∷ ks) k.next k.after f' c' (subst Holds (sym n.0) here) l.3 s e
+
+  stop-of : (ks : List (Call F C (Unit {0}))) (f : F) (c : C) (f' : F) (c' : C) (levels : ℕ) → Holds f → Lead context g f c ks f' c' → (s : Stop) → IsStopCause context g levels ks s → IsKnowingStop s
+  stop-of ks f c f' c' n h l s (inl e) = subst IsKnowingStop (sym e) tt
+  stop-of ks f c f' c' n h l s (inr (inl e)) = subst IsKnowingStop (sym e.0) tt
+  stop-of ks f c f' c' n h l s (inr (inr (inl e))) = subst IsKnowingStop (sym e.0) tt
+  stop-of ks f c f' c' n h l s (inr (inr (inr e))) = knowing-stop s (last-stop ks f c f' c' h l s e)
+
+  pub left-stop : {levels : ℕ} {f : F} {c : C} {f' : F} {c' : C} {stops : Stop → Type 0} → Holds f → IsLeftByCalls context g levels f c f' c' stops → (s : Stop) → stops s → IsKnowingStop s
+  left-stop {levels} {f} {c} {f'} {c'} h l s e = stop-of l.calls f c f' c' levels h l.lead s (l.cause s e)
 
   module _ {V : Type 0} (shows : C → V) (resolve : V → Tree → Tree) (law : SeesStates shows resolve fixed state) (f0 : F) (c0 : C)
       (given : IsParamEnv (context c0).trees env) (held : Holds f0) where

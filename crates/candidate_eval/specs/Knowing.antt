@@ -3,7 +3,7 @@ use Rattle.std.specs.Prelude.{◌≡◌, true, false, List, Result, Err, IfOk}
 use Rattle.candidate_ir.specs.declared.ir.kinds.ParamEnv.{ParamEnv}
 use Rattle.candidate_ir.specs.declared.ir.kinds.Ty.{Ty}
 use Rattle.candidate_ir.specs.declared.ir.stop.Stop.{Stop}
-use Rattle.candidate_ir.specs.declared.ir.stop.Stop.TheVariants.{Memory, NodesFull, EvaluatorLimit}
+use Rattle.candidate_ir.specs.declared.ir.stop.Stop.TheVariants.{Memory, NodesFull, EvaluatorLimit, WalkDepth, Unnameable}
 use Rattle.candidate_ir.specs.Context.{Context}
 use Rattle.candidate_ir.specs.Trees.{Tree}
 use Rattle.candidate_ir.specs.Words.{IsTy, ty_tree, env_forest}
@@ -20,6 +20,12 @@ own_stop Memory = true
 own_stop NodesFull = true
 own_stop EvaluatorLimit = true
 own_stop _ = false
+
+-- the stops of a check by an evaluator: its own, and the walk's
+abbrev pub IsKnowingStop : Stop → Type 0
+IsKnowingStop WalkDepth = Unit {0}
+IsKnowingStop Unnameable = Unit {0}
+IsKnowingStop s = IsEvaluatorStop s
 
 -- A type was normalised as the judge says: the answer and the state that is left, unless the evaluator stopped.
 pub record NormalizesAsJudged {C X : Type 0} (context : C → Context) (fixed : C → X) (probes : C → List State) (state : C → State) (judge : X → Judge)

@@ -6,13 +6,14 @@ ghost use Rattle.candidate_ir.specs.Words.{IsArgs, IsParamEnv, IsTy, env_forest}
 ghost use Rattle.candidate_eval.specs.Answers.{knowledge_of};
 ghost use Rattle.candidate_eval.specs.Evaluators.{Keeps};
 ghost use Rattle.candidate_eval.specs.Judging.{judge_knows};
-ghost use Rattle.candidate_eval.specs.Knowing.{NormalizesAsJudged, own_stop};
+ghost use Rattle.candidate_eval.specs.Knowing.{IsKnowingStop, NormalizesAsJudged, own_stop};
 ghost use Rattle.candidate_eval.specs.Normalizer.{IsTold};
 
 use crate::coherence::{Conflict, NormalizeErr, OrphanStop, knowable};
 use crate::eval::context::EvalCtxt;
 use crate::eval::refusal::NoSolutionOrStop;
 use candidate_ir::ir::kinds::{ParamEnv, TraitRef, Ty};
+use candidate_ir::ir::stop::Stop;
 use std::alloc::Global;
 
 /// The evaluator's normal form of a type.
@@ -43,6 +44,7 @@ pub fn is_knowable<E: EvalCtxt>(
     requires args { IsArgs (E.context ecx.old).trees trait_ref.args }
     ensures kept { Keeps E.fixed E.probes E.context ecx.old ecx.new }
     ensures answer { IsTold own_stop result → judge_knows (E.judge (E.fixed ecx.old)) (env_forest (E.context ecx.old).trees env) (E.state ecx.old) (reference_of (E.context ecx.old).trees trait_ref) ≡ record { answer = knowledge_of result; after = E.state ecx.new } }
+    ensures cause { (s : Stop) → result ≡ Err (OrphanStop.Stop s) → IsKnowingStop s }
 {
     let mut normalize = move |ecx: &mut E, ty: Ty| -> Result<Ty, NormalizeErr<()>>
         requires env { IsParamEnv (E.context ecx.old).trees env }

@@ -2,7 +2,7 @@ use Rattle.std.proofs.Common.{rules, ◌≡◌, refl}
 use Rattle.candidate_ir.specs.Words.{IsParamEnv}
 use Rattle.candidate_eval.specs.Knowing.{NormalizesAsJudged}
 use Rattle.candidate_eval.proofs.Objects.{env-kept}
-use Rattle.candidate_eval.proofs.Knowing.{lead-judged, knows-as-judged}
+use Rattle.candidate_eval.proofs.Knowing.{lead-judged, left-stop, knows-as-judged}
 use Rattle.candidate_eval.proofs.eval.knowing.is_knowable.Goals as goal
 
 pub knowable-requires-clause-normaliser : goal.knowable-requires-clause-normaliser
@@ -44,3 +44,9 @@ returns-clause-answer g c =
     knows-as-judged c.knowable.ensures.answer E.fixed E.probes E.state E.judge c.args.env (λ z. z.0 ≡ c.args.env)
     (λ f x t r f' x' h n. let k = n.called in let l = n.lends in let m = n.leaves in (search rules, search rules))
     L.sees c.requires.env refl (L.declared x) (L.walks (E.fixed x))
+
+pub returns-clause-cause : goal.returns-clause-cause
+returns-clause-cause g c =
+    let E = g.E.EvalCtxt in
+    left-stop g.E.Build.context _ E.fixed E.probes E.state E.judge c.args.env (λ z. z.0 ≡ c.args.env)
+    (λ f x t r f' x' h n. let k = n.called in let l = n.lends in let m = n.leaves in (search rules, search rules)) refl c.knowable.ensures.calls
