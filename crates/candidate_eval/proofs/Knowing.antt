@@ -7,10 +7,10 @@ use Rattle.candidate_ir.specs.declared.ir.kinds.TraitRef.{TraitRef}
 use Rattle.candidate_ir.specs.declared.ir.kinds.Ty.{Ty}
 use Rattle.candidate_ir.specs.declared.ir.stop.Stop.{Stop}
 use Rattle.candidate_ir.specs.declared.ir.stop.Stop.TheVariants.{Memory, NodesFull, EvaluatorLimit}
-use Rattle.candidate_ir.specs.Context.{Context, Grows, world}
+use Rattle.candidate_ir.specs.Context.{Context, world}
 use Rattle.candidate_ir.specs.References.{reference_of}
 use Rattle.candidate_ir.specs.Trees.{Forest, Tree}
-use Rattle.candidate_ir.specs.Words.{IsTy, IsParamEnv, ty_tree, env_forest}
+use Rattle.candidate_ir.specs.Words.{IsParamEnv, ty_tree, env_forest}
 use Rattle.candidate_ir.specs.Worlds.{World}
 use Rattle.candidate_ir.proofs.Kept.{grows-refl}
 use Rattle.candidate_eval.specs.declared.coherence.NormalizeErr.{NormalizeErr}
@@ -21,7 +21,7 @@ use Rattle.candidate_eval.specs.Evaluators.{Keeps, IsEvaluatorStop}
 use Rattle.candidate_eval.specs.Judging.{seen_of, judge_view, judge_knows}
 use Rattle.candidate_eval.specs.Knowing.{IsKnowingStop, NormalizesAsJudged, SeesStates, own_stop}
 use Rattle.candidate_eval.specs.Limits.{Limits, declared_limits}
-use Rattle.candidate_eval.specs.Normalizer.{Answers, Call, Description, IsFunction, IsLeftByCalls, IsReached, IsStopCause, IsTold, LastIs, Lead, Normalizes, shown}
+use Rattle.candidate_eval.specs.Normalizer.{Answers, Call, Description, IsFunction, IsLeftByCalls, IsStopCause, IsTold, LastIs, Lead, Normalizes, shown}
 use Rattle.candidate_eval.specs.Orphan.{Sight, View, view, unless_general, Checked, Knowability, knowability}
 use Rattle.candidate_eval.specs.States.{State, Judge}
 use Rattle.candidate_eval.proofs.Objects.{env-kept}

@@ -1,5 +1,4 @@
 use Rattle.std.proofs.Common.{rules, ◌≡◌, refl}
-use Rattle.candidate_ir.specs.Words.{IsParamEnv}
 use Rattle.candidate_eval.specs.Knowing.{NormalizesAsJudged}
 use Rattle.candidate_eval.proofs.Objects.{env-kept}
 use Rattle.candidate_eval.proofs.Knowing.{lead-judged, left-stop, knows-as-judged}
