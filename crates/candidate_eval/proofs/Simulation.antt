@@ -3,8 +3,8 @@ use Rattle.std.proofs.Common.{◌≡◌, ℕ, zero, suc, Bool, true, false, List
 use Rattle.candidate_ir.specs.declared.ir.heads.Head.{Head}
 use Rattle.candidate_ir.specs.declared.ir.heads.Head.TheVariants as H
 use Rattle.candidate_ir.specs.Trees.{Forest, none, tree, Tree, is_type}
-use Rattle.candidate_ir.specs.Worlds.{World}
-use Rattle.candidate_eval.specs.Orphan.{Seen, Sees, Fails, Sight, View, Item, Step, left, or_empty, walked, looked, visit, over, CrateTest, crate_test, is_local, is_fundamental, InCrate, Class, IsNonLocal, IsSkipped, IsEmpty, IsLocal, IsUncovered, IsBroken, class_of, Answer, NonLocalInput, Checked, decides, decides_again, first_step, entry, entries, second, decided, judged, orphan_answer}
+use Rattle.candidate_ir.specs.Worlds.{World, Reference}
+use Rattle.candidate_eval.specs.Orphan.{Seen, Sees, Fails, Sight, View, Item, Step, left, or_empty, walked, looked, visit, over, CrateTest, crate_test, is_local, is_fundamental, InCrate, Class, IsNonLocal, IsSkipped, IsEmpty, IsLocal, IsUncovered, IsBroken, class_of, Answer, NonLocalInput, Checked, decides, decides_again, first_step, entry, entries, second, decided, judged, orphan_answer, Local, Remote, Proper, Passes, UncoveredInput, Faulty, Knowability, Knowable, by_answer, by_proper_check, by_remote_check, local_or_fundamental, knowability}
 
 module _ {S T E : Type 0} (h : S → T) where
   abbrev steps_seen : List (Step S E) → List (Step T E)
@@ -116,3 +116,38 @@ module _ {S T E : Type 0} (h : S → T) where
       let P : List (Step T E) → Type 0 = λ l. SeenAs (orphan_answer w c m v limit s a) (judged k again' (h s) l (first_step decides k l)) in
       let Q : Option (Step T E) → Type 0 = λ o. SeenAs (orphan_answer w c m v limit s a) (judged k again' (h s) (steps_seen (again s)) o) in
       subst P (sym (r s)) (subst Q (sym (first_seen decides k (again s))) (judged_seen k again again' r s (again s) (first_step decides k (again s))))
+
+  -- what is known of impls, likewise
+  abbrev known_seen : Checked S (Knowability E) → Checked T (Knowability E)
+  known_seen k = record { answer = k.answer; after = h k.after }
+
+  proper_seen : (c : Checked S (Answer E)) (d : Checked T (Answer E)) → SeenAs c d → by_proper_check d ≡ known_seen (by_proper_check c)
+  proper_seen c d e =
+      ap (λ (a : Answer E). let k : Checked T (Knowability E) = record { answer = by_answer a; after = d.after } in k) e.answer
+      ∙ ap (λ (z : T). let k : Checked T (Knowability E) = record { answer = by_answer c.answer; after = z } in k) e.leaves
+
+  own_seen : (b : Bool) (s : S) (c : Checked S (Answer E)) (d : Checked T (Answer E)) → SeenAs c d
+      → (if b then record { answer = Knowable; after = h s } else by_proper_check d) ≡ known_seen (if b then record { answer = Knowable; after = s } else by_proper_check c)
+  own_seen true s c d e = refl
+  own_seen false s c d e = proper_seen c d e
+
+  remote_seen : (own : Bool) (proper : S → Checked S (Answer E)) (proper' : T → Checked T (Answer E)) → ((s : S) → SeenAs (proper s) (proper' (h s)))
+      → (s : S) (a : Answer E) → by_remote_check own proper' (h s) a ≡ known_seen (by_remote_check own proper s a)
+  remote_seen own proper proper' e s Passes = refl
+  remote_seen own proper proper' e s (Faulty f) = refl
+  remote_seen own proper proper' e s (NonLocalInput l) = own_seen own s (proper s) (proper' (h s)) (e s)
+  remote_seen own proper proper' e s (UncoveredInput t o) = own_seen own s (proper s) (proper' (h s)) (e s)
+
+  pub knowledge_seen : (v : View S E) (u : View T E) → ((s : S) (t : Tree) → u (h s) t ≡ record { seen = (v s t).seen; after = h (v s t).after })
+      → (w : World) (c limit : ℕ) (s : S) (r : Reference)
+      → knowability w c u limit (h s) r ≡ record { answer = (knowability w c v limit s r).answer; after = h (knowability w c v limit s r).after }
+  knowledge_seen v u sim w c limit s r =
+      let own = local_or_fundamental w c r.trait in
+      let proper : S → Checked S (Answer E) = λ z. orphan_answer w c (Local Proper) v limit z r.arguments in
+      let proper' : T → Checked T (Answer E) = λ z. orphan_answer w c (Local Proper) u limit z r.arguments in
+      let remote : Checked S (Answer E) = orphan_answer w c Remote v limit s r.arguments in
+      let remote' : Checked T (Answer E) = orphan_answer w c Remote u limit (h s) r.arguments in
+      let e : SeenAs remote remote' = answer_seen v u sim w c Remote limit s r.arguments in
+      ap (λ (a : Answer E). by_remote_check own proper' remote'.after a) e.answer
+      ∙ (ap (λ (z : T). by_remote_check own proper' z remote.answer) e.leaves
+      ∙ remote_seen own proper proper' (λ z. answer_seen v u sim w c (Local Proper) limit z r.arguments) remote.after remote.answer)

@@ -37,3 +37,4 @@ pub mod Second
 pub mod Naming
 pub mod ObjectRules
 pub mod Noting
+pub mod Knowing

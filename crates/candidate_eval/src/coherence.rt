@@ -283,8 +283,9 @@ pub enum Conflict {
     Downstream,
 }
 
-/// What may be known of a reference's impls, by a normaliser that is used again.
-fn knowable<C, E, F>(
+/// What may be known of a reference's impls, by a normaliser that is used again: the call below, of any
+/// reference. Where a parameter is met it stops with `Unnameable`.
+pub fn knowable<C, E, F>(
     alloc: Global,
     infcx: &mut C,
     trait_ref: TraitRef,

@@ -3,6 +3,7 @@
 pub mod ambiguity;
 pub mod certainty;
 pub mod context;
+pub mod knowing;
 pub mod limits;
 pub mod mode;
 pub mod refusal;

@@ -8,6 +8,7 @@ use Rattle.candidate_ir.specs.Substitutions.{is_variable}
 use Rattle.candidate_ir.specs.Trees.{Tree}
 use Rattle.candidate_ir.specs.Worlds.{World}
 use Rattle.candidate_eval.specs.Evaluators.{alias_trees, resolved_root, root_value}
+use Rattle.candidate_eval.specs.Knowing.{SeesStates}
 use Rattle.candidate_eval.specs.States.{Judge, State}
 use Rattle.rounds_judge.specs.Listed.{Listing}
 use Rattle.rounds_judge.specs.RoundsJudge.{rounds_judge}
@@ -38,7 +39,7 @@ pub record Rest : Type 0 where
 abbrev pub rest : Evaluator → Rest
 rest r = record { fixed = fixed r; state = state r; probes = probes r; faults = r.context.delayed_bugs }
 
--- Two laws of the interface.
+-- Three laws of the interface.
 
 pub rest_parts : (r s : Evaluator) → rest s ≡ rest r → (fixed s ≡ fixed r) × (state s ≡ state r) × (probes s ≡ probes r)
 rest_parts r s e = (ap (λ (x : Rest). x.fixed) e, ap (λ (x : Rest). x.state) e, ap (λ (x : Rest). x.probes) e)
@@ -49,3 +50,12 @@ root_stays S t e = ap (λ (o : Option Tree). unwrap_or o t) (at t.head e)
     at : (h : Head) → is_variable h ≡ false → root_value S h ≡ None
     at (H.Infer v) e = cc
     at _ e = refl
+
+pub state_seen : SeesStates state resolved_root fixed state
+state_seen = record {
+  seen_at = λ f S. S;
+  state_of = λ S. S;
+  sees = λ r. refl;
+  shows = λ f S. refl;
+  resolves = λ S t. refl;
+}

@@ -15,6 +15,8 @@ use candidate_eval::coherence::{
     trait_ref_is_local_or_fundamental, trait_ref_is_plain,
 };
 use candidate_eval::eval::InferCtxtLike;
+use candidate_eval::eval::context::EvalCtxt;
+use candidate_eval::eval::knowing::is_knowable;
 use candidate_ir::decl::make::{Build, Make};
 use candidate_ir::ir::kinds::{Mutability, RegionKind, TraitRef, Ty, TyKind, UintTy};
 use candidate_ir::ir::stop::Stop;
@@ -178,6 +180,23 @@ fn coherence<C: InferCtxtLike>(
             trait_ref_is_knowable(alloc, infcx, trait_ref, normalize),
         ),
     }
+}
+
+/// What is known of the reference's impls by an evaluator's own normal forms, where nothing is taken as given.
+pub(crate) fn known_to<E: EvalCtxt>(
+    alloc: Global,
+    ecx: &mut E,
+    reference: TraitRef,
+) -> Result<Answer, Refusal> {
+    let env = ecx.mk_param_env(&[])?;
+    let args = args_at(ecx.cx(), reference.args.0)?;
+    let def_id = reference.def_id;
+    let outcome = match is_knowable(alloc, ecx, env, TraitRef { def_id, args }) {
+        Ok(outcome) => Ok(outcome),
+        Err(OrphanStop::Normalize(())) => Err(OrphanStop::Normalize(0)),
+        Err(OrphanStop::Stop(stop)) => Err(OrphanStop::Stop(stop)),
+    };
+    known(alloc, outcome)
 }
 
 /// What the row asks of a reference, if it is one of these rows.

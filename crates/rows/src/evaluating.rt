@@ -109,6 +109,10 @@ impl<'a> Session<'a> {
                 let reference = self.reader.operand(rounds, row.left)?.reference();
                 checks::answer(alloc, rounds, row, reference)
             }
+            "known" => {
+                let reference = self.reader.operand(rounds, row.left)?.reference();
+                checks::known_to(alloc, rounds, reference)
+            }
             "subst" => {
                 let of = made(&mut self.reader, rounds, row)?;
                 substituted(alloc, rounds, Value::Node(of.left), of.right)

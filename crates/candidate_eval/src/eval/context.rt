@@ -13,6 +13,7 @@ ghost use Rattle.candidate_eval.specs.Accounts as question;
 ghost use Rattle.candidate_ir.specs.declared.ir.stop.Stop.{Stop};
 ghost use Rattle.candidate_eval.specs.Lawful.{Lawful};
 ghost use Rattle.candidate_eval.specs.Limits.{declared_limits};
+ghost use Rattle.candidate_eval.specs.Knowing.{SeesStates};
 ghost use Rattle.candidate_eval.specs.ResponseTrees.{IsResponse, response_of};
 ghost use Rattle.candidate_eval.specs.States.{State, Judge, added, fresh_variables, with_fresh_variables, resolved, resolved_tree};
 
@@ -278,20 +279,11 @@ pub trait EvalCtxt: InferCtxtLike {
     /// Its limits are those that are declared: it walks as deep as the code.
     ghost walks: { (f : Fixed) → (judge f).limits ≡ declared_limits };
 
-    /// What is seen of an evaluator with that fixed at that state.
-    ghost seen_at: { Fixed → State → Self.Seen };
+    /// What a variable resolves to is its value in the state.
+    ghost resolves: { (s : Self) (t : Tree) → Self.resolved (Self.seen s) t ≡ resolved_root (state s) t };
 
-    /// The state that is seen.
-    ghost state_seen: { Self.Seen → State };
-
-    /// What is fixed and the state say what is seen.
-    ghost sees: { (s : Self) → Self.seen s ≡ seen_at (fixed s) (state s) };
-
-    /// The state is seen.
-    ghost shows: { (f : Fixed) (S : State) → state_seen (seen_at f S) ≡ S };
-
-    /// What a variable resolves to is its value in the state that is seen.
-    ghost resolves: { (v : Self.Seen) (t : Tree) → Self.resolved v t ≡ resolved_root (state_seen v) t };
+    /// What is seen is the state, of what is fixed.
+    ghost sees: { SeesStates Self.seen Self.resolved fixed state };
 
     /// Making a node changes nothing of it.
     ghost by_rest: { (s t : Self) → Self.rest t ≡ Self.rest s → (fixed t ≡ fixed s) × (state t ≡ state s) × (probes t ≡ probes s) };

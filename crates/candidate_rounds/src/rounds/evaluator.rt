@@ -13,7 +13,7 @@ ghost use Rattle.candidate_eval.specs.Evaluators.{IsGoal, Keeps, accepted, alias
 ghost use Rattle.candidate_eval.specs.ResponseTrees.{IsResponse, response_of};
 ghost use Rattle.candidate_eval.specs.States.{Env, State, added, fresh_variables, next, resolved, resolved_tree, with_fresh_variables};
 ghost use Rattle.candidate_rounds.specs.Inferences.{IsFullAt, IsOutOfRoom};
-ghost use Rattle.candidate_rounds.specs.Interface.{Fixed, Rest, fixed, judge_of, rest, rest_parts, root_stays};
+ghost use Rattle.candidate_rounds.specs.Interface.{Fixed, Rest, fixed, judge_of, rest, rest_parts, root_stays, state_seen};
 ghost use Rattle.candidate_rounds.specs.Known.{GoesOn, KeepsGiven, listing, probes, state};
 ghost use Rattle.candidate_rounds.specs.StopKinds.{stops_itself};
 ghost use Rattle.candidate_rounds.specs.Stopping.{accounts};
@@ -507,15 +507,9 @@ impl EvalCtxt for Rounds {
 
     ghost walks = { λ _. refl };
 
-    ghost seen_at = { λ _ S. S };
-
-    ghost state_seen = { λ S. S };
-
-    ghost sees = { λ _. refl };
-
-    ghost shows = { λ _ _. refl };
-
     ghost resolves = { λ _ _. refl };
+
+    ghost sees = { state_seen };
 
     ghost by_rest = { rest_parts };
 }

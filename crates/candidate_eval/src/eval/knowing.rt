@@ -1,0 +1,55 @@
+//! What an evaluator knows of the impls of a trait reference.
+
+ghost use Rattle.std.specs.Prelude.{◌≡◌};
+ghost use Rattle.candidate_ir.specs.References.{reference_of};
+ghost use Rattle.candidate_ir.specs.Words.{IsArgs, IsParamEnv, IsTy, env_forest};
+ghost use Rattle.candidate_eval.specs.Answers.{knowledge_of};
+ghost use Rattle.candidate_eval.specs.Evaluators.{Keeps};
+ghost use Rattle.candidate_eval.specs.Judging.{judge_knows};
+ghost use Rattle.candidate_eval.specs.Knowing.{IsKnowingStop, NormalizesAsJudged, own_stop};
+ghost use Rattle.candidate_eval.specs.Normalizer.{IsTold};
+
+use crate::coherence::{Conflict, NormalizeErr, OrphanStop, knowable};
+use crate::eval::context::EvalCtxt;
+use crate::eval::refusal::NoSolutionOrStop;
+use candidate_ir::ir::kinds::{ParamEnv, TraitRef, Ty};
+use candidate_ir::ir::stop::Stop;
+use std::alloc::Global;
+
+/// The evaluator's normal form of a type.
+fn normal_form<E: EvalCtxt>(ecx: &mut E, env: ParamEnv, ty: Ty) -> Result<Ty, NormalizeErr<()>>
+    requires env { IsParamEnv (E.context ecx.old).trees env }
+    requires ty { IsTy (E.context ecx.old).trees ty }
+    ensures { NormalizesAsJudged E.context E.fixed E.probes E.state E.judge ecx.old ecx.new env ty result }
+{
+    match ecx.structurally_normalize_ty(env, ty) {
+        Ok(ty) => Ok(ty),
+        Err(NoSolutionOrStop::NoSolution) => Err(NormalizeErr::Failed(())),
+        Err(NoSolutionOrStop::Stop(stop)) => Err(NormalizeErr::Stop(stop)),
+    }
+}
+
+/// What may be known of the impls of a trait reference, where types are normalised as the evaluator
+/// does in the environment.
+///
+/// `OrphanStop::Normalize` is a refused normal form. Where a parameter is met it stops with
+/// `Unnameable`. After a stop of the evaluator nothing is said of its state.
+pub fn is_knowable<E: EvalCtxt>(
+    alloc: Global,
+    ecx: &mut E,
+    env: ParamEnv,
+    trait_ref: TraitRef,
+) -> Result<Result<(), Conflict>, OrphanStop<()>>
+    requires env { IsParamEnv (E.context ecx.old).trees env }
+    requires args { IsArgs (E.context ecx.old).trees trait_ref.args }
+    ensures kept { Keeps E.fixed E.probes E.context ecx.old ecx.new }
+    ensures answer { IsTold own_stop result → judge_knows (E.judge (E.fixed ecx.old)) (env_forest (E.context ecx.old).trees env) (E.state ecx.old) (reference_of (E.context ecx.old).trees trait_ref) ≡ record { answer = knowledge_of result; after = E.state ecx.new } }
+    ensures cause { (s : Stop) → result ≡ Err (OrphanStop.Stop s) → IsKnowingStop s }
+{
+    let mut normalize = move |ecx: &mut E, ty: Ty| -> Result<Ty, NormalizeErr<()>>
+        requires env { IsParamEnv (E.context ecx.old).trees env }
+        requires ty { IsTy (E.context ecx.old).trees ty }
+        ensures { NormalizesAsJudged E.context E.fixed E.probes E.state E.judge ecx.old ecx.new env ty result }
+    { normal_form(ecx, env, ty) };
+    knowable(alloc, ecx, trait_ref, &mut normalize)
+}
