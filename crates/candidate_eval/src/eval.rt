@@ -1,6 +1,7 @@
 //! What the layers above know of an evaluator.
 
 pub mod ambiguity;
+pub mod binders;
 pub mod certainty;
 pub mod context;
 pub mod mode;

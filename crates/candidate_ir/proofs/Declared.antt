@@ -36,7 +36,7 @@ use Rattle.candidate_ir.specs.Held.{held_type, held_clause, held_clauses, trait_
 use Rattle.candidate_ir.specs.Lookups.{maybe}
 use Rattle.candidate_ir.specs.Misplaced.{has_self, held_misplaces, is_misplaced, kinds_of_declared, kinds_of_impl, kinds_of_owner, tree_misplaces, with_self}
 use Rattle.candidate_ir.specs.Nodes.{tree_at}
-use Rattle.candidate_ir.specs.Owned.{AliasArgumentsFit, ClausesAreOwned, ImplIsOwned, bounds_among, is_variable}
+use Rattle.candidate_ir.specs.Owned.{AliasArgumentsFit, ClausesAreOwned, ImplIsOwned, bounds_among, is_unsolved}
 use Rattle.candidate_ir.specs.References.{ArgumentsFit}
 use Rattle.candidate_ir.specs.Trees.{Kind, TypeKind, Forest, none, tree, Tree, holds, tree_holds}
 use Rattle.candidate_ir.specs.WellFormed.{IsWellFormedTable, ImplIsGiven}
@@ -51,7 +51,7 @@ use Rattle.candidate_ir.proofs.WellFormed.{any-of, any-right, definition-passes}
 abbrev IsBarred : List VarKind → (Head → Bool) → Type 0
 IsBarred ks mark = (h : Head) → is_misplaced M.Past ks h ≡ false → is_misplaced M.Stray ks h ≡ false → mark h ≡ false
 
-variable-barred : (ks : List VarKind) → IsBarred ks is_variable
+variable-barred : (ks : List VarKind) → IsBarred ks is_unsolved
 variable-barred ks (H.Infer v) past stray = absurd cc
 variable-barred ks (H.Region (R.Var v)) past stray = absurd cc
 variable-barred ks _ past stray = refl
@@ -111,7 +111,7 @@ clauses-owned : (c : Context) (o : Owner) (args : Forest) → TakesThem c o args
 clauses-owned c o args a xs fit f = record {
   fit = fit;
   have = barred-clauses c o a.ks a.owner (lacks_argument args) (lack-barred args a.ks a.same) xs f;
-  closed = barred-clauses c o a.ks a.owner is_variable (variable-barred a.ks) xs f;
+  closed = barred-clauses c o a.ks a.owner is_unsolved (variable-barred a.ks) xs f;
 }
 
 no-clauses : (ts : List Tree) (args : Forest) (xs : List Clause) → xs ≡ [] → ClausesAreOwned ts args xs
@@ -147,7 +147,7 @@ module _ (c : Context) (t : IsWellFormedTable c) (n : ImplId) (args : Forest) wh
       let clauses : (m : Misplaced) → list_any (test c m) (ws ++ os) ≡ false = λ m. or-right _ _ (held m) in
       record {
         have = barred-list x.parameters (lacks_argument args) (lack-barred args x.parameters k) (args_forest c.trees x.trait_ref.args) (or-right _ _ (header M.Past)) (or-right _ _ (header M.Stray));
-        closed = barred-list x.parameters is_variable (variable-barred x.parameters) (args_forest c.trees x.trait_ref.args) (or-right _ _ (header M.Past)) (or-right _ _ (header M.Stray));
+        closed = barred-list x.parameters is_unsolved (variable-barred x.parameters) (args_forest c.trees x.trait_ref.args) (or-right _ _ (header M.Past)) (or-right _ _ (header M.Stray));
         wheres = clauses-owned c owner args a x.wheres g.wheres (λ m. any-of (test c m) ws os (clauses m));
         super_outlives = clauses-owned c owner args a x.super_outlives g.super_outlives (λ m. any-right (test c m) ws os (clauses m));
       }

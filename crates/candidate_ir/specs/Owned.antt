@@ -12,24 +12,24 @@ use Rattle.candidate_ir.specs.Trees.{Forest, Tree, holds, tree_holds, variable_n
 use Rattle.candidate_ir.specs.Words.{ClauseListFits, args_forest, clause_tree}
 use Rattle.candidate_ir.specs.Worlds.{alias_kinds, kinds_of}
 
-abbrev pub is_there : Option ℕ → Bool
-is_there None = false
-is_there (Some n) = true
+abbrev pub is_numbered : Option ℕ → Bool
+is_numbered None = false
+is_numbered (Some n) = true
 
 -- a variable to be solved
-abbrev pub is_variable : Head → Bool
-is_variable h = is_there (variable_number h)
+abbrev pub is_unsolved : Head → Bool
+is_unsolved h = is_numbered (variable_number h)
 
 -- The clauses are of the context. Each parameter in them has an argument of its kind, and no variable stands in them.
 pub record ClausesAreOwned (ts : List Tree) (args : Forest) (xs : List Clause) : Type 0 where
   pub fit : ClauseListFits ts xs
   pub have : All (λ x. tree_holds (lacks_argument args) (clause_tree ts x) ≡ false) xs
-  pub closed : All (λ x. tree_holds is_variable (clause_tree ts x) ≡ false) xs
+  pub closed : All (λ x. tree_holds is_unsolved (clause_tree ts x) ≡ false) xs
 
 -- The same of an impl's header and of its clauses.
 pub record ImplIsOwned (ts : List Tree) (args : Forest) (x : Impl) : Type 0 where
   pub have : holds (lacks_argument args) (args_forest ts x.trait_ref.args) ≡ false
-  pub closed : holds is_variable (args_forest ts x.trait_ref.args) ≡ false
+  pub closed : holds is_unsolved (args_forest ts x.trait_ref.args) ≡ false
   pub wheres : ClausesAreOwned ts args x.wheres
   pub super_outlives : ClausesAreOwned ts args x.super_outlives
 
