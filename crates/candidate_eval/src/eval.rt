@@ -6,6 +6,7 @@ pub mod certainty;
 pub mod context;
 pub mod mode;
 pub mod refusal;
+pub mod resolving;
 pub mod response;
 pub mod source;
 pub mod variable;
