@@ -1,5 +1,5 @@
 -- What declarations hold has arguments for its parameters, where arguments are given, and mentions no variable.
-use Rattle.std.proofs.Common.{◌≡◌, ℕ, zero, suc, ◌+◌, ◌<◌, ◌≤◌, List, [], ◌∷◌, ◌++◌, length, Bool, true, false, Option, Some, None, refl, sym, ◌∙◌, ap, subst, arith}
+use Rattle.std.proofs.Common.{◌≡◌, ℕ, zero, suc, ◌+◌, ◌≤◌, List, [], ◌∷◌, ◌++◌, length, Bool, true, false, Option, Some, None, refl, sym, ◌∙◌, ap, subst, arith}
 use Rattle.std.specs.Prelude.{◌||◌, ◌==◌, map, slice_get, option_map, All, IfSome, if◌then◌else◌}
 use Rattle.std.specs.List.{list_any}
 use Rattle.std.proofs.lemmas.Bool.{eqb-true}
@@ -12,8 +12,8 @@ use Rattle.candidate_ir.specs.declared.ir.kinds.AliasTy.{AliasTy}
 use Rattle.candidate_ir.specs.declared.ir.kinds.Clause.{Clause}
 use Rattle.candidate_ir.specs.declared.ir.kinds.RegionKind.TheVariants as R
 use Rattle.candidate_ir.specs.declared.ir.kinds.TraitRef.{TraitRef}
+use Rattle.candidate_ir.specs.declared.ir.kinds.Ty.{Ty}
 use Rattle.candidate_ir.specs.declared.ir.kinds.VarKind.{VarKind}
-use Rattle.candidate_ir.specs.declared.ir.kinds.VarKind.TheVariants as V
 use Rattle.candidate_ir.specs.declared.decl.contents.AliasBoundKind.{AliasBoundKind}
 use Rattle.candidate_ir.specs.declared.decl.contents.AliasBoundKind.TheVariants as K
 use Rattle.candidate_ir.specs.declared.decl.contents.ImplId.{ImplId}
@@ -27,21 +27,20 @@ use Rattle.candidate_ir.specs.declared.decl.held.Owner.TheVariants as O
 use Rattle.candidate_ir.specs.declared.decl.misplaced.Misplaced.{Misplaced}
 use Rattle.candidate_ir.specs.declared.decl.misplaced.Misplaced.TheVariants as M
 use Rattle.candidate_ir.specs.Context.{Context, world, definition_of, parameter_kind, sort_of}
-use Rattle.candidate_ir.specs.Contents.{Bounds, Impl, TraitContents}
+use Rattle.candidate_ir.specs.Contents.{AdtContents, Bounds, Contents, Impl, TraitContents}
 use Rattle.candidate_ir.specs.Declaration.{Declaration}
-use Rattle.candidate_ir.specs.Declaring.{no_place, trait_place, bounds_place, impl_at, trait_at, bounds_at}
-use Rattle.candidate_ir.specs.Faults.{all_that_is_held}
+use Rattle.candidate_ir.specs.Declaring.{no_place, adt_place, trait_place, bounds_place, adt_at, impl_at, trait_at, bounds_at}
 use Rattle.candidate_ir.specs.Folding.{lacks_argument}
-use Rattle.candidate_ir.specs.Held.{held_type, held_clause, held_clauses, trait_held, bounds_held, if_there, definition_held, definitions_held, impl_held, impls_held}
-use Rattle.candidate_ir.specs.Lookups.{maybe}
+use Rattle.candidate_ir.specs.Held.{adt_held, held_type, held_types, option_held, held_clause, held_clauses, trait_held, bounds_held, if_there, definition_held, definitions_held, impl_held, impls_held}
+use Rattle.candidate_ir.specs.Lookups.{definition, hidden_type, kind_of_declared, maybe}
 use Rattle.candidate_ir.specs.Misplaced.{has_self, held_misplaces, is_misplaced, kinds_of_declared, kinds_of_impl, kinds_of_owner, tree_misplaces, with_self}
 use Rattle.candidate_ir.specs.Nodes.{tree_at}
 use Rattle.candidate_ir.specs.Owned.{AliasArgumentsFit, ClausesAreOwned, ImplIsOwned, bounds_among, is_unsolved}
 use Rattle.candidate_ir.specs.References.{ArgumentsFit}
 use Rattle.candidate_ir.specs.Trees.{Kind, TypeKind, Forest, none, tree, Tree, holds, tree_holds}
 use Rattle.candidate_ir.specs.WellFormed.{IsWellFormedTable, ImplIsGiven}
-use Rattle.candidate_ir.specs.Words.{ClauseListFits, args_forest, clause_tree}
-use Rattle.candidate_ir.specs.Worlds.{alias_kinds, DefinitionSort, AssociatedTypeSort, AliasSort, OpaqueSort, TraitSort, joined, kinds_of, parameters, parameters_of, sort_number}
+use Rattle.candidate_ir.specs.Words.{ClauseListFits, args_forest, clause_tree, ty_tree}
+use Rattle.candidate_ir.specs.Worlds.{alias_kinds, DefinitionSort, AdtSort, AssociatedTypeSort, AliasSort, OpaqueSort, TraitSort, joined, kinds_of, parameters, parameters_of, sort_number}
 use Rattle.candidate_ir.proofs.Folding.{or-left, or-right}
 use Rattle.candidate_ir.proofs.Owned.{NoneMisplaced, head-has, none-past-them, none-stray, or-none}
 use Rattle.candidate_ir.proofs.WellFormed.{any-of, any-right, definition-passes}
@@ -313,3 +312,81 @@ bounds_owned c t l a f k xs e fit =
     let o = O.Definition a.id.0 in
     clauses-owned c o (args_forest c.trees a.args) (alias-takes c a f) xs fit
     (λ m. ap (λ (ys : List Clause). list_any (test c m) (held_clauses o ys)) e ∙ among-bounds c o k (bounds_at c a.id.0) m (bounds-owned-by c t l m a.id.0))
+
+-- Types
+
+cons-types : (P : Ty → Type 0) (x : Ty) (xs : List Ty) → P x → All P xs → All P (x ∷ xs)
+cons-types P x xs now more zero d l = now
+cons-types P x xs now more (suc k) d l = more k d (omega (arith, l))
+
+closed-types : (c : Context) (o : Owner) (ks : List VarKind) → kinds_of_owner c.declarations c.contents.impls o ≡ Some ks → (xs : List Ty)
+    → ((m : Misplaced) → list_any (test c m) (held_types o xs) ≡ false) → All (λ x. tree_holds is_unsolved (ty_tree c.trees x) ≡ false) xs
+closed-types c o ks k [] f = λ n d l. absurd (omega (arith, l))
+closed-types c o ks k (x ∷ xs) f =
+    let at : (m : Misplaced) → tree_holds (is_misplaced m ks) (ty_tree c.trees x) ≡ false = λ m. held-is c o ks k (held_type o x) refl m (or-left _ _ (f m)) in
+    cons-types (λ y. tree_holds is_unsolved (ty_tree c.trees y) ≡ false) x xs
+    (barred-tree ks is_unsolved (variable-barred ks) (ty_tree c.trees x) (at M.Past) (at M.Stray))
+    (closed-types c o ks k xs (λ m. or-right _ _ (f m)))
+
+adt-passes : (c : Context) (f : Held → Bool) (n : ℕ) (k : DefinitionKind) → length c.contents.adts ≤ no_place → list_any f (definition_held c.contents n k) ≡ false
+    → list_any f (if_there (adt_held (O.Definition n)) (slice_get c.contents.adts (adt_place k))) ≡ false
+adt-passes c f n (D.Adt _ _ _) l g = g
+adt-passes c f n (D.Trait _ _) l g = nothing-passes AdtContents (adt_held (O.Definition n)) f c.contents.adts l
+adt-passes c f n D.Foreign l g = nothing-passes AdtContents (adt_held (O.Definition n)) f c.contents.adts l
+adt-passes c f n (D.Assoc _ _ _ _) l g = nothing-passes AdtContents (adt_held (O.Definition n)) f c.contents.adts l
+adt-passes c f n (D.Alias _) l g = nothing-passes AdtContents (adt_held (O.Definition n)) f c.contents.adts l
+adt-passes c f n (D.Opaque _ _) l g = nothing-passes AdtContents (adt_held (O.Definition n)) f c.contents.adts l
+adt-passes c f n (D.Function _ _) l g = nothing-passes AdtContents (adt_held (O.Definition n)) f c.contents.adts l
+adt-passes c f n (D.Closure _) l g = nothing-passes AdtContents (adt_held (O.Definition n)) f c.contents.adts l
+
+adt-owns : (c : Context) → IsWellFormedTable c → length c.contents.adts ≤ no_place → (m : Misplaced) (n : ℕ) → list_any (test c m) (if_there (adt_held (O.Definition n)) (adt_at c n)) ≡ false
+adt-owns c t l m n = of (slice_get c.declarations n) refl
+  where
+    of : (o : Option Declaration) → slice_get c.declarations n ≡ o → list_any (test c m) (if_there (adt_held (O.Definition n)) (adt_at c n)) ≡ false
+    of None q = rw q (nothing-passes AdtContents (adt_held (O.Definition n)) (test c m) c.contents.adts l)
+    of (Some d) q = rw q (adt-passes c (test c m) n d.kind l (own-pass c t m n d q))
+
+adt-fields : (c : Context) (o : Owner) (x : Option AdtContents) (m : Misplaced) → list_any (test c m) (if_there (adt_held o) x) ≡ false
+    → list_any (test c m) (held_types o (maybe [] (λ (a : AdtContents). a.fields) x)) ≡ false
+adt-fields c o None m f = refl
+adt-fields c o (Some a) m f = any-of (test c m) (held_types o a.fields) (option_held o a.sized ++ option_held o a.meta_sized) f
+
+-- no variable stands in a field
+pub fields_closed : (c : Context) → IsWellFormedTable c → length c.contents.adts ≤ no_place → (n : ℕ) (args : Forest) → parameters (world c) AdtSort n ≡ Some (kinds_of args)
+    → (xs : List Ty) → xs ≡ maybe [] (λ (a : AdtContents). a.fields) (adt_at c n) → All (λ x. tree_holds is_unsolved (ty_tree c.trees x) ≡ false) xs
+fields_closed c t l n args p xs e =
+    let o = O.Definition n in
+    let a = takes-them c AdtSort n args (joined-none (parameters (world c) AdtSort n) ∙ p) in
+    closed-types c o a.ks a.owner xs (λ m. ap (λ (ys : List Ty). list_any (test c m) (held_types o ys)) e ∙ adt-fields c o (adt_at c n) m (adt-owns c t l m n))
+
+hidden-passes : (f : Held → Bool) (c : Contents) (n : ℕ) (x : Ty) (k : DefinitionKind) → Some x ≡ hidden_type (Some k) → list_any f (definition_held c n k) ≡ false
+    → f (held_type (O.Definition n) x) ≡ false
+hidden-passes f c n x (D.Opaque hidden p) e g =
+    let same : x ≡ hidden = cc in
+    ap (λ (y : Ty). f (held_type (O.Definition n) y)) same ∙ or-left _ _ g
+hidden-passes f c n x (D.Adt _ _ _) e g = absurd cc
+hidden-passes f c n x (D.Trait _ _) e g = absurd cc
+hidden-passes f c n x D.Foreign e g = absurd cc
+hidden-passes f c n x (D.Assoc _ _ _ _) e g = absurd cc
+hidden-passes f c n x (D.Alias _) e g = absurd cc
+hidden-passes f c n x (D.Function _ _) e g = absurd cc
+hidden-passes f c n x (D.Closure _) e g = absurd cc
+
+-- nor in a type that is hidden
+hidden_closed : (c : Context) → IsWellFormedTable c → (n : ℕ) (args : Forest) → parameters (world c) OpaqueSort n ≡ Some (kinds_of args) → (x : Ty)
+    → Some x ≡ hidden_type (definition c n) → tree_holds is_unsolved (ty_tree c.trees x) ≡ false
+hidden_closed c t n args p x e = of (slice_get c.declarations n) refl
+  where
+    of : (o : Option Declaration) → slice_get c.declarations n ≡ o → tree_holds is_unsolved (ty_tree c.trees x) ≡ false
+    of None q = let z : Some x ≡ None = e ∙ ap (λ (y : Option Declaration). hidden_type (kind_of_declared y)) q in absurd cc
+    of (Some d) q =
+        let a = takes-them c OpaqueSort n args (joined-none (parameters (world c) OpaqueSort n) ∙ p) in
+        let is = e ∙ ap (λ (y : Option Declaration). hidden_type (kind_of_declared y)) q in
+        let at : (m : Misplaced) → tree_holds (is_misplaced m a.ks) (ty_tree c.trees x) ≡ false =
+        λ m. held-is c (O.Definition n) a.ks a.owner (held_type (O.Definition n) x) refl m (hidden-passes (test c m) c.contents n x d.kind is (own-pass c t m n d q)) in
+        barred-tree a.ks is_unsolved (variable-barred a.ks) (ty_tree c.trees x) (at M.Past) (at M.Stray)
+
+pub hidden_is_closed : (c : Context) → IsWellFormedTable c → (n : ℕ) (args : Forest) → parameters (world c) OpaqueSort n ≡ Some (kinds_of args) → (o : Option Ty)
+    → o ≡ hidden_type (definition c n) → IfSome o (λ x. tree_holds is_unsolved (ty_tree c.trees x) ≡ false)
+hidden_is_closed c t n args p None e = tt
+hidden_is_closed c t n args p (Some x) e = hidden_closed c t n args p x e

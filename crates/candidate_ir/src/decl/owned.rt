@@ -5,7 +5,7 @@ ghost use Rattle.candidate_ir.specs.Context.{parameter_kind, world};
 ghost use Rattle.candidate_ir.specs.Declaring.{adt_at, bounds_at, impl_at, trait_at};
 ghost use Rattle.candidate_ir.specs.Folding.{lacks_argument};
 ghost use Rattle.candidate_ir.specs.Lookups as lookup;
-ghost use Rattle.candidate_ir.specs.Owned.{AliasArgumentsFit, ClausesAreOwned, ImplIsOwned, bounds_among};
+ghost use Rattle.candidate_ir.specs.Owned.{AliasArgumentsFit, ClausesAreOwned, ImplIsOwned, bounds_among, is_unsolved};
 ghost use Rattle.candidate_ir.specs.References.{ArgumentsFit};
 ghost use Rattle.candidate_ir.specs.Trees.{tree_holds};
 ghost use Rattle.candidate_ir.specs.Signatures.{SignatureHas};
@@ -18,13 +18,15 @@ use crate::decl::context::Cx;
 use crate::ir::kinds::{AdtId, AliasId, AliasTy, Args, Binder, Clause, FnId, FnSig, TraitRef, Ty};
 
 impl Cx {
-    /// The types of the fields of the data type, in order, whose parameters have these arguments.
+    /// The types of the fields of the data type, in order, whose parameters have these arguments. No variable stands in
+    /// them.
     #[tactic(auto, using(crate::proofs::Owned::fields_have_arguments))]
     pub fn fields_of(&self, adt: AdtId, args: Args) -> &[Ty]
         requires { parameters (world self.now) AdtSort adt.0 ≡ Some (kinds_of (args_forest self.now.trees args)) }
         ensures is { result.now ≡ lookup.maybe [] (λ a. a.fields) (adt_at self.now adt.0) }
         ensures fit { TypesFit self.now.trees result.now }
         ensures have { All (λ t. tree_holds (lacks_argument (args_forest self.now.trees args)) (ty_tree self.now.trees t) ≡ false) result.now }
+        ensures closed { All (λ t. tree_holds is_unsolved (ty_tree self.now.trees t) ≡ false) result.now }
     {
         let _ = (args, self.contents.adts.len());
         self.well_formed_table();
@@ -44,13 +46,14 @@ impl Cx {
         self.sizedness_constraint(adt, sizedness)
     }
 
-    /// The type that the opaque type hides, whose parameters have these arguments.
+    /// The type that the opaque type hides, whose parameters have these arguments. No variable stands in it.
     #[tactic(auto, using(crate::proofs::Owned::hidden_has_arguments))]
     pub fn hidden_type_of(&self, opaque: AliasId, args: Args) -> Option<Ty>
         requires { parameters (world self.now) OpaqueSort opaque.0 ≡ Some (kinds_of (args_forest self.now.trees args)) }
         ensures is { result ≡ lookup.hidden_type (lookup.definition self.now opaque.0) }
         ensures sort { IfSome result (λ t. IsTy self.now.trees t) }
         ensures has { IfSome result (λ t. tree_holds (lacks_argument (args_forest self.now.trees args)) (ty_tree self.now.trees t) ≡ false) }
+        ensures closed { IfSome result (λ t. tree_holds is_unsolved (ty_tree self.now.trees t) ≡ false) }
     {
         let _ = args;
         self.well_formed_table();
