@@ -13,9 +13,10 @@ use Rattle.candidate_ir.specs.declared.ir.kinds.Clause.{Clause}
 use Rattle.candidate_ir.specs.declared.ir.kinds.RegionKind.TheVariants as R
 use Rattle.candidate_ir.specs.declared.ir.kinds.TraitRef.{TraitRef}
 use Rattle.candidate_ir.specs.declared.ir.kinds.Ty.{Ty}
+use Rattle.candidate_ir.specs.declared.ir.kinds.TyKind.TheVariants as K
 use Rattle.candidate_ir.specs.declared.ir.kinds.VarKind.{VarKind}
 use Rattle.candidate_ir.specs.declared.decl.contents.AliasBoundKind.{AliasBoundKind}
-use Rattle.candidate_ir.specs.declared.decl.contents.AliasBoundKind.TheVariants as K
+use Rattle.candidate_ir.specs.declared.decl.contents.AliasBoundKind.TheVariants as B
 use Rattle.candidate_ir.specs.declared.decl.contents.ImplId.{ImplId}
 use Rattle.candidate_ir.specs.declared.decl.definition.AssocKind.TheVariants as A
 use Rattle.candidate_ir.specs.declared.decl.definition.DefinitionKind.{DefinitionKind}
@@ -36,13 +37,14 @@ use Rattle.candidate_ir.specs.Lookups.{definition, hidden_type, kind_of_declared
 use Rattle.candidate_ir.specs.Misplaced.{has_self, held_misplaces, is_misplaced, kinds_of_declared, kinds_of_impl, kinds_of_owner, tree_misplaces, with_self}
 use Rattle.candidate_ir.specs.Nodes.{tree_at}
 use Rattle.candidate_ir.specs.Owned.{AliasArgumentsFit, ClausesAreOwned, ImplIsOwned, bounds_among, is_unsolved}
-use Rattle.candidate_ir.specs.References.{ArgumentsFit}
-use Rattle.candidate_ir.specs.Trees.{Kind, TypeKind, Forest, none, tree, Tree, holds, tree_holds}
+use Rattle.candidate_ir.specs.References.{ArgumentsFit, Takes}
+use Rattle.candidate_ir.specs.Trees.{Kind, TypeKind, ArgumentsKind, Forest, none, tree, Tree, holds, tree_holds}
 use Rattle.candidate_ir.specs.WellFormed.{IsWellFormedTable, ImplIsGiven}
-use Rattle.candidate_ir.specs.Words.{ClauseListFits, args_forest, clause_tree, ty_tree}
+use Rattle.candidate_ir.specs.Words.{IsArgs, ClauseListFits, args_forest, clause_tree, kind_tree, ty_tree}
 use Rattle.candidate_ir.specs.Worlds.{alias_kinds, DefinitionSort, AdtSort, AssociatedTypeSort, AliasSort, OpaqueSort, TraitSort, joined, kinds_of, parameters, parameters_of, sort_number}
 use Rattle.candidate_ir.proofs.Folding.{or-left, or-right}
 use Rattle.candidate_ir.proofs.Owned.{NoneMisplaced, head-has, none-past-them, none-stray, or-none}
+use Rattle.candidate_ir.proofs.Rows.{join-none, row-list}
 use Rattle.candidate_ir.proofs.WellFormed.{any-of, any-right, definition-passes}
 
 -- A mark that is on nothing that may stand among parameters of these kinds.
@@ -303,8 +305,8 @@ wheres_owned c t l r f xs e fit =
 among-bounds : (c : Context) (o : Owner) (k : AliasBoundKind) (x : Option Bounds) (m : Misplaced) → list_any (test c m) (if_there (bounds_held o) x) ≡ false
     → list_any (test c m) (held_clauses o (maybe [] (bounds_among k) x)) ≡ false
 among-bounds c o k None m f = refl
-among-bounds c o K.SelfBounds (Some a) m f = any-of (test c m) (held_clauses o a.self_bounds) (held_clauses o a.non_self_bounds) f
-among-bounds c o K.NonSelfBounds (Some a) m f = any-right (test c m) (held_clauses o a.self_bounds) (held_clauses o a.non_self_bounds) f
+among-bounds c o B.SelfBounds (Some a) m f = any-of (test c m) (held_clauses o a.self_bounds) (held_clauses o a.non_self_bounds) f
+among-bounds c o B.NonSelfBounds (Some a) m f = any-right (test c m) (held_clauses o a.self_bounds) (held_clauses o a.non_self_bounds) f
 
 pub bounds_owned : (c : Context) → IsWellFormedTable c → length c.contents.bounds ≤ no_place → (a : AliasTy) → AliasArgumentsFit c a → (k : AliasBoundKind)
     → (xs : List Clause) → xs ≡ maybe [] (bounds_among k) (bounds_at c a.id.0) → ClauseListFits c.trees xs → ClausesAreOwned c.trees (args_forest c.trees a.args) xs
@@ -390,3 +392,9 @@ pub hidden_is_closed : (c : Context) → IsWellFormedTable c → (n : ℕ) (args
     → o ≡ hidden_type (definition c n) → IfSome o (λ x. tree_holds is_unsolved (ty_tree c.trees x) ≡ false)
 hidden_is_closed c t n args p None e = tt
 hidden_is_closed c t n args p (Some x) e = hidden_closed c t n args p x e
+
+-- an alias of a context has the arguments that it takes
+pub alias_fits : (c : Context) (a : AliasTy) → IsArgs c.trees a.args → Takes (world c) (kind_tree c.trees (K.Alias a)) → AliasArgumentsFit c a
+alias_fits c a k t =
+    let e = row-list c.trees a.args.0 ArgumentsKind none refl refl k ∙ join-none (args_forest c.trees a.args) in
+    subst (λ (ts : Forest). alias_kinds (world c) a.kind a.id.0 ≡ Some (kinds_of ts)) e (t refl)
