@@ -8,6 +8,7 @@ ghost use Rattle.candidate_ir.specs.Trees.{is_list_kind};
 ghost use Rattle.candidate_ir.specs.Words.{IsArgs, IsClause, IsParamEnv, IsTy, IsVars, args_forest, clause_tree, env_forest, ty_tree, vars_tree};
 ghost use Rattle.candidate_eval.specs.Characterization.{binder_kinds, bound_kinds};
 ghost use Rattle.candidate_eval.specs.Evaluators.{IsEvaluatorStop, IsMakingStop, Keeps, rigid, with_rigid};
+ghost use Rattle.candidate_eval.specs.Objects.{fresh_instance, with_instance};
 ghost use Rattle.candidate_eval.specs.States.{fresh_variables, resolved, with_fresh_variables};
 
 use crate::eval::context::EvalCtxt;
@@ -96,6 +97,27 @@ pub fn enter_binder<N: Numbered, E: EvalCtxt>(
 {
     let values = placeholder_args_for_binder(alloc, ecx, binder.vars)?;
     open_binder(alloc, ecx, binder.value, values)
+}
+
+/// The clause under an empty binder, with fresh variables in the place of those of its own.
+///
+/// `Stop::Memory` comes where a growth was refused, other stops as they come of `open_clause` and of the evaluator's fresh
+/// variables. After a stop the variables that were made stay.
+pub fn instantiate_binder_with_infer<E: EvalCtxt>(
+    alloc: Global,
+    ecx: &mut E,
+    clause: Clause,
+) -> Result<Clause, Stop>
+    requires { IsClause (E.context ecx.old).trees clause }
+    ensures kept { Keeps E.fixed E.probes E.context ecx.old ecx.new }
+    ensures state { OnOk result (E.state ecx.new ≡ with_instance (E.state ecx.old) (clause_tree (E.context ecx.old).trees clause)) }
+    ensures sort { IfOk result (λ x. IsClause (E.context ecx.new).trees x) }
+    ensures tree { IfOk result (λ x. clause_tree (E.context ecx.new).trees x ≡ fresh_instance (E.state ecx.old) (clause_tree (E.context ecx.old).trees clause)) }
+    ensures cause { IfErr result IsEvaluatorStop }
+{
+    let kinds = binder_kinds(alloc, ecx.cx(), clause)?;
+    let values = ecx.fresh_args_for_item(kinds.as_slice())?;
+    open_clause(alloc, ecx, clause, values)
 }
 
 /// The clause under an empty binder, with placeholders of a fresh universe in the place of the variables of its own. It stops as

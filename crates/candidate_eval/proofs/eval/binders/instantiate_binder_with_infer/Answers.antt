@@ -11,7 +11,7 @@ use Rattle.candidate_ir.proofs.Joining.{clause-kept}
 use Rattle.candidate_eval.specs.Evaluators.{kinds_listed}
 use Rattle.candidate_eval.specs.States.{fresh_variables, with_fresh_variables}
 use Rattle.candidate_eval.proofs.Objects.{kinds-read}
-use Rattle.candidate_eval.proofs.structural.object.instantiate_binder_with_infer.Goals as goal
+use Rattle.candidate_eval.proofs.eval.binders.instantiate_binder_with_infer.Goals as goal
 
 pub open_clause-requires-clause-clause : goal.open_clause-requires-clause-clause
 open_clause-requires-clause-clause g c =
