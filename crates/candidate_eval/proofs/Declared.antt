@@ -1,6 +1,5 @@
 -- What is declared mentions no variable, so none from any number on; and what stood under a binder, over a context that has grown.
-use Rattle.std.proofs.Common.{◌≡◌, ℕ, List, Bool, true, false, Option, Some, None, refl, sym, ◌∙◌, ap}
-use Rattle.std.specs.Prelude.{◌||◌}
+use Rattle.std.proofs.Common.{◌≡◌, ℕ, List, false, Option, Some, None, refl, ◌∙◌, ap}
 use Rattle.candidate_ir.specs.Nodes.{tree_at}
 use Rattle.candidate_ir.specs.Opening.{opened, opened_tree}
 use Rattle.candidate_ir.specs.Owned.{is_numbered, is_unsolved}
@@ -8,7 +7,7 @@ use Rattle.candidate_ir.specs.Substitutions.{alone}
 use Rattle.candidate_ir.specs.Trees.{Forest, none, tree, Tree, holds, tree_holds, variable_number}
 use Rattle.candidate_ir.proofs.Folding.{or-left, or-right}
 use Rattle.candidate_ir.proofs.Owned.{or-none}
-use Rattle.candidate_eval.specs.Mentions.{IsBelow, is_at_least, is_from}
+use Rattle.candidate_eval.specs.Mentions.{IsBelow, is_at_least}
 
 number-below : (n : ℕ) (o : Option ℕ) → is_numbered o ≡ false → is_at_least n o ≡ false
 number-below n None e = refl

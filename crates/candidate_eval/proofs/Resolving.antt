@@ -5,8 +5,8 @@ use Rattle.std.specs.List.{flat_map}
 use Rattle.candidate_ir.specs.declared.ir.kinds.Clause.{Clause}
 use Rattle.candidate_ir.specs.declared.ir.kinds.ParamEnv.{ParamEnv}
 use Rattle.candidate_ir.specs.Context.{Context}
-use Rattle.candidate_ir.specs.Nodes.{kind_at, tree_at}
-use Rattle.candidate_ir.specs.Trees.{ClauseKind, Forest, none, tree, Tree}
+use Rattle.candidate_ir.specs.Nodes.{kind_at}
+use Rattle.candidate_ir.specs.Trees.{ClauseKind, tree, Tree}
 use Rattle.candidate_ir.specs.Words.{ClauseListFits, clause_list_forest, clause_tree, env_forest}
 use Rattle.candidate_ir.proofs.Rows.{row-single}
 use Rattle.candidate_eval.specs.States.{State, resolved, resolved_tree}

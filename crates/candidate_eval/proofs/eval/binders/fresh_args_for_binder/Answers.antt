@@ -3,7 +3,7 @@ use Rattle.std.proofs.lemmas.Result.{IfOk-weaker, on_ok_weaker}
 use Rattle.candidate_ir.specs.Context.{Context}
 use Rattle.candidate_ir.specs.Words.{vars_tree}
 use Rattle.candidate_eval.specs.Characterization.{binder_kinds}
-use Rattle.candidate_eval.specs.Evaluators.{kinds_listed, rigid, with_rigid}
+use Rattle.candidate_eval.specs.Evaluators.{kinds_listed}
 use Rattle.candidate_eval.specs.States.{fresh_variables, with_fresh_variables}
 use Rattle.candidate_eval.proofs.Objects.{variables-read}
 use Rattle.candidate_eval.proofs.eval.binders.fresh_args_for_binder.Goals as goal

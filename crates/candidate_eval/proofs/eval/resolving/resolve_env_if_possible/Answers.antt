@@ -1,4 +1,4 @@
-use Rattle.std.proofs.Common.{rules, ◌≡◌, ◌≤◌, ◌∷◌, [], ◌++◌, length, refl, ◌∙◌, ap}
+use Rattle.std.proofs.Common.{rules, ◌≡◌, ◌≤◌, ◌∷◌, [], ◌++◌, length, ◌∙◌, ap}
 use Rattle.candidate_ir.proofs.Joining.{clause-kept}
 use Rattle.candidate_ir.proofs.Made.{IsClause-listed}
 use Rattle.std.proofs.lemmas.Result.{IfOk-weaker}
@@ -7,7 +7,7 @@ use Rattle.candidate_ir.specs.declared.ir.kinds.Clause.{Clause}
 use Rattle.candidate_ir.specs.Words.{clause_list_forest, clause_tree}
 use Rattle.candidate_eval.specs.States.{resolved}
 use Rattle.candidate_eval.proofs.Probing.{then}
-use Rattle.candidate_eval.proofs.Required.{all_gathered, more_gathered, none_added, pushed_fit, pushed_trees}
+use Rattle.candidate_eval.proofs.Required.{all_gathered, more_gathered, pushed_fit, pushed_trees}
 use Rattle.candidate_eval.proofs.Resolving.{one-resolved, read-env, resolved-env, resolved_one}
 use Rattle.candidate_eval.proofs.eval.resolving.resolve_env_if_possible.Goals as goal
 
