@@ -15,7 +15,7 @@ use Rattle.candidate_ir.specs.Nodes.{tree_at, trees_at, rows}
 use Rattle.candidate_ir.specs.Opening.{under_variables}
 use Rattle.candidate_ir.specs.Substitutions.{alone}
 use Rattle.candidate_ir.specs.Trees.{TypeKind, ArgumentsKind, ClausesKind, Forest, none, tree, Tree, join}
-use Rattle.candidate_ir.specs.Words.{IsArgs, IsClause, IsTy, IsParamEnv, ClauseFits, args_forest, clause_tree, clause_kind_tree, env_forest, ty_tree, vars_tree, var_kind_tree}
+use Rattle.candidate_ir.specs.Words.{IsArgs, IsClause, IsTy, IsParamEnv, ClauseFits, args_forest, binder_tree, clause_tree, clause_kind_tree, env_forest, ty_tree, vars_tree, var_kind_tree}
 use Rattle.candidate_ir.proofs.Joining.{below_binder, clause-kept, clause-over, over}
 use Rattle.candidate_ir.proofs.Kept.{number-kept}
 use Rattle.candidate_ir.proofs.Lists.{below_kind}
@@ -85,6 +85,9 @@ kinds-of-variables (k ∷ ks) = ap (λ js. kinds_listed (k ∷ []) ++ js) (kinds
 
 pub kinds-read : (ks : List VarKind) (c : Tree) → c.children ≡ under_variables ks c → kinds_listed ks ≡ bound_kinds c.children
 kinds-read ks c e = sym (ap bound_kinds e ∙ kinds-of-variables ks)
+
+pub variables-read : (ks : List VarKind) (vs : Forest) → vs ≡ (binder_tree ks).children → kinds_listed ks ≡ binder_kinds vs
+variables-read ks vs e = sym (ap binder_kinds e ∙ kinds-of-variables ks)
 
 -- What a bound says, as it is read, where it is about the associated type.
 pub about_yes : (ts : List Tree) (x : Clause) (b : Binder ClauseKind) (p : ProjectionPredicate) (i : ℕ) → ClauseFits ts b → clause_kind_tree ts b ≡ clause_tree ts x

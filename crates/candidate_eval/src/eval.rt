@@ -1,12 +1,14 @@
 //! What the layers above know of an evaluator.
 
 pub mod ambiguity;
+pub mod binders;
 pub mod certainty;
 pub mod context;
 pub mod knowing;
 pub mod limits;
 pub mod mode;
 pub mod refusal;
+pub mod resolving;
 pub mod response;
 pub mod source;
 pub mod variable;

@@ -34,6 +34,7 @@ pub mod Faults
 pub mod WellFormed
 pub mod Given
 pub mod Owned
+pub mod Declared
 pub mod Ranks
 pub mod Listing
 pub mod Saying

@@ -68,7 +68,7 @@ argument-there (tree h below rest) (j ∷ ks) (suc i) k e s =
     let r = argument-there rest ks i k others s in
     (omega (arith, r.0), r.1)
 
-or-none : (a b : Bool) → a ≡ false → b ≡ false → a || b ≡ false
+pub or-none : (a b : Bool) → a ≡ false → b ≡ false → a || b ≡ false
 or-none a b e f = rw e f
 
 type-has : (args : Forest) (ks : List VarKind) (i : ℕ) → kinds_of args ≡ map parameter_kind ks → parameter_misplaced M.Past V.Ty (slice_get ks i) ≡ false
@@ -91,7 +91,7 @@ const-has args ks i e past stray = of (slice_get ks i) refl
     of (Some V.Ty) q = let t = sym (ap (parameter_misplaced M.Stray V.Const) q) ∙ stray in absurd cc
     of (Some V.Region) q = let t = sym (ap (parameter_misplaced M.Stray V.Const) q) ∙ stray in absurd cc
 
-head-has : (args : Forest) (ks : List VarKind) (h : Head) → kinds_of args ≡ map parameter_kind ks → is_misplaced M.Past ks h ≡ false → is_misplaced M.Stray ks h ≡ false
+pub head-has : (args : Forest) (ks : List VarKind) (h : Head) → kinds_of args ≡ map parameter_kind ks → is_misplaced M.Past ks h ≡ false → is_misplaced M.Stray ks h ≡ false
     → lacks_argument args h ≡ false
 head-has args ks (H.Param i) e past stray = type-has args ks i e past stray
 head-has args ks (H.Const (C.Param i)) e past stray = const-has args ks i e past stray
@@ -130,14 +130,14 @@ clause-at f o [] k x l e n = absurd (omega (arith, l))
 clause-at f o (y ∷ ys) zero x l e n = ap (λ (z : Clause). f (held_clause o z)) e ∙ or-left _ _ n
 clause-at f o (y ∷ ys) (suc k) x l e n = clause-at f o ys k x (omega (arith, l)) e (or-right _ _ n)
 
-abbrev NoneMisplaced : Misplaced → Context → Type 0
+abbrev pub NoneMisplaced : Misplaced → Context → Type 0
 NoneMisplaced m c = list_any (held_misplaces m c.trees c.declarations c.contents.impls) (all_that_is_held c) ≡ false
 
-none-past-them : (c : Context) → IsWellFormedTable c → NoneMisplaced M.Past c
+pub none-past-them : (c : Context) → IsWellFormedTable c → NoneMisplaced M.Past c
 unfolding IsWellFormedTable
 none-past-them c t = or-right _ _ (or-right _ _ t.parameters)
 
-none-stray : (c : Context) → IsWellFormedTable c → NoneMisplaced M.Stray c
+pub none-stray : (c : Context) → IsWellFormedTable c → NoneMisplaced M.Stray c
 unfolding IsWellFormedTable
 none-stray c t = or-left _ _ t.kinds
 

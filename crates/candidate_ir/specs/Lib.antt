@@ -30,6 +30,7 @@ pub mod Substitutions
 pub mod Unify
 pub mod TypeFlags
 pub mod Parameters
+pub mod Owned
 pub mod Folds
 pub mod Places
 pub mod Opening

@@ -10,7 +10,7 @@ use Rattle.candidate_ir.specs.declared.ir.kinds.RegionKind.TheVariants as R
 use Rattle.candidate_ir.specs.declared.ir.kinds.VarKind.{VarKind}
 use Rattle.candidate_ir.specs.declared.ir.kinds.VarKind.TheVariants as V
 use Rattle.candidate_ir.specs.Trees.{Kind, TypeKind, ConstantKind, RegionKind, Forest, none, tree, Tree, kind_of}
-use Rattle.candidate_ir.specs.Folding.{fold, leaf, argument, shift_tree}
+use Rattle.candidate_ir.specs.Folding.{fold, fold_tree, leaf, argument, shift_tree}
 use Rattle.candidate_ir.specs.Supers.{after_first}
 use Rattle.candidate_ir.specs.Words.{binder_tree}
 
@@ -59,6 +59,9 @@ opened_head values d _ = None
 
 abbrev pub opened : Forest → Forest → Forest
 opened values ts = fold (λ d t. opened_head values d t.head) 0 ts
+
+abbrev pub opened_tree : Forest → Tree → Tree
+opened_tree values t = fold_tree (λ d u. opened_head values d u.head) 0 t
 
 -- A clause under an empty binder, with values in the place of the variables of its own.
 abbrev pub opened_clause : Forest → Tree → Tree

@@ -11,9 +11,8 @@ use crate::reader::Reader;
 use crate::refusals::Refusal;
 use crate::rows::Row;
 use crate::typed::{args_at, clause_at, env_at, ty_at};
-use candidate_eval::structural::object::{
-    bound_matches, instantiate_binder_with_infer, matching_bounds, pick_bound,
-};
+use candidate_eval::eval::binders::instantiate_binder_with_infer;
+use candidate_eval::structural::object::{bound_matches, matching_bounds, pick_bound};
 use candidate_eval::structural::object_candidate::predicates_for_object_candidate;
 use candidate_ir::decl::make::Make;
 use candidate_ir::ir::kinds::{

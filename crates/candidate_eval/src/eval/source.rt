@@ -1,6 +1,6 @@
 //! Where a candidate comes from.
 
-use candidate_ir::decl::contents::ImplId;
+use candidate_ir::decl::contents::{AliasBoundKind, ImplId};
 
 /// The way in which a goal is proved.
 #[derive(Clone, Copy, Debug, PartialEq, Eq)]
@@ -34,13 +34,4 @@ pub enum BuiltinImplSource {
 pub enum ParamEnvSource {
     NonGlobal,
     Global,
-}
-
-/// Whose bound it is.
-#[derive(Clone, Copy, Debug, PartialEq, Eq)]
-pub enum AliasBoundKind {
-    /// Of the alias itself.
-    SelfBounds,
-    /// Of an alias whose self type it is a projection of.
-    NonSelfBounds,
 }

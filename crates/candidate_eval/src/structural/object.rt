@@ -1,19 +1,19 @@
 //! What an object's own bounds say of its associated types.
 
-ghost use Rattle.std.specs.Prelude.{◌≡◌, [], ◌∷◌, ◌++◌, map, Some, None, MatchOption, IfOk, IfErr, OnOk, true, false};
+ghost use Rattle.std.specs.Prelude.{◌≡◌, [], ◌∷◌, ◌++◌, map, Some, None, MatchOption, IfOk, IfErr, true, false};
 ghost use Rattle.candidate_ir.specs.Context.{Grows};
 ghost use Rattle.candidate_ir.specs.Words.{IsArgs, IsClause, IsParamEnv, IsTy, ClauseListFits, args_forest, clause_tree, env_forest, ty_tree};
 ghost use Rattle.candidate_eval.specs.Accounts.{StopsBy, by_stop};
 ghost use Rattle.candidate_eval.specs.Evaluators.{Keeps};
-ghost use Rattle.candidate_eval.specs.Objects.{is_about, IsBound, fresh_instance, with_instance, bound_equated, is_equated, projection_at, term_in, Tried, IsPicked, IsPickedAtOnce, IsExact, IsAmbiguous, IsInstance, IsInstanceOfOne, by_object_stop};
+ghost use Rattle.candidate_eval.specs.Objects.{is_about, IsBound, fresh_instance, bound_equated, is_equated, projection_at, term_in, Tried, IsPicked, IsPickedAtOnce, IsExact, IsAmbiguous, IsInstance, IsInstanceOfOne, by_object_stop};
 ghost use Rattle.candidate_eval.specs.Objects as seen;
 ghost use Rattle.candidate_eval.specs.States.{is_some};
 ghost use Rattle.candidate_eval.specs.declared.structural.object.AmbiguousOrStop.TheVariants as ambiguous;
 
+use crate::eval::binders::instantiate_binder_with_infer;
 use crate::eval::context::{EvalCtxt, ProbeKind};
 use crate::eval::refusal::NoSolutionOrStop;
 use candidate_ir::decl::Cx;
-use candidate_ir::decl::open::{binder_kinds, open_clause};
 use candidate_ir::ir::kinds::{
     AliasTerm, AssocId, Clause, ClauseKind, ParamEnv, ProjectionPredicate, Ty,
 };
@@ -51,27 +51,6 @@ pub(crate) fn bound_about(cx: &Cx, bound: Clause, item: AssocId) -> Option<Proje
         }
         _ => None,
     }
-}
-
-/// The clause under an empty binder, with fresh variables in the place of those of its own.
-///
-/// `Stop::Memory` comes where a growth was refused, other stops as they come of `open_clause` and of the evaluator's fresh
-/// variables. After a stop the variables that were made stay.
-pub fn instantiate_binder_with_infer<E: EvalCtxt>(
-    alloc: Global,
-    ecx: &mut E,
-    clause: Clause,
-) -> Result<Clause, Stop>
-    requires { IsClause (E.context ecx.old).trees clause }
-    ensures kept { Keeps E.fixed E.probes E.context ecx.old ecx.new }
-    ensures state { OnOk result (E.state ecx.new ≡ with_instance (E.state ecx.old) (clause_tree (E.context ecx.old).trees clause)) }
-    ensures sort { IfOk result (λ x. IsClause (E.context ecx.new).trees x) }
-    ensures tree { IfOk result (λ x. clause_tree (E.context ecx.new).trees x ≡ fresh_instance (E.state ecx.old) (clause_tree (E.context ecx.old).trees clause)) }
-    ensures cause { IfErr result (StopsBy E.fixed E.context E.state E.stops ecx.old (IsInstance (clause_tree (E.context ecx.old).trees clause))) }
-{
-    let kinds = binder_kinds(alloc, ecx.cx(), clause)?;
-    let values = ecx.fresh_args_for_item(kinds.as_slice())?;
-    open_clause(alloc, ecx, clause, values)
 }
 
 /// Equates the arguments of an instance of the bound with those of the projection of the same associated type, and gives the

@@ -12,9 +12,10 @@ ghost use Rattle.candidate_eval.specs.Replacing.{clauses_at};
 ghost use Rattle.candidate_eval.specs.Required.{AreRequirements};
 ghost use Rattle.candidate_eval.specs.Required as seen;
 
+use crate::eval::binders::instantiate_binder_with_infer;
 use crate::eval::context::EvalCtxt;
 use crate::structural::making::first_type;
-use crate::structural::object::{AmbiguousOrStop, instantiate_binder_with_infer};
+use crate::structural::object::AmbiguousOrStop;
 use crate::structural::replacing::replaced;
 use crate::structural::required::{own_bounds, requirements};
 use candidate_ir::decl::Cx;

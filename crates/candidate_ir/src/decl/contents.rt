@@ -34,7 +34,7 @@ pub enum Destructor {
 }
 
 /// Which bounds of an alias a bound is among.
-#[derive(Clone, Copy)]
+#[derive(Clone, Copy, Debug, PartialEq, Eq)]
 pub enum AliasBoundKind {
     /// Those of the alias itself.
     SelfBounds,

@@ -217,6 +217,16 @@ impl Parameters {
         }
     }
 
+    /// Their kinds, in order. The only error is a refused growth.
+    pub(crate) fn kinds(&self, alloc: Global) -> Result<Vec<VarKind>, AllocError>
+        ensures { IfOk result (λ v. v.items ≡ kinds_of self.now) }
+    {
+        match self {
+            Parameters::Types(count) => vec![in alloc; VarKind::Ty; *count],
+            Parameters::Kinds(kinds) => kinds.to_vec(alloc),
+        }
+    }
+
     /// How many there are.
     #[tactic(auto, using(crate::proofs::Parameters::types_count))]
     pub fn count(&self) -> usize

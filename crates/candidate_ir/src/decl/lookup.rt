@@ -1,7 +1,7 @@
 //! What is read of the declarations of a context: lists are lent. Of a number that isn't of the sort asked about there is
 //! nothing.
 
-ghost use Rattle.std.specs.Prelude.{◌≡◌, [], None, Some, false, slice_index_or, option_copied, IfSome};
+ghost use Rattle.std.specs.Prelude.{◌≡◌, [], None, Some, false, slice_index_or, option_copied, IfOk, IfSome};
 ghost use Rattle.candidate_ir.specs.Declaring.{adt_at, trait_at, bounds_at, impl_at, item_number};
 ghost use Rattle.candidate_ir.specs.Held.{definition_held, adt_held, trait_held, bounds_held, if_there};
 ghost use Rattle.candidate_ir.specs.declared.decl.held.Owner.TheVariants as O;
@@ -17,8 +17,9 @@ use crate::decl::context::Cx;
 use crate::decl::definition::{AdtFlags, AdtShape, AssocKind, DefinitionKind, FnFlags, TraitFlags};
 use crate::ir::at::at;
 use crate::ir::kinds::{
-    AdtId, AliasId, AssocId, Binder, Clause, ClosureId, FnId, FnSig, TraitId, Ty,
+    AdtId, AliasId, AssocId, Binder, Clause, ClosureId, FnId, FnSig, TraitId, Ty, VarKind,
 };
+use std::alloc::{AllocError, Global};
 
 impl Cx {
     /// What the definition holds is there.
@@ -209,6 +210,16 @@ impl Cx {
     {
         self.impl_is_given(of);
         at(self.contents.impls.as_slice(), of.0 as usize)
+    }
+
+    /// The kinds of the impl's parameters, in order. The only error is a refused growth.
+    pub fn impl_parameters(&self, alloc: Global, of: ImplId) -> Result<Vec<VarKind>, AllocError>
+        ensures { IfOk result (λ v. v.items ≡ lookup.maybe [] (λ i. i.parameters) (impl_at self.now of)) }
+    {
+        match self.impl_contents(of) {
+            Some(contents) => contents.parameters.kinds(alloc),
+            None => Ok(Vec::new(alloc)),
+        }
     }
 
     /// The types of the fields of the data type, in order.

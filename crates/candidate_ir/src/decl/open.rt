@@ -1,13 +1,15 @@
 //! Clauses out of their binders.
 
-ghost use Rattle.std.specs.Prelude.{◌≡◌, ◌-◌, length, false, MatchOption, IfOk, IfErr, IfSome, option_map};
+ghost use Rattle.std.specs.Prelude.{◌≡◌, ◌-◌, length, true, false, MatchOption, IfOk, IfErr, IfSome, option_map};
 ghost use Rattle.candidate_ir.specs.Context.{Grows, parameter_kind};
 ghost use Rattle.candidate_ir.specs.Folding.{leaf, argument, shift_tree, fold_tree, IsSubstStop, IsAnswerStop};
 ghost use Rattle.candidate_ir.specs.Folds.{IsArg, IsOfKind, arg_tree};
 ghost use Rattle.candidate_ir.specs.Kinds.{arg_kind};
-ghost use Rattle.candidate_ir.specs.Opening.{bound_head, is_bound_variable, error_of, of_kind, opened_clause, opened_head, opened_variable, under_variables};
+ghost use Rattle.candidate_ir.specs.Opening.{bound_head, is_bound_variable, error_of, of_kind, opened, opened_clause, opened_head, opened_tree, opened_variable, under_variables};
 ghost use Rattle.candidate_ir.specs.Substitutions.{alone};
-ghost use Rattle.candidate_ir.specs.Words.{IsArgs, IsClause, args_forest, clause_tree};
+ghost use Rattle.candidate_ir.specs.Nodes.{kind_at, tree_at};
+ghost use Rattle.candidate_ir.specs.Trees.{is_list_kind, none, row};
+ghost use Rattle.candidate_ir.specs.Words.{IsArgs, IsClause, IsVars, args_forest, binder_tree, clause_tree, vars_tree};
 
 use crate::decl::context::Cx;
 use crate::decl::elaborate::add_kinds;
@@ -16,7 +18,7 @@ use crate::decl::make::Make;
 use crate::decl::subst::{nth_argument, shifted};
 use crate::ir::heads::{ConstHead, Head};
 use crate::ir::kinds::{
-    Args, Binder, BoundVar, Clause, ConstKind, GenericArg, RegionKind, TyKind, VarKind,
+    Args, Binder, BoundVar, Clause, ConstKind, GenericArg, RegionKind, TyKind, VarKind, Vars,
 };
 use crate::ir::numbered::Numbered;
 use crate::ir::stop::Stop;
@@ -133,8 +135,31 @@ fn opened_variable<M: Make>(
     Ok(Some(bound_variable(make, kind, nearer)?))
 }
 
-/// What stands for a part of a clause, under so many binders with its own.
+/// What stands for a part of what stood under the binder, under so many binders.
 fn opened_part<M: Make>(
+    alloc: Global,
+    make: &mut M,
+    values: Args,
+    arg: GenericArg,
+    binders: u32,
+) -> Result<Option<GenericArg>, Stop>
+    requires values { IsArgs (M.context make.old).trees values }
+    requires arg { IsArg (M.context make.old).trees arg }
+    ensures grows { Grows (M.context make.old) (M.context make.new) }
+    ensures rest { M.rest make.new ≡ M.rest make.old }
+    ensures kind { IfOk result (λ o. IsOfKind (M.context make.new).trees arg o) }
+    ensures answer { IfOk result (λ o. option_map (arg_tree (M.context make.new).trees) o ≡ opened_head (args_forest (M.context make.old).trees values) binders (arg_tree (M.context make.old).trees arg).head) }
+    ensures cause { IfErr result (λ s. IsAnswerStop (length (M.context make.new).trees) (opened_head (args_forest (M.context make.old).trees values) binders (arg_tree (M.context make.old).trees arg).head) s) }
+{
+    let head = make.cx().head(arg.number());
+    match bound_variable_of(head) {
+        Some((kind, var)) => opened_variable(alloc, make, values, kind, var, binders),
+        None => Ok(None),
+    }
+}
+
+/// The same of a part of a clause, whose own binder is among those.
+fn opened_inside<M: Make>(
     alloc: Global,
     make: &mut M,
     values: Args,
@@ -149,12 +174,17 @@ fn opened_part<M: Make>(
     ensures answer { IfOk result (λ o. option_map (arg_tree (M.context make.new).trees) o ≡ opened_head (args_forest (M.context make.old).trees values) (binders - 1) (arg_tree (M.context make.old).trees arg).head) }
     ensures cause { IfErr result (λ s. IsAnswerStop (length (M.context make.new).trees) (opened_head (args_forest (M.context make.old).trees values) (binders - 1) (arg_tree (M.context make.old).trees arg).head) s) }
 {
-    let below = binders.saturating_sub(1);
-    let head = make.cx().head(arg.number());
-    match bound_variable_of(head) {
-        Some((kind, var)) => opened_variable(alloc, make, values, kind, var, below),
-        None => Ok(None),
-    }
+    opened_part(alloc, make, values, arg, binders.saturating_sub(1))
+}
+
+/// The kinds of a binder's variables, in order. The only error is a refused growth.
+pub fn variable_kinds(alloc: Global, cx: &Cx, vars: Vars) -> Result<Vec<VarKind>, AllocError>
+    requires { IsVars cx.now.trees vars }
+    ensures { IfOk result (λ v. (vars_tree cx.now.trees vars).children ≡ (binder_tree v.items).children) }
+{
+    let mut kinds = Vec::new(alloc);
+    add_kinds(cx, &mut kinds, vars)?;
+    Ok(kinds)
 }
 
 /// The kinds of the variables of a clause's binder.
@@ -188,11 +218,42 @@ fn opened_below<M: Make>(
         &mut move |make: &mut M, arg: GenericArg, binders: u32| -> Result<
             Option<GenericArg>,
             Stop,
-        > { opened_part(alloc, make, values, arg, binders) },
+        > { opened_inside(alloc, make, values, arg, binders) },
         clause.0,
         0,
     )?;
     Ok(Clause(number))
+}
+
+/// What stood under a binder, with the list's value of its number in the place of each variable of that binder, as by
+/// `open_clause`: a type, a list of arguments, or whatever else it is. It stops as `open_clause` does.
+pub fn open_binder<N: Numbered, M: Make>(
+    alloc: Global,
+    make: &mut M,
+    under: N,
+    values: Args,
+) -> Result<N, Stop>
+    requires under { kind_at (M.context make.old).trees (N.number_of under) ≡ N.kind under }
+    requires values { IsArgs (M.context make.old).trees values }
+    ensures grows { Grows (M.context make.old) (M.context make.new) }
+    ensures rest { M.rest make.new ≡ M.rest make.old }
+    ensures sort { IfOk result (λ x. kind_at (M.context make.new).trees (N.number_of x) ≡ N.kind x) }
+    ensures kind { IfOk result (λ x. N.kind x ≡ N.kind under) }
+    ensures tree { IfOk result (λ x. tree_at (M.context make.new).trees (N.number_of x) ≡ opened_tree (args_forest (M.context make.old).trees values) (tree_at (M.context make.old).trees (N.number_of under))) }
+    ensures list { is_list_kind (N.kind under) ≡ true → IfOk result (λ x. (tree_at (M.context make.new).trees (N.number_of x)).children ≡ opened (args_forest (M.context make.old).trees values) (tree_at (M.context make.old).trees (N.number_of under)).children) }
+    ensures cause { IfErr result (λ s. IsSubstStop (length (M.context make.new).trees) (opened (args_forest (M.context make.old).trees values) (row (tree_at (M.context make.old).trees (N.number_of under)) none)) s) }
+{
+    let number = fold_number(
+        alloc,
+        make,
+        &mut move |make: &mut M, arg: GenericArg, binders: u32| -> Result<
+            Option<GenericArg>,
+            Stop,
+        > { opened_part(alloc, make, values, arg, binders) },
+        under.number(),
+        0,
+    )?;
+    Ok(under.with_number(number))
 }
 
 /// The clause under an empty binder, with the list's value of its number in the place of each variable of its own binder,

@@ -1,28 +1,32 @@
 //! What a definition holds, where arguments are given for its parameters: each parameter has one of its kind.
 
-ghost use Rattle.std.specs.Prelude.{◌≡◌, [], None, Some, false, All, IfSome};
-ghost use Rattle.candidate_ir.specs.Context.{world};
-ghost use Rattle.candidate_ir.specs.Declaring.{adt_at};
+ghost use Rattle.std.specs.Prelude.{◌≡◌, [], None, Some, false, All, IfSome, map, option_copied};
+ghost use Rattle.candidate_ir.specs.Context.{parameter_kind, world};
+ghost use Rattle.candidate_ir.specs.Declaring.{adt_at, bounds_at, impl_at, trait_at};
 ghost use Rattle.candidate_ir.specs.Folding.{lacks_argument};
 ghost use Rattle.candidate_ir.specs.Lookups as lookup;
+ghost use Rattle.candidate_ir.specs.Owned.{AliasArgumentsFit, ClausesAreOwned, ImplIsOwned, bounds_among, is_unsolved};
+ghost use Rattle.candidate_ir.specs.References.{ArgumentsFit};
 ghost use Rattle.candidate_ir.specs.Trees.{tree_holds};
 ghost use Rattle.candidate_ir.specs.Signatures.{SignatureHas};
-ghost use Rattle.candidate_ir.specs.WellFormed.{SignatureFits, TypesFit};
+ghost use Rattle.candidate_ir.specs.WellFormed.{ImplIsGiven, SignatureFits, TypesFit};
 ghost use Rattle.candidate_ir.specs.Words.{IsTy, args_forest, ty_tree};
 ghost use Rattle.candidate_ir.specs.Worlds.{AdtSort, FunctionSort, OpaqueSort, parameters, kinds_of};
 
-use crate::decl::contents::Sizedness;
+use crate::decl::contents::{AliasBoundKind, Impl, ImplId, Sizedness};
 use crate::decl::context::Cx;
-use crate::ir::kinds::{AdtId, AliasId, Args, Binder, FnId, FnSig, Ty};
+use crate::ir::kinds::{AdtId, AliasId, AliasTy, Args, Binder, Clause, FnId, FnSig, TraitRef, Ty};
 
 impl Cx {
-    /// The types of the fields of the data type, in order, whose parameters have these arguments.
+    /// The types of the fields of the data type, in order, whose parameters have these arguments. No variable stands in
+    /// them.
     #[tactic(auto, using(crate::proofs::Owned::fields_have_arguments))]
     pub fn fields_of(&self, adt: AdtId, args: Args) -> &[Ty]
         requires { parameters (world self.now) AdtSort adt.0 ≡ Some (kinds_of (args_forest self.now.trees args)) }
         ensures is { result.now ≡ lookup.maybe [] (λ a. a.fields) (adt_at self.now adt.0) }
         ensures fit { TypesFit self.now.trees result.now }
         ensures have { All (λ t. tree_holds (lacks_argument (args_forest self.now.trees args)) (ty_tree self.now.trees t) ≡ false) result.now }
+        ensures closed { All (λ t. tree_holds is_unsolved (ty_tree self.now.trees t) ≡ false) result.now }
     {
         let _ = (args, self.contents.adts.len());
         self.well_formed_table();
@@ -42,17 +46,68 @@ impl Cx {
         self.sizedness_constraint(adt, sizedness)
     }
 
-    /// The type that the opaque type hides, whose parameters have these arguments.
+    /// The type that the opaque type hides, whose parameters have these arguments. No variable stands in it.
     #[tactic(auto, using(crate::proofs::Owned::hidden_has_arguments))]
     pub fn hidden_type_of(&self, opaque: AliasId, args: Args) -> Option<Ty>
         requires { parameters (world self.now) OpaqueSort opaque.0 ≡ Some (kinds_of (args_forest self.now.trees args)) }
         ensures is { result ≡ lookup.hidden_type (lookup.definition self.now opaque.0) }
         ensures sort { IfSome result (λ t. IsTy self.now.trees t) }
         ensures has { IfSome result (λ t. tree_holds (lacks_argument (args_forest self.now.trees args)) (ty_tree self.now.trees t) ≡ false) }
+        ensures closed { IfSome result (λ t. tree_holds is_unsolved (ty_tree self.now.trees t) ≡ false) }
     {
         let _ = args;
         self.well_formed_table();
         self.hidden_type(opaque)
+    }
+
+    /// The impl as it was declared, whose parameters have these arguments. No variable stands in it.
+    pub fn impl_of(&self, of: ImplId, args: Args) -> Option<&Impl>
+        requires { kinds_of (args_forest self.now.trees args) ≡ map parameter_kind (lookup.maybe [] (λ i. i.parameters) (impl_at self.now of)) }
+        ensures is { option_copied result ≡ impl_at self.now of }
+        ensures given { IfSome (option_copied result) (ImplIsGiven self.now) }
+        ensures owned { IfSome (option_copied result) (ImplIsOwned self.now.trees (args_forest self.now.trees args)) }
+    {
+        let _ = args;
+        self.well_formed_table();
+        self.impl_contents(of)
+    }
+
+    /// The super clauses of the reference's trait, in order, whose parameters have the reference's arguments. No variable stands
+    /// in them.
+    pub fn super_clauses_of(&self, reference: TraitRef) -> &[Clause]
+        requires { ArgumentsFit self.now reference }
+        ensures is { result.now ≡ lookup.maybe [] (λ a. a.supers) (trait_at self.now reference.def_id.0) }
+        ensures owned { ClausesAreOwned self.now.trees (args_forest self.now.trees reference.args) result.now }
+    {
+        let _ = self.contents.traits.len();
+        self.well_formed_table();
+        self.super_clauses(reference.def_id)
+    }
+
+    /// The where clauses of the reference's trait, likewise.
+    pub fn trait_where_clauses_of(&self, reference: TraitRef) -> &[Clause]
+        requires { ArgumentsFit self.now reference }
+        ensures is { result.now ≡ lookup.maybe [] (λ a. a.wheres) (trait_at self.now reference.def_id.0) }
+        ensures owned { ClausesAreOwned self.now.trees (args_forest self.now.trees reference.args) result.now }
+    {
+        let _ = self.contents.traits.len();
+        self.well_formed_table();
+        self.trait_where_clauses(reference.def_id)
+    }
+
+    /// The bounds of the alias, its own or those of what it is a projection of, in order, whose parameters have the alias's
+    /// arguments. No variable stands in them.
+    pub fn bounds_of(&self, alias: AliasTy, kind: AliasBoundKind) -> &[Clause]
+        requires { AliasArgumentsFit self.now alias }
+        ensures is { result.now ≡ lookup.maybe [] (bounds_among kind) (bounds_at self.now alias.id.0) }
+        ensures owned { ClausesAreOwned self.now.trees (args_forest self.now.trees alias.args) result.now }
+    {
+        let _ = self.contents.bounds.len();
+        self.well_formed_table();
+        match kind {
+            AliasBoundKind::SelfBounds => self.self_bounds(alias.id),
+            AliasBoundKind::NonSelfBounds => self.non_self_bounds(alias.id),
+        }
     }
 
     /// The signature of the function, under its binder, whose parameters have these arguments.

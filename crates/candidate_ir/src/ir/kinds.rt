@@ -22,11 +22,11 @@ pub struct Const(pub u32);
 pub struct Region(pub u32);
 
 /// A list of generic arguments of a context.
-#[derive(Clone, Copy)]
+#[derive(Clone, Copy, PartialEq, Eq)]
 pub struct Args(pub u32);
 
 /// A list of bounds of a `dyn` type of a context.
-#[derive(Clone, Copy)]
+#[derive(Clone, Copy, PartialEq, Eq)]
 pub struct Preds(pub u32);
 
 /// One bound of a `dyn` type, under its binder.
@@ -46,11 +46,11 @@ pub struct Vars(pub u32);
 pub struct Var(pub u32);
 
 /// A clause, under its binder.
-#[derive(Clone, Copy)]
+#[derive(Clone, Copy, PartialEq, Eq)]
 pub struct Clause(pub u32);
 
 /// An environment: the clauses that are taken as given.
-#[derive(Clone, Copy)]
+#[derive(Clone, Copy, PartialEq, Eq)]
 pub struct ParamEnv(pub u32);
 
 /// A type, a constant or a region of a context.
@@ -175,7 +175,7 @@ pub struct BoundVar {
 }
 
 /// A trait with its arguments, of which the first is the self type.
-#[derive(Clone, Copy)]
+#[derive(Clone, Copy, PartialEq, Eq)]
 pub struct TraitRef {
     pub def_id: TraitId,
     pub args: Args,
@@ -224,7 +224,7 @@ pub struct ClosureArgs {
 }
 
 /// An alias with its arguments; of a projection the self type comes first.
-#[derive(Clone, Copy)]
+#[derive(Clone, Copy, PartialEq, Eq)]
 pub struct AliasTy {
     pub kind: AliasKind,
     pub id: AliasId,
@@ -275,7 +275,7 @@ pub enum ExistentialPredicate {
 }
 
 /// An associated type with its arguments, of which the first is the self type.
-#[derive(Clone, Copy)]
+#[derive(Clone, Copy, PartialEq, Eq)]
 pub struct AliasTerm {
     pub def_id: AssocId,
     pub args: Args,
@@ -289,7 +289,7 @@ pub enum PredicatePolarity {
 }
 
 /// That a trait holds of its arguments, or that it doesn't.
-#[derive(Clone, Copy)]
+#[derive(Clone, Copy, PartialEq, Eq)]
 pub struct TraitPredicate {
     pub trait_ref: TraitRef,
     pub polarity: PredicatePolarity,
@@ -315,7 +315,7 @@ pub enum ClauseKind {
 }
 
 /// What is to be proved, and what may be taken as given for it.
-#[derive(Clone, Copy)]
+#[derive(Clone, Copy, PartialEq, Eq)]
 pub struct Goal<P> {
     pub param_env: ParamEnv,
     pub predicate: P,

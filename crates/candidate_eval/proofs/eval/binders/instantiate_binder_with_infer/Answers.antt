@@ -15,7 +15,7 @@ use Rattle.candidate_eval.proofs.Accounts.{accounted-here, an-instance, reaches,
 use Rattle.candidate_eval.specs.Accounts.StopsBy.{accounted, no_memory}
 use Rattle.std.proofs.lemmas.Result.{err_from_is_err_and}
 use Rattle.candidate_ir.specs.Substitutions.{alone}
-use Rattle.candidate_eval.proofs.structural.object.instantiate_binder_with_infer.Goals as goal
+use Rattle.candidate_eval.proofs.eval.binders.instantiate_binder_with_infer.Goals as goal
 
 pub open_clause-requires-clause-clause : goal.open_clause-requires-clause-clause
 open_clause-requires-clause-clause g c =

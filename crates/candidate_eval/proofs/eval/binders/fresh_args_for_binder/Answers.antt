@@ -1,0 +1,23 @@
+use Rattle.std.proofs.Common.{◌≡◌, ◌∙◌, ap, subst}
+use Rattle.std.proofs.lemmas.Result.{IfOk-weaker, on_ok_weaker}
+use Rattle.candidate_ir.specs.Context.{Context}
+use Rattle.candidate_ir.specs.Words.{vars_tree}
+use Rattle.candidate_eval.specs.Characterization.{binder_kinds}
+use Rattle.candidate_eval.specs.Evaluators.{kinds_listed}
+use Rattle.candidate_eval.specs.States.{fresh_variables, with_fresh_variables}
+use Rattle.candidate_eval.proofs.Objects.{variables-read}
+use Rattle.candidate_eval.proofs.eval.binders.fresh_args_for_binder.Goals as goal
+
+pub returns-clause-state : goal.returns-clause-state
+returns-clause-state g c =
+    let S = g.E.EvalCtxt.state c.args.ecx.now in
+    let bound = variables-read c.in_ok-kinds.kinds.items (vars_tree c.cx.result.now.trees c.args.vars).children c.in_ok-kinds.ensures in
+    let read = subst (λ (x : Context). kinds_listed c.in_ok-kinds.kinds.items ≡ binder_kinds (vars_tree x.trees c.args.vars).children) c.cx.ensures bound in
+    on_ok_weaker c.fresh_args_for_item.result (λ e. e ∙ ap (with_fresh_variables S) (ap kinds_listed c.as_slice.ensures.value ∙ read)) c.fresh_args_for_item.ensures.made
+
+pub returns-clause-trees : goal.returns-clause-trees
+returns-clause-trees g c =
+    let S = g.E.EvalCtxt.state c.args.ecx.now in
+    let bound = variables-read c.in_ok-kinds.kinds.items (vars_tree c.cx.result.now.trees c.args.vars).children c.in_ok-kinds.ensures in
+    let read = subst (λ (x : Context). kinds_listed c.in_ok-kinds.kinds.items ≡ binder_kinds (vars_tree x.trees c.args.vars).children) c.cx.ensures bound in
+    IfOk-weaker c.fresh_args_for_item.result _ _ (λ x e. e ∙ ap (fresh_variables S) (ap kinds_listed c.as_slice.ensures.value ∙ read)) c.fresh_args_for_item.ensures.trees

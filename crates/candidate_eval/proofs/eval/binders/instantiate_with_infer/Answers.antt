@@ -1,0 +1,47 @@
+use Rattle.std.proofs.Common.{◌∙◌}
+use Rattle.std.proofs.lemmas.Result.{IfOk-weaker}
+use Rattle.candidate_ir.specs.Nodes.{tree_at}
+use Rattle.candidate_ir.proofs.Kept.{number-kept}
+use Rattle.candidate_ir.proofs.Lists.{below_kind}
+use Rattle.candidate_eval.proofs.Declared.{opened-kept, opened-list-kept}
+use Rattle.candidate_eval.proofs.Probing.{made, on-ok, then}
+use Rattle.candidate_eval.proofs.StopKinds.{subst_stop}
+use Rattle.candidate_eval.proofs.eval.binders.instantiate_with_infer.Goals as goal
+
+pub open_binder-requires-clause-under : goal.open_binder-requires-clause-under
+open_binder-requires-clause-under g c =
+    let old = g.E.Build.context c.args.ecx.now in
+    let mid = g.E.Build.context c.fresh_args_for_binder.new.ecx in
+    let n = g.N.Numbered.number_of c.args.binder.value in
+    let low = below_kind old.trees n (g.N.Numbered.kind c.args.binder.value) (g.met.N.Numbered.is_there c.args.binder.value) c.requires.under in
+    (number-kept old.trees mid.trees n c.in_ok-values.ensures.kept.grows.kept low).0 ∙ c.requires.under
+
+pub returns-clause-tree : goal.returns-clause-tree
+returns-clause-tree g c =
+    let old = g.E.Build.context c.args.ecx.now in
+    let mid = g.E.Build.context c.fresh_args_for_binder.new.ecx in
+    let n = g.N.Numbered.number_of c.args.binder.value in
+    let low = below_kind old.trees n (g.N.Numbered.kind c.args.binder.value) (g.met.N.Numbered.is_there c.args.binder.value) c.requires.under in
+    let same = (number-kept old.trees mid.trees n c.in_ok-values.ensures.kept.grows.kept low).1 in
+    IfOk-weaker c.open_binder.result _ _ (λ x e. opened-kept old.trees mid.trees n _ _ (tree_at (g.E.Build.context c.open_binder.new.make).trees (g.N.Numbered.number_of x)) c.in_ok-values.ensures.trees same e) c.open_binder.ensures.tree
+
+pub returns-clause-list : goal.returns-clause-list
+returns-clause-list g c = λ list.
+    let old = g.E.Build.context c.args.ecx.now in
+    let mid = g.E.Build.context c.fresh_args_for_binder.new.ecx in
+    let n = g.N.Numbered.number_of c.args.binder.value in
+    let low = below_kind old.trees n (g.N.Numbered.kind c.args.binder.value) (g.met.N.Numbered.is_there c.args.binder.value) c.requires.under in
+    let same = (number-kept old.trees mid.trees n c.in_ok-values.ensures.kept.grows.kept low).1 in
+    IfOk-weaker c.open_binder.result _ _ (λ x e. opened-list-kept old.trees mid.trees n _ _ (tree_at (g.E.Build.context c.open_binder.new.make).trees (g.N.Numbered.number_of x)).children c.in_ok-values.ensures.trees same e) (c.open_binder.ensures.list list)
+
+pub returns-clause-kept : goal.returns-clause-kept
+returns-clause-kept g c =
+    then c.fresh_args_for_binder.ensures.kept (made (g.met.E.EvalCtxt.by_rest c.fresh_args_for_binder.new.ecx c.open_binder.new.make c.open_binder.ensures.rest) c.open_binder.ensures.grows)
+
+pub returns-clause-state : goal.returns-clause-state
+returns-clause-state g c =
+    let same = (g.met.E.EvalCtxt.by_rest c.fresh_args_for_binder.new.ecx c.open_binder.new.make c.open_binder.ensures.rest).1 in
+    on-ok c.open_binder.result (same ∙ c.in_ok-values.ensures.state)
+
+pub returns-clause-cause : goal.returns-clause-cause
+returns-clause-cause g c = subst_stop _ _ c.open_binder.result c.open_binder.ensures.cause

@@ -1,0 +1,166 @@
+//! What stood under binders, with variables or placeholders in the place of theirs.
+
+ghost use Rattle.std.specs.Prelude.{◌≡◌, true, IfOk, IfErr, OnOk};
+ghost use Rattle.candidate_ir.specs.Context.{Grows};
+ghost use Rattle.candidate_ir.specs.Nodes.{kind_at, tree_at};
+ghost use Rattle.candidate_ir.specs.Opening.{opened, opened_clause, opened_tree};
+ghost use Rattle.candidate_ir.specs.Trees.{is_list_kind};
+ghost use Rattle.candidate_ir.specs.Words.{IsArgs, IsClause, IsParamEnv, IsTy, IsVars, args_forest, clause_tree, env_forest, ty_tree, vars_tree};
+ghost use Rattle.candidate_eval.specs.Accounts.{StopsBy};
+ghost use Rattle.candidate_eval.specs.Characterization.{binder_kinds, bound_kinds};
+ghost use Rattle.candidate_eval.specs.Evaluators.{IsEvaluatorStop, IsMakingStop, Keeps, rigid, with_rigid};
+ghost use Rattle.candidate_eval.specs.Objects.{IsInstance, fresh_instance, with_instance};
+ghost use Rattle.candidate_eval.specs.States.{fresh_variables, resolved, with_fresh_variables};
+
+use crate::eval::context::EvalCtxt;
+use candidate_ir::decl::make::Make;
+use candidate_ir::decl::open::{binder_kinds, open_binder, open_clause, variable_kinds};
+use candidate_ir::ir::kinds::{Args, Binder, Clause, FnSig, ParamEnv, Vars};
+use candidate_ir::ir::numbered::Numbered;
+use candidate_ir::ir::stop::Stop;
+use candidate_ir::ir::trees::Trees;
+use std::alloc::Global;
+
+/// Fresh variables in the place of those of a binder.
+///
+/// `Stop::Memory` comes where a growth was refused, other stops as they come of the evaluator's fresh variables. After a stop the
+/// variables that were made stay.
+pub fn fresh_args_for_binder<E: EvalCtxt>(
+    alloc: Global,
+    ecx: &mut E,
+    vars: Vars,
+) -> Result<Args, Stop>
+    requires { IsVars (E.context ecx.old).trees vars }
+    ensures kept { Keeps E.fixed E.probes E.context ecx.old ecx.new }
+    ensures state { OnOk result (E.state ecx.new ≡ with_fresh_variables (E.state ecx.old) (binder_kinds (vars_tree (E.context ecx.old).trees vars).children)) }
+    ensures sort { IfOk result (λ a. IsArgs (E.context ecx.new).trees a) }
+    ensures trees { IfOk result (λ a. args_forest (E.context ecx.new).trees a ≡ fresh_variables (E.state ecx.old) (binder_kinds (vars_tree (E.context ecx.old).trees vars).children)) }
+    ensures cause { IfErr result IsEvaluatorStop }
+{
+    let kinds = variable_kinds(alloc, ecx.cx(), vars)?;
+    ecx.fresh_args_for_item(kinds.as_slice())
+}
+
+/// Placeholders of a fresh universe in the place of the variables of a binder. It stops as `fresh_args_for_binder` does.
+pub fn placeholder_args_for_binder<E: EvalCtxt>(
+    alloc: Global,
+    ecx: &mut E,
+    vars: Vars,
+) -> Result<Args, Stop>
+    requires { IsVars (E.context ecx.old).trees vars }
+    ensures kept { Keeps E.fixed E.probes E.context ecx.old ecx.new }
+    ensures state { OnOk result (E.state ecx.new ≡ with_rigid (E.state ecx.old) (binder_kinds (vars_tree (E.context ecx.old).trees vars).children)) }
+    ensures sort { IfOk result (λ a. IsArgs (E.context ecx.new).trees a) }
+    ensures trees { IfOk result (λ a. args_forest (E.context ecx.new).trees a ≡ rigid (E.state ecx.old) (binder_kinds (vars_tree (E.context ecx.old).trees vars).children)) }
+    ensures cause { IfErr result IsEvaluatorStop }
+{
+    let kinds = variable_kinds(alloc, ecx.cx(), vars)?;
+    ecx.placeholder_args(kinds.as_slice())
+}
+
+/// What stands under the binder, with fresh variables in the place of the binder's: a type, a list of arguments, as of a trait
+/// reference, or whatever else it is. It stops as `fresh_args_for_binder` and `open_binder` do.
+pub fn instantiate_with_infer<N: Numbered, E: EvalCtxt>(
+    alloc: Global,
+    ecx: &mut E,
+    binder: Binder<N>,
+) -> Result<N, Stop>
+    requires vars { IsVars (E.context ecx.old).trees binder.vars }
+    requires under { kind_at (E.context ecx.old).trees (N.number_of binder.value) ≡ N.kind binder.value }
+    ensures kept { Keeps E.fixed E.probes E.context ecx.old ecx.new }
+    ensures state { OnOk result (E.state ecx.new ≡ with_fresh_variables (E.state ecx.old) (binder_kinds (vars_tree (E.context ecx.old).trees binder.vars).children)) }
+    ensures sort { IfOk result (λ x. kind_at (E.context ecx.new).trees (N.number_of x) ≡ N.kind x) }
+    ensures kind { IfOk result (λ x. N.kind x ≡ N.kind binder.value) }
+    ensures tree { IfOk result (λ x. tree_at (E.context ecx.new).trees (N.number_of x) ≡ opened_tree (fresh_variables (E.state ecx.old) (binder_kinds (vars_tree (E.context ecx.old).trees binder.vars).children)) (tree_at (E.context ecx.old).trees (N.number_of binder.value))) }
+    ensures list { is_list_kind (N.kind binder.value) ≡ true → IfOk result (λ x. (tree_at (E.context ecx.new).trees (N.number_of x)).children ≡ opened (fresh_variables (E.state ecx.old) (binder_kinds (vars_tree (E.context ecx.old).trees binder.vars).children)) (tree_at (E.context ecx.old).trees (N.number_of binder.value)).children) }
+    ensures cause { IfErr result IsEvaluatorStop }
+{
+    let values = fresh_args_for_binder(alloc, ecx, binder.vars)?;
+    open_binder(alloc, ecx, binder.value, values)
+}
+
+/// The same with placeholders of a fresh universe: what holds of it holds for all values of the binder's variables. It stops as
+/// `instantiate_with_infer` does.
+pub fn enter_binder<N: Numbered, E: EvalCtxt>(
+    alloc: Global,
+    ecx: &mut E,
+    binder: Binder<N>,
+) -> Result<N, Stop>
+    requires vars { IsVars (E.context ecx.old).trees binder.vars }
+    requires under { kind_at (E.context ecx.old).trees (N.number_of binder.value) ≡ N.kind binder.value }
+    ensures kept { Keeps E.fixed E.probes E.context ecx.old ecx.new }
+    ensures state { OnOk result (E.state ecx.new ≡ with_rigid (E.state ecx.old) (binder_kinds (vars_tree (E.context ecx.old).trees binder.vars).children)) }
+    ensures sort { IfOk result (λ x. kind_at (E.context ecx.new).trees (N.number_of x) ≡ N.kind x) }
+    ensures kind { IfOk result (λ x. N.kind x ≡ N.kind binder.value) }
+    ensures tree { IfOk result (λ x. tree_at (E.context ecx.new).trees (N.number_of x) ≡ opened_tree (rigid (E.state ecx.old) (binder_kinds (vars_tree (E.context ecx.old).trees binder.vars).children)) (tree_at (E.context ecx.old).trees (N.number_of binder.value))) }
+    ensures list { is_list_kind (N.kind binder.value) ≡ true → IfOk result (λ x. (tree_at (E.context ecx.new).trees (N.number_of x)).children ≡ opened (rigid (E.state ecx.old) (binder_kinds (vars_tree (E.context ecx.old).trees binder.vars).children)) (tree_at (E.context ecx.old).trees (N.number_of binder.value)).children) }
+    ensures cause { IfErr result IsEvaluatorStop }
+{
+    let values = placeholder_args_for_binder(alloc, ecx, binder.vars)?;
+    open_binder(alloc, ecx, binder.value, values)
+}
+
+/// The clause under an empty binder, with fresh variables in the place of those of its own.
+///
+/// `Stop::Memory` comes where a growth was refused, other stops as they come of `open_clause` and of the evaluator's fresh
+/// variables. After a stop the variables that were made stay.
+pub fn instantiate_binder_with_infer<E: EvalCtxt>(
+    alloc: Global,
+    ecx: &mut E,
+    clause: Clause,
+) -> Result<Clause, Stop>
+    requires { IsClause (E.context ecx.old).trees clause }
+    ensures kept { Keeps E.fixed E.probes E.context ecx.old ecx.new }
+    ensures state { OnOk result (E.state ecx.new ≡ with_instance (E.state ecx.old) (clause_tree (E.context ecx.old).trees clause)) }
+    ensures sort { IfOk result (λ x. IsClause (E.context ecx.new).trees x) }
+    ensures tree { IfOk result (λ x. clause_tree (E.context ecx.new).trees x ≡ fresh_instance (E.state ecx.old) (clause_tree (E.context ecx.old).trees clause)) }
+    ensures cause { IfErr result (StopsBy E.fixed E.context E.state E.stops ecx.old (IsInstance (clause_tree (E.context ecx.old).trees clause))) }
+{
+    let kinds = binder_kinds(alloc, ecx.cx(), clause)?;
+    let values = ecx.fresh_args_for_item(kinds.as_slice())?;
+    open_clause(alloc, ecx, clause, values)
+}
+
+/// The clause under an empty binder, with placeholders of a fresh universe in the place of the variables of its own. It stops as
+/// `enter_binder` does.
+pub fn enter_clause<E: EvalCtxt>(alloc: Global, ecx: &mut E, clause: Clause) -> Result<Clause, Stop>
+    requires { IsClause (E.context ecx.old).trees clause }
+    ensures kept { Keeps E.fixed E.probes E.context ecx.old ecx.new }
+    ensures state { OnOk result (E.state ecx.new ≡ with_rigid (E.state ecx.old) (bound_kinds (clause_tree (E.context ecx.old).trees clause).children)) }
+    ensures sort { IfOk result (λ x. IsClause (E.context ecx.new).trees x) }
+    ensures tree { IfOk result (λ x. clause_tree (E.context ecx.new).trees x ≡ opened_clause (rigid (E.state ecx.old) (bound_kinds (clause_tree (E.context ecx.old).trees clause).children)) (clause_tree (E.context ecx.old).trees clause)) }
+    ensures cause { IfErr result IsEvaluatorStop }
+{
+    let kinds = binder_kinds(alloc, ecx.cx(), clause)?;
+    let values = ecx.placeholder_args(kinds.as_slice())?;
+    open_clause(alloc, ecx, clause, values)
+}
+
+/// A signature that stood under a binder, with the list's values in the place of that binder's variables. It stops as
+/// `open_binder` does.
+pub fn open_signature<M: Make>(
+    alloc: Global,
+    make: &mut M,
+    under: FnSig,
+    values: Args,
+) -> Result<FnSig, Stop>
+    requires inputs { IsArgs (M.context make.old).trees under.inputs }
+    requires output { IsTy (M.context make.old).trees under.output }
+    requires values { IsArgs (M.context make.old).trees values }
+    ensures grows { Grows (M.context make.old) (M.context make.new) }
+    ensures rest { M.rest make.new ≡ M.rest make.old }
+    ensures inputs { IfOk result (λ s. IsArgs (M.context make.new).trees s.inputs × (args_forest (M.context make.new).trees s.inputs ≡ opened (args_forest (M.context make.old).trees values) (args_forest (M.context make.old).trees under.inputs))) }
+    ensures output { IfOk result (λ s. IsTy (M.context make.new).trees s.output × (ty_tree (M.context make.new).trees s.output ≡ opened_tree (args_forest (M.context make.old).trees values) (ty_tree (M.context make.old).trees under.output))) }
+    ensures is { IfOk result (λ s. s ≡ record under { inputs = s.inputs; output = s.output }) }
+    ensures cause { IfErr result IsMakingStop }
+{
+    let inputs = open_binder(alloc, make, under.inputs, values)?;
+    let output = open_binder(alloc, make, under.output, values)?;
+    Ok(FnSig {
+        inputs,
+        output,
+        safe: under.safe,
+        rust_abi: under.rust_abi,
+        variadic: under.variadic,
+    })
+}

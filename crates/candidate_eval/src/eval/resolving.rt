@@ -1,0 +1,38 @@
+//! Environments with all values put in.
+
+ghost use Rattle.std.specs.Prelude.{◌≡◌, IfOk, IfErr};
+ghost use Rattle.candidate_ir.specs.Words.{IsParamEnv, env_forest};
+ghost use Rattle.candidate_eval.specs.Evaluators.{IsEvaluatorStop, Keeps};
+ghost use Rattle.candidate_eval.specs.States.{resolved};
+
+use crate::eval::context::EvalCtxt;
+use candidate_ir::decl::make::Make;
+use candidate_ir::ir::kinds::ParamEnv;
+use candidate_ir::ir::stop::Stop;
+use candidate_ir::ir::trees::Trees;
+use std::alloc::Global;
+
+/// The environment, with all values put in.
+///
+/// It stops as `resolve_clause_if_possible` and `mk_param_env` do; `Stop::Memory` comes where the list can't grow, too. After a
+/// stop the nodes that were made stay.
+pub fn resolve_env_if_possible<E: EvalCtxt>(
+    alloc: Global,
+    ecx: &mut E,
+    env: ParamEnv,
+) -> Result<ParamEnv, Stop>
+    requires { IsParamEnv (E.context ecx.old).trees env }
+    ensures kept { Keeps E.fixed E.probes E.context ecx.old ecx.new }
+    ensures same { E.state ecx.new ≡ E.state ecx.old }
+    ensures sort { IfOk result (λ x. IsParamEnv (E.context ecx.new).trees x) }
+    ensures tree { IfOk result (λ x. env_forest (E.context ecx.new).trees x ≡ resolved (E.state ecx.old) (env_forest (E.context ecx.old).trees env)) }
+    ensures cause { IfErr result IsEvaluatorStop }
+{
+    let clauses = Vec::from_slice(alloc, ecx.cx().param_env(env))?;
+    let mut list = Vec::new(alloc);
+    for clause in &clauses {
+        let resolved = ecx.resolve_clause_if_possible(*clause)?;
+        list.push(resolved)?;
+    }
+    ecx.mk_param_env(list.as_slice())
+}
