@@ -1,5 +1,5 @@
 -- Pending goals are evaluated: what the parts come to.
-use Rattle.std.proofs.Common.{◌≡◌, ◌≤◌, ◌<◌, ◌+◌, ◌-◌, ℕ, zero, suc, Bool, true, false, nat_lt, List, [], ◌∷◌, ◌++◌, length, map, take, drop, slice_index_or, append_assoc, Option, Some, None, IfSome, if◌then◌else◌, refl, sym, ◌∙◌, ap, subst, arith}
+use Rattle.std.proofs.Common.{◌≡◌, ◌≤◌, ◌<◌, ◌+◌, ◌-◌, ℕ, zero, suc, Bool, true, false, ◌||◌, ◌⊎◌, inl, inr, List, [], ◌∷◌, ◌++◌, length, map, take, drop, slice_index_or, append_assoc, Option, Some, None, IfSome, if◌then◌else◌, refl, sym, ◌∙◌, ap, subst, arith}
 use Rattle.std.specs.Option.{option_map, option_to_list}
 use Rattle.std.proofs.lemmas.List.{append-nil, length-append, map-append}
 use Rattle.candidate_ir.specs.declared.ir.heads.Head.{Head}
@@ -26,12 +26,12 @@ use Rattle.candidate_eval.specs.Evaluators.{IsGoal, kinds_listed, pending_of, pe
 use Rattle.candidate_eval.specs.States.{Env, Pending, State, added, next, resolved_tree, with_pending}
 use Rattle.candidate_rounds.specs.declared.rounds.inference.Change.TheVariants as C
 use Rattle.candidate_rounds.specs.declared.rounds.inference.Entry.{Entry}
-use Rattle.rounds_judge.specs.Equating.{count_unbound, equated, unbound_of, without_goals}
+use Rattle.rounds_judge.specs.Equating.{equated, without_goals}
 use Rattle.candidate_rounds.specs.Inferences.{Inference, begin_pending}
 use Rattle.candidate_rounds.specs.Known.{Each, Evaluator, GoesOn, IsChange, IsConsistent, IsGiven, info_of, listing, state}
 use Rattle.rounds_judge.specs.Listed.{Listing, listed}
-use Rattle.rounds_judge.specs.Settling.{Outcome, before, certainty_of, instance_of, instantiated, pass, passes, projected, settled, term_of, tried, tried_all, tried_as, with_certainty, with_facts, with_staying}
-use Rattle.candidate_rounds.specs.Trying.{IsProjection, answered, answered_by, evaluated_as, left_of, projection_of, second_if_bound, unbound_entries, unbound_value}
+use Rattle.rounds_judge.specs.Settling.{Outcome, before, certainty_of, gave_a_value, got_a_value, instance_of, instantiated, pass, passes, projected, settled, term_of, tried, tried_all, tried_as, with_certainty, with_facts, with_staying}
+use Rattle.candidate_rounds.specs.Trying.{IsProjection, answered, answered_by, evaluated_as, left_of, projection_of, second_if_bound, entries_gave, got_one}
 use Rattle.candidate_rounds.proofs.Going.{goes-listing, goes-trans}
 use Rattle.candidate_rounds.proofs.Holding.{tidy-now}
 use Rattle.candidate_rounds.proofs.Knowing.{each-append, each-imply, tree-stays}
@@ -292,7 +292,7 @@ pub record PassesSoFar (old now : Evaluator) (most i : ℕ) : Type 0 where
 
 module _ (old now : Evaluator) (most i : ℕ) (given : IsGiven old.context.trees old.normal old.opaques) (a : PassesSoFar old now most i) (l : i < most) where
   abbrev again : State → Option State
-  again T = if nat_lt (count_unbound T.variables) (count_unbound (state now).variables) then passes (listing old) (most - (i + 1)) T else Some T
+  again T = if gave_a_value (state now).variables T.variables then passes (listing old) (most - (i + 1)) T else Some T
 
   this-pass : passes (listing old) most (state old) ≡ next (pass (listing now) (state now)) again
   this-pass =
@@ -301,26 +301,20 @@ module _ (old now : Evaluator) (most i : ℕ) (given : IsGiven old.context.trees
       ∙ (ap (λ k. passes (listing old) k (state now)) n
       ∙ ap (λ m. next (pass m (state now)) again) (sym (goes-listing old now a.goes given)))
 
-  not-less : (n m : ℕ) → m ≤ n → nat_lt n m ≡ false
-  not-less n m h = grind (arith, h)
-
-  less : (n m : ℕ) → n < m → nat_lt n m ≡ true
-  less n m h = grind (arith, h)
-
-  pub one-more-pass : (new : Evaluator) → GoesOn now new → pass (listing now) (state now) ≡ Some (state new) → count_unbound (state new).variables < count_unbound (state now).variables → PassesSoFar old new most (i + 1)
+  pub one-more-pass : (new : Evaluator) → GoesOn now new → pass (listing now) (state now) ≡ Some (state new) → gave_a_value (state now).variables (state new).variables ≡ true → PassesSoFar old new most (i + 1)
   one-more-pass new g p c = record {
     goes = goes-trans old now new a.goes g;
     is =
         this-pass
         ∙ (ap (λ o. next o again) p
-        ∙ ap (λ b. if b then passes (listing old) (most - (i + 1)) (state new) else Some (state new)) (less (count_unbound (state new).variables) (count_unbound (state now).variables) c));
+        ∙ ap (λ b. if b then passes (listing old) (most - (i + 1)) (state new) else Some (state new)) c);
   }
 
-  pub last-pass : (T : State) → pass (listing now) (state now) ≡ Some T → count_unbound (state now).variables ≤ count_unbound T.variables → passes (listing old) most (state old) ≡ Some T
+  pub last-pass : (T : State) → pass (listing now) (state now) ≡ Some T → gave_a_value (state now).variables T.variables ≡ false → passes (listing old) most (state old) ≡ Some T
   last-pass T p c =
       this-pass
       ∙ (ap (λ o. next o again) p
-      ∙ ap (λ b. if b then passes (listing old) (most - (i + 1)) T else Some T) (not-less (count_unbound T.variables) (count_unbound (state now).variables) c))
+      ∙ ap (λ b. if b then passes (listing old) (most - (i + 1)) T else Some T) c)
 
   pub passes-refused : pass (listing now) (state now) ≡ None → passes (listing old) most (state old) ≡ None
   passes-refused p = this-pass ∙ ap (λ o. next o again) p
@@ -337,36 +331,56 @@ settled-by l S T e = ap (λ (o : Option State). next o (λ U. Some (with_certain
 pub settled-refused : (l : Listing) (S : State) → passes l 8 S ≡ None → settled l S ≡ None
 settled-refused l S e = ap (λ (o : Option State). next o (λ U. Some (with_certainty U))) e
 
--- Variables without values.
+-- Variables that got values.
 
-pub unbound-are : (ts : List Tree) (es : List Entry) → unbound_entries es ≡ count_unbound (map (info_of ts) es)
-unbound-are ts [] = refl
-unbound-are ts (e ∷ es) = ap (λ n. unbound_value e.value + n) (unbound-are ts es) ∙ at e.value
+pub gave-same : (ts us : List Tree) (es fs : List Entry) → entries_gave es fs ≡ gave_a_value (map (info_of ts) es) (map (info_of us) fs)
+gave-same ts us [] fs = refl
+gave-same ts us (e ∷ es) [] = refl
+gave-same ts us (e ∷ es) (f ∷ fs) = at e.value f.value (gave-same ts us es fs)
   where
-    at : (v : Option GenericArg) → unbound_value v + count_unbound (map (info_of ts) es) ≡ unbound_of (option_map (arg_tree ts) v) + count_unbound (map (info_of ts) es)
-    at None = refl
-    at (Some x) = refl
+    at : (v w : Option GenericArg) → entries_gave es fs ≡ gave_a_value (map (info_of ts) es) (map (info_of us) fs)
+        → got_one v w || entries_gave es fs ≡ got_a_value (option_map (arg_tree ts) v) (option_map (arg_tree us) w) || gave_a_value (map (info_of ts) es) (map (info_of us) fs)
+    at None None e = e
+    at None (Some w) e = refl
+    at (Some v) None e = e
+    at (Some v) (Some w) e = e
 
-pub record UnboundSoFar (es : List Entry) (i n : ℕ) : Type 0 where
-  pub few : n ≤ i
-  pub is : n + unbound_entries (drop i es) ≡ unbound_entries es
+-- What is said of the entries that were kept is said of the states.
+pub gave-of-states : (a b : Evaluator) (es : List Entry) (r x : Bool) → es ≡ a.inference.variables → r ≡ entries_gave es b.inference.variables → r ≡ x → gave_a_value (state a).variables (state b).variables ≡ x
+gave-of-states a b es r x e g i = sym (gave-same a.context.trees b.context.trees a.inference.variables b.inference.variables) ∙ (ap (λ fs. entries_gave fs b.inference.variables) (sym e) ∙ (sym g ∙ i))
 
-one-unbound : (es : List Entry) (i : ℕ) (d : Entry) → i < length es → unbound_entries (drop i es) ≡ unbound_value (slice_index_or es i d).value + unbound_entries (drop (suc i) es)
-one-unbound es i d l = ap unbound_entries (drop-one es i d l)
+pub record GaveSoFar (es fs : List Entry) (i : ℕ) : Type 0 where
+  pub is : entries_gave (drop i es) (drop i fs) ≡ entries_gave es fs
 
-pub one-more-unbound : (es : List Entry) (i n m k : ℕ) (d : Entry) → UnboundSoFar es i n → i < length es → unbound_value (slice_index_or es i d).value ≡ k → k ≤ 1 → m ≡ n + k → UnboundSoFar es (i + 1) m
-one-more-unbound es i n m k d a l v f e = record {
-  few = (let p = a.few in omega (arith, p, f, e));
+one-compared : (es fs : List Entry) (i : ℕ) (d e : Entry) → i < length es → i < length fs
+    → entries_gave (drop i es) (drop i fs) ≡ got_one (slice_index_or es i d).value (slice_index_or fs i e).value || entries_gave (drop (suc i) es) (drop (suc i) fs)
+one-compared es fs i d e l m =
+    ap (λ xs. entries_gave xs (drop i fs)) (drop-one es i d l) ∙ ap (λ ys. entries_gave (slice_index_or es i d ∷ drop (suc i) es) ys) (drop-one fs i e m)
+
+pub gave-here : (es fs : List Entry) (i : ℕ) (d e : Entry) → GaveSoFar es fs i → i < length es → i < length fs → got_one (slice_index_or es i d).value (slice_index_or fs i e).value ≡ true → true ≡ entries_gave es fs
+gave-here es fs i d e a l m g = sym (ap (λ b. b || entries_gave (drop (suc i) es) (drop (suc i) fs)) g) ∙ (sym (one-compared es fs i d e l m) ∙ a.is)
+
+pub one-more-compared : (es fs : List Entry) (i : ℕ) (d e : Entry) → GaveSoFar es fs i → i < length es → i < length fs → got_one (slice_index_or es i d).value (slice_index_or fs i e).value ≡ false → GaveSoFar es fs (i + 1)
+one-more-compared es fs i d e a l m g = record {
   is =
-      (let q = a.is in
-      let o = one-unbound es i d l in
-      let s : suc i ≡ i + 1 = omega arith in
-      let t = ap (λ j. unbound_entries (drop j es)) s in
-      omega (arith, q, o, t, v, e));
+      (let s : i + 1 ≡ suc i = omega arith in
+      ap (λ k. entries_gave (drop k es) (drop k fs)) s
+      ∙ (sym (ap (λ b. b || entries_gave (drop (suc i) es) (drop (suc i) fs)) g) ∙ (sym (one-compared es fs i d e l m) ∙ a.is)));
 }
 
-pub all-unbound : (es : List Entry) (i n : ℕ) → UnboundSoFar es i n → length es ≤ i → n ≡ unbound_entries es
-all-unbound es i n a l = let q = a.is in let z = ap unbound_entries (drop-beyond es i l) in omega (arith, q, z)
+pub gave-begun : (es fs : List Entry) → GaveSoFar es fs 0
+gave-begun es fs = record { is = refl }
+
+no-more : (xs ys : List Entry) → (xs ≡ []) ⊎ (ys ≡ []) → entries_gave xs ys ≡ false
+no-more xs ys (inl e) = ap (λ zs. entries_gave zs ys) e
+no-more [] ys (inr e) = refl
+no-more (x ∷ xs) ys (inr e) = ap (λ zs. entries_gave (x ∷ xs) zs) e
+
+pub none-left : (es fs : List Entry) (i : ℕ) → GaveSoFar es fs i → length es ≤ i → false ≡ entries_gave es fs
+none-left es fs i a l = sym (no-more (drop i es) (drop i fs) (inl (drop-beyond es i l))) ∙ a.is
+
+pub none-after : (es fs : List Entry) (i : ℕ) → GaveSoFar es fs i → length fs ≤ i → false ≡ entries_gave es fs
+none-after es fs i a l = sym (no-more (drop i es) (drop i fs) (inr (drop-beyond fs i l))) ∙ a.is
 
 -- A projection that is evaluated is its alias answered with its term.
 pub projection-evaluated : (l : Listing) (S : State) (t : Tree) (c : Context) (x : Tree) (p : ProjectionPredicate) → IsProjection c x p

@@ -1,5 +1,5 @@
 -- Why goals that are pending aren't evaluated.
-use Rattle.std.proofs.Common.{◌≡◌, inl, inr, ℕ, suc, ◌<◌, ◌+◌, ◌-◌, List, [], ◌∷◌, ◌++◌, length, drop, slice_index_or, Option, Some, IfSome, Result, Ok, Err, sym, ◌∙◌, ap, subst, arith}
+use Rattle.std.proofs.Common.{◌≡◌, inl, inr, ℕ, suc, true, ◌<◌, ◌+◌, ◌-◌, List, [], ◌∷◌, ◌++◌, length, drop, slice_index_or, Option, Some, IfSome, Result, Ok, Err, sym, ◌∙◌, ap, subst, arith}
 use Rattle.std.proofs.lemmas.List.{length-drop}
 use Rattle.std.specs.Prelude.{IfErr, IsErrAnd}
 use Rattle.std.specs.Option.{option_to_list}
@@ -20,9 +20,8 @@ use Rattle.candidate_eval.specs.States.{Pending, State, resolved_tree}
 use Rattle.candidate_rounds.specs.Known.{Each, Evaluator, GoesOn, IsGiven, listing, state}
 use Rattle.candidate_rounds.specs.Stopping.{IsTreeStop, IsEquationStop, IsInstanceStop, of_instance, IsProjectionStop, of_equation, IsEvaluationStop, of_projection, IsGoalStop, goal_memory, of_evaluation, AreGoalsStop, this_goal, later_goal, IsPassStop, of_goals, ArePassesStop, this_pass, later_pass, IsResponseStop, IsAnsweringStop, of_response}
 use Rattle.candidate_rounds.specs.Trying.{IsProjection, left_of, projection_of}
-use Rattle.rounds_judge.specs.Equating.{count_unbound}
 use Rattle.rounds_judge.specs.Listed.{Listing, listed}
-use Rattle.rounds_judge.specs.Settling.{alias_of, instantiated, pass, settled, tried, with_facts}
+use Rattle.rounds_judge.specs.Settling.{alias_of, gave_a_value, instantiated, pass, settled, tried, with_facts}
 use Rattle.candidate_rounds.proofs.Evaluating.{PassesSoFar, Sourced, TriesSoFar, no-passes, no-tries, one-more-pass, one-more-try, pending-kept}
 use Rattle.candidate_rounds.proofs.Going.{goes-listing}
 use Rattle.candidate_rounds.proofs.Projecting.{alias-is, term-is}
@@ -179,7 +178,7 @@ module _ (old now : Evaluator) (most i : ℕ) (given : IsGiven old.context.trees
   pub pass-stops : (ts : List Tree) (s : Stop) → IsPassStop ts (listing now) (state now) s → ArePassesStop ts (listing old) s most (state old)
   pass-stops ts s c = stops-now ts s (this_pass (subst (λ k. IsPassStop ts k (state now) s) (goes-listing old now a.passes.goes given) c))
 
-  pub one-more-settled : (new : Evaluator) → GoesOn now new → pass (listing now) (state now) ≡ Some (state new) → count_unbound (state new).variables < count_unbound (state now).variables → PassesOn old new most (i + 1)
+  pub one-more-settled : (new : Evaluator) → GoesOn now new → pass (listing now) (state now) ≡ Some (state new) → gave_a_value (state now).variables (state new).variables ≡ true → PassesOn old new most (i + 1)
   one-more-settled new g p fewer = record {
     passes = one-more-pass old now most i given a.passes l new g p fewer;
     stops = λ ts s k.

@@ -22,11 +22,11 @@ use Rattle.candidate_eval.specs.Noting.{HasWideNode, IsNotingStop}
 use Rattle.candidate_eval.specs.Soundness.{is_region}
 use Rattle.candidate_eval.specs.States.{State, Pending, resolved, resolved_tree, valued_tree, value_of}
 use Rattle.rounds_judge.specs.Binding.{single}
-use Rattle.rounds_judge.specs.Equating.{Pair, Left, count_unbound, outlives, value_for, visited}
+use Rattle.rounds_judge.specs.Equating.{Pair, Left, outlives, value_for, visited}
 use Rattle.rounds_judge.specs.Listed.{Listing, current, listed, normalized_tree}
 use Rattle.rounds_judge.specs.Responding.{constraints, open_numbers, renumbered, renumbered_tree, root_values}
 use Rattle.rounds_judge.specs.Scopes.{Scope, has_binder, has_variables, placed_tree}
-use Rattle.rounds_judge.specs.Settling.{alias_of, instantiated, pass, settled, term_of, tried, with_facts}
+use Rattle.rounds_judge.specs.Settling.{alias_of, instantiated, pass, settled, term_of, tried, with_facts, gave_a_value}
 use Rattle.candidate_rounds.specs.Inferences.{IsFullAt, IsOutOfRoom}
 use Rattle.candidate_rounds.specs.Known.{Evaluator, listing}
 
@@ -147,7 +147,7 @@ pub data IsPassStop (ts : List Tree) (l : Listing) (S : State) : Stop → Type 0
 -- Why what is pending wasn't evaluated so many times at most: one pass stopped, and each before it gave a variable a value.
 pub data ArePassesStop (ts : List Tree) (l : Listing) (s : Stop) : ℕ → State → Type 0 where
   this_pass : {n : ℕ} {S : State} → IsPassStop ts l S s → ArePassesStop ts l s (suc n) S
-  later_pass : {n : ℕ} {S T : State} → pass l S ≡ Some T → count_unbound T.variables < count_unbound S.variables → ArePassesStop ts l s n T → ArePassesStop ts l s (suc n) S
+  later_pass : {n : ℕ} {S T : State} → pass l S ≡ Some T → gave_a_value S.variables T.variables ≡ true → ArePassesStop ts l s n T → ArePassesStop ts l s (suc n) S
 
 -- Why what is pending wasn't evaluated: one of the passes stopped.
 abbrev pub IsSettlingStop : List Tree → Listing → State → Stop → Type 0

@@ -1,5 +1,5 @@
 -- What the parts of an evaluated goal come to.
-use Rattle.std.specs.Prelude.{◌≡◌, ℕ, ◌+◌, Bool, true, false, Option, Some, None, List, [], ◌∷◌}
+use Rattle.std.specs.Prelude.{◌≡◌, ℕ, Bool, ◌||◌, true, false, Option, Some, None, List, [], ◌∷◌}
 use Rattle.candidate_ir.specs.declared.ir.heads.Head.{Head}
 use Rattle.candidate_ir.specs.declared.ir.heads.Head.TheVariants as H
 use Rattle.candidate_ir.specs.declared.ir.heads.PartHead.TheVariants as P
@@ -74,12 +74,13 @@ abbrev pub second_if_bound : {A : Type 0} → List VarKind → A → A → A
 second_if_bound [] a b = a
 second_if_bound (k ∷ ks) a b = b
 
--- how many variables have no value
+-- whether a variable that had no value has one now
 
-abbrev pub unbound_value : Option GenericArg → ℕ
-unbound_value None = 1
-unbound_value (Some v) = 0
+abbrev pub got_one : Option GenericArg → Option GenericArg → Bool
+got_one None (Some v) = true
+got_one _ _ = false
 
-abbrev pub unbound_entries : List Entry → ℕ
-unbound_entries [] = 0
-unbound_entries (e ∷ es) = unbound_value e.value + unbound_entries es
+abbrev pub entries_gave : List Entry → List Entry → Bool
+entries_gave [] fs = false
+entries_gave (e ∷ es) [] = false
+entries_gave (e ∷ es) (f ∷ fs) = got_one e.value f.value || entries_gave es fs

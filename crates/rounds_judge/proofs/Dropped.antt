@@ -26,9 +26,9 @@ use Rattle.candidate_eval.specs.Soundness.{Live, IsSound, ValuesFit, IsLater, Wi
 use Rattle.candidate_eval.proofs.Holds.{holds_imply}
 use Rattle.rounds_judge.specs.Listed.{Listing, listed}
 use Rattle.rounds_judge.specs.Standing.{IsListing}
-use Rattle.rounds_judge.specs.Equating.{equated, count_unbound}
+use Rattle.rounds_judge.specs.Equating.{equated}
 use Rattle.rounds_judge.specs.Congruence.{SameTree, along}
-use Rattle.rounds_judge.specs.Settling.{term_of, alias_of, instance_of, Outcome, projected, tried_as, tried, before, tried_all, with_staying, pass, passes, settled}
+use Rattle.rounds_judge.specs.Settling.{term_of, alias_of, instance_of, Outcome, projected, tried_as, tried, before, tried_all, with_staying, pass, passes, settled, gave_a_value}
 use Rattle.rounds_judge.specs.Granted.{FactsGranted, IsFreshFor, IsGranted}
 use Rattle.rounds_judge.proofs.Later.{later_along, later_itself, strange_stays, has_info, kind_there, counted, fits_later, fits_fewer}
 use Rattle.rounds_judge.proofs.Current.{listed_fixed, listed_known}
@@ -181,11 +181,11 @@ module _ (l : Listing) (listing : IsListing l) (U : State) (L : Live) (fits_last
       goes R f false ih e = let is : T ≡ R = cc in pass_granted S R sound fits of f (subst (λ T. IsLater T U L) is after) (subst (λ (T : State). All Granted T.pending) is granted)
 
       at : (o : Option State) → pass l S ≡ o → ((R : State) → IsSound R L → ValuesFit R L → GoalsAreOf R L R.pending → passes l n R ≡ Some T → All Granted R.pending)
-          → next o (λ R. if nat_lt (count_unbound R.variables) (count_unbound S.variables) then passes l n R else Some R) ≡ Some T → All Granted S.pending
+          → next o (λ R. if gave_a_value S.variables R.variables then passes l n R else Some R) ≡ Some T → All Granted S.pending
       at None f ih e = cc
       at (Some R) f ih e =
           let left = pass_leaves l listing L S R sound fits of f in
-          goes R f (nat_lt (count_unbound R.variables) (count_unbound S.variables)) (λ e. ih R left.leads.sound (fits_later left.leads.later fits) left.goals e) e
+          goes R f (gave_a_value S.variables R.variables) (λ e. ih R left.leads.sound (fits_later left.leads.later fits) left.goals e) e
 
 -- Only those that count of the variables that a state has
 

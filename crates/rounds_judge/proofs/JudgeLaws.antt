@@ -1,7 +1,6 @@
 -- The laws of the judge that need nothing but its definitions: alike states, normal forms, and when Yes is answered.
-use Rattle.std.proofs.Common.{◌≡◌, ℕ, suc, Bool, true, false, List, [], Option, Some, None, nat_lt, arith, refl, sym, ap, subst, ◌∙◌, if◌then◌else◌}
+use Rattle.std.proofs.Common.{◌≡◌, ℕ, suc, Bool, true, false, ◌||◌, List, [], ◌∷◌, Option, Some, None, refl, sym, ap, subst, ◌∙◌, if◌then◌else◌}
 use Rattle.std.specs.Option.{unwrap_or}
-use Rattle.std.proofs.lemmas.Bool.{le-ltb}
 use Rattle.candidate_ir.specs.declared.ir.heads.Head.{Head}
 use Rattle.candidate_ir.specs.declared.ir.heads.Head.TheVariants as H
 use Rattle.candidate_ir.specs.declared.ir.kinds.RegionKind.TheVariants as R
@@ -14,16 +13,15 @@ use Rattle.candidate_eval.specs.declared.eval.certainty.Certainty.TheVariants.{Y
 use Rattle.candidate_eval.specs.Certainties.{certainty_and}
 use Rattle.candidate_eval.specs.declared.eval.variable.VariableKind.TheVariants.{Term, Region}
 use Rattle.candidate_eval.specs.Responses.{Response}
-use Rattle.candidate_eval.specs.States.{Env, State, Judge, value_in, value_at, resolved_tree, with_pending, next}
+use Rattle.candidate_eval.specs.States.{Env, State, VariableInfo, Judge, value_in, value_at, resolved_tree, with_pending, next}
 use Rattle.candidate_eval.specs.Judging.{Place, Normal, normal_at, is_at, run, comes_to}
 use Rattle.candidate_eval.specs.Alike.{info, LooksAlike, BothNormal, JudgesAlike}
 use Rattle.candidate_eval.specs.Soundness.{Live, IsSound, ValuesFit, IsResolved, AreTreesOf, Follows, is_strange}
 use Rattle.candidate_eval.specs.Lawful.{IsNormalForm, NormalFormLaws, IsAnswered, HasNoParameter}
 use Rattle.rounds_judge.specs.Listed.{Listing, listed}
 use Rattle.rounds_judge.specs.Standing.{IsListing}
-use Rattle.rounds_judge.specs.Equating.{count_unbound}
 use Rattle.rounds_judge.specs.Normalizing.{type_or_itself, normalized}
-use Rattle.rounds_judge.specs.Settling.{tried_all, with_staying, passes, certainty_of, with_certainty}
+use Rattle.rounds_judge.specs.Settling.{tried_all, with_staying, passes, certainty_of, with_certainty, got_a_value, gave_a_value}
 use Rattle.rounds_judge.specs.Responding.{response, responded}
 use Rattle.rounds_judge.specs.RoundsJudge.{rounds_judge}
 use Rattle.rounds_judge.proofs.Marks.{fold_marked}
@@ -156,14 +154,22 @@ yes_both (Maybe a) (Maybe b) e = cc
 
 -- With nothing pending one pass is made, which changes nothing.
 
-go_on : (l : Listing) (n : ℕ) (S T : State) → S ≡ T → (if nat_lt (count_unbound T.variables) (count_unbound S.variables) then passes l n T else Some T) ≡ Some S
+gives_nothing : (is : List VariableInfo) → gave_a_value is is ≡ false
+gives_nothing [] = refl
+gives_nothing (i ∷ is) = at i.value (gives_nothing is)
+  where
+    at : (o : Option Tree) → gave_a_value is is ≡ false → got_a_value o o || gave_a_value is is ≡ false
+    at None e = e
+    at (Some t) e = e
+
+go_on : (l : Listing) (n : ℕ) (S T : State) → S ≡ T → (if gave_a_value S.variables T.variables then passes l n T else Some T) ≡ Some S
 go_on l n S T e =
-    let same : count_unbound S.variables ≡ count_unbound T.variables = ap (λ (R : State). count_unbound R.variables) e in
-    ap (λ b. if b then passes l n T else Some T) (le-ltb (count_unbound T.variables) (count_unbound S.variables) (omega (arith, same))) ∙ ap Some (sym e)
+    let none : gave_a_value S.variables T.variables ≡ false = subst (λ (R : State). gave_a_value S.variables R.variables ≡ false) e (gives_nothing S.variables) in
+    ap (λ b. if b then passes l n T else Some T) none ∙ ap Some (sym e)
 
 nothing_tried : (l : Listing) (n : ℕ) (S : State) → S.pending ≡ [] → passes l (suc n) S ≡ Some S
 nothing_tried l n S e =
-    ap (λ ps. next (next (tried_all l S ps) (λ q. Some (with_staying q))) (λ T. if nat_lt (count_unbound T.variables) (count_unbound S.variables) then passes l n T else Some T)) e
+    ap (λ ps. next (next (tried_all l S ps) (λ q. Some (with_staying q))) (λ T. if gave_a_value S.variables T.variables then passes l n T else Some T)) e
     ∙ go_on l n S (with_pending S []) (ap (with_pending S) e)
 
 -- The state that a response is of.

@@ -22,8 +22,8 @@ use Rattle.candidate_eval.specs.Lawful.{LeavesGoals}
 use Rattle.candidate_eval.proofs.Holds.{holds_parts}
 use Rattle.rounds_judge.specs.Listed.{Listing, listed}
 use Rattle.rounds_judge.specs.Standing.{IsListing}
-use Rattle.rounds_judge.specs.Equating.{Pair, looks, equated, count_unbound}
-use Rattle.rounds_judge.specs.Settling.{term_of, alias_of, last_or, with_facts, instance_of, recorded, Outcome, projected, tried_as, tried, before, tried_all, with_staying, pass, passes, settled, with_certainty}
+use Rattle.rounds_judge.specs.Equating.{Pair, looks, equated}
+use Rattle.rounds_judge.specs.Settling.{term_of, alias_of, last_or, with_facts, instance_of, recorded, Outcome, projected, tried_as, tried, before, tried_all, with_staying, pass, passes, settled, with_certainty, gave_a_value}
 use Rattle.rounds_judge.proofs.Marks.{whole, escape_parts, escape_whole, escapes_on}
 use Rattle.rounds_judge.proofs.Later.{trees_later, later_itself, later_along, later_universe, sound_universe, fits_later}
 use Rattle.rounds_judge.proofs.Looks.{SoundLater, regions_keep, looked_keeps, start_stands}
@@ -238,11 +238,11 @@ module _ (l : Listing) (listing : IsListing l) (L : Live) where
       goes R left false f e = subst (LeavesPending S) (let is : R ≡ T = cc in is) left
 
       at : (o : Option State) → pass l S ≡ o → ((R : State) → IsSound R L → ValuesFit R L → GoalsAreOf R L R.pending → passes l n R ≡ Some T → LeavesPending R T)
-          → next o (λ R. if nat_lt (count_unbound R.variables) (count_unbound S.variables) then passes l n R else Some R) ≡ Some T → LeavesPending S T
+          → next o (λ R. if gave_a_value S.variables R.variables then passes l n R else Some R) ≡ Some T → LeavesPending S T
       at None f ih e = cc
       at (Some R) f ih e =
           let left = pass_leaves S R sound fits of f in
-          goes R left (nat_lt (count_unbound R.variables) (count_unbound S.variables)) (λ e. ih R left.leads.sound (fits_later left.leads.later fits) left.goals e) e
+          goes R left (gave_a_value S.variables R.variables) (λ e. ih R left.leads.sound (fits_later left.leads.later fits) left.goals e) e
 
 -- What is settled
 

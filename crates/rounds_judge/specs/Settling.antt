@@ -1,5 +1,5 @@
 -- Pending goals are evaluated: each is done, or refused, or stays.
-use Rattle.std.specs.Prelude.{ℕ, zero, suc, nat_lt, Option, Some, None, List, [], ◌∷◌, ◌++◌, if◌then◌else◌}
+use Rattle.std.specs.Prelude.{ℕ, zero, suc, Bool, true, false, ◌||◌, Option, Some, None, List, [], ◌∷◌, ◌++◌, if◌then◌else◌}
 use Rattle.candidate_ir.specs.declared.ir.heads.Head.{Head}
 use Rattle.candidate_ir.specs.declared.ir.heads.Head.TheVariants as H
 use Rattle.candidate_ir.specs.declared.ir.heads.PartHead.TheVariants as P
@@ -12,10 +12,10 @@ use Rattle.candidate_ir.specs.Substitutions.{alone}
 use Rattle.candidate_eval.specs.declared.eval.certainty.Certainty.{Certainty}
 use Rattle.candidate_eval.specs.declared.eval.certainty.Certainty.TheVariants.{Yes}
 use Rattle.candidate_eval.specs.Certainties.{AMBIGUOUS}
-use Rattle.candidate_eval.specs.States.{State, Pending, resolved_tree, with_pending, next}
+use Rattle.candidate_eval.specs.States.{State, VariableInfo, Pending, resolved_tree, with_pending, next}
 use Rattle.candidate_eval.specs.Characterization.{bound_kinds, under_binder, group_at}
 use Rattle.rounds_judge.specs.Listed.{Listing, listed}
-use Rattle.rounds_judge.specs.Equating.{equated, without_goals, count_unbound}
+use Rattle.rounds_judge.specs.Equating.{equated, without_goals}
 
 -- The facts of a projection clause are the alias's arguments, and then the term.
 
@@ -93,10 +93,21 @@ with_staying q = with_pending q.1 q.0
 abbrev pub pass : Listing → State → Option State
 pass l S = next (tried_all l S S.pending) (λ q. Some (with_staying q))
 
+-- Whether a variable that had no value has one now. Asked variable by variable, since there may be new ones, without values.
+
+abbrev pub got_a_value : Option Tree → Option Tree → Bool
+got_a_value None (Some t) = true
+got_a_value _ _ = false
+
+abbrev pub gave_a_value : List VariableInfo → List VariableInfo → Bool
+gave_a_value [] js = false
+gave_a_value (i ∷ is) [] = false
+gave_a_value (i ∷ is) (j ∷ js) = got_a_value i.value j.value || gave_a_value is js
+
 -- At most so many passes; another one while the last gave a variable a value.
 abbrev pub passes : Listing → ℕ → State → Option State
 passes l zero S = Some S
-passes l (suc n) S = next (pass l S) (λ T. if nat_lt (count_unbound T.variables) (count_unbound S.variables) then passes l n T else Some T)
+passes l (suc n) S = next (pass l S) (λ T. if gave_a_value S.variables T.variables then passes l n T else Some T)
 
 -- sure, if nothing is left
 abbrev pub certainty_of : List Pending → Certainty

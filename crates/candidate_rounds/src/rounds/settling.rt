@@ -9,11 +9,10 @@ ghost use Rattle.candidate_ir.specs.Words.{IsClause, IsTy, KindFits, clause_tree
 ghost use Rattle.candidate_eval.specs.Characterization.{bound_kinds};
 ghost use Rattle.candidate_eval.specs.Evaluators.{IsGoal, kinds_listed, pending_of, pendings_of};
 ghost use Rattle.candidate_eval.specs.States.{added, with_pending};
-ghost use Rattle.rounds_judge.specs.Equating.{count_unbound};
 ghost use Rattle.candidate_rounds.specs.Known.{Each, GoesOn, listing, state};
 ghost use Rattle.rounds_judge.specs.Settling.{certainty_of, instantiated, pass, passes, recorded, tried, tried_all, with_facts};
 ghost use Rattle.candidate_rounds.specs.Stopping.{AreGoalsStop, ArePassesStop, IsEvaluationStop, IsGoalStop, IsInstanceStop, IsPassStop, IsProjectionStop};
-ghost use Rattle.candidate_rounds.specs.Trying.{Says, answered, evaluated_as, left_of, projection_of, second_if_bound, unbound_entries};
+ghost use Rattle.candidate_rounds.specs.Trying.{Says, answered, evaluated_as, left_of, projection_of, second_if_bound, got_one, entries_gave};
 
 use crate::rounds::Rounds;
 use crate::rounds::inference::Entry;
@@ -123,17 +122,26 @@ fn push_some(
     Ok(())
 }
 
-/// How many of the variables have no value.
-fn count_unbound(variables: &[Entry]) -> usize
-    ensures { result ≡ unbound_entries variables.now }
+/// Whether a value came where there was none.
+fn got_one(before: Option<GenericArg>, after: Option<GenericArg>) -> bool
+    ensures { result ≡ got_one before after }
 {
-    let mut unbound = 0;
-    for i in 0..variables.len() {
-        if variables[i].value.is_none() {
-            unbound += 1;
+    before.is_none() && after.is_some()
+}
+
+/// Whether a variable that had no value has one now. There may be new variables.
+fn gave_a_value(before: &[Entry], after: &[Entry]) -> bool
+    ensures { result ≡ entries_gave before.now after.now }
+{
+    for i in 0..before.len() {
+        if i >= after.len() {
+            return false;
+        }
+        if got_one(before[i].value, after[i].value) {
+            return true;
         }
     }
-    unbound
+    false
 }
 
 /// How often goals that stay pending are evaluated at most.
@@ -295,11 +303,19 @@ impl Rounds {
         Ok(())
     }
 
-    /// How many variables have no value.
-    fn count_unbound(&self) -> usize
-        ensures { result ≡ count_unbound (state self.now).variables }
+    /// The variables as they are. The only stop is `Stop::Memory`.
+    fn variables_now(&self, alloc: Global) -> Result<Vec<Entry>, Stop>
+        ensures variables { IfOk result (λ v. v.items ≡ self.now.inference.variables) }
+        ensures cause { IfErr result (λ s. s ≡ Stop.Memory) }
     {
-        count_unbound(self.inference.variables())
+        Ok(Vec::from_slice(alloc, self.inference.variables())?)
+    }
+
+    /// Whether a variable that had no value, where these were the variables, has one now.
+    fn gave_since(&self, before: &[Entry]) -> bool
+        ensures { result ≡ entries_gave before.now self.now.inference.variables }
+    {
+        gave_a_value(before, self.inference.variables())
     }
 
     /// What is pending is evaluated so many times at most, and again only while the last time gave a variable a value.
@@ -311,9 +327,9 @@ impl Rounds {
     {
         self.well_kept();
         for _pass in 0..most {
-            let unbound = self.count_unbound();
+            let before = self.variables_now(alloc)?;
             self.settle_once(alloc)?;
-            if self.count_unbound() >= unbound {
+            if !self.gave_since(before.as_slice()) {
                 return Ok(());
             }
         }
