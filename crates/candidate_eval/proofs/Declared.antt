@@ -4,7 +4,7 @@ use Rattle.candidate_ir.specs.Nodes.{tree_at}
 use Rattle.candidate_ir.specs.Opening.{opened, opened_tree}
 use Rattle.candidate_ir.specs.Owned.{is_numbered, is_unsolved}
 use Rattle.candidate_ir.specs.Substitutions.{alone}
-use Rattle.candidate_ir.specs.Trees.{Forest, none, tree, Tree, holds, tree_holds, variable_number}
+use Rattle.candidate_ir.specs.Trees.{Forest, none, row, tree, Tree, holds, tree_holds, variable_number}
 use Rattle.candidate_ir.proofs.Folding.{or-left, or-right}
 use Rattle.candidate_ir.proofs.Owned.{or-none}
 use Rattle.candidate_eval.specs.Mentions.{IsBelow, is_at_least}
@@ -25,6 +25,9 @@ unsolved-tree-below n t e =
 
 pub opened-kept : (old mid : List Tree) (n : ℕ) (v w : Forest) (t : Tree) → v ≡ w → tree_at mid n ≡ tree_at old n → t ≡ opened_tree v (tree_at mid n) → t ≡ opened_tree w (tree_at old n)
 opened-kept old mid n v w t f s e = e ∙ (ap (λ (x : Forest). opened_tree x (tree_at mid n)) f ∙ ap (opened_tree w) s)
+
+pub opened-row-kept : (old mid : List Tree) (n : ℕ) (v w : Forest) → v ≡ w → tree_at mid n ≡ tree_at old n → opened v (row (tree_at mid n) none) ≡ opened w (row (tree_at old n) none)
+opened-row-kept old mid n v w f s = ap (λ (x : Forest). opened x (row (tree_at mid n) none)) f ∙ ap (λ (x : Tree). opened w (row x none)) s
 
 pub opened-list-kept : (old mid : List Tree) (n : ℕ) (v w ts : Forest) → v ≡ w → tree_at mid n ≡ tree_at old n → ts ≡ opened v (tree_at mid n).children
     → ts ≡ opened w (tree_at old n).children

@@ -8,7 +8,9 @@ use Rattle.candidate_ir.proofs.Joining.{clause-kept}
 use Rattle.candidate_ir.proofs.Kept.{args-kept}
 use Rattle.candidate_eval.specs.declared.eval.response.CanonicalResponse.{CanonicalResponse}
 use Rattle.candidate_eval.specs.Certainties.{Certainty}
+use Rattle.candidate_eval.specs.Instances.{IsResponseOf}
 use Rattle.candidate_eval.specs.Responses.{Response}
+use Rattle.candidate_eval.specs.Soundness.{Live}
 use Rattle.candidate_eval.specs.ResponseTrees.{IsResponse, response_of}
 use Rattle.candidate_eval.specs.States.{State, Judge, with_pending}
 use Rattle.candidate_eval.specs.Lawful.{Lawful}
@@ -56,3 +58,6 @@ as-asked J law S c r e =
     let f : Some r ≡ Some a.response = sym e ∙ a.is in
     let same : r ≡ a.response = cc in
     ap (λ (x : Response). x.certainty) same ∙ a.as_asked
+
+pub of-state : (J : Judge) → Lawful J → (S : State) (L : Live) (c : Certainty) (r : Response) → J.responded (with_pending S []) c ≡ Some r → IsResponseOf (with_pending S []) L r
+of-state J law S L c r e = law.responses.empty_is_of_state (with_pending S []) L c r refl e

@@ -105,6 +105,8 @@ pub record EquationLaws (J : Judge) : Type 0 where
 pub record ResponseLaws (J : Judge) : Type 0 where
   -- With nothing pending no response is refused, and its certainty is the one asked, whatever regions are recorded.
   pub empty_is_answered : (S : State) (c : Certainty) → S.pending ≡ [] → IsAnswered J S c
+  -- Then the response is of the state itself: each of its instances is one of the state, so it constrains nothing more.
+  pub empty_is_of_state : (S : State) (L : Live) (c : Certainty) (r : Response) → S.pending ≡ [] → J.responded S c ≡ Some r → IsResponseOf S L r
   -- Yes is answered only where Yes was asked, and where all that was pending is granted.
   pub yes_was_asked : (S : State) (c : Certainty) (r : Response) → J.responded S c ≡ Some r → r.certainty ≡ Yes → c ≡ Yes
   pub yes_is_granted : (S : State) (L : Live) (c : Certainty) (r : Response) → IsSound S L → ValuesFit S L → GoalsAreOf S L S.pending

@@ -167,7 +167,7 @@ go_on l n S T e =
     let none : gave_a_value S.variables T.variables ≡ false = subst (λ (R : State). gave_a_value S.variables R.variables ≡ false) e (gives_nothing S.variables) in
     ap (λ b. if b then passes l n T else Some T) none ∙ ap Some (sym e)
 
-nothing_tried : (l : Listing) (n : ℕ) (S : State) → S.pending ≡ [] → passes l (suc n) S ≡ Some S
+pub nothing_tried : (l : Listing) (n : ℕ) (S : State) → S.pending ≡ [] → passes l (suc n) S ≡ Some S
 nothing_tried l n S e =
     ap (λ ps. next (next (tried_all l S ps) (λ q. Some (with_staying q))) (λ T. if gave_a_value S.variables T.variables then passes l n T else Some T)) e
     ∙ go_on l n S (with_pending S []) (ap (with_pending S) e)

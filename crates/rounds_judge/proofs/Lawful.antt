@@ -11,12 +11,13 @@ use Rattle.rounds_judge.proofs.JudgeLaws.{alike_judged_alike, normal_form_laws, 
 use Rattle.rounds_judge.proofs.Settling.{settling_follows}
 use Rattle.rounds_judge.proofs.Granting.{granted_stays}
 use Rattle.rounds_judge.proofs.Dropped.{settling_drops_granted}
-use Rattle.rounds_judge.proofs.Responding.{yes_is_granted}
+use Rattle.rounds_judge.proofs.Responding.{empty_is_of_state, yes_is_granted}
 
 module _ (w : World) (local : ℕ) (l : Listing) (os : List Tree) (listing : IsListing l) where
   pub response_laws : ResponseLaws (rounds_judge w local l os)
   response_laws = record {
     empty_is_answered = λ S c e. empty_is_answered w local l os S c e;
+    empty_is_of_state = λ S L c r p e. empty_is_of_state l S L c r p e;
     yes_was_asked = λ S c r e y. yes_was_asked w local l os S c r e y;
     yes_is_granted = λ S L c r sound fits of e y. yes_is_granted w local l os listing S L c r sound fits of e y;
   }

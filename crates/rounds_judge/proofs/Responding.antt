@@ -37,7 +37,7 @@ use Rattle.rounds_judge.proofs.Marks.{whole, valued_node}
 use Rattle.rounds_judge.proofs.Later.{later_itself, has_info, kind_there, fits_later}
 use Rattle.rounds_judge.proofs.Settling.{passes_leave}
 use Rattle.rounds_judge.proofs.Dropped.{passes_granted}
-use Rattle.rounds_judge.proofs.JudgeLaws.{answered, both_sure}
+use Rattle.rounds_judge.proofs.JudgeLaws.{answered, both_sure, nothing_tried}
 use Rattle.rounds_judge.proofs.Renumbering.{is_missing, none_is_missing, place_is, new_variable, of_old, old_allowed, renumbered_same}
 
 -- Trees by their numbers
@@ -193,6 +193,15 @@ module _ (S : State) (L : Live) (c : Certainty) where
 none_pending : (ps : List Pending) → certainty_of ps ≡ Yes → ps ≡ []
 none_pending [] e = refl
 none_pending (p ∷ ps) e = cc
+
+-- With nothing pending the response is of the state itself.
+pub empty_is_of_state : (l : Listing) (S : State) (L : Live) (c : Certainty) (r : Response) → S.pending ≡ [] → responded l S c ≡ Some r → IsResponseOf S L r
+empty_is_of_state l S L c r p e =
+    let a = answered l S c r e in
+    let last : Some S ≡ Some a.last = sym (nothing_tried l 7 S p) ∙ a.passed in
+    let same : S ≡ a.last = cc in
+    let at : IsResponseOf a.last L r = subst (IsResponseOf a.last L) a.is (response_is a.last L (certainty_and c (certainty_of a.last.pending))) in
+    subst (λ (T : State). IsResponseOf T L r) (sym same) at
 
 -- Yes is answered only where all that was pending is granted at the state that it speaks of.
 module _ (w : World) (local : ℕ) (l : Listing) (os : List Tree) (listing : IsListing l) where

@@ -4,7 +4,9 @@ ghost use Rattle.std.specs.Prelude.{◌≡◌, ◌≢◌, [], Some, IfOk, IfErr}
 ghost use Rattle.candidate_eval.specs.Accounts.{IsAccounted, by_stop};
 ghost use Rattle.candidate_eval.specs.Certainties.{AMBIGUOUS};
 ghost use Rattle.candidate_eval.specs.Evaluators.{Keeps};
+ghost use Rattle.candidate_eval.specs.Instances.{IsResponseOf};
 ghost use Rattle.candidate_eval.specs.ResponseTrees.{IsResponse, response_of};
+ghost use Rattle.candidate_eval.specs.Soundness.{Live};
 ghost use Rattle.candidate_eval.specs.States.{with_pending};
 
 use crate::eval::certainty::Certainty;
@@ -13,7 +15,8 @@ use crate::eval::refusal::NoSolutionOrStop;
 use crate::eval::response::{Candidate, CanonicalResponse};
 use candidate_ir::ir::stop::Stop;
 
-/// The response that too little is known, without constraints: what is pending is set aside for it.
+/// The response that too little is known: what is pending is set aside for it, and it constrains the variables no more than the
+/// state does.
 ///
 /// It is never refused.
 pub fn bail_with_ambiguity<E: EvalCtxt>(ecx: &mut E) -> Result<CanonicalResponse, Stop>
@@ -22,6 +25,7 @@ pub fn bail_with_ambiguity<E: EvalCtxt>(ecx: &mut E) -> Result<CanonicalResponse
     ensures fits { IfOk result (λ r. IsResponse (E.context ecx.new).trees r) }
     ensures answer { IfOk result (λ r. (E.judge (E.fixed ecx.old)).responded (with_pending (E.state ecx.old) []) AMBIGUOUS ≡ Some (response_of (E.context ecx.new).trees r)) }
     ensures certainty { IfOk result (λ r. r.certainty ≡ AMBIGUOUS) }
+    ensures of_state { IfOk result (λ r. (L : Live) → IsResponseOf (with_pending (E.state ecx.old) []) L (response_of (E.context ecx.new).trees r)) }
     ensures cause { IfErr result (IsAccounted E.fixed E.context E.state E.stops ecx.old) }
 {
     let probe = ecx.begin_probe(ProbeKind::SetAside)?;
@@ -44,6 +48,7 @@ pub fn flounder<E: EvalCtxt>(
     ensures fits { IfOk result (λ r. IsResponse (E.context ecx.new).trees r) }
     ensures answer { IfOk result (λ r. (E.judge (E.fixed ecx.old)).responded (with_pending (E.state ecx.old) []) AMBIGUOUS ≡ Some (response_of (E.context ecx.new).trees r)) }
     ensures certainty { IfOk result (λ r. r.certainty ≡ AMBIGUOUS) }
+    ensures of_state { IfOk result (λ r. (L : Live) → IsResponseOf (with_pending (E.state ecx.old) []) L (response_of (E.context ecx.new).trees r)) }
     ensures some { IfOk result (λ _. candidates.now ≢ []) }
     ensures refused { IfErr result (λ e. e ≡ NoSolutionOrStop.NoSolution → candidates.now ≡ []) }
     ensures cause { IfErr result (by_stop (IsAccounted E.fixed E.context E.state E.stops ecx.old)) }

@@ -4,11 +4,12 @@ ghost use Rattle.std.specs.Prelude.{◌≡◌, true, IfOk, IfErr, OnOk};
 ghost use Rattle.candidate_ir.specs.Context.{Grows};
 ghost use Rattle.candidate_ir.specs.Nodes.{kind_at, tree_at};
 ghost use Rattle.candidate_ir.specs.Opening.{opened, opened_clause, opened_tree};
-ghost use Rattle.candidate_ir.specs.Trees.{is_list_kind};
+ghost use Rattle.candidate_ir.specs.Substitutions.{alone};
+ghost use Rattle.candidate_ir.specs.Trees.{is_list_kind, none, row};
 ghost use Rattle.candidate_ir.specs.Words.{IsArgs, IsClause, IsParamEnv, IsTy, IsVars, args_forest, clause_tree, env_forest, ty_tree, vars_tree};
 ghost use Rattle.candidate_eval.specs.Accounts.{StopsBy};
 ghost use Rattle.candidate_eval.specs.Characterization.{binder_kinds, bound_kinds};
-ghost use Rattle.candidate_eval.specs.Evaluators.{IsEvaluatorStop, IsMakingStop, Keeps, rigid, with_rigid};
+ghost use Rattle.candidate_eval.specs.Evaluators.{IsMakingStop, Keeps, rigid, with_rigid};
 ghost use Rattle.candidate_eval.specs.Objects.{IsInstance, fresh_instance, with_instance};
 ghost use Rattle.candidate_eval.specs.States.{fresh_variables, resolved, with_fresh_variables};
 
@@ -35,7 +36,7 @@ pub fn fresh_args_for_binder<E: EvalCtxt>(
     ensures state { OnOk result (E.state ecx.new ≡ with_fresh_variables (E.state ecx.old) (binder_kinds (vars_tree (E.context ecx.old).trees vars).children)) }
     ensures sort { IfOk result (λ a. IsArgs (E.context ecx.new).trees a) }
     ensures trees { IfOk result (λ a. args_forest (E.context ecx.new).trees a ≡ fresh_variables (E.state ecx.old) (binder_kinds (vars_tree (E.context ecx.old).trees vars).children)) }
-    ensures cause { IfErr result IsEvaluatorStop }
+    ensures cause { IfErr result (StopsBy E.fixed E.context E.state E.stops ecx.old (λ _. ⊥)) }
 {
     let kinds = variable_kinds(alloc, ecx.cx(), vars)?;
     ecx.fresh_args_for_item(kinds.as_slice())
@@ -52,7 +53,7 @@ pub fn placeholder_args_for_binder<E: EvalCtxt>(
     ensures state { OnOk result (E.state ecx.new ≡ with_rigid (E.state ecx.old) (binder_kinds (vars_tree (E.context ecx.old).trees vars).children)) }
     ensures sort { IfOk result (λ a. IsArgs (E.context ecx.new).trees a) }
     ensures trees { IfOk result (λ a. args_forest (E.context ecx.new).trees a ≡ rigid (E.state ecx.old) (binder_kinds (vars_tree (E.context ecx.old).trees vars).children)) }
-    ensures cause { IfErr result IsEvaluatorStop }
+    ensures cause { IfErr result (StopsBy E.fixed E.context E.state E.stops ecx.old (λ _. ⊥)) }
 {
     let kinds = variable_kinds(alloc, ecx.cx(), vars)?;
     ecx.placeholder_args(kinds.as_slice())
@@ -73,7 +74,7 @@ pub fn instantiate_with_infer<N: Numbered, E: EvalCtxt>(
     ensures kind { IfOk result (λ x. N.kind x ≡ N.kind binder.value) }
     ensures tree { IfOk result (λ x. tree_at (E.context ecx.new).trees (N.number_of x) ≡ opened_tree (fresh_variables (E.state ecx.old) (binder_kinds (vars_tree (E.context ecx.old).trees binder.vars).children)) (tree_at (E.context ecx.old).trees (N.number_of binder.value))) }
     ensures list { is_list_kind (N.kind binder.value) ≡ true → IfOk result (λ x. (tree_at (E.context ecx.new).trees (N.number_of x)).children ≡ opened (fresh_variables (E.state ecx.old) (binder_kinds (vars_tree (E.context ecx.old).trees binder.vars).children)) (tree_at (E.context ecx.old).trees (N.number_of binder.value)).children) }
-    ensures cause { IfErr result IsEvaluatorStop }
+    ensures cause { IfErr result (StopsBy E.fixed E.context E.state E.stops ecx.old (λ ts. ts ≡ opened (fresh_variables (E.state ecx.old) (binder_kinds (vars_tree (E.context ecx.old).trees binder.vars).children)) (row (tree_at (E.context ecx.old).trees (N.number_of binder.value)) none))) }
 {
     let values = fresh_args_for_binder(alloc, ecx, binder.vars)?;
     open_binder(alloc, ecx, binder.value, values)
@@ -94,7 +95,7 @@ pub fn enter_binder<N: Numbered, E: EvalCtxt>(
     ensures kind { IfOk result (λ x. N.kind x ≡ N.kind binder.value) }
     ensures tree { IfOk result (λ x. tree_at (E.context ecx.new).trees (N.number_of x) ≡ opened_tree (rigid (E.state ecx.old) (binder_kinds (vars_tree (E.context ecx.old).trees binder.vars).children)) (tree_at (E.context ecx.old).trees (N.number_of binder.value))) }
     ensures list { is_list_kind (N.kind binder.value) ≡ true → IfOk result (λ x. (tree_at (E.context ecx.new).trees (N.number_of x)).children ≡ opened (rigid (E.state ecx.old) (binder_kinds (vars_tree (E.context ecx.old).trees binder.vars).children)) (tree_at (E.context ecx.old).trees (N.number_of binder.value)).children) }
-    ensures cause { IfErr result IsEvaluatorStop }
+    ensures cause { IfErr result (StopsBy E.fixed E.context E.state E.stops ecx.old (λ ts. ts ≡ opened (rigid (E.state ecx.old) (binder_kinds (vars_tree (E.context ecx.old).trees binder.vars).children)) (row (tree_at (E.context ecx.old).trees (N.number_of binder.value)) none))) }
 {
     let values = placeholder_args_for_binder(alloc, ecx, binder.vars)?;
     open_binder(alloc, ecx, binder.value, values)
@@ -129,7 +130,7 @@ pub fn enter_clause<E: EvalCtxt>(alloc: Global, ecx: &mut E, clause: Clause) -> 
     ensures state { OnOk result (E.state ecx.new ≡ with_rigid (E.state ecx.old) (bound_kinds (clause_tree (E.context ecx.old).trees clause).children)) }
     ensures sort { IfOk result (λ x. IsClause (E.context ecx.new).trees x) }
     ensures tree { IfOk result (λ x. clause_tree (E.context ecx.new).trees x ≡ opened_clause (rigid (E.state ecx.old) (bound_kinds (clause_tree (E.context ecx.old).trees clause).children)) (clause_tree (E.context ecx.old).trees clause)) }
-    ensures cause { IfErr result IsEvaluatorStop }
+    ensures cause { IfErr result (StopsBy E.fixed E.context E.state E.stops ecx.old (λ ts. ts ≡ alone (opened_clause (rigid (E.state ecx.old) (bound_kinds (clause_tree (E.context ecx.old).trees clause).children)) (clause_tree (E.context ecx.old).trees clause)))) }
 {
     let kinds = binder_kinds(alloc, ecx.cx(), clause)?;
     let values = ecx.placeholder_args(kinds.as_slice())?;

@@ -2,7 +2,8 @@
 
 ghost use Rattle.std.specs.Prelude.{◌≡◌, IfOk, IfErr};
 ghost use Rattle.candidate_ir.specs.Words.{IsParamEnv, env_forest};
-ghost use Rattle.candidate_eval.specs.Evaluators.{IsEvaluatorStop, Keeps};
+ghost use Rattle.candidate_eval.specs.Accounts.{StopsSomehow};
+ghost use Rattle.candidate_eval.specs.Evaluators.{Keeps};
 ghost use Rattle.candidate_eval.specs.States.{resolved};
 
 use crate::eval::context::EvalCtxt;
@@ -26,7 +27,7 @@ pub fn resolve_env_if_possible<E: EvalCtxt>(
     ensures same { E.state ecx.new ≡ E.state ecx.old }
     ensures sort { IfOk result (λ x. IsParamEnv (E.context ecx.new).trees x) }
     ensures tree { IfOk result (λ x. env_forest (E.context ecx.new).trees x ≡ resolved (E.state ecx.old) (env_forest (E.context ecx.old).trees env)) }
-    ensures cause { IfErr result IsEvaluatorStop }
+    ensures cause { IfErr result (StopsSomehow E.fixed E.context E.state E.stops ecx.old) }
 {
     let clauses = Vec::from_slice(alloc, ecx.cx().param_env(env))?;
     let mut list = Vec::new(alloc);

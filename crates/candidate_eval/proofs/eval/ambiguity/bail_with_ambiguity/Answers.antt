@@ -4,7 +4,7 @@ use Rattle.candidate_eval.specs.Certainties.{AMBIGUOUS}
 use Rattle.candidate_eval.specs.ResponseTrees.{response_of}
 use Rattle.candidate_eval.specs.States.{with_pending}
 use Rattle.candidate_eval.proofs.Probing.{alike-probe, keeps-probe, of-error}
-use Rattle.candidate_eval.proofs.Responding.{response-fits, response-kept, not-refused, as-asked}
+use Rattle.candidate_eval.proofs.Responding.{response-fits, response-kept, not-refused, as-asked, of-state}
 use Rattle.candidate_eval.proofs.eval.ambiguity.bail_with_ambiguity.Goals as goal
 
 pub returns-in-Ok-clause-kept : goal.returns-in-Ok-clause-kept
@@ -30,6 +30,17 @@ returns-in-Ok-clause-answer g c =
     let answer : (E.judge (E.fixed c.args.ecx.now)).responded (with_pending S []) AMBIGUOUS ≡ Some (response_of (g.E.Build.context ran.new.self).trees c.in-Ok.response)
     = rw (began.fixed, began.ok.0) at c.in-Ok.ensures.ok in
     answer ∙ ap Some (sym (response-kept _ _ c.in-Ok.response c.end_probe-usages.ensures.grows c.in-Ok.ensures.sort))
+
+pub returns-in-Ok-clause-of_state : goal.returns-in-Ok-clause-of_state
+returns-in-Ok-clause-of_state g c = λ L.
+    let E = g.E.EvalCtxt in
+    let S = E.state c.args.ecx.now in
+    let began = c.in_ok-probe.ensures in
+    let ran = c.evaluate_added_goals_and_make_canonical_response-answer in
+    let answer : (E.judge (E.fixed c.args.ecx.now)).responded (with_pending S []) AMBIGUOUS ≡ Some (response_of (g.E.Build.context ran.new.self).trees c.in-Ok.response)
+    = rw (began.fixed, began.ok.0) at c.in-Ok.ensures.ok in
+    of-state (E.judge (E.fixed c.args.ecx.now)) (g.met.E.EvalCtxt.lawful (E.fixed c.args.ecx.now)) S L AMBIGUOUS _
+    (answer ∙ ap Some (sym (response-kept _ _ c.in-Ok.response c.end_probe-usages.ensures.grows c.in-Ok.ensures.sort)))
 
 pub returns-in-Ok-clause-certainty : goal.returns-in-Ok-clause-certainty
 returns-in-Ok-clause-certainty g c =

@@ -1,15 +1,17 @@
 use Rattle.candidate_eval.proofs.Probing.{made, on-ok, then}
-use Rattle.candidate_eval.proofs.StopKinds.{subst_stop}
-use Rattle.std.proofs.Common.{◌≡◌, ◌∙◌, ap, subst}
+use Rattle.std.proofs.Common.{◌≡◌, ◌∙◌, ap, refl, subst}
 use Rattle.candidate_ir.specs.Context.{Context}
 use Rattle.candidate_eval.specs.Characterization.{bound_kinds}
-use Rattle.std.proofs.lemmas.Result.{IfOk-weaker}
+use Rattle.std.proofs.lemmas.Result.{IfOk-weaker, err_from_is_err_and}
 use Rattle.candidate_ir.specs.Opening.{opened_clause}
 use Rattle.candidate_ir.specs.Trees.{Forest}
 use Rattle.candidate_ir.specs.Words.{clause_tree}
 use Rattle.candidate_ir.proofs.Joining.{clause-kept}
 use Rattle.candidate_eval.specs.Evaluators.{kinds_listed, rigid, with_rigid}
 use Rattle.candidate_eval.proofs.Objects.{kinds-read}
+use Rattle.candidate_ir.specs.Substitutions.{alone}
+use Rattle.candidate_eval.proofs.Accounts.{accounted-here, reaches, unmade-result}
+use Rattle.candidate_eval.specs.Accounts.StopsBy.{accounted, no_memory}
 use Rattle.candidate_eval.proofs.eval.binders.enter_clause.Goals as goal
 
 pub open_clause-requires-clause-clause : goal.open_clause-requires-clause-clause
@@ -41,4 +43,26 @@ returns-clause-state g c =
     on-ok c.open_clause.result (same ∙ (c.in_ok-values.ensures.made ∙ ap (with_rigid S) (ap kinds_listed c.as_slice.ensures.value ∙ read)))
 
 pub returns-clause-cause : goal.returns-clause-cause
-returns-clause-cause g c = subst_stop _ _ c.open_clause.result c.open_clause.ensures.cause
+returns-clause-cause g c =
+    let old = g.E.Build.context c.args.ecx.now in
+    let mid = g.E.Build.context c.placeholder_args.new.self in
+    let S = g.E.EvalCtxt.state c.args.ecx.now in
+    let bound = kinds-read c.in_ok-kinds.kinds.items (clause_tree c.cx.result.now.trees c.args.clause) c.in_ok-kinds.ensures in
+    let read = subst (λ (x : Context). kinds_listed c.in_ok-kinds.kinds.items ≡ bound_kinds (clause_tree x.trees c.args.clause).children) c.cx.ensures bound in
+    let kinds = ap kinds_listed c.as_slice.ensures.value ∙ read in
+    let values = c.in_ok-values.ensures.trees ∙ ap (rigid S) kinds in
+    let same = (clause-kept old mid c.args.clause c.placeholder_args.ensures.kept.grows c.requires).1 in
+    let there = made (g.met.E.EvalCtxt.by_rest c.placeholder_args.new.self c.open_clause.new.make c.open_clause.ensures.rest) c.open_clause.ensures.grows in
+    unmade-result g.E.EvalCtxt.fixed g.E.Build.context g.E.EvalCtxt.state g.E.EvalCtxt.stops _ c.open_clause.result c.args.ecx.now c.open_clause.new.make _ _ (reaches (then c.placeholder_args.ensures.kept there)) refl
+    (ap (λ (f : Forest). alone (opened_clause f (clause_tree mid.trees c.args.clause))) values ∙ ap (λ t. alone (opened_clause (rigid S (bound_kinds (clause_tree old.trees c.args.clause).children)) t)) same)
+    c.open_clause.ensures.cause
+
+pub returns-in_err-kinds-clause-cause : goal.returns-in_err-kinds-clause-cause
+returns-in_err-kinds-clause-cause g c =
+    let p = err_from_is_err_and c.from_residual.result c.from_residual.ensures.1 in
+    rw (p.1, p.2) no_memory
+
+pub returns-in_err-values-clause-cause : goal.returns-in_err-values-clause-cause
+returns-in_err-values-clause-cause g c =
+    let p = err_from_is_err_and c.from_residual-in_err-values.result c.from_residual-in_err-values.ensures.1 in
+    rw (p.1, p.2) (accounted (accounted-here _ (reaches c.placeholder_args.ensures.kept) c.in_err-values.ensures.cause))

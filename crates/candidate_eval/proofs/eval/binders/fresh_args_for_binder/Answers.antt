@@ -1,11 +1,13 @@
 use Rattle.std.proofs.Common.{◌≡◌, ◌∙◌, ap, subst}
-use Rattle.std.proofs.lemmas.Result.{IfOk-weaker, on_ok_weaker}
+use Rattle.std.proofs.lemmas.Result.{IfErr-weaker, IfOk-weaker, err_from_is_err_and, on_ok_weaker}
 use Rattle.candidate_ir.specs.Context.{Context}
 use Rattle.candidate_ir.specs.Words.{vars_tree}
 use Rattle.candidate_eval.specs.Characterization.{binder_kinds}
 use Rattle.candidate_eval.specs.Evaluators.{kinds_listed}
 use Rattle.candidate_eval.specs.States.{fresh_variables, with_fresh_variables}
 use Rattle.candidate_eval.proofs.Objects.{variables-read}
+use Rattle.candidate_eval.proofs.Accounts.{accounted-here, reaches}
+use Rattle.candidate_eval.specs.Accounts.StopsBy.{accounted, no_memory}
 use Rattle.candidate_eval.proofs.eval.binders.fresh_args_for_binder.Goals as goal
 
 pub returns-clause-state : goal.returns-clause-state
@@ -21,3 +23,11 @@ returns-clause-trees g c =
     let bound = variables-read c.in_ok-kinds.kinds.items (vars_tree c.cx.result.now.trees c.args.vars).children c.in_ok-kinds.ensures in
     let read = subst (λ (x : Context). kinds_listed c.in_ok-kinds.kinds.items ≡ binder_kinds (vars_tree x.trees c.args.vars).children) c.cx.ensures bound in
     IfOk-weaker c.fresh_args_for_item.result _ _ (λ x e. e ∙ ap (fresh_variables S) (ap kinds_listed c.as_slice.ensures.value ∙ read)) c.fresh_args_for_item.ensures.trees
+
+pub returns-clause-cause : goal.returns-clause-cause
+returns-clause-cause g c = IfErr-weaker c.fresh_args_for_item.result _ _ (λ s x. accounted (accounted-here _ (reaches c.fresh_args_for_item.ensures.kept) x)) c.fresh_args_for_item.ensures.cause
+
+pub returns-in_err-kinds-clause-cause : goal.returns-in_err-kinds-clause-cause
+returns-in_err-kinds-clause-cause g c =
+    let p = err_from_is_err_and c.from_residual.result c.from_residual.ensures.1 in
+    rw (p.1, p.2) no_memory

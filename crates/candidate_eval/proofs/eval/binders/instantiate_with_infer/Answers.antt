@@ -1,11 +1,11 @@
-use Rattle.std.proofs.Common.{◌∙◌}
-use Rattle.std.proofs.lemmas.Result.{IfOk-weaker}
+use Rattle.std.proofs.Common.{◌∙◌, refl, sym}
+use Rattle.std.proofs.lemmas.Result.{IfOk-weaker, err_from_is_err_and}
 use Rattle.candidate_ir.specs.Nodes.{tree_at}
 use Rattle.candidate_ir.proofs.Kept.{number-kept}
 use Rattle.candidate_ir.proofs.Lists.{below_kind}
-use Rattle.candidate_eval.proofs.Declared.{opened-kept, opened-list-kept}
+use Rattle.candidate_eval.proofs.Declared.{opened-kept, opened-list-kept, opened-row-kept}
 use Rattle.candidate_eval.proofs.Probing.{made, on-ok, then}
-use Rattle.candidate_eval.proofs.StopKinds.{subst_stop}
+use Rattle.candidate_eval.proofs.Accounts.{reaches, stays-there, stops-later, unmade-result}
 use Rattle.candidate_eval.proofs.eval.binders.instantiate_with_infer.Goals as goal
 
 pub open_binder-requires-clause-under : goal.open_binder-requires-clause-under
@@ -44,4 +44,18 @@ returns-clause-state g c =
     on-ok c.open_binder.result (same ∙ c.in_ok-values.ensures.state)
 
 pub returns-clause-cause : goal.returns-clause-cause
-returns-clause-cause g c = subst_stop _ _ c.open_binder.result c.open_binder.ensures.cause
+returns-clause-cause g c =
+    let E = g.E.EvalCtxt in
+    let old = g.E.Build.context c.args.ecx.now in
+    let mid = g.E.Build.context c.fresh_args_for_binder.new.ecx in
+    let n = g.N.Numbered.number_of c.args.binder.value in
+    let low = below_kind old.trees n (g.N.Numbered.kind c.args.binder.value) (g.met.N.Numbered.is_there c.args.binder.value) c.requires.under in
+    let same = (number-kept old.trees mid.trees n c.in_ok-values.ensures.kept.grows.kept low).1 in
+    let there = made (g.met.E.EvalCtxt.by_rest c.fresh_args_for_binder.new.ecx c.open_binder.new.make c.open_binder.ensures.rest) c.open_binder.ensures.grows in
+    unmade-result E.fixed g.E.Build.context E.state E.stops _ c.open_binder.result c.args.ecx.now c.open_binder.new.make _ _ (reaches (then c.fresh_args_for_binder.ensures.kept there)) refl
+    (opened-row-kept old.trees mid.trees n _ _ c.in_ok-values.ensures.trees same) c.open_binder.ensures.cause
+
+pub returns-in_err-values-clause-cause : goal.returns-in_err-values-clause-cause
+returns-in_err-values-clause-cause g c =
+    let p = err_from_is_err_and c.from_residual.result c.from_residual.ensures.1 in
+    rw (p.1, p.2) (stops-later (stays-there c.args.ecx.now) (λ ts x. absurd x) c.in_err-values.ensures.cause)

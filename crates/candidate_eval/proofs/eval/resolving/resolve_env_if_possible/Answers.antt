@@ -1,7 +1,7 @@
 use Rattle.std.proofs.Common.{rules, ◌≡◌, ◌≤◌, ◌∷◌, [], ◌++◌, length, ◌∙◌, ap}
 use Rattle.candidate_ir.proofs.Joining.{clause-kept}
 use Rattle.candidate_ir.proofs.Made.{IsClause-listed}
-use Rattle.std.proofs.lemmas.Result.{IfOk-weaker}
+use Rattle.std.proofs.lemmas.Result.{IfErr-weaker, IfOk-weaker, err_from_is_err_and}
 use Rattle.std.specs.Prelude.{slice_index_or}
 use Rattle.candidate_ir.specs.declared.ir.kinds.Clause.{Clause}
 use Rattle.candidate_ir.specs.Words.{clause_list_forest, clause_tree}
@@ -9,6 +9,8 @@ use Rattle.candidate_eval.specs.States.{resolved}
 use Rattle.candidate_eval.proofs.Probing.{then}
 use Rattle.candidate_eval.proofs.Required.{all_gathered, more_gathered, pushed_fit, pushed_trees}
 use Rattle.candidate_eval.proofs.Resolving.{one-resolved, read-env, resolved-env, resolved_one}
+use Rattle.candidate_eval.proofs.Accounts.{accounted-here, reaches, somehow-later}
+use Rattle.candidate_eval.specs.Accounts.StopsSomehow.{asking, making}
 use Rattle.candidate_eval.proofs.eval.resolving.resolve_env_if_possible.Goals as goal
 
 pub resolve_clause_if_possible-requires : goal.resolve_clause_if_possible-requires
@@ -55,3 +57,21 @@ returns-clause-tree g c =
     let gathered = all_gathered start now [] c.loop-clause.list.items (resolved_one S start.trees) xs c.loop-clause.clause-index so past in
     let whole = resolved-env S start.trees now.trees xs c.loop-clause.list.items read.0 so.fit gathered ∙ ap (resolved S) read.1 in
     IfOk-weaker c.mk_param_env.result _ _ (λ x e. e ∙ (ap (clause_list_forest now.trees) c.as_slice.ensures.value ∙ whole)) c.mk_param_env.ensures.made.tree
+
+pub returns-in_err-clauses-clause-cause : goal.returns-in_err-clauses-clause-cause
+returns-in_err-clauses-clause-cause g c =
+    let p = err_from_is_err_and c.from_residual.result c.from_residual.ensures.1 in
+    rw (p.1, p.2) (making tt)
+
+pub returns-in_err-resolved-clause-cause : goal.returns-in_err-resolved-clause-cause
+returns-in_err-resolved-clause-cause g c =
+    let p = err_from_is_err_and c.from_residual-in_err-resolved.result c.from_residual-in_err-resolved.ensures.1 in
+    rw (p.1, p.2) (somehow-later (reaches c.loop-clause.invariant.1) (asking (accounted-here _ (reaches c.in_err-resolved.ensures.kept) c.in_err-resolved.ensures.cause)))
+
+pub returns-in_err-push-clause-cause : goal.returns-in_err-push-clause-cause
+returns-in_err-push-clause-cause g c =
+    let p = err_from_is_err_and c.from_residual-in_err-push.result c.from_residual-in_err-push.ensures.1 in
+    rw (p.1, p.2) (making tt)
+
+pub returns-clause-cause : goal.returns-clause-cause
+returns-clause-cause g c = IfErr-weaker c.mk_param_env.result _ _ (λ s x. making x) c.mk_param_env.ensures.cause
