@@ -19,7 +19,10 @@ use Rattle.candidate_eval.specs.Answers.{KnownResult, IsKnowledge, knowledge_of}
 use Rattle.candidate_eval.specs.Calls.{IsKnown, knowledge_about, depth_limit}
 use Rattle.candidate_eval.specs.Evaluators.{Keeps, IsEvaluatorStop}
 use Rattle.candidate_eval.specs.Judging.{seen_of, judge_view, judge_knows}
-use Rattle.candidate_eval.specs.Knowing.{IsKnowingStop, NormalizesAsJudged, SeesStates, own_stop}
+use Rattle.candidate_eval.specs.Knowing.{NormalizesAsJudged, SeesStates, StopsKnowing, own_stop}
+use Rattle.candidate_eval.specs.Knowing.StopsKnowing.{no_memory, too_deep, unnameable, accounted}
+use Rattle.candidate_eval.specs.Accounts.{Account, IsAccounted, Question}
+use Rattle.candidate_eval.proofs.Accounts.{accounted-here, accounted-later, reaches}
 use Rattle.candidate_eval.specs.Limits.{Limits, declared_limits}
 use Rattle.candidate_eval.specs.Normalizer.{Answers, Call, Description, IsFunction, IsLeftByCalls, IsStopCause, IsTold, LastIs, Lead, Normalizes, shown}
 use Rattle.candidate_eval.specs.Orphan.{Sight, View, view, unless_general, Checked, Knowability, knowability}
@@ -34,16 +37,10 @@ own-stops NodesFull h = refl
 own-stops EvaluatorLimit h = refl
 own-stops _ h = absurd h
 
-knowing-stop : (s : Stop) → IsEvaluatorStop s → IsKnowingStop s
-knowing-stop Memory h = tt
-knowing-stop NodesFull h = tt
-knowing-stop EvaluatorLimit h = tt
-knowing-stop _ h = absurd h
-
 module _ {C F X : Type 0} (context : C → Context) (g : Mut F (MutBor C × (Ty × Unit {0})) (Result Ty (NormalizeErr (Unit {0})) × (MutBor C × Unit {0})))
-    (fixed : C → X) (probes : C → List State) (state : C → State) (judge : X → Judge) (env : ParamEnv) (Holds : F → Type 0)
+    (fixed : C → X) (probes : C → List State) (state : C → State) (judge : X → Judge) (stops : Account C) (env : ParamEnv) (Holds : F → Type 0)
     (says : (f : F) (c : C) (t : Ty) (r : Result Ty (NormalizeErr (Unit {0}))) (f' : F) (c' : C) → Holds f → Normalizes context g f c t r f' c'
-    → (f' ≡ f) × NormalizesAsJudged context fixed probes state judge c c' env t r) where
+    → (f' ≡ f) × NormalizesAsJudged context fixed probes state judge stops c c' env t r) where
   -- calls keep what one keeps
   pub lead-judged : (ks : List (Call F C (Unit {0}))) (f : F) (c : C) (f' : F) (c' : C) → Holds f → Lead context g f c ks f' c' → Holds f' × Keeps fixed probes context c c'
   lead-judged [] f c f' c' h l = (
@@ -56,22 +53,27 @@ module _ {C F X : Type 0} (context : C → Context) (g : Mut F (MutBor C × (Ty 
       let rest = lead-judged ks k.next k.after f' c' (subst Holds (sym s.0) here) l.3 in
       (rest.0, subst (λ (x : C). Keeps fixed probes context x c') l.1 (keeps-trans fixed probes context k.before k.after c' s.1.kept rest.1))
 
-  -- a stop of the last of them is the evaluator's
-  last-stop : (ks : List (Call F C (Unit {0}))) (f : F) (c : C) (f' : F) (c' : C) → Holds f → Lead context g f c ks f' c' → (s : Stop) → LastIs (Answers s) ks → IsEvaluatorStop s
+  -- the evaluator accounts for a stop of the last of them
+  last-stop : (ks : List (Call F C (Unit {0}))) (f : F) (c : C) (f' : F) (c' : C) → Holds f → Lead context g f c ks f' c' → (s : Stop) → LastIs (Answers s) ks → IsAccounted fixed context state stops c s
   last-stop [] f c f' c' h l s e = absurd e
-  last-stop (k ∷ []) f c f' c' h l s e = (says k.by k.before k.type k.answer k.next k.after (subst Holds (sym l.0) h) l.2.call).1.stops s e
+  last-stop (k ∷ []) f c f' c' h l s e =
+      let n = says k.by k.before k.type k.answer k.next k.after (subst Holds (sym l.0) h) l.2.call in
+      subst (λ (x : C). IsAccounted fixed context state stops x s) l.1 (accounted-here _ (reaches n.1.kept) (n.1.stopped s e))
   last-stop (k ∷ j ∷ ks) f c f' c' h l s e =
       let here = subst Holds (sym l.0) h in
       let n = says k.by k.before k.type k.answer k.next k.after here l.2.call in
-      last-stop (j ∷ ks) k.next k.after f' c' (subst Holds (sym n.0) here) l.3 s e
+      subst (λ (x : C). IsAccounted fixed context state stops x s) l.1 (accounted-later (reaches n.1.kept) (last-stop (j ∷ ks) k.next k.after f' c' (subst Holds (sym n.0) here) l.3 s e))
 
-  stop-of : (ks : List (Call F C (Unit {0}))) (f : F) (c : C) (f' : F) (c' : C) (levels : ℕ) → Holds f → Lead context g f c ks f' c' → (s : Stop) → IsStopCause context g levels ks s → IsKnowingStop s
-  stop-of ks f c f' c' n h l s (inl e) = subst IsKnowingStop (sym e) tt
-  stop-of ks f c f' c' n h l s (inr (inl e)) = subst IsKnowingStop (sym e.0) tt
-  stop-of ks f c f' c' n h l s (inr (inr (inl e))) = subst IsKnowingStop (sym e.0) tt
-  stop-of ks f c f' c' n h l s (inr (inr (inr e))) = knowing-stop s (last-stop ks f c f' c' h l s e)
+  abbrev Stops : C → Stop → Type 0
+  Stops = StopsKnowing fixed context state stops
 
-  pub left-stop : {levels : ℕ} {f : F} {c : C} {f' : F} {c' : C} {stops : Stop → Type 0} → Holds f → IsLeftByCalls context g levels f c f' c' stops → (s : Stop) → stops s → IsKnowingStop s
+  stop-of : (ks : List (Call F C (Unit {0}))) (f : F) (c : C) (f' : F) (c' : C) (levels : ℕ) → Holds f → Lead context g f c ks f' c' → (s : Stop) → IsStopCause context g levels ks s → Stops c s
+  stop-of ks f c f' c' n h l s (inl e) = subst (Stops c) (sym e) no_memory
+  stop-of ks f c f' c' n h l s (inr (inl e)) = subst (Stops c) (sym e.0) too_deep
+  stop-of ks f c f' c' n h l s (inr (inr (inl e))) = subst (Stops c) (sym e.0) unnameable
+  stop-of ks f c f' c' n h l s (inr (inr (inr e))) = accounted (last-stop ks f c f' c' h l s e)
+
+  pub left-stop : {levels : ℕ} {f : F} {c : C} {f' : F} {c' : C} {why : Stop → Type 0} → Holds f → IsLeftByCalls context g levels f c f' c' why → (s : Stop) → why s → Stops c s
   left-stop {levels} {f} {c} {f'} {c'} h l s e = stop-of l.calls f c f' c' levels h l.lead s (l.cause s e)
 
   module _ {V : Type 0} (shows : C → V) (resolve : V → Tree → Tree) (law : SeesStates shows resolve fixed state) (f0 : F) (c0 : C)
@@ -152,24 +154,26 @@ module _ {C F X : Type 0} (context : C → Context) (g : Mut F (MutBor C × (Ty 
 pub knows-as-judged : {C F V X : Type 0} {context : C → Context} {g : Mut F (MutBor C × (Ty × Unit {0})) (Result Ty (NormalizeErr (Unit {0})) × (MutBor C × Unit {0}))}
     {shows : C → V} {resolve : V → Tree → Tree} {f : F} {c : C} {r : TraitRef} {result : KnownResult (Unit {0})} {f' : F} {c' : C}
     → IsKnown context shows resolve g f c r result f' c'
-    → (fixed : C → X) (probes : C → List State) (state : C → State) (judge : X → Judge) (env : ParamEnv) (Holds : F → Type 0)
+    → (fixed : C → X) (probes : C → List State) (state : C → State) (judge : X → Judge) (stops : Account C) (env : ParamEnv) (Holds : F → Type 0)
     → ((f : F) (c : C) (t : Ty) (r : Result Ty (NormalizeErr (Unit {0}))) (f' : F) (c' : C) → Holds f → Normalizes context g f c t r f' c'
-    → (f' ≡ f) × NormalizesAsJudged context fixed probes state judge c c' env t r)
+    → (f' ≡ f) × NormalizesAsJudged context fixed probes state judge stops c c' env t r)
     → SeesStates shows resolve fixed state → IsParamEnv (context c).trees env → Holds f
     → ((judge (fixed c)).world ≡ world (context c)) × ((judge (fixed c)).local_crate ≡ (context c).local.0) → (judge (fixed c)).limits ≡ declared_limits
     → IsTold own_stop result
     → judge_knows (judge (fixed c)) (env_forest (context c).trees env) (state c) (reference_of (context c).trees r) ≡ record { answer = knowledge_of result; after = state c' }
-knows-as-judged {context = context} {g = g} {shows = shows} {resolve = resolve} {f = f} {c = c} {r = r} {result = result} {c' = c'} said fixed probes state judge env Holds says law given held d limits told =
-    judged-knows context g fixed probes state judge env Holds says shows resolve law f c given held d limits r result c'
-    (said.at (judged context g fixed probes state judge env Holds says shows resolve law f c given held)
-    (judged-function context g fixed probes state judge env Holds says shows resolve law f c given held) told)
+knows-as-judged {context = context} {g = g} {shows = shows} {resolve = resolve} {f = f} {c = c} {r = r} {result = result} {c' = c'} said fixed probes state judge stops env Holds says law given held d limits told =
+    judged-knows context g fixed probes state judge stops env Holds says shows resolve law f c given held d limits r result c'
+    (said.at (judged context g fixed probes state judge stops env Holds says shows resolve law f c given held)
+    (judged-function context g fixed probes state judge stops env Holds says shows resolve law f c given held) told)
 
 -- where the evaluator stopped
-pub stopped-as-judged : {C X : Type 0} (context : C → Context) (fixed : C → X) (probes : C → List State) (state : C → State) (judge : X → Judge) (old new : C) (env : ParamEnv) (t : Ty)
-    (s : Stop) → Keeps fixed probes context old new → IsEvaluatorStop s → NormalizesAsJudged context fixed probes state judge old new env t (Err (N.Stop s))
-stopped-as-judged context fixed probes state judge old new env t s k h = record {
+pub stopped-as-judged : {C X : Type 0} (context : C → Context) (fixed : C → X) (probes : C → List State) (state : C → State) (judge : X → Judge) (stops : Account C) (old new : C) (env : ParamEnv) (t : Ty)
+    (s : Stop) → Keeps fixed probes context old new → IsEvaluatorStop s
+    → stops new (state old) (Question.normalize (env_forest (context old).trees env) (ty_tree (context old).trees t)) s
+    → NormalizesAsJudged context fixed probes state judge stops old new env t (Err (N.Stop s))
+stopped-as-judged context fixed probes state judge stops old new env t s k h a = record {
   kept = k;
   sort = tt;
-  stops = λ z e. let i : s ≡ z = cc in subst IsEvaluatorStop i h;
+  stopped = λ z e. let i : s ≡ z = cc in subst (λ (x : Stop). stops new (state old) (Question.normalize (env_forest (context old).trees env) (ty_tree (context old).trees t)) x) i a;
   answer = λ told. absurd (told s (own-stops s h) refl);
 }

@@ -11,6 +11,7 @@ use Rattle.candidate_ir.specs.Elaboration.{IsElaborationStop, IsInstanceStop, Is
 use Rattle.candidate_ir.specs.declared.ir.heads.Head.{Head}
 use Rattle.candidate_ir.specs.Nodes.{tree_at}
 use Rattle.candidate_ir.specs.Folding.{IsSubstStop}
+use Rattle.candidate_ir.specs.Words.{IsMkStop}
 use Rattle.candidate_ir.specs.Folds.{Says, StopsBy, memory, refused, too_high, full, too_few, after, below_asked, below_passed, later}
 use Rattle.candidate_ir.specs.Trees.{Forest, none, tree, Tree, count, skip}
 use Rattle.candidate_eval.specs.Evaluators.{IsEvaluatorStop, IsMakingStop}
@@ -23,6 +24,10 @@ subst_making given made _ IsSubstStop.no_memory = tt
 subst_making given made _ (IsSubstStop.few_numbers l) = tt
 subst_making given made _ (IsSubstStop.high_tree l) = tt
 subst_making given made _ (IsSubstStop.far_variable e) = tt
+
+pub mk_making : (ts : List Tree) (high : ℕ) (s : Stop) → IsMkStop ts high s → IsMakingStop s
+mk_making ts high s (inl e) = subst IsMakingStop (sym e) tt
+mk_making ts high s (inr e) = subst IsMakingStop (sym e.0) tt
 
 -- where there was one, an evaluator's own
 pub subst_stop : {A : Type 0} (given : ℕ) (made : Forest) (r : Result A Stop) → IfErr r (λ s. IsSubstStop given made s) → IfErr r IsEvaluatorStop

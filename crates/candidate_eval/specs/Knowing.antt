@@ -9,7 +9,8 @@ use Rattle.candidate_ir.specs.Trees.{Tree}
 use Rattle.candidate_ir.specs.Words.{IsTy, ty_tree, env_forest}
 use Rattle.candidate_eval.specs.declared.coherence.NormalizeErr.{NormalizeErr}
 use Rattle.candidate_eval.specs.declared.coherence.NormalizeErr.TheVariants as N
-use Rattle.candidate_eval.specs.Evaluators.{Keeps, IsEvaluatorStop}
+use Rattle.candidate_eval.specs.Accounts.{Account, IsAccounted, Question}
+use Rattle.candidate_eval.specs.Evaluators.{Keeps}
 use Rattle.candidate_eval.specs.Judging.{seen_of}
 use Rattle.candidate_eval.specs.Normalizer.{Untold, IsToldAnswer, shown}
 use Rattle.candidate_eval.specs.States.{State, Judge, resolved_root}
@@ -21,18 +22,20 @@ own_stop NodesFull = true
 own_stop EvaluatorLimit = true
 own_stop _ = false
 
--- the stops of a check by an evaluator: its own, and the walk's
-abbrev pub IsKnowingStop : Stop → Type 0
-IsKnowingStop WalkDepth = Unit {0}
-IsKnowingStop Unnameable = Unit {0}
-IsKnowingStop s = IsEvaluatorStop s
+-- Why a check by an evaluator stopped: the walk's own reasons, or the evaluator stopped and accounts for it.
+module _ {C X : Type 0} (fixed : C → X) (context : C → Context) (state : C → State) (stops : Account C) where
+  pub data StopsKnowing (first : C) : Stop → Type 0 where
+    no_memory : StopsKnowing first Memory
+    too_deep : StopsKnowing first WalkDepth
+    unnameable : StopsKnowing first Unnameable
+    accounted : {s : Stop} → IsAccounted fixed context state stops first s → StopsKnowing first s
 
 -- A type was normalised as the judge says: the answer and the state that is left, unless the evaluator stopped.
-pub record NormalizesAsJudged {C X : Type 0} (context : C → Context) (fixed : C → X) (probes : C → List State) (state : C → State) (judge : X → Judge)
+pub record NormalizesAsJudged {C X : Type 0} (context : C → Context) (fixed : C → X) (probes : C → List State) (state : C → State) (judge : X → Judge) (stops : Account C)
     (old new : C) (env : ParamEnv) (t : Ty) (r : Result Ty (NormalizeErr (Unit {0}))) : Type 0 where
   pub kept : Keeps fixed probes context old new
   pub sort : IfOk r (λ u. IsTy (context new).trees u)
-  pub stops : (s : Stop) → r ≡ Err (N.Stop s) → IsEvaluatorStop s
+  pub stopped : (s : Stop) → r ≡ Err (N.Stop s) → stops new (state old) (Question.normalize (env_forest (context old).trees env) (ty_tree (context old).trees t)) s
   pub answer : IsToldAnswer own_stop r
       → seen_of (state old) ((judge (fixed old)).normalized (state old) (env_forest (context old).trees env) (ty_tree (context old).trees t))
       ≡ record { seen = shown (context new).trees r; after = state new }

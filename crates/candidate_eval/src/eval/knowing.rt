@@ -6,7 +6,7 @@ ghost use Rattle.candidate_ir.specs.Words.{IsArgs, IsParamEnv, IsTy, env_forest}
 ghost use Rattle.candidate_eval.specs.Answers.{knowledge_of};
 ghost use Rattle.candidate_eval.specs.Evaluators.{Keeps};
 ghost use Rattle.candidate_eval.specs.Judging.{judge_knows};
-ghost use Rattle.candidate_eval.specs.Knowing.{IsKnowingStop, NormalizesAsJudged, own_stop};
+ghost use Rattle.candidate_eval.specs.Knowing.{NormalizesAsJudged, StopsKnowing, own_stop};
 ghost use Rattle.candidate_eval.specs.Normalizer.{IsTold};
 
 use crate::coherence::{Conflict, NormalizeErr, OrphanStop, knowable};
@@ -20,7 +20,7 @@ use std::alloc::Global;
 fn normal_form<E: EvalCtxt>(ecx: &mut E, env: ParamEnv, ty: Ty) -> Result<Ty, NormalizeErr<()>>
     requires env { IsParamEnv (E.context ecx.old).trees env }
     requires ty { IsTy (E.context ecx.old).trees ty }
-    ensures { NormalizesAsJudged E.context E.fixed E.probes E.state E.judge ecx.old ecx.new env ty result }
+    ensures { NormalizesAsJudged E.context E.fixed E.probes E.state E.judge E.stops ecx.old ecx.new env ty result }
 {
     match ecx.structurally_normalize_ty(env, ty) {
         Ok(ty) => Ok(ty),
@@ -44,12 +44,12 @@ pub fn is_knowable<E: EvalCtxt>(
     requires args { IsArgs (E.context ecx.old).trees trait_ref.args }
     ensures kept { Keeps E.fixed E.probes E.context ecx.old ecx.new }
     ensures answer { IsTold own_stop result → judge_knows (E.judge (E.fixed ecx.old)) (env_forest (E.context ecx.old).trees env) (E.state ecx.old) (reference_of (E.context ecx.old).trees trait_ref) ≡ record { answer = knowledge_of result; after = E.state ecx.new } }
-    ensures cause { (s : Stop) → result ≡ Err (OrphanStop.Stop s) → IsKnowingStop s }
+    ensures cause { (s : Stop) → result ≡ Err (OrphanStop.Stop s) → StopsKnowing E.fixed E.context E.state E.stops ecx.old s }
 {
     let mut normalize = move |ecx: &mut E, ty: Ty| -> Result<Ty, NormalizeErr<()>>
         requires env { IsParamEnv (E.context ecx.old).trees env }
         requires ty { IsTy (E.context ecx.old).trees ty }
-        ensures { NormalizesAsJudged E.context E.fixed E.probes E.state E.judge ecx.old ecx.new env ty result }
+        ensures { NormalizesAsJudged E.context E.fixed E.probes E.state E.judge E.stops ecx.old ecx.new env ty result }
     { normal_form(ecx, env, ty) };
     knowable(alloc, ecx, trait_ref, &mut normalize)
 }

@@ -11,7 +11,7 @@ knowable-requires-clause-normaliser g c =
     record {
       callable = record {
         at = λ f x t lent e q grown i small.
-            let l = lead-judged context _ E.fixed E.probes E.state E.judge c.args.env (λ z. z.0 ≡ c.args.env)
+            let l = lead-judged context _ E.fixed E.probes E.state E.judge E.stops c.args.env (λ z. z.0 ≡ c.args.env)
             (λ f x t r f' x' h n. let k = n.called in let l = n.lends in let m = n.leaves in (search rules, search rules)) q.calls _ _ f x refl q.lead in
             let held = l.0 in
             let there = (env-kept (context c.args.ecx.now) (context x) c.args.env grown c.requires.env).0 in
@@ -19,10 +19,10 @@ knowable-requires-clause-normaliser g c =
       };
       keeps = record {
         at = λ f x t r f' x' q grown i small n.
-            let l = lead-judged context _ E.fixed E.probes E.state E.judge c.args.env (λ z. z.0 ≡ c.args.env)
+            let l = lead-judged context _ E.fixed E.probes E.state E.judge E.stops c.args.env (λ z. z.0 ≡ c.args.env)
             (λ f x t r f' x' h n. let k = n.called in let l = n.lends in let m = n.leaves in (search rules, search rules)) q.calls _ _ f x refl q.lead in
             let held = l.0 in
-            let says : NormalizesAsJudged context E.fixed E.probes E.state E.judge x x' c.args.env t r =
+            let says : NormalizesAsJudged context E.fixed E.probes E.state E.judge E.stops x x' c.args.env t r =
             (let k = n.called in let l = n.lends in let m = n.leaves in search rules) in
             (says.kept.grows, says.sort);
       };
@@ -31,7 +31,7 @@ knowable-requires-clause-normaliser g c =
 pub returns-clause-kept : goal.returns-clause-kept
 returns-clause-kept g c =
     let E = g.E.EvalCtxt in
-    (lead-judged g.E.Build.context _ E.fixed E.probes E.state E.judge c.args.env (λ z. z.0 ≡ c.args.env)
+    (lead-judged g.E.Build.context _ E.fixed E.probes E.state E.judge E.stops c.args.env (λ z. z.0 ≡ c.args.env)
     (λ f x t r f' x' h n. let k = n.called in let l = n.lends in let m = n.leaves in (search rules, search rules))
     c.knowable.ensures.calls.calls _ _ _ _ refl c.knowable.ensures.calls.lead).1
 
@@ -40,12 +40,12 @@ returns-clause-answer g c =
     let E = g.E.EvalCtxt in
     let L = g.met.E.EvalCtxt in
     let x = c.args.ecx.now in
-    knows-as-judged c.knowable.ensures.answer E.fixed E.probes E.state E.judge c.args.env (λ z. z.0 ≡ c.args.env)
+    knows-as-judged c.knowable.ensures.answer E.fixed E.probes E.state E.judge E.stops c.args.env (λ z. z.0 ≡ c.args.env)
     (λ f x t r f' x' h n. let k = n.called in let l = n.lends in let m = n.leaves in (search rules, search rules))
     L.sees c.requires.env refl (L.declared x) (L.walks (E.fixed x))
 
 pub returns-clause-cause : goal.returns-clause-cause
 returns-clause-cause g c =
     let E = g.E.EvalCtxt in
-    left-stop g.E.Build.context _ E.fixed E.probes E.state E.judge c.args.env (λ z. z.0 ≡ c.args.env)
+    left-stop g.E.Build.context _ E.fixed E.probes E.state E.judge E.stops c.args.env (λ z. z.0 ≡ c.args.env)
     (λ f x t r f' x' h n. let k = n.called in let l = n.lends in let m = n.leaves in (search rules, search rules)) refl c.knowable.ensures.calls

@@ -6,9 +6,10 @@ use Rattle.std.specs.Prelude.{slice_index_or}
 use Rattle.candidate_ir.specs.declared.ir.kinds.Clause.{Clause}
 use Rattle.candidate_ir.specs.Words.{clause_list_forest, clause_tree}
 use Rattle.candidate_eval.specs.States.{resolved}
-use Rattle.candidate_eval.proofs.Probing.{then}
+use Rattle.candidate_eval.proofs.Probing.{made, then}
 use Rattle.candidate_eval.proofs.Required.{all_gathered, more_gathered, pushed_fit, pushed_trees}
 use Rattle.candidate_eval.proofs.Resolving.{one-resolved, read-env, resolved-env, resolved_one}
+use Rattle.candidate_eval.proofs.StopKinds.{mk_making}
 use Rattle.candidate_eval.proofs.Accounts.{accounted-here, reaches, somehow-later}
 use Rattle.candidate_eval.specs.Accounts.StopsSomehow.{asking, making}
 use Rattle.candidate_eval.proofs.eval.resolving.resolve_env_if_possible.Goals as goal
@@ -74,4 +75,8 @@ returns-in_err-push-clause-cause g c =
     rw (p.1, p.2) (making tt)
 
 pub returns-clause-cause : goal.returns-clause-cause
-returns-clause-cause g c = IfErr-weaker c.mk_param_env.result _ _ (λ s x. making x) c.mk_param_env.ensures.cause
+returns-clause-cause g c = IfErr-weaker c.mk_param_env.result _ _ (λ s x. making (mk_making _ _ s x)) c.mk_param_env.ensures.made.cause
+
+pub returns-clause-kept : goal.returns-clause-kept
+returns-clause-kept g c =
+    then c.loop-clause.invariant.1 (made (g.met.E.EvalCtxt.by_rest c.loop-clause.ecx c.mk_param_env.new.self c.mk_param_env.ensures.rest) c.mk_param_env.ensures.made.kept)
