@@ -11,7 +11,7 @@ use crate::reader::Reader;
 use crate::refusals::Refusal;
 use crate::rows::Row;
 use crate::typed::{args_at, clause_at, env_at, ty_at};
-use candidate_eval::eval::binders::instantiate_binder_with_infer;
+use candidate_eval::eval::binders::instantiate_clause_with_infer;
 use candidate_eval::structural::object::{bound_matches, matching_bounds, pick_bound};
 use candidate_eval::structural::object_candidate::predicates_for_object_candidate;
 use candidate_ir::decl::make::Make;
@@ -117,7 +117,7 @@ pub(crate) fn answer(
     }
     if row.verb == "instantiate" {
         let clause = clause_at(rounds.cx(), of.left)?;
-        let instance = instantiate_binder_with_infer(alloc, rounds, clause)?;
+        let instance = instantiate_clause_with_infer(alloc, rounds, clause)?;
         return Ok(Answer::One(Item::Node(instance.0)));
     }
     let def_id = AssocId(reader.number(row.first));

@@ -15,7 +15,7 @@ ghost use Rattle.candidate_eval.specs.States.{fresh_variables, resolved, with_fr
 
 use crate::eval::context::EvalCtxt;
 use candidate_ir::decl::make::Make;
-use candidate_ir::decl::open::{binder_kinds, open_binder, open_clause, variable_kinds};
+use candidate_ir::decl::open::{binder_kinds, replace_bound_vars, open_clause, variable_kinds};
 use candidate_ir::ir::kinds::{Args, Binder, Clause, FnSig, ParamEnv, Vars};
 use candidate_ir::ir::numbered::Numbered;
 use candidate_ir::ir::stop::Stop;
@@ -60,8 +60,8 @@ pub fn placeholder_args_for_binder<E: EvalCtxt>(
 }
 
 /// What stands under the binder, with fresh variables in the place of the binder's: a type, a list of arguments, as of a trait
-/// reference, or whatever else it is. It stops as `fresh_args_for_binder` and `open_binder` do.
-pub fn instantiate_with_infer<N: Numbered, E: EvalCtxt>(
+/// reference, or whatever else it is. It stops as `fresh_args_for_binder` and `replace_bound_vars` do.
+pub fn instantiate_binder_with_infer<N: Numbered, E: EvalCtxt>(
     alloc: Global,
     ecx: &mut E,
     binder: Binder<N>,
@@ -77,11 +77,11 @@ pub fn instantiate_with_infer<N: Numbered, E: EvalCtxt>(
     ensures cause { IfErr result (StopsBy E.fixed E.context E.state E.stops ecx.old (λ ts. ts ≡ opened (fresh_variables (E.state ecx.old) (binder_kinds (vars_tree (E.context ecx.old).trees binder.vars).children)) (row (tree_at (E.context ecx.old).trees (N.number_of binder.value)) none))) }
 {
     let values = fresh_args_for_binder(alloc, ecx, binder.vars)?;
-    open_binder(alloc, ecx, binder.value, values)
+    replace_bound_vars(alloc, ecx, binder.value, values)
 }
 
 /// The same with placeholders of a fresh universe: what holds of it holds for all values of the binder's variables. It stops as
-/// `instantiate_with_infer` does.
+/// `instantiate_binder_with_infer` does.
 pub fn enter_binder<N: Numbered, E: EvalCtxt>(
     alloc: Global,
     ecx: &mut E,
@@ -98,14 +98,14 @@ pub fn enter_binder<N: Numbered, E: EvalCtxt>(
     ensures cause { IfErr result (StopsBy E.fixed E.context E.state E.stops ecx.old (λ ts. ts ≡ opened (rigid (E.state ecx.old) (binder_kinds (vars_tree (E.context ecx.old).trees binder.vars).children)) (row (tree_at (E.context ecx.old).trees (N.number_of binder.value)) none))) }
 {
     let values = placeholder_args_for_binder(alloc, ecx, binder.vars)?;
-    open_binder(alloc, ecx, binder.value, values)
+    replace_bound_vars(alloc, ecx, binder.value, values)
 }
 
 /// The clause under an empty binder, with fresh variables in the place of those of its own.
 ///
 /// `Stop::Memory` comes where a growth was refused, other stops as they come of `open_clause` and of the evaluator's fresh
 /// variables. After a stop the variables that were made stay.
-pub fn instantiate_binder_with_infer<E: EvalCtxt>(
+pub fn instantiate_clause_with_infer<E: EvalCtxt>(
     alloc: Global,
     ecx: &mut E,
     clause: Clause,
@@ -138,7 +138,7 @@ pub fn enter_clause<E: EvalCtxt>(alloc: Global, ecx: &mut E, clause: Clause) -> 
 }
 
 /// A signature that stood under a binder, with the list's values in the place of that binder's variables. It stops as
-/// `open_binder` does.
+/// `replace_bound_vars` does.
 pub fn open_signature<M: Make>(
     alloc: Global,
     make: &mut M,
@@ -155,8 +155,8 @@ pub fn open_signature<M: Make>(
     ensures is { IfOk result (λ s. s ≡ record under { inputs = s.inputs; output = s.output }) }
     ensures cause { IfErr result IsMakingStop }
 {
-    let inputs = open_binder(alloc, make, under.inputs, values)?;
-    let output = open_binder(alloc, make, under.output, values)?;
+    let inputs = replace_bound_vars(alloc, make, under.inputs, values)?;
+    let output = replace_bound_vars(alloc, make, under.output, values)?;
     Ok(FnSig {
         inputs,
         output,

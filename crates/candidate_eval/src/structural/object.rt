@@ -10,7 +10,7 @@ ghost use Rattle.candidate_eval.specs.Objects as seen;
 ghost use Rattle.candidate_eval.specs.States.{is_some};
 ghost use Rattle.candidate_eval.specs.declared.structural.object.AmbiguousOrStop.TheVariants as ambiguous;
 
-use crate::eval::binders::instantiate_binder_with_infer;
+use crate::eval::binders::instantiate_clause_with_infer;
 use crate::eval::context::{EvalCtxt, ProbeKind};
 use crate::eval::refusal::NoSolutionOrStop;
 use candidate_ir::decl::Cx;
@@ -73,7 +73,7 @@ fn equate_bound<E: EvalCtxt>(
     ensures refused { IfErr result (λ e. e ≡ NoSolutionOrStop.NoSolution → bound_equated (E.judge (E.fixed ecx.old)) (env_forest (E.context ecx.old).trees env) (E.state ecx.old) (clause_tree (E.context ecx.old).trees bound) (args_forest (E.context ecx.old).trees projection.args) ≡ None) }
     ensures cause { IfErr result (by_stop (StopsBy E.fixed E.context E.state E.stops ecx.old (IsInstance (clause_tree (E.context ecx.old).trees bound)))) }
 {
-    let instance = instantiate_binder_with_infer(alloc, ecx, bound)?;
+    let instance = instantiate_clause_with_infer(alloc, ecx, bound)?;
     match bound_about(ecx.cx(), instance, projection.def_id) {
         Some(predicate) => {
             ecx.eq_args(env, predicate.projection_term.args, projection.args)?;

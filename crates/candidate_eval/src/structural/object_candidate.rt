@@ -12,7 +12,7 @@ ghost use Rattle.candidate_eval.specs.Replacing.{clauses_at};
 ghost use Rattle.candidate_eval.specs.Required.{AreRequirements};
 ghost use Rattle.candidate_eval.specs.Required as seen;
 
-use crate::eval::binders::instantiate_binder_with_infer;
+use crate::eval::binders::instantiate_clause_with_infer;
 use crate::eval::context::EvalCtxt;
 use crate::structural::making::first_type;
 use crate::structural::object::AmbiguousOrStop;
@@ -81,7 +81,7 @@ fn instance<E: EvalCtxt>(
     ensures cause { IfErr result (StopsSomehow E.fixed E.context E.state E.stops ecx.old) }
 {
     let clause = held(ecx, trait_ref)?;
-    let instance = instantiate_binder_with_infer(alloc, ecx, clause)?;
+    let instance = instantiate_clause_with_infer(alloc, ecx, clause)?;
     match reference_in(ecx.cx(), instance) {
         Some(reference) => Ok(reference),
         None => unreachable!(),

@@ -227,7 +227,7 @@ fn opened_below<M: Make>(
 
 /// What stood under a binder, with the list's value of its number in the place of each variable of that binder, as by
 /// `open_clause`: a type, a list of arguments, or whatever else it is. It stops as `open_clause` does.
-pub fn open_binder<N: Numbered, M: Make>(
+pub fn replace_bound_vars<N: Numbered, M: Make>(
     alloc: Global,
     make: &mut M,
     under: N,

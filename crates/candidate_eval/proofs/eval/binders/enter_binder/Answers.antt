@@ -8,8 +8,8 @@ use Rattle.candidate_eval.proofs.Probing.{made, on-ok, then}
 use Rattle.candidate_eval.proofs.Accounts.{reaches, stays-there, stops-later, unmade-result}
 use Rattle.candidate_eval.proofs.eval.binders.enter_binder.Goals as goal
 
-pub open_binder-requires-clause-under : goal.open_binder-requires-clause-under
-open_binder-requires-clause-under g c =
+pub replace_bound_vars-requires-clause-under : goal.replace_bound_vars-requires-clause-under
+replace_bound_vars-requires-clause-under g c =
     let old = g.E.Build.context c.args.ecx.now in
     let mid = g.E.Build.context c.placeholder_args_for_binder.new.ecx in
     let n = g.N.Numbered.number_of c.args.binder.value in
@@ -23,7 +23,7 @@ returns-clause-tree g c =
     let n = g.N.Numbered.number_of c.args.binder.value in
     let low = below_kind old.trees n (g.N.Numbered.kind c.args.binder.value) (g.met.N.Numbered.is_there c.args.binder.value) c.requires.under in
     let same = (number-kept old.trees mid.trees n c.in_ok-values.ensures.kept.grows.kept low).1 in
-    IfOk-weaker c.open_binder.result _ _ (λ x e. opened-kept old.trees mid.trees n _ _ (tree_at (g.E.Build.context c.open_binder.new.make).trees (g.N.Numbered.number_of x)) c.in_ok-values.ensures.trees same e) c.open_binder.ensures.tree
+    IfOk-weaker c.replace_bound_vars.result _ _ (λ x e. opened-kept old.trees mid.trees n _ _ (tree_at (g.E.Build.context c.replace_bound_vars.new.make).trees (g.N.Numbered.number_of x)) c.in_ok-values.ensures.trees same e) c.replace_bound_vars.ensures.tree
 
 pub returns-clause-list : goal.returns-clause-list
 returns-clause-list g c = λ list.
@@ -32,16 +32,16 @@ returns-clause-list g c = λ list.
     let n = g.N.Numbered.number_of c.args.binder.value in
     let low = below_kind old.trees n (g.N.Numbered.kind c.args.binder.value) (g.met.N.Numbered.is_there c.args.binder.value) c.requires.under in
     let same = (number-kept old.trees mid.trees n c.in_ok-values.ensures.kept.grows.kept low).1 in
-    IfOk-weaker c.open_binder.result _ _ (λ x e. opened-list-kept old.trees mid.trees n _ _ (tree_at (g.E.Build.context c.open_binder.new.make).trees (g.N.Numbered.number_of x)).children c.in_ok-values.ensures.trees same e) (c.open_binder.ensures.list list)
+    IfOk-weaker c.replace_bound_vars.result _ _ (λ x e. opened-list-kept old.trees mid.trees n _ _ (tree_at (g.E.Build.context c.replace_bound_vars.new.make).trees (g.N.Numbered.number_of x)).children c.in_ok-values.ensures.trees same e) (c.replace_bound_vars.ensures.list list)
 
 pub returns-clause-kept : goal.returns-clause-kept
 returns-clause-kept g c =
-    then c.placeholder_args_for_binder.ensures.kept (made (g.met.E.EvalCtxt.by_rest c.placeholder_args_for_binder.new.ecx c.open_binder.new.make c.open_binder.ensures.rest) c.open_binder.ensures.grows)
+    then c.placeholder_args_for_binder.ensures.kept (made (g.met.E.EvalCtxt.by_rest c.placeholder_args_for_binder.new.ecx c.replace_bound_vars.new.make c.replace_bound_vars.ensures.rest) c.replace_bound_vars.ensures.grows)
 
 pub returns-clause-state : goal.returns-clause-state
 returns-clause-state g c =
-    let same = (g.met.E.EvalCtxt.by_rest c.placeholder_args_for_binder.new.ecx c.open_binder.new.make c.open_binder.ensures.rest).1 in
-    on-ok c.open_binder.result (same ∙ c.in_ok-values.ensures.state)
+    let same = (g.met.E.EvalCtxt.by_rest c.placeholder_args_for_binder.new.ecx c.replace_bound_vars.new.make c.replace_bound_vars.ensures.rest).1 in
+    on-ok c.replace_bound_vars.result (same ∙ c.in_ok-values.ensures.state)
 
 pub returns-clause-cause : goal.returns-clause-cause
 returns-clause-cause g c =
@@ -51,9 +51,9 @@ returns-clause-cause g c =
     let n = g.N.Numbered.number_of c.args.binder.value in
     let low = below_kind old.trees n (g.N.Numbered.kind c.args.binder.value) (g.met.N.Numbered.is_there c.args.binder.value) c.requires.under in
     let same = (number-kept old.trees mid.trees n c.in_ok-values.ensures.kept.grows.kept low).1 in
-    let there = made (g.met.E.EvalCtxt.by_rest c.placeholder_args_for_binder.new.ecx c.open_binder.new.make c.open_binder.ensures.rest) c.open_binder.ensures.grows in
-    unmade-result E.fixed g.E.Build.context E.state E.stops _ c.open_binder.result c.args.ecx.now c.open_binder.new.make _ _ (reaches (then c.placeholder_args_for_binder.ensures.kept there)) refl
-    (opened-row-kept old.trees mid.trees n _ _ c.in_ok-values.ensures.trees same) c.open_binder.ensures.cause
+    let there = made (g.met.E.EvalCtxt.by_rest c.placeholder_args_for_binder.new.ecx c.replace_bound_vars.new.make c.replace_bound_vars.ensures.rest) c.replace_bound_vars.ensures.grows in
+    unmade-result E.fixed g.E.Build.context E.state E.stops _ c.replace_bound_vars.result c.args.ecx.now c.replace_bound_vars.new.make _ _ (reaches (then c.placeholder_args_for_binder.ensures.kept there)) refl
+    (opened-row-kept old.trees mid.trees n _ _ c.in_ok-values.ensures.trees same) c.replace_bound_vars.ensures.cause
 
 pub returns-in_err-values-clause-cause : goal.returns-in_err-values-clause-cause
 returns-in_err-values-clause-cause g c =

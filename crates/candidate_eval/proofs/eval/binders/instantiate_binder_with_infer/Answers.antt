@@ -1,71 +1,61 @@
+use Rattle.std.proofs.Common.{◌∙◌, refl, sym}
+use Rattle.std.proofs.lemmas.Result.{IfOk-weaker, err_from_is_err_and}
+use Rattle.candidate_ir.specs.Nodes.{tree_at}
+use Rattle.candidate_ir.proofs.Kept.{number-kept}
+use Rattle.candidate_ir.proofs.Lists.{below_kind}
+use Rattle.candidate_eval.proofs.Declared.{opened-kept, opened-list-kept, opened-row-kept}
 use Rattle.candidate_eval.proofs.Probing.{made, on-ok, then}
-use Rattle.candidate_eval.proofs.StopKinds.{subst_stop}
-use Rattle.std.proofs.Common.{◌≡◌, ◌∙◌, ap, subst}
-use Rattle.candidate_ir.specs.Context.{Context}
-use Rattle.candidate_eval.specs.Characterization.{bound_kinds}
-use Rattle.std.proofs.lemmas.Result.{IfOk-weaker}
-use Rattle.candidate_ir.specs.Opening.{opened_clause}
-use Rattle.candidate_ir.specs.Trees.{Forest}
-use Rattle.candidate_ir.specs.Words.{clause_tree}
-use Rattle.candidate_ir.proofs.Joining.{clause-kept}
-use Rattle.candidate_eval.specs.Evaluators.{kinds_listed}
-use Rattle.candidate_eval.specs.States.{fresh_variables, with_fresh_variables}
-use Rattle.candidate_eval.proofs.Objects.{kinds-read}
-use Rattle.candidate_eval.proofs.Accounts.{accounted-here, an-instance, reaches, unmade-result}
-use Rattle.candidate_eval.specs.Accounts.StopsBy.{accounted, no_memory}
-use Rattle.std.proofs.lemmas.Result.{err_from_is_err_and}
-use Rattle.candidate_ir.specs.Substitutions.{alone}
+use Rattle.candidate_eval.proofs.Accounts.{reaches, stays-there, stops-later, unmade-result}
 use Rattle.candidate_eval.proofs.eval.binders.instantiate_binder_with_infer.Goals as goal
 
-pub open_clause-requires-clause-clause : goal.open_clause-requires-clause-clause
-open_clause-requires-clause-clause g c =
-    (clause-kept (g.E.Build.context c.args.ecx.now) (g.E.Build.context c.fresh_args_for_item.new.self) c.args.clause c.fresh_args_for_item.ensures.kept.grows c.requires).0
+pub replace_bound_vars-requires-clause-under : goal.replace_bound_vars-requires-clause-under
+replace_bound_vars-requires-clause-under g c =
+    let old = g.E.Build.context c.args.ecx.now in
+    let mid = g.E.Build.context c.fresh_args_for_binder.new.ecx in
+    let n = g.N.Numbered.number_of c.args.binder.value in
+    let low = below_kind old.trees n (g.N.Numbered.kind c.args.binder.value) (g.met.N.Numbered.is_there c.args.binder.value) c.requires.under in
+    (number-kept old.trees mid.trees n c.in_ok-values.ensures.kept.grows.kept low).0 ∙ c.requires.under
 
 pub returns-clause-tree : goal.returns-clause-tree
 returns-clause-tree g c =
     let old = g.E.Build.context c.args.ecx.now in
-    let mid = g.E.Build.context c.fresh_args_for_item.new.self in
-    let S = g.E.EvalCtxt.state c.args.ecx.now in
-    let bound = kinds-read c.in_ok-kinds.kinds.items (clause_tree c.cx.result.now.trees c.args.clause) c.in_ok-kinds.ensures in
-    let read = subst (λ (x : Context). kinds_listed c.in_ok-kinds.kinds.items ≡ bound_kinds (clause_tree x.trees c.args.clause).children) c.cx.ensures bound in
-    let kinds = ap kinds_listed c.as_slice.ensures.value ∙ read in
-    let values = c.in_ok-values.ensures.trees ∙ ap (fresh_variables S) kinds in
-    let same = (clause-kept old mid c.args.clause c.fresh_args_for_item.ensures.kept.grows c.requires).1 in
-    IfOk-weaker c.open_clause.result _ _ (λ x e. e ∙ (ap (λ (f : Forest). opened_clause f (clause_tree mid.trees c.args.clause)) values ∙ ap (opened_clause (fresh_variables S _)) same)) c.open_clause.ensures.tree
+    let mid = g.E.Build.context c.fresh_args_for_binder.new.ecx in
+    let n = g.N.Numbered.number_of c.args.binder.value in
+    let low = below_kind old.trees n (g.N.Numbered.kind c.args.binder.value) (g.met.N.Numbered.is_there c.args.binder.value) c.requires.under in
+    let same = (number-kept old.trees mid.trees n c.in_ok-values.ensures.kept.grows.kept low).1 in
+    IfOk-weaker c.replace_bound_vars.result _ _ (λ x e. opened-kept old.trees mid.trees n _ _ (tree_at (g.E.Build.context c.replace_bound_vars.new.make).trees (g.N.Numbered.number_of x)) c.in_ok-values.ensures.trees same e) c.replace_bound_vars.ensures.tree
+
+pub returns-clause-list : goal.returns-clause-list
+returns-clause-list g c = λ list.
+    let old = g.E.Build.context c.args.ecx.now in
+    let mid = g.E.Build.context c.fresh_args_for_binder.new.ecx in
+    let n = g.N.Numbered.number_of c.args.binder.value in
+    let low = below_kind old.trees n (g.N.Numbered.kind c.args.binder.value) (g.met.N.Numbered.is_there c.args.binder.value) c.requires.under in
+    let same = (number-kept old.trees mid.trees n c.in_ok-values.ensures.kept.grows.kept low).1 in
+    IfOk-weaker c.replace_bound_vars.result _ _ (λ x e. opened-list-kept old.trees mid.trees n _ _ (tree_at (g.E.Build.context c.replace_bound_vars.new.make).trees (g.N.Numbered.number_of x)).children c.in_ok-values.ensures.trees same e) (c.replace_bound_vars.ensures.list list)
 
 pub returns-clause-kept : goal.returns-clause-kept
 returns-clause-kept g c =
-    then c.fresh_args_for_item.ensures.kept (made (g.met.E.EvalCtxt.by_rest c.fresh_args_for_item.new.self c.open_clause.new.make c.open_clause.ensures.rest) c.open_clause.ensures.grows)
+    then c.fresh_args_for_binder.ensures.kept (made (g.met.E.EvalCtxt.by_rest c.fresh_args_for_binder.new.ecx c.replace_bound_vars.new.make c.replace_bound_vars.ensures.rest) c.replace_bound_vars.ensures.grows)
 
 pub returns-clause-state : goal.returns-clause-state
 returns-clause-state g c =
-    let S = g.E.EvalCtxt.state c.args.ecx.now in
-    let bound = kinds-read c.in_ok-kinds.kinds.items (clause_tree c.cx.result.now.trees c.args.clause) c.in_ok-kinds.ensures in
-    let read = subst (λ (x : Context). kinds_listed c.in_ok-kinds.kinds.items ≡ bound_kinds (clause_tree x.trees c.args.clause).children) c.cx.ensures bound in
-    let same = (g.met.E.EvalCtxt.by_rest c.fresh_args_for_item.new.self c.open_clause.new.make c.open_clause.ensures.rest).1 in
-    on-ok c.open_clause.result (same ∙ (c.in_ok-values.ensures.made ∙ ap (with_fresh_variables S) (ap kinds_listed c.as_slice.ensures.value ∙ read)))
+    let same = (g.met.E.EvalCtxt.by_rest c.fresh_args_for_binder.new.ecx c.replace_bound_vars.new.make c.replace_bound_vars.ensures.rest).1 in
+    on-ok c.replace_bound_vars.result (same ∙ c.in_ok-values.ensures.state)
 
 pub returns-clause-cause : goal.returns-clause-cause
 returns-clause-cause g c =
+    let E = g.E.EvalCtxt in
     let old = g.E.Build.context c.args.ecx.now in
-    let mid = g.E.Build.context c.fresh_args_for_item.new.self in
-    let S = g.E.EvalCtxt.state c.args.ecx.now in
-    let bound = kinds-read c.in_ok-kinds.kinds.items (clause_tree c.cx.result.now.trees c.args.clause) c.in_ok-kinds.ensures in
-    let read = subst (λ (x : Context). kinds_listed c.in_ok-kinds.kinds.items ≡ bound_kinds (clause_tree x.trees c.args.clause).children) c.cx.ensures bound in
-    let kinds = ap kinds_listed c.as_slice.ensures.value ∙ read in
-    let values = c.in_ok-values.ensures.trees ∙ ap (fresh_variables S) kinds in
-    let same = (clause-kept old mid c.args.clause c.fresh_args_for_item.ensures.kept.grows c.requires).1 in
-    let there = made (g.met.E.EvalCtxt.by_rest c.fresh_args_for_item.new.self c.open_clause.new.make c.open_clause.ensures.rest) c.open_clause.ensures.grows in
-    unmade-result g.E.EvalCtxt.fixed g.E.Build.context g.E.EvalCtxt.state g.E.EvalCtxt.stops _ c.open_clause.result c.args.ecx.now c.open_clause.new.make _ _ (reaches (then c.fresh_args_for_item.ensures.kept there)) (an-instance (clause_tree old.trees c.args.clause) S)
-    (ap (λ (f : Forest). alone (opened_clause f (clause_tree mid.trees c.args.clause))) values ∙ ap (λ t. alone (opened_clause (fresh_variables S (bound_kinds (clause_tree old.trees c.args.clause).children)) t)) same)
-    c.open_clause.ensures.cause
-
-pub returns-in_err-kinds-clause-cause : goal.returns-in_err-kinds-clause-cause
-returns-in_err-kinds-clause-cause g c =
-    let p = err_from_is_err_and c.from_residual.result c.from_residual.ensures.1 in
-    rw (p.1, p.2) no_memory
+    let mid = g.E.Build.context c.fresh_args_for_binder.new.ecx in
+    let n = g.N.Numbered.number_of c.args.binder.value in
+    let low = below_kind old.trees n (g.N.Numbered.kind c.args.binder.value) (g.met.N.Numbered.is_there c.args.binder.value) c.requires.under in
+    let same = (number-kept old.trees mid.trees n c.in_ok-values.ensures.kept.grows.kept low).1 in
+    let there = made (g.met.E.EvalCtxt.by_rest c.fresh_args_for_binder.new.ecx c.replace_bound_vars.new.make c.replace_bound_vars.ensures.rest) c.replace_bound_vars.ensures.grows in
+    unmade-result E.fixed g.E.Build.context E.state E.stops _ c.replace_bound_vars.result c.args.ecx.now c.replace_bound_vars.new.make _ _ (reaches (then c.fresh_args_for_binder.ensures.kept there)) refl
+    (opened-row-kept old.trees mid.trees n _ _ c.in_ok-values.ensures.trees same) c.replace_bound_vars.ensures.cause
 
 pub returns-in_err-values-clause-cause : goal.returns-in_err-values-clause-cause
 returns-in_err-values-clause-cause g c =
-    let p = err_from_is_err_and c.from_residual-in_err-values.result c.from_residual-in_err-values.ensures.1 in
-    rw (p.1, p.2) (accounted (accounted-here _ (reaches c.fresh_args_for_item.ensures.kept) c.in_err-values.ensures.cause))
+    let p = err_from_is_err_and c.from_residual.result c.from_residual.ensures.1 in
+    rw (p.1, p.2) (stops-later (stays-there c.args.ecx.now) (λ ts x. absurd x) c.in_err-values.ensures.cause)

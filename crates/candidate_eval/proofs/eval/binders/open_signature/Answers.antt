@@ -22,23 +22,23 @@ returns-in_err-output-clause-cause g c =
     let p = err_from_is_err_and c.from_residual-in_err-output.result c.from_residual-in_err-output.ensures.1 in
     rw (p.1, p.2) (subst_making _ _ _ c.in_err-output.ensures.cause)
 
-pub open_binder-requires-2-clause-under : goal.open_binder-requires-2-clause-under
-open_binder-requires-2-clause-under g c =
-    (ty-kept (g.M.Build.context c.args.make.now) (g.M.Build.context c.open_binder.new.make) c.args.under.output c.in_ok-inputs.ensures.grows c.requires.output).0
+pub replace_bound_vars-requires-2-clause-under : goal.replace_bound_vars-requires-2-clause-under
+replace_bound_vars-requires-2-clause-under g c =
+    (ty-kept (g.M.Build.context c.args.make.now) (g.M.Build.context c.replace_bound_vars.new.make) c.args.under.output c.in_ok-inputs.ensures.grows c.requires.output).0
 
-pub open_binder-requires-2-clause-values : goal.open_binder-requires-2-clause-values
-open_binder-requires-2-clause-values g c =
-    (args-kept (g.M.Build.context c.args.make.now) (g.M.Build.context c.open_binder.new.make) c.args.values c.in_ok-inputs.ensures.grows c.requires.values).0
+pub replace_bound_vars-requires-2-clause-values : goal.replace_bound_vars-requires-2-clause-values
+replace_bound_vars-requires-2-clause-values g c =
+    (args-kept (g.M.Build.context c.args.make.now) (g.M.Build.context c.replace_bound_vars.new.make) c.args.values c.in_ok-inputs.ensures.grows c.requires.values).0
 
 pub returns-clause-inputs : goal.returns-clause-inputs
 returns-clause-inputs g c =
-    let kept = args-kept (g.M.Build.context c.open_binder.new.make) (g.M.Build.context c.open_binder-2.new.make) c.in_ok-inputs.inputs c.in_ok-output.ensures.grows c.in_ok-inputs.ensures.sort in
+    let kept = args-kept (g.M.Build.context c.replace_bound_vars.new.make) (g.M.Build.context c.replace_bound_vars-2.new.make) c.in_ok-inputs.inputs c.in_ok-output.ensures.grows c.in_ok-inputs.ensures.sort in
     (kept.0, kept.1 ∙ c.in_ok-inputs.ensures.list refl)
 
 pub returns-clause-output : goal.returns-clause-output
 returns-clause-output g c =
     let old = g.M.Build.context c.args.make.now in
-    let mid = g.M.Build.context c.open_binder.new.make in
+    let mid = g.M.Build.context c.replace_bound_vars.new.make in
     let values = (args-kept old mid c.args.values c.in_ok-inputs.ensures.grows c.requires.values).1 in
     let output = (ty-kept old mid c.args.under.output c.in_ok-inputs.ensures.grows c.requires.output).1 in
-    (c.in_ok-output.ensures.sort, opened-kept old.trees mid.trees c.args.under.output.0 _ _ (ty_tree (g.M.Build.context c.open_binder-2.new.make).trees c.in_ok-output.output) values output c.in_ok-output.ensures.tree)
+    (c.in_ok-output.ensures.sort, opened-kept old.trees mid.trees c.args.under.output.0 _ _ (ty_tree (g.M.Build.context c.replace_bound_vars-2.new.make).trees c.in_ok-output.output) values output c.in_ok-output.ensures.tree)

@@ -8,7 +8,7 @@ use Rattle.candidate_ir.proofs.Lists.{below_kind}
 use Rattle.candidate_ir.proofs.FoldLaws.{reached-keeps}
 use Rattle.candidate_ir.proofs.FoldStops.{number-keeps-rest, head-cause}
 use Rattle.candidate_ir.proofs.Opening.{made-members, made-tree, opened-only}
-use Rattle.candidate_ir.proofs.decl.open.open_binder.Goals as goal
+use Rattle.candidate_ir.proofs.decl.open.replace_bound_vars.Goals as goal
 
 pub fold_number-requires-clause-inside : goal.fold_number-requires-clause-inside
 fold_number-requires-clause-inside g c = rw c.number.ensures (below_kind _ _ (g.N.Numbered.kind c.args.under) (g.met.N.Numbered.is_there c.args.under) c.requires.under)
