@@ -166,11 +166,15 @@ height_end ts d i high e n =
     let t : tallest (trees_at ts (drop i (numbers (children_of d)))) ≡ 0 = ap tallest n in
     omega (arith, rows-height (trees_at ts (numbers (children_of d))), e, t)
 
--- what is marked in a list stands among its members
-pub list-holds : (ts : List Tree) (n : ℕ) (f : Flag) (k : Kind) → there k ≡ true → is_list_kind k ≡ true → kind_at ts n ≡ k
-    → tree_holds (mark f) (tree_at ts n) ≡ holds (mark f) (tree_at ts n).children
-list-holds ts n f k h i e =
+-- what is marked in a list, where no list is, stands among its members
+pub list-marked : (ts : List Tree) (n : ℕ) (m : Head → Bool) → ((l : ListHead) → m (H.List l) ≡ false) → (k : Kind) → there k ≡ true → is_list_kind k ≡ true → kind_at ts n ≡ k
+    → tree_holds m (tree_at ts n) ≡ holds m (tree_at ts n).children
+list-marked ts n m none k h i e =
     let t = tree_at ts n in
     let k : is_list t.head ≡ true = ap is_list_kind (sym (kind_of-tree_at ts n (below_kind ts n k h e)) ∙ e) ∙ i in
     let l = list-head t.head k in
-    or-false (mark f t.head) (holds (mark f) t.children) (ap (mark f) l.1 ∙ mark_of_list f l.0)
+    or-false (m t.head) (holds m t.children) (ap m l.1 ∙ none l.0)
+
+pub list-holds : (ts : List Tree) (n : ℕ) (f : Flag) (k : Kind) → there k ≡ true → is_list_kind k ≡ true → kind_at ts n ≡ k
+    → tree_holds (mark f) (tree_at ts n) ≡ holds (mark f) (tree_at ts n).children
+list-holds ts n f k h i e = list-marked ts n (mark f) (mark_of_list f) k h i e

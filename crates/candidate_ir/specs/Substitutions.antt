@@ -9,6 +9,7 @@ use Rattle.candidate_ir.specs.declared.ir.heads.Head.{Head}
 use Rattle.candidate_ir.specs.declared.ir.heads.Head.TheVariants as H
 use Rattle.candidate_ir.specs.declared.ir.heads.Builtin.TheVariants as B
 use Rattle.candidate_ir.specs.declared.ir.heads.ConstHead.TheVariants as C
+use Rattle.candidate_ir.specs.declared.ir.kinds.RegionKind.TheVariants as R
 use Rattle.candidate_ir.specs.declared.ir.heads.VariableSort.TheVariants as V
 
 -- A variable, and the tree that stands for it.
@@ -76,6 +77,15 @@ abbrev pub is_placeholder_above : ℕ → Head → Bool
 is_placeholder_above u (H.Placeholder v) = nat_lt u v.universe
 is_placeholder_above u (H.Const (C.Placeholder v)) = nat_lt u v.universe
 is_placeholder_above u _ = false
+
+-- what an evaluator makes: a variable, of types, constants or regions, or a placeholder of a universe above the root
+abbrev pub is_made : Head → Bool
+is_made (H.Infer v) = true
+is_made (H.Region (R.Var n)) = true
+is_made (H.Placeholder p) = nat_lt 0 p.universe
+is_made (H.Const (C.Placeholder p)) = nat_lt 0 p.universe
+is_made (H.Region (R.Placeholder p)) = nat_lt 0 p.universe
+is_made _ = false
 
 abbrev pub alone : Tree → Forest
 alone t = tree t.head t.children none

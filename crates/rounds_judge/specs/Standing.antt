@@ -14,14 +14,7 @@ use Rattle.candidate_eval.specs.Lawful.{HasNoAlias, HasLeafValues}
 use Rattle.rounds_judge.specs.Listed.{Listing}
 use Rattle.rounds_judge.specs.Equating.{Pair}
 
--- a variable, of types, constants or regions, or a placeholder of a universe above the root
-abbrev pub is_made : Head → Bool
-is_made (H.Infer v) = true
-is_made (H.Region (R.Var n)) = true
-is_made (H.Placeholder p) = nat_lt 0 p.universe
-is_made (H.Const (C.Placeholder p)) = nat_lt 0 p.universe
-is_made (H.Region (R.Placeholder p)) = nat_lt 0 p.universe
-is_made _ = false
+pub use Rattle.candidate_ir.specs.Substitutions.{is_made}
 
 -- A tree that means the same at every state: no bound variable escapes from it, it has no variable and no parameter, and its placeholders are of the root.
 pub record IsFixed (t : Tree) : Type 0 where

@@ -2,7 +2,7 @@
 
 ghost use Rattle.std.specs.Prelude.{◌≡◌, ◌≤◌, ◌↔◌, IsTrue};
 ghost use Rattle.candidate_ir.specs.Flags.{mark};
-ghost use Rattle.candidate_ir.specs.Substitutions.{is_placeholder_above};
+ghost use Rattle.candidate_ir.specs.Substitutions.{is_made, is_placeholder_above};
 ghost use Rattle.candidate_ir.specs.Trees.{binders_of, is_number, variable_number};
 ghost use Rattle.candidate_ir.specs.Binders.{is_beyond};
 ghost use Rattle.candidate_ir.specs.Names.{named, names_unknown};
@@ -224,6 +224,19 @@ impl Head {
         match self {
             Head::Placeholder(placeholder) => placeholder.universe > universe,
             Head::Const(ConstHead::Placeholder(placeholder)) => placeholder.universe > universe,
+            _ => false,
+        }
+    }
+
+    /// Whether an evaluator makes it: a variable of any kind, or a placeholder of a universe above the root's.
+    pub(crate) fn is_made(self) -> bool
+        ensures { result ≡ is_made self }
+    {
+        match self {
+            Head::Infer(_) | Head::Region(RegionKind::Var(_)) => true,
+            Head::Placeholder(placeholder)
+            | Head::Const(ConstHead::Placeholder(placeholder))
+            | Head::Region(RegionKind::Placeholder(placeholder)) => placeholder.universe > 0,
             _ => false,
         }
     }

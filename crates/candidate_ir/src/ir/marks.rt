@@ -2,8 +2,9 @@
 
 ghost use Rattle.std.specs.Prelude.{◌≡◌, Bool, false, length, ◌<◌, refl};
 ghost use Rattle.candidate_ir.specs.Flags.{mark, mark_of_list};
+ghost use Rattle.candidate_ir.specs.Owned.{is_unsolved};
 ghost use Rattle.candidate_ir.specs.Nodes.{tree_at, head_of};
-ghost use Rattle.candidate_ir.specs.Substitutions.{is_placeholder_above};
+ghost use Rattle.candidate_ir.specs.Substitutions.{is_made, is_placeholder_above};
 ghost use Rattle.candidate_ir.specs.Trees.{is_number, tree_holds};
 ghost use Rattle.candidate_ir.specs.declared.ir.heads.Head.{Head as Heads};
 ghost use Rattle.candidate_ir.specs.declared.ir.heads.Head.TheVariants as H;
@@ -59,6 +60,37 @@ impl Mark for PlaceholderAbove {
 
     fn is_on(&self, node: &Node) -> bool {
         node.head().is_placeholder_above(self.0)
+    }
+
+    ghost no_list = { λ _ _. refl };
+}
+
+/// The mark of what an evaluator makes: a variable of any kind, or a placeholder of a universe above the root's.
+#[derive(Drop)]
+pub struct Made;
+
+impl Mark for Made {
+    ghost marks = { λ m. is_made };
+
+    fn is_on(&self, node: &Node) -> bool {
+        node.head().is_made()
+    }
+
+    ghost no_list = { λ _ _. refl };
+}
+
+/// The mark of a variable to be solved, of any kind.
+#[derive(Drop)]
+pub struct Unsolved;
+
+impl Mark for Unsolved {
+    ghost marks = { λ m. is_unsolved };
+
+    fn is_on(&self, node: &Node) -> bool {
+        match node.head().variable_number() {
+            Some(_) => true,
+            None => false,
+        }
     }
 
     ghost no_list = { λ _ _. refl };

@@ -22,7 +22,7 @@ use crate::ir::kinds::{
     GenericArg, ParamEnv, Pred, Preds, Region, RegionKind, Sig, TraitId, TraitRef, Ty, TyKind, Var,
     VarKind, Vars,
 };
-use crate::ir::marks::{PlaceholderAbove, VariableNumber, number_holds};
+use crate::ir::marks::{Mark, PlaceholderAbove, VariableNumber, number_holds};
 use crate::ir::node::Node;
 use crate::ir::numbered::Numbered;
 use crate::ir::unify::{RightSide, numbers_may_unify};
@@ -285,6 +285,15 @@ pub trait Trees {
         ensures list { is_list_kind (N.kind of) ≡ true → result ≡ holds (mark flag) (tree_at (trees self.now) (N.number_of of)).children }
     {
         number_holds(self, of.number(), &flag)
+    }
+
+    /// Whether a head that the mark is on stands anywhere in it.
+    final fn has_marked<N: Numbered, M: Mark>(&self, of: N, mark: &M) -> bool
+        requires { kind_at (trees self.now) (N.number_of of) ≡ N.kind of }
+        ensures is { result ≡ tree_holds (M.marks mark.now) (tree_at (trees self.now) (N.number_of of)) }
+        ensures list { is_list_kind (N.kind of) ≡ true → result ≡ holds (M.marks mark.now) (tree_at (trees self.now) (N.number_of of)).children }
+    {
+        number_holds(self, of.number(), mark)
     }
 
     /// Whether a parameter stands anywhere in the reference.

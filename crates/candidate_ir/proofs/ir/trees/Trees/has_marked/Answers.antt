@@ -1,0 +1,15 @@
+use Rattle.std.proofs.Common.{subst, ◌≡◌, ◌∙◌, ℕ}
+use Rattle.candidate_ir.specs.Nodes.{tree_at}
+use Rattle.candidate_ir.specs.Trees.{tree_holds}
+use Rattle.candidate_ir.proofs.Children.{list-marked}
+use Rattle.candidate_ir.proofs.Lists.{below_kind}
+use Rattle.candidate_ir.proofs.ir.trees.Trees.has_marked.Goals as goal
+
+pub number_holds-requires : goal.number_holds-requires
+number_holds-requires g c = rw c.number.ensures (below_kind _ _ (g.N.Numbered.kind c.args.of) (g.met.N.Numbered.is_there c.args.of) c.requires)
+
+pub returns-clause-list : goal.returns-clause-list
+returns-clause-list g c = λ list.
+    let ts = g.Self.Trees.trees c.args.self.now in
+    subst (λ (n : ℕ). c.number_holds.result ≡ tree_holds (g.M.Mark.marks c.args.mark.now) (tree_at ts n)) c.number.ensures c.number_holds.ensures
+    ∙ list-marked ts (g.N.Numbered.number_of c.args.of) (g.M.Mark.marks c.args.mark.now) (g.met.M.Mark.no_list c.args.mark.now) (g.N.Numbered.kind c.args.of) (g.met.N.Numbered.is_there c.args.of) list c.requires
