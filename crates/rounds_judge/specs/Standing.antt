@@ -13,7 +13,6 @@ use Rattle.candidate_eval.specs.Soundness.{Live, IsSound, IsResolved, ValuesFit,
 use Rattle.candidate_eval.specs.Lawful.{HasNoAlias, HasLeafValues}
 use Rattle.rounds_judge.specs.Listed.{Listing}
 use Rattle.rounds_judge.specs.Equating.{Pair}
-
 pub use Rattle.candidate_ir.specs.Substitutions.{is_made}
 
 -- A tree that means the same at every state: no bound variable escapes from it, it has no variable and no parameter, and its placeholders are of the root.

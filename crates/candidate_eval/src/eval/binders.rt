@@ -15,7 +15,7 @@ ghost use Rattle.candidate_eval.specs.States.{fresh_variables, resolved, with_fr
 
 use crate::eval::context::EvalCtxt;
 use candidate_ir::decl::make::Make;
-use candidate_ir::decl::open::{binder_kinds, replace_bound_vars, open_clause, variable_kinds};
+use candidate_ir::decl::open::{binder_kinds, open_clause, replace_bound_vars, variable_kinds};
 use candidate_ir::ir::kinds::{Args, Binder, Clause, FnSig, ParamEnv, Vars};
 use candidate_ir::ir::numbered::Numbered;
 use candidate_ir::ir::stop::Stop;
