@@ -24,8 +24,8 @@ use Rattle.candidate_rounds.specs.declared.rounds.inference.Change.{Change}
 use Rattle.candidate_rounds.specs.declared.rounds.inference.Change.TheVariants as C
 use Rattle.candidate_rounds.specs.declared.rounds.inference.Entry.{Entry}
 use Rattle.candidate_rounds.specs.Inferences.{Inference, shorter, with_entry, with_value, with_universe, before, undone, back_to}
-use Rattle.candidate_rounds.specs.Known.{info_of, state_of, states_at, Each, IsValue, IsEntry, IsChange, IsKnown, AreMarks, AreTypes, IsGiven, SuitsKind, EachAt, IsWithin, is_open}
-use Rattle.rounds_judge.specs.Standing.{IsFixed, IsListing}
+use Rattle.candidate_rounds.specs.Known.{info_of, state_of, states_at, Each, IsValue, IsEntry, IsChange, IsKnown, AreMarks, AreTypes, IsGiven, SuitsKind, EachAt, IsWithin, is_open, MayBeHidden}
+use Rattle.rounds_judge.specs.Standing.{IsListing}
 use Rattle.candidate_rounds.proofs.Undoing.{IsUndone}
 
 -- Probes stay where they were, whatever is changed.
@@ -229,7 +229,7 @@ given-grown ts us ps xs x g = record {
   types = each-imply (AreTypes ts) (AreTypes us) ps (λ p i. (kind-stays ts us p.0.0 _ x refl i.0, kind-stays ts us p.1.0 _ x refl i.1)) g.types;
   listing = subst IsListing (sym (each-map (AreTypes ts) (pair us) (pair ts) ps pair-stays g.types)) g.listing;
   opaques_fit = each-imply (λ a. KindFits ts (K.Alias a)) (λ a. KindFits us (K.Alias a)) xs (λ a i. subst (λ zs. KindFits zs (K.Alias a)) (sym x.is) (Fits-append ts x.added (N.Ty (K.Alias a)) i)) g.opaques_fit;
-  opaques_fixed = subst (Each IsFixed) (sym (each-map (λ a. KindFits ts (K.Alias a)) (λ a. kind_tree us (K.Alias a)) (λ a. kind_tree ts (K.Alias a)) xs (λ a i. alias-stays ts us a x i) g.opaques_fit)) g.opaques_fixed;
+  opaques_hidden = subst (Each MayBeHidden) (sym (each-map (λ a. KindFits ts (K.Alias a)) (λ a. kind_tree us (K.Alias a)) (λ a. kind_tree ts (K.Alias a)) xs (λ a i. alias-stays ts us a x i) g.opaques_fit)) g.opaques_hidden;
 }
   where
     pair : List Tree → Ty × Ty → Tree × Tree

@@ -35,3 +35,5 @@ pub mod Interface
 pub mod ResponseStops
 pub mod SettlingStops
 pub mod Accounting
+pub mod Given
+pub mod Following

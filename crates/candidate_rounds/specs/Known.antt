@@ -6,7 +6,10 @@ use Rattle.candidate_ir.specs.declared.ir.heads.Head.TheVariants as H
 use Rattle.candidate_ir.specs.declared.ir.kinds.GenericArg.{GenericArg}
 use Rattle.candidate_ir.specs.Context.{Context, Grows}
 use Rattle.candidate_ir.specs.Folds.{IsArg, arg_tree}
-use Rattle.candidate_ir.specs.Trees.{Tree, tree_holds}
+use Rattle.candidate_ir.specs.Binders.{escapes}
+use Rattle.candidate_ir.specs.Owned.{is_unsolved}
+use Rattle.candidate_ir.specs.Substitutions.{alone}
+use Rattle.candidate_ir.specs.Trees.{Tree, holds, is_param, tree_holds}
 use Rattle.candidate_ir.specs.declared.ir.kinds.AliasTy.{AliasTy}
 use Rattle.candidate_ir.specs.declared.ir.kinds.Ty.{Ty}
 use Rattle.candidate_ir.specs.declared.ir.kinds.TyKind.TheVariants as K
@@ -20,7 +23,7 @@ use Rattle.candidate_rounds.specs.declared.rounds.inference.Change.{Change}
 use Rattle.candidate_rounds.specs.declared.rounds.inference.Change.TheVariants as C
 use Rattle.candidate_rounds.specs.declared.rounds.inference.Entry.{Entry}
 use Rattle.rounds_judge.specs.Listed.{Listing}
-use Rattle.rounds_judge.specs.Standing.{AreResolved, IsFixed, IsListing}
+use Rattle.rounds_judge.specs.Standing.{AreResolved, IsListing}
 use Rattle.candidate_rounds.specs.Inferences.{Inference, IsFurther, back_to}
 
 -- The trees of numbers of a context.
@@ -112,12 +115,18 @@ listing_of ts ps = map (λ (p : Ty × Ty). (ty_tree ts p.0, ty_tree ts p.1)) ps
 abbrev pub AreTypes : List Tree → Ty × Ty → Type 0
 AreTypes ts p = IsTy ts p.0 × IsTy ts p.1
 
--- What an evaluator is given besides the context: listed pairs, and opaque types that mean the same at every state.
+-- An opaque type that may be hidden behind a variable: no bound variable escapes from it, and it has no variable and no parameter.
+pub record MayBeHidden (t : Tree) : Type 0 where
+  pub is_closed : escapes 0 (alone t) ≡ false
+  pub has_no_variable : holds is_unsolved (alone t) ≡ false
+  pub no_parameter : holds is_param (alone t) ≡ false
+
+-- What an evaluator is given besides the context: listed pairs, and opaque types that may be hidden.
 pub record IsGiven (ts : List Tree) (normal : List (Ty × Ty)) (opaques : List AliasTy) : Type 0 where
   pub types : Each (AreTypes ts) normal
   pub listing : IsListing (listing_of ts normal)
   pub opaques_fit : Each (λ a. KindFits ts (K.Alias a)) opaques
-  pub opaques_fixed : Each IsFixed (alias_trees ts opaques)
+  pub opaques_hidden : Each MayBeHidden (alias_trees ts opaques)
 
 -- Values hold no variable that has a value: now, and when each open probe began. While a variable gets its value, and the values of
 -- others with it, it may be otherwise.

@@ -9,3 +9,4 @@ pub mod Lone
 pub mod Interface
 pub mod Stopping
 pub mod StopKinds
+pub mod Following

@@ -4,6 +4,7 @@ mod binding;
 mod equating;
 pub mod evaluator;
 mod fresh;
+pub mod given;
 mod inference;
 mod normal_forms;
 mod resolving;

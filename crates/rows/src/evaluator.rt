@@ -20,11 +20,12 @@ use candidate_eval::eval::ambiguity::{bail_with_ambiguity, flounder};
 use candidate_eval::eval::certainty::Certainty;
 use candidate_eval::eval::context::{EvalCtxt, ProbeKind};
 use candidate_eval::eval::mode::TypingMode;
+use candidate_eval::eval::resolving::resolve_env_if_possible;
 use candidate_eval::eval::response::CandidateHeadUsages;
 use candidate_eval::eval::variable::VariableKind;
 use candidate_ir::decl::make::{Build, Make};
 use candidate_ir::ir::heads::{Head, VariableSort};
-use candidate_ir::ir::kinds::{Args, Clause, Const, Goal, GoalSource, Region, Ty};
+use candidate_ir::ir::kinds::{Args, Clause, Const, Goal, GoalSource, ParamEnv, Region, Ty};
 use candidate_ir::ir::numbered::Numbered;
 use candidate_ir::ir::stop::Stop;
 use candidate_ir::ir::trees::Trees;
@@ -117,7 +118,7 @@ fn respond(alloc: Global, rounds: &mut Rounds, row: Row<'_>) -> Result<Answer, R
 }
 
 /// The node with all values put in.
-fn resolve(rounds: &mut Rounds, number: u32) -> Result<Answer, Refusal>
+fn resolve(alloc: Global, rounds: &mut Rounds, number: u32) -> Result<Answer, Refusal>
     ensures { probes rounds.new ≡ probes rounds.old }
 {
     let resolved = match sort_at(rounds.cx(), number) {
@@ -126,6 +127,7 @@ fn resolve(rounds: &mut Rounds, number: u32) -> Result<Answer, Refusal>
         Some(NodeSort::Args) => EvalCtxt::resolve_args_if_possible(rounds, Args(number))?.0,
         Some(NodeSort::Clause) => EvalCtxt::resolve_clause_if_possible(rounds, Clause(number))?.0,
         Some(NodeSort::Region) => EvalCtxt::eager_resolve_region(rounds, Region(number)).0,
+        Some(NodeSort::Env) => resolve_env_if_possible(alloc, rounds, ParamEnv(number))?.0,
         _ => return Err(Refusal::Condition),
     };
     Ok(Answer::One(Item::Node(resolved)))
@@ -256,7 +258,7 @@ pub(crate) fn answer(
             let ty = ty_at(rounds.cx(), of.left)?;
             Ok(Answer::One(Item::Node(rounds.shallow_resolve(ty).0)))
         }
-        "resolve" => resolve(rounds, of.left),
+        "resolve" => resolve(alloc, rounds, of.left),
         "normalize" => normalize(rounds, of),
         "hidden" => hidden(alloc, rounds, of.left),
         "eq" | "eq_args" | "eq_goals" => equate(alloc, rounds, row, of),

@@ -7,7 +7,9 @@ use crate::rows::Row;
 use candidate_ir::decl::contents::{Destructor, Impl, ImplId, ImplPolarity};
 use candidate_ir::decl::context::Cx;
 use candidate_ir::decl::definition::{AdtFlags, AdtShape, AssocKind, TraitFlags};
-use candidate_ir::ir::kinds::{AdtId, AliasId, AssocId, Clause, ClosureId, FnId, TraitId, Ty};
+use candidate_ir::ir::kinds::{
+    AdtId, AliasId, AssocId, Clause, ClosureId, FnId, TraitId, Ty, VarKind,
+};
 use std::alloc::Global;
 
 /// What stands in a list that is answered.
@@ -45,6 +47,16 @@ impl Member for AssocId {
     }
 }
 
+impl Member for VarKind {
+    fn item(self) -> Item {
+        match self {
+            VarKind::Ty => Item::Word("type"),
+            VarKind::Const => Item::Word("constant"),
+            VarKind::Region => Item::Word("region"),
+        }
+    }
+}
+
 impl Member for u32 {
     fn item(self) -> Item {
         Item::Count(self as usize)
@@ -72,6 +84,12 @@ fn impl_list(alloc: Global, verb: &str, of: Option<&Impl>) -> Result<Answer, Ref
     }
 }
 
+/// The kinds of the impl's parameters.
+fn impl_parameters(alloc: Global, cx: &Cx, of: ImplId) -> Result<Answer, Refusal> {
+    let kinds = cx.impl_parameters(alloc, of)?;
+    listed(alloc, kinds.as_slice())
+}
+
 /// The list that something holds that was declared, if the verb asks for one.
 pub(crate) fn held(alloc: Global, cx: &Cx, verb: &str, of: u32) -> Option<Result<Answer, Refusal>> {
     match verb {
@@ -83,6 +101,7 @@ pub(crate) fn held(alloc: Global, cx: &Cx, verb: &str, of: u32) -> Option<Result
         "fields" => Some(listed(alloc, cx.fields(AdtId(of)))),
         "items" => Some(listed(alloc, cx.associated_items(TraitId(of)))),
         "unsizing" => Some(listed(alloc, cx.unsizing_parameters(AdtId(of)))),
+        "impl_parameters" => Some(impl_parameters(alloc, cx, ImplId(of))),
         "impl_wheres" | "impl_super_outlives" | "specialized" => {
             Some(impl_list(alloc, verb, cx.impl_contents(ImplId(of))))
         }

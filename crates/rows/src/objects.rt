@@ -10,8 +10,10 @@ use crate::parts::clause_fits;
 use crate::reader::Reader;
 use crate::refusals::Refusal;
 use crate::rows::Row;
-use crate::typed::{args_at, clause_at, env_at, ty_at};
-use candidate_eval::eval::binders::instantiate_clause_with_infer;
+use crate::typed::{args_at, clause_at, env_at, ty_at, vars_at};
+use candidate_eval::eval::binders::{
+    enter_binder, enter_clause, instantiate_binder_with_infer, instantiate_clause_with_infer,
+};
 use candidate_eval::structural::object::{bound_matches, matching_bounds, pick_bound};
 use candidate_eval::structural::object_candidate::predicates_for_object_candidate;
 use candidate_ir::decl::make::Make;
@@ -102,6 +104,32 @@ fn matches(
     Ok(Answer::One(Item::Truth(is_match)))
 }
 
+/// What stands under a clause's own binder, or under the binder of the second operand where that is one, with fresh variables, or
+/// with placeholders where it is entered.
+fn opened(alloc: Global, rounds: &mut Rounds, row: Row<'_>, of: Operands) -> Result<Answer, Refusal>
+    ensures { probes rounds.new ≡ probes rounds.old }
+{
+    let enters = row.verb == "enter";
+    if row.right.is_empty() {
+        let clause = clause_at(rounds.cx(), of.left)?;
+        let opened = if enters {
+            enter_clause(alloc, rounds, clause)?
+        } else {
+            instantiate_clause_with_infer(alloc, rounds, clause)?
+        };
+        return Ok(Answer::One(Item::Node(opened.0)));
+    }
+    let value = ty_at(rounds.cx(), of.left)?;
+    let vars = vars_at(rounds.cx(), of.right)?;
+    let binder = Binder { vars, value };
+    let opened = if enters {
+        enter_binder(alloc, rounds, binder)?
+    } else {
+        instantiate_binder_with_infer(alloc, rounds, binder)?
+    };
+    Ok(Answer::One(Item::Node(opened.0)))
+}
+
 /// What the row asks, if it is one of these rows.
 pub(crate) fn answer(
     reader: &Reader<'_>,
@@ -115,10 +143,8 @@ pub(crate) fn answer(
     if row.verb == "object" {
         return asked(alloc, rounds, of);
     }
-    if row.verb == "instantiate" {
-        let clause = clause_at(rounds.cx(), of.left)?;
-        let instance = instantiate_clause_with_infer(alloc, rounds, clause)?;
-        return Ok(Answer::One(Item::Node(instance.0)));
+    if row.verb == "instantiate" || row.verb == "enter" {
+        return opened(alloc, rounds, row, of);
     }
     let def_id = AssocId(reader.number(row.first));
     match row.verb {

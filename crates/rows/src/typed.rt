@@ -2,12 +2,12 @@
 
 ghost use Rattle.std.specs.Prelude.{IfOk};
 ghost use Rattle.candidate_ir.specs.Folds.{IsArg};
-ghost use Rattle.candidate_ir.specs.Words.{IsArgs, IsClause, IsParamEnv, IsTy};
+ghost use Rattle.candidate_ir.specs.Words.{IsArgs, IsClause, IsParamEnv, IsTy, IsVars};
 
 use crate::parts::{NodeSort, is_at, sort_at};
 use crate::refusals::Refusal;
 use candidate_ir::decl::context::Cx;
-use candidate_ir::ir::kinds::{Args, Clause, Const, GenericArg, ParamEnv, Region, Ty};
+use candidate_ir::ir::kinds::{Args, Clause, Const, GenericArg, ParamEnv, Region, Ty, Vars};
 
 pub(crate) fn ty_at(cx: &Cx, number: u32) -> Result<Ty, Refusal>
     ensures { IfOk result (λ x. IsTy cx.now.trees x) }
@@ -44,6 +44,17 @@ pub(crate) fn env_at(cx: &Cx, number: u32) -> Result<ParamEnv, Refusal>
 {
     if is_at(cx, number, NodeSort::Env) {
         Ok(ParamEnv(number))
+    } else {
+        Err(Refusal::Condition)
+    }
+}
+
+/// The variables of a binder.
+pub(crate) fn vars_at(cx: &Cx, number: u32) -> Result<Vars, Refusal>
+    ensures { IfOk result (λ x. IsVars cx.now.trees x) }
+{
+    if is_at(cx, number, NodeSort::Vars) {
+        Ok(Vars(number))
     } else {
         Err(Refusal::Condition)
     }

@@ -12,6 +12,7 @@ ghost use Rattle.candidate_eval.specs.Accounts as question;
 ghost use Rattle.candidate_eval.specs.Evaluators.{IsGoal, Keeps, accepted, alias_trees, begun, kinds_listed, pending_of, pendings_of, resolved_root, rigid, with_goals_of, with_rigid};
 ghost use Rattle.candidate_eval.specs.ResponseTrees.{IsResponse, response_of};
 ghost use Rattle.candidate_eval.specs.States.{Env, State, added, fresh_variables, next, resolved, resolved_tree, with_fresh_variables};
+ghost use Rattle.candidate_rounds.specs.Following.{FollowsEquation, FollowsSettling};
 ghost use Rattle.candidate_rounds.specs.Inferences.{IsFullAt, IsOutOfRoom};
 ghost use Rattle.candidate_rounds.specs.Interface.{Fixed, Rest, fixed, judge_of, rest, rest_parts, root_stays, state_seen};
 ghost use Rattle.candidate_rounds.specs.Known.{GoesOn, KeepsGiven, listing, probes, state};
@@ -275,6 +276,7 @@ impl EvalCtxt for Rounds {
         ensures goes { GoesOn self.old self.new }
         ensures kept { Keeps fixed probes (λ r. r.context) self.old self.new }
         ensures listed { OnOk result (equated (listing self.old) (state self.old) (args_forest self.old.context.trees a) (args_forest self.old.context.trees b) ≡ Some (state self.new)) }
+        ensures follows { OnOk result (FollowsEquation (state self.old) (state self.new) (args_forest self.old.context.trees a) (args_forest self.old.context.trees b)) }
         ensures ok { IfOk result (λ _. accepted (judge_of (fixed self.old)) (state self.old) (env_forest self.old.context.trees env) (args_forest self.old.context.trees a) (args_forest self.old.context.trees b) ≡ Some (state self.new)) }
         ensures refused { IfErr result (λ e. e ≡ NoSolutionOrStop.NoSolution → accepted (judge_of (fixed self.old)) (state self.old) (env_forest self.old.context.trees env) (args_forest self.old.context.trees a) (args_forest self.old.context.trees b) ≡ None) }
         ensures undone { OnErr result (self.new.inference ≡ self.old.inference) }
@@ -294,6 +296,7 @@ impl EvalCtxt for Rounds {
         ensures goes { GoesOn self.old self.new }
         ensures kept { Keeps fixed probes (λ r. r.context) self.old self.new }
         ensures listed { OnOk result (equated (listing self.old) (state self.old) (alone (arg_tree self.old.context.trees a)) (alone (arg_tree self.old.context.trees b)) ≡ Some (state self.new)) }
+        ensures follows { OnOk result (FollowsEquation (state self.old) (state self.new) (alone (arg_tree self.old.context.trees a)) (alone (arg_tree self.old.context.trees b))) }
         ensures ok { IfOk result (λ _. accepted (judge_of (fixed self.old)) (state self.old) (env_forest self.old.context.trees env) (alone (arg_tree self.old.context.trees a)) (alone (arg_tree self.old.context.trees b)) ≡ Some (state self.new)) }
         ensures refused { IfErr result (λ e. e ≡ NoSolutionOrStop.NoSolution → accepted (judge_of (fixed self.old)) (state self.old) (env_forest self.old.context.trees env) (alone (arg_tree self.old.context.trees a)) (alone (arg_tree self.old.context.trees b)) ≡ None) }
         ensures undone { OnErr result (self.new.inference ≡ self.old.inference) }
@@ -318,6 +321,7 @@ impl EvalCtxt for Rounds {
         ensures goes { GoesOn self.old self.new }
         ensures kept { Keeps fixed probes (λ r. r.context) self.old self.new }
         ensures listed { OnOk result (equated (listing self.old) (state self.old) (alone (arg_tree self.old.context.trees a)) (alone (arg_tree self.old.context.trees b)) ≡ Some (state self.new)) }
+        ensures follows { OnOk result (FollowsEquation (state self.old) (state self.new) (alone (arg_tree self.old.context.trees a)) (alone (arg_tree self.old.context.trees b))) }
         ensures sort { IfOk result (λ v. All (λ g. IsGoal self.new.context.trees g.1) v.items) }
         ensures ok { IfOk result (λ v. (judge_of (fixed self.old)).equated (state self.old) (env_forest self.old.context.trees env) (alone (arg_tree self.old.context.trees a)) (alone (arg_tree self.old.context.trees b)) ≡ Some (pendings_of self.new.context.trees v.items, state self.new)) }
         ensures refused { IfErr result (λ e. e ≡ NoSolutionOrStop.NoSolution → (judge_of (fixed self.old)).equated (state self.old) (env_forest self.old.context.trees env) (alone (arg_tree self.old.context.trees a)) (alone (arg_tree self.old.context.trees b)) ≡ None) }
@@ -367,6 +371,7 @@ impl EvalCtxt for Rounds {
         ensures goes { GoesOn self.old self.new }
         ensures kept { Keeps fixed probes (λ r. r.context) self.old self.new }
         ensures listed { IfOk result (λ c. settled (listing self.old) (state self.old) ≡ Some (c, state self.new)) }
+        ensures follows { OnOk result (FollowsSettling (state self.old) (state self.new)) }
         ensures ok { IfOk result (λ c. (judge_of (fixed self.old)).settled (state self.old) ≡ Some (c, state self.new)) }
         ensures none_listed { IfErr result (λ e. e ≡ NoSolutionOrStop.NoSolution → settled (listing self.old) (state self.old) ≡ None) }
         ensures refused { IfErr result (λ e. e ≡ NoSolutionOrStop.NoSolution → (judge_of (fixed self.old)).settled (state self.old) ≡ None) }

@@ -6,6 +6,7 @@ ghost use Rattle.candidate_ir.specs.Folds.{IsArg, arg_tree};
 ghost use Rattle.candidate_ir.specs.Nodes.{rows};
 ghost use Rattle.candidate_ir.specs.Words.{IsArgs, args_forest};
 ghost use Rattle.candidate_eval.specs.Evaluators.{begun, kinds_listed};
+ghost use Rattle.candidate_eval.specs.Soundness.{IsSound, Live, ValuesFit};
 ghost use Rattle.candidate_eval.specs.States.{variable, with_fresh_variables, with_universe};
 ghost use Rattle.candidate_eval.specs.declared.eval.context.ProbeKind.{ProbeKind};
 ghost use Rattle.candidate_rounds.specs.Inferences.{IsFullAt, IsOutOfRoom, with_variable};
@@ -25,7 +26,8 @@ use std::alloc::Global;
 
 impl Rounds {
     /// An evaluator over the context that knows nothing of variables yet. It normalises each alias of `normal` to the type that
-    /// stands beside it; the opaque types of `opaques` may be hidden behind a variable. Neither holds a variable or a parameter.
+    /// stands beside it; the opaque types of `opaques` may be hidden behind a variable. `may_be_listed` and `may_be_hidden` test
+    /// what these have to be.
     #[tactic(auto, unfolding(crate::specs::Known::IsEvaluator))]
     pub fn new(
         alloc: Global,
@@ -40,6 +42,7 @@ impl Rounds {
         ensures opaques { result.opaques ≡ opaques.items }
         ensures state { state result ≡ record { newest_universe = 0; variables = []; regions = []; pending = []; mode = mode } }
         ensures probes { probes result ≡ [] }
+        ensures sound { (L : Live) → IsSound (state result) L × ValuesFit (state result) L }
     {
         Rounds {
             cx,

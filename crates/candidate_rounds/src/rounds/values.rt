@@ -197,7 +197,7 @@ fn value_in(
 }
 
 /// Whether it is an alias: a type, or an unevaluated constant.
-fn is_alias(cx: &Cx, arg: GenericArg) -> bool
+pub(crate) fn is_alias(cx: &Cx, arg: GenericArg) -> bool
     requires { IsArg cx.now.trees arg }
     ensures { result ≡ is_alias (arg_tree cx.now.trees arg).head }
 {

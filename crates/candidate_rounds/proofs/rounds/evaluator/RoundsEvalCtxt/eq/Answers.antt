@@ -1,8 +1,10 @@
+use Rattle.std.proofs.lemmas.Result.{on_ok_weaker}
 use Rattle.candidate_ir.specs.Trees.{none}
 use Rattle.candidate_ir.specs.Substitutions.{alone}
 use Rattle.candidate_ir.specs.Folds.{arg_tree}
 use Rattle.candidate_rounds.specs.Known.{state, listing}
 use Rattle.candidate_rounds.proofs.Interface.{eq-ok, eq-refused, eq-stopped, keeps-going}
+use Rattle.candidate_rounds.proofs.Following.{equation-follows}
 use Rattle.candidate_rounds.proofs.Between.{parts}
 use Rattle.candidate_rounds.proofs.Accounting.{listed-stop}
 use Rattle.candidate_rounds.proofs.Going.{goes-listing}
@@ -31,3 +33,8 @@ returns-clause-cause c =
     let new = c.equate.new.self in
     listed-stop (λ l s. IsEquationStop new.context.trees l (state old) (alone (arg_tree old.context.trees c.args.a)) (alone (arg_tree old.context.trees c.args.b)) s) (listing old) (listing new) (goes-listing old new c.equate.ensures.goes (parts c.well_kept.ensures).given)
     c.equate.result c.equate.ensures.cause
+
+pub returns-clause-follows : goal.returns-clause-follows
+returns-clause-follows c =
+    let old = c.args.self.now in
+    on_ok_weaker c.equate.result (equation-follows old (alone (arg_tree old.context.trees c.args.a)) (alone (arg_tree old.context.trees c.args.b)) (state c.equate.new.self) (parts c.well_kept.ensures).given) c.equate.ensures.ok

@@ -7,6 +7,7 @@ use Rattle.candidate_rounds.specs.Known.{state, listing}
 use Rattle.candidate_rounds.proofs.Going.{goes-same}
 use Rattle.candidate_rounds.proofs.Interface.{equated-none, equated-some, keeps-going}
 use Rattle.candidate_eval.specs.Evaluators.{IsEvaluatorRefusal}
+use Rattle.candidate_rounds.proofs.Following.{equation-follows}
 use Rattle.candidate_rounds.proofs.Between.{parts}
 use Rattle.candidate_rounds.proofs.Accounting.{listed-error}
 use Rattle.candidate_rounds.proofs.Going.{goes-listing}
@@ -45,3 +46,8 @@ returns-in_err-equate-clause-cause c =
     rw (p.1, p.2)
     (listed-error (λ l s. IsEquationStop new.context.trees l (state old) (alone (arg_tree old.context.trees c.args.a)) (alone (arg_tree old.context.trees c.args.b)) s) (listing old) (listing new)
     (goes-listing old new c.equate.ensures.goes (parts c.well_kept.ensures).given) c.in_err-equate.field-0.0 c.in_err-equate.ensures.cause)
+
+pub returns-clause-follows : goal.returns-clause-follows
+returns-clause-follows c =
+    let old = c.args.self.now in
+    equation-follows old (alone (arg_tree old.context.trees c.args.a)) (alone (arg_tree old.context.trees c.args.b)) (state c.equate.new.self) (parts c.well_kept.ensures).given c.in_ok-equate.ensures.ok

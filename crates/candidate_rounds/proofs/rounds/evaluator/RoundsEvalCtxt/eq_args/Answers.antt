@@ -1,7 +1,9 @@
+use Rattle.std.proofs.lemmas.Result.{on_ok_weaker}
 use Rattle.candidate_ir.specs.Trees.{none}
 use Rattle.candidate_ir.specs.Words.{args_forest}
 use Rattle.candidate_rounds.specs.Known.{state, listing}
 use Rattle.candidate_rounds.proofs.Interface.{eq-ok, eq-refused, eq-stopped, keeps-going}
+use Rattle.candidate_rounds.proofs.Following.{equation-follows}
 use Rattle.candidate_rounds.proofs.Between.{parts}
 use Rattle.candidate_rounds.proofs.Accounting.{listed-stop}
 use Rattle.candidate_rounds.proofs.Going.{goes-listing}
@@ -30,3 +32,8 @@ returns-clause-cause c =
     let new = c.equate_args.new.self in
     listed-stop (λ l s. IsEquationStop new.context.trees l (state old) (args_forest old.context.trees c.args.a) (args_forest old.context.trees c.args.b) s) (listing old) (listing new) (goes-listing old new c.equate_args.ensures.goes (parts c.well_kept.ensures).given)
     c.equate_args.result c.equate_args.ensures.cause
+
+pub returns-clause-follows : goal.returns-clause-follows
+returns-clause-follows c =
+    let old = c.args.self.now in
+    on_ok_weaker c.equate_args.result (equation-follows old (args_forest old.context.trees c.args.a) (args_forest old.context.trees c.args.b) (state c.equate_args.new.self) (parts c.well_kept.ensures).given) c.equate_args.ensures.ok

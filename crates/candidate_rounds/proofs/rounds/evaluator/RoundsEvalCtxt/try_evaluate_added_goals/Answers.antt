@@ -1,6 +1,7 @@
 use Rattle.candidate_rounds.proofs.Going.{goes-same}
 use Rattle.candidate_rounds.proofs.Trying.{resolved-again, taken-back}
 use Rattle.candidate_rounds.proofs.Going.{goes-listing}
+use Rattle.candidate_rounds.proofs.Following.{settling-follows}
 use Rattle.candidate_rounds.proofs.Between.{parts}
 use Rattle.candidate_rounds.proofs.Exits.{few-back, marks-back}
 use Rattle.candidate_rounds.proofs.Interface.{keeps-going}
@@ -64,3 +65,8 @@ returns-in-Err-clause-cause c =
     let t = taken-back old c.settle.new.self new c.changes-changes.result (c.changes-changes.ensures ∙ ap (λ (e : Evaluator). length e.inference.trail) c.self.view_is) c.settle.ensures.goes c.undo_to.ensures in
     listed-error (λ l s. IsSettlingStop new.context.trees l (state old) s) (listing old) (listing new) (goes-listing old new t.0 (parts c.well_kept.ensures).given) c.in-Err.refusal
     (λ s k. subst (λ ts. IsSettlingStop ts (listing old) (state old) s) (sym (ap (λ (e : Evaluator). e.context.trees) c.undo_to.ensures)) (c.in-Err.ensures.cause s k))
+
+pub returns-in-Ok-clause-follows : goal.returns-in-Ok-clause-follows
+returns-in-Ok-clause-follows c =
+    let old = c.args.self.now in
+    settling-follows old c.certainty.result (state c.settle.new.self) (returns-in-Ok-clause-ok c)

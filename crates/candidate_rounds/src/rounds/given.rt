@@ -1,0 +1,43 @@
+//! What an evaluator may be given, by tests.
+
+ghost use Rattle.std.specs.Prelude.{◌≡◌, ◌↔◌, IsTrue};
+ghost use Rattle.candidate_ir.specs.declared.ir.kinds.TyKind.TheVariants as K;
+ghost use Rattle.candidate_ir.specs.Words.{IsArgs, IsTy, kind_tree, ty_tree};
+ghost use Rattle.rounds_judge.specs.WellListed.{is_fixed, may_be_listed};
+ghost use Rattle.candidate_rounds.specs.Known.{MayBeHidden};
+
+use crate::rounds::values::is_alias;
+use candidate_ir::decl::context::Cx;
+use candidate_ir::ir::heads::Flag;
+use candidate_ir::ir::kinds::{AliasTy, GenericArg, Ty};
+use candidate_ir::ir::marks::{Made, Unsolved};
+use candidate_ir::ir::trees::Trees;
+
+/// Whether the type means the same at every state.
+fn is_fixed(cx: &Cx, ty: Ty) -> bool
+    requires { IsTy cx.now.trees ty }
+    ensures { result ≡ is_fixed (ty_tree cx.now.trees ty) }
+{
+    !cx.has_escaping_bound_vars(ty) && (!cx.has_marked(ty, &Made) && !cx.has(ty, Flag::Param))
+}
+
+/// Whether the alias may be listed with that type: no bound variable escapes from either, neither has a variable, a parameter or
+/// a placeholder of a universe above the root's, and the type has no alias.
+pub fn may_be_listed(cx: &Cx, alias: Ty, ty: Ty) -> bool
+    requires alias { IsTy cx.now.trees alias }
+    requires ty { IsTy cx.now.trees ty }
+    ensures { result ≡ may_be_listed (ty_tree cx.now.trees alias, ty_tree cx.now.trees ty) }
+{
+    is_fixed(cx, alias)
+        && (is_fixed(cx, ty) && (!cx.has(ty, Flag::Alias) && is_alias(cx, GenericArg::Ty(alias))))
+}
+
+/// Whether the opaque type may be hidden behind a variable: no bound variable escapes from it, and it has no variable and no
+/// parameter.
+pub fn may_be_hidden(cx: &Cx, opaque: AliasTy) -> bool
+    requires { IsArgs cx.now.trees opaque.args }
+    ensures { IsTrue result ↔ MayBeHidden (kind_tree cx.now.trees (K.Alias opaque)) }
+{
+    !cx.has_escaping_bound_vars(opaque.args)
+        && (!cx.has_marked(opaque.args, &Unsolved) && !cx.has(opaque.args, Flag::Param))
+}
