@@ -6,7 +6,6 @@ use Rattle.candidate_eval.specs.Evaluators.{pendings_of}
 use Rattle.candidate_rounds.specs.Known.{state, listing}
 use Rattle.candidate_rounds.proofs.Going.{goes-same}
 use Rattle.candidate_rounds.proofs.Interface.{equated-none, equated-some, keeps-going}
-use Rattle.candidate_eval.specs.Evaluators.{IsEvaluatorRefusal}
 use Rattle.candidate_rounds.proofs.Following.{equation-follows}
 use Rattle.candidate_rounds.proofs.Between.{parts}
 use Rattle.candidate_rounds.proofs.Accounting.{listed-error}
