@@ -1,0 +1,258 @@
+-- The rules of the language for goals of traits: each a row of side condition, nested clauses, source and certainty.
+use Rattle.std.specs.Prelude.{◌≡◌, ℕ, Bool, true, false, ◌&&◌, ◌||◌, ◌==◌, not, Option, Some, None, List, [], ◌∷◌, ◌++◌, map, if◌then◌else◌}
+use Rattle.std.specs.List.{list_any}
+use Rattle.candidate_ir.specs.declared.decl.contents.LangItem.TheVariants as L
+use Rattle.candidate_ir.specs.declared.decl.contents.Sizedness.{Sizedness}
+use Rattle.candidate_ir.specs.declared.decl.contents.ImplId.{ImplId}
+use Rattle.candidate_ir.specs.declared.decl.definition.AdtFlags.{AdtFlags}
+use Rattle.candidate_ir.specs.declared.decl.definition.TraitFlags.{TraitFlags}
+use Rattle.candidate_ir.specs.declared.ir.heads.Builtin.{Builtin}
+use Rattle.candidate_ir.specs.declared.ir.heads.Builtin.TheVariants as B
+use Rattle.candidate_ir.specs.declared.ir.heads.ClauseHead.TheVariants as Cl
+use Rattle.candidate_ir.specs.declared.ir.heads.Head.{Head}
+use Rattle.candidate_ir.specs.declared.ir.heads.Head.TheVariants as H
+use Rattle.candidate_ir.specs.declared.ir.heads.PartHead.TheVariants as P
+use Rattle.candidate_ir.specs.declared.ir.heads.VariableSort.TheVariants as V
+use Rattle.candidate_ir.specs.declared.ir.kinds.AliasKind.TheVariants as AK
+use Rattle.candidate_ir.specs.declared.ir.kinds.Clause.{Clause}
+use Rattle.candidate_ir.specs.declared.ir.kinds.ClosureKind.{ClosureKind}
+use Rattle.candidate_ir.specs.declared.ir.kinds.PredicatePolarity.{PredicatePolarity}
+use Rattle.candidate_ir.specs.declared.ir.kinds.PredicatePolarity.TheVariants as Pol
+use Rattle.candidate_ir.specs.declared.ir.kinds.TraitId.{TraitId}
+use Rattle.candidate_ir.specs.Context.{Context}
+use Rattle.candidate_ir.specs.Contents.{Bounds}
+use Rattle.candidate_ir.specs.Declaring.{bounds_at, trait_at}
+use Rattle.candidate_ir.specs.Folding.{substituted_tree}
+use Rattle.candidate_ir.specs.Impls.{relevant_impls}
+use Rattle.candidate_ir.specs.Lookups.{adt_flags, definition, maybe, trait_flags}
+use Rattle.candidate_ir.specs.Supers.{after_first}
+use Rattle.candidate_ir.specs.Trees.{Kind, Forest, none, tree, Tree, holds, is_error}
+use Rattle.candidate_ir.specs.Words.{clause_tree}
+use Rattle.candidate_eval.specs.declared.eval.source.CandidateSource.{CandidateSource}
+use Rattle.candidate_eval.specs.declared.eval.source.CandidateSource.TheVariants.{BuiltinImpl}
+use Rattle.candidate_eval.specs.declared.eval.source.BuiltinImplSource.TheVariants.{Misc, Trivial}
+use Rattle.candidate_eval.specs.Callable.{Callable, Calls, CalledWith, Undetermined, calls}
+use Rattle.candidate_eval.specs.Certainties.{Certainty, Yes, AMBIGUOUS}
+use Rattle.candidate_eval.specs.Characterization.{binder_kinds}
+use Rattle.candidate_eval.specs.ImplRules.{TraitGoal}
+use Rattle.candidate_eval.specs.Naming.{named_head}
+use Rattle.candidate_eval.specs.ObjectRequirements.{first_tree}
+use Rattle.candidate_eval.specs.Rules.{Step, fresh, enter, equate, quick, Rule, ask, nested, nested_misc}
+use Rattle.candidate_eval.specs.States.{Env}
+use Rattle.candidate_eval.specs.Tables.{Cell, Excluded, Refused, Asks, Parts, cell, is_manually_drop, row_of, types_of}
+use Rattle.candidate_eval.specs.declared.structural.Column.TheVariants as C
+use Rattle.candidate_ir.specs.Folding.{fold_tree}
+use Rattle.candidate_assembly.specs.Kinds.{BuiltinRule, ErrorRule, AutoTraitRule, TraitAliasRule, SizednessRule, CopyCloneRule, FnTraitRule, FnPtrTraitRule, TupleRule, PointeeRule, DiscriminantKindRule, DestructRule, NoDropRule}
+use Rattle.candidate_assembly.specs.TraitGoals.{is_positive, item_trait, with_first}
+
+abbrev pub self_of : TraitGoal → Tree
+self_of g = first_tree g.reference.arguments
+
+abbrev pub positive : TraitGoal → Bool
+positive g = is_positive g.polarity
+
+abbrev pub misc : CandidateSource
+misc = BuiltinImpl Misc
+
+-- A rule that never applies, one that asks at once, and one that asks after these steps.
+
+abbrev pub no_rule : TraitGoal → Rule
+no_rule g = record { env = g.env; applies = false; steps = []; ending = ask misc Yes }
+
+abbrev pub plain_rule : TraitGoal → Bool → Rule
+plain_rule g applies = record { env = g.env; applies = applies; steps = []; ending = ask misc Yes }
+
+-- what is asked for where the goal says too little
+abbrev pub ambiguous_rule : TraitGoal → Bool → Rule
+ambiguous_rule g applies = record { env = g.env; applies = applies; steps = []; ending = ask misc AMBIGUOUS }
+
+-- Clauses.
+
+-- that the trait holds of a tree, under a binder of these variables
+abbrev pub holds_of : TraitId → PredicatePolarity → Forest → Forest → Tree
+holds_of i p vars args = record { head = H.Part (P.Clause (Cl.Trait i p)); children = tree (H.Part P.Vars) vars args }
+
+-- the goal's trait with another self type
+abbrev pub for_type : TraitGoal → Tree → Tree
+for_type g t = holds_of (record { 0 = g.reference.trait }) g.polarity none (with_first t g.reference.arguments)
+
+abbrev pub for_types : TraitGoal → List Tree → List Tree
+for_types g ts = map (for_type g) ts
+
+-- a trait without parameters holds of the type
+abbrev pub meets : TraitId → Tree → Tree
+meets i t = holds_of i Pol.Positive none (tree t.head t.children none)
+
+-- Trees under a binder of variables of these kinds, with the rule's first variables in their place; where there are none, nothing is named.
+
+abbrev pub named_tree : List Kind → Tree → Tree
+named_tree [] t = t
+named_tree (k ∷ ks) t = fold_tree (λ d u. named_head 0 (k ∷ ks) d u.head) 0 t
+
+-- The parts that a cell of the tables asks about meet the goal's trait.
+abbrev pub parts_rule : TraitGoal → Bool → CandidateSource → Cell → Rule
+parts_rule g applies s (Asks p) = record {
+  env = g.env;
+  applies = applies;
+  steps = enter (binder_kinds p.variables) ∷ nested (for_types g (map (named_tree (binder_kinds p.variables)) p.types));
+  ending = ask s Yes;
+}
+parts_rule g applies s _ = no_rule g
+
+-- The predicate holds an error.
+abbrev pub error_rule : TraitGoal → Rule
+error_rule g = plain_rule g (holds is_error g.reference.arguments)
+
+-- Auto traits: the parts of a type that no impl may be for.
+
+abbrev pub is_nonempty : {A : Type 0} → List A → Bool
+is_nonempty [] = false
+is_nonempty (x ∷ xs) = true
+
+abbrev pub has_relevant_impl : Context → TraitGoal → Bool
+has_relevant_impl c g = is_nonempty (relevant_impls c g.reference.trait (self_of g))
+
+abbrev pub is_set : {F : Type 0} → (F → Bool) → Option F → Bool
+is_set flag None = false
+is_set flag (Some f) = flag f
+
+abbrev pub flag_of_trait : (TraitFlags → Bool) → Context → ℕ → Bool
+flag_of_trait flag c n = is_set flag (trait_flags (definition c n))
+
+abbrev pub flag_of_adt : (AdtFlags → Bool) → Context → ℕ → Bool
+flag_of_adt flag c n = is_set flag (adt_flags (definition c n))
+
+-- a trait clause of this trait, of any polarity
+abbrev pub is_of_trait : ℕ → Head → Bool
+is_of_trait n (H.Part (P.Clause (Cl.Trait i p))) = i.0 == n
+is_of_trait n _ = false
+
+-- an opaque type whose own bounds speak of the trait
+abbrev pub bounds_name : Context → ℕ → ℕ → Bool
+bounds_name c alias n = list_any (λ (x : Clause). is_of_trait n (clause_tree c.trees x).head) (maybe [] (λ (b : Bounds). b.self_bounds) (bounds_at c alias))
+
+-- whether the goal is refused before the parts are asked about, by the head of its self type
+abbrev pub auto_refused : Context → TraitGoal → Head → Bool
+auto_refused c g H.Dynamic = true
+auto_refused c g (H.Param n) = true
+auto_refused c g (H.Placeholder p) = true
+auto_refused c g (H.Alias AK.Opaque i) = bounds_name c i.0 g.reference.trait
+auto_refused c g (H.Alias k i) = true
+auto_refused c g (H.Foreign i) = not (flag_of_trait (λ f. f.default) c g.reference.trait) || has_relevant_impl c g
+auto_refused c g H.Error = false
+auto_refused c g (H.Adt i) = has_relevant_impl c g || (flag_of_trait (λ f. f.unsafe_) c g.reference.trait && flag_of_adt (λ f. f.unsafe_fields) c i.0)
+auto_refused c g _ = has_relevant_impl c g
+
+-- an integer or floating-point variable says too little
+abbrev pub is_numeric_variable : Head → Bool
+is_numeric_variable (H.Infer v) = true
+is_numeric_variable _ = false
+
+abbrev pub auto_rule : Context → TraitGoal → Rule
+auto_rule c g =
+    let t = self_of g in
+    if is_numeric_variable t.head then ambiguous_rule g (positive g)
+    else parts_rule g (positive g && not (auto_refused c g t.head)) misc (cell C.Auto (row_of c t))
+
+-- Trait aliases: the trait's where clauses.
+abbrev pub trait_alias_rule : Context → TraitGoal → Rule
+trait_alias_rule c g = record {
+  env = g.env;
+  applies = positive g;
+  steps = nested_misc (map (λ (x : Clause). substituted_tree g.reference.arguments (clause_tree c.trees x)) (maybe [] (λ t. t.wheres) (trait_at c g.reference.trait)));
+  ending = ask misc Yes;
+}
+
+-- Rules over the other columns of the tables.
+
+abbrev pub sizedness_rule : Sizedness → Context → TraitGoal → Rule
+sizedness_rule s c g = parts_rule g (positive g) (BuiltinImpl Trivial) (cell (C.Sizedness s) (row_of c (self_of g)))
+
+abbrev pub copy_clone_rule : Context → TraitGoal → Rule
+copy_clone_rule c g = parts_rule g (positive g) misc (cell C.CopyClone (row_of c (self_of g)))
+
+-- What is called takes the arguments that the goal names, and its output is sized. The variables of its binder are the rule's first.
+
+abbrev pub call_arguments : TraitGoal → List Kind → Tree → Forest
+call_arguments g ks inputs =
+    let t = self_of g in
+    let i = named_tree ks inputs in
+    tree t.head t.children (tree i.head i.children none)
+
+abbrev pub call_steps : TraitGoal → Callable → TraitId → List Step
+call_steps g c sized =
+    let ks = binder_kinds c.variables in
+    let args = call_arguments g ks c.inputs in
+    fresh ks ∷ quick g.reference.arguments args ∷ equate g.reference.arguments args ∷ nested (meets sized (named_tree ks c.output) ∷ [])
+
+abbrev pub call_rule : TraitGoal → Calls → Option TraitId → Rule
+call_rule g (CalledWith c) (Some sized) = record { env = g.env; applies = positive g; steps = call_steps g c sized; ending = ask misc Yes }
+call_rule g Undetermined sized = ambiguous_rule g (positive g)
+call_rule g _ sized = no_rule g
+
+abbrev pub fn_rule : ClosureKind → Context → TraitGoal → Rule
+fn_rule k c g = call_rule g (calls c k (self_of g)) (item_trait c L.Sized)
+
+-- Function pointers, and for a negative goal types that surely are none.
+
+abbrev pub is_fn_ptr : Head → Bool
+is_fn_ptr (H.Builtin (B.FnPtr s)) = true
+is_fn_ptr _ = false
+
+abbrev pub is_known_rigid : Head → Bool
+is_known_rigid (H.Alias k i) = false
+is_known_rigid (H.Param n) = false
+is_known_rigid (H.Placeholder p) = false
+is_known_rigid (H.Bound v) = false
+is_known_rigid (H.Infer v) = false
+is_known_rigid H.Error = false
+is_known_rigid _ = true
+
+abbrev pub fn_ptr_holds : PredicatePolarity → Head → Bool
+fn_ptr_holds Pol.Positive h = is_fn_ptr h
+fn_ptr_holds Pol.Negative h = is_known_rigid h && not (is_fn_ptr h)
+
+abbrev pub fn_ptr_rule : TraitGoal → Rule
+fn_ptr_rule g = plain_rule g (fn_ptr_holds g.polarity (self_of g).head)
+
+abbrev pub is_tuple : Head → Bool
+is_tuple (H.Builtin B.Tuple) = true
+is_tuple _ = false
+
+abbrev pub tuple_rule : TraitGoal → Rule
+tuple_rule g = plain_rule g (positive g && is_tuple (self_of g).head)
+
+-- No drop: references and what isn't dropped by hand need nothing, tuples and arrays their elements, all else is `Copy`.
+
+abbrev pub copy_needed : TraitGoal → Option TraitId → Option (List Tree)
+copy_needed g None = None
+copy_needed g (Some copy) = Some (meets copy (self_of g) ∷ [])
+
+abbrev pub no_drop_needs : Context → TraitGoal → Head → Forest → Option (List Tree)
+no_drop_needs c g (H.Ref m) below = Some []
+no_drop_needs c g (H.Adt i) below = if is_manually_drop (adt_flags (definition c i.0)) then Some [] else copy_needed g (item_trait c L.Copy)
+no_drop_needs c g (H.Builtin B.Tuple) below = Some (for_types g (types_of below))
+no_drop_needs c g (H.Builtin B.Array) below = Some (for_types g (types_of below))
+no_drop_needs c g _ below = copy_needed g (item_trait c L.Copy)
+
+abbrev pub needs_rule : TraitGoal → Option (List Tree) → Rule
+needs_rule g None = no_rule g
+needs_rule g (Some cs) = record { env = g.env; applies = positive g; steps = nested cs; ending = ask misc Yes }
+
+abbrev pub no_drop_rule : Context → TraitGoal → Rule
+no_drop_rule c g = needs_rule g (no_drop_needs c g (self_of g).head (self_of g).children)
+
+-- The rules by name.
+abbrev pub trait_rule : BuiltinRule → Context → TraitGoal → Rule
+trait_rule ErrorRule c g = error_rule g
+trait_rule AutoTraitRule c g = auto_rule c g
+trait_rule TraitAliasRule c g = trait_alias_rule c g
+trait_rule (SizednessRule s) c g = sizedness_rule s c g
+trait_rule CopyCloneRule c g = copy_clone_rule c g
+trait_rule (FnTraitRule k) c g = fn_rule k c g
+trait_rule FnPtrTraitRule c g = fn_ptr_rule g
+trait_rule TupleRule c g = tuple_rule g
+trait_rule PointeeRule c g = plain_rule g (positive g)
+trait_rule DiscriminantKindRule c g = plain_rule g (positive g)
+trait_rule DestructRule c g = plain_rule g (positive g)
+trait_rule NoDropRule c g = no_drop_rule c g

@@ -1,0 +1,6 @@
+pub mod Telling
+pub mod Closures
+pub mod Kinds
+pub mod TraitGoals
+pub mod BuiltinRules
+pub mod TraitRules

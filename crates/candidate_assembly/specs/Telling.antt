@@ -1,0 +1,54 @@
+-- What calls say of the rule that they follow.
+use Rattle.std.specs.Prelude.{◌≡◌, Bool, true, false, Result, Err, IfOk, IfErr, List, [], ◌∷◌, ◌++◌, map}
+use Rattle.candidate_ir.specs.declared.ir.kinds.GoalSource.{GoalSource}
+use Rattle.candidate_ir.specs.declared.ir.stop.Stop.{Stop}
+use Rattle.candidate_ir.specs.Context.{Context}
+use Rattle.candidate_ir.specs.Trees.{Forest, none, Tree}
+use Rattle.candidate_eval.specs.declared.eval.refusal.NoSolutionOrStop.{NoSolutionOrStop}
+use Rattle.candidate_eval.specs.declared.eval.refusal.NoSolutionOrStop.TheVariants as N
+use Rattle.candidate_eval.specs.declared.eval.response.Candidate.{Candidate}
+use Rattle.candidate_eval.specs.declared.eval.response.CanonicalResponse.{CanonicalResponse}
+use Rattle.candidate_eval.specs.declared.eval.source.CandidateSource.{CandidateSource}
+use Rattle.candidate_eval.specs.declared.eval.certainty.Certainty.{Certainty}
+use Rattle.candidate_eval.specs.Accounts.{Account, StopsSomehow, by_stop}
+use Rattle.candidate_eval.specs.Evaluators.{Keeps}
+use Rattle.candidate_eval.specs.Knowing.{own_stop}
+use Rattle.candidate_eval.specs.ResponseTrees.{IsResponse, candidate_of, response_of}
+use Rattle.candidate_eval.specs.Rules.{Rule, Step, add, ask}
+use Rattle.candidate_eval.specs.Judging.{Place, Judged, Gives, Refused, Stopped, judged}
+use Rattle.candidate_eval.specs.States.{Env, State, Judge}
+
+-- An answer is what was judged: the candidate that is given, of which the numbers are of the context; a refusal; or a stop that the
+-- definitions say. Of the evaluator's own stops and of those of what makes nodes the definitions say nothing.
+pub record Told (ts : List Tree) (answer : Result Candidate NoSolutionOrStop) (judged : Judged) : Type 0 where
+  pub ok : IfOk answer (λ c. judged ≡ Gives (candidate_of ts c))
+  pub fits : IfOk answer (λ c. IsResponse ts c.result)
+  pub refused : IfErr answer (λ e. e ≡ N.NoSolution → judged ≡ Refused)
+  pub stopped : IfErr answer (by_stop (λ s. own_stop s ≡ false → judged ≡ Stopped s))
+
+-- An answer without its source, and what is judged with it.
+pub record ToldAs (ts : List Tree) (source : CandidateSource) (answer : Result CanonicalResponse NoSolutionOrStop) (judged : Judged) : Type 0 where
+  pub ok : IfOk answer (λ r. judged ≡ Gives (record { source = source; result = response_of ts r }))
+  pub fits : IfOk answer (λ r. IsResponse ts r)
+  pub refused : IfErr answer (λ e. e ≡ N.NoSolution → judged ≡ Refused)
+  pub stopped : IfErr answer (by_stop (λ s. own_stop s ≡ false → judged ≡ Stopped s))
+
+-- Why a call stopped: of its own stops, since nodes or lists weren't made, or since the evaluator stopped and accounts for it.
+abbrev pub StopsOfItself : {E X : Type 0} → (E → X) → (E → Context) → (E → State) → Account E → E → Stop → Type 0
+StopsOfItself fixed context state stops first s = own_stop s ≡ true → StopsSomehow fixed context state stops first s
+
+-- What a call does that considers a rule: it answers what the judge does to the rule at the state, and leaves a state alike that one.
+pub record Considers {E X : Type 0} (fixed : E → X) (judge : X → Judge) (state : E → State) (probes : E → List State) (context : E → Context) (stops : Account E)
+    (old new : E) (rule : Rule) (answer : Result Candidate NoSolutionOrStop) : Type 0 where
+  pub kept : Keeps fixed probes context old new
+  pub alike : (judge (fixed old)).alike (state old) (state new)
+  pub told : Told (context new).trees answer (judged (judge (fixed old)) (state old) rule)
+  pub cause : IfErr answer (by_stop (StopsOfItself fixed context state stops old))
+
+-- where a rule stands at a state, with that for its variables
+abbrev pub standing : State → Forest → Place
+standing S ls = record { state = S; locals = ls }
+
+-- a rule that nests clauses and asks
+abbrev pub flat_rule : Env → Bool → GoalSource → List Tree → CandidateSource → Certainty → Rule
+flat_rule e applies s cs source c = record { env = e; applies = applies; steps = map (add s) cs; ending = ask source c }

@@ -1,0 +1,3 @@
+//! What assembly asks of a kind of goals, and the rules that all kinds share.
+
+pub mod steps;
