@@ -13,16 +13,20 @@ use Rattle.candidate_ir.specs.Folding.{fold, leaf, shift_tree, argument, further
 use Rattle.candidate_ir.specs.Folds.{node}
 use Rattle.candidate_ir.specs.Substitutions.{alone}
 use Rattle.candidate_ir.specs.Supers.{after_first}
-use Rattle.candidate_ir.specs.Trees.{Forest, none, tree, Tree, binders_of, holds, variable_number}
+use Rattle.candidate_ir.specs.Trees.{Forest, none, tree, Tree, binders_of, holds, tree_holds, variable_number}
 use Rattle.candidate_ir.proofs.Folding.{HeadAnswers, begin, by_head}
 use Rattle.candidate_eval.specs.Callable.{all_but_last, last_tree}
 use Rattle.candidate_eval.specs.Mentions.{IsBelow, is_at_least, is_from}
-use Rattle.candidate_eval.proofs.Holds.{holds_imply, holds_parts}
+use Rattle.candidate_eval.proofs.Holds.{holds_imply, holds_parts, or_false}
 
 -- Marks that no head bears.
 
 pub unmarked : (mark : Head → Bool) (h : Head) (below rest : Forest) → mark h ≡ false → holds mark below ≡ false → holds mark rest ≡ false → holds mark (tree h below rest) ≡ false
 unmarked mark h below rest a b c = rw (a, b, c) refl
+
+-- what is said of a tree, of it as a row
+pub alone-unmarked : (mark : Head → Bool) (t : Tree) → tree_holds mark t ≡ false → holds mark (alone t) ≡ false
+alone-unmarked mark t e = let p = or_false (mark t.head) (holds mark t.children) e in unmarked mark t.head t.children none p.0 p.1 refl
 
 -- what stands in a place, if anything does, has no such mark
 abbrev pub IsUnmarked : (Head → Bool) → Option Tree → Type 0

@@ -1,4 +1,4 @@
--- Clauses opened by names: with the row's next trees in the place of the names, they are the clauses opened by these trees.
+-- Trees and clauses opened by names: with the row's next trees in the place of the names, they are what these trees open them to.
 use Rattle.std.proofs.Common.{◌≡◌, ℕ, zero, suc, ◌+◌, ◌==◌, ◌<◌, ◌≤◌, Bool, true, false, List, [], ◌∷◌, length, Option, Some, None, arith, nat_le, nat_lt, refl, sym, ap, ◌∙◌}
 use Rattle.std.proofs.lemmas.List.{length-append}
 use Rattle.std.specs.Prelude.{slice_get, if◌then◌else◌}
@@ -18,22 +18,23 @@ use Rattle.candidate_ir.specs.Context.{parameter_kind}
 use Rattle.candidate_ir.specs.Folding.{Answers, fold, fold_tree, leaf, shift_tree, argument, put, substituted, substituted_tree}
 use Rattle.candidate_ir.specs.Folds.{node}
 use Rattle.candidate_ir.specs.Nodes.{error_tree}
-use Rattle.candidate_ir.specs.Opening.{is_of, of_kind, error_of, bound_head, nearer, opened, opened_variable, opened_head}
+use Rattle.candidate_ir.specs.Opening.{is_of, of_kind, error_of, bound_head, nearer, opened, opened_clause, opened_tree, opened_variable, opened_head}
 use Rattle.candidate_ir.specs.Substitutions.{alone}
 use Rattle.candidate_ir.specs.Supers.{after_first}
-use Rattle.candidate_ir.specs.Trees.{Kind, Forest, none, tree, Tree, kind_of, binders_of, count, holds, is_param, join}
+use Rattle.candidate_ir.specs.Trees.{Kind, TypeKind, ConstantKind, RegionKind as OfRegion, Forest, none, tree, Tree, kind_of, binders_of, count, holds, tree_holds, is_param, join}
 use Rattle.candidate_ir.proofs.Folding.{HeadAnswers, begin, by_head}
 use Rattle.candidate_eval.specs.declared.eval.variable.VariableKind.{VariableKind}
 use Rattle.candidate_eval.specs.declared.eval.variable.VariableKind.TheVariants.{Term, Region}
 use Rattle.candidate_eval.specs.Callable.{all_but_last, last_tree}
 use Rattle.candidate_eval.specs.Characterization.{binder_kinds, bound_kinds}
+use Rattle.candidate_eval.specs.Evaluators.{rigid}
 use Rattle.candidate_eval.specs.Mentions.{IsBelow, is_from}
 use Rattle.candidate_eval.specs.Objects.{arguments_in, fresh_instance, term_in, with_instance}
-use Rattle.candidate_eval.specs.States.{State, fresh_info, fresh_variables, variable, variable_kind, with_fresh, with_fresh_variables}
+use Rattle.candidate_eval.specs.States.{State, placeholder, placeholders, fresh_info, fresh_variables, variable, variable_kind, with_fresh, with_fresh_variables}
 use Rattle.candidate_eval.proofs.Holds.{holds_parts}
 use Rattle.candidate_eval.proofs.Closed.{after-closed, binder-one, closed, closed-on, closed-parts, closed-shift, last-closed}
-use Rattle.candidate_eval.proofs.Marking.{IsUnmarked, after-unmarked, argument-unmarked, but-last-unmarked, below-more, below-shifted, fold-unmarked, last-unmarked, unmarked}
-use Rattle.candidate_eval.specs.Naming.{name_of, named_clause, named_head, named_variable}
+use Rattle.candidate_eval.proofs.Marking.{IsUnmarked, after-unmarked, alone-unmarked, argument-unmarked, but-last-unmarked, below-more, below-shifted, fold-unmarked, last-unmarked, unmarked}
+use Rattle.candidate_eval.specs.Naming.{name_of, named, named_clause, named_head, named_tree, named_variable}
 
 -- Folds one after another.
 
@@ -79,7 +80,7 @@ variable-of V.Ty n = refl
 variable-of V.Const n = refl
 variable-of V.Region n = refl
 
-binder-kinds : (ts : Forest) → AreOfVariables (binder_kinds ts)
+pub binder-kinds : (ts : Forest) → AreOfVariables (binder_kinds ts)
 binder-kinds none = tt
 binder-kinds (tree (H.Part (P.Var k)) below rest) = (variable-of k, binder-kinds rest)
 binder-kinds (tree _ below rest) = binder-kinds rest
@@ -100,20 +101,46 @@ fresh-none S [] i e = refl
 fresh-none S (j ∷ ks) zero e = absurd cc
 fresh-none S (j ∷ ks) (suc i) e = fresh-none (with_fresh S (variable_kind j)) ks i e
 
+-- Trees that stand for the variables of a binder: they are of these kinds, and past them there is none.
+pub record StandFor (ks : List Kind) (row : Forest) : Type 0 where
+  pub kind : (i : ℕ) (k : Kind) → slice_get ks i ≡ Some k → kind_of (argument row i).head ≡ k
+  pub past : (i : ℕ) → slice_get ks i ≡ None → argument row i ≡ error_tree
+
+pub fresh-stand : (S : State) (ks : List Kind) → AreOfVariables ks → StandFor ks (fresh_variables S ks)
+fresh-stand S ks a = record { kind = λ i k e. fresh-kind S ks i k a e; past = fresh-none S ks }
+
+-- Placeholders by their numbers.
+
+placeholder-kind : (u n : ℕ) (ks : List Kind) (i : ℕ) (k : Kind) → AreOfVariables ks → slice_get ks i ≡ Some k → kind_of (argument (placeholders u n ks) i).head ≡ k
+placeholder-kind u n [] i k a e = absurd cc
+placeholder-kind u n (j ∷ ks) zero k a e = let same : j ≡ k = cc in placeholder-of j a.0 ∙ same
+  where
+    placeholder-of : (j : Kind) → ((n : ℕ) → kind_of (variable (variable_kind j) n).head ≡ j) → kind_of (placeholder j u n) ≡ j
+    placeholder-of TypeKind h = refl
+    placeholder-of ConstantKind h = refl
+    placeholder-of OfRegion h = refl
+    placeholder-of _ h = h 0
+placeholder-kind u n (j ∷ ks) (suc i) k a e = placeholder-kind u (suc n) ks i k a.1 e
+
+placeholder-none : (u n : ℕ) (ks : List Kind) (i : ℕ) → slice_get ks i ≡ None → argument (placeholders u n ks) i ≡ error_tree
+placeholder-none u n [] i e = refl
+placeholder-none u n (j ∷ ks) zero e = absurd cc
+placeholder-none u n (j ∷ ks) (suc i) e = placeholder-none u (suc n) ks i e
+
+pub placeholders-stand : (u n : ℕ) (ks : List Kind) → AreOfVariables ks → StandFor ks (placeholders u n ks)
+placeholders-stand u n ks a = record { kind = λ i k e. placeholder-kind u n ks i k a e; past = placeholder-none u n ks }
+
 -- What is put in for a name is what stands for the variable.
-module _ (S : State) (ls : Forest) (ks : List Kind) (fit : AreOfVariables ks) where
-  abbrev fresh_row : Forest
-  fresh_row = fresh_variables S ks
+module _ (row ls : Forest) (ks : List Kind) (stand : StandFor ks row) where
+  abbrev put_row : HeadAnswers
+  put_row = put (join ls row)
 
-  abbrev put_fresh : HeadAnswers
-  put_fresh = put (join ls (fresh_variables S ks))
-
-  error-put : (d : ℕ) (k : VarKind) → fold_tree (by_head put_fresh) d (leaf (error_of k)) ≡ shift_tree d (leaf (error_of k))
+  error-put : (d : ℕ) (k : VarKind) → fold_tree (by_head put_row) d (leaf (error_of k)) ≡ shift_tree d (leaf (error_of k))
   error-put d V.Ty = refl
   error-put d V.Const = refl
   error-put d V.Region = refl
 
-  name-put : (d : ℕ) (k : VarKind) (i : ℕ) → fold_tree (by_head put_fresh) d (name_of (count ls) k i (slice_get ks i)) ≡ shift_tree d (of_kind k (argument fresh_row i))
+  name-put : (d : ℕ) (k : VarKind) (i : ℕ) → fold_tree (by_head put_row) d (name_of (count ls) k i (slice_get ks i)) ≡ shift_tree d (of_kind k (argument row i))
   name-put d k i = at (slice_get ks i) refl
     where
       error-kept : (k : VarKind) → leaf (error_of k) ≡ of_kind k error_tree
@@ -121,59 +148,91 @@ module _ (S : State) (ls : Forest) (ks : List Kind) (fit : AreOfVariables ks) wh
       error-kept V.Const = refl
       error-kept V.Region = refl
 
-      by : (b : Bool) → fold_tree (by_head put_fresh) d (if b then leaf (H.Param (count ls + i)) else leaf (error_of k)) ≡ shift_tree d (if b then argument fresh_row i else leaf (error_of k))
-      by true = ap (shift_tree d) (argument-join ls fresh_row i)
+      by : (b : Bool) → fold_tree (by_head put_row) d (if b then leaf (H.Param (count ls + i)) else leaf (error_of k)) ≡ shift_tree d (if b then argument row i else leaf (error_of k))
+      by true = ap (shift_tree d) (argument-join ls row i)
       by false = error-put d k
 
-      at : (o : Option Kind) → slice_get ks i ≡ o → fold_tree (by_head put_fresh) d (name_of (count ls) k i o) ≡ shift_tree d (of_kind k (argument fresh_row i))
-      at None e = error-put d k ∙ ap (shift_tree d) (error-kept k ∙ ap (of_kind k) (sym (fresh-none S ks i e)))
+      at : (o : Option Kind) → slice_get ks i ≡ o → fold_tree (by_head put_row) d (name_of (count ls) k i o) ≡ shift_tree d (of_kind k (argument row i))
+      at None e = error-put d k ∙ ap (shift_tree d) (error-kept k ∙ ap (of_kind k) (sym (stand.past i e)))
       at (Some j) e =
           by (is_of k j)
-          ∙ ap (λ (l : Kind). shift_tree d (if is_of k l then argument fresh_row i else leaf (error_of k))) (sym (fresh-kind S ks i j fit e))
+          ∙ ap (λ (l : Kind). shift_tree d (if is_of k l then argument row i else leaf (error_of k))) (sym (stand.kind i j e))
 
-  variable-put : (d : ℕ) (k : VarKind) (v : BoundVar) → opened_variable fresh_row d k v ≡ both_answers (fold_tree (by_head put_fresh) d) (named_variable (count ls) ks d k v) None
+  variable-put : (d : ℕ) (k : VarKind) (v : BoundVar) → opened_variable row d k v ≡ both_answers (fold_tree (by_head put_row) d) (named_variable (count ls) ks d k v) None
   variable-put d k v = at (v.depth == d)
     where
-      bound-put : (k : VarKind) (x : BoundVar) → leaf (bound_head k x) ≡ fold_tree (by_head put_fresh) d (leaf (bound_head k x))
+      bound-put : (k : VarKind) (x : BoundVar) → leaf (bound_head k x) ≡ fold_tree (by_head put_row) d (leaf (bound_head k x))
       bound-put V.Ty x = refl
       bound-put V.Const x = refl
       bound-put V.Region x = refl
 
       by : (b : Bool) → (if b then Some (leaf (bound_head k (nearer v))) else None)
-          ≡ both_answers (fold_tree (by_head put_fresh) d) (if b then Some (leaf (bound_head k (nearer v))) else None) None
+          ≡ both_answers (fold_tree (by_head put_row) d) (if b then Some (leaf (bound_head k (nearer v))) else None) None
       by true = ap Some (bound-put k (nearer v))
       by false = refl
 
-      at : (b : Bool) → (if b then Some (shift_tree d (of_kind k (argument fresh_row v.index))) else (if nat_lt d v.depth then Some (leaf (bound_head k (nearer v))) else None))
-          ≡ both_answers (fold_tree (by_head put_fresh) d) (if b then Some (name_of (count ls) k v.index (slice_get ks v.index)) else (if nat_lt d v.depth then Some (leaf (bound_head k (nearer v))) else None)) None
+      at : (b : Bool) → (if b then Some (shift_tree d (of_kind k (argument row v.index))) else (if nat_lt d v.depth then Some (leaf (bound_head k (nearer v))) else None))
+          ≡ both_answers (fold_tree (by_head put_row) d) (if b then Some (name_of (count ls) k v.index (slice_get ks v.index)) else (if nat_lt d v.depth then Some (leaf (bound_head k (nearer v))) else None)) None
       at true = ap Some (sym (name-put d k v.index))
       at false = by (nat_lt d v.depth)
 
-  head-put : (d : ℕ) (h : Head) → is_param h ≡ false → opened_head fresh_row d h ≡ both_answers (fold_tree (by_head put_fresh) d) (named_head (count ls) ks d h) (put_fresh d h)
+  head-put : (d : ℕ) (h : Head) → is_param h ≡ false → opened_head row d h ≡ both_answers (fold_tree (by_head put_row) d) (named_head (count ls) ks d h) (put_row d h)
   head-put d (H.Bound v) e = variable-put d V.Ty v
   head-put d (H.Param i) e = absurd cc
   head-put d (H.Const c) e = at c e
     where
       at : (c : ConstHead) → is_param (H.Const c) ≡ false
-          → opened_head fresh_row d (H.Const c) ≡ both_answers (fold_tree (by_head put_fresh) d) (named_head (count ls) ks d (H.Const c)) (put_fresh d (H.Const c))
+          → opened_head row d (H.Const c) ≡ both_answers (fold_tree (by_head put_row) d) (named_head (count ls) ks d (H.Const c)) (put_row d (H.Const c))
       at (C.Bound v) e = variable-put d V.Const v
       at (C.Param i) e = absurd cc
       at _ e = refl
   head-put d (H.Region r) e = at r
     where
       at : (r : RegionKind)
-          → opened_head fresh_row d (H.Region r) ≡ both_answers (fold_tree (by_head put_fresh) d) (named_head (count ls) ks d (H.Region r)) (put_fresh d (H.Region r))
+          → opened_head row d (H.Region r) ≡ both_answers (fold_tree (by_head put_row) d) (named_head (count ls) ks d (H.Region r)) (put_row d (H.Region r))
       at (R.Bound v) = variable-put d V.Region v
       at _ = refl
   head-put d _ e = refl
 
--- A clause that is opened by names, with fresh variables in their place, is the clause with fresh variables.
+  -- Trees that are opened by names, with the row in their place, are the trees that are opened by the row: a row of trees, and one.
+
+  pub named-row : (ts : Forest) → holds is_param ts ≡ false → substituted (join ls row) 0 (named (count ls) ks ts) ≡ opened row ts
+  named-row ts e = fold-twice (named_head (count ls) ks) put_row (opened_head row) is_param head-put 0 ts e
+
+  pub named-one : (t : Tree) → tree_holds is_param t ≡ false → substituted_tree (join ls row) (named_tree (count ls) ks t) ≡ opened_tree row t
+  named-one t e = ap last_tree (named-row (alone t) (alone-unmarked is_param t e))
+
+-- The same of a clause, and where fresh variables, or placeholders, stand for those of the binder.
+
+pub named-opened : (row ls : Forest) (c : Tree) → StandFor (bound_kinds c.children) row → holds is_param c.children ≡ false
+    → substituted (join ls row) 0 (after_first (named_clause (count ls) c).children) ≡ after_first (opened_clause row c).children
+named-opened row ls c stand e = named-row row ls (bound_kinds c.children) stand (after_first c.children) (after-unmarked is_param c.children e)
+
 pub named-instance : (S : State) (ls : Forest) (c : Tree) → holds is_param c.children ≡ false
     → substituted (join ls (fresh_variables S (bound_kinds c.children))) 0 (after_first (named_clause (count ls) c).children) ≡ after_first (fresh_instance S c).children
-named-instance S ls c e =
+named-instance S ls c e = let ks = bound_kinds c.children in named-opened (fresh_variables S ks) ls c (fresh-stand S ks (kinds-bound c.children)) e
+
+pub named-entered : (S : State) (ls : Forest) (c : Tree) → holds is_param c.children ≡ false
+    → substituted (join ls (rigid S (bound_kinds c.children))) 0 (after_first (named_clause (count ls) c).children) ≡ after_first (opened_clause (rigid S (bound_kinds c.children)) c).children
+named-entered S ls c e =
     let ks = bound_kinds c.children in
-    fold-twice (named_head (count ls) ks) (put (join ls (fresh_variables S ks))) (opened_head (fresh_variables S ks)) is_param (head-put S ls ks (kinds-bound c.children)) 0 (after_first c.children)
-    (after-unmarked is_param c.children e)
+    named-opened (rigid S ks) ls c (placeholders-stand (suc S.newest_universe) 0 ks (kinds-bound c.children)) e
+
+pub named-fresh : (S : State) (ls : Forest) (ks : List Kind) (ts : Forest) → AreOfVariables ks → holds is_param ts ≡ false
+    → substituted (join ls (fresh_variables S ks)) 0 (named (count ls) ks ts) ≡ opened (fresh_variables S ks) ts
+named-fresh S ls ks ts a e = named-row (fresh_variables S ks) ls ks (fresh-stand S ks a) ts e
+
+pub named-fresh-tree : (S : State) (ls : Forest) (ks : List Kind) (t : Tree) → AreOfVariables ks → tree_holds is_param t ≡ false
+    → substituted_tree (join ls (fresh_variables S ks)) (named_tree (count ls) ks t) ≡ opened_tree (fresh_variables S ks) t
+named-fresh-tree S ls ks t a e = named-one (fresh_variables S ks) ls ks (fresh-stand S ks a) t e
+
+pub named-rigid : (S : State) (ls : Forest) (ks : List Kind) (ts : Forest) → AreOfVariables ks → holds is_param ts ≡ false
+    → substituted (join ls (rigid S ks)) 0 (named (count ls) ks ts) ≡ opened (rigid S ks) ts
+named-rigid S ls ks ts a e = named-row (rigid S ks) ls ks (placeholders-stand (suc S.newest_universe) 0 ks a) ts e
+
+pub named-rigid-tree : (S : State) (ls : Forest) (ks : List Kind) (t : Tree) → AreOfVariables ks → tree_holds is_param t ≡ false
+    → substituted_tree (join ls (rigid S ks)) (named_tree (count ls) ks t) ≡ opened_tree (rigid S ks) t
+named-rigid-tree S ls ks t a e = named-one (rigid S ks) ls ks (placeholders-stand (suc S.newest_universe) 0 ks a) t e
 
 -- The last tree of a row that is folded, and those before it.
 
@@ -238,11 +297,13 @@ named-head-below n first ks d _ = tt
 under-below : (n : ℕ) (c : Tree) → IsBelow n (alone c) → IsBelow n (after_first c.children)
 under-below n c e = after-unmarked (is_from n) c.children (holds_parts (is_from n) c.head c.children none e).under
 
+pub named-row-below : (n first : ℕ) (ks : List Kind) (ts : Forest) → IsBelow n ts → IsBelow n (named first ks ts)
+named-row-below n first ks ts e = fold-unmarked (named_head first ks) (is_from n) (is_from n) (λ h m. m) (named-head-below n first ks) 0 ts e
+
 pub named-below : (n first : ℕ) (c : Tree) → IsBelow n (alone c) → IsBelow n (arguments_in (named_clause first c)) × IsBelow n (alone (term_in (named_clause first c)))
 named-below n first c e =
     let ks = bound_kinds c.children in
-    let all : IsBelow n (after_first (named_clause first c).children) =
-    fold-unmarked (named_head first ks) (is_from n) (is_from n) (λ h m. m) (named-head-below n first ks) 0 (after_first c.children) (under-below n c e) in (
+    let all : IsBelow n (after_first (named_clause first c).children) = named-row-below n first ks (after_first c.children) (under-below n c e) in (
       but-last-unmarked (is_from n) (after_first (named_clause first c).children) all,
       last-unmarked (is_from n) (after_first (named_clause first c).children) refl all,
     )
@@ -307,6 +368,23 @@ module _ (m : ℕ) (values : Forest) (below : IsBelow m values) where
 
   pub opened-below : (ts : Forest) → IsBelow m ts → IsBelow m (opened values ts)
   opened-below ts e = fold-unmarked (opened_head values) (is_from m) (is_from m) (λ h x. x) opened-head-below 0 ts e
+
+-- Placeholders are no variables: a clause with placeholders mentions none but those that it mentioned.
+
+placeholders-below : (m u n : ℕ) (ks : List Kind) → IsBelow m (placeholders u n ks)
+placeholders-below m u n [] = refl
+placeholders-below m u n (k ∷ ks) = unmarked (is_from m) (placeholder k u n) none (placeholders u (suc n) ks) (at k) refl (placeholders-below m u (suc n) ks)
+  where
+    at : (k : Kind) → is_from m (placeholder k u n) ≡ false
+    at ConstantKind = refl
+    at OfRegion = refl
+    at _ = refl
+
+pub rigid-below : (m : ℕ) (S : State) (ks : List Kind) (ts : Forest) → IsBelow m ts → IsBelow m (opened (rigid S ks) ts)
+rigid-below m S ks ts e = opened-below m (rigid S ks) (placeholders-below m (suc S.newest_universe) 0 ks) ts e
+
+pub entered-below : (m : ℕ) (S : State) (c : Tree) → IsBelow m (alone c) → IsBelow m (after_first (opened_clause (rigid S (bound_kinds c.children)) c).children)
+entered-below m S c e = rigid-below m S (bound_kinds c.children) (after_first c.children) (under-below m c e)
 
 -- A clause with fresh variables mentions none but those of the state then; so do its arguments and its term.
 pub instance-below : (S : State) (c : Tree) → IsBelow (length S.variables) (alone c) → IsBelow (length (with_instance S c).variables) (after_first (fresh_instance S c).children)

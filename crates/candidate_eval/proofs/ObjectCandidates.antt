@@ -1,6 +1,7 @@
 -- What object candidates ask for.
 use Rattle.std.proofs.Common.{rules, ◌≡◌, ℕ, List, [], ◌∷◌, Option, Some, None, All, map, refl, sym, ◌∙◌, ap, subst}
 use Rattle.std.proofs.lemmas.List.Elements.{All-cons}
+use Rattle.candidate_ir.specs.declared.ir.heads.ClauseHead.TheVariants as Cl
 use Rattle.candidate_ir.specs.declared.ir.kinds.Binder.{Binder}
 use Rattle.candidate_ir.specs.declared.ir.kinds.Clause.{Clause}
 use Rattle.candidate_ir.specs.declared.ir.kinds.ClauseKind.{ClauseKind}
@@ -9,21 +10,19 @@ use Rattle.candidate_ir.specs.declared.ir.kinds.GenericArg.{GenericArg}
 use Rattle.candidate_ir.specs.declared.ir.kinds.GenericArg.TheVariants as G
 use Rattle.candidate_ir.specs.declared.ir.kinds.Goal.{Goal as OfNumbers}
 use Rattle.candidate_ir.specs.declared.ir.kinds.ParamEnv.{ParamEnv}
-use Rattle.candidate_ir.specs.declared.ir.kinds.PredicatePolarity.TheVariants as Polarity
 use Rattle.candidate_ir.specs.declared.ir.kinds.TraitPredicate.{TraitPredicate}
 use Rattle.candidate_ir.specs.declared.ir.kinds.TraitRef.{TraitRef}
 use Rattle.candidate_ir.specs.declared.ir.kinds.Ty.{Ty}
 use Rattle.candidate_ir.specs.Context.{Context, world}
-use Rattle.candidate_ir.specs.Elaboration.{said, said_if}
-use Rattle.candidate_ir.specs.Kinds.{fact_children, numbers}
+use Rattle.candidate_ir.specs.Kinds.{clause_head, fact_children, numbers}
 use Rattle.candidate_ir.specs.Nodes.{kind_at, rows, tree_at, trees_at}
-use Rattle.candidate_ir.specs.References.{ArgumentsFit, IsWellFormed}
-use Rattle.candidate_ir.specs.Trees.{Kind, TypeKind, ConstantKind, RegionKind, ArgumentsKind, Forest, none, tree, Tree, kind_of}
-use Rattle.candidate_ir.specs.Words.{IsArgs, IsClause, IsParamEnv, IsTy, ClauseFits, ClauseListFits, ListFits, args_forest, clause_kind_tree, clause_tree, env_forest, list_forest, ty_tree}
+use Rattle.candidate_ir.specs.References.{ArgumentsFit, FitsAmong, IsWellFormed}
+use Rattle.candidate_ir.specs.Trees.{Kind, BinderKind, TypeKind, ConstantKind, RegionKind, ArgumentsKind, Forest, none, tree, Tree, kind_of}
+use Rattle.candidate_ir.specs.Words.{IsArgs, IsClause, IsParamEnv, IsTy, ClauseFits, ClauseListFits, ListFits, args_forest, clause_kind_tree, clause_tree, env_forest, list_forest, ty_tree, vars_tree}
 use Rattle.candidate_ir.specs.Worlds.{TraitSort, joined, kinds_of, parameters}
-use Rattle.candidate_ir.proofs.Joining.{below_binder, clause-over}
+use Rattle.candidate_ir.proofs.Joining.{below_binder, clause-over, over}
+use Rattle.candidate_ir.proofs.References.{fit-at}
 use Rattle.candidate_ir.proofs.Rows.{join-none, kind-of, row-list, row-single}
-use Rattle.candidate_ir.proofs.Saying.{said_fits, said_takes}
 use Rattle.candidate_eval.specs.Asked.{first_ty}
 use Rattle.candidate_eval.specs.Evaluators.{IsGoal, goal_of}
 use Rattle.candidate_eval.specs.ObjectRequirements.{arguments_of, first_tree, goal_in, goals_in}
@@ -33,15 +32,24 @@ use Rattle.candidate_eval.specs.States.{Env, State, Judge}
 abbrev about : Binder ClauseKind → ClauseKind → Binder ClauseKind
 about b v = record { vars = b.vars; value = v }
 
--- What is read of a clause that a trait holds.
-pub reference-read : (c : Context) (x : Clause) (b : Binder ClauseKind) (p : TraitPredicate) → IsWellFormed c → ClauseFits c.trees b → clause_kind_tree c.trees b ≡ clause_tree c.trees x → b.value ≡ K.Trait p
-    → p.polarity ≡ Polarity.Positive → IsArgs c.trees p.trait_ref.args × ArgumentsFit c p.trait_ref × (arguments_of (clause_tree c.trees x) ≡ args_forest c.trees p.trait_ref.args)
-reference-read c x b p w f s e q =
-    let is : said b.value ≡ Some p.trait_ref = ap said e ∙ ap (said_if p.trait_ref) q in
-    let i = (said_fits c c b p.trait_ref refl f is).1 in
-    let below : rows (trees_at c.trees (numbers (fact_children (K.Trait p)))) ≡ args_forest c.trees p.trait_ref.args =
-    row-list c.trees p.trait_ref.args.0 ArgumentsKind none refl refl i ∙ join-none (args_forest c.trees p.trait_ref.args) in
-    (i, said_takes c c x b p.trait_ref w refl f s is, ap arguments_of (sym s ∙ clause-over c.trees b f) ∙ (ap (λ (y : ClauseKind). below_binder c.trees (about b y)) e ∙ below))
+-- What is read of a clause that speaks of a trait.
+pub predicate-read : (c : Context) (x : Clause) (b : Binder ClauseKind) (p : TraitPredicate) → IsWellFormed c → ClauseFits c.trees b → clause_kind_tree c.trees b ≡ clause_tree c.trees x → b.value ≡ K.Trait p
+    → IsArgs c.trees p.trait_ref.args × ArgumentsFit c p.trait_ref × (arguments_of (clause_tree c.trees x) ≡ args_forest c.trees p.trait_ref.args)
+predicate-read c x b p w f s e =
+    let r = p.trait_ref in
+    let g : ClauseFits c.trees (about b (K.Trait p)) = subst (λ (y : ClauseKind). ClauseFits c.trees (about b y)) e f in
+    let i : kind_at c.trees r.args.0 ≡ ArgumentsKind = cc in
+    let below : rows (trees_at c.trees (numbers (fact_children (K.Trait p)))) ≡ args_forest c.trees r.args =
+    row-list c.trees r.args.0 ArgumentsKind none refl refl i ∙ join-none (args_forest c.trees r.args) in
+    let vs = (vars_tree c.trees b.vars).children in
+    let o : clause_tree c.trees x ≡ over (Cl.Trait r.def_id p.polarity) vs (args_forest c.trees r.args) =
+    sym s ∙ (clause-over c.trees b f ∙ (ap (λ (y : ClauseKind). over (clause_head (about b y)) vs (below_binder c.trees (about b y))) e ∙ ap (over (Cl.Trait r.def_id p.polarity) vs) below)) in
+    let fit : FitsAmong (world c) (over (Cl.Trait r.def_id p.polarity) vs (args_forest c.trees r.args)) = subst (FitsAmong (world c)) o (fit-at (world c) c.trees w x.0) in
+    (i, takes (parameters (world c) TraitSort r.def_id.0) (kinds_of (args_forest c.trees r.args)) fit.0, ap arguments_of o)
+  where
+    takes : (ps : Option (List Kind)) (ks : List Kind) → joined (Some (BinderKind ∷ [])) (joined (Some (TypeKind ∷ [])) ps) ≡ Some (BinderKind ∷ ks) → joined (Some (TypeKind ∷ [])) ps ≡ Some ks
+    takes None ks h = absurd cc
+    takes (Some ps) ks h = let same : TypeKind ∷ ps ≡ ks = cc in ap (λ (us : List Kind). Some us) same
 
 -- The first of a reference's arguments is a type.
 

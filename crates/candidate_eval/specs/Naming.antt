@@ -10,7 +10,7 @@ use Rattle.candidate_ir.specs.declared.ir.kinds.RegionKind.TheVariants as R
 use Rattle.candidate_ir.specs.declared.ir.kinds.VarKind.{VarKind}
 use Rattle.candidate_ir.specs.declared.ir.kinds.VarKind.TheVariants as V
 use Rattle.candidate_ir.specs.Trees.{Kind, Forest, tree, none, Tree}
-use Rattle.candidate_ir.specs.Folding.{fold, leaf}
+use Rattle.candidate_ir.specs.Folding.{fold, fold_tree, leaf}
 use Rattle.candidate_ir.specs.Opening.{is_of, error_of, bound_head, nearer}
 use Rattle.candidate_ir.specs.Supers.{after_first}
 use Rattle.candidate_eval.specs.Characterization.{bound_kinds}
@@ -32,12 +32,18 @@ named_head first ks d (H.Const (C.Bound v)) = named_variable first ks d V.Const 
 named_head first ks d (H.Region (R.Bound v)) = named_variable first ks d V.Region v
 named_head first ks d _ = None
 
+-- Trees that stood under a binder of variables of these kinds, with the names from the first number on in the place of these: a row, and
+-- one of them.
+
+abbrev pub named : ℕ → List Kind → Forest → Forest
+named first ks ts = fold (λ d t. named_head first ks d t.head) 0 ts
+
+abbrev pub named_tree : ℕ → List Kind → Tree → Tree
+named_tree first ks t = fold_tree (λ d u. named_head first ks d u.head) 0 t
+
 -- A clause under an empty binder, with the names from the first number on in the place of the variables of its own.
 abbrev pub named_clause : ℕ → Tree → Tree
-named_clause first c = record {
-  head = c.head;
-  children = tree (H.Part P.Vars) none (fold (λ d t. named_head first (bound_kinds c.children) d t.head) 0 (after_first c.children));
-}
+named_clause first c = record { head = c.head; children = tree (H.Part P.Vars) none (named first (bound_kinds c.children) (after_first c.children)) }
 
 -- so many names, from that number on
 abbrev pub names_from : ℕ → ℕ → List Tree

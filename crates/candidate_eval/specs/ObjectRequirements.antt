@@ -10,9 +10,12 @@ use Rattle.candidate_ir.specs.declared.ir.kinds.ClauseKind.{ClauseKind}
 use Rattle.candidate_ir.specs.declared.ir.kinds.ClauseKind.TheVariants as K
 use Rattle.candidate_ir.specs.declared.ir.kinds.Goal.{Goal as OfNumbers}
 use Rattle.candidate_ir.specs.declared.ir.kinds.ParamEnv.{ParamEnv}
+use Rattle.candidate_ir.specs.declared.ir.kinds.PredicatePolarity.{PredicatePolarity}
 use Rattle.candidate_ir.specs.declared.ir.kinds.PredicatePolarity.TheVariants as Polarity
 use Rattle.candidate_ir.specs.declared.ir.kinds.TraitId.{TraitId}
+use Rattle.candidate_ir.specs.declared.ir.kinds.TraitPredicate.{TraitPredicate}
 use Rattle.candidate_ir.specs.declared.ir.kinds.TraitRef.{TraitRef}
+use Rattle.candidate_ir.specs.declared.ir.kinds.Vars.{Vars}
 use Rattle.candidate_ir.specs.Context.{Context}
 use Rattle.candidate_ir.specs.Folds.{node}
 use Rattle.candidate_ir.specs.Nodes.{error_tree}
@@ -24,9 +27,22 @@ use Rattle.candidate_eval.specs.Replacing.{AreReplaced, AreStuck}
 use Rattle.candidate_eval.specs.Required.{AreRequirements, own_bounds}
 use Rattle.candidate_eval.specs.States.{Env, State, Goal, Judge}
 
--- A reference under its binder, as the clause that its trait holds.
+-- What is said of a trait, as a clause under a binder of these variables.
+abbrev pub trait_fact : Vars → TraitPredicate → Binder ClauseKind
+trait_fact vars p = record { vars = vars; value = K.Trait p }
+
+-- A reference as the predicate that its trait holds, and under its binder as the clause that says so.
+
+abbrev pub held_predicate : TraitRef → TraitPredicate
+held_predicate r = record { trait_ref = r; polarity = Polarity.Positive }
+
 abbrev pub reference_clause : Binder TraitRef → Binder ClauseKind
-reference_clause r = record { vars = r.vars; value = K.Trait (record { trait_ref = r.value; polarity = Polarity.Positive }) }
+reference_clause r = trait_fact r.vars (held_predicate r.value)
+
+-- the trait that a clause speaks of, and whether it says that it holds
+abbrev pub trait_said : Head → Option (TraitId × PredicatePolarity)
+trait_said (H.Part (P.Clause (Cl.Trait i p))) = Some (i, p)
+trait_said _ = None
 
 -- the trait that a clause says to hold
 abbrev pub trait_held : Head → Option TraitId

@@ -3,6 +3,7 @@
 pub mod ambiguity;
 pub mod binders;
 pub mod certainty;
+pub mod clauses;
 pub mod context;
 pub mod knowing;
 pub mod limits;

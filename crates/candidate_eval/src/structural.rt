@@ -3,7 +3,7 @@
 pub(crate) mod asked;
 pub mod callable;
 pub mod destruct;
-mod making;
+pub(crate) mod making;
 pub mod object;
 pub mod object_candidate;
 pub mod replacing;

@@ -1,69 +1,29 @@
 //! What an object candidate asks for, besides that its trait reference fits.
 
-ghost use Rattle.std.specs.Prelude.{◌≡◌, map, Some, None, MatchOption, IfOk, IfErr, IfSome, OnOk, All};
+ghost use Rattle.std.specs.Prelude.{◌≡◌, map, IfOk, IfErr, OnOk, All};
 ghost use Rattle.candidate_ir.specs.Context.{Grows, world};
 ghost use Rattle.candidate_ir.specs.References.{ArgumentsFit, Takes};
-ghost use Rattle.candidate_ir.specs.Words.{IsArgs, IsClause, IsParamEnv, IsPreds, IsTy, ClauseFits, ClauseListFits, args_forest, clause_kind_tree, clause_tree, env_forest, preds_forest, ty_tree};
+ghost use Rattle.candidate_ir.specs.Words.{IsArgs, IsParamEnv, IsPreds, IsTy, ClauseFits, ClauseListFits, args_forest, clause_kind_tree, env_forest, preds_forest, ty_tree};
 ghost use Rattle.candidate_eval.specs.Accounts.{StopsSomehow};
-ghost use Rattle.candidate_eval.specs.Evaluators.{IsGoal, IsMakingStop, Keeps, goal_of};
+ghost use Rattle.candidate_eval.specs.Evaluators.{IsGoal, Keeps, goal_of};
 ghost use Rattle.candidate_eval.specs.Objects.{with_instance, by_object_stop};
-ghost use Rattle.candidate_eval.specs.ObjectRequirements.{AreAsked, AreUnknown, arguments_of, first_tree, fresh_arguments, goals_in, reference_clause, trait_held};
+ghost use Rattle.candidate_eval.specs.ObjectRequirements.{AreAsked, AreUnknown, first_tree, fresh_arguments, reference_clause};
 ghost use Rattle.candidate_eval.specs.Replacing.{clauses_at};
 ghost use Rattle.candidate_eval.specs.Required.{AreRequirements};
 ghost use Rattle.candidate_eval.specs.Required as seen;
 
 use crate::eval::binders::instantiate_clause_with_infer;
+use crate::eval::clauses::{goals, predicate_in, self_ty, trait_clause};
 use crate::eval::context::EvalCtxt;
-use crate::structural::making::first_type;
 use crate::structural::object::AmbiguousOrStop;
 use crate::structural::replacing::replaced;
 use crate::structural::required::{own_bounds, requirements};
-use candidate_ir::decl::Cx;
 use candidate_ir::decl::make::Make;
 use candidate_ir::ir::kinds::{
-    Binder, Clause, ClauseKind, Goal, ParamEnv, PredicatePolarity, Preds, TraitPredicate, TraitRef,
-    Ty,
+    Binder, Clause, Goal, ParamEnv, PredicatePolarity, Preds, TraitPredicate, TraitRef, Ty,
 };
 use candidate_ir::ir::stop::Stop;
-use candidate_ir::ir::trees::Trees;
 use std::alloc::Global;
-
-/// The reference that the clause says to hold.
-fn reference_in(cx: &Cx, clause: Clause) -> Option<TraitRef>
-    requires { IsClause cx.now.trees clause }
-    ensures held { MatchOption result (trait_held (clause_tree cx.now.trees clause).head ≡ None) (λ r. trait_held (clause_tree cx.now.trees clause).head ≡ Some r.def_id) }
-    ensures fits { IfSome result (λ r. IsArgs cx.now.trees r.args × ArgumentsFit cx.now r × (arguments_of (clause_tree cx.now.trees clause) ≡ args_forest cx.now.trees r.args)) }
-{
-    cx.well_formed();
-    match cx.clause(clause).value {
-        ClauseKind::Trait(predicate) => match predicate.polarity {
-            PredicatePolarity::Positive => Some(predicate.trait_ref),
-            PredicatePolarity::Negative => None,
-        },
-        ClauseKind::Projection(_)
-        | ClauseKind::TypeOutlives(_, _)
-        | ClauseKind::RegionOutlives(_, _) => None,
-    }
-}
-
-/// The reference as the clause that its trait holds.
-fn held<E: EvalCtxt>(ecx: &mut E, trait_ref: Binder<TraitRef>) -> Result<Clause, Stop>
-    requires fits { ClauseFits (E.context ecx.old).trees (reference_clause trait_ref) }
-    requires takes { Takes (world (E.context ecx.old)) (clause_kind_tree (E.context ecx.old).trees (reference_clause trait_ref)) }
-    ensures kept { Keeps E.fixed E.probes E.context ecx.old ecx.new }
-    ensures same { E.state ecx.new ≡ E.state ecx.old }
-    ensures sort { IfOk result (λ x. IsClause (E.context ecx.new).trees x) }
-    ensures tree { IfOk result (λ x. clause_tree (E.context ecx.new).trees x ≡ clause_kind_tree (E.context ecx.old).trees (reference_clause trait_ref)) }
-    ensures cause { IfErr result IsMakingStop }
-{
-    ecx.mk_clause(Binder {
-        vars: trait_ref.vars,
-        value: ClauseKind::Trait(TraitPredicate {
-            trait_ref: trait_ref.value,
-            polarity: PredicatePolarity::Positive,
-        }),
-    })
-}
 
 /// The reference with fresh variables in the place of those of its binder.
 fn instance<E: EvalCtxt>(
@@ -80,23 +40,14 @@ fn instance<E: EvalCtxt>(
     ensures arguments { IfOk result (λ r. args_forest (E.context ecx.new).trees r.args ≡ fresh_arguments (E.state ecx.old) (clause_kind_tree (E.context ecx.old).trees (reference_clause trait_ref))) }
     ensures cause { IfErr result (StopsSomehow E.fixed E.context E.state E.stops ecx.old) }
 {
-    let clause = held(ecx, trait_ref)?;
+    let predicate = TraitPredicate {
+        trait_ref: trait_ref.value,
+        polarity: PredicatePolarity::Positive,
+    };
+    let clause = trait_clause(ecx, trait_ref.vars, predicate)?;
     let instance = instantiate_clause_with_infer(alloc, ecx, clause)?;
-    match reference_in(ecx.cx(), instance) {
-        Some(reference) => Ok(reference),
-        None => unreachable!(),
-    }
-}
-
-/// The self type of the reference.
-fn self_ty(cx: &Cx, trait_ref: TraitRef) -> Ty
-    requires args { IsArgs cx.now.trees trait_ref.args }
-    requires fit { ArgumentsFit cx.now trait_ref }
-    ensures sort { IsTy cx.now.trees result }
-    ensures tree { ty_tree cx.now.trees result ≡ first_tree (args_forest cx.now.trees trait_ref.args) }
-{
-    match first_type(cx.args(trait_ref.args)) {
-        Some(ty) => ty,
+    match predicate_in(ecx.cx(), instance) {
+        Some(predicate) => Ok(predicate.trait_ref),
         None => unreachable!(),
     }
 }
@@ -138,21 +89,6 @@ fn prepare<E: EvalCtxt>(
         bounds,
         required,
     })
-}
-
-/// The clauses as goals in the environment.
-fn goals(alloc: Global, env: ParamEnv, clauses: &[Clause]) -> Result<Vec<Goal<Clause>>, Stop>
-    ensures are { IfOk result (λ v. v.items ≡ goals_in env clauses.now) }
-    ensures cause { IfErr result IsMakingStop }
-{
-    let mut list = Vec::new(alloc);
-    for clause in clauses {
-        list.push(Goal {
-            param_env: env,
-            predicate: *clause,
-        })?;
-    }
-    Ok(list)
 }
 
 /// What an object candidate asks for, besides that its trait reference fits: what an object of the trait has to fulfil, in order,

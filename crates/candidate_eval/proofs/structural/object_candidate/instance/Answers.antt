@@ -7,12 +7,12 @@ use Rattle.candidate_eval.proofs.structural.object_candidate.instance.Goals as g
 pub returns-in_err-instance-clause-kept : goal.returns-in_err-instance-clause-kept
 returns-in_err-instance-clause-kept g c =
     let E = g.E.EvalCtxt in
-    keeps-trans E.fixed E.probes g.E.Build.context c.args.ecx.now c.held.new.ecx c.instantiate_clause_with_infer.new.ecx c.held.ensures.kept c.instantiate_clause_with_infer.ensures.kept
+    keeps-trans E.fixed E.probes g.E.Build.context c.args.ecx.now c.trait_clause.new.ecx c.instantiate_clause_with_infer.new.ecx c.trait_clause.ensures.kept c.instantiate_clause_with_infer.ensures.kept
 
 pub returns-clause-kept : goal.returns-clause-kept
 returns-clause-kept g c =
     let E = g.E.EvalCtxt in
-    keeps-trans E.fixed E.probes g.E.Build.context c.args.ecx.now c.held.new.ecx c.instantiate_clause_with_infer.new.ecx c.held.ensures.kept c.instantiate_clause_with_infer.ensures.kept
+    keeps-trans E.fixed E.probes g.E.Build.context c.args.ecx.now c.trait_clause.new.ecx c.instantiate_clause_with_infer.new.ecx c.trait_clause.ensures.kept c.instantiate_clause_with_infer.ensures.kept
 
 pub returns-in_err-clause-clause-cause : goal.returns-in_err-clause-clause-cause
 returns-in_err-clause-clause-cause g c =
@@ -22,4 +22,4 @@ returns-in_err-clause-clause-cause g c =
 pub returns-in_err-instance-clause-cause : goal.returns-in_err-instance-clause-cause
 returns-in_err-instance-clause-cause g c =
     let p = err_from_is_err_and c.from_residual-in_err-instance.result c.from_residual-in_err-instance.ensures.1 in
-    rw (p.1, p.2) (somehow-later (reaches c.held.ensures.kept) (somehow c.in_err-instance.ensures.cause))
+    rw (p.1, p.2) (somehow-later (reaches c.trait_clause.ensures.kept) (somehow c.in_err-instance.ensures.cause))

@@ -4,7 +4,7 @@ use Rattle.candidate_ir.specs.declared.ir.kinds.Clause.{Clause}
 use Rattle.candidate_ir.specs.declared.ir.kinds.Goal.{Goal}
 use Rattle.candidate_eval.specs.ObjectRequirements.{goals_in}
 use Rattle.candidate_eval.proofs.ObjectCandidates.{goal_with}
-use Rattle.candidate_eval.proofs.structural.object_candidate.goals.Goals as goal
+use Rattle.candidate_eval.proofs.eval.clauses.goals.Goals as goal
 
 pub loop-clause-init : goal.loop-clause-init
 loop-clause-init c = c.new-list.ensures.items

@@ -1,7 +1,7 @@
 use Rattle.std.proofs.Common.{sym, ◌∙◌}
 use Rattle.candidate_eval.proofs.ObjectCandidates.{first-is, first-there}
 use Rattle.candidate_eval.proofs.Replacing.{first-fits}
-use Rattle.candidate_eval.proofs.structural.object_candidate.self_ty.Goals as goal
+use Rattle.candidate_eval.proofs.eval.clauses.self_ty.Goals as goal
 
 pub unreachable-requires : goal.unreachable-requires
 unreachable-requires c = first-there c.args.cx.now c.args.trait_ref c.args-2.result.now c.args-2.ensures.fits c.args-2.ensures.tree c.requires.fit (sym c.first_type.ensures ∙ c.in-None.is)

@@ -1,0 +1,6 @@
+use Rattle.candidate_eval.proofs.ObjectCandidates.{predicate-read}
+use Rattle.candidate_eval.proofs.eval.clauses.predicate_in.Goals as goal
+
+pub returns-in-Trait-clause-fits : goal.returns-in-Trait-clause-fits
+returns-in-Trait-clause-fits c =
+    predicate-read c.args.cx.now c.args.clause c.clause.result c.in-Trait.predicate c.well_formed-2.ensures c.clause.ensures.fits c.clause.ensures.tree c.in-Trait.is

@@ -1,0 +1,115 @@
+//! What is read of clauses, and clauses that are made.
+
+ghost use Rattle.std.specs.Prelude.{◌≡◌, ◌+◌, ◌≤◌, length, false, true, None, Some, MatchOption, IfOk, IfErr, IfSome};
+ghost use Rattle.candidate_ir.specs.Context.{Grows, world};
+ghost use Rattle.candidate_ir.specs.Folding.{IsSubstStop, lacks_argument, substituted, substituted_tree};
+ghost use Rattle.candidate_ir.specs.Nodes.{kind_at, tree_at};
+ghost use Rattle.candidate_ir.specs.References.{ArgumentsFit, Takes};
+ghost use Rattle.candidate_ir.specs.Substitutions.{row_of};
+ghost use Rattle.candidate_ir.specs.Trees.{Forest, height, heights, is_list_kind, is_param, tree_holds};
+ghost use Rattle.candidate_ir.specs.Words.{IsArgs, IsClause, IsTy, ClauseFits, args_forest, clause_kind_tree, clause_tree, ty_tree};
+ghost use Rattle.candidate_eval.specs.Evaluators.{IsMakingStop, Keeps};
+ghost use Rattle.candidate_eval.specs.ObjectRequirements.{arguments_of, first_tree, goals_in, trait_fact, trait_said};
+
+use crate::eval::context::EvalCtxt;
+use crate::structural::making::first_type;
+use candidate_ir::decl::Cx;
+use candidate_ir::decl::make::Make;
+use candidate_ir::decl::subst::subst;
+use candidate_ir::ir::kinds::{
+    Args, Binder, Clause, ClauseKind, Goal, ParamEnv, TraitPredicate, TraitRef, Ty, Vars,
+};
+use candidate_ir::ir::numbered::Numbered;
+use candidate_ir::ir::stop::Stop;
+use candidate_ir::ir::trees::Trees;
+use std::alloc::Global;
+
+/// What the clause says of a trait, that it holds or that it does not; `None` if it says something else. The reference is the one that
+/// stands under the clause's binder.
+pub fn predicate_in(cx: &Cx, clause: Clause) -> Option<TraitPredicate>
+    requires { IsClause cx.now.trees clause }
+    ensures said { MatchOption result (trait_said (clause_tree cx.now.trees clause).head ≡ None) (λ p. trait_said (clause_tree cx.now.trees clause).head ≡ Some (p.trait_ref.def_id, p.polarity)) }
+    ensures fits { IfSome result (λ p. IsArgs cx.now.trees p.trait_ref.args × ArgumentsFit cx.now p.trait_ref × (arguments_of (clause_tree cx.now.trees clause) ≡ args_forest cx.now.trees p.trait_ref.args)) }
+{
+    cx.well_formed();
+    match cx.clause(clause).value {
+        ClauseKind::Trait(predicate) => Some(predicate),
+        ClauseKind::Projection(_)
+        | ClauseKind::TypeOutlives(_, _)
+        | ClauseKind::RegionOutlives(_, _) => None,
+    }
+}
+
+/// The self type of the reference: the first of its arguments.
+pub fn self_ty(cx: &Cx, trait_ref: TraitRef) -> Ty
+    requires args { IsArgs cx.now.trees trait_ref.args }
+    requires fit { ArgumentsFit cx.now trait_ref }
+    ensures sort { IsTy cx.now.trees result }
+    ensures tree { ty_tree cx.now.trees result ≡ first_tree (args_forest cx.now.trees trait_ref.args) }
+{
+    match first_type(cx.args(trait_ref.args)) {
+        Some(ty) => ty,
+        None => unreachable!(),
+    }
+}
+
+/// The clauses as goals in the environment. The only stop is `Stop::Memory`, where the list can't grow.
+pub fn goals(alloc: Global, env: ParamEnv, clauses: &[Clause]) -> Result<Vec<Goal<Clause>>, Stop>
+    ensures are { IfOk result (λ v. v.items ≡ goals_in env clauses.now) }
+    ensures cause { IfErr result IsMakingStop }
+{
+    let mut list = Vec::new(alloc);
+    for clause in clauses {
+        list.push(Goal {
+            param_env: env,
+            predicate: *clause,
+        })?;
+    }
+    Ok(list)
+}
+
+/// The clause that says the predicate, under a binder of these variables. It stops as `mk_clause` does.
+pub fn trait_clause<E: EvalCtxt>(
+    ecx: &mut E,
+    vars: Vars,
+    predicate: TraitPredicate,
+) -> Result<Clause, Stop>
+    requires fits { ClauseFits (E.context ecx.old).trees (trait_fact vars predicate) }
+    requires takes { Takes (world (E.context ecx.old)) (clause_kind_tree (E.context ecx.old).trees (trait_fact vars predicate)) }
+    ensures kept { Keeps E.fixed E.probes E.context ecx.old ecx.new }
+    ensures same { E.state ecx.new ≡ E.state ecx.old }
+    ensures sort { IfOk result (λ x. IsClause (E.context ecx.new).trees x) }
+    ensures tree { IfOk result (λ x. clause_tree (E.context ecx.new).trees x ≡ clause_kind_tree (E.context ecx.old).trees (trait_fact vars predicate)) }
+    ensures cause { IfErr result IsMakingStop }
+{
+    ecx.mk_clause(Binder {
+        vars,
+        value: ClauseKind::Trait(predicate),
+    })
+}
+
+/// What is given, with the arguments in the place of the parameters, by `subst`; it stops as that does. The state stays.
+pub fn put_in<N: Numbered, E: EvalCtxt>(
+    alloc: Global,
+    ecx: &mut E,
+    of: N,
+    args: Args,
+) -> Result<N, Stop>
+    requires value { kind_at (E.context ecx.old).trees (N.number_of of) ≡ N.kind of }
+    requires args { IsArgs (E.context ecx.old).trees args }
+    requires there { tree_holds (lacks_argument (args_forest (E.context ecx.old).trees args)) (tree_at (E.context ecx.old).trees (N.number_of of)) ≡ false }
+    ensures kept { Keeps E.fixed E.probes E.context ecx.old ecx.new }
+    ensures same { E.state ecx.new ≡ E.state ecx.old }
+    ensures sort { IfOk result (λ x. kind_at (E.context ecx.new).trees (N.number_of x) ≡ N.kind x) }
+    ensures kind { IfOk result (λ x. N.kind x ≡ N.kind of) }
+    ensures tree { IfOk result (λ x. tree_at (E.context ecx.new).trees (N.number_of x) ≡ substituted_tree (args_forest (E.context ecx.old).trees args) (tree_at (E.context ecx.old).trees (N.number_of of))) }
+    ensures list { is_list_kind (N.kind of) ≡ true → IfOk result (λ x. (tree_at (E.context ecx.new).trees (N.number_of x)).children ≡ substituted (args_forest (E.context ecx.old).trees args) 0 (tree_at (E.context ecx.old).trees (N.number_of of)).children) }
+    ensures cause { IfErr result (λ s. IsSubstStop (length (E.context ecx.new).trees) (substituted (args_forest (E.context ecx.old).trees args) 0 (row_of (N.kind of) (tree_at (E.context ecx.old).trees (N.number_of of)))) s) }
+
+    // Laws; those of lists follow from `list` alike.
+    ensures unchanged { tree_holds is_param (tree_at (E.context ecx.old).trees (N.number_of of)) ≡ false → IfOk result (λ x. tree_at (E.context ecx.new).trees (N.number_of x) ≡ tree_at (E.context ecx.old).trees (N.number_of of)) }
+    ensures twice { (others : Forest) → IfOk result (λ x. substituted_tree others (tree_at (E.context ecx.new).trees (N.number_of x)) ≡ substituted_tree (substituted others 0 (args_forest (E.context ecx.old).trees args)) (tree_at (E.context ecx.old).trees (N.number_of of))) }
+    ensures height { IfOk result (λ x. height (tree_at (E.context ecx.new).trees (N.number_of x)) ≤ height (tree_at (E.context ecx.old).trees (N.number_of of)) + heights (args_forest (E.context ecx.old).trees args)) }
+{
+    subst(alloc, ecx, of, args)
+}
