@@ -1,9 +1,11 @@
 -- What calls say of the rule that they follow.
-use Rattle.std.specs.Prelude.{◌≡◌, Bool, true, false, Result, Err, IfOk, IfErr, List, [], ◌∷◌, ◌++◌, map}
+use Rattle.std.specs.Prelude.{◌≡◌, All, Bool, true, false, Result, Err, IfOk, IfErr, List, [], ◌∷◌, ◌++◌, map}
 use Rattle.candidate_ir.specs.declared.ir.kinds.GoalSource.{GoalSource}
 use Rattle.candidate_ir.specs.declared.ir.stop.Stop.{Stop}
 use Rattle.candidate_ir.specs.Context.{Context}
-use Rattle.candidate_ir.specs.Trees.{Forest, none, Tree}
+use Rattle.candidate_ir.specs.declared.ir.kinds.Clause.{Clause}
+use Rattle.candidate_ir.specs.Trees.{Forest, none, Tree, is_param, tree_holds}
+use Rattle.candidate_ir.specs.Words.{clause_tree}
 use Rattle.candidate_eval.specs.declared.eval.refusal.NoSolutionOrStop.{NoSolutionOrStop}
 use Rattle.candidate_eval.specs.declared.eval.refusal.NoSolutionOrStop.TheVariants as N
 use Rattle.candidate_eval.specs.declared.eval.response.Candidate.{Candidate}
@@ -52,3 +54,7 @@ standing S ls = record { state = S; locals = ls }
 -- a rule that nests clauses and asks
 abbrev pub flat_rule : Env → Bool → GoalSource → List Tree → CandidateSource → Certainty → Rule
 flat_rule e applies s cs source c = record { env = e; applies = applies; steps = map (add s) cs; ending = ask source c }
+
+-- no parameter stands in the clauses
+abbrev pub HaveNoParameter : List Tree → List Clause → Type 0
+HaveNoParameter ts cs = All (λ c. tree_holds is_param (clause_tree ts c) ≡ false) cs

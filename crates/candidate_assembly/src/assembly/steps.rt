@@ -4,15 +4,18 @@ ghost use Rattle.std.specs.Prelude.{◌≡◌, All, map, false, IfErr};
 ghost use Rattle.candidate_ir.specs.Trees.{is_param, tree_holds};
 ghost use Rattle.candidate_ir.specs.Words.{ClauseListFits, IsParamEnv, clause_tree, env_forest};
 ghost use Rattle.candidate_eval.specs.Accounts.{by_stop};
-ghost use Rattle.candidate_eval.specs.Evaluators.{Keeps};
+ghost use Rattle.candidate_eval.specs.Evaluators.{Keeps, with_goals_of};
 ghost use Rattle.candidate_eval.specs.Judging.{asked, judged};
-ghost use Rattle.candidate_assembly.specs.Telling.{Considers, StopsOfItself, Told, flat_rule};
+ghost use Rattle.candidate_eval.specs.ObjectRequirements.{goals_in};
+ghost use Rattle.candidate_assembly.specs.Telling.{Considers, HaveNoParameter, StopsOfItself, Told, flat_rule};
 
 use candidate_eval::eval::certainty::Certainty;
-use candidate_eval::eval::context::EvalCtxt;
+use candidate_eval::eval::clauses::goals;
+use candidate_eval::eval::context::{EvalCtxt, ProbeKind};
 use candidate_eval::eval::refusal::NoSolutionOrStop;
 use candidate_eval::eval::response::{Candidate, CandidateHeadUsages};
 use candidate_eval::eval::source::CandidateSource;
+use candidate_ir::ir::kinds::{Clause, GoalSource, ParamEnv};
 use std::alloc::Global;
 
 /// The candidate of a source, with at most that certainty.
@@ -32,4 +35,53 @@ pub(crate) fn respond_as<E: EvalCtxt>(
         result,
         head_usages: CandidateHeadUsages::new(alloc),
     })
+}
+
+/// Clauses become pending goals in the environment, and then the candidate is asked for.
+pub(crate) fn nest_and_respond<E: EvalCtxt>(
+    alloc: Global,
+    ecx: &mut E,
+    env: ParamEnv,
+    nested_source: GoalSource,
+    nested: &[Clause],
+    source: CandidateSource,
+    certainty: Certainty,
+) -> Result<Candidate, NoSolutionOrStop>
+    requires env { IsParamEnv (E.context ecx.old).trees env }
+    requires nested { ClauseListFits (E.context ecx.old).trees nested.now }
+    ensures kept { Keeps E.fixed E.probes E.context ecx.old ecx.new }
+    ensures told { Told (E.context ecx.new).trees result (asked (E.judge (E.fixed ecx.old)) (with_goals_of (E.context ecx.old).trees (E.state ecx.old) nested_source (goals_in env nested.now)) source certainty) }
+    ensures cause { IfErr result (by_stop (StopsOfItself E.fixed E.context E.state E.stops ecx.old)) }
+{
+    let nested = goals(alloc, env, nested)?;
+    ecx.add_goals(nested_source, nested.as_slice())?;
+    respond_as(alloc, ecx, source, certainty)
+}
+
+/// The candidate of a rule that asks for nothing but nested clauses, where the rule applies.
+///
+/// The state is left alike the one before, whatever is answered. `NoSolution` comes where the rule doesn't apply, or where the evaluator
+/// refuses; the stops are those of growing a list and of the evaluator.
+pub fn consider_flat<E: EvalCtxt>(
+    alloc: Global,
+    ecx: &mut E,
+    env: ParamEnv,
+    applies: bool,
+    nested_source: GoalSource,
+    nested: &[Clause],
+    source: CandidateSource,
+    certainty: Certainty,
+) -> Result<Candidate, NoSolutionOrStop>
+    requires env { IsParamEnv (E.context ecx.old).trees env }
+    requires nested { ClauseListFits (E.context ecx.old).trees nested.now }
+    requires free { HaveNoParameter (E.context ecx.old).trees nested.now }
+    ensures { Considers E.fixed E.judge E.state E.probes E.context E.stops ecx.old ecx.new (flat_rule (env_forest (E.context ecx.old).trees env) applies nested_source (map (clause_tree (E.context ecx.old).trees) nested.now) source certainty) result }
+{
+    if !applies {
+        return Err(NoSolutionOrStop::NoSolution);
+    }
+    let probe = ecx.begin_probe(ProbeKind::Kept)?;
+    let answer = nest_and_respond(alloc, ecx, env, nested_source, nested, source, certainty);
+    let _usages = ecx.end_probe(probe);
+    answer
 }

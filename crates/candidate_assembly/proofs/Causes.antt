@@ -1,0 +1,34 @@
+-- Why calls stopped, from one call to the next.
+use Rattle.std.proofs.Common.{◌≡◌, true, List, Result, Ok, Err, IfErr, ap, ◌∙◌}
+use Rattle.candidate_ir.specs.declared.ir.stop.Stop.{Stop}
+use Rattle.candidate_ir.specs.Context.{Context}
+use Rattle.candidate_eval.specs.declared.eval.refusal.NoSolutionOrStop.{NoSolutionOrStop}
+use Rattle.candidate_eval.specs.declared.eval.refusal.NoSolutionOrStop.TheVariants as N
+use Rattle.candidate_eval.specs.Accounts.{Account, Question, Reaches, StopsSomehow, by_stop}
+use Rattle.candidate_eval.specs.Accounts.StopsSomehow.{asking, making}
+use Rattle.candidate_eval.specs.Evaluators.{IsMakingStop, Keeps}
+use Rattle.candidate_eval.specs.States.{State}
+use Rattle.candidate_eval.proofs.Accounts.{accounted-here, by-stop, reaches, somehow-later}
+use Rattle.candidate_assembly.specs.Telling.{StopsOfItself}
+
+module _ {E X : Type 0} {fixed : E → X} {context : E → Context} {state : E → State} {stops : Account E} where
+  pub made-here : {a : E} {s : Stop} → IsMakingStop s → StopsOfItself fixed context state stops a s
+  made-here m = λ own. making m
+
+  pub asked-here : {probes : E → List State} {a b : E} {s : Stop} (q : Question) → Keeps fixed probes context a b → stops b (state a) q s → StopsOfItself fixed context state stops a s
+  asked-here q k x = λ own. asking (accounted-here q (reaches k) x)
+
+  pub somehow-here : {a : E} {s : Stop} → StopsSomehow fixed context state stops a s → StopsOfItself fixed context state stops a s
+  somehow-here x = λ own. x
+
+  pub later : {a b : E} {s : Stop} → Reaches fixed context a b → StopsOfItself fixed context state stops b s → StopsOfItself fixed context state stops a s
+  later r f = λ own. somehow-later r (f own)
+
+-- what is said of the stop that a call answers
+pub caused : {A : Type 0} {P Q : Stop → Type 0} (r : Result A NoSolutionOrStop) → ((s : Stop) → P s → Q s) → IfErr r (by_stop P) → IfErr r (by_stop Q)
+caused (Ok x) f h = tt
+caused (Err e) f h = by-stop e f h
+
+-- the stop that a call answers by a `?`
+pub answered-stop : {A : Type 0} (r : Result A NoSolutionOrStop) (s : Stop) → (y : NoSolutionOrStop) × (r ≡ Err y) × (y ≡ N.Stop s) → r ≡ Err (N.Stop s)
+answered-stop r s p = p.1 ∙ ap Err p.2

@@ -1,0 +1,32 @@
+use Rattle.std.proofs.Common.{◌≡◌, true, rules}
+use Rattle.std.proofs.lemmas.Result.{err_from_is_err_and}
+use Rattle.candidate_eval.proofs.Objects.{env-kept}
+use Rattle.candidate_eval.proofs.Responding.{clauses-kept}
+use Rattle.candidate_assembly.proofs.Causes.{answered-stop}
+use Rattle.candidate_assembly.proofs.Considering.{in-a-probe, not-begun}
+use Rattle.candidate_assembly.proofs.Flat.{flat-told}
+use Rattle.candidate_assembly.proofs.assembly.steps.consider_flat.Goals as goal
+
+pub returns-in_err-probe : goal.returns-in_err-probe
+returns-in_err-probe g c =
+    let why = c.in_err-probe.ensures in
+    not-begun g.met.E.EvalCtxt.stops_itself (λ f. (g.met.E.EvalCtxt.lawful f).alike_judged_alike) c.args.ecx.now c.begin_probe.new.self _ _ c.from_residual.result c.in_err-probe.field-0.0
+    (answered-stop c.from_residual.result _ (err_from_is_err_and c.from_residual.result c.from_residual.ensures.1)) why.fixed why.grows why.stopped why.cause
+
+pub nest_and_respond-answer-requires-clause-env : goal.nest_and_respond-answer-requires-clause-env
+nest_and_respond-answer-requires-clause-env g c = (env-kept _ _ c.args.env c.begin_probe.ensures.grows c.requires.env).0
+
+pub nest_and_respond-answer-requires-clause-nested : goal.nest_and_respond-answer-requires-clause-nested
+nest_and_respond-answer-requires-clause-nested g c = (clauses-kept _ _ c.args.nested.now c.begin_probe.ensures.grows c.requires.nested).0
+
+pub returns : goal.returns
+returns g c =
+    let E = g.E.EvalCtxt in
+    let ran = c.nest_and_respond-answer in
+    let end = c.end_probe-usages.ensures in
+    let began = c.in_ok-probe.ensures in
+    let applies : c.args.applies ≡ true = search rules in
+    in-a-probe c.args.ecx.now c.begin_probe.new.self ran.new.ecx c.end_probe-usages.new.self _ ran.result began.fixed began.grows began.ok ran.ensures.kept
+    (flat-told (E.judge (E.fixed c.begin_probe.new.self)) (g.E.Build.context c.args.ecx.now) (g.E.Build.context c.begin_probe.new.self) (g.E.Build.context ran.new.ecx).trees (E.state c.begin_probe.new.self)
+    c.args.applies c.args.env c.args.nested_source c.args.source c.args.certainty c.args.nested.now ran.result applies began.grows c.requires.env c.requires.nested c.requires.free ran.ensures.told)
+    ran.ensures.cause end.fixed end.grows end.closed end.left
