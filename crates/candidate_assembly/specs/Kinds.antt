@@ -22,7 +22,8 @@ use Rattle.candidate_ir.specs.Worlds.{Reference, TraitSort, joined, kinds_of, pa
 use Rattle.candidate_eval.specs.declared.eval.mode.TypingMode.{TypingMode}
 use Rattle.candidate_eval.specs.declared.eval.source.CandidateSource.{CandidateSource}
 use Rattle.candidate_eval.specs.Callable.{all_but_last, is_unknown}
-use Rattle.candidate_eval.specs.Certainties.{Certainty, AMBIGUOUS}
+use Rattle.candidate_eval.specs.declared.eval.certainty.Certainty.{Certainty}
+use Rattle.candidate_eval.specs.Certainties.{AMBIGUOUS}
 use Rattle.candidate_eval.specs.Judging.{Judged, Refused, answered, continued, run, start}
 use Rattle.candidate_eval.specs.ObjectRequirements.{first_tree}
 use Rattle.candidate_eval.specs.Responses.{Response}
@@ -84,10 +85,10 @@ self_type K c g = first_tree (K.reference_of c g).arguments
 -- What makes up a goal: its numbers are of the context, its reference has the arguments that its trait takes, and neither a parameter nor
 -- an escaping bound variable stands in it. By its parts: the numbers that it holds, and how its rules see it.
 pub record IsGoal {G P : Type 0} (K : KindRules G) (arguments : P → Args) (types : P → List Ty) (seen : List Tree → ParamEnv → P → G) (c : Context) (env : ParamEnv) (p : P) : Type 0 where
-  pub env : IsParamEnv c.trees env
-  pub arguments : IsArgs c.trees (arguments p)
-  pub types : TypesFit c.trees (types p)
-  pub fit : joined (Some (TypeKind ∷ [])) (parameters (world c) TraitSort (K.reference_of c (seen c.trees env p)).trait) ≡ Some (kinds_of (K.reference_of c (seen c.trees env p)).arguments)
+  pub env_fits : IsParamEnv c.trees env
+  pub arguments_fit : IsArgs c.trees (arguments p)
+  pub types_fit : TypesFit c.trees (types p)
+  pub takes : joined (Some (TypeKind ∷ [])) (parameters (world c) TraitSort (K.reference_of c (seen c.trees env p)).trait) ≡ Some (kinds_of (K.reference_of c (seen c.trees env p)).arguments)
   pub no_parameter : holds is_param (K.trees_of (seen c.trees env p)) ≡ false
   pub is_closed : escapes 0 (K.trees_of (seen c.trees env p)) ≡ false
 
@@ -102,9 +103,9 @@ pub record IsAssumption {G : Type 0} (K : KindRules G) (c : Context) (g : G) (t 
 
 -- A goal says the same where a context has grown.
 pub record SaysTheSame {G P : Type 0} (K : KindRules G) (seen : List Tree → ParamEnv → P → G) (old new : Context) (env : ParamEnv) (p : P) : Type 0 where
-  pub seen : seen new.trees env p ≡ seen old.trees env p
-  pub reference : K.reference_of new (seen old.trees env p) ≡ K.reference_of old (seen old.trees env p)
-  pub fits : (h : Head) → K.fits new (seen old.trees env p) h ≡ K.fits old (seen old.trees env p) h
+  pub seen_same : seen new.trees env p ≡ seen old.trees env p
+  pub reference_same : K.reference_of new (seen old.trees env p) ≡ K.reference_of old (seen old.trees env p)
+  pub fits_same : (h : Head) → K.fits new (seen old.trees env p) h ≡ K.fits old (seen old.trees env p) h
 
 -- What is judged of steps, where k says what the closure answers that is asked then.
 abbrev pub steps_judged : Judge → Env → State → CandidateSource → List Step → (State → Option Response) → Judged

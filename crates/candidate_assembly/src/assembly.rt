@@ -1,3 +1,4 @@
 //! What assembly asks of a kind of goals, and the rules that all kinds share.
 
+pub mod kind;
 pub mod steps;

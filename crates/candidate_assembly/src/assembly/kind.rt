@@ -1,0 +1,255 @@
+//! Kinds of goals.
+
+ghost use Rattle.std.specs.Prelude.{◌≡◌, List, true, false, IfOk, IfErr, OnOk, OnErr};
+ghost use Rattle.candidate_ir.specs.declared.ir.kinds.Args.{Args as ArgsNumber};
+ghost use Rattle.candidate_ir.specs.declared.ir.kinds.ParamEnv.{ParamEnv as EnvNumber};
+ghost use Rattle.candidate_ir.specs.declared.ir.kinds.Ty.{Ty as TyNumber};
+ghost use Rattle.candidate_ir.specs.Context.{Context, Grows};
+ghost use Rattle.candidate_ir.specs.References.{reference_of};
+ghost use Rattle.candidate_ir.specs.Trees.{Tree};
+ghost use Rattle.candidate_ir.specs.Words.{IsArgs, IsClause, IsTy, clause_tree, ty_tree};
+ghost use Rattle.candidate_eval.specs.Accounts.{by_stop};
+ghost use Rattle.candidate_eval.specs.Evaluators.{Keeps};
+ghost use Rattle.candidate_eval.specs.Judging.{run, start};
+ghost use Rattle.candidate_assembly.specs.Closures.{After, IsCallable};
+ghost use Rattle.candidate_assembly.specs.Kinds.{IsAssumption, IsGoal, IsTyped, KindRules, SaysTheSame, passes, self_type};
+ghost use Rattle.candidate_assembly.specs.Kinds as kind;
+ghost use Rattle.candidate_assembly.specs.Telling.{Considers, StopsOfItself};
+
+use candidate_eval::eval::context::EvalCtxt;
+use candidate_eval::eval::refusal::NoSolutionOrStop;
+use candidate_eval::eval::response::Candidate;
+use candidate_ir::decl::Cx;
+use candidate_ir::decl::contents::Sizedness;
+use candidate_ir::ir::kinds::{Clause, ClosureKind, ParamEnv, TraitId, TraitRef, Ty};
+use std::alloc::Global;
+
+/// A clause doesn't pass quick rejection.
+#[derive(Clone, Copy, Debug, PartialEq, Eq)]
+pub struct NoSolution;
+
+/// A kind of goals: what is to hold in an environment.
+///
+/// What a kind gives is data (`rules`), of which its calls say what they do. A goal is one of the context, with the arguments that its
+/// trait takes, and neither a parameter nor an escaping bound variable stands in it.
+///
+/// Each `consider_*` answers the candidate of its one rule, or `NoSolution` where the rule's side condition doesn't hold or the evaluator
+/// refuses it, and leaves a state alike the one before. Its stops are the evaluator's and those of making nodes and lists. The self type of
+/// its goal is neither a general variable nor a bound type.
+pub trait GoalKind<E: EvalCtxt>: Copy {
+    /// The goal as its rules see it.
+    ghost Seen: { Type 0 };
+
+    /// What is seen of an environment and a predicate.
+    ghost seen: { List Tree → EnvNumber → Self → Seen };
+
+    /// The list of arguments that a predicate holds.
+    ghost arguments: { Self → ArgsNumber };
+
+    /// The types that it holds besides.
+    ghost types: { Self → List TyNumber };
+
+    /// The rules.
+    ghost rules: { KindRules Seen };
+
+    /// A goal says the same where a context has grown.
+    ghost stays: { (old new : Context) (env : EnvNumber) (predicate : Self) → Grows old new → IsGoal rules arguments types seen old env predicate → SaysTheSame rules seen old new env predicate };
+
+    /// The type that the goal is about.
+    fn self_ty(cx: &Cx, env: ParamEnv, predicate: Self) -> Ty
+        requires { IsGoal rules arguments types seen cx.now env predicate }
+        ensures sort { IsTy cx.now.trees result }
+        ensures tree { ty_tree cx.now.trees result ≡ self_type rules cx.now (seen cx.now.trees env predicate) };
+
+    /// The trait reference that it is about.
+    fn trait_ref(cx: &Cx, env: ParamEnv, predicate: Self) -> TraitRef
+        requires { IsGoal rules arguments types seen cx.now env predicate }
+        ensures sort { IsArgs cx.now.trees result.args }
+        ensures is { reference_of cx.now.trees result ≡ rules.reference_of cx.now (seen cx.now.trees env predicate) };
+
+    /// The trait of that reference.
+    final fn trait_def_id(cx: &Cx, env: ParamEnv, predicate: Self) -> TraitId
+        requires { IsGoal rules arguments types seen cx.now env predicate }
+        ensures { result.0 ≡ (rules.reference_of cx.now (seen cx.now.trees env predicate)).trait }
+    {
+        Self::trait_ref(cx, env, predicate).def_id
+    }
+
+    /// The predicate with this self type.
+    fn with_replaced_self_ty(
+        alloc: Global,
+        ecx: &mut E,
+        env: ParamEnv,
+        predicate: Self,
+        self_ty: Ty,
+    ) -> Result<Self, NoSolutionOrStop>
+        requires goal { IsGoal rules arguments types seen (E.context ecx.old) env predicate }
+        requires self_ty { IsTy (E.context ecx.old).trees self_ty }
+        ensures kept { Keeps E.fixed E.probes E.context ecx.old ecx.new }
+        ensures same { E.state ecx.new ≡ E.state ecx.old }
+        ensures is { IfOk result (λ p. seen (E.context ecx.new).trees env p ≡ rules.with_self_type (seen (E.context ecx.old).trees env predicate) (ty_tree (E.context ecx.old).trees self_ty)) }
+        ensures cause { IfErr result (by_stop (StopsOfItself E.fixed E.context E.state E.stops ecx.old)) };
+
+    /// Whether a clause passes quick rejection: what it is about may be what the goal is about.
+    fn fast_reject_assumption(
+        cx: &Cx,
+        env: ParamEnv,
+        predicate: Self,
+        assumption: Clause,
+    ) -> Result<(), NoSolution>
+        requires goal { IsGoal rules arguments types seen cx.now env predicate }
+        requires assumption { IsClause cx.now.trees assumption }
+        ensures passes { OnOk result (passes rules cx.now (seen cx.now.trees env predicate) (clause_tree cx.now.trees assumption) ≡ true) }
+        ensures rejected { OnErr result (passes rules cx.now (seen cx.now.trees env predicate) (clause_tree cx.now.trees assumption) ≡ false) };
+
+    /// Matches a clause that passes quick rejection, and answers what the closure answers then. What stood under the clause's binder is
+    /// instantiated with fresh variables. The state is changed, so it is called in a probe.
+    fn match_assumption<R, F: FnOnce(&mut E) -> Result<R, NoSolutionOrStop>>(
+        alloc: Global,
+        ecx: &mut E,
+        env: ParamEnv,
+        predicate: Self,
+        assumption: Clause,
+        then: F,
+    ) -> Result<R, NoSolutionOrStop>
+        requires goal { IsGoal rules arguments types seen (E.context ecx.old) env predicate }
+        requires assumption { IsClause (E.context ecx.old).trees assumption }
+        requires matches { IsAssumption rules (E.context ecx.old) (seen (E.context ecx.old).trees env predicate) (clause_tree (E.context ecx.old).trees assumption) }
+        requires callable { IsCallable E.fixed E.state E.probes E.context E.stops F.FnOnce then ecx.old }
+        ensures kept { Keeps E.fixed E.probes E.context ecx.old ecx.new }
+        ensures after { After E.fixed E.state E.probes E.context E.stops F.FnOnce then ecx.old (run (E.judge (E.fixed ecx.old)) (rules.env_of (seen (E.context ecx.old).trees env predicate)) (start (E.state ecx.old)) (rules.match_steps (seen (E.context ecx.old).trees env predicate) (clause_tree (E.context ecx.old).trees assumption))) result ecx.new };
+
+    /// The predicate holds an error.
+    fn consider_error_guaranteed_candidate(
+        alloc: Global,
+        ecx: &mut E,
+        env: ParamEnv,
+        predicate: Self,
+    ) -> Result<Candidate, NoSolutionOrStop>
+        requires goal { IsGoal rules arguments types seen (E.context ecx.old) env predicate }
+        requires typed { IsTyped rules (E.context ecx.old) (seen (E.context ecx.old).trees env predicate) }
+        ensures { Considers E.fixed E.judge E.state E.probes E.context E.stops ecx.old ecx.new (rules.builtin_rule kind.ErrorRule (E.context ecx.old) (seen (E.context ecx.old).trees env predicate)) result };
+
+    /// The parts of the type meet an auto trait.
+    fn consider_auto_trait_candidate(
+        alloc: Global,
+        ecx: &mut E,
+        env: ParamEnv,
+        predicate: Self,
+    ) -> Result<Candidate, NoSolutionOrStop>
+        requires goal { IsGoal rules arguments types seen (E.context ecx.old) env predicate }
+        requires typed { IsTyped rules (E.context ecx.old) (seen (E.context ecx.old).trees env predicate) }
+        ensures { Considers E.fixed E.judge E.state E.probes E.context E.stops ecx.old ecx.new (rules.builtin_rule kind.AutoTraitRule (E.context ecx.old) (seen (E.context ecx.old).trees env predicate)) result };
+
+    /// The where clauses of a trait alias hold.
+    fn consider_trait_alias_candidate(
+        alloc: Global,
+        ecx: &mut E,
+        env: ParamEnv,
+        predicate: Self,
+    ) -> Result<Candidate, NoSolutionOrStop>
+        requires goal { IsGoal rules arguments types seen (E.context ecx.old) env predicate }
+        requires typed { IsTyped rules (E.context ecx.old) (seen (E.context ecx.old).trees env predicate) }
+        ensures { Considers E.fixed E.judge E.state E.probes E.context E.stops ecx.old ecx.new (rules.builtin_rule kind.TraitAliasRule (E.context ecx.old) (seen (E.context ecx.old).trees env predicate)) result };
+
+    /// The type is sized, in this sense.
+    fn consider_builtin_sizedness_candidates(
+        alloc: Global,
+        ecx: &mut E,
+        env: ParamEnv,
+        predicate: Self,
+        sizedness: Sizedness,
+    ) -> Result<Candidate, NoSolutionOrStop>
+        requires goal { IsGoal rules arguments types seen (E.context ecx.old) env predicate }
+        requires typed { IsTyped rules (E.context ecx.old) (seen (E.context ecx.old).trees env predicate) }
+        ensures { Considers E.fixed E.judge E.state E.probes E.context E.stops ecx.old ecx.new (rules.builtin_rule (kind.SizednessRule sizedness) (E.context ecx.old) (seen (E.context ecx.old).trees env predicate)) result };
+
+    /// The type is `Copy`, `Clone` or `TrivialClone` by the rule that the language has for it.
+    fn consider_builtin_copy_clone_candidate(
+        alloc: Global,
+        ecx: &mut E,
+        env: ParamEnv,
+        predicate: Self,
+    ) -> Result<Candidate, NoSolutionOrStop>
+        requires goal { IsGoal rules arguments types seen (E.context ecx.old) env predicate }
+        requires typed { IsTyped rules (E.context ecx.old) (seen (E.context ecx.old).trees env predicate) }
+        ensures { Considers E.fixed E.judge E.state E.probes E.context E.stops ecx.old ecx.new (rules.builtin_rule kind.CopyCloneRule (E.context ecx.old) (seen (E.context ecx.old).trees env predicate)) result };
+
+    /// The type is a function pointer; for a negative goal, it surely is none.
+    fn consider_builtin_fn_ptr_trait_candidate(
+        alloc: Global,
+        ecx: &mut E,
+        env: ParamEnv,
+        predicate: Self,
+    ) -> Result<Candidate, NoSolutionOrStop>
+        requires goal { IsGoal rules arguments types seen (E.context ecx.old) env predicate }
+        requires typed { IsTyped rules (E.context ecx.old) (seen (E.context ecx.old).trees env predicate) }
+        ensures { Considers E.fixed E.judge E.state E.probes E.context E.stops ecx.old ecx.new (rules.builtin_rule kind.FnPtrTraitRule (E.context ecx.old) (seen (E.context ecx.old).trees env predicate)) result };
+
+    /// The type can be called in this way with the inputs that the goal names.
+    fn consider_builtin_fn_trait_candidates(
+        alloc: Global,
+        ecx: &mut E,
+        env: ParamEnv,
+        predicate: Self,
+        called: ClosureKind,
+    ) -> Result<Candidate, NoSolutionOrStop>
+        requires goal { IsGoal rules arguments types seen (E.context ecx.old) env predicate }
+        requires typed { IsTyped rules (E.context ecx.old) (seen (E.context ecx.old).trees env predicate) }
+        ensures { Considers E.fixed E.judge E.state E.probes E.context E.stops ecx.old ecx.new (rules.builtin_rule (kind.FnTraitRule called) (E.context ecx.old) (seen (E.context ecx.old).trees env predicate)) result };
+
+    /// The type is a tuple.
+    fn consider_builtin_tuple_candidate(
+        alloc: Global,
+        ecx: &mut E,
+        env: ParamEnv,
+        predicate: Self,
+    ) -> Result<Candidate, NoSolutionOrStop>
+        requires goal { IsGoal rules arguments types seen (E.context ecx.old) env predicate }
+        requires typed { IsTyped rules (E.context ecx.old) (seen (E.context ecx.old).trees env predicate) }
+        ensures { Considers E.fixed E.judge E.state E.probes E.context E.stops ecx.old ecx.new (rules.builtin_rule kind.TupleRule (E.context ecx.old) (seen (E.context ecx.old).trees env predicate)) result };
+
+    /// Pointers to the type have metadata: those to each type do.
+    fn consider_builtin_pointee_candidate(
+        alloc: Global,
+        ecx: &mut E,
+        env: ParamEnv,
+        predicate: Self,
+    ) -> Result<Candidate, NoSolutionOrStop>
+        requires goal { IsGoal rules arguments types seen (E.context ecx.old) env predicate }
+        requires typed { IsTyped rules (E.context ecx.old) (seen (E.context ecx.old).trees env predicate) }
+        ensures { Considers E.fixed E.judge E.state E.probes E.context E.stops ecx.old ecx.new (rules.builtin_rule kind.PointeeRule (E.context ecx.old) (seen (E.context ecx.old).trees env predicate)) result };
+
+    /// The type has a discriminant: each type has one.
+    fn consider_builtin_discriminant_kind_candidate(
+        alloc: Global,
+        ecx: &mut E,
+        env: ParamEnv,
+        predicate: Self,
+    ) -> Result<Candidate, NoSolutionOrStop>
+        requires goal { IsGoal rules arguments types seen (E.context ecx.old) env predicate }
+        requires typed { IsTyped rules (E.context ecx.old) (seen (E.context ecx.old).trees env predicate) }
+        ensures { Considers E.fixed E.judge E.state E.probes E.context E.stops ecx.old ecx.new (rules.builtin_rule kind.DiscriminantKindRule (E.context ecx.old) (seen (E.context ecx.old).trees env predicate)) result };
+
+    /// Values of the type can be dropped: those of each type can.
+    fn consider_builtin_destruct_candidate(
+        alloc: Global,
+        ecx: &mut E,
+        env: ParamEnv,
+        predicate: Self,
+    ) -> Result<Candidate, NoSolutionOrStop>
+        requires goal { IsGoal rules arguments types seen (E.context ecx.old) env predicate }
+        requires typed { IsTyped rules (E.context ecx.old) (seen (E.context ecx.old).trees env predicate) }
+        ensures { Considers E.fixed E.judge E.state E.probes E.context E.stops ecx.old ecx.new (rules.builtin_rule kind.DestructRule (E.context ecx.old) (seen (E.context ecx.old).trees env predicate)) result };
+
+    /// Nothing is run where a value of the type is dropped.
+    fn consider_builtin_bikeshed_guaranteed_no_drop_candidate(
+        alloc: Global,
+        ecx: &mut E,
+        env: ParamEnv,
+        predicate: Self,
+    ) -> Result<Candidate, NoSolutionOrStop>
+        requires goal { IsGoal rules arguments types seen (E.context ecx.old) env predicate }
+        requires typed { IsTyped rules (E.context ecx.old) (seen (E.context ecx.old).trees env predicate) }
+        ensures { Considers E.fixed E.judge E.state E.probes E.context E.stops ecx.old ecx.new (rules.builtin_rule kind.NoDropRule (E.context ecx.old) (seen (E.context ecx.old).trees env predicate)) result };
+}
