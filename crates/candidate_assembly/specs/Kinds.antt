@@ -22,7 +22,8 @@ use Rattle.candidate_ir.specs.Worlds.{Reference, TraitSort, joined, kinds_of, pa
 use Rattle.candidate_eval.specs.declared.eval.mode.TypingMode.{TypingMode}
 use Rattle.candidate_eval.specs.declared.eval.source.CandidateSource.{CandidateSource}
 use Rattle.candidate_eval.specs.Callable.{all_but_last, is_unknown}
-use Rattle.candidate_eval.specs.Certainties.{Certainty, AMBIGUOUS}
+use Rattle.candidate_eval.specs.declared.eval.certainty.Certainty.{Certainty}
+use Rattle.candidate_eval.specs.Certainties.{AMBIGUOUS}
 use Rattle.candidate_eval.specs.Judging.{Judged, Refused, answered, continued, run, start}
 use Rattle.candidate_eval.specs.ObjectRequirements.{first_tree}
 use Rattle.candidate_eval.specs.Responses.{Response}
@@ -83,13 +84,13 @@ self_type K c g = first_tree (K.reference_of c g).arguments
 
 -- What makes up a goal: its numbers are of the context, its reference has the arguments that its trait takes, and neither a parameter nor
 -- an escaping bound variable stands in it. By its parts: the numbers that it holds, and how its rules see it.
-pub record IsGoal {G P : Type 0} (K : KindRules G) (arguments : P → Args) (types : P → List Ty) (seen : List Tree → ParamEnv → P → G) (c : Context) (env : ParamEnv) (p : P) : Type 0 where
-  pub env : IsParamEnv c.trees env
-  pub arguments : IsArgs c.trees (arguments p)
-  pub types : TypesFit c.trees (types p)
-  pub fit : joined (Some (TypeKind ∷ [])) (parameters (world c) TraitSort (K.reference_of c (seen c.trees env p)).trait) ≡ Some (kinds_of (K.reference_of c (seen c.trees env p)).arguments)
-  pub no_parameter : holds is_param (K.trees_of (seen c.trees env p)) ≡ false
-  pub is_closed : escapes 0 (K.trees_of (seen c.trees env p)) ≡ false
+pub record IsGoal {G P : Type 0} (K : KindRules G) (arguments_of : P → Args) (types_of : P → List Ty) (see : List Tree → ParamEnv → P → G) (c : Context) (e : ParamEnv) (p : P) : Type 0 where
+  pub env : IsParamEnv c.trees e
+  pub arguments : IsArgs c.trees (arguments_of p)
+  pub types : TypesFit c.trees (types_of p)
+  pub fit : joined (Some (TypeKind ∷ [])) (parameters (world c) TraitSort (K.reference_of c (see c.trees e p)).trait) ≡ Some (kinds_of (K.reference_of c (see c.trees e p)).arguments)
+  pub no_parameter : holds is_param (K.trees_of (see c.trees e p)) ≡ false
+  pub is_closed : escapes 0 (K.trees_of (see c.trees e p)) ≡ false
 
 -- its self type is neither a general variable nor a bound type, as the tables ask
 abbrev pub IsTyped : {G : Type 0} → KindRules G → Context → G → Type 0
@@ -101,10 +102,10 @@ pub record IsAssumption {G : Type 0} (K : KindRules G) (c : Context) (g : G) (t 
   pub no_parameter : holds is_param t.children ≡ false
 
 -- A goal says the same where a context has grown.
-pub record SaysTheSame {G P : Type 0} (K : KindRules G) (seen : List Tree → ParamEnv → P → G) (old new : Context) (env : ParamEnv) (p : P) : Type 0 where
-  pub seen : seen new.trees env p ≡ seen old.trees env p
-  pub reference : K.reference_of new (seen old.trees env p) ≡ K.reference_of old (seen old.trees env p)
-  pub fits : (h : Head) → K.fits new (seen old.trees env p) h ≡ K.fits old (seen old.trees env p) h
+pub record SaysTheSame {G P : Type 0} (K : KindRules G) (see : List Tree → ParamEnv → P → G) (old new : Context) (env : ParamEnv) (p : P) : Type 0 where
+  pub seen : see new.trees env p ≡ see old.trees env p
+  pub reference : K.reference_of new (see old.trees env p) ≡ K.reference_of old (see old.trees env p)
+  pub fits : (h : Head) → K.fits new (see old.trees env p) h ≡ K.fits old (see old.trees env p) h
 
 -- What is judged of steps, where k says what the closure answers that is asked then.
 abbrev pub steps_judged : Judge → Env → State → CandidateSource → List Step → (State → Option Response) → Judged

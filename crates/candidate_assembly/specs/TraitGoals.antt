@@ -24,7 +24,7 @@ use Rattle.candidate_ir.specs.Trees.{Forest, none, tree, Tree}
 use Rattle.candidate_ir.specs.Unify.{may_unify}
 use Rattle.candidate_ir.specs.Words.{args_forest, env_forest}
 use Rattle.candidate_eval.specs.declared.eval.mode.TypingMode.{TypingMode}
-use Rattle.candidate_eval.specs.Certainties.{Yes}
+use Rattle.candidate_eval.specs.declared.eval.certainty.Certainty.TheVariants.{Yes}
 use Rattle.candidate_eval.specs.Characterization.{bound_kinds}
 use Rattle.candidate_eval.specs.ImplRules.{TraitGoal, impl_steps, impl_certainty, or_yes}
 use Rattle.candidate_eval.specs.Naming.{named_clause}
