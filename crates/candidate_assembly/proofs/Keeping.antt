@@ -2,10 +2,7 @@
 use Rattle.std.proofs.Common.{◌≡◌, true, refl, sym, ap, subst, ◌∙◌, [], ◌∷◌, ◌++◌, ◌&&◌, Option, Some, None, Result, Ok, Err, IfErr, List, map}
 use Rattle.std.specs.Prelude.{IfSome}
 use Rattle.candidate_ir.specs.declared.decl.contents.ImplId.{ImplId}
-use Rattle.candidate_ir.specs.declared.ir.heads.ClauseHead.TheVariants as Cl
 use Rattle.candidate_ir.specs.declared.ir.heads.Head.{Head}
-use Rattle.candidate_ir.specs.declared.ir.heads.Head.TheVariants as H
-use Rattle.candidate_ir.specs.declared.ir.heads.PartHead.TheVariants as P
 use Rattle.candidate_ir.specs.declared.ir.kinds.Args.{Args}
 use Rattle.candidate_ir.specs.declared.ir.kinds.ParamEnv.{ParamEnv}
 use Rattle.candidate_ir.specs.declared.ir.kinds.TraitPredicate.{TraitPredicate}
@@ -30,7 +27,7 @@ use Rattle.candidate_eval.specs.Accounts.{Account, Question, Reaches, StopsSomeh
 use Rattle.candidate_eval.specs.Accounts.StopsSomehow.{asking}
 use Rattle.candidate_eval.specs.Evaluators.{IsEvaluatorStop, Keeps}
 use Rattle.candidate_eval.specs.ImplRules.{TraitGoal, impl_certainty, or_yes}
-use Rattle.candidate_eval.specs.Judging.{Judged, judged}
+use Rattle.candidate_eval.specs.Judging.{judged}
 use Rattle.candidate_eval.specs.Knowing.{own_stop}
 use Rattle.candidate_eval.specs.Rules.{Rule, equate, fresh, nested, nested_misc}
 use Rattle.candidate_eval.specs.States.{Env, Judge, State, is_some}

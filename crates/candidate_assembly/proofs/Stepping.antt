@@ -1,5 +1,5 @@
 -- What calls say of the steps of a rule, and of what is told of them.
-use Rattle.std.proofs.Common.{◌≡◌, false, true, subst, sym, refl, ap, ◌∙◌, List, [], ◌∷◌, ◌++◌, Option, Some, None, Result, Ok, Err, IfOk, IfErr}
+use Rattle.std.proofs.Common.{◌≡◌, false, true, subst, sym, refl, ap, ◌∙◌, List, [], ◌∷◌, ◌++◌, Option, Some, None, Result, Ok, Err}
 use Rattle.candidate_ir.specs.declared.ir.heads.VariableSort.TheVariants.{General, Constant}
 use Rattle.candidate_ir.specs.declared.ir.kinds.VarKind.{VarKind}
 use Rattle.candidate_ir.specs.declared.ir.kinds.VarKind.TheVariants as V
@@ -8,28 +8,24 @@ use Rattle.candidate_ir.specs.declared.ir.stop.Stop.TheVariants as Z
 use Rattle.candidate_ir.specs.Context.{Context, Grows}
 use Rattle.candidate_ir.specs.Trees.{TypeKind, ConstantKind, RegionKind, Forest, Tree}
 use Rattle.candidate_ir.specs.Worlds.{kinds_of}
-use Rattle.candidate_ir.proofs.Kept.{grows-trans}
 use Rattle.candidate_eval.specs.declared.eval.refusal.NoSolutionOrStop.{NoSolutionOrStop}
 use Rattle.candidate_eval.specs.declared.eval.refusal.NoSolutionOrStop.TheVariants as N
 use Rattle.candidate_eval.specs.declared.eval.response.Candidate.{Candidate}
 use Rattle.candidate_eval.specs.declared.eval.response.CanonicalResponse.{CanonicalResponse}
 use Rattle.candidate_eval.specs.declared.eval.source.CandidateSource.{CandidateSource}
 use Rattle.candidate_eval.specs.declared.eval.variable.VariableKind.TheVariants.{Term, Region}
-use Rattle.candidate_eval.specs.Accounts.{Account, IsAccounted, Question, StopsSomehow, by_stop}
+use Rattle.candidate_eval.specs.Accounts.{Account, Question, StopsSomehow, by_stop}
 use Rattle.candidate_eval.specs.Accounts.StopsSomehow.{making, asking}
-use Rattle.candidate_eval.specs.Evaluators.{IsEvaluatorStop, IsMakingStop, Keeps, accepted, kinds_listed, with_left}
-use Rattle.candidate_eval.specs.Judging.{Place, Reached, Judged, Gives, Refused, Stopped, At, Over, put_in, at_state, with_goals, reached, step, run, go_on, continued, concluded, comes_to, judged, answered}
+use Rattle.candidate_eval.specs.Evaluators.{IsEvaluatorStop, IsMakingStop, accepted, kinds_listed, with_left}
+use Rattle.candidate_eval.specs.Judging.{Place, Judged, Gives, Refused, Stopped, At, Over, put_in, at_state, with_goals, reached, step, run, go_on, continued, concluded, comes_to, answered}
 use Rattle.candidate_eval.specs.Knowing.{own_stop}
-use Rattle.candidate_eval.specs.ResponseTrees.{IsResponse, response_of}
 use Rattle.candidate_eval.specs.Responses.{Response}
-use Rattle.candidate_eval.specs.Rules.{Step, Ending, Rule, equate}
+use Rattle.candidate_eval.specs.Rules.{Step, Ending, equate}
 use Rattle.candidate_eval.specs.States.{Env, State, Pending, Judge, next, fresh_variables, with_fresh}
-use Rattle.candidate_eval.proofs.Accounts.{accounted-here, reaches, reaches-on, somehow-later}
-use Rattle.candidate_eval.proofs.Probing.{keeps-probe, alike-probe}
 use Rattle.candidate_eval.proofs.Responding.{response-fits, response-kept}
 use Rattle.candidate_eval.proofs.RuleRuns.{run_append}
 use Rattle.candidate_assembly.specs.Closures.{Responds}
-use Rattle.candidate_assembly.specs.Telling.{Considers, StopsOfItself, Told, ToldAs}
+use Rattle.candidate_assembly.specs.Telling.{Told, ToldAs}
 
 -- Equations: of what the sides stand for they are the step.
 
