@@ -1,3 +1,5 @@
 pub mod Causes
 pub mod Considering
 pub mod Flat
+pub mod Stepping
+pub mod Keeping

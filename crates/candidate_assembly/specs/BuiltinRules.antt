@@ -32,16 +32,18 @@ use Rattle.candidate_eval.specs.declared.eval.source.CandidateSource.{CandidateS
 use Rattle.candidate_eval.specs.declared.eval.source.CandidateSource.TheVariants.{BuiltinImpl}
 use Rattle.candidate_eval.specs.declared.eval.source.BuiltinImplSource.TheVariants.{Misc, Trivial}
 use Rattle.candidate_eval.specs.Callable.{Callable, Calls, CalledWith, Undetermined, calls}
+use Rattle.candidate_eval.specs.declared.eval.certainty.Certainty.{Certainty}
 use Rattle.candidate_eval.specs.declared.eval.certainty.Certainty.TheVariants.{Yes}
 use Rattle.candidate_eval.specs.Certainties.{AMBIGUOUS}
 use Rattle.candidate_eval.specs.Characterization.{binder_kinds}
 use Rattle.candidate_eval.specs.ImplRules.{TraitGoal}
-use Rattle.candidate_eval.specs.Naming.{named_tree}
+use Rattle.candidate_eval.specs.Naming.{named_head}
 use Rattle.candidate_eval.specs.ObjectRequirements.{first_tree}
 use Rattle.candidate_eval.specs.Rules.{Step, fresh, enter, equate, quick, Rule, ask, nested, nested_misc}
 use Rattle.candidate_eval.specs.States.{Env}
 use Rattle.candidate_eval.specs.Tables.{Cell, Excluded, Refused, Asks, Parts, cell, is_manually_drop, row_of, types_of}
 use Rattle.candidate_eval.specs.declared.structural.Column.TheVariants as C
+use Rattle.candidate_ir.specs.Folding.{fold_tree}
 use Rattle.candidate_assembly.specs.Kinds.{BuiltinRule, ErrorRule, AutoTraitRule, TraitAliasRule, SizednessRule, CopyCloneRule, FnTraitRule, FnPtrTraitRule, TupleRule, PointeeRule, DiscriminantKindRule, DestructRule, NoDropRule}
 use Rattle.candidate_assembly.specs.TraitGoals.{is_positive, item_trait, with_first}
 
@@ -83,18 +85,18 @@ for_types g ts = map (for_type g) ts
 abbrev pub meets : TraitId → Tree → Tree
 meets i t = holds_of i Pol.Positive none (tree t.head t.children none)
 
--- A tree under a binder of variables of these kinds, with the rule's first variables in their place; where there are none, nothing is named.
+-- Trees under a binder of variables of these kinds, with the rule's first variables in their place; where there are none, nothing is named.
 
-abbrev pub with_names : List Kind → Tree → Tree
-with_names [] t = t
-with_names (k ∷ ks) t = named_tree 0 (k ∷ ks) t
+abbrev pub named_tree : List Kind → Tree → Tree
+named_tree [] t = t
+named_tree (k ∷ ks) t = fold_tree (λ d u. named_head 0 (k ∷ ks) d u.head) 0 t
 
 -- The parts that a cell of the tables asks about meet the goal's trait.
 abbrev pub parts_rule : TraitGoal → Bool → CandidateSource → Cell → Rule
 parts_rule g applies s (Asks p) = record {
   env = g.env;
   applies = applies;
-  steps = enter (binder_kinds p.variables) ∷ nested (for_types g (map (with_names (binder_kinds p.variables)) p.types));
+  steps = enter (binder_kinds p.variables) ∷ nested (for_types g (map (named_tree (binder_kinds p.variables)) p.types));
   ending = ask s Yes;
 }
 parts_rule g applies s _ = no_rule g
@@ -176,14 +178,14 @@ copy_clone_rule c g = parts_rule g (positive g) misc (cell C.CopyClone (row_of c
 abbrev pub call_arguments : TraitGoal → List Kind → Tree → Forest
 call_arguments g ks inputs =
     let t = self_of g in
-    let i = named_tree 0 ks inputs in
+    let i = named_tree ks inputs in
     tree t.head t.children (tree i.head i.children none)
 
 abbrev pub call_steps : TraitGoal → Callable → TraitId → List Step
 call_steps g c sized =
     let ks = binder_kinds c.variables in
     let args = call_arguments g ks c.inputs in
-    fresh ks ∷ quick g.reference.arguments args ∷ equate g.reference.arguments args ∷ nested (meets sized (named_tree 0 ks c.output) ∷ [])
+    fresh ks ∷ quick g.reference.arguments args ∷ equate g.reference.arguments args ∷ nested (meets sized (named_tree ks c.output) ∷ [])
 
 abbrev pub call_rule : TraitGoal → Calls → Option TraitId → Rule
 call_rule g (CalledWith c) (Some sized) = record { env = g.env; applies = positive g; steps = call_steps g c sized; ending = ask misc Yes }

@@ -1,5 +1,5 @@
 -- What a kind of goals gives, as data: all of assembly is defined over it.
-use Rattle.std.specs.Prelude.{◌≡◌, ℕ, Bool, true, false, ◌&&◌, Option, Some, None, List, [], ◌∷◌, ◌++◌, if◌then◌else◌}
+use Rattle.std.specs.Prelude.{◌≡◌, Bool, true, false, ◌&&◌, Option, Some, List, [], ◌∷◌, ◌++◌, if◌then◌else◌}
 use Rattle.candidate_ir.specs.declared.decl.contents.ImplId.{ImplId}
 use Rattle.candidate_ir.specs.declared.decl.contents.Sizedness.{Sizedness}
 use Rattle.candidate_ir.specs.declared.ir.heads.ClauseHead.TheVariants as Cl
@@ -12,7 +12,7 @@ use Rattle.candidate_ir.specs.declared.ir.kinds.ParamEnv.{ParamEnv}
 use Rattle.candidate_ir.specs.declared.ir.kinds.Ty.{Ty}
 use Rattle.candidate_ir.specs.declared.ir.unify.RightSide.TheVariants as S
 use Rattle.candidate_ir.specs.Binders.{escapes}
-use Rattle.candidate_ir.specs.Context.{Context, Grows, world}
+use Rattle.candidate_ir.specs.Context.{Context, world}
 use Rattle.candidate_ir.specs.Supers.{after_first}
 use Rattle.candidate_ir.specs.Trees.{TypeKind, Forest, Tree, holds, is_param}
 use Rattle.candidate_ir.specs.Unify.{may_unify}
@@ -84,13 +84,13 @@ self_type K c g = first_tree (K.reference_of c g).arguments
 
 -- What makes up a goal: its numbers are of the context, its reference has the arguments that its trait takes, and neither a parameter nor
 -- an escaping bound variable stands in it. By its parts: the numbers that it holds, and how its rules see it.
-pub record IsGoal {G P : Type 0} (K : KindRules G) (arguments : P → Args) (types : P → List Ty) (seen : List Tree → ParamEnv → P → G) (c : Context) (env : ParamEnv) (p : P) : Type 0 where
-  pub env_fits : IsParamEnv c.trees env
-  pub arguments_fit : IsArgs c.trees (arguments p)
-  pub types_fit : TypesFit c.trees (types p)
-  pub takes : joined (Some (TypeKind ∷ [])) (parameters (world c) TraitSort (K.reference_of c (seen c.trees env p)).trait) ≡ Some (kinds_of (K.reference_of c (seen c.trees env p)).arguments)
-  pub no_parameter : holds is_param (K.trees_of (seen c.trees env p)) ≡ false
-  pub is_closed : escapes 0 (K.trees_of (seen c.trees env p)) ≡ false
+pub record IsGoal {G P : Type 0} (K : KindRules G) (arguments_of : P → Args) (types_of : P → List Ty) (see : List Tree → ParamEnv → P → G) (c : Context) (e : ParamEnv) (p : P) : Type 0 where
+  pub env : IsParamEnv c.trees e
+  pub arguments : IsArgs c.trees (arguments_of p)
+  pub types : TypesFit c.trees (types_of p)
+  pub fit : joined (Some (TypeKind ∷ [])) (parameters (world c) TraitSort (K.reference_of c (see c.trees e p)).trait) ≡ Some (kinds_of (K.reference_of c (see c.trees e p)).arguments)
+  pub no_parameter : holds is_param (K.trees_of (see c.trees e p)) ≡ false
+  pub is_closed : escapes 0 (K.trees_of (see c.trees e p)) ≡ false
 
 -- its self type is neither a general variable nor a bound type, as the tables ask
 abbrev pub IsTyped : {G : Type 0} → KindRules G → Context → G → Type 0
@@ -102,10 +102,10 @@ pub record IsAssumption {G : Type 0} (K : KindRules G) (c : Context) (g : G) (t 
   pub no_parameter : holds is_param t.children ≡ false
 
 -- A goal says the same where a context has grown.
-pub record SaysTheSame {G P : Type 0} (K : KindRules G) (seen : List Tree → ParamEnv → P → G) (old new : Context) (env : ParamEnv) (p : P) : Type 0 where
-  pub seen_same : seen new.trees env p ≡ seen old.trees env p
-  pub reference_same : K.reference_of new (seen old.trees env p) ≡ K.reference_of old (seen old.trees env p)
-  pub fits_same : (h : Head) → K.fits new (seen old.trees env p) h ≡ K.fits old (seen old.trees env p) h
+pub record SaysTheSame {G P : Type 0} (K : KindRules G) (see : List Tree → ParamEnv → P → G) (old new : Context) (env : ParamEnv) (p : P) : Type 0 where
+  pub seen : see new.trees env p ≡ see old.trees env p
+  pub reference : K.reference_of new (see old.trees env p) ≡ K.reference_of old (see old.trees env p)
+  pub fits : (h : Head) → K.fits new (see old.trees env p) h ≡ K.fits old (see old.trees env p) h
 
 -- What is judged of steps, where k says what the closure answers that is asked then.
 abbrev pub steps_judged : Judge → Env → State → CandidateSource → List Step → (State → Option Response) → Judged

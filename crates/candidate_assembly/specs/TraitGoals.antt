@@ -1,5 +1,5 @@
 -- Goals of traits: that a trait holds of some trees, or that it doesn't.
-use Rattle.std.specs.Prelude.{◌≡◌, Bool, true, false, ◌&&◌, ◌||◌, ◌==◌, ℕ, Option, Some, None, List, [], ◌∷◌, ◌++◌, map, slice_index_or}
+use Rattle.std.specs.Prelude.{Bool, true, false, ◌&&◌, ◌||◌, ◌==◌, ℕ, Option, Some, None, List, [], ◌∷◌, slice_index_or}
 use Rattle.candidate_ir.specs.declared.decl.contents.ImplId.{ImplId}
 use Rattle.candidate_ir.specs.declared.decl.contents.LangItem.{LangItem}
 use Rattle.candidate_ir.specs.declared.decl.contents.LangItem.TheVariants as L
@@ -20,7 +20,7 @@ use Rattle.candidate_ir.specs.Contents.{Impl}
 use Rattle.candidate_ir.specs.Declaring.{impl_at, item_number}
 use Rattle.candidate_ir.specs.Lookups.{maybe}
 use Rattle.candidate_ir.specs.Supers.{after_first}
-use Rattle.candidate_ir.specs.Trees.{Forest, none, tree, Tree}
+use Rattle.candidate_ir.specs.Trees.{Forest, tree, Tree}
 use Rattle.candidate_ir.specs.Unify.{may_unify}
 use Rattle.candidate_ir.specs.Words.{args_forest, env_forest}
 use Rattle.candidate_eval.specs.declared.eval.mode.TypingMode.{TypingMode}

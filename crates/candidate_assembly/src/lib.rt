@@ -2,3 +2,4 @@
 #![tactic(auto)]
 
 pub mod assembly;
+pub mod trait_goals;

@@ -1,0 +1,3 @@
+//! Goals of traits: that a trait holds of some trees, or that it does not.
+
+pub mod impls;
