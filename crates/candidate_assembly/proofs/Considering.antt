@@ -20,27 +20,8 @@ use Rattle.candidate_eval.specs.States.{State, Judge}
 use Rattle.candidate_eval.proofs.Probing.{alike-probe, keeps-probe}
 use Rattle.candidate_eval.proofs.Responding.{response-fits, response-kept}
 use Rattle.candidate_assembly.specs.Telling.{Considers, StopsOfItself, Told}
+use Rattle.candidate_assembly.proofs.Stepping.{evaluator-own, told-kept}
 use Rattle.candidate_assembly.proofs.Causes.{asked-here, caused, later}
-
--- The stops of an evaluator and of what makes nodes are a call's own.
-
-pub evaluators-own : (s : Stop) → IsEvaluatorStop s → own_stop s ≡ true
-evaluators-own S.Memory h = refl
-evaluators-own S.NodesFull h = refl
-evaluators-own S.EvaluatorLimit h = refl
-evaluators-own S.WalkDepth h = absurd h
-evaluators-own S.AliasDepth h = absurd h
-evaluators-own S.ConstDepth h = absurd h
-evaluators-own S.Unnameable h = absurd h
-
-pub makings-own : (s : Stop) → IsMakingStop s → own_stop s ≡ true
-makings-own S.Memory h = refl
-makings-own S.NodesFull h = refl
-makings-own S.EvaluatorLimit h = absurd h
-makings-own S.WalkDepth h = absurd h
-makings-own S.AliasDepth h = absurd h
-makings-own S.ConstDepth h = absurd h
-makings-own S.Unnameable h = absurd h
 
 not-both : (b : Bool) → b ≡ true → b ≡ false → ⊥
 not-both true p q = absurd cc
@@ -53,16 +34,6 @@ told-own ts r s j is own = subst (λ (x : Result Candidate NoSolutionOrStop). To
 -- a refusal that is judged
 pub told-refused : (ts : List Tree) (r : Result Candidate NoSolutionOrStop) (j : Judged) → r ≡ Err N.NoSolution → j ≡ Refused → Told ts r j
 told-refused ts r j is same = subst (λ (x : Result Candidate NoSolutionOrStop). Told ts x j) (sym is) (record { ok = tt; fits = tt; refused = λ n. same; stopped = tt })
-
--- A candidate says the same where the context has grown.
-pub told-kept : (old new : Context) (r : Result Candidate NoSolutionOrStop) (j : Judged) → Grows old new → Told old.trees r j → Told new.trees r j
-told-kept old new (Ok x) j g told = record {
-  ok = told.ok ∙ ap (λ y. let d : Data = record { source = x.source; result = y } in Gives d) (sym (response-kept old new x.result g told.fits));
-  fits = response-fits old new x.result g told.fits;
-  refused = tt;
-  stopped = tt;
-}
-told-kept old new (Err e) j g told = record { ok = tt; fits = tt; refused = told.refused; stopped = told.stopped }
 
 -- What was told at the state and with the words that a probe begins with is told with those before it.
 pub told-before : {X : Type 0} (judge : X → Judge) (f h : X) (S T : State) (rule : Rule) (ts : List Tree) (r : Result Candidate NoSolutionOrStop) → h ≡ f → T ≡ S → Told ts r (judged (judge h) T rule) → Told ts r (judged (judge f) S rule)
@@ -78,7 +49,7 @@ module _ {E X : Type 0} {fixed : E → X} {judge : X → Judge} {state : E → S
       record {
         kept = kept;
         alike = subst (λ (x : State). (judge (fixed old)).alike (state old) x) (sym rests.0) ((law (fixed old)).alike_same (state old));
-        told = told-own (context new).trees r s _ is (evaluators-own s (own new (state old) q s why));
+        told = told-own (context new).trees r s _ is (evaluator-own s (own new (state old) q s why));
         cause = subst (λ (x : Result Candidate NoSolutionOrStop). IfErr x (by_stop (StopsOfItself fixed context state stops old))) (sym is) (asked-here q kept why);
       }
 

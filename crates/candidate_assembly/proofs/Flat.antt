@@ -3,6 +3,7 @@ use Rattle.std.proofs.Common.{◌≡◌, ℕ, zero, suc, ◌<◌, Bool, true, fa
 use Rattle.std.specs.Prelude.{if◌then◌else◌}
 use Rattle.std.proofs.lemmas.List.{append-nil}
 use Rattle.candidate_ir.specs.declared.ir.kinds.Clause.{Clause}
+use Rattle.candidate_ir.specs.declared.ir.kinds.Goal.{Goal as OfNumbers}
 use Rattle.candidate_ir.specs.declared.ir.kinds.GoalSource.{GoalSource}
 use Rattle.candidate_ir.specs.declared.ir.kinds.ParamEnv.{ParamEnv}
 use Rattle.candidate_ir.specs.Context.{Context, Grows}
@@ -43,16 +44,33 @@ free-kept old new (x ∷ xs) e h =
     begins now more zero d l = now
     begins now more (suc k) d l = more k d (omega (arith, l))
 
--- Wherever the rule stands, clauses without parameters become pending as they are.
+-- Clauses of a rule become pending as the clauses that they are where trees are put in for its variables.
+pub nested-comes : (J : Judge) (ts : List Tree) (env : ParamEnv) (s : GoalSource) (source : CandidateSource) (c : Certainty) (S : State) (ls : Forest) (cs : List Tree) (xs : List Clause)
+    → map (substituted_tree ls) cs ≡ map (clause_tree ts) xs
+    → comes_to J (env_forest ts env) (standing S ls) (map (add s) cs) (ask source c) ≡ asked J (with_goals_of ts S s (goals_in env xs)) source c
+nested-comes J ts env s source c S ls [] [] h = ap (λ ps. asked J (with_pending S ps) source c) (sym (append-nil S.pending))
+nested-comes J ts env s source c S ls [] (x ∷ xs) h = absurd cc
+nested-comes J ts env s source c S ls (t ∷ cs) [] h = absurd cc
+nested-comes J ts env s source c S ls (t ∷ cs) (x ∷ xs) h =
+    let here : substituted_tree ls t ≡ clause_tree ts x = cc in
+    let rest : map (substituted_tree ls) cs ≡ map (clause_tree ts) xs = cc in
+    let g : OfNumbers Clause = record { param_env = env; predicate = x } in
+    let same : goal_at (env_forest ts env) (standing S ls) s t ≡ pending_of ts s g
+    = ap (λ u. let p : Pending = record { source = s; goal = record { env = env_forest ts env; clause = u } } in p) here in
+    ap (λ p. comes_to J (env_forest ts env) (standing (added S p) ls) (map (add s) cs) (ask source c)) same
+    ∙ nested-comes J ts env s source c (added S (pending_of ts s g)) ls cs xs rest
+    ∙ ap (λ ps. asked J (with_pending S ps) source c) (append_assoc S.pending (pending_of ts s g ∷ []) (map (pending_of ts s) (goals_in env xs)))
+
+-- clauses without parameters stay
+all-put : (ts : List Tree) (ls : Forest) (xs : List Clause) → HaveNoParameter ts xs → map (substituted_tree ls) (map (clause_tree ts) xs) ≡ map (clause_tree ts) xs
+all-put ts ls [] h = refl
+all-put ts ls (x ∷ xs) h =
+    ap (λ t. t ∷ map (substituted_tree ls) (map (clause_tree ts) xs)) (nothing-put ls (clause_tree ts x) (h 0 x (omega arith)))
+    ∙ ap (λ us. clause_tree ts x ∷ us) (all-put ts ls xs (λ k d l. h (suc k) d (omega (arith, l))))
+
 pub flat-comes : (J : Judge) (ts : List Tree) (env : ParamEnv) (s : GoalSource) (source : CandidateSource) (c : Certainty) (S : State) (ls : Forest) (xs : List Clause) → HaveNoParameter ts xs
     → comes_to J (env_forest ts env) (standing S ls) (map (add s) (map (clause_tree ts) xs)) (ask source c) ≡ asked J (with_goals_of ts S s (goals_in env xs)) source c
-flat-comes J ts env s source c S ls [] h = ap (λ ps. asked J (with_pending S ps) source c) (sym (append-nil S.pending))
-flat-comes J ts env s source c S ls (x ∷ xs) h =
-    let same : goal_at (env_forest ts env) (standing S ls) s (clause_tree ts x) ≡ pending_of ts s (record { param_env = env; predicate = x })
-    = ap (λ t. let p : Pending = record { source = s; goal = record { env = env_forest ts env; clause = t } } in p) (nothing-put ls (clause_tree ts x) (h 0 x (omega arith))) in
-    ap (λ p. comes_to J (env_forest ts env) (standing (added S p) ls) (map (add s) (map (clause_tree ts) xs)) (ask source c)) same
-    ∙ flat-comes J ts env s source c (added S (pending_of ts s (record { param_env = env; predicate = x }))) ls xs (λ i d l. h (suc i) d (omega (arith, l)))
-    ∙ ap (λ ps. asked J (with_pending S ps) source c) (append_assoc S.pending (pending_of ts s (record { param_env = env; predicate = x }) ∷ []) (map (pending_of ts s) (goals_in env xs)))
+flat-comes J ts env s source c S ls xs h = nested-comes J ts env s source c S ls (map (clause_tree ts) xs) xs (all-put ts ls xs h)
 
 -- A probe in which clauses became pending: what is told by them as they are there is told of the rule as it was before.
 pub flat-told : (J : Judge) (old began : Context) (ran : List Tree) (S : State) (applies : Bool) (env : ParamEnv) (s : GoalSource) (source : CandidateSource) (c : Certainty) (xs : List Clause) (r : Result Candidate NoSolutionOrStop)
