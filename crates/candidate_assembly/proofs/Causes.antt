@@ -1,5 +1,5 @@
 -- Why calls stopped, from one call to the next.
-use Rattle.std.proofs.Common.{◌≡◌, true, List, Result, Ok, Err, IfErr, ap, ◌∙◌}
+use Rattle.std.proofs.Common.{◌≡◌, true, List, Result, Ok, Err, IfOk, IfErr, ap, ◌∙◌}
 use Rattle.candidate_ir.specs.declared.ir.stop.Stop.{Stop}
 use Rattle.candidate_ir.specs.Context.{Context}
 use Rattle.candidate_eval.specs.declared.eval.refusal.NoSolutionOrStop.{NoSolutionOrStop}
@@ -32,3 +32,13 @@ caused (Err e) f h = by-stop e f h
 -- the stop that a call answers by a `?`
 pub answered-stop : {A : Type 0} (r : Result A NoSolutionOrStop) (s : Stop) → (y : NoSolutionOrStop) × (r ≡ Err y) × (y ≡ N.Stop s) → r ≡ Err (N.Stop s)
 answered-stop r s p = p.1 ∙ ap Err p.2
+
+-- What holds of an answer, by what held of it.
+
+pub so-ok : {A E : Type 0} (r : Result A E) {P Q : A → Type 0} → ((a : A) → P a → Q a) → IfOk r P → IfOk r Q
+so-ok (Ok a) f h = f a h
+so-ok (Err e) f h = tt
+
+pub so-err : {A E : Type 0} (r : Result A E) {P Q : E → Type 0} → ((e : E) → P e → Q e) → IfErr r P → IfErr r Q
+so-err (Ok a) f h = tt
+so-err (Err e) f h = f e h

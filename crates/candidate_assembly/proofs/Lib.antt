@@ -3,3 +3,5 @@ pub mod Considering
 pub mod Flat
 pub mod Stepping
 pub mod Keeping
+pub mod SelfTypes
+pub mod TraitClauses

@@ -19,6 +19,7 @@ use Rattle.candidate_ir.specs.declared.ir.kinds.ClosureKind.{ClosureKind}
 use Rattle.candidate_ir.specs.declared.ir.kinds.PredicatePolarity.{PredicatePolarity}
 use Rattle.candidate_ir.specs.declared.ir.kinds.PredicatePolarity.TheVariants as Pol
 use Rattle.candidate_ir.specs.declared.ir.kinds.TraitId.{TraitId}
+use Rattle.candidate_ir.specs.declared.ir.kinds.TraitPredicate.{TraitPredicate}
 use Rattle.candidate_ir.specs.Context.{Context}
 use Rattle.candidate_ir.specs.Contents.{Bounds}
 use Rattle.candidate_ir.specs.Declaring.{bounds_at, trait_at}
@@ -73,6 +74,10 @@ ambiguous_rule g applies = record { env = g.env; applies = applies; steps = []; 
 -- that the trait holds of a tree, under a binder of these variables
 abbrev pub holds_of : TraitId → PredicatePolarity → Forest → Forest → Tree
 holds_of i p vars args = record { head = H.Part (P.Clause (Cl.Trait i p)); children = tree (H.Part P.Vars) vars args }
+
+-- what a predicate with these arguments says of its self type, said of another
+abbrev pub said_of_type : Forest → TraitPredicate → Tree → Tree
+said_of_type args p t = holds_of p.trait_ref.def_id p.polarity none (with_first t args)
 
 -- the goal's trait with another self type
 abbrev pub for_type : TraitGoal → Tree → Tree

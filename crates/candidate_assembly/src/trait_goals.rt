@@ -1,3 +1,4 @@
 //! Goals of traits: that a trait holds of some trees, or that it does not.
 
 pub mod impls;
+pub(crate) mod parts;

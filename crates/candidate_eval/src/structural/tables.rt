@@ -59,7 +59,7 @@ pub(crate) fn is_refused(asked: Asked) -> bool
 
 /// The types that the column asks about, under their binder.
 #[tactic(auto, using(crate::proofs::Cells::refused_cell, crate::proofs::Cells::asked_parts, crate::proofs::Cells::asked_stop, crate::proofs::Cells::under_kept))]
-fn constituents<M: Make>(
+pub fn constituents<M: Make>(
     alloc: Global,
     make: &mut M,
     column: Column,

@@ -1,0 +1,50 @@
+-- Lists of arguments with another self type.
+use Rattle.std.proofs.Common.{◌≡◌, List, [], ◌∷◌, Option, Some, None, refl, sym, ap, ◌∙◌, slice_set}
+use Rattle.candidate_ir.specs.declared.ir.kinds.GenericArg.{GenericArg}
+use Rattle.candidate_ir.specs.declared.ir.kinds.GenericArg.TheVariants as G
+use Rattle.candidate_ir.specs.declared.ir.kinds.TraitRef.{TraitRef}
+use Rattle.candidate_ir.specs.declared.ir.kinds.Ty.{Ty}
+use Rattle.candidate_ir.specs.Context.{Context, Grows, world}
+use Rattle.candidate_ir.specs.Nodes.{kind_at}
+use Rattle.candidate_ir.specs.References.{ArgumentsFit}
+use Rattle.candidate_ir.specs.Supers.{after_first}
+use Rattle.candidate_ir.specs.Trees.{Kind, TypeKind, ConstantKind, RegionKind, Forest, none, tree, Tree, kind_of}
+use Rattle.candidate_ir.specs.Words.{IsTy, ListFits, args_forest, list_forest, ty_tree}
+use Rattle.candidate_ir.specs.Worlds.{World, TraitSort, joined, kinds_of, parameters}
+use Rattle.candidate_ir.proofs.Kept.{world-kept}
+use Rattle.candidate_ir.proofs.Rows.{kind-of, row-single}
+use Rattle.candidate_assembly.specs.TraitGoals.{with_first}
+
+first-row : (ts : List Tree) (x : GenericArg) (rest : List GenericArg) → ListFits ts (x ∷ rest) → after_first (list_forest ts (x ∷ rest)) ≡ list_forest ts rest
+first-row ts (G.Ty t) rest h = let k : kind_at ts t.0 ≡ TypeKind = cc in ap after_first (row-single ts t.0 TypeKind (list_forest ts rest) refl refl k)
+first-row ts (G.Const t) rest h = let k : kind_at ts t.0 ≡ ConstantKind = cc in ap after_first (row-single ts t.0 ConstantKind (list_forest ts rest) refl refl k)
+first-row ts (G.Region t) rest h = let k : kind_at ts t.0 ≡ RegionKind = cc in ap after_first (row-single ts t.0 RegionKind (list_forest ts rest) refl refl k)
+
+no-first : (o : Option (List Kind)) (args : Forest) → joined (Some (TypeKind ∷ [])) o ≡ Some (kinds_of args) → none ≡ args → ⊥
+no-first None args f e = absurd cc
+no-first (Some ks) args f e = let g : Some (TypeKind ∷ ks) ≡ Some (kinds_of none) = f ∙ ap (λ a. Some (kinds_of a)) (sym e) in absurd cc
+
+-- A list of arguments of which the first is another type.
+pub first-set : (c : Context) (r : TraitRef) (xs ys : List GenericArg) (t : Ty) → ArgumentsFit c r → ListFits c.trees xs → list_forest c.trees xs ≡ args_forest c.trees r.args → IsTy c.trees t → ys ≡ slice_set xs 0 (G.Ty t)
+    → list_forest c.trees ys ≡ with_first (ty_tree c.trees t) (args_forest c.trees r.args)
+first-set c r [] ys t f h e k s = absurd (no-first (parameters (world c) TraitSort r.def_id.0) (args_forest c.trees r.args) f e)
+first-set c r (x ∷ rest) ys t f h e k s =
+    let ts = c.trees in
+    ap (list_forest ts) s ∙ (row-single ts t.0 TypeKind (list_forest ts rest) refl refl k
+    ∙ ap (tree (ty_tree ts t).head (ty_tree ts t).children) (sym (first-row ts x rest h) ∙ ap after_first e))
+
+-- It has the kinds that it had.
+kinds-stay : (o : Option (List Kind)) (t : Tree) (args : Forest) → kind_of t.head ≡ TypeKind → joined (Some (TypeKind ∷ [])) o ≡ Some (kinds_of args) → joined (Some (TypeKind ∷ [])) o ≡ Some (kinds_of (with_first t args))
+kinds-stay None t args k e = absurd cc
+kinds-stay (Some ks) t none k e = absurd cc
+kinds-stay (Some ks) t (tree h below rest) k e =
+    let same : ks ≡ kinds_of rest = cc in
+    ap (λ js. Some (TypeKind ∷ js)) same ∙ ap (λ j. Some (j ∷ kinds_of rest)) (sym k)
+
+pub fits-still : (old new : Context) (r s : TraitRef) (t : Ty) → Grows old new → s.def_id ≡ r.def_id → IsTy old.trees t → ArgumentsFit old r → args_forest new.trees s.args ≡ with_first (ty_tree old.trees t) (args_forest old.trees r.args)
+    → ArgumentsFit new s
+fits-still old new r s t g i k f e =
+    ap (λ n. joined (Some (TypeKind ∷ [])) (parameters (world new) TraitSort n.0)) i
+    ∙ (ap (λ (w : World). joined (Some (TypeKind ∷ [])) (parameters w TraitSort r.def_id.0)) (world-kept old new g).0
+    ∙ (kinds-stay (parameters (world old) TraitSort r.def_id.0) (ty_tree old.trees t) (args_forest old.trees r.args) (kind-of old.trees t.0 TypeKind refl k) f
+    ∙ ap (λ a. Some (kinds_of a)) (sym e)))
