@@ -5,3 +5,4 @@ pub mod Stepping
 pub mod Keeping
 pub mod SelfTypes
 pub mod TraitClauses
+pub mod PartClauses

@@ -14,6 +14,7 @@ use Rattle.candidate_ir.specs.declared.ir.heads.Head.TheVariants as H
 use Rattle.candidate_ir.specs.declared.ir.heads.PartHead.TheVariants as P
 use Rattle.candidate_ir.specs.declared.ir.heads.VariableSort.TheVariants as V
 use Rattle.candidate_ir.specs.declared.ir.kinds.AliasKind.TheVariants as AK
+use Rattle.candidate_ir.specs.declared.ir.kinds.Args.{Args}
 use Rattle.candidate_ir.specs.declared.ir.kinds.Clause.{Clause}
 use Rattle.candidate_ir.specs.declared.ir.kinds.ClosureKind.{ClosureKind}
 use Rattle.candidate_ir.specs.declared.ir.kinds.PredicatePolarity.{PredicatePolarity}
@@ -24,11 +25,12 @@ use Rattle.candidate_ir.specs.Context.{Context}
 use Rattle.candidate_ir.specs.Contents.{Bounds}
 use Rattle.candidate_ir.specs.Declaring.{bounds_at, trait_at}
 use Rattle.candidate_ir.specs.Folding.{substituted_tree}
+use Rattle.candidate_ir.specs.Opening.{opened_tree}
 use Rattle.candidate_ir.specs.Impls.{relevant_impls}
 use Rattle.candidate_ir.specs.Lookups.{adt_flags, definition, maybe, trait_flags}
 use Rattle.candidate_ir.specs.Supers.{after_first}
 use Rattle.candidate_ir.specs.Trees.{Kind, Forest, none, tree, Tree, holds, is_error}
-use Rattle.candidate_ir.specs.Words.{clause_tree}
+use Rattle.candidate_ir.specs.Words.{args_forest, clause_tree}
 use Rattle.candidate_eval.specs.declared.eval.source.CandidateSource.{CandidateSource}
 use Rattle.candidate_eval.specs.declared.eval.source.CandidateSource.TheVariants.{BuiltinImpl}
 use Rattle.candidate_eval.specs.declared.eval.source.BuiltinImplSource.TheVariants.{Misc, Trivial}
@@ -38,13 +40,12 @@ use Rattle.candidate_eval.specs.declared.eval.certainty.Certainty.TheVariants.{Y
 use Rattle.candidate_eval.specs.Certainties.{AMBIGUOUS}
 use Rattle.candidate_eval.specs.Characterization.{binder_kinds}
 use Rattle.candidate_eval.specs.ImplRules.{TraitGoal}
-use Rattle.candidate_eval.specs.Naming.{named_head}
+use Rattle.candidate_eval.specs.Naming.{named_tree}
 use Rattle.candidate_eval.specs.ObjectRequirements.{first_tree}
 use Rattle.candidate_eval.specs.Rules.{Step, fresh, enter, equate, quick, Rule, ask, nested, nested_misc}
 use Rattle.candidate_eval.specs.States.{Env}
 use Rattle.candidate_eval.specs.Tables.{Cell, Excluded, Refused, Asks, Parts, cell, is_manually_drop, row_of, types_of}
 use Rattle.candidate_eval.specs.declared.structural.Column.TheVariants as C
-use Rattle.candidate_ir.specs.Folding.{fold_tree}
 use Rattle.candidate_assembly.specs.Kinds.{BuiltinRule, ErrorRule, AutoTraitRule, TraitAliasRule, SizednessRule, CopyCloneRule, FnTraitRule, FnPtrTraitRule, TupleRule, PointeeRule, DiscriminantKindRule, DestructRule, NoDropRule}
 use Rattle.candidate_assembly.specs.TraitGoals.{is_positive, item_trait, with_first}
 
@@ -90,20 +91,34 @@ for_types g ts = map (for_type g) ts
 abbrev pub meets : TraitId → Tree → Tree
 meets i t = holds_of i Pol.Positive none (tree t.head t.children none)
 
--- Trees under a binder of variables of these kinds, with the rule's first variables in their place; where there are none, nothing is named.
+-- A tree under a binder of variables of these kinds, with the rule's first variables in their place; where there are none, nothing is named.
 
-abbrev pub named_tree : List Kind → Tree → Tree
-named_tree [] t = t
-named_tree (k ∷ ks) t = fold_tree (λ d u. named_head 0 (k ∷ ks) d u.head) 0 t
+abbrev pub with_names : List Kind → Tree → Tree
+with_names [] t = t
+with_names (k ∷ ks) t = named_tree 0 (k ∷ ks) t
+
+-- What stood under a binder, with trees in the place of its variables; and what stood under none.
+
+abbrev pub opened_by : Option Forest → Tree → Tree
+opened_by None t = t
+opened_by (Some values) t = opened_tree values t
+
+abbrev pub values_at : List Tree → Option Args → Option Forest
+values_at ts None = None
+values_at ts (Some a) = Some (args_forest ts a)
+
+-- Parts under a binder of these kinds meet the goal's trait, with placeholders of a fresh universe for its variables.
+abbrev pub entered_rule : TraitGoal → Bool → CandidateSource → List Kind → List Tree → Rule
+entered_rule g applies s ks ts = record {
+  env = g.env;
+  applies = applies;
+  steps = enter ks ∷ nested (for_types g (map (with_names ks) ts));
+  ending = ask s Yes;
+}
 
 -- The parts that a cell of the tables asks about meet the goal's trait.
 abbrev pub parts_rule : TraitGoal → Bool → CandidateSource → Cell → Rule
-parts_rule g applies s (Asks p) = record {
-  env = g.env;
-  applies = applies;
-  steps = enter (binder_kinds p.variables) ∷ nested (for_types g (map (named_tree (binder_kinds p.variables)) p.types));
-  ending = ask s Yes;
-}
+parts_rule g applies s (Asks p) = entered_rule g applies s (binder_kinds p.variables) p.types
 parts_rule g applies s _ = no_rule g
 
 -- The predicate holds an error.
@@ -183,14 +198,14 @@ copy_clone_rule c g = parts_rule g (positive g) misc (cell C.CopyClone (row_of c
 abbrev pub call_arguments : TraitGoal → List Kind → Tree → Forest
 call_arguments g ks inputs =
     let t = self_of g in
-    let i = named_tree ks inputs in
+    let i = named_tree 0 ks inputs in
     tree t.head t.children (tree i.head i.children none)
 
 abbrev pub call_steps : TraitGoal → Callable → TraitId → List Step
 call_steps g c sized =
     let ks = binder_kinds c.variables in
     let args = call_arguments g ks c.inputs in
-    fresh ks ∷ quick g.reference.arguments args ∷ equate g.reference.arguments args ∷ nested (meets sized (named_tree ks c.output) ∷ [])
+    fresh ks ∷ quick g.reference.arguments args ∷ equate g.reference.arguments args ∷ nested (meets sized (named_tree 0 ks c.output) ∷ [])
 
 abbrev pub call_rule : TraitGoal → Calls → Option TraitId → Rule
 call_rule g (CalledWith c) (Some sized) = record { env = g.env; applies = positive g; steps = call_steps g c sized; ending = ask misc Yes }

@@ -1,22 +1,38 @@
 //! Rules over the structural tables: the parts of a type meet the goal's trait.
 
-ghost use Rattle.std.specs.Prelude.{◌≡◌, false, true, map, IfOk, IfErr, OnOk};
+ghost use Rattle.std.specs.Prelude.{◌≡◌, [], ◌∷◌, ◌++◌, All, false, true, map, IfOk, IfErr, IfSome, OnOk};
 ghost use Rattle.candidate_ir.specs.Context.{Grows};
 ghost use Rattle.candidate_ir.specs.References.{ArgumentsFit};
+ghost use Rattle.candidate_ir.specs.Trees.{is_param, tree_holds};
 ghost use Rattle.candidate_ir.specs.WellFormed.{TypesFit};
-ghost use Rattle.candidate_ir.specs.Words.{ClauseListFits, IsArgs, IsClause, IsParamEnv, IsTy, ListFits, args_forest, clause_tree, list_forest, ty_tree};
-ghost use Rattle.candidate_eval.specs.Evaluators.{IsMakingStop, Keeps, kinds_listed, with_rigid};
+ghost use Rattle.candidate_ir.specs.Words.{ClauseListFits, IsArgs, IsClause, IsTy, args_forest, clause_tree, ty_tree};
+ghost use Rattle.candidate_eval.specs.Accounts.{by_stop};
+ghost use Rattle.candidate_eval.specs.Asked.{IsUnder, variables};
+ghost use Rattle.candidate_eval.specs.Characterization.{binder_kinds};
+ghost use Rattle.candidate_eval.specs.Evaluators.{IsMakingStop, Keeps, kinds_listed};
+ghost use Rattle.candidate_eval.specs.Judging.{judged};
 ghost use Rattle.candidate_eval.specs.Tables.{cell, is_excluded, row_of};
-ghost use Rattle.candidate_assembly.specs.BuiltinRules.{for_type, parts_rule, said_of_type, self_of};
+ghost use Rattle.candidate_assembly.specs.BuiltinRules.{entered_rule, opened_by, parts_rule, said_of_type, self_of, values_at};
 ghost use Rattle.candidate_assembly.specs.Kinds.{IsGoal};
-ghost use Rattle.candidate_assembly.specs.Telling.{Considers};
+ghost use Rattle.candidate_assembly.specs.Telling.{Considers, StopsOfItself, Told};
 ghost use Rattle.candidate_assembly.specs.TraitGoals.{arguments_held, trait_goal, types_held, with_first};
 ghost use Rattle.candidate_assembly.specs.TraitRules.{trait_rules};
 
-use candidate_eval::eval::context::EvalCtxt;
+use crate::assembly::steps::nest_and_respond;
+use candidate_eval::eval::certainty::Certainty;
+use candidate_eval::eval::clauses::self_ty;
+use candidate_eval::eval::context::{EvalCtxt, ProbeKind};
+use candidate_eval::eval::refusal::NoSolutionOrStop;
+use candidate_eval::eval::response::Candidate;
+use candidate_eval::eval::source::CandidateSource;
+use candidate_eval::structural::tables::constituents;
+use candidate_eval::structural::{Column, Under};
+use candidate_ir::decl::Cx;
 use candidate_ir::decl::make::{Build, Make};
+use candidate_ir::decl::open::{replace_bound_vars, variable_kinds};
 use candidate_ir::ir::kinds::{
-    Args, Binder, Clause, ClauseKind, GenericArg, TraitPredicate, TraitRef, Ty,
+    Args, Binder, Clause, ClauseKind, GenericArg, GoalSource, ParamEnv, TraitPredicate, TraitRef,
+    Ty, VarKind,
 };
 use candidate_ir::ir::stop::Stop;
 use candidate_ir::ir::trees::Trees;
@@ -76,4 +92,171 @@ pub(crate) fn for_type<M: Make>(
         vars,
         value: ClauseKind::Trait(predicate),
     })
+}
+
+/// A part, with what stands for the variables of its binder, if it has one.
+fn opened_part<M: Make>(
+    alloc: Global,
+    make: &mut M,
+    under: Option<Args>,
+    ty: Ty,
+) -> Result<Ty, Stop>
+    requires ty { IsTy (M.context make.old).trees ty }
+    requires under { IfSome under (λ a. IsArgs (M.context make.old).trees a) }
+    ensures grows { Grows (M.context make.old) (M.context make.new) }
+    ensures rest { M.rest make.new ≡ M.rest make.old }
+    ensures sort { IfOk result (λ t. IsTy (M.context make.new).trees t) }
+    ensures tree { IfOk result (λ t. ty_tree (M.context make.new).trees t ≡ opened_by (values_at (M.context make.old).trees under) (ty_tree (M.context make.old).trees ty)) }
+    ensures cause { IfErr result IsMakingStop }
+{
+    match under {
+        Some(values) => replace_bound_vars(alloc, make, ty, values),
+        None => Ok(ty),
+    }
+}
+
+/// What the predicate says of its self type, said of a part.
+fn push_part<M: Make>(
+    alloc: Global,
+    make: &mut M,
+    list: &mut Vec<Clause>,
+    predicate: TraitPredicate,
+    under: Option<Args>,
+    ty: Ty,
+) -> Result<(), Stop>
+    requires list { ClauseListFits (M.context make.old).trees list.old.items }
+    requires args { IsArgs (M.context make.old).trees predicate.trait_ref.args }
+    requires fit { ArgumentsFit (M.context make.old) predicate.trait_ref }
+    requires under { IfSome under (λ a. IsArgs (M.context make.old).trees a) }
+    requires ty { IsTy (M.context make.old).trees ty }
+    ensures grows { Grows (M.context make.old) (M.context make.new) }
+    ensures rest { M.rest make.new ≡ M.rest make.old }
+    ensures sort { IfOk result (λ _. ClauseListFits (M.context make.new).trees list.new.items) }
+    ensures trees { IfOk result (λ _. map (clause_tree (M.context make.new).trees) list.new.items ≡ map (clause_tree (M.context make.old).trees) list.old.items ++ said_of_type (args_forest (M.context make.old).trees predicate.trait_ref.args) predicate (opened_by (values_at (M.context make.old).trees under) (ty_tree (M.context make.old).trees ty)) ∷ []) }
+    ensures cause { IfErr result IsMakingStop }
+{
+    let ty = opened_part(alloc, make, under, ty)?;
+    let clause = for_type(alloc, make, predicate, ty)?;
+    list.push(clause)?;
+    Ok(())
+}
+
+/// What the predicate says of its self type, said of each of the parts.
+fn for_parts<M: Make>(
+    alloc: Global,
+    make: &mut M,
+    predicate: TraitPredicate,
+    under: Option<Args>,
+    types: &[Ty],
+) -> Result<Vec<Clause>, Stop>
+    requires args { IsArgs (M.context make.old).trees predicate.trait_ref.args }
+    requires fit { ArgumentsFit (M.context make.old) predicate.trait_ref }
+    requires under { IfSome under (λ a. IsArgs (M.context make.old).trees a) }
+    requires types { TypesFit (M.context make.old).trees types.now }
+    ensures grows { Grows (M.context make.old) (M.context make.new) }
+    ensures rest { M.rest make.new ≡ M.rest make.old }
+    ensures sort { IfOk result (λ v. ClauseListFits (M.context make.new).trees v.items) }
+    ensures trees { IfOk result (λ v. map (clause_tree (M.context make.new).trees) v.items ≡ map (λ t. said_of_type (args_forest (M.context make.old).trees predicate.trait_ref.args) predicate (opened_by (values_at (M.context make.old).trees under) t)) (map (ty_tree (M.context make.old).trees) types.now)) }
+    ensures cause { IfErr result IsMakingStop }
+{
+    let mut list = Vec::new(alloc);
+    for ty in types {
+        push_part(alloc, make, &mut list, predicate, under, *ty)?;
+    }
+    Ok(list)
+}
+
+/// The parts meet what the predicate says, with placeholders of a fresh universe for their binder's variables. It is called in a probe.
+fn try_parts<E: EvalCtxt>(
+    alloc: Global,
+    ecx: &mut E,
+    env: ParamEnv,
+    predicate: TraitPredicate,
+    kinds: &[VarKind],
+    types: &[Ty],
+    source: CandidateSource,
+) -> Result<Candidate, NoSolutionOrStop>
+    requires goal { IsGoal trait_rules arguments_held types_held trait_goal (E.context ecx.old) env predicate }
+    requires types { TypesFit (E.context ecx.old).trees types.now }
+    requires free { All (λ t. tree_holds is_param (ty_tree (E.context ecx.old).trees t) ≡ false) types.now }
+    ensures kept { Keeps E.fixed E.probes E.context ecx.old ecx.new }
+    ensures told { Told (E.context ecx.new).trees result (judged (E.judge (E.fixed ecx.old)) (E.state ecx.old) (entered_rule (trait_goal (E.context ecx.old).trees env predicate) true source (kinds_listed kinds.now) (map (ty_tree (E.context ecx.old).trees) types.now))) }
+    ensures cause { IfErr result (by_stop (StopsOfItself E.fixed E.context E.state E.stops ecx.old)) }
+{
+    let under = if kinds.is_empty() {
+        None
+    } else {
+        Some(ecx.placeholder_args(kinds)?)
+    };
+    let clauses = for_parts(alloc, ecx, predicate, under, types)?;
+    let nested = GoalSource::ImplWhereBound;
+    nest_and_respond(
+        alloc,
+        ecx,
+        env,
+        nested,
+        clauses.as_slice(),
+        source,
+        Certainty::Yes,
+    )
+}
+
+/// The parts meet what the predicate says, in a probe.
+fn probe_parts<E: EvalCtxt>(
+    alloc: Global,
+    ecx: &mut E,
+    env: ParamEnv,
+    predicate: TraitPredicate,
+    kinds: &[VarKind],
+    types: &[Ty],
+    source: CandidateSource,
+) -> Result<Candidate, NoSolutionOrStop>
+    requires goal { IsGoal trait_rules arguments_held types_held trait_goal (E.context ecx.old) env predicate }
+    requires types { TypesFit (E.context ecx.old).trees types.now }
+    requires free { All (λ t. tree_holds is_param (ty_tree (E.context ecx.old).trees t) ≡ false) types.now }
+    ensures { Considers E.fixed E.judge E.state E.probes E.context E.stops ecx.old ecx.new (entered_rule (trait_goal (E.context ecx.old).trees env predicate) true source (kinds_listed kinds.now) (map (ty_tree (E.context ecx.old).trees) types.now)) result }
+{
+    let probe = ecx.begin_probe(ProbeKind::Kept)?;
+    let answer = try_parts(alloc, ecx, env, predicate, kinds, types, source);
+    let _usages = ecx.end_probe(probe);
+    answer
+}
+
+/// The kinds of the variables of a binder; none, where there is no binder. The only stop is `Stop::Memory`.
+fn kinds_under(alloc: Global, cx: &Cx, under: Under) -> Result<Vec<VarKind>, Stop>
+    requires { IsUnder cx.now.trees under }
+    ensures kinds { IfOk result (λ v. kinds_listed v.items ≡ binder_kinds (variables cx.now.trees under)) }
+    ensures cause { IfErr result IsMakingStop }
+{
+    match under {
+        Under::Binder(vars) => Ok(variable_kinds(alloc, cx, vars)?),
+        Under::NoBinder => Ok(Vec::new(alloc)),
+    }
+}
+
+/// The rule over a column of the tables, where it applies: the parts that the cell of the goal's self type asks about meet the goal's trait.
+///
+/// The state is left alike the one before. `NoSolution` comes where the rule doesn't apply, where the cell is refused, and where the
+/// evaluator refuses; the stops are those of making nodes and lists, and the evaluator's.
+pub(crate) fn consider_column<E: EvalCtxt>(
+    alloc: Global,
+    ecx: &mut E,
+    env: ParamEnv,
+    predicate: TraitPredicate,
+    applies: bool,
+    column: Column,
+    source: CandidateSource,
+) -> Result<Candidate, NoSolutionOrStop>
+    requires goal { IsGoal trait_rules arguments_held types_held trait_goal (E.context ecx.old) env predicate }
+    requires known { applies ≡ true → is_excluded (cell column (row_of (E.context ecx.old) (self_of (trait_goal (E.context ecx.old).trees env predicate)))) ≡ false }
+    ensures { Considers E.fixed E.judge E.state E.probes E.context E.stops ecx.old ecx.new (parts_rule (trait_goal (E.context ecx.old).trees env predicate) applies source (cell column (row_of (E.context ecx.old) (self_of (trait_goal (E.context ecx.old).trees env predicate))))) result }
+{
+    if !applies {
+        return Err(NoSolutionOrStop::NoSolution);
+    }
+    let ty = self_ty(ecx.cx(), predicate.trait_ref);
+    let parts = constituents(alloc, ecx, column, ty)?;
+    let kinds = kinds_under(alloc, ecx.cx(), parts.under)?;
+    let types = parts.types.as_slice();
+    probe_parts(alloc, ecx, env, predicate, kinds.as_slice(), types, source)
 }
