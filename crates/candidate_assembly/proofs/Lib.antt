@@ -6,3 +6,4 @@ pub mod Keeping
 pub mod SelfTypes
 pub mod TraitClauses
 pub mod PartClauses
+pub mod PartsTold

@@ -43,7 +43,8 @@ use Rattle.candidate_eval.specs.ImplRules.{TraitGoal}
 use Rattle.candidate_eval.specs.Naming.{named_tree}
 use Rattle.candidate_eval.specs.ObjectRequirements.{first_tree}
 use Rattle.candidate_eval.specs.Rules.{Step, fresh, enter, equate, quick, Rule, ask, nested, nested_misc}
-use Rattle.candidate_eval.specs.States.{Env}
+use Rattle.candidate_eval.specs.Evaluators.{rigid}
+use Rattle.candidate_eval.specs.States.{State}
 use Rattle.candidate_eval.specs.Tables.{Cell, Excluded, Refused, Asks, Parts, cell, is_manually_drop, row_of, types_of}
 use Rattle.candidate_eval.specs.declared.structural.Column.TheVariants as C
 use Rattle.candidate_assembly.specs.Kinds.{BuiltinRule, ErrorRule, AutoTraitRule, TraitAliasRule, SizednessRule, CopyCloneRule, FnTraitRule, FnPtrTraitRule, TupleRule, PointeeRule, DiscriminantKindRule, DestructRule, NoDropRule}
@@ -106,6 +107,11 @@ opened_by (Some values) t = opened_tree values t
 abbrev pub values_at : List Tree → Option Args → Option Forest
 values_at ts None = None
 values_at ts (Some a) = Some (args_forest ts a)
+
+-- placeholders of a fresh universe for variables of these kinds, if there are any
+abbrev pub entered_values : State → List Kind → Option Forest
+entered_values S [] = None
+entered_values S (k ∷ ks) = Some (rigid S (k ∷ ks))
 
 -- Parts under a binder of these kinds meet the goal's trait, with placeholders of a fresh universe for its variables.
 abbrev pub entered_rule : TraitGoal → Bool → CandidateSource → List Kind → List Tree → Rule

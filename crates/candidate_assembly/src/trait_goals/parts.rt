@@ -6,13 +6,13 @@ ghost use Rattle.candidate_ir.specs.References.{ArgumentsFit};
 ghost use Rattle.candidate_ir.specs.Trees.{is_param, tree_holds};
 ghost use Rattle.candidate_ir.specs.WellFormed.{TypesFit};
 ghost use Rattle.candidate_ir.specs.Words.{ClauseListFits, IsArgs, IsClause, IsTy, args_forest, clause_tree, ty_tree};
-ghost use Rattle.candidate_eval.specs.Accounts.{by_stop};
+ghost use Rattle.candidate_eval.specs.Accounts.{StopsSomehow, by_stop};
 ghost use Rattle.candidate_eval.specs.Asked.{IsUnder, variables};
 ghost use Rattle.candidate_eval.specs.Characterization.{binder_kinds};
-ghost use Rattle.candidate_eval.specs.Evaluators.{IsMakingStop, Keeps, kinds_listed};
+ghost use Rattle.candidate_eval.specs.Evaluators.{IsMakingStop, Keeps, kinds_listed, with_rigid};
 ghost use Rattle.candidate_eval.specs.Judging.{judged};
 ghost use Rattle.candidate_eval.specs.Tables.{cell, is_excluded, row_of};
-ghost use Rattle.candidate_assembly.specs.BuiltinRules.{entered_rule, opened_by, parts_rule, said_of_type, self_of, values_at};
+ghost use Rattle.candidate_assembly.specs.BuiltinRules.{entered_rule, entered_values, opened_by, parts_rule, said_of_type, self_of, values_at};
 ghost use Rattle.candidate_assembly.specs.Kinds.{IsGoal};
 ghost use Rattle.candidate_assembly.specs.Telling.{Considers, StopsOfItself, Told};
 ghost use Rattle.candidate_assembly.specs.TraitGoals.{arguments_held, trait_goal, types_held, with_first};
@@ -166,6 +166,20 @@ fn for_parts<M: Make>(
     Ok(list)
 }
 
+/// Placeholders of a fresh universe for the variables of a binder of these kinds; nothing, where there are none.
+fn enter_kinds<E: EvalCtxt>(ecx: &mut E, kinds: &[VarKind]) -> Result<Option<Args>, Stop>
+    ensures kept { Keeps E.fixed E.probes E.context ecx.old ecx.new }
+    ensures state { OnOk result (E.state ecx.new ≡ with_rigid (E.state ecx.old) (kinds_listed kinds.now)) }
+    ensures sort { IfOk result (λ o. IfSome o (λ a. IsArgs (E.context ecx.new).trees a)) }
+    ensures values { IfOk result (λ o. values_at (E.context ecx.new).trees o ≡ entered_values (E.state ecx.old) (kinds_listed kinds.now)) }
+    ensures cause { IfErr result (StopsSomehow E.fixed E.context E.state E.stops ecx.old) }
+{
+    if kinds.is_empty() {
+        return Ok(None);
+    }
+    Ok(Some(ecx.placeholder_args(kinds)?))
+}
+
 /// The parts meet what the predicate says, with placeholders of a fresh universe for their binder's variables. It is called in a probe.
 fn try_parts<E: EvalCtxt>(
     alloc: Global,
@@ -183,11 +197,7 @@ fn try_parts<E: EvalCtxt>(
     ensures told { Told (E.context ecx.new).trees result (judged (E.judge (E.fixed ecx.old)) (E.state ecx.old) (entered_rule (trait_goal (E.context ecx.old).trees env predicate) true source (kinds_listed kinds.now) (map (ty_tree (E.context ecx.old).trees) types.now))) }
     ensures cause { IfErr result (by_stop (StopsOfItself E.fixed E.context E.state E.stops ecx.old)) }
 {
-    let under = if kinds.is_empty() {
-        None
-    } else {
-        Some(ecx.placeholder_args(kinds)?)
-    };
+    let under = enter_kinds(ecx, kinds)?;
     let clauses = for_parts(alloc, ecx, predicate, under, types)?;
     let nested = GoalSource::ImplWhereBound;
     nest_and_respond(
