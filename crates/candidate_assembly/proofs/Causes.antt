@@ -42,3 +42,7 @@ so-ok (Err e) f h = tt
 pub so-err : {A E : Type 0} (r : Result A E) {P Q : E → Type 0} → ((e : E) → P e → Q e) → IfErr r P → IfErr r Q
 so-err (Ok a) f h = tt
 so-err (Err e) f h = f e h
+
+-- the error that a call answers by a `?`
+pub answered-error : {A : Type 0} (r : Result A NoSolutionOrStop) (e : NoSolutionOrStop) → (y : NoSolutionOrStop) × (r ≡ Err y) × (y ≡ e) → r ≡ Err e
+answered-error r e p = p.1 ∙ ap Err p.2

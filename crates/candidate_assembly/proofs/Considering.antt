@@ -1,6 +1,5 @@
 -- What a call that considers a rule says, exit by exit.
 use Rattle.std.proofs.Common.{◌≡◌, Bool, true, false, List, [], ◌∷◌, Result, Ok, Err, IfOk, IfErr, refl, sym, subst, ap, ◌∙◌}
-use Rattle.std.specs.Prelude.{if◌then◌else◌}
 use Rattle.candidate_ir.specs.declared.ir.stop.Stop.{Stop}
 use Rattle.candidate_ir.specs.declared.ir.stop.Stop.TheVariants as S
 use Rattle.candidate_ir.specs.Context.{Context, Grows}
@@ -17,11 +16,12 @@ use Rattle.candidate_eval.specs.ResponseTrees.{IsResponse}
 use Rattle.candidate_eval.specs.Responses.{Candidate as Data}
 use Rattle.candidate_eval.specs.Rules.{Rule}
 use Rattle.candidate_eval.specs.States.{State, Judge}
-use Rattle.candidate_eval.proofs.Probing.{alike-probe, keeps-probe}
+use Rattle.candidate_eval.proofs.Accounts.{reaches}
+use Rattle.candidate_eval.proofs.Probing.{keeps-trans}
 use Rattle.candidate_eval.proofs.Responding.{response-fits, response-kept}
 use Rattle.candidate_assembly.specs.Telling.{Considers, StopsOfItself, Told}
-use Rattle.candidate_assembly.proofs.Stepping.{evaluator-own, told-kept}
-use Rattle.candidate_assembly.proofs.Causes.{asked-here, caused, later}
+use Rattle.candidate_assembly.proofs.Stepping.{evaluator-own, making-own, told-kept}
+use Rattle.candidate_assembly.proofs.Causes.{asked-here, caused, later, made-here}
 
 not-both : (b : Bool) → b ≡ true → b ≡ false → ⊥
 not-both true p q = absurd cc
@@ -34,10 +34,6 @@ told-own ts r s j is own = subst (λ (x : Result Candidate NoSolutionOrStop). To
 -- a refusal that is judged
 pub told-refused : (ts : List Tree) (r : Result Candidate NoSolutionOrStop) (j : Judged) → r ≡ Err N.NoSolution → j ≡ Refused → Told ts r j
 told-refused ts r j is same = subst (λ (x : Result Candidate NoSolutionOrStop). Told ts x j) (sym is) (record { ok = tt; fits = tt; refused = λ n. same; stopped = tt })
-
--- What was told at the state and with the words that a probe begins with is told with those before it.
-pub told-before : {X : Type 0} (judge : X → Judge) (f h : X) (S T : State) (rule : Rule) (ts : List Tree) (r : Result Candidate NoSolutionOrStop) → h ≡ f → T ≡ S → Told ts r (judged (judge h) T rule) → Told ts r (judged (judge f) S rule)
-told-before judge f h S T rule ts r p q told = subst (λ j. Told ts r j) (ap (λ z. judged (judge z) T rule) p ∙ ap (λ z. judged (judge f) z rule) q) told
 
 module _ {E X : Type 0} {fixed : E → X} {judge : X → Judge} {state : E → State} {probes : E → List State} {context : E → Context} {stops : Account E} where
   -- The probe wasn't begun.
@@ -64,15 +60,29 @@ module _ {E X : Type 0} {fixed : E → X} {judge : X → Judge} {state : E → S
     cause = subst (λ (x : Result Candidate NoSolutionOrStop). IfErr x (by_stop (StopsOfItself fixed context state stops old))) (sym is) why;
   }
 
-  -- A probe, in which the rule was followed.
-  pub in-a-probe : (old began ran new : E) (rule : Rule) (r : Result Candidate NoSolutionOrStop)
-      → fixed began ≡ fixed old → Grows (context old) (context began) → (state began ≡ state old) × (probes began ≡ state old ∷ probes old)
-      → Keeps fixed probes context began ran → Told (context ran).trees r (judged (judge (fixed began)) (state began) rule) → IfErr r (by_stop (StopsOfItself fixed context state stops began))
-      → fixed new ≡ fixed ran → Grows (context ran) (context new) → ((S : State) (others : List State) → probes ran ≡ S ∷ others → (judge (fixed ran)).alike S (state new))
-      → ((S : State) (others : List State) → probes ran ≡ S ∷ others → probes new ≡ others) → Considers fixed judge state probes context stops old new rule r
-  in-a-probe old began ran new rule r f g begins kept told why h i closed left = record {
-    kept = keeps-probe fixed probes context old began ran new (state old) f g begins.1 kept h i left;
-    alike = alike-probe fixed probes judge state old began ran new f begins.1 kept.fixed_same kept.probes_same closed;
-    told = told-kept (context ran) (context new) r _ i (told-before judge (fixed old) (fixed began) (state old) (state began) rule (context ran).trees r f begins.0 told);
-    cause = caused r (λ s. later (record { same = f; grows = g })) why;
+  -- An error of what was asked before: a refusal, which is that of the rule, or a stop of making.
+  pub not-given : ((f : X) → JudgesAlike (judge f)) → (old new : E) (rule : Rule) (r : Result Candidate NoSolutionOrStop) (e : NoSolutionOrStop)
+      → r ≡ Err e → Keeps fixed probes context old new → state new ≡ state old → (e ≡ N.NoSolution → judged (judge (fixed old)) (state old) rule ≡ Refused) → ((s : Stop) → e ≡ N.Stop s → IsMakingStop s)
+      → Considers fixed judge state probes context stops old new rule r
+  not-given law old new rule r N.NoSolution is kept rests refused makes = record {
+    kept = kept;
+    alike = subst (λ (x : State). (judge (fixed old)).alike (state old) x) (sym rests) ((law (fixed old)).alike_same (state old));
+    told = told-refused (context new).trees r _ is (refused refl);
+    cause = subst (λ (x : Result Candidate NoSolutionOrStop). IfErr x (by_stop (StopsOfItself fixed context state stops old))) (sym is) tt;
   }
+  not-given law old new rule r (N.Stop s) is kept rests refused makes =
+      let m = makes s refl in
+      not-made law old new rule r s is (making-own s m) kept rests (made-here m)
+
+  -- A rule that is considered after calls that leave the state as it was.
+  pub considers-after : (old mid new : E) (rule s : Rule) (r : Result Candidate NoSolutionOrStop) → Keeps fixed probes context old mid → state mid ≡ state old → s ≡ rule
+      → Considers fixed judge state probes context stops mid new s r → Considers fixed judge state probes context stops old new rule r
+  considers-after old mid new rule s r kept rests same c =
+      let judged-same : judged (judge (fixed mid)) (state mid) s ≡ judged (judge (fixed old)) (state old) rule
+      = ap (λ z. judged (judge z) (state mid) s) kept.fixed_same ∙ (ap (λ z. judged (judge (fixed old)) z s) rests ∙ ap (judged (judge (fixed old)) (state old)) same) in
+      record {
+        kept = keeps-trans fixed probes context old mid new kept c.kept;
+        alike = subst (λ (x : State). (judge (fixed old)).alike x (state new)) rests (subst (λ (x : X). (judge x).alike (state mid) (state new)) kept.fixed_same c.alike);
+        told = subst (λ j. Told (context new).trees r j) judged-same c.told;
+        cause = caused r (λ s. later (reaches kept)) c.cause;
+      }

@@ -92,7 +92,7 @@ listed-kinds (V.Region ∷ ks) = (λ n. refl, listed-kinds ks)
 
 -- What a trait says of a tree names no parameter, where that and the trait's other arguments name none.
 
-none-of : (a b : Bool) → a ≡ false → b ≡ false → (a || b) ≡ false
+pub none-of : (a b : Bool) → a ≡ false → b ≡ false → (a || b) ≡ false
 none-of a b e h = rw (e, h) refl
 
 after-free : (ts : Forest) → holds is_param ts ≡ false → holds is_param (after_first ts) ≡ false

@@ -1,7 +1,7 @@
 -- What is told of a rule over parts, where clauses about them became pending.
-use Rattle.std.proofs.Common.{◌≡◌, ℕ, zero, suc, ◌<◌, List, [], ◌∷◌, map, Option, Bool, true, false, Result, refl, sym, ap, subst, ◌∙◌, arith}
+use Rattle.std.proofs.Common.{◌≡◌, inl, inr, ℕ, zero, suc, ◌<◌, List, [], ◌∷◌, map, Option, Bool, true, false, Result, refl, sym, ap, subst, ◌∙◌, arith}
 use Rattle.std.proofs.lemmas.List.Elements.{All-map}
-use Rattle.std.specs.Prelude.{All}
+use Rattle.std.specs.Prelude.{◌||◌, All}
 use Rattle.candidate_ir.specs.declared.ir.kinds.Args.{Args}
 use Rattle.candidate_ir.specs.declared.ir.kinds.Clause.{Clause}
 use Rattle.candidate_ir.specs.declared.ir.kinds.GoalSource.TheVariants.{ImplWhereBound}
@@ -12,7 +12,7 @@ use Rattle.candidate_ir.specs.declared.ir.kinds.VarKind.{VarKind}
 use Rattle.candidate_ir.specs.Context.{Context, Grows}
 use Rattle.candidate_ir.specs.Folding.{substituted_tree}
 use Rattle.candidate_eval.specs.ImplRules.{TraitGoal}
-use Rattle.candidate_ir.specs.Trees.{Kind, Forest, none, Tree, holds, is_param, tree_holds}
+use Rattle.candidate_ir.specs.Trees.{Kind, Forest, none, tree, Tree, holds, is_param, tree_holds}
 use Rattle.candidate_ir.specs.WellFormed.{TypesFit}
 use Rattle.candidate_ir.specs.Words.{IsArgs, IsParamEnv, args_forest, clause_tree, env_forest, ty_tree}
 use Rattle.candidate_ir.proofs.Kept.{args-kept, grows-trans}
@@ -20,17 +20,26 @@ use Rattle.candidate_eval.specs.declared.eval.certainty.Certainty.TheVariants.{Y
 use Rattle.candidate_eval.specs.declared.eval.refusal.NoSolutionOrStop.{NoSolutionOrStop}
 use Rattle.candidate_eval.specs.declared.eval.response.Candidate.{Candidate}
 use Rattle.candidate_eval.specs.declared.eval.source.CandidateSource.{CandidateSource}
-use Rattle.candidate_eval.specs.Evaluators.{kinds_listed, rigid, with_goals_of, with_rigid}
+use Rattle.candidate_eval.specs.declared.structural.Constituents.{Constituents}
+use Rattle.candidate_eval.specs.Asked.{parts_of, variables}
+use Rattle.candidate_eval.specs.Characterization.{binder_kinds}
+use Rattle.candidate_eval.specs.ObjectRequirements.{first_tree}
+use Rattle.candidate_eval.specs.Tables.{Cell, Excluded, Refused, Asks, IsCellStop}
+use Rattle.candidate_ir.specs.declared.ir.stop.Stop.{Stop}
+use Rattle.candidate_ir.specs.Substitutions.{alone}
+use Rattle.candidate_ir.proofs.Folding.{or-left, or-right}
+use Rattle.candidate_eval.proofs.StopKinds.{subst_making}
+use Rattle.candidate_eval.specs.Evaluators.{IsMakingStop, kinds_listed, rigid, with_goals_of, with_rigid}
 use Rattle.candidate_eval.specs.Judging.{asked, comes_to, judged, start}
 use Rattle.candidate_eval.specs.ObjectRequirements.{goals_in}
 use Rattle.candidate_eval.specs.Rules.{ask, nested}
 use Rattle.candidate_eval.specs.States.{State, Judge}
 use Rattle.candidate_eval.proofs.Objects.{env-kept}
-use Rattle.candidate_assembly.specs.BuiltinRules.{entered_rule, entered_values, for_types, holds_of, opened_by, said_of_type, values_at, with_names}
+use Rattle.candidate_assembly.specs.BuiltinRules.{entered_rule, entered_values, for_types, holds_of, opened_by, parts_rule, said_of_type, values_at, with_names}
 use Rattle.candidate_assembly.specs.Telling.{Told, standing}
 use Rattle.candidate_assembly.specs.TraitGoals.{trait_goal, with_first}
 use Rattle.candidate_assembly.proofs.Flat.{nested-comes}
-use Rattle.candidate_assembly.proofs.PartClauses.{entered-parts, listed-kinds, rigid-start}
+use Rattle.candidate_assembly.proofs.PartClauses.{none-of, entered-parts, listed-kinds, rigid-start}
 
 -- the clauses that were made, with what they are made of as it was before
 clauses-moved : (old mid : Context) (S : State) (p : TraitPredicate) (ks : List VarKind) (under : Option Args) (xs : List Ty) → Grows old mid → IsArgs old.trees p.trait_ref.args
@@ -77,3 +86,34 @@ free-types old new (x ∷ xs) e h =
 -- The same rule over parts, where the context has grown.
 pub entered-moved : (g h : TraitGoal) (source : CandidateSource) (ks : List Kind) (ts us : List Tree) → h ≡ g → us ≡ ts → entered_rule h true source ks us ≡ entered_rule g true source ks ts
 entered-moved g h source ks ts us p q = ap (λ (x : TraitGoal). entered_rule x true source ks us) p ∙ ap (entered_rule g true source ks) q
+
+-- the first tree of a row without parameters has none
+pub first-parameterless : (ts : Forest) → holds is_param ts ≡ false → tree_holds is_param (first_tree ts) ≡ false
+first-parameterless none e = refl
+first-parameterless (tree h below rest) e =
+    let more : (holds is_param below || holds is_param rest) ≡ false = or-right (is_param h) (holds is_param below || holds is_param rest) e in
+    none-of (is_param h) (holds is_param below) (or-left (is_param h) (holds is_param below || holds is_param rest) e) (or-left (holds is_param below) (holds is_param rest) more)
+
+-- what holds of trees of types, said of the types
+pub all-types : (ts : List Tree) (xs : List Ty) → All (λ t. tree_holds is_param t ≡ false) (map (ty_tree ts) xs) → All (λ t. tree_holds is_param (ty_tree ts t) ≡ false) xs
+all-types ts [] h = λ k d l. absurd (omega (arith, l))
+all-types ts (x ∷ xs) h = begins (h 0 (ty_tree ts x) (omega arith)) (all-types ts xs (λ k d l. h (suc k) d (omega (arith, l))))
+  where
+    begins : tree_holds is_param (ty_tree ts x) ≡ false → All (λ t. tree_holds is_param (ty_tree ts t) ≡ false) xs → All (λ t. tree_holds is_param (ty_tree ts t) ≡ false) (x ∷ xs)
+    begins now more zero d l = now
+    begins now more (suc k) d l = more k d (omega (arith, l))
+
+-- The stops of a cell are those of making.
+pub cell-makes : (given : ℕ) (c : Cell) (s : Stop) → IsCellStop given c s → IsMakingStop s
+cell-makes given Excluded s h = absurd h
+cell-makes given Refused s h = absurd h
+cell-makes given (Asks p) s (inl e) = subst IsMakingStop (sym e) tt
+cell-makes given (Asks p) s (inr t) = subst_making given (alone t.type) s t.stop
+
+-- The rule by what the cell asks about.
+pub rule-of-cell : (g h : TraitGoal) (applies : Bool) (source : CandidateSource) (c : Cell) (ts : List Tree) (parts : Constituents) (ks : List VarKind) → h ≡ g → applies ≡ true → c ≡ Asks (parts_of ts parts)
+    → kinds_listed ks ≡ binder_kinds (variables ts parts.under) → entered_rule h true source (kinds_listed ks) (map (ty_tree ts) parts.types.items) ≡ parts_rule g applies source c
+rule-of-cell g h applies source c ts parts ks p a e k =
+    ap (λ (x : TraitGoal). entered_rule x true source (kinds_listed ks) (map (ty_tree ts) parts.types.items)) p
+    ∙ (ap (λ js. entered_rule g true source js (map (ty_tree ts) parts.types.items)) k
+    ∙ (ap (λ b. parts_rule g b source (Asks (parts_of ts parts))) (sym a) ∙ ap (parts_rule g applies source) (sym e)))

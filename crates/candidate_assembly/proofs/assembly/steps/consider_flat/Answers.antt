@@ -1,9 +1,12 @@
-use Rattle.std.proofs.Common.{◌≡◌, true, rules}
+use Rattle.std.proofs.Common.{◌≡◌, true, rules, map, refl}
+use Rattle.candidate_ir.specs.Words.{clause_tree, env_forest}
+use Rattle.candidate_assembly.specs.Telling.{flat_rule}
 use Rattle.std.proofs.lemmas.Result.{err_from_is_err_and}
 use Rattle.candidate_eval.proofs.Objects.{env-kept}
 use Rattle.candidate_eval.proofs.Responding.{clauses-kept}
 use Rattle.candidate_assembly.proofs.Causes.{answered-stop}
-use Rattle.candidate_assembly.proofs.Considering.{in-a-probe, not-begun}
+use Rattle.candidate_assembly.proofs.Considering.{not-begun}
+use Rattle.candidate_assembly.proofs.Keeping.{in-probe}
 use Rattle.candidate_assembly.proofs.Flat.{flat-told}
 use Rattle.candidate_assembly.proofs.assembly.steps.consider_flat.Goals as goal
 
@@ -26,7 +29,9 @@ returns g c =
     let end = c.end_probe-usages.ensures in
     let began = c.in_ok-probe.ensures in
     let applies : c.args.applies ≡ true = search rules in
-    in-a-probe c.args.ecx.now c.begin_probe.new.self ran.new.ecx c.end_probe-usages.new.self _ ran.result began.fixed began.grows began.ok ran.ensures.kept
+    let rule = flat_rule (env_forest (g.E.Build.context c.args.ecx.now).trees c.args.env) c.args.applies c.args.nested_source (map (clause_tree (g.E.Build.context c.args.ecx.now).trees) c.args.nested.now) c.args.source c.args.certainty in
+    in-probe E.fixed E.judge E.state E.probes g.E.Build.context E.stops c.args.ecx.now c.begin_probe.new.self ran.new.ecx c.end_probe-usages.new.self rule rule ran.result began.fixed began.ok.0 began.ok.1 began.grows ran.ensures.kept
+    end.fixed end.grows end.left end.closed refl
     (flat-told (E.judge (E.fixed c.begin_probe.new.self)) (g.E.Build.context c.args.ecx.now) (g.E.Build.context c.begin_probe.new.self) (g.E.Build.context ran.new.ecx).trees (E.state c.begin_probe.new.self)
     c.args.applies c.args.env c.args.nested_source c.args.source c.args.certainty c.args.nested.now ran.result applies began.grows c.requires.env c.requires.nested c.requires.free ran.ensures.told)
-    ran.ensures.cause end.fixed end.grows end.closed end.left
+    ran.ensures.cause
