@@ -1,0 +1,62 @@
+-- What calls say that characterise a clause of the environment.
+use Rattle.std.specs.Prelude.{◌≡◌, ℕ, ◌+◌, ◌-◌, Bool, true, false, Option, Some, None, Result, Ok, Err, IfErr, List, if◌then◌else◌}
+use Rattle.candidate_ir.specs.declared.ir.heads.Head.{Head}
+use Rattle.candidate_ir.specs.Context.{Context}
+use Rattle.candidate_ir.specs.Trees.{Forest, Tree}
+use Rattle.candidate_eval.specs.declared.eval.refusal.NoSolutionOrStop.{NoSolutionOrStop}
+use Rattle.candidate_eval.specs.declared.eval.refusal.NoSolutionOrStop.TheVariants as N
+use Rattle.candidate_eval.specs.declared.eval.source.ParamEnvSource.{ParamEnvSource}
+use Rattle.candidate_eval.specs.declared.eval.source.ParamEnvSource.TheVariants.{NonGlobal, Global}
+use Rattle.candidate_eval.specs.Accounts.{Account, StopsSomehow, by_stop}
+use Rattle.candidate_eval.specs.declared.eval.certainty.Certainty.{Certainty}
+use Rattle.candidate_eval.specs.declared.eval.certainty.Certainty.TheVariants.{Yes}
+use Rattle.candidate_eval.specs.Certainties.{AMBIGUOUS}
+use Rattle.candidate_eval.specs.Characterization.{Walk, Goes, Finds, Refuses, Stops, Group, group_at, each, visited, is_root_placeholder, is_placeholder, is_any_variable}
+use Rattle.candidate_eval.specs.Evaluators.{Keeps}
+use Rattle.candidate_eval.specs.Knowing.{own_stop}
+use Rattle.candidate_eval.specs.States.{Env, State, Judge}
+
+-- A clause's source and certainty, and the state that the walk leaves.
+abbrev pub answer_of : Walk → Option ((ParamEnvSource × Certainty) × State)
+answer_of (Goes S) = Some ((Global, Yes), S)
+answer_of (Finds S c) = Some ((NonGlobal, c), S)
+answer_of _ = None
+
+-- What a head says by itself, if that is enough: that something is found, or that nothing is.
+abbrev pub said_by_head : Head → Option (Option Certainty)
+said_by_head h =
+    if is_root_placeholder h then Some (Some Yes)
+    else (if is_placeholder h then Some None
+    else (if is_any_variable h then Some (Some AMBIGUOUS) else None))
+
+-- a walk that found that much
+abbrev pub found : Option Certainty → State → Walk
+found None S = Goes S
+found (Some c) S = Finds S c
+
+-- what is said, else the walk
+abbrev pub unless_said : Option (Option Certainty) → State → Walk → Walk
+unless_said None S w = w
+unless_said (Some f) S w = found f S
+
+-- A visit in so many types, the part itself counted, and in so many constants. There are 128 levels of each: as many visits are
+-- left as levels of both.
+unfoldable pub visited_at : Judge → Env → ℕ → ℕ → State → Tree → Walk
+visited_at J e types constants S t = visited J e (259 - (types + constants)) types constants S t
+
+-- the trees of a group, one after the other
+abbrev pub group_visited : (State → Tree → Walk) → State → Group → Walk
+group_visited visit S g = each visit (group_at S g).0 (group_at S g).1
+
+-- The result is what the walk comes to, unless it is a stop that no walk has.
+abbrev pub Tells : Walk → State → Result (Option Certainty) NoSolutionOrStop → Type 0
+Tells w S (Ok f) = w ≡ found f S
+Tells w S (Err N.NoSolution) = w ≡ Refuses
+Tells w S (Err (N.Stop s)) = own_stop s ≡ false → w ≡ Stops s
+
+module _ {E F : Type 0} (fixed : E → F) (probes : E → List State) (context : E → Context) (state : E → State) (stops : Account E) where
+  -- A call over an evaluator walks so: it keeps what calls keep, its result is the walk's, and its other stops are accounted for.
+  pub record Walks (old new : E) (w : Walk) (r : Result (Option Certainty) NoSolutionOrStop) : Type 0 where
+    pub kept : Keeps fixed probes context old new
+    pub told : Tells w (state new) r
+    pub cause : IfErr r (by_stop (λ s. own_stop s ≡ true → StopsSomehow fixed context state stops old s))

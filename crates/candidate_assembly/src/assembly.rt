@@ -1,0 +1,3 @@
+//! Where candidates for a goal come from.
+
+pub mod characterize;

@@ -1,0 +1,4 @@
+//! Candidates for a goal.
+#![tactic(auto)]
+
+pub mod assembly;
