@@ -34,6 +34,11 @@ abbrev pub found : Option Certainty → State → Walk
 found None S = Goes S
 found (Some c) S = Finds S c
 
+-- A result after which no further part is visited.
+abbrev pub ends : Result (Option Certainty) NoSolutionOrStop → Bool
+ends (Ok None) = false
+ends _ = true
+
 -- what is said, else the walk
 abbrev pub unless_said : Option (Option Certainty) → State → Walk → Walk
 unless_said None S w = w
@@ -42,7 +47,7 @@ unless_said (Some f) S w = found f S
 -- A visit in so many types, the part itself counted, and in so many constants. There are 128 levels of each: as many visits are
 -- left as levels of both.
 unfoldable pub visited_at : Judge → Env → ℕ → ℕ → State → Tree → Walk
-visited_at J e types constants S t = visited J e (259 - (types + constants)) types constants S t
+visited_at J e types constants = visited J e (259 - (types + constants)) types constants
 
 -- the trees of a group, one after the other
 abbrev pub group_visited : (State → Tree → Walk) → State → Group → Walk

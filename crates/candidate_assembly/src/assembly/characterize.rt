@@ -10,11 +10,11 @@ ghost use Rattle.candidate_ir.specs.Trees.{Tree};
 ghost use Rattle.candidate_ir.specs.Words.{IsArgs, IsClause, IsParamEnv, args_forest, clause_tree, env_forest};
 ghost use Rattle.candidate_ir.specs.declared.ir.stop.Stop.{Stop as Stopping};
 ghost use Rattle.candidate_eval.specs.Accounts.{StopsSomehow, by_stop};
-ghost use Rattle.candidate_eval.specs.Characterization.{Walk, Refuses, Stops, bound_kinds, characterization, each, each_group, group_of, groups, is_any_bound, is_of_interest, looked, under_binder, variable_of_binder};
+ghost use Rattle.candidate_eval.specs.Characterization.{Walk, Refuses, Stops, bound_kinds, characterization, each, each_group, group_of, groups, is_any_bound, is_of_interest, looked, region_seen, under_binder, variable_of_binder};
 ghost use Rattle.candidate_eval.specs.Evaluators.{IsMakingStop, Keeps, kinds_listed};
 ghost use Rattle.candidate_eval.specs.Knowing.{own_stop};
 ghost use Rattle.candidate_eval.specs.States.{State};
-ghost use Rattle.candidate_assembly.specs.Characterizing.{Walks, answer_of, group_visited, said_by_head, unless_said, visited_at};
+ghost use Rattle.candidate_assembly.specs.Characterizing.{Walks, answer_of, ends, found, group_visited, said_by_head, unless_said, visited_at};
 
 use candidate_eval::eval::certainty::{Certainty, MaybeCause, MaybeInfo, OpaqueTypesJank};
 use candidate_eval::eval::context::EvalCtxt;
@@ -98,6 +98,23 @@ fn said_by_head(head: Head) -> Option<Option<Certainty>>
         Head::Infer(_) | Head::Region(RegionKind::Var(_)) => Some(Some(Certainty::AMBIGUOUS)),
         _ => None,
     }
+}
+
+/// What is found in a region with its value in its place, if anything is.
+fn found_in_region(head: Head) -> Option<Certainty>
+    ensures { (S : State) → region_seen S head ≡ found result S }
+{
+    match said_by_head(head) {
+        Some(Some(_)) => Some(Certainty::Yes),
+        _ => None,
+    }
+}
+
+/// Whether no further part is visited: something was found, or there is an error.
+fn ends(found: &Result<Option<Certainty>, NoSolutionOrStop>) -> bool
+    ensures { result ≡ ends found.now }
+{
+    !matches!(found, Ok(None))
 }
 
 /// What a type or constant in normal form says by itself. Without an answer what is below it says it.
@@ -201,9 +218,9 @@ fn visit_each_opened<E: EvalCtxt>(
         let Some(child) = ecx.cx().child(number, place) else {
             return Ok(None);
         };
-        match visit_opened(alloc, ecx, env, child, values, nesting) {
-            Ok(None) => {}
-            ended => return ended,
+        let found = visit_opened(alloc, ecx, env, child, values, nesting);
+        if ends(&found) {
+            return found;
         }
     }
     Err(NoSolutionOrStop::Stop(Stop::NodesFull))
@@ -276,9 +293,9 @@ fn visit_parts<E: EvalCtxt>(
         let Some(child) = ecx.cx().child(number, place) else {
             return Ok(None);
         };
-        match visit_part(alloc, ecx, env, child, nesting) {
-            Ok(None) => {}
-            ended => return ended,
+        let found = visit_part(alloc, ecx, env, child, nesting);
+        if ends(&found) {
+            return found;
         }
     }
     Err(NoSolutionOrStop::Stop(Stop::NodesFull))
@@ -326,24 +343,28 @@ fn visit<E: EvalCtxt>(
 {
     match arg {
         GenericArg::Ty(ty) => {
-            let normal = GenericArg::Ty(ecx.structurally_normalize_ty(env, ty)?);
             let parts = Nesting { types: nesting.types + 1, constants: nesting.constants };
-            look(alloc, ecx, env, normal, nesting.types > RECURSION, parts)
+            match ecx.structurally_normalize_ty(env, ty) {
+                Ok(normal) => {
+                    let is_too_deep = nesting.types > RECURSION;
+                    look(alloc, ecx, env, GenericArg::Ty(normal), is_too_deep, parts)
+                }
+                Err(error) => Err(error),
+            }
         }
         GenericArg::Const(_) if nesting.constants >= NESTED_CONSTANTS => {
             Err(NoSolutionOrStop::Stop(Stop::ConstDepth))
         }
         GenericArg::Const(constant) => {
-            let normal = GenericArg::Const(ecx.structurally_normalize_const(env, constant)?);
             let parts = Nesting { types: nesting.types, constants: nesting.constants + 1 };
-            look(alloc, ecx, env, normal, false, parts)
+            match ecx.structurally_normalize_const(env, constant) {
+                Ok(normal) => look(alloc, ecx, env, GenericArg::Const(normal), false, parts),
+                Err(error) => Err(error),
+            }
         }
         GenericArg::Region(region) => {
             let value = ecx.eager_resolve_region(region);
-            match said_by_head(ecx.cx().head(value.0)) {
-                Some(Some(_)) => Ok(Some(Certainty::Yes)),
-                _ => Ok(None),
-            }
+            Ok(found_in_region(ecx.cx().head(value.0)))
         }
     }
 }
