@@ -1,5 +1,5 @@
 -- Characterisation: walks, one after the other.
-use Rattle.std.proofs.Common.{◌≡◌, ◌≢◌, ◌<◌, ◌≤◌, ◌+◌, ◌-◌, ℕ, zero, suc, Bool, true, false, nat_lt, refl, sym, ◌∙◌, ap, subst, arith, List, [], ◌∷◌, length, Option, Some, None, Result, Ok, Err}
+use Rattle.std.proofs.Common.{◌≡◌, ◌≢◌, ◌<◌, ◌≤◌, ◌+◌, ◌-◌, ℕ, zero, suc, Bool, true, false, nat_eq, nat_lt, refl, sym, ◌∙◌, ap, subst, arith, List, [], ◌∷◌, length, Option, Some, None, Result, Ok, Err}
 use Rattle.std.specs.Prelude.{IfErr, if◌then◌else◌}
 use Rattle.std.specs.Option.{unwrap_or}
 use Rattle.std.specs.Result.{IsErrAnd}
@@ -8,29 +8,33 @@ use Rattle.candidate_ir.specs.declared.ir.heads.Head.TheVariants as H
 use Rattle.candidate_ir.specs.declared.ir.heads.ConstHead.TheVariants as C
 use Rattle.candidate_ir.specs.declared.ir.heads.PartHead.{PartHead}
 use Rattle.candidate_ir.specs.declared.ir.kinds.Args.{Args}
+use Rattle.candidate_ir.specs.declared.ir.kinds.Const.{Const}
 use Rattle.candidate_ir.specs.declared.ir.kinds.GenericArg.{GenericArg}
+use Rattle.candidate_ir.specs.declared.ir.kinds.GenericArg.TheVariants as A
 use Rattle.candidate_ir.specs.declared.ir.kinds.ParamEnv.{ParamEnv}
+use Rattle.candidate_ir.specs.declared.ir.kinds.Region.{Region}
 use Rattle.candidate_ir.specs.declared.ir.kinds.RegionKind.TheVariants as R
+use Rattle.candidate_ir.specs.declared.ir.kinds.Ty.{Ty}
 use Rattle.candidate_ir.specs.declared.ir.stop.Stop.{Stop}
 use Rattle.candidate_ir.specs.declared.ir.stop.Stop.TheVariants.{Memory, NodesFull, ConstDepth}
 use Rattle.candidate_ir.specs.Context.{Context, Grows}
 use Rattle.candidate_ir.specs.Folding.{fold}
-use Rattle.candidate_ir.specs.Folds.{IsArg, is_asked, is_asked_kind}
+use Rattle.candidate_ir.specs.Folds.{IsArg, arg_tree, is_asked, is_asked_kind}
 use Rattle.candidate_ir.specs.Kinds.{arg_number, arg_kind, arg_there}
 use Rattle.candidate_ir.specs.Nodes.{tree_at}
 use Rattle.candidate_ir.specs.Opening.{opened, opened_tree, opened_head}
 use Rattle.candidate_ir.specs.Supers.{after_first}
 use Rattle.candidate_ir.specs.Trees.{Kind, TypeKind, ConstantKind, RegionKind, Forest, none, tree, Tree, binders_of, kind_of, skip}
-use Rattle.candidate_ir.specs.Words.{IsArgs, IsParamEnv, args_forest, env_forest}
+use Rattle.candidate_ir.specs.Words.{IsArgs, IsParamEnv, args_forest, const_tree, env_forest, region_tree, ty_tree}
 use Rattle.candidate_ir.proofs.FoldSteps.{extends-length}
 use Rattle.candidate_ir.proofs.Kept.{grows-refl, number-kept, args-kept}
-use Rattle.candidate_ir.proofs.Lists.{below_kind}
+use Rattle.candidate_ir.proofs.Lists.{below_kind, kind_of-tree_at}
 use Rattle.candidate_eval.specs.declared.eval.certainty.Certainty.{Certainty}
 use Rattle.candidate_eval.specs.declared.eval.refusal.NoSolutionOrStop.{NoSolutionOrStop}
 use Rattle.candidate_eval.specs.declared.eval.refusal.NoSolutionOrStop.TheVariants as N
 use Rattle.candidate_eval.specs.Accounts.{Account, Question, Reaches, StopsSomehow, by_stop}
 use Rattle.candidate_eval.specs.Accounts.StopsSomehow.{making, asking}
-use Rattle.candidate_eval.specs.Characterization.{Walk, Goes, Finds, Refuses, Stops, Group, Loose, Bounded, and_then, each, each_group, each_group_of, group_of, in_normal_form, looked, region_seen, visited, visited_as}
+use Rattle.candidate_eval.specs.Characterization.{Walk, Goes, Finds, Refuses, Stops, Group, Loose, Bounded, and_then, each, each_group, each_group_of, group_of, groups, in_normal_form, looked, region_seen, under_binder, bound_kinds, visited, visited_as}
 use Rattle.candidate_eval.specs.Evaluators.{Keeps, IsMakingStop, IsEvaluatorStop, rigid, with_rigid}
 use Rattle.candidate_eval.specs.Knowing.{own_stop}
 use Rattle.candidate_eval.specs.Limits.{Limits, declared_limits}
@@ -177,6 +181,34 @@ alone-group _ below other = refl
 pub no-part : (visit : State → Tree → Walk) (S : State) (t : Tree) → ((p : PartHead) → t.head ≡ H.Part p → ⊥) → group_visited visit S (group_of t.head t.children) ≡ visit S t
 no-part visit S t other = ap (group_visited visit S) (alone-group t.head t.children other) ∙ then-goes (visit S t)
 
+-- a part that has a binder of its own
+pub a-part : (visit : State → Tree → Walk) (S : State) (t : Tree) (p : PartHead) → t.head ≡ H.Part p
+    → group_visited visit S (group_of t.head t.children) ≡ group_visited visit S (under_binder t.children)
+a-part visit S t p e = ap (λ (h : Head). group_visited visit S (group_of h t.children)) e
+
+no-zero : (n : ℕ) → 0 < n → nat_eq n 0 ≡ false
+no-zero n h = grind (arith, h)
+
+is-zero : (n : ℕ) → n ≤ 0 → nat_eq n 0 ≡ true
+is-zero n h = grind (arith, h)
+
+-- what binds has one group, all else one for each part
+pub one-group : (visit : State → Tree → Walk) (S : State) (t : Tree) (n : ℕ) → n ≡ binders_of t.head → 0 < n
+    → each_group visit S (groups t.head t.children) ≡ group_visited visit S (under_binder t.children)
+one-group visit S t n e l =
+    let under = under_binder t.children in
+    ap (λ (b : Bool). each_group visit S (if b then each_group_of t.children else under ∷ [])) (ap (λ (x : ℕ). nat_eq x 0) (sym e) ∙ no-zero n l)
+    ∙ then-goes (group_visited visit S under)
+
+pub many-groups : (visit : State → Tree → Walk) (S : State) (t : Tree) (n : ℕ) → n ≡ binders_of t.head → n ≤ 0
+    → each_group visit S (groups t.head t.children) ≡ each_group visit S (each_group_of (skip 0 t.children))
+many-groups visit S t n e l =
+    ap (λ (b : Bool). each_group visit S (if b then each_group_of t.children else under_binder t.children ∷ [])) (ap (λ (x : ℕ). nat_eq x 0) (sym e) ∙ is-zero n l)
+
+-- what stands there is of the kind that the argument's type says
+kind-there : (ts : List Tree) (a : GenericArg) → IsArg ts a → kind_of (arg_tree ts a).head ≡ arg_kind a
+kind-there ts a h = sym (kind_of-tree_at ts (arg_number a) (arg-below ts a h)) ∙ h
+
 -- Stops.
 
 making-own : (s : Stop) → IsMakingStop s → own_stop s ≡ true
@@ -304,6 +336,100 @@ module _ {E F : Type 0} (fixed : E → F) (probes : E → List State) (context :
         so ∙ (groups-next (visits first) (state now) t parts place first_row
         ∙ ap (λ (f : State → Tree → Walk). and_then (group_visited f (state now) (group_of t.head t.children)) rest) (sym (same-visits k e)))
 
+    -- nothing is left of a row
+    pub none-opened : {first now : E} {w : Walk} (cx : Context) (number : ℕ) (values : Forest) (place : ℕ) → cx ≡ context now → KeptTo first now → number < length (context first).trees
+        → w ≡ each (visits first) (state now) (opened values (skip place (tree_at (context first).trees number).children))
+        → skip place (tree_at cx.trees number).children ≡ none → w ≡ Goes (state now)
+    none-opened {first} {now} cx number values place c k l so there =
+        let stays = (number-kept (context first).trees (context now).trees number k.grows.kept l).1 in
+        let here : skip place (tree_at (context now).trees number).children ≡ none = subst (λ (x : Context). skip place (tree_at x.trees number).children ≡ none) c there in
+        let row : skip place (tree_at (context first).trees number).children ≡ none = subst (λ (x : Tree). skip place x.children ≡ none) stays here in
+        so ∙ ap (λ (ts : Forest). each (visits first) (state now) (opened values ts)) row
+
+    pub no-group : {first now : E} {w : Walk} (cx : Context) (number place : ℕ) → cx ≡ context now → KeptTo first now → number < length (context first).trees
+        → w ≡ each_group (visits first) (state now) (each_group_of (skip place (tree_at (context first).trees number).children))
+        → skip place (tree_at cx.trees number).children ≡ none → w ≡ Goes (state now)
+    no-group {first} {now} cx number place c k l so there =
+        let stays = (number-kept (context first).trees (context now).trees number k.grows.kept l).1 in
+        let here : skip place (tree_at (context now).trees number).children ≡ none = subst (λ (x : Context). skip place (tree_at x.trees number).children ≡ none) c there in
+        let row : skip place (tree_at (context first).trees number).children ≡ none = subst (λ (x : Tree). skip place x.children ≡ none) stays here in
+        so ∙ ap (λ (ts : Forest). each_group (visits first) (state now) (each_group_of ts)) row
+
+    -- a tree at a later call, the state being the same
+    pub later-visit : {a b : E} (t u : Tree) → KeptTo a b → state b ≡ state a → IsParamEnv (context a).trees env → u ≡ t → visits a (state a) t ≡ visits b (state b) u
+    later-visit {a} {b} t u k s h e =
+        ap (λ (x : Tree). visits a (state a) x) (sym e)
+        ∙ (ap (λ (S : State). visits a S u) (sym s) ∙ ap (λ (f : State → Tree → Walk). f (state b) u) (sym (same-visits k h)))
+
+    -- trees under a binder, after placeholders were made for its variables
+    pub under-placeholders : {a b : E} (number : ℕ) (values : Args) (ks : List Kind) → KeptTo a b → IsParamEnv (context a).trees env → number < length (context a).trees
+        → ks ≡ bound_kinds (tree_at (context a).trees number).children → args_forest (context b).trees values ≡ rigid (state a) ks → state b ≡ with_rigid (state a) ks
+        → group_visited (visits a) (state a) (under_binder (tree_at (context a).trees number).children)
+        ≡ each (visits b) (state b) (opened (args_forest (context b).trees values) (after_first (tree_at (context b).trees number).children))
+    under-placeholders {a} {b} number values ks k h l kinds trees made =
+        let below = (tree_at (context a).trees number).children in
+        let vs = args_forest (context b).trees values in
+        ap (λ (x : List Kind). group_visited (visits a) (state a) (Bounded x (after_first below))) (sym kinds)
+        ∙ (at-binder (visits a) (state a) ks (after_first below)
+        ∙ (ap (λ (S : State). each (visits a) S (opened (rigid (state a) ks) (after_first below))) (sym made)
+        ∙ (ap (λ (x : Forest). each (visits a) (state b) (opened x (after_first below))) (sym trees)
+        ∙ (ap (λ (t : Tree). each (visits a) (state b) (opened vs (after_first t.children))) (sym (number-kept (context a).trees (context b).trees number k.grows.kept l).1)
+        ∙ ap (λ (f : State → Tree → Walk). each f (state b) (opened vs (after_first (tree_at (context b).trees number).children))) (sym (same-visits k h))))))
+
+    -- a normal form, in the context that it came in
+    pub normal-looked : {a b : E} {w : Walk} (is_too_deep : Bool) (o : Option (Tree × State)) (t : Tree) → KeptTo a b → IsParamEnv (context a).trees env
+        → w ≡ in_normal_form o (looked (visits a) is_too_deep) → o ≡ Some (t, state b) → w ≡ looked (visits b) is_too_deep (state b) t
+    normal-looked {a} {b} deep o t k h e n =
+        e ∙ (ap (λ (x : Option (Tree × State)). in_normal_form x (looked (visits a) deep)) n
+        ∙ ap (λ (f : State → Tree → Walk). looked f deep (state b) t) (sym (same-visits k h)))
+
+    -- How a visit begins, by the sort of the part.
+    module _ (a : E) (few : m ≤ 129) (small : n ≤ 128) (limits : (judge (fixed a)).limits ≡ declared_limits) (x : GenericArg) (given : IsArg (context a).trees x) where
+      abbrev clauses : Forest
+      clauses = env_forest (context a).trees env
+
+      pub type-begins : (t : Ty) → x ≡ A.Ty t
+          → visits a (state a) (arg_tree (context a).trees x)
+          ≡ in_normal_form ((judge (fixed a)).normalized (state a) clauses (ty_tree (context a).trees t)) (looked (visited_at (judge (fixed a)) clauses (m + 1) n) (nat_lt 128 m))
+      type-begins t e =
+          let T = ty_tree (context a).trees t in
+          let same : arg_tree (context a).trees x ≡ T = ap (arg_tree (context a).trees) e in
+          let there : IsArg (context a).trees (A.Ty t) = subst (IsArg (context a).trees) e given in
+          ap (λ (u : Tree). visits a (state a) u) same ∙ a-type (judge (fixed a)) clauses m n few small limits (state a) T (kind-there (context a).trees (A.Ty t) there)
+
+      pub constant-begins : (t : Const) → x ≡ A.Const t → n < 128
+          → visits a (state a) (arg_tree (context a).trees x)
+          ≡ in_normal_form ((judge (fixed a)).normalized (state a) clauses (const_tree (context a).trees t)) (looked (visited_at (judge (fixed a)) clauses m (n + 1)) false)
+      constant-begins t e l =
+          let T = const_tree (context a).trees t in
+          let same : arg_tree (context a).trees x ≡ T = ap (arg_tree (context a).trees) e in
+          let there : IsArg (context a).trees (A.Const t) = subst (IsArg (context a).trees) e given in
+          ap (λ (u : Tree). visits a (state a) u) same ∙ an-allowed-constant (judge (fixed a)) clauses m n few l limits (state a) T (kind-there (context a).trees (A.Const t) there)
+
+      pub constant-ends : (t : Const) → x ≡ A.Const t → 128 ≤ n → visits a (state a) (arg_tree (context a).trees x) ≡ Stops ConstDepth
+      constant-ends t e l =
+          let T = const_tree (context a).trees t in
+          let same : arg_tree (context a).trees x ≡ T = ap (arg_tree (context a).trees) e in
+          let there : IsArg (context a).trees (A.Const t) = subst (IsArg (context a).trees) e given in
+          ap (λ (u : Tree). visits a (state a) u) same ∙ a-deep-constant (judge (fixed a)) clauses m n few small l limits (state a) T (kind-there (context a).trees (A.Const t) there)
+
+      pub region-begins : (r : Region) → x ≡ A.Region r
+          → visits a (state a) (arg_tree (context a).trees x) ≡ region_seen (state a) (resolved_tree (state a) (region_tree (context a).trees r)).head
+      region-begins r e =
+          let T = region_tree (context a).trees r in
+          let same : arg_tree (context a).trees x ≡ T = ap (arg_tree (context a).trees) e in
+          let there : IsArg (context a).trees (A.Region r) = subst (IsArg (context a).trees) e given in
+          ap (λ (u : Tree). visits a (state a) u) same ∙ a-region (judge (fixed a)) clauses m n few small (state a) T (kind-there (context a).trees (A.Region r) there)
+
+  -- constants are nested too deep
+  pub depth-walk : {a : E} {w : Walk} → w ≡ Stops ConstDepth → WalksTo a a w (Err (N.Stop ConstDepth))
+  depth-walk {a} e = record { kept = nothing-done a; told = λ o. e; cause = λ o. absurd (true-false (sym o)) }
+
   -- numbers of a context are numbers of a later one
   pub number-later : {a b : E} (n : ℕ) → KeptTo a b → n < length (context a).trees → n < length (context b).trees
   number-later {a} {b} n k l = let longer = extends-length (context a).trees (context b).trees k.grows.kept in omega (arith, l, longer)
+
+-- Environments.
+
+abbrev pub env-later : {a b : Context} (e : ParamEnv) → Grows a b → IsParamEnv a.trees e → IsParamEnv b.trees e
+env-later {a} {b} e g h = (env-kept a b e g h).0

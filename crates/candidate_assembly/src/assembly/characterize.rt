@@ -1,6 +1,6 @@
 //! Whether a clause of the environment is global: whether it says nothing of what is generic there.
 
-ghost use Rattle.std.specs.Prelude.{◌≡◌, ◌≤◌, ◌<◌, [], ◌∷◌, false, refl, Some, Err, IfOk, IfErr, MatchOption, length};
+ghost use Rattle.std.specs.Prelude.{◌≡◌, ◌≤◌, ◌<◌, [], ◌∷◌, false, refl, None, Some, Err, IfOk, IfErr, MatchOption, length};
 ghost use Rattle.candidate_ir.specs.Context.{parameter_kind};
 ghost use Rattle.candidate_ir.specs.Folds.{IsArg, arg_tree};
 ghost use Rattle.candidate_ir.specs.Nodes.{tree_at};
@@ -120,7 +120,8 @@ fn ends(found: &Result<Option<Certainty>, NoSolutionOrStop>) -> bool
 /// What a type or constant in normal form says by itself. Without an answer what is below it says it.
 fn said_by_itself(cx: &Cx, arg: GenericArg, is_too_deep: bool) -> Option<Option<Certainty>>
     requires { IsArg cx.now.trees arg }
-    ensures { (deeper : State → Tree → Walk) (S : State) → looked deeper is_too_deep S (arg_tree cx.now.trees arg) ≡ unless_said result S (each_group deeper S (groups (arg_tree cx.now.trees arg).head (arg_tree cx.now.trees arg).children)) }
+    ensures deep { result ≡ None → is_too_deep ≡ false }
+    ensures says { (deeper : State → Tree → Walk) (S : State) → looked deeper is_too_deep S (arg_tree cx.now.trees arg) ≡ unless_said result S (each_group deeper S (groups (arg_tree cx.now.trees arg).head (arg_tree cx.now.trees arg).children)) }
 {
     if let Some(said) = said_by_head(cx.head(arg.number())) {
         return Some(said);

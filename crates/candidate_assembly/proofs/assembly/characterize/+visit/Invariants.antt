@@ -4,7 +4,7 @@ use Rattle.candidate_ir.specs.Opening.{opened}
 use Rattle.candidate_ir.specs.Supers.{after_first}
 use Rattle.candidate_ir.specs.Trees.{skip}
 use Rattle.candidate_ir.specs.Words.{args_forest, env_forest}
-use Rattle.candidate_eval.specs.Characterization.{each, each_group, each_group_of}
+use Rattle.candidate_eval.specs.Characterization.{each, each_group, each_group_of, groups}
 use Rattle.candidate_eval.specs.Evaluators.{Keeps}
 use Rattle.candidate_assembly.specs.Characterizing.{visited_at}
 use Rattle.candidate_assembly.proofs.assembly.characterize.+visit.Given as goal
@@ -48,6 +48,6 @@ invariant-visit_parts-loop-place g l =
     let first = l.fn.ecx in
     let ts = (g.E.Build.context first).trees in
     let visit = visited_at (E.judge (E.fixed first)) (env_forest ts l.fn.env) l.fn.nesting.types l.fn.nesting.constants in
-    let parts = (tree_at ts l.fn.number).children in
+    let it = tree_at ts l.fn.number in
     Keeps E.fixed E.probes g.E.Build.context first l.ecx
-    × (each_group visit (E.state first) (each_group_of parts) ≡ each_group visit (E.state l.ecx) (each_group_of (skip l.place parts)))
+    × (each_group visit (E.state first) (groups it.head it.children) ≡ each_group visit (E.state l.ecx) (each_group_of (skip l.place it.children)))
