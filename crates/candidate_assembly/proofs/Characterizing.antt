@@ -156,9 +156,13 @@ groups-next visit S t parts place e =
     ap (λ (ts : Forest). each_group visit S (each_group_of ts)) e
     ∙ ap (λ (n : ℕ). and_then (group_visited visit S (group_of t.head t.children)) (λ T. each_group visit T (each_group_of (skip n parts)))) (one-more place)
 
-pub after-first : (ts : Forest) → after_first ts ≡ skip 1 ts
+after-first : (ts : Forest) → after_first ts ≡ skip 1 ts
 after-first none = refl
 after-first (tree h below rest) = refl
+
+pub opened-begins : (visit : State → Tree → Walk) (S : State) (values parts : Forest)
+    → each visit S (opened values (after_first parts)) ≡ each visit S (opened values (skip 1 parts))
+opened-begins visit S values parts = ap (λ (ts : Forest). each visit S (opened values ts)) (after-first parts)
 
 -- nothing comes after it
 pub then-goes : (w : Walk) → and_then w (λ T. Goes T) ≡ w

@@ -1,6 +1,8 @@
 use Rattle.std.proofs.Common.{rules, ◌≡◌, ◌<◌, ◌≤◌, ℕ, ◌∙◌, ap, subst, sym, refl, arith, List, length, true, false}
 use Rattle.std.proofs.lemmas.Result.{err_from_is_err_and}
 use Rattle.candidate_ir.specs.declared.ir.kinds.GenericArg.TheVariants as A
+use Rattle.candidate_ir.specs.declared.ir.stop.Stop.TheVariants.{NodesFull}
+use Rattle.candidate_ir.specs.Kinds.{arg_number}
 use Rattle.candidate_ir.specs.Context.{Context}
 use Rattle.candidate_ir.specs.Folds.{IsArg, is_asked}
 use Rattle.candidate_ir.specs.Nodes.{tree_at}
@@ -10,14 +12,16 @@ use Rattle.candidate_ir.specs.Trees.{Forest, Tree, skip}
 use Rattle.candidate_ir.specs.Words.{IsArgs, args_forest, env_forest}
 use Rattle.candidate_ir.proofs.Kept.{args-kept, number-kept}
 use Rattle.candidate_ir.proofs.Lists.{kind_of-tree_at}
-use Rattle.candidate_eval.specs.Characterization.{Walk, each, each_group, each_group_of}
+use Rattle.candidate_eval.specs.Accounts.StopsSomehow.{making}
+use Rattle.candidate_eval.specs.Characterization.{Walk, bound_kinds}
+use Rattle.candidate_eval.specs.Evaluators.{kinds_listed}
 use Rattle.candidate_eval.specs.States.{State}
 use Rattle.candidate_eval.proofs.Objects.{env-kept}
 use Rattle.candidate_eval.proofs.Probing.{keeps-trans, made}
 use Rattle.candidate_eval.proofs.StopKinds.{subst_making}
 use Rattle.candidate_eval.specs.Accounts.{Question}
 use Rattle.candidate_assembly.specs.Characterizing.{visited_at}
-use Rattle.candidate_assembly.proofs.Characterizing.{arg-below, asking-walk, found-here, last-step, making-walk, next-opened, next-step, nothing-done, number-later, own-walk, same-visits, unasked-opened, walked-later}
+use Rattle.candidate_assembly.proofs.Characterizing.{a-part, arg-below, asking-walk, constant-begins, constant-ends, depth-walk, env-later, found-here, last-step, later-visit, making-walk, many-groups, next-group, next-opened, next-step, no-group, no-part, none-opened, normal-looked, normal-refused, nothing-done, number-later, one-group, opened-begins, own-walk, region-begins, type-begins, unasked, unasked-opened, under-placeholders, walked-later}
 use Rattle.candidate_assembly.proofs.assembly.characterize.+visit.Goals as goal
 
 -- A part that stood under a binder.
@@ -45,24 +49,191 @@ visit_opened-visit-requires g t c κs within =
     (omega arith, (within.0, (within.1, (here, (c.in_ok-arg.ensures.sort, (c.requires.types, c.requires.constants))))))
 
 pub visit_opened-returns : goal.visit_opened-returns
-visit_opened-returns g t c = ?
+visit_opened-returns g t c =
+    let E = g.E.EvalCtxt in
+    let a = c.args.ecx.now in
+    let b = c.replace_bound_vars.new.make in
+    let r = g.met.E.EvalCtxt.by_rest a b c.replace_bound_vars.ensures.rest in
+    let kept = made r c.replace_bound_vars.ensures.grows in
+    let ts = (g.E.Build.context a).trees in
+    let opens : ℕ → Tree = λ n. opened_tree (args_forest ts c.args.values) (tree_at ts n) in
+    let tree : tree_at (g.E.Build.context b).trees (arg_number c.in_ok-arg.arg) ≡ opens c.args.number = c.in_ok-arg.ensures.tree ∙ ap opens c.in-Some.ensures.0 in
+    walked-later E.fixed E.probes g.E.Build.context E.state E.stops c.visit.result kept
+    (later-visit E.fixed E.probes g.E.Build.context E.state E.stops E.judge c.args.env c.args.nesting.types c.args.nesting.constants (opens c.args.number) _ kept r.1 c.requires.env tree) c.visit.ensures
 
 -- The parts under a binder.
 
 pub visit_each_opened-loop-place-init : goal.visit_each_opened-loop-place-init
-visit_each_opened-loop-place-init g t c = ?
+visit_each_opened-loop-place-init g t c =
+    let E = g.E.EvalCtxt in
+    let a = c.args.ecx.now in
+    let ts = (g.E.Build.context a).trees in
+    (nothing-done E.fixed E.probes g.E.Build.context E.state E.stops a, opened-begins (visited_at (E.judge (E.fixed a)) (env_forest ts c.args.env) c.args.nesting.types c.args.nesting.constants) (E.state a) (args_forest ts c.args.values) (tree_at ts c.args.number).children)
 
-pub visit_each_opened-visit_opened-requires : goal.visit_each_opened-visit_opened-requires
-visit_each_opened-visit_opened-requires g t c κs within = ?
+pub visit_each_opened-visit_opened-found-requires : goal.visit_each_opened-visit_opened-found-requires
+visit_each_opened-visit_opened-found-requires g t c κs within =
+    let E = g.E.EvalCtxt in
+    let kept = c.loop-place.invariant.0 in
+    let here = env-later c.args.env kept.grows c.requires.env in
+    let inside = number-later E.fixed E.probes g.E.Build.context E.state E.stops c.args.number kept c.requires.number in
+    let values = (args-kept _ _ c.args.values kept.grows c.requires.values).0 in
+    let below : c.in-Some.child < c.args.number = c.in-Some.ensures.0 in
+    (omega arith, (within.0, (within.1, (here, (omega (arith, below, inside), (values, (c.requires.types, c.requires.constants)))))))
 
 pub visit_each_opened-returns-then-ends : goal.visit_each_opened-returns-then-ends
-visit_each_opened-returns-then-ends g t c = ?
+visit_each_opened-returns-then-ends g t c =
+    let E = g.E.EvalCtxt in
+    let so = c.loop-place.invariant in
+    last-step E.fixed E.probes g.E.Build.context E.state E.stops _ c.visit_opened-found.result so.0
+    (next-opened E.fixed E.probes g.E.Build.context E.state E.stops E.judge c.args.env c.args.nesting.types c.args.nesting.constants c.cx.result.now c.args.number c.args.values c.loop-place.place c.in-Some.child c.cx.ensures so.0 c.requires.env c.requires.values c.requires.number so.1 c.in-Some.ensures.1)
+    (sym c.ends.ensures ∙ c.if-ends.true) c.visit_opened-found.ensures
 
 pub visit_each_opened-loop-place-preserved : goal.visit_each_opened-loop-place-preserved
-visit_each_opened-loop-place-preserved g t c = ?
+visit_each_opened-loop-place-preserved g t c =
+    let E = g.E.EvalCtxt in
+    let so = c.loop-place.invariant in
+    (keeps-trans E.fixed E.probes g.E.Build.context _ _ _ so.0 c.visit_opened-found.ensures.kept,
+      next-step E.fixed E.probes g.E.Build.context E.state E.stops _ c.visit_opened-found.result
+      (next-opened E.fixed E.probes g.E.Build.context E.state E.stops E.judge c.args.env c.args.nesting.types c.args.nesting.constants c.cx.result.now c.args.number c.args.values c.loop-place.place c.in-Some.child c.cx.ensures so.0 c.requires.env c.requires.values c.requires.number so.1 c.in-Some.ensures.1)
+      (sym c.ends.ensures ∙ c.if-ends.false) c.visit_opened-found.ensures)
 
-pub visit_each_opened-returns-in_default-child : goal.visit_each_opened-returns-in_default-child
-visit_each_opened-returns-in_default-child g t c = ?
+pub visit_each_opened-returns-in_default : goal.visit_each_opened-returns-in_default
+visit_each_opened-returns-in_default g t c =
+    let E = g.E.EvalCtxt in
+    let so = c.loop-place.invariant in
+    found-here E.fixed E.probes g.E.Build.context E.state E.stops _ so.0
+    (none-opened E.fixed E.probes g.E.Build.context E.state E.stops E.judge c.args.env c.args.nesting.types c.args.nesting.constants c.cx.result.now c.args.number _ c.loop-place.place c.cx.ensures so.0 c.requires.number so.1 c.in_default.ensures)
 
 pub visit_each_opened-returns : goal.visit_each_opened-returns
-visit_each_opened-returns g t c = ?
+visit_each_opened-returns g t c =
+    let E = g.E.EvalCtxt in
+    own-walk E.fixed E.probes g.E.Build.context E.state E.stops NodesFull c.loop-place.invariant.0 refl (making tt)
+
+-- What stands under a binder of its own.
+
+pub visit_under_binder-returns-in_err-kinds : goal.visit_under_binder-returns-in_err-kinds
+visit_under_binder-returns-in_err-kinds g t c =
+    let E = g.E.EvalCtxt in
+    making-walk E.fixed E.probes g.E.Build.context E.state E.stops c.in_err-kinds.field-0.0 c.from_residual.result c.from_residual.ensures.1
+    (nothing-done E.fixed E.probes g.E.Build.context E.state E.stops c.args.ecx.now) c.in_err-kinds.ensures.cause
+
+pub visit_under_binder-returns-in_err-values : goal.visit_under_binder-returns-in_err-values
+visit_under_binder-returns-in_err-values g t c =
+    let E = g.E.EvalCtxt in
+    let r = c.from_residual-in_err-values in
+    asking-walk E.fixed E.probes g.E.Build.context E.state E.stops (Question.make_placeholders (kinds_listed c.as_slice.result.now)) c.in_err-values.field-0.0 r.result
+    (λ s x. g.met.E.EvalCtxt.stops_itself _ _ _ s x) r.ensures.1 c.placeholder_args.ensures.kept c.in_err-values.ensures.cause
+
+pub visit_under_binder-visit_each_opened-requires : goal.visit_under_binder-visit_each_opened-requires
+visit_under_binder-visit_each_opened-requires g t c κs within =
+    let E = g.E.EvalCtxt in
+    let kept = c.placeholder_args.ensures.kept in
+    let here = env-later c.args.env kept.grows c.requires.env in
+    let inside = number-later E.fixed E.probes g.E.Build.context E.state E.stops c.args.number kept c.requires.number in
+    (omega arith, (within.0, (within.1, (here, (inside, (c.in_ok-values.ensures.sort, (c.requires.types, c.requires.constants)))))))
+
+pub visit_under_binder-returns : goal.visit_under_binder-returns
+visit_under_binder-returns g t c =
+    let E = g.E.EvalCtxt in
+    let kinds : kinds_listed c.as_slice.result.now ≡ bound_kinds (tree_at (g.E.Build.context c.args.ecx.now).trees c.args.number).children =
+    ap kinds_listed c.as_slice.ensures.value ∙ (c.in_ok-kinds.ensures.kinds ∙ ap (λ (x : Context). bound_kinds (tree_at x.trees c.args.number).children) c.cx.ensures) in
+    walked-later E.fixed E.probes g.E.Build.context E.state E.stops c.visit_each_opened.result c.placeholder_args.ensures.kept
+    (under-placeholders E.fixed E.probes g.E.Build.context E.state E.stops E.judge c.args.env c.args.nesting.types c.args.nesting.constants c.args.number c.in_ok-values.values (kinds_listed c.as_slice.result.now)
+    c.placeholder_args.ensures.kept c.requires.env c.requires.number kinds c.in_ok-values.ensures.trees c.in_ok-values.ensures.made) c.visit_each_opened.ensures
+
+-- A part.
+
+pub visit_part-returns-in-Part : goal.visit_part-returns-in-Part
+visit_part-returns-in-Part g t c = ?
+
+pub visit_part-returns-in-Some : goal.visit_part-returns-in-Some
+visit_part-returns-in-Some g t c = ?
+
+pub visit_part-returns-in-None : goal.visit_part-returns-in-None
+visit_part-returns-in-None g t c = ?
+
+-- Parts by their binders.
+
+pub visit_parts-returns-then-binders-gt0 : goal.visit_parts-returns-then-binders-gt0
+visit_parts-returns-then-binders-gt0 g t c = ?
+
+pub visit_parts-loop-place-init : goal.visit_parts-loop-place-init
+visit_parts-loop-place-init g t c = ?
+
+pub visit_parts-visit_part-found-requires : goal.visit_parts-visit_part-found-requires
+visit_parts-visit_part-found-requires g t c κs within =
+    let E = g.E.EvalCtxt in
+    let kept = c.loop-place.invariant.0 in
+    let here = env-later c.args.env kept.grows c.requires.env in
+    let inside = number-later E.fixed E.probes g.E.Build.context E.state E.stops c.args.number kept c.requires.number in
+    let below : c.in-Some.child < c.args.number = c.in-Some.ensures.0 in
+    (omega arith, (within.0, (within.1, (here, (omega (arith, below, inside), (c.requires.types, c.requires.constants))))))
+
+pub visit_parts-returns-then-ends : goal.visit_parts-returns-then-ends
+visit_parts-returns-then-ends g t c =
+    let E = g.E.EvalCtxt in
+    let so = c.loop-place.invariant in
+    last-step E.fixed E.probes g.E.Build.context E.state E.stops _ c.visit_part-found.result so.0
+    (next-group E.fixed E.probes g.E.Build.context E.state E.stops E.judge c.args.env c.args.nesting.types c.args.nesting.constants c.cx-in-loop-place.result.now c.args.number c.loop-place.place c.in-Some.child c.cx-in-loop-place.ensures so.0 c.requires.env c.requires.number so.1 c.in-Some.ensures.1)
+    (sym c.ends.ensures ∙ c.if-ends.true) c.visit_part-found.ensures
+
+pub visit_parts-loop-place-preserved : goal.visit_parts-loop-place-preserved
+visit_parts-loop-place-preserved g t c =
+    let E = g.E.EvalCtxt in
+    let so = c.loop-place.invariant in
+    (keeps-trans E.fixed E.probes g.E.Build.context _ _ _ so.0 c.visit_part-found.ensures.kept,
+      next-step E.fixed E.probes g.E.Build.context E.state E.stops _ c.visit_part-found.result
+      (next-group E.fixed E.probes g.E.Build.context E.state E.stops E.judge c.args.env c.args.nesting.types c.args.nesting.constants c.cx-in-loop-place.result.now c.args.number c.loop-place.place c.in-Some.child c.cx-in-loop-place.ensures so.0 c.requires.env c.requires.number so.1 c.in-Some.ensures.1)
+      (sym c.ends.ensures ∙ c.if-ends.false) c.visit_part-found.ensures)
+
+pub visit_parts-returns-in_default : goal.visit_parts-returns-in_default
+visit_parts-returns-in_default g t c =
+    let E = g.E.EvalCtxt in
+    let so = c.loop-place.invariant in
+    found-here E.fixed E.probes g.E.Build.context E.state E.stops _ so.0
+    (no-group E.fixed E.probes g.E.Build.context E.state E.stops E.judge c.args.env c.args.nesting.types c.args.nesting.constants c.cx-in-loop-place.result.now c.args.number c.loop-place.place c.cx-in-loop-place.ensures so.0 c.requires.number so.1 c.in_default.ensures)
+
+pub visit_parts-returns : goal.visit_parts-returns
+visit_parts-returns g t c =
+    let E = g.E.EvalCtxt in
+    own-walk E.fixed E.probes g.E.Build.context E.state E.stops NodesFull c.loop-place.invariant.0 refl (making tt)
+
+-- A normal form.
+
+pub look-visit_parts-requires : goal.look-visit_parts-requires
+look-visit_parts-requires g t c κs within = ?
+
+pub look-returns-in-None : goal.look-returns-in-None
+look-returns-in-None g t c = ?
+
+pub look-returns-in-Some : goal.look-returns-in-Some
+look-returns-in-Some g t c = ?
+
+-- A type, constant or region.
+
+pub visit-returns-in-Err : goal.visit-returns-in-Err
+visit-returns-in-Err g t c = ?
+
+pub visit-look-requires : goal.visit-look-requires
+visit-look-requires g t c κs within = ?
+
+pub visit-returns-in-Ok : goal.visit-returns-in-Ok
+visit-returns-in-Ok g t c = ?
+
+pub visit-returns-in-Const : goal.visit-returns-in-Const
+visit-returns-in-Const g t c = ?
+
+pub visit-returns-in-Err-structurally_normalize_const : goal.visit-returns-in-Err-structurally_normalize_const
+visit-returns-in-Err-structurally_normalize_const g t c = ?
+
+pub visit-look-requires-in-Ok-structurally_normalize_const : goal.visit-look-requires-in-Ok-structurally_normalize_const
+visit-look-requires-in-Ok-structurally_normalize_const g t c κs within = ?
+
+pub visit-returns-in-Ok-structurally_normalize_const : goal.visit-returns-in-Ok-structurally_normalize_const
+visit-returns-in-Ok-structurally_normalize_const g t c = ?
+
+pub visit-head-requires : goal.visit-head-requires
+visit-head-requires g t c = ?
+
+pub visit-returns-in-Region : goal.visit-returns-in-Region
+visit-returns-in-Region g t c = ?
