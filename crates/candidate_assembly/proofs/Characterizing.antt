@@ -139,6 +139,10 @@ pub a-region : (J : Judge) (e : Env) (m n : ℕ) → m ≤ 129 → n ≤ 128 →
     → visited_at J e m n S t ≡ region_seen S (resolved_tree S t).head
 a-region J e m n a b S t h = of-kind J e m n RegionKind a b S t h
 
+-- a refused normal form
+pub none-refused : {w : Walk} (o : Option (Tree × State)) (k : State → Tree → Walk) → w ≡ in_normal_form o k → o ≡ None → w ≡ Refuses
+none-refused o k e n = e ∙ ap (λ (x : Option (Tree × State)). in_normal_form x k) n
+
 -- Rows.
 
 -- the next of a row of opened trees

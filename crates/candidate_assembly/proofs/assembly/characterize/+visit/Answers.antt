@@ -1,27 +1,28 @@
-use Rattle.std.proofs.Common.{rules, ◌≡◌, ◌<◌, ◌≤◌, ℕ, ◌∙◌, ap, subst, sym, refl, arith, List, length, true, false}
+use Rattle.std.proofs.Common.{rules, ◌≡◌, ◌<◌, ◌≤◌, ℕ, ◌∙◌, ap, subst, sym, refl, arith, List, length, true, false, nat_lt, ltb-false, ◌+◌, Option, Some, None}
 use Rattle.std.proofs.lemmas.Result.{err_from_is_err_and}
+use Rattle.candidate_ir.specs.declared.ir.heads.Head.TheVariants as H
 use Rattle.candidate_ir.specs.declared.ir.kinds.GenericArg.TheVariants as A
 use Rattle.candidate_ir.specs.declared.ir.stop.Stop.TheVariants.{NodesFull}
 use Rattle.candidate_ir.specs.Kinds.{arg_number}
 use Rattle.candidate_ir.specs.Context.{Context}
-use Rattle.candidate_ir.specs.Folds.{IsArg, is_asked}
+use Rattle.candidate_ir.specs.Folds.{IsArg, arg_tree, is_asked}
 use Rattle.candidate_ir.specs.Nodes.{tree_at}
 use Rattle.candidate_ir.specs.Opening.{opened, opened_tree}
 use Rattle.candidate_ir.specs.Supers.{after_first}
-use Rattle.candidate_ir.specs.Trees.{Forest, Tree, skip}
-use Rattle.candidate_ir.specs.Words.{IsArgs, args_forest, env_forest}
+use Rattle.candidate_ir.specs.Trees.{Forest, RegionKind, Tree, binders_of, skip}
+use Rattle.candidate_ir.specs.Words.{IsArgs, args_forest, env_forest, region_tree}
 use Rattle.candidate_ir.proofs.Kept.{args-kept, number-kept}
-use Rattle.candidate_ir.proofs.Lists.{kind_of-tree_at}
+use Rattle.candidate_ir.proofs.Lists.{below_kind}
 use Rattle.candidate_eval.specs.Accounts.StopsSomehow.{making}
-use Rattle.candidate_eval.specs.Characterization.{Walk, bound_kinds}
+use Rattle.candidate_eval.specs.Characterization.{Walk, bound_kinds, each_group, groups, looked, region_seen}
 use Rattle.candidate_eval.specs.Evaluators.{kinds_listed}
 use Rattle.candidate_eval.specs.States.{State}
 use Rattle.candidate_eval.proofs.Objects.{env-kept}
 use Rattle.candidate_eval.proofs.Probing.{keeps-trans, made}
 use Rattle.candidate_eval.proofs.StopKinds.{subst_making}
 use Rattle.candidate_eval.specs.Accounts.{Question}
-use Rattle.candidate_assembly.specs.Characterizing.{visited_at}
-use Rattle.candidate_assembly.proofs.Characterizing.{a-part, arg-below, asking-walk, constant-begins, constant-ends, depth-walk, env-later, found-here, last-step, later-visit, making-walk, many-groups, next-group, next-opened, next-step, no-group, no-part, none-opened, normal-looked, normal-refused, nothing-done, number-later, one-group, opened-begins, own-walk, region-begins, type-begins, unasked, unasked-opened, under-placeholders, walked-later}
+use Rattle.candidate_assembly.specs.Characterizing.{unless_said, visited_at}
+use Rattle.candidate_assembly.proofs.Characterizing.{a-part, arg-below, asking-walk, constant-begins, constant-ends, depth-walk, env-later, found-here, last-step, later-visit, making-walk, many-groups, next-group, next-opened, next-step, no-group, no-part, none-opened, none-refused, normal-looked, normal-refused, nothing-done, number-later, one-group, opened-begins, own-walk, region-begins, type-begins, unasked, unasked-opened, under-placeholders, walked-later}
 use Rattle.candidate_assembly.proofs.assembly.characterize.+visit.Goals as goal
 
 -- A part that stood under a binder.
@@ -144,21 +145,59 @@ visit_under_binder-returns g t c =
 -- A part.
 
 pub visit_part-returns-in-Part : goal.visit_part-returns-in-Part
-visit_part-returns-in-Part g t c = ?
+visit_part-returns-in-Part g t c =
+    let E = g.E.EvalCtxt in
+    let a = c.args.ecx.now in
+    let ts = (g.E.Build.context a).trees in
+    let visit = visited_at (E.judge (E.fixed a)) (env_forest ts c.args.env) c.args.nesting.types c.args.nesting.constants in
+    let part : (tree_at ts c.args.number).head ≡ H.Part c.in-Part.field-0 = sym (c.in-Part.ensures ∙ ap (λ (x : Context). (tree_at x.trees c.args.number).head) c.cx.ensures) in
+    walked-later E.fixed E.probes g.E.Build.context E.state E.stops c.visit_under_binder.result (nothing-done E.fixed E.probes g.E.Build.context E.state E.stops a) (a-part visit (E.state a) (tree_at ts c.args.number) c.in-Part.field-0 part) c.visit_under_binder.ensures
 
 pub visit_part-returns-in-Some : goal.visit_part-returns-in-Some
-visit_part-returns-in-Some g t c = ?
+visit_part-returns-in-Some g t c =
+    let E = g.E.EvalCtxt in
+    let a = c.args.ecx.now in
+    let ts = (g.E.Build.context a).trees in
+    let visit = visited_at (E.judge (E.fixed a)) (env_forest ts c.args.env) c.args.nesting.types c.args.nesting.constants in
+    let head : c.head.result ≡ (tree_at ts c.args.number).head = c.head.ensures ∙ ap (λ (x : Context). (tree_at x.trees c.args.number).head) c.cx.ensures in
+    let single = no-part visit (E.state a) (tree_at ts c.args.number) (λ p e. c.in_default.not-Part p (head ∙ e)) in
+    walked-later E.fixed E.probes g.E.Build.context E.state E.stops c.visit.result (nothing-done E.fixed E.probes g.E.Build.context E.state E.stops a)
+    (single ∙ ap (λ (n : ℕ). visit (E.state a) (tree_at ts n)) (sym c.in-Some.ensures.0)) c.visit.ensures
 
 pub visit_part-returns-in-None : goal.visit_part-returns-in-None
-visit_part-returns-in-None g t c = ?
+visit_part-returns-in-None g t c =
+    let E = g.E.EvalCtxt in
+    let a = c.args.ecx.now in
+    let ts = (g.E.Build.context a).trees in
+    let visit = visited_at (E.judge (E.fixed a)) (env_forest ts c.args.env) c.args.nesting.types c.args.nesting.constants in
+    let head : c.head.result ≡ (tree_at ts c.args.number).head = c.head.ensures ∙ ap (λ (x : Context). (tree_at x.trees c.args.number).head) c.cx.ensures in
+    let single = no-part visit (E.state a) (tree_at ts c.args.number) (λ p e. c.in_default.not-Part p (head ∙ e)) in
+    let other : is_asked (tree_at ts c.args.number).head ≡ false = subst (λ (x : Context). is_asked (tree_at x.trees c.args.number).head ≡ false) c.cx-2.ensures c.in-None.ensures in
+    found-here E.fixed E.probes g.E.Build.context E.state E.stops _ (nothing-done E.fixed E.probes g.E.Build.context E.state E.stops a)
+    (single ∙ unasked (E.judge (E.fixed a)) (env_forest ts c.args.env) c.args.nesting.types c.args.nesting.constants c.requires.types c.requires.constants (E.state a) (tree_at ts c.args.number) other)
 
 -- Parts by their binders.
 
 pub visit_parts-returns-then-binders-gt0 : goal.visit_parts-returns-then-binders-gt0
-visit_parts-returns-then-binders-gt0 g t c = ?
+visit_parts-returns-then-binders-gt0 g t c =
+    let E = g.E.EvalCtxt in
+    let a = c.args.ecx.now in
+    let ts = (g.E.Build.context a).trees in
+    let visit = visited_at (E.judge (E.fixed a)) (env_forest ts c.args.env) c.args.nesting.types c.args.nesting.constants in
+    let binders : c.binders.result ≡ binders_of (tree_at ts c.args.number).head =
+    c.binders.ensures.is ∙ ap binders_of (c.head.ensures ∙ ap (λ (x : Context). (tree_at x.trees c.args.number).head) c.cx.ensures) in
+    walked-later E.fixed E.probes g.E.Build.context E.state E.stops c.visit_under_binder.result (nothing-done E.fixed E.probes g.E.Build.context E.state E.stops a)
+    (one-group visit (E.state a) (tree_at ts c.args.number) c.binders.result binders c.if-binders-gt0.true) c.visit_under_binder.ensures
 
 pub visit_parts-loop-place-init : goal.visit_parts-loop-place-init
-visit_parts-loop-place-init g t c = ?
+visit_parts-loop-place-init g t c =
+    let E = g.E.EvalCtxt in
+    let a = c.args.ecx.now in
+    let ts = (g.E.Build.context a).trees in
+    let visit = visited_at (E.judge (E.fixed a)) (env_forest ts c.args.env) c.args.nesting.types c.args.nesting.constants in
+    let binders : c.binders.result ≡ binders_of (tree_at ts c.args.number).head =
+    c.binders.ensures.is ∙ ap binders_of (c.head.ensures ∙ ap (λ (x : Context). (tree_at x.trees c.args.number).head) c.cx.ensures) in
+    (nothing-done E.fixed E.probes g.E.Build.context E.state E.stops a, many-groups visit (E.state a) (tree_at ts c.args.number) c.binders.result binders c.if-binders-gt0.false)
 
 pub visit_parts-visit_part-found-requires : goal.visit_parts-visit_part-found-requires
 visit_parts-visit_part-found-requires g t c κs within =
@@ -201,39 +240,105 @@ visit_parts-returns g t c =
 -- A normal form.
 
 pub look-visit_parts-requires : goal.look-visit_parts-requires
-look-visit_parts-requires g t c κs within = ?
+look-visit_parts-requires g t c κs within =
+    let inside = arg-below (g.E.Build.context c.args.ecx.now).trees c.args.arg c.requires.arg in
+    (omega arith, (within.0, (within.1, (c.requires.env, (rw c.number.ensures inside, (c.requires.types (c.in-None.ensures.deep refl), c.requires.constants))))))
 
 pub look-returns-in-None : goal.look-returns-in-None
-look-returns-in-None g t c = ?
+look-returns-in-None g t c =
+    let E = g.E.EvalCtxt in
+    let a = c.args.ecx.now in
+    let ts = (g.E.Build.context a).trees in
+    let visit = visited_at (E.judge (E.fixed a)) (env_forest ts c.args.env) c.args.nesting.types c.args.nesting.constants in
+    let says = subst (λ (x : Context). looked visit c.args.is_too_deep (E.state a) (arg_tree x.trees c.args.arg) ≡ unless_said None (E.state a) (each_group visit (E.state a) (groups (arg_tree x.trees c.args.arg).head (arg_tree x.trees c.args.arg).children)))
+    c.cx.ensures (c.in-None.ensures.says visit (E.state a)) in
+    walked-later E.fixed E.probes g.E.Build.context E.state E.stops c.visit_parts.result (nothing-done E.fixed E.probes g.E.Build.context E.state E.stops a)
+    (says ∙ ap (λ (n : ℕ). each_group visit (E.state a) (groups (tree_at ts n).head (tree_at ts n).children)) (sym c.number.ensures)) c.visit_parts.ensures
 
 pub look-returns-in-Some : goal.look-returns-in-Some
-look-returns-in-Some g t c = ?
+look-returns-in-Some g t c =
+    let E = g.E.EvalCtxt in
+    let a = c.args.ecx.now in
+    let ts = (g.E.Build.context a).trees in
+    let visit = visited_at (E.judge (E.fixed a)) (env_forest ts c.args.env) c.args.nesting.types c.args.nesting.constants in
+    let says = subst (λ (x : Context). looked visit c.args.is_too_deep (E.state a) (arg_tree x.trees c.args.arg) ≡ unless_said (Some c.in-Some.said) (E.state a) (each_group visit (E.state a) (groups (arg_tree x.trees c.args.arg).head (arg_tree x.trees c.args.arg).children)))
+    c.cx.ensures (c.in-Some.ensures.says visit (E.state a)) in
+    found-here E.fixed E.probes g.E.Build.context E.state E.stops c.in-Some.said (nothing-done E.fixed E.probes g.E.Build.context E.state E.stops a) says
 
 -- A type, constant or region.
 
 pub visit-returns-in-Err : goal.visit-returns-in-Err
-visit-returns-in-Err g t c = ?
+visit-returns-in-Err g t c =
+    let E = g.E.EvalCtxt in
+    let a = c.args.ecx.now in
+    let ts = (g.E.Build.context a).trees in
+    let e = c.in-Err in
+    let walk = type-begins E.fixed E.probes g.E.Build.context E.state E.stops E.judge c.args.env c.args.nesting.types c.args.nesting.constants a c.requires.types c.requires.constants (g.met.E.EvalCtxt.walks (E.fixed a)) c.args.arg c.requires.arg c.in-Ty.ty c.in-Ty.is in
+    normal-refused E.fixed E.probes g.E.Build.context E.state E.stops _ e.error (λ s x. g.met.E.EvalCtxt.stops_itself _ _ _ s x) c.structurally_normalize_ty.ensures.kept
+    (λ r. none-refused _ _ walk (e.ensures.refused r)) e.ensures.cause
 
 pub visit-look-requires : goal.visit-look-requires
-visit-look-requires g t c κs within = ?
+visit-look-requires g t c κs within =
+    let here = env-later c.args.env c.structurally_normalize_ty.ensures.kept.grows c.requires.env in
+    (omega (arith, c.requires.types, c.requires.constants), (within.0, (within.1, (here, (c.in-Ok.ensures.sort,
+    ((λ e. let l = ltb-false 128 c.args.nesting.types e in omega (arith, l)), c.requires.constants))))))
 
 pub visit-returns-in-Ok : goal.visit-returns-in-Ok
-visit-returns-in-Ok g t c = ?
+visit-returns-in-Ok g t c =
+    let E = g.E.EvalCtxt in
+    let a = c.args.ecx.now in
+    let ts = (g.E.Build.context a).trees in
+    let walk = type-begins E.fixed E.probes g.E.Build.context E.state E.stops E.judge c.args.env c.args.nesting.types c.args.nesting.constants a c.requires.types c.requires.constants (g.met.E.EvalCtxt.walks (E.fixed a)) c.args.arg c.requires.arg c.in-Ty.ty c.in-Ty.is in
+    walked-later E.fixed E.probes g.E.Build.context E.state E.stops c.look.result c.structurally_normalize_ty.ensures.kept
+    (normal-looked E.fixed E.probes g.E.Build.context E.state E.stops E.judge c.args.env (c.args.nesting.types + 1) c.args.nesting.constants (nat_lt 128 c.args.nesting.types) _ _ c.structurally_normalize_ty.ensures.kept c.requires.env walk c.in-Ok.ensures.ok) c.look.ensures
 
 pub visit-returns-in-Const : goal.visit-returns-in-Const
-visit-returns-in-Const g t c = ?
+visit-returns-in-Const g t c =
+    let E = g.E.EvalCtxt in
+    let a = c.args.ecx.now in
+    let ts = (g.E.Build.context a).trees in
+    depth-walk E.fixed E.probes g.E.Build.context E.state E.stops (constant-ends E.fixed E.probes g.E.Build.context E.state E.stops E.judge c.args.env c.args.nesting.types c.args.nesting.constants a c.requires.types c.requires.constants (g.met.E.EvalCtxt.walks (E.fixed a)) c.args.arg c.requires.arg c.in-Const.field-0 c.in-Const.is c.if-nesting-ge-NESTED_CONSTANTS.true)
 
 pub visit-returns-in-Err-structurally_normalize_const : goal.visit-returns-in-Err-structurally_normalize_const
-visit-returns-in-Err-structurally_normalize_const g t c = ?
+visit-returns-in-Err-structurally_normalize_const g t c =
+    let small : c.args.nesting.constants < 128 = omega (arith, c.if-nesting-ge-NESTED_CONSTANTS.false) in
+    let E = g.E.EvalCtxt in
+    let a = c.args.ecx.now in
+    let ts = (g.E.Build.context a).trees in
+    let e = c.in-Err-structurally_normalize_const in
+    let walk = constant-begins E.fixed E.probes g.E.Build.context E.state E.stops E.judge c.args.env c.args.nesting.types c.args.nesting.constants a c.requires.types c.requires.constants (g.met.E.EvalCtxt.walks (E.fixed a)) c.args.arg c.requires.arg c.in-Const-2.constant c.in-Const-2.is small in
+    normal-refused E.fixed E.probes g.E.Build.context E.state E.stops _ e.error (λ s x. g.met.E.EvalCtxt.stops_itself _ _ _ s x) c.structurally_normalize_const.ensures.kept
+    (λ r. none-refused _ _ walk (e.ensures.refused r)) e.ensures.cause
 
 pub visit-look-requires-in-Ok-structurally_normalize_const : goal.visit-look-requires-in-Ok-structurally_normalize_const
-visit-look-requires-in-Ok-structurally_normalize_const g t c κs within = ?
+visit-look-requires-in-Ok-structurally_normalize_const g t c κs within =
+    let small : c.args.nesting.constants < 128 = omega (arith, c.if-nesting-ge-NESTED_CONSTANTS.false) in
+    let here = env-later c.args.env c.structurally_normalize_const.ensures.kept.grows c.requires.env in
+    (omega (arith, c.requires.types, c.requires.constants), (within.0, (within.1, (here, (c.in-Ok-structurally_normalize_const.ensures.sort, ((λ e. c.requires.types), omega (arith, small)))))))
 
 pub visit-returns-in-Ok-structurally_normalize_const : goal.visit-returns-in-Ok-structurally_normalize_const
-visit-returns-in-Ok-structurally_normalize_const g t c = ?
+visit-returns-in-Ok-structurally_normalize_const g t c =
+    let small : c.args.nesting.constants < 128 = omega (arith, c.if-nesting-ge-NESTED_CONSTANTS.false) in
+    let E = g.E.EvalCtxt in
+    let a = c.args.ecx.now in
+    let ts = (g.E.Build.context a).trees in
+    let walk = constant-begins E.fixed E.probes g.E.Build.context E.state E.stops E.judge c.args.env c.args.nesting.types c.args.nesting.constants a c.requires.types c.requires.constants (g.met.E.EvalCtxt.walks (E.fixed a)) c.args.arg c.requires.arg c.in-Const-2.constant c.in-Const-2.is small in
+    walked-later E.fixed E.probes g.E.Build.context E.state E.stops c.look-in-Ok-structurally_normalize_const.result c.structurally_normalize_const.ensures.kept
+    (normal-looked E.fixed E.probes g.E.Build.context E.state E.stops E.judge c.args.env c.args.nesting.types (c.args.nesting.constants + 1) false _ _ c.structurally_normalize_const.ensures.kept c.requires.env walk c.in-Ok-structurally_normalize_const.ensures.ok) c.look-in-Ok-structurally_normalize_const.ensures
 
 pub visit-head-requires : goal.visit-head-requires
-visit-head-requires g t c = ?
+visit-head-requires g t c =
+    let E = g.E.EvalCtxt in
+    let inside = below_kind (g.E.Build.context c.args.ecx.now).trees c.eager_resolve_region-value.result.0 RegionKind refl c.eager_resolve_region-value.ensures.sort in
+    rw c.cx.ensures inside
 
 pub visit-returns-in-Region : goal.visit-returns-in-Region
-visit-returns-in-Region g t c = ?
+visit-returns-in-Region g t c =
+    let E = g.E.EvalCtxt in
+    let a = c.args.ecx.now in
+    let ts = (g.E.Build.context a).trees in
+    let value = c.eager_resolve_region-value in
+    let head : c.head.result ≡ (region_tree ts value.result).head = c.head.ensures ∙ ap (λ (x : Context). (tree_at x.trees value.result.0).head) c.cx.ensures in
+    found-here E.fixed E.probes g.E.Build.context E.state E.stops c.found_in_region.result (nothing-done E.fixed E.probes g.E.Build.context E.state E.stops a)
+    (region-begins E.fixed E.probes g.E.Build.context E.state E.stops E.judge c.args.env c.args.nesting.types c.args.nesting.constants a c.requires.types c.requires.constants (g.met.E.EvalCtxt.walks (E.fixed a)) c.args.arg c.requires.arg c.in-Region.region c.in-Region.is
+    ∙ (ap (λ (t : Tree). region_seen (E.state a) t.head) (sym value.ensures.tree) ∙ (ap (region_seen (E.state a)) (sym head) ∙ c.found_in_region.ensures (E.state a))))
