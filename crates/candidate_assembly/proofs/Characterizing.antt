@@ -1,5 +1,5 @@
 -- Characterisation: walks, one after the other.
-use Rattle.std.proofs.Common.{◌≡◌, ◌≢◌, ◌<◌, ◌≤◌, ◌+◌, ◌-◌, ℕ, zero, suc, Bool, true, false, nat_eq, nat_lt, refl, sym, ◌∙◌, ap, subst, arith, List, [], ◌∷◌, length, Option, Some, None, Result, Ok, Err}
+use Rattle.std.proofs.Common.{◌≡◌, ◌≢◌, ◌<◌, ◌≤◌, ◌+◌, ◌-◌, ℕ, zero, suc, Bool, true, false, nat_eq, nat_lt, ◌||◌, refl, sym, ◌∙◌, ap, subst, arith, List, [], ◌∷◌, length, Option, Some, None, Result, Ok, Err}
 use Rattle.std.specs.Prelude.{IfErr, if◌then◌else◌}
 use Rattle.std.specs.Option.{unwrap_or}
 use Rattle.std.specs.Result.{IsErrAnd}
@@ -8,6 +8,7 @@ use Rattle.candidate_ir.specs.declared.ir.heads.Head.TheVariants as H
 use Rattle.candidate_ir.specs.declared.ir.heads.ConstHead.TheVariants as C
 use Rattle.candidate_ir.specs.declared.ir.heads.PartHead.{PartHead}
 use Rattle.candidate_ir.specs.declared.ir.kinds.Args.{Args}
+use Rattle.candidate_ir.specs.declared.ir.kinds.Clause.{Clause}
 use Rattle.candidate_ir.specs.declared.ir.kinds.Const.{Const}
 use Rattle.candidate_ir.specs.declared.ir.kinds.GenericArg.{GenericArg}
 use Rattle.candidate_ir.specs.declared.ir.kinds.GenericArg.TheVariants as A
@@ -24,17 +25,18 @@ use Rattle.candidate_ir.specs.Kinds.{arg_number, arg_kind, arg_there}
 use Rattle.candidate_ir.specs.Nodes.{tree_at}
 use Rattle.candidate_ir.specs.Opening.{opened, opened_tree, opened_head}
 use Rattle.candidate_ir.specs.Supers.{after_first}
-use Rattle.candidate_ir.specs.Trees.{Kind, TypeKind, ConstantKind, RegionKind, Forest, none, tree, Tree, binders_of, kind_of, skip}
-use Rattle.candidate_ir.specs.Words.{IsArgs, IsParamEnv, args_forest, const_tree, env_forest, region_tree, ty_tree}
+use Rattle.candidate_ir.specs.Trees.{Kind, TypeKind, ConstantKind, RegionKind, ClauseKind, Forest, none, tree, Tree, binders_of, holds, kind_of, skip, tree_holds}
+use Rattle.candidate_ir.specs.Words.{IsArgs, IsClause, IsParamEnv, args_forest, clause_tree, const_tree, env_forest, region_tree, ty_tree}
 use Rattle.candidate_ir.proofs.FoldSteps.{extends-length}
 use Rattle.candidate_ir.proofs.Kept.{grows-refl, number-kept, args-kept}
 use Rattle.candidate_ir.proofs.Lists.{below_kind, kind_of-tree_at}
 use Rattle.candidate_eval.specs.declared.eval.certainty.Certainty.{Certainty}
+use Rattle.candidate_eval.specs.declared.eval.certainty.Certainty.TheVariants.{Yes}
 use Rattle.candidate_eval.specs.declared.eval.refusal.NoSolutionOrStop.{NoSolutionOrStop}
 use Rattle.candidate_eval.specs.declared.eval.refusal.NoSolutionOrStop.TheVariants as N
 use Rattle.candidate_eval.specs.Accounts.{Account, Question, Reaches, StopsSomehow, by_stop}
 use Rattle.candidate_eval.specs.Accounts.StopsSomehow.{making, asking}
-use Rattle.candidate_eval.specs.Characterization.{Walk, Goes, Finds, Refuses, Stops, Group, Loose, Bounded, and_then, each, each_group, each_group_of, group_of, groups, in_normal_form, looked, region_seen, under_binder, bound_kinds, visited, visited_as}
+use Rattle.candidate_eval.specs.Characterization.{Walk, Goes, Finds, Refuses, Stops, Loose, Bounded, characterization, is_any_bound, most_visits, and_then, each, each_group, each_group_of, group_of, groups, in_normal_form, looked, region_seen, under_binder, bound_kinds, visited, visited_as}
 use Rattle.candidate_eval.specs.Evaluators.{Keeps, IsMakingStop, IsEvaluatorStop, rigid, with_rigid}
 use Rattle.candidate_eval.specs.Knowing.{own_stop}
 use Rattle.candidate_eval.specs.Limits.{Limits, declared_limits}
@@ -142,6 +144,36 @@ a-region J e m n a b S t h = of-kind J e m n RegionKind a b S t h
 -- a refused normal form
 pub none-refused : {w : Walk} (o : Option (Tree × State)) (k : State → Tree → Walk) → w ≡ in_normal_form o k → o ≡ None → w ≡ Refuses
 none-refused o k e n = e ∙ ap (λ (x : Option (Tree × State)). in_normal_form x k) n
+
+-- A clause.
+
+clause-unbound : (h : Head) → kind_of h ≡ ClauseKind → is_any_bound h ≡ false
+clause-unbound (H.Bound v) e = absurd cc
+clause-unbound (H.Const (C.Bound v)) e = absurd cc
+clause-unbound (H.Region (R.Bound v)) e = absurd cc
+clause-unbound _ e = refl
+
+below-clause : (c : Tree) (b : Bool) → kind_of c.head ≡ ClauseKind → b ≡ tree_holds is_any_bound c → holds is_any_bound c.children ≡ b
+below-clause c b k e = sym (e ∙ ap (λ (x : Bool). x || holds is_any_bound c.children) (clause-unbound c.head k))
+
+pub with-bound : (J : Judge) (e : Env) (S : State) (c : Tree) (b : Bool) → kind_of c.head ≡ ClauseKind → b ≡ tree_holds is_any_bound c → b ≡ true
+    → characterization J e S c ≡ Finds S Yes
+with-bound J e S c b k h t =
+    ap (λ (x : Bool). if x then Finds S Yes else each (visited J e (most_visits J) 1 0) S (opened none (after_first c.children))) (below-clause c b k h ∙ t)
+
+pub without-bound : (J : Judge) (e : Env) (S : State) (c : Tree) (b : Bool) → J.limits ≡ declared_limits → kind_of c.head ≡ ClauseKind → b ≡ tree_holds is_any_bound c → b ≡ false
+    → characterization J e S c ≡ each (visited_at J e 1 0) S (opened none (after_first c.children))
+unfolding visited_at
+without-bound J e S c b l k h t =
+    let ts = opened none (after_first c.children) in
+    let most : most_visits J ≡ 259 - (1 + 0) = ap (λ (x : Limits). suc (suc (x.recursion + x.nested_constants))) l in
+    ap (λ (x : Bool). if x then Finds S Yes else each (visited J e (most_visits J) 1 0) S ts) (below-clause c b k h ∙ t)
+    ∙ ap (λ (n : ℕ). each (visited J e n 1 0) S ts) most
+
+pub clause-there : (ts : List Tree) (c : Clause) → IsClause ts c → (c.0 < length ts) × (kind_of (clause_tree ts c).head ≡ ClauseKind)
+clause-there ts c h =
+    let l = below_kind ts c.0 ClauseKind refl h in
+    (l, sym (kind_of-tree_at ts c.0 l) ∙ h)
 
 -- Rows.
 
@@ -384,6 +416,19 @@ module _ {E F : Type 0} (fixed : E → F) (probes : E → List State) (context :
         ∙ (ap (λ (t : Tree). each (visits a) (state b) (opened vs (after_first t.children))) (sym (number-kept (context a).trees (context b).trees number k.grows.kept l).1)
         ∙ ap (λ (f : State → Tree → Walk). each f (state b) (opened vs (after_first (tree_at (context b).trees number).children))) (sym (same-visits k h))))))
 
+    -- the parts of a clause, with an empty list of values
+    pub with-none : {a b : E} (number : ℕ) (values : Args) → KeptTo a b → IsParamEnv (context a).trees env → number < length (context a).trees
+        → args_forest (context b).trees values ≡ none → state b ≡ state a
+        → each (visits a) (state a) (opened none (after_first (tree_at (context a).trees number).children))
+        ≡ each (visits b) (state b) (opened (args_forest (context b).trees values) (after_first (tree_at (context b).trees number).children))
+    with-none {a} {b} number values k h l trees same =
+        let below = (tree_at (context a).trees number).children in
+        let vs = args_forest (context b).trees values in
+        ap (λ (S : State). each (visits a) S (opened none (after_first below))) (sym same)
+        ∙ (ap (λ (x : Forest). each (visits a) (state b) (opened x (after_first below))) (sym trees)
+        ∙ (ap (λ (t : Tree). each (visits a) (state b) (opened vs (after_first t.children))) (sym (number-kept (context a).trees (context b).trees number k.grows.kept l).1)
+        ∙ ap (λ (f : State → Tree → Walk). each f (state b) (opened vs (after_first (tree_at (context b).trees number).children))) (sym (same-visits k h))))
+
     -- a normal form, in the context that it came in
     pub normal-looked : {a b : E} {w : Walk} (is_too_deep : Bool) (o : Option (Tree × State)) (t : Tree) → KeptTo a b → IsParamEnv (context a).trees env
         → w ≡ in_normal_form o (looked (visits a) is_too_deep) → o ≡ Some (t, state b) → w ≡ looked (visits b) is_too_deep (state b) t
@@ -441,3 +486,11 @@ module _ {E F : Type 0} (fixed : E → F) (probes : E → List State) (context :
 
 abbrev pub env-later : {a b : Context} (e : ParamEnv) → Grows a b → IsParamEnv a.trees e → IsParamEnv b.trees e
 env-later {a} {b} e g h = (env-kept a b e g h).0
+
+-- What an error says.
+
+pub refusal-told : (w : Walk) (S : State) (e : NoSolutionOrStop) → Tells w S (Err e) → e ≡ N.NoSolution → w ≡ Refuses
+refusal-told w S e t r = subst (λ (x : NoSolutionOrStop). Tells w S (Err x)) r t
+
+pub stop-told : (w : Walk) (S : State) (e : NoSolutionOrStop) (s : Stop) → Tells w S (Err e) → e ≡ N.Stop s → own_stop s ≡ false → w ≡ Stops s
+stop-told w S e s t r = subst (λ (x : NoSolutionOrStop). Tells w S (Err x)) r t

@@ -1,6 +1,6 @@
 //! Whether a clause of the environment is global: whether it says nothing of what is generic there.
 
-ghost use Rattle.std.specs.Prelude.{◌≡◌, ◌≤◌, ◌<◌, [], ◌∷◌, false, refl, None, Some, Err, IfOk, IfErr, MatchOption, length};
+ghost use Rattle.std.specs.Prelude.{◌≡◌, ◌≤◌, ◌<◌, [], ◌∷◌, true, false, refl, None, Some, Err, IfOk, IfErr, MatchOption, length};
 ghost use Rattle.candidate_ir.specs.Context.{parameter_kind};
 ghost use Rattle.candidate_ir.specs.Folds.{IsArg, arg_tree};
 ghost use Rattle.candidate_ir.specs.Nodes.{tree_at};
@@ -370,6 +370,28 @@ fn visit<E: EvalCtxt>(
     }
 }
 
+/// Walks over a clause of the environment: where a variable is bound in it that is found, else what its parts say.
+fn walk<E: EvalCtxt>(
+    alloc: Global,
+    ecx: &mut E,
+    env: ParamEnv,
+    clause: Clause,
+) -> Result<Option<Certainty>, NoSolutionOrStop>
+    requires env { IsParamEnv (E.context ecx.old).trees env }
+    requires clause { IsClause (E.context ecx.old).trees clause }
+    ensures { Walks E.fixed E.probes E.context E.state E.stops ecx.old ecx.new (characterization (E.judge (E.fixed ecx.old)) (env_forest (E.context ecx.old).trees env) (E.state ecx.old) (clause_tree (E.context ecx.old).trees clause)) result }
+{
+    if ecx.cx().has_marked(clause, &AnyBound) {
+        return Ok(Some(Certainty::Yes));
+    }
+    let values = ecx.placeholder_args(&[])?;
+    let nesting = Nesting {
+        types: 1,
+        constants: 0,
+    };
+    visit_each_opened(alloc, ecx, env, clause.0, values, nesting)
+}
+
 /// Whether a clause of the environment is global, and how sure its candidate is at most.
 ///
 /// It isn't where a variable is bound in it. Else its parts are normalised, and the first says it that is a placeholder of the root
@@ -393,13 +415,9 @@ pub fn characterize_param_env_assumption<E: EvalCtxt>(
     ensures stopped { (s : Stopping) → result ≡ Err (NoSolutionOrStop.Stop s) → own_stop s ≡ false → characterization (E.judge (E.fixed ecx.old)) (env_forest (E.context ecx.old).trees env) (E.state ecx.old) (clause_tree (E.context ecx.old).trees assumption) ≡ Stops s }
     ensures cause { IfErr result (by_stop (λ s. own_stop s ≡ true → StopsSomehow E.fixed E.context E.state E.stops ecx.old s)) }
 {
-    if ecx.cx().has_marked(assumption, &AnyBound) {
-        return Ok((ParamEnvSource::NonGlobal, Certainty::Yes));
-    }
-    let values = ecx.placeholder_args(&[])?;
-    let nesting = Nesting { types: 1, constants: 0 };
-    match visit_each_opened(alloc, ecx, env, assumption.0, values, nesting)? {
-        Some(certainty) => Ok((ParamEnvSource::NonGlobal, certainty)),
-        None => Ok((ParamEnvSource::Global, Certainty::Yes)),
+    match walk(alloc, ecx, env, assumption) {
+        Ok(Some(certainty)) => Ok((ParamEnvSource::NonGlobal, certainty)),
+        Ok(None) => Ok((ParamEnvSource::Global, Certainty::Yes)),
+        Err(error) => Err(error),
     }
 }
