@@ -25,7 +25,7 @@ use candidate_ir::decl::Cx;
 use candidate_ir::decl::open::replace_bound_vars;
 use candidate_ir::ir::heads::{ConstHead, Head, PartHead};
 use candidate_ir::ir::kinds::{
-    Args, Clause, ConstKind, GenericArg, ParamEnv, Placeholder, RegionKind, TyKind, VarKind,
+    Args, Clause, ConstKind, GenericArg, ParamEnv, RegionKind, TyKind, VarKind,
 };
 use candidate_ir::ir::marks::Mark;
 use candidate_ir::ir::node::Node;
@@ -344,7 +344,10 @@ fn visit<E: EvalCtxt>(
 {
     match arg {
         GenericArg::Ty(ty) => {
-            let parts = Nesting { types: nesting.types + 1, constants: nesting.constants };
+            let parts = Nesting {
+                types: nesting.types + 1,
+                constants: nesting.constants,
+            };
             match ecx.structurally_normalize_ty(env, ty) {
                 Ok(normal) => {
                     let is_too_deep = nesting.types > RECURSION;
@@ -357,7 +360,10 @@ fn visit<E: EvalCtxt>(
             Err(NoSolutionOrStop::Stop(Stop::ConstDepth))
         }
         GenericArg::Const(constant) => {
-            let parts = Nesting { types: nesting.types, constants: nesting.constants + 1 };
+            let parts = Nesting {
+                types: nesting.types,
+                constants: nesting.constants + 1,
+            };
             match ecx.structurally_normalize_const(env, constant) {
                 Ok(normal) => look(alloc, ecx, env, GenericArg::Const(normal), false, parts),
                 Err(error) => Err(error),

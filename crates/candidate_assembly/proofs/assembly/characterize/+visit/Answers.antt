@@ -1,22 +1,18 @@
-use Rattle.std.proofs.Common.{rules, ◌≡◌, ◌<◌, ◌≤◌, ℕ, ◌∙◌, ap, subst, sym, refl, arith, List, length, true, false, nat_lt, ltb-false, ◌+◌, Option, Some, None}
-use Rattle.std.proofs.lemmas.Result.{err_from_is_err_and}
+use Rattle.std.proofs.Common.{◌≡◌, ◌<◌, ℕ, ◌∙◌, ap, subst, sym, refl, arith, true, false, nat_lt, ltb-false, ◌+◌, Some, None}
 use Rattle.candidate_ir.specs.declared.ir.heads.Head.TheVariants as H
-use Rattle.candidate_ir.specs.declared.ir.kinds.GenericArg.TheVariants as A
 use Rattle.candidate_ir.specs.declared.ir.stop.Stop.TheVariants.{NodesFull}
 use Rattle.candidate_ir.specs.Kinds.{arg_number}
 use Rattle.candidate_ir.specs.Context.{Context}
-use Rattle.candidate_ir.specs.Folds.{IsArg, arg_tree, is_asked}
+use Rattle.candidate_ir.specs.Folds.{arg_tree, is_asked}
 use Rattle.candidate_ir.specs.Nodes.{tree_at}
 use Rattle.candidate_ir.specs.Opening.{opened, opened_tree}
-use Rattle.candidate_ir.specs.Supers.{after_first}
-use Rattle.candidate_ir.specs.Trees.{Forest, RegionKind, Tree, binders_of, skip}
-use Rattle.candidate_ir.specs.Words.{IsArgs, args_forest, env_forest, region_tree}
-use Rattle.candidate_ir.proofs.Kept.{args-kept, number-kept}
+use Rattle.candidate_ir.specs.Trees.{RegionKind, Tree, binders_of}
+use Rattle.candidate_ir.specs.Words.{args_forest, env_forest, region_tree}
+use Rattle.candidate_ir.proofs.Kept.{args-kept}
 use Rattle.candidate_ir.proofs.Lists.{below_kind}
 use Rattle.candidate_eval.specs.Accounts.StopsSomehow.{making}
-use Rattle.candidate_eval.specs.Characterization.{Walk, bound_kinds, each_group, groups, looked, region_seen}
+use Rattle.candidate_eval.specs.Characterization.{bound_kinds, each_group, groups, looked, region_seen}
 use Rattle.candidate_eval.specs.Evaluators.{kinds_listed}
-use Rattle.candidate_eval.specs.States.{State}
 use Rattle.candidate_eval.proofs.Objects.{env-kept}
 use Rattle.candidate_eval.proofs.Probing.{keeps-trans, made}
 use Rattle.candidate_eval.proofs.StopKinds.{subst_making}
@@ -92,11 +88,12 @@ visit_each_opened-returns-then-ends g t c =
 pub visit_each_opened-loop-place-preserved : goal.visit_each_opened-loop-place-preserved
 visit_each_opened-loop-place-preserved g t c =
     let E = g.E.EvalCtxt in
-    let so = c.loop-place.invariant in
-    (keeps-trans E.fixed E.probes g.E.Build.context _ _ _ so.0 c.visit_opened-found.ensures.kept,
+    let so = c.loop-place.invariant in (
+      keeps-trans E.fixed E.probes g.E.Build.context _ _ _ so.0 c.visit_opened-found.ensures.kept,
       next-step E.fixed E.probes g.E.Build.context E.state E.stops _ c.visit_opened-found.result
-      (next-opened E.fixed E.probes g.E.Build.context E.state E.stops E.judge c.args.env c.args.nesting.types c.args.nesting.constants c.cx.result.now c.args.number c.args.values c.loop-place.place c.in-Some.child c.cx.ensures so.0 c.requires.env c.requires.values c.requires.number so.1 c.in-Some.ensures.1)
-      (sym c.ends.ensures ∙ c.if-ends.false) c.visit_opened-found.ensures)
+          (next-opened E.fixed E.probes g.E.Build.context E.state E.stops E.judge c.args.env c.args.nesting.types c.args.nesting.constants c.cx.result.now c.args.number c.args.values c.loop-place.place c.in-Some.child c.cx.ensures so.0 c.requires.env c.requires.values c.requires.number so.1 c.in-Some.ensures.1)
+          (sym c.ends.ensures ∙ c.if-ends.false) c.visit_opened-found.ensures,
+    )
 
 pub visit_each_opened-returns-in_default : goal.visit_each_opened-returns-in_default
 visit_each_opened-returns-in_default g t c =
@@ -219,11 +216,12 @@ visit_parts-returns-then-ends g t c =
 pub visit_parts-loop-place-preserved : goal.visit_parts-loop-place-preserved
 visit_parts-loop-place-preserved g t c =
     let E = g.E.EvalCtxt in
-    let so = c.loop-place.invariant in
-    (keeps-trans E.fixed E.probes g.E.Build.context _ _ _ so.0 c.visit_part-found.ensures.kept,
+    let so = c.loop-place.invariant in (
+      keeps-trans E.fixed E.probes g.E.Build.context _ _ _ so.0 c.visit_part-found.ensures.kept,
       next-step E.fixed E.probes g.E.Build.context E.state E.stops _ c.visit_part-found.result
-      (next-group E.fixed E.probes g.E.Build.context E.state E.stops E.judge c.args.env c.args.nesting.types c.args.nesting.constants c.cx-in-loop-place.result.now c.args.number c.loop-place.place c.in-Some.child c.cx-in-loop-place.ensures so.0 c.requires.env c.requires.number so.1 c.in-Some.ensures.1)
-      (sym c.ends.ensures ∙ c.if-ends.false) c.visit_part-found.ensures)
+          (next-group E.fixed E.probes g.E.Build.context E.state E.stops E.judge c.args.env c.args.nesting.types c.args.nesting.constants c.cx-in-loop-place.result.now c.args.number c.loop-place.place c.in-Some.child c.cx-in-loop-place.ensures so.0 c.requires.env c.requires.number so.1 c.in-Some.ensures.1)
+          (sym c.ends.ensures ∙ c.if-ends.false) c.visit_part-found.ensures,
+    )
 
 pub visit_parts-returns-in_default : goal.visit_parts-returns-in_default
 visit_parts-returns-in_default g t c =
@@ -279,9 +277,22 @@ visit-returns-in-Err g t c =
 
 pub visit-look-requires : goal.visit-look-requires
 visit-look-requires g t c κs within =
-    let here = env-later c.args.env c.structurally_normalize_ty.ensures.kept.grows c.requires.env in
-    (omega (arith, c.requires.types, c.requires.constants), (within.0, (within.1, (here, (c.in-Ok.ensures.sort,
-    ((λ e. let l = ltb-false 128 c.args.nesting.types e in omega (arith, l)), c.requires.constants))))))
+    let here = env-later c.args.env c.structurally_normalize_ty.ensures.kept.grows c.requires.env in (
+      omega (arith, c.requires.types, c.requires.constants),
+      (
+        within.0,
+        (
+          within.1,
+          (
+            here,
+            (
+              c.in-Ok.ensures.sort,
+              ((λ e. let l = ltb-false 128 c.args.nesting.types e in omega (arith, l)), c.requires.constants),
+            ),
+          ),
+        ),
+      ),
+    )
 
 pub visit-returns-in-Ok : goal.visit-returns-in-Ok
 visit-returns-in-Ok g t c =

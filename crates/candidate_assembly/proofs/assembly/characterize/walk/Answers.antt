@@ -1,4 +1,4 @@
-use Rattle.std.proofs.Common.{◌∙◌, ap, sym, refl}
+use Rattle.std.proofs.Common.{◌∙◌, ap}
 use Rattle.candidate_ir.specs.Context.{Context}
 use Rattle.candidate_ir.specs.Nodes.{tree_at}
 use Rattle.candidate_ir.specs.Trees.{tree_holds}

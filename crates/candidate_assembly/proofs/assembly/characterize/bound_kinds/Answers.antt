@@ -1,1 +1,0 @@
-use Rattle.candidate_assembly.proofs.assembly.characterize.bound_kinds.Goals as goal
