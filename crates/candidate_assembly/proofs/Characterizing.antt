@@ -34,10 +34,14 @@ use Rattle.candidate_eval.specs.declared.eval.certainty.Certainty.{Certainty}
 use Rattle.candidate_eval.specs.declared.eval.certainty.Certainty.TheVariants.{Yes}
 use Rattle.candidate_eval.specs.declared.eval.refusal.NoSolutionOrStop.{NoSolutionOrStop}
 use Rattle.candidate_eval.specs.declared.eval.refusal.NoSolutionOrStop.TheVariants as N
+use Rattle.candidate_eval.specs.declared.eval.source.CandidateSource.TheVariants as Source
+use Rattle.candidate_eval.specs.declared.eval.source.ParamEnvSource.{ParamEnvSource}
+use Rattle.candidate_eval.specs.declared.eval.source.ParamEnvSource.TheVariants.{NonGlobal, Global}
 use Rattle.candidate_eval.specs.Accounts.{Account, Question, Reaches, StopsSomehow, by_stop}
 use Rattle.candidate_eval.specs.Accounts.StopsSomehow.{making, asking}
 use Rattle.candidate_eval.specs.Characterization.{Walk, Goes, Finds, Refuses, Stops, Loose, Bounded, characterization, is_any_bound, most_visits, and_then, each, each_group, each_group_of, group_of, groups, in_normal_form, looked, region_seen, under_binder, bound_kinds, visited, visited_as}
 use Rattle.candidate_eval.specs.Evaluators.{Keeps, IsMakingStop, IsEvaluatorStop, rigid, with_rigid}
+use Rattle.candidate_eval.specs.Judging.{Judged, Refused, asked, by_finding}
 use Rattle.candidate_eval.specs.Knowing.{own_stop}
 use Rattle.candidate_eval.specs.Limits.{Limits, declared_limits}
 use Rattle.candidate_eval.specs.States.{Env, State, Judge, resolved_tree}
@@ -45,7 +49,7 @@ use Rattle.candidate_eval.proofs.Accounts.{reaches, somehow-later, accounted-her
 use Rattle.candidate_eval.proofs.Knowing.{own-stops}
 use Rattle.candidate_eval.proofs.Objects.{env-kept}
 use Rattle.candidate_eval.proofs.Probing.{keeps-trans}
-use Rattle.candidate_assembly.specs.Characterizing.{Tells, Walks, ends, found, group_visited, visited_at}
+use Rattle.candidate_assembly.specs.Characterizing.{Tells, Walks, answer_of, ends, found, group_visited, visited_at}
 
 -- an argument has a number of the context
 pub arg-below : (ts : List Tree) (a : GenericArg) → IsArg ts a → arg_number a < length ts
@@ -494,3 +498,14 @@ refusal-told w S e t r = subst (λ (x : NoSolutionOrStop). Tells w S (Err x)) r 
 
 pub stop-told : (w : Walk) (S : State) (e : NoSolutionOrStop) (s : Stop) → Tells w S (Err e) → e ≡ N.Stop s → own_stop s ≡ false → w ≡ Stops s
 stop-told w S e s t r = subst (λ (x : NoSolutionOrStop). Tells w S (Err x)) r t
+
+abbrev asked-by : Judge → Option ((ParamEnvSource × Certainty) × State) → Judged
+asked-by J None = Refused
+asked-by J (Some p) = asked J p.1 (Source.ParamEnv p.0.0) p.0.1
+
+-- The answer is what a rule asks the judge for.
+pub answer-asked : (J : Judge) (w : Walk) (x : ParamEnvSource × Certainty) (S : State) → answer_of w ≡ Some (x, S) → by_finding J w ≡ asked J S (Source.ParamEnv x.0) x.1
+answer-asked J (Goes T) x S e = ap (asked-by J) e
+answer-asked J (Finds T c) x S e = ap (asked-by J) e
+answer-asked J Refuses x S e = absurd cc
+answer-asked J (Stops s) x S e = absurd cc

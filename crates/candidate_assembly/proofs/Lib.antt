@@ -1,1 +1,2 @@
 pub mod Characterizing
+pub mod CharacterizingCases
