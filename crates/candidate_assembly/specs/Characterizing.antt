@@ -7,6 +7,8 @@ use Rattle.candidate_eval.specs.declared.eval.refusal.NoSolutionOrStop.{NoSoluti
 use Rattle.candidate_eval.specs.declared.eval.refusal.NoSolutionOrStop.TheVariants as N
 use Rattle.candidate_eval.specs.declared.eval.source.ParamEnvSource.{ParamEnvSource}
 use Rattle.candidate_eval.specs.declared.eval.source.ParamEnvSource.TheVariants.{NonGlobal, Global}
+use Rattle.candidate_assembly.specs.declared.assembly.characterize.Said.{Said}
+use Rattle.candidate_assembly.specs.declared.assembly.characterize.Said.TheVariants.{Found, Nothing, Parts}
 use Rattle.candidate_eval.specs.Accounts.{Account, StopsSomehow, by_stop}
 use Rattle.candidate_eval.specs.declared.eval.certainty.Certainty.{Certainty}
 use Rattle.candidate_eval.specs.declared.eval.certainty.Certainty.TheVariants.{Yes}
@@ -22,12 +24,12 @@ answer_of (Goes S) = Some ((Global, Yes), S)
 answer_of (Finds S c) = Some ((NonGlobal, c), S)
 answer_of _ = None
 
--- What a head says by itself, if that is enough: that something is found, or that nothing is.
-abbrev pub said_by_head : Head → Option (Option Certainty)
+-- what a head says by itself
+abbrev pub said_by_head : Head → Said
 said_by_head h =
-    if is_root_placeholder h then Some (Some Yes)
-    else (if is_placeholder h then Some None
-    else (if is_any_variable h then Some (Some AMBIGUOUS) else None))
+    if is_root_placeholder h then Found Yes
+    else (if is_placeholder h then Nothing
+    else (if is_any_variable h then Found AMBIGUOUS else Parts))
 
 -- a walk that found that much
 abbrev pub found : Option Certainty → State → Walk
@@ -39,10 +41,11 @@ abbrev pub ends : Result (Option Certainty) NoSolutionOrStop → Bool
 ends (Ok None) = false
 ends _ = true
 
--- what is said, else the walk
-abbrev pub unless_said : Option (Option Certainty) → State → Walk → Walk
-unless_said None S w = w
-unless_said (Some f) S w = found f S
+-- what is said, else the walk over the parts
+abbrev pub unless_said : Said → State → Walk → Walk
+unless_said (Found c) S w = Finds S c
+unless_said Nothing S w = Goes S
+unless_said Parts S w = w
 
 -- A visit in so many types, the part itself counted, and in so many constants. There are 128 levels of each: as many visits are
 -- left as levels of both.

@@ -81,8 +81,28 @@ struct Nesting {
     constants: u16,
 }
 
-/// What a head says by itself, if that is enough: what is found, if anything is.
-fn said_by_head(head: Head) -> Option<Option<Certainty>>
+/// What a part says by itself.
+#[derive(Clone, Copy)]
+enum Said {
+    /// It is found, and that sure.
+    Found(Certainty),
+    /// Nothing is found in it.
+    Nothing,
+    /// Its parts say it.
+    Parts,
+}
+
+/// What is found where types are nested too deep: a higher limit may help, and nothing is kept.
+const TOO_DEEP: Certainty = Certainty::Maybe(MaybeInfo {
+    cause: MaybeCause::Overflow {
+        suggest_increasing_limit: true,
+        keep_constraints: false,
+    },
+    opaque_types_jank: OpaqueTypesJank::AllGood,
+});
+
+/// What a head says by itself.
+fn said_by_head(head: Head) -> Said
     ensures { result ≡ said_by_head head }
 {
     match head {
@@ -90,13 +110,13 @@ fn said_by_head(head: Head) -> Option<Option<Certainty>>
         | Head::Const(ConstHead::Placeholder(placeholder))
         | Head::Region(RegionKind::Placeholder(placeholder)) => {
             if placeholder.universe == 0 {
-                Some(Some(Certainty::Yes))
+                Said::Found(Certainty::Yes)
             } else {
-                Some(None)
+                Said::Nothing
             }
         }
-        Head::Infer(_) | Head::Region(RegionKind::Var(_)) => Some(Some(Certainty::AMBIGUOUS)),
-        _ => None,
+        Head::Infer(_) | Head::Region(RegionKind::Var(_)) => Said::Found(Certainty::AMBIGUOUS),
+        _ => Said::Parts,
     }
 }
 
@@ -105,8 +125,21 @@ fn found_in_region(head: Head) -> Option<Certainty>
     ensures { (S : State) → region_seen S head ≡ found result S }
 {
     match said_by_head(head) {
-        Some(Some(_)) => Some(Certainty::Yes),
-        _ => None,
+        Said::Found(_) => Some(Certainty::Yes),
+        Said::Nothing | Said::Parts => None,
+    }
+}
+
+/// What a type or constant in normal form says by itself.
+fn said_by_itself(cx: &Cx, arg: GenericArg, is_too_deep: bool) -> Said
+    requires { IsArg cx.now.trees arg }
+    ensures shallow { result ≡ Said.Parts → is_too_deep ≡ false }
+    ensures says { (deeper : State → Tree → Walk) (S : State) → looked deeper is_too_deep S (arg_tree cx.now.trees arg) ≡ unless_said result S (each_group deeper S (groups (arg_tree cx.now.trees arg).head (arg_tree cx.now.trees arg).children)) }
+{
+    match said_by_head(cx.head(arg.number())) {
+        Said::Parts if !cx.has_marked(arg, &OfInterest) => Said::Nothing,
+        Said::Parts if is_too_deep => Said::Found(TOO_DEEP),
+        said => said,
     }
 }
 
@@ -115,30 +148,6 @@ fn ends(found: &Result<Option<Certainty>, NoSolutionOrStop>) -> bool
     ensures { result ≡ ends found.now }
 {
     !matches!(found, Ok(None))
-}
-
-/// What a type or constant in normal form says by itself. Without an answer what is below it says it.
-fn said_by_itself(cx: &Cx, arg: GenericArg, is_too_deep: bool) -> Option<Option<Certainty>>
-    requires { IsArg cx.now.trees arg }
-    ensures deep { result ≡ None → is_too_deep ≡ false }
-    ensures says { (deeper : State → Tree → Walk) (S : State) → looked deeper is_too_deep S (arg_tree cx.now.trees arg) ≡ unless_said result S (each_group deeper S (groups (arg_tree cx.now.trees arg).head (arg_tree cx.now.trees arg).children)) }
-{
-    if let Some(said) = said_by_head(cx.head(arg.number())) {
-        return Some(said);
-    }
-    if !cx.has_marked(arg, &OfInterest) {
-        return Some(None);
-    }
-    if !is_too_deep {
-        return None;
-    }
-    Some(Some(Certainty::Maybe(MaybeInfo {
-        cause: MaybeCause::Overflow {
-            suggest_increasing_limit: true,
-            keep_constraints: false,
-        },
-        opaque_types_jank: OpaqueTypesJank::AllGood,
-    })))
 }
 
 /// The kind of the variable of a binder that a head is, if it is one.
@@ -319,8 +328,9 @@ fn look<E: EvalCtxt>(
     ensures { Walks E.fixed E.probes E.context E.state E.stops ecx.old ecx.new (looked (visited_at (E.judge (E.fixed ecx.old)) (env_forest (E.context ecx.old).trees env) nesting.types nesting.constants) is_too_deep (E.state ecx.old) (arg_tree (E.context ecx.old).trees arg)) result }
 {
     match said_by_itself(ecx.cx(), arg, is_too_deep) {
-        Some(said) => Ok(said),
-        None => visit_parts(alloc, ecx, env, arg.number(), nesting),
+        Said::Found(certainty) => Ok(Some(certainty)),
+        Said::Nothing => Ok(None),
+        Said::Parts => visit_parts(alloc, ecx, env, arg.number(), nesting),
     }
 }
 

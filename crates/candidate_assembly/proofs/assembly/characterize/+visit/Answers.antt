@@ -1,4 +1,4 @@
-use Rattle.std.proofs.Common.{◌≡◌, ◌<◌, ℕ, ◌∙◌, ap, subst, sym, refl, arith, true, false, nat_lt, ltb-false, ◌+◌, Some, None}
+use Rattle.std.proofs.Common.{◌≡◌, ◌<◌, ℕ, ◌∙◌, ap, subst, sym, refl, arith, true, false, nat_lt, ltb-false, ◌+◌}
 use Rattle.candidate_ir.specs.declared.ir.heads.Head.TheVariants as H
 use Rattle.candidate_ir.specs.declared.ir.stop.Stop.TheVariants.{NodesFull}
 use Rattle.candidate_ir.specs.Kinds.{arg_number}
@@ -10,6 +10,7 @@ use Rattle.candidate_ir.specs.Trees.{RegionKind, Tree, binders_of}
 use Rattle.candidate_ir.specs.Words.{args_forest, env_forest, region_tree}
 use Rattle.candidate_ir.proofs.Kept.{args-kept}
 use Rattle.candidate_ir.proofs.Lists.{below_kind}
+use Rattle.candidate_assembly.specs.declared.assembly.characterize.Said.TheVariants.{Found, Nothing, Parts}
 use Rattle.candidate_eval.specs.Accounts.StopsSomehow.{making}
 use Rattle.candidate_eval.specs.Characterization.{bound_kinds, each_group, groups, looked, region_seen}
 use Rattle.candidate_eval.specs.Evaluators.{kinds_listed}
@@ -240,28 +241,38 @@ visit_parts-returns g t c =
 pub look-visit_parts-requires : goal.look-visit_parts-requires
 look-visit_parts-requires g t c κs within =
     let inside = arg-below (g.E.Build.context c.args.ecx.now).trees c.args.arg c.requires.arg in
-    (omega arith, (within.0, (within.1, (c.requires.env, (rw c.number.ensures inside, (c.requires.types (c.in-None.ensures.deep refl), c.requires.constants))))))
+    (omega arith, (within.0, (within.1, (c.requires.env, (rw c.number.ensures inside, (c.requires.types (c.in-Parts.ensures.shallow refl), c.requires.constants))))))
 
-pub look-returns-in-None : goal.look-returns-in-None
-look-returns-in-None g t c =
+pub look-returns-in-Parts : goal.look-returns-in-Parts
+look-returns-in-Parts g t c =
     let E = g.E.EvalCtxt in
     let a = c.args.ecx.now in
     let ts = (g.E.Build.context a).trees in
     let visit = visited_at (E.judge (E.fixed a)) (env_forest ts c.args.env) c.args.nesting.types c.args.nesting.constants in
-    let says = subst (λ (x : Context). looked visit c.args.is_too_deep (E.state a) (arg_tree x.trees c.args.arg) ≡ unless_said None (E.state a) (each_group visit (E.state a) (groups (arg_tree x.trees c.args.arg).head (arg_tree x.trees c.args.arg).children)))
-    c.cx.ensures (c.in-None.ensures.says visit (E.state a)) in
+    let says = subst (λ (x : Context). looked visit c.args.is_too_deep (E.state a) (arg_tree x.trees c.args.arg) ≡ unless_said Parts (E.state a) (each_group visit (E.state a) (groups (arg_tree x.trees c.args.arg).head (arg_tree x.trees c.args.arg).children)))
+    c.cx.ensures (c.in-Parts.ensures.says visit (E.state a)) in
     walked-later E.fixed E.probes g.E.Build.context E.state E.stops c.visit_parts.result (nothing-done E.fixed E.probes g.E.Build.context E.state E.stops a)
     (says ∙ ap (λ (n : ℕ). each_group visit (E.state a) (groups (tree_at ts n).head (tree_at ts n).children)) (sym c.number.ensures)) c.visit_parts.ensures
 
-pub look-returns-in-Some : goal.look-returns-in-Some
-look-returns-in-Some g t c =
+pub look-returns-in-Found : goal.look-returns-in-Found
+look-returns-in-Found g t c =
     let E = g.E.EvalCtxt in
     let a = c.args.ecx.now in
     let ts = (g.E.Build.context a).trees in
     let visit = visited_at (E.judge (E.fixed a)) (env_forest ts c.args.env) c.args.nesting.types c.args.nesting.constants in
-    let says = subst (λ (x : Context). looked visit c.args.is_too_deep (E.state a) (arg_tree x.trees c.args.arg) ≡ unless_said (Some c.in-Some.said) (E.state a) (each_group visit (E.state a) (groups (arg_tree x.trees c.args.arg).head (arg_tree x.trees c.args.arg).children)))
-    c.cx.ensures (c.in-Some.ensures.says visit (E.state a)) in
-    found-here E.fixed E.probes g.E.Build.context E.state E.stops c.in-Some.said (nothing-done E.fixed E.probes g.E.Build.context E.state E.stops a) says
+    let says = subst (λ (x : Context). looked visit c.args.is_too_deep (E.state a) (arg_tree x.trees c.args.arg) ≡ unless_said (Found c.in-Found.certainty) (E.state a) (each_group visit (E.state a) (groups (arg_tree x.trees c.args.arg).head (arg_tree x.trees c.args.arg).children)))
+    c.cx.ensures (c.in-Found.ensures.says visit (E.state a)) in
+    found-here E.fixed E.probes g.E.Build.context E.state E.stops _ (nothing-done E.fixed E.probes g.E.Build.context E.state E.stops a) says
+
+pub look-returns-in-Nothing : goal.look-returns-in-Nothing
+look-returns-in-Nothing g t c =
+    let E = g.E.EvalCtxt in
+    let a = c.args.ecx.now in
+    let ts = (g.E.Build.context a).trees in
+    let visit = visited_at (E.judge (E.fixed a)) (env_forest ts c.args.env) c.args.nesting.types c.args.nesting.constants in
+    let says = subst (λ (x : Context). looked visit c.args.is_too_deep (E.state a) (arg_tree x.trees c.args.arg) ≡ unless_said Nothing (E.state a) (each_group visit (E.state a) (groups (arg_tree x.trees c.args.arg).head (arg_tree x.trees c.args.arg).children)))
+    c.cx.ensures (c.in-Nothing.ensures.says visit (E.state a)) in
+    found-here E.fixed E.probes g.E.Build.context E.state E.stops _ (nothing-done E.fixed E.probes g.E.Build.context E.state E.stops a) says
 
 -- A type, constant or region.
 
