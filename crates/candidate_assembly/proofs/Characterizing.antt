@@ -36,7 +36,6 @@ use Rattle.candidate_eval.specs.declared.eval.refusal.NoSolutionOrStop.{NoSoluti
 use Rattle.candidate_eval.specs.declared.eval.refusal.NoSolutionOrStop.TheVariants as N
 use Rattle.candidate_eval.specs.declared.eval.source.CandidateSource.TheVariants as Source
 use Rattle.candidate_eval.specs.declared.eval.source.ParamEnvSource.{ParamEnvSource}
-use Rattle.candidate_eval.specs.declared.eval.source.ParamEnvSource.TheVariants.{NonGlobal, Global}
 use Rattle.candidate_eval.specs.Accounts.{Account, Question, Reaches, StopsSomehow, by_stop}
 use Rattle.candidate_eval.specs.Accounts.StopsSomehow.{making, asking}
 use Rattle.candidate_eval.specs.Characterization.{Walk, Goes, Finds, Refuses, Stops, Loose, Bounded, characterization, is_any_bound, most_visits, and_then, each, each_group, each_group_of, group_of, groups, in_normal_form, looked, region_seen, under_binder, bound_kinds, visited, visited_as}
@@ -299,21 +298,21 @@ module _ {E F : Type 0} (fixed : E → F) (probes : E → List State) (context :
     cause = λ o. asking (accounted-here q (reaches k) c);
   }
 
+  -- an error that is handed on
+  pub passed-on : {a b : E} {w : Walk} (e : NoSolutionOrStop) (r : Result (Option Certainty) NoSolutionOrStop) → IsErrAnd r (λ x. x ≡ e) → WalksTo a b w (Err e) → WalksTo a b w r
+  passed-on e (Ok x) i h = absurd i
+  passed-on {a} {b} {w} e (Err x) i h = subst (λ (y : NoSolutionOrStop). WalksTo a b w (Err y)) (sym i) h
+
   -- a stop of its own
   pub own-walk : {a b : E} {w : Walk} (s : Stop) → KeptTo a b → own_stop s ≡ true → StopsSomehow fixed context state stops a s → WalksTo a b w (Err (N.Stop s))
   own-walk s k o c = record { kept = k; told = λ p. absurd (true-false (sym o ∙ p)); cause = λ p. c }
 
-  -- that an error became
-  became : {a b : E} {w : Walk} (s : Stop) (r : Result (Option Certainty) NoSolutionOrStop) → IsErrAnd r (λ e. e ≡ N.Stop s) → WalksTo a b w (Err (N.Stop s)) → WalksTo a b w r
-  became s (Ok x) i h = absurd i
-  became {a} {b} {w} s (Err e) i h = subst (λ (x : NoSolutionOrStop). WalksTo a b w (Err x)) (sym i) h
-
   pub making-walk : {a b : E} {w : Walk} (s : Stop) (r : Result (Option Certainty) NoSolutionOrStop) → IsErrAnd r (λ e. e ≡ N.Stop s) → KeptTo a b → IsMakingStop s → WalksTo a b w r
-  making-walk s r i k m = became s r i (own-walk s k (making-own s m) (making m))
+  making-walk s r i k m = passed-on (N.Stop s) r i (own-walk s k (making-own s m) (making m))
 
   pub asking-walk : {a b : E} {w : Walk} (q : Question) (s : Stop) (r : Result (Option Certainty) NoSolutionOrStop) → ((s : Stop) → stops b (state a) q s → IsEvaluatorStop s)
       → IsErrAnd r (λ e. e ≡ N.Stop s) → KeptTo a b → stops b (state a) q s → WalksTo a b w r
-  asking-walk q s r law i k c = became s r i (own-walk s k (own-stops s (law s c)) (asking (accounted-here q (reaches k) c)))
+  asking-walk q s r law i k c = passed-on (N.Stop s) r i (own-walk s k (own-stops s (law s c)) (asking (accounted-here q (reaches k) c)))
 
   -- One step of several: with the last one they end, else they go on.
 

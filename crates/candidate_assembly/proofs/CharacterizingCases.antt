@@ -1,5 +1,5 @@
 -- Clauses characterised on the small judge, with the limits that are declared.
-use Rattle.std.proofs.Common.{◌≡◌, refl, ◌∷◌, [], Option, Some}
+use Rattle.std.proofs.Common.{◌≡◌, refl, [], Option, Some}
 use Rattle.candidate_ir.specs.declared.ir.heads.Head.TheVariants as H
 use Rattle.candidate_ir.specs.declared.ir.heads.Builtin.TheVariants as B
 use Rattle.candidate_ir.specs.declared.ir.heads.PartHead.TheVariants as P

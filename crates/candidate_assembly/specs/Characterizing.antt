@@ -31,7 +31,7 @@ said_by_head h =
     else (if is_placeholder h then Nothing
     else (if is_any_variable h then Found AMBIGUOUS else Parts))
 
--- a walk that found that much
+-- a walk that found that, if anything
 abbrev pub found : Option Certainty → State → Walk
 found None S = Goes S
 found (Some c) S = Finds S c
@@ -47,8 +47,8 @@ unless_said (Found c) S w = Finds S c
 unless_said Nothing S w = Goes S
 unless_said Parts S w = w
 
--- A visit in so many types, the part itself counted, and in so many constants. There are 128 levels of each: as many visits are
--- left as levels of both.
+-- A visit of a part that stands in so many types, itself counted, and in so many constants: as many visits may still be nested in it as
+-- the definition gives the first one, less one for each of these.
 unfoldable pub visited_at : Judge → Env → ℕ → ℕ → State → Tree → Walk
 visited_at J e types constants = visited J e (259 - (types + constants)) types constants
 

@@ -354,30 +354,23 @@ fn visit<E: EvalCtxt>(
 {
     match arg {
         GenericArg::Ty(ty) => {
+            let normal = GenericArg::Ty(ecx.structurally_normalize_ty(env, ty)?);
             let parts = Nesting {
                 types: nesting.types + 1,
-                constants: nesting.constants,
+                ..nesting
             };
-            match ecx.structurally_normalize_ty(env, ty) {
-                Ok(normal) => {
-                    let is_too_deep = nesting.types > RECURSION;
-                    look(alloc, ecx, env, GenericArg::Ty(normal), is_too_deep, parts)
-                }
-                Err(error) => Err(error),
-            }
+            look(alloc, ecx, env, normal, nesting.types > RECURSION, parts)
         }
         GenericArg::Const(_) if nesting.constants >= NESTED_CONSTANTS => {
             Err(NoSolutionOrStop::Stop(Stop::ConstDepth))
         }
         GenericArg::Const(constant) => {
+            let normal = GenericArg::Const(ecx.structurally_normalize_const(env, constant)?);
             let parts = Nesting {
-                types: nesting.types,
                 constants: nesting.constants + 1,
+                ..nesting
             };
-            match ecx.structurally_normalize_const(env, constant) {
-                Ok(normal) => look(alloc, ecx, env, GenericArg::Const(normal), false, parts),
-                Err(error) => Err(error),
-            }
+            look(alloc, ecx, env, normal, false, parts)
         }
         GenericArg::Region(region) => {
             let value = ecx.eager_resolve_region(region);
@@ -410,9 +403,9 @@ fn walk<E: EvalCtxt>(
 
 /// Whether a clause of the environment is global, and how sure its candidate is at most.
 ///
-/// It isn't where a variable is bound in it. Else its parts are normalised, and the first says it that is a placeholder of the root
-/// universe, or a variable, of which too little is known; types that are nested deeper than `RECURSION` say it by an overflow. Where
-/// nothing says it, it is global.
+/// It isn't where a variable is bound in it. Else its parts are normalised, and the first that says it isn't is the answer: a
+/// placeholder of the root universe or a region variable for sure, a variable of types or constants by an ambiguity, and types that are
+/// nested deeper than `RECURSION` by an overflow. Where nothing says it, it is global.
 ///
 /// `NoSolutionOrStop::NoSolution` comes where a normal form is refused, `Stop::ConstDepth` where constants are nested deeper than
 /// `NESTED_CONSTANTS`, `Stop::Memory` where a growth was refused, `Stop::NodesFull` where numbers or heights run out, and the stops
@@ -421,17 +414,17 @@ pub fn characterize_param_env_assumption<E: EvalCtxt>(
     alloc: Global,
     ecx: &mut E,
     env: ParamEnv,
-    assumption: Clause,
+    clause: Clause,
 ) -> Result<(ParamEnvSource, Certainty), NoSolutionOrStop>
     requires env { IsParamEnv (E.context ecx.old).trees env }
-    requires clause { IsClause (E.context ecx.old).trees assumption }
+    requires clause { IsClause (E.context ecx.old).trees clause }
     ensures kept { Keeps E.fixed E.probes E.context ecx.old ecx.new }
-    ensures ok { IfOk result (λ x. answer_of (characterization (E.judge (E.fixed ecx.old)) (env_forest (E.context ecx.old).trees env) (E.state ecx.old) (clause_tree (E.context ecx.old).trees assumption)) ≡ Some (x, E.state ecx.new)) }
-    ensures refused { IfErr result (λ e. e ≡ NoSolutionOrStop.NoSolution → characterization (E.judge (E.fixed ecx.old)) (env_forest (E.context ecx.old).trees env) (E.state ecx.old) (clause_tree (E.context ecx.old).trees assumption) ≡ Refuses) }
-    ensures stopped { (s : Stopping) → result ≡ Err (NoSolutionOrStop.Stop s) → own_stop s ≡ false → characterization (E.judge (E.fixed ecx.old)) (env_forest (E.context ecx.old).trees env) (E.state ecx.old) (clause_tree (E.context ecx.old).trees assumption) ≡ Stops s }
+    ensures ok { IfOk result (λ x. answer_of (characterization (E.judge (E.fixed ecx.old)) (env_forest (E.context ecx.old).trees env) (E.state ecx.old) (clause_tree (E.context ecx.old).trees clause)) ≡ Some (x, E.state ecx.new)) }
+    ensures refused { IfErr result (λ e. e ≡ NoSolutionOrStop.NoSolution → characterization (E.judge (E.fixed ecx.old)) (env_forest (E.context ecx.old).trees env) (E.state ecx.old) (clause_tree (E.context ecx.old).trees clause) ≡ Refuses) }
+    ensures stopped { (s : Stopping) → result ≡ Err (NoSolutionOrStop.Stop s) → own_stop s ≡ false → characterization (E.judge (E.fixed ecx.old)) (env_forest (E.context ecx.old).trees env) (E.state ecx.old) (clause_tree (E.context ecx.old).trees clause) ≡ Stops s }
     ensures cause { IfErr result (by_stop (λ s. own_stop s ≡ true → StopsSomehow E.fixed E.context E.state E.stops ecx.old s)) }
 {
-    match walk(alloc, ecx, env, assumption) {
+    match walk(alloc, ecx, env, clause) {
         Ok(Some(certainty)) => Ok((ParamEnvSource::NonGlobal, certainty)),
         Ok(None) => Ok((ParamEnvSource::Global, Certainty::Yes)),
         Err(error) => Err(error),

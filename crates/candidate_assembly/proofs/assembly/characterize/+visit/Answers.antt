@@ -19,7 +19,7 @@ use Rattle.candidate_eval.proofs.Probing.{keeps-trans, made}
 use Rattle.candidate_eval.proofs.StopKinds.{subst_making}
 use Rattle.candidate_eval.specs.Accounts.{Question}
 use Rattle.candidate_assembly.specs.Characterizing.{unless_said, visited_at}
-use Rattle.candidate_assembly.proofs.Characterizing.{a-part, arg-below, asking-walk, constant-begins, constant-ends, depth-walk, env-later, found-here, last-step, later-visit, making-walk, many-groups, next-group, next-opened, next-step, no-group, no-part, none-opened, none-refused, normal-looked, normal-refused, nothing-done, number-later, one-group, opened-begins, own-walk, region-begins, type-begins, unasked, unasked-opened, under-placeholders, walked-later}
+use Rattle.candidate_assembly.proofs.Characterizing.{a-part, arg-below, asking-walk, constant-begins, constant-ends, depth-walk, env-later, found-here, last-step, later-visit, making-walk, many-groups, next-group, next-opened, next-step, no-group, no-part, none-opened, none-refused, normal-looked, normal-refused, nothing-done, number-later, one-group, opened-begins, own-walk, passed-on, region-begins, type-begins, unasked, unasked-opened, under-placeholders, walked-later}
 use Rattle.candidate_assembly.proofs.assembly.characterize.+visit.Goals as goal
 
 -- A part that stood under a binder.
@@ -276,15 +276,16 @@ look-returns-in-Nothing g t c =
 
 -- A type, constant or region.
 
-pub visit-returns-in-Err : goal.visit-returns-in-Err
-visit-returns-in-Err g t c =
+pub visit-returns-in_err-structurally_normalize_ty-in-Ty : goal.visit-returns-in_err-structurally_normalize_ty-in-Ty
+visit-returns-in_err-structurally_normalize_ty-in-Ty g t c =
     let E = g.E.EvalCtxt in
     let a = c.args.ecx.now in
     let ts = (g.E.Build.context a).trees in
-    let e = c.in-Err in
+    let e = c.in_err-structurally_normalize_ty-in-Ty in
     let walk = type-begins E.fixed E.probes g.E.Build.context E.state E.stops E.judge c.args.env c.args.nesting.types c.args.nesting.constants a c.requires.types c.requires.constants (g.met.E.EvalCtxt.walks (E.fixed a)) c.args.arg c.requires.arg c.in-Ty.ty c.in-Ty.is in
-    normal-refused E.fixed E.probes g.E.Build.context E.state E.stops _ e.error (λ s x. g.met.E.EvalCtxt.stops_itself _ _ _ s x) c.structurally_normalize_ty.ensures.kept
-    (λ r. none-refused _ _ walk (e.ensures.refused r)) e.ensures.cause
+    passed-on E.fixed E.probes g.E.Build.context E.state E.stops e.field-0.0 c.from_residual.result c.from_residual.ensures.1
+    (normal-refused E.fixed E.probes g.E.Build.context E.state E.stops _ e.field-0.0 (λ s x. g.met.E.EvalCtxt.stops_itself _ _ _ s x) c.structurally_normalize_ty.ensures.kept
+    (λ r. none-refused _ _ walk (e.ensures.refused r)) e.ensures.cause)
 
 pub visit-look-requires : goal.visit-look-requires
 visit-look-requires g t c κs within =
@@ -297,7 +298,7 @@ visit-look-requires g t c κs within =
           (
             here,
             (
-              c.in-Ok.ensures.sort,
+              c.in_ok-structurally_normalize_ty-in-Ty.ensures.sort,
               ((λ e. let l = ltb-false 128 c.args.nesting.types e in omega (arith, l)), c.requires.constants),
             ),
           ),
@@ -305,14 +306,14 @@ visit-look-requires g t c κs within =
       ),
     )
 
-pub visit-returns-in-Ok : goal.visit-returns-in-Ok
-visit-returns-in-Ok g t c =
+pub visit-returns-in_ok-structurally_normalize_ty-in-Ty : goal.visit-returns-in_ok-structurally_normalize_ty-in-Ty
+visit-returns-in_ok-structurally_normalize_ty-in-Ty g t c =
     let E = g.E.EvalCtxt in
     let a = c.args.ecx.now in
     let ts = (g.E.Build.context a).trees in
     let walk = type-begins E.fixed E.probes g.E.Build.context E.state E.stops E.judge c.args.env c.args.nesting.types c.args.nesting.constants a c.requires.types c.requires.constants (g.met.E.EvalCtxt.walks (E.fixed a)) c.args.arg c.requires.arg c.in-Ty.ty c.in-Ty.is in
     walked-later E.fixed E.probes g.E.Build.context E.state E.stops c.look.result c.structurally_normalize_ty.ensures.kept
-    (normal-looked E.fixed E.probes g.E.Build.context E.state E.stops E.judge c.args.env (c.args.nesting.types + 1) c.args.nesting.constants (nat_lt 128 c.args.nesting.types) _ _ c.structurally_normalize_ty.ensures.kept c.requires.env walk c.in-Ok.ensures.ok) c.look.ensures
+    (normal-looked E.fixed E.probes g.E.Build.context E.state E.stops E.judge c.args.env (c.args.nesting.types + 1) c.args.nesting.constants (nat_lt 128 c.args.nesting.types) _ _ c.structurally_normalize_ty.ensures.kept c.requires.env walk c.in_ok-structurally_normalize_ty-in-Ty.ensures.ok) c.look.ensures
 
 pub visit-returns-in-Const : goal.visit-returns-in-Const
 visit-returns-in-Const g t c =
@@ -321,32 +322,33 @@ visit-returns-in-Const g t c =
     let ts = (g.E.Build.context a).trees in
     depth-walk E.fixed E.probes g.E.Build.context E.state E.stops (constant-ends E.fixed E.probes g.E.Build.context E.state E.stops E.judge c.args.env c.args.nesting.types c.args.nesting.constants a c.requires.types c.requires.constants (g.met.E.EvalCtxt.walks (E.fixed a)) c.args.arg c.requires.arg c.in-Const.field-0 c.in-Const.is c.if-nesting-ge-NESTED_CONSTANTS.true)
 
-pub visit-returns-in-Err-structurally_normalize_const : goal.visit-returns-in-Err-structurally_normalize_const
-visit-returns-in-Err-structurally_normalize_const g t c =
+pub visit-returns-in_err-structurally_normalize_const-in-Const-2 : goal.visit-returns-in_err-structurally_normalize_const-in-Const-2
+visit-returns-in_err-structurally_normalize_const-in-Const-2 g t c =
     let small : c.args.nesting.constants < 128 = omega (arith, c.if-nesting-ge-NESTED_CONSTANTS.false) in
     let E = g.E.EvalCtxt in
     let a = c.args.ecx.now in
     let ts = (g.E.Build.context a).trees in
-    let e = c.in-Err-structurally_normalize_const in
+    let e = c.in_err-structurally_normalize_const-in-Const-2 in
     let walk = constant-begins E.fixed E.probes g.E.Build.context E.state E.stops E.judge c.args.env c.args.nesting.types c.args.nesting.constants a c.requires.types c.requires.constants (g.met.E.EvalCtxt.walks (E.fixed a)) c.args.arg c.requires.arg c.in-Const-2.constant c.in-Const-2.is small in
-    normal-refused E.fixed E.probes g.E.Build.context E.state E.stops _ e.error (λ s x. g.met.E.EvalCtxt.stops_itself _ _ _ s x) c.structurally_normalize_const.ensures.kept
-    (λ r. none-refused _ _ walk (e.ensures.refused r)) e.ensures.cause
+    passed-on E.fixed E.probes g.E.Build.context E.state E.stops e.field-0.0 (c.from_residual-in_err-structurally_normalize_const-in-Const-2).result (c.from_residual-in_err-structurally_normalize_const-in-Const-2).ensures.1
+    (normal-refused E.fixed E.probes g.E.Build.context E.state E.stops _ e.field-0.0 (λ s x. g.met.E.EvalCtxt.stops_itself _ _ _ s x) c.structurally_normalize_const.ensures.kept
+    (λ r. none-refused _ _ walk (e.ensures.refused r)) e.ensures.cause)
 
-pub visit-look-requires-in-Ok-structurally_normalize_const : goal.visit-look-requires-in-Ok-structurally_normalize_const
-visit-look-requires-in-Ok-structurally_normalize_const g t c κs within =
+pub visit-look-requires-in-Const-2 : goal.visit-look-requires-in-Const-2
+visit-look-requires-in-Const-2 g t c κs within =
     let small : c.args.nesting.constants < 128 = omega (arith, c.if-nesting-ge-NESTED_CONSTANTS.false) in
     let here = env-later c.args.env c.structurally_normalize_const.ensures.kept.grows c.requires.env in
-    (omega (arith, c.requires.types, c.requires.constants), (within.0, (within.1, (here, (c.in-Ok-structurally_normalize_const.ensures.sort, ((λ e. c.requires.types), omega (arith, small)))))))
+    (omega (arith, c.requires.types, c.requires.constants), (within.0, (within.1, (here, (c.in_ok-structurally_normalize_const-in-Const-2.ensures.sort, ((λ e. c.requires.types), omega (arith, small)))))))
 
-pub visit-returns-in-Ok-structurally_normalize_const : goal.visit-returns-in-Ok-structurally_normalize_const
-visit-returns-in-Ok-structurally_normalize_const g t c =
+pub visit-returns-in_ok-structurally_normalize_const-in-Const-2 : goal.visit-returns-in_ok-structurally_normalize_const-in-Const-2
+visit-returns-in_ok-structurally_normalize_const-in-Const-2 g t c =
     let small : c.args.nesting.constants < 128 = omega (arith, c.if-nesting-ge-NESTED_CONSTANTS.false) in
     let E = g.E.EvalCtxt in
     let a = c.args.ecx.now in
     let ts = (g.E.Build.context a).trees in
     let walk = constant-begins E.fixed E.probes g.E.Build.context E.state E.stops E.judge c.args.env c.args.nesting.types c.args.nesting.constants a c.requires.types c.requires.constants (g.met.E.EvalCtxt.walks (E.fixed a)) c.args.arg c.requires.arg c.in-Const-2.constant c.in-Const-2.is small in
-    walked-later E.fixed E.probes g.E.Build.context E.state E.stops c.look-in-Ok-structurally_normalize_const.result c.structurally_normalize_const.ensures.kept
-    (normal-looked E.fixed E.probes g.E.Build.context E.state E.stops E.judge c.args.env c.args.nesting.types (c.args.nesting.constants + 1) false _ _ c.structurally_normalize_const.ensures.kept c.requires.env walk c.in-Ok-structurally_normalize_const.ensures.ok) c.look-in-Ok-structurally_normalize_const.ensures
+    walked-later E.fixed E.probes g.E.Build.context E.state E.stops c.look-in-Const-2.result c.structurally_normalize_const.ensures.kept
+    (normal-looked E.fixed E.probes g.E.Build.context E.state E.stops E.judge c.args.env c.args.nesting.types (c.args.nesting.constants + 1) false _ _ c.structurally_normalize_const.ensures.kept c.requires.env walk c.in_ok-structurally_normalize_const-in-Const-2.ensures.ok) c.look-in-Const-2.ensures
 
 pub visit-head-requires : goal.visit-head-requires
 visit-head-requires g t c =
