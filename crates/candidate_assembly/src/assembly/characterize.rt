@@ -8,7 +8,6 @@ ghost use Rattle.candidate_ir.specs.Opening.{opened, opened_tree};
 ghost use Rattle.candidate_ir.specs.Supers.{after_first};
 ghost use Rattle.candidate_ir.specs.Trees.{Tree};
 ghost use Rattle.candidate_ir.specs.Words.{IsArgs, IsClause, IsParamEnv, args_forest, clause_tree, env_forest};
-ghost use Rattle.candidate_ir.specs.declared.ir.stop.Stop.{Stop as Stopping};
 ghost use Rattle.candidate_eval.specs.Accounts.{StopsSomehow, by_stop};
 ghost use Rattle.candidate_eval.specs.Characterization.{Walk, Refuses, Stops, bound_kinds, characterization, each, each_group, group_of, groups, is_any_bound, is_of_interest, looked, region_seen, under_binder, variable_of_binder};
 ghost use Rattle.candidate_eval.specs.Evaluators.{IsMakingStop, Keeps, kinds_listed};
@@ -421,7 +420,7 @@ pub fn characterize_param_env_assumption<E: EvalCtxt>(
     ensures kept { Keeps E.fixed E.probes E.context ecx.old ecx.new }
     ensures ok { IfOk result (λ x. answer_of (characterization (E.judge (E.fixed ecx.old)) (env_forest (E.context ecx.old).trees env) (E.state ecx.old) (clause_tree (E.context ecx.old).trees clause)) ≡ Some (x, E.state ecx.new)) }
     ensures refused { IfErr result (λ e. e ≡ NoSolutionOrStop.NoSolution → characterization (E.judge (E.fixed ecx.old)) (env_forest (E.context ecx.old).trees env) (E.state ecx.old) (clause_tree (E.context ecx.old).trees clause) ≡ Refuses) }
-    ensures stopped { (s : Stopping) → result ≡ Err (NoSolutionOrStop.Stop s) → own_stop s ≡ false → characterization (E.judge (E.fixed ecx.old)) (env_forest (E.context ecx.old).trees env) (E.state ecx.old) (clause_tree (E.context ecx.old).trees clause) ≡ Stops s }
+    ensures stopped { (s : Stop) → result ≡ Err (NoSolutionOrStop.Stop s) → own_stop s ≡ false → characterization (E.judge (E.fixed ecx.old)) (env_forest (E.context ecx.old).trees env) (E.state ecx.old) (clause_tree (E.context ecx.old).trees clause) ≡ Stops s }
     ensures cause { IfErr result (by_stop (λ s. own_stop s ≡ true → StopsSomehow E.fixed E.context E.state E.stops ecx.old s)) }
 {
     match walk(alloc, ecx, env, clause) {
