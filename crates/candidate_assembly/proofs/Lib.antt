@@ -1,9 +1,11 @@
 pub mod Causes
+pub mod Stepping
 pub mod Considering
 pub mod Flat
-pub mod Stepping
 pub mod Keeping
 pub mod SelfTypes
 pub mod TraitClauses
 pub mod PartClauses
 pub mod PartsTold
+pub mod Characterizing
+pub mod CharacterizingCases

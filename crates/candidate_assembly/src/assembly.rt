@@ -1,4 +1,5 @@
 //! What assembly asks of a kind of goals, and the rules that all kinds share.
 
+pub mod characterize;
 pub mod kind;
 pub mod steps;

@@ -1,0 +1,431 @@
+//! Whether a clause of the environment is global: whether it says nothing of what is generic there.
+
+ghost use Rattle.std.specs.Prelude.{◌≡◌, ◌≤◌, ◌<◌, [], ◌∷◌, true, false, refl, None, Some, Err, IfOk, IfErr, MatchOption, length};
+ghost use Rattle.candidate_ir.specs.Context.{parameter_kind};
+ghost use Rattle.candidate_ir.specs.Folds.{IsArg, arg_tree};
+ghost use Rattle.candidate_ir.specs.Nodes.{tree_at};
+ghost use Rattle.candidate_ir.specs.Opening.{opened, opened_tree};
+ghost use Rattle.candidate_ir.specs.Supers.{after_first};
+ghost use Rattle.candidate_ir.specs.Trees.{Tree};
+ghost use Rattle.candidate_ir.specs.Words.{IsArgs, IsClause, IsParamEnv, args_forest, clause_tree, env_forest};
+ghost use Rattle.candidate_eval.specs.Accounts.{StopsSomehow, by_stop};
+ghost use Rattle.candidate_eval.specs.Characterization.{Walk, Refuses, Stops, bound_kinds, characterization, each, each_group, group_of, groups, is_any_bound, is_of_interest, looked, region_seen, under_binder, variable_of_binder};
+ghost use Rattle.candidate_eval.specs.Evaluators.{IsMakingStop, Keeps, kinds_listed};
+ghost use Rattle.candidate_eval.specs.Knowing.{own_stop};
+ghost use Rattle.candidate_eval.specs.States.{State};
+ghost use Rattle.candidate_assembly.specs.Characterizing.{Walks, answer_of, ends, found, group_visited, said_by_head, unless_said, visited_at};
+
+use candidate_eval::eval::certainty::{Certainty, MaybeCause, MaybeInfo, OpaqueTypesJank};
+use candidate_eval::eval::context::EvalCtxt;
+use candidate_eval::eval::limits::{NESTED_CONSTANTS, RECURSION};
+use candidate_eval::eval::refusal::NoSolutionOrStop;
+use candidate_eval::eval::source::ParamEnvSource;
+use candidate_ir::decl::Cx;
+use candidate_ir::decl::open::replace_bound_vars;
+use candidate_ir::ir::heads::{ConstHead, Head, PartHead};
+use candidate_ir::ir::kinds::{
+    Args, Clause, ConstKind, GenericArg, ParamEnv, RegionKind, TyKind, VarKind,
+};
+use candidate_ir::ir::marks::Mark;
+use candidate_ir::ir::node::Node;
+use candidate_ir::ir::numbered::Numbered;
+use candidate_ir::ir::stop::Stop;
+use candidate_ir::ir::trees::Trees;
+use std::alloc::Global;
+
+/// The mark of a bound variable, of any kind.
+#[derive(Drop)]
+struct AnyBound;
+
+impl Mark for AnyBound {
+    ghost marks = { λ _. is_any_bound };
+
+    fn is_on(&self, node: &Node) -> bool {
+        matches!(
+            node,
+            Node::Ty(TyKind::Bound(_))
+                | Node::Const(ConstKind::Bound(_))
+                | Node::Region(RegionKind::Bound(_))
+        )
+    }
+
+    ghost no_list = { λ _ _. refl };
+}
+
+/// The mark of what may still say something: a placeholder, a variable or an alias, of any kind.
+#[derive(Drop)]
+struct OfInterest;
+
+impl Mark for OfInterest {
+    ghost marks = { λ _. is_of_interest };
+
+    fn is_on(&self, node: &Node) -> bool {
+        matches!(
+            node,
+            Node::Ty(TyKind::Placeholder(_) | TyKind::Infer(_) | TyKind::Alias(_))
+                | Node::Const(
+                    ConstKind::Placeholder(_) | ConstKind::Infer(_) | ConstKind::Unevaluated(_, _)
+                )
+                | Node::Region(RegionKind::Placeholder(_) | RegionKind::Var(_))
+        )
+    }
+
+    ghost no_list = { λ _ _. refl };
+}
+
+/// How deep a part stands: in how many types, itself counted, and in how many constants.
+#[derive(Clone, Copy)]
+struct Nesting {
+    types: u16,
+    constants: u16,
+}
+
+/// What a part says by itself.
+#[derive(Clone, Copy)]
+enum Said {
+    /// It is found, and that sure.
+    Found(Certainty),
+    /// Nothing is found in it.
+    Nothing,
+    /// Its parts say it.
+    Parts,
+}
+
+/// What is found where types are nested too deep: a higher limit may help, and nothing is kept.
+const TOO_DEEP: Certainty = Certainty::Maybe(MaybeInfo {
+    cause: MaybeCause::Overflow {
+        suggest_increasing_limit: true,
+        keep_constraints: false,
+    },
+    opaque_types_jank: OpaqueTypesJank::AllGood,
+});
+
+/// What a head says by itself.
+fn said_by_head(head: Head) -> Said
+    ensures { result ≡ said_by_head head }
+{
+    match head {
+        Head::Placeholder(placeholder)
+        | Head::Const(ConstHead::Placeholder(placeholder))
+        | Head::Region(RegionKind::Placeholder(placeholder)) => {
+            if placeholder.universe == 0 {
+                Said::Found(Certainty::Yes)
+            } else {
+                Said::Nothing
+            }
+        }
+        Head::Infer(_) | Head::Region(RegionKind::Var(_)) => Said::Found(Certainty::AMBIGUOUS),
+        _ => Said::Parts,
+    }
+}
+
+/// What is found in a region with its value in its place, if anything is.
+fn found_in_region(head: Head) -> Option<Certainty>
+    ensures { (S : State) → region_seen S head ≡ found result S }
+{
+    match said_by_head(head) {
+        Said::Found(_) => Some(Certainty::Yes),
+        Said::Nothing | Said::Parts => None,
+    }
+}
+
+/// What a type or constant in normal form says by itself.
+fn said_by_itself(cx: &Cx, arg: GenericArg, is_too_deep: bool) -> Said
+    requires { IsArg cx.now.trees arg }
+    ensures shallow { result ≡ Said.Parts → is_too_deep ≡ false }
+    ensures says { (deeper : State → Tree → Walk) (S : State) → looked deeper is_too_deep S (arg_tree cx.now.trees arg) ≡ unless_said result S (each_group deeper S (groups (arg_tree cx.now.trees arg).head (arg_tree cx.now.trees arg).children)) }
+{
+    match said_by_head(cx.head(arg.number())) {
+        Said::Parts if !cx.has_marked(arg, &OfInterest) => Said::Nothing,
+        Said::Parts if is_too_deep => Said::Found(TOO_DEEP),
+        said => said,
+    }
+}
+
+/// Whether no further part is visited: something was found, or there is an error.
+fn ends(found: &Result<Option<Certainty>, NoSolutionOrStop>) -> bool
+    ensures { result ≡ ends found.now }
+{
+    !matches!(found, Ok(None))
+}
+
+/// The kind of the variable of a binder that a head is, if it is one.
+fn variable_kind(head: Head) -> Option<VarKind>
+    ensures { MatchOption result (variable_of_binder head ≡ []) (λ k. variable_of_binder head ≡ parameter_kind k ∷ []) }
+{
+    match head {
+        Head::Part(PartHead::Var(kind)) => Some(kind),
+        _ => None,
+    }
+}
+
+/// The kinds of the variables of the binder that is first below a number. `Stop::Memory` comes where the list can't grow,
+/// `Stop::NodesFull` where there are more variables than can be counted.
+fn bound_kinds(alloc: Global, cx: &Cx, number: u32) -> Result<Vec<VarKind>, Stop>
+    requires { number < length cx.now.trees }
+    ensures kinds { IfOk result (λ v. kinds_listed v.items ≡ bound_kinds (tree_at cx.now.trees number).children) }
+    ensures cause { IfErr result IsMakingStop }
+{
+    let mut kinds = Vec::new(alloc);
+    let Some(binder) = cx.child(number, 0) else {
+        return Ok(kinds);
+    };
+    for place in 0..usize::MAX {
+        let Some(variable) = cx.child(binder, place) else {
+            return Ok(kinds);
+        };
+        if let Some(kind) = variable_kind(cx.head(variable)) {
+            kinds.push(kind)?;
+        }
+    }
+    Err(Stop::NodesFull)
+}
+
+/// Visits a part that stood under a binder, with the values in the place of the binder's variables.
+#[cycle(visit)]
+fn visit_opened<E: EvalCtxt>(
+    alloc: Global,
+    ecx: &mut E,
+    env: ParamEnv,
+    number: u32,
+    values: Args,
+    nesting: Nesting,
+) -> Result<Option<Certainty>, NoSolutionOrStop>
+    requires env { IsParamEnv (E.context ecx.old).trees env }
+    requires number { number < length (E.context ecx.old).trees }
+    requires values { IsArgs (E.context ecx.old).trees values }
+    requires types { nesting.types ≤ 129 }
+    requires constants { nesting.constants ≤ 128 }
+    ensures { Walks E.fixed E.probes E.context E.state E.stops ecx.old ecx.new (visited_at (E.judge (E.fixed ecx.old)) (env_forest (E.context ecx.old).trees env) nesting.types nesting.constants (E.state ecx.old) (opened_tree (args_forest (E.context ecx.old).trees values) (tree_at (E.context ecx.old).trees number))) result }
+{
+    let Some(arg) = ecx.cx().argument(number) else {
+        return Ok(None);
+    };
+    let arg = replace_bound_vars(alloc, ecx, arg, values)?;
+    visit(alloc, ecx, env, arg, nesting)
+}
+
+/// Visits the parts of a number that stand under the binder that is first among them, with the values in the place of its
+/// variables.
+#[cycle(visit)]
+fn visit_each_opened<E: EvalCtxt>(
+    alloc: Global,
+    ecx: &mut E,
+    env: ParamEnv,
+    number: u32,
+    values: Args,
+    nesting: Nesting,
+) -> Result<Option<Certainty>, NoSolutionOrStop>
+    requires env { IsParamEnv (E.context ecx.old).trees env }
+    requires number { number < length (E.context ecx.old).trees }
+    requires values { IsArgs (E.context ecx.old).trees values }
+    requires types { nesting.types ≤ 129 }
+    requires constants { nesting.constants ≤ 128 }
+    ensures { Walks E.fixed E.probes E.context E.state E.stops ecx.old ecx.new (each (visited_at (E.judge (E.fixed ecx.old)) (env_forest (E.context ecx.old).trees env) nesting.types nesting.constants) (E.state ecx.old) (opened (args_forest (E.context ecx.old).trees values) (after_first (tree_at (E.context ecx.old).trees number).children))) result }
+{
+    for place in 1..usize::MAX {
+        let Some(child) = ecx.cx().child(number, place) else {
+            return Ok(None);
+        };
+        let found = visit_opened(alloc, ecx, env, child, values, nesting);
+        if ends(&found) {
+            return found;
+        }
+    }
+    Err(NoSolutionOrStop::Stop(Stop::NodesFull))
+}
+
+/// Visits the parts of a number that stand under the binder that is first among them: placeholders of a fresh universe stand for its
+/// variables, if it has any.
+#[cycle(visit)]
+fn visit_under_binder<E: EvalCtxt>(
+    alloc: Global,
+    ecx: &mut E,
+    env: ParamEnv,
+    number: u32,
+    nesting: Nesting,
+) -> Result<Option<Certainty>, NoSolutionOrStop>
+    requires env { IsParamEnv (E.context ecx.old).trees env }
+    requires number { number < length (E.context ecx.old).trees }
+    requires types { nesting.types ≤ 129 }
+    requires constants { nesting.constants ≤ 128 }
+    ensures { Walks E.fixed E.probes E.context E.state E.stops ecx.old ecx.new (group_visited (visited_at (E.judge (E.fixed ecx.old)) (env_forest (E.context ecx.old).trees env) nesting.types nesting.constants) (E.state ecx.old) (under_binder (tree_at (E.context ecx.old).trees number).children)) result }
+{
+    let kinds = bound_kinds(alloc, ecx.cx(), number)?;
+    let values = ecx.placeholder_args(kinds.as_slice())?;
+    visit_each_opened(alloc, ecx, env, number, values, nesting)
+}
+
+/// Visits a part: what has a binder of its own, as a bound of a `dyn` type has, under that binder.
+#[cycle(visit)]
+fn visit_part<E: EvalCtxt>(
+    alloc: Global,
+    ecx: &mut E,
+    env: ParamEnv,
+    number: u32,
+    nesting: Nesting,
+) -> Result<Option<Certainty>, NoSolutionOrStop>
+    requires env { IsParamEnv (E.context ecx.old).trees env }
+    requires number { number < length (E.context ecx.old).trees }
+    requires types { nesting.types ≤ 129 }
+    requires constants { nesting.constants ≤ 128 }
+    ensures { Walks E.fixed E.probes E.context E.state E.stops ecx.old ecx.new (group_visited (visited_at (E.judge (E.fixed ecx.old)) (env_forest (E.context ecx.old).trees env) nesting.types nesting.constants) (E.state ecx.old) (group_of (tree_at (E.context ecx.old).trees number).head (tree_at (E.context ecx.old).trees number).children)) result }
+{
+    if let Head::Part(_) = ecx.cx().head(number) {
+        return visit_under_binder(alloc, ecx, env, number, nesting);
+    }
+    match ecx.cx().argument(number) {
+        Some(arg) => visit(alloc, ecx, env, arg, nesting),
+        None => Ok(None),
+    }
+}
+
+/// Visits the parts of a number, by their binders.
+#[cycle(visit)]
+fn visit_parts<E: EvalCtxt>(
+    alloc: Global,
+    ecx: &mut E,
+    env: ParamEnv,
+    number: u32,
+    nesting: Nesting,
+) -> Result<Option<Certainty>, NoSolutionOrStop>
+    requires env { IsParamEnv (E.context ecx.old).trees env }
+    requires number { number < length (E.context ecx.old).trees }
+    requires types { nesting.types ≤ 129 }
+    requires constants { nesting.constants ≤ 128 }
+    ensures { Walks E.fixed E.probes E.context E.state E.stops ecx.old ecx.new (each_group (visited_at (E.judge (E.fixed ecx.old)) (env_forest (E.context ecx.old).trees env) nesting.types nesting.constants) (E.state ecx.old) (groups (tree_at (E.context ecx.old).trees number).head (tree_at (E.context ecx.old).trees number).children)) result }
+{
+    if ecx.cx().head(number).binders() > 0 {
+        return visit_under_binder(alloc, ecx, env, number, nesting);
+    }
+    for place in 0..usize::MAX {
+        let Some(child) = ecx.cx().child(number, place) else {
+            return Ok(None);
+        };
+        let found = visit_part(alloc, ecx, env, child, nesting);
+        if ends(&found) {
+            return found;
+        }
+    }
+    Err(NoSolutionOrStop::Stop(Stop::NodesFull))
+}
+
+/// Looks at a type or constant in normal form: at what it says by itself, else at its parts, which stand so deep.
+#[cycle(visit)]
+fn look<E: EvalCtxt>(
+    alloc: Global,
+    ecx: &mut E,
+    env: ParamEnv,
+    arg: GenericArg,
+    is_too_deep: bool,
+    nesting: Nesting,
+) -> Result<Option<Certainty>, NoSolutionOrStop>
+    requires env { IsParamEnv (E.context ecx.old).trees env }
+    requires arg { IsArg (E.context ecx.old).trees arg }
+    requires types { is_too_deep ≡ false → nesting.types ≤ 129 }
+    requires constants { nesting.constants ≤ 128 }
+    ensures { Walks E.fixed E.probes E.context E.state E.stops ecx.old ecx.new (looked (visited_at (E.judge (E.fixed ecx.old)) (env_forest (E.context ecx.old).trees env) nesting.types nesting.constants) is_too_deep (E.state ecx.old) (arg_tree (E.context ecx.old).trees arg)) result }
+{
+    match said_by_itself(ecx.cx(), arg, is_too_deep) {
+        Said::Found(certainty) => Ok(Some(certainty)),
+        Said::Nothing => Ok(None),
+        Said::Parts => visit_parts(alloc, ecx, env, arg.number(), nesting),
+    }
+}
+
+/// Visits a type, constant or region. What is found is a certainty.
+///
+/// `NoSolutionOrStop::NoSolution` comes where a normal form is refused, `Stop::ConstDepth` where constants are nested deeper than
+/// `NESTED_CONSTANTS`, other stops as they come of the evaluator and of opened binders.
+#[cycle(visit)]
+fn visit<E: EvalCtxt>(
+    alloc: Global,
+    ecx: &mut E,
+    env: ParamEnv,
+    arg: GenericArg,
+    nesting: Nesting,
+) -> Result<Option<Certainty>, NoSolutionOrStop>
+    requires env { IsParamEnv (E.context ecx.old).trees env }
+    requires arg { IsArg (E.context ecx.old).trees arg }
+    requires types { nesting.types ≤ 129 }
+    requires constants { nesting.constants ≤ 128 }
+    ensures { Walks E.fixed E.probes E.context E.state E.stops ecx.old ecx.new (visited_at (E.judge (E.fixed ecx.old)) (env_forest (E.context ecx.old).trees env) nesting.types nesting.constants (E.state ecx.old) (arg_tree (E.context ecx.old).trees arg)) result }
+{
+    match arg {
+        GenericArg::Ty(ty) => {
+            let normal = GenericArg::Ty(ecx.structurally_normalize_ty(env, ty)?);
+            let parts = Nesting {
+                types: nesting.types + 1,
+                ..nesting
+            };
+            look(alloc, ecx, env, normal, nesting.types > RECURSION, parts)
+        }
+        GenericArg::Const(_) if nesting.constants >= NESTED_CONSTANTS => {
+            Err(NoSolutionOrStop::Stop(Stop::ConstDepth))
+        }
+        GenericArg::Const(constant) => {
+            let normal = GenericArg::Const(ecx.structurally_normalize_const(env, constant)?);
+            let parts = Nesting {
+                constants: nesting.constants + 1,
+                ..nesting
+            };
+            look(alloc, ecx, env, normal, false, parts)
+        }
+        GenericArg::Region(region) => {
+            let value = ecx.eager_resolve_region(region);
+            Ok(found_in_region(ecx.cx().head(value.0)))
+        }
+    }
+}
+
+/// Walks over a clause of the environment: where a variable is bound in it that is found, else what its parts say.
+fn walk<E: EvalCtxt>(
+    alloc: Global,
+    ecx: &mut E,
+    env: ParamEnv,
+    clause: Clause,
+) -> Result<Option<Certainty>, NoSolutionOrStop>
+    requires env { IsParamEnv (E.context ecx.old).trees env }
+    requires clause { IsClause (E.context ecx.old).trees clause }
+    ensures { Walks E.fixed E.probes E.context E.state E.stops ecx.old ecx.new (characterization (E.judge (E.fixed ecx.old)) (env_forest (E.context ecx.old).trees env) (E.state ecx.old) (clause_tree (E.context ecx.old).trees clause)) result }
+{
+    if ecx.cx().has_marked(clause, &AnyBound) {
+        return Ok(Some(Certainty::Yes));
+    }
+    let values = ecx.placeholder_args(&[])?;
+    let nesting = Nesting {
+        types: 1,
+        constants: 0,
+    };
+    visit_each_opened(alloc, ecx, env, clause.0, values, nesting)
+}
+
+/// Whether a clause of the environment is global, and how sure its candidate is at most.
+///
+/// It isn't where a variable is bound in it. Else its parts are normalised, and the first that says it isn't is the answer: a
+/// placeholder of the root universe or a region variable for sure, a variable of types or constants by an ambiguity, and types that are
+/// nested deeper than `RECURSION` by an overflow. Where nothing says it, it is global.
+///
+/// `NoSolutionOrStop::NoSolution` comes where a normal form is refused, `Stop::ConstDepth` where constants are nested deeper than
+/// `NESTED_CONSTANTS`, `Stop::Memory` where a growth was refused, `Stop::NodesFull` where numbers or heights run out, and the stops
+/// of the evaluator as it accounts for them. After an error nothing is said of the state.
+pub fn characterize_param_env_assumption<E: EvalCtxt>(
+    alloc: Global,
+    ecx: &mut E,
+    env: ParamEnv,
+    clause: Clause,
+) -> Result<(ParamEnvSource, Certainty), NoSolutionOrStop>
+    requires env { IsParamEnv (E.context ecx.old).trees env }
+    requires clause { IsClause (E.context ecx.old).trees clause }
+    ensures kept { Keeps E.fixed E.probes E.context ecx.old ecx.new }
+    ensures ok { IfOk result (λ x. answer_of (characterization (E.judge (E.fixed ecx.old)) (env_forest (E.context ecx.old).trees env) (E.state ecx.old) (clause_tree (E.context ecx.old).trees clause)) ≡ Some (x, E.state ecx.new)) }
+    ensures refused { IfErr result (λ e. e ≡ NoSolutionOrStop.NoSolution → characterization (E.judge (E.fixed ecx.old)) (env_forest (E.context ecx.old).trees env) (E.state ecx.old) (clause_tree (E.context ecx.old).trees clause) ≡ Refuses) }
+    ensures stopped { (s : Stop) → result ≡ Err (NoSolutionOrStop.Stop s) → own_stop s ≡ false → characterization (E.judge (E.fixed ecx.old)) (env_forest (E.context ecx.old).trees env) (E.state ecx.old) (clause_tree (E.context ecx.old).trees clause) ≡ Stops s }
+    ensures cause { IfErr result (by_stop (λ s. own_stop s ≡ true → StopsSomehow E.fixed E.context E.state E.stops ecx.old s)) }
+{
+    match walk(alloc, ecx, env, clause) {
+        Ok(Some(certainty)) => Ok((ParamEnvSource::NonGlobal, certainty)),
+        Ok(None) => Ok((ParamEnvSource::Global, Certainty::Yes)),
+        Err(error) => Err(error),
+    }
+}
