@@ -48,6 +48,7 @@ use Rattle.candidate_eval.specs.States.{State}
 use Rattle.candidate_eval.specs.Tables.{Cell, Excluded, Refused, Asks, Parts, cell, is_manually_drop, row_of, types_of}
 use Rattle.candidate_eval.specs.declared.structural.Column.TheVariants as C
 use Rattle.candidate_assembly.specs.Kinds.{BuiltinRule, ErrorRule, AutoTraitRule, TraitAliasRule, SizednessRule, CopyCloneRule, FnTraitRule, FnPtrTraitRule, TupleRule, PointeeRule, DiscriminantKindRule, DestructRule, NoDropRule}
+use Rattle.candidate_assembly.specs.Telling.{asking_rule}
 use Rattle.candidate_assembly.specs.TraitGoals.{is_positive, item_trait, with_first}
 
 abbrev pub self_of : TraitGoal → Tree
@@ -62,14 +63,14 @@ misc = BuiltinImpl Misc
 -- A rule that never applies, one that asks at once, and one that asks after these steps.
 
 abbrev pub no_rule : TraitGoal → Rule
-no_rule g = record { env = g.env; applies = false; steps = []; ending = ask misc Yes }
+no_rule g = asking_rule g.env false Yes
 
 abbrev pub plain_rule : TraitGoal → Bool → Rule
-plain_rule g applies = record { env = g.env; applies = applies; steps = []; ending = ask misc Yes }
+plain_rule g applies = asking_rule g.env applies Yes
 
 -- what is asked for where the goal says too little
 abbrev pub ambiguous_rule : TraitGoal → Bool → Rule
-ambiguous_rule g applies = record { env = g.env; applies = applies; steps = []; ending = ask misc AMBIGUOUS }
+ambiguous_rule g applies = asking_rule g.env applies AMBIGUOUS
 
 -- Clauses.
 

@@ -4,4 +4,5 @@ pub mod Kinds
 pub mod TraitGoals
 pub mod BuiltinRules
 pub mod TraitRules
+pub mod Staying
 pub mod Characterizing
