@@ -86,3 +86,7 @@ module _ {E X : Type 0} {fixed : E → X} {judge : X → Judge} {state : E → S
         told = subst (λ j. Told (context new).trees r j) judged-same c.told;
         cause = caused r (λ s. later (reaches kept)) c.cause;
       }
+
+  -- the same rule in other words
+  pub considers-same : (old new : E) (rule s : Rule) (r : Result Candidate NoSolutionOrStop) → s ≡ rule → Considers fixed judge state probes context stops old new s r → Considers fixed judge state probes context stops old new rule r
+  considers-same old new rule s r same c = subst (λ (x : Rule). Considers fixed judge state probes context stops old new x r) same c
