@@ -4,3 +4,4 @@ pub mod Kinds
 pub mod TraitGoals
 pub mod BuiltinRules
 pub mod TraitRules
+pub mod Impls
