@@ -1,10 +1,11 @@
 //! The rule of an impl: a goal of a trait holds by an impl of it.
 
-ghost use Rattle.std.specs.Prelude.{◌≡◌, ◌∷◌, false, true, None, Some, Option, map, IfErr, IfOk, MatchOption, OnOk};
+ghost use Rattle.std.specs.Prelude.{◌≡◌, ◌∷◌, false, true, None, Some, Option, map, IfErr, IfOk, IfSome, MatchOption, OnOk};
 ghost use Rattle.candidate_ir.specs.Declaring.{impl_at};
 ghost use Rattle.candidate_ir.specs.Folding.{lacks_argument};
 ghost use Rattle.candidate_ir.specs.Owned.{ClausesAreOwned};
 ghost use Rattle.candidate_ir.specs.Trees.{holds, is_param};
+ghost use Rattle.candidate_ir.specs.WellFormed.{ImplIsGiven};
 ghost use Rattle.candidate_ir.specs.Words.{IsArgs, IsParamEnv, args_forest, clause_tree, env_forest};
 ghost use Rattle.candidate_ir.specs.Worlds.{kinds_of};
 ghost use Rattle.candidate_eval.specs.Accounts.{StopsSomehow, by_stop};
@@ -83,6 +84,14 @@ fn certainty_by(
         return None;
     }
     impl_certainty(mode, predicate.polarity, polarity)
+}
+
+/// What is declared of the impl is of the context.
+fn impl_is_given(cx: &Cx, of: ImplId)
+    ensures { IfSome (impl_at cx.now of) (ImplIsGiven cx.now) }
+{
+    let _ = of;
+    cx.well_formed_table();
 }
 
 /// Fresh variables in the place of an impl's parameters; of what is no impl there are none.
@@ -166,4 +175,72 @@ fn nest_clauses<E: EvalCtxt>(
         )?;
     }
     Ok(())
+}
+
+/// Equates the arguments with those of a header, and then where clauses and outlives clauses become pending, all with what stands for
+/// the impl's parameters.
+fn equate_and_nest<E: EvalCtxt>(
+    alloc: Global,
+    ecx: &mut E,
+    env: ParamEnv,
+    args: Args,
+    header: Args,
+    wheres: &[Clause],
+    super_outlives: &[Clause],
+    locals: Args,
+) -> Result<(), NoSolutionOrStop>
+    requires env { IsParamEnv (E.context ecx.old).trees env }
+    requires args { IsArgs (E.context ecx.old).trees args }
+    requires no_parameter { holds is_param (args_forest (E.context ecx.old).trees args) ≡ false }
+    requires header { IsArgs (E.context ecx.old).trees header }
+    requires there { holds (lacks_argument (args_forest (E.context ecx.old).trees locals)) (args_forest (E.context ecx.old).trees header) ≡ false }
+    requires wheres { ClausesAreOwned (E.context ecx.old).trees (args_forest (E.context ecx.old).trees locals) wheres.now }
+    requires super_outlives { ClausesAreOwned (E.context ecx.old).trees (args_forest (E.context ecx.old).trees locals) super_outlives.now }
+    requires locals { IsArgs (E.context ecx.old).trees locals }
+    ensures kept { Keeps E.fixed E.probes E.context ecx.old ecx.new }
+    ensures ok { IfOk result (λ _. run (E.judge (E.fixed ecx.old)) (env_forest (E.context ecx.old).trees env) (standing (E.state ecx.old) (args_forest (E.context ecx.old).trees locals)) (declared_steps (args_forest (E.context ecx.old).trees args) (args_forest (E.context ecx.old).trees header) (map (clause_tree (E.context ecx.old).trees) wheres.now) (map (clause_tree (E.context ecx.old).trees) super_outlives.now)) ≡ At (standing (E.state ecx.new) (args_forest (E.context ecx.old).trees locals))) }
+    ensures refused { IfErr result (λ e. e ≡ NoSolutionOrStop.NoSolution → run (E.judge (E.fixed ecx.old)) (env_forest (E.context ecx.old).trees env) (standing (E.state ecx.old) (args_forest (E.context ecx.old).trees locals)) (declared_steps (args_forest (E.context ecx.old).trees args) (args_forest (E.context ecx.old).trees header) (map (clause_tree (E.context ecx.old).trees) wheres.now) (map (clause_tree (E.context ecx.old).trees) super_outlives.now)) ≡ Over Refused) }
+    ensures cause { IfErr result (by_stop (StopsSomehow E.fixed E.context E.state E.stops ecx.old)) }
+{
+    equate_header(alloc, ecx, env, args, header, locals)?;
+    let source = GoalSource::ImplWhereBound;
+    nest_clauses(alloc, ecx, env, source, wheres, locals)?;
+    nest_clauses(alloc, ecx, env, GoalSource::Misc, super_outlives, locals)?;
+    Ok(())
+}
+
+/// What an impl's rule does before it asks, for a row of arguments. It answers what stands for the impl's parameters; of what is no impl
+/// nothing is done.
+fn follow_impl<E: EvalCtxt>(
+    alloc: Global,
+    ecx: &mut E,
+    env: ParamEnv,
+    args: Args,
+    of: ImplId,
+) -> Result<Args, NoSolutionOrStop>
+    requires env { IsParamEnv (E.context ecx.old).trees env }
+    requires args { IsArgs (E.context ecx.old).trees args }
+    requires no_parameter { holds is_param (args_forest (E.context ecx.old).trees args) ≡ false }
+    ensures kept { Keeps E.fixed E.probes E.context ecx.old ecx.new }
+    ensures ok { IfOk result (λ ls. run (E.judge (E.fixed ecx.old)) (env_forest (E.context ecx.old).trees env) (start (E.state ecx.old)) (steps_at (E.context ecx.old) (args_forest (E.context ecx.old).trees args) of) ≡ At (standing (E.state ecx.new) (args_forest (E.context ecx.new).trees ls))) }
+    ensures refused { IfErr result (λ e. e ≡ NoSolutionOrStop.NoSolution → run (E.judge (E.fixed ecx.old)) (env_forest (E.context ecx.old).trees env) (start (E.state ecx.old)) (steps_at (E.context ecx.old) (args_forest (E.context ecx.old).trees args) of) ≡ Over Refused) }
+    ensures cause { IfErr result (by_stop (StopsSomehow E.fixed E.context E.state E.stops ecx.old)) }
+{
+    impl_is_given(ecx.cx(), of);
+    let locals = fresh_args_for_impl(alloc, ecx, of)?;
+    let Some(declared) = declared_by(alloc, ecx.cx(), of, locals)? else {
+        return Ok(locals);
+    };
+    let (wheres, super_outlives) = (&declared.wheres, &declared.super_outlives);
+    equate_and_nest(
+        alloc,
+        ecx,
+        env,
+        args,
+        declared.header,
+        wheres.as_slice(),
+        super_outlives.as_slice(),
+        locals,
+    )?;
+    Ok(locals)
 }
