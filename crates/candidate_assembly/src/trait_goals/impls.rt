@@ -244,3 +244,46 @@ fn follow_impl<E: EvalCtxt>(
     )?;
     Ok(locals)
 }
+
+/// What an impl's rule does, and then what the closure answers.
+fn follow_impl_and_then<
+    E: EvalCtxt,
+    F: FnOnce(&mut E, Certainty) -> Result<CanonicalResponse, NoSolutionOrStop>,
+>(
+    alloc: Global,
+    ecx: &mut E,
+    env: ParamEnv,
+    args: Args,
+    of: ImplId,
+    certainty: Certainty,
+    then: F,
+) -> Result<CanonicalResponse, NoSolutionOrStop>
+    requires env { IsParamEnv (E.context ecx.old).trees env }
+    requires args { IsArgs (E.context ecx.old).trees args }
+    requires no_parameter { holds is_param (args_forest (E.context ecx.old).trees args) ≡ false }
+    requires callable { IsCallableWith E.fixed E.state E.probes E.context E.stops F.FnOnce then ecx.old (E.probes ecx.old) }
+    ensures kept { Keeps E.fixed E.probes E.context ecx.old ecx.new }
+    ensures told { (s : CandidateSource) (k : State → Option Response) → TellsWith E.fixed E.state E.probes E.context E.stops F.FnOnce then ecx.old (E.probes ecx.old) certainty k → ToldAs (E.context ecx.new).trees s result (steps_judged (E.judge (E.fixed ecx.old)) (env_forest (E.context ecx.old).trees env) (E.state ecx.old) s (steps_at (E.context ecx.old) (args_forest (E.context ecx.old).trees args) of) k) }
+    ensures cause { IfErr result (by_stop (StopsOfItself E.fixed E.context E.state E.stops ecx.old)) }
+{
+    follow_impl(alloc, ecx, env, args, of)?;
+    then(ecx, certainty)
+}
+
+/// The candidate of the source that an answer comes to.
+fn named(
+    source: CandidateSource,
+    answer: Result<CanonicalResponse, NoSolutionOrStop>,
+    head_usages: CandidateHeadUsages,
+) -> Result<Candidate, NoSolutionOrStop>
+    ensures { IsNamed source answer result }
+{
+    match answer {
+        Ok(result) => Ok(Candidate {
+            source,
+            result,
+            head_usages,
+        }),
+        Err(error) => Err(error),
+    }
+}
