@@ -1,5 +1,5 @@
 -- What is read of an impl, where the context has grown, and the steps of its rule.
-use Rattle.std.proofs.Common.{◌≡◌, ap, refl, sym, subst, ◌∙◌, List, [], map, Option, Some, None, slice_index_or}
+use Rattle.std.proofs.Common.{◌≡◌, false, ap, refl, sym, subst, ◌∙◌, List, [], ◌∷◌, map, Option, Some, None, Result, Ok, Err, IfErr, slice_index_or}
 use Rattle.std.specs.Prelude.{IfSome}
 use Rattle.candidate_ir.specs.declared.decl.contents.ImplId.{ImplId}
 use Rattle.candidate_ir.specs.declared.ir.kinds.Args.{Args}
@@ -16,13 +16,23 @@ use Rattle.candidate_ir.specs.Words.{IsArgs, args_forest, clause_tree}
 use Rattle.candidate_ir.specs.Worlds.{kinds_of}
 use Rattle.candidate_ir.proofs.Joining.{clause-kept}
 use Rattle.candidate_ir.proofs.Kept.{args-kept}
-use Rattle.candidate_eval.specs.Judging.{Place, Reached, At, run, start}
+use Rattle.candidate_eval.specs.declared.eval.refusal.NoSolutionOrStop.{NoSolutionOrStop}
+use Rattle.candidate_eval.specs.declared.eval.response.Candidate.{Candidate}
+use Rattle.candidate_eval.specs.declared.eval.response.CanonicalResponse.{CanonicalResponse}
+use Rattle.candidate_eval.specs.declared.eval.source.CandidateSource.{CandidateSource}
+use Rattle.candidate_eval.specs.Accounts.{by_stop}
+use Rattle.candidate_eval.specs.Judging.{Place, Reached, Judged, Gives, Stopped, At, run, start}
+use Rattle.candidate_eval.specs.Knowing.{own_stop}
+use Rattle.candidate_eval.specs.ResponseTrees.{IsResponse, response_of}
+use Rattle.candidate_eval.specs.Responses.{Response}
+use Rattle.candidate_eval.specs.Rules.{Step, fresh}
 use Rattle.candidate_eval.specs.States.{Env, Judge, State, fresh_variables, with_fresh_variables}
 use Rattle.candidate_eval.proofs.Pairs.{clause_there}
 use Rattle.candidate_eval.proofs.Responding.{clauses-kept}
 use Rattle.candidate_assembly.specs.declared.trait_goals.impls.Declared.{Declared}
-use Rattle.candidate_assembly.specs.Impls.{IsDeclared, declared_steps, impl_kinds, steps_at, steps_of}
-use Rattle.candidate_assembly.specs.Telling.{standing}
+use Rattle.candidate_assembly.specs.Impls.{IsDeclared, IsNamed, declared_steps, impl_kinds, steps_at, steps_of}
+use Rattle.candidate_assembly.specs.Kinds.{steps_judged}
+use Rattle.candidate_assembly.specs.Telling.{Told, ToldAs, standing}
 use Rattle.candidate_assembly.proofs.Stepping.{fresh-kinds}
 
 -- Clauses
@@ -107,3 +117,45 @@ module _ (old new : Context) (n : ImplId) (args : Forest) (d : Declared) (g : Gr
       (ap (λ x. run J e (standing T args) (declared_steps a x (map (clause_tree old.trees) is.by.wheres) (map (clause_tree old.trees) is.by.super_outlives))) header
       ∙ (ap (λ (x : List Tree). run J e (standing T args) (declared_steps a (args_forest new.trees d.header) x (map (clause_tree old.trees) is.by.super_outlives))) wheres
       ∙ (ap (λ (x : List Tree). run J e (standing T args) (declared_steps a (args_forest new.trees d.header) (map (clause_tree new.trees) ws) x)) outlives ∙ h)))
+
+-- The steps stay where the context grows.
+pub steps-kept : (old new : Context) (a : Forest) (n : ImplId) → Grows old new → IfSome (impl_at old n) (ImplIsGiven old) → steps_at new a n ≡ steps_at old a n
+steps-kept old new a n g given = ap (maybe [] (steps_of new.trees a)) (impl-same old new n g) ∙ of (impl_at old n) given
+  where
+    of : (o : Option Impl) → IfSome o (ImplIsGiven old) → maybe [] (steps_of new.trees a) o ≡ maybe [] (steps_of old.trees a) o
+    of None t = refl
+    of (Some i) t =
+        let with : Forest → List Tree → List Tree → List Step = λ h ws os. fresh (map parameter_kind i.parameters) ∷ declared_steps a h ws os in
+        ap (λ x. with x (map (clause_tree new.trees) i.wheres) (map (clause_tree new.trees) i.super_outlives)) (args-kept old new i.trait_ref.args g t.header.list).1
+        ∙ (ap (λ (x : List Tree). with (args_forest old.trees i.trait_ref.args) x (map (clause_tree new.trees) i.super_outlives)) (clauses-kept old new i.wheres g t.wheres).1
+        ∙ ap (λ (x : List Tree). with (args_forest old.trees i.trait_ref.args) (map (clause_tree old.trees) i.wheres) x) (clauses-kept old new i.super_outlives g t.super_outlives).1)
+
+-- What is judged of them is the same in other words.
+pub judged-moved : {X : Type 0} (judge : X → Judge) (f h : X) (e d : Env) (S T : State) (s : CandidateSource) (xs ys : List Step) (k : State → Option Response) → h ≡ f → d ≡ e → T ≡ S → ys ≡ xs
+    → steps_judged (judge h) d T s ys k ≡ steps_judged (judge f) e S s xs k
+judged-moved judge f h e d S T s xs ys k p q r t =
+    ap (λ z. steps_judged (judge z) d T s ys k) p ∙ (ap (λ z. steps_judged (judge f) z T s ys k) q ∙ (ap (λ z. steps_judged (judge f) e z s ys k) r ∙ ap (λ z. steps_judged (judge f) e S s z k) t))
+
+-- Answers that get their source.
+
+pub named-told : (ts : List Tree) (s : CandidateSource) (r : Result CanonicalResponse NoSolutionOrStop) (x : Result Candidate NoSolutionOrStop) (j : Judged) → ToldAs ts s r j → IsNamed s r x → Told ts x j
+named-told ts s (Ok v) (Ok c) j h n = record {
+  ok = h.ok ∙ (ap (λ y. Gives (record { source = y; result = response_of ts v })) (sym n.0) ∙ ap (λ y. Gives (record { source = c.source; result = response_of ts y })) (sym n.1));
+  fits = subst (IsResponse ts) (sym n.1) h.fits;
+  refused = tt;
+  stopped = tt;
+}
+named-told ts s (Err e) (Err f) j h n = record {
+  ok = tt;
+  fits = tt;
+  refused = λ q. h.refused (sym n ∙ q);
+  stopped = subst (by_stop (λ z. own_stop z ≡ false → j ≡ Stopped z)) (sym n) h.stopped;
+}
+named-told ts s (Ok v) (Err f) j h n = absurd n
+named-told ts s (Err e) (Ok c) j h n = absurd n
+
+pub named-error : (P : NoSolutionOrStop → Type 0) (s : CandidateSource) (r : Result CanonicalResponse NoSolutionOrStop) (x : Result Candidate NoSolutionOrStop) → IsNamed s r x → IfErr r P → IfErr x P
+named-error P s (Ok v) (Ok c) n h = tt
+named-error P s (Err e) (Err f) n h = subst P (sym n) h
+named-error P s (Ok v) (Err f) n h = absurd n
+named-error P s (Err e) (Ok c) n h = absurd n

@@ -287,3 +287,32 @@ fn named(
         Err(error) => Err(error),
     }
 }
+
+/// What an impl's rule does, and then what the closure answers, in a probe.
+fn probe_impl<
+    E: EvalCtxt,
+    F: FnOnce(&mut E, Certainty) -> Result<CanonicalResponse, NoSolutionOrStop>,
+>(
+    alloc: Global,
+    ecx: &mut E,
+    env: ParamEnv,
+    args: Args,
+    of: ImplId,
+    certainty: Certainty,
+    then: F,
+) -> Result<Candidate, NoSolutionOrStop>
+    requires env { IsParamEnv (E.context ecx.old).trees env }
+    requires args { IsArgs (E.context ecx.old).trees args }
+    requires no_parameter { holds is_param (args_forest (E.context ecx.old).trees args) ≡ false }
+    requires callable { IsCallableWith E.fixed E.state E.probes E.context E.stops F.FnOnce then ecx.old (E.state ecx.old ∷ E.probes ecx.old) }
+    ensures kept { Keeps E.fixed E.probes E.context ecx.old ecx.new }
+    ensures alike { (E.judge (E.fixed ecx.old)).alike (E.state ecx.old) (E.state ecx.new) }
+    ensures told { (k : State → Option Response) → TellsWith E.fixed E.state E.probes E.context E.stops F.FnOnce then ecx.old (E.state ecx.old ∷ E.probes ecx.old) certainty k → Told (E.context ecx.new).trees result (steps_judged (E.judge (E.fixed ecx.old)) (env_forest (E.context ecx.old).trees env) (E.state ecx.old) (source.Impl of) (steps_at (E.context ecx.old) (args_forest (E.context ecx.old).trees args) of) k) }
+    ensures cause { IfErr result (by_stop (StopsOfItself E.fixed E.context E.state E.stops ecx.old)) }
+{
+    impl_is_given(ecx.cx(), of);
+    let probe = ecx.begin_probe(ProbeKind::Kept)?;
+    let answer = follow_impl_and_then(alloc, ecx, env, args, of, certainty, then);
+    let usages = ecx.end_probe(probe);
+    named(CandidateSource::Impl(of), answer, usages)
+}
