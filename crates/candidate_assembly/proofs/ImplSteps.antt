@@ -1,6 +1,6 @@
 -- What is read of an impl, where the context has grown, and the steps of its rule.
-use Rattle.std.proofs.Common.{◌≡◌, false, ap, refl, sym, subst, ◌∙◌, List, [], ◌∷◌, map, Option, Some, None, Result, Ok, Err, IfErr, slice_index_or}
-use Rattle.std.specs.Prelude.{IfSome}
+use Rattle.std.proofs.Common.{◌≡◌, true, false, ap, refl, sym, subst, ◌∙◌, List, [], ◌∷◌, map, Option, Some, None, Result, Ok, Err, IfErr, slice_index_or}
+use Rattle.std.specs.Prelude.{IfSome, if◌then◌else◌}
 use Rattle.candidate_ir.specs.declared.decl.contents.ImplId.{ImplId}
 use Rattle.candidate_ir.specs.declared.ir.kinds.Args.{Args}
 use Rattle.candidate_ir.specs.declared.ir.kinds.Clause.{Clause}
@@ -16,12 +16,14 @@ use Rattle.candidate_ir.specs.Words.{IsArgs, args_forest, clause_tree}
 use Rattle.candidate_ir.specs.Worlds.{kinds_of}
 use Rattle.candidate_ir.proofs.Joining.{clause-kept}
 use Rattle.candidate_ir.proofs.Kept.{args-kept}
+use Rattle.candidate_eval.specs.declared.eval.mode.TypingMode.{TypingMode}
 use Rattle.candidate_eval.specs.declared.eval.refusal.NoSolutionOrStop.{NoSolutionOrStop}
 use Rattle.candidate_eval.specs.declared.eval.response.Candidate.{Candidate}
 use Rattle.candidate_eval.specs.declared.eval.response.CanonicalResponse.{CanonicalResponse}
 use Rattle.candidate_eval.specs.declared.eval.source.CandidateSource.{CandidateSource}
 use Rattle.candidate_eval.specs.Accounts.{by_stop}
-use Rattle.candidate_eval.specs.Judging.{Place, Reached, Judged, Gives, Stopped, At, run, start}
+use Rattle.candidate_eval.specs.ImplRules.{TraitGoal}
+use Rattle.candidate_eval.specs.Judging.{Place, Reached, Judged, Gives, Refused, Stopped, At, run, start}
 use Rattle.candidate_eval.specs.Knowing.{own_stop}
 use Rattle.candidate_eval.specs.ResponseTrees.{IsResponse, response_of}
 use Rattle.candidate_eval.specs.Responses.{Response}
@@ -31,8 +33,9 @@ use Rattle.candidate_eval.proofs.Pairs.{clause_there}
 use Rattle.candidate_eval.proofs.Responding.{clauses-kept}
 use Rattle.candidate_assembly.specs.declared.trait_goals.impls.Declared.{Declared}
 use Rattle.candidate_assembly.specs.Impls.{IsDeclared, IsNamed, declared_steps, impl_kinds, steps_at, steps_of}
-use Rattle.candidate_assembly.specs.Kinds.{steps_judged}
+use Rattle.candidate_assembly.specs.Kinds.{ImplPart, part_judged, steps_judged}
 use Rattle.candidate_assembly.specs.Telling.{Told, ToldAs, standing}
+use Rattle.candidate_assembly.specs.TraitGoals.{impl_part, impl_part_at, no_impl}
 use Rattle.candidate_assembly.proofs.Stepping.{fresh-kinds}
 
 -- Clauses
@@ -106,13 +109,13 @@ module _ (old new : Context) (n : ImplId) (args : Forest) (d : Declared) (g : Gr
       → run J e (start S) (steps_at old a n) ≡ r
   declared-run given J e S T a ws os r w o t l h =
       let here : impl_at old n ≡ Some is.by = sym (impl-same old new n g) ∙ is.is in
-      let then : ImplIsGiven old is.by = subst (λ (x : Option Impl). IfSome x (ImplIsGiven old)) here given in
+      let early : ImplIsGiven old is.by = subst (λ (x : Option Impl). IfSome x (ImplIsGiven old)) here given in
       let header : args_forest old.trees is.by.trait_ref.args ≡ args_forest new.trees d.header
-      = sym (args-kept old new is.by.trait_ref.args g then.header.list).1 ∙ ap (args_forest new.trees) (sym is.header) in
+      = sym (args-kept old new is.by.trait_ref.args g early.header.list).1 ∙ ap (args_forest new.trees) (sym is.header) in
       let wheres : map (clause_tree old.trees) is.by.wheres ≡ map (clause_tree new.trees) ws
-      = sym (clauses-kept old new is.by.wheres g then.wheres).1 ∙ ap (map (clause_tree new.trees)) (sym (w ∙ is.wheres)) in
+      = sym (clauses-kept old new is.by.wheres g early.wheres).1 ∙ ap (map (clause_tree new.trees)) (sym (w ∙ is.wheres)) in
       let outlives : map (clause_tree old.trees) is.by.super_outlives ≡ map (clause_tree new.trees) os
-      = sym (clauses-kept old new is.by.super_outlives g then.super_outlives).1 ∙ ap (map (clause_tree new.trees)) (sym (o ∙ is.super_outlives)) in
+      = sym (clauses-kept old new is.by.super_outlives g early.super_outlives).1 ∙ ap (map (clause_tree new.trees)) (sym (o ∙ is.super_outlives)) in
       impl-run J e S T old a args n is.by r here t l
       (ap (λ x. run J e (standing T args) (declared_steps a x (map (clause_tree old.trees) is.by.wheres) (map (clause_tree old.trees) is.by.super_outlives))) header
       ∙ (ap (λ (x : List Tree). run J e (standing T args) (declared_steps a (args_forest new.trees d.header) x (map (clause_tree old.trees) is.by.super_outlives))) wheres
@@ -135,6 +138,23 @@ pub judged-moved : {X : Type 0} (judge : X → Judge) (f h : X) (e d : Env) (S T
     → steps_judged (judge h) d T s ys k ≡ steps_judged (judge f) e S s xs k
 judged-moved judge f h e d S T s xs ys k p q r t =
     ap (λ z. steps_judged (judge z) d T s ys k) p ∙ (ap (λ z. steps_judged (judge f) z T s ys k) q ∙ (ap (λ z. steps_judged (judge f) e z s ys k) r ∙ ap (λ z. steps_judged (judge f) e S s z k) t))
+
+-- They are those of the impl's part in the rules of goals of traits.
+pub part-steps : (c : Context) (m : TypingMode) (g : TraitGoal) (n : ImplId) → (impl_part_at c m g n).steps ≡ steps_at c g.reference.arguments n
+part-steps c m g n = of (impl_at c n)
+  where
+    of : (o : Option Impl) → (maybe no_impl (impl_part c.trees m g) o).steps ≡ maybe [] (steps_of c.trees g.reference.arguments) o
+    of None = refl
+    of (Some i) = refl
+
+-- what is judged of a part that applies, and of one that doesn't
+
+pub part-applies : (J : Judge) (e : Env) (S : State) (s : CandidateSource) (p : ImplPart) (ss : List Step) (k : State → Option Response) → p.applies ≡ true → p.steps ≡ ss
+    → steps_judged J e S s ss k ≡ part_judged J e S s p k
+part-applies J e S s p ss k a b = ap (λ z. steps_judged J e S s z k) (sym b) ∙ ap (λ x. if x then steps_judged J e S s p.steps k else Refused) (sym a)
+
+pub part-refused : (J : Judge) (e : Env) (S : State) (s : CandidateSource) (p : ImplPart) (k : State → Option Response) → p.applies ≡ false → part_judged J e S s p k ≡ Refused
+part-refused J e S s p k a = ap (λ x. if x then steps_judged J e S s p.steps k else Refused) a
 
 -- Answers that get their source.
 

@@ -316,3 +316,71 @@ fn probe_impl<
     let usages = ecx.end_probe(probe);
     named(CandidateSource::Impl(of), answer, usages)
 }
+
+/// The rule of an impl: its steps in a probe, and then what the closure answers, which is given the certainty that the impl gives.
+///
+/// `NoSolution` comes where the rule doesn't apply, where the header's arguments can't be equated with the goal's, and where the closure
+/// answers it. The stops are those of growing a list, of making nodes and of the evaluator, and the closure's. The state is left alike the
+/// one before, whatever is answered.
+pub fn consider_impl<
+    E: EvalCtxt,
+    F: FnOnce(&mut E, Certainty) -> Result<CanonicalResponse, NoSolutionOrStop>,
+>(
+    alloc: Global,
+    ecx: &mut E,
+    env: ParamEnv,
+    predicate: TraitPredicate,
+    of: ImplId,
+    then: F,
+) -> Result<Candidate, NoSolutionOrStop>
+    requires goal { IsGoal trait_rules arguments_held types_held trait_goal (E.context ecx.old) env predicate }
+    requires callable { IsCallableWith E.fixed E.state E.probes E.context E.stops F.FnOnce then ecx.old (E.state ecx.old ∷ E.probes ecx.old) }
+    ensures kept { Keeps E.fixed E.probes E.context ecx.old ecx.new }
+    ensures alike { (E.judge (E.fixed ecx.old)).alike (E.state ecx.old) (E.state ecx.new) }
+    ensures told { (k : State → Option Response) → TellsWith E.fixed E.state E.probes E.context E.stops F.FnOnce then ecx.old (E.state ecx.old ∷ E.probes ecx.old) (impl_part_at (E.context ecx.old) (E.state ecx.old).mode (trait_goal (E.context ecx.old).trees env predicate) of).certainty k → Told (E.context ecx.new).trees result (part_judged (E.judge (E.fixed ecx.old)) (env_forest (E.context ecx.old).trees env) (E.state ecx.old) (source.Impl of) (impl_part_at (E.context ecx.old) (E.state ecx.old).mode (trait_goal (E.context ecx.old).trees env predicate) of) k) }
+    ensures cause { IfErr result (by_stop (StopsOfItself E.fixed E.context E.state E.stops ecx.old)) }
+{
+    let mode = ecx.typing_mode();
+    let Some(certainty) = certainty_by(ecx.cx(), mode, env, predicate, of) else {
+        return Err(NoSolutionOrStop::NoSolution);
+    };
+    let args = predicate.trait_ref.args;
+    probe_impl(alloc, ecx, env, args, of, certainty, then)
+}
+
+/// The response, with at most that certainty.
+fn respond<E: EvalCtxt>(
+    ecx: &mut E,
+    certainty: Certainty,
+) -> Result<CanonicalResponse, NoSolutionOrStop>
+    ensures kept { Keeps E.fixed E.probes E.context ecx.old ecx.new }
+    ensures told { Responds (E.context ecx.new).trees result ((E.judge (E.fixed ecx.old)).responded (E.state ecx.old) certainty) }
+    ensures cause { IfErr result (by_stop (StopsOfItself E.fixed E.context E.state E.stops ecx.old)) }
+{
+    ecx.evaluate_added_goals_and_make_canonical_response(certainty)
+}
+
+/// The rule of an impl, where the response is asked for after its steps, with at most the certainty that the impl gives.
+///
+/// `NoSolution` comes where the rule doesn't apply, where the header's arguments can't be equated with the goal's, and where the evaluator
+/// refuses. The stops are those of growing a list, of making nodes and of the evaluator. The state is left alike the one before, whatever
+/// is answered.
+pub fn consider_impl_and_respond<E: EvalCtxt>(
+    alloc: Global,
+    ecx: &mut E,
+    env: ParamEnv,
+    predicate: TraitPredicate,
+    of: ImplId,
+) -> Result<Candidate, NoSolutionOrStop>
+    requires goal { IsGoal trait_rules arguments_held types_held trait_goal (E.context ecx.old) env predicate }
+    ensures { Considers E.fixed E.judge E.state E.probes E.context E.stops ecx.old ecx.new (rule_of_part (env_forest (E.context ecx.old).trees env) (source.Impl of) (impl_part_at (E.context ecx.old) (E.state ecx.old).mode (trait_goal (E.context ecx.old).trees env predicate) of)) result }
+{
+    consider_impl(
+        alloc,
+        ecx,
+        env,
+        predicate,
+        of,
+        |ecx: &mut E, certainty: Certainty| respond(ecx, certainty),
+    )
+}

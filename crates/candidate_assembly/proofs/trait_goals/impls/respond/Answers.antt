@@ -1,0 +1,21 @@
+use Rattle.std.proofs.lemmas.Result.{IfErr-weaker}
+use Rattle.candidate_eval.proofs.Accounts.{by-stop, reaches}
+use Rattle.candidate_assembly.proofs.Keeping.{itself-here}
+use Rattle.candidate_assembly.proofs.Stepping.{evaluator-own}
+use Rattle.candidate_assembly.proofs.trait_goals.impls.respond.Goals as goal
+
+pub returns-clause-told : goal.returns-clause-told
+returns-clause-told g c =
+    let r = c.evaluate_added_goals_and_make_canonical_response in
+    record {
+      ok = r.ensures.ok;
+      fits = r.ensures.sort;
+      refused = r.ensures.refused;
+      stopped = IfErr-weaker r.result _ _ (λ e h. by-stop e (λ s x. evaluator-own s (g.met.E.EvalCtxt.stops_itself _ _ _ s x)) h) r.ensures.cause;
+    }
+
+pub returns-clause-cause : goal.returns-clause-cause
+returns-clause-cause g c =
+    let E = g.E.EvalCtxt in
+    let r = c.evaluate_added_goals_and_make_canonical_response in
+    itself-here E.fixed g.E.Build.context E.state E.stops r.result _ (reaches r.ensures.kept) r.ensures.cause
