@@ -20,9 +20,11 @@ use Rattle.candidate_ir.specs.WellFormed.{ImplIsGiven}
 use Rattle.candidate_ir.specs.Words.{IsArgs, IsParamEnv, args_forest, clause_tree, env_forest}
 use Rattle.candidate_ir.specs.Worlds.{Reference, World, TraitSort, joined, kinds_of, parameters}
 use Rattle.candidate_ir.proofs.Kept.{args-kept, grows-trans, world-kept}
+use Rattle.candidate_eval.specs.declared.eval.certainty.Certainty.{Certainty}
 use Rattle.candidate_eval.specs.declared.eval.mode.TypingMode.{TypingMode}
 use Rattle.candidate_eval.specs.declared.eval.refusal.NoSolutionOrStop.{NoSolutionOrStop}
 use Rattle.candidate_eval.specs.declared.eval.response.Candidate.{Candidate}
+use Rattle.candidate_eval.specs.declared.eval.response.CanonicalResponse.{CanonicalResponse}
 use Rattle.candidate_eval.specs.Accounts.{Account, Question, Reaches, StopsSomehow, by_stop}
 use Rattle.candidate_eval.specs.Accounts.StopsSomehow.{asking}
 use Rattle.candidate_eval.specs.Evaluators.{IsEvaluatorStop, Keeps}
@@ -36,7 +38,7 @@ use Rattle.candidate_eval.proofs.Objects.{env-kept}
 use Rattle.candidate_eval.proofs.Probing.{alike-probe, keeps-probe}
 use Rattle.candidate_eval.proofs.Responding.{clauses-kept}
 use Rattle.candidate_eval.proofs.Types.{types_kept}
-use Rattle.candidate_assembly.specs.Closures.{KeepsIn}
+use Rattle.candidate_assembly.specs.Closures.{KeepsIn, Responds}
 use Rattle.candidate_assembly.specs.Kinds.{ImplPart, IsGoal, KindRules, SaysTheSame}
 use Rattle.candidate_assembly.specs.Telling.{Considers, StopsOfItself, Told}
 use Rattle.candidate_assembly.specs.TraitGoals.{arguments_held, fits, impl_part, impl_part_at, no_impl, trait_goal, types_held}
@@ -132,6 +134,13 @@ module _ {E X : Type 0} (fixed : E → X) (context : E → Context) (state : E �
   pub somehow-is-own : (a : E) (itself : (x : E) (S : State) (q : Question) (s : Stop) → stops x S q s → IsEvaluatorStop s) (e : NoSolutionOrStop) → by_stop (StopsSomehow fixed context state stops a) e
       → by_stop (λ s. own_stop s ≡ true) e
   somehow-is-own a itself e h = by-stop e (somehow-own itself) h
+
+-- A closure that asks for the response answers what the first judge says, where it was called with an evaluator that keeps what is fixed.
+pub responds-at : {E X : Type 0} (fixed : E → X) (judge : X → Judge) (state : E → State) (context : E → Context) (first shown x left y : E) (c : Certainty) (r : Result CanonicalResponse NoSolutionOrStop)
+    → shown ≡ x → left ≡ y → fixed x ≡ fixed first → Responds (context left).trees r ((judge (fixed shown)).responded (state shown) c) → Responds (context y).trees r ((judge (fixed first)).responded (state x) c)
+responds-at fixed judge state context first shown x left y c r shows leaves same h =
+    subst (λ z. Responds (context z).trees r ((judge (fixed first)).responded (state x) c)) leaves
+    (subst (λ f. Responds (context left).trees r ((judge f).responded (state x) c)) same (subst (λ z. Responds (context left).trees r ((judge (fixed z)).responded (state z) c)) shows h))
 
 -- A rule in a probe: what is told of it is told at the state at which the probe began, with the rule as it is there.
 module _ {E X : Type 0} (fixed : E → X) (judge : X → Judge) (state : E → State) (probes : E → List State) (context : E → Context) (stops : Account E) where

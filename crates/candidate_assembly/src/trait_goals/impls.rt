@@ -348,18 +348,6 @@ pub fn consider_impl<
     probe_impl(alloc, ecx, env, args, of, certainty, then)
 }
 
-/// The response, with at most that certainty.
-fn respond<E: EvalCtxt>(
-    ecx: &mut E,
-    certainty: Certainty,
-) -> Result<CanonicalResponse, NoSolutionOrStop>
-    ensures kept { Keeps E.fixed E.probes E.context ecx.old ecx.new }
-    ensures told { Responds (E.context ecx.new).trees result ((E.judge (E.fixed ecx.old)).responded (E.state ecx.old) certainty) }
-    ensures cause { IfErr result (by_stop (StopsOfItself E.fixed E.context E.state E.stops ecx.old)) }
-{
-    ecx.evaluate_added_goals_and_make_canonical_response(certainty)
-}
-
 /// The rule of an impl, where the response is asked for after its steps, with at most the certainty that the impl gives.
 ///
 /// `NoSolution` comes where the rule doesn't apply, where the header's arguments can't be equated with the goal's, and where the evaluator
@@ -381,6 +369,12 @@ pub fn consider_impl_and_respond<E: EvalCtxt>(
         env,
         predicate,
         of,
-        |ecx: &mut E, certainty: Certainty| respond(ecx, certainty),
+        |ecx: &mut E, certainty: Certainty| -> Result<CanonicalResponse, NoSolutionOrStop>
+            ensures kept { Keeps E.fixed E.probes E.context ecx.old ecx.new }
+            ensures told { Responds (E.context ecx.new).trees result ((E.judge (E.fixed ecx.old)).responded (E.state ecx.old) certainty) }
+            ensures cause { IfErr result (by_stop (StopsOfItself E.fixed E.context E.state E.stops ecx.old)) }
+        {
+            ecx.evaluate_added_goals_and_make_canonical_response(certainty)
+        },
     )
 }
