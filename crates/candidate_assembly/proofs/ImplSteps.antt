@@ -1,6 +1,6 @@
 -- What is read of an impl, where the context has grown, and the steps of its rule.
-use Rattle.std.proofs.Common.{◌≡◌, true, false, ap, refl, sym, subst, ◌∙◌, List, [], ◌∷◌, map, Option, Some, None, Result, Ok, Err, IfErr, slice_index_or}
-use Rattle.std.specs.Prelude.{IfSome, if◌then◌else◌}
+use Rattle.std.proofs.Common.{◌≡◌, false, ap, refl, sym, subst, ◌∙◌, List, [], ◌∷◌, map, Option, Some, None, Result, Ok, Err, IfErr, slice_index_or}
+use Rattle.std.specs.Prelude.{IfSome}
 use Rattle.candidate_ir.specs.declared.decl.contents.ImplId.{ImplId}
 use Rattle.candidate_ir.specs.declared.ir.kinds.Args.{Args}
 use Rattle.candidate_ir.specs.declared.ir.kinds.Clause.{Clause}
@@ -16,14 +16,12 @@ use Rattle.candidate_ir.specs.Words.{IsArgs, args_forest, clause_tree}
 use Rattle.candidate_ir.specs.Worlds.{kinds_of}
 use Rattle.candidate_ir.proofs.Joining.{clause-kept}
 use Rattle.candidate_ir.proofs.Kept.{args-kept}
-use Rattle.candidate_eval.specs.declared.eval.mode.TypingMode.{TypingMode}
 use Rattle.candidate_eval.specs.declared.eval.refusal.NoSolutionOrStop.{NoSolutionOrStop}
 use Rattle.candidate_eval.specs.declared.eval.response.Candidate.{Candidate}
 use Rattle.candidate_eval.specs.declared.eval.response.CanonicalResponse.{CanonicalResponse}
 use Rattle.candidate_eval.specs.declared.eval.source.CandidateSource.{CandidateSource}
 use Rattle.candidate_eval.specs.Accounts.{by_stop}
-use Rattle.candidate_eval.specs.ImplRules.{TraitGoal}
-use Rattle.candidate_eval.specs.Judging.{Place, Reached, Judged, Gives, Refused, Stopped, At, run, start}
+use Rattle.candidate_eval.specs.Judging.{Place, Reached, Judged, Gives, Stopped, run, start}
 use Rattle.candidate_eval.specs.Knowing.{own_stop}
 use Rattle.candidate_eval.specs.ResponseTrees.{IsResponse, response_of}
 use Rattle.candidate_eval.specs.Responses.{Response}
@@ -33,9 +31,8 @@ use Rattle.candidate_eval.proofs.Pairs.{clause_there}
 use Rattle.candidate_eval.proofs.Responding.{clauses-kept}
 use Rattle.candidate_assembly.specs.declared.trait_goals.impls.Declared.{Declared}
 use Rattle.candidate_assembly.specs.Impls.{IsDeclared, IsNamed, declared_steps, impl_kinds, steps_at, steps_of}
-use Rattle.candidate_assembly.specs.Kinds.{ImplPart, part_judged, steps_judged}
+use Rattle.candidate_assembly.specs.Kinds.{steps_judged}
 use Rattle.candidate_assembly.specs.Telling.{Told, ToldAs, standing}
-use Rattle.candidate_assembly.specs.TraitGoals.{impl_part, impl_part_at, no_impl}
 use Rattle.candidate_assembly.proofs.Stepping.{fresh-kinds}
 
 -- Clauses
@@ -65,14 +62,6 @@ kinds-fit old new n S args g e =
 
 -- Runs of the steps of its rule
 
--- of what is no impl there are none
-pub no-impl-run : (J : Judge) (e : Env) (S T : State) (c : Context) (a ls : Forest) (n : ImplId) → impl_at c n ≡ None → T ≡ with_fresh_variables S (impl_kinds c n)
-    → ls ≡ fresh_variables S (impl_kinds c n) → run J e (start S) (steps_at c a n) ≡ At (standing T ls)
-no-impl-run J e S T c a ls n is t l =
-    let same : T ≡ S = t ∙ ap (λ (o : Option Impl). with_fresh_variables S (map parameter_kind (maybe [] (λ (i : Impl). i.parameters) o))) is in
-    let no = l ∙ ap (λ (o : Option Impl). fresh_variables S (map parameter_kind (maybe [] (λ (i : Impl). i.parameters) o))) is in
-    ap (λ (o : Option Impl). run J e (start S) (maybe [] (steps_of c.trees a) o)) is ∙ (ap (λ U. At (start U)) (sym same) ∙ ap (λ fs. At (standing T fs)) (sym no))
-
 -- after the variables
 pub impl-run : (J : Judge) (e : Env) (S T : State) (c : Context) (a ls : Forest) (n : ImplId) (i : Impl) (r : Reached) → impl_at c n ≡ Some i → T ≡ with_fresh_variables S (impl_kinds c n)
     → ls ≡ fresh_variables S (impl_kinds c n)
@@ -94,15 +83,6 @@ moved-run judge f h e d p a b header ws os r x y z k =
 
 -- by what is read of it later
 module _ (old new : Context) (n : ImplId) (args : Forest) (d : Declared) (g : Grows old new) (is : IsDeclared new n args d) where
-  pub header-there : IsArgs new.trees d.header
-  header-there = subst (IsArgs new.trees) (sym is.header) is.given.header.list
-
-  pub wheres-owned : (xs : List Clause) → xs ≡ d.wheres.items → ClausesAreOwned new.trees args xs
-  wheres-owned xs e = subst (ClausesAreOwned new.trees args) (sym (e ∙ is.wheres)) is.owned.wheres
-
-  pub outlives-owned : (xs : List Clause) → xs ≡ d.super_outlives.items → ClausesAreOwned new.trees args xs
-  outlives-owned xs e = subst (ClausesAreOwned new.trees args) (sym (e ∙ is.super_outlives)) is.owned.super_outlives
-
   pub declared-run : IfSome (impl_at old n) (ImplIsGiven old) → (J : Judge) (e : Env) (S T : State) (a : Forest) (ws os : List Clause) (r : Reached) → ws ≡ d.wheres.items → os ≡ d.super_outlives.items
       → T ≡ with_fresh_variables S (impl_kinds old n) → args ≡ fresh_variables S (impl_kinds old n)
       → run J e (standing T args) (declared_steps a (args_forest new.trees d.header) (map (clause_tree new.trees) ws) (map (clause_tree new.trees) os)) ≡ r
@@ -138,23 +118,6 @@ pub judged-moved : {X : Type 0} (judge : X → Judge) (f h : X) (e d : Env) (S T
     → steps_judged (judge h) d T s ys k ≡ steps_judged (judge f) e S s xs k
 judged-moved judge f h e d S T s xs ys k p q r t =
     ap (λ z. steps_judged (judge z) d T s ys k) p ∙ (ap (λ z. steps_judged (judge f) z T s ys k) q ∙ (ap (λ z. steps_judged (judge f) e z s ys k) r ∙ ap (λ z. steps_judged (judge f) e S s z k) t))
-
--- They are those of the impl's part in the rules of goals of traits.
-pub part-steps : (c : Context) (m : TypingMode) (g : TraitGoal) (n : ImplId) → (impl_part_at c m g n).steps ≡ steps_at c g.reference.arguments n
-part-steps c m g n = of (impl_at c n)
-  where
-    of : (o : Option Impl) → (maybe no_impl (impl_part c.trees m g) o).steps ≡ maybe [] (steps_of c.trees g.reference.arguments) o
-    of None = refl
-    of (Some i) = refl
-
--- what is judged of a part that applies, and of one that doesn't
-
-pub part-applies : (J : Judge) (e : Env) (S : State) (s : CandidateSource) (p : ImplPart) (ss : List Step) (k : State → Option Response) → p.applies ≡ true → p.steps ≡ ss
-    → steps_judged J e S s ss k ≡ part_judged J e S s p k
-part-applies J e S s p ss k a b = ap (λ z. steps_judged J e S s z k) (sym b) ∙ ap (λ x. if x then steps_judged J e S s p.steps k else Refused) (sym a)
-
-pub part-refused : (J : Judge) (e : Env) (S : State) (s : CandidateSource) (p : ImplPart) (k : State → Option Response) → p.applies ≡ false → part_judged J e S s p k ≡ Refused
-part-refused J e S s p k a = ap (λ x. if x then steps_judged J e S s p.steps k else Refused) a
 
 -- Answers that get their source.
 

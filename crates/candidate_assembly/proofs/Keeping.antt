@@ -57,8 +57,8 @@ goal-kept {K = K} {arguments = arguments} {types = types} {seen = seen} {old = o
       arguments = (args-kept old new (arguments p) grows h.arguments).0;
       types = (types_kept old.trees new.trees (types p) grows.kept h.types).0;
       fit = ap (λ (w : World). joined (Some (TypeKind ∷ [])) (parameters w TraitSort (K.reference_of new (seen new.trees env p)).trait)) (world-kept old new grows).0
-      ∙ (ap (λ (r : Reference). joined (Some (TypeKind ∷ [])) (parameters (world old) TraitSort r.trait)) reference
-      ∙ (h.fit ∙ ap (λ (r : Reference). Some (kinds_of r.arguments)) (sym reference)));
+          ∙ (ap (λ (r : Reference). joined (Some (TypeKind ∷ [])) (parameters (world old) TraitSort r.trait)) reference
+          ∙ (h.fit ∙ ap (λ (r : Reference). Some (kinds_of r.arguments)) (sym reference)));
       no_parameter = ap (λ g. holds is_param (K.trees_of g)) s.seen ∙ h.no_parameter;
       is_closed = ap (λ g. escapes 0 (K.trees_of g)) s.seen ∙ h.is_closed;
     }
@@ -155,6 +155,6 @@ module _ {E X : Type 0} (fixed : E → X) (judge : X → Judge) (state : E → S
     kept = keeps-probe fixed probes context old began ran new (state old) f g p k ends grows left;
     alike = alike-probe fixed probes judge state old began ran new f p k.fixed_same k.probes_same closed;
     told = told-kept (context ran) (context new) x (judged (judge (fixed old)) (state old) r) grows
-    (subst (λ j. Told (context ran).trees x j) (ap (λ z. judged (judge z) (state began) s) f ∙ (ap (λ z. judged (judge (fixed old)) z s) same ∙ ap (judged (judge (fixed old)) (state old)) is)) told);
+        (subst (λ j. Told (context ran).trees x j) (ap (λ z. judged (judge z) (state began) s) f ∙ (ap (λ z. judged (judge (fixed old)) z s) same ∙ ap (judged (judge (fixed old)) (state old)) is)) told);
     cause = itself-later fixed context state stops x (record { same = f; grows = g }) cause;
   }

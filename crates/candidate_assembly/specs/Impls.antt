@@ -1,7 +1,6 @@
 -- What is read of an impl, and what its rule does for a row of arguments.
-use Rattle.std.specs.Prelude.{◌≡◌, false, Option, Some, None, Result, Ok, Err, List, [], ◌∷◌, ◌++◌, map}
+use Rattle.std.specs.Prelude.{◌≡◌, Some, Result, Ok, Err, List, [], ◌∷◌, ◌++◌, map}
 use Rattle.candidate_ir.specs.declared.decl.contents.ImplId.{ImplId}
-use Rattle.candidate_ir.specs.declared.ir.kinds.Args.{Args}
 use Rattle.candidate_ir.specs.Context.{Context, parameter_kind}
 use Rattle.candidate_ir.specs.Contents.{Impl}
 use Rattle.candidate_ir.specs.Declaring.{impl_at}

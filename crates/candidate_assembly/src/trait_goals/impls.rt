@@ -373,8 +373,6 @@ pub fn consider_impl_and_respond<E: EvalCtxt>(
             ensures kept { Keeps E.fixed E.probes E.context ecx.old ecx.new }
             ensures told { Responds (E.context ecx.new).trees result ((E.judge (E.fixed ecx.old)).responded (E.state ecx.old) certainty) }
             ensures cause { IfErr result (by_stop (StopsOfItself E.fixed E.context E.state E.stops ecx.old)) }
-        {
-            ecx.evaluate_added_goals_and_make_canonical_response(certainty)
-        },
+        { ecx.evaluate_added_goals_and_make_canonical_response(certainty) },
     )
 }

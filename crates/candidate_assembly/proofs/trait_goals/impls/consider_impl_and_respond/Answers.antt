@@ -13,7 +13,7 @@ returns g c =
       alike = done.alike;
       told = done.told (λ S. (E.judge (E.fixed c.args.ecx.now)).responded S part.certainty) (record {
         at = λ x r y same called.
-        responds-at E.fixed E.judge E.state g.E.Build.context c.args.ecx.now called.shown.now x called.left.now y part.certainty r called.shows called.leaves same.fixed_same called.met.1.1.0;
+            responds-at E.fixed E.judge E.state g.E.Build.context c.args.ecx.now called.shown.now x called.left.now y part.certainty r called.shows called.leaves same.fixed_same called.met.1.1.0;
       });
       cause = done.cause;
     }

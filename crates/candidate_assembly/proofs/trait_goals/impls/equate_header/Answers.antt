@@ -11,6 +11,7 @@ use Rattle.candidate_eval.specs.Accounts.StopsSomehow.{asking, making}
 use Rattle.candidate_eval.specs.Evaluators.{accepted}
 use Rattle.candidate_eval.proofs.Accounts.{accounted-here, accounted-later, by-stop, reaches}
 use Rattle.candidate_eval.proofs.Objects.{env-kept}
+use Rattle.candidate_eval.proofs.Probing.{then}
 use Rattle.candidate_eval.proofs.StopKinds.{subst_making}
 use Rattle.candidate_assembly.specs.Telling.{standing}
 use Rattle.candidate_assembly.proofs.Stepping.{equation-reaches, equation-refuses}
@@ -31,6 +32,9 @@ eq_args-requires-clause-env g c = (env-kept _ _ c.args.env c.put_in.ensures.kept
 
 pub eq_args-requires-clause-left : goal.eq_args-requires-clause-left
 eq_args-requires-clause-left g c = (args-kept _ _ c.args.args c.put_in.ensures.kept.grows c.requires.args).0
+
+pub returns-clause-kept : goal.returns-clause-kept
+returns-clause-kept g c = then c.put_in.ensures.kept c.eq_args.ensures.kept
 
 pub returns-clause-ok : goal.returns-clause-ok
 returns-clause-ok g c =

@@ -1,4 +1,4 @@
-use Rattle.std.proofs.Common.{rules, ◌≡◌, Err, Some, ap, subst, sym, ◌∙◌, map}
+use Rattle.std.proofs.Common.{rules, ◌≡◌, Some, ap, subst, sym, ◌∙◌, map}
 use Rattle.std.specs.Prelude.{IfSome}
 use Rattle.std.proofs.lemmas.Result.{err_from_is_err_and}
 use Rattle.candidate_ir.specs.Context.{Context}
@@ -7,15 +7,14 @@ use Rattle.candidate_ir.specs.WellFormed.{ImplIsGiven}
 use Rattle.candidate_ir.specs.Words.{args_forest, clause_tree, env_forest}
 use Rattle.candidate_ir.specs.Worlds.{kinds_of}
 use Rattle.candidate_ir.proofs.Kept.{args-kept}
-use Rattle.candidate_eval.specs.declared.eval.refusal.NoSolutionOrStop.TheVariants.{NoSolution}
 use Rattle.candidate_eval.specs.Accounts.StopsSomehow.{making}
 use Rattle.candidate_eval.specs.Judging.{At, Over, Refused, run}
 use Rattle.candidate_eval.proofs.Accounts.{by-stop, reaches, somehow-later}
 use Rattle.candidate_eval.proofs.Objects.{env-kept}
 use Rattle.candidate_eval.proofs.Probing.{then}
-use Rattle.candidate_assembly.specs.Impls.{IsDeclared, declared_steps, impl_kinds}
+use Rattle.candidate_assembly.specs.Impls.{IsDeclared, impl_kinds}
 use Rattle.candidate_assembly.specs.Telling.{standing}
-use Rattle.candidate_assembly.proofs.ImplSteps.{declared-run, header-there, kinds-fit, moved-run, no-impl-run, outlives-owned, wheres-owned}
+use Rattle.candidate_assembly.proofs.ImplSteps.{declared-run, kinds-fit, moved-run}
 use Rattle.candidate_assembly.proofs.trait_goals.impls.follow_impl.Goals as goal
 
 pub declared_by-requires : goal.declared_by-requires
@@ -63,7 +62,7 @@ returns-in_err-equate_and_nest-clause-refused g c =
     let given : IfSome (impl_at old c.args.of) (ImplIsGiven old) = subst (λ (x : Context). IfSome (impl_at x c.args.of) (ImplIsGiven x)) c.cx.ensures c.impl_is_given.ensures in
     let p = err_from_is_err_and c.from_residual-in_err-equate_and_nest.result c.from_residual-in_err-equate_and_nest.ensures.1 in
     rw p.1 (λ n. declared-run old mid c.args.of ls d k.grows is given J e (E.state c.args.ecx.now) T a c.as_slice.result.now c.as_slice-2.result.now (Over Refused) c.as_slice.ensures.value c.as_slice-2.ensures.value
-    c.in_ok-locals.ensures.state c.in_ok-locals.ensures.trees 
+    c.in_ok-locals.ensures.state c.in_ok-locals.ensures.trees
     (moved-run E.judge (E.fixed c.args.ecx.now) (E.fixed c.fresh_args_for_impl.new.ecx) e (env_forest mid.trees c.args.env) (standing T ls) a (args_forest mid.trees c.args.args) (args_forest mid.trees d.header)
     (map (clause_tree mid.trees) c.as_slice.result.now) (map (clause_tree mid.trees) c.as_slice-2.result.now) (Over Refused)
     k.fixed_same (env-kept old mid c.args.env k.grows c.requires.env).1 (args-kept old mid c.args.args k.grows c.requires.args).1 (c.in_err-equate_and_nest.ensures.refused (sym p.2 ∙ n))))

@@ -1,4 +1,4 @@
-use Rattle.std.proofs.Common.{◌≡◌, add-one, arith, drop, slice_index_or, ◌+◌, ◌∷◌, ◌<◌, length, ◌∙◌}
+use Rattle.std.proofs.Common.{◌≡◌, add-one, drop, slice_index_or, ◌+◌, ◌∷◌}
 use Rattle.std.proofs.lemmas.Result.{err_from_is_err_and}
 use Rattle.std.proofs.Math.Seq.{drop-cons}
 use Rattle.candidate_ir.specs.Words.{args_forest, clause_tree, env_forest}
