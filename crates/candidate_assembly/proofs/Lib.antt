@@ -1,3 +1,4 @@
 pub mod Stepping
 pub mod Keeping
 pub mod ImplSteps
+pub mod ImplsBelow
