@@ -9,3 +9,5 @@ pub mod PartClauses
 pub mod PartsTold
 pub mod Characterizing
 pub mod CharacterizingCases
+pub mod ImplSteps
+pub mod ImplsBelow

@@ -6,3 +6,4 @@ pub mod BuiltinRules
 pub mod TraitRules
 pub mod Staying
 pub mod Characterizing
+pub mod Impls
