@@ -26,10 +26,12 @@ use Rattle.candidate_ir.specs.Contents.{Bounds}
 use Rattle.candidate_ir.specs.Declaring.{bounds_at, trait_at}
 use Rattle.candidate_ir.specs.Folding.{substituted_tree}
 use Rattle.candidate_ir.specs.Opening.{opened_tree}
+use Rattle.candidate_ir.specs.declared.ir.heads.Flag.TheVariants as F
+use Rattle.candidate_ir.specs.Flags.{mark}
 use Rattle.candidate_ir.specs.Impls.{relevant_impls}
 use Rattle.candidate_ir.specs.Lookups.{adt_flags, definition, maybe, trait_flags}
 use Rattle.candidate_ir.specs.Supers.{after_first}
-use Rattle.candidate_ir.specs.Trees.{Kind, Forest, none, tree, Tree, holds, is_error}
+use Rattle.candidate_ir.specs.Trees.{Kind, Forest, none, tree, Tree, holds}
 use Rattle.candidate_ir.specs.Words.{args_forest, clause_tree}
 use Rattle.candidate_eval.specs.declared.eval.source.CandidateSource.{CandidateSource}
 use Rattle.candidate_eval.specs.declared.eval.source.CandidateSource.TheVariants.{BuiltinImpl}
@@ -128,9 +130,9 @@ abbrev pub parts_rule : TraitGoal → Bool → CandidateSource → Cell → Rule
 parts_rule g applies s (Asks p) = entered_rule g applies s (binder_kinds p.variables) p.types
 parts_rule g applies s _ = no_rule g
 
--- The predicate holds an error.
+-- The predicate holds an error, be it a type, a constant or a region.
 abbrev pub error_rule : TraitGoal → Rule
-error_rule g = plain_rule g (holds is_error g.reference.arguments)
+error_rule g = plain_rule g (holds (mark F.Error) g.reference.arguments)
 
 -- Auto traits: the parts of a type that no impl may be for.
 
