@@ -8,7 +8,7 @@ use Rattle.rounds_judge.specs.Standing.{IsListing}
 use Rattle.rounds_judge.specs.RoundsJudge.{rounds_judge}
 use Rattle.rounds_judge.proofs.EquationLaws.{equation_laws}
 use Rattle.rounds_judge.proofs.JudgeLaws.{alike_judged_alike, normal_form_laws, empty_is_answered, yes_was_asked}
-use Rattle.rounds_judge.proofs.Settling.{settling_follows}
+use Rattle.rounds_judge.proofs.ParameterlessGoals.{settling_follows}
 use Rattle.rounds_judge.proofs.Granting.{granted_stays}
 use Rattle.rounds_judge.proofs.Dropped.{settling_drops_granted}
 use Rattle.rounds_judge.proofs.Responding.{empty_is_of_state, yes_is_granted}
