@@ -1,12 +1,12 @@
 -- The laws of an evaluator. They speak of its judge.
-use Rattle.std.specs.Prelude.{◌≡◌, ◌≤◌, Bool, true, false, Some, None, List, [], length}
+use Rattle.std.specs.Prelude.{◌≡◌, ◌≤◌, ℕ, Bool, true, false, Some, None, List, [], length}
 use Rattle.std.specs.List.{All}
 use Rattle.candidate_ir.specs.Trees.{Kind, TypeKind, ConstantKind, Forest, Tree, kind_of, erase, holds, is_alias, is_error, is_param}
 use Rattle.candidate_ir.specs.Substitutions.{Substitution, alone, apply}
 use Rattle.candidate_eval.specs.Certainties.{Certainty, Yes}
 use Rattle.candidate_eval.specs.Responses.{Response}
-use Rattle.candidate_eval.specs.States.{Env, State, Goal, Pending, Judge, resolved}
-use Rattle.candidate_eval.specs.Alike.{JudgesAlike}
+use Rattle.candidate_eval.specs.States.{Env, State, Goal, Pending, Judge, VariableInfo, resolved}
+use Rattle.candidate_eval.specs.Alike.{JudgesAlike, info}
 use Rattle.candidate_eval.specs.Soundness.{Live, OfValues, ValuesFit, AreLeaves, AreTreesOf, IsSound, IsResolved, IsSolution, AgreesOn, Within, Follows, GoalIsOf, GoalsAreOf}
 use Rattle.candidate_eval.specs.Instances.{IsResponseOf}
 
@@ -81,11 +81,20 @@ pub record GoalHasNoParameter (g : Goal) : Type 0 where
 abbrev pub GoalsHaveNoParameter : List Pending → Type 0
 GoalsHaveNoParameter ps = All (λ (p : Pending). GoalHasNoParameter p.goal) ps
 
--- The state follows, and these are goals of it. Where there was no parameter before, none is brought in.
+-- No parameter stands in the regions that are recorded.
+abbrev pub RegionsHaveNoParameter : State → Type 0
+RegionsHaveNoParameter S = All (λ t. holds is_param (alone t) ≡ false) S.regions
+
+-- The state follows, and these are goals of it. Where there was no parameter before, none is brought in, into recorded regions neither.
 pub record LeavesGoals (S T : State) (L : Live) (ps : List Pending) (none_before : Type 0) : Type 0 where
   pub follows : Follows S T L
   pub goals : GoalsAreOf T follows.live ps
   pub no_parameter : none_before → HasNoParameter T follows.live × GoalsHaveNoParameter ps
+  pub regions_without : none_before → RegionsHaveNoParameter S → RegionsHaveNoParameter T
+
+-- The variables that the goal came with count.
+abbrev pub RootsCount : State → Live → Type 0
+RootsCount S L = (n : ℕ) (i : VariableInfo) → info S n ≡ Some i → i.is_root ≡ true → L n ≡ true
 
 pub record NormalFormLaws (J : Judge) : Type 0 where
   -- A type or constant that is resolved and no alias is normal.
@@ -128,6 +137,9 @@ pub record GrantedLaws (J : Judge) : Type 0 where
   -- What settling drops or replaces is granted at every state that follows and grants what settling leaves.
   pub settling_drops_granted : (S T U : State) (L : Live) (c : Certainty) → IsSound S L → ValuesFit S L → GoalsAreOf S L S.pending → J.settled S ≡ Some (c, T)
       → (f : Follows S T L) → GoalsAreOf T f.live T.pending → Follows T U f.live → AreGranted J U T.pending → AreGranted J U S.pending
+  -- Where there was no parameter before, none stands in the values that a response says.
+  pub responding_brings_none : (S : State) (L : Live) (c : Certainty) (r : Response) → IsSound S L → ValuesFit S L → GoalsAreOf S L S.pending → RootsCount S L
+      → HasNoParameter S L → GoalsHaveNoParameter S.pending → J.responded S c ≡ Some r → holds is_param r.values ≡ false
   -- What is granted stays so at every state that follows.
   pub granted_stays : (S T : State) (L : Live) (g : Goal) → IsSound S L → ValuesFit S L → GoalIsOf S L g → Follows S T L → J.granted S g → J.granted T g
 

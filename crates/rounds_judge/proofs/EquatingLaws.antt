@@ -4,7 +4,7 @@ use Rattle.std.proofs.lemmas.List.Elements.{All-nil}
 use Rattle.candidate_ir.specs.Trees.{Forest, holds, is_param}
 use Rattle.candidate_eval.specs.States.{State, Pending}
 use Rattle.candidate_eval.specs.Soundness.{Live, IsSound, ValuesFit, AreTreesOf, GoalIsOf}
-use Rattle.candidate_eval.specs.Lawful.{GoalHasNoParameter, HasNoParameter, LeavesGoals}
+use Rattle.candidate_eval.specs.Lawful.{GoalHasNoParameter, HasNoParameter, LeavesGoals, RegionsHaveNoParameter}
 use Rattle.rounds_judge.specs.Listed.{Listing}
 use Rattle.rounds_judge.specs.Equating.{Pair, equated, looks, without_goals}
 use Rattle.rounds_judge.specs.Standing.{IsListing}
@@ -36,5 +36,9 @@ equating_follows l listing S T L env a b gs sound fits left right e =
     (record {
       follows = record { live = L; within = λ n l c. c; sound = k.sound; fits = fits_later k.later fits; later = k.later };
       goals = All-nil (λ (p : Pending). GoalIsOf T L p.goal);
-      no_parameter = λ free. (equated-free l listing S T L a b sound fits left right free.0 free.2 free.3 n.is, All-nil (λ (p : Pending). GoalHasNoParameter p.goal));
+      no_parameter = λ free. (
+        (equated-free l listing S T L (RegionsHaveNoParameter S) a b sound fits left right free.0 (λ r. r) free.2 free.3 n.is).values,
+        All-nil (λ (p : Pending). GoalHasNoParameter p.goal),
+      );
+      regions_without = λ free r. (equated-free l listing S T L (RegionsHaveNoParameter S) a b sound fits left right free.0 (λ r. r) free.2 free.3 n.is).regions r;
     })

@@ -37,3 +37,4 @@ pub mod Stepping
 pub mod WellListed
 pub mod Parameterless
 pub mod ParameterlessGoals
+pub mod ParameterlessResponses

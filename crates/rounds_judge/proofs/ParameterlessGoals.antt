@@ -18,7 +18,7 @@ use Rattle.candidate_eval.specs.declared.eval.certainty.Certainty.{Certainty}
 use Rattle.candidate_eval.specs.States.{State, Goal, Pending, resolved_tree, with_pending, with_universe, placeholder, next}
 use Rattle.candidate_eval.specs.Characterization.{is_any_bound, Bounded, bound_kinds, group_at}
 use Rattle.candidate_eval.specs.Soundness.{Live, IsSound, ValuesFit, IsLater, AreTreesOf, GoalIsOf, GoalsAreOf, is_strange}
-use Rattle.candidate_eval.specs.Lawful.{GoalHasNoParameter, GoalsHaveNoParameter, HasNoParameter, LeavesGoals}
+use Rattle.candidate_eval.specs.Lawful.{GoalHasNoParameter, GoalsHaveNoParameter, HasNoParameter, LeavesGoals, RegionsHaveNoParameter}
 use Rattle.candidate_eval.proofs.Holds.{holds_parts}
 use Rattle.rounds_judge.specs.Listed.{Listing, listed}
 use Rattle.rounds_judge.specs.Standing.{IsListing}
@@ -34,9 +34,11 @@ use Rattle.rounds_judge.proofs.Settling.{after_first_marked, facts_of, goal_late
 use Rattle.rounds_judge.proofs.Parameterless.{equated-free}
 use Rattle.std.specs.List.{All}
 
-pub record StaysFree (L : Live) (q : List Pending × State) : Type 0 where
+-- No parameter stands in values and goals; nor in recorded regions, where none did before.
+pub record StaysFree (before : Type 0) (L : Live) (q : List Pending × State) : Type 0 where
   pub values : HasNoParameter q.1 L
   pub goals : GoalsHaveNoParameter q.0
+  pub regions : before → RegionsHaveNoParameter q.1
 
 bound_free : (h : Head) → is_any_bound h ≡ true → is_param h ≡ false
 bound_free (H.Bound v) e = refl
@@ -73,38 +75,41 @@ term_free (tree h below rest) m =
     let k = holds_parts is_param h below rest m in
     last_free (record { head = h; children = below }) rest (whole is_param h below none k.here k.under refl) k.others
 
-module _ (l : Listing) (listing : IsListing l) (L : Live) where
-  module _ (S : State) (sound : IsSound S L) (fits : ValuesFit S L) (free : HasNoParameter S L) (p : Pending) (goal : GoalHasNoParameter p.goal) where
-    staying : StaysFree L (p ∷ [], S)
-    staying = record { values = free; goals = All-cons (λ (p : Pending). GoalHasNoParameter p.goal) p [] goal (All-nil (λ (p : Pending). GoalHasNoParameter p.goal)) }
+module _ (l : Listing) (listing : IsListing l) (L : Live) (before_it : Type 0) where
+  module _ (S : State) (sound : IsSound S L) (fits : ValuesFit S L) (free : HasNoParameter S L) (none_recorded : before_it → RegionsHaveNoParameter S) (p : Pending) (goal : GoalHasNoParameter p.goal) where
+    staying : StaysFree before_it L (p ∷ [], S)
+    staying = record { values = free; goals = All-cons (λ (p : Pending). GoalHasNoParameter p.goal) p [] goal (All-nil (λ (p : Pending). GoalHasNoParameter p.goal)); regions = none_recorded }
 
-    recording : (c : Tree) → StaysFree L ([], recorded S c)
-    recording c = record { values = free; goals = All-nil (λ (p : Pending). GoalHasNoParameter p.goal) }
+    recording : (c : Tree) → holds is_param (alone c) ≡ false → StaysFree before_it L ([], recorded S c)
+    recording c n = record {
+      values = free;
+      goals = All-nil (λ (p : Pending). GoalHasNoParameter p.goal);
+      regions = λ b. All-append (λ t. holds is_param (alone t) ≡ false) S.regions (c ∷ []) (none_recorded b) (All-cons (λ t. holds is_param (alone t) ≡ false) c [] n (All-nil (λ t. holds is_param (alone t) ≡ false)));
+    }
 
     projecting : (i : AssocId) (ts : Forest) → AreTreesOf S L ts → holds is_param ts ≡ false → (o : Option Tree) → listed l (resolved_tree S (alias_of i ts)) ≡ o
-        → (q : List Pending × State) → projected l S p (term_of ts) o ≡ Some q → StaysFree L q
-    projecting i ts a m None f q e = same_outcome (StaysFree L) (p ∷ [], S) q e staying
+        → (q : List Pending × State) → projected l S p (term_of ts) o ≡ Some q → StaysFree before_it L q
+    projecting i ts a m None f q e = same_outcome (StaysFree before_it L) (p ∷ [], S) q e staying
     projecting i ts a m (Some u) f q e =
         let n = no_goals (equated l S (alone u) (alone (term_of ts))) q.0 q.1 e in
         let type : AreTreesOf S L (alone u) = record { known = listed_known l listing (resolved_tree S (alias_of i ts)) u f S L; is_closed = (listed_fixed l listing (resolved_tree S (alias_of i ts)) u f).is_closed } in
-        record {
-          values = equated-free l listing S q.1 L (alone u) (alone (term_of ts)) sound fits type (term_is_of S L ts a) free (listed_fixed l listing (resolved_tree S (alias_of i ts)) u f).no_parameter (term_free ts m) n.is;
-          goals = subst GoalsHaveNoParameter n.none (All-nil (λ (p : Pending). GoalHasNoParameter p.goal));
-        }
+        let left =
+        equated-free l listing S q.1 L before_it (alone u) (alone (term_of ts)) sound fits type (term_is_of S L ts a) free none_recorded (listed_fixed l listing (resolved_tree S (alias_of i ts)) u f).no_parameter (term_free ts m) n.is in
+        record { values = left.values; goals = subst GoalsHaveNoParameter n.none (All-nil (λ (p : Pending). GoalHasNoParameter p.goal)); regions = left.regions }
 
-    instance_stays : (ts : Forest) → AreTreesOf S L ts → holds is_param ts ≡ false → (h : Head) (q : List Pending × State) → tried_as l S p ts h ≡ Some q → StaysFree L q
+    instance_stays : (ts : Forest) → AreTreesOf S L ts → holds is_param ts ≡ false → (h : Head) (q : List Pending × State) → tried_as l S p ts h ≡ Some q → StaysFree before_it L q
     instance_stays ts a m (H.Part (P.Clause (Cl.Projection i))) q e = projecting i ts a m (listed l (resolved_tree S (alias_of i ts))) refl q e
-    instance_stays ts a m (H.Part (P.Clause Cl.TypeOutlives)) q e = same_outcome (StaysFree L) ([], recorded S p.goal.clause) q e (recording p.goal.clause)
-    instance_stays ts a m (H.Part (P.Clause Cl.RegionOutlives)) q e = same_outcome (StaysFree L) ([], recorded S p.goal.clause) q e (recording p.goal.clause)
-    instance_stays ts a m _ q e = same_outcome (StaysFree L) (p ∷ [], S) q e staying
+    instance_stays ts a m (H.Part (P.Clause Cl.TypeOutlives)) q e = same_outcome (StaysFree before_it L) ([], recorded S p.goal.clause) q e (recording p.goal.clause goal.clause)
+    instance_stays ts a m (H.Part (P.Clause Cl.RegionOutlives)) q e = same_outcome (StaysFree before_it L) ([], recorded S p.goal.clause) q e (recording p.goal.clause goal.clause)
+    instance_stays ts a m _ q e = same_outcome (StaysFree before_it L) (p ∷ [], S) q e staying
 
-  tried_free : (S : State) → IsSound S L → ValuesFit S L → HasNoParameter S L → (p : Pending) → GoalIsOf S L p.goal → GoalHasNoParameter p.goal → (q : List Pending × State) → tried l S p ≡ Some q → StaysFree L q
-  tried_free S sound fits free p of goal q e = at (bound_kinds p.goal.clause.children) e
+  tried_free : (S : State) → IsSound S L → ValuesFit S L → HasNoParameter S L → (before_it → RegionsHaveNoParameter S) → (p : Pending) → GoalIsOf S L p.goal → GoalHasNoParameter p.goal → (q : List Pending × State) → tried l S p ≡ Some q → StaysFree before_it L q
+  tried_free S sound fits free none_recorded p of goal q e = at (bound_kinds p.goal.clause.children) e
     where
       at : (ks : List Kind)
-          → (let f = group_at S (Bounded ks (after_first p.goal.clause.children)) in tried_as l f.0 (instance_of p ks f.1) f.1 p.goal.clause.head) ≡ Some q → StaysFree L q
+          → (let f = group_at S (Bounded ks (after_first p.goal.clause.children)) in tried_as l f.0 (instance_of p ks f.1) f.1 p.goal.clause.head) ≡ Some q → StaysFree before_it L q
       at [] e =
-          instance_stays S sound fits free p goal (opens 0 [] 0 (after_first p.goal.clause.children)) (facts_of S L 0 [] p.goal.clause (omega arith) of.clause) (facts_free 0 [] p.goal.clause goal.clause) p.goal.clause.head q e
+          instance_stays S sound fits free none_recorded p goal (opens 0 [] 0 (after_first p.goal.clause.children)) (facts_of S L 0 [] p.goal.clause (omega arith) of.clause) (facts_free 0 [] p.goal.clause goal.clause) p.goal.clause.head q e
       at (k ∷ ks) e =
           let R : State = with_universe S in
           let lead = lead_universe S L sound in
@@ -112,59 +117,59 @@ module _ (l : Listing) (listing : IsListing l) (L : Live) where
           let facts = facts_of R L (suc S.newest_universe) (k ∷ ks) p.goal.clause (omega arith) there.clause in
           let ts : Forest = opens (suc S.newest_universe) (k ∷ ks) 0 (after_first p.goal.clause.children) in
           let none_in = facts_free (suc S.newest_universe) (k ∷ ks) p.goal.clause goal.clause in
-          instance_stays R lead.sound (fits_later lead.later fits) free (instance_of p (k ∷ ks) ts) (instance_free p (k ∷ ks) ts goal none_in) ts facts none_in p.goal.clause.head q e
+          instance_stays R lead.sound (fits_later lead.later fits) free none_recorded (instance_of p (k ∷ ks) ts) (instance_free p (k ∷ ks) ts goal none_in) ts facts none_in p.goal.clause.head q e
 
-  all_tried_free : (S : State) → IsSound S L → ValuesFit S L → HasNoParameter S L → (ps : List Pending) → GoalsAreOf S L ps → GoalsHaveNoParameter ps → (q : List Pending × State) → tried_all l S ps ≡ Some q → StaysFree L q
-  all_tried_free S sound fits free [] of goals q e = same_outcome (StaysFree L) ([], S) q e (record { values = free; goals = goals })
-  all_tried_free S sound fits free (p ∷ ps) of goals q e =
-      at (tried l S p) refl (λ R sound fits free of r e. all_tried_free R sound fits free ps of (All-tail (λ (p : Pending). GoalHasNoParameter p.goal) p ps goals) r e) e
+  all_tried_free : (S : State) → IsSound S L → ValuesFit S L → HasNoParameter S L → (before_it → RegionsHaveNoParameter S) → (ps : List Pending) → GoalsAreOf S L ps → GoalsHaveNoParameter ps → (q : List Pending × State) → tried_all l S ps ≡ Some q → StaysFree before_it L q
+  all_tried_free S sound fits free none_recorded [] of goals q e = same_outcome (StaysFree before_it L) ([], S) q e (record { values = free; goals = goals; regions = none_recorded })
+  all_tried_free S sound fits free none_recorded (p ∷ ps) of goals q e =
+      at (tried l S p) refl (λ R sound fits free recorded_then of r e. all_tried_free R sound fits free recorded_then ps of (All-tail (λ (p : Pending). GoalHasNoParameter p.goal) p ps goals) r e) e
     where
-      rest : (r : List Pending × State) → StaysFree L r → (o : Outcome) → ((s : List Pending × State) → o ≡ Some s → StaysFree L s) → before r.0 o ≡ Some q → StaysFree L q
+      rest : (r : List Pending × State) → StaysFree before_it L r → (o : Outcome) → ((s : List Pending × State) → o ≡ Some s → StaysFree before_it L s) → before r.0 o ≡ Some q → StaysFree before_it L q
       rest r left None f e = cc
       rest r left (Some s) f e =
           let more = f s refl in
-          same_outcome (StaysFree L) (r.0 ++ s.0, s.1) q e (record { values = more.values; goals = All-append (λ (p : Pending). GoalHasNoParameter p.goal) r.0 s.0 left.goals more.goals })
+          same_outcome (StaysFree before_it L) (r.0 ++ s.0, s.1) q e (record { values = more.values; goals = All-append (λ (p : Pending). GoalHasNoParameter p.goal) r.0 s.0 left.goals more.goals; regions = more.regions })
 
       at : (o : Outcome) → tried l S p ≡ o
-          → ((R : State) → IsSound R L → ValuesFit R L → HasNoParameter R L → GoalsAreOf R L ps → (r : List Pending × State) → tried_all l R ps ≡ Some r → StaysFree L r)
-          → next o (λ r. before r.0 (tried_all l r.1 ps)) ≡ Some q → StaysFree L q
+          → ((R : State) → IsSound R L → ValuesFit R L → HasNoParameter R L → (before_it → RegionsHaveNoParameter R) → GoalsAreOf R L ps → (r : List Pending × State) → tried_all l R ps ≡ Some r → StaysFree before_it L r)
+          → next o (λ r. before r.0 (tried_all l r.1 ps)) ≡ Some q → StaysFree before_it L q
       at None f ih e = cc
       at (Some r) f ih e =
           let left = tried_leaves l listing L S sound fits p (All-head (λ (p : Pending). GoalIsOf S L p.goal) p ps of) r f in
-          let stay = tried_free S sound fits free p (All-head (λ (p : Pending). GoalIsOf S L p.goal) p ps of) (All-head (λ (p : Pending). GoalHasNoParameter p.goal) p ps goals) r f in
+          let stay = tried_free S sound fits free none_recorded p (All-head (λ (p : Pending). GoalIsOf S L p.goal) p ps of) (All-head (λ (p : Pending). GoalHasNoParameter p.goal) p ps goals) r f in
           rest r stay (tried_all l r.1 ps)
-          (λ s g. ih r.1 left.leads.sound (fits_later left.leads.later fits) stay.values (goals_later S r.1 L left.leads.later ps (All-tail (λ (p : Pending). GoalIsOf S L p.goal) p ps of)) s g) e
+          (λ s g. ih r.1 left.leads.sound (fits_later left.leads.later fits) stay.values stay.regions (goals_later S r.1 L left.leads.later ps (All-tail (λ (p : Pending). GoalIsOf S L p.goal) p ps of)) s g) e
 
-  pass_free : (S T : State) → IsSound S L → ValuesFit S L → HasNoParameter S L → GoalsAreOf S L S.pending → GoalsHaveNoParameter S.pending → pass l S ≡ Some T → StaysFree L (T.pending, T)
-  pass_free S T sound fits free of goals e = at (tried_all l S S.pending) refl e
+  pass_free : (S T : State) → IsSound S L → ValuesFit S L → HasNoParameter S L → (before_it → RegionsHaveNoParameter S) → GoalsAreOf S L S.pending → GoalsHaveNoParameter S.pending → pass l S ≡ Some T → StaysFree before_it L (T.pending, T)
+  pass_free S T sound fits free none_recorded of goals e = at (tried_all l S S.pending) refl e
     where
-      at : (o : Outcome) → tried_all l S S.pending ≡ o → next o (λ q. Some (with_staying q)) ≡ Some T → StaysFree L (T.pending, T)
+      at : (o : Outcome) → tried_all l S S.pending ≡ o → next o (λ q. Some (with_staying q)) ≡ Some T → StaysFree before_it L (T.pending, T)
       at None f e = cc
       at (Some q) f e =
-          let stay = all_tried_free S sound fits free S.pending of goals q f in
-          subst (λ (R : State). StaysFree L (R.pending, R)) (let is : with_staying q ≡ T = cc in is) (record { values = stay.values; goals = stay.goals })
+          let stay = all_tried_free S sound fits free none_recorded S.pending of goals q f in
+          subst (λ (R : State). StaysFree before_it L (R.pending, R)) (let is : with_staying q ≡ T = cc in is) (record { values = stay.values; goals = stay.goals; regions = stay.regions })
 
-  passes_free : (n : ℕ) (S T : State) → IsSound S L → ValuesFit S L → HasNoParameter S L → GoalsAreOf S L S.pending → GoalsHaveNoParameter S.pending → passes l n S ≡ Some T → StaysFree L (T.pending, T)
-  passes_free zero S T sound fits free of goals e = subst (λ (R : State). StaysFree L (R.pending, R)) (let is : S ≡ T = cc in is) (record { values = free; goals = goals })
-  passes_free (suc n) S T sound fits free of goals e = at (pass l S) refl (λ R sound fits free of goals e. passes_free n R T sound fits free of goals e) e
+  pub passes_free : (n : ℕ) (S T : State) → IsSound S L → ValuesFit S L → HasNoParameter S L → (before_it → RegionsHaveNoParameter S) → GoalsAreOf S L S.pending → GoalsHaveNoParameter S.pending → passes l n S ≡ Some T → StaysFree before_it L (T.pending, T)
+  passes_free zero S T sound fits free none_recorded of goals e = subst (λ (R : State). StaysFree before_it L (R.pending, R)) (let is : S ≡ T = cc in is) (record { values = free; goals = goals; regions = none_recorded })
+  passes_free (suc n) S T sound fits free none_recorded of goals e = at (pass l S) refl (λ R sound fits free recorded_then of goals e. passes_free n R T sound fits free recorded_then of goals e) e
     where
-      goes : (R : State) → StaysFree L (R.pending, R) → (b : Bool) → (passes l n R ≡ Some T → StaysFree L (T.pending, T)) → (if b then passes l n R else Some R) ≡ Some T → StaysFree L (T.pending, T)
+      goes : (R : State) → StaysFree before_it L (R.pending, R) → (b : Bool) → (passes l n R ≡ Some T → StaysFree before_it L (T.pending, T)) → (if b then passes l n R else Some R) ≡ Some T → StaysFree before_it L (T.pending, T)
       goes R stay true f e = f e
-      goes R stay false f e = subst (λ (R : State). StaysFree L (R.pending, R)) (let is : R ≡ T = cc in is) stay
+      goes R stay false f e = subst (λ (R : State). StaysFree before_it L (R.pending, R)) (let is : R ≡ T = cc in is) stay
 
       at : (o : Option State) → pass l S ≡ o
-          → ((R : State) → IsSound R L → ValuesFit R L → HasNoParameter R L → GoalsAreOf R L R.pending → GoalsHaveNoParameter R.pending → passes l n R ≡ Some T → StaysFree L (T.pending, T))
-          → next o (λ R. if gave_a_value S.variables R.variables then passes l n R else Some R) ≡ Some T → StaysFree L (T.pending, T)
+          → ((R : State) → IsSound R L → ValuesFit R L → HasNoParameter R L → (before_it → RegionsHaveNoParameter R) → GoalsAreOf R L R.pending → GoalsHaveNoParameter R.pending → passes l n R ≡ Some T → StaysFree before_it L (T.pending, T))
+          → next o (λ R. if gave_a_value S.variables R.variables then passes l n R else Some R) ≡ Some T → StaysFree before_it L (T.pending, T)
       at None f ih e = cc
       at (Some R) f ih e =
           let left = pass_leaves l listing L S R sound fits of f in
-          let stay = pass_free S R sound fits free of goals f in
-          goes R stay (gave_a_value S.variables R.variables) (λ e. ih R left.leads.sound (fits_later left.leads.later fits) stay.values left.goals stay.goals e) e
+          let stay = pass_free S R sound fits free none_recorded of goals f in
+          goes R stay (gave_a_value S.variables R.variables) (λ e. ih R left.leads.sound (fits_later left.leads.later fits) stay.values stay.regions left.goals stay.goals e) e
 
--- Settling goals without parameters leaves none, in values or in what stays pending.
+-- Settling goals without parameters leaves none, in values or in what stays pending; nor in recorded regions, where none was there.
 pub settled-free : (l : Listing) → IsListing l → (S T : State) (L : Live) (c : Certainty) → IsSound S L → ValuesFit S L → GoalsAreOf S L S.pending → HasNoParameter S L → GoalsHaveNoParameter S.pending
-    → settled l S ≡ Some (c, T) → StaysFree L (T.pending, T)
-settled-free l listing S T L c sound fits of free goals e = passes_free l listing L 8 S T sound fits free of goals (settled_is l S T c e)
+    → settled l S ≡ Some (c, T) → StaysFree (RegionsHaveNoParameter S) L (T.pending, T)
+settled-free l listing S T L c sound fits of free goals e = passes_free l listing L (RegionsHaveNoParameter S) 8 S T sound fits free (λ r. r) of goals (settled_is l S T c e)
 
 -- What settling leaves pending are goals of the state that it leaves, which follows.
 pub settling_follows : (l : Listing) → IsListing l → (S T : State) (L : Live) (c : Certainty) → IsSound S L → ValuesFit S L → GoalsAreOf S L S.pending → settled l S ≡ Some (c, T)
@@ -175,4 +180,5 @@ settling_follows l listing S T L c sound fits of e =
       follows = record { live = L; within = λ n l c. c; sound = left.leads.sound; fits = fits_later left.leads.later fits; later = left.leads.later };
       goals = left.goals;
       no_parameter = λ free. let stay = settled-free l listing S T L c sound fits of free.0 free.1 e in (stay.values, stay.goals);
+      regions_without = λ free r. (settled-free l listing S T L c sound fits of free.0 free.1 e).regions r;
     }
