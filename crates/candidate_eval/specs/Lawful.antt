@@ -85,7 +85,8 @@ GoalsHaveNoParameter ps = All (λ (p : Pending). GoalHasNoParameter p.goal) ps
 abbrev pub RegionsHaveNoParameter : State → Type 0
 RegionsHaveNoParameter S = All (λ t. holds is_param (alone t) ≡ false) S.regions
 
--- The state follows, and these are goals of it. Where there was no parameter before, none is brought in, into recorded regions neither.
+-- The state follows, and these are goals of it. Where there was no parameter before, none is brought in: not into values and goals, and not
+-- into the regions that are recorded, where none stood there.
 pub record LeavesGoals (S T : State) (L : Live) (ps : List Pending) (none_before : Type 0) : Type 0 where
   pub follows : Follows S T L
   pub goals : GoalsAreOf T follows.live ps

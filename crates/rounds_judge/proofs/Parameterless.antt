@@ -1,5 +1,5 @@
 -- Equating brings no parameter in.
-use Rattle.std.proofs.Common.{◌≡◌, ◌≤◌, ◌++◌, ◌&&◌, if◌then◌else◌, ℕ, zero, suc, Bool, true, false, Option, Some, None, List, [], ◌∷◌, get_or, refl, sym, ap, subst, ◌∙◌}
+use Rattle.std.proofs.Common.{◌≡◌, ◌≤◌, ◌++◌, ◌&&◌, if◌then◌else◌, ℕ, zero, suc, Bool, true, false, Option, Some, None, List, [], ◌∷◌, refl, sym, ap, subst, ◌∙◌}
 use Rattle.std.specs.Option.{unwrap_or}
 use Rattle.std.specs.List.{All}
 use Rattle.std.proofs.lemmas.List.Elements.{All-append, All-cons, All-head, All-nil, All-tail}
@@ -21,14 +21,14 @@ use Rattle.candidate_eval.specs.Evaluators.{resolved_root, root_value}
 use Rattle.candidate_eval.proofs.Holds.{holds_parts}
 use Rattle.rounds_judge.specs.Listed.{Listing, current}
 use Rattle.rounds_judge.specs.Scopes.{Scope, placed_head, placed_tree, entered, has_binder, has_variables, scope_below}
-use Rattle.rounds_judge.specs.Binding.{single, bound, may_take}
+use Rattle.rounds_judge.specs.Binding.{single, bound}
 use Rattle.rounds_judge.specs.Equating.{Pair, Visit, Done, Refused, Left, equated, looked, looks, outlives, value_for, with_equal_regions, met, visited}
 use Rattle.rounds_judge.specs.Standing.{IsListing, PairStands, Stands}
 use Rattle.rounds_judge.proofs.Marks.{fold_marked, whole}
-use Rattle.rounds_judge.proofs.Bound.{CanTake, ValueAfter, own, put, before, value_after, single_is}
+use Rattle.rounds_judge.proofs.Bound.{ValueAfter, own, put, before, value_after, single_is}
 use Rattle.rounds_judge.proofs.Current.{WhichListed, is_type, itself, listed_fixed, placed_is, root_at, value_marked, which_listed}
 use Rattle.rounds_judge.proofs.Later.{has_info, value_as_of}
-use Rattle.rounds_judge.proofs.Looks.{left_known, left_takes, looked_keeps, meets, right_known, right_takes, same_left, start_stands, visited_stands, x_known, y_known}
+use Rattle.rounds_judge.proofs.Looks.{left_known, meets, right_known, same_left, start_stands, visited_stands, x_known, y_known}
 use Rattle.rounds_judge.proofs.Staying.{entered_variables, regions_variables}
 
 pub record IsFree (p : Pair) : Type 0 where

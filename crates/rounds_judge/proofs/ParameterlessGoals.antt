@@ -1,38 +1,33 @@
 -- Settling brings no parameter in.
-use Rattle.std.proofs.Common.{◌≡◌, ◌≤◌, ℕ, zero, suc, ◌+◌, Bool, true, false, List, [], ◌∷◌, ◌++◌, Option, Some, None, nat_lt, arith, refl, ap, subst, if◌then◌else◌}
-use Rattle.std.proofs.lemmas.Bool.{le-ltb}
+use Rattle.std.proofs.Common.{◌≡◌, ℕ, zero, suc, Bool, true, false, List, [], ◌∷◌, ◌++◌, Option, Some, None, arith, refl, subst, if◌then◌else◌}
 use Rattle.std.proofs.lemmas.List.Elements.{All-append, All-head, All-tail, All-cons, All-nil}
 use Rattle.candidate_ir.specs.declared.ir.heads.Head.{Head}
 use Rattle.candidate_ir.specs.declared.ir.heads.Head.TheVariants as H
-use Rattle.candidate_ir.specs.declared.ir.heads.Builtin.TheVariants as B
 use Rattle.candidate_ir.specs.declared.ir.heads.ConstHead.TheVariants as C
 use Rattle.candidate_ir.specs.declared.ir.heads.PartHead.TheVariants as P
 use Rattle.candidate_ir.specs.declared.ir.heads.ClauseHead.TheVariants as Cl
 use Rattle.candidate_ir.specs.declared.ir.kinds.AssocId.{AssocId}
 use Rattle.candidate_ir.specs.declared.ir.kinds.RegionKind.TheVariants as R
 use Rattle.candidate_ir.specs.Trees.{Kind, ConstantKind, RegionKind, Forest, none, tree, Tree, holds, is_param}
-use Rattle.candidate_ir.specs.Binders.{escapes}
 use Rattle.candidate_ir.specs.Substitutions.{alone}
 use Rattle.candidate_ir.specs.Supers.{after_first}
 use Rattle.candidate_eval.specs.declared.eval.certainty.Certainty.{Certainty}
-use Rattle.candidate_eval.specs.States.{State, Goal, Pending, resolved_tree, with_pending, with_universe, placeholder, next}
+use Rattle.candidate_eval.specs.States.{State, Pending, resolved_tree, with_universe, placeholder, next}
 use Rattle.candidate_eval.specs.Characterization.{is_any_bound, Bounded, bound_kinds, group_at}
-use Rattle.candidate_eval.specs.Soundness.{Live, IsSound, ValuesFit, IsLater, AreTreesOf, GoalIsOf, GoalsAreOf, is_strange}
+use Rattle.candidate_eval.specs.Soundness.{Live, IsSound, ValuesFit, AreTreesOf, GoalIsOf, GoalsAreOf}
 use Rattle.candidate_eval.specs.Lawful.{GoalHasNoParameter, GoalsHaveNoParameter, HasNoParameter, LeavesGoals, RegionsHaveNoParameter}
 use Rattle.candidate_eval.proofs.Holds.{holds_parts}
 use Rattle.rounds_judge.specs.Listed.{Listing, listed}
 use Rattle.rounds_judge.specs.Standing.{IsListing}
-use Rattle.rounds_judge.specs.Equating.{Pair, looks, equated}
-use Rattle.rounds_judge.specs.Settling.{term_of, alias_of, last_or, with_facts, instance_of, recorded, Outcome, projected, tried_as, tried, before, tried_all, with_staying, pass, passes, settled, with_certainty, gave_a_value}
-use Rattle.rounds_judge.proofs.Marks.{whole, escape_parts, escape_whole, escapes_on}
-use Rattle.rounds_judge.proofs.Later.{trees_later, later_itself, later_along, later_universe, sound_universe, fits_later}
-use Rattle.rounds_judge.proofs.Looks.{SoundLater, regions_keep, looked_keeps, start_stands}
+use Rattle.rounds_judge.specs.Equating.{equated}
+use Rattle.rounds_judge.specs.Settling.{term_of, alias_of, last_or, with_facts, instance_of, recorded, Outcome, projected, tried_as, tried, before, tried_all, with_staying, pass, passes, settled, gave_a_value}
+use Rattle.rounds_judge.proofs.Marks.{whole}
+use Rattle.rounds_judge.proofs.Later.{fits_later}
 use Rattle.rounds_judge.proofs.Current.{listed_fixed, listed_known}
 use Rattle.rounds_judge.proofs.EquatingLaws.{no_goals}
-use Rattle.rounds_judge.proofs.Opening.{each_error, opened_closed, opened_marked, opens}
-use Rattle.rounds_judge.proofs.Settling.{after_first_marked, facts_of, goal_later, goals_later, instance_is_of, lead_universe, pass_leaves, same_outcome, passes_leave, settled_is, term_is_of, tried_leaves}
+use Rattle.rounds_judge.proofs.Opening.{each_error, opened_marked, opens}
+use Rattle.rounds_judge.proofs.Settling.{after_first_marked, facts_of, goal_later, goals_later, lead_universe, pass_leaves, same_outcome, passes_leave, settled_is, term_is_of, tried_leaves}
 use Rattle.rounds_judge.proofs.Parameterless.{equated-free}
-use Rattle.std.specs.List.{All}
 
 -- No parameter stands in values and goals; nor in recorded regions, where none did before.
 pub record StaysFree (before : Type 0) (L : Live) (q : List Pending × State) : Type 0 where

@@ -1,5 +1,5 @@
 -- Responding brings no parameter in: none stands in the values that a response says.
-use Rattle.std.proofs.Common.{◌≡◌, ℕ, zero, suc, ◌+◌, Bool, true, false, List, [], ◌∷◌, Option, Some, None, slice_get, if◌then◌else◌, arith, refl, sym, ap, subst, ◌∙◌}
+use Rattle.std.proofs.Common.{◌≡◌, ℕ, suc, ◌+◌, Bool, true, false, List, [], ◌∷◌, Option, Some, None, slice_get, if◌then◌else◌, arith, refl, sym, ap, subst, ◌∙◌}
 use Rattle.candidate_ir.specs.declared.ir.heads.Head.{Head}
 use Rattle.candidate_ir.specs.declared.ir.heads.Head.TheVariants as H
 use Rattle.candidate_ir.specs.declared.ir.kinds.RegionKind.TheVariants as R
@@ -10,7 +10,6 @@ use Rattle.candidate_ir.proofs.Folding.{begin}
 use Rattle.candidate_eval.specs.declared.eval.certainty.Certainty.{Certainty}
 use Rattle.candidate_eval.specs.declared.eval.variable.VariableKind.{VariableKind}
 use Rattle.candidate_eval.specs.declared.eval.variable.VariableKind.TheVariants.{Term, Region}
-use Rattle.candidate_eval.specs.Certainties.{certainty_and}
 use Rattle.candidate_eval.specs.Responses.{Response}
 use Rattle.candidate_eval.specs.States.{State, VariableInfo, variable, valued, has_kind, same_kind}
 use Rattle.candidate_eval.specs.Alike.{info}
@@ -20,11 +19,10 @@ use Rattle.candidate_eval.specs.Lawful.{GoalsHaveNoParameter, HasNoParameter, Re
 use Rattle.candidate_eval.proofs.Holds.{holds_parts}
 use Rattle.rounds_judge.specs.Listed.{Listing}
 use Rattle.rounds_judge.specs.Standing.{IsListing}
-use Rattle.rounds_judge.specs.Settling.{certainty_of}
-use Rattle.rounds_judge.specs.Responding.{open_numbers, place_of, renumbered, renumbered_region, renumbered_regions, renumbering, responded, response, root_values, roots_from}
+use Rattle.rounds_judge.specs.Responding.{open_numbers, place_of, renumbered, renumbered_region, renumbered_regions, renumbering, responded, root_values, roots_from}
 use Rattle.rounds_judge.proofs.Bound.{same_sort_itself}
 use Rattle.rounds_judge.proofs.JudgeLaws.{answered}
-use Rattle.rounds_judge.proofs.Later.{counted, fits_later}
+use Rattle.rounds_judge.proofs.Later.{counted}
 use Rattle.rounds_judge.proofs.Marks.{fold_marked, whole}
 use Rattle.rounds_judge.proofs.Parameterless.{resolved-free}
 use Rattle.rounds_judge.proofs.ParameterlessGoals.{passes_free}
