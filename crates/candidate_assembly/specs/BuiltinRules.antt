@@ -162,17 +162,28 @@ is_of_trait n _ = false
 abbrev pub bounds_name : Context → ℕ → ℕ → Bool
 bounds_name c alias n = list_any (λ (x : Clause). is_of_trait n (clause_tree c.trees x).head) (maybe [] (λ (b : Bounds). b.self_bounds) (bounds_at c alias))
 
--- whether the goal is refused before the parts are asked about, by the head of its self type
+-- Whether the head of the self type bars it from the trait: `dyn` types, parameters and placeholders; aliases, but opaque types whose own
+-- bounds don't speak of the trait; foreign types, but for a trait that types meet by default; and types with unsafe fields, where the
+-- trait is unsafe.
+abbrev pub auto_barred : Context → TraitGoal → Head → Bool
+auto_barred c g H.Dynamic = true
+auto_barred c g (H.Param n) = true
+auto_barred c g (H.Placeholder p) = true
+auto_barred c g (H.Alias AK.Opaque i) = bounds_name c i.0 g.reference.trait
+auto_barred c g (H.Alias k i) = true
+auto_barred c g (H.Foreign i) = not (flag_of_trait (λ f. f.default) c g.reference.trait)
+auto_barred c g (H.Adt i) = flag_of_trait (λ f. f.unsafe_) c g.reference.trait && flag_of_adt (λ f. f.unsafe_fields) c i.0
+auto_barred c g _ = false
+
+-- whether impls are looked for: not for aliases and errors
+abbrev pub may_have_impls : Head → Bool
+may_have_impls (H.Alias k i) = false
+may_have_impls H.Error = false
+may_have_impls _ = true
+
+-- An impl that may be for the type says otherwise than the rule.
 abbrev pub auto_refused : Context → TraitGoal → Head → Bool
-auto_refused c g H.Dynamic = true
-auto_refused c g (H.Param n) = true
-auto_refused c g (H.Placeholder p) = true
-auto_refused c g (H.Alias AK.Opaque i) = bounds_name c i.0 g.reference.trait
-auto_refused c g (H.Alias k i) = true
-auto_refused c g (H.Foreign i) = not (flag_of_trait (λ f. f.default) c g.reference.trait) || has_relevant_impl c g
-auto_refused c g H.Error = false
-auto_refused c g (H.Adt i) = has_relevant_impl c g || (flag_of_trait (λ f. f.unsafe_) c g.reference.trait && flag_of_adt (λ f. f.unsafe_fields) c i.0)
-auto_refused c g _ = has_relevant_impl c g
+auto_refused c g h = auto_barred c g h || (may_have_impls h && has_relevant_impl c g)
 
 -- an integer or floating-point variable says too little
 abbrev pub is_numeric_variable : Head → Bool

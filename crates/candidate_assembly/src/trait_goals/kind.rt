@@ -38,13 +38,11 @@ impl<E: EvalCtxt> GoalKind<E> for TraitPredicate {
 
     ghost stays = { trait_goal_stays };
 
-    fn self_ty(cx: &Cx, env: ParamEnv, predicate: Self) -> Ty {
-        let _ = env;
+    fn self_ty(cx: &Cx, _env: ParamEnv, predicate: Self) -> Ty {
         self_ty(cx, predicate.trait_ref)
     }
 
-    fn trait_ref(cx: &Cx, env: ParamEnv, predicate: Self) -> TraitRef {
-        let _ = (cx, env);
+    fn trait_ref(_cx: &Cx, _env: ParamEnv, predicate: Self) -> TraitRef {
         predicate.trait_ref
     }
 
