@@ -7,6 +7,7 @@ pub mod SelfTypes
 pub mod TraitClauses
 pub mod PartClauses
 pub mod PartsTold
+pub mod AutoTraits
 pub mod Characterizing
 pub mod CharacterizingCases
 pub mod ImplSteps
