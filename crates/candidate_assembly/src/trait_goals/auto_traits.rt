@@ -107,7 +107,8 @@ pub(crate) fn consider_auto_trait<E: EvalCtxt>(
     if matches!(head, Head::Infer(_)) {
         return consider_plain(alloc, ecx, env, positive, Certainty::AMBIGUOUS);
     }
-    let applies = positive && !is_refused(ecx.cx(), predicate, head)?;
+    let refused = is_refused(ecx.cx(), predicate, head)?;
+    let applies = positive && !refused;
     let source = CandidateSource::BuiltinImpl(BuiltinImplSource::Misc);
     consider_column(alloc, ecx, env, predicate, applies, Column::Auto, source)
 }
