@@ -3,4 +3,5 @@
 pub(crate) mod builtin;
 pub mod impls;
 pub mod kind;
+pub(crate) mod meeting;
 pub(crate) mod parts;
