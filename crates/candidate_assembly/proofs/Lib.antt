@@ -12,3 +12,5 @@ pub mod Characterizing
 pub mod CharacterizingCases
 pub mod ImplSteps
 pub mod ImplsBelow
+pub mod LangItems
+pub mod MeetingClauses

@@ -4,4 +4,5 @@ pub(crate) mod auto_traits;
 pub(crate) mod builtin;
 pub mod impls;
 pub mod kind;
+pub(crate) mod meeting;
 pub(crate) mod parts;
