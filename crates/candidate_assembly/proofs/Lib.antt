@@ -9,3 +9,4 @@ pub mod PartClauses
 pub mod PartsTold
 pub mod Characterizing
 pub mod CharacterizingCases
+pub mod Clauses
