@@ -10,3 +10,4 @@ pub mod PartsTold
 pub mod Characterizing
 pub mod CharacterizingCases
 pub mod Clauses
+pub mod Answering
