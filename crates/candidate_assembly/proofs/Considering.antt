@@ -23,7 +23,7 @@ use Rattle.candidate_assembly.specs.Telling.{Considers, StopsOfItself, Told}
 use Rattle.candidate_assembly.proofs.Stepping.{evaluator-own, making-own, told-kept}
 use Rattle.candidate_assembly.proofs.Causes.{asked-here, caused, later, made-here}
 
-not-both : (b : Bool) → b ≡ true → b ≡ false → ⊥
+pub not-both : (b : Bool) → b ≡ true → b ≡ false → ⊥
 not-both true p q = absurd cc
 not-both false p q = absurd cc
 

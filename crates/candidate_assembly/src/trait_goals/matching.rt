@@ -76,10 +76,7 @@ pub(crate) fn fast_reject(
                     predicate.trait_ref.args,
                     said.trait_ref.args,
                     RightSide::Plain,
-                ) =>
-        {
-            Ok(())
-        }
+                ) => { Ok(()) }
         _ => Err(NoSolution),
     }
 }
@@ -111,11 +108,7 @@ pub(crate) fn equate_clause<E: EvalCtxt>(
 }
 
 /// Matches a clause that passes quick rejection, and answers what the closure answers then.
-pub(crate) fn match_clause<
-    E: EvalCtxt,
-    R,
-    F: FnOnce(&mut E) -> Result<R, NoSolutionOrStop>,
->(
+pub(crate) fn match_clause<E: EvalCtxt, R, F: FnOnce(&mut E) -> Result<R, NoSolutionOrStop>>(
     alloc: Global,
     ecx: &mut E,
     env: ParamEnv,
