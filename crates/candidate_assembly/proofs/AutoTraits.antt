@@ -1,6 +1,6 @@
 -- The side conditions of auto traits.
 use Rattle.std.proofs.Common.{◌≡◌, ℕ, Bool, true, false, List, [], ◌∷◌, refl, sym, ap, subst, ◌∙◌}
-use Rattle.std.specs.Prelude.{◌||◌, ◌&&◌, not}
+use Rattle.std.specs.Prelude.{◌||◌, ◌&&◌, not, if◌then◌else◌}
 use Rattle.std.specs.List.{list_any}
 use Rattle.candidate_ir.specs.declared.ir.heads.Builtin.{Builtin}
 use Rattle.candidate_ir.specs.declared.ir.heads.Builtin.TheVariants as B
@@ -22,8 +22,9 @@ use Rattle.candidate_ir.specs.Words.{clause_tree}
 use Rattle.candidate_ir.specs.Worlds.{Reference}
 use Rattle.candidate_eval.specs.declared.structural.Column.TheVariants as C
 use Rattle.candidate_eval.specs.Callable.{is_unknown}
+use Rattle.candidate_eval.specs.ImplRules.{TraitGoal}
 use Rattle.candidate_eval.specs.Tables.{cell, is_excluded, row_of}
-use Rattle.candidate_assembly.specs.BuiltinRules.{auto_barred, auto_refused, bounds_name, is_numeric_variable, is_of_trait, may_have_impls}
+use Rattle.candidate_assembly.specs.BuiltinRules.{ambiguous_rule, auto_barred, auto_refused, auto_rule, bounds_name, is_numeric_variable, is_of_trait, misc, parts_rule, positive, self_of}
 
 abbrev pub speaks : List Tree → TraitId → Clause → Bool
 speaks ts of x = is_of_trait of.0 (clause_tree ts x).head
@@ -96,3 +97,20 @@ unbarred-known c of t (H.List x) e k u n a = list x k
 pub auto-known : (c : Context) (r : Reference) (t : Tree) → kind_of t.head ≡ TypeKind → is_unknown t.head ≡ false → is_numeric_variable t.head ≡ false → auto_refused c r t.head ≡ false
     → is_excluded (cell C.Auto (row_of c t)) ≡ false
 auto-known c r t k u n a = unbarred-known c r.trait t t.head refl k u n (or-first _ _ a)
+
+-- where the rule doesn't ask for ambiguity, it is that over the column
+pub auto-is : (c : Context) (g : TraitGoal) (applies : Bool) → is_numeric_variable (self_of g).head ≡ false → applies ≡ (positive g && not (auto_refused c g.reference (self_of g).head))
+    → parts_rule g applies misc (cell C.Auto (row_of c (self_of g))) ≡ auto_rule c g
+auto-is c g applies n a =
+    ap (λ b. parts_rule g b misc (cell C.Auto (row_of c (self_of g)))) a
+    ∙ sym (ap (λ b. if b then ambiguous_rule g (positive g) else parts_rule g (positive g && not (auto_refused c g.reference (self_of g).head)) misc (cell C.Auto (row_of c (self_of g)))) n)
+
+pub auto-ambiguous : (c : Context) (g : TraitGoal) → is_numeric_variable (self_of g).head ≡ true → ambiguous_rule g (positive g) ≡ auto_rule c g
+auto-ambiguous c g n =
+    sym (ap (λ b. if b then ambiguous_rule g (positive g) else parts_rule g (positive g && not (auto_refused c g.reference (self_of g).head)) misc (cell C.Auto (row_of c (self_of g)))) n)
+
+-- applying, nothing is refused
+pub not-refused : (p r : Bool) → (p && not r) ≡ true → r ≡ false
+not-refused true true e = absurd cc
+not-refused true false e = refl
+not-refused false r e = absurd cc

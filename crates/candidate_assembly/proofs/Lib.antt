@@ -14,3 +14,5 @@ pub mod ImplSteps
 pub mod ImplsBelow
 pub mod LangItems
 pub mod MeetingClauses
+pub mod Clauses
+pub mod Answering
