@@ -8,6 +8,7 @@ pub mod TraitClauses
 pub mod PartClauses
 pub mod PartsTold
 pub mod AutoTraits
+pub mod TraitAliases
 pub mod Characterizing
 pub mod CharacterizingCases
 pub mod ImplSteps
