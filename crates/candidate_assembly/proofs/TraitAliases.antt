@@ -1,9 +1,14 @@
 -- Where clauses of traits, with arguments in the place of parameters.
-use Rattle.std.proofs.Common.{◌≡◌, ℕ, ◌<◌, length, Bool, false, List, [], ◌∷◌, map, refl, sym, ap, subst, ◌∙◌}
-use Rattle.std.specs.Prelude.{All, slice_index_or}
+use Rattle.std.proofs.Common.{◌≡◌, ℕ, zero, suc, ◌<◌, arith, Bool, false, List, [], ◌∷◌, map, refl, sym, ap, subst, ◌∙◌}
 use Rattle.std.specs.List.{flat_map}
 use Rattle.candidate_ir.specs.declared.ir.kinds.Args.{Args}
 use Rattle.candidate_ir.specs.declared.ir.kinds.Clause.{Clause}
+use Rattle.candidate_ir.specs.declared.ir.kinds.GoalSource.TheVariants.{Misc}
+use Rattle.candidate_eval.specs.declared.eval.certainty.Certainty.TheVariants.{Yes}
+use Rattle.candidate_eval.specs.ImplRules.{TraitGoal}
+use Rattle.candidate_eval.specs.States.{Env}
+use Rattle.candidate_assembly.specs.BuiltinRules.{misc, positive}
+use Rattle.candidate_assembly.specs.Telling.{HaveNoParameter, flat_rule}
 use Rattle.candidate_ir.specs.Context.{Context, Grows}
 use Rattle.candidate_ir.specs.Owned.{ClausesAreOwned}
 use Rattle.candidate_ir.specs.Folding.{lacks_argument, substituted_tree}
@@ -31,3 +36,20 @@ put-still old new a x g i k = ap (λ (f : Forest). substituted_tree f (clause_tr
 
 pub owned-read : (c d : Context) (a : Args) (xs ws : List Clause) → d ≡ c → xs ≡ ws → ClausesAreOwned d.trees (args_forest d.trees a) ws → ClausesAreOwned c.trees (args_forest c.trees a) xs
 owned-read c d a xs ws e s o = subst (λ (y : Context). ClausesAreOwned y.trees (args_forest y.trees a) xs) e (subst (ClausesAreOwned d.trees (args_forest d.trees a)) (sym s) o)
+
+-- clauses that are made by putting in trees without parameters have none
+pub free-clauses : (ts : List Tree) (xs ws : List Clause) (f : Clause → Tree) → map (clause_tree ts) xs ≡ map f ws → ((w : Clause) → tree_holds is_param (f w) ≡ false) → HaveNoParameter ts xs
+free-clauses ts [] ws f e h = λ k d l. absurd (omega (arith, l))
+free-clauses ts (x ∷ xs) [] f e h = absurd cc
+free-clauses ts (x ∷ xs) (w ∷ ws) f e h =
+    let here : clause_tree ts x ≡ f w = cc in
+    let rest : map (clause_tree ts) xs ≡ map f ws = cc in
+    begins (ap (tree_holds is_param) here ∙ h w) (free-clauses ts xs ws f rest h)
+  where
+    begins : tree_holds is_param (clause_tree ts x) ≡ false → HaveNoParameter ts xs → HaveNoParameter ts (x ∷ xs)
+    begins now more zero d l = now
+    begins now more (suc k) d l = more k d (omega (arith, l))
+
+-- the rule by the clauses that were made
+pub alias-rule-is : (g : TraitGoal) (e : Env) (b : Bool) (cs ds : List Tree) → e ≡ g.env → b ≡ positive g → cs ≡ ds → flat_rule e b Misc cs misc Yes ≡ flat_rule g.env (positive g) Misc ds misc Yes
+alias-rule-is g e b cs ds p q r = ap (λ z. flat_rule z b Misc cs misc Yes) p ∙ (ap (λ z. flat_rule g.env z Misc cs misc Yes) q ∙ ap (λ z. flat_rule g.env (positive g) Misc z misc Yes) r)
