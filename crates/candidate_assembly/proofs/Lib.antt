@@ -11,3 +11,4 @@ pub mod Characterizing
 pub mod CharacterizingCases
 pub mod Clauses
 pub mod Answering
+pub mod WhereBounds

@@ -1,0 +1,55 @@
+//! What follows where a clause is matched.
+
+ghost use Rattle.std.specs.Prelude.{◌≡◌, [], ◌∷◌, IfErr};
+ghost use Rattle.candidate_ir.specs.Words.{IsClause, IsParamEnv, clause_tree, env_forest};
+ghost use Rattle.candidate_eval.specs.Accounts.{by_stop};
+ghost use Rattle.candidate_eval.specs.Evaluators.{Keeps};
+ghost use Rattle.candidate_eval.specs.Judging.{comes_to, start};
+ghost use Rattle.candidate_eval.specs.Rules.{characterise, settle};
+ghost use Rattle.candidate_assembly.specs.Telling.{StopsOfItself, Told, without_usages};
+
+use crate::assembly::characterize::characterize_param_env_assumption;
+use crate::assembly::steps::respond_as;
+use candidate_eval::eval::context::EvalCtxt;
+use candidate_eval::eval::refusal::NoSolutionOrStop;
+use candidate_eval::eval::response::{Candidate, CandidateHeadUsages};
+use candidate_eval::eval::source::CandidateSource;
+use candidate_ir::ir::kinds::{Clause, ParamEnv};
+use candidate_ir::ir::stop::Stop;
+use std::alloc::Global;
+
+/// What is pending is evaluated, the clause characterised, and the candidate asked for, of the source and with at most the certainty that
+/// this finds.
+///
+/// `NoSolution` comes where the evaluator refuses what is pending, a normal form or a response. It stops as these and
+/// `characterize_param_env_assumption` do.
+pub(crate) fn settle_and_characterize<E: EvalCtxt>(
+    alloc: Global,
+    ecx: &mut E,
+    env: ParamEnv,
+    clause: Clause,
+) -> Result<Candidate, NoSolutionOrStop>
+    requires env { IsParamEnv (E.context ecx.old).trees env }
+    requires clause { IsClause (E.context ecx.old).trees clause }
+    ensures kept { Keeps E.fixed E.probes E.context ecx.old ecx.new }
+    ensures told { Told (E.context ecx.new).trees result (comes_to (E.judge (E.fixed ecx.old)) (env_forest (E.context ecx.old).trees env) (start (E.state ecx.old)) (settle ∷ []) (characterise (clause_tree (E.context ecx.old).trees clause))) }
+    ensures cause { IfErr result (by_stop (StopsOfItself E.fixed E.context E.state E.stops ecx.old)) }
+{
+    ecx.try_evaluate_added_goals()?;
+    let (source, certainty) = characterize_param_env_assumption(alloc, ecx, env, clause)?;
+    respond_as(alloc, ecx, CandidateSource::ParamEnv(source), certainty)
+}
+
+/// A refusal is handed out with what was used until then, other errors as the stops that they are.
+pub(crate) fn with_usages(
+    answer: Result<Candidate, NoSolutionOrStop>,
+    usages: CandidateHeadUsages,
+) -> Result<Result<Candidate, CandidateHeadUsages>, Stop>
+    ensures { without_usages result ≡ answer }
+{
+    match answer {
+        Ok(candidate) => Ok(Ok(candidate)),
+        Err(NoSolutionOrStop::NoSolution) => Ok(Err(usages)),
+        Err(NoSolutionOrStop::Stop(stop)) => Err(stop),
+    }
+}
