@@ -60,3 +60,10 @@ pub characterised-comes : {F : Type 0} (judge : F → Judge) (f h : F) (S T : St
 characterised-comes judge f h S T c e d t u is p q r =
     ap (λ z. by_finding (judge z) (characterization (judge z) d T u)) p
     ∙ (ap (λ z. by_finding (judge f) (characterization (judge f) z T u)) q ∙ (ap (λ z. by_finding (judge f) (characterization (judge f) e T z)) r ∙ sym (settled-comes (judge f) e S T c (characterise t) is)))
+
+-- What is pending is evaluated, and a clause characterised, alike by other words for their parts.
+pub characterised-same : {F : Type 0} (judge : F → Judge) (f h : F) (S : State) (e d : Env) (t u : Tree) → h ≡ f → d ≡ e → u ≡ t
+    → comes_to (judge h) d (start S) (settle ∷ []) (characterise u) ≡ comes_to (judge f) e (start S) (settle ∷ []) (characterise t)
+characterised-same judge f h S e d t u p q r =
+    ap (λ z. comes_to (judge z) d (start S) (settle ∷ []) (characterise u)) p
+    ∙ (ap (λ z. comes_to (judge f) z (start S) (settle ∷ []) (characterise u)) q ∙ ap (λ z. comes_to (judge f) e (start S) (settle ∷ []) (characterise z)) r)

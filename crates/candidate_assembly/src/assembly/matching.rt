@@ -4,11 +4,13 @@ ghost use Rattle.std.specs.Prelude.{◌≡◌, [], ◌∷◌, IfErr};
 ghost use Rattle.candidate_ir.specs.Words.{IsClause, IsParamEnv, clause_tree, env_forest};
 ghost use Rattle.candidate_eval.specs.Accounts.{by_stop};
 ghost use Rattle.candidate_eval.specs.Evaluators.{Keeps};
-ghost use Rattle.candidate_eval.specs.Judging.{comes_to, start};
+ghost use Rattle.candidate_eval.specs.Judging.{comes_to, judged, start};
 ghost use Rattle.candidate_eval.specs.Rules.{characterise, settle};
+ghost use Rattle.candidate_assembly.specs.Kinds.{IsAssumption, IsGoal, match_rule};
 ghost use Rattle.candidate_assembly.specs.Telling.{StopsOfItself, Told, without_usages};
 
 use crate::assembly::characterize::characterize_param_env_assumption;
+use crate::assembly::kind::GoalKind;
 use crate::assembly::steps::respond_as;
 use candidate_eval::eval::context::EvalCtxt;
 use candidate_eval::eval::refusal::NoSolutionOrStop;
@@ -38,6 +40,31 @@ pub(crate) fn settle_and_characterize<E: EvalCtxt>(
     ecx.try_evaluate_added_goals()?;
     let (source, certainty) = characterize_param_env_assumption(alloc, ecx, env, clause)?;
     respond_as(alloc, ecx, CandidateSource::ParamEnv(source), certainty)
+}
+
+/// Matches a clause of the environment, evaluates what is pending, and characterises the clause. It is called in a probe.
+pub(crate) fn match_and_characterize<E: EvalCtxt, G: GoalKind<E>>(
+    alloc: Global,
+    ecx: &mut E,
+    env: ParamEnv,
+    predicate: G,
+    clause: Clause,
+) -> Result<Candidate, NoSolutionOrStop>
+    requires goal { IsGoal G.rules G.arguments G.types G.seen (E.context ecx.old) env predicate }
+    requires clause { IsClause (E.context ecx.old).trees clause }
+    requires matches { IsAssumption G.rules (E.context ecx.old) (G.seen (E.context ecx.old).trees env predicate) (clause_tree (E.context ecx.old).trees clause) }
+    ensures kept { Keeps E.fixed E.probes E.context ecx.old ecx.new }
+    ensures told { Told (E.context ecx.new).trees result (judged (E.judge (E.fixed ecx.old)) (E.state ecx.old) (match_rule G.rules (E.context ecx.old) (G.seen (E.context ecx.old).trees env predicate) (clause_tree (E.context ecx.old).trees clause) (settle ∷ []) (characterise (clause_tree (E.context ecx.old).trees clause)))) }
+    ensures cause { IfErr result (by_stop (StopsOfItself E.fixed E.context E.state E.stops ecx.old)) }
+{
+    G::match_assumption(
+        alloc,
+        ecx,
+        env,
+        predicate,
+        clause,
+        |ecx: &mut E| settle_and_characterize(alloc, ecx, env, clause),
+    )
 }
 
 /// A refusal is handed out with what was used until then, other errors as the stops that they are.
