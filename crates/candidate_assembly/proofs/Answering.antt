@@ -9,12 +9,14 @@ use Rattle.candidate_ir.specs.declared.ir.unify.RightSide.TheVariants as R
 use Rattle.candidate_ir.specs.Context.{Context, Grows}
 use Rattle.candidate_ir.specs.Trees.{Forest, Tree}
 use Rattle.candidate_ir.specs.Unify.{may_unify}
+use Rattle.candidate_ir.proofs.Kept.{grows-refl}
 use Rattle.candidate_eval.specs.declared.eval.refusal.NoSolutionOrStop.{NoSolutionOrStop}
 use Rattle.candidate_eval.specs.declared.eval.refusal.NoSolutionOrStop.TheVariants as N
 use Rattle.candidate_eval.specs.declared.eval.response.Candidate.{Candidate}
 use Rattle.candidate_eval.specs.declared.eval.response.CanonicalResponse.{CanonicalResponse}
 use Rattle.candidate_eval.specs.declared.eval.source.CandidateSource.{CandidateSource}
 use Rattle.candidate_eval.specs.Accounts.{Account, Question, StopsSomehow, by_stop}
+use Rattle.candidate_eval.specs.Alike.{JudgesAlike}
 use Rattle.candidate_eval.specs.Certainties.{AMBIGUOUS}
 use Rattle.candidate_eval.specs.Evaluators.{IsEvaluatorStop, Keeps}
 use Rattle.candidate_eval.specs.Judging.{Place, Reached, Over, Refused, answered, comes_to, continued, judged, run, start}
@@ -27,7 +29,7 @@ use Rattle.candidate_eval.proofs.RuleRuns.{comes_append}
 use Rattle.candidate_assembly.specs.Closures.{After, IsCallable, IsCallableIn, Responds, TellsIn}
 use Rattle.candidate_assembly.specs.Closures.After.{stopped, refused, called}
 use Rattle.candidate_assembly.specs.Kinds.{KindRules, clause_judged, compared_arguments, match_rule, passes, steps_judged}
-use Rattle.candidate_assembly.specs.Telling.{StopsOfItself, Told, ToldAs, standing}
+use Rattle.candidate_assembly.specs.Telling.{Considers, StopsOfItself, Told, ToldAs, standing}
 use Rattle.candidate_assembly.proofs.Causes.{caused, later}
 use Rattle.candidate_assembly.proofs.Considering.{not-both}
 use Rattle.candidate_assembly.proofs.Keeping.{keeps-in, keeps-open}
@@ -170,3 +172,13 @@ rule-refused K J c S g t more end rejects = at (K.fits c g t.head) refl
         ap (λ b. if b then comes_to J (K.env_of g) (start S) (K.match_steps g t ++ more) end else Refused) e
         ∙ (comes_append J (K.env_of g) (start S) (K.match_steps g t) more end ∙ ap (λ z. continued J end z (λ q. comes_to J (K.env_of g) q more end)) (rejects e))
     at false e = ap (λ b. if b then comes_to J (K.env_of g) (start S) (K.match_steps g t ++ more) end else Refused) e
+
+-- A rule that is refused before anything is done.
+pub rejected-at-once : {E X : Type 0} {fixed : E → X} {judge : X → Judge} {state : E → State} {probes : E → List State} {context : E → Context} {stops : Account E} → ((f : X) → JudgesAlike (judge f)) → (old : E) (rule : Rule)
+    → judged (judge (fixed old)) (state old) rule ≡ Refused → Considers fixed judge state probes context stops old old rule (Err N.NoSolution)
+rejected-at-once {fixed = fixed} {judge = judge} {state = state} {context = context} law old rule e = record {
+  kept = record { fixed_same = refl; probes_same = refl; grows = grows-refl (context old) };
+  alike = (law (fixed old)).alike_same (state old);
+  told = record { ok = tt; fits = tt; refused = λ n. e; stopped = tt };
+  cause = tt;
+}
