@@ -12,3 +12,4 @@ pub mod CharacterizingCases
 pub mod Clauses
 pub mod Answering
 pub mod WhereBounds
+pub mod MatchesBelow
