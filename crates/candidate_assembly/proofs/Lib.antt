@@ -13,3 +13,4 @@ pub mod Clauses
 pub mod Answering
 pub mod WhereBounds
 pub mod MatchesBelow
+pub mod Requiring

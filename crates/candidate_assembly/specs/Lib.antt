@@ -5,3 +5,4 @@ pub mod TraitGoals
 pub mod BuiltinRules
 pub mod TraitRules
 pub mod Characterizing
+pub mod Requirements

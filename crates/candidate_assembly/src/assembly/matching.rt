@@ -1,22 +1,25 @@
 //! What follows where a clause is matched.
 
-ghost use Rattle.std.specs.Prelude.{◌≡◌, [], ◌∷◌, IfErr};
+ghost use Rattle.std.specs.Prelude.{◌≡◌, [], ◌∷◌, IfErr, OnOk};
 ghost use Rattle.candidate_ir.specs.Words.{IsClause, IsParamEnv, clause_tree, env_forest};
-ghost use Rattle.candidate_eval.specs.Accounts.{by_stop};
+ghost use Rattle.candidate_eval.specs.Accounts.{StopsSomehow, by_stop};
 ghost use Rattle.candidate_eval.specs.Evaluators.{Keeps};
 ghost use Rattle.candidate_eval.specs.Judging.{comes_to, judged, start};
 ghost use Rattle.candidate_eval.specs.Rules.{characterise, settle};
+ghost use Rattle.candidate_assembly.specs.Closures.{Responds};
 ghost use Rattle.candidate_assembly.specs.Kinds.{IsAssumption, IsGoal, match_rule};
+ghost use Rattle.candidate_assembly.specs.Requirements.{RequirementsFit, with_requirements};
 ghost use Rattle.candidate_assembly.specs.Telling.{StopsOfItself, Told, without_usages};
 
 use crate::assembly::characterize::characterize_param_env_assumption;
 use crate::assembly::kind::GoalKind;
 use crate::assembly::steps::respond_as;
+use candidate_eval::eval::certainty::Certainty;
 use candidate_eval::eval::context::EvalCtxt;
 use candidate_eval::eval::refusal::NoSolutionOrStop;
-use candidate_eval::eval::response::{Candidate, CandidateHeadUsages};
+use candidate_eval::eval::response::{Candidate, CandidateHeadUsages, CanonicalResponse};
 use candidate_eval::eval::source::CandidateSource;
-use candidate_ir::ir::kinds::{Clause, ParamEnv};
+use candidate_ir::ir::kinds::{Clause, Goal, GoalSource, ParamEnv};
 use candidate_ir::ir::stop::Stop;
 use std::alloc::Global;
 
@@ -40,6 +43,44 @@ pub(crate) fn settle_and_characterize<E: EvalCtxt>(
     ecx.try_evaluate_added_goals()?;
     let (source, certainty) = characterize_param_env_assumption(alloc, ecx, env, clause)?;
     respond_as(alloc, ecx, CandidateSource::ParamEnv(source), certainty)
+}
+
+/// Requirements become pending goals in the environment, each of its own source, in their order. The stops are the evaluator's.
+fn add_requirements<E: EvalCtxt>(
+    ecx: &mut E,
+    env: ParamEnv,
+    requirements: &[(GoalSource, Clause)],
+) -> Result<(), Stop>
+    requires env { IsParamEnv (E.context ecx.old).trees env }
+    requires requirements { RequirementsFit (E.context ecx.old).trees requirements.now }
+    ensures kept { Keeps E.fixed E.probes E.context ecx.old ecx.new }
+    ensures ok { OnOk result (E.state ecx.new ≡ with_requirements (E.context ecx.old).trees env (E.state ecx.old) requirements.now) }
+    ensures cause { IfErr result (StopsSomehow E.fixed E.context E.state E.stops ecx.old) }
+{
+    for requirement in requirements {
+        let goal = Goal {
+            param_env: env,
+            predicate: requirement.1,
+        };
+        ecx.add_goal(requirement.0, goal)?;
+    }
+    Ok(())
+}
+
+/// Requirements become pending goals, and then a response is asked for.
+pub(crate) fn require_and_respond<E: EvalCtxt>(
+    ecx: &mut E,
+    env: ParamEnv,
+    requirements: &[(GoalSource, Clause)],
+) -> Result<CanonicalResponse, NoSolutionOrStop>
+    requires env { IsParamEnv (E.context ecx.old).trees env }
+    requires requirements { RequirementsFit (E.context ecx.old).trees requirements.now }
+    ensures kept { Keeps E.fixed E.probes E.context ecx.old ecx.new }
+    ensures responds { Responds (E.context ecx.new).trees result ((E.judge (E.fixed ecx.old)).responded (with_requirements (E.context ecx.old).trees env (E.state ecx.old) requirements.now) Certainty.Yes) }
+    ensures cause { IfErr result (by_stop (StopsOfItself E.fixed E.context E.state E.stops ecx.old)) }
+{
+    add_requirements(ecx, env, requirements)?;
+    ecx.evaluate_added_goals_and_make_canonical_response(Certainty::Yes)
 }
 
 /// Matches a clause of the environment, evaluates what is pending, and characterises the clause. It is called in a probe.
