@@ -17,3 +17,6 @@ pub mod LangItems
 pub mod MeetingClauses
 pub mod Clauses
 pub mod Answering
+pub mod WhereBounds
+pub mod MatchesBelow
+pub mod Requiring

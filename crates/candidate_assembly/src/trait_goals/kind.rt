@@ -1,6 +1,6 @@
 //! Goals of traits as a kind of goals.
 
-ghost use Rattle.std.specs.Prelude.{◌≡◌};
+ghost use Rattle.std.specs.Prelude.{◌≡◌, refl};
 ghost use Rattle.candidate_eval.specs.ImplRules.{TraitGoal};
 ghost use Rattle.candidate_assembly.specs.TraitGoals.{arguments_held, trait_goal, types_held};
 ghost use Rattle.candidate_assembly.specs.TraitRules.{trait_rules};
@@ -41,6 +41,8 @@ impl<E: EvalCtxt> GoalKind<E> for TraitPredicate {
     ghost rules = { trait_rules };
 
     ghost stays = { trait_goal_stays };
+
+    ghost env_given = { λ _ _ _. refl };
 
     fn self_ty(cx: &Cx, _env: ParamEnv, predicate: Self) -> Ty {
         self_ty(cx, predicate.trait_ref)
