@@ -10,23 +10,25 @@ ghost use Rattle.candidate_ir.specs.Trees.{Tree, holds, is_param};
 ghost use Rattle.candidate_ir.specs.Words.{IsArgs, IsClause, IsTy, clause_tree, env_forest, ty_tree};
 ghost use Rattle.candidate_eval.specs.Accounts.{by_stop};
 ghost use Rattle.candidate_eval.specs.Evaluators.{Keeps};
-ghost use Rattle.candidate_eval.specs.Judging.{Over, Refused, run, start};
+ghost use Rattle.candidate_eval.specs.Judging.{run, start};
 ghost use Rattle.candidate_eval.specs.Responses.{Response};
 ghost use Rattle.candidate_eval.specs.Rules.{characterise, settle};
 ghost use Rattle.candidate_eval.specs.States.{State};
-ghost use Rattle.candidate_assembly.specs.Closures.{After, IsCallable, IsCallableIn, TellsIn};
-ghost use Rattle.candidate_assembly.specs.Kinds.{IsAssumption, IsGoal, IsTyped, KindRules, SaysTheSame, clause_judged, match_rule, passes, self_type};
+ghost use Rattle.candidate_assembly.specs.Closures.{After, IsCallable, IsCallableIn, IsCallableWith, TellsIn, TellsWith};
+ghost use Rattle.candidate_assembly.specs.Kinds.{IsAssumption, IsGoal, IsTyped, KindRules, SaysTheSame, clause_judged, match_rule, part_judged, passes, self_type};
 ghost use Rattle.candidate_assembly.specs.Kinds as kind;
+ghost use Rattle.candidate_eval.specs.declared.eval.source.CandidateSource.TheVariants as source;
 ghost use Rattle.candidate_assembly.specs.Telling.{Considers, StopsOfItself, Told, without_usages};
 
 use crate::assembly::matching::{match_and_characterize, with_usages};
 use crate::assembly::steps::with_source;
+use candidate_eval::eval::certainty::Certainty;
 use candidate_eval::eval::context::{EvalCtxt, ProbeKind};
 use candidate_eval::eval::refusal::NoSolutionOrStop;
 use candidate_eval::eval::response::{Candidate, CandidateHeadUsages, CanonicalResponse};
 use candidate_eval::eval::source::CandidateSource;
 use candidate_ir::decl::Cx;
-use candidate_ir::decl::contents::Sizedness;
+use candidate_ir::decl::contents::{ImplId, Sizedness};
 use candidate_ir::ir::kinds::{Clause, ClosureKind, ParamEnv, TraitId, TraitRef, Ty};
 use candidate_ir::ir::stop::Stop;
 use std::alloc::Global;
@@ -122,6 +124,27 @@ pub trait GoalKind<E: EvalCtxt>: Copy {
         requires callable { IsCallable E.fixed E.state E.probes E.context E.stops F.FnOnce then ecx.old }
         ensures kept { Keeps E.fixed E.probes E.context ecx.old ecx.new }
         ensures after { After E.fixed E.state E.probes E.context E.stops F.FnOnce then ecx.old (run (E.judge (E.fixed ecx.old)) (rules.env_of (seen (E.context ecx.old).trees env predicate)) (start (E.state ecx.old)) (rules.match_steps (seen (E.context ecx.old).trees env predicate) (clause_tree (E.context ecx.old).trees assumption))) result ecx.new };
+
+    /// The rule of an impl: its steps in a probe, and then what the closure answers, which is given the certainty that the impl gives.
+    ///
+    /// The state is left alike the one before. `NoSolution` comes where the impl doesn't serve the goal, where the evaluator refuses its
+    /// header, and where the closure answers it; the stops are the evaluator's, those of making nodes and lists, and the closure's.
+    fn consider_impl_candidate<
+        F: FnOnce(&mut E, Certainty) -> Result<CanonicalResponse, NoSolutionOrStop>,
+    >(
+        alloc: Global,
+        ecx: &mut E,
+        env: ParamEnv,
+        predicate: Self,
+        of: ImplId,
+        then: F,
+    ) -> Result<Candidate, NoSolutionOrStop>
+        requires goal { IsGoal rules arguments types seen (E.context ecx.old) env predicate }
+        requires callable { IsCallableWith E.fixed E.state E.probes E.context E.stops F.FnOnce then ecx.old (E.state ecx.old ∷ E.probes ecx.old) }
+        ensures kept { Keeps E.fixed E.probes E.context ecx.old ecx.new }
+        ensures alike { (E.judge (E.fixed ecx.old)).alike (E.state ecx.old) (E.state ecx.new) }
+        ensures told { (k : State → Option Response) → TellsWith E.fixed E.state E.probes E.context E.stops F.FnOnce then ecx.old (E.state ecx.old ∷ E.probes ecx.old) (rules.impl_part (E.context ecx.old) (E.state ecx.old).mode (seen (E.context ecx.old).trees env predicate) of).certainty k → Told (E.context ecx.new).trees result (part_judged (E.judge (E.fixed ecx.old)) (rules.env_of (seen (E.context ecx.old).trees env predicate)) (E.state ecx.old) (source.Impl of) (rules.impl_part (E.context ecx.old) (E.state ecx.old).mode (seen (E.context ecx.old).trees env predicate) of) k) }
+        ensures cause { IfErr result (by_stop (StopsOfItself E.fixed E.context E.state E.stops ecx.old)) };
 
     /// The predicate holds an error.
     fn consider_error_guaranteed_candidate(

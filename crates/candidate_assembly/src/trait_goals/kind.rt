@@ -11,6 +11,7 @@ use crate::assembly::steps::consider_plain;
 use crate::trait_goals::aliases::consider_trait_alias;
 use crate::trait_goals::auto_traits::consider_auto_trait;
 use crate::trait_goals::builtin::{fn_ptr_holds, is_positive, is_tuple, self_head};
+use crate::trait_goals::impls::consider_impl;
 use crate::trait_goals::matching::{fast_reject, match_clause};
 use crate::trait_goals::no_drop::consider_no_drop;
 use crate::trait_goals::parts::{consider_column, with_self_ty};
@@ -18,11 +19,11 @@ use candidate_eval::eval::certainty::Certainty;
 use candidate_eval::eval::clauses::self_ty;
 use candidate_eval::eval::context::EvalCtxt;
 use candidate_eval::eval::refusal::NoSolutionOrStop;
-use candidate_eval::eval::response::Candidate;
+use candidate_eval::eval::response::{Candidate, CanonicalResponse};
 use candidate_eval::eval::source::{BuiltinImplSource, CandidateSource};
 use candidate_eval::structural::Column;
 use candidate_ir::decl::Cx;
-use candidate_ir::decl::contents::Sizedness;
+use candidate_ir::decl::contents::{ImplId, Sizedness};
 use candidate_ir::decl::make::Make;
 use candidate_ir::ir::heads::Flag;
 use candidate_ir::ir::kinds::{Clause, ClosureKind, ParamEnv, TraitPredicate, TraitRef, Ty};
@@ -82,6 +83,19 @@ impl<E: EvalCtxt> GoalKind<E> for TraitPredicate {
         then: F,
     ) -> Result<R, NoSolutionOrStop> {
         match_clause(alloc, ecx, env, predicate, assumption, then)
+    }
+
+    fn consider_impl_candidate<
+        F: FnOnce(&mut E, Certainty) -> Result<CanonicalResponse, NoSolutionOrStop>,
+    >(
+        alloc: Global,
+        ecx: &mut E,
+        env: ParamEnv,
+        predicate: Self,
+        of: ImplId,
+        then: F,
+    ) -> Result<Candidate, NoSolutionOrStop> {
+        consider_impl(alloc, ecx, env, predicate, of, then)
     }
 
     fn consider_error_guaranteed_candidate(
