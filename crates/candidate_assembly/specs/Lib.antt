@@ -5,6 +5,7 @@ pub mod TraitGoals
 pub mod BuiltinRules
 pub mod TraitRules
 pub mod Staying
+pub mod Projections
 pub mod Characterizing
 pub mod Impls
 pub mod Requirements
