@@ -99,13 +99,6 @@ module _ {E F X : Type 0} {fixed : E → X} {state : E → State} {probes : E �
 
 -- Clauses that fit.
 
-both-true : (a b : Bool) → (a && b) ≡ true → (a ≡ true) × (b ≡ true)
-both-true true b e = (refl, e)
-both-true false b e = absurd cc
-
-pub passes-fits : {G : Type 0} (K : KindRules G) (c : Context) (g : G) (t : Tree) → passes K c g t ≡ true → K.fits c g t.head ≡ true
-passes-fits K c g t e = (both-true (K.fits c g t.head) (may_unify R.Plain (K.compared g) (compared_arguments t)) e).0
-
 -- a clause passes quick rejection still where the context has grown
 pub passes-kept : {G : Type 0} (K : KindRules G) (old new : Context) (g d : G) (t u : Tree) → d ≡ g → u ≡ t → ((h : Head) → K.fits new g h ≡ K.fits old g h) → passes K old g t ≡ true → passes K new d u ≡ true
 passes-kept K old new g d t u same is fits e =
@@ -113,7 +106,7 @@ passes-kept K old new g d t u same is fits e =
 
 -- What is judged of a clause that fits is the same by other words for its parts.
 pub clause-moved : {G F : Type 0} (K : KindRules G) (judge : F → Judge) (f h : F) (c : Context) (S T : State) (g d : G) (s : CandidateSource) (t u : Tree) (k : State → Option Response)
-    → h ≡ f → T ≡ S → d ≡ g → u ≡ t → K.fits c g t.head ≡ true
+    → h ≡ f → T ≡ S → d ≡ g → u ≡ t → passes K c g t ≡ true
     → continued (judge h) (ask s AMBIGUOUS) (run (judge h) (K.env_of d) (start T) (K.match_steps d u)) (λ q. answered s (k q.state)) ≡ clause_judged K (judge f) c S g s t k
 clause-moved K judge f h c S T g d s t u k p q r is fits =
     ap (λ z. steps_judged (judge z) (K.env_of d) T s (K.match_steps d u) k) p
@@ -122,16 +115,9 @@ clause-moved K judge f h c S T g d s t u k p q r is fits =
     ∙ (ap (λ z. steps_judged (judge f) (K.env_of g) S s (K.match_steps g z) k) is
     ∙ ap (λ b. if b then steps_judged (judge f) (K.env_of g) S s (K.match_steps g t) k else Refused) (sym fits))))
 
--- One that doesn't pass quick rejection is refused, where it isn't matched.
-pub clause-refused : {G : Type 0} (K : KindRules G) (J : Judge) (c : Context) (S : State) (g : G) (s : CandidateSource) (t : Tree) (k : State → Option Response)
-    → (K.fits c g t.head ≡ true → run J (K.env_of g) (start S) (K.match_steps g t) ≡ Over Refused) → clause_judged K J c S g s t k ≡ Refused
-clause-refused K J c S g s t k rejects = at (K.fits c g t.head) refl
-  where
-    at : (b : Bool) → K.fits c g t.head ≡ b → clause_judged K J c S g s t k ≡ Refused
-    at true e =
-        ap (λ b. if b then steps_judged J (K.env_of g) S s (K.match_steps g t) k else Refused) e
-        ∙ ap (λ z. continued J (ask s AMBIGUOUS) z (λ q. answered s (k q.state))) (rejects e)
-    at false e = ap (λ b. if b then steps_judged J (K.env_of g) S s (K.match_steps g t) k else Refused) e
+-- One that doesn't pass quick rejection is refused.
+pub clause-refused : {G : Type 0} (K : KindRules G) (J : Judge) (c : Context) (S : State) (g : G) (s : CandidateSource) (t : Tree) (k : State → Option Response) → passes K c g t ≡ false → clause_judged K J c S g s t k ≡ Refused
+clause-refused K J c S g s t k e = ap (λ b. if b then steps_judged J (K.env_of g) S s (K.match_steps g t) k else Refused) e
 
 -- What is told of steps that come after the match, at each place at which the closure is called, is told of the whole.
 pub after-ruled : {E F X : Type 0} {fixed : E → X} {state : E → State} {probes : E → List State} {context : E → Context} {stops : Account E} {g : Once F (MutBor E × Unit {0}) (Result Candidate NoSolutionOrStop × (MutBor E × Unit {0}))} {f : F} (J : Judge)
@@ -157,23 +143,16 @@ rule-moved K old new g d t u more end last same is fits ends =
     ap (λ x. match_rule K new x u more last) same
     ∙ (ap (λ x. match_rule K new g x more last) is
     ∙ (ap (λ x. match_rule K new g t more x) ends
-    ∙ ap (λ b. let r : Rule = record { env = K.env_of g; applies = b; steps = K.match_steps g t ++ more; ending = end } in r) (fits t.head)))
+    ∙ ap (λ b. let r : Rule = record { env = K.env_of g; applies = b; steps = K.match_steps g t ++ more; ending = end } in r) (ap (λ b. b && may_unify R.Plain (K.compared g) (compared_arguments t)) (fits t.head))))
 
 -- A rule that applies comes to what its steps and its ending do.
-pub rule-comes : {G : Type 0} (K : KindRules G) (J : Judge) (c : Context) (S : State) (g : G) (t : Tree) (more : List Step) (end : Ending) → K.fits c g t.head ≡ true
+pub rule-comes : {G : Type 0} (K : KindRules G) (J : Judge) (c : Context) (S : State) (g : G) (t : Tree) (more : List Step) (end : Ending) → passes K c g t ≡ true
     → comes_to J (K.env_of g) (start S) (K.match_steps g t ++ more) end ≡ judged J S (match_rule K c g t more end)
 rule-comes K J c S g t more end fits = ap (λ b. if b then comes_to J (K.env_of g) (start S) (K.match_steps g t ++ more) end else Refused) (sym fits)
 
--- That of a clause that doesn't pass quick rejection is refused, where it isn't matched.
-pub rule-refused : {G : Type 0} (K : KindRules G) (J : Judge) (c : Context) (S : State) (g : G) (t : Tree) (more : List Step) (end : Ending)
-    → (K.fits c g t.head ≡ true → run J (K.env_of g) (start S) (K.match_steps g t) ≡ Over Refused) → judged J S (match_rule K c g t more end) ≡ Refused
-rule-refused K J c S g t more end rejects = at (K.fits c g t.head) refl
-  where
-    at : (b : Bool) → K.fits c g t.head ≡ b → judged J S (match_rule K c g t more end) ≡ Refused
-    at true e =
-        ap (λ b. if b then comes_to J (K.env_of g) (start S) (K.match_steps g t ++ more) end else Refused) e
-        ∙ (comes_append J (K.env_of g) (start S) (K.match_steps g t) more end ∙ ap (λ z. continued J end z (λ q. comes_to J (K.env_of g) q more end)) (rejects e))
-    at false e = ap (λ b. if b then comes_to J (K.env_of g) (start S) (K.match_steps g t ++ more) end else Refused) e
+-- That of a clause that doesn't pass quick rejection is refused.
+pub rule-refused : {G : Type 0} (K : KindRules G) (J : Judge) (c : Context) (S : State) (g : G) (t : Tree) (more : List Step) (end : Ending) → passes K c g t ≡ false → judged J S (match_rule K c g t more end) ≡ Refused
+rule-refused K J c S g t more end e = ap (λ b. if b then comes_to J (K.env_of g) (start S) (K.match_steps g t ++ more) end else Refused) e
 
 -- A rule that is refused before anything is done.
 pub rejected-at-once : {E X : Type 0} {fixed : E → X} {judge : X → Judge} {state : E → State} {probes : E → List State} {context : E → Context} {stops : Account E} → ((f : X) → JudgesAlike (judge f)) → (old : E) (rule : Rule)

@@ -20,9 +20,11 @@ use Rattle.candidate_ir.specs.WellFormed.{ImplIsGiven}
 use Rattle.candidate_ir.specs.Words.{IsArgs, IsParamEnv, args_forest, clause_tree, env_forest}
 use Rattle.candidate_ir.specs.Worlds.{Reference, World, TraitSort, joined, kinds_of, parameters}
 use Rattle.candidate_ir.proofs.Kept.{args-kept, grows-trans, world-kept}
+use Rattle.candidate_eval.specs.declared.eval.certainty.Certainty.{Certainty}
 use Rattle.candidate_eval.specs.declared.eval.mode.TypingMode.{TypingMode}
 use Rattle.candidate_eval.specs.declared.eval.refusal.NoSolutionOrStop.{NoSolutionOrStop}
 use Rattle.candidate_eval.specs.declared.eval.response.Candidate.{Candidate}
+use Rattle.candidate_eval.specs.declared.eval.response.CanonicalResponse.{CanonicalResponse}
 use Rattle.candidate_eval.specs.Accounts.{Account, Question, Reaches, StopsSomehow, by_stop}
 use Rattle.candidate_eval.specs.Accounts.StopsSomehow.{asking}
 use Rattle.candidate_eval.specs.Evaluators.{IsEvaluatorStop, Keeps}
@@ -36,7 +38,7 @@ use Rattle.candidate_eval.proofs.Objects.{env-kept}
 use Rattle.candidate_eval.proofs.Probing.{alike-probe, keeps-probe}
 use Rattle.candidate_eval.proofs.Responding.{clauses-kept}
 use Rattle.candidate_eval.proofs.Types.{types_kept}
-use Rattle.candidate_assembly.specs.Closures.{KeepsIn}
+use Rattle.candidate_assembly.specs.Closures.{KeepsIn, Responds}
 use Rattle.candidate_assembly.specs.Kinds.{ImplPart, IsGoal, KindRules, SaysTheSame}
 use Rattle.candidate_assembly.specs.Telling.{Considers, StopsOfItself, Told}
 use Rattle.candidate_assembly.specs.TraitGoals.{arguments_held, fits, impl_part, impl_part_at, no_impl, trait_goal, types_held}
@@ -55,8 +57,8 @@ goal-kept {K = K} {arguments = arguments} {types = types} {seen = seen} {old = o
       arguments = (args-kept old new (arguments p) grows h.arguments).0;
       types = (types_kept old.trees new.trees (types p) grows.kept h.types).0;
       fit = ap (λ (w : World). joined (Some (TypeKind ∷ [])) (parameters w TraitSort (K.reference_of new (seen new.trees env p)).trait)) (world-kept old new grows).0
-      ∙ (ap (λ (r : Reference). joined (Some (TypeKind ∷ [])) (parameters (world old) TraitSort r.trait)) reference
-      ∙ (h.fit ∙ ap (λ (r : Reference). Some (kinds_of r.arguments)) (sym reference)));
+          ∙ (ap (λ (r : Reference). joined (Some (TypeKind ∷ [])) (parameters (world old) TraitSort r.trait)) reference
+          ∙ (h.fit ∙ ap (λ (r : Reference). Some (kinds_of r.arguments)) (sym reference)));
       no_parameter = ap (λ g. holds is_param (K.trees_of g)) s.seen ∙ h.no_parameter;
       is_closed = ap (λ g. escapes 0 (K.trees_of g)) s.seen ∙ h.is_closed;
     }
@@ -133,6 +135,13 @@ module _ {E X : Type 0} (fixed : E → X) (context : E → Context) (state : E �
       → by_stop (λ s. own_stop s ≡ true) e
   somehow-is-own a itself e h = by-stop e (somehow-own itself) h
 
+-- A closure that asks for the response answers what the first judge says, where it was called with an evaluator that keeps what is fixed.
+pub responds-at : {E X : Type 0} (fixed : E → X) (judge : X → Judge) (state : E → State) (context : E → Context) (first shown x left y : E) (c : Certainty) (r : Result CanonicalResponse NoSolutionOrStop)
+    → shown ≡ x → left ≡ y → fixed x ≡ fixed first → Responds (context left).trees r ((judge (fixed shown)).responded (state shown) c) → Responds (context y).trees r ((judge (fixed first)).responded (state x) c)
+responds-at fixed judge state context first shown x left y c r shows leaves same h =
+    subst (λ z. Responds (context z).trees r ((judge (fixed first)).responded (state x) c)) leaves
+    (subst (λ f. Responds (context left).trees r ((judge f).responded (state x) c)) same (subst (λ z. Responds (context left).trees r ((judge (fixed z)).responded (state z) c)) shows h))
+
 -- A rule in a probe: what is told of it is told at the state at which the probe began, with the rule as it is there.
 module _ {E X : Type 0} (fixed : E → X) (judge : X → Judge) (state : E → State) (probes : E → List State) (context : E → Context) (stops : Account E) where
   pub in-probe : (old began ran new : E) (r s : Rule) (x : Result Candidate NoSolutionOrStop)
@@ -146,6 +155,6 @@ module _ {E X : Type 0} (fixed : E → X) (judge : X → Judge) (state : E → S
     kept = keeps-probe fixed probes context old began ran new (state old) f g p k ends grows left;
     alike = alike-probe fixed probes judge state old began ran new f p k.fixed_same k.probes_same closed;
     told = told-kept (context ran) (context new) x (judged (judge (fixed old)) (state old) r) grows
-    (subst (λ j. Told (context ran).trees x j) (ap (λ z. judged (judge z) (state began) s) f ∙ (ap (λ z. judged (judge (fixed old)) z s) same ∙ ap (judged (judge (fixed old)) (state old)) is)) told);
+        (subst (λ j. Told (context ran).trees x j) (ap (λ z. judged (judge z) (state began) s) f ∙ (ap (λ z. judged (judge (fixed old)) z s) same ∙ ap (judged (judge (fixed old)) (state old)) is)) told);
     cause = itself-later fixed context state stops x (record { same = f; grows = g }) cause;
   }

@@ -2,6 +2,10 @@
 use Rattle.std.proofs.Common.{◌≡◌, List, [], ◌∷◌, Option, Some, None, refl, sym, ap, ◌∙◌, slice_set}
 use Rattle.candidate_ir.specs.declared.ir.kinds.GenericArg.{GenericArg}
 use Rattle.candidate_ir.specs.declared.ir.kinds.GenericArg.TheVariants as G
+use Rattle.candidate_ir.specs.declared.ir.kinds.ParamEnv.{ParamEnv}
+use Rattle.candidate_ir.specs.declared.ir.kinds.PredicatePolarity.{PredicatePolarity}
+use Rattle.candidate_ir.specs.declared.ir.kinds.TraitId.{TraitId}
+use Rattle.candidate_ir.specs.declared.ir.kinds.TraitPredicate.{TraitPredicate}
 use Rattle.candidate_ir.specs.declared.ir.kinds.TraitRef.{TraitRef}
 use Rattle.candidate_ir.specs.declared.ir.kinds.Ty.{Ty}
 use Rattle.candidate_ir.specs.Context.{Context, Grows, world}
@@ -9,11 +13,14 @@ use Rattle.candidate_ir.specs.Nodes.{kind_at}
 use Rattle.candidate_ir.specs.References.{ArgumentsFit}
 use Rattle.candidate_ir.specs.Supers.{after_first}
 use Rattle.candidate_ir.specs.Trees.{Kind, TypeKind, ConstantKind, RegionKind, Forest, none, tree, Tree, kind_of}
-use Rattle.candidate_ir.specs.Words.{IsTy, ListFits, args_forest, list_forest, ty_tree}
+use Rattle.candidate_ir.specs.Words.{IsTy, ListFits, args_forest, env_forest, list_forest, ty_tree}
 use Rattle.candidate_ir.specs.Worlds.{World, TraitSort, joined, kinds_of, parameters}
 use Rattle.candidate_ir.proofs.Kept.{world-kept}
 use Rattle.candidate_ir.proofs.Rows.{kind-of, row-single}
-use Rattle.candidate_assembly.specs.TraitGoals.{with_first}
+use Rattle.candidate_eval.specs.ImplRules.{TraitGoal}
+use Rattle.candidate_eval.specs.ObjectRequirements.{first_tree}
+use Rattle.candidate_eval.specs.States.{Env}
+use Rattle.candidate_assembly.specs.TraitGoals.{trait_goal, with_first, with_self_type}
 
 first-row : (ts : List Tree) (x : GenericArg) (rest : List GenericArg) → ListFits ts (x ∷ rest) → after_first (list_forest ts (x ∷ rest)) ≡ list_forest ts rest
 first-row ts (G.Ty t) rest h = let k : kind_at ts t.0 ≡ TypeKind = cc in ap after_first (row-single ts t.0 TypeKind (list_forest ts rest) refl refl k)
@@ -48,3 +55,25 @@ fits-still old new r s t g i k f e =
     ∙ (ap (λ (w : World). joined (Some (TypeKind ∷ [])) (parameters w TraitSort r.def_id.0)) (world-kept old new g).0
     ∙ (kinds-stay (parameters (world old) TraitSort r.def_id.0) (ty_tree old.trees t) (args_forest old.trees r.args) (kind-of old.trees t.0 TypeKind refl k) f
     ∙ ap (λ a. Some (kinds_of a)) (sym e)))
+
+-- A goal with another self type.
+
+abbrev goal-with : Env → TraitId → Forest → PredicatePolarity → TraitGoal
+goal-with e i a o = record { env = e; reference = record { trait = i.0; arguments = a }; polarity = o }
+
+pub same-trait-goal : (old new : Context) (env : ParamEnv) (p q : TraitPredicate) (t : Tree) → env_forest new.trees env ≡ env_forest old.trees env → q.trait_ref.def_id ≡ p.trait_ref.def_id → q.polarity ≡ p.polarity
+    → args_forest new.trees q.trait_ref.args ≡ with_first t (args_forest old.trees p.trait_ref.args) → trait_goal new.trees env q ≡ with_self_type (trait_goal old.trees env p) t
+same-trait-goal old new env p q t e i o a =
+    ap (λ x. goal-with x q.trait_ref.def_id (args_forest new.trees q.trait_ref.args) q.polarity) e
+    ∙ (ap (λ x. goal-with (env_forest old.trees env) x (args_forest new.trees q.trait_ref.args) q.polarity) i
+    ∙ (ap (λ x. goal-with (env_forest old.trees env) p.trait_ref.def_id x q.polarity) a
+    ∙ ap (goal-with (env_forest old.trees env) p.trait_ref.def_id (with_first t (args_forest old.trees p.trait_ref.args))) o))
+
+-- The self type of a reference is a type.
+pub first-is-type : (c : Context) (r : TraitRef) → ArgumentsFit c r → kind_of (first_tree (args_forest c.trees r.args)).head ≡ TypeKind
+first-is-type c r f = at (parameters (world c) TraitSort r.def_id.0) (args_forest c.trees r.args) f
+  where
+    at : (o : Option (List Kind)) (args : Forest) → joined (Some (TypeKind ∷ [])) o ≡ Some (kinds_of args) → kind_of (first_tree args).head ≡ TypeKind
+    at None args f = absurd cc
+    at (Some ks) none f = absurd cc
+    at (Some ks) (tree h below rest) f = let same : TypeKind ≡ kind_of h = cc in sym same

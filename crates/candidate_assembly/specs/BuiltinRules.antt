@@ -17,6 +17,7 @@ use Rattle.candidate_ir.specs.declared.ir.kinds.AliasKind.TheVariants as AK
 use Rattle.candidate_ir.specs.declared.ir.kinds.Args.{Args}
 use Rattle.candidate_ir.specs.declared.ir.kinds.Clause.{Clause}
 use Rattle.candidate_ir.specs.declared.ir.kinds.ClosureKind.{ClosureKind}
+use Rattle.candidate_ir.specs.declared.ir.kinds.GoalSource.TheVariants.{ImplWhereBound}
 use Rattle.candidate_ir.specs.declared.ir.kinds.PredicatePolarity.{PredicatePolarity}
 use Rattle.candidate_ir.specs.declared.ir.kinds.PredicatePolarity.TheVariants as Pol
 use Rattle.candidate_ir.specs.declared.ir.kinds.TraitId.{TraitId}
@@ -26,11 +27,14 @@ use Rattle.candidate_ir.specs.Contents.{Bounds}
 use Rattle.candidate_ir.specs.Declaring.{bounds_at, trait_at}
 use Rattle.candidate_ir.specs.Folding.{substituted_tree}
 use Rattle.candidate_ir.specs.Opening.{opened_tree}
+use Rattle.candidate_ir.specs.declared.ir.heads.Flag.TheVariants as F
+use Rattle.candidate_ir.specs.Flags.{mark}
 use Rattle.candidate_ir.specs.Impls.{relevant_impls}
 use Rattle.candidate_ir.specs.Lookups.{adt_flags, definition, maybe, trait_flags}
 use Rattle.candidate_ir.specs.Supers.{after_first}
-use Rattle.candidate_ir.specs.Trees.{Kind, Forest, none, tree, Tree, holds, is_error}
+use Rattle.candidate_ir.specs.Trees.{Kind, Forest, none, tree, Tree, holds}
 use Rattle.candidate_ir.specs.Words.{args_forest, clause_tree}
+use Rattle.candidate_ir.specs.Worlds.{Reference}
 use Rattle.candidate_eval.specs.declared.eval.source.CandidateSource.{CandidateSource}
 use Rattle.candidate_eval.specs.declared.eval.source.CandidateSource.TheVariants.{BuiltinImpl}
 use Rattle.candidate_eval.specs.declared.eval.source.BuiltinImplSource.TheVariants.{Misc, Trivial}
@@ -41,13 +45,16 @@ use Rattle.candidate_eval.specs.Certainties.{AMBIGUOUS}
 use Rattle.candidate_eval.specs.Characterization.{binder_kinds}
 use Rattle.candidate_eval.specs.ImplRules.{TraitGoal}
 use Rattle.candidate_eval.specs.Naming.{named_tree}
-use Rattle.candidate_eval.specs.ObjectRequirements.{first_tree}
+use Rattle.candidate_eval.specs.ObjectRequirements.{first_tree, trait_said}
 use Rattle.candidate_eval.specs.Rules.{Step, fresh, enter, equate, quick, Rule, ask, nested, nested_misc}
 use Rattle.candidate_eval.specs.Evaluators.{rigid}
 use Rattle.candidate_eval.specs.States.{State}
 use Rattle.candidate_eval.specs.Tables.{Cell, Excluded, Refused, Asks, Parts, cell, is_manually_drop, row_of, types_of}
 use Rattle.candidate_eval.specs.declared.structural.Column.TheVariants as C
 use Rattle.candidate_assembly.specs.Kinds.{BuiltinRule, ErrorRule, AutoTraitRule, TraitAliasRule, SizednessRule, CopyCloneRule, FnTraitRule, FnPtrTraitRule, TupleRule, PointeeRule, DiscriminantKindRule, DestructRule, NoDropRule}
+use Rattle.candidate_assembly.specs.declared.trait_goals.no_drop.NoDrop.{NoDrop}
+use Rattle.candidate_assembly.specs.declared.trait_goals.no_drop.NoDrop.TheVariants as D
+use Rattle.candidate_assembly.specs.Telling.{asking_rule, flat_rule}
 use Rattle.candidate_assembly.specs.TraitGoals.{is_positive, item_trait, with_first}
 
 abbrev pub self_of : TraitGoal → Tree
@@ -62,14 +69,14 @@ misc = BuiltinImpl Misc
 -- A rule that never applies, one that asks at once, and one that asks after these steps.
 
 abbrev pub no_rule : TraitGoal → Rule
-no_rule g = record { env = g.env; applies = false; steps = []; ending = ask misc Yes }
+no_rule g = asking_rule g.env false Yes
 
 abbrev pub plain_rule : TraitGoal → Bool → Rule
-plain_rule g applies = record { env = g.env; applies = applies; steps = []; ending = ask misc Yes }
+plain_rule g applies = asking_rule g.env applies Yes
 
 -- what is asked for where the goal says too little
 abbrev pub ambiguous_rule : TraitGoal → Bool → Rule
-ambiguous_rule g applies = record { env = g.env; applies = applies; steps = []; ending = ask misc AMBIGUOUS }
+ambiguous_rule g applies = asking_rule g.env applies AMBIGUOUS
 
 -- Clauses.
 
@@ -127,9 +134,9 @@ abbrev pub parts_rule : TraitGoal → Bool → CandidateSource → Cell → Rule
 parts_rule g applies s (Asks p) = entered_rule g applies s (binder_kinds p.variables) p.types
 parts_rule g applies s _ = no_rule g
 
--- The predicate holds an error.
+-- The predicate holds an error, be it a type, a constant or a region.
 abbrev pub error_rule : TraitGoal → Rule
-error_rule g = plain_rule g (holds is_error g.reference.arguments)
+error_rule g = plain_rule g (holds (mark F.Error) g.reference.arguments)
 
 -- Auto traits: the parts of a type that no impl may be for.
 
@@ -137,8 +144,8 @@ abbrev pub is_nonempty : {A : Type 0} → List A → Bool
 is_nonempty [] = false
 is_nonempty (x ∷ xs) = true
 
-abbrev pub has_relevant_impl : Context → TraitGoal → Bool
-has_relevant_impl c g = is_nonempty (relevant_impls c g.reference.trait (self_of g))
+abbrev pub has_relevant_impl : Context → Reference → Bool
+has_relevant_impl c r = is_nonempty (relevant_impls c r.trait (first_tree r.arguments))
 
 abbrev pub is_set : {F : Type 0} → (F → Bool) → Option F → Bool
 is_set flag None = false
@@ -150,26 +157,40 @@ flag_of_trait flag c n = is_set flag (trait_flags (definition c n))
 abbrev pub flag_of_adt : (AdtFlags → Bool) → Context → ℕ → Bool
 flag_of_adt flag c n = is_set flag (adt_flags (definition c n))
 
--- a trait clause of this trait, of any polarity
+-- whether what is said of a trait is said of this one, of whatever polarity
+abbrev pub is_said_of : ℕ → Option (TraitId × PredicatePolarity) → Bool
+is_said_of n None = false
+is_said_of n (Some said) = said.0.0 == n
+
 abbrev pub is_of_trait : ℕ → Head → Bool
-is_of_trait n (H.Part (P.Clause (Cl.Trait i p))) = i.0 == n
-is_of_trait n _ = false
+is_of_trait n h = is_said_of n (trait_said h)
 
 -- an opaque type whose own bounds speak of the trait
 abbrev pub bounds_name : Context → ℕ → ℕ → Bool
 bounds_name c alias n = list_any (λ (x : Clause). is_of_trait n (clause_tree c.trees x).head) (maybe [] (λ (b : Bounds). b.self_bounds) (bounds_at c alias))
 
--- whether the goal is refused before the parts are asked about, by the head of its self type
-abbrev pub auto_refused : Context → TraitGoal → Head → Bool
-auto_refused c g H.Dynamic = true
-auto_refused c g (H.Param n) = true
-auto_refused c g (H.Placeholder p) = true
-auto_refused c g (H.Alias AK.Opaque i) = bounds_name c i.0 g.reference.trait
-auto_refused c g (H.Alias k i) = true
-auto_refused c g (H.Foreign i) = not (flag_of_trait (λ f. f.default) c g.reference.trait) || has_relevant_impl c g
-auto_refused c g H.Error = false
-auto_refused c g (H.Adt i) = has_relevant_impl c g || (flag_of_trait (λ f. f.unsafe_) c g.reference.trait && flag_of_adt (λ f. f.unsafe_fields) c i.0)
-auto_refused c g _ = has_relevant_impl c g
+-- Whether the head of the self type bars it from the trait: `dyn` types, parameters and placeholders; aliases, but opaque types whose own
+-- bounds don't speak of the trait; foreign types, but for a trait that types meet by default; and types with unsafe fields, where the
+-- trait is unsafe.
+abbrev pub auto_barred : Context → ℕ → Head → Bool
+auto_barred c of H.Dynamic = true
+auto_barred c of (H.Param n) = true
+auto_barred c of (H.Placeholder p) = true
+auto_barred c of (H.Alias AK.Opaque i) = bounds_name c i.0 of
+auto_barred c of (H.Alias k i) = true
+auto_barred c of (H.Foreign i) = not (flag_of_trait (λ f. f.default) c of)
+auto_barred c of (H.Adt i) = flag_of_trait (λ f. f.unsafe_) c of && flag_of_adt (λ f. f.unsafe_fields) c i.0
+auto_barred c of _ = false
+
+-- whether impls are looked for: not for aliases and errors
+abbrev pub may_have_impls : Head → Bool
+may_have_impls (H.Alias k i) = false
+may_have_impls H.Error = false
+may_have_impls _ = true
+
+-- An impl that may be for the type says otherwise than the rule.
+abbrev pub auto_refused : Context → Reference → Head → Bool
+auto_refused c r h = auto_barred c r.trait h || (may_have_impls h && has_relevant_impl c r)
 
 -- an integer or floating-point variable says too little
 abbrev pub is_numeric_variable : Head → Bool
@@ -180,7 +201,7 @@ abbrev pub auto_rule : Context → TraitGoal → Rule
 auto_rule c g =
     let t = self_of g in
     if is_numeric_variable t.head then ambiguous_rule g (positive g)
-    else parts_rule g (positive g && not (auto_refused c g t.head)) misc (cell C.Auto (row_of c t))
+    else parts_rule g (positive g && not (auto_refused c g.reference t.head)) misc (cell C.Auto (row_of c t))
 
 -- Trait aliases: the trait's where clauses.
 abbrev pub trait_alias_rule : Context → TraitGoal → Rule
@@ -250,25 +271,26 @@ is_tuple _ = false
 abbrev pub tuple_rule : TraitGoal → Rule
 tuple_rule g = plain_rule g (positive g && is_tuple (self_of g).head)
 
--- No drop: references and what isn't dropped by hand need nothing, tuples and arrays their elements, all else is `Copy`.
+-- No drop: references and what isn't dropped by the language need nothing, tuples and arrays their elements, all else is `Copy`.
 
-abbrev pub copy_needed : TraitGoal → Option TraitId → Option (List Tree)
-copy_needed g None = None
-copy_needed g (Some copy) = Some (meets copy (self_of g) ∷ [])
+abbrev pub no_drop_needs : Context → Head → NoDrop
+no_drop_needs c (H.Ref m) = D.Nothing
+no_drop_needs c (H.Adt i) = if is_manually_drop (adt_flags (definition c i.0)) then D.Nothing else D.Copy
+no_drop_needs c (H.Builtin B.Tuple) = D.Elements
+no_drop_needs c (H.Builtin B.Array) = D.Elements
+no_drop_needs c _ = D.Copy
 
-abbrev pub no_drop_needs : Context → TraitGoal → Head → Forest → Option (List Tree)
-no_drop_needs c g (H.Ref m) below = Some []
-no_drop_needs c g (H.Adt i) below = if is_manually_drop (adt_flags (definition c i.0)) then Some [] else copy_needed g (item_trait c L.Copy)
-no_drop_needs c g (H.Builtin B.Tuple) below = Some (for_types g (types_of below))
-no_drop_needs c g (H.Builtin B.Array) below = Some (for_types g (types_of below))
-no_drop_needs c g _ below = copy_needed g (item_trait c L.Copy)
+abbrev pub copy_rule : TraitGoal → Option TraitId → Rule
+copy_rule g None = no_rule g
+copy_rule g (Some copy) = flat_rule g.env (positive g) ImplWhereBound (meets copy (self_of g) ∷ []) misc Yes
 
-abbrev pub needs_rule : TraitGoal → Option (List Tree) → Rule
-needs_rule g None = no_rule g
-needs_rule g (Some cs) = record { env = g.env; applies = positive g; steps = nested cs; ending = ask misc Yes }
+abbrev pub rule_by_needs : Context → TraitGoal → NoDrop → Rule
+rule_by_needs c g D.Nothing = plain_rule g (positive g)
+rule_by_needs c g D.Elements = parts_rule g (positive g) misc (cell C.Auto (row_of c (self_of g)))
+rule_by_needs c g D.Copy = copy_rule g (item_trait c L.Copy)
 
 abbrev pub no_drop_rule : Context → TraitGoal → Rule
-no_drop_rule c g = needs_rule g (no_drop_needs c g (self_of g).head (self_of g).children)
+no_drop_rule c g = rule_by_needs c g (no_drop_needs c (self_of g).head)
 
 -- The rules by name.
 abbrev pub trait_rule : BuiltinRule → Context → TraitGoal → Rule

@@ -4,5 +4,7 @@ pub mod Kinds
 pub mod TraitGoals
 pub mod BuiltinRules
 pub mod TraitRules
+pub mod Staying
 pub mod Characterizing
+pub mod Impls
 pub mod Requirements

@@ -12,6 +12,8 @@ use Rattle.candidate_eval.specs.declared.eval.response.Candidate.{Candidate}
 use Rattle.candidate_eval.specs.declared.eval.response.CandidateHeadUsages.{CandidateHeadUsages}
 use Rattle.candidate_eval.specs.declared.eval.response.CanonicalResponse.{CanonicalResponse}
 use Rattle.candidate_eval.specs.declared.eval.source.CandidateSource.{CandidateSource}
+use Rattle.candidate_eval.specs.declared.eval.source.CandidateSource.TheVariants.{BuiltinImpl}
+use Rattle.candidate_eval.specs.declared.eval.source.BuiltinImplSource.TheVariants.{Misc}
 use Rattle.candidate_eval.specs.declared.eval.certainty.Certainty.{Certainty}
 use Rattle.candidate_eval.specs.Accounts.{Account, StopsSomehow, by_stop}
 use Rattle.candidate_eval.specs.Evaluators.{Keeps}
@@ -61,6 +63,10 @@ standing S ls = record { state = S; locals = ls }
 -- a rule that nests clauses and asks
 abbrev pub flat_rule : Env → Bool → GoalSource → List Tree → CandidateSource → Certainty → Rule
 flat_rule e applies s cs source c = record { env = e; applies = applies; steps = map (add s) cs; ending = ask source c }
+
+-- a rule of the language that asks at once
+abbrev pub asking_rule : Env → Bool → Certainty → Rule
+asking_rule e applies c = record { env = e; applies = applies; steps = []; ending = ask (BuiltinImpl Misc) c }
 
 -- no parameter stands in the clauses
 abbrev pub HaveNoParameter : List Tree → List Clause → Type 0

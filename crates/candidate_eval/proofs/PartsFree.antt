@@ -1,6 +1,6 @@
 -- The types that a cell of the tables asks about bear no mark that the type bears nowhere: no parameter, and no variable from a number on.
-use Rattle.std.proofs.Common.{◌≡◌, ◌<◌, ◌+◌, ℕ, zero, suc, List, [], ◌∷◌, ◌++◌, Bool, true, false, Option, Some, None, All, map, refl, sym, ◌∙◌, ap, subst, arith}
-use Rattle.std.specs.Prelude.{◌||◌, ◌==◌, IfSome, if◌then◌else◌, option_map, slice_get}
+use Rattle.std.proofs.Common.{◌≡◌, ◌+◌, ℕ, List, [], ◌∷◌, ◌++◌, Bool, true, false, Option, Some, None, All, map, refl, sym, ◌∙◌, ap, subst, arith}
+use Rattle.std.specs.Prelude.{◌==◌, IfSome, if◌then◌else◌, option_map, slice_get}
 use Rattle.std.specs.List.{list_any}
 use Rattle.std.specs.Option.{unwrap_or}
 use Rattle.std.proofs.lemmas.List.Elements.{All-cons, All-head, All-nil, All-tail, All-weaker}
@@ -24,7 +24,6 @@ use Rattle.candidate_ir.specs.declared.ir.kinds.AliasId.{AliasId}
 use Rattle.candidate_ir.specs.declared.ir.kinds.AliasKind.{AliasKind}
 use Rattle.candidate_ir.specs.declared.ir.kinds.AliasKind.TheVariants as AK
 use Rattle.candidate_ir.specs.declared.ir.kinds.BoundVar.{BoundVar}
-use Rattle.candidate_ir.specs.declared.ir.kinds.RegionKind.{RegionKind}
 use Rattle.candidate_ir.specs.declared.ir.kinds.RegionKind.TheVariants as R
 use Rattle.candidate_ir.specs.declared.ir.kinds.Ty.{Ty}
 use Rattle.candidate_ir.specs.declared.ir.kinds.VarKind.{VarKind}
@@ -34,16 +33,16 @@ use Rattle.candidate_ir.specs.Declaration.{Declaration}
 use Rattle.candidate_ir.specs.Declaring.{adt_at, adt_place, place_of}
 use Rattle.candidate_ir.specs.Folding.{argument, fold, put, shift_tree, substituted_tree}
 use Rattle.candidate_ir.specs.Folds.{node}
-use Rattle.candidate_ir.specs.Held.{adt_held, definition_held, definitions_held, held_type, held_types, impls_held, option_held}
-use Rattle.candidate_ir.specs.Lookups.{adt_flags, constraint, definition, hidden_type, kind_of_declared, maybe}
-use Rattle.candidate_ir.specs.Misplaced.{has_self, held_misplaces, is_misplaced, kinds_of_declared, kinds_of_owner, tree_misplaces, with_self}
+use Rattle.candidate_ir.specs.Held.{adt_held, definitions_held, held_type, held_types, impls_held, option_held}
+use Rattle.candidate_ir.specs.Lookups.{adt_flags, constraint, definition, hidden_type, maybe}
+use Rattle.candidate_ir.specs.Misplaced.{has_self, kinds_of_declared, kinds_of_owner, with_self}
 use Rattle.candidate_ir.specs.Owned.{is_numbered, is_unsolved}
 use Rattle.candidate_ir.specs.References.{Takes}
 use Rattle.candidate_ir.specs.Substitutions.{alone}
 use Rattle.candidate_ir.specs.Trees.{Kind, Forest, none, tree, Tree, binders_of, holds, is_param, is_type, tree_holds, variable_number}
 use Rattle.candidate_ir.specs.WellFormed.{IsWellFormedTable}
 use Rattle.candidate_ir.specs.Words.{ty_tree}
-use Rattle.candidate_ir.specs.Worlds.{AdtSort, DefinitionSort, OpaqueSort, kinds_of, parameters, parameters_of, sort_number}
+use Rattle.candidate_ir.specs.Worlds.{AdtSort, OpaqueSort, kinds_of, parameters, parameters_of, sort_number}
 use Rattle.candidate_ir.proofs.Folding.{begin, by_head, or-left, or-right}
 use Rattle.candidate_ir.proofs.Declared.{hidden_is_closed}
 use Rattle.candidate_ir.proofs.Owned.{none-stray}
@@ -51,7 +50,7 @@ use Rattle.candidate_ir.proofs.WellFormed.{any-of, any-right, definition-passes}
 use Rattle.candidate_eval.specs.declared.structural.Column.{Column}
 use Rattle.candidate_eval.specs.declared.structural.Column.TheVariants as Co
 use Rattle.candidate_eval.specs.Mentions.{IsBelow, is_at_least, is_from}
-use Rattle.candidate_eval.specs.Tables.{Asks, Cell, Excluded, Parts, Refused, alias_row, always, builtin_row, bytes, cell, cells, constraint_types, dropped_types, field_types, first_of, hidden_types, is_manually_drop, is_phantom, last_of, last_type, nothing, optional, owned_types, row, row_of, types_of, unsized, variable_row, with_args}
+use Rattle.candidate_eval.specs.Tables.{Asks, Cell, Excluded, Parts, Refused, alias_row, always, builtin_row, bytes, cell, cells, field_types, first_of, is_manually_drop, is_phantom, last_of, nothing, optional, row, row_of, types_of, unsized, variable_row, with_args}
 use Rattle.candidate_eval.proofs.Holds.{holds_imply, holds_parts, or_false}
 use Rattle.candidate_eval.proofs.Marking.{alone-unmarked, argument-unmarked, shift-unmarked, unmarked}
 

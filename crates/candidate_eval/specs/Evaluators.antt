@@ -11,8 +11,6 @@ use Rattle.candidate_ir.specs.Context.{Context, Grows, parameter_kind}
 use Rattle.candidate_ir.specs.Words.{IsParamEnv, IsClause, env_forest, clause_tree, kind_tree}
 use Rattle.candidate_ir.specs.declared.ir.stop.Stop.{Stop}
 use Rattle.candidate_ir.specs.declared.ir.stop.Stop.TheVariants as S
-use Rattle.candidate_eval.specs.declared.eval.refusal.NoSolutionOrStop.{NoSolutionOrStop}
-use Rattle.candidate_eval.specs.declared.eval.refusal.NoSolutionOrStop.TheVariants as N
 use Rattle.candidate_eval.specs.declared.eval.context.ProbeKind.{ProbeKind}
 use Rattle.candidate_eval.specs.declared.eval.context.ProbeKind.TheVariants as P
 use Rattle.candidate_eval.specs.States.{Env, State, Goal, Pending, Judge, with_pending, with_universe, placeholders, next}
@@ -85,8 +83,3 @@ IsEvaluatorStop S.Memory = Unit {0}
 IsEvaluatorStop S.NodesFull = Unit {0}
 IsEvaluatorStop S.EvaluatorLimit = Unit {0}
 IsEvaluatorStop _ = ⊥
-
--- a refusal is none
-abbrev pub IsEvaluatorRefusal : NoSolutionOrStop → Type 0
-IsEvaluatorRefusal N.NoSolution = Unit {0}
-IsEvaluatorRefusal (N.Stop s) = IsEvaluatorStop s

@@ -1,12 +1,12 @@
 -- The laws of an evaluator. They speak of its judge.
-use Rattle.std.specs.Prelude.{◌≡◌, ◌≤◌, Bool, true, false, Some, None, List, [], length}
+use Rattle.std.specs.Prelude.{◌≡◌, ◌≤◌, ℕ, Bool, true, false, Some, None, List, [], length}
 use Rattle.std.specs.List.{All}
 use Rattle.candidate_ir.specs.Trees.{Kind, TypeKind, ConstantKind, Forest, Tree, kind_of, erase, holds, is_alias, is_error, is_param}
 use Rattle.candidate_ir.specs.Substitutions.{Substitution, alone, apply}
 use Rattle.candidate_eval.specs.Certainties.{Certainty, Yes}
 use Rattle.candidate_eval.specs.Responses.{Response}
-use Rattle.candidate_eval.specs.States.{Env, State, Goal, Pending, Judge, resolved}
-use Rattle.candidate_eval.specs.Alike.{JudgesAlike}
+use Rattle.candidate_eval.specs.States.{Env, State, Goal, Pending, Judge, VariableInfo, resolved}
+use Rattle.candidate_eval.specs.Alike.{JudgesAlike, info}
 use Rattle.candidate_eval.specs.Soundness.{Live, OfValues, ValuesFit, AreLeaves, AreTreesOf, IsSound, IsResolved, IsSolution, AgreesOn, Within, Follows, GoalIsOf, GoalsAreOf}
 use Rattle.candidate_eval.specs.Instances.{IsResponseOf}
 
@@ -73,10 +73,29 @@ pub record IsNormalForm (S T : State) (L : Live) (e : Env) (t u : Tree) : Type 0
   pub tree : AreTreesOf T follows.live (alone u)
   pub no_parameter : HasNoParameter S L → holds is_param e ≡ false → holds is_param (alone t) ≡ false → HasNoParameter T follows.live × (holds is_param (alone u) ≡ false)
 
--- The state follows, and these are goals of it.
-pub record LeavesGoals (S T : State) (L : Live) (ps : List Pending) : Type 0 where
+-- A goal without parameters.
+pub record GoalHasNoParameter (g : Goal) : Type 0 where
+  pub env : holds is_param g.env ≡ false
+  pub clause : holds is_param (alone g.clause) ≡ false
+
+abbrev pub GoalsHaveNoParameter : List Pending → Type 0
+GoalsHaveNoParameter ps = All (λ (p : Pending). GoalHasNoParameter p.goal) ps
+
+-- No parameter stands in the regions that are recorded.
+abbrev pub RegionsHaveNoParameter : State → Type 0
+RegionsHaveNoParameter S = All (λ t. holds is_param (alone t) ≡ false) S.regions
+
+-- The state follows, and these are goals of it. Where there was no parameter before, none is brought in: not into values and goals, and not
+-- into the regions that are recorded, where none stood there.
+pub record LeavesGoals (S T : State) (L : Live) (ps : List Pending) (none_before : Type 0) : Type 0 where
   pub follows : Follows S T L
   pub goals : GoalsAreOf T follows.live ps
+  pub no_parameter : none_before → HasNoParameter T follows.live × GoalsHaveNoParameter ps
+  pub regions_without : none_before → RegionsHaveNoParameter S → RegionsHaveNoParameter T
+
+-- The variables that the goal came with count.
+abbrev pub RootsCount : State → Live → Type 0
+RootsCount S L = (n : ℕ) (i : VariableInfo) → info S n ≡ Some i → i.is_root ≡ true → L n ≡ true
 
 pub record NormalFormLaws (J : Judge) : Type 0 where
   -- A type or constant that is resolved and no alias is normal.
@@ -100,7 +119,7 @@ pub record EquationLaws (J : Judge) : Type 0 where
   -- Equating leaves what is pending as it is; the goals that the equation leaves are goals of the state, which follows.
   pub equating_keeps_pending : (S T : State) (e : Env) (a b : Forest) (gs : List Pending) → J.equated S e a b ≡ Some (gs, T) → T.pending ≡ S.pending
   pub equating_follows : (S T : State) (L : Live) (e : Env) (a b : Forest) (gs : List Pending) → IsSound S L → ValuesFit S L → AreTreesOf S L e → AreTreesOf S L a → AreTreesOf S L b
-      → J.equated S e a b ≡ Some (gs, T) → LeavesGoals S T L gs
+      → J.equated S e a b ≡ Some (gs, T) → LeavesGoals S T L gs (HasNoParameter S L × (holds is_param e ≡ false) × (holds is_param a ≡ false) × (holds is_param b ≡ false))
 
 pub record ResponseLaws (J : Judge) : Type 0 where
   -- With nothing pending no response is refused, and its certainty is the one asked, whatever regions are recorded.
@@ -114,10 +133,14 @@ pub record ResponseLaws (J : Judge) : Type 0 where
 
 pub record GrantedLaws (J : Judge) : Type 0 where
   -- What settling leaves pending are goals of the state that it leaves, which follows.
-  pub settling_follows : (S T : State) (L : Live) (c : Certainty) → IsSound S L → ValuesFit S L → GoalsAreOf S L S.pending → J.settled S ≡ Some (c, T) → LeavesGoals S T L T.pending
+  pub settling_follows : (S T : State) (L : Live) (c : Certainty) → IsSound S L → ValuesFit S L → GoalsAreOf S L S.pending → J.settled S ≡ Some (c, T)
+      → LeavesGoals S T L T.pending (HasNoParameter S L × GoalsHaveNoParameter S.pending)
   -- What settling drops or replaces is granted at every state that follows and grants what settling leaves.
   pub settling_drops_granted : (S T U : State) (L : Live) (c : Certainty) → IsSound S L → ValuesFit S L → GoalsAreOf S L S.pending → J.settled S ≡ Some (c, T)
       → (f : Follows S T L) → GoalsAreOf T f.live T.pending → Follows T U f.live → AreGranted J U T.pending → AreGranted J U S.pending
+  -- Where there was no parameter before, none stands in the values that a response says.
+  pub responding_brings_none : (S : State) (L : Live) (c : Certainty) (r : Response) → IsSound S L → ValuesFit S L → GoalsAreOf S L S.pending → RootsCount S L
+      → HasNoParameter S L → GoalsHaveNoParameter S.pending → J.responded S c ≡ Some r → holds is_param r.values ≡ false
   -- What is granted stays so at every state that follows.
   pub granted_stays : (S T : State) (L : Live) (g : Goal) → IsSound S L → ValuesFit S L → GoalIsOf S L g → Follows S T L → J.granted S g → J.granted T g
 

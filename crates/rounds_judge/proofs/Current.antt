@@ -179,7 +179,7 @@ module _ (l : Listing) (listing : IsListing l) (S : State) (L : Live) (sound : I
   -- The value
 
   -- a mark that no placeholder bears of the scope's regions, and that what is listed doesn't bear
-  value_marked : (mark : Head → Bool) (us : Scope) → ((u i : ℕ) → u ≤ S.newest_universe → mark (H.Region (R.Placeholder (record { universe = u; index = i }))) ≡ false)
+  pub value_marked : (mark : Head → Bool) (us : Scope) → ((u i : ℕ) → u ≤ S.newest_universe → mark (H.Region (R.Placeholder (record { universe = u; index = i }))) ≡ false)
       → ((t u : Tree) → listed l t ≡ Some u → holds mark (alone u) ≡ false) → All (λ u. u ≤ S.newest_universe) us
       → (t : Tree) → holds mark (alone (resolved_tree S t)) ≡ false → holds mark (alone (value_for l S us t)) ≡ false
   value_marked mark us place type universes t k =

@@ -27,5 +27,5 @@ module _ (l : Listing) (listing : IsListing l) (J : Judge) (answers : (S : State
     refused_has_no_solution = λ S L e a b sides h s solves. unequated_unsolved l listing S L a b sides (refused S e a b h) s solves;
     equating_keeps_variables = λ S T e a b gs h. equating_keeps_variables l S T a b gs (sym (answers S e a b) ∙ h);
     equating_keeps_pending = λ S T e a b gs h. equating_keeps_pending l S T a b gs (sym (answers S e a b) ∙ h);
-    equating_follows = λ S T L e a b gs sound fits env left right h. equating_follows l listing S T L a b gs sound fits left right (sym (answers S e a b) ∙ h);
+    equating_follows = λ S T L e a b gs sound fits env left right h. equating_follows l listing S T L e a b gs sound fits left right (sym (answers S e a b) ∙ h);
   }

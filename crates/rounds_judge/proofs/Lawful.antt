@@ -8,7 +8,8 @@ use Rattle.rounds_judge.specs.Standing.{IsListing}
 use Rattle.rounds_judge.specs.RoundsJudge.{rounds_judge}
 use Rattle.rounds_judge.proofs.EquationLaws.{equation_laws}
 use Rattle.rounds_judge.proofs.JudgeLaws.{alike_judged_alike, normal_form_laws, empty_is_answered, yes_was_asked}
-use Rattle.rounds_judge.proofs.Settling.{settling_follows}
+use Rattle.rounds_judge.proofs.ParameterlessGoals.{settling_follows}
+use Rattle.rounds_judge.proofs.ParameterlessResponses.{responding_brings_none}
 use Rattle.rounds_judge.proofs.Granting.{granted_stays}
 use Rattle.rounds_judge.proofs.Dropped.{settling_drops_granted}
 use Rattle.rounds_judge.proofs.Responding.{empty_is_of_state, yes_is_granted}
@@ -26,6 +27,7 @@ module _ (w : World) (local : ℕ) (l : Listing) (os : List Tree) (listing : IsL
   granted_laws = record {
     settling_follows = λ S T L c sound fits of e. settling_follows l listing S T L c sound fits of e;
     settling_drops_granted = λ S T U L c sound fits of e f goals g granted. settling_drops_granted l listing S T U L c sound fits of e f g granted;
+    responding_brings_none = λ S L c r sound fits of roots free goals e. responding_brings_none l listing S L c r sound fits of roots free goals e;
     granted_stays = λ S T L g sound fits of f a. granted_stays l listing S T L g sound fits of f a;
   }
 

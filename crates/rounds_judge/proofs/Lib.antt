@@ -35,3 +35,6 @@ pub mod Lawful
 pub mod Faithful
 pub mod Stepping
 pub mod WellListed
+pub mod Parameterless
+pub mod ParameterlessGoals
+pub mod ParameterlessResponses

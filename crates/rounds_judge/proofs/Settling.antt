@@ -1,5 +1,5 @@
 -- Settling leads to a state that follows, and what it leaves pending are goals of that state.
-use Rattle.std.proofs.Common.{◌≡◌, ◌≤◌, ℕ, zero, suc, ◌+◌, Bool, true, false, List, [], ◌∷◌, ◌++◌, Option, Some, None, nat_lt, arith, refl, ap, subst, if◌then◌else◌}
+use Rattle.std.proofs.Common.{◌≡◌, ◌≤◌, ℕ, zero, suc, ◌+◌, Bool, true, false, List, [], ◌∷◌, ◌++◌, Option, Some, None, arith, refl, ap, subst, if◌then◌else◌}
 use Rattle.std.proofs.lemmas.Bool.{le-ltb}
 use Rattle.std.proofs.lemmas.List.Elements.{All-head, All-tail, All-cons, All-nil, All-weaker}
 use Rattle.candidate_ir.specs.declared.ir.heads.Head.{Head}
@@ -18,7 +18,6 @@ use Rattle.candidate_eval.specs.declared.eval.certainty.Certainty.{Certainty}
 use Rattle.candidate_eval.specs.States.{State, Goal, Pending, resolved_tree, with_pending, with_universe, placeholder, next}
 use Rattle.candidate_eval.specs.Characterization.{is_any_bound, Bounded, bound_kinds, group_at}
 use Rattle.candidate_eval.specs.Soundness.{Live, IsSound, ValuesFit, IsLater, AreTreesOf, GoalIsOf, GoalsAreOf, is_strange}
-use Rattle.candidate_eval.specs.Lawful.{LeavesGoals}
 use Rattle.candidate_eval.proofs.Holds.{holds_parts}
 use Rattle.rounds_judge.specs.Listed.{Listing, listed}
 use Rattle.rounds_judge.specs.Standing.{IsListing}
@@ -252,9 +251,3 @@ settled_is l S T c e = at (passes l 8 S) e
     at : (o : Option State) → next o (λ T. Some (with_certainty T)) ≡ Some (c, T) → o ≡ Some T
     at None e = cc
     at (Some R) e = ap (λ (q : Certainty × State). Some q.1) (let is : with_certainty R ≡ (c, T) = cc in is)
-
--- What settling leaves pending are goals of the state that it leaves, which follows.
-pub settling_follows : (l : Listing) → IsListing l → (S T : State) (L : Live) (c : Certainty) → IsSound S L → ValuesFit S L → GoalsAreOf S L S.pending → settled l S ≡ Some (c, T) → LeavesGoals S T L T.pending
-settling_follows l listing S T L c sound fits of e =
-    let left = passes_leave l listing L 8 S T sound fits of (settled_is l S T c e) in
-    record { follows = record { live = L; within = λ n l c. c; sound = left.leads.sound; fits = fits_later left.leads.later fits; later = left.leads.later }; goals = left.goals }

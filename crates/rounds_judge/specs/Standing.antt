@@ -1,10 +1,7 @@
 -- What holds of a state and of the pairs that are left, from one look to the next.
-use Rattle.std.specs.Prelude.{◌≡◌, ◌≤◌, Bool, true, false, nat_lt, Some, List, length}
+use Rattle.std.specs.Prelude.{◌≡◌, ◌≤◌, true, false, Some, List, length}
 use Rattle.std.specs.List.{All}
 use Rattle.candidate_ir.specs.declared.ir.heads.Head.{Head}
-use Rattle.candidate_ir.specs.declared.ir.heads.Head.TheVariants as H
-use Rattle.candidate_ir.specs.declared.ir.kinds.RegionKind.TheVariants as R
-use Rattle.candidate_ir.specs.declared.ir.heads.ConstHead.TheVariants as C
 use Rattle.candidate_ir.specs.Trees.{Tree, holds, is_alias, is_param, is_type, erase}
 use Rattle.candidate_ir.specs.Binders.{escapes}
 use Rattle.candidate_ir.specs.Substitutions.{Substitution, alone, apply}

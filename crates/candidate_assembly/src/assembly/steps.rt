@@ -1,20 +1,20 @@
 //! Steps of rules, by the calls of an evaluator.
 
-ghost use Rattle.std.specs.Prelude.{◌≡◌, All, Err, List, map, false, IfErr};
-ghost use Rattle.candidate_ir.specs.Trees.{Tree, is_param, tree_holds};
+ghost use Rattle.std.specs.Prelude.{◌≡◌, Err, List, map, true, IfErr};
+ghost use Rattle.candidate_ir.specs.Trees.{Tree};
 ghost use Rattle.candidate_ir.specs.Words.{ClauseListFits, IsParamEnv, clause_tree, env_forest};
 ghost use Rattle.candidate_eval.specs.Accounts.{by_stop};
 ghost use Rattle.candidate_eval.specs.Evaluators.{Keeps, with_goals_of};
-ghost use Rattle.candidate_eval.specs.Judging.{Judged, asked, judged};
+ghost use Rattle.candidate_eval.specs.Judging.{Judged, asked};
 ghost use Rattle.candidate_eval.specs.ObjectRequirements.{goals_in};
-ghost use Rattle.candidate_assembly.specs.Telling.{Considers, HaveNoParameter, StopsOfItself, Told, ToldAs, flat_rule};
+ghost use Rattle.candidate_assembly.specs.Telling.{Considers, HaveNoParameter, StopsOfItself, Told, ToldAs, asking_rule, flat_rule};
 
-use candidate_eval::eval::certainty::Certainty;
+use candidate_eval::eval::certainty::{Certainty, MaybeInfo};
 use candidate_eval::eval::clauses::goals;
 use candidate_eval::eval::context::{EvalCtxt, ProbeKind};
 use candidate_eval::eval::refusal::NoSolutionOrStop;
 use candidate_eval::eval::response::{Candidate, CandidateHeadUsages, CanonicalResponse};
-use candidate_eval::eval::source::CandidateSource;
+use candidate_eval::eval::source::{BuiltinImplSource, CandidateSource};
 use candidate_ir::ir::kinds::{Clause, GoalSource, ParamEnv};
 use std::alloc::Global;
 
@@ -101,4 +101,33 @@ pub fn consider_flat<E: EvalCtxt>(
     let answer = nest_and_respond(alloc, ecx, env, nested_source, nested, source, certainty);
     let _usages = ecx.end_probe(probe);
     answer
+}
+
+/// The candidate of a rule that asks at once, where it applies; its source is a rule of the language. As `consider_flat`.
+pub fn consider_plain<E: EvalCtxt>(
+    alloc: Global,
+    ecx: &mut E,
+    env: ParamEnv,
+    applies: bool,
+    certainty: Certainty,
+) -> Result<Candidate, NoSolutionOrStop>
+    requires { IsParamEnv (E.context ecx.old).trees env }
+    ensures { Considers E.fixed E.judge E.state E.probes E.context E.stops ecx.old ecx.new (asking_rule (env_forest (E.context ecx.old).trees env) applies certainty) result }
+{
+    let source = CandidateSource::BuiltinImpl(BuiltinImplSource::Misc);
+    let nested = GoalSource::Misc;
+    consider_flat(alloc, ecx, env, applies, nested, &[], source, certainty)
+}
+
+/// The candidate where a goal says too little: with this certainty, and as `consider_plain`.
+pub fn forced_ambiguity<E: EvalCtxt>(
+    alloc: Global,
+    ecx: &mut E,
+    env: ParamEnv,
+    maybe: MaybeInfo,
+) -> Result<Candidate, NoSolutionOrStop>
+    requires { IsParamEnv (E.context ecx.old).trees env }
+    ensures { Considers E.fixed E.judge E.state E.probes E.context E.stops ecx.old ecx.new (asking_rule (env_forest (E.context ecx.old).trees env) true (Certainty.Maybe maybe)) result }
+{
+    consider_plain(alloc, ecx, env, true, Certainty::Maybe(maybe))
 }

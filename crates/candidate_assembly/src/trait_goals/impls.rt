@@ -1,12 +1,54 @@
 //! The rule of an impl: a goal of a trait holds by an impl of it.
 
-ghost use Rattle.std.specs.Prelude.{◌≡◌};
+ghost use Rattle.std.specs.Prelude.{◌≡◌, ◌∷◌, false, true, None, Some, Option, map, IfErr, IfOk, IfSome, MatchOption, OnOk};
+ghost use Rattle.candidate_ir.specs.Declaring.{impl_at};
+ghost use Rattle.candidate_ir.specs.Folding.{lacks_argument};
+ghost use Rattle.candidate_ir.specs.Owned.{ClausesAreOwned};
+ghost use Rattle.candidate_ir.specs.Trees.{holds, is_param};
+ghost use Rattle.candidate_ir.specs.WellFormed.{ImplIsGiven};
+ghost use Rattle.candidate_ir.specs.Words.{IsArgs, IsParamEnv, args_forest, clause_tree, env_forest};
+ghost use Rattle.candidate_ir.specs.Worlds.{kinds_of};
+ghost use Rattle.candidate_eval.specs.Accounts.{StopsSomehow, by_stop};
+ghost use Rattle.candidate_eval.specs.Evaluators.{IsMakingStop, Keeps};
 ghost use Rattle.candidate_eval.specs.ImplRules as rules;
+ghost use Rattle.candidate_eval.specs.Judging.{At, Over, Refused, run, start, step};
+ghost use Rattle.candidate_eval.specs.Responses.{Response};
+ghost use Rattle.candidate_eval.specs.Rules.{add, equate};
+ghost use Rattle.candidate_eval.specs.States.{State, fresh_variables, with_fresh_variables};
+ghost use Rattle.candidate_eval.specs.declared.eval.source.CandidateSource.{CandidateSource};
+ghost use Rattle.candidate_eval.specs.declared.eval.source.CandidateSource.TheVariants as source;
+ghost use Rattle.candidate_assembly.specs.Closures.{IsCallableWith, Responds, TellsWith};
+ghost use Rattle.candidate_assembly.specs.Impls.{IsDeclared, IsNamed, declared_steps, impl_kinds, steps_at};
+ghost use Rattle.candidate_assembly.specs.Kinds.{IsGoal, part_judged, rule_of_part, steps_judged};
+ghost use Rattle.candidate_assembly.specs.Telling.{Considers, StopsOfItself, Told, ToldAs, standing};
+ghost use Rattle.candidate_assembly.specs.TraitGoals.{arguments_held, impl_part_at, trait_goal, types_held};
+ghost use Rattle.candidate_assembly.specs.TraitRules.{trait_rules};
 
 use candidate_eval::eval::certainty::Certainty;
+use candidate_eval::eval::clauses::put_in;
+use candidate_eval::eval::context::{EvalCtxt, ProbeKind};
 use candidate_eval::eval::mode::TypingMode;
-use candidate_ir::decl::contents::ImplPolarity;
-use candidate_ir::ir::kinds::PredicatePolarity;
+use candidate_eval::eval::refusal::NoSolutionOrStop;
+use candidate_eval::eval::response::{Candidate, CandidateHeadUsages, CanonicalResponse};
+use candidate_eval::eval::source::CandidateSource;
+use candidate_ir::decl::Cx;
+use candidate_ir::decl::contents::{ImplId, ImplPolarity};
+use candidate_ir::ir::kinds::{
+    Args, Clause, Goal, GoalSource, ParamEnv, PredicatePolarity, TraitPredicate,
+};
+use candidate_ir::ir::stop::Stop;
+use candidate_ir::ir::trees::Trees;
+use candidate_ir::ir::unify::RightSide;
+use std::alloc::Global;
+
+/// What an impl declares.
+#[derive(Drop)]
+pub(crate) struct Declared {
+    /// The arguments of the trait reference that it is for.
+    header: Args,
+    wheres: Vec<Clause>,
+    super_outlives: Vec<Clause>,
+}
 
 /// How sure an impl makes a goal, if it serves it.
 fn impl_certainty(mode: TypingMode, goal: PredicatePolarity, of: ImplPolarity) -> Option<Certainty>
@@ -21,4 +63,316 @@ fn impl_certainty(mode: TypingMode, goal: PredicatePolarity, of: ImplPolarity) -
         (ImplPolarity::Negative, PredicatePolarity::Negative) => Some(Certainty::Yes),
         _ => None,
     }
+}
+
+/// The certainty that the impl gives the goal, if its rule applies.
+fn certainty_by(
+    cx: &Cx,
+    mode: TypingMode,
+    env: ParamEnv,
+    predicate: TraitPredicate,
+    of: ImplId,
+) -> Option<Certainty>
+    requires { IsArgs cx.now.trees predicate.trait_ref.args }
+    ensures { MatchOption result ((impl_part_at cx.now mode (trait_goal cx.now.trees env predicate) of).applies ≡ false) (λ c. ((impl_part_at cx.now mode (trait_goal cx.now.trees env predicate) of).applies ≡ true) × ((impl_part_at cx.now mode (trait_goal cx.now.trees env predicate) of).certainty ≡ c)) }
+{
+    let _ = env;
+    let declared = cx.impl_contents(of)?;
+    let header = declared.trait_ref;
+    let polarity = declared.polarity;
+    if !cx.args_may_unify(predicate.trait_ref.args, header.args, RightSide::Header) {
+        return None;
+    }
+    impl_certainty(mode, predicate.polarity, polarity)
+}
+
+/// What is declared of the impl is of the context.
+fn impl_is_given(cx: &Cx, of: ImplId)
+    ensures { IfSome (impl_at cx.now of) (ImplIsGiven cx.now) }
+{
+    let _ = of;
+    cx.well_formed_table();
+}
+
+/// Fresh variables in the place of an impl's parameters; of what is no impl there are none.
+fn fresh_args_for_impl<E: EvalCtxt>(alloc: Global, ecx: &mut E, of: ImplId) -> Result<Args, Stop>
+    ensures kept { Keeps E.fixed E.probes E.context ecx.old ecx.new }
+    ensures state { OnOk result (E.state ecx.new ≡ with_fresh_variables (E.state ecx.old) (impl_kinds (E.context ecx.old) of)) }
+    ensures sort { IfOk result (λ a. IsArgs (E.context ecx.new).trees a) }
+    ensures trees { IfOk result (λ a. args_forest (E.context ecx.new).trees a ≡ fresh_variables (E.state ecx.old) (impl_kinds (E.context ecx.old) of)) }
+    ensures cause { IfErr result (StopsSomehow E.fixed E.context E.state E.stops ecx.old) }
+{
+    let kinds = ecx.cx().impl_parameters(alloc, of)?;
+    ecx.fresh_args_for_item(kinds.as_slice())
+}
+
+/// What the impl declares, whose parameters have these arguments; `None` of what is no impl.
+fn declared_by(alloc: Global, cx: &Cx, of: ImplId, args: Args) -> Result<Option<Declared>, Stop>
+    requires { kinds_of (args_forest cx.now.trees args) ≡ impl_kinds cx.now of }
+    ensures read { IfOk result (λ o. MatchOption o (impl_at cx.now of ≡ None) (IsDeclared cx.now of (args_forest cx.now.trees args))) }
+    ensures cause { IfErr result IsMakingStop }
+{
+    let Some(declared) = cx.impl_of(of, args) else {
+        return Ok(None);
+    };
+    let wheres = Vec::from_slice(alloc, declared.wheres.as_slice())?;
+    let super_outlives = Vec::from_slice(alloc, declared.super_outlives.as_slice())?;
+    Ok(Some(Declared {
+        header: declared.trait_ref.args,
+        wheres,
+        super_outlives,
+    }))
+}
+
+/// Equates the arguments with those of a header, with what stands for the impl's parameters.
+fn equate_header<E: EvalCtxt>(
+    alloc: Global,
+    ecx: &mut E,
+    env: ParamEnv,
+    args: Args,
+    header: Args,
+    locals: Args,
+) -> Result<(), NoSolutionOrStop>
+    requires env { IsParamEnv (E.context ecx.old).trees env }
+    requires args { IsArgs (E.context ecx.old).trees args }
+    requires no_parameter { holds is_param (args_forest (E.context ecx.old).trees args) ≡ false }
+    requires header { IsArgs (E.context ecx.old).trees header }
+    requires locals { IsArgs (E.context ecx.old).trees locals }
+    requires there { holds (lacks_argument (args_forest (E.context ecx.old).trees locals)) (args_forest (E.context ecx.old).trees header) ≡ false }
+    ensures kept { Keeps E.fixed E.probes E.context ecx.old ecx.new }
+    ensures ok { IfOk result (λ _. step (E.judge (E.fixed ecx.old)) (env_forest (E.context ecx.old).trees env) (standing (E.state ecx.old) (args_forest (E.context ecx.old).trees locals)) (equate (args_forest (E.context ecx.old).trees args) (args_forest (E.context ecx.old).trees header)) ≡ At (standing (E.state ecx.new) (args_forest (E.context ecx.old).trees locals))) }
+    ensures refused { IfErr result (λ e. e ≡ NoSolutionOrStop.NoSolution → step (E.judge (E.fixed ecx.old)) (env_forest (E.context ecx.old).trees env) (standing (E.state ecx.old) (args_forest (E.context ecx.old).trees locals)) (equate (args_forest (E.context ecx.old).trees args) (args_forest (E.context ecx.old).trees header)) ≡ Over Refused) }
+    ensures cause { IfErr result (by_stop (StopsSomehow E.fixed E.context E.state E.stops ecx.old)) }
+{
+    let header = put_in(alloc, ecx, header, locals)?;
+    ecx.eq_args(env, args, header)
+}
+
+/// Clauses become pending, one after the other, with what stands for the impl's parameters.
+fn nest_clauses<E: EvalCtxt>(
+    alloc: Global,
+    ecx: &mut E,
+    env: ParamEnv,
+    source: GoalSource,
+    clauses: &[Clause],
+    locals: Args,
+) -> Result<(), Stop>
+    requires env { IsParamEnv (E.context ecx.old).trees env }
+    requires clauses { ClausesAreOwned (E.context ecx.old).trees (args_forest (E.context ecx.old).trees locals) clauses.now }
+    requires locals { IsArgs (E.context ecx.old).trees locals }
+    ensures kept { Keeps E.fixed E.probes E.context ecx.old ecx.new }
+    ensures ok { OnOk result (run (E.judge (E.fixed ecx.old)) (env_forest (E.context ecx.old).trees env) (standing (E.state ecx.old) (args_forest (E.context ecx.old).trees locals)) (map (add source) (map (clause_tree (E.context ecx.old).trees) clauses.now)) ≡ At (standing (E.state ecx.new) (args_forest (E.context ecx.old).trees locals))) }
+    ensures cause { IfErr result (StopsSomehow E.fixed E.context E.state E.stops ecx.old) }
+{
+    for clause in clauses {
+        let predicate = put_in(alloc, ecx, *clause, locals)?;
+        ecx.add_goal(
+            source,
+            Goal {
+                param_env: env,
+                predicate,
+            },
+        )?;
+    }
+    Ok(())
+}
+
+/// Equates the arguments with those of a header, and then where clauses and outlives clauses become pending, all with what stands for
+/// the impl's parameters.
+fn equate_and_nest<E: EvalCtxt>(
+    alloc: Global,
+    ecx: &mut E,
+    env: ParamEnv,
+    args: Args,
+    header: Args,
+    wheres: &[Clause],
+    super_outlives: &[Clause],
+    locals: Args,
+) -> Result<(), NoSolutionOrStop>
+    requires env { IsParamEnv (E.context ecx.old).trees env }
+    requires args { IsArgs (E.context ecx.old).trees args }
+    requires no_parameter { holds is_param (args_forest (E.context ecx.old).trees args) ≡ false }
+    requires header { IsArgs (E.context ecx.old).trees header }
+    requires there { holds (lacks_argument (args_forest (E.context ecx.old).trees locals)) (args_forest (E.context ecx.old).trees header) ≡ false }
+    requires wheres { ClausesAreOwned (E.context ecx.old).trees (args_forest (E.context ecx.old).trees locals) wheres.now }
+    requires super_outlives { ClausesAreOwned (E.context ecx.old).trees (args_forest (E.context ecx.old).trees locals) super_outlives.now }
+    requires locals { IsArgs (E.context ecx.old).trees locals }
+    ensures kept { Keeps E.fixed E.probes E.context ecx.old ecx.new }
+    ensures ok { IfOk result (λ _. run (E.judge (E.fixed ecx.old)) (env_forest (E.context ecx.old).trees env) (standing (E.state ecx.old) (args_forest (E.context ecx.old).trees locals)) (declared_steps (args_forest (E.context ecx.old).trees args) (args_forest (E.context ecx.old).trees header) (map (clause_tree (E.context ecx.old).trees) wheres.now) (map (clause_tree (E.context ecx.old).trees) super_outlives.now)) ≡ At (standing (E.state ecx.new) (args_forest (E.context ecx.old).trees locals))) }
+    ensures refused { IfErr result (λ e. e ≡ NoSolutionOrStop.NoSolution → run (E.judge (E.fixed ecx.old)) (env_forest (E.context ecx.old).trees env) (standing (E.state ecx.old) (args_forest (E.context ecx.old).trees locals)) (declared_steps (args_forest (E.context ecx.old).trees args) (args_forest (E.context ecx.old).trees header) (map (clause_tree (E.context ecx.old).trees) wheres.now) (map (clause_tree (E.context ecx.old).trees) super_outlives.now)) ≡ Over Refused) }
+    ensures cause { IfErr result (by_stop (StopsSomehow E.fixed E.context E.state E.stops ecx.old)) }
+{
+    equate_header(alloc, ecx, env, args, header, locals)?;
+    let source = GoalSource::ImplWhereBound;
+    nest_clauses(alloc, ecx, env, source, wheres, locals)?;
+    nest_clauses(alloc, ecx, env, GoalSource::Misc, super_outlives, locals)?;
+    Ok(())
+}
+
+/// What an impl's rule does before it asks, for a row of arguments. It answers what stands for the impl's parameters; of what is no impl
+/// nothing is done.
+fn follow_impl<E: EvalCtxt>(
+    alloc: Global,
+    ecx: &mut E,
+    env: ParamEnv,
+    args: Args,
+    of: ImplId,
+) -> Result<Args, NoSolutionOrStop>
+    requires env { IsParamEnv (E.context ecx.old).trees env }
+    requires args { IsArgs (E.context ecx.old).trees args }
+    requires no_parameter { holds is_param (args_forest (E.context ecx.old).trees args) ≡ false }
+    ensures kept { Keeps E.fixed E.probes E.context ecx.old ecx.new }
+    ensures ok { IfOk result (λ ls. run (E.judge (E.fixed ecx.old)) (env_forest (E.context ecx.old).trees env) (start (E.state ecx.old)) (steps_at (E.context ecx.old) (args_forest (E.context ecx.old).trees args) of) ≡ At (standing (E.state ecx.new) (args_forest (E.context ecx.new).trees ls))) }
+    ensures refused { IfErr result (λ e. e ≡ NoSolutionOrStop.NoSolution → run (E.judge (E.fixed ecx.old)) (env_forest (E.context ecx.old).trees env) (start (E.state ecx.old)) (steps_at (E.context ecx.old) (args_forest (E.context ecx.old).trees args) of) ≡ Over Refused) }
+    ensures cause { IfErr result (by_stop (StopsSomehow E.fixed E.context E.state E.stops ecx.old)) }
+{
+    impl_is_given(ecx.cx(), of);
+    let locals = fresh_args_for_impl(alloc, ecx, of)?;
+    let Some(declared) = declared_by(alloc, ecx.cx(), of, locals)? else {
+        return Ok(locals);
+    };
+    let (wheres, super_outlives) = (&declared.wheres, &declared.super_outlives);
+    equate_and_nest(
+        alloc,
+        ecx,
+        env,
+        args,
+        declared.header,
+        wheres.as_slice(),
+        super_outlives.as_slice(),
+        locals,
+    )?;
+    Ok(locals)
+}
+
+/// What an impl's rule does, and then what the closure answers.
+fn follow_impl_and_then<
+    E: EvalCtxt,
+    F: FnOnce(&mut E, Certainty) -> Result<CanonicalResponse, NoSolutionOrStop>,
+>(
+    alloc: Global,
+    ecx: &mut E,
+    env: ParamEnv,
+    args: Args,
+    of: ImplId,
+    certainty: Certainty,
+    then: F,
+) -> Result<CanonicalResponse, NoSolutionOrStop>
+    requires env { IsParamEnv (E.context ecx.old).trees env }
+    requires args { IsArgs (E.context ecx.old).trees args }
+    requires no_parameter { holds is_param (args_forest (E.context ecx.old).trees args) ≡ false }
+    requires callable { IsCallableWith E.fixed E.state E.probes E.context E.stops F.FnOnce then ecx.old (E.probes ecx.old) }
+    ensures kept { Keeps E.fixed E.probes E.context ecx.old ecx.new }
+    ensures told { (s : CandidateSource) (k : State → Option Response) → TellsWith E.fixed E.state E.probes E.context E.stops F.FnOnce then ecx.old (E.probes ecx.old) certainty k → ToldAs (E.context ecx.new).trees s result (steps_judged (E.judge (E.fixed ecx.old)) (env_forest (E.context ecx.old).trees env) (E.state ecx.old) s (steps_at (E.context ecx.old) (args_forest (E.context ecx.old).trees args) of) k) }
+    ensures cause { IfErr result (by_stop (StopsOfItself E.fixed E.context E.state E.stops ecx.old)) }
+{
+    follow_impl(alloc, ecx, env, args, of)?;
+    then(ecx, certainty)
+}
+
+/// The candidate of the source that an answer comes to.
+fn named(
+    source: CandidateSource,
+    answer: Result<CanonicalResponse, NoSolutionOrStop>,
+    head_usages: CandidateHeadUsages,
+) -> Result<Candidate, NoSolutionOrStop>
+    ensures { IsNamed source answer result }
+{
+    match answer {
+        Ok(result) => Ok(Candidate {
+            source,
+            result,
+            head_usages,
+        }),
+        Err(error) => Err(error),
+    }
+}
+
+/// What an impl's rule does, and then what the closure answers, in a probe.
+fn probe_impl<
+    E: EvalCtxt,
+    F: FnOnce(&mut E, Certainty) -> Result<CanonicalResponse, NoSolutionOrStop>,
+>(
+    alloc: Global,
+    ecx: &mut E,
+    env: ParamEnv,
+    args: Args,
+    of: ImplId,
+    certainty: Certainty,
+    then: F,
+) -> Result<Candidate, NoSolutionOrStop>
+    requires env { IsParamEnv (E.context ecx.old).trees env }
+    requires args { IsArgs (E.context ecx.old).trees args }
+    requires no_parameter { holds is_param (args_forest (E.context ecx.old).trees args) ≡ false }
+    requires callable { IsCallableWith E.fixed E.state E.probes E.context E.stops F.FnOnce then ecx.old (E.state ecx.old ∷ E.probes ecx.old) }
+    ensures kept { Keeps E.fixed E.probes E.context ecx.old ecx.new }
+    ensures alike { (E.judge (E.fixed ecx.old)).alike (E.state ecx.old) (E.state ecx.new) }
+    ensures told { (k : State → Option Response) → TellsWith E.fixed E.state E.probes E.context E.stops F.FnOnce then ecx.old (E.state ecx.old ∷ E.probes ecx.old) certainty k → Told (E.context ecx.new).trees result (steps_judged (E.judge (E.fixed ecx.old)) (env_forest (E.context ecx.old).trees env) (E.state ecx.old) (source.Impl of) (steps_at (E.context ecx.old) (args_forest (E.context ecx.old).trees args) of) k) }
+    ensures cause { IfErr result (by_stop (StopsOfItself E.fixed E.context E.state E.stops ecx.old)) }
+{
+    impl_is_given(ecx.cx(), of);
+    let probe = ecx.begin_probe(ProbeKind::Kept)?;
+    let answer = follow_impl_and_then(alloc, ecx, env, args, of, certainty, then);
+    let usages = ecx.end_probe(probe);
+    named(CandidateSource::Impl(of), answer, usages)
+}
+
+/// The rule of an impl: its steps in a probe, and then what the closure answers, which is given the certainty that the impl gives.
+///
+/// `NoSolution` comes where the rule doesn't apply, where the header's arguments can't be equated with the goal's, and where the closure
+/// answers it. The stops are those of growing a list, of making nodes and of the evaluator, and the closure's. The state is left alike the
+/// one before, whatever is answered.
+pub fn consider_impl<
+    E: EvalCtxt,
+    F: FnOnce(&mut E, Certainty) -> Result<CanonicalResponse, NoSolutionOrStop>,
+>(
+    alloc: Global,
+    ecx: &mut E,
+    env: ParamEnv,
+    predicate: TraitPredicate,
+    of: ImplId,
+    then: F,
+) -> Result<Candidate, NoSolutionOrStop>
+    requires goal { IsGoal trait_rules arguments_held types_held trait_goal (E.context ecx.old) env predicate }
+    requires callable { IsCallableWith E.fixed E.state E.probes E.context E.stops F.FnOnce then ecx.old (E.state ecx.old ∷ E.probes ecx.old) }
+    ensures kept { Keeps E.fixed E.probes E.context ecx.old ecx.new }
+    ensures alike { (E.judge (E.fixed ecx.old)).alike (E.state ecx.old) (E.state ecx.new) }
+    ensures told { (k : State → Option Response) → TellsWith E.fixed E.state E.probes E.context E.stops F.FnOnce then ecx.old (E.state ecx.old ∷ E.probes ecx.old) (impl_part_at (E.context ecx.old) (E.state ecx.old).mode (trait_goal (E.context ecx.old).trees env predicate) of).certainty k → Told (E.context ecx.new).trees result (part_judged (E.judge (E.fixed ecx.old)) (env_forest (E.context ecx.old).trees env) (E.state ecx.old) (source.Impl of) (impl_part_at (E.context ecx.old) (E.state ecx.old).mode (trait_goal (E.context ecx.old).trees env predicate) of) k) }
+    ensures cause { IfErr result (by_stop (StopsOfItself E.fixed E.context E.state E.stops ecx.old)) }
+{
+    let mode = ecx.typing_mode();
+    let Some(certainty) = certainty_by(ecx.cx(), mode, env, predicate, of) else {
+        return Err(NoSolutionOrStop::NoSolution);
+    };
+    let args = predicate.trait_ref.args;
+    probe_impl(alloc, ecx, env, args, of, certainty, then)
+}
+
+/// The rule of an impl, where the response is asked for after its steps, with at most the certainty that the impl gives.
+///
+/// `NoSolution` comes where the rule doesn't apply, where the header's arguments can't be equated with the goal's, and where the evaluator
+/// refuses. The stops are those of growing a list, of making nodes and of the evaluator. The state is left alike the one before, whatever
+/// is answered.
+pub fn consider_impl_and_respond<E: EvalCtxt>(
+    alloc: Global,
+    ecx: &mut E,
+    env: ParamEnv,
+    predicate: TraitPredicate,
+    of: ImplId,
+) -> Result<Candidate, NoSolutionOrStop>
+    requires goal { IsGoal trait_rules arguments_held types_held trait_goal (E.context ecx.old) env predicate }
+    ensures { Considers E.fixed E.judge E.state E.probes E.context E.stops ecx.old ecx.new (rule_of_part (env_forest (E.context ecx.old).trees env) (source.Impl of) (impl_part_at (E.context ecx.old) (E.state ecx.old).mode (trait_goal (E.context ecx.old).trees env predicate) of)) result }
+{
+    consider_impl(
+        alloc,
+        ecx,
+        env,
+        predicate,
+        of,
+        |ecx: &mut E, certainty: Certainty| -> Result<CanonicalResponse, NoSolutionOrStop>
+            ensures kept { Keeps E.fixed E.probes E.context ecx.old ecx.new }
+            ensures told { Responds (E.context ecx.new).trees result ((E.judge (E.fixed ecx.old)).responded (E.state ecx.old) certainty) }
+            ensures cause { IfErr result (by_stop (StopsOfItself E.fixed E.context E.state E.stops ecx.old)) }
+        { ecx.evaluate_added_goals_and_make_canonical_response(certainty) },
+    )
 }

@@ -1,6 +1,6 @@
 //! What stood under binders, with variables or placeholders in the place of theirs.
 
-ghost use Rattle.std.specs.Prelude.{◌≡◌, true, IfOk, IfErr, OnOk};
+ghost use Rattle.std.specs.Prelude.{◌≡◌, true, IfOk, IfErr, OnErr, OnOk};
 ghost use Rattle.candidate_ir.specs.Context.{Grows};
 ghost use Rattle.candidate_ir.specs.Nodes.{kind_at, tree_at};
 ghost use Rattle.candidate_ir.specs.Opening.{opened, opened_clause, opened_tree};
@@ -25,7 +25,7 @@ use std::alloc::Global;
 /// Fresh variables in the place of those of a binder.
 ///
 /// `Stop::Memory` comes where a growth was refused, other stops as they come of the evaluator's fresh variables. After a stop the
-/// variables that were made stay.
+/// state is alike.
 pub fn fresh_args_for_binder<E: EvalCtxt>(
     alloc: Global,
     ecx: &mut E,
@@ -36,6 +36,7 @@ pub fn fresh_args_for_binder<E: EvalCtxt>(
     ensures state { OnOk result (E.state ecx.new ≡ with_fresh_variables (E.state ecx.old) (binder_kinds (vars_tree (E.context ecx.old).trees vars).children)) }
     ensures sort { IfOk result (λ a. IsArgs (E.context ecx.new).trees a) }
     ensures trees { IfOk result (λ a. args_forest (E.context ecx.new).trees a ≡ fresh_variables (E.state ecx.old) (binder_kinds (vars_tree (E.context ecx.old).trees vars).children)) }
+    ensures stopped { OnErr result ((E.judge (E.fixed ecx.old)).alike (E.state ecx.old) (E.state ecx.new)) }
     ensures cause { IfErr result (StopsBy E.fixed E.context E.state E.stops ecx.old (λ _. ⊥)) }
 {
     let kinds = variable_kinds(alloc, ecx.cx(), vars)?;
@@ -53,6 +54,7 @@ pub fn placeholder_args_for_binder<E: EvalCtxt>(
     ensures state { OnOk result (E.state ecx.new ≡ with_rigid (E.state ecx.old) (binder_kinds (vars_tree (E.context ecx.old).trees vars).children)) }
     ensures sort { IfOk result (λ a. IsArgs (E.context ecx.new).trees a) }
     ensures trees { IfOk result (λ a. args_forest (E.context ecx.new).trees a ≡ rigid (E.state ecx.old) (binder_kinds (vars_tree (E.context ecx.old).trees vars).children)) }
+    ensures stopped { OnErr result ((E.judge (E.fixed ecx.old)).alike (E.state ecx.old) (E.state ecx.new)) }
     ensures cause { IfErr result (StopsBy E.fixed E.context E.state E.stops ecx.old (λ _. ⊥)) }
 {
     let kinds = variable_kinds(alloc, ecx.cx(), vars)?;

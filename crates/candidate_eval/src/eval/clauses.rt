@@ -1,7 +1,7 @@
 //! What is read of clauses, and clauses that are made.
 
 ghost use Rattle.std.specs.Prelude.{◌≡◌, ◌+◌, ◌≤◌, length, false, true, None, Some, MatchOption, IfOk, IfErr, IfSome};
-ghost use Rattle.candidate_ir.specs.Context.{Grows, world};
+ghost use Rattle.candidate_ir.specs.Context.{world};
 ghost use Rattle.candidate_ir.specs.Folding.{IsSubstStop, lacks_argument, substituted, substituted_tree};
 ghost use Rattle.candidate_ir.specs.Nodes.{kind_at, tree_at};
 ghost use Rattle.candidate_ir.specs.References.{ArgumentsFit, Takes};

@@ -6,7 +6,7 @@ use Rattle.candidate_eval.specs.Judging.{comes_to, run, start}
 use Rattle.candidate_eval.specs.Rules.{characterise, settle}
 use Rattle.candidate_eval.proofs.Objects.{env-kept}
 use Rattle.candidate_assembly.specs.Telling.{StopsOfItself, Told}
-use Rattle.candidate_assembly.proofs.Answering.{after-accounted, after-ruled, passes-fits, rule-comes}
+use Rattle.candidate_assembly.proofs.Answering.{after-accounted, after-ruled, rule-comes}
 use Rattle.candidate_assembly.proofs.WhereBounds.{characterised-same, settled-same}
 use Rattle.candidate_assembly.proofs.assembly.matching.match_and_characterize.Goals as goal
 
@@ -36,7 +36,7 @@ returns-clause-told g c =
     let t = clause_tree ts c.args.clause in
     let steps = K.rules.match_steps seen t in
     let given = g.met.G.GoalKind.env_given ts c.args.env c.args.predicate in
-    subst (λ j. Told (context c.match_assumption.new.ecx).trees c.match_assumption.result j) (rule-comes K.rules J old S seen t (settle ∷ []) (characterise t) (passes-fits K.rules old seen t c.requires.matches.passes))
+    subst (λ j. Told (context c.match_assumption.new.ecx).trees c.match_assumption.result j) (rule-comes K.rules J old S seen t (settle ∷ []) (characterise t) c.requires.matches.passes)
     (after-ruled J (K.rules.env_of seen) S steps (settle ∷ []) (characterise t) first c.match_assumption.result c.match_assumption.new.ecx
     (λ x r y ls k met.
     let told : Told (context y).trees r (comes_to (E.judge (E.fixed x)) (env_forest (context x).trees c.args.env) (start (E.state x)) (settle ∷ []) (characterise (clause_tree (context x).trees c.args.clause))) = search rules in

@@ -1,5 +1,4 @@
 use Rattle.candidate_eval.proofs.Probing.{made, on-ok, then}
-use Rattle.candidate_eval.proofs.StopKinds.{subst_stop}
 use Rattle.std.proofs.Common.{◌≡◌, ◌∙◌, ap, subst}
 use Rattle.candidate_ir.specs.Context.{Context}
 use Rattle.candidate_eval.specs.Characterization.{bound_kinds}

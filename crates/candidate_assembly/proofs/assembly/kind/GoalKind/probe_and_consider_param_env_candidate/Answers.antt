@@ -23,8 +23,7 @@ returns-then-is_err g c =
     let t = clause_tree old.trees c.args.clause in
     let no : passes K.rules old seen t ≡ false = search rules in
     rejected-at-once (λ f. (g.met.E.EvalCtxt.lawful f).alike_judged_alike) first (match_rule K.rules old seen t (settle ∷ []) (characterise t))
-    (rule-refused K.rules (E.judge (E.fixed first)) old (E.state first) seen t (settle ∷ []) (characterise t)
-    (λ fits. g.met.Self.GoalKind.rejects (E.fixed first) (E.state first) old c.args.env c.args.predicate t c.requires.goal c.requires.free fits no))
+    (rule-refused K.rules (E.judge (E.fixed first)) old (E.state first) seen t (settle ∷ []) (characterise t) no)
 
 pub returns-in_err-probe : goal.returns-in_err-probe
 returns-in_err-probe g c =

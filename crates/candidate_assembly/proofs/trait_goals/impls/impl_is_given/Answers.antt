@@ -1,0 +1,5 @@
+use Rattle.candidate_ir.proofs.Given.{impl_given}
+use Rattle.candidate_assembly.proofs.trait_goals.impls.impl_is_given.Goals as goal
+
+pub returns : goal.returns
+returns c = impl_given c.args.cx.now c.well_formed_table.ensures c.args.of

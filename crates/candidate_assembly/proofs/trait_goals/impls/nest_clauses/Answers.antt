@@ -1,0 +1,76 @@
+use Rattle.std.proofs.Common.{◌≡◌, add-one, drop, slice_index_or, ◌+◌, ◌∷◌}
+use Rattle.std.proofs.lemmas.Result.{err_from_is_err_and}
+use Rattle.std.proofs.Math.Seq.{drop-cons}
+use Rattle.candidate_ir.specs.Words.{args_forest, clause_tree, env_forest}
+use Rattle.candidate_ir.proofs.Joining.{clause-kept}
+use Rattle.candidate_ir.proofs.Kept.{args-kept}
+use Rattle.candidate_eval.specs.Accounts.StopsSomehow.{asking, making}
+use Rattle.candidate_eval.specs.Judging.{goal_at}
+use Rattle.candidate_eval.specs.States.{added}
+use Rattle.candidate_eval.proofs.Accounts.{accounted-here, accounted-later, reaches}
+use Rattle.candidate_eval.proofs.Objects.{env-kept}
+use Rattle.candidate_eval.proofs.Pairs.{clause_there}
+use Rattle.candidate_eval.proofs.Probing.{then}
+use Rattle.candidate_eval.proofs.StopKinds.{subst_making}
+use Rattle.candidate_assembly.specs.Telling.{standing}
+use Rattle.candidate_assembly.proofs.trait_goals.impls.nest_clauses.Goals as goal
+
+pub put_in-requires-clause-value : goal.put_in-requires-clause-value
+put_in-requires-clause-value g c =
+    let x = slice_index_or c.args.clauses.now c.loop-clause.clause-index (record { 0 = 0 }) in
+    (clause-kept _ _ x c.loop-clause.invariant.kept.grows (clause_there _ c.args.clauses.now (record { 0 = 0 }) c.loop-clause.clause-index c.requires.clauses.fit c.loop-clause-test.true)).0
+
+pub put_in-requires-clause-args : goal.put_in-requires-clause-args
+put_in-requires-clause-args g c = (args-kept _ _ c.args.locals c.loop-clause.invariant.kept.grows c.requires.locals).0
+
+pub put_in-requires-clause-there : goal.put_in-requires-clause-there
+put_in-requires-clause-there g c =
+    let lt = c.loop-clause-test.true in
+    let x = slice_index_or c.args.clauses.now c.loop-clause.clause-index (record { 0 = 0 }) in
+    let grows = c.loop-clause.invariant.kept.grows in
+    let is = clause-kept _ _ x grows (clause_there _ c.args.clauses.now (record { 0 = 0 }) c.loop-clause.clause-index c.requires.clauses.fit lt) in
+    rw (is.1, (args-kept _ _ c.args.locals grows c.requires.locals).1) (c.requires.clauses.have c.loop-clause.clause-index (record { 0 = 0 }) lt)
+
+pub returns-in_err-predicate-clause-kept : goal.returns-in_err-predicate-clause-kept
+returns-in_err-predicate-clause-kept g c = then c.loop-clause.invariant.kept c.put_in.ensures.kept
+
+pub returns-in_err-predicate-clause-cause : goal.returns-in_err-predicate-clause-cause
+returns-in_err-predicate-clause-cause g c =
+    let p = err_from_is_err_and c.from_residual.result c.from_residual.ensures.1 in
+    rw (p.1, p.2) (making (subst_making _ _ _ c.in_err-predicate.ensures.cause))
+
+pub add_goal-requires : goal.add_goal-requires
+add_goal-requires g c =
+    let grows = (then c.loop-clause.invariant.kept c.put_in.ensures.kept).grows in
+    ((env-kept _ _ c.args.env grows c.requires.env).0, c.in_ok-predicate.ensures.sort)
+
+pub returns-in_err-add_goal-clause-kept : goal.returns-in_err-add_goal-clause-kept
+returns-in_err-add_goal-clause-kept g c = then (then c.loop-clause.invariant.kept c.put_in.ensures.kept) c.add_goal.ensures.kept
+
+pub returns-in_err-add_goal-clause-cause : goal.returns-in_err-add_goal-clause-cause
+returns-in_err-add_goal-clause-cause g c =
+    let p = err_from_is_err_and c.from_residual-in_err-add_goal.result c.from_residual-in_err-add_goal.ensures.1 in
+    rw (p.1, p.2)
+    (asking (accounted-later (reaches (then c.loop-clause.invariant.kept c.put_in.ensures.kept)) (accounted-here _ (reaches c.add_goal.ensures.kept) c.in_err-add_goal.ensures.cause)))
+
+pub loop-clause-preserved : goal.loop-clause-preserved
+loop-clause-preserved g c =
+    let E = g.E.EvalCtxt in
+    let ts = (g.E.Build.context c.args.ecx.now).trees in
+    let e = env_forest ts c.args.env in
+    let ls = args_forest ts c.args.locals in
+    let L = E.state c.loop-clause.ecx in
+    let xs = c.args.clauses.now in
+    let i = c.loop-clause.clause-index in
+    let x = slice_index_or xs i (record { 0 = 0 }) in
+    let lt = c.loop-clause-test.true in
+    let split : drop i xs ≡ x ∷ drop (i + 1) xs = rw add-one (drop-cons xs i (record { 0 = 0 }) lt) in
+    let kept = c.loop-clause.invariant.kept in
+    let after = then kept c.put_in.ensures.kept in
+    let is = clause-kept _ _ x kept.grows (clause_there _ xs (record { 0 = 0 }) i c.requires.clauses.fit lt) in
+    let one : E.state c.add_goal.new.self ≡ added L (goal_at e (standing L ls) c.args.source (clause_tree ts x))
+    = rw (c.put_in.ensures.same, (env-kept _ _ c.args.env after.grows c.requires.env).1, c.in_ok-predicate.ensures.tree, (args-kept _ _ c.args.locals kept.grows c.requires.locals).1, is.1) at c.in_ok-add_goal.ensures.ok in
+    record {
+      kept = then after c.add_goal.ensures.kept;
+      run = rw one (rw split at c.loop-clause.invariant.run);
+    }

@@ -1,0 +1,95 @@
+use Rattle.std.proofs.Common.{◌≡◌, ◌∙◌, Err, ap, subst}
+use Rattle.std.specs.Prelude.{IfSome}
+use Rattle.std.proofs.lemmas.Result.{err_from_is_err_and}
+use Rattle.candidate_ir.specs.Context.{Context}
+use Rattle.candidate_ir.specs.Declaring.{impl_at}
+use Rattle.candidate_ir.specs.WellFormed.{ImplIsGiven}
+use Rattle.candidate_ir.specs.Words.{args_forest, env_forest}
+use Rattle.candidate_ir.proofs.Kept.{args-kept}
+use Rattle.candidate_eval.specs.declared.eval.source.CandidateSource.TheVariants as source
+use Rattle.candidate_eval.specs.Accounts.{by_stop}
+use Rattle.candidate_eval.specs.Accounts.StopsSomehow.{asking}
+use Rattle.candidate_eval.proofs.Accounts.{accounted-here}
+use Rattle.candidate_eval.proofs.Objects.{env-kept}
+use Rattle.candidate_eval.proofs.Probing.{alike-probe, keeps-probe}
+use Rattle.candidate_assembly.specs.Closures.{TellsWith}
+use Rattle.candidate_assembly.specs.Impls.{steps_at}
+use Rattle.candidate_assembly.specs.Telling.{StopsOfItself, Told}
+use Rattle.candidate_assembly.proofs.ImplSteps.{judged-moved, named-error, named-told, steps-kept}
+use Rattle.candidate_assembly.proofs.Keeping.{itself-later, keeps-in}
+use Rattle.candidate_assembly.proofs.Stepping.{evaluator-own, told-error, told-kept}
+use Rattle.candidate_assembly.proofs.trait_goals.impls.probe_impl.Goals as goal
+
+pub returns-in_err-probe-clause-told : goal.returns-in_err-probe-clause-told
+returns-in_err-probe-clause-told g c = λ k tells.
+    let p = err_from_is_err_and c.from_residual.result c.from_residual.ensures.1 in
+    told-error _ c.from_residual.result _ _ (p.1 ∙ ap Err p.2) (λ n. absurd cc) (evaluator-own _ (g.met.E.EvalCtxt.stops_itself _ _ _ _ c.in_err-probe.ensures.cause))
+
+pub returns-in_err-probe-clause-cause : goal.returns-in_err-probe-clause-cause
+returns-in_err-probe-clause-cause g c =
+    let p = err_from_is_err_and c.from_residual.result c.from_residual.ensures.1 in
+    rw (p.1, p.2) (λ own. asking (accounted-here _ (record { same = c.begin_probe.ensures.fixed; grows = c.begin_probe.ensures.grows }) c.in_err-probe.ensures.cause))
+
+pub follow_impl_and_then-answer-requires-clause-env : goal.follow_impl_and_then-answer-requires-clause-env
+follow_impl_and_then-answer-requires-clause-env g c = (env-kept _ _ c.args.env c.begin_probe.ensures.grows c.requires.env).0
+
+pub follow_impl_and_then-answer-requires-clause-args : goal.follow_impl_and_then-answer-requires-clause-args
+follow_impl_and_then-answer-requires-clause-args g c = (args-kept _ _ c.args.args c.begin_probe.ensures.grows c.requires.args).0
+
+pub follow_impl_and_then-answer-requires-clause-no_parameter : goal.follow_impl_and_then-answer-requires-clause-no_parameter
+follow_impl_and_then-answer-requires-clause-no_parameter g c = rw (args-kept _ _ c.args.args c.begin_probe.ensures.grows c.requires.args).1 c.requires.no_parameter
+
+pub follow_impl_and_then-answer-requires-clause-callable : goal.follow_impl_and_then-answer-requires-clause-callable
+follow_impl_and_then-answer-requires-clause-callable g c =
+    let began = c.in_ok-probe.ensures in
+    record {
+      may = λ x a k. c.requires.callable.may x a (keeps-in began.fixed began.ok.1 began.grows k);
+      keeps = λ x a r y k. c.requires.callable.keeps x a r y (keeps-in began.fixed began.ok.1 began.grows k);
+      cause = λ x a r y k. c.requires.callable.cause x a r y (keeps-in began.fixed began.ok.1 began.grows k);
+    }
+
+pub returns-clause-kept : goal.returns-clause-kept
+returns-clause-kept g c =
+    let E = g.E.EvalCtxt in
+    let ran = c.follow_impl_and_then-answer in
+    let end = c.end_probe-usages in
+    let began = c.in_ok-probe.ensures in
+    keeps-probe E.fixed E.probes g.E.Build.context c.args.ecx.now c.begin_probe.new.self ran.new.ecx end.new.self (E.state c.args.ecx.now)
+    began.fixed began.grows began.ok.1 ran.ensures.kept end.ensures.fixed end.ensures.grows end.ensures.left
+
+pub returns-clause-alike : goal.returns-clause-alike
+returns-clause-alike g c =
+    let E = g.E.EvalCtxt in
+    let ran = c.follow_impl_and_then-answer in
+    let end = c.end_probe-usages in
+    let began = c.in_ok-probe.ensures in
+    alike-probe E.fixed E.probes E.judge E.state c.args.ecx.now c.begin_probe.new.self ran.new.ecx end.new.self
+    began.fixed began.ok.1 ran.ensures.kept.fixed_same ran.ensures.kept.probes_same end.ensures.closed
+
+pub returns-clause-told : goal.returns-clause-told
+returns-clause-told g c = λ k tells.
+    let E = g.E.EvalCtxt in
+    let old = g.E.Build.context c.args.ecx.now in
+    let mid = g.E.Build.context c.begin_probe.new.self in
+    let S = E.state c.args.ecx.now in
+    let s = source.Impl c.args.of in
+    let a = args_forest old.trees c.args.args in
+    let ran = c.follow_impl_and_then-answer in
+    let began = c.in_ok-probe.ensures in
+    let given : IfSome (impl_at old c.args.of) (ImplIsGiven old) = subst (λ (x : Context). IfSome (impl_at x c.args.of) (ImplIsGiven x)) c.cx.ensures c.impl_is_given.ensures in
+    let there : TellsWith E.fixed E.state E.probes g.E.Build.context E.stops g.F.FnOnce c.args.then c.begin_probe.new.self (E.probes c.begin_probe.new.self) c.args.certainty k
+    = record { at = λ x r y in-it. tells.at x r y (keeps-in began.fixed began.ok.1 began.grows in-it) } in
+    let told = named-told _ s ran.result c.named.result _ (ran.ensures.told s k there) c.named.ensures in
+    let steps : steps_at mid (args_forest mid.trees c.args.args) c.args.of ≡ steps_at old a c.args.of
+    = ap (λ x. steps_at mid x c.args.of) (args-kept old mid c.args.args began.grows c.requires.args).1 ∙ steps-kept old mid a c.args.of began.grows given in
+    let moved = judged-moved E.judge (E.fixed c.args.ecx.now) (E.fixed c.begin_probe.new.self) (env_forest old.trees c.args.env) (env_forest mid.trees c.args.env) S (E.state c.begin_probe.new.self) s (steps_at old a c.args.of)
+    (steps_at mid (args_forest mid.trees c.args.args) c.args.of) k began.fixed (env-kept old mid c.args.env began.grows c.requires.env).1 began.ok.0 steps in
+    told-kept _ _ c.named.result _ c.end_probe-usages.ensures.grows (subst (λ j. Told (g.E.Build.context ran.new.ecx).trees c.named.result j) moved told)
+
+pub returns-clause-cause : goal.returns-clause-cause
+returns-clause-cause g c =
+    let E = g.E.EvalCtxt in
+    let ran = c.follow_impl_and_then-answer in
+    let began = c.in_ok-probe.ensures in
+    named-error (by_stop (StopsOfItself E.fixed g.E.Build.context E.state E.stops c.args.ecx.now)) (source.Impl c.args.of) ran.result c.named.result c.named.ensures
+    (itself-later E.fixed g.E.Build.context E.state E.stops ran.result (record { same = began.fixed; grows = began.grows }) ran.ensures.cause)

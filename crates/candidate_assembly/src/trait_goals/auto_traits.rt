@@ -1,0 +1,114 @@
+//! The rule of auto traits: a type meets one where its parts do, unless an impl says otherwise.
+
+ghost use Rattle.std.specs.Prelude.{◌≡◌, false, IfOk, IfErr};
+ghost use Rattle.candidate_ir.specs.References.{ArgumentsFit, reference_of};
+ghost use Rattle.candidate_ir.specs.Words.{IsArgs, IsClause, clause_tree};
+ghost use Rattle.candidate_eval.specs.Callable.{is_unknown};
+ghost use Rattle.candidate_eval.specs.Evaluators.{IsMakingStop};
+ghost use Rattle.candidate_assembly.specs.BuiltinRules.{auto_barred, auto_refused, auto_rule, bounds_name, is_of_trait, may_have_impls, self_of};
+ghost use Rattle.candidate_assembly.specs.Kinds.{IsGoal};
+ghost use Rattle.candidate_assembly.specs.Telling.{Considers};
+ghost use Rattle.candidate_assembly.specs.TraitGoals.{arguments_held, trait_goal, types_held};
+ghost use Rattle.candidate_assembly.specs.TraitRules.{trait_rules};
+
+use crate::assembly::steps::consider_plain;
+use crate::trait_goals::builtin::{is_positive, self_head};
+use crate::trait_goals::parts::consider_column;
+use candidate_eval::eval::certainty::Certainty;
+use candidate_eval::eval::clauses::{predicate_in, self_ty};
+use candidate_eval::eval::context::EvalCtxt;
+use candidate_eval::eval::refusal::NoSolutionOrStop;
+use candidate_eval::eval::response::Candidate;
+use candidate_eval::eval::source::{BuiltinImplSource, CandidateSource};
+use candidate_eval::structural::Column;
+use candidate_ir::decl::Cx;
+use candidate_ir::decl::make::Make;
+use candidate_ir::ir::heads::Head;
+use candidate_ir::ir::kinds::{AliasId, AliasKind, Clause, ParamEnv, TraitId, TraitPredicate};
+use candidate_ir::ir::stop::Stop;
+use std::alloc::Global;
+
+/// Whether the clause speaks of the trait, be it that it holds or that it doesn't.
+fn is_of_trait(cx: &Cx, clause: Clause, of: TraitId) -> bool
+    requires { IsClause cx.now.trees clause }
+    ensures { result ≡ is_of_trait of.0 (clause_tree cx.now.trees clause).head }
+{
+    match predicate_in(cx, clause) {
+        Some(predicate) => predicate.trait_ref.def_id.0 == of.0,
+        None => false,
+    }
+}
+
+/// Whether an opaque type's own bounds speak of the trait.
+fn bounds_name(cx: &Cx, opaque: AliasId, of: TraitId) -> bool
+    ensures { result ≡ bounds_name cx.now opaque.0 of.0 }
+{
+    for bound in cx.self_bounds(opaque) {
+        if is_of_trait(cx, *bound, of) {
+            return true;
+        }
+    }
+    false
+}
+
+/// Whether the head of its self type bars a goal from the trait.
+fn is_barred(cx: &Cx, of: TraitId, head: Head) -> bool
+    ensures { result ≡ auto_barred cx.now of.0 head }
+{
+    let flags = cx.trait_flags(of).unwrap_or_default();
+    match head {
+        Head::Dynamic | Head::Param(_) | Head::Placeholder(_) => true,
+        Head::Alias(AliasKind::Opaque, opaque) => bounds_name(cx, opaque, of),
+        Head::Alias(_, _) => true,
+        Head::Foreign(_) => !flags.default,
+        Head::Adt(adt) => flags.unsafe_ && cx.adt_flags(adt).unwrap_or_default().unsafe_fields,
+        _ => false,
+    }
+}
+
+fn may_have_impls(head: Head) -> bool
+    ensures { result ≡ may_have_impls head }
+{
+    !matches!(head, Head::Alias(_, _) | Head::Error)
+}
+
+/// Whether the goal is refused before parts are asked about. The only stop is `Stop::Memory`.
+fn is_refused(cx: &Cx, predicate: TraitPredicate, head: Head) -> Result<bool, Stop>
+    requires args { IsArgs cx.now.trees predicate.trait_ref.args }
+    requires fit { ArgumentsFit cx.now predicate.trait_ref }
+    ensures refused { IfOk result (λ b. b ≡ auto_refused cx.now (reference_of cx.now.trees predicate.trait_ref) head) }
+    ensures cause { IfErr result IsMakingStop }
+{
+    let of = predicate.trait_ref.def_id;
+    if is_barred(cx, of, head) || !may_have_impls(head) {
+        return Ok(is_barred(cx, of, head));
+    }
+    let impls = cx.for_each_relevant_impl(of, self_ty(cx, predicate.trait_ref))?;
+    Ok(!impls.is_empty())
+}
+
+/// The rule of auto traits for the goal's self type.
+///
+/// It is ambiguous for integer and floating-point variables. `NoSolution` comes for a negative goal, for types that are barred from the
+/// trait, where an impl may be for the type, and where the evaluator refuses; the stops are those of making nodes and lists, and the
+/// evaluator's. The state is left alike the one before.
+pub(crate) fn consider_auto_trait<E: EvalCtxt>(
+    alloc: Global,
+    ecx: &mut E,
+    env: ParamEnv,
+    predicate: TraitPredicate,
+) -> Result<Candidate, NoSolutionOrStop>
+    requires goal { IsGoal trait_rules arguments_held types_held trait_goal (E.context ecx.old) env predicate }
+    requires typed { is_unknown (self_of (trait_goal (E.context ecx.old).trees env predicate)).head ≡ false }
+    ensures { Considers E.fixed E.judge E.state E.probes E.context E.stops ecx.old ecx.new (auto_rule (E.context ecx.old) (trait_goal (E.context ecx.old).trees env predicate)) result }
+{
+    let positive = is_positive(predicate.polarity);
+    let head = self_head(ecx.cx(), predicate);
+    if matches!(head, Head::Infer(_)) {
+        return consider_plain(alloc, ecx, env, positive, Certainty::AMBIGUOUS);
+    }
+    let refused = is_refused(ecx.cx(), predicate, head)?;
+    let applies = positive && !refused;
+    let source = CandidateSource::BuiltinImpl(BuiltinImplSource::Misc);
+    consider_column(alloc, ecx, env, predicate, applies, Column::Auto, source)
+}
