@@ -1,5 +1,5 @@
 -- What is answered where a clause is matched and a closure is called then.
-use Rattle.std.proofs.Common.{◌≡◌, Bool, true, false, ◌&&◌, refl, sym, ap, subst, ◌∙◌, Result, Err, IfErr, List, ◌∷◌, ◌++◌, Option}
+use Rattle.std.proofs.Common.{◌≡◌, Bool, true, false, ◌&&◌, refl, sym, ap, subst, ◌∙◌, Result, Err, IfOk, IfErr, List, ◌∷◌, ◌++◌, Option, Some, None}
 use Rattle.std.specs.Prelude.{if◌then◌else◌}
 use Rattle.std.specs.Fn.{Once, FnOnceReturnsAtMut}
 use Rattle.std.specs.Borrow.{MutBor}
@@ -10,6 +10,7 @@ use Rattle.candidate_ir.specs.Context.{Context, Grows}
 use Rattle.candidate_ir.specs.Trees.{Forest, Tree}
 use Rattle.candidate_ir.specs.Unify.{may_unify}
 use Rattle.candidate_ir.proofs.Kept.{grows-refl}
+use Rattle.candidate_eval.specs.declared.eval.certainty.Certainty.{Certainty}
 use Rattle.candidate_eval.specs.declared.eval.refusal.NoSolutionOrStop.{NoSolutionOrStop}
 use Rattle.candidate_eval.specs.declared.eval.refusal.NoSolutionOrStop.TheVariants as N
 use Rattle.candidate_eval.specs.declared.eval.response.Candidate.{Candidate}
@@ -19,8 +20,9 @@ use Rattle.candidate_eval.specs.Accounts.{Account, Question, StopsSomehow, by_st
 use Rattle.candidate_eval.specs.Alike.{JudgesAlike}
 use Rattle.candidate_eval.specs.Certainties.{AMBIGUOUS}
 use Rattle.candidate_eval.specs.Evaluators.{IsEvaluatorStop, Keeps}
-use Rattle.candidate_eval.specs.Judging.{Place, Reached, Over, Refused, answered, comes_to, continued, judged, run, start}
+use Rattle.candidate_eval.specs.Judging.{Reached, Ambiguous, At, Over, Refused, answered, comes_to, continued, judged, run, start}
 use Rattle.candidate_eval.specs.Knowing.{own_stop}
+use Rattle.candidate_eval.specs.ResponseTrees.{IsResponse, response_of}
 use Rattle.candidate_eval.specs.Responses.{Response}
 use Rattle.candidate_eval.specs.Rules.{Ending, Rule, Step, ask}
 use Rattle.candidate_eval.specs.States.{Env, State, Judge}
@@ -161,3 +163,23 @@ rejected-at-once {fixed = fixed} {judge = judge} {state = state} {context = cont
   told = record { ok = tt; fits = tt; refused = λ n. e; stopped = tt };
   cause = tt;
 }
+
+-- A stop that no judge says, in the place of a response; and an evaluator's own answer.
+
+pub responds-stop : (ts : List Tree) (r : Result CanonicalResponse NoSolutionOrStop) (s : Stop) (o : Option Response) → r ≡ Err (N.Stop s) → own_stop s ≡ true → Responds ts r o
+responds-stop ts r s o is own = subst (λ (x : Result CanonicalResponse NoSolutionOrStop). Responds ts x o) (sym is) (record { ok = tt; fits = tt; refused = λ n. absurd cc; stopped = own })
+
+pub responds-so : (ts : List Tree) (r : Result CanonicalResponse NoSolutionOrStop) (o : Option Response) → IfOk r (λ x. IsResponse ts x) → IfOk r (λ x. o ≡ Some (response_of ts x)) → IfErr r (λ e. e ≡ N.NoSolution → o ≡ None)
+    → IfErr r (by_stop (λ s. own_stop s ≡ true)) → Responds ts r o
+responds-so ts r o fits ok refuses own = record { ok = ok; fits = fits; refused = refuses; stopped = own }
+
+-- A clause that is matched and followed by steps that come to what a closure answers is judged as the rule with these steps.
+pub closure-as-steps : {G : Type 0} (K : KindRules G) (J : Judge) (c : Context) (S : State) (g : G) (s : CandidateSource) (t : Tree) (k : State → Option Response) (more : List Step) (sure : Certainty)
+    → ((ls : Forest) (T : State) → comes_to J (K.env_of g) (standing T ls) more (ask s sure) ≡ answered s (k T)) → clause_judged K J c S g s t k ≡ judged J S (match_rule K c g t more (ask s sure))
+closure-as-steps K J c S g s t k more sure same =
+    ap (λ z. if K.fits c g t.head then z else Refused) (at (run J (K.env_of g) (start S) (K.match_steps g t)) ∙ sym (comes_append J (K.env_of g) (start S) (K.match_steps g t) more (ask s sure)))
+  where
+    at : (r : Reached) → continued J (ask s AMBIGUOUS) r (λ q. answered s (k q.state)) ≡ continued J (ask s sure) r (λ q. comes_to J (K.env_of g) q more (ask s sure))
+    at (At p) = sym (same p.locals p.state)
+    at (Ambiguous T) = refl
+    at (Over j) = refl

@@ -1,9 +1,9 @@
 -- What a rule requires besides the clause that it matches becomes pending.
-use Rattle.std.proofs.Common.{◌≡◌, ℕ, suc, zero, ◌+◌, ◌<◌, false, refl, sym, ap, ◌∙◌, List, [], ◌∷◌, ◌++◌, append_assoc, arith, get_or, length, map, take}
-use Rattle.std.proofs.lemmas.List.{append-nil, map_more}
+use Rattle.std.proofs.Common.{◌≡◌, ℕ, suc, ◌+◌, ◌<◌, ◌≤◌, refl, sym, ap, ◌∙◌, List, [], ◌∷◌, ◌++◌, append_assoc, arith, get_or, length, map, take}
+use Rattle.std.proofs.lemmas.List.{append-nil, map_more, take_all}
 use Rattle.candidate_ir.specs.declared.ir.kinds.ParamEnv.{ParamEnv}
 use Rattle.candidate_ir.specs.Context.{Context, Grows}
-use Rattle.candidate_ir.specs.Trees.{Forest, Tree, is_param, tree_holds}
+use Rattle.candidate_ir.specs.Trees.{Forest, Tree}
 use Rattle.candidate_ir.specs.Words.{IsClause, IsParamEnv, clause_tree, env_forest}
 use Rattle.candidate_ir.proofs.Joining.{clause-kept}
 use Rattle.candidate_eval.specs.declared.eval.certainty.Certainty.{Certainty}
@@ -53,6 +53,10 @@ one-required old mid env S T U rs i d grows e fits l is next =
     ∙ (ap (added T) (goal-kept old mid env (get_or rs i d) grows e (fits i d l))
     ∙ (ap (λ (z : State). added z x) is
     ∙ (ap (with_pending S) (append_assoc S.pending before (x ∷ [])) ∙ ap (λ ps. with_pending S (S.pending ++ ps)) (sym (map_more (required_goal old.trees env) rs i d l)))))
+
+-- and in the end all
+pub all-required : (ts : List Tree) (env : ParamEnv) (S T : State) (rs : List Requirement) (i : ℕ) → T ≡ with_requirements ts env S (take i rs) → length rs ≤ i → T ≡ with_requirements ts env S rs
+all-required ts env S T rs i is past = is ∙ ap (with_requirements ts env S) (take_all i rs past)
 
 -- The steps come to what is asked for with them pending, whatever stands for the rule's variables.
 pub requirements-come : (J : Judge) (ts : List Tree) (env : ParamEnv) (source : CandidateSource) (c : Certainty) (S : State) (ls : Forest) (rs : List Requirement) → RequireNoParameter ts rs

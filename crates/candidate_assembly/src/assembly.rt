@@ -2,5 +2,5 @@
 
 pub mod characterize;
 pub mod kind;
-pub(crate) mod matching;
+pub mod matching;
 pub mod steps;

@@ -1,15 +1,16 @@
 //! What follows where a clause is matched.
 
-ghost use Rattle.std.specs.Prelude.{◌≡◌, [], ◌∷◌, IfErr, OnOk};
+ghost use Rattle.std.specs.Prelude.{◌≡◌, [], ◌∷◌, false, IfErr, OnOk};
+ghost use Rattle.candidate_ir.specs.Trees.{holds, is_param};
 ghost use Rattle.candidate_ir.specs.Words.{IsClause, IsParamEnv, clause_tree, env_forest};
 ghost use Rattle.candidate_eval.specs.Accounts.{StopsSomehow, by_stop};
 ghost use Rattle.candidate_eval.specs.Evaluators.{Keeps};
 ghost use Rattle.candidate_eval.specs.Judging.{comes_to, judged, start};
-ghost use Rattle.candidate_eval.specs.Rules.{characterise, settle};
+ghost use Rattle.candidate_eval.specs.Rules.{ask, characterise, settle};
 ghost use Rattle.candidate_assembly.specs.Closures.{Responds};
 ghost use Rattle.candidate_assembly.specs.Kinds.{IsAssumption, IsGoal, match_rule};
-ghost use Rattle.candidate_assembly.specs.Requirements.{RequirementsFit, with_requirements};
-ghost use Rattle.candidate_assembly.specs.Telling.{StopsOfItself, Told, without_usages};
+ghost use Rattle.candidate_assembly.specs.Requirements.{RequireNoParameter, RequirementsFit, requirement_steps, with_requirements};
+ghost use Rattle.candidate_assembly.specs.Telling.{Considers, StopsOfItself, Told, without_usages};
 
 use crate::assembly::characterize::characterize_param_env_assumption;
 use crate::assembly::kind::GoalKind;
@@ -81,6 +82,38 @@ pub(crate) fn require_and_respond<E: EvalCtxt>(
 {
     add_requirements(ecx, env, requirements)?;
     ecx.evaluate_added_goals_and_make_canonical_response(Certainty::Yes)
+}
+
+/// The candidate of a source by a clause that implies the goal where some requirements hold: in a probe the clause is matched, the
+/// requirements become pending goals in the environment, and a response is asked for.
+///
+/// `NoSolution` comes where the clause doesn't pass quick rejection or isn't matched, and where the evaluator refuses the response; the
+/// stops are those of the match and of the evaluator. The state is left alike the one before.
+pub fn probe_and_consider_implied_clause<E: EvalCtxt, G: GoalKind<E>>(
+    alloc: Global,
+    ecx: &mut E,
+    source: CandidateSource,
+    env: ParamEnv,
+    predicate: G,
+    clause: Clause,
+    requirements: &[(GoalSource, Clause)],
+) -> Result<Candidate, NoSolutionOrStop>
+    requires goal { IsGoal G.rules G.arguments G.types G.seen (E.context ecx.old) env predicate }
+    requires clause { IsClause (E.context ecx.old).trees clause }
+    requires free { holds is_param (clause_tree (E.context ecx.old).trees clause).children ≡ false }
+    requires requirements { RequirementsFit (E.context ecx.old).trees requirements.now }
+    requires required_free { RequireNoParameter (E.context ecx.old).trees requirements.now }
+    ensures { Considers E.fixed E.judge E.state E.probes E.context E.stops ecx.old ecx.new (match_rule G.rules (E.context ecx.old) (G.seen (E.context ecx.old).trees env predicate) (clause_tree (E.context ecx.old).trees clause) (requirement_steps (E.context ecx.old).trees requirements.now) (ask source Certainty.Yes)) result }
+{
+    G::probe_and_match_goal_against_assumption(
+        alloc,
+        ecx,
+        source,
+        env,
+        predicate,
+        clause,
+        |ecx: &mut E| require_and_respond(ecx, env, requirements),
+    )
 }
 
 /// Matches a clause of the environment, evaluates what is pending, and characterises the clause. It is called in a probe.

@@ -1,17 +1,15 @@
-use Rattle.std.proofs.Common.{refl, ap, ◌∙◌, get_or}
-use Rattle.std.proofs.lemmas.List.{take_all}
+use Rattle.std.proofs.Common.{refl, get_or}
 use Rattle.std.proofs.lemmas.Result.{err_from_is_err_and}
 use Rattle.candidate_ir.specs.declared.ir.kinds.Clause.{Clause}
 use Rattle.candidate_ir.specs.declared.ir.kinds.GoalSource.TheVariants.{Misc}
 use Rattle.candidate_ir.proofs.Joining.{clause-kept}
 use Rattle.candidate_ir.proofs.Kept.{grows-refl}
-use Rattle.candidate_eval.specs.Accounts.{Question}
 use Rattle.candidate_eval.specs.Accounts.StopsSomehow.{asking}
 use Rattle.candidate_eval.proofs.Accounts.{accounted-here, reaches, somehow-later}
 use Rattle.candidate_eval.proofs.Objects.{env-kept}
 use Rattle.candidate_eval.proofs.Probing.{then}
-use Rattle.candidate_assembly.specs.Requirements.{Requirement, with_requirements}
-use Rattle.candidate_assembly.proofs.Requiring.{none-required, one-required}
+use Rattle.candidate_assembly.specs.Requirements.{Requirement}
+use Rattle.candidate_assembly.proofs.Requiring.{all-required, none-required, one-required}
 use Rattle.candidate_assembly.proofs.assembly.matching.add_requirements.Goals as goal
 
 pub loop-requirement-init : goal.loop-requirement-init
@@ -49,6 +47,5 @@ returns-in_err-add_goal-clause-cause g c =
 
 pub returns-clause-ok : goal.returns-clause-ok
 returns-clause-ok g c =
-    let E = g.E.EvalCtxt in
-    c.loop-requirement.invariant.1
-    ∙ ap (with_requirements (g.E.Build.context c.args.ecx.now).trees c.args.env (E.state c.args.ecx.now)) (take_all c.loop-requirement.requirement-index c.args.requirements.now c.loop-requirement-test.false)
+    let ts = (g.E.Build.context c.args.ecx.now).trees in
+    all-required ts c.args.env (g.E.EvalCtxt.state c.args.ecx.now) (g.E.EvalCtxt.state c.loop-requirement.ecx) c.args.requirements.now c.loop-requirement.requirement-index c.loop-requirement.invariant.1 c.loop-requirement-test.false
