@@ -13,3 +13,4 @@ pub mod ImplSteps
 pub mod ImplsBelow
 pub mod LangItems
 pub mod MeetingClauses
+pub mod CallSteps

@@ -1,6 +1,7 @@
 //! Goals of traits: that a trait holds of some trees, or that it does not.
 
 pub(crate) mod builtin;
+pub(crate) mod callable;
 pub mod impls;
 pub mod kind;
 pub(crate) mod meeting;
