@@ -14,3 +14,4 @@ pub mod ImplsBelow
 pub mod LangItems
 pub mod MeetingClauses
 pub mod CallSteps
+pub mod CallFree
