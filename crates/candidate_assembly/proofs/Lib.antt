@@ -15,3 +15,4 @@ pub mod LangItems
 pub mod MeetingClauses
 pub mod CallSteps
 pub mod CallFree
+pub mod CallRules
