@@ -1,9 +1,11 @@
-use Rattle.std.proofs.Common.{◌≡◌, true, false, Some, None, ap, refl, subst, sym, ◌∙◌}
+use Rattle.std.proofs.Common.{◌≡◌, true, false, Err, Some, None, ap, refl, subst, sym, ◌∙◌}
 use Rattle.std.proofs.lemmas.Result.{err_from_is_err_and}
 use Rattle.candidate_ir.specs.declared.decl.contents.LangItem.TheVariants as L
 use Rattle.candidate_ir.specs.Context.{Context}
 use Rattle.candidate_ir.specs.Trees.{Tree, is_param, tree_holds}
 use Rattle.candidate_ir.specs.Words.{args_forest, env_forest, ty_tree}
+use Rattle.candidate_ir.proofs.Kept.{grows-refl}
+use Rattle.candidate_eval.specs.declared.eval.refusal.NoSolutionOrStop.TheVariants.{NoSolution}
 use Rattle.candidate_eval.specs.Callable.{CalledWith, Undetermined, callable_of, calls, calls_of}
 use Rattle.candidate_eval.specs.Certainties.{AMBIGUOUS}
 use Rattle.candidate_eval.specs.Judging.{judged}
@@ -14,13 +16,23 @@ use Rattle.candidate_assembly.specs.BuiltinRules.{call_rule, positive}
 use Rattle.candidate_assembly.specs.Telling.{asking_rule}
 use Rattle.candidate_assembly.specs.TraitGoals.{item_trait, trait_goal}
 use Rattle.candidate_assembly.proofs.CallFree.{call-free}
-use Rattle.candidate_assembly.proofs.CallRules.{refused-uncalled, rule-called, rule-undetermined}
+use Rattle.candidate_assembly.proofs.CallRules.{refused-negative, refused-uncalled, refused-unsized, rule-called, rule-undetermined}
 use Rattle.candidate_assembly.proofs.CallSteps.{call-makes}
 use Rattle.candidate_assembly.proofs.Causes.{answered-error}
 use Rattle.candidate_assembly.proofs.Considering.{considers-after, not-given}
 use Rattle.candidate_assembly.proofs.Keeping.{trait-goal-kept}
 use Rattle.candidate_assembly.proofs.PartsTold.{first-parameterless}
 use Rattle.candidate_assembly.proofs.trait_goals.callable.consider_callable.Goals as goal
+
+pub returns-then-not-is_positive : goal.returns-then-not-is_positive
+returns-then-not-is_positive g c =
+    let E = g.E.EvalCtxt in
+    let first = c.args.ecx.now in
+    let old = g.E.Build.context first in
+    let now = trait_goal old.trees c.args.env c.args.predicate in
+    let x = calls old c.args.called (first_tree now.reference.arguments) in
+    not-given (λ f. (g.met.E.EvalCtxt.lawful f).alike_judged_alike) first first (call_rule now x (item_trait old L.Sized)) (Err NoSolution) NoSolution refl (record { fixed_same = refl; probes_same = refl; grows = grows-refl old }) refl
+    (λ n. refused-negative (E.judge (E.fixed first)) (E.state first) now x (item_trait old L.Sized) (sym c.is_positive.ensures ∙ c.if-not-is_positive.true)) (λ s q. absurd cc)
 
 pub returns-in_err-extracted : goal.returns-in_err-extracted
 returns-in_err-extracted g c =
@@ -56,6 +68,24 @@ returns-in_default g c =
     considers-after first table.new.make c.consider_plain.new.ecx (call_rule now x (item_trait old L.Sized)) (asking_rule (env_forest mid.trees c.args.env) true AMBIGUOUS) c.consider_plain.result (made r table.ensures.grows) r.1
     (rule-undetermined now (env_forest mid.trees c.args.env) x (item_trait old L.Sized) (env-kept old mid c.args.env table.ensures.grows c.requires.goal.env).1 (sym c.is_positive.ensures ∙ c.if-not-is_positive.false) unknown)
     c.consider_plain.ensures
+
+pub returns-in_default-lang_item : goal.returns-in_default-lang_item
+returns-in_default-lang_item g c =
+    let E = g.E.EvalCtxt in
+    let first = c.args.ecx.now in
+    let table = c.extract_tupled_inputs_and_output_from_callable in
+    let old = g.E.Build.context first in
+    let mid = g.E.Build.context table.new.make in
+    let now = trait_goal old.trees c.args.env c.args.predicate in
+    let is = subst (λ (x : Context). ty_tree x.trees c.self_ty-ty.result ≡ first_tree (args_forest x.trees c.args.predicate.trait_ref.args)) c.cx.ensures c.self_ty-ty.ensures.tree in
+    let r = g.met.E.EvalCtxt.by_rest first table.new.make table.ensures.rest in
+    let x = calls old c.args.called (first_tree now.reference.arguments) in
+    let callable = callable_of mid.trees c.in-Some.callable in
+    let known : x ≡ CalledWith callable = ap (calls old c.args.called) (sym is) ∙ (c.in_ok-extracted.ensures.calls ∙ ap (calls_of mid.trees) c.in-Some.is) in
+    let read = subst (λ (y : Context). c.lang_item.result ≡ item_trait y L.Sized) c.cx-3.ensures c.lang_item.ensures in
+    let item : item_trait old L.Sized ≡ None = sym (ap (λ (y : Context). item_trait y L.Sized) table.ensures.grows.same) ∙ (sym read ∙ c.in_default-lang_item.is) in
+    not-given (λ f. (g.met.E.EvalCtxt.lawful f).alike_judged_alike) first table.new.make (call_rule now x (item_trait old L.Sized)) (Err NoSolution) NoSolution refl (made r table.ensures.grows) r.1
+    (λ n. refused-unsized (E.judge (E.fixed first)) (E.state first) now x callable (item_trait old L.Sized) known item) (λ s q. absurd cc)
 
 pub probe_call-requires-clause-goal : goal.probe_call-requires-clause-goal
 probe_call-requires-clause-goal g c = (trait-goal-kept (g.E.Build.context c.args.ecx.now) _ c.args.env c.args.predicate c.extract_tupled_inputs_and_output_from_callable.ensures.grows c.requires.goal).0
