@@ -1,5 +1,5 @@
 -- What can be called with what: no parameter stands in that where none stands in what is called.
-use Rattle.std.proofs.Common.{◌≡◌, ℕ, List, Bool, true, false, Option, Some, None, refl, sym, ap, subst, ◌∙◌}
+use Rattle.std.proofs.Common.{◌≡◌, Bool, true, false, Option, Some, None, refl, subst}
 use Rattle.std.specs.Prelude.{◌&&◌, if◌then◌else◌, not}
 use Rattle.candidate_ir.specs.declared.ir.heads.Builtin.{Builtin}
 use Rattle.candidate_ir.specs.declared.ir.heads.Builtin.TheVariants as B
@@ -13,11 +13,11 @@ use Rattle.candidate_ir.specs.Context.{Context}
 use Rattle.candidate_ir.specs.Folding.{argument, substituted_tree}
 use Rattle.candidate_ir.specs.Substitutions.{alone}
 use Rattle.candidate_ir.specs.Trees.{Forest, none, tree, Tree, holds, is_param, tree_holds}
-use Rattle.candidate_eval.specs.Callable.{Callable, Calls, CalledWith, Excluded, Refused, all_but_first, all_but_last, calls, closure_calls, declared_signature, extends, fn_ptr_calls, function_signature, head_calls, instance_calls, is_unknown, last_but_one, last_tree, pointer_callable, signature_callable, tuple_of}
+use Rattle.candidate_eval.specs.Callable.{Callable, CalledWith, Excluded, Refused, all_but_first, calls, closure_calls, declared_signature, extends, fn_ptr_calls, function_signature, head_calls, instance_calls, is_unknown, last_but_one, last_tree, pointer_callable, signature_callable}
 use Rattle.candidate_eval.proofs.Holds.{holds_parts}
-use Rattle.candidate_eval.proofs.Marking.{argument-unmarked, but-last-unmarked, last-unmarked, unmarked}
+use Rattle.candidate_eval.proofs.Marking.{argument-unmarked, but-last-unmarked, last-unmarked}
 use Rattle.candidate_eval.proofs.PartsFree.{put-parameterless}
-use Rattle.candidate_ir.proofs.Folding.{or-left, or-right}
+use Rattle.candidate_ir.proofs.Folding.{or-right}
 
 -- no parameter stands in the inputs and in the output
 pub record IsFree (s : Callable) : Type 0 where

@@ -1,5 +1,5 @@
 -- The rule for what can be called, by what is read of the goal's self type.
-use Rattle.std.proofs.Common.{◌≡◌, Bool, true, false, Option, Some, None, refl, sym, ap, ◌∙◌}
+use Rattle.std.proofs.Common.{◌≡◌, true, false, Option, Some, None, refl, sym, ap, ◌∙◌}
 use Rattle.std.specs.Prelude.{if◌then◌else◌}
 use Rattle.candidate_ir.specs.declared.ir.kinds.Binder.{Binder}
 use Rattle.candidate_ir.specs.declared.ir.kinds.TraitId.{TraitId}
@@ -14,7 +14,7 @@ use Rattle.candidate_eval.specs.Callable.{Callable, Calls, CalledWith, Excluded,
 use Rattle.candidate_eval.specs.Certainties.{AMBIGUOUS}
 use Rattle.candidate_eval.specs.ImplRules.{TraitGoal}
 use Rattle.candidate_eval.specs.Judging.{Refused, asked, comes_to, judged, start}
-use Rattle.candidate_eval.specs.Rules.{Rule, ask}
+use Rattle.candidate_eval.specs.Rules.{ask}
 use Rattle.candidate_eval.specs.States.{Env, Judge, State}
 use Rattle.candidate_assembly.specs.BuiltinRules.{call_rule, call_steps, misc, positive}
 use Rattle.candidate_assembly.specs.Telling.{asking_rule}

@@ -27,9 +27,9 @@ use Rattle.candidate_eval.specs.Callable.{Callable, CalledWith, IsCallStop, IsMa
 use Rattle.candidate_eval.specs.Characterization.{binder_kinds}
 use Rattle.candidate_eval.specs.Evaluators.{IsMakingStop, accepted}
 use Rattle.candidate_eval.specs.ImplRules.{TraitGoal}
-use Rattle.candidate_eval.specs.Judging.{At, Over, Place, Refused, asked, at_if, comes_to, concluded, continued, goal_at, judged, run, start, step}
+use Rattle.candidate_eval.specs.Judging.{Place, Refused, asked, at_if, comes_to, concluded, continued, goal_at, judged, start, step}
 use Rattle.candidate_eval.specs.Naming.{named_tree}
-use Rattle.candidate_eval.specs.Rules.{Step, add, ask, equate, nested, quick}
+use Rattle.candidate_eval.specs.Rules.{Step, ask, equate, nested, quick}
 use Rattle.candidate_eval.specs.States.{Env, Judge, State, added, fresh_variables, variable, variable_kind, with_fresh, with_fresh_variables}
 use Rattle.candidate_eval.proofs.Closed.{closed, closed-parts}
 use Rattle.candidate_eval.proofs.Naming.{binder-kinds, named-fresh-tree}

@@ -9,7 +9,7 @@ use Rattle.candidate_ir.specs.declared.ir.kinds.Vars.{Vars}
 use Rattle.candidate_ir.specs.Context.{Context, Grows, world}
 use Rattle.candidate_ir.specs.References.{ArgumentsFit}
 use Rattle.candidate_ir.specs.Substitutions.{alone}
-use Rattle.candidate_ir.specs.Trees.{Kind, TypeKind, Forest, none, tree, Tree}
+use Rattle.candidate_ir.specs.Trees.{Kind, TypeKind, none, Tree}
 use Rattle.candidate_ir.specs.Words.{IsArgs, IsTy, IsVars, args_forest, binder_tree, clause_kind_tree, list_forest, ty_tree, vars_tree}
 use Rattle.candidate_ir.specs.Worlds.{World, TraitSort, joined, kinds_of, parameters}
 use Rattle.candidate_ir.proofs.Kept.{world-kept}

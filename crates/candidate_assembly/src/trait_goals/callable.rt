@@ -5,7 +5,7 @@ ghost use Rattle.candidate_ir.specs.Context.{world};
 ghost use Rattle.candidate_ir.specs.Opening.{opened_tree};
 ghost use Rattle.candidate_ir.specs.References.{ArgumentsFit};
 ghost use Rattle.candidate_ir.specs.Trees.{is_param, tree_holds};
-ghost use Rattle.candidate_ir.specs.Words.{IsArgs, IsParamEnv, IsTy, args_forest, env_forest, ty_tree, vars_tree};
+ghost use Rattle.candidate_ir.specs.Words.{IsArgs, IsParamEnv, IsTy, args_forest, env_forest, ty_tree};
 ghost use Rattle.candidate_ir.specs.Worlds.{TraitSort, parameters};
 ghost use Rattle.candidate_eval.specs.Accounts.{StopsSomehow, by_stop};
 ghost use Rattle.candidate_eval.specs.Callable.{CalledWith, IsCallable, callable_of, is_unknown};

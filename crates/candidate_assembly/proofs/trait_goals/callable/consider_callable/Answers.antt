@@ -1,4 +1,4 @@
-use Rattle.std.proofs.Common.{◌≡◌, true, false, Err, Some, None, ap, refl, subst, sym, ◌∙◌}
+use Rattle.std.proofs.Common.{◌≡◌, true, false, Err, Some, None, length, ap, refl, subst, sym, ◌∙◌}
 use Rattle.std.proofs.lemmas.Result.{err_from_is_err_and}
 use Rattle.candidate_ir.specs.declared.decl.contents.LangItem.TheVariants as L
 use Rattle.candidate_ir.specs.Context.{Context}
@@ -8,11 +8,10 @@ use Rattle.candidate_ir.proofs.Kept.{grows-refl}
 use Rattle.candidate_eval.specs.declared.eval.refusal.NoSolutionOrStop.TheVariants.{NoSolution}
 use Rattle.candidate_eval.specs.Callable.{CalledWith, Undetermined, callable_of, calls, calls_of}
 use Rattle.candidate_eval.specs.Certainties.{AMBIGUOUS}
-use Rattle.candidate_eval.specs.Judging.{judged}
 use Rattle.candidate_eval.specs.ObjectRequirements.{first_tree}
 use Rattle.candidate_eval.proofs.Objects.{env-kept}
 use Rattle.candidate_eval.proofs.Probing.{made}
-use Rattle.candidate_assembly.specs.BuiltinRules.{call_rule, positive}
+use Rattle.candidate_assembly.specs.BuiltinRules.{call_rule}
 use Rattle.candidate_assembly.specs.Telling.{asking_rule}
 use Rattle.candidate_assembly.specs.TraitGoals.{item_trait, trait_goal}
 use Rattle.candidate_assembly.proofs.CallFree.{call-free}
@@ -49,10 +48,10 @@ returns-in_err-extracted g c =
     not-given (λ f. (g.met.E.EvalCtxt.lawful f).alike_judged_alike) first table.new.make (call_rule now (called (first_tree now.reference.arguments)) (item_trait old L.Sized)) answered e
     (answered-error answered e (err_from_is_err_and answered c.from_residual.ensures.1)) (made r table.ensures.grows) r.1
     (λ n. refused-uncalled (E.judge (E.fixed first)) (E.state first) now (called (first_tree now.reference.arguments)) (item_trait old L.Sized) (ap called (sym is) ∙ c.in_err-extracted.ensures.refused n))
-    (λ s q. call-makes old _ (ty_tree old.trees c.self_ty-ty.result) s (c.in_err-extracted.ensures.cause s q))
+    (λ s q. call-makes old (length (g.E.Build.context table.new.make).trees) (ty_tree old.trees c.self_ty-ty.result) s (c.in_err-extracted.ensures.cause s q))
 
 pub consider_plain-requires : goal.consider_plain-requires
-consider_plain-requires g c = (env-kept (g.E.Build.context c.args.ecx.now) _ c.args.env c.extract_tupled_inputs_and_output_from_callable.ensures.grows c.requires.goal.env).0
+consider_plain-requires g c = (env-kept (g.E.Build.context c.args.ecx.now) (g.E.Build.context c.extract_tupled_inputs_and_output_from_callable.new.make) c.args.env c.extract_tupled_inputs_and_output_from_callable.ensures.grows c.requires.goal.env).0
 
 pub returns-in_default : goal.returns-in_default
 returns-in_default g c =
@@ -88,7 +87,7 @@ returns-in_default-lang_item g c =
     (λ n. refused-unsized (E.judge (E.fixed first)) (E.state first) now x callable (item_trait old L.Sized) known item) (λ s q. absurd cc)
 
 pub probe_call-requires-clause-goal : goal.probe_call-requires-clause-goal
-probe_call-requires-clause-goal g c = (trait-goal-kept (g.E.Build.context c.args.ecx.now) _ c.args.env c.args.predicate c.extract_tupled_inputs_and_output_from_callable.ensures.grows c.requires.goal).0
+probe_call-requires-clause-goal g c = (trait-goal-kept (g.E.Build.context c.args.ecx.now) (g.E.Build.context c.extract_tupled_inputs_and_output_from_callable.new.make) c.args.env c.args.predicate c.extract_tupled_inputs_and_output_from_callable.ensures.grows c.requires.goal).0
 
 pub probe_call-requires-clause-inputs : goal.probe_call-requires-clause-inputs
 probe_call-requires-clause-inputs g c =

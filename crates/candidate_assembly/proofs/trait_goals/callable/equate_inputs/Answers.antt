@@ -1,4 +1,4 @@
-use Rattle.std.proofs.Common.{rules, ◌≡◌, true, false, Some, None, IfOk, IfErr, ap, subst, ◌∙◌}
+use Rattle.std.proofs.Common.{◌≡◌, true, false, Some, None, IfOk, IfErr, subst}
 use Rattle.std.proofs.lemmas.Result.{IfErr-weaker, IfOk-weaker, err_from_is_err_and}
 use Rattle.candidate_ir.specs.declared.ir.unify.RightSide.TheVariants.{Plain}
 use Rattle.candidate_ir.specs.Context.{Context}
@@ -6,6 +6,7 @@ use Rattle.candidate_ir.specs.Unify.{may_unify}
 use Rattle.candidate_ir.specs.Words.{IsTy, args_forest, env_forest, ty_tree}
 use Rattle.candidate_ir.proofs.Kept.{args-kept}
 use Rattle.candidate_eval.specs.declared.eval.refusal.NoSolutionOrStop.TheVariants.{NoSolution}
+use Rattle.candidate_eval.specs.Accounts as question
 use Rattle.candidate_eval.specs.Accounts.StopsSomehow.{asking, making}
 use Rattle.candidate_eval.specs.Evaluators.{accepted}
 use Rattle.candidate_eval.specs.ObjectRequirements.{first_tree}
@@ -23,13 +24,13 @@ returns-in_err-called-clause-cause g c =
     rw (p.1, p.2) (making (mk_making _ _ c.in_err-called.field-0.0 c.in_err-called.ensures.made.cause))
 
 pub args_may_unify-requires-clause-a : goal.args_may_unify-requires-clause-a
-args_may_unify-requires-clause-a g c = rw c.cx-2.ensures (args-kept _ _ c.args.trait_ref.args c.mk_args.ensures.made.kept c.requires.args).0
+args_may_unify-requires-clause-a g c = rw c.cx-2.ensures (args-kept (g.E.Build.context c.args.ecx.now) (g.E.Build.context c.mk_args.new.self) c.args.trait_ref.args c.mk_args.ensures.made.kept c.requires.args).0
 
 pub eq_args-requires-clause-env : goal.eq_args-requires-clause-env
-eq_args-requires-clause-env g c = (env-kept _ _ c.args.env c.mk_args.ensures.made.kept c.requires.env).0
+eq_args-requires-clause-env g c = (env-kept (g.E.Build.context c.args.ecx.now) (g.E.Build.context c.mk_args.new.self) c.args.env c.mk_args.ensures.made.kept c.requires.env).0
 
 pub eq_args-requires-clause-left : goal.eq_args-requires-clause-left
-eq_args-requires-clause-left g c = (args-kept _ _ c.args.trait_ref.args c.mk_args.ensures.made.kept c.requires.args).0
+eq_args-requires-clause-left g c = (args-kept (g.E.Build.context c.args.ecx.now) (g.E.Build.context c.mk_args.new.self) c.args.trait_ref.args c.mk_args.ensures.made.kept c.requires.args).0
 
 pub returns-clause-kept : goal.returns-clause-kept
 returns-clause-kept g c =
@@ -39,8 +40,9 @@ returns-clause-kept g c =
 pub returns-clause-cause : goal.returns-clause-cause
 returns-clause-cause g c =
     let r = g.met.E.EvalCtxt.by_rest c.args.ecx.now c.mk_args.new.self c.mk_args.ensures.rest in
+    let mid = g.E.Build.context c.mk_args.new.self in
     IfErr-weaker c.eq_args.result _ _
-    (λ e h. by-stop e (λ s x. asking (accounted-later (record { same = r.0; grows = c.mk_args.ensures.made.kept }) (accounted-here _ (reaches c.eq_args.ensures.kept) x))) h) c.eq_args.ensures.cause
+    (λ e h. by-stop e (λ s x. asking (accounted-later (record { same = r.0; grows = c.mk_args.ensures.made.kept }) (accounted-here (question.equate (env_forest mid.trees c.args.env) (args_forest mid.trees c.args.trait_ref.args) (args_forest mid.trees c.in_ok-called.called)) (reaches c.eq_args.ensures.kept) x))) h) c.eq_args.ensures.cause
 
 -- the list that was made, and its test
 
@@ -78,7 +80,7 @@ returns-clause-ok g c =
       (rw c.cx-2.ensures at c.args_may_unify.ensures.is) in
     let kept = c.mk_args.ensures.made.kept in
     let ok : IfOk c.eq_args.result (λ _. accepted J S e a x ≡ Some (E.state c.eq_args.new.self))
-    = rw (r.0, r.1, (env-kept _ _ c.args.env kept c.requires.env).1, (args-kept _ _ c.args.trait_ref.args kept c.requires.args).1, list) at c.eq_args.ensures.ok in
+    = rw (r.0, r.1, (env-kept old mid c.args.env kept c.requires.env).1, (args-kept old mid c.args.trait_ref.args kept c.requires.args).1, list) at c.eq_args.ensures.ok in
     IfOk-weaker c.eq_args.result _ _ (λ u h. quickly-accepted J S e a x (Some (E.state c.eq_args.new.self)) test h) ok
 
 pub returns-clause-refused : goal.returns-clause-refused
@@ -100,5 +102,5 @@ returns-clause-refused g c =
       (rw c.cx-2.ensures at c.args_may_unify.ensures.is) in
     let kept = c.mk_args.ensures.made.kept in
     let refused : IfErr c.eq_args.result (λ y. y ≡ NoSolution → accepted J S e a x ≡ None)
-    = rw (r.0, r.1, (env-kept _ _ c.args.env kept c.requires.env).1, (args-kept _ _ c.args.trait_ref.args kept c.requires.args).1, list) at c.eq_args.ensures.refused in
+    = rw (r.0, r.1, (env-kept old mid c.args.env kept c.requires.env).1, (args-kept old mid c.args.trait_ref.args kept c.requires.args).1, list) at c.eq_args.ensures.refused in
     IfErr-weaker c.eq_args.result _ _ (λ y h is. quickly-accepted J S e a x None test (h is)) refused

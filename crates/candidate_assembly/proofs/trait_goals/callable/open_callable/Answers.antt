@@ -1,4 +1,4 @@
-use Rattle.std.proofs.Common.{◌≡◌, ap, length, ◌∙◌}
+use Rattle.std.proofs.Common.{ap, length, ◌∙◌}
 use Rattle.std.proofs.lemmas.Result.{err_from_is_err_and}
 use Rattle.candidate_ir.specs.Opening.{opened, opened_tree}
 use Rattle.candidate_ir.specs.Trees.{Forest, none, row}
@@ -18,7 +18,7 @@ returns-in_err-values-clause-cause g c =
     rw (p.1, p.2) (somehow c.in_err-values.ensures.cause)
 
 pub replace_bound_vars-requires-clause-under : goal.replace_bound_vars-requires-clause-under
-replace_bound_vars-requires-clause-under g c = (ty-kept _ _ c.args.callable.value.0 c.fresh_args_for_binder.ensures.kept.grows c.requires.inputs).0
+replace_bound_vars-requires-clause-under g c = (ty-kept (g.E.Build.context c.args.ecx.now) (g.E.Build.context c.fresh_args_for_binder.new.ecx) c.args.callable.value.0 c.fresh_args_for_binder.ensures.kept.grows c.requires.inputs).0
 
 pub returns-in_err-inputs-clause-kept : goal.returns-in_err-inputs-clause-kept
 returns-in_err-inputs-clause-kept g c =
@@ -35,10 +35,10 @@ returns-in_err-inputs-clause-cause g c =
 
 pub replace_bound_vars-requires-2-clause-under : goal.replace_bound_vars-requires-2-clause-under
 replace_bound_vars-requires-2-clause-under g c =
-    (ty-kept (g.E.Build.context c.args.ecx.now) _ c.args.callable.value.1 (grows-trans _ _ _ c.fresh_args_for_binder.ensures.kept.grows c.replace_bound_vars.ensures.grows) c.requires.output).0
+    (ty-kept (g.E.Build.context c.args.ecx.now) (g.E.Build.context c.replace_bound_vars.new.make) c.args.callable.value.1 (grows-trans (g.E.Build.context c.args.ecx.now) (g.E.Build.context c.fresh_args_for_binder.new.ecx) (g.E.Build.context c.replace_bound_vars.new.make) c.fresh_args_for_binder.ensures.kept.grows c.replace_bound_vars.ensures.grows) c.requires.output).0
 
 pub replace_bound_vars-requires-2-clause-values : goal.replace_bound_vars-requires-2-clause-values
-replace_bound_vars-requires-2-clause-values g c = (args-kept _ _ c.in_ok-values.values c.replace_bound_vars.ensures.grows c.in_ok-values.ensures.sort).0
+replace_bound_vars-requires-2-clause-values g c = (args-kept (g.E.Build.context c.fresh_args_for_binder.new.ecx) (g.E.Build.context c.replace_bound_vars.new.make) c.in_ok-values.values c.replace_bound_vars.ensures.grows c.in_ok-values.ensures.sort).0
 
 pub returns-in_err-output-clause-kept : goal.returns-in_err-output-clause-kept
 returns-in_err-output-clause-kept g c =
@@ -70,7 +70,7 @@ pub returns-clause-inputs : goal.returns-clause-inputs
 returns-clause-inputs g c =
     let old = g.E.Build.context c.args.ecx.now in
     let mid = g.E.Build.context c.fresh_args_for_binder.new.ecx in
-    let there = ty-kept (g.E.Build.context c.replace_bound_vars.new.make) _ c.in_ok-inputs.inputs c.replace_bound_vars-2.ensures.grows c.in_ok-inputs.ensures.sort in (
+    let there = ty-kept (g.E.Build.context c.replace_bound_vars.new.make) (g.E.Build.context c.replace_bound_vars-2.new.make) c.in_ok-inputs.inputs c.replace_bound_vars-2.ensures.grows c.in_ok-inputs.ensures.sort in (
       there.0,
       there.1 ∙ (c.in_ok-inputs.ensures.tree
       ∙ (ap (λ (x : Forest). opened_tree x (ty_tree mid.trees c.args.callable.value.0)) c.in_ok-values.ensures.trees
@@ -85,5 +85,5 @@ returns-clause-output g c =
       c.in_ok-output.ensures.sort,
       c.in_ok-output.ensures.tree
       ∙ (ap (λ (x : Forest). opened_tree x (ty_tree mid.trees c.args.callable.value.1)) (values.1 ∙ c.in_ok-values.ensures.trees)
-      ∙ ap (opened_tree (fresh_variables (g.E.EvalCtxt.state c.args.ecx.now) (binder_kinds (vars_tree old.trees c.args.callable.vars).children))) (ty-kept old mid c.args.callable.value.1 (grows-trans _ _ _ c.fresh_args_for_binder.ensures.kept.grows c.replace_bound_vars.ensures.grows) c.requires.output).1),
+      ∙ ap (opened_tree (fresh_variables (g.E.EvalCtxt.state c.args.ecx.now) (binder_kinds (vars_tree old.trees c.args.callable.vars).children))) (ty-kept old mid c.args.callable.value.1 (grows-trans old (g.E.Build.context c.fresh_args_for_binder.new.ecx) mid c.fresh_args_for_binder.ensures.kept.grows c.replace_bound_vars.ensures.grows) c.requires.output).1),
     )

@@ -1,6 +1,5 @@
 use Rattle.std.proofs.Common.{◌≡◌, [], Some, ap, refl, subst, sym, ◌∙◌}
 use Rattle.std.proofs.lemmas.Result.{err_from_is_err_and}
-use Rattle.candidate_ir.specs.Context.{world}
 use Rattle.candidate_ir.specs.Trees.{is_param, tree_holds}
 use Rattle.candidate_ir.specs.Worlds.{World, TraitSort, parameters}
 use Rattle.candidate_ir.proofs.Kept.{ty-kept, world-kept}
@@ -20,16 +19,16 @@ returns-in_err-probe g c =
     (answered-stop c.from_residual.result _ (err_from_is_err_and c.from_residual.result c.from_residual.ensures.1)) why.fixed why.grows why.stopped why.cause
 
 pub try_call-answer-requires-clause-goal : goal.try_call-answer-requires-clause-goal
-try_call-answer-requires-clause-goal g c = (trait-goal-kept _ _ c.args.env c.args.predicate c.begin_probe.ensures.grows c.requires.goal).0
+try_call-answer-requires-clause-goal g c = (trait-goal-kept (g.E.Build.context c.args.ecx.now) (g.E.Build.context c.begin_probe.new.self) c.args.env c.args.predicate c.begin_probe.ensures.grows c.requires.goal).0
 
 pub try_call-answer-requires-clause-callable : goal.try_call-answer-requires-clause-callable
-try_call-answer-requires-clause-callable g c = (callable-kept (g.E.Build.context c.args.ecx.now) _ c.args.callable c.begin_probe.ensures.grows c.requires.callable).0
+try_call-answer-requires-clause-callable g c = (callable-kept (g.E.Build.context c.args.ecx.now) (g.E.Build.context c.begin_probe.new.self) c.args.callable c.begin_probe.ensures.grows c.requires.callable).0
 
 pub try_call-answer-requires-clause-inputs : goal.try_call-answer-requires-clause-inputs
-try_call-answer-requires-clause-inputs g c = ap (tree_holds is_param) (ty-kept (g.E.Build.context c.args.ecx.now) _ c.args.callable.value.0 c.begin_probe.ensures.grows c.requires.callable.inputs).1 ∙ c.requires.inputs
+try_call-answer-requires-clause-inputs g c = ap (tree_holds is_param) (ty-kept (g.E.Build.context c.args.ecx.now) (g.E.Build.context c.begin_probe.new.self) c.args.callable.value.0 c.begin_probe.ensures.grows c.requires.callable.inputs).1 ∙ c.requires.inputs
 
 pub try_call-answer-requires-clause-output : goal.try_call-answer-requires-clause-output
-try_call-answer-requires-clause-output g c = ap (tree_holds is_param) (ty-kept (g.E.Build.context c.args.ecx.now) _ c.args.callable.value.1 c.begin_probe.ensures.grows c.requires.callable.output).1 ∙ c.requires.output
+try_call-answer-requires-clause-output g c = ap (tree_holds is_param) (ty-kept (g.E.Build.context c.args.ecx.now) (g.E.Build.context c.begin_probe.new.self) c.args.callable.value.1 c.begin_probe.ensures.grows c.requires.callable.output).1 ∙ c.requires.output
 
 pub try_call-answer-requires-clause-no_parameters : goal.try_call-answer-requires-clause-no_parameters
 try_call-answer-requires-clause-no_parameters g c =

@@ -1,6 +1,4 @@
-use Rattle.std.proofs.Common.{◌≡◌}
 use Rattle.std.proofs.lemmas.Result.{err_from_is_err_and}
-use Rattle.candidate_eval.proofs.Accounts.{reaches}
 use Rattle.candidate_eval.proofs.Objects.{env-kept}
 use Rattle.candidate_eval.proofs.Probing.{made, then}
 use Rattle.candidate_assembly.proofs.Causes.{caused, later, made-here}
@@ -12,7 +10,7 @@ returns-in_err-clause-clause-cause g c =
     rw (p.1, p.2) (made-here c.in_err-clause.ensures.cause)
 
 pub nest_and_respond-requires-clause-env : goal.nest_and_respond-requires-clause-env
-nest_and_respond-requires-clause-env g c = (env-kept _ _ c.args.env c.meets_trait.ensures.grows c.requires.env).0
+nest_and_respond-requires-clause-env g c = (env-kept (g.E.Build.context c.args.ecx.now) (g.E.Build.context c.meets_trait.new.make) c.args.env c.meets_trait.ensures.grows c.requires.env).0
 
 pub returns-clause-kept : goal.returns-clause-kept
 returns-clause-kept g c =
@@ -22,7 +20,7 @@ returns-clause-kept g c =
 pub returns-clause-told : goal.returns-clause-told
 returns-clause-told g c =
     let r = g.met.E.EvalCtxt.by_rest c.args.ecx.now c.meets_trait.new.make c.meets_trait.ensures.rest in
-    rw (r.0, r.1, (env-kept _ _ c.args.env c.meets_trait.ensures.grows c.requires.env).1, c.in_ok-clause.ensures.tree) at c.nest_and_respond.ensures.told
+    rw (r.0, r.1, (env-kept (g.E.Build.context c.args.ecx.now) (g.E.Build.context c.meets_trait.new.make) c.args.env c.meets_trait.ensures.grows c.requires.env).1, c.in_ok-clause.ensures.tree) at c.nest_and_respond.ensures.told
 
 pub returns-clause-cause : goal.returns-clause-cause
 returns-clause-cause g c =

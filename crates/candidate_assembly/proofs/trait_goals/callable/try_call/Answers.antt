@@ -1,18 +1,12 @@
 use Rattle.std.proofs.Common.{◌≡◌, [], Some, subst, sym, ◌∙◌}
 use Rattle.std.proofs.lemmas.Result.{err_from_is_err_and}
-use Rattle.candidate_ir.specs.Context.{world}
-use Rattle.candidate_ir.specs.Opening.{opened_tree}
-use Rattle.candidate_ir.specs.Words.{args_forest, ty_tree}
 use Rattle.candidate_ir.specs.Worlds.{World, TraitSort, parameters}
 use Rattle.candidate_ir.proofs.Kept.{args-kept, grows-trans, ty-kept, world-kept}
 use Rattle.candidate_eval.specs.Callable.{callable_of}
 use Rattle.candidate_eval.specs.Characterization.{binder_kinds}
-use Rattle.candidate_eval.specs.ObjectRequirements.{first_tree}
-use Rattle.candidate_eval.specs.States.{fresh_variables, with_fresh_variables}
 use Rattle.candidate_eval.proofs.Accounts.{by-stop, reaches}
 use Rattle.candidate_eval.proofs.Objects.{env-kept}
 use Rattle.candidate_eval.proofs.Probing.{then}
-use Rattle.candidate_assembly.specs.Calling.{matched_quickly, pair_of}
 use Rattle.candidate_assembly.specs.TraitGoals.{trait_goal}
 use Rattle.candidate_assembly.proofs.CallSteps.{call-judged, call-refused}
 use Rattle.candidate_assembly.proofs.Causes.{answered-error, answered-stop, caused, later, somehow-here}
@@ -29,14 +23,14 @@ returns-in_err-inputs-clause-told g c =
     (somehow-own g.met.E.EvalCtxt.stops_itself s c.in_err-inputs.ensures.cause)
 
 pub equate_inputs-requires-clause-env : goal.equate_inputs-requires-clause-env
-equate_inputs-requires-clause-env g c = (env-kept (g.E.Build.context c.args.ecx.now) _ c.args.env c.open_callable.ensures.kept.grows c.requires.goal.env).0
+equate_inputs-requires-clause-env g c = (env-kept (g.E.Build.context c.args.ecx.now) (g.E.Build.context c.open_callable.new.ecx) c.args.env c.open_callable.ensures.kept.grows c.requires.goal.env).0
 
 pub equate_inputs-requires-clause-args : goal.equate_inputs-requires-clause-args
-equate_inputs-requires-clause-args g c = (args-kept (g.E.Build.context c.args.ecx.now) _ c.args.predicate.trait_ref.args c.open_callable.ensures.kept.grows c.requires.goal.arguments).0
+equate_inputs-requires-clause-args g c = (args-kept (g.E.Build.context c.args.ecx.now) (g.E.Build.context c.open_callable.new.ecx) c.args.predicate.trait_ref.args c.open_callable.ensures.kept.grows c.requires.goal.arguments).0
 
 pub equate_inputs-requires-clause-fit : goal.equate_inputs-requires-clause-fit
 equate_inputs-requires-clause-fit g c =
-    fit-kept (g.E.Build.context c.args.ecx.now) _ c.args.predicate.trait_ref c.open_callable.ensures.kept.grows c.requires.goal.arguments c.requires.goal.fit
+    fit-kept (g.E.Build.context c.args.ecx.now) (g.E.Build.context c.open_callable.new.ecx) c.args.predicate.trait_ref c.open_callable.ensures.kept.grows c.requires.goal.arguments c.requires.goal.fit
 
 pub returns-in_err-equate_inputs-clause-told : goal.returns-in_err-equate_inputs-clause-told
 returns-in_err-equate_inputs-clause-told g c =
@@ -68,18 +62,18 @@ returns-in_err-equate_inputs-clause-cause g c =
 
 pub respond_if_sized-requires-clause-env : goal.respond_if_sized-requires-clause-env
 respond_if_sized-requires-clause-env g c =
-    (env-kept (g.E.Build.context c.args.ecx.now) _ c.args.env (grows-trans _ _ _ c.open_callable.ensures.kept.grows c.equate_inputs.ensures.kept.grows) c.requires.goal.env).0
+    (env-kept (g.E.Build.context c.args.ecx.now) (g.E.Build.context c.equate_inputs.new.ecx) c.args.env (grows-trans (g.E.Build.context c.args.ecx.now) (g.E.Build.context c.open_callable.new.ecx) (g.E.Build.context c.equate_inputs.new.ecx) c.open_callable.ensures.kept.grows c.equate_inputs.ensures.kept.grows) c.requires.goal.env).0
 
 pub respond_if_sized-requires-clause-no_parameters : goal.respond_if_sized-requires-clause-no_parameters
 respond_if_sized-requires-clause-no_parameters g c =
     let old = g.E.Build.context c.args.ecx.now in
     let mid = g.E.Build.context c.equate_inputs.new.ecx in
     subst (λ (w : World). parameters w TraitSort c.args.sized.0 ≡ Some [])
-    (sym (world-kept old mid (grows-trans old _ mid c.open_callable.ensures.kept.grows c.equate_inputs.ensures.kept.grows)).0) c.requires.no_parameters
+    (sym (world-kept old mid (grows-trans old (g.E.Build.context c.open_callable.new.ecx) mid c.open_callable.ensures.kept.grows c.equate_inputs.ensures.kept.grows)).0) c.requires.no_parameters
 
 pub respond_if_sized-requires-clause-output : goal.respond_if_sized-requires-clause-output
 respond_if_sized-requires-clause-output g c =
-    (ty-kept (g.E.Build.context c.open_callable.new.ecx) _ c.in_ok-inputs.output c.equate_inputs.ensures.kept.grows c.in_ok-inputs.ensures.output.0).0
+    (ty-kept (g.E.Build.context c.open_callable.new.ecx) (g.E.Build.context c.equate_inputs.new.ecx) c.in_ok-inputs.output c.equate_inputs.ensures.kept.grows c.in_ok-inputs.ensures.output.0).0
 
 pub returns-clause-kept : goal.returns-clause-kept
 returns-clause-kept g c = then (then c.open_callable.ensures.kept c.equate_inputs.ensures.kept) c.respond_if_sized.ensures.kept
