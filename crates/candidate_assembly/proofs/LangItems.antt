@@ -1,6 +1,6 @@
 -- The traits that are lang items have the parameters of their items.
-use Rattle.std.proofs.Common.{◌≡◌, ℕ, zero, suc, Bool, true, false, not, List, [], ◌∷◌, map, Option, Some, None, refl, sym, ap, ◌∙◌, slice_index_or}
-use Rattle.std.specs.Prelude.{◌||◌, IfSome, option_map, slice_get}
+use Rattle.std.proofs.Common.{◌≡◌, ℕ, zero, suc, Bool, false, not, List, [], ◌∷◌, map, Option, Some, None, refl, sym, ap, ◌∙◌, slice_index_or}
+use Rattle.std.specs.Prelude.{IfSome, option_map, slice_get}
 use Rattle.std.specs.List.{list_any}
 use Rattle.std.proofs.lemmas.Option.{slice_get-map}
 use Rattle.candidate_ir.specs.declared.decl.contents.LangItem.{LangItem}
@@ -12,7 +12,7 @@ use Rattle.candidate_ir.specs.declared.ir.kinds.VarKind.{VarKind}
 use Rattle.candidate_ir.specs.Context.{Context, definition_of, is_declared_trait, is_empty, is_trait, parameter_kind, world}
 use Rattle.candidate_ir.specs.Declaration.{Declaration}
 use Rattle.candidate_ir.specs.Declaring.{item_number, takes_a_type}
-use Rattle.candidate_ir.specs.Faults.{all_items, has_item_parameters, impl_misnames, item_has_wrong_arity, item_misnames, lacks_item_parameters, trait_lacks_item_parameters}
+use Rattle.candidate_ir.specs.Faults.{all_items, impl_misnames, item_has_wrong_arity, item_misnames, lacks_item_parameters, trait_lacks_item_parameters}
 use Rattle.candidate_ir.specs.WellFormed.{IsWellFormedTable}
 use Rattle.candidate_ir.specs.Worlds.{TraitSort, parameters, parameters_of}
 use Rattle.candidate_ir.proofs.Folding.{or-left, or-right}

@@ -20,3 +20,6 @@ pub mod Answering
 pub mod WhereBounds
 pub mod MatchesBelow
 pub mod Requiring
+pub mod CallSteps
+pub mod CallFree
+pub mod CallRules

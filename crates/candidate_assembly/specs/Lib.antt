@@ -9,3 +9,4 @@ pub mod Projections
 pub mod Characterizing
 pub mod Impls
 pub mod Requirements
+pub mod Calling

@@ -3,6 +3,7 @@
 pub(crate) mod aliases;
 pub(crate) mod auto_traits;
 pub(crate) mod builtin;
+pub(crate) mod callable;
 pub mod impls;
 pub mod kind;
 pub(crate) mod matching;

@@ -11,6 +11,7 @@ use crate::assembly::steps::consider_plain;
 use crate::trait_goals::aliases::consider_trait_alias;
 use crate::trait_goals::auto_traits::consider_auto_trait;
 use crate::trait_goals::builtin::{fn_ptr_holds, is_positive, is_tuple, self_head};
+use crate::trait_goals::callable::consider_callable;
 use crate::trait_goals::impls::consider_impl;
 use crate::trait_goals::matching::{fast_reject, match_clause};
 use crate::trait_goals::no_drop::consider_no_drop;
@@ -168,8 +169,7 @@ impl<E: EvalCtxt> GoalKind<E> for TraitPredicate {
         predicate: Self,
         called: ClosureKind,
     ) -> Result<Candidate, NoSolutionOrStop> {
-        let _ = (predicate, called);
-        consider_plain(alloc, ecx, env, false, Certainty::Yes)
+        consider_callable(alloc, ecx, env, predicate, called)
     }
 
     fn consider_builtin_tuple_candidate(

@@ -32,3 +32,9 @@ returns-clause-tree g c =
     let is = made-to-meet mid c.in_ok-vars.vars p (ty_tree old.trees c.args.ty) c.in_ok-vars.ensures.made.tree c.in_ok-vars.ensures.made.sort there.0 refl
         (there.1 ∙ (c.in_ok-args.ensures.made.tree ∙ one-type old.trees c.args.ty c.requires.ty)) in
     so-ok c.mk_clause.result (λ x made. made ∙ is) c.mk_clause.ensures.made.tree
+
+pub returns-in_err-vars-clause-grows : goal.returns-in_err-vars-clause-grows
+returns-in_err-vars-clause-grows g c = grows-trans _ _ _ c.mk_args.ensures.made.kept c.mk_vars.ensures.made.kept
+
+pub returns-clause-grows : goal.returns-clause-grows
+returns-clause-grows g c = grows-trans _ _ _ (grows-trans _ _ _ c.mk_args.ensures.made.kept c.mk_vars.ensures.made.kept) c.mk_clause.ensures.made.kept

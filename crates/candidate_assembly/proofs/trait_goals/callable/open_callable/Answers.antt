@@ -1,0 +1,89 @@
+use Rattle.std.proofs.Common.{ap, length, ◌∙◌}
+use Rattle.std.proofs.lemmas.Result.{err_from_is_err_and}
+use Rattle.candidate_ir.specs.Opening.{opened, opened_tree}
+use Rattle.candidate_ir.specs.Trees.{Forest, none, row}
+use Rattle.candidate_ir.specs.Words.{args_forest, ty_tree, vars_tree}
+use Rattle.candidate_eval.specs.Characterization.{binder_kinds}
+use Rattle.candidate_eval.specs.States.{fresh_variables}
+use Rattle.candidate_ir.proofs.Kept.{args-kept, grows-trans, ty-kept}
+use Rattle.candidate_eval.specs.Accounts.StopsSomehow.{making}
+use Rattle.candidate_eval.proofs.Accounts.{somehow}
+use Rattle.candidate_eval.proofs.Probing.{made, then}
+use Rattle.candidate_eval.proofs.StopKinds.{subst_making}
+use Rattle.candidate_assembly.proofs.trait_goals.callable.open_callable.Goals as goal
+
+pub returns-in_err-values-clause-cause : goal.returns-in_err-values-clause-cause
+returns-in_err-values-clause-cause g c =
+    let p = err_from_is_err_and c.from_residual.result c.from_residual.ensures.1 in
+    rw (p.1, p.2) (somehow c.in_err-values.ensures.cause)
+
+pub replace_bound_vars-requires-clause-under : goal.replace_bound_vars-requires-clause-under
+replace_bound_vars-requires-clause-under g c = (ty-kept (g.E.Build.context c.args.ecx.now) (g.E.Build.context c.fresh_args_for_binder.new.ecx) c.args.callable.value.0 c.fresh_args_for_binder.ensures.kept.grows c.requires.inputs).0
+
+pub returns-in_err-inputs-clause-kept : goal.returns-in_err-inputs-clause-kept
+returns-in_err-inputs-clause-kept g c =
+    let r = g.met.E.EvalCtxt.by_rest c.fresh_args_for_binder.new.ecx c.replace_bound_vars.new.make c.replace_bound_vars.ensures.rest in
+    then c.fresh_args_for_binder.ensures.kept (made r c.replace_bound_vars.ensures.grows)
+
+pub returns-in_err-inputs-clause-cause : goal.returns-in_err-inputs-clause-cause
+returns-in_err-inputs-clause-cause g c =
+    let p = err_from_is_err_and c.from_residual-in_err-inputs.result c.from_residual-in_err-inputs.ensures.1 in
+    let old = g.E.Build.context c.fresh_args_for_binder.new.ecx in
+    let new = g.E.Build.context c.replace_bound_vars.new.make in
+    let unmade : Forest = opened (args_forest old.trees c.in_ok-values.values) (row (ty_tree old.trees c.args.callable.value.0) none) in
+    rw (p.1, p.2) (making (subst_making (length new.trees) unmade c.in_err-inputs.field-0.0 c.in_err-inputs.ensures.cause))
+
+pub replace_bound_vars-requires-2-clause-under : goal.replace_bound_vars-requires-2-clause-under
+replace_bound_vars-requires-2-clause-under g c =
+    (ty-kept (g.E.Build.context c.args.ecx.now) (g.E.Build.context c.replace_bound_vars.new.make) c.args.callable.value.1 (grows-trans (g.E.Build.context c.args.ecx.now) (g.E.Build.context c.fresh_args_for_binder.new.ecx) (g.E.Build.context c.replace_bound_vars.new.make) c.fresh_args_for_binder.ensures.kept.grows c.replace_bound_vars.ensures.grows) c.requires.output).0
+
+pub replace_bound_vars-requires-2-clause-values : goal.replace_bound_vars-requires-2-clause-values
+replace_bound_vars-requires-2-clause-values g c = (args-kept (g.E.Build.context c.fresh_args_for_binder.new.ecx) (g.E.Build.context c.replace_bound_vars.new.make) c.in_ok-values.values c.replace_bound_vars.ensures.grows c.in_ok-values.ensures.sort).0
+
+pub returns-in_err-output-clause-kept : goal.returns-in_err-output-clause-kept
+returns-in_err-output-clause-kept g c =
+    let r = g.met.E.EvalCtxt.by_rest c.fresh_args_for_binder.new.ecx c.replace_bound_vars.new.make c.replace_bound_vars.ensures.rest in
+    let q = g.met.E.EvalCtxt.by_rest c.replace_bound_vars.new.make c.replace_bound_vars-2.new.make c.replace_bound_vars-2.ensures.rest in
+    then (then c.fresh_args_for_binder.ensures.kept (made r c.replace_bound_vars.ensures.grows)) (made q c.replace_bound_vars-2.ensures.grows)
+
+pub returns-in_err-output-clause-cause : goal.returns-in_err-output-clause-cause
+returns-in_err-output-clause-cause g c =
+    let p = err_from_is_err_and c.from_residual-in_err-output.result c.from_residual-in_err-output.ensures.1 in
+    let old = g.E.Build.context c.replace_bound_vars.new.make in
+    let new = g.E.Build.context c.replace_bound_vars-2.new.make in
+    let unmade : Forest = opened (args_forest old.trees c.in_ok-values.values) (row (ty_tree old.trees c.args.callable.value.1) none) in
+    rw (p.1, p.2) (making (subst_making (length new.trees) unmade c.in_err-output.field-0.0 c.in_err-output.ensures.cause))
+
+pub returns-clause-kept : goal.returns-clause-kept
+returns-clause-kept g c =
+    let r = g.met.E.EvalCtxt.by_rest c.fresh_args_for_binder.new.ecx c.replace_bound_vars.new.make c.replace_bound_vars.ensures.rest in
+    let q = g.met.E.EvalCtxt.by_rest c.replace_bound_vars.new.make c.replace_bound_vars-2.new.make c.replace_bound_vars-2.ensures.rest in
+    then (then c.fresh_args_for_binder.ensures.kept (made r c.replace_bound_vars.ensures.grows)) (made q c.replace_bound_vars-2.ensures.grows)
+
+pub returns-clause-state : goal.returns-clause-state
+returns-clause-state g c =
+    let r = g.met.E.EvalCtxt.by_rest c.fresh_args_for_binder.new.ecx c.replace_bound_vars.new.make c.replace_bound_vars.ensures.rest in
+    let q = g.met.E.EvalCtxt.by_rest c.replace_bound_vars.new.make c.replace_bound_vars-2.new.make c.replace_bound_vars-2.ensures.rest in
+    q.1 ∙ (r.1 ∙ c.in_ok-values.ensures.state)
+
+pub returns-clause-inputs : goal.returns-clause-inputs
+returns-clause-inputs g c =
+    let old = g.E.Build.context c.args.ecx.now in
+    let mid = g.E.Build.context c.fresh_args_for_binder.new.ecx in
+    let there = ty-kept (g.E.Build.context c.replace_bound_vars.new.make) (g.E.Build.context c.replace_bound_vars-2.new.make) c.in_ok-inputs.inputs c.replace_bound_vars-2.ensures.grows c.in_ok-inputs.ensures.sort in (
+      there.0,
+      there.1 ∙ (c.in_ok-inputs.ensures.tree
+      ∙ (ap (λ (x : Forest). opened_tree x (ty_tree mid.trees c.args.callable.value.0)) c.in_ok-values.ensures.trees
+      ∙ ap (opened_tree (fresh_variables (g.E.EvalCtxt.state c.args.ecx.now) (binder_kinds (vars_tree old.trees c.args.callable.vars).children))) (ty-kept old mid c.args.callable.value.0 c.fresh_args_for_binder.ensures.kept.grows c.requires.inputs).1)),
+    )
+
+pub returns-clause-output : goal.returns-clause-output
+returns-clause-output g c =
+    let old = g.E.Build.context c.args.ecx.now in
+    let mid = g.E.Build.context c.replace_bound_vars.new.make in
+    let values = args-kept (g.E.Build.context c.fresh_args_for_binder.new.ecx) mid c.in_ok-values.values c.replace_bound_vars.ensures.grows c.in_ok-values.ensures.sort in (
+      c.in_ok-output.ensures.sort,
+      c.in_ok-output.ensures.tree
+      ∙ (ap (λ (x : Forest). opened_tree x (ty_tree mid.trees c.args.callable.value.1)) (values.1 ∙ c.in_ok-values.ensures.trees)
+      ∙ ap (opened_tree (fresh_variables (g.E.EvalCtxt.state c.args.ecx.now) (binder_kinds (vars_tree old.trees c.args.callable.vars).children))) (ty-kept old mid c.args.callable.value.1 (grows-trans old (g.E.Build.context c.fresh_args_for_binder.new.ecx) mid c.fresh_args_for_binder.ensures.kept.grows c.replace_bound_vars.ensures.grows) c.requires.output).1),
+    )

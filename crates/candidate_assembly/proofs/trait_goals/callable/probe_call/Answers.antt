@@ -1,0 +1,53 @@
+use Rattle.std.proofs.Common.{◌≡◌, [], Some, ap, refl, subst, sym, ◌∙◌}
+use Rattle.std.proofs.lemmas.Result.{err_from_is_err_and}
+use Rattle.candidate_ir.specs.Trees.{is_param, tree_holds}
+use Rattle.candidate_ir.specs.Worlds.{World, TraitSort, parameters}
+use Rattle.candidate_ir.proofs.Kept.{ty-kept, world-kept}
+use Rattle.candidate_eval.specs.Callable.{CalledWith, callable_of}
+use Rattle.candidate_assembly.specs.BuiltinRules.{call_rule}
+use Rattle.candidate_assembly.specs.TraitGoals.{trait_goal}
+use Rattle.candidate_assembly.proofs.CallRules.{callable-kept, rule-called}
+use Rattle.candidate_assembly.proofs.Causes.{answered-stop}
+use Rattle.candidate_assembly.proofs.Considering.{not-begun}
+use Rattle.candidate_assembly.proofs.Keeping.{in-probe, trait-goal-kept}
+use Rattle.candidate_assembly.proofs.trait_goals.callable.probe_call.Goals as goal
+
+pub returns-in_err-probe : goal.returns-in_err-probe
+returns-in_err-probe g c =
+    let why = c.in_err-probe.ensures in
+    not-begun g.met.E.EvalCtxt.stops_itself (λ f. (g.met.E.EvalCtxt.lawful f).alike_judged_alike) c.args.ecx.now c.begin_probe.new.self _ _ c.from_residual.result c.in_err-probe.field-0.0
+    (answered-stop c.from_residual.result _ (err_from_is_err_and c.from_residual.result c.from_residual.ensures.1)) why.fixed why.grows why.stopped why.cause
+
+pub try_call-answer-requires-clause-goal : goal.try_call-answer-requires-clause-goal
+try_call-answer-requires-clause-goal g c = (trait-goal-kept (g.E.Build.context c.args.ecx.now) (g.E.Build.context c.begin_probe.new.self) c.args.env c.args.predicate c.begin_probe.ensures.grows c.requires.goal).0
+
+pub try_call-answer-requires-clause-callable : goal.try_call-answer-requires-clause-callable
+try_call-answer-requires-clause-callable g c = (callable-kept (g.E.Build.context c.args.ecx.now) (g.E.Build.context c.begin_probe.new.self) c.args.callable c.begin_probe.ensures.grows c.requires.callable).0
+
+pub try_call-answer-requires-clause-inputs : goal.try_call-answer-requires-clause-inputs
+try_call-answer-requires-clause-inputs g c = ap (tree_holds is_param) (ty-kept (g.E.Build.context c.args.ecx.now) (g.E.Build.context c.begin_probe.new.self) c.args.callable.value.0 c.begin_probe.ensures.grows c.requires.callable.inputs).1 ∙ c.requires.inputs
+
+pub try_call-answer-requires-clause-output : goal.try_call-answer-requires-clause-output
+try_call-answer-requires-clause-output g c = ap (tree_holds is_param) (ty-kept (g.E.Build.context c.args.ecx.now) (g.E.Build.context c.begin_probe.new.self) c.args.callable.value.1 c.begin_probe.ensures.grows c.requires.callable.output).1 ∙ c.requires.output
+
+pub try_call-answer-requires-clause-no_parameters : goal.try_call-answer-requires-clause-no_parameters
+try_call-answer-requires-clause-no_parameters g c =
+    subst (λ (w : World). parameters w TraitSort c.args.sized.0 ≡ Some []) (sym (world-kept (g.E.Build.context c.args.ecx.now) (g.E.Build.context c.begin_probe.new.self) c.begin_probe.ensures.grows).0) c.requires.no_parameters
+
+pub returns : goal.returns
+returns g c =
+    let E = g.E.EvalCtxt in
+    let old = g.E.Build.context c.args.ecx.now in
+    let mid = g.E.Build.context c.begin_probe.new.self in
+    let ran = c.try_call-answer in
+    let end = c.end_probe-usages.ensures in
+    let began = c.in_ok-probe.ensures in
+    let now = trait_goal old.trees c.args.env c.args.predicate in
+    let there = trait_goal mid.trees c.args.env c.args.predicate in
+    let before = callable_of old.trees c.args.callable in
+    let called = callable_of mid.trees c.args.callable in
+    in-probe E.fixed E.judge E.state E.probes g.E.Build.context E.stops c.args.ecx.now c.begin_probe.new.self ran.new.ecx c.end_probe-usages.new.self (call_rule now (CalledWith before) (Some c.args.sized))
+    (call_rule there (CalledWith called) (Some c.args.sized)) ran.result began.fixed began.ok.0 began.ok.1 began.grows ran.ensures.kept end.fixed end.grows end.left end.closed
+    (rule-called now there (CalledWith before) before called (Some c.args.sized) c.args.sized (trait-goal-kept old mid c.args.env c.args.predicate began.grows c.requires.goal).1
+    (callable-kept old mid c.args.callable began.grows c.requires.callable).1 refl refl)
+    ran.ensures.told ran.ensures.cause

@@ -1,0 +1,200 @@
+//! The rule for what can be called: a goal of `Fn`, `FnMut` or `FnOnce`.
+
+ghost use Rattle.std.specs.Prelude.{◌≡◌, [], None, Some, false, true, IfErr, IfOk, OnOk};
+ghost use Rattle.candidate_ir.specs.Context.{world};
+ghost use Rattle.candidate_ir.specs.Opening.{opened_tree};
+ghost use Rattle.candidate_ir.specs.References.{ArgumentsFit};
+ghost use Rattle.candidate_ir.specs.Trees.{is_param, tree_holds};
+ghost use Rattle.candidate_ir.specs.Words.{IsArgs, IsParamEnv, IsTy, args_forest, env_forest, ty_tree};
+ghost use Rattle.candidate_ir.specs.Worlds.{TraitSort, parameters};
+ghost use Rattle.candidate_eval.specs.Accounts.{StopsSomehow, by_stop};
+ghost use Rattle.candidate_eval.specs.Callable.{CalledWith, IsCallable, callable_of, is_unknown};
+ghost use Rattle.candidate_eval.specs.Characterization.{binder_kinds};
+ghost use Rattle.candidate_eval.specs.Evaluators.{Keeps};
+ghost use Rattle.candidate_eval.specs.Judging.{asked, judged};
+ghost use Rattle.candidate_eval.specs.ObjectRequirements.{first_tree};
+ghost use Rattle.candidate_eval.specs.States.{added, fresh_variables, with_fresh_variables};
+ghost use Rattle.candidate_eval.specs.declared.eval.certainty.Certainty.TheVariants.{Yes};
+ghost use Rattle.candidate_assembly.specs.BuiltinRules.{call_rule, fn_rule, meets, misc, self_of};
+ghost use Rattle.candidate_assembly.specs.Calling.{matched_quickly, nested_goal, pair_of};
+ghost use Rattle.candidate_assembly.specs.Kinds.{IsGoal};
+ghost use Rattle.candidate_assembly.specs.Telling.{Considers, StopsOfItself, Told};
+ghost use Rattle.candidate_assembly.specs.TraitGoals.{arguments_held, is_positive, trait_goal, types_held};
+ghost use Rattle.candidate_assembly.specs.TraitRules.{trait_rules};
+
+use crate::assembly::steps::{consider_plain, nest_and_respond};
+use crate::trait_goals::builtin::is_positive;
+use crate::trait_goals::meeting::{item_has_no_parameters, meets_trait};
+use candidate_eval::eval::binders::fresh_args_for_binder;
+use candidate_eval::eval::certainty::Certainty;
+use candidate_eval::eval::clauses::self_ty;
+use candidate_eval::eval::context::{EvalCtxt, ProbeKind};
+use candidate_eval::eval::refusal::NoSolutionOrStop;
+use candidate_eval::eval::response::Candidate;
+use candidate_eval::eval::source::{BuiltinImplSource, CandidateSource};
+use candidate_eval::structural::callable::extract_tupled_inputs_and_output_from_callable;
+use candidate_ir::decl::contents::LangItem;
+use candidate_ir::decl::make::{Build, Make};
+use candidate_ir::decl::open::replace_bound_vars;
+use candidate_ir::ir::kinds::{
+    Binder, ClosureKind, GenericArg, GoalSource, ParamEnv, TraitId, TraitPredicate, TraitRef, Ty,
+};
+use candidate_ir::ir::stop::Stop;
+use candidate_ir::ir::trees::Trees;
+use candidate_ir::ir::unify::RightSide;
+use std::alloc::Global;
+
+/// The inputs and the output of what is called, with fresh variables in the place of those of its binder.
+fn open_callable<E: EvalCtxt>(
+    alloc: Global,
+    ecx: &mut E,
+    callable: Binder<(Ty, Ty)>,
+) -> Result<(Ty, Ty), Stop>
+    requires { IsCallable (E.context ecx.old).trees callable }
+    ensures kept { Keeps E.fixed E.probes E.context ecx.old ecx.new }
+    ensures state { OnOk result (E.state ecx.new ≡ with_fresh_variables (E.state ecx.old) (binder_kinds (callable_of (E.context ecx.old).trees callable).variables)) }
+    ensures inputs { IfOk result (λ r. IsTy (E.context ecx.new).trees r.0 × (ty_tree (E.context ecx.new).trees r.0 ≡ opened_tree (fresh_variables (E.state ecx.old) (binder_kinds (callable_of (E.context ecx.old).trees callable).variables)) (callable_of (E.context ecx.old).trees callable).inputs)) }
+    ensures output { IfOk result (λ r. IsTy (E.context ecx.new).trees r.1 × (ty_tree (E.context ecx.new).trees r.1 ≡ opened_tree (fresh_variables (E.state ecx.old) (binder_kinds (callable_of (E.context ecx.old).trees callable).variables)) (callable_of (E.context ecx.old).trees callable).output)) }
+    ensures cause { IfErr result (StopsSomehow E.fixed E.context E.state E.stops ecx.old) }
+{
+    let (inputs, output) = callable.value;
+    let values = fresh_args_for_binder(alloc, ecx, callable.vars)?;
+    let inputs = replace_bound_vars(alloc, ecx, inputs, values)?;
+    let output = replace_bound_vars(alloc, ecx, output, values)?;
+    Ok((inputs, output))
+}
+
+/// Equates the arguments of the goal with its self type and these inputs, where they pass quick rejection.
+fn equate_inputs<E: EvalCtxt>(
+    ecx: &mut E,
+    env: ParamEnv,
+    trait_ref: TraitRef,
+    inputs: Ty,
+) -> Result<(), NoSolutionOrStop>
+    requires env { IsParamEnv (E.context ecx.old).trees env }
+    requires args { IsArgs (E.context ecx.old).trees trait_ref.args }
+    requires fit { ArgumentsFit (E.context ecx.old) trait_ref }
+    requires inputs { IsTy (E.context ecx.old).trees inputs }
+    ensures kept { Keeps E.fixed E.probes E.context ecx.old ecx.new }
+    ensures ok { IfOk result (λ _. matched_quickly (E.judge (E.fixed ecx.old)) (E.state ecx.old) (env_forest (E.context ecx.old).trees env) (args_forest (E.context ecx.old).trees trait_ref.args) (pair_of (first_tree (args_forest (E.context ecx.old).trees trait_ref.args)) (ty_tree (E.context ecx.old).trees inputs)) ≡ Some (E.state ecx.new)) }
+    ensures refused { IfErr result (λ e. e ≡ NoSolutionOrStop.NoSolution → matched_quickly (E.judge (E.fixed ecx.old)) (E.state ecx.old) (env_forest (E.context ecx.old).trees env) (args_forest (E.context ecx.old).trees trait_ref.args) (pair_of (first_tree (args_forest (E.context ecx.old).trees trait_ref.args)) (ty_tree (E.context ecx.old).trees inputs)) ≡ None) }
+    ensures cause { IfErr result (by_stop (StopsSomehow E.fixed E.context E.state E.stops ecx.old)) }
+{
+    let ty = self_ty(ecx.cx(), trait_ref);
+    let called = ecx.mk_args(&[GenericArg::Ty(ty), GenericArg::Ty(inputs)])?;
+    if !ecx
+        .cx()
+        .args_may_unify(trait_ref.args, called, RightSide::Plain)
+    {
+        return Err(NoSolutionOrStop::NoSolution);
+    }
+    ecx.eq_args(env, trait_ref.args, called)
+}
+
+/// The candidate, where the output is sized.
+fn respond_if_sized<E: EvalCtxt>(
+    alloc: Global,
+    ecx: &mut E,
+    env: ParamEnv,
+    sized: TraitId,
+    output: Ty,
+) -> Result<Candidate, NoSolutionOrStop>
+    requires env { IsParamEnv (E.context ecx.old).trees env }
+    requires no_parameters { parameters (world (E.context ecx.old)) TraitSort sized.0 ≡ Some [] }
+    requires output { IsTy (E.context ecx.old).trees output }
+    ensures kept { Keeps E.fixed E.probes E.context ecx.old ecx.new }
+    ensures told { Told (E.context ecx.new).trees result (asked (E.judge (E.fixed ecx.old)) (added (E.state ecx.old) (nested_goal (env_forest (E.context ecx.old).trees env) (meets sized (ty_tree (E.context ecx.old).trees output)))) misc Yes) }
+    ensures cause { IfErr result (by_stop (StopsOfItself E.fixed E.context E.state E.stops ecx.old)) }
+{
+    let clause = meets_trait(ecx, sized, output)?;
+    let source = CandidateSource::BuiltinImpl(BuiltinImplSource::Misc);
+    let nested = GoalSource::ImplWhereBound;
+    nest_and_respond(
+        alloc,
+        ecx,
+        env,
+        nested,
+        &[clause],
+        source,
+        Certainty::Yes,
+    )
+}
+
+/// The candidate of a goal whose self type is called so. It is called in a probe.
+fn try_call<E: EvalCtxt>(
+    alloc: Global,
+    ecx: &mut E,
+    env: ParamEnv,
+    predicate: TraitPredicate,
+    callable: Binder<(Ty, Ty)>,
+    sized: TraitId,
+) -> Result<Candidate, NoSolutionOrStop>
+    requires goal { IsGoal trait_rules arguments_held types_held trait_goal (E.context ecx.old) env predicate }
+    requires positive { is_positive predicate.polarity ≡ true }
+    requires callable { IsCallable (E.context ecx.old).trees callable }
+    requires inputs { tree_holds is_param (ty_tree (E.context ecx.old).trees callable.value.0) ≡ false }
+    requires output { tree_holds is_param (ty_tree (E.context ecx.old).trees callable.value.1) ≡ false }
+    requires no_parameters { parameters (world (E.context ecx.old)) TraitSort sized.0 ≡ Some [] }
+    ensures kept { Keeps E.fixed E.probes E.context ecx.old ecx.new }
+    ensures told { Told (E.context ecx.new).trees result (judged (E.judge (E.fixed ecx.old)) (E.state ecx.old) (call_rule (trait_goal (E.context ecx.old).trees env predicate) (CalledWith (callable_of (E.context ecx.old).trees callable)) (Some sized))) }
+    ensures cause { IfErr result (by_stop (StopsOfItself E.fixed E.context E.state E.stops ecx.old)) }
+{
+    let (inputs, output) = open_callable(alloc, ecx, callable)?;
+    equate_inputs(ecx, env, predicate.trait_ref, inputs)?;
+    respond_if_sized(alloc, ecx, env, sized, output)
+}
+
+/// The candidate of a goal whose self type is called so, in a probe.
+fn probe_call<E: EvalCtxt>(
+    alloc: Global,
+    ecx: &mut E,
+    env: ParamEnv,
+    predicate: TraitPredicate,
+    callable: Binder<(Ty, Ty)>,
+    sized: TraitId,
+) -> Result<Candidate, NoSolutionOrStop>
+    requires goal { IsGoal trait_rules arguments_held types_held trait_goal (E.context ecx.old) env predicate }
+    requires positive { is_positive predicate.polarity ≡ true }
+    requires callable { IsCallable (E.context ecx.old).trees callable }
+    requires inputs { tree_holds is_param (ty_tree (E.context ecx.old).trees callable.value.0) ≡ false }
+    requires output { tree_holds is_param (ty_tree (E.context ecx.old).trees callable.value.1) ≡ false }
+    requires no_parameters { parameters (world (E.context ecx.old)) TraitSort sized.0 ≡ Some [] }
+    ensures { Considers E.fixed E.judge E.state E.probes E.context E.stops ecx.old ecx.new (call_rule (trait_goal (E.context ecx.old).trees env predicate) (CalledWith (callable_of (E.context ecx.old).trees callable)) (Some sized)) result }
+{
+    let probe = ecx.begin_probe(ProbeKind::Kept)?;
+    let answer = try_call(alloc, ecx, env, predicate, callable, sized);
+    let _usages = ecx.end_probe(probe);
+    answer
+}
+
+/// The rule for what can be called so: the goal's arguments are its self type and the inputs, and the output is sized. Where it isn't
+/// known yet whether the self type can be called so, the candidate is ambiguous.
+///
+/// The state is left alike the one before. `NoSolution` comes of a goal that the trait doesn't hold, where the self type can't be called
+/// so, where no trait is declared to be `Sized`, where the arguments can't be equated, and where the evaluator refuses; the stops are those
+/// of making nodes and lists, and the evaluator's.
+pub(crate) fn consider_callable<E: EvalCtxt>(
+    alloc: Global,
+    ecx: &mut E,
+    env: ParamEnv,
+    predicate: TraitPredicate,
+    called: ClosureKind,
+) -> Result<Candidate, NoSolutionOrStop>
+    requires goal { IsGoal trait_rules arguments_held types_held trait_goal (E.context ecx.old) env predicate }
+    requires typed { is_unknown (self_of (trait_goal (E.context ecx.old).trees env predicate)).head ≡ false }
+    ensures { Considers E.fixed E.judge E.state E.probes E.context E.stops ecx.old ecx.new (fn_rule called (E.context ecx.old) (trait_goal (E.context ecx.old).trees env predicate)) result }
+{
+    if !is_positive(predicate.polarity) {
+        return Err(NoSolutionOrStop::NoSolution);
+    }
+    let ty = self_ty(ecx.cx(), predicate.trait_ref);
+    let extracted = extract_tupled_inputs_and_output_from_callable(alloc, ecx, ty, called)?;
+    let Some(callable) = extracted else {
+        return consider_plain(alloc, ecx, env, true, Certainty::AMBIGUOUS);
+    };
+    item_has_no_parameters(ecx.cx(), LangItem::Sized);
+    let Some(sized) = ecx.cx().lang_item(LangItem::Sized) else {
+        return Err(NoSolutionOrStop::NoSolution);
+    };
+    probe_call(alloc, ecx, env, predicate, callable, sized)
+}
