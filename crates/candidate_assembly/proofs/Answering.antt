@@ -177,7 +177,7 @@ responds-so ts r o fits ok refuses own = record { ok = ok; fits = fits; refused 
 pub closure-as-steps : {G : Type 0} (K : KindRules G) (J : Judge) (c : Context) (S : State) (g : G) (s : CandidateSource) (t : Tree) (k : State → Option Response) (more : List Step) (sure : Certainty)
     → ((ls : Forest) (T : State) → comes_to J (K.env_of g) (standing T ls) more (ask s sure) ≡ answered s (k T)) → clause_judged K J c S g s t k ≡ judged J S (match_rule K c g t more (ask s sure))
 closure-as-steps K J c S g s t k more sure same =
-    ap (λ z. if K.fits c g t.head then z else Refused) (at (run J (K.env_of g) (start S) (K.match_steps g t)) ∙ sym (comes_append J (K.env_of g) (start S) (K.match_steps g t) more (ask s sure)))
+    ap (λ z. if passes K c g t then z else Refused) (at (run J (K.env_of g) (start S) (K.match_steps g t)) ∙ sym (comes_append J (K.env_of g) (start S) (K.match_steps g t) more (ask s sure)))
   where
     at : (r : Reached) → continued J (ask s AMBIGUOUS) r (λ q. answered s (k q.state)) ≡ continued J (ask s sure) r (λ q. comes_to J (K.env_of g) q more (ask s sure))
     at (At p) = sym (same p.locals p.state)

@@ -56,13 +56,6 @@ passes-nothing c g t e = at t.head (after_first t.children) e
     at (H.Part (P.Clause (Cl.Trait j q))) below e = absurd cc
     at _ below e = refl
 
-pub not-fitting : (b : Bool) → (false && b) ≡ false
-not-fitting b = refl
-
-pub not-unified : (a b : Bool) → b ≡ false → (a && b) ≡ false
-not-unified true b e = e
-not-unified false b e = refl
-
 -- The steps that match a clause without parameters, for a goal without parameters.
 
 module _ (J : Judge) (S : State) (g : TraitGoal) (c : Tree) (n : holds is_param g.reference.arguments ≡ false) (m : holds is_param c.children ≡ false) where
@@ -76,11 +69,6 @@ module _ (J : Judge) (S : State) (g : TraitGoal) (c : Tree) (n : holds is_param 
   quick-says =
       ap (λ x. at_if (start S) (may_unify R.Plain x (substituted none 1 (after_first c.children)))) (substituted-nothing none 0 a n)
       ∙ ap (λ x. at_if (start S) (may_unify R.Plain a x)) (substituted-nothing none 1 (after_first c.children) (after-unmarked is_param c.children m))
-
-  -- Where quick rejection says no, it refuses.
-  pub matching-rejects : may_unify R.Plain a (after_first c.children) ≡ false → run J g.env (start S) (match_trait g c) ≡ Over Refused
-  matching-rejects e =
-      ap (λ z. go_on z (λ q. run J g.env q (fresh (bound_kinds c.children) ∷ equate a (after_first (named_clause 0 c).children) ∷ []))) (quick-says ∙ ap (at_if (start S)) e)
 
   abbrev last : Reached
   last = step J g.env (standing (with_instance S c) ls) (equate a (after_first (named_clause 0 c).children))
@@ -121,10 +109,3 @@ pub passes-unified : (c : Context) (g : TraitGoal) (t : Tree) → passes trait_r
 passes-unified c g t e =
     let both = both-true (fits c g t.head) (may_unify R.Plain g.reference.arguments (arguments_by t.head (after_first t.children))) e in
     (both.0, ap (may_unify R.Plain g.reference.arguments) (sym (trait-by-fits c g t.head (after_first t.children) both.0)) ∙ both.1)
-
--- A clause that fits and doesn't pass quick rejection isn't matched.
-pub not-passing : (J : Judge) (S : State) (c : Context) (g : TraitGoal) (t : Tree) → holds is_param g.reference.arguments ≡ false → holds is_param t.children ≡ false
-    → passes trait_rules c g t ≡ false → fits c g t.head ≡ true → run J g.env (start S) (match_trait g t) ≡ Over Refused
-not-passing J S c g t n m e f =
-    let same = ap (may_unify R.Plain g.reference.arguments) (trait-by-fits c g t.head (after_first t.children) f) in
-    matching-rejects J S g t n m (sym same ∙ (ap (λ x. x && may_unify R.Plain g.reference.arguments (arguments_by t.head (after_first t.children))) (sym f) ∙ e))
