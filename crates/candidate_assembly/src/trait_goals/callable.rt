@@ -109,15 +109,7 @@ fn respond_if_sized<E: EvalCtxt>(
     let clause = meets_trait(ecx, sized, output)?;
     let source = CandidateSource::BuiltinImpl(BuiltinImplSource::Misc);
     let nested = GoalSource::ImplWhereBound;
-    nest_and_respond(
-        alloc,
-        ecx,
-        env,
-        nested,
-        &[clause],
-        source,
-        Certainty::Yes,
-    )
+    nest_and_respond(alloc, ecx, env, nested, &[clause], source, Certainty::Yes)
 }
 
 /// The candidate of a goal whose self type is called so. It is called in a probe.

@@ -178,8 +178,7 @@ impl<E: EvalCtxt> GoalKind<E> for TraitPredicate {
         env: ParamEnv,
         predicate: Self,
     ) -> Result<Candidate, NoSolutionOrStop> {
-        let applies =
-            is_positive(predicate.polarity) && is_tuple(self_head(ecx.cx(), predicate));
+        let applies = is_positive(predicate.polarity) && is_tuple(self_head(ecx.cx(), predicate));
         consider_plain(alloc, ecx, env, applies, Certainty::Yes)
     }
 

@@ -73,8 +73,8 @@ returns-clause-inputs g c =
     let there = ty-kept (g.E.Build.context c.replace_bound_vars.new.make) (g.E.Build.context c.replace_bound_vars-2.new.make) c.in_ok-inputs.inputs c.replace_bound_vars-2.ensures.grows c.in_ok-inputs.ensures.sort in (
       there.0,
       there.1 ∙ (c.in_ok-inputs.ensures.tree
-      ∙ (ap (λ (x : Forest). opened_tree x (ty_tree mid.trees c.args.callable.value.0)) c.in_ok-values.ensures.trees
-      ∙ ap (opened_tree (fresh_variables (g.E.EvalCtxt.state c.args.ecx.now) (binder_kinds (vars_tree old.trees c.args.callable.vars).children))) (ty-kept old mid c.args.callable.value.0 c.fresh_args_for_binder.ensures.kept.grows c.requires.inputs).1)),
+          ∙ (ap (λ (x : Forest). opened_tree x (ty_tree mid.trees c.args.callable.value.0)) c.in_ok-values.ensures.trees
+          ∙ ap (opened_tree (fresh_variables (g.E.EvalCtxt.state c.args.ecx.now) (binder_kinds (vars_tree old.trees c.args.callable.vars).children))) (ty-kept old mid c.args.callable.value.0 c.fresh_args_for_binder.ensures.kept.grows c.requires.inputs).1)),
     )
 
 pub returns-clause-output : goal.returns-clause-output
@@ -84,6 +84,6 @@ returns-clause-output g c =
     let values = args-kept (g.E.Build.context c.fresh_args_for_binder.new.ecx) mid c.in_ok-values.values c.replace_bound_vars.ensures.grows c.in_ok-values.ensures.sort in (
       c.in_ok-output.ensures.sort,
       c.in_ok-output.ensures.tree
-      ∙ (ap (λ (x : Forest). opened_tree x (ty_tree mid.trees c.args.callable.value.1)) (values.1 ∙ c.in_ok-values.ensures.trees)
-      ∙ ap (opened_tree (fresh_variables (g.E.EvalCtxt.state c.args.ecx.now) (binder_kinds (vars_tree old.trees c.args.callable.vars).children))) (ty-kept old mid c.args.callable.value.1 (grows-trans old (g.E.Build.context c.fresh_args_for_binder.new.ecx) mid c.fresh_args_for_binder.ensures.kept.grows c.replace_bound_vars.ensures.grows) c.requires.output).1),
+          ∙ (ap (λ (x : Forest). opened_tree x (ty_tree mid.trees c.args.callable.value.1)) (values.1 ∙ c.in_ok-values.ensures.trees)
+          ∙ ap (opened_tree (fresh_variables (g.E.EvalCtxt.state c.args.ecx.now) (binder_kinds (vars_tree old.trees c.args.callable.vars).children))) (ty-kept old mid c.args.callable.value.1 (grows-trans old (g.E.Build.context c.fresh_args_for_binder.new.ecx) mid c.fresh_args_for_binder.ensures.kept.grows c.replace_bound_vars.ensures.grows) c.requires.output).1),
     )
