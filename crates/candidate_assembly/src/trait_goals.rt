@@ -1,5 +1,6 @@
 //! Goals of traits: that a trait holds of some trees, or that it does not.
 
+pub(crate) mod auto_traits;
 pub(crate) mod builtin;
 pub mod impls;
 pub mod kind;

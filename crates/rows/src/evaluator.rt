@@ -4,6 +4,7 @@ ghost use Rattle.std.specs.Prelude.{◌≡◌};
 ghost use Rattle.candidate_rounds.specs.Known.{probes};
 
 use crate::answers::{Answer, Item};
+use crate::considering;
 use crate::eval::Operands;
 use crate::ir::bugs;
 use crate::lookups::listed;
@@ -264,6 +265,9 @@ pub(crate) fn answer(
         "eq" | "eq_args" | "eq_goals" => equate(alloc, rounds, row, of),
         "equal" => equal(alloc, rounds, of.left, of.right),
         "goal" | "goals" => add(rounds, row, of),
+        "consider" | "forced" | "characterize" | "about" | "passes" => {
+            considering::answer(reader, rounds, row, of)
+        }
         _ => objects::answer(reader, rounds, row, of),
     }
 }
