@@ -16,6 +16,7 @@ use Rattle.candidate_eval.specs.ResponseTrees.{IsResponse}
 use Rattle.candidate_eval.specs.Responses.{Candidate as Data}
 use Rattle.candidate_eval.specs.Rules.{Rule}
 use Rattle.candidate_eval.specs.States.{State, Judge}
+use Rattle.candidate_ir.proofs.Kept.{grows-refl}
 use Rattle.candidate_eval.proofs.Accounts.{reaches}
 use Rattle.candidate_eval.proofs.Probing.{keeps-trans}
 use Rattle.candidate_eval.proofs.Responding.{response-fits, response-kept}
@@ -23,7 +24,7 @@ use Rattle.candidate_assembly.specs.Telling.{Considers, StopsOfItself, Told}
 use Rattle.candidate_assembly.proofs.Stepping.{evaluator-own, making-own, told-kept}
 use Rattle.candidate_assembly.proofs.Causes.{asked-here, caused, later, made-here}
 
-not-both : (b : Bool) → b ≡ true → b ≡ false → ⊥
+pub not-both : (b : Bool) → b ≡ true → b ≡ false → ⊥
 not-both true p q = absurd cc
 not-both false p q = absurd cc
 
@@ -90,3 +91,9 @@ module _ {E X : Type 0} {fixed : E → X} {judge : X → Judge} {state : E → S
   -- the same rule in other words
   pub considers-same : (old new : E) (rule s : Rule) (r : Result Candidate NoSolutionOrStop) → s ≡ rule → Considers fixed judge state probes context stops old new s r → Considers fixed judge state probes context stops old new rule r
   considers-same old new rule s r same c = subst (λ (x : Rule). Considers fixed judge state probes context stops old new x r) same c
+
+  -- a stop of making, where nothing was done
+  pub not-made-here : ((f : X) → JudgesAlike (judge f)) → (old : E) (rule : Rule) (r : Result Candidate NoSolutionOrStop) (s : Stop) → r ≡ Err (N.Stop s) → IsMakingStop s
+      → Considers fixed judge state probes context stops old old rule r
+  not-made-here law old rule r s is m =
+      not-made law old old rule r s is (making-own s m) (record { fixed_same = refl; probes_same = refl; grows = grows-refl (context old) }) refl (made-here m)

@@ -7,7 +7,12 @@ pub mod SelfTypes
 pub mod TraitClauses
 pub mod PartClauses
 pub mod PartsTold
+pub mod AutoTraits
 pub mod Characterizing
 pub mod CharacterizingCases
 pub mod ImplSteps
 pub mod ImplsBelow
+pub mod LangItems
+pub mod MeetingClauses
+pub mod Clauses
+pub mod Answering

@@ -18,6 +18,7 @@ use Rattle.candidate_ir.specs.Worlds.{World, TraitSort, joined, kinds_of, parame
 use Rattle.candidate_ir.proofs.Kept.{world-kept}
 use Rattle.candidate_ir.proofs.Rows.{kind-of, row-single}
 use Rattle.candidate_eval.specs.ImplRules.{TraitGoal}
+use Rattle.candidate_eval.specs.ObjectRequirements.{first_tree}
 use Rattle.candidate_eval.specs.States.{Env}
 use Rattle.candidate_assembly.specs.TraitGoals.{trait_goal, with_first, with_self_type}
 
@@ -67,3 +68,12 @@ same-trait-goal old new env p q t e i o a =
     ∙ (ap (λ x. goal-with (env_forest old.trees env) x (args_forest new.trees q.trait_ref.args) q.polarity) i
     ∙ (ap (λ x. goal-with (env_forest old.trees env) p.trait_ref.def_id x q.polarity) a
     ∙ ap (goal-with (env_forest old.trees env) p.trait_ref.def_id (with_first t (args_forest old.trees p.trait_ref.args))) o))
+
+-- The self type of a reference is a type.
+pub first-is-type : (c : Context) (r : TraitRef) → ArgumentsFit c r → kind_of (first_tree (args_forest c.trees r.args)).head ≡ TypeKind
+first-is-type c r f = at (parameters (world c) TraitSort r.def_id.0) (args_forest c.trees r.args) f
+  where
+    at : (o : Option (List Kind)) (args : Forest) → joined (Some (TypeKind ∷ [])) o ≡ Some (kinds_of args) → kind_of (first_tree args).head ≡ TypeKind
+    at None args f = absurd cc
+    at (Some ks) none f = absurd cc
+    at (Some ks) (tree h below rest) f = let same : TypeKind ≡ kind_of h = cc in sym same

@@ -33,6 +33,7 @@ use Rattle.candidate_ir.specs.Lookups.{adt_flags, definition, maybe, trait_flags
 use Rattle.candidate_ir.specs.Supers.{after_first}
 use Rattle.candidate_ir.specs.Trees.{Kind, Forest, none, tree, Tree, holds}
 use Rattle.candidate_ir.specs.Words.{args_forest, clause_tree}
+use Rattle.candidate_ir.specs.Worlds.{Reference}
 use Rattle.candidate_eval.specs.declared.eval.source.CandidateSource.{CandidateSource}
 use Rattle.candidate_eval.specs.declared.eval.source.CandidateSource.TheVariants.{BuiltinImpl}
 use Rattle.candidate_eval.specs.declared.eval.source.BuiltinImplSource.TheVariants.{Misc, Trivial}
@@ -43,7 +44,7 @@ use Rattle.candidate_eval.specs.Certainties.{AMBIGUOUS}
 use Rattle.candidate_eval.specs.Characterization.{binder_kinds}
 use Rattle.candidate_eval.specs.ImplRules.{TraitGoal}
 use Rattle.candidate_eval.specs.Naming.{named_tree}
-use Rattle.candidate_eval.specs.ObjectRequirements.{first_tree}
+use Rattle.candidate_eval.specs.ObjectRequirements.{first_tree, trait_said}
 use Rattle.candidate_eval.specs.Rules.{Step, fresh, enter, equate, quick, Rule, ask, nested, nested_misc}
 use Rattle.candidate_eval.specs.Evaluators.{rigid}
 use Rattle.candidate_eval.specs.States.{State}
@@ -140,8 +141,8 @@ abbrev pub is_nonempty : {A : Type 0} → List A → Bool
 is_nonempty [] = false
 is_nonempty (x ∷ xs) = true
 
-abbrev pub has_relevant_impl : Context → TraitGoal → Bool
-has_relevant_impl c g = is_nonempty (relevant_impls c g.reference.trait (self_of g))
+abbrev pub has_relevant_impl : Context → Reference → Bool
+has_relevant_impl c r = is_nonempty (relevant_impls c r.trait (first_tree r.arguments))
 
 abbrev pub is_set : {F : Type 0} → (F → Bool) → Option F → Bool
 is_set flag None = false
@@ -153,10 +154,13 @@ flag_of_trait flag c n = is_set flag (trait_flags (definition c n))
 abbrev pub flag_of_adt : (AdtFlags → Bool) → Context → ℕ → Bool
 flag_of_adt flag c n = is_set flag (adt_flags (definition c n))
 
--- a trait clause of this trait, of any polarity
+-- whether what is said of a trait is said of this one, of whatever polarity
+abbrev pub is_said_of : ℕ → Option (TraitId × PredicatePolarity) → Bool
+is_said_of n None = false
+is_said_of n (Some said) = said.0.0 == n
+
 abbrev pub is_of_trait : ℕ → Head → Bool
-is_of_trait n (H.Part (P.Clause (Cl.Trait i p))) = i.0 == n
-is_of_trait n _ = false
+is_of_trait n h = is_said_of n (trait_said h)
 
 -- an opaque type whose own bounds speak of the trait
 abbrev pub bounds_name : Context → ℕ → ℕ → Bool
@@ -165,15 +169,15 @@ bounds_name c alias n = list_any (λ (x : Clause). is_of_trait n (clause_tree c.
 -- Whether the head of the self type bars it from the trait: `dyn` types, parameters and placeholders; aliases, but opaque types whose own
 -- bounds don't speak of the trait; foreign types, but for a trait that types meet by default; and types with unsafe fields, where the
 -- trait is unsafe.
-abbrev pub auto_barred : Context → TraitGoal → Head → Bool
-auto_barred c g H.Dynamic = true
-auto_barred c g (H.Param n) = true
-auto_barred c g (H.Placeholder p) = true
-auto_barred c g (H.Alias AK.Opaque i) = bounds_name c i.0 g.reference.trait
-auto_barred c g (H.Alias k i) = true
-auto_barred c g (H.Foreign i) = not (flag_of_trait (λ f. f.default) c g.reference.trait)
-auto_barred c g (H.Adt i) = flag_of_trait (λ f. f.unsafe_) c g.reference.trait && flag_of_adt (λ f. f.unsafe_fields) c i.0
-auto_barred c g _ = false
+abbrev pub auto_barred : Context → ℕ → Head → Bool
+auto_barred c of H.Dynamic = true
+auto_barred c of (H.Param n) = true
+auto_barred c of (H.Placeholder p) = true
+auto_barred c of (H.Alias AK.Opaque i) = bounds_name c i.0 of
+auto_barred c of (H.Alias k i) = true
+auto_barred c of (H.Foreign i) = not (flag_of_trait (λ f. f.default) c of)
+auto_barred c of (H.Adt i) = flag_of_trait (λ f. f.unsafe_) c of && flag_of_adt (λ f. f.unsafe_fields) c i.0
+auto_barred c of _ = false
 
 -- whether impls are looked for: not for aliases and errors
 abbrev pub may_have_impls : Head → Bool
@@ -182,8 +186,8 @@ may_have_impls H.Error = false
 may_have_impls _ = true
 
 -- An impl that may be for the type says otherwise than the rule.
-abbrev pub auto_refused : Context → TraitGoal → Head → Bool
-auto_refused c g h = auto_barred c g h || (may_have_impls h && has_relevant_impl c g)
+abbrev pub auto_refused : Context → Reference → Head → Bool
+auto_refused c r h = auto_barred c r.trait h || (may_have_impls h && has_relevant_impl c r)
 
 -- an integer or floating-point variable says too little
 abbrev pub is_numeric_variable : Head → Bool
@@ -194,7 +198,7 @@ abbrev pub auto_rule : Context → TraitGoal → Rule
 auto_rule c g =
     let t = self_of g in
     if is_numeric_variable t.head then ambiguous_rule g (positive g)
-    else parts_rule g (positive g && not (auto_refused c g t.head)) misc (cell C.Auto (row_of c t))
+    else parts_rule g (positive g && not (auto_refused c g.reference t.head)) misc (cell C.Auto (row_of c t))
 
 -- Trait aliases: the trait's where clauses.
 abbrev pub trait_alias_rule : Context → TraitGoal → Rule

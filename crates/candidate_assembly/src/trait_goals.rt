@@ -4,4 +4,6 @@ pub(crate) mod auto_traits;
 pub(crate) mod builtin;
 pub mod impls;
 pub mod kind;
+pub(crate) mod matching;
+pub(crate) mod meeting;
 pub(crate) mod parts;

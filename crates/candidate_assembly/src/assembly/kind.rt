@@ -1,24 +1,28 @@
 //! Kinds of goals.
 
-ghost use Rattle.std.specs.Prelude.{◌≡◌, List, true, false, IfOk, IfErr, OnOk, OnErr};
+ghost use Rattle.std.specs.Prelude.{◌≡◌, List, ◌∷◌, Option, true, false, IfOk, IfErr, OnOk, OnErr};
 ghost use Rattle.candidate_ir.specs.declared.ir.kinds.Args.{Args as ArgsNumber};
 ghost use Rattle.candidate_ir.specs.declared.ir.kinds.ParamEnv.{ParamEnv as EnvNumber};
 ghost use Rattle.candidate_ir.specs.declared.ir.kinds.Ty.{Ty as TyNumber};
 ghost use Rattle.candidate_ir.specs.Context.{Context, Grows};
 ghost use Rattle.candidate_ir.specs.References.{reference_of};
-ghost use Rattle.candidate_ir.specs.Trees.{Tree};
+ghost use Rattle.candidate_ir.specs.Trees.{Tree, holds, is_param};
 ghost use Rattle.candidate_ir.specs.Words.{IsArgs, IsClause, IsTy, clause_tree, ty_tree};
 ghost use Rattle.candidate_eval.specs.Accounts.{by_stop};
 ghost use Rattle.candidate_eval.specs.Evaluators.{Keeps};
-ghost use Rattle.candidate_eval.specs.Judging.{run, start};
-ghost use Rattle.candidate_assembly.specs.Closures.{After, IsCallable};
-ghost use Rattle.candidate_assembly.specs.Kinds.{IsAssumption, IsGoal, IsTyped, KindRules, SaysTheSame, passes, self_type};
+ghost use Rattle.candidate_eval.specs.Judging.{Over, Refused, run, start};
+ghost use Rattle.candidate_eval.specs.Responses.{Response};
+ghost use Rattle.candidate_eval.specs.States.{State};
+ghost use Rattle.candidate_assembly.specs.Closures.{After, IsCallable, IsCallableIn, TellsIn};
+ghost use Rattle.candidate_assembly.specs.Kinds.{IsAssumption, IsGoal, IsTyped, KindRules, SaysTheSame, clause_judged, passes, self_type};
 ghost use Rattle.candidate_assembly.specs.Kinds as kind;
-ghost use Rattle.candidate_assembly.specs.Telling.{Considers, StopsOfItself};
+ghost use Rattle.candidate_assembly.specs.Telling.{Considers, StopsOfItself, Told};
 
-use candidate_eval::eval::context::EvalCtxt;
+use crate::assembly::steps::with_source;
+use candidate_eval::eval::context::{EvalCtxt, ProbeKind};
 use candidate_eval::eval::refusal::NoSolutionOrStop;
-use candidate_eval::eval::response::Candidate;
+use candidate_eval::eval::response::{Candidate, CanonicalResponse};
+use candidate_eval::eval::source::CandidateSource;
 use candidate_ir::decl::Cx;
 use candidate_ir::decl::contents::Sizedness;
 use candidate_ir::ir::kinds::{Clause, ClosureKind, ParamEnv, TraitId, TraitRef, Ty};
@@ -51,9 +55,6 @@ pub trait GoalKind<E: EvalCtxt>: Copy {
 
     /// The rules.
     ghost rules: { KindRules Seen };
-
-    /// A goal says the same where a context has grown.
-    ghost stays: { (old new : Context) (env : EnvNumber) (predicate : Self) → Grows old new → IsGoal rules arguments types seen old env predicate → SaysTheSame rules seen old new env predicate };
 
     /// The type that the goal is about.
     fn self_ty(cx: &Cx, env: ParamEnv, predicate: Self) -> Ty
@@ -252,4 +253,43 @@ pub trait GoalKind<E: EvalCtxt>: Copy {
         requires goal { IsGoal rules arguments types seen (E.context ecx.old) env predicate }
         requires typed { IsTyped rules (E.context ecx.old) (seen (E.context ecx.old).trees env predicate) }
         ensures { Considers E.fixed E.judge E.state E.probes E.context E.stops ecx.old ecx.new (rules.builtin_rule kind.NoDropRule (E.context ecx.old) (seen (E.context ecx.old).trees env predicate)) result };
+
+    /// A goal says the same where a context has grown.
+    ghost stays: { (old new : Context) (env : EnvNumber) (predicate : Self) → Grows old new → IsGoal rules arguments types seen old env predicate → SaysTheSame rules seen old new env predicate };
+
+    /// A clause that may serve by its head, and doesn't pass quick rejection, isn't matched.
+    ghost rejects: { (f : E.Fixed) (S : State) (c : Context) (env : EnvNumber) (predicate : Self) (t : Tree) → IsGoal rules arguments types seen c env predicate → holds is_param t.children ≡ false → rules.fits c (seen c.trees env predicate) t.head ≡ true → passes rules c (seen c.trees env predicate) t ≡ false → run (E.judge f) (rules.env_of (seen c.trees env predicate)) (start S) (rules.match_steps (seen c.trees env predicate) t) ≡ Over Refused };
+
+    /// The candidate of a source by a clause: in a probe the clause is matched, and the closure called then.
+    ///
+    /// `NoSolution` comes where the clause doesn't pass quick rejection or isn't matched, and where the closure answers it; the stops
+    /// are those of the match and of the closure. The state is left alike the one before.
+    final fn probe_and_match_goal_against_assumption<
+        F: FnOnce(&mut E) -> Result<CanonicalResponse, NoSolutionOrStop>,
+    >(
+        alloc: Global,
+        ecx: &mut E,
+        source: CandidateSource,
+        env: ParamEnv,
+        predicate: Self,
+        clause: Clause,
+        then: F,
+    ) -> Result<Candidate, NoSolutionOrStop>
+        requires goal { IsGoal rules arguments types seen (E.context ecx.old) env predicate }
+        requires clause { IsClause (E.context ecx.old).trees clause }
+        requires free { holds is_param (clause_tree (E.context ecx.old).trees clause).children ≡ false }
+        requires callable { IsCallableIn E.fixed E.state E.probes E.context E.stops F.FnOnce then ecx.old (E.state ecx.old ∷ E.probes ecx.old) }
+        ensures kept { Keeps E.fixed E.probes E.context ecx.old ecx.new }
+        ensures alike { (E.judge (E.fixed ecx.old)).alike (E.state ecx.old) (E.state ecx.new) }
+        ensures told { (k : State → Option Response) → TellsIn E.fixed E.state E.probes E.context E.stops F.FnOnce then ecx.old (E.state ecx.old ∷ E.probes ecx.old) k → Told (E.context ecx.new).trees result (clause_judged rules (E.judge (E.fixed ecx.old)) (E.context ecx.old) (E.state ecx.old) (seen (E.context ecx.old).trees env predicate) source (clause_tree (E.context ecx.old).trees clause) k) }
+        ensures cause { IfErr result (by_stop (StopsOfItself E.fixed E.context E.state E.stops ecx.old)) }
+    {
+        if Self::fast_reject_assumption(ecx.cx(), env, predicate, clause).is_err() {
+            return Err(NoSolutionOrStop::NoSolution);
+        }
+        let probe = ecx.begin_probe(ProbeKind::Kept)?;
+        let answer = Self::match_assumption(alloc, ecx, env, predicate, clause, then);
+        let _usages = ecx.end_probe(probe);
+        with_source(alloc, source, answer)
+    }
 }

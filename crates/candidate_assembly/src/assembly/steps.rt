@@ -1,21 +1,39 @@
 //! Steps of rules, by the calls of an evaluator.
 
-ghost use Rattle.std.specs.Prelude.{◌≡◌, map, true, IfErr};
+ghost use Rattle.std.specs.Prelude.{◌≡◌, Err, List, map, true, IfErr};
+ghost use Rattle.candidate_ir.specs.Trees.{Tree};
 ghost use Rattle.candidate_ir.specs.Words.{ClauseListFits, IsParamEnv, clause_tree, env_forest};
 ghost use Rattle.candidate_eval.specs.Accounts.{by_stop};
 ghost use Rattle.candidate_eval.specs.Evaluators.{Keeps, with_goals_of};
-ghost use Rattle.candidate_eval.specs.Judging.{asked};
+ghost use Rattle.candidate_eval.specs.Judging.{Judged, asked};
 ghost use Rattle.candidate_eval.specs.ObjectRequirements.{goals_in};
-ghost use Rattle.candidate_assembly.specs.Telling.{Considers, HaveNoParameter, StopsOfItself, Told, asking_rule, flat_rule};
+ghost use Rattle.candidate_assembly.specs.Telling.{Considers, HaveNoParameter, StopsOfItself, Told, ToldAs, asking_rule, flat_rule};
 
 use candidate_eval::eval::certainty::{Certainty, MaybeInfo};
 use candidate_eval::eval::clauses::goals;
 use candidate_eval::eval::context::{EvalCtxt, ProbeKind};
 use candidate_eval::eval::refusal::NoSolutionOrStop;
-use candidate_eval::eval::response::{Candidate, CandidateHeadUsages};
+use candidate_eval::eval::response::{Candidate, CandidateHeadUsages, CanonicalResponse};
 use candidate_eval::eval::source::{BuiltinImplSource, CandidateSource};
 use candidate_ir::ir::kinds::{Clause, GoalSource, ParamEnv};
 use std::alloc::Global;
+
+/// The candidate of a source, by its response; an error stays as it is.
+pub(crate) fn with_source(
+    alloc: Global,
+    source: CandidateSource,
+    answer: Result<CanonicalResponse, NoSolutionOrStop>,
+) -> Result<Candidate, NoSolutionOrStop>
+    ensures told { (ts : List Tree) (judged : Judged) → ToldAs ts source answer judged → Told ts result judged }
+    ensures error { IfErr result (λ e. answer ≡ Err e) }
+{
+    let result = answer?;
+    Ok(Candidate {
+        source,
+        result,
+        head_usages: CandidateHeadUsages::new(alloc),
+    })
+}
 
 /// The candidate of a source, with at most that certainty.
 pub(crate) fn respond_as<E: EvalCtxt>(

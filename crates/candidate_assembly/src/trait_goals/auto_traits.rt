@@ -1,11 +1,11 @@
 //! The rule of auto traits: a type meets one where its parts do, unless an impl says otherwise.
 
 ghost use Rattle.std.specs.Prelude.{◌≡◌, false, IfOk, IfErr};
-ghost use Rattle.candidate_ir.specs.References.{ArgumentsFit};
-ghost use Rattle.candidate_ir.specs.Words.{IsArgs};
+ghost use Rattle.candidate_ir.specs.References.{ArgumentsFit, reference_of};
+ghost use Rattle.candidate_ir.specs.Words.{IsArgs, IsClause, clause_tree};
 ghost use Rattle.candidate_eval.specs.Callable.{is_unknown};
 ghost use Rattle.candidate_eval.specs.Evaluators.{IsMakingStop};
-ghost use Rattle.candidate_assembly.specs.BuiltinRules.{auto_barred, auto_refused, auto_rule, bounds_name, may_have_impls, self_of};
+ghost use Rattle.candidate_assembly.specs.BuiltinRules.{auto_barred, auto_refused, auto_rule, bounds_name, is_of_trait, may_have_impls, self_of};
 ghost use Rattle.candidate_assembly.specs.Kinds.{IsGoal};
 ghost use Rattle.candidate_assembly.specs.Telling.{Considers};
 ghost use Rattle.candidate_assembly.specs.TraitGoals.{arguments_held, trait_goal, types_held};
@@ -24,18 +24,27 @@ use candidate_eval::structural::Column;
 use candidate_ir::decl::Cx;
 use candidate_ir::decl::make::Make;
 use candidate_ir::ir::heads::Head;
-use candidate_ir::ir::kinds::{AliasId, AliasKind, ParamEnv, TraitId, TraitPredicate};
+use candidate_ir::ir::kinds::{AliasId, AliasKind, Clause, ParamEnv, TraitId, TraitPredicate};
 use candidate_ir::ir::stop::Stop;
 use std::alloc::Global;
 
-/// Whether an opaque type's own bounds speak of the trait, be it that it holds or that it doesn't.
+/// Whether the clause speaks of the trait, be it that it holds or that it doesn't.
+fn is_of_trait(cx: &Cx, clause: Clause, of: TraitId) -> bool
+    requires { IsClause cx.now.trees clause }
+    ensures { result ≡ is_of_trait of.0 (clause_tree cx.now.trees clause).head }
+{
+    match predicate_in(cx, clause) {
+        Some(predicate) => predicate.trait_ref.def_id.0 == of.0,
+        None => false,
+    }
+}
+
+/// Whether an opaque type's own bounds speak of the trait.
 fn bounds_name(cx: &Cx, opaque: AliasId, of: TraitId) -> bool
     ensures { result ≡ bounds_name cx.now opaque.0 of.0 }
 {
     for bound in cx.self_bounds(opaque) {
-        if let Some(predicate) = predicate_in(cx, *bound)
-            && predicate.trait_ref.def_id == of
-        {
+        if is_of_trait(cx, *bound, of) {
             return true;
         }
     }
@@ -98,7 +107,8 @@ pub(crate) fn consider_auto_trait<E: EvalCtxt>(
     if matches!(head, Head::Infer(_)) {
         return consider_plain(alloc, ecx, env, positive, Certainty::AMBIGUOUS);
     }
-    let applies = positive && !is_refused(ecx.cx(), predicate, head)?;
+    let refused = is_refused(ecx.cx(), predicate, head)?;
+    let applies = positive && !refused;
     let source = CandidateSource::BuiltinImpl(BuiltinImplSource::Misc);
     consider_column(alloc, ecx, env, predicate, applies, Column::Auto, source)
 }

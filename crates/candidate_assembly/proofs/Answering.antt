@@ -1,0 +1,127 @@
+-- What is answered where a clause is matched and a closure is called then.
+use Rattle.std.proofs.Common.{◌≡◌, Bool, true, false, ◌&&◌, refl, sym, ap, subst, ◌∙◌, Result, Err, IfErr, List, ◌∷◌, Option}
+use Rattle.std.specs.Prelude.{if◌then◌else◌}
+use Rattle.std.specs.Fn.{Once, FnOnceReturnsAtMut}
+use Rattle.std.specs.Borrow.{MutBor}
+use Rattle.candidate_ir.specs.declared.ir.heads.Head.{Head}
+use Rattle.candidate_ir.specs.declared.ir.stop.Stop.{Stop}
+use Rattle.candidate_ir.specs.declared.ir.unify.RightSide.TheVariants as R
+use Rattle.candidate_ir.specs.Context.{Context, Grows}
+use Rattle.candidate_ir.specs.Trees.{Tree}
+use Rattle.candidate_ir.specs.Unify.{may_unify}
+use Rattle.candidate_eval.specs.declared.eval.refusal.NoSolutionOrStop.{NoSolutionOrStop}
+use Rattle.candidate_eval.specs.declared.eval.refusal.NoSolutionOrStop.TheVariants as N
+use Rattle.candidate_eval.specs.declared.eval.response.CanonicalResponse.{CanonicalResponse}
+use Rattle.candidate_eval.specs.declared.eval.source.CandidateSource.{CandidateSource}
+use Rattle.candidate_eval.specs.Accounts.{Account, Question, StopsSomehow, by_stop}
+use Rattle.candidate_eval.specs.Certainties.{AMBIGUOUS}
+use Rattle.candidate_eval.specs.Evaluators.{IsEvaluatorStop, Keeps}
+use Rattle.candidate_eval.specs.Judging.{Reached, Over, Refused, answered, continued, run, start}
+use Rattle.candidate_eval.specs.Knowing.{own_stop}
+use Rattle.candidate_eval.specs.Responses.{Response}
+use Rattle.candidate_eval.specs.Rules.{ask}
+use Rattle.candidate_eval.specs.States.{State, Judge}
+use Rattle.candidate_eval.proofs.Accounts.{reaches}
+use Rattle.candidate_assembly.specs.Closures.{After, IsCallable, IsCallableIn, Responds, TellsIn}
+use Rattle.candidate_assembly.specs.Closures.After.{stopped, refused, called}
+use Rattle.candidate_assembly.specs.Kinds.{KindRules, clause_judged, compared_arguments, passes, steps_judged}
+use Rattle.candidate_assembly.specs.Telling.{StopsOfItself, ToldAs}
+use Rattle.candidate_assembly.proofs.Causes.{caused, later}
+use Rattle.candidate_assembly.proofs.Considering.{not-both}
+use Rattle.candidate_assembly.proofs.Keeping.{keeps-in, keeps-open}
+use Rattle.candidate_assembly.proofs.Stepping.{responds-told, somehow-own}
+
+-- An error before the closure is called.
+pub error-after : {E F X R : Type 0} (fixed : E → X) (state : E → State) (probes : E → List State) (context : E → Context) (stops : Account E) (g : Once F (MutBor E × Unit {0}) (Result R NoSolutionOrStop × (MutBor E × Unit {0}))) (f : F)
+    (first : E) (reached : Reached) (y : E) (r : Result R NoSolutionOrStop) (why : NoSolutionOrStop) → ((x : E) (S : State) (q : Question) (s : Stop) → stops x S q s → IsEvaluatorStop s) → r ≡ Err why
+    → (why ≡ N.NoSolution → reached ≡ Over Refused) → by_stop (StopsSomehow fixed context state stops first) why → After fixed state probes context stops g f first reached r y
+error-after {R = R} fixed state probes context stops g f first reached y r why itself is refuses cause =
+    subst (λ (x : Result R NoSolutionOrStop). After fixed state probes context stops g f first reached x y) (sym is) (of why refuses cause)
+  where
+    of : (e : NoSolutionOrStop) → (e ≡ N.NoSolution → reached ≡ Over Refused) → by_stop (StopsSomehow fixed context state stops first) e → After fixed state probes context stops g f first reached (Err e) y
+    of N.NoSolution k w = refused y (k refl)
+    of (N.Stop s) k w = stopped s y (somehow-own itself s w) w
+
+module _ {E F X : Type 0} {fixed : E → X} {state : E → State} {probes : E → List State} {context : E → Context} {stops : Account E} {g : Once F (MutBor E × Unit {0}) (Result CanonicalResponse NoSolutionOrStop × (MutBor E × Unit {0}))} {f : F} where
+  -- A closure that may be called in a probe may be called once the probe has begun.
+  pub callable-in : (old began : E) → fixed began ≡ fixed old → probes began ≡ state old ∷ probes old → Grows (context old) (context began)
+      → IsCallableIn fixed state probes context stops g f old (state old ∷ probes old) → IsCallable fixed state probes context stops g f began
+  callable-in old began same opens grows h = record {
+    may = λ x k. h.may x (keeps-in same opens grows (keeps-open k));
+    keeps = λ x r y k is. h.keeps x r y (keeps-in same opens grows (keeps-open k)) is;
+  }
+
+  -- What is answered, by the cases: the closure's answer is what k says at the state.
+  after-told : (J : Judge) (first : E) (reached : Reached) (source : CandidateSource) (k : State → Option Response) (r : Result CanonicalResponse NoSolutionOrStop) (y : E)
+      → ((x : E) (r : Result CanonicalResponse NoSolutionOrStop) (y : E) → Keeps fixed probes context first x → FnOnceReturnsAtMut g f x r y → Responds (context y).trees r (k (state x)))
+      → After fixed state probes context stops g f first reached r y → ToldAs (context y).trees source r (continued J (ask source AMBIGUOUS) reached (λ q. answered source (k q.state)))
+  after-told J first reached source k r y tells (stopped s z own w) = record { ok = tt; fits = tt; refused = λ n. absurd cc; stopped = λ other. absurd (not-both (own_stop s) own other) }
+  after-told J first reached source k r y tells (refused z is) = record {
+    ok = tt;
+    fits = tt;
+    refused = λ n. ap (λ t. continued J (ask source AMBIGUOUS) t (λ q. answered source (k q.state))) is;
+    stopped = tt;
+  }
+  after-told J first reached source k r y tells (called x p is at keeps met) =
+      subst (λ j. ToldAs (context y).trees source r j)
+      (sym (ap (λ t. continued J (ask source AMBIGUOUS) t (λ q. answered source (k q.state))) is ∙ ap (λ T. answered source (k T)) (sym at)))
+      (responds-told (context y).trees source r (k (state x)) (tells x r y keeps met))
+
+  -- Its stops are accounted for, where the closure's are.
+  after-caused : (first : E) (reached : Reached) (r : Result CanonicalResponse NoSolutionOrStop) (y : E)
+      → ((x : E) (r : Result CanonicalResponse NoSolutionOrStop) (y : E) → Keeps fixed probes context first x → FnOnceReturnsAtMut g f x r y → IfErr r (by_stop (StopsOfItself fixed context state stops x)))
+      → After fixed state probes context stops g f first reached r y → IfErr r (by_stop (StopsOfItself fixed context state stops first))
+  after-caused first reached r y cause (stopped s z own w) = λ o. w
+  after-caused first reached r y cause (refused z is) = tt
+  after-caused first reached r y cause (called x p is at keeps met) = caused r (λ s. later (reaches keeps)) (cause x r y keeps met)
+
+  -- The same in a probe, at the state at which it began.
+
+  pub after-told-in : (old began : E) → fixed began ≡ fixed old → probes began ≡ state old ∷ probes old → Grows (context old) (context began)
+      → (J : Judge) (reached : Reached) (source : CandidateSource) (k : State → Option Response) (r : Result CanonicalResponse NoSolutionOrStop) (y : E)
+      → TellsIn fixed state probes context stops g f old (state old ∷ probes old) k → After fixed state probes context stops g f began reached r y
+      → ToldAs (context y).trees source r (continued J (ask source AMBIGUOUS) reached (λ q. answered source (k q.state)))
+  after-told-in old began same opens grows J reached source k r y tells a =
+      after-told J began reached source k r y (λ x r y keeps met. tells.at x r y (keeps-in same opens grows (keeps-open keeps)) met) a
+
+  pub after-caused-in : (old began : E) → fixed began ≡ fixed old → probes began ≡ state old ∷ probes old → Grows (context old) (context began)
+      → (reached : Reached) (r : Result CanonicalResponse NoSolutionOrStop) (y : E) → IsCallableIn fixed state probes context stops g f old (state old ∷ probes old)
+      → After fixed state probes context stops g f began reached r y → IfErr r (by_stop (StopsOfItself fixed context state stops old))
+  after-caused-in old began same opens grows reached r y callable a =
+      caused r (λ s. later (record { same = same; grows = grows })) (after-caused began reached r y (λ x r y keeps met. callable.cause x r y (keeps-in same opens grows (keeps-open keeps)) met) a)
+
+-- Clauses that fit.
+
+both-true : (a b : Bool) → (a && b) ≡ true → (a ≡ true) × (b ≡ true)
+both-true true b e = (refl, e)
+both-true false b e = absurd cc
+
+pub passes-fits : {G : Type 0} (K : KindRules G) (c : Context) (g : G) (t : Tree) → passes K c g t ≡ true → K.fits c g t.head ≡ true
+passes-fits K c g t e = (both-true (K.fits c g t.head) (may_unify R.Plain (K.compared g) (compared_arguments t)) e).0
+
+-- a clause passes quick rejection still where the context has grown
+pub passes-kept : {G : Type 0} (K : KindRules G) (old new : Context) (g d : G) (t u : Tree) → d ≡ g → u ≡ t → ((h : Head) → K.fits new g h ≡ K.fits old g h) → passes K old g t ≡ true → passes K new d u ≡ true
+passes-kept K old new g d t u same is fits e =
+    ap (λ x. passes K new x u) same ∙ (ap (passes K new g) is ∙ (ap (λ b. b && may_unify R.Plain (K.compared g) (compared_arguments t)) (fits t.head) ∙ e))
+
+-- What is judged of a clause that fits is the same by other words for its parts.
+pub clause-moved : {G F : Type 0} (K : KindRules G) (judge : F → Judge) (f h : F) (c : Context) (S T : State) (g d : G) (s : CandidateSource) (t u : Tree) (k : State → Option Response)
+    → h ≡ f → T ≡ S → d ≡ g → u ≡ t → K.fits c g t.head ≡ true
+    → continued (judge h) (ask s AMBIGUOUS) (run (judge h) (K.env_of d) (start T) (K.match_steps d u)) (λ q. answered s (k q.state)) ≡ clause_judged K (judge f) c S g s t k
+clause-moved K judge f h c S T g d s t u k p q r is fits =
+    ap (λ z. steps_judged (judge z) (K.env_of d) T s (K.match_steps d u) k) p
+    ∙ (ap (λ z. steps_judged (judge f) (K.env_of d) z s (K.match_steps d u) k) q
+    ∙ (ap (λ z. steps_judged (judge f) (K.env_of z) S s (K.match_steps z u) k) r
+    ∙ (ap (λ z. steps_judged (judge f) (K.env_of g) S s (K.match_steps g z) k) is
+    ∙ ap (λ b. if b then steps_judged (judge f) (K.env_of g) S s (K.match_steps g t) k else Refused) (sym fits))))
+
+-- One that doesn't pass quick rejection is refused, where it isn't matched.
+pub clause-refused : {G : Type 0} (K : KindRules G) (J : Judge) (c : Context) (S : State) (g : G) (s : CandidateSource) (t : Tree) (k : State → Option Response)
+    → (K.fits c g t.head ≡ true → run J (K.env_of g) (start S) (K.match_steps g t) ≡ Over Refused) → clause_judged K J c S g s t k ≡ Refused
+clause-refused K J c S g s t k rejects = at (K.fits c g t.head) refl
+  where
+    at : (b : Bool) → K.fits c g t.head ≡ b → clause_judged K J c S g s t k ≡ Refused
+    at true e =
+        ap (λ b. if b then steps_judged J (K.env_of g) S s (K.match_steps g t) k else Refused) e
+        ∙ ap (λ z. continued J (ask s AMBIGUOUS) z (λ q. answered s (k q.state))) (rejects e)
+    at false e = ap (λ b. if b then steps_judged J (K.env_of g) S s (K.match_steps g t) k else Refused) e

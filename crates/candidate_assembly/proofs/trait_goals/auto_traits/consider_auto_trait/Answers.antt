@@ -1,0 +1,57 @@
+use Rattle.std.proofs.Common.{rules, ◌≡◌, true, false, Bool, ap, subst, sym, ◌∙◌, refl}
+use Rattle.std.specs.Prelude.{◌&&◌, not}
+use Rattle.std.proofs.lemmas.Result.{err_from_is_err_and}
+use Rattle.candidate_ir.specs.declared.ir.heads.Head.{Head}
+use Rattle.candidate_ir.specs.Context.{Context}
+use Rattle.candidate_ir.specs.References.{reference_of}
+use Rattle.candidate_ir.specs.Trees.{TypeKind, kind_of}
+use Rattle.candidate_ir.specs.Words.{args_forest}
+use Rattle.candidate_eval.specs.ObjectRequirements.{first_tree}
+use Rattle.candidate_eval.specs.Tables.{cell, row_of}
+use Rattle.candidate_eval.specs.declared.structural.Column.TheVariants as C
+use Rattle.candidate_assembly.specs.BuiltinRules.{ambiguous_rule, auto_refused, auto_rule, is_numeric_variable, misc, parts_rule, positive, self_of}
+use Rattle.candidate_assembly.specs.TraitGoals.{is_positive, trait_goal}
+use Rattle.candidate_assembly.proofs.AutoTraits.{auto-ambiguous, auto-is, auto-known, not-refused}
+use Rattle.candidate_assembly.proofs.Causes.{answered-stop, made-here}
+use Rattle.candidate_assembly.proofs.Considering.{considers-same, not-made-here}
+use Rattle.candidate_assembly.proofs.SelfTypes.{first-is-type}
+use Rattle.candidate_assembly.proofs.trait_goals.auto_traits.consider_auto_trait.Goals as goal
+
+pub returns-then-matches : goal.returns-then-matches
+returns-then-matches g c =
+    let old = g.E.Build.context c.args.ecx.now in
+    let now = trait_goal old.trees c.args.env c.args.predicate in
+    let is = subst (λ (x : Context). c.self_head-head.result ≡ (first_tree (args_forest x.trees c.args.predicate.trait_ref.args)).head) c.cx.ensures c.self_head-head.ensures in
+    let numeric : is_numeric_variable c.self_head-head.result ≡ true = search rules in
+    considers-same c.args.ecx.now c.consider_plain.new.ecx (auto_rule old now) (ambiguous_rule now c.is_positive-positive.result) c.consider_plain.result
+    (ap (ambiguous_rule now) c.is_positive-positive.ensures ∙ auto-ambiguous old now (ap is_numeric_variable (sym is) ∙ numeric)) c.consider_plain.ensures
+
+pub returns-in_err-refused : goal.returns-in_err-refused
+returns-in_err-refused g c =
+    let E = g.E.EvalCtxt in
+    let old = g.E.Build.context c.args.ecx.now in
+    not-made-here (λ f. (g.met.E.EvalCtxt.lawful f).alike_judged_alike) c.args.ecx.now (auto_rule old (trait_goal old.trees c.args.env c.args.predicate)) c.from_residual.result c.in_err-refused.field-0.0
+    (answered-stop c.from_residual.result c.in_err-refused.field-0.0 (err_from_is_err_and c.from_residual.result c.from_residual.ensures.1)) c.in_err-refused.ensures.cause
+
+pub consider_column-requires-clause-known : goal.consider_column-requires-clause-known
+consider_column-requires-clause-known g c = λ applies.
+    let old = g.E.Build.context c.args.ecx.now in
+    let now = trait_goal old.trees c.args.env c.args.predicate in
+    let is = subst (λ (x : Context). c.self_head-head.result ≡ (first_tree (args_forest x.trees c.args.predicate.trait_ref.args)).head) c.cx.ensures c.self_head-head.ensures in
+    let refused = subst (λ (x : Context). c.in_ok-refused.refused ≡ auto_refused x (reference_of x.trees c.args.predicate.trait_ref) c.self_head-head.result) c.cx-2.ensures c.in_ok-refused.ensures.refused in
+    let numeric : is_numeric_variable c.self_head-head.result ≡ false = search rules in
+    let both : (c.is_positive-positive.result && not c.in_ok-refused.refused) ≡ true = search rules in
+    auto-known old now.reference (self_of now) (first-is-type old c.args.predicate.trait_ref c.requires.goal.fit) c.requires.typed (ap is_numeric_variable (sym is) ∙ numeric)
+    (ap (auto_refused old now.reference) (sym is) ∙ (sym refused ∙ not-refused _ _ both))
+
+pub returns : goal.returns
+returns g c =
+    let old = g.E.Build.context c.args.ecx.now in
+    let now = trait_goal old.trees c.args.env c.args.predicate in
+    let is = subst (λ (x : Context). c.self_head-head.result ≡ (first_tree (args_forest x.trees c.args.predicate.trait_ref.args)).head) c.cx.ensures c.self_head-head.ensures in
+    let refused = subst (λ (x : Context). c.in_ok-refused.refused ≡ auto_refused x (reference_of x.trees c.args.predicate.trait_ref) c.self_head-head.result) c.cx-2.ensures c.in_ok-refused.ensures.refused in
+    let numeric : is_numeric_variable c.self_head-head.result ≡ false = search rules in
+    let applies : c.if-positive.applies ≡ (c.is_positive-positive.result && not c.in_ok-refused.refused) = search rules in
+    considers-same c.args.ecx.now c.consider_column.new.ecx (auto_rule old now) (parts_rule now c.if-positive.applies misc (cell C.Auto (row_of old (self_of now)))) c.consider_column.result
+    (auto-is old now c.if-positive.applies (ap is_numeric_variable (sym is) ∙ numeric)
+    (applies ∙ (ap (λ b. b && not c.in_ok-refused.refused) c.is_positive-positive.ensures ∙ ap (λ b. positive now && not b) (refused ∙ ap (auto_refused old now.reference) is)))) c.consider_column.ensures

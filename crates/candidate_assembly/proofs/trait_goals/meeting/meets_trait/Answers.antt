@@ -1,0 +1,34 @@
+use Rattle.std.proofs.Common.{refl, ◌∙◌}
+use Rattle.candidate_ir.specs.declared.ir.kinds.PredicatePolarity.TheVariants.{Positive}
+use Rattle.candidate_ir.specs.declared.ir.kinds.TraitPredicate.{TraitPredicate}
+use Rattle.candidate_ir.specs.Words.{ty_tree}
+use Rattle.candidate_ir.proofs.Kept.{args-kept, grows-trans}
+use Rattle.candidate_assembly.proofs.Causes.{so-ok}
+use Rattle.candidate_assembly.proofs.MeetingClauses.{fits-alone, made-to-meet, one-type}
+use Rattle.candidate_assembly.proofs.TraitClauses.{fact-fits, fact-takes}
+use Rattle.candidate_assembly.proofs.trait_goals.meeting.meets_trait.Goals as goal
+
+pub mk_clause-requires-clause-fits : goal.mk_clause-requires-clause-fits
+mk_clause-requires-clause-fits g c =
+    let p : TraitPredicate = record { trait_ref = record { def_id = c.args.trait_id; args = c.in_ok-args.args }; polarity = Positive } in
+    fact-fits (g.M.Build.context c.mk_vars.new.self).trees c.in_ok-vars.vars p c.in_ok-vars.ensures.made.sort (args-kept _ _ c.in_ok-args.args c.mk_vars.ensures.made.kept c.in_ok-args.ensures.made.sort).0
+
+pub mk_clause-requires-clause-takes : goal.mk_clause-requires-clause-takes
+mk_clause-requires-clause-takes g c = λ strict.
+    let p : TraitPredicate = record { trait_ref = record { def_id = c.args.trait_id; args = c.in_ok-args.args }; polarity = Positive } in
+    let old = g.M.Build.context c.args.make.now in
+    let mid = g.M.Build.context c.mk_vars.new.self in
+    let there = args-kept _ mid c.in_ok-args.args c.mk_vars.ensures.made.kept c.in_ok-args.ensures.made.sort in
+    fact-takes mid c.in_ok-vars.vars p c.in_ok-vars.ensures.made.sort there.0
+    (fits-alone old mid p.trait_ref c.args.ty (grows-trans old _ mid c.mk_args.ensures.made.kept c.mk_vars.ensures.made.kept) c.requires.ty c.requires.no_parameters
+    (there.1 ∙ (c.in_ok-args.ensures.made.tree ∙ one-type old.trees c.args.ty c.requires.ty)))
+
+pub returns-clause-tree : goal.returns-clause-tree
+returns-clause-tree g c =
+    let p : TraitPredicate = record { trait_ref = record { def_id = c.args.trait_id; args = c.in_ok-args.args }; polarity = Positive } in
+    let old = g.M.Build.context c.args.make.now in
+    let mid = g.M.Build.context c.mk_vars.new.self in
+    let there = args-kept _ mid c.in_ok-args.args c.mk_vars.ensures.made.kept c.in_ok-args.ensures.made.sort in
+    let is = made-to-meet mid c.in_ok-vars.vars p (ty_tree old.trees c.args.ty) c.in_ok-vars.ensures.made.tree c.in_ok-vars.ensures.made.sort there.0 refl
+        (there.1 ∙ (c.in_ok-args.ensures.made.tree ∙ one-type old.trees c.args.ty c.requires.ty)) in
+    so-ok c.mk_clause.result (λ x made. made ∙ is) c.mk_clause.ensures.made.tree

@@ -1,0 +1,128 @@
+//! Clauses that goals of traits are matched with.
+
+ghost use Rattle.std.specs.Prelude.{◌≡◌, true, false, IfOk, IfErr, OnOk, OnErr};
+ghost use Rattle.candidate_ir.specs.declared.ir.heads.ClauseHead.TheVariants as Cl;
+ghost use Rattle.candidate_ir.specs.declared.ir.heads.Head.TheVariants as H;
+ghost use Rattle.candidate_ir.specs.declared.ir.heads.PartHead.TheVariants as P;
+ghost use Rattle.candidate_ir.specs.declared.ir.kinds.ParamEnv.{ParamEnv as EnvNumber};
+ghost use Rattle.candidate_ir.specs.Words.{IsArgs, IsClause, clause_tree};
+ghost use Rattle.candidate_eval.specs.Accounts.{StopsSomehow, by_stop};
+ghost use Rattle.candidate_eval.specs.Characterization.{bound_kinds};
+ghost use Rattle.candidate_eval.specs.Evaluators.{Keeps};
+ghost use Rattle.candidate_eval.specs.Judging.{At, Over, Refused, run, start};
+ghost use Rattle.candidate_eval.specs.States.{fresh_variables};
+ghost use Rattle.candidate_assembly.specs.Closures.{After, IsCallable};
+ghost use Rattle.candidate_assembly.specs.Kinds.{IsAssumption, IsGoal, passes};
+ghost use Rattle.candidate_assembly.specs.Telling.{standing};
+ghost use Rattle.candidate_assembly.specs.TraitGoals.{arguments_held, fits, is_item, match_trait, trait_goal, types_held};
+ghost use Rattle.candidate_assembly.specs.TraitRules.{trait_rules};
+
+use crate::assembly::kind::NoSolution;
+use candidate_eval::eval::binders::instantiate_clause_with_infer;
+use candidate_eval::eval::clauses::predicate_in;
+use candidate_eval::eval::context::EvalCtxt;
+use candidate_eval::eval::refusal::NoSolutionOrStop;
+use candidate_ir::decl::Cx;
+use candidate_ir::decl::contents::LangItem;
+use candidate_ir::ir::kinds::{Clause, ParamEnv, PredicatePolarity, TraitId, TraitPredicate};
+use candidate_ir::ir::trees::Trees;
+use candidate_ir::ir::unify::RightSide;
+use std::alloc::Global;
+
+/// Whether the trait is the lang item.
+fn is_item(cx: &Cx, item: LangItem, trait_id: TraitId) -> bool
+    ensures { result ≡ is_item cx.now item trait_id.0 }
+{
+    match cx.lang_item(item) {
+        Some(other) => other == trait_id,
+        None => false,
+    }
+}
+
+/// Whether what a clause says of a trait may serve the goal: it says it of the goal's trait, with the goal's polarity. That a type is
+/// `Sized` also serves a goal that it is `MetaSized`.
+fn fits(cx: &Cx, goal: TraitPredicate, said: TraitPredicate) -> bool
+    ensures { (env : EnvNumber) → result ≡ fits cx.now (trait_goal cx.now.trees env goal) (H.Part (P.Clause (Cl.Trait said.trait_ref.def_id said.polarity))) }
+{
+    let trait_id = goal.trait_ref.def_id;
+    match (said.polarity, goal.polarity) {
+        (PredicatePolarity::Positive, PredicatePolarity::Positive) => {
+            said.trait_ref.def_id == trait_id
+                || is_item(cx, LangItem::Sized, said.trait_ref.def_id)
+                    && is_item(cx, LangItem::MetaSized, trait_id)
+        }
+        (PredicatePolarity::Negative, PredicatePolarity::Negative) => {
+            said.trait_ref.def_id == trait_id
+        }
+        _ => false,
+    }
+}
+
+/// Whether a clause passes quick rejection: it may serve the goal, and its arguments may be made equal to the goal's.
+pub(crate) fn fast_reject(
+    cx: &Cx,
+    predicate: TraitPredicate,
+    clause: Clause,
+) -> Result<(), NoSolution>
+    requires args { IsArgs cx.now.trees predicate.trait_ref.args }
+    requires clause { IsClause cx.now.trees clause }
+    ensures passes { (env : EnvNumber) → OnOk result (passes trait_rules cx.now (trait_goal cx.now.trees env predicate) (clause_tree cx.now.trees clause) ≡ true) }
+    ensures rejected { (env : EnvNumber) → OnErr result (passes trait_rules cx.now (trait_goal cx.now.trees env predicate) (clause_tree cx.now.trees clause) ≡ false) }
+{
+    match predicate_in(cx, clause) {
+        Some(said)
+            if fits(cx, predicate, said)
+                && cx.args_may_unify(
+                    predicate.trait_ref.args,
+                    said.trait_ref.args,
+                    RightSide::Plain,
+                ) => { Ok(()) }
+        _ => Err(NoSolution),
+    }
+}
+
+/// Makes a goal's arguments equal to those of a clause, with fresh variables in the place of the clause's own.
+///
+/// `NoSolutionOrStop::NoSolution` comes where the evaluator refuses the equation. It stops as `instantiate_clause_with_infer` and the
+/// evaluator's equation do. It is called in a probe: after a stop the variables that were made stay.
+pub(crate) fn equate_clause<E: EvalCtxt>(
+    alloc: Global,
+    ecx: &mut E,
+    env: ParamEnv,
+    predicate: TraitPredicate,
+    clause: Clause,
+) -> Result<(), NoSolutionOrStop>
+    requires goal { IsGoal trait_rules arguments_held types_held trait_goal (E.context ecx.old) env predicate }
+    requires clause { IsClause (E.context ecx.old).trees clause }
+    requires matches { IsAssumption trait_rules (E.context ecx.old) (trait_goal (E.context ecx.old).trees env predicate) (clause_tree (E.context ecx.old).trees clause) }
+    ensures kept { Keeps E.fixed E.probes E.context ecx.old ecx.new }
+    ensures ok { IfOk result (λ _. run (E.judge (E.fixed ecx.old)) (trait_goal (E.context ecx.old).trees env predicate).env (start (E.state ecx.old)) (match_trait (trait_goal (E.context ecx.old).trees env predicate) (clause_tree (E.context ecx.old).trees clause)) ≡ At (standing (E.state ecx.new) (fresh_variables (E.state ecx.old) (bound_kinds (clause_tree (E.context ecx.old).trees clause).children)))) }
+    ensures refused { IfErr result (λ e. e ≡ NoSolutionOrStop.NoSolution → run (E.judge (E.fixed ecx.old)) (trait_goal (E.context ecx.old).trees env predicate).env (start (E.state ecx.old)) (match_trait (trait_goal (E.context ecx.old).trees env predicate) (clause_tree (E.context ecx.old).trees clause)) ≡ Over Refused) }
+    ensures cause { IfErr result (by_stop (StopsSomehow E.fixed E.context E.state E.stops ecx.old)) }
+{
+    let instance = instantiate_clause_with_infer(alloc, ecx, clause)?;
+    match predicate_in(ecx.cx(), instance) {
+        Some(said) => ecx.eq_args(env, predicate.trait_ref.args, said.trait_ref.args),
+        None => unreachable!(),
+    }
+}
+
+/// Matches a clause that passes quick rejection, and answers what the closure answers then.
+pub(crate) fn match_clause<E: EvalCtxt, R, F: FnOnce(&mut E) -> Result<R, NoSolutionOrStop>>(
+    alloc: Global,
+    ecx: &mut E,
+    env: ParamEnv,
+    predicate: TraitPredicate,
+    clause: Clause,
+    then: F,
+) -> Result<R, NoSolutionOrStop>
+    requires goal { IsGoal trait_rules arguments_held types_held trait_goal (E.context ecx.old) env predicate }
+    requires clause { IsClause (E.context ecx.old).trees clause }
+    requires matches { IsAssumption trait_rules (E.context ecx.old) (trait_goal (E.context ecx.old).trees env predicate) (clause_tree (E.context ecx.old).trees clause) }
+    requires callable { IsCallable E.fixed E.state E.probes E.context E.stops F.FnOnce then ecx.old }
+    ensures kept { Keeps E.fixed E.probes E.context ecx.old ecx.new }
+    ensures after { After E.fixed E.state E.probes E.context E.stops F.FnOnce then ecx.old (run (E.judge (E.fixed ecx.old)) (trait_goal (E.context ecx.old).trees env predicate).env (start (E.state ecx.old)) (match_trait (trait_goal (E.context ecx.old).trees env predicate) (clause_tree (E.context ecx.old).trees clause))) result ecx.new }
+{
+    equate_clause(alloc, ecx, env, predicate, clause)?;
+    then(ecx)
+}

@@ -1,0 +1,57 @@
+//! Clauses that a trait without parameters holds of a type.
+
+ghost use Rattle.std.specs.Prelude.{◌≡◌, [], Some, false, IfErr, IfOk, IfSome};
+ghost use Rattle.candidate_ir.specs.Context.{Grows, world};
+ghost use Rattle.candidate_ir.specs.Declaring.{takes_a_type};
+ghost use Rattle.candidate_ir.specs.Words.{IsClause, IsTy, clause_tree, ty_tree};
+ghost use Rattle.candidate_ir.specs.Worlds.{TraitSort, parameters};
+ghost use Rattle.candidate_eval.specs.Evaluators.{IsMakingStop};
+ghost use Rattle.candidate_assembly.specs.BuiltinRules.{meets};
+ghost use Rattle.candidate_assembly.specs.TraitGoals.{item_trait};
+
+use candidate_ir::decl::Cx;
+use candidate_ir::decl::contents::LangItem;
+use candidate_ir::decl::make::{Build, Make};
+use candidate_ir::ir::kinds::{
+    Binder, Clause, ClauseKind, GenericArg, PredicatePolarity, TraitId, TraitPredicate, TraitRef,
+    Ty,
+};
+use candidate_ir::ir::stop::Stop;
+
+/// The trait that is the lang item has no parameters.
+pub(crate) fn item_has_no_parameters(cx: &Cx, item: LangItem)
+    requires { takes_a_type item ≡ false }
+    ensures { IfSome (item_trait cx.now item) (λ i. parameters (world cx.now) TraitSort i.0 ≡ Some []) }
+{
+    let _ = item;
+    cx.well_formed_table();
+}
+
+/// That a trait without parameters holds of the type, as a clause under an empty binder. `Stop::Memory` comes where a growth was refused,
+/// `Stop::NodesFull` where a node was not made.
+pub(crate) fn meets_trait<M: Make>(
+    make: &mut M,
+    trait_id: TraitId,
+    ty: Ty,
+) -> Result<Clause, Stop>
+    requires ty { IsTy (M.context make.old).trees ty }
+    requires no_parameters { parameters (world (M.context make.old)) TraitSort trait_id.0 ≡ Some [] }
+    ensures grows { Grows (M.context make.old) (M.context make.new) }
+    ensures rest { M.rest make.new ≡ M.rest make.old }
+    ensures sort { IfOk result (λ x. IsClause (M.context make.new).trees x) }
+    ensures tree { IfOk result (λ x. clause_tree (M.context make.new).trees x ≡ meets trait_id (ty_tree (M.context make.old).trees ty)) }
+    ensures cause { IfErr result IsMakingStop }
+{
+    let args = make.mk_args(&[GenericArg::Ty(ty)])?;
+    let vars = make.mk_vars(&[])?;
+    make.mk_clause(Binder {
+        vars,
+        value: ClauseKind::Trait(TraitPredicate {
+            trait_ref: TraitRef {
+                def_id: trait_id,
+                args,
+            },
+            polarity: PredicatePolarity::Positive,
+        }),
+    })
+}
