@@ -257,9 +257,6 @@ pub trait GoalKind<E: EvalCtxt>: Copy {
     /// A goal says the same where a context has grown.
     ghost stays: { (old new : Context) (env : EnvNumber) (predicate : Self) → Grows old new → IsGoal rules arguments types seen old env predicate → SaysTheSame rules seen old new env predicate };
 
-    /// A clause that may serve by its head, and doesn't pass quick rejection, isn't matched.
-    ghost rejects: { (f : E.Fixed) (S : State) (c : Context) (env : EnvNumber) (predicate : Self) (t : Tree) → IsGoal rules arguments types seen c env predicate → holds is_param t.children ≡ false → rules.fits c (seen c.trees env predicate) t.head ≡ true → passes rules c (seen c.trees env predicate) t ≡ false → run (E.judge f) (rules.env_of (seen c.trees env predicate)) (start S) (rules.match_steps (seen c.trees env predicate) t) ≡ Over Refused };
-
     /// The candidate of a source by a clause: in a probe the clause is matched, and the closure called then.
     ///
     /// `NoSolution` comes where the clause doesn't pass quick rejection or isn't matched, and where the closure answers it; the stops
