@@ -30,6 +30,7 @@ use candidate_eval::structural::callable::has_callable_cell;
 use candidate_ir::decl::contents::{AliasBoundKind, ImplId, Sizedness};
 use candidate_ir::decl::context::Cx;
 use candidate_ir::decl::make::Make;
+use candidate_ir::ir::heads::Flag;
 use candidate_ir::ir::kinds::{ClosureKind, ParamEnv, PredicatePolarity, TraitPredicate};
 use candidate_ir::ir::trees::Trees;
 use candidate_rounds::rounds::Rounds;
@@ -174,6 +175,24 @@ fn by_rule(
     }
 }
 
+/// The candidate by a clause of the environment.
+fn by_clause(alloc: Global, rounds: &mut Rounds, of: Operands) -> Result<Answer, Refusal>
+    ensures { probes rounds.new ≡ probes rounds.old }
+{
+    let (env, predicate) = goal_at(rounds.cx(), of.left, of.right)?;
+    let clause = clause_at(rounds.cx(), of.third)?;
+    if rounds.cx().has(clause, Flag::Param) {
+        return Err(Refusal::Condition);
+    }
+    let outcome = TraitPredicate::probe_and_consider_param_env_candidate(
+        alloc, rounds, env, predicate, clause,
+    )?;
+    match outcome {
+        Ok(candidate) => found(alloc, &candidate),
+        Err(_) => Err(Refusal::NoSolution),
+    }
+}
+
 /// The candidate of the rule, or of the impl, that the row names.
 fn consider(
     alloc: Global,
@@ -184,6 +203,9 @@ fn consider(
 ) -> Result<Answer, Refusal>
     ensures { probes rounds.new ≡ probes rounds.old }
 {
+    if row.first == "where" {
+        return by_clause(alloc, rounds, of);
+    }
     let (env, predicate) = goal_at(rounds.cx(), of.left, of.right)?;
     if row.first == "impl" {
         let candidate = consider_impl_and_respond(alloc, rounds, env, predicate, named)?;
