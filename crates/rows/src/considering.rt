@@ -74,12 +74,27 @@ const RULES: [(&str, Rule); 15] = [
 
 /// The words of sources that are no impl and no bound's or supertrait's number.
 const SOURCES: [(&str, CandidateSource); 7] = [
-    ("trivial", CandidateSource::BuiltinImpl(BuiltinImplSource::Trivial)),
-    ("misc", CandidateSource::BuiltinImpl(BuiltinImplSource::Misc)),
+    (
+        "trivial",
+        CandidateSource::BuiltinImpl(BuiltinImplSource::Trivial),
+    ),
+    (
+        "misc",
+        CandidateSource::BuiltinImpl(BuiltinImplSource::Misc),
+    ),
     ("global", CandidateSource::ParamEnv(ParamEnvSource::Global)),
-    ("non_global", CandidateSource::ParamEnv(ParamEnvSource::NonGlobal)),
-    ("self_bound", CandidateSource::AliasBound(AliasBoundKind::SelfBounds)),
-    ("other_bound", CandidateSource::AliasBound(AliasBoundKind::NonSelfBounds)),
+    (
+        "non_global",
+        CandidateSource::ParamEnv(ParamEnvSource::NonGlobal),
+    ),
+    (
+        "self_bound",
+        CandidateSource::AliasBound(AliasBoundKind::SelfBounds),
+    ),
+    (
+        "other_bound",
+        CandidateSource::AliasBound(AliasBoundKind::NonSelfBounds),
+    ),
     ("unknowable", CandidateSource::CoherenceUnknowable),
 ];
 
