@@ -8,6 +8,7 @@ pub mod TraitClauses
 pub mod PartClauses
 pub mod PartsTold
 pub mod AutoTraits
+pub mod TraitAliases
 pub mod Characterizing
 pub mod CharacterizingCases
 pub mod ImplSteps
@@ -16,3 +17,6 @@ pub mod LangItems
 pub mod MeetingClauses
 pub mod Clauses
 pub mod Answering
+pub mod WhereBounds
+pub mod MatchesBelow
+pub mod Requiring

@@ -17,6 +17,7 @@ use Rattle.candidate_ir.specs.declared.ir.kinds.AliasKind.TheVariants as AK
 use Rattle.candidate_ir.specs.declared.ir.kinds.Args.{Args}
 use Rattle.candidate_ir.specs.declared.ir.kinds.Clause.{Clause}
 use Rattle.candidate_ir.specs.declared.ir.kinds.ClosureKind.{ClosureKind}
+use Rattle.candidate_ir.specs.declared.ir.kinds.GoalSource.TheVariants.{ImplWhereBound}
 use Rattle.candidate_ir.specs.declared.ir.kinds.PredicatePolarity.{PredicatePolarity}
 use Rattle.candidate_ir.specs.declared.ir.kinds.PredicatePolarity.TheVariants as Pol
 use Rattle.candidate_ir.specs.declared.ir.kinds.TraitId.{TraitId}
@@ -51,7 +52,9 @@ use Rattle.candidate_eval.specs.States.{State}
 use Rattle.candidate_eval.specs.Tables.{Cell, Excluded, Refused, Asks, Parts, cell, is_manually_drop, row_of, types_of}
 use Rattle.candidate_eval.specs.declared.structural.Column.TheVariants as C
 use Rattle.candidate_assembly.specs.Kinds.{BuiltinRule, ErrorRule, AutoTraitRule, TraitAliasRule, SizednessRule, CopyCloneRule, FnTraitRule, FnPtrTraitRule, TupleRule, PointeeRule, DiscriminantKindRule, DestructRule, NoDropRule}
-use Rattle.candidate_assembly.specs.Telling.{asking_rule}
+use Rattle.candidate_assembly.specs.declared.trait_goals.no_drop.NoDrop.{NoDrop}
+use Rattle.candidate_assembly.specs.declared.trait_goals.no_drop.NoDrop.TheVariants as D
+use Rattle.candidate_assembly.specs.Telling.{asking_rule, flat_rule}
 use Rattle.candidate_assembly.specs.TraitGoals.{is_positive, item_trait, with_first}
 
 abbrev pub self_of : TraitGoal → Tree
@@ -268,25 +271,26 @@ is_tuple _ = false
 abbrev pub tuple_rule : TraitGoal → Rule
 tuple_rule g = plain_rule g (positive g && is_tuple (self_of g).head)
 
--- No drop: references and what isn't dropped by hand need nothing, tuples and arrays their elements, all else is `Copy`.
+-- No drop: references and what isn't dropped by the language need nothing, tuples and arrays their elements, all else is `Copy`.
 
-abbrev pub copy_needed : TraitGoal → Option TraitId → Option (List Tree)
-copy_needed g None = None
-copy_needed g (Some copy) = Some (meets copy (self_of g) ∷ [])
+abbrev pub no_drop_needs : Context → Head → NoDrop
+no_drop_needs c (H.Ref m) = D.Nothing
+no_drop_needs c (H.Adt i) = if is_manually_drop (adt_flags (definition c i.0)) then D.Nothing else D.Copy
+no_drop_needs c (H.Builtin B.Tuple) = D.Elements
+no_drop_needs c (H.Builtin B.Array) = D.Elements
+no_drop_needs c _ = D.Copy
 
-abbrev pub no_drop_needs : Context → TraitGoal → Head → Forest → Option (List Tree)
-no_drop_needs c g (H.Ref m) below = Some []
-no_drop_needs c g (H.Adt i) below = if is_manually_drop (adt_flags (definition c i.0)) then Some [] else copy_needed g (item_trait c L.Copy)
-no_drop_needs c g (H.Builtin B.Tuple) below = Some (for_types g (types_of below))
-no_drop_needs c g (H.Builtin B.Array) below = Some (for_types g (types_of below))
-no_drop_needs c g _ below = copy_needed g (item_trait c L.Copy)
+abbrev pub copy_rule : TraitGoal → Option TraitId → Rule
+copy_rule g None = no_rule g
+copy_rule g (Some copy) = flat_rule g.env (positive g) ImplWhereBound (meets copy (self_of g) ∷ []) misc Yes
 
-abbrev pub needs_rule : TraitGoal → Option (List Tree) → Rule
-needs_rule g None = no_rule g
-needs_rule g (Some cs) = record { env = g.env; applies = positive g; steps = nested cs; ending = ask misc Yes }
+abbrev pub rule_by_needs : Context → TraitGoal → NoDrop → Rule
+rule_by_needs c g D.Nothing = plain_rule g (positive g)
+rule_by_needs c g D.Elements = parts_rule g (positive g) misc (cell C.Auto (row_of c (self_of g)))
+rule_by_needs c g D.Copy = copy_rule g (item_trait c L.Copy)
 
 abbrev pub no_drop_rule : Context → TraitGoal → Rule
-no_drop_rule c g = needs_rule g (no_drop_needs c g (self_of g).head (self_of g).children)
+no_drop_rule c g = rule_by_needs c g (no_drop_needs c (self_of g).head)
 
 -- The rules by name.
 abbrev pub trait_rule : BuiltinRule → Context → TraitGoal → Rule

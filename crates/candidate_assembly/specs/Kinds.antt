@@ -116,11 +116,11 @@ abbrev pub part_judged : Judge → Env → State → CandidateSource → ImplPar
 part_judged J e S s p k = if p.applies then steps_judged J e S s p.steps k else Refused
 
 abbrev pub clause_judged : {G : Type 0} → KindRules G → Judge → Context → State → G → CandidateSource → Tree → (State → Option Response) → Judged
-clause_judged K J c S g s t k = if K.fits c g t.head then steps_judged J (K.env_of g) S s (K.match_steps g t) k else Refused
+clause_judged K J c S g s t k = if passes K c g t then steps_judged J (K.env_of g) S s (K.match_steps g t) k else Refused
 
 -- the rule of an impl, and of a clause that is matched and followed by more steps
 abbrev pub rule_of_part : Env → CandidateSource → ImplPart → Rule
 rule_of_part e s p = record { env = e; applies = p.applies; steps = p.steps; ending = ask s p.certainty }
 
 abbrev pub match_rule : {G : Type 0} → KindRules G → Context → G → Tree → List Step → Ending → Rule
-match_rule K c g t more end = record { env = K.env_of g; applies = K.fits c g t.head; steps = K.match_steps g t ++ more; ending = end }
+match_rule K c g t more end = record { env = K.env_of g; applies = passes K c g t; steps = K.match_steps g t ++ more; ending = end }

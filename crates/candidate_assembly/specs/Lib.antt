@@ -7,3 +7,4 @@ pub mod TraitRules
 pub mod Staying
 pub mod Characterizing
 pub mod Impls
+pub mod Requirements

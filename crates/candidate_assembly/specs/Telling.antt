@@ -1,5 +1,5 @@
 -- What calls say of the rule that they follow.
-use Rattle.std.specs.Prelude.{◌≡◌, All, Bool, true, false, Result, Err, IfOk, IfErr, List, [], ◌∷◌, ◌++◌, map}
+use Rattle.std.specs.Prelude.{◌≡◌, All, Bool, true, false, Result, Ok, Err, IfOk, IfErr, List, [], ◌∷◌, ◌++◌, map}
 use Rattle.candidate_ir.specs.declared.ir.kinds.GoalSource.{GoalSource}
 use Rattle.candidate_ir.specs.declared.ir.stop.Stop.{Stop}
 use Rattle.candidate_ir.specs.Context.{Context}
@@ -9,6 +9,7 @@ use Rattle.candidate_ir.specs.Words.{clause_tree}
 use Rattle.candidate_eval.specs.declared.eval.refusal.NoSolutionOrStop.{NoSolutionOrStop}
 use Rattle.candidate_eval.specs.declared.eval.refusal.NoSolutionOrStop.TheVariants as N
 use Rattle.candidate_eval.specs.declared.eval.response.Candidate.{Candidate}
+use Rattle.candidate_eval.specs.declared.eval.response.CandidateHeadUsages.{CandidateHeadUsages}
 use Rattle.candidate_eval.specs.declared.eval.response.CanonicalResponse.{CanonicalResponse}
 use Rattle.candidate_eval.specs.declared.eval.source.CandidateSource.{CandidateSource}
 use Rattle.candidate_eval.specs.declared.eval.source.CandidateSource.TheVariants.{BuiltinImpl}
@@ -48,6 +49,12 @@ pub record Considers {E X : Type 0} (fixed : E → X) (judge : X → Judge) (sta
   pub alike : (judge (fixed old)).alike (state old) (state new)
   pub told : Told (context new).trees answer (judged (judge (fixed old)) (state old) rule)
   pub cause : IfErr answer (by_stop (StopsOfItself fixed context state stops old))
+
+-- An answer that hands out besides a refusal what was used until then, without that.
+abbrev pub without_usages : Result (Result Candidate CandidateHeadUsages) Stop → Result Candidate NoSolutionOrStop
+without_usages (Ok (Ok c)) = Ok c
+without_usages (Ok (Err u)) = Err N.NoSolution
+without_usages (Err s) = Err (N.Stop s)
 
 -- where a rule stands at a state, with that for its variables
 abbrev pub standing : State → Forest → Place

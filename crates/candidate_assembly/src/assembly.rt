@@ -2,4 +2,5 @@
 
 pub mod characterize;
 pub mod kind;
+pub(crate) mod matching;
 pub mod steps;

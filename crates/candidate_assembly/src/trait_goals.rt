@@ -1,9 +1,11 @@
 //! Goals of traits: that a trait holds of some trees, or that it does not.
 
+pub(crate) mod aliases;
 pub(crate) mod auto_traits;
 pub(crate) mod builtin;
 pub mod impls;
 pub mod kind;
 pub(crate) mod matching;
 pub(crate) mod meeting;
+pub(crate) mod no_drop;
 pub(crate) mod parts;

@@ -1,31 +1,34 @@
 //! Kinds of goals.
 
-ghost use Rattle.std.specs.Prelude.{◌≡◌, List, ◌∷◌, Option, true, false, IfOk, IfErr, OnOk, OnErr};
+ghost use Rattle.std.specs.Prelude.{◌≡◌, List, [], ◌∷◌, Option, true, false, IfOk, IfErr, OnOk, OnErr};
 ghost use Rattle.candidate_ir.specs.declared.ir.kinds.Args.{Args as ArgsNumber};
 ghost use Rattle.candidate_ir.specs.declared.ir.kinds.ParamEnv.{ParamEnv as EnvNumber};
 ghost use Rattle.candidate_ir.specs.declared.ir.kinds.Ty.{Ty as TyNumber};
 ghost use Rattle.candidate_ir.specs.Context.{Context, Grows};
 ghost use Rattle.candidate_ir.specs.References.{reference_of};
 ghost use Rattle.candidate_ir.specs.Trees.{Tree, holds, is_param};
-ghost use Rattle.candidate_ir.specs.Words.{IsArgs, IsClause, IsTy, clause_tree, ty_tree};
+ghost use Rattle.candidate_ir.specs.Words.{IsArgs, IsClause, IsTy, clause_tree, env_forest, ty_tree};
 ghost use Rattle.candidate_eval.specs.Accounts.{by_stop};
 ghost use Rattle.candidate_eval.specs.Evaluators.{Keeps};
 ghost use Rattle.candidate_eval.specs.Judging.{Over, Refused, run, start};
 ghost use Rattle.candidate_eval.specs.Responses.{Response};
+ghost use Rattle.candidate_eval.specs.Rules.{characterise, settle};
 ghost use Rattle.candidate_eval.specs.States.{State};
 ghost use Rattle.candidate_assembly.specs.Closures.{After, IsCallable, IsCallableIn, TellsIn};
-ghost use Rattle.candidate_assembly.specs.Kinds.{IsAssumption, IsGoal, IsTyped, KindRules, SaysTheSame, clause_judged, passes, self_type};
+ghost use Rattle.candidate_assembly.specs.Kinds.{IsAssumption, IsGoal, IsTyped, KindRules, SaysTheSame, clause_judged, match_rule, passes, self_type};
 ghost use Rattle.candidate_assembly.specs.Kinds as kind;
-ghost use Rattle.candidate_assembly.specs.Telling.{Considers, StopsOfItself, Told};
+ghost use Rattle.candidate_assembly.specs.Telling.{Considers, StopsOfItself, Told, without_usages};
 
+use crate::assembly::matching::{match_and_characterize, with_usages};
 use crate::assembly::steps::with_source;
 use candidate_eval::eval::context::{EvalCtxt, ProbeKind};
 use candidate_eval::eval::refusal::NoSolutionOrStop;
-use candidate_eval::eval::response::{Candidate, CanonicalResponse};
+use candidate_eval::eval::response::{Candidate, CandidateHeadUsages, CanonicalResponse};
 use candidate_eval::eval::source::CandidateSource;
 use candidate_ir::decl::Cx;
 use candidate_ir::decl::contents::Sizedness;
 use candidate_ir::ir::kinds::{Clause, ClosureKind, ParamEnv, TraitId, TraitRef, Ty};
+use candidate_ir::ir::stop::Stop;
 use std::alloc::Global;
 
 /// A clause doesn't pass quick rejection.
@@ -257,6 +260,9 @@ pub trait GoalKind<E: EvalCtxt>: Copy {
     /// A goal says the same where a context has grown.
     ghost stays: { (old new : Context) (env : EnvNumber) (predicate : Self) → Grows old new → IsGoal rules arguments types seen old env predicate → SaysTheSame rules seen old new env predicate };
 
+    /// The environment of a goal is the one that is given.
+    ghost env_given: { (ts : List Tree) (env : EnvNumber) (predicate : Self) → rules.env_of (seen ts env predicate) ≡ env_forest ts env };
+
     /// The candidate of a source by a clause: in a probe the clause is matched, and the closure called then.
     ///
     /// `NoSolution` comes where the clause doesn't pass quick rejection or isn't matched, and where the closure answers it; the stops
@@ -288,5 +294,32 @@ pub trait GoalKind<E: EvalCtxt>: Copy {
         let answer = Self::match_assumption(alloc, ecx, env, predicate, clause, then);
         let _usages = ecx.end_probe(probe);
         with_source(alloc, source, answer)
+    }
+
+    /// The candidate by a clause of the environment: in a probe the clause is matched and what is pending evaluated; then the clause is
+    /// characterised, of which the source and the highest certainty come.
+    ///
+    /// Where there is none, which goals above were used until then: the clause doesn't pass quick rejection or isn't matched, or the
+    /// evaluator refuses what is pending, a normal form or a response. The stops are those of the match, of the evaluator and of
+    /// `characterize_param_env_assumption`. The state is left alike the one before.
+    final fn probe_and_consider_param_env_candidate(
+        alloc: Global,
+        ecx: &mut E,
+        env: ParamEnv,
+        predicate: Self,
+        clause: Clause,
+    ) -> Result<Result<Candidate, CandidateHeadUsages>, Stop>
+        requires goal { IsGoal rules arguments types seen (E.context ecx.old) env predicate }
+        requires clause { IsClause (E.context ecx.old).trees clause }
+        requires free { holds is_param (clause_tree (E.context ecx.old).trees clause).children ≡ false }
+        ensures { Considers E.fixed E.judge E.state E.probes E.context E.stops ecx.old ecx.new (match_rule rules (E.context ecx.old) (seen (E.context ecx.old).trees env predicate) (clause_tree (E.context ecx.old).trees clause) (settle ∷ []) (characterise (clause_tree (E.context ecx.old).trees clause))) (without_usages result) }
+    {
+        if Self::fast_reject_assumption(ecx.cx(), env, predicate, clause).is_err() {
+            return Ok(Err(CandidateHeadUsages::new(alloc)));
+        }
+        let probe = ecx.begin_probe(ProbeKind::Kept)?;
+        let answer = match_and_characterize(alloc, ecx, env, predicate, clause);
+        let usages = ecx.end_probe(probe);
+        with_usages(answer, usages)
     }
 }

@@ -1,6 +1,6 @@
 //! Goals of traits as a kind of goals.
 
-ghost use Rattle.std.specs.Prelude.{◌≡◌};
+ghost use Rattle.std.specs.Prelude.{◌≡◌, refl};
 ghost use Rattle.candidate_eval.specs.ImplRules.{TraitGoal};
 ghost use Rattle.candidate_assembly.specs.TraitGoals.{arguments_held, trait_goal, types_held};
 ghost use Rattle.candidate_assembly.specs.TraitRules.{trait_rules};
@@ -8,7 +8,11 @@ ghost use Rattle.candidate_assembly.specs.Staying.{trait_goal_stays};
 
 use crate::assembly::kind::{GoalKind, NoSolution};
 use crate::assembly::steps::consider_plain;
+use crate::trait_goals::aliases::consider_trait_alias;
+use crate::trait_goals::auto_traits::consider_auto_trait;
 use crate::trait_goals::builtin::{fn_ptr_holds, is_positive, is_tuple, self_head};
+use crate::trait_goals::matching::{fast_reject, match_clause};
+use crate::trait_goals::no_drop::consider_no_drop;
 use crate::trait_goals::parts::{consider_column, with_self_ty};
 use candidate_eval::eval::certainty::Certainty;
 use candidate_eval::eval::clauses::self_ty;
@@ -38,6 +42,8 @@ impl<E: EvalCtxt> GoalKind<E> for TraitPredicate {
 
     ghost stays = { trait_goal_stays };
 
+    ghost env_given = { λ _ _ _. refl };
+
     fn self_ty(cx: &Cx, _env: ParamEnv, predicate: Self) -> Ty {
         self_ty(cx, predicate.trait_ref)
     }
@@ -63,8 +69,8 @@ impl<E: EvalCtxt> GoalKind<E> for TraitPredicate {
         predicate: Self,
         assumption: Clause,
     ) -> Result<(), NoSolution> {
-        let _ = (cx, env, predicate, assumption);
-        unreachable!()
+        let _ = env;
+        fast_reject(cx, predicate, assumption)
     }
 
     fn match_assumption<R, F: FnOnce(&mut E) -> Result<R, NoSolutionOrStop>>(
@@ -75,8 +81,7 @@ impl<E: EvalCtxt> GoalKind<E> for TraitPredicate {
         assumption: Clause,
         then: F,
     ) -> Result<R, NoSolutionOrStop> {
-        let _ = (alloc, env, predicate, assumption);
-        then(ecx)
+        match_clause(alloc, ecx, env, predicate, assumption, then)
     }
 
     fn consider_error_guaranteed_candidate(
@@ -95,8 +100,7 @@ impl<E: EvalCtxt> GoalKind<E> for TraitPredicate {
         env: ParamEnv,
         predicate: Self,
     ) -> Result<Candidate, NoSolutionOrStop> {
-        let _ = predicate;
-        consider_plain(alloc, ecx, env, false, Certainty::Yes)
+        consider_auto_trait(alloc, ecx, env, predicate)
     }
 
     fn consider_trait_alias_candidate(
@@ -105,8 +109,7 @@ impl<E: EvalCtxt> GoalKind<E> for TraitPredicate {
         env: ParamEnv,
         predicate: Self,
     ) -> Result<Candidate, NoSolutionOrStop> {
-        let _ = predicate;
-        consider_plain(alloc, ecx, env, false, Certainty::Yes)
+        consider_trait_alias(alloc, ecx, env, predicate)
     }
 
     fn consider_builtin_sizedness_candidates(
@@ -202,7 +205,6 @@ impl<E: EvalCtxt> GoalKind<E> for TraitPredicate {
         env: ParamEnv,
         predicate: Self,
     ) -> Result<Candidate, NoSolutionOrStop> {
-        let _ = predicate;
-        consider_plain(alloc, ecx, env, false, Certainty::Yes)
+        consider_no_drop(alloc, ecx, env, predicate)
     }
 }

@@ -10,7 +10,7 @@ use Rattle.candidate_eval.specs.Evaluators.{Keeps}
 use Rattle.candidate_eval.proofs.Probing.{alike-probe, keeps-probe, of-error}
 use Rattle.candidate_assembly.specs.Kinds.{clause_judged, passes}
 use Rattle.candidate_assembly.specs.Telling.{StopsOfItself, ToldAs}
-use Rattle.candidate_assembly.proofs.Answering.{after-caused-in, after-told-in, callable-in, clause-moved, clause-refused, passes-fits, passes-kept}
+use Rattle.candidate_assembly.proofs.Answering.{after-caused-in, after-told-in, callable-in, clause-moved, clause-refused, passes-kept}
 use Rattle.candidate_assembly.proofs.Causes.{answered-stop, asked-here, so-err}
 use Rattle.candidate_assembly.proofs.Considering.{told-own, told-refused}
 use Rattle.candidate_assembly.proofs.Keeping.{goal-kept}
@@ -28,7 +28,7 @@ returns-then-is_err-clause-told g c k tells =
     let J = E.judge (E.fixed c.args.ecx.now) in
     let S = E.state c.args.ecx.now in
     told-refused old.trees _ (clause_judged K.rules J old S seen c.args.source t k) refl
-    (clause-refused K.rules J old S seen c.args.source t k (λ fits. g.met.Self.GoalKind.rejects (E.fixed c.args.ecx.now) S old c.args.env c.args.predicate t c.requires.goal c.requires.free fits no))
+    (clause-refused K.rules J old S seen c.args.source t k no)
 
 pub returns-in_err-probe-clause-told : goal.returns-in_err-probe-clause-told
 returns-in_err-probe-clause-told g c k tells =
@@ -115,7 +115,7 @@ returns-clause-told g c k tells =
     told-kept (g.E.Build.context ran.new.ecx) (g.E.Build.context c.end_probe-usages.new.self) c.with_source.result j c.end_probe-usages.ensures.grows
     (c.with_source.ensures.told (g.E.Build.context ran.new.ecx).trees j
     (subst (λ x. ToldAs (g.E.Build.context ran.new.ecx).trees c.args.source ran.result x)
-    (clause-moved K.rules E.judge (E.fixed first) (E.fixed middle) old (E.state first) (E.state middle) now there c.args.source t u k began.fixed began.ok.0 says.seen is (passes-fits K.rules old now t yes))
+    (clause-moved K.rules E.judge (E.fixed first) (E.fixed middle) old (E.state first) (E.state middle) now there c.args.source t u k began.fixed began.ok.0 says.seen is yes)
     (after-told-in first middle began.fixed began.ok.1 began.grows J steps c.args.source k ran.result ran.new.ecx tells ran.ensures.after)))
 
 pub returns-clause-cause : goal.returns-clause-cause

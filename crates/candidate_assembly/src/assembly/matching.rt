@@ -1,0 +1,123 @@
+//! What follows where a clause is matched.
+
+ghost use Rattle.std.specs.Prelude.{◌≡◌, [], ◌∷◌, IfErr, OnOk};
+ghost use Rattle.candidate_ir.specs.Words.{IsClause, IsParamEnv, clause_tree, env_forest};
+ghost use Rattle.candidate_eval.specs.Accounts.{StopsSomehow, by_stop};
+ghost use Rattle.candidate_eval.specs.Evaluators.{Keeps};
+ghost use Rattle.candidate_eval.specs.Judging.{comes_to, judged, start};
+ghost use Rattle.candidate_eval.specs.Rules.{characterise, settle};
+ghost use Rattle.candidate_assembly.specs.Closures.{Responds};
+ghost use Rattle.candidate_assembly.specs.Kinds.{IsAssumption, IsGoal, match_rule};
+ghost use Rattle.candidate_assembly.specs.Requirements.{RequirementsFit, with_requirements};
+ghost use Rattle.candidate_assembly.specs.Telling.{StopsOfItself, Told, without_usages};
+
+use crate::assembly::characterize::characterize_param_env_assumption;
+use crate::assembly::kind::GoalKind;
+use crate::assembly::steps::respond_as;
+use candidate_eval::eval::certainty::Certainty;
+use candidate_eval::eval::context::EvalCtxt;
+use candidate_eval::eval::refusal::NoSolutionOrStop;
+use candidate_eval::eval::response::{Candidate, CandidateHeadUsages, CanonicalResponse};
+use candidate_eval::eval::source::CandidateSource;
+use candidate_ir::ir::kinds::{Clause, Goal, GoalSource, ParamEnv};
+use candidate_ir::ir::stop::Stop;
+use std::alloc::Global;
+
+/// What is pending is evaluated, the clause characterised, and the candidate asked for, of the source and with at most the certainty that
+/// this finds.
+///
+/// `NoSolution` comes where the evaluator refuses what is pending, a normal form or a response. It stops as these and
+/// `characterize_param_env_assumption` do.
+pub(crate) fn settle_and_characterize<E: EvalCtxt>(
+    alloc: Global,
+    ecx: &mut E,
+    env: ParamEnv,
+    clause: Clause,
+) -> Result<Candidate, NoSolutionOrStop>
+    requires env { IsParamEnv (E.context ecx.old).trees env }
+    requires clause { IsClause (E.context ecx.old).trees clause }
+    ensures kept { Keeps E.fixed E.probes E.context ecx.old ecx.new }
+    ensures told { Told (E.context ecx.new).trees result (comes_to (E.judge (E.fixed ecx.old)) (env_forest (E.context ecx.old).trees env) (start (E.state ecx.old)) (settle ∷ []) (characterise (clause_tree (E.context ecx.old).trees clause))) }
+    ensures cause { IfErr result (by_stop (StopsOfItself E.fixed E.context E.state E.stops ecx.old)) }
+{
+    ecx.try_evaluate_added_goals()?;
+    let (source, certainty) = characterize_param_env_assumption(alloc, ecx, env, clause)?;
+    respond_as(alloc, ecx, CandidateSource::ParamEnv(source), certainty)
+}
+
+/// Requirements become pending goals in the environment, each of its own source, in their order. The stops are the evaluator's.
+fn add_requirements<E: EvalCtxt>(
+    ecx: &mut E,
+    env: ParamEnv,
+    requirements: &[(GoalSource, Clause)],
+) -> Result<(), Stop>
+    requires env { IsParamEnv (E.context ecx.old).trees env }
+    requires requirements { RequirementsFit (E.context ecx.old).trees requirements.now }
+    ensures kept { Keeps E.fixed E.probes E.context ecx.old ecx.new }
+    ensures ok { OnOk result (E.state ecx.new ≡ with_requirements (E.context ecx.old).trees env (E.state ecx.old) requirements.now) }
+    ensures cause { IfErr result (StopsSomehow E.fixed E.context E.state E.stops ecx.old) }
+{
+    for requirement in requirements {
+        let goal = Goal {
+            param_env: env,
+            predicate: requirement.1,
+        };
+        ecx.add_goal(requirement.0, goal)?;
+    }
+    Ok(())
+}
+
+/// Requirements become pending goals, and then a response is asked for.
+pub(crate) fn require_and_respond<E: EvalCtxt>(
+    ecx: &mut E,
+    env: ParamEnv,
+    requirements: &[(GoalSource, Clause)],
+) -> Result<CanonicalResponse, NoSolutionOrStop>
+    requires env { IsParamEnv (E.context ecx.old).trees env }
+    requires requirements { RequirementsFit (E.context ecx.old).trees requirements.now }
+    ensures kept { Keeps E.fixed E.probes E.context ecx.old ecx.new }
+    ensures responds { Responds (E.context ecx.new).trees result ((E.judge (E.fixed ecx.old)).responded (with_requirements (E.context ecx.old).trees env (E.state ecx.old) requirements.now) Certainty.Yes) }
+    ensures cause { IfErr result (by_stop (StopsOfItself E.fixed E.context E.state E.stops ecx.old)) }
+{
+    add_requirements(ecx, env, requirements)?;
+    ecx.evaluate_added_goals_and_make_canonical_response(Certainty::Yes)
+}
+
+/// Matches a clause of the environment, evaluates what is pending, and characterises the clause. It is called in a probe.
+pub(crate) fn match_and_characterize<E: EvalCtxt, G: GoalKind<E>>(
+    alloc: Global,
+    ecx: &mut E,
+    env: ParamEnv,
+    predicate: G,
+    clause: Clause,
+) -> Result<Candidate, NoSolutionOrStop>
+    requires goal { IsGoal G.rules G.arguments G.types G.seen (E.context ecx.old) env predicate }
+    requires clause { IsClause (E.context ecx.old).trees clause }
+    requires matches { IsAssumption G.rules (E.context ecx.old) (G.seen (E.context ecx.old).trees env predicate) (clause_tree (E.context ecx.old).trees clause) }
+    ensures kept { Keeps E.fixed E.probes E.context ecx.old ecx.new }
+    ensures told { Told (E.context ecx.new).trees result (judged (E.judge (E.fixed ecx.old)) (E.state ecx.old) (match_rule G.rules (E.context ecx.old) (G.seen (E.context ecx.old).trees env predicate) (clause_tree (E.context ecx.old).trees clause) (settle ∷ []) (characterise (clause_tree (E.context ecx.old).trees clause)))) }
+    ensures cause { IfErr result (by_stop (StopsOfItself E.fixed E.context E.state E.stops ecx.old)) }
+{
+    G::match_assumption(
+        alloc,
+        ecx,
+        env,
+        predicate,
+        clause,
+        |ecx: &mut E| settle_and_characterize(alloc, ecx, env, clause),
+    )
+}
+
+/// A refusal is handed out with what was used until then, other errors as the stops that they are.
+pub(crate) fn with_usages(
+    answer: Result<Candidate, NoSolutionOrStop>,
+    usages: CandidateHeadUsages,
+) -> Result<Result<Candidate, CandidateHeadUsages>, Stop>
+    ensures { without_usages result ≡ answer }
+{
+    match answer {
+        Ok(candidate) => Ok(Ok(candidate)),
+        Err(NoSolutionOrStop::NoSolution) => Ok(Err(usages)),
+        Err(NoSolutionOrStop::Stop(stop)) => Err(stop),
+    }
+}

@@ -1,0 +1,82 @@
+//! The rule of trait aliases: an alias holds where the where clauses of its trait do.
+
+ghost use Rattle.std.specs.Prelude.{◌≡◌, [], map, IfOk, IfErr};
+ghost use Rattle.candidate_ir.specs.Context.{Grows};
+ghost use Rattle.candidate_ir.specs.Declaring.{trait_at};
+ghost use Rattle.candidate_ir.specs.Folding.{substituted_tree};
+ghost use Rattle.candidate_ir.specs.Lookups.{maybe};
+ghost use Rattle.candidate_ir.specs.References.{ArgumentsFit};
+ghost use Rattle.candidate_ir.specs.Words.{ClauseListFits, IsArgs, args_forest, clause_tree};
+ghost use Rattle.candidate_eval.specs.Evaluators.{IsMakingStop};
+ghost use Rattle.candidate_assembly.specs.BuiltinRules.{trait_alias_rule};
+ghost use Rattle.candidate_assembly.specs.Kinds.{IsGoal};
+ghost use Rattle.candidate_assembly.specs.Telling.{Considers};
+ghost use Rattle.candidate_assembly.specs.TraitGoals.{arguments_held, trait_goal, types_held};
+ghost use Rattle.candidate_assembly.specs.TraitRules.{trait_rules};
+
+use crate::assembly::steps::consider_flat;
+use crate::trait_goals::builtin::is_positive;
+use candidate_eval::eval::certainty::Certainty;
+use candidate_eval::eval::context::EvalCtxt;
+use candidate_eval::eval::refusal::NoSolutionOrStop;
+use candidate_eval::eval::response::Candidate;
+use candidate_eval::eval::source::{BuiltinImplSource, CandidateSource};
+use candidate_ir::decl::make::Make;
+use candidate_ir::decl::subst::subst;
+use candidate_ir::ir::kinds::{Clause, GoalSource, ParamEnv, TraitPredicate, TraitRef};
+use candidate_ir::ir::stop::Stop;
+use std::alloc::Global;
+
+/// The where clauses of the reference's trait, in order, with the reference's arguments in the place of parameters.
+///
+/// `Stop::Memory` comes where a growth was refused, `Stop::NodesFull` where a clause was not made, as by `subst`.
+fn where_clauses<M: Make>(
+    alloc: Global,
+    make: &mut M,
+    reference: TraitRef,
+) -> Result<Vec<Clause>, Stop>
+    requires args { IsArgs (M.context make.old).trees reference.args }
+    requires fit { ArgumentsFit (M.context make.old) reference }
+    ensures grows { Grows (M.context make.old) (M.context make.new) }
+    ensures rest { M.rest make.new ≡ M.rest make.old }
+    ensures sort { IfOk result (λ v. ClauseListFits (M.context make.new).trees v.items) }
+    ensures trees { IfOk result (λ v. map (clause_tree (M.context make.new).trees) v.items ≡ map (λ x. substituted_tree (args_forest (M.context make.old).trees reference.args) (clause_tree (M.context make.old).trees x)) (maybe [] (λ t. t.wheres) (trait_at (M.context make.old) reference.def_id.0))) }
+    ensures cause { IfErr result IsMakingStop }
+{
+    let declared = Vec::from_slice(alloc, make.cx().trait_where_clauses_of(reference))?;
+    let mut list = Vec::new(alloc);
+    for clause in &declared {
+        let clause = subst(alloc, make, *clause, reference.args)?;
+        list.push(clause)?;
+    }
+    Ok(list)
+}
+
+/// The rule of a trait alias.
+///
+/// The state is left alike the one before. `NoSolution` comes for a negative goal and where the evaluator refuses; the stops are those of
+/// making nodes and lists, and the evaluator's.
+pub(crate) fn consider_trait_alias<E: EvalCtxt>(
+    alloc: Global,
+    ecx: &mut E,
+    env: ParamEnv,
+    predicate: TraitPredicate,
+) -> Result<Candidate, NoSolutionOrStop>
+    requires goal { IsGoal trait_rules arguments_held types_held trait_goal (E.context ecx.old) env predicate }
+    ensures { Considers E.fixed E.judge E.state E.probes E.context E.stops ecx.old ecx.new (trait_alias_rule (E.context ecx.old) (trait_goal (E.context ecx.old).trees env predicate)) result }
+{
+    let clauses = where_clauses(alloc, ecx, predicate.trait_ref)?;
+    let applies = is_positive(predicate.polarity);
+    let source = CandidateSource::BuiltinImpl(BuiltinImplSource::Misc);
+    let nested = clauses.as_slice();
+    consider_flat(
+        alloc,
+        ecx,
+        env,
+        applies,
+        GoalSource::Misc,
+        nested,
+        source,
+        Certainty::Yes,
+    )
+}

@@ -1,0 +1,108 @@
+//! The rule of the trait that says that nothing is run where a value is dropped.
+
+ghost use Rattle.std.specs.Prelude.{◌≡◌, false};
+ghost use Rattle.candidate_eval.specs.Callable.{is_unknown};
+ghost use Rattle.candidate_assembly.specs.BuiltinRules.{copy_rule, no_drop_needs, no_drop_rule, self_of};
+ghost use Rattle.candidate_assembly.specs.Kinds.{IsGoal};
+ghost use Rattle.candidate_assembly.specs.Telling.{Considers};
+ghost use Rattle.candidate_assembly.specs.TraitGoals.{arguments_held, item_trait, trait_goal, types_held};
+ghost use Rattle.candidate_assembly.specs.TraitRules.{trait_rules};
+ghost use Rattle.candidate_ir.specs.declared.decl.contents.LangItem.TheVariants as L;
+
+use crate::assembly::steps::{consider_flat, consider_plain};
+use crate::trait_goals::builtin::{is_positive, self_head};
+use crate::trait_goals::meeting::{item_has_no_parameters, meets_trait};
+use crate::trait_goals::parts::consider_column;
+use candidate_eval::eval::certainty::Certainty;
+use candidate_eval::eval::clauses::self_ty;
+use candidate_eval::eval::context::EvalCtxt;
+use candidate_eval::eval::refusal::NoSolutionOrStop;
+use candidate_eval::eval::response::Candidate;
+use candidate_eval::eval::source::{BuiltinImplSource, CandidateSource};
+use candidate_eval::structural::Column;
+use candidate_ir::decl::Cx;
+use candidate_ir::decl::contents::LangItem;
+use candidate_ir::decl::make::Make;
+use candidate_ir::ir::heads::{Builtin, Head};
+use candidate_ir::ir::kinds::{GoalSource, ParamEnv, TraitPredicate};
+use std::alloc::Global;
+
+/// What a type needs so that nothing is run where a value of it is dropped.
+#[derive(Clone, Copy)]
+pub(crate) enum NoDrop {
+    Nothing,
+    /// That the elements need.
+    Elements,
+    /// To be `Copy`.
+    Copy,
+}
+
+fn needs(cx: &Cx, head: Head) -> NoDrop
+    ensures { result ≡ no_drop_needs cx.now head }
+{
+    match head {
+        Head::Ref(_) => NoDrop::Nothing,
+        Head::Adt(adt) => if cx.adt_flags(adt).unwrap_or_default().manually_drop {
+            NoDrop::Nothing
+        } else {
+            NoDrop::Copy
+        },
+        Head::Builtin(Builtin::Tuple | Builtin::Array) => NoDrop::Elements,
+        _ => NoDrop::Copy,
+    }
+}
+
+/// The self type is `Copy`.
+fn consider_copy<E: EvalCtxt>(
+    alloc: Global,
+    ecx: &mut E,
+    env: ParamEnv,
+    predicate: TraitPredicate,
+) -> Result<Candidate, NoSolutionOrStop>
+    requires goal { IsGoal trait_rules arguments_held types_held trait_goal (E.context ecx.old) env predicate }
+    ensures { Considers E.fixed E.judge E.state E.probes E.context E.stops ecx.old ecx.new (copy_rule (trait_goal (E.context ecx.old).trees env predicate) (item_trait (E.context ecx.old) L.Copy)) result }
+{
+    item_has_no_parameters(ecx.cx(), LangItem::Copy);
+    let Some(copy) = ecx.cx().lang_item(LangItem::Copy) else {
+        return Err(NoSolutionOrStop::NoSolution);
+    };
+    let ty = self_ty(ecx.cx(), predicate.trait_ref);
+    let clause = meets_trait(ecx, copy, ty)?;
+    let applies = is_positive(predicate.polarity);
+    let source = CandidateSource::BuiltinImpl(BuiltinImplSource::Misc);
+    let nested = GoalSource::ImplWhereBound;
+    consider_flat(
+        alloc,
+        ecx,
+        env,
+        applies,
+        nested,
+        &[clause],
+        source,
+        Certainty::Yes,
+    )
+}
+
+/// The rule for the goal's self type.
+///
+/// The state is left alike the one before. `NoSolution` comes for a negative goal, where `Copy` is needed and not declared, and where the
+/// evaluator refuses; the stops are those of making nodes and lists, and the evaluator's.
+pub(crate) fn consider_no_drop<E: EvalCtxt>(
+    alloc: Global,
+    ecx: &mut E,
+    env: ParamEnv,
+    predicate: TraitPredicate,
+) -> Result<Candidate, NoSolutionOrStop>
+    requires goal { IsGoal trait_rules arguments_held types_held trait_goal (E.context ecx.old) env predicate }
+    ensures { Considers E.fixed E.judge E.state E.probes E.context E.stops ecx.old ecx.new (no_drop_rule (E.context ecx.old) (trait_goal (E.context ecx.old).trees env predicate)) result }
+{
+    let applies = is_positive(predicate.polarity);
+    match needs(ecx.cx(), self_head(ecx.cx(), predicate)) {
+        NoDrop::Nothing => consider_plain(alloc, ecx, env, applies, Certainty::Yes),
+        NoDrop::Elements => {
+            let source = CandidateSource::BuiltinImpl(BuiltinImplSource::Misc);
+            consider_column(alloc, ecx, env, predicate, applies, Column::Auto, source)
+        }
+        NoDrop::Copy => consider_copy(alloc, ecx, env, predicate),
+    }
+}
