@@ -1,9 +1,10 @@
 //! Rows that ask the rules by which goals of traits are proved.
 
-ghost use Rattle.std.specs.Prelude.{◌≡◌, IsTrue, IfOk};
+ghost use Rattle.std.specs.Prelude.{◌≡◌, IsTrue, IfOk, false};
 ghost use Rattle.candidate_ir.specs.declared.ir.kinds.ParamEnv.{ParamEnv as ParamEnvNumber};
 ghost use Rattle.candidate_ir.specs.References.{ArgumentsFit};
-ghost use Rattle.candidate_ir.specs.Words.{IsArgs};
+ghost use Rattle.candidate_ir.specs.Trees.{is_param, tree_holds};
+ghost use Rattle.candidate_ir.specs.Words.{IsArgs, IsClause, clause_tree};
 ghost use Rattle.candidate_assembly.specs.Kinds.{IsGoal, IsTyped};
 ghost use Rattle.candidate_assembly.specs.TraitGoals.{arguments_held, trait_goal, types_held};
 ghost use Rattle.candidate_assembly.specs.TraitRules.{trait_rules};
@@ -19,6 +20,7 @@ use crate::tables::{UNNAMED, value_of, word_for};
 use crate::typed::{clause_at, env_at, ty_at};
 use candidate_assembly::assembly::characterize::characterize_param_env_assumption;
 use candidate_assembly::assembly::kind::GoalKind;
+use candidate_assembly::assembly::matching::probe_and_consider_implied_clause;
 use candidate_assembly::assembly::steps::forced_ambiguity;
 use candidate_assembly::trait_goals::impls::consider_impl_and_respond;
 use candidate_eval::eval::certainty::Certainty;
@@ -31,7 +33,7 @@ use candidate_ir::decl::contents::{AliasBoundKind, ImplId, Sizedness};
 use candidate_ir::decl::context::Cx;
 use candidate_ir::decl::make::Make;
 use candidate_ir::ir::heads::Flag;
-use candidate_ir::ir::kinds::{ClosureKind, ParamEnv, PredicatePolarity, TraitPredicate};
+use candidate_ir::ir::kinds::{Clause, ClosureKind, GoalSource, ParamEnv, PredicatePolarity, TraitPredicate};
 use candidate_ir::ir::trees::Trees;
 use candidate_rounds::rounds::Rounds;
 use std::alloc::Global;
@@ -190,15 +192,23 @@ fn by_rule(
     }
 }
 
+/// The clause of that number, in which no parameter may stand.
+fn plain_clause_at(cx: &Cx, number: u32) -> Result<Clause, Refusal>
+    ensures { IfOk result (λ c. IsClause cx.now.trees c × (tree_holds is_param (clause_tree cx.now.trees c) ≡ false)) }
+{
+    let clause = clause_at(cx, number)?;
+    if cx.has(clause, Flag::Param) {
+        return Err(Refusal::Condition);
+    }
+    Ok(clause)
+}
+
 /// The candidate by a clause of the environment.
 fn by_clause(alloc: Global, rounds: &mut Rounds, of: Operands) -> Result<Answer, Refusal>
     ensures { probes rounds.new ≡ probes rounds.old }
 {
     let (env, predicate) = goal_at(rounds.cx(), of.left, of.right)?;
-    let clause = clause_at(rounds.cx(), of.third)?;
-    if rounds.cx().has(clause, Flag::Param) {
-        return Err(Refusal::Condition);
-    }
+    let clause = plain_clause_at(rounds.cx(), of.third)?;
     let outcome = TraitPredicate::probe_and_consider_param_env_candidate(
         alloc, rounds, env, predicate, clause,
     )?;
@@ -208,22 +218,52 @@ fn by_clause(alloc: Global, rounds: &mut Rounds, of: Operands) -> Result<Answer,
     }
 }
 
+/// The candidate by a clause that implies the goal where another one holds, if the row names one.
+fn by_implied_clause(
+    alloc: Global,
+    rounds: &mut Rounds,
+    row: Row<'_>,
+    of: Operands,
+    required: u32,
+) -> Result<Answer, Refusal>
+    ensures { probes rounds.new ≡ probes rounds.old }
+{
+    let (env, predicate) = goal_at(rounds.cx(), of.left, of.right)?;
+    let clause = plain_clause_at(rounds.cx(), of.third)?;
+    let source = CandidateSource::BuiltinImpl(BuiltinImplSource::Misc);
+    if row.second.is_empty() {
+        let candidate = probe_and_consider_implied_clause(
+            alloc, rounds, source, env, predicate, clause, &[],
+        )?;
+        return found(alloc, &candidate);
+    }
+    let required = plain_clause_at(rounds.cx(), required)?;
+    let requirements = [(GoalSource::Misc, required)];
+    let candidate = probe_and_consider_implied_clause(
+        alloc, rounds, source, env, predicate, clause, &requirements,
+    )?;
+    found(alloc, &candidate)
+}
+
 /// The candidate of the rule, or of the impl, that the row names.
 fn consider(
     alloc: Global,
     rounds: &mut Rounds,
     row: Row<'_>,
     of: Operands,
-    named: ImplId,
+    named: u32,
 ) -> Result<Answer, Refusal>
     ensures { probes rounds.new ≡ probes rounds.old }
 {
     if row.first == "where" {
         return by_clause(alloc, rounds, of);
     }
+    if row.first == "implied" {
+        return by_implied_clause(alloc, rounds, row, of, named);
+    }
     let (env, predicate) = goal_at(rounds.cx(), of.left, of.right)?;
     if row.first == "impl" {
-        let candidate = consider_impl_and_respond(alloc, rounds, env, predicate, named)?;
+        let candidate = consider_impl_and_respond(alloc, rounds, env, predicate, ImplId(named))?;
         return found(alloc, &candidate);
     }
     let rule = value_of(&RULES, row.first).ok_or(Refusal::Condition)?;
@@ -298,7 +338,7 @@ pub(crate) fn answer(
     let alloc = reader.alloc;
     match row.verb {
         "consider" => {
-            let named = ImplId(reader.number(row.second));
+            let named = reader.number(row.second);
             consider(alloc, rounds, row, of, named)
         }
         "forced" => forced(alloc, rounds, row, of),
