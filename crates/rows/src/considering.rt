@@ -33,7 +33,7 @@ use candidate_ir::decl::contents::{AliasBoundKind, ImplId, Sizedness};
 use candidate_ir::decl::context::Cx;
 use candidate_ir::decl::make::Make;
 use candidate_ir::ir::heads::Flag;
-use candidate_ir::ir::kinds::{Clause, ClosureKind, GoalSource, ParamEnv, PredicatePolarity, TraitPredicate};
+use candidate_ir::ir::kinds::{Clause, ClosureKind, GoalSource, ParamEnv, TraitPredicate};
 use candidate_ir::ir::trees::Trees;
 use candidate_rounds::rounds::Rounds;
 use std::alloc::Global;
