@@ -8,13 +8,13 @@ use crate::eval::Operands;
 use crate::ir::bugs;
 use crate::lookups::listed;
 use crate::merging::{certainty, responded, sure};
-use crate::objects;
 use crate::parts::{NodeSort, Part, Table, make_in, sort_at};
 use crate::reader::{Reader, kinds};
 use crate::refusals::Refusal;
 use crate::rows::Row;
 use crate::tables::{UNNAMED, value_of, word_for};
 use crate::typed::{arg_at, args_at, clause_at, env_at, ty_at};
+use crate::{considering, objects};
 use candidate_eval::eval::InferCtxtLike;
 use candidate_eval::eval::ambiguity::{bail_with_ambiguity, flounder};
 use candidate_eval::eval::certainty::Certainty;
@@ -264,6 +264,9 @@ pub(crate) fn answer(
         "eq" | "eq_args" | "eq_goals" => equate(alloc, rounds, row, of),
         "equal" => equal(alloc, rounds, of.left, of.right),
         "goal" | "goals" => add(rounds, row, of),
+        "consider" | "forced" | "characterize" | "about" | "passes" => {
+            considering::answer(reader, rounds, row, of)
+        }
         _ => objects::answer(reader, rounds, row, of),
     }
 }

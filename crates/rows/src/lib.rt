@@ -5,6 +5,7 @@
 
 pub(crate) mod answers;
 pub(crate) mod checks;
+pub(crate) mod considering;
 pub(crate) mod declaring;
 pub(crate) mod eval;
 pub(crate) mod evaluating;

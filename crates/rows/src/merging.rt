@@ -84,10 +84,12 @@ pub(crate) fn both(alloc: Global, row: Row<'_>) -> Result<Answer, Refusal> {
     }
 }
 
-/// How sure the response is, the list of its values, the kinds and universes of the variables that it leaves open, and its regions.
-pub(crate) fn responded(alloc: Global, response: &CanonicalResponse) -> Result<Answer, Refusal> {
-    let mut items = Vec::new(alloc);
-    push_certainty(&mut items, response.certainty)?;
+/// Adds how sure the response is, the list of its values, the kinds and universes of the variables that it leaves open, and its regions.
+pub(crate) fn push_response(
+    items: &mut Vec<Item>,
+    response: &CanonicalResponse,
+) -> Result<(), AllocError> {
+    push_certainty(items, response.certainty)?;
     items.push(Item::Node(response.values.0))?;
     for var in &response.vars {
         let kind = word_for(&VARIABLES, var.kind).unwrap_or(UNNAMED);
@@ -97,6 +99,13 @@ pub(crate) fn responded(alloc: Global, response: &CanonicalResponse) -> Result<A
     for region in &response.regions {
         items.push(Item::Node(region.0))?;
     }
+    Ok(())
+}
+
+/// The same as an answer.
+pub(crate) fn responded(alloc: Global, response: &CanonicalResponse) -> Result<Answer, Refusal> {
+    let mut items = Vec::new(alloc);
+    push_response(&mut items, response)?;
     Ok(Answer::Row(items))
 }
 

@@ -32,6 +32,12 @@ impl<'a> Row<'a> {
         }
     }
 
+    /// The words behind the verb.
+    pub(crate) fn behind_verb(self) -> &'a str {
+        let (_, words) = self.words.split_once(' ').unwrap_or((self.words, ""));
+        words
+    }
+
     /// Whether the word is among those of the row.
     pub(crate) fn has(self, word: &str) -> bool {
         for each in self.words.split_whitespace() {

@@ -1,0 +1,349 @@
+//! Rows that ask the rules by which goals of traits are proved.
+
+ghost use Rattle.std.specs.Prelude.{◌≡◌, IsTrue, IfOk, false};
+ghost use Rattle.candidate_ir.specs.declared.ir.kinds.ParamEnv.{ParamEnv as ParamEnvNumber};
+ghost use Rattle.candidate_ir.specs.References.{ArgumentsFit};
+ghost use Rattle.candidate_ir.specs.Trees.{is_param, tree_holds};
+ghost use Rattle.candidate_ir.specs.Words.{IsArgs, IsClause, clause_tree};
+ghost use Rattle.candidate_assembly.specs.Kinds.{IsGoal, IsTyped};
+ghost use Rattle.candidate_assembly.specs.TraitGoals.{arguments_held, trait_goal, types_held};
+ghost use Rattle.candidate_assembly.specs.TraitRules.{trait_rules};
+ghost use Rattle.candidate_rounds.specs.Known.{probes};
+
+use crate::answers::{Answer, Item};
+use crate::eval::Operands;
+use crate::merging::{certainty, push_certainty, push_response};
+use crate::reader::Reader;
+use crate::refusals::Refusal;
+use crate::rows::Row;
+use crate::tables::{UNNAMED, value_of, word_for};
+use crate::typed::{clause_at, env_at, ty_at};
+use candidate_assembly::assembly::characterize::characterize_param_env_assumption;
+use candidate_assembly::assembly::kind::GoalKind;
+use candidate_assembly::assembly::matching::probe_and_consider_implied_clause;
+use candidate_assembly::assembly::steps::forced_ambiguity;
+use candidate_assembly::trait_goals::impls::consider_impl_and_respond;
+use candidate_eval::eval::certainty::Certainty;
+use candidate_eval::eval::clauses::{predicate_in, self_ty};
+use candidate_eval::eval::refusal::NoSolutionOrStop;
+use candidate_eval::eval::response::Candidate;
+use candidate_eval::eval::source::{BuiltinImplSource, CandidateSource, ParamEnvSource};
+use candidate_eval::structural::callable::has_callable_cell;
+use candidate_ir::decl::contents::{AliasBoundKind, ImplId, Sizedness};
+use candidate_ir::decl::context::Cx;
+use candidate_ir::decl::make::Make;
+use candidate_ir::ir::heads::Flag;
+use candidate_ir::ir::kinds::{Clause, ClosureKind, GoalSource, ParamEnv, TraitPredicate};
+use candidate_ir::ir::trees::Trees;
+use candidate_rounds::rounds::Rounds;
+use std::alloc::Global;
+
+/// A rule that the language has for some traits.
+#[derive(Clone, Copy)]
+enum Rule {
+    Error,
+    AutoTrait,
+    TraitAlias,
+    Sizedness(Sizedness),
+    CopyClone,
+    FnPtr,
+    Fn(ClosureKind),
+    Tuple,
+    Pointee,
+    DiscriminantKind,
+    Destruct,
+    NoDrop,
+}
+
+/// The words of rules.
+const RULES: [(&str, Rule); 15] = [
+    ("error", Rule::Error),
+    ("auto", Rule::AutoTrait),
+    ("alias", Rule::TraitAlias),
+    ("sized", Rule::Sizedness(Sizedness::Sized)),
+    ("meta_sized", Rule::Sizedness(Sizedness::MetaSized)),
+    ("copy", Rule::CopyClone),
+    ("fn_ptr", Rule::FnPtr),
+    ("fn", Rule::Fn(ClosureKind::Fn)),
+    ("fn_mut", Rule::Fn(ClosureKind::FnMut)),
+    ("fn_once", Rule::Fn(ClosureKind::FnOnce)),
+    ("tuple", Rule::Tuple),
+    ("pointee", Rule::Pointee),
+    ("discriminant", Rule::DiscriminantKind),
+    ("destruct", Rule::Destruct),
+    ("no_drop", Rule::NoDrop),
+];
+
+/// The words of sources that are no impl and no bound's or supertrait's number.
+const SOURCES: [(&str, CandidateSource); 7] = [
+    (
+        "trivial",
+        CandidateSource::BuiltinImpl(BuiltinImplSource::Trivial),
+    ),
+    (
+        "misc",
+        CandidateSource::BuiltinImpl(BuiltinImplSource::Misc),
+    ),
+    ("global", CandidateSource::ParamEnv(ParamEnvSource::Global)),
+    (
+        "non_global",
+        CandidateSource::ParamEnv(ParamEnvSource::NonGlobal),
+    ),
+    (
+        "self_bound",
+        CandidateSource::AliasBound(AliasBoundKind::SelfBounds),
+    ),
+    (
+        "other_bound",
+        CandidateSource::AliasBound(AliasBoundKind::NonSelfBounds),
+    ),
+    ("unknowable", CandidateSource::CoherenceUnknowable),
+];
+
+/// What is printed for a source: an impl's name, or a word.
+fn source_item(source: CandidateSource) -> Item {
+    match source {
+        CandidateSource::Impl(id) => Item::Impl(id),
+        source => Item::Word(word_for(&SOURCES, source).unwrap_or(UNNAMED)),
+    }
+}
+
+/// The source of the candidate, and its response.
+fn found(alloc: Global, candidate: &Candidate) -> Result<Answer, Refusal> {
+    let mut items = Vec::new(alloc);
+    items.push(source_item(candidate.source))?;
+    push_response(&mut items, &candidate.result)?;
+    Ok(Answer::Row(items))
+}
+
+/// The goal that the clause says, in the environment. `Refusal::Condition` comes where it says nothing of a trait, and where a parameter
+/// or an escaping bound variable stands in what it says.
+fn goal_at(cx: &Cx, env: u32, clause: u32) -> Result<(ParamEnv, TraitPredicate), Refusal>
+    ensures { IfOk result (λ g. IsGoal trait_rules arguments_held types_held trait_goal cx.now g.0 g.1) }
+{
+    let env = env_at(cx, env)?;
+    let clause = clause_at(cx, clause)?;
+    let predicate = predicate_in(cx, clause).ok_or(Refusal::Condition)?;
+    let trait_ref = predicate.trait_ref;
+    if cx.has_param(trait_ref) || cx.has_escaping_bound_vars(trait_ref.args) {
+        return Err(Refusal::Condition);
+    }
+    Ok((env, predicate))
+}
+
+/// Whether the goal's self type is neither a general variable nor a bound type.
+fn is_typed(cx: &Cx, predicate: TraitPredicate) -> bool
+    requires args { IsArgs cx.now.trees predicate.trait_ref.args }
+    requires fit { ArgumentsFit cx.now predicate.trait_ref }
+    ensures { (env : ParamEnvNumber) → IsTrue result → IsTyped trait_rules cx.now (trait_goal cx.now.trees env predicate) }
+{
+    has_callable_cell(cx, self_ty(cx, predicate.trait_ref))
+}
+
+/// The candidate of the rule.
+fn by_rule(
+    alloc: Global,
+    rounds: &mut Rounds,
+    rule: Rule,
+    env: ParamEnv,
+    predicate: TraitPredicate,
+) -> Result<Candidate, NoSolutionOrStop>
+    requires goal { IsGoal trait_rules arguments_held types_held trait_goal rounds.old.context env predicate }
+    requires typed { IsTyped trait_rules rounds.old.context (trait_goal rounds.old.context.trees env predicate) }
+    ensures { probes rounds.new ≡ probes rounds.old }
+{
+    match rule {
+        Rule::Error => {
+            TraitPredicate::consider_error_guaranteed_candidate(alloc, rounds, env, predicate)
+        }
+        Rule::AutoTrait => {
+            TraitPredicate::consider_auto_trait_candidate(alloc, rounds, env, predicate)
+        }
+        Rule::TraitAlias => {
+            TraitPredicate::consider_trait_alias_candidate(alloc, rounds, env, predicate)
+        }
+        Rule::Sizedness(sizedness) => TraitPredicate::consider_builtin_sizedness_candidates(
+            alloc, rounds, env, predicate, sizedness,
+        ),
+        Rule::CopyClone => {
+            TraitPredicate::consider_builtin_copy_clone_candidate(alloc, rounds, env, predicate)
+        }
+        Rule::FnPtr => {
+            TraitPredicate::consider_builtin_fn_ptr_trait_candidate(alloc, rounds, env, predicate)
+        }
+        Rule::Fn(called) => TraitPredicate::consider_builtin_fn_trait_candidates(
+            alloc, rounds, env, predicate, called,
+        ),
+        Rule::Tuple => {
+            TraitPredicate::consider_builtin_tuple_candidate(alloc, rounds, env, predicate)
+        }
+        Rule::Pointee => {
+            TraitPredicate::consider_builtin_pointee_candidate(alloc, rounds, env, predicate)
+        }
+        Rule::DiscriminantKind => TraitPredicate::consider_builtin_discriminant_kind_candidate(
+            alloc, rounds, env, predicate,
+        ),
+        Rule::Destruct => {
+            TraitPredicate::consider_builtin_destruct_candidate(alloc, rounds, env, predicate)
+        }
+        Rule::NoDrop => TraitPredicate::consider_builtin_bikeshed_guaranteed_no_drop_candidate(
+            alloc, rounds, env, predicate,
+        ),
+    }
+}
+
+/// The clause of that number, in which no parameter may stand.
+fn plain_clause_at(cx: &Cx, number: u32) -> Result<Clause, Refusal>
+    ensures { IfOk result (λ c. IsClause cx.now.trees c × (tree_holds is_param (clause_tree cx.now.trees c) ≡ false)) }
+{
+    let clause = clause_at(cx, number)?;
+    if cx.has(clause, Flag::Param) {
+        return Err(Refusal::Condition);
+    }
+    Ok(clause)
+}
+
+/// The candidate by a clause of the environment.
+fn by_clause(alloc: Global, rounds: &mut Rounds, of: Operands) -> Result<Answer, Refusal>
+    ensures { probes rounds.new ≡ probes rounds.old }
+{
+    let (env, predicate) = goal_at(rounds.cx(), of.left, of.right)?;
+    let clause = plain_clause_at(rounds.cx(), of.third)?;
+    let outcome = TraitPredicate::probe_and_consider_param_env_candidate(
+        alloc, rounds, env, predicate, clause,
+    )?;
+    match outcome {
+        Ok(candidate) => found(alloc, &candidate),
+        Err(_) => Err(Refusal::NoSolution),
+    }
+}
+
+/// The candidate by a clause that implies the goal where another one holds, if the row names one.
+fn by_implied_clause(
+    alloc: Global,
+    rounds: &mut Rounds,
+    row: Row<'_>,
+    of: Operands,
+    required: u32,
+) -> Result<Answer, Refusal>
+    ensures { probes rounds.new ≡ probes rounds.old }
+{
+    let (env, predicate) = goal_at(rounds.cx(), of.left, of.right)?;
+    let clause = plain_clause_at(rounds.cx(), of.third)?;
+    let source = CandidateSource::BuiltinImpl(BuiltinImplSource::Misc);
+    if row.second.is_empty() {
+        let candidate = probe_and_consider_implied_clause(
+            alloc, rounds, source, env, predicate, clause, &[],
+        )?;
+        return found(alloc, &candidate);
+    }
+    let required = plain_clause_at(rounds.cx(), required)?;
+    let requirements = [(GoalSource::Misc, required)];
+    let candidate = probe_and_consider_implied_clause(
+        alloc, rounds, source, env, predicate, clause, &requirements,
+    )?;
+    found(alloc, &candidate)
+}
+
+/// The candidate of the rule, or of the impl, that the row names.
+fn consider(
+    alloc: Global,
+    rounds: &mut Rounds,
+    row: Row<'_>,
+    of: Operands,
+    named: u32,
+) -> Result<Answer, Refusal>
+    ensures { probes rounds.new ≡ probes rounds.old }
+{
+    if row.first == "where" {
+        return by_clause(alloc, rounds, of);
+    }
+    if row.first == "implied" {
+        return by_implied_clause(alloc, rounds, row, of, named);
+    }
+    let (env, predicate) = goal_at(rounds.cx(), of.left, of.right)?;
+    if row.first == "impl" {
+        let candidate = consider_impl_and_respond(alloc, rounds, env, predicate, ImplId(named))?;
+        return found(alloc, &candidate);
+    }
+    let rule = value_of(&RULES, row.first).ok_or(Refusal::Condition)?;
+    if !is_typed(rounds.cx(), predicate) {
+        return Err(Refusal::Condition);
+    }
+    let candidate = by_rule(alloc, rounds, rule, env, predicate)?;
+    found(alloc, &candidate)
+}
+
+/// The candidate that is as sure as the row says, whatever the goal.
+fn forced(alloc: Global, rounds: &mut Rounds, row: Row<'_>, of: Operands) -> Result<Answer, Refusal>
+    ensures { probes rounds.new ≡ probes rounds.old }
+{
+    let env = env_at(rounds.cx(), of.left)?;
+    let Some(Certainty::Maybe(maybe)) = certainty(row.behind_verb()) else {
+        return Err(Refusal::Condition);
+    };
+    let candidate = forced_ambiguity(alloc, rounds, env, maybe)?;
+    found(alloc, &candidate)
+}
+
+/// Whether the clause is global, and how sure its candidate is at most.
+fn characterized(alloc: Global, rounds: &mut Rounds, of: Operands) -> Result<Answer, Refusal>
+    ensures { probes rounds.new ≡ probes rounds.old }
+{
+    let env = env_at(rounds.cx(), of.left)?;
+    let clause = clause_at(rounds.cx(), of.right)?;
+    let (source, certainty) = characterize_param_env_assumption(alloc, rounds, env, clause)?;
+    let mut items = Vec::new(alloc);
+    items.push(source_item(CandidateSource::ParamEnv(source)))?;
+    push_certainty(&mut items, certainty)?;
+    Ok(Answer::Row(items))
+}
+
+/// What the goal is about, or the goal with another self type.
+fn about(alloc: Global, rounds: &mut Rounds, row: Row<'_>, of: Operands) -> Result<Answer, Refusal>
+    ensures { probes rounds.new ≡ probes rounds.old }
+{
+    let (env, predicate) = goal_at(rounds.cx(), of.left, of.right)?;
+    let cx = rounds.cx();
+    let item = match row.first {
+        "type" => Item::Node(GoalKind::<Rounds>::self_ty(cx, env, predicate).0),
+        "reference" => Item::Reference(GoalKind::<Rounds>::trait_ref(cx, env, predicate)),
+        "trait" => Item::Definition(GoalKind::<Rounds>::trait_def_id(cx, env, predicate).0),
+        _ => {
+            let self_ty = ty_at(rounds.cx(), of.third)?;
+            let other = GoalKind::with_replaced_self_ty(alloc, rounds, env, predicate, self_ty)?;
+            Item::Reference(other.trait_ref)
+        }
+    };
+    Ok(Answer::One(item))
+}
+
+/// Whether the clause passes the goal's quick rejection.
+fn passes(rounds: &Rounds, of: Operands) -> Result<Answer, Refusal> {
+    let (env, predicate) = goal_at(rounds.cx(), of.left, of.right)?;
+    let clause = clause_at(rounds.cx(), of.third)?;
+    let answer = GoalKind::<Rounds>::fast_reject_assumption(rounds.cx(), env, predicate, clause);
+    Ok(Answer::One(Item::Truth(answer.is_ok())))
+}
+
+/// What the row asks, if it is one of these rows.
+pub(crate) fn answer(
+    reader: &Reader<'_>,
+    rounds: &mut Rounds,
+    row: Row<'_>,
+    of: Operands,
+) -> Result<Answer, Refusal>
+    ensures { probes rounds.new ≡ probes rounds.old }
+{
+    let alloc = reader.alloc;
+    match row.verb {
+        "consider" => {
+            let named = reader.number(row.second);
+            consider(alloc, rounds, row, of, named)
+        }
+        "forced" => forced(alloc, rounds, row, of),
+        "characterize" => characterized(alloc, rounds, of),
+        "about" => about(alloc, rounds, row, of),
+        _ => passes(rounds, of),
+    }
+}
