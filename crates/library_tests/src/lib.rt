@@ -1,5 +1,5 @@
 //! Tests of clients of the libraries, whose own clauses are the point, and of what stops and faults print. What the libraries' calls
-//! answer is in the rows of the crates `rows_ir`, `rows_eval`, `rows_rounds` and `rows_rules`.
+//! answer is in the rows of the crates `rows_ir`, `rows_eval` and `rows_rounds`.
 #![tactic(auto)]
 
 #[cfg(test)]
