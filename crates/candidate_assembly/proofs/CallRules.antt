@@ -28,8 +28,8 @@ callable-kept old new b g h =
     let with : Forest → Tree → Tree → Callable = λ v i o. record { variables = v; inputs = i; output = o } in (
       record { vars = vars.0; inputs = inputs.0; output = output.0 },
       ap (λ (v : Tree). with v.children (ty_tree new.trees b.value.0) (ty_tree new.trees b.value.1)) vars.1
-      ∙ (ap (λ t. with (vars_tree old.trees b.vars).children t (ty_tree new.trees b.value.1)) inputs.1
-      ∙ ap (with (vars_tree old.trees b.vars).children (ty_tree old.trees b.value.0)) output.1),
+          ∙ (ap (λ t. with (vars_tree old.trees b.vars).children t (ty_tree new.trees b.value.1)) inputs.1
+          ∙ ap (with (vars_tree old.trees b.vars).children (ty_tree old.trees b.value.0)) output.1),
     )
 
 -- Where the rule refuses.

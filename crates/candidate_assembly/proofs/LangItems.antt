@@ -75,7 +75,7 @@ item-parameters c t item a = of (item_trait c item) refl
     of None e = tt
     of (Some i) e =
         let is_trait = none-there (item_misnames c.declarations) c.contents.lang_items (item_number item) i
-            (or-right (list_any (impl_misnames c.crates c.declarations _) c.contents.impls) (list_any (item_misnames c.declarations) c.contents.lang_items) t.impls) e in
+        (or-right (list_any (impl_misnames c.crates c.declarations _) c.contents.impls) (list_any (item_misnames c.declarations) c.contents.lang_items) t.impls) e in
         let arity : item_has_wrong_arity c.declarations c.contents.lang_items item ≡ false = none-at (item_has_wrong_arity c.declarations c.contents.lang_items) all_items (item_number item) item t.items (item-at item) in
         let takes : lacks_item_parameters item (slice_get c.declarations i.0) ≡ false = ap (trait_lacks_item_parameters item c.declarations) (sym e) ∙ arity in
         ap (parameters_of TraitSort) (slice_get-map definition_of c.declarations i.0) ∙ of-declared item (slice_get c.declarations i.0) a is_trait takes

@@ -29,11 +29,7 @@ pub(crate) fn item_has_no_parameters(cx: &Cx, item: LangItem)
 
 /// That a trait without parameters holds of the type, as a clause under an empty binder. `Stop::Memory` comes where a growth was refused,
 /// `Stop::NodesFull` where a node was not made.
-pub(crate) fn meets_trait<M: Make>(
-    make: &mut M,
-    trait_id: TraitId,
-    ty: Ty,
-) -> Result<Clause, Stop>
+pub(crate) fn meets_trait<M: Make>(make: &mut M, trait_id: TraitId, ty: Ty) -> Result<Clause, Stop>
     requires ty { IsTy (M.context make.old).trees ty }
     requires no_parameters { parameters (world (M.context make.old)) TraitSort trait_id.0 ≡ Some [] }
     ensures grows { Grows (M.context make.old) (M.context make.new) }

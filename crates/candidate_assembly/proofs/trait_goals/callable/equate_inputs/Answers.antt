@@ -58,7 +58,7 @@ returns-then-not-args_may_unify-clause-refused g c = λ same.
     let list = row-made old mid c.self_ty-ty.result c.args.inputs c.in_ok-called.called (first_tree a) self.1 c.requires.inputs self.0 c.in_ok-called.ensures.made.tree in
     let test : may_unify Plain a x ≡ false
     = row-test old mid c.args.trait_ref.args c.in_ok-called.called x c.mk_args.ensures.made.kept c.requires.args list c.args_may_unify.result false c.if-not-args_may_unify.true
-      (rw c.cx-2.ensures at c.args_may_unify.ensures.is) in
+    (rw c.cx-2.ensures at c.args_may_unify.ensures.is) in
     quickly-rejected (E.judge (E.fixed c.args.ecx.now)) (E.state c.args.ecx.now) (env_forest old.trees c.args.env) a x test
 
 pub returns-clause-ok : goal.returns-clause-ok
@@ -77,7 +77,7 @@ returns-clause-ok g c =
     let list = row-made old mid c.self_ty-ty.result c.args.inputs c.in_ok-called.called (first_tree a) self.1 c.requires.inputs self.0 c.in_ok-called.ensures.made.tree in
     let test : may_unify Plain a x ≡ true
     = row-test old mid c.args.trait_ref.args c.in_ok-called.called x c.mk_args.ensures.made.kept c.requires.args list c.args_may_unify.result true c.if-not-args_may_unify.false
-      (rw c.cx-2.ensures at c.args_may_unify.ensures.is) in
+    (rw c.cx-2.ensures at c.args_may_unify.ensures.is) in
     let kept = c.mk_args.ensures.made.kept in
     let ok : IfOk c.eq_args.result (λ _. accepted J S e a x ≡ Some (E.state c.eq_args.new.self))
     = rw (r.0, r.1, (env-kept old mid c.args.env kept c.requires.env).1, (args-kept old mid c.args.trait_ref.args kept c.requires.args).1, list) at c.eq_args.ensures.ok in
@@ -99,7 +99,7 @@ returns-clause-refused g c =
     let list = row-made old mid c.self_ty-ty.result c.args.inputs c.in_ok-called.called (first_tree a) self.1 c.requires.inputs self.0 c.in_ok-called.ensures.made.tree in
     let test : may_unify Plain a x ≡ true
     = row-test old mid c.args.trait_ref.args c.in_ok-called.called x c.mk_args.ensures.made.kept c.requires.args list c.args_may_unify.result true c.if-not-args_may_unify.false
-      (rw c.cx-2.ensures at c.args_may_unify.ensures.is) in
+    (rw c.cx-2.ensures at c.args_may_unify.ensures.is) in
     let kept = c.mk_args.ensures.made.kept in
     let refused : IfErr c.eq_args.result (λ y. y ≡ NoSolution → accepted J S e a x ≡ None)
     = rw (r.0, r.1, (env-kept old mid c.args.env kept c.requires.env).1, (args-kept old mid c.args.trait_ref.args kept c.requires.args).1, list) at c.eq_args.ensures.refused in

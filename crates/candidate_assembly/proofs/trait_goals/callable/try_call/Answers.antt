@@ -55,8 +55,13 @@ returns-in_err-equate_inputs-clause-told g c =
     let r = c.from_residual-in_err-equate_inputs.result in
     told-error (g.E.Build.context c.equate_inputs.new.ecx).trees r e (judged J S (call_rule now (CalledWith callable) (Some c.args.sized))) (answered-error r e (err_from_is_err_and r c.from_residual-in_err-equate_inputs.ensures.1))
     (λ n. call-refused J S now callable c.args.sized c.requires.goal.no_parameter c.requires.inputs c.requires.output c.requires.positive
-    (rw (kept.fixed_same, c.in_ok-inputs.ensures.state, (env-kept old mid c.args.env kept.grows c.requires.goal.env).1, (args-kept old mid c.args.predicate.trait_ref.args kept.grows c.requires.goal.arguments).1,
-        c.in_ok-inputs.ensures.inputs.1) at c.in_err-equate_inputs.ensures.refused n))
+    (rw (
+      kept.fixed_same,
+      c.in_ok-inputs.ensures.state,
+      (env-kept old mid c.args.env kept.grows c.requires.goal.env).1,
+      (args-kept old mid c.args.predicate.trait_ref.args kept.grows c.requires.goal.arguments).1,
+      c.in_ok-inputs.ensures.inputs.1,
+    ) at c.in_err-equate_inputs.ensures.refused n))
     (somehow-is-own E.fixed g.E.Build.context E.state E.stops c.open_callable.new.ecx g.met.E.EvalCtxt.stops_itself e c.in_err-equate_inputs.ensures.cause)
 
 pub returns-in_err-equate_inputs-clause-cause : goal.returns-in_err-equate_inputs-clause-cause
@@ -98,8 +103,13 @@ returns-clause-told g c =
     let both = then kept c.equate_inputs.ensures.kept in
     let now = trait_goal old.trees c.args.env c.args.predicate in
     let callable = callable_of old.trees c.args.callable in
-    let matched = rw (kept.fixed_same, c.in_ok-inputs.ensures.state, (env-kept old mid c.args.env kept.grows c.requires.goal.env).1, (args-kept old mid c.args.predicate.trait_ref.args kept.grows c.requires.goal.arguments).1,
-        c.in_ok-inputs.ensures.inputs.1) at c.in_ok-equate_inputs.ensures.ok in
+    let matched = rw (
+      kept.fixed_same,
+      c.in_ok-inputs.ensures.state,
+      (env-kept old mid c.args.env kept.grows c.requires.goal.env).1,
+      (args-kept old mid c.args.predicate.trait_ref.args kept.grows c.requires.goal.arguments).1,
+      c.in_ok-inputs.ensures.inputs.1,
+    ) at c.in_ok-equate_inputs.ensures.ok in
     let is = call-judged J S now callable c.args.sized c.requires.goal.no_parameter c.requires.inputs c.requires.output U c.requires.positive matched in
     let output = (ty-kept mid last c.in_ok-inputs.output c.equate_inputs.ensures.kept.grows c.in_ok-inputs.ensures.output.0).1 ∙ c.in_ok-inputs.ensures.output.1 in
     rw is (rw (both.fixed_same, (env-kept old last c.args.env both.grows c.requires.goal.env).1, output) at c.respond_if_sized.ensures.told)

@@ -30,7 +30,7 @@ returns-clause-tree g c =
     let mid = g.M.Build.context c.mk_vars.new.self in
     let there = args-kept _ mid c.in_ok-args.args c.mk_vars.ensures.made.kept c.in_ok-args.ensures.made.sort in
     let is = made-to-meet mid c.in_ok-vars.vars p (ty_tree old.trees c.args.ty) c.in_ok-vars.ensures.made.tree c.in_ok-vars.ensures.made.sort there.0 refl
-        (there.1 ∙ (c.in_ok-args.ensures.made.tree ∙ one-type old.trees c.args.ty c.requires.ty)) in
+    (there.1 ∙ (c.in_ok-args.ensures.made.tree ∙ one-type old.trees c.args.ty c.requires.ty)) in
     so-ok c.mk_clause.result (λ x made. made ∙ is) c.mk_clause.ensures.made.tree
 
 pub returns-in_err-vars-clause-grows : goal.returns-in_err-vars-clause-grows
