@@ -17,7 +17,7 @@ use Rattle.candidate_ir.specs.Substitutions.{alone}
 use Rattle.candidate_ir.specs.Trees.{Kind, TypeKind, Forest, none, tree, Tree, holds, is_param, tree_holds}
 use Rattle.candidate_ir.specs.Unify.{may_unify}
 use Rattle.candidate_ir.specs.Words.{IsArgs, IsTy, args_forest, list_forest, ty_tree}
-use Rattle.candidate_ir.proofs.Kept.{args-kept}
+use Rattle.candidate_ir.proofs.Kept.{args-kept, ty-kept}
 use Rattle.candidate_ir.proofs.Folding.{substituted-nothing}
 use Rattle.candidate_ir.proofs.Rows.{row-single}
 use Rattle.candidate_eval.specs.declared.eval.certainty.Certainty.TheVariants.{Yes}
@@ -45,6 +45,14 @@ use Rattle.candidate_assembly.proofs.Stepping.{comes-refused, comes-so-far, equa
 
 pub two-types : (ts : List Tree) (t u : Ty) → IsTy ts t → IsTy ts u → list_forest ts (G.Ty t ∷ (G.Ty u ∷ [])) ≡ pair_of (ty_tree ts t) (ty_tree ts u)
 two-types ts t u k l = row-single ts t.0 TypeKind (list_forest ts (G.Ty u ∷ [])) refl refl k ∙ ap (tree (ty_tree ts t).head (ty_tree ts t).children) (one-type ts u l)
+
+-- What stood under a binder and was opened later is what it was before, opened.
+pub opened-since : (old mid made : Context) (t r : Ty) (values : Args) (trees : Forest) → Grows old mid → IsTy old.trees t → args_forest mid.trees values ≡ trees
+    → ty_tree made.trees r ≡ opened_tree (args_forest mid.trees values) (ty_tree mid.trees t) → ty_tree made.trees r ≡ opened_tree trees (ty_tree old.trees t)
+opened-since old mid made t r values trees g i v m = m ∙ (ap (λ x. opened_tree x (ty_tree mid.trees t)) v ∙ ap (opened_tree trees) (ty-kept old mid t g i).1)
+
+pub opened-still : (made last : Context) (r : Ty) (u : Tree) → Grows made last → IsTy made.trees r → ty_tree made.trees r ≡ u → IsTy last.trees r × (ty_tree last.trees r ≡ u)
+opened-still made last r u g i e = let k = ty-kept made last r g i in (k.0, k.1 ∙ e)
 
 -- Rows that are equated where they pass quick rejection.
 

@@ -162,9 +162,9 @@ fn probe_call<E: EvalCtxt>(
 /// The rule for what can be called so: the goal's arguments are its self type and the inputs, and the output is sized. Where it isn't
 /// known yet whether the self type can be called so, the candidate is ambiguous.
 ///
-/// The state is left alike the one before. `NoSolution` comes of a goal that the trait doesn't hold, where the self type can't be called
-/// so, where no trait is declared to be `Sized`, where the arguments can't be equated, and where the evaluator refuses; the stops are those
-/// of making nodes and lists, and the evaluator's.
+/// The state is left alike the one before. `NoSolution` comes where the goal isn't positive, where the self type can't be called so, where
+/// no trait is declared to be `Sized`, where the arguments can't be equated, and where the evaluator refuses; the stops are those of making
+/// nodes and lists, and the evaluator's.
 pub(crate) fn consider_callable<E: EvalCtxt>(
     alloc: Global,
     ecx: &mut E,

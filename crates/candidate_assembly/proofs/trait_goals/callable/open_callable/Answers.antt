@@ -1,4 +1,4 @@
-use Rattle.std.proofs.Common.{ap, length, ◌∙◌}
+use Rattle.std.proofs.Common.{◌≡◌, length}
 use Rattle.std.proofs.lemmas.Result.{err_from_is_err_and}
 use Rattle.candidate_ir.specs.Opening.{opened, opened_tree}
 use Rattle.candidate_ir.specs.Trees.{Forest, none, row}
@@ -10,6 +10,7 @@ use Rattle.candidate_eval.specs.Accounts.StopsSomehow.{making}
 use Rattle.candidate_eval.proofs.Accounts.{somehow}
 use Rattle.candidate_eval.proofs.Probing.{made, then}
 use Rattle.candidate_eval.proofs.StopKinds.{subst_making}
+use Rattle.candidate_assembly.proofs.CallSteps.{opened-since, opened-still}
 use Rattle.candidate_assembly.proofs.trait_goals.callable.open_callable.Goals as goal
 
 pub returns-in_err-values-clause-cause : goal.returns-in_err-values-clause-cause
@@ -64,26 +65,30 @@ pub returns-clause-state : goal.returns-clause-state
 returns-clause-state g c =
     let r = g.met.E.EvalCtxt.by_rest c.fresh_args_for_binder.new.ecx c.replace_bound_vars.new.make c.replace_bound_vars.ensures.rest in
     let q = g.met.E.EvalCtxt.by_rest c.replace_bound_vars.new.make c.replace_bound_vars-2.new.make c.replace_bound_vars-2.ensures.rest in
-    q.1 ∙ (r.1 ∙ c.in_ok-values.ensures.state)
+    rw (q.1, r.1) c.in_ok-values.ensures.state
 
 pub returns-clause-inputs : goal.returns-clause-inputs
 returns-clause-inputs g c =
     let old = g.E.Build.context c.args.ecx.now in
     let mid = g.E.Build.context c.fresh_args_for_binder.new.ecx in
-    let there = ty-kept (g.E.Build.context c.replace_bound_vars.new.make) (g.E.Build.context c.replace_bound_vars-2.new.make) c.in_ok-inputs.inputs c.replace_bound_vars-2.ensures.grows c.in_ok-inputs.ensures.sort in (
-      there.0,
-      there.1 ∙ (c.in_ok-inputs.ensures.tree
-          ∙ (ap (λ (x : Forest). opened_tree x (ty_tree mid.trees c.args.callable.value.0)) c.in_ok-values.ensures.trees
-          ∙ ap (opened_tree (fresh_variables (g.E.EvalCtxt.state c.args.ecx.now) (binder_kinds (vars_tree old.trees c.args.callable.vars).children))) (ty-kept old mid c.args.callable.value.0 c.fresh_args_for_binder.ensures.kept.grows c.requires.inputs).1)),
-    )
+    let made-in = g.E.Build.context c.replace_bound_vars.new.make in
+    let last = g.E.Build.context c.replace_bound_vars-2.new.make in
+    let t = c.args.callable.value.0 in
+    let variables : Forest = fresh_variables (g.E.EvalCtxt.state c.args.ecx.now) (binder_kinds (vars_tree old.trees c.args.callable.vars).children) in
+    opened-still made-in last c.in_ok-inputs.inputs (opened_tree variables (ty_tree old.trees t)) c.replace_bound_vars-2.ensures.grows c.in_ok-inputs.ensures.sort
+    (opened-since old mid made-in t c.in_ok-inputs.inputs c.in_ok-values.values variables c.fresh_args_for_binder.ensures.kept.grows c.requires.inputs c.in_ok-values.ensures.trees c.in_ok-inputs.ensures.tree)
 
 pub returns-clause-output : goal.returns-clause-output
 returns-clause-output g c =
     let old = g.E.Build.context c.args.ecx.now in
-    let mid = g.E.Build.context c.replace_bound_vars.new.make in
-    let values = args-kept (g.E.Build.context c.fresh_args_for_binder.new.ecx) mid c.in_ok-values.values c.replace_bound_vars.ensures.grows c.in_ok-values.ensures.sort in (
+    let mid = g.E.Build.context c.fresh_args_for_binder.new.ecx in
+    let made-in = g.E.Build.context c.replace_bound_vars.new.make in
+    let last = g.E.Build.context c.replace_bound_vars-2.new.make in
+    let t = c.args.callable.value.1 in
+    let variables : Forest = fresh_variables (g.E.EvalCtxt.state c.args.ecx.now) (binder_kinds (vars_tree old.trees c.args.callable.vars).children) in
+    let values : args_forest made-in.trees c.in_ok-values.values ≡ variables
+    = rw (args-kept mid made-in c.in_ok-values.values c.replace_bound_vars.ensures.grows c.in_ok-values.ensures.sort).1 c.in_ok-values.ensures.trees in (
       c.in_ok-output.ensures.sort,
-      c.in_ok-output.ensures.tree
-          ∙ (ap (λ (x : Forest). opened_tree x (ty_tree mid.trees c.args.callable.value.1)) (values.1 ∙ c.in_ok-values.ensures.trees)
-          ∙ ap (opened_tree (fresh_variables (g.E.EvalCtxt.state c.args.ecx.now) (binder_kinds (vars_tree old.trees c.args.callable.vars).children))) (ty-kept old mid c.args.callable.value.1 (grows-trans old (g.E.Build.context c.fresh_args_for_binder.new.ecx) mid c.fresh_args_for_binder.ensures.kept.grows c.replace_bound_vars.ensures.grows) c.requires.output).1),
+      opened-since old made-in last t c.in_ok-output.output c.in_ok-values.values variables (grows-trans old mid made-in c.fresh_args_for_binder.ensures.kept.grows c.replace_bound_vars.ensures.grows) c.requires.output values
+          c.in_ok-output.ensures.tree,
     )

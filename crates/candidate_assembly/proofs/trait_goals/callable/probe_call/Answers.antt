@@ -3,6 +3,8 @@ use Rattle.std.proofs.lemmas.Result.{err_from_is_err_and}
 use Rattle.candidate_ir.specs.Trees.{is_param, tree_holds}
 use Rattle.candidate_ir.specs.Worlds.{World, TraitSort, parameters}
 use Rattle.candidate_ir.proofs.Kept.{ty-kept, world-kept}
+use Rattle.candidate_eval.specs.declared.eval.context.ProbeKind.TheVariants.{Kept}
+use Rattle.candidate_eval.specs.Accounts as question
 use Rattle.candidate_eval.specs.Callable.{CalledWith, callable_of}
 use Rattle.candidate_assembly.specs.BuiltinRules.{call_rule}
 use Rattle.candidate_assembly.specs.TraitGoals.{trait_goal}
@@ -15,8 +17,11 @@ use Rattle.candidate_assembly.proofs.trait_goals.callable.probe_call.Goals as go
 pub returns-in_err-probe : goal.returns-in_err-probe
 returns-in_err-probe g c =
     let why = c.in_err-probe.ensures in
-    not-begun g.met.E.EvalCtxt.stops_itself (λ f. (g.met.E.EvalCtxt.lawful f).alike_judged_alike) c.args.ecx.now c.begin_probe.new.self _ _ c.from_residual.result c.in_err-probe.field-0.0
-    (answered-stop c.from_residual.result _ (err_from_is_err_and c.from_residual.result c.from_residual.ensures.1)) why.fixed why.grows why.stopped why.cause
+    let old = g.E.Build.context c.args.ecx.now in
+    let rule = call_rule (trait_goal old.trees c.args.env c.args.predicate) (CalledWith (callable_of old.trees c.args.callable)) (Some c.args.sized) in
+    let s = c.in_err-probe.field-0.0 in
+    not-begun g.met.E.EvalCtxt.stops_itself (λ f. (g.met.E.EvalCtxt.lawful f).alike_judged_alike) c.args.ecx.now c.begin_probe.new.self (question.begin_probe Kept) rule c.from_residual.result s
+    (answered-stop c.from_residual.result s (err_from_is_err_and c.from_residual.result c.from_residual.ensures.1)) why.fixed why.grows why.stopped why.cause
 
 pub try_call-answer-requires-clause-goal : goal.try_call-answer-requires-clause-goal
 try_call-answer-requires-clause-goal g c = (trait-goal-kept (g.E.Build.context c.args.ecx.now) (g.E.Build.context c.begin_probe.new.self) c.args.env c.args.predicate c.begin_probe.ensures.grows c.requires.goal).0

@@ -2,11 +2,13 @@ use Rattle.std.proofs.Common.{◌≡◌, [], Some, subst, sym, ◌∙◌}
 use Rattle.std.proofs.lemmas.Result.{err_from_is_err_and}
 use Rattle.candidate_ir.specs.Worlds.{World, TraitSort, parameters}
 use Rattle.candidate_ir.proofs.Kept.{args-kept, grows-trans, ty-kept, world-kept}
-use Rattle.candidate_eval.specs.Callable.{callable_of}
+use Rattle.candidate_eval.specs.Callable.{CalledWith, callable_of}
 use Rattle.candidate_eval.specs.Characterization.{binder_kinds}
+use Rattle.candidate_eval.specs.Judging.{judged}
 use Rattle.candidate_eval.proofs.Accounts.{by-stop, reaches}
 use Rattle.candidate_eval.proofs.Objects.{env-kept}
 use Rattle.candidate_eval.proofs.Probing.{then}
+use Rattle.candidate_assembly.specs.BuiltinRules.{call_rule}
 use Rattle.candidate_assembly.specs.TraitGoals.{trait_goal}
 use Rattle.candidate_assembly.proofs.CallSteps.{call-judged, call-refused}
 use Rattle.candidate_assembly.proofs.Causes.{answered-error, answered-stop, caused, later, somehow-here}
@@ -18,8 +20,12 @@ use Rattle.candidate_assembly.proofs.trait_goals.callable.try_call.Goals as goal
 
 pub returns-in_err-inputs-clause-told : goal.returns-in_err-inputs-clause-told
 returns-in_err-inputs-clause-told g c =
+    let E = g.E.EvalCtxt in
+    let first = c.args.ecx.now in
+    let old = g.E.Build.context first in
+    let rule = call_rule (trait_goal old.trees c.args.env c.args.predicate) (CalledWith (callable_of old.trees c.args.callable)) (Some c.args.sized) in
     let s = c.in_err-inputs.field-0.0 in
-    told-own _ c.from_residual.result s _ (answered-stop c.from_residual.result s (err_from_is_err_and c.from_residual.result c.from_residual.ensures.1))
+    told-own (g.E.Build.context c.open_callable.new.ecx).trees c.from_residual.result s (judged (E.judge (E.fixed first)) (E.state first) rule) (answered-stop c.from_residual.result s (err_from_is_err_and c.from_residual.result c.from_residual.ensures.1))
     (somehow-own g.met.E.EvalCtxt.stops_itself s c.in_err-inputs.ensures.cause)
 
 pub equate_inputs-requires-clause-env : goal.equate_inputs-requires-clause-env
@@ -47,7 +53,7 @@ returns-in_err-equate_inputs-clause-told g c =
     let a = now.reference.arguments in
     let e = c.in_err-equate_inputs.field-0.0 in
     let r = c.from_residual-in_err-equate_inputs.result in
-    told-error _ r e _ (answered-error r e (err_from_is_err_and r c.from_residual-in_err-equate_inputs.ensures.1))
+    told-error (g.E.Build.context c.equate_inputs.new.ecx).trees r e (judged J S (call_rule now (CalledWith callable) (Some c.args.sized))) (answered-error r e (err_from_is_err_and r c.from_residual-in_err-equate_inputs.ensures.1))
     (λ n. call-refused J S now callable c.args.sized c.requires.goal.no_parameter c.requires.inputs c.requires.output c.requires.positive
     (rw (
       kept.fixed_same,
