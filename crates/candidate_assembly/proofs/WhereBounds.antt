@@ -1,5 +1,5 @@
 -- What comes of a clause of the environment that is matched: what is pending is evaluated, and the clause characterised.
-use Rattle.std.proofs.Common.{◌≡◌, false, true, refl, sym, ap, subst, ◌∙◌, [], ◌∷◌, ◌++◌, Option, Some, None, Result, Ok, Err, List}
+use Rattle.std.proofs.Common.{◌≡◌, false, refl, sym, ap, subst, ◌∙◌, [], ◌∷◌, Option, Some, None, Result, Err, List}
 use Rattle.candidate_ir.specs.declared.ir.stop.Stop.{Stop}
 use Rattle.candidate_ir.specs.Trees.{Forest, Tree}
 use Rattle.candidate_eval.specs.declared.eval.certainty.Certainty.{Certainty}
@@ -12,7 +12,7 @@ use Rattle.candidate_eval.specs.declared.eval.source.ParamEnvSource.{ParamEnvSou
 use Rattle.candidate_eval.specs.declared.eval.source.ParamEnvSource.TheVariants.{Global, NonGlobal}
 use Rattle.candidate_eval.specs.Accounts.{by_stop}
 use Rattle.candidate_eval.specs.Characterization.{Walk, Goes, Finds, Refuses, Stops, characterization}
-use Rattle.candidate_eval.specs.Judging.{Judged, Place, Reached, At, Refused, Stopped, asked, at_state, by_finding, comes_to, concluded, continued, go_on, reached, start}
+use Rattle.candidate_eval.specs.Judging.{Judged, Place, At, Refused, Stopped, asked, at_state, by_finding, comes_to, concluded, continued, go_on, reached, start}
 use Rattle.candidate_eval.specs.Knowing.{own_stop}
 use Rattle.candidate_eval.specs.Rules.{Ending, characterise, settle}
 use Rattle.candidate_eval.specs.States.{Env, State, Judge, next}

@@ -1,4 +1,4 @@
-use Rattle.std.proofs.Common.{rules, ◌≡◌, [], ◌∷◌, subst, sym, ap, ◌∙◌, IfErr}
+use Rattle.std.proofs.Common.{rules, [], ◌∷◌, subst, sym, ◌∙◌, IfErr}
 use Rattle.candidate_ir.specs.Words.{IsClause, IsParamEnv, clause_tree, env_forest}
 use Rattle.candidate_ir.proofs.Joining.{clause-kept}
 use Rattle.candidate_eval.specs.Accounts.{by_stop}

@@ -5,7 +5,6 @@ use Rattle.candidate_ir.proofs.Joining.{clause-kept}
 use Rattle.candidate_eval.specs.Accounts.{Question}
 use Rattle.candidate_eval.specs.Accounts.StopsSomehow.{asking}
 use Rattle.candidate_eval.specs.Characterization.{characterization}
-use Rattle.candidate_eval.specs.Judging.{by_finding}
 use Rattle.candidate_eval.proofs.Accounts.{accounted-here, by-stop, reaches}
 use Rattle.candidate_eval.proofs.Objects.{env-kept}
 use Rattle.candidate_eval.proofs.Probing.{then}
