@@ -1,10 +1,8 @@
 //! Rows that ask the rules by which goals of traits are proved.
 
-ghost use Rattle.std.specs.Prelude.{◌≡◌, IsTrue, IfOk, false};
-ghost use Rattle.candidate_ir.specs.declared.ir.kinds.ParamEnv.{ParamEnv as ParamEnvNumber};
-ghost use Rattle.candidate_ir.specs.References.{ArgumentsFit};
+ghost use Rattle.std.specs.Prelude.{◌≡◌, IfOk, false};
 ghost use Rattle.candidate_ir.specs.Trees.{is_param, tree_holds};
-ghost use Rattle.candidate_ir.specs.Words.{IsArgs, IsClause, clause_tree};
+ghost use Rattle.candidate_ir.specs.Words.{IsClause, clause_tree};
 ghost use Rattle.candidate_assembly.specs.Kinds.{IsGoal, IsTyped};
 ghost use Rattle.candidate_assembly.specs.TraitGoals.{arguments_held, trait_goal, types_held};
 ghost use Rattle.candidate_assembly.specs.TraitRules.{trait_rules};
@@ -131,13 +129,16 @@ fn goal_at(cx: &Cx, env: u32, clause: u32) -> Result<(ParamEnv, TraitPredicate),
     Ok((env, predicate))
 }
 
-/// Whether the goal's self type is neither a general variable nor a bound type.
-fn is_typed(cx: &Cx, predicate: TraitPredicate) -> bool
-    requires args { IsArgs cx.now.trees predicate.trait_ref.args }
-    requires fit { ArgumentsFit cx.now predicate.trait_ref }
-    ensures { (env : ParamEnvNumber) → IsTrue result → IsTyped trait_rules cx.now (trait_goal cx.now.trees env predicate) }
+/// The same, of a goal whose self type is neither a general variable nor a bound type; that it is one is a `Refusal::Condition`, too.
+fn typed_goal_at(cx: &Cx, env: u32, clause: u32) -> Result<(ParamEnv, TraitPredicate), Refusal>
+    ensures goal { IfOk result (λ g. IsGoal trait_rules arguments_held types_held trait_goal cx.now g.0 g.1) }
+    ensures typed { IfOk result (λ g. IsTyped trait_rules cx.now (trait_goal cx.now.trees g.0 g.1)) }
 {
-    has_callable_cell(cx, self_ty(cx, predicate.trait_ref))
+    let (env, predicate) = goal_at(cx, env, clause)?;
+    if !has_callable_cell(cx, self_ty(cx, predicate.trait_ref)) {
+        return Err(Refusal::Condition);
+    }
+    Ok((env, predicate))
 }
 
 /// The candidate of the rule.
@@ -233,14 +234,26 @@ fn by_implied_clause(
     let source = CandidateSource::BuiltinImpl(BuiltinImplSource::Misc);
     if row.second.is_empty() {
         let candidate = probe_and_consider_implied_clause(
-            alloc, rounds, source, env, predicate, clause, &[],
+            alloc,
+            rounds,
+            source,
+            env,
+            predicate,
+            clause,
+            &[],
         )?;
         return found(alloc, &candidate);
     }
     let required = plain_clause_at(rounds.cx(), required)?;
     let requirements = [(GoalSource::Misc, required)];
     let candidate = probe_and_consider_implied_clause(
-        alloc, rounds, source, env, predicate, clause, &requirements,
+        alloc,
+        rounds,
+        source,
+        env,
+        predicate,
+        clause,
+        &requirements,
     )?;
     found(alloc, &candidate)
 }
@@ -261,15 +274,14 @@ fn consider(
     if row.first == "implied" {
         return by_implied_clause(alloc, rounds, row, of, named);
     }
-    let (env, predicate) = goal_at(rounds.cx(), of.left, of.right)?;
     if row.first == "impl" {
-        let candidate = consider_impl_and_respond(alloc, rounds, env, predicate, ImplId(named))?;
+        let (env, predicate) = goal_at(rounds.cx(), of.left, of.right)?;
+        let id = ImplId(named);
+        let candidate = consider_impl_and_respond(alloc, rounds, env, predicate, id)?;
         return found(alloc, &candidate);
     }
     let rule = value_of(&RULES, row.first).ok_or(Refusal::Condition)?;
-    if !is_typed(rounds.cx(), predicate) {
-        return Err(Refusal::Condition);
-    }
+    let (env, predicate) = typed_goal_at(rounds.cx(), of.left, of.right)?;
     let candidate = by_rule(alloc, rounds, rule, env, predicate)?;
     found(alloc, &candidate)
 }
