@@ -1,5 +1,6 @@
 -- Lists of arguments with another self type.
-use Rattle.std.proofs.Common.{◌≡◌, List, [], ◌∷◌, Option, Some, None, refl, sym, ap, ◌∙◌, slice_set}
+use Rattle.std.proofs.Common.{◌≡◌, Bool, false, List, [], ◌∷◌, Option, Some, None, refl, sym, ap, ◌∙◌, slice_set}
+use Rattle.candidate_ir.specs.declared.ir.heads.Head.{Head}
 use Rattle.candidate_ir.specs.declared.ir.kinds.GenericArg.{GenericArg}
 use Rattle.candidate_ir.specs.declared.ir.kinds.GenericArg.TheVariants as G
 use Rattle.candidate_ir.specs.declared.ir.kinds.ParamEnv.{ParamEnv}
@@ -8,19 +9,28 @@ use Rattle.candidate_ir.specs.declared.ir.kinds.TraitId.{TraitId}
 use Rattle.candidate_ir.specs.declared.ir.kinds.TraitPredicate.{TraitPredicate}
 use Rattle.candidate_ir.specs.declared.ir.kinds.TraitRef.{TraitRef}
 use Rattle.candidate_ir.specs.declared.ir.kinds.Ty.{Ty}
+use Rattle.candidate_ir.specs.Binders.{escapes}
 use Rattle.candidate_ir.specs.Context.{Context, Grows, world}
 use Rattle.candidate_ir.specs.Nodes.{kind_at}
 use Rattle.candidate_ir.specs.References.{ArgumentsFit}
+use Rattle.candidate_ir.specs.Substitutions.{alone}
 use Rattle.candidate_ir.specs.Supers.{after_first}
-use Rattle.candidate_ir.specs.Trees.{Kind, TypeKind, ConstantKind, RegionKind, Forest, none, tree, Tree, kind_of}
-use Rattle.candidate_ir.specs.Words.{IsTy, ListFits, args_forest, env_forest, list_forest, ty_tree}
+use Rattle.candidate_ir.specs.Trees.{Kind, TypeKind, ConstantKind, RegionKind, Forest, none, tree, Tree, holds, is_param, kind_of}
+use Rattle.candidate_ir.specs.Words.{IsArgs, IsTy, ListFits, args_forest, env_forest, list_forest, ty_tree}
 use Rattle.candidate_ir.specs.Worlds.{World, TraitSort, joined, kinds_of, parameters}
 use Rattle.candidate_ir.proofs.Kept.{world-kept}
 use Rattle.candidate_ir.proofs.Rows.{kind-of, row-single}
 use Rattle.candidate_eval.specs.ImplRules.{TraitGoal}
 use Rattle.candidate_eval.specs.ObjectRequirements.{first_tree}
 use Rattle.candidate_eval.specs.States.{Env}
-use Rattle.candidate_assembly.specs.TraitGoals.{trait_goal, with_first, with_self_type}
+use Rattle.candidate_eval.proofs.Closed.{after-closed, closed, closed-parts}
+use Rattle.candidate_eval.proofs.Holds.{holds_parts}
+use Rattle.candidate_eval.proofs.Marking.{after-unmarked}
+use Rattle.candidate_eval.proofs.Objects.{env-kept}
+use Rattle.candidate_eval.proofs.Types.{types_kept}
+use Rattle.candidate_assembly.specs.Kinds.{IsGoal}
+use Rattle.candidate_assembly.specs.TraitGoals.{arguments_held, trait_goal, types_held, with_first, with_self_type}
+use Rattle.candidate_assembly.specs.TraitRules.{trait_rules}
 
 first-row : (ts : List Tree) (x : GenericArg) (rest : List GenericArg) → ListFits ts (x ∷ rest) → after_first (list_forest ts (x ∷ rest)) ≡ list_forest ts rest
 first-row ts (G.Ty t) rest h = let k : kind_at ts t.0 ≡ TypeKind = cc in ap after_first (row-single ts t.0 TypeKind (list_forest ts rest) refl refl k)
@@ -77,3 +87,23 @@ first-is-type c r f = at (parameters (world c) TraitSort r.def_id.0) (args_fores
     at None args f = absurd cc
     at (Some ks) none f = absurd cc
     at (Some ks) (tree h below rest) f = let same : TypeKind ≡ kind_of h = cc in sym same
+
+first-unmarked : (mark : Head → Bool) (t : Tree) (ts : Forest) → holds mark (alone t) ≡ false → holds mark ts ≡ false → holds mark (with_first t ts) ≡ false
+first-unmarked mark t ts e a = let p = holds_parts mark t.head t.children none e in rw (p.here, p.under) (after-unmarked mark ts a)
+
+first-closed : (t : Tree) (ts : Forest) → escapes 0 (alone t) ≡ false → escapes 0 ts ≡ false → escapes 0 (with_first t ts) ≡ false
+first-closed t ts e a = let p = closed-parts 0 t.head t.children none e in closed 0 t.head t.children (after_first ts) p.here p.under (after-closed 0 ts a)
+
+pub other-goal : (old new : Context) (env : ParamEnv) (p q : TraitPredicate) (t : Ty) → Grows old new → IsGoal trait_rules arguments_held types_held trait_goal old env p
+    → IsArgs new.trees q.trait_ref.args → ArgumentsFit new q.trait_ref → args_forest new.trees q.trait_ref.args ≡ with_first (ty_tree old.trees t) (args_forest old.trees p.trait_ref.args)
+    → holds is_param (alone (ty_tree old.trees t)) ≡ false → escapes 0 (alone (ty_tree old.trees t)) ≡ false → IsGoal trait_rules arguments_held types_held trait_goal new env q
+other-goal old new env p q t g h i f a free e =
+    let args = args_forest old.trees p.trait_ref.args in
+    record {
+      env = (env-kept old new env g h.env).0;
+      arguments = i;
+      types = (types_kept old.trees new.trees (types_held p) g.kept h.types).0;
+      fit = f;
+      no_parameter = ap (holds is_param) a ∙ first-unmarked is_param (ty_tree old.trees t) args free h.no_parameter;
+      is_closed = ap (escapes 0) a ∙ first-closed (ty_tree old.trees t) args e h.is_closed;
+    }

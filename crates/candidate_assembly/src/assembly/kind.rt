@@ -4,8 +4,10 @@ ghost use Rattle.std.specs.Prelude.{◌≡◌, List, [], ◌∷◌, Option, true
 ghost use Rattle.candidate_ir.specs.declared.ir.kinds.Args.{Args as ArgsNumber};
 ghost use Rattle.candidate_ir.specs.declared.ir.kinds.ParamEnv.{ParamEnv as EnvNumber};
 ghost use Rattle.candidate_ir.specs.declared.ir.kinds.Ty.{Ty as TyNumber};
+ghost use Rattle.candidate_ir.specs.Binders.{escapes};
 ghost use Rattle.candidate_ir.specs.Context.{Context, Grows};
 ghost use Rattle.candidate_ir.specs.References.{reference_of};
+ghost use Rattle.candidate_ir.specs.Substitutions.{alone};
 ghost use Rattle.candidate_ir.specs.Trees.{Tree, holds, is_param};
 ghost use Rattle.candidate_ir.specs.Words.{IsArgs, IsClause, IsTy, clause_tree, env_forest, ty_tree};
 ghost use Rattle.candidate_eval.specs.Accounts.{by_stop};
@@ -81,7 +83,7 @@ pub trait GoalKind<E: EvalCtxt>: Copy {
         Self::trait_ref(cx, env, predicate).def_id
     }
 
-    /// The predicate with this self type.
+    /// The predicate with this self type. Where neither a parameter nor an escaping bound variable stands in that, it is a goal's again.
     fn with_replaced_self_ty(
         alloc: Global,
         ecx: &mut E,
@@ -94,6 +96,7 @@ pub trait GoalKind<E: EvalCtxt>: Copy {
         ensures kept { Keeps E.fixed E.probes E.context ecx.old ecx.new }
         ensures same { E.state ecx.new ≡ E.state ecx.old }
         ensures is { IfOk result (λ p. seen (E.context ecx.new).trees env p ≡ rules.with_self_type (seen (E.context ecx.old).trees env predicate) (ty_tree (E.context ecx.old).trees self_ty)) }
+        ensures goal { holds is_param (alone (ty_tree (E.context ecx.old).trees self_ty)) ≡ false → escapes 0 (alone (ty_tree (E.context ecx.old).trees self_ty)) ≡ false → IfOk result (λ p. IsGoal rules arguments types seen (E.context ecx.new) env p) }
         ensures cause { IfErr result (by_stop (StopsOfItself E.fixed E.context E.state E.stops ecx.old)) };
 
     /// Whether a clause passes quick rejection: what it is about may be what the goal is about.

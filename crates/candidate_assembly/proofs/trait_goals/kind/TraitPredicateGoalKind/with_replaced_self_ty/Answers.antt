@@ -3,7 +3,7 @@ use Rattle.std.proofs.lemmas.Result.{err_from_is_err_and}
 use Rattle.candidate_ir.specs.Words.{args_forest, env_forest, ty_tree}
 use Rattle.candidate_eval.proofs.Objects.{env-kept}
 use Rattle.candidate_assembly.proofs.Causes.{made-here}
-use Rattle.candidate_assembly.proofs.SelfTypes.{same-trait-goal}
+use Rattle.candidate_assembly.proofs.SelfTypes.{other-goal, same-trait-goal}
 use Rattle.candidate_assembly.proofs.trait_goals.kind.TraitPredicateGoalKind.with_replaced_self_ty.Goals as goal
 
 pub returns-in_err-with_self_ty-clause-cause : goal.returns-in_err-with_self_ty-clause-cause
@@ -17,3 +17,9 @@ returns-clause-is g c =
     let new = g.E.Build.context c.with_self_ty.new.make in
     same-trait-goal old new c.args.env c.args.predicate c.in_ok-with_self_ty.field-0 (ty_tree old.trees c.args.self_ty) (env-kept old new c.args.env c.with_self_ty.ensures.grows c.requires.goal.env).1
     c.in_ok-with_self_ty.ensures.id c.in_ok-with_self_ty.ensures.polarity c.in_ok-with_self_ty.ensures.arguments
+
+pub returns-clause-goal : goal.returns-clause-goal
+returns-clause-goal g c free e =
+    let old = g.E.Build.context c.args.ecx.now in
+    let new = g.E.Build.context c.with_self_ty.new.make in
+    other-goal old new c.args.env c.args.predicate c.in_ok-with_self_ty.field-0 c.args.self_ty c.with_self_ty.ensures.grows c.requires.goal c.in_ok-with_self_ty.ensures.sort c.in_ok-with_self_ty.ensures.fit c.in_ok-with_self_ty.ensures.arguments free e
