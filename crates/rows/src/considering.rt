@@ -72,7 +72,7 @@ const RULES: [(&str, Rule); 15] = [
     ("no_drop", Rule::NoDrop),
 ];
 
-/// The words of sources that are no impl and no bound's or supertrait's number.
+/// The words of sources that have no number.
 const SOURCES: [(&str, CandidateSource); 7] = [
     (
         "trivial",
@@ -291,7 +291,8 @@ fn forced(alloc: Global, rounds: &mut Rounds, row: Row<'_>, of: Operands) -> Res
     ensures { probes rounds.new ≡ probes rounds.old }
 {
     let env = env_at(rounds.cx(), of.left)?;
-    let Some(Certainty::Maybe(maybe)) = certainty(row.behind_verb()) else {
+    let (_, words) = row.words.split_once(' ').unwrap_or((row.words, ""));
+    let Some(Certainty::Maybe(maybe)) = certainty(words) else {
         return Err(Refusal::Condition);
     };
     let candidate = forced_ambiguity(alloc, rounds, env, maybe)?;

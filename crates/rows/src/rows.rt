@@ -7,7 +7,7 @@ pub(crate) struct Row<'a> {
     pub(crate) first: &'a str,
     pub(crate) second: &'a str,
     /// All words.
-    words: &'a str,
+    pub(crate) words: &'a str,
     pub(crate) left: &'a str,
     pub(crate) right: &'a str,
     pub(crate) third: &'a str,
@@ -30,12 +30,6 @@ impl<'a> Row<'a> {
             right,
             third,
         }
-    }
-
-    /// The words behind the verb.
-    pub(crate) fn behind_verb(self) -> &'a str {
-        let (_, words) = self.words.split_once(' ').unwrap_or((self.words, ""));
-        words
     }
 
     /// Whether the word is among those of the row.
