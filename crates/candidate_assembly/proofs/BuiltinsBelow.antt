@@ -10,21 +10,24 @@ use Rattle.candidate_ir.specs.declared.ir.kinds.Binder.{Binder}
 use Rattle.candidate_ir.specs.declared.ir.kinds.Clause.{Clause}
 use Rattle.candidate_ir.specs.declared.ir.kinds.ClosureKind.{ClosureKind}
 use Rattle.candidate_ir.specs.declared.ir.kinds.FnSig.{FnSig}
+use Rattle.candidate_ir.specs.declared.ir.kinds.ParamEnv.{ParamEnv}
 use Rattle.candidate_ir.specs.declared.ir.kinds.PredicatePolarity.{PredicatePolarity}
 use Rattle.candidate_ir.specs.declared.ir.kinds.PredicatePolarity.TheVariants as Pol
 use Rattle.candidate_ir.specs.declared.ir.kinds.TraitId.{TraitId}
+use Rattle.candidate_ir.specs.declared.ir.kinds.TraitPredicate.{TraitPredicate}
 use Rattle.candidate_ir.specs.Context.{Context, world}
 use Rattle.candidate_ir.specs.Declaring.{trait_at}
 use Rattle.candidate_ir.specs.Folding.{substituted_tree}
 use Rattle.candidate_ir.specs.Lookups.{definition, fn_sig, maybe}
 use Rattle.candidate_ir.specs.Owned.{is_unsolved}
-use Rattle.candidate_ir.specs.References.{Takes}
+use Rattle.candidate_ir.specs.References.{IsWellFormed, Takes}
 use Rattle.candidate_ir.specs.Substitutions.{alone}
 use Rattle.candidate_ir.specs.Supers.{after_first}
 use Rattle.candidate_ir.specs.Trees.{Kind, TypeKind, Forest, none, tree, Tree, tree_holds}
 use Rattle.candidate_ir.specs.WellFormed.{IsWellFormedTable}
-use Rattle.candidate_ir.specs.Words.{clause_tree}
+use Rattle.candidate_ir.specs.Words.{args_forest, clause_tree, env_forest}
 use Rattle.candidate_ir.specs.Worlds.{Fits, IsOf, TraitSort, World, joined, kinds_of, parameters}
+use Rattle.candidate_ir.proofs.References.{is-reference}
 use Rattle.candidate_eval.specs.declared.eval.source.CandidateSource.{CandidateSource}
 use Rattle.candidate_eval.specs.declared.eval.source.CandidateSource.TheVariants.{BuiltinImpl}
 use Rattle.candidate_eval.specs.declared.eval.source.BuiltinImplSource.TheVariants.{Trivial}
@@ -43,8 +46,9 @@ use Rattle.candidate_eval.proofs.Marking.{after-unmarked, alone-unmarked, last-u
 use Rattle.candidate_eval.proofs.Naming.{named-row-below}
 use Rattle.candidate_eval.proofs.PartsFree.{parts-below, put-below}
 use Rattle.candidate_assembly.specs.BuiltinRules.{ambiguous_rule, auto_refused, auto_rule, call_rule, copy_clone_rule, copy_rule, error_rule, fn_ptr_rule, fn_rule, for_types, holds_of, is_numeric_variable, meets, misc, no_drop_needs, no_drop_rule, parts_rule, plain_rule, positive, rule_by_needs, self_of, sizedness_rule, trait_alias_rule, trait_rule, tuple_rule, with_names}
-use Rattle.candidate_assembly.specs.Kinds.{BuiltinRule, ErrorRule, AutoTraitRule, TraitAliasRule, SizednessRule, CopyCloneRule, FnTraitRule, FnPtrTraitRule, TupleRule, PointeeRule, DiscriminantKindRule, DestructRule, NoDropRule}
-use Rattle.candidate_assembly.specs.TraitGoals.{item_trait, with_first}
+use Rattle.candidate_assembly.specs.Kinds.{IsGoal, BuiltinRule, ErrorRule, AutoTraitRule, TraitAliasRule, SizednessRule, CopyCloneRule, FnTraitRule, FnPtrTraitRule, TupleRule, PointeeRule, DiscriminantKindRule, DestructRule, NoDropRule}
+use Rattle.candidate_assembly.specs.TraitGoals.{arguments_held, item_trait, trait_goal, types_held, with_first}
+use Rattle.candidate_assembly.specs.TraitRules.{trait_rules}
 use Rattle.candidate_assembly.specs.declared.trait_goals.no_drop.NoDrop.{NoDrop}
 use Rattle.candidate_assembly.specs.declared.trait_goals.no_drop.NoDrop.TheVariants as D
 use Rattle.candidate_assembly.proofs.CallMarks.{BearsNo, call-unmarked}
@@ -201,3 +205,8 @@ builtin-below n PointeeRule c g w is e a = plain-below n g e a (positive g)
 builtin-below n DiscriminantKindRule c g w is e a = plain-below n g e a (positive g)
 builtin-below n DestructRule c g w is e a = plain-below n g e a (positive g)
 builtin-below n NoDropRule c g w is e a = no-drop-below n g e a c w is
+
+-- Each rule of the language, of a goal of a well-formed context.
+pub goal-rule-below : (n : ℕ) (r : BuiltinRule) (c : Context) (e : ParamEnv) (p : TraitPredicate) → IsWellFormedTable c → IsWellFormed c → IsGoal trait_rules arguments_held types_held trait_goal c e p
+    → IsBelow n (env_forest c.trees e) → IsBelow n (args_forest c.trees p.trait_ref.args) → RuleBelow n (trait_rule r c (trait_goal c.trees e p))
+goal-rule-below n r c e p w f is env args = builtin-below n r c (trait_goal c.trees e p) w (is-reference c p.trait_ref f is.arguments is.fit) env args
