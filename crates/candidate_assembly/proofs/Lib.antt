@@ -23,3 +23,6 @@ pub mod Requiring
 pub mod CallSteps
 pub mod CallFree
 pub mod CallRules
+pub mod DeclaredClosed
+pub mod CallMarks
+pub mod BuiltinsBelow
