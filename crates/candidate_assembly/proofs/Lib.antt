@@ -26,3 +26,4 @@ pub mod CallRules
 pub mod DeclaredClosed
 pub mod CallMarks
 pub mod BuiltinsBelow
+pub mod BuiltinCases
