@@ -279,6 +279,10 @@ parameter_is_barred = refl
 pub placeholder_is_barred : auto_barred small auto (rigid 0).head ≡ true
 placeholder_is_barred = refl
 
+-- so the rule says nothing of it
+pub auto_of_placeholder : by 0 AutoTraitRule (goal auto (rigid 0)) ≡ Nothing
+auto_of_placeholder = refl
+
 -- projections, once they are normalised
 pub projection_is_barred : auto_barred small auto projected.head ≡ true
 projection_is_barred = refl
@@ -286,10 +290,6 @@ projection_is_barred = refl
 -- `u8` has nothing that bars it
 pub u8_is_not_barred : auto_barred small unsafe_auto u8.head ≡ false
 u8_is_not_barred = refl
-
--- so the rule says nothing of it
-pub auto_of_placeholder : by 0 AutoTraitRule (goal auto (rigid 0)) ≡ Nothing
-auto_of_placeholder = refl
 
 -- an opaque type is looked into, unless its bounds speak of the trait
 pub opaque_says_itself : auto_barred small auto opaque.head ≡ true
