@@ -1,16 +1,12 @@
 -- Clauses that a trait holds of something, or doesn't.
-use Rattle.std.proofs.Common.{◌≡◌, List, [], ◌∷◌, Option, Some, None, refl, sym, ap, subst, ◌∙◌}
-use Rattle.candidate_ir.specs.declared.ir.heads.ClauseHead.TheVariants as Cl
-use Rattle.candidate_ir.specs.declared.ir.kinds.Binder.{Binder}
-use Rattle.candidate_ir.specs.declared.ir.kinds.ClauseKind.{ClauseKind}
-use Rattle.candidate_ir.specs.declared.ir.kinds.ClauseKind.TheVariants as K
+use Rattle.std.proofs.Common.{◌≡◌, List, [], ◌∷◌, Some, refl, sym, ap, subst, ◌∙◌}
 use Rattle.candidate_ir.specs.declared.ir.kinds.TraitPredicate.{TraitPredicate}
 use Rattle.candidate_ir.specs.declared.ir.kinds.TraitRef.{TraitRef}
 use Rattle.candidate_ir.specs.declared.ir.kinds.Vars.{Vars}
 use Rattle.candidate_ir.specs.Context.{Context, Grows, world}
-use Rattle.candidate_ir.specs.Nodes.{kind_at, tree_at, trees_at}
+use Rattle.candidate_ir.specs.Nodes.{kind_at}
 use Rattle.candidate_ir.specs.References.{ArgumentsFit, Takes}
-use Rattle.candidate_ir.specs.Trees.{Kind, TypeKind, ArgumentsKind, BinderKind, Forest, none, tree, Tree}
+use Rattle.candidate_ir.specs.Trees.{TypeKind, ArgumentsKind, BinderKind, Forest, none, Tree}
 use Rattle.candidate_ir.specs.Words.{ClauseFits, IsArgs, IsVars, args_forest, binder_tree, clause_kind_tree, vars_tree}
 use Rattle.candidate_ir.specs.Worlds.{World, TraitSort, joined, kinds_of, parameters}
 use Rattle.candidate_ir.proofs.Joining.{clause-over}

@@ -1,18 +1,15 @@
 -- The rules of the language for goals of traits: each a row of side condition, nested clauses, source and certainty.
-use Rattle.std.specs.Prelude.{◌≡◌, ℕ, Bool, true, false, ◌&&◌, ◌||◌, ◌==◌, not, Option, Some, None, List, [], ◌∷◌, ◌++◌, map, if◌then◌else◌}
+use Rattle.std.specs.Prelude.{ℕ, Bool, true, false, ◌&&◌, ◌||◌, ◌==◌, not, Option, Some, None, List, [], ◌∷◌, map, if◌then◌else◌}
 use Rattle.std.specs.List.{list_any}
 use Rattle.candidate_ir.specs.declared.decl.contents.LangItem.TheVariants as L
 use Rattle.candidate_ir.specs.declared.decl.contents.Sizedness.{Sizedness}
-use Rattle.candidate_ir.specs.declared.decl.contents.ImplId.{ImplId}
 use Rattle.candidate_ir.specs.declared.decl.definition.AdtFlags.{AdtFlags}
 use Rattle.candidate_ir.specs.declared.decl.definition.TraitFlags.{TraitFlags}
-use Rattle.candidate_ir.specs.declared.ir.heads.Builtin.{Builtin}
 use Rattle.candidate_ir.specs.declared.ir.heads.Builtin.TheVariants as B
 use Rattle.candidate_ir.specs.declared.ir.heads.ClauseHead.TheVariants as Cl
 use Rattle.candidate_ir.specs.declared.ir.heads.Head.{Head}
 use Rattle.candidate_ir.specs.declared.ir.heads.Head.TheVariants as H
 use Rattle.candidate_ir.specs.declared.ir.heads.PartHead.TheVariants as P
-use Rattle.candidate_ir.specs.declared.ir.heads.VariableSort.TheVariants as V
 use Rattle.candidate_ir.specs.declared.ir.kinds.AliasKind.TheVariants as AK
 use Rattle.candidate_ir.specs.declared.ir.kinds.Args.{Args}
 use Rattle.candidate_ir.specs.declared.ir.kinds.Clause.{Clause}
@@ -31,7 +28,6 @@ use Rattle.candidate_ir.specs.declared.ir.heads.Flag.TheVariants as F
 use Rattle.candidate_ir.specs.Flags.{mark}
 use Rattle.candidate_ir.specs.Impls.{relevant_impls}
 use Rattle.candidate_ir.specs.Lookups.{adt_flags, definition, maybe, trait_flags}
-use Rattle.candidate_ir.specs.Supers.{after_first}
 use Rattle.candidate_ir.specs.Trees.{Kind, Forest, none, tree, Tree, holds}
 use Rattle.candidate_ir.specs.Words.{args_forest, clause_tree}
 use Rattle.candidate_ir.specs.Worlds.{Reference}
@@ -39,7 +35,6 @@ use Rattle.candidate_eval.specs.declared.eval.source.CandidateSource.{CandidateS
 use Rattle.candidate_eval.specs.declared.eval.source.CandidateSource.TheVariants.{BuiltinImpl}
 use Rattle.candidate_eval.specs.declared.eval.source.BuiltinImplSource.TheVariants.{Misc, Trivial}
 use Rattle.candidate_eval.specs.Callable.{Callable, Calls, CalledWith, Undetermined, calls}
-use Rattle.candidate_eval.specs.declared.eval.certainty.Certainty.{Certainty}
 use Rattle.candidate_eval.specs.declared.eval.certainty.Certainty.TheVariants.{Yes}
 use Rattle.candidate_eval.specs.Certainties.{AMBIGUOUS}
 use Rattle.candidate_eval.specs.Characterization.{binder_kinds}
@@ -49,7 +44,7 @@ use Rattle.candidate_eval.specs.ObjectRequirements.{first_tree, trait_said}
 use Rattle.candidate_eval.specs.Rules.{Step, fresh, enter, equate, quick, Rule, ask, nested, nested_misc}
 use Rattle.candidate_eval.specs.Evaluators.{rigid}
 use Rattle.candidate_eval.specs.States.{State}
-use Rattle.candidate_eval.specs.Tables.{Cell, Excluded, Refused, Asks, Parts, cell, is_manually_drop, row_of, types_of}
+use Rattle.candidate_eval.specs.Tables.{Cell, Asks, cell, is_manually_drop, row_of}
 use Rattle.candidate_eval.specs.declared.structural.Column.TheVariants as C
 use Rattle.candidate_assembly.specs.Kinds.{BuiltinRule, ErrorRule, AutoTraitRule, TraitAliasRule, SizednessRule, CopyCloneRule, FnTraitRule, FnPtrTraitRule, TupleRule, PointeeRule, DiscriminantKindRule, DestructRule, NoDropRule}
 use Rattle.candidate_assembly.specs.declared.trait_goals.no_drop.NoDrop.{NoDrop}

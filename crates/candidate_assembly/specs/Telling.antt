@@ -1,10 +1,10 @@
 -- What calls say of the rule that they follow.
-use Rattle.std.specs.Prelude.{◌≡◌, All, Bool, true, false, Result, Ok, Err, IfOk, IfErr, List, [], ◌∷◌, ◌++◌, map}
+use Rattle.std.specs.Prelude.{◌≡◌, All, Bool, true, false, Result, Ok, Err, IfOk, IfErr, List, [], map}
 use Rattle.candidate_ir.specs.declared.ir.kinds.GoalSource.{GoalSource}
 use Rattle.candidate_ir.specs.declared.ir.stop.Stop.{Stop}
 use Rattle.candidate_ir.specs.Context.{Context}
 use Rattle.candidate_ir.specs.declared.ir.kinds.Clause.{Clause}
-use Rattle.candidate_ir.specs.Trees.{Forest, none, Tree, is_param, tree_holds}
+use Rattle.candidate_ir.specs.Trees.{Forest, Tree, is_param, tree_holds}
 use Rattle.candidate_ir.specs.Words.{clause_tree}
 use Rattle.candidate_eval.specs.declared.eval.refusal.NoSolutionOrStop.{NoSolutionOrStop}
 use Rattle.candidate_eval.specs.declared.eval.refusal.NoSolutionOrStop.TheVariants as N
@@ -19,7 +19,7 @@ use Rattle.candidate_eval.specs.Accounts.{Account, StopsSomehow, by_stop}
 use Rattle.candidate_eval.specs.Evaluators.{Keeps}
 use Rattle.candidate_eval.specs.Knowing.{own_stop}
 use Rattle.candidate_eval.specs.ResponseTrees.{IsResponse, candidate_of, response_of}
-use Rattle.candidate_eval.specs.Rules.{Rule, Step, add, ask}
+use Rattle.candidate_eval.specs.Rules.{Rule, add, ask}
 use Rattle.candidate_eval.specs.Judging.{Place, Judged, Gives, Refused, Stopped, judged}
 use Rattle.candidate_eval.specs.States.{Env, State, Judge}
 
