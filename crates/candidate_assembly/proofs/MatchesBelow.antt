@@ -2,40 +2,27 @@
 use Rattle.std.proofs.Common.{ℕ, suc, All, List, [], ◌∷◌, ◌++◌, arith}
 use Rattle.candidate_ir.specs.Context.{Context}
 use Rattle.candidate_ir.specs.Substitutions.{alone}
-use Rattle.candidate_ir.specs.Supers.{after_first}
-use Rattle.candidate_ir.specs.Trees.{Tree, none}
+use Rattle.candidate_ir.specs.Trees.{Tree}
 use Rattle.candidate_ir.specs.Words.{clause_tree}
 use Rattle.candidate_eval.specs.declared.eval.certainty.Certainty.{Certainty}
 use Rattle.candidate_eval.specs.declared.eval.source.CandidateSource.{CandidateSource}
-use Rattle.candidate_eval.specs.Characterization.{bound_kinds}
 use Rattle.candidate_eval.specs.ImplRules.{TraitGoal}
-use Rattle.candidate_eval.specs.Mentions.{IsBelow, RuleBelow, StepsBelow, is_from}
+use Rattle.candidate_eval.specs.Mentions.{IsBelow, RuleBelow, StepsBelow}
 use Rattle.candidate_eval.specs.Rules.{Step, ask, characterise, settle}
-use Rattle.candidate_eval.proofs.Holds.{holds_parts}
-use Rattle.candidate_eval.proofs.Marking.{after-unmarked}
-use Rattle.candidate_eval.proofs.Naming.{named-row-below}
 use Rattle.candidate_assembly.specs.Kinds.{match_rule}
+use Rattle.candidate_assembly.specs.Matching.{match_below}
 use Rattle.candidate_assembly.specs.Requirements.{Requirement, requirement_steps}
 use Rattle.candidate_assembly.specs.TraitGoals.{match_trait}
 use Rattle.candidate_assembly.specs.TraitRules.{trait_rules}
-
--- what stands under a clause's binder
-under-clause : (n : ℕ) (c : Tree) → IsBelow n (alone c) → IsBelow n (after_first c.children)
-under-clause n c e = after-unmarked (is_from n) c.children (holds_parts (is_from n) c.head c.children none e).under
 
 pub steps-joined : (n : ℕ) (xs ys : List Step) → StepsBelow n xs → StepsBelow n ys → StepsBelow n (xs ++ ys)
 steps-joined n [] ys h k = k
 steps-joined n (x ∷ xs) ys h k = (h.0, steps-joined n xs ys h.1 k)
 
-pub match-below : (n : ℕ) (g : TraitGoal) (c : Tree) → IsBelow n g.reference.arguments → IsBelow n (alone c) → StepsBelow n (match_trait g c)
-match-below n g c a e =
-    let under = under-clause n c e in
-    ((a, under), (tt, ((a, named-row-below n 0 (bound_kinds c.children) (after_first c.children) under), tt)))
-
 -- of a clause of the environment
 pub where-bound-below : (n : ℕ) (ctx : Context) (g : TraitGoal) (c : Tree) → IsBelow n g.env → IsBelow n g.reference.arguments → IsBelow n (alone c)
     → RuleBelow n (match_rule trait_rules ctx g c (settle ∷ []) (characterise c))
-where-bound-below n ctx g c e a h = record { env = e; steps = steps-joined n (match_trait g c) (settle ∷ []) (match-below n g c a h) (tt, tt); ending = h }
+where-bound-below n ctx g c e a h = record { env = e; steps = steps-joined n (match_trait g c) (settle ∷ []) (match_below n g c a h) (tt, tt); ending = h }
 
 -- of what a rule requires besides
 requirements-below : (n : ℕ) (ts : List Tree) (rs : List Requirement) → All (λ r. IsBelow n (alone (clause_tree ts r.1))) rs → StepsBelow n (requirement_steps ts rs)
@@ -45,4 +32,4 @@ requirements-below n ts (r ∷ rs) h = (h 0 r (omega arith), requirements-below 
 -- of a clause that implies the goal where requirements hold
 pub implied-below : (n : ℕ) (ctx : Context) (g : TraitGoal) (c : Tree) (ts : List Tree) (rs : List Requirement) (source : CandidateSource) (sure : Certainty) → IsBelow n g.env → IsBelow n g.reference.arguments → IsBelow n (alone c)
     → All (λ r. IsBelow n (alone (clause_tree ts r.1))) rs → RuleBelow n (match_rule trait_rules ctx g c (requirement_steps ts rs) (ask source sure))
-implied-below n ctx g c ts rs source sure e a h below = record { env = e; steps = steps-joined n (match_trait g c) (requirement_steps ts rs) (match-below n g c a h) (requirements-below n ts rs below); ending = tt }
+implied-below n ctx g c ts rs source sure e a h below = record { env = e; steps = steps-joined n (match_trait g c) (requirement_steps ts rs) (match_below n g c a h) (requirements-below n ts rs below); ending = tt }

@@ -1,5 +1,5 @@
 -- What a kind of goals gives, as data: all of assembly is defined over it.
-use Rattle.std.specs.Prelude.{◌≡◌, Bool, true, false, ◌&&◌, Option, Some, List, [], ◌∷◌, ◌++◌, if◌then◌else◌}
+use Rattle.std.specs.Prelude.{◌≡◌, ℕ, Bool, true, false, ◌&&◌, Option, Some, List, [], ◌∷◌, ◌++◌, if◌then◌else◌}
 use Rattle.candidate_ir.specs.declared.decl.contents.ImplId.{ImplId}
 use Rattle.candidate_ir.specs.declared.decl.contents.Sizedness.{Sizedness}
 use Rattle.candidate_ir.specs.declared.ir.heads.ClauseHead.TheVariants as Cl
@@ -25,6 +25,7 @@ use Rattle.candidate_eval.specs.Callable.{all_but_last, is_unknown}
 use Rattle.candidate_eval.specs.declared.eval.certainty.Certainty.{Certainty}
 use Rattle.candidate_eval.specs.Certainties.{AMBIGUOUS}
 use Rattle.candidate_eval.specs.Judging.{Judged, Refused, answered, continued, run, start}
+use Rattle.candidate_eval.specs.Mentions.{IsBelow}
 use Rattle.candidate_eval.specs.ObjectRequirements.{first_tree}
 use Rattle.candidate_eval.specs.Responses.{Response}
 use Rattle.candidate_eval.specs.Rules.{Step, Rule, Ending, ask}
@@ -95,6 +96,11 @@ pub record IsGoal {G P : Type 0} (K : KindRules G) (arguments_of : P → Args) (
 -- its self type is neither a general variable nor a bound type, as the tables ask
 abbrev pub IsTyped : {G : Type 0} → KindRules G → Context → G → Type 0
 IsTyped K c g = is_unknown (self_type K c g).head ≡ false
+
+-- A goal mentions no other variables than the first n.
+pub record GoalBelow {G : Type 0} (K : KindRules G) (n : ℕ) (g : G) : Type 0 where
+  pub env : IsBelow n (K.env_of g)
+  pub trees : IsBelow n (K.trees_of g)
 
 -- A clause that a goal can be matched with: it passes quick rejection, and no parameter stands in it.
 pub record IsAssumption {G : Type 0} (K : KindRules G) (c : Context) (g : G) (t : Tree) : Type 0 where

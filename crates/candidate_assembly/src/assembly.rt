@@ -1,6 +1,9 @@
 //! What assembly asks of a kind of goals, and the rules that all kinds share.
 
+pub mod alias_bounds;
 pub mod characterize;
 pub mod kind;
+pub mod language;
+pub mod listing;
 pub mod matching;
 pub mod steps;

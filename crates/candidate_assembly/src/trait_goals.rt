@@ -10,3 +10,4 @@ pub(crate) mod matching;
 pub(crate) mod meeting;
 pub(crate) mod no_drop;
 pub(crate) mod parts;
+pub(crate) mod unsizing;

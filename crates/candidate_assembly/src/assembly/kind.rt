@@ -1,18 +1,24 @@
 //! Kinds of goals.
 
-ghost use Rattle.std.specs.Prelude.{◌≡◌, List, [], ◌∷◌, Option, true, false, IfOk, IfErr, OnOk, OnErr};
+ghost use Rattle.std.specs.Prelude.{◌≡◌, ℕ, List, [], ◌∷◌, Option, true, false, IfOk, IfErr, OnOk, OnErr};
+ghost use Rattle.candidate_ir.specs.declared.decl.contents.ImplId.{ImplId as ImplNumber};
 ghost use Rattle.candidate_ir.specs.declared.ir.kinds.Args.{Args as ArgsNumber};
 ghost use Rattle.candidate_ir.specs.declared.ir.kinds.ParamEnv.{ParamEnv as EnvNumber};
 ghost use Rattle.candidate_ir.specs.declared.ir.kinds.Ty.{Ty as TyNumber};
 ghost use Rattle.candidate_ir.specs.Binders.{escapes};
 ghost use Rattle.candidate_ir.specs.Context.{Context, Grows};
+ghost use Rattle.candidate_ir.specs.Flags.{mark};
+ghost use Rattle.candidate_ir.specs.declared.ir.heads.Flag.TheVariants as flag;
 ghost use Rattle.candidate_ir.specs.References.{reference_of};
 ghost use Rattle.candidate_ir.specs.Substitutions.{alone};
 ghost use Rattle.candidate_ir.specs.Trees.{Tree, holds, is_param};
+ghost use Rattle.candidate_ir.specs.WellFormed.{IsWellFormedTable};
 ghost use Rattle.candidate_ir.specs.Words.{IsArgs, IsClause, IsTy, clause_tree, env_forest, ty_tree};
-ghost use Rattle.candidate_eval.specs.Accounts.{by_stop};
+ghost use Rattle.candidate_eval.specs.declared.eval.mode.TypingMode.{TypingMode as Mode};
+ghost use Rattle.candidate_eval.specs.Accounts.{StopsSomehow, by_stop};
 ghost use Rattle.candidate_eval.specs.Evaluators.{Keeps};
 ghost use Rattle.candidate_eval.specs.Judging.{run, start};
+ghost use Rattle.candidate_eval.specs.Mentions.{IsBelow, StepsBelow};
 ghost use Rattle.candidate_eval.specs.Responses.{Response};
 ghost use Rattle.candidate_eval.specs.Rules.{characterise, settle};
 ghost use Rattle.candidate_eval.specs.States.{State};
@@ -83,6 +89,11 @@ pub trait GoalKind<E: EvalCtxt>: Copy {
         Self::trait_ref(cx, env, predicate).def_id
     }
 
+    /// Whether it holds an error.
+    fn holds_error(cx: &Cx, env: ParamEnv, predicate: Self) -> bool
+        requires { IsGoal rules arguments types seen cx.now env predicate }
+        ensures { result ≡ holds (mark flag.Error) (rules.trees_of (seen cx.now.trees env predicate)) };
+
     /// The predicate with this self type. Where neither a parameter nor an escaping bound variable stands in that, it is a goal's again.
     fn with_replaced_self_ty(
         alloc: Global,
@@ -90,14 +101,14 @@ pub trait GoalKind<E: EvalCtxt>: Copy {
         env: ParamEnv,
         predicate: Self,
         self_ty: Ty,
-    ) -> Result<Self, NoSolutionOrStop>
+    ) -> Result<Self, Stop>
         requires goal { IsGoal rules arguments types seen (E.context ecx.old) env predicate }
         requires self_ty { IsTy (E.context ecx.old).trees self_ty }
         ensures kept { Keeps E.fixed E.probes E.context ecx.old ecx.new }
         ensures same { E.state ecx.new ≡ E.state ecx.old }
         ensures is { IfOk result (λ p. seen (E.context ecx.new).trees env p ≡ rules.with_self_type (seen (E.context ecx.old).trees env predicate) (ty_tree (E.context ecx.old).trees self_ty)) }
         ensures goal { holds is_param (alone (ty_tree (E.context ecx.old).trees self_ty)) ≡ false → escapes 0 (alone (ty_tree (E.context ecx.old).trees self_ty)) ≡ false → IfOk result (λ p. IsGoal rules arguments types seen (E.context ecx.new) env p) }
-        ensures cause { IfErr result (by_stop (StopsOfItself E.fixed E.context E.state E.stops ecx.old)) };
+        ensures cause { IfErr result (StopsSomehow E.fixed E.context E.state E.stops ecx.old) };
 
     /// Whether a clause passes quick rejection: what it is about may be what the goal is about.
     fn fast_reject_assumption(
@@ -288,6 +299,15 @@ pub trait GoalKind<E: EvalCtxt>: Copy {
 
     /// The environment of a goal is the one that is given.
     ghost env_given: { (ts : List Tree) (env : EnvNumber) (predicate : Self) → rules.env_of (seen ts env predicate) ≡ env_forest ts env };
+
+    /// What a clause is matched by mentions no other variables than the goal and the clause.
+    ghost matches_below: { (n : ℕ) (goal : Seen) (clause : Tree) → IsBelow n (rules.trees_of goal) → IsBelow n (alone clause) → StepsBelow n (rules.match_steps goal clause) };
+
+    /// What is declared mentions no variable: the rule of an impl mentions those of the goal alone.
+    ghost impls_below: { (c : Context) → IsWellFormedTable c → (n : ℕ) (mode : Mode) (goal : Seen) (of : ImplNumber) → IsBelow n (rules.trees_of goal) → StepsBelow n (rules.impl_part c mode goal of).steps };
+
+    /// The rule of an impl stays where a context has grown.
+    ghost impls_stay: { (old new : Context) → IsWellFormedTable old → Grows old new → (mode : Mode) (goal : Seen) (of : ImplNumber) → rules.impl_part new mode goal of ≡ rules.impl_part old mode goal of };
 
     /// The candidate of a source by a clause: in a probe the clause is matched, and the closure called then.
     ///

@@ -4,6 +4,8 @@ ghost use Rattle.std.specs.Prelude.{◌≡◌, refl};
 ghost use Rattle.candidate_eval.specs.ImplRules.{TraitGoal};
 ghost use Rattle.candidate_assembly.specs.TraitGoals.{arguments_held, trait_goal, types_held};
 ghost use Rattle.candidate_assembly.specs.TraitRules.{trait_rules};
+ghost use Rattle.candidate_assembly.specs.ImplLaws.{impl_part_stays, impl_steps_below};
+ghost use Rattle.candidate_assembly.specs.Matching.{match_below};
 ghost use Rattle.candidate_assembly.specs.Staying.{trait_goal_stays};
 
 use crate::assembly::kind::{GoalKind, NoSolution};
@@ -28,6 +30,7 @@ use candidate_ir::decl::contents::{ImplId, Sizedness};
 use candidate_ir::decl::make::Make;
 use candidate_ir::ir::heads::Flag;
 use candidate_ir::ir::kinds::{Clause, ClosureKind, ParamEnv, TraitPredicate, TraitRef, Ty};
+use candidate_ir::ir::stop::Stop;
 use candidate_ir::ir::trees::Trees;
 use std::alloc::Global;
 
@@ -46,6 +49,12 @@ impl<E: EvalCtxt> GoalKind<E> for TraitPredicate {
 
     ghost env_given = { λ _ _ _. refl };
 
+    ghost matches_below = { match_below };
+
+    ghost impls_below = { impl_steps_below };
+
+    ghost impls_stay = { impl_part_stays };
+
     fn self_ty(cx: &Cx, _env: ParamEnv, predicate: Self) -> Ty {
         self_ty(cx, predicate.trait_ref)
     }
@@ -54,15 +63,20 @@ impl<E: EvalCtxt> GoalKind<E> for TraitPredicate {
         predicate.trait_ref
     }
 
+    fn holds_error(cx: &Cx, _env: ParamEnv, predicate: Self) -> bool {
+        cx.has(predicate.trait_ref.args, Flag::Error)
+    }
+
     fn with_replaced_self_ty(
         alloc: Global,
         ecx: &mut E,
         env: ParamEnv,
         predicate: Self,
         self_ty: Ty,
-    ) -> Result<Self, NoSolutionOrStop> {
+    ) -> Result<Self, Stop> {
         let _ = env;
-        Ok(with_self_ty(alloc, ecx, predicate, self_ty)?)
+        let other = with_self_ty(alloc, ecx, predicate, self_ty)?;
+        Ok(other)
     }
 
     fn fast_reject_assumption(

@@ -30,7 +30,7 @@ use candidate_ir::ir::unify::RightSide;
 use std::alloc::Global;
 
 /// Whether the trait is the lang item.
-fn is_item(cx: &Cx, item: LangItem, trait_id: TraitId) -> bool
+pub(crate) fn is_item(cx: &Cx, item: LangItem, trait_id: TraitId) -> bool
     ensures { result ≡ is_item cx.now item trait_id.0 }
 {
     match cx.lang_item(item) {

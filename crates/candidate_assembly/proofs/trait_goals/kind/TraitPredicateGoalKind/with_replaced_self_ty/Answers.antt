@@ -1,25 +1,25 @@
 use Rattle.std.proofs.Common.{◌≡◌, ap, ◌∙◌}
 use Rattle.std.proofs.lemmas.Result.{err_from_is_err_and}
 use Rattle.candidate_ir.specs.Words.{args_forest, env_forest, ty_tree}
+use Rattle.candidate_eval.specs.Accounts.StopsSomehow.{making}
 use Rattle.candidate_eval.proofs.Objects.{env-kept}
-use Rattle.candidate_assembly.proofs.Causes.{made-here}
 use Rattle.candidate_assembly.proofs.SelfTypes.{other-goal, same-trait-goal}
 use Rattle.candidate_assembly.proofs.trait_goals.kind.TraitPredicateGoalKind.with_replaced_self_ty.Goals as goal
 
-pub returns-in_err-with_self_ty-clause-cause : goal.returns-in_err-with_self_ty-clause-cause
-returns-in_err-with_self_ty-clause-cause g c =
+pub returns-in_err-other-clause-cause : goal.returns-in_err-other-clause-cause
+returns-in_err-other-clause-cause g c =
     let p = err_from_is_err_and c.from_residual.result c.from_residual.ensures.1 in
-    rw (p.1, p.2) (made-here c.in_err-with_self_ty.ensures.cause)
+    rw (p.1, p.2) (making c.in_err-other.ensures.cause)
 
 pub returns-clause-is : goal.returns-clause-is
 returns-clause-is g c =
     let old = g.E.Build.context c.args.ecx.now in
     let new = g.E.Build.context c.with_self_ty.new.make in
-    same-trait-goal old new c.args.env c.args.predicate c.in_ok-with_self_ty.field-0 (ty_tree old.trees c.args.self_ty) (env-kept old new c.args.env c.with_self_ty.ensures.grows c.requires.goal.env).1
-    c.in_ok-with_self_ty.ensures.id c.in_ok-with_self_ty.ensures.polarity c.in_ok-with_self_ty.ensures.arguments
+    same-trait-goal old new c.args.env c.args.predicate c.in_ok-other.other (ty_tree old.trees c.args.self_ty) (env-kept old new c.args.env c.with_self_ty.ensures.grows c.requires.goal.env).1
+    c.in_ok-other.ensures.id c.in_ok-other.ensures.polarity c.in_ok-other.ensures.arguments
 
 pub returns-clause-goal : goal.returns-clause-goal
 returns-clause-goal g c free e =
     let old = g.E.Build.context c.args.ecx.now in
     let new = g.E.Build.context c.with_self_ty.new.make in
-    other-goal old new c.args.env c.args.predicate c.in_ok-with_self_ty.field-0 c.args.self_ty c.with_self_ty.ensures.grows c.requires.goal c.in_ok-with_self_ty.ensures.sort c.in_ok-with_self_ty.ensures.fit c.in_ok-with_self_ty.ensures.arguments free e
+    other-goal old new c.args.env c.args.predicate c.in_ok-other.other c.args.self_ty c.with_self_ty.ensures.grows c.requires.goal c.in_ok-other.ensures.sort c.in_ok-other.ensures.fit c.in_ok-other.ensures.arguments free e

@@ -1,0 +1,77 @@
+-- The parts of the row by which a structure unsizes.
+use Rattle.std.proofs.Common.{◌≡◌, ℕ, Bool, true, false, List, [], ◌∷◌, map, refl, sym, ap, ◌∙◌}
+use Rattle.std.specs.Prelude.{if◌then◌else◌}
+use Rattle.candidate_ir.specs.declared.ir.heads.Head.TheVariants as H
+use Rattle.candidate_ir.specs.declared.ir.kinds.AdtId.{AdtId}
+use Rattle.candidate_ir.specs.declared.ir.kinds.Args.{Args}
+use Rattle.candidate_ir.specs.declared.ir.kinds.Clause.{Clause}
+use Rattle.candidate_ir.specs.declared.ir.kinds.TraitId.{TraitId}
+use Rattle.candidate_ir.specs.declared.ir.kinds.PredicatePolarity.TheVariants as Pol
+use Rattle.candidate_ir.specs.Context.{Context, Grows}
+use Rattle.candidate_ir.specs.Folding.{substituted_tree}
+use Rattle.candidate_ir.specs.Nodes.{error_tree}
+use Rattle.candidate_ir.specs.Trees.{Forest, none, tree, Tree, holds, is_param, tree_holds}
+use Rattle.candidate_ir.specs.Words.{ClauseListFits, IsArgs, IsClause, args_forest, clause_tree, ty_tree}
+use Rattle.candidate_ir.specs.declared.ir.kinds.Ty.{Ty}
+use Rattle.candidate_ir.specs.Contents.{AdtContents}
+use Rattle.candidate_ir.specs.Declaring.{adt_at}
+use Rattle.candidate_ir.specs.Lookups.{maybe}
+use Rattle.candidate_ir.proofs.Folding.{or-left, or-right}
+use Rattle.candidate_ir.proofs.Kept.{args-kept}
+use Rattle.candidate_eval.specs.Judging.{Refused, comes_to, judged, start}
+use Rattle.candidate_eval.specs.ImplRules.{TraitGoal}
+use Rattle.candidate_eval.specs.Replacing.{first_or}
+use Rattle.candidate_eval.specs.Rules.{Rule, ask}
+use Rattle.candidate_eval.specs.States.{Env, Judge, State}
+use Rattle.candidate_eval.specs.Tables.{last_of}
+use Rattle.candidate_eval.proofs.Marking.{unmarked}
+use Rattle.candidate_eval.proofs.PartsFree.{put-parameterless}
+use Rattle.candidate_eval.proofs.Responding.{clauses-kept}
+use Rattle.candidate_assembly.specs.BuiltinRules.{holds_of, is_nonempty}
+use Rattle.candidate_assembly.specs.Calling.{pair_of}
+use Rattle.candidate_assembly.specs.Unsizing.{equal_rule, mixed, struct_to_struct, tail_of, tail_unsizes, unsizing_parameters}
+use Rattle.candidate_assembly.proofs.EqualTypes.{equal-same}
+
+-- What stays where a context has grown.
+
+pub clause-still : (old new : Context) (x : Clause) → Grows old new → IsClause old.trees x → IsClause new.trees x × (clause_tree new.trees x ≡ clause_tree old.trees x)
+clause-still old new x g h =
+    let k = clauses-kept old new (x ∷ []) g (ap (λ k. k ∷ []) h) in
+    (of (k.0), same (k.1))
+  where
+    of : ClauseListFits new.trees (x ∷ []) → IsClause new.trees x
+    of e = cc
+
+    same : map (clause_tree new.trees) (x ∷ []) ≡ map (clause_tree old.trees) (x ∷ []) → clause_tree new.trees x ≡ clause_tree old.trees x
+    same e = cc
+
+abbrev mixed-tree : AdtId → List ℕ → Forest → Forest → Tree
+mixed-tree i ns f g = record { head = H.Adt i; children = mixed ns 0 f g }
+
+pub mixed-still : (old new : Context) (i : AdtId) (a b : Args) → Grows old new → IsArgs old.trees a → IsArgs old.trees b
+    → mixed-tree i (unsizing_parameters new i.0) (args_forest new.trees a) (args_forest new.trees b) ≡ mixed-tree i (unsizing_parameters old i.0) (args_forest old.trees a) (args_forest old.trees b)
+mixed-still old new i a b g h k =
+    ap (λ (c : Context). mixed-tree i (unsizing_parameters c i.0) (args_forest new.trees a) (args_forest new.trees b)) g.same
+    ∙ (ap (λ f. mixed-tree i (unsizing_parameters old i.0) f (args_forest new.trees b)) (args-kept old new a g h).1
+    ∙ ap (mixed-tree i (unsizing_parameters old i.0) (args_forest old.trees a)) (args-kept old new b g k).1)
+
+-- No parameter stands in the clause.
+
+last-free : (ts : List Tree) (args : Forest) → holds is_param args ≡ false → (xs : List Ty) → tree_holds is_param (first_or error_tree (last_of (map (λ t. substituted_tree args (ty_tree ts t)) xs))) ≡ false
+last-free ts args f [] = refl
+last-free ts args f (x ∷ []) = put-parameterless args (ty_tree ts x) f
+last-free ts args f (x ∷ (y ∷ ys)) = last-free ts args f (y ∷ ys)
+
+pub tail-free : (c : Context) (n : ℕ) (args : Forest) → holds is_param args ≡ false → tree_holds is_param (tail_of c n args) ≡ false
+tail-free c n args f = last-free c.trees args f (maybe [] (λ (a : AdtContents). a.fields) (adt_at c n))
+
+pub pair-free : (i : TraitId) (t u : Tree) → tree_holds is_param t ≡ false → tree_holds is_param u ≡ false → tree_holds is_param (holds_of i Pol.Positive none (pair_of t u)) ≡ false
+pair-free i t u p q =
+    unmarked is_param t.head t.children (tree u.head u.children none) (or-left _ _ p) (or-right _ _ p) (unmarked is_param u.head u.children none (or-left _ _ q) (or-right _ _ q) refl)
+
+-- The rule.
+
+pub struct-refused : (J : Judge) (S : State) (c : Context) (g : TraitGoal) (n : ℕ) (from to : Tree) → unsizing_parameters c n ≡ [] → judged J S (struct_to_struct c g n from to) ≡ Refused
+struct-refused J S c g n from to e =
+    let r : Rule = struct_to_struct c g n from to in
+    ap (λ (b : Bool). if b then comes_to J r.env (start S) r.steps r.ending else Refused) (ap is_nonempty e)

@@ -1,0 +1,93 @@
+use Rattle.std.proofs.Common.{rules, false, ◌≡◌, ◌≤◌, [], ◌∷◌, ◌++◌, length, map, refl, ap, ◌∙◌, subst}
+use Rattle.std.specs.Prelude.{All, List, slice_index_or}
+use Rattle.std.proofs.lemmas.List.{get_or_default}
+use Rattle.std.proofs.lemmas.Result.{err_from_is_err_and}
+use Rattle.candidate_ir.specs.declared.ir.kinds.Clause.{Clause}
+use Rattle.candidate_ir.specs.Context.{Context}
+use Rattle.candidate_ir.specs.Declaring.{bounds_at}
+use Rattle.candidate_ir.specs.Folding.{substituted_tree}
+use Rattle.candidate_ir.specs.Lookups.{maybe}
+use Rattle.candidate_ir.specs.Owned.{bounds_among, is_unsolved}
+use Rattle.candidate_ir.specs.Trees.{Tree, tree_holds}
+use Rattle.candidate_ir.specs.Words.{args_forest, clause_tree}
+use Rattle.candidate_ir.proofs.Joining.{clause-kept}
+use Rattle.candidate_ir.proofs.Kept.{args-kept, grows-trans}
+use Rattle.candidate_ir.proofs.Listing.{listed_clause}
+use Rattle.candidate_eval.proofs.Required.{all_gathered, more_gathered, none_added, pushed_fit, pushed_trees}
+use Rattle.candidate_eval.proofs.StopKinds.{subst_making}
+use Rattle.candidate_assembly.proofs.BoundRules.{declared-by-kind}
+use Rattle.candidate_assembly.proofs.TraitAliases.{all-values, owned-read, put-still, there-still, with_values}
+use Rattle.candidate_assembly.proofs.assembly.alias_bounds.bounds_with_arguments.Goals as goal
+
+pub loop-clause-init : goal.loop-clause-init
+loop-clause-init g c = (none_added _ _ _ _ refl c.new-list.ensures.items refl, refl)
+
+pub subst-requires-clause-value : goal.subst-requires-clause-value
+subst-requires-clause-value g c =
+    let old = g.M.Build.context c.args.make.now in
+    let xs = c.deref-clause-items.result.now in
+    let owned = owned-read old _ c.args.alias.args xs c.bounds_of.result.now c.cx.ensures (c.deref-clause-items.ensures.value ∙ c.in_ok-declared.ensures.items) c.bounds_of.ensures.owned in
+    let past : Clause = record { 0 = 0 } in
+    let x = slice_index_or xs c.loop-clause.clause-index past in
+    (clause-kept old _ x c.loop-clause.invariant.0.grows (listed_clause _ xs c.loop-clause.clause-index x owned.fit c.loop-clause-test.true (get_or_default xs c.loop-clause.clause-index past x c.loop-clause-test.true))).0
+
+pub subst-requires-clause-args : goal.subst-requires-clause-args
+subst-requires-clause-args g c = (args-kept _ _ c.args.alias.args c.loop-clause.invariant.0.grows c.requires.args).0
+
+pub subst-requires-clause-there : goal.subst-requires-clause-there
+subst-requires-clause-there g c =
+    let old = g.M.Build.context c.args.make.now in
+    let xs = c.deref-clause-items.result.now in
+    let owned = owned-read old _ c.args.alias.args xs c.bounds_of.result.now c.cx.ensures (c.deref-clause-items.ensures.value ∙ c.in_ok-declared.ensures.items) c.bounds_of.ensures.owned in
+    let past : Clause = record { 0 = 0 } in
+    let x = slice_index_or xs c.loop-clause.clause-index past in
+    there-still old _ c.args.alias.args x c.loop-clause.invariant.0.grows c.requires.args
+    (listed_clause _ xs c.loop-clause.clause-index x owned.fit c.loop-clause-test.true (get_or_default xs c.loop-clause.clause-index past x c.loop-clause-test.true)) (owned.have c.loop-clause.clause-index past c.loop-clause-test.true)
+
+pub returns-in_err-clause-clause-cause : goal.returns-in_err-clause-clause-cause
+returns-in_err-clause-clause-cause g c =
+    let p = err_from_is_err_and c.from_residual-in_err-clause.result c.from_residual-in_err-clause.ensures.1 in
+    rw (p.1, p.2) (subst_making _ _ _ c.in_err-clause.ensures.cause)
+
+pub returns-in_err-clause-clause-grows : goal.returns-in_err-clause-clause-grows
+returns-in_err-clause-clause-grows g c = grows-trans _ _ _ c.loop-clause.invariant.0.grows c.subst.ensures.grows
+
+pub returns-in_err-push-clause-grows : goal.returns-in_err-push-clause-grows
+returns-in_err-push-clause-grows g c = grows-trans _ _ _ c.loop-clause.invariant.0.grows c.subst.ensures.grows
+
+pub loop-clause-preserved : goal.loop-clause-preserved
+loop-clause-preserved g c =
+    let start = g.M.Build.context c.args.make.now in
+    let now = g.M.Build.context c.loop-clause.make in
+    let new = g.M.Build.context c.subst.new.make in
+    let so = c.loop-clause.invariant.0 in
+    let xs = c.deref-clause-items.result.now in
+    let owned = owned-read start _ c.args.alias.args xs c.bounds_of.result.now c.cx.ensures (c.deref-clause-items.ensures.value ∙ c.in_ok-declared.ensures.items) c.bounds_of.ensures.owned in
+    let past : Clause = record { 0 = 0 } in
+    let x = slice_index_or xs c.loop-clause.clause-index past in
+    let is = listed_clause _ xs c.loop-clause.clause-index x owned.fit c.loop-clause-test.true (get_or_default xs c.loop-clause.clause-index past x c.loop-clause-test.true) in
+    let items : c.push.new.self.items ≡ c.loop-clause.list.items ++ c.in_ok-clause.clause ∷ [] = search rules in
+    let stays = put-still start now c.args.alias.args x so.grows c.requires.args is in
+    let trees = pushed_trees now new c.loop-clause.list.items c.push.new.self.items c.in_ok-clause.clause _ c.subst.ensures.grows so.fit items c.in_ok-clause.ensures.tree in (
+      more_gathered start now new [] c.loop-clause.list.items c.push.new.self.items (with_values start.trees (args_forest start.trees c.args.alias.args)) xs c.loop-clause.clause-index past so
+          c.loop-clause-test.true c.subst.ensures.grows (pushed_fit now new c.loop-clause.list.items c.push.new.self.items c.in_ok-clause.clause c.subst.ensures.grows so.fit c.in_ok-clause.ensures.sort items)
+          (trees ∙ ap (λ (ts : List Tree). map (clause_tree now.trees) c.loop-clause.list.items ++ ts) stays),
+      c.subst.ensures.rest ∙ c.loop-clause.invariant.1,
+    )
+
+pub returns-clause-trees : goal.returns-clause-trees
+returns-clause-trees g c =
+    let start = g.M.Build.context c.args.make.now in
+    let xs = c.deref-clause-items.result.now in
+    let args = args_forest start.trees c.args.alias.args in
+    let past : length xs ≤ c.loop-clause.clause-index = search rules in
+    let are = subst (λ (y : Context). xs ≡ maybe [] (bounds_among c.args.kind) (bounds_at y c.args.alias.id.0)) c.cx.ensures (c.deref-clause-items.ensures.value ∙ (c.in_ok-declared.ensures.items ∙ c.bounds_of.ensures.is)) in
+    all_gathered start _ [] c.loop-clause.list.items (with_values start.trees args) xs c.loop-clause.clause-index c.loop-clause.invariant.0 past ∙ (all-values start.trees args xs ∙ ap (map (λ (x : Clause). substituted_tree args (clause_tree start.trees x))) (are ∙ declared-by-kind start c.args.kind c.args.alias.id.0))
+
+pub returns-clause-closed : goal.returns-clause-closed
+returns-clause-closed g c =
+    let start = g.M.Build.context c.args.make.now in
+    let xs = c.deref-clause-items.result.now in
+    let owned = owned-read start _ c.args.alias.args xs c.bounds_of.result.now c.cx.ensures (c.deref-clause-items.ensures.value ∙ c.in_ok-declared.ensures.items) c.bounds_of.ensures.owned in
+    let are = subst (λ (y : Context). xs ≡ maybe [] (bounds_among c.args.kind) (bounds_at y c.args.alias.id.0)) c.cx.ensures (c.deref-clause-items.ensures.value ∙ (c.in_ok-declared.ensures.items ∙ c.bounds_of.ensures.is)) in
+    subst (λ (ws : List Clause). All (λ x. tree_holds is_unsolved (clause_tree start.trees x) ≡ false) ws) (are ∙ declared-by-kind start c.args.kind c.args.alias.id.0) owned.closed

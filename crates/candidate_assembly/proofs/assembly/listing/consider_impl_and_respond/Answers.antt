@@ -1,0 +1,19 @@
+use Rattle.candidate_assembly.proofs.Keeping.{responds-at}
+use Rattle.candidate_assembly.proofs.assembly.listing.consider_impl_and_respond.Goals as goal
+
+pub returns : goal.returns
+returns g c =
+    let E = g.E.EvalCtxt in
+    let K = g.G.GoalKind in
+    let old = g.E.Build.context c.args.ecx.now in
+    let part = K.rules.impl_part old (E.state c.args.ecx.now).mode (K.seen old.trees c.args.env c.args.predicate) c.args.of in
+    let done = c.consider_impl_candidate.ensures in
+    record {
+      kept = done.kept;
+      alike = done.alike;
+      told = done.told (λ S. (E.judge (E.fixed c.args.ecx.now)).responded S part.certainty) (record {
+        at = λ x r y same called.
+            responds-at E.fixed E.judge E.state g.E.Build.context c.args.ecx.now called.shown.now x called.left.now y part.certainty r called.shows called.leaves same.fixed_same called.met.1.1.0;
+      });
+      cause = done.cause;
+    }

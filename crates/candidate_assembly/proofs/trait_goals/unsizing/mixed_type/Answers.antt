@@ -1,0 +1,60 @@
+use Rattle.std.proofs.Common.{◌≡◌, [], Some, List, ℕ, sym, ap, subst, ◌∙◌}
+use Rattle.candidate_ir.specs.declared.ir.heads.Head.TheVariants as H
+use Rattle.candidate_ir.specs.declared.ir.kinds.Args.{Args}
+use Rattle.candidate_ir.specs.declared.ir.kinds.GenericArg.{GenericArg}
+use Rattle.candidate_ir.specs.declared.ir.kinds.Ty.{Ty}
+use Rattle.candidate_ir.specs.Context.{Context, world}
+use Rattle.candidate_ir.specs.Trees.{Forest, Tree}
+use Rattle.candidate_ir.specs.Words.{ListFits, args_forest, list_forest, ty_tree}
+use Rattle.candidate_ir.specs.Worlds.{AdtSort, World, kinds_of, parameters}
+use Rattle.candidate_ir.proofs.Kept.{world-kept}
+use Rattle.candidate_assembly.specs.Unsizing.{mixed, unsizing_parameters}
+use Rattle.candidate_assembly.proofs.Causes.{so-ok}
+use Rattle.candidate_assembly.proofs.MixedForests.{args-length, args-row, mixed-row}
+use Rattle.candidate_assembly.proofs.trait_goals.unsizing.mixed_type.Goals as goal
+
+abbrev Lists : Args → List GenericArg → Context → Type 0
+Lists a xs y = ListFits y.trees xs × (list_forest y.trees xs ≡ args_forest y.trees a)
+
+pub mixed_list-requires : goal.mixed_list-requires
+mixed_list-requires g c =
+    let old = g.M.Build.context c.args.make.now in
+    args-length old.trees (parameters (world old) AdtSort c.args.adt.0) (args_forest old.trees c.args.first) (args_forest old.trees c.args.second) c.args-2.result.now c.args-3.result.now
+    (subst (Lists c.args.first c.args-2.result.now) c.cx-cx.ensures (c.args-2.ensures.fits, c.args-2.ensures.tree))
+    (subst (Lists c.args.second c.args-3.result.now) c.cx-cx.ensures (c.args-3.ensures.fits, c.args-3.ensures.tree)) c.requires.first_fit c.requires.second_fit
+
+pub mk_args-requires : goal.mk_args-requires
+mk_args-requires g c =
+    let old = g.M.Build.context c.args.make.now in
+    let n = c.args.adt.0 in
+    let cs = c.unsizing_parameters-changed.result.now in
+    (mixed-row old.trees (parameters (world old) AdtSort n) cs (unsizing_parameters old n) (args_forest old.trees c.args.first) (args_forest old.trees c.args.second) c.args-2.result.now c.args-3.result.now c.as_slice.result.now
+    (subst (Lists c.args.first c.args-2.result.now) c.cx-cx.ensures (c.args-2.ensures.fits, c.args-2.ensures.tree))
+    (subst (Lists c.args.second c.args-3.result.now) c.cx-cx.ensures (c.args-3.ensures.fits, c.args-3.ensures.tree)) c.requires.first_fit c.requires.second_fit
+    (subst (λ (y : Context). cs ≡ unsizing_parameters y n) c.cx-cx.ensures c.unsizing_parameters-changed.ensures) (c.as_slice.ensures.value ∙ c.in_ok-list.ensures)).0
+
+pub mk_ty-requires-clause-takes : goal.mk_ty-requires-clause-takes
+mk_ty-requires-clause-takes g c = λ strict no.
+    let old = g.M.Build.context c.args.make.now in
+    let mid = g.M.Build.context c.mk_args.new.self in
+    let n = c.args.adt.0 in
+    let cs = c.unsizing_parameters-changed.result.now in
+    let made = mixed-row old.trees (parameters (world old) AdtSort n) cs (unsizing_parameters old n) (args_forest old.trees c.args.first) (args_forest old.trees c.args.second) c.args-2.result.now c.args-3.result.now c.as_slice.result.now
+    (subst (Lists c.args.first c.args-2.result.now) c.cx-cx.ensures (c.args-2.ensures.fits, c.args-2.ensures.tree))
+    (subst (Lists c.args.second c.args-3.result.now) c.cx-cx.ensures (c.args-3.ensures.fits, c.args-3.ensures.tree)) c.requires.first_fit c.requires.second_fit
+    (subst (λ (y : Context). cs ≡ unsizing_parameters y n) c.cx-cx.ensures c.unsizing_parameters-changed.ensures) (c.as_slice.ensures.value ∙ c.in_ok-list.ensures) in
+    let below = args-row mid.trees c.in_ok-args.args c.in_ok-args.ensures.made.sort ∙ c.in_ok-args.ensures.made.tree in
+    ap (λ (w : World). parameters w AdtSort n) (world-kept old mid c.mk_args.ensures.made.kept).0 ∙ (c.requires.first_fit ∙ ap Some (sym (ap kinds_of below ∙ made.2)))
+
+pub returns-clause-tree : goal.returns-clause-tree
+returns-clause-tree g c =
+    let old = g.M.Build.context c.args.make.now in
+    let mid = g.M.Build.context c.mk_args.new.self in
+    let n = c.args.adt.0 in
+    let cs = c.unsizing_parameters-changed.result.now in
+    let made = mixed-row old.trees (parameters (world old) AdtSort n) cs (unsizing_parameters old n) (args_forest old.trees c.args.first) (args_forest old.trees c.args.second) c.args-2.result.now c.args-3.result.now c.as_slice.result.now
+    (subst (Lists c.args.first c.args-2.result.now) c.cx-cx.ensures (c.args-2.ensures.fits, c.args-2.ensures.tree))
+    (subst (Lists c.args.second c.args-3.result.now) c.cx-cx.ensures (c.args-3.ensures.fits, c.args-3.ensures.tree)) c.requires.first_fit c.requires.second_fit
+    (subst (λ (y : Context). cs ≡ unsizing_parameters y n) c.cx-cx.ensures c.unsizing_parameters-changed.ensures) (c.as_slice.ensures.value ∙ c.in_ok-list.ensures) in
+    let below = args-row mid.trees c.in_ok-args.args c.in_ok-args.ensures.made.sort ∙ c.in_ok-args.ensures.made.tree in
+    so-ok c.mk_ty.result (λ x m. m ∙ ap (λ (f : Forest). let t : Tree = record { head = H.Adt c.args.adt; children = f } in t) (below ∙ made.1)) c.mk_ty.ensures.made.tree

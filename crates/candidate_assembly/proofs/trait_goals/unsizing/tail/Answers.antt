@@ -1,0 +1,29 @@
+use Rattle.std.proofs.Common.{◌≡◌, [], None, Some, sym, subst, ◌∙◌}
+use Rattle.candidate_ir.specs.declared.ir.kinds.Ty.{Ty}
+use Rattle.candidate_ir.specs.Context.{Context}
+use Rattle.candidate_ir.specs.Contents.{AdtContents}
+use Rattle.candidate_ir.specs.Declaring.{adt_at}
+use Rattle.candidate_ir.specs.Folding.{substituted_tree}
+use Rattle.candidate_ir.specs.Lookups.{maybe}
+use Rattle.candidate_ir.specs.Trees.{Tree}
+use Rattle.candidate_ir.specs.Words.{args_forest, ty_tree}
+use Rattle.candidate_eval.specs.Tables.{last_of, optional}
+use Rattle.candidate_assembly.proofs.Causes.{so-ok}
+use Rattle.candidate_assembly.proofs.Tails.{no-tail, tail-there}
+use Rattle.candidate_assembly.proofs.trait_goals.unsizing.tail.Goals as goal
+
+pub returns-in-Some-clause-tree : goal.returns-in-Some-clause-tree
+returns-in-Some-clause-tree g c =
+    let old = g.M.Build.context c.args.make.now in
+    let read = subst (λ (y : Context). optional (Some c.in-Some.ty) ≡ last_of (maybe [] (λ (a : AdtContents). a.fields) (adt_at y c.args.adt.0))) c.cx.ensures c.in-Some.ensures.is in
+    let is = tail-there old c.args.adt.0 (args_forest old.trees c.args.args) c.in-Some.ty read in
+    let new = g.M.Build.context c.subst.new.make in
+    let put : Tree = substituted_tree (args_forest old.trees c.args.args) (ty_tree old.trees c.in-Some.ty) in
+    so-ok c.subst.result {P = λ (x : Ty). ty_tree new.trees x ≡ put} (λ x m. m ∙ sym is) c.subst.ensures.tree
+
+pub returns-in-None-clause-tree : goal.returns-in-None-clause-tree
+returns-in-None-clause-tree g c =
+    let old = g.M.Build.context c.args.make.now in
+    let read = subst (λ (y : Context). optional None ≡ last_of (maybe [] (λ (a : AdtContents). a.fields) (adt_at y c.args.adt.0))) c.cx.ensures c.in-None.ensures.is in
+    let is = no-tail old c.args.adt.0 (args_forest old.trees c.args.args) read in
+    so-ok c.mk_ty.result (λ x m. m ∙ sym is) c.mk_ty.ensures.made.tree

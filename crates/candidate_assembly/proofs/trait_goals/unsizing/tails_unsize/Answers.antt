@@ -1,0 +1,40 @@
+use Rattle.std.proofs.Common.{◌≡◌, Some, ap, subst, sym, ◌∙◌}
+use Rattle.candidate_ir.specs.declared.ir.kinds.Clause.{Clause}
+use Rattle.candidate_ir.specs.declared.ir.kinds.PredicatePolarity.TheVariants as Pol
+use Rattle.candidate_ir.specs.Context.{world}
+use Rattle.candidate_ir.specs.Trees.{Forest, none, Tree}
+use Rattle.candidate_ir.specs.Words.{args_forest, clause_tree, ty_tree}
+use Rattle.candidate_ir.specs.Worlds.{AdtSort, World, kinds_of, parameters}
+use Rattle.candidate_ir.proofs.Kept.{args-kept, ty-kept, world-kept}
+use Rattle.candidate_assembly.specs.BuiltinRules.{holds_of}
+use Rattle.candidate_assembly.specs.Calling.{pair_of}
+use Rattle.candidate_assembly.specs.Unsizing.{tail_of}
+use Rattle.candidate_assembly.proofs.Causes.{so-ok}
+use Rattle.candidate_assembly.proofs.Tails.{adt-fits-still, tail-kept}
+use Rattle.candidate_assembly.proofs.trait_goals.unsizing.tails_unsize.Goals as goal
+
+pub tail-requires-2-clause-args : goal.tail-requires-2-clause-args
+tail-requires-2-clause-args g c = (args-kept (g.M.Build.context c.args.make.now) (g.M.Build.context c.tail.new.make) c.args.to c.tail.ensures.grows c.requires.to).0
+
+pub tail-requires-2-clause-fit : goal.tail-requires-2-clause-fit
+tail-requires-2-clause-fit g c = adt-fits-still (g.M.Build.context c.args.make.now) (g.M.Build.context c.tail.new.make) c.args.adt c.args.to c.tail.ensures.grows c.requires.to c.requires.to_fit
+
+pub unsizes-requires-clause-from : goal.unsizes-requires-clause-from
+unsizes-requires-clause-from g c = (ty-kept (g.M.Build.context c.tail.new.make) (g.M.Build.context c.tail-2.new.make) c.in_ok-left.left c.tail-2.ensures.grows c.in_ok-left.ensures.sort).0
+
+pub returns-clause-tree : goal.returns-clause-tree
+returns-clause-tree g c =
+    let old = g.M.Build.context c.args.make.now in
+    let mid = g.M.Build.context c.tail.new.make in
+    let last = g.M.Build.context c.tail-2.new.make in
+    let end = g.M.Build.context c.unsizes.new.make in
+    let n = c.args.adt.0 in
+    let t = ty_tree last.trees c.in_ok-left.left in
+    let u = ty_tree last.trees c.in_ok-right.right in
+    let v = tail_of old n (args_forest old.trees c.args.from) in
+    let w = tail_of old n (args_forest old.trees c.args.to) in
+    let left : t ≡ v = (ty-kept mid last c.in_ok-left.left c.tail-2.ensures.grows c.in_ok-left.ensures.sort).1 ∙ c.in_ok-left.ensures.tree in
+    let right : u ≡ w = c.in_ok-right.ensures.tree ∙ tail-kept old mid n c.args.to c.tail.ensures.grows c.requires.to c.in_ok-left.ensures.declared in
+    let is : holds_of c.args.unsize Pol.Positive none (pair_of t u) ≡ holds_of c.args.unsize Pol.Positive none (pair_of v w)
+    = ap (λ (x : Tree). holds_of c.args.unsize Pol.Positive none (pair_of x u)) left ∙ ap (λ (x : Tree). holds_of c.args.unsize Pol.Positive none (pair_of v x)) right in
+    so-ok c.unsizes.result {P = λ (x : Clause). clause_tree end.trees x ≡ holds_of c.args.unsize Pol.Positive none (pair_of t u)} (λ x m. m ∙ is) c.unsizes.ensures.tree

@@ -1,0 +1,52 @@
+use Rattle.std.proofs.Common.{◌≡◌, refl, ◌∙◌}
+use Rattle.candidate_ir.specs.declared.ir.kinds.PredicatePolarity.TheVariants.{Positive}
+use Rattle.candidate_ir.specs.declared.ir.kinds.TraitPredicate.{TraitPredicate}
+use Rattle.candidate_ir.specs.Words.{ty_tree}
+use Rattle.candidate_ir.proofs.Kept.{args-kept, grows-trans}
+use Rattle.candidate_assembly.specs.Calling.{pair_of}
+use Rattle.candidate_assembly.proofs.CallSteps.{two-types}
+use Rattle.candidate_assembly.proofs.Causes.{so-ok}
+use Rattle.candidate_assembly.proofs.TraitClauses.{fact-fits, fact-takes}
+use Rattle.candidate_assembly.proofs.UnsizingClauses.{fits-pair, made-to-hold}
+use Rattle.candidate_assembly.proofs.trait_goals.unsizing.unsizes.Goals as goal
+
+pub mk_clause-requires-clause-fits : goal.mk_clause-requires-clause-fits
+mk_clause-requires-clause-fits g c =
+    let p : TraitPredicate = record { trait_ref = record { def_id = c.args.unsize; args = c.in_ok-args.args }; polarity = Positive } in
+    let made = g.M.Build.context c.mk_args.new.self in
+    let mid = g.M.Build.context c.mk_vars.new.self in
+    fact-fits mid.trees c.in_ok-vars.vars p c.in_ok-vars.ensures.made.sort (args-kept made mid c.in_ok-args.args c.mk_vars.ensures.made.kept c.in_ok-args.ensures.made.sort).0
+
+pub mk_clause-requires-clause-takes : goal.mk_clause-requires-clause-takes
+mk_clause-requires-clause-takes g c = λ strict.
+    let p : TraitPredicate = record { trait_ref = record { def_id = c.args.unsize; args = c.in_ok-args.args }; polarity = Positive } in
+    let old = g.M.Build.context c.args.make.now in
+    let made = g.M.Build.context c.mk_args.new.self in
+    let mid = g.M.Build.context c.mk_vars.new.self in
+    let there = args-kept made mid c.in_ok-args.args c.mk_vars.ensures.made.kept c.in_ok-args.ensures.made.sort in
+    fact-takes mid c.in_ok-vars.vars p c.in_ok-vars.ensures.made.sort there.0
+    (fits-pair old mid p.trait_ref c.args.from c.args.to (grows-trans old made mid c.mk_args.ensures.made.kept c.mk_vars.ensures.made.kept) c.requires.from c.requires.to c.requires.takes_a_type
+    (there.1 ∙ (c.in_ok-args.ensures.made.tree ∙ two-types old.trees c.args.from c.args.to c.requires.from c.requires.to)))
+
+pub returns-clause-tree : goal.returns-clause-tree
+returns-clause-tree g c =
+    let p : TraitPredicate = record { trait_ref = record { def_id = c.args.unsize; args = c.in_ok-args.args }; polarity = Positive } in
+    let old = g.M.Build.context c.args.make.now in
+    let made = g.M.Build.context c.mk_args.new.self in
+    let mid = g.M.Build.context c.mk_vars.new.self in
+    let there = args-kept made mid c.in_ok-args.args c.mk_vars.ensures.made.kept c.in_ok-args.ensures.made.sort in
+    let is = made-to-hold mid c.in_ok-vars.vars p (pair_of (ty_tree old.trees c.args.from) (ty_tree old.trees c.args.to)) c.in_ok-vars.ensures.made.tree c.in_ok-vars.ensures.made.sort there.0 refl
+    (there.1 ∙ (c.in_ok-args.ensures.made.tree ∙ two-types old.trees c.args.from c.args.to c.requires.from c.requires.to)) in
+    so-ok c.mk_clause.result (λ x m. m ∙ is) c.mk_clause.ensures.made.tree
+
+pub returns-in_err-vars-clause-grows : goal.returns-in_err-vars-clause-grows
+returns-in_err-vars-clause-grows g c =
+    grows-trans (g.M.Build.context c.args.make.now) (g.M.Build.context c.mk_args.new.self) (g.M.Build.context c.mk_vars.new.self) c.mk_args.ensures.made.kept c.mk_vars.ensures.made.kept
+
+pub returns-clause-grows : goal.returns-clause-grows
+returns-clause-grows g c =
+    let old = g.M.Build.context c.args.make.now in
+    let made = g.M.Build.context c.mk_args.new.self in
+    let mid = g.M.Build.context c.mk_vars.new.self in
+    let last = g.M.Build.context c.mk_clause.new.self in
+    grows-trans old mid last (grows-trans old made mid c.mk_args.ensures.made.kept c.mk_vars.ensures.made.kept) c.mk_clause.ensures.made.kept

@@ -1,0 +1,181 @@
+//! The rules that the language has for some traits, by name.
+
+ghost use Rattle.std.specs.Prelude.{◌≡◌};
+ghost use Rattle.candidate_ir.specs.Faults.{all_items};
+ghost use Rattle.candidate_eval.specs.ResponseTrees.{AreCandidates};
+ghost use Rattle.candidate_assembly.specs.Assembled.{language_rules, rule_among, rule_name, rule_of_item, rule_of_trait};
+ghost use Rattle.candidate_assembly.specs.Kinds.{IsGoal, IsTyped};
+ghost use Rattle.candidate_assembly.specs.Language.{if_named, rule_by_item, rule_named};
+ghost use Rattle.candidate_assembly.specs.Listing.{ConsidersAll, after_these, answers};
+ghost use Rattle.candidate_assembly.specs.Telling.{Considers};
+
+use crate::assembly::kind::GoalKind;
+use crate::assembly::listing::push_considered;
+use crate::trait_goals::matching::is_item;
+use candidate_eval::eval::context::EvalCtxt;
+use candidate_eval::eval::refusal::NoSolutionOrStop;
+use candidate_eval::eval::response::Candidate;
+use candidate_ir::decl::Cx;
+use candidate_ir::decl::contents::{LangItem, Sizedness};
+use candidate_ir::ir::kinds::{ClosureKind, ParamEnv, TraitId};
+use candidate_ir::ir::stop::Stop;
+use std::alloc::Global;
+
+/// A rule of the language.
+#[derive(Clone, Copy)]
+pub enum LanguageRule {
+    /// Where the predicate holds an error.
+    Error,
+    AutoTrait,
+    TraitAlias,
+    Sizedness(Sizedness),
+    /// For `Copy`, `Clone` and `TrivialClone`.
+    CopyClone,
+    FnTrait(ClosureKind),
+    FnPtrTrait,
+    Tuple,
+    Pointee,
+    DiscriminantKind,
+    Destruct,
+    NoDrop,
+}
+
+/// The rule of a lang item, if it has one.
+fn rule_of_item(item: LangItem) -> Option<LanguageRule>
+    ensures { if_named result ≡ rule_of_item item }
+{
+    let rule = match item {
+        LangItem::Sized => LanguageRule::Sizedness(Sizedness::Sized),
+        LangItem::MetaSized => LanguageRule::Sizedness(Sizedness::MetaSized),
+        LangItem::Copy | LangItem::Clone | LangItem::TrivialClone => LanguageRule::CopyClone,
+        LangItem::Fn => LanguageRule::FnTrait(ClosureKind::Fn),
+        LangItem::FnMut => LanguageRule::FnTrait(ClosureKind::FnMut),
+        LangItem::FnOnce => LanguageRule::FnTrait(ClosureKind::FnOnce),
+        LangItem::FnPtrTrait => LanguageRule::FnPtrTrait,
+        LangItem::Tuple => LanguageRule::Tuple,
+        LangItem::PointeeTrait => LanguageRule::Pointee,
+        LangItem::DiscriminantKind => LanguageRule::DiscriminantKind,
+        LangItem::Destruct => LanguageRule::Destruct,
+        LangItem::BikeshedGuaranteedNoDrop => LanguageRule::NoDrop,
+        LangItem::Drop | LangItem::Unsize => return None,
+    };
+    Some(rule)
+}
+
+/// The rule of the item, where the trait is that item.
+fn rule_by_item(cx: &Cx, trait_id: TraitId, item: LangItem) -> Option<LanguageRule>
+    ensures { if_named result ≡ rule_by_item cx.now trait_id.0 item }
+{
+    if !is_item(cx, item, trait_id) {
+        return None;
+    }
+    rule_of_item(item)
+}
+
+/// The rule of the first lang item that the trait is and that has one.
+fn rule_among_items(cx: &Cx, trait_id: TraitId) -> Option<LanguageRule>
+    ensures { if_named result ≡ rule_among cx.now trait_id.0 all_items }
+{
+    for item in &LangItem::ALL {
+        if let Some(rule) = rule_by_item(cx, trait_id, *item) {
+            return Some(rule);
+        }
+    }
+    None
+}
+
+/// The rule that the language has for the trait, if it has one: an auto trait and a trait alias have theirs whatever items they are.
+pub fn builtin_rule_of(cx: &Cx, trait_id: TraitId) -> Option<LanguageRule>
+    ensures { if_named result ≡ rule_of_trait cx.now trait_id.0 }
+{
+    if let Some(flags) = cx.trait_flags(trait_id) {
+        if flags.auto {
+            return Some(LanguageRule::AutoTrait);
+        }
+        if flags.alias {
+            return Some(LanguageRule::TraitAlias);
+        }
+    }
+    rule_among_items(cx, trait_id)
+}
+
+/// The rule that the language has for the goal, if it has one: the one for errors, where it holds an error; else its trait's.
+fn rule_for<E: EvalCtxt, G: GoalKind<E>>(
+    cx: &Cx,
+    env: ParamEnv,
+    predicate: G,
+) -> Option<LanguageRule>
+    requires { IsGoal G.rules G.arguments G.types G.seen cx.now env predicate }
+    ensures { if_named result ≡ rule_name G.rules cx.now (G.seen cx.now.trees env predicate) }
+{
+    if G::holds_error(cx, env, predicate) {
+        return Some(LanguageRule::Error);
+    }
+    builtin_rule_of(cx, G::trait_def_id(cx, env, predicate))
+}
+
+/// Considers the rule of that name: it answers, stops and leaves the state as the call of the goal's kind does. The self type of the goal is
+/// neither a general variable nor a bound type.
+pub fn consider_language_rule<E: EvalCtxt, G: GoalKind<E>>(
+    alloc: Global,
+    ecx: &mut E,
+    env: ParamEnv,
+    predicate: G,
+    rule: LanguageRule,
+) -> Result<Candidate, NoSolutionOrStop>
+    requires goal { IsGoal G.rules G.arguments G.types G.seen (E.context ecx.old) env predicate }
+    requires typed { IsTyped G.rules (E.context ecx.old) (G.seen (E.context ecx.old).trees env predicate) }
+    ensures { Considers E.fixed E.judge E.state E.probes E.context E.stops ecx.old ecx.new (G.rules.builtin_rule (rule_named rule) (E.context ecx.old) (G.seen (E.context ecx.old).trees env predicate)) result }
+{
+    match rule {
+        LanguageRule::Error => {
+            G::consider_error_guaranteed_candidate(alloc, ecx, env, predicate)
+        }
+        LanguageRule::AutoTrait => G::consider_auto_trait_candidate(alloc, ecx, env, predicate),
+        LanguageRule::TraitAlias => G::consider_trait_alias_candidate(alloc, ecx, env, predicate),
+        LanguageRule::Sizedness(sizedness) => {
+            G::consider_builtin_sizedness_candidates(alloc, ecx, env, predicate, sizedness)
+        }
+        LanguageRule::CopyClone => {
+            G::consider_builtin_copy_clone_candidate(alloc, ecx, env, predicate)
+        }
+        LanguageRule::FnTrait(called) => {
+            G::consider_builtin_fn_trait_candidates(alloc, ecx, env, predicate, called)
+        }
+        LanguageRule::FnPtrTrait => {
+            G::consider_builtin_fn_ptr_trait_candidate(alloc, ecx, env, predicate)
+        }
+        LanguageRule::Tuple => G::consider_builtin_tuple_candidate(alloc, ecx, env, predicate),
+        LanguageRule::Pointee => G::consider_builtin_pointee_candidate(alloc, ecx, env, predicate),
+        LanguageRule::DiscriminantKind => {
+            G::consider_builtin_discriminant_kind_candidate(alloc, ecx, env, predicate)
+        }
+        LanguageRule::Destruct => G::consider_builtin_destruct_candidate(alloc, ecx, env, predicate),
+        LanguageRule::NoDrop => {
+            G::consider_builtin_bikeshed_guaranteed_no_drop_candidate(alloc, ecx, env, predicate)
+        }
+    }
+}
+
+/// Adds the candidate by the rule that the language has for the goal, if it has one and that gives one. The self type of the goal is neither a
+/// general variable nor a bound type.
+///
+/// It stops as the rule does; `Stop::Memory` comes where the list can't grow. The state is left alike the one before.
+pub fn assemble_language_candidates<E: EvalCtxt, G: GoalKind<E>>(
+    alloc: Global,
+    ecx: &mut E,
+    env: ParamEnv,
+    predicate: G,
+    candidates: &mut Vec<Candidate>,
+) -> Result<(), Stop>
+    requires goal { IsGoal G.rules G.arguments G.types G.seen (E.context ecx.old) env predicate }
+    requires typed { IsTyped G.rules (E.context ecx.old) (G.seen (E.context ecx.old).trees env predicate) }
+    requires candidates { AreCandidates (E.context ecx.old).trees candidates.old.items }
+    ensures { ConsidersAll E.fixed E.judge E.state E.probes E.context E.stops ecx.old ecx.new (E.state ecx.old) (λ _. candidates.new.items) (λ l. l ≡ after_these (E.context ecx.old).trees candidates.old.items (answers (E.judge (E.fixed ecx.old)) (E.state ecx.old) (language_rules G.rules (E.context ecx.old) (G.seen (E.context ecx.old).trees env predicate)))) result }
+{
+    let Some(rule) = rule_for::<E, G>(ecx.cx(), env, predicate) else {
+        return Ok(());
+    };
+    let answer = consider_language_rule(alloc, ecx, env, predicate, rule);
+    push_considered(candidates, answer)
+}

@@ -1,0 +1,177 @@
+//! Lists of candidates, by rules in their order.
+
+ghost use Rattle.std.specs.Prelude.{◌≡◌, false, length, IfErr, IfOk};
+ghost use Rattle.candidate_ir.specs.Impls.{relevant_impls};
+ghost use Rattle.candidate_ir.specs.Trees.{holds, is_param};
+ghost use Rattle.candidate_ir.specs.WellFormed.{IsWellFormedTable};
+ghost use Rattle.candidate_ir.specs.Words.{env_forest};
+ghost use Rattle.candidate_eval.specs.Accounts.{by_stop};
+ghost use Rattle.candidate_eval.specs.Evaluators.{Keeps};
+ghost use Rattle.candidate_eval.specs.ResponseTrees.{AreCandidates};
+ghost use Rattle.candidate_eval.specs.declared.eval.source.CandidateSource.TheVariants as source;
+ghost use Rattle.candidate_assembly.specs.Assembled.{impl_rules, trait_of, where_rules};
+ghost use Rattle.candidate_assembly.specs.Closures.{Responds};
+ghost use Rattle.candidate_assembly.specs.Kinds.{GoalBelow, IsGoal, rule_of_part, self_type};
+ghost use Rattle.candidate_assembly.specs.Listing.{Adds, ConsidersAll, after_these, answers};
+ghost use Rattle.candidate_assembly.specs.Opaques.{is_default_impl, proper_impls};
+ghost use Rattle.candidate_assembly.specs.Telling.{Considers, StopsOfItself, without_usages};
+
+use crate::assembly::kind::GoalKind;
+use candidate_eval::eval::certainty::Certainty;
+use candidate_eval::eval::context::EvalCtxt;
+use candidate_eval::eval::refusal::NoSolutionOrStop;
+use candidate_eval::eval::response::{Candidate, CandidateHeadUsages, CanonicalResponse};
+use candidate_ir::decl::Cx;
+use candidate_ir::decl::contents::ImplId;
+use candidate_ir::ir::kinds::ParamEnv;
+use candidate_ir::ir::stop::Stop;
+use candidate_ir::ir::trees::Trees;
+use std::alloc::Global;
+
+/// Adds the candidate, if there is one; a refusal adds nothing.
+///
+/// A stop that was answered is handed on; `Stop::Memory` comes where the list can't grow. The candidates before stay.
+pub(crate) fn push_considered(
+    candidates: &mut Vec<Candidate>,
+    answer: Result<Candidate, NoSolutionOrStop>,
+) -> Result<(), Stop>
+    ensures { Adds answer candidates.old.items candidates.new.items result }
+{
+    match answer {
+        Ok(candidate) => candidates.push(candidate)?,
+        Err(NoSolutionOrStop::NoSolution) => {}
+        Err(NoSolutionOrStop::Stop(stop)) => return Err(stop),
+    }
+    Ok(())
+}
+
+/// As `push_considered`, where a refusal says which goals above were used until then: these are added to those of the rules that failed.
+pub(crate) fn push_or_note(
+    candidates: &mut Vec<Candidate>,
+    failed: &mut Vec<CandidateHeadUsages>,
+    answer: Result<Result<Candidate, CandidateHeadUsages>, Stop>,
+) -> Result<(), Stop>
+    ensures { Adds (without_usages answer) candidates.old.items candidates.new.items result }
+{
+    match answer? {
+        Ok(candidate) => candidates.push(candidate)?,
+        Err(usages) => failed.push(usages)?,
+    }
+    Ok(())
+}
+
+/// Adds the candidates by the clauses of the environment, in their order; of a clause that gives none, which goals above were used until
+/// then. No parameter stands in the environment, and the goal mentions only the state's variables.
+///
+/// It stops at the first clause whose rule stops, with that stop; `Stop::Memory` comes where a list can't grow. The state is left alike the
+/// one before.
+pub fn assemble_param_env_candidates<E: EvalCtxt, G: GoalKind<E>>(
+    alloc: Global,
+    ecx: &mut E,
+    env: ParamEnv,
+    predicate: G,
+    candidates: &mut Vec<Candidate>,
+    failed: &mut Vec<CandidateHeadUsages>,
+) -> Result<(), Stop>
+    requires goal { IsGoal G.rules G.arguments G.types G.seen (E.context ecx.old) env predicate }
+    requires below { GoalBelow G.rules (length (E.state ecx.old).variables) (G.seen (E.context ecx.old).trees env predicate) }
+    requires free { holds is_param (env_forest (E.context ecx.old).trees env) ≡ false }
+    requires candidates { AreCandidates (E.context ecx.old).trees candidates.old.items }
+    ensures { ConsidersAll E.fixed E.judge E.state E.probes E.context E.stops ecx.old ecx.new (E.state ecx.old) (λ _. candidates.new.items) (λ l. l ≡ after_these (E.context ecx.old).trees candidates.old.items (answers (E.judge (E.fixed ecx.old)) (E.state ecx.old) (where_rules G.rules (E.context ecx.old) (G.seen (E.context ecx.old).trees env predicate)))) result }
+{
+    let clauses = Vec::from_slice(alloc, ecx.cx().param_env(env))?;
+    for clause in &clauses {
+        let answer = G::probe_and_consider_param_env_candidate(alloc, ecx, env, predicate, *clause);
+        push_or_note(candidates, failed, answer)?;
+    }
+    Ok(())
+}
+
+/// Whether others specialise the impl.
+fn is_default_impl(cx: &Cx, of: ImplId) -> bool
+    ensures { result ≡ is_default_impl cx.now of }
+{
+    match cx.impl_contents(of) {
+        Some(declared) => declared.is_default,
+        None => false,
+    }
+}
+
+/// The impls that may be for the goal's self type, in the order of their declaration, but for those that others specialise. The only stop
+/// is `Stop::Memory`.
+fn impls_for<E: EvalCtxt, G: GoalKind<E>>(
+    alloc: Global,
+    cx: &Cx,
+    env: ParamEnv,
+    predicate: G,
+) -> Result<Vec<ImplId>, Stop>
+    requires { IsGoal G.rules G.arguments G.types G.seen cx.now env predicate }
+    ensures list { IfOk result (λ v. v.items ≡ proper_impls cx.now (relevant_impls cx.now (trait_of G.rules cx.now (G.seen cx.now.trees env predicate)) (self_type G.rules cx.now (G.seen cx.now.trees env predicate)))) }
+    ensures cause { IfErr result (λ s. s ≡ Stop.Memory) }
+{
+    let trait_id = G::trait_def_id(cx, env, predicate);
+    let self_ty = G::self_ty(cx, env, predicate);
+    let relevant = cx.for_each_relevant_impl(trait_id, self_ty)?;
+    let impls = relevant.as_slice().iter().copied();
+    let proper = impls.filter(|of| !is_default_impl(cx, *of));
+    Ok(proper.collect(alloc)?)
+}
+
+/// Nothing is wrong with what is declared.
+fn table_is_well_formed(cx: &Cx)
+    ensures { IsWellFormedTable cx.now }
+{
+    cx.well_formed_table();
+}
+
+/// The rule of an impl, where the response is asked for after its steps, with at most the certainty that the impl gives. It answers and stops
+/// as `consider_impl_candidate`, and as the evaluator does where a response is asked for.
+pub fn consider_impl_and_respond<E: EvalCtxt, G: GoalKind<E>>(
+    alloc: Global,
+    ecx: &mut E,
+    env: ParamEnv,
+    predicate: G,
+    of: ImplId,
+) -> Result<Candidate, NoSolutionOrStop>
+    requires goal { IsGoal G.rules G.arguments G.types G.seen (E.context ecx.old) env predicate }
+    ensures { Considers E.fixed E.judge E.state E.probes E.context E.stops ecx.old ecx.new (rule_of_part (G.rules.env_of (G.seen (E.context ecx.old).trees env predicate)) (source.Impl of) (G.rules.impl_part (E.context ecx.old) (E.state ecx.old).mode (G.seen (E.context ecx.old).trees env predicate) of)) result }
+{
+    G::consider_impl_candidate(
+        alloc,
+        ecx,
+        env,
+        predicate,
+        of,
+        |ecx: &mut E, certainty: Certainty| -> Result<CanonicalResponse, NoSolutionOrStop>
+            ensures kept { Keeps E.fixed E.probes E.context ecx.old ecx.new }
+            ensures told { Responds (E.context ecx.new).trees result ((E.judge (E.fixed ecx.old)).responded (E.state ecx.old) certainty) }
+            ensures cause { IfErr result (by_stop (StopsOfItself E.fixed E.context E.state E.stops ecx.old)) }
+        { ecx.evaluate_added_goals_and_make_canonical_response(certainty) },
+    )
+}
+
+/// Adds the candidates by the impls that may be for the goal's self type, in the order of their declaration, but for those that others
+/// specialise. The goal mentions only the state's variables.
+///
+/// It stops at the first impl whose rule stops, with that stop; `Stop::Memory` comes where a list can't grow. The state is left alike the
+/// one before.
+pub fn assemble_impl_candidates<E: EvalCtxt, G: GoalKind<E>>(
+    alloc: Global,
+    ecx: &mut E,
+    env: ParamEnv,
+    predicate: G,
+    candidates: &mut Vec<Candidate>,
+) -> Result<(), Stop>
+    requires goal { IsGoal G.rules G.arguments G.types G.seen (E.context ecx.old) env predicate }
+    requires below { GoalBelow G.rules (length (E.state ecx.old).variables) (G.seen (E.context ecx.old).trees env predicate) }
+    requires candidates { AreCandidates (E.context ecx.old).trees candidates.old.items }
+    ensures { ConsidersAll E.fixed E.judge E.state E.probes E.context E.stops ecx.old ecx.new (E.state ecx.old) (λ _. candidates.new.items) (λ l. l ≡ after_these (E.context ecx.old).trees candidates.old.items (answers (E.judge (E.fixed ecx.old)) (E.state ecx.old) (impl_rules G.rules (E.context ecx.old) (E.state ecx.old).mode (G.seen (E.context ecx.old).trees env predicate)))) result }
+{
+    table_is_well_formed(ecx.cx());
+    let impls = impls_for::<E, G>(alloc, ecx.cx(), env, predicate)?;
+    for of in &impls {
+        let answer = consider_impl_and_respond(alloc, ecx, env, predicate, *of);
+        push_considered(candidates, answer)?;
+    }
+    Ok(())
+}
