@@ -7,7 +7,7 @@ use Rattle.candidate_ir.specs.Trees.{none, Tree, holds, is_param, tree_holds}
 use Rattle.candidate_eval.specs.Callable.{Callable, CalledWith, calls, declared_signature}
 use Rattle.candidate_eval.proofs.Holds.{holds_parts}
 use Rattle.candidate_eval.proofs.PartsFree.{put-parameterless}
-use Rattle.candidate_assembly.proofs.CallMarks.{call-unmarked}
+use Rattle.candidate_assembly.specs.CallMarks.{call-unmarked}
 
 -- no parameter stands in the inputs and in the output
 pub record IsFree (s : Callable) : Type 0 where

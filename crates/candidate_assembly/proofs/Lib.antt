@@ -23,9 +23,6 @@ pub mod Requiring
 pub mod CallSteps
 pub mod CallFree
 pub mod CallRules
-pub mod DeclaredClosed
-pub mod CallMarks
-pub mod BuiltinsBelow
 pub mod BuiltinCases
 pub mod ShownLists
 pub mod ChainCases

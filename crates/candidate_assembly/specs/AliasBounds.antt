@@ -20,6 +20,7 @@ use Rattle.candidate_eval.specs.Orphan.{is_general}
 use Rattle.candidate_eval.specs.Required.{non_self_bounds, self_bounds}
 use Rattle.candidate_eval.specs.Rules.{Rule, ask}
 use Rattle.candidate_eval.specs.States.{Env, State, Judge}
+use Rattle.candidate_assembly.specs.KindBounds.{Additional}
 use Rattle.candidate_assembly.specs.Kinds.{KindRules, match_rule, self_type}
 use Rattle.candidate_assembly.specs.Listing.{Listed, Lists, Stops, RulesAt, all_answers, answers, answers_at, together}
 
@@ -100,10 +101,6 @@ bounds_by c b _ = []
 
 abbrev pub alias_bounds : Context → AliasBoundKind → Tree → List Tree
 alias_bounds c b t = map (λ (x : Clause). substituted_tree t.children (clause_tree c.trees x)) (bounds_by c b t.head)
-
--- What a kind of goals adds at an alias.
-abbrev pub Additional : Type 0 → Type 0
-Additional G = Context → G → Tree → List Rule
 
 -- Each bound is matched, and then what the kind adds.
 abbrev pub bound_rules : {G : Type 0} → KindRules G → Context → G → AliasBoundKind → Tree → List Rule

@@ -31,15 +31,15 @@ use Rattle.candidate_eval.specs.Required.{each_of}
 use Rattle.candidate_eval.specs.Responses.{Candidate, has_no_inference_or_external_constraints}
 use Rattle.candidate_eval.specs.Rules.{Rule, ask, characterise, nested_misc, settle, unknowable}
 use Rattle.candidate_eval.specs.States.{Env, State, Judge, resolved}
-use Rattle.candidate_assembly.specs.AliasBounds.{Additional, ChainComes}
+use Rattle.candidate_assembly.specs.AliasBounds.{ChainComes}
 use Rattle.candidate_assembly.specs.BuiltinRules.{flag_of_trait, holds_of}
+use Rattle.candidate_assembly.specs.KindBounds.{KindBounds, UnsizingList}
 use Rattle.candidate_assembly.specs.Kinds.{BuiltinRule, ErrorRule, AutoTraitRule, TraitAliasRule, SizednessRule, CopyCloneRule, FnTraitRule, FnPtrTraitRule, TupleRule, PointeeRule, DiscriminantKindRule, DestructRule, NoDropRule, KindRules, match_rule, rule_of_part, self_type}
 use Rattle.candidate_assembly.specs.Listing.{Listed, Lists, Stops, GoesOn, answers, together}
 use Rattle.candidate_assembly.specs.ObjectBounds.{ObjectList}
 use Rattle.candidate_assembly.specs.Opaques.{AssembleFrom, Everything, EnvAndBounds, proper_impls, variable_answers}
 use Rattle.candidate_assembly.specs.TraitGoals.{is_item}
-use Rattle.candidate_assembly.specs.TraitRules.{trait_rules}
-use Rattle.candidate_assembly.specs.Unsizing.{AreUnsizingSupers, unsizing_rules, unsizing_target}
+use Rattle.candidate_assembly.specs.TraitRules.{trait_bounds, trait_rules}
 
 -- The rule of the language for a trait, by its name.
 
@@ -76,20 +76,6 @@ rule_of_trait c n =
     if flag_of_trait (λ f. f.auto) c n then Some AutoTraitRule
     else (if flag_of_trait (λ f. f.alias) c n then Some TraitAliasRule
     else rule_among c n all_items)
-
--- What a kind of goals says besides its rules: the goal with another environment and other trees; what it adds at an alias; the type that
--- a goal unsizes to, and the rules for that one's normal form.
-pub record KindBounds (G : Type 0) : Type 0 where
-  pub with_trees : G → Env → Forest → G
-  pub additional : Additional G
-  pub unsizing_target : G → Option Tree
-  pub unsizing_rules : Context → List Tree → G → Tree → List Rule
-
-abbrev pub with_arguments : TraitGoal → Env → Forest → TraitGoal
-with_arguments g e ts = record { env = e; reference = record { trait = g.reference.trait; arguments = ts }; polarity = g.polarity }
-
-abbrev pub trait_bounds : KindBounds TraitGoal
-trait_bounds = record { with_trees = with_arguments; additional = λ c g t. []; unsizing_target = unsizing_target; unsizing_rules = unsizing_rules }
 
 -- Sources that count.
 
@@ -166,25 +152,20 @@ module _ {G : Type 0} (K : KindRules G) (B : KindBounds G) (c : Context) where
       unknown : (implied : List Tree) → IsElaboration c (positive_clause (K.reference_of c g) ∷ []) implied
           → UnknowableJudged S g (judged J S (unknowable_rule (K.env_of g) (K.reference_of c g) implied))
 
-    -- Unsizing, for goals of its trait. The target's normal form is asked for at a state alike this one, and the rules are judged at what
-    -- that leaves; with a refused normal form there are none.
-    pub data UnsizingList (S : State) (g : G) : Listed → Type 0 where
-      not_asked : is_item c L.Unsize (trait_of K c g) ≡ false → UnsizingList S g (Lists [])
-      no_target : B.unsizing_target g ≡ None → UnsizingList S g (Lists [])
-      refused : {t : Tree} (T : State) → B.unsizing_target g ≡ Some t → J.alike S T → J.normalized T (K.env_of g) t ≡ None → UnsizingList S g (Lists [])
-      rules : {t u : Tree} {U : State} (T : State) (supers : List Tree) → is_item c L.Unsize (trait_of K c g) ≡ true → B.unsizing_target g ≡ Some t → J.alike S T
-          → J.normalized T (K.env_of g) t ≡ Some (u, U) → AreUnsizingSupers c (self_type K c g) u supers
-          → UnsizingList S g (answers J U (B.unsizing_rules c supers g u))
-
     -- Impls and objects follow what is there, unless they are left out.
     pub data WithImpls (S : State) (g : G) (xs : List Candidate) : Listed → Type 0 where
       left_out : leaves_out S.mode xs ≡ true → WithImpls S g xs (Lists xs)
       stopped : {s : Stop} → leaves_out S.mode xs ≡ false → answers J S (impl_rules K c S.mode g) ≡ Stops s → WithImpls S g xs (Stops s)
       followed : {l : Listed} → leaves_out S.mode xs ≡ false → ObjectList K J c S g l → WithImpls S g xs (together (Lists xs) (together (answers J S (impl_rules K c S.mode g)) l))
 
+    -- Unsizing, for goals of its trait.
+    pub data IfUnsizing (S : State) (g : G) : Listed → Type 0 where
+      not_asked : is_item c L.Unsize (trait_of K c g) ≡ false → IfUnsizing S g (Lists [])
+      asked : {l : Listed} → is_item c L.Unsize (trait_of K c g) ≡ true → UnsizingList K B J c S g l → IfUnsizing S g l
+
     pub record WithUnsizing (S : State) (g : G) (xs : List Candidate) (l : Listed) : Type 0 where
       pub unsized : Listed
-      pub by_unsizing : UnsizingList S g unsized
+      pub by_unsizing : IfUnsizing S g unsized
       pub further : GoesOn (WithImpls S g) (together (Lists xs) unsized) l
 
     -- After bounds of aliases and where-bounds: the language's rule, unsizing, impls and objects; or objects alone where no clause of the

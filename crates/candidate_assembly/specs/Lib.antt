@@ -15,6 +15,15 @@ pub mod Calling
 pub mod DynBounds
 pub mod Listing
 pub mod Unsizing
+pub mod KindBounds
+pub mod Standing
+pub mod KindLaws
+pub mod CallMarks
+pub mod DeclaredClosed
+pub mod BuiltinsBelow
+pub mod BuiltinLaws
+pub mod UnsizingLaws
+pub mod TraitLaws
 pub mod ObjectBounds
 pub mod AliasBounds
 pub mod Opaques

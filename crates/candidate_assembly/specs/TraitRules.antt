@@ -1,8 +1,13 @@
 -- What goals of traits give to assembly.
+use Rattle.std.specs.Prelude.{[]}
+use Rattle.candidate_ir.specs.Trees.{Forest}
 use Rattle.candidate_eval.specs.ImplRules.{TraitGoal}
+use Rattle.candidate_eval.specs.States.{Env}
 use Rattle.candidate_assembly.specs.BuiltinRules.{trait_rule}
+use Rattle.candidate_assembly.specs.KindBounds.{KindBounds}
 use Rattle.candidate_assembly.specs.Kinds.{KindRules}
 use Rattle.candidate_assembly.specs.TraitGoals.{fits, impl_part_at, match_trait, with_self_type}
+use Rattle.candidate_assembly.specs.Unsizing.{unsizing_rules, unsizing_target}
 
 abbrev pub trait_rules : KindRules TraitGoal
 trait_rules = record {
@@ -16,3 +21,9 @@ trait_rules = record {
   impl_part = impl_part_at;
   builtin_rule = trait_rule;
 }
+
+abbrev pub with_arguments : TraitGoal → Env → Forest → TraitGoal
+with_arguments g e ts = record { env = e; reference = record { trait = g.reference.trait; arguments = ts }; polarity = g.polarity }
+
+abbrev pub trait_bounds : KindBounds TraitGoal
+trait_bounds = record { with_trees = with_arguments; additional = λ c g t. []; unsizing_target = unsizing_target; unsizing_rules = unsizing_rules }

@@ -1,29 +1,34 @@
 //! Kinds of goals.
 
-ghost use Rattle.std.specs.Prelude.{◌≡◌, ℕ, List, [], ◌∷◌, Option, true, false, IfOk, IfErr, OnOk, OnErr};
-ghost use Rattle.candidate_ir.specs.declared.decl.contents.ImplId.{ImplId as ImplNumber};
+ghost use Rattle.std.specs.Prelude.{◌≡◌, List, [], ◌∷◌, Option, length, true, false, IfOk, IfErr, OnOk, OnErr};
 ghost use Rattle.candidate_ir.specs.declared.ir.kinds.Args.{Args as ArgsNumber};
 ghost use Rattle.candidate_ir.specs.declared.ir.kinds.ParamEnv.{ParamEnv as EnvNumber};
 ghost use Rattle.candidate_ir.specs.declared.ir.kinds.Ty.{Ty as TyNumber};
 ghost use Rattle.candidate_ir.specs.Binders.{escapes};
 ghost use Rattle.candidate_ir.specs.Context.{Context, Grows};
+ghost use Rattle.candidate_ir.specs.declared.decl.contents.LangItem.TheVariants as item;
+ghost use Rattle.candidate_ir.specs.declared.ir.kinds.TyKind.TheVariants as type_kind;
 ghost use Rattle.candidate_ir.specs.Flags.{mark};
 ghost use Rattle.candidate_ir.specs.declared.ir.heads.Flag.TheVariants as flag;
+ghost use Rattle.candidate_ir.specs.Owned.{AliasArgumentsFit};
 ghost use Rattle.candidate_ir.specs.References.{reference_of};
 ghost use Rattle.candidate_ir.specs.Substitutions.{alone};
 ghost use Rattle.candidate_ir.specs.Trees.{Tree, holds, is_param};
-ghost use Rattle.candidate_ir.specs.WellFormed.{IsWellFormedTable};
-ghost use Rattle.candidate_ir.specs.Words.{IsArgs, IsClause, IsTy, clause_tree, env_forest, ty_tree};
-ghost use Rattle.candidate_eval.specs.declared.eval.mode.TypingMode.{TypingMode as Mode};
+ghost use Rattle.candidate_ir.specs.Words.{IsArgs, IsClause, IsParamEnv, IsTy, args_forest, clause_tree, env_forest, kind_tree, ty_tree};
 ghost use Rattle.candidate_eval.specs.Accounts.{StopsSomehow, by_stop};
 ghost use Rattle.candidate_eval.specs.Evaluators.{Keeps};
 ghost use Rattle.candidate_eval.specs.Judging.{run, start};
-ghost use Rattle.candidate_eval.specs.Mentions.{IsBelow, StepsBelow};
+ghost use Rattle.candidate_eval.specs.Mentions.{IsBelow};
 ghost use Rattle.candidate_eval.specs.Responses.{Response};
 ghost use Rattle.candidate_eval.specs.Rules.{characterise, settle};
-ghost use Rattle.candidate_eval.specs.States.{State};
+ghost use Rattle.candidate_eval.specs.States.{State, resolved};
 ghost use Rattle.candidate_assembly.specs.Closures.{After, IsCallable, IsCallableIn, IsCallableWith, TellsIn, TellsWith};
-ghost use Rattle.candidate_assembly.specs.Kinds.{IsAssumption, IsGoal, IsTyped, KindRules, SaysTheSame, clause_judged, match_rule, part_judged, passes, self_type};
+ghost use Rattle.candidate_assembly.specs.KindBounds.{KindBounds, UnsizingList};
+ghost use Rattle.candidate_assembly.specs.KindLaws.{KindLaws};
+ghost use Rattle.candidate_assembly.specs.Listing.{ConsidersAll, answers};
+ghost use Rattle.candidate_assembly.specs.Standing.{GoalStands};
+ghost use Rattle.candidate_assembly.specs.TraitGoals.{is_item};
+ghost use Rattle.candidate_assembly.specs.Kinds.{GoalBelow, IsAssumption, IsGoal, IsTyped, KindRules, SaysTheSame, clause_judged, match_rule, part_judged, passes, self_type};
 ghost use Rattle.candidate_assembly.specs.Kinds as kind;
 ghost use Rattle.candidate_eval.specs.declared.eval.source.CandidateSource.TheVariants as source;
 ghost use Rattle.candidate_assembly.specs.Telling.{Considers, StopsOfItself, Told, without_usages};
@@ -37,7 +42,7 @@ use candidate_eval::eval::response::{Candidate, CandidateHeadUsages, CanonicalRe
 use candidate_eval::eval::source::CandidateSource;
 use candidate_ir::decl::Cx;
 use candidate_ir::decl::contents::{ImplId, Sizedness};
-use candidate_ir::ir::kinds::{Clause, ClosureKind, ParamEnv, TraitId, TraitRef, Ty};
+use candidate_ir::ir::kinds::{AliasTy, Clause, ClosureKind, ParamEnv, TraitId, TraitRef, Ty};
 use candidate_ir::ir::stop::Stop;
 use std::alloc::Global;
 
@@ -68,6 +73,9 @@ pub trait GoalKind<E: EvalCtxt>: Copy {
 
     /// The rules.
     ghost rules: { KindRules Seen };
+
+    /// What is said besides of aliases, of unsizing, and of a goal with other trees.
+    ghost bounds: { KindBounds Seen };
 
     /// The type that the goal is about.
     fn self_ty(cx: &Cx, env: ParamEnv, predicate: Self) -> Ty
@@ -108,6 +116,22 @@ pub trait GoalKind<E: EvalCtxt>: Copy {
         ensures same { E.state ecx.new ≡ E.state ecx.old }
         ensures is { IfOk result (λ p. seen (E.context ecx.new).trees env p ≡ rules.with_self_type (seen (E.context ecx.old).trees env predicate) (ty_tree (E.context ecx.old).trees self_ty)) }
         ensures goal { holds is_param (alone (ty_tree (E.context ecx.old).trees self_ty)) ≡ false → escapes 0 (alone (ty_tree (E.context ecx.old).trees self_ty)) ≡ false → IfOk result (λ p. IsGoal rules arguments types seen (E.context ecx.new) env p) }
+        ensures cause { IfErr result (StopsSomehow E.fixed E.context E.state E.stops ecx.old) };
+
+    /// The predicate with all values put in, for an environment in which they are put in already. It is a goal's again where the state's
+    /// values make sense.
+    fn resolve_vars_if_possible(
+        ecx: &mut E,
+        env: ParamEnv,
+        predicate: Self,
+        resolved_env: ParamEnv,
+    ) -> Result<Self, Stop>
+        requires goal { IsGoal rules arguments types seen (E.context ecx.old) env predicate }
+        requires env { IsParamEnv (E.context ecx.old).trees resolved_env }
+        ensures kept { Keeps E.fixed E.probes E.context ecx.old ecx.new }
+        ensures same { E.state ecx.new ≡ E.state ecx.old }
+        ensures is { IfOk result (λ p. seen (E.context ecx.new).trees resolved_env p ≡ bounds.with_trees (seen (E.context ecx.old).trees env predicate) (env_forest (E.context ecx.old).trees resolved_env) (resolved (E.state ecx.old) (rules.trees_of (seen (E.context ecx.old).trees env predicate)))) }
+        ensures goal { GoalStands rules (E.state ecx.old) (seen (E.context ecx.old).trees env predicate) → IfOk result (λ p. IsGoal rules arguments types seen (E.context ecx.new) resolved_env p) }
         ensures cause { IfErr result (StopsSomehow E.fixed E.context E.state E.stops ecx.old) };
 
     /// Whether a clause passes quick rejection: what it is about may be what the goal is about.
@@ -159,6 +183,37 @@ pub trait GoalKind<E: EvalCtxt>: Copy {
         ensures alike { (E.judge (E.fixed ecx.old)).alike (E.state ecx.old) (E.state ecx.new) }
         ensures told { (k : State → Option Response) → TellsWith E.fixed E.state E.probes E.context E.stops F.FnOnce then ecx.old (E.state ecx.old ∷ E.probes ecx.old) (rules.impl_part (E.context ecx.old) (E.state ecx.old).mode (seen (E.context ecx.old).trees env predicate) of).certainty k → Told (E.context ecx.new).trees result (part_judged (E.judge (E.fixed ecx.old)) (rules.env_of (seen (E.context ecx.old).trees env predicate)) (E.state ecx.old) (source.Impl of) (rules.impl_part (E.context ecx.old) (E.state ecx.old).mode (seen (E.context ecx.old).trees env predicate) of) k) }
         ensures cause { IfErr result (by_stop (StopsOfItself E.fixed E.context E.state E.stops ecx.old)) };
+
+    /// What the kind adds at an alias, beside its bounds. No parameter stands in the alias, and it and the goal mention only the state's
+    /// variables. The state is left alike the one before.
+    fn consider_additional_alias_assumptions(
+        alloc: Global,
+        ecx: &mut E,
+        env: ParamEnv,
+        predicate: Self,
+        alias: AliasTy,
+    ) -> Result<Vec<Candidate>, Stop>
+        requires goal { IsGoal rules arguments types seen (E.context ecx.old) env predicate }
+        requires below { GoalBelow rules (length (E.state ecx.old).variables) (seen (E.context ecx.old).trees env predicate) }
+        requires args { IsArgs (E.context ecx.old).trees alias.args }
+        requires fit { AliasArgumentsFit (E.context ecx.old) alias }
+        requires free { holds is_param (args_forest (E.context ecx.old).trees alias.args) ≡ false }
+        requires alias_below { IsBelow (length (E.state ecx.old).variables) (args_forest (E.context ecx.old).trees alias.args) }
+        ensures { ConsidersAll E.fixed E.judge E.state E.probes E.context E.stops ecx.old ecx.new (E.state ecx.old) (λ v. v.items) (λ l. l ≡ answers (E.judge (E.fixed ecx.old)) (E.state ecx.old) (bounds.additional (E.context ecx.old) (seen (E.context ecx.old).trees env predicate) (kind_tree (E.context ecx.old).trees (type_kind.Alias alias)))) result };
+
+    /// The candidates by unsizing, for a goal of the trait for that. The goal stands at a state whose values make sense. The state is left
+    /// alike the one before.
+    fn consider_structural_builtin_unsize_candidates(
+        alloc: Global,
+        ecx: &mut E,
+        env: ParamEnv,
+        predicate: Self,
+    ) -> Result<Vec<Candidate>, Stop>
+        requires goal { IsGoal rules arguments types seen (E.context ecx.old) env predicate }
+        requires typed { IsTyped rules (E.context ecx.old) (seen (E.context ecx.old).trees env predicate) }
+        requires stands { GoalStands rules (E.state ecx.old) (seen (E.context ecx.old).trees env predicate) }
+        requires unsize { is_item (E.context ecx.old) item.Unsize (rules.reference_of (E.context ecx.old) (seen (E.context ecx.old).trees env predicate)).trait ≡ true }
+        ensures { ConsidersAll E.fixed E.judge E.state E.probes E.context E.stops ecx.old ecx.new (E.state ecx.old) (λ v. v.items) (UnsizingList rules bounds (E.judge (E.fixed ecx.old)) (E.context ecx.old) (E.state ecx.old) (seen (E.context ecx.old).trees env predicate)) result };
 
     /// The predicate holds an error.
     fn consider_error_guaranteed_candidate(
@@ -300,14 +355,8 @@ pub trait GoalKind<E: EvalCtxt>: Copy {
     /// The environment of a goal is the one that is given.
     ghost env_given: { (ts : List Tree) (env : EnvNumber) (predicate : Self) → rules.env_of (seen ts env predicate) ≡ env_forest ts env };
 
-    /// What a clause is matched by mentions no other variables than the goal and the clause.
-    ghost matches_below: { (n : ℕ) (goal : Seen) (clause : Tree) → IsBelow n (rules.trees_of goal) → IsBelow n (alone clause) → StepsBelow n (rules.match_steps goal clause) };
-
-    /// What is declared mentions no variable: the rule of an impl mentions those of the goal alone.
-    ghost impls_below: { (c : Context) → IsWellFormedTable c → (n : ℕ) (mode : Mode) (goal : Seen) (of : ImplNumber) → IsBelow n (rules.trees_of goal) → StepsBelow n (rules.impl_part c mode goal of).steps };
-
-    /// The rule of an impl stays where a context has grown.
-    ghost impls_stay: { (old new : Context) → IsWellFormedTable old → Grows old new → (mode : Mode) (goal : Seen) (of : ImplNumber) → rules.impl_part new mode goal of ≡ rules.impl_part old mode goal of };
+    /// Its rules mention no other variables than the goal, and stay where a context grows; and a goal with other trees holds these.
+    ghost laws: { KindLaws rules bounds arguments types seen };
 
     /// The candidate of a source by a clause: in a probe the clause is matched, and the closure called then.
     ///

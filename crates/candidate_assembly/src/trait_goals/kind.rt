@@ -3,9 +3,8 @@
 ghost use Rattle.std.specs.Prelude.{◌≡◌, refl};
 ghost use Rattle.candidate_eval.specs.ImplRules.{TraitGoal};
 ghost use Rattle.candidate_assembly.specs.TraitGoals.{arguments_held, trait_goal, types_held};
-ghost use Rattle.candidate_assembly.specs.TraitRules.{trait_rules};
-ghost use Rattle.candidate_assembly.specs.ImplLaws.{impl_part_stays, impl_steps_below};
-ghost use Rattle.candidate_assembly.specs.Matching.{match_below};
+ghost use Rattle.candidate_assembly.specs.TraitRules.{trait_bounds, trait_rules};
+ghost use Rattle.candidate_assembly.specs.TraitLaws.{trait_laws};
 ghost use Rattle.candidate_assembly.specs.Staying.{trait_goal_stays};
 
 use crate::assembly::kind::{GoalKind, NoSolution};
@@ -18,6 +17,7 @@ use crate::trait_goals::impls::consider_impl;
 use crate::trait_goals::matching::{fast_reject, match_clause};
 use crate::trait_goals::no_drop::consider_no_drop;
 use crate::trait_goals::parts::{consider_column, with_self_ty};
+use crate::trait_goals::unsizing::consider_unsizing;
 use candidate_eval::eval::certainty::Certainty;
 use candidate_eval::eval::clauses::self_ty;
 use candidate_eval::eval::context::EvalCtxt;
@@ -29,7 +29,7 @@ use candidate_ir::decl::Cx;
 use candidate_ir::decl::contents::{ImplId, Sizedness};
 use candidate_ir::decl::make::Make;
 use candidate_ir::ir::heads::Flag;
-use candidate_ir::ir::kinds::{Clause, ClosureKind, ParamEnv, TraitPredicate, TraitRef, Ty};
+use candidate_ir::ir::kinds::{AliasTy, Clause, ClosureKind, ParamEnv, TraitPredicate, TraitRef, Ty};
 use candidate_ir::ir::stop::Stop;
 use candidate_ir::ir::trees::Trees;
 use std::alloc::Global;
@@ -45,15 +45,13 @@ impl<E: EvalCtxt> GoalKind<E> for TraitPredicate {
 
     ghost rules = { trait_rules };
 
+    ghost bounds = { trait_bounds };
+
     ghost stays = { trait_goal_stays };
 
     ghost env_given = { λ _ _ _. refl };
 
-    ghost matches_below = { match_below };
-
-    ghost impls_below = { impl_steps_below };
-
-    ghost impls_stay = { impl_part_stays };
+    ghost laws = { trait_laws };
 
     fn self_ty(cx: &Cx, _env: ParamEnv, predicate: Self) -> Ty {
         self_ty(cx, predicate.trait_ref)
@@ -77,6 +75,22 @@ impl<E: EvalCtxt> GoalKind<E> for TraitPredicate {
         let _ = env;
         let other = with_self_ty(alloc, ecx, predicate, self_ty)?;
         Ok(other)
+    }
+
+    fn resolve_vars_if_possible(
+        ecx: &mut E,
+        _env: ParamEnv,
+        predicate: Self,
+        _resolved_env: ParamEnv,
+    ) -> Result<Self, Stop> {
+        let args = ecx.resolve_args_if_possible(predicate.trait_ref.args)?;
+        Ok(TraitPredicate {
+            trait_ref: TraitRef {
+                def_id: predicate.trait_ref.def_id,
+                args,
+            },
+            polarity: predicate.polarity,
+        })
     }
 
     fn fast_reject_assumption(
@@ -111,6 +125,25 @@ impl<E: EvalCtxt> GoalKind<E> for TraitPredicate {
         then: F,
     ) -> Result<Candidate, NoSolutionOrStop> {
         consider_impl(alloc, ecx, env, predicate, of, then)
+    }
+
+    fn consider_additional_alias_assumptions(
+        alloc: Global,
+        _ecx: &mut E,
+        _env: ParamEnv,
+        _predicate: Self,
+        _alias: AliasTy,
+    ) -> Result<Vec<Candidate>, Stop> {
+        Ok(Vec::new(alloc))
+    }
+
+    fn consider_structural_builtin_unsize_candidates(
+        alloc: Global,
+        ecx: &mut E,
+        env: ParamEnv,
+        predicate: Self,
+    ) -> Result<Vec<Candidate>, Stop> {
+        consider_unsizing(alloc, ecx, env, predicate)
     }
 
     fn consider_error_guaranteed_candidate(

@@ -71,7 +71,7 @@ loop-clause-preserved g c =
     let n = length (E.state first).variables in
     let there = All-get_or (λ (y : Clause). holds (is_from n) (alone (clause_tree start.trees y)) ≡ false) xs k d c.loop-clause-test.true
         (clauses-hold-none (is_from n) start.trees xs read.0 (ap (holds (is_from n)) (read.1 ∙ sym (g.met.G.GoalKind.env_given start.trees c.args.env c.args.predicate)) ∙ below.env)) in
-    let same = where-judged K.rules E.judge (E.fixed first) (E.fixed c.loop-clause.ecx) (λ f. (g.met.E.EvalCtxt.lawful f).alike_judged_alike) g.met.G.GoalKind.matches_below start now (E.state first) (E.state c.loop-clause.ecx) seen (K.seen now.trees c.args.env c.args.predicate)
+    let same = where-judged K.rules E.judge (E.fixed first) (E.fixed c.loop-clause.ecx) (λ f. (g.met.E.EvalCtxt.lawful f).alike_judged_alike) g.met.G.GoalKind.laws.below.matches start now (E.state first) (E.state c.loop-clause.ecx) seen (K.seen now.trees c.args.env c.args.predicate)
         (clause_tree start.trees x) (clause_tree now.trees x) so.kept.fixed_same says.seen stays.1 says.fits so.alike below there in
     next-listed (λ f. (g.met.E.EvalCtxt.lawful f).alike_judged_alike) (λ y. where_rule K.rules start seen (clause_tree start.trees y)) xs k d first c.loop-clause.ecx c.probe_and_consider_param_env_candidate-answer.new.ecx c.args.candidates.now.items c.loop-clause.candidates.items
     c.push_or_note.new.candidates.items _ _ _ so c.loop-clause-test.true c.probe_and_consider_param_env_candidate-answer.ensures same c.in_ok-push_or_note.ensures
@@ -97,7 +97,7 @@ returns-in_err-push_or_note g c =
     let n = length (E.state first).variables in
     let there = All-get_or (λ (y : Clause). holds (is_from n) (alone (clause_tree start.trees y)) ≡ false) xs k d c.loop-clause-test.true
         (clauses-hold-none (is_from n) start.trees xs read.0 (ap (holds (is_from n)) (read.1 ∙ sym (g.met.G.GoalKind.env_given start.trees c.args.env c.args.predicate)) ∙ below.env)) in
-    let same = where-judged K.rules E.judge (E.fixed first) (E.fixed c.loop-clause.ecx) (λ f. (g.met.E.EvalCtxt.lawful f).alike_judged_alike) g.met.G.GoalKind.matches_below start now (E.state first) (E.state c.loop-clause.ecx) seen (K.seen now.trees c.args.env c.args.predicate)
+    let same = where-judged K.rules E.judge (E.fixed first) (E.fixed c.loop-clause.ecx) (λ f. (g.met.E.EvalCtxt.lawful f).alike_judged_alike) g.met.G.GoalKind.laws.below.matches start now (E.state first) (E.state c.loop-clause.ecx) seen (K.seen now.trees c.args.env c.args.predicate)
         (clause_tree start.trees x) (clause_tree now.trees x) so.kept.fixed_same says.seen stays.1 says.fits so.alike below there in
     let p = err_from_is_err_and c.from_residual-in_err-push_or_note.result c.from_residual-in_err-push_or_note.ensures.1 in
     listing-stops (λ f. (g.met.E.EvalCtxt.lawful f).alike_judged_alike) (λ y. where_rule K.rules start seen (clause_tree start.trees y)) xs k d first c.loop-clause.ecx c.probe_and_consider_param_env_candidate-answer.new.ecx c.args.candidates.now.items c.loop-clause.candidates.items

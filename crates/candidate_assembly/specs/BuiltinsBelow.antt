@@ -51,8 +51,8 @@ use Rattle.candidate_assembly.specs.TraitGoals.{arguments_held, item_trait, trai
 use Rattle.candidate_assembly.specs.TraitRules.{trait_rules}
 use Rattle.candidate_assembly.specs.declared.trait_goals.no_drop.NoDrop.{NoDrop}
 use Rattle.candidate_assembly.specs.declared.trait_goals.no_drop.NoDrop.TheVariants as D
-use Rattle.candidate_assembly.proofs.CallMarks.{BearsNo, call-unmarked}
-use Rattle.candidate_assembly.proofs.DeclaredClosed.{signature-closed, wheres-closed}
+use Rattle.candidate_assembly.specs.CallMarks.{BearsNo, call-unmarked}
+use Rattle.candidate_assembly.specs.DeclaredClosed.{signature-closed, wheres-closed}
 
 -- Trees.
 

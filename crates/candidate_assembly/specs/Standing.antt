@@ -1,0 +1,21 @@
+-- Goals at a state: what the state's values must be like, so that normal forms and values put in are trees that a goal may hold.
+use Rattle.std.specs.Prelude.{◌≡◌, false}
+use Rattle.candidate_ir.specs.Trees.{Forest, holds, is_param}
+use Rattle.candidate_eval.specs.Lawful.{HasNoParameter}
+use Rattle.candidate_eval.specs.Soundness.{AreTreesOf, IsSound, Live, ValuesFit}
+use Rattle.candidate_eval.specs.States.{Env, State}
+use Rattle.candidate_assembly.specs.Kinds.{KindRules}
+
+-- The values of what counts make sense and hold no parameter; the trees are the state's, of what counts, and hold none either.
+pub record StandsAt (S : State) (e : Env) (ts : Forest) : Type 0 where
+  pub live : Live
+  pub sound : IsSound S live
+  pub fits : ValuesFit S live
+  pub values : HasNoParameter S live
+  pub env : AreTreesOf S live e
+  pub trees : AreTreesOf S live ts
+  pub env_free : holds is_param e ≡ false
+  pub trees_free : holds is_param ts ≡ false
+
+abbrev pub GoalStands : {G : Type 0} → KindRules G → State → G → Type 0
+GoalStands K S g = StandsAt S (K.env_of g) (K.trees_of g)
