@@ -1,5 +1,5 @@
 -- The parts of the row by which a structure unsizes.
-use Rattle.std.proofs.Common.{◌≡◌, ℕ, Bool, true, false, List, [], ◌∷◌, map, refl, sym, ap, ◌∙◌}
+use Rattle.std.proofs.Common.{◌≡◌, ℕ, ◌==◌, Bool, true, false, List, [], ◌∷◌, length, map, refl, sym, ap, ◌∙◌}
 use Rattle.std.specs.Prelude.{if◌then◌else◌}
 use Rattle.candidate_ir.specs.declared.ir.heads.Head.TheVariants as H
 use Rattle.candidate_ir.specs.declared.ir.kinds.AdtId.{AdtId}
@@ -10,6 +10,7 @@ use Rattle.candidate_ir.specs.declared.ir.kinds.PredicatePolarity.TheVariants as
 use Rattle.candidate_ir.specs.Context.{Context, Grows}
 use Rattle.candidate_ir.specs.Folding.{substituted_tree}
 use Rattle.candidate_ir.specs.Nodes.{error_tree}
+use Rattle.candidate_ir.specs.Substitutions.{alone}
 use Rattle.candidate_ir.specs.Trees.{Forest, none, tree, Tree, holds, is_param, tree_holds}
 use Rattle.candidate_ir.specs.Words.{ClauseListFits, IsArgs, IsClause, args_forest, clause_tree, ty_tree}
 use Rattle.candidate_ir.specs.declared.ir.kinds.Ty.{Ty}
@@ -20,14 +21,17 @@ use Rattle.candidate_ir.proofs.Folding.{or-left, or-right}
 use Rattle.candidate_ir.proofs.Kept.{args-kept}
 use Rattle.candidate_eval.specs.Judging.{Refused, comes_to, judged, start}
 use Rattle.candidate_eval.specs.ImplRules.{TraitGoal}
+use Rattle.candidate_eval.specs.ObjectRequirements.{first_tree}
 use Rattle.candidate_eval.specs.Replacing.{first_or}
-use Rattle.candidate_eval.specs.Rules.{Rule, ask}
+use Rattle.candidate_eval.specs.declared.eval.certainty.Certainty.TheVariants.{Yes}
+use Rattle.candidate_eval.specs.Rules.{Rule, ask, equate, nested}
 use Rattle.candidate_eval.specs.States.{Env, Judge, State}
 use Rattle.candidate_eval.specs.Tables.{last_of}
+use Rattle.candidate_eval.proofs.Holds.{holds_parts}
 use Rattle.candidate_eval.proofs.Marking.{unmarked}
 use Rattle.candidate_eval.proofs.PartsFree.{put-parameterless}
 use Rattle.candidate_eval.proofs.Responding.{clauses-kept}
-use Rattle.candidate_assembly.specs.BuiltinRules.{holds_of, is_nonempty}
+use Rattle.candidate_assembly.specs.BuiltinRules.{holds_of, is_nonempty, misc}
 use Rattle.candidate_assembly.specs.Calling.{pair_of}
 use Rattle.candidate_assembly.specs.Unsizing.{equal_rule, mixed, struct_to_struct, tail_of, tail_unsizes, unsizing_parameters}
 use Rattle.candidate_assembly.proofs.EqualTypes.{equal-same}
@@ -62,6 +66,10 @@ last-free ts args f [] = refl
 last-free ts args f (x ∷ []) = put-parameterless args (ty_tree ts x) f
 last-free ts args f (x ∷ (y ∷ ys)) = last-free ts args f (y ∷ ys)
 
+pub first-free : (t : Tree) (ts : Forest) → holds is_param ts ≡ false → first_tree ts ≡ t → holds is_param t.children ≡ false
+first-free t none h is = ap (λ (x : Tree). holds is_param x.children) (sym is)
+first-free t (tree g below rest) h is = ap (λ (x : Tree). holds is_param x.children) (sym is) ∙ (holds_parts is_param g below rest h).under
+
 pub tail-free : (c : Context) (n : ℕ) (args : Forest) → holds is_param args ≡ false → tree_holds is_param (tail_of c n args) ≡ false
 tail-free c n args f = last-free c.trees args f (maybe [] (λ (a : AdtContents). a.fields) (adt_at c n))
 
@@ -71,7 +79,29 @@ pair-free i t u p q =
 
 -- The rule.
 
+abbrev rule-if : Bool → Env → Tree → Tree → Tree → Rule
+rule-if b e t u x = record { env = e; applies = b; steps = equate (alone t) (alone u) ∷ nested (x ∷ []); ending = ask misc Yes }
+
 pub struct-refused : (J : Judge) (S : State) (c : Context) (g : TraitGoal) (n : ℕ) (from to : Tree) → unsizing_parameters c n ≡ [] → judged J S (struct_to_struct c g n from to) ≡ Refused
 struct-refused J S c g n from to e =
     let r : Rule = struct_to_struct c g n from to in
     ap (λ (b : Bool). if b then comes_to J r.env (start S) r.steps r.ending else Refused) (ap is_nonempty e)
+
+nonempty-list : (xs : List ℕ) → (length xs == 0) ≡ false → is_nonempty xs ≡ true
+nonempty-list [] e = absurd cc
+nonempty-list (x ∷ xs) e = refl
+
+-- With parameters that unsizing may change it is the rule that equates the mixed type with the target.
+pub struct-same : (c : Context) (g : TraitGoal) (i : AdtId) (f h : Forest) (from to : Tree) (ns : List ℕ) → ns ≡ unsizing_parameters c i.0 → (length ns == 0) ≡ false
+    → from ≡ record { head = H.Adt i; children = f } → to ≡ record { head = H.Adt i; children = h }
+    → (e : Env) (t u x : Tree) → e ≡ g.env → t ≡ mixed-tree i (unsizing_parameters c i.0) f h → u ≡ to
+    → x ≡ holds_of (record { 0 = g.reference.trait }) Pol.Positive none (pair_of (tail_of c i.0 f) (tail_of c i.0 h))
+    → equal_rule e t u (x ∷ []) ≡ struct_to_struct c g i.0 from to
+struct-same c g i f h from to ns are some p q e t u x a b d s =
+    let F : Tree = record { head = H.Adt i; children = f } in
+    let T : Tree = record { head = H.Adt i; children = h } in
+    let clause = holds_of (record { 0 = g.reference.trait }) Pol.Positive none (pair_of (tail_of c i.0 f) (tail_of c i.0 h)) in
+    let applies : is_nonempty (unsizing_parameters c i.0) ≡ true = ap is_nonempty (sym are) ∙ nonempty-list ns some in
+    equal-same e g.env t (mixed-tree i (unsizing_parameters c i.0) f h) u T (x ∷ []) (clause ∷ []) a b (d ∙ q) (ap (λ y. y ∷ []) s)
+    ∙ (ap (λ (y : Bool). rule-if y g.env (mixed-tree i (unsizing_parameters c i.0) f h) T clause) (sym applies)
+    ∙ (ap (λ y. struct_to_struct c g i.0 F y) (sym q) ∙ ap (λ y. struct_to_struct c g i.0 y to) (sym p)))

@@ -8,6 +8,9 @@ use Rattle.candidate_ir.specs.declared.ir.heads.Builtin.TheVariants as B
 use Rattle.candidate_ir.specs.declared.ir.heads.ClauseHead.{ClauseHead}
 use Rattle.candidate_ir.specs.declared.ir.heads.ClauseHead.TheVariants as Cl
 use Rattle.candidate_ir.specs.declared.ir.heads.Head.{Head}
+use Rattle.candidate_ir.specs.declared.ir.heads.VariableSort.{VariableSort}
+use Rattle.candidate_ir.specs.declared.ir.heads.VariableSort.TheVariants as Sort
+use Rattle.candidate_ir.specs.declared.ir.kinds.AdtId.{AdtId}
 use Rattle.candidate_ir.specs.declared.ir.heads.Head.TheVariants as H
 use Rattle.candidate_ir.specs.declared.ir.heads.PartHead.TheVariants as P
 use Rattle.candidate_ir.specs.declared.ir.heads.PredHead.TheVariants as PH
@@ -31,7 +34,6 @@ use Rattle.candidate_eval.specs.Characterization.{bound_kinds}
 use Rattle.candidate_eval.specs.ImplRules.{TraitGoal}
 use Rattle.candidate_eval.specs.Naming.{named}
 use Rattle.candidate_eval.specs.ObjectRequirements.{first_tree}
-use Rattle.candidate_eval.specs.Orphan.{is_general}
 use Rattle.candidate_eval.specs.Replacing.{first_or, without_first}
 use Rattle.candidate_eval.specs.Rules.{Match, Upcast, Step, fresh, enter, equate, settle, pick, refuse, Rule, ask, nested, nested_misc}
 use Rattle.candidate_eval.specs.States.{Env}
@@ -40,6 +42,8 @@ use Rattle.candidate_assembly.specs.BuiltinRules.{ambiguous_rule, flag_of_trait,
 use Rattle.candidate_assembly.specs.Calling.{pair_of}
 use Rattle.candidate_assembly.specs.DynBounds.{ArePrincipalSupers, auto_of, bound_said, bounds_in, first_listed, is_compatible, is_dynamic, principal_in, projects, region_in, same_number, trait_of_bound}
 use Rattle.candidate_assembly.specs.TraitGoals.{item_trait}
+use Rattle.candidate_assembly.specs.declared.trait_goals.unsizing_rows.UnsizingRow.{UnsizingRow}
+use Rattle.candidate_assembly.specs.declared.trait_goals.unsizing_rows.UnsizingRow.TheVariants as R
 
 -- That the one outlives the other, under no variables.
 abbrev pub outlives : ClauseHead → Tree → Tree → Tree
@@ -211,20 +215,44 @@ abbrev pub is_struct : Option AdtShape → Bool
 is_struct (Some Shape.Struct) = true
 is_struct _ = false
 
--- The rows by both heads; the first that applies.
-abbrev pub unsizing_row : Context → List Tree → TraitGoal → Tree → Tree → Head → Head → List Rule
-unsizing_row c supers g from to H.Dynamic H.Dynamic = dyn_to_dyn c supers g from to
-unsizing_row c supers g from to h H.Dynamic = any_to_dyn c g from to (item_trait c L.Sized)
-unsizing_row c supers g from to (H.Builtin B.Array) (H.Builtin B.Slice) = array_to_slice g from to ∷ []
-unsizing_row c supers g from to (H.Adt i) (H.Adt j) = if (i.0 == j.0) && is_struct (adt_shape (definition c i.0)) then struct_to_struct c g i.0 from to ∷ [] else []
-unsizing_row c supers g from to h k = []
+abbrev pub is_array : Head → Bool
+is_array (H.Builtin B.Array) = true
+is_array _ = false
+
+-- Which row there is, by both heads. A target that is a general variable says too little.
+
+abbrev pub row_to_variable : VariableSort → UnsizingRow
+row_to_variable Sort.General = R.Ambiguous
+row_to_variable _ = R.Nothing
+
+abbrev pub row_to_dyn : Head → UnsizingRow
+row_to_dyn h = if is_dynamic h then R.DynToDyn else R.ToDyn
+
+abbrev pub row_to_slice : Head → UnsizingRow
+row_to_slice h = if is_array h then R.ArrayToSlice else R.Nothing
+
+abbrev pub row_to_adt : Head → AdtId → UnsizingRow
+row_to_adt (H.Adt i) j = if i.0 == j.0 then R.Struct i else R.Nothing
+row_to_adt _ j = R.Nothing
+
+abbrev pub unsizing_row : Head → Head → UnsizingRow
+unsizing_row h (H.Infer v) = row_to_variable v.sort
+unsizing_row h H.Dynamic = row_to_dyn h
+unsizing_row h (H.Builtin B.Slice) = row_to_slice h
+unsizing_row h (H.Adt j) = row_to_adt h j
+unsizing_row h _ = R.Nothing
+
+abbrev pub rules_of_row : Context → List Tree → TraitGoal → Tree → Tree → UnsizingRow → List Rule
+rules_of_row c supers g from to R.Ambiguous = ambiguous_rule g true ∷ []
+rules_of_row c supers g from to R.DynToDyn = dyn_to_dyn c supers g from to
+rules_of_row c supers g from to R.ToDyn = any_to_dyn c g from to (item_trait c L.Sized)
+rules_of_row c supers g from to R.ArrayToSlice = array_to_slice g from to ∷ []
+rules_of_row c supers g from to (R.Struct i) = if is_struct (adt_shape (definition c i.0)) then struct_to_struct c g i.0 from to ∷ [] else []
+rules_of_row c supers g from to R.Nothing = []
 
 -- The rules for a target in normal form, where these are the supertraits of the principal of the goal's self type, if that is a `dyn` type.
--- A target that is a general variable says too little.
 abbrev pub unsizing_rules : Context → List Tree → TraitGoal → Tree → List Rule
-unsizing_rules c supers g to =
-    if is_general to.head then ambiguous_rule g true ∷ []
-    else unsizing_row c supers g (self_of g) to (self_of g).head to.head
+unsizing_rules c supers g to = rules_of_row c supers g (self_of g) to (unsizing_row (self_of g).head to.head)
 
 -- the type that a positive goal unsizes to
 abbrev pub unsizing_target : TraitGoal → Option Tree

@@ -20,14 +20,10 @@ ghost use Rattle.candidate_eval.specs.ObjectRequirements.{first_tree};
 ghost use Rattle.candidate_eval.specs.Tables.{last_of, optional};
 ghost use Rattle.candidate_assembly.specs.BuiltinRules.{holds_of, self_of};
 ghost use Rattle.candidate_assembly.specs.Calling.{pair_of};
-ghost use Rattle.candidate_ir.specs.declared.decl.contents.LangItem.TheVariants as item;
-ghost use Rattle.candidate_assembly.specs.KindBounds.{UnsizingList};
-ghost use Rattle.candidate_assembly.specs.Kinds.{IsGoal, IsTyped};
-ghost use Rattle.candidate_assembly.specs.Listing.{ConsidersAll};
-ghost use Rattle.candidate_assembly.specs.Standing.{GoalStands};
+ghost use Rattle.candidate_assembly.specs.Kinds.{IsGoal};
 ghost use Rattle.candidate_assembly.specs.Telling.{Considers, HaveNoParameter, StopsOfItself, Told};
-ghost use Rattle.candidate_assembly.specs.TraitGoals.{arguments_held, is_item, trait_goal, types_held};
-ghost use Rattle.candidate_assembly.specs.TraitRules.{trait_bounds, trait_rules};
+ghost use Rattle.candidate_assembly.specs.TraitGoals.{arguments_held, trait_goal, types_held};
+ghost use Rattle.candidate_assembly.specs.TraitRules.{trait_rules};
 ghost use Rattle.candidate_assembly.specs.Unsizing.{array_to_slice, equal_rule, has_elements, mixed, mixed_list, struct_to_struct, tail_of, unsizing_parameters};
 
 use crate::assembly::steps::nest_and_respond;
@@ -339,24 +335,4 @@ pub(crate) fn unsize_struct<E: EvalCtxt>(
     let unsize = predicate.trait_ref.def_id;
     let (mixed, clause) = struct_parts(alloc, ecx, unsize, adt, from, to)?;
     consider_equal(alloc, ecx, env, mixed, target, &[clause])
-}
-
-/// The candidates by unsizing: the target's normal form is asked for in a probe, and the first row that applies gives the rules. A negative
-/// goal has none, nor has one whose target has no normal form.
-///
-/// It stops at the first rule that stops, with that stop; else the stops are those of making nodes and lists, and the evaluator's. The state
-/// is left alike the one before.
-pub(crate) fn consider_unsizing<E: EvalCtxt>(
-    alloc: Global,
-    ecx: &mut E,
-    env: ParamEnv,
-    predicate: TraitPredicate,
-) -> Result<Vec<Candidate>, Stop>
-    requires goal { IsGoal trait_rules arguments_held types_held trait_goal (E.context ecx.old) env predicate }
-    requires typed { IsTyped trait_rules (E.context ecx.old) (trait_goal (E.context ecx.old).trees env predicate) }
-    requires stands { GoalStands trait_rules (E.state ecx.old) (trait_goal (E.context ecx.old).trees env predicate) }
-    requires unsize { is_item (E.context ecx.old) item.Unsize predicate.trait_ref.def_id.0 ≡ true }
-    ensures { ConsidersAll E.fixed E.judge E.state E.probes E.context E.stops ecx.old ecx.new (E.state ecx.old) (λ v. v.items) (UnsizingList trait_rules trait_bounds (E.judge (E.fixed ecx.old)) (E.context ecx.old) (E.state ecx.old) (trait_goal (E.context ecx.old).trees env predicate)) result }
-{
-    unreachable!()
 }

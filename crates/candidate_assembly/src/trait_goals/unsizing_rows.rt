@@ -1,0 +1,184 @@
+//! Which row a type unsizes by, and the candidates of that.
+
+ghost use Rattle.std.specs.Prelude.{◌≡◌, false, true};
+ghost use Rattle.candidate_ir.specs.declared.decl.contents.LangItem.TheVariants as item;
+ghost use Rattle.candidate_ir.specs.declared.ir.heads.Head.TheVariants as H;
+ghost use Rattle.candidate_ir.specs.Lookups.{adt_shape, definition};
+ghost use Rattle.candidate_ir.specs.Substitutions.{alone};
+ghost use Rattle.candidate_ir.specs.Trees.{TypeKind, kind_of};
+ghost use Rattle.candidate_ir.specs.Words.{IsArgs, IsTy, args_forest, ty_tree};
+ghost use Rattle.candidate_ir.specs.Worlds.{AdtSort, kinds_of, parameters};
+ghost use Rattle.candidate_ir.specs.Context.{world};
+ghost use Rattle.candidate_eval.specs.ObjectRequirements.{first_tree};
+ghost use Rattle.candidate_eval.specs.ResponseTrees.{AreCandidates};
+ghost use Rattle.candidate_assembly.specs.BuiltinRules.{positive, self_of};
+ghost use Rattle.candidate_assembly.specs.DynBounds.{is_dynamic};
+ghost use Rattle.candidate_assembly.specs.KindBounds.{UnsizingList};
+ghost use Rattle.candidate_assembly.specs.Kinds.{IsGoal, IsTyped};
+ghost use Rattle.candidate_assembly.specs.Listing.{ConsidersAll};
+ghost use Rattle.candidate_assembly.specs.Standing.{GoalStands, StandsAt};
+ghost use Rattle.candidate_assembly.specs.TraitGoals.{arguments_held, is_item, trait_goal, types_held};
+ghost use Rattle.candidate_assembly.specs.TraitRules.{trait_bounds, trait_rules};
+ghost use Rattle.candidate_assembly.specs.Unsizing.{IsUnsizedTo, is_array, is_struct, row_to_adt, unsizing_row, unsizing_rules};
+
+use crate::assembly::listing::push_considered;
+use crate::assembly::steps::forced_ambiguity;
+use crate::trait_goals::builtin::{is_positive, self_head};
+use crate::trait_goals::unsizing::{unsize_array, unsize_struct};
+use candidate_eval::eval::certainty::MaybeInfo;
+use candidate_eval::eval::clauses::self_ty;
+use candidate_eval::eval::context::{EvalCtxt, ProbeKind};
+use candidate_eval::eval::refusal::NoSolutionOrStop;
+use candidate_eval::eval::response::Candidate;
+use candidate_ir::decl::Cx;
+use candidate_ir::decl::definition::AdtShape;
+use candidate_ir::ir::heads::{Builtin, Head, Variable, VariableSort};
+use candidate_ir::ir::kinds::{AdtId, Args, GenericArg, ParamEnv, TraitPredicate, Ty, TyKind};
+use candidate_ir::ir::stop::Stop;
+use candidate_ir::ir::trees::Trees;
+use std::alloc::Global;
+
+/// How a type unsizes to another.
+#[derive(Clone, Copy)]
+pub(crate) enum UnsizingRow {
+    /// Too little is known of the target.
+    Ambiguous,
+    DynToDyn,
+    /// Any other type to `dyn`.
+    ToDyn,
+    ArrayToSlice,
+    /// Both are this data type, which unsizes if it is a structure.
+    Struct(AdtId),
+    Nothing,
+}
+
+fn is_array(head: Head) -> bool
+    ensures { result ≡ is_array head }
+{
+    matches!(head, Head::Builtin(Builtin::Array))
+}
+
+fn is_dynamic(head: Head) -> bool
+    ensures { result ≡ is_dynamic head }
+{
+    matches!(head, Head::Dynamic)
+}
+
+/// The row to a data type: of the same data type alone.
+fn row_to_adt(source: Head, to: AdtId) -> UnsizingRow
+    ensures { result ≡ row_to_adt source to }
+{
+    match source {
+        Head::Adt(from) => if from.0 == to.0 {
+            UnsizingRow::Struct(from)
+        } else {
+            UnsizingRow::Nothing
+        },
+        _ => UnsizingRow::Nothing,
+    }
+}
+
+/// The row by both heads.
+fn unsizing_row(source: Head, target: Head) -> UnsizingRow
+    ensures { result ≡ unsizing_row source target }
+{
+    match target {
+        Head::Infer(Variable { sort: VariableSort::General, .. }) => UnsizingRow::Ambiguous,
+        Head::Dynamic => if is_dynamic(source) {
+            UnsizingRow::DynToDyn
+        } else {
+            UnsizingRow::ToDyn
+        },
+        Head::Builtin(Builtin::Slice) => if is_array(source) {
+            UnsizingRow::ArrayToSlice
+        } else {
+            UnsizingRow::Nothing
+        },
+        Head::Adt(to) => row_to_adt(source, to),
+        _ => UnsizingRow::Nothing,
+    }
+}
+
+fn is_struct(cx: &Cx, adt: AdtId) -> bool
+    ensures { result ≡ is_struct (adt_shape (definition cx.now adt.0)) }
+{
+    matches!(cx.adt_shape(adt), Some(AdtShape::Struct))
+}
+
+/// The arguments of a data type.
+fn adt_args(cx: &Cx, ty: Ty, adt: AdtId) -> Args
+    requires sort { IsTy cx.now.trees ty }
+    requires head { (ty_tree cx.now.trees ty).head ≡ H.Adt adt }
+    ensures sort { IsArgs cx.now.trees result }
+    ensures fit { parameters (world cx.now) AdtSort adt.0 ≡ Some (kinds_of (args_forest cx.now.trees result)) }
+    ensures tree { ty_tree cx.now.trees ty ≡ record { head = H.Adt adt; children = args_forest cx.now.trees result } }
+{
+    let _ = adt;
+    cx.well_formed();
+    match cx.kind(ty) {
+        TyKind::Adt(_, args) => args,
+        _ => unreachable!(),
+    }
+}
+
+/// The goal's self type and the target, in normal form, are the same data type: the candidate, if that is a structure.
+///
+/// `NoSolution` comes where it is none, and else as from `unsize_struct`. The state is left alike the one before.
+fn consider_struct<E: EvalCtxt>(
+    alloc: Global,
+    ecx: &mut E,
+    env: ParamEnv,
+    predicate: TraitPredicate,
+    adt: AdtId,
+    target: Ty,
+) -> Result<Candidate, NoSolutionOrStop>
+    requires goal { IsGoal trait_rules arguments_held types_held trait_goal (E.context ecx.old) env predicate }
+    requires takes_a_type { parameters (world (E.context ecx.old)) TraitSort predicate.trait_ref.def_id.0 ≡ Some (TypeKind ∷ []) }
+    requires source { (self_of (trait_goal (E.context ecx.old).trees env predicate)).head ≡ H.Adt adt }
+    requires target { IsTy (E.context ecx.old).trees target }
+    requires free { tree_holds is_param (ty_tree (E.context ecx.old).trees target) ≡ false }
+    requires into { (ty_tree (E.context ecx.old).trees target).head ≡ H.Adt adt }
+    ensures { Considers E.fixed E.judge E.state E.probes E.context E.stops ecx.old ecx.new (struct_to_struct (E.context ecx.old) (trait_goal (E.context ecx.old).trees env predicate) adt.0 (self_of (trait_goal (E.context ecx.old).trees env predicate)) (ty_tree (E.context ecx.old).trees target)) result }
+{
+    let cx = ecx.cx();
+    let from = adt_args(cx, self_ty(cx, predicate.trait_ref), adt);
+    let to = adt_args(cx, target, adt);
+    unsize_struct(alloc, ecx, env, predicate, adt, from, to, target)
+}
+
+/// Adds the candidates of the row for a target in normal form.
+///
+/// It stops at the first rule that stops, with that stop; else the stops are those of making nodes and lists, and the evaluator's. The state
+/// is left alike the one before.
+fn unsize_by_row<E: EvalCtxt>(
+    alloc: Global,
+    ecx: &mut E,
+    env: ParamEnv,
+    predicate: TraitPredicate,
+    target: Ty,
+    candidates: &mut Vec<Candidate>,
+) -> Result<(), Stop>
+    requires goal { IsGoal trait_rules arguments_held types_held trait_goal (E.context ecx.old) env predicate }
+    requires takes_a_type { parameters (world (E.context ecx.old)) TraitSort predicate.trait_ref.def_id.0 ≡ Some (TypeKind ∷ []) }
+    requires target { IsTy (E.context ecx.old).trees target }
+    requires stands { TargetStands (E.state ecx.old) (trait_goal (E.context ecx.old).trees env predicate) (ty_tree (E.context ecx.old).trees target) }
+    requires candidates { AreCandidates (E.context ecx.old).trees candidates.old.items }
+    ensures { ConsidersAll E.fixed E.judge E.state E.probes E.context E.stops ecx.old ecx.new (E.state ecx.old) (λ _. candidates.new.items) (IsUnsizedTo (E.judge (E.fixed ecx.old)) (E.context ecx.old) (E.state ecx.old) (trait_goal (E.context ecx.old).trees env predicate) (ty_tree (E.context ecx.old).trees target) candidates.old.items) result }
+{
+    let cx = ecx.cx();
+    let answer = match unsizing_row(self_head(cx, predicate), cx.head(target.0)) {
+        UnsizingRow::DynToDyn => {
+            return unsize_dyn_to_dyn(alloc, ecx, env, predicate, target, candidates);
+        }
+        UnsizingRow::ToDyn => {
+            return unsize_to_dyn(alloc, ecx, env, predicate, target, candidates);
+        }
+        UnsizingRow::Ambiguous => forced_ambiguity(alloc, ecx, env, MaybeInfo::AMBIGUOUS),
+        UnsizingRow::ArrayToSlice => unsize_array(alloc, ecx, env, predicate, target),
+        UnsizingRow::Struct(adt) if is_struct(ecx.cx(), adt) => {
+            consider_struct(alloc, ecx, env, predicate, adt, target)
+        }
+        UnsizingRow::Struct(_) | UnsizingRow::Nothing => return Ok(()),
+    };
+    push_considered(candidates, answer)
+}
