@@ -5,9 +5,11 @@ pub mod TraitGoals
 pub mod BuiltinRules
 pub mod TraitRules
 pub mod Staying
+pub mod Given
 pub mod Matching
 pub mod Projections
 pub mod Characterizing
+pub mod BuiltinLaws
 pub mod Impls
 pub mod ImplLaws
 pub mod Requirements
