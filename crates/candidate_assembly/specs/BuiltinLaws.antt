@@ -94,15 +94,8 @@ constraints-stay old new n args s g f =
     ∙ args-stay old new args (optional declared) g (optional-fits old.trees declared (f.constraints s))
 
 hidden-given : (c : Context) (n : ℕ) (o : Option DefinitionKind) → IfSome o (λ k. AreGiven c (definition_held c.contents n k)) → IfSome (hidden_type o) (λ t. IsTy c.trees t)
-hidden-given c n None g = tt
 hidden-given c n (Some (D.Opaque hidden p)) g = hidden_fits c n p hidden g
-hidden-given c n (Some (D.Adt _ _ _)) g = tt
-hidden-given c n (Some (D.Trait _ _)) g = tt
-hidden-given c n (Some D.Foreign) g = tt
-hidden-given c n (Some (D.Assoc _ _ _ _)) g = tt
-hidden-given c n (Some (D.Alias _)) g = tt
-hidden-given c n (Some (D.Function _ _)) g = tt
-hidden-given c n (Some (D.Closure _)) g = tt
+hidden-given c n _ g = tt
 
 hidden-stay : (old new : Context) (n : ℕ) (args : Forest) → IsWellFormedTable old → Grows old new → hidden_types new n args ≡ hidden_types old n args
 hidden-stay old new n args t g =
@@ -139,24 +132,7 @@ module _ (old new : Context) (t : IsWellFormedTable old) (g : Grows old new) whe
       let dropped = dropped-stay old new i.0 below g f in
       λ j. cells (asks (owned j)) (λ s. asks (constraints-stay old new i.0 below s g f j)) Refused (asks (dropped j))
   row-stays (H.Alias AK.Opaque i) below f = λ j. cells (asks (hidden-stay old new i.0 below t g j)) (always Refused) Refused Refused
-  row-stays (H.Alias AK.Projection i) below f = refl
-  row-stays (H.Alias AK.Inherent i) below f = refl
-  row-stays (H.Alias AK.Free i) below f = refl
-  row-stays (H.Builtin _) below f = refl
-  row-stays (H.Ref _) below f = refl
-  row-stays (H.Foreign _) below f = refl
-  row-stays H.Dynamic below f = refl
-  row-stays (H.FnDef _) below f = refl
-  row-stays (H.Closure _ _) below f = refl
-  row-stays (H.Param _) below f = refl
-  row-stays (H.Placeholder _) below f = refl
-  row-stays (H.Bound _) below f = refl
-  row-stays (H.Infer _) below f = refl
-  row-stays H.Error below f = refl
-  row-stays (H.Const _) below f = refl
-  row-stays (H.Region _) below f = refl
-  row-stays (H.Part _) below f = refl
-  row-stays (H.List _) below f = refl
+  row-stays _ below f = refl
 
   cell-stays : (k : Column) (u : Tree) → HeadIsGiven old u.head → cell k (row_of new u) ≡ cell k (row_of old u)
   cell-stays k u f = ap (cell k) (row-stays u.head u.children f)
@@ -192,23 +168,7 @@ module _ (old new : Context) (t : IsWellFormedTable old) (g : Grows old new) whe
   barred-stays n (H.Alias AK.Opaque i) f = bounds-stay i.0 n f
   barred-stays n (H.Foreign i) f = ap (λ (c : Context). auto_barred c n (H.Foreign i)) g.same
   barred-stays n (H.Adt i) f = ap (λ (c : Context). auto_barred c n (H.Adt i)) g.same
-  barred-stays n (H.Alias AK.Projection i) f = refl
-  barred-stays n (H.Alias AK.Inherent i) f = refl
-  barred-stays n (H.Alias AK.Free i) f = refl
-  barred-stays n (H.Builtin _) f = refl
-  barred-stays n (H.Ref _) f = refl
-  barred-stays n H.Dynamic f = refl
-  barred-stays n (H.FnDef _) f = refl
-  barred-stays n (H.Closure _ _) f = refl
-  barred-stays n (H.Param _) f = refl
-  barred-stays n (H.Placeholder _) f = refl
-  barred-stays n (H.Bound _) f = refl
-  barred-stays n (H.Infer _) f = refl
-  barred-stays n H.Error f = refl
-  barred-stays n (H.Const _) f = refl
-  barred-stays n (H.Region _) f = refl
-  barred-stays n (H.Part _) f = refl
-  barred-stays n (H.List _) f = refl
+  barred-stays n _ f = refl
 
   refused-stays : (r : Reference) (h : Head) → HeadIsGiven old h → auto_refused new r h ≡ auto_refused old r h
   refused-stays r h f =
@@ -252,35 +212,13 @@ module _ (old new : Context) (t : IsWellFormedTable old) (g : Grows old new) whe
       by : (b : Bool) → declared_signature new.trees sig ≡ declared_signature old.trees sig → instance_calls new.trees args (if b then Some sig else None) ≡ instance_calls old.trees args (if b then Some sig else None)
       by true e = λ j. CalledWith (signature_callable (substituted_tree args (e j)))
       by false e = refl
-  function-stays args i None h = refl
-  function-stays args i (Some (D.Adt _ _ _)) h = refl
-  function-stays args i (Some (D.Trait _ _)) h = refl
-  function-stays args i (Some D.Foreign) h = refl
-  function-stays args i (Some (D.Assoc _ _ _ _)) h = refl
-  function-stays args i (Some (D.Alias _)) h = refl
-  function-stays args i (Some (D.Opaque _ _)) h = refl
-  function-stays args i (Some (D.Closure _)) h = refl
+  function-stays args i _ h = refl
 
   head-calls-stay : (k : ClosureKind) (h : Head) (below : Forest) → head_calls new k h below ≡ head_calls old k h below
   head-calls-stay k (H.FnDef i) below =
       ap (λ (c : Context). instance_calls new.trees below (signature_if_callable new.trees (fn_flags (definition c i.0)) (fn_sig (definition c i.0)))) g.same
       ∙ function-stays below i.0 (definition old i.0) (definition_given old t i.0)
-  head-calls-stay k (H.Builtin _) below = refl
-  head-calls-stay k (H.Closure _ _) below = refl
-  head-calls-stay k (H.Adt _) below = refl
-  head-calls-stay k (H.Alias _ _) below = refl
-  head-calls-stay k (H.Ref _) below = refl
-  head-calls-stay k (H.Foreign _) below = refl
-  head-calls-stay k H.Dynamic below = refl
-  head-calls-stay k (H.Param _) below = refl
-  head-calls-stay k (H.Placeholder _) below = refl
-  head-calls-stay k (H.Bound _) below = refl
-  head-calls-stay k (H.Infer _) below = refl
-  head-calls-stay k H.Error below = refl
-  head-calls-stay k (H.Const _) below = refl
-  head-calls-stay k (H.Region _) below = refl
-  head-calls-stay k (H.Part _) below = refl
-  head-calls-stay k (H.List _) below = refl
+  head-calls-stay k _ below = refl
 
   pub calls_stay : (k : ClosureKind) (u : Tree) → calls new k u ≡ calls old k u
   calls_stay k u = ap (λ x. if is_unknown u.head then Excluded else x) (head-calls-stay k u.head u.children)
@@ -289,22 +227,7 @@ module _ (old new : Context) (t : IsWellFormedTable old) (g : Grows old new) whe
 
   needs-stay : (h : Head) → no_drop_needs new h ≡ no_drop_needs old h
   needs-stay (H.Adt i) = ap (λ (c : Context). no_drop_needs c (H.Adt i)) g.same
-  needs-stay (H.Builtin _) = refl
-  needs-stay (H.Ref _) = refl
-  needs-stay (H.FnDef _) = refl
-  needs-stay (H.Closure _ _) = refl
-  needs-stay (H.Alias _ _) = refl
-  needs-stay (H.Foreign _) = refl
-  needs-stay H.Dynamic = refl
-  needs-stay (H.Param _) = refl
-  needs-stay (H.Placeholder _) = refl
-  needs-stay (H.Bound _) = refl
-  needs-stay (H.Infer _) = refl
-  needs-stay H.Error = refl
-  needs-stay (H.Const _) = refl
-  needs-stay (H.Region _) = refl
-  needs-stay (H.Part _) = refl
-  needs-stay (H.List _) = refl
+  needs-stay _ = refl
 
   no-drop-stays : (p : TraitGoal) (n : NoDrop) → HeadIsGiven old (self_of p).head → rule_by_needs new p n ≡ rule_by_needs old p n
   no-drop-stays p N.Nothing f = refl
@@ -332,24 +255,7 @@ module _ (old new : Context) (t : IsWellFormedTable old) (g : Grows old new) whe
 head_of_all : (c : Context) → AllIsGiven c → (h : Head) → HeadIsGiven c h
 head_of_all c a (H.Adt i) = a.adts i.0
 head_of_all c a (H.Alias AK.Opaque i) = a.bounds i.0
-head_of_all c a (H.Alias AK.Projection i) = tt
-head_of_all c a (H.Alias AK.Inherent i) = tt
-head_of_all c a (H.Alias AK.Free i) = tt
-head_of_all c a (H.Builtin _) = tt
-head_of_all c a (H.Ref _) = tt
-head_of_all c a (H.Foreign _) = tt
-head_of_all c a H.Dynamic = tt
-head_of_all c a (H.FnDef _) = tt
-head_of_all c a (H.Closure _ _) = tt
-head_of_all c a (H.Param _) = tt
-head_of_all c a (H.Placeholder _) = tt
-head_of_all c a (H.Bound _) = tt
-head_of_all c a (H.Infer _) = tt
-head_of_all c a H.Error = tt
-head_of_all c a (H.Const _) = tt
-head_of_all c a (H.Region _) = tt
-head_of_all c a (H.Part _) = tt
-head_of_all c a (H.List _) = tt
+head_of_all c a _ = tt
 
 pub builtin_stays : (old new : Context) → IsWellFormedTable old → IsCounted old → Grows old new → (r : BuiltinRule) (p : TraitGoal) → trait_rule r new p ≡ trait_rule r old p
 builtin_stays old new t l g r p =
@@ -361,24 +267,7 @@ builtin_stays old new t l g r p =
 pub head_is_given : (c : Context) → IsWellFormedTable c → (h : Head) (ks : List Kind) → child_kinds (world c) h ks ≡ Some ks → HeadIsGiven c h
 head_is_given c t (H.Adt i) ks e = declared_adt c t i.0 ks e
 head_is_given c t (H.Alias AK.Opaque i) ks e = declared_opaque c t i.0 ks e
-head_is_given c t (H.Alias AK.Projection i) ks e = tt
-head_is_given c t (H.Alias AK.Inherent i) ks e = tt
-head_is_given c t (H.Alias AK.Free i) ks e = tt
-head_is_given c t (H.Builtin _) ks e = tt
-head_is_given c t (H.Ref _) ks e = tt
-head_is_given c t (H.Foreign _) ks e = tt
-head_is_given c t H.Dynamic ks e = tt
-head_is_given c t (H.FnDef _) ks e = tt
-head_is_given c t (H.Closure _ _) ks e = tt
-head_is_given c t (H.Param _) ks e = tt
-head_is_given c t (H.Placeholder _) ks e = tt
-head_is_given c t (H.Bound _) ks e = tt
-head_is_given c t (H.Infer _) ks e = tt
-head_is_given c t H.Error ks e = tt
-head_is_given c t (H.Const _) ks e = tt
-head_is_given c t (H.Region _) ks e = tt
-head_is_given c t (H.Part _) ks e = tt
-head_is_given c t (H.List _) ks e = tt
+head_is_given c t _ ks e = tt
 
 first_is_given : (c : Context) → IsWellFormedTable c → (ts : Forest) → Fits (world c) ts → HeadIsGiven c (first_tree ts).head
 first_is_given c t none f = tt

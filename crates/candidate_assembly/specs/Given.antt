@@ -3,15 +3,16 @@ use Rattle.std.proofs.Common.{◌≡◌, ℕ, ◌≤◌, length, Option, Some, N
 use Rattle.std.specs.Prelude.{IfSome, ◌==◌, if◌then◌else◌, option_map, slice_get}
 use Rattle.std.proofs.lemmas.Option.{slice_get-map}
 use Rattle.candidate_ir.specs.declared.decl.contents.Sizedness.{Sizedness}
+use Rattle.candidate_ir.specs.declared.decl.definition.AdtShape.{AdtShape}
+use Rattle.candidate_ir.specs.declared.decl.definition.AssocKind.TheVariants as A
 use Rattle.candidate_ir.specs.declared.decl.definition.DefinitionKind.{DefinitionKind}
 use Rattle.candidate_ir.specs.declared.decl.definition.DefinitionKind.TheVariants as D
-use Rattle.candidate_ir.specs.declared.decl.definition.AssocKind.TheVariants as A
 use Rattle.candidate_ir.specs.Context.{Context, definition_of, parameter_kind, sort_of, world}
 use Rattle.candidate_ir.specs.Contents.{AdtContents, Bounds, TraitContents}
 use Rattle.candidate_ir.specs.Declaration.{Declaration}
 use Rattle.candidate_ir.specs.Declaring.{adt_at, adt_place, bounds_at, bounds_place, no_place, place_of, trait_at, trait_place}
 use Rattle.candidate_ir.specs.Held.{definition_held}
-use Rattle.candidate_ir.specs.Lookups.{constraint, kind_of_declared, maybe}
+use Rattle.candidate_ir.specs.Lookups.{adt_shape, constraint, definition, kind_of_declared, maybe}
 use Rattle.candidate_ir.specs.Supers.{supers_at}
 use Rattle.candidate_ir.specs.Trees.{Kind, Tree}
 use Rattle.candidate_ir.specs.WellFormed.{AreGiven, IsWellFormedTable, TypesFit}
@@ -120,14 +121,9 @@ adt-of c n (D.Adt shape flags p) ps ks e g = of (slice_get c.contents.adts p) re
     of (Some a) q =
         let there = rw q at g in
         record { fields = fields_fit c _ a there; constraints = λ s. constraint_fits c _ s a there }
-adt-of c n (D.Trait _ _) ps ks e g = absurd cc
-adt-of c n D.Foreign ps ks e g = absurd cc
 adt-of c n (D.Assoc of A.Type sized p) ps ks e g = absurd cc
 adt-of c n (D.Assoc of A.Const sized p) ps ks e g = absurd cc
-adt-of c n (D.Alias _) ps ks e g = absurd cc
-adt-of c n (D.Opaque _ _) ps ks e g = absurd cc
-adt-of c n (D.Function _ _) ps ks e g = absurd cc
-adt-of c n (D.Closure _) ps ks e g = absurd cc
+adt-of c n _ ps ks e g = absurd cc
 
 pub declared_adt : (c : Context) → IsWellFormedTable c → (n : ℕ) (ks : List Kind) → parameters (world c) AdtSort n ≡ Some ks → AdtIsGiven c n
 declared_adt c t n ks p =
@@ -141,14 +137,9 @@ trait-of c n (D.Trait flags p) ps ks e g = of (slice_get c.contents.traits p) re
     of : (o : Option TraitContents) → slice_get c.contents.traits p ≡ o → TraitParts c.trees o
     of None q = no_trait c.trees
     of (Some a) q = let there = rw q at g in record { supers = supers_fit c _ a there; wheres = wheres_fit c _ a there }
-trait-of c n (D.Adt _ _ _) ps ks e g = absurd cc
-trait-of c n D.Foreign ps ks e g = absurd cc
 trait-of c n (D.Assoc of A.Type sized p) ps ks e g = absurd cc
 trait-of c n (D.Assoc of A.Const sized p) ps ks e g = absurd cc
-trait-of c n (D.Alias _) ps ks e g = absurd cc
-trait-of c n (D.Opaque _ _) ps ks e g = absurd cc
-trait-of c n (D.Function _ _) ps ks e g = absurd cc
-trait-of c n (D.Closure _) ps ks e g = absurd cc
+trait-of c n _ ps ks e g = absurd cc
 
 pub declared_trait : (c : Context) → IsWellFormedTable c → (n : ℕ) (ks : List Kind) → parameters (world c) TraitSort n ≡ Some ks → TraitIsGiven c n
 declared_trait c t n ks p =
@@ -162,16 +153,27 @@ opaque-of c n (D.Opaque hidden p) ps ks e g = of (slice_get c.contents.bounds p)
     of : (o : Option Bounds) → slice_get c.contents.bounds p ≡ o → BoundsParts c.trees o
     of None q = refl
     of (Some b) q = let there = rw q at g in self_bounds_fit c _ b (or-right _ _ there)
-opaque-of c n (D.Trait _ _) ps ks e g = absurd cc
-opaque-of c n (D.Adt _ _ _) ps ks e g = absurd cc
-opaque-of c n D.Foreign ps ks e g = absurd cc
 opaque-of c n (D.Assoc of A.Type sized p) ps ks e g = absurd cc
 opaque-of c n (D.Assoc of A.Const sized p) ps ks e g = absurd cc
-opaque-of c n (D.Alias _) ps ks e g = absurd cc
-opaque-of c n (D.Function _ _) ps ks e g = absurd cc
-opaque-of c n (D.Closure _) ps ks e g = absurd cc
+opaque-of c n _ ps ks e g = absurd cc
 
 pub declared_opaque : (c : Context) → IsWellFormedTable c → (n : ℕ) (ks : List Kind) → parameters (world c) OpaqueSort n ≡ Some ks → BoundsAreGiven c n
 declared_opaque c t n ks p =
     declared c t OpaqueSort n ks p (λ (o : Option Declaration). BoundsParts c.trees (slice_get c.contents.bounds (place_of bounds_place o)))
     (λ d e g. opaque-of c n d.kind (map parameter_kind d.parameters) ks e g)
+
+-- So it is where a definition has a shape.
+
+pub shaped_adt : (c : Context) → IsWellFormedTable c → (n : ℕ) (shape : AdtShape) → adt_shape (definition c n) ≡ Some shape → AdtIsGiven c n
+shaped_adt c t n shape e = of (slice_get c.declarations n) refl
+  where
+    by : (k : DefinitionKind) → adt_shape (Some k) ≡ Some shape → AreGiven c (definition_held c.contents n k) → AdtParts c.trees (slice_get c.contents.adts (adt_place k))
+    by (D.Adt s flags p) q g = adt-of c n (D.Adt s flags p) [] [] refl g
+    by _ q g = absurd cc
+
+    of : (o : Option Declaration) → slice_get c.declarations n ≡ o → AdtIsGiven c n
+    of None q = let no : None ≡ Some shape = sym (ap (λ (o : Option Declaration). adt_shape (kind_of_declared o)) q) ∙ e in absurd cc
+    of (Some d) q =
+        subst (λ (o : Option Declaration). AdtParts c.trees (slice_get c.contents.adts (place_of adt_place o))) (sym q)
+        (by d.kind (sym (ap (λ (o : Option Declaration). adt_shape (kind_of_declared o)) q) ∙ e)
+        (subst (λ (o : Option Declaration). IfSome (kind_of_declared o) (λ k. AreGiven c (definition_held c.contents n k))) q (definition_given c t n)))

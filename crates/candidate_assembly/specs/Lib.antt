@@ -17,6 +17,7 @@ pub mod Calling
 pub mod DynBounds
 pub mod Listing
 pub mod Unsizing
+pub mod UnsizingLaws
 pub mod ObjectBounds
 pub mod AliasBounds
 pub mod Opaques
