@@ -280,7 +280,7 @@ takes_declared c t n ks e = of (parameters (world c) TraitSort n) refl
     of None q = let z = sym (ap (joined (Some (TypeKind ∷ []))) q) ∙ e in absurd cc
     of (Some ps) q = declared_trait c t n ps q
 
-nodes_fit : (c : Context) → IsWellFormedTable c → IsWellFormed c
+pub nodes_fit : (c : Context) → IsWellFormedTable c → IsWellFormed c
 unfolding IsWellFormedTable
 nodes_fit c t = t.arguments.nodes
 

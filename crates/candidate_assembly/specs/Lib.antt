@@ -18,6 +18,7 @@ pub mod DynBounds
 pub mod Listing
 pub mod Unsizing
 pub mod UnsizingLaws
+pub mod SuperLaws
 pub mod ObjectBounds
 pub mod AliasBounds
 pub mod Opaques
