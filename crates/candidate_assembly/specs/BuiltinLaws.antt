@@ -1,7 +1,7 @@
 -- The rules of the language say the same where a context has grown: what they read of it is what is declared.
 use Rattle.std.proofs.Common.{◌≡◌, ℕ, Bool, true, false, Option, Some, None, List, [], ◌∷◌, map, refl, sym, ap, subst, ◌∙◌}
-use Rattle.std.specs.Prelude.{IfSome, ◌&&◌, ◌||◌, not, if◌then◌else◌}
 use Rattle.std.specs.List.{filter, list_any}
+use Rattle.std.specs.Prelude.{IfSome, ◌&&◌, ◌||◌, not, if◌then◌else◌}
 use Rattle.candidate_ir.specs.declared.decl.contents.ImplId.{ImplId}
 use Rattle.candidate_ir.specs.declared.decl.contents.LangItem.TheVariants as L
 use Rattle.candidate_ir.specs.declared.decl.contents.Sizedness.{Sizedness}
@@ -18,13 +18,14 @@ use Rattle.candidate_ir.specs.declared.ir.kinds.FnSig.{FnSig}
 use Rattle.candidate_ir.specs.declared.ir.kinds.ParamEnv.{ParamEnv}
 use Rattle.candidate_ir.specs.declared.ir.kinds.TraitPredicate.{TraitPredicate}
 use Rattle.candidate_ir.specs.declared.ir.kinds.Ty.{Ty}
-use Rattle.candidate_ir.specs.Context.{Context, Grows, world}
 use Rattle.candidate_ir.specs.Contents.{Impl}
+use Rattle.candidate_ir.specs.Context.{Context, Grows, world}
 use Rattle.candidate_ir.specs.Declaring.{adt_at, bounds_at, impl_at, trait_at}
 use Rattle.candidate_ir.specs.Folding.{substituted_tree}
 use Rattle.candidate_ir.specs.Held.{definition_held, held_sig}
 use Rattle.candidate_ir.specs.Impls.{impls_of, is_relevant, listed_type, may_be_for, relevant_impls, self_type}
-use Rattle.candidate_ir.specs.Lookups.{constraint, definition, fn_flags, fn_sig, hidden_type, maybe}
+use Rattle.candidate_ir.specs.Kinds.{is_fn_trait_compatible}
+use Rattle.candidate_ir.specs.Lookups.{constraint, definition, fn_flags, fn_sig, hidden_type, maybe, adt_flags}
 use Rattle.candidate_ir.specs.Nodes.{kind_at}
 use Rattle.candidate_ir.specs.References.{IsWellFormed}
 use Rattle.candidate_ir.specs.Trees.{Kind, TypeKind, BinderKind, Forest, none, tree, Tree, row}
@@ -35,24 +36,22 @@ use Rattle.candidate_ir.proofs.Given.{definition_given, hidden_fits, impl_given,
 use Rattle.candidate_ir.proofs.Kept.{args-kept, number-kept, ty-kept}
 use Rattle.candidate_ir.proofs.Lists.{below_kind}
 use Rattle.candidate_ir.proofs.References.{args-fit}
+use Rattle.candidate_eval.specs.declared.eval.certainty.Certainty.TheVariants.{Yes}
+use Rattle.candidate_eval.specs.declared.eval.source.BuiltinImplSource.TheVariants.{Trivial}
+use Rattle.candidate_eval.specs.declared.eval.source.CandidateSource.TheVariants.{BuiltinImpl}
+use Rattle.candidate_eval.specs.declared.structural.Column.{Column}
+use Rattle.candidate_eval.specs.declared.structural.Column.TheVariants as C
 use Rattle.candidate_eval.specs.Callable.{CalledWith, Excluded, calls, can_be_called, are_types, declared_signature, head_calls, instance_calls, is_unknown, signature_callable, signature_if_callable, tuple_of}
 use Rattle.candidate_eval.specs.ImplRules.{TraitGoal}
 use Rattle.candidate_eval.specs.ObjectRequirements.{first_tree}
 use Rattle.candidate_eval.specs.Rules.{ask, nested_misc}
 use Rattle.candidate_eval.specs.Tables.{Refused, asks, cell, cells, always, constraint_types, dropped_types, field_types, first_of, hidden_types, is_manually_drop, is_phantom, optional, owned_types, row_of, with_args}
 use Rattle.candidate_eval.specs.Tables as table
-use Rattle.candidate_ir.specs.Lookups.{adt_flags}
-use Rattle.candidate_eval.specs.declared.structural.Column.{Column}
-use Rattle.candidate_eval.specs.declared.structural.Column.TheVariants as C
 use Rattle.candidate_eval.proofs.Responding.{clauses-kept}
 use Rattle.candidate_eval.proofs.Types.{types_kept}
-use Rattle.candidate_eval.specs.declared.eval.certainty.Certainty.TheVariants.{Yes}
-use Rattle.candidate_assembly.specs.BuiltinRules.{ambiguous_rule, auto_barred, auto_refused, auto_rule, bounds_name, call_rule, copy_rule, is_nonempty, is_numeric_variable, is_of_trait, may_have_impls, misc, no_drop_needs, parts_rule, positive, rule_by_needs, self_of, trait_alias_rule, trait_rule}
 use Rattle.candidate_assembly.specs.declared.trait_goals.no_drop.NoDrop.{NoDrop}
 use Rattle.candidate_assembly.specs.declared.trait_goals.no_drop.NoDrop.TheVariants as N
-use Rattle.candidate_eval.specs.declared.eval.source.CandidateSource.TheVariants.{BuiltinImpl}
-use Rattle.candidate_eval.specs.declared.eval.source.BuiltinImplSource.TheVariants.{Trivial}
-use Rattle.candidate_ir.specs.Kinds.{is_fn_trait_compatible}
+use Rattle.candidate_assembly.specs.BuiltinRules.{ambiguous_rule, auto_barred, auto_refused, auto_rule, bounds_name, call_rule, copy_rule, is_nonempty, is_numeric_variable, is_of_trait, may_have_impls, misc, no_drop_needs, parts_rule, positive, rule_by_needs, self_of, trait_alias_rule, trait_rule}
 use Rattle.candidate_assembly.specs.Given.{AdtIsGiven, BoundsAreGiven, IsCounted, TraitIsGiven, AllIsGiven, all_is_given, declared_adt, declared_opaque, declared_trait}
 use Rattle.candidate_assembly.specs.Kinds.{BuiltinRule, ErrorRule, AutoTraitRule, TraitAliasRule, SizednessRule, CopyCloneRule, FnTraitRule, FnPtrTraitRule, TupleRule, PointeeRule, DiscriminantKindRule, DestructRule, NoDropRule, IsGoal}
 use Rattle.candidate_assembly.specs.TraitGoals.{arguments_held, item_trait, trait_goal, types_held}

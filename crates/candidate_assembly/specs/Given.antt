@@ -1,5 +1,6 @@
 -- What is declared is there: what its numbers stand for stays as it is while a context grows.
-use Rattle.std.proofs.Common.{◌≡◌, ℕ, ◌≤◌, length, Option, Some, None, List, [], map, refl, sym, ap, subst, ◌∙◌}
+use Rattle.std.proofs.Common.{zero, suc, Bool, true, false, not, ◌||◌, ◌∷◌, ◌≡◌, ℕ, ◌≤◌, length, Option, Some, None, List, [], map, refl, sym, ap, subst, ◌∙◌}
+use Rattle.std.specs.List.{list_any}
 use Rattle.std.specs.Prelude.{IfSome, ◌==◌, if◌then◌else◌, option_map, slice_get}
 use Rattle.std.proofs.lemmas.Option.{slice_get-map}
 use Rattle.candidate_ir.specs.declared.decl.contents.Sizedness.{Sizedness}
@@ -7,19 +8,20 @@ use Rattle.candidate_ir.specs.declared.decl.definition.AdtShape.{AdtShape}
 use Rattle.candidate_ir.specs.declared.decl.definition.AssocKind.TheVariants as A
 use Rattle.candidate_ir.specs.declared.decl.definition.DefinitionKind.{DefinitionKind}
 use Rattle.candidate_ir.specs.declared.decl.definition.DefinitionKind.TheVariants as D
-use Rattle.candidate_ir.specs.Context.{Context, definition_of, parameter_kind, sort_of, world}
 use Rattle.candidate_ir.specs.Contents.{AdtContents, Bounds, TraitContents}
+use Rattle.candidate_ir.specs.Context.{Context, definition_of, is_declared_trait, is_trait, is_unknown, lacks_trait, parameter_kind, sort_of, world}
 use Rattle.candidate_ir.specs.Declaration.{Declaration}
 use Rattle.candidate_ir.specs.Declaring.{adt_at, adt_place, bounds_at, bounds_place, no_place, place_of, trait_at, trait_place}
 use Rattle.candidate_ir.specs.Held.{definition_held}
-use Rattle.candidate_ir.specs.Lookups.{adt_shape, constraint, definition, kind_of_declared, maybe}
+use Rattle.candidate_ir.specs.Lookups.{adt_shape, assoc_trait, constraint, definition, kind_of_declared, maybe}
 use Rattle.candidate_ir.specs.Supers.{supers_at}
 use Rattle.candidate_ir.specs.Trees.{Kind, Tree}
 use Rattle.candidate_ir.specs.WellFormed.{AreGiven, IsWellFormedTable, TypesFit}
 use Rattle.candidate_ir.specs.Words.{ClauseListFits, IsTy}
-use Rattle.candidate_ir.specs.Worlds.{AdtSort, DefinitionSort, OpaqueSort, TraitSort, parameters, parameters_of, sort_number}
-use Rattle.candidate_ir.proofs.Folding.{or-right}
+use Rattle.candidate_ir.specs.Worlds.{AdtSort, AssociatedTypeSort, DefinitionSort, OpaqueSort, TraitSort, parameters, parameters_of, sort_number}
+use Rattle.candidate_ir.proofs.Folding.{or-left, or-right}
 use Rattle.candidate_ir.proofs.Given.{adt_given, bounds_given, constraint_fits, definition_given, fields_fit, self_bounds_fit, supers_fit, trait_given, wheres_fit}
+use Rattle.candidate_assembly.specs.Projections.{trait_number}
 
 -- What a data type, a trait, or what has bounds holds, if it is there: types and clauses that are given.
 
@@ -177,3 +179,54 @@ shaped_adt c t n shape e = of (slice_get c.declarations n) refl
         subst (λ (o : Option Declaration). AdtParts c.trees (slice_get c.contents.adts (place_of adt_place o))) (sym q)
         (by d.kind (sym (ap (λ (o : Option Declaration). adt_shape (kind_of_declared o)) q) ∙ e)
         (subst (λ (o : Option Declaration). IfSome (kind_of_declared o) (λ k. AreGiven c (definition_held c.contents n k))) q (definition_given c t n)))
+
+-- Where a number is that of a trait, and where it is that of an associated type, whose trait it then is.
+
+pub named_trait : (c : Context) → IsWellFormedTable c → (n : ℕ) → is_declared_trait (slice_get c.declarations n) ≡ true → TraitIsGiven c n
+named_trait c t n e = of (slice_get c.declarations n) refl
+  where
+    by : (k : DefinitionKind) → is_trait k ≡ true → AreGiven c (definition_held c.contents n k) → TraitParts c.trees (slice_get c.contents.traits (trait_place k))
+    by (D.Trait flags p) q g = trait-of c n (D.Trait flags p) [] [] refl g
+    by _ q g = absurd cc
+
+    of : (o : Option Declaration) → slice_get c.declarations n ≡ o → TraitIsGiven c n
+    of None q = let no : false ≡ true = sym (ap is_declared_trait q) ∙ e in absurd cc
+    of (Some d) q =
+        subst (λ (o : Option Declaration). TraitParts c.trees (slice_get c.contents.traits (place_of trait_place o))) (sym q)
+        (by d.kind (sym (ap is_declared_trait q) ∙ e)
+        (subst (λ (o : Option Declaration). IfSome (kind_of_declared o) (λ k. AreGiven c (definition_held c.contents n k))) q (definition_given c t n)))
+
+none-at : {X : Type 0} (p : X → Bool) (xs : List X) (n : ℕ) (x : X) → list_any p xs ≡ false → slice_get xs n ≡ Some x → p x ≡ false
+none-at p [] n x e s = absurd cc
+none-at p (y ∷ ys) zero x e s = let same : x ≡ y = cc in ap p same ∙ or-left (p y) (list_any p ys) e
+none-at p (y ∷ ys) (suc n) x e s = none-at p ys n x (or-right (p y) (list_any p ys) e) s
+
+none-lacks : (c : Context) → IsWellFormedTable c → list_any (λ d. lacks_trait c.declarations d.kind) c.declarations ≡ false
+unfolding IsWellFormedTable
+none-lacks c t =
+    let unknown = list_any (λ d. is_unknown c.crates d.crate) c.declarations in
+    let none = list_any (λ d. lacks_trait c.declarations d.kind) c.declarations in
+    let local = is_unknown c.crates c.local in
+    or-right unknown none (or-right local (unknown || none) (or-right c.contents.misnamed (local || (unknown || none)) t.definitions))
+
+not-false : (b : Bool) → not b ≡ false → b ≡ true
+not-false true e = refl
+not-false false e = absurd cc
+
+pub item_trait_given : (c : Context) → IsWellFormedTable c → (n : ℕ) (ks : List Kind) → parameters (world c) AssociatedTypeSort n ≡ Some ks → TraitIsGiven c (trait_number (assoc_trait (definition c n)))
+item_trait_given c t n ks p = of (slice_get c.declarations n) refl
+  where
+    there : parameters_of AssociatedTypeSort (option_map definition_of (slice_get c.declarations n)) ≡ Some ks
+    there = sym (ap (parameters_of AssociatedTypeSort) (slice_get-map definition_of c.declarations n)) ∙ p
+
+    by : (k : DefinitionKind) (ps : List Kind) → if_sort AssociatedTypeSort k ps ≡ Some ks → lacks_trait c.declarations k ≡ false → TraitIsGiven c (trait_number (assoc_trait (Some k)))
+    by (D.Assoc i A.Type sized place) ps e l = named_trait c t i.0 (not-false (is_declared_trait (slice_get c.declarations i.0)) l)
+    by (D.Assoc i A.Const sized place) ps e l = absurd cc
+    by _ ps e l = absurd cc
+
+    of : (o : Option Declaration) → slice_get c.declarations n ≡ o → TraitIsGiven c (trait_number (assoc_trait (definition c n)))
+    of None q = let no : None ≡ Some ks = sym (ap (λ (o : Option Declaration). parameters_of AssociatedTypeSort (option_map definition_of o)) q) ∙ there in absurd cc
+    of (Some d) q =
+        subst (λ (o : Option Declaration). TraitIsGiven c (trait_number (assoc_trait (kind_of_declared o)))) (sym q)
+        (by d.kind (map parameter_kind d.parameters) (sym (ap (λ (o : Option Declaration). parameters_of AssociatedTypeSort (option_map definition_of o)) q) ∙ there)
+        (none-at (λ d. lacks_trait c.declarations d.kind) c.declarations n d (none-lacks c t) q))

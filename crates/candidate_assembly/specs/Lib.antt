@@ -20,6 +20,7 @@ pub mod Unsizing
 pub mod UnsizingLaws
 pub mod SuperLaws
 pub mod ObjectBounds
+pub mod ObjectLaws
 pub mod AliasBounds
 pub mod Opaques
 pub mod Assembled

@@ -1,7 +1,7 @@
 -- Elaborations and supertraits in a context that has grown are those of the one before.
 use Rattle.std.proofs.Common.{◌≡◌, ℕ, Bool, true, false, Option, Some, None, List, [], ◌∷◌, ◌++◌, map, refl, sym, ap, subst, ◌∙◌}
-use Rattle.std.specs.Prelude.{IfSome, ◌&&◌, if◌then◌else◌}
 use Rattle.std.specs.List.{filter}
+use Rattle.std.specs.Prelude.{IfSome, ◌&&◌, if◌then◌else◌}
 use Rattle.candidate_ir.specs.declared.ir.heads.ClauseHead.TheVariants as Cl
 use Rattle.candidate_ir.specs.declared.ir.heads.Head.{Head}
 use Rattle.candidate_ir.specs.declared.ir.heads.Head.TheVariants as H
@@ -34,14 +34,22 @@ either_way : {A : Type 0} (P : A → Type 0) (b : Bool) (x y : A) → P x → P 
 either_way P true x y p q = p
 either_way P false x y p q = q
 
+-- of each tree in a list
+abbrev pub Each : (Tree → Type 0) → List Tree → Type 0
+Each P [] = Unit {0}
+Each P (t ∷ ts) = P t × Each P ts
+
+pub filtered_each : (P : Tree → Type 0) (test : Tree → Bool) (ts : List Tree) → Each P ts → Each P (filter test ts)
+filtered_each P test [] a = tt
+filtered_each P test (t ∷ ts) a = let rest = filtered_each P test ts a.1 in either_way (Each P) (test t) (t ∷ filter test ts) (filter test ts) (a.0, rest) rest
+
 -- What the trait that a clause speaks of holds is given.
 
 abbrev pub NamesGiven : Context → Head → Type 0
 NamesGiven c h = IfSome (trait_of h) (TraitIsGiven c)
 
 abbrev pub NameGiven : Context → List Tree → Type 0
-NameGiven c [] = Unit {0}
-NameGiven c (t ∷ ts) = NamesGiven c t.head × NameGiven c ts
+NameGiven c ts = Each (λ t. NamesGiven c t.head) ts
 
 names-join : (c : Context) (ts us : List Tree) → NameGiven c ts → NameGiven c us → NameGiven c (ts ++ us)
 names-join c [] us a b = b
@@ -51,10 +59,6 @@ unlisted-name : (c : Context) (seen ts : List Tree) → NameGiven c ts → NameG
 unlisted-name c seen [] a = tt
 unlisted-name c seen (t ∷ ts) a =
     either_way (NameGiven c) (lists seen t) (unlisted seen ts) (t ∷ unlisted (seen ++ t ∷ []) ts) (unlisted-name c seen ts a.1) (a.0, unlisted-name c (seen ++ t ∷ []) ts a.1)
-
-pub filtered_name : (c : Context) (test : Tree → Bool) (ts : List Tree) → NameGiven c ts → NameGiven c (filter test ts)
-filtered_name c test [] a = tt
-filtered_name c test (t ∷ ts) a = let rest = filtered_name c test ts a.1 in either_way (NameGiven c) (test t) (t ∷ filter test ts) (filter test ts) (a.0, rest) rest
 
 -- where all is given, so is this
 pub all_name_given : (c : Context) → AllIsGiven c → (ts : List Tree) → NameGiven c ts
@@ -132,13 +136,15 @@ module _ (old new : Context) (t : IsWellFormedTable old) (g : Grows old new) whe
   pub supertraits_back : (u : Tree) (ts : List Tree) → NamesGiven old u.head → AreSupertraits new u ts → AreSupertraits old u ts × NameGiven old ts
   supertraits_back u ts f s =
       let r = elaboration_back (u ∷ []) s.all (f, tt) s.elaborated in
-      (record { all = s.all; elaborated = r.0; are = s.are }, subst (NameGiven old) (sym s.are) (filtered_name old _ s.all r.1))
+      (record { all = s.all; elaborated = r.0; are = s.are }, subst (NameGiven old) (sym s.are) (filtered_each (λ u. NamesGiven old u.head) _ s.all r.1))
 
 -- The bounds of a type that fits take the children that they have.
 
+abbrev pub TakesThem : World → Tree → Type 0
+TakesThem w t = child_kinds w t.head (kinds_of t.children) ≡ Some (kinds_of t.children)
+
 abbrev pub TakeTheirs : World → List Tree → Type 0
-TakeTheirs w [] = Unit {0}
-TakeTheirs w (t ∷ ts) = (child_kinds w t.head (kinds_of t.children) ≡ Some (kinds_of t.children)) × TakeTheirs w ts
+TakeTheirs w ts = Each (TakesThem w) ts
 
 each-takes : (w : World) (ts : Forest) → Fits w ts → TakeTheirs w (each_of ts)
 each-takes w none f = tt
@@ -151,10 +157,6 @@ most-fit w (tree h below (tree k under rest)) f = (f.0, f.1, most-fit w (tree k 
 
 pub bounds_take : (w : World) (t : Tree) → Fits w t.children → TakeTheirs w (bounds_in t)
 bounds_take w t f = each-takes w (all_but_last t.children) (most-fit w t.children f)
-
-pub filtered_take : (w : World) (test : Tree → Bool) (ts : List Tree) → TakeTheirs w ts → TakeTheirs w (filter test ts)
-filtered_take w test [] a = tt
-filtered_take w test (t ∷ ts) a = let rest = filtered_take w test ts a.1 in either_way (TakeTheirs w) (test t) (t ∷ filter test ts) (filter test ts) (a.0, rest) rest
 
 first-names : (c : Context) → IsWellFormedTable c → (bs : List Tree) → TakeTheirs (world c) bs → IfSome (first_listed bs) (λ b. NamesGiven c (clause_head_by b.head))
 first-names c t [] a = tt
@@ -171,7 +173,7 @@ pub principal_supers_back : (old new : Context) → IsWellFormedTable old → Gr
     → ArePrincipalSupers new type ts → ArePrincipalSupers old type ts × NameGiven old ts
 principal_supers_back old new t g type f ts s =
     principal-back old new t g type (principal_in type) ts
-    (first-names old t (filter (λ b. is_principal b.head) (bounds_in type)) (filtered_take (world old) (λ b. is_principal b.head) (bounds_in type) (bounds_take (world old) type f))) s
+    (first-names old t (filter (λ b. is_principal b.head) (bounds_in type)) (filtered_each (TakesThem (world old)) (λ b. is_principal b.head) (bounds_in type) (bounds_take (world old) type f))) s
 
 pub unsizing_supers_back : (old new : Context) → IsWellFormedTable old → Grows old new → (from to : Tree) → Fits (world old) from.children → (ts : List Tree)
     → AreUnsizingSupers new from to ts → AreUnsizingSupers old from to ts
@@ -181,10 +183,22 @@ unsizing_supers_back old new t g from to f ts s = of (is_dynamic from.head && is
     of false s = s
     of true s = (principal_supers_back old new t g from f ts s).0
 
--- the first of the context's arguments fits
-pub first_fits : (c : Context) → IsWellFormedTable c → (a : Args) → IsArgs c.trees a → Fits (world c) (first_tree (args_forest c.trees a)).children
-first_fits c t a i = of (args_forest c.trees a) (args-fit c a (nodes_fit c t) i)
-  where
-    of : (ts : Forest) → Fits (world c) ts → Fits (world c) (first_tree ts).children
-    of none f = tt
-    of (tree h below rest) f = f.1
+-- A tree takes the children that it has, and these fit; so does the first of a row that fits.
+
+pub record IsFitting (w : World) (t : Tree) : Type 0 where
+  pub takes : TakesThem w t
+  pub below : Fits w t.children
+
+pub first_fits : (w : World) (ts : Forest) → Fits w ts → IsFitting w (first_tree ts)
+first_fits w none f = record { takes = refl; below = tt }
+first_fits w (tree h below rest) f = record { takes = f.0; below = f.1 }
+
+pub arguments_fit : (c : Context) → IsWellFormedTable c → (a : Args) → IsArgs c.trees a → Fits (world c) (args_forest c.trees a)
+arguments_fit c t a i = args-fit c a (nodes_fit c t) i
+
+-- So are the supertraits that unsizing asks for, where the type is the first of the context's arguments.
+pub first_supers_back : (old new : Context) → IsWellFormedTable old → Grows old new → (a : Args) → IsArgs old.trees a → (to : Tree) (ts : List Tree)
+    → AreUnsizingSupers new (first_tree (args_forest old.trees a)) to ts → AreUnsizingSupers old (first_tree (args_forest old.trees a)) to ts
+first_supers_back old new t g a i to ts s =
+    let f = first_fits (world old) (args_forest old.trees a) (arguments_fit old t a i) in
+    unsizing_supers_back old new t g (first_tree (args_forest old.trees a)) to f.below ts s

@@ -1,7 +1,7 @@
 -- The rules of unsizing say the same where a context has grown: what they read of it is what is declared.
 use Rattle.std.proofs.Common.{◌≡◌, ℕ, suc, Bool, true, false, Option, Some, None, List, [], ◌∷◌, ◌++◌, map, refl, sym, ap, ◌∙◌}
-use Rattle.std.specs.Prelude.{◌&&◌, ◌==◌, if◌then◌else◌}
 use Rattle.std.specs.List.{filter, flat_map}
+use Rattle.std.specs.Prelude.{◌&&◌, ◌==◌, if◌then◌else◌}
 use Rattle.candidate_ir.specs.declared.decl.contents.LangItem.TheVariants as L
 use Rattle.candidate_ir.specs.declared.decl.definition.AdtShape.{AdtShape}
 use Rattle.candidate_ir.specs.declared.decl.definition.TraitFlags.{TraitFlags}
