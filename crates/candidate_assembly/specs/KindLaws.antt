@@ -32,9 +32,10 @@ pub record RulesBelow {G P : Type 0} (K : KindRules G) (B : KindBounds G) (argum
   pub additional : (c : Context) → IsWellFormedTable c → (n : ℕ) (g : G) (alias : Tree) → GoalBelow K n g → IsBelow n (alone alias) → All (RuleBelow n) (B.additional c g alias)
 
 -- The rules stay where a context grows.
-pub record RulesStay {G : Type 0} (K : KindRules G) (B : KindBounds G) : Type 0 where
+pub record RulesStay {G P : Type 0} (K : KindRules G) (B : KindBounds G) (arguments_of : P → Args) (types_of : P → List Ty) (see : List Tree → ParamEnv → P → G) : Type 0 where
   pub impls : (old new : Context) → IsWellFormedTable old → Grows old new → (mode : TypingMode) (g : G) (of : ImplId) → K.impl_part new mode g of ≡ K.impl_part old mode g of
-  pub builtins : (old new : Context) → IsWellFormedTable old → Grows old new → (r : BuiltinRule) (g : G) → K.builtin_rule r new g ≡ K.builtin_rule r old g
+  pub builtins : (old new : Context) → IsWellFormedTable old → Grows old new → (env : ParamEnv) (p : P) → IsGoal K arguments_of types_of see old env p
+      → (r : BuiltinRule) → K.builtin_rule r new (see old.trees env p) ≡ K.builtin_rule r old (see old.trees env p)
   pub additional : (old new : Context) → IsWellFormedTable old → Grows old new → (g : G) (alias : Tree) → B.additional new g alias ≡ B.additional old g alias
   pub unsizing : (old new : Context) → IsWellFormedTable old → Grows old new → (supers : List Tree) (g : G) (target : Tree)
       → B.unsizing_rules new supers g target ≡ B.unsizing_rules old supers g target
@@ -51,5 +52,5 @@ pub record TreesChange {G : Type 0} (K : KindRules G) (B : KindBounds G) : Type 
 
 pub record KindLaws {G P : Type 0} (K : KindRules G) (B : KindBounds G) (arguments_of : P → Args) (types_of : P → List Ty) (see : List Tree → ParamEnv → P → G) : Type 0 where
   pub below : RulesBelow K B arguments_of types_of see
-  pub stay : RulesStay K B
+  pub stay : RulesStay K B arguments_of types_of see
   pub change : TreesChange K B

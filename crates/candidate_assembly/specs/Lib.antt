@@ -5,9 +5,11 @@ pub mod TraitGoals
 pub mod BuiltinRules
 pub mod TraitRules
 pub mod Staying
+pub mod Given
 pub mod Matching
 pub mod Projections
 pub mod Characterizing
+pub mod BuiltinLaws
 pub mod Impls
 pub mod ImplLaws
 pub mod Requirements
@@ -21,10 +23,11 @@ pub mod KindLaws
 pub mod CallMarks
 pub mod DeclaredClosed
 pub mod BuiltinsBelow
-pub mod BuiltinLaws
 pub mod UnsizingLaws
 pub mod TraitLaws
+pub mod SuperLaws
 pub mod ObjectBounds
+pub mod ObjectLaws
 pub mod AliasBounds
 pub mod Opaques
 pub mod Assembled

@@ -19,7 +19,7 @@ use Rattle.candidate_eval.specs.States.{State, resolved, resolved_tree}
 use Rattle.candidate_eval.proofs.Closed.{after-closed, closed, closed-parts}
 use Rattle.candidate_eval.proofs.Holds.{holds_parts}
 use Rattle.candidate_eval.proofs.Marking.{after-unmarked}
-use Rattle.candidate_assembly.specs.BuiltinLaws.{builtin_stays}
+use Rattle.candidate_assembly.specs.BuiltinLaws.{goal_builtin_stays}
 use Rattle.candidate_assembly.specs.BuiltinsBelow.{goal-rule-below}
 use Rattle.candidate_assembly.specs.ImplLaws.{impl_part_stays, impl_steps_below}
 use Rattle.candidate_assembly.specs.KindLaws.{KindLaws}
@@ -50,7 +50,7 @@ trait_laws = record {
   };
   stay = record {
     impls = impl_part_stays;
-    builtins = builtin_stays;
+    builtins = goal_builtin_stays;
     additional = λ old new t grows g alias. refl;
     unsizing = unsizing_stays;
   };

@@ -36,11 +36,13 @@ use Rattle.candidate_eval.specs.Naming.{named}
 use Rattle.candidate_eval.specs.ObjectRequirements.{first_tree}
 use Rattle.candidate_eval.specs.Replacing.{first_or, without_first}
 use Rattle.candidate_eval.specs.Rules.{Match, Upcast, Step, fresh, enter, equate, settle, pick, refuse, Rule, ask, nested, nested_misc}
-use Rattle.candidate_eval.specs.States.{Env}
+use Rattle.candidate_eval.specs.declared.eval.response.Candidate.{Candidate as OfNumbers}
+use Rattle.candidate_eval.specs.States.{Env, Judge, State}
 use Rattle.candidate_eval.specs.Tables.{field_types, last_of}
 use Rattle.candidate_assembly.specs.BuiltinRules.{ambiguous_rule, flag_of_trait, holds_of, is_nonempty, meets, misc, positive, self_of}
 use Rattle.candidate_assembly.specs.Calling.{pair_of}
 use Rattle.candidate_assembly.specs.DynBounds.{ArePrincipalSupers, auto_of, bound_said, bounds_in, first_listed, is_compatible, is_dynamic, principal_in, projects, region_in, same_number, trait_of_bound}
+use Rattle.candidate_assembly.specs.Listing.{Listed, after_these, answers}
 use Rattle.candidate_assembly.specs.TraitGoals.{item_trait}
 use Rattle.candidate_assembly.specs.declared.trait_goals.unsizing_rows.UnsizingRow.{UnsizingRow}
 use Rattle.candidate_assembly.specs.declared.trait_goals.unsizing_rows.UnsizingRow.TheVariants as R
@@ -266,3 +268,9 @@ AreSupersIf true c t ts = ArePrincipalSupers c t ts
 
 abbrev pub AreUnsizingSupers : Context → Tree → Tree → List Tree → Type 0
 AreUnsizingSupers c from to ts = AreSupersIf (is_dynamic from.head && is_dynamic to.head) c from ts
+
+-- What comes of a target in normal form, after candidates that are there: what the judge does to these rules.
+pub record IsUnsizedTo (J : Judge) (c : Context) (S : State) (g : TraitGoal) (to : Tree) (before : List OfNumbers) (l : Listed) : Type 0 where
+  pub supers : List Tree
+  pub are : AreUnsizingSupers c (self_of g) to supers
+  pub is : l ≡ after_these c.trees before (answers J S (unsizing_rules c supers g to))

@@ -10,4 +10,7 @@ pub(crate) mod matching;
 pub(crate) mod meeting;
 pub(crate) mod no_drop;
 pub(crate) mod parts;
+pub(crate) mod to_dyn;
 pub(crate) mod unsizing;
+pub(crate) mod unsizing_rows;
+pub(crate) mod upcasting;

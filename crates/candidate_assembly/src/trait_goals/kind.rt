@@ -17,7 +17,7 @@ use crate::trait_goals::impls::consider_impl;
 use crate::trait_goals::matching::{fast_reject, match_clause};
 use crate::trait_goals::no_drop::consider_no_drop;
 use crate::trait_goals::parts::{consider_column, with_self_ty};
-use crate::trait_goals::unsizing::consider_unsizing;
+use crate::trait_goals::unsizing_rows::consider_unsizing;
 use candidate_eval::eval::certainty::Certainty;
 use candidate_eval::eval::clauses::self_ty;
 use candidate_eval::eval::context::EvalCtxt;

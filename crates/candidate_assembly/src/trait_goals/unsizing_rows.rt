@@ -1,30 +1,35 @@
 //! Which row a type unsizes by, and the candidates of that.
 
-ghost use Rattle.std.specs.Prelude.{◌≡◌, false, true};
+ghost use Rattle.std.specs.Prelude.{◌≡◌, [], ◌∷◌, Some, false, true, IfErr, IfSome};
 ghost use Rattle.candidate_ir.specs.declared.decl.contents.LangItem.TheVariants as item;
 ghost use Rattle.candidate_ir.specs.declared.ir.heads.Head.TheVariants as H;
 ghost use Rattle.candidate_ir.specs.Lookups.{adt_shape, definition};
-ghost use Rattle.candidate_ir.specs.Substitutions.{alone};
-ghost use Rattle.candidate_ir.specs.Trees.{TypeKind, kind_of};
+ghost use Rattle.candidate_ir.specs.References.{ArgumentsFit};
+ghost use Rattle.candidate_ir.specs.Supers.{after_first};
+ghost use Rattle.candidate_ir.specs.Trees.{TypeKind, is_param, tree_holds};
 ghost use Rattle.candidate_ir.specs.Words.{IsArgs, IsTy, args_forest, ty_tree};
-ghost use Rattle.candidate_ir.specs.Worlds.{AdtSort, kinds_of, parameters};
+ghost use Rattle.candidate_ir.specs.Worlds.{AdtSort, TraitSort, kinds_of, parameters};
 ghost use Rattle.candidate_ir.specs.Context.{world};
+ghost use Rattle.candidate_eval.specs.Evaluators.{Keeps};
 ghost use Rattle.candidate_eval.specs.ObjectRequirements.{first_tree};
 ghost use Rattle.candidate_eval.specs.ResponseTrees.{AreCandidates};
-ghost use Rattle.candidate_assembly.specs.BuiltinRules.{positive, self_of};
+ghost use Rattle.candidate_assembly.specs.BuiltinRules.{self_of};
 ghost use Rattle.candidate_assembly.specs.DynBounds.{is_dynamic};
 ghost use Rattle.candidate_assembly.specs.KindBounds.{UnsizingList};
 ghost use Rattle.candidate_assembly.specs.Kinds.{IsGoal, IsTyped};
-ghost use Rattle.candidate_assembly.specs.Listing.{ConsidersAll};
-ghost use Rattle.candidate_assembly.specs.Standing.{GoalStands, StandsAt};
+ghost use Rattle.candidate_assembly.specs.Listing.{ConsidersAll, ToldList};
+ghost use Rattle.candidate_assembly.specs.Standing.{BothStand, GoalStands};
+ghost use Rattle.candidate_assembly.specs.Telling.{Considers, StopsOfItself};
 ghost use Rattle.candidate_assembly.specs.TraitGoals.{arguments_held, is_item, trait_goal, types_held};
 ghost use Rattle.candidate_assembly.specs.TraitRules.{trait_bounds, trait_rules};
-ghost use Rattle.candidate_assembly.specs.Unsizing.{IsUnsizedTo, is_array, is_struct, row_to_adt, unsizing_row, unsizing_rules};
+ghost use Rattle.candidate_assembly.specs.Unsizing.{IsUnsizedTo, is_array, is_struct, row_to_adt, struct_to_struct, unsizing_row, unsizing_target};
 
 use crate::assembly::listing::push_considered;
 use crate::assembly::steps::forced_ambiguity;
 use crate::trait_goals::builtin::{is_positive, self_head};
+use crate::trait_goals::to_dyn::unsize_to_dyn;
 use crate::trait_goals::unsizing::{unsize_array, unsize_struct};
+use crate::trait_goals::upcasting::unsize_dyn_to_dyn;
 use candidate_eval::eval::certainty::MaybeInfo;
 use candidate_eval::eval::clauses::self_ty;
 use candidate_eval::eval::context::{EvalCtxt, ProbeKind};
@@ -33,7 +38,7 @@ use candidate_eval::eval::response::Candidate;
 use candidate_ir::decl::Cx;
 use candidate_ir::decl::definition::AdtShape;
 use candidate_ir::ir::heads::{Builtin, Head, Variable, VariableSort};
-use candidate_ir::ir::kinds::{AdtId, Args, GenericArg, ParamEnv, TraitPredicate, Ty, TyKind};
+use candidate_ir::ir::kinds::{AdtId, Args, GenericArg, ParamEnv, TraitId, TraitPredicate, Ty, TyKind};
 use candidate_ir::ir::stop::Stop;
 use candidate_ir::ir::trees::Trees;
 use std::alloc::Global;
@@ -161,7 +166,7 @@ fn unsize_by_row<E: EvalCtxt>(
     requires goal { IsGoal trait_rules arguments_held types_held trait_goal (E.context ecx.old) env predicate }
     requires takes_a_type { parameters (world (E.context ecx.old)) TraitSort predicate.trait_ref.def_id.0 ≡ Some (TypeKind ∷ []) }
     requires target { IsTy (E.context ecx.old).trees target }
-    requires stands { TargetStands (E.state ecx.old) (trait_goal (E.context ecx.old).trees env predicate) (ty_tree (E.context ecx.old).trees target) }
+    requires stands { BothStand trait_rules (E.state ecx.old) (trait_goal (E.context ecx.old).trees env predicate) (ty_tree (E.context ecx.old).trees target) }
     requires candidates { AreCandidates (E.context ecx.old).trees candidates.old.items }
     ensures { ConsidersAll E.fixed E.judge E.state E.probes E.context E.stops ecx.old ecx.new (E.state ecx.old) (λ _. candidates.new.items) (IsUnsizedTo (E.judge (E.fixed ecx.old)) (E.context ecx.old) (E.state ecx.old) (trait_goal (E.context ecx.old).trees env predicate) (ty_tree (E.context ecx.old).trees target) candidates.old.items) result }
 {
@@ -181,4 +186,81 @@ fn unsize_by_row<E: EvalCtxt>(
         UnsizingRow::Struct(_) | UnsizingRow::Nothing => return Ok(()),
     };
     push_considered(candidates, answer)
+}
+
+/// The candidates for the target's normal form, with which there are none where that is refused. It is called in a probe.
+fn unsize_normalized<E: EvalCtxt>(
+    alloc: Global,
+    ecx: &mut E,
+    env: ParamEnv,
+    predicate: TraitPredicate,
+    target: Ty,
+) -> Result<Vec<Candidate>, Stop>
+    requires goal { IsGoal trait_rules arguments_held types_held trait_goal (E.context ecx.old) env predicate }
+    requires takes_a_type { parameters (world (E.context ecx.old)) TraitSort predicate.trait_ref.def_id.0 ≡ Some (TypeKind ∷ []) }
+    requires stands { GoalStands trait_rules (E.state ecx.old) (trait_goal (E.context ecx.old).trees env predicate) }
+    requires target { IsTy (E.context ecx.old).trees target }
+    requires is_target { unsizing_target (trait_goal (E.context ecx.old).trees env predicate) ≡ Some (ty_tree (E.context ecx.old).trees target) }
+    ensures kept { Keeps E.fixed E.probes E.context ecx.old ecx.new }
+    ensures told { ToldList (λ v. v.items) (E.context ecx.new).trees (UnsizingList trait_rules trait_bounds (E.judge (E.fixed ecx.old)) (E.context ecx.old) (E.state ecx.old) (trait_goal (E.context ecx.old).trees env predicate)) result }
+    ensures cause { IfErr result (StopsOfItself E.fixed E.context E.state E.stops ecx.old) }
+{
+    let mut candidates = Vec::new(alloc);
+    match ecx.structurally_normalize_ty(env, target) {
+        Ok(target) => unsize_by_row(alloc, ecx, env, predicate, target, &mut candidates)?,
+        Err(NoSolutionOrStop::NoSolution) => {}
+        Err(NoSolutionOrStop::Stop(stop)) => return Err(stop),
+    }
+    Ok(candidates)
+}
+
+/// The trait for unsizing takes a type.
+fn trait_takes_a_type(cx: &Cx, trait_id: TraitId)
+    requires { is_item cx.now item.Unsize trait_id.0 ≡ true }
+    ensures { parameters (world cx.now) TraitSort trait_id.0 ≡ Some (TypeKind ∷ []) }
+{
+    let _ = trait_id;
+    cx.well_formed_table();
+}
+
+/// The type that the goal's self type is to become: the trait's one argument.
+fn unsizing_target(cx: &Cx, predicate: TraitPredicate) -> Ty
+    requires args { IsArgs cx.now.trees predicate.trait_ref.args }
+    requires fit { ArgumentsFit cx.now predicate.trait_ref }
+    requires takes_a_type { parameters (world cx.now) TraitSort predicate.trait_ref.def_id.0 ≡ Some (TypeKind ∷ []) }
+    ensures sort { IsTy cx.now.trees result }
+    ensures tree { ty_tree cx.now.trees result ≡ first_tree (after_first (args_forest cx.now.trees predicate.trait_ref.args)) }
+{
+    match cx.args(predicate.trait_ref.args)[1] {
+        GenericArg::Ty(ty) => ty,
+        _ => unreachable!(),
+    }
+}
+
+/// The candidates by unsizing: the target's normal form is asked for in a probe, and the first row that applies gives the rules. A negative
+/// goal has none, nor has one whose target has no normal form.
+///
+/// It stops at the first rule that stops, with that stop; else the stops are those of making nodes and lists, and the evaluator's. The state
+/// is left alike the one before.
+pub(crate) fn consider_unsizing<E: EvalCtxt>(
+    alloc: Global,
+    ecx: &mut E,
+    env: ParamEnv,
+    predicate: TraitPredicate,
+) -> Result<Vec<Candidate>, Stop>
+    requires goal { IsGoal trait_rules arguments_held types_held trait_goal (E.context ecx.old) env predicate }
+    requires typed { IsTyped trait_rules (E.context ecx.old) (trait_goal (E.context ecx.old).trees env predicate) }
+    requires stands { GoalStands trait_rules (E.state ecx.old) (trait_goal (E.context ecx.old).trees env predicate) }
+    requires unsize { is_item (E.context ecx.old) item.Unsize predicate.trait_ref.def_id.0 ≡ true }
+    ensures { ConsidersAll E.fixed E.judge E.state E.probes E.context E.stops ecx.old ecx.new (E.state ecx.old) (λ v. v.items) (UnsizingList trait_rules trait_bounds (E.judge (E.fixed ecx.old)) (E.context ecx.old) (E.state ecx.old) (trait_goal (E.context ecx.old).trees env predicate)) result }
+{
+    if !is_positive(predicate.polarity) {
+        return Ok(Vec::new(alloc));
+    }
+    trait_takes_a_type(ecx.cx(), predicate.trait_ref.def_id);
+    let target = unsizing_target(ecx.cx(), predicate);
+    let probe = ecx.begin_probe(ProbeKind::Kept)?;
+    let answer = unsize_normalized(alloc, ecx, env, predicate, target);
+    let _usages = ecx.end_probe(probe);
+    answer
 }
