@@ -42,3 +42,5 @@ pub mod Mixing
 pub mod MixedForests
 pub mod StructParts
 pub mod BoundRules
+pub mod AdtParts
+pub mod TwoTypes

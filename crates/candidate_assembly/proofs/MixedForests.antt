@@ -19,7 +19,7 @@ use Rattle.candidate_assembly.specs.Unsizing.{mixed, mixed_list, one_of}
 
 -- Lists, argument by argument.
 
-fits-parts : (ts : List Tree) (x : GenericArg) (xs : List GenericArg) → ListFits ts (x ∷ xs) → IsArg ts x × ListFits ts xs
+pub fits-parts : (ts : List Tree) (x : GenericArg) (xs : List GenericArg) → ListFits ts (x ∷ xs) → IsArg ts x × ListFits ts xs
 fits-parts ts (G.Ty t) xs h = (cc, cc)
 fits-parts ts (G.Const t) xs h = (cc, cc)
 fits-parts ts (G.Region t) xs h = (cc, cc)
@@ -29,7 +29,7 @@ fits-again ts (G.Ty t) xs i h = ap (λ k. k ∷ kinds_at ts (numbers (map arg_ch
 fits-again ts (G.Const t) xs i h = ap (λ k. k ∷ kinds_at ts (numbers (map arg_child xs))) i ∙ ap (λ ks. ConstantKind ∷ ks) h
 fits-again ts (G.Region t) xs i h = ap (λ k. k ∷ kinds_at ts (numbers (map arg_child xs))) i ∙ ap (λ ks. RegionKind ∷ ks) h
 
-one-row : (ts : List Tree) (x : GenericArg) (xs : List GenericArg) → IsArg ts x → list_forest ts (x ∷ xs) ≡ tree (arg_tree ts x).head (arg_tree ts x).children (list_forest ts xs)
+pub one-row : (ts : List Tree) (x : GenericArg) (xs : List GenericArg) → IsArg ts x → list_forest ts (x ∷ xs) ≡ tree (arg_tree ts x).head (arg_tree ts x).children (list_forest ts xs)
 one-row ts (G.Ty t) xs i = row-single ts t.0 TypeKind (list_forest ts xs) refl refl i
 one-row ts (G.Const t) xs i = row-single ts t.0 ConstantKind (list_forest ts xs) refl refl i
 one-row ts (G.Region t) xs i = row-single ts t.0 RegionKind (list_forest ts xs) refl refl i

@@ -1,0 +1,8 @@
+use Rattle.candidate_assembly.proofs.AdtParts.{adt-args}
+use Rattle.candidate_assembly.proofs.trait_goals.unsizing_rows.adt_args.Goals as goal
+
+pub returns-clause-fit : goal.returns-clause-fit
+returns-clause-fit c = (adt-args c.args.cx.now c.args.ty c.args.adt _ c.in-Adt.args c.well_formed-2.ensures c.requires.sort c.in-Adt.ensures.fits c.in-Adt.ensures.tree c.requires.head).fit
+
+pub returns-clause-tree : goal.returns-clause-tree
+returns-clause-tree c = (adt-args c.args.cx.now c.args.ty c.args.adt _ c.in-Adt.args c.well_formed-2.ensures c.requires.sort c.in-Adt.ensures.fits c.in-Adt.ensures.tree c.requires.head).tree
