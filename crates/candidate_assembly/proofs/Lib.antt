@@ -44,3 +44,4 @@ pub mod StructParts
 pub mod BoundRules
 pub mod AdtParts
 pub mod TwoTypes
+pub mod UnsizedRows

@@ -17,12 +17,13 @@ ghost use Rattle.candidate_assembly.specs.BuiltinRules.{self_of};
 ghost use Rattle.candidate_assembly.specs.DynBounds.{is_dynamic};
 ghost use Rattle.candidate_assembly.specs.KindBounds.{UnsizingList};
 ghost use Rattle.candidate_assembly.specs.Kinds.{IsGoal, IsTyped};
-ghost use Rattle.candidate_assembly.specs.Listing.{ConsidersAll, ToldList};
+ghost use Rattle.candidate_assembly.specs.Listing.{ConsidersAll, ToldList, after_these, answers};
 ghost use Rattle.candidate_assembly.specs.Standing.{BothStand, GoalStands};
 ghost use Rattle.candidate_assembly.specs.Telling.{Considers, StopsOfItself};
 ghost use Rattle.candidate_assembly.specs.TraitGoals.{arguments_held, is_item, trait_goal, types_held};
 ghost use Rattle.candidate_assembly.specs.TraitRules.{trait_bounds, trait_rules};
-ghost use Rattle.candidate_assembly.specs.Unsizing.{IsUnsizedTo, is_array, is_struct, row_to_adt, struct_to_struct, unsizing_row, unsizing_target};
+ghost use Rattle.candidate_assembly.specs.Unsizing.{IsUnsizedTo, is_array, is_struct, row_to_adt, rules_of_row, struct_to_struct, unsizing_row, unsizing_target};
+ghost use Rattle.candidate_assembly.specs.declared.trait_goals.unsizing_rows.UnsizingRow.TheVariants as row;
 
 use crate::assembly::listing::push_considered;
 use crate::assembly::steps::forced_ambiguity;
@@ -126,9 +127,16 @@ fn adt_args(cx: &Cx, ty: Ty, adt: AdtId) -> Args
     }
 }
 
-/// The goal's self type and the target, in normal form, are the same data type: the candidate, if that is a structure.
-///
-/// `NoSolution` comes where it is none, and else as from `unsize_struct`. The state is left alike the one before.
+/// The head of a type.
+fn head_of(cx: &Cx, ty: Ty) -> Head
+    requires { IsTy cx.now.trees ty }
+    ensures { result ≡ (ty_tree cx.now.trees ty).head }
+{
+    cx.head(ty.0)
+}
+
+/// The goal's self type and the target, in normal form, are the same structure: the candidate. It answers and stops as `unsize_struct`. The
+/// state is left alike the one before.
 fn consider_struct<E: EvalCtxt>(
     alloc: Global,
     ecx: &mut E,
@@ -151,6 +159,33 @@ fn consider_struct<E: EvalCtxt>(
     unsize_struct(alloc, ecx, env, predicate, adt, from, to, target)
 }
 
+/// Adds the candidate where the goal's self type and the target, in normal form, are the same data type, if that is a structure. It stops as
+/// `unsize_struct`, and with `Stop::Memory` where the list can't grow. The state is left alike the one before.
+fn unsize_same<E: EvalCtxt>(
+    alloc: Global,
+    ecx: &mut E,
+    env: ParamEnv,
+    predicate: TraitPredicate,
+    adt: AdtId,
+    target: Ty,
+    candidates: &mut Vec<Candidate>,
+) -> Result<(), Stop>
+    requires goal { IsGoal trait_rules arguments_held types_held trait_goal (E.context ecx.old) env predicate }
+    requires takes_a_type { parameters (world (E.context ecx.old)) TraitSort predicate.trait_ref.def_id.0 ≡ Some (TypeKind ∷ []) }
+    requires source { (self_of (trait_goal (E.context ecx.old).trees env predicate)).head ≡ H.Adt adt }
+    requires target { IsTy (E.context ecx.old).trees target }
+    requires free { tree_holds is_param (ty_tree (E.context ecx.old).trees target) ≡ false }
+    requires into { (ty_tree (E.context ecx.old).trees target).head ≡ H.Adt adt }
+    requires candidates { AreCandidates (E.context ecx.old).trees candidates.old.items }
+    ensures { ConsidersAll E.fixed E.judge E.state E.probes E.context E.stops ecx.old ecx.new (E.state ecx.old) (λ _. candidates.new.items) (λ l. l ≡ after_these (E.context ecx.old).trees candidates.old.items (answers (E.judge (E.fixed ecx.old)) (E.state ecx.old) (rules_of_row (E.context ecx.old) [] (trait_goal (E.context ecx.old).trees env predicate) (self_of (trait_goal (E.context ecx.old).trees env predicate)) (ty_tree (E.context ecx.old).trees target) (row.Struct adt)))) result }
+{
+    if !is_struct(ecx.cx(), adt) {
+        return Ok(());
+    }
+    let answer = consider_struct(alloc, ecx, env, predicate, adt, target);
+    push_considered(candidates, answer)
+}
+
 /// Adds the candidates of the row for a target in normal form.
 ///
 /// It stops at the first rule that stops, with that stop; else the stops are those of making nodes and lists, and the evaluator's. The state
@@ -171,21 +206,24 @@ fn unsize_by_row<E: EvalCtxt>(
     ensures { ConsidersAll E.fixed E.judge E.state E.probes E.context E.stops ecx.old ecx.new (E.state ecx.old) (λ _. candidates.new.items) (IsUnsizedTo (E.judge (E.fixed ecx.old)) (E.context ecx.old) (E.state ecx.old) (trait_goal (E.context ecx.old).trees env predicate) (ty_tree (E.context ecx.old).trees target) candidates.old.items) result }
 {
     let cx = ecx.cx();
-    let answer = match unsizing_row(self_head(cx, predicate), cx.head(target.0)) {
+    match unsizing_row(self_head(cx, predicate), head_of(cx, target)) {
+        UnsizingRow::Ambiguous => {
+            let answer = forced_ambiguity(alloc, ecx, env, MaybeInfo::AMBIGUOUS);
+            push_considered(candidates, answer)
+        }
         UnsizingRow::DynToDyn => {
-            return unsize_dyn_to_dyn(alloc, ecx, env, predicate, target, candidates);
+            unsize_dyn_to_dyn(alloc, ecx, env, predicate, target, candidates)
         }
-        UnsizingRow::ToDyn => {
-            return unsize_to_dyn(alloc, ecx, env, predicate, target, candidates);
+        UnsizingRow::ToDyn => unsize_to_dyn(alloc, ecx, env, predicate, target, candidates),
+        UnsizingRow::ArrayToSlice => {
+            let answer = unsize_array(alloc, ecx, env, predicate, target);
+            push_considered(candidates, answer)
         }
-        UnsizingRow::Ambiguous => forced_ambiguity(alloc, ecx, env, MaybeInfo::AMBIGUOUS),
-        UnsizingRow::ArrayToSlice => unsize_array(alloc, ecx, env, predicate, target),
-        UnsizingRow::Struct(adt) if is_struct(ecx.cx(), adt) => {
-            consider_struct(alloc, ecx, env, predicate, adt, target)
+        UnsizingRow::Struct(adt) => {
+            unsize_same(alloc, ecx, env, predicate, adt, target, candidates)
         }
-        UnsizingRow::Struct(_) | UnsizingRow::Nothing => return Ok(()),
-    };
-    push_considered(candidates, answer)
+        UnsizingRow::Nothing => Ok(()),
+    }
 }
 
 /// The candidates for the target's normal form, with which there are none where that is refused. It is called in a probe.
