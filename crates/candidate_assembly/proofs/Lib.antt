@@ -42,3 +42,4 @@ pub mod Mixing
 pub mod MixedForests
 pub mod StructParts
 pub mod BoundRules
+pub mod Standing
