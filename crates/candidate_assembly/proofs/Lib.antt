@@ -43,3 +43,4 @@ pub mod MixedForests
 pub mod StructParts
 pub mod BoundRules
 pub mod Standing
+pub mod AliasChains

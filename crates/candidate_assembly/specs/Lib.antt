@@ -29,3 +29,4 @@ pub mod AliasBounds
 pub mod Opaques
 pub mod Assembled
 pub mod Language
+pub mod AliasChains
