@@ -67,7 +67,7 @@ use Rattle.candidate_eval.specs.Rules.{Rule, ask}
 use Rattle.candidate_eval.specs.States.{Env, Judge, State, VariableInfo}
 use Rattle.candidate_assembly.specs.AliasBounds.{bound_rules, bounds_of_kind, has_bounds, is_opaque, is_projection}
 use Rattle.candidate_assembly.specs.AliasChains.{Continues, IsBoundedAlias}
-use Rattle.candidate_assembly.specs.AliasChains.GoesTo.{ends, further, refused}
+use Rattle.candidate_assembly.specs.AliasChains.GoesTo.{ends, further, nowhere}
 use Rattle.candidate_assembly.specs.KindBounds.{KindBounds}
 use Rattle.candidate_assembly.specs.KindLaws.{KindLaws, RulesStay}
 use Rattle.candidate_assembly.specs.Standing.{StandsAt, StandsBeside}
@@ -431,7 +431,7 @@ module _ {E X : Type 0} {fixed : E → X} {judge : X → Judge} {state : E → S
   goes-nowhere old new e ts a t p is kept none-is = record {
     kept = kept;
     sort = tt;
-    goes = refused p (sym (ap ((judge (fixed old)).normalized (state old) e) is) ∙ none-is);
+    goes = nowhere p (sym (ap ((judge (fixed old)).normalized (state old) e) is) ∙ none-is);
     own = tt;
     cause = tt;
   }

@@ -44,3 +44,4 @@ pub mod StructParts
 pub mod BoundRules
 pub mod Standing
 pub mod AliasChains
+pub mod AliasWalks

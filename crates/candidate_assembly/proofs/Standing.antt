@@ -13,6 +13,7 @@ use Rattle.candidate_ir.specs.declared.ir.heads.VariableSort.{VariableSort}
 use Rattle.candidate_ir.specs.declared.ir.heads.VariableSort.TheVariants as V
 use Rattle.candidate_ir.specs.declared.ir.kinds.RegionKind.TheVariants as R
 use Rattle.candidate_ir.specs.Binders.{escapes, is_beyond}
+use Rattle.candidate_ir.specs.Context.{Context}
 use Rattle.candidate_ir.specs.Folding.{fold}
 use Rattle.candidate_ir.specs.Substitutions.{alone, fits_sort, is_constant_kind, is_placeholder_above, same_sort}
 use Rattle.candidate_ir.specs.Trees.{ConstantKind, Kind, RegionKind, TypeKind, Forest, none, tree, Tree, binders_of, erase, erased_head, holds, is_param, is_type_kind, kind_of, sort_kind}
@@ -29,7 +30,10 @@ use Rattle.candidate_eval.specs.States.{Env, Judge, State, Values, VariableInfo,
 use Rattle.candidate_eval.proofs.Closed.{closed, closed-on, closed-parts}
 use Rattle.candidate_eval.proofs.Holds.{holds_imply, holds_parts}
 use Rattle.candidate_eval.proofs.Marking.{unmarked}
-use Rattle.candidate_assembly.specs.Standing.{StandsAt}
+use Rattle.candidate_assembly.specs.KindBounds.{KindBounds}
+use Rattle.candidate_assembly.specs.KindLaws.{TreesChange}
+use Rattle.candidate_assembly.specs.Kinds.{KindRules, self_type}
+use Rattle.candidate_assembly.specs.Standing.{GoalStands, StandsAt, StandsBeside}
 
 -- Marks.
 
@@ -261,6 +265,66 @@ pub first-stands : (S : State) (e : Env) (t : Tree) (ts : Forest) → StandsAt S
 first-stands S e t ts s =
     stands-made S e (begin t ts) (alone t) s (λ m h. let p = holds_parts m t.head t.children ts h in unmarked m t.head t.children none p.here p.under refl)
     (λ h. let p = closed-parts 0 t.head t.children ts h in closed 0 t.head t.children none p.here p.under refl)
+
+-- The first of the trees below the first, where no binder stands between them.
+pub argument-there : (S : State) (e : Env) (h : Head) (below ts : Forest) → binders_of h ≡ 0 → (s : StandsAt S e (tree h below ts)) → StandsThere S e (tree h below ts) s (first_tree below)
+argument-there S e h below ts b s =
+    let p = holds_parts (is_strange S s.live) h below ts s.trees.known in
+    let q = closed-parts 0 h below ts s.trees.is_closed in
+    let r = holds_parts is_param h below ts s.trees_free in
+    record {
+      trees = record { known = first-unmarked (is_strange S s.live) below refl p.under; is_closed = first-closed below (subst (λ n. escapes n below ≡ false) (ap (λ n. 0 + n) b) q.under) };
+      free = first-unmarked is_param below refl r.under;
+    }
+  where
+    first-unmarked : (mark : Head → Bool) (us : Forest) → mark H.Error ≡ false → holds mark us ≡ false → holds mark (alone (first_tree us)) ≡ false
+    first-unmarked mark none x e = unmarked mark H.Error none none x refl refl
+    first-unmarked mark (tree g inner rest) x e = let p = holds_parts mark g inner rest e in unmarked mark g inner none p.here p.under refl
+
+    first-closed : (us : Forest) → escapes 0 us ≡ false → escapes 0 (alone (first_tree us)) ≡ false
+    first-closed none e = refl
+    first-closed (tree g inner rest) e = let p = closed-parts 0 g inner rest e in closed 0 g inner none p.here p.under refl
+
+-- Two of them, without the one between.
+pub second-dropped : (S : State) (e : Env) (u t : Tree) (ts : Forest) → StandsAt S e (begin u (begin t ts)) → StandsAt S e (begin u ts)
+second-dropped S e u t ts s =
+    stands-made S e (begin u (begin t ts)) (begin u ts) s
+    (λ m h. let p = holds_parts m u.head u.children (begin t ts) h in let q = holds_parts m t.head t.children ts p.others in unmarked m u.head u.children ts p.here p.under q.others)
+    (λ h. let p = closed-parts 0 u.head u.children (begin t ts) h in let q = closed-parts 0 t.head t.children ts p.others in closed 0 u.head u.children ts p.here p.under q.others)
+
+-- Beside a goal: its self type, and the normal form of what an alias is one of.
+
+pub self-type-beside : {G : Type 0} (K : KindRules G) (B : KindBounds G) → TreesChange K B → (S : State) (c : Context) (g : G) → GoalStands K S g → StandsBeside K S g (self_type K c g)
+self-type-beside K B change S c g s =
+    let t = self_type K c g in
+    let ts = K.trees_of g in
+    record {
+      live = s.live;
+      sound = s.sound;
+      fits = s.fits;
+      values = s.values;
+      env = s.env;
+      trees = trees-before S s.live t ts (record { known = change.self_type_holds (is_strange S s.live) c g refl s.trees.known; is_closed = change.self_type_escapes 0 c g s.trees.is_closed }) s.trees;
+      env_free = s.env_free;
+      trees_free = let p = holds_parts is_param t.head t.children none (change.self_type_holds is_param c g refl s.trees_free) in unmarked is_param t.head t.children ts p.here p.under s.trees_free;
+    }
+
+pub normal-beside : {G : Type 0} (K : KindRules G) (J : Judge) → NormalFormLaws J → (S T : State) (g d : G) (t u : Tree) → d ≡ g → binders_of t.head ≡ 0 → StandsBeside K S g t → J.normalized S (K.env_of g) (first_tree t.children) ≡ Some (u, T)
+    → StandsBeside K T d u
+normal-beside K J law S T g d t u same binders s is =
+    let ts = K.trees_of g in
+    let e = K.env_of g in
+    let there = argument-there S e t.head t.children ts binders s in
+    subst (λ x. StandsBeside K T x u) (sym same) (second-dropped T e u t ts (stands-normal J law S T e (first_tree t.children) u (begin t ts) s there is))
+
+-- The goal with a normal form of its self type.
+pub replaced-stands : {G : Type 0} (K : KindRules G) (B : KindBounds G) → TreesChange K B → (S : State) (g : G) (t : Tree) → StandsBeside K S g t → GoalStands K S (K.with_self_type g t)
+replaced-stands K B change S g t s =
+    let ts = K.trees_of g in
+    subst (λ e. StandsAt S e (K.trees_of (K.with_self_type g t))) (sym (change.same_env g t))
+    (stands-made S (K.env_of g) (begin t ts) (K.trees_of (K.with_self_type g t)) s
+    (λ m h. let p = holds_parts m t.head t.children ts h in change.holds_no_more m g t p.others (unmarked m t.head t.children none p.here p.under refl))
+    (λ h. let p = closed-parts 0 t.head t.children ts h in change.escapes_no_more 0 g t p.others (closed 0 t.head t.children none p.here p.under refl)))
 
 -- Values put in.
 

@@ -39,7 +39,7 @@ pub record IsBoundedAlias (c : Context) (a : AliasTy) : Type 0 where
 -- self type is refused; else at that normal form.
 pub data GoesTo (J : Judge) (e : Env) (S : State) (t : Tree) : Option Tree → State → Type 0 where
   ends : {T : State} → is_opaque t.head ≡ true → GoesTo J e S t None T
-  refused : {T : State} → is_projection t.head ≡ true → J.normalized S e (first_tree t.children) ≡ None → GoesTo J e S t None T
+  nowhere : {T : State} → is_projection t.head ≡ true → J.normalized S e (first_tree t.children) ≡ None → GoesTo J e S t None T
   further : {u : Tree} {T : State} → is_projection t.head ≡ true → J.normalized S e (first_tree t.children) ≡ Some (u, T) → GoesTo J e S t (Some u) T
 
 -- A call that answers where it goes on; it stops of itself alone.
