@@ -45,3 +45,6 @@ pub mod BoundRules
 pub mod AdtParts
 pub mod TwoTypes
 pub mod UnsizedRows
+pub mod Standing
+pub mod AliasChains
+pub mod AliasWalks

@@ -16,21 +16,23 @@ use Rattle.candidate_ir.specs.References.{ArgumentsFit}
 use Rattle.candidate_ir.specs.Substitutions.{alone}
 use Rattle.candidate_ir.specs.Supers.{after_first}
 use Rattle.candidate_ir.specs.Trees.{Kind, TypeKind, ConstantKind, RegionKind, Forest, none, tree, Tree, holds, is_param, kind_of}
-use Rattle.candidate_ir.specs.Words.{IsArgs, IsTy, ListFits, args_forest, env_forest, list_forest, ty_tree}
+use Rattle.candidate_ir.specs.Words.{IsArgs, IsParamEnv, IsTy, ListFits, args_forest, env_forest, list_forest, ty_tree}
 use Rattle.candidate_ir.specs.Worlds.{World, TraitSort, joined, kinds_of, parameters}
 use Rattle.candidate_ir.proofs.Kept.{world-kept}
 use Rattle.candidate_ir.proofs.Rows.{kind-of, row-single}
 use Rattle.candidate_eval.specs.ImplRules.{TraitGoal}
 use Rattle.candidate_eval.specs.ObjectRequirements.{first_tree}
-use Rattle.candidate_eval.specs.States.{Env}
+use Rattle.candidate_eval.specs.States.{Env, State, resolved}
 use Rattle.candidate_eval.proofs.Closed.{after-closed, closed, closed-parts}
 use Rattle.candidate_eval.proofs.Holds.{holds_parts}
 use Rattle.candidate_eval.proofs.Marking.{after-unmarked}
 use Rattle.candidate_eval.proofs.Objects.{env-kept}
 use Rattle.candidate_eval.proofs.Types.{types_kept}
 use Rattle.candidate_assembly.specs.Kinds.{IsGoal}
+use Rattle.candidate_assembly.specs.Standing.{GoalStands}
 use Rattle.candidate_assembly.specs.TraitGoals.{arguments_held, trait_goal, types_held, with_first, with_self_type}
-use Rattle.candidate_assembly.specs.TraitRules.{trait_rules}
+use Rattle.candidate_assembly.specs.TraitRules.{trait_rules, with_arguments}
+use Rattle.candidate_assembly.proofs.Standing.{kinds-resolved, stands-resolved}
 
 first-row : (ts : List Tree) (x : GenericArg) (rest : List GenericArg) → ListFits ts (x ∷ rest) → after_first (list_forest ts (x ∷ rest)) ≡ list_forest ts rest
 first-row ts (G.Ty t) rest h = let k : kind_at ts t.0 ≡ TypeKind = cc in ap after_first (row-single ts t.0 TypeKind (list_forest ts rest) refl refl k)
@@ -106,4 +108,31 @@ other-goal old new env p q t g h i f a free e =
       fit = f;
       no_parameter = ap (holds is_param) a ∙ first-unmarked is_param (ty_tree old.trees t) args free h.no_parameter;
       is_closed = ap (escapes 0) a ∙ first-closed (ty_tree old.trees t) args e h.is_closed;
+    }
+
+-- A goal with values put in.
+
+pub resolved-trait-goal : (old new : Context) (env other : ParamEnv) (p q : TraitPredicate) (ts : Forest) → env_forest new.trees other ≡ env_forest old.trees other → q.trait_ref.def_id ≡ p.trait_ref.def_id → q.polarity ≡ p.polarity
+    → args_forest new.trees q.trait_ref.args ≡ ts → trait_goal new.trees other q ≡ with_arguments (trait_goal old.trees env p) (env_forest old.trees other) ts
+resolved-trait-goal old new env other p q ts e i o a =
+    ap (λ x. goal-with x q.trait_ref.def_id (args_forest new.trees q.trait_ref.args) q.polarity) e
+    ∙ (ap (λ x. goal-with (env_forest old.trees other) x (args_forest new.trees q.trait_ref.args) q.polarity) i
+    ∙ (ap (λ x. goal-with (env_forest old.trees other) p.trait_ref.def_id x q.polarity) a
+    ∙ ap (goal-with (env_forest old.trees other) p.trait_ref.def_id ts) o))
+
+pub resolved-goal : (old new : Context) (S : State) (env other : ParamEnv) (p q : TraitPredicate) → Grows old new → IsGoal trait_rules arguments_held types_held trait_goal old env p
+    → IsParamEnv old.trees other → IsArgs new.trees q.trait_ref.args → q.trait_ref.def_id ≡ p.trait_ref.def_id → args_forest new.trees q.trait_ref.args ≡ resolved S (args_forest old.trees p.trait_ref.args)
+    → GoalStands trait_rules S (trait_goal old.trees env p) → IsGoal trait_rules arguments_held types_held trait_goal new other q
+resolved-goal old new S env other p q g h w i same a s =
+    let args = args_forest old.trees p.trait_ref.args in
+    let r = stands-resolved S (env_forest old.trees env) args s in
+    record {
+      env = (env-kept old new other g w).0;
+      arguments = i;
+      types = (types_kept old.trees new.trees (types_held p) g.kept h.types).0;
+      fit = ap (λ n. joined (Some (TypeKind ∷ [])) (parameters (world new) TraitSort n.0)) same
+          ∙ (ap (λ (w : World). joined (Some (TypeKind ∷ [])) (parameters w TraitSort p.trait_ref.def_id.0)) (world-kept old new g).0
+          ∙ (h.fit ∙ ap Some (sym (ap kinds_of a ∙ kinds-resolved S s.live s.fits args s.trees.known))));
+      no_parameter = ap (holds is_param) a ∙ r.trees_free;
+      is_closed = ap (escapes 0) a ∙ r.trees.is_closed;
     }

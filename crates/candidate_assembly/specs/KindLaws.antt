@@ -3,6 +3,7 @@ use Rattle.std.specs.Prelude.{◌≡◌, ℕ, Bool, false, List}
 use Rattle.std.specs.List.{All}
 use Rattle.candidate_ir.specs.declared.decl.contents.ImplId.{ImplId}
 use Rattle.candidate_ir.specs.declared.ir.heads.Head.{Head}
+use Rattle.candidate_ir.specs.declared.ir.heads.Head.TheVariants as H
 use Rattle.candidate_ir.specs.declared.ir.kinds.Args.{Args}
 use Rattle.candidate_ir.specs.declared.ir.kinds.ParamEnv.{ParamEnv}
 use Rattle.candidate_ir.specs.declared.ir.kinds.Ty.{Ty}
@@ -44,6 +45,9 @@ pub record RulesStay {G P : Type 0} (K : KindRules G) (B : KindBounds G) (argume
 pub record TreesChange {G : Type 0} (K : KindRules G) (B : KindBounds G) : Type 0 where
   pub same_env : (g : G) (t : Tree) → K.env_of (K.with_self_type g t) ≡ K.env_of g
   pub self_type_is : (c : Context) (g : G) (t : Tree) → self_type K c (K.with_self_type g t) ≡ t
+  -- the self type is one of the goal's trees
+  pub self_type_holds : (mark : Head → Bool) (c : Context) (g : G) → mark H.Error ≡ false → holds mark (K.trees_of g) ≡ false → holds mark (alone (self_type K c g)) ≡ false
+  pub self_type_escapes : (n : ℕ) (c : Context) (g : G) → escapes n (K.trees_of g) ≡ false → escapes n (alone (self_type K c g)) ≡ false
   pub holds_no_more : (mark : Head → Bool) (g : G) (t : Tree) → holds mark (K.trees_of g) ≡ false → holds mark (alone t) ≡ false → holds mark (K.trees_of (K.with_self_type g t)) ≡ false
   pub escapes_no_more : (n : ℕ) (g : G) (t : Tree) → escapes n (K.trees_of g) ≡ false → escapes n (alone t) ≡ false → escapes n (K.trees_of (K.with_self_type g t)) ≡ false
   pub put_env : (g : G) (e : Env) (ts : Forest) → K.env_of (B.with_trees g e ts) ≡ e

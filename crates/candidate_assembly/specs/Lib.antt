@@ -32,3 +32,4 @@ pub mod AliasBounds
 pub mod Opaques
 pub mod Assembled
 pub mod Language
+pub mod AliasChains

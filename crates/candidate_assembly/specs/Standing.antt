@@ -1,7 +1,7 @@
 -- Goals at a state: what the state's values must be like, so that normal forms and values put in are trees that a goal may hold.
 use Rattle.std.specs.Prelude.{◌≡◌, false}
 use Rattle.candidate_ir.specs.Substitutions.{alone}
-use Rattle.candidate_ir.specs.Trees.{Forest, Tree, holds, is_param}
+use Rattle.candidate_ir.specs.Trees.{Forest, tree, Tree, holds, is_param}
 use Rattle.candidate_eval.specs.Lawful.{HasNoParameter}
 use Rattle.candidate_eval.specs.Soundness.{AreTreesOf, IsSound, Live, ValuesFit}
 use Rattle.candidate_eval.specs.States.{Env, State}
@@ -20,6 +20,10 @@ pub record StandsAt (S : State) (e : Env) (ts : Forest) : Type 0 where
 
 abbrev pub GoalStands : {G : Type 0} → KindRules G → State → G → Type 0
 GoalStands K S g = StandsAt S (K.env_of g) (K.trees_of g)
+
+-- a goal, and a tree beside it
+abbrev pub StandsBeside : {G : Type 0} → KindRules G → State → G → Tree → Type 0
+StandsBeside K S g t = StandsAt S (K.env_of g) (tree t.head t.children (K.trees_of g))
 
 -- A goal and another tree beside it, as the type that the goal's self type unsizes to.
 pub record BothStand {G : Type 0} (K : KindRules G) (S : State) (g : G) (t : Tree) : Type 0 where

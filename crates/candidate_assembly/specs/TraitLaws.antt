@@ -2,6 +2,7 @@
 use Rattle.std.proofs.Common.{◌≡◌, ℕ, Bool, false, refl, sym, ap, ◌∙◌, List, []}
 use Rattle.std.proofs.lemmas.List.Elements.{All-nil}
 use Rattle.candidate_ir.specs.declared.ir.heads.Head.{Head}
+use Rattle.candidate_ir.specs.declared.ir.heads.Head.TheVariants as H
 use Rattle.candidate_ir.specs.declared.ir.kinds.ParamEnv.{ParamEnv}
 use Rattle.candidate_ir.specs.declared.ir.kinds.TraitPredicate.{TraitPredicate}
 use Rattle.candidate_ir.specs.Binders.{escapes}
@@ -18,7 +19,7 @@ use Rattle.candidate_eval.specs.Rules.{Rule}
 use Rattle.candidate_eval.specs.States.{State, resolved, resolved_tree}
 use Rattle.candidate_eval.proofs.Closed.{after-closed, closed, closed-parts}
 use Rattle.candidate_eval.proofs.Holds.{holds_parts}
-use Rattle.candidate_eval.proofs.Marking.{after-unmarked}
+use Rattle.candidate_eval.proofs.Marking.{after-unmarked, unmarked}
 use Rattle.candidate_assembly.specs.BuiltinLaws.{goal_builtin_stays}
 use Rattle.candidate_assembly.specs.BuiltinsBelow.{goal-rule-below}
 use Rattle.candidate_assembly.specs.ImplLaws.{impl_part_stays, impl_steps_below}
@@ -35,6 +36,14 @@ holds_with_first mark t ts h k = let p = holds_parts mark t.head t.children none
 
 escapes_with_first : (n : ℕ) (t : Tree) (ts : Forest) → escapes n ts ≡ false → escapes n (alone t) ≡ false → escapes n (with_first t ts) ≡ false
 escapes_with_first n t ts h k = let p = closed-parts n t.head t.children none k in closed n t.head t.children (after_first ts) p.here p.under (after-closed n ts h)
+
+first_holds : (mark : Head → Bool) (ts : Forest) → mark H.Error ≡ false → holds mark ts ≡ false → holds mark (alone (first_tree ts)) ≡ false
+first_holds mark none x h = unmarked mark H.Error none none x refl refl
+first_holds mark (tree h below rest) x e = let p = holds_parts mark h below rest e in unmarked mark h below none p.here p.under refl
+
+first_escapes : (n : ℕ) (ts : Forest) → escapes n ts ≡ false → escapes n (alone (first_tree ts)) ≡ false
+first_escapes n none h = refl
+first_escapes n (tree h below rest) e = let p = closed-parts n h below rest e in closed n h below none p.here p.under refl
 
 first_resolved : (S : State) (ts : Forest) → first_tree (resolved S ts) ≡ resolved_tree S (first_tree ts)
 first_resolved S none = refl
@@ -57,6 +66,8 @@ trait_laws = record {
   change = record {
     same_env = λ g t. refl;
     self_type_is = λ c g t. refl;
+    self_type_holds = λ mark c g x h. first_holds mark g.reference.arguments x h;
+    self_type_escapes = λ n c g h. first_escapes n g.reference.arguments h;
     holds_no_more = λ mark g t h k. holds_with_first mark t g.reference.arguments h k;
     escapes_no_more = λ n g t h k. escapes_with_first n t g.reference.arguments h k;
     put_env = λ g e ts. refl;

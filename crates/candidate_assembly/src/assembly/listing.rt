@@ -118,7 +118,7 @@ fn impls_for<E: EvalCtxt, G: GoalKind<E>>(
 }
 
 /// Nothing is wrong with what is declared.
-fn table_is_well_formed(cx: &Cx)
+pub(crate) fn table_is_well_formed(cx: &Cx)
     ensures { IsWellFormedTable cx.now }
 {
     cx.well_formed_table();

@@ -1,0 +1,41 @@
+use Rattle.std.proofs.Common.{◌≡◌, sym, ap, subst, ◌∙◌}
+use Rattle.candidate_ir.specs.Context.{Context}
+use Rattle.candidate_ir.specs.Words.{ty_tree}
+use Rattle.candidate_eval.specs.Accounts.Question.{delay}
+use Rattle.candidate_assembly.specs.AliasBounds.{ChainEnd, end_answers, end_at, variable_rule}
+use Rattle.candidate_assembly.specs.AliasChains.{as_seen}
+use Rattle.candidate_assembly.specs.Listing.{after_these}
+use Rattle.candidate_assembly.proofs.AliasChains.{delayed, told-as}
+use Rattle.candidate_assembly.proofs.Listing.{no-rule-listed, one-listed}
+use Rattle.candidate_assembly.proofs.assembly.alias_chain.consider_chain_end.Goals as goal
+
+pub returns-in-Done : goal.returns-in-Done
+returns-in-Done g c =
+    let E = g.E.EvalCtxt in
+    let G = g.G.GoalKind in
+    let first = c.args.ecx.now in
+    let old = g.E.Build.context first in
+    let is = sym (subst (λ (x : Context). as_seen (E.state first) c.chain_end.result ≡ end_at c.args.kind (E.state first) (ty_tree x.trees c.args.ty).head) c.cx.ensures (c.chain_end.ensures (E.state first))) ∙ ap (as_seen (E.state first)) c.in-Done.is in
+    told-as first first (E.state first) _ (λ l e. e ∙ ap (λ (x : ChainEnd). after_these old.trees c.args.candidates.now.items (end_answers G.rules (E.judge (E.fixed first)) (G.seen old.trees c.args.env c.args.predicate) x)) (sym is))
+    (no-rule-listed (λ f. (g.met.E.EvalCtxt.lawful f).alike_judged_alike) first c.args.candidates.now.items _ c.requires.candidates)
+
+pub returns-in-Misplaced : goal.returns-in-Misplaced
+returns-in-Misplaced g c =
+    let E = g.E.EvalCtxt in
+    let G = g.G.GoalKind in
+    let first = c.args.ecx.now in
+    let old = g.E.Build.context first in
+    let is = sym (subst (λ (x : Context). as_seen (E.state first) c.chain_end.result ≡ end_at c.args.kind (E.state first) (ty_tree x.trees c.args.ty).head) c.cx.ensures (c.chain_end.ensures (E.state first))) ∙ ap (as_seen (E.state first)) c.in-Misplaced.is in
+    told-as first c.delay_bug.new.self (E.state first) c.delay_bug.result (λ l e. e ∙ ap (λ (x : ChainEnd). after_these old.trees c.args.candidates.now.items (end_answers G.rules (E.judge (E.fixed first)) (G.seen old.trees c.args.env c.args.predicate) x)) (sym is))
+    (delayed (λ f. (g.met.E.EvalCtxt.lawful f).alike_judged_alike) g.met.E.EvalCtxt.stops_itself first c.delay_bug.new.self (delay _) c.args.candidates.now.items c.delay_bug.result c.requires.candidates c.delay_bug.ensures.kept c.delay_bug.ensures.same c.delay_bug.ensures.cause)
+
+pub returns-in-AtVariable : goal.returns-in-AtVariable
+returns-in-AtVariable g c =
+    let E = g.E.EvalCtxt in
+    let G = g.G.GoalKind in
+    let first = c.args.ecx.now in
+    let old = g.E.Build.context first in
+    let is = sym (subst (λ (x : Context). as_seen (E.state first) c.chain_end.result ≡ end_at c.args.kind (E.state first) (ty_tree x.trees c.args.ty).head) c.cx.ensures (c.chain_end.ensures (E.state first))) ∙ ap (as_seen (E.state first)) c.in-AtVariable.is in
+    told-as first c.consider_behind_variable-answer.new.ecx (E.state first) c.push_considered.result (λ l e. e ∙ ap (λ (x : ChainEnd). after_these old.trees c.args.candidates.now.items (end_answers G.rules (E.judge (E.fixed first)) (G.seen old.trees c.args.env c.args.predicate) x)) (sym is))
+    (one-listed (λ f. (g.met.E.EvalCtxt.lawful f).alike_judged_alike) first c.consider_behind_variable-answer.new.ecx c.args.candidates.now.items c.push_considered.new.candidates.items (variable_rule G.rules (G.seen old.trees c.args.env c.args.predicate)) c.consider_behind_variable-answer.result c.push_considered.result c.requires.candidates
+    c.consider_behind_variable-answer.ensures c.push_considered.ensures)

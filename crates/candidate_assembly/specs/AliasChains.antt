@@ -1,0 +1,79 @@
+-- What calls say that walk a chain of aliases.
+use Rattle.std.specs.Prelude.{◌≡◌, ℕ, true, false, Option, Some, None, Result, IfErr, IfOk, IfSome, List, option_map}
+use Rattle.candidate_ir.specs.declared.decl.contents.AliasBoundKind.{AliasBoundKind}
+use Rattle.candidate_ir.specs.declared.decl.contents.AliasBoundKind.TheVariants.{SelfBounds}
+use Rattle.candidate_ir.specs.declared.ir.heads.Head.TheVariants as H
+use Rattle.candidate_ir.specs.declared.ir.kinds.AliasTy.{AliasTy}
+use Rattle.candidate_ir.specs.declared.ir.kinds.Args.{Args}
+use Rattle.candidate_ir.specs.declared.ir.kinds.ParamEnv.{ParamEnv}
+use Rattle.candidate_ir.specs.declared.ir.kinds.Ty.{Ty}
+use Rattle.candidate_ir.specs.declared.ir.stop.Stop.{Stop}
+use Rattle.candidate_ir.specs.Context.{Context, Grows}
+use Rattle.candidate_ir.specs.Owned.{AliasArgumentsFit}
+use Rattle.candidate_ir.specs.Trees.{Tree}
+use Rattle.candidate_ir.specs.WellFormed.{IsWellFormedTable}
+use Rattle.candidate_ir.specs.Words.{IsArgs, IsTy, ty_tree}
+use Rattle.candidate_eval.specs.declared.eval.response.Candidate.{Candidate as OfNumbers}
+use Rattle.candidate_eval.specs.Accounts.{Account}
+use Rattle.candidate_eval.specs.Evaluators.{Keeps}
+use Rattle.candidate_eval.specs.Knowing.{own_stop}
+use Rattle.candidate_eval.specs.ObjectRequirements.{first_tree}
+use Rattle.candidate_eval.specs.ResponseTrees.{candidates_of}
+use Rattle.candidate_eval.specs.Responses.{Candidate}
+use Rattle.candidate_eval.specs.States.{Env, State, Judge}
+use Rattle.candidate_assembly.specs.declared.assembly.alias_chain.ChainEnd.{ChainEnd as Found}
+use Rattle.candidate_assembly.specs.declared.assembly.alias_chain.ChainEnd.TheVariants as F
+use Rattle.candidate_assembly.specs.AliasBounds.{ChainComes, ChainEnd, AtVariable, Done, Misplaced, has_bounds, is_opaque, is_projection}
+use Rattle.candidate_assembly.specs.KindBounds.{Additional, KindBounds}
+use Rattle.candidate_assembly.specs.Kinds.{IsGoal, KindRules}
+use Rattle.candidate_assembly.specs.Listing.{Listed, Lists, ToldList, together}
+use Rattle.candidate_assembly.specs.Telling.{StopsOfItself}
+
+-- An alias of the context that has bounds, with the arguments that it takes.
+pub record IsBoundedAlias (c : Context) (a : AliasTy) : Type 0 where
+  pub args : IsArgs c.trees a.args
+  pub fit : AliasArgumentsFit c a
+  pub has : has_bounds (H.Alias a.kind a.id) ≡ true
+
+-- Where a chain goes on after an alias, at the state that it leaves: nowhere from an opaque type, and where the normal form of a projection's
+-- self type is refused; else at that normal form.
+pub data GoesTo (J : Judge) (e : Env) (S : State) (t : Tree) : Option Tree → State → Type 0 where
+  ends : {T : State} → is_opaque t.head ≡ true → GoesTo J e S t None T
+  nowhere : {T : State} → is_projection t.head ≡ true → J.normalized S e (first_tree t.children) ≡ None → GoesTo J e S t None T
+  further : {u : Tree} {T : State} → is_projection t.head ≡ true → J.normalized S e (first_tree t.children) ≡ Some (u, T) → GoesTo J e S t (Some u) T
+
+-- A call that answers where it goes on; it stops of itself alone.
+pub record Continues {E X : Type 0} (fixed : E → X) (judge : X → Judge) (state : E → State) (probes : E → List State) (context : E → Context) (stops : Account E)
+    (old new : E) (e : Env) (t : Tree) (answer : Result (Option Ty) Stop) : Type 0 where
+  pub kept : Keeps fixed probes context old new
+  pub sort : IfOk answer (λ o. IfSome o (IsTy (context new).trees))
+  pub goes : IfOk answer (λ o. GoesTo (judge (fixed old)) e (state old) t (option_map (ty_tree (context new).trees) o) (state new))
+  pub own : IfErr answer (λ s. own_stop s ≡ true)
+  pub cause : IfErr answer (StopsOfItself fixed context state stops old)
+
+-- A list that the candidates by the chain follow.
+pub record ChainFollows {G : Type 0} (K : KindRules G) (more : Additional G) (J : Judge) (c : Context) (g : G) (S : State) (xs : List Candidate) (l : Listed) : Type 0 where
+  pub by_aliases : Listed
+  pub chain : ChainComes K more J c g S by_aliases
+  pub is : l ≡ together (Lists xs) by_aliases
+
+-- A context that has grown to another one, in which the goal was one already, and nothing was wrong with what was declared.
+pub record WasGoal {G P : Type 0} (K : KindRules G) (arguments_of : P → Args) (types_of : P → List Ty) (see : List Tree → ParamEnv → P → G) (c now : Context) (env : ParamEnv) (p : P) : Type 0 where
+  pub grows : Grows c now
+  pub table : IsWellFormedTable c
+  pub goal : IsGoal K arguments_of types_of see c env p
+
+-- A call in a probe that adds the candidates by a chain: as each such context has it. Of the state that it leaves nothing is said.
+pub record WalksChain {E X G P A : Type 0} (fixed : E → X) (judge : X → Judge) (state : E → State) (probes : E → List State) (context : E → Context) (stops : Account E)
+    (K : KindRules G) (B : KindBounds G) (arguments_of : P → Args) (types_of : P → List Ty) (see : List Tree → ParamEnv → P → G)
+    (old new : E) (env : ParamEnv) (p : P) (before after : List OfNumbers) (answer : Result A Stop) : Type 0 where
+  pub kept : Keeps fixed probes context old new
+  pub told : (c : Context) → WasGoal K arguments_of types_of see c (context old) env p
+      → ToldList (λ _. after) (context new).trees (ChainFollows K B.additional (judge (fixed old)) c (see c.trees env p) (state old) (candidates_of (context old).trees before)) answer
+  pub cause : IfErr answer (StopsOfItself fixed context state stops old)
+
+-- how a chain ends that the code finds to end so at the state
+abbrev pub as_seen : State → Found → ChainEnd
+as_seen S F.Done = Done
+as_seen S F.Misplaced = Misplaced
+as_seen S F.AtVariable = AtVariable S

@@ -1,0 +1,230 @@
+//! The chain of aliases that a goal's self type begins: the alias, what it is a projection of, and so on, whose bounds may prove the goal.
+
+ghost use Rattle.std.specs.Prelude.{◌≡◌, None, false, true, IfSome};
+ghost use Rattle.candidate_ir.specs.Words.{IsParamEnv, IsTy, env_forest, kind_tree, ty_tree};
+ghost use Rattle.candidate_ir.specs.declared.ir.heads.Head.TheVariants as head;
+ghost use Rattle.candidate_ir.specs.declared.ir.kinds.TyKind.TheVariants as kinds;
+ghost use Rattle.candidate_eval.specs.Asked.{first_ty};
+ghost use Rattle.candidate_eval.specs.ObjectRequirements.{first_tree};
+ghost use Rattle.candidate_eval.specs.States.{State};
+ghost use Rattle.candidate_eval.specs.ResponseTrees.{AreCandidates, candidates_of};
+ghost use Rattle.candidate_assembly.specs.AliasBounds.{end_answers, end_at, has_bounds, is_projection, link, link_rules};
+ghost use Rattle.candidate_assembly.specs.AliasChains.{ChainFollows, Continues, IsBoundedAlias, WalksChain, as_seen};
+ghost use Rattle.candidate_assembly.specs.Kinds.{IsGoal};
+ghost use Rattle.candidate_assembly.specs.Listing.{ConsidersAll, after_these, answers_at};
+ghost use Rattle.candidate_assembly.specs.Standing.{GoalStands, StandsBeside};
+
+use crate::assembly::alias_bounds::{consider_alias_bounds, consider_behind_variable};
+use crate::assembly::kind::GoalKind;
+use crate::assembly::listing::{push_considered, table_is_well_formed};
+use candidate_eval::eval::context::{EvalCtxt, ProbeKind};
+use candidate_eval::eval::limits::ALIAS_CHAIN;
+use candidate_eval::eval::refusal::NoSolutionOrStop;
+use candidate_eval::eval::response::Candidate;
+use candidate_ir::decl::Cx;
+use candidate_ir::decl::contents::AliasBoundKind;
+use candidate_ir::ir::kinds::{AliasKind, AliasTy, GenericArg, InferTy, ParamEnv, Ty, TyKind};
+use candidate_ir::ir::stop::Stop;
+use candidate_ir::ir::trees::Trees;
+use std::alloc::Global;
+
+/// The alias that the type is, if it is one that has bounds: a projection, or an opaque type.
+fn bounded_alias(cx: &Cx, ty: Ty) -> Option<AliasTy>
+    requires { IsTy cx.now.trees ty }
+    ensures alias { IfSome result (λ a. IsBoundedAlias cx.now a) }
+    ensures tree { IfSome result (λ a. kind_tree cx.now.trees (kinds.Alias a) ≡ ty_tree cx.now.trees ty) }
+    ensures other { result ≡ None → has_bounds (ty_tree cx.now.trees ty).head ≡ false }
+{
+    cx.well_formed();
+    match cx.kind(ty) {
+        TyKind::Alias(alias) => match alias.kind {
+            AliasKind::Projection | AliasKind::Opaque => Some(alias),
+            AliasKind::Inherent | AliasKind::Free => None,
+        },
+        _ => None,
+    }
+}
+
+/// The first of the arguments, if it is a type.
+fn first_type(list: &[GenericArg]) -> Option<Ty>
+    ensures { result ≡ first_ty list.now }
+{
+    match list {
+        [GenericArg::Ty(ty), ..] => Some(*ty),
+        _ => None,
+    }
+}
+
+/// The type that the alias, a projection, is one of: the first of its arguments.
+fn self_ty_of(cx: &Cx, alias: AliasTy) -> Ty
+    requires alias { IsBoundedAlias cx.now alias }
+    requires projection { is_projection (head.Alias alias.kind alias.id) ≡ true }
+    ensures sort { IsTy cx.now.trees result }
+    ensures tree { ty_tree cx.now.trees result ≡ first_tree (kind_tree cx.now.trees (kinds.Alias alias)).children }
+{
+    match first_type(cx.args(alias.args)) {
+        Some(ty) => ty,
+        None => unreachable!(),
+    }
+}
+
+/// Where the chain goes on: at the normal form of the type that the alias is a projection of. It ends at an opaque type, and where the
+/// normal form is refused. The stops are those of the evaluator.
+fn next_in_chain<E: EvalCtxt>(
+    ecx: &mut E,
+    env: ParamEnv,
+    alias: AliasTy,
+) -> Result<Option<Ty>, Stop>
+    requires env { IsParamEnv (E.context ecx.old).trees env }
+    requires alias { IsBoundedAlias (E.context ecx.old) alias }
+    ensures { Continues E.fixed E.judge E.state E.probes E.context E.stops ecx.old ecx.new (env_forest (E.context ecx.old).trees env) (kind_tree (E.context ecx.old).trees (kinds.Alias alias)) result }
+{
+    if !matches!(alias.kind, AliasKind::Projection) {
+        return Ok(None);
+    }
+    let self_ty = self_ty_of(ecx.cx(), alias);
+    match ecx.structurally_normalize_ty(env, self_ty) {
+        Ok(ty) => Ok(Some(ty)),
+        Err(NoSolutionOrStop::NoSolution) => Ok(None),
+        Err(NoSolutionOrStop::Stop(stop)) => Err(stop),
+    }
+}
+
+/// Adds the candidates by one alias of the chain: by those of its bounds that count, and then by what the kind of goals adds.
+///
+/// It stops at the first rule that stops, with that stop; `Stop::Memory` comes where a list can't grow, `Stop::NodesFull` where a bound was
+/// not made. The state is left alike the one before.
+fn consider_alias<E: EvalCtxt, G: GoalKind<E>>(
+    alloc: Global,
+    ecx: &mut E,
+    env: ParamEnv,
+    predicate: G,
+    alias: AliasTy,
+    kind: AliasBoundKind,
+    candidates: &mut Vec<Candidate>,
+) -> Result<(), Stop>
+    requires goal { IsGoal G.rules G.arguments G.types G.seen (E.context ecx.old) env predicate }
+    requires alias { IsBoundedAlias (E.context ecx.old) alias }
+    requires stands { StandsBeside G.rules (E.state ecx.old) (G.seen (E.context ecx.old).trees env predicate) (kind_tree (E.context ecx.old).trees (kinds.Alias alias)) }
+    requires candidates { AreCandidates (E.context ecx.old).trees candidates.old.items }
+    ensures { ConsidersAll E.fixed E.judge E.state E.probes E.context E.stops ecx.old ecx.new (E.state ecx.old) (λ _. candidates.new.items) (λ l. l ≡ after_these (E.context ecx.old).trees candidates.old.items (answers_at (E.judge (E.fixed ecx.old)) (link_rules G.rules G.bounds.additional (E.context ecx.old) (G.seen (E.context ecx.old).trees env predicate) (link kind (E.state ecx.old) (kind_tree (E.context ecx.old).trees (kinds.Alias alias)))))) result }
+{
+    table_is_well_formed(ecx.cx());
+    consider_alias_bounds(alloc, ecx, env, predicate, alias, kind, candidates)?;
+    let mut more = G::consider_additional_alias_assumptions(alloc, ecx, env, predicate, alias)?;
+    candidates.append(&mut more)?;
+    Ok(())
+}
+
+/// How a chain ends.
+#[derive(Clone, Copy)]
+enum ChainEnd {
+    /// With nothing more.
+    Done,
+    /// At an alias that has no bounds and that no normal form is.
+    Misplaced,
+    /// At a general variable, behind which further aliases may stand.
+    AtVariable,
+}
+
+/// How the chain ends at the type, which is no alias with bounds. The self type itself is no variable, as goals about one are answered
+/// otherwise.
+fn chain_end(cx: &Cx, ty: Ty, kind: AliasBoundKind) -> ChainEnd
+    requires { IsTy cx.now.trees ty }
+    ensures { (S : State) → as_seen S result ≡ end_at kind S (ty_tree cx.now.trees ty).head }
+{
+    match (cx.kind(ty), kind) {
+        (TyKind::Infer(InferTy::TyVar(_)), AliasBoundKind::NonSelfBounds) => ChainEnd::AtVariable,
+        (TyKind::Alias(_), _) => ChainEnd::Misplaced,
+        _ => ChainEnd::Done,
+    }
+}
+
+/// Adds what the chain's end gives, a type that is no alias with bounds. What stands behind a general variable isn't known, so the goal is
+/// ambiguous there; but a self type that is one is answered otherwise. Of another alias in normal form a fault is noted. All else gives
+/// nothing.
+///
+/// The stops are those of the evaluator; `Stop::Memory` comes where the list can't grow. The state is left alike the one before.
+fn consider_chain_end<E: EvalCtxt, G: GoalKind<E>>(
+    alloc: Global,
+    ecx: &mut E,
+    env: ParamEnv,
+    predicate: G,
+    ty: Ty,
+    kind: AliasBoundKind,
+    candidates: &mut Vec<Candidate>,
+) -> Result<(), Stop>
+    requires goal { IsGoal G.rules G.arguments G.types G.seen (E.context ecx.old) env predicate }
+    requires ty { IsTy (E.context ecx.old).trees ty }
+    requires candidates { AreCandidates (E.context ecx.old).trees candidates.old.items }
+    ensures { ConsidersAll E.fixed E.judge E.state E.probes E.context E.stops ecx.old ecx.new (E.state ecx.old) (λ _. candidates.new.items) (λ l. l ≡ after_these (E.context ecx.old).trees candidates.old.items (end_answers G.rules (E.judge (E.fixed ecx.old)) (G.seen (E.context ecx.old).trees env predicate) (end_at kind (E.state ecx.old) (ty_tree (E.context ecx.old).trees ty).head))) result }
+{
+    match chain_end(ecx.cx(), ty, kind) {
+        ChainEnd::Done => Ok(()),
+        ChainEnd::Misplaced => ecx.delay_bug("a normal form is an alias without bounds"),
+        ChainEnd::AtVariable => {
+            let answer = consider_behind_variable(alloc, ecx, env, predicate);
+            push_considered(candidates, answer)
+        }
+    }
+}
+
+/// Adds the candidates by the chain of aliases that the goal's self type begins: by its own bounds, and then by the other bounds of what it
+/// is a projection of, in normal form, and so on. It is called in a probe, as normalising changes the state.
+///
+/// It stops at the first rule that stops, with that stop; `Stop::AliasDepth` comes where the chain has more aliases than `ALIAS_CHAIN`. Other
+/// stops are those of the evaluator and of making nodes and lists.
+fn walk_chain<E: EvalCtxt, G: GoalKind<E>>(
+    alloc: Global,
+    ecx: &mut E,
+    env: ParamEnv,
+    predicate: G,
+    candidates: &mut Vec<Candidate>,
+) -> Result<(), Stop>
+    requires goal { IsGoal G.rules G.arguments G.types G.seen (E.context ecx.old) env predicate }
+    requires stands { GoalStands G.rules (E.state ecx.old) (G.seen (E.context ecx.old).trees env predicate) }
+    requires candidates { AreCandidates (E.context ecx.old).trees candidates.old.items }
+    ensures { WalksChain E.fixed E.judge E.state E.probes E.context E.stops G.rules G.bounds G.arguments G.types G.seen ecx.old ecx.new env predicate candidates.old.items candidates.new.items result }
+{
+    let mut ty = G::self_ty(ecx.cx(), env, predicate);
+    let mut kind = AliasBoundKind::SelfBounds;
+    let mut left = ALIAS_CHAIN;
+    while let Some(alias) = bounded_alias(ecx.cx(), ty) {
+        if left == 0 {
+            return Err(Stop::AliasDepth);
+        }
+        consider_alias(alloc, ecx, env, predicate, alias, kind, candidates)?;
+        match next_in_chain(ecx, env, alias)? {
+            Some(next) => ty = next,
+            None => return Ok(()),
+        }
+        kind = AliasBoundKind::NonSelfBounds;
+        left -= 1;
+    }
+    consider_chain_end(alloc, ecx, env, predicate, ty, kind, candidates)
+}
+
+/// Adds the candidates by the bounds of the goal's self type as an alias, and by those of what it is a projection of, and so on along the
+/// chain, in a probe. The goal stands at a state whose values make sense.
+///
+/// It stops at the first rule that stops, with that stop; `Stop::AliasDepth` comes where the chain has more aliases than `ALIAS_CHAIN`;
+/// `Stop::Memory` comes where a list can't grow, `Stop::NodesFull` where a bound was not made. Other stops are the evaluator's. The state is
+/// left alike the one before.
+pub fn assemble_alias_bound_candidates<E: EvalCtxt, G: GoalKind<E>>(
+    alloc: Global,
+    ecx: &mut E,
+    env: ParamEnv,
+    predicate: G,
+    candidates: &mut Vec<Candidate>,
+) -> Result<(), Stop>
+    requires goal { IsGoal G.rules G.arguments G.types G.seen (E.context ecx.old) env predicate }
+    requires stands { GoalStands G.rules (E.state ecx.old) (G.seen (E.context ecx.old).trees env predicate) }
+    requires candidates { AreCandidates (E.context ecx.old).trees candidates.old.items }
+    ensures { ConsidersAll E.fixed E.judge E.state E.probes E.context E.stops ecx.old ecx.new (E.state ecx.old) (λ _. candidates.new.items) (ChainFollows G.rules G.bounds.additional (E.judge (E.fixed ecx.old)) (E.context ecx.old) (G.seen (E.context ecx.old).trees env predicate) (E.state ecx.old) (candidates_of (E.context ecx.old).trees candidates.old.items)) result }
+{
+    table_is_well_formed(ecx.cx());
+    let probe = ecx.begin_probe(ProbeKind::Kept)?;
+    let answer = walk_chain(alloc, ecx, env, predicate, candidates);
+    let _usages = ecx.end_probe(probe);
+    answer
+}
