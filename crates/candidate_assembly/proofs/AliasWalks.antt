@@ -1,5 +1,5 @@
 -- How far a walk along a chain of aliases has come, and what it comes to.
-use Rattle.std.proofs.Common.{◌≡◌, ℕ, zero, suc, true, false, Option, Some, None, List, [], refl, sym, ap, subst, ◌∙◌}
+use Rattle.std.proofs.Common.{◌≡◌, ◌-◌, arith, ℕ, zero, suc, true, false, Option, Some, None, List, [], ◌∷◌, refl, sym, ap, subst, ◌∙◌}
 use Rattle.std.specs.Prelude.{IfErr, IfOk, IfSome, Result, Ok, Err}
 use Rattle.candidate_ir.specs.declared.decl.contents.AliasBoundKind.{AliasBoundKind}
 use Rattle.candidate_ir.specs.declared.decl.contents.AliasBoundKind.TheVariants.{SelfBounds, NonSelfBounds}
@@ -15,12 +15,13 @@ use Rattle.candidate_ir.specs.declared.ir.stop.Stop.{Stop}
 use Rattle.candidate_ir.specs.declared.ir.stop.Stop.TheVariants.{AliasDepth}
 use Rattle.candidate_ir.specs.Context.{Context, Grows}
 use Rattle.candidate_ir.specs.Trees.{Tree, binders_of}
+use Rattle.candidate_ir.specs.WellFormed.{IsWellFormedTable}
 use Rattle.candidate_ir.specs.Words.{IsTy, env_forest, kind_tree, ty_tree}
 use Rattle.candidate_ir.proofs.Kept.{grows-refl, grows-trans}
 use Rattle.candidate_eval.specs.declared.eval.response.Candidate.{Candidate as OfNumbers}
-use Rattle.candidate_eval.specs.Accounts.{Account}
+use Rattle.candidate_eval.specs.Accounts.{Account, Question}
 use Rattle.candidate_eval.specs.Alike.{JudgesAlike}
-use Rattle.candidate_eval.specs.Evaluators.{Keeps}
+use Rattle.candidate_eval.specs.Evaluators.{IsEvaluatorStop, Keeps}
 use Rattle.candidate_eval.specs.Knowing.{own_stop}
 use Rattle.candidate_eval.specs.Lawful.{Lawful}
 use Rattle.candidate_eval.specs.ObjectRequirements.{first_tree}
@@ -29,7 +30,7 @@ use Rattle.candidate_eval.specs.Responses.{Candidate}
 use Rattle.candidate_eval.specs.States.{Env, Judge, State}
 use Rattle.candidate_eval.proofs.Accounts.{reaches}
 use Rattle.candidate_eval.proofs.Objects.{env-kept}
-use Rattle.candidate_eval.proofs.Probing.{then as after}
+use Rattle.candidate_eval.proofs.Probing.{alike-probe, keeps-probe, then as after}
 use Rattle.candidate_assembly.specs.AliasBounds.{Comes, answers_of_link, end_answers, end_at, has_bounds, is_opaque, is_projection, link, link_rules, no_bounds, opaque, projection, refused, stopped, too_long}
 use Rattle.candidate_assembly.specs.AliasChains.{ChainFollows, Continues, GoesTo, IsBoundedAlias, WalksChain, WasGoal}
 use Rattle.candidate_assembly.specs.AliasChains.GoesTo.{ends, further, nowhere}
@@ -40,11 +41,12 @@ use Rattle.candidate_assembly.specs.Listing.{ConsidersAll, Listed, Lists, Stops,
 use Rattle.candidate_assembly.specs.Standing.{GoalStands, StandsBeside}
 use Rattle.candidate_assembly.specs.Telling.{StopsOfItself}
 use Rattle.candidate_assembly.proofs.AliasChains.{alias-kept, beside-alike, link-kept, list-as}
-use Rattle.candidate_assembly.proofs.Causes.{later, so-err}
+use Rattle.candidate_assembly.proofs.Causes.{asked-here, later, so-err}
 use Rattle.candidate_assembly.proofs.Chains.{together-joined}
 use Rattle.candidate_assembly.proofs.Considering.{not-both}
 use Rattle.candidate_assembly.proofs.Listing.{candidates-kept}
 use Rattle.candidate_assembly.proofs.Standing.{normal-beside, self-type-beside}
+use Rattle.candidate_assembly.proofs.Stepping.{evaluator-own}
 
 -- What is left comes to what the whole comes to, after the candidates that are there. The type where the walk stands is one of the context's,
 -- and stands beside the goal.
@@ -63,6 +65,10 @@ pub record IsLeft {G : Type 0} (K : KindRules G) (B : KindBounds G) (J : Judge) 
   pub rest : Listed
   pub comes : Comes K B.additional J c g n b S t rest
   pub is : l ≡ together (Lists xs) rest
+
+pub one-less : (n : ℕ) → (n ≡ 0 → ⊥) → n ≡ suc (n - 1)
+one-less zero h = absurd (h refl)
+one-less (suc n) h = omega arith
 
 after-stops : (xs : List Candidate) (l : Listed) (s : Stop) → Stops s ≡ together (Lists xs) l → l ≡ Stops s
 after-stops xs (Lists ys) s e = absurd cc
@@ -264,3 +270,48 @@ module _ {E X G P : Type 0} {fixed : E → X} {judge : X → Judge} {state : E �
                   (sym (together-joined (Lists (candidates_of (context now).trees items)) given-by rest) ∙ ap (λ l. together l rest) (sym (so-many c w new h.kept)))
                   (s.whole c w (together given-by rest) (subst (λ m. Comes K B.additional J c (see c.trees env p) m kind (state now) (ty_tree (context now).trees ty) (together given-by rest)) (sym goes-left) link-comes));
             }
+
+-- A walk in a probe.
+
+list-grown : {A : Type 0} (items : A → List OfNumbers) (ran new : Context) {R : Listed → Type 0} (r : Result A Stop) → Grows ran new → ToldList items ran.trees R r → ToldList items new.trees R r
+list-grown items ran new {R} (Ok a) grows t =
+    let k = candidates-kept ran new (items a) grows t.fits in
+    record { ok = subst (λ cs. R (Lists cs)) (sym k.1) t.ok; fits = k.0; stopped = tt }
+list-grown items ran new (Err s) grows t = record { ok = tt; fits = tt; stopped = t.stopped }
+
+module _ {E X A : Type 0} {fixed : E → X} {judge : X → Judge} {state : E → State} {probes : E → List State} {context : E → Context} {stops : Account E} where
+  -- What it tells is told at the state at which the probe began.
+  pub chain-listed : {G P : Type 0} {K : KindRules G} {B : KindBounds G} {arguments : P → Args} {types : P → List Ty} {see : List Tree → ParamEnv → P → G} (old began ran new : E) (env : ParamEnv) (p : P) (before xs : List OfNumbers) (answer : Result A Stop)
+      → IsWellFormedTable (context old) → IsGoal K arguments types see (context old) env p → AreCandidates (context old).trees before
+      → fixed began ≡ fixed old → state began ≡ state old → probes began ≡ state old ∷ probes old → Grows (context old) (context began)
+      → WalksChain fixed judge state probes context stops K B arguments types see began ran env p before xs answer → fixed new ≡ fixed ran → Grows (context ran) (context new)
+      → ((T : State) (others : List State) → probes ran ≡ T ∷ others → probes new ≡ others)
+      → ((T : State) (others : List State) → probes ran ≡ T ∷ others → (judge (fixed ran)).alike T (state new))
+      → ConsidersAll fixed judge state probes context stops old new (state old) (λ _. xs) (ChainFollows K B.additional (judge (fixed old)) (context old) (see (context old).trees env p) (state old) (candidates_of (context old).trees before)) answer
+  chain-listed {K = K} {B = B} {see = see} old began ran new env p before xs answer table goal fit f same opens grows w ends-same after-grows left closed =
+      let more = B.additional in
+      let g = see (context old).trees env p in
+      record {
+        kept = keeps-probe fixed probes context old began ran new (state old) f grows opens w.kept ends-same after-grows left;
+        alike = alike-probe fixed probes judge state old began ran new f opens w.kept.fixed_same w.kept.probes_same closed;
+        told = list-grown (λ _. xs) (context ran) (context new) answer after-grows
+            (list-as (λ _. xs) (context ran).trees answer (λ l h.
+                subst (λ cs. ChainFollows K more (judge (fixed old)) (context old) g (state old) cs l) (candidates-kept (context old) (context began) before grows fit).1
+                (subst (λ S. ChainFollows K more (judge (fixed old)) (context old) g S (candidates_of (context began).trees before) l) same
+                (subst (λ j. ChainFollows K more (judge j) (context old) g (state began) (candidates_of (context began).trees before) l) f h)))
+            (w.told (context old) (record { grows = grows; table = table; goal = goal })));
+        cause = so-err answer (λ z. later (record { same = f; grows = grows })) w.cause;
+      }
+
+  -- The probe wasn't begun.
+  pub list-not-begun : {left : A → List OfNumbers} {R : Listed → Type 0} → ((x : E) (S : State) (q : Question) (s : Stop) → stops x S q s → IsEvaluatorStop s) → ((f : X) → JudgesAlike (judge f)) → (old new : E) (q : Question) (r : Result A Stop) (s : Stop)
+      → r ≡ Err s → fixed new ≡ fixed old → Grows (context old) (context new) → (state new ≡ state old) × (probes new ≡ probes old) → stops new (state old) q s
+      → ConsidersAll fixed judge state probes context stops old new (state old) left R r
+  list-not-begun itself law old new q r s is f grows rests why =
+      let kept : Keeps fixed probes context old new = record { fixed_same = f; probes_same = rests.1; grows = grows } in
+      rw is (record {
+        kept = kept;
+        alike = subst (λ (x : State). (judge (fixed old)).alike (state old) x) (sym rests.0) ((law (fixed old)).alike_same (state old));
+        told = record { ok = tt; fits = tt; stopped = λ other. absurd (not-both (own_stop s) (evaluator-own s (itself new (state old) q s why)) other) };
+        cause = asked-here q kept why;
+      })
