@@ -3,14 +3,13 @@ use Rattle.std.proofs.Common.{◌≡◌, ◌≤◌, ℕ, zero, suc, Bool, true, 
 use Rattle.candidate_ir.specs.declared.ir.heads.ClauseHead.TheVariants as Cl
 use Rattle.candidate_ir.specs.declared.ir.heads.Head.{Head}
 use Rattle.candidate_ir.specs.declared.ir.heads.Head.TheVariants as H
-use Rattle.candidate_ir.specs.declared.ir.heads.PartHead.{PartHead}
 use Rattle.candidate_ir.specs.declared.ir.heads.PartHead.TheVariants as P
 use Rattle.candidate_ir.specs.Substitutions.{alone}
 use Rattle.candidate_ir.specs.Trees.{Kind, Forest, Tree}
-use Rattle.candidate_eval.specs.Certainties.{Certainty}
+use Rattle.candidate_eval.specs.declared.eval.certainty.Certainty.{Certainty}
 use Rattle.candidate_eval.specs.Characterization.{Bounded, bound_kinds, group_at}
 use Rattle.candidate_eval.specs.States.{State, Pending, next, resolved_tree}
-use Rattle.rounds_judge.specs.Equating.{equated, without_goals}
+use Rattle.rounds_judge.specs.Equating.{equated}
 use Rattle.rounds_judge.specs.Listed.{Listing, listed}
 use Rattle.rounds_judge.specs.Settling.{Outcome, alias_of, before, gave_a_value, instance_of, instantiated, pass, passes, projected, settled, term_of, tried, tried_all, tried_as, with_certainty, with_staying}
 use Rattle.rounds_judge.proofs.EquatingLaws.{no_goals}
@@ -28,8 +27,16 @@ opened-many : (S : State) (ks : List Kind) (ts : Forest) → AsMany S (group_at 
 opened-many S [] ts = refl
 opened-many S (k ∷ ks) ts = refl
 
-state-of : (S R T : State) (ps qs : List Pending) → Some (ps, R) ≡ Some (qs, T) → AsMany S R → AsMany S T
-state-of S R T ps qs e m = let same : (ps, R) ≡ (qs, T) = cc in sym (ap (λ (q : List Pending × State). length q.1.variables) same) ∙ m
+abbrev answer : List Pending → State → Outcome
+answer ps S = Some (ps, S)
+
+-- the state that is answered
+abbrev state-in : State → Outcome → State
+state-in R None = R
+state-in R (Some q) = q.1
+
+state-of : (S R T : State) (ps qs : List Pending) → answer ps R ≡ answer qs T → AsMany S R → AsMany S T
+state-of S R T ps qs e m = sym (ap (λ o. length (state-in R o).variables) e) ∙ m
 
 projected-many : (l : Listing) (S : State) (p : Pending) (t : Tree) (o : Option Tree) → Leaves S (projected l S p t o)
 projected-many l S p t None q e = state-of S S q.1 (p ∷ []) q.0 e refl
@@ -48,15 +55,15 @@ tried-many l S p q e =
 
 all-many : (l : Listing) (S : State) (ps : List Pending) → Leaves S (tried_all l S ps)
 all-many l S [] q e = state-of S S q.1 [] q.0 e refl
-all-many l S (p ∷ ps) q e = at (tried l S p) (tried-many l S p) e
+all-many l S (p ∷ ps) q e = at (tried l S p) (tried-many l S p) (λ R. all-many l R ps) e
   where
     after : (r : List Pending × State) (o : Outcome) → AsMany S r.1 → Leaves r.1 o → before r.0 o ≡ Some q → AsMany S q.1
     after r None m f e = absurd cc
     after r (Some t) m f e = state-of S t.1 q.1 (r.0 ++ t.0) q.0 e (f t refl ∙ m)
 
-    at : (o : Outcome) → Leaves S o → next o (λ r. before r.0 (tried_all l r.1 ps)) ≡ Some q → AsMany S q.1
-    at None f e = absurd cc
-    at (Some r) f e = after r (tried_all l r.1 ps) (f r refl) (all-many l r.1 ps) e
+    at : (o : Outcome) → Leaves S o → ((R : State) → Leaves R (tried_all l R ps)) → next o (λ r. before r.0 (tried_all l r.1 ps)) ≡ Some q → AsMany S q.1
+    at None f more e = absurd cc
+    at (Some r) f more e = after r (tried_all l r.1 ps) (f r refl) (more r.1) e
 
 pass-many : (l : Listing) (S T : State) → pass l S ≡ Some T → AsMany S T
 pass-many l S T e = at (tried_all l S S.pending) (all-many l S S.pending) e
@@ -67,15 +74,20 @@ pass-many l S T e = at (tried_all l S S.pending) (all-many l S S.pending) e
 
 passes-many : (l : Listing) (n : ℕ) (S T : State) → passes l n S ≡ Some T → AsMany S T
 passes-many l zero S T e = let same : S ≡ T = cc in sym (ap (λ (R : State). length R.variables) same)
-passes-many l (suc n) S T e = at (pass l S) (pass-many l S) e
+passes-many l (suc n) S T e = at (pass l S) (pass-many l S) (λ R. passes-many l n R T) e
   where
-    goes : (R : State) (b : Bool) → AsMany S R → (if b then passes l n R else Some R) ≡ Some T → AsMany S T
-    goes R true m e = passes-many l n R T e ∙ m
-    goes R false m e = let same : R ≡ T = cc in sym (ap (λ (R : State). length R.variables) same) ∙ m
+    goes : (R : State) (b : Bool) → AsMany S R → (passes l n R ≡ Some T → AsMany R T) → (if b then passes l n R else Some R) ≡ Some T → AsMany S T
+    goes R true m more e = more e ∙ m
+    goes R false m more e = let same : R ≡ T = cc in sym (ap (λ (R : State). length R.variables) same) ∙ m
 
-    at : (o : Option State) → ((R : State) → o ≡ Some R → AsMany S R) → next o (λ R. if gave_a_value S.variables R.variables then passes l n R else Some R) ≡ Some T → AsMany S T
-    at None f e = absurd cc
-    at (Some R) f e = goes R (gave_a_value S.variables R.variables) (f R refl) e
+    at : (o : Option State) → ((R : State) → o ≡ Some R → AsMany S R) → ((R : State) → passes l n R ≡ Some T → AsMany R T)
+        → next o (λ R. if gave_a_value S.variables R.variables then passes l n R else Some R) ≡ Some T → AsMany S T
+    at None f more e = absurd cc
+    at (Some R) f more e = goes R (gave_a_value S.variables R.variables) (f R refl) (more R) e
+
+abbrev settled-in : State → Option (Certainty × State) → State
+settled-in R None = R
+settled-in R (Some q) = q.1
 
 pub settling_keeps_variables : (l : Listing) (S T : State) (c : Certainty) → settled l S ≡ Some (c, T) → length S.variables ≤ length T.variables
 settling_keeps_variables l S T c e = at (passes l 8 S) (passes-many l 8 S) e
@@ -83,6 +95,5 @@ settling_keeps_variables l S T c e = at (passes l 8 S) (passes-many l 8 S) e
     at : (o : Option State) → ((R : State) → o ≡ Some R → AsMany S R) → next o (λ R. Some (with_certainty R)) ≡ Some (c, T) → length S.variables ≤ length T.variables
     at None f e = absurd cc
     at (Some R) f e =
-        let same : with_certainty R ≡ (c, T) = cc in
-        let many = sym (ap (λ (q : Certainty × State). length q.1.variables) same) ∙ f R refl in
+        let many = sym (ap (λ o. length (settled-in R o).variables) e) ∙ f R refl in
         omega (arith, many)
