@@ -132,6 +132,8 @@ pub record ResponseLaws (J : Judge) : Type 0 where
       → J.responded S c ≡ Some r → r.certainty ≡ Yes → AnswersYes J S L r
 
 pub record GrantedLaws (J : Judge) : Type 0 where
+  -- Settling takes no variable away.
+  pub settling_keeps_variables : (S T : State) (c : Certainty) → J.settled S ≡ Some (c, T) → length S.variables ≤ length T.variables
   -- What settling leaves pending are goals of the state that it leaves, which follows.
   pub settling_follows : (S T : State) (L : Live) (c : Certainty) → IsSound S L → ValuesFit S L → GoalsAreOf S L S.pending → J.settled S ≡ Some (c, T)
       → LeavesGoals S T L T.pending (HasNoParameter S L × GoalsHaveNoParameter S.pending)

@@ -12,6 +12,7 @@ use Rattle.rounds_judge.proofs.ParameterlessGoals.{settling_follows}
 use Rattle.rounds_judge.proofs.ParameterlessResponses.{responding_brings_none}
 use Rattle.rounds_judge.proofs.Granting.{granted_stays}
 use Rattle.rounds_judge.proofs.Dropped.{settling_drops_granted}
+use Rattle.rounds_judge.proofs.SettledVariables.{settling_keeps_variables}
 use Rattle.rounds_judge.proofs.Responding.{empty_is_of_state, yes_is_granted}
 
 module _ (w : World) (local : ℕ) (l : Listing) (os : List Tree) (listing : IsListing l) where
@@ -25,6 +26,7 @@ module _ (w : World) (local : ℕ) (l : Listing) (os : List Tree) (listing : IsL
 
   pub granted_laws : GrantedLaws (rounds_judge w local l os)
   granted_laws = record {
+    settling_keeps_variables = λ S T c e. settling_keeps_variables l S T c e;
     settling_follows = λ S T L c sound fits of e. settling_follows l listing S T L c sound fits of e;
     settling_drops_granted = λ S T U L c sound fits of e f goals g granted. settling_drops_granted l listing S T U L c sound fits of e f g granted;
     responding_brings_none = λ S L c r sound fits of roots free goals e. responding_brings_none l listing S L c r sound fits of roots free goals e;

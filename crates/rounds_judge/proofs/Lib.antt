@@ -25,6 +25,7 @@ pub mod JudgeLaws
 pub mod SettlingCases
 pub mod Opening
 pub mod Settling
+pub mod SettledVariables
 pub mod Congruent
 pub mod Granting
 pub mod Equated
