@@ -82,30 +82,6 @@ trait-goal-kept old new env p grows h =
     let s = trait-goal-says old new env p grows h.env h.arguments in
     (goal-kept grows s h, s.seen)
 
--- What is declared of an impl.
-
-abbrev part-with : TypingMode → TraitGoal → Impl → Forest → List Tree → List Tree → ImplPart
-part-with m g i a ws os =
-    let certainty = impl_certainty m g.polarity i.polarity in
-    record {
-      applies = may_unify R.Header g.reference.arguments a && is_some certainty;
-      steps = fresh (map parameter_kind i.parameters) ∷ equate g.reference.arguments a ∷ (nested ws ++ nested_misc os);
-      certainty = or_yes certainty;
-    }
-
-pub part-kept : (old new : Context) (m : TypingMode) (g : TraitGoal) (n : ImplId) → Grows old new → IfSome (impl_at old n) (ImplIsGiven old) → impl_part_at new m g n ≡ impl_part_at old m g n
-part-kept old new m g n grows given = ap (λ (c : Context). maybe no_impl (impl_part new.trees m g) (impl_at c n)) grows.same ∙ of (impl_at old n) given
-  where
-    of : (o : Option Impl) → IfSome o (ImplIsGiven old) → maybe no_impl (impl_part new.trees m g) o ≡ maybe no_impl (impl_part old.trees m g) o
-    of None t = refl
-    of (Some i) t =
-        let a = args-kept old new i.trait_ref.args grows t.header.list in
-        let w = clauses-kept old new i.wheres grows t.wheres in
-        let o = clauses-kept old new i.super_outlives grows t.super_outlives in
-        ap (λ x. part-with m g i x (map (clause_tree new.trees) i.wheres) (map (clause_tree new.trees) i.super_outlives)) a.1
-        ∙ (ap (λ x. part-with m g i (args_forest old.trees i.trait_ref.args) x (map (clause_tree new.trees) i.super_outlives)) w.1
-        ∙ ap (λ x. part-with m g i (args_forest old.trees i.trait_ref.args) (map (clause_tree old.trees) i.wheres) x) o.1)
-
 -- Calls.
 
 module _ {E X : Type 0} {fixed : E → X} {probes : E → List State} {context : E → Context} where

@@ -1,7 +1,7 @@
 //! What assembly asks of a kind of goals, and the rules that all kinds share.
 
-pub mod alias_bounds;
-pub mod alias_chain;
+pub(crate) mod alias_bounds;
+pub(crate) mod alias_chain;
 pub mod characterize;
 pub mod kind;
 pub mod language;

@@ -18,12 +18,12 @@ use crate::tables::{UNNAMED, value_of, word_for};
 use crate::typed::{clause_at, env_at, ty_at};
 use candidate_assembly::assembly::characterize::characterize_param_env_assumption;
 use candidate_assembly::assembly::kind::GoalKind;
+use candidate_assembly::assembly::language::{LanguageRule, consider_language_rule};
+use candidate_assembly::assembly::listing::consider_impl_and_respond;
 use candidate_assembly::assembly::matching::probe_and_consider_implied_clause;
 use candidate_assembly::assembly::steps::forced_ambiguity;
-use candidate_assembly::trait_goals::impls::consider_impl_and_respond;
 use candidate_eval::eval::certainty::Certainty;
 use candidate_eval::eval::clauses::{predicate_in, self_ty};
-use candidate_eval::eval::refusal::NoSolutionOrStop;
 use candidate_eval::eval::response::Candidate;
 use candidate_eval::eval::source::{BuiltinImplSource, CandidateSource, ParamEnvSource};
 use candidate_eval::structural::callable::has_callable_cell;
@@ -36,40 +36,23 @@ use candidate_ir::ir::trees::Trees;
 use candidate_rounds::rounds::Rounds;
 use std::alloc::Global;
 
-/// A rule that the language has for some traits.
-#[derive(Clone, Copy)]
-enum Rule {
-    Error,
-    AutoTrait,
-    TraitAlias,
-    Sizedness(Sizedness),
-    CopyClone,
-    FnPtr,
-    Fn(ClosureKind),
-    Tuple,
-    Pointee,
-    DiscriminantKind,
-    Destruct,
-    NoDrop,
-}
-
 /// The words of rules.
-const RULES: [(&str, Rule); 15] = [
-    ("error", Rule::Error),
-    ("auto", Rule::AutoTrait),
-    ("alias", Rule::TraitAlias),
-    ("sized", Rule::Sizedness(Sizedness::Sized)),
-    ("meta_sized", Rule::Sizedness(Sizedness::MetaSized)),
-    ("copy", Rule::CopyClone),
-    ("fn_ptr", Rule::FnPtr),
-    ("fn", Rule::Fn(ClosureKind::Fn)),
-    ("fn_mut", Rule::Fn(ClosureKind::FnMut)),
-    ("fn_once", Rule::Fn(ClosureKind::FnOnce)),
-    ("tuple", Rule::Tuple),
-    ("pointee", Rule::Pointee),
-    ("discriminant", Rule::DiscriminantKind),
-    ("destruct", Rule::Destruct),
-    ("no_drop", Rule::NoDrop),
+const RULES: [(&str, LanguageRule); 15] = [
+    ("error", LanguageRule::Error),
+    ("auto", LanguageRule::AutoTrait),
+    ("alias", LanguageRule::TraitAlias),
+    ("sized", LanguageRule::Sizedness(Sizedness::Sized)),
+    ("meta_sized", LanguageRule::Sizedness(Sizedness::MetaSized)),
+    ("copy", LanguageRule::CopyClone),
+    ("fn_ptr", LanguageRule::FnPtrTrait),
+    ("fn", LanguageRule::FnTrait(ClosureKind::Fn)),
+    ("fn_mut", LanguageRule::FnTrait(ClosureKind::FnMut)),
+    ("fn_once", LanguageRule::FnTrait(ClosureKind::FnOnce)),
+    ("tuple", LanguageRule::Tuple),
+    ("pointee", LanguageRule::Pointee),
+    ("discriminant", LanguageRule::DiscriminantKind),
+    ("destruct", LanguageRule::Destruct),
+    ("no_drop", LanguageRule::NoDrop),
 ];
 
 /// The words of sources that have no number.
@@ -139,58 +122,6 @@ fn typed_goal_at(cx: &Cx, env: u32, clause: u32) -> Result<(ParamEnv, TraitPredi
         return Err(Refusal::Condition);
     }
     Ok((env, predicate))
-}
-
-/// The candidate of the rule.
-fn by_rule(
-    alloc: Global,
-    rounds: &mut Rounds,
-    rule: Rule,
-    env: ParamEnv,
-    predicate: TraitPredicate,
-) -> Result<Candidate, NoSolutionOrStop>
-    requires goal { IsGoal trait_rules arguments_held types_held trait_goal rounds.old.context env predicate }
-    requires typed { IsTyped trait_rules rounds.old.context (trait_goal rounds.old.context.trees env predicate) }
-    ensures { probes rounds.new ≡ probes rounds.old }
-{
-    match rule {
-        Rule::Error => {
-            TraitPredicate::consider_error_guaranteed_candidate(alloc, rounds, env, predicate)
-        }
-        Rule::AutoTrait => {
-            TraitPredicate::consider_auto_trait_candidate(alloc, rounds, env, predicate)
-        }
-        Rule::TraitAlias => {
-            TraitPredicate::consider_trait_alias_candidate(alloc, rounds, env, predicate)
-        }
-        Rule::Sizedness(sizedness) => TraitPredicate::consider_builtin_sizedness_candidates(
-            alloc, rounds, env, predicate, sizedness,
-        ),
-        Rule::CopyClone => {
-            TraitPredicate::consider_builtin_copy_clone_candidate(alloc, rounds, env, predicate)
-        }
-        Rule::FnPtr => {
-            TraitPredicate::consider_builtin_fn_ptr_trait_candidate(alloc, rounds, env, predicate)
-        }
-        Rule::Fn(called) => TraitPredicate::consider_builtin_fn_trait_candidates(
-            alloc, rounds, env, predicate, called,
-        ),
-        Rule::Tuple => {
-            TraitPredicate::consider_builtin_tuple_candidate(alloc, rounds, env, predicate)
-        }
-        Rule::Pointee => {
-            TraitPredicate::consider_builtin_pointee_candidate(alloc, rounds, env, predicate)
-        }
-        Rule::DiscriminantKind => TraitPredicate::consider_builtin_discriminant_kind_candidate(
-            alloc, rounds, env, predicate,
-        ),
-        Rule::Destruct => {
-            TraitPredicate::consider_builtin_destruct_candidate(alloc, rounds, env, predicate)
-        }
-        Rule::NoDrop => TraitPredicate::consider_builtin_bikeshed_guaranteed_no_drop_candidate(
-            alloc, rounds, env, predicate,
-        ),
-    }
 }
 
 /// The clause of that number, in which no parameter may stand.
@@ -282,7 +213,7 @@ fn consider(
     }
     let rule = value_of(&RULES, row.first).ok_or(Refusal::Condition)?;
     let (env, predicate) = typed_goal_at(rounds.cx(), of.left, of.right)?;
-    let candidate = by_rule(alloc, rounds, rule, env, predicate)?;
+    let candidate = consider_language_rule(alloc, rounds, env, predicate, rule)?;
     found(alloc, &candidate)
 }
 

@@ -210,7 +210,7 @@ fn walk_chain<E: EvalCtxt, G: GoalKind<E>>(
 /// It stops at the first rule that stops, with that stop; `Stop::AliasDepth` comes where the chain has more aliases than `ALIAS_CHAIN`;
 /// `Stop::Memory` comes where a list can't grow, `Stop::NodesFull` where a bound was not made. Other stops are the evaluator's. The state is
 /// left alike the one before.
-pub fn assemble_alias_bound_candidates<E: EvalCtxt, G: GoalKind<E>>(
+pub(crate) fn assemble_alias_bound_candidates<E: EvalCtxt, G: GoalKind<E>>(
     alloc: Global,
     ecx: &mut E,
     env: ParamEnv,

@@ -85,7 +85,7 @@ fn rule_among_items(cx: &Cx, trait_id: TraitId) -> Option<LanguageRule>
 }
 
 /// The rule that the language has for the trait, if it has one: an auto trait and a trait alias have theirs whatever items they are.
-pub fn builtin_rule_of(cx: &Cx, trait_id: TraitId) -> Option<LanguageRule>
+pub(crate) fn builtin_rule_of(cx: &Cx, trait_id: TraitId) -> Option<LanguageRule>
     ensures { if_named result ≡ rule_of_trait cx.now trait_id.0 }
 {
     if let Some(flags) = cx.trait_flags(trait_id) {
@@ -161,7 +161,7 @@ pub fn consider_language_rule<E: EvalCtxt, G: GoalKind<E>>(
 /// general variable nor a bound type.
 ///
 /// It stops as the rule does; `Stop::Memory` comes where the list can't grow. The state is left alike the one before.
-pub fn assemble_language_candidates<E: EvalCtxt, G: GoalKind<E>>(
+pub(crate) fn assemble_language_candidates<E: EvalCtxt, G: GoalKind<E>>(
     alloc: Global,
     ecx: &mut E,
     env: ParamEnv,

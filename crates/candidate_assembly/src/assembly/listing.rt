@@ -65,7 +65,7 @@ pub(crate) fn push_or_note(
 ///
 /// It stops at the first clause whose rule stops, with that stop; `Stop::Memory` comes where a list can't grow. The state is left alike the
 /// one before.
-pub fn assemble_param_env_candidates<E: EvalCtxt, G: GoalKind<E>>(
+pub(crate) fn assemble_param_env_candidates<E: EvalCtxt, G: GoalKind<E>>(
     alloc: Global,
     ecx: &mut E,
     env: ParamEnv,
@@ -155,7 +155,7 @@ pub fn consider_impl_and_respond<E: EvalCtxt, G: GoalKind<E>>(
 ///
 /// It stops at the first impl whose rule stops, with that stop; `Stop::Memory` comes where a list can't grow. The state is left alike the
 /// one before.
-pub fn assemble_impl_candidates<E: EvalCtxt, G: GoalKind<E>>(
+pub(crate) fn assemble_impl_candidates<E: EvalCtxt, G: GoalKind<E>>(
     alloc: Global,
     ecx: &mut E,
     env: ParamEnv,

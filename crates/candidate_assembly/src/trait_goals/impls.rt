@@ -17,10 +17,10 @@ ghost use Rattle.candidate_eval.specs.Rules.{add, equate};
 ghost use Rattle.candidate_eval.specs.States.{State, fresh_variables, with_fresh_variables};
 ghost use Rattle.candidate_eval.specs.declared.eval.source.CandidateSource.{CandidateSource};
 ghost use Rattle.candidate_eval.specs.declared.eval.source.CandidateSource.TheVariants as source;
-ghost use Rattle.candidate_assembly.specs.Closures.{IsCallableWith, Responds, TellsWith};
+ghost use Rattle.candidate_assembly.specs.Closures.{IsCallableWith, TellsWith};
 ghost use Rattle.candidate_assembly.specs.Impls.{IsDeclared, IsNamed, declared_steps, impl_kinds, steps_at};
-ghost use Rattle.candidate_assembly.specs.Kinds.{IsGoal, part_judged, rule_of_part, steps_judged};
-ghost use Rattle.candidate_assembly.specs.Telling.{Considers, StopsOfItself, Told, ToldAs, standing};
+ghost use Rattle.candidate_assembly.specs.Kinds.{IsGoal, part_judged, steps_judged};
+ghost use Rattle.candidate_assembly.specs.Telling.{StopsOfItself, Told, ToldAs, standing};
 ghost use Rattle.candidate_assembly.specs.TraitGoals.{arguments_held, impl_part_at, trait_goal, types_held};
 ghost use Rattle.candidate_assembly.specs.TraitRules.{trait_rules};
 
@@ -346,33 +346,4 @@ pub fn consider_impl<
     };
     let args = predicate.trait_ref.args;
     probe_impl(alloc, ecx, env, args, of, certainty, then)
-}
-
-/// The rule of an impl, where the response is asked for after its steps, with at most the certainty that the impl gives.
-///
-/// `NoSolution` comes where the rule doesn't apply, where the header's arguments can't be equated with the goal's, and where the evaluator
-/// refuses. The stops are those of growing a list, of making nodes and of the evaluator. The state is left alike the one before, whatever
-/// is answered.
-pub fn consider_impl_and_respond<E: EvalCtxt>(
-    alloc: Global,
-    ecx: &mut E,
-    env: ParamEnv,
-    predicate: TraitPredicate,
-    of: ImplId,
-) -> Result<Candidate, NoSolutionOrStop>
-    requires goal { IsGoal trait_rules arguments_held types_held trait_goal (E.context ecx.old) env predicate }
-    ensures { Considers E.fixed E.judge E.state E.probes E.context E.stops ecx.old ecx.new (rule_of_part (env_forest (E.context ecx.old).trees env) (source.Impl of) (impl_part_at (E.context ecx.old) (E.state ecx.old).mode (trait_goal (E.context ecx.old).trees env predicate) of)) result }
-{
-    consider_impl(
-        alloc,
-        ecx,
-        env,
-        predicate,
-        of,
-        |ecx: &mut E, certainty: Certainty| -> Result<CanonicalResponse, NoSolutionOrStop>
-            ensures kept { Keeps E.fixed E.probes E.context ecx.old ecx.new }
-            ensures told { Responds (E.context ecx.new).trees result ((E.judge (E.fixed ecx.old)).responded (E.state ecx.old) certainty) }
-            ensures cause { IfErr result (by_stop (StopsOfItself E.fixed E.context E.state E.stops ecx.old)) }
-        { ecx.evaluate_added_goals_and_make_canonical_response(certainty) },
-    )
 }
