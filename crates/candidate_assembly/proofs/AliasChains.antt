@@ -1,12 +1,11 @@
 -- The chain of aliases that a goal's self type begins, from one alias to the next.
-use Rattle.std.proofs.Common.{◌≡◌, ◌<◌, ◌≤◌, ◌+◌, ℕ, zero, suc, Bool, true, false, ◌==◌, Option, Some, None, List, [], ◌∷◌, ◌++◌, length, map, refl, sym, ap, subst, ◌∙◌, arith, slice_get, get_or, if◌then◌else◌, option_map, inl, inr, ◌⊎◌, All}
-use Rattle.std.specs.Prelude.{IfErr, IfOk, IfSome, Result, Ok, Err}
+use Rattle.std.proofs.Common.{◌≡◌, ◌<◌, ◌≤◌, ◌+◌, ℕ, zero, suc, true, false, ◌==◌, Option, Some, None, List, [], ◌∷◌, ◌++◌, length, map, refl, sym, ap, subst, ◌∙◌, arith, slice_get, get_or, if◌then◌else◌, option_map, inl, inr, ◌⊎◌, All}
+use Rattle.std.specs.Prelude.{IfErr, IfSome, Result, Ok, Err}
 use Rattle.std.proofs.lemmas.List.{append-nil, map-append}
 use Rattle.std.proofs.lemmas.List.Elements.{All-cons}
 use Rattle.std.proofs.lemmas.Option.{slice_get-map, slice_get_cases, slice_get_within}
 use Rattle.candidate_ir.specs.declared.decl.contents.AliasBoundKind.{AliasBoundKind}
 use Rattle.candidate_ir.specs.declared.decl.contents.AliasBoundKind.TheVariants.{SelfBounds, NonSelfBounds}
-use Rattle.candidate_ir.specs.declared.decl.definition.AssocKind.{AssocKind}
 use Rattle.candidate_ir.specs.declared.decl.definition.AssocKind.TheVariants as A
 use Rattle.candidate_ir.specs.declared.decl.definition.DefinitionKind.{DefinitionKind}
 use Rattle.candidate_ir.specs.declared.decl.definition.DefinitionKind.TheVariants as D
@@ -34,7 +33,7 @@ use Rattle.candidate_ir.specs.Held.{bounds_held, definition_held, if_there}
 use Rattle.candidate_ir.specs.Lookups.{kind_of_declared, maybe}
 use Rattle.candidate_ir.specs.Folds.{node}
 use Rattle.candidate_ir.specs.Nodes.{kind_at, tree_at}
-use Rattle.candidate_ir.specs.Owned.{AliasArgumentsFit, bounds_among}
+use Rattle.candidate_ir.specs.Owned.{bounds_among}
 use Rattle.candidate_ir.specs.WellFormed.{AreGiven, IsWellFormedTable}
 use Rattle.candidate_ir.specs.Trees.{Kind, ArgumentsKind, ConstantKind, NoKind, RegionKind, TypeKind, Forest, none, tree, Tree, holds, is_param, kind_of}
 use Rattle.candidate_ir.specs.Substitutions.{alone}
@@ -73,14 +72,13 @@ use Rattle.candidate_assembly.specs.KindLaws.{KindLaws, RulesStay}
 use Rattle.candidate_assembly.specs.Standing.{StandsAt, StandsBeside}
 use Rattle.candidate_assembly.specs.Kinds.{GoalBelow, KindRules}
 use Rattle.candidate_assembly.specs.Listing.{ConsidersAll, Listed, Lists, Stops, ToldList, after_these, answers, listed, together}
-use Rattle.candidate_assembly.specs.Telling.{StopsOfItself}
 use Rattle.candidate_assembly.proofs.Answering.{rule-moved}
 use Rattle.candidate_assembly.proofs.BoundRules.{bound_rule}
 use Rattle.candidate_assembly.proofs.Causes.{asked-here, later, made-here}
 use Rattle.candidate_assembly.proofs.Chains.{together-joined}
 use Rattle.candidate_assembly.proofs.Considering.{not-both}
 use Rattle.candidate_assembly.proofs.Listing.{answers-joined, candidates-kept, judged-alike, whole_list}
-use Rattle.candidate_assembly.proofs.Standing.{first-there, others-stand, stands-alike, stands-below, stands-made, stands-normal}
+use Rattle.candidate_assembly.proofs.Standing.{stands-alike, stands-below}
 use Rattle.candidate_assembly.proofs.Stepping.{evaluator-own, making-own}
 
 -- Aliases.
@@ -92,8 +90,7 @@ alias-tree ts a k = ap (node (H.Alias a.kind a.id)) (row-list ts a.args.0 Argume
 -- It stays where a context grows.
 pub alias-kept : (old new : Context) (a : AliasTy) → Grows old new → IsBoundedAlias old a → IsBoundedAlias new a × (kind_tree new.trees (TK.Alias a) ≡ kind_tree old.trees (TK.Alias a))
 alias-kept old new a grows b =
-    let k = args-kept old new a.args grows b.args in
-    (
+    let k = args-kept old new a.args grows b.args in (
       record {
         args = k.0;
         fit = ap (λ (w : World). alias_kinds w a.kind a.id.0) (world-kept old new grows).0 ∙ (b.fit ∙ ap (λ (ts : Forest). Some (kinds_of ts)) (sym k.1));

@@ -1,6 +1,6 @@
 -- How far a walk along a chain of aliases has come, and what it comes to.
-use Rattle.std.proofs.Common.{◌≡◌, ◌-◌, arith, ℕ, zero, suc, true, false, Option, Some, None, List, [], ◌∷◌, refl, sym, ap, subst, ◌∙◌}
-use Rattle.std.specs.Prelude.{IfErr, IfOk, IfSome, Result, Ok, Err}
+use Rattle.std.proofs.Common.{◌≡◌, ◌-◌, arith, ℕ, zero, suc, true, false, Option, Some, None, List, ◌∷◌, refl, sym, ap, subst, ◌∙◌}
+use Rattle.std.specs.Prelude.{IfErr, Result, Ok, Err}
 use Rattle.candidate_ir.specs.declared.decl.contents.AliasBoundKind.{AliasBoundKind}
 use Rattle.candidate_ir.specs.declared.decl.contents.AliasBoundKind.TheVariants.{SelfBounds, NonSelfBounds}
 use Rattle.candidate_ir.specs.declared.ir.heads.Head.{Head}
@@ -31,7 +31,7 @@ use Rattle.candidate_eval.specs.States.{Env, Judge, State}
 use Rattle.candidate_eval.proofs.Accounts.{reaches}
 use Rattle.candidate_eval.proofs.Objects.{env-kept}
 use Rattle.candidate_eval.proofs.Probing.{alike-probe, keeps-probe, then as after}
-use Rattle.candidate_assembly.specs.AliasBounds.{Comes, answers_of_link, end_answers, end_at, has_bounds, is_opaque, is_projection, link, link_rules, no_bounds, opaque, projection, refused, stopped, too_long}
+use Rattle.candidate_assembly.specs.AliasBounds.{Comes, answers_of_link, end_answers, end_at, has_bounds, is_projection, link, link_rules, no_bounds, opaque, projection, refused, stopped, too_long}
 use Rattle.candidate_assembly.specs.AliasChains.{ChainFollows, Continues, GoesTo, IsBoundedAlias, WalksChain, WasGoal}
 use Rattle.candidate_assembly.specs.AliasChains.GoesTo.{ends, further, nowhere}
 use Rattle.candidate_assembly.specs.KindBounds.{Additional, KindBounds}
@@ -254,7 +254,7 @@ module _ {E X G P : Type 0} {fixed : E → X} {judge : X → Judge} {state : E �
             let J = judge (fixed first) in
             let t = kind_tree (context mid).trees (TK.Alias a) in
             let there = beside-alike K J (lawful (fixed first)).alike_judged_alike (state now) (state mid) (see (context now).trees env p) (see (context mid).trees env p) (ty_tree (context now).trees ty) t says.seen
-                ((alias-kept (context now) (context mid) a considered.kept.grows bounded).1 ∙ tree-is) like s.stands in
+            ((alias-kept (context now) (context mid) a considered.kept.grows bounded).1 ∙ tree-is) like s.stands in
             let q = goes-projection h.goes in
             let normal : J.normalized (state mid) (K.env_of (see (context mid).trees env p)) (first_tree t.children) ≡ Some (ty_tree (context new).trees next, state new)
             = ap (λ e. J.normalized (state mid) e (first_tree t.children)) (given (context mid).trees env p) ∙ (ap (λ j. (judge j).normalized (state mid) (env_forest (context mid).trees env) (first_tree t.children)) (sym same-fixed) ∙ q.1) in
@@ -296,9 +296,9 @@ module _ {E X A : Type 0} {fixed : E → X} {judge : X → Judge} {state : E →
         alike = alike-probe fixed probes judge state old began ran new f opens w.kept.fixed_same w.kept.probes_same closed;
         told = list-grown (λ _. xs) (context ran) (context new) answer after-grows
             (list-as (λ _. xs) (context ran).trees answer (λ l h.
-                subst (λ cs. ChainFollows K more (judge (fixed old)) (context old) g (state old) cs l) (candidates-kept (context old) (context began) before grows fit).1
-                (subst (λ S. ChainFollows K more (judge (fixed old)) (context old) g S (candidates_of (context began).trees before) l) same
-                (subst (λ j. ChainFollows K more (judge j) (context old) g (state began) (candidates_of (context began).trees before) l) f h)))
+            subst (λ cs. ChainFollows K more (judge (fixed old)) (context old) g (state old) cs l) (candidates-kept (context old) (context began) before grows fit).1
+            (subst (λ S. ChainFollows K more (judge (fixed old)) (context old) g S (candidates_of (context began).trees before) l) same
+            (subst (λ j. ChainFollows K more (judge j) (context old) g (state began) (candidates_of (context began).trees before) l) f h)))
             (w.told (context old) (record { grows = grows; table = table; goal = goal })));
         cause = so-err answer (λ z. later (record { same = f; grows = grows })) w.cause;
       }

@@ -28,11 +28,11 @@ use Rattle.candidate_eval.specs.Certainties.{AMBIGUOUS}
 use Rattle.candidate_eval.specs.ImplRules.{TraitGoal}
 use Rattle.candidate_eval.specs.States.{Judge}
 use Rattle.candidate_eval.proofs.RuleToy.{judge, start_with, u8, slice, param, rigid, var, meets}
-use Rattle.candidate_assembly.specs.Assembled.{rule_of_trait, impl_rules, leaves_out, trait_bounds, where_rules}
+use Rattle.candidate_assembly.specs.Assembled.{rule_of_trait, impl_rules, leaves_out, where_rules}
 use Rattle.candidate_assembly.specs.Kinds.{AutoTraitRule, SizednessRule}
 use Rattle.candidate_assembly.specs.Listing.{Listed, Lists, Stops, answers}
 use Rattle.candidate_assembly.specs.Opaques.{AssembleFrom, Everything, EnvAndBounds, variable_answers}
-use Rattle.candidate_assembly.specs.TraitRules.{trait_rules}
+use Rattle.candidate_assembly.specs.TraitRules.{trait_bounds, trait_rules}
 use Rattle.candidate_assembly.proofs.ShownLists.{Shown, Row, show}
 
 -- Traits 0 to 3: a plain one; an auto trait; one that is `MetaSized` and `Copy`; one that is `Unsize` alone. The opaque type 4 has one

@@ -1,6 +1,6 @@
 -- What stands at a state: it mentions only the state's variables, and it stands at states alike that one, with normal forms, and with values put
 -- in.
-use Rattle.std.proofs.Common.{◌≡◌, ◌<◌, ◌≤◌, ◌+◌, ℕ, get_or, Bool, true, false, not, ◌&&◌, Option, Some, None, List, [], ◌∷◌, length, refl, sym, ap, subst, ◌∙◌, arith, nat_le, nat_lt, slice_get, if◌then◌else◌, inl, inr, ◌⊎◌}
+use Rattle.std.proofs.Common.{◌≡◌, ◌<◌, ◌≤◌, ◌+◌, ℕ, get_or, Bool, true, false, not, ◌&&◌, Option, Some, None, ◌∷◌, length, refl, sym, ap, subst, ◌∙◌, arith, nat_le, nat_lt, if◌then◌else◌, inl, inr, ◌⊎◌}
 use Rattle.std.specs.Option.{unwrap_or}
 use Rattle.std.proofs.lemmas.Bool.{and_parts, le-ltb, lt-leb, lt-ltb, ltb-false, ltb-true}
 use Rattle.std.proofs.lemmas.Option.{slice_get_cases, slice_get_within}
@@ -22,8 +22,8 @@ use Rattle.candidate_ir.proofs.Folding.{begin}
 use Rattle.candidate_eval.specs.declared.eval.variable.VariableKind.{VariableKind}
 use Rattle.candidate_eval.specs.declared.eval.variable.VariableKind.TheVariants.{Term, Region}
 use Rattle.candidate_eval.specs.Alike.{JudgesAlike, LooksAlike, info}
-use Rattle.candidate_eval.specs.Lawful.{HasNoParameter, IsNormalForm, NormalFormLaws}
-use Rattle.candidate_eval.specs.Mentions.{IsBelow, is_at_least, is_from}
+use Rattle.candidate_eval.specs.Lawful.{HasNoParameter, NormalFormLaws}
+use Rattle.candidate_eval.specs.Mentions.{IsBelow, is_from}
 use Rattle.candidate_eval.specs.ObjectRequirements.{first_tree}
 use Rattle.candidate_eval.specs.Soundness.{AreTreesOf, FitsVariable, IsLater, IsSound, Live, ValuesFit, Within, has_value, is_strange, is_variable_above, universe_in, universes, fits_kind, is_region}
 use Rattle.candidate_eval.specs.States.{Env, Judge, State, Values, VariableInfo, has_kind, is_some, resolved, same_kind, value_as, value_at, value_in, value_of}

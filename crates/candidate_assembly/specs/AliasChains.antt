@@ -1,7 +1,5 @@
 -- What calls say that walk a chain of aliases.
-use Rattle.std.specs.Prelude.{◌≡◌, ℕ, true, false, Option, Some, None, Result, IfErr, IfOk, IfSome, List, option_map}
-use Rattle.candidate_ir.specs.declared.decl.contents.AliasBoundKind.{AliasBoundKind}
-use Rattle.candidate_ir.specs.declared.decl.contents.AliasBoundKind.TheVariants.{SelfBounds}
+use Rattle.std.specs.Prelude.{◌≡◌, true, Option, Some, None, Result, IfErr, IfOk, IfSome, List, option_map}
 use Rattle.candidate_ir.specs.declared.ir.heads.Head.TheVariants as H
 use Rattle.candidate_ir.specs.declared.ir.kinds.AliasTy.{AliasTy}
 use Rattle.candidate_ir.specs.declared.ir.kinds.Args.{Args}

@@ -1,5 +1,4 @@
-use Rattle.std.proofs.Common.{◌≡◌, true}
-use Rattle.candidate_ir.specs.declared.ir.heads.Head.TheVariants as H
+use Rattle.std.proofs.Common.{◌≡◌}
 use Rattle.candidate_ir.specs.declared.ir.kinds.TyKind.TheVariants as K
 use Rattle.candidate_ir.specs.Nodes.{kind_at}
 use Rattle.candidate_ir.specs.Trees.{ArgumentsKind}

@@ -1,13 +1,10 @@
-use Rattle.std.proofs.Common.{◌≡◌, ◌++◌, Err, List, length, sym, subst, ap, ◌∙◌}
+use Rattle.std.proofs.Common.{Err, subst, ap, ◌∙◌}
 use Rattle.std.proofs.lemmas.Result.{err_from_is_err_and}
 use Rattle.candidate_ir.specs.declared.ir.kinds.TyKind.TheVariants as K
-use Rattle.candidate_ir.specs.Substitutions.{alone}
 use Rattle.candidate_ir.specs.declared.ir.stop.Stop.TheVariants.{Memory}
 use Rattle.candidate_ir.specs.WellFormed.{IsWellFormedTable}
 use Rattle.candidate_ir.specs.Words.{kind_tree}
-use Rattle.candidate_eval.specs.Mentions.{IsBelow}
 use Rattle.candidate_assembly.specs.AliasBounds.{bound_rules}
-use Rattle.candidate_assembly.specs.Standing.{StandsBeside}
 use Rattle.candidate_assembly.proofs.AliasChains.{additional-at, alias-kept, alias-parts, alias-parts-later, both-listed, first-stop, not-joined, second-stop}
 use Rattle.candidate_assembly.proofs.Keeping.{goal-kept}
 use Rattle.candidate_assembly.proofs.assembly.alias_chain.consider_alias.Goals as goal
@@ -88,7 +85,7 @@ returns-in_err-more g c =
     let done = c.in_ok-consider_alias_bounds.ensures in
     let says = g.met.G.GoalKind.stays old now c.args.env c.args.predicate done.kept.grows c.requires.goal in
     let same = additional-at G.rules G.bounds g.met.G.GoalKind.laws (E.judge (E.fixed first)) (E.judge (E.fixed mid)) (g.met.E.EvalCtxt.lawful (E.fixed first)).alike_judged_alike (ap E.judge done.kept.fixed_same) old now (E.state first) (E.state mid)
-        seen (G.seen now.trees c.args.env c.args.predicate) c.args.alias (subst IsWellFormedTable c.cx.ensures c.table_is_well_formed.ensures) done.kept.grows says.seen c.requires.alias done.alike c.requires.stands in
+    seen (G.seen now.trees c.args.env c.args.predicate) c.args.alias (subst IsWellFormedTable c.cx.ensures c.table_is_well_formed.ensures) done.kept.grows says.seen c.requires.alias done.alike c.requires.stands in
     let p = err_from_is_err_and c.from_residual-in_err-more.result c.from_residual-in_err-more.ensures.1 in
     second-stop (λ f. (g.met.E.EvalCtxt.lawful f).alike_judged_alike) first mid c.args.candidates.now.items (bound_rules G.rules old seen c.args.kind t) (G.bounds.additional old seen t)
     c.consider_additional_alias_assumptions.new.ecx c.consider_alias_bounds.new.candidates.items _ done _ same c.in_err-more.field-0.0 c.in_err-more.ensures c.from_residual-in_err-more.result (p.1 ∙ ap Err p.2)
@@ -106,7 +103,7 @@ returns-in_err-append g c =
     let done = c.in_ok-consider_alias_bounds.ensures in
     let says = g.met.G.GoalKind.stays old now c.args.env c.args.predicate done.kept.grows c.requires.goal in
     let same = additional-at G.rules G.bounds g.met.G.GoalKind.laws (E.judge (E.fixed first)) (E.judge (E.fixed mid)) (g.met.E.EvalCtxt.lawful (E.fixed first)).alike_judged_alike (ap E.judge done.kept.fixed_same) old now (E.state first) (E.state mid)
-        seen (G.seen now.trees c.args.env c.args.predicate) c.args.alias (subst IsWellFormedTable c.cx.ensures c.table_is_well_formed.ensures) done.kept.grows says.seen c.requires.alias done.alike c.requires.stands in
+    seen (G.seen now.trees c.args.env c.args.predicate) c.args.alias (subst IsWellFormedTable c.cx.ensures c.table_is_well_formed.ensures) done.kept.grows says.seen c.requires.alias done.alike c.requires.stands in
     let p = err_from_is_err_and c.from_residual-in_err-append.result c.from_residual-in_err-append.ensures.1 in
     not-joined (λ f. (g.met.E.EvalCtxt.lawful f).alike_judged_alike) first mid c.args.candidates.now.items (bound_rules G.rules old seen c.args.kind t) (G.bounds.additional old seen t)
     c.consider_additional_alias_assumptions.new.ecx c.consider_alias_bounds.new.candidates.items _ done _ same c.in_ok-more.more Memory tt c.in_ok-more.ensures c.from_residual-in_err-append.result (p.1 ∙ ap Err p.2)
@@ -124,6 +121,6 @@ returns g c =
     let done = c.in_ok-consider_alias_bounds.ensures in
     let says = g.met.G.GoalKind.stays old now c.args.env c.args.predicate done.kept.grows c.requires.goal in
     let same = additional-at G.rules G.bounds g.met.G.GoalKind.laws (E.judge (E.fixed first)) (E.judge (E.fixed mid)) (g.met.E.EvalCtxt.lawful (E.fixed first)).alike_judged_alike (ap E.judge done.kept.fixed_same) old now (E.state first) (E.state mid)
-        seen (G.seen now.trees c.args.env c.args.predicate) c.args.alias (subst IsWellFormedTable c.cx.ensures c.table_is_well_formed.ensures) done.kept.grows says.seen c.requires.alias done.alike c.requires.stands in
+    seen (G.seen now.trees c.args.env c.args.predicate) c.args.alias (subst IsWellFormedTable c.cx.ensures c.table_is_well_formed.ensures) done.kept.grows says.seen c.requires.alias done.alike c.requires.stands in
     both-listed (λ f. (g.met.E.EvalCtxt.lawful f).alike_judged_alike) first mid c.args.candidates.now.items (bound_rules G.rules old seen c.args.kind t) (G.bounds.additional old seen t)
     c.consider_additional_alias_assumptions.new.ecx c.consider_alias_bounds.new.candidates.items _ done _ same (λ v. v.items) c.in_ok-more.more c.append.new.self.items _ c.in_ok-append.ensures.items c.in_ok-more.ensures

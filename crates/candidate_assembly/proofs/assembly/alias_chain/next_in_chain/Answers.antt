@@ -1,10 +1,9 @@
-use Rattle.std.proofs.Common.{◌≡◌, Bool, true, false, not, refl, sym, subst, ap, ◌∙◌}
+use Rattle.std.proofs.Common.{◌≡◌, true, false, subst, ap}
 use Rattle.candidate_ir.specs.declared.ir.heads.Head.TheVariants as H
 use Rattle.candidate_ir.specs.declared.ir.kinds.AliasKind.{AliasKind}
-use Rattle.candidate_ir.specs.declared.ir.kinds.AliasKind.TheVariants as AK
 use Rattle.candidate_ir.specs.declared.ir.kinds.TyKind.TheVariants as K
 use Rattle.candidate_ir.specs.Context.{Context}
-use Rattle.candidate_ir.specs.Words.{IsTy, env_forest, kind_tree, ty_tree}
+use Rattle.candidate_ir.specs.Words.{env_forest, kind_tree, ty_tree}
 use Rattle.candidate_eval.specs.Accounts.{by_stop}
 use Rattle.candidate_eval.specs.Accounts.Question.{normalize}
 use Rattle.candidate_eval.specs.ObjectRequirements.{first_tree}
