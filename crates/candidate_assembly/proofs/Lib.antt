@@ -41,4 +41,5 @@ pub mod Tails
 pub mod Mixing
 pub mod MixedForests
 pub mod StructParts
+pub mod BoundClauses
 pub mod BoundRules

@@ -2,6 +2,7 @@
 
 pub mod alias_bounds;
 pub mod characterize;
+pub(crate) mod dyn_bounds;
 pub mod kind;
 pub mod language;
 pub mod listing;
