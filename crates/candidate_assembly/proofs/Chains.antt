@@ -13,7 +13,8 @@ use Rattle.candidate_ir.specs.Trees.{Tree}
 use Rattle.candidate_eval.specs.Objects.{IsExact}
 use Rattle.candidate_eval.specs.ObjectRequirements.{first_tree}
 use Rattle.candidate_eval.specs.States.{State, Judge}
-use Rattle.candidate_assembly.specs.AliasBounds.{Additional, Chain, Comes, Done, TooLong, by_alias, chain, chain_answers, end_answers, end_at, ended, go_on, has_bounds, is_opaque, is_projection, link, link_rules, with_link, no_bounds, too_long, stopped, opaque, refused, projection}
+use Rattle.candidate_assembly.specs.KindBounds.{Additional}
+use Rattle.candidate_assembly.specs.AliasBounds.{Chain, Comes, Done, TooLong, by_alias, chain, chain_answers, end_answers, end_at, ended, go_on, has_bounds, is_opaque, is_projection, link, link_rules, with_link, no_bounds, too_long, stopped, opaque, refused, projection}
 use Rattle.candidate_assembly.specs.Kinds.{KindRules}
 use Rattle.candidate_assembly.specs.Listing.{Listed, Lists, Stops, all_answers, answers_at, together}
 

@@ -42,4 +42,6 @@ pub mod Mixing
 pub mod MixedForests
 pub mod StructParts
 pub mod BoundClauses
+pub mod DynRequirements
+pub mod ToDyn
 pub mod BoundRules
