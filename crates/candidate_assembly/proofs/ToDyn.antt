@@ -1,10 +1,14 @@
 -- The rule by which a type becomes a `dyn` type, and that there is none or one that doesn't apply.
 use Rattle.std.proofs.Common.{◌≡◌, Bool, true, false, Option, Some, None, List, [], ◌∷◌, Result, Ok, refl, sym, ap, subst, ◌∙◌}
 use Rattle.std.specs.Prelude.{IfSome, if◌then◌else◌}
+use Rattle.candidate_ir.specs.declared.decl.contents.LangItem.TheVariants as L
 use Rattle.candidate_ir.specs.declared.ir.kinds.TraitId.{TraitId}
+use Rattle.candidate_ir.specs.declared.ir.kinds.Ty.{Ty}
 use Rattle.candidate_ir.specs.declared.ir.stop.Stop.{Stop}
-use Rattle.candidate_ir.specs.Context.{Context}
+use Rattle.candidate_ir.specs.Context.{Context, world}
 use Rattle.candidate_ir.specs.Trees.{Tree}
+use Rattle.candidate_ir.specs.Words.{ty_tree}
+use Rattle.candidate_ir.specs.Worlds.{TraitSort, parameters}
 use Rattle.candidate_eval.specs.declared.eval.certainty.Certainty.TheVariants.{Yes}
 use Rattle.candidate_eval.specs.declared.eval.refusal.NoSolutionOrStop.{NoSolutionOrStop}
 use Rattle.candidate_eval.specs.declared.eval.response.Candidate.{Candidate as OfNumbers}
@@ -20,6 +24,7 @@ use Rattle.candidate_assembly.specs.DynBounds.{is_compatible, principal_in}
 use Rattle.candidate_assembly.specs.Listing.{Adds, ConsidersAll, Listed, Lists, answers, listed, together}
 use Rattle.candidate_assembly.specs.Requirements.{requiring_rule}
 use Rattle.candidate_assembly.specs.Telling.{Considers}
+use Rattle.candidate_assembly.specs.TraitGoals.{item_trait}
 use Rattle.candidate_assembly.specs.Unsizing.{any_to_dyn, dyn_steps}
 use Rattle.candidate_assembly.proofs.Considering.{considers-same}
 use Rattle.candidate_assembly.proofs.Listing.{no-rule-listed, one-listed, whole_list}
@@ -28,14 +33,26 @@ use Rattle.candidate_assembly.proofs.Listing.{no-rule-listed, one-listed, whole_
 abbrev pub dyn-rule : Bool → Env → TraitId → Tree → Tree → Rule
 dyn-rule b e sized from to = record { env = e; applies = b; steps = dyn_steps sized from to; ending = ask misc Yes }
 
--- What an option is.
+-- What was read of a context that is this one.
 
-pub no-some : {A : Type 0} (o : Option A) → ((x : A) → o ≡ Some x → ⊥) → o ≡ None
+no-some : {A : Type 0} (o : Option A) → ((x : A) → o ≡ Some x → ⊥) → o ≡ None
 no-some None n = refl
 no-some (Some x) n = absurd (n x refl)
 
-pub some-has : {A : Type 0} (x : A) (o : Option A) (P : A → Type 0) → o ≡ Some x → IfSome o P → P x
-some-has x o P e h = subst (λ y. IfSome y P) e h
+pub sized-read : (seen old : Context) (o : Option TraitId) (i : TraitId) → seen ≡ old → o ≡ item_trait seen L.Sized → o ≡ Some i → item_trait old L.Sized ≡ Some i
+sized-read seen old o i this e is = subst (λ (x : Context). item_trait x L.Sized ≡ Some i) this (sym e ∙ is)
+
+pub no-sized-read : (seen old : Context) (o : Option TraitId) → seen ≡ old → o ≡ item_trait seen L.Sized → ((i : TraitId) → o ≡ Some i → ⊥) → item_trait old L.Sized ≡ None
+no-sized-read seen old o this e n = subst (λ (x : Context). item_trait x L.Sized ≡ None) this (sym e ∙ no-some o n)
+
+pub compatible-read : (seen old : Context) (t : Ty) (b flag : Bool) → seen ≡ old → b ≡ is_compatible seen (principal_in (ty_tree seen.trees t)) → b ≡ flag → is_compatible old (principal_in (ty_tree old.trees t)) ≡ flag
+compatible-read seen old t b flag this e is = subst (λ (x : Context). is_compatible x (principal_in (ty_tree x.trees t)) ≡ flag) this (sym e ∙ is)
+
+pub no-parameters-read : (seen old : Context) (i : TraitId) → seen ≡ old → IfSome (item_trait seen L.Sized) (λ (i : TraitId). parameters (world seen) TraitSort i.0 ≡ Some []) → item_trait old L.Sized ≡ Some i
+    → parameters (world old) TraitSort i.0 ≡ Some []
+no-parameters-read seen old i this h is =
+    let has = subst (λ (x : Context). IfSome (item_trait x L.Sized) (λ (i : TraitId). parameters (world x) TraitSort i.0 ≡ Some [])) this h in
+    subst (λ (o : Option TraitId). IfSome o (λ (i : TraitId). parameters (world old) TraitSort i.0 ≡ Some [])) is has
 
 -- No rule, or one that doesn't apply, adds nothing.
 
