@@ -111,7 +111,7 @@ fn dyn_requirements<M: Make>(
     Ok(requirements)
 }
 
-/// The candidate where the goal's self type unsizes to the target, a `dyn` type of which objects may be made, where this trait is `Sized`.
+/// The candidate where the goal's self type unsizes to the target, a `dyn` type of which objects may be made. The trait is `Sized`.
 ///
 /// `NoSolution` comes where the evaluator refuses; the stops are those of making nodes and lists, and the evaluator's. The state is left
 /// alike the one before.

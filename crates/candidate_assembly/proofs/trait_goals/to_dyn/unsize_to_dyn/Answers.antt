@@ -27,8 +27,8 @@ returns-then-not-is_dyn_compatible g c =
     let to = ty_tree old.trees c.args.target in
     nothing-listed (λ f. (g.met.E.EvalCtxt.lawful f).alike_judged_alike) first c.args.candidates.now.items tt (any_to_dyn old now (self_of now) to (item_trait old Sized)) c.requires.candidates
     (not-compatible (E.judge (E.fixed first)) (E.state first) old now (self_of now) to (item_trait old Sized) c.in-Some.sized
-        (sized-read c.cx-2.result.now old c.lang_item.result c.in-Some.sized c.cx-2.ensures c.lang_item.ensures c.in-Some.is)
-        (compatible-read c.cx-3.result.now old c.args.target c.is_dyn_compatible.result false c.cx-3.ensures c.is_dyn_compatible.ensures c.if-not-is_dyn_compatible.true))
+    (sized-read c.cx-2.result.now old c.lang_item.result c.in-Some.sized c.cx-2.ensures c.lang_item.ensures c.in-Some.is)
+    (compatible-read c.cx-3.result.now old c.args.target c.is_dyn_compatible.result false c.cx-3.ensures c.is_dyn_compatible.ensures c.if-not-is_dyn_compatible.true))
 
 pub consider_dyn-answer-requires-clause-sized : goal.consider_dyn-answer-requires-clause-sized
 consider_dyn-answer-requires-clause-sized g c =
