@@ -210,12 +210,6 @@ trait-args-there ts b r f e = of (subst (λ (v : ExistentialPredicate). PredFits
     of : PredFits ts (bound-of b.vars (E.Trait r)) → IsArgs ts r.args
     of f = cc
 
-pub projection-args-there : (ts : List Tree) (b : Binder ExistentialPredicate) (p : ExistentialProjection) → PredFits ts b → b.value ≡ E.Projection p → IsArgs ts p.args
-projection-args-there ts b p f e = of (subst (λ (v : ExistentialPredicate). PredFits ts (bound-of b.vars v)) e f)
-  where
-    of : PredFits ts (bound-of b.vars (E.Projection p)) → IsArgs ts p.args
-    of f = cc
-
 -- the type before them
 pub type-before : (ts : List Tree) (t : Ty) (xs ys : List GenericArg) (args : Forest) → IsTy ts t → list_forest ts xs ≡ args → ys ≡ G.Ty t ∷ xs → list_forest ts ys ≡ type-first (ty_tree ts t) args
 type-before ts t xs ys args k e s = ap (list_forest ts) s ∙ (row-single ts t.0 TypeKind (list_forest ts xs) refl refl k ∙ ap (type-first (ty_tree ts t)) e)
