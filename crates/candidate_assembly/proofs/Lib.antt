@@ -41,6 +41,9 @@ pub mod Tails
 pub mod Mixing
 pub mod MixedForests
 pub mod StructParts
+pub mod BoundClauses
+pub mod DynRequirements
+pub mod ToDyn
 pub mod BoundRules
 pub mod AdtParts
 pub mod TwoTypes

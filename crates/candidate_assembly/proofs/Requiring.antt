@@ -1,20 +1,27 @@
 -- What a rule requires besides the clause that it matches becomes pending.
-use Rattle.std.proofs.Common.{◌≡◌, ℕ, suc, ◌+◌, ◌<◌, ◌≤◌, refl, sym, ap, ◌∙◌, List, [], ◌∷◌, ◌++◌, append_assoc, arith, get_or, length, map, take}
+use Rattle.std.proofs.Common.{◌≡◌, ℕ, suc, ◌+◌, ◌<◌, ◌≤◌, refl, sym, ap, subst, ◌∙◌, Result, List, [], ◌∷◌, ◌++◌, append_assoc, arith, get_or, length, map, take}
 use Rattle.std.proofs.lemmas.List.{append-nil, map_more, take_all}
 use Rattle.candidate_ir.specs.declared.ir.kinds.ParamEnv.{ParamEnv}
 use Rattle.candidate_ir.specs.Context.{Context, Grows}
-use Rattle.candidate_ir.specs.Trees.{Forest, Tree}
+use Rattle.candidate_ir.specs.Trees.{Forest, Tree, is_param, none, tree_holds}
 use Rattle.candidate_ir.specs.Words.{IsClause, IsParamEnv, clause_tree, env_forest}
 use Rattle.candidate_ir.proofs.Joining.{clause-kept}
 use Rattle.candidate_eval.specs.declared.eval.certainty.Certainty.{Certainty}
+use Rattle.candidate_eval.specs.declared.eval.certainty.Certainty.TheVariants.{Yes}
+use Rattle.candidate_eval.specs.declared.eval.refusal.NoSolutionOrStop.{NoSolutionOrStop}
+use Rattle.candidate_eval.specs.declared.eval.response.CanonicalResponse.{CanonicalResponse}
+use Rattle.candidate_eval.specs.declared.eval.source.BuiltinImplSource.TheVariants.{Misc}
 use Rattle.candidate_eval.specs.declared.eval.source.CandidateSource.{CandidateSource}
-use Rattle.candidate_eval.specs.Judging.{asked, comes_to}
-use Rattle.candidate_eval.specs.Rules.{ask}
+use Rattle.candidate_eval.specs.declared.eval.source.CandidateSource.TheVariants.{BuiltinImpl}
+use Rattle.candidate_eval.specs.Judging.{asked, comes_to, judged}
+use Rattle.candidate_eval.specs.Rules.{add, ask}
 use Rattle.candidate_eval.specs.States.{Env, Judge, Pending, State, added, with_pending}
 use Rattle.candidate_eval.proofs.Objects.{env-kept}
-use Rattle.candidate_assembly.specs.Requirements.{RequireNoParameter, Requirement, RequirementsFit, required_goal, requirement_steps, with_requirements}
-use Rattle.candidate_assembly.specs.Telling.{standing}
+use Rattle.candidate_assembly.specs.Closures.{Responds}
+use Rattle.candidate_assembly.specs.Requirements.{RequireNoParameter, Requirement, RequirementsFit, required_goal, requirement_steps, requiring_rule, with_requirements}
+use Rattle.candidate_assembly.specs.Telling.{ToldAs, standing}
 use Rattle.candidate_assembly.proofs.Flat.{nothing-put}
+use Rattle.candidate_assembly.proofs.Stepping.{responds-told}
 
 abbrev pending-with : Requirement → Env → Tree → Pending
 pending-with r e t = record { source = r.0; goal = record { env = e; clause = t } }
@@ -67,3 +74,29 @@ requirements-come J ts env source c S ls (r ∷ rs) free =
     ap (λ t. comes_to J (env_forest ts env) (standing (added S (pending-with r (env_forest ts env) t)) ls) (requirement_steps ts rs) (ask source c)) (nothing-put ls (clause_tree ts r.1) (free 0 r (omega arith)))
     ∙ (requirements-come J ts env source c (added S g) ls rs (λ k d l. free (suc k) d (omega (arith, l)))
     ∙ ap (λ ps. asked J (with_pending S ps) source c) (append_assoc S.pending (g ∷ []) (map (required_goal ts env) rs)))
+
+-- The steps are the same where a context has grown, and no parameter stands in them then.
+
+step-kept : (old new : Context) (r : Requirement) → Grows old new → IsClause old.trees r.1 → add r.0 (clause_tree new.trees r.1) ≡ add r.0 (clause_tree old.trees r.1)
+step-kept old new r grows c = ap (add r.0) (clause-kept old new r.1 grows c).1
+
+pub steps-kept : (old new : Context) (rs : List Requirement) → Grows old new → RequirementsFit old.trees rs → requirement_steps new.trees rs ≡ requirement_steps old.trees rs
+steps-kept old new [] grows fits = refl
+steps-kept old new (r ∷ rs) grows fits =
+    ap (λ x. x ∷ requirement_steps new.trees rs) (step-kept old new r grows (fits 0 r (omega arith)))
+    ∙ ap (λ xs. add r.0 (clause_tree old.trees r.1) ∷ xs) (steps-kept old new rs grows (λ k d l. fits (suc k) d (omega (arith, l))))
+
+pub required-free : (old new : Context) (rs : List Requirement) → Grows old new → RequirementsFit old.trees rs → RequireNoParameter old.trees rs → RequireNoParameter new.trees rs
+required-free old new rs grows fits free = λ k d l. ap (tree_holds is_param) (clause-kept old new (get_or rs k d).1 grows (fits k d l)).1 ∙ free k d l
+
+pub rule-kept : (old new : Context) (env : ParamEnv) (rs : List Requirement) → Grows old new → IsParamEnv old.trees env → RequirementsFit old.trees rs
+    → requiring_rule (env_forest new.trees env) (requirement_steps new.trees rs) ≡ requiring_rule (env_forest old.trees env) (requirement_steps old.trees rs)
+rule-kept old new env rs grows e fits =
+    ap (λ x. requiring_rule x (requirement_steps new.trees rs)) (env-kept old new env grows e).1 ∙ ap (requiring_rule (env_forest old.trees env)) (steps-kept old new rs grows fits)
+
+-- An answer by the requirements is what is judged of the rule.
+pub requiring-told : (J : Judge) (ts us : List Tree) (env : ParamEnv) (S : State) (rs : List Requirement) (r : Result CanonicalResponse NoSolutionOrStop) → RequireNoParameter ts rs
+    → Responds us r (J.responded (with_requirements ts env S rs) Yes) → ToldAs us (BuiltinImpl Misc) r (judged J S (requiring_rule (env_forest ts env) (requirement_steps ts rs)))
+requiring-told J ts us env S rs r free h =
+    subst (λ j. ToldAs us (BuiltinImpl Misc) r j) (sym (requirements-come J ts env (BuiltinImpl Misc) Yes S none rs free))
+    (responds-told us (BuiltinImpl Misc) r (J.responded (with_requirements ts env S rs) Yes) h)

@@ -6,10 +6,17 @@ use Rattle.candidate_ir.specs.declared.ir.heads.Head.TheVariants as H
 use Rattle.candidate_ir.specs.declared.ir.heads.PartHead.TheVariants as P
 use Rattle.candidate_ir.specs.declared.ir.heads.PredHead.TheVariants as PH
 use Rattle.candidate_ir.specs.declared.ir.heads.ClauseHead.TheVariants as Cl
+use Rattle.candidate_ir.specs.declared.ir.kinds.Args.{Args}
+use Rattle.candidate_ir.specs.declared.ir.kinds.ClauseKind.{ClauseKind}
+use Rattle.candidate_ir.specs.declared.ir.kinds.ClauseKind.TheVariants as K
+use Rattle.candidate_ir.specs.declared.ir.kinds.ExistentialPredicate.{ExistentialPredicate}
+use Rattle.candidate_ir.specs.declared.ir.kinds.ExistentialPredicate.TheVariants as E
 use Rattle.candidate_ir.specs.declared.ir.kinds.PredicatePolarity.TheVariants as Pol
+use Rattle.candidate_ir.specs.declared.ir.kinds.TraitId.{TraitId}
 use Rattle.candidate_ir.specs.Context.{Context}
 use Rattle.candidate_ir.specs.Elaboration.{AreSupertraits}
-use Rattle.candidate_ir.specs.Trees.{Tree}
+use Rattle.candidate_ir.specs.Trees.{Forest, none, Tree}
+use Rattle.candidate_ir.specs.Words.{args_forest}
 use Rattle.candidate_eval.specs.Callable.{all_but_last, last_tree}
 use Rattle.candidate_eval.specs.Required.{clause_head_of, each_of, said_of}
 use Rattle.candidate_assembly.specs.BuiltinRules.{flag_of_trait}
@@ -74,6 +81,22 @@ clause_head_by h = clause_head_of h
 
 abbrev pub bound_said : Tree → Tree → Tree
 bound_said type bound = record { head = clause_head_by bound.head; children = (said_of type bound).children }
+
+-- The same of numbers: the arguments of a bound, of which one by an auto trait has none, and what it says with a list of arguments, which is
+-- the type before the bound's own.
+
+abbrev pub bound_arguments : List Tree → ExistentialPredicate → Forest
+bound_arguments ts (E.Trait r) = args_forest ts r.args
+bound_arguments ts (E.Projection p) = args_forest ts p.args
+bound_arguments ts (E.AutoTrait i) = none
+
+abbrev pub trait_said : TraitId → Args → ClauseKind
+trait_said i a = K.Trait (record { trait_ref = record { def_id = i; args = a }; polarity = Pol.Positive })
+
+abbrev pub kind_said : ExistentialPredicate → Args → ClauseKind
+kind_said (E.Trait r) a = trait_said r.def_id a
+kind_said (E.Projection p) a = K.Projection (record { projection_term = record { def_id = p.def_id; args = a }; term = p.term })
+kind_said (E.AutoTrait i) a = trait_said i a
 
 -- The supertraits of a `dyn` type's principal, the principal itself being number 0; without one there are none.
 

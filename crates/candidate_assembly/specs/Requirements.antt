@@ -1,13 +1,16 @@
 -- What a rule requires besides the clause that it matches: clauses, each with the source of the goal that it becomes.
-use Rattle.std.specs.Prelude.{◌≡◌, All, false, List, ◌++◌, map}
+use Rattle.std.specs.Prelude.{◌≡◌, All, false, true, List, ◌++◌, map}
 use Rattle.candidate_ir.specs.declared.ir.kinds.Clause.{Clause}
 use Rattle.candidate_ir.specs.declared.ir.kinds.GoalSource.{GoalSource}
 use Rattle.candidate_ir.specs.declared.ir.kinds.ParamEnv.{ParamEnv}
 use Rattle.candidate_ir.specs.Trees.{Tree, is_param, tree_holds}
 use Rattle.candidate_ir.specs.Words.{IsClause, clause_tree}
+use Rattle.candidate_eval.specs.declared.eval.certainty.Certainty.TheVariants.{Yes}
+use Rattle.candidate_eval.specs.declared.eval.source.BuiltinImplSource.TheVariants.{Misc}
+use Rattle.candidate_eval.specs.declared.eval.source.CandidateSource.TheVariants.{BuiltinImpl}
 use Rattle.candidate_eval.specs.Evaluators.{pending_of}
-use Rattle.candidate_eval.specs.Rules.{Step, add}
-use Rattle.candidate_eval.specs.States.{Pending, State, with_pending}
+use Rattle.candidate_eval.specs.Rules.{Rule, Step, add, ask}
+use Rattle.candidate_eval.specs.States.{Env, Pending, State, with_pending}
 
 abbrev pub Requirement : Type 0
 Requirement = GoalSource × Clause
@@ -31,3 +34,7 @@ required_goal ts env r = pending_of ts r.0 (record { param_env = env; predicate 
 -- the state with them pending, in their order
 abbrev pub with_requirements : List Tree → ParamEnv → State → List Requirement → State
 with_requirements ts env S rs = with_pending S (S.pending ++ map (required_goal ts env) rs)
+
+-- A rule of the language that matches nothing: by these steps, which require something, and then it asks.
+abbrev pub requiring_rule : Env → List Step → Rule
+requiring_rule e steps = record { env = e; applies = true; steps = steps; ending = ask (BuiltinImpl Misc) Yes }

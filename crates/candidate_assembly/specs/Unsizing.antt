@@ -142,13 +142,18 @@ dyn_to_dyn c supers g from to =
     if keeps_principal (principal_in from) (principal_in to) then upcast_rule c supers g misc from to (first_listed supers) ∷ []
     else upcasts c supers g from to 1 (without_first supers)
 
+-- What becomes pending where a type is to be a `dyn` type, in this order: that it meets the bounds, that it is sized, and that it outlives the
+-- region.
+abbrev pub dyn_steps : TraitId → Tree → Tree → List Step
+dyn_steps sized from to = nested (map (bound_said from) (bounds_in to) ++ meets sized from ∷ []) ++ nested_misc (outlives Cl.TypeOutlives from (region_in to) ∷ [])
+
 -- Any type to `dyn`: it meets the bounds, is sized and outlives the region. Objects of the principal's trait may be made.
 abbrev pub any_to_dyn : Context → TraitGoal → Tree → Tree → Option TraitId → List Rule
 any_to_dyn c g from to None = []
 any_to_dyn c g from to (Some sized) = record {
   env = g.env;
   applies = is_compatible c (principal_in to);
-  steps = nested (map (bound_said from) (bounds_in to) ++ meets sized from ∷ []) ++ nested_misc (outlives Cl.TypeOutlives from (region_in to) ∷ []);
+  steps = dyn_steps sized from to;
   ending = ask misc Yes;
 } ∷ []
 

@@ -3,6 +3,7 @@
 pub(crate) mod alias_bounds;
 pub(crate) mod alias_chain;
 pub mod characterize;
+pub(crate) mod dyn_bounds;
 pub mod kind;
 pub mod language;
 pub mod listing;

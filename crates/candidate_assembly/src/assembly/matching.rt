@@ -9,17 +9,17 @@ ghost use Rattle.candidate_eval.specs.Judging.{comes_to, judged, start};
 ghost use Rattle.candidate_eval.specs.Rules.{ask, characterise, settle};
 ghost use Rattle.candidate_assembly.specs.Closures.{Responds};
 ghost use Rattle.candidate_assembly.specs.Kinds.{IsAssumption, IsGoal, match_rule};
-ghost use Rattle.candidate_assembly.specs.Requirements.{RequireNoParameter, RequirementsFit, requirement_steps, with_requirements};
+ghost use Rattle.candidate_assembly.specs.Requirements.{RequireNoParameter, RequirementsFit, requirement_steps, requiring_rule, with_requirements};
 ghost use Rattle.candidate_assembly.specs.Telling.{Considers, StopsOfItself, Told, without_usages};
 
 use crate::assembly::characterize::characterize_param_env_assumption;
 use crate::assembly::kind::GoalKind;
-use crate::assembly::steps::respond_as;
+use crate::assembly::steps::{respond_as, with_source};
 use candidate_eval::eval::certainty::Certainty;
-use candidate_eval::eval::context::EvalCtxt;
+use candidate_eval::eval::context::{EvalCtxt, ProbeKind};
 use candidate_eval::eval::refusal::NoSolutionOrStop;
 use candidate_eval::eval::response::{Candidate, CandidateHeadUsages, CanonicalResponse};
-use candidate_eval::eval::source::CandidateSource;
+use candidate_eval::eval::source::{BuiltinImplSource, CandidateSource};
 use candidate_ir::ir::kinds::{Clause, Goal, GoalSource, ParamEnv};
 use candidate_ir::ir::stop::Stop;
 use std::alloc::Global;
@@ -82,6 +82,28 @@ pub(crate) fn require_and_respond<E: EvalCtxt>(
 {
     add_requirements(ecx, env, requirements)?;
     ecx.evaluate_added_goals_and_make_canonical_response(Certainty::Yes)
+}
+
+/// The candidate of a rule of the language that matches nothing: in a probe the requirements become pending goals in the environment, and a
+/// response is asked for.
+///
+/// `NoSolution` comes where the evaluator refuses the response; the stops are the evaluator's. The state is left alike the one before.
+pub(crate) fn consider_requirements<E: EvalCtxt>(
+    alloc: Global,
+    ecx: &mut E,
+    env: ParamEnv,
+    requirements: &[(GoalSource, Clause)],
+) -> Result<Candidate, NoSolutionOrStop>
+    requires env { IsParamEnv (E.context ecx.old).trees env }
+    requires requirements { RequirementsFit (E.context ecx.old).trees requirements.now }
+    requires free { RequireNoParameter (E.context ecx.old).trees requirements.now }
+    ensures { Considers E.fixed E.judge E.state E.probes E.context E.stops ecx.old ecx.new (requiring_rule (env_forest (E.context ecx.old).trees env) (requirement_steps (E.context ecx.old).trees requirements.now)) result }
+{
+    let probe = ecx.begin_probe(ProbeKind::Kept)?;
+    let answer = require_and_respond(ecx, env, requirements);
+    let _usages = ecx.end_probe(probe);
+    let source = CandidateSource::BuiltinImpl(BuiltinImplSource::Misc);
+    with_source(alloc, source, answer)
 }
 
 /// The candidate of a source by a clause that implies the goal where some requirements hold: in a probe the clause is matched, the

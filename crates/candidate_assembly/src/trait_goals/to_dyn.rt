@@ -1,23 +1,139 @@
 //! Any type to `dyn`: it meets the bounds, is sized and outlives the region.
 
-ghost use Rattle.std.specs.Prelude.{◌≡◌};
+ghost use Rattle.std.specs.Prelude.{◌≡◌, [], Some, false, map, IfErr, IfOk};
+ghost use Rattle.candidate_ir.specs.Context.{Grows, world};
+ghost use Rattle.candidate_ir.specs.Trees.{is_param, tree_holds};
+ghost use Rattle.candidate_ir.specs.Words.{IsClause, IsPreds, IsRegion, IsTy, clause_tree, env_forest, preds_forest, region_tree, ty_tree};
+ghost use Rattle.candidate_ir.specs.Worlds.{TraitSort, parameters};
 ghost use Rattle.candidate_ir.specs.declared.decl.contents.LangItem.TheVariants as item;
+ghost use Rattle.candidate_ir.specs.declared.ir.heads.ClauseHead.TheVariants as Cl;
 ghost use Rattle.candidate_ir.specs.declared.ir.heads.Head.TheVariants as H;
-ghost use Rattle.candidate_ir.specs.Words.{IsTy, ty_tree};
+ghost use Rattle.candidate_eval.specs.Evaluators.{IsMakingStop};
+ghost use Rattle.candidate_eval.specs.Required.{each_of};
 ghost use Rattle.candidate_eval.specs.ResponseTrees.{AreCandidates};
+ghost use Rattle.candidate_eval.specs.Rules.{nested};
 ghost use Rattle.candidate_assembly.specs.BuiltinRules.{self_of};
+ghost use Rattle.candidate_assembly.specs.DynBounds.{bound_said};
 ghost use Rattle.candidate_assembly.specs.Kinds.{IsGoal};
 ghost use Rattle.candidate_assembly.specs.Listing.{ConsidersAll, after_these, answers};
+ghost use Rattle.candidate_assembly.specs.Requirements.{RequirementsFit, requirement_steps, requiring_rule};
 ghost use Rattle.candidate_assembly.specs.Standing.{BothStand};
+ghost use Rattle.candidate_assembly.specs.Telling.{Considers};
 ghost use Rattle.candidate_assembly.specs.TraitGoals.{arguments_held, item_trait, trait_goal, types_held};
 ghost use Rattle.candidate_assembly.specs.TraitRules.{trait_rules};
-ghost use Rattle.candidate_assembly.specs.Unsizing.{any_to_dyn};
+ghost use Rattle.candidate_assembly.specs.Unsizing.{any_to_dyn, dyn_steps, outlives};
 
+use crate::assembly::dyn_bounds::{bound_clause, dyn_parts, is_dyn_compatible};
+use crate::assembly::listing::push_considered;
+use crate::assembly::matching::consider_requirements;
+use crate::trait_goals::meeting::{item_has_no_parameters, meets_trait};
+use candidate_eval::eval::clauses::self_ty;
 use candidate_eval::eval::context::EvalCtxt;
+use candidate_eval::eval::refusal::NoSolutionOrStop;
 use candidate_eval::eval::response::Candidate;
-use candidate_ir::ir::kinds::{ParamEnv, TraitPredicate, Ty};
+use candidate_ir::decl::contents::LangItem;
+use candidate_ir::decl::make::{Build, Make};
+use candidate_ir::ir::kinds::{
+    Binder, Clause, ClauseKind, GoalSource, ParamEnv, Preds, Region, TraitId, TraitPredicate, Ty,
+};
 use candidate_ir::ir::stop::Stop;
+use candidate_ir::ir::trees::Trees;
 use std::alloc::Global;
+
+/// What the bounds say of the type, in their order, as requirements. `Stop::Memory` comes where a growth was refused, `Stop::NodesFull` where
+/// a node was not made.
+fn bound_requirements<M: Make>(
+    alloc: Global,
+    make: &mut M,
+    ty: Ty,
+    bounds: Preds,
+) -> Result<Vec<(GoalSource, Clause)>, Stop>
+    requires ty { IsTy (M.context make.old).trees ty }
+    requires bounds { IsPreds (M.context make.old).trees bounds }
+    ensures grows { Grows (M.context make.old) (M.context make.new) }
+    ensures rest { M.rest make.new ≡ M.rest make.old }
+    ensures fit { IfOk result (λ v. RequirementsFit (M.context make.new).trees v.items) }
+    ensures steps { IfOk result (λ v. requirement_steps (M.context make.new).trees v.items ≡ nested (map (bound_said (ty_tree (M.context make.old).trees ty)) (each_of (preds_forest (M.context make.old).trees bounds)))) }
+    ensures cause { IfErr result IsMakingStop }
+{
+    let listed = Vec::from_slice(alloc, make.cx().preds(bounds))?;
+    let mut requirements = Vec::new(alloc);
+    for bound in &listed {
+        let clause = bound_clause(alloc, make, ty, *bound)?;
+        requirements.push((GoalSource::ImplWhereBound, clause))?;
+    }
+    Ok(requirements)
+}
+
+/// That the type outlives the region, as a clause under an empty binder. `Stop::Memory` comes where a growth was refused, `Stop::NodesFull`
+/// where a node was not made.
+fn outlives<M: Make>(make: &mut M, ty: Ty, region: Region) -> Result<Clause, Stop>
+    requires ty { IsTy (M.context make.old).trees ty }
+    requires region { IsRegion (M.context make.old).trees region }
+    ensures grows { Grows (M.context make.old) (M.context make.new) }
+    ensures rest { M.rest make.new ≡ M.rest make.old }
+    ensures sort { IfOk result (λ x. IsClause (M.context make.new).trees x) }
+    ensures tree { IfOk result (λ x. clause_tree (M.context make.new).trees x ≡ outlives Cl.TypeOutlives (ty_tree (M.context make.old).trees ty) (region_tree (M.context make.old).trees region)) }
+    ensures cause { IfErr result IsMakingStop }
+{
+    let vars = make.mk_vars(&[])?;
+    make.mk_clause(Binder {
+        vars,
+        value: ClauseKind::TypeOutlives(ty, region),
+    })
+}
+
+/// What the type has to fulfil so as to become the target, a `dyn` type: each of the bounds, in their order, that it is sized, and that it
+/// outlives the region. It stops as `bound_requirements`.
+fn dyn_requirements<M: Make>(
+    alloc: Global,
+    make: &mut M,
+    ty: Ty,
+    target: Ty,
+    sized: TraitId,
+) -> Result<Vec<(GoalSource, Clause)>, Stop>
+    requires ty { IsTy (M.context make.old).trees ty }
+    requires target { IsTy (M.context make.old).trees target }
+    requires dynamic { (ty_tree (M.context make.old).trees target).head ≡ H.Dynamic }
+    requires sized { parameters (world (M.context make.old)) TraitSort sized.0 ≡ Some [] }
+    ensures grows { Grows (M.context make.old) (M.context make.new) }
+    ensures rest { M.rest make.new ≡ M.rest make.old }
+    ensures fit { IfOk result (λ v. RequirementsFit (M.context make.new).trees v.items) }
+    ensures steps { IfOk result (λ v. requirement_steps (M.context make.new).trees v.items ≡ dyn_steps sized (ty_tree (M.context make.old).trees ty) (ty_tree (M.context make.old).trees target)) }
+    ensures cause { IfErr result IsMakingStop }
+{
+    let (bounds, region) = dyn_parts(make.cx(), target);
+    let mut requirements = bound_requirements(alloc, make, ty, bounds)?;
+    let is_sized = meets_trait(make, sized, ty)?;
+    let lives = outlives(make, ty, region)?;
+    requirements.push((GoalSource::ImplWhereBound, is_sized))?;
+    requirements.push((GoalSource::Misc, lives))?;
+    Ok(requirements)
+}
+
+/// The candidate where the goal's self type unsizes to the target, a `dyn` type of which objects may be made. The trait is `Sized`.
+///
+/// `NoSolution` comes where the evaluator refuses; the stops are those of making nodes and lists, and the evaluator's. The state is left
+/// alike the one before.
+fn consider_dyn<E: EvalCtxt>(
+    alloc: Global,
+    ecx: &mut E,
+    env: ParamEnv,
+    predicate: TraitPredicate,
+    target: Ty,
+    sized: TraitId,
+) -> Result<Candidate, NoSolutionOrStop>
+    requires goal { IsGoal trait_rules arguments_held types_held trait_goal (E.context ecx.old) env predicate }
+    requires target { IsTy (E.context ecx.old).trees target }
+    requires free { tree_holds is_param (ty_tree (E.context ecx.old).trees target) ≡ false }
+    requires dynamic { (ty_tree (E.context ecx.old).trees target).head ≡ H.Dynamic }
+    requires sized { parameters (world (E.context ecx.old)) TraitSort sized.0 ≡ Some [] }
+    ensures { Considers E.fixed E.judge E.state E.probes E.context E.stops ecx.old ecx.new (requiring_rule (env_forest (E.context ecx.old).trees env) (dyn_steps sized (self_of (trait_goal (E.context ecx.old).trees env predicate)) (ty_tree (E.context ecx.old).trees target))) result }
+{
+    let ty = self_ty(ecx.cx(), predicate.trait_ref);
+    let requirements = dyn_requirements(alloc, ecx, ty, target, sized)?;
+    consider_requirements(alloc, ecx, env, requirements.as_slice())
+}
 
 /// Adds the candidate where the goal's self type unsizes to the target, a `dyn` type in normal form: it meets the bounds, is sized and
 /// outlives the region. Nothing is added where `Sized` isn't declared or no object of the principal's trait may be made.
@@ -38,5 +154,13 @@ pub(crate) fn unsize_to_dyn<E: EvalCtxt>(
     requires candidates { AreCandidates (E.context ecx.old).trees candidates.old.items }
     ensures { ConsidersAll E.fixed E.judge E.state E.probes E.context E.stops ecx.old ecx.new (E.state ecx.old) (λ _. candidates.new.items) (λ l. l ≡ after_these (E.context ecx.old).trees candidates.old.items (answers (E.judge (E.fixed ecx.old)) (E.state ecx.old) (any_to_dyn (E.context ecx.old) (trait_goal (E.context ecx.old).trees env predicate) (self_of (trait_goal (E.context ecx.old).trees env predicate)) (ty_tree (E.context ecx.old).trees target) (item_trait (E.context ecx.old) item.Sized)))) result }
 {
-    unreachable!()
+    item_has_no_parameters(ecx.cx(), LangItem::Sized);
+    let Some(sized) = ecx.cx().lang_item(LangItem::Sized) else {
+        return Ok(());
+    };
+    if !is_dyn_compatible(ecx.cx(), target) {
+        return Ok(());
+    }
+    let answer = consider_dyn(alloc, ecx, env, predicate, target, sized);
+    push_considered(candidates, answer)
 }

@@ -1,0 +1,92 @@
+use Rattle.std.proofs.Common.{rules, ◌≡◌, [], ◌∷◌, ◌++◌, map, sym, ap, subst, ◌∙◌}
+use Rattle.candidate_ir.specs.declared.ir.heads.ClauseHead.TheVariants.{TypeOutlives}
+use Rattle.candidate_ir.specs.declared.ir.kinds.GoalSource.TheVariants.{ImplWhereBound, Misc}
+use Rattle.candidate_ir.specs.Context.{Context}
+use Rattle.candidate_ir.specs.Trees.{Tree}
+use Rattle.candidate_ir.specs.Words.{IsPreds, IsRegion, preds_forest, region_tree, ty_tree}
+use Rattle.candidate_ir.specs.Worlds.{World, TraitSort, parameters}
+use Rattle.candidate_ir.proofs.Kept.{grows-trans, ty-kept, world-kept}
+use Rattle.candidate_eval.specs.Required.{each_of}
+use Rattle.candidate_eval.specs.Rules.{nested}
+use Rattle.candidate_assembly.specs.BuiltinRules.{meets}
+use Rattle.candidate_assembly.specs.DynBounds.{bound_said, bounds_in, region_in}
+use Rattle.candidate_assembly.specs.Unsizing.{outlives}
+use Rattle.candidate_assembly.proofs.DynRequirements.{ArePartsOf, dyn-required, region-still}
+use Rattle.candidate_assembly.proofs.trait_goals.to_dyn.dyn_requirements.Goals as goal
+
+pub bound_requirements-requires-clause-bounds : goal.bound_requirements-requires-clause-bounds
+bound_requirements-requires-clause-bounds g c = subst (λ (x : Context). IsPreds x.trees c.dyn_parts.result.0) c.cx.ensures c.dyn_parts.ensures.preds
+
+pub meets_trait-requires-clause-ty : goal.meets_trait-requires-clause-ty
+meets_trait-requires-clause-ty g c = (ty-kept (g.M.Build.context c.args.make.now) (g.M.Build.context c.bound_requirements.new.make) c.args.ty c.bound_requirements.ensures.grows c.requires.ty).0
+
+pub meets_trait-requires-clause-no_parameters : goal.meets_trait-requires-clause-no_parameters
+meets_trait-requires-clause-no_parameters g c =
+    ap (λ (w : World). parameters w TraitSort c.args.sized.0) (world-kept (g.M.Build.context c.args.make.now) (g.M.Build.context c.bound_requirements.new.make) c.bound_requirements.ensures.grows).0 ∙ c.requires.sized
+
+pub outlives-requires-clause-ty : goal.outlives-requires-clause-ty
+outlives-requires-clause-ty g c =
+    let start = g.M.Build.context c.args.make.now in
+    let mid = g.M.Build.context c.meets_trait.new.make in
+    (ty-kept start mid c.args.ty (grows-trans start (g.M.Build.context c.bound_requirements.new.make) mid c.bound_requirements.ensures.grows c.meets_trait.ensures.grows) c.requires.ty).0
+
+pub outlives-requires-clause-region : goal.outlives-requires-clause-region
+outlives-requires-clause-region g c =
+    let start = g.M.Build.context c.args.make.now in
+    let mid = g.M.Build.context c.meets_trait.new.make in
+    let region = subst (λ (x : Context). IsRegion x.trees c.dyn_parts.result.1) c.cx.ensures c.dyn_parts.ensures.region in
+    (region-still start mid c.dyn_parts.result.1 (grows-trans start (g.M.Build.context c.bound_requirements.new.make) mid c.bound_requirements.ensures.grows c.meets_trait.ensures.grows) region).0
+
+pub returns-in_err-is_sized-clause-grows : goal.returns-in_err-is_sized-clause-grows
+returns-in_err-is_sized-clause-grows g c =
+    grows-trans (g.M.Build.context c.args.make.now) (g.M.Build.context c.bound_requirements.new.make) (g.M.Build.context c.meets_trait.new.make) c.bound_requirements.ensures.grows c.meets_trait.ensures.grows
+
+pub returns-in_err-lives-clause-grows : goal.returns-in_err-lives-clause-grows
+returns-in_err-lives-clause-grows g c =
+    let start = g.M.Build.context c.args.make.now in
+    let mid = g.M.Build.context c.meets_trait.new.make in
+    grows-trans start mid (g.M.Build.context c.outlives.new.make) (grows-trans start (g.M.Build.context c.bound_requirements.new.make) mid c.bound_requirements.ensures.grows c.meets_trait.ensures.grows) c.outlives.ensures.grows
+
+pub returns-in_err-push-clause-grows : goal.returns-in_err-push-clause-grows
+returns-in_err-push-clause-grows g c =
+    let start = g.M.Build.context c.args.make.now in
+    let mid = g.M.Build.context c.meets_trait.new.make in
+    grows-trans start mid (g.M.Build.context c.outlives.new.make) (grows-trans start (g.M.Build.context c.bound_requirements.new.make) mid c.bound_requirements.ensures.grows c.meets_trait.ensures.grows) c.outlives.ensures.grows
+
+pub returns-in_err-push-2-clause-grows : goal.returns-in_err-push-2-clause-grows
+returns-in_err-push-2-clause-grows g c =
+    let start = g.M.Build.context c.args.make.now in
+    let mid = g.M.Build.context c.meets_trait.new.make in
+    grows-trans start mid (g.M.Build.context c.outlives.new.make) (grows-trans start (g.M.Build.context c.bound_requirements.new.make) mid c.bound_requirements.ensures.grows c.meets_trait.ensures.grows) c.outlives.ensures.grows
+
+pub returns-clause-grows : goal.returns-clause-grows
+returns-clause-grows g c =
+    let start = g.M.Build.context c.args.make.now in
+    let mid = g.M.Build.context c.meets_trait.new.make in
+    grows-trans start mid (g.M.Build.context c.outlives.new.make) (grows-trans start (g.M.Build.context c.bound_requirements.new.make) mid c.bound_requirements.ensures.grows c.meets_trait.ensures.grows) c.outlives.ensures.grows
+
+pub returns-clause-fit : goal.returns-clause-fit
+returns-clause-fit g c =
+    let start = g.M.Build.context c.args.make.now in
+    let list = c.push.new.self.items in
+    let one : list ≡ c.in_ok-requirements.requirements.items ++ (ImplWhereBound, c.in_ok-is_sized.is_sized) ∷ [] = search rules in
+    let two : c.push-2.new.self.items ≡ list ++ (Misc, c.in_ok-lives.lives) ∷ [] = search rules in
+    let parts = c.dyn_parts.ensures in
+    let read = subst (λ (x : Context). ArePartsOf x.trees c.args.target c.dyn_parts.result.0 c.dyn_parts.result.1) c.cx.ensures (record { region = parts.region; bounds = parts.bounds; region_tree = parts.region_tree }) in
+    (dyn-required start (g.M.Build.context c.bound_requirements.new.make) (g.M.Build.context c.meets_trait.new.make) (g.M.Build.context c.outlives.new.make) c.args.ty c.args.target c.dyn_parts.result.0 c.dyn_parts.result.1 c.args.sized
+    c.in_ok-requirements.requirements.items list c.push-2.new.self.items c.in_ok-is_sized.is_sized c.in_ok-lives.lives read c.requires.ty
+    c.bound_requirements.ensures.grows c.in_ok-requirements.ensures.fit c.in_ok-requirements.ensures.steps
+    c.meets_trait.ensures.grows c.in_ok-is_sized.ensures.sort c.in_ok-is_sized.ensures.tree c.outlives.ensures.grows c.in_ok-lives.ensures.sort c.in_ok-lives.ensures.tree one two).fit
+
+pub returns-clause-steps : goal.returns-clause-steps
+returns-clause-steps g c =
+    let start = g.M.Build.context c.args.make.now in
+    let list = c.push.new.self.items in
+    let one : list ≡ c.in_ok-requirements.requirements.items ++ (ImplWhereBound, c.in_ok-is_sized.is_sized) ∷ [] = search rules in
+    let two : c.push-2.new.self.items ≡ list ++ (Misc, c.in_ok-lives.lives) ∷ [] = search rules in
+    let parts = c.dyn_parts.ensures in
+    let read = subst (λ (x : Context). ArePartsOf x.trees c.args.target c.dyn_parts.result.0 c.dyn_parts.result.1) c.cx.ensures (record { region = parts.region; bounds = parts.bounds; region_tree = parts.region_tree }) in
+    (dyn-required start (g.M.Build.context c.bound_requirements.new.make) (g.M.Build.context c.meets_trait.new.make) (g.M.Build.context c.outlives.new.make) c.args.ty c.args.target c.dyn_parts.result.0 c.dyn_parts.result.1 c.args.sized
+    c.in_ok-requirements.requirements.items list c.push-2.new.self.items c.in_ok-is_sized.is_sized c.in_ok-lives.lives read c.requires.ty
+    c.bound_requirements.ensures.grows c.in_ok-requirements.ensures.fit c.in_ok-requirements.ensures.steps
+    c.meets_trait.ensures.grows c.in_ok-is_sized.ensures.sort c.in_ok-is_sized.ensures.tree c.outlives.ensures.grows c.in_ok-lives.ensures.sort c.in_ok-lives.ensures.tree one two).are

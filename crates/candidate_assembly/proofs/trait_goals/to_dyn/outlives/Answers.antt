@@ -1,0 +1,38 @@
+use Rattle.std.proofs.Common.{◌∙◌, ap}
+use Rattle.candidate_ir.specs.declared.ir.heads.ClauseHead.TheVariants.{TypeOutlives}
+use Rattle.candidate_ir.specs.Trees.{Tree}
+use Rattle.candidate_ir.specs.Words.{region_tree, ty_tree}
+use Rattle.candidate_ir.proofs.Kept.{grows-trans, ty-kept}
+use Rattle.candidate_assembly.specs.Unsizing.{outlives}
+use Rattle.candidate_assembly.proofs.Causes.{so-ok}
+use Rattle.candidate_assembly.proofs.DynRequirements.{lives-fits, lives-is, lives-takes, region-still}
+use Rattle.candidate_assembly.proofs.trait_goals.to_dyn.outlives.Goals as goal
+
+pub mk_clause-requires-clause-fits : goal.mk_clause-requires-clause-fits
+mk_clause-requires-clause-fits g c =
+    let old = g.M.Build.context c.args.make.now in
+    let mid = g.M.Build.context c.mk_vars.new.self in
+    let grows = c.mk_vars.ensures.made.kept in
+    lives-fits mid.trees c.in_ok-vars.vars c.args.ty c.args.region c.in_ok-vars.ensures.made.sort (ty-kept old mid c.args.ty grows c.requires.ty).0 (region-still old mid c.args.region grows c.requires.region).0
+
+pub mk_clause-requires-clause-takes : goal.mk_clause-requires-clause-takes
+mk_clause-requires-clause-takes g c = λ strict.
+    let old = g.M.Build.context c.args.make.now in
+    let mid = g.M.Build.context c.mk_vars.new.self in
+    let grows = c.mk_vars.ensures.made.kept in
+    lives-takes mid c.in_ok-vars.vars c.args.ty c.args.region c.in_ok-vars.ensures.made.sort (ty-kept old mid c.args.ty grows c.requires.ty).0 (region-still old mid c.args.region grows c.requires.region).0 c.in_ok-vars.ensures.made.tree
+
+pub returns-clause-tree : goal.returns-clause-tree
+returns-clause-tree g c =
+    let old = g.M.Build.context c.args.make.now in
+    let mid = g.M.Build.context c.mk_vars.new.self in
+    let grows = c.mk_vars.ensures.made.kept in
+    let ty = ty-kept old mid c.args.ty grows c.requires.ty in
+    let region = region-still old mid c.args.region grows c.requires.region in
+    let is = lives-is mid.trees c.in_ok-vars.vars c.args.ty c.args.region c.in_ok-vars.ensures.made.sort ty.0 region.0 c.in_ok-vars.ensures.made.tree in
+    let same = ap (λ (t : Tree). outlives TypeOutlives t (region_tree mid.trees c.args.region)) ty.1 ∙ ap (outlives TypeOutlives (ty_tree old.trees c.args.ty)) region.1 in
+    so-ok c.mk_clause.result (λ x m. m ∙ (is ∙ same)) c.mk_clause.ensures.made.tree
+
+pub returns-clause-grows : goal.returns-clause-grows
+returns-clause-grows g c =
+    grows-trans (g.M.Build.context c.args.make.now) (g.M.Build.context c.mk_vars.new.self) (g.M.Build.context c.mk_clause.new.self) c.mk_vars.ensures.made.kept c.mk_clause.ensures.made.kept

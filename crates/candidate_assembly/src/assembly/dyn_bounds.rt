@@ -1,0 +1,140 @@
+//! The bounds of `dyn` types, and what each says of a type.
+
+ghost use Rattle.std.specs.Prelude.{◌≡◌, IfErr, IfOk};
+ghost use Rattle.candidate_ir.specs.Context.{Grows};
+ghost use Rattle.candidate_ir.specs.Trees.{tree};
+ghost use Rattle.candidate_ir.specs.Words.{IsClause, IsPred, IsPreds, IsRegion, IsTy, ListFits, PredFits, clause_tree, list_forest, pred_tree, preds_forest, region_tree, ty_tree};
+ghost use Rattle.candidate_ir.specs.declared.ir.heads.Head.TheVariants as H;
+ghost use Rattle.candidate_eval.specs.Evaluators.{IsMakingStop};
+ghost use Rattle.candidate_eval.specs.Required.{each_of};
+ghost use Rattle.candidate_assembly.specs.DynBounds.{bound_arguments, bound_said, bounds_in, is_compatible, kind_said, principal_in, region_in, trait_said};
+
+use candidate_ir::decl::Cx;
+use candidate_ir::decl::make::{Build, Make};
+use candidate_ir::ir::kinds::{
+    AliasTerm, Args, Binder, Clause, ClauseKind, ExistentialPredicate, GenericArg, Pred,
+    PredicatePolarity, Preds, ProjectionPredicate, Region, TraitId, TraitPredicate, TraitRef, Ty,
+    TyKind,
+};
+use candidate_ir::ir::stop::Stop;
+use candidate_ir::ir::trees::Trees;
+use std::alloc::{AllocError, Global};
+
+/// The bounds and the region of a `dyn` type.
+pub(crate) fn dyn_parts(cx: &Cx, ty: Ty) -> (Preds, Region)
+    requires sort { IsTy cx.now.trees ty }
+    requires dynamic { (ty_tree cx.now.trees ty).head ≡ H.Dynamic }
+    ensures preds { IsPreds cx.now.trees result.0 }
+    ensures region { IsRegion cx.now.trees result.1 }
+    ensures bounds { bounds_in (ty_tree cx.now.trees ty) ≡ each_of (preds_forest cx.now.trees result.0) }
+    ensures region_tree { region_in (ty_tree cx.now.trees ty) ≡ region_tree cx.now.trees result.1 }
+{
+    match cx.kind(ty) {
+        TyKind::Dynamic(bounds, region) => (bounds, region),
+        _ => unreachable!(),
+    }
+}
+
+/// Whether objects of the trait of a `dyn` type's principal may be made; without a principal nothing bars them.
+pub(crate) fn is_dyn_compatible(cx: &Cx, ty: Ty) -> bool
+    requires sort { IsTy cx.now.trees ty }
+    requires dynamic { (ty_tree cx.now.trees ty).head ≡ H.Dynamic }
+    ensures { result ≡ is_compatible cx.now (principal_in (ty_tree cx.now.trees ty)) }
+{
+    let (bounds, _) = dyn_parts(cx, ty);
+    let Some(principal) = cx.principal(bounds) else {
+        return true;
+    };
+    match cx.trait_flags(principal) {
+        Some(flags) => flags.dyn_compatible,
+        None => false,
+    }
+}
+
+/// The arguments of a bound; one by an auto trait has none.
+fn bound_args(cx: &Cx, bound: Binder<ExistentialPredicate>) -> &[GenericArg]
+    requires { PredFits cx.now.trees bound }
+    ensures fit { ListFits cx.now.trees result.now }
+    ensures forest { list_forest cx.now.trees result.now ≡ bound_arguments cx.now.trees bound.value }
+{
+    match bound.value {
+        ExistentialPredicate::Trait(trait_ref) => cx.args(trait_ref.args),
+        ExistentialPredicate::Projection(projection) => cx.args(projection.args),
+        ExistentialPredicate::AutoTrait(_) => &[],
+    }
+}
+
+/// The type, and then the arguments of the bound.
+fn with_type(
+    alloc: Global,
+    cx: &Cx,
+    ty: Ty,
+    bound: Binder<ExistentialPredicate>,
+) -> Result<Vec<GenericArg>, AllocError>
+    requires ty { IsTy cx.now.trees ty }
+    requires bound { PredFits cx.now.trees bound }
+    ensures fit { IfOk result (λ v. ListFits cx.now.trees v.items) }
+    ensures forest { IfOk result (λ v. list_forest cx.now.trees v.items ≡ tree (ty_tree cx.now.trees ty).head (ty_tree cx.now.trees ty).children (bound_arguments cx.now.trees bound.value)) }
+{
+    let mut list = Vec::new(alloc);
+    list.push(GenericArg::Ty(ty))?;
+    list.extend_from_slice(bound_args(cx, bound))?;
+    Ok(list)
+}
+
+/// That the trait holds of the arguments.
+fn holds(def_id: TraitId, args: Args) -> ClauseKind
+    ensures { result ≡ trait_said def_id args }
+{
+    ClauseKind::Trait(TraitPredicate {
+        trait_ref: TraitRef { def_id, args },
+        polarity: PredicatePolarity::Positive,
+    })
+}
+
+/// What the bound says of the arguments, of which the first is the type: that its trait holds of them, or what an associated type is.
+fn kind_said(bound: ExistentialPredicate, args: Args) -> ClauseKind
+    ensures { result ≡ kind_said bound args }
+{
+    match bound {
+        ExistentialPredicate::Trait(trait_ref) => holds(trait_ref.def_id, args),
+        ExistentialPredicate::Projection(projection) => {
+            ClauseKind::Projection(ProjectionPredicate {
+                projection_term: AliasTerm {
+                    def_id: projection.def_id,
+                    args,
+                },
+                term: projection.term,
+            })
+        }
+        ExistentialPredicate::AutoTrait(id) => holds(id, args),
+    }
+}
+
+/// What a bound says of a type, as a clause under the bound's binder: that its trait holds of the type and the bound's arguments, or what an
+/// associated type of these is.
+///
+/// `Stop::Memory` comes where a growth was refused, `Stop::NodesFull` where a node was not made. After a stop the nodes that were made stay.
+pub(crate) fn bound_clause<M: Make>(
+    alloc: Global,
+    make: &mut M,
+    ty: Ty,
+    bound: Pred,
+) -> Result<Clause, Stop>
+    requires ty { IsTy (M.context make.old).trees ty }
+    requires bound { IsPred (M.context make.old).trees bound }
+    ensures grows { Grows (M.context make.old) (M.context make.new) }
+    ensures rest { M.rest make.new ≡ M.rest make.old }
+    ensures sort { IfOk result (λ x. IsClause (M.context make.new).trees x) }
+    ensures tree { IfOk result (λ x. clause_tree (M.context make.new).trees x ≡ bound_said (ty_tree (M.context make.old).trees ty) (pred_tree (M.context make.old).trees bound)) }
+    ensures cause { IfErr result IsMakingStop }
+{
+    make.cx().well_formed();
+    let bound = make.cx().pred(bound);
+    let list = with_type(alloc, make.cx(), ty, bound)?;
+    let args = make.mk_args(list.as_slice())?;
+    make.mk_clause(Binder {
+        vars: bound.vars,
+        value: kind_said(bound.value, args),
+    })
+}
