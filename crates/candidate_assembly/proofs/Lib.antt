@@ -51,3 +51,4 @@ pub mod UnsizedRows
 pub mod Standing
 pub mod AliasChains
 pub mod AliasWalks
+pub mod UnsizedTargets

@@ -25,7 +25,7 @@ ghost use Rattle.candidate_assembly.specs.TraitRules.{trait_bounds, trait_rules}
 ghost use Rattle.candidate_assembly.specs.Unsizing.{IsUnsizedTo, is_array, is_struct, row_to_adt, rules_of_row, struct_to_struct, unsizing_row, unsizing_target};
 ghost use Rattle.candidate_assembly.specs.declared.trait_goals.unsizing_rows.UnsizingRow.TheVariants as row;
 
-use crate::assembly::listing::push_considered;
+use crate::assembly::listing::{push_considered, table_is_well_formed};
 use crate::assembly::steps::forced_ambiguity;
 use crate::trait_goals::builtin::{is_positive, self_head};
 use crate::trait_goals::to_dyn::unsize_to_dyn;
@@ -243,6 +243,7 @@ fn unsize_normalized<E: EvalCtxt>(
     ensures told { ToldList (λ v. v.items) (E.context ecx.new).trees (UnsizingList trait_rules trait_bounds (E.judge (E.fixed ecx.old)) (E.context ecx.old) (E.state ecx.old) (trait_goal (E.context ecx.old).trees env predicate)) result }
     ensures cause { IfErr result (StopsOfItself E.fixed E.context E.state E.stops ecx.old) }
 {
+    table_is_well_formed(ecx.cx());
     let mut candidates = Vec::new(alloc);
     match ecx.structurally_normalize_ty(env, target) {
         Ok(target) => unsize_by_row(alloc, ecx, env, predicate, target, &mut candidates)?,
