@@ -100,7 +100,7 @@ pub bound-free : (ts : List Tree) (args : Forest) (ws : List Clause) (k : ℕ) (
 bound-free ts args ws k d a l =
     let t = get_or (map (put-into ts args) ws) k d in
     let all = All-get_or (λ (u : Tree). holds is_param (alone u) ≡ false) (map (put-into ts args) ws) k d l
-        (each-unmarked is_param (put-into ts args) ws (λ i e m. put-parameterless args (clause_tree ts (get_or ws i e)) a)) in
+    (each-unmarked is_param (put-into ts args) ws (λ i e m. put-parameterless args (clause_tree ts (get_or ws i e)) a)) in
     (holds_parts is_param t.head t.children none all).under
 
 -- the rule of a bound

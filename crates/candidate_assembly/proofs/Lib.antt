@@ -51,4 +51,3 @@ pub mod UnsizedRows
 pub mod Standing
 pub mod AliasChains
 pub mod AliasWalks
-pub mod UnsizedTargets

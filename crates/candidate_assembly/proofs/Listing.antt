@@ -101,7 +101,6 @@ stops-whole g xs k d J S B z l e =
     ∙ (ap (together B) (answers-joined J S (map g (take (k + 1) xs)) more)
     ∙ (sym (together-joined B (answers J S (map g (take (k + 1) xs))) (answers J S more)) ∙ ap (λ l. together l (answers J S more)) (sym there))))
 
-
 module _ {E X : Type 0} {fixed : E → X} {judge : X → Judge} {state : E → State} {probes : E → List State} {context : E → Context} {stops : Account E} (law : (f : X) → JudgesAlike (judge f)) where
   module _ {I : Type 0} (g : I → Rule) (xs : List I) (k : ℕ) (d : I) where
     -- one more was considered, and its answer added

@@ -13,4 +13,3 @@ pub(crate) mod parts;
 pub(crate) mod to_dyn;
 pub(crate) mod unsizing;
 pub(crate) mod unsizing_rows;
-pub(crate) mod upcasting;

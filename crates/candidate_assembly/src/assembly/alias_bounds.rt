@@ -96,7 +96,16 @@ pub(crate) fn consider_behind_variable<E: EvalCtxt, G: GoalKind<E>>(
     let _ = predicate;
     let source = CandidateSource::AliasBound(AliasBoundKind::NonSelfBounds);
     let nested = GoalSource::Misc;
-    consider_flat(alloc, ecx, env, true, nested, &[], source, Certainty::AMBIGUOUS)
+    consider_flat(
+        alloc,
+        ecx,
+        env,
+        true,
+        nested,
+        &[],
+        source,
+        Certainty::AMBIGUOUS,
+    )
 }
 
 /// Adds the candidates by the bounds of the alias, its own or those of what it is a projection of, in their order. No parameter stands in

@@ -150,7 +150,9 @@ pub fn consider_language_rule<E: EvalCtxt, G: GoalKind<E>>(
         LanguageRule::DiscriminantKind => {
             G::consider_builtin_discriminant_kind_candidate(alloc, ecx, env, predicate)
         }
-        LanguageRule::Destruct => G::consider_builtin_destruct_candidate(alloc, ecx, env, predicate),
+        LanguageRule::Destruct => G::consider_builtin_destruct_candidate(
+            alloc, ecx, env, predicate,
+        ),
         LanguageRule::NoDrop => {
             G::consider_builtin_bikeshed_guaranteed_no_drop_candidate(alloc, ecx, env, predicate)
         }

@@ -17,7 +17,6 @@ use crate::trait_goals::impls::consider_impl;
 use crate::trait_goals::matching::{fast_reject, match_clause};
 use crate::trait_goals::no_drop::consider_no_drop;
 use crate::trait_goals::parts::{consider_column, with_self_ty};
-use crate::trait_goals::unsizing_rows::consider_unsizing;
 use candidate_eval::eval::certainty::Certainty;
 use candidate_eval::eval::clauses::self_ty;
 use candidate_eval::eval::context::EvalCtxt;
@@ -29,7 +28,9 @@ use candidate_ir::decl::Cx;
 use candidate_ir::decl::contents::{ImplId, Sizedness};
 use candidate_ir::decl::make::Make;
 use candidate_ir::ir::heads::Flag;
-use candidate_ir::ir::kinds::{AliasTy, Clause, ClosureKind, ParamEnv, TraitPredicate, TraitRef, Ty};
+use candidate_ir::ir::kinds::{
+    AliasTy, Clause, ClosureKind, ParamEnv, TraitPredicate, TraitRef, Ty,
+};
 use candidate_ir::ir::stop::Stop;
 use candidate_ir::ir::trees::Trees;
 use std::alloc::Global;
@@ -135,15 +136,6 @@ impl<E: EvalCtxt> GoalKind<E> for TraitPredicate {
         _alias: AliasTy,
     ) -> Result<Vec<Candidate>, Stop> {
         Ok(Vec::new(alloc))
-    }
-
-    fn consider_structural_builtin_unsize_candidates(
-        alloc: Global,
-        ecx: &mut E,
-        env: ParamEnv,
-        predicate: Self,
-    ) -> Result<Vec<Candidate>, Stop> {
-        consider_unsizing(alloc, ecx, env, predicate)
     }
 
     fn consider_error_guaranteed_candidate(

@@ -85,7 +85,7 @@ loop-clause-preserved g c =
     let seen = G.seen start.trees c.args.env c.args.predicate in
     let there = bound-below (length (E.state first).variables) start.trees args declared k past c.requires.alias_below c.in_ok-bounds.ensures.closed inside in
     let same = bound-judged G.rules E.judge (E.fixed first) (E.fixed c.loop-clause.ecx) (λ f. (g.met.E.EvalCtxt.lawful f).alike_judged_alike) g.met.G.GoalKind.laws.below.matches start now (E.state first) (E.state c.loop-clause.ecx) seen
-        (G.seen now.trees c.args.env c.args.predicate) c.args.kind (get_or bounds k past) (clause_tree now.trees (get_or xs k d)) so.kept.fixed_same says.seen is says.fits so.alike c.requires.below there in
+    (G.seen now.trees c.args.env c.args.predicate) c.args.kind (get_or bounds k past) (clause_tree now.trees (get_or xs k d)) so.kept.fixed_same says.seen is says.fits so.alike c.requires.below there in
     let new = context c.consider_alias_bound-answer.new.ecx in
     let stay = clauses-kept now new xs c.consider_alias_bound-answer.ensures.kept.grows c.loop-clause.invariant.1 in (
       next-listed (λ f. (g.met.E.EvalCtxt.lawful f).alike_judged_alike) (bound_rule G.rules start seen c.args.kind) bounds k past first c.loop-clause.ecx c.consider_alias_bound-answer.new.ecx c.args.candidates.now.items c.loop-clause.candidates.items
@@ -116,7 +116,7 @@ returns-in_err-push_considered g c =
     let seen = G.seen start.trees c.args.env c.args.predicate in
     let there = bound-below (length (E.state first).variables) start.trees args declared k past c.requires.alias_below c.in_ok-bounds.ensures.closed inside in
     let same = bound-judged G.rules E.judge (E.fixed first) (E.fixed c.loop-clause.ecx) (λ f. (g.met.E.EvalCtxt.lawful f).alike_judged_alike) g.met.G.GoalKind.laws.below.matches start now (E.state first) (E.state c.loop-clause.ecx) seen
-        (G.seen now.trees c.args.env c.args.predicate) c.args.kind (get_or bounds k past) (clause_tree now.trees (get_or xs k d)) so.kept.fixed_same says.seen is says.fits so.alike c.requires.below there in
+    (G.seen now.trees c.args.env c.args.predicate) c.args.kind (get_or bounds k past) (clause_tree now.trees (get_or xs k d)) so.kept.fixed_same says.seen is says.fits so.alike c.requires.below there in
     let p = err_from_is_err_and c.from_residual-in_err-push_considered.result c.from_residual-in_err-push_considered.ensures.1 in
     listing-stops (λ f. (g.met.E.EvalCtxt.lawful f).alike_judged_alike) (bound_rule G.rules start seen c.args.kind) bounds k past first c.loop-clause.ecx c.consider_alias_bound-answer.new.ecx c.args.candidates.now.items c.loop-clause.candidates.items
     c.push_considered.new.candidates.items _ _ c.in_err-push_considered.field-0.0 so inside c.consider_alias_bound-answer.ensures same c.in_err-push_considered.ensures

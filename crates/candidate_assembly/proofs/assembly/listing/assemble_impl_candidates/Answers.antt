@@ -39,7 +39,7 @@ loop-of-preserved g c =
     let says = g.met.G.GoalKind.stays start now c.args.env c.args.predicate so.kept.grows c.requires.goal in
     let table : IsWellFormedTable start = subst (λ (x : Context). IsWellFormedTable x) c.cx.ensures c.table_is_well_formed.ensures in
     let same = impl-judged K.rules E.judge (E.fixed first) (E.fixed c.loop-of.ecx) (λ f. (g.met.E.EvalCtxt.lawful f).alike_judged_alike) g.met.G.GoalKind.laws.below.impls g.met.G.GoalKind.laws.stay.impls start now table so.kept.grows
-        (E.state first) (E.state c.loop-of.ecx) seen (K.seen now.trees c.args.env c.args.predicate) (slice_index_or xs k d) so.kept.fixed_same says.seen so.alike c.requires.below in
+    (E.state first) (E.state c.loop-of.ecx) seen (K.seen now.trees c.args.env c.args.predicate) (slice_index_or xs k d) so.kept.fixed_same says.seen so.alike c.requires.below in
     next-listed (λ f. (g.met.E.EvalCtxt.lawful f).alike_judged_alike) (impl_rule K.rules start (E.state first).mode seen) xs k d first c.loop-of.ecx c.consider_impl_and_respond-answer.new.ecx c.args.candidates.now.items c.loop-of.candidates.items
     c.push_considered.new.candidates.items _ _ _ so c.loop-of-test.true c.consider_impl_and_respond-answer.ensures same c.in_ok-push_considered.ensures
 
@@ -58,7 +58,7 @@ returns-in_err-push_considered g c =
     let says = g.met.G.GoalKind.stays start now c.args.env c.args.predicate so.kept.grows c.requires.goal in
     let table : IsWellFormedTable start = subst (λ (x : Context). IsWellFormedTable x) c.cx.ensures c.table_is_well_formed.ensures in
     let same = impl-judged K.rules E.judge (E.fixed first) (E.fixed c.loop-of.ecx) (λ f. (g.met.E.EvalCtxt.lawful f).alike_judged_alike) g.met.G.GoalKind.laws.below.impls g.met.G.GoalKind.laws.stay.impls start now table so.kept.grows
-        (E.state first) (E.state c.loop-of.ecx) seen (K.seen now.trees c.args.env c.args.predicate) (slice_index_or xs k d) so.kept.fixed_same says.seen so.alike c.requires.below in
+    (E.state first) (E.state c.loop-of.ecx) seen (K.seen now.trees c.args.env c.args.predicate) (slice_index_or xs k d) so.kept.fixed_same says.seen so.alike c.requires.below in
     let p = err_from_is_err_and c.from_residual-in_err-push_considered.result c.from_residual-in_err-push_considered.ensures.1 in
     listing-stops (λ f. (g.met.E.EvalCtxt.lawful f).alike_judged_alike) (impl_rule K.rules start (E.state first).mode seen) xs k d first c.loop-of.ecx c.consider_impl_and_respond-answer.new.ecx c.args.candidates.now.items c.loop-of.candidates.items
     c.push_considered.new.candidates.items _ _ c.in_err-push_considered.field-0.0 so c.loop-of-test.true c.consider_impl_and_respond-answer.ensures same c.in_err-push_considered.ensures

@@ -47,7 +47,7 @@ probe_and_consider_param_env_candidate-answer-requires-clause-free g c =
     let is = IsClause-listed start.trees xs c.loop-clause.clause-index (record { 0 = 0 }) c.loop-clause-test.true read.0 in
     let t = clause_tree start.trees x in
     let none-there = All-get_or (λ (y : Clause). holds is_param (alone (clause_tree start.trees y)) ≡ false) xs c.loop-clause.clause-index (record { 0 = 0 }) c.loop-clause-test.true
-        (clauses-hold-none is_param start.trees xs read.0 (ap (holds is_param) read.1 ∙ c.requires.free)) in
+    (clauses-hold-none is_param start.trees xs read.0 (ap (holds is_param) read.1 ∙ c.requires.free)) in
     ap (λ (u : Tree). holds is_param u.children) (clause-kept start now x c.loop-clause.invariant.kept.grows is).1 ∙ (holds_parts is_param t.head t.children none none-there).under
 
 pub loop-clause-preserved : goal.loop-clause-preserved
@@ -70,9 +70,9 @@ loop-clause-preserved g c =
     let below = c.requires.below in
     let n = length (E.state first).variables in
     let there = All-get_or (λ (y : Clause). holds (is_from n) (alone (clause_tree start.trees y)) ≡ false) xs k d c.loop-clause-test.true
-        (clauses-hold-none (is_from n) start.trees xs read.0 (ap (holds (is_from n)) (read.1 ∙ sym (g.met.G.GoalKind.env_given start.trees c.args.env c.args.predicate)) ∙ below.env)) in
+    (clauses-hold-none (is_from n) start.trees xs read.0 (ap (holds (is_from n)) (read.1 ∙ sym (g.met.G.GoalKind.env_given start.trees c.args.env c.args.predicate)) ∙ below.env)) in
     let same = where-judged K.rules E.judge (E.fixed first) (E.fixed c.loop-clause.ecx) (λ f. (g.met.E.EvalCtxt.lawful f).alike_judged_alike) g.met.G.GoalKind.laws.below.matches start now (E.state first) (E.state c.loop-clause.ecx) seen (K.seen now.trees c.args.env c.args.predicate)
-        (clause_tree start.trees x) (clause_tree now.trees x) so.kept.fixed_same says.seen stays.1 says.fits so.alike below there in
+    (clause_tree start.trees x) (clause_tree now.trees x) so.kept.fixed_same says.seen stays.1 says.fits so.alike below there in
     next-listed (λ f. (g.met.E.EvalCtxt.lawful f).alike_judged_alike) (λ y. where_rule K.rules start seen (clause_tree start.trees y)) xs k d first c.loop-clause.ecx c.probe_and_consider_param_env_candidate-answer.new.ecx c.args.candidates.now.items c.loop-clause.candidates.items
     c.push_or_note.new.candidates.items _ _ _ so c.loop-clause-test.true c.probe_and_consider_param_env_candidate-answer.ensures same c.in_ok-push_or_note.ensures
 
@@ -96,9 +96,9 @@ returns-in_err-push_or_note g c =
     let below = c.requires.below in
     let n = length (E.state first).variables in
     let there = All-get_or (λ (y : Clause). holds (is_from n) (alone (clause_tree start.trees y)) ≡ false) xs k d c.loop-clause-test.true
-        (clauses-hold-none (is_from n) start.trees xs read.0 (ap (holds (is_from n)) (read.1 ∙ sym (g.met.G.GoalKind.env_given start.trees c.args.env c.args.predicate)) ∙ below.env)) in
+    (clauses-hold-none (is_from n) start.trees xs read.0 (ap (holds (is_from n)) (read.1 ∙ sym (g.met.G.GoalKind.env_given start.trees c.args.env c.args.predicate)) ∙ below.env)) in
     let same = where-judged K.rules E.judge (E.fixed first) (E.fixed c.loop-clause.ecx) (λ f. (g.met.E.EvalCtxt.lawful f).alike_judged_alike) g.met.G.GoalKind.laws.below.matches start now (E.state first) (E.state c.loop-clause.ecx) seen (K.seen now.trees c.args.env c.args.predicate)
-        (clause_tree start.trees x) (clause_tree now.trees x) so.kept.fixed_same says.seen stays.1 says.fits so.alike below there in
+    (clause_tree start.trees x) (clause_tree now.trees x) so.kept.fixed_same says.seen stays.1 says.fits so.alike below there in
     let p = err_from_is_err_and c.from_residual-in_err-push_or_note.result c.from_residual-in_err-push_or_note.ensures.1 in
     listing-stops (λ f. (g.met.E.EvalCtxt.lawful f).alike_judged_alike) (λ y. where_rule K.rules start seen (clause_tree start.trees y)) xs k d first c.loop-clause.ecx c.probe_and_consider_param_env_candidate-answer.new.ecx c.args.candidates.now.items c.loop-clause.candidates.items
     c.push_or_note.new.candidates.items _ _ c.in_err-push_or_note.field-0.0 so c.loop-clause-test.true c.probe_and_consider_param_env_candidate-answer.ensures same c.in_err-push_or_note.ensures

@@ -16,7 +16,7 @@ loop-i-preserved c =
     let d : GenericArg = G.Ty (record { 0 = 0 }) in
     let arg : c.if-is_listed.arg ≡ (if number_listed cs i then get_or ys i d else get_or xs i d)
     = elim c.if-is_listed.branch [
-        then-is_listed w ↦ w.arg-is ∙ ap (λ (b : Bool). if b then get_or ys i d else get_or xs i d) (sym (sym c.is_listed.ensures ∙ w.if-is_listed.true))
+      | then-is_listed w ↦ w.arg-is ∙ ap (λ (b : Bool). if b then get_or ys i d else get_or xs i d) (sym (sym c.is_listed.ensures ∙ w.if-is_listed.true))
       | else-is_listed w ↦ w.arg-is ∙ ap (λ (b : Bool). if b then get_or ys i d else get_or xs i d) (sym (sym c.is_listed.ensures ∙ w.if-is_listed.false))
     ] in
     one-mixed cs xs ys i c.loop-i.list.items c.push.new.self.items d c.loop-i.invariant c.loop-i-test.true c.requires (c.in_ok-push.ensures.items ∙ ap (λ (z : GenericArg). c.loop-i.list.items ++ z ∷ []) arg)

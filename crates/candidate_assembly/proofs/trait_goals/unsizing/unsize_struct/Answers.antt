@@ -56,7 +56,7 @@ consider_equal-requires-clause-free g c =
     let from = first-free _ (trait_goal old.trees c.args.env c.args.predicate).reference.arguments c.requires.goal.no_parameter c.requires.source in
     let to : holds is_param (args_forest old.trees c.args.to) ≡ false = ap (tree_holds is_param) (sym c.requires.into) ∙ c.requires.free in
     let free = pair-free c.args.predicate.trait_ref.def_id (tail_of old c.args.adt.0 (args_forest old.trees c.args.from)) (tail_of old c.args.adt.0 (args_forest old.trees c.args.to))
-        (tail-free old c.args.adt.0 (args_forest old.trees c.args.from) from) (tail-free old c.args.adt.0 (args_forest old.trees c.args.to) to) in
+    (tail-free old c.args.adt.0 (args_forest old.trees c.args.from) from) (tail-free old c.args.adt.0 (args_forest old.trees c.args.to) to) in
     All-cons (λ (x : Clause). tree_holds is_param (clause_tree mid.trees x) ≡ false) c.in_ok-mixed.clause [] (ap (tree_holds is_param) c.in_ok-mixed.ensures.clause.1 ∙ free) (All-nil _)
 
 pub returns : goal.returns
@@ -74,6 +74,6 @@ returns g c =
     (equal_rule (env_forest mid.trees c.args.env) (ty_tree mid.trees c.in_ok-mixed.mixed) (ty_tree mid.trees c.args.target) (clause_tree mid.trees c.in_ok-mixed.clause ∷ []))
     c.consider_equal.result (made r grows) r.1
     (struct-same old goal c.args.adt (args_forest old.trees c.args.from) (args_forest old.trees c.args.to) (self_of goal) to c.unsizing_parameters.result.now parameters (sym c.is_empty.ensures ∙ c.if-is_empty.false)
-        c.requires.source c.requires.into (env_forest mid.trees c.args.env) (ty_tree mid.trees c.in_ok-mixed.mixed) (ty_tree mid.trees c.args.target) (clause_tree mid.trees c.in_ok-mixed.clause)
-        (env-kept old mid c.args.env grows c.requires.goal.env).1 c.in_ok-mixed.ensures.mixed.1 (ty-kept old mid c.args.target grows c.requires.target).1 c.in_ok-mixed.ensures.clause.1)
+    c.requires.source c.requires.into (env_forest mid.trees c.args.env) (ty_tree mid.trees c.in_ok-mixed.mixed) (ty_tree mid.trees c.args.target) (clause_tree mid.trees c.in_ok-mixed.clause)
+    (env-kept old mid c.args.env grows c.requires.goal.env).1 c.in_ok-mixed.ensures.mixed.1 (ty-kept old mid c.args.target grows c.requires.target).1 c.in_ok-mixed.ensures.clause.1)
     c.consider_equal.ensures
