@@ -237,7 +237,7 @@ same-bounds c now NonSelfBounds n grows = ap (λ (x : Context). non_self_bounds 
 abbrev link-by : {G : Type 0} → KindRules G → KindBounds G → Context → G → AliasBoundKind → Tree → List Rule
 link-by K B c g b t = bound_rules K c g b t ++ B.additional c g t
 
-pub link-kept : {G : Type 0} (K : KindRules G) (B : KindBounds G) → RulesStay K B → (c now : Context) (g d : G) (b : AliasBoundKind) (a : AliasTy) → IsWellFormedTable c → Grows c now → IsBoundedAlias now a → d ≡ g → ((h : Head) → K.fits now g h ≡ K.fits c g h)
+pub link-kept : {G P : Type 0} {arguments_of : P → Args} {types_of : P → List Ty} {see : List Tree → ParamEnv → P → G} (K : KindRules G) (B : KindBounds G) → RulesStay K B arguments_of types_of see → (c now : Context) (g d : G) (b : AliasBoundKind) (a : AliasTy) → IsWellFormedTable c → Grows c now → IsBoundedAlias now a → d ≡ g → ((h : Head) → K.fits now g h ≡ K.fits c g h)
     → link-by K B now d b (kind_tree now.trees (TK.Alias a)) ≡ link-by K B c g b (kind_tree now.trees (TK.Alias a))
 link-kept K B stay c now g d b a t grows h same fits =
     let u = kind_tree now.trees (TK.Alias a) in
