@@ -1,18 +1,21 @@
 -- What contracts say of an evaluator and of its calls.
-use Rattle.std.specs.Prelude.{◌≡◌, suc, Option, Some, List, [], ◌∷◌, ◌++◌, map}
+use Rattle.std.specs.Prelude.{◌≡◌, ℕ, suc, false, Option, Some, List, [], ◌∷◌, ◌++◌, map}
+use Rattle.candidate_ir.specs.declared.ir.kinds.AliasKind.TheVariants as AK
 use Rattle.candidate_ir.specs.declared.ir.kinds.AliasTy.{AliasTy}
 use Rattle.candidate_ir.specs.declared.ir.kinds.Clause.{Clause}
 use Rattle.candidate_ir.specs.declared.ir.kinds.Goal.{Goal as OfNumbers}
 use Rattle.candidate_ir.specs.declared.ir.kinds.GoalSource.{GoalSource}
 use Rattle.candidate_ir.specs.declared.ir.kinds.TyKind.TheVariants as K
 use Rattle.candidate_ir.specs.declared.ir.kinds.VarKind.{VarKind}
-use Rattle.candidate_ir.specs.Trees.{Kind, Forest, Tree}
+use Rattle.candidate_ir.specs.Owned.{AliasArgumentsFit}
+use Rattle.candidate_ir.specs.Trees.{Kind, Forest, Tree, holds, is_param}
 use Rattle.candidate_ir.specs.Context.{Context, Grows, parameter_kind}
-use Rattle.candidate_ir.specs.Words.{IsParamEnv, IsClause, env_forest, clause_tree, kind_tree}
+use Rattle.candidate_ir.specs.Words.{IsArgs, IsParamEnv, IsClause, args_forest, env_forest, clause_tree, kind_tree}
 use Rattle.candidate_ir.specs.declared.ir.stop.Stop.{Stop}
 use Rattle.candidate_ir.specs.declared.ir.stop.Stop.TheVariants as S
 use Rattle.candidate_eval.specs.declared.eval.context.ProbeKind.{ProbeKind}
 use Rattle.candidate_eval.specs.declared.eval.context.ProbeKind.TheVariants as P
+use Rattle.candidate_eval.specs.Mentions.{IsBelow}
 use Rattle.candidate_eval.specs.States.{Env, State, Goal, Pending, Judge, with_pending, with_universe, placeholders, next}
 pub use Rattle.candidate_eval.specs.States.{root_value, resolved_root}
 
@@ -69,6 +72,15 @@ with_rigid S (k ∷ ks) = with_universe S
 -- the trees of alias types
 abbrev pub alias_trees : List Tree → List AliasTy → List Tree
 alias_trees ts xs = map (λ a. kind_tree ts (K.Alias a)) xs
+
+-- An opaque type that may be hidden behind a variable: it has the arguments that it takes, and in them stand no parameter and no other
+-- variables than the first n.
+pub record IsHiddenOpaque (c : Context) (n : ℕ) (a : AliasTy) : Type 0 where
+  pub is_opaque : a.kind ≡ AK.Opaque
+  pub args : IsArgs c.trees a.args
+  pub fit : AliasArgumentsFit c a
+  pub no_parameter : holds is_param (args_forest c.trees a.args) ≡ false
+  pub below : IsBelow n (args_forest c.trees a.args)
 
 -- The stops of what makes nodes and lists: a growth was refused, or numbers or heights ran out.
 abbrev pub IsMakingStop : Stop → Type 0

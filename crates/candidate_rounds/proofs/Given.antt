@@ -18,7 +18,7 @@ use Rattle.std.proofs.lemmas.List.Elements.{All-head}
 use Rattle.rounds_judge.proofs.WellListed.{well-listed}
 use Rattle.rounds_judge.specs.Standing.{IsListed, IsListing}
 use Rattle.rounds_judge.specs.WellListed.{is_fixed, may_be_listed}
-use Rattle.candidate_rounds.specs.Known.{MayBeHidden}
+use Rattle.candidate_rounds.specs.Known.{MayBeHidden, is_opaque}
 use Rattle.candidate_rounds.proofs.Assigning.{holds-alone}
 
 -- the root of a type is one
@@ -39,10 +39,16 @@ alias-is : (ts : List Tree) (a : AliasTy) → IsArgs ts a.args → kind_tree ts 
 alias-is ts a p =
     ap (λ (f : Forest). let t : Tree = record { head = (kind_tree ts (K.Alias a)).head; children = f } in t) (row-list ts a.args.0 ArgumentsKind none refl refl p ∙ join-none (args_forest ts a.args))
 
--- what the three tests of its arguments say of it
-pub hidden-if : (ts : List Tree) (a : AliasTy) → IsArgs ts a.args → (e u p : Bool) → e ≡ escapes 0 (args_forest ts a.args) → u ≡ holds is_unsolved (args_forest ts a.args) → p ≡ holds is_param (args_forest ts a.args)
+pub no-variable-in : (ts : List Tree) (a : AliasTy) → IsArgs ts a.args → holds is_unsolved (alone (kind_tree ts (K.Alias a))) ≡ holds is_unsolved (args_forest ts a.args)
+no-variable-in ts a given = ap (λ (t : Tree). holds is_unsolved (alone t)) (alias-is ts a given) ∙ or-none (holds is_unsolved (args_forest ts a.args))
+
+pub no-parameter-in : (ts : List Tree) (a : AliasTy) → IsArgs ts a.args → holds is_param (alone (kind_tree ts (K.Alias a))) ≡ holds is_param (args_forest ts a.args)
+no-parameter-in ts a given = ap (λ (t : Tree). holds is_param (alone t)) (alias-is ts a given) ∙ or-none (holds is_param (args_forest ts a.args))
+
+-- what the three tests of an opaque type's arguments say of it
+pub hidden-if : (ts : List Tree) (a : AliasTy) → IsArgs ts a.args → is_opaque (kind_tree ts (K.Alias a)).head ≡ true → (e u p : Bool) → e ≡ escapes 0 (args_forest ts a.args) → u ≡ holds is_unsolved (args_forest ts a.args) → p ≡ holds is_param (args_forest ts a.args)
     → IsTrue (not e && (not u && not p)) ↔ MayBeHidden (kind_tree ts (K.Alias a))
-hidden-if ts a given e u p ee ue pe = (forth, back)
+hidden-if ts a given o e u p ee ue pe = (forth, back)
   where
     T : Tree
     T = kind_tree ts (K.Alias a)
@@ -51,16 +57,16 @@ hidden-if ts a given e u p ee ue pe = (forth, back)
     closed = ap (λ (t : Tree). escapes 0 (alone t)) (alias-is ts a given) ∙ (or-none (escapes 0 (args_forest ts a.args)) ∙ sym ee)
 
     unsolved : holds is_unsolved (alone T) ≡ u
-    unsolved = ap (λ (t : Tree). holds is_unsolved (alone t)) (alias-is ts a given) ∙ (or-none (holds is_unsolved (args_forest ts a.args)) ∙ sym ue)
+    unsolved = no-variable-in ts a given ∙ sym ue
 
     parameter : holds is_param (alone T) ≡ p
-    parameter = ap (λ (t : Tree). holds is_param (alone t)) (alias-is ts a given) ∙ (or-none (holds is_param (args_forest ts a.args)) ∙ sym pe)
+    parameter = no-parameter-in ts a given ∙ sym pe
 
     forth : IsTrue (not e && (not u && not p)) → MayBeHidden T
     forth i =
         let l = and_parts (not e) _ i in
         let r = and_parts (not u) _ l.1 in
-        record { is_closed = closed ∙ not-true e l.0; has_no_variable = unsolved ∙ not-true u r.0; no_parameter = parameter ∙ not-true p r.1 }
+        record { is_opaque = o; is_closed = closed ∙ not-true e l.0; has_no_variable = unsolved ∙ not-true u r.0; no_parameter = parameter ∙ not-true p r.1 }
 
     back : MayBeHidden T → IsTrue (not e && (not u && not p))
     back m = rw (sym closed ∙ m.is_closed, sym unsolved ∙ m.has_no_variable, sym parameter ∙ m.no_parameter) refl

@@ -24,7 +24,7 @@ use Rattle.candidate_rounds.specs.declared.rounds.inference.Change.{Change}
 use Rattle.candidate_rounds.specs.declared.rounds.inference.Change.TheVariants as C
 use Rattle.candidate_rounds.specs.declared.rounds.inference.Entry.{Entry}
 use Rattle.candidate_rounds.specs.Inferences.{Inference, shorter, with_entry, with_value, with_universe, before, undone, back_to}
-use Rattle.candidate_rounds.specs.Known.{info_of, state_of, states_at, Each, IsValue, IsEntry, IsChange, IsKnown, AreMarks, AreTypes, IsGiven, SuitsKind, EachAt, IsWithin, is_open, MayBeHidden}
+use Rattle.candidate_rounds.specs.Known.{info_of, state_of, states_at, Each, IsValue, IsEntry, IsChange, IsKnown, AreMarks, AreTypes, IsGiven, SuitsKind, EachAt, IsWithin, is_open, IsType, MayBeHidden}
 use Rattle.rounds_judge.specs.Standing.{IsListing}
 use Rattle.candidate_rounds.proofs.Undoing.{IsUndone}
 
@@ -223,12 +223,20 @@ probes-grow ts us mode s (n ∷ ks) x k =
 pub alias-stays : (ts us : List Tree) (a : AliasTy) → Extends ts us → KindFits ts (K.Alias a) → kind_tree us (K.Alias a) ≡ kind_tree ts (K.Alias a)
 alias-stays ts us a x i = ap (λ zs. kind_tree zs (K.Alias a)) x.is ∙ node_tree-append ts x.added (N.Ty (K.Alias a)) i
 
+-- aliases that are types are so still
+types-stay : (ts us : List Tree) (xs : List AliasTy) → Extends ts us → Each (λ a. KindFits ts (K.Alias a)) xs → Each (IsType ts) xs → Each (IsType us) xs
+types-stay ts us [] x f e = tt
+types-stay ts us (a ∷ rest) x f e =
+    let i = e.0 in
+    (record { ty = i.ty; sort = kind-stays ts us i.ty.0 _ x refl i.sort; tree = tree-stays ts us i.ty.0 _ x refl i.sort ∙ (i.tree ∙ sym (alias-stays ts us a x f.0)) }, types-stay ts us rest x f.1 e.1)
+
 -- What was given stays as more numbers are given.
 pub given-grown : (ts us : List Tree) (ps : List (Ty × Ty)) (xs : List AliasTy) → Extends ts us → IsGiven ts ps xs → IsGiven us ps xs
 given-grown ts us ps xs x g = record {
   types = each-imply (AreTypes ts) (AreTypes us) ps (λ p i. (kind-stays ts us p.0.0 _ x refl i.0, kind-stays ts us p.1.0 _ x refl i.1)) g.types;
   listing = subst IsListing (sym (each-map (AreTypes ts) (pair us) (pair ts) ps pair-stays g.types)) g.listing;
   opaques_fit = each-imply (λ a. KindFits ts (K.Alias a)) (λ a. KindFits us (K.Alias a)) xs (λ a i. subst (λ zs. KindFits zs (K.Alias a)) (sym x.is) (Fits-append ts x.added (N.Ty (K.Alias a)) i)) g.opaques_fit;
+  opaques_are = types-stay ts us xs x g.opaques_fit g.opaques_are;
   opaques_hidden = subst (Each MayBeHidden) (sym (each-map (λ a. KindFits ts (K.Alias a)) (λ a. kind_tree us (K.Alias a)) (λ a. kind_tree ts (K.Alias a)) xs (λ a i. alias-stays ts us a x i) g.opaques_fit)) g.opaques_hidden;
 }
   where

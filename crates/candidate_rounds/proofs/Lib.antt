@@ -1,6 +1,7 @@
 pub mod Between
 pub mod Undoing
 pub mod Knowing
+pub mod HiddenOpaques
 pub mod Probing
 pub mod Holding
 pub mod ResolvedValues

@@ -10,10 +10,11 @@ use Rattle.candidate_ir.specs.Binders.{escapes}
 use Rattle.candidate_ir.specs.Owned.{is_unsolved}
 use Rattle.candidate_ir.specs.Substitutions.{alone}
 use Rattle.candidate_ir.specs.Trees.{Tree, holds, is_param, tree_holds}
+use Rattle.candidate_ir.specs.declared.ir.kinds.AliasKind.TheVariants as AK
 use Rattle.candidate_ir.specs.declared.ir.kinds.AliasTy.{AliasTy}
 use Rattle.candidate_ir.specs.declared.ir.kinds.Ty.{Ty}
 use Rattle.candidate_ir.specs.declared.ir.kinds.TyKind.TheVariants as K
-use Rattle.candidate_ir.specs.Words.{IsTy, IsClause, KindFits, ty_tree, clause_tree}
+use Rattle.candidate_ir.specs.Words.{IsTy, IsClause, KindFits, kind_tree, ty_tree, clause_tree}
 use Rattle.candidate_eval.specs.declared.eval.mode.TypingMode.{TypingMode}
 use Rattle.candidate_eval.specs.declared.eval.variable.VariableKind.{VariableKind}
 use Rattle.candidate_eval.specs.States.{State, VariableInfo}
@@ -115,17 +116,29 @@ listing_of ts ps = map (λ (p : Ty × Ty). (ty_tree ts p.0, ty_tree ts p.1)) ps
 abbrev pub AreTypes : List Tree → Ty × Ty → Type 0
 AreTypes ts p = IsTy ts p.0 × IsTy ts p.1
 
+abbrev pub is_opaque : Head → Bool
+is_opaque (H.Alias AK.Opaque i) = true
+is_opaque _ = false
+
 -- An opaque type that may be hidden behind a variable: no bound variable escapes from it, and it has no variable and no parameter.
 pub record MayBeHidden (t : Tree) : Type 0 where
+  pub is_opaque : is_opaque t.head ≡ true
   pub is_closed : escapes 0 (alone t) ≡ false
   pub has_no_variable : holds is_unsolved (alone t) ≡ false
   pub no_parameter : holds is_param (alone t) ≡ false
+
+-- The alias is a type of the context.
+pub record IsType (ts : List Tree) (a : AliasTy) : Type 0 where
+  pub ty : Ty
+  pub sort : IsTy ts ty
+  pub tree : ty_tree ts ty ≡ kind_tree ts (K.Alias a)
 
 -- What an evaluator is given besides the context: listed pairs, and opaque types that may be hidden.
 pub record IsGiven (ts : List Tree) (normal : List (Ty × Ty)) (opaques : List AliasTy) : Type 0 where
   pub types : Each (AreTypes ts) normal
   pub listing : IsListing (listing_of ts normal)
   pub opaques_fit : Each (λ a. KindFits ts (K.Alias a)) opaques
+  pub opaques_are : Each (IsType ts) opaques
   pub opaques_hidden : Each MayBeHidden (alias_trees ts opaques)
 
 -- Values hold no variable that has a value: now, and when each open probe began. While a variable gets its value, and the values of

@@ -16,5 +16,6 @@ are-given ts a b t ps i j k e f p = subst (λ (qs : List (Ty × Ty)). IsGiven ts
   listing = All-cons IsListed (ty_tree ts a, ty_tree ts t) ((ty_tree ts b, ty_tree ts t) ∷ []) (listed-pair _ e)
       (All-cons IsListed (ty_tree ts b, ty_tree ts t) [] (listed-pair _ f) (All-nil IsListed));
   opaques_fit = tt;
+  opaques_are = tt;
   opaques_hidden = tt;
 })

@@ -56,7 +56,7 @@ pub fn self_ty(cx: &Cx, trait_ref: TraitRef) -> Ty
 /// The clauses as goals in the environment. The only stop is `Stop::Memory`, where the list can't grow.
 pub fn goals(alloc: Global, env: ParamEnv, clauses: &[Clause]) -> Result<Vec<Goal<Clause>>, Stop>
     ensures are { IfOk result (λ v. v.items ≡ goals_in env clauses.now) }
-    ensures cause { IfErr result IsMakingStop }
+    ensures cause { IfErr result (λ s. s ≡ Stop.Memory) }
 {
     let mut list = Vec::new(alloc);
     for clause in clauses {

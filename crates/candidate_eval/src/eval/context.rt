@@ -1,13 +1,13 @@
 //! What generic code knows of an evaluator.
 
-ghost use Rattle.std.specs.Prelude.{◌≡◌, ◌≢◌, List, [], ◌∷◌, ◌++◌, map, Some, None, All, IfOk, IfErr, OnOk, OnErr};
+ghost use Rattle.std.specs.Prelude.{◌≡◌, ◌≢◌, List, [], ◌∷◌, ◌++◌, length, map, Some, None, All, IfOk, IfErr, OnOk, OnErr};
 ghost use Rattle.candidate_ir.specs.declared.ir.kinds.TyKind.TheVariants as K;
 ghost use Rattle.candidate_ir.specs.Context.{Context, Grows, world};
 ghost use Rattle.candidate_ir.specs.Folds.{IsArg, arg_tree};
 ghost use Rattle.candidate_ir.specs.Substitutions.{alone};
 ghost use Rattle.candidate_ir.specs.Trees.{Tree};
 ghost use Rattle.candidate_ir.specs.Words.{IsTy, IsConst, IsRegion, IsArgs, IsClause, IsParamEnv, KindFits, ty_tree, const_tree, region_tree, args_forest, clause_tree, env_forest};
-ghost use Rattle.candidate_eval.specs.Evaluators.{Keeps, IsGoal, pending_of, pendings_of, with_goals_of, accepted, resolved_root, begun, kinds_listed, rigid, with_rigid, alias_trees, IsEvaluatorStop};
+ghost use Rattle.candidate_eval.specs.Evaluators.{Keeps, IsGoal, IsHiddenOpaque, pending_of, pendings_of, with_goals_of, accepted, resolved_root, begun, kinds_listed, rigid, with_rigid, alias_trees, IsEvaluatorStop};
 ghost use Rattle.candidate_eval.specs.Accounts.{Question, by_stop};
 ghost use Rattle.candidate_eval.specs.Accounts as question;
 ghost use Rattle.candidate_ir.specs.declared.ir.stop.Stop.{Stop};
@@ -251,6 +251,7 @@ pub trait EvalCtxt: InferCtxtLike {
         ensures kept { Keeps fixed probes Self.context self.old self.new }
         ensures same { state self.new ≡ state self.old }
         ensures fit { IfOk result (λ v. All (λ a. KindFits (Self.context self.new).trees (K.Alias a)) v.items) }
+        ensures hidden { IfOk result (λ v. All (IsHiddenOpaque (Self.context self.new) (length (state self.old).variables)) v.items) }
         ensures ok { IfOk result (λ v. alias_trees (Self.context self.new).trees v.items ≡ (judge (fixed self.old)).opaques (state self.old) (ty_tree (Self.context self.old).trees ty)) }
         ensures cause { IfErr result (stops self.new (state self.old) (question.find_opaques (ty_tree (Self.context self.old).trees ty))) };
 

@@ -9,7 +9,7 @@ ghost use Rattle.candidate_ir.specs.Substitutions.{alone};
 ghost use Rattle.candidate_ir.specs.Words.{IsArgs, IsClause, IsConst, IsParamEnv, IsTy, KindFits, args_forest, clause_tree, const_tree, env_forest, ty_tree};
 ghost use Rattle.candidate_eval.specs.Accounts.{by_stop};
 ghost use Rattle.candidate_eval.specs.Accounts as question;
-ghost use Rattle.candidate_eval.specs.Evaluators.{IsGoal, Keeps, accepted, alias_trees, begun, kinds_listed, pending_of, pendings_of, resolved_root, rigid, with_goals_of, with_rigid};
+ghost use Rattle.candidate_eval.specs.Evaluators.{IsGoal, IsHiddenOpaque, Keeps, accepted, alias_trees, begun, kinds_listed, pending_of, pendings_of, resolved_root, rigid, with_goals_of, with_rigid};
 ghost use Rattle.candidate_eval.specs.ResponseTrees.{IsResponse, response_of};
 ghost use Rattle.candidate_eval.specs.States.{Env, State, added, fresh_variables, next, resolved, resolved_tree, with_fresh_variables};
 ghost use Rattle.candidate_rounds.specs.Following.{FollowsEquation, FollowsSettling};
@@ -473,6 +473,7 @@ impl EvalCtxt for Rounds {
         ensures kept { Keeps fixed probes (λ r. r.context) self.old self.new }
         ensures same { state self.new ≡ state self.old }
         ensures fit { IfOk result (λ v. All (λ a. KindFits self.new.context.trees (K.Alias a)) v.items) }
+        ensures hidden { IfOk result (λ v. All (IsHiddenOpaque self.new.context (length (state self.old).variables)) v.items) }
         ensures ok { IfOk result (λ v. alias_trees self.new.context.trees v.items ≡ (judge_of (fixed self.old)).opaques (state self.old) (ty_tree self.old.context.trees ty)) }
         ensures cause { IfErr result (accounts self.new (state self.old) (question.find_opaques (ty_tree self.old.context.trees ty))) }
     {
@@ -480,6 +481,8 @@ impl EvalCtxt for Rounds {
         if !self.cx.kind(self.shallow_resolve(ty)).is_ty_var() {
             return Ok(Vec::new(alloc));
         }
+        self.well_kept();
+        self.cx.well_formed();
         Ok(Vec::from_slice(alloc, self.opaques.as_slice())?)
     }
 

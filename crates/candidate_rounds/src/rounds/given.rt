@@ -9,7 +9,7 @@ ghost use Rattle.candidate_rounds.specs.Known.{MayBeHidden};
 use crate::rounds::values::is_alias;
 use candidate_ir::decl::context::Cx;
 use candidate_ir::ir::heads::Flag;
-use candidate_ir::ir::kinds::{AliasTy, GenericArg, Ty};
+use candidate_ir::ir::kinds::{AliasKind, AliasTy, GenericArg, Ty};
 use candidate_ir::ir::marks::{Made, Unsolved};
 use candidate_ir::ir::trees::Trees;
 
@@ -32,12 +32,17 @@ pub fn may_be_listed(cx: &Cx, alias: Ty, ty: Ty) -> bool
         && (is_fixed(cx, ty) && (!cx.has(ty, Flag::Alias) && is_alias(cx, GenericArg::Ty(alias))))
 }
 
-/// Whether the opaque type may be hidden behind a variable: no bound variable escapes from it, and it has no variable and no
-/// parameter.
+/// Whether the alias may be hidden behind a variable: it is an opaque type, no bound variable escapes from it, and it has no
+/// variable and no parameter.
 pub fn may_be_hidden(cx: &Cx, opaque: AliasTy) -> bool
     requires { IsArgs cx.now.trees opaque.args }
     ensures { IsTrue result ↔ MayBeHidden (kind_tree cx.now.trees (K.Alias opaque)) }
 {
-    !cx.has_escaping_bound_vars(opaque.args)
-        && (!cx.has_marked(opaque.args, &Unsolved) && !cx.has(opaque.args, Flag::Param))
+    match opaque.kind {
+        AliasKind::Opaque => {
+            !cx.has_escaping_bound_vars(opaque.args)
+                && (!cx.has_marked(opaque.args, &Unsolved) && !cx.has(opaque.args, Flag::Param))
+        }
+        AliasKind::Projection | AliasKind::Inherent | AliasKind::Free => false,
+    }
 }

@@ -4,7 +4,7 @@ use Rattle.std.proofs.lemmas.Result.{err_from_is_err_and}
 use Rattle.candidate_ir.specs.declared.ir.kinds.Clause.{Clause}
 use Rattle.candidate_ir.specs.Words.{ClauseListFits, clause_kind_tree, env_forest, preds_forest, ty_tree}
 use Rattle.candidate_ir.proofs.Kept.{grows-trans}
-use Rattle.candidate_eval.specs.Evaluators.{IsGoal, goal_of}
+use Rattle.candidate_eval.specs.Evaluators.{IsGoal, IsMakingStop, goal_of}
 use Rattle.candidate_eval.specs.Objects.{with_instance}
 use Rattle.candidate_eval.specs.ObjectRequirements.{first_tree, fresh_arguments, goal_in, reference_clause}
 use Rattle.candidate_eval.specs.Replacing.{AreReplaced, AreStuck, clauses_at}
@@ -110,4 +110,4 @@ returns-in_err-clauses-clause-cause g c =
 pub returns-in_err-goals-clause-cause : goal.returns-in_err-goals-clause-cause
 returns-in_err-goals-clause-cause g c =
     let p = err_from_is_err_and c.from_residual-in_err-goals.result c.from_residual-in_err-goals.ensures.1 in
-    rw (p.1, p.2) (making c.in_err-goals.ensures.cause)
+    rw (p.1, p.2) (making (subst IsMakingStop (sym c.in_err-goals.ensures.cause) tt))
