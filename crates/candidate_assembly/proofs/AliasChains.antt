@@ -229,7 +229,7 @@ moved-rules K c now g d b args (x ∷ xs) grows same fits f =
     ap (λ r. r ∷ map (bound_rule K now d b) (map (put-into now.trees args) xs)) (rule-moved K c now g d (put-into c.trees args x) (put-into now.trees args x) [] (ask (AliasBound b) Yes) (ask (AliasBound b) Yes) same tree-same fits refl)
     ∙ ap (λ rs. bound_rule K c g b (put-into c.trees args x) ∷ rs) (moved-rules K c now g d b args xs grows same fits rest)
 
-same-bounds : (c now : Context) (b : AliasBoundKind) (n : ℕ) → Grows c now → bounds_of_kind now b n ≡ bounds_of_kind c b n
+pub same-bounds : (c now : Context) (b : AliasBoundKind) (n : ℕ) → Grows c now → bounds_of_kind now b n ≡ bounds_of_kind c b n
 same-bounds c now SelfBounds n grows = ap (λ (x : Context). self_bounds x n) grows.same
 same-bounds c now NonSelfBounds n grows = ap (λ (x : Context). non_self_bounds x n) grows.same
 
@@ -237,7 +237,7 @@ same-bounds c now NonSelfBounds n grows = ap (λ (x : Context). non_self_bounds 
 abbrev link-by : {G : Type 0} → KindRules G → KindBounds G → Context → G → AliasBoundKind → Tree → List Rule
 link-by K B c g b t = bound_rules K c g b t ++ B.additional c g t
 
-pub link-kept : {G P : Type 0} {arguments_of : P → Args} {types_of : P → List Ty} {see : List Tree → ParamEnv → P → G} (K : KindRules G) (B : KindBounds G) → RulesStay K B arguments_of types_of see → (c now : Context) (g d : G) (b : AliasBoundKind) (a : AliasTy) → IsWellFormedTable c → Grows c now → IsBoundedAlias now a → d ≡ g → ((h : Head) → K.fits now g h ≡ K.fits c g h)
+pub link-kept : {G : Type 0} (K : KindRules G) (B : KindBounds G) → RulesStay K B → (c now : Context) (g d : G) (b : AliasBoundKind) (a : AliasTy) → IsWellFormedTable c → Grows c now → IsBoundedAlias now a → d ≡ g → ((h : Head) → K.fits now g h ≡ K.fits c g h)
     → link-by K B now d b (kind_tree now.trees (TK.Alias a)) ≡ link-by K B c g b (kind_tree now.trees (TK.Alias a))
 link-kept K B stay c now g d b a t grows h same fits =
     let u = kind_tree now.trees (TK.Alias a) in

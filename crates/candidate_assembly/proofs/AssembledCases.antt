@@ -31,7 +31,9 @@ use Rattle.candidate_eval.proofs.RuleToy.{judge, start_with, u8, slice, param, r
 use Rattle.candidate_assembly.specs.Assembled.{rule_of_trait, impl_rules, leaves_out, where_rules}
 use Rattle.candidate_assembly.specs.Kinds.{AutoTraitRule, SizednessRule}
 use Rattle.candidate_assembly.specs.Listing.{Listed, Lists, Stops, answers}
-use Rattle.candidate_assembly.specs.Opaques.{AssembleFrom, Everything, EnvAndBounds, variable_answers}
+use Rattle.candidate_assembly.specs.declared.assembly.opaques.AssembleCandidatesFrom.{AssembleCandidatesFrom}
+use Rattle.candidate_assembly.specs.declared.assembly.opaques.AssembleCandidatesFrom.TheVariants.{All, EnvAndBounds}
+use Rattle.candidate_assembly.specs.Opaques.{variable_answers}
 use Rattle.candidate_assembly.specs.TraitRules.{trait_bounds, trait_rules}
 use Rattle.candidate_assembly.proofs.ShownLists.{Shown, Row, show}
 
@@ -117,25 +119,25 @@ impls_in_coherence = refl
 abbrev with_opaque : Judge
 with_opaque = record (judge []) { opaques = λ S t. hidden ∷ [] }
 
-abbrev of_variable : Judge → TypingMode → ℕ → AssembleFrom → Shown
+abbrev of_variable : Judge → TypingMode → ℕ → AssembleCandidatesFrom → Shown
 of_variable J m n from =
     show (variable_answers trait_rules J types (start_with m 1) (record { env = none; reference = record { trait = n; arguments = alone (var 0) }; polarity = Pol.Positive }) from)
 
-pub nothing_behind : of_variable (judge []) Analysis 0 Everything ≡ Row ((Source.BuiltinImpl Misc, AMBIGUOUS) ∷ [])
+pub nothing_behind : of_variable (judge []) Analysis 0 All ≡ Row ((Source.BuiltinImpl Misc, AMBIGUOUS) ∷ [])
 nothing_behind = refl
 
 -- opaque types are looked for in one mode alone
-pub not_looked_for : of_variable with_opaque PostAnalysis 0 Everything ≡ Row ((Source.BuiltinImpl Misc, AMBIGUOUS) ∷ [])
+pub not_looked_for : of_variable with_opaque PostAnalysis 0 All ≡ Row ((Source.BuiltinImpl Misc, AMBIGUOUS) ∷ [])
 not_looked_for = refl
 
 -- of the impls for all types those that leave the variable open
-pub opaque_and_impls : of_variable with_opaque Analysis 0 Everything ≡ Row ((Source.AliasBound SelfBounds, AMBIGUOUS) ∷ (Source.Impl (record { 0 = 0 }), AMBIGUOUS) ∷ [])
+pub opaque_and_impls : of_variable with_opaque Analysis 0 All ≡ Row ((Source.AliasBound SelfBounds, AMBIGUOUS) ∷ (Source.Impl (record { 0 = 0 }), AMBIGUOUS) ∷ [])
 opaque_and_impls = refl
 
 pub opaque_alone : of_variable with_opaque Analysis 0 EnvAndBounds ≡ Row ((Source.AliasBound SelfBounds, AMBIGUOUS) ∷ [])
 opaque_alone = refl
 
-pub nothing_said : of_variable with_opaque Analysis 2 Everything ≡ Row ((Source.BuiltinImpl Misc, Maybe (record { cause = Ambiguity; opaque_types_jank = ErrorIfRigidSelfTy })) ∷ [])
+pub nothing_said : of_variable with_opaque Analysis 2 All ≡ Row ((Source.BuiltinImpl Misc, Maybe (record { cause = Ambiguity; opaque_types_jank = ErrorIfRigidSelfTy })) ∷ [])
 nothing_said = refl
 
 -- Impls are left out by a clause on a placeholder, which asks for nothing; not by one that gives the goal's variable a value, and never in

@@ -18,8 +18,10 @@ use Rattle.candidate_ir.specs.Substitutions.{alone}
 use Rattle.candidate_ir.specs.Trees.{ArgumentsKind, Forest, Tree, holds, is_param, none, tree_holds}
 use Rattle.candidate_ir.specs.Words.{IsArgs, args_forest, clause_tree, kind_tree}
 use Rattle.candidate_ir.proofs.Rows.{join-none, row-list}
+use Rattle.candidate_eval.specs.declared.eval.certainty.Certainty.{Certainty}
 use Rattle.candidate_eval.specs.declared.eval.certainty.Certainty.TheVariants.{Yes}
 use Rattle.candidate_eval.specs.declared.eval.response.Candidate.{Candidate as OfNumbers}
+use Rattle.candidate_eval.specs.declared.eval.source.CandidateSource.{CandidateSource}
 use Rattle.candidate_eval.specs.declared.eval.source.CandidateSource.TheVariants.{AliasBound}
 use Rattle.candidate_eval.specs.Accounts.{Account}
 use Rattle.candidate_eval.specs.Alike.{JudgesAlike}
@@ -113,18 +115,24 @@ pub bound-rules-read : {G : Type 0} (K : KindRules G) (c : Context) (g : G) (b :
 bound-rules-read K c g b a is =
     ap (λ (ts : Forest). map (bound_rule K c g b) (map (put-into c.trees ts) (bounds_of_kind c b a.id.0))) (row-list c.trees a.args.0 ArgumentsKind none refl refl is ∙ join-none (args_forest c.trees a.args))
 
--- What is judged of a bound later, by other words for its parts, is what is judged of it at the first state.
-pub bound-judged : {G F : Type 0} (K : KindRules G) (judge : F → Judge) (f h : F) → ((x : F) → JudgesAlike (judge x)) → ((n : ℕ) (g : G) (t : Tree) → IsBelow n (K.trees_of g) → IsBelow n (alone t) → StepsBelow n (K.match_steps g t))
-    → (old now : Context) (S T : State) (g d : G) (b : AliasBoundKind) (t u : Tree) → h ≡ f → d ≡ g → u ≡ t → ((x : Head) → K.fits now g x ≡ K.fits old g x) → (judge f).alike S T → GoalBelow K (length S.variables) g → IsBelow (length S.variables) (alone t)
-    → judged (judge h) T (bound_rule K now d b u) ≡ judged (judge f) S (bound_rule K old g b t)
-bound-judged K judge f h law matches old now S T g d b t u same seen is fits a below there =
-    ap (λ z. judged (judge z) T (bound_rule K now d b u)) same
-    ∙ (ap (judged (judge f) T) (rule-moved K old now g d t u [] (ask (AliasBound b) Yes) (ask (AliasBound b) Yes) seen is fits refl)
-    ∙ judged-alike (judge f) (law f) S T (bound_rule K old g b t) a (record {
+-- What is judged later of a clause that is matched, by other words for its parts, is what is judged of it at the first state.
+pub matched-judged : {G F : Type 0} (K : KindRules G) (judge : F → Judge) (f h : F) → ((x : F) → JudgesAlike (judge x)) → ((n : ℕ) (g : G) (t : Tree) → IsBelow n (K.trees_of g) → IsBelow n (alone t) → StepsBelow n (K.match_steps g t))
+    → (old now : Context) (S T : State) (g d : G) (s : CandidateSource) (sure : Certainty) (t u : Tree) → h ≡ f → d ≡ g → u ≡ t → ((x : Head) → K.fits now g x ≡ K.fits old g x) → (judge f).alike S T → GoalBelow K (length S.variables) g
+    → IsBelow (length S.variables) (alone t) → judged (judge h) T (match_rule K now d u [] (ask s sure)) ≡ judged (judge f) S (match_rule K old g t [] (ask s sure))
+matched-judged K judge f h law matches old now S T g d s sure t u same seen is fits a below there =
+    ap (λ z. judged (judge z) T (match_rule K now d u [] (ask s sure))) same
+    ∙ (ap (judged (judge f) T) (rule-moved K old now g d t u [] (ask s sure) (ask s sure) seen is fits refl)
+    ∙ judged-alike (judge f) (law f) S T (match_rule K old g t [] (ask s sure)) a (record {
       env = below.env;
       steps = steps-joined (length S.variables) (K.match_steps g t) [] (matches (length S.variables) g t below.trees there) tt;
       ending = tt;
     }))
+
+-- so is that of a bound
+pub bound-judged : {G F : Type 0} (K : KindRules G) (judge : F → Judge) (f h : F) → ((x : F) → JudgesAlike (judge x)) → ((n : ℕ) (g : G) (t : Tree) → IsBelow n (K.trees_of g) → IsBelow n (alone t) → StepsBelow n (K.match_steps g t))
+    → (old now : Context) (S T : State) (g d : G) (b : AliasBoundKind) (t u : Tree) → h ≡ f → d ≡ g → u ≡ t → ((x : Head) → K.fits now g x ≡ K.fits old g x) → (judge f).alike S T → GoalBelow K (length S.variables) g → IsBelow (length S.variables) (alone t)
+    → judged (judge h) T (bound_rule K now d b u) ≡ judged (judge f) S (bound_rule K old g b t)
+bound-judged K judge f h law matches old now S T g d b t u same seen is fits a below there = matched-judged K judge f h law matches old now S T g d (AliasBound b) Yes t u same seen is fits a below there
 
 -- Nodes are made before rules are listed: none is yet, and the state is the same.
 module _ {E X : Type 0} {fixed : E → X} {judge : X → Judge} {state : E → State} {probes : E → List State} {context : E → Context} (law : (f : X) → JudgesAlike (judge f)) where

@@ -18,6 +18,9 @@ module _ {E X : Type 0} {fixed : E → X} {context : E → Context} {state : E �
   pub asked-here : {probes : E → List State} {a b : E} {s : Stop} (q : Question) → Keeps fixed probes context a b → stops b (state a) q s → StopsOfItself fixed context state stops a s
   asked-here q k x = λ own. asking (accounted-here q (reaches k) x)
 
+  pub asked-somehow : {probes : E → List State} {a b : E} {s : Stop} (q : Question) → Keeps fixed probes context a b → stops b (state a) q s → StopsSomehow fixed context state stops a s
+  asked-somehow q k x = asking (accounted-here q (reaches k) x)
+
   pub somehow-here : {a : E} {s : Stop} → StopsSomehow fixed context state stops a s → StopsOfItself fixed context state stops a s
   somehow-here x = λ own. x
 

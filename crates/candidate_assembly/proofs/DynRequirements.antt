@@ -75,7 +75,7 @@ one-more start now new old list s x t ss all so g k is e sum = record {
 abbrev pub said-step : List Tree → Ty → Pred → Step
 said-step ts t x = add ImplWhereBound (bound_said (ty_tree ts t) (pred_tree ts x))
 
-each-pred : (ts : List Tree) (xs : List Pred) → PredListFits ts xs → each_of (pred_list_forest ts xs) ≡ map (pred_tree ts) xs
+pub each-pred : (ts : List Tree) (xs : List Pred) → PredListFits ts xs → each_of (pred_list_forest ts xs) ≡ map (pred_tree ts) xs
 each-pred ts [] f = refl
 each-pred ts (x ∷ xs) f =
     let here : kind_at ts x.0 ≡ PredicateKind = cc in

@@ -57,12 +57,12 @@ not-false true e = refl
 not-false false e = cc
 
 -- what is there of a variable that counts
-counted : (x : Bool) (k : VariableKind) (o : Option VariableInfo) → not (x && has_kind k o) ≡ false → (i : VariableInfo) × (o ≡ Some i) × (x ≡ true)
+pub counted : (x : Bool) (k : VariableKind) (o : Option VariableInfo) → not (x && has_kind k o) ≡ false → (i : VariableInfo) × (o ≡ Some i) × (x ≡ true)
 counted true k None e = cc
 counted false k o e = cc
 counted true k (Some i) e = (i, refl, refl)
 
-kind-there : (x : Bool) (k : VariableKind) (o : Option VariableInfo) → not (x && has_kind k o) ≡ false → has_kind k o ≡ true
+pub kind-there : (x : Bool) (k : VariableKind) (o : Option VariableInfo) → not (x && has_kind k o) ≡ false → has_kind k o ≡ true
 kind-there true k o e = not-false (has_kind k o) e
 kind-there false k o e = cc
 
@@ -361,7 +361,7 @@ module _ (v : Values) (m : Head → Bool) (are-closed : (h : Head) (u : Tree) �
 
 -- What a variable that counts stands for is its value.
 
-value-as-is : (x : Bool) (S : State) (k : VariableKind) (n : ℕ) (t : Tree) (i : VariableInfo) → not (x && has_kind k (info S n)) ≡ false → info S n ≡ Some i → value_as S k n ≡ Some t → i.value ≡ Some t
+pub value-as-is : (x : Bool) (S : State) (k : VariableKind) (n : ℕ) (t : Tree) (i : VariableInfo) → not (x && has_kind k (info S n)) ≡ false → info S n ≡ Some i → value_as S k n ≡ Some t → i.value ≡ Some t
 value-as-is x S k n t i c e v = sym (ap value_in e) ∙ (sym (ap (λ b. if b then value_of S n else None) (kind-there x k (info S n) c)) ∙ v)
 
 -- what is said of values holds of what stands for a head

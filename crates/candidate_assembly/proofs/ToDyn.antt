@@ -35,7 +35,7 @@ dyn-rule b e sized from to = record { env = e; applies = b; steps = dyn_steps si
 
 -- What was read of a context that is this one.
 
-no-some : {A : Type 0} (o : Option A) → ((x : A) → o ≡ Some x → ⊥) → o ≡ None
+pub no-some : {A : Type 0} (o : Option A) → ((x : A) → o ≡ Some x → ⊥) → o ≡ None
 no-some None n = refl
 no-some (Some x) n = absurd (n x refl)
 

@@ -24,6 +24,7 @@ use Rattle.candidate_assembly.specs.declared.assembly.alias_chain.ChainEnd.TheVa
 use Rattle.candidate_assembly.specs.AliasBounds.{ChainComes, ChainEnd, AtVariable, Done, Misplaced, has_bounds, is_opaque, is_projection}
 use Rattle.candidate_assembly.specs.KindBounds.{Additional, KindBounds}
 use Rattle.candidate_assembly.specs.Kinds.{IsGoal, KindRules}
+use Rattle.candidate_assembly.specs.Earlier.{IsEarlier}
 use Rattle.candidate_assembly.specs.Listing.{Listed, Lists, ToldList, together}
 use Rattle.candidate_assembly.specs.Telling.{StopsOfItself}
 
@@ -55,19 +56,13 @@ pub record ChainFollows {G : Type 0} (K : KindRules G) (more : Additional G) (J 
   pub chain : ChainComes K more J c g S by_aliases
   pub is : l ≡ together (Lists xs) by_aliases
 
--- A context that has grown to another one, in which the goal was one already, and nothing was wrong with what was declared.
-pub record WasGoal {G P : Type 0} (K : KindRules G) (arguments_of : P → Args) (types_of : P → List Ty) (see : List Tree → ParamEnv → P → G) (c now : Context) (env : ParamEnv) (p : P) : Type 0 where
-  pub grows : Grows c now
-  pub table : IsWellFormedTable c
-  pub goal : IsGoal K arguments_of types_of see c env p
-
--- A call in a probe that adds the candidates by a chain: as each such context has it. Of the state that it leaves nothing is said.
+-- A call in a probe that adds the candidates by a chain: as each earlier context has it. Of the state that it leaves nothing is said.
 pub record WalksChain {E X G P A : Type 0} (fixed : E → X) (judge : X → Judge) (state : E → State) (probes : E → List State) (context : E → Context) (stops : Account E)
-    (K : KindRules G) (B : KindBounds G) (arguments_of : P → Args) (types_of : P → List Ty) (see : List Tree → ParamEnv → P → G)
+    (K : KindRules G) (B : KindBounds G) (see : List Tree → ParamEnv → P → G)
     (old new : E) (env : ParamEnv) (p : P) (before after : List OfNumbers) (answer : Result A Stop) : Type 0 where
   pub kept : Keeps fixed probes context old new
-  pub told : (c : Context) → WasGoal K arguments_of types_of see c (context old) env p
-      → ToldList (λ _. after) (context new).trees (ChainFollows K B.additional (judge (fixed old)) c (see c.trees env p) (state old) (candidates_of (context old).trees before)) answer
+  pub told : (c : Context) → IsEarlier c (context old)
+      → ToldList (λ _. after) (context new).trees (ChainFollows K B.additional (judge (fixed old)) c (see (context old).trees env p) (state old) (candidates_of (context old).trees before)) answer
   pub cause : IfErr answer (StopsOfItself fixed context state stops old)
 
 -- how a chain ends that the code finds to end so at the state

@@ -7,39 +7,37 @@ use Rattle.candidate_ir.specs.declared.decl.contents.LangItem.TheVariants as L
 use Rattle.candidate_ir.specs.declared.decl.contents.Sizedness.TheVariants as S
 use Rattle.candidate_ir.specs.declared.ir.heads.Flag.TheVariants as F
 use Rattle.candidate_ir.specs.declared.ir.kinds.ClosureKind.TheVariants as C
-use Rattle.candidate_ir.specs.declared.ir.kinds.PredicatePolarity.TheVariants as Pol
 use Rattle.candidate_ir.specs.declared.ir.stop.Stop.{Stop}
 use Rattle.candidate_ir.specs.Context.{Context}
-use Rattle.candidate_ir.specs.Elaboration.{IsElaboration}
 use Rattle.candidate_ir.specs.Faults.{all_items}
 use Rattle.candidate_ir.specs.Flags.{mark}
 use Rattle.candidate_ir.specs.Impls.{relevant_impls}
-use Rattle.candidate_ir.specs.Trees.{Forest, none, Tree, holds}
-use Rattle.candidate_ir.specs.Worlds.{Reference}
+use Rattle.candidate_ir.specs.Trees.{Tree, holds}
 use Rattle.candidate_eval.specs.declared.eval.mode.TypingMode.{TypingMode}
 use Rattle.candidate_eval.specs.declared.eval.mode.TypingMode.TheVariants.{Coherence}
 use Rattle.candidate_eval.specs.declared.eval.source.CandidateSource.{CandidateSource}
 use Rattle.candidate_eval.specs.declared.eval.source.CandidateSource.TheVariants as Source
 use Rattle.candidate_eval.specs.declared.eval.source.ParamEnvSource.TheVariants.{NonGlobal}
 use Rattle.candidate_eval.specs.declared.eval.source.BuiltinImplSource.TheVariants as Builtin
-use Rattle.candidate_eval.specs.Certainties.{AMBIGUOUS}
 use Rattle.candidate_eval.specs.ImplRules.{TraitGoal}
-use Rattle.candidate_eval.specs.Judging.{Judged, Gives, Refused, Stopped, Over, judged, run, start}
+use Rattle.candidate_eval.specs.Judging.{Judged, Gives, Refused, Stopped}
 use Rattle.candidate_eval.specs.Orphan.{is_general}
-use Rattle.candidate_eval.specs.Replacing.{without_first}
 use Rattle.candidate_eval.specs.Required.{each_of}
 use Rattle.candidate_eval.specs.Responses.{Candidate, has_no_inference_or_external_constraints}
-use Rattle.candidate_eval.specs.Rules.{Rule, ask, characterise, nested_misc, settle, unknowable}
-use Rattle.candidate_eval.specs.States.{Env, State, Judge, resolved}
+use Rattle.candidate_eval.specs.Rules.{Rule, characterise, settle}
+use Rattle.candidate_eval.specs.States.{State, Judge, resolved}
+use Rattle.candidate_assembly.specs.declared.assembly.opaques.AssembleCandidatesFrom.{AssembleCandidatesFrom}
+use Rattle.candidate_assembly.specs.declared.assembly.opaques.AssembleCandidatesFrom.TheVariants.{All, EnvAndBounds}
 use Rattle.candidate_assembly.specs.AliasBounds.{ChainComes}
-use Rattle.candidate_assembly.specs.BuiltinRules.{flag_of_trait, holds_of}
+use Rattle.candidate_assembly.specs.BuiltinRules.{flag_of_trait}
 use Rattle.candidate_assembly.specs.KindBounds.{KindBounds, UnsizingList}
 use Rattle.candidate_assembly.specs.Kinds.{BuiltinRule, ErrorRule, AutoTraitRule, TraitAliasRule, SizednessRule, CopyCloneRule, FnTraitRule, FnPtrTraitRule, TupleRule, PointeeRule, DiscriminantKindRule, DestructRule, NoDropRule, KindRules, match_rule, rule_of_part, self_type}
 use Rattle.candidate_assembly.specs.Listing.{Listed, Lists, Stops, GoesOn, answers, together}
 use Rattle.candidate_assembly.specs.ObjectBounds.{ObjectList}
-use Rattle.candidate_assembly.specs.Opaques.{AssembleFrom, Everything, EnvAndBounds, proper_impls, variable_answers}
+use Rattle.candidate_assembly.specs.Opaques.{proper_impls, variable_answers}
 use Rattle.candidate_assembly.specs.TraitGoals.{is_item}
 use Rattle.candidate_assembly.specs.TraitRules.{trait_bounds, trait_rules}
+use Rattle.candidate_assembly.specs.Unknowable.{UnknowableJudged}
 
 -- The rule of the language for a trait, by its name.
 
@@ -106,14 +104,6 @@ is_coherence _ = false
 abbrev pub leaves_out : TypingMode → List Candidate → Bool
 leaves_out m xs = not (is_coherence m) && is_shadowed xs
 
--- Other crates may write impls: then what the goal's clause implies may be known still. The first of what is implied is the clause itself.
-
-abbrev pub positive_clause : Reference → Tree
-positive_clause r = holds_of (record { 0 = r.trait }) Pol.Positive none r.arguments
-
-abbrev pub unknowable_rule : Env → Reference → List Tree → Rule
-unknowable_rule e r implied = record { env = e; applies = true; steps = unknowable r ∷ nested_misc (without_first implied); ending = ask Source.CoherenceUnknowable AMBIGUOUS }
-
 -- What the rules alone say of a goal, one part after the other.
 module _ {G : Type 0} (K : KindRules G) (c : Context) where
   abbrev pub trait_of : G → ℕ
@@ -146,11 +136,9 @@ module _ {G : Type 0} (K : KindRules G) (B : KindBounds G) (c : Context) where
   resolved_goal S g = B.with_trees g (resolved S (K.env_of g)) (resolved S (K.trees_of g))
 
   module _ (J : Judge) where
-    -- The answer by what is unknowable. What the goal's clause implies is asked for where other crates may write impls.
-    pub data UnknowableJudged (S : State) (g : G) : Judged → Type 0 where
-      known : {j : Judged} → run J (K.env_of g) (start S) (unknowable (K.reference_of c g) ∷ []) ≡ Over j → UnknowableJudged S g j
-      unknown : (implied : List Tree) → IsElaboration c (positive_clause (K.reference_of c g) ∷ []) implied
-          → UnknowableJudged S g (judged J S (unknowable_rule (K.env_of g) (K.reference_of c g) implied))
+    -- the answer by what is unknowable
+    abbrev pub Unknowable : State → G → Judged → Type 0
+    Unknowable S g = UnknowableJudged J c S (K.env_of g) (K.reference_of c g)
 
     -- Impls and objects follow what is there, unless they are left out.
     pub data WithImpls (S : State) (g : G) (xs : List Candidate) : Listed → Type 0 where
@@ -170,32 +158,34 @@ module _ {G : Type 0} (K : KindRules G) (B : KindBounds G) (c : Context) where
 
     -- After bounds of aliases and where-bounds: the language's rule, unsizing, impls and objects; or objects alone where no clause of the
     -- environment served.
-    pub data Further (S : State) (g : G) (xs : List Candidate) : AssembleFrom → Listed → Type 0 where
-      everything : {l : Listed} → GoesOn (WithUnsizing S g) (together (Lists xs) (answers J S (language_rules K c g))) l → Further S g xs Everything l
+    pub data Further (S : State) (g : G) (xs : List Candidate) : AssembleCandidatesFrom → Listed → Type 0 where
+      everything : {l : Listed} → GoesOn (WithUnsizing S g) (together (Lists xs) (answers J S (language_rules K c g))) l → Further S g xs All l
       by_clauses : has_where_bound xs ≡ true → Further S g xs EnvAndBounds (Lists xs)
       by_objects : {l : Listed} → has_where_bound xs ≡ false → ObjectList K J c S g l → Further S g xs EnvAndBounds (together (Lists xs) l)
 
     -- Bounds of aliases, where-bounds in the order of the environment, and what follows them.
-    pub record Known (S : State) (g : G) (from : AssembleFrom) (l : Listed) : Type 0 where
+    pub record Known (S : State) (g : G) (from : AssembleCandidatesFrom) (l : Listed) : Type 0 where
       pub by_aliases : Listed
       pub chain : ChainComes K B.additional J c g S by_aliases
       pub further : GoesOn (λ xs. Further S g xs from) (together by_aliases (answers J S (where_rules K c g))) l
 
     -- In coherence what is unknowable is all that there is.
-    pub data Assembled (S : State) (g : G) (from : AssembleFrom) : Listed → Type 0 where
+    pub data Assembled (S : State) (g : G) (from : AssembleCandidatesFrom) : Listed → Type 0 where
       outside : {l : Listed} → is_coherence S.mode ≡ false → Known S g from l → Assembled S g from l
-      alone : {x : Candidate} → is_coherence S.mode ≡ true → UnknowableJudged S g (Gives x) → Assembled S g from (Lists (x ∷ []))
-      stops : {s : Stop} → is_coherence S.mode ≡ true → UnknowableJudged S g (Stopped s) → Assembled S g from (Stops s)
-      knowable : {l : Listed} → is_coherence S.mode ≡ true → UnknowableJudged S g Refused → Known S g from l → Assembled S g from l
+      alone : {x : Candidate} → is_coherence S.mode ≡ true → Unknowable S g (Gives x) → Assembled S g from (Lists (x ∷ []))
+      stops : {s : Stop} → is_coherence S.mode ≡ true → Unknowable S g (Stopped s) → Assembled S g from (Stops s)
+      knowable : {l : Listed} → is_coherence S.mode ≡ true → Unknowable S g Refused → Known S g from l → Assembled S g from l
 
-    -- The list of a goal, and the state that normalising its self type leaves: with a refused normal form there is none; a general variable
-    -- is answered by opaque types; else by all that is known of the goal, resolved.
-    pub data IsAssembled (S : State) (g : G) (from : AssembleFrom) : Listed → State → Type 0 where
+    -- The list of a goal whose self type has that normal form: a general variable is answered by opaque types; else by all that is known of
+    -- the goal, resolved.
+    pub data ForNormal (S : State) (g : G) (t : Tree) (from : AssembleCandidatesFrom) : Listed → Type 0 where
+      variable : is_general t.head ≡ true → ForNormal S g t from (variable_answers K J c S (K.with_self_type g t) from)
+      others : {l : Listed} → is_general t.head ≡ false → Assembled S (resolved_goal S (K.with_self_type g t)) from l → ForNormal S g t from l
+
+    -- The list of a goal, and the state that normalising its self type leaves; where that is refused the list is empty.
+    pub data IsAssembled (S : State) (g : G) (from : AssembleCandidatesFrom) : Listed → State → Type 0 where
       refused : J.normalized S (K.env_of g) (self_type K c g) ≡ None → IsAssembled S g from (Lists []) S
-      variable : {t : Tree} {T : State} → J.normalized S (K.env_of g) (self_type K c g) ≡ Some (t, T) → is_general t.head ≡ true
-          → IsAssembled S g from (variable_answers K J c T (K.with_self_type g t) from) T
-      others : {t : Tree} {T : State} {l : Listed} → J.normalized S (K.env_of g) (self_type K c g) ≡ Some (t, T) → is_general t.head ≡ false
-          → Assembled T (resolved_goal T (K.with_self_type g t)) from l → IsAssembled S g from l T
+      normal : {t : Tree} {T : State} {l : Listed} → J.normalized S (K.env_of g) (self_type K c g) ≡ Some (t, T) → ForNormal T g t from l → IsAssembled S g from l T
 
 -- How many of the candidates win over all others.
 
@@ -209,4 +199,4 @@ HasOneTrivial (Lists xs) = count_by (λ (x : Candidate). is_trivial x.source) xs
 HasOneTrivial (Stops s) = Unit {0}
 
 abbrev pub OneTrivial : Judge → Context → Type 0
-OneTrivial J c = (S T : State) (g : TraitGoal) (from : AssembleFrom) (l : Listed) → IsAssembled trait_rules trait_bounds c J S g from l T → HasOneTrivial l
+OneTrivial J c = (S T : State) (g : TraitGoal) (from : AssembleCandidatesFrom) (l : Listed) → IsAssembled trait_rules trait_bounds c J S g from l T → HasOneTrivial l

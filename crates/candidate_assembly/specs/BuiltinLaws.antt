@@ -53,7 +53,8 @@ use Rattle.candidate_assembly.specs.declared.trait_goals.no_drop.NoDrop.{NoDrop}
 use Rattle.candidate_assembly.specs.declared.trait_goals.no_drop.NoDrop.TheVariants as N
 use Rattle.candidate_assembly.specs.BuiltinRules.{ambiguous_rule, auto_barred, auto_refused, auto_rule, bounds_name, call_rule, copy_rule, is_nonempty, is_numeric_variable, is_of_trait, may_have_impls, misc, no_drop_needs, parts_rule, positive, rule_by_needs, self_of, trait_alias_rule, trait_rule}
 use Rattle.candidate_assembly.specs.Given.{AdtIsGiven, BoundsAreGiven, IsCounted, TraitIsGiven, AllIsGiven, all_is_given, declared_adt, declared_opaque, declared_trait}
-use Rattle.candidate_assembly.specs.Kinds.{BuiltinRule, ErrorRule, AutoTraitRule, TraitAliasRule, SizednessRule, CopyCloneRule, FnTraitRule, FnPtrTraitRule, TupleRule, PointeeRule, DiscriminantKindRule, DestructRule, NoDropRule, IsGoal}
+use Rattle.candidate_assembly.specs.KindLaws.{ReferenceFits}
+use Rattle.candidate_assembly.specs.Kinds.{BuiltinRule, ErrorRule, AutoTraitRule, TraitAliasRule, SizednessRule, CopyCloneRule, FnTraitRule, FnPtrTraitRule, TupleRule, PointeeRule, DiscriminantKindRule, DestructRule, NoDropRule}
 use Rattle.candidate_assembly.specs.TraitGoals.{arguments_held, item_trait, trait_goal, types_held}
 use Rattle.candidate_assembly.specs.TraitRules.{trait_rules}
 
@@ -283,10 +284,6 @@ pub nodes_fit : (c : Context) → IsWellFormedTable c → IsWellFormed c
 unfolding IsWellFormedTable
 nodes_fit c t = t.arguments.nodes
 
-pub goal_builtin_stays : (old new : Context) → IsWellFormedTable old → Grows old new → (env : ParamEnv) (p : TraitPredicate) → IsGoal trait_rules arguments_held types_held trait_goal old env p → (r : BuiltinRule)
-    → trait_rule r new (trait_goal old.trees env p) ≡ trait_rule r old (trait_goal old.trees env p)
-goal_builtin_stays old new t g env p h r =
-    let args = args_forest old.trees p.trait_ref.args in
-    builtin_stays_at old new t g r (trait_goal old.trees env p)
-    (first_is_given old t args (args-fit old p.trait_ref.args (nodes_fit old t) h.arguments))
-    (takes_declared old t p.trait_ref.def_id.0 (kinds_of args) h.fit)
+pub goal_builtin_stays : (old new : Context) → IsWellFormedTable old → Grows old new → (p : TraitGoal) → ReferenceFits trait_rules old p → (r : BuiltinRule) → trait_rule r new p ≡ trait_rule r old p
+goal_builtin_stays old new t g p h r =
+    builtin_stays_at old new t g r p (first_is_given old t p.reference.arguments h.fits) (takes_declared old t p.reference.trait (kinds_of p.reference.arguments) h.takes)

@@ -1,4 +1,4 @@
--- What is declared of traits and functions mentions no variable: a trait's where clauses, a function's signature.
+-- What is declared of traits and functions mentions no variable: a trait's super clauses and where clauses, a function's signature.
 use Rattle.std.proofs.Common.{◌≡◌, ◌==◌, ℕ, Bool, true, false, List, [], ◌∷◌, Option, Some, None, All, map, refl, sym, ◌∙◌, ap, arith}
 use Rattle.std.specs.Prelude.{if◌then◌else◌, option_map, slice_get}
 use Rattle.std.specs.List.{list_any}
@@ -25,6 +25,7 @@ use Rattle.candidate_ir.specs.Lookups.{definition, fn_sig, kind_of_declared, may
 use Rattle.candidate_ir.specs.Misplaced.{has_self, kinds_of_declared, kinds_of_owner, with_self}
 use Rattle.candidate_ir.specs.Nodes.{tree_at}
 use Rattle.candidate_ir.specs.Owned.{is_unsolved}
+use Rattle.candidate_ir.specs.Supers.{supers_at}
 use Rattle.candidate_ir.specs.Trees.{Kind, Forest, none, Tree, holds, is_list, put, row, tree_holds}
 use Rattle.candidate_ir.specs.WellFormed.{IsWellFormedTable}
 use Rattle.candidate_ir.specs.Words.{args_forest, clause_tree, ty_tree, vars_tree}
@@ -69,38 +70,39 @@ none-is-so : {X : Type 0} (f : X → Bool) (xs : List X) → list_any f xs ≡ f
 none-is-so f [] e = tt
 none-is-so f (x ∷ xs) e = let p = or_false (f x) (list_any f xs) e in (p.0, none-is-so f xs p.1)
 
--- Where clauses of traits.
+-- Super clauses and where clauses of traits.
 
 abbrev pub IsClosed : Context → Clause → Type 0
 IsClosed c x = tree_holds is_unsolved (clause_tree c.trees x) ≡ false
 
-wheres-of : (w : _) (f : _) (a : TraitContents) → list_any f (trait_held w a) ≡ false → All (λ x. f (held_clause w x) ≡ false) a.wheres
-wheres-of w f a e = each-held f (held_clause w) a.wheres (any-right f (held_clauses w a.supers) (held_clauses w a.wheres) e)
-
-wheres-have : (c : Context) (w : _) (f : _) (a : TraitContents) → list_any f (trait_held w a) ≡ false → ((x : Clause) → f (held_clause w x) ≡ false → IsClosed c x) → All (IsClosed c) a.wheres
-wheres-have c w f a e closed = All-weaker (λ x. f (held_clause w x) ≡ false) (IsClosed c) closed a.wheres (wheres-of w f a e)
+-- what isn't so among all that a trait holds
+clauses-have : (c : Context) (w : _) (f : _) (a : TraitContents) → list_any f (trait_held w a) ≡ false → ((x : Clause) → f (held_clause w x) ≡ false → IsClosed c x) → All (IsClosed c) a.supers × All (IsClosed c) a.wheres
+clauses-have c w f a e closed =
+    let supers = each-held f (held_clause w) a.supers (any-of f (held_clauses w a.supers) (held_clauses w a.wheres) e) in
+    let wheres = each-held f (held_clause w) a.wheres (any-right f (held_clauses w a.supers) (held_clauses w a.wheres) e) in
+    (All-weaker (λ x. f (held_clause w x) ≡ false) (IsClosed c) closed a.supers supers, All-weaker (λ x. f (held_clause w x) ≡ false) (IsClosed c) closed a.wheres wheres)
 
 -- What a trait holds, where nothing that is held is so, and what is not so among parameters of some kinds is closed.
 trait-owned : (c : Context) (f : _) → list_any f (definitions_held c.contents 0 c.declarations) ≡ false
     → ((w : _) (ks : List VarKind) (x : Clause) → kinds_of_owner c.declarations c.contents.impls w ≡ Some ks → f (held_clause w x) ≡ false → IsClosed c x)
-    → (n : ℕ) (ks : List Kind) → parameters (world c) TraitSort n ≡ Some ks → (a : TraitContents) → trait_at c n ≡ Some a → All (IsClosed c) a.wheres
+    → (n : ℕ) (ks : List Kind) → parameters (world c) TraitSort n ≡ Some ks → (a : TraitContents) → trait_at c n ≡ Some a → All (IsClosed c) a.supers × All (IsClosed c) a.wheres
 trait-owned c f none-is closed n ks p a s = of (slice_get c.declarations n) refl
   where
     there : (o : Option Declaration) → slice_get c.declarations n ≡ o → parameters_of TraitSort (option_map definition_of o) ≡ Some ks
     there o q = sym (ap (parameters_of TraitSort) (slice_get-map definition_of c.declarations n ∙ ap (option_map definition_of) q)) ∙ p
 
-    other : (d : Declaration) → slice_get c.declarations n ≡ Some d → sort_number (sort_of d.kind) == 2 ≡ false → All (IsClosed c) a.wheres
+    other : (d : Declaration) → slice_get c.declarations n ≡ Some d → sort_number (sort_of d.kind) == 2 ≡ false → All (IsClosed c) a.supers × All (IsClosed c) a.wheres
     other d q e =
         let z : None ≡ Some ks = sym (ap (λ (b : Bool). if b then Some (map parameter_kind d.parameters) else None) e) ∙ there (Some d) q in
         absurd cc
 
-    kinds : (d : Declaration) → slice_get c.declarations n ≡ Some d → (y : DefinitionKind) → d.kind ≡ y → All (IsClosed c) a.wheres
+    kinds : (d : Declaration) → slice_get c.declarations n ≡ Some d → (y : DefinitionKind) → d.kind ≡ y → All (IsClosed c) a.supers × All (IsClosed c) a.wheres
     kinds d q (D.Trait g k) i =
         let at : slice_get c.contents.traits k ≡ Some a =
         sym (ap (λ (o : Option Declaration). slice_get c.contents.traits (place_of trait_place o)) q ∙ ap (λ (y : DefinitionKind). slice_get c.contents.traits (trait_place y)) i) ∙ s in
         let own = definition-passes f c.contents 0 c.declarations n n d none-is q (omega arith) in
         let here = rw (i, at) at own in
-        wheres-have c _ f a here (λ x e. closed _ (with_self (has_self d.kind) d.parameters) x (ap kinds_of_declared q) e)
+        clauses-have c _ f a here (λ x e. closed _ (with_self (has_self d.kind) d.parameters) x (ap kinds_of_declared q) e)
     kinds d q (D.Adt _ _ _) i = other d q (ap (λ (y : DefinitionKind). sort_number (sort_of y) == 2) i)
     kinds d q D.Foreign i = other d q (ap (λ (y : DefinitionKind). sort_number (sort_of y) == 2) i)
     kinds d q (D.Assoc _ a _ _) i = other d q (ap (λ (y : DefinitionKind). sort_number (sort_of y) == 2) i ∙ assoc a)
@@ -113,11 +115,11 @@ trait-owned c f none-is closed n ks p a s = of (slice_get c.declarations n) refl
     kinds d q (D.Function _ _) i = other d q (ap (λ (y : DefinitionKind). sort_number (sort_of y) == 2) i)
     kinds d q (D.Closure _) i = other d q (ap (λ (y : DefinitionKind). sort_number (sort_of y) == 2) i)
 
-    of : (o : Option Declaration) → slice_get c.declarations n ≡ o → All (IsClosed c) a.wheres
+    of : (o : Option Declaration) → slice_get c.declarations n ≡ o → All (IsClosed c) a.supers × All (IsClosed c) a.wheres
     of None q = let z : None ≡ Some ks = there None q in absurd cc
     of (Some d) q = kinds d q d.kind refl
 
-trait-closed : (c : Context) → IsWellFormedTable c → (n : ℕ) (ks : List Kind) → parameters (world c) TraitSort n ≡ Some ks → (a : TraitContents) → trait_at c n ≡ Some a → All (IsClosed c) a.wheres
+trait-closed : (c : Context) → IsWellFormedTable c → (n : ℕ) (ks : List Kind) → parameters (world c) TraitSort n ≡ Some ks → (a : TraitContents) → trait_at c n ≡ Some a → All (IsClosed c) a.supers × All (IsClosed c) a.wheres
 trait-closed c t =
     trait-owned c _ (any-of _ (definitions_held c.contents 0 c.declarations) (impls_held 0 c.contents.impls) (none-stray c t))
     (λ w ks x owner e. let none-is = rw owner at e in unsolved-free _ (clause_tree c.trees x) (or-right _ _ none-is) (or-left _ _ none-is) (λ v. refl) (λ n. refl))
@@ -127,7 +129,14 @@ wheres-closed c t n ks p = of (trait_at c n) refl
   where
     of : (o : Option TraitContents) → trait_at c n ≡ o → All (IsClosed c) (maybe [] (λ a. a.wheres) o)
     of None q = All-nil (IsClosed c)
-    of (Some a) q = trait-closed c t n ks p a q
+    of (Some a) q = (trait-closed c t n ks p a q).1
+
+pub supers-closed : (c : Context) → IsWellFormedTable c → (n : ℕ) (ks : List Kind) → parameters (world c) TraitSort n ≡ Some ks → All (IsClosed c) (supers_at (trait_at c n))
+supers-closed c t n ks p = of (trait_at c n) refl
+  where
+    of : (o : Option TraitContents) → trait_at c n ≡ o → All (IsClosed c) (supers_at o)
+    of None q = All-nil (IsClosed c)
+    of (Some a) q = (trait-closed c t n ks p a q).0
 
 -- Signatures of functions.
 

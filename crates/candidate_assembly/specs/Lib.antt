@@ -17,6 +17,7 @@ pub mod Calling
 pub mod DynBounds
 pub mod Listing
 pub mod Unsizing
+pub mod Upcasting
 pub mod KindBounds
 pub mod Standing
 pub mod KindLaws
@@ -27,9 +28,15 @@ pub mod UnsizingLaws
 pub mod TraitLaws
 pub mod SuperLaws
 pub mod ObjectBounds
+pub mod ObjectCalls
 pub mod ObjectLaws
 pub mod AliasBounds
 pub mod Opaques
+pub mod Unknowable
 pub mod Assembled
+pub mod AssembledCalls
+pub mod Earlier
+pub mod Assembling
 pub mod Language
 pub mod AliasChains
+pub mod OneTrivial

@@ -14,13 +14,14 @@ use Rattle.candidate_ir.specs.declared.ir.kinds.RegionKind.TheVariants as R
 use Rattle.candidate_ir.specs.declared.ir.kinds.VarKind.{VarKind}
 use Rattle.candidate_ir.specs.declared.ir.kinds.VarKind.TheVariants as V
 use Rattle.candidate_ir.specs.declared.ir.stop.Stop.{Stop}
-use Rattle.candidate_ir.specs.Context.{Context}
+use Rattle.candidate_ir.specs.Context.{Context, world}
 use Rattle.candidate_ir.specs.Elaboration.{first_children}
 use Rattle.candidate_ir.specs.Folding.{fold, leaf}
 use Rattle.candidate_ir.specs.Lookups.{assoc_trait, definition}
 use Rattle.candidate_ir.specs.Opening.{bound_head, error_of, is_of, nearer}
 use Rattle.candidate_ir.specs.Supers.{after_first}
-use Rattle.candidate_ir.specs.Trees.{Kind, Forest, tree, Tree}
+use Rattle.candidate_ir.specs.Trees.{Kind, TypeKind, Forest, tree, Tree}
+use Rattle.candidate_ir.specs.Worlds.{TraitSort, joined, kinds_of, parameters}
 use Rattle.candidate_eval.specs.declared.eval.certainty.Certainty.TheVariants.{Yes}
 use Rattle.candidate_eval.specs.declared.eval.source.BuiltinImplSource.TheVariants.{Misc, Object}
 use Rattle.candidate_eval.specs.declared.eval.source.CandidateSource.{CandidateSource}
@@ -36,7 +37,7 @@ use Rattle.candidate_eval.specs.Required.{AreRequirements, own_bounds}
 use Rattle.candidate_eval.specs.Rules.{Step, fresh, nested, Rule, ask}
 use Rattle.candidate_eval.specs.States.{State, Goal, Judge, with_pending}
 use Rattle.candidate_assembly.specs.DynBounds.{ArePrincipalSupers, bound_said, bounds_in, is_compatible, is_dynamic, is_principal, principal_in}
-use Rattle.candidate_assembly.specs.Kinds.{KindRules, arguments_by, match_rule, passes, self_type}
+use Rattle.candidate_assembly.specs.Kinds.{KindRules, arguments_by, compared_arguments, match_rule, passes, self_type}
 use Rattle.candidate_assembly.specs.Listing.{Listed, Lists, Stops, listed, together}
 use Rattle.candidate_assembly.specs.Projections.{trait_number}
 use Rattle.candidate_assembly.specs.TraitGoals.{is_item}
@@ -95,6 +96,16 @@ abbrev pub trait_by : Context → Head → ℕ
 trait_by c (H.Part (P.Clause (Cl.Trait i p))) = i.0
 trait_by c (H.Part (P.Clause (Cl.Projection i))) = trait_number (assoc_trait (definition c i.0))
 trait_by c _ = 0
+
+-- that a trait holds, or doesn't, or what an associated type of one is
+abbrev pub speaks_of_trait : Head → Bool
+speaks_of_trait (H.Part (P.Clause (Cl.Trait i p))) = true
+speaks_of_trait (H.Part (P.Clause (Cl.Projection i))) = true
+speaks_of_trait _ = false
+
+-- The clause's arguments are those that this trait takes.
+abbrev pub HasArguments : Context → Tree → Type 0
+HasArguments c t = joined (Some (TypeKind ∷ [])) (parameters (world c) TraitSort (trait_by c t.head)) ≡ Some (kinds_of (compared_arguments t))
 
 -- The rule of a clause as data: it is matched, and then instantiated once more; what is required of an object of that instance's trait is
 -- asked of this one, where each projection of the object's own is the term that one of its bounds picks. Where that is too little known, so

@@ -23,12 +23,14 @@ use Rattle.candidate_ir.specs.Elaboration.{IsElaboration, is_there, super_clause
 use Rattle.candidate_ir.specs.Folding.{fold, lacks_argument, put}
 use Rattle.candidate_ir.specs.Lookups.{assoc_trait, definition}
 use Rattle.candidate_ir.specs.Nodes.{kind_at}
+use Rattle.candidate_ir.specs.References.{FitsAmong}
 use Rattle.candidate_ir.specs.Supers.{supers_at}
 use Rattle.candidate_ir.specs.Trees.{Kind, TypeKind, ClauseKind, BinderKind, PredicateKind, Forest, none, tree, Tree, binders_of, kind_of, sort_kind, list_kind, tree_holds}
 use Rattle.candidate_ir.specs.Unify.{may_unify}
 use Rattle.candidate_ir.specs.WellFormed.{IsWellFormedTable}
 use Rattle.candidate_ir.specs.Words.{ClauseListFits, clause_tree}
 use Rattle.candidate_ir.specs.Worlds.{AssociatedTypeSort, Fits, Reference, World, bounds_of, child_kinds, joined, kinds_of, parameters}
+use Rattle.candidate_ir.proofs.References.{fit-at}
 use Rattle.candidate_ir.proofs.Rows.{kind-of}
 use Rattle.candidate_eval.specs.declared.eval.source.BuiltinImplSource.TheVariants.{Misc}
 use Rattle.candidate_eval.specs.declared.eval.source.CandidateSource.TheVariants.{BuiltinImpl}
@@ -38,11 +40,12 @@ use Rattle.candidate_eval.specs.ObjectRequirements.{AreAsked, AreUnknown, first_
 use Rattle.candidate_eval.specs.Required.{AreRequirements, each_of, with_arguments}
 use Rattle.candidate_eval.specs.States.{Env, Goal, Judge, State}
 use Rattle.candidate_eval.proofs.Requiring.{required_stays}
+use Rattle.candidate_assembly.specs.BuiltinLaws.{nodes_fit}
 use Rattle.candidate_assembly.specs.DynBounds.{ArePrincipalSupers, bound_said, bounds_in, clause_head_by, is_dynamic, is_principal, principal_in, AreSupersOf}
 use Rattle.candidate_assembly.specs.Given.{TraitIsGiven, item_trait_given}
 use Rattle.candidate_assembly.specs.Kinds.{IsGoal, KindRules, compared_arguments, passes, self_type}
 use Rattle.candidate_assembly.specs.Listing.{Listed}
-use Rattle.candidate_assembly.specs.ObjectBounds.{ObjectJudged, ObjectList, ObjectsAnswer, OwnClause, answer, has_own_clauses, is_sizedness, none_left, nothing, numbered, one, own_clause, own_clauses, reference_by, rejected, required, stopped, trait_by, unknown, unmatched}
+use Rattle.candidate_assembly.specs.ObjectBounds.{ObjectJudged, ObjectList, ObjectsAnswer, OwnClause, answer, has_own_clauses, is_sizedness, none_left, nothing, numbered, one, own_clause, own_clauses, reference_by, rejected, required, speaks_of_trait, stopped, trait_by, unknown, unmatched}
 use Rattle.candidate_assembly.specs.Projections.{trait_number}
 use Rattle.candidate_assembly.specs.Staying.{trait_goal_stays}
 use Rattle.candidate_assembly.specs.SuperLaws.{Each, arguments_fit, IsFitting, NameGiven, NamesGiven, TakeTheirs, TakesThem, bounds_take, elaboration_back, first_fits, principal_supers_back, said_names, super_clauses_stay, declared_name, filtered_each}
@@ -123,32 +126,32 @@ abbrev pub SpeakGiven : Context → List OwnClause → Type 0
 SpeakGiven c [] = Unit {0}
 SpeakGiven c (o ∷ os) = TraitIsGiven c (trait_by c o.clause.head) × SpeakGiven c os
 
-abbrev IsPredicate : Tree → Type 0
+abbrev pub IsPredicate : Tree → Type 0
 IsPredicate t = kind_of t.head ≡ PredicateKind
 
-abbrev SaysATrait : Tree → Type 0
+abbrev pub SaysATrait : Tree → Type 0
 SaysATrait t = is_there (trait_of t.head) ≡ true
 
-no-variable : (s : VariableSort) → sort_kind s ≡ PredicateKind → ⊥
-no-variable V.Constant e = absurd cc
-no-variable _ e = absurd cc
+pub no_variable : (s : VariableSort) → sort_kind s ≡ PredicateKind → ⊥
+no_variable V.Constant e = absurd cc
+no_variable _ e = absurd cc
 
-no-list : (l : ListHead) → list_kind l ≡ PredicateKind → ⊥
-no-list LH.Args e = absurd cc
-no-list LH.Preds e = absurd cc
-no-list LH.Clauses e = absurd cc
+pub no_list : (l : ListHead) → list_kind l ≡ PredicateKind → ⊥
+no_list LH.Args e = absurd cc
+no_list LH.Preds e = absurd cc
+no_list LH.Clauses e = absurd cc
 
-dynamic-bounds : (w : World) (h : Head) (ks : List Kind) → is_dynamic h ≡ true → child_kinds w h ks ≡ Some ks → bounds_of ks ≡ ks
-dynamic-bounds w H.Dynamic ks d e = cc
-dynamic-bounds w _ ks d e = absurd cc
+pub dynamic_bounds : (w : World) (h : Head) (ks : List Kind) → is_dynamic h ≡ true → child_kinds w h ks ≡ Some ks → bounds_of ks ≡ ks
+dynamic_bounds w H.Dynamic ks d e = cc
+dynamic_bounds w _ ks d e = absurd cc
 
-are-predicates : (ts : Forest) → bounds_of (kinds_of ts) ≡ kinds_of ts → Each IsPredicate (each_of (all_but_last ts))
-are-predicates none e = tt
-are-predicates (tree h below none) e = tt
-are-predicates (tree h below (tree k under rest)) e =
+pub are_predicates : (ts : Forest) → bounds_of (kinds_of ts) ≡ kinds_of ts → Each IsPredicate (each_of (all_but_last ts))
+are_predicates none e = tt
+are_predicates (tree h below none) e = tt
+are_predicates (tree h below (tree k under rest)) e =
     let here : kind_of h ≡ PredicateKind = cc in
     let others : bounds_of (kinds_of (tree k under rest)) ≡ kinds_of (tree k under rest) = cc in
-    (here, are-predicates (tree k under rest) others)
+    (here, are_predicates (tree k under rest) others)
 
 -- the elements that pass a test pass it
 all-pass : (test : Tree → Bool) (ts : List Tree) → Each (λ u. test u ≡ true) (filter test ts)
@@ -169,9 +172,23 @@ module _ (c : Context) (t : IsWellFormedTable c) where
   bound-speaks (H.Part (P.Pred (PH.Trait i))) ks k e = said_names c t (H.Part (P.Pred (PH.Trait i))) ks e
   bound-speaks (H.Part (P.Pred (PH.AutoTrait i))) ks k e = said_names c t (H.Part (P.Pred (PH.AutoTrait i))) ks e
   bound-speaks (H.Part (P.Pred (PH.Projection i))) ks k e = item-speaks i.0 (parameters (world c) AssociatedTypeSort i.0) ks refl e
-  bound-speaks (H.Infer v) ks k e = absurd (no-variable v.sort k)
-  bound-speaks (H.List l) ks k e = absurd (no-list l k)
+  bound-speaks (H.Infer v) ks k e = absurd (no_variable v.sort k)
+  bound-speaks (H.List l) ks k e = absurd (no_list l k)
   bound-speaks _ ks k e = absurd cc
+
+  clause-item-speaks : (n : ℕ) (o : Option (List Kind)) (ks : List Kind) → parameters (world c) AssociatedTypeSort n ≡ o → joined (Some (BinderKind ∷ [])) (joined (joined (Some (TypeKind ∷ [])) o) (Some (TypeKind ∷ []))) ≡ Some ks
+      → TraitIsGiven c (trait_number (assoc_trait (definition c n)))
+  clause-item-speaks n None ks q e = absurd cc
+  clause-item-speaks n (Some ps) ks q e = item_trait_given c t n ps q
+
+  head-speaks : (h : Head) (below : Forest) → speaks_of_trait h ≡ true → (let u : Tree = record { head = h; children = below } in FitsAmong (world c) u) → TraitIsGiven c (trait_by c h)
+  head-speaks (H.Part (P.Clause (Cl.Trait i p))) below s f = said_names c t (H.Part (P.Clause (Cl.Trait i p))) (kinds_of below) f.0
+  head-speaks (H.Part (P.Clause (Cl.Projection i))) below s f = clause-item-speaks i.0 (parameters (world c) AssociatedTypeSort i.0) (kinds_of below) refl f.0
+  head-speaks _ below s f = absurd cc
+
+  -- and so does each clause of the context that speaks of a trait
+  pub clause_speaks : (x : Clause) → speaks_of_trait (clause_tree c.trees x).head ≡ true → TraitIsGiven c (trait_by c (clause_tree c.trees x).head)
+  clause_speaks x s = let u = clause_tree c.trees x in head-speaks u.head u.children s (fit-at (world c) c.trees (nodes_fit c t) x.0)
 
   bounds-speak : (type : Tree) (bs : List Tree) (more : List OwnClause) → Each IsPredicate bs → TakeTheirs (world c) bs → SpeakGiven c more
       → SpeakGiven c (map (λ b. own_clause (BuiltinImpl Misc) (bound_said type b)) bs ++ more)
@@ -186,19 +203,19 @@ module _ (c : Context) (t : IsWellFormedTable c) where
   numbered-speak n [] s f = tt
   numbered-speak n (u ∷ us) s f = (trait-speaks u.head s.0 f.0, numbered-speak (suc n) us s.1 f.1)
 
-  supers-say : (type : Tree) (o : Option Tree) (ts : List Tree) → AreSupersOf c type o ts → Each SaysATrait ts
-  supers-say type None ts s = subst (Each SaysATrait) (sym s) tt
-  supers-say type (Some p) ts s = subst (Each SaysATrait) (sym s.are) (all-pass (λ u. is_there (trait_of u.head)) s.all)
+  pub supers_say : (type : Tree) (o : Option Tree) (ts : List Tree) → AreSupersOf c type o ts → Each SaysATrait ts
+  supers_say type None ts s = subst (Each SaysATrait) (sym s) tt
+  supers_say type (Some p) ts s = subst (Each SaysATrait) (sym s.are) (all-pass (λ u. is_there (trait_of u.head)) s.all)
 
   pub own_clauses_speak : (type : Tree) (supers : List Tree) → is_dynamic type.head ≡ true → IsFitting (world c) type → ArePrincipalSupers c type supers → NameGiven c supers
       → SpeakGiven c (own_clauses type supers)
   own_clauses_speak type supers d f s names =
       let w = world c in
       let others = λ (b : Tree). not (is_principal b.head) in
-      let predicates = are-predicates type.children (dynamic-bounds w type.head (kinds_of type.children) d f.takes) in
+      let predicates = are_predicates type.children (dynamic_bounds w type.head (kinds_of type.children) d f.takes) in
       bounds-speak type (filter others (bounds_in type)) (numbered 0 supers) (filtered_each IsPredicate others (bounds_in type) predicates)
       (filtered_each (TakesThem w) others (bounds_in type) (bounds_take w type f.below))
-      (numbered-speak 0 supers (supers-say type (principal_in type) supers s) names)
+      (numbered-speak 0 supers (supers_say type (principal_in type) supers s) names)
 
 and-second : (a b : Bool) → a && b ≡ true → b ≡ true
 and-second true b e = e
@@ -209,8 +226,8 @@ and-first true b e = refl
 and-first false b e = absurd cc
 
 -- what has such clauses is a `dyn` type
-has-dynamic : (c : Context) (n : ℕ) (t : Tree) → has_own_clauses c n t ≡ true → is_dynamic t.head ≡ true
-has-dynamic c n t e = and-first (is_dynamic t.head) _ (and-second (not (is_sizedness c n)) _ e)
+pub has_dynamic : (c : Context) (n : ℕ) (t : Tree) → has_own_clauses c n t ≡ true → is_dynamic t.head ≡ true
+has_dynamic c n t e = and-first (is_dynamic t.head) _ (and-second (not (is_sizedness c n)) _ e)
 
 -- So all that they give is the same, for a goal whose arguments fit, and that is about the same and is matched by the same.
 module _ {G : Type 0} (K : KindRules G) (J : Judge) (old new : Context) (t : IsWellFormedTable old) (w : Grows old new) (S : State) (g : G)
@@ -231,17 +248,17 @@ module _ {G : Type 0} (K : KindRules G) (J : Judge) (old new : Context) (t : IsW
     children = (reference_by old u).children;
   }
 
-  judged-back : (o : OwnClause) (j : Judged) → TraitIsGiven old (trait_by old o.clause.head) → ObjectJudged K J new S g o j → ObjectJudged K J old S g o j
-  judged-back o j f (rejected e) = rejected (sym (passes-same o.clause) ∙ e)
-  judged-back o j f (unmatched T a q m) = unmatched T a (sym (passes-same o.clause) ∙ q) m
-  judged-back o j f (required T U p goals a q m k) =
+  pub judged_back : (o : OwnClause) (j : Judged) → TraitIsGiven old (trait_by old o.clause.head) → ObjectJudged K J new S g o j → ObjectJudged K J old S g o j
+  judged_back o j f (rejected e) = rejected (sym (passes-same o.clause) ∙ e)
+  judged_back o j f (unmatched T a q m) = unmatched T a (sym (passes-same o.clause) ∙ q) m
+  judged_back o j f (required T U p goals a q m k) =
       let u = o.clause in
       let n = trait_by old u.head in
       let Asked : ℕ → Tree → Type 0 = λ i self. AreAsked J (K.env_of g) new p.state i (reference_with i u) (all_but_last self.children) goals U in
       let same-trait = subst (λ i. Asked i (self_type K new g)) (trait_by_stays old new t w u.head) k in
       let here = subst (Asked n) self-same same-trait in
       required T U p goals a (sym (passes-same u) ∙ q) m (asked_back old new t w J (K.env_of g) p.state n (reference_with n u) (all_but_last (self_type K old g).children) goals U f here)
-  judged-back o j f (unknown T U p a q m k) =
+  judged_back o j f (unknown T U p a q m k) =
       let u = o.clause in
       let n = trait_by old u.head in
       let Unknown : ℕ → Tree → Type 0 = λ i self. AreUnknown J (K.env_of g) new p.state i (reference_with i u) (all_but_last self.children) U in
@@ -249,10 +266,10 @@ module _ {G : Type 0} (K : KindRules G) (J : Judge) (old new : Context) (t : IsW
       let here = subst (Unknown n) self-same same-trait in
       unknown T U p a (sym (passes-same u) ∙ q) m (unknown_back old new t w J (K.env_of g) p.state n (reference_with n u) (all_but_last (self_type K old g).children) U f here)
 
-  answers-back : (os : List OwnClause) (l : Listed) → SpeakGiven old os → ObjectsAnswer K J new S g os l → ObjectsAnswer K J old S g os l
-  answers-back [] l f none_left = none_left
-  answers-back (o ∷ os) l f (one {j = j} {l = rest} h r) = one (judged-back o j f.0 h) (answers-back os rest f.1 r)
-  answers-back (o ∷ os) l f (stopped h) = stopped (judged-back o _ f.0 h)
+  pub answers_back : (os : List OwnClause) (l : Listed) → SpeakGiven old os → ObjectsAnswer K J new S g os l → ObjectsAnswer K J old S g os l
+  answers_back [] l f none_left = none_left
+  answers_back (o ∷ os) l f (one {j = j} {l = rest} h r) = one (judged_back o j f.0 h) (answers_back os rest f.1 r)
+  answers_back (o ∷ os) l f (stopped h) = stopped (judged_back o _ f.0 h)
 
   pub object_list_back : Fits (world old) (K.reference_of old g).arguments → (l : Listed) → ObjectList K J new S g l → ObjectList K J old S g l
   object_list_back fit l (nothing e) = nothing (sym has-same ∙ e)
@@ -261,8 +278,8 @@ module _ {G : Type 0} (K : KindRules G) (J : Judge) (old new : Context) (t : IsW
       let has = sym has-same ∙ e in
       let f = first_fits (world old) (K.reference_of old g).arguments fit in
       let r = principal_supers_back old new t w self f.below supers (subst (λ u. ArePrincipalSupers new u supers) self-same s) in
-      let speak = own_clauses_speak old t self supers (has-dynamic old (K.reference_of old g).trait self has) f r.0 r.1 in
-      answer supers has r.0 (answers-back (own_clauses self supers) l speak (subst (λ u. ObjectsAnswer K J new S g (own_clauses u supers) l) self-same a))
+      let speak = own_clauses_speak old t self supers (has_dynamic old (K.reference_of old g).trait self has) f r.0 r.1 in
+      answer supers has r.0 (answers_back (own_clauses self supers) l speak (subst (λ u. ObjectsAnswer K J new S g (own_clauses u supers) l) self-same a))
 
 -- So it is of a goal of a trait.
 pub trait_object_list_back : (J : Judge) (old new : Context) → IsWellFormedTable old → Grows old new → (S : State) (env : ParamEnv) (p : TraitPredicate) → IsGoal trait_rules arguments_held types_held trait_goal old env p

@@ -18,7 +18,7 @@ use Rattle.candidate_assembly.specs.TraitRules.{trait_rules}
 abbrev goal_with : TraitPredicate → Env → Forest → TraitGoal
 goal_with p e a = record { env = e; reference = record { trait = p.trait_ref.def_id.0; arguments = a }; polarity = p.polarity }
 
-same_fits : (old new : Context) (g : TraitGoal) → new.contents ≡ old.contents → (h : Head) → fits new g h ≡ fits old g h
+pub same_fits : (old new : Context) (g : TraitGoal) → new.contents ≡ old.contents → (h : Head) → fits new g h ≡ fits old g h
 same_fits old new g e h = ap (λ (x : Contents). fits (record old { contents = x }) g h) e
 
 pub trait_goal_stays : (old new : Context) (env : ParamEnv) (p : TraitPredicate) → Grows old new → IsGoal trait_rules arguments_held types_held trait_goal old env p → SaysTheSame trait_rules trait_goal old new env p

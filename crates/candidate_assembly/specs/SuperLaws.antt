@@ -43,22 +43,25 @@ pub filtered_each : (P : Tree → Type 0) (test : Tree → Bool) (ts : List Tree
 filtered_each P test [] a = tt
 filtered_each P test (t ∷ ts) a = let rest = filtered_each P test ts a.1 in either_way (Each P) (test t) (t ∷ filter test ts) (filter test ts) (a.0, rest) rest
 
+pub each_of_both : (P : Tree → Type 0) (ts us : List Tree) → Each P ts → Each P us → Each P (ts ++ us)
+each_of_both P [] us a b = b
+each_of_both P (t ∷ ts) us a b = (a.0, each_of_both P ts us a.1 b)
+
+pub unlisted_each : (P : Tree → Type 0) (seen ts : List Tree) → Each P ts → Each P (unlisted seen ts)
+unlisted_each P seen [] a = tt
+unlisted_each P seen (t ∷ ts) a =
+    either_way (Each P) (lists seen t) (unlisted seen ts) (t ∷ unlisted (seen ++ t ∷ []) ts) (unlisted_each P seen ts a.1) (a.0, unlisted_each P (seen ++ t ∷ []) ts a.1)
+
 -- What the trait that a clause speaks of holds is given.
 
 abbrev pub NamesGiven : Context → Head → Type 0
 NamesGiven c h = IfSome (trait_of h) (TraitIsGiven c)
 
+abbrev pub IsNamed : Context → Tree → Type 0
+IsNamed c t = NamesGiven c t.head
+
 abbrev pub NameGiven : Context → List Tree → Type 0
-NameGiven c ts = Each (λ t. NamesGiven c t.head) ts
-
-names-join : (c : Context) (ts us : List Tree) → NameGiven c ts → NameGiven c us → NameGiven c (ts ++ us)
-names-join c [] us a b = b
-names-join c (t ∷ ts) us a b = (a.0, names-join c ts us a.1 b)
-
-unlisted-name : (c : Context) (seen ts : List Tree) → NameGiven c ts → NameGiven c (unlisted seen ts)
-unlisted-name c seen [] a = tt
-unlisted-name c seen (t ∷ ts) a =
-    either_way (NameGiven c) (lists seen t) (unlisted seen ts) (t ∷ unlisted (seen ++ t ∷ []) ts) (unlisted-name c seen ts a.1) (a.0, unlisted-name c (seen ++ t ∷ []) ts a.1)
+NameGiven c ts = Each (IsNamed c) ts
 
 -- where all is given, so is this
 pub all_name_given : (c : Context) → AllIsGiven c → (ts : List Tree) → NameGiven c ts
@@ -125,18 +128,18 @@ module _ (old new : Context) (t : IsWellFormedTable old) (g : Grows old new) whe
       let same : implied_by (super_clauses new) u ≡ implied_by (super_clauses old) u = implied-same u (head_trait u.head) (held-trait u.head b.0) in
       let more = subst (NameGiven old) (sym same) (implied-given u (head_trait u.head)) in
       let seen = walked ++ u ∷ left in
-      let rest = names-join old left (unlisted seen (implied_by (super_clauses new) u)) b.1 (unlisted-name old seen (implied_by (super_clauses new) u) more) in
-      let r = walk-back e (names-join old walked (u ∷ []) a (b.0, tt)) rest in
+      let rest = each_of_both (IsNamed old) left (unlisted seen (implied_by (super_clauses new) u)) b.1 (unlisted_each (IsNamed old) seen (implied_by (super_clauses new) u) more) in
+      let r = walk-back e (each_of_both (IsNamed old) walked (u ∷ []) a (b.0, tt)) rest in
       (step (subst (λ (ts : List Tree). Elaborates (super_clauses old) (walked ++ u ∷ []) (left ++ unlisted seen ts) all) same r.0), r.1)
 
   -- An elaboration, and that its clauses speak of what is given.
   pub elaboration_back : (xs ys : List Tree) → NameGiven old xs → IsElaboration new xs ys → IsElaboration old xs ys × NameGiven old ys
-  elaboration_back xs ys f e = walk-back e tt (unlisted-name old [] xs f)
+  elaboration_back xs ys f e = walk-back e tt (unlisted_each (IsNamed old) [] xs f)
 
   pub supertraits_back : (u : Tree) (ts : List Tree) → NamesGiven old u.head → AreSupertraits new u ts → AreSupertraits old u ts × NameGiven old ts
   supertraits_back u ts f s =
       let r = elaboration_back (u ∷ []) s.all (f, tt) s.elaborated in
-      (record { all = s.all; elaborated = r.0; are = s.are }, subst (NameGiven old) (sym s.are) (filtered_each (λ u. NamesGiven old u.head) _ s.all r.1))
+      (record { all = s.all; elaborated = r.0; are = s.are }, subst (NameGiven old) (sym s.are) (filtered_each (IsNamed old) _ s.all r.1))
 
 -- The bounds of a type that fits take the children that they have.
 

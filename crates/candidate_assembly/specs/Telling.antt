@@ -50,6 +50,20 @@ pub record Considers {E X : Type 0} (fixed : E → X) (judge : X → Judge) (sta
   pub told : Told (context new).trees answer (judged (judge (fixed old)) (state old) rule)
   pub cause : IfErr answer (by_stop (StopsOfItself fixed context state stops old))
 
+-- The same where what is judged is known by a relation: that holds of what is answered.
+pub record ToldSome (ts : List Tree) (R : Judged → Type 0) (answer : Result Candidate NoSolutionOrStop) : Type 0 where
+  pub ok : IfOk answer (λ c. R (Gives (candidate_of ts c)))
+  pub fits : IfOk answer (λ c. IsResponse ts c.result)
+  pub refused : IfErr answer (λ e. e ≡ N.NoSolution → R Refused)
+  pub stopped : IfErr answer (by_stop (λ s. own_stop s ≡ false → R (Stopped s)))
+
+pub record ConsidersSome {E X : Type 0} (fixed : E → X) (judge : X → Judge) (state : E → State) (probes : E → List State) (context : E → Context) (stops : Account E)
+    (old new : E) (R : Judged → Type 0) (answer : Result Candidate NoSolutionOrStop) : Type 0 where
+  pub kept : Keeps fixed probes context old new
+  pub alike : (judge (fixed old)).alike (state old) (state new)
+  pub told : ToldSome (context new).trees R answer
+  pub cause : IfErr answer (by_stop (StopsOfItself fixed context state stops old))
+
 -- An answer that hands out besides a refusal what was used until then, without that.
 abbrev pub without_usages : Result (Result Candidate CandidateHeadUsages) Stop → Result Candidate NoSolutionOrStop
 without_usages (Ok (Ok c)) = Ok c

@@ -96,32 +96,32 @@ bound_match n target source =
     let own = bound_row (n + length (kinds_bound target)) source in
     record { entered = kinds_bound target; instantiated = kinds_bound source; left = own; right = bound_row n target; term = last_tree own }
 
-abbrev pub projection_met : ℕ → ℕ → Tree → Tree → Met
-projection_met n item from target = met_by (pick Upcast (map (bound_match n target) (filter (λ b. projects item b.head) (bounds_in from))) ∷ []) (suc n)
+abbrev pub projection_met : ℕ → ℕ → List Tree → Tree → Met
+projection_met n item sources target = met_by (pick Upcast (map (bound_match n target) (filter (λ b. projects item b.head) sources)) ∷ []) (suc n)
 
 -- The auto traits that the source has: those of its bounds, and those among the supertraits of its principal.
-abbrev pub autos : Context → List Tree → Tree → List ℕ
-autos c supers from = flat_map (λ b. auto_of b.head) (bounds_in from) ++ filter (flag_of_trait (λ f. f.auto) c) (traits_among [] supers)
+abbrev pub autos : Context → List Tree → List Tree → List ℕ
+autos c supers sources = flat_map (λ b. auto_of b.head) sources ++ filter (flag_of_trait (λ f. f.auto) c) (traits_among [] supers)
 
--- One bound of the target, by its head, where the source has this principal.
-abbrev pub bound_met : Context → List Tree → Tree → Option Tree → ℕ → Tree → Head → Met
-bound_met c supers from principal n target (H.Part (P.Pred (PH.Trait i))) = principal_met n principal target
-bound_met c supers from principal n target (H.Part (P.Pred (PH.Projection i))) = projection_met n i.0 from target
-bound_met c supers from principal n target (H.Part (P.Pred (PH.AutoTrait i))) = if number_listed (autos c supers from) i.0 then met_by [] n else unmet n
-bound_met c supers from principal n target _ = unmet n
+-- One bound of the target, by its head, where the source has these bounds and this principal.
+abbrev pub bound_met : Context → List Tree → List Tree → Option Tree → ℕ → Tree → Head → Met
+bound_met c supers sources principal n target (H.Part (P.Pred (PH.Trait i))) = principal_met n principal target
+bound_met c supers sources principal n target (H.Part (P.Pred (PH.Projection i))) = projection_met n i.0 sources target
+bound_met c supers sources principal n target (H.Part (P.Pred (PH.AutoTrait i))) = if number_listed (autos c supers sources) i.0 then met_by [] n else unmet n
+bound_met c supers sources principal n target _ = unmet n
 
-abbrev pub bounds_met : Context → List Tree → Tree → Option Tree → ℕ → List Tree → List Step
-bounds_met c supers from principal n [] = []
-bounds_met c supers from principal n (b ∷ bs) =
-    let m = bound_met c supers from principal n b b.head in
-    m.steps ++ bounds_met c supers from principal m.next bs
+abbrev pub bounds_met : Context → List Tree → List Tree → Option Tree → ℕ → List Tree → List Step
+bounds_met c supers sources principal n [] = []
+bounds_met c supers sources principal n (b ∷ bs) =
+    let m = bound_met c supers sources principal n b b.head in
+    m.steps ++ bounds_met c supers sources principal m.next bs
 
 -- And the source's region outlives the target's.
 abbrev pub upcast_rule : Context → List Tree → TraitGoal → CandidateSource → Tree → Tree → Option Tree → Rule
 upcast_rule c supers g s from to principal = record {
   env = g.env;
   applies = true;
-  steps = bounds_met c supers from principal 0 (bounds_in to) ++ nested (outlives Cl.RegionOutlives (region_in from) (region_in to) ∷ []);
+  steps = bounds_met c supers (bounds_in from) principal 0 (bounds_in to) ++ nested (outlives Cl.RegionOutlives (region_in from) (region_in to) ∷ []);
   ending = ask s Yes;
 }
 

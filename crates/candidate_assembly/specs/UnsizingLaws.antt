@@ -49,49 +49,53 @@ struct-given c t n e = of (adt_shape (definition c n)) refl
     of None q = let no : false ≡ true = sym (ap is_struct q) ∙ e in absurd cc
     of (Some s) q = shaped_adt c t n s q
 
-module _ (old new : Context) (t : IsWellFormedTable old) (g : Grows old new) where
+module _ (old new : Context) (g : Grows old new) where
   -- Flags of traits.
 
   flag-stays : (flag : TraitFlags → Bool) (n : ℕ) → flag_of_trait flag new n ≡ flag_of_trait flag old n
   flag-stays flag n = ap (λ (c : Context). flag_of_trait flag c n) g.same
 
+  autos-stay : (supers sources : List Tree) → autos new supers sources ≡ autos old supers sources
+  autos-stay supers sources = λ j. flat_map (λ b. auto_of b.head) sources ++ filter (λ n. flag-stays (λ f. f.auto) n j) (traits_among [] supers)
+
+  -- A bound of a `dyn` type is met by the same.
+  pub bound_met_stays : (supers sources : List Tree) (p : Option Tree) (n : ℕ) (b : Tree) (h : Head) → bound_met new supers sources p n b h ≡ bound_met old supers sources p n b h
+  bound_met_stays supers sources p n b (H.Part (P.Pred (PH.AutoTrait i))) = λ j. if number_listed (autos-stay supers sources j) i.0 then met_by [] n else unmet n
+  bound_met_stays supers sources p n b (H.Part (P.Pred (PH.Trait i))) = refl
+  bound_met_stays supers sources p n b (H.Part (P.Pred (PH.Projection i))) = refl
+  bound_met_stays supers sources p n b _ = refl
+
+  -- `dyn` to `dyn`.
+
+  pub bounds_met_stay : (supers sources : List Tree) (p : Option Tree) (n : ℕ) (bs : List Tree) → bounds_met new supers sources p n bs ≡ bounds_met old supers sources p n bs
+  bounds_met_stay supers sources p n [] = refl
+  bounds_met_stay supers sources p n (b ∷ bs) =
+      let m = bound_met old supers sources p n b b.head in
+      ap (λ x. x.steps ++ bounds_met new supers sources p x.next bs) (bound_met_stays supers sources p n b b.head) ∙ ap (λ ss. m.steps ++ ss) (bounds_met_stay supers sources p m.next bs)
+
+  pub upcast_stays : (supers : List Tree) (p : TraitGoal) (s : CandidateSource) (from to : Tree) (o : Option Tree) → upcast_rule new supers p s from to o ≡ upcast_rule old supers p s from to o
+  upcast_stays supers p s from to o =
+      λ j. record { env = p.env; applies = true; steps = bounds_met_stay supers (bounds_in from) o 0 (bounds_in to) j ++ nested (outlives Cl.RegionOutlives (region_in from) (region_in to) ∷ []); ending = ask s Yes }
+
+  upcasts-stay : (supers : List Tree) (p : TraitGoal) (from to : Tree) (n : ℕ) (ts : List Tree) → upcasts new supers p from to n ts ≡ upcasts old supers p from to n ts
+  upcasts-stay supers p from to n [] = refl
+  upcasts-stay supers p from to n (u ∷ ts) = λ j. upcast_stays supers p (BuiltinImpl (TraitUpcasting n)) from to (Some u) j ∷ upcasts-stay supers p from to (suc n) ts j
+
+  dyn-stays : (supers : List Tree) (p : TraitGoal) (from to : Tree) → dyn_to_dyn new supers p from to ≡ dyn_to_dyn old supers p from to
+  dyn-stays supers p from to =
+      λ j. if keeps_principal (principal_in from) (principal_in to) then upcast_stays supers p misc from to (first_listed supers) j ∷ []
+      else upcasts-stay supers p from to 1 (without_first supers) j
+
+module _ (old new : Context) (t : IsWellFormedTable old) (g : Grows old new) where
+  -- Whether objects of a trait may be made.
+
   number-stays : (o : Option ℕ) → number_is_compatible new o ≡ number_is_compatible old o
   number-stays None = refl
-  number-stays (Some n) = flag-stays (λ f. f.dyn_compatible) n
+  number-stays (Some n) = flag-stays old new g (λ f. f.dyn_compatible) n
 
   pub compatible_stays : (o : Option Tree) → is_compatible new o ≡ is_compatible old o
   compatible_stays None = refl
   compatible_stays (Some p) = number-stays (trait_of_bound p.head)
-
-  autos-stay : (supers : List Tree) (from : Tree) → autos new supers from ≡ autos old supers from
-  autos-stay supers from = λ j. flat_map (λ b. auto_of b.head) (bounds_in from) ++ filter (λ n. flag-stays (λ f. f.auto) n j) (traits_among [] supers)
-
-  -- `dyn` to `dyn`.
-
-  met-stays : (supers : List Tree) (from : Tree) (p : Option Tree) (n : ℕ) (b : Tree) (h : Head) → bound_met new supers from p n b h ≡ bound_met old supers from p n b h
-  met-stays supers from p n b (H.Part (P.Pred (PH.AutoTrait i))) = λ j. if number_listed (autos-stay supers from j) i.0 then met_by [] n else unmet n
-  met-stays supers from p n b (H.Part (P.Pred (PH.Trait i))) = refl
-  met-stays supers from p n b (H.Part (P.Pred (PH.Projection i))) = refl
-  met-stays supers from p n b _ = refl
-
-  all-met-stay : (supers : List Tree) (from : Tree) (p : Option Tree) (n : ℕ) (bs : List Tree) → bounds_met new supers from p n bs ≡ bounds_met old supers from p n bs
-  all-met-stay supers from p n [] = refl
-  all-met-stay supers from p n (b ∷ bs) =
-      let m = bound_met old supers from p n b b.head in
-      ap (λ x. x.steps ++ bounds_met new supers from p x.next bs) (met-stays supers from p n b b.head) ∙ ap (λ ss. m.steps ++ ss) (all-met-stay supers from p m.next bs)
-
-  upcast-stays : (supers : List Tree) (p : TraitGoal) (s : CandidateSource) (from to : Tree) (o : Option Tree) → upcast_rule new supers p s from to o ≡ upcast_rule old supers p s from to o
-  upcast-stays supers p s from to o =
-      λ j. record { env = p.env; applies = true; steps = all-met-stay supers from o 0 (bounds_in to) j ++ nested (outlives Cl.RegionOutlives (region_in from) (region_in to) ∷ []); ending = ask s Yes }
-
-  upcasts-stay : (supers : List Tree) (p : TraitGoal) (from to : Tree) (n : ℕ) (ts : List Tree) → upcasts new supers p from to n ts ≡ upcasts old supers p from to n ts
-  upcasts-stay supers p from to n [] = refl
-  upcasts-stay supers p from to n (u ∷ ts) = λ j. upcast-stays supers p (BuiltinImpl (TraitUpcasting n)) from to (Some u) j ∷ upcasts-stay supers p from to (suc n) ts j
-
-  dyn-stays : (supers : List Tree) (p : TraitGoal) (from to : Tree) → dyn_to_dyn new supers p from to ≡ dyn_to_dyn old supers p from to
-  dyn-stays supers p from to =
-      λ j. if keeps_principal (principal_in from) (principal_in to) then upcast-stays supers p misc from to (first_listed supers) j ∷ []
-      else upcasts-stay supers p from to 1 (without_first supers) j
 
   -- Any type to `dyn`.
 
@@ -137,7 +141,7 @@ module _ (old new : Context) (t : IsWellFormedTable old) (g : Grows old new) whe
   -- The rows.
   row-stays : (supers : List Tree) (p : TraitGoal) (from to : Tree) (r : UnsizingRow) → rules_of_row new supers p from to r ≡ rules_of_row old supers p from to r
   row-stays supers p from to R.Ambiguous = refl
-  row-stays supers p from to R.DynToDyn = dyn-stays supers p from to
+  row-stays supers p from to R.DynToDyn = dyn-stays old new g supers p from to
   row-stays supers p from to R.ToDyn = any-stays p from to
   row-stays supers p from to R.ArrayToSlice = refl
   row-stays supers p from to (R.Struct i) = structs-stay p i.0 from to

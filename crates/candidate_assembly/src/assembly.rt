@@ -2,10 +2,15 @@
 
 pub(crate) mod alias_bounds;
 pub(crate) mod alias_chain;
+pub(crate) mod assemble;
+pub mod candidates;
 pub mod characterize;
 pub(crate) mod dyn_bounds;
 pub mod kind;
 pub mod language;
 pub mod listing;
 pub mod matching;
+pub mod object_bounds;
+pub mod opaques;
 pub mod steps;
+pub mod unknowable;

@@ -13,3 +13,4 @@ pub(crate) mod parts;
 pub(crate) mod to_dyn;
 pub(crate) mod unsizing;
 pub(crate) mod unsizing_rows;
+pub(crate) mod upcasting;

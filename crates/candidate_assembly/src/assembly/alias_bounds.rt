@@ -36,7 +36,7 @@ use std::alloc::Global;
 /// variable stands in them as they are declared.
 ///
 /// `Stop::Memory` comes where a growth was refused, `Stop::NodesFull` where a clause was not made, as by `subst`.
-fn bounds_with_arguments<M: Make>(
+pub(crate) fn bounds_with_arguments<M: Make>(
     alloc: Global,
     make: &mut M,
     alias: AliasTy,

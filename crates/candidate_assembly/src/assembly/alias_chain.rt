@@ -10,6 +10,7 @@ ghost use Rattle.candidate_eval.specs.States.{State};
 ghost use Rattle.candidate_eval.specs.ResponseTrees.{AreCandidates, candidates_of};
 ghost use Rattle.candidate_assembly.specs.AliasBounds.{end_answers, end_at, has_bounds, is_projection, link, link_rules};
 ghost use Rattle.candidate_assembly.specs.AliasChains.{ChainFollows, Continues, IsBoundedAlias, WalksChain, as_seen};
+ghost use Rattle.candidate_assembly.specs.Earlier.{AtEach};
 ghost use Rattle.candidate_assembly.specs.Kinds.{IsGoal};
 ghost use Rattle.candidate_assembly.specs.Listing.{ConsidersAll, after_these, answers_at};
 ghost use Rattle.candidate_assembly.specs.Standing.{GoalStands, StandsBeside};
@@ -172,8 +173,8 @@ fn consider_chain_end<E: EvalCtxt, G: GoalKind<E>>(
 /// Adds the candidates by the chain of aliases that the goal's self type begins: by its own bounds, and then by the other bounds of what it
 /// is a projection of, in normal form, and so on. It is called in a probe, as normalising changes the state.
 ///
-/// It stops at the first rule that stops, with that stop; `Stop::AliasDepth` comes where the chain has more aliases than `ALIAS_CHAIN`. Other
-/// stops are those of the evaluator and of making nodes and lists.
+/// It stops at the first rule that stops, with that stop; `Stop::AliasDepth` comes where the chain has more aliases than `ALIAS_CHAIN`.
+/// Other stops are those of the evaluator and of making nodes and lists.
 fn walk_chain<E: EvalCtxt, G: GoalKind<E>>(
     alloc: Global,
     ecx: &mut E,
@@ -184,7 +185,7 @@ fn walk_chain<E: EvalCtxt, G: GoalKind<E>>(
     requires goal { IsGoal G.rules G.arguments G.types G.seen (E.context ecx.old) env predicate }
     requires stands { GoalStands G.rules (E.state ecx.old) (G.seen (E.context ecx.old).trees env predicate) }
     requires candidates { AreCandidates (E.context ecx.old).trees candidates.old.items }
-    ensures { WalksChain E.fixed E.judge E.state E.probes E.context E.stops G.rules G.bounds G.arguments G.types G.seen ecx.old ecx.new env predicate candidates.old.items candidates.new.items result }
+    ensures { WalksChain E.fixed E.judge E.state E.probes E.context E.stops G.rules G.bounds G.seen ecx.old ecx.new env predicate candidates.old.items candidates.new.items result }
 {
     let mut ty = G::self_ty(ecx.cx(), env, predicate);
     let mut kind = AliasBoundKind::SelfBounds;
@@ -205,11 +206,11 @@ fn walk_chain<E: EvalCtxt, G: GoalKind<E>>(
 }
 
 /// Adds the candidates by the bounds of the goal's self type as an alias, and by those of what it is a projection of, and so on along the
-/// chain, in a probe. The goal stands at a state whose values make sense.
+/// chain, in a probe. They are as each earlier context has them. The goal stands at a state whose values make sense.
 ///
 /// It stops at the first rule that stops, with that stop; `Stop::AliasDepth` comes where the chain has more aliases than `ALIAS_CHAIN`;
-/// `Stop::Memory` comes where a list can't grow, `Stop::NodesFull` where a bound was not made. Other stops are the evaluator's. The state is
-/// left alike the one before.
+/// `Stop::Memory` comes where a list can't grow, `Stop::NodesFull` where a bound was not made. Other stops are the evaluator's. The state
+/// is left alike the one before.
 pub(crate) fn assemble_alias_bound_candidates<E: EvalCtxt, G: GoalKind<E>>(
     alloc: Global,
     ecx: &mut E,
@@ -220,7 +221,7 @@ pub(crate) fn assemble_alias_bound_candidates<E: EvalCtxt, G: GoalKind<E>>(
     requires goal { IsGoal G.rules G.arguments G.types G.seen (E.context ecx.old) env predicate }
     requires stands { GoalStands G.rules (E.state ecx.old) (G.seen (E.context ecx.old).trees env predicate) }
     requires candidates { AreCandidates (E.context ecx.old).trees candidates.old.items }
-    ensures { ConsidersAll E.fixed E.judge E.state E.probes E.context E.stops ecx.old ecx.new (E.state ecx.old) (λ _. candidates.new.items) (ChainFollows G.rules G.bounds.additional (E.judge (E.fixed ecx.old)) (E.context ecx.old) (G.seen (E.context ecx.old).trees env predicate) (E.state ecx.old) (candidates_of (E.context ecx.old).trees candidates.old.items)) result }
+    ensures { ConsidersAll E.fixed E.judge E.state E.probes E.context E.stops ecx.old ecx.new (E.state ecx.old) (λ _. candidates.new.items) (AtEach (E.context ecx.old) (λ c. ChainFollows G.rules G.bounds.additional (E.judge (E.fixed ecx.old)) c (G.seen (E.context ecx.old).trees env predicate) (E.state ecx.old) (candidates_of (E.context ecx.old).trees candidates.old.items))) result }
 {
     table_is_well_formed(ecx.cx());
     let probe = ecx.begin_probe(ProbeKind::Kept)?;

@@ -201,6 +201,20 @@ pub trait GoalKind<E: EvalCtxt>: Copy {
         requires alias_below { IsBelow (length (E.state ecx.old).variables) (args_forest (E.context ecx.old).trees alias.args) }
         ensures { ConsidersAll E.fixed E.judge E.state E.probes E.context E.stops ecx.old ecx.new (E.state ecx.old) (λ v. v.items) (λ l. l ≡ answers (E.judge (E.fixed ecx.old)) (E.state ecx.old) (bounds.additional (E.context ecx.old) (seen (E.context ecx.old).trees env predicate) (kind_tree (E.context ecx.old).trees (type_kind.Alias alias)))) result };
 
+    /// The candidates by unsizing, for a goal of the trait for that. The goal stands at a state whose values make sense. The state is left
+    /// alike the one before.
+    fn consider_structural_builtin_unsize_candidates(
+        alloc: Global,
+        ecx: &mut E,
+        env: ParamEnv,
+        predicate: Self,
+    ) -> Result<Vec<Candidate>, Stop>
+        requires goal { IsGoal rules arguments types seen (E.context ecx.old) env predicate }
+        requires typed { IsTyped rules (E.context ecx.old) (seen (E.context ecx.old).trees env predicate) }
+        requires stands { GoalStands rules (E.state ecx.old) (seen (E.context ecx.old).trees env predicate) }
+        requires unsize { is_item (E.context ecx.old) item.Unsize (rules.reference_of (E.context ecx.old) (seen (E.context ecx.old).trees env predicate)).trait ≡ true }
+        ensures { ConsidersAll E.fixed E.judge E.state E.probes E.context E.stops ecx.old ecx.new (E.state ecx.old) (λ v. v.items) (UnsizingList rules bounds (E.judge (E.fixed ecx.old)) (E.context ecx.old) (E.state ecx.old) (seen (E.context ecx.old).trees env predicate)) result };
+
     /// The predicate holds an error.
     fn consider_error_guaranteed_candidate(
         alloc: Global,
@@ -341,7 +355,8 @@ pub trait GoalKind<E: EvalCtxt>: Copy {
     /// The environment of a goal is the one that is given.
     ghost env_given: { (ts : List Tree) (env : EnvNumber) (predicate : Self) → rules.env_of (seen ts env predicate) ≡ env_forest ts env };
 
-    /// Its rules mention no other variables than the goal, and stay where a context grows; and a goal with other trees holds these.
+    /// Its rules mention no other variables than the goal, and stay where a context grows; a goal with other trees holds these; and the
+    /// arguments of its reference fit.
     ghost laws: { KindLaws rules bounds arguments types seen };
 
     /// The candidate of a source by a clause: in a probe the clause is matched, and the closure called then.

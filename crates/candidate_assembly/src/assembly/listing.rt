@@ -88,7 +88,7 @@ pub(crate) fn assemble_param_env_candidates<E: EvalCtxt, G: GoalKind<E>>(
 }
 
 /// Whether others specialise the impl.
-fn is_default_impl(cx: &Cx, of: ImplId) -> bool
+pub(crate) fn is_default_impl(cx: &Cx, of: ImplId) -> bool
     ensures { result ≡ is_default_impl cx.now of }
 {
     match cx.impl_contents(of) {

@@ -29,7 +29,7 @@ use candidate_ir::ir::stop::Stop;
 use std::alloc::Global;
 
 /// Whether the clause speaks of the trait, be it that it holds or that it doesn't.
-fn is_of_trait(cx: &Cx, clause: Clause, of: TraitId) -> bool
+pub(crate) fn is_of_trait(cx: &Cx, clause: Clause, of: TraitId) -> bool
     requires { IsClause cx.now.trees clause }
     ensures { result ≡ is_of_trait of.0 (clause_tree cx.now.trees clause).head }
 {

@@ -17,6 +17,7 @@ use crate::trait_goals::impls::consider_impl;
 use crate::trait_goals::matching::{fast_reject, match_clause};
 use crate::trait_goals::no_drop::consider_no_drop;
 use crate::trait_goals::parts::{consider_column, with_self_ty};
+use crate::trait_goals::unsizing_rows::consider_unsizing;
 use candidate_eval::eval::certainty::Certainty;
 use candidate_eval::eval::clauses::self_ty;
 use candidate_eval::eval::context::EvalCtxt;
@@ -136,6 +137,15 @@ impl<E: EvalCtxt> GoalKind<E> for TraitPredicate {
         _alias: AliasTy,
     ) -> Result<Vec<Candidate>, Stop> {
         Ok(Vec::new(alloc))
+    }
+
+    fn consider_structural_builtin_unsize_candidates(
+        alloc: Global,
+        ecx: &mut E,
+        env: ParamEnv,
+        predicate: Self,
+    ) -> Result<Vec<Candidate>, Stop> {
+        consider_unsizing(alloc, ecx, env, predicate)
     }
 
     fn consider_error_guaranteed_candidate(

@@ -28,7 +28,9 @@ ghost use Rattle.candidate_assembly.specs.declared.trait_goals.unsizing_rows.Uns
 use crate::assembly::listing::{push_considered, table_is_well_formed};
 use crate::assembly::steps::forced_ambiguity;
 use crate::trait_goals::builtin::{is_positive, self_head};
+use crate::trait_goals::to_dyn::unsize_to_dyn;
 use crate::trait_goals::unsizing::{unsize_array, unsize_struct};
+use crate::trait_goals::upcasting::unsize_dyn_to_dyn;
 use candidate_eval::eval::certainty::MaybeInfo;
 use candidate_eval::eval::clauses::self_ty;
 use candidate_eval::eval::context::{EvalCtxt, ProbeKind};
@@ -191,6 +193,90 @@ fn unsize_same<E: EvalCtxt>(
     push_considered(candidates, answer)
 }
 
+/// Adds the candidates of the row for a target in normal form.
+///
+/// It stops at the first rule that stops, with that stop; else the stops are those of making nodes and lists, and the evaluator's. The state
+/// is left alike the one before.
+fn unsize_by_row<E: EvalCtxt>(
+    alloc: Global,
+    ecx: &mut E,
+    env: ParamEnv,
+    predicate: TraitPredicate,
+    target: Ty,
+    candidates: &mut Vec<Candidate>,
+) -> Result<(), Stop>
+    requires goal { IsGoal trait_rules arguments_held types_held trait_goal (E.context ecx.old) env predicate }
+    requires takes_a_type { parameters (world (E.context ecx.old)) TraitSort predicate.trait_ref.def_id.0 ≡ Some (TypeKind ∷ []) }
+    requires target { IsTy (E.context ecx.old).trees target }
+    requires stands { BothStand trait_rules (E.state ecx.old) (trait_goal (E.context ecx.old).trees env predicate) (ty_tree (E.context ecx.old).trees target) }
+    requires candidates { AreCandidates (E.context ecx.old).trees candidates.old.items }
+    ensures { ConsidersAll E.fixed E.judge E.state E.probes E.context E.stops ecx.old ecx.new (E.state ecx.old) (λ _. candidates.new.items) (IsUnsizedTo (E.judge (E.fixed ecx.old)) (E.context ecx.old) (E.state ecx.old) (trait_goal (E.context ecx.old).trees env predicate) (ty_tree (E.context ecx.old).trees target) candidates.old.items) result }
+{
+    let cx = ecx.cx();
+    match unsizing_row(self_head(cx, predicate), head_of(cx, target)) {
+        UnsizingRow::Ambiguous => {
+            let answer = forced_ambiguity(alloc, ecx, env, MaybeInfo::AMBIGUOUS);
+            push_considered(candidates, answer)
+        }
+        UnsizingRow::DynToDyn => {
+            unsize_dyn_to_dyn(alloc, ecx, env, predicate, target, candidates)
+        }
+        UnsizingRow::ToDyn => unsize_to_dyn(alloc, ecx, env, predicate, target, candidates),
+        UnsizingRow::ArrayToSlice => {
+            let answer = unsize_array(alloc, ecx, env, predicate, target);
+            push_considered(candidates, answer)
+        }
+        UnsizingRow::Struct(adt) => {
+            unsize_same(alloc, ecx, env, predicate, adt, target, candidates)
+        }
+        UnsizingRow::Nothing => Ok(()),
+    }
+}
+
+/// The candidates of the row for a target in normal form. As `unsize_by_row`.
+fn unsize_to<E: EvalCtxt>(
+    alloc: Global,
+    ecx: &mut E,
+    env: ParamEnv,
+    predicate: TraitPredicate,
+    target: Ty,
+) -> Result<Vec<Candidate>, Stop>
+    requires goal { IsGoal trait_rules arguments_held types_held trait_goal (E.context ecx.old) env predicate }
+    requires takes_a_type { parameters (world (E.context ecx.old)) TraitSort predicate.trait_ref.def_id.0 ≡ Some (TypeKind ∷ []) }
+    requires target { IsTy (E.context ecx.old).trees target }
+    requires stands { BothStand trait_rules (E.state ecx.old) (trait_goal (E.context ecx.old).trees env predicate) (ty_tree (E.context ecx.old).trees target) }
+    ensures { ConsidersAll E.fixed E.judge E.state E.probes E.context E.stops ecx.old ecx.new (E.state ecx.old) (λ v. v.items) (IsUnsizedTo (E.judge (E.fixed ecx.old)) (E.context ecx.old) (E.state ecx.old) (trait_goal (E.context ecx.old).trees env predicate) (ty_tree (E.context ecx.old).trees target) []) result }
+{
+    let mut candidates = Vec::new(alloc);
+    unsize_by_row(alloc, ecx, env, predicate, target, &mut candidates)?;
+    Ok(candidates)
+}
+
+/// The candidates for the target's normal form, with which there are none where that is refused. It is called in a probe.
+fn unsize_normalized<E: EvalCtxt>(
+    alloc: Global,
+    ecx: &mut E,
+    env: ParamEnv,
+    predicate: TraitPredicate,
+    target: Ty,
+) -> Result<Vec<Candidate>, Stop>
+    requires goal { IsGoal trait_rules arguments_held types_held trait_goal (E.context ecx.old) env predicate }
+    requires takes_a_type { parameters (world (E.context ecx.old)) TraitSort predicate.trait_ref.def_id.0 ≡ Some (TypeKind ∷ []) }
+    requires stands { GoalStands trait_rules (E.state ecx.old) (trait_goal (E.context ecx.old).trees env predicate) }
+    requires target { IsTy (E.context ecx.old).trees target }
+    requires is_target { unsizing_target (trait_goal (E.context ecx.old).trees env predicate) ≡ Some (ty_tree (E.context ecx.old).trees target) }
+    ensures kept { Keeps E.fixed E.probes E.context ecx.old ecx.new }
+    ensures told { ToldList (λ v. v.items) (E.context ecx.new).trees (UnsizingList trait_rules trait_bounds (E.judge (E.fixed ecx.old)) (E.context ecx.old) (E.state ecx.old) (trait_goal (E.context ecx.old).trees env predicate)) result }
+    ensures cause { IfErr result (StopsOfItself E.fixed E.context E.state E.stops ecx.old) }
+{
+    table_is_well_formed(ecx.cx());
+    match ecx.structurally_normalize_ty(env, target) {
+        Ok(target) => unsize_to(alloc, ecx, env, predicate, target),
+        Err(NoSolutionOrStop::NoSolution) => Ok(Vec::new(alloc)),
+        Err(NoSolutionOrStop::Stop(stop)) => Err(stop),
+    }
+}
+
 /// The trait for unsizing takes a type.
 fn trait_takes_a_type(cx: &Cx, trait_id: TraitId)
     requires { is_item cx.now item.Unsize trait_id.0 ≡ true }
@@ -212,4 +298,33 @@ fn unsizing_target(cx: &Cx, predicate: TraitPredicate) -> Ty
         GenericArg::Ty(ty) => ty,
         _ => unreachable!(),
     }
+}
+
+/// The candidates by unsizing: the target's normal form is asked for in a probe, and the first row that applies gives the rules. A negative
+/// goal has none, nor has one whose target has no normal form.
+///
+/// It stops at the first rule that stops, with that stop; else the stops are those of making nodes and lists, and the evaluator's. The state
+/// is left alike the one before.
+pub(crate) fn consider_unsizing<E: EvalCtxt>(
+    alloc: Global,
+    ecx: &mut E,
+    env: ParamEnv,
+    predicate: TraitPredicate,
+) -> Result<Vec<Candidate>, Stop>
+    requires goal { IsGoal trait_rules arguments_held types_held trait_goal (E.context ecx.old) env predicate }
+    requires typed { IsTyped trait_rules (E.context ecx.old) (trait_goal (E.context ecx.old).trees env predicate) }
+    requires stands { GoalStands trait_rules (E.state ecx.old) (trait_goal (E.context ecx.old).trees env predicate) }
+    requires unsize { is_item (E.context ecx.old) item.Unsize predicate.trait_ref.def_id.0 ≡ true }
+    ensures { ConsidersAll E.fixed E.judge E.state E.probes E.context E.stops ecx.old ecx.new (E.state ecx.old) (λ v. v.items) (UnsizingList trait_rules trait_bounds (E.judge (E.fixed ecx.old)) (E.context ecx.old) (E.state ecx.old) (trait_goal (E.context ecx.old).trees env predicate)) result }
+{
+    table_is_well_formed(ecx.cx());
+    if !is_positive(predicate.polarity) {
+        return Ok(Vec::new(alloc));
+    }
+    trait_takes_a_type(ecx.cx(), predicate.trait_ref.def_id);
+    let target = unsizing_target(ecx.cx(), predicate);
+    let probe = ecx.begin_probe(ProbeKind::Kept)?;
+    let answer = unsize_normalized(alloc, ecx, env, predicate, target);
+    let _usages = ecx.end_probe(probe);
+    answer
 }

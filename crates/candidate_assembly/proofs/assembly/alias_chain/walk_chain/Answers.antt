@@ -23,7 +23,7 @@ loop-alias-init g c =
     let K = g.G.GoalKind in
     let first = c.args.ecx.now in
     let is = subst (λ (x : Context). ty_tree x.trees c.self_ty-ty.result ≡ self_type K.rules x (K.seen x.trees c.args.env c.args.predicate)) c.cx.ensures c.self_ty-ty.ensures.tree in
-    chain-begins g.met.E.EvalCtxt.lawful g.met.G.GoalKind.laws g.met.G.GoalKind.stays g.met.G.GoalKind.env_given c.args.env c.args.predicate first c.args.candidates.now.items _ _ c.requires.candidates
+    chain-begins g.met.E.EvalCtxt.lawful g.met.G.GoalKind.laws g.met.G.GoalKind.stays g.met.G.GoalKind.env_given c.args.env c.args.predicate first c.args.candidates.now.items _ _ c.requires.goal c.requires.candidates
     (subst (λ (x : Context). IsTy x.trees c.self_ty-ty.result) c.cx.ensures c.self_ty-ty.ensures.sort) is c.requires.stands (ap (λ (l : Limits). l.alias_chain) (g.met.E.EvalCtxt.walks (E.fixed first)))
 
 pub bounded_alias-requires : goal.bounded_alias-requires

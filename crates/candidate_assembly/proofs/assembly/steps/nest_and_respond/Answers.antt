@@ -1,5 +1,6 @@
 use Rattle.std.proofs.Common.{subst, sym, ap}
 use Rattle.std.proofs.lemmas.Result.{err_from_is_err_and}
+use Rattle.candidate_eval.specs.Evaluators.{IsMakingStop}
 use Rattle.candidate_eval.proofs.Accounts.{reaches}
 use Rattle.candidate_eval.proofs.ObjectCandidates.{goals-fit}
 use Rattle.candidate_assembly.proofs.Causes.{asked-here, caused, later, made-here}
@@ -8,7 +9,7 @@ use Rattle.candidate_assembly.proofs.assembly.steps.nest_and_respond.Goals as go
 pub returns-in_err-nested-clause-cause : goal.returns-in_err-nested-clause-cause
 returns-in_err-nested-clause-cause g c =
     let p = err_from_is_err_and c.from_residual.result c.from_residual.ensures.1 in
-    rw (p.1, p.2) (made-here c.in_err-nested.ensures.cause)
+    rw (p.1, p.2) (made-here (subst IsMakingStop (sym c.in_err-nested.ensures.cause) tt))
 
 pub add_goals-requires : goal.add_goals-requires
 add_goals-requires g c =

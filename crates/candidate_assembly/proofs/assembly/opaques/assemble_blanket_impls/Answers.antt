@@ -1,0 +1,78 @@
+use Rattle.std.proofs.Common.{rules, ◌≡◌, ◌≤◌, length, Err, ap, ◌∙◌, subst, sym}
+use Rattle.std.specs.Prelude.{slice_index_or}
+use Rattle.std.proofs.lemmas.Result.{err_from_is_err_and}
+use Rattle.candidate_ir.specs.declared.decl.contents.ImplId.{ImplId}
+use Rattle.candidate_ir.specs.Context.{Context}
+use Rattle.candidate_ir.specs.WellFormed.{IsWellFormedTable}
+use Rattle.candidate_eval.specs.Evaluators.{IsMakingStop}
+use Rattle.candidate_assembly.specs.Opaques.{open_rule_of}
+use Rattle.candidate_assembly.proofs.OpaqueRules.{open-judged, open-rules-read}
+use Rattle.candidate_assembly.proofs.Keeping.{goal-kept}
+use Rattle.candidate_assembly.proofs.Listing.{all-listed, listing-stops, next-listed, none-listed, not-listed}
+use Rattle.candidate_assembly.proofs.assembly.opaques.assemble_blanket_impls.Goals as goal
+
+pub returns-in_err-impls : goal.returns-in_err-impls
+returns-in_err-impls g c =
+    let p = err_from_is_err_and c.from_residual.result c.from_residual.ensures.1 in
+    not-listed (λ f. (g.met.E.EvalCtxt.lawful f).alike_judged_alike) c.args.ecx.now c.from_residual.result c.in_err-impls.field-0.0 (p.1 ∙ ap Err p.2) (subst IsMakingStop (sym c.in_err-impls.ensures.cause) tt)
+
+pub loop-of-init : goal.loop-of-init
+loop-of-init g c = none-listed (λ f. (g.met.E.EvalCtxt.lawful f).alike_judged_alike) c.args.ecx.now c.args.candidates.now.items c.requires.candidates
+
+pub consider_blanket_impl-answer-requires : goal.consider_blanket_impl-answer-requires
+consider_blanket_impl-answer-requires g c =
+    let grows = c.loop-of.invariant.kept.grows in
+    record { goal = goal-kept grows (g.met.G.GoalKind.stays (g.E.Build.context c.args.ecx.now) (g.E.Build.context c.loop-of.ecx) c.args.env c.args.predicate grows c.requires.goal) c.requires.goal }
+
+pub loop-of-preserved : goal.loop-of-preserved
+loop-of-preserved g c =
+    let E = g.E.EvalCtxt in
+    let K = g.G.GoalKind in
+    let first = c.args.ecx.now in
+    let start = g.E.Build.context first in
+    let now = g.E.Build.context c.loop-of.ecx in
+    let so = c.loop-of.invariant in
+    let xs = c.deref-of-items.result.now in
+    let k = c.loop-of.of-index in
+    let d : ImplId = record { 0 = 0 } in
+    let seen = K.seen start.trees c.args.env c.args.predicate in
+    let says = g.met.G.GoalKind.stays start now c.args.env c.args.predicate so.kept.grows c.requires.goal in
+    let table : IsWellFormedTable start = subst (λ (x : Context). IsWellFormedTable x) c.cx.ensures c.table_is_well_formed.ensures in
+    let same = open-judged K.rules E.judge (E.fixed first) (E.fixed c.loop-of.ecx) (λ f. (g.met.E.EvalCtxt.lawful f).alike_judged_alike) g.met.G.GoalKind.laws.below.impls g.met.G.GoalKind.laws.stay.impls g.met.G.GoalKind.laws.change.self_type_holds start now table so.kept.grows
+    (E.state first) (E.state c.loop-of.ecx) seen (K.seen now.trees c.args.env c.args.predicate) (slice_index_or xs k d) so.kept.fixed_same says.seen says.reference so.alike c.requires.below in
+    next-listed (λ f. (g.met.E.EvalCtxt.lawful f).alike_judged_alike) (open_rule_of K.rules start (E.state first).mode seen) xs k d first c.loop-of.ecx c.consider_blanket_impl-answer.new.ecx c.args.candidates.now.items c.loop-of.candidates.items
+    c.push_considered.new.candidates.items _ _ _ so c.loop-of-test.true c.consider_blanket_impl-answer.ensures same c.in_ok-push_considered.ensures
+
+pub returns-in_err-push_considered : goal.returns-in_err-push_considered
+returns-in_err-push_considered g c =
+    let E = g.E.EvalCtxt in
+    let K = g.G.GoalKind in
+    let first = c.args.ecx.now in
+    let start = g.E.Build.context first in
+    let now = g.E.Build.context c.loop-of.ecx in
+    let so = c.loop-of.invariant in
+    let xs = c.deref-of-items.result.now in
+    let k = c.loop-of.of-index in
+    let d : ImplId = record { 0 = 0 } in
+    let seen = K.seen start.trees c.args.env c.args.predicate in
+    let says = g.met.G.GoalKind.stays start now c.args.env c.args.predicate so.kept.grows c.requires.goal in
+    let table : IsWellFormedTable start = subst (λ (x : Context). IsWellFormedTable x) c.cx.ensures c.table_is_well_formed.ensures in
+    let same = open-judged K.rules E.judge (E.fixed first) (E.fixed c.loop-of.ecx) (λ f. (g.met.E.EvalCtxt.lawful f).alike_judged_alike) g.met.G.GoalKind.laws.below.impls g.met.G.GoalKind.laws.stay.impls g.met.G.GoalKind.laws.change.self_type_holds start now table so.kept.grows
+    (E.state first) (E.state c.loop-of.ecx) seen (K.seen now.trees c.args.env c.args.predicate) (slice_index_or xs k d) so.kept.fixed_same says.seen says.reference so.alike c.requires.below in
+    let p = err_from_is_err_and c.from_residual-in_err-push_considered.result c.from_residual-in_err-push_considered.ensures.1 in
+    listing-stops (λ f. (g.met.E.EvalCtxt.lawful f).alike_judged_alike) (open_rule_of K.rules start (E.state first).mode seen) xs k d first c.loop-of.ecx c.consider_blanket_impl-answer.new.ecx c.args.candidates.now.items c.loop-of.candidates.items
+    c.push_considered.new.candidates.items _ _ c.in_err-push_considered.field-0.0 so c.loop-of-test.true c.consider_blanket_impl-answer.ensures same c.in_err-push_considered.ensures
+    _ (open-rules-read K.rules K.seen start c.cx-cx.result.now (E.state first).mode c.args.env c.args.predicate c.trait_def_id.result.0 xs c.cx-cx.ensures c.trait_def_id.ensures (c.deref-of-items.ensures.value ∙ c.in_ok-impls.ensures.list)) c.from_residual-in_err-push_considered.result (p.1 ∙ ap Err p.2)
+
+pub returns : goal.returns
+returns g c =
+    let E = g.E.EvalCtxt in
+    let K = g.G.GoalKind in
+    let first = c.args.ecx.now in
+    let start = g.E.Build.context first in
+    let xs = c.deref-of-items.result.now in
+    let d : ImplId = record { 0 = 0 } in
+    let seen = K.seen start.trees c.args.env c.args.predicate in
+    let past : length xs ≤ c.loop-of.of-index = search rules in
+    all-listed (λ f. (g.met.E.EvalCtxt.lawful f).alike_judged_alike) (open_rule_of K.rules start (E.state first).mode seen) xs c.loop-of.of-index d first c.loop-of.ecx c.args.candidates.now.items c.loop-of.candidates.items _ c.loop-of.invariant past _
+    (open-rules-read K.rules K.seen start c.cx-cx.result.now (E.state first).mode c.args.env c.args.predicate c.trait_def_id.result.0 xs c.cx-cx.ensures c.trait_def_id.ensures (c.deref-of-items.ensures.value ∙ c.in_ok-impls.ensures.list))

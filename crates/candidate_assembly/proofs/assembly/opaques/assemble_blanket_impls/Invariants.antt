@@ -1,0 +1,13 @@
+use Rattle.std.proofs.Common.{map, take}
+use Rattle.candidate_assembly.specs.Opaques.{open_rule_of}
+use Rattle.candidate_assembly.proofs.Listing.{ListedSoFar}
+use Rattle.candidate_assembly.proofs.assembly.opaques.assemble_blanket_impls.Given as goal
+
+-- the candidates by the impls before were listed
+abbrev pub invariant-loop-of : goal.invariant-loop-of
+invariant-loop-of g l =
+    let E = g.E.EvalCtxt in
+    let K = g.G.GoalKind in
+    let old = g.E.Build.context l.fn.ecx in
+    ListedSoFar E.fixed E.judge E.state E.probes g.E.Build.context l.fn.ecx l.ecx l.fn.candidates.items l.candidates.items
+    (map (open_rule_of K.rules old (E.state l.fn.ecx).mode (K.seen old.trees l.fn.env l.fn.predicate)) (take l.of-index l.of-items))

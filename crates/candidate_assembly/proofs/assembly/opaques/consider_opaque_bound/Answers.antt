@@ -1,0 +1,32 @@
+use Rattle.std.proofs.Common.{[], Option, refl, subst}
+use Rattle.candidate_ir.specs.declared.decl.contents.AliasBoundKind.TheVariants.{SelfBounds}
+use Rattle.candidate_ir.specs.Words.{clause_tree}
+use Rattle.candidate_eval.specs.declared.eval.source.CandidateSource.TheVariants.{AliasBound}
+use Rattle.candidate_eval.specs.Certainties.{AMBIGUOUS}
+use Rattle.candidate_eval.specs.Responses.{Response}
+use Rattle.candidate_eval.specs.States.{State}
+use Rattle.candidate_assembly.specs.Telling.{Told}
+use Rattle.candidate_assembly.proofs.Answering.{closure-as-steps}
+use Rattle.candidate_assembly.proofs.Keeping.{responds-at}
+use Rattle.candidate_assembly.proofs.assembly.opaques.consider_opaque_bound.Goals as goal
+
+pub returns : goal.returns
+returns g c =
+    let E = g.E.EvalCtxt in
+    let K = g.G.GoalKind in
+    let first = c.args.ecx.now in
+    let old = g.E.Build.context first in
+    let J = E.judge (E.fixed first) in
+    let call = c.probe_and_match_goal_against_assumption in
+    let k : State → Option Response = λ T. J.responded T AMBIGUOUS in
+    let told = call.ensures.told k (record {
+      at = λ x r y same called.
+          responds-at E.fixed E.judge E.state g.E.Build.context first called.shown.now x called.left.now y AMBIGUOUS r called.shows called.leaves same.fixed_same called.met.1.0;
+    }) in
+    record {
+      kept = call.ensures.kept;
+      alike = call.ensures.alike;
+      told = subst (λ j. Told (g.E.Build.context call.new.ecx).trees call.result j)
+          (closure-as-steps K.rules J old (E.state first) (K.seen old.trees c.args.env c.args.predicate) (AliasBound SelfBounds) (clause_tree old.trees c.args.clause) k [] AMBIGUOUS (λ ls T. refl)) told;
+      cause = call.ensures.cause;
+    }

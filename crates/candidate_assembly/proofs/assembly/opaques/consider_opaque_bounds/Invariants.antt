@@ -1,0 +1,15 @@
+use Rattle.std.proofs.Common.{map, take}
+use Rattle.candidate_ir.specs.declared.ir.kinds.Clause.{Clause}
+use Rattle.candidate_ir.specs.Words.{clause_tree}
+use Rattle.candidate_assembly.specs.Opaques.{ambiguous_rule}
+use Rattle.candidate_assembly.proofs.Listing.{ListedSoFar}
+use Rattle.candidate_assembly.proofs.assembly.opaques.consider_opaque_bounds.Given as goal
+
+-- the candidates by the clauses before were listed
+abbrev pub invariant-loop-clause : goal.invariant-loop-clause
+invariant-loop-clause g l =
+    let E = g.E.EvalCtxt in
+    let G = g.G.GoalKind in
+    let old = g.E.Build.context l.fn.ecx in
+    ListedSoFar E.fixed E.judge E.state E.probes g.E.Build.context l.fn.ecx l.ecx l.fn.candidates.items l.candidates.items
+    (map (λ (x : Clause). ambiguous_rule G.rules old (G.seen old.trees l.fn.env l.fn.predicate) (clause_tree old.trees x)) (take l.clause-index l.clauses))

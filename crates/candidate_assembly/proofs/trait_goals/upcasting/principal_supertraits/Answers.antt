@@ -1,0 +1,56 @@
+use Rattle.std.proofs.Common.{None, Some, ap, map, subst}
+use Rattle.std.proofs.lemmas.Result.{err_from_is_err_and}
+use Rattle.candidate_ir.specs.Context.{Context}
+use Rattle.candidate_ir.specs.WellFormed.{IsWellFormedTable}
+use Rattle.candidate_ir.specs.Words.{clause_tree, pred_tree, ty_tree}
+use Rattle.candidate_ir.proofs.Kept.{grows-trans}
+use Rattle.candidate_ir.proofs.Made.{IsClause-listed}
+use Rattle.candidate_eval.proofs.StopKinds.{elaboration_making}
+use Rattle.candidate_assembly.proofs.ToDyn.{no-some}
+use Rattle.candidate_assembly.proofs.UpcastParts.{no-supers-are, principal-found, principal-stands, supers-are, supers-stand}
+use Rattle.candidate_assembly.proofs.trait_goals.upcasting.principal_supertraits.Goals as goal
+
+pub returns-in_default-clause-are : goal.returns-in_default-clause-are
+returns-in_default-clause-are g c =
+    let old = g.M.Build.context c.args.make.now in
+    let type = ty_tree old.trees c.args.ty in
+    no-supers-are old type (map (clause_tree old.trees) c.new.result.items)
+    (principal-found c.cx-2.result.now old c.args.bounds.now type c.principal_bound.result None c.cx-2.ensures c.requires.are c.principal_bound.ensures.is (no-some c.principal_bound.result c.in_default.not-Some))
+    (ap (map (clause_tree old.trees)) c.new.ensures.items)
+
+pub returns-in_err-supers-clause-grows : goal.returns-in_err-supers-clause-grows
+returns-in_err-supers-clause-grows g c = grows-trans (g.M.Build.context c.args.make.now) (g.M.Build.context c.bound_clause.new.make) (g.M.Build.context c.supertraits.new.make) c.bound_clause.ensures.grows c.supertraits.ensures.grows
+
+pub returns-in_err-supers-clause-cause : goal.returns-in_err-supers-clause-cause
+returns-in_err-supers-clause-cause g c =
+    let p = err_from_is_err_and c.from_residual-in_err-supers.result c.from_residual-in_err-supers.ensures.1 in
+    rw (p.1, p.2) (elaboration_making _ _ _ _ c.in_err-supers.ensures.cause)
+
+pub returns-clause-grows : goal.returns-clause-grows
+returns-clause-grows g c = grows-trans (g.M.Build.context c.args.make.now) (g.M.Build.context c.bound_clause.new.make) (g.M.Build.context c.supertraits.new.make) c.bound_clause.ensures.grows c.supertraits.ensures.grows
+
+pub returns-clause-are : goal.returns-clause-are
+returns-clause-are g c =
+    let old = g.M.Build.context c.args.make.now in
+    let mid = g.M.Build.context c.bound_clause.new.make in
+    let new = g.M.Build.context c.supertraits.new.make in
+    let type = ty_tree old.trees c.args.ty in
+    let b = pred_tree old.trees c.in-Some.principal in
+    let found = principal-found c.cx-2.result.now old c.args.bounds.now type c.principal_bound.result (Some c.in-Some.principal) c.cx-2.ensures c.requires.are c.principal_bound.ensures.is c.in-Some.is in
+    let table : IsWellFormedTable old = subst (λ (x : Context). IsWellFormedTable x) c.cx.ensures c.well_formed_table.ensures in
+    supers-are old mid table c.bound_clause.ensures.grows c.args.ty b c.in_ok-clause.clause (map (clause_tree new.trees) c.in_ok-supers.supers.items) c.requires.dynamic c.in_ok-clause.ensures.tree found c.in_ok-supers.ensures.list
+
+pub returns-clause-may_stand : goal.returns-clause-may_stand
+returns-clause-may_stand g c = λ n r.
+    let old = g.M.Build.context c.args.make.now in
+    let mid = g.M.Build.context c.bound_clause.new.make in
+    let new = g.M.Build.context c.supertraits.new.make in
+    let type = ty_tree old.trees c.args.ty in
+    let b = pred_tree old.trees c.in-Some.principal in
+    let found = principal-found c.cx-2.result.now old c.args.bounds.now type c.principal_bound.result (Some c.in-Some.principal) c.cx-2.ensures c.requires.are c.principal_bound.ensures.is c.in-Some.is in
+    let table : IsWellFormedTable mid = subst (λ (x : Context). IsWellFormedTable x) c.cx-3.ensures c.well_formed_table-2.ensures in
+    let last : IsWellFormedTable new = subst (λ (x : Context). IsWellFormedTable x) c.cx-4.ensures c.well_formed_table-3.ensures in
+    supers-stand n mid new table last type b c.in_ok-clause.clause c.in_ok-supers.supers.items c.in_ok-clause.ensures.tree r (principal-stands n type b r found) c.in_ok-supers.ensures.sort c.in_ok-supers.ensures.list
+
+pub returns-clause-sort : goal.returns-clause-sort
+returns-clause-sort g c = λ k d l. IsClause-listed (g.M.Build.context c.supertraits.new.make).trees c.in_ok-supers.supers.items k d l c.in_ok-supers.ensures.sort

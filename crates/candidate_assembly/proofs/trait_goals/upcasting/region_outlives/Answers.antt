@@ -1,0 +1,39 @@
+use Rattle.std.proofs.Common.{◌∙◌, ap}
+use Rattle.candidate_ir.specs.declared.ir.heads.ClauseHead.TheVariants.{RegionOutlives}
+use Rattle.candidate_ir.specs.Trees.{Tree}
+use Rattle.candidate_ir.specs.Words.{region_tree}
+use Rattle.candidate_ir.proofs.Kept.{grows-trans}
+use Rattle.candidate_assembly.specs.Unsizing.{outlives}
+use Rattle.candidate_assembly.proofs.Causes.{so-ok}
+use Rattle.candidate_assembly.proofs.DynRequirements.{region-still}
+use Rattle.candidate_assembly.proofs.UpcastParts.{regions-fits, regions-is, regions-takes}
+use Rattle.candidate_assembly.proofs.trait_goals.upcasting.region_outlives.Goals as goal
+
+pub mk_clause-requires-clause-fits : goal.mk_clause-requires-clause-fits
+mk_clause-requires-clause-fits g c =
+    let old = g.M.Build.context c.args.make.now in
+    let mid = g.M.Build.context c.mk_vars.new.self in
+    let grows = c.mk_vars.ensures.made.kept in
+    regions-fits mid.trees c.in_ok-vars.vars c.args.longer c.args.shorter c.in_ok-vars.ensures.made.sort (region-still old mid c.args.longer grows c.requires.longer).0 (region-still old mid c.args.shorter grows c.requires.shorter).0
+
+pub mk_clause-requires-clause-takes : goal.mk_clause-requires-clause-takes
+mk_clause-requires-clause-takes g c = λ strict.
+    let old = g.M.Build.context c.args.make.now in
+    let mid = g.M.Build.context c.mk_vars.new.self in
+    let grows = c.mk_vars.ensures.made.kept in
+    regions-takes mid c.in_ok-vars.vars c.args.longer c.args.shorter c.in_ok-vars.ensures.made.sort (region-still old mid c.args.longer grows c.requires.longer).0 (region-still old mid c.args.shorter grows c.requires.shorter).0 c.in_ok-vars.ensures.made.tree
+
+pub returns-clause-tree : goal.returns-clause-tree
+returns-clause-tree g c =
+    let old = g.M.Build.context c.args.make.now in
+    let mid = g.M.Build.context c.mk_vars.new.self in
+    let grows = c.mk_vars.ensures.made.kept in
+    let longer = region-still old mid c.args.longer grows c.requires.longer in
+    let shorter = region-still old mid c.args.shorter grows c.requires.shorter in
+    let is = regions-is mid.trees c.in_ok-vars.vars c.args.longer c.args.shorter c.in_ok-vars.ensures.made.sort longer.0 shorter.0 c.in_ok-vars.ensures.made.tree in
+    let same = ap (λ (t : Tree). outlives RegionOutlives t (region_tree mid.trees c.args.shorter)) longer.1 ∙ ap (outlives RegionOutlives (region_tree old.trees c.args.longer)) shorter.1 in
+    so-ok c.mk_clause.result (λ x m. m ∙ (is ∙ same)) c.mk_clause.ensures.made.tree
+
+pub returns-clause-grows : goal.returns-clause-grows
+returns-clause-grows g c =
+    grows-trans (g.M.Build.context c.args.make.now) (g.M.Build.context c.mk_vars.new.self) (g.M.Build.context c.mk_clause.new.self) c.mk_vars.ensures.made.kept c.mk_clause.ensures.made.kept

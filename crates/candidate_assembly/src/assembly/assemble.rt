@@ -1,0 +1,224 @@
+//! All candidates for a goal, in their order.
+
+ghost use Rattle.std.specs.Prelude.{◌≡◌, List};
+ghost use Rattle.candidate_eval.specs.ResponseTrees.{AreCandidates, IsResponse, candidate_of, candidates_of};
+ghost use Rattle.candidate_ir.specs.Trees.{Tree};
+ghost use Rattle.candidate_assembly.specs.Assembled.{Further, WithImpls, WithUnsizing, has_where_bound, is_local_assumption, is_of_environment, is_shadowed, leaves_out, shadows};
+ghost use Rattle.candidate_assembly.specs.Assembling.{ListsKnown, UnsizingFollows};
+ghost use Rattle.candidate_assembly.specs.Kinds.{IsGoal, IsTyped};
+ghost use Rattle.candidate_assembly.specs.Listing.{ConsidersAll};
+ghost use Rattle.candidate_assembly.specs.Standing.{GoalStands};
+
+use crate::assembly::alias_chain::assemble_alias_bound_candidates;
+use crate::assembly::kind::GoalKind;
+use crate::assembly::language::assemble_language_candidates;
+use crate::assembly::listing::{
+    assemble_impl_candidates, assemble_param_env_candidates, table_is_well_formed,
+};
+use crate::assembly::object_bounds::assemble_object_bound_candidates;
+use crate::assembly::opaques::AssembleCandidatesFrom;
+use crate::trait_goals::matching::is_item;
+use candidate_eval::eval::context::EvalCtxt;
+use candidate_eval::eval::mode::TypingMode;
+use candidate_eval::eval::response::{
+    Candidate, CandidateHeadUsages, has_no_inference_or_external_constraints,
+};
+use candidate_eval::eval::source::{CandidateSource, ParamEnvSource};
+use candidate_ir::decl::Cx;
+use candidate_ir::decl::contents::LangItem;
+use candidate_ir::ir::kinds::ParamEnv;
+use candidate_ir::ir::stop::Stop;
+use std::alloc::Global;
+
+/// Whether it's a clause of the environment that isn't global, or a bound of an alias.
+fn is_local_assumption(source: CandidateSource) -> bool
+    ensures { result ≡ is_local_assumption source }
+{
+    matches!(
+        source,
+        CandidateSource::ParamEnv(ParamEnvSource::NonGlobal) | CandidateSource::AliasBound(_)
+    )
+}
+
+/// Whether impls and objects would lose against the candidate: it's by such an assumption, and asks for nothing of its own.
+fn shadows(cx: &Cx, candidate: &Candidate) -> bool
+    requires { IsResponse cx.now.trees candidate.now.result }
+    ensures { result ≡ shadows (candidate_of cx.now.trees candidate.now) }
+{
+    is_local_assumption(candidate.source)
+        && has_no_inference_or_external_constraints(cx, &candidate.result)
+}
+
+/// Whether impls and objects would lose against one of the candidates.
+fn is_shadowed(cx: &Cx, candidates: &[Candidate]) -> bool
+    requires { AreCandidates cx.now.trees candidates.now }
+    ensures { result ≡ is_shadowed (candidates_of cx.now.trees candidates.now) }
+{
+    for i in 0..candidates.len() {
+        if shadows(cx, &candidates[i]) {
+            return true;
+        }
+    }
+    false
+}
+
+/// Whether it's a clause of the environment.
+fn is_of_environment(source: CandidateSource) -> bool
+    ensures { result ≡ is_of_environment source }
+{
+    matches!(source, CandidateSource::ParamEnv(_))
+}
+
+/// Whether one of the candidates is by a clause of the environment.
+fn has_where_bound(candidates: &[Candidate]) -> bool
+    ensures { (ts : List Tree) → result ≡ has_where_bound (candidates_of ts candidates.now) }
+{
+    for candidate in candidates {
+        if is_of_environment(candidate.source) {
+            return true;
+        }
+    }
+    false
+}
+
+/// Whether impls and objects are left out after these candidates: outside of coherence, where one of these shadows them.
+fn leaves_out(cx: &Cx, mode: TypingMode, candidates: &[Candidate]) -> bool
+    requires { AreCandidates cx.now.trees candidates.now }
+    ensures { result ≡ leaves_out mode (candidates_of cx.now.trees candidates.now) }
+{
+    !matches!(mode, TypingMode::Coherence) && is_shadowed(cx, candidates)
+}
+
+/// Adds the candidates by impls and then those by an object's own bounds, unless the candidates that are there shadow them. The goal stands
+/// at a state whose values make sense.
+///
+/// It stops as `assemble_impl_candidates` and `assemble_object_bound_candidates` do. The state is left alike the one before.
+fn assemble_impls_and_objects<E: EvalCtxt, G: GoalKind<E>>(
+    alloc: Global,
+    ecx: &mut E,
+    env: ParamEnv,
+    predicate: G,
+    candidates: &mut Vec<Candidate>,
+) -> Result<(), Stop>
+    requires goal { IsGoal G.rules G.arguments G.types G.seen (E.context ecx.old) env predicate }
+    requires stands { GoalStands G.rules (E.state ecx.old) (G.seen (E.context ecx.old).trees env predicate) }
+    requires candidates { AreCandidates (E.context ecx.old).trees candidates.old.items }
+    ensures { ConsidersAll E.fixed E.judge E.state E.probes E.context E.stops ecx.old ecx.new (E.state ecx.old) (λ _. candidates.new.items) (WithImpls G.rules G.bounds (E.context ecx.old) (E.judge (E.fixed ecx.old)) (E.state ecx.old) (G.seen (E.context ecx.old).trees env predicate) (candidates_of (E.context ecx.old).trees candidates.old.items)) result }
+{
+    table_is_well_formed(ecx.cx());
+    if leaves_out(ecx.cx(), ecx.typing_mode(), candidates.as_slice()) {
+        return Ok(());
+    }
+    assemble_impl_candidates(alloc, ecx, env, predicate, candidates)?;
+    assemble_object_bound_candidates(alloc, ecx, env, predicate, candidates)
+}
+
+/// Adds the candidates by unsizing, for a goal of the trait for that. The goal stands at a state whose values make sense; its self type is
+/// neither a general variable nor a bound type.
+///
+/// It stops as `consider_structural_builtin_unsize_candidates` does; `Stop::Memory` comes where the list can't grow. The state is left
+/// alike the one before.
+fn assemble_unsize_candidates<E: EvalCtxt, G: GoalKind<E>>(
+    alloc: Global,
+    ecx: &mut E,
+    env: ParamEnv,
+    predicate: G,
+    candidates: &mut Vec<Candidate>,
+) -> Result<(), Stop>
+    requires goal { IsGoal G.rules G.arguments G.types G.seen (E.context ecx.old) env predicate }
+    requires typed { IsTyped G.rules (E.context ecx.old) (G.seen (E.context ecx.old).trees env predicate) }
+    requires stands { GoalStands G.rules (E.state ecx.old) (G.seen (E.context ecx.old).trees env predicate) }
+    requires candidates { AreCandidates (E.context ecx.old).trees candidates.old.items }
+    ensures { ConsidersAll E.fixed E.judge E.state E.probes E.context E.stops ecx.old ecx.new (E.state ecx.old) (λ _. candidates.new.items) (UnsizingFollows G.rules G.bounds (E.context ecx.old) (E.judge (E.fixed ecx.old)) (E.state ecx.old) (G.seen (E.context ecx.old).trees env predicate) (candidates_of (E.context ecx.old).trees candidates.old.items)) result }
+{
+    let trait_id = G::trait_def_id(ecx.cx(), env, predicate);
+    if !is_item(ecx.cx(), LangItem::Unsize, trait_id) {
+        return Ok(());
+    }
+    let mut more = G::consider_structural_builtin_unsize_candidates(alloc, ecx, env, predicate)?;
+    candidates.append(&mut more)?;
+    Ok(())
+}
+
+/// Adds the candidates by unsizing, and then those by impls and by an object's own bounds, unless what is there then shadows them. The goal
+/// stands at a state whose values make sense; its self type is neither a general variable nor a bound type.
+///
+/// It stops as the calls for these do. The state is left alike the one before.
+fn assemble_unsizing<E: EvalCtxt, G: GoalKind<E>>(
+    alloc: Global,
+    ecx: &mut E,
+    env: ParamEnv,
+    predicate: G,
+    candidates: &mut Vec<Candidate>,
+) -> Result<(), Stop>
+    requires goal { IsGoal G.rules G.arguments G.types G.seen (E.context ecx.old) env predicate }
+    requires typed { IsTyped G.rules (E.context ecx.old) (G.seen (E.context ecx.old).trees env predicate) }
+    requires stands { GoalStands G.rules (E.state ecx.old) (G.seen (E.context ecx.old).trees env predicate) }
+    requires candidates { AreCandidates (E.context ecx.old).trees candidates.old.items }
+    ensures { ConsidersAll E.fixed E.judge E.state E.probes E.context E.stops ecx.old ecx.new (E.state ecx.old) (λ _. candidates.new.items) (WithUnsizing G.rules G.bounds (E.context ecx.old) (E.judge (E.fixed ecx.old)) (E.state ecx.old) (G.seen (E.context ecx.old).trees env predicate) (candidates_of (E.context ecx.old).trees candidates.old.items)) result }
+{
+    table_is_well_formed(ecx.cx());
+    assemble_unsize_candidates(alloc, ecx, env, predicate, candidates)?;
+    assemble_impls_and_objects(alloc, ecx, env, predicate, candidates)
+}
+
+/// Adds what follows bounds of aliases and clauses of the environment: the candidates by the language's rule, by unsizing, by impls and by
+/// an object's own bounds; or these alone, where nothing else is looked for and no clause of the environment served. The goal stands at a
+/// state whose values make sense; its self type is neither a general variable nor a bound type.
+///
+/// It stops as the calls for these do. The state is left alike the one before.
+fn assemble_further<E: EvalCtxt, G: GoalKind<E>>(
+    alloc: Global,
+    ecx: &mut E,
+    env: ParamEnv,
+    predicate: G,
+    from: AssembleCandidatesFrom,
+    candidates: &mut Vec<Candidate>,
+) -> Result<(), Stop>
+    requires goal { IsGoal G.rules G.arguments G.types G.seen (E.context ecx.old) env predicate }
+    requires typed { IsTyped G.rules (E.context ecx.old) (G.seen (E.context ecx.old).trees env predicate) }
+    requires stands { GoalStands G.rules (E.state ecx.old) (G.seen (E.context ecx.old).trees env predicate) }
+    requires candidates { AreCandidates (E.context ecx.old).trees candidates.old.items }
+    ensures { ConsidersAll E.fixed E.judge E.state E.probes E.context E.stops ecx.old ecx.new (E.state ecx.old) (λ _. candidates.new.items) (Further G.rules G.bounds (E.context ecx.old) (E.judge (E.fixed ecx.old)) (E.state ecx.old) (G.seen (E.context ecx.old).trees env predicate) (candidates_of (E.context ecx.old).trees candidates.old.items) from) result }
+{
+    table_is_well_formed(ecx.cx());
+    match from {
+        AssembleCandidatesFrom::All => {
+            assemble_language_candidates(alloc, ecx, env, predicate, candidates)?;
+            assemble_unsizing(alloc, ecx, env, predicate, candidates)
+        }
+        AssembleCandidatesFrom::EnvAndBounds => {
+            if has_where_bound(candidates.as_slice()) {
+                return Ok(());
+            }
+            assemble_object_bound_candidates(alloc, ecx, env, predicate, candidates)
+        }
+    }
+}
+
+/// All candidates for a goal but for what is unknowable: those by bounds of aliases, by clauses of the environment in their order, and what
+/// follows these. They are as each earlier context has them, at each state alike of which the goal mentions no other variables. Of a clause
+/// that gives none, it's added to `failed` which goals above were used until then. The goal stands at a state whose values make sense; its
+/// self type is neither a general variable nor a bound type.
+///
+/// It stops as the calls for these do; what was added to `failed` stays. The state is left alike the one before.
+pub(crate) fn assemble_known<E: EvalCtxt, G: GoalKind<E>>(
+    alloc: Global,
+    ecx: &mut E,
+    env: ParamEnv,
+    predicate: G,
+    from: AssembleCandidatesFrom,
+    failed: &mut Vec<CandidateHeadUsages>,
+) -> Result<Vec<Candidate>, Stop>
+    requires goal { IsGoal G.rules G.arguments G.types G.seen (E.context ecx.old) env predicate }
+    requires typed { IsTyped G.rules (E.context ecx.old) (G.seen (E.context ecx.old).trees env predicate) }
+    requires stands { GoalStands G.rules (E.state ecx.old) (G.seen (E.context ecx.old).trees env predicate) }
+    ensures { ListsKnown E.fixed E.judge E.state E.probes E.context E.stops G.rules G.bounds G.seen ecx.old ecx.new env predicate from (λ v. v.items) result }
+{
+    table_is_well_formed(ecx.cx());
+    let mut candidates = Vec::new(alloc);
+    assemble_alias_bound_candidates(alloc, ecx, env, predicate, &mut candidates)?;
+    assemble_param_env_candidates(alloc, ecx, env, predicate, &mut candidates, failed)?;
+    assemble_further(alloc, ecx, env, predicate, from, &mut candidates)?;
+    Ok(candidates)
+}

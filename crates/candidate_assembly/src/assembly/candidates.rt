@@ -1,0 +1,146 @@
+//! All ways in which a goal can be proved, in one list.
+
+ghost use Rattle.std.specs.Prelude.{◌≡◌, ◌∷◌, [], IfErr, IfOk};
+ghost use Rattle.candidate_ir.specs.declared.ir.stop.Stop.TheVariants.{Memory};
+ghost use Rattle.candidate_ir.specs.Words.{IsTy, ty_tree};
+ghost use Rattle.candidate_assembly.specs.Assembled.{Assembled, ForNormal, is_coherence};
+ghost use Rattle.candidate_assembly.specs.AssembledCalls.{Assembles};
+ghost use Rattle.candidate_assembly.specs.Earlier.{AtEach};
+ghost use Rattle.candidate_assembly.specs.Kinds.{IsGoal, IsTyped};
+ghost use Rattle.candidate_assembly.specs.Listing.{ConsidersAll};
+ghost use Rattle.candidate_assembly.specs.OneTrivial.{AnswersOneTrivial};
+ghost use Rattle.candidate_assembly.specs.Standing.{GoalStands, StandsBeside};
+
+use crate::assembly::assemble::assemble_known;
+use crate::assembly::kind::GoalKind;
+use crate::assembly::listing::table_is_well_formed;
+use crate::assembly::opaques::{AssembleCandidatesFrom, assemble_opaque_candidates};
+use crate::assembly::unknowable::consider_coherence_unknowable_candidate;
+use candidate_eval::eval::context::EvalCtxt;
+use candidate_eval::eval::mode::TypingMode;
+use candidate_eval::eval::refusal::NoSolutionOrStop;
+use candidate_eval::eval::resolving::resolve_env_if_possible;
+use candidate_eval::eval::response::{Candidate, CandidateHeadUsages};
+use candidate_ir::ir::kinds::{ParamEnv, Ty};
+use candidate_ir::ir::stop::Stop;
+use candidate_ir::ir::trees::Trees;
+use std::alloc::Global;
+
+/// What is kept of candidates that were refused.
+#[derive(Drop)]
+pub struct FailedCandidateInfo {
+    /// What the clauses of the environment used that were refused, of one after the other.
+    pub param_env_head_usages: Vec<CandidateHeadUsages>,
+}
+
+/// Whether headers of impls are compared, as if other crates could still write impls.
+fn is_coherence(mode: TypingMode) -> bool
+    ensures { result ≡ is_coherence mode }
+{
+    matches!(mode, TypingMode::Coherence)
+}
+
+/// The one candidate.
+fn alone(alloc: Global, candidate: Candidate) -> Result<Vec<Candidate>, Stop>
+    ensures is { IfOk result (λ v. v.items ≡ candidate ∷ []) }
+    ensures cause { IfErr result (λ s. s ≡ Memory) }
+{
+    let mut candidates = Vec::new(alloc);
+    candidates.push(candidate)?;
+    Ok(candidates)
+}
+
+/// The candidates for a goal whose values are put in: in coherence, where other crates may write an impl, that is the only one; else all that
+/// are known. The goal stands at a state whose values make sense; its self type is neither a general variable nor a bound type.
+///
+/// It stops as `consider_coherence_unknowable_candidate` and `assemble_known` do. The state is left alike the one before.
+fn assemble_resolved<E: EvalCtxt, G: GoalKind<E>>(
+    alloc: Global,
+    ecx: &mut E,
+    env: ParamEnv,
+    predicate: G,
+    from: AssembleCandidatesFrom,
+    failed: &mut Vec<CandidateHeadUsages>,
+) -> Result<Vec<Candidate>, Stop>
+    requires goal { IsGoal G.rules G.arguments G.types G.seen (E.context ecx.old) env predicate }
+    requires typed { IsTyped G.rules (E.context ecx.old) (G.seen (E.context ecx.old).trees env predicate) }
+    requires stands { GoalStands G.rules (E.state ecx.old) (G.seen (E.context ecx.old).trees env predicate) }
+    ensures { ConsidersAll E.fixed E.judge E.state E.probes E.context E.stops ecx.old ecx.new (E.state ecx.old) (λ v. v.items) (AtEach (E.context ecx.old) (λ c. Assembled G.rules G.bounds c (E.judge (E.fixed ecx.old)) (E.state ecx.old) (G.seen (E.context ecx.old).trees env predicate) from)) result }
+{
+    table_is_well_formed(ecx.cx());
+    if !is_coherence(ecx.typing_mode()) {
+        return assemble_known(alloc, ecx, env, predicate, from, failed);
+    }
+    match consider_coherence_unknowable_candidate(alloc, ecx, env, predicate) {
+        Ok(candidate) => alone(alloc, candidate),
+        Err(NoSolutionOrStop::NoSolution) => {
+            assemble_known(alloc, ecx, env, predicate, from, failed)
+        }
+        Err(NoSolutionOrStop::Stop(stop)) => Err(stop),
+    }
+}
+
+/// The candidates for the goal, whose self type has this normal form. Both stand at a state whose values make sense.
+///
+/// It stops as the calls for the candidates do, and as those that put the type and the values in. The state is left alike the one before.
+fn assemble_for_normal<E: EvalCtxt, G: GoalKind<E>>(
+    alloc: Global,
+    ecx: &mut E,
+    env: ParamEnv,
+    predicate: G,
+    ty: Ty,
+    from: AssembleCandidatesFrom,
+    failed: &mut Vec<CandidateHeadUsages>,
+) -> Result<Vec<Candidate>, Stop>
+    requires goal { IsGoal G.rules G.arguments G.types G.seen (E.context ecx.old) env predicate }
+    requires ty { IsTy (E.context ecx.old).trees ty }
+    requires stands { StandsBeside G.rules (E.state ecx.old) (G.seen (E.context ecx.old).trees env predicate) (ty_tree (E.context ecx.old).trees ty) }
+    ensures { ConsidersAll E.fixed E.judge E.state E.probes E.context E.stops ecx.old ecx.new (E.state ecx.old) (λ v. v.items) (AtEach (E.context ecx.old) (λ c. ForNormal G.rules G.bounds c (E.judge (E.fixed ecx.old)) (E.state ecx.old) (G.seen (E.context ecx.old).trees env predicate) (ty_tree (E.context ecx.old).trees ty) from)) result }
+{
+    table_is_well_formed(ecx.cx());
+    let predicate = G::with_replaced_self_ty(alloc, ecx, env, predicate, ty)?;
+    if ecx.cx().kind(ty).is_ty_var() {
+        return assemble_opaque_candidates(alloc, ecx, env, predicate, from);
+    }
+    let resolved_env = resolve_env_if_possible(alloc, ecx, env)?;
+    let resolved = G::resolve_vars_if_possible(ecx, env, predicate, resolved_env)?;
+    assemble_resolved(alloc, ecx, resolved_env, resolved, from, failed)
+}
+
+/// All candidates for the goal, in their order, and what the clauses of the environment used that were refused. The goal stands at a state
+/// whose values make sense.
+///
+/// The goal's self type is normalised first: where that is refused there are no candidates, and a general variable is answered by the opaque
+/// types that may be hidden behind it. In coherence, where other crates may write an impl, that is the only candidate. Else there are, in this
+/// order: bounds of aliases, clauses of the environment, the language's rule, unsizing, impls, and an object's own bounds. One candidate at
+/// most is trivial, and so wins over all others.
+///
+/// It stops at the first rule that stops, with that stop; `Stop::AliasDepth` comes where a chain of aliases is longer than `ALIAS_CHAIN`.
+/// Other stops are the evaluator's and those of making nodes and lists. The state is left alike the one that normalising leaves, or, where
+/// that was refused or stopped, alike the one before.
+pub fn assemble_and_evaluate_candidates<E: EvalCtxt, G: GoalKind<E>>(
+    alloc: Global,
+    ecx: &mut E,
+    env: ParamEnv,
+    predicate: G,
+    from: AssembleCandidatesFrom,
+) -> Result<(Vec<Candidate>, FailedCandidateInfo), Stop>
+    requires goal { IsGoal G.rules G.arguments G.types G.seen (E.context ecx.old) env predicate }
+    requires stands { GoalStands G.rules (E.state ecx.old) (G.seen (E.context ecx.old).trees env predicate) }
+    ensures assembled { Assembles E.fixed E.judge E.state E.probes E.context E.stops G.rules G.bounds ecx.old ecx.new (G.seen (E.context ecx.old).trees env predicate) from (λ r. r.0.items) result }
+    ensures trivial { AnswersOneTrivial (λ r. r.0.items) result }
+{
+    table_is_well_formed(ecx.cx());
+    let mut failed = FailedCandidateInfo {
+        param_env_head_usages: Vec::new(alloc),
+    };
+    let self_ty = G::self_ty(ecx.cx(), env, predicate);
+    let ty = match ecx.structurally_normalize_ty(env, self_ty) {
+        Ok(ty) => ty,
+        Err(NoSolutionOrStop::NoSolution) => return Ok((Vec::new(alloc), failed)),
+        Err(NoSolutionOrStop::Stop(stop)) => return Err(stop),
+    };
+    let usages = &mut failed.param_env_head_usages;
+    let candidates = assemble_for_normal(alloc, ecx, env, predicate, ty, from, usages)?;
+    Ok((candidates, failed))
+}

@@ -1,0 +1,356 @@
+//! Candidates by an object's own bounds: what the bounds of a `dyn` type say of it.
+
+ghost use Rattle.std.specs.Prelude.{◌≡◌, ◌++◌, All, false, map, option_map, true, IfErr, IfOk, IfSome};
+ghost use Rattle.std.specs.List.{filter};
+ghost use Rattle.candidate_ir.specs.Context.{Grows, world};
+ghost use Rattle.candidate_ir.specs.References.{Takes};
+ghost use Rattle.candidate_ir.specs.Substitutions.{alone};
+ghost use Rattle.candidate_ir.specs.Words.{ClauseFits, ClauseListFits, IsClause, IsParamEnv, IsPred, IsPreds, IsTy, PredListFits, clause_kind_tree, clause_tree, env_forest, pred_tree, preds_forest, ty_tree};
+ghost use Rattle.candidate_eval.specs.Evaluators.{IsMakingStop};
+ghost use Rattle.candidate_eval.specs.ObjectRequirements.{reference_clause};
+ghost use Rattle.candidate_ir.specs.declared.ir.heads.Head.TheVariants as H;
+ghost use Rattle.candidate_ir.specs.Trees.{holds, is_param};
+ghost use Rattle.candidate_eval.specs.ResponseTrees.{AreCandidates};
+ghost use Rattle.candidate_assembly.specs.Listing.{ConsidersAll};
+ghost use Rattle.candidate_assembly.specs.Kinds.{IsAssumption, IsGoal, self_type};
+ghost use Rattle.candidate_assembly.specs.ObjectBounds.{has_own_clauses, own_clause, speaks_of_trait};
+ghost use Rattle.candidate_assembly.specs.DynBounds.{ArePrincipalSupers, bounds_in, first_listed, is_principal};
+ghost use Rattle.candidate_assembly.specs.ObjectCalls.{AreOwnClauses, AsksOfObject, ConsidersObject, IsOwnClause, IsReferenceBy, ObjectFollows, ObjectsFollow, TellsObject, bound_clauses, numbered_from, own_clause_of};
+
+use crate::assembly::dyn_bounds::{bound_clause, dyn_parts, is_dyn_compatible};
+use crate::assembly::kind::GoalKind;
+use crate::assembly::listing::{push_considered, table_is_well_formed};
+use crate::assembly::steps::respond_as;
+use crate::trait_goals::matching::is_item;
+use candidate_eval::eval::certainty::Certainty;
+use candidate_eval::eval::context::{EvalCtxt, ProbeKind};
+use candidate_eval::eval::refusal::NoSolutionOrStop;
+use candidate_eval::eval::response::Candidate;
+use candidate_eval::eval::source::{BuiltinImplSource, CandidateSource};
+use candidate_eval::structural::object::AmbiguousOrStop;
+use candidate_eval::structural::object_candidate::predicates_for_object_candidate;
+use candidate_ir::decl::Cx;
+use candidate_ir::decl::contents::LangItem;
+use candidate_ir::decl::elaborate::supertraits;
+use candidate_ir::decl::make::Make;
+use candidate_ir::ir::heads::{Head, PartHead, PredHead};
+use candidate_ir::ir::kinds::{
+    Binder, Clause, ClauseKind, GoalSource, ParamEnv, Pred, Preds, TraitId, TraitRef, Ty,
+};
+use candidate_ir::ir::stop::Stop;
+use candidate_ir::ir::trees::Trees;
+use std::alloc::{AllocError, Global};
+
+/// The reference of the trait that the clause speaks of, under the clause's binder. A clause that says what an associated type is speaks of
+/// the trait of that, with the same arguments.
+fn reference_in(cx: &Cx, clause: Clause) -> Binder<TraitRef>
+    requires clause { IsClause cx.now.trees clause }
+    requires speaks { speaks_of_trait (clause_tree cx.now.trees clause).head ≡ true }
+    ensures { IsReferenceBy cx.now (clause_tree cx.now.trees clause) result }
+{
+    cx.well_formed();
+    cx.well_formed_table();
+    let said = cx.clause(clause);
+    let trait_ref = match said.value {
+        ClauseKind::Trait(predicate) => predicate.trait_ref,
+        ClauseKind::Projection(projection) => {
+            let term = projection.projection_term;
+            match cx.assoc_trait(term.def_id) {
+                Some(def_id) => TraitRef {
+                    def_id,
+                    args: term.args,
+                },
+                None => unreachable!(),
+            }
+        }
+        ClauseKind::TypeOutlives(_, _) | ClauseKind::RegionOutlives(_, _) => unreachable!(),
+    };
+    Binder {
+        vars: said.vars,
+        value: trait_ref,
+    }
+}
+
+/// What an object of the reference's trait has to fulfil becomes pending in the environment, and the candidate is asked for. Where too little
+/// is known of a projection of the object's own, the candidate is ambiguous.
+///
+/// `NoSolution` comes where the evaluator refuses the response; it stops as `predicates_for_object_candidate` and the evaluator do.
+fn require_of_object<E: EvalCtxt>(
+    alloc: Global,
+    ecx: &mut E,
+    source: CandidateSource,
+    env: ParamEnv,
+    trait_ref: Binder<TraitRef>,
+    object_bounds: Preds,
+) -> Result<Candidate, NoSolutionOrStop>
+    requires env { IsParamEnv (E.context ecx.old).trees env }
+    requires fits { ClauseFits (E.context ecx.old).trees (reference_clause trait_ref) }
+    requires takes { Takes (world (E.context ecx.old)) (clause_kind_tree (E.context ecx.old).trees (reference_clause trait_ref)) }
+    requires bounds { IsPreds (E.context ecx.old).trees object_bounds }
+    ensures { AsksOfObject E.fixed E.judge E.state E.probes E.context E.stops ecx.old ecx.new (env_forest (E.context ecx.old).trees env) trait_ref (preds_forest (E.context ecx.old).trees object_bounds) source result }
+{
+    match predicates_for_object_candidate(alloc, ecx, env, trait_ref, object_bounds) {
+        Ok(goals) => {
+            ecx.add_goals(GoalSource::ImplWhereBound, goals.as_slice())?;
+            respond_as(alloc, ecx, source, Certainty::Yes)
+        }
+        Err(AmbiguousOrStop::Ambiguous) => respond_as(alloc, ecx, source, Certainty::AMBIGUOUS),
+        Err(AmbiguousOrStop::Stop(stop)) => Err(NoSolutionOrStop::Stop(stop)),
+    }
+}
+
+/// Matches a clause of the `dyn` type that the goal is about, which passes quick rejection, and asks for what an object of the clause's trait
+/// has to fulfil. It is called in a probe.
+///
+/// `NoSolution` comes where the clause isn't matched, and where the evaluator refuses the response; it stops as the match and
+/// `predicates_for_object_candidate` do, and as the evaluator.
+fn match_and_require<E: EvalCtxt, G: GoalKind<E>>(
+    alloc: Global,
+    ecx: &mut E,
+    source: CandidateSource,
+    env: ParamEnv,
+    predicate: G,
+    clause: Clause,
+) -> Result<Candidate, NoSolutionOrStop>
+    requires goal { IsGoal G.rules G.arguments G.types G.seen (E.context ecx.old) env predicate }
+    requires clause { IsClause (E.context ecx.old).trees clause }
+    requires matches { IsAssumption G.rules (E.context ecx.old) (G.seen (E.context ecx.old).trees env predicate) (clause_tree (E.context ecx.old).trees clause) }
+    requires speaks { speaks_of_trait (clause_tree (E.context ecx.old).trees clause).head ≡ true }
+    requires dynamic { (self_type G.rules (E.context ecx.old) (G.seen (E.context ecx.old).trees env predicate)).head ≡ H.Dynamic }
+    ensures { TellsObject E.fixed E.judge E.state E.probes E.context E.stops G.rules ecx.old ecx.new (G.seen (E.context ecx.old).trees env predicate) (own_clause source (clause_tree (E.context ecx.old).trees clause)) result }
+{
+    table_is_well_formed(ecx.cx());
+    let self_ty = G::self_ty(ecx.cx(), env, predicate);
+    let (object_bounds, _) = dyn_parts(ecx.cx(), self_ty);
+    let trait_ref = reference_in(ecx.cx(), clause);
+    G::match_assumption(
+        alloc,
+        ecx,
+        env,
+        predicate,
+        clause,
+        |ecx: &mut E| require_of_object(alloc, ecx, source, env, trait_ref, object_bounds),
+    )
+}
+
+/// The candidate of a source by a clause of the `dyn` type that the goal is about: in a probe the clause is matched; then what an object of
+/// the clause's trait has to fulfil becomes pending, and a response is asked for. Where too little is known of a projection of the object's
+/// own, the candidate is ambiguous.
+///
+/// `NoSolution` comes where the clause doesn't pass quick rejection or isn't matched, and where the evaluator refuses the response; it stops
+/// as the match and `predicates_for_object_candidate` do, and as the evaluator. The state is left alike the one before.
+pub fn probe_and_consider_object_bound_candidate<E: EvalCtxt, G: GoalKind<E>>(
+    alloc: Global,
+    ecx: &mut E,
+    source: CandidateSource,
+    env: ParamEnv,
+    predicate: G,
+    clause: Clause,
+) -> Result<Candidate, NoSolutionOrStop>
+    requires goal { IsGoal G.rules G.arguments G.types G.seen (E.context ecx.old) env predicate }
+    requires clause { IsClause (E.context ecx.old).trees clause }
+    requires speaks { speaks_of_trait (clause_tree (E.context ecx.old).trees clause).head ≡ true }
+    requires free { holds is_param (clause_tree (E.context ecx.old).trees clause).children ≡ false }
+    requires dynamic { (self_type G.rules (E.context ecx.old) (G.seen (E.context ecx.old).trees env predicate)).head ≡ H.Dynamic }
+    ensures { ConsidersObject E.fixed E.judge E.state E.probes E.context E.stops G.rules ecx.old ecx.new (G.seen (E.context ecx.old).trees env predicate) (own_clause source (clause_tree (E.context ecx.old).trees clause)) result }
+{
+    table_is_well_formed(ecx.cx());
+    if G::fast_reject_assumption(ecx.cx(), env, predicate, clause).is_err() {
+        return Err(NoSolutionOrStop::NoSolution);
+    }
+    let probe = ecx.begin_probe(ProbeKind::Kept)?;
+    let answer = match_and_require(alloc, ecx, source, env, predicate, clause);
+    let _usages = ecx.end_probe(probe);
+    answer
+}
+
+/// Adds the candidates by clauses of the `dyn` type that the goal is about, each of its source, in their order.
+///
+/// It stops at the first clause whose rule stops, with that stop, and as `probe_and_consider_object_bound_candidate`; `Stop::Memory` comes
+/// where the list can't grow. The state is left alike the one before.
+fn consider_own_clauses<E: EvalCtxt, G: GoalKind<E>>(
+    alloc: Global,
+    ecx: &mut E,
+    env: ParamEnv,
+    predicate: G,
+    clauses: &[(CandidateSource, Clause)],
+    candidates: &mut Vec<Candidate>,
+) -> Result<(), Stop>
+    requires goal { IsGoal G.rules G.arguments G.types G.seen (E.context ecx.old) env predicate }
+    requires clauses { All (IsOwnClause (E.context ecx.old).trees) clauses.now }
+    requires dynamic { (self_type G.rules (E.context ecx.old) (G.seen (E.context ecx.old).trees env predicate)).head ≡ H.Dynamic }
+    requires candidates { AreCandidates (E.context ecx.old).trees candidates.old.items }
+    ensures { ConsidersAll E.fixed E.judge E.state E.probes E.context E.stops ecx.old ecx.new (E.state ecx.old) (λ _. candidates.new.items) (ObjectsFollow G.rules (E.judge (E.fixed ecx.old)) (E.context ecx.old) (E.state ecx.old) (G.seen (E.context ecx.old).trees env predicate) candidates.old.items (map (own_clause_of (E.context ecx.old).trees) clauses.now)) result }
+{
+    table_is_well_formed(ecx.cx());
+    for clause in clauses {
+        let (source, clause) = *clause;
+        let answer = probe_and_consider_object_bound_candidate(
+            alloc, ecx, source, env, predicate, clause,
+        );
+        push_considered(candidates, answer)?;
+    }
+    Ok(())
+}
+
+/// Whether the bound is the principal of its list.
+fn is_principal(cx: &Cx, bound: Pred) -> bool
+    requires { IsPred cx.now.trees bound }
+    ensures { result ≡ is_principal (pred_tree cx.now.trees bound).head }
+{
+    matches!(
+        cx.head(bound.0),
+        Head::Part(PartHead::Pred(PredHead::Trait(_)))
+    )
+}
+
+/// The first principal among the bounds, if there is one.
+fn principal_among(cx: &Cx, bounds: &[Pred]) -> Option<Pred>
+    requires { PredListFits cx.now.trees bounds.now }
+    ensures sort { IfSome result (IsPred cx.now.trees) }
+    ensures first { option_map (pred_tree cx.now.trees) result ≡ first_listed (filter (λ b. is_principal b.head) (map (pred_tree cx.now.trees) bounds.now)) }
+{
+    for bound in bounds {
+        if is_principal(cx, *bound) {
+            return Some(*bound);
+        }
+    }
+    None
+}
+
+/// The supertraits of a `dyn` type's principal, itself number 0, of which these are the bounds. Without a principal there are none.
+///
+/// `Stop::Memory` comes where a growth was refused, `Stop::NodesFull` where a node was not made. After a stop the nodes that were made stay.
+fn principal_supertraits<M: Make>(
+    alloc: Global,
+    make: &mut M,
+    ty: Ty,
+    bounds: &[Pred],
+) -> Result<Vec<Clause>, Stop>
+    requires ty { IsTy (M.context make.old).trees ty }
+    requires dynamic { (ty_tree (M.context make.old).trees ty).head ≡ H.Dynamic }
+    requires fit { PredListFits (M.context make.old).trees bounds.now }
+    requires bounds { bounds_in (ty_tree (M.context make.old).trees ty) ≡ map (pred_tree (M.context make.old).trees) bounds.now }
+    ensures grows { Grows (M.context make.old) (M.context make.new) }
+    ensures rest { M.rest make.new ≡ M.rest make.old }
+    ensures sort { IfOk result (λ v. ClauseListFits (M.context make.new).trees v.items) }
+    ensures supers { IfOk result (λ v. ArePrincipalSupers (M.context make.old) (ty_tree (M.context make.old).trees ty) (map (clause_tree (M.context make.new).trees) v.items)) }
+    ensures cause { IfErr result IsMakingStop }
+{
+    table_is_well_formed(make.cx());
+    let Some(principal) = principal_among(make.cx(), bounds) else {
+        return Ok(Vec::new(alloc));
+    };
+    let clause = bound_clause(alloc, make, ty, principal)?;
+    supertraits(alloc, make, clause)
+}
+
+/// What the bounds say of a type, but for the principal, in their order.
+///
+/// `Stop::Memory` comes where a growth was refused, `Stop::NodesFull` where a node was not made. After a stop the nodes that were made stay.
+fn bounds_said<M: Make>(
+    alloc: Global,
+    make: &mut M,
+    ty: Ty,
+    bounds: &[Pred],
+) -> Result<Vec<(CandidateSource, Clause)>, Stop>
+    requires ty { IsTy (M.context make.old).trees ty }
+    requires fit { PredListFits (M.context make.old).trees bounds.now }
+    ensures grows { Grows (M.context make.old) (M.context make.new) }
+    ensures rest { M.rest make.new ≡ M.rest make.old }
+    ensures sort { IfOk result (λ v. All (λ x. IsClause (M.context make.new).trees x.1) v.items) }
+    ensures are { IfOk result (λ v. map (own_clause_of (M.context make.new).trees) v.items ≡ bound_clauses (ty_tree (M.context make.old).trees ty) (map (pred_tree (M.context make.old).trees) bounds.now)) }
+    ensures cause { IfErr result IsMakingStop }
+{
+    let mut clauses = Vec::new(alloc);
+    for bound in bounds {
+        if !is_principal(make.cx(), *bound) {
+            let clause = bound_clause(alloc, make, ty, *bound)?;
+            let source = CandidateSource::BuiltinImpl(BuiltinImplSource::Misc);
+            clauses.push((source, clause))?;
+        }
+    }
+    Ok(clauses)
+}
+
+/// Adds the supertraits of an object's own trait, each with its number. The list can't grow where `AllocError` comes.
+fn push_supertraits(
+    clauses: &mut Vec<(CandidateSource, Clause)>,
+    supers: &[Clause],
+) -> Result<(), AllocError>
+    ensures { IfOk result (λ _. clauses.new.items ≡ clauses.old.items ++ numbered_from 0 supers.now) }
+{
+    for number in 0..supers.len() {
+        let source = CandidateSource::BuiltinImpl(BuiltinImplSource::Object(number));
+        clauses.push((source, supers[number]))?;
+    }
+    Ok(())
+}
+
+/// All clauses that the bounds of a `dyn` type give, each with its source: what its projections and auto traits say, in their order, and then
+/// the supertraits of its principal, each by its number. No parameter stands in the type.
+///
+/// `Stop::Memory` comes where a growth was refused, `Stop::NodesFull` where a node was not made. After a stop the nodes that were made stay.
+fn own_clauses<M: Make>(
+    alloc: Global,
+    make: &mut M,
+    ty: Ty,
+) -> Result<Vec<(CandidateSource, Clause)>, Stop>
+    requires ty { IsTy (M.context make.old).trees ty }
+    requires dynamic { (ty_tree (M.context make.old).trees ty).head ≡ H.Dynamic }
+    requires free { holds is_param (alone (ty_tree (M.context make.old).trees ty)) ≡ false }
+    ensures grows { Grows (M.context make.old) (M.context make.new) }
+    ensures rest { M.rest make.new ≡ M.rest make.old }
+    ensures are { IfOk result (λ v. AreOwnClauses (M.context make.old) (M.context make.new) (ty_tree (M.context make.old).trees ty) v.items) }
+    ensures cause { IfErr result IsMakingStop }
+{
+    table_is_well_formed(make.cx());
+    let (preds, _) = dyn_parts(make.cx(), ty);
+    let bounds = Vec::from_slice(alloc, make.cx().preds(preds))?;
+    let supers = principal_supertraits(alloc, make, ty, bounds.as_slice())?;
+    let mut clauses = bounds_said(alloc, make, ty, bounds.as_slice())?;
+    push_supertraits(&mut clauses, supers.as_slice())?;
+    Ok(clauses)
+}
+
+/// Whether the bounds of a type say something of it that may prove a goal of the trait: it is a `dyn` type, of which objects may be made, and
+/// the trait isn't one of sizedness, which isn't had by a bound.
+fn has_own_clauses(cx: &Cx, trait_id: TraitId, ty: Ty) -> bool
+    requires { IsTy cx.now.trees ty }
+    ensures { result ≡ has_own_clauses cx.now trait_id.0 (ty_tree cx.now.trees ty) }
+{
+    if is_item(cx, LangItem::Sized, trait_id) || is_item(cx, LangItem::MetaSized, trait_id) {
+        return false;
+    }
+    if !matches!(cx.head(ty.0), Head::Dynamic) {
+        return false;
+    }
+    is_dyn_compatible(cx, ty)
+}
+
+/// Adds the candidates by an object's own bounds: what its projections and auto traits say, in their order, and then the supertraits of its
+/// principal, each by its number. There are none for traits of sizedness, for a self type that is no `dyn` type, and where no objects of the
+/// principal's trait may be made.
+///
+/// It stops at the first clause whose rule stops, with that stop, and as `probe_and_consider_object_bound_candidate`; `Stop::Memory` comes
+/// where a list can't grow, `Stop::NodesFull` where a clause was not made. The state is left alike the one before.
+pub(crate) fn assemble_object_bound_candidates<E: EvalCtxt, G: GoalKind<E>>(
+    alloc: Global,
+    ecx: &mut E,
+    env: ParamEnv,
+    predicate: G,
+    candidates: &mut Vec<Candidate>,
+) -> Result<(), Stop>
+    requires goal { IsGoal G.rules G.arguments G.types G.seen (E.context ecx.old) env predicate }
+    requires candidates { AreCandidates (E.context ecx.old).trees candidates.old.items }
+    ensures { ConsidersAll E.fixed E.judge E.state E.probes E.context E.stops ecx.old ecx.new (E.state ecx.old) (λ _. candidates.new.items) (ObjectFollows G.rules (E.judge (E.fixed ecx.old)) (E.context ecx.old) (E.state ecx.old) (G.seen (E.context ecx.old).trees env predicate) candidates.old.items) result }
+{
+    table_is_well_formed(ecx.cx());
+    let trait_id = G::trait_def_id(ecx.cx(), env, predicate);
+    let self_ty = G::self_ty(ecx.cx(), env, predicate);
+    if !has_own_clauses(ecx.cx(), trait_id, self_ty) {
+        return Ok(());
+    }
+    let clauses = own_clauses(alloc, ecx, self_ty)?;
+    consider_own_clauses(alloc, ecx, env, predicate, clauses.as_slice(), candidates)
+}

@@ -1,0 +1,466 @@
+//! Goals whose self type is a general variable: what is said by the opaque types that may be hidden behind it.
+
+ghost use Rattle.std.specs.Prelude.{◌≡◌, ◌++◌, ◌∷◌, [], All, false, length, map, option_map, true, IfErr, IfOk};
+ghost use Rattle.std.specs.List.{flat_map};
+ghost use Rattle.std.specs.Result.{IsOk};
+ghost use Rattle.candidate_ir.specs.Context.{Grows};
+ghost use Rattle.candidate_ir.specs.Folds.{IsArg, IsOfKind, arg_tree};
+ghost use Rattle.candidate_ir.specs.Impls.{blanket_impls};
+ghost use Rattle.candidate_ir.specs.Trees.{holds, is_param};
+ghost use Rattle.candidate_ir.specs.Words.{ClauseListFits, IsClause, IsParamEnv, IsTy, KindFits, clause_tree, env_forest, kind_tree, ty_tree};
+ghost use Rattle.candidate_ir.specs.declared.ir.kinds.TyKind.TheVariants as kinds;
+ghost use Rattle.candidate_eval.specs.Accounts.{by_stop};
+ghost use Rattle.candidate_eval.specs.Certainties.{certainty_and};
+ghost use Rattle.candidate_eval.specs.Evaluators.{IsHiddenOpaque, IsMakingStop, Keeps, alias_trees};
+ghost use Rattle.candidate_eval.specs.Knowing.{own_stop};
+ghost use Rattle.candidate_eval.specs.ResponseTrees.{AreCandidates};
+ghost use Rattle.candidate_assembly.specs.AliasChains.{IsBoundedAlias};
+ghost use Rattle.candidate_assembly.specs.Closures.{Responds};
+ghost use Rattle.candidate_assembly.specs.Earlier.{AtEach};
+ghost use Rattle.candidate_assembly.specs.Kinds.{GoalBelow, IsGoal};
+ghost use Rattle.candidate_assembly.specs.Listing.{ConsidersAll, after_these, answers};
+ghost use Rattle.candidate_assembly.specs.Opaques.{AreBelow, AreClosedBounds, ambiguous_rule, bounds_said, hidden_behind, opaque_rules, open_impl_rules, open_rule_of, open_rules, proper_impls, responded_if_general, type_for, variable_answers, with_type_for};
+ghost use Rattle.candidate_assembly.specs.Telling.{Considers, HaveNoParameter, StopsOfItself, asking_rule};
+
+use crate::assembly::alias_bounds::bounds_with_arguments;
+use crate::assembly::kind::GoalKind;
+use crate::assembly::listing::{is_default_impl, push_considered, table_is_well_formed};
+use crate::assembly::steps::forced_ambiguity;
+use candidate_eval::eval::certainty::{Certainty, MaybeCause, MaybeInfo, OpaqueTypesJank};
+use candidate_eval::eval::context::EvalCtxt;
+use candidate_eval::eval::mode::TypingMode;
+use candidate_eval::eval::refusal::NoSolutionOrStop;
+use candidate_eval::eval::response::{Candidate, CanonicalResponse};
+use candidate_eval::eval::source::CandidateSource;
+use candidate_ir::decl::Cx;
+use candidate_ir::decl::contents::{AliasBoundKind, ImplId};
+use candidate_ir::decl::fold::fold;
+use candidate_ir::decl::make::Make;
+use candidate_ir::ir::kinds::{AliasTy, Clause, GenericArg, ParamEnv, TraitId, Ty, TyKind};
+use candidate_ir::ir::stop::Stop;
+use candidate_ir::ir::trees::Trees;
+use std::alloc::Global;
+
+/// Which candidates are looked for.
+#[derive(Clone, Copy, Debug, PartialEq, Eq)]
+pub enum AssembleCandidatesFrom {
+    /// All.
+    All,
+    /// Those by the environment and by the bounds of aliases alone, and not those by impls and by rules of the language.
+    EnvAndBounds,
+}
+
+/// The candidate by a clause that is said of the goal's self type, a variable, as it is of an opaque type that may be hidden behind it: since
+/// that isn't known, it is ambiguous.
+///
+/// `NoSolution` comes where the clause isn't matched, and where the evaluator refuses the response; the stops are those of the match and of
+/// the evaluator. The state is left alike the one before.
+fn consider_opaque_bound<E: EvalCtxt, G: GoalKind<E>>(
+    alloc: Global,
+    ecx: &mut E,
+    env: ParamEnv,
+    predicate: G,
+    clause: Clause,
+) -> Result<Candidate, NoSolutionOrStop>
+    requires goal { IsGoal G.rules G.arguments G.types G.seen (E.context ecx.old) env predicate }
+    requires clause { IsClause (E.context ecx.old).trees clause }
+    requires free { holds is_param (clause_tree (E.context ecx.old).trees clause).children ≡ false }
+    ensures { Considers E.fixed E.judge E.state E.probes E.context E.stops ecx.old ecx.new (ambiguous_rule G.rules (E.context ecx.old) (G.seen (E.context ecx.old).trees env predicate) (clause_tree (E.context ecx.old).trees clause)) result }
+{
+    G::probe_and_match_goal_against_assumption(
+        alloc,
+        ecx,
+        CandidateSource::AliasBound(AliasBoundKind::SelfBounds),
+        env,
+        predicate,
+        clause,
+        |ecx: &mut E| -> Result<CanonicalResponse, NoSolutionOrStop>
+            ensures kept { Keeps E.fixed E.probes E.context ecx.old ecx.new }
+            ensures told { Responds (E.context ecx.new).trees result ((E.judge (E.fixed ecx.old)).responded (E.state ecx.old) Certainty.AMBIGUOUS) }
+            ensures cause { IfErr result (by_stop (StopsOfItself E.fixed E.context E.state E.stops ecx.old)) }
+        { ecx.evaluate_added_goals_and_make_canonical_response(Certainty::AMBIGUOUS) },
+    )
+}
+
+/// The response with at most that certainty, where the type still resolves to a general variable; else it is refused.
+fn respond_if_general<E: EvalCtxt>(
+    ecx: &mut E,
+    ty: Ty,
+    certainty: Certainty,
+) -> Result<CanonicalResponse, NoSolutionOrStop>
+    requires { IsTy (E.context ecx.old).trees ty }
+    ensures kept { Keeps E.fixed E.probes E.context ecx.old ecx.new }
+    ensures told { Responds (E.context ecx.new).trees result (responded_if_general (E.judge (E.fixed ecx.old)) (ty_tree (E.context ecx.old).trees ty) certainty (E.state ecx.old)) }
+    ensures cause { IfErr result (by_stop (StopsOfItself E.fixed E.context E.state E.stops ecx.old)) }
+{
+    let resolved = ecx.shallow_resolve(ty);
+    if !ecx.cx().kind(resolved).is_ty_var() {
+        return Err(NoSolutionOrStop::NoSolution);
+    }
+    ecx.evaluate_added_goals_and_make_canonical_response(certainty)
+}
+
+/// The candidate by an impl for any type, with at most an ambiguous response: it serves, if it leaves open what the goal's self type, a
+/// variable, is.
+///
+/// `NoSolution` comes where the impl doesn't serve the goal, where it gives the variable a value, and where the evaluator refuses its header
+/// or the response; the stops are the evaluator's and those of making nodes and lists. The state is left alike the one before.
+fn consider_blanket_impl<E: EvalCtxt, G: GoalKind<E>>(
+    alloc: Global,
+    ecx: &mut E,
+    env: ParamEnv,
+    predicate: G,
+    of: ImplId,
+) -> Result<Candidate, NoSolutionOrStop>
+    requires goal { IsGoal G.rules G.arguments G.types G.seen (E.context ecx.old) env predicate }
+    ensures { Considers E.fixed E.judge E.state E.probes E.context E.stops ecx.old ecx.new (open_rule_of G.rules (E.context ecx.old) (E.state ecx.old).mode (G.seen (E.context ecx.old).trees env predicate) of) result }
+{
+    let self_ty = G::self_ty(ecx.cx(), env, predicate);
+    G::consider_impl_candidate(
+        alloc,
+        ecx,
+        env,
+        predicate,
+        of,
+        |ecx: &mut E, certainty: Certainty| -> Result<CanonicalResponse, NoSolutionOrStop>
+            requires { IsTy (E.context ecx.old).trees self_ty }
+            ensures kept { Keeps E.fixed E.probes E.context ecx.old ecx.new }
+            ensures told { Responds (E.context ecx.new).trees result (responded_if_general (E.judge (E.fixed ecx.old)) (ty_tree (E.context ecx.old).trees self_ty) (certainty_and certainty Certainty.AMBIGUOUS) (E.state ecx.old)) }
+            ensures cause { IfErr result (by_stop (StopsOfItself E.fixed E.context E.state E.stops ecx.old)) }
+        { respond_if_general(ecx, self_ty, certainty.and(Certainty::AMBIGUOUS)) },
+    )
+}
+
+/// Adds the candidates by clauses that are said of the goal's self type, a variable, in their order. No parameter stands in the clauses, and
+/// they and the goal mention only the state's variables.
+///
+/// It stops at the first clause whose rule stops, with that stop; `Stop::Memory` comes where the list can't grow. The state is left alike the
+/// one before.
+fn consider_opaque_bounds<E: EvalCtxt, G: GoalKind<E>>(
+    alloc: Global,
+    ecx: &mut E,
+    env: ParamEnv,
+    predicate: G,
+    clauses: &[Clause],
+    candidates: &mut Vec<Candidate>,
+) -> Result<(), Stop>
+    requires goal { IsGoal G.rules G.arguments G.types G.seen (E.context ecx.old) env predicate }
+    requires below { GoalBelow G.rules (length (E.state ecx.old).variables) (G.seen (E.context ecx.old).trees env predicate) }
+    requires clauses { ClauseListFits (E.context ecx.old).trees clauses.now }
+    requires free { HaveNoParameter (E.context ecx.old).trees clauses.now }
+    requires clauses_below { AreBelow (E.context ecx.old).trees (length (E.state ecx.old).variables) clauses.now }
+    requires candidates { AreCandidates (E.context ecx.old).trees candidates.old.items }
+    ensures { ConsidersAll E.fixed E.judge E.state E.probes E.context E.stops ecx.old ecx.new (E.state ecx.old) (λ _. candidates.new.items) (λ l. l ≡ after_these (E.context ecx.old).trees candidates.old.items (answers (E.judge (E.fixed ecx.old)) (E.state ecx.old) (map (λ x. ambiguous_rule G.rules (E.context ecx.old) (G.seen (E.context ecx.old).trees env predicate) (clause_tree (E.context ecx.old).trees x)) clauses.now))) result }
+{
+    for clause in clauses {
+        let answer = consider_opaque_bound(alloc, ecx, env, predicate, *clause);
+        push_considered(candidates, answer)?;
+    }
+    Ok(())
+}
+
+/// The impls for any type, in the order of their declaration, but for those that others specialise. The only stop is `Stop::Memory`.
+fn blanket_impls(alloc: Global, cx: &Cx, of: TraitId) -> Result<Vec<ImplId>, Stop>
+    ensures list { IfOk result (λ v. v.items ≡ proper_impls cx.now (blanket_impls cx.now of.0)) }
+    ensures cause { IfErr result (λ s. s ≡ Stop.Memory) }
+{
+    let blanket = cx.for_each_blanket_impl(of)?;
+    let impls = blanket.as_slice().iter().copied();
+    let proper = impls.filter(|of| !is_default_impl(cx, *of));
+    Ok(proper.collect(alloc)?)
+}
+
+/// Adds the candidates by the impls for any type, in the order of their declaration, but for those that others specialise. The goal mentions
+/// only the state's variables.
+///
+/// It stops at the first impl whose rule stops, with that stop; `Stop::Memory` comes where a list can't grow. The state is left alike the one
+/// before.
+fn assemble_blanket_impls<E: EvalCtxt, G: GoalKind<E>>(
+    alloc: Global,
+    ecx: &mut E,
+    env: ParamEnv,
+    predicate: G,
+    candidates: &mut Vec<Candidate>,
+) -> Result<(), Stop>
+    requires goal { IsGoal G.rules G.arguments G.types G.seen (E.context ecx.old) env predicate }
+    requires below { GoalBelow G.rules (length (E.state ecx.old).variables) (G.seen (E.context ecx.old).trees env predicate) }
+    requires candidates { AreCandidates (E.context ecx.old).trees candidates.old.items }
+    ensures { ConsidersAll E.fixed E.judge E.state E.probes E.context E.stops ecx.old ecx.new (E.state ecx.old) (λ _. candidates.new.items) (λ l. l ≡ after_these (E.context ecx.old).trees candidates.old.items (answers (E.judge (E.fixed ecx.old)) (E.state ecx.old) (open_rules G.rules (E.context ecx.old) (E.state ecx.old).mode (G.seen (E.context ecx.old).trees env predicate)))) result }
+{
+    table_is_well_formed(ecx.cx());
+    let cx = ecx.cx();
+    let impls = blanket_impls(alloc, cx, G::trait_def_id(cx, env, predicate))?;
+    for of in &impls {
+        let answer = consider_blanket_impl(alloc, ecx, env, predicate, *of);
+        push_considered(candidates, answer)?;
+    }
+    Ok(())
+}
+
+/// The one type, where the argument is the other.
+fn type_for(cx: &Cx, old: Ty, new: Ty, arg: GenericArg) -> Option<GenericArg>
+    requires old { IsTy cx.now.trees old }
+    requires new { IsTy cx.now.trees new }
+    requires arg { IsArg cx.now.trees arg }
+    ensures kind { IsOfKind cx.now.trees arg result }
+    ensures answer { option_map (arg_tree cx.now.trees) result ≡ type_for (ty_tree cx.now.trees old) (ty_tree cx.now.trees new) (arg_tree cx.now.trees arg) }
+{
+    match arg {
+        GenericArg::Ty(ty) => {
+            if cx.same(ty, old) {
+                Some(GenericArg::Ty(new))
+            } else {
+                None
+            }
+        }
+        GenericArg::Const(_) | GenericArg::Region(_) => None,
+    }
+}
+
+/// The clause with one type in the place of another.
+///
+/// `Stop::Memory` comes where a growth was refused, `Stop::NodesFull` where no numbers are left, or the clause would be higher than 1,024.
+/// After a stop the nodes that were made stay.
+fn with_type_for<M: Make>(
+    alloc: Global,
+    make: &mut M,
+    old: Ty,
+    new: Ty,
+    clause: Clause,
+) -> Result<Clause, Stop>
+    requires old { IsTy (M.context make.old).trees old }
+    requires new { IsTy (M.context make.old).trees new }
+    requires clause { IsClause (M.context make.old).trees clause }
+    ensures grows { Grows (M.context make.old) (M.context make.new) }
+    ensures rest { M.rest make.new ≡ M.rest make.old }
+    ensures sort { IfOk result (λ x. IsClause (M.context make.new).trees x) }
+    ensures tree { IfOk result (λ x. clause_tree (M.context make.new).trees x ≡ with_type_for (ty_tree (M.context make.old).trees old) (ty_tree (M.context make.old).trees new) (clause_tree (M.context make.old).trees clause)) }
+    ensures cause { IfErr result IsMakingStop }
+{
+    fold(
+        alloc,
+        make,
+        clause,
+        move |make: &mut M, arg: GenericArg, _: u32| -> Result<Option<GenericArg>, Stop>
+            requires old { IsTy (M.context make.old).trees old }
+            requires new { IsTy (M.context make.old).trees new }
+            requires arg { IsArg (M.context make.old).trees arg }
+            ensures same { make.new ≡ make.old }
+            ensures kind { IfOk result (λ o. IsOfKind (M.context make.old).trees arg o) }
+            ensures answer { IfOk result (λ o. option_map (arg_tree (M.context make.old).trees) o ≡ type_for (ty_tree (M.context make.old).trees old) (ty_tree (M.context make.old).trees new) (arg_tree (M.context make.old).trees arg)) }
+            ensures answers { IsOk result }
+        { Ok(type_for(make.cx(), old, new, arg)) },
+    )
+}
+
+/// The opaque types that may be hidden behind the type: they are looked for where hidden types are being found out. The stops are the
+/// evaluator's and those of lists.
+fn opaques_behind<E: EvalCtxt>(alloc: Global, ecx: &mut E, ty: Ty) -> Result<Vec<AliasTy>, Stop>
+    requires { IsTy (E.context ecx.old).trees ty }
+    ensures kept { Keeps E.fixed E.probes E.context ecx.old ecx.new }
+    ensures same { E.state ecx.new ≡ E.state ecx.old }
+    ensures fit { IfOk result (λ v. All (λ a. KindFits (E.context ecx.new).trees (kinds.Alias a)) v.items) }
+    ensures hidden { IfOk result (λ v. All (IsHiddenOpaque (E.context ecx.new) (length (E.state ecx.old).variables)) v.items) }
+    ensures are { IfOk result (λ v. alias_trees (E.context ecx.new).trees v.items ≡ hidden_behind (E.judge (E.fixed ecx.old)) (E.state ecx.old) (ty_tree (E.context ecx.old).trees ty) (E.state ecx.old).mode) }
+    ensures own { IfErr result (λ s. own_stop s ≡ true) }
+    ensures cause { IfErr result (StopsOfItself E.fixed E.context E.state E.stops ecx.old) }
+{
+    match ecx.typing_mode() {
+        TypingMode::Analysis => ecx.opaques_with_sub_unified_hidden_type(ty),
+        TypingMode::Coherence
+        | TypingMode::Borrowck
+        | TypingMode::PostBorrowckAnalysis
+        | TypingMode::PostAnalysis => Ok(Vec::new(alloc)),
+    }
+}
+
+/// The clauses with one type in the place of another, in their order.
+///
+/// `Stop::Memory` comes where a growth was refused, `Stop::NodesFull` where a clause was not made, as by `with_type_for`. After a stop the
+/// nodes that were made stay.
+fn each_with_type_for<M: Make>(
+    alloc: Global,
+    make: &mut M,
+    old: Ty,
+    new: Ty,
+    clauses: &[Clause],
+) -> Result<Vec<Clause>, Stop>
+    requires old { IsTy (M.context make.old).trees old }
+    requires new { IsTy (M.context make.old).trees new }
+    requires clauses { ClauseListFits (M.context make.old).trees clauses.now }
+    ensures grows { Grows (M.context make.old) (M.context make.new) }
+    ensures rest { M.rest make.new ≡ M.rest make.old }
+    ensures sort { IfOk result (λ v. ClauseListFits (M.context make.new).trees v.items) }
+    ensures trees { IfOk result (λ v. map (clause_tree (M.context make.new).trees) v.items ≡ map (with_type_for (ty_tree (M.context make.old).trees old) (ty_tree (M.context make.old).trees new)) (map (clause_tree (M.context make.old).trees) clauses.now)) }
+    ensures cause { IfErr result IsMakingStop }
+{
+    let mut list = Vec::new(alloc);
+    for clause in clauses {
+        let clause = with_type_for(alloc, make, old, new, *clause)?;
+        list.push(clause)?;
+    }
+    Ok(list)
+}
+
+/// The bounds of the opaque type itself, in their order, said of another type: with the opaque type's arguments in the place of parameters,
+/// and then the other type in the place of the opaque type. No variable stands in them as they are declared.
+///
+/// `Stop::Memory` comes where a growth was refused, `Stop::NodesFull` where a node was not made. After a stop the nodes that were made
+/// stay.
+fn bounds_said<M: Make>(
+    alloc: Global,
+    make: &mut M,
+    opaque: AliasTy,
+    ty: Ty,
+) -> Result<Vec<Clause>, Stop>
+    requires opaque { IsBoundedAlias (M.context make.old) opaque }
+    requires ty { IsTy (M.context make.old).trees ty }
+    ensures grows { Grows (M.context make.old) (M.context make.new) }
+    ensures rest { M.rest make.new ≡ M.rest make.old }
+    ensures sort { IfOk result (λ v. ClauseListFits (M.context make.new).trees v.items) }
+    ensures trees { IfOk result (λ v. map (clause_tree (M.context make.new).trees) v.items ≡ bounds_said (M.context make.old) (ty_tree (M.context make.old).trees ty) (kind_tree (M.context make.old).trees (kinds.Alias opaque))) }
+    ensures closed { IfOk result (λ _. AreClosedBounds (M.context make.old) opaque) }
+    ensures cause { IfErr result IsMakingStop }
+{
+    let bounds = bounds_with_arguments(alloc, make, opaque, AliasBoundKind::SelfBounds)?;
+    let opaque_ty = make.mk_ty(TyKind::Alias(opaque))?;
+    each_with_type_for(alloc, make, opaque_ty, ty, bounds.as_slice())
+}
+
+/// The bounds of the opaque types themselves, of one after the other, said of another type. No variable stands in them as they are
+/// declared.
+///
+/// `Stop::Memory` comes where a growth was refused, `Stop::NodesFull` where a node was not made. After a stop the nodes that were made
+/// stay.
+fn all_bounds_said<M: Make>(
+    alloc: Global,
+    make: &mut M,
+    opaques: &[AliasTy],
+    ty: Ty,
+) -> Result<Vec<Clause>, Stop>
+    requires opaques { All (IsBoundedAlias (M.context make.old)) opaques.now }
+    requires ty { IsTy (M.context make.old).trees ty }
+    ensures grows { Grows (M.context make.old) (M.context make.new) }
+    ensures rest { M.rest make.new ≡ M.rest make.old }
+    ensures sort { IfOk result (λ v. ClauseListFits (M.context make.new).trees v.items) }
+    ensures trees { IfOk result (λ v. map (clause_tree (M.context make.new).trees) v.items ≡ flat_map (bounds_said (M.context make.old) (ty_tree (M.context make.old).trees ty)) (alias_trees (M.context make.old).trees opaques.now)) }
+    ensures closed { IfOk result (λ _. All (AreClosedBounds (M.context make.old)) opaques.now) }
+    ensures cause { IfErr result IsMakingStop }
+{
+    table_is_well_formed(make.cx());
+    let mut clauses = Vec::new(alloc);
+    for opaque in opaques {
+        let mut said = bounds_said(alloc, make, *opaque, ty)?;
+        clauses.append(&mut said)?;
+    }
+    Ok(clauses)
+}
+
+/// Adds the candidates by the impls for any type, where all candidates are looked for; else none. It stops as `assemble_blanket_impls`. The
+/// state is left alike the one before.
+fn assemble_open_impls<E: EvalCtxt, G: GoalKind<E>>(
+    alloc: Global,
+    ecx: &mut E,
+    env: ParamEnv,
+    predicate: G,
+    from: AssembleCandidatesFrom,
+    candidates: &mut Vec<Candidate>,
+) -> Result<(), Stop>
+    requires goal { IsGoal G.rules G.arguments G.types G.seen (E.context ecx.old) env predicate }
+    requires below { GoalBelow G.rules (length (E.state ecx.old).variables) (G.seen (E.context ecx.old).trees env predicate) }
+    requires candidates { AreCandidates (E.context ecx.old).trees candidates.old.items }
+    ensures { ConsidersAll E.fixed E.judge E.state E.probes E.context E.stops ecx.old ecx.new (E.state ecx.old) (λ _. candidates.new.items) (λ l. l ≡ after_these (E.context ecx.old).trees candidates.old.items (answers (E.judge (E.fixed ecx.old)) (E.state ecx.old) (open_impl_rules G.rules (E.judge (E.fixed ecx.old)) (E.context ecx.old) (E.state ecx.old).mode (G.seen (E.context ecx.old).trees env predicate) from))) result }
+{
+    match from {
+        AssembleCandidatesFrom::All => {
+            assemble_blanket_impls(alloc, ecx, env, predicate, candidates)
+        }
+        AssembleCandidatesFrom::EnvAndBounds => Ok(()),
+    }
+}
+
+/// The candidates by what the opaque types say that may be hidden behind the goal's self type, a variable: by their own bounds, of one
+/// after the other, and then by the impls for any type, where all candidates are looked for. The goal mentions only the state's variables.
+///
+/// It stops at the first rule that stops, with that stop; `Stop::Memory` comes where a list can't grow, `Stop::NodesFull` where a node was
+/// not made. The state is left alike the one before.
+fn consider_opaques<E: EvalCtxt, G: GoalKind<E>>(
+    alloc: Global,
+    ecx: &mut E,
+    env: ParamEnv,
+    predicate: G,
+    opaques: &[AliasTy],
+    from: AssembleCandidatesFrom,
+) -> Result<Vec<Candidate>, Stop>
+    requires goal { IsGoal G.rules G.arguments G.types G.seen (E.context ecx.old) env predicate }
+    requires below { GoalBelow G.rules (length (E.state ecx.old).variables) (G.seen (E.context ecx.old).trees env predicate) }
+    requires opaques { All (IsHiddenOpaque (E.context ecx.old) (length (E.state ecx.old).variables)) opaques.now }
+    ensures { ConsidersAll E.fixed E.judge E.state E.probes E.context E.stops ecx.old ecx.new (E.state ecx.old) (λ v. v.items) (λ l. l ≡ answers (E.judge (E.fixed ecx.old)) (E.state ecx.old) (flat_map (opaque_rules G.rules (E.context ecx.old) (G.seen (E.context ecx.old).trees env predicate)) (alias_trees (E.context ecx.old).trees opaques.now) ++ open_impl_rules G.rules (E.judge (E.fixed ecx.old)) (E.context ecx.old) (E.state ecx.old).mode (G.seen (E.context ecx.old).trees env predicate) from)) result }
+{
+    table_is_well_formed(ecx.cx());
+    let self_ty = G::self_ty(ecx.cx(), env, predicate);
+    let clauses = all_bounds_said(alloc, ecx, opaques, self_ty)?;
+    let mut candidates = Vec::new(alloc);
+    consider_opaque_bounds(
+        alloc,
+        ecx,
+        env,
+        predicate,
+        clauses.as_slice(),
+        &mut candidates,
+    )?;
+    assemble_open_impls(alloc, ecx, env, predicate, from, &mut candidates)?;
+    Ok(candidates)
+}
+
+/// The one candidate where a goal says too little, with what is known of that; none where the evaluator refuses its response.
+///
+/// The stops are those of the evaluator; `Stop::Memory` comes where the list can't grow. The state is left alike the one before.
+fn list_ambiguity<E: EvalCtxt>(
+    alloc: Global,
+    ecx: &mut E,
+    env: ParamEnv,
+    maybe: MaybeInfo,
+) -> Result<Vec<Candidate>, Stop>
+    requires { IsParamEnv (E.context ecx.old).trees env }
+    ensures { ConsidersAll E.fixed E.judge E.state E.probes E.context E.stops ecx.old ecx.new (E.state ecx.old) (λ v. v.items) (λ l. l ≡ answers (E.judge (E.fixed ecx.old)) (E.state ecx.old) (asking_rule (env_forest (E.context ecx.old).trees env) true (Certainty.Maybe maybe) ∷ [])) result }
+{
+    let mut candidates = Vec::new(alloc);
+    let answer = forced_ambiguity(alloc, ecx, env, maybe);
+    push_considered(&mut candidates, answer)?;
+    Ok(candidates)
+}
+
+/// The candidates for a goal whose self type is a general variable: by what the opaque types say that may be hidden behind it, and by the
+/// impls for any type, where all candidates are looked for. Where no opaque type may be hidden the goal is ambiguous; and so it is where
+/// nothing said anything, as an error should the variable become a rigid type. The goal mentions only the state's variables.
+///
+/// It stops at the first rule that stops, with that stop; `Stop::Memory` comes where a list can't grow, `Stop::NodesFull` where a node was
+/// not made. Other stops are the evaluator's. The state is left alike the one before.
+pub(crate) fn assemble_opaque_candidates<E: EvalCtxt, G: GoalKind<E>>(
+    alloc: Global,
+    ecx: &mut E,
+    env: ParamEnv,
+    predicate: G,
+    from: AssembleCandidatesFrom,
+) -> Result<Vec<Candidate>, Stop>
+    requires goal { IsGoal G.rules G.arguments G.types G.seen (E.context ecx.old) env predicate }
+    requires below { GoalBelow G.rules (length (E.state ecx.old).variables) (G.seen (E.context ecx.old).trees env predicate) }
+    ensures { ConsidersAll E.fixed E.judge E.state E.probes E.context E.stops ecx.old ecx.new (E.state ecx.old) (λ v. v.items) (AtEach (E.context ecx.old) (λ c l. l ≡ variable_answers G.rules (E.judge (E.fixed ecx.old)) c (E.state ecx.old) (G.seen (E.context ecx.old).trees env predicate) from)) result }
+{
+    let self_ty = G::self_ty(ecx.cx(), env, predicate);
+    let behind = opaques_behind(alloc, ecx, self_ty)?;
+    let opaques = behind.as_slice();
+    if opaques.is_empty() {
+        return list_ambiguity(alloc, ecx, env, MaybeInfo::AMBIGUOUS);
+    }
+    let candidates = consider_opaques(alloc, ecx, env, predicate, opaques, from)?;
+    if candidates.as_slice().is_empty() {
+        let maybe = MaybeInfo {
+            cause: MaybeCause::Ambiguity,
+            opaque_types_jank: OpaqueTypesJank::ErrorIfRigidSelfTy,
+        };
+        return list_ambiguity(alloc, ecx, env, maybe);
+    }
+    Ok(candidates)
+}

@@ -1,0 +1,160 @@
+//! Impls that other crates may write: in coherence a goal that one of them may prove is too little known.
+
+ghost use Rattle.std.specs.Prelude.{◌≡◌, [], ◌∷◌, false, map, IfErr, IfOk, OnOk};
+ghost use Rattle.candidate_ir.specs.Elaboration.{IsElaboration};
+ghost use Rattle.candidate_ir.specs.References.{ArgumentsFit, reference_of};
+ghost use Rattle.candidate_ir.specs.Trees.{holds, is_param};
+ghost use Rattle.candidate_ir.specs.WellFormed.{IsWellFormedTable};
+ghost use Rattle.candidate_ir.specs.Words.{ClauseListFits, IsArgs, IsParamEnv, args_forest, clause_tree, env_forest};
+ghost use Rattle.candidate_eval.specs.Accounts.{by_stop};
+ghost use Rattle.candidate_eval.specs.Evaluators.{IsMakingStop, Keeps};
+ghost use Rattle.candidate_eval.specs.Judging.{At, Over, Refused, Stopped, start, step};
+ghost use Rattle.candidate_eval.specs.Knowing.{own_stop};
+ghost use Rattle.candidate_eval.specs.Replacing.{without_first};
+ghost use Rattle.candidate_eval.specs.Rules.{unknowable};
+ghost use Rattle.candidate_assembly.specs.Kinds.{IsGoal};
+ghost use Rattle.candidate_assembly.specs.Telling.{ConsidersSome, HaveNoParameter, StopsOfItself, ToldSome};
+ghost use Rattle.candidate_assembly.specs.Unknowable.{UnknowableJudged, positive_clause};
+
+use crate::assembly::kind::GoalKind;
+use crate::assembly::listing::table_is_well_formed;
+use crate::assembly::steps::nest_and_respond;
+use candidate_eval::coherence::OrphanStop;
+use candidate_eval::eval::certainty::Certainty;
+use candidate_eval::eval::clauses::trait_clause;
+use candidate_eval::eval::context::{EvalCtxt, ProbeKind};
+use candidate_eval::eval::knowing::is_knowable;
+use candidate_eval::eval::refusal::NoSolutionOrStop;
+use candidate_eval::eval::response::Candidate;
+use candidate_eval::eval::source::CandidateSource;
+use candidate_ir::decl::elaborate::elaborate;
+use candidate_ir::decl::make::Build;
+use candidate_ir::ir::kinds::{
+    Clause, GoalSource, ParamEnv, PredicatePolarity, TraitPredicate, TraitRef,
+};
+use candidate_ir::ir::stop::Stop;
+use std::alloc::Global;
+
+/// What it implies that the reference holds: the clause that says so, and then all else. No parameter stands in the reference.
+///
+/// `Stop::Memory` comes where a growth was refused, `Stop::NodesFull` where a clause was not made. The state stays.
+fn implied_by_reference<E: EvalCtxt>(
+    alloc: Global,
+    ecx: &mut E,
+    trait_ref: TraitRef,
+) -> Result<Vec<Clause>, Stop>
+    requires args { IsArgs (E.context ecx.old).trees trait_ref.args }
+    requires fit { ArgumentsFit (E.context ecx.old) trait_ref }
+    requires free { holds is_param (args_forest (E.context ecx.old).trees trait_ref.args) ≡ false }
+    requires table { IsWellFormedTable (E.context ecx.old) }
+    ensures kept { Keeps E.fixed E.probes E.context ecx.old ecx.new }
+    ensures same { E.state ecx.new ≡ E.state ecx.old }
+    ensures sort { IfOk result (λ v. ClauseListFits (E.context ecx.new).trees v.items) }
+    ensures list { IfOk result (λ v. IsElaboration (E.context ecx.old) (positive_clause (reference_of (E.context ecx.old).trees trait_ref) ∷ []) (map (clause_tree (E.context ecx.new).trees) v.items)) }
+    ensures free { IfOk result (λ v. HaveNoParameter (E.context ecx.new).trees v.items) }
+    ensures cause { IfErr result IsMakingStop }
+{
+    let vars = ecx.mk_vars(&[])?;
+    let polarity = PredicatePolarity::Positive;
+    let holds = TraitPredicate {
+        trait_ref,
+        polarity,
+    };
+    let clause = trait_clause(ecx, vars, holds)?;
+    let implied = elaborate(alloc, ecx, &[clause])?;
+    table_is_well_formed(ecx.cx());
+    Ok(implied)
+}
+
+/// Other crates may write impls of the reference, where types are normalised as the evaluator does in the environment. No parameter stands
+/// in the reference.
+///
+/// `NoSolution` comes where they may not, and where a normal form is refused. It stops as the walk of the orphan check does, and as the
+/// evaluator. What normalising changes stays.
+fn require_unknowable<E: EvalCtxt>(
+    alloc: Global,
+    ecx: &mut E,
+    env: ParamEnv,
+    trait_ref: TraitRef,
+) -> Result<(), NoSolutionOrStop>
+    requires env { IsParamEnv (E.context ecx.old).trees env }
+    requires args { IsArgs (E.context ecx.old).trees trait_ref.args }
+    requires free { holds is_param (args_forest (E.context ecx.old).trees trait_ref.args) ≡ false }
+    ensures kept { Keeps E.fixed E.probes E.context ecx.old ecx.new }
+    ensures ok { OnOk result (step (E.judge (E.fixed ecx.old)) (env_forest (E.context ecx.old).trees env) (start (E.state ecx.old)) (unknowable (reference_of (E.context ecx.old).trees trait_ref)) ≡ At (start (E.state ecx.new))) }
+    ensures refused { IfErr result (λ e. e ≡ NoSolutionOrStop.NoSolution → step (E.judge (E.fixed ecx.old)) (env_forest (E.context ecx.old).trees env) (start (E.state ecx.old)) (unknowable (reference_of (E.context ecx.old).trees trait_ref)) ≡ Over Refused) }
+    ensures stopped { IfErr result (by_stop (λ s. own_stop s ≡ false → step (E.judge (E.fixed ecx.old)) (env_forest (E.context ecx.old).trees env) (start (E.state ecx.old)) (unknowable (reference_of (E.context ecx.old).trees trait_ref)) ≡ Over (Stopped s))) }
+    ensures cause { IfErr result (by_stop (StopsOfItself E.fixed E.context E.state E.stops ecx.old)) }
+{
+    match is_knowable(alloc, ecx, env, trait_ref) {
+        Ok(Err(_)) => Ok(()),
+        Ok(Ok(())) => Err(NoSolutionOrStop::NoSolution),
+        Err(OrphanStop::Normalize(())) => Err(NoSolutionOrStop::NoSolution),
+        Err(OrphanStop::Stop(stop)) => Err(NoSolutionOrStop::Stop(stop)),
+    }
+}
+
+/// The clauses after the first.
+fn but_first(clauses: &[Clause]) -> &[Clause]
+    ensures { result.now ≡ without_first clauses.now }
+{
+    match clauses {
+        [_, others @ ..] => others,
+        [] => &[],
+    }
+}
+
+/// Where other crates may write impls of the reference, what its clause implies but for itself becomes pending, and the candidate is asked
+/// for. It is called in a probe.
+fn try_unknowable<E: EvalCtxt>(
+    alloc: Global,
+    ecx: &mut E,
+    env: ParamEnv,
+    trait_ref: TraitRef,
+) -> Result<Candidate, NoSolutionOrStop>
+    requires env { IsParamEnv (E.context ecx.old).trees env }
+    requires args { IsArgs (E.context ecx.old).trees trait_ref.args }
+    requires fit { ArgumentsFit (E.context ecx.old) trait_ref }
+    requires free { holds is_param (args_forest (E.context ecx.old).trees trait_ref.args) ≡ false }
+    ensures kept { Keeps E.fixed E.probes E.context ecx.old ecx.new }
+    ensures told { ToldSome (E.context ecx.new).trees (UnknowableJudged (E.judge (E.fixed ecx.old)) (E.context ecx.old) (E.state ecx.old) (env_forest (E.context ecx.old).trees env) (reference_of (E.context ecx.old).trees trait_ref)) result }
+    ensures cause { IfErr result (by_stop (StopsOfItself E.fixed E.context E.state E.stops ecx.old)) }
+{
+    table_is_well_formed(ecx.cx());
+    require_unknowable(alloc, ecx, env, trait_ref)?;
+    table_is_well_formed(ecx.cx());
+    let implied = implied_by_reference(alloc, ecx, trait_ref)?;
+    let nested = but_first(implied.as_slice());
+    nest_and_respond(
+        alloc,
+        ecx,
+        env,
+        GoalSource::Misc,
+        nested,
+        CandidateSource::CoherenceUnknowable,
+        Certainty::AMBIGUOUS,
+    )
+}
+
+/// The candidate by what other crates may write, for coherence: where they may write impls of the goal's trait reference, what the goal
+/// implies becomes pending in a probe, and an ambiguous response is asked for.
+///
+/// `NoSolution` comes where they may write none, where a normal form is refused, and where the evaluator refuses what is pending or the
+/// response. The stops are `Stop::WalkDepth` and `Stop::Unnameable`, of the orphan check's walk, those of making nodes and lists, and the
+/// evaluator's. The state is left alike the one before.
+pub fn consider_coherence_unknowable_candidate<E: EvalCtxt, G: GoalKind<E>>(
+    alloc: Global,
+    ecx: &mut E,
+    env: ParamEnv,
+    predicate: G,
+) -> Result<Candidate, NoSolutionOrStop>
+    requires goal { IsGoal G.rules G.arguments G.types G.seen (E.context ecx.old) env predicate }
+    ensures { ConsidersSome E.fixed E.judge E.state E.probes E.context E.stops ecx.old ecx.new (UnknowableJudged (E.judge (E.fixed ecx.old)) (E.context ecx.old) (E.state ecx.old) (G.rules.env_of (G.seen (E.context ecx.old).trees env predicate)) (G.rules.reference_of (E.context ecx.old) (G.seen (E.context ecx.old).trees env predicate))) result }
+{
+    table_is_well_formed(ecx.cx());
+    let trait_ref = G::trait_ref(ecx.cx(), env, predicate);
+    let probe = ecx.begin_probe(ProbeKind::Kept)?;
+    let answer = try_unknowable(alloc, ecx, env, trait_ref);
+    let _usages = ecx.end_probe(probe);
+    answer
+}
