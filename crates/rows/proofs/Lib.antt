@@ -1,3 +1,5 @@
 mod Listed
 pub mod Lists
+pub mod Roots
+pub mod Solved
 pub mod Sorts

@@ -33,6 +33,8 @@ pub(crate) enum Answer {
     List(Vec<Item>),
     /// Items with spaces between them.
     Row(Vec<Item>),
+    /// A list of rows of items.
+    Rows(Vec<Vec<Item>>),
     Text(String),
 }
 
@@ -91,6 +93,23 @@ fn write_items(
     Ok(())
 }
 
+/// Writes the rows of items as a list.
+fn write_rows(
+    out: &mut String,
+    names: &[Name<'_>],
+    cx: Option<&Cx>,
+    rows: &[Vec<Item>],
+) -> Result<(), AllocError> {
+    out.push_str("[")?;
+    let mut before = "";
+    for items in rows {
+        out.push_str(before)?;
+        write_items(out, names, cx, items.as_slice(), " ")?;
+        before = ", ";
+    }
+    out.push_str("]")
+}
+
 /// Writes what the row answers, or why it answers nothing, and ends the line.
 pub(crate) fn write_outcome(
     out: &mut String,
@@ -107,6 +126,7 @@ pub(crate) fn write_outcome(
             out.push_str("]")?;
         }
         Ok(Answer::Row(items)) => write_items(out, names, cx, items.as_slice(), " ")?,
+        Ok(Answer::Rows(rows)) => write_rows(out, names, cx, rows.as_slice())?,
         Ok(Answer::Text(text)) => out.push_str(text.as_str())?,
         Err(Refusal::Condition) => out.push_str("condition")?,
         Err(Refusal::UnknownWord) => out.push_str("unknown word")?,

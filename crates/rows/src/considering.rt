@@ -8,6 +8,7 @@ ghost use Rattle.candidate_assembly.specs.TraitGoals.{arguments_held, trait_goal
 ghost use Rattle.candidate_assembly.specs.TraitRules.{trait_rules};
 ghost use Rattle.candidate_rounds.specs.Known.{probes};
 
+use crate::aliases;
 use crate::answers::{Answer, Item};
 use crate::eval::Operands;
 use crate::merging::{certainty, push_certainty, push_response};
@@ -34,7 +35,7 @@ use candidate_ir::ir::heads::Flag;
 use candidate_ir::ir::kinds::{Clause, ClosureKind, GoalSource, ParamEnv, TraitPredicate};
 use candidate_ir::ir::trees::Trees;
 use candidate_rounds::rounds::Rounds;
-use std::alloc::Global;
+use std::alloc::{AllocError, Global};
 
 /// The words of rules.
 const RULES: [(&str, LanguageRule); 15] = [
@@ -81,25 +82,53 @@ const SOURCES: [(&str, CandidateSource); 7] = [
     ("unknowable", CandidateSource::CoherenceUnknowable),
 ];
 
-/// What is printed for a source: an impl's name, or a word.
-fn source_item(source: CandidateSource) -> Item {
-    match source {
-        CandidateSource::Impl(id) => Item::Impl(id),
-        source => Item::Word(word_for(&SOURCES, source).unwrap_or(UNNAMED)),
-    }
+/// Adds what is printed for a source: an impl's name, or a word, behind which stands the number of a supertrait.
+fn push_source(items: &mut Vec<Item>, source: CandidateSource) -> Result<(), AllocError> {
+    let (word, number) = match source {
+        CandidateSource::Impl(id) => {
+            items.push(Item::Impl(id))?;
+            return Ok(());
+        }
+        CandidateSource::BuiltinImpl(BuiltinImplSource::Object(number)) => ("object", number),
+        CandidateSource::BuiltinImpl(BuiltinImplSource::TraitUpcasting(number)) => {
+            ("upcasting", number)
+        }
+        source => {
+            let word = word_for(&SOURCES, source).unwrap_or(UNNAMED);
+            items.push(Item::Word(word))?;
+            return Ok(());
+        }
+    };
+    items.push(Item::Word(word))?;
+    items.push(Item::Count(number))?;
+    Ok(())
 }
 
 /// The source of the candidate, and its response.
-fn found(alloc: Global, candidate: &Candidate) -> Result<Answer, Refusal> {
+fn found_items(alloc: Global, candidate: &Candidate) -> Result<Vec<Item>, Refusal> {
     let mut items = Vec::new(alloc);
-    items.push(source_item(candidate.source))?;
+    push_source(&mut items, candidate.source)?;
     push_response(&mut items, &candidate.result)?;
-    Ok(Answer::Row(items))
+    Ok(items)
+}
+
+/// The same as an answer.
+fn found(alloc: Global, candidate: &Candidate) -> Result<Answer, Refusal> {
+    Ok(Answer::Row(found_items(alloc, candidate)?))
+}
+
+/// The candidates, each with its source and its response.
+pub(crate) fn found_rows(alloc: Global, list: &[Candidate]) -> Result<Answer, Refusal> {
+    let mut rows = Vec::new(alloc);
+    for candidate in list {
+        rows.push(found_items(alloc, candidate)?)?;
+    }
+    Ok(Answer::Rows(rows))
 }
 
 /// The goal that the clause says, in the environment. `Refusal::Condition` comes where it says nothing of a trait, and where a parameter
 /// or an escaping bound variable stands in what it says.
-fn goal_at(cx: &Cx, env: u32, clause: u32) -> Result<(ParamEnv, TraitPredicate), Refusal>
+pub(crate) fn goal_at(cx: &Cx, env: u32, clause: u32) -> Result<(ParamEnv, TraitPredicate), Refusal>
     ensures { IfOk result (λ g. IsGoal trait_rules arguments_held types_held trait_goal cx.now g.0 g.1) }
 {
     let env = env_at(cx, env)?;
@@ -238,12 +267,12 @@ fn characterized(alloc: Global, rounds: &mut Rounds, of: Operands) -> Result<Ans
     let clause = clause_at(rounds.cx(), of.right)?;
     let (source, certainty) = characterize_param_env_assumption(alloc, rounds, env, clause)?;
     let mut items = Vec::new(alloc);
-    items.push(source_item(CandidateSource::ParamEnv(source)))?;
+    push_source(&mut items, CandidateSource::ParamEnv(source))?;
     push_certainty(&mut items, certainty)?;
     Ok(Answer::Row(items))
 }
 
-/// What the goal is about, or the goal with another self type.
+/// What the goal is about, whether it holds an error, or the goal with another self type or with all values put in.
 fn about(alloc: Global, rounds: &mut Rounds, row: Row<'_>, of: Operands) -> Result<Answer, Refusal>
     ensures { probes rounds.new ≡ probes rounds.old }
 {
@@ -253,6 +282,12 @@ fn about(alloc: Global, rounds: &mut Rounds, row: Row<'_>, of: Operands) -> Resu
         "type" => Item::Node(GoalKind::<Rounds>::self_ty(cx, env, predicate).0),
         "reference" => Item::Reference(GoalKind::<Rounds>::trait_ref(cx, env, predicate)),
         "trait" => Item::Definition(GoalKind::<Rounds>::trait_def_id(cx, env, predicate).0),
+        "error" => Item::Truth(GoalKind::<Rounds>::holds_error(cx, env, predicate)),
+        "resolved" => {
+            let resolved = env_at(cx, of.third)?;
+            let goal = GoalKind::resolve_vars_if_possible(rounds, env, predicate, resolved)?;
+            Item::Reference(goal.trait_ref)
+        }
         _ => {
             let self_ty = ty_at(rounds.cx(), of.third)?;
             let other = GoalKind::with_replaced_self_ty(alloc, rounds, env, predicate, self_ty)?;
@@ -288,6 +323,7 @@ pub(crate) fn answer(
         "forced" => forced(alloc, rounds, row, of),
         "characterize" => characterized(alloc, rounds, of),
         "about" => about(alloc, rounds, row, of),
+        "additional" => aliases::additional(alloc, rounds, of),
         _ => passes(rounds, of),
     }
 }

@@ -26,7 +26,21 @@ use std::alloc::Global;
 /// How deep probes may be nested.
 const NESTED: u32 = 8;
 
-/// The mode of an evaluator, and what stands beside aliases: nothing, or what is listed for the associated type that the row names.
+/// What stands beside aliases: nothing, or what is listed for the associated type of that name.
+pub(crate) fn pairs_for(
+    reader: &Reader<'_>,
+    cx: &mut Cx,
+    name: &str,
+) -> Result<Vec<(Ty, Ty)>, Refusal>
+    ensures { IfOk result (λ v. IsGiven cx.new.trees v.items []) }
+{
+    if name.is_empty() {
+        return Ok(Vec::new(reader.alloc));
+    }
+    listed(reader.alloc, cx, AssocId(reader.number(name)))
+}
+
+/// The mode of an evaluator, and what stands beside aliases, as the row says.
 fn asked_for(
     reader: &Reader<'_>,
     cx: &mut Cx,
@@ -35,10 +49,7 @@ fn asked_for(
     ensures { IfOk result (λ r. IsGiven cx.new.trees (r.1).items []) }
 {
     let mode = value_of(&MODES, row.first).ok_or(Refusal::UnknownWord)?;
-    if row.second.is_empty() {
-        return Ok((mode, Vec::new(reader.alloc)));
-    }
-    let pairs = listed(reader.alloc, cx, AssocId(reader.number(row.second)))?;
+    let pairs = pairs_for(reader, cx, row.second)?;
     Ok((mode, pairs))
 }
 

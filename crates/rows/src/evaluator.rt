@@ -264,7 +264,7 @@ pub(crate) fn answer(
         "eq" | "eq_args" | "eq_goals" => equate(alloc, rounds, row, of),
         "equal" => equal(alloc, rounds, of.left, of.right),
         "goal" | "goals" => add(rounds, row, of),
-        "consider" | "forced" | "characterize" | "about" | "passes" => {
+        "consider" | "forced" | "characterize" | "about" | "passes" | "additional" => {
             considering::answer(reader, rounds, row, of)
         }
         _ => objects::answer(reader, rounds, row, of),

@@ -3,7 +3,9 @@
 //! they are compared with.
 #![tactic(auto)]
 
+pub(crate) mod aliases;
 pub(crate) mod answers;
+pub(crate) mod assembling;
 pub(crate) mod checks;
 pub(crate) mod considering;
 pub(crate) mod declaring;
@@ -24,6 +26,7 @@ pub(crate) mod reader;
 pub(crate) mod refusals;
 pub(crate) mod rows;
 pub mod run;
+pub(crate) mod starting;
 pub(crate) mod structures;
 pub(crate) mod tables;
 pub(crate) mod typed;

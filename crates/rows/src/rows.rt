@@ -32,6 +32,18 @@ impl<'a> Row<'a> {
         }
     }
 
+    /// The word in that place, where the verb is in place 0; nothing, where there are fewer.
+    pub(crate) fn word(self, place: usize) -> &'a str {
+        let mut left = place;
+        for each in self.words.split_whitespace() {
+            if left == 0 {
+                return each;
+            }
+            left -= 1;
+        }
+        ""
+    }
+
     /// Whether the word is among those of the row.
     pub(crate) fn has(self, word: &str) -> bool {
         for each in self.words.split_whitespace() {

@@ -119,6 +119,7 @@ impl<'a> Session<'a> {
                 self.begin_rounds(cx, row)
             }
             ("leave", Phase::Evaluating(rounds)) => Phase::Declared(self.leave(rounds)),
+            ("list", Phase::Declared(cx)) => Phase::Declared(self.list(cx, row)),
             (_, Phase::Declaring(mut builder)) => {
                 self.declare(&mut builder, row);
                 Phase::Declaring(builder)

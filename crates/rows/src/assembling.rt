@@ -1,0 +1,133 @@
+//! Rows that ask for all candidates of a goal, of an evaluator that is made for the row.
+
+ghost use Rattle.std.specs.Prelude.{◌≡◌, [], All, IfOk};
+ghost use Rattle.candidate_assembly.specs.Kinds.{IsGoal};
+ghost use Rattle.candidate_assembly.specs.Standing.{GoalStands};
+ghost use Rattle.candidate_assembly.specs.TraitGoals.{arguments_held, trait_goal, types_held};
+ghost use Rattle.candidate_assembly.specs.TraitRules.{trait_rules};
+ghost use Rattle.candidate_rounds.specs.Known.{IsGiven, state};
+ghost use Rattle.rows.specs.Started.{MayBeGiven, started};
+
+use crate::answers::Answer;
+use crate::considering::{found_rows, goal_at};
+use crate::eval::{Operands, made};
+use crate::evaluating::pairs_for;
+use crate::evaluator::MODES;
+use crate::reader::Reader;
+use crate::refusals::Refusal;
+use crate::rows::Row;
+use crate::run::Session;
+use crate::starting::{Start, add_roots, expect_known, opaques_in, root_kinds};
+use crate::tables::value_of;
+use candidate_assembly::assembly::candidates::assemble_and_evaluate_candidates;
+use candidate_assembly::assembly::opaques::AssembleCandidatesFrom;
+use candidate_ir::decl::context::Cx;
+use candidate_ir::decl::make::Make;
+use candidate_ir::ir::kinds::{AliasTy, ParamEnv, TraitPredicate, Ty};
+use candidate_rounds::rounds::Rounds;
+use std::alloc::Global;
+
+/// The words for which candidates are looked for.
+const FROM: [(&str, AssembleCandidatesFrom); 2] = [
+    ("all", AssembleCandidatesFrom::All),
+    ("bounds", AssembleCandidatesFrom::EnvAndBounds),
+];
+
+/// What the row asks: the evaluator that is made for it, and the goal.
+#[derive(Drop)]
+struct Request {
+    start: Start,
+    from: AssembleCandidatesFrom,
+    /// What stands beside aliases.
+    normal: Vec<(Ty, Ty)>,
+    /// The opaque types that may be hidden behind a variable.
+    opaques: Vec<AliasTy>,
+    of: Operands,
+}
+
+/// The opaque types that the row names, if it does.
+fn opaques_of(alloc: Global, cx: &Cx, row: Row<'_>, list: u32) -> Result<Vec<AliasTy>, Refusal>
+    ensures { IfOk result (λ v. All (λ a. MayBeGiven cx.now.trees a) v.items) }
+{
+    if row.third.is_empty() {
+        return Ok(Vec::new(alloc));
+    }
+    opaques_in(alloc, cx, list)
+}
+
+/// What the row asks, with its operands made.
+fn requested<'a>(reader: &mut Reader<'a>, cx: &mut Cx, row: Row<'a>) -> Result<Request, Refusal>
+    ensures { IfOk result (λ a. IsGiven cx.new.trees a.normal.items a.opaques.items) }
+{
+    let alloc = reader.alloc;
+    let mode = value_of(&MODES, row.first).ok_or(Refusal::UnknownWord)?;
+    let from = value_of(&FROM, row.second).ok_or(Refusal::UnknownWord)?;
+    let kinds = root_kinds(alloc, row.word(3))?;
+    let of = made(reader, cx, row)?;
+    let normal = pairs_for(reader, cx, row.word(4))?;
+    let opaques = opaques_of(alloc, cx, row, of.third)?;
+    Ok(Request {
+        start: Start { mode, kinds },
+        from,
+        normal,
+        opaques,
+        of,
+    })
+}
+
+/// The goal of these operands, which stands at the new evaluator's state: neither a parameter, nor a variable or a placeholder that isn't
+/// the evaluator's stands in it, and no bound variable escapes from it. Else a `Refusal::Condition` comes.
+fn standing_goal(
+    cx: &Cx,
+    start: &Start,
+    of: Operands,
+) -> Result<(ParamEnv, TraitPredicate), Refusal>
+    ensures goal { IfOk result (λ g. IsGoal trait_rules arguments_held types_held trait_goal cx.now g.0 g.1) }
+    ensures stands { IfOk result (λ g. GoalStands trait_rules (started start.now.mode start.now.kinds.items) (trait_goal cx.now.trees g.0 g.1)) }
+{
+    let (env, predicate) = goal_at(cx, of.left, of.right)?;
+    expect_known(cx, start, env)?;
+    expect_known(cx, start, predicate.trait_ref.args)?;
+    Ok((env, predicate))
+}
+
+/// All candidates for the goal, each with its source and its response.
+fn candidates(
+    alloc: Global,
+    rounds: &mut Rounds,
+    start: &Start,
+    from: AssembleCandidatesFrom,
+    of: Operands,
+) -> Result<Answer, Refusal>
+    requires { state rounds.old ≡ started start.now.mode [] }
+{
+    add_roots(rounds, start)?;
+    let (env, predicate) = standing_goal(rounds.cx(), start, of)?;
+    let (list, _) = assemble_and_evaluate_candidates(alloc, rounds, env, predicate, from)?;
+    found_rows(alloc, list.as_slice())
+}
+
+/// What the row answers, and the context, in which nodes were made.
+fn answer<'a>(reader: &mut Reader<'a>, mut cx: Cx, row: Row<'a>) -> (Cx, Result<Answer, Refusal>) {
+    let asked = match requested(reader, &mut cx, row) {
+        Ok(asked) => asked,
+        Err(refusal) => return (cx, Err(refusal)),
+    };
+    let alloc = reader.alloc;
+    let mut rounds = Rounds::new(alloc, cx, asked.start.mode, asked.normal, asked.opaques);
+    let outcome = candidates(alloc, &mut rounds, &asked.start, asked.from, asked.of);
+    let (cx, _, _) = rounds.into_parts();
+    (cx, outcome)
+}
+
+impl<'a> Session<'a> {
+    /// Answers a row that asks for all candidates of a goal, and gives the context back.
+    pub(crate) fn list(&mut self, cx: Cx, row: Row<'a>) -> Cx {
+        let (cx, outcome) = answer(&mut self.reader, cx, row);
+        if self.print(Some(&cx), outcome) {
+            let (cx, _) = answer(&mut self.reader, cx, row);
+            return cx;
+        }
+        cx
+    }
+}
