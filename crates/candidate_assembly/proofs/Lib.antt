@@ -85,3 +85,11 @@ pub mod AssembledBack
 pub mod AssembledLists
 pub mod KnownLists
 pub mod OneTrivial
+pub mod Specializing
+pub mod Preferring
+pub mod Proving
+pub mod PreferenceCases
+pub mod PreferenceLaws
+pub mod TraitAnswers
+pub mod Winners
+pub mod MergedKinds

@@ -40,3 +40,7 @@ pub mod Assembling
 pub mod Language
 pub mod AliasChains
 pub mod OneTrivial
+pub mod Specialization
+pub mod Preference
+pub mod TraitAnswers
+pub mod MergedKinds

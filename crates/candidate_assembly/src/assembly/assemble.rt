@@ -63,14 +63,14 @@ fn is_shadowed(cx: &Cx, candidates: &[Candidate]) -> bool
 }
 
 /// Whether it's a clause of the environment.
-fn is_of_environment(source: CandidateSource) -> bool
+pub(crate) fn is_of_environment(source: CandidateSource) -> bool
     ensures { result ≡ is_of_environment source }
 {
     matches!(source, CandidateSource::ParamEnv(_))
 }
 
 /// Whether one of the candidates is by a clause of the environment.
-fn has_where_bound(candidates: &[Candidate]) -> bool
+pub(crate) fn has_where_bound(candidates: &[Candidate]) -> bool
     ensures { (ts : List Tree) → result ≡ has_where_bound (candidates_of ts candidates.now) }
 {
     for candidate in candidates {

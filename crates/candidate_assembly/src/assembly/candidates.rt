@@ -34,7 +34,7 @@ pub struct FailedCandidateInfo {
 }
 
 /// Whether headers of impls are compared, as if other crates could still write impls.
-fn is_coherence(mode: TypingMode) -> bool
+pub(crate) fn is_coherence(mode: TypingMode) -> bool
     ensures { result ≡ is_coherence mode }
 {
     matches!(mode, TypingMode::Coherence)

@@ -1,0 +1,8 @@
+use Rattle.std.proofs.Common.{◌∙◌}
+use Rattle.candidate_eval.proofs.Probing.{keeps-trans}
+use Rattle.candidate_assembly.proofs.trait_goals.preference.ignore_failed.Goals as goal
+
+pub loop-usages-preserved : goal.loop-usages-preserved
+loop-usages-preserved g c =
+    let forgot = c.ignore_candidate_head_usages in
+    (keeps-trans g.E.EvalCtxt.fixed g.E.EvalCtxt.probes g.E.Build.context _ _ _ c.loop-usages.invariant.0 forgot.ensures.kept, forgot.ensures.same ∙ c.loop-usages.invariant.1)

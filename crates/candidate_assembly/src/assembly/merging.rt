@@ -1,0 +1,159 @@
+//! How a goal that isn't of a trait is answered, once it is known how the goal of its trait was proved.
+
+ghost use Rattle.std.specs.Prelude.{◌≡◌, List};
+ghost use Rattle.candidate_ir.specs.Trees.{Tree};
+ghost use Rattle.candidate_ir.specs.Words.{IsParamEnv, env_forest};
+ghost use Rattle.candidate_eval.specs.Evaluators.{Keeps};
+ghost use Rattle.candidate_eval.specs.ResponseTrees.{AreCandidates, candidates_of};
+ghost use Rattle.candidate_assembly.specs.Kinds.{IsGoal};
+ghost use Rattle.candidate_assembly.specs.Standing.{GoalStands};
+ghost use Rattle.candidate_assembly.specs.MergedKinds.{AfterAssumptions, Answers, IsAnsweredBy, IsUnproved, KeepsAll, come_to, only_where_bounds};
+ghost use Rattle.candidate_assembly.specs.Specialization.{unspecialized};
+
+use crate::assembly::assemble::has_where_bound;
+use crate::assembly::candidates::assemble_and_evaluate_candidates;
+use crate::assembly::kind::GoalKind;
+use crate::assembly::opaques::AssembleCandidatesFrom;
+use crate::assembly::specialization::{AllowInferenceConstraints, filter_specialized_impls};
+use crate::assembly::steps::forced_ambiguity;
+use crate::trait_goals::preference::TraitGoalProvenVia;
+use crate::trait_goals::sources::keep_where_bounds;
+use candidate_eval::eval::ambiguity::flounder;
+use candidate_eval::eval::certainty::MaybeInfo;
+use candidate_eval::eval::context::EvalCtxt;
+use candidate_eval::eval::refusal::NoSolutionOrStop;
+use candidate_eval::eval::response::{Candidate, CanonicalResponse, try_merge_candidates};
+use candidate_ir::ir::kinds::ParamEnv;
+use std::alloc::Global;
+
+/// Keeps the candidates by clauses of the environment alone, where there are any.
+fn prefer_where_bounds(candidates: &mut Vec<Candidate>)
+    ensures list { (ts : List Tree) → candidates_of ts candidates.new.items ≡ only_where_bounds (candidates_of ts candidates.old.items) }
+    ensures fit { (ts : List Tree) → AreCandidates ts candidates.old.items → AreCandidates ts candidates.new.items }
+{
+    if has_where_bound(candidates.as_slice()) {
+        keep_where_bounds(candidates);
+    }
+}
+
+/// The response that the candidates come to; where they don't merge, the one that too little is known.
+///
+/// `NoSolution` comes where there are none. It stops as the evaluator does where a response is asked for, and by `Stop::Memory`. The state
+/// is left alike the one before.
+fn merge_or_flounder<E: EvalCtxt>(
+    ecx: &mut E,
+    candidates: &[Candidate],
+) -> Result<CanonicalResponse, NoSolutionOrStop>
+    requires { AreCandidates (E.context ecx.old).trees candidates.now }
+    ensures { Answers E.fixed E.judge E.state E.probes E.context E.stops ecx.old ecx.new (come_to (E.judge (E.fixed ecx.old)) (E.state ecx.old) (candidates_of (E.context ecx.old).trees candidates.now)) result }
+{
+    match try_merge_candidates(ecx, candidates)? {
+        Some((response, _)) => Ok(response),
+        None => flounder(ecx, candidates),
+    }
+}
+
+/// What the candidates by clauses of the environment and by bounds come to. Where there are none, that is what the second closure answers;
+/// else what the first does, if it answers; else they are merged, and clauses of the environment alone where there are any.
+///
+/// Refusals and stops are those of the closure that answers, or those of `merge_or_flounder`.
+fn respond_by_assumptions<
+    E: EvalCtxt,
+    A: FnOnce(&mut E) -> Option<Result<CanonicalResponse, NoSolutionOrStop>>,
+    F: FnOnce(&mut E) -> Result<CanonicalResponse, NoSolutionOrStop>,
+>(
+    ecx: &mut E,
+    mut candidates: Vec<Candidate>,
+    inject_forced_ambiguity_candidate: A,
+    inject_normalize_to_rigid_candidate: F,
+) -> Result<CanonicalResponse, NoSolutionOrStop>
+    requires fit { AreCandidates (E.context ecx.old).trees candidates.items }
+    requires ambiguity { KeepsAll E.fixed E.probes E.context A.FnOnce inject_forced_ambiguity_candidate ecx.old }
+    requires rigid { KeepsAll E.fixed E.probes E.context F.FnOnce inject_normalize_to_rigid_candidate ecx.old }
+    ensures kept { Keeps E.fixed E.probes E.context ecx.old ecx.new }
+    ensures after { AfterAssumptions E.fixed E.judge E.state E.probes E.context E.stops A.FnOnce inject_forced_ambiguity_candidate F.FnOnce inject_normalize_to_rigid_candidate ecx.old (candidates_of (E.context ecx.old).trees candidates.items) result ecx.new }
+{
+    if candidates.as_slice().is_empty() {
+        return inject_normalize_to_rigid_candidate(ecx);
+    }
+    if let Some(answer) = inject_forced_ambiguity_candidate(ecx) {
+        return answer;
+    }
+    prefer_where_bounds(&mut candidates);
+    merge_or_flounder(ecx, candidates.as_slice())
+}
+
+/// The response that a goal is ambiguous of whose trait goal nothing is known. It stops as `forced_ambiguity` does.
+fn respond_unproved<E: EvalCtxt>(
+    alloc: Global,
+    ecx: &mut E,
+    env: ParamEnv,
+) -> Result<CanonicalResponse, NoSolutionOrStop>
+    requires { IsParamEnv (E.context ecx.old).trees env }
+    ensures { IsUnproved E.fixed E.judge E.state E.probes E.context E.stops ecx.old ecx.new (env_forest (E.context ecx.old).trees env) result }
+{
+    match forced_ambiguity(alloc, ecx, env, MaybeInfo::AMBIGUOUS) {
+        Ok(candidate) => Ok(candidate.result),
+        Err(error) => Err(error),
+    }
+}
+
+/// What all candidates come to: those by clauses of the environment alone, where there are any; without impls that others specialise.
+///
+/// Refusals and stops are those of `merge_or_flounder`. The state is left alike the one before.
+fn respond_by_all<E: EvalCtxt>(
+    ecx: &mut E,
+    mut candidates: Vec<Candidate>,
+) -> Result<CanonicalResponse, NoSolutionOrStop>
+    requires { AreCandidates (E.context ecx.old).trees candidates.items }
+    ensures { Answers E.fixed E.judge E.state E.probes E.context E.stops ecx.old ecx.new (come_to (E.judge (E.fixed ecx.old)) (E.state ecx.old) (unspecialized (E.context ecx.old) (E.state ecx.old).mode AllowInferenceConstraints.Yes (only_where_bounds (candidates_of (E.context ecx.old).trees candidates.items)))) result }
+{
+    prefer_where_bounds(&mut candidates);
+    filter_specialized_impls(ecx, AllowInferenceConstraints::Yes, &mut candidates);
+    merge_or_flounder(ecx, candidates.as_slice())
+}
+
+/// The answer to a goal, by how the goal of its trait was proved: where that isn't known the goal is ambiguous; where it was by clauses of
+/// the environment or by bounds, what these come to with the two closures; else what all candidates come to.
+///
+/// Refusals and stops are those of `assemble_and_evaluate_candidates` and of what answers then.
+pub fn assemble_and_merge_candidates<
+    E: EvalCtxt,
+    G: GoalKind<E>,
+    A: FnOnce(&mut E) -> Option<Result<CanonicalResponse, NoSolutionOrStop>>,
+    F: FnOnce(&mut E) -> Result<CanonicalResponse, NoSolutionOrStop>,
+>(
+    alloc: Global,
+    ecx: &mut E,
+    proven_via: Option<TraitGoalProvenVia>,
+    env: ParamEnv,
+    predicate: G,
+    inject_forced_ambiguity_candidate: A,
+    inject_normalize_to_rigid_candidate: F,
+) -> Result<CanonicalResponse, NoSolutionOrStop>
+    requires goal { IsGoal G.rules G.arguments G.types G.seen (E.context ecx.old) env predicate }
+    requires stands { GoalStands G.rules (E.state ecx.old) (G.seen (E.context ecx.old).trees env predicate) }
+    requires ambiguity { KeepsAll E.fixed E.probes E.context A.FnOnce inject_forced_ambiguity_candidate ecx.old }
+    requires rigid { KeepsAll E.fixed E.probes E.context F.FnOnce inject_normalize_to_rigid_candidate ecx.old }
+    ensures kept { Keeps E.fixed E.probes E.context ecx.old ecx.new }
+    ensures answered { IsAnsweredBy E.fixed E.judge E.state E.probes E.context E.stops A.FnOnce inject_forced_ambiguity_candidate F.FnOnce inject_normalize_to_rigid_candidate G.rules G.bounds ecx.old (G.seen (E.context ecx.old).trees env predicate) proven_via result ecx.new }
+{
+    match proven_via {
+        None => respond_unproved(alloc, ecx, env),
+        Some(TraitGoalProvenVia::Misc) => {
+            let from = AssembleCandidatesFrom::All;
+            let (candidates, _failed) = assemble_and_evaluate_candidates(alloc, ecx, env, predicate, from)?;
+            respond_by_all(ecx, candidates)
+        }
+        Some(_) => {
+            let from = AssembleCandidatesFrom::EnvAndBounds;
+            let (candidates, _failed) = assemble_and_evaluate_candidates(alloc, ecx, env, predicate, from)?;
+            respond_by_assumptions(
+                ecx,
+                candidates,
+                inject_forced_ambiguity_candidate,
+                inject_normalize_to_rigid_candidate,
+            )
+        }
+    }
+}

@@ -1,0 +1,126 @@
+//! Impls that give way to others that specialise them.
+
+ghost use Rattle.std.specs.Prelude.{◌≡◌, ◌==◌, ◌<◌, length, slice_index_or};
+ghost use Rattle.candidate_eval.specs.ResponseTrees.{AreCandidates, IsResponse, candidate_of, candidates_of, response_of};
+ghost use Rattle.candidate_assembly.specs.Specialization.{IsStrictOrder, drives_out, is_driven_out, is_eligible, specializes, undriven, unspecialized};
+ghost use Rattle.std.specs.List.{list_any, remove};
+
+use crate::assembly::candidates::is_coherence;
+use candidate_eval::eval::context::EvalCtxt;
+use candidate_eval::eval::response::{Candidate, CanonicalResponse, has_only_region_constraints};
+use candidate_eval::eval::source::CandidateSource;
+use candidate_ir::decl::Cx;
+use candidate_ir::decl::contents::ImplId;
+use candidate_ir::decl::make::Make;
+
+/// Whether an impl may drive out the ones that it specialises although it finds values of variables.
+#[derive(Clone, Copy, Debug, PartialEq, Eq)]
+pub enum AllowInferenceConstraints {
+    /// Each impl may.
+    Yes,
+    /// Only one that constrains nothing but regions may.
+    No,
+}
+
+/// Whether the impl is one of these.
+fn lists_impl(impls: &[ImplId], of: ImplId) -> bool
+    ensures { result ≡ list_any (λ i. i.0 == of.0) impls.now }
+{
+    impls.iter().any(|other| other.0 == of.0)
+}
+
+/// Whether the first impl is declared to specialise the second.
+fn specializes(cx: &Cx, of: ImplId, other: ImplId) -> bool
+    ensures { result ≡ specializes cx.now of other }
+{
+    match cx.impl_contents(of) {
+        Some(declared) => lists_impl(declared.specializes.as_slice(), other),
+        None => false,
+    }
+}
+
+/// Whether a candidate with that response may drive others out.
+fn is_eligible(cx: &Cx, allow: AllowInferenceConstraints, response: &CanonicalResponse) -> bool
+    requires { IsResponse cx.now.trees response.now }
+    ensures { result ≡ is_eligible allow (response_of cx.now.trees response.now) }
+{
+    match allow {
+        AllowInferenceConstraints::Yes => true,
+        AllowInferenceConstraints::No => has_only_region_constraints(cx, response),
+    }
+}
+
+/// Whether the candidate is eligible and by an impl that specialises that one.
+fn drives_out(cx: &Cx, allow: AllowInferenceConstraints, of: ImplId, candidate: &Candidate) -> bool
+    requires { IsResponse cx.now.trees candidate.now.result }
+    ensures { result ≡ drives_out cx.now allow of (candidate_of cx.now.trees candidate.now) }
+{
+    match candidate.source {
+        CandidateSource::Impl(other) => {
+            specializes(cx, other, of) && is_eligible(cx, allow, &candidate.result)
+        }
+        _ => false,
+    }
+}
+
+/// Whether one of the candidates drives the impl out.
+fn has_special_case(
+    cx: &Cx,
+    allow: AllowInferenceConstraints,
+    of: ImplId,
+    candidates: &[Candidate],
+) -> bool
+    requires { AreCandidates cx.now.trees candidates.now }
+    ensures { result ≡ list_any (drives_out cx.now allow of) (candidates_of cx.now.trees candidates.now) }
+{
+    for i in 0..candidates.len() {
+        if drives_out(cx, allow, of, &candidates[i]) {
+            return true;
+        }
+    }
+    false
+}
+
+/// Whether the candidate of that number is an impl that one of the others drives out.
+fn is_driven_out(
+    cx: &Cx,
+    allow: AllowInferenceConstraints,
+    candidates: &[Candidate],
+    number: usize,
+) -> bool
+    requires fit { AreCandidates cx.now.trees candidates.now }
+    requires there { number < length candidates.now }
+    ensures { (d : Candidate) → result ≡ is_driven_out cx.now allow (candidates_of cx.now.trees (remove candidates.now number)) (slice_index_or candidates.now number d).source }
+{
+    let CandidateSource::Impl(of) = candidates[number].source else {
+        return false;
+    };
+    let (before, rest) = candidates.split_at(number);
+    has_special_case(cx, allow, of, before) || has_special_case(cx, allow, of, &rest[1..])
+}
+
+/// Removes, from the front on, each candidate by an impl that another of the candidates drives out: one by an impl that specialises it, and
+/// that is eligible. What is removed no longer counts. The others keep their order; in coherence all stay.
+pub fn filter_specialized_impls<E: EvalCtxt>(
+    ecx: &E,
+    allow: AllowInferenceConstraints,
+    candidates: &mut Vec<Candidate>,
+)
+    requires { AreCandidates (E.context ecx.now).trees candidates.old.items }
+    ensures fit { AreCandidates (E.context ecx.now).trees candidates.new.items }
+    ensures list { candidates_of (E.context ecx.now).trees candidates.new.items ≡ unspecialized (E.context ecx.now) (E.state ecx.now).mode allow (candidates_of (E.context ecx.now).trees candidates.old.items) }
+    ensures pairwise { IsStrictOrder (specializes (E.context ecx.now)) → candidates_of (E.context ecx.now).trees candidates.new.items ≡ undriven (E.context ecx.now) (E.state ecx.now).mode allow (candidates_of (E.context ecx.now).trees candidates.old.items) }
+{
+    if is_coherence(ecx.typing_mode()) {
+        return;
+    }
+    let cx = ecx.cx();
+    let mut number = 0;
+    while number < candidates.len() {
+        if is_driven_out(cx, allow, candidates.as_slice(), number) {
+            candidates.remove(number);
+        } else {
+            number += 1;
+        }
+    }
+}

@@ -1,0 +1,44 @@
+//! What a goal of a trait comes to.
+
+ghost use Rattle.candidate_assembly.specs.Kinds.{IsGoal};
+ghost use Rattle.candidate_assembly.specs.Standing.{GoalStands};
+ghost use Rattle.candidate_assembly.specs.TraitAnswers.{Computes};
+ghost use Rattle.candidate_assembly.specs.TraitGoals.{arguments_held, trait_goal, types_held};
+ghost use Rattle.candidate_assembly.specs.TraitRules.{trait_rules};
+
+use crate::assembly::candidates::assemble_and_evaluate_candidates;
+use crate::assembly::opaques::AssembleCandidatesFrom;
+use crate::trait_goals::preference::{
+    CandidatePreferenceMode, TraitGoalProvenVia, merge_trait_candidates,
+};
+use candidate_eval::eval::context::EvalCtxt;
+use candidate_eval::eval::refusal::NoSolutionOrStop;
+use candidate_eval::eval::response::CanonicalResponse;
+use candidate_ir::decl::make::Make;
+use candidate_ir::ir::kinds::{ParamEnv, TraitPredicate};
+use std::alloc::Global;
+
+/// The response to a goal of a trait, and how the goal is proved: of all candidates for it those that win, merged. The goal stands at a
+/// state whose values make sense.
+///
+/// The list is that of `assemble_and_evaluate_candidates`, from all sources. Which candidates win, and what they come to, is that of
+/// `merge_trait_candidates`, in the mode that `CandidatePreferenceMode::compute` gives the trait. Where those that win don't merge the
+/// response is that too little is known, and nothing is said of how the goal is proved; `NoSolution` comes where there are none.
+///
+/// It stops as these two calls do. The state is left alike the one that normalising the goal's self type leaves; or, where that was refused
+/// or stopped, alike the one before.
+pub fn compute_trait_goal<E: EvalCtxt>(
+    alloc: Global,
+    ecx: &mut E,
+    env: ParamEnv,
+    predicate: TraitPredicate,
+) -> Result<(CanonicalResponse, Option<TraitGoalProvenVia>), NoSolutionOrStop>
+    requires goal { IsGoal trait_rules arguments_held types_held trait_goal (E.context ecx.old) env predicate }
+    requires stands { GoalStands trait_rules (E.state ecx.old) (trait_goal (E.context ecx.old).trees env predicate) }
+    ensures { Computes E.fixed E.judge E.state E.probes E.context E.stops ecx.old ecx.new (trait_goal (E.context ecx.old).trees env predicate) result }
+{
+    let from = AssembleCandidatesFrom::All;
+    let (candidates, failed) = assemble_and_evaluate_candidates(alloc, ecx, env, predicate, from)?;
+    let mode = CandidatePreferenceMode::compute(ecx.cx(), predicate.trait_ref.def_id);
+    merge_trait_candidates(ecx, mode, candidates, failed)
+}

@@ -1,0 +1,262 @@
+//! Which of the candidates for a goal of a trait win, and what these come to.
+
+ghost use Rattle.std.specs.Prelude.{◌≡◌, ◌&&◌, ◌||◌, List, None, option_map};
+ghost use Rattle.std.specs.List.{list_any};
+ghost use Rattle.candidate_ir.specs.declared.decl.contents.LangItem.TheVariants as L;
+ghost use Rattle.candidate_ir.specs.Trees.{Tree};
+ghost use Rattle.candidate_eval.specs.Evaluators.{Keeps};
+ghost use Rattle.candidate_eval.specs.ResponseTrees.{AreCandidates, candidates_of};
+ghost use Rattle.candidate_assembly.specs.Assembled.{HasOneTrivial};
+ghost use Rattle.candidate_assembly.specs.BuiltinRules.{flag_of_trait};
+ghost use Rattle.candidate_assembly.specs.Listing.{Lists};
+ghost use Rattle.candidate_assembly.specs.Preference.{EnvironmentWins, Proves, TrivialWins, answer_by, assumed, class_of, is_marker, is_self_bound, least_global, mode_of, object_wins, prefer_objects, preferred};
+ghost use Rattle.candidate_assembly.specs.Specialization.{unspecialized};
+ghost use Rattle.candidate_assembly.specs.TraitGoals.{is_item};
+
+use crate::assembly::candidates::{FailedCandidateInfo, is_coherence};
+use crate::assembly::specialization::{AllowInferenceConstraints, filter_specialized_impls};
+use crate::trait_goals::matching::is_item;
+use crate::trait_goals::sources::{
+    are_global, has_alias_bound, has_non_global, has_self_bound, has_trivial, is_object,
+    keep_alias_bounds, keep_trivial, keep_where_bounds, remove_global, remove_impls,
+};
+use candidate_eval::eval::ambiguity::flounder;
+use candidate_eval::eval::context::EvalCtxt;
+use candidate_eval::eval::refusal::NoSolutionOrStop;
+use candidate_eval::eval::response::{
+    Candidate, CanonicalResponse, MergeCandidateInfo, has_only_region_constraints,
+    try_merge_candidates,
+};
+use candidate_ir::decl::Cx;
+use candidate_ir::decl::contents::LangItem;
+use candidate_ir::decl::make::Make;
+use candidate_ir::ir::kinds::TraitId;
+
+/// Whether bounds of an alias win over clauses of the environment.
+#[derive(Clone, Copy, Debug, PartialEq, Eq)]
+pub enum CandidatePreferenceMode {
+    /// Clauses of the environment that aren't global win over bounds of aliases.
+    Default,
+    /// Bounds of the goal's alias itself win: for auto traits, sizedness traits and default traits.
+    Marker,
+}
+
+/// Whether the trait is an auto trait, or one that types have by default.
+fn is_auto_or_default(cx: &Cx, trait_id: TraitId) -> bool
+    ensures { result ≡ (flag_of_trait (λ f. f.auto) cx.now trait_id.0 || flag_of_trait (λ f. f.default) cx.now trait_id.0) }
+{
+    match cx.trait_flags(trait_id) {
+        Some(flags) => flags.auto || flags.default,
+        None => false,
+    }
+}
+
+/// Whether it is a trait of sizedness: `Sized` or `MetaSized`.
+fn is_sizedness(cx: &Cx, trait_id: TraitId) -> bool
+    ensures { result ≡ (is_item cx.now L.Sized trait_id.0 || is_item cx.now L.MetaSized trait_id.0) }
+{
+    is_item(cx, LangItem::Sized, trait_id) || is_item(cx, LangItem::MetaSized, trait_id)
+}
+
+impl CandidatePreferenceMode {
+    /// The mode for goals of the trait: `Marker` for auto traits, for traits that types have by default and for those of sizedness.
+    pub fn compute(cx: &Cx, trait_id: TraitId) -> CandidatePreferenceMode
+        ensures { result ≡ mode_of cx.now trait_id.0 }
+    {
+        if is_auto_or_default(cx, trait_id) || is_sizedness(cx, trait_id) {
+            CandidatePreferenceMode::Marker
+        } else {
+            CandidatePreferenceMode::Default
+        }
+    }
+}
+
+/// How a goal of a trait is proved.
+#[derive(Clone, Copy, Debug, PartialEq, Eq)]
+pub enum TraitGoalProvenVia {
+    /// By an impl, a rule of the language or an object's own bounds.
+    Misc,
+    /// By clauses of the environment.
+    ParamEnv,
+    /// By bounds of aliases.
+    AliasBound,
+}
+
+/// Whether the first candidate by a bound that an object states of itself finds no value of a variable.
+fn object_wins(cx: &Cx, candidates: &[Candidate]) -> bool
+    requires { AreCandidates cx.now.trees candidates.now }
+    ensures { result ≡ object_wins (candidates_of cx.now.trees candidates.now) }
+{
+    for i in 0..candidates.len() {
+        if is_object(candidates[i].source) {
+            return has_only_region_constraints(cx, &candidates[i].result);
+        }
+    }
+    false
+}
+
+/// Removes the candidates by impls where an object's own bounds hold: where the first candidate by one of these finds no value of a
+/// variable. In coherence all stay.
+///
+/// An impl may then be passed over that says something else of the object's trait; so this isn't sound for more than goals of traits.
+pub fn unsound_prefer_builtin_dyn_impl<E: EvalCtxt>(ecx: &E, candidates: &mut Vec<Candidate>)
+    requires { AreCandidates (E.context ecx.now).trees candidates.old.items }
+    ensures fit { AreCandidates (E.context ecx.now).trees candidates.new.items }
+    ensures list { candidates_of (E.context ecx.now).trees candidates.new.items ≡ prefer_objects (E.state ecx.now).mode (candidates_of (E.context ecx.now).trees candidates.old.items) }
+{
+    if is_coherence(ecx.typing_mode()) {
+        return;
+    }
+    if object_wins(ecx.cx(), candidates.as_slice()) {
+        remove_impls(candidates);
+    }
+}
+
+/// Whether bounds of aliases win since there is one of the goal's alias itself.
+fn prefers_self_bounds(mode: CandidatePreferenceMode, candidates: &[Candidate]) -> bool
+    ensures { result ≡ (is_marker mode && list_any (λ x. is_self_bound x.source) candidates.now) }
+{
+    matches!(mode, CandidatePreferenceMode::Marker) && has_self_bound(candidates)
+}
+
+/// Keeps those of the candidates that win whatever impls there are, and says how the goal is then proved; without such all stay, and the
+/// answer is `None`.
+fn keep_assumed(
+    mode: CandidatePreferenceMode,
+    candidates: &mut Vec<Candidate>,
+) -> Option<TraitGoalProvenVia>
+    ensures class { (ts : List Tree) → assumed mode (candidates_of ts candidates.old.items) ≡ option_map (class_of (candidates_of ts candidates.new.items)) result }
+    ensures fit { (ts : List Tree) → AreCandidates ts candidates.old.items → AreCandidates ts candidates.new.items }
+    ensures none { result ≡ None → candidates.new.items ≡ candidates.old.items }
+{
+    let list = candidates.as_slice();
+    if has_trivial(list) {
+        keep_trivial(candidates);
+        return Some(TraitGoalProvenVia::Misc);
+    }
+    if prefers_self_bounds(mode, list) {
+        keep_alias_bounds(candidates);
+        return Some(TraitGoalProvenVia::AliasBound);
+    }
+    if has_non_global(list) {
+        keep_where_bounds(candidates);
+        return Some(TraitGoalProvenVia::ParamEnv);
+    }
+    if has_alias_bound(list) {
+        keep_alias_bounds(candidates);
+        return Some(TraitGoalProvenVia::AliasBound);
+    }
+    None
+}
+
+/// Keeps those of the candidates that win where none did by `keep_assumed`, and says how the goal is then proved: what impls and objects
+/// leave of the list, and global clauses of the environment only where there is nothing else.
+fn keep_least_global<E: EvalCtxt>(ecx: &E, candidates: &mut Vec<Candidate>) -> TraitGoalProvenVia
+    requires { AreCandidates (E.context ecx.now).trees candidates.old.items }
+    ensures fit { AreCandidates (E.context ecx.now).trees candidates.new.items }
+    ensures class { least_global (prefer_objects (E.state ecx.now).mode (unspecialized (E.context ecx.now) (E.state ecx.now).mode AllowInferenceConstraints.No (candidates_of (E.context ecx.now).trees candidates.old.items))) ≡ class_of (candidates_of (E.context ecx.now).trees candidates.new.items) result }
+{
+    filter_specialized_impls(ecx, AllowInferenceConstraints::No, candidates);
+    unsound_prefer_builtin_dyn_impl(ecx, candidates);
+    if are_global(candidates.as_slice()) {
+        return TraitGoalProvenVia::ParamEnv;
+    }
+    remove_global(candidates);
+    TraitGoalProvenVia::Misc
+}
+
+/// Keeps those of the candidates that win, and says how the goal is then proved.
+fn keep_preferred<E: EvalCtxt>(
+    ecx: &E,
+    mode: CandidatePreferenceMode,
+    candidates: &mut Vec<Candidate>,
+) -> TraitGoalProvenVia
+    requires { AreCandidates (E.context ecx.now).trees candidates.old.items }
+    ensures fit { AreCandidates (E.context ecx.now).trees candidates.new.items }
+    ensures class { preferred (E.context ecx.now) (E.state ecx.now).mode mode (candidates_of (E.context ecx.now).trees candidates.old.items) ≡ class_of (candidates_of (E.context ecx.now).trees candidates.new.items) result }
+{
+    if is_coherence(ecx.typing_mode()) {
+        return TraitGoalProvenVia::Misc;
+    }
+    match keep_assumed(mode, candidates) {
+        Some(via) => via,
+        None => keep_least_global(ecx, candidates),
+    }
+}
+
+/// Forgets which goals the candidates have used, but for the one of that number.
+fn ignore_others<E: EvalCtxt>(ecx: &mut E, candidates: Vec<Candidate>, winner: usize)
+    ensures kept { Keeps E.fixed E.probes E.context ecx.old ecx.new }
+    ensures same { E.state ecx.new ≡ E.state ecx.old }
+{
+    for (number, candidate) in candidates.into_iter().enumerate() {
+        if number != winner {
+            ecx.ignore_candidate_head_usages(candidate.head_usages);
+        }
+    }
+}
+
+/// Forgets which goals clauses of the environment have used that were refused.
+fn ignore_failed<E: EvalCtxt>(ecx: &mut E, failed: FailedCandidateInfo)
+    ensures kept { Keeps E.fixed E.probes E.context ecx.old ecx.new }
+    ensures same { E.state ecx.new ≡ E.state ecx.old }
+{
+    for usages in failed.param_env_head_usages {
+        ecx.ignore_candidate_head_usages(usages);
+    }
+}
+
+/// Where clauses of the environment win that aren't all global, and one of them is sure and asks for nothing: forgets which goals the
+/// others have used, and those that were refused, since they don't change the answer.
+fn ignore_losers<E: EvalCtxt>(
+    ecx: &mut E,
+    via: TraitGoalProvenVia,
+    info: MergeCandidateInfo,
+    candidates: Vec<Candidate>,
+    failed: FailedCandidateInfo,
+)
+    ensures kept { Keeps E.fixed E.probes E.context ecx.old ecx.new }
+    ensures same { E.state ecx.new ≡ E.state ecx.old }
+{
+    if !matches!(via, TraitGoalProvenVia::ParamEnv) || are_global(candidates.as_slice()) {
+        return;
+    }
+    if let MergeCandidateInfo::AlwaysApplicable(winner) = info {
+        ignore_others(ecx, candidates, winner);
+        ignore_failed(ecx, failed);
+    }
+}
+
+/// What the candidates for a goal of a trait come to, at most one of which is trivial, and how the goal is proved. In coherence all win; else
+/// the first row that applies says which do:
+/// - the trivial one, whatever it is;
+/// - for markers, where there is a bound of the goal's alias itself: all bounds of aliases;
+/// - where there is a clause of the environment that isn't global: all clauses of it;
+/// - all bounds of aliases;
+/// - after `filter_specialized_impls` and `unsound_prefer_builtin_dyn_impl`, the candidates that are not by global clauses, or these where
+///   there is nothing else.
+///
+/// Those that win are merged. Where they don't merge the response is that too little is known, and nothing is said of how the goal is
+/// proved; `NoSolution` comes where none win. It stops as the evaluator does where a response is asked for, and by `Stop::Memory`. The state
+/// is left alike the one before.
+pub fn merge_trait_candidates<E: EvalCtxt>(
+    ecx: &mut E,
+    mode: CandidatePreferenceMode,
+    mut candidates: Vec<Candidate>,
+    failed: FailedCandidateInfo,
+) -> Result<(CanonicalResponse, Option<TraitGoalProvenVia>), NoSolutionOrStop>
+    requires fit { AreCandidates (E.context ecx.old).trees candidates.items }
+    requires trivial { HasOneTrivial (Lists (candidates_of (E.context ecx.old).trees candidates.items)) }
+    ensures proves { Proves E.fixed E.judge E.state E.probes E.context E.stops ecx.old ecx.new (answer_by (E.judge (E.fixed ecx.old)) (E.state ecx.old) (preferred (E.context ecx.old) (E.state ecx.old).mode mode (candidates_of (E.context ecx.old).trees candidates.items))) result }
+    ensures trivial { TrivialWins (E.judge (E.fixed ecx.old)) (E.state ecx.old) (E.context ecx.old) (E.state ecx.old).mode mode (candidates_of (E.context ecx.old).trees candidates.items) }
+    ensures environment { EnvironmentWins (E.context ecx.old) (E.state ecx.old).mode mode (candidates_of (E.context ecx.old).trees candidates.items) }
+{
+    let via = keep_preferred(ecx, mode, &mut candidates);
+    match try_merge_candidates(ecx, candidates.as_slice())? {
+        Some((response, info)) => {
+            ignore_losers(ecx, via, info, candidates, failed);
+            Ok((response, Some(via)))
+        }
+        None => Ok((flounder(ecx, candidates.as_slice())?, None)),
+    }
+}
