@@ -93,3 +93,4 @@ pub mod PreferenceLaws
 pub mod TraitAnswers
 pub mod Winners
 pub mod MergedKinds
+pub mod SureAnswers

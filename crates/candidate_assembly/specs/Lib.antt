@@ -44,3 +44,4 @@ pub mod Specialization
 pub mod Preference
 pub mod TraitAnswers
 pub mod MergedKinds
+pub mod SureAnswers

@@ -98,39 +98,49 @@ concluded_other J e (characterise c) S h = finding_other J (Walks.characterizati
 
 -- Steps that end a rule give no candidate at all.
 
-abbrev EndsWithout : Reached → Type 0
-EndsWithout (Over j) = HasNoTrivial (listed j)
+abbrev pub GivesNone : Judged → Type 0
+GivesNone (Gives x) = ⊥
+GivesNone Refused = Unit {0}
+GivesNone (Stopped s) = Unit {0}
+
+none_given : (j : Judged) → GivesNone j → HasNoTrivial (listed j)
+none_given (Gives x) h = absurd h
+none_given Refused h = refl
+none_given (Stopped s) h = tt
+
+abbrev pub EndsWithout : Reached → Type 0
+EndsWithout (Over j) = GivesNone j
 EndsWithout (At p) = Unit {0}
 EndsWithout (Ambiguous S) = Unit {0}
 
 reached_ends : (o : Option Place) → EndsWithout (reached Refused o)
-reached_ends None = refl
+reached_ends None = tt
 reached_ends (Some p) = tt
 
 if_ends : (p : Place) (b : Bool) → EndsWithout (at_if p b)
 if_ends p true = tt
-if_ends p false = refl
+if_ends p false = tt
 
 taken_ends : (k : Pick) (p : Place) (t : Tree) (o : Option Place) → EndsWithout (taken k p t o)
-taken_ends Upcast p t None = refl
+taken_ends Upcast p t None = tt
 taken_ends Upcast p t (Some q) = tt
 taken_ends Require p t None = tt
 taken_ends Require p t (Some q) = tt
 
 picked_ends : (J : Judge) (e : Env) (k : Pick) (p : Place) (ms : List Match) → EndsWithout (picked J e k p ms)
-picked_ends J e Upcast p [] = refl
+picked_ends J e Upcast p [] = tt
 picked_ends J e Upcast p (m ∷ []) = taken_ends Upcast p m.term (matched_and_settled J e p m)
 picked_ends J e Upcast p (m ∷ n ∷ ms) = tt
 picked_ends J e Require p [] = tt
 picked_ends J e Require p (m ∷ []) = taken_ends Require p m.term (matched J e p m)
 picked_ends J e Require p (m ∷ n ∷ ms) = tt
 
-fault_ends : (f : Orphans.Fault (Unit {0})) → HasNoTrivial (listed (by_fault f))
-fault_ends (Orphans.Fault.Refused e) = refl
+fault_ends : (f : Orphans.Fault (Unit {0})) → GivesNone (by_fault f)
+fault_ends (Orphans.Fault.Refused e) = tt
 fault_ends (Orphans.Fault.Stopped s) = tt
 
 knowledge_ends : (p : Place) (S : State) (k : Orphans.Knowability (Unit {0})) → EndsWithout (by_knowledge p S k)
-knowledge_ends p S Orphans.Knowable = refl
+knowledge_ends p S Orphans.Knowable = tt
 knowledge_ends p S Orphans.Upstream = tt
 knowledge_ends p S Orphans.Downstream = tt
 knowledge_ends p S (Orphans.Unknown f) = fault_ends f
@@ -151,7 +161,7 @@ goes_on_ends (At p) k h next = next p
 goes_on_ends (Ambiguous S) k h next = tt
 goes_on_ends (Over j) k h next = h
 
-run_ends : (J : Judge) (e : Env) (p : Place) (steps : List Step) → EndsWithout (run J e p steps)
+pub run_ends : (J : Judge) (e : Env) (p : Place) (steps : List Step) → EndsWithout (run J e p steps)
 run_ends J e p [] = tt
 run_ends J e p (s ∷ ss) = goes_on_ends (step J e p s) (λ q. run J e q ss) (step_ends J e p s) (λ q. run_ends J e q ss)
 
@@ -159,7 +169,7 @@ continued_other : (J : Judge) (end : Ending) (r : Reached) (k : Place → Judged
     → ((p : Place) → HasNoTrivial (listed (k p))) → HasNoTrivial (listed (continued J end r k))
 continued_other J end (At p) k h ends next = next p
 continued_other J end (Ambiguous S) k h ends next = answered_other (source_of end) (J.responded S AMBIGUOUS) h
-continued_other J end (Over j) k h ends next = ends
+continued_other J end (Over j) k h ends next = none_given j ends
 
 if_other : (b : Bool) (j : Judged) → HasNoTrivial (listed j) → HasNoTrivial (listed (if b then j else Refused))
 if_other true j h = h
@@ -255,7 +265,7 @@ module _ {G : Type 0} (K : KindRules G) (B : KindBounds G) (J : Judge) (c : Cont
 
   object_other : (S : State) (g : G) (o : OwnClause) {j : Judged} → is_trivial o.source ≡ false → ObjectJudged K J c S g o j → HasNoTrivial (listed j)
   object_other S g o h (rejected e) = refl
-  object_other S g o h (unmatched T a p e) = subst EndsWithout e (run_ends J (K.env_of g) (start T) (K.match_steps g o.clause))
+  object_other S g o h (unmatched {j = j} T a p e) = none_given j (subst EndsWithout e (run_ends J (K.env_of g) (start T) (K.match_steps g o.clause)))
   object_other S g o h (required T U p goals a q e k) = answered_other o.source _ h
   object_other S g o h (unknown T U p a q e k) = answered_other o.source _ h
 

@@ -2,6 +2,7 @@
 
 ghost use Rattle.candidate_assembly.specs.Kinds.{IsGoal};
 ghost use Rattle.candidate_assembly.specs.Standing.{GoalStands};
+ghost use Rattle.candidate_assembly.specs.SureAnswers.{YesIsProved};
 ghost use Rattle.candidate_assembly.specs.TraitAnswers.{Computes};
 ghost use Rattle.candidate_assembly.specs.TraitGoals.{arguments_held, trait_goal, types_held};
 ghost use Rattle.candidate_assembly.specs.TraitRules.{trait_rules};
@@ -35,7 +36,8 @@ pub fn compute_trait_goal<E: EvalCtxt>(
 ) -> Result<(CanonicalResponse, Option<TraitGoalProvenVia>), NoSolutionOrStop>
     requires goal { IsGoal trait_rules arguments_held types_held trait_goal (E.context ecx.old) env predicate }
     requires stands { GoalStands trait_rules (E.state ecx.old) (trait_goal (E.context ecx.old).trees env predicate) }
-    ensures { Computes E.fixed E.judge E.state E.probes E.context E.stops ecx.old ecx.new (trait_goal (E.context ecx.old).trees env predicate) result }
+    ensures computes { Computes E.fixed E.judge E.state E.probes E.context E.stops ecx.old ecx.new (trait_goal (E.context ecx.old).trees env predicate) result }
+    ensures proved { YesIsProved (E.judge (E.fixed ecx.old)) (E.context ecx.old) (E.state ecx.old) (trait_goal (E.context ecx.old).trees env predicate) (E.context ecx.new).trees result }
 {
     let from = AssembleCandidatesFrom::All;
     let (candidates, failed) = assemble_and_evaluate_candidates(alloc, ecx, env, predicate, from)?;
