@@ -1,5 +1,7 @@
 -- What candidates come to for a goal that isn't of a trait, exit by exit.
 use Rattle.std.proofs.Common.{◌≡◌, ◌≢◌, Bool, true, false, Option, Some, None, List, [], ◌∷◌, Result, Ok, Err, IfOk, IfErr, refl, sym, ◌∙◌, ap, subst}
+use Rattle.std.specs.Fn.{Once}
+use Rattle.std.specs.Borrow.{MutBor}
 use Rattle.candidate_ir.specs.Context.{Context}
 use Rattle.candidate_ir.specs.Trees.{Tree}
 use Rattle.candidate_ir.specs.declared.ir.stop.Stop.{Stop}
@@ -19,8 +21,14 @@ use Rattle.candidate_eval.specs.ResponseTrees.{IsResponse, candidates_of, respon
 use Rattle.candidate_eval.specs.Responses.{Candidate, Response}
 use Rattle.candidate_eval.specs.States.{Judge, State, with_pending}
 use Rattle.candidate_eval.proofs.Accounts.{by-stop}
+use Rattle.candidate_eval.proofs.Probing.{then}
+use Rattle.candidate_assembly.specs.declared.assembly.opaques.AssembleCandidatesFrom.{AssembleCandidatesFrom}
 use Rattle.candidate_assembly.specs.Assembled.{has_where_bound, is_of_environment}
-use Rattle.candidate_assembly.specs.MergedKinds.{Answers, come_to, floundered, only_where_bounds, or_floundered}
+use Rattle.candidate_assembly.specs.AssembledCalls.{Assembles}
+use Rattle.candidate_assembly.specs.KindBounds.{KindBounds}
+use Rattle.candidate_assembly.specs.Kinds.{KindRules}
+use Rattle.candidate_assembly.specs.MergedKinds.{AfterList, Answers, KeepsAll, come_to, floundered, only_where_bounds, or_floundered}
+use Rattle.candidate_assembly.specs.MergedKinds.AfterList.{unassembled}
 use Rattle.candidate_assembly.proofs.Preferring.{of-source, read-by}
 use Rattle.candidate_assembly.proofs.Specializing.{chosen}
 
@@ -46,7 +54,19 @@ some-there ts (x ∷ xs) some = λ e. absurd cc
 pub keeps-same : {E X : Type 0} (fixed : E → X) (probes : E → List State) (context : E → Context) (e : E) → Keeps fixed probes context e e
 keeps-same fixed probes context e = record { fixed_same = refl; probes_same = refl; grows = grows-refl (context e) }
 
+-- A closure that may be called wherever what the first evaluator has is kept may be called wherever what a later one has is.
+pub keeps-all-later : {E X F R : Type 0} {fixed : E → X} {probes : E → List State} {context : E → Context} {g : Once F (MutBor E × Unit {0}) (R × (MutBor E × Unit {0}))} {f : F} {first later : E}
+    → Keeps fixed probes context first later → KeepsAll fixed probes context g f first → KeepsAll fixed probes context g f later
+keeps-all-later k h = record { may = λ x l. h.may x (then k l); keeps = λ x r y l. h.keeps x r y (then k l) }
+
 module _ {E X : Type 0} {fixed : E → X} {judge : X → Judge} {state : E → State} {probes : E → List State} {context : E → Context} {stops : Account E} where
+  -- The list stopped.
+  pub list-stopped : {A G : Type 0} {K : KindRules G} {L : KindBounds G} {items : A → List OfNumbers} (old new : E) (g : G) (from : AssembleCandidatesFrom)
+      (R : E → List Candidate → Result CanonicalResponse NoSolutionOrStop → E → Type 0) (s : Stop) (r : Result CanonicalResponse NoSolutionOrStop) → r ≡ Err (N.Stop s)
+      → Assembles {A = A} fixed judge state probes context stops K L old new g from items (Err s) → AfterList fixed judge state probes context stops K L old g from R r new
+  list-stopped {K = K} {L = L} old new g from R s r is h = subst (λ (x : Result CanonicalResponse NoSolutionOrStop). AfterList fixed judge state probes context stops K L old g from R x new) (sym is)
+      (unassembled (record { kept = h.kept; told = record { ok = tt; fits = tt; stopped = h.told.stopped }; stopped = h.stopped; cause = h.cause }))
+
   -- a growth was refused
   pub not-answered : ((f : X) → JudgesAlike (judge f)) → (e : E) (answer : Option Response) (r : Result CanonicalResponse NoSolutionOrStop) (s : Stop) → r ≡ Err (N.Stop s) → s ≡ Memory
       → Answers fixed judge state probes context stops e e answer r

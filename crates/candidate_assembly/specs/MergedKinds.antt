@@ -51,11 +51,6 @@ abbrev pub response_in : Result OfNumbers NoSolutionOrStop → Result CanonicalR
 response_in (Ok c) = Ok c.result
 response_in (Err e) = Err e
 
--- What candidates are assembled from, by how the goal of the trait was proved.
-abbrev pub assembled_from : TraitGoalProvenVia → AssembleCandidatesFrom
-assembled_from Via.Misc = All
-assembled_from v = EnvAndBounds
-
 -- A call answers that response, or refuses where there is none. It keeps what calls keep, leaves a state alike the one before, and accounts
 -- for its stops.
 pub record Answers {E X : Type 0} (fixed : E → X) (judge : X → Judge) (state : E → State) (probes : E → List State) (context : E → Context) (stops : Account E)
@@ -79,6 +74,23 @@ pub record KeepsAll {E X F R : Type 0} (fixed : E → X) (probes : E → List St
   pub may : (x : E) → Keeps fixed probes context first x → FnOnceTakesAtMut g f x
   pub keeps : (x : E) (r : R) (y : E) → Keeps fixed probes context first x → FnOnceReturnsAtMut g f x r y → Keeps fixed probes context x y
 
+-- What all candidates come to: clauses of the environment win over others, and impls over those that they specialise.
+abbrev pub AfterAll : {E X : Type 0} → (E → X) → (X → Judge) → (E → State) → (E → List State) → (E → Context) → Account E
+    → E → List Candidate → Result CanonicalResponse NoSolutionOrStop → E → Type 0
+AfterAll fixed judge state probes context stops first xs r y =
+    Answers fixed judge state probes context stops first y (come_to (judge (fixed first)) (state first) (unspecialized (context first) (state first).mode Allow.Yes (only_where_bounds xs))) r
+
+-- The answer after a list of candidates: R says what these come to, at the evaluator that is there then. Where the list stops, the answer
+-- is its stop.
+pub data AfterList {E X G : Type 0} (fixed : E → X) (judge : X → Judge) (state : E → State) (probes : E → List State) (context : E → Context) (stops : Account E)
+    (K : KindRules G) (L : KindBounds G) (old : E) (goal : G) (from : AssembleCandidatesFrom) (R : E → List Candidate → Result CanonicalResponse NoSolutionOrStop → E → Type 0)
+    : Result CanonicalResponse NoSolutionOrStop → E → Type 0 where
+  unassembled : {s : Stop} {y : E} → Assembles fixed judge state probes context stops K L old y goal from (λ (xs : List OfNumbers). xs) (Err s)
+      → AfterList fixed judge state probes context stops K L old goal from R (Err (N.Stop s)) y
+  assembled : {xs : List Candidate} {x : E} {r : Result CanonicalResponse NoSolutionOrStop} {y : E} → Keeps fixed probes context old x
+      → IsAssembledAt K L (context old) (judge (fixed old)) (state old) goal from (state x) (Lists xs) → R x xs r y
+      → AfterList fixed judge state probes context stops K L old goal from R r y
+
 module _ {E X A B : Type 0} (fixed : E → X) (judge : X → Judge) (state : E → State) (probes : E → List State) (context : E → Context) (stops : Account E)
     (g : Once A (MutBor E × Unit {0}) (Option (Result CanonicalResponse NoSolutionOrStop) × (MutBor E × Unit {0}))) (ambiguity : A)
     (h : Once B (MutBor E × Unit {0}) (Result CanonicalResponse NoSolutionOrStop × (MutBor E × Unit {0}))) (rigid : B) where
@@ -92,15 +104,9 @@ module _ {E X A B : Type 0} (fixed : E → X) (judge : X → Judge) (state : E �
 
   module _ {G : Type 0} (K : KindRules G) (L : KindBounds G) where
     -- The answer to a goal, by how the goal of its trait was proved. Where that isn't known the goal is ambiguous. Where it was proved by
-    -- clauses of the environment or by bounds, no impls are looked for. Else all candidates are; clauses of the environment win over others, and
-    -- impls over those that they specialise.
-    pub data IsAnsweredBy (old : E) (goal : G) : Option TraitGoalProvenVia → Result CanonicalResponse NoSolutionOrStop → E → Type 0 where
-      unproved : {r : Result CanonicalResponse NoSolutionOrStop} {y : E} → IsUnproved fixed judge state probes context stops old y (K.env_of goal) r → IsAnsweredBy old goal None r y
-      unassembled : {v : TraitGoalProvenVia} {s : Stop} {y : E} → Assembles fixed judge state probes context stops K L old y goal (assembled_from v) (λ (xs : List OfNumbers). xs) (Err s)
-          → IsAnsweredBy old goal (Some v) (Err (N.Stop s)) y
-      by_assumptions : {v : TraitGoalProvenVia} {xs : List Candidate} {x : E} {r : Result CanonicalResponse NoSolutionOrStop} {y : E} → assembled_from v ≡ EnvAndBounds → Keeps fixed probes context old x
-          → IsAssembledAt K L (context old) (judge (fixed old)) (state old) goal EnvAndBounds (state x) (Lists xs) → AfterAssumptions x xs r y → IsAnsweredBy old goal (Some v) r y
-      by_all : {xs : List Candidate} {x : E} {r : Result CanonicalResponse NoSolutionOrStop} {y : E} → Keeps fixed probes context old x
-          → IsAssembledAt K L (context old) (judge (fixed old)) (state old) goal All (state x) (Lists xs)
-          → Answers fixed judge state probes context stops x y (come_to (judge (fixed x)) (state x) (unspecialized (context x) (state x).mode Allow.Yes (only_where_bounds xs))) r
-          → IsAnsweredBy old goal (Some Via.Misc) r y
+    -- clauses of the environment or by bounds, no impls are looked for. Else all candidates are.
+    abbrev pub IsAnsweredBy : E → G → Option TraitGoalProvenVia → Result CanonicalResponse NoSolutionOrStop → E → Type 0
+    IsAnsweredBy old goal None r y = IsUnproved fixed judge state probes context stops old y (K.env_of goal) r
+    IsAnsweredBy old goal (Some Via.Misc) r y = AfterList fixed judge state probes context stops K L old goal All (AfterAll fixed judge state probes context stops) r y
+    IsAnsweredBy old goal (Some Via.ParamEnv) r y = AfterList fixed judge state probes context stops K L old goal EnvAndBounds AfterAssumptions r y
+    IsAnsweredBy old goal (Some Via.AliasBound) r y = AfterList fixed judge state probes context stops K L old goal EnvAndBounds AfterAssumptions r y

@@ -7,7 +7,7 @@ ghost use Rattle.candidate_eval.specs.Evaluators.{Keeps};
 ghost use Rattle.candidate_eval.specs.ResponseTrees.{AreCandidates, candidates_of};
 ghost use Rattle.candidate_assembly.specs.Kinds.{IsGoal};
 ghost use Rattle.candidate_assembly.specs.Standing.{GoalStands};
-ghost use Rattle.candidate_assembly.specs.MergedKinds.{AfterAssumptions, Answers, IsAnsweredBy, IsUnproved, KeepsAll, come_to, only_where_bounds};
+ghost use Rattle.candidate_assembly.specs.MergedKinds.{AfterAll, AfterAssumptions, AfterList, Answers, IsAnsweredBy, IsUnproved, KeepsAll, come_to, only_where_bounds};
 ghost use Rattle.candidate_assembly.specs.Specialization.{unspecialized};
 
 use crate::assembly::assemble::has_where_bound;
@@ -113,6 +113,58 @@ fn respond_by_all<E: EvalCtxt>(
     merge_or_flounder(ecx, candidates.as_slice())
 }
 
+/// What all candidates for a goal come to.
+///
+/// Refusals and stops are those of `assemble_and_evaluate_candidates` and of `respond_by_all`.
+fn answer_by_all<E: EvalCtxt, G: GoalKind<E>>(
+    alloc: Global,
+    ecx: &mut E,
+    env: ParamEnv,
+    predicate: G,
+) -> Result<CanonicalResponse, NoSolutionOrStop>
+    requires goal { IsGoal G.rules G.arguments G.types G.seen (E.context ecx.old) env predicate }
+    requires stands { GoalStands G.rules (E.state ecx.old) (G.seen (E.context ecx.old).trees env predicate) }
+    ensures kept { Keeps E.fixed E.probes E.context ecx.old ecx.new }
+    ensures answered { AfterList E.fixed E.judge E.state E.probes E.context E.stops G.rules G.bounds ecx.old (G.seen (E.context ecx.old).trees env predicate) AssembleCandidatesFrom.All (AfterAll E.fixed E.judge E.state E.probes E.context E.stops) result ecx.new }
+{
+    let from = AssembleCandidatesFrom::All;
+    let (candidates, _failed) = assemble_and_evaluate_candidates(alloc, ecx, env, predicate, from)?;
+    respond_by_all(ecx, candidates)
+}
+
+/// What the candidates for a goal come to that clauses of the environment and bounds give, with the two closures.
+///
+/// Refusals and stops are those of `assemble_and_evaluate_candidates` and of `respond_by_assumptions`.
+fn answer_by_assumptions<
+    E: EvalCtxt,
+    G: GoalKind<E>,
+    A: FnOnce(&mut E) -> Option<Result<CanonicalResponse, NoSolutionOrStop>>,
+    F: FnOnce(&mut E) -> Result<CanonicalResponse, NoSolutionOrStop>,
+>(
+    alloc: Global,
+    ecx: &mut E,
+    env: ParamEnv,
+    predicate: G,
+    inject_forced_ambiguity_candidate: A,
+    inject_normalize_to_rigid_candidate: F,
+) -> Result<CanonicalResponse, NoSolutionOrStop>
+    requires goal { IsGoal G.rules G.arguments G.types G.seen (E.context ecx.old) env predicate }
+    requires stands { GoalStands G.rules (E.state ecx.old) (G.seen (E.context ecx.old).trees env predicate) }
+    requires ambiguity { KeepsAll E.fixed E.probes E.context A.FnOnce inject_forced_ambiguity_candidate ecx.old }
+    requires rigid { KeepsAll E.fixed E.probes E.context F.FnOnce inject_normalize_to_rigid_candidate ecx.old }
+    ensures kept { Keeps E.fixed E.probes E.context ecx.old ecx.new }
+    ensures answered { AfterList E.fixed E.judge E.state E.probes E.context E.stops G.rules G.bounds ecx.old (G.seen (E.context ecx.old).trees env predicate) AssembleCandidatesFrom.EnvAndBounds (AfterAssumptions E.fixed E.judge E.state E.probes E.context E.stops A.FnOnce inject_forced_ambiguity_candidate F.FnOnce inject_normalize_to_rigid_candidate) result ecx.new }
+{
+    let from = AssembleCandidatesFrom::EnvAndBounds;
+    let (candidates, _failed) = assemble_and_evaluate_candidates(alloc, ecx, env, predicate, from)?;
+    respond_by_assumptions(
+        ecx,
+        candidates,
+        inject_forced_ambiguity_candidate,
+        inject_normalize_to_rigid_candidate,
+    )
+}
+
 /// The answer to a goal, by how the goal of its trait was proved: where that isn't known the goal is ambiguous; where it was by clauses of
 /// the environment or by bounds, what these come to with the two closures; else what all candidates come to.
 ///
@@ -140,17 +192,13 @@ pub fn assemble_and_merge_candidates<
 {
     match proven_via {
         None => respond_unproved(alloc, ecx, env),
-        Some(TraitGoalProvenVia::Misc) => {
-            let from = AssembleCandidatesFrom::All;
-            let (candidates, _failed) = assemble_and_evaluate_candidates(alloc, ecx, env, predicate, from)?;
-            respond_by_all(ecx, candidates)
-        }
-        Some(_) => {
-            let from = AssembleCandidatesFrom::EnvAndBounds;
-            let (candidates, _failed) = assemble_and_evaluate_candidates(alloc, ecx, env, predicate, from)?;
-            respond_by_assumptions(
+        Some(TraitGoalProvenVia::Misc) => answer_by_all(alloc, ecx, env, predicate),
+        Some(TraitGoalProvenVia::ParamEnv | TraitGoalProvenVia::AliasBound) => {
+            answer_by_assumptions(
+                alloc,
                 ecx,
-                candidates,
+                env,
+                predicate,
                 inject_forced_ambiguity_candidate,
                 inject_normalize_to_rigid_candidate,
             )

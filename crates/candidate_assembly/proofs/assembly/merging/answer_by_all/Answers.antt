@@ -1,0 +1,31 @@
+use Rattle.std.proofs.lemmas.Result.{err_from_is_err_and}
+use Rattle.candidate_eval.specs.ResponseTrees.{candidates_of}
+use Rattle.candidate_eval.proofs.Probing.{then}
+use Rattle.candidate_assembly.specs.declared.assembly.opaques.AssembleCandidatesFrom.TheVariants.{All}
+use Rattle.candidate_assembly.specs.MergedKinds.{AfterAll}
+use Rattle.candidate_assembly.specs.MergedKinds.AfterList.{assembled}
+use Rattle.candidate_assembly.proofs.Causes.{answered-stop}
+use Rattle.candidate_assembly.proofs.MergedKinds.{list-stopped}
+use Rattle.candidate_assembly.proofs.assembly.merging.answer_by_all.Goals as goal
+
+pub returns-in_err-candidates-clause-kept : goal.returns-in_err-candidates-clause-kept
+returns-in_err-candidates-clause-kept g c = c.in_err-candidates.ensures.assembled.kept
+
+pub returns-in_err-candidates-clause-answered : goal.returns-in_err-candidates-clause-answered
+returns-in_err-candidates-clause-answered g c =
+    let E = g.E.EvalCtxt in
+    list-stopped c.args.ecx.now c.assemble_and_evaluate_candidates.new.ecx (g.G.GoalKind.seen (g.E.Build.context c.args.ecx.now).trees c.args.env c.args.predicate) All
+    (AfterAll E.fixed E.judge E.state E.probes g.E.Build.context E.stops) c.in_err-candidates.field-0.0 c.from_residual.result
+    (answered-stop c.from_residual.result c.in_err-candidates.field-0.0 (err_from_is_err_and c.from_residual.result c.from_residual.ensures.1)) c.in_err-candidates.ensures.assembled
+
+pub respond_by_all-requires : goal.respond_by_all-requires
+respond_by_all-requires g c = c.in_ok-candidates.ensures.assembled.told.fits
+
+pub returns-clause-kept : goal.returns-clause-kept
+returns-clause-kept g c = then c.in_ok-candidates.ensures.assembled.kept c.respond_by_all.ensures.kept
+
+pub returns-clause-answered : goal.returns-clause-answered
+returns-clause-answered g c =
+    let list = c.in_ok-candidates.ensures.assembled in
+    let mid = c.assemble_and_evaluate_candidates.new.ecx in
+    assembled {xs = candidates_of (g.E.Build.context mid).trees c.in_ok-candidates.candidates.items} {x = mid} list.kept list.told.ok c.respond_by_all.ensures
