@@ -14,7 +14,8 @@ use Rattle.candidate_assembly.specs.declared.trait_goals.preference.CandidatePre
 use Rattle.candidate_assembly.specs.declared.trait_goals.preference.TraitGoalProvenVia.TheVariants as Via
 use Rattle.candidate_assembly.specs.Assembled.{HasOneTrivial, is_of_environment, is_trivial}
 use Rattle.candidate_assembly.specs.Listing.{Lists}
-use Rattle.candidate_assembly.specs.Preference.{EnvironmentWins, TrivialWins, answer_by, assumed, by, class_of, has, is_marker, is_non_global, is_self_bound}
+use Rattle.candidate_assembly.specs.Preference.{EnvironmentWins, TrivialWins, answer_by, assumed, by, class_of, has, is_marker}
+use Rattle.candidate_assembly.specs.Sources.{is_non_global, is_self_bound}
 use Rattle.candidate_assembly.proofs.Preferring.{by-assumed}
 use Rattle.candidate_assembly.proofs.Specializing.{chosen, left-over}
 

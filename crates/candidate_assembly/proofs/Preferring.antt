@@ -14,7 +14,8 @@ use Rattle.candidate_assembly.specs.declared.assembly.specialization.AllowInfere
 use Rattle.candidate_assembly.specs.declared.trait_goals.preference.CandidatePreferenceMode.{CandidatePreferenceMode}
 use Rattle.candidate_assembly.specs.declared.trait_goals.preference.TraitGoalProvenVia.TheVariants as Via
 use Rattle.candidate_assembly.specs.Assembled.{is_coherence, is_of_environment, is_trivial}
-use Rattle.candidate_assembly.specs.Preference.{Class, assumed, by, class_of, has, has_only, is_alias_bound, is_global, is_impl, is_marker, is_non_global, is_self_bound, least_global, object_wins, or_class, prefer_objects, preferred}
+use Rattle.candidate_assembly.specs.Preference.{Class, assumed, by, class_of, has, has_only, is_marker, least_global, object_wins, or_class, prefer_objects, preferred}
+use Rattle.candidate_assembly.specs.Sources.{is_alias_bound, is_global, is_impl, is_non_global, is_self_bound}
 use Rattle.candidate_assembly.specs.Specialization.{unspecialized}
 use Rattle.candidate_assembly.proofs.Specializing.{chosen, left-over}
 

@@ -9,23 +9,33 @@ use Rattle.candidate_ir.specs.declared.decl.contents.ImplId.{ImplId}
 use Rattle.candidate_ir.specs.declared.ir.heads.Head.{Head}
 use Rattle.candidate_ir.specs.Context.{Context}
 use Rattle.candidate_ir.specs.Impls.{blanket_impls, relevant_impls}
-use Rattle.candidate_ir.specs.Trees.{Forest, Kind, TypeKind, ConstantKind, RegionKind, none, tree, Tree, kind_of}
+use Rattle.candidate_ir.specs.Opening.{opened}
+use Rattle.candidate_ir.specs.Substitutions.{alone as just}
+use Rattle.candidate_ir.specs.Supers.{after_first}
+use Rattle.candidate_ir.specs.declared.ir.stop.Stop.TheVariants.{ConstDepth}
+use Rattle.candidate_ir.specs.Trees.{Forest, Kind, TypeKind, ConstantKind, RegionKind, none, tree, Tree, holds, kind_of}
 use Rattle.candidate_ir.specs.Worlds.{Reference}
 use Rattle.candidate_eval.specs.declared.eval.certainty.Certainty.{Certainty}
 use Rattle.candidate_eval.specs.declared.eval.certainty.Certainty.TheVariants.{Yes, Maybe}
 use Rattle.candidate_eval.specs.declared.eval.certainty.MaybeCause.TheVariants.{Ambiguity}
 use Rattle.candidate_eval.specs.declared.eval.certainty.OpaqueTypesJank.TheVariants.{ErrorIfRigidSelfTy}
+use Rattle.candidate_eval.specs.declared.eval.refusal.NoSolutionOrStop.{NoSolutionOrStop}
+use Rattle.candidate_eval.specs.declared.eval.response.CanonicalResponse.{CanonicalResponse}
 use Rattle.candidate_eval.specs.declared.eval.source.CandidateSource.{CandidateSource}
+use Rattle.candidate_eval.specs.declared.eval.source.CandidateSource.TheVariants as Source
+use Rattle.candidate_eval.specs.declared.eval.source.ParamEnvSource.TheVariants.{Global, NonGlobal}
+use Rattle.candidate_eval.specs.Accounts.{Account}
 use Rattle.candidate_eval.specs.Certainties.{AMBIGUOUS, certainty_and}
-use Rattle.candidate_eval.specs.Characterization.{Group, Loose, Bounded, Walk, Goes, Finds, Refuses, and_then, characterization, each, each_group, group_at, in_normal_form, looked, most_visits, visited, visited_as}
+use Rattle.candidate_eval.specs.Characterization.{Group, Loose, Bounded, Walk, Goes, Finds, Refuses, and_then, characterization, each, each_group, group_at, groups, in_normal_form, is_any_bound, is_any_variable, is_of_interest, is_placeholder, is_root_placeholder, looked, most_visits, too_deep, visited, visited_as}
 use Rattle.candidate_eval.specs.Characterization as Walks
 use Rattle.candidate_eval.specs.ImplRules.{TraitGoal}
 use Rattle.candidate_eval.specs.Judging.{Judged, Gives, Refused, Stopped, Place, Reached, At, Ambiguous, Over, answered, asked, by_finding, concluded, continued, judged, run, source_of, start}
 use Rattle.candidate_eval.specs.Lawful.{Lawful}
 use Rattle.candidate_eval.specs.Required.{each_of}
+use Rattle.candidate_eval.specs.ResponseTrees.{response_of}
 use Rattle.candidate_eval.specs.Responses.{Candidate, Response}
 use Rattle.candidate_eval.specs.Rules.{Ending, Rule, ask, characterise, unknowable}
-use Rattle.candidate_eval.specs.States.{Env, Judge, State}
+use Rattle.candidate_eval.specs.States.{Env, Judge, State, resolved_tree}
 use Rattle.candidate_assembly.specs.declared.assembly.opaques.AssembleCandidatesFrom.{AssembleCandidatesFrom}
 use Rattle.candidate_assembly.specs.declared.assembly.opaques.AssembleCandidatesFrom.TheVariants.{All as FromAll, EnvAndBounds}
 use Rattle.candidate_assembly.specs.declared.trait_goals.preference.TraitGoalProvenVia.{TraitGoalProvenVia}
@@ -39,11 +49,12 @@ use Rattle.candidate_assembly.specs.Listing as Listing
 use Rattle.candidate_assembly.specs.ObjectBounds.{ObjectJudged, ObjectList, ObjectsAnswer, OwnClause, answer, has_own_clauses, nested_goals, none_left, nothing, one, own_clauses, rejected, required, stopped as object_stopped, unknown, unmatched}
 use Rattle.candidate_assembly.specs.OneTrivial.{EndsWithout, GivesNone, run_ends}
 use Rattle.candidate_assembly.specs.Opaques.{ambiguous_rule, bounds_said, by_opaques, hidden_behind, open_impl_rules, open_rule_of, open_rules, opaque_rules, or_rigid, proper_impls, variable_answers}
-use Rattle.candidate_assembly.specs.SureAnswers.{AnswersGranted, IsOnChain, IsProved, IsProvedBy, IsRuleOf, RuleGrants, by_bound, by_clause, by_impl, by_language, by_object, by_rule, by_unsizing, first, further}
+use Rattle.candidate_assembly.specs.SureAnswers.{AnswersGranted, IsOnChain, IsProved, IsProvedBy, IsRuleOf, RuleGrants, YesIsProved, by_bound, by_clause, by_impl, by_language, by_object, by_rule, by_unsizing, first, further}
 use Rattle.candidate_assembly.specs.Telling.{asking_rule}
-use Rattle.candidate_assembly.specs.TraitAnswers.{Answered, IsOfOne, IsTraitAnswer, ListsOne}
+use Rattle.candidate_assembly.specs.TraitAnswers.{Answered, Computes, IsOfOne, IsTraitAnswer, ListsOne}
 use Rattle.candidate_assembly.specs.TraitRules.{trait_bounds, trait_rules}
 use Rattle.candidate_assembly.specs.Unknowable.{UnknowableJudged, known, unknown as may_be_written, unknowable_rule}
+use Rattle.candidate_assembly.proofs.Causes.{so-ok}
 use Rattle.candidate_assembly.proofs.Winners.{yes_by_one}
 
 -- A walk over a clause leaves what is pending.
@@ -94,7 +105,16 @@ if-leaves S false v w h k = k
 
 looked-leaves : (deeper : State → Tree → Walk) → VisitLeaves deeper → (b : Bool) → VisitLeaves (looked deeper b)
 looked-leaves deeper h b S t =
-    if-leaves S _ _ _ refl (if-leaves S _ _ _ refl (if-leaves S _ _ _ refl (if-leaves S _ _ _ refl (if-leaves S _ _ _ refl (groups-leave deeper h S _)))))
+    let below = each_group deeper S (groups t.head t.children) in
+    let deep = if b then Finds S too_deep else below in
+    let plain = if not (holds is_of_interest (just t)) then Goes S else deep in
+    let open_one = if is_any_variable t.head then Finds S AMBIGUOUS else plain in
+    let rigid = if is_placeholder t.head then Goes S else open_one in
+    if-leaves S (is_root_placeholder t.head) (Finds S Yes) rigid refl
+    (if-leaves S (is_placeholder t.head) (Goes S) open_one refl
+    (if-leaves S (is_any_variable t.head) (Finds S AMBIGUOUS) plain refl
+    (if-leaves S (not (holds is_of_interest (just t))) (Goes S) deep refl
+    (if-leaves S b (Finds S too_deep) below refl (groups-leave deeper h S (groups t.head t.children))))))
 
 module _ (J : Judge) (law : Lawful J) (e : Env) where
   normal-leaves : (S : State) (t : Tree) (k : State → Tree → Walk) → VisitLeaves k → Leaves S (in_normal_form (J.normalized S e t) k)
@@ -104,18 +124,27 @@ module _ (J : Judge) (law : Lawful J) (e : Env) where
       at None is = tt
       at (Some n) is = leaves-from S n.1 (k n.1 n.0) (law.normal_forms.normalizing_keeps_pending S n.1 e t n.0 is) (h n.1 n.0)
 
+  -- a part by its kind, where deeper visits leave what is pending
+  part-leaves : (n level depth : ℕ) → ((l d : ℕ) → VisitLeaves (visited J e n l d)) → (S : State) (t : Tree) (k : Kind) → Leaves S (visited_as J e (visited J e n) level depth S t k)
+  part-leaves n level depth h S t TypeKind =
+      normal-leaves S t (looked (visited J e n (suc level) depth) (nat_lt J.limits.recursion level)) (looked-leaves (visited J e n (suc level) depth) (h (suc level) depth) (nat_lt J.limits.recursion level))
+  part-leaves n level depth h S t ConstantKind =
+      if-leaves S (nat_lt depth J.limits.nested_constants) (in_normal_form (J.normalized S e t) (looked (visited J e n level (suc depth)) false)) (Walks.Stops ConstDepth)
+      (normal-leaves S t (looked (visited J e n level (suc depth)) false) (looked-leaves (visited J e n level (suc depth)) (h level (suc depth)) false)) tt
+  part-leaves n level depth h S t RegionKind =
+      let head = (resolved_tree S t).head in
+      if-leaves S (is_root_placeholder head || is_any_variable head) (Finds S Yes) (Goes S) refl refl
+  part-leaves n level depth h S t _ = refl
+
   visited-leaves : (n level depth : ℕ) → VisitLeaves (visited J e n level depth)
   visited-leaves zero level depth S t = tt
-  visited-leaves (suc n) level depth S t = at (kind_of t.head)
-    where
-      at : (k : Kind) → Leaves S (visited_as J e (visited J e n) level depth S t k)
-      at TypeKind = normal-leaves S t _ (looked-leaves (visited J e n (suc level) depth) (visited-leaves n (suc level) depth) (nat_lt J.limits.recursion level))
-      at ConstantKind = if-leaves S _ _ _ (normal-leaves S t _ (looked-leaves (visited J e n level (suc depth)) (visited-leaves n level (suc depth)) false)) tt
-      at RegionKind = if-leaves S _ _ _ refl refl
-      at _ = refl
+  visited-leaves (suc n) level depth S t = part-leaves n level depth (λ l d. visited-leaves n l d) S t (kind_of t.head)
 
   characterized-leaves : (S : State) (c : Tree) → Leaves S (characterization J e S c)
-  characterized-leaves S c = if-leaves S _ _ _ refl (each-leaves (visited J e (most_visits J) 1 0) (visited-leaves (most_visits J) 1 0) S _)
+  characterized-leaves S c =
+      let parts = opened none (after_first c.children) in
+      if-leaves S (holds is_any_bound c.children) (Finds S Yes) (each (visited J e (most_visits J) 1 0) S parts) refl
+      (each-leaves (visited J e (most_visits J) 1 0) (visited-leaves (most_visits J) 1 0) S parts)
 
 -- Of a rule.
 
@@ -148,12 +177,12 @@ module _ (J : Judge) (law : Lawful J) where
   AskedAfter S x = (last : State) × (last.pending ≡ S.pending) × AnswersGranted J last x.result
 
   concluded-sure : (e : Env) (end : Ending) (S : State) (x : Candidate) → concluded J e end S ≡ Gives x → x.result.certainty ≡ Yes → AskedAfter S x
-  concluded-sure e (ask s c) S x given sure = (S, (refl, granted-at S s c x given sure))
+  concluded-sure e (ask s c) S x given sure = (S, refl, granted-at S s c x given sure)
   concluded-sure e (characterise c) S x given sure = at (characterization J e S c) (characterized-leaves J law e S c) given
     where
       at : (w : Walk) → Leaves S w → by_finding J w ≡ Gives x → AskedAfter S x
-      at (Goes T) kept g = (T, (kept, granted-at T _ Yes x g sure))
-      at (Finds T d) kept g = (T, (kept, granted-at T _ d x g sure))
+      at (Goes T) kept g = (T, kept, granted-at T (Source.ParamEnv Global) Yes x g sure)
+      at (Finds T d) kept g = (T, kept, granted-at T (Source.ParamEnv NonGlobal) d x g sure)
       at Refuses kept g = absurd cc
       at (Walks.Stops s) kept g = absurd cc
 
@@ -176,7 +205,7 @@ module _ (J : Judge) (law : Lawful J) where
       steps : (o : Reached) → run J r.env (start S) r.steps ≡ o → EndsWithout o → r.applies ≡ true → continued J r.ending o (λ q. concluded J r.env r.ending q.state) ≡ Gives x → RuleGrants J S r x
       steps (At p) is ends applies g =
           let a = concluded-sure r.env r.ending p.state x g sure in
-          record { applies = applies; gives = given; place = p; reached = is; last = a.0; pending = a.1.0; granted = a.1.1 }
+          record { applies = applies; gives = given; place = p; reached = is; last = a.0; pending = a.1; granted = a.2 }
       steps (Ambiguous T) is ends applies g = absurd (never-ambiguous T (source_of r.ending) x g sure)
       steps (Over j) is ends applies g = absurd (subst GivesNone g ends)
 
@@ -292,7 +321,7 @@ module _ {G : Type 0} (K : KindRules G) (B : KindBounds G) (J : Judge) (law : La
   aliases-prove n b T t l on (too_long e) = tt
   aliases-prove n b T t l on (stopped e s) = tt
   aliases-prove n b T t l on (opaque e) = link-proves b T t on (opaque-has t.head e)
-  aliases-prove n b T t l on (refused U e a none) = link-proves b T t on (projection-has t.head e)
+  aliases-prove n b T t l on (refused U e a no-form) = link-proves b T t on (projection-has t.head e)
   aliases-prove (suc n) b T t l on (projection {U = V} {u = u} {rest = rest} U e a is more) =
       each-together Proved (answers_at J (link_rules K B.additional c g (link b T t))) rest (link-proves b T t on (projection-has t.head e))
       (aliases-prove n NonSelfBounds V u rest (further b T U t on e a is) more)
@@ -465,8 +494,15 @@ yes-is-proved J law c S g U r v a sure =
     of-list a.listed (yes_by_one J law c S g U r v a sure) (list-proves trait_rules trait_bounds J law c S a.list.left g FromAll a.listed a.list.assembled)
   where
     of-list : (l : Listed) → ListsOne l r → EachListed (λ x. x.result.certainty ≡ Yes → IsProved trait_rules trait_bounds J c S g x.result) l → IsProved trait_rules trait_bounds J c S g r
-    of-list (Listing.Stops s) one h = absurd one
-    of-list (Lists xs) one h =
-        subst (IsProved trait_rules trait_bounds J c S g) one.response
-        (All-contains (λ (x : Candidate). x.result.certainty ≡ Yes → IsProved trait_rules trait_bounds J c S g x.result) xs one.candidate h one.listed
-        (ap (λ (q : Response). q.certainty) one.response ∙ sure))
+    of-list (Listing.Stops s) found h = absurd found
+    of-list (Lists xs) found h =
+        subst (IsProved trait_rules trait_bounds J c S g) found.response
+        (All-contains (λ (x : Candidate). x.result.certainty ≡ Yes → IsProved trait_rules trait_bounds J c S g x.result) xs found.candidate h found.listed
+        (ap (λ (q : Response). q.certainty) found.response ∙ sure))
+
+-- What the call answers says so.
+module _ {E X : Type 0} {fixed : E → X} {judge : X → Judge} {state : E → State} {probes : E → List State} {context : E → Context} {stops : Account E} where
+  pub computes-proved : ((f : X) → Lawful (judge f)) → (old new : E) (g : TraitGoal) (r : Result (CanonicalResponse × Option TraitGoalProvenVia) NoSolutionOrStop)
+      → Computes fixed judge state probes context stops old new g r → YesIsProved (judge (fixed old)) (context old) (state old) g (context new).trees r
+  computes-proved law old new g r h =
+      so-ok r (λ a t sure. yes-is-proved (judge (fixed old)) (law (fixed old)) (context old) (state old) g (state new) (response_of (context new).trees a.0) a.1 t sure) h.ok

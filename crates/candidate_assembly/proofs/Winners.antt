@@ -25,7 +25,8 @@ use Rattle.candidate_assembly.specs.declared.trait_goals.preference.TraitGoalPro
 use Rattle.candidate_assembly.specs.declared.trait_goals.preference.TraitGoalProvenVia.TheVariants as Via
 use Rattle.candidate_assembly.specs.Assembled.{is_coherence, is_of_environment, is_trivial}
 use Rattle.candidate_assembly.specs.Listing.{Listed, Lists, Stops}
-use Rattle.candidate_assembly.specs.Preference.{Class, Proved, answer_by, assumed, by, class_of, has, has_only, is_alias_bound, is_global, is_impl, is_marker, is_non_global, is_self_bound, least_global, mode_of, not_by, object_wins, or_class, prefer_objects, preferred, proved, unmerged}
+use Rattle.candidate_assembly.specs.Preference.{Class, Proved, answer_by, assumed, by, class_of, has, has_only, is_marker, least_global, mode_of, not_by, object_wins, or_class, prefer_objects, preferred, proved, unmerged}
+use Rattle.candidate_assembly.specs.Sources.{is_alias_bound, is_global, is_impl, is_non_global, is_self_bound}
 use Rattle.candidate_assembly.specs.Specialization.{is_driven_out, scanned, unspecialized}
 use Rattle.candidate_assembly.specs.TraitAnswers.{Answered, IsOfOne, IsTraitAnswer, ListsOne, TraitAnswer, answer_of, or_refused}
 

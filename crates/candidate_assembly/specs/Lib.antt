@@ -41,6 +41,7 @@ pub mod Language
 pub mod AliasChains
 pub mod OneTrivial
 pub mod Specialization
+pub mod Sources
 pub mod Preference
 pub mod TraitAnswers
 pub mod MergedKinds

@@ -1,7 +1,6 @@
 -- Which of the candidates for a goal of a trait win, and what these come to.
 use Rattle.std.specs.Prelude.{Bool, true, false, not, ◌&&◌, ◌||◌, Option, Some, None, List, [], ◌∷◌, Result, IfOk, IfErr, ◌≡◌, ℕ, option_map, slice_get, if◌then◌else◌}
 use Rattle.std.specs.List.{filter, list_all, list_any}
-use Rattle.candidate_ir.specs.declared.decl.contents.AliasBoundKind.TheVariants.{SelfBounds}
 use Rattle.candidate_ir.specs.declared.decl.contents.LangItem.TheVariants as L
 use Rattle.candidate_ir.specs.Context.{Context}
 use Rattle.candidate_eval.specs.declared.eval.mode.TypingMode.{TypingMode}
@@ -9,9 +8,6 @@ use Rattle.candidate_eval.specs.declared.eval.refusal.NoSolutionOrStop.{NoSoluti
 use Rattle.candidate_eval.specs.declared.eval.refusal.NoSolutionOrStop.TheVariants as N
 use Rattle.candidate_eval.specs.declared.eval.response.CanonicalResponse.{CanonicalResponse}
 use Rattle.candidate_eval.specs.declared.eval.source.CandidateSource.{CandidateSource}
-use Rattle.candidate_eval.specs.declared.eval.source.CandidateSource.TheVariants as Source
-use Rattle.candidate_eval.specs.declared.eval.source.BuiltinImplSource.TheVariants as Builtin
-use Rattle.candidate_eval.specs.declared.eval.source.ParamEnvSource.TheVariants.{Global, NonGlobal}
 use Rattle.candidate_eval.specs.Accounts.{Account, StopsSomehow, by_stop}
 use Rattle.candidate_eval.specs.Certainties.{AMBIGUOUS}
 use Rattle.candidate_eval.specs.Evaluators.{Keeps}
@@ -26,36 +22,9 @@ use Rattle.candidate_assembly.specs.declared.trait_goals.preference.TraitGoalPro
 use Rattle.candidate_assembly.specs.declared.trait_goals.preference.TraitGoalProvenVia.TheVariants as Via
 use Rattle.candidate_assembly.specs.Assembled.{is_coherence, is_of_environment, is_trivial}
 use Rattle.candidate_assembly.specs.BuiltinRules.{flag_of_trait}
+use Rattle.candidate_assembly.specs.Sources.{is_alias_bound, is_global, is_impl, is_non_global, is_object, is_self_bound}
 use Rattle.candidate_assembly.specs.Specialization.{unspecialized}
 use Rattle.candidate_assembly.specs.TraitGoals.{is_item}
-
--- Kinds of sources.
-
-abbrev pub is_impl : CandidateSource → Bool
-is_impl (Source.Impl n) = true
-is_impl _ = false
-
--- a bound that an object states of itself
-abbrev pub is_object : CandidateSource → Bool
-is_object (Source.BuiltinImpl (Builtin.Object n)) = true
-is_object _ = false
-
-abbrev pub is_alias_bound : CandidateSource → Bool
-is_alias_bound (Source.AliasBound b) = true
-is_alias_bound _ = false
-
--- a bound of the alias itself, and not of one that it stands in
-abbrev pub is_self_bound : CandidateSource → Bool
-is_self_bound (Source.AliasBound SelfBounds) = true
-is_self_bound _ = false
-
-abbrev pub is_non_global : CandidateSource → Bool
-is_non_global (Source.ParamEnv NonGlobal) = true
-is_non_global _ = false
-
-abbrev pub is_global : CandidateSource → Bool
-is_global (Source.ParamEnv Global) = true
-is_global _ = false
 
 -- Candidates by their sources: whether there are such, whether all are such, those that are, and the others.
 

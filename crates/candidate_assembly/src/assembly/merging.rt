@@ -17,7 +17,7 @@ use crate::assembly::opaques::AssembleCandidatesFrom;
 use crate::assembly::specialization::{AllowInferenceConstraints, filter_specialized_impls};
 use crate::assembly::steps::forced_ambiguity;
 use crate::trait_goals::preference::TraitGoalProvenVia;
-use crate::trait_goals::sources::keep_where_bounds;
+use crate::trait_goals::sources::{SourceKind, keep};
 use candidate_eval::eval::ambiguity::flounder;
 use candidate_eval::eval::certainty::MaybeInfo;
 use candidate_eval::eval::context::EvalCtxt;
@@ -32,7 +32,7 @@ fn prefer_where_bounds(candidates: &mut Vec<Candidate>)
     ensures fit { (ts : List Tree) → AreCandidates ts candidates.old.items → AreCandidates ts candidates.new.items }
 {
     if has_where_bound(candidates.as_slice()) {
-        keep_where_bounds(candidates);
+        keep(candidates, SourceKind::WhereBound);
     }
 }
 

@@ -9,17 +9,15 @@ ghost use Rattle.candidate_eval.specs.ResponseTrees.{AreCandidates, candidates_o
 ghost use Rattle.candidate_assembly.specs.Assembled.{HasOneTrivial};
 ghost use Rattle.candidate_assembly.specs.BuiltinRules.{flag_of_trait};
 ghost use Rattle.candidate_assembly.specs.Listing.{Lists};
-ghost use Rattle.candidate_assembly.specs.Preference.{EnvironmentWins, Proves, TrivialWins, answer_by, assumed, class_of, is_marker, is_self_bound, least_global, mode_of, object_wins, prefer_objects, preferred};
+ghost use Rattle.candidate_assembly.specs.Preference.{EnvironmentWins, Proves, TrivialWins, answer_by, assumed, class_of, is_marker, least_global, mode_of, object_wins, prefer_objects, preferred};
+ghost use Rattle.candidate_assembly.specs.Sources.{is_self_bound};
 ghost use Rattle.candidate_assembly.specs.Specialization.{unspecialized};
 ghost use Rattle.candidate_assembly.specs.TraitGoals.{is_item};
 
 use crate::assembly::candidates::{FailedCandidateInfo, is_coherence};
 use crate::assembly::specialization::{AllowInferenceConstraints, filter_specialized_impls};
 use crate::trait_goals::matching::is_item;
-use crate::trait_goals::sources::{
-    are_global, has_alias_bound, has_non_global, has_self_bound, has_trivial, is_object,
-    keep_alias_bounds, keep_trivial, keep_where_bounds, remove_global, remove_impls,
-};
+use crate::trait_goals::sources::{SourceKind, has_any, has_only, keep, remove};
 use candidate_eval::eval::ambiguity::flounder;
 use candidate_eval::eval::context::EvalCtxt;
 use candidate_eval::eval::refusal::NoSolutionOrStop;
@@ -88,7 +86,7 @@ fn object_wins(cx: &Cx, candidates: &[Candidate]) -> bool
     ensures { result ≡ object_wins (candidates_of cx.now.trees candidates.now) }
 {
     for i in 0..candidates.len() {
-        if is_object(candidates[i].source) {
+        if SourceKind::Object.has(candidates[i].source) {
             return has_only_region_constraints(cx, &candidates[i].result);
         }
     }
@@ -108,7 +106,7 @@ pub fn unsound_prefer_builtin_dyn_impl<E: EvalCtxt>(ecx: &E, candidates: &mut Ve
         return;
     }
     if object_wins(ecx.cx(), candidates.as_slice()) {
-        remove_impls(candidates);
+        remove(candidates, SourceKind::Impl);
     }
 }
 
@@ -116,7 +114,7 @@ pub fn unsound_prefer_builtin_dyn_impl<E: EvalCtxt>(ecx: &E, candidates: &mut Ve
 fn prefers_self_bounds(mode: CandidatePreferenceMode, candidates: &[Candidate]) -> bool
     ensures { result ≡ (is_marker mode && list_any (λ x. is_self_bound x.source) candidates.now) }
 {
-    matches!(mode, CandidatePreferenceMode::Marker) && has_self_bound(candidates)
+    matches!(mode, CandidatePreferenceMode::Marker) && has_any(candidates, SourceKind::SelfBound)
 }
 
 /// Keeps those of the candidates that win whatever impls there are, and says how the goal is then proved; without such all stay, and the
@@ -130,20 +128,20 @@ fn keep_assumed(
     ensures none { result ≡ None → candidates.new.items ≡ candidates.old.items }
 {
     let list = candidates.as_slice();
-    if has_trivial(list) {
-        keep_trivial(candidates);
+    if has_any(list, SourceKind::Trivial) {
+        keep(candidates, SourceKind::Trivial);
         return Some(TraitGoalProvenVia::Misc);
     }
     if prefers_self_bounds(mode, list) {
-        keep_alias_bounds(candidates);
+        keep(candidates, SourceKind::AliasBound);
         return Some(TraitGoalProvenVia::AliasBound);
     }
-    if has_non_global(list) {
-        keep_where_bounds(candidates);
+    if has_any(list, SourceKind::NonGlobal) {
+        keep(candidates, SourceKind::WhereBound);
         return Some(TraitGoalProvenVia::ParamEnv);
     }
-    if has_alias_bound(list) {
-        keep_alias_bounds(candidates);
+    if has_any(list, SourceKind::AliasBound) {
+        keep(candidates, SourceKind::AliasBound);
         return Some(TraitGoalProvenVia::AliasBound);
     }
     None
@@ -158,10 +156,10 @@ fn keep_least_global<E: EvalCtxt>(ecx: &E, candidates: &mut Vec<Candidate>) -> T
 {
     filter_specialized_impls(ecx, AllowInferenceConstraints::No, candidates);
     unsound_prefer_builtin_dyn_impl(ecx, candidates);
-    if are_global(candidates.as_slice()) {
+    if has_only(candidates.as_slice(), SourceKind::Global) {
         return TraitGoalProvenVia::ParamEnv;
     }
-    remove_global(candidates);
+    remove(candidates, SourceKind::Global);
     TraitGoalProvenVia::Misc
 }
 
@@ -218,7 +216,8 @@ fn ignore_losers<E: EvalCtxt>(
     ensures kept { Keeps E.fixed E.probes E.context ecx.old ecx.new }
     ensures same { E.state ecx.new ≡ E.state ecx.old }
 {
-    if !matches!(via, TraitGoalProvenVia::ParamEnv) || are_global(candidates.as_slice()) {
+    let is_by_environment = matches!(via, TraitGoalProvenVia::ParamEnv);
+    if !is_by_environment || has_only(candidates.as_slice(), SourceKind::Global) {
         return;
     }
     if let MergeCandidateInfo::AlwaysApplicable(winner) = info {

@@ -4,20 +4,30 @@ use Rattle.candidate_ir.specs.Context.{Context}
 use Rattle.candidate_eval.specs.ResponseTrees.{candidates_of}
 use Rattle.candidate_assembly.specs.Preference.{mode_of}
 use Rattle.candidate_assembly.specs.TraitGoals.{trait_goal}
-use Rattle.candidate_assembly.proofs.SureAnswers.{yes-of-one}
+use Rattle.candidate_assembly.proofs.SureAnswers.{computes-proved}
 use Rattle.candidate_assembly.proofs.Causes.{answered-stop}
 use Rattle.candidate_assembly.proofs.TraitAnswers.{computes-merged, computes-stopped}
 use Rattle.candidate_assembly.proofs.trait_goals.compute.compute_trait_goal.Goals as goal
 
-pub returns-in_err-candidates-computes : goal.returns-in_err-candidates-computes
-returns-in_err-candidates-computes g c =
+pub returns-in_err-candidates-clause-computes : goal.returns-in_err-candidates-clause-computes
+returns-in_err-candidates-clause-computes g c =
     computes-stopped c.args.ecx.now c.assemble_and_evaluate_candidates.new.ecx (trait_goal (g.E.Build.context c.args.ecx.now).trees c.args.env c.args.predicate) c.in_err-candidates.field-0.0 c.from_residual.result
     (answered-stop c.from_residual.result c.in_err-candidates.field-0.0 (err_from_is_err_and c.from_residual.result c.from_residual.ensures.1)) c.in_err-candidates.ensures.assembled
 
-pub returns-computes : goal.returns-computes
-returns-computes g c =
+pub returns-clause-computes : goal.returns-clause-computes
+returns-clause-computes g c =
     let mid = c.assemble_and_evaluate_candidates.new.ecx in
     let list = c.in_ok-candidates.ensures.assembled in
     computes-merged g.met.E.EvalCtxt.stops_itself (λ f. (g.met.E.EvalCtxt.lawful f).alike_judged_alike) c.args.ecx.now mid c.merge_trait_candidates.new.ecx (trait_goal (g.E.Build.context c.args.ecx.now).trees c.args.env c.args.predicate)
     (candidates_of (g.E.Build.context mid).trees c.in_ok-candidates.candidates.items) c.compute-mode.result c.merge_trait_candidates.result list.kept list.told.ok
     (c.compute-mode.ensures ∙ ap (λ (x : Context). mode_of x c.args.predicate.trait_ref.def_id.0) c.cx.ensures) c.merge_trait_candidates.ensures.proves
+
+pub returns-in_err-candidates-clause-proved : goal.returns-in_err-candidates-clause-proved
+returns-in_err-candidates-clause-proved g c =
+    computes-proved g.met.E.EvalCtxt.lawful c.args.ecx.now c.assemble_and_evaluate_candidates.new.ecx (trait_goal (g.E.Build.context c.args.ecx.now).trees c.args.env c.args.predicate) c.from_residual.result
+    (returns-in_err-candidates-clause-computes g c)
+
+pub returns-clause-proved : goal.returns-clause-proved
+returns-clause-proved g c =
+    computes-proved g.met.E.EvalCtxt.lawful c.args.ecx.now c.merge_trait_candidates.new.ecx (trait_goal (g.E.Build.context c.args.ecx.now).trees c.args.env c.args.predicate) c.merge_trait_candidates.result
+    (returns-clause-computes g c)

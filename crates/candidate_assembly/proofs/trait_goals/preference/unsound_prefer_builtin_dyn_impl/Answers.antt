@@ -3,7 +3,8 @@ use Rattle.candidate_ir.specs.Context.{Context}
 use Rattle.candidate_eval.specs.declared.eval.response.Candidate.{Candidate}
 use Rattle.candidate_eval.specs.ResponseTrees.{AreCandidates, candidates_of}
 use Rattle.candidate_assembly.specs.Assembled.{is_coherence}
-use Rattle.candidate_assembly.specs.Preference.{is_impl, object_wins}
+use Rattle.candidate_assembly.specs.Preference.{object_wins}
+use Rattle.candidate_assembly.specs.Sources.{is_impl}
 use Rattle.candidate_assembly.proofs.Preferring.{fit-kept, objects-lose, objects-stay, objects-win}
 use Rattle.candidate_assembly.proofs.trait_goals.preference.unsound_prefer_builtin_dyn_impl.Goals as goal
 
@@ -16,7 +17,7 @@ object_wins-requires g c =
     (subst (AreCandidates (g.E.Build.context c.args.ecx.now).trees) (sym c.as_slice.ensures.value) c.requires)
 
 pub returns-then-object_wins-clause-fit : goal.returns-then-object_wins-clause-fit
-returns-then-object_wins-clause-fit g c = fit-kept (λ s. not (is_impl s)) _ c.args.candidates.now.items c.remove_impls.new.candidates.items c.remove_impls.ensures c.requires
+returns-then-object_wins-clause-fit g c = fit-kept (λ s. not (is_impl s)) _ c.args.candidates.now.items c.remove.new.candidates.items c.remove.ensures c.requires
 
 pub returns-then-object_wins-clause-list : goal.returns-then-object_wins-clause-list
 returns-then-object_wins-clause-list g c =
@@ -24,8 +25,8 @@ returns-then-object_wins-clause-list g c =
     let wins : object_wins (candidates_of context.trees c.args.candidates.now.items) ≡ true =
     ap (λ (e : Context). object_wins (candidates_of e.trees c.args.candidates.now.items)) (sym c.cx.ensures)
     ∙ (ap (λ (xs : List Candidate). object_wins (candidates_of c.cx.result.now.trees xs)) (sym c.as_slice.ensures.value) ∙ (sym c.object_wins.ensures ∙ c.if-object_wins.true)) in
-    objects-win _ context.trees c.args.candidates.now.items c.remove_impls.new.candidates.items
-    (sym (c.is_coherence.ensures ∙ ap is_coherence c.typing_mode.ensures) ∙ c.if-is_coherence.false) wins c.remove_impls.ensures
+    objects-win _ context.trees c.args.candidates.now.items c.remove.new.candidates.items
+    (sym (c.is_coherence.ensures ∙ ap is_coherence c.typing_mode.ensures) ∙ c.if-is_coherence.false) wins c.remove.ensures
 
 pub returns-else-object_wins-clause-list : goal.returns-else-object_wins-clause-list
 returns-else-object_wins-clause-list g c =
