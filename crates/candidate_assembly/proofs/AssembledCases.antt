@@ -34,7 +34,7 @@ use Rattle.candidate_assembly.specs.Listing.{Listed, Lists, Stops, answers}
 use Rattle.candidate_assembly.specs.declared.assembly.opaques.AssembleCandidatesFrom.{AssembleCandidatesFrom}
 use Rattle.candidate_assembly.specs.declared.assembly.opaques.AssembleCandidatesFrom.TheVariants.{All, EnvAndBounds}
 use Rattle.candidate_assembly.specs.Opaques.{variable_answers}
-use Rattle.candidate_assembly.specs.TraitRules.{trait_bounds, trait_rules}
+use Rattle.candidate_assembly.specs.TraitRules.{trait_rules}
 use Rattle.candidate_assembly.proofs.ShownLists.{Shown, Row, show}
 
 -- Traits 0 to 3: a plain one; an auto trait; one that is `MetaSized` and `Copy`; one that is `Unsize` alone. The opaque type 4 has one

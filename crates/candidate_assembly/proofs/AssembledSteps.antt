@@ -8,16 +8,16 @@ use Rattle.candidate_ir.specs.declared.ir.kinds.Ty.{Ty}
 use Rattle.candidate_ir.specs.declared.ir.kinds.TyKind.{TyKind}
 use Rattle.candidate_ir.specs.declared.ir.stop.Stop.{Stop}
 use Rattle.candidate_ir.specs.declared.ir.stop.Stop.TheVariants.{Memory}
-use Rattle.candidate_ir.specs.Context.{Context, Grows, world}
+use Rattle.candidate_ir.specs.Context.{Context, Grows}
 use Rattle.candidate_ir.specs.Binders.{escapes}
 use Rattle.candidate_ir.specs.Substitutions.{alone}
 use Rattle.candidate_ir.specs.Trees.{Tree, TypeKind, holds, is_param, kind_of}
 use Rattle.candidate_ir.specs.Kinds.{is_general_variable}
 use Rattle.candidate_ir.specs.WellFormed.{IsWellFormedTable}
 use Rattle.candidate_ir.specs.Words.{IsTy, kind_tree, ty_tree}
-use Rattle.candidate_ir.specs.Worlds.{Fits, Reference, TraitSort, World, joined, kinds_of, parameters}
+use Rattle.candidate_ir.specs.Worlds.{Reference, kinds_of}
 use Rattle.candidate_ir.proofs.Folding.{begin}
-use Rattle.candidate_ir.proofs.Kept.{grows-trans, ty-kept, world-kept}
+use Rattle.candidate_ir.proofs.Kept.{grows-trans, ty-kept}
 use Rattle.candidate_eval.specs.declared.eval.refusal.NoSolutionOrStop.TheVariants as N
 use Rattle.candidate_eval.specs.declared.eval.response.Candidate.{Candidate as OfNumbers}
 use Rattle.candidate_eval.specs.Accounts.{Account, Question, StopsSomehow}

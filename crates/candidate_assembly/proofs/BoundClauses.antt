@@ -1,5 +1,5 @@
 -- The bounds of `dyn` types, and what each says of a type as a clause.
-use Rattle.std.proofs.Common.{◌≡◌, ℕ, Bool, false, true, List, [], ◌∷◌, ◌++◌, Option, Some, None, refl, sym, ap, subst, ◌∙◌}
+use Rattle.std.proofs.Common.{◌≡◌, Bool, false, true, List, [], ◌∷◌, Option, Some, None, refl, sym, ap, subst, ◌∙◌}
 use Rattle.std.specs.List.{filter}
 use Rattle.candidate_ir.specs.declared.ir.heads.Head.{Head}
 use Rattle.candidate_ir.specs.declared.ir.heads.Head.TheVariants as H
@@ -11,7 +11,6 @@ use Rattle.candidate_ir.specs.declared.ir.kinds.Binder.{Binder}
 use Rattle.candidate_ir.specs.declared.ir.kinds.ClauseKind.{ClauseKind}
 use Rattle.candidate_ir.specs.declared.ir.kinds.ExistentialPredicate.{ExistentialPredicate}
 use Rattle.candidate_ir.specs.declared.ir.kinds.ExistentialPredicate.TheVariants as E
-use Rattle.candidate_ir.specs.declared.ir.kinds.ExistentialProjection.{ExistentialProjection}
 use Rattle.candidate_ir.specs.declared.ir.kinds.ExistentialTraitRef.{ExistentialTraitRef}
 use Rattle.candidate_ir.specs.declared.ir.kinds.GenericArg.{GenericArg}
 use Rattle.candidate_ir.specs.declared.ir.kinds.GenericArg.TheVariants as G
@@ -41,12 +40,12 @@ use Rattle.candidate_ir.proofs.References.{fit-at}
 use Rattle.candidate_ir.proofs.Rows.{join-none, kind-of, row-list, row-single}
 use Rattle.candidate_eval.specs.Callable.{all_but_last, last_tree}
 use Rattle.candidate_eval.specs.ObjectRequirements.{trait_fact}
-use Rattle.candidate_eval.specs.Required.{as_bound, each_of}
+use Rattle.candidate_eval.specs.Required.{each_of}
 use Rattle.candidate_eval.proofs.Holds.{holds_parts}
 use Rattle.candidate_eval.proofs.Marking.{unmarked}
 use Rattle.candidate_eval.proofs.Required as required
 use Rattle.candidate_assembly.specs.BuiltinRules.{holds_of}
-use Rattle.candidate_assembly.specs.DynBounds.{bound_arguments, bound_said, bounds_in, clause_head_by, first_listed, is_compatible, is_principal, kind_said, number_is_compatible, principal_in, region_in, trait_of_bound, trait_said}
+use Rattle.candidate_assembly.specs.DynBounds.{bound_arguments, bound_said, bounds_in, clause_head_by, first_listed, is_compatible, is_principal, kind_said, number_is_compatible, principal_in, region_in}
 use Rattle.candidate_assembly.proofs.TraitClauses.{fact-fits, fact-is, fact-takes}
 
 -- The parts of a `dyn` type.

@@ -1,5 +1,5 @@
 -- What can be called with what: no parameter stands in that where none stands in what is called.
-use Rattle.std.proofs.Common.{◌≡◌, Bool, false, refl}
+use Rattle.std.proofs.Common.{◌≡◌, false, refl}
 use Rattle.candidate_ir.specs.declared.ir.kinds.ClosureKind.{ClosureKind}
 use Rattle.candidate_ir.specs.Context.{Context}
 use Rattle.candidate_ir.specs.Substitutions.{alone}

@@ -1,7 +1,6 @@
 -- What a call that considers a rule says, exit by exit.
-use Rattle.std.proofs.Common.{◌≡◌, Bool, true, false, List, [], ◌∷◌, Result, Ok, Err, IfOk, IfErr, refl, sym, subst, ap, ◌∙◌}
+use Rattle.std.proofs.Common.{◌≡◌, Bool, true, false, List, Result, Err, IfErr, refl, sym, subst, ap, ◌∙◌}
 use Rattle.candidate_ir.specs.declared.ir.stop.Stop.{Stop}
-use Rattle.candidate_ir.specs.declared.ir.stop.Stop.TheVariants as S
 use Rattle.candidate_ir.specs.Context.{Context, Grows}
 use Rattle.candidate_ir.specs.Trees.{Tree}
 use Rattle.candidate_eval.specs.declared.eval.refusal.NoSolutionOrStop.{NoSolutionOrStop}
@@ -10,18 +9,15 @@ use Rattle.candidate_eval.specs.declared.eval.response.Candidate.{Candidate}
 use Rattle.candidate_eval.specs.Accounts.{Account, Question, by_stop}
 use Rattle.candidate_eval.specs.Alike.{JudgesAlike}
 use Rattle.candidate_eval.specs.Evaluators.{IsEvaluatorStop, IsMakingStop, Keeps}
-use Rattle.candidate_eval.specs.Judging.{Gives, Judged, Refused, Stopped, judged}
+use Rattle.candidate_eval.specs.Judging.{Judged, Refused, judged}
 use Rattle.candidate_eval.specs.Knowing.{own_stop}
-use Rattle.candidate_eval.specs.ResponseTrees.{IsResponse}
-use Rattle.candidate_eval.specs.Responses.{Candidate as Data}
 use Rattle.candidate_eval.specs.Rules.{Rule}
 use Rattle.candidate_eval.specs.States.{State, Judge}
 use Rattle.candidate_ir.proofs.Kept.{grows-refl}
 use Rattle.candidate_eval.proofs.Accounts.{reaches}
 use Rattle.candidate_eval.proofs.Probing.{keeps-trans}
-use Rattle.candidate_eval.proofs.Responding.{response-fits, response-kept}
 use Rattle.candidate_assembly.specs.Telling.{Considers, StopsOfItself, Told}
-use Rattle.candidate_assembly.proofs.Stepping.{evaluator-own, making-own, told-kept}
+use Rattle.candidate_assembly.proofs.Stepping.{evaluator-own, making-own}
 use Rattle.candidate_assembly.proofs.Causes.{asked-here, caused, later, made-here}
 
 pub not-both : (b : Bool) → b ≡ true → b ≡ false → ⊥

@@ -1,11 +1,10 @@
 -- What a type has to fulfil so as to become a `dyn` type, as requirements that are gathered.
-use Rattle.std.proofs.Common.{◌≡◌, ℕ, suc, ◌+◌, ◌<◌, ◌≤◌, Bool, true, false, refl, sym, ap, subst, ◌∙◌, List, [], ◌∷◌, ◌++◌, Some, get_or, length, map, take}
+use Rattle.std.proofs.Common.{◌≡◌, ℕ, ◌+◌, ◌<◌, ◌≤◌, Bool, false, refl, sym, ap, subst, ◌∙◌, List, [], ◌∷◌, ◌++◌, Some, get_or, length, map, take}
 use Rattle.std.specs.Prelude.{◌||◌}
 use Rattle.std.proofs.lemmas.List.{map-append, map_more, map_push, take_all}
 use Rattle.std.proofs.lemmas.List.Elements.{All-cons, All-nil, All-push}
 use Rattle.std.proofs.lemmas.Simd.{map-map}
 use Rattle.candidate_ir.specs.declared.ir.heads.ClauseHead.TheVariants as Cl
-use Rattle.candidate_ir.specs.declared.ir.heads.Head.TheVariants as H
 use Rattle.candidate_ir.specs.declared.ir.kinds.Binder.{Binder}
 use Rattle.candidate_ir.specs.declared.ir.kinds.Clause.{Clause}
 use Rattle.candidate_ir.specs.declared.ir.kinds.ClauseKind.{ClauseKind}
@@ -23,15 +22,14 @@ use Rattle.candidate_ir.specs.Nodes.{kind_at, tree_at}
 use Rattle.candidate_ir.specs.References.{Takes}
 use Rattle.candidate_ir.specs.Substitutions.{alone}
 use Rattle.candidate_ir.specs.Trees.{Kind, TypeKind, BinderKind, RegionKind, PredicateKind, Forest, none, tree, Tree, holds, is_param, kind_of, tree_holds}
-use Rattle.candidate_ir.specs.Words.{ClauseFits, IsClause, IsPred, IsPreds, IsRegion, IsTy, IsVars, PredListFits, binder_tree, clause_kind_tree, clause_tree, pred_list_forest, pred_tree, preds_forest, region_tree, ty_tree, vars_tree}
-use Rattle.candidate_ir.specs.Worlds.{World, kinds_of}
+use Rattle.candidate_ir.specs.Words.{ClauseFits, IsClause, IsPred, IsRegion, IsTy, IsVars, PredListFits, binder_tree, clause_kind_tree, clause_tree, pred_list_forest, pred_tree, preds_forest, region_tree, ty_tree, vars_tree}
+use Rattle.candidate_ir.specs.Worlds.{World}
 use Rattle.candidate_ir.proofs.Folding.{or-left, or-right}
-use Rattle.candidate_ir.proofs.Joining.{clause-kept, clause-over, over}
+use Rattle.candidate_ir.proofs.Joining.{clause-over, over}
 use Rattle.candidate_ir.proofs.Kept.{grows-refl, grows-trans, number-kept, ty-kept}
 use Rattle.candidate_ir.proofs.Lists.{below_kind}
-use Rattle.candidate_ir.proofs.Listing.{vars_kept}
 use Rattle.candidate_ir.proofs.Rows.{kind-of, row-single}
-use Rattle.candidate_eval.specs.Callable.{all_but_last, last_tree}
+use Rattle.candidate_eval.specs.Callable.{all_but_last}
 use Rattle.candidate_eval.specs.ObjectRequirements.{first_tree}
 use Rattle.candidate_eval.specs.Required.{each_of}
 use Rattle.candidate_eval.specs.Rules.{Step, add, nested, nested_misc}

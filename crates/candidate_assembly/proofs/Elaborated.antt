@@ -1,9 +1,8 @@
 -- What clauses imply: no parameter stands in it where none stands in these, and it is the same in the context before.
-use Rattle.std.proofs.Common.{◌≡◌, Bool, false, Option, Some, None, List, [], ◌∷◌, ◌++◌, map, refl, sym, ap, ◌∙◌}
+use Rattle.std.proofs.Common.{◌≡◌, Bool, false, Option, Some, None, List, [], ◌∷◌, ◌++◌, map, refl, ap}
 use Rattle.std.specs.Prelude.{◌||◌}
 use Rattle.std.proofs.lemmas.List.Elements.{All-cons, All-nil}
 use Rattle.candidate_ir.specs.declared.ir.heads.Builtin.TheVariants as B
-use Rattle.candidate_ir.specs.declared.ir.heads.ClauseHead.{ClauseHead}
 use Rattle.candidate_ir.specs.declared.ir.heads.Head.{Head}
 use Rattle.candidate_ir.specs.declared.ir.heads.Head.TheVariants as H
 use Rattle.candidate_ir.specs.declared.ir.heads.ListHead.{ListHead}
@@ -13,15 +12,15 @@ use Rattle.candidate_ir.specs.declared.ir.heads.PartHead.TheVariants as P
 use Rattle.candidate_ir.specs.declared.ir.heads.VariableSort.{VariableSort}
 use Rattle.candidate_ir.specs.declared.ir.heads.VariableSort.TheVariants as V
 use Rattle.candidate_ir.specs.declared.ir.kinds.Clause.{Clause}
-use Rattle.candidate_ir.specs.Context.{Context, Grows, world}
+use Rattle.candidate_ir.specs.Context.{Context, world}
 use Rattle.candidate_ir.specs.Elaboration.{Elaborates, IsElaboration, SuperClauses, ended, implied, implied_by, renumbered, step, supers_if, under_binder, unlisted, variables_of}
 use Rattle.candidate_ir.specs.Folding.{substituted}
 use Rattle.candidate_ir.specs.Nodes.{kind_at}
 use Rattle.candidate_ir.specs.References.{FitsAmong}
 use Rattle.candidate_ir.specs.Supertraits.{head_trait}
-use Rattle.candidate_ir.specs.Trees.{Kind, BinderKind, ClauseKind, VariableKind, Forest, none, tree, Tree, count, holds, is_param, kind_of, list_kind, part_kind, sort_kind, tree_holds}
+use Rattle.candidate_ir.specs.Trees.{Kind, BinderKind, ClauseKind, VariableKind, Forest, none, tree, Tree, count, holds, is_param, kind_of, list_kind, sort_kind, tree_holds}
 use Rattle.candidate_ir.specs.WellFormed.{IsWellFormedTable}
-use Rattle.candidate_ir.specs.Words.{ClauseListFits, IsClause, clause_tree}
+use Rattle.candidate_ir.specs.Words.{ClauseListFits, clause_tree}
 use Rattle.candidate_ir.specs.Worlds.{Fits, World, all_of, child_kinds, clause_kinds, joined, kinds_of}
 use Rattle.candidate_ir.proofs.Folding.{or-right}
 use Rattle.candidate_ir.proofs.Owned.{or-none}

@@ -16,7 +16,7 @@ use Rattle.candidate_eval.specs.Alike.{JudgesAlike}
 use Rattle.candidate_eval.specs.Judging.{judged}
 use Rattle.candidate_eval.specs.Mentions.{IsBelow, StepsBelow}
 use Rattle.candidate_eval.specs.Required.{each_of}
-use Rattle.candidate_eval.specs.Rules.{Rule, characterise, settle}
+use Rattle.candidate_eval.specs.Rules.{characterise, settle}
 use Rattle.candidate_eval.specs.States.{Judge, State}
 use Rattle.candidate_eval.proofs.Holds.{holds_parts}
 use Rattle.candidate_assembly.specs.Assembled.{where_rule, where_rules}

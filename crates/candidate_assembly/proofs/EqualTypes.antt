@@ -1,12 +1,12 @@
 -- What comes of a rule that equates two types and nests clauses.
-use Rattle.std.proofs.Common.{◌≡◌, false, refl, sym, ap, subst, ◌∙◌, List, [], ◌∷◌, map, Option, Some, None, Result}
+use Rattle.std.proofs.Common.{◌≡◌, false, refl, sym, ap, subst, ◌∙◌, List, map, Some, None, Result}
 use Rattle.candidate_ir.specs.declared.ir.kinds.Clause.{Clause}
 use Rattle.candidate_ir.specs.declared.ir.kinds.GoalSource.TheVariants.{ImplWhereBound}
 use Rattle.candidate_ir.specs.declared.ir.kinds.ParamEnv.{ParamEnv}
 use Rattle.candidate_ir.specs.Context.{Context, Grows}
 use Rattle.candidate_ir.specs.Folding.{substituted}
 use Rattle.candidate_ir.specs.Substitutions.{alone}
-use Rattle.candidate_ir.specs.Trees.{Forest, none, Tree, is_param, tree_holds}
+use Rattle.candidate_ir.specs.Trees.{none, Tree, is_param, tree_holds}
 use Rattle.candidate_ir.specs.Words.{ClauseListFits, IsParamEnv, clause_tree, env_forest}
 use Rattle.candidate_ir.proofs.Folding.{substituted-nothing, or-left, or-right}
 use Rattle.candidate_eval.specs.declared.eval.certainty.Certainty.TheVariants.{Yes}

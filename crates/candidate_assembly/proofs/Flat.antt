@@ -1,5 +1,5 @@
 -- What clauses that become pending come to.
-use Rattle.std.proofs.Common.{◌≡◌, ℕ, zero, suc, ◌<◌, Bool, true, false, refl, subst, Result, ap, sym, ◌∙◌, List, [], ◌∷◌, ◌++◌, map, append_assoc, arith}
+use Rattle.std.proofs.Common.{◌≡◌, zero, suc, Bool, true, false, refl, subst, Result, ap, sym, ◌∙◌, List, [], ◌∷◌, map, append_assoc, arith}
 use Rattle.std.specs.Prelude.{if◌then◌else◌}
 use Rattle.std.proofs.lemmas.List.{append-nil}
 use Rattle.candidate_ir.specs.declared.ir.kinds.Clause.{Clause}
@@ -17,10 +17,10 @@ use Rattle.candidate_eval.specs.declared.eval.refusal.NoSolutionOrStop.{NoSoluti
 use Rattle.candidate_eval.specs.declared.eval.response.Candidate.{Candidate}
 use Rattle.candidate_eval.specs.declared.eval.source.CandidateSource.{CandidateSource}
 use Rattle.candidate_eval.specs.Evaluators.{with_goals_of, pending_of}
-use Rattle.candidate_eval.specs.Judging.{Place, Refused, asked, comes_to, start, judged, goal_at}
+use Rattle.candidate_eval.specs.Judging.{Refused, asked, comes_to, start, judged, goal_at}
 use Rattle.candidate_eval.specs.ObjectRequirements.{goals_in}
 use Rattle.candidate_eval.specs.Rules.{add, ask}
-use Rattle.candidate_eval.specs.States.{Env, State, Pending, Judge, added, with_pending}
+use Rattle.candidate_eval.specs.States.{State, Pending, Judge, added, with_pending}
 use Rattle.candidate_eval.proofs.Marking.{unmarked}
 use Rattle.candidate_eval.proofs.Objects.{env-kept}
 use Rattle.candidate_eval.proofs.Responding.{clauses-kept}

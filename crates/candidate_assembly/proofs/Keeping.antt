@@ -1,47 +1,38 @@
 -- What stays while a context grows, in probes and from one call to the next.
-use Rattle.std.proofs.Common.{◌≡◌, true, refl, sym, ap, subst, ◌∙◌, [], ◌∷◌, ◌++◌, ◌&&◌, Option, Some, None, Result, Ok, Err, IfErr, List, map}
-use Rattle.std.specs.Prelude.{IfSome}
-use Rattle.candidate_ir.specs.declared.decl.contents.ImplId.{ImplId}
+use Rattle.std.proofs.Common.{◌≡◌, true, refl, sym, ap, subst, ◌∙◌, [], ◌∷◌, Some, Result, Ok, Err, IfErr, List}
 use Rattle.candidate_ir.specs.declared.ir.heads.Head.{Head}
 use Rattle.candidate_ir.specs.declared.ir.kinds.Args.{Args}
 use Rattle.candidate_ir.specs.declared.ir.kinds.ParamEnv.{ParamEnv}
 use Rattle.candidate_ir.specs.declared.ir.kinds.TraitPredicate.{TraitPredicate}
 use Rattle.candidate_ir.specs.declared.ir.kinds.Ty.{Ty}
 use Rattle.candidate_ir.specs.declared.ir.stop.Stop.{Stop}
-use Rattle.candidate_ir.specs.declared.ir.unify.RightSide.TheVariants as R
 use Rattle.candidate_ir.specs.Binders.{escapes}
-use Rattle.candidate_ir.specs.Context.{Context, Grows, parameter_kind, world}
-use Rattle.candidate_ir.specs.Contents.{Contents, Impl}
-use Rattle.candidate_ir.specs.Declaring.{impl_at}
-use Rattle.candidate_ir.specs.Lookups.{maybe}
+use Rattle.candidate_ir.specs.Context.{Context, Grows, world}
+use Rattle.candidate_ir.specs.Contents.{Contents}
 use Rattle.candidate_ir.specs.Trees.{TypeKind, Forest, Tree, holds, is_param}
-use Rattle.candidate_ir.specs.Unify.{may_unify}
-use Rattle.candidate_ir.specs.WellFormed.{ImplIsGiven}
-use Rattle.candidate_ir.specs.Words.{IsArgs, IsParamEnv, args_forest, clause_tree, env_forest}
+use Rattle.candidate_ir.specs.Words.{IsArgs, IsParamEnv, args_forest, env_forest}
 use Rattle.candidate_ir.specs.Worlds.{Reference, World, TraitSort, joined, kinds_of, parameters}
 use Rattle.candidate_ir.proofs.Kept.{args-kept, grows-trans, world-kept}
 use Rattle.candidate_eval.specs.declared.eval.certainty.Certainty.{Certainty}
-use Rattle.candidate_eval.specs.declared.eval.mode.TypingMode.{TypingMode}
 use Rattle.candidate_eval.specs.declared.eval.refusal.NoSolutionOrStop.{NoSolutionOrStop}
 use Rattle.candidate_eval.specs.declared.eval.response.Candidate.{Candidate}
 use Rattle.candidate_eval.specs.declared.eval.response.CanonicalResponse.{CanonicalResponse}
 use Rattle.candidate_eval.specs.Accounts.{Account, Question, Reaches, StopsSomehow, by_stop}
 use Rattle.candidate_eval.specs.Accounts.StopsSomehow.{asking}
 use Rattle.candidate_eval.specs.Evaluators.{IsEvaluatorStop, Keeps}
-use Rattle.candidate_eval.specs.ImplRules.{TraitGoal, impl_certainty, or_yes}
+use Rattle.candidate_eval.specs.ImplRules.{TraitGoal}
 use Rattle.candidate_eval.specs.Judging.{judged}
 use Rattle.candidate_eval.specs.Knowing.{own_stop}
-use Rattle.candidate_eval.specs.Rules.{Rule, equate, fresh, nested, nested_misc}
-use Rattle.candidate_eval.specs.States.{Env, Judge, State, is_some}
+use Rattle.candidate_eval.specs.Rules.{Rule}
+use Rattle.candidate_eval.specs.States.{Env, Judge, State}
 use Rattle.candidate_eval.proofs.Accounts.{accounted-here, by-stop, somehow-later}
 use Rattle.candidate_eval.proofs.Objects.{env-kept}
 use Rattle.candidate_eval.proofs.Probing.{alike-probe, keeps-probe}
-use Rattle.candidate_eval.proofs.Responding.{clauses-kept}
 use Rattle.candidate_eval.proofs.Types.{types_kept}
 use Rattle.candidate_assembly.specs.Closures.{KeepsIn, Responds}
-use Rattle.candidate_assembly.specs.Kinds.{ImplPart, IsGoal, KindRules, SaysTheSame}
+use Rattle.candidate_assembly.specs.Kinds.{IsGoal, KindRules, SaysTheSame}
 use Rattle.candidate_assembly.specs.Telling.{Considers, StopsOfItself, Told}
-use Rattle.candidate_assembly.specs.TraitGoals.{arguments_held, fits, impl_part, impl_part_at, no_impl, trait_goal, types_held}
+use Rattle.candidate_assembly.specs.TraitGoals.{arguments_held, fits, trait_goal, types_held}
 use Rattle.candidate_assembly.specs.TraitRules.{trait_rules}
 use Rattle.candidate_assembly.proofs.Stepping.{somehow-own, told-kept}
 

@@ -1,13 +1,12 @@
 -- Lists of candidates that go on, rule by rule.
-use Rattle.std.proofs.Common.{◌≡◌, arith, suc, ◌+◌, ◌<◌, ◌≤◌, ℕ, false, true, refl, sym, ap, subst, ◌∙◌, List, [], ◌∷◌, ◌++◌, length, take, map, get_or, Result, Ok, Err, Bool}
-use Rattle.std.specs.Prelude.{IfErr, IfOk, if◌then◌else◌}
-use Rattle.std.specs.List.{All}
+use Rattle.std.proofs.Common.{◌≡◌, arith, suc, ◌+◌, ◌<◌, ◌≤◌, ℕ, refl, sym, ap, subst, ◌∙◌, List, [], ◌∷◌, ◌++◌, length, take, map, get_or, Result, Ok, Err}
+use Rattle.std.specs.Prelude.{IfErr, if◌then◌else◌}
 use Rattle.std.proofs.lemmas.List.{append-nil, map-append, map_more, take-append-drop, take_all}
 use Rattle.std.proofs.lemmas.List.Elements.{All-cons, All-nil}
 use Rattle.std.proofs.Math.ListN.{drop}
 use Rattle.candidate_ir.specs.declared.ir.stop.Stop.{Stop}
 use Rattle.candidate_ir.specs.Context.{Context, Grows}
-use Rattle.candidate_ir.specs.Trees.{Forest, Tree, none}
+use Rattle.candidate_ir.specs.Trees.{none}
 use Rattle.candidate_ir.proofs.Kept.{grows-refl}
 use Rattle.candidate_eval.specs.declared.eval.refusal.NoSolutionOrStop.{NoSolutionOrStop}
 use Rattle.candidate_eval.specs.declared.eval.refusal.NoSolutionOrStop.TheVariants as N
@@ -15,7 +14,7 @@ use Rattle.candidate_eval.specs.declared.eval.response.Candidate.{Candidate as O
 use Rattle.candidate_eval.specs.Accounts.{Account, by_stop}
 use Rattle.candidate_eval.specs.Alike.{JudgesAlike}
 use Rattle.candidate_eval.specs.Evaluators.{IsMakingStop, Keeps}
-use Rattle.candidate_eval.specs.Judging.{Judged, Refused, comes_to, judged, start}
+use Rattle.candidate_eval.specs.Judging.{Judged, Refused, judged, start}
 use Rattle.candidate_eval.specs.Knowing.{own_stop}
 use Rattle.candidate_eval.specs.Mentions.{RuleBelow}
 use Rattle.candidate_eval.specs.ResponseTrees.{AreCandidates, IsResponse, candidate_of, candidates_of}
@@ -25,7 +24,7 @@ use Rattle.candidate_eval.specs.States.{State, Judge}
 use Rattle.candidate_eval.proofs.Accounts.{reaches}
 use Rattle.candidate_eval.proofs.Probing.{then as after}
 use Rattle.candidate_eval.proofs.Responding.{response-fits, response-kept}
-use Rattle.candidate_assembly.specs.Listing.{Adds, ConsidersAll, IsNotAdded, Listed, Lists, Stops, ToldList, after_these, answers, listed, together}
+use Rattle.candidate_assembly.specs.Listing.{Adds, ConsidersAll, IsNotAdded, Listed, Lists, Stops, after_these, answers, listed, together}
 use Rattle.candidate_assembly.specs.Telling.{Considers, StopsOfItself}
 use Rattle.candidate_assembly.proofs.Causes.{later, made-here}
 use Rattle.candidate_assembly.proofs.Chains.{together-empty, together-joined, together-last}

@@ -1,5 +1,5 @@
 -- What candidates come to for a goal that isn't of a trait, exit by exit.
-use Rattle.std.proofs.Common.{◌≡◌, ◌≢◌, Bool, true, false, Option, Some, None, List, [], ◌∷◌, Result, Ok, Err, IfOk, IfErr, refl, sym, ◌∙◌, ap, subst}
+use Rattle.std.proofs.Common.{◌≡◌, ◌≢◌, Bool, true, Option, Some, None, List, [], ◌∷◌, Result, Ok, Err, IfOk, IfErr, refl, sym, ◌∙◌, ap, subst}
 use Rattle.std.specs.Fn.{Once}
 use Rattle.std.specs.Borrow.{MutBor}
 use Rattle.candidate_ir.specs.Context.{Context}
@@ -16,7 +16,7 @@ use Rattle.candidate_eval.specs.Accounts.StopsSomehow.{asking, making}
 use Rattle.candidate_eval.specs.Alike.{JudgesAlike}
 use Rattle.candidate_eval.specs.Certainties.{AMBIGUOUS}
 use Rattle.candidate_eval.specs.Evaluators.{IsMakingStop, Keeps}
-use Rattle.candidate_eval.specs.Merging.{Merge, merged}
+use Rattle.candidate_eval.specs.Merging.{merged}
 use Rattle.candidate_eval.specs.ResponseTrees.{IsResponse, candidates_of, response_of}
 use Rattle.candidate_eval.specs.Responses.{Candidate, Response}
 use Rattle.candidate_eval.specs.States.{Judge, State, with_pending}

@@ -1,5 +1,5 @@
 -- All candidates by an object's own bounds, by those of its clauses.
-use Rattle.std.proofs.Common.{◌≡◌, true, false, refl, sym, ap, subst, ◌∙◌, Option, Some, None, List, [], map, option_map, Result, Ok, Err}
+use Rattle.std.proofs.Common.{◌≡◌, true, false, refl, sym, ap, subst, ◌∙◌, Option, Some, None, List, [], map, option_map, Result, Ok}
 use Rattle.std.specs.List.{filter}
 use Rattle.candidate_ir.specs.declared.ir.heads.Head.{Head}
 use Rattle.candidate_ir.specs.declared.ir.heads.Head.TheVariants as H
@@ -28,7 +28,7 @@ use Rattle.candidate_eval.proofs.Probing.{then as after}
 use Rattle.candidate_assembly.specs.BuiltinLaws.{nodes_fit}
 use Rattle.candidate_assembly.specs.DynBounds.{ArePrincipalSupers, AreSupersOf, bound_said, bounds_in, first_listed, is_dynamic, is_principal}
 use Rattle.candidate_assembly.specs.Kinds.{KindRules, self_type}
-use Rattle.candidate_assembly.specs.Listing.{ConsidersAll, Listed, Lists, after_these, together}
+use Rattle.candidate_assembly.specs.Listing.{ConsidersAll, Listed, Lists, together}
 use Rattle.candidate_assembly.specs.ObjectBounds.{ObjectsAnswer, answer, has_own_clauses, nothing, own_clauses}
 use Rattle.candidate_assembly.specs.ObjectCalls.{AreOwnClauses, ObjectFollows, ObjectsFollow, own_clause_of}
 use Rattle.candidate_assembly.specs.ObjectLaws.{answers_back, has_dynamic, own_clauses_speak}

@@ -25,7 +25,7 @@ use Rattle.candidate_eval.specs.Accounts.{Account, Question, by_stop}
 use Rattle.candidate_eval.specs.Alike.{JudgesAlike}
 use Rattle.candidate_eval.specs.Certainties.{AMBIGUOUS}
 use Rattle.candidate_eval.specs.Evaluators.{IsEvaluatorStop, Keeps, goal_of, pending_of, with_goals_of}
-use Rattle.candidate_eval.specs.Judging.{At, Gives, Judged, Place, Reached, Refused, Stopped, asked, run, start}
+use Rattle.candidate_eval.specs.Judging.{At, Gives, Judged, Place, Refused, Stopped, asked}
 use Rattle.candidate_eval.specs.Knowing.{own_stop}
 use Rattle.candidate_eval.specs.ObjectRequirements.{AreAsked, AreUnknown, first_tree}
 use Rattle.candidate_eval.specs.States.{Env, Goal, Judge, Pending, State, with_pending}

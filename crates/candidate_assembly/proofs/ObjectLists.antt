@@ -1,5 +1,5 @@
 -- Candidates by the clauses of an object's own bounds, one after the other.
-use Rattle.std.proofs.Common.{◌≡◌, arith, zero, suc, ◌+◌, ◌<◌, ◌≤◌, ℕ, true, false, refl, sym, ap, subst, ◌∙◌, List, [], ◌∷◌, length, map, get_or, Result, Ok, Err}
+use Rattle.std.proofs.Common.{◌≡◌, arith, zero, suc, ◌+◌, ◌<◌, ◌≤◌, ℕ, false, refl, sym, ap, subst, ◌∙◌, List, [], ◌∷◌, length, map, get_or, Result, Ok, Err}
 use Rattle.std.specs.Prelude.{IfErr}
 use Rattle.std.proofs.Math.ListN.{drop}
 use Rattle.candidate_ir.specs.declared.ir.heads.Head.{Head}
@@ -26,7 +26,7 @@ use Rattle.candidate_assembly.specs.Listing.{Adds, ConsidersAll, IsNotAdded, Lis
 use Rattle.candidate_assembly.specs.ObjectBounds.{ObjectJudged, ObjectsAnswer, OwnClause, none_left, one, rejected, required, stopped, trait_by, unknown, unmatched}
 use Rattle.candidate_assembly.specs.ObjectCalls.{ConsidersObject, ObjectsFollow, ToldOf}
 use Rattle.candidate_assembly.specs.ObjectLaws.{judged_back}
-use Rattle.candidate_assembly.specs.Telling.{StopsOfItself, Told}
+use Rattle.candidate_assembly.specs.Telling.{StopsOfItself}
 use Rattle.candidate_assembly.proofs.Causes.{later, made-here}
 use Rattle.candidate_assembly.proofs.Chains.{together-joined, together-last}
 use Rattle.candidate_assembly.proofs.Considering.{not-both}

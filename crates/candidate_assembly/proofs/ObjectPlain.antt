@@ -1,5 +1,5 @@
 -- The clauses that an object's own bounds give speak of traits, and no parameter stands in them where none stands in the type.
-use Rattle.std.proofs.Common.{◌≡◌, arith, suc, ◌<◌, ℕ, Bool, true, false, not, refl, sym, ap, subst, ◌∙◌, Option, Some, None, List, [], ◌∷◌, ◌++◌, map, All}
+use Rattle.std.proofs.Common.{◌≡◌, arith, suc, ℕ, Bool, true, false, not, refl, sym, ap, subst, ◌∙◌, Option, Some, None, List, [], ◌∷◌, ◌++◌, map, All}
 use Rattle.std.specs.List.{filter}
 use Rattle.std.specs.Prelude.{IfSome, if◌then◌else◌}
 use Rattle.std.proofs.lemmas.List.Elements.{All-cons, All-nil}
@@ -18,8 +18,8 @@ use Rattle.candidate_ir.specs.declared.ir.kinds.Pred.{Pred}
 use Rattle.candidate_ir.specs.declared.ir.kinds.Preds.{Preds}
 use Rattle.candidate_ir.specs.declared.ir.kinds.Ty.{Ty}
 use Rattle.candidate_ir.specs.Context.{Context, Grows, world}
-use Rattle.candidate_ir.specs.Elaboration.{AreSupertraits, Elaborates, IsElaboration, ended, first_children, implied, implied_by, is_there, lists, renumbered, step, super_clauses, supers_if, trait_of, under_binder, unlisted, variables_of}
-use Rattle.candidate_ir.specs.Folding.{fold, substituted, substituted_tree}
+use Rattle.candidate_ir.specs.Elaboration.{Elaborates, ended, first_children, implied, implied_by, is_there, lists, renumbered, step, super_clauses, supers_if, trait_of, under_binder, unlisted, variables_of}
+use Rattle.candidate_ir.specs.Folding.{substituted}
 use Rattle.candidate_ir.specs.Declaring.{trait_at}
 use Rattle.candidate_ir.specs.Nodes.{kind_at}
 use Rattle.candidate_ir.specs.References.{FitsAmong}
@@ -30,7 +30,7 @@ use Rattle.candidate_ir.specs.Trees.{Kind, BinderKind, ClauseKind, PredicateKind
 use Rattle.candidate_ir.specs.WellFormed.{IsWellFormedTable}
 use Rattle.candidate_ir.specs.Words.{ClauseListFits, IsClause, IsTy, PredListFits, clause_tree, pred_list_forest, pred_tree, preds_forest, ty_tree}
 use Rattle.candidate_ir.specs.Worlds.{Fits, World, all_of, child_kinds, clause_kinds, joined, kinds_of}
-use Rattle.candidate_ir.proofs.Folding.{or-left, or-right}
+use Rattle.candidate_ir.proofs.Folding.{or-right}
 use Rattle.candidate_ir.proofs.Joining.{binder-head}
 use Rattle.candidate_ir.proofs.References.{fit-at}
 use Rattle.candidate_ir.proofs.Kept.{ty-kept}

@@ -28,7 +28,7 @@ use Rattle.candidate_ir.specs.Nodes.{kind_at, rows, tree_at, trees_at}
 use Rattle.candidate_ir.specs.References.{ArgumentsFit, FitsAmong, IsWellFormed, Takes}
 use Rattle.candidate_ir.specs.Substitutions.{alone}
 use Rattle.candidate_ir.specs.Trees.{Kind, ArgumentsKind, BinderKind, PredicatesKind, TypeKind, Forest, none, tree, Tree, join}
-use Rattle.candidate_ir.specs.Words.{ClauseFits, IsArgs, IsPreds, IsTy, IsVars, args_forest, clause_kind_tree, clause_tree, preds_forest, ty_tree, vars_tree}
+use Rattle.candidate_ir.specs.Words.{ClauseFits, IsArgs, IsPreds, IsVars, args_forest, clause_kind_tree, clause_tree, preds_forest, ty_tree, vars_tree}
 use Rattle.candidate_ir.specs.Worlds.{AssociatedTypeSort, TraitSort, joined, kinds_of, parameters, parameters_of, sort_number}
 use Rattle.candidate_ir.proofs.Joining.{below_binder, clause-over, over}
 use Rattle.candidate_ir.proofs.Kept.{args-kept, number-kept}

@@ -1,5 +1,5 @@
 -- Clauses about the parts of a type.
-use Rattle.std.proofs.Common.{◌≡◌, ℕ, zero, suc, ◌<◌, ◌+◌, List, [], ◌∷◌, ◌++◌, map, length, Option, Some, None, Bool, true, false, nat_le, refl, sym, ap, ◌∙◌, arith}
+use Rattle.std.proofs.Common.{◌≡◌, ℕ, zero, suc, ◌+◌, List, [], ◌∷◌, map, Option, Some, None, Bool, false, refl, sym, ap, ◌∙◌, arith}
 use Rattle.std.specs.Prelude.{◌||◌, All, IfSome}
 use Rattle.std.specs.List.{flat_map}
 use Rattle.std.specs.Option.{unwrap_or}
@@ -15,12 +15,10 @@ use Rattle.candidate_ir.specs.declared.ir.kinds.VarKind.{VarKind}
 use Rattle.candidate_ir.specs.declared.ir.kinds.VarKind.TheVariants as V
 use Rattle.candidate_ir.specs.Binders.{escapes, is_beyond}
 use Rattle.candidate_ir.specs.Context.{Context, Grows}
-use Rattle.candidate_ir.specs.Folding.{argument, fold_tree, put, shift_tree, substituted, substituted_tree}
-use Rattle.candidate_ir.specs.Nodes.{error_tree}
-use Rattle.candidate_ir.specs.Opening.{opened_tree}
+use Rattle.candidate_ir.specs.Folding.{argument, put, substituted, substituted_tree}
 use Rattle.candidate_ir.specs.Substitutions.{alone}
 use Rattle.candidate_ir.specs.Supers.{after_first}
-use Rattle.candidate_ir.specs.Trees.{Kind, TypeKind, ConstantKind, RegionKind, Forest, none, tree, Tree, binders_of, holds, is_param, join, tree_holds}
+use Rattle.candidate_ir.specs.Trees.{Kind, ConstantKind, RegionKind, Forest, none, tree, Tree, binders_of, holds, is_param, tree_holds}
 use Rattle.candidate_ir.specs.Words.{IsArgs, IsTy, args_forest, ty_tree}
 use Rattle.candidate_ir.proofs.Folding.{begin, or-left, or-right, substituted-nothing}
 use Rattle.candidate_ir.proofs.Kept.{args-kept, ty-kept}

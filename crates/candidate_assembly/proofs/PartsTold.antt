@@ -1,5 +1,5 @@
 -- What is told of a rule over parts, where clauses about them became pending.
-use Rattle.std.proofs.Common.{◌≡◌, inl, inr, ℕ, zero, suc, ◌<◌, List, [], ◌∷◌, map, Option, Bool, true, false, Result, refl, sym, ap, subst, ◌∙◌, arith}
+use Rattle.std.proofs.Common.{◌≡◌, inl, inr, ℕ, zero, suc, List, [], ◌∷◌, map, Option, Bool, true, false, Result, refl, sym, ap, subst, ◌∙◌, arith}
 use Rattle.std.proofs.lemmas.List.Elements.{All-map}
 use Rattle.std.specs.Prelude.{◌||◌, All}
 use Rattle.candidate_ir.specs.declared.ir.kinds.Args.{Args}
@@ -13,8 +13,7 @@ use Rattle.candidate_ir.specs.Context.{Context, Grows}
 use Rattle.candidate_ir.specs.Folding.{substituted_tree}
 use Rattle.candidate_eval.specs.ImplRules.{TraitGoal}
 use Rattle.candidate_ir.specs.Trees.{Kind, Forest, none, tree, Tree, holds, is_param, tree_holds}
-use Rattle.candidate_ir.specs.WellFormed.{TypesFit}
-use Rattle.candidate_ir.specs.Words.{IsArgs, IsParamEnv, args_forest, clause_tree, env_forest, ty_tree}
+use Rattle.candidate_ir.specs.Words.{IsArgs, IsParamEnv, args_forest, clause_tree, ty_tree}
 use Rattle.candidate_ir.proofs.Kept.{args-kept, grows-trans}
 use Rattle.candidate_eval.specs.declared.eval.certainty.Certainty.TheVariants.{Yes}
 use Rattle.candidate_eval.specs.declared.eval.refusal.NoSolutionOrStop.{NoSolutionOrStop}
@@ -30,14 +29,14 @@ use Rattle.candidate_ir.specs.Substitutions.{alone}
 use Rattle.candidate_ir.proofs.Folding.{or-left, or-right}
 use Rattle.candidate_eval.proofs.StopKinds.{subst_making}
 use Rattle.candidate_eval.specs.Evaluators.{IsMakingStop, kinds_listed, rigid, with_goals_of, with_rigid}
-use Rattle.candidate_eval.specs.Judging.{asked, comes_to, judged, start}
+use Rattle.candidate_eval.specs.Judging.{asked, comes_to, judged}
 use Rattle.candidate_eval.specs.ObjectRequirements.{goals_in}
 use Rattle.candidate_eval.specs.Rules.{ask, nested}
 use Rattle.candidate_eval.specs.States.{State, Judge}
 use Rattle.candidate_eval.proofs.Objects.{env-kept}
-use Rattle.candidate_assembly.specs.BuiltinRules.{entered_rule, entered_values, for_types, holds_of, opened_by, parts_rule, said_of_type, values_at, with_names}
+use Rattle.candidate_assembly.specs.BuiltinRules.{entered_rule, entered_values, for_types, opened_by, parts_rule, said_of_type, values_at, with_names}
 use Rattle.candidate_assembly.specs.Telling.{Told, standing}
-use Rattle.candidate_assembly.specs.TraitGoals.{trait_goal, with_first}
+use Rattle.candidate_assembly.specs.TraitGoals.{trait_goal}
 use Rattle.candidate_assembly.proofs.Flat.{nested-comes}
 use Rattle.candidate_assembly.proofs.PartClauses.{none-of, entered-parts, listed-kinds, rigid-start}
 

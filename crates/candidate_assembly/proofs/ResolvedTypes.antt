@@ -1,5 +1,5 @@
 -- A type that is no general variable is none where values are put in, and no bound type.
-use Rattle.std.proofs.Common.{◌≡◌, ◌+◌, ℕ, true, false, Option, Some, None, refl, sym, ap, ◌∙◌, arith}
+use Rattle.std.proofs.Common.{◌≡◌, ◌+◌, true, false, Option, Some, None, refl, sym, ap, ◌∙◌, arith}
 use Rattle.std.proofs.lemmas.Bool.{leb-false}
 use Rattle.std.specs.Option.{unwrap_or}
 use Rattle.candidate_ir.specs.declared.ir.heads.Head.{Head}
@@ -12,7 +12,7 @@ use Rattle.candidate_ir.specs.Folding.{fold}
 use Rattle.candidate_ir.specs.Substitutions.{alone, fits_sort, is_float, is_integer, same_sort}
 use Rattle.candidate_ir.specs.Trees.{TypeKind, none, Tree, binders_of, kind_of, sort_kind}
 use Rattle.candidate_eval.specs.declared.eval.variable.VariableKind.{VariableKind}
-use Rattle.candidate_eval.specs.declared.eval.variable.VariableKind.TheVariants.{Term, Region}
+use Rattle.candidate_eval.specs.declared.eval.variable.VariableKind.TheVariants.{Term}
 use Rattle.candidate_eval.specs.Alike.{info}
 use Rattle.candidate_eval.specs.Callable.{is_general as is_unsettled, is_unknown}
 use Rattle.candidate_eval.specs.Orphan.{is_general, is_general_sort}

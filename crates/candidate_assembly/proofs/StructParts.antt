@@ -33,7 +33,7 @@ use Rattle.candidate_eval.proofs.PartsFree.{put-parameterless}
 use Rattle.candidate_eval.proofs.Responding.{clauses-kept}
 use Rattle.candidate_assembly.specs.BuiltinRules.{holds_of, is_nonempty, misc}
 use Rattle.candidate_assembly.specs.Calling.{pair_of}
-use Rattle.candidate_assembly.specs.Unsizing.{equal_rule, mixed, struct_to_struct, tail_of, tail_unsizes, unsizing_parameters}
+use Rattle.candidate_assembly.specs.Unsizing.{equal_rule, mixed, struct_to_struct, tail_of, unsizing_parameters}
 use Rattle.candidate_assembly.proofs.EqualTypes.{equal-same}
 
 -- What stays where a context has grown.

@@ -1,11 +1,10 @@
 -- A sure answer rests on one rule of the goal: so does each candidate of the list that is sure.
-use Rattle.std.proofs.Common.{◌≡◌, ℕ, zero, suc, Bool, true, false, not, Option, Some, None, List, [], ◌∷◌, ◌++◌, map, Result, Ok, Err, refl, sym, ◌∙◌, ap, subst}
-use Rattle.std.specs.Prelude.{All, IfOk, ◌||◌, nat_lt, if◌then◌else◌}
+use Rattle.std.proofs.Common.{◌≡◌, ℕ, zero, suc, Bool, true, false, not, Option, Some, None, List, [], ◌∷◌, ◌++◌, map, Result, refl, sym, ◌∙◌, ap, subst}
+use Rattle.std.specs.Prelude.{All, ◌||◌, nat_lt, if◌then◌else◌}
 use Rattle.std.specs.List.{Contains, flat_map}
 use Rattle.std.proofs.lemmas.List.Elements.{All-append, All-cons, All-contains, All-contains_itself, All-head, All-map, All-nil, All-tail, All-weaker}
 use Rattle.candidate_ir.specs.declared.decl.contents.AliasBoundKind.{AliasBoundKind}
 use Rattle.candidate_ir.specs.declared.decl.contents.AliasBoundKind.TheVariants.{NonSelfBounds, SelfBounds}
-use Rattle.candidate_ir.specs.declared.decl.contents.ImplId.{ImplId}
 use Rattle.candidate_ir.specs.declared.ir.heads.Head.{Head}
 use Rattle.candidate_ir.specs.Context.{Context}
 use Rattle.candidate_ir.specs.Impls.{blanket_impls, relevant_impls}
@@ -29,7 +28,7 @@ use Rattle.candidate_eval.specs.Certainties.{AMBIGUOUS, certainty_and}
 use Rattle.candidate_eval.specs.Characterization.{Group, Loose, Bounded, Walk, Goes, Finds, Refuses, and_then, characterization, each, each_group, group_at, groups, in_normal_form, is_any_bound, is_any_variable, is_of_interest, is_placeholder, is_root_placeholder, looked, most_visits, too_deep, visited, visited_as}
 use Rattle.candidate_eval.specs.Characterization as Walks
 use Rattle.candidate_eval.specs.ImplRules.{TraitGoal}
-use Rattle.candidate_eval.specs.Judging.{Judged, Gives, Refused, Stopped, Place, Reached, At, Ambiguous, Over, answered, asked, by_finding, concluded, continued, judged, run, source_of, start}
+use Rattle.candidate_eval.specs.Judging.{Judged, Gives, Refused, Stopped, Reached, At, Ambiguous, Over, answered, asked, by_finding, concluded, continued, judged, run, source_of, start}
 use Rattle.candidate_eval.specs.Lawful.{Lawful}
 use Rattle.candidate_eval.specs.Required.{each_of}
 use Rattle.candidate_eval.specs.ResponseTrees.{response_of}
@@ -43,15 +42,15 @@ use Rattle.candidate_assembly.specs.AliasBounds.{ChainEnd, Done, Misplaced, AtVa
 use Rattle.candidate_assembly.specs.Assembled.{Assembled, ForNormal, Further, IfUnsizing, IsAssembled, Known, WithImpls, WithUnsizing, alone, asked as was_asked, by_clauses, by_objects, everything, followed, impl_rule, impl_rules, knowable, language_rules, left_out, named_rules, normal, not_asked, others, outside, refused as none_normal, resolved_goal, rule_name, stopped as impls_stopped, stops as unknowable_stops, trait_of, variable, where_rule, where_rules}
 use Rattle.candidate_assembly.specs.DynBounds.{ArePrincipalSupers}
 use Rattle.candidate_assembly.specs.KindBounds.{KindBounds, no_target, refused as none_unsized, rules as by_rules}
-use Rattle.candidate_assembly.specs.Kinds.{BuiltinRule, ImplPart, KindRules, self_type}
+use Rattle.candidate_assembly.specs.Kinds.{BuiltinRule, KindRules, self_type}
 use Rattle.candidate_assembly.specs.Listing.{GoesOn, Listed, Lists, after_list, answers, answers_at, lists, listed, stops, together}
 use Rattle.candidate_assembly.specs.Listing as Listing
 use Rattle.candidate_assembly.specs.ObjectBounds.{ObjectJudged, ObjectList, ObjectsAnswer, OwnClause, answer, has_own_clauses, nested_goals, none_left, nothing, one, own_clauses, rejected, required, stopped as object_stopped, unknown, unmatched}
 use Rattle.candidate_assembly.specs.OneTrivial.{EndsWithout, GivesNone, run_ends}
-use Rattle.candidate_assembly.specs.Opaques.{ambiguous_rule, bounds_said, by_opaques, hidden_behind, open_impl_rules, open_rule_of, open_rules, opaque_rules, or_rigid, proper_impls, variable_answers}
+use Rattle.candidate_assembly.specs.Opaques.{ambiguous_rule, bounds_said, by_opaques, hidden_behind, open_impl_rules, open_rule_of, opaque_rules, or_rigid, proper_impls}
 use Rattle.candidate_assembly.specs.SureAnswers.{AnswersGranted, IsOnChain, IsProved, IsProvedBy, IsRuleOf, RuleGrants, YesIsProved, by_bound, by_clause, by_impl, by_language, by_object, by_rule, by_unsizing, first, further}
 use Rattle.candidate_assembly.specs.Telling.{asking_rule}
-use Rattle.candidate_assembly.specs.TraitAnswers.{Answered, Computes, IsOfOne, IsTraitAnswer, ListsOne}
+use Rattle.candidate_assembly.specs.TraitAnswers.{Answered, Computes, IsTraitAnswer, ListsOne}
 use Rattle.candidate_assembly.specs.TraitRules.{trait_bounds, trait_rules}
 use Rattle.candidate_assembly.specs.Unknowable.{UnknowableJudged, known, unknown as may_be_written, unknowable_rule}
 use Rattle.candidate_assembly.proofs.Causes.{so-ok}

@@ -1,5 +1,5 @@
 -- What is told by a relation of what is judged.
-use Rattle.std.proofs.Common.{◌≡◌, false, true, List, ◌∷◌, Result, Ok, Err, IfErr, sym, ap, subst, ◌∙◌}
+use Rattle.std.proofs.Common.{◌≡◌, false, true, List, ◌∷◌, Result, Ok, Err, IfErr, sym, subst}
 use Rattle.candidate_ir.specs.declared.ir.stop.Stop.{Stop}
 use Rattle.candidate_ir.specs.Context.{Context, Grows}
 use Rattle.candidate_ir.specs.Trees.{Tree}

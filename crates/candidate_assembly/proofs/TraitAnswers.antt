@@ -1,5 +1,5 @@
 -- What a goal of a trait comes to, by its list and by what the candidates that win are merged to.
-use Rattle.std.proofs.Common.{◌≡◌, Bool, true, false, not, ◌&&◌, Option, Some, None, List, [], ◌∷◌, ◌++◌, Result, Ok, Err, length, refl, sym, ◌∙◌, ap, subst}
+use Rattle.std.proofs.Common.{◌≡◌, ◌&&◌, Option, Some, None, List, [], ◌∷◌, ◌++◌, Result, Err, length, refl, sym, ◌∙◌, ap, subst}
 use Rattle.std.specs.Prelude.{◌||◌, option_map, if◌then◌else◌}
 use Rattle.std.specs.List.{list_any}
 use Rattle.candidate_ir.specs.declared.decl.contents.ImplId.{ImplId}

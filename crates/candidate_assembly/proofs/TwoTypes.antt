@@ -1,6 +1,5 @@
 -- Lists of two types: the arguments of a trait that takes one.
 use Rattle.std.proofs.Common.{◌≡◌, ◌<◌, refl, sym, ap, ◌∙◌, arith, List, [], ◌∷◌, length, get_or, map, Option, Some}
-use Rattle.candidate_ir.specs.declared.ir.kinds.Args.{Args}
 use Rattle.candidate_ir.specs.declared.ir.kinds.GenericArg.{GenericArg}
 use Rattle.candidate_ir.specs.declared.ir.kinds.GenericArg.TheVariants as G
 use Rattle.candidate_ir.specs.declared.ir.kinds.TraitRef.{TraitRef}

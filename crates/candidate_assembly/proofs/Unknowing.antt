@@ -1,5 +1,5 @@
 -- What is answered where other crates may write impls.
-use Rattle.std.proofs.Common.{◌≡◌, false, true, List, [], ◌∷◌, Some, Result, Ok, Err, map, refl, sym, ap, subst, ◌∙◌}
+use Rattle.std.proofs.Common.{◌≡◌, false, List, [], ◌∷◌, Some, Result, Ok, Err, map, refl, sym, ap, subst, ◌∙◌}
 use Rattle.std.proofs.lemmas.List.Elements.{All-nil, All-tail}
 use Rattle.candidate_ir.specs.declared.ir.kinds.Clause.{Clause}
 use Rattle.candidate_ir.specs.declared.ir.kinds.GoalSource.TheVariants.{Misc}
@@ -30,14 +30,14 @@ use Rattle.candidate_eval.specs.Accounts.{Account, by_stop}
 use Rattle.candidate_eval.specs.Accounts.StopsSomehow.{asking}
 use Rattle.candidate_eval.specs.Answers.{KnownResult, knowledge_of}
 use Rattle.candidate_eval.specs.Certainties.{AMBIGUOUS}
-use Rattle.candidate_eval.specs.Evaluators.{Keeps, with_goals_of}
+use Rattle.candidate_eval.specs.Evaluators.{with_goals_of}
 use Rattle.candidate_eval.specs.Judging.{At, Judged, Over, Reached, Refused, Stopped, asked, by_knowledge, comes_to, concluded, continued, go_on, judge_knows, judged, run, start, step}
 use Rattle.candidate_eval.specs.Knowing.{StopsKnowing, own_stop}
 use Rattle.candidate_eval.specs.Normalizer.{IsTold}
 use Rattle.candidate_eval.specs.ObjectRequirements.{goals_in, trait_fact}
 use Rattle.candidate_eval.specs.Orphan.{Checked, Knowability}
 use Rattle.candidate_eval.specs.Replacing.{without_first}
-use Rattle.candidate_eval.specs.Rules.{Ending, Step, ask, nested_misc, unknowable}
+use Rattle.candidate_eval.specs.Rules.{Ending, ask, nested_misc, unknowable}
 use Rattle.candidate_eval.specs.States.{Env, Judge, State}
 use Rattle.candidate_assembly.specs.BuiltinLaws.{takes_declared}
 use Rattle.candidate_assembly.specs.SuperLaws.{elaboration_back}

@@ -1,5 +1,5 @@
 -- Rows of unsizing by their heads.
-use Rattle.std.proofs.Common.{◌≡◌, Bool, true, false, ◌&&◌, refl, sym, ap, subst, ◌∙◌, List, [], ◌∷◌, Result, Ok, Err, IfOk, IfErr, if◌then◌else◌}
+use Rattle.std.proofs.Common.{◌≡◌, Bool, true, false, ◌&&◌, refl, sym, ap, subst, ◌∙◌, List, [], ◌∷◌, Result, Ok, Err, if◌then◌else◌}
 use Rattle.candidate_ir.specs.declared.ir.heads.Head.{Head}
 use Rattle.candidate_ir.specs.declared.ir.heads.Head.TheVariants as H
 use Rattle.candidate_ir.specs.declared.ir.kinds.TraitPredicate.{TraitPredicate}
@@ -13,7 +13,6 @@ use Rattle.candidate_eval.specs.declared.eval.response.Candidate.{Candidate as O
 use Rattle.candidate_eval.specs.Accounts.{Account}
 use Rattle.candidate_eval.specs.Alike.{JudgesAlike}
 use Rattle.candidate_eval.specs.ImplRules.{TraitGoal}
-use Rattle.candidate_eval.specs.Knowing.{own_stop}
 use Rattle.candidate_eval.specs.ResponseTrees.{AreCandidates, candidates_of}
 use Rattle.candidate_eval.specs.ObjectRequirements.{first_tree}
 use Rattle.candidate_eval.specs.Rules.{Rule}
@@ -22,7 +21,7 @@ use Rattle.candidate_assembly.specs.BuiltinRules.{self_of}
 use Rattle.candidate_assembly.specs.DynBounds.{is_dynamic}
 use Rattle.candidate_assembly.specs.Listing.{Adds, ConsidersAll, Listed, Lists, Stops, ToldList, after_these, answers}
 use Rattle.candidate_assembly.specs.Telling.{Considers}
-use Rattle.candidate_assembly.specs.Unsizing.{AreSupersIf, AreUnsizingSupers, IsUnsizedTo, rules_of_row, unsizing_row, unsizing_rules}
+use Rattle.candidate_assembly.specs.Unsizing.{AreSupersIf, AreUnsizingSupers, IsUnsizedTo, rules_of_row, unsizing_row}
 use Rattle.candidate_assembly.specs.declared.trait_goals.unsizing_rows.UnsizingRow.{UnsizingRow}
 use Rattle.candidate_assembly.specs.declared.trait_goals.unsizing_rows.UnsizingRow.TheVariants as R
 use Rattle.candidate_assembly.proofs.Listing.{no-rule-listed, one-listed, whole_list}

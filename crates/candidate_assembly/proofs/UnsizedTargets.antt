@@ -1,5 +1,5 @@
 -- The target of unsizing, before and after it was normalised.
-use Rattle.std.proofs.Common.{Global, Vec, ◌≡◌, ◌∷◌, IfErr, Bool, true, false, refl, sym, ap, subst, ◌∙◌, List, [], Result, Ok, Err, Option, Some, None, if◌then◌else◌}
+use Rattle.std.proofs.Common.{Global, Vec, ◌≡◌, ◌∷◌, IfErr, Bool, true, false, refl, sym, ap, subst, ◌∙◌, List, [], Result, Ok, Err, Some, None, if◌then◌else◌}
 use Rattle.candidate_ir.specs.declared.ir.heads.Head.{Head}
 use Rattle.candidate_ir.specs.declared.ir.heads.Head.TheVariants as H
 use Rattle.candidate_ir.specs.declared.ir.kinds.ParamEnv.{ParamEnv}
@@ -11,7 +11,7 @@ use Rattle.candidate_ir.specs.Substitutions.{alone}
 use Rattle.candidate_ir.specs.Supers.{after_first}
 use Rattle.candidate_ir.specs.Trees.{Forest, none, tree, Tree, holds, is_param}
 use Rattle.candidate_ir.specs.WellFormed.{IsWellFormedTable}
-use Rattle.candidate_ir.specs.Words.{args_forest, env_forest}
+use Rattle.candidate_ir.specs.Words.{env_forest}
 use Rattle.candidate_eval.specs.declared.eval.response.Candidate.{Candidate as OfNumbers}
 use Rattle.candidate_eval.specs.Accounts.{Account}
 use Rattle.candidate_eval.specs.Alike.{JudgesAlike}
@@ -19,7 +19,7 @@ use Rattle.candidate_eval.specs.ImplRules.{TraitGoal}
 use Rattle.candidate_eval.specs.Lawful.{NormalFormLaws}
 use Rattle.candidate_eval.specs.ObjectRequirements.{first_tree}
 use Rattle.candidate_eval.specs.ResponseTrees.{AreCandidates, IsResponse, candidates_of}
-use Rattle.candidate_eval.specs.Soundness.{AreTreesOf, is_strange}
+use Rattle.candidate_eval.specs.Soundness.{is_strange}
 use Rattle.candidate_eval.specs.States.{Env, Judge, State}
 use Rattle.candidate_ir.proofs.Kept.{grows-refl}
 use Rattle.std.proofs.lemmas.List.Elements.{All-nil}

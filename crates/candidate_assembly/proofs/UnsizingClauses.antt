@@ -1,5 +1,5 @@
 -- Clauses that one type unsizes to another.
-use Rattle.std.proofs.Common.{◌≡◌, [], ◌∷◌, List, Some, sym, refl, ap, ◌∙◌}
+use Rattle.std.proofs.Common.{◌≡◌, [], ◌∷◌, Some, sym, refl, ap, ◌∙◌}
 use Rattle.candidate_ir.specs.declared.ir.kinds.PredicatePolarity.TheVariants as Pol
 use Rattle.candidate_ir.specs.declared.ir.kinds.TraitPredicate.{TraitPredicate}
 use Rattle.candidate_ir.specs.declared.ir.kinds.TraitRef.{TraitRef}

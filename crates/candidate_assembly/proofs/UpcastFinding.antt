@@ -1,18 +1,18 @@
 -- Bounds of the source that are tried one after the other.
-use Rattle.std.proofs.Common.{◌≡◌, ◌≤◌, ◌<◌, ◌+◌, ◌&&◌, ℕ, Bool, true, false, Option, List, [], ◌∷◌, ◌++◌, get_or, length, take, refl, sym, ap, ◌∙◌}
+use Rattle.std.proofs.Common.{◌≡◌, ◌<◌, ◌+◌, ◌&&◌, ℕ, Bool, true, false, List, [], ◌∷◌, ◌++◌, get_or, length, take, refl, sym, ap, ◌∙◌}
 use Rattle.std.specs.Prelude.{if◌then◌else◌}
 use Rattle.std.specs.List.{filter}
 use Rattle.std.proofs.lemmas.List.{append-nil, take_more}
 use Rattle.std.proofs.lemmas.List.Elements.{filter-append}
 use Rattle.candidate_ir.specs.declared.ir.kinds.Pred.{Pred}
 use Rattle.candidate_ir.specs.Context.{Context, Grows}
-use Rattle.candidate_ir.specs.Trees.{Forest, Tree}
+use Rattle.candidate_ir.specs.Trees.{Tree}
 use Rattle.candidate_ir.specs.Words.{IsPred, pred_tree}
 use Rattle.candidate_eval.specs.Alike.{JudgesAlike}
 use Rattle.candidate_eval.specs.Mentions.{IsBelow}
 use Rattle.candidate_eval.specs.States.{Env, Judge, State, is_some}
 use Rattle.candidate_assembly.specs.DynBounds.{projects}
-use Rattle.candidate_assembly.specs.Upcasting.{IsRulePred, meets_projection, row_under, rows_met}
+use Rattle.candidate_assembly.specs.Upcasting.{IsRulePred, row_under, rows_met}
 use Rattle.candidate_assembly.proofs.UpcastMatches.{met-then, rows-alike, under-below, under-plain}
 use Rattle.candidate_assembly.proofs.UpcastRows.{pred-kept}
 

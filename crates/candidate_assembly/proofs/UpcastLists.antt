@@ -37,7 +37,7 @@ use Rattle.candidate_assembly.specs.Listing.{ConsidersAll, Listed, Lists, after_
 use Rattle.candidate_assembly.specs.Standing.{BothStand}
 use Rattle.candidate_assembly.specs.Telling.{StopsOfItself}
 use Rattle.candidate_assembly.specs.TraitRules.{trait_rules}
-use Rattle.candidate_assembly.specs.Unsizing.{AreSupersIf, AreUnsizingSupers, IsUnsizedTo, bounds_met, dyn_to_dyn, keeps_principal, outlives, rules_of_row, unsizing_row, unsizing_rules, upcast_rule, upcasts}
+use Rattle.candidate_assembly.specs.Unsizing.{AreSupersIf, AreUnsizingSupers, IsUnsizedTo, bounds_met, dyn_to_dyn, keeps_principal, rules_of_row, unsizing_row, unsizing_rules, upcast_rule, upcasts}
 use Rattle.candidate_assembly.specs.UnsizingLaws.{upcast_stays}
 use Rattle.candidate_assembly.specs.Upcasting.{IsRuleTree, IsUpcastOf, upcast_by, upcasts_by}
 use Rattle.candidate_assembly.proofs.Causes.{later, made-here}

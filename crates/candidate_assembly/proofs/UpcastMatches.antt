@@ -1,15 +1,10 @@
 -- Rows that are equated, and what is pending evaluated, by calls and by steps of a rule.
-use Rattle.std.proofs.Common.{◌≡◌, ◌≤◌, ◌<◌, ◌+◌, ◌&&◌, ℕ, zero, suc, Bool, true, false, Option, Some, None, List, [], ◌∷◌, ◌++◌, arith, length, map, refl, sym, ap, subst, ◌∙◌}
+use Rattle.std.proofs.Common.{◌≡◌, ◌≤◌, ◌<◌, ◌+◌, ◌&&◌, ℕ, suc, Bool, true, false, Option, Some, None, List, [], ◌∷◌, arith, length, map, refl, sym, ap, subst, ◌∙◌}
 use Rattle.std.specs.Prelude.{if◌then◌else◌, ◌||◌}
 use Rattle.std.specs.List.{All, filter}
 use Rattle.std.proofs.lemmas.List.{length-append}
 use Rattle.std.proofs.lemmas.List.Elements.{All-head, All-tail}
-use Rattle.candidate_ir.specs.declared.ir.heads.ConstHead.TheVariants as C
-use Rattle.candidate_ir.specs.declared.ir.heads.Head.{Head}
-use Rattle.candidate_ir.specs.declared.ir.heads.Head.TheVariants as H
-use Rattle.candidate_ir.specs.declared.ir.kinds.RegionKind.TheVariants as R
 use Rattle.candidate_ir.specs.Folding.{substituted}
-use Rattle.candidate_ir.specs.Opening.{opened}
 use Rattle.candidate_ir.specs.Substitutions.{alone}
 use Rattle.candidate_ir.specs.Supers.{after_first}
 use Rattle.candidate_ir.specs.Trees.{Kind, ConstantKind, RegionKind, Forest, none, tree, Tree, count, holds, is_param, join}
@@ -19,20 +14,19 @@ use Rattle.candidate_eval.specs.declared.eval.certainty.Certainty.{Certainty}
 use Rattle.candidate_eval.specs.declared.eval.variable.VariableKind.{VariableKind}
 use Rattle.candidate_eval.specs.declared.eval.variable.VariableKind.TheVariants.{Term, Region}
 use Rattle.candidate_eval.specs.Alike.{JudgesAlike}
-use Rattle.candidate_eval.specs.Callable.{last_tree}
 use Rattle.candidate_eval.specs.Evaluators.{accepted, rigid, with_left, with_rigid}
-use Rattle.candidate_eval.specs.Judging.{Place, Reached, At, Ambiguous, Over, Refused, at_state, equated_at, go_on, is_at, made_fresh, made_rigid, matched_and_settled, matches, picked, put_in, put_in_tree, reached, run, settled_at, start, step, taken, with_goals}
+use Rattle.candidate_eval.specs.Judging.{Place, At, Refused, at_state, equated_at, go_on, is_at, made_fresh, made_rigid, matched_and_settled, matches, put_in, reached, run, settled_at, start, with_goals}
 use Rattle.candidate_eval.specs.Lawful.{Lawful}
-use Rattle.candidate_eval.specs.Mentions.{IsBelow, MatchesBelow, StepsBelow, is_from}
+use Rattle.candidate_eval.specs.Mentions.{IsBelow, is_from}
 use Rattle.candidate_eval.specs.Naming.{named}
-use Rattle.candidate_eval.specs.Rules.{Match, Upcast, Step, enter, equate, fresh, pick, settle}
+use Rattle.candidate_eval.specs.Rules.{Match, Upcast, Step, enter, equate, fresh, settle}
 use Rattle.candidate_eval.specs.States.{Env, State, Judge, Pending, fresh_info, fresh_variables, is_some, next, placeholder, placeholders, variable, variable_kind, with_fresh, with_fresh_variables}
 use Rattle.candidate_eval.proofs.Holds.{holds_parts}
-use Rattle.candidate_eval.proofs.Marking.{after-unmarked, alone-unmarked, below-more, last-unmarked, unmarked}
-use Rattle.candidate_eval.proofs.Naming.{AreOfVariables, StandFor, kinds-bound, last-substituted, named-fresh, named-row-below, opened-below, placeholders-stand, rigid-below}
+use Rattle.candidate_eval.proofs.Marking.{after-unmarked, below-more, unmarked}
+use Rattle.candidate_eval.proofs.Naming.{AreOfVariables, kinds-bound, named-fresh, named-row-below, opened-below, placeholders-stand}
 use Rattle.candidate_assembly.specs.DynBounds.{projects}
 use Rattle.candidate_assembly.specs.Telling.{standing}
-use Rattle.candidate_assembly.specs.Unsizing.{bound_match, kinds_bound, principal_steps, trait_row}
+use Rattle.candidate_assembly.specs.Unsizing.{bound_match, kinds_bound, principal_steps}
 use Rattle.candidate_assembly.specs.Upcasting.{IsRuleTree, Row, meets_projection, row_under, row_without_self, rows_met, rows_state, source_trees, target_trees}
 use Rattle.candidate_assembly.proofs.NamesWithin.{named-within}
 

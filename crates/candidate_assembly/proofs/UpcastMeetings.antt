@@ -9,20 +9,20 @@ use Rattle.candidate_ir.proofs.Splits.{count-join}
 use Rattle.candidate_eval.specs.Alike.{JudgesAlike}
 use Rattle.candidate_eval.specs.Callable.{last_tree}
 use Rattle.candidate_eval.specs.Certainties.{AMBIGUOUS}
-use Rattle.candidate_eval.specs.Judging.{Place, Reached, At, Ambiguous, Over, Refused, asked, comes_to, concluded, continued, go_on, matches, picked, put_in_tree, reached, run, source_of, step, taken}
+use Rattle.candidate_eval.specs.Judging.{Place, Reached, At, Ambiguous, Over, Refused, asked, comes_to, concluded, continued, go_on, picked, put_in_tree, reached, run, source_of, step, taken}
 use Rattle.candidate_eval.specs.Lawful.{Lawful}
 use Rattle.candidate_eval.specs.Mentions.{EndingBelow, IsBelow, MatchesBelow, StepsBelow, is_from}
 use Rattle.candidate_eval.specs.Naming.{named}
-use Rattle.candidate_eval.specs.Rules.{Ending, Match, Step, Upcast, pick}
+use Rattle.candidate_eval.specs.Rules.{Ending, Step, Upcast, pick}
 use Rattle.candidate_eval.specs.States.{Env, State, Judge, next}
 use Rattle.candidate_eval.proofs.Marking.{below-more, last-unmarked}
-use Rattle.candidate_eval.proofs.Naming.{last-substituted, named-fresh, named-row-below}
+use Rattle.candidate_eval.proofs.Naming.{last-substituted, named-row-below}
 use Rattle.candidate_eval.proofs.RuleRuns.{comes_append, left_is_whole}
 use Rattle.candidate_assembly.specs.DynBounds.{projects, same_number, trait_of_bound}
 use Rattle.candidate_assembly.specs.Telling.{standing}
 use Rattle.candidate_assembly.specs.Unsizing.{Met, bound_match, kinds_bound, met_by, principal_met, principal_steps, projection_met, unmet}
 use Rattle.candidate_assembly.specs.Upcasting.{EndsThere, GoesOn, IsRuleTree, Row, meets_projection, row_under, row_without_self, rows_met, source_trees}
-use Rattle.candidate_assembly.proofs.UpcastMatches.{after-below, after_rows, all-longer, below-join, bounds-match, count-after, match-leads, principal-plain, principal-run, source-below, source-put, under-below, under-plain}
+use Rattle.candidate_assembly.proofs.UpcastMatches.{after-below, after_rows, all-longer, below-join, bounds-match, count-after, match-leads, principal-run, source-below, source-put, under-below, under-plain}
 
 -- no principal is of the target's trait
 abbrev pub no_principal : Option Tree → Tree → Type 0

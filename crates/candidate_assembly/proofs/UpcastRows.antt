@@ -27,7 +27,7 @@ use Rattle.candidate_ir.specs.Context.{Context, Grows}
 use Rattle.candidate_ir.specs.Kinds.{arg_child, clause_head, fact_children, numbers}
 use Rattle.candidate_ir.specs.Nodes.{kind_at, rows, tree_at, trees_at}
 use Rattle.candidate_ir.specs.Substitutions.{alone}
-use Rattle.candidate_ir.specs.Trees.{ArgumentsKind, BinderKind, ConstantKind, Kind, PredicateKind, RegionKind, TypeKind, Forest, none, tree, Tree, join, row}
+use Rattle.candidate_ir.specs.Trees.{ArgumentsKind, BinderKind, ConstantKind, Kind, PredicateKind, RegionKind, TypeKind, Forest, none, Tree, join, row}
 use Rattle.candidate_ir.specs.Supers.{after_first}
 use Rattle.candidate_ir.specs.Words.{ClauseFits, IsArgs, IsPred, IsTy, IsVars, ListFits, PredFits, args_forest, clause_kind_tree, clause_tree, list_forest, pred_kind_tree, pred_tree, ty_tree, vars_tree}
 use Rattle.candidate_ir.proofs.Kept.{args-kept, number-kept}

@@ -6,7 +6,6 @@ use Rattle.candidate_ir.specs.declared.ir.kinds.Clause.{Clause}
 use Rattle.candidate_ir.specs.declared.ir.kinds.ParamEnv.{ParamEnv}
 use Rattle.candidate_ir.specs.declared.ir.kinds.Pred.{Pred}
 use Rattle.candidate_ir.specs.Context.{Context, Grows}
-use Rattle.candidate_ir.specs.Substitutions.{alone}
 use Rattle.candidate_ir.specs.Trees.{Tree, is_param, tree_holds}
 use Rattle.candidate_ir.specs.Words.{ClauseListFits, IsClause, IsParamEnv, clause_tree, env_forest, pred_tree}
 use Rattle.candidate_ir.proofs.Joining.{clause-kept}

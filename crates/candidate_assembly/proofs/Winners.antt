@@ -1,5 +1,5 @@
 -- Candidates that win are of the list, and so is the response that they are merged to.
-use Rattle.std.proofs.Common.{◌≡◌, ◌<◌, ℕ, Bool, true, false, not, ◌&&◌, Option, Some, None, List, [], ◌∷◌, ◌++◌, refl, sym, ◌∙◌, ap, subst}
+use Rattle.std.proofs.Common.{◌≡◌, ℕ, Bool, true, false, not, ◌&&◌, Option, Some, None, List, [], ◌∷◌, ◌++◌, refl, sym, ◌∙◌, ap, subst}
 use Rattle.std.specs.Prelude.{All, option_map, slice_get, if◌then◌else◌}
 use Rattle.std.specs.List.{Contains}
 use Rattle.std.specs.Option.{unwrap_or}
@@ -28,7 +28,7 @@ use Rattle.candidate_assembly.specs.Listing.{Listed, Lists, Stops}
 use Rattle.candidate_assembly.specs.Preference.{Class, Proved, answer_by, assumed, by, class_of, has, has_only, is_marker, least_global, mode_of, not_by, object_wins, or_class, prefer_objects, preferred, proved, unmerged}
 use Rattle.candidate_assembly.specs.Sources.{is_alias_bound, is_global, is_impl, is_non_global, is_self_bound}
 use Rattle.candidate_assembly.specs.Specialization.{is_driven_out, scanned, unspecialized}
-use Rattle.candidate_assembly.specs.TraitAnswers.{Answered, IsOfOne, IsTraitAnswer, ListsOne, TraitAnswer, answer_of, or_refused}
+use Rattle.candidate_assembly.specs.TraitAnswers.{Answered, IsOfOne, IsTraitAnswer, ListsOne, answer_of, or_refused}
 
 -- What holds of all candidates holds of those that win.
 module _ (P : Candidate → Type 0) where

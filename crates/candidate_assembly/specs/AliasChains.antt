@@ -2,14 +2,12 @@
 use Rattle.std.specs.Prelude.{◌≡◌, true, Option, Some, None, Result, IfErr, IfOk, IfSome, List, option_map}
 use Rattle.candidate_ir.specs.declared.ir.heads.Head.TheVariants as H
 use Rattle.candidate_ir.specs.declared.ir.kinds.AliasTy.{AliasTy}
-use Rattle.candidate_ir.specs.declared.ir.kinds.Args.{Args}
 use Rattle.candidate_ir.specs.declared.ir.kinds.ParamEnv.{ParamEnv}
 use Rattle.candidate_ir.specs.declared.ir.kinds.Ty.{Ty}
 use Rattle.candidate_ir.specs.declared.ir.stop.Stop.{Stop}
-use Rattle.candidate_ir.specs.Context.{Context, Grows}
+use Rattle.candidate_ir.specs.Context.{Context}
 use Rattle.candidate_ir.specs.Owned.{AliasArgumentsFit}
 use Rattle.candidate_ir.specs.Trees.{Tree}
-use Rattle.candidate_ir.specs.WellFormed.{IsWellFormedTable}
 use Rattle.candidate_ir.specs.Words.{IsArgs, IsTy, ty_tree}
 use Rattle.candidate_eval.specs.declared.eval.response.Candidate.{Candidate as OfNumbers}
 use Rattle.candidate_eval.specs.Accounts.{Account}
@@ -23,7 +21,7 @@ use Rattle.candidate_assembly.specs.declared.assembly.alias_chain.ChainEnd.{Chai
 use Rattle.candidate_assembly.specs.declared.assembly.alias_chain.ChainEnd.TheVariants as F
 use Rattle.candidate_assembly.specs.AliasBounds.{ChainComes, ChainEnd, AtVariable, Done, Misplaced, has_bounds, is_opaque, is_projection}
 use Rattle.candidate_assembly.specs.KindBounds.{Additional, KindBounds}
-use Rattle.candidate_assembly.specs.Kinds.{IsGoal, KindRules}
+use Rattle.candidate_assembly.specs.Kinds.{KindRules}
 use Rattle.candidate_assembly.specs.Earlier.{IsEarlier}
 use Rattle.candidate_assembly.specs.Listing.{Listed, Lists, ToldList, together}
 use Rattle.candidate_assembly.specs.Telling.{StopsOfItself}

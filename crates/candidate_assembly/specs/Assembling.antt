@@ -1,8 +1,6 @@
 -- What calls say that go on from a list of candidates.
 use Rattle.std.specs.Prelude.{◌≡◌, List, IfErr, Result, length}
-use Rattle.candidate_ir.specs.declared.ir.kinds.Args.{Args}
 use Rattle.candidate_ir.specs.declared.ir.kinds.ParamEnv.{ParamEnv}
-use Rattle.candidate_ir.specs.declared.ir.kinds.Ty.{Ty}
 use Rattle.candidate_ir.specs.declared.ir.stop.Stop.{Stop}
 use Rattle.candidate_ir.specs.Context.{Context}
 use Rattle.candidate_ir.specs.Trees.{Tree}

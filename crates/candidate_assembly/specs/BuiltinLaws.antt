@@ -15,8 +15,6 @@ use Rattle.candidate_ir.specs.declared.ir.kinds.Binder.{Binder}
 use Rattle.candidate_ir.specs.declared.ir.kinds.Clause.{Clause}
 use Rattle.candidate_ir.specs.declared.ir.kinds.ClosureKind.{ClosureKind}
 use Rattle.candidate_ir.specs.declared.ir.kinds.FnSig.{FnSig}
-use Rattle.candidate_ir.specs.declared.ir.kinds.ParamEnv.{ParamEnv}
-use Rattle.candidate_ir.specs.declared.ir.kinds.TraitPredicate.{TraitPredicate}
 use Rattle.candidate_ir.specs.declared.ir.kinds.Ty.{Ty}
 use Rattle.candidate_ir.specs.Contents.{Impl}
 use Rattle.candidate_ir.specs.Context.{Context, Grows, world}
@@ -30,12 +28,11 @@ use Rattle.candidate_ir.specs.Nodes.{kind_at}
 use Rattle.candidate_ir.specs.References.{IsWellFormed}
 use Rattle.candidate_ir.specs.Trees.{Kind, TypeKind, BinderKind, Forest, none, tree, Tree, row}
 use Rattle.candidate_ir.specs.WellFormed.{AreGiven, ImplIsGiven, IsWellFormedTable, SignatureFits, TypesFit}
-use Rattle.candidate_ir.specs.Words.{IsTy, args_forest, clause_tree, ty_tree}
+use Rattle.candidate_ir.specs.Words.{IsTy, clause_tree, ty_tree}
 use Rattle.candidate_ir.specs.Worlds.{Fits, Reference, TraitSort, child_kinds, joined, kinds_of, parameters}
 use Rattle.candidate_ir.proofs.Given.{definition_given, hidden_fits, impl_given, sig_fits}
 use Rattle.candidate_ir.proofs.Kept.{args-kept, number-kept, ty-kept}
 use Rattle.candidate_ir.proofs.Lists.{below_kind}
-use Rattle.candidate_ir.proofs.References.{args-fit}
 use Rattle.candidate_eval.specs.declared.eval.certainty.Certainty.TheVariants.{Yes}
 use Rattle.candidate_eval.specs.declared.eval.source.BuiltinImplSource.TheVariants.{Trivial}
 use Rattle.candidate_eval.specs.declared.eval.source.CandidateSource.TheVariants.{BuiltinImpl}
@@ -55,7 +52,7 @@ use Rattle.candidate_assembly.specs.BuiltinRules.{ambiguous_rule, auto_barred, a
 use Rattle.candidate_assembly.specs.Given.{AdtIsGiven, BoundsAreGiven, IsCounted, TraitIsGiven, AllIsGiven, all_is_given, declared_adt, declared_opaque, declared_trait}
 use Rattle.candidate_assembly.specs.KindLaws.{ReferenceFits}
 use Rattle.candidate_assembly.specs.Kinds.{BuiltinRule, ErrorRule, AutoTraitRule, TraitAliasRule, SizednessRule, CopyCloneRule, FnTraitRule, FnPtrTraitRule, TupleRule, PointeeRule, DiscriminantKindRule, DestructRule, NoDropRule}
-use Rattle.candidate_assembly.specs.TraitGoals.{arguments_held, item_trait, trait_goal, types_held}
+use Rattle.candidate_assembly.specs.TraitGoals.{item_trait}
 use Rattle.candidate_assembly.specs.TraitRules.{trait_rules}
 
 -- Lists of which each element comes to the same.

@@ -18,7 +18,6 @@ use Rattle.candidate_ir.specs.Words.{IsClause, clause_tree}
 use Rattle.candidate_ir.specs.Worlds.{TraitSort, Fits, joined, kinds_of, parameters}
 use Rattle.candidate_eval.specs.declared.eval.mode.TypingMode.{TypingMode}
 use Rattle.candidate_eval.specs.Mentions.{IsBelow, RuleBelow, StepsBelow}
-use Rattle.candidate_eval.specs.Rules.{Rule}
 use Rattle.candidate_eval.specs.States.{Env, State, resolved, resolved_tree}
 use Rattle.candidate_assembly.specs.KindBounds.{KindBounds}
 use Rattle.candidate_assembly.specs.Kinds.{BuiltinRule, GoalBelow, IsGoal, KindRules, passes, self_type}

@@ -4,7 +4,6 @@ use Rattle.std.specs.List.{All, filter}
 use Rattle.candidate_ir.specs.declared.ir.kinds.Binder.{Binder}
 use Rattle.candidate_ir.specs.declared.ir.kinds.Clause.{Clause}
 use Rattle.candidate_ir.specs.declared.ir.kinds.TraitRef.{TraitRef}
-use Rattle.candidate_ir.specs.declared.ir.stop.Stop.{Stop}
 use Rattle.candidate_ir.specs.Context.{Context}
 use Rattle.candidate_ir.specs.Trees.{Forest, Tree, holds, is_param}
 use Rattle.candidate_ir.specs.Words.{IsArgs, IsClause, IsVars, args_forest, clause_kind_tree, clause_tree}

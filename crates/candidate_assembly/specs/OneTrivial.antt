@@ -1,8 +1,8 @@
 -- Of the candidates for a goal of a trait one at most wins over all others: the language's own rule alone gives such a one, and a goal has
 -- one of these at most.
-use Rattle.std.proofs.Common.{◌≡◌, ◌+◌, arith, refl, ap, subst, ℕ, suc, Bool, true, false, Option, Some, None, List, [], ◌∷◌, ◌++◌, map, length}
+use Rattle.std.proofs.Common.{◌≡◌, ◌+◌, arith, refl, ap, subst, ℕ, suc, Bool, true, false, Option, Some, None, List, [], ◌∷◌, ◌++◌, map}
 use Rattle.std.specs.Prelude.{cond, not, ◌≤◌, Result, IfOk, if◌then◌else◌}
-use Rattle.std.specs.List.{count_by, filter, flat_map, sum_by}
+use Rattle.std.specs.List.{count_by, filter, flat_map}
 use Rattle.std.proofs.lemmas.List.Sums.{count_by-le-length, sum_by-append}
 use Rattle.candidate_ir.specs.declared.decl.contents.AliasBoundKind.{AliasBoundKind}
 use Rattle.candidate_ir.specs.declared.decl.contents.LangItem.TheVariants as L
@@ -43,11 +43,11 @@ use Rattle.candidate_assembly.specs.KindBounds.{KindBounds, UnsizingList, no_tar
 use Rattle.candidate_assembly.specs.Kinds.{BuiltinRule, KindRules, self_type}
 use Rattle.candidate_assembly.specs.Listing.{GoesOn, Listed, Lists, Stops, after_list, answers, answers_at, lists, listed, stops, together}
 use Rattle.candidate_assembly.specs.ObjectBounds.{ObjectJudged, ObjectList, ObjectsAnswer, OwnClause, answer, none_left, nothing, numbered, one, own_clause, own_clauses, rejected, required, stopped as object_stopped, unknown, unmatched}
-use Rattle.candidate_assembly.specs.Opaques.{ambiguous_rule, bounds_said, by_opaques, hidden_behind, open_impl_rules, open_rule_of, open_rules, opaque_rules, or_rigid, proper_impls, variable_answers}
+use Rattle.candidate_assembly.specs.Opaques.{ambiguous_rule, bounds_said, by_opaques, hidden_behind, open_impl_rules, open_rule_of, opaque_rules, or_rigid, proper_impls, variable_answers}
 use Rattle.candidate_assembly.specs.Telling.{asking_rule}
 use Rattle.candidate_assembly.specs.TraitGoals.{item_trait}
 use Rattle.candidate_assembly.specs.TraitRules.{trait_bounds, trait_rules}
-use Rattle.candidate_assembly.specs.Unsizing.{any_to_dyn, is_struct, keeps_principal, rules_of_row, struct_to_struct, unsizing_row, unsizing_rules, upcast_rule, upcasts}
+use Rattle.candidate_assembly.specs.Unsizing.{any_to_dyn, is_struct, keeps_principal, rules_of_row, struct_to_struct, unsizing_row, upcast_rule, upcasts}
 
 -- How many of the candidates win over all others; none of a list does.
 

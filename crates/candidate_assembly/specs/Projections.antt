@@ -1,5 +1,5 @@
 -- Goals that normalise a projection to a term: their rules, as data.
-use Rattle.std.specs.Prelude.{ℕ, Bool, true, false, ◌&&◌, Option, Some, None, List, [], ◌∷◌, ◌++◌, map}
+use Rattle.std.specs.Prelude.{ℕ, Bool, true, false, ◌&&◌, Option, Some, None, List, [], ◌∷◌, map}
 use Rattle.candidate_ir.specs.declared.decl.contents.ImplId.{ImplId}
 use Rattle.candidate_ir.specs.declared.decl.contents.ImplPolarity.{ImplPolarity}
 use Rattle.candidate_ir.specs.declared.decl.contents.ImplPolarity.TheVariants as I

@@ -1,5 +1,5 @@
 -- Goals of traits keep the laws of a kind of goals.
-use Rattle.std.proofs.Common.{◌≡◌, ℕ, Bool, true, false, refl, sym, ap, ◌∙◌, Option, Some, None, List, [], ◌∷◌}
+use Rattle.std.proofs.Common.{◌≡◌, ℕ, Bool, true, false, refl, ap, Option, Some, None, List, [], ◌∷◌}
 use Rattle.std.specs.Prelude.{◌&&◌}
 use Rattle.std.proofs.lemmas.List.Elements.{All-nil}
 use Rattle.candidate_ir.specs.declared.ir.heads.ClauseHead.TheVariants as Cl
@@ -7,22 +7,18 @@ use Rattle.candidate_ir.specs.declared.ir.heads.Head.{Head}
 use Rattle.candidate_ir.specs.declared.ir.heads.Head.TheVariants as H
 use Rattle.candidate_ir.specs.declared.ir.heads.PartHead.TheVariants as P
 use Rattle.candidate_ir.specs.declared.ir.kinds.Clause.{Clause}
-use Rattle.candidate_ir.specs.declared.ir.kinds.ParamEnv.{ParamEnv}
-use Rattle.candidate_ir.specs.declared.ir.kinds.TraitPredicate.{TraitPredicate}
 use Rattle.candidate_ir.specs.Binders.{escapes}
 use Rattle.candidate_ir.specs.Context.{Context, world}
 use Rattle.candidate_ir.specs.References.{FitsAmong, IsWellFormed}
 use Rattle.candidate_ir.specs.Substitutions.{alone}
 use Rattle.candidate_ir.specs.Supers.{after_first}
 use Rattle.candidate_ir.specs.Trees.{Kind, TypeKind, BinderKind, Forest, none, tree, Tree, holds}
-use Rattle.candidate_ir.specs.WellFormed.{IsWellFormedTable}
 use Rattle.candidate_ir.specs.Words.{clause_tree}
 use Rattle.candidate_ir.specs.Worlds.{TraitSort, joined, kinds_of, parameters}
 use Rattle.candidate_ir.proofs.References.{fit-at}
 use Rattle.candidate_eval.specs.ImplRules.{TraitGoal}
 use Rattle.candidate_eval.specs.Mentions.{RuleBelow}
 use Rattle.candidate_eval.specs.ObjectRequirements.{first_tree}
-use Rattle.candidate_eval.specs.Rules.{Rule}
 use Rattle.candidate_eval.specs.States.{State, resolved, resolved_tree}
 use Rattle.candidate_eval.proofs.Closed.{after-closed, closed, closed-parts}
 use Rattle.candidate_eval.proofs.Holds.{holds_parts}

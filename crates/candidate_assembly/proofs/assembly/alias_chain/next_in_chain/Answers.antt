@@ -1,4 +1,4 @@
-use Rattle.std.proofs.Common.{◌≡◌, true, false, subst, ap}
+use Rattle.std.proofs.Common.{◌≡◌, true, subst, ap}
 use Rattle.candidate_ir.specs.declared.ir.heads.Head.TheVariants as H
 use Rattle.candidate_ir.specs.declared.ir.kinds.AliasKind.{AliasKind}
 use Rattle.candidate_ir.specs.declared.ir.kinds.TyKind.TheVariants as K

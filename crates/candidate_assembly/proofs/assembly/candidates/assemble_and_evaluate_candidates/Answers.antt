@@ -8,7 +8,6 @@ use Rattle.candidate_eval.specs.Accounts.{by_stop}
 use Rattle.candidate_eval.specs.States.{Env}
 use Rattle.candidate_assembly.specs.Kinds.{self_type}
 use Rattle.candidate_eval.specs.Accounts as question
-use Rattle.candidate_eval.specs.declared.eval.refusal.NoSolutionOrStop.{NoSolutionOrStop}
 use Rattle.candidate_assembly.proofs.AssembledSteps.{held-in, normal-form-stands, normal-listed, normalizing-stopped, refused-listed, stop-handed}
 use Rattle.candidate_assembly.proofs.Keeping.{goal-kept}
 use Rattle.candidate_assembly.proofs.OneTrivial.{one-listed-of}

@@ -1,11 +1,11 @@
-use Rattle.std.proofs.Common.{◌≡◌, ◌<◌, ℕ, ◌∙◌, ap, subst, sym, refl, arith, true, false, nat_lt, ltb-false, ◌+◌}
+use Rattle.std.proofs.Common.{◌≡◌, ◌<◌, ℕ, ◌∙◌, ap, subst, sym, refl, arith, false, nat_lt, ltb-false, ◌+◌}
 use Rattle.candidate_ir.specs.declared.ir.heads.Head.TheVariants as H
 use Rattle.candidate_ir.specs.declared.ir.stop.Stop.TheVariants.{NodesFull}
 use Rattle.candidate_ir.specs.Kinds.{arg_number}
 use Rattle.candidate_ir.specs.Context.{Context}
 use Rattle.candidate_ir.specs.Folds.{arg_tree, is_asked}
 use Rattle.candidate_ir.specs.Nodes.{tree_at}
-use Rattle.candidate_ir.specs.Opening.{opened, opened_tree}
+use Rattle.candidate_ir.specs.Opening.{opened_tree}
 use Rattle.candidate_ir.specs.Trees.{RegionKind, Tree, binders_of}
 use Rattle.candidate_ir.specs.Words.{args_forest, env_forest, region_tree}
 use Rattle.candidate_ir.proofs.Kept.{args-kept}

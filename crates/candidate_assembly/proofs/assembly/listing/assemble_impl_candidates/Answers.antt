@@ -1,4 +1,4 @@
-use Rattle.std.proofs.Common.{rules, ◌≡◌, ◌≤◌, length, Err, ap, ◌∙◌, subst, sym}
+use Rattle.std.proofs.Common.{rules, ◌≤◌, length, Err, ap, ◌∙◌, subst, sym}
 use Rattle.std.specs.Prelude.{slice_index_or}
 use Rattle.std.proofs.lemmas.Result.{err_from_is_err_and}
 use Rattle.candidate_ir.specs.declared.decl.contents.ImplId.{ImplId}

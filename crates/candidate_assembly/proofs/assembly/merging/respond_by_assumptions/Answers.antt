@@ -1,4 +1,4 @@
-use Rattle.std.proofs.Common.{rules, refl, ◌≡◌, Option, Some, None, List, Result, ap, sym, subst, ◌∙◌}
+use Rattle.std.proofs.Common.{rules, ◌≡◌, Option, List, Result, ap, sym, subst, ◌∙◌}
 use Rattle.std.specs.Fn.{FnOnceReturnsAtMut}
 use Rattle.candidate_eval.specs.declared.eval.refusal.NoSolutionOrStop.{NoSolutionOrStop}
 use Rattle.candidate_eval.specs.declared.eval.response.Candidate.{Candidate as OfNumbers}

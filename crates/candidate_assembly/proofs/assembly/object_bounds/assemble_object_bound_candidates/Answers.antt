@@ -1,16 +1,13 @@
-use Rattle.std.proofs.Common.{◌≡◌, Bool, true, false, ℕ, Err, refl, subst, sym, ap, ◌∙◌}
+use Rattle.std.proofs.Common.{◌≡◌, true, Err, refl, subst, sym, ap, ◌∙◌}
 use Rattle.std.proofs.lemmas.Result.{err_from_is_err_and}
-use Rattle.candidate_ir.specs.declared.ir.heads.Head.TheVariants as H
 use Rattle.candidate_ir.specs.Context.{Context}
 use Rattle.candidate_ir.specs.Substitutions.{alone}
 use Rattle.candidate_ir.specs.Trees.{Tree, holds, is_param}
 use Rattle.candidate_ir.specs.WellFormed.{IsWellFormedTable}
-use Rattle.candidate_ir.specs.Words.{IsTy, ty_tree}
-use Rattle.candidate_ir.specs.Worlds.{Reference}
+use Rattle.candidate_ir.specs.Words.{ty_tree}
 use Rattle.candidate_eval.proofs.Probing.{made}
 use Rattle.candidate_assembly.specs.DynBounds.{is_dynamic}
 use Rattle.candidate_assembly.specs.Kinds.{self_type}
-use Rattle.candidate_assembly.specs.ObjectBounds.{has_own_clauses}
 use Rattle.candidate_assembly.specs.ObjectLaws.{has_dynamic}
 use Rattle.candidate_assembly.proofs.BoundRules.{not-made-listed}
 use Rattle.candidate_assembly.proofs.Keeping.{goal-kept}

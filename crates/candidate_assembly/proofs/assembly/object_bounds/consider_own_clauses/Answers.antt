@@ -1,8 +1,6 @@
-use Rattle.std.proofs.Common.{rules, ◌≡◌, ◌≤◌, Err, length, map, get_or, subst, ap, ◌∙◌}
+use Rattle.std.proofs.Common.{rules, ◌≤◌, Err, length, map, get_or, subst, ap, ◌∙◌}
 use Rattle.std.proofs.lemmas.Result.{err_from_is_err_and}
-use Rattle.candidate_ir.specs.declared.decl.contents.ImplId.{ImplId}
 use Rattle.candidate_ir.specs.declared.ir.kinds.Clause.{Clause}
-use Rattle.candidate_ir.specs.Context.{Context}
 use Rattle.candidate_ir.specs.Trees.{Tree, holds, is_param}
 use Rattle.candidate_ir.specs.WellFormed.{IsWellFormedTable}
 use Rattle.candidate_ir.specs.Words.{clause_tree}

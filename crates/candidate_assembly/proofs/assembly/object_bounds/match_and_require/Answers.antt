@@ -1,10 +1,9 @@
-use Rattle.std.proofs.Common.{rules, ◌≡◌, subst, sym, ap, ◌∙◌, IfErr}
+use Rattle.std.proofs.Common.{rules, subst, sym, ap, ◌∙◌}
 use Rattle.candidate_ir.specs.Context.{Context}
 use Rattle.candidate_ir.specs.References.{Takes}
 use Rattle.candidate_ir.specs.Context.{world}
 use Rattle.candidate_ir.specs.WellFormed.{IsWellFormedTable}
 use Rattle.candidate_ir.specs.Words.{ClauseFits, IsParamEnv, IsPreds, clause_kind_tree, clause_tree, env_forest, preds_forest}
-use Rattle.candidate_eval.specs.Accounts.{by_stop}
 use Rattle.candidate_eval.specs.Callable.{all_but_last}
 use Rattle.candidate_eval.specs.Judging.{run, start}
 use Rattle.candidate_eval.specs.ObjectRequirements.{reference_clause}
@@ -13,7 +12,6 @@ use Rattle.candidate_assembly.specs.Kinds.{self_type}
 use Rattle.candidate_assembly.specs.ObjectBounds.{own_clause, reference_by, trait_by}
 use Rattle.candidate_assembly.specs.ObjectCalls.{AsksOfObject, IsReferenceBy}
 use Rattle.candidate_assembly.specs.ObjectLaws.{clause_speaks}
-use Rattle.candidate_assembly.specs.Telling.{StopsOfItself}
 use Rattle.candidate_assembly.proofs.Answering.{after-accounted}
 use Rattle.candidate_assembly.proofs.ObjectJudging.{asked-before, told-after, told-more}
 use Rattle.candidate_assembly.proofs.ObjectReferences.{bounds-read, preds-kept, reference-there}

@@ -1,7 +1,5 @@
-use Rattle.std.proofs.Common.{sym, ap, subst, ◌∙◌}
-use Rattle.candidate_ir.specs.Context.{Context}
+use Rattle.std.proofs.Common.{subst, ◌∙◌}
 use Rattle.candidate_ir.specs.WellFormed.{IsWellFormedTable}
-use Rattle.candidate_ir.specs.Words.{PredListFits}
 use Rattle.candidate_ir.proofs.Kept.{grows-trans, ty-kept}
 use Rattle.candidate_assembly.proofs.ObjectClauses.{pred-list-kept}
 use Rattle.candidate_assembly.proofs.ObjectPlain.{bounds-of, own-clauses-are}

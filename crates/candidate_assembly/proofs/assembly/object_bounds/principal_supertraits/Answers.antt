@@ -1,10 +1,8 @@
-use Rattle.std.proofs.Common.{◌≡◌, Option, map, option_map, sym, ap, subst, ◌∙◌}
+use Rattle.std.proofs.Common.{◌≡◌, map, option_map, ap, subst}
 use Rattle.std.specs.List.{filter}
-use Rattle.std.specs.Prelude.{IfSome}
-use Rattle.candidate_ir.specs.declared.ir.kinds.Pred.{Pred}
 use Rattle.candidate_ir.specs.Context.{Context}
 use Rattle.candidate_ir.specs.WellFormed.{IsWellFormedTable}
-use Rattle.candidate_ir.specs.Words.{IsPred, PredListFits, clause_tree, pred_tree, ty_tree}
+use Rattle.candidate_ir.specs.Words.{clause_tree, pred_tree, ty_tree}
 use Rattle.candidate_ir.proofs.Kept.{grows-trans}
 use Rattle.candidate_eval.proofs.StopKinds.{elaboration_making}
 use Rattle.candidate_assembly.specs.DynBounds.{first_listed, is_principal}

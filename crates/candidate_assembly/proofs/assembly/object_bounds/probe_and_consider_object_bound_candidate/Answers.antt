@@ -1,6 +1,5 @@
-use Rattle.std.proofs.Common.{rules, ◌≡◌, true, false, Err, subst, sym, ap, ◌∙◌}
+use Rattle.std.proofs.Common.{rules, ◌≡◌, true, false, subst, ap, ◌∙◌}
 use Rattle.std.proofs.lemmas.Result.{err_from_is_err_and}
-use Rattle.candidate_ir.specs.Context.{Context}
 use Rattle.candidate_ir.specs.Trees.{Tree, holds, is_param}
 use Rattle.candidate_ir.specs.WellFormed.{IsWellFormedTable}
 use Rattle.candidate_ir.specs.Words.{clause_tree}

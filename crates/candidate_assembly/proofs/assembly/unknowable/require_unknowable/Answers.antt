@@ -1,4 +1,4 @@
-use Rattle.std.proofs.Common.{◌≡◌, Err, Ok, ap, ◌∙◌}
+use Rattle.std.proofs.Common.{Err, Ok, ap, ◌∙◌}
 use Rattle.candidate_ir.specs.References.{reference_of}
 use Rattle.candidate_ir.specs.Words.{env_forest}
 use Rattle.candidate_assembly.proofs.Unknowing.{conflict-reaches, failure-refuses, known-refuses, knowing-stops, stop-stops}

@@ -7,7 +7,7 @@ use Rattle.candidate_ir.specs.Context.{Context}
 use Rattle.candidate_ir.specs.Declaring.{trait_at}
 use Rattle.candidate_ir.specs.Lookups.{maybe}
 use Rattle.candidate_ir.specs.Trees.{Tree}
-use Rattle.candidate_ir.specs.Words.{IsClause, args_forest, clause_tree}
+use Rattle.candidate_ir.specs.Words.{args_forest, clause_tree}
 use Rattle.candidate_ir.proofs.Joining.{clause-kept}
 use Rattle.candidate_ir.proofs.Kept.{args-kept, grows-trans}
 use Rattle.candidate_ir.proofs.Listing.{listed_clause}

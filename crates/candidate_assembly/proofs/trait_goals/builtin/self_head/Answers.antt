@@ -1,4 +1,4 @@
-use Rattle.std.proofs.Common.{◌≡◌, refl}
+use Rattle.std.proofs.Common.{refl}
 use Rattle.candidate_ir.specs.Trees.{TypeKind}
 use Rattle.candidate_ir.proofs.Lists.{below_kind}
 use Rattle.candidate_assembly.proofs.trait_goals.builtin.self_head.Goals as goal

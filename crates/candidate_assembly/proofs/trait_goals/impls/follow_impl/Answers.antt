@@ -1,4 +1,4 @@
-use Rattle.std.proofs.Common.{rules, ◌≡◌, Some, ap, subst, sym, ◌∙◌, map}
+use Rattle.std.proofs.Common.{rules, ◌≡◌, ap, subst, sym, ◌∙◌, map}
 use Rattle.std.specs.Prelude.{IfSome}
 use Rattle.std.proofs.lemmas.Result.{err_from_is_err_and}
 use Rattle.candidate_ir.specs.Context.{Context}
@@ -8,7 +8,7 @@ use Rattle.candidate_ir.specs.Words.{args_forest, clause_tree, env_forest}
 use Rattle.candidate_ir.specs.Worlds.{kinds_of}
 use Rattle.candidate_ir.proofs.Kept.{args-kept}
 use Rattle.candidate_eval.specs.Accounts.StopsSomehow.{making}
-use Rattle.candidate_eval.specs.Judging.{At, Over, Refused, run}
+use Rattle.candidate_eval.specs.Judging.{At, Over, Refused}
 use Rattle.candidate_eval.proofs.Accounts.{by-stop, reaches, somehow-later}
 use Rattle.candidate_eval.proofs.Objects.{env-kept}
 use Rattle.candidate_eval.proofs.Probing.{then}

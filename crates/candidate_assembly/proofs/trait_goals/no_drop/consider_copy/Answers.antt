@@ -1,8 +1,7 @@
-use Rattle.std.proofs.Common.{◌≡◌, Some, None, Option, [], ◌∷◌, ap, subst, sym, ◌∙◌}
+use Rattle.std.proofs.Common.{◌≡◌, Some, [], ◌∷◌, ap, subst, sym, ◌∙◌}
 use Rattle.std.proofs.lemmas.Result.{err_from_is_err_and}
 use Rattle.candidate_ir.specs.declared.decl.contents.LangItem.TheVariants as L
 use Rattle.candidate_ir.specs.declared.ir.kinds.GoalSource.TheVariants.{ImplWhereBound}
-use Rattle.candidate_ir.specs.declared.ir.kinds.TraitId.{TraitId}
 use Rattle.candidate_ir.specs.Context.{Context}
 use Rattle.candidate_ir.specs.Trees.{Tree}
 use Rattle.candidate_ir.specs.Words.{args_forest, clause_tree, env_forest, ty_tree}

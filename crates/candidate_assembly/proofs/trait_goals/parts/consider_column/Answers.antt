@@ -2,7 +2,7 @@ use Rattle.std.proofs.Common.{rules, ◌≡◌, true, false, map, ap, subst, sym
 use Rattle.std.proofs.lemmas.Result.{err_from_is_err_and}
 use Rattle.candidate_ir.specs.Context.{Context}
 use Rattle.candidate_ir.specs.Trees.{Tree, is_param, tree_holds}
-use Rattle.candidate_ir.specs.Words.{IsTy, args_forest, ty_tree}
+use Rattle.candidate_ir.specs.Words.{args_forest, ty_tree}
 use Rattle.candidate_eval.specs.Evaluators.{kinds_listed}
 use Rattle.candidate_eval.specs.Characterization.{binder_kinds}
 use Rattle.candidate_eval.specs.Asked.{variables}

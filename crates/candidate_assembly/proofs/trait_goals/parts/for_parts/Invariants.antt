@@ -1,4 +1,4 @@
-use Rattle.std.proofs.Common.{◌≡◌, [], ◌∷◌, take}
+use Rattle.std.proofs.Common.{◌≡◌, [], take}
 use Rattle.std.specs.List.{flat_map}
 use Rattle.candidate_eval.proofs.Required.{AddedSoFar}
 use Rattle.candidate_assembly.proofs.PartClauses.{said_of_part}

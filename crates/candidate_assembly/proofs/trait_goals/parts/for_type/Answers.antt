@@ -1,4 +1,4 @@
-use Rattle.std.proofs.Common.{◌≡◌, ◌∙◌}
+use Rattle.std.proofs.Common.{◌∙◌}
 use Rattle.candidate_ir.specs.Words.{args_forest, ty_tree}
 use Rattle.candidate_ir.proofs.Kept.{args-kept}
 use Rattle.candidate_assembly.proofs.TraitClauses.{fact-fits, fact-takes, fit-kept, made-for-type}

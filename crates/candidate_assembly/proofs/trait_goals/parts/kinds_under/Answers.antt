@@ -1,4 +1,4 @@
-use Rattle.std.proofs.Common.{◌≡◌, ap, sym, ◌∙◌}
+use Rattle.std.proofs.Common.{ap, sym, ◌∙◌}
 use Rattle.candidate_ir.specs.Words.{vars_tree}
 use Rattle.candidate_eval.specs.Asked.{variables}
 use Rattle.candidate_eval.specs.Characterization.{binder_kinds}

@@ -1,4 +1,4 @@
-use Rattle.std.proofs.Common.{◌≡◌, true, map}
+use Rattle.std.proofs.Common.{true, map}
 use Rattle.std.proofs.lemmas.Result.{err_from_is_err_and}
 use Rattle.candidate_ir.specs.Words.{ty_tree}
 use Rattle.candidate_eval.specs.Evaluators.{kinds_listed}

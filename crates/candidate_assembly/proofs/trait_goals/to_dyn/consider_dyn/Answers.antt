@@ -1,7 +1,6 @@
 use Rattle.std.proofs.Common.{◌≡◌, ap, subst, sym, ◌∙◌}
 use Rattle.std.proofs.lemmas.Result.{err_from_is_err_and}
 use Rattle.candidate_ir.specs.Context.{Context}
-use Rattle.candidate_ir.specs.Trees.{Tree}
 use Rattle.candidate_ir.specs.Words.{args_forest, env_forest, ty_tree}
 use Rattle.candidate_eval.specs.ObjectRequirements.{first_tree}
 use Rattle.candidate_eval.proofs.Objects.{env-kept}

@@ -1,16 +1,9 @@
-use Rattle.std.proofs.Common.{rules, ◌≡◌, [], ◌∷◌, ◌++◌, map, sym, ap, subst, ◌∙◌}
-use Rattle.candidate_ir.specs.declared.ir.heads.ClauseHead.TheVariants.{TypeOutlives}
+use Rattle.std.proofs.Common.{rules, ◌≡◌, [], ◌∷◌, ◌++◌, ap, subst, ◌∙◌}
 use Rattle.candidate_ir.specs.declared.ir.kinds.GoalSource.TheVariants.{ImplWhereBound, Misc}
 use Rattle.candidate_ir.specs.Context.{Context}
-use Rattle.candidate_ir.specs.Trees.{Tree}
-use Rattle.candidate_ir.specs.Words.{IsPreds, IsRegion, preds_forest, region_tree, ty_tree}
+use Rattle.candidate_ir.specs.Words.{IsPreds, IsRegion}
 use Rattle.candidate_ir.specs.Worlds.{World, TraitSort, parameters}
 use Rattle.candidate_ir.proofs.Kept.{grows-trans, ty-kept, world-kept}
-use Rattle.candidate_eval.specs.Required.{each_of}
-use Rattle.candidate_eval.specs.Rules.{nested}
-use Rattle.candidate_assembly.specs.BuiltinRules.{meets}
-use Rattle.candidate_assembly.specs.DynBounds.{bound_said, bounds_in, region_in}
-use Rattle.candidate_assembly.specs.Unsizing.{outlives}
 use Rattle.candidate_assembly.proofs.DynRequirements.{ArePartsOf, dyn-required, region-still}
 use Rattle.candidate_assembly.proofs.trait_goals.to_dyn.dyn_requirements.Goals as goal
 

@@ -1,8 +1,4 @@
-use Rattle.std.proofs.Common.{◌≡◌, ap, ◌∙◌}
-use Rattle.candidate_ir.specs.declared.ir.heads.Head.TheVariants as H
-use Rattle.candidate_ir.specs.Context.{Context}
-use Rattle.candidate_ir.specs.Trees.{Forest, Tree}
-use Rattle.candidate_ir.specs.Words.{args_forest}
+use Rattle.std.proofs.Common.{◌∙◌}
 use Rattle.candidate_ir.proofs.Kept.{args-kept}
 use Rattle.candidate_assembly.proofs.StructParts.{clause-still, mixed-still}
 use Rattle.candidate_assembly.proofs.Tails.{adt-fits-still}

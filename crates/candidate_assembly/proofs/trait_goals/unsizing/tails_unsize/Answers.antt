@@ -1,11 +1,9 @@
-use Rattle.std.proofs.Common.{◌≡◌, Some, ap, subst, sym, ◌∙◌}
+use Rattle.std.proofs.Common.{◌≡◌, ap, ◌∙◌}
 use Rattle.candidate_ir.specs.declared.ir.kinds.Clause.{Clause}
 use Rattle.candidate_ir.specs.declared.ir.kinds.PredicatePolarity.TheVariants as Pol
-use Rattle.candidate_ir.specs.Context.{world}
-use Rattle.candidate_ir.specs.Trees.{Forest, none, Tree}
+use Rattle.candidate_ir.specs.Trees.{none, Tree}
 use Rattle.candidate_ir.specs.Words.{args_forest, clause_tree, ty_tree}
-use Rattle.candidate_ir.specs.Worlds.{AdtSort, World, kinds_of, parameters}
-use Rattle.candidate_ir.proofs.Kept.{args-kept, ty-kept, world-kept}
+use Rattle.candidate_ir.proofs.Kept.{args-kept, ty-kept}
 use Rattle.candidate_assembly.specs.BuiltinRules.{holds_of}
 use Rattle.candidate_assembly.specs.Calling.{pair_of}
 use Rattle.candidate_assembly.specs.Unsizing.{tail_of}

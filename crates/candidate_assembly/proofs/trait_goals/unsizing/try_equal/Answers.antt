@@ -2,7 +2,7 @@ use Rattle.std.proofs.lemmas.Result.{err_from_is_err_and}
 use Rattle.candidate_ir.specs.declared.ir.stop.Stop.{Stop}
 use Rattle.candidate_ir.specs.Substitutions.{alone}
 use Rattle.candidate_ir.specs.Words.{clause_tree, env_forest, ty_tree}
-use Rattle.std.proofs.Common.{◌≡◌, map, subst, sym, ap}
+use Rattle.std.proofs.Common.{map}
 use Rattle.candidate_eval.specs.Accounts as question
 use Rattle.candidate_eval.specs.Judging.{judged}
 use Rattle.candidate_eval.proofs.Accounts.{by-stop, reaches}

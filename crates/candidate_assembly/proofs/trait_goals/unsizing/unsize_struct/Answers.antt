@@ -1,10 +1,9 @@
 use Rattle.std.proofs.Common.{◌≡◌, [], ◌∷◌, false, sym, ap, subst, ◌∙◌}
 use Rattle.std.proofs.lemmas.List.Elements.{All-cons, All-nil}
 use Rattle.std.proofs.lemmas.Result.{err_from_is_err_and}
-use Rattle.candidate_ir.specs.declared.ir.heads.Head.TheVariants as H
 use Rattle.candidate_ir.specs.declared.ir.kinds.Clause.{Clause}
 use Rattle.candidate_ir.specs.Context.{Context}
-use Rattle.candidate_ir.specs.Trees.{Tree, holds, is_param, tree_holds}
+use Rattle.candidate_ir.specs.Trees.{holds, is_param, tree_holds}
 use Rattle.candidate_ir.specs.Words.{args_forest, clause_tree, env_forest, ty_tree}
 use Rattle.candidate_ir.proofs.Kept.{ty-kept}
 use Rattle.candidate_eval.proofs.Objects.{env-kept}

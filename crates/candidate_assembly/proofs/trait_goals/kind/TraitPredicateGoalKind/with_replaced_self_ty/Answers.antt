@@ -1,6 +1,5 @@
-use Rattle.std.proofs.Common.{◌≡◌, ap, ◌∙◌}
 use Rattle.std.proofs.lemmas.Result.{err_from_is_err_and}
-use Rattle.candidate_ir.specs.Words.{args_forest, env_forest, ty_tree}
+use Rattle.candidate_ir.specs.Words.{ty_tree}
 use Rattle.candidate_eval.specs.Accounts.StopsSomehow.{making}
 use Rattle.candidate_eval.proofs.Objects.{env-kept}
 use Rattle.candidate_assembly.proofs.SelfTypes.{other-goal, same-trait-goal}
