@@ -1,4 +1,4 @@
-//! Rows that ask for all candidates of a goal, of an evaluator that is made for the row.
+//! Rows that ask an evaluator that is made for the row: for all candidates of a goal, what it comes to, and which candidates win.
 
 ghost use Rattle.std.specs.Prelude.{◌≡◌, [], All, IfOk};
 ghost use Rattle.candidate_assembly.specs.Kinds.{IsGoal};
@@ -13,6 +13,7 @@ use crate::considering::{found_rows, goal_at};
 use crate::eval::{Operands, made};
 use crate::evaluating::pairs_for;
 use crate::evaluator::MODES;
+use crate::preferring::{self, proved};
 use crate::reader::Reader;
 use crate::refusals::Refusal;
 use crate::rows::Row;
@@ -21,6 +22,7 @@ use crate::starting::{Start, add_roots, expect_known, opaques_in, root_kinds};
 use crate::tables::value_of;
 use candidate_assembly::assembly::candidates::assemble_and_evaluate_candidates;
 use candidate_assembly::assembly::opaques::AssembleCandidatesFrom;
+use candidate_assembly::trait_goals::compute::compute_trait_goal;
 use candidate_ir::decl::context::Cx;
 use candidate_ir::decl::make::Make;
 use candidate_ir::ir::kinds::{AliasTy, ParamEnv, TraitPredicate, Ty};
@@ -33,11 +35,10 @@ const FROM: [(&str, AssembleCandidatesFrom); 2] = [
     ("bounds", AssembleCandidatesFrom::EnvAndBounds),
 ];
 
-/// What the row asks: the evaluator that is made for it, and the goal.
+/// What the row asks: the evaluator that is made for it, and what is asked of it.
 #[derive(Drop)]
 struct Request {
     start: Start,
-    from: AssembleCandidatesFrom,
     /// What stands beside aliases.
     normal: Vec<(Ty, Ty)>,
     /// The opaque types that may be hidden behind a variable.
@@ -61,14 +62,17 @@ fn requested<'a>(reader: &mut Reader<'a>, cx: &mut Cx, row: Row<'a>) -> Result<R
 {
     let alloc = reader.alloc;
     let mode = value_of(&MODES, row.first).ok_or(Refusal::UnknownWord)?;
-    let from = value_of(&FROM, row.second).ok_or(Refusal::UnknownWord)?;
-    let kinds = root_kinds(alloc, row.word(3))?;
+    let place = if matches!(row.verb, "prove" | "objects") {
+        2
+    } else {
+        3
+    };
+    let kinds = root_kinds(alloc, row.word(place))?;
     let of = made(reader, cx, row)?;
-    let normal = pairs_for(reader, cx, row.word(4))?;
+    let normal = pairs_for(reader, cx, row.word(place + 1))?;
     let opaques = opaques_of(alloc, cx, row, of.third)?;
     Ok(Request {
         start: Start { mode, kinds },
-        from,
         normal,
         opaques,
         of,
@@ -91,20 +95,41 @@ fn standing_goal(
     Ok((env, predicate))
 }
 
-/// All candidates for the goal, each with its source and its response.
-fn candidates(
+/// All candidates for the goal, each with its source and its response; or what the goal comes to.
+fn of_goal(
     alloc: Global,
     rounds: &mut Rounds,
     start: &Start,
-    from: AssembleCandidatesFrom,
+    row: Row<'_>,
+    of: Operands,
+) -> Result<Answer, Refusal>
+    requires { state rounds.old ≡ started start.now.mode start.now.kinds.items }
+{
+    let (env, predicate) = standing_goal(rounds.cx(), start, of)?;
+    if row.verb == "prove" {
+        let (response, via) = compute_trait_goal(alloc, rounds, env, predicate)?;
+        return proved(alloc, &response, via);
+    }
+    let from = value_of(&FROM, row.second).ok_or(Refusal::UnknownWord)?;
+    let (list, _) = assemble_and_evaluate_candidates(alloc, rounds, env, predicate, from)?;
+    found_rows(alloc, list.as_slice())
+}
+
+/// What the row asks of the new evaluator: of a goal, or of the candidates that are noted.
+fn asked_of(
+    reader: &Reader<'_>,
+    rounds: &mut Rounds,
+    start: &Start,
+    row: Row<'_>,
     of: Operands,
 ) -> Result<Answer, Refusal>
     requires { state rounds.old ≡ started start.now.mode [] }
 {
     add_roots(rounds, start)?;
-    let (env, predicate) = standing_goal(rounds.cx(), start, of)?;
-    let (list, _) = assemble_and_evaluate_candidates(alloc, rounds, env, predicate, from)?;
-    found_rows(alloc, list.as_slice())
+    match row.verb {
+        "list" | "prove" => of_goal(reader.alloc, rounds, start, row, of),
+        _ => preferring::answer(reader.alloc, rounds, row, reader.candidates.as_slice()),
+    }
 }
 
 /// What the row answers, and the context, in which nodes were made.
@@ -115,14 +140,14 @@ fn answer<'a>(reader: &mut Reader<'a>, mut cx: Cx, row: Row<'a>) -> (Cx, Result<
     };
     let alloc = reader.alloc;
     let mut rounds = Rounds::new(alloc, cx, asked.start.mode, asked.normal, asked.opaques);
-    let outcome = candidates(alloc, &mut rounds, &asked.start, asked.from, asked.of);
+    let outcome = asked_of(reader, &mut rounds, &asked.start, row, asked.of);
     let (cx, _, _) = rounds.into_parts();
     (cx, outcome)
 }
 
 impl<'a> Session<'a> {
-    /// Answers a row that asks for all candidates of a goal, and gives the context back.
-    pub(crate) fn list(&mut self, cx: Cx, row: Row<'a>) -> Cx {
+    /// Answers a row that asks an evaluator of its own, and gives the context back.
+    pub(crate) fn ask_anew(&mut self, cx: Cx, row: Row<'a>) -> Cx {
         let (cx, outcome) = answer(&mut self.reader, cx, row);
         if self.print(Some(&cx), outcome) {
             let (cx, _) = answer(&mut self.reader, cx, row);

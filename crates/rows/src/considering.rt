@@ -82,6 +82,20 @@ const SOURCES: [(&str, CandidateSource); 7] = [
     ("unknowable", CandidateSource::CoherenceUnknowable),
 ];
 
+/// The source that the row names: a word, or one of `impl`, `object` and `upcasting` with a name or a number behind it.
+pub(crate) fn source_of(reader: &Reader<'_>, row: Row<'_>) -> Option<CandidateSource> {
+    let number = reader.number(row.second);
+    let source = match row.first {
+        "impl" => CandidateSource::Impl(ImplId(number)),
+        "object" => CandidateSource::BuiltinImpl(BuiltinImplSource::Object(number as usize)),
+        "upcasting" => {
+            CandidateSource::BuiltinImpl(BuiltinImplSource::TraitUpcasting(number as usize))
+        }
+        word => return value_of(&SOURCES, word),
+    };
+    Some(source)
+}
+
 /// Adds what is printed for a source: an impl's name, or a word, behind which stands the number of a supertrait.
 fn push_source(items: &mut Vec<Item>, source: CandidateSource) -> Result<(), AllocError> {
     let (word, number) = match source {

@@ -5,7 +5,7 @@ use crate::parts::Table;
 use crate::reader::Reader;
 use crate::refusals::Refusal;
 use crate::rows::Row;
-use crate::{checks, merging, structures};
+use crate::{checks, merging, preferring, structures};
 use candidate_ir::decl::context::Cx;
 
 /// The nodes that a row's operands are; where it has fewer, numbers of none.
@@ -38,6 +38,8 @@ pub(crate) fn answer<'a>(
     let alloc = reader.alloc;
     let of = match row.verb {
         "and" => return merging::both(alloc, row),
+        "candidate" => return preferring::add_note(reader, cx, row),
+        "preference" => return Ok(preferring::preference(reader, cx, row)),
         "check" | "knowable" | "is_plain" | "is_local_or_fundamental" => {
             let reference = reader.operand(cx, row.left)?.reference();
             return checks::answer(alloc, cx, row, reference);

@@ -566,12 +566,15 @@ impl<'a> Reader<'a> {
         }
     }
 
-    /// Notes the node, or forgets all; or says in letters whether the node is equal to each of those that were noted, or may be: `h`
+    /// Notes the node, or forgets all, and the candidates that are noted; or says in letters whether the node is equal to each of those that were noted, or may be: `h`
     /// where it may be only where that is of a header.
     fn answer_of_members(&mut self, cx: &Cx, row: Row<'a>, a: u32) -> Result<Answer, Refusal> {
         match row.verb {
             "member" => self.members.push(a)?,
-            "clear" => self.members.clear(),
+            "clear" => {
+                self.members.clear();
+                self.candidates.clear();
+            }
             _ => {
                 let text = letters(self.alloc, cx, self.members.as_slice(), row.first, a)?;
                 return Ok(Answer::Text(text));

@@ -21,6 +21,7 @@ pub(crate) mod names;
 pub(crate) mod objects;
 pub(crate) mod operators;
 pub(crate) mod parts;
+pub(crate) mod preferring;
 pub(crate) mod printing;
 pub(crate) mod reader;
 pub(crate) mod refusals;

@@ -5,6 +5,7 @@ use crate::leaves::{leaf, number_in};
 use crate::names::{Name, SORTS, Sort, named, over_list};
 use crate::operators::{node_over, value_over};
 use crate::parts::{NodeSort, Part, Table, is_at, make, sort_at};
+use crate::preferring::Note;
 use crate::refusals::Refusal;
 use crate::rows::Row;
 use crate::tables::value_of;
@@ -21,6 +22,8 @@ pub(crate) struct Reader<'a> {
     pub(crate) names: Vec<Name<'a>>,
     /// Nodes that rows noted, to be compared with others.
     pub(crate) members: Vec<u32>,
+    /// Candidates that rows noted.
+    pub(crate) candidates: Vec<Note>,
     values: Vec<Value>,
     /// The kinds of the parameters of what is declared.
     pub(crate) kinds: Vec<VarKind>,
@@ -48,6 +51,7 @@ impl<'a> Reader<'a> {
             alloc,
             names: Vec::new(alloc),
             members: Vec::new(alloc),
+            candidates: Vec::new(alloc),
             values: Vec::new(alloc),
             kinds: Vec::new(alloc),
             it: u32::MAX,

@@ -119,7 +119,8 @@ impl<'a> Session<'a> {
                 self.begin_rounds(cx, row)
             }
             ("leave", Phase::Evaluating(rounds)) => Phase::Declared(self.leave(rounds)),
-            ("list", Phase::Declared(cx)) => Phase::Declared(self.list(cx, row)),
+            ("list" | "prove" | "prefer" | "specialized" | "objects", Phase::Declared(cx)) =>
+                Phase::Declared(self.ask_anew(cx, row)),
             (_, Phase::Declaring(mut builder)) => {
                 self.declare(&mut builder, row);
                 Phase::Declaring(builder)
@@ -143,6 +144,7 @@ impl<'a> Session<'a> {
     fn begin(&mut self, row: Row<'a>) -> DeclsBuilder {
         self.reader.names.clear();
         self.reader.members.clear();
+        self.reader.candidates.clear();
         self.print_done();
         let mut builder = DeclsBuilder::new(self.reader.alloc);
         if row.first == "common" {

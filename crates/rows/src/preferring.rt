@@ -1,0 +1,192 @@
+//! Rows that note candidates, and ask which of them win and what they come to.
+
+ghost use Rattle.std.specs.Prelude.{◌≤◌, IfOk, IsTrue, count_by};
+ghost use Rattle.candidate_eval.specs.ResponseTrees.{AreCandidates, IsResponse};
+ghost use Rattle.candidate_assembly.specs.Assembled.{is_trivial};
+
+use crate::answers::{Answer, Item};
+use crate::considering::{found_rows, source_of};
+use crate::merging::{certainty, push_response};
+use crate::reader::Reader;
+use crate::refusals::Refusal;
+use crate::rows::Row;
+use crate::tables::{UNNAMED, value_of, word_for};
+use crate::typed::{args_at, env_at};
+use candidate_assembly::assembly::candidates::FailedCandidateInfo;
+use candidate_assembly::assembly::specialization::{
+    AllowInferenceConstraints, filter_specialized_impls,
+};
+use candidate_assembly::trait_goals::preference::{
+    CandidatePreferenceMode, TraitGoalProvenVia, merge_trait_candidates,
+    unsound_prefer_builtin_dyn_impl,
+};
+use candidate_eval::eval::certainty::Certainty;
+use candidate_eval::eval::response::{Candidate, CandidateHeadUsages, CanonicalResponse};
+use candidate_eval::eval::source::{BuiltinImplSource, CandidateSource};
+use candidate_ir::decl::context::Cx;
+use candidate_ir::decl::make::Make;
+use candidate_ir::ir::kinds::TraitId;
+use candidate_ir::ir::trees::Trees;
+use candidate_rounds::rounds::Rounds;
+use std::alloc::Global;
+
+/// The words of preferences.
+const PREFERENCES: [(&str, CandidatePreferenceMode); 2] = [
+    ("default", CandidatePreferenceMode::Default),
+    ("marker", CandidatePreferenceMode::Marker),
+];
+
+/// The words of how a goal of a trait is proved.
+pub(crate) const VIAS: [(&str, TraitGoalProvenVia); 3] = [
+    ("misc", TraitGoalProvenVia::Misc),
+    ("param_env", TraitGoalProvenVia::ParamEnv),
+    ("alias_bound", TraitGoalProvenVia::AliasBound),
+];
+
+/// The words of which impls may drive others out.
+const ALLOWED: [(&str, AllowInferenceConstraints); 2] = [
+    ("any", AllowInferenceConstraints::Yes),
+    ("regions", AllowInferenceConstraints::No),
+];
+
+/// A candidate that a row noted; its numbers are looked at where it is asked for.
+#[derive(Clone, Copy)]
+pub(crate) struct Note {
+    source: CandidateSource,
+    certainty: Certainty,
+    /// The list of its values.
+    values: u32,
+    /// The list of its regions, if it has any.
+    regions: Option<u32>,
+}
+
+/// Notes the candidate of the row's source, certainty, values and regions, and says how many are noted.
+pub(crate) fn add_note<'a>(
+    reader: &mut Reader<'a>,
+    cx: &mut Cx,
+    row: Row<'a>,
+) -> Result<Answer, Refusal> {
+    let source = source_of(reader, row).ok_or(Refusal::UnknownWord)?;
+    let certainty = certainty(row.left).ok_or(Refusal::UnknownWord)?;
+    let values = reader.operand(cx, row.right)?.node();
+    let mut note = Note {
+        source,
+        certainty,
+        values,
+        regions: None,
+    };
+    if !row.third.is_empty() {
+        note.regions = Some(reader.operand(cx, row.third)?.node());
+    }
+    reader.candidates.push(note)?;
+    Ok(Answer::One(Item::Count(reader.candidates.len())))
+}
+
+/// Which candidates win for goals of the trait that the row names.
+pub(crate) fn preference(reader: &Reader<'_>, cx: &Cx, row: Row<'_>) -> Answer {
+    let mode = CandidatePreferenceMode::compute(cx, TraitId(reader.number(row.first)));
+    Answer::One(Item::Word(word_for(&PREFERENCES, mode).unwrap_or(UNNAMED)))
+}
+
+impl Note {
+    /// The candidate. `Refusal::Condition` comes where a number isn't of a list of arguments, or of clauses.
+    fn candidate(self, alloc: Global, cx: &Cx) -> Result<Candidate, Refusal>
+        ensures { IfOk result (λ c. IsResponse cx.now.trees c.result) }
+    {
+        let values = args_at(cx, self.values)?;
+        let regions = match self.regions {
+            Some(number) => Vec::from_slice(alloc, cx.param_env(env_at(cx, number)?))?,
+            None => Vec::new(alloc),
+        };
+        let result = CanonicalResponse {
+            vars: Vec::new(alloc),
+            values,
+            regions,
+            certainty: self.certainty,
+        };
+        Ok(Candidate {
+            source: self.source,
+            result,
+            head_usages: CandidateHeadUsages::new(alloc),
+        })
+    }
+}
+
+/// The candidates that are noted; `Refusal::Condition` comes where one may not be made.
+fn noted(alloc: Global, cx: &Cx, notes: &[Note]) -> Result<Vec<Candidate>, Refusal>
+    ensures { IfOk result (λ v. AreCandidates cx.now.trees v.items) }
+{
+    let mut candidates = Vec::new(alloc);
+    for note in notes {
+        candidates.push(note.candidate(alloc, cx)?)?;
+    }
+    Ok(candidates)
+}
+
+/// Whether one of the candidates at most is trivial.
+fn has_one_trivial(candidates: &[Candidate]) -> bool
+    ensures { IsTrue result → count_by (λ c. is_trivial c.source) candidates.now ≤ 1 }
+{
+    let is_trivial = |candidate: &&Candidate| {
+        matches!(
+            candidate.source,
+            CandidateSource::BuiltinImpl(BuiltinImplSource::Trivial)
+        )
+    };
+    candidates.iter().filter(is_trivial).count() <= 1
+}
+
+/// How a goal of a trait is proved, and its response.
+pub(crate) fn proved(
+    alloc: Global,
+    response: &CanonicalResponse,
+    via: Option<TraitGoalProvenVia>,
+) -> Result<Answer, Refusal> {
+    let mut items = Vec::new(alloc);
+    let item = match via {
+        Some(via) => Item::Word(word_for(&VIAS, via).unwrap_or(UNNAMED)),
+        None => Item::Nothing,
+    };
+    items.push(item)?;
+    push_response(&mut items, response)?;
+    Ok(Answer::Row(items))
+}
+
+/// What the candidates come to, with the preference of that word. `Refusal::Condition` comes where more than one of them is trivial.
+fn merged(
+    alloc: Global,
+    rounds: &mut Rounds,
+    word: &str,
+    candidates: Vec<Candidate>,
+) -> Result<Answer, Refusal>
+    requires { AreCandidates rounds.old.context.trees candidates.items }
+{
+    let mode = value_of(&PREFERENCES, word).ok_or(Refusal::UnknownWord)?;
+    if !has_one_trivial(candidates.as_slice()) {
+        return Err(Refusal::Condition);
+    }
+    let failed = FailedCandidateInfo {
+        param_env_head_usages: Vec::new(alloc),
+    };
+    let (response, via) = merge_trait_candidates(rounds, mode, candidates, failed)?;
+    proved(alloc, &response, via)
+}
+
+/// What the row asks of the candidates that are noted: which of them stay, or what they come to.
+pub(crate) fn answer(
+    alloc: Global,
+    rounds: &mut Rounds,
+    row: Row<'_>,
+    notes: &[Note],
+) -> Result<Answer, Refusal> {
+    let mut candidates = noted(alloc, rounds.cx(), notes)?;
+    match row.verb {
+        "specialized" => {
+            let allow = value_of(&ALLOWED, row.second).ok_or(Refusal::UnknownWord)?;
+            filter_specialized_impls(rounds, allow, &mut candidates);
+        }
+        "objects" => unsound_prefer_builtin_dyn_impl(rounds, &mut candidates),
+        _ => return merged(alloc, rounds, row.second, candidates),
+    }
+    found_rows(alloc, candidates.as_slice())
+}
