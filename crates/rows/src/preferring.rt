@@ -36,11 +36,12 @@ const PREFERENCES: [(&str, CandidatePreferenceMode); 2] = [
     ("marker", CandidatePreferenceMode::Marker),
 ];
 
-/// The words of how a goal of a trait is proved.
-pub(crate) const VIAS: [(&str, TraitGoalProvenVia); 3] = [
-    ("misc", TraitGoalProvenVia::Misc),
-    ("param_env", TraitGoalProvenVia::ParamEnv),
-    ("alias_bound", TraitGoalProvenVia::AliasBound),
+/// The words of how a goal of a trait is proved, if that is known.
+pub(crate) const VIAS: [(&str, Option<TraitGoalProvenVia>); 4] = [
+    ("misc", Some(TraitGoalProvenVia::Misc)),
+    ("param_env", Some(TraitGoalProvenVia::ParamEnv)),
+    ("alias_bound", Some(TraitGoalProvenVia::AliasBound)),
+    ("none", None),
 ];
 
 /// The words of which impls may drive others out.
@@ -136,18 +137,14 @@ fn has_one_trivial(candidates: &[Candidate]) -> bool
     candidates.iter().filter(is_trivial).count() <= 1
 }
 
-/// How a goal of a trait is proved, and its response.
+/// How a goal of a trait is proved, if that is known, and its response.
 pub(crate) fn proved(
     alloc: Global,
     response: &CanonicalResponse,
     via: Option<TraitGoalProvenVia>,
 ) -> Result<Answer, Refusal> {
     let mut items = Vec::new(alloc);
-    let item = match via {
-        Some(via) => Item::Word(word_for(&VIAS, via).unwrap_or(UNNAMED)),
-        None => Item::Nothing,
-    };
-    items.push(item)?;
+    items.push(Item::Word(word_for(&VIAS, via).unwrap_or(UNNAMED)))?;
     push_response(&mut items, response)?;
     Ok(Answer::Row(items))
 }
