@@ -1,11 +1,13 @@
 //! Rows that ask an evaluator that is made for the row: for all candidates of a goal, what it comes to, and which candidates win.
 
 ghost use Rattle.std.specs.Prelude.{◌≡◌, [], All, IfOk};
+ghost use Rattle.candidate_eval.specs.Evaluators.{Keeps};
 ghost use Rattle.candidate_assembly.specs.Kinds.{IsGoal};
 ghost use Rattle.candidate_assembly.specs.Standing.{GoalStands};
 ghost use Rattle.candidate_assembly.specs.TraitGoals.{arguments_held, trait_goal, types_held};
 ghost use Rattle.candidate_assembly.specs.TraitRules.{trait_rules};
-ghost use Rattle.candidate_rounds.specs.Known.{IsGiven, state};
+ghost use Rattle.candidate_rounds.specs.Interface.{fixed};
+ghost use Rattle.candidate_rounds.specs.Known.{IsGiven, probes, state};
 ghost use Rattle.rows.specs.Started.{MayBeGiven, started};
 
 use crate::answers::Answer;
@@ -13,7 +15,8 @@ use crate::considering::{found_rows, goal_at};
 use crate::eval::{Operands, made};
 use crate::evaluating::pairs_for;
 use crate::evaluator::MODES;
-use crate::preferring::{self, proved};
+use crate::merging::responded;
+use crate::preferring::{self, VIAS, proved};
 use crate::reader::Reader;
 use crate::refusals::Refusal;
 use crate::rows::Row;
@@ -21,8 +24,14 @@ use crate::run::Session;
 use crate::starting::{Start, add_roots, expect_known, opaques_in, root_kinds};
 use crate::tables::value_of;
 use candidate_assembly::assembly::candidates::assemble_and_evaluate_candidates;
+use candidate_assembly::assembly::merging::assemble_and_merge_candidates;
 use candidate_assembly::assembly::opaques::AssembleCandidatesFrom;
 use candidate_assembly::trait_goals::compute::compute_trait_goal;
+use candidate_eval::eval::ambiguity::bail_with_ambiguity;
+use candidate_eval::eval::certainty::Certainty;
+use candidate_eval::eval::context::EvalCtxt;
+use candidate_eval::eval::refusal::NoSolutionOrStop;
+use candidate_eval::eval::response::CanonicalResponse;
 use candidate_ir::decl::context::Cx;
 use candidate_ir::decl::make::Make;
 use candidate_ir::ir::kinds::{AliasTy, ParamEnv, TraitPredicate, Ty};
@@ -69,7 +78,11 @@ fn requested<'a>(reader: &mut Reader<'a>, cx: &mut Cx, row: Row<'a>) -> Result<R
     };
     let kinds = root_kinds(alloc, row.word(place))?;
     let of = made(reader, cx, row)?;
-    let normal = pairs_for(reader, cx, row.word(place + 1))?;
+    let name = match row.verb {
+        "answer" => "",
+        _ => row.word(place + 1),
+    };
+    let normal = pairs_for(reader, cx, name)?;
     let opaques = opaques_of(alloc, cx, row, of.third)?;
     Ok(Request {
         start: Start { mode, kinds },
@@ -95,6 +108,45 @@ fn standing_goal(
     Ok((env, predicate))
 }
 
+/// The response to the goal, where the goal of its trait is proved as the row says. Beside assumptions too little is known if the row says
+/// `bails`; without such the answer is yes, or, if the row says `refuses`, a refusal.
+fn answered(
+    alloc: Global,
+    rounds: &mut Rounds,
+    row: Row<'_>,
+    env: ParamEnv,
+    predicate: TraitPredicate,
+) -> Result<Answer, Refusal>
+    requires goal { IsGoal trait_rules arguments_held types_held trait_goal rounds.old.context env predicate }
+    requires stands { GoalStands trait_rules (state rounds.old) (trait_goal rounds.old.context.trees env predicate) }
+{
+    let via = value_of(&VIAS, row.second).ok_or(Refusal::UnknownWord)?;
+    let (bails, refuses) = (row.has("bails"), row.has("refuses"));
+    let ambiguity = |ecx: &mut Rounds| -> Option<Result<CanonicalResponse, NoSolutionOrStop>>
+        ensures { Keeps fixed probes (λ r. r.context) ecx.old ecx.new }
+    {
+        if !bails {
+            return None;
+        }
+        match bail_with_ambiguity(ecx) {
+            Ok(response) => Some(Ok(response)),
+            Err(stop) => Some(Err(NoSolutionOrStop::Stop(stop))),
+        }
+    };
+    let rigid = |ecx: &mut Rounds| -> Result<CanonicalResponse, NoSolutionOrStop>
+        ensures { Keeps fixed probes (λ r. r.context) ecx.old ecx.new }
+    {
+        if refuses {
+            return Err(NoSolutionOrStop::NoSolution);
+        }
+        ecx.evaluate_added_goals_and_make_canonical_response(Certainty::Yes)
+    };
+    let response = assemble_and_merge_candidates(
+        alloc, rounds, via, env, predicate, ambiguity, rigid,
+    )?;
+    responded(alloc, &response)
+}
+
 /// All candidates for the goal, each with its source and its response; or what the goal comes to.
 fn of_goal(
     alloc: Global,
@@ -106,13 +158,18 @@ fn of_goal(
     requires { state rounds.old ≡ started start.now.mode start.now.kinds.items }
 {
     let (env, predicate) = standing_goal(rounds.cx(), start, of)?;
-    if row.verb == "prove" {
-        let (response, via) = compute_trait_goal(alloc, rounds, env, predicate)?;
-        return proved(alloc, &response, via);
+    match row.verb {
+        "prove" => {
+            let (response, via) = compute_trait_goal(alloc, rounds, env, predicate)?;
+            proved(alloc, &response, via)
+        }
+        "answer" => answered(alloc, rounds, row, env, predicate),
+        _ => {
+            let from = value_of(&FROM, row.second).ok_or(Refusal::UnknownWord)?;
+            let (list, _) = assemble_and_evaluate_candidates(alloc, rounds, env, predicate, from)?;
+            found_rows(alloc, list.as_slice())
+        }
     }
-    let from = value_of(&FROM, row.second).ok_or(Refusal::UnknownWord)?;
-    let (list, _) = assemble_and_evaluate_candidates(alloc, rounds, env, predicate, from)?;
-    found_rows(alloc, list.as_slice())
 }
 
 /// What the row asks of the new evaluator: of a goal, or of the candidates that are noted.
@@ -127,7 +184,7 @@ fn asked_of(
 {
     add_roots(rounds, start)?;
     match row.verb {
-        "list" | "prove" => of_goal(reader.alloc, rounds, start, row, of),
+        "list" | "prove" | "answer" => of_goal(reader.alloc, rounds, start, row, of),
         _ => preferring::answer(reader.alloc, rounds, row, reader.candidates.as_slice()),
     }
 }

@@ -119,8 +119,10 @@ impl<'a> Session<'a> {
                 self.begin_rounds(cx, row)
             }
             ("leave", Phase::Evaluating(rounds)) => Phase::Declared(self.leave(rounds)),
-            ("list" | "prove" | "prefer" | "specialized" | "objects", Phase::Declared(cx)) =>
-                Phase::Declared(self.ask_anew(cx, row)),
+            (
+                "list" | "prove" | "answer" | "prefer" | "specialized" | "objects",
+                Phase::Declared(cx),
+            ) => Phase::Declared(self.ask_anew(cx, row)),
             (_, Phase::Declaring(mut builder)) => {
                 self.declare(&mut builder, row);
                 Phase::Declaring(builder)
