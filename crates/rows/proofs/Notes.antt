@@ -22,5 +22,5 @@ same-count ts (x ∷ xs) =
     ∙ ap (λ n. cond (is_trivial x.source) 1 0 + n) (same-count ts xs)
     ∙ sym (sum_by-cons (λ (y : OfNumbers). cond (is_trivial y.source) 1 0) x xs)
 
-pub one-trivial : (ts : List Tree) (xs : List OfNumbers) → count_by (λ (x : OfNumbers). is_trivial x.source) xs ≤ 1 → HasOneTrivial (Lists (candidates_of ts xs))
-one-trivial ts xs h = subst (λ n. n ≤ 1) (sym (same-count ts xs)) h
+pub one-trivial : (ts : List Tree) (xs ys : List OfNumbers) → ys ≡ xs → count_by (λ (x : OfNumbers). is_trivial x.source) ys ≤ 1 → HasOneTrivial (Lists (candidates_of ts xs))
+one-trivial ts xs ys e h = subst (λ n. n ≤ 1) (ap (λ zs. count_by (λ (x : OfNumbers). is_trivial x.source) zs) e ∙ sym (same-count ts xs)) h

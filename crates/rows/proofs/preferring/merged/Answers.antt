@@ -3,4 +3,5 @@ use Rattle.rows.proofs.preferring.merged.Goals as goal
 
 pub merge_trait_candidates-requires-clause-trivial : goal.merge_trait_candidates-requires-clause-trivial
 merge_trait_candidates-requires-clause-trivial c =
-    one-trivial c.args.rounds.now.context.trees c.args.candidates.items (c.has_one_trivial.ensures c.if-not-has_one_trivial.false)
+    one-trivial c.args.rounds.now.context.trees c.args.candidates.items c.as_slice.result.now c.as_slice.ensures.value
+    (c.has_one_trivial.ensures c.if-not-has_one_trivial.false)
