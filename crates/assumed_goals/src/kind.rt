@@ -1,0 +1,244 @@
+//! Goals of traits that no impl and no rule of the language proves, as a kind of goals.
+
+ghost use Rattle.std.specs.Prelude.{◌≡◌, refl};
+ghost use Rattle.candidate_eval.specs.ImplRules.{TraitGoal};
+ghost use Rattle.assumed_goals.specs.Assumed.{assumed_arguments, assumed_bounds, assumed_goal, assumed_rules, assumed_types};
+ghost use Rattle.assumed_goals.specs.AssumedLaws.{assumed_goal_stays, assumed_laws};
+
+use candidate_assembly::assembly::kind::{GoalKind, NoSolution};
+use candidate_eval::eval::certainty::Certainty;
+use candidate_eval::eval::context::EvalCtxt;
+use candidate_eval::eval::refusal::NoSolutionOrStop;
+use candidate_eval::eval::response::{Candidate, CanonicalResponse};
+use candidate_ir::decl::Cx;
+use candidate_ir::decl::contents::{ImplId, Sizedness};
+use candidate_ir::ir::kinds::{
+    AliasTy, Clause, ClosureKind, ParamEnv, TraitPredicate, TraitRef, Ty,
+};
+use candidate_ir::ir::stop::Stop;
+use std::alloc::Global;
+
+/// That a trait holds of its arguments, or that it doesn't, as clauses of the environment and bounds say: impls and the rules that the
+/// language has for some traits don't count.
+#[derive(Clone, Copy, PartialEq, Eq)]
+pub struct AssumedTrait(pub TraitPredicate);
+
+impl<E: EvalCtxt> GoalKind<E> for AssumedTrait {
+    ghost Seen = { TraitGoal };
+
+    ghost seen = { assumed_goal };
+
+    ghost arguments = { assumed_arguments };
+
+    ghost types = { assumed_types };
+
+    ghost rules = { assumed_rules };
+
+    ghost bounds = { assumed_bounds };
+
+    ghost stays = { assumed_goal_stays };
+
+    ghost env_given = { λ _ _ _. refl };
+
+    ghost laws = { assumed_laws };
+
+    fn self_ty(cx: &Cx, env: ParamEnv, predicate: Self) -> Ty {
+        <TraitPredicate as GoalKind<E>>::self_ty(cx, env, predicate.0)
+    }
+
+    fn trait_ref(cx: &Cx, env: ParamEnv, predicate: Self) -> TraitRef {
+        <TraitPredicate as GoalKind<E>>::trait_ref(cx, env, predicate.0)
+    }
+
+    fn holds_error(cx: &Cx, env: ParamEnv, predicate: Self) -> bool {
+        <TraitPredicate as GoalKind<E>>::holds_error(cx, env, predicate.0)
+    }
+
+    fn with_replaced_self_ty(
+        alloc: Global,
+        ecx: &mut E,
+        env: ParamEnv,
+        predicate: Self,
+        self_ty: Ty,
+    ) -> Result<Self, Stop> {
+        let other = TraitPredicate::with_replaced_self_ty(alloc, ecx, env, predicate.0, self_ty)?;
+        Ok(AssumedTrait(other))
+    }
+
+    fn resolve_vars_if_possible(
+        ecx: &mut E,
+        env: ParamEnv,
+        predicate: Self,
+        resolved_env: ParamEnv,
+    ) -> Result<Self, Stop> {
+        let resolved = TraitPredicate::resolve_vars_if_possible(
+            ecx,
+            env,
+            predicate.0,
+            resolved_env,
+        )?;
+        Ok(AssumedTrait(resolved))
+    }
+
+    fn fast_reject_assumption(
+        cx: &Cx,
+        env: ParamEnv,
+        predicate: Self,
+        assumption: Clause,
+    ) -> Result<(), NoSolution> {
+        <TraitPredicate as GoalKind<E>>::fast_reject_assumption(cx, env, predicate.0, assumption)
+    }
+
+    fn match_assumption<R, F: FnOnce(&mut E) -> Result<R, NoSolutionOrStop>>(
+        alloc: Global,
+        ecx: &mut E,
+        env: ParamEnv,
+        predicate: Self,
+        assumption: Clause,
+        then: F,
+    ) -> Result<R, NoSolutionOrStop> {
+        TraitPredicate::match_assumption(alloc, ecx, env, predicate.0, assumption, then)
+    }
+
+    fn consider_impl_candidate<
+        F: FnOnce(&mut E, Certainty) -> Result<CanonicalResponse, NoSolutionOrStop>,
+    >(
+        _alloc: Global,
+        _ecx: &mut E,
+        _env: ParamEnv,
+        _predicate: Self,
+        _of: ImplId,
+        _then: F,
+    ) -> Result<Candidate, NoSolutionOrStop> {
+        Err(NoSolutionOrStop::NoSolution)
+    }
+
+    fn consider_additional_alias_assumptions(
+        alloc: Global,
+        ecx: &mut E,
+        env: ParamEnv,
+        predicate: Self,
+        alias: AliasTy,
+    ) -> Result<Vec<Candidate>, Stop> {
+        TraitPredicate::consider_additional_alias_assumptions(alloc, ecx, env, predicate.0, alias)
+    }
+
+    fn consider_structural_builtin_unsize_candidates(
+        alloc: Global,
+        _ecx: &mut E,
+        _env: ParamEnv,
+        _predicate: Self,
+    ) -> Result<Vec<Candidate>, Stop> {
+        Ok(Vec::new(alloc))
+    }
+
+    fn consider_error_guaranteed_candidate(
+        _alloc: Global,
+        _ecx: &mut E,
+        _env: ParamEnv,
+        _predicate: Self,
+    ) -> Result<Candidate, NoSolutionOrStop> {
+        Err(NoSolutionOrStop::NoSolution)
+    }
+
+    fn consider_auto_trait_candidate(
+        _alloc: Global,
+        _ecx: &mut E,
+        _env: ParamEnv,
+        _predicate: Self,
+    ) -> Result<Candidate, NoSolutionOrStop> {
+        Err(NoSolutionOrStop::NoSolution)
+    }
+
+    fn consider_trait_alias_candidate(
+        _alloc: Global,
+        _ecx: &mut E,
+        _env: ParamEnv,
+        _predicate: Self,
+    ) -> Result<Candidate, NoSolutionOrStop> {
+        Err(NoSolutionOrStop::NoSolution)
+    }
+
+    fn consider_builtin_sizedness_candidates(
+        _alloc: Global,
+        _ecx: &mut E,
+        _env: ParamEnv,
+        _predicate: Self,
+        _sizedness: Sizedness,
+    ) -> Result<Candidate, NoSolutionOrStop> {
+        Err(NoSolutionOrStop::NoSolution)
+    }
+
+    fn consider_builtin_copy_clone_candidate(
+        _alloc: Global,
+        _ecx: &mut E,
+        _env: ParamEnv,
+        _predicate: Self,
+    ) -> Result<Candidate, NoSolutionOrStop> {
+        Err(NoSolutionOrStop::NoSolution)
+    }
+
+    fn consider_builtin_fn_ptr_trait_candidate(
+        _alloc: Global,
+        _ecx: &mut E,
+        _env: ParamEnv,
+        _predicate: Self,
+    ) -> Result<Candidate, NoSolutionOrStop> {
+        Err(NoSolutionOrStop::NoSolution)
+    }
+
+    fn consider_builtin_fn_trait_candidates(
+        _alloc: Global,
+        _ecx: &mut E,
+        _env: ParamEnv,
+        _predicate: Self,
+        _called: ClosureKind,
+    ) -> Result<Candidate, NoSolutionOrStop> {
+        Err(NoSolutionOrStop::NoSolution)
+    }
+
+    fn consider_builtin_tuple_candidate(
+        _alloc: Global,
+        _ecx: &mut E,
+        _env: ParamEnv,
+        _predicate: Self,
+    ) -> Result<Candidate, NoSolutionOrStop> {
+        Err(NoSolutionOrStop::NoSolution)
+    }
+
+    fn consider_builtin_pointee_candidate(
+        _alloc: Global,
+        _ecx: &mut E,
+        _env: ParamEnv,
+        _predicate: Self,
+    ) -> Result<Candidate, NoSolutionOrStop> {
+        Err(NoSolutionOrStop::NoSolution)
+    }
+
+    fn consider_builtin_discriminant_kind_candidate(
+        _alloc: Global,
+        _ecx: &mut E,
+        _env: ParamEnv,
+        _predicate: Self,
+    ) -> Result<Candidate, NoSolutionOrStop> {
+        Err(NoSolutionOrStop::NoSolution)
+    }
+
+    fn consider_builtin_destruct_candidate(
+        _alloc: Global,
+        _ecx: &mut E,
+        _env: ParamEnv,
+        _predicate: Self,
+    ) -> Result<Candidate, NoSolutionOrStop> {
+        Err(NoSolutionOrStop::NoSolution)
+    }
+
+    fn consider_builtin_bikeshed_guaranteed_no_drop_candidate(
+        _alloc: Global,
+        _ecx: &mut E,
+        _env: ParamEnv,
+        _predicate: Self,
+    ) -> Result<Candidate, NoSolutionOrStop> {
+        Err(NoSolutionOrStop::NoSolution)
+    }
+}
