@@ -1,2 +1,3 @@
 pub mod Assumed
 pub mod AssumedLaws
+pub mod Always

@@ -2,3 +2,4 @@
 #![tactic(auto)]
 
 pub mod kind;
+pub mod proving;

@@ -1,0 +1,38 @@
+-- An answer by closures is one by other closures that say what the first ones do.
+use Rattle.std.proofs.Common.{Option, Some, None, List, Result}
+use Rattle.std.specs.Borrow.{MutBor}
+use Rattle.std.specs.Fn.{Once, FnOnceReturnsAtMut}
+use Rattle.candidate_ir.specs.Context.{Context}
+use Rattle.candidate_eval.specs.declared.eval.refusal.NoSolutionOrStop.{NoSolutionOrStop}
+use Rattle.candidate_eval.specs.declared.eval.response.CanonicalResponse.{CanonicalResponse}
+use Rattle.candidate_eval.specs.Accounts.{Account}
+use Rattle.candidate_eval.specs.Responses.{Candidate}
+use Rattle.candidate_eval.specs.States.{Judge, State}
+use Rattle.candidate_assembly.specs.declared.trait_goals.preference.TraitGoalProvenVia.{TraitGoalProvenVia}
+use Rattle.candidate_assembly.specs.KindBounds.{KindBounds}
+use Rattle.candidate_assembly.specs.Kinds.{KindRules}
+use Rattle.candidate_assembly.specs.MergedKinds.{AfterAssumptions, IsAnsweredBy}
+use Rattle.candidate_assembly.specs.MergedKinds.AfterAssumptions.{is_rigid, is_ambiguous, are_merged}
+use Rattle.candidate_assembly.specs.MergedKinds.IsAnsweredBy.{unproved, unassembled, by_assumptions, by_all}
+
+-- whatever the one closure returns, the other does
+abbrev pub Says : {E F D R : Type 0} → Once F (MutBor E × Unit {0}) (R × (MutBor E × Unit {0})) → F → Once D (MutBor E × Unit {0}) (R × (MutBor E × Unit {0})) → D → Type 0
+Says {E} {F} {D} {R} g f h d = (x : E) (r : R) (y : E) → FnOnceReturnsAtMut g f x r y → FnOnceReturnsAtMut h d x r y
+
+module _ {E X A B C D : Type 0} {fixed : E → X} {judge : X → Judge} {state : E → State} {probes : E → List State} {context : E → Context} {stops : Account E}
+    {g : Once A (MutBor E × Unit {0}) (Option (Result CanonicalResponse NoSolutionOrStop) × (MutBor E × Unit {0}))} {a : A}
+    {h : Once B (MutBor E × Unit {0}) (Result CanonicalResponse NoSolutionOrStop × (MutBor E × Unit {0}))} {b : B}
+    {u : Once C (MutBor E × Unit {0}) (Option (Result CanonicalResponse NoSolutionOrStop) × (MutBor E × Unit {0}))} {v : C}
+    {w : Once D (MutBor E × Unit {0}) (Result CanonicalResponse NoSolutionOrStop × (MutBor E × Unit {0}))} {z : D} where
+  after-as : (first : E) (xs : List Candidate) (r : Result CanonicalResponse NoSolutionOrStop) (y : E) → Says g a u v → Says h b w z
+      → AfterAssumptions fixed judge state probes context stops g a h b first xs r y → AfterAssumptions fixed judge state probes context stops u v w z first xs r y
+  after-as first xs r y f k (is_rigid none m) = is_rigid none (k first r y m)
+  after-as first xs r y f k (is_ambiguous some m) = is_ambiguous some (f first (Some r) y m)
+  after-as first xs r y f k (are_merged {x = x} some m merged) = are_merged {x = x} some (f first None x m) merged
+
+  pub answered-as : {G : Type 0} (K : KindRules G) (L : KindBounds G) (old : E) (goal : G) (via : Option TraitGoalProvenVia) (r : Result CanonicalResponse NoSolutionOrStop) (y : E)
+      → IsAnsweredBy fixed judge state probes context stops g a h b K L old goal via r y → Says g a u v → Says h b w z → IsAnsweredBy fixed judge state probes context stops u v w z K L old goal via r y
+  answered-as K L old goal None r y (unproved p) f k = unproved p
+  answered-as K L old goal (Some via) r y (unassembled p) f k = unassembled p
+  answered-as K L old goal (Some via) r y (by_assumptions {x = x} from kept p after) f k = by_assumptions {x = x} from kept p (after-as x _ r y f k after)
+  answered-as K L old goal (Some via) r y (by_all {x = x} kept p answers) f k = by_all {x = x} kept p answers

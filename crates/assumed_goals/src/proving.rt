@@ -1,0 +1,47 @@
+//! Goals of this kind, proved.
+
+ghost use Rattle.std.specs.Prelude.{None, Err};
+ghost use Rattle.candidate_eval.specs.Evaluators.{Keeps};
+ghost use Rattle.candidate_eval.specs.declared.eval.refusal.NoSolutionOrStop.TheVariants as N;
+ghost use Rattle.candidate_assembly.specs.Kinds.{IsGoal};
+ghost use Rattle.candidate_assembly.specs.MergedKinds.{IsAnsweredBy};
+ghost use Rattle.candidate_assembly.specs.Standing.{GoalStands};
+ghost use Rattle.assumed_goals.specs.Always.{always};
+ghost use Rattle.assumed_goals.specs.Assumed.{assumed_arguments, assumed_bounds, assumed_goal, assumed_rules, assumed_types};
+
+use crate::kind::AssumedTrait;
+use candidate_assembly::assembly::merging::assemble_and_merge_candidates;
+use candidate_assembly::trait_goals::preference::TraitGoalProvenVia;
+use candidate_eval::eval::context::EvalCtxt;
+use candidate_eval::eval::refusal::NoSolutionOrStop;
+use candidate_eval::eval::response::CanonicalResponse;
+use candidate_ir::ir::kinds::ParamEnv;
+use std::alloc::Global;
+
+/// The answer to a goal, by how the goal of its trait was proved: what the candidates by clauses of the environment and by bounds come to.
+///
+/// `NoSolution` comes where there is none. The stops are those of `assemble_and_merge_candidates`.
+pub fn evaluate_assumed_trait<E: EvalCtxt>(
+    alloc: Global,
+    ecx: &mut E,
+    proven_via: Option<TraitGoalProvenVia>,
+    env: ParamEnv,
+    goal: AssumedTrait,
+) -> Result<CanonicalResponse, NoSolutionOrStop>
+    requires goal { IsGoal assumed_rules assumed_arguments assumed_types assumed_goal (E.context ecx.old) env goal }
+    requires stands { GoalStands assumed_rules (E.state ecx.old) (assumed_goal (E.context ecx.old).trees env goal) }
+    ensures kept { Keeps E.fixed E.probes E.context ecx.old ecx.new }
+    ensures answered { IsAnsweredBy E.fixed E.judge E.state E.probes E.context E.stops (always None) tt (always (Err N.NoSolution)) tt assumed_rules assumed_bounds ecx.old (assumed_goal (E.context ecx.old).trees env goal) proven_via result ecx.new }
+{
+    assemble_and_merge_candidates(
+        alloc,
+        ecx,
+        proven_via,
+        env,
+        goal,
+        |_: &mut E| -> Option<Result<CanonicalResponse, NoSolutionOrStop>> { None },
+        |_: &mut E| -> Result<CanonicalResponse, NoSolutionOrStop> {
+            Err(NoSolutionOrStop::NoSolution)
+        },
+    )
+}
