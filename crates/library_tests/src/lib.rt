@@ -5,6 +5,8 @@
 #[cfg(test)]
 mod asserts;
 #[cfg(test)]
+mod assumed;
+#[cfg(test)]
 mod clients;
 #[cfg(test)]
 mod normalisers;

@@ -1,0 +1,204 @@
+//! A kind of goals that a client has: what an impl proves of a trait, it doesn't prove of that kind.
+
+ghost use Rattle.std.specs.Prelude.{◌≡◌, IfOk, true, refl};
+ghost use Rattle.candidate_ir.specs.Context.{Grows};
+ghost use Rattle.candidate_ir.specs.Nodes.{kind_at, tree_at};
+ghost use Rattle.candidate_ir.specs.Trees.{is_list_kind};
+ghost use Rattle.candidate_ir.specs.Words.{IsClause, IsParamEnv};
+ghost use Rattle.candidate_eval.specs.Soundness.{is_strange};
+ghost use Rattle.candidate_assembly.specs.Kinds.{IsGoal};
+ghost use Rattle.candidate_assembly.specs.Standing.{GoalStands};
+ghost use Rattle.candidate_assembly.specs.TraitGoals.{arguments_held, trait_goal, types_held};
+ghost use Rattle.candidate_assembly.specs.TraitRules.{trait_rules};
+ghost use Rattle.candidate_rounds.specs.Known.{state};
+ghost use Rattle.library_tests.specs.Fresh.{AreOfFresh, every, fresh};
+
+use crate::asserts::{equals, holds};
+use assumed_goals::kind::AssumedTrait;
+use assumed_goals::proving::evaluate_assumed_trait;
+use candidate_assembly::assembly::candidates::assemble_and_evaluate_candidates;
+use candidate_assembly::assembly::opaques::AssembleCandidatesFrom;
+use candidate_assembly::trait_goals::preference::TraitGoalProvenVia;
+use candidate_eval::eval::certainty::Certainty;
+use candidate_eval::eval::clauses::predicate_in;
+use candidate_eval::eval::mode::TypingMode;
+use candidate_eval::eval::refusal::NoSolutionOrStop;
+use candidate_eval::eval::response::CanonicalResponse;
+use candidate_ir::decl::make::{Build, Make};
+use candidate_ir::decl::{Cx, DeclFault, DeclsBuilder, ImplPolarity, TraitFlags};
+use candidate_ir::ir::heads::Flag;
+use candidate_ir::ir::kinds::{
+    Binder, Clause, ClauseKind, ConstKind, GenericArg, ParamEnv, PredicatePolarity, RegionKind,
+    TraitId, TraitPredicate, TraitRef, TyKind, UintTy,
+};
+use candidate_ir::ir::marks::Mark;
+use candidate_ir::ir::node::Node;
+use candidate_ir::ir::numbered::Numbered;
+use candidate_ir::ir::stop::Stop;
+use candidate_ir::ir::trees::Trees;
+use candidate_rounds::rounds::Rounds;
+use std::alloc::Global;
+use std::process::Abort;
+
+/// The mark of what is strange to an evaluator that knows nothing of variables: any of them, and placeholders of universes above the root's.
+#[derive(Clone, Copy)]
+struct Strange(TypingMode);
+
+impl Mark for Strange {
+    ghost marks = { λ s. is_strange (fresh s.0) every };
+
+    fn is_on(&self, node: &Node) -> bool {
+        match node {
+            Node::Ty(TyKind::Infer(_))
+            | Node::Const(ConstKind::Infer(_))
+            | Node::Region(RegionKind::Var(_)) => true,
+            Node::Ty(TyKind::Placeholder(placeholder))
+            | Node::Const(ConstKind::Placeholder(placeholder))
+            | Node::Region(RegionKind::Placeholder(placeholder)) => placeholder.universe > 0,
+            _ => false,
+        }
+    }
+
+    ghost no_list = { λ _ _. refl };
+}
+
+/// Whether nothing strange to such an evaluator stands in the list, no parameter and no escaping bound variable.
+fn is_plain<N: Numbered>(cx: &Cx, mode: TypingMode, list: N) -> bool
+    requires sort { kind_at cx.now.trees (N.number_of list) ≡ N.kind list }
+    requires list { is_list_kind (N.kind list) ≡ true }
+    ensures { result ≡ true → AreOfFresh mode (tree_at cx.now.trees (N.number_of list)).children }
+{
+    !cx.has_marked(list, &Strange(mode))
+        && !cx.has_escaping_bound_vars(list)
+        && !cx.has(list, Flag::Param)
+}
+
+/// A trait, and an impl of it for `u16`.
+fn declare(alloc: Global) -> Result<(Cx, TraitId), DeclFault> {
+    let mut builder = DeclsBuilder::new(alloc);
+    let local = builder.add_crate()?;
+    builder.set_local(local);
+    let id = builder.add_trait(local, &[], TraitFlags::default())?;
+    let Ok(ty) = builder.mk_ty(TyKind::Uint(UintTy::U16)) else {
+        return Err(DeclFault::Memory);
+    };
+    let Ok(args) = builder.mk_args(&[GenericArg::Ty(ty)]) else {
+        return Err(DeclFault::Memory);
+    };
+    let trait_ref = TraitRef { def_id: id, args };
+    let _ = builder.add_impl(local, &[], trait_ref, ImplPolarity::Positive)?;
+    let cx = Cx::new(builder.finish()?);
+    Ok((cx, id))
+}
+
+/// The clause that the trait holds of the integers of that width.
+#[tactic(auto, using(candidate_ir::proofs::Made::making))]
+fn clause_of(rt: &impl Abort, cx: &mut Cx, def_id: TraitId, width: UintTy) -> Result<Clause, Stop>
+    ensures grows { Grows cx.old cx.new }
+    ensures clause { IfOk result (λ c. IsClause cx.new.trees c) }
+{
+    let kind = TyKind::Uint(width);
+    holds(rt, cx.args_fit(kind), "no arguments");
+    let ty = cx.mk_ty(kind)?;
+    let args = cx.mk_args(&[GenericArg::Ty(ty)])?;
+    let vars = cx.mk_vars(&[])?;
+    let trait_ref = TraitRef { def_id, args };
+    let polarity = PredicatePolarity::Positive;
+    let value = ClauseKind::Trait(TraitPredicate {
+        trait_ref,
+        polarity,
+    });
+    let clause = Binder { vars, value };
+    holds(
+        rt,
+        cx.clause_args_fit(clause),
+        "the type that the trait takes",
+    );
+    cx.mk_clause(clause)
+}
+
+/// A new evaluator over the context, and the goal that the clause says, in the environment.
+fn asked(
+    rt: &impl Abort,
+    alloc: Global,
+    cx: Cx,
+    env: ParamEnv,
+    clause: Clause,
+) -> (Rounds, TraitPredicate)
+    requires env { IsParamEnv cx.trees env }
+    requires clause { IsClause cx.trees clause }
+    ensures goal { IsGoal trait_rules arguments_held types_held trait_goal result.0.context env result.1 }
+    ensures stands { GoalStands trait_rules (state result.0) (trait_goal result.0.context.trees env result.1) }
+{
+    let mode = TypingMode::Analysis;
+    let predicate = predicate_in(&cx, clause).expect(rt, "a clause on a trait");
+    let args = predicate.trait_ref.args;
+    holds(rt, is_plain(&cx, mode, env), "a plain environment");
+    holds(rt, is_plain(&cx, mode, args), "plain arguments");
+    let rounds = Rounds::new(alloc, cx, mode, Vec::new(alloc), Vec::new(alloc));
+    (rounds, predicate)
+}
+
+/// The environment in which the trait holds of `u8`, and the clause that it holds of the integers of that width.
+#[tactic(auto, using(candidate_ir::proofs::Made::making))]
+fn goal_of(
+    rt: &impl Abort,
+    cx: &mut Cx,
+    id: TraitId,
+    width: UintTy,
+) -> Result<(ParamEnv, Clause), Stop>
+    ensures env { IfOk result (λ g. IsParamEnv cx.new.trees g.0) }
+    ensures clause { IfOk result (λ g. IsClause cx.new.trees g.1) }
+{
+    let byte = clause_of(rt, cx, id, UintTy::U8)?;
+    let env = cx.mk_param_env(&[byte])?;
+    let clause = clause_of(rt, cx, id, width)?;
+    Ok((env, clause))
+}
+
+/// What is answered of the integers of that width, where the trait is assumed to hold of `u8` and an impl says that it holds of `u16`.
+fn answer_of(
+    rt: &impl Abort,
+    alloc: Global,
+    proven_via: TraitGoalProvenVia,
+    width: UintTy,
+) -> Result<CanonicalResponse, NoSolutionOrStop> {
+    let (mut cx, id) = declare(alloc).expect(rt, "declarations");
+    let (env, clause) = goal_of(rt, &mut cx, id, width).expect(rt, "a goal");
+    let (mut rounds, predicate) = asked(rt, alloc, cx, env, clause);
+    let goal = AssumedTrait(predicate);
+    evaluate_assumed_trait(alloc, &mut rounds, Some(proven_via), env, goal)
+}
+
+/// How many candidates the goal of the trait itself has.
+fn candidates_of(rt: &impl Abort, alloc: Global, width: UintTy) -> usize {
+    let (mut cx, id) = declare(alloc).expect(rt, "declarations");
+    let (env, clause) = goal_of(rt, &mut cx, id, width).expect(rt, "a goal");
+    let (mut rounds, predicate) = asked(rt, alloc, cx, env, clause);
+    let from = AssembleCandidatesFrom::All;
+    let listed = assemble_and_evaluate_candidates(alloc, &mut rounds, env, predicate, from);
+    let (candidates, _) = listed.expect(rt, "candidates");
+    candidates.len()
+}
+
+/// Whether the answer is sure.
+fn is_sure(answer: &Result<CanonicalResponse, NoSolutionOrStop>) -> bool {
+    matches!(answer, Ok(response) if response.certainty == Certainty::Yes)
+}
+
+#[test]
+fn a_clause_of_the_environment_proves(rt: HostRuntime) {
+    let answer = answer_of(&rt, rt.alloc(), TraitGoalProvenVia::ParamEnv, UintTy::U8);
+    holds(&rt, is_sure(&answer), "by assumptions");
+    let answer = answer_of(&rt, rt.alloc(), TraitGoalProvenVia::Misc, UintTy::U8);
+    holds(&rt, is_sure(&answer), "by all");
+}
+
+#[test]
+fn an_impl_does_not(rt: HostRuntime) {
+    let answer = answer_of(&rt, rt.alloc(), TraitGoalProvenVia::Misc, UintTy::U16);
+    let is_refused = matches!(answer, Err(NoSolutionOrStop::NoSolution));
+    holds(&rt, is_refused, "not by the impl");
+    let of_trait = candidates_of(&rt, rt.alloc(), UintTy::U16);
+    equals(&rt, &of_trait, &1, "a goal of the trait by the impl");
+}
