@@ -1,3 +1,4 @@
 pub mod Assumed
 pub mod AssumedLaws
 pub mod Always
+pub mod Unassumed

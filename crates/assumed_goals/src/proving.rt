@@ -1,6 +1,6 @@
 //! Goals of this kind, proved.
 
-ghost use Rattle.std.specs.Prelude.{None, Err};
+ghost use Rattle.std.specs.Prelude.{◌≢◌, None, Err, IfOk};
 ghost use Rattle.candidate_eval.specs.Evaluators.{Keeps};
 ghost use Rattle.candidate_eval.specs.declared.eval.refusal.NoSolutionOrStop.TheVariants as N;
 ghost use Rattle.candidate_assembly.specs.Kinds.{IsGoal};
@@ -8,6 +8,7 @@ ghost use Rattle.candidate_assembly.specs.MergedKinds.{IsAnsweredBy};
 ghost use Rattle.candidate_assembly.specs.Standing.{GoalStands};
 ghost use Rattle.assumed_goals.specs.Always.{always};
 ghost use Rattle.assumed_goals.specs.Assumed.{assumed_arguments, assumed_bounds, assumed_goal, assumed_rules, assumed_types};
+ghost use Rattle.assumed_goals.specs.Unassumed.{AssumesNothing};
 
 use crate::kind::AssumedTrait;
 use candidate_assembly::assembly::merging::assemble_and_merge_candidates;
@@ -20,7 +21,8 @@ use std::alloc::Global;
 
 /// The answer to a goal, by how the goal of its trait was proved: what the candidates by clauses of the environment and by bounds come to.
 ///
-/// `NoSolution` comes where there is none. The stops are those of `assemble_and_merge_candidates`.
+/// `NoSolution` comes where there is none. With an empty environment a type gets no response that says nothing of the trait by itself: it is
+/// no variable, no alias with bounds, and no object whose own bounds could say it. The stops are those of `assemble_and_merge_candidates`.
 pub fn evaluate_assumed_trait<E: EvalCtxt>(
     alloc: Global,
     ecx: &mut E,
@@ -32,6 +34,7 @@ pub fn evaluate_assumed_trait<E: EvalCtxt>(
     requires stands { GoalStands assumed_rules (E.state ecx.old) (assumed_goal (E.context ecx.old).trees env goal) }
     ensures kept { Keeps E.fixed E.probes E.context ecx.old ecx.new }
     ensures answered { IsAnsweredBy E.fixed E.judge E.state E.probes E.context E.stops (always None) tt (always (Err N.NoSolution)) tt assumed_rules assumed_bounds ecx.old (assumed_goal (E.context ecx.old).trees env goal) proven_via result ecx.new }
+    ensures unassumed { AssumesNothing (E.context ecx.old) (E.judge (E.fixed ecx.old)) (E.state ecx.old) (assumed_goal (E.context ecx.old).trees env goal) → proven_via ≢ None → IfOk result (λ _. ⊥) }
 {
     assemble_and_merge_candidates(
         alloc,
