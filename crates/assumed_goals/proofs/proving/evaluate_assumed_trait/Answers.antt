@@ -1,6 +1,4 @@
-use Rattle.std.proofs.Common.{rules, None, Err}
-use Rattle.candidate_eval.specs.declared.eval.refusal.NoSolutionOrStop.TheVariants as N
-use Rattle.assumed_goals.specs.Always.{always}
+use Rattle.std.proofs.Common.{rules}
 use Rattle.assumed_goals.specs.Assumed.{assumed_bounds, assumed_goal, assumed_rules}
 use Rattle.assumed_goals.proofs.Answered.{answered-as}
 use Rattle.assumed_goals.proofs.Refusing.{refused-unassumed}
@@ -14,9 +12,6 @@ returns-clause-answered g c =
     (λ x r y m. let p = m.met in record { shown = m.shown; shows = m.shows; left = m.left; met = (search rules, search rules); leaves = m.leaves })
 
 pub returns-clause-unassumed : goal.returns-clause-unassumed
-returns-clause-unassumed g c = λ nothing some.
+returns-clause-unassumed g c =
     let ran = c.assemble_and_merge_candidates in
-    let by-this = answered-as {u = always None} {v = tt} {w = always (Err N.NoSolution)} {z = tt} assumed_rules assumed_bounds c.args.ecx.now (assumed_goal (g.E.Build.context c.args.ecx.now).trees c.args.env c.args.goal) c.args.proven_via ran.result ran.new.ecx ran.ensures.answered
-    (λ x r y m. let p = m.met in record { shown = m.shown; shows = m.shows; left = m.left; met = (search rules, search rules); leaves = m.leaves })
-    (λ x r y m. let p = m.met in record { shown = m.shown; shows = m.shows; left = m.left; met = (search rules, search rules); leaves = m.leaves }) in
-    refused-unassumed c.args.ecx.now _ c.args.proven_via ran.result ran.new.ecx by-this nothing some
+    refused-unassumed c.args.ecx.now (assumed_goal (g.E.Build.context c.args.ecx.now).trees c.args.env c.args.goal) c.args.proven_via ran.result ran.new.ecx (returns-clause-answered g c)
