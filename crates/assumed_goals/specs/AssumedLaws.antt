@@ -9,17 +9,13 @@ use Rattle.candidate_assembly.specs.Kinds.{IsGoal, SaysTheSame}
 use Rattle.candidate_assembly.specs.Staying.{trait_goal_stays}
 use Rattle.candidate_assembly.specs.TraitGoals.{arguments_held, trait_goal, types_held}
 use Rattle.candidate_assembly.specs.TraitLaws.{trait_laws}
-use Rattle.candidate_assembly.specs.TraitRules.{trait_bounds, trait_rules}
+use Rattle.candidate_assembly.specs.TraitRules.{trait_rules}
 use Rattle.assumed_goals.specs.declared.kind.AssumedTrait.{AssumedTrait}
 use Rattle.assumed_goals.specs.Assumed.{assumed_arguments, assumed_bounds, assumed_goal, assumed_rules, assumed_types}
 
--- A goal of this kind is a goal of a trait, and the other way round.
-
+-- a goal of this kind is a goal of a trait
 pub as_trait_goal : (c : Context) (env : ParamEnv) (p : AssumedTrait) → IsGoal assumed_rules assumed_arguments assumed_types assumed_goal c env p → IsGoal trait_rules arguments_held types_held trait_goal c env p.0
 as_trait_goal c env p h = record { env = h.env; arguments = h.arguments; types = h.types; fit = h.fit; no_parameter = h.no_parameter; is_closed = h.is_closed }
-
-pub as_assumed_goal : (c : Context) (env : ParamEnv) (p : AssumedTrait) → IsGoal trait_rules arguments_held types_held trait_goal c env p.0 → IsGoal assumed_rules assumed_arguments assumed_types assumed_goal c env p
-as_assumed_goal c env p h = record { env = h.env; arguments = h.arguments; types = h.types; fit = h.fit; no_parameter = h.no_parameter; is_closed = h.is_closed }
 
 pub assumed_goal_stays : (old new : Context) (env : ParamEnv) (p : AssumedTrait) → Grows old new → IsGoal assumed_rules assumed_arguments assumed_types assumed_goal old env p → SaysTheSame assumed_rules assumed_goal old new env p
 assumed_goal_stays old new env p grows h =

@@ -24,7 +24,7 @@ use candidate_eval::eval::clauses::predicate_in;
 use candidate_eval::eval::mode::TypingMode;
 use candidate_eval::eval::refusal::NoSolutionOrStop;
 use candidate_eval::eval::response::CanonicalResponse;
-use candidate_ir::decl::make::{Build, Make};
+use candidate_ir::decl::make::Build;
 use candidate_ir::decl::{Cx, DeclFault, DeclsBuilder, ImplPolarity, TraitFlags};
 use candidate_ir::ir::heads::Flag;
 use candidate_ir::ir::kinds::{
