@@ -11,9 +11,11 @@ use Rattle.candidate_eval.specs.States.{Judge, State}
 use Rattle.candidate_assembly.specs.declared.trait_goals.preference.TraitGoalProvenVia.{TraitGoalProvenVia}
 use Rattle.candidate_assembly.specs.KindBounds.{KindBounds}
 use Rattle.candidate_assembly.specs.Kinds.{KindRules}
-use Rattle.candidate_assembly.specs.MergedKinds.{AfterAssumptions, IsAnsweredBy}
+use Rattle.candidate_assembly.specs.declared.assembly.opaques.AssembleCandidatesFrom.TheVariants.{EnvAndBounds}
+use Rattle.candidate_assembly.specs.declared.trait_goals.preference.TraitGoalProvenVia.TheVariants as Via
+use Rattle.candidate_assembly.specs.MergedKinds.{AfterAssumptions, AfterList, IsAnsweredBy}
 use Rattle.candidate_assembly.specs.MergedKinds.AfterAssumptions.{is_rigid, is_ambiguous, are_merged}
-use Rattle.candidate_assembly.specs.MergedKinds.IsAnsweredBy.{unproved, unassembled, by_assumptions, by_all}
+use Rattle.candidate_assembly.specs.MergedKinds.AfterList.{assembled, unassembled}
 
 -- whatever the one closure returns, the other does
 abbrev pub Says : {E F D R : Type 0} → Once F (MutBor E × Unit {0}) (R × (MutBor E × Unit {0})) → F → Once D (MutBor E × Unit {0}) (R × (MutBor E × Unit {0})) → D → Type 0
@@ -30,9 +32,16 @@ module _ {E X A B C D : Type 0} {fixed : E → X} {judge : X → Judge} {state :
   after-as first xs r y f k (is_ambiguous some m) = is_ambiguous some (f first (Some r) y m)
   after-as first xs r y f k (are_merged {x = x} some m merged) = are_merged {x = x} some (f first None x m) merged
 
-  pub answered-as : {G : Type 0} (K : KindRules G) (L : KindBounds G) (old : E) (goal : G) (via : Option TraitGoalProvenVia) (r : Result CanonicalResponse NoSolutionOrStop) (y : E)
-      → IsAnsweredBy fixed judge state probes context stops g a h b K L old goal via r y → Says g a u v → Says h b w z → IsAnsweredBy fixed judge state probes context stops u v w z K L old goal via r y
-  answered-as K L old goal None r y (unproved p) f k = unproved p
-  answered-as K L old goal (Some via) r y (unassembled p) f k = unassembled p
-  answered-as K L old goal (Some via) r y (by_assumptions {x = x} from kept p after) f k = by_assumptions {x = x} from kept p (after-as x _ r y f k after)
-  answered-as K L old goal (Some via) r y (by_all {x = x} kept p answers) f k = by_all {x = x} kept p answers
+  module _ {G : Type 0} (K : KindRules G) (L : KindBounds G) where
+    listed-as : (old : E) (goal : G) (r : Result CanonicalResponse NoSolutionOrStop) (y : E) → Says g a u v → Says h b w z
+        → AfterList fixed judge state probes context stops K L old goal EnvAndBounds (AfterAssumptions fixed judge state probes context stops g a h b) r y
+        → AfterList fixed judge state probes context stops K L old goal EnvAndBounds (AfterAssumptions fixed judge state probes context stops u v w z) r y
+    listed-as old goal r y f k (unassembled p) = unassembled p
+    listed-as old goal r y f k (assembled {xs = xs} {x = x} kept p after) = assembled {xs = xs} {x = x} kept p (after-as x xs r y f k after)
+
+    pub answered-as : (old : E) (goal : G) (via : Option TraitGoalProvenVia) (r : Result CanonicalResponse NoSolutionOrStop) (y : E)
+        → IsAnsweredBy fixed judge state probes context stops g a h b K L old goal via r y → Says g a u v → Says h b w z → IsAnsweredBy fixed judge state probes context stops u v w z K L old goal via r y
+    answered-as old goal None r y p f k = p
+    answered-as old goal (Some Via.Misc) r y p f k = p
+    answered-as old goal (Some Via.ParamEnv) r y p f k = listed-as old goal r y f k p
+    answered-as old goal (Some Via.AliasBound) r y p f k = listed-as old goal r y f k p

@@ -22,15 +22,16 @@ use Rattle.candidate_assembly.specs.declared.assembly.opaques.AssembleCandidates
 use Rattle.candidate_assembly.specs.declared.assembly.opaques.AssembleCandidatesFrom.TheVariants.{All, EnvAndBounds}
 use Rattle.candidate_assembly.specs.declared.assembly.specialization.AllowInferenceConstraints.TheVariants as Allow
 use Rattle.candidate_assembly.specs.declared.trait_goals.preference.TraitGoalProvenVia.{TraitGoalProvenVia}
+use Rattle.candidate_assembly.specs.declared.trait_goals.preference.TraitGoalProvenVia.TheVariants as Via
 use Rattle.candidate_assembly.specs.AliasBounds.{Done, Comes, end_answers, end_at, has_bounds, is_opaque, is_projection, no_bounds, too_long, stopped, opaque, refused, projection}
 use Rattle.candidate_assembly.specs.Assembled.{Assembled, ForNormal, Further, IfUnsizing, IsAssembled, Known, WithImpls, WithUnsizing, alone, asked as was_asked, by_clauses, by_objects, everything, followed, impl_rule, impl_rules, is_coherence, knowable, left_out, named_rules, normal, not_asked, others, outside, refused as none_normal, resolved_goal, rule_name, stopped as impls_stopped, stops as unknowable_stops, variable, where_rule, where_rules}
 use Rattle.candidate_assembly.specs.AssembledCalls.{IsAssembledAt}
 use Rattle.candidate_assembly.specs.KindBounds.{UnsizingList, no_target, refused as none_unsized, rules as by_rules}
 use Rattle.candidate_assembly.specs.Kinds.{BuiltinRule, self_type}
 use Rattle.candidate_assembly.specs.Listing.{GoesOn, Listed, Lists, Stops, answers, lists, stops, together}
-use Rattle.candidate_assembly.specs.MergedKinds.{AfterAssumptions, Answers, IsAnsweredBy, come_to, only_where_bounds}
+use Rattle.candidate_assembly.specs.MergedKinds.{AfterAssumptions, AfterList, Answers, IsAnsweredBy, come_to, only_where_bounds}
 use Rattle.candidate_assembly.specs.MergedKinds.AfterAssumptions.{is_rigid, is_ambiguous, are_merged}
-use Rattle.candidate_assembly.specs.MergedKinds.IsAnsweredBy.{unproved, unassembled, by_assumptions, by_all}
+use Rattle.candidate_assembly.specs.MergedKinds.AfterList.{assembled, unassembled}
 use Rattle.candidate_assembly.specs.ObjectBounds.{ObjectList, answer, has_own_clauses, nothing}
 use Rattle.candidate_assembly.specs.Opaques.{proper_impls}
 use Rattle.candidate_assembly.specs.Specialization.{unspecialized}
@@ -160,12 +161,11 @@ module _ {E X : Type 0} {fixed : E → X} {judge : X → Judge} {state : E → S
   not-answered x y o (Ok a) is h = (let some : None ≡ Some _ = sym is ∙ h.ok in absurd cc)
   not-answered x y o (Err e) is h = tt
 
-  pub refused-unassumed : (old : E) (g : TraitGoal) (via : Option TraitGoalProvenVia) (r : Result CanonicalResponse NoSolutionOrStop) (y : E)
-      → IsAnsweredBy fixed judge state probes context stops (always None) tt (always (Err N.NoSolution)) tt assumed_rules assumed_bounds old g via r y
-      → AssumesNothing (context old) (judge (fixed old)) (state old) g → via ≢ None → IfOk r (λ _. ⊥)
-  refused-unassumed old g None r y (unproved p) n some = absurd (some refl)
-  refused-unassumed old g (Some via) r y (unassembled p) n some = tt
-  refused-unassumed old g (Some via) r y (by_assumptions {xs = xs} {x = x} from kept a after) n some = of after
+  none-assumed : (old : E) (g : TraitGoal) (r : Result CanonicalResponse NoSolutionOrStop) (y : E)
+      → AfterList fixed judge state probes context stops assumed_rules assumed_bounds old g EnvAndBounds (AfterAssumptions fixed judge state probes context stops (always None) tt (always (Err N.NoSolution)) tt) r y
+      → AssumesNothing (context old) (judge (fixed old)) (state old) g → IfOk r (λ _. ⊥)
+  none-assumed old g r y (unassembled p) n = tt
+  none-assumed old g r y (assembled {xs = xs} {x = x} kept a after) n = of after
     where
       there : xs ≡ []
       there = candidates-none (judge (fixed old)) (context old) (state old) (state x) g EnvAndBounds xs n a
@@ -174,7 +174,15 @@ module _ {E X : Type 0} {fixed : E → X} {judge : X → Judge} {state : E → S
       of (is_rigid e m) = subst (λ (z : Result CanonicalResponse NoSolutionOrStop). IfOk z (λ _. ⊥)) (sym m.met.0) tt
       of (is_ambiguous e m) = absurd (e there)
       of (are_merged e m k) = absurd (e there)
-  refused-unassumed old g (Some via) r y (by_all {xs = xs} {x = x} kept a k) n some =
+
+  pub refused-unassumed : (old : E) (g : TraitGoal) (via : Option TraitGoalProvenVia) (r : Result CanonicalResponse NoSolutionOrStop) (y : E)
+      → IsAnsweredBy fixed judge state probes context stops (always None) tt (always (Err N.NoSolution)) tt assumed_rules assumed_bounds old g via r y
+      → AssumesNothing (context old) (judge (fixed old)) (state old) g → via ≢ None → IfOk r (λ _. ⊥)
+  refused-unassumed old g None r y p n some = absurd (some refl)
+  refused-unassumed old g (Some Via.ParamEnv) r y p n some = none-assumed old g r y p n
+  refused-unassumed old g (Some Via.AliasBound) r y p n some = none-assumed old g r y p n
+  refused-unassumed old g (Some Via.Misc) r y (unassembled p) n some = tt
+  refused-unassumed old g (Some Via.Misc) r y (assembled {xs = xs} {x = x} kept a k) n some =
       let J = judge (fixed x) in
       let few : List Candidate → List Candidate = λ zs. unspecialized (context x) (state x).mode Allow.Yes (only_where_bounds zs) in
       not-answered x y _ r
