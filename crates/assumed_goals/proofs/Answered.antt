@@ -39,9 +39,14 @@ module _ {E X A B C D : Type 0} {fixed : E → X} {judge : X → Judge} {state :
     listed-as old goal r y f k (unassembled p) = unassembled p
     listed-as old goal r y f k (assembled {xs = xs} {x = x} kept p after) = assembled {xs = xs} {x = x} kept p (after-as x xs r y f k after)
 
-    pub answered-as : (old : E) (goal : G) (via : Option TraitGoalProvenVia) (r : Result CanonicalResponse NoSolutionOrStop) (y : E)
-        → IsAnsweredBy fixed judge state probes context stops g a h b K L old goal via r y → Says g a u v → Says h b w z → IsAnsweredBy fixed judge state probes context stops u v w z K L old goal via r y
-    answered-as old goal None r y p f k = p
-    answered-as old goal (Some Via.Misc) r y p f k = p
-    answered-as old goal (Some Via.ParamEnv) r y p f k = listed-as old goal r y f k p
-    answered-as old goal (Some Via.AliasBound) r y p f k = listed-as old goal r y f k p
+module _ {E X A B C D G : Type 0} (fixed : E → X) (judge : X → Judge) (state : E → State) (probes : E → List State) (context : E → Context) (stops : Account E)
+    (g : Once A (MutBor E × Unit {0}) (Option (Result CanonicalResponse NoSolutionOrStop) × (MutBor E × Unit {0}))) (a : A)
+    (h : Once B (MutBor E × Unit {0}) (Result CanonicalResponse NoSolutionOrStop × (MutBor E × Unit {0}))) (b : B)
+    (u : Once C (MutBor E × Unit {0}) (Option (Result CanonicalResponse NoSolutionOrStop) × (MutBor E × Unit {0}))) (v : C)
+    (w : Once D (MutBor E × Unit {0}) (Result CanonicalResponse NoSolutionOrStop × (MutBor E × Unit {0}))) (z : D) (K : KindRules G) (L : KindBounds G) where
+  pub answered-as : (old : E) (goal : G) (via : Option TraitGoalProvenVia) (r : Result CanonicalResponse NoSolutionOrStop) (y : E)
+      → IsAnsweredBy fixed judge state probes context stops g a h b K L old goal via r y → Says g a u v → Says h b w z → IsAnsweredBy fixed judge state probes context stops u v w z K L old goal via r y
+  answered-as old goal None r y p f k = p
+  answered-as old goal (Some Via.Misc) r y p f k = p
+  answered-as old goal (Some Via.ParamEnv) r y p f k = listed-as K L old goal r y f k p
+  answered-as old goal (Some Via.AliasBound) r y p f k = listed-as K L old goal r y f k p

@@ -175,6 +175,7 @@ module _ {E X : Type 0} {fixed : E → X} {judge : X → Judge} {state : E → S
       of (is_ambiguous e m) = absurd (e there)
       of (are_merged e m k) = absurd (e there)
 
+module _ {E X : Type 0} (fixed : E → X) (judge : X → Judge) (state : E → State) (probes : E → List State) (context : E → Context) (stops : Account E) where
   pub refused-unassumed : (old : E) (g : TraitGoal) (via : Option TraitGoalProvenVia) (r : Result CanonicalResponse NoSolutionOrStop) (y : E)
       → IsAnsweredBy fixed judge state probes context stops (always None) tt (always (Err N.NoSolution)) tt assumed_rules assumed_bounds old g via r y
       → AssumesNothing (context old) (judge (fixed old)) (state old) g → via ≢ None → IfOk r (λ _. ⊥)

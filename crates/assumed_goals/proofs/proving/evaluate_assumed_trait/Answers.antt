@@ -1,4 +1,6 @@
-use Rattle.std.proofs.Common.{rules}
+use Rattle.std.proofs.Common.{Err, None, rules}
+use Rattle.candidate_eval.specs.declared.eval.refusal.NoSolutionOrStop.TheVariants as N
+use Rattle.assumed_goals.specs.Always.{always}
 use Rattle.assumed_goals.specs.Assumed.{assumed_bounds, assumed_goal, assumed_rules}
 use Rattle.assumed_goals.proofs.Answered.{answered-as}
 use Rattle.assumed_goals.proofs.Refusing.{refused-unassumed}
@@ -7,11 +9,13 @@ use Rattle.assumed_goals.proofs.proving.evaluate_assumed_trait.Goals as goal
 pub returns-clause-answered : goal.returns-clause-answered
 returns-clause-answered g c =
     let ran = c.assemble_and_merge_candidates in
-    answered-as assumed_rules assumed_bounds c.args.ecx.now (assumed_goal (g.E.Build.context c.args.ecx.now).trees c.args.env c.args.goal) c.args.proven_via ran.result ran.new.ecx ran.ensures.answered
+    let E = g.E.EvalCtxt in
+    answered-as E.fixed E.judge E.state E.probes g.E.Build.context E.stops _ _ _ _ (always None) tt (always (Err N.NoSolution)) tt assumed_rules assumed_bounds c.args.ecx.now (assumed_goal (g.E.Build.context c.args.ecx.now).trees c.args.env c.args.goal) c.args.proven_via ran.result ran.new.ecx ran.ensures.answered
     (λ x r y m. let p = m.met in record { shown = m.shown; shows = m.shows; left = m.left; met = (search rules, search rules); leaves = m.leaves })
     (λ x r y m. let p = m.met in record { shown = m.shown; shows = m.shows; left = m.left; met = (search rules, search rules); leaves = m.leaves })
 
 pub returns-clause-unassumed : goal.returns-clause-unassumed
 returns-clause-unassumed g c =
     let ran = c.assemble_and_merge_candidates in
-    refused-unassumed c.args.ecx.now (assumed_goal (g.E.Build.context c.args.ecx.now).trees c.args.env c.args.goal) c.args.proven_via ran.result ran.new.ecx (returns-clause-answered g c)
+    let E = g.E.EvalCtxt in
+    refused-unassumed E.fixed E.judge E.state E.probes g.E.Build.context E.stops c.args.ecx.now (assumed_goal (g.E.Build.context c.args.ecx.now).trees c.args.env c.args.goal) c.args.proven_via ran.result ran.new.ecx (returns-clause-answered g c)
