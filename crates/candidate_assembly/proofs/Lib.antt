@@ -94,3 +94,6 @@ pub mod TraitAnswers
 pub mod Winners
 pub mod MergedKinds
 pub mod SureAnswers
+pub mod ResolvedViews
+pub mod ImpliedFree
+pub mod CoherentRefusals

@@ -56,12 +56,12 @@ use Rattle.candidate_assembly.proofs.BoundClauses.{said-free}
 use Rattle.candidate_assembly.proofs.ObjectClauses.{PairsFit, each-listed, numbered-fit, own-numbered, pairs-joined, pred-list-kept}
 use Rattle.candidate_assembly.proofs.ObjectFollowing.{type-fits}
 
-abbrev Free : Tree → Type 0
+abbrev pub Free : Tree → Type 0
 Free t = holds is_param t.children ≡ false
 
 -- Trees in rows.
 
-children-free : (t : Tree) → tree_holds is_param t ≡ false → Free t
+pub children-free : (t : Tree) → tree_holds is_param t ≡ false → Free t
 children-free t e = or-right (is_param t.head) (holds is_param t.children) e
 
 joined-free : (a b : Forest) → holds is_param a ≡ false → holds is_param b ≡ false → holds is_param (join a b) ≡ false
@@ -135,7 +135,7 @@ under-clause : (w : World) (o : Option (List Kind)) (below : Forest) → joined 
 under-clause w o none e f = refl
 under-clause w o (tree h below rest) e f = variable-row w below f.1 (under-vars w h below (binder-head h (binder-first o (kind_of h) (kinds_of rest) e)) f.0)
 
-head-vars : (w : World) (h : Head) (below : Forest) → kind_of h ≡ ClauseKind → (let u : Tree = record { head = h; children = below } in FitsAmong w u) → holds is_param (first_children below) ≡ false
+pub head-vars : (w : World) (h : Head) (below : Forest) → kind_of h ≡ ClauseKind → (let u : Tree = record { head = h; children = below } in FitsAmong w u) → holds is_param (first_children below) ≡ false
 head-vars w (H.Part (P.Clause k)) below e f = under-clause w (clause_kinds w k) below f.0 f.1
 head-vars w (H.Infer v) below e f = absurd (no-clause-sort v.sort e)
 head-vars w (H.List l) below e f = absurd (no-clause-list l e)
@@ -146,7 +146,7 @@ head-vars w _ below e f = absurd cc
 put-free : (args ts : Forest) → holds is_param args ≡ false → holds is_param (substituted args 0 ts) ≡ false
 put-free args ts e = put-parameterless args (record { head = H.Part P.Vars; children = ts }) e
 
-implied-free : (t s : Tree) → Free t → holds is_param (variables_of s) ≡ false → Free (implied t s)
+pub implied-free : (t s : Tree) → Free t → holds is_param (variables_of s) ≡ false → Free (implied t s)
 implied-free t s e f =
     unmarked is_param (H.Part P.Vars) (join (variables_of t) (variables_of s)) (substituted (under_binder t) 0 (renumbered (count (variables_of t)) (under_binder s))) refl (joined-free (variables_of t) (variables_of s) (first-free t.children e) f)
     (put-free (under_binder t) (renumbered (count (variables_of t)) (under_binder s)) (after-free t.children e))
@@ -167,7 +167,7 @@ each-unlisted P seen (t ∷ ts) a = either (Each P) (lists seen t) (unlisted see
 abbrev Good : Context → Tree → Type 0
 Good c t = NamesGiven c t.head × Free t
 
-held : (c : Context) (h : Head) → NamesGiven c h → IfSome (head_trait h) (TraitIsGiven c)
+pub held : (c : Context) (h : Head) → NamesGiven c h → IfSome (head_trait h) (TraitIsGiven c)
 held c (H.Part (P.Clause (Cl.Trait i Pol.Positive))) f = f
 held c _ f = tt
 

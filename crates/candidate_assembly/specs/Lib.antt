@@ -46,3 +46,4 @@ pub mod Preference
 pub mod TraitAnswers
 pub mod MergedKinds
 pub mod SureAnswers
+pub mod CoherentRefusals

@@ -1,5 +1,6 @@
 //! What a goal of a trait comes to.
 
+ghost use Rattle.candidate_assembly.specs.CoherentRefusals.{RefusesCoherently};
 ghost use Rattle.candidate_assembly.specs.Kinds.{IsGoal};
 ghost use Rattle.candidate_assembly.specs.Standing.{GoalStands};
 ghost use Rattle.candidate_assembly.specs.SureAnswers.{YesIsProved};
@@ -8,6 +9,7 @@ ghost use Rattle.candidate_assembly.specs.TraitGoals.{arguments_held, trait_goal
 ghost use Rattle.candidate_assembly.specs.TraitRules.{trait_rules};
 
 use crate::assembly::candidates::assemble_and_evaluate_candidates;
+use crate::assembly::listing::table_is_well_formed;
 use crate::assembly::opaques::AssembleCandidatesFrom;
 use crate::trait_goals::preference::{
     CandidatePreferenceMode, TraitGoalProvenVia, merge_trait_candidates,
@@ -38,7 +40,9 @@ pub fn compute_trait_goal<E: EvalCtxt>(
     requires stands { GoalStands trait_rules (E.state ecx.old) (trait_goal (E.context ecx.old).trees env predicate) }
     ensures computes { Computes E.fixed E.judge E.state E.probes E.context E.stops ecx.old ecx.new (trait_goal (E.context ecx.old).trees env predicate) result }
     ensures proved { YesIsProved (E.judge (E.fixed ecx.old)) (E.context ecx.old) (E.state ecx.old) (trait_goal (E.context ecx.old).trees env predicate) (E.context ecx.new).trees result }
+    ensures refused { RefusesCoherently (E.judge (E.fixed ecx.old)) (E.context ecx.old) (E.state ecx.old) (trait_goal (E.context ecx.old).trees env predicate) result }
 {
+    table_is_well_formed(ecx.cx());
     let from = AssembleCandidatesFrom::All;
     let (candidates, failed) = assemble_and_evaluate_candidates(alloc, ecx, env, predicate, from)?;
     let mode = CandidatePreferenceMode::compute(ecx.cx(), predicate.trait_ref.def_id);

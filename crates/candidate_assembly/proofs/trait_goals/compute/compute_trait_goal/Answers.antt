@@ -1,10 +1,12 @@
-use Rattle.std.proofs.Common.{ap, ◌∙◌}
+use Rattle.std.proofs.Common.{ap, ◌∙◌, subst}
 use Rattle.std.proofs.lemmas.Result.{err_from_is_err_and}
 use Rattle.candidate_ir.specs.Context.{Context}
+use Rattle.candidate_ir.specs.WellFormed.{IsWellFormedTable}
 use Rattle.candidate_eval.specs.ResponseTrees.{candidates_of}
 use Rattle.candidate_assembly.specs.Preference.{mode_of}
 use Rattle.candidate_assembly.specs.TraitGoals.{trait_goal}
 use Rattle.candidate_assembly.proofs.SureAnswers.{computes-proved}
+use Rattle.candidate_assembly.proofs.CoherentRefusals.{computes-refused}
 use Rattle.candidate_assembly.proofs.Causes.{answered-stop}
 use Rattle.candidate_assembly.proofs.TraitAnswers.{computes-merged, computes-stopped}
 use Rattle.candidate_assembly.proofs.trait_goals.compute.compute_trait_goal.Goals as goal
@@ -20,7 +22,7 @@ returns-clause-computes g c =
     let list = c.in_ok-candidates.ensures.assembled in
     computes-merged g.met.E.EvalCtxt.stops_itself (λ f. (g.met.E.EvalCtxt.lawful f).alike_judged_alike) c.args.ecx.now mid c.merge_trait_candidates.new.ecx (trait_goal (g.E.Build.context c.args.ecx.now).trees c.args.env c.args.predicate)
     (candidates_of (g.E.Build.context mid).trees c.in_ok-candidates.candidates.items) c.compute-mode.result c.merge_trait_candidates.result list.kept list.told.ok
-    (c.compute-mode.ensures ∙ ap (λ (x : Context). mode_of x c.args.predicate.trait_ref.def_id.0) c.cx.ensures) c.merge_trait_candidates.ensures.proves
+    (c.compute-mode.ensures ∙ ap (λ (x : Context). mode_of x c.args.predicate.trait_ref.def_id.0) c.cx-2.ensures) c.merge_trait_candidates.ensures.proves
 
 pub returns-in_err-candidates-clause-proved : goal.returns-in_err-candidates-clause-proved
 returns-in_err-candidates-clause-proved g c =
@@ -31,3 +33,13 @@ pub returns-clause-proved : goal.returns-clause-proved
 returns-clause-proved g c =
     computes-proved g.met.E.EvalCtxt.lawful c.args.ecx.now c.merge_trait_candidates.new.ecx (trait_goal (g.E.Build.context c.args.ecx.now).trees c.args.env c.args.predicate) c.merge_trait_candidates.result
     (returns-clause-computes g c)
+
+pub returns-in_err-candidates-clause-refused : goal.returns-in_err-candidates-clause-refused
+returns-in_err-candidates-clause-refused g c =
+    computes-refused g.met.E.EvalCtxt.lawful c.args.ecx.now c.assemble_and_evaluate_candidates.new.ecx c.args.env c.args.predicate c.from_residual.result
+    (g.met.E.EvalCtxt.declared c.args.ecx.now).0 (subst IsWellFormedTable c.cx.ensures c.table_is_well_formed.ensures) c.requires.goal (returns-in_err-candidates-clause-computes g c)
+
+pub returns-clause-refused : goal.returns-clause-refused
+returns-clause-refused g c =
+    computes-refused g.met.E.EvalCtxt.lawful c.args.ecx.now c.merge_trait_candidates.new.ecx c.args.env c.args.predicate c.merge_trait_candidates.result
+    (g.met.E.EvalCtxt.declared c.args.ecx.now).0 (subst IsWellFormedTable c.cx.ensures c.table_is_well_formed.ensures) c.requires.goal (returns-clause-computes g c)
