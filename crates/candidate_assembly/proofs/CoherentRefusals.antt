@@ -1,5 +1,5 @@
--- What a refusal in coherence says of a goal that leaves nothing open: its list is empty, so nothing is unknowable of it.
-use Rattle.std.proofs.Common.{◌≡◌, ◌++◌, Bool, true, false, Option, Some, None, List, [], ◌∷◌, Result, map, refl, sym, ◌∙◌, ap, subst, append_assoc}
+-- What a refusal in coherence says of a goal that leaves nothing open: its list is empty, so the rule on what is unknowable was refused.
+use Rattle.std.proofs.Common.{◌≡◌, ◌++◌, true, false, Option, Some, None, List, [], ◌∷◌, Result, refl, sym, ◌∙◌, ap, subst, append_assoc}
 use Rattle.std.specs.Prelude.{option_map}
 use Rattle.std.proofs.lemmas.List.{append-nil}
 use Rattle.candidate_ir.specs.declared.ir.kinds.GoalSource.TheVariants.{Misc}
@@ -9,7 +9,7 @@ use Rattle.candidate_ir.specs.Context.{Context, world}
 use Rattle.candidate_ir.specs.Elaboration.{IsElaboration}
 use Rattle.candidate_ir.specs.Trees.{Kind, TypeKind, Forest, none, tree, Tree, holds, is_alias, is_param, kind_of}
 use Rattle.candidate_ir.specs.WellFormed.{IsWellFormedTable}
-use Rattle.candidate_ir.specs.Worlds.{IsOf, Reference, TraitSort, World, joined, kinds_of, parameters}
+use Rattle.candidate_ir.specs.Worlds.{IsOf, TraitSort, World, joined, kinds_of, parameters}
 use Rattle.candidate_ir.proofs.Folding.{fold-nothing, substituted-nothing}
 use Rattle.candidate_ir.proofs.References.{is-reference}
 use Rattle.candidate_eval.specs.declared.eval.certainty.Certainty.{Certainty}
@@ -21,7 +21,7 @@ use Rattle.candidate_eval.specs.declared.eval.source.CandidateSource.TheVariants
 use Rattle.candidate_eval.specs.Accounts.{Account}
 use Rattle.candidate_eval.specs.Certainties.{AMBIGUOUS}
 use Rattle.candidate_eval.specs.ImplRules.{TraitGoal}
-use Rattle.candidate_eval.specs.Judging.{Judged, Gives, Refused, Stopped, Reached, At, Over, answered, asked, by_knowledge, comes_to, concluded, continued, go_on, judge_knows, judged, reference_at, run, start, step}
+use Rattle.candidate_eval.specs.Judging.{Judged, Refused, Over, answered, asked, by_knowledge, comes_to, concluded, continued, go_on, judge_knows, reference_at, run, start, step}
 use Rattle.candidate_eval.specs.Lawful.{Lawful, is_type_or_constant}
 use Rattle.candidate_eval.specs.Merging.{Merge, merged}
 use Rattle.candidate_eval.specs.ObjectRequirements.{first_tree}
@@ -29,9 +29,9 @@ use Rattle.candidate_eval.specs.Orphan.{Checked, Knowability, Knowable, Upstream
 use Rattle.candidate_eval.specs.Orphan as Orphan
 use Rattle.candidate_eval.specs.Replacing.{without_first}
 use Rattle.candidate_eval.specs.Responses.{Candidate, Response}
-use Rattle.candidate_eval.specs.Rules.{Ending, add, ask, nested_misc, unknowable}
+use Rattle.candidate_eval.specs.Rules.{Ending, ask, nested_misc, unknowable}
 use Rattle.candidate_eval.specs.Soundness.{IsResolved, has_value}
-use Rattle.candidate_eval.specs.States.{Env, Judge, Pending, State, added, is_some, resolved, value_at, with_pending}
+use Rattle.candidate_eval.specs.States.{Env, Judge, Pending, State, added, resolved, value_at, with_pending}
 use Rattle.candidate_eval.proofs.Holds.{holds_parts}
 use Rattle.candidate_eval.proofs.Responding.{not-refused}
 use Rattle.candidate_eval.proofs.Safety.{open_world}
@@ -40,27 +40,23 @@ use Rattle.candidate_assembly.specs.declared.trait_goals.preference.TraitGoalPro
 use Rattle.candidate_assembly.specs.declared.trait_goals.preference.TraitGoalProvenVia.TheVariants as Via
 use Rattle.candidate_assembly.specs.Assembled.{Assembled, ForNormal, IsAssembled, alone, is_coherence, knowable, normal, others, outside, refused as none_normal, resolved_goal, stops as unknowable_stops, variable}
 use Rattle.candidate_assembly.specs.BuiltinLaws.{nodes_fit, takes_declared}
-use Rattle.candidate_assembly.specs.CoherentRefusals.{ImpliedAreRefused, IsCoherentRefusal, IsPlainGoal, RefusesCoherently, by_headers, by_implied, pending_clauses}
+use Rattle.candidate_assembly.specs.CoherentRefusals.{IsCoherentRefusal, IsPlainGoal, RefusesCoherently, by_headers, by_implied, pending_clauses}
 use Rattle.candidate_assembly.specs.Kinds.{IsGoal, self_type}
 use Rattle.candidate_assembly.specs.Listing.{Listed, Lists, answers, listed, together}
 use Rattle.candidate_assembly.specs.Listing as Listing
 use Rattle.candidate_assembly.specs.Opaques.{by_opaques, hidden_behind, variable_answers}
 use Rattle.candidate_assembly.specs.Preference.{Proved, answer_by, class_of, mode_of, preferred, proved, unmerged}
 use Rattle.candidate_assembly.specs.SuperLaws.{Each}
-use Rattle.candidate_assembly.specs.TraitAnswers.{Computes, IsTraitAnswer, Refused as Rejected, TraitAnswer, answer_of, or_refused}
+use Rattle.candidate_assembly.specs.TraitAnswers.{Computes, IsTraitAnswer, Refused as Rejected, answer_of, or_refused}
 use Rattle.candidate_assembly.specs.TraitGoals.{arguments_held, trait_goal, types_held, with_first, with_self_type}
 use Rattle.candidate_assembly.specs.TraitRules.{trait_bounds, trait_rules}
-use Rattle.candidate_assembly.specs.Unknowable.{UnknowableJudged, known, positive_clause, unknowable_rule, unknown}
+use Rattle.candidate_assembly.specs.Unknowable.{UnknowableJudged, known, positive_clause, unknown}
 use Rattle.candidate_assembly.proofs.Causes.{so-err}
 use Rattle.candidate_assembly.proofs.Flat.{nothing-put}
 use Rattle.candidate_assembly.proofs.ImpliedFree.{HasNone, all-free}
-use Rattle.candidate_assembly.proofs.ResolvedViews.{itself, judge-plainly, plainly-unrefused}
+use Rattle.candidate_assembly.proofs.ResolvedViews.{itself, judge-plainly, no-value, plainly-unrefused}
 
 -- Answers that aren't there.
-
-no-value : (o : Option Tree) → is_some o ≡ false → o ≡ None
-no-value None e = refl
-no-value (Some t) e = absurd cc
 
 none-is-some : {A : Type 0} (o : Option A) (a : A) → o ≡ None → o ≡ Some a → ⊥
 none-is-some None a e f = absurd cc
@@ -169,7 +165,7 @@ module _ (J : Judge) (law : Lawful J) (c : Context) (S : State) (g : TraitGoal) 
   others-here _ (variable e) n = absurd (not-variable (with_self_type g self) n)
   others-here l (others e a) n = a
 
-  -- So other crates aren't answered for.
+  -- So what is unknowable was refused.
   not-alone : (h : TraitGoal) (l : Listed) → Assembled trait_rules trait_bounds c J S h All l → l ≡ Lists [] → UnknowableJudged J c S h.env h.reference Refused
   not-alone h l (outside e k) n = let f : is_coherence S.mode ≡ true = ap is_coherence plain.in_coherence in absurd cc
   not-alone h _ (alone e u) n = absurd cc

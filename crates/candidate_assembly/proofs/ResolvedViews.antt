@@ -5,16 +5,14 @@ use Rattle.std.specs.Prelude.{if◌then◌else◌}
 use Rattle.std.proofs.lemmas.List.{map-append}
 use Rattle.candidate_ir.specs.declared.ir.heads.Head.{Head}
 use Rattle.candidate_ir.specs.declared.ir.heads.Head.TheVariants as H
-use Rattle.candidate_ir.specs.Substitutions.{alone}
 use Rattle.candidate_ir.specs.Trees.{Kind, TypeKind, Forest, none, tree, Tree, holds, is_alias, is_type, is_type_kind, kind_of}
 use Rattle.candidate_ir.specs.Worlds.{Reference, World}
 use Rattle.candidate_eval.specs.declared.coherence.InCrate.{InCrate}
 use Rattle.candidate_eval.specs.declared.coherence.InCrate.TheVariants.{Local, Remote}
 use Rattle.candidate_eval.specs.declared.coherence.OrphanCheckMode.TheVariants.{Proper}
 use Rattle.candidate_eval.specs.Judging.{judge_view, seen_of}
-use Rattle.candidate_eval.specs.Laws.{AreResolved}
 use Rattle.candidate_eval.specs.Lawful.{Lawful, is_type_or_constant}
-use Rattle.candidate_eval.specs.Orphan.{Answer, Checked, Class, CrateTest, Faulty, Fault, IsBroken, IsEmpty, IsLocal, IsNonLocal, IsSkipped, IsUncovered, Item, Knowability, Knowable, NonLocalInput, Passes, Refused, Seen, Sees, Sight, Step, Stopped, UncoveredInput, Unknown, View, Viewed, bare_knowledge, by_proper_check, by_remote_check, class_of, crate_test, decided, decides, decides_again, entries, entry, first_step, frontier, is_fundamental, is_general, is_local, judged, knowability, left, local_or_fundamental, looked, or_empty, orphan_answer, over, plain, plain_knowability, second, unless_general, view, visit, walked}
+use Rattle.candidate_eval.specs.Orphan.{Answer, Checked, Class, CrateTest, Faulty, IsBroken, IsEmpty, IsLocal, IsNonLocal, IsSkipped, IsUncovered, Item, Knowability, NonLocalInput, Passes, Refused, Seen, Sees, Sight, Step, Stopped, UncoveredInput, Unknown, View, Viewed, bare_knowledge, by_proper_check, by_remote_check, class_of, crate_test, decided, decides, decides_again, entries, entry, first_step, frontier, is_fundamental, is_general, is_local, judged, knowability, left, local_or_fundamental, looked, or_empty, orphan_answer, over, plain, plain_knowability, second, unless_general, view, visit, walked}
 use Rattle.candidate_eval.specs.Soundness.{IsResolved, has_value}
 use Rattle.candidate_eval.specs.States.{Env, Judge, State, is_some, resolved_root, root_value, value_at}
 use Rattle.candidate_eval.proofs.Holds.{holds_parts}
@@ -161,7 +159,7 @@ module _ {S : Type 0} (s : S) where
 
 -- The judge sees a resolved tree without an alias as it stands.
 
-no-value : (o : Option Tree) → is_some o ≡ false → o ≡ None
+pub no-value : (o : Option Tree) → is_some o ≡ false → o ≡ None
 no-value None e = refl
 no-value (Some t) e = absurd cc
 

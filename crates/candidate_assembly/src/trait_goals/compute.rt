@@ -27,6 +27,8 @@ use std::alloc::Global;
 /// The list is that of `assemble_and_evaluate_candidates`, from all sources. Which candidates win, and what they come to, is that of
 /// `merge_trait_candidates`, in the mode that `CandidatePreferenceMode::compute` gives the trait. Where those that win don't merge the
 /// response is that too little is known, and nothing is said of how the goal is proved; `NoSolution` comes where there are none.
+/// In coherence a goal without aliases, to which no value is left to be put in and beside which nothing is pending, is refused for one of two
+/// reasons alone: what its clause implies was refused, or no crate that it doesn't name may write a header that overlaps it.
 ///
 /// It stops as these two calls do. The state is left alike the one that normalising the goal's self type leaves; or, where that was refused
 /// or stopped, alike the one before.
