@@ -62,14 +62,14 @@ none-is-some : {A : Type 0} (o : Option A) (a : A) → o ≡ None → o ≡ Some
 none-is-some None a e f = absurd cc
 none-is-some (Some b) a e f = absurd cc
 
-same-inside : {A : Type 0} (a b : A) → Some a ≡ Some b → a ≡ b
+pub same-inside : {A : Type 0} (a b : A) → Some a ≡ Some b → a ≡ b
 same-inside a b e = cc
 
 not-mapped : {A B : Type 0} (f : A → B) (o : Option A) (a : A) → o ≡ Some a → option_map f o ≡ None → ⊥
 not-mapped f None a e h = absurd cc
 not-mapped f (Some b) a e h = absurd cc
 
-none-answered : (s : CandidateSource) (o : Option Response) → answered s o ≡ Refused → o ≡ None
+pub none-answered : (s : CandidateSource) (o : Option Response) → answered s o ≡ Refused → o ≡ None
 none-answered s None e = refl
 none-answered s (Some r) e = absurd cc
 
@@ -141,7 +141,7 @@ module _ (J : Judge) (law : Lawful J) (c : Context) (S : State) (g : TraitGoal) 
   none-merged xs None e = none-unmerged xs (none-proved (unmerged J S xs) e)
   none-merged xs (Some m) e = absurd cc
 
-  list-empty : (l : Listed) → Rejected ≡ answer_of J c S g.reference.trait l → l ≡ Lists []
+  pub list-empty : (l : Listed) → Rejected ≡ answer_of J c S g.reference.trait l → l ≡ Lists []
   list-empty (Listing.Stops s) e = absurd cc
   list-empty (Lists xs) e =
       let P : TypingMode → Type 0 = λ m. Rejected ≡ or_refused (answer_by J S (preferred c m (mode_of c g.reference.trait) xs)) in
@@ -161,7 +161,7 @@ module _ (J : Judge) (law : Lawful J) (c : Context) (S : State) (g : TraitGoal) 
       let a = law.responses.empty_is_answered S AMBIGUOUS plain.nothing_pending in
       one-listed _ (J.responded S AMBIGUOUS) a.response a.is (subst P plain.in_coherence e)
 
-  others-here : (l : Listed) → ForNormal trait_rules trait_bounds c J S g self All l → l ≡ Lists [] → Assembled trait_rules trait_bounds c J S (resolved_goal trait_rules trait_bounds c S (with_self_type g self)) All l
+  pub others-here : (l : Listed) → ForNormal trait_rules trait_bounds c J S g self All l → l ≡ Lists [] → Assembled trait_rules trait_bounds c J S (resolved_goal trait_rules trait_bounds c S (with_self_type g self)) All l
   others-here _ (variable e) n = absurd (not-variable (with_self_type g self) n)
   others-here l (others e a) n = a
 
@@ -172,7 +172,7 @@ module _ (J : Judge) (law : Lawful J) (c : Context) (S : State) (g : TraitGoal) 
   not-alone h _ (unknowable_stops e u) n = absurd cc
   not-alone h l (knowable e u k) n = u
 
-  same-arguments : resolved S (with_first self g.reference.arguments) ≡ g.reference.arguments
+  pub same-arguments : resolved S (with_first self g.reference.arguments) ≡ g.reference.arguments
   same-arguments = ap (resolved S) (takes-self g.reference.arguments takes there.takes) ∙ resolved-stays S g.reference.arguments plain.is_resolved
 
   pub unknowable-refused : (U : State) → IsTraitAnswer J c S g U Rejected → UnknowableJudged J c S env g.reference Refused

@@ -83,6 +83,8 @@ pub mod OpaqueLists
 pub mod OpaqueAnswers
 pub mod AssembledBack
 pub mod AssembledLists
+pub mod KnownInstances
+pub mod KnownFresh
 pub mod KnownLists
 pub mod OneTrivial
 pub mod Specializing

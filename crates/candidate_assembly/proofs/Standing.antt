@@ -38,7 +38,7 @@ use Rattle.candidate_assembly.specs.Standing.{GoalStands, StandsAt, StandsBeside
 -- Marks.
 
 -- what bears neither of two marks bears no third
-neither : (a b c : Head → Bool) → ((h : Head) → a h ≡ false → b h ≡ false → c h ≡ false) → (ts : Forest) → holds a ts ≡ false → holds b ts ≡ false → holds c ts ≡ false
+pub neither : (a b c : Head → Bool) → ((h : Head) → a h ≡ false → b h ≡ false → c h ≡ false) → (ts : Forest) → holds a ts ≡ false → holds b ts ≡ false → holds c ts ≡ false
 neither a b c f none p q = refl
 neither a b c f (tree h below rest) p q =
     let x = holds_parts a h below rest p in
@@ -46,7 +46,7 @@ neither a b c f (tree h below rest) p q =
     unmarked c h below rest (f h x.here y.here) (neither a b c f below x.under y.under) (neither a b c f rest x.others y.others)
 
 -- a mark of trees without regions is a mark of the trees
-erased-holds : (mark : Head → Bool) (ts : Forest) → holds mark (erase ts) ≡ holds (λ h. mark (erased_head h)) ts
+pub erased-holds : (mark : Head → Bool) (ts : Forest) → holds mark (erase ts) ≡ holds (λ h. mark (erased_head h)) ts
 erased-holds mark none = refl
 erased-holds mark (tree h below rest) = rw (erased-holds mark below, erased-holds mark rest) refl
 

@@ -47,3 +47,4 @@ pub mod TraitAnswers
 pub mod MergedKinds
 pub mod SureAnswers
 pub mod CoherentRefusals
+pub mod KnownImpls
