@@ -87,7 +87,7 @@ or-true : (a b : Bool) → b ≡ true → (a || b) ≡ true
 or-true true b e = refl
 or-true false b e = e
 
-counts : (x : Bool) (k : VariableKind) (o : Option VariableInfo) → x ≡ true → has_kind k o ≡ true → not (x && has_kind k o) ≡ false
+pub counts : (x : Bool) (k : VariableKind) (o : Option VariableInfo) → x ≡ true → has_kind k o ≡ true → not (x && has_kind k o) ≡ false
 counts x k o e f = rw (e, f) refl
 
 module _ (S : State) (L : Live) (ks : List Kind) where

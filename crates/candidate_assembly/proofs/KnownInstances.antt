@@ -29,7 +29,7 @@ same_variable_is v w e =
     let n = eqb-true v.number w.number p.1 in
     λ i. record { sort = s i; number = n i }
 
-same_sort_itself : (s : VariableSort) → same_sort s s ≡ true
+pub same_sort_itself : (s : VariableSort) → same_sort s s ≡ true
 same_sort_itself V.General = refl
 same_sort_itself V.Integer = refl
 same_sort_itself V.Floating = refl

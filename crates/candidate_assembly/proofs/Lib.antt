@@ -85,6 +85,8 @@ pub mod AssembledBack
 pub mod AssembledLists
 pub mod KnownInstances
 pub mod KnownFresh
+pub mod KnownHeaders
+pub mod KnownSolutions
 pub mod KnownLists
 pub mod OneTrivial
 pub mod Specializing
