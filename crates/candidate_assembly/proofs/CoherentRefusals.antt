@@ -82,7 +82,7 @@ none-proved None e = refl
 none-proved (Some p) e = absurd cc
 
 -- Trees with all values put in stay.
-resolved-stays : (S : State) (ts : Forest) → IsResolved S ts → resolved S ts ≡ ts
+pub resolved-stays : (S : State) (ts : Forest) → IsResolved S ts → resolved S ts ≡ ts
 resolved-stays S ts r = fold-nothing (λ d t. value_at S t.head) (has_value S) (λ d t e. no-value (value_at S t.head) e) 0 ts r
 
 -- A reference's arguments begin with its self type.

@@ -83,10 +83,6 @@ pub mod OpaqueLists
 pub mod OpaqueAnswers
 pub mod AssembledBack
 pub mod AssembledLists
-pub mod KnownInstances
-pub mod KnownFresh
-pub mod KnownHeaders
-pub mod KnownSolutions
 pub mod KnownLists
 pub mod OneTrivial
 pub mod Specializing
@@ -101,3 +97,8 @@ pub mod SureAnswers
 pub mod ResolvedViews
 pub mod ImpliedFree
 pub mod CoherentRefusals
+pub mod KnownInstances
+pub mod KnownFresh
+pub mod KnownHeaders
+pub mod KnownSolutions
+pub mod KnownImpls

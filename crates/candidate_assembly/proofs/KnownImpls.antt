@@ -1,0 +1,223 @@
+-- What a refusal in coherence says of declared impls: the list is empty, so the rule of each was refused; and where the impl overlaps the goal its
+-- equation has a solution, so it was accepted.
+use Rattle.std.proofs.Common.{◌≡◌, ◌++◌, ◌+◌, ◌&&◌, ℕ, Bool, true, false, not, Option, Some, None, List, [], ◌∷◌, map, refl, sym, ap, subst, ◌∙◌, append_assoc}
+use Rattle.std.specs.Prelude.{All, IfSome, if◌then◌else◌}
+use Rattle.std.specs.List.{Contains, filter}
+use Rattle.std.specs.Option.{unwrap_or}
+use Rattle.std.proofs.lemmas.List.{append-nil}
+use Rattle.std.proofs.lemmas.List.Elements.{All-cons, All-contains, All-head, All-nil, All-tail}
+use Rattle.candidate_ir.specs.declared.decl.contents.ImplId.{ImplId}
+use Rattle.candidate_ir.specs.declared.ir.heads.Head.{Head}
+use Rattle.candidate_ir.specs.declared.ir.heads.Head.TheVariants as H
+use Rattle.candidate_ir.specs.declared.ir.heads.ConstHead.TheVariants as C
+use Rattle.candidate_ir.specs.declared.ir.kinds.Clause.{Clause}
+use Rattle.candidate_ir.specs.declared.ir.kinds.GoalSource.{GoalSource}
+use Rattle.candidate_ir.specs.declared.ir.kinds.GoalSource.TheVariants.{ImplWhereBound, Misc}
+use Rattle.candidate_ir.specs.declared.ir.unify.RightSide.TheVariants as R
+use Rattle.candidate_ir.specs.Context.{Context, world}
+use Rattle.candidate_ir.specs.Contents.{Impl}
+use Rattle.candidate_ir.specs.Declaring.{impl_at}
+use Rattle.candidate_ir.specs.Folding.{put, substituted, substituted_tree}
+use Rattle.candidate_ir.specs.Impls.{first_type, impls_of, is_relevant, may_be_for, relevant_impls, self_type as impl_type}
+use Rattle.candidate_ir.specs.Lookups.{maybe}
+use Rattle.candidate_ir.specs.Substitutions.{Overlap, Universes}
+use Rattle.candidate_ir.specs.Trees.{Forest, Kind, TypeKind, none, tree, Tree, binders_of, holds, is_alias, is_param, is_type, is_type_kind, kind_of}
+use Rattle.candidate_ir.specs.Unify.{IsFilled, may_unify, stands_for_any, stands_for_any_on_right, trees_may_unify}
+use Rattle.candidate_ir.specs.WellFormed.{ImplIsGiven, IsWellFormedTable}
+use Rattle.candidate_ir.specs.Words.{args_forest, clause_tree}
+use Rattle.candidate_ir.specs.Worlds.{IsOf, Reference, joined, kinds_of, parameters, TraitSort}
+use Rattle.candidate_ir.proofs.Folding.{begin, substituted-nothing}
+use Rattle.candidate_ir.proofs.Given.{impl_given}
+use Rattle.candidate_ir.proofs.MayUnify.{list_rejected}
+use Rattle.candidate_eval.specs.declared.eval.certainty.Certainty.{Certainty}
+use Rattle.candidate_eval.specs.declared.eval.mode.TypingMode.{TypingMode}
+use Rattle.candidate_eval.specs.declared.eval.source.CandidateSource.{CandidateSource}
+use Rattle.candidate_eval.specs.declared.eval.source.CandidateSource.TheVariants as Source
+use Rattle.candidate_eval.specs.ImplRules.{TraitGoal, impl_certainty, impl_steps, or_yes}
+use Rattle.candidate_eval.specs.Judging.{Gives, Judged, Place, Stopped, Refused, at_state, comes_to, concluded, continued, go_on, judged, reached, run, start, with_goals}
+use Rattle.candidate_eval.specs.Lawful.{AreSides, Lawful}
+use Rattle.candidate_eval.specs.ObjectRequirements.{first_tree}
+use Rattle.candidate_eval.specs.Responses.{Candidate}
+use Rattle.candidate_eval.specs.Rules.{Rule, Step, add, ask, nested, nested_misc}
+use Rattle.candidate_eval.specs.States.{Env, Judge, Pending, State, fresh_variables, is_some, next, resolved, with_fresh_variables, with_pending}
+use Rattle.candidate_assembly.specs.declared.assembly.opaques.AssembleCandidatesFrom.{AssembleCandidatesFrom}
+use Rattle.candidate_assembly.specs.declared.assembly.opaques.AssembleCandidatesFrom.TheVariants.{All as FromAll, EnvAndBounds}
+use Rattle.candidate_assembly.specs.Assembled.{Assembled, Further, Known, WithImpls, WithUnsizing, alone, by_clauses, by_objects, everything, followed, impl_rule, impl_rules, is_coherence, knowable, leaves_out, left_out, outside, resolved_goal, stopped as impls_stopped, stops as unknowable_stops}
+use Rattle.candidate_assembly.specs.CoherentRefusals.{IsPlainGoal}
+use Rattle.candidate_assembly.specs.KindBounds.{KindBounds}
+use Rattle.candidate_assembly.specs.Kinds.{KindRules, rule_of_part}
+use Rattle.candidate_assembly.specs.KnownImpls.{Concerns, HasLeafyValues, ImplWasRefused, KnownWereRefused, goals_at, header_at, header_of, impl_goals, kinds_of_impl}
+use Rattle.candidate_assembly.specs.Listing.{GoesOn, Listed, Lists, answers, lists, listed, stops, together}
+use Rattle.candidate_assembly.specs.Listing as Listing
+use Rattle.candidate_assembly.specs.Opaques.{is_default_impl, proper_impls}
+use Rattle.candidate_assembly.specs.TraitAnswers.{IsTraitAnswer, Refused as Rejected, answer_of}
+use Rattle.candidate_assembly.specs.TraitGoals.{impl_part, impl_part_at, no_impl, with_self_type}
+use Rattle.candidate_assembly.specs.TraitRules.{trait_bounds, trait_rules}
+use Rattle.candidate_assembly.proofs.CoherentRefusals.{list-empty, none-answered, normal-here, others-here, resolved-stays, same-arguments}
+
+-- Lists that are empty.
+
+first-empty : (xs ys : List Candidate) → xs ++ ys ≡ [] → xs ≡ []
+first-empty [] ys e = refl
+first-empty (x ∷ xs) ys e = absurd cc
+
+second-empty : (xs ys : List Candidate) → xs ++ ys ≡ [] → ys ≡ []
+second-empty [] ys e = e
+second-empty (x ∷ xs) ys e = absurd cc
+
+both-empty : (a b : Listed) → together a b ≡ Lists [] → (a ≡ Lists []) × (b ≡ Lists [])
+both-empty (Lists xs) (Lists ys) e =
+    let whole : xs ++ ys ≡ [] = cc in
+    (ap Lists (first-empty xs ys whole), ap Lists (second-empty xs ys whole))
+both-empty (Lists xs) (Listing.Stops s) e = absurd cc
+both-empty (Listing.Stops s) b e = absurd cc
+
+none-listed : (j : Judged) → listed j ≡ Lists [] → j ≡ Refused
+none-listed (Gives x) e = absurd cc
+none-listed Refused e = refl
+none-listed (Stopped s) e = absurd cc
+
+each-refused : {A : Type 0} (J : Judge) (S : State) (f : A → Rule) (xs : List A) → answers J S (map f xs) ≡ Lists [] → All (λ x. judged J S (f x) ≡ Refused) xs
+each-refused J S f [] e = All-nil (λ x. judged J S (f x) ≡ Refused)
+each-refused J S f (x ∷ xs) e =
+    let both = both-empty (listed (judged J S (f x))) (answers J S (map f xs)) e in
+    All-cons (λ y. judged J S (f y) ≡ Refused) x xs (none-listed (judged J S (f x)) both.0) (each-refused J S f xs both.1)
+
+-- what is said of all that pass a test, of one that passes it
+all-filtered : {A : Type 0} (P : A → Type 0) (test : A → Bool) (xs : List A) → All P (filter test xs) → All (λ x. test x ≡ true → P x) xs
+all-filtered P test [] h = All-nil (λ x. test x ≡ true → P x)
+all-filtered P test (x ∷ xs) h = at (test x) refl h (all-filtered P test xs)
+  where
+    at : (b : Bool) → test x ≡ b → All P (if b then x ∷ filter test xs else filter test xs) → (All P (filter test xs) → All (λ y. test y ≡ true → P y) xs) → All (λ y. test y ≡ true → P y) (x ∷ xs)
+    at true e h more = All-cons (λ y. test y ≡ true → P y) x xs (λ _. All-head P x (filter test xs) h) (more (All-tail P x (filter test xs) h))
+    at false e h more = All-cons (λ y. test y ≡ true → P y) x xs (λ f. absurd cc) (more h)
+
+-- Where the list of a goal is empty in coherence, no impl gave a candidate.
+module _ {G : Type 0} (K : KindRules G) (B : KindBounds G) (J : Judge) (c : Context) (S : State) (g : G) (here : is_coherence S.mode ≡ true) where
+  abbrev None-given : Type 0
+  None-given = answers J S (impl_rules K c S.mode g) ≡ Lists []
+
+  none-left-out : (xs : List Candidate) → leaves_out S.mode xs ≡ true → ⊥
+  none-left-out xs e = absurd cc
+
+  with-impls : (xs : List Candidate) (l : Listed) → WithImpls K B c J S g xs l → l ≡ Lists [] → None-given
+  with-impls xs _ (left_out e) n = absurd (none-left-out xs e)
+  with-impls xs _ (impls_stopped e s) n = absurd cc
+  with-impls xs _ (followed {l} e o) n =
+      (both-empty (answers J S (impl_rules K c S.mode g)) l (both-empty (Lists xs) (together (answers J S (impl_rules K c S.mode g)) l) n).1).0
+
+  with-unsizing : (xs : List Candidate) (l : Listed) → WithUnsizing K B c J S g xs l → l ≡ Lists [] → None-given
+  with-unsizing xs l w n = at (together (Lists xs) w.unsized) l w.further n
+    where
+      at : (a l : Listed) → GoesOn (WithImpls K B c J S g) a l → l ≡ Lists [] → None-given
+      at _ _ stops n = absurd cc
+      at _ l (lists {xs} h) n = with-impls xs l h n
+
+  further-on : (xs : List Candidate) (from : AssembleCandidatesFrom) (l : Listed) → Further K B c J S g xs from l → from ≡ FromAll → l ≡ Lists [] → None-given
+  further-on xs _ l (everything h) f n = at _ l h n
+    where
+      at : (a l : Listed) → GoesOn (WithUnsizing K B c J S g) a l → l ≡ Lists [] → None-given
+      at _ _ stops n = absurd cc
+      at _ l (lists {xs} h) n = with-unsizing xs l h n
+  further-on xs _ _ (by_clauses h) f n = absurd cc
+  further-on xs _ _ (by_objects h o) f n = absurd cc
+
+  known-on : (l : Listed) → Known K B c J S g FromAll l → l ≡ Lists [] → None-given
+  known-on l k n = at _ l k.further n
+    where
+      at : (a l : Listed) → GoesOn (λ xs. Further K B c J S g xs FromAll) a l → l ≡ Lists [] → None-given
+      at _ _ stops n = absurd cc
+      at _ l (lists {xs} h) n = further-on xs FromAll l h refl n
+
+  pub none-given : (l : Listed) → Assembled K B c J S g FromAll l → l ≡ Lists [] → None-given
+  none-given l (outside e k) n = absurd cc
+  none-given _ (alone e u) n = absurd cc
+  none-given _ (unknowable_stops e u) n = absurd cc
+  none-given l (knowable e u k) n = known-on l k n
+
+-- A header that overlaps the goal passes quick rejection: it has a common instance with the goal, where what is put for a parameter stands in
+-- its place.
+
+itself-fills : (mark : Head → Bool) (ts : Forest) → IsFilled mark ts ts
+itself-fills mark none = tt
+itself-fills mark (tree h below rest) = ((λ _. (refl, itself-fills mark below)), itself-fills mark rest)
+
+none-put : (F : Forest) (d : ℕ) (h : Head) → stands_for_any_on_right R.Header h ≡ false → put F d h ≡ None
+none-put F d (H.Param i) e = absurd cc
+none-put F d (H.Const (C.Param i)) e = absurd cc
+none-put F d _ e = refl
+
+put-fills : (F : Forest) (d : ℕ) (ts : Forest) → IsFilled (stands_for_any_on_right R.Header) ts (substituted F d ts)
+put-fills F d none = tt
+put-fills F d (tree h below rest) =
+    let under = put-fills F (d + binders_of h) below in
+    ((λ m. at (put F d h) (none-put F d h m) under), put-fills F d rest)
+  where
+    at : (o : Option Tree) → o ≡ None → IsFilled (stands_for_any_on_right R.Header) below (substituted F (d + binders_of h) below)
+        → let it = unwrap_or o (record { head = h; children = substituted F (d + binders_of h) below }) in (it.head ≡ h) × IsFilled (stands_for_any_on_right R.Header) below it.children
+    at None e under = (refl, under)
+    at (Some t) e under = absurd cc
+
+passes-quickly : (u v : Universes) (a b : Reference) (F header : Forest) → b.arguments ≡ substituted F 0 header → Overlap u v a b → may_unify R.Header a.arguments header ≡ true
+passes-quickly u v a b F header e o = at (may_unify R.Header a.arguments header) refl
+  where
+    at : (x : Bool) → may_unify R.Header a.arguments header ≡ x → may_unify R.Header a.arguments header ≡ true
+    at true f = f
+    at false f =
+        absurd ((list_rejected R.Header a.arguments header (may_unify R.Header a.arguments header) refl f).apart u v (record {
+          first = a.arguments;
+          second = b.arguments;
+          first_is = itself-fills stands_for_any a.arguments;
+          second_is = subst (IsFilled (stands_for_any_on_right R.Header) header) (sym e) (put-fills F 0 header);
+          first_values = o.left;
+          second_values = o.right;
+          first_allowed = o.left_allowed;
+          second_allowed = o.right_allowed;
+          common = o.common;
+        }))
+
+-- so does its self type
+type-first : (o : Option (List Kind)) (g : Head) (below rest : Forest) → joined (Some (TypeKind ∷ [])) o ≡ Some (kinds_of (tree g below rest)) → is_type g ≡ true
+type-first None g below rest e = absurd cc
+type-first (Some ks) g below rest e = let same : TypeKind ≡ kind_of g = cc in ap is_type_kind (sym same)
+
+and-left : (a b : Bool) → (a && b) ≡ true → a ≡ true
+and-left true b e = refl
+and-left false b e = absurd cc
+
+none-kinds : (o : Option (List Kind)) → joined (Some (TypeKind ∷ [])) o ≡ Some (kinds_of none) → ⊥
+none-kinds None e = absurd cc
+none-kinds (Some ks) e = absurd cc
+
+may-be-for : (o : Option (List Kind)) (args header : Forest) → joined (Some (TypeKind ∷ [])) o ≡ Some (kinds_of header) → may_unify R.Header args header ≡ true → may_be_for (first_tree args) (first_type header) ≡ true
+may-be-for o args none k e = absurd (none-kinds o k)
+may-be-for o none (tree g b s) k e = absurd cc
+may-be-for o (tree h a r) (tree g b s) k e =
+    ap (λ x. may_be_for (record { head = h; children = a }) (if x then Some (record { head = g; children = b }) else None)) (type-first o g b s k)
+    ∙ and-left (trees_may_unify R.Header (record { head = h; children = a }) (record { head = g; children = b })) (may_unify R.Header r s) e
+
+-- Clauses of an impl become pending, with the variables in the place of its parameters.
+module _ (J : Judge) (e : Env) (c : Context) (S : State) (i : Impl) where
+  abbrev F : Forest
+  F = fresh_variables S (kinds_of_impl i)
+
+  abbrev place : State → Place
+  place U = record { state = U; locals = F }
+
+  nested-run : (U : State) (source : GoalSource) (xs : List Clause) (rest : List Step)
+      → run J e (place U) (map (add source) (map (clause_tree c.trees) xs) ++ rest) ≡ run J e (place (with_pending U (U.pending ++ goals_at c S e source i xs))) rest
+  nested-run U source [] rest = ap (λ ps. run J e (place (with_pending U ps)) rest) (sym (append-nil U.pending))
+  nested-run U source (x ∷ xs) rest =
+      let p : Pending = record { source = source; goal = record { env = e; clause = substituted_tree F (clause_tree c.trees x) } } in
+      nested-run (with_pending U (U.pending ++ p ∷ [])) source xs rest
+      ∙ ap (λ ps. run J e (place (with_pending U ps)) rest) (append_assoc U.pending (p ∷ []) (goals_at c S e source i xs))
+
+  abbrev conditions : List Step
+  conditions = nested (map (clause_tree c.trees) i.wheres) ++ nested_misc (map (clause_tree c.trees) i.super_outlives)
+
+  conditions-run : (U : State) → run J e (place U) conditions ≡ run J e (place (with_pending U (U.pending ++ impl_goals c S e i))) []
+  conditions-run U =
+      nested-run U ImplWhereBound i.wheres (nested_misc (map (clause_tree c.trees) i.super_outlives))
+      ∙ (ap (run J e (place (with_pending U (U.pending ++ goals_at c S e ImplWhereBound i i.wheres)))) (sym (append-nil (nested_misc (map (clause_tree c.trees) i.super_outlives))))
+      ∙ (nested-run (with_pending U (U.pending ++ goals_at c S e ImplWhereBound i i.wheres)) Misc i.super_outlives []
+      ∙ ap (λ ps. run J e (place (with_pending U ps)) []) (append_assoc U.pending (goals_at c S e ImplWhereBound i i.wheres) (goals_at c S e Misc i i.super_outlives))))
