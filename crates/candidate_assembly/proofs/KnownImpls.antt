@@ -18,10 +18,10 @@ use Rattle.candidate_ir.specs.Context.{Context, world}
 use Rattle.candidate_ir.specs.Contents.{Impl}
 use Rattle.candidate_ir.specs.Declaring.{impl_at}
 use Rattle.candidate_ir.specs.Folding.{put, substituted, substituted_tree}
-use Rattle.candidate_ir.specs.Impls.{first_type, impls_of, is_relevant, may_be_for, relevant_impls, self_type as impl_type}
+use Rattle.candidate_ir.specs.Impls.{first_type, impls_of, is_relevant, may_be_for, listed_type, relevant_impls, self_type as impl_type}
 use Rattle.candidate_ir.specs.Lookups.{maybe}
-use Rattle.candidate_ir.specs.Substitutions.{Overlap, Universes}
-use Rattle.candidate_ir.specs.Trees.{Forest, Kind, TypeKind, none, tree, Tree, binders_of, holds, is_alias, is_param, is_type, is_type_kind, kind_of}
+use Rattle.candidate_ir.specs.Substitutions.{Overlap, Universes, is_made}
+use Rattle.candidate_ir.specs.Trees.{Forest, Kind, TypeKind, none, tree, Tree, binders_of, erase, holds, is_alias, is_param, is_type, is_type_kind, kind_of}
 use Rattle.candidate_ir.specs.Unify.{IsFilled, may_unify, stands_for_any, stands_for_any_on_right, trees_may_unify}
 use Rattle.candidate_ir.specs.WellFormed.{ImplIsGiven, IsWellFormedTable}
 use Rattle.candidate_ir.specs.Words.{args_forest, clause_tree}
@@ -35,10 +35,11 @@ use Rattle.candidate_eval.specs.declared.eval.source.CandidateSource.{CandidateS
 use Rattle.candidate_eval.specs.declared.eval.source.CandidateSource.TheVariants as Source
 use Rattle.candidate_eval.specs.ImplRules.{TraitGoal, impl_certainty, impl_steps, or_yes}
 use Rattle.candidate_eval.specs.Judging.{Gives, Judged, Place, Stopped, Refused, at_state, comes_to, concluded, continued, go_on, judged, reached, run, start, with_goals}
-use Rattle.candidate_eval.specs.Lawful.{AreSides, Lawful}
+use Rattle.candidate_eval.specs.Lawful.{AreSides, Lawful, Solves}
 use Rattle.candidate_eval.specs.ObjectRequirements.{first_tree}
 use Rattle.candidate_eval.specs.Responses.{Candidate}
-use Rattle.candidate_eval.specs.Rules.{Rule, Step, add, ask, nested, nested_misc}
+use Rattle.candidate_eval.specs.Rules.{Ending, Rule, Step, add, ask, nested, nested_misc}
+use Rattle.candidate_eval.specs.Soundness.{Live, universes}
 use Rattle.candidate_eval.specs.States.{Env, Judge, Pending, State, fresh_variables, is_some, next, resolved, with_fresh_variables, with_pending}
 use Rattle.candidate_assembly.specs.declared.assembly.opaques.AssembleCandidatesFrom.{AssembleCandidatesFrom}
 use Rattle.candidate_assembly.specs.declared.assembly.opaques.AssembleCandidatesFrom.TheVariants.{All as FromAll, EnvAndBounds}
@@ -53,7 +54,11 @@ use Rattle.candidate_assembly.specs.Opaques.{is_default_impl, proper_impls}
 use Rattle.candidate_assembly.specs.TraitAnswers.{IsTraitAnswer, Refused as Rejected, answer_of}
 use Rattle.candidate_assembly.specs.TraitGoals.{impl_part, impl_part_at, no_impl, with_self_type}
 use Rattle.candidate_assembly.specs.TraitRules.{trait_bounds, trait_rules}
+use Rattle.candidate_assembly.specs.SuperLaws.{arguments_fit}
 use Rattle.candidate_assembly.proofs.CoherentRefusals.{list-empty, none-answered, normal-here, others-here, resolved-stays, same-arguments}
+use Rattle.candidate_assembly.proofs.KnownFresh.{fits-still, fresh-all, fresher, leaves-still, resolved-still, sound-still, trees-still, wider}
+use Rattle.candidate_assembly.proofs.KnownHeaders.{fits-leaves, header-bare, header-closed, header-known, header-leaves, header-new, header-no-alias, header-resolved, header-trees}
+use Rattle.candidate_assembly.proofs.KnownSolutions.{combined, combined-solves, new-apply, old-apply}
 
 -- Lists that are empty.
 
@@ -221,3 +226,142 @@ module _ (J : Judge) (e : Env) (c : Context) (S : State) (i : Impl) where
       ∙ (ap (run J e (place (with_pending U (U.pending ++ goals_at c S e ImplWhereBound i i.wheres)))) (sym (append-nil (nested_misc (map (clause_tree c.trees) i.super_outlives))))
       ∙ (nested-run (with_pending U (U.pending ++ goals_at c S e ImplWhereBound i i.wheres)) Misc i.super_outlives []
       ∙ ap (λ ps. run J e (place (with_pending U ps)) []) (append_assoc U.pending (goals_at c S e ImplWhereBound i i.wheres) (goals_at c S e Misc i i.super_outlives))))
+
+module _ (J : Judge) (law : Lawful J) (c : Context) (table : IsWellFormedTable c) (S : State) (g : TraitGoal) (plain : IsPlainGoal S g) (there : IsOf (world c) g.reference) (free : holds is_param g.reference.arguments ≡ false) where
+  abbrev self : Tree
+  self = first_tree g.reference.arguments
+
+  abbrev env : Env
+  env = resolved S g.env
+
+  -- the goal as its rules see it
+  abbrev seen : TraitGoal
+  seen = record { env = env; reference = g.reference; polarity = g.polarity }
+
+  -- The rules of impls were refused.
+
+  none-served : (U : State) → IsTraitAnswer J c S g U Rejected → answers J S (impl_rules trait_rules c S.mode seen) ≡ Lists []
+  none-served U a =
+      let n = normal-here J law c S g plain there a.listed a.list.left a.list.assembled in
+      let empty = list-empty J law c S g plain there a.listed (subst (λ (T : State). Rejected ≡ answer_of J c T g.reference.trait a.listed) n.0 a.answer) in
+      let all =
+      none-given trait_rules trait_bounds J c S (resolved_goal trait_rules trait_bounds c S (with_self_type g self)) (ap is_coherence plain.in_coherence) a.listed (others-here J law c S g plain there a.listed n.1 empty) empty in
+      subst (λ ts. answers J S (impl_rules trait_rules c S.mode (record { env = env; reference = record { trait = g.reference.trait; arguments = ts }; polarity = g.polarity })) ≡ Lists []) (same-arguments J law c S g plain there) all
+
+  module _ (n : ImplId) (i : Impl) (certainty : Certainty) (concerns : Concerns c S g n i certainty) where
+    abbrev args : Forest
+    args = g.reference.arguments
+
+    abbrev ks : List Kind
+    ks = kinds_of_impl i
+
+    abbrev header : Forest
+    header = header_of c i
+
+    abbrev filled : Forest
+    filled = substituted (fresh_variables S ks) 0 header
+
+    abbrev before : State
+    before = with_fresh_variables S ks
+
+    abbrev end : Ending
+    end = ask (Source.Impl n) certainty
+
+    given : ImplIsGiven c i
+    given = subst (λ (o : Option Impl). IfSome o (ImplIsGiven c)) concerns.is (impl_given c table n)
+
+    quickly : may_unify R.Header args header ≡ true
+    quickly = passes-quickly (universes S) (λ v. S.newest_universe) g.reference (header_at c S i) (fresh_variables S ks) header refl concerns.overlap
+
+    relevant : is_relevant c self n ≡ true
+    relevant =
+        ap (λ o. may_be_for self (impl_type c.trees o)) concerns.is
+        ∙ (ap (λ k. may_be_for self (listed_type k header)) given.header.list ∙ may-be-for (parameters (world c) TraitSort i.trait_ref.def_id.0) args header given.header.fit quickly)
+
+    proper : not (is_default_impl c n) ≡ true
+    proper = ap (λ o. not (maybe false (λ (x : Impl). x.is_default) o)) concerns.is ∙ ap not concerns.not_default
+
+    abbrev WasRefused : ImplId → Type 0
+    WasRefused m = judged J S (impl_rule trait_rules c S.mode seen m) ≡ Refused
+
+    rule-refused : answers J S (impl_rules trait_rules c S.mode seen) ≡ Lists [] → WasRefused n
+    rule-refused e =
+        let all = each-refused J S (impl_rule trait_rules c S.mode seen) (proper_impls c (relevant_impls c g.reference.trait self)) e in
+        let each = all-filtered WasRefused (λ m. not (is_default_impl c m)) (relevant_impls c g.reference.trait self) all in
+        let those = all-filtered (λ m. not (is_default_impl c m) ≡ true → WasRefused m) (is_relevant c self) (impls_of c g.reference.trait) each in
+        All-contains (λ m. is_relevant c self m ≡ true → not (is_default_impl c m) ≡ true → WasRefused m) (impls_of c g.reference.trait) n those concerns.listed relevant proper
+
+    -- So were its steps.
+
+    steps-refused : WasRefused n → comes_to J env (start S) (impl_steps c.trees seen i) end ≡ Refused
+    steps-refused e =
+        let P : Option Impl → Type 0 = λ o. judged J S (rule_of_part env (Source.Impl n) (maybe no_impl (impl_part c.trees S.mode seen) o)) ≡ Refused in
+        let Q : Bool → Option Certainty → Type 0 = λ b o. (if b && is_some o then comes_to J env (start S) (impl_steps c.trees seen i) (ask (Source.Impl n) (or_yes o)) else Refused) ≡ Refused in
+        let first : Q (may_unify R.Header args header) (impl_certainty S.mode g.polarity i.polarity) = subst P concerns.is e in
+        subst (Q true) concerns.serves (subst (λ b. Q b (impl_certainty S.mode g.polarity i.polarity)) quickly first)
+
+    -- what comes after the equation
+    abbrev after_equation : Option (List Pending × State) → Judged
+    after_equation o =
+        continued J end (go_on (reached Refused (next o (λ q. Some (with_goals (place J env c S i before) q)))) (λ q. run J env q (conditions J env c S i))) (λ q. concluded J env end q.state)
+
+    equation-refused : comes_to J env (start S) (impl_steps c.trees seen i) end ≡ Refused → after_equation (J.equated before env args filled) ≡ Refused
+    equation-refused e = subst (λ ts. after_equation (J.equated before env ts filled) ≡ Refused) (substituted-nothing (fresh_variables S ks) 0 args free) e
+
+    -- The equation has a solution.
+
+    module _ (h : HasLeafyValues S g) where
+      abbrev T : State
+      T = fresher S ks
+
+      abbrev M : Live
+      M = wider S h.live
+
+      bare : holds is_made header ≡ false
+      bare = header-bare c table n i concerns.is
+
+      sides : AreSides T M args filled
+      sides = record {
+        sound = sound-still S h.live ks h.sound;
+        fits = fits-still S h.live ks h.fits;
+        left = trees-still S h.live ks args h.trees;
+        right = header-trees S h.live ks header bare (header-closed c table n i concerns.is given.header.list);
+        left_has_no_alias = ap (holds is_alias) (resolved-stays T args (resolved-still S h.live ks args h.trees.known plain.is_resolved)) ∙ plain.no_alias;
+        right_has_no_alias = ap (holds is_alias) (resolved-stays T filled (header-resolved S h.live ks header bare)) ∙ header-no-alias S h.live ks header bare concerns.no_alias;
+        left_has_leaves = fits-leaves (world c) args there.fits;
+        right_has_leaves = header-leaves S h.live ks header bare (fits-leaves (world c) header (arguments_fit c table i.trait_ref.args given.header.list));
+        values_have_leaves = leaves-still S h.live ks h.leaves;
+      }
+
+      solves : (o : Overlap (universes S) (λ v. S.newest_universe) g.reference (header_at c S i)) → Solves T M args filled (combined S h.live ks h.sound o.left o.right o.left_allowed o.right_allowed)
+      solves o = record {
+        solution = combined-solves S h.live ks h.sound o.left o.right o.left_allowed o.right_allowed;
+        equal =
+            ap erase (old-apply S h.live ks h.sound o.left o.right o.left_allowed o.right_allowed args h.trees.known plain.is_resolved)
+            ∙ (o.common ∙ sym (ap erase (new-apply S h.live ks h.sound o.left o.right o.left_allowed o.right_allowed filled (header-known S h.live ks header bare) (header-new S h.live ks header bare))));
+      }
+
+      not-refused : J.equated before env args filled ≡ None → ⊥
+      not-refused e =
+          let o = concerns.overlap in
+          law.equations.refused_has_no_solution T M env args filled sides (subst (λ U. J.equated U env args filled ≡ None) (fresh-all S ks) e)
+          (combined S h.live ks h.sound o.left o.right o.left_allowed o.right_allowed) (solves o)
+
+      -- so it was accepted, and what was pending then was refused
+      by-equation : (o : Option (List Pending × State)) → J.equated before env args filled ≡ o → after_equation o ≡ Refused → ImplWasRefused J c S g i certainty
+      by-equation None e f = absurd (not-refused e)
+      by-equation (Some q) e f =
+          let kept = law.equations.equating_keeps_pending before q.1 env args filled q.0 e ∙ (ap (λ (U : State). U.pending) (fresh-all S ks) ∙ plain.nothing_pending) in
+          let asks = ap (λ r. continued J end r (λ p. concluded J env end p.state)) (sym (conditions-run J env c S i (with_pending q.1 (q.1.pending ++ q.0)))) ∙ f in
+          let refused = none-answered (Source.Impl n) (J.responded (with_pending q.1 ((q.1.pending ++ q.0) ++ impl_goals c S env i)) certainty) asks in
+          record {
+            after = q.1;
+            left = q.0;
+            accepted = e;
+            refused = subst (λ (ps : List Pending). J.responded (with_pending q.1 ((ps ++ q.0) ++ impl_goals c S env i)) certainty ≡ None) kept refused;
+          }
+
+  pub known-refused : (U : State) → IsTraitAnswer J c S g U Rejected → KnownWereRefused J c S g
+  known-refused U a h n i certainty concerns =
+      let steps = steps-refused n i certainty concerns (rule-refused n i certainty concerns (none-served U a)) in
+      by-equation n i certainty concerns h (J.equated (with_fresh_variables S (kinds_of_impl i)) env g.reference.arguments (header_at c S i).arguments) refl (equation-refused n i certainty concerns steps)
