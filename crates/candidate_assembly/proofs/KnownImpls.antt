@@ -1,6 +1,6 @@
 -- What a refusal in coherence says of declared impls: the list is empty, so the rule of each was refused; and where the impl overlaps the goal its
 -- equation has a solution, so it was accepted.
-use Rattle.std.proofs.Common.{◌≡◌, ◌++◌, ◌+◌, ◌&&◌, ℕ, Bool, true, false, not, Option, Some, None, List, [], ◌∷◌, map, refl, sym, ap, subst, ◌∙◌, append_assoc}
+use Rattle.std.proofs.Common.{◌≡◌, ◌++◌, ◌+◌, ◌&&◌, ℕ, Bool, true, false, not, Option, Some, None, List, [], ◌∷◌, map, Result, refl, sym, ap, subst, ◌∙◌, append_assoc}
 use Rattle.std.specs.Prelude.{All, IfSome, if◌then◌else◌}
 use Rattle.std.specs.List.{Contains, filter}
 use Rattle.std.specs.Option.{unwrap_or}
@@ -13,6 +13,8 @@ use Rattle.candidate_ir.specs.declared.ir.heads.ConstHead.TheVariants as C
 use Rattle.candidate_ir.specs.declared.ir.kinds.Clause.{Clause}
 use Rattle.candidate_ir.specs.declared.ir.kinds.GoalSource.{GoalSource}
 use Rattle.candidate_ir.specs.declared.ir.kinds.GoalSource.TheVariants.{ImplWhereBound, Misc}
+use Rattle.candidate_ir.specs.declared.ir.kinds.ParamEnv.{ParamEnv}
+use Rattle.candidate_ir.specs.declared.ir.kinds.TraitPredicate.{TraitPredicate}
 use Rattle.candidate_ir.specs.declared.ir.unify.RightSide.TheVariants as R
 use Rattle.candidate_ir.specs.Context.{Context, world}
 use Rattle.candidate_ir.specs.Contents.{Impl}
@@ -29,10 +31,14 @@ use Rattle.candidate_ir.specs.Worlds.{IsOf, Reference, joined, kinds_of, paramet
 use Rattle.candidate_ir.proofs.Folding.{begin, substituted-nothing}
 use Rattle.candidate_ir.proofs.Given.{impl_given}
 use Rattle.candidate_ir.proofs.MayUnify.{list_rejected}
+use Rattle.candidate_ir.proofs.References.{is-reference}
 use Rattle.candidate_eval.specs.declared.eval.certainty.Certainty.{Certainty}
 use Rattle.candidate_eval.specs.declared.eval.mode.TypingMode.{TypingMode}
+use Rattle.candidate_eval.specs.declared.eval.refusal.NoSolutionOrStop.{NoSolutionOrStop}
+use Rattle.candidate_eval.specs.declared.eval.response.CanonicalResponse.{CanonicalResponse}
 use Rattle.candidate_eval.specs.declared.eval.source.CandidateSource.{CandidateSource}
 use Rattle.candidate_eval.specs.declared.eval.source.CandidateSource.TheVariants as Source
+use Rattle.candidate_eval.specs.Accounts.{Account}
 use Rattle.candidate_eval.specs.ImplRules.{TraitGoal, impl_certainty, impl_steps, or_yes}
 use Rattle.candidate_eval.specs.Judging.{Gives, Judged, Place, Stopped, Refused, at_state, comes_to, concluded, continued, go_on, judged, reached, run, start, with_goals}
 use Rattle.candidate_eval.specs.Lawful.{AreSides, Lawful, Solves}
@@ -43,18 +49,21 @@ use Rattle.candidate_eval.specs.Soundness.{Live, universes}
 use Rattle.candidate_eval.specs.States.{Env, Judge, Pending, State, fresh_variables, is_some, next, resolved, with_fresh_variables, with_pending}
 use Rattle.candidate_assembly.specs.declared.assembly.opaques.AssembleCandidatesFrom.{AssembleCandidatesFrom}
 use Rattle.candidate_assembly.specs.declared.assembly.opaques.AssembleCandidatesFrom.TheVariants.{All as FromAll, EnvAndBounds}
+use Rattle.candidate_assembly.specs.declared.trait_goals.preference.TraitGoalProvenVia.{TraitGoalProvenVia}
 use Rattle.candidate_assembly.specs.Assembled.{Assembled, Further, Known, WithImpls, WithUnsizing, alone, by_clauses, by_objects, everything, followed, impl_rule, impl_rules, is_coherence, knowable, leaves_out, left_out, outside, resolved_goal, stopped as impls_stopped, stops as unknowable_stops}
+use Rattle.candidate_assembly.specs.BuiltinLaws.{nodes_fit}
 use Rattle.candidate_assembly.specs.CoherentRefusals.{IsPlainGoal}
 use Rattle.candidate_assembly.specs.KindBounds.{KindBounds}
-use Rattle.candidate_assembly.specs.Kinds.{KindRules, rule_of_part}
-use Rattle.candidate_assembly.specs.KnownImpls.{Concerns, HasLeafyValues, ImplWasRefused, KnownWereRefused, goals_at, header_at, header_of, impl_goals, kinds_of_impl}
+use Rattle.candidate_assembly.specs.Kinds.{IsGoal, KindRules, rule_of_part}
+use Rattle.candidate_assembly.specs.KnownImpls.{Concerns, HasLeafyValues, ImplWasRefused, KnownWereRefused, RefusesImpls, goals_at, header_at, header_of, impl_goals, kinds_of_impl}
 use Rattle.candidate_assembly.specs.Listing.{GoesOn, Listed, Lists, answers, lists, listed, stops, together}
 use Rattle.candidate_assembly.specs.Listing as Listing
 use Rattle.candidate_assembly.specs.Opaques.{is_default_impl, proper_impls}
-use Rattle.candidate_assembly.specs.TraitAnswers.{IsTraitAnswer, Refused as Rejected, answer_of}
-use Rattle.candidate_assembly.specs.TraitGoals.{impl_part, impl_part_at, no_impl, with_self_type}
+use Rattle.candidate_assembly.specs.TraitAnswers.{Computes, IsTraitAnswer, Refused as Rejected, answer_of}
+use Rattle.candidate_assembly.specs.TraitGoals.{arguments_held, impl_part, no_impl, trait_goal, types_held, with_self_type}
 use Rattle.candidate_assembly.specs.TraitRules.{trait_bounds, trait_rules}
 use Rattle.candidate_assembly.specs.SuperLaws.{arguments_fit}
+use Rattle.candidate_assembly.proofs.Causes.{so-err}
 use Rattle.candidate_assembly.proofs.CoherentRefusals.{list-empty, none-answered, normal-here, others-here, resolved-stays, same-arguments}
 use Rattle.candidate_assembly.proofs.KnownFresh.{fits-still, fresh-all, fresher, leaves-still, resolved-still, sound-still, trees-still, wider}
 use Rattle.candidate_assembly.proofs.KnownHeaders.{fits-leaves, header-bare, header-closed, header-known, header-leaves, header-new, header-no-alias, header-resolved, header-trees}
@@ -365,3 +374,12 @@ module _ (J : Judge) (law : Lawful J) (c : Context) (table : IsWellFormedTable c
   known-refused U a h n i certainty concerns =
       let steps = steps-refused n i certainty concerns (rule-refused n i certainty concerns (none-served U a)) in
       by-equation n i certainty concerns h (J.equated (with_fresh_variables S (kinds_of_impl i)) env g.reference.arguments (header_at c S i).arguments) refl (equation-refused n i certainty concerns steps)
+
+-- So a call that computes what the goal comes to refuses it only where each was.
+pub computes-known : {E X : Type 0} {fixed : E → X} {judge : X → Judge} {state : E → State} {probes : E → List State} {context : E → Context} {stops : Account E} → ((f : X) → Lawful (judge f)) → (old new : E) (e : ParamEnv) (p : TraitPredicate)
+    (r : Result (CanonicalResponse × Option TraitGoalProvenVia) NoSolutionOrStop) → IsWellFormedTable (context old) → IsGoal trait_rules arguments_held types_held trait_goal (context old) e p
+    → Computes fixed judge state probes context stops old new (trait_goal (context old).trees e p) r → RefusesImpls (judge (fixed old)) (context old) (state old) (trait_goal (context old).trees e p) r
+computes-known {fixed = fixed} {judge = judge} {state = state} {context = context} law old new e p r table goal h =
+    let c = context old in
+    let there = is-reference c p.trait_ref (nodes_fit c table) goal.arguments goal.fit in
+    so-err r (λ x answer n plain. known-refused (judge (fixed old)) (law (fixed old)) c table (state old) (trait_goal c.trees e p) plain there goal.no_parameter (state new) (answer n)) h.refused

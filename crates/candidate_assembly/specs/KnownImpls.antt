@@ -1,5 +1,5 @@
 -- What a refusal in coherence says of the impls that are declared: each that overlaps the goal was tried, and what it asks for was refused.
-use Rattle.std.specs.Prelude.{◌≡◌, false, Some, None, List, ◌++◌, map}
+use Rattle.std.specs.Prelude.{◌≡◌, false, Option, Some, None, List, ◌++◌, map, Result, IfErr}
 use Rattle.std.specs.List.{Contains}
 use Rattle.candidate_ir.specs.declared.decl.contents.ImplId.{ImplId}
 use Rattle.candidate_ir.specs.declared.ir.kinds.Clause.{Clause}
@@ -15,10 +15,15 @@ use Rattle.candidate_ir.specs.Trees.{Forest, Kind, holds, is_alias}
 use Rattle.candidate_ir.specs.Words.{args_forest, clause_tree}
 use Rattle.candidate_ir.specs.Worlds.{Reference}
 use Rattle.candidate_eval.specs.declared.eval.certainty.Certainty.{Certainty}
+use Rattle.candidate_eval.specs.declared.eval.refusal.NoSolutionOrStop.{NoSolutionOrStop}
+use Rattle.candidate_eval.specs.declared.eval.refusal.NoSolutionOrStop.TheVariants as N
+use Rattle.candidate_eval.specs.declared.eval.response.CanonicalResponse.{CanonicalResponse}
 use Rattle.candidate_eval.specs.ImplRules.{TraitGoal, impl_certainty}
 use Rattle.candidate_eval.specs.Lawful.{HasLeafValues}
 use Rattle.candidate_eval.specs.Soundness.{AreTreesOf, IsSound, Live, ValuesFit, universes}
 use Rattle.candidate_eval.specs.States.{Env, Judge, Pending, State, fresh_variables, resolved, with_fresh_variables, with_pending}
+use Rattle.candidate_assembly.specs.declared.trait_goals.preference.TraitGoalProvenVia.{TraitGoalProvenVia}
+use Rattle.candidate_assembly.specs.CoherentRefusals.{IsPlainGoal}
 
 -- An impl, tried at a state: fresh variables stand for its parameters.
 
@@ -65,6 +70,10 @@ pub record HasLeafyValues (S : State) (g : TraitGoal) : Type 0 where
   pub leaves : HasLeafValues S live
   pub trees : AreTreesOf S live g.reference.arguments
 
--- So was each declared impl that overlaps the goal.
+-- That is so of each declared impl that overlaps the goal.
 abbrev pub KnownWereRefused : Judge → Context → State → TraitGoal → Type 0
 KnownWereRefused J c S g = HasLeafyValues S g → (n : ImplId) (i : Impl) (certainty : Certainty) → Concerns c S g n i certainty → ImplWasRefused J c S g i certainty
+
+-- And of each goal that leaves nothing open and is refused in coherence.
+abbrev pub RefusesImpls : Judge → Context → State → TraitGoal → Result (CanonicalResponse × Option TraitGoalProvenVia) NoSolutionOrStop → Type 0
+RefusesImpls J c S g result = IfErr result (λ e. e ≡ N.NoSolution → IsPlainGoal S g → KnownWereRefused J c S g)

@@ -2,6 +2,7 @@
 
 ghost use Rattle.candidate_assembly.specs.CoherentRefusals.{RefusesCoherently};
 ghost use Rattle.candidate_assembly.specs.Kinds.{IsGoal};
+ghost use Rattle.candidate_assembly.specs.KnownImpls.{RefusesImpls};
 ghost use Rattle.candidate_assembly.specs.Standing.{GoalStands};
 ghost use Rattle.candidate_assembly.specs.SureAnswers.{YesIsProved};
 ghost use Rattle.candidate_assembly.specs.TraitAnswers.{Computes};
@@ -29,6 +30,8 @@ use std::alloc::Global;
 /// response is that too little is known, and nothing is said of how the goal is proved; `NoSolution` comes where there are none.
 /// In coherence a goal without aliases, to which no value is left to be put in and beside which nothing is pending, is refused for one of two
 /// reasons alone: what its clause implies was refused, or no crate that it doesn't name may write a header that overlaps it.
+/// And then each declared impl of the trait that serves the goal and whose header overlaps it was tried: its equation was accepted, and what was
+/// pending after it, its clauses among it, was refused. Default impls and headers with an alias are left aside here.
 ///
 /// It stops as these two calls do. The state is left alike the one that normalising the goal's self type leaves; or, where that was refused
 /// or stopped, alike the one before.
@@ -43,6 +46,7 @@ pub fn compute_trait_goal<E: EvalCtxt>(
     ensures computes { Computes E.fixed E.judge E.state E.probes E.context E.stops ecx.old ecx.new (trait_goal (E.context ecx.old).trees env predicate) result }
     ensures proved { YesIsProved (E.judge (E.fixed ecx.old)) (E.context ecx.old) (E.state ecx.old) (trait_goal (E.context ecx.old).trees env predicate) (E.context ecx.new).trees result }
     ensures refused { RefusesCoherently (E.judge (E.fixed ecx.old)) (E.context ecx.old) (E.state ecx.old) (trait_goal (E.context ecx.old).trees env predicate) result }
+    ensures impls { RefusesImpls (E.judge (E.fixed ecx.old)) (E.context ecx.old) (E.state ecx.old) (trait_goal (E.context ecx.old).trees env predicate) result }
 {
     table_is_well_formed(ecx.cx());
     let from = AssembleCandidatesFrom::All;

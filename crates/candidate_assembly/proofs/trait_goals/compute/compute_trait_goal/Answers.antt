@@ -7,6 +7,7 @@ use Rattle.candidate_assembly.specs.Preference.{mode_of}
 use Rattle.candidate_assembly.specs.TraitGoals.{trait_goal}
 use Rattle.candidate_assembly.proofs.SureAnswers.{computes-proved}
 use Rattle.candidate_assembly.proofs.CoherentRefusals.{computes-refused}
+use Rattle.candidate_assembly.proofs.KnownImpls.{computes-known}
 use Rattle.candidate_assembly.proofs.Causes.{answered-stop}
 use Rattle.candidate_assembly.proofs.TraitAnswers.{computes-merged, computes-stopped}
 use Rattle.candidate_assembly.proofs.trait_goals.compute.compute_trait_goal.Goals as goal
@@ -43,3 +44,13 @@ pub returns-clause-refused : goal.returns-clause-refused
 returns-clause-refused g c =
     computes-refused g.met.E.EvalCtxt.lawful c.args.ecx.now c.merge_trait_candidates.new.ecx c.args.env c.args.predicate c.merge_trait_candidates.result
     (g.met.E.EvalCtxt.declared c.args.ecx.now).0 (subst IsWellFormedTable c.cx.ensures c.table_is_well_formed.ensures) c.requires.goal (returns-clause-computes g c)
+
+pub returns-in_err-candidates-clause-impls : goal.returns-in_err-candidates-clause-impls
+returns-in_err-candidates-clause-impls g c =
+    computes-known g.met.E.EvalCtxt.lawful c.args.ecx.now c.assemble_and_evaluate_candidates.new.ecx c.args.env c.args.predicate c.from_residual.result
+    (subst IsWellFormedTable c.cx.ensures c.table_is_well_formed.ensures) c.requires.goal (returns-in_err-candidates-clause-computes g c)
+
+pub returns-clause-impls : goal.returns-clause-impls
+returns-clause-impls g c =
+    computes-known g.met.E.EvalCtxt.lawful c.args.ecx.now c.merge_trait_candidates.new.ecx c.args.env c.args.predicate c.merge_trait_candidates.result
+    (subst IsWellFormedTable c.cx.ensures c.table_is_well_formed.ensures) c.requires.goal (returns-clause-computes g c)
