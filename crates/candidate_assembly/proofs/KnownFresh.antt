@@ -1,6 +1,6 @@
 -- A state with fresh variables, which count too: its values make sense as before, and what stood there stands there still.
-use Rattle.std.proofs.Common.{◌≡◌, ◌≤◌, ◌<◌, ◌+◌, ◌||◌, ◌&&◌, ℕ, zero, suc, Bool, true, false, not, List, [], ◌∷◌, ◌++◌, map, length, slice_get, Option, Some, None, refl, sym, ap, subst, ◌∙◌, arith, append_assoc, nat_le, nat_lt, if◌then◌else◌}
-use Rattle.std.proofs.lemmas.Bool.{leb-true, le-leb, lt-leb, ltb-true, ltb-false}
+use Rattle.std.proofs.Common.{◌≡◌, ◌≤◌, ◌+◌, ◌||◌, ◌&&◌, ℕ, zero, suc, Bool, true, false, not, List, [], ◌∷◌, ◌++◌, map, length, slice_get, Option, Some, None, refl, sym, ap, subst, ◌∙◌, arith, append_assoc, nat_le, nat_lt, if◌then◌else◌}
+use Rattle.std.proofs.lemmas.Bool.{le-leb, lt-leb, ltb-true, ltb-false}
 use Rattle.std.proofs.lemmas.List.{append-nil}
 use Rattle.std.proofs.lemmas.Option.{slice_get_within}
 use Rattle.candidate_ir.specs.declared.ir.heads.ConstHead.TheVariants as C
@@ -13,7 +13,7 @@ use Rattle.candidate_eval.specs.declared.eval.variable.VariableKind.{VariableKin
 use Rattle.candidate_eval.specs.declared.eval.variable.VariableKind.TheVariants.{Term, Region}
 use Rattle.candidate_eval.specs.Alike.{info}
 use Rattle.candidate_eval.specs.Lawful.{HasLeafValues}
-use Rattle.candidate_eval.specs.Soundness.{AreTreesOf, FitsVariable, IsResolved, IsSound, Live, ValuesFit, has_value, is_strange, is_variable_above, universe_in, universes}
+use Rattle.candidate_eval.specs.Soundness.{AreTreesOf, IsResolved, IsSound, Live, ValuesFit, has_value, is_strange, is_variable_above, universe_in, universes}
 use Rattle.candidate_eval.specs.States.{State, VariableInfo, fresh_info, has_kind, is_some, value_in, variable_kind, with_fresh, with_fresh_variables}
 use Rattle.candidate_eval.proofs.Holds.{holds_imply}
 use Rattle.candidate_assembly.proofs.Standing.{counted, erased-holds, kind-there, neither}

@@ -1,34 +1,30 @@
 -- The header of a declared impl, with fresh variables in the place of its parameters: its trees are those of the state with them.
-use Rattle.std.proofs.Common.{◌≡◌, ◌+◌, ◌≤◌, ◌||◌, ◌&&◌, ℕ, zero, suc, Bool, true, false, not, List, [], ◌∷◌, ◌++◌, length, slice_get, Option, Some, None, refl, sym, ap, subst, ◌∙◌, arith, nat_le, nat_lt, if◌then◌else◌}
+use Rattle.std.proofs.Common.{◌≡◌, ◌+◌, ℕ, zero, suc, Bool, true, false, List, [], ◌∷◌, length, slice_get, Option, Some, None, refl, sym, ap, subst, ◌∙◌, arith, nat_lt, if◌then◌else◌}
 use Rattle.std.specs.List.{list_any}
 use Rattle.std.specs.Option.{unwrap_or}
-use Rattle.std.proofs.lemmas.List.{length-append}
 use Rattle.std.proofs.lemmas.Bool.{le-ltb, ltb-false}
+use Rattle.std.proofs.lemmas.List.{length-append}
 use Rattle.candidate_ir.specs.declared.decl.contents.ImplId.{ImplId}
 use Rattle.candidate_ir.specs.declared.ir.heads.ConstHead.TheVariants as C
 use Rattle.candidate_ir.specs.declared.ir.heads.Head.{Head}
 use Rattle.candidate_ir.specs.declared.ir.heads.Head.TheVariants as H
-use Rattle.candidate_ir.specs.declared.ir.heads.ListHead.{ListHead}
 use Rattle.candidate_ir.specs.declared.ir.heads.PartHead.{PartHead}
 use Rattle.candidate_ir.specs.declared.ir.heads.PartHead.TheVariants as P
 use Rattle.candidate_ir.specs.declared.ir.heads.Variable.{Variable}
-use Rattle.candidate_ir.specs.declared.ir.heads.VariableSort.{VariableSort}
-use Rattle.candidate_ir.specs.declared.ir.heads.VariableSort.TheVariants as V
 use Rattle.candidate_ir.specs.declared.ir.kinds.RegionKind.TheVariants as R
-use Rattle.candidate_ir.specs.declared.ir.kinds.VarKind.{VarKind}
-use Rattle.candidate_ir.specs.Binders.{escapes, is_beyond, tree_escapes}
+use Rattle.candidate_ir.specs.Binders.{escapes, is_beyond}
 use Rattle.candidate_ir.specs.Contents.{Impl}
-use Rattle.candidate_ir.specs.Context.{Context, world}
+use Rattle.candidate_ir.specs.Context.{Context}
 use Rattle.candidate_ir.specs.Declaring.{impl_at}
 use Rattle.candidate_ir.specs.Faults.{all_that_is_held}
-use Rattle.candidate_ir.specs.Folding.{argument, put, shift_tree, substituted}
+use Rattle.candidate_ir.specs.Folding.{argument, put, substituted}
 use Rattle.candidate_ir.specs.Held.{definitions_held, impl_held, impls_held}
 use Rattle.candidate_ir.specs.Misplaced.{held_escapes}
 use Rattle.candidate_ir.specs.Nodes.{tree_at}
 use Rattle.candidate_ir.specs.Substitutions.{alone, is_made, same_sort}
-use Rattle.candidate_ir.specs.Trees.{ArgumentsKind, Forest, Kind, none, tree, Tree, binders_of, holds, is_alias, kind_of, sort_kind}
-use Rattle.candidate_ir.specs.WellFormed.{HeaderFits, IsWellFormedTable}
-use Rattle.candidate_ir.specs.Words.{IsArgs, args_forest}
+use Rattle.candidate_ir.specs.Trees.{ArgumentsKind, Forest, Kind, none, tree, Tree, binders_of, holds, is_alias, kind_of}
+use Rattle.candidate_ir.specs.WellFormed.{IsWellFormedTable}
+use Rattle.candidate_ir.specs.Words.{IsArgs}
 use Rattle.candidate_ir.specs.Worlds.{Fits, World, child_kinds, kinds_of}
 use Rattle.candidate_ir.proofs.Folding.{begin, or-left, or-right}
 use Rattle.candidate_ir.proofs.Owned.{none-stray}
@@ -38,13 +34,13 @@ use Rattle.candidate_eval.specs.declared.eval.variable.VariableKind.{VariableKin
 use Rattle.candidate_eval.specs.declared.eval.variable.VariableKind.TheVariants.{Term, Region}
 use Rattle.candidate_eval.specs.Alike.{info}
 use Rattle.candidate_eval.specs.Soundness.{AreLeaves, AreTreesOf, IsResolved, Live, has_value, is_leaf, is_strange}
-use Rattle.candidate_eval.specs.States.{State, VariableInfo, fresh_info, fresh_variables, has_kind, is_some, value_in, variable, variable_kind, with_fresh}
+use Rattle.candidate_eval.specs.States.{State, fresh_info, fresh_variables, has_kind, is_some, value_in, variable, variable_kind, with_fresh}
 use Rattle.candidate_eval.proofs.Closed.{closed, closed-on, closed-parts, closed-shift}
-use Rattle.candidate_eval.proofs.Holds.{holds_imply, holds_parts}
+use Rattle.candidate_eval.proofs.Holds.{holds_imply}
 use Rattle.candidate_eval.proofs.Marking.{IsUnmarked, argument-unmarked, fold-unmarked, shift-unmarked, unmarked}
 use Rattle.candidate_assembly.specs.KnownImpls.{header_of}
-use Rattle.candidate_assembly.proofs.KnownInstances.{same_sort_itself}
 use Rattle.candidate_assembly.proofs.KnownFresh.{counts, counts-fresh, fresh-there, fresher, wider}
+use Rattle.candidate_assembly.proofs.KnownInstances.{same_sort_itself}
 
 -- What stands in the header of a declared impl: neither a variable nor a placeholder, and no bound variable escapes.
 

@@ -1,8 +1,8 @@
--- What a refusal in coherence says of declared impls: the list is empty, so the rule of each was refused; and where the impl overlaps the goal its
--- equation has a solution, so it was accepted.
+-- What a refusal in coherence says of declared impls: the list is empty, so the rule of each was refused; and where the impl overlaps the
+-- goal, its equation has a solution, so it was accepted.
 use Rattle.std.proofs.Common.{◌≡◌, ◌++◌, ◌+◌, ◌&&◌, ℕ, Bool, true, false, not, Option, Some, None, List, [], ◌∷◌, map, Result, refl, sym, ap, subst, ◌∙◌, append_assoc}
 use Rattle.std.specs.Prelude.{All, IfSome, if◌then◌else◌}
-use Rattle.std.specs.List.{Contains, filter}
+use Rattle.std.specs.List.{filter}
 use Rattle.std.specs.Option.{unwrap_or}
 use Rattle.std.proofs.lemmas.List.{append-nil}
 use Rattle.std.proofs.lemmas.List.Elements.{All-cons, All-contains, All-head, All-nil, All-tail}
@@ -18,7 +18,6 @@ use Rattle.candidate_ir.specs.declared.ir.kinds.TraitPredicate.{TraitPredicate}
 use Rattle.candidate_ir.specs.declared.ir.unify.RightSide.TheVariants as R
 use Rattle.candidate_ir.specs.Context.{Context, world}
 use Rattle.candidate_ir.specs.Contents.{Impl}
-use Rattle.candidate_ir.specs.Declaring.{impl_at}
 use Rattle.candidate_ir.specs.Folding.{put, substituted, substituted_tree}
 use Rattle.candidate_ir.specs.Impls.{first_type, impls_of, is_relevant, may_be_for, listed_type, relevant_impls, self_type as impl_type}
 use Rattle.candidate_ir.specs.Lookups.{maybe}
@@ -26,21 +25,19 @@ use Rattle.candidate_ir.specs.Substitutions.{Overlap, Universes, is_made}
 use Rattle.candidate_ir.specs.Trees.{Forest, Kind, TypeKind, none, tree, Tree, binders_of, erase, holds, is_alias, is_param, is_type, is_type_kind, kind_of}
 use Rattle.candidate_ir.specs.Unify.{IsFilled, may_unify, stands_for_any, stands_for_any_on_right, trees_may_unify}
 use Rattle.candidate_ir.specs.WellFormed.{ImplIsGiven, IsWellFormedTable}
-use Rattle.candidate_ir.specs.Words.{args_forest, clause_tree}
+use Rattle.candidate_ir.specs.Words.{clause_tree}
 use Rattle.candidate_ir.specs.Worlds.{IsOf, Reference, joined, kinds_of, parameters, TraitSort}
-use Rattle.candidate_ir.proofs.Folding.{begin, substituted-nothing}
+use Rattle.candidate_ir.proofs.Folding.{substituted-nothing}
 use Rattle.candidate_ir.proofs.Given.{impl_given}
 use Rattle.candidate_ir.proofs.MayUnify.{list_rejected}
 use Rattle.candidate_ir.proofs.References.{is-reference}
 use Rattle.candidate_eval.specs.declared.eval.certainty.Certainty.{Certainty}
-use Rattle.candidate_eval.specs.declared.eval.mode.TypingMode.{TypingMode}
 use Rattle.candidate_eval.specs.declared.eval.refusal.NoSolutionOrStop.{NoSolutionOrStop}
 use Rattle.candidate_eval.specs.declared.eval.response.CanonicalResponse.{CanonicalResponse}
-use Rattle.candidate_eval.specs.declared.eval.source.CandidateSource.{CandidateSource}
 use Rattle.candidate_eval.specs.declared.eval.source.CandidateSource.TheVariants as Source
 use Rattle.candidate_eval.specs.Accounts.{Account}
 use Rattle.candidate_eval.specs.ImplRules.{TraitGoal, impl_certainty, impl_steps, or_yes}
-use Rattle.candidate_eval.specs.Judging.{Gives, Judged, Place, Stopped, Refused, at_state, comes_to, concluded, continued, go_on, judged, reached, run, start, with_goals}
+use Rattle.candidate_eval.specs.Judging.{Gives, Judged, Place, Stopped, Refused, comes_to, concluded, continued, go_on, judged, reached, run, start, with_goals}
 use Rattle.candidate_eval.specs.Lawful.{AreSides, Lawful, Solves}
 use Rattle.candidate_eval.specs.ObjectRequirements.{first_tree}
 use Rattle.candidate_eval.specs.Responses.{Candidate}
@@ -48,7 +45,7 @@ use Rattle.candidate_eval.specs.Rules.{Ending, Rule, Step, add, ask, nested, nes
 use Rattle.candidate_eval.specs.Soundness.{Live, universes}
 use Rattle.candidate_eval.specs.States.{Env, Judge, Pending, State, fresh_variables, is_some, next, resolved, with_fresh_variables, with_pending}
 use Rattle.candidate_assembly.specs.declared.assembly.opaques.AssembleCandidatesFrom.{AssembleCandidatesFrom}
-use Rattle.candidate_assembly.specs.declared.assembly.opaques.AssembleCandidatesFrom.TheVariants.{All as FromAll, EnvAndBounds}
+use Rattle.candidate_assembly.specs.declared.assembly.opaques.AssembleCandidatesFrom.TheVariants.{All as FromAll}
 use Rattle.candidate_assembly.specs.declared.trait_goals.preference.TraitGoalProvenVia.{TraitGoalProvenVia}
 use Rattle.candidate_assembly.specs.Assembled.{Assembled, Further, Known, WithImpls, WithUnsizing, alone, by_clauses, by_objects, everything, followed, impl_rule, impl_rules, is_coherence, knowable, leaves_out, left_out, outside, resolved_goal, stopped as impls_stopped, stops as unknowable_stops}
 use Rattle.candidate_assembly.specs.BuiltinLaws.{nodes_fit}
@@ -59,10 +56,10 @@ use Rattle.candidate_assembly.specs.KnownImpls.{Concerns, HasLeafyValues, ImplWa
 use Rattle.candidate_assembly.specs.Listing.{GoesOn, Listed, Lists, answers, lists, listed, stops, together}
 use Rattle.candidate_assembly.specs.Listing as Listing
 use Rattle.candidate_assembly.specs.Opaques.{is_default_impl, proper_impls}
+use Rattle.candidate_assembly.specs.SuperLaws.{arguments_fit}
 use Rattle.candidate_assembly.specs.TraitAnswers.{Computes, IsTraitAnswer, Refused as Rejected, answer_of}
 use Rattle.candidate_assembly.specs.TraitGoals.{arguments_held, impl_part, no_impl, trait_goal, types_held, with_self_type}
 use Rattle.candidate_assembly.specs.TraitRules.{trait_bounds, trait_rules}
-use Rattle.candidate_assembly.specs.SuperLaws.{arguments_fit}
 use Rattle.candidate_assembly.proofs.Causes.{so-err}
 use Rattle.candidate_assembly.proofs.CoherentRefusals.{list-empty, none-answered, normal-here, others-here, resolved-stays, same-arguments}
 use Rattle.candidate_assembly.proofs.KnownFresh.{fits-still, fresh-all, fresher, leaves-still, resolved-still, sound-still, trees-still, wider}
@@ -149,8 +146,8 @@ module _ {G : Type 0} (K : KindRules G) (B : KindBounds G) (J : Judge) (c : Cont
   none-given _ (unknowable_stops e u) n = absurd cc
   none-given l (knowable e u k) n = known-on l k n
 
--- A header that overlaps the goal passes quick rejection: it has a common instance with the goal, where what is put for a parameter stands in
--- its place.
+-- A header that overlaps the goal passes quick rejection: it has a common instance with the goal, in which what is put for a parameter
+-- stands in its place.
 
 itself-fills : (mark : Head → Bool) (ts : Forest) → IsFilled mark ts ts
 itself-fills mark none = tt

@@ -1,23 +1,21 @@
 -- Two allowed substitutions, one for a state's trees and one for trees of fresh variables, put together: a solution of the state with the
 -- fresh variables.
-use Rattle.std.proofs.Common.{◌≡◌, ℕ, Bool, true, false, not, Option, Some, None, refl, sym, ap, subst, ◌∙◌, nat_lt}
+use Rattle.std.proofs.Common.{◌≡◌, ℕ, Bool, true, false, Option, Some, None, refl, sym, ap, subst, ◌∙◌, nat_lt}
+use Rattle.std.specs.Prelude.{List, length}
 use Rattle.std.specs.Option.{unwrap_or}
 use Rattle.std.proofs.lemmas.Bool.{lt-ltb}
 use Rattle.std.proofs.lemmas.Option.{slice_get_within}
-use Rattle.std.specs.Prelude.{List, length}
-use Rattle.candidate_ir.specs.declared.ir.heads.Head.{Head}
 use Rattle.candidate_ir.specs.declared.ir.heads.Head.TheVariants as H
 use Rattle.candidate_ir.specs.declared.ir.heads.Variable.{Variable}
 use Rattle.candidate_ir.specs.Folding.{leaf}
 use Rattle.candidate_ir.specs.Substitutions.{IsAllowed, IsAllowedBinding, Substitution, Universes, alone, apply, is_placeholder_above, lookup}
 use Rattle.candidate_ir.specs.Trees.{Forest, Kind, Tree, erase, holds}
+use Rattle.candidate_ir.proofs.Instances.{same_sort_is}
 use Rattle.candidate_eval.specs.declared.eval.variable.VariableKind.{VariableKind}
 use Rattle.candidate_eval.specs.declared.eval.variable.VariableKind.TheVariants.{Term, Region}
 use Rattle.candidate_eval.specs.Alike.{info}
 use Rattle.candidate_eval.specs.Soundness.{IsResolved, IsSolution, IsSound, Live, has_value, is_strange, is_variable_above, universe_in, universes}
 use Rattle.candidate_eval.specs.States.{State, VariableInfo, has_kind, is_some, same_kind, value_at, value_in}
-use Rattle.candidate_ir.specs.Substitutions.{same_sort}
-use Rattle.candidate_ir.proofs.Instances.{same_sort_is}
 use Rattle.candidate_assembly.proofs.KnownFresh.{fresher, info-kept, new-universe, old-info, valued-old, wider}
 use Rattle.candidate_assembly.proofs.KnownHeaders.{is_old}
 use Rattle.candidate_assembly.proofs.KnownInstances.{Choice, apply_agree, chosen, chosen_allowed, found, found_allowed, instance_closed, instance_fits, instance_low, instance_of, lookup_chosen, lookup_found}

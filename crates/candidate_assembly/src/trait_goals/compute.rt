@@ -30,8 +30,8 @@ use std::alloc::Global;
 /// response is that too little is known, and nothing is said of how the goal is proved; `NoSolution` comes where there are none.
 /// In coherence a goal without aliases, to which no value is left to be put in and beside which nothing is pending, is refused for one of two
 /// reasons alone: what its clause implies was refused, or no crate that it doesn't name may write a header that overlaps it.
-/// And then each declared impl of the trait that serves the goal and whose header overlaps it was tried: its equation was accepted, and what was
-/// pending after it, its clauses among it, was refused. Default impls and headers with an alias are left aside here.
+/// Each declared impl of the trait that serves such a goal and whose header overlaps it was then tried: the equation was accepted, and what
+/// was pending after it, the impl's clauses among it, refused. Of default impls and of headers with an alias nothing is said.
 ///
 /// It stops as these two calls do. The state is left alike the one that normalising the goal's self type leaves; or, where that was refused
 /// or stopped, alike the one before.
