@@ -566,8 +566,8 @@ impl<'a> Reader<'a> {
         }
     }
 
-    /// Notes the node, or forgets all, and the candidates that are noted; or says in letters whether the node is equal to each of those that were noted, or may be: `h`
-    /// where it may be only where that is of a header.
+    /// Notes the node, or forgets all, and the candidates that are noted; or says in letters whether the node is equal to each of those that
+    /// were noted, or may be: `h` where it may be only where that is of a header.
     fn answer_of_members(&mut self, cx: &Cx, row: Row<'a>, a: u32) -> Result<Answer, Refusal> {
         match row.verb {
             "member" => self.members.push(a)?,

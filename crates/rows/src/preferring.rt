@@ -178,7 +178,7 @@ pub(crate) fn answer(
 ) -> Result<Answer, Refusal> {
     let mut candidates = noted(alloc, rounds.cx(), notes)?;
     match row.verb {
-        "specialized" => {
+        "unspecialized" => {
             let allow = value_of(&ALLOWED, row.second).ok_or(Refusal::UnknownWord)?;
             filter_specialized_impls(rounds, allow, &mut candidates);
         }

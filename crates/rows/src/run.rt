@@ -120,7 +120,7 @@ impl<'a> Session<'a> {
             }
             ("leave", Phase::Evaluating(rounds)) => Phase::Declared(self.leave(rounds)),
             (
-                "list" | "prove" | "answer" | "prefer" | "specialized" | "objects",
+                "list" | "prove" | "answer" | "prefer" | "unspecialized" | "objects",
                 Phase::Declared(cx),
             ) => Phase::Declared(self.ask_anew(cx, row)),
             (_, Phase::Declaring(mut builder)) => {
