@@ -190,8 +190,8 @@ fn all_answer(cx: &Cx, response: &CanonicalResponse, candidates: &[Candidate]) -
 }
 
 impl CanonicalResponse {
-    /// The same response once more.
-    fn copied(&self) -> Result<CanonicalResponse, AllocError>
+    /// The same response once more. The error comes where a list can't grow.
+    pub fn copied(&self) -> Result<CanonicalResponse, AllocError>
         ensures { IfOk result (λ r. IsCopy self.now r) }
     {
         Ok(CanonicalResponse {
