@@ -1,25 +1,89 @@
 -- What the laws don't say of the judge: sides of accepted equations and normal forms are equal modulo the listed pairs, and
 -- with nothing listed only regions differ in what is equal.
-use Rattle.std.proofs.Common.{◌≡◌, ◌<◌, ℕ, true, List, [], Some, arith, refl, sym, ap, subst, ◌∙◌, if◌then◌else◌}
+use Rattle.std.proofs.Common.{◌≡◌, ◌<◌, ℕ, true, false, not, ◌&&◌, nat_lt, length, List, [], Some, arith, refl, sym, ap, subst, ◌∙◌, if◌then◌else◌}
+use Rattle.std.proofs.Math.Nat.{le_trans}
+use Rattle.std.proofs.lemmas.Bool.{and_parts, ltb-true, lt-ltb}
+use Rattle.std.proofs.lemmas.Option.{slice_get_within}
 use Rattle.candidate_ir.specs.declared.ir.heads.Head.{Head}
 use Rattle.candidate_ir.specs.declared.ir.heads.Head.TheVariants as H
+use Rattle.candidate_ir.specs.declared.ir.heads.ConstHead.TheVariants as C
 use Rattle.candidate_ir.specs.declared.ir.kinds.RegionKind.TheVariants as R
-use Rattle.candidate_ir.specs.Trees.{Forest, none, tree, Tree, erased_head}
+use Rattle.candidate_ir.specs.Trees.{Forest, none, tree, Tree, erased_head, holds}
 use Rattle.candidate_ir.specs.Substitutions.{alone}
-use Rattle.candidate_eval.specs.States.{Env, State, Pending, resolved, resolved_tree}
-use Rattle.candidate_eval.specs.Soundness.{Live, IsSound, ValuesFit, Follows, AreTreesOf, is_region}
+use Rattle.candidate_eval.specs.declared.eval.variable.VariableKind.{VariableKind}
+use Rattle.candidate_eval.specs.declared.eval.variable.VariableKind.TheVariants.{Term, Region}
+use Rattle.candidate_eval.specs.Alike.{info}
+use Rattle.candidate_eval.specs.States.{Env, State, Pending, resolved, resolved_tree, has_kind}
+use Rattle.candidate_eval.specs.Soundness.{Live, IsSound, ValuesFit, IsLater, Within, Follows, AreTreesOf, is_strange, is_region}
+use Rattle.candidate_eval.proofs.Holds.{holds_imply}
 use Rattle.rounds_judge.specs.Listed.{Listing}
 use Rattle.rounds_judge.specs.Standing.{IsListing}
 use Rattle.rounds_judge.specs.Equating.{equated, without_goals}
 use Rattle.rounds_judge.specs.Congruence.{Same, SameTree, same, heads, regions, pair, back, along}
 use Rattle.rounds_judge.specs.Normalizing.{type_or_itself, normalized}
-use Rattle.rounds_judge.proofs.Later.{later_along, fits_fewer}
+use Rattle.rounds_judge.proofs.Later.{later_along, later_itself, strange_stays, has_info, kind_there, counted, fits_fewer}
 use Rattle.rounds_judge.proofs.EquatingLaws.{no_goals}
 use Rattle.rounds_judge.proofs.Congruent.{same_to}
 use Rattle.rounds_judge.proofs.Equated.{listed_same, equated_equal}
 use Rattle.rounds_judge.proofs.Settling.{lead_equated}
 use Rattle.rounds_judge.proofs.JudgeLaws.{WhichType, is_type, itself, which_type, is_normal}
-use Rattle.rounds_judge.proofs.Dropped.{there, there_within, known_there, sound_there, later_fewer, counts, fits_last}
+
+-- Only those that count of the variables that a state has
+
+abbrev there : State → Live → Live
+there S L n = nat_lt n (length S.variables) && L n
+
+there_within : (S : State) (L M : Live) → Within S L M → (T : State) → Within T (there S L) M
+there_within S L M within T n less e =
+    let p = and_parts (nat_lt n (length S.variables)) (L n) e in
+    within n (ltb-true n (length S.variables) p.0) p.1
+
+module _ (S : State) (L : Live) where
+  counted_there : (n : ℕ) (k : VariableKind) → not (L n && has_kind k (info S n)) ≡ false → not (there S L n && has_kind k (info S n)) ≡ false
+  counted_there n k e =
+      let i = has_info (L n) k (info S n) e in
+      counted (there S L n) (has_kind k (info S n)) (rw (lt-ltb n (length S.variables) (slice_get_within S.variables n i.0 i.1), i.2) refl) (kind_there (L n) k (info S n) e)
+
+  strange_there : (h : Head) → is_strange S L h ≡ false → is_strange S (there S L) h ≡ false
+  strange_there (H.Infer v) e = counted_there v.number (Term v.sort) e
+  strange_there (H.Region (R.Var n)) e = counted_there n Region e
+  strange_there (H.Placeholder p) e = e
+  strange_there (H.Const (C.Placeholder p)) e = e
+  strange_there (H.Region (R.Placeholder p)) e = e
+  strange_there _ e = refl
+
+  known_there : (ts : Forest) → holds (is_strange S L) ts ≡ false → holds (is_strange S (there S L)) ts ≡ false
+  known_there ts e = holds_imply (is_strange S L) (is_strange S (there S L)) strange_there ts e
+
+  counts : (n : ℕ) → there S L n ≡ true → L n ≡ true
+  counts n e = (and_parts (nat_lt n (length S.variables)) (L n) e).1
+
+  sound_there : IsSound S L → IsSound S (there S L)
+  sound_there h = record {
+    allowed = λ s n i t c. h.allowed s n i t (counts n c);
+    no_higher = λ n i t c. h.no_higher n i t (counts n c);
+    is_resolved = λ n i t c. h.is_resolved n i t (counts n c);
+    known = λ n i t c e v. known_there (alone t) (h.known n i t (counts n c) e v);
+    universes = λ n i c. h.universes n i (counts n c);
+  }
+
+-- the values of what counted before, at the last of three states
+fits_last : (S T U : State) (L : Live) (f : Follows S T L) → Follows T U f.live → ValuesFit U (there S L)
+fits_last S T U L f g n c =
+    let less = ltb-true n (length S.variables) (and_parts (nat_lt n (length S.variables)) (L n) c).0 in
+    g.fits n (g.within n (le_trans less f.later.longer) (f.within n less (counts S L n c)))
+
+later_fewer : (S T : State) (L M : Live) → IsSound S L → Within S L M → IsLater S T M → IsLater S T L
+later_fewer S T L M sound within a = record {
+  longer = a.longer;
+  infos = a.infos;
+  no_root = a.no_root;
+  universes = a.universes;
+  fits = a.fits;
+  values = λ ts k. a.values ts (holds_imply (is_strange S L) (is_strange S M) (strange_stays S S L M within (later_itself S L sound)) ts k);
+  newest = a.newest;
+  mode = a.mode;
+}
 
 -- After an accepted equation both sides are equal at every state that follows.
 pub sides_equal : (l : Listing) → IsListing l → (S R U : State) (L : Live) (a b : Forest) (gs : List Pending) → IsSound S L → ValuesFit S L → AreTreesOf S L a → AreTreesOf S L b

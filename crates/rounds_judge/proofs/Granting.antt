@@ -1,6 +1,6 @@
--- What is granted stays granted.
-use Rattle.std.proofs.Common.{◌≡◌, ℕ, Bool, true, false, List, [], ◌∷◌, None, arith, refl, sym, ap, subst, ◌∙◌}
-use Rattle.std.proofs.lemmas.Bool.{leb-false, lt-leb}
+-- Facts that are granted stay so where values are put in, and fresh universes stay fresh.
+use Rattle.std.proofs.Common.{◌≡◌, ℕ, suc, Bool, true, false, List, [], ◌∷◌, None, arith, refl, sym, ap, ◌∙◌}
+use Rattle.std.proofs.lemmas.Bool.{leb-false, lt-leb, ltb-false}
 use Rattle.std.proofs.lemmas.Option.{slice_get_within}
 use Rattle.candidate_ir.specs.declared.ir.heads.Head.{Head}
 use Rattle.candidate_ir.specs.declared.ir.heads.Head.TheVariants as H
@@ -16,18 +16,18 @@ use Rattle.candidate_ir.proofs.Folding.{begin}
 use Rattle.candidate_eval.specs.declared.eval.variable.VariableKind.TheVariants.{Term}
 use Rattle.candidate_eval.specs.States.{State, Goal, Values, valued, valued_tree, value_at, resolved, placeholder}
 use Rattle.candidate_eval.specs.Alike.{info}
-use Rattle.candidate_eval.specs.Characterization.{is_any_bound, bound_kinds}
+use Rattle.candidate_eval.specs.Characterization.{is_any_bound}
 use Rattle.candidate_eval.specs.Instances.{is_of_universe}
-use Rattle.candidate_eval.specs.Soundness.{Live, IsSound, ValuesFit, IsLater, Within, Follows, GoalIsOf, universes, is_strange}
-use Rattle.candidate_eval.proofs.Holds.{holds_parts}
+use Rattle.candidate_eval.specs.Soundness.{Live, IsSound, ValuesFit, IsLater, Within, GoalIsOf, universes, universe_in, is_strange}
+use Rattle.candidate_eval.proofs.Holds.{holds_parts, holds_imply}
 use Rattle.rounds_judge.specs.Listed.{Listing}
 use Rattle.rounds_judge.specs.Standing.{IsListing}
 use Rattle.rounds_judge.specs.Settling.{last_or, without_last, alias_of, term_of, arguments_of}
-use Rattle.rounds_judge.specs.Granted.{FactsGranted, IsFresh, IsFreshFor, IsGranted}
+use Rattle.rounds_judge.specs.Granted.{FactsGranted, IsFresh, IsFreshFor}
 use Rattle.rounds_judge.proofs.Marks.{whole, holds_to}
 use Rattle.rounds_judge.proofs.Later.{value_closed, has_info, known_later, resolved_known}
 use Rattle.rounds_judge.proofs.Opening.{opens, each_error, opened_valued, opened_marked}
-use Rattle.rounds_judge.proofs.Congruent.{same_to, same_resolved, is_stray, strange_stray, stray_later, resolved_stray}
+use Rattle.rounds_judge.proofs.Congruent.{same_to, same_resolved, is_stray, strange_stray}
 use Rattle.rounds_judge.proofs.Settling.{after_first_marked}
 
 -- Values in the facts of a projection
@@ -138,6 +138,23 @@ module _ (S T : State) (L : Live) (later : IsLater S T L) where
   fresh_for_later [] n ts k f = tt
   fresh_for_later (x ∷ ks) n ts k f = fresh_later n ts k f
 
+-- A universe above the newest is fresh.
+
+module _ (S : State) (L : Live) (sound : IsSound S L) where
+  newest_head : (h : Head) → is_strange S L h ≡ false → is_of_universe (universes S) (suc S.newest_universe) h ≡ false
+  newest_head (H.Infer v) k =
+      let i = has_info (L v.number) (Term v.sort) (info S v.number) k in
+      let low = sound.universes v.number i.0 i.2 i.1 in
+      let is : universes S v ≡ i.0.universe = ap universe_in i.1 in
+      lt-leb (suc S.newest_universe) (universes S v) (omega (arith, low, is))
+  newest_head (H.Placeholder p) k = let low = ltb-false S.newest_universe p.universe k in lt-leb (suc S.newest_universe) p.universe (omega (arith, low))
+  newest_head (H.Const (C.Placeholder p)) k = let low = ltb-false S.newest_universe p.universe k in lt-leb (suc S.newest_universe) p.universe (omega (arith, low))
+  newest_head _ k = refl
+
+  pub newest_fresh : (ks : List Kind) (ts : Forest) → holds (is_strange S L) ts ≡ false → IsFreshFor (universes S) ks (suc S.newest_universe) ts
+  newest_fresh [] ts k = tt
+  newest_fresh (x ∷ ks) ts k = record { above_root = omega arith; unmentioned = holds_imply (is_strange S L) (is_of_universe (universes S) (suc S.newest_universe)) newest_head ts k }
+
 -- Facts
 
 module _ (l : Listing) (listing : IsListing l) (T : State) (M : Live) (fits : ValuesFit T M) where
@@ -159,22 +176,3 @@ facts_known S L g of = after_first_marked (is_strange S L) g.clause.children (ho
 
 pub goal_known : (S : State) (L : Live) (g : Goal) → GoalIsOf S L g → holds (is_strange S L) (join g.env (after_first g.clause.children)) ≡ false
 goal_known S L g of = join_marked (is_strange S L) g.env (after_first g.clause.children) of.env.known (facts_known S L g of)
-
-module _ (l : Listing) (listing : IsListing l) (S T : State) (L M : Live) (sound : IsSound S L) (fits : ValuesFit S L) (then : ValuesFit T M) (within : Within S L M) (later : IsLater S T L) where
-  still_granted : (g : Goal) → GoalIsOf S L g → IsGranted l S g → IsGranted l T g
-  still_granted g of a =
-      let ks = bound_kinds g.clause.children in
-      let fs : Forest = after_first g.clause.children in
-      let ts : Forest = resolved S (opens a.universe ks 0 fs) in
-      let known = facts_known S L g of in
-      let counted = resolved_stray S L sound (opens a.universe ks 0 fs) (opened_stray S L a.universe ks fs known) in
-      record {
-        universe = a.universe;
-        is_fresh = fresh_for_later S T L later ks a.universe (join g.env fs) (goal_known S L g of) a.is_fresh;
-        facts = subst (FactsGranted l g.clause.head) (resolved_further S T L M sound fits then within later a.universe ks fs known)
-            (facts_resolved l listing T M then g.clause.head ts (holds_to (is_stray S L) (is_stray S L) (is_stray T M) (λ h e f. stray_later S T L M within later h e) ts counted counted) a.facts);
-      }
-
--- What is granted stays so at every state that follows.
-pub granted_stays : (l : Listing) → IsListing l → (S T : State) (L : Live) (g : Goal) → IsSound S L → ValuesFit S L → GoalIsOf S L g → Follows S T L → IsGranted l S g → IsGranted l T g
-granted_stays l listing S T L g sound fits of f a = still_granted l listing S T L f.live sound fits f.fits f.within f.later g of a

@@ -1,5 +1,5 @@
--- The laws of the judge that need nothing but its definitions: alike states, normal forms, and when Yes is answered.
-use Rattle.std.proofs.Common.{◌≡◌, ℕ, suc, Bool, true, false, ◌||◌, List, [], ◌∷◌, Option, Some, None, refl, sym, ap, subst, ◌∙◌, if◌then◌else◌}
+-- The laws of the judge that need nothing but its definitions: alike states and normal forms. And when two certainties come to a sure one.
+use Rattle.std.proofs.Common.{◌≡◌, ℕ, Bool, true, false, ◌||◌, List, [], ◌∷◌, Option, Some, None, refl, sym, ap, subst, ◌∙◌, if◌then◌else◌}
 use Rattle.std.specs.Option.{unwrap_or}
 use Rattle.candidate_ir.specs.declared.ir.heads.Head.{Head}
 use Rattle.candidate_ir.specs.declared.ir.heads.Head.TheVariants as H
@@ -12,18 +12,17 @@ use Rattle.candidate_eval.specs.declared.eval.certainty.Certainty.{Certainty}
 use Rattle.candidate_eval.specs.declared.eval.certainty.Certainty.TheVariants.{Yes, Maybe}
 use Rattle.candidate_eval.specs.Certainties.{certainty_and}
 use Rattle.candidate_eval.specs.declared.eval.variable.VariableKind.TheVariants.{Term, Region}
-use Rattle.candidate_eval.specs.Responses.{Response}
-use Rattle.candidate_eval.specs.States.{Env, State, VariableInfo, Judge, value_in, value_at, resolved_tree, with_pending, next}
+use Rattle.candidate_eval.specs.States.{Env, State, VariableInfo, Judge, value_in, value_at, resolved_tree, with_pending}
 use Rattle.candidate_eval.specs.Judging.{Place, Normal, normal_at, is_at, run, comes_to}
 use Rattle.candidate_eval.specs.Alike.{info, LooksAlike, BothNormal, JudgesAlike}
 use Rattle.candidate_eval.specs.Soundness.{Live, IsSound, ValuesFit, IsResolved, AreTreesOf, Follows, is_strange}
-use Rattle.candidate_eval.specs.Lawful.{IsNormalForm, NormalFormLaws, IsAnswered, HasNoParameter}
+use Rattle.candidate_eval.specs.Lawful.{IsNormalForm, NormalFormLaws, HasNoParameter}
+use Rattle.rounds_judge.specs.GoalTable.{GoalTable}
 use Rattle.rounds_judge.specs.Listed.{Listing, listed}
 use Rattle.rounds_judge.specs.Standing.{IsListing}
 use Rattle.rounds_judge.specs.Normalizing.{type_or_itself, normalized}
-use Rattle.rounds_judge.specs.Settling.{tried_all, with_staying, passes, certainty_of, with_certainty, got_a_value, gave_a_value}
-use Rattle.rounds_judge.specs.Responding.{response, responded}
-use Rattle.rounds_judge.specs.RoundsJudge.{rounds_judge}
+use Rattle.rounds_judge.specs.Settling.{got_a_value, gave_a_value}
+use Rattle.rounds_judge.specs.TableJudge.{table_judge}
 use Rattle.rounds_judge.proofs.Marks.{fold_marked}
 use Rattle.rounds_judge.proofs.Later.{later_itself, resolved_stays, resolved_known, resolved_closed, has_info, value_as_of}
 use Rattle.rounds_judge.proofs.Current.{listed_fixed, listed_known}
@@ -40,9 +39,9 @@ same_place p q s = ap (λ S. let r : Place = record { state = S; locals = q.loca
 looks_alike : (S : State) → LooksAlike S S
 looks_alike S = record { newest_universe = refl; regions = refl; pending = refl; mode = refl; kept = λ n i e. e; no_root = λ n i a b. absurd (let clash : None ≡ Some i = sym a ∙ b in cc) }
 
-module _ (w : World) (local : ℕ) (l : Listing) (os : List Tree) where
+module _ {W : Type 0} (w : World) (local : ℕ) (l : Listing) (os : List Tree) (K : GoalTable W) where
   abbrev J : Judge
-  J = rounds_judge w local l os
+  J = table_judge w local l os K
 
   pub alike_judged_alike : JudgesAlike J
   alike_judged_alike = record {
@@ -131,8 +130,8 @@ rigid_stays l S t r a =
     argument_of t none = t
     argument_of t (tree h below rest) = record { head = h; children = below }
 
-module _ (w : World) (local : ℕ) (l : Listing) (os : List Tree) where
-  pub normal_form_laws : IsListing l → NormalFormLaws (rounds_judge w local l os)
+module _ {W : Type 0} (w : World) (local : ℕ) (l : Listing) (os : List Tree) (K : GoalTable W) where
+  pub normal_form_laws : IsListing l → NormalFormLaws (table_judge w local l os K)
   normal_form_laws listing = record {
     rigid_is_normal = λ S e t r k a. ap (λ u. Some (u, S)) (rigid_stays l S t r a);
     normalizing_keeps_pending = λ S T e t u h. ap (λ (R : State). R.pending) (sym (is_normal l S T e t u h).state);
@@ -152,52 +151,12 @@ yes_both Yes d e = (refl, e)
 yes_both (Maybe a) Yes e = cc
 yes_both (Maybe a) (Maybe b) e = cc
 
--- With nothing pending one pass is made, which changes nothing.
+-- Where the state stays no variable gets a value.
 
-gives_nothing : (is : List VariableInfo) → gave_a_value is is ≡ false
+pub gives_nothing : (is : List VariableInfo) → gave_a_value is is ≡ false
 gives_nothing [] = refl
 gives_nothing (i ∷ is) = at i.value (gives_nothing is)
   where
     at : (o : Option Tree) → gave_a_value is is ≡ false → got_a_value o o || gave_a_value is is ≡ false
     at None e = e
     at (Some t) e = e
-
-go_on : (l : Listing) (n : ℕ) (S T : State) → S ≡ T → (if gave_a_value S.variables T.variables then passes l n T else Some T) ≡ Some S
-go_on l n S T e =
-    let none : gave_a_value S.variables T.variables ≡ false = subst (λ (R : State). gave_a_value S.variables R.variables ≡ false) e (gives_nothing S.variables) in
-    ap (λ b. if b then passes l n T else Some T) none ∙ ap Some (sym e)
-
-pub nothing_tried : (l : Listing) (n : ℕ) (S : State) → S.pending ≡ [] → passes l (suc n) S ≡ Some S
-nothing_tried l n S e =
-    ap (λ ps. next (next (tried_all l S ps) (λ q. Some (with_staying q))) (λ T. if gave_a_value S.variables T.variables then passes l n T else Some T)) e
-    ∙ go_on l n S (with_pending S []) (ap (with_pending S) e)
-
--- The state that a response is of.
-pub record Answered (l : Listing) (S : State) (c : Certainty) (r : Response) : Type 0 where
-  pub last : State
-  pub passed : passes l 8 S ≡ Some last
-  pub is : response last (certainty_and c (certainty_of last.pending)) ≡ r
-
-answered_yes : (l : Listing) (S : State) (c : Certainty) (r : Response) (o : Option State) → passes l 8 S ≡ o
-    → next (next o (λ T. Some (with_certainty T))) (λ q. Some (response q.1 (certainty_and c q.0))) ≡ Some r → Answered l S c r
-answered_yes l S c r None p e = cc
-answered_yes l S c r (Some T) p e = record { last = T; passed = p; is = let is : response T (certainty_and c (certainty_of T.pending)) ≡ r = cc in is }
-
-pub answered : (l : Listing) (S : State) (c : Certainty) (r : Response) → responded l S c ≡ Some r → Answered l S c r
-answered l S c r e = answered_yes l S c r (passes l 8 S) refl e
-
-pub both_sure : (l : Listing) (S : State) (c : Certainty) (r : Response) → (a : Answered l S c r) → r.certainty ≡ Yes → (c ≡ Yes) × (certainty_of a.last.pending ≡ Yes)
-both_sure l S c r a y = yes_both c (certainty_of a.last.pending) (ap (λ (r : Response). r.certainty) a.is ∙ y)
-
-module _ (w : World) (local : ℕ) (l : Listing) (os : List Tree) where
-  -- With nothing pending no response is refused, and its certainty is the one asked.
-  pub empty_is_answered : (S : State) (c : Certainty) → S.pending ≡ [] → IsAnswered (rounds_judge w local l os) S c
-  empty_is_answered S c e = record {
-    response = response S (certainty_and c (certainty_of S.pending));
-    is = ap (λ o. next (next o (λ T. Some (with_certainty T))) (λ q. Some (response q.1 (certainty_and c q.0)))) (nothing_tried l 7 S e);
-    as_asked = ap (λ ps. certainty_and c (certainty_of ps)) e ∙ and_yes c;
-  }
-
-  -- Yes is answered only where Yes was asked.
-  pub yes_was_asked : (S : State) (c : Certainty) (r : Response) → responded l S c ≡ Some r → r.certainty ≡ Yes → c ≡ Yes
-  yes_was_asked S c r e y = (both_sure l S c r (answered l S c r e) y).0

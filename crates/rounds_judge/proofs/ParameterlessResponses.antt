@@ -1,4 +1,4 @@
--- Responding brings no parameter in: none stands in the values that a response says.
+-- No parameter stands in the values that a response says, where none stands in those of its state.
 use Rattle.std.proofs.Common.{◌≡◌, ℕ, suc, ◌+◌, Bool, true, false, List, [], ◌∷◌, Option, Some, None, slice_get, if◌then◌else◌, arith, refl, sym, ap, subst, ◌∙◌}
 use Rattle.candidate_ir.specs.declared.ir.heads.Head.{Head}
 use Rattle.candidate_ir.specs.declared.ir.heads.Head.TheVariants as H
@@ -7,29 +7,24 @@ use Rattle.candidate_ir.specs.Trees.{Forest, none, tree, Tree, holds, is_param}
 use Rattle.candidate_ir.specs.Folding.{leaf}
 use Rattle.candidate_ir.specs.Substitutions.{alone}
 use Rattle.candidate_ir.proofs.Folding.{begin}
-use Rattle.candidate_eval.specs.declared.eval.certainty.Certainty.{Certainty}
 use Rattle.candidate_eval.specs.declared.eval.variable.VariableKind.{VariableKind}
 use Rattle.candidate_eval.specs.declared.eval.variable.VariableKind.TheVariants.{Term, Region}
-use Rattle.candidate_eval.specs.Responses.{Response}
 use Rattle.candidate_eval.specs.States.{State, VariableInfo, variable, valued, has_kind, same_kind}
 use Rattle.candidate_eval.specs.Alike.{info}
-use Rattle.candidate_eval.specs.Soundness.{Live, IsSound, ValuesFit, IsLater, GoalsAreOf, Stays, is_strange}
+use Rattle.candidate_eval.specs.Soundness.{Live, IsSound, IsLater, Stays, is_strange}
 use Rattle.candidate_eval.specs.Instances.{instance}
-use Rattle.candidate_eval.specs.Lawful.{GoalsHaveNoParameter, HasNoParameter, RegionsHaveNoParameter, RootsCount}
+use Rattle.candidate_eval.specs.Lawful.{HasNoParameter, RootsCount}
 use Rattle.candidate_eval.proofs.Holds.{holds_parts}
 use Rattle.rounds_judge.specs.Listed.{Listing}
 use Rattle.rounds_judge.specs.Standing.{IsListing}
-use Rattle.rounds_judge.specs.Responding.{open_numbers, place_of, renumbered, renumbered_region, renumbered_regions, renumbering, responded, root_values, roots_from}
+use Rattle.rounds_judge.specs.Responding.{place_of, renumbered, renumbered_region, renumbered_regions, renumbering, root_values, roots_from}
 use Rattle.rounds_judge.proofs.Bound.{same_sort_itself}
-use Rattle.rounds_judge.proofs.JudgeLaws.{answered}
 use Rattle.rounds_judge.proofs.Later.{counted}
 use Rattle.rounds_judge.proofs.Marks.{fold_marked, whole}
 use Rattle.rounds_judge.proofs.Parameterless.{resolved-free}
-use Rattle.rounds_judge.proofs.ParameterlessGoals.{passes_free}
-use Rattle.rounds_judge.proofs.Settling.{passes_leave}
 
 -- Roots that count do so at a later state.
-roots-later : (S T : State) (L : Live) → IsLater S T L → RootsCount S L → RootsCount T L
+pub roots-later : (S T : State) (L : Live) → IsLater S T L → RootsCount S L → RootsCount T L
 roots-later S T L later roots n j there is = at (info S n) refl
   where
     same : (i : VariableInfo) → Stays i (info T n) → i.is_root ≡ true
@@ -80,7 +75,7 @@ module _ (T : State) (L : Live) (roots : RootsCount T L) where
       at true more = bare is_param i.kind b (roots_from (suc b) is) (no-param i.kind b) more
       at false more = more
 
-  values-free : (l : Listing) → IsListing l → IsSound T L → HasNoParameter T L → holds is_param (root_values T) ≡ false
+  pub values-free : (l : Listing) → IsListing l → IsSound T L → HasNoParameter T L → holds is_param (root_values T) ≡ false
   values-free l listing sound free =
       resolved-free l listing T L sound free (roots_from 0 T.variables)
       (roots-known 0 T.variables (λ n i e. subst (λ k. info T k ≡ Some i) (let s : n ≡ 0 + n = omega arith in s) e)) (roots-free 0 T.variables)
@@ -97,7 +92,7 @@ regions-renumbered ns (tree h below rest) n =
     at (H.Region (R.Var k)) e = refl
     at _ e = e
 
-renumbered-free : (ns : List ℕ) (ts : Forest) → holds is_param ts ≡ false → holds is_param (renumbered ns ts) ≡ false
+pub renumbered-free : (ns : List ℕ) (ts : Forest) → holds is_param ts ≡ false → holds is_param (renumbered ns ts) ≡ false
 renumbered-free ns ts n =
     regions-renumbered ns (valued (instance (renumbering ns)) ts)
     (fold_marked (λ _ t. instance (renumbering ns) t.head) is_param is_param is_param (λ d t a b e. a) (λ d t u a b e. one t.head u e) 0 ts n n)
@@ -108,13 +103,3 @@ renumbered-free ns ts n =
         let is : t ≡ u = cc in
         subst (λ t. holds is_param (alone t) ≡ false) is refl
     one _ u e = cc
-
-pub responding_brings_none : (l : Listing) → IsListing l → (S : State) (L : Live) (c : Certainty) (r : Response) → IsSound S L → ValuesFit S L → GoalsAreOf S L S.pending → RootsCount S L
-    → HasNoParameter S L → GoalsHaveNoParameter S.pending → responded l S c ≡ Some r → holds is_param r.values ≡ false
-responding_brings_none l listing S L c r sound fits of roots free goals e =
-    let a = answered l S c r e in
-    let T : State = a.last in
-    let left = passes_leave l listing L 8 S T sound fits of a.passed in
-    let stay = passes_free l listing L (RegionsHaveNoParameter S) 8 S T sound fits free (λ r. r) of goals a.passed in
-    let values = values-free T L (roots-later S T L left.leads.later roots) l listing left.leads.sound stay.values in
-    subst (λ (r : Response). holds is_param r.values ≡ false) a.is (renumbered-free (open_numbers T) (root_values T) values)

@@ -84,7 +84,7 @@ none_missing ns (Some n) = at (is_seen ns n) refl
     at true e = ap not e
     at false e = ap not (seen_last ns n)
 
-all_seen : (ns : List ℕ) (ts : Forest) → holds (is_missing (with_numbers ns ts)) ts ≡ false
+pub all_seen : (ns : List ℕ) (ts : Forest) → holds (is_missing (with_numbers ns ts)) ts ≡ false
 all_seen ns none = refl
 all_seen ns (tree h below rest) =
     let a : List ℕ = with_number ns (variable_number h) in

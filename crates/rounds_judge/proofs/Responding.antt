@@ -1,48 +1,36 @@
--- The response of a state: on the root variables each allowed instance of it is one of the state. Yes is granted.
+-- The response of a state: on the root variables each allowed instance of it is one of the state.
 use Rattle.std.proofs.Common.{◌||◌, ◌≡◌, ◌<◌, ℕ, zero, suc, ◌+◌, Bool, true, false, not, ◌&&◌, List, [], ◌∷◌, Option, Some, None, slice_get, nat_le, nat_lt, arith, refl, sym, ap, subst, ◌∙◌, if◌then◌else◌}
 use Rattle.std.specs.Option.{unwrap_or, option_map}
-use Rattle.std.specs.List.{All}
 use Rattle.std.proofs.lemmas.Bool.{leb-false, lt-ltb}
 use Rattle.std.proofs.lemmas.Option.{slice_get-map}
-use Rattle.std.proofs.lemmas.List.Elements.{All-nil}
 use Rattle.candidate_ir.specs.declared.ir.heads.Head.{Head}
 use Rattle.candidate_ir.specs.declared.ir.heads.Head.TheVariants as H
 use Rattle.candidate_ir.specs.declared.ir.heads.Variable.{Variable}
 use Rattle.candidate_ir.specs.declared.ir.kinds.RegionKind.TheVariants as R
 use Rattle.candidate_ir.specs.Trees.{Forest, none, tree, Tree, erase, erased_head, holds, variable_number}
 use Rattle.candidate_ir.specs.Substitutions.{Universes, alone}
-use Rattle.candidate_ir.specs.Worlds.{World}
 use Rattle.candidate_ir.proofs.Folding.{begin}
 use Rattle.candidate_ir.proofs.Instances.{same_sort_is}
 use Rattle.candidate_eval.specs.declared.eval.certainty.Certainty.{Certainty}
 use Rattle.candidate_eval.specs.declared.eval.certainty.Certainty.TheVariants.{Yes}
 use Rattle.candidate_eval.specs.declared.eval.variable.VariableKind.{VariableKind}
 use Rattle.candidate_eval.specs.declared.eval.variable.VariableKind.TheVariants.{Term, Region}
-use Rattle.candidate_eval.specs.Certainties.{certainty_and}
 use Rattle.candidate_eval.specs.Responses.{Response}
 use Rattle.candidate_eval.specs.States.{State, Pending, VariableInfo, Values, variable, valued, valued_tree, value_at, resolved, resolved_tree, is_some, has_kind, same_kind}
 use Rattle.candidate_eval.specs.Alike.{info}
 use Rattle.candidate_eval.specs.Mentions.{IsBelow, is_from}
-use Rattle.candidate_eval.specs.Soundness.{Live, IsSound, ValuesFit, AreLeaves, GoalsAreOf, universes, universe_in, is_strange, is_region}
+use Rattle.candidate_eval.specs.Soundness.{Live, AreLeaves, universes, universe_in, is_strange, is_region}
 use Rattle.candidate_eval.specs.Instances.{Instance, instance, tree_number, answer_values, universe_or_root, response_universes, HasRootsFirst, IsResponseOf}
-use Rattle.candidate_eval.specs.Lawful.{AnswersYes}
 use Rattle.candidate_eval.proofs.Holds.{holds_parts}
-use Rattle.rounds_judge.specs.Listed.{Listing}
-use Rattle.rounds_judge.specs.Standing.{IsListing}
 use Rattle.rounds_judge.specs.Settling.{certainty_of}
-use Rattle.rounds_judge.specs.Responding.{roots_from, is_seen, place_of, renumbering, renumbered_region, renumbered_regions, renumbered_tree, root_values, constraints, open_numbers, open_variable, response, responded}
-use Rattle.rounds_judge.specs.Granted.{IsGranted}
-use Rattle.rounds_judge.specs.RoundsJudge.{rounds_judge}
+use Rattle.rounds_judge.specs.Responding.{roots_from, is_seen, place_of, renumbering, renumbered_region, renumbered_regions, renumbered_tree, root_values, constraints, open_numbers, open_variable, response}
 use Rattle.rounds_judge.proofs.Marks.{whole, valued_node}
-use Rattle.rounds_judge.proofs.Later.{later_itself, has_info, kind_there, fits_later}
-use Rattle.rounds_judge.proofs.Settling.{passes_leave}
-use Rattle.rounds_judge.proofs.Dropped.{passes_granted}
-use Rattle.rounds_judge.proofs.JudgeLaws.{answered, both_sure, nothing_tried}
+use Rattle.rounds_judge.proofs.Later.{has_info, kind_there}
 use Rattle.rounds_judge.proofs.Renumbering.{is_missing, none_is_missing, place_is, new_variable, of_old, old_allowed, renumbered_same}
 
 -- Trees by their numbers
 
-number_valued : (v : Values) (ts : Forest) (n : ℕ) → tree_number (valued v ts) n ≡ option_map (valued_tree v) (tree_number ts n)
+pub number_valued : (v : Values) (ts : Forest) (n : ℕ) → tree_number (valued v ts) n ≡ option_map (valued_tree v) (tree_number ts n)
 number_valued v none n = refl
 number_valued v (tree h below rest) zero = refl
 number_valued v (tree h below rest) (suc n) = number_valued v rest n
@@ -55,7 +43,7 @@ number_regions ns none n = refl
 number_regions ns (tree h below rest) zero = refl
 number_regions ns (tree h below rest) (suc n) = number_regions ns rest n
 
-number_marked : (mark : Head → Bool) (ts : Forest) (n : ℕ) (t : Tree) → holds mark ts ≡ false → tree_number ts n ≡ Some t → holds mark (alone t) ≡ false
+pub number_marked : (mark : Head → Bool) (ts : Forest) (n : ℕ) (t : Tree) → holds mark ts ≡ false → tree_number ts n ≡ Some t → holds mark (alone t) ≡ false
 number_marked mark none n t e f = cc
 number_marked mark (tree h below rest) zero t e f =
     let p = holds_parts mark h below rest e in
@@ -190,32 +178,6 @@ module _ (S : State) (L : Live) (c : Certainty) where
     same = λ ts b k l. answers_same m first w i ts b k l;
   }
 
-none_pending : (ps : List Pending) → certainty_of ps ≡ Yes → ps ≡ []
+pub none_pending : (ps : List Pending) → certainty_of ps ≡ Yes → ps ≡ []
 none_pending [] e = refl
 none_pending (p ∷ ps) e = cc
-
--- With nothing pending the response is of the state itself.
-pub empty_is_of_state : (l : Listing) (S : State) (L : Live) (c : Certainty) (r : Response) → S.pending ≡ [] → responded l S c ≡ Some r → IsResponseOf S L r
-empty_is_of_state l S L c r p e =
-    let a = answered l S c r e in
-    let last : Some S ≡ Some a.last = sym (nothing_tried l 7 S p) ∙ a.passed in
-    let same : S ≡ a.last = cc in
-    let at : IsResponseOf a.last L r = subst (IsResponseOf a.last L) a.is (response_is a.last L (certainty_and c (certainty_of a.last.pending))) in
-    subst (λ (T : State). IsResponseOf T L r) (sym same) at
-
--- Yes is answered only where all that was pending is granted at the state that it speaks of.
-module _ (w : World) (local : ℕ) (l : Listing) (os : List Tree) (listing : IsListing l) where
-  pub yes_is_granted : (S : State) (L : Live) (c : Certainty) (r : Response) → IsSound S L → ValuesFit S L → GoalsAreOf S L S.pending → responded l S c ≡ Some r → r.certainty ≡ Yes
-      → AnswersYes (rounds_judge w local l os) S L r
-  yes_is_granted S L c r sound fits of e y =
-      let a = answered l S c r e in
-      let T : State = a.last in
-      let left = passes_leave l listing L 8 S T sound fits of a.passed in
-      let empty : T.pending ≡ [] = none_pending T.pending (both_sure l S c r a y).1 in
-      let Granted : Pending → Type 0 = λ p. IsGranted l T p.goal in
-      record {
-        last = T;
-        follows = record { live = L; within = λ n l c. c; sound = left.leads.sound; fits = fits_later left.leads.later fits; later = left.leads.later };
-        granted = passes_granted l listing T L (fits_later left.leads.later fits) 8 S T sound fits of a.passed (later_itself T L left.leads.sound) (subst (All Granted) (sym empty) (All-nil Granted));
-        response = subst (IsResponseOf T L) a.is (response_is T L (certainty_and c (certainty_of T.pending)));
-      }

@@ -1,5 +1,5 @@
--- Settling leads to a state that follows, and what it leaves pending are goals of that state.
-use Rattle.std.proofs.Common.{◌≡◌, ◌≤◌, ℕ, zero, suc, ◌+◌, Bool, true, false, List, [], ◌∷◌, ◌++◌, Option, Some, None, arith, refl, ap, subst, if◌then◌else◌}
+-- A goal that is of no trait leads to a later state when it is tried, and what stays of it are goals of that state.
+use Rattle.std.proofs.Common.{◌≡◌, ◌≤◌, ℕ, ◌+◌, Bool, true, false, List, [], ◌∷◌, ◌++◌, Option, Some, None, arith, refl, subst}
 use Rattle.std.proofs.lemmas.Bool.{le-ltb}
 use Rattle.std.proofs.lemmas.List.Elements.{All-head, All-tail, All-cons, All-nil, All-weaker}
 use Rattle.candidate_ir.specs.declared.ir.heads.Head.{Head}
@@ -14,17 +14,16 @@ use Rattle.candidate_ir.specs.Trees.{Kind, ConstantKind, RegionKind, Forest, non
 use Rattle.candidate_ir.specs.Binders.{escapes}
 use Rattle.candidate_ir.specs.Substitutions.{alone}
 use Rattle.candidate_ir.specs.Supers.{after_first}
-use Rattle.candidate_eval.specs.declared.eval.certainty.Certainty.{Certainty}
-use Rattle.candidate_eval.specs.States.{State, Goal, Pending, resolved_tree, with_pending, with_universe, placeholder, next}
-use Rattle.candidate_eval.specs.Characterization.{is_any_bound, Bounded, bound_kinds, group_at}
+use Rattle.candidate_eval.specs.States.{State, Goal, Pending, resolved_tree, with_pending, with_universe, placeholder}
+use Rattle.candidate_eval.specs.Characterization.{is_any_bound}
 use Rattle.candidate_eval.specs.Soundness.{Live, IsSound, ValuesFit, IsLater, AreTreesOf, GoalIsOf, GoalsAreOf, is_strange}
 use Rattle.candidate_eval.proofs.Holds.{holds_parts}
 use Rattle.rounds_judge.specs.Listed.{Listing, listed}
 use Rattle.rounds_judge.specs.Standing.{IsListing}
 use Rattle.rounds_judge.specs.Equating.{Pair, looks, equated}
-use Rattle.rounds_judge.specs.Settling.{term_of, alias_of, last_or, with_facts, instance_of, recorded, Outcome, projected, tried_as, tried, before, tried_all, with_staying, pass, passes, settled, with_certainty, gave_a_value}
+use Rattle.rounds_judge.specs.Settling.{term_of, alias_of, last_or, with_facts, instance_of, recorded, projected, tried_as}
 use Rattle.rounds_judge.proofs.Marks.{whole, escape_parts, escape_whole, escapes_on}
-use Rattle.rounds_judge.proofs.Later.{trees_later, later_itself, later_along, later_universe, sound_universe, fits_later}
+use Rattle.rounds_judge.proofs.Later.{trees_later, later_itself, later_along, later_universe, sound_universe}
 use Rattle.rounds_judge.proofs.Looks.{SoundLater, regions_keep, looked_keeps, start_stands}
 use Rattle.rounds_judge.proofs.Current.{listed_fixed, listed_known}
 use Rattle.rounds_judge.proofs.EquatingLaws.{no_goals}
@@ -167,22 +166,6 @@ module _ (l : Listing) (listing : IsListing l) (L : Live) where
     instance_leaves ts a (H.Part (P.Clause Cl.RegionOutlives)) q e = same_outcome (Leaves S L) ([], recorded S p.goal.clause) q e (recording p.goal.clause)
     instance_leaves ts a _ q e = same_outcome (Leaves S L) (p ∷ [], S) q e staying
 
-  -- the instance with placeholders is one of the state with their universe
-  pub tried_leaves : (S : State) → IsSound S L → ValuesFit S L → (p : Pending) → GoalIsOf S L p.goal → (q : List Pending × State) → tried l S p ≡ Some q → Leaves S L q
-  tried_leaves S sound fits p of q e = at (bound_kinds p.goal.clause.children) e
-    where
-      at : (ks : List Kind)
-          → (let f = group_at S (Bounded ks (after_first p.goal.clause.children)) in tried_as l f.0 (instance_of p ks f.1) f.1 p.goal.clause.head) ≡ Some q → Leaves S L q
-      at [] e = instance_leaves S sound fits p of (opens 0 [] 0 (after_first p.goal.clause.children)) (facts_of S L 0 [] p.goal.clause (omega arith) of.clause) p.goal.clause.head q e
-      at (k ∷ ks) e =
-          let R : State = with_universe S in
-          let lead = lead_universe S L sound in
-          let there = goal_later S R L lead.later p.goal of in
-          let facts = facts_of R L (suc S.newest_universe) (k ∷ ks) p.goal.clause (omega arith) there.clause in
-          let ts : Forest = opens (suc S.newest_universe) (k ∷ ks) 0 (after_first p.goal.clause.children) in
-          let left = instance_leaves R lead.sound (fits_later lead.later fits) (instance_of p (k ∷ ks) ts) (instance_is_of R L p (k ∷ ks) ts there facts) ts facts p.goal.clause.head q e in
-          record { leads = lead_along S R q.1 L sound lead left.leads; goals = left.goals }
-
   -- Goals in order
 
   pub both_left : (S T : State) → (later : IsLater S T L) → (ps qs : List Pending) → GoalsAreOf S L ps → GoalsAreOf T L qs → GoalsAreOf T L (ps ++ qs)
@@ -191,63 +174,7 @@ module _ (l : Listing) (listing : IsListing l) (L : Live) where
       All-cons (λ (p : Pending). GoalIsOf T L p.goal) p (ps ++ qs) (goal_later S T L later p.goal (All-head (λ (p : Pending). GoalIsOf S L p.goal) p ps a))
       (both_left S T later ps qs (All-tail (λ (p : Pending). GoalIsOf S L p.goal) p ps a) b)
 
-  pub all_tried_leave : (S : State) → IsSound S L → ValuesFit S L → (ps : List Pending) → GoalsAreOf S L ps → (q : List Pending × State) → tried_all l S ps ≡ Some q → Leaves S L q
-  all_tried_leave S sound fits [] of q e = same_outcome (Leaves S L) ([], S) q e (record { leads = lead_itself S L sound; goals = of })
-  all_tried_leave S sound fits (p ∷ ps) of q e =
-      at (tried l S p) refl (λ R sound fits of r e. all_tried_leave R sound fits ps of r e) e
-    where
-      rest : (r : List Pending × State) → Leaves S L r → (o : Outcome) → ((s : List Pending × State) → o ≡ Some s → Leaves r.1 L s) → before r.0 o ≡ Some q → Leaves S L q
-      rest r left None f e = cc
-      rest r left (Some s) f e =
-          let more = f s refl in
-          same_outcome (Leaves S L) (r.0 ++ s.0, s.1) q e (record { leads = lead_along S r.1 s.1 L sound left.leads more.leads; goals = both_left r.1 s.1 more.leads.later r.0 s.0 left.goals more.goals })
-
-      at : (o : Outcome) → tried l S p ≡ o
-          → ((R : State) → IsSound R L → ValuesFit R L → GoalsAreOf R L ps → (r : List Pending × State) → tried_all l R ps ≡ Some r → Leaves R L r)
-          → next o (λ r. before r.0 (tried_all l r.1 ps)) ≡ Some q → Leaves S L q
-      at None f ih e = cc
-      at (Some r) f ih e =
-          let left = tried_leaves S sound fits p (All-head (λ (p : Pending). GoalIsOf S L p.goal) p ps of) r f in
-          rest r left (tried_all l r.1 ps) (λ s g. ih r.1 left.leads.sound (fits_later left.leads.later fits) (goals_later S r.1 L left.leads.later ps (All-tail (λ (p : Pending). GoalIsOf S L p.goal) p ps of)) s g) e
-
-  -- Passes
-
   -- A state to which another leads, and the goals pending there.
   pub record LeavesPending (S T : State) : Type 0 where
     pub leads : SoundLater S L T
     pub goals : GoalsAreOf T L T.pending
-
-  pub pass_leaves : (S T : State) → IsSound S L → ValuesFit S L → GoalsAreOf S L S.pending → pass l S ≡ Some T → LeavesPending S T
-  pass_leaves S T sound fits of e = at (tried_all l S S.pending) refl e
-    where
-      at : (o : Outcome) → tried_all l S S.pending ≡ o → next o (λ q. Some (with_staying q)) ≡ Some T → LeavesPending S T
-      at None f e = cc
-      at (Some q) f e =
-          let left = all_tried_leave S sound fits S.pending of q f in
-          let lead = lead_pending q.1 L q.0 left.leads.sound in
-          subst (LeavesPending S) (let is : with_staying q ≡ T = cc in is)
-          (record { leads = lead_along S q.1 (with_staying q) L sound left.leads lead; goals = goals_later q.1 (with_staying q) L lead.later q.0 left.goals })
-
-  pub passes_leave : (n : ℕ) (S T : State) → IsSound S L → ValuesFit S L → GoalsAreOf S L S.pending → passes l n S ≡ Some T → LeavesPending S T
-  passes_leave zero S T sound fits of e = subst (LeavesPending S) (let is : S ≡ T = cc in is) (record { leads = lead_itself S L sound; goals = of })
-  passes_leave (suc n) S T sound fits of e = at (pass l S) refl (λ R sound fits of e. passes_leave n R T sound fits of e) e
-    where
-      goes : (R : State) → LeavesPending S R → (b : Bool) → (passes l n R ≡ Some T → LeavesPending R T) → (if b then passes l n R else Some R) ≡ Some T → LeavesPending S T
-      goes R left true f e = let more = f e in record { leads = lead_along S R T L sound left.leads more.leads; goals = more.goals }
-      goes R left false f e = subst (LeavesPending S) (let is : R ≡ T = cc in is) left
-
-      at : (o : Option State) → pass l S ≡ o → ((R : State) → IsSound R L → ValuesFit R L → GoalsAreOf R L R.pending → passes l n R ≡ Some T → LeavesPending R T)
-          → next o (λ R. if gave_a_value S.variables R.variables then passes l n R else Some R) ≡ Some T → LeavesPending S T
-      at None f ih e = cc
-      at (Some R) f ih e =
-          let left = pass_leaves S R sound fits of f in
-          goes R left (gave_a_value S.variables R.variables) (λ e. ih R left.leads.sound (fits_later left.leads.later fits) left.goals e) e
-
--- What is settled
-
-pub settled_is : (l : Listing) (S T : State) (c : Certainty) → settled l S ≡ Some (c, T) → passes l 8 S ≡ Some T
-settled_is l S T c e = at (passes l 8 S) e
-  where
-    at : (o : Option State) → next o (λ T. Some (with_certainty T)) ≡ Some (c, T) → o ≡ Some T
-    at None e = cc
-    at (Some R) e = ap (λ (q : Certainty × State). Some q.1) (let is : with_certainty R ≡ (c, T) = cc in is)

@@ -1,4 +1,4 @@
--- Worked cases of pending goals and responses, by computation.
+-- Worked cases of pending goals and responses with an empty table, by computation.
 use Rattle.std.proofs.Common.{◌≡◌, ℕ, true, false, refl, List, [], ◌∷◌, Option, Some, None}
 use Rattle.candidate_ir.specs.declared.ir.heads.Head.{Head}
 use Rattle.candidate_ir.specs.declared.ir.heads.Head.TheVariants as H
@@ -20,9 +20,12 @@ use Rattle.candidate_eval.specs.declared.eval.mode.TypingMode.TheVariants.{PostA
 use Rattle.candidate_eval.specs.declared.eval.variable.VariableKind.TheVariants.{Term, Region}
 use Rattle.candidate_eval.specs.Certainties.{AMBIGUOUS}
 use Rattle.candidate_eval.specs.States.{State, VariableInfo, Pending}
+use Rattle.rounds_judge.specs.GoalTable.{GoalTable}
 use Rattle.rounds_judge.specs.Listed.{Listing}
-use Rattle.rounds_judge.specs.Settling.{settled}
-use Rattle.rounds_judge.specs.Responding.{responded}
+use Rattle.rounds_judge.specs.TableSettling.{settled_with, responded_with}
+
+abbrev empty : GoalTable (Unit {0})
+empty = []
 
 abbrev root : Option Tree → VariableInfo
 root v = record { kind = Term V.General; universe = 0; value = v; is_root = true }
@@ -65,22 +68,22 @@ abbrev listing : Listing
 listing = (alias u8, u16) ∷ []
 
 -- a listed alias gives a value
-listed_gives : settled listing (start (root None ∷ []) (projects u8 (var 0) ∷ [])) ≡ Some (Yes, start (root (Some u16) ∷ []) [])
+listed_gives : settled_with empty listing (start (root None ∷ []) (projects u8 (var 0) ∷ [])) ≡ Some (Yes, start (root (Some u16) ∷ []) [])
 listed_gives = refl
 
 -- also one that is listed only once a later goal has given a value
 abbrev both_ways : Listing
 both_ways = (alias u8, u16) ∷ (alias u16, u8) ∷ []
 
-second_pass : settled both_ways (start (root None ∷ root None ∷ []) (projects (var 0) (var 1) ∷ projects u16 (var 0) ∷ [])) ≡ Some (Yes, start (root (Some u8) ∷ root (Some u16) ∷ []) [])
+second_pass : settled_with empty both_ways (start (root None ∷ root None ∷ []) (projects (var 0) (var 1) ∷ projects u16 (var 0) ∷ [])) ≡ Some (Yes, start (root (Some u8) ∷ root (Some u16) ∷ []) [])
 second_pass = refl
 
 -- one that isn't listed stays
-unlisted_stays : settled listing (start (root None ∷ []) (projects u16 (var 0) ∷ [])) ≡ Some (AMBIGUOUS, start (root None ∷ []) (projects u16 (var 0) ∷ []))
+unlisted_stays : settled_with empty listing (start (root None ∷ []) (projects u16 (var 0) ∷ [])) ≡ Some (AMBIGUOUS, start (root None ∷ []) (projects u16 (var 0) ∷ []))
 unlisted_stays = refl
 
 -- another type than the listed one is refused
-other_type : settled listing (start [] (projects u8 u8 ∷ [])) ≡ None
+other_type : settled_with empty listing (start [] (projects u8 u8 ∷ [])) ≡ None
 other_type = refl
 
 abbrev region : ℕ → Tree
@@ -90,19 +93,19 @@ abbrev outlives : Pending
 outlives = goal Cl.RegionOutlives [] (region 0 ∷ region 1 ∷ [])
 
 -- outlives goals are recorded
-outlives_recorded : settled [] (start [] (outlives ∷ [])) ≡ Some (Yes, record (start [] []) { regions = outlives.goal.clause ∷ [] })
+outlives_recorded : settled_with empty [] (start [] (outlives ∷ [])) ≡ Some (Yes, record (start [] []) { regions = outlives.goal.clause ∷ [] })
 outlives_recorded = refl
 
 abbrev holds_of : List Tree → Tree → Pending
 holds_of vars t = goal (Cl.Trait (record { 0 = 0 }) Positive) vars (t ∷ [])
 
 -- a trait goal stays, and under a binder its instance does
-instance_stays : settled [] (start [] (holds_of (leaf (H.Part (P.Var K.Ty)) ∷ []) (leaf (H.Bound (record { depth = 0; index = 0 }))) ∷ []))
+instance_stays : settled_with empty [] (start [] (holds_of (leaf (H.Part (P.Var K.Ty)) ∷ []) (leaf (H.Bound (record { depth = 0; index = 0 }))) ∷ []))
     ≡ Some (AMBIGUOUS, record (start [] (holds_of [] (leaf (H.Placeholder (record { universe = 1; index = 0 }))) ∷ [])) { newest_universe = 1 })
 instance_stays = refl
 
 -- What is left open is numbered anew, by first occurrence.
-renumbered_answer : responded [] (start (root (Some (pair (var 2) (var 1))) ∷ root None ∷ other None ∷ []) []) Yes
+renumbered_answer : responded_with empty [] (start (root (Some (pair (var 2) (var 1))) ∷ root None ∷ other None ∷ []) []) Yes
     ≡ Some (record {
       vars = record { kind = Term V.General; universe = 0 } ∷ record { kind = Term V.General; universe = 0 } ∷ [];
       values = tree (H.Builtin B.Tuple) (tree (var 0).head none (tree (var 1).head none none)) (tree (var 1).head none none);
@@ -112,7 +115,7 @@ renumbered_answer : responded [] (start (root (Some (pair (var 2) (var 1))) ∷ 
 renumbered_answer = refl
 
 -- both places of a variable get one number
-same_number : responded [] (start (root (Some (pair (var 1) (var 1))) ∷ other None ∷ []) []) AMBIGUOUS
+same_number : responded_with empty [] (start (root (Some (pair (var 1) (var 1))) ∷ other None ∷ []) []) AMBIGUOUS
     ≡ Some (record {
       vars = record { kind = Term V.General; universe = 0 } ∷ [];
       values = tree (H.Builtin B.Tuple) (tree (var 0).head none (tree (var 0).head none none)) none;
@@ -131,7 +134,7 @@ region_var n = leaf (H.Region (R.Var n))
 abbrev constraint : ℕ → ℕ → Tree
 constraint m n = over (H.Part (P.Clause Cl.RegionOutlives)) (over (H.Part P.Vars) [] ∷ region_var m ∷ region_var n ∷ [])
 
-constraints_last : responded [] (record (start (region_info ∷ region_info ∷ root None ∷ []) []) { regions = constraint 1 0 ∷ [] }) Yes
+constraints_last : responded_with empty [] (record (start (region_info ∷ region_info ∷ root None ∷ []) []) { regions = constraint 1 0 ∷ [] }) Yes
     ≡ Some (record {
       vars = record { kind = Term V.General; universe = 0 } ∷ record { kind = Region; universe = 0 } ∷ record { kind = Region; universe = 0 } ∷ [];
       values = tree (var 0).head none none;
@@ -141,5 +144,5 @@ constraints_last : responded [] (record (start (region_info ∷ region_info ∷ 
 constraints_last = refl
 
 -- a goal that is refused refuses all
-one_refused : settled listing (start (root None ∷ []) (outlives ∷ projects u8 (var 0) ∷ projects u8 u8 ∷ [])) ≡ None
+one_refused : settled_with empty listing (start (root None ∷ []) (outlives ∷ projects u8 (var 0) ∷ projects u8 u8 ∷ [])) ≡ None
 one_refused = refl

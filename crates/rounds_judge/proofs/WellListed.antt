@@ -1,19 +1,13 @@
--- Pairs that may be listed are listed, and those that are may be; and the judge keeps all laws with those of any list that may be.
-use Rattle.std.proofs.Common.{◌≡◌, ℕ, Bool, true, false, not, List, [], ◌∷◌, if◌then◌else◌, refl, ◌∙◌, ap}
+-- Pairs that may be listed are listed, and those that are may be.
+use Rattle.std.proofs.Common.{◌≡◌, Bool, true, false, not, [], ◌∷◌, if◌then◌else◌, refl, ◌∙◌, ap}
 use Rattle.std.proofs.lemmas.Bool.{and_parts, not-true}
 use Rattle.std.proofs.lemmas.List.Elements.{All-cons, All-head, All-nil, All-tail}
 use Rattle.candidate_ir.specs.Binders.{escapes}
 use Rattle.candidate_ir.specs.Substitutions.{alone}
 use Rattle.candidate_ir.specs.Trees.{Tree, holds, is_alias, is_param, is_type}
-use Rattle.candidate_ir.specs.Worlds.{World}
-use Rattle.candidate_eval.specs.Lawful.{Lawful}
 use Rattle.rounds_judge.specs.Listed.{Listing}
-use Rattle.rounds_judge.specs.RoundsJudge.{rounds_judge}
 use Rattle.rounds_judge.specs.Standing.{IsFixed, IsListed, IsListing, is_made}
 use Rattle.rounds_judge.specs.WellListed.{is_fixed, may_be_listed, well_listed}
-use Rattle.rounds_judge.proofs.Lawful.{rounds_lawful}
-
--- Pairs that may be listed are, and those that are may be.
 
 fixed-is : (t : Tree) → is_fixed t ≡ true → IsFixed t
 fixed-is t e =
@@ -48,6 +42,3 @@ all-listed [] a = refl
 all-listed (p ∷ ps) a =
     ap (λ b. if b then p ∷ well_listed ps else well_listed ps) (is-listed p (All-head IsListed p ps a))
     ∙ ap (λ qs. p ∷ qs) (all-listed ps (All-tail IsListed p ps a))
-
-pub keeps-the-laws : (w : World) (local : ℕ) (pairs : Listing) (opaques : List Tree) → Lawful (rounds_judge w local (well_listed pairs) opaques)
-keeps-the-laws w local pairs opaques = rounds_lawful w local (well_listed pairs) opaques (well-listed pairs)

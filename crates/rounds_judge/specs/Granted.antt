@@ -1,16 +1,15 @@
--- The goals that are vouched for.
+-- Facts that are vouched for without a table of goals, and what is fresh for a goal under a binder.
 use Rattle.std.specs.Prelude.{◌≡◌, ℕ, ◌<◌, false, List, [], ◌∷◌}
 use Rattle.candidate_ir.specs.declared.ir.heads.Head.{Head}
 use Rattle.candidate_ir.specs.declared.ir.heads.Head.TheVariants as H
 use Rattle.candidate_ir.specs.declared.ir.heads.PartHead.TheVariants as P
 use Rattle.candidate_ir.specs.declared.ir.heads.ClauseHead.TheVariants as Cl
-use Rattle.candidate_ir.specs.Trees.{Kind, Forest, Tree, join, holds}
+use Rattle.candidate_ir.specs.Trees.{Kind, Forest, Tree, holds}
 use Rattle.candidate_ir.specs.Supers.{after_first}
 use Rattle.candidate_ir.specs.Opening.{opened}
 use Rattle.candidate_ir.specs.Substitutions.{Universes}
-use Rattle.candidate_eval.specs.States.{State, Goal, resolved, placeholders}
+use Rattle.candidate_eval.specs.States.{placeholders}
 use Rattle.candidate_eval.specs.Characterization.{bound_kinds}
-use Rattle.candidate_eval.specs.Soundness.{universes}
 use Rattle.candidate_eval.specs.Instances.{is_of_universe}
 use Rattle.rounds_judge.specs.Listed.{Listing}
 use Rattle.rounds_judge.specs.Congruence.{SameTree}
@@ -36,9 +35,3 @@ IsFreshFor u (k ∷ ks) n ts = IsFresh u n ts
 -- the facts, with placeholders of that universe for what the binder binds
 abbrev pub facts_in : ℕ → Tree → Forest
 facts_in n c = opened (placeholders n 0 (bound_kinds c.children)) (after_first c.children)
-
--- A goal is granted where the instance with placeholders of one fresh universe is, with all values put in.
-pub record IsGranted (l : Listing) (S : State) (g : Goal) : Type 0 where
-  pub universe : ℕ
-  pub is_fresh : IsFreshFor (universes S) (bound_kinds g.clause.children) universe (join g.env (after_first g.clause.children))
-  pub facts : FactsGranted l g.clause.head (resolved S (facts_in universe g.clause))

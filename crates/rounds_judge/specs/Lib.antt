@@ -8,5 +8,11 @@ pub mod Settling
 pub mod Responding
 pub mod Congruence
 pub mod Granted
-pub mod RoundsJudge
 pub mod WellListed
+pub mod Keys
+pub mod Verdicts
+pub mod GoalTable
+pub mod TableSettling
+pub mod TableGranted
+pub mod TableJudge
+pub mod Rounds

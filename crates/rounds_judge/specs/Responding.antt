@@ -8,13 +8,10 @@ use Rattle.candidate_ir.specs.Folding.{leaf}
 use Rattle.candidate_eval.specs.declared.eval.variable.CanonicalVar.{CanonicalVar}
 use Rattle.candidate_eval.specs.declared.eval.variable.VariableKind.TheVariants.{Region}
 use Rattle.candidate_eval.specs.declared.eval.certainty.Certainty.{Certainty}
-use Rattle.candidate_eval.specs.Certainties.{certainty_and}
 use Rattle.candidate_eval.specs.Responses.{Response}
-use Rattle.candidate_eval.specs.States.{State, VariableInfo, variable, valued, valued_tree, resolved, resolved_tree, next}
+use Rattle.candidate_eval.specs.States.{State, VariableInfo, variable, valued, valued_tree, resolved, resolved_tree}
 use Rattle.candidate_eval.specs.Alike.{info}
 use Rattle.candidate_eval.specs.Instances.{Instance, instance}
-use Rattle.rounds_judge.specs.Listed.{Listing}
-use Rattle.rounds_judge.specs.Settling.{settled}
 
 -- the root variables among these, which are numbered from there on
 abbrev pub roots_from : ℕ → List VariableInfo → Forest
@@ -90,7 +87,3 @@ response S c = record {
   regions = map (renumbered_tree (open_numbers S)) (constraints S);
   certainty = c;
 }
-
--- What is pending is evaluated first, and the answer is no surer than that.
-abbrev pub responded : Listing → State → Certainty → Option Response
-responded l S c = next (settled l S) (λ q. Some (response q.1 (certainty_and c q.0)))

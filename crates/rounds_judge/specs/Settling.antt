@@ -1,5 +1,5 @@
--- Pending goals are evaluated: each is done, or refused, or stays.
-use Rattle.std.specs.Prelude.{ℕ, zero, suc, Bool, true, false, ◌||◌, Option, Some, None, List, [], ◌∷◌, ◌++◌, if◌then◌else◌}
+-- Pending goals are evaluated: what comes of one that is of no trait, and how sure a state is by what stays.
+use Rattle.std.specs.Prelude.{Bool, true, false, ◌||◌, Option, Some, None, List, [], ◌∷◌, ◌++◌}
 use Rattle.candidate_ir.specs.declared.ir.heads.Head.{Head}
 use Rattle.candidate_ir.specs.declared.ir.heads.Head.TheVariants as H
 use Rattle.candidate_ir.specs.declared.ir.heads.PartHead.TheVariants as P
@@ -13,7 +13,7 @@ use Rattle.candidate_eval.specs.declared.eval.certainty.Certainty.{Certainty}
 use Rattle.candidate_eval.specs.declared.eval.certainty.Certainty.TheVariants.{Yes}
 use Rattle.candidate_eval.specs.Certainties.{AMBIGUOUS}
 use Rattle.candidate_eval.specs.States.{State, VariableInfo, Pending, resolved_tree, with_pending, next}
-use Rattle.candidate_eval.specs.Characterization.{bound_kinds, under_binder, group_at}
+use Rattle.candidate_eval.specs.Characterization.{under_binder, group_at}
 use Rattle.rounds_judge.specs.Listed.{Listing, listed}
 use Rattle.rounds_judge.specs.Equating.{equated, without_goals}
 
@@ -73,25 +73,13 @@ tried_as l S p ts (H.Part (P.Clause Cl.TypeOutlives)) = Some ([], recorded S p.g
 tried_as l S p ts (H.Part (P.Clause Cl.RegionOutlives)) = Some ([], recorded S p.goal.clause)
 tried_as l S p ts _ = stays S p
 
-abbrev pub tried : Listing → State → Pending → Outcome
-tried l S p =
-    let f = instantiated S p.goal.clause in
-    tried_as l f.0 (instance_of p (bound_kinds p.goal.clause.children) f.1) f.1 p.goal.clause.head
-
--- Goals in order, each at the state that the one before it left.
-
+-- what stays of one goal comes before what stays of those after it
 abbrev pub before : List Pending → Outcome → Outcome
 before ps o = next o (λ q. Some (ps ++ q.0, q.1))
 
-abbrev pub tried_all : Listing → State → List Pending → Outcome
-tried_all l S [] = Some ([], S)
-tried_all l S (p ∷ ps) = next (tried l S p) (λ q. before q.0 (tried_all l q.1 ps))
-
+-- the state with what stays pending
 abbrev pub with_staying : List Pending × State → State
 with_staying q = with_pending q.1 q.0
-
-abbrev pub pass : Listing → State → Option State
-pass l S = next (tried_all l S S.pending) (λ q. Some (with_staying q))
 
 -- Whether a variable that had no value has one now. Asked variable by variable, since there may be new ones, without values.
 
@@ -104,11 +92,6 @@ gave_a_value [] js = false
 gave_a_value (i ∷ is) [] = false
 gave_a_value (i ∷ is) (j ∷ js) = got_a_value i.value j.value || gave_a_value is js
 
--- At most so many passes; another one while the last gave a variable a value.
-abbrev pub passes : Listing → ℕ → State → Option State
-passes l zero S = Some S
-passes l (suc n) S = next (pass l S) (λ T. if gave_a_value S.variables T.variables then passes l n T else Some T)
-
 -- sure, if nothing is left
 abbrev pub certainty_of : List Pending → Certainty
 certainty_of [] = Yes
@@ -116,7 +99,3 @@ certainty_of (p ∷ ps) = AMBIGUOUS
 
 abbrev pub with_certainty : State → Certainty × State
 with_certainty S = (certainty_of S.pending, S)
-
--- What is pending, evaluated.
-abbrev pub settled : Listing → State → Option (Certainty × State)
-settled l S = next (passes l 8 S) (λ T. Some (with_certainty T))

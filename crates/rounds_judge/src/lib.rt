@@ -9,14 +9,15 @@ ghost use Rattle.candidate_eval.specs.Lawful.{Lawful};
 ghost use Rattle.candidate_eval.specs.Soundness.{IsSolution, IsSound, Live};
 ghost use Rattle.candidate_eval.specs.States.{State};
 ghost use Rattle.candidate_ir.specs.Substitutions.{Substitution};
+ghost use Rattle.rounds_judge.specs.GoalTable.{GoalTable, well_entered};
 ghost use Rattle.rounds_judge.specs.Listed.{Listing};
+ghost use Rattle.rounds_judge.specs.TableJudge.{table_judge};
 ghost use Rattle.rounds_judge.specs.WellListed.{well_listed};
-ghost use Rattle.rounds_judge.specs.RoundsJudge.{rounds_judge};
 
-/// Whatever is declared, and whatever pairs and opaque types it is given, of which those pairs count that may be listed, the judge
-/// keeps the laws of an evaluator. Each sound state has a solution, so that what is said of equations without one says something. Nothing
-/// is done.
-pub fn keeps_the_laws()
+/// Whatever is declared, whatever pairs and opaque types it is given, and whatever table it reads, the judge keeps the laws of an
+/// evaluator. Of the pairs those count that may be listed, and of the table what may be read; in what words it tells how a goal is proved
+/// is the caller's, `W`. Each sound state has a solution, so that what is said of equations without one says something. Nothing is done.
+pub fn keeps_the_laws<W>()
     ensures solvable { (S : State) (L : Live) → IsSound S L → (s : Substitution) × IsSolution S L s }
-    ensures lawful { (w : World) (local : ℕ) (pairs : Listing) (opaques : List Tree) → Lawful (rounds_judge w local (well_listed pairs) opaques) }
+    ensures lawful { (w : World) (local : ℕ) (pairs : Listing) (opaques : List Tree) (table : GoalTable W) → Lawful (table_judge w local (well_listed pairs) opaques (well_entered table)) }
 {}
