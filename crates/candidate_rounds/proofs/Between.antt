@@ -3,13 +3,14 @@ use Rattle.std.proofs.Common.{ℕ, List}
 use Rattle.candidate_ir.specs.Trees.{Tree}
 use Rattle.candidate_ir.specs.declared.ir.kinds.AliasTy.{AliasTy}
 use Rattle.candidate_ir.specs.declared.ir.kinds.Ty.{Ty}
+use Rattle.candidate_rounds.specs.Goals.{Goals}
 use Rattle.candidate_rounds.specs.Inferences.{Inference}
 use Rattle.candidate_rounds.specs.Known.{EvaluatorParts, IsEvaluator}
 
-pub parts : {ts : List Tree} {s : Inference} {ks : List ℕ} {ns : List (Ty × Ty)} {os : List AliasTy} → IsEvaluator ts s ks ns os → EvaluatorParts ts s ks ns os
+pub parts : {ts : List Tree} {s : Inference} {ks : List ℕ} {ns : List (Ty × Ty)} {os : List AliasTy} {gs : Goals} → IsEvaluator ts s ks ns os gs → EvaluatorParts ts s ks ns os gs
 unfolding IsEvaluator
 parts h = h
 
-pub of-parts : {ts : List Tree} {s : Inference} {ks : List ℕ} {ns : List (Ty × Ty)} {os : List AliasTy} → EvaluatorParts ts s ks ns os → IsEvaluator ts s ks ns os
+pub of-parts : {ts : List Tree} {s : Inference} {ks : List ℕ} {ns : List (Ty × Ty)} {os : List AliasTy} {gs : Goals} → EvaluatorParts ts s ks ns os gs → IsEvaluator ts s ks ns os gs
 unfolding IsEvaluator
 of-parts h = h

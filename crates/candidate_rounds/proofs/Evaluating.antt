@@ -23,16 +23,22 @@ use Rattle.candidate_ir.proofs.Joining.{clause-kept}
 use Rattle.candidate_ir.proofs.Made.{kind_at-grows}
 use Rattle.candidate_eval.specs.Characterization.{binder_kinds, bound_kinds}
 use Rattle.candidate_eval.specs.Evaluators.{IsGoal, kinds_listed, pending_of, pendings_of}
-use Rattle.candidate_eval.specs.States.{Env, Pending, State, added, next, resolved_tree, with_pending}
+use Rattle.candidate_eval.specs.ImplRules.{TraitGoal}
+use Rattle.candidate_eval.specs.States.{Env, Pending, State, added, next, resolved, resolved_tree, with_pending}
 use Rattle.candidate_rounds.specs.declared.rounds.inference.Change.TheVariants as C
 use Rattle.candidate_rounds.specs.declared.rounds.inference.Entry.{Entry}
 use Rattle.rounds_judge.specs.Equating.{equated, without_goals}
 use Rattle.candidate_rounds.specs.Inferences.{Inference, begin_pending}
-use Rattle.candidate_rounds.specs.Known.{Each, Evaluator, GoesOn, IsChange, IsConsistent, IsGiven, info_of, listing, state}
+use Rattle.candidate_rounds.specs.Goals.{Reads, Via}
+use Rattle.candidate_rounds.specs.Known.{Each, Evaluator, GoesOn, IsChange, IsConsistent, IsEvaluator, info_of, reads, state}
 use Rattle.rounds_judge.specs.Listed.{Listing, listed}
-use Rattle.rounds_judge.specs.Settling.{Outcome, before, certainty_of, gave_a_value, got_a_value, instance_of, instantiated, pass, passes, projected, settled, term_of, tried, tried_all, tried_as, with_certainty, with_facts, with_staying}
-use Rattle.candidate_rounds.specs.Trying.{IsProjection, answered, answered_by, evaluated_as, left_of, projection_of, second_if_bound, entries_gave, got_one}
-use Rattle.candidate_rounds.proofs.Going.{goes-listing, goes-trans}
+use Rattle.rounds_judge.specs.Settling.{Outcome, before, certainty_of, gave_a_value, got_a_value, instance_of, instantiated, projected, stays, term_of, with_certainty, with_facts, with_staying}
+use Rattle.rounds_judge.specs.GoalTable.{verdict_in}
+use Rattle.rounds_judge.specs.Keys.{Key, goal_trees, key_at, numbers_at, trait_goal_of}
+use Rattle.rounds_judge.specs.TableSettling.{all_by, are_bare, given, pass_by, passes_by, settled_with, tried_as_with, tried_by, tried_trait}
+use Rattle.rounds_judge.specs.Verdicts.{Verdict, Yes, Maybe, Refused}
+use Rattle.candidate_rounds.specs.Trying.{IsProjection, answered, answered_by, answered_trait, answered_verdict, evaluated_as, left_of, projection_of, second_if_bound, try_of, entries_gave, got_one}
+use Rattle.candidate_rounds.proofs.Going.{goes-reads, goes-trans}
 use Rattle.candidate_rounds.proofs.Holding.{tidy-now}
 use Rattle.candidate_rounds.proofs.Knowing.{each-append, each-imply, tree-stays}
 use Rattle.candidate_rounds.proofs.Probing.{holds-after}
@@ -69,19 +75,35 @@ answered-same l m S T a b t s i j e f =
 abbrev pub outcome : Pending → Bool × State → Outcome
 outcome p q = Some ((if q.0 then [] else p ∷ []), q.1)
 
+-- what was done, and nothing stays
+done-by : (p : Pending) (o : Option State) → without_goals o ≡ next (next o (λ T. Some (true, T))) (outcome p)
+done-by p None = refl
+done-by p (Some T) = refl
+
 projected-by : (l : Listing) (S : State) (p : Pending) (t : Tree) (o : Option Tree) → projected l S p t o ≡ next (answered_by l S t o) (outcome p)
 projected-by l S p t None = refl
-projected-by l S p t (Some u) = at (equated l S (alone u) (alone t))
-  where
-    at : (o : Option State) → without_goals o ≡ next (next o (λ T. Some (true, T))) (outcome p)
-    at None = refl
-    at (Some T) = refl
+projected-by l S p t (Some u) = done-by p (equated l S (alone u) (alone t))
 
-tried-by : (l : Listing) (S : State) (p : Pending) (ts : Forest) (h : Head) → tried_as l S p ts h ≡ next (evaluated_as l S p.goal.clause ts h) (outcome p)
-tried-by l S p ts (H.Part (P.Clause (Cl.Projection i))) = projected-by l S p _ _
-tried-by l S p ts (H.Part (P.Clause Cl.TypeOutlives)) = refl
-tried-by l S p ts (H.Part (P.Clause Cl.RegionOutlives)) = refl
-tried-by l S p ts _ = refl
+verdict-by : (l : Listing) (S : State) (p : Pending) (k : Key) (ns : List ℕ) (o : Option (Verdict Via)) → tried_by l S p k ns o ≡ next (answered_verdict l S k ns o) (outcome p)
+verdict-by l S p k ns None = refl
+verdict-by l S p k ns (Some Refused) = refl
+verdict-by l S p k ns (Some (Maybe r w)) = refl
+verdict-by l S p k ns (Some (Yes r w)) = done-by p (given l S k ns r)
+
+trait-by : (q : Reads) (S : State) (p : Pending) (g : TraitGoal) → tried_trait q.table q.listing S p g ≡ next (answered_trait q S g) (outcome p)
+trait-by q S p g = at (are_bare (resolved S (goal_trees g)))
+  where
+    at : (b : Bool) → (if b then tried_by q.listing S p (key_at S g) (numbers_at S g) (verdict_in q.table (key_at S g)) else stays S p)
+        ≡ next (if b then answered_verdict q.listing S (key_at S g) (numbers_at S g) (verdict_in q.table (key_at S g)) else Some (false, S)) (outcome p)
+    at true = verdict-by q.listing S p (key_at S g) (numbers_at S g) (verdict_in q.table (key_at S g))
+    at false = refl
+
+tried-by : (q : Reads) (S : State) (p : Pending) (ts : Forest) (h : Head) → tried_as_with q.table q.listing S p ts h ≡ next (evaluated_as q S p.goal.env p.goal.clause ts h) (outcome p)
+tried-by q S p ts (H.Part (P.Clause (Cl.Trait i w))) = trait-by q S p (trait_goal_of p.goal.env i w ts)
+tried-by q S p ts (H.Part (P.Clause (Cl.Projection i))) = projected-by q.listing S p _ _
+tried-by q S p ts (H.Part (P.Clause Cl.TypeOutlives)) = refl
+tried-by q S p ts (H.Part (P.Clause Cl.RegionOutlives)) = refl
+tried-by q S p ts _ = refl
 
 -- The instance of a goal, by the kinds of the variables of its binder.
 
@@ -94,33 +116,36 @@ instance-made p ks bs ts e c k i j = at ks j ∙ ap (λ xs. instance_of p xs ts)
     at [] j = λ n. record { source = p.source; goal = record { env = i n; clause = j n } }
     at (k ∷ ks) j = λ n. record { source = p.source; goal = record { env = i n; clause = j n } }
 
-evaluated-same : (l m : Listing) (S T : State) (c d x y : Tree) → m ≡ l → T ≡ S → d ≡ c → y ≡ x → evaluated_as m T d (after_first y.children) y.head ≡ evaluated_as l S c (after_first x.children) x.head
-evaluated-same l m S T c d x y i j e f =
-    ap (λ k. evaluated_as k T d (after_first y.children) y.head) i
-    ∙ (ap (λ U. evaluated_as l U d (after_first y.children) y.head) j
-    ∙ (ap (λ t. evaluated_as l S t (after_first y.children) y.head) e
-    ∙ ap (λ (t : Tree). evaluated_as l S c (after_first t.children) t.head) f))
+evaluated-same : (q r : Reads) (S T : State) (e f : Env) (c d x y : Tree) → r ≡ q → T ≡ S → f ≡ e → d ≡ c → y ≡ x
+    → evaluated_as r T f d (after_first y.children) y.head ≡ evaluated_as q S e c (after_first x.children) x.head
+evaluated-same q r S T e f c d x y i j a b g =
+    ap (λ k. evaluated_as k T f d (after_first y.children) y.head) i
+    ∙ (ap (λ U. evaluated_as q U f d (after_first y.children) y.head) j
+    ∙ (ap (λ z. evaluated_as q S z d (after_first y.children) y.head) a
+    ∙ (ap (λ t. evaluated_as q S e t (after_first y.children) y.head) b
+    ∙ ap (λ (t : Tree). evaluated_as q S e c (after_first t.children) t.head) g)))
 
-module _ (l m : Listing) (S T : State) (p : Pending) (ks : List VarKind) (x d : Tree) (i : m ≡ l) (k : kinds_listed ks ≡ bound_kinds p.goal.clause.children)
-    (j : T ≡ (instantiated S p.goal.clause).0) (f : x ≡ with_facts p.goal.clause (instantiated S p.goal.clause).1)
+module _ (q r : Reads) (S T : State) (p : Pending) (ks : List VarKind) (env : Env) (x d : Tree) (i : r ≡ q) (k : kinds_listed ks ≡ bound_kinds p.goal.clause.children)
+    (j : T ≡ (instantiated S p.goal.clause).0) (a : env ≡ p.goal.env) (f : x ≡ with_facts p.goal.clause (instantiated S p.goal.clause).1)
     (e : d ≡ second_if_bound ks p.goal.clause (with_facts p.goal.clause (instantiated S p.goal.clause).1)) where
   abbrev pub left_goal : Pending
   left_goal = instance_of p (bound_kinds p.goal.clause.children) (instantiated S p.goal.clause).1
 
-  tried-so : tried l S p ≡ next (evaluated_as m T d (after_first x.children) x.head) (outcome left_goal)
+  tried-so : try_of q S p ≡ next (evaluated_as r T env d (after_first x.children) x.head) (outcome left_goal)
   tried-so =
-      let q = instance-made p ks (bound_kinds p.goal.clause.children) (instantiated S p.goal.clause).1 p.goal.env d k refl e in
-      tried-by l (instantiated S p.goal.clause).0 left_goal (instantiated S p.goal.clause).1 p.goal.clause.head
+      let made = instance-made p ks (bound_kinds p.goal.clause.children) (instantiated S p.goal.clause).1 env d k a e in
+      tried-by q (instantiated S p.goal.clause).0 left_goal (instantiated S p.goal.clause).1 p.goal.clause.head
       ∙ ap (λ o. next o (outcome left_goal))
-      (sym (evaluated-same l m (instantiated S p.goal.clause).0 T left_goal.goal.clause d (with_facts p.goal.clause (instantiated S p.goal.clause).1) x i j (ap (λ (r : Pending). r.goal.clause) q) f))
+      (sym (evaluated-same q r (instantiated S p.goal.clause).0 T left_goal.goal.env env left_goal.goal.clause d (with_facts p.goal.clause (instantiated S p.goal.clause).1) x i j
+      (ap (λ (g : Pending). g.goal.env) made) (ap (λ (g : Pending). g.goal.clause) made) f))
 
-  pub tried-done : (U : State) (b : Bool) → b ≡ true → evaluated_as m T d (after_first x.children) x.head ≡ Some (b, U) → tried l S p ≡ Some ([], U)
+  pub tried-done : (U : State) (b : Bool) → b ≡ true → evaluated_as r T env d (after_first x.children) x.head ≡ Some (b, U) → try_of q S p ≡ Some ([], U)
   tried-done U b t h = tried-so ∙ (ap (λ o. next o (outcome left_goal)) h ∙ ap (λ c. outcome left_goal (c, U)) t)
 
-  pub tried-stays : (U : State) (b : Bool) (g : Pending) → b ≡ false → g ≡ left_goal → evaluated_as m T d (after_first x.children) x.head ≡ Some (b, U) → tried l S p ≡ Some (g ∷ [], U)
-  tried-stays U b g t q h = tried-so ∙ (ap (λ o. next o (outcome left_goal)) h ∙ (ap (λ c. outcome left_goal (c, U)) t ∙ ap (λ (r : Pending). Some (r ∷ [], U)) (sym q)))
+  pub tried-stays : (U : State) (b : Bool) (g : Pending) → b ≡ false → g ≡ left_goal → evaluated_as r T env d (after_first x.children) x.head ≡ Some (b, U) → try_of q S p ≡ Some (g ∷ [], U)
+  tried-stays U b g t m h = tried-so ∙ (ap (λ o. next o (outcome left_goal)) h ∙ (ap (λ c. outcome left_goal (c, U)) t ∙ ap (λ (r : Pending). Some (r ∷ [], U)) (sym m)))
 
-  pub tried-refused : evaluated_as m T d (after_first x.children) x.head ≡ None → tried l S p ≡ None
+  pub tried-refused : evaluated_as r T env d (after_first x.children) x.head ≡ None → try_of q S p ≡ None
   tried-refused h = tried-so ∙ ap (λ o. next o (outcome left_goal)) h
 
 -- The clause that is left of a goal, and its kinds.
@@ -174,7 +199,7 @@ before-twice xs ys (Some q) = ap (λ (ps : List Pending). Some (ps, q.1)) (sym (
 pub record TriesSoFar (old now : Evaluator) (gs : List Sourced) (i : ℕ) (staying : List Sourced) : Type 0 where
   pub goes : GoesOn old now
   pub fit : Each (λ g. IsGoal now.context.trees g.1) staying
-  pub is : tried_all (listing old) (state old) (pendings_of old.context.trees gs) ≡ before (pendings_of now.context.trees staying) (tried_all (listing old) (state now) (pendings_of old.context.trees (drop i gs)))
+  pub is : all_by (try_of (reads old)) (state old) (pendings_of old.context.trees gs) ≡ before (pendings_of now.context.trees staying) (all_by (try_of (reads old)) (state now) (pendings_of old.context.trees (drop i gs)))
 
 no-tries-is : (o : Outcome) → o ≡ before [] o
 no-tries-is None = refl
@@ -191,27 +216,27 @@ left-each : (ts : List Tree) (o : Option Sourced) → IfSome o (λ g. IsGoal ts 
 left-each ts None i = tt
 left-each ts (Some g) i = (i, tt)
 
-module _ (old now new : Evaluator) (gs : List Sourced) (i : ℕ) (d : Sourced) (staying : List Sourced) (given : IsGiven old.context.trees old.normal old.opaques) (fits : Each (λ g. IsGoal old.context.trees g.1) gs)
+module _ (old now new : Evaluator) (gs : List Sourced) (i : ℕ) (d : Sourced) (staying : List Sourced) (kept : IsEvaluator old.context.trees old.inference old.marks old.normal old.opaques old.goals) (fits : Each (λ g. IsGoal old.context.trees g.1) gs)
     (a : TriesSoFar old now gs i staying) (l : i < length gs) (fit : IsGoal old.context.trees (slice_index_or gs i d).1) where
-  rest-is : (T : State) → tried_all (listing old) T (pendings_of old.context.trees (drop i gs))
-      ≡ next (tried (listing now) T (pending_of now.context.trees (slice_index_or gs i d).0 (slice_index_or gs i d).1)) (λ q. before q.0 (tried_all (listing old) q.1 (pendings_of old.context.trees (drop (suc i) gs))))
+  rest-is : (T : State) → all_by (try_of (reads old)) T (pendings_of old.context.trees (drop i gs))
+      ≡ next (try_of (reads now) T (pending_of now.context.trees (slice_index_or gs i d).0 (slice_index_or gs i d).1)) (λ q. before q.0 (all_by (try_of (reads old)) q.1 (pendings_of old.context.trees (drop (suc i) gs))))
   rest-is T =
-      ap (λ xs. tried_all (listing old) T (pendings_of old.context.trees xs)) (drop-one gs i d l)
-      ∙ (ap (λ p. next (tried (listing old) T p) (λ q. before q.0 (tried_all (listing old) q.1 (pendings_of old.context.trees (drop (suc i) gs))))) (sym (pending-kept old.context now.context (slice_index_or gs i d).0 (slice_index_or gs i d).1 a.goes.0 fit))
-      ∙ ap (λ m. next (tried m T (pending_of now.context.trees (slice_index_or gs i d).0 (slice_index_or gs i d).1)) (λ q. before q.0 (tried_all (listing old) q.1 (pendings_of old.context.trees (drop (suc i) gs))))) (sym (goes-listing old now a.goes given)))
+      ap (λ xs. all_by (try_of (reads old)) T (pendings_of old.context.trees xs)) (drop-one gs i d l)
+      ∙ (ap (λ p. next (try_of (reads old) T p) (λ q. before q.0 (all_by (try_of (reads old)) q.1 (pendings_of old.context.trees (drop (suc i) gs))))) (sym (pending-kept old.context now.context (slice_index_or gs i d).0 (slice_index_or gs i d).1 a.goes.0 fit))
+      ∙ ap (λ m. next (try_of m T (pending_of now.context.trees (slice_index_or gs i d).0 (slice_index_or gs i d).1)) (λ q. before q.0 (all_by (try_of (reads old)) q.1 (pendings_of old.context.trees (drop (suc i) gs))))) (sym (goes-reads old now a.goes kept)))
 
   pub one-more-try : (o : Option Sourced) (made : List Sourced) → GoesOn now new → IfSome o (λ g. IsGoal new.context.trees g.1)
-      → tried (listing now) (state now) (pending_of now.context.trees (slice_index_or gs i d).0 (slice_index_or gs i d).1) ≡ Some (left_of new.context.trees o, state new)
+      → try_of (reads now) (state now) (pending_of now.context.trees (slice_index_or gs i d).0 (slice_index_or gs i d).1) ≡ Some (left_of new.context.trees o, state new)
       → made ≡ staying ++ option_to_list o → TriesSoFar old new gs (i + 1) made
   one-more-try o made g s t m = subst (TriesSoFar old new gs (i + 1)) (sym m) (record {
     goes = goes-trans old now new a.goes g;
     fit = each-two (λ (x : Sourced). IsGoal new.context.trees x.1) staying (option_to_list o) (goals-kept now.context new.context staying g.0 a.fit) (left-each new.context.trees o s);
     is =
         a.is
-        ∙ (ap (before (pendings_of now.context.trees staying)) (rest-is (state now) ∙ ap (λ r. next r (λ q. before q.0 (tried_all (listing old) q.1 (pendings_of old.context.trees (drop (suc i) gs))))) t)
-        ∙ (before-twice (pendings_of now.context.trees staying) (left_of new.context.trees o) (tried_all (listing old) (state new) (pendings_of old.context.trees (drop (suc i) gs)))
-        ∙ (ap (λ ps. before ps (tried_all (listing old) (state new) (pendings_of old.context.trees (drop (suc i) gs)))) joined
-        ∙ ap (λ n. before (pendings_of new.context.trees (staying ++ option_to_list o)) (tried_all (listing old) (state new) (pendings_of old.context.trees (drop n gs)))) next-one)));
+        ∙ (ap (before (pendings_of now.context.trees staying)) (rest-is (state now) ∙ ap (λ r. next r (λ q. before q.0 (all_by (try_of (reads old)) q.1 (pendings_of old.context.trees (drop (suc i) gs))))) t)
+        ∙ (before-twice (pendings_of now.context.trees staying) (left_of new.context.trees o) (all_by (try_of (reads old)) (state new) (pendings_of old.context.trees (drop (suc i) gs)))
+        ∙ (ap (λ ps. before ps (all_by (try_of (reads old)) (state new) (pendings_of old.context.trees (drop (suc i) gs)))) joined
+        ∙ ap (λ n. before (pendings_of new.context.trees (staying ++ option_to_list o)) (all_by (try_of (reads old)) (state new) (pendings_of old.context.trees (drop n gs)))) next-one)));
   })
     where
       next-one : suc i ≡ i + 1
@@ -223,14 +248,14 @@ module _ (old now new : Evaluator) (gs : List Sourced) (i : ℕ) (d : Sourced) (
           ∙ (ap (λ ps. pendings_of new.context.trees staying ++ ps) (left-pendings new.context.trees o)
           ∙ sym (map-append (λ (x : Sourced). pending_of new.context.trees x.0 x.1) staying (option_to_list o)))
 
-  pub try-refused : tried (listing now) (state now) (pending_of now.context.trees (slice_index_or gs i d).0 (slice_index_or gs i d).1) ≡ None → tried_all (listing old) (state old) (pendings_of old.context.trees gs) ≡ None
-  try-refused t = a.is ∙ ap (before (pendings_of now.context.trees staying)) (rest-is (state now) ∙ ap (λ r. next r (λ q. before q.0 (tried_all (listing old) q.1 (pendings_of old.context.trees (drop (suc i) gs))))) t)
+  pub try-refused : try_of (reads now) (state now) (pending_of now.context.trees (slice_index_or gs i d).0 (slice_index_or gs i d).1) ≡ None → all_by (try_of (reads old)) (state old) (pendings_of old.context.trees gs) ≡ None
+  try-refused t = a.is ∙ ap (before (pendings_of now.context.trees staying)) (rest-is (state now) ∙ ap (λ r. next r (λ q. before q.0 (all_by (try_of (reads old)) q.1 (pendings_of old.context.trees (drop (suc i) gs))))) t)
 
 pub all-tried : (old now : Evaluator) (gs : List Sourced) (i : ℕ) (staying : List Sourced) → TriesSoFar old now gs i staying → length gs ≤ i
-    → tried_all (listing old) (state old) (pendings_of old.context.trees gs) ≡ Some (pendings_of now.context.trees staying, state now)
+    → all_by (try_of (reads old)) (state old) (pendings_of old.context.trees gs) ≡ Some (pendings_of now.context.trees staying, state now)
 all-tried old now gs i staying a l =
     a.is
-    ∙ (ap (λ xs. before (pendings_of now.context.trees staying) (tried_all (listing old) (state now) (pendings_of old.context.trees xs))) (drop-beyond gs i l)
+    ∙ (ap (λ xs. before (pendings_of now.context.trees staying) (all_by (try_of (reads old)) (state now) (pendings_of old.context.trees xs))) (drop-beyond gs i l)
     ∙ ap (λ (ps : List Pending). Some (ps, state now)) (append-nil (pendings_of now.context.trees staying)))
 
 -- Goals become pending, one after another, where none was.
@@ -278,58 +303,58 @@ holds-aside ts s ks h =
 
 -- All goals, once.
 
-pub passed : (l : Listing) (S T U : State) (ps qs : List Pending) → ps ≡ S.pending → tried_all l S ps ≡ Some (qs, T) → U ≡ with_pending T qs → pass l S ≡ Some U
-passed l S T U ps qs e t u = ap (λ xs. next (tried_all l S xs) (λ q. Some (with_staying q))) (sym e) ∙ (ap (λ o. next o (λ q. Some (with_staying q))) t ∙ ap (λ V. Some V) (sym u))
+pub passed : (q : Reads) (S T U : State) (ps qs : List Pending) → ps ≡ S.pending → all_by (try_of q) S ps ≡ Some (qs, T) → U ≡ with_pending T qs → pass_by (try_of q) S ≡ Some U
+passed r S T U ps qs e t u = ap (λ xs. next (all_by (try_of r) S xs) (λ q. Some (with_staying q))) (sym e) ∙ (ap (λ o. next o (λ q. Some (with_staying q))) t ∙ ap (λ V. Some V) (sym u))
 
-pub pass-refused : (l : Listing) (S : State) (ps : List Pending) → ps ≡ S.pending → tried_all l S ps ≡ None → pass l S ≡ None
-pass-refused l S ps e t = ap (λ xs. next (tried_all l S xs) (λ q. Some (with_staying q))) (sym e) ∙ ap (λ o. next o (λ q. Some (with_staying q))) t
+pub pass-refused : (q : Reads) (S : State) (ps : List Pending) → ps ≡ S.pending → all_by (try_of q) S ps ≡ None → pass_by (try_of q) S ≡ None
+pass-refused r S ps e t = ap (λ xs. next (all_by (try_of r) S xs) (λ q. Some (with_staying q))) (sym e) ∙ ap (λ o. next o (λ q. Some (with_staying q))) t
 
 -- Several times.
 
 pub record PassesSoFar (old now : Evaluator) (most i : ℕ) : Type 0 where
   pub goes : GoesOn old now
-  pub is : passes (listing old) most (state old) ≡ passes (listing old) (most - i) (state now)
+  pub is : passes_by (try_of (reads old)) most (state old) ≡ passes_by (try_of (reads old)) (most - i) (state now)
 
-module _ (old now : Evaluator) (most i : ℕ) (given : IsGiven old.context.trees old.normal old.opaques) (a : PassesSoFar old now most i) (l : i < most) where
+module _ (old now : Evaluator) (most i : ℕ) (kept : IsEvaluator old.context.trees old.inference old.marks old.normal old.opaques old.goals) (a : PassesSoFar old now most i) (l : i < most) where
   abbrev again : State → Option State
-  again T = if gave_a_value (state now).variables T.variables then passes (listing old) (most - (i + 1)) T else Some T
+  again T = if gave_a_value (state now).variables T.variables then passes_by (try_of (reads old)) (most - (i + 1)) T else Some T
 
-  this-pass : passes (listing old) most (state old) ≡ next (pass (listing now) (state now)) again
+  this-pass : passes_by (try_of (reads old)) most (state old) ≡ next (pass_by (try_of (reads now)) (state now)) again
   this-pass =
       let n : most - i ≡ suc (most - (i + 1)) = omega (arith, l) in
       a.is
-      ∙ (ap (λ k. passes (listing old) k (state now)) n
-      ∙ ap (λ m. next (pass m (state now)) again) (sym (goes-listing old now a.goes given)))
+      ∙ (ap (λ k. passes_by (try_of (reads old)) k (state now)) n
+      ∙ ap (λ m. next (pass_by (try_of m) (state now)) again) (sym (goes-reads old now a.goes kept)))
 
-  pub one-more-pass : (new : Evaluator) → GoesOn now new → pass (listing now) (state now) ≡ Some (state new) → gave_a_value (state now).variables (state new).variables ≡ true → PassesSoFar old new most (i + 1)
+  pub one-more-pass : (new : Evaluator) → GoesOn now new → pass_by (try_of (reads now)) (state now) ≡ Some (state new) → gave_a_value (state now).variables (state new).variables ≡ true → PassesSoFar old new most (i + 1)
   one-more-pass new g p c = record {
     goes = goes-trans old now new a.goes g;
     is =
         this-pass
         ∙ (ap (λ o. next o again) p
-        ∙ ap (λ b. if b then passes (listing old) (most - (i + 1)) (state new) else Some (state new)) c);
+        ∙ ap (λ b. if b then passes_by (try_of (reads old)) (most - (i + 1)) (state new) else Some (state new)) c);
   }
 
-  pub last-pass : (T : State) → pass (listing now) (state now) ≡ Some T → gave_a_value (state now).variables T.variables ≡ false → passes (listing old) most (state old) ≡ Some T
+  pub last-pass : (T : State) → pass_by (try_of (reads now)) (state now) ≡ Some T → gave_a_value (state now).variables T.variables ≡ false → passes_by (try_of (reads old)) most (state old) ≡ Some T
   last-pass T p c =
       this-pass
       ∙ (ap (λ o. next o again) p
-      ∙ ap (λ b. if b then passes (listing old) (most - (i + 1)) T else Some T) c)
+      ∙ ap (λ b. if b then passes_by (try_of (reads old)) (most - (i + 1)) T else Some T) c)
 
-  pub passes-refused : pass (listing now) (state now) ≡ None → passes (listing old) most (state old) ≡ None
+  pub passes-refused : pass_by (try_of (reads now)) (state now) ≡ None → passes_by (try_of (reads old)) most (state old) ≡ None
   passes-refused p = this-pass ∙ ap (λ o. next o again) p
 
 pub no-passes : (old : Evaluator) (most : ℕ) → GoesOn old old → PassesSoFar old old most 0
-no-passes old most g = record { goes = g; is = (let n : most ≡ most - 0 = omega arith in ap (λ k. passes (listing old) k (state old)) n) }
+no-passes old most g = record { goes = g; is = (let n : most ≡ most - 0 = omega arith in ap (λ k. passes_by (try_of (reads old)) k (state old)) n) }
 
-pub all-passes : (old now : Evaluator) (most i : ℕ) → PassesSoFar old now most i → most ≤ i → passes (listing old) most (state old) ≡ Some (state now)
-all-passes old now most i a l = let n : most - i ≡ 0 = omega (arith, l) in a.is ∙ ap (λ k. passes (listing old) k (state now)) n
+pub all-passes : (old now : Evaluator) (most i : ℕ) → PassesSoFar old now most i → most ≤ i → passes_by (try_of (reads old)) most (state old) ≡ Some (state now)
+all-passes old now most i a l = let n : most - i ≡ 0 = omega (arith, l) in a.is ∙ ap (λ k. passes_by (try_of (reads old)) k (state now)) n
 
-pub settled-by : (l : Listing) (S T : State) → passes l 8 S ≡ Some T → settled l S ≡ Some (certainty_of T.pending, T)
-settled-by l S T e = ap (λ (o : Option State). next o (λ U. Some (with_certainty U))) e
+pub settled-by : (q : Reads) (S T : State) → passes_by (try_of q) 8 S ≡ Some T → settled_with q.table q.listing S ≡ Some (certainty_of T.pending, T)
+settled-by q S T e = ap (λ (o : Option State). next o (λ U. Some (with_certainty U))) e
 
-pub settled-refused : (l : Listing) (S : State) → passes l 8 S ≡ None → settled l S ≡ None
-settled-refused l S e = ap (λ (o : Option State). next o (λ U. Some (with_certainty U))) e
+pub settled-refused : (q : Reads) (S : State) → passes_by (try_of q) 8 S ≡ None → settled_with q.table q.listing S ≡ None
+settled-refused q S e = ap (λ (o : Option State). next o (λ U. Some (with_certainty U))) e
 
 -- Variables that got values.
 
@@ -383,9 +408,9 @@ pub none-after : (es fs : List Entry) (i : ℕ) → GaveSoFar es fs i → length
 none-after es fs i a l = sym (no-more (drop i es) (drop i fs) (inr (drop-beyond fs i l))) ∙ a.is
 
 -- A projection that is evaluated is its alias answered with its term.
-pub projection-evaluated : (l : Listing) (S : State) (t : Tree) (c : Context) (x : Tree) (p : ProjectionPredicate) → IsProjection c x p
-    → answered l S (kind_tree c.trees (projection_of p)) (ty_tree c.trees p.term) ≡ evaluated_as l S t (after_first x.children) x.head
-projection-evaluated l S t c x p r =
+pub projection-evaluated : (q : Reads) (S : State) (e : Env) (t : Tree) (c : Context) (x : Tree) (p : ProjectionPredicate) → IsProjection c x p
+    → answered q.listing S (kind_tree c.trees (projection_of p)) (ty_tree c.trees p.term) ≡ evaluated_as q S e t (after_first x.children) x.head
+projection-evaluated q S e t c x p r =
     sym
-    (ap (evaluated_as l S t (after_first x.children)) r.head
-    ∙ (ap (λ a. answered l S a (term_of (after_first x.children))) (alias-is c x p r) ∙ ap (answered l S (kind_tree c.trees (projection_of p))) (term-is c x p r)))
+    (ap (evaluated_as q S e t (after_first x.children)) r.head
+    ∙ (ap (λ a. answered q.listing S a (term_of (after_first x.children))) (alias-is c x p r) ∙ ap (answered q.listing S (kind_tree c.trees (projection_of p))) (term-is c x p r)))

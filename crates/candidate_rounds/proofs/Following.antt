@@ -1,5 +1,5 @@
 -- The laws of the judge, of an evaluator's calls; and the state of a new evaluator is sound.
-use Rattle.std.proofs.Common.{◌≡◌, ℕ, List, [], Option, Some, None, refl, sym, ◌∙◌, ap, slice_get}
+use Rattle.std.proofs.Common.{◌≡◌, ℕ, [], Some, None, refl, sym, ◌∙◌, ap, slice_get}
 use Rattle.candidate_ir.specs.Trees.{Forest, none}
 use Rattle.candidate_eval.specs.Alike.{info}
 use Rattle.candidate_eval.specs.declared.eval.certainty.Certainty.{Certainty}
@@ -7,16 +7,16 @@ use Rattle.candidate_eval.specs.Lawful.{Lawful}
 use Rattle.candidate_eval.specs.Soundness.{AreTreesOf, IsSound, Live, ValuesFit}
 use Rattle.candidate_eval.specs.States.{State, VariableInfo}
 use Rattle.rounds_judge.specs.Equating.{equated}
-use Rattle.rounds_judge.specs.Settling.{settled}
+use Rattle.rounds_judge.specs.TableSettling.{settled_with}
 use Rattle.rounds_judge.specs.WellListed.{well_listed}
-use Rattle.rounds_judge.proofs.WellListed.{keeps-the-laws}
+use Rattle.rounds_judge.proofs.TableLawful.{table_keeps_the_laws}
 use Rattle.candidate_rounds.specs.Following.{FollowsEquation, FollowsSettling}
 use Rattle.candidate_rounds.specs.Interface.{fixed, judge_of}
-use Rattle.candidate_rounds.specs.Known.{Evaluator, IsGiven, listing, state}
+use Rattle.candidate_rounds.specs.Known.{Evaluator, IsGiven, listing, reading, state}
 use Rattle.candidate_rounds.proofs.Interface.{equated-some}
 
 lawful : (r : Evaluator) → Lawful (judge_of (fixed r))
-lawful r = let f = fixed r in keeps-the-laws f.world f.local_crate f.listing f.opaques
+lawful r = let f = fixed r in table_keeps_the_laws f.world f.local_crate f.listing f.opaques f.table
 
 no-trees : (S : State) (L : Live) → AreTreesOf S L none
 no-trees S L = record { known = refl; is_closed = refl }
@@ -25,7 +25,7 @@ pub equation-follows : (r : Evaluator) (a b : Forest) (T : State) → IsGiven r.
 equation-follows r a b T given e = λ L s.
     ((lawful r).equations.equating_follows (state r) T L none a b [] s.sound s.fits (no-trees (state r) L) s.left s.right (equated-some r a b T given e)).follows
 
-pub settling-follows : (r : Evaluator) (c : Certainty) (T : State) → settled (well_listed (listing r)) (state r) ≡ Some (c, T) → FollowsSettling (state r) T
+pub settling-follows : (r : Evaluator) (c : Certainty) (T : State) → settled_with (reading r) (well_listed (listing r)) (state r) ≡ Some (c, T) → FollowsSettling (state r) T
 settling-follows r c T e = λ L sound fits goals. ((lawful r).granted.settling_follows (state r) T L c sound fits goals e).follows
 
 -- Without variables

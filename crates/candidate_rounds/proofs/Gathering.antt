@@ -10,7 +10,7 @@ use Rattle.candidate_ir.specs.declared.ir.kinds.GenericArg.{GenericArg}
 use Rattle.candidate_ir.specs.Context.{Context, Grows}
 use Rattle.candidate_ir.specs.Folds.{IsArg, arg_tree}
 use Rattle.candidate_ir.specs.Kinds.{arg_child, numbers}
-use Rattle.candidate_ir.specs.Nodes.{Extends, clause_child, kinds_at, trees_at}
+use Rattle.candidate_ir.specs.Nodes.{clause_child, kinds_at, trees_at}
 use Rattle.candidate_ir.specs.Trees.{Forest, tree, Tree, ClauseKind}
 use Rattle.candidate_ir.specs.Words.{ClauseListFits, IsArgs, IsClause, ListFits, args_forest, clause_tree, list_forest}
 use Rattle.candidate_ir.proofs.Folding.{begin}
@@ -28,9 +28,10 @@ use Rattle.candidate_eval.specs.Alike.{info}
 use Rattle.candidate_eval.specs.ResponseTrees.{response_of}
 use Rattle.candidate_rounds.specs.Gathered.{open_entry, root_at}
 use Rattle.candidate_rounds.specs.Inferences.{Inference, is_of_kind, kept_value, value_of}
+use Rattle.candidate_rounds.proofs.Tabled.{clauses-stay}
 use Rattle.candidate_rounds.specs.Known.{Each, IsKnown, info_of, state_of}
 use Rattle.rounds_judge.specs.Responding.{constraints, open_numbers, open_variable, renumbered, renumbered_tree, response, root_values, roots_from, with_numbers, with_numbers_of}
-use Rattle.candidate_rounds.proofs.Knowing.{clause-stays, is-clause-stays, state-stays}
+use Rattle.candidate_rounds.proofs.Knowing.{clause-stays, state-stays}
 use Rattle.candidate_rounds.proofs.Leafing.{below-args, push-fits, push-trees}
 use Rattle.candidate_rounds.proofs.Noting.{in_row, list-row}
 use Rattle.candidate_rounds.proofs.Resolving.{kept-tree}
@@ -71,7 +72,7 @@ pub record RootsSoFar (F : Type 0) (f : F → Tree → Tree) (old now : Context)
 pub no-roots : (F : Type 0) (f : F → Tree → Tree) (c : Context) (es : List Entry) → Grows c c → RootsSoFar F f c c es 0 []
 no-roots F f c es g = record { grows = g; fits = refl; left = λ m. refl }
 
-trees-stay : (b c : Context) (xs : List GenericArg) → Grows b c → ListFits b.trees xs → trees_at c.trees (numbers (map arg_child xs)) ≡ trees_at b.trees (numbers (map arg_child xs))
+pub trees-stay : (b c : Context) (xs : List GenericArg) → Grows b c → ListFits b.trees xs → trees_at c.trees (numbers (map arg_child xs)) ≡ trees_at b.trees (numbers (map arg_child xs))
 trees-stay b c xs g f = ap (λ us. trees_at us (numbers (map arg_child xs))) g.kept.is ∙ trees_at-append b.trees g.kept.added (numbers (map arg_child xs)) (below-args b.trees xs f)
 
 get-one : {A : Type 0} (xs : List A) (i : ℕ) → i < length xs → (x : A) × (slice_get xs i ≡ Some x) × (drop i xs ≡ x ∷ drop (suc i) xs)
@@ -155,16 +156,6 @@ pub record ClausesSoFar (F : Type 0) (f : F → Tree → Tree) (old now : Contex
 pub no-clauses : (F : Type 0) (f : F → Tree → Tree) (c : Context) (cs : List Clause) → Grows c c → ClausesSoFar F f c c cs 0 []
 no-clauses F f c cs g = record { grows = g; fits = refl; left = λ m. refl }
 
-clauses-stay : (ts us : List Tree) (xs : List Clause) → Extends ts us → ClauseListFits ts xs → (map (clause_tree us) xs ≡ map (clause_tree ts) xs) × ClauseListFits us xs
-clauses-stay ts us [] g f = (refl, refl)
-clauses-stay ts us (x ∷ xs) g f =
-    let i : IsClause ts x = cc in
-    let r : ClauseListFits ts xs = cc in
-    let n = clauses-stay ts us xs g r in (
-      ap (λ t. t ∷ map (clause_tree us) xs) (clause-stays ts us x g i) ∙ ap (λ zs. clause_tree ts x ∷ zs) n.0,
-      ap (λ k. k ∷ kinds_at us (numbers (map clause_child xs))) (is-clause-stays ts us x g i) ∙ ap (λ ks. ClauseKind ∷ ks) n.1,
-    )
-
 push-clause : (ts : List Tree) (xs : List Clause) (x : Clause) → ClauseListFits ts xs → IsClause ts x → ClauseListFits ts (xs ++ x ∷ [])
 push-clause ts [] x e k = ap (λ y. y ∷ []) k
 push-clause ts (y ∷ xs) x e k =
@@ -226,7 +217,7 @@ open-is ts m s n = at (slice_get s.variables n) ∙ ap open_variable (sym (slice
     at None = refl
     at (Some e) = refl
 
-opens-are : (ts : List Tree) (m : TypingMode) (s : Inference) (ns : List ℕ) → map (λ n. open_entry (slice_get s.variables n)) ns ≡ map (λ n. open_variable (info (state_of ts m s) n)) ns
+pub opens-are : (ts : List Tree) (m : TypingMode) (s : Inference) (ns : List ℕ) → map (λ n. open_entry (slice_get s.variables n)) ns ≡ map (λ n. open_variable (info (state_of ts m s) n)) ns
 opens-are ts m s [] = refl
 opens-are ts m s (n ∷ ns) = ap (λ v. v ∷ map (λ k. open_entry (slice_get s.variables k)) ns) (open-is ts m s n) ∙ ap (λ vs. open_variable (info (state_of ts m s) n) ∷ vs) (opens-are ts m s ns)
 

@@ -2,16 +2,14 @@
 use Rattle.std.proofs.Common.{◌≡◌, ℕ, Bool, true, false, not, List, [], ◌∷◌, if◌then◌else◌, refl, sym, ◌∙◌, ap, subst}
 use Rattle.std.specs.Prelude.{◌&&◌, ◌||◌, ◌↔◌, IsTrue}
 use Rattle.std.proofs.lemmas.Bool.{and_parts, not-true}
-use Rattle.candidate_ir.specs.declared.ir.heads.Head.{Head}
-use Rattle.candidate_ir.specs.declared.ir.heads.Head.TheVariants as H
 use Rattle.candidate_ir.specs.declared.ir.kinds.AliasTy.{AliasTy}
 use Rattle.candidate_ir.specs.declared.ir.kinds.TyKind.TheVariants as K
 use Rattle.candidate_ir.specs.Binders.{escapes}
 use Rattle.candidate_ir.specs.Nodes.{kind_at, tree_at}
 use Rattle.candidate_ir.specs.Owned.{is_unsolved}
 use Rattle.candidate_ir.specs.Substitutions.{alone}
-use Rattle.candidate_ir.specs.Trees.{ArgumentsKind, Forest, none, Tree, TypeKind, holds, is_alias, is_param, is_type, is_type_kind, kind_of, tree_holds}
-use Rattle.candidate_ir.specs.Words.{IsArgs, IsTy, args_forest, kind_tree, ty_tree}
+use Rattle.candidate_ir.specs.Trees.{ArgumentsKind, Forest, none, Tree, TypeKind, holds, is_alias, is_param, is_type, is_type_kind, tree_holds}
+use Rattle.candidate_ir.specs.Words.{IsArgs, args_forest, kind_tree}
 use Rattle.candidate_ir.proofs.Lists.{below_kind, kind_of-tree_at}
 use Rattle.candidate_ir.proofs.Rows.{join-none, row-list}
 use Rattle.std.proofs.lemmas.List.Elements.{All-head}

@@ -21,7 +21,10 @@ use Rattle.candidate_eval.specs.declared.eval.variable.VariableKind.{VariableKin
 use Rattle.candidate_eval.specs.States.{variable_kind}
 use Rattle.candidate_rounds.specs.declared.rounds.inference.Change.{Change}
 use Rattle.candidate_rounds.specs.Inferences.{Inference, IsFurther, with_variable, with_variables, assign, lower, enter, record_region, add, add_all, widen, begin_pending, back_to}
-use Rattle.candidate_rounds.specs.Known.{Evaluator, GoesOn, KeepsGiven, IsKnown, IsGiven, IsEvaluator, AreTypes, AreMarks, state, state_of, states_at, probes, listing, listing_of}
+use Rattle.candidate_rounds.specs.Goals.{IsTabled, table_seen}
+use Rattle.rounds_judge.specs.GoalTable.{well_entered}
+use Rattle.candidate_rounds.proofs.Tabled.{tabled-sees}
+use Rattle.candidate_rounds.specs.Known.{Evaluator, GoesOn, KeepsGiven, IsKnown, IsGiven, IsEvaluator, AreTypes, AreMarks, state, state_of, states_at, probes, listing, listing_of, reads, table_of}
 use Rattle.candidate_rounds.proofs.Between.{parts}
 use Rattle.candidate_rounds.proofs.Undoing.{undo-variable, undo-assign, undo-lower, undo-enter, undo-region, undo-goal, undo-pending, undo-widen, back-to-now}
 use Rattle.candidate_rounds.proofs.Knowing.{probes-stay, probes-grow, state-stays, each-map}
@@ -34,7 +37,7 @@ further-refl s = (omega arith, λ n l. refl)
 pub further-trans : (s t u : Inference) → IsFurther s t → IsFurther t u → IsFurther s u
 further-trans s t u f g = (omega (arith, f.0, g.0), λ n l. g.1 n (omega (arith, l, f.0)) ∙ f.1 n l)
 
-one-longer : (s : Inference) (c : Change) → length s.trail ≤ length (s.trail ++ c ∷ [])
+pub one-longer : (s : Inference) (c : Change) → length s.trail ≤ length (s.trail ++ c ∷ [])
 one-longer s c = let n = length-append s.trail (c ∷ []) in omega (arith, n)
 
 pub further-variable : (s : Inference) (k : VariableKind) (r : Bool) → IsFurther s (with_variable s k r)
@@ -83,12 +86,12 @@ back-to-before s t f = f.1 (length s.trail) (omega arith) ∙ back-to-now s
 -- The evaluator goes on.
 
 pub goes-refl : (r : Evaluator) → GoesOn r r
-goes-refl r = (grows-refl r.context, (refl, refl), refl, refl, further-refl r.inference)
+goes-refl r = (grows-refl r.context, (refl, refl, refl), refl, refl, further-refl r.inference)
 
 pub goes-trans : (r s t : Evaluator) → GoesOn r s → GoesOn s t → GoesOn r t
 goes-trans r s t g h = (
   grows-trans r.context s.context t.context g.0 h.0,
-  (h.1.0 ∙ g.1.0, h.1.1 ∙ g.1.1),
+  (h.1.0 ∙ g.1.0, h.1.1 ∙ g.1.1, h.1.2 ∙ g.1.2),
   h.2 ∙ g.2,
   h.3 ∙ g.3,
   further-trans r.inference s.inference t.inference g.4 h.4,
@@ -96,15 +99,15 @@ goes-trans r s t g h = (
 
 -- where the context alone is another
 pub goes-context : (r : Evaluator) (x : Context) → Grows r.context x → GoesOn r (record r { context = x })
-goes-context r x g = (g, (refl, refl), refl, refl, further-refl r.inference)
+goes-context r x g = (g, (refl, refl, refl), refl, refl, further-refl r.inference)
 
 -- where what is known alone is more
 pub goes-further : (r : Evaluator) (t : Inference) → IsFurther r.inference t → GoesOn r (record r { inference = t })
-goes-further r t f = (grows-refl r.context, (refl, refl), refl, refl, f)
+goes-further r t f = (grows-refl r.context, (refl, refl, refl), refl, refl, f)
 
 -- where both are
 pub goes-both : (r : Evaluator) (x : Context) (t : Inference) → Grows r.context x → IsFurther r.inference t → GoesOn r (record r { context = x; inference = t })
-goes-both r x t g f = (g, (refl, refl), refl, refl, f)
+goes-both r x t g f = (g, (refl, refl, refl), refl, refl, f)
 
 -- What it was can be come back to.
 pub goes-back : (r s : Evaluator) → GoesOn r s → back_to (length r.inference.trail) s.inference ≡ r.inference
@@ -117,7 +120,7 @@ goes-undone r s t g x k m n e =
     let same : t.inference ≡ r.inference = e ∙ goes-back r s g in (
       (
         grows-trans r.context s.context t.context g.0 x,
-        (k.0 ∙ g.1.0, k.1 ∙ g.1.1),
+        (k.0 ∙ g.1.0, k.1 ∙ g.1.1, k.2 ∙ g.1.2),
         m ∙ g.2,
         n ∙ g.3,
         subst (IsFurther r.inference) (sym same) (further-refl r.inference),
@@ -159,9 +162,20 @@ goes-listing r s g k =
         let b = (ty-kept r.context s.context p.1 g.0 i.1).1 in
         λ j. (a j, b j)
 
+-- What is read is what it was.
+
+pub goes-table : (r s : Evaluator) → GoesOn r s → IsTabled r.context.trees r.goals → table_of s ≡ table_of r
+goes-table r s g h = ap (table_seen s.context.trees) g.1.2 ∙ tabled-sees r.context.trees s.context.trees g.0.kept r.goals h
+
+pub goes-reads : (r s : Evaluator) → GoesOn r s → IsEvaluator r.context.trees r.inference r.marks r.normal r.opaques r.goals → reads s ≡ reads r
+goes-reads r s g h =
+    let l = goes-listing r s g (parts h).given in
+    let t = goes-table r s g (parts h).tabled in
+    λ i. record { listing = l i; table = well_entered (t i) }
+
 -- The same, of one of which all is known that always holds.
 
-pub goes-all : (r s : Evaluator) → GoesOn r s → IsEvaluator r.context.trees r.inference r.marks r.normal r.opaques
+pub goes-all : (r s : Evaluator) → GoesOn r s → IsEvaluator r.context.trees r.inference r.marks r.normal r.opaques r.goals
     → (state_of s.context.trees r.mode r.inference ≡ state r) × (probes s ≡ probes r) × (listing s ≡ listing r)
 goes-all r s g h = (
   goes-before r s g (parts h).consistent.known,

@@ -1,6 +1,6 @@
 -- What is known of opaque types that may be hidden behind a variable.
-use Rattle.std.proofs.Common.{◌≡◌, ℕ, Bool, true, false, List, [], ◌∷◌, map, refl, sym, ◌∙◌, ap}
-use Rattle.std.specs.Prelude.{All, ◌||◌}
+use Rattle.std.proofs.Common.{◌≡◌, ℕ, true, List, [], ◌∷◌, refl, sym, ◌∙◌}
+use Rattle.std.specs.Prelude.{All}
 use Rattle.std.proofs.lemmas.List.Elements.{All-cons, All-nil}
 use Rattle.candidate_ir.specs.declared.ir.heads.Head.TheVariants as H
 use Rattle.candidate_ir.specs.declared.ir.kinds.AliasId.{AliasId}
@@ -10,11 +10,9 @@ use Rattle.candidate_ir.specs.declared.ir.kinds.AliasTy.{AliasTy}
 use Rattle.candidate_ir.specs.declared.ir.kinds.TyKind.TheVariants as K
 use Rattle.candidate_ir.specs.Context.{Context}
 use Rattle.candidate_ir.specs.Nodes.{kind_at}
-use Rattle.candidate_ir.specs.Owned.{is_unsolved}
 use Rattle.candidate_ir.specs.References.{IsWellFormed}
-use Rattle.candidate_ir.specs.Substitutions.{alone}
-use Rattle.candidate_ir.specs.Trees.{ArgumentsKind, Tree, holds, is_param}
-use Rattle.candidate_ir.specs.Words.{IsArgs, KindFits, args_forest, kind_tree}
+use Rattle.candidate_ir.specs.Trees.{ArgumentsKind}
+use Rattle.candidate_ir.specs.Words.{KindFits, args_forest, kind_tree}
 use Rattle.candidate_ir.proofs.Declared.{alias_fits}
 use Rattle.candidate_eval.specs.Evaluators.{IsHiddenOpaque, alias_trees}
 use Rattle.candidate_eval.proofs.Cells.{kind_takes}

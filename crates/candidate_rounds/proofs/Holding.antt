@@ -21,7 +21,7 @@ use Rattle.candidate_rounds.proofs.Undoing.{IsUndone, undo-variable, undo-enter,
 use Rattle.candidate_rounds.proofs.Knowing.{state-stays, each-append, each-at-append, each-at-imply, each-imply}
 use Rattle.candidate_rounds.proofs.Probing.{holds-after}
 
-one-more : {A : Type 0} (xs : List A) (x : A) → length (xs ++ x ∷ []) ≡ suc (length xs)
+pub one-more : {A : Type 0} (xs : List A) (x : A) → length (xs ++ x ∷ []) ≡ suc (length xs)
 one-more xs x = length-append xs (x ∷ []) ∙ omega arith
 
 -- It is tidy now.

@@ -83,7 +83,7 @@ each-get P (y ∷ ys) (suc n) x e g = each-get P ys n x e.1 g
 
 -- Numbers have their trees still.
 
-kind-stays : (ts us : List Tree) (n : ℕ) (k : Kind) → Extends ts us → there k ≡ true → kind_at ts n ≡ k → kind_at us n ≡ k
+pub kind-stays : (ts us : List Tree) (n : ℕ) (k : Kind) → Extends ts us → there k ≡ true → kind_at ts n ≡ k → kind_at us n ≡ k
 kind-stays ts us n k x t i = ap (λ ys. kind_at ys n) x.is ∙ (kind_at-append ts x.added n (below_kind ts n k t i) ∙ i)
 
 pub tree-stays : (ts us : List Tree) (n : ℕ) (k : Kind) → Extends ts us → there k ≡ true → kind_at ts n ≡ k → tree_at us n ≡ tree_at ts n
@@ -121,7 +121,7 @@ clause-stays ts us c x i = tree-stays ts us c.0 _ x refl i
 pub is-clause-stays : (ts us : List Tree) (c : Clause) → Extends ts us → IsClause ts c → IsClause us c
 is-clause-stays ts us c x i = kind-stays ts us c.0 _ x refl i
 
-is-goal-stays : (ts us : List Tree) (g : Goal Clause) → Extends ts us → IsGoal ts g → IsGoal us g
+pub is-goal-stays : (ts us : List Tree) (g : Goal Clause) → Extends ts us → IsGoal ts g → IsGoal us g
 is-goal-stays ts us g x i = (kind-stays ts us g.param_env.0 _ x refl i.0, is-clause-stays ts us g.predicate x i.1)
 
 pending-stays : (ts us : List Tree) (g : GoalSource × Goal Clause) → Extends ts us → IsGoal ts g.1 → pending_of us g.0 g.1 ≡ pending_of ts g.0 g.1

@@ -22,7 +22,7 @@ use Rattle.candidate_rounds.proofs.Undoing.{drop-one, drop-beyond}
 
 -- A list's members stand in a row.
 
-arg-row : (ts : List Tree) (x : GenericArg) (r : Forest) → IsArg ts x → row (arg_tree ts x) r ≡ begin (arg_tree ts x) r
+pub arg-row : (ts : List Tree) (x : GenericArg) (r : Forest) → IsArg ts x → row (arg_tree ts x) r ≡ begin (arg_tree ts x) r
 arg-row ts x r i = ap (λ b. put b (arg_tree ts x) r) (ap is_list_kind (kind-of ts (arg_number x) (arg_kind x) (there-arg x) i) ∙ no-list x)
   where
     no-list : (y : GenericArg) → is_list_kind (arg_kind y) ≡ false
@@ -115,7 +115,7 @@ number-from ns (Some n) e = at (is_seen ns n) e
     at true e = e
     at false e = absurd (pushed-some ns n e)
 
-numbers-from : (ns : List ℕ) (ts : Forest) → with_numbers ns ts ≡ [] → ns ≡ []
+pub numbers-from : (ns : List ℕ) (ts : Forest) → with_numbers ns ts ≡ [] → ns ≡ []
 numbers-from ns none e = e
 numbers-from ns (tree h below rest) e = number-from ns (variable_number h) (numbers-from (with_number ns (variable_number h)) below (numbers-from (with_numbers (with_number ns (variable_number h)) below) rest e))
 

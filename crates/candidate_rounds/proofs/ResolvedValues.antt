@@ -1,5 +1,5 @@
 -- Values hold no variable that has a value: this stays so.
-use Rattle.std.proofs.Common.{◌≡◌, ℕ, zero, suc, ◌≤◌, Bool, true, false, not, List, [], ◌∷◌, ◌++◌, length, slice_get, Option, None, Result, Ok, Err, IfOk, IfErr, OnOk, if◌then◌else◌, refl, sym, ◌∙◌, ap, subst, arith}
+use Rattle.std.proofs.Common.{◌≡◌, ℕ, zero, suc, ◌≤◌, Bool, true, false, not, List, [], ◌∷◌, ◌++◌, length, slice_get, Option, Some, None, Result, Ok, Err, IfOk, IfErr, OnOk, if◌then◌else◌, refl, sym, ◌∙◌, ap, subst, arith}
 use Rattle.std.proofs.lemmas.Bool.{and_parts, not-true}
 use Rattle.std.proofs.lemmas.List.{map-append}
 use Rattle.candidate_ir.specs.declared.ir.heads.Head.{Head}
@@ -26,10 +26,12 @@ use Rattle.candidate_eval.specs.Soundness.{IsResolved, has_value}
 use Rattle.candidate_rounds.specs.declared.rounds.inference.Entry.{Entry}
 use Rattle.rounds_judge.specs.Binding.{bound, may_take, occurs}
 use Rattle.candidate_rounds.specs.Inferences.{Inference, IsFurther, add, add_all, back_to, begin_pending, enter, record_region, universe_for, with_variable, with_variables}
-use Rattle.candidate_rounds.specs.Known.{AreMarks, Each, HasResolvedValues, IsConsistent, IsEvaluator, IsKnown, StaysResolved, info_of, state_of}
+use Rattle.candidate_rounds.specs.Known.{AreMarks, Each, HasResolvedValues, IsConsistent, IsEvaluator, IsGiven, IsKnown, IsTidy, StaysResolved, info_of, state_of}
 use Rattle.rounds_judge.specs.Standing.{AreResolved}
 use Rattle.rounds_judge.proofs.Ending.{CanGet, resolved_then}
 use Rattle.candidate_rounds.proofs.Between.{of-parts, parts}
+use Rattle.candidate_rounds.specs.Goals.{Goals}
+use Rattle.candidate_rounds.proofs.Tabled.{none_tabled, tabled-grown}
 use Rattle.candidate_rounds.proofs.Knowing.{each-imply, given-grown, known-back, state-stays}
 use Rattle.rounds_judge.proofs.Marks.{holds_to}
 use Rattle.candidate_rounds.proofs.Probing.{back-back, holds-grown}
@@ -48,11 +50,12 @@ resolved-grown ts us s ks e k r = record {
       (λ n h. resolved-with ts us (back_to n s) e (known-back ts s n k) h) r.at_marks;
 }
 
-pub evaluator-grown : (ts us : List Tree) (s : Inference) (ks : List ℕ) (ns : List (Ty × Ty)) (os : List AliasTy) → Extends ts us → IsEvaluator ts s ks ns os → IsEvaluator us s ks ns os
-evaluator-grown ts us s ks ns os e h = of-parts (record {
+pub evaluator-grown : (ts us : List Tree) (s : Inference) (ks : List ℕ) (ns : List (Ty × Ty)) (os : List AliasTy) (gs : Goals) → Extends ts us → IsEvaluator ts s ks ns os gs → IsEvaluator us s ks ns os gs
+evaluator-grown ts us s ks ns os gs e h = of-parts (record {
   consistent = holds-grown ts us s ks e (parts h).consistent;
   resolved = resolved-grown ts us s ks e (parts h).consistent.known (parts h).resolved;
   given = given-grown ts us ns os e (parts h).given;
+  tabled = tabled-grown ts us e gs (parts h).tabled;
 })
 
 -- What is known is more.
@@ -66,15 +69,15 @@ resolved-further ts s t ks m f h r = record { now = h; at_marks = go (length s.t
         let below : k ≤ length s.trail = omega (arith, l, a.0) in
         (subst (HasResolvedValues ts) (sym (f.1 k below)) e.0, go k ks below a.1 e.1)
 
-pub evaluator-further : (ts : List Tree) (s t : Inference) (ks : List ℕ) (ns : List (Ty × Ty)) (os : List AliasTy) → IsEvaluator ts s ks ns os → IsFurther s t → IsConsistent ts t ks → HasResolvedValues ts t
-    → IsEvaluator ts t ks ns os
-evaluator-further ts s t ks ns os h f c r = of-parts (record { consistent = c; resolved = resolved-further ts s t ks (parts h).consistent.marks f r (parts h).resolved; given = (parts h).given })
+pub evaluator-further : (ts : List Tree) (s t : Inference) (ks : List ℕ) (ns : List (Ty × Ty)) (os : List AliasTy) (gs : Goals) → IsEvaluator ts s ks ns os gs → IsFurther s t → IsConsistent ts t ks → HasResolvedValues ts t
+    → IsEvaluator ts t ks ns os gs
+evaluator-further ts s t ks ns os gs h f c r = of-parts (record { consistent = c; resolved = resolved-further ts s t ks (parts h).consistent.marks f r (parts h).resolved; given = (parts h).given; tabled = (parts h).tabled })
 
 -- A call that made one change or none.
-pub evaluator-changed : {A : Type 0} (ts : List Tree) (s t u : Inference) (ks : List ℕ) (ns : List (Ty × Ty)) (os : List AliasTy) (r : Result A Stop) → IsEvaluator ts s ks ns os → IsFurther s u → IsConsistent ts u ks
-    → HasResolvedValues ts u → IfOk r (λ _. t ≡ u) → IfErr r (λ _. t ≡ s) → IsEvaluator ts t ks ns os
-evaluator-changed ts s t u ks ns os (Ok a) h f c v p q = subst (λ x. IsEvaluator ts x ks ns os) (sym p) (evaluator-further ts s u ks ns os h f c v)
-evaluator-changed ts s t u ks ns os (Err e) h f c v p q = subst (λ x. IsEvaluator ts x ks ns os) (sym q) h
+pub evaluator-changed : {A : Type 0} (ts : List Tree) (s t u : Inference) (ks : List ℕ) (ns : List (Ty × Ty)) (os : List AliasTy) (gs : Goals) (r : Result A Stop) → IsEvaluator ts s ks ns os gs → IsFurther s u → IsConsistent ts u ks
+    → HasResolvedValues ts u → IfOk r (λ _. t ≡ u) → IfErr r (λ _. t ≡ s) → IsEvaluator ts t ks ns os gs
+evaluator-changed ts s t u ks ns os gs (Ok a) h f c v p q = subst (λ x. IsEvaluator ts x ks ns os gs) (sym p) (evaluator-further ts s u ks ns os gs h f c v)
+evaluator-changed ts s t u ks ns os gs (Err e) h f c v p q = subst (λ x. IsEvaluator ts x ks ns os gs) (sym q) h
 
 -- A variable without a value gives none.
 
@@ -91,7 +94,7 @@ same-value k [] i (suc n) e = refl
 same-value k (j ∷ is) i zero e = refl
 same-value k (j ∷ is) i (suc n) e = same-value k is i n e
 
-abbrev with_another : State → VariableInfo → State
+abbrev pub with_another : State → VariableInfo → State
 with_another S i = record S { variables = S.variables ++ i ∷ [] }
 
 same-at : (S : State) (i : VariableInfo) → i.value ≡ None → (h : Head) → value_at (with_another S i) h ≡ value_at S h
@@ -99,7 +102,7 @@ same-at S i e (H.Infer v) = same-value (Term v.sort) S.variables i v.number e
 same-at S i e (H.Region (R.Var n)) = same-value Region S.variables i n e
 same-at S i e _ = refl
 
-another-resolved : (S : State) (i : VariableInfo) → i.value ≡ None → AreResolved S → AreResolved (with_another S i)
+pub another-resolved : (S : State) (i : VariableInfo) → i.value ≡ None → AreResolved S → AreResolved (with_another S i)
 another-resolved S i e r h t f =
     let was : IsResolved S (alone t) = r h t (sym (same-at S i e h) ∙ f) in
     holds_to (has_value S) (has_value S) (has_value (with_another S i)) (λ g a b. ap is_some (same-at S i e g) ∙ a) (alone t) was was
@@ -159,3 +162,35 @@ resolved-back ts s n ks m h e = record { now = h; at_marks = go n ks (omega arit
     go i (k ∷ ks) l a e =
         let below : k ≤ n = omega (arith, l, a.0) in
         (subst (HasResolvedValues ts) (sym (back-back k n s below)) e.0, go k ks below a.1 e.1)
+
+-- Nothing is known at the beginning.
+
+abbrev pub nothing_known : Inference
+nothing_known = record { newest_universe = 0; variables = []; regions = []; goals = []; first_pending = 0; first_open = 4294967295; end_open = 0; trail = [] }
+
+no-change : (n : ℕ) → back_to n nothing_known ≡ nothing_known
+no-change zero = refl
+no-change (suc n) = refl
+
+nothing-tidy : (ts : List Tree) → IsTidy ts nothing_known
+nothing-tidy ts = record { pending = omega arith; kinds = tt; room = tt; universes = tt }
+
+nothing-resolved : (ts : List Tree) → HasResolvedValues ts nothing_known
+nothing-resolved ts m h t e = absurd (at h e)
+  where
+    at : (h : Head) → value_at (state_of ts m nothing_known) h ≡ Some t → ⊥
+    at (H.Infer v) e = absurd (let clash : None ≡ Some t = e in cc)
+    at (H.Region (R.Var n)) e = absurd (let clash : None ≡ Some t = e in cc)
+    at _ e = absurd (let clash : None ≡ Some t = e in cc)
+
+pub evaluator-begins : (ts : List Tree) (ns : List (Ty × Ty)) (os : List AliasTy) → IsGiven ts ns os → IsEvaluator ts nothing_known [] ns os (record { table = []; asked = [] })
+evaluator-begins ts ns os g = of-parts (record {
+  consistent = record {
+    known = record { values = tt; regions = tt; goals = tt; changes = tt };
+    marks = tt;
+    tidy = λ n. subst (IsTidy ts) (sym (no-change n)) (nothing-tidy ts);
+  };
+  resolved = record { now = nothing-resolved ts; at_marks = tt };
+  given = g;
+  tabled = none_tabled ts;
+})

@@ -1,6 +1,6 @@
 -- Why responses aren't made.
 use Rattle.std.proofs.Common.{◌≡◌, inl, inr, ℕ, zero, suc, ◌≤◌, ◌<◌, ◌+◌, Bool, true, false, List, [], ◌∷◌, length, map, slice_index_or, Option, Some, None, Result, Ok, Err, if◌then◌else◌, refl, sym, ◌∙◌, ap, subst, arith}
-use Rattle.std.specs.Prelude.{◌==◌, IfErr, IsErrAnd}
+use Rattle.std.specs.Prelude.{◌==◌, ◌&&◌, IfErr, IsErrAnd}
 use Rattle.std.specs.List.{Contains}
 use Rattle.candidate_ir.specs.declared.ir.heads.Head.{Head}
 use Rattle.candidate_ir.specs.declared.ir.kinds.Args.{Args}
@@ -23,6 +23,7 @@ use Rattle.candidate_rounds.specs.Gathered.{renumbered_at}
 use Rattle.candidate_rounds.specs.Inferences.{Inference, IsFullAt}
 use Rattle.candidate_rounds.specs.Known.{Each, IsKnown, info_of, state_of}
 use Rattle.candidate_rounds.specs.Stopping.{IsRenumberingStop, too_many_open, of_made, IsNewNumberStop, AreRenumberingStops, of_one, IsResponseStop, too_many_variables, of_roots, of_constraint, of_values, of_renumbered, IsTreeStop}
+use Rattle.rounds_judge.specs.TableSettling.{are_bare, is_bare}
 use Rattle.rounds_judge.specs.Responding.{constraints, open_numbers, place_of, renumbered, renumbered_tree, root_values, with_number, with_numbers, with_numbers_of}
 use Rattle.candidate_rounds.proofs.Anew.{variable-anew}
 use Rattle.candidate_rounds.proofs.Gathering.{each-index, state-later}
@@ -42,12 +43,13 @@ pub refused-growth : {A : Type 0} (P : Stop → Type 0) (r : Result A Stop) → 
 refused-growth P (Ok a) m p = tt
 refused-growth P (Err s) m p = subst P (sym m) p
 
--- What is noted of the children of a node, and that there are no fewer than were looked at.
+-- What is noted of the children of a node, that there are no fewer than were looked at, and that nothing stands below a variable of these.
 pub record NotesBelow (from : List ℕ) (below : Forest) (place : ℕ) (ns : List ℕ) : Type 0 where
   pub noted : with_numbers ns (skip place below) ≡ with_numbers from below
   pub fewer : place ≤ count below
+  pub bare : are_bare (skip place below) ≡ are_bare below
 
-one-more-child : (place : ℕ) (ts : Forest) (h : Head) (below rest : Forest) → skip place ts ≡ tree h below rest → place + 1 ≤ count ts
+pub one-more-child : (place : ℕ) (ts : Forest) (h : Head) (below rest : Forest) → skip place ts ≡ tree h below rest → place + 1 ≤ count ts
 one-more-child zero none h below rest e = absurd cc
 one-more-child zero (tree g b r) h below rest e = omega arith
 one-more-child (suc n) none h below rest e = absurd cc
@@ -55,8 +57,9 @@ one-more-child (suc n) (tree g b r) h below rest e = let k = one-more-child n r 
 
 pub one-more-noted-below : (ts : List Tree) (from ns ms new : List ℕ) (below : Forest) (place child : ℕ) → NotesBelow from below place ns
     → skip place below ≡ tree (tree_at ts child).head (tree_at ts child).children (skip (suc place) below) → ms ≡ with_number ns (variable_number (tree_at ts child).head)
-    → new ≡ with_numbers ms (tree_at ts child).children → NotesBelow from below (place + 1) new
-one-more-noted-below ts from ns ms new below place child a e m n = record {
+    → new ≡ with_numbers ms (tree_at ts child).children → is_bare (tree_at ts child).head (tree_at ts child).children ≡ true → are_bare (tree_at ts child).children ≡ true
+    → NotesBelow from below (place + 1) new
+one-more-noted-below ts from ns ms new below place child a e m n one more = record {
   noted =
       (let next : place + 1 ≡ suc place = omega arith in
       let rest = skip (suc place) below in
@@ -64,10 +67,14 @@ one-more-noted-below ts from ns ms new below place child a e m n = record {
       ∙ (ap (λ xs. with_numbers xs rest) (n ∙ ap (λ xs. with_numbers xs (tree_at ts child).children) m)
       ∙ (ap (with_numbers ns) (sym e) ∙ a.noted)));
   fewer = one-more-child place below (tree_at ts child).head (tree_at ts child).children (skip (suc place) below) e;
+  bare =
+      (let next : place + 1 ≡ suc place = omega arith in
+      let rest = are_bare (skip (suc place) below) in
+      ap (λ k. are_bare (skip k below)) next ∙ (sym (ap are_bare e ∙ (ap (λ b. b && (are_bare (tree_at ts child).children && rest)) one ∙ ap (λ b. b && rest) more)) ∙ a.bare));
 }
 
 -- What is made of nothing isn't made for want of numbers alone.
-full-stop : (given : ℕ) (made : Forest) (s : Stop) → IsFullAt given s → IsSubstStop given made s
+pub full-stop : (given : ℕ) (made : Forest) (s : Stop) → IsFullAt given s → IsSubstStop given made s
 full-stop given made s (inl e) = subst (IsSubstStop given made) (sym e) no_memory
 full-stop given made s (inr (e, l)) = subst (IsSubstStop given made) (sym e) (few_numbers (omega (arith, l)))
 
@@ -115,7 +122,7 @@ said-of-number many given (Some t) s c = c
 
 -- One clause of several.
 
-contains-mapped : {A B : Type 0} (f : A → B) (xs : List A) (i : ℕ) (d : A) → i < length xs → Contains (map f xs) (f (slice_index_or xs i d))
+pub contains-mapped : {A B : Type 0} (f : A → B) (xs : List A) (i : ℕ) (d : A) → i < length xs → Contains (map f xs) (f (slice_index_or xs i d))
 contains-mapped {A = A} f xs i d l = (i, within xs i l, at xs i l)
   where
     within : (xs : List A) (i : ℕ) → i < length xs → i < length (map f xs)
@@ -148,7 +155,7 @@ constraint-stop m s a b c cs i d x k g l e q =
 
 -- The values of the roots.
 
-length-mapped : {A B : Type 0} (f : A → B) (xs : List A) → length (map f xs) ≡ length xs
+pub length-mapped : {A B : Type 0} (f : A → B) (xs : List A) → length (map f xs) ≡ length xs
 length-mapped f [] = refl
 length-mapped f (x ∷ xs) = ap suc (length-mapped f xs)
 

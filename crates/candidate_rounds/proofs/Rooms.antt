@@ -31,7 +31,7 @@ low (Placeholders u) i (K.Ty ∷ ks) = max-le (omega arith) (low (Placeholders u
 low (Placeholders u) i (K.Const ∷ ks) = max-le (omega arith) (low (Placeholders u) (suc i) ks)
 low (Placeholders u) i (K.Region ∷ ks) = max-le (omega arith) (low (Placeholders u) (suc i) ks)
 
-full : (n m h : ℕ) (s : Stop) → n ≡ m → h ≤ 1 → (s ≡ NodesFull) × ((m ≡ 4294967295) ⊎ (1024 < h)) → (s ≡ NodesFull) × (4294967295 ≤ n)
+pub full : (n m h : ℕ) (s : Stop) → n ≡ m → h ≤ 1 → (s ≡ NodesFull) × ((m ≡ 4294967295) ⊎ (1024 < h)) → (s ≡ NodesFull) × (4294967295 ≤ n)
 full n m h s e l (q, inl f) = (q, let g : n ≡ 4294967295 = e ∙ f in omega (arith, g))
 full n m h s e l (q, inr f) = absurd (omega (arith, l, f))
 

@@ -16,14 +16,16 @@ use Rattle.candidate_eval.specs.declared.eval.certainty.Certainty.{Certainty}
 use Rattle.candidate_eval.specs.declared.eval.refusal.NoSolutionOrStop.{NoSolutionOrStop}
 use Rattle.candidate_eval.specs.declared.eval.refusal.NoSolutionOrStop.TheVariants as refusal
 use Rattle.candidate_eval.specs.Evaluators.{IsGoal, pending_of, pendings_of}
-use Rattle.candidate_eval.specs.States.{Pending, State, resolved_tree}
-use Rattle.candidate_rounds.specs.Known.{Each, Evaluator, GoesOn, IsGiven, listing, state}
-use Rattle.candidate_rounds.specs.Stopping.{IsTreeStop, IsEquationStop, IsInstanceStop, of_instance, IsProjectionStop, of_equation, IsEvaluationStop, of_projection, IsGoalStop, goal_memory, of_evaluation, AreGoalsStop, this_goal, later_goal, IsPassStop, of_goals, ArePassesStop, this_pass, later_pass, IsResponseStop, IsAnsweringStop, of_response}
-use Rattle.candidate_rounds.specs.Trying.{IsProjection, left_of, projection_of}
+use Rattle.candidate_eval.specs.States.{Env, Pending, State, resolved_tree}
+use Rattle.candidate_rounds.specs.Goals.{Reads}
+use Rattle.candidate_rounds.specs.Known.{Each, Evaluator, GoesOn, IsEvaluator, reads, state}
+use Rattle.candidate_rounds.specs.Stopping.{Held, IsTreeStop, IsEquationStop, IsInstanceStop, of_instance, IsProjectionStop, of_equation, IsEvaluationStop, of_projection, IsGoalStop, goal_memory, of_evaluation, AreGoalsStop, this_goal, later_goal, IsPassStop, of_goals, ArePassesStop, this_pass, later_pass, IsResponseStop, IsAnsweringStop, of_response}
+use Rattle.candidate_rounds.specs.Trying.{IsProjection, left_of, projection_of, try_of}
 use Rattle.rounds_judge.specs.Listed.{Listing, listed}
-use Rattle.rounds_judge.specs.Settling.{alias_of, gave_a_value, instantiated, pass, settled, tried, with_facts}
+use Rattle.rounds_judge.specs.Settling.{alias_of, gave_a_value, instantiated, with_facts}
+use Rattle.rounds_judge.specs.TableSettling.{pass_by, settled_with}
 use Rattle.candidate_rounds.proofs.Evaluating.{PassesSoFar, Sourced, TriesSoFar, no-passes, no-tries, one-more-pass, one-more-try, pending-kept}
-use Rattle.candidate_rounds.proofs.Going.{goes-listing}
+use Rattle.candidate_rounds.proofs.Going.{goes-reads}
 use Rattle.candidate_rounds.proofs.Projecting.{alias-is, term-is}
 use Rattle.candidate_rounds.proofs.Undoing.{drop-one}
 
@@ -88,32 +90,33 @@ projection-same ts l m S T a b t u s i j e f c =
     (subst (λ x. IsProjectionStop ts l S x u s) e (subst (λ V. IsProjectionStop ts l V b u s) j (subst (λ k. IsProjectionStop ts k T b u s) i c)))
 
 -- what a projection says
-pub projection-evaluates : (ts : List Tree) (l : Listing) (S : State) (c : Context) (x : Tree) (p : ProjectionPredicate) (s : Stop) → IsProjection c x p
-    → IsProjectionStop ts l S (kind_tree c.trees (projection_of p)) (ty_tree c.trees p.term) s → IsEvaluationStop ts l S x.head (after_first x.children) s
-projection-evaluates ts l S c x p s r k =
+pub projection-evaluates : (h : Held) (q : Reads) (S : State) (e : Env) (c : Context) (x : Tree) (p : ProjectionPredicate) (s : Stop) → IsProjection c x p
+    → IsProjectionStop h.trees q.listing S (kind_tree c.trees (projection_of p)) (ty_tree c.trees p.term) s → IsEvaluationStop h q S e x s
+projection-evaluates h q S e c x p s r k =
     of_projection p.projection_term.def_id r.head
-    (subst (λ y. IsProjectionStop ts l S (alias_of p.projection_term.def_id (after_first x.children)) y s) (sym (term-is c x p r))
-    (subst (λ y. IsProjectionStop ts l S y (ty_tree c.trees p.term) s) (sym (alias-is c x p r)) k))
+    (subst (λ y. IsProjectionStop h.trees q.listing S (alias_of p.projection_term.def_id (after_first x.children)) y s) (sym (term-is c x p r))
+    (subst (λ y. IsProjectionStop h.trees q.listing S y (ty_tree c.trees p.term) s) (sym (alias-is c x p r)) k))
 
 -- the instance of a goal
-pub evaluation-stop : (ts : List Tree) (l m : Listing) (S T : State) (p : Pending) (x : Tree) (s : Stop) → m ≡ l → T ≡ (instantiated S p.goal.clause).0
-    → x ≡ with_facts p.goal.clause (instantiated S p.goal.clause).1 → IsEvaluationStop ts m T x.head (after_first x.children) s → IsGoalStop ts l S p s
-evaluation-stop ts l m S T p x s i j e c =
+pub evaluation-stop : (h : Held) (q r : Reads) (S T : State) (p : Pending) (env : Env) (x : Tree) (s : Stop) → r ≡ q → T ≡ (instantiated S p.goal.clause).0 → env ≡ p.goal.env
+    → x ≡ with_facts p.goal.clause (instantiated S p.goal.clause).1 → IsEvaluationStop h r T env x s → IsGoalStop h q S p s
+evaluation-stop h q r S T p env x s i j a e c =
     of_evaluation
-    (subst (λ (y : Tree). IsEvaluationStop ts l (instantiated S p.goal.clause).0 y.head (after_first y.children) s) e
-    (subst (λ V. IsEvaluationStop ts l V x.head (after_first x.children) s) j (subst (λ k. IsEvaluationStop ts k T x.head (after_first x.children) s) i c)))
+    (subst (λ (y : Tree). IsEvaluationStop h q (instantiated S p.goal.clause).0 p.goal.env y s) e
+    (subst (λ z. IsEvaluationStop h q (instantiated S p.goal.clause).0 z x s) a
+    (subst (λ V. IsEvaluationStop h q V env x s) j (subst (λ k. IsEvaluationStop h k T env x s) i c))))
 
 -- Goals, one after another: what stops those that are left stops all.
 
 pub record TriesOn (old now : Evaluator) (gs : List Sourced) (i : ℕ) (staying : List Sourced) : Type 0 where
   pub tries : TriesSoFar old now gs i staying
-  pub stops : (ts : List Tree) (s : Stop) → AreGoalsStop ts (listing old) s (state now) (pendings_of old.context.trees (drop i gs))
-      → AreGoalsStop ts (listing old) s (state old) (pendings_of old.context.trees gs)
+  pub stops : (h : Held) (s : Stop) → AreGoalsStop h (reads old) s (state now) (pendings_of old.context.trees (drop i gs))
+      → AreGoalsStop h (reads old) s (state old) (pendings_of old.context.trees gs)
 
 pub begin-tries : (old : Evaluator) (gs xs : List Sourced) → xs ≡ [] → GoesOn old old → TriesOn old old gs 0 xs
-begin-tries old gs xs e g = record { tries = no-tries old gs xs e g; stops = λ ts s c. c }
+begin-tries old gs xs e g = record { tries = no-tries old gs xs e g; stops = λ h s c. c }
 
-module _ (old now new : Evaluator) (gs : List Sourced) (i : ℕ) (d : Sourced) (staying : List Sourced) (given : IsGiven old.context.trees old.normal old.opaques) (fits : Each (λ g. IsGoal old.context.trees g.1) gs)
+module _ (old now new : Evaluator) (gs : List Sourced) (i : ℕ) (d : Sourced) (staying : List Sourced) (kept : IsEvaluator old.context.trees old.inference old.marks old.normal old.opaques old.goals) (fits : Each (λ g. IsGoal old.context.trees g.1) gs)
     (a : TriesOn old now gs i staying) (l : i < length gs) (fit : IsGoal old.context.trees (slice_index_or gs i d).1) where
   abbrev first : Pending
   first = pending_of old.context.trees (slice_index_or gs i d).0 (slice_index_or gs i d).1
@@ -127,35 +130,35 @@ module _ (old now new : Evaluator) (gs : List Sourced) (i : ℕ) (d : Sourced) (
   first-is : pending_of now.context.trees (slice_index_or gs i d).0 (slice_index_or gs i d).1 ≡ first
   first-is = pending-kept old.context now.context (slice_index_or gs i d).0 (slice_index_or gs i d).1 a.tries.goes.0 fit
 
-  stops-here : (ts : List Tree) (s : Stop) → AreGoalsStop ts (listing old) s (state now) (first ∷ others) → AreGoalsStop ts (listing old) s (state old) (pendings_of old.context.trees gs)
-  stops-here ts s c = a.stops ts s (subst (λ ps. AreGoalsStop ts (listing old) s (state now) ps) (sym left-are) c)
+  stops-here : (h : Held) (s : Stop) → AreGoalsStop h (reads old) s (state now) (first ∷ others) → AreGoalsStop h (reads old) s (state old) (pendings_of old.context.trees gs)
+  stops-here h s c = a.stops h s (subst (λ ps. AreGoalsStop h (reads old) s (state now) ps) (sym left-are) c)
 
-  pub goal-stops : (ts : List Tree) (s : Stop) → IsGoalStop ts (listing now) (state now) (pending_of now.context.trees (slice_index_or gs i d).0 (slice_index_or gs i d).1) s
-      → AreGoalsStop ts (listing old) s (state old) (pendings_of old.context.trees gs)
-  goal-stops ts s c =
+  pub goal-stops : (h : Held) (s : Stop) → IsGoalStop h (reads now) (state now) (pending_of now.context.trees (slice_index_or gs i d).0 (slice_index_or gs i d).1) s
+      → AreGoalsStop h (reads old) s (state old) (pendings_of old.context.trees gs)
+  goal-stops h s c =
       let p = pending_of now.context.trees (slice_index_or gs i d).0 (slice_index_or gs i d).1 in
-      stops-here ts s
-      (this_goal (subst (λ q. IsGoalStop ts (listing old) (state now) q s) first-is (subst (λ m. IsGoalStop ts m (state now) p s) (goes-listing old now a.tries.goes given) c)))
+      stops-here h s
+      (this_goal (subst (λ q. IsGoalStop h (reads old) (state now) q s) first-is (subst (λ m. IsGoalStop h m (state now) p s) (goes-reads old now a.tries.goes kept) c)))
 
   pub one-more-goal : (o : Option Sourced) (made : List Sourced) → GoesOn now new → IfSome o (λ g. IsGoal new.context.trees g.1)
-      → tried (listing now) (state now) (pending_of now.context.trees (slice_index_or gs i d).0 (slice_index_or gs i d).1) ≡ Some (left_of new.context.trees o, state new)
+      → try_of (reads now) (state now) (pending_of now.context.trees (slice_index_or gs i d).0 (slice_index_or gs i d).1) ≡ Some (left_of new.context.trees o, state new)
       → made ≡ staying ++ option_to_list o → TriesOn old new gs (i + 1) made
   one-more-goal o made g s t m = record {
-    tries = one-more-try old now new gs i d staying given fits a.tries l fit o made g s t m;
-    stops = λ ts x c.
+    tries = one-more-try old now new gs i d staying kept fits a.tries l fit o made g s t m;
+    stops = λ h x c.
         let next-one : i + 1 ≡ suc i = omega arith in
-        let t' : tried (listing old) (state now) first ≡ Some (left_of new.context.trees o, state new)
-        = ap (tried (listing old) (state now)) (sym first-is)
-        ∙ (ap (λ k. tried k (state now) (pending_of now.context.trees (slice_index_or gs i d).0 (slice_index_or gs i d).1)) (sym (goes-listing old now a.tries.goes given)) ∙ t) in
-        stops-here ts x (later_goal t' (subst (λ n. AreGoalsStop ts (listing old) x (state new) (pendings_of old.context.trees (drop n gs))) next-one c));
+        let t' : try_of (reads old) (state now) first ≡ Some (left_of new.context.trees o, state new)
+        = ap (try_of (reads old) (state now)) (sym first-is)
+        ∙ (ap (λ k. try_of k (state now) (pending_of now.context.trees (slice_index_or gs i d).0 (slice_index_or gs i d).1)) (sym (goes-reads old now a.tries.goes kept)) ∙ t) in
+        stops-here h x (later_goal t' (subst (λ n. AreGoalsStop h (reads old) x (state new) (pendings_of old.context.trees (drop n gs))) next-one c));
   }
 
 -- where a growth was refused while a goal was evaluated
-pub growth-stops : (old now : Evaluator) (gs : List Sourced) (i : ℕ) (staying : List Sourced) → TriesOn old now gs i staying → i < length gs → (ts : List Tree)
-    → AreGoalsStop ts (listing old) Memory (state old) (pendings_of old.context.trees gs)
-growth-stops old now gs i staying a l ts = let n = length-drop i gs in a.stops ts Memory (at (drop i gs) (omega (arith, n, l)))
+pub growth-stops : (old now : Evaluator) (gs : List Sourced) (i : ℕ) (staying : List Sourced) → TriesOn old now gs i staying → i < length gs → (h : Held)
+    → AreGoalsStop h (reads old) Memory (state old) (pendings_of old.context.trees gs)
+growth-stops old now gs i staying a l h = let n = length-drop i gs in a.stops h Memory (at (drop i gs) (omega (arith, n, l)))
   where
-    at : (xs : List Sourced) → 0 < length xs → AreGoalsStop ts (listing old) Memory (state now) (pendings_of old.context.trees xs)
+    at : (xs : List Sourced) → 0 < length xs → AreGoalsStop h (reads old) Memory (state now) (pendings_of old.context.trees xs)
     at [] k = absurd (omega (arith, k))
     at (x ∷ xs) k = this_goal goal_memory
 
@@ -163,34 +166,34 @@ growth-stops old now gs i staying a l ts = let n = length-drop i gs in a.stops t
 
 pub record PassesOn (old now : Evaluator) (most i : ℕ) : Type 0 where
   pub passes : PassesSoFar old now most i
-  pub stops : (ts : List Tree) (s : Stop) → ArePassesStop ts (listing old) s (most - i) (state now) → ArePassesStop ts (listing old) s most (state old)
+  pub stops : (h : Held) (s : Stop) → ArePassesStop h (reads old) s (most - i) (state now) → ArePassesStop h (reads old) s most (state old)
 
 pub begin-passes : (old : Evaluator) (most : ℕ) → GoesOn old old → PassesOn old old most 0
 begin-passes old most g = record {
   passes = no-passes old most g;
-  stops = λ ts s c. let n : most - 0 ≡ most = omega arith in subst (λ k. ArePassesStop ts (listing old) s k (state old)) n c;
+  stops = λ h s c. let n : most - 0 ≡ most = omega arith in subst (λ k. ArePassesStop h (reads old) s k (state old)) n c;
 }
 
-module _ (old now : Evaluator) (most i : ℕ) (given : IsGiven old.context.trees old.normal old.opaques) (a : PassesOn old now most i) (l : i < most) where
-  stops-now : (ts : List Tree) (s : Stop) → ArePassesStop ts (listing old) s (suc (most - (i + 1))) (state now) → ArePassesStop ts (listing old) s most (state old)
-  stops-now ts s c = let n : suc (most - (i + 1)) ≡ most - i = omega (arith, l) in a.stops ts s (subst (λ k. ArePassesStop ts (listing old) s k (state now)) n c)
+module _ (old now : Evaluator) (most i : ℕ) (kept : IsEvaluator old.context.trees old.inference old.marks old.normal old.opaques old.goals) (a : PassesOn old now most i) (l : i < most) where
+  stops-now : (h : Held) (s : Stop) → ArePassesStop h (reads old) s (suc (most - (i + 1))) (state now) → ArePassesStop h (reads old) s most (state old)
+  stops-now h s c = let n : suc (most - (i + 1)) ≡ most - i = omega (arith, l) in a.stops h s (subst (λ k. ArePassesStop h (reads old) s k (state now)) n c)
 
-  pub pass-stops : (ts : List Tree) (s : Stop) → IsPassStop ts (listing now) (state now) s → ArePassesStop ts (listing old) s most (state old)
-  pass-stops ts s c = stops-now ts s (this_pass (subst (λ k. IsPassStop ts k (state now) s) (goes-listing old now a.passes.goes given) c))
+  pub pass-stops : (h : Held) (s : Stop) → IsPassStop h (reads now) (state now) s → ArePassesStop h (reads old) s most (state old)
+  pass-stops h s c = stops-now h s (this_pass (subst (λ k. IsPassStop h k (state now) s) (goes-reads old now a.passes.goes kept) c))
 
-  pub one-more-settled : (new : Evaluator) → GoesOn now new → pass (listing now) (state now) ≡ Some (state new) → gave_a_value (state now).variables (state new).variables ≡ true → PassesOn old new most (i + 1)
+  pub one-more-settled : (new : Evaluator) → GoesOn now new → pass_by (try_of (reads now)) (state now) ≡ Some (state new) → gave_a_value (state now).variables (state new).variables ≡ true → PassesOn old new most (i + 1)
   one-more-settled new g p fewer = record {
-    passes = one-more-pass old now most i given a.passes l new g p fewer;
-    stops = λ ts s k.
-        let p' : pass (listing old) (state now) ≡ Some (state new) = ap (λ m. pass m (state now)) (sym (goes-listing old now a.passes.goes given)) ∙ p in
-        stops-now ts s (later_pass p' fewer k);
+    passes = one-more-pass old now most i kept a.passes l new g p fewer;
+    stops = λ h s k.
+        let p' : pass_by (try_of (reads old)) (state now) ≡ Some (state new) = ap (λ m. pass_by (try_of m) (state now)) (sym (goes-reads old now a.passes.goes kept)) ∙ p in
+        stops-now h s (later_pass p' fewer k);
   }
 
 -- What is pending is evaluated, and then comes the response.
 
-pub pass-goals : (ts : List Tree) (l : Listing) (S : State) (ps : List Pending) (s : Stop) → ps ≡ S.pending → AreGoalsStop ts l s S ps → IsPassStop ts l S s
-pass-goals ts l S ps s e c = of_goals (subst (λ qs. AreGoalsStop ts l s S qs) e c)
+pub pass-goals : (h : Held) (q : Reads) (S : State) (ps : List Pending) (s : Stop) → ps ≡ S.pending → AreGoalsStop h q s S ps → IsPassStop h q S s
+pass-goals h q S ps s e c = of_goals (subst (λ qs. AreGoalsStop h q s S qs) e c)
 
-pub response-stop : (ts us : List Tree) (l : Listing) (S T : State) (c : Certainty) (x : Stop) → settled l S ≡ Some (c, T) → us ≡ ts → IsResponseStop ts T x → (s : Stop) → refusal.Stop x ≡ refusal.Stop s
-    → IsAnsweringStop us l S s
-response-stop ts us l S T c x e same k = stop-said (IsAnsweringStop us l S) x (of_response c T e (subst (λ vs. IsResponseStop vs T x) (sym same) k))
+pub response-stop : (ts : List Tree) (h : Held) (q : Reads) (S T : State) (c : Certainty) (x : Stop) → settled_with q.table q.listing S ≡ Some (c, T) → h.trees ≡ ts → IsResponseStop ts T x
+    → (s : Stop) → refusal.Stop x ≡ refusal.Stop s → IsAnsweringStop h q S s
+response-stop ts h q S T c x e same k = stop-said (IsAnsweringStop h q S) x (of_response c T e (subst (λ vs. IsResponseStop vs T x) (sym same) k))

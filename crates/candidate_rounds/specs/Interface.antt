@@ -11,23 +11,26 @@ use Rattle.candidate_eval.specs.Evaluators.{alias_trees, resolved_root, root_val
 use Rattle.candidate_eval.specs.Knowing.{SeesStates}
 use Rattle.candidate_eval.specs.States.{Judge, State}
 use Rattle.rounds_judge.specs.Listed.{Listing}
-use Rattle.rounds_judge.specs.RoundsJudge.{rounds_judge}
+use Rattle.rounds_judge.specs.GoalTable.{GoalTable, well_entered}
+use Rattle.rounds_judge.specs.TableJudge.{table_judge}
 use Rattle.rounds_judge.specs.WellListed.{well_listed}
-use Rattle.candidate_rounds.specs.Known.{Evaluator, listing, probes, state}
+use Rattle.candidate_rounds.specs.Goals.{Via}
+use Rattle.candidate_rounds.specs.Known.{Evaluator, listing, probes, state, table_of}
 
--- What stays fixed: what is declared, the crate, and what it was given, by trees.
+-- What stays fixed while goals are computed: what is declared, the crate, what it was given, and the table that the last round left, by trees.
 pub record Fixed : Type 0 where
   pub world : World
   pub local_crate : ℕ
   pub listing : Listing
   pub opaques : List Tree
+  pub table : GoalTable Via
 
 abbrev pub fixed : Evaluator → Fixed
-fixed r = record { world = world r.context; local_crate = r.context.local.0; listing = listing r; opaques = alias_trees r.context.trees r.opaques }
+fixed r = record { world = world r.context; local_crate = r.context.local.0; listing = listing r; opaques = alias_trees r.context.trees r.opaques; table = table_of r }
 
--- The laws speak of all that could be given, an evaluator's listed pairs all may be listed.
+-- The laws speak of all that could be given; an evaluator's listed pairs all may be listed, and of the table it reads what may be read.
 abbrev pub judge_of : Fixed → Judge
-judge_of f = rounds_judge f.world f.local_crate (well_listed f.listing) f.opaques
+judge_of f = table_judge f.world f.local_crate (well_listed f.listing) f.opaques (well_entered f.table)
 
 -- What making nodes leaves as it is.
 pub record Rest : Type 0 where

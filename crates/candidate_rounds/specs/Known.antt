@@ -23,8 +23,11 @@ use Rattle.candidate_eval.specs.Evaluators.{IsGoal, pendings_of, alias_trees}
 use Rattle.candidate_rounds.specs.declared.rounds.inference.Change.{Change}
 use Rattle.candidate_rounds.specs.declared.rounds.inference.Change.TheVariants as C
 use Rattle.candidate_rounds.specs.declared.rounds.inference.Entry.{Entry}
+use Rattle.rounds_judge.specs.GoalTable.{GoalTable, well_entered}
 use Rattle.rounds_judge.specs.Listed.{Listing}
 use Rattle.rounds_judge.specs.Standing.{AreResolved, IsListing}
+use Rattle.candidate_rounds.specs.Goals.{Goals, IsTabled, Reads, Via, table_seen}
+pub use Rattle.candidate_rounds.specs.Goals.{Each}
 use Rattle.candidate_rounds.specs.Inferences.{Inference, IsFurther, back_to}
 
 -- The trees of numbers of a context.
@@ -46,10 +49,6 @@ abbrev pub states_at : List Tree → TypingMode → Inference → List ℕ → L
 states_at ts mode s marks = map (λ n. state_of ts mode (back_to n s)) marks
 
 -- All numbers are of the context, also those that are kept to undo changes.
-
-abbrev pub Each : {A : Type 0} → (A → Type 0) → List A → Type 0
-Each P [] = Unit {0}
-Each P (x ∷ xs) = P x × Each P xs
 
 abbrev pub IsValue : List Tree → Option GenericArg → Type 0
 IsValue ts None = Unit {0}
@@ -151,15 +150,16 @@ pub record StaysResolved (ts : List Tree) (s : Inference) (ks : List ℕ) : Type
   pub now : HasResolvedValues ts s
   pub at_marks : Each (λ n. HasResolvedValues ts (back_to n s)) ks
 
-pub record EvaluatorParts (ts : List Tree) (s : Inference) (ks : List ℕ) (normal : List (Ty × Ty)) (opaques : List AliasTy) : Type 0 where
+pub record EvaluatorParts (ts : List Tree) (s : Inference) (ks : List ℕ) (normal : List (Ty × Ty)) (opaques : List AliasTy) (goals : Goals) : Type 0 where
   pub consistent : IsConsistent ts s ks
   pub resolved : StaysResolved ts s ks
   pub given : IsGiven ts normal opaques
+  pub tabled : IsTabled ts goals
 
 -- All that holds of an evaluator between calls. It is opaque: a tactic reads each part of a fact that it can see into, and few proofs
 -- need one.
-unfoldable pub IsEvaluator : List Tree → Inference → List ℕ → List (Ty × Ty) → List AliasTy → Type 0
-IsEvaluator ts s ks normal opaques = EvaluatorParts ts s ks normal opaques
+unfoldable pub IsEvaluator : List Tree → Inference → List ℕ → List (Ty × Ty) → List AliasTy → Goals → Type 0
+IsEvaluator ts s ks normal opaques goals = EvaluatorParts ts s ks normal opaques goals
 
 -- What contracts see of an evaluator that works in rounds.
 pub record Evaluator : Type 0 where
@@ -167,6 +167,7 @@ pub record Evaluator : Type 0 where
   pub mode : TypingMode
   pub normal : List (Ty × Ty)
   pub opaques : List AliasTy
+  pub goals : Goals
   pub inference : Inference
   -- how many changes there were when each open probe began, the newest first
   pub marks : List ℕ
@@ -181,13 +182,24 @@ probes r = states_at r.context.trees r.mode r.inference r.marks
 abbrev pub with_root : State → VariableKind → State
 with_root S k = record S { variables = S.variables ++ record { kind = k; universe = 0; value = None; is_root = true } ∷ [] }
 
--- What the evaluator was given besides the context stays as it was.
+-- What the evaluator was given besides the context stays as it was, and the table with it.
 abbrev pub KeepsGiven : Evaluator → Evaluator → Type 0
-KeepsGiven old new = (new.normal ≡ old.normal) × (new.opaques ≡ old.opaques)
+KeepsGiven old new = (new.normal ≡ old.normal) × (new.opaques ≡ old.opaques) × (new.goals.table ≡ old.goals.table)
 
 -- The listed pairs by their trees.
 abbrev pub listing : Evaluator → Listing
 listing r = listing_of r.context.trees r.normal
+
+-- The table by its trees, and what of it may be read.
+
+abbrev pub table_of : Evaluator → GoalTable Via
+table_of r = table_seen r.context.trees r.goals.table
+
+abbrev pub reading : Evaluator → GoalTable Via
+reading r = well_entered (table_of r)
+
+abbrev pub reads : Evaluator → Reads
+reads r = record { listing = listing r; table = reading r }
 
 -- The evaluator goes on: nodes may have been made, and what is known may be more. Nothing else is changed, and what is known can
 -- be undone.

@@ -1,8 +1,12 @@
 pub mod Inferences
+pub mod Starting
+pub mod Goals
+pub mod Found
 pub mod Known
 pub mod Leaves
 pub mod Assigning
 pub mod Frames
+pub mod Giving
 pub mod Trying
 pub mod Gathered
 pub mod Lone
@@ -10,3 +14,4 @@ pub mod Interface
 pub mod Stopping
 pub mod StopKinds
 pub mod Following
+pub mod Running

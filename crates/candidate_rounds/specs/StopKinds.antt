@@ -1,4 +1,4 @@
--- Each stop is a refused growth, or that numbers ran out or a tree would be too high: none is an evaluator's own limit.
+-- Each stop is a refused growth, or that numbers ran out or a tree would be too high, or that the table is full.
 use Rattle.std.proofs.Common.{◌≡◌, inl, inr, length, ℕ, List, sym, subst}
 use Rattle.candidate_ir.specs.declared.ir.stop.Stop.{Stop}
 use Rattle.candidate_ir.specs.declared.ir.stop.Stop.TheVariants as K
@@ -9,7 +9,10 @@ use Rattle.candidate_ir.specs.Trees.{Forest, Tree}
 use Rattle.candidate_eval.specs.Accounts.{Question}
 use Rattle.candidate_eval.specs.Accounts as Q
 use Rattle.candidate_eval.specs.Evaluators.{IsEvaluatorStop, IsMakingStop}
-use Rattle.candidate_eval.specs.States.{State, Pending}
+use Rattle.candidate_eval.specs.Responses.{Response}
+use Rattle.candidate_eval.specs.States.{Env, State, Pending}
+use Rattle.candidate_rounds.specs.Goals.{Reads}
+use Rattle.rounds_judge.specs.Keys.{Key}
 use Rattle.candidate_eval.proofs.StopKinds.{noting_making, subst_making}
 use Rattle.rounds_judge.specs.Equating.{Pair}
 use Rattle.rounds_judge.specs.Listed.{Listing}
@@ -17,7 +20,7 @@ use Rattle.rounds_judge.specs.Scopes.{Scope}
 use Rattle.candidate_rounds.specs.Inferences.{IsFullAt, IsOutOfRoom}
 use Rattle.candidate_rounds.specs.Known.{Evaluator}
 use Rattle.candidate_rounds.specs.Stopping as W
-use Rattle.candidate_rounds.specs.Stopping.{IsAnsweringStop, IsBindingStop, IsEqualityStop, IsEquationStop, IsEvaluationStop, IsGoalStop, IsInstanceStop, IsLookStop, IsMatchStop, IsMeetingStop, IsOfferStop, IsPassStop, IsProjectionStop, IsRegionsStop, IsRenewalStop, IsRenumberingStop, IsResponseStop, IsSettlingStop, IsTreeStop, IsUnifyingStop, IsValueStop, AreGoalsStop, ArePassesStop, AreRenumberingStops, accounts}
+use Rattle.candidate_rounds.specs.Stopping.{Held, IsAnsweringStop, IsAskingStop, IsBindingStop, IsEqualityStop, IsEquationStop, IsEvaluationStop, IsGivingStop, IsGoalStop, IsInstanceStop, IsKeyStop, IsLookStop, IsMatchStop, IsMeetingStop, IsNumberedStop, IsOfferStop, IsPassStop, IsProjectionStop, IsRegionsStop, IsRenewalStop, IsRenumberingStop, IsResponseStop, IsTraitStop, IsTreeStop, IsUnifyingStop, IsValueStop, AreGoalsStop, ArePassesStop, AreRenumberingStops, accounts}
 
 full_making : {n : ℕ} {s : Stop} → IsFullAt n s → IsMakingStop s
 full_making (inl e) = subst IsMakingStop (sym e) tt
@@ -94,35 +97,72 @@ projection_making (W.of_alias k) = tree_making k
 projection_making (W.of_resolved_alias k) = tree_making k
 projection_making (W.of_equation u e k) = equation_making k
 
-evaluation_making : {ts : List Tree} {l : Listing} {S : State} {h : Head} {f : Forest} {s : Stop} → IsEvaluationStop ts l S h f s → IsMakingStop s
-evaluation_making W.not_recorded = tt
-evaluation_making (W.of_projection i e k) = projection_making k
-
-goal_making : {ts : List Tree} {l : Listing} {S : State} {p : Pending} {s : Stop} → IsGoalStop ts l S p s → IsMakingStop s
-goal_making W.goal_memory = tt
-goal_making (W.of_clause k) = instance_making k
-goal_making (W.of_evaluation k) = evaluation_making k
-
-goals_making : {ts : List Tree} {l : Listing} {s : Stop} {S : State} {ps : List Pending} → AreGoalsStop ts l s S ps → IsMakingStop s
-goals_making (W.this_goal k) = goal_making k
-goals_making (W.later_goal v k) = goals_making k
-
-pass_making : {ts : List Tree} {l : Listing} {S : State} {s : Stop} → IsPassStop ts l S s → IsMakingStop s
-pass_making W.pass_memory = tt
-pass_making (W.of_goals k) = goals_making k
-
-passes_making : {ts : List Tree} {l : Listing} {s : Stop} {n : ℕ} {S : State} → ArePassesStop ts l s n S → IsMakingStop s
-passes_making (W.this_pass k) = pass_making k
-passes_making (W.later_pass v less k) = passes_making k
-
-settling_making : {ts : List Tree} {l : Listing} {S : State} {s : Stop} → IsSettlingStop ts l S s → IsMakingStop s
-settling_making k = passes_making k
-
--- Responses
-
 renumbering_making : {many given : ℕ} {made : Forest} {s : Stop} → IsRenumberingStop many given made s → IsMakingStop s
 renumbering_making (W.too_many_open l) = tt
 renumbering_making (W.of_made k) = tree_making k
+
+-- What an evaluator makes isn't all that stops it: the table may be full.
+
+making_evaluator : (s : Stop) → IsMakingStop s → IsEvaluatorStop s
+making_evaluator K.Memory k = tt
+making_evaluator K.NodesFull k = tt
+making_evaluator K.WalkDepth k = absurd k
+making_evaluator K.AliasDepth k = absurd k
+making_evaluator K.ConstDepth k = absurd k
+making_evaluator K.Unnameable k = absurd k
+making_evaluator K.EvaluatorLimit k = absurd k
+
+numbered_making : {ts : List Tree} {ns : List ℕ} {e : Forest} {c : Tree} {s : Stop} → IsNumberedStop ts ns e c s → IsMakingStop s
+numbered_making (W.of_numbered_env k) = renumbering_making k
+numbered_making (W.of_numbered_clause k) = renumbering_making k
+
+pub key_making : {ts : List Tree} {S : State} {e : Env} {c : Tree} {s : Stop} → IsKeyStop ts S e c s → IsMakingStop s
+key_making W.key_memory = tt
+key_making (W.of_env k) = tree_making k
+key_making (W.of_goal_clause k) = tree_making k
+key_making {ts} {S} {e} {c} {s} (W.of_noted k) = noting_making ts s k
+key_making (W.of_numbered k) = numbered_making k
+
+giving_making : {ts : List Tree} {l : Listing} {S : State} {k : Key} {ns : List ℕ} {r : Response} {s : Stop} → IsGivingStop ts l S k ns r s → IsMakingStop s
+giving_making W.giving_memory = tt
+giving_making (W.of_row k) = full_making k
+giving_making (W.of_fresh n l k) = full_making k
+giving_making (W.of_given_values k) = tree_making k
+giving_making (W.of_given_equation k) = equation_making k
+giving_making (W.of_given_constraint c i k) = tree_making k
+
+asking_evaluator : {h : Held} {s : Stop} → IsAskingStop h s → IsEvaluatorStop s
+asking_evaluator {h} {s} (W.of_looking k) = making_evaluator s (noting_making h.trees s k)
+asking_evaluator (W.many_goals m) = tt
+
+trait_evaluator : {h : Held} {q : Reads} {S : State} {e : Env} {c : Tree} {s : Stop} → IsTraitStop h q S e c s → IsEvaluatorStop s
+trait_evaluator {h} {q} {S} {e} {c} {s} (W.of_key k) = making_evaluator s (key_making k)
+trait_evaluator (W.of_asking k) = asking_evaluator k
+trait_evaluator {h} {q} {S} {e} {c} {s} (W.of_giving r w v k) = making_evaluator s (giving_making k)
+
+evaluation_evaluator : {h : Held} {q : Reads} {S : State} {e : Env} {c : Tree} {s : Stop} → IsEvaluationStop h q S e c s → IsEvaluatorStop s
+evaluation_evaluator W.not_recorded = tt
+evaluation_evaluator {h} {q} {S} {e} {c} {s} (W.of_projection i is k) = making_evaluator s (projection_making k)
+evaluation_evaluator (W.of_trait e k) = trait_evaluator k
+
+goal_evaluator : {h : Held} {q : Reads} {S : State} {p : Pending} {s : Stop} → IsGoalStop h q S p s → IsEvaluatorStop s
+goal_evaluator W.goal_memory = tt
+goal_evaluator {h} {q} {S} {p} {s} (W.of_clause k) = making_evaluator s (instance_making k)
+goal_evaluator (W.of_evaluation k) = evaluation_evaluator k
+
+goals_evaluator : {h : Held} {q : Reads} {s : Stop} {S : State} {ps : List Pending} → AreGoalsStop h q s S ps → IsEvaluatorStop s
+goals_evaluator (W.this_goal k) = goal_evaluator k
+goals_evaluator (W.later_goal v k) = goals_evaluator k
+
+pass_evaluator : {h : Held} {q : Reads} {S : State} {s : Stop} → IsPassStop h q S s → IsEvaluatorStop s
+pass_evaluator W.pass_memory = tt
+pass_evaluator (W.of_goals k) = goals_evaluator k
+
+passes_evaluator : {h : Held} {q : Reads} {s : Stop} {n : ℕ} {S : State} → ArePassesStop h q s n S → IsEvaluatorStop s
+passes_evaluator (W.this_pass k) = pass_evaluator k
+passes_evaluator (W.later_pass v less k) = passes_evaluator k
+
+-- Responses
 
 renumberings_making : {ts : List Tree} {ns : List ℕ} {cs : List Tree} {s : Stop} → AreRenumberingStops ts ns cs s → IsMakingStop s
 renumberings_making W.no_list = tt
@@ -138,20 +178,11 @@ response_making {ts} {S} {s} (W.of_noting k) = noting_making ts s k
 response_making (W.of_values k) = renumbering_making k
 response_making (W.of_renumbered k) = renumberings_making k
 
-answering_making : {ts : List Tree} {l : Listing} {S : State} {s : Stop} → IsAnsweringStop ts l S s → IsMakingStop s
-answering_making (W.of_settling k) = settling_making k
-answering_making (W.of_response c T e k) = response_making k
+answering_evaluator : {h : Held} {q : Reads} {S : State} {s : Stop} → IsAnsweringStop h q S s → IsEvaluatorStop s
+answering_evaluator (W.of_settling k) = passes_evaluator k
+answering_evaluator {h} {q} {S} {s} (W.of_response c T e k) = making_evaluator s (response_making k)
 
 -- So the evaluator accounts for its own stops alone.
-
-evaluator-stop : (s : Stop) → IsMakingStop s → IsEvaluatorStop s
-evaluator-stop K.Memory k = tt
-evaluator-stop K.NodesFull k = tt
-evaluator-stop K.WalkDepth k = absurd k
-evaluator-stop K.AliasDepth k = absurd k
-evaluator-stop K.ConstDepth k = absurd k
-evaluator-stop K.Unnameable k = absurd k
-evaluator-stop K.EvaluatorLimit k = absurd k
 
 memory_making : {s : Stop} → s ≡ K.Memory → IsMakingStop s
 memory_making e = subst IsMakingStop (sym e) tt
@@ -160,21 +191,18 @@ room_making : (n more : ℕ) (s : Stop) → IsOutOfRoom n more s → IsMakingSto
 room_making n more s (inl e) = memory_making e
 room_making n more s (inr e) = subst IsMakingStop (sym e.0) tt
 
-account_making : (r : Evaluator) (S : State) (q : Question) (s : Stop) → accounts r S q s → IsMakingStop s
-account_making r S (Q.resolve ts) s k = tree_making k
-account_making r S (Q.normalize e t) s k = tree_making k
-account_making r S (Q.make_variables ks) s (inl k) = room_making (length S.variables) (length ks) s k
-account_making r S (Q.make_variables ks) s (inr k) = full_making k
-account_making r S (Q.make_placeholders ks) s (inl k) = full_making k
-account_making r S (Q.make_placeholders ks) s (inr (inl k)) = full_making k
-account_making r S (Q.make_placeholders ks) s (inr (inr k)) = full_making k
-account_making r S (Q.equate e a b) s k = equation_making k
-account_making r S (Q.add_goals ps) s k = memory_making k
-account_making r S Q.evaluate s k = settling_making k
-account_making r S (Q.respond c) s k = answering_making k
-account_making r S (Q.begin_probe p) s k = memory_making k
-account_making r S (Q.find_opaques t) s k = memory_making k
-account_making r S (Q.delay text) s k = memory_making k
-
 pub stops_itself : (r : Evaluator) (S : State) (q : Question) (s : Stop) → accounts r S q s → IsEvaluatorStop s
-stops_itself r S q s k = evaluator-stop s (account_making r S q s k)
+stops_itself r S (Q.resolve ts) s k = making_evaluator s (tree_making k)
+stops_itself r S (Q.normalize e t) s k = making_evaluator s (tree_making k)
+stops_itself r S (Q.make_variables ks) s (inl k) = making_evaluator s (room_making (length S.variables) (length ks) s k)
+stops_itself r S (Q.make_variables ks) s (inr k) = making_evaluator s (full_making k)
+stops_itself r S (Q.make_placeholders ks) s (inl k) = making_evaluator s (full_making k)
+stops_itself r S (Q.make_placeholders ks) s (inr (inl k)) = making_evaluator s (full_making k)
+stops_itself r S (Q.make_placeholders ks) s (inr (inr k)) = making_evaluator s (full_making k)
+stops_itself r S (Q.equate e a b) s k = making_evaluator s (equation_making k)
+stops_itself r S (Q.add_goals ps) s k = making_evaluator s (memory_making k)
+stops_itself r S Q.evaluate s k = passes_evaluator k
+stops_itself r S (Q.respond c) s k = answering_evaluator k
+stops_itself r S (Q.begin_probe p) s k = making_evaluator s (memory_making k)
+stops_itself r S (Q.find_opaques t) s k = making_evaluator s (memory_making k)
+stops_itself r S (Q.delay text) s k = making_evaluator s (memory_making k)

@@ -1,6 +1,6 @@
 -- Why calls of an evaluator that works in rounds stop: a growth was refused, numbers ran out, or a tree would be higher than 1,024. A stop
 -- is said of what would have been made, at the state that the judge says is there then, and of the context's trees at the stop.
-use Rattle.std.specs.Prelude.{◌≡◌, ◌≢◌, ◌<◌, ◌≤◌, ◌⊎◌, ℕ, suc, length, true, ◌&&◌, Option, Some, None, List, [], ◌∷◌}
+use Rattle.std.specs.Prelude.{◌≡◌, ◌≢◌, ◌<◌, ◌≤◌, ◌+◌, ◌⊎◌, ℕ, suc, length, true, ◌&&◌, Option, Some, None, List, [], ◌∷◌}
 use Rattle.std.specs.List.{Contains}
 use Rattle.candidate_ir.specs.declared.ir.heads.Head.{Head}
 use Rattle.candidate_ir.specs.declared.ir.heads.Head.TheVariants as H
@@ -9,7 +9,7 @@ use Rattle.candidate_ir.specs.declared.ir.heads.PartHead.TheVariants as P
 use Rattle.candidate_ir.specs.declared.ir.heads.ClauseHead.TheVariants as Cl
 use Rattle.candidate_ir.specs.declared.ir.kinds.AssocId.{AssocId}
 use Rattle.candidate_ir.specs.declared.ir.stop.Stop.{Stop}
-use Rattle.candidate_ir.specs.declared.ir.stop.Stop.TheVariants.{Memory, NodesFull}
+use Rattle.candidate_ir.specs.declared.ir.stop.Stop.TheVariants.{Memory, NodesFull, EvaluatorLimit}
 use Rattle.candidate_ir.specs.Folding.{IsSubstStop}
 use Rattle.candidate_ir.specs.Substitutions.{alone}
 use Rattle.candidate_ir.specs.Trees.{Forest, tree, Tree}
@@ -20,15 +20,24 @@ use Rattle.candidate_eval.specs.Characterization.{bound_kinds}
 use Rattle.candidate_eval.specs.Evaluators.{resolved_root}
 use Rattle.candidate_eval.specs.Noting.{HasWideNode, IsNotingStop}
 use Rattle.candidate_eval.specs.Soundness.{is_region}
-use Rattle.candidate_eval.specs.States.{State, Pending, resolved, resolved_tree, valued_tree, value_of}
-use Rattle.rounds_judge.specs.Binding.{single}
+use Rattle.candidate_eval.specs.ObjectRequirements.{trait_said}
+use Rattle.candidate_eval.specs.Responses.{Response}
+use Rattle.candidate_eval.specs.States.{Env, State, Pending, resolved, resolved_tree, valued, valued_tree, value_of, is_some}
+use Rattle.candidate_ir.specs.Supers.{after_first}
+use Rattle.rounds_judge.specs.Binding.{numbered, single}
 use Rattle.rounds_judge.specs.Equating.{Pair, Left, outlives, value_for, visited}
 use Rattle.rounds_judge.specs.Listed.{Listing, current, listed, normalized_tree}
 use Rattle.rounds_judge.specs.Responding.{constraints, open_numbers, renumbered, renumbered_tree, root_values}
 use Rattle.rounds_judge.specs.Scopes.{Scope, has_binder, has_variables, placed_tree}
-use Rattle.rounds_judge.specs.Settling.{alias_of, instantiated, pass, settled, term_of, tried, with_facts, gave_a_value}
+use Rattle.rounds_judge.specs.GoalTable.{most_goals, verdict_in}
+use Rattle.rounds_judge.specs.Keys.{Key, key_at, numbers_at}
+use Rattle.rounds_judge.specs.Settling.{alias_of, instantiated, term_of, with_facts, gave_a_value}
+use Rattle.rounds_judge.specs.TableSettling.{by_numbers, named_at, own_variable, pass_by, settled_with, variables_row}
+use Rattle.rounds_judge.specs.Verdicts.{Yes}
 use Rattle.candidate_rounds.specs.Inferences.{IsFullAt, IsOutOfRoom}
-use Rattle.candidate_rounds.specs.Known.{Evaluator, listing}
+use Rattle.candidate_rounds.specs.Goals.{Reads, Via, goal_said}
+use Rattle.candidate_rounds.specs.Known.{Evaluator, listing, reads}
+use Rattle.candidate_rounds.specs.Trying.{try_of}
 
 -- Why a tree wasn't made.
 abbrev pub IsTreeStop : List Tree → Tree → Stop → Type 0
@@ -122,38 +131,13 @@ pub data IsProjectionStop (ts : List Tree) (l : Listing) (S : State) (a t : Tree
   of_resolved_alias : IsTreeStop ts (resolved_tree S a) s → IsProjectionStop ts l S a t s
   of_equation : (u : Tree) → listed l (resolved_tree S a) ≡ Some u → IsEquationStop ts l S (alone u) (alone t) s → IsProjectionStop ts l S a t s
 
--- Why an instance with these facts wasn't evaluated, by the head of its clause: it wasn't recorded, or what it says of a projection
--- wasn't made to hold.
-pub data IsEvaluationStop (ts : List Tree) (l : Listing) (S : State) (h : Head) (f : Forest) : Stop → Type 0 where
-  not_recorded : IsEvaluationStop ts l S h f Memory
-  of_projection : {s : Stop} (i : AssocId) → h ≡ H.Part (P.Clause (Cl.Projection i)) → IsProjectionStop ts l S (alias_of i f) (term_of f) s → IsEvaluationStop ts l S h f s
+-- What an evaluator holds when it stops: the trees of its context, and how many goals it knows of.
+pub record Held : Type 0 where
+  pub trees : List Tree
+  pub goals : ℕ
 
--- Why a goal wasn't evaluated: its instance wasn't made, or wasn't evaluated at the state that has its placeholders.
-pub data IsGoalStop (ts : List Tree) (l : Listing) (S : State) (p : Pending) : Stop → Type 0 where
-  goal_memory : IsGoalStop ts l S p Memory
-  of_clause : {s : Stop} → IsInstanceStop ts S p.goal.clause s → IsGoalStop ts l S p s
-  of_evaluation : {s : Stop} → IsEvaluationStop ts l (instantiated S p.goal.clause).0 p.goal.clause.head (instantiated S p.goal.clause).1 s → IsGoalStop ts l S p s
-
--- Why goals, one after the other, weren't evaluated: one of them stopped.
-pub data AreGoalsStop (ts : List Tree) (l : Listing) (s : Stop) : State → List Pending → Type 0 where
-  this_goal : {S : State} {p : Pending} {ps : List Pending} → IsGoalStop ts l S p s → AreGoalsStop ts l s S (p ∷ ps)
-  later_goal : {S T : State} {p : Pending} {ps qs : List Pending} → tried l S p ≡ Some (qs, T) → AreGoalsStop ts l s T ps → AreGoalsStop ts l s S (p ∷ ps)
-
--- Why what is pending wasn't evaluated once: a goal stopped, or what stayed didn't become pending.
-pub data IsPassStop (ts : List Tree) (l : Listing) (S : State) : Stop → Type 0 where
-  pass_memory : IsPassStop ts l S Memory
-  of_goals : {s : Stop} → AreGoalsStop ts l s S S.pending → IsPassStop ts l S s
-
--- Why what is pending wasn't evaluated so many times at most: one pass stopped, and each before it gave a variable a value.
-pub data ArePassesStop (ts : List Tree) (l : Listing) (s : Stop) : ℕ → State → Type 0 where
-  this_pass : {n : ℕ} {S : State} → IsPassStop ts l S s → ArePassesStop ts l s (suc n) S
-  later_pass : {n : ℕ} {S T : State} → pass l S ≡ Some T → gave_a_value S.variables T.variables ≡ true → ArePassesStop ts l s n T → ArePassesStop ts l s (suc n) S
-
--- Why what is pending wasn't evaluated: one of the passes stopped.
-abbrev pub IsSettlingStop : List Tree → Listing → State → Stop → Type 0
-IsSettlingStop ts l S s = ArePassesStop ts l s 8 S
-
--- Responses.
+abbrev pub held : Evaluator → Held
+held r = record { trees = r.context.trees; goals = length r.goals.table + length r.goals.asked }
 
 -- Why variables weren't numbered anew, where so many are noted and so many numbers of nodes are given: there are more variables than
 -- numbers, or the trees weren't made that were to come.
@@ -161,7 +145,82 @@ pub data IsRenumberingStop (many given : ℕ) (made : Forest) : Stop → Type 0 
   too_many_open : 4294967295 < many → IsRenumberingStop many given made NodesFull
   of_made : {s : Stop} → IsSubstStop given made s → IsRenumberingStop many given made s
 
--- the same of an answer; where nothing is answered, nothing stops
+-- Why a goal, with this environment and this clause, wasn't made with its variables numbered anew.
+pub data IsNumberedStop (ts : List Tree) (ns : List ℕ) (e : Forest) (c : Tree) : Stop → Type 0 where
+  of_numbered_env : {s : Stop} → IsRenumberingStop (length ns) (length ts) (renumbered ns e) s → IsNumberedStop ts ns e c s
+  of_numbered_clause : {s : Stop} → IsRenumberingStop (length ns) (length ts) (alone (renumbered_tree ns c)) s → IsNumberedStop ts ns e c s
+
+-- Why the key of a goal wasn't made, which this clause says under this environment: values weren't put in, variables weren't noted, or
+-- they weren't numbered anew.
+pub data IsKeyStop (ts : List Tree) (S : State) (e : Env) (c : Tree) : Stop → Type 0 where
+  key_memory : IsKeyStop ts S e c Memory
+  of_env : {s : Stop} → IsSubstStop (length ts) (resolved S e) s → IsKeyStop ts S e c s
+  of_goal_clause : {s : Stop} → IsTreeStop ts (resolved_tree S c) s → IsKeyStop ts S e c s
+  of_noted : {s : Stop} → IsNotingStop ts s → IsKeyStop ts S e c s
+  of_numbered : {s : Stop} → IsNumberedStop ts (numbers_at S (goal_said e c)) (resolved S e) (resolved_tree S c) s → IsKeyStop ts S e c s
+
+-- what stands for the variables that a response leaves open, where these are the numbers of the key's
+abbrev pub named_for : State → Key → List ℕ → Response → State × List ℕ
+named_for S k ns r = named_at S r.vars (numbered (own_variable k.variables ns r.values) 0 r.vars)
+
+-- Why the values that a response says weren't given: the list or the fresh variables weren't made, the values weren't made or not made
+-- equal, or the constraints weren't made.
+pub data IsGivingStop (ts : List Tree) (l : Listing) (S : State) (k : Key) (ns : List ℕ) (r : Response) : Stop → Type 0 where
+  giving_memory : IsGivingStop ts l S k ns r Memory
+  of_row : {s : Stop} → IsFullAt (length ts) s → IsGivingStop ts l S k ns r s
+  of_fresh : {s : Stop} (n : ℕ) → n ≤ length S.variables + length r.vars → IsFullAt n s → IsGivingStop ts l S k ns r s
+  of_given_values : {s : Stop} → IsSubstStop (length ts) (valued (by_numbers (named_for S k ns r).1) r.values) s → IsGivingStop ts l S k ns r s
+  of_given_equation : {s : Stop} → IsEquationStop ts l (named_for S k ns r).0 (variables_row k.variables ns) (valued (by_numbers (named_for S k ns r).1) r.values) s → IsGivingStop ts l S k ns r s
+  of_given_constraint : {s : Stop} (c : Tree) → Contains r.regions c → IsTreeStop ts (valued_tree (by_numbers (named_for S k ns r).1) c) s → IsGivingStop ts l S k ns r s
+
+-- Why a goal wasn't asked for: there is no room for one more, or its variables weren't looked at.
+pub data IsAskingStop (h : Held) : Stop → Type 0 where
+  of_looking : {s : Stop} → IsNotingStop h.trees s → IsAskingStop h s
+  many_goals : most_goals ≤ h.goals → IsAskingStop h EvaluatorLimit
+
+-- Why a goal of a trait wasn't evaluated, which this clause says: its key wasn't made, it wasn't asked for, or what a Yes says wasn't given.
+pub data IsTraitStop (h : Held) (q : Reads) (S : State) (e : Env) (c : Tree) : Stop → Type 0 where
+  of_key : {s : Stop} → IsKeyStop h.trees S e c s → IsTraitStop h q S e c s
+  of_asking : {s : Stop} → IsAskingStop h s → IsTraitStop h q S e c s
+  of_giving : {s : Stop} (r : Response) (w : Option Via) → verdict_in q.table (key_at S (goal_said e c)) ≡ Some (Yes r w)
+      → IsGivingStop h.trees q.listing S (key_at S (goal_said e c)) (numbers_at S (goal_said e c)) r s → IsTraitStop h q S e c s
+
+-- Why an instance wasn't evaluated, under its environment, by the head of its clause: it wasn't recorded, or what it says of a projection
+-- or of a trait wasn't made to hold.
+pub data IsEvaluationStop (h : Held) (q : Reads) (S : State) (e : Env) (c : Tree) : Stop → Type 0 where
+  not_recorded : IsEvaluationStop h q S e c Memory
+  of_projection : {s : Stop} (i : AssocId) → c.head ≡ H.Part (P.Clause (Cl.Projection i))
+      → IsProjectionStop h.trees q.listing S (alias_of i (after_first c.children)) (term_of (after_first c.children)) s → IsEvaluationStop h q S e c s
+  of_trait : {s : Stop} → is_some (trait_said c.head) ≡ true → IsTraitStop h q S e c s → IsEvaluationStop h q S e c s
+
+-- Why a goal wasn't evaluated: its instance wasn't made, or wasn't evaluated at the state that has its placeholders.
+pub data IsGoalStop (h : Held) (q : Reads) (S : State) (p : Pending) : Stop → Type 0 where
+  goal_memory : IsGoalStop h q S p Memory
+  of_clause : {s : Stop} → IsInstanceStop h.trees S p.goal.clause s → IsGoalStop h q S p s
+  of_evaluation : {s : Stop} → IsEvaluationStop h q (instantiated S p.goal.clause).0 p.goal.env (with_facts p.goal.clause (instantiated S p.goal.clause).1) s → IsGoalStop h q S p s
+
+-- Why goals, one after the other, weren't evaluated: one of them stopped.
+pub data AreGoalsStop (h : Held) (q : Reads) (s : Stop) : State → List Pending → Type 0 where
+  this_goal : {S : State} {p : Pending} {ps : List Pending} → IsGoalStop h q S p s → AreGoalsStop h q s S (p ∷ ps)
+  later_goal : {S T : State} {p : Pending} {ps qs : List Pending} → try_of q S p ≡ Some (qs, T) → AreGoalsStop h q s T ps → AreGoalsStop h q s S (p ∷ ps)
+
+-- Why what is pending wasn't evaluated once: a goal stopped, or what stayed didn't become pending.
+pub data IsPassStop (h : Held) (q : Reads) (S : State) : Stop → Type 0 where
+  pass_memory : IsPassStop h q S Memory
+  of_goals : {s : Stop} → AreGoalsStop h q s S S.pending → IsPassStop h q S s
+
+-- Why what is pending wasn't evaluated so many times at most: one pass stopped, and each before it gave a variable a value.
+pub data ArePassesStop (h : Held) (q : Reads) (s : Stop) : ℕ → State → Type 0 where
+  this_pass : {n : ℕ} {S : State} → IsPassStop h q S s → ArePassesStop h q s (suc n) S
+  later_pass : {n : ℕ} {S T : State} → pass_by (try_of q) S ≡ Some T → gave_a_value S.variables T.variables ≡ true → ArePassesStop h q s n T → ArePassesStop h q s (suc n) S
+
+-- Why what is pending wasn't evaluated: one of the passes stopped.
+abbrev pub IsSettlingStop : Held → Reads → State → Stop → Type 0
+IsSettlingStop h q S s = ArePassesStop h q s 8 S
+
+-- Responses.
+
+-- why an answer wasn't numbered anew; where nothing is answered, nothing stops
 abbrev pub IsNewNumberStop : ℕ → ℕ → Option Tree → Stop → Type 0
 IsNewNumberStop many given None s = ⊥
 IsNewNumberStop many given (Some t) s = IsRenumberingStop many given (alone t) s
@@ -183,9 +242,9 @@ pub data IsResponseStop (ts : List Tree) (S : State) : Stop → Type 0 where
   of_renumbered : {s : Stop} → AreRenumberingStops ts (open_numbers S) (constraints S) s → IsResponseStop ts S s
 
 -- Why what is pending wasn't evaluated, or no response was made of what is known then.
-pub data IsAnsweringStop (ts : List Tree) (l : Listing) (S : State) (s : Stop) : Type 0 where
-  of_settling : IsSettlingStop ts l S s → IsAnsweringStop ts l S s
-  of_response : (c : Certainty) (T : State) → settled l S ≡ Some (c, T) → IsResponseStop ts T s → IsAnsweringStop ts l S s
+pub data IsAnsweringStop (h : Held) (q : Reads) (S : State) (s : Stop) : Type 0 where
+  of_settling : IsSettlingStop h q S s → IsAnsweringStop h q S s
+  of_response : (c : Certainty) (T : State) → settled_with q.table q.listing S ≡ Some (c, T) → IsResponseStop h.trees T s → IsAnsweringStop h q S s
 
 -- The evaluator's account of its stops: of the evaluator that is left, by the state at which it was asked and what.
 abbrev pub accounts : Evaluator → State → Question → Stop → Type 0
@@ -195,8 +254,8 @@ accounts r S (Q.make_variables ks) s = IsOutOfRoom (length S.variables) (length 
 accounts r S (Q.make_placeholders ks) s = IsFullAt (length ks) s ⊎ IsFullAt S.newest_universe s ⊎ IsFullAt (length r.context.trees) s
 accounts r S (Q.equate e a b) s = IsEquationStop r.context.trees (listing r) S a b s
 accounts r S (Q.add_goals ps) s = s ≡ Memory
-accounts r S Q.evaluate s = IsSettlingStop r.context.trees (listing r) S s
-accounts r S (Q.respond c) s = IsAnsweringStop r.context.trees (listing r) S s
+accounts r S Q.evaluate s = IsSettlingStop (held r) (reads r) S s
+accounts r S (Q.respond c) s = IsAnsweringStop (held r) (reads r) S s
 accounts r S (Q.begin_probe k) s = s ≡ Memory
 accounts r S (Q.find_opaques t) s = s ≡ Memory
 accounts r S (Q.delay text) s = s ≡ Memory

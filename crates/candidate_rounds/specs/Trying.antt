@@ -1,5 +1,5 @@
 -- What the parts of an evaluated goal come to.
-use Rattle.std.specs.Prelude.{◌≡◌, ℕ, Bool, ◌||◌, true, false, Option, Some, None, List, [], ◌∷◌}
+use Rattle.std.specs.Prelude.{◌≡◌, ℕ, Bool, ◌||◌, true, false, Option, Some, None, List, [], ◌∷◌, if◌then◌else◌}
 use Rattle.candidate_ir.specs.declared.ir.heads.Head.{Head}
 use Rattle.candidate_ir.specs.declared.ir.heads.Head.TheVariants as H
 use Rattle.candidate_ir.specs.declared.ir.heads.PartHead.TheVariants as P
@@ -22,11 +22,17 @@ use Rattle.candidate_ir.specs.Supers.{after_first}
 use Rattle.candidate_ir.specs.Trees.{Forest, Tree, join}
 use Rattle.candidate_ir.specs.Words.{IsArgs, IsTy, args_forest, kind_tree, ty_tree}
 use Rattle.candidate_eval.specs.Evaluators.{pending_of}
-use Rattle.candidate_eval.specs.States.{State, Pending, resolved_tree, next}
+use Rattle.candidate_eval.specs.ImplRules.{TraitGoal}
+use Rattle.candidate_eval.specs.States.{Env, State, Pending, resolved, resolved_tree, next}
 use Rattle.candidate_rounds.specs.declared.rounds.inference.Entry.{Entry}
+use Rattle.candidate_rounds.specs.Goals.{Reads, Via}
 use Rattle.rounds_judge.specs.Equating.{equated}
 use Rattle.rounds_judge.specs.Listed.{Listing, listed}
+use Rattle.rounds_judge.specs.GoalTable.{verdict_in}
+use Rattle.rounds_judge.specs.Keys.{Key, goal_trees, key_at, numbers_at, trait_goal_of}
 use Rattle.rounds_judge.specs.Settling.{alias_of, recorded, term_of}
+use Rattle.rounds_judge.specs.TableSettling.{Try, are_bare, given, tried_with}
+use Rattle.rounds_judge.specs.Verdicts.{Verdict, Yes, Refused}
 
 -- the goal that stays, if one does
 abbrev pub left_of : List Tree → Option (GoalSource × Goal Clause) → List Pending
@@ -47,12 +53,28 @@ answered l S a t = answered_by l S t (listed l (resolved_tree S a))
 abbrev pub projection_of : ProjectionPredicate → TyKind
 projection_of p = K.Alias (record { kind = A.Projection; id = record { 0 = p.projection_term.def_id.0 }; args = p.projection_term.args })
 
--- An instance with these facts, by the head of its clause: whether nothing stays of it, and the state then.
-abbrev pub evaluated_as : Listing → State → Tree → Forest → Head → Option (Bool × State)
-evaluated_as l S c ts (H.Part (P.Clause (Cl.Projection i))) = answered l S (alias_of i ts) (term_of ts)
-evaluated_as l S c ts (H.Part (P.Clause Cl.TypeOutlives)) = Some (true, recorded S c)
-evaluated_as l S c ts (H.Part (P.Clause Cl.RegionOutlives)) = Some (true, recorded S c)
-evaluated_as l S c ts _ = Some (false, S)
+-- A goal of a trait by what the table says of its key: a refusal refuses it, a Yes gives what it says, and nothing stays of the goal.
+
+abbrev pub answered_verdict : Listing → State → Key → List ℕ → Option (Verdict Via) → Option (Bool × State)
+answered_verdict l S k ns (Some Refused) = None
+answered_verdict l S k ns (Some (Yes r w)) = next (given l S k ns r) (λ T. Some (true, T))
+answered_verdict l S k ns _ = Some (false, S)
+
+abbrev pub answered_trait : Reads → State → TraitGoal → Option (Bool × State)
+answered_trait q S g =
+    if are_bare (resolved S (goal_trees g)) then answered_verdict q.listing S (key_at S g) (numbers_at S g) (verdict_in q.table (key_at S g)) else Some (false, S)
+
+-- An instance with these facts, under an environment, by the head of its clause: whether nothing stays of it, and the state then.
+abbrev pub evaluated_as : Reads → State → Env → Tree → Forest → Head → Option (Bool × State)
+evaluated_as q S e c ts (H.Part (P.Clause (Cl.Trait i p))) = answered_trait q S (trait_goal_of e i p ts)
+evaluated_as q S e c ts (H.Part (P.Clause (Cl.Projection i))) = answered q.listing S (alias_of i ts) (term_of ts)
+evaluated_as q S e c ts (H.Part (P.Clause Cl.TypeOutlives)) = Some (true, recorded S c)
+evaluated_as q S e c ts (H.Part (P.Clause Cl.RegionOutlives)) = Some (true, recorded S c)
+evaluated_as q S e c ts _ = Some (false, S)
+
+-- one goal, by what is read
+abbrev pub try_of : Reads → Try
+try_of q = tried_with q.table q.listing
 
 -- What is read of a clause, by what it says: its head, and of a projection its alias and its term.
 

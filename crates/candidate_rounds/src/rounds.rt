@@ -5,14 +5,20 @@ mod equating;
 pub mod evaluator;
 mod fresh;
 pub mod given;
+mod giving;
+pub mod goals;
 mod inference;
+mod keys;
 mod normal_forms;
 mod resolving;
 mod responding;
+pub mod running;
 mod settling;
 pub mod states;
+mod table;
 mod values;
 
+use crate::rounds::goals::Goals;
 use crate::rounds::inference::Inference;
 use candidate_eval::eval::mode::TypingMode;
 use candidate_ir::decl::context::Cx;
@@ -28,6 +34,8 @@ pub struct Rounds {
     normal: Vec<(Ty, Ty)>,
     /// The opaque types that may be hidden behind a variable.
     opaques: Vec<AliasTy>,
+    /// The goals of the table that the last round left, and those asked for since.
+    goals: Goals,
     inference: Inference,
     /// How many changes there were when each open probe began, the newest last.
     probes: Vec<usize>,
@@ -44,7 +52,7 @@ impl Model for Rounds {
 
     ghost coded = { Prim.hlevel (codes, tree_code head.the_row.coded) };
 
-    ghost view = { λ r. record { context = r.cx; mode = r.mode; normal = r.normal.items; opaques = r.opaques.items; inference = r.inference; marks = reverse r.probes.items } };
+    ghost view = { λ r. record { context = r.cx; mode = r.mode; normal = r.normal.items; opaques = r.opaques.items; goals = r.goals; inference = r.inference; marks = reverse r.probes.items } };
 
-    ghost invariant = { λ r. seen.IsEvaluator r.cx.trees r.inference (reverse r.probes.items) r.normal.items r.opaques.items };
+    ghost invariant = { λ r. seen.IsEvaluator r.cx.trees r.inference (reverse r.probes.items) r.normal.items r.opaques.items r.goals };
 }

@@ -15,14 +15,13 @@ ghost use Rattle.candidate_eval.specs.States.{Env, State, added, fresh_variables
 ghost use Rattle.candidate_rounds.specs.Following.{FollowsEquation, FollowsSettling};
 ghost use Rattle.candidate_rounds.specs.Inferences.{IsFullAt, IsOutOfRoom};
 ghost use Rattle.candidate_rounds.specs.Interface.{Fixed, Rest, fixed, judge_of, rest, rest_parts, root_stays, state_seen};
-ghost use Rattle.candidate_rounds.specs.Known.{GoesOn, KeepsGiven, listing, probes, state};
+ghost use Rattle.candidate_rounds.specs.Known.{GoesOn, KeepsGiven, listing, probes, reading, state};
 ghost use Rattle.candidate_rounds.specs.StopKinds.{stops_itself};
 ghost use Rattle.candidate_rounds.specs.Stopping.{accounts};
 ghost use Rattle.rounds_judge.specs.Equating.{equated};
 ghost use Rattle.rounds_judge.specs.Normalizing.{normalized};
-ghost use Rattle.rounds_judge.specs.Responding.{responded};
-ghost use Rattle.rounds_judge.specs.Settling.{settled};
-ghost use Rattle.rounds_judge.proofs.WellListed.{keeps-the-laws};
+ghost use Rattle.rounds_judge.specs.TableSettling.{responded_with, settled_with};
+ghost use Rattle.rounds_judge.proofs.TableLawful.{table_keeps_the_laws};
 
 use crate::rounds::Rounds;
 use crate::rounds::fresh::Leaves;
@@ -370,10 +369,10 @@ impl EvalCtxt for Rounds {
     fn try_evaluate_added_goals(&mut self) -> Result<Certainty, NoSolutionOrStop>
         ensures goes { GoesOn self.old self.new }
         ensures kept { Keeps fixed probes (λ r. r.context) self.old self.new }
-        ensures listed { IfOk result (λ c. settled (listing self.old) (state self.old) ≡ Some (c, state self.new)) }
+        ensures listed { IfOk result (λ c. settled_with (reading self.old) (listing self.old) (state self.old) ≡ Some (c, state self.new)) }
         ensures follows { OnOk result (FollowsSettling (state self.old) (state self.new)) }
         ensures ok { IfOk result (λ c. (judge_of (fixed self.old)).settled (state self.old) ≡ Some (c, state self.new)) }
-        ensures none_listed { IfErr result (λ e. e ≡ NoSolutionOrStop.NoSolution → settled (listing self.old) (state self.old) ≡ None) }
+        ensures none_listed { IfErr result (λ e. e ≡ NoSolutionOrStop.NoSolution → settled_with (reading self.old) (listing self.old) (state self.old) ≡ None) }
         ensures refused { IfErr result (λ e. e ≡ NoSolutionOrStop.NoSolution → (judge_of (fixed self.old)).settled (state self.old) ≡ None) }
         ensures undone { OnErr result (state self.new ≡ state self.old) }
         ensures stopped { IfErr result (λ e. e ≢ NoSolutionOrStop.NoSolution → (judge_of (fixed self.old)).alike (state self.old) (state self.new)) }
@@ -400,10 +399,10 @@ impl EvalCtxt for Rounds {
         ensures goes { GoesOn self.old self.new }
         ensures kept { Keeps fixed probes (λ r. r.context) self.old self.new }
         ensures sort { IfOk result (λ r. IsResponse self.new.context.trees r) }
-        ensures listed { IfOk result (λ r. responded (listing self.old) (state self.old) certainty ≡ Some (response_of self.new.context.trees r)) }
+        ensures listed { IfOk result (λ r. responded_with (reading self.old) (listing self.old) (state self.old) certainty ≡ Some (response_of self.new.context.trees r)) }
         ensures ok { IfOk result (λ r. (judge_of (fixed self.old)).responded (state self.old) certainty ≡ Some (response_of self.new.context.trees r)) }
-        ensures left { OnOk result (next (settled (listing self.old) (state self.old)) (λ q. Some q.1) ≡ Some (state self.new)) }
-        ensures none_listed { IfErr result (λ e. e ≡ NoSolutionOrStop.NoSolution → responded (listing self.old) (state self.old) certainty ≡ None) }
+        ensures left { OnOk result (next (settled_with (reading self.old) (listing self.old) (state self.old)) (λ q. Some q.1) ≡ Some (state self.new)) }
+        ensures none_listed { IfErr result (λ e. e ≡ NoSolutionOrStop.NoSolution → responded_with (reading self.old) (listing self.old) (state self.old) certainty ≡ None) }
         ensures refused { IfErr result (λ e. e ≡ NoSolutionOrStop.NoSolution → (judge_of (fixed self.old)).responded (state self.old) certainty ≡ None) }
         ensures undone { OnErr result (state self.new ≡ state self.old) }
         ensures stopped { IfErr result (λ e. e ≢ NoSolutionOrStop.NoSolution → (judge_of (fixed self.old)).alike (state self.old) (state self.new)) }
@@ -509,7 +508,7 @@ impl EvalCtxt for Rounds {
 
     ghost stops_itself = { stops_itself };
 
-    ghost lawful = { λ f. keeps-the-laws f.world f.local_crate f.listing f.opaques };
+    ghost lawful = { λ f. table_keeps_the_laws f.world f.local_crate f.listing f.opaques f.table };
 
     ghost declared = { λ _. (refl, refl) };
 

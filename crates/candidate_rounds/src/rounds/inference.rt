@@ -3,10 +3,12 @@
 
 ghost use Rattle.std.specs.Prelude.{◌≡◌, ◌+◌, ◌^◌, ◌++◌, ◌∷◌, [], ◌<◌, ◌≤◌, IfOk, IfErr, drop, length, slice_get, Some, None};
 ghost use Rattle.candidate_rounds.specs.declared.rounds.inference.Change.{Change};
+ghost use Rattle.candidate_rounds.specs.Giving.{with_open_variable};
+ghost use Rattle.candidate_rounds.specs.Starting.{started};
 ghost use Rattle.candidate_rounds.specs.Inferences.{Inference, with_variable, with_variables, assign, lower, enter, record_region, add, add_all, begin_pending, before, back_to, with_entry, with_value, with_universe, IsFullAt, IsOutOfRoom, widen};
 
 use crate::rounds::fresh::variable_kind;
-use candidate_eval::eval::variable::VariableKind;
+use candidate_eval::eval::variable::{CanonicalVar, VariableKind};
 use candidate_ir::ir::kinds::{Clause, GenericArg, Goal, GoalSource, VarKind};
 use candidate_ir::ir::stop::Stop;
 use std::alloc::Global;
@@ -86,6 +88,36 @@ impl Inference {
             end_open: 0,
             trail: Vec::new(alloc),
         }
+    }
+
+    /// These variables are known, of their universes, all of them roots and without values. The only stop is `Stop::Memory`.
+    pub(crate) fn at(
+        alloc: Global,
+        newest: u32,
+        variables: &[CanonicalVar],
+    ) -> Result<Inference, Stop>
+        ensures started { IfOk result (λ s. s ≡ started newest variables.now) }
+        ensures cause { IfErr result (λ s. s ≡ Stop.Memory) }
+    {
+        let mut list = Vec::new(alloc);
+        for i in 0..variables.len() {
+            list.push(Entry {
+                kind: variables[i].kind,
+                universe: variables[i].universe,
+                value: None,
+                is_root: true,
+            })?;
+        }
+        Ok(Inference {
+            newest_universe: newest,
+            variables: list,
+            regions: Vec::new(alloc),
+            goals: Vec::new(alloc),
+            first_pending: 0,
+            first_open: MOST,
+            end_open: 0,
+            trail: Vec::new(alloc),
+        })
     }
 
     /// How many changes there are to undo.
@@ -200,6 +232,30 @@ impl Inference {
             universe,
             value: None,
             is_root,
+        });
+        if added.is_err() {
+            self.unnote();
+            return Err(Stop::Memory);
+        }
+        Ok(number)
+    }
+
+    /// A variable without a value, which is no root, of that universe, or of the newest, if that is lower. It stops as `add_variable`
+    /// does.
+    pub(crate) fn open_variable(&mut self, kind: VariableKind, universe: u32) -> Result<u32, Stop>
+        ensures number { IfOk result (λ n. n ≡ length self.old.variables) }
+        ensures added { IfOk result (λ _. self.new ≡ with_open_variable self.old kind universe) }
+        ensures unchanged { IfErr result (λ _. self.new ≡ self.old) }
+        ensures cause { IfErr result (λ s. IsFullAt (length self.old.variables) s) }
+    {
+        let number = self.next_variable()?;
+        let universe = universe.min(self.newest_universe);
+        self.note(Change::Variable)?;
+        let added = self.variables.push(Entry {
+            kind,
+            universe,
+            value: None,
+            is_root: false,
         });
         if added.is_err() {
             self.unnote();

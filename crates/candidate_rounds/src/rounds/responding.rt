@@ -16,6 +16,7 @@ ghost use Rattle.candidate_rounds.specs.Inferences.{IsFullAt};
 ghost use Rattle.candidate_rounds.specs.Known.{Each, GoesOn, IsKnown, KeepsGiven, SuitsKind, probes, state, state_of};
 ghost use Rattle.candidate_eval.specs.Noting.{IsNotingStop};
 ghost use Rattle.candidate_rounds.specs.Stopping.{AreRenumberingStops, IsNewNumberStop, IsRenumberingStop, IsResponseStop};
+ghost use Rattle.rounds_judge.specs.TableSettling.{are_bare, is_bare};
 ghost use Rattle.rounds_judge.specs.Responding.{constraints, is_seen, place_of, renumbered, renumbered_tree, response, root_values, with_number, with_numbers, with_numbers_of};
 
 use crate::rounds::Rounds;
@@ -55,7 +56,7 @@ fn is_seen(numbers: &[u32], number: u32) -> bool
 }
 
 /// Notes a variable's number, unless it is among those seen. The only stop is `Stop::Memory`.
-fn note_number(numbers: &mut Vec<u32>, number: Option<u32>) -> Result<(), Stop>
+pub(crate) fn note_number(numbers: &mut Vec<u32>, number: Option<u32>) -> Result<(), Stop>
     ensures noted { IfOk result (λ _. numbers.new.items ≡ with_number numbers.old.items number) }
     ensures cause { IfErr result (λ s. s ≡ Stop.Memory) }
 {
@@ -65,17 +66,27 @@ fn note_number(numbers: &mut Vec<u32>, number: Option<u32>) -> Result<(), Stop>
     }
 }
 
+/// Nothing stands below a variable of types or constants.
+fn stands_bare(cx: &Cx, number: u32)
+    requires { number < length cx.now.trees }
+    ensures { is_bare (tree_at cx.now.trees number).head (tree_at cx.now.trees number).children ≡ true }
+{
+    let _ = cx.node(number);
+}
+
 /// Notes the numbers of the variables below a number of the context. It stops by `Stop::Memory`, or by `Stop::NodesFull` where there
 /// are more children than can be counted.
-fn note_below(cx: &Cx, numbers: &mut Vec<u32>, number: u32) -> Result<(), Stop>
+pub(crate) fn note_below(cx: &Cx, numbers: &mut Vec<u32>, number: u32) -> Result<(), Stop>
     requires { number < length cx.now.trees }
     ensures noted { IfOk result (λ _. numbers.new.items ≡ with_numbers numbers.old.items (tree_at cx.now.trees number).children) }
+    ensures bare { IfOk result (λ _. are_bare (tree_at cx.now.trees number).children ≡ true) }
     ensures cause { IfErr result (λ s. IsNotingStop cx.now.trees s) }
 {
     for place in 0..usize::MAX {
         let Some(child) = cx.child(number, place) else {
             return Ok(());
         };
+        stands_bare(cx, child);
         note_number(numbers, cx.head(child).variable_number())?;
         note_below(cx, numbers, child)?;
     }
@@ -109,7 +120,7 @@ fn note_args(cx: &Cx, numbers: &mut Vec<u32>, args: Args) -> Result<(), Stop>
 }
 
 /// Notes the numbers of the variables of a clause; it stops as `note_below` does.
-fn note_clause(cx: &Cx, numbers: &mut Vec<u32>, clause: Clause) -> Result<(), Stop>
+pub(crate) fn note_clause(cx: &Cx, numbers: &mut Vec<u32>, clause: Clause) -> Result<(), Stop>
     requires { IsClause cx.now.trees clause }
     ensures noted { IfOk result (λ _. numbers.new.items ≡ with_numbers numbers.old.items (alone (clause_tree cx.now.trees clause))) }
     ensures cause { IfErr result (λ s. IsNotingStop cx.now.trees s) }
@@ -202,7 +213,7 @@ fn constraints(alloc: Global, cx: &mut Cx, inference: &Inference) -> Result<Vec<
 }
 
 /// The variable that an argument is, if it is one: its kind and its number.
-fn variable_in(cx: &Cx, arg: GenericArg) -> Option<(VariableKind, u32)>
+pub(crate) fn variable_in(cx: &Cx, arg: GenericArg) -> Option<(VariableKind, u32)>
     requires { IsArg cx.now.trees arg }
     ensures { MatchOption result (variable_number (arg_tree cx.now.trees arg).head ≡ None) (λ v. arg_tree cx.now.trees arg ≡ variable v.0 v.1) }
 {
@@ -248,7 +259,12 @@ fn renumbered_at(cx: &mut Cx, numbers: &[u32], arg: GenericArg) -> Result<Option
 
 /// The list, clause or whatever else it is, whose variables all have these numbers, with its variables numbered anew. What is said
 /// of `Rounds::resolve_ty_if_possible` holds here, too, and of `renumbered_at`.
-fn renumbered<N: Numbered>(alloc: Global, cx: &mut Cx, numbers: &[u32], value: N) -> Result<N, Stop>
+pub(crate) fn renumbered<N: Numbered>(
+    alloc: Global,
+    cx: &mut Cx,
+    numbers: &[u32],
+    value: N,
+) -> Result<N, Stop>
     requires { kind_at cx.old.trees (N.number_of value) ≡ N.kind value }
     ensures grows { Grows cx.old cx.new }
     ensures sort { IfOk result (λ x. kind_at cx.new.trees (N.number_of x) ≡ N.kind x) }
@@ -323,7 +339,7 @@ fn open_variable(inference: &Inference, number: u32) -> CanonicalVar
 }
 
 /// What the variables of these numbers are. The only stop is `Stop::Memory`.
-fn open_variables(
+pub(crate) fn open_variables(
     alloc: Global,
     inference: &Inference,
     numbers: &[u32],

@@ -5,25 +5,31 @@ ghost use Rattle.std.specs.Option.{option_to_list};
 ghost use Rattle.candidate_ir.specs.Context.{world};
 ghost use Rattle.candidate_ir.specs.References.{Takes};
 ghost use Rattle.candidate_ir.specs.Supers.{after_first};
-ghost use Rattle.candidate_ir.specs.Words.{IsClause, IsTy, KindFits, clause_tree, kind_tree, ty_tree};
+ghost use Rattle.candidate_ir.specs.Trees.{none, tree};
+ghost use Rattle.candidate_ir.specs.Words.{IsClause, IsParamEnv, IsTy, KindFits, clause_tree, env_forest, kind_tree, ty_tree};
+ghost use Rattle.candidate_ir.specs.declared.ir.heads.Head.TheVariants as H;
+ghost use Rattle.candidate_ir.specs.declared.ir.heads.PartHead.TheVariants as P;
 ghost use Rattle.candidate_eval.specs.Characterization.{bound_kinds};
 ghost use Rattle.candidate_eval.specs.Evaluators.{IsGoal, kinds_listed, pending_of, pendings_of};
 ghost use Rattle.candidate_eval.specs.States.{added, with_pending};
-ghost use Rattle.candidate_rounds.specs.Known.{Each, GoesOn, listing, state};
-ghost use Rattle.rounds_judge.specs.Settling.{certainty_of, instantiated, pass, passes, recorded, tried, tried_all, with_facts};
-ghost use Rattle.candidate_rounds.specs.Stopping.{AreGoalsStop, ArePassesStop, IsEvaluationStop, IsGoalStop, IsInstanceStop, IsPassStop, IsProjectionStop};
-ghost use Rattle.candidate_rounds.specs.Trying.{Says, answered, evaluated_as, left_of, projection_of, second_if_bound, got_one, entries_gave};
+ghost use Rattle.candidate_rounds.specs.Goals.{IsTraitGoal, goal_seen};
+ghost use Rattle.candidate_rounds.specs.Known.{Each, GoesOn, listing, reads, state};
+ghost use Rattle.rounds_judge.specs.Settling.{certainty_of, instantiated, recorded, with_facts};
+ghost use Rattle.rounds_judge.specs.TableSettling.{all_by, pass_by, passes_by};
+ghost use Rattle.candidate_rounds.specs.Stopping.{AreGoalsStop, ArePassesStop, held, IsEvaluationStop, IsGoalStop, IsInstanceStop, IsPassStop, IsProjectionStop, IsTraitStop};
+ghost use Rattle.candidate_rounds.specs.Trying.{Says, answered, answered_trait, evaluated_as, left_of, projection_of, second_if_bound, try_of, got_one, entries_gave};
 
 use crate::rounds::Rounds;
 use crate::rounds::inference::Entry;
+use crate::rounds::table::Found;
 use candidate_eval::eval::certainty::Certainty;
 use candidate_eval::eval::context::EvalCtxt;
 use candidate_eval::eval::refusal::NoSolutionOrStop;
 use candidate_ir::decl::make::Build;
 use candidate_ir::decl::open::{binder_kinds, open_clause};
 use candidate_ir::ir::kinds::{
-    AliasTy, Clause, ClauseKind, GenericArg, Goal, GoalSource, ProjectionPredicate, Ty, TyKind,
-    VarKind,
+    AliasTy, Clause, ClauseKind, GenericArg, Goal, GoalSource, ParamEnv, ProjectionPredicate, Ty,
+    TyKind, VarKind,
 };
 use candidate_ir::ir::stop::Stop;
 use candidate_ir::ir::trees::Trees;
@@ -31,7 +37,7 @@ use std::alloc::Global;
 
 impl Rounds {
     /// Records a region constraint. The only stop is `Stop::Memory`; nothing is recorded then.
-    fn record_region(&mut self, region: Clause) -> Result<(), Stop>
+    pub(crate) fn record_region(&mut self, region: Clause) -> Result<(), Stop>
         requires { IsClause self.old.context.trees region }
         ensures goes { GoesOn self.old self.new }
         ensures made { OnOk result (state self.new ≡ recorded (state self.old) (clause_tree self.old.context.trees region)) }
@@ -166,23 +172,58 @@ impl Rounds {
         Ok(binder_kinds(alloc, &self.cx, clause)?)
     }
 
-    /// An instance is evaluated; the answer is whether nothing stays of it. What is recorded of a region constraint is the clause
+    /// A goal of a trait is looked up in the table: a refusal refuses it, what a Yes says is given, and else it stays. Where the table
+    /// doesn't have the goal, a round asks for it. The answer is whether nothing stays of it.
+    fn try_trait(&mut self, alloc: Global, goal: Goal<Clause>) -> Result<bool, NoSolutionOrStop>
+        requires { IsTraitGoal self.old.context.trees goal }
+        ensures goes { GoesOn self.old self.new }
+        ensures ok { IfOk result (λ b. answered_trait (reads self.old) (state self.old) (goal_seen self.old.context.trees goal) ≡ Some (b, state self.new)) }
+        ensures refused { IfErr result (λ e. e ≡ NoSolutionOrStop.NoSolution → answered_trait (reads self.old) (state self.old) (goal_seen self.old.context.trees goal) ≡ None) }
+        ensures cause { IfErr result (λ e. (s : Stop) → e ≡ NoSolutionOrStop.Stop s → IsTraitStop (held self.new) (reads self.old) (state self.old) (env_forest self.old.context.trees goal.param_env) (clause_tree self.old.context.trees goal.predicate) s) }
+    {
+        self.well_kept();
+        let asked = self.key_of(alloc, goal)?;
+        match self.found(&asked.key) {
+            Found::Missing => {
+                self.note(asked.key)?;
+                Ok(false)
+            }
+            Found::Open => Ok(false),
+            Found::Refused => Err(NoSolutionOrStop::NoSolution),
+            Found::Yes(place) => {
+                let response = self.yes_at(&asked.key, place)?;
+                self.give(alloc, &asked.key, asked.numbers.as_slice(), &response)?;
+                Ok(true)
+            }
+        }
+    }
+
+    /// An instance, under an empty binder, is evaluated under an environment; the answer is whether nothing stays of it. What is recorded of a region constraint is the clause
     /// beside it.
     fn try_instance(
         &mut self,
         alloc: Global,
+        env: ParamEnv,
         instance: Clause,
         clause: Clause,
     ) -> Result<bool, NoSolutionOrStop>
+        requires env { IsParamEnv self.old.context.trees env }
+        requires unbound { (clause_tree self.old.context.trees instance).children ≡ tree (H.Part P.Vars) none (after_first (clause_tree self.old.context.trees instance).children) }
         requires instance { IsClause self.old.context.trees instance }
         requires clause { IsClause self.old.context.trees clause }
         ensures goes { GoesOn self.old self.new }
-        ensures ok { IfOk result (λ b. evaluated_as (listing self.old) (state self.old) (clause_tree self.old.context.trees clause) (after_first (clause_tree self.old.context.trees instance).children) (clause_tree self.old.context.trees instance).head ≡ Some (b, state self.new)) }
-        ensures refused { IfErr result (λ e. e ≡ NoSolutionOrStop.NoSolution → evaluated_as (listing self.old) (state self.old) (clause_tree self.old.context.trees clause) (after_first (clause_tree self.old.context.trees instance).children) (clause_tree self.old.context.trees instance).head ≡ None) }
-        ensures cause { IfErr result (λ e. (s : Stop) → e ≡ NoSolutionOrStop.Stop s → IsEvaluationStop self.new.context.trees (listing self.old) (state self.old) (clause_tree self.old.context.trees instance).head (after_first (clause_tree self.old.context.trees instance).children) s) }
+        ensures ok { IfOk result (λ b. evaluated_as (reads self.old) (state self.old) (env_forest self.old.context.trees env) (clause_tree self.old.context.trees clause) (after_first (clause_tree self.old.context.trees instance).children) (clause_tree self.old.context.trees instance).head ≡ Some (b, state self.new)) }
+        ensures refused { IfErr result (λ e. e ≡ NoSolutionOrStop.NoSolution → evaluated_as (reads self.old) (state self.old) (env_forest self.old.context.trees env) (clause_tree self.old.context.trees clause) (after_first (clause_tree self.old.context.trees instance).children) (clause_tree self.old.context.trees instance).head ≡ None) }
+        ensures cause { IfErr result (λ e. (s : Stop) → e ≡ NoSolutionOrStop.Stop s → IsEvaluationStop (held self.new) (reads self.old) (state self.old) (env_forest self.old.context.trees env) (clause_tree self.old.context.trees instance) s) }
     {
         match self.said(instance) {
-            ClauseKind::Trait(_) => Ok(false),
+            ClauseKind::Trait(_) => self.try_trait(
+                alloc,
+                Goal {
+                    param_env: env,
+                    predicate: instance,
+                },
+            ),
             ClauseKind::Projection(projection) => self.try_projection(alloc, projection),
             ClauseKind::TypeOutlives(_, _) | ClauseKind::RegionOutlives(_, _) => {
                 self.record_region(clause)?;
@@ -201,15 +242,15 @@ impl Rounds {
         requires { IsGoal self.old.context.trees goal }
         ensures goes { GoesOn self.old self.new }
         ensures sort { IfOk result (λ o. IfSome o (λ g. IsGoal self.new.context.trees g.1)) }
-        ensures ok { IfOk result (λ o. tried (listing self.old) (state self.old) (pending_of self.old.context.trees source goal) ≡ Some (left_of self.new.context.trees o, state self.new)) }
-        ensures refused { IfErr result (λ e. e ≡ NoSolutionOrStop.NoSolution → tried (listing self.old) (state self.old) (pending_of self.old.context.trees source goal) ≡ None) }
-        ensures cause { IfErr result (λ e. (s : Stop) → e ≡ NoSolutionOrStop.Stop s → IsGoalStop self.new.context.trees (listing self.old) (state self.old) (pending_of self.old.context.trees source goal) s) }
+        ensures ok { IfOk result (λ o. try_of (reads self.old) (state self.old) (pending_of self.old.context.trees source goal) ≡ Some (left_of self.new.context.trees o, state self.new)) }
+        ensures refused { IfErr result (λ e. e ≡ NoSolutionOrStop.NoSolution → try_of (reads self.old) (state self.old) (pending_of self.old.context.trees source goal) ≡ None) }
+        ensures cause { IfErr result (λ e. (s : Stop) → e ≡ NoSolutionOrStop.Stop s → IsGoalStop (held self.new) (reads self.old) (state self.old) (pending_of self.old.context.trees source goal) s) }
     {
         self.well_kept();
         let kinds = self.bound_kinds(alloc, goal.predicate)?;
         let instance = self.instantiate(alloc, goal.predicate, kinds.as_slice())?;
         let predicate = left_clause(kinds.as_slice(), goal.predicate, instance);
-        if self.try_instance(alloc, instance, predicate)? {
+        if self.try_instance(alloc, goal.param_env, instance, predicate)? {
             return Ok(None);
         }
         let param_env = goal.param_env;
@@ -241,9 +282,9 @@ impl Rounds {
         requires { Each (λ g. IsGoal self.old.context.trees g.1) goals.now }
         ensures goes { GoesOn self.old self.new }
         ensures fit { IfOk result (λ v. Each (λ g. IsGoal self.new.context.trees g.1) v.items) }
-        ensures ok { IfOk result (λ v. tried_all (listing self.old) (state self.old) (pendings_of self.old.context.trees goals.now) ≡ Some (pendings_of self.new.context.trees v.items, state self.new)) }
-        ensures refused { IfErr result (λ e. e ≡ NoSolutionOrStop.NoSolution → tried_all (listing self.old) (state self.old) (pendings_of self.old.context.trees goals.now) ≡ None) }
-        ensures cause { IfErr result (λ e. (s : Stop) → e ≡ NoSolutionOrStop.Stop s → AreGoalsStop self.new.context.trees (listing self.old) s (state self.old) (pendings_of self.old.context.trees goals.now)) }
+        ensures ok { IfOk result (λ v. all_by (try_of (reads self.old)) (state self.old) (pendings_of self.old.context.trees goals.now) ≡ Some (pendings_of self.new.context.trees v.items, state self.new)) }
+        ensures refused { IfErr result (λ e. e ≡ NoSolutionOrStop.NoSolution → all_by (try_of (reads self.old)) (state self.old) (pendings_of self.old.context.trees goals.now) ≡ None) }
+        ensures cause { IfErr result (λ e. (s : Stop) → e ≡ NoSolutionOrStop.Stop s → AreGoalsStop (held self.new) (reads self.old) s (state self.old) (pendings_of self.old.context.trees goals.now)) }
     {
         self.well_kept();
         let mut staying = Vec::new(alloc);
@@ -293,9 +334,9 @@ impl Rounds {
     /// All pending goals are evaluated once; what stays of them is pending then.
     fn settle_once(&mut self, alloc: Global) -> Result<(), NoSolutionOrStop>
         ensures goes { GoesOn self.old self.new }
-        ensures ok { OnOk result (pass (listing self.old) (state self.old) ≡ Some (state self.new)) }
-        ensures refused { IfErr result (λ e. e ≡ NoSolutionOrStop.NoSolution → pass (listing self.old) (state self.old) ≡ None) }
-        ensures cause { IfErr result (λ e. (s : Stop) → e ≡ NoSolutionOrStop.Stop s → IsPassStop self.new.context.trees (listing self.old) (state self.old) s) }
+        ensures ok { OnOk result (pass_by (try_of (reads self.old)) (state self.old) ≡ Some (state self.new)) }
+        ensures refused { IfErr result (λ e. e ≡ NoSolutionOrStop.NoSolution → pass_by (try_of (reads self.old)) (state self.old) ≡ None) }
+        ensures cause { IfErr result (λ e. (s : Stop) → e ≡ NoSolutionOrStop.Stop s → IsPassStop (held self.new) (reads self.old) (state self.old) s) }
     {
         let goals = self.pending(alloc)?;
         let staying = self.try_goals(alloc, goals.as_slice())?;
@@ -321,9 +362,9 @@ impl Rounds {
     /// What is pending is evaluated so many times at most, and again only while the last time gave a variable a value.
     pub(crate) fn settle(&mut self, alloc: Global, most: u32) -> Result<(), NoSolutionOrStop>
         ensures goes { GoesOn self.old self.new }
-        ensures ok { OnOk result (passes (listing self.old) most (state self.old) ≡ Some (state self.new)) }
-        ensures refused { IfErr result (λ e. e ≡ NoSolutionOrStop.NoSolution → passes (listing self.old) most (state self.old) ≡ None) }
-        ensures cause { IfErr result (λ e. (s : Stop) → e ≡ NoSolutionOrStop.Stop s → ArePassesStop self.new.context.trees (listing self.old) s most (state self.old)) }
+        ensures ok { OnOk result (passes_by (try_of (reads self.old)) most (state self.old) ≡ Some (state self.new)) }
+        ensures refused { IfErr result (λ e. e ≡ NoSolutionOrStop.NoSolution → passes_by (try_of (reads self.old)) most (state self.old) ≡ None) }
+        ensures cause { IfErr result (λ e. (s : Stop) → e ≡ NoSolutionOrStop.Stop s → ArePassesStop (held self.new) (reads self.old) s most (state self.old)) }
     {
         self.well_kept();
         for _pass in 0..most {

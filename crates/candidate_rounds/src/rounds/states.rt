@@ -15,6 +15,7 @@ ghost use Rattle.candidate_rounds.specs.Known.{state, state_of, probes, with_roo
 
 use crate::rounds::Rounds;
 use crate::rounds::fresh::{Leaves, leaf_args, variable};
+use crate::rounds::goals::Goals;
 use crate::rounds::inference::Inference;
 use candidate_eval::eval::mode::TypingMode;
 use candidate_eval::eval::variable::VariableKind;
@@ -28,7 +29,6 @@ impl Rounds {
     /// An evaluator over the context that knows nothing of variables yet. It normalises each alias of `normal` to the type that
     /// stands beside it; the opaque types of `opaques` may be hidden behind a variable. `may_be_listed` and `may_be_hidden` test
     /// what these have to be.
-    #[tactic(auto, unfolding(crate::specs::Known::IsEvaluator))]
     pub fn new(
         alloc: Global,
         cx: Cx,
@@ -40,6 +40,7 @@ impl Rounds {
         ensures context { result.context ≡ cx }
         ensures normal { result.normal ≡ normal.items }
         ensures opaques { result.opaques ≡ opaques.items }
+        ensures goals { result.goals ≡ record { table = []; asked = [] } }
         ensures state { state result ≡ record { newest_universe = 0; variables = []; regions = []; pending = []; mode = mode } }
         ensures probes { probes result ≡ [] }
         ensures sound { (L : Live) → IsSound (state result) L × ValuesFit (state result) L }
@@ -49,6 +50,7 @@ impl Rounds {
             mode,
             normal,
             opaques,
+            goals: Goals::new(alloc),
             inference: Inference::new(alloc),
             probes: Vec::new(alloc),
         }

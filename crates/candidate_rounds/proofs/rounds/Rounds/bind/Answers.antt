@@ -12,6 +12,7 @@ use Rattle.candidate_rounds.proofs.Knowing.{given-grown}
 use Rattle.candidate_rounds.proofs.ResolvedValues.{can-get, resolved-bound, resolved-further, resolved-grown}
 use Rattle.candidate_rounds.proofs.Between.{of-parts, parts}
 use Rattle.candidate_rounds.proofs.Going.{goes-both}
+use Rattle.candidate_rounds.proofs.Tabled.{tabled-grown}
 use Rattle.candidate_rounds.proofs.rounds.Rounds.bind.Goals as goal
 
 pub invariant_of-self : goal.invariant_of-self
@@ -33,6 +34,7 @@ invariant_of-self c =
           (resolved-bound i.cx.trees us i.inference c.bind_in.new.inference v x c.bind_in.result (parts c.self.invariant).resolved.now can c.bind_in.ensures.grows.kept consistent.known c.bind_in.ensures.bound c.bind_in.ensures.undone)
           (resolved-grown i.cx.trees us i.inference ks c.bind_in.ensures.grows.kept consistent.known (parts c.self.invariant).resolved);
       given = given-grown i.cx.trees us i.normal.items i.opaques.items c.bind_in.ensures.grows.kept (parts c.self.invariant).given;
+      tabled = tabled-grown i.cx.trees us c.bind_in.ensures.grows.kept i.goals (parts c.self.invariant).tabled;
     })
 
 pub returns-clause-bound : goal.returns-clause-bound
@@ -49,6 +51,6 @@ bind_in-requires-clause-consistent c =
 pub returns-clause-goes : goal.returns-clause-goes
 returns-clause-goes c =
     let i = c.self.inside in
-    let v : Evaluator = record { context = i.cx; mode = i.mode; normal = i.normal.items; opaques = i.opaques.items; inference = i.inference; marks = reverse i.probes.items } in
+    let v : Evaluator = record { context = i.cx; mode = i.mode; normal = i.normal.items; opaques = i.opaques.items; goals = i.goals; inference = i.inference; marks = reverse i.probes.items } in
     subst (λ (e : Evaluator). GoesOn e (record v { context = c.bind_in.new.cx; inference = c.bind_in.new.inference })) c.self.view_is
     (goes-both v c.bind_in.new.cx c.bind_in.new.inference c.bind_in.ensures.grows c.bind_in.ensures.further)

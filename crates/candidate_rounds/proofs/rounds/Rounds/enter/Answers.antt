@@ -14,7 +14,7 @@ pub invariant_of-self : goal.invariant_of-self
 invariant_of-self c =
     let i = c.self.inside in
     let ks = reverse i.probes.items in
-    evaluator-changed i.cx.trees i.inference c.enter.new.self (enter i.inference) ks i.normal.items i.opaques.items c.enter.result c.self.invariant (further-enter i.inference)
+    evaluator-changed i.cx.trees i.inference c.enter.new.self (enter i.inference) ks i.normal.items i.opaques.items i.goals c.enter.result c.self.invariant (further-enter i.inference)
     (holds-enter i.cx.trees i.inference ks (parts c.self.invariant).consistent) (resolved-enter i.cx.trees i.inference (parts c.self.invariant).resolved.now) c.enter.ensures.entered c.enter.ensures.unchanged
 
 pub returns-clause-probes : goal.returns-clause-probes
@@ -32,6 +32,6 @@ returns-clause-made c =
 pub returns-clause-goes : goal.returns-clause-goes
 returns-clause-goes c =
     let i = c.self.inside in
-    let v : Evaluator = record { context = i.cx; mode = i.mode; normal = i.normal.items; opaques = i.opaques.items; inference = i.inference; marks = reverse i.probes.items } in
+    let v : Evaluator = record { context = i.cx; mode = i.mode; normal = i.normal.items; opaques = i.opaques.items; goals = i.goals; inference = i.inference; marks = reverse i.probes.items } in
     subst (λ (e : Evaluator). GoesOn e (record v { inference = c.enter.new.self })) c.self.view_is
     (goes-further v c.enter.new.self (further-call i.inference c.enter.new.self (enter i.inference) c.enter.result (further-enter i.inference) c.enter.ensures.entered c.enter.ensures.unchanged))

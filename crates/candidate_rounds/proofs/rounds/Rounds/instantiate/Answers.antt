@@ -1,4 +1,4 @@
-use Rattle.std.proofs.Common.{◌≡◌, IfOk, ◌∙◌, ap, subst}
+use Rattle.std.proofs.Common.{◌≡◌, IfOk, reverse, ◌∙◌, ap, subst}
 use Rattle.candidate_ir.specs.Opening.{opened_clause}
 use Rattle.candidate_ir.specs.Trees.{Forest, Tree}
 use Rattle.candidate_ir.specs.Words.{args_forest, clause_tree}
@@ -52,10 +52,13 @@ returns-clause-cause c =
     c.open_clause.ensures.cause)
 
 pub returns-clause-goes : goal.returns-clause-goes
-returns-clause-goes c = goes-trans c.args.self.now c.placeholder_args.new.self _ c.placeholder_args.ensures.goes (made-goes c.self.view_is c.open_clause.ensures.grows)
+returns-clause-goes c =
+    let i = c.self.inside in
+    let new : Evaluator = record { context = c.open_clause.new.make; mode = i.mode; normal = i.normal.items; opaques = i.opaques.items; goals = i.goals; inference = i.inference; marks = reverse i.probes.items } in
+    goes-trans c.args.self.now c.placeholder_args.new.self new c.placeholder_args.ensures.goes (made-goes c.self.view_is c.open_clause.ensures.grows)
 
 pub open_clause-requires-clause-values : goal.open_clause-requires-clause-values
 open_clause-requires-clause-values c = subst (λ (e : Evaluator). IsArgs e.context.trees c.in_ok-values.values) (sym c.self.view_is) c.in_ok-values.ensures.sort
 
 pub invariant_of-self : goal.invariant_of-self
-invariant_of-self c = evaluator-grown _ _ _ _ _ _ c.open_clause.ensures.grows.kept c.self.invariant
+invariant_of-self c = evaluator-grown _ _ _ _ _ _ _ c.open_clause.ensures.grows.kept c.self.invariant

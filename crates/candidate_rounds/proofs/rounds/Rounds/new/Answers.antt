@@ -1,10 +1,20 @@
-use Rattle.std.proofs.Common.{ap, map}
+use Rattle.std.proofs.Common.{[], ap, map, reverse, subst, sym}
 use Rattle.candidate_rounds.specs.Inferences.{Inference}
-use Rattle.candidate_rounds.specs.Known.{info_of, state_of}
+use Rattle.candidate_rounds.specs.Known.{IsEvaluator, info_of, state_of}
+use Rattle.candidate_rounds.proofs.ResolvedValues.{evaluator-begins, nothing_known}
 use Rattle.candidate_rounds.proofs.Following.{new-fits, new-is-sound}
 use Rattle.candidate_rounds.proofs.rounds.Rounds.new.Goals as goal
 
 pub returns-clause-sound : goal.returns-clause-sound
 returns-clause-sound c = λ L.
-    let none = ap (λ (i : Inference). map (info_of c.args.cx.trees) i.variables) c.new.ensures in
-    (new-is-sound (state_of c.args.cx.trees c.args.mode c.new.result) L none, new-fits (state_of c.args.cx.trees c.args.mode c.new.result) L none)
+    let none = ap (λ (i : Inference). map (info_of c.args.cx.trees) i.variables) c.new-2.ensures in
+    (new-is-sound (state_of c.args.cx.trees c.args.mode c.new-2.result) L none, new-fits (state_of c.args.cx.trees c.args.mode c.new-2.result) L none)
+
+pub invariant_of-result : goal.invariant_of-result
+invariant_of-result c =
+    let ts = c.args.cx.trees in
+    let ns = c.args.normal.items in
+    let os = c.args.opaques.items in
+    subst (λ x. IsEvaluator ts c.new-2.result (reverse c.new-3.result.items) ns os x) (sym c.new.ensures)
+    (subst (λ x. IsEvaluator ts x (reverse c.new-3.result.items) ns os (record { table = []; asked = [] })) (sym c.new-2.ensures)
+    (subst (λ xs. IsEvaluator ts nothing_known (reverse xs) ns os (record { table = []; asked = [] })) (sym c.new-3.ensures.items) (evaluator-begins ts ns os c.requires)))

@@ -1,7 +1,7 @@
 use Rattle.std.proofs.Common.{◌∙◌, ap}
 use Rattle.candidate_eval.specs.Evaluators.{pendings_of}
-use Rattle.candidate_rounds.specs.Stopping.{AreGoalsStop, IsPassStop, pass_memory}
-use Rattle.candidate_rounds.specs.Known.{listing, state}
+use Rattle.candidate_rounds.specs.Stopping.{AreGoalsStop, IsPassStop, pass_memory, held}
+use Rattle.candidate_rounds.specs.Known.{reads, state}
 use Rattle.candidate_rounds.proofs.SettlingStops.{growth-becomes, pass-goals, refusal-passed}
 use Rattle.candidate_rounds.proofs.Going.{goes-refl, goes-trans}
 use Rattle.candidate_rounds.proofs.Exits.{not-refused}
@@ -10,21 +10,21 @@ use Rattle.candidate_rounds.proofs.rounds.Rounds.settle_once.Goals as goal
 pub returns-in_err-goals-clause-cause : goal.returns-in_err-goals-clause-cause
 returns-in_err-goals-clause-cause c =
     let old = c.args.self.now in
-    growth-becomes (IsPassStop old.context.trees (listing old) (state old)) c.from_residual.result c.in_err-goals.field-0.0 c.from_residual.ensures.1 c.in_err-goals.ensures.cause pass_memory
+    growth-becomes (IsPassStop (held old) (reads old) (state old)) c.from_residual.result c.in_err-goals.field-0.0 c.from_residual.ensures.1 c.in_err-goals.ensures.cause pass_memory
 
 pub returns-in_err-staying-clause-cause : goal.returns-in_err-staying-clause-cause
 returns-in_err-staying-clause-cause c =
     let old = c.args.self.now in
-    let ts = c.try_goals.new.self.context.trees in
+    let h = held c.try_goals.new.self in
     let ps = pendings_of old.context.trees c.as_slice.result.now in
-    refusal-passed (IsPassStop ts (listing old) (state old)) (λ s. AreGoalsStop ts (listing old) s (state old) ps) c.from_residual-in_err-staying.result c.in_err-staying.field-0.0
+    refusal-passed (IsPassStop h (reads old) (state old)) (λ s. AreGoalsStop h (reads old) s (state old) ps) c.from_residual-in_err-staying.result c.in_err-staying.field-0.0
     c.from_residual-in_err-staying.ensures.1 c.in_err-staying.ensures.cause
-    (λ s k. pass-goals ts (listing old) (state old) ps s (ap (pendings_of old.context.trees) c.as_slice.ensures.value ∙ c.in_ok-goals.ensures.goals) k)
+    (λ s k. pass-goals h (reads old) (state old) ps s (ap (pendings_of old.context.trees) c.as_slice.ensures.value ∙ c.in_ok-goals.ensures.goals) k)
 
 pub returns-in_err-set_pending-clause-cause : goal.returns-in_err-set_pending-clause-cause
 returns-in_err-set_pending-clause-cause c =
     let old = c.args.self.now in
-    growth-becomes (IsPassStop c.set_pending.new.self.context.trees (listing old) (state old)) c.from_residual-in_err-set_pending.result c.in_err-set_pending.field-0.0 c.from_residual-in_err-set_pending.ensures.1
+    growth-becomes (IsPassStop (held c.set_pending.new.self) (reads old) (state old)) c.from_residual-in_err-set_pending.result c.in_err-set_pending.field-0.0 c.from_residual-in_err-set_pending.ensures.1
     c.in_err-set_pending.ensures.cause pass_memory
 
 pub returns-in_err-goals-clause-goes : goal.returns-in_err-goals-clause-goes

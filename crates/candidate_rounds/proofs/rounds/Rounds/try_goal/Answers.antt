@@ -1,6 +1,8 @@
-use Rattle.std.proofs.Common.{refl, sym, ◌∙◌, ap, subst}
+use Rattle.std.proofs.Common.{◌≡◌, refl, sym, ◌∙◌, ap, subst}
 use Rattle.std.proofs.lemmas.Result.{err_from_is_err_and}
-use Rattle.candidate_ir.specs.Trees.{ClausesKind}
+use Rattle.candidate_ir.specs.Trees.{ClausesKind, none, tree, Tree}
+use Rattle.candidate_ir.specs.declared.ir.heads.Head.TheVariants as H
+use Rattle.candidate_ir.specs.declared.ir.heads.PartHead.TheVariants as P
 use Rattle.candidate_ir.specs.Words.{IsClause, clause_tree, env_forest}
 use Rattle.candidate_ir.specs.Supers.{after_first}
 use Rattle.candidate_ir.proofs.Joining.{clause-kept}
@@ -8,13 +10,12 @@ use Rattle.candidate_ir.proofs.Kept.{grows-trans}
 use Rattle.candidate_ir.proofs.Made.{kind_at-grows}
 use Rattle.candidate_eval.specs.Characterization.{bound_kinds}
 use Rattle.candidate_eval.specs.Evaluators.{kinds_listed, pending_of}
-use Rattle.candidate_rounds.specs.Known.{listing, state}
-use Rattle.candidate_rounds.specs.Stopping.{IsEvaluationStop, IsGoalStop, goal_memory, of_clause}
+use Rattle.candidate_rounds.specs.Known.{reads, state}
+use Rattle.candidate_rounds.specs.Stopping.{IsEvaluationStop, IsGoalStop, goal_memory, held, of_clause}
 use Rattle.rounds_judge.specs.Settling.{instantiated}
 use Rattle.candidate_rounds.proofs.Evaluating.{env-kept, instance-made, second-holds, second-tree, tried-done, tried-refused, tried-stays}
-use Rattle.candidate_rounds.proofs.Going.{goes-listing, goes-refl, goes-trans}
+use Rattle.candidate_rounds.proofs.Going.{goes-reads, goes-refl, goes-trans}
 use Rattle.candidate_rounds.proofs.SettlingStops.{evaluation-stop, growth-becomes, refusal-passed, stop-becomes}
-use Rattle.candidate_rounds.proofs.Between.{parts}
 use Rattle.candidate_rounds.proofs.Exits.{not-refused}
 use Rattle.candidate_rounds.proofs.rounds.Rounds.try_goal.Goals as goal
 
@@ -38,10 +39,10 @@ returns-in_err-try_instance-clause-refused c =
     let was = clause-kept old.context mid.context c.args.goal.predicate g.0 c.requires.1 in
     let e = ap (clause_tree mid.context.trees) c.left_clause-predicate.ensures
     ∙ second-tree mid.context.trees ks c.args.goal.predicate c.in_ok-instance.instance _ _ was.1 c.in_ok-instance.ensures.tree in
-    let i = goes-listing old mid g (parts c.well_kept.ensures).given in
+    let i = goes-reads old mid g c.well_kept.ensures in
     let r = err_from_is_err_and c.from_residual-in_err-try_instance.result c.from_residual-in_err-try_instance.ensures.1 in
     rw r.1
-    (λ n. tried-refused (listing old) (listing mid) (state old) (state mid) p ks (clause_tree mid.context.trees c.in_ok-instance.instance) (clause_tree mid.context.trees c.left_clause-predicate.result) i k c.in_ok-instance.ensures.state
+    (λ n. tried-refused (reads old) (reads mid) (state old) (state mid) p ks (env_forest mid.context.trees c.args.goal.param_env) (clause_tree mid.context.trees c.in_ok-instance.instance) (clause_tree mid.context.trees c.left_clause-predicate.result) i k c.in_ok-instance.ensures.state (env-kept old.context mid.context c.args.goal g.0 c.requires.0)
     c.in_ok-instance.ensures.tree e
     (c.in_err-try_instance.ensures.refused (sym r.2 ∙ n)))
 
@@ -56,8 +57,8 @@ returns-then-branch-clause-ok c =
     let was = clause-kept old.context mid.context c.args.goal.predicate g.0 c.requires.1 in
     let e = ap (clause_tree mid.context.trees) c.left_clause-predicate.ensures
     ∙ second-tree mid.context.trees ks c.args.goal.predicate c.in_ok-instance.instance _ _ was.1 c.in_ok-instance.ensures.tree in
-    let i = goes-listing old mid g (parts c.well_kept.ensures).given in
-    tried-done (listing old) (listing mid) (state old) (state mid) p ks (clause_tree mid.context.trees c.in_ok-instance.instance) (clause_tree mid.context.trees c.left_clause-predicate.result) i k c.in_ok-instance.ensures.state
+    let i = goes-reads old mid g c.well_kept.ensures in
+    tried-done (reads old) (reads mid) (state old) (state mid) p ks (env_forest mid.context.trees c.args.goal.param_env) (clause_tree mid.context.trees c.in_ok-instance.instance) (clause_tree mid.context.trees c.left_clause-predicate.result) i k c.in_ok-instance.ensures.state (env-kept old.context mid.context c.args.goal g.0 c.requires.0)
     c.in_ok-instance.ensures.tree e
     (state c.try_instance.new.self) c.in_ok-try_instance.field-0 c.if-branch.true c.in_ok-try_instance.ensures.ok
 
@@ -84,12 +85,12 @@ returns-clause-ok c =
     let was = clause-kept old.context mid.context c.args.goal.predicate g.0 c.requires.1 in
     let e = ap (clause_tree mid.context.trees) c.left_clause-predicate.ensures
     ∙ second-tree mid.context.trees ks c.args.goal.predicate c.in_ok-instance.instance _ _ was.1 c.in_ok-instance.ensures.tree in
-    let i = goes-listing old mid g (parts c.well_kept.ensures).given in
+    let i = goes-reads old mid g c.well_kept.ensures in
     let left = subst (IsClause mid.context.trees) (sym c.left_clause-predicate.ensures)
     (second-holds (IsClause mid.context.trees) c.as_slice-2.result.now c.args.goal.predicate c.in_ok-instance.instance (clause-kept old.context mid.context c.args.goal.predicate g.0 c.requires.1).0 c.in_ok-instance.ensures.sort) in
     let new = c.try_instance.new.self in
     let grown = grows-trans old.context mid.context new.context g.0 c.try_instance.ensures.goes.0 in
-    tried-stays (listing old) (listing mid) (state old) (state mid) p ks (clause_tree mid.context.trees c.in_ok-instance.instance) (clause_tree mid.context.trees c.left_clause-predicate.result) i k c.in_ok-instance.ensures.state
+    tried-stays (reads old) (reads mid) (state old) (state mid) p ks (env_forest mid.context.trees c.args.goal.param_env) (clause_tree mid.context.trees c.in_ok-instance.instance) (clause_tree mid.context.trees c.left_clause-predicate.result) i k c.in_ok-instance.ensures.state (env-kept old.context mid.context c.args.goal g.0 c.requires.0)
     c.in_ok-instance.ensures.tree e
     (state new) c.in_ok-try_instance.field-0 (pending_of new.context.trees c.args.source (record { param_env = c.args.goal.param_env; predicate = c.left_clause-predicate.result })) c.if-branch.false
     (instance-made p ks (bound_kinds p.goal.clause.children) (instantiated (state old) p.goal.clause).1 (env_forest new.context.trees c.args.goal.param_env) (clause_tree new.context.trees c.left_clause-predicate.result) k
@@ -100,25 +101,33 @@ returns-clause-ok c =
 pub returns-in_err-kinds-clause-cause : goal.returns-in_err-kinds-clause-cause
 returns-in_err-kinds-clause-cause c =
     let old = c.args.self.now in
-    growth-becomes (IsGoalStop old.context.trees (listing old) (state old) (pending_of old.context.trees c.args.source c.args.goal)) c.from_residual.result c.in_err-kinds.field-0.0 c.from_residual.ensures.1
+    growth-becomes (IsGoalStop (held old) (reads old) (state old) (pending_of old.context.trees c.args.source c.args.goal)) c.from_residual.result c.in_err-kinds.field-0.0 c.from_residual.ensures.1
     c.in_err-kinds.ensures.cause goal_memory
 
 pub returns-in_err-instance-clause-cause : goal.returns-in_err-instance-clause-cause
 returns-in_err-instance-clause-cause c =
     let old = c.args.self.now in
-    stop-becomes (IsGoalStop c.instantiate.new.self.context.trees (listing old) (state old) (pending_of old.context.trees c.args.source c.args.goal)) c.from_residual-in_err-instance.result c.in_err-instance.field-0.0
+    stop-becomes (IsGoalStop (held c.instantiate.new.self) (reads old) (state old) (pending_of old.context.trees c.args.source c.args.goal)) c.from_residual-in_err-instance.result c.in_err-instance.field-0.0
     c.from_residual-in_err-instance.ensures.1 (of_clause c.in_err-instance.ensures.cause)
 
 pub returns-in_err-try_instance-clause-cause : goal.returns-in_err-try_instance-clause-cause
 returns-in_err-try_instance-clause-cause c =
     let old = c.args.self.now in
     let mid = c.instantiate.new.self in
-    let ts = c.try_instance.new.self.context.trees in
+    let h = held c.try_instance.new.self in
     let p = pending_of old.context.trees c.args.source c.args.goal in
+    let e = env_forest mid.context.trees c.args.goal.param_env in
     let x = clause_tree mid.context.trees c.in_ok-instance.instance in
-    refusal-passed (IsGoalStop ts (listing old) (state old) p) (IsEvaluationStop ts (listing mid) (state mid) x.head (after_first x.children)) c.from_residual-in_err-try_instance.result c.in_err-try_instance.field-0.0
+    refusal-passed (IsGoalStop h (reads old) (state old) p) (IsEvaluationStop h (reads mid) (state mid) e x) c.from_residual-in_err-try_instance.result c.in_err-try_instance.field-0.0
     c.from_residual-in_err-try_instance.ensures.1 c.in_err-try_instance.ensures.cause
-    (λ s k. evaluation-stop ts (listing old) (listing mid) (state old) (state mid) p x s (goes-listing old mid c.instantiate.ensures.goes (parts c.well_kept.ensures).given) c.in_ok-instance.ensures.state c.in_ok-instance.ensures.tree k)
+    (λ s k. evaluation-stop h (reads old) (reads mid) (state old) (state mid) p e x s (goes-reads old mid c.instantiate.ensures.goes c.well_kept.ensures) c.in_ok-instance.ensures.state
+    (env-kept old.context mid.context c.args.goal c.instantiate.ensures.goes.0 c.requires.0) c.in_ok-instance.ensures.tree k)
+
+pub try_instance-requires-clause-env : goal.try_instance-requires-clause-env
+try_instance-requires-clause-env c = kind_at-grows c.args.self.now.context c.instantiate.new.self.context c.args.goal.param_env.0 ClausesKind c.instantiate.ensures.goes.0 refl c.requires.0
+
+pub try_instance-requires-clause-unbound : goal.try_instance-requires-clause-unbound
+try_instance-requires-clause-unbound c = subst (λ (x : Tree). x.children ≡ tree (H.Part P.Vars) none (after_first x.children)) (sym c.in_ok-instance.ensures.tree) refl
 
 pub instantiate-requires-clause-kinds : goal.instantiate-requires-clause-kinds
 instantiate-requires-clause-kinds c = ap kinds_listed c.as_slice.ensures.value ∙ c.in_ok-kinds.ensures.kinds

@@ -16,7 +16,7 @@ value_in-requires-clause-kinds c = kinds-now c.self.inside.cx.trees c.self.insid
 pub invariant_of-self : goal.invariant_of-self
 invariant_of-self c =
     let i = c.self.inside in
-    evaluator-grown i.cx.trees c.value_in.new.cx.trees i.inference (reverse i.probes.items) i.normal.items i.opaques.items c.value_in.ensures.grows.kept c.self.invariant
+    evaluator-grown i.cx.trees c.value_in.new.cx.trees i.inference (reverse i.probes.items) i.normal.items i.opaques.items i.goals c.value_in.ensures.grows.kept c.self.invariant
 
 pub returns-clause-state : goal.returns-clause-state
 returns-clause-state c =
@@ -44,5 +44,5 @@ value_in-requires-clause-types c = subst (Each (AreTypes c.self.inside.cx.trees)
 pub returns-clause-goes : goal.returns-clause-goes
 returns-clause-goes c =
     let i = c.self.inside in
-    let v : Evaluator = record { context = i.cx; mode = i.mode; normal = i.normal.items; opaques = i.opaques.items; inference = i.inference; marks = reverse i.probes.items } in
+    let v : Evaluator = record { context = i.cx; mode = i.mode; normal = i.normal.items; opaques = i.opaques.items; goals = i.goals; inference = i.inference; marks = reverse i.probes.items } in
     subst (λ (e : Evaluator). GoesOn e (record v { context = c.value_in.new.cx })) c.self.view_is (goes-context v c.value_in.new.cx c.value_in.ensures.grows)

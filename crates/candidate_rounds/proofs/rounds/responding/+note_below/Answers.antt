@@ -1,4 +1,5 @@
-use Rattle.std.proofs.Common.{◌∙◌, ap}
+use Rattle.std.proofs.Common.{◌∙◌, ap, sym}
+use Rattle.rounds_judge.specs.TableSettling.{are_bare}
 use Rattle.candidate_ir.specs.Nodes.{tree_at}
 use Rattle.candidate_ir.specs.Trees.{variable_number}
 use Rattle.candidate_eval.specs.Noting.{IsNotingStop, refused_note}
@@ -15,6 +16,10 @@ loop-place-preserved t c =
     let ns = c.loop-place.numbers.items in
     one-more-noted-below c.args.cx.now.trees c.args.numbers.now.items ns c.note_number.new.numbers.items c.note_below.new.numbers.items (tree_at c.args.cx.now.trees c.args.number).children c.loop-place.place c.in-Some.child
     c.loop-place.invariant c.in-Some.ensures.1 (c.in_ok-note_number.ensures.noted ∙ ap (with_number ns) (c.variable_number.ensures ∙ ap variable_number c.head.ensures)) c.in_ok-note_below.ensures.noted
+    c.stands_bare.ensures c.in_ok-note_below.ensures.bare
 
 pub returns-clause-cause : goal.returns-clause-cause
 returns-clause-cause t c = wide-node c.args.cx.now.trees c.args.number c.loop-place.place c.requires c.loop-place.invariant.fewer c.loop-place-test.false
+
+pub returns-in_default-clause-bare : goal.returns-in_default-clause-bare
+returns-in_default-clause-bare t c = sym c.loop-place.invariant.bare ∙ ap are_bare c.in_default.ensures

@@ -1,16 +1,16 @@
 use Rattle.std.proofs.Common.{ap, ◌∙◌}
-use Rattle.candidate_rounds.specs.Known.{Evaluator, listing, state}
+use Rattle.candidate_rounds.specs.Known.{Evaluator, reads, state}
 use Rattle.candidate_rounds.proofs.Going.{goes-same, goes-trans}
 use Rattle.candidate_rounds.proofs.Trying.{resolved-again, taken-back}
-use Rattle.candidate_rounds.proofs.Going.{goes-listing}
+use Rattle.candidate_rounds.proofs.Going.{goes-reads}
 use Rattle.candidate_rounds.proofs.SettlingStops.{response-stop}
 use Rattle.candidate_rounds.proofs.Between.{parts}
 use Rattle.candidate_rounds.proofs.Exits.{few-back, marks-back}
 use Rattle.candidate_rounds.proofs.Interface.{keeps-going}
 use Rattle.std.proofs.Common.{length}
 use Rattle.std.proofs.lemmas.Result.{err_from_is_err_and}
-use Rattle.candidate_rounds.proofs.Accounting.{listed-error}
-use Rattle.candidate_rounds.specs.Stopping.{IsAnsweringStop}
+use Rattle.candidate_rounds.proofs.Accounting.{read-error}
+use Rattle.candidate_rounds.specs.Stopping.{IsAnsweringStop, held}
 use Rattle.candidate_rounds.specs.Stopping.IsAnsweringStop.{of_settling}
 use Rattle.candidate_eval.proofs.Accounts.{by-stop}
 use Rattle.candidate_eval.specs.declared.eval.refusal.NoSolutionOrStop.TheVariants as NoSolutionOrStop
@@ -66,8 +66,8 @@ returns-in-Err-clause-cause c =
     let new = c.undo_to.new.self in
     let goes = goes-trans old mid c.make_canonical_response.new.self c.try_evaluate_added_goals.ensures.goes c.make_canonical_response.ensures.goes in
     let t = taken-back old c.make_canonical_response.new.self new c.changes-changes.result (c.changes-changes.ensures ∙ ap (λ (e : Evaluator). length e.inference.trail) c.self.view_is) goes c.undo_to.ensures in
-    listed-error (λ l s. IsAnsweringStop new.context.trees l (state old) s) (listing old) (listing new) (goes-listing old new t.0 (parts c.well_kept.ensures).given) (NoSolutionOrStop.Stop c.in-Err.stop)
-    (response-stop c.make_canonical_response.new.self.context.trees c.undo_to.new.self.context.trees (listing old) (state old) (state mid) c.in_ok-settled.settled c.in-Err.stop c.in_ok-settled.ensures.listed
+    read-error (λ q s. IsAnsweringStop (held new) q (state old) s) (reads old) (reads new) (goes-reads old new t.0 c.well_kept.ensures) (NoSolutionOrStop.Stop c.in-Err.stop)
+    (response-stop c.make_canonical_response.new.self.context.trees (held new) (reads old) (state old) (state mid) c.in_ok-settled.settled c.in-Err.stop c.in_ok-settled.ensures.listed
     (ap (λ (e : Evaluator). e.context.trees) c.undo_to.ensures) c.in-Err.ensures.cause)
 
 pub returns-in_err-settled-clause-cause : goal.returns-in_err-settled-clause-cause

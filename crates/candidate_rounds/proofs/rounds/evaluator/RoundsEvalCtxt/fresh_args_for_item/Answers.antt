@@ -45,9 +45,9 @@ returns-in_err-args-clause-kept c = keeps-going c.args.self.now c.make_leaves.ne
 pub returns-in_err-add_variables-clause-kept : goal.returns-in_err-add_variables-clause-kept
 returns-in_err-add_variables-clause-kept c =
     keeps-all c.args.self.now c.add_variables.new.self (subst (Grows c.args.self.now.context) (sym c.add_variables.ensures.context) c.make_leaves.ensures.grows)
-    (given-trans c.args.self.now c.make_leaves.new.self c.add_variables.new.self c.make_leaves.ensures.given c.add_variables.ensures.given) (parts c.well_kept.ensures).given (c.add_variables.ensures.probes ∙ c.make_leaves.ensures.probes)
+    (given-trans c.args.self.now c.make_leaves.new.self c.add_variables.new.self c.make_leaves.ensures.given c.add_variables.ensures.given) (parts c.well_kept.ensures).given (parts c.well_kept.ensures).tabled (c.add_variables.ensures.probes ∙ c.make_leaves.ensures.probes)
 
 pub returns-clause-kept : goal.returns-clause-kept
 returns-clause-kept c =
     keeps-all c.args.self.now c.add_variables.new.self (subst (Grows c.args.self.now.context) (sym c.add_variables.ensures.context) c.make_leaves.ensures.grows)
-    (given-trans c.args.self.now c.make_leaves.new.self c.add_variables.new.self c.make_leaves.ensures.given c.add_variables.ensures.given) (parts c.well_kept.ensures).given (c.add_variables.ensures.probes ∙ c.make_leaves.ensures.probes)
+    (given-trans c.args.self.now c.make_leaves.new.self c.add_variables.new.self c.make_leaves.ensures.given c.add_variables.ensures.given) (parts c.well_kept.ensures).given (parts c.well_kept.ensures).tabled (c.add_variables.ensures.probes ∙ c.make_leaves.ensures.probes)

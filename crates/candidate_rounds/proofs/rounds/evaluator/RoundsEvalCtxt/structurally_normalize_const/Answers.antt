@@ -6,7 +6,6 @@ use Rattle.candidate_ir.specs.Words.{const_tree}
 use Rattle.rounds_judge.specs.Normalizing.{normalized}
 use Rattle.rounds_judge.proofs.WellListed.{all-listed}
 use Rattle.candidate_rounds.specs.Known.{listing, state}
-use Rattle.candidate_eval.specs.States.{resolved_tree}
 use Rattle.std.proofs.Common.{Ok}
 use Rattle.std.proofs.lemmas.Result.{err_from_is_err_and}
 use Rattle.candidate_rounds.proofs.rounds.evaluator.RoundsEvalCtxt.structurally_normalize_const.Goals as goal

@@ -1,20 +1,20 @@
 use Rattle.candidate_rounds.proofs.Going.{goes-same}
 use Rattle.candidate_rounds.proofs.Trying.{resolved-again, taken-back}
-use Rattle.candidate_rounds.proofs.Going.{goes-listing}
+use Rattle.candidate_rounds.proofs.Going.{goes-reads}
 use Rattle.candidate_rounds.proofs.Following.{settling-follows}
 use Rattle.candidate_rounds.proofs.Between.{parts}
 use Rattle.candidate_rounds.proofs.Exits.{few-back, marks-back}
 use Rattle.candidate_rounds.proofs.Interface.{keeps-going}
 use Rattle.std.proofs.Common.{Option, Some, ◌∙◌, ap, sym, subst}
-use Rattle.rounds_judge.specs.Settling.{settled}
+use Rattle.rounds_judge.specs.TableSettling.{settled_with}
 use Rattle.rounds_judge.proofs.WellListed.{all-listed}
-use Rattle.candidate_rounds.specs.Known.{listing, state}
+use Rattle.candidate_rounds.specs.Known.{listing, reading, reads, state}
 use Rattle.candidate_eval.specs.States.{State, next}
 use Rattle.rounds_judge.specs.Settling.{certainty_of}
 use Rattle.candidate_rounds.specs.Known.{Evaluator}
 use Rattle.std.proofs.Common.{length}
-use Rattle.candidate_rounds.proofs.Accounting.{listed-error}
-use Rattle.candidate_rounds.specs.Stopping.{IsSettlingStop}
+use Rattle.candidate_rounds.proofs.Accounting.{read-error}
+use Rattle.candidate_rounds.specs.Stopping.{Held, IsSettlingStop, held}
 use Rattle.candidate_rounds.proofs.rounds.evaluator.RoundsEvalCtxt.try_evaluate_added_goals.Goals as goal
 
 pub undo_to-requires-clause-resolved : goal.undo_to-requires-clause-resolved
@@ -45,13 +45,13 @@ undo_to-requires-clause-probes c = marks-back c.args.self.now c.settle.new.self 
 pub returns-in-Ok-clause-ok : goal.returns-in-Ok-clause-ok
 returns-in-Ok-clause-ok c =
     let old = c.args.self.now in
-    ap (λ l. settled l (state old)) (all-listed (listing old) (parts c.well_kept.ensures).given.listing)
+    ap (λ l. settled_with (reading old) l (state old)) (all-listed (listing old) (parts c.well_kept.ensures).given.listing)
     ∙ (ap (λ (o : Option State). next o (λ T. Some (certainty_of T.pending, T))) c.in-Ok.ensures.ok ∙ ap (λ x. Some (x, state c.settle.new.self)) (sym c.certainty.ensures))
 
 pub returns-in-Err-clause-refused : goal.returns-in-Err-clause-refused
 returns-in-Err-clause-refused c =
     let old = c.args.self.now in
-    λ n. ap (λ l. settled l (state old)) (all-listed (listing old) (parts c.well_kept.ensures).given.listing) ∙ ap (λ (o : Option State). next o (λ T. Some (certainty_of T.pending, T))) (c.in-Err.ensures.refused n)
+    λ n. ap (λ l. settled_with (reading old) l (state old)) (all-listed (listing old) (parts c.well_kept.ensures).given.listing) ∙ ap (λ (o : Option State). next o (λ T. Some (certainty_of T.pending, T))) (c.in-Err.ensures.refused n)
 
 pub returns-in-Err-clause-stopped : goal.returns-in-Err-clause-stopped
 returns-in-Err-clause-stopped c =
@@ -63,8 +63,8 @@ returns-in-Err-clause-cause c =
     let old = c.args.self.now in
     let new = c.undo_to.new.self in
     let t = taken-back old c.settle.new.self new c.changes-changes.result (c.changes-changes.ensures ∙ ap (λ (e : Evaluator). length e.inference.trail) c.self.view_is) c.settle.ensures.goes c.undo_to.ensures in
-    listed-error (λ l s. IsSettlingStop new.context.trees l (state old) s) (listing old) (listing new) (goes-listing old new t.0 (parts c.well_kept.ensures).given) c.in-Err.refusal
-    (λ s k. subst (λ ts. IsSettlingStop ts (listing old) (state old) s) (sym (ap (λ (e : Evaluator). e.context.trees) c.undo_to.ensures)) (c.in-Err.ensures.cause s k))
+    read-error (λ q s. IsSettlingStop (held new) q (state old) s) (reads old) (reads new) (goes-reads old new t.0 c.well_kept.ensures) c.in-Err.refusal
+    (λ s k. subst (λ (x : Held). IsSettlingStop x (reads old) (state old) s) (sym (ap held c.undo_to.ensures)) (c.in-Err.ensures.cause s k))
 
 pub returns-in-Ok-clause-follows : goal.returns-in-Ok-clause-follows
 returns-in-Ok-clause-follows c =

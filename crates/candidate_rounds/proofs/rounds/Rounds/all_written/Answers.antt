@@ -1,0 +1,32 @@
+use Rattle.std.proofs.Common.{◌≡◌, ◌<◌, ◌+◌, suc, length, rules, sym, subst, arith}
+use Rattle.candidate_ir.specs.declared.ir.stop.Stop.TheVariants.{Memory}
+use Rattle.candidate_rounds.specs.Known.{table_of}
+use Rattle.candidate_rounds.specs.Running.{IsRunStop, run_making}
+use Rattle.candidate_rounds.proofs.ResponseStops.{passed-on}
+use Rattle.candidate_rounds.proofs.Running.{WrittenSoFar, one-more-written, run-stop-before, same-length}
+use Rattle.candidate_rounds.proofs.rounds.Rounds.all_written.Goals as goal
+
+pub returns-in_err-written_at-clause-cause : goal.returns-in_err-written_at-clause-cause
+returns-in_err-written_at-clause-cause c =
+    let r = c.args.self.now in
+    let on = c.loop-place.invariant in
+    let stop = c.in_err-written_at.field-0.0 in
+    passed-on (IsRunStop r (table_of r)) c.from_residual.result stop c.from_residual.ensures.1
+    (run-stop-before on.stays (table_of r) stop (subst (λ T. IsRunStop c.loop-place.self T stop) on.table c.in_err-written_at.ensures.cause))
+
+pub returns-in_err-push-clause-cause : goal.returns-in_err-push-clause-cause
+returns-in_err-push-clause-cause c =
+    let r = c.args.self.now in
+    passed-on (IsRunStop r (table_of r)) c.from_residual-in_err-push.result Memory c.from_residual-in_err-push.ensures.1 (run_making tt)
+
+pub loop-place-preserved : goal.loop-place-preserved
+loop-place-preserved c =
+    let at = c.loop-place in
+    let w = c.in_ok-written_at.field-0 in
+    let said = c.in_ok-written_at.ensures in
+    let many = same-length c.args.self.now at.self at.invariant.table in
+    let below : at.place < length at.self.goals.table = search rules in
+    let next : suc at.place ≡ at.place + 1 = omega arith in
+    subst (λ n. WrittenSoFar c.args.self.now c.written_at.new.self n c.push.new.self.items) next
+    (subst (λ ws. WrittenSoFar c.args.self.now c.written_at.new.self (suc at.place) ws) (sym c.in_ok-push.ensures.items)
+    (one-more-written at.place at.list.items w at.invariant below said.stays said.table said.written))

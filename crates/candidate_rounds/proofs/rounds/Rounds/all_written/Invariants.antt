@@ -1,0 +1,5 @@
+use Rattle.candidate_rounds.proofs.Running.{WrittenSoFar}
+use Rattle.candidate_rounds.proofs.rounds.Rounds.all_written.Given as goal
+
+abbrev pub invariant-loop-place : goal.invariant-loop-place
+invariant-loop-place l = WrittenSoFar l.initial.self l.self l.place l.list.items

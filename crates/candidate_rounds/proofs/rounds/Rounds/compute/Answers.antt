@@ -1,0 +1,145 @@
+use Rattle.std.proofs.Common.{◌≡◌, ◌⊎◌, List, IfErr, IfOk, Option, Result, reverse, slice_index_or, sym, ◌∙◌, ap, subst}
+use Rattle.candidate_ir.specs.declared.ir.stop.Stop.{Stop}
+use Rattle.candidate_ir.specs.Context.{Context}
+use Rattle.candidate_ir.specs.Trees.{Tree}
+use Rattle.candidate_eval.specs.declared.eval.response.CanonicalResponse.{CanonicalResponse}
+use Rattle.candidate_eval.specs.Evaluators.{IsMakingStop}
+use Rattle.candidate_assembly.specs.Standing.{GoalStands}
+use Rattle.candidate_assembly.specs.TraitAnswers.{Computes}
+use Rattle.candidate_assembly.specs.TraitGoals.{trait_goal}
+use Rattle.candidate_assembly.specs.TraitRules.{trait_rules}
+use Rattle.candidate_rounds.specs.declared.rounds.Rounds.TheInside.{Inside}
+use Rattle.candidate_rounds.specs.Goals.{IsKeyOf, Via, key_seen}
+use Rattle.candidate_rounds.specs.Interface.{fixed, judge_of}
+use Rattle.candidate_rounds.specs.Known.{Evaluator, IsEvaluator, probes, state, table_of}
+use Rattle.candidate_rounds.specs.Running.{IsComputingStop, StaysBesideTable, computing, told}
+use Rattle.candidate_rounds.specs.Starting.{started}
+use Rattle.candidate_rounds.specs.Stopping.{accounts}
+use Rattle.candidate_rounds.proofs.Computing.{answer-is, answer-stopped, back-holds, back-stays, come_back, out-holds, out-state}
+use Rattle.candidate_rounds.proofs.Running.{entry-at, get-there, key-get}
+use Rattle.candidate_rounds.proofs.Starting.{key-stands}
+use Rattle.rounds_judge.specs.GoalTable.{Entry}
+use Rattle.rounds_judge.specs.Keys.{Key, newest_of}
+use Rattle.candidate_rounds.proofs.rounds.Rounds.compute.Goals as goal
+
+pub start_of-requires : goal.start_of-requires
+start_of-requires c =
+    let r = c.args.self.now in
+    let i = c.args.place in
+    let e = c.index.result.now in
+    let got = c.index.ensures ∙ (ap (λ (v : Inside). slice_index_or v.goals.table i e) c.self-inside.view_is ∙ ap (λ (x : Evaluator). slice_index_or x.goals.table i e) c.self.view_is) in
+    let there = get-there r.goals.table i e c.requires got in
+    let cx = ap (λ (v : Inside). v.cx) c.self-inside.view_is ∙ ap (λ (x : Evaluator). x.context) c.self.view_is in
+    subst (λ (x : Context). IsKeyOf x.trees e.key) (sym cx) (entry-at r i e c.well_kept.ensures there).key
+
+pub set_out-aside-requires : goal.set_out-aside-requires
+set_out-aside-requires c =
+    let r = c.args.self.now in
+    let i = c.args.place in
+    let e = c.index.result.now in
+    let got = c.index.ensures ∙ (ap (λ (v : Inside). slice_index_or v.goals.table i e) c.self-inside.view_is ∙ ap (λ (x : Evaluator). slice_index_or x.goals.table i e) c.self.view_is) in
+    let there = get-there r.goals.table i e c.requires got in
+    let cx = ap (λ (v : Inside). v.cx) c.self-inside.view_is ∙ ap (λ (x : Evaluator). x.context) c.self.view_is in
+    let key = key_seen r.context.trees e.key in
+    let start = c.in_ok-start.start in
+    let starts = subst (λ (x : Context). start.inference ≡ started (newest_of (key_seen x.trees e.key)) e.key.variables.items) cx c.in_ok-start.ensures.inference in
+    let says = subst (λ (x : Context). trait_goal x.trees start.param_env start.predicate ≡ (key_seen x.trees e.key).goal) cx c.in_ok-start.ensures.says in
+    out-holds r key start.inference c.well_kept.ensures starts
+
+pub compute_here-answer-requires-clause-stands : goal.compute_here-answer-requires-clause-stands
+compute_here-answer-requires-clause-stands c =
+    let r = c.args.self.now in
+    let i = c.args.place in
+    let e = c.index.result.now in
+    let got = c.index.ensures ∙ (ap (λ (v : Inside). slice_index_or v.goals.table i e) c.self-inside.view_is ∙ ap (λ (x : Evaluator). slice_index_or x.goals.table i e) c.self.view_is) in
+    let there = get-there r.goals.table i e c.requires got in
+    let cx = ap (λ (v : Inside). v.cx) c.self-inside.view_is ∙ ap (λ (x : Evaluator). x.context) c.self.view_is in
+    let key = key_seen r.context.trees e.key in
+    let start = c.in_ok-start.start in
+    let starts = subst (λ (x : Context). start.inference ≡ started (newest_of (key_seen x.trees e.key)) e.key.variables.items) cx c.in_ok-start.ensures.inference in
+    let says = subst (λ (x : Context). trait_goal x.trees start.param_env start.predicate ≡ (key_seen x.trees e.key).goal) cx c.in_ok-start.ensures.says in
+    let g = trait_goal r.context.trees start.param_env start.predicate in
+    subst (λ (x : Evaluator). GoalStands trait_rules (state x) (trait_goal x.context.trees start.param_env start.predicate)) (sym c.set_out-aside.ensures.out)
+    (subst (λ S. GoalStands trait_rules S g) (sym (out-state r key start.inference starts)) (key-stands r.mode key g (entry-at r i e c.well_kept.ensures there).key.asked says))
+
+pub come_back-requires : goal.come_back-requires
+come_back-requires c =
+    let r = c.args.self.now in
+    let i = c.args.place in
+    let e = c.index.result.now in
+    let got = c.index.ensures ∙ (ap (λ (v : Inside). slice_index_or v.goals.table i e) c.self-inside.view_is ∙ ap (λ (x : Evaluator). slice_index_or x.goals.table i e) c.self.view_is) in
+    let there = get-there r.goals.table i e c.requires got in
+    let cx = ap (λ (v : Inside). v.cx) c.self-inside.view_is ∙ ap (λ (x : Evaluator). x.context) c.self.view_is in
+    let key = key_seen r.context.trees e.key in
+    let start = c.in_ok-start.start in
+    let starts = subst (λ (x : Context). start.inference ≡ started (newest_of (key_seen x.trees e.key)) e.key.variables.items) cx c.in_ok-start.ensures.inference in
+    let says = subst (λ (x : Context). trait_goal x.trees start.param_env start.predicate ≡ (key_seen x.trees e.key).goal) cx c.in_ok-start.ensures.says in
+    let n = c.compute_here-answer.new.self in
+    let out = c.set_out-aside.ensures.out in
+    let computes = subst (λ (x : Evaluator). Computes fixed judge_of state probes (λ y. y.context) accounts x n (trait_goal x.context.trees start.param_env start.predicate) c.compute_here-answer.result) out c.compute_here-answer.ensures in
+    let aside = c.set_out-aside.ensures in
+    subst (λ x. IsEvaluator n.context.trees x (reverse c.set_out-aside.result.probes.items) n.normal n.opaques n.goals) (sym aside.inference)
+    (subst (λ x. IsEvaluator n.context.trees r.inference x n.normal n.opaques n.goals) (sym aside.probes) (back-holds r n c.well_kept.ensures computes.kept.grows c.well_kept-2.ensures))
+
+pub returns-clause-stays : goal.returns-clause-stays
+returns-clause-stays c =
+    let r = c.args.self.now in
+    let i = c.args.place in
+    let e = c.index.result.now in
+    let got = c.index.ensures ∙ (ap (λ (v : Inside). slice_index_or v.goals.table i e) c.self-inside.view_is ∙ ap (λ (x : Evaluator). slice_index_or x.goals.table i e) c.self.view_is) in
+    let there = get-there r.goals.table i e c.requires got in
+    let cx = ap (λ (v : Inside). v.cx) c.self-inside.view_is ∙ ap (λ (x : Evaluator). x.context) c.self.view_is in
+    let key = key_seen r.context.trees e.key in
+    let start = c.in_ok-start.start in
+    let starts = subst (λ (x : Context). start.inference ≡ started (newest_of (key_seen x.trees e.key)) e.key.variables.items) cx c.in_ok-start.ensures.inference in
+    let says = subst (λ (x : Context). trait_goal x.trees start.param_env start.predicate ≡ (key_seen x.trees e.key).goal) cx c.in_ok-start.ensures.says in
+    let n = c.compute_here-answer.new.self in
+    let out = c.set_out-aside.ensures.out in
+    let computes = subst (λ (x : Evaluator). Computes fixed judge_of state probes (λ y. y.context) accounts x n (trait_goal x.context.trees start.param_env start.predicate) c.compute_here-answer.result) out c.compute_here-answer.ensures in
+    let aside = c.set_out-aside.ensures in
+    let back : c.come_back.new.self ≡ come_back r n = c.come_back.ensures ∙ (λ j. record n { mode = aside.mode j; inference = aside.inference j; marks = aside.probes j }) in
+    subst (StaysBesideTable r) (sym back) (back-stays r n start.inference c.well_kept.ensures computes.kept)
+
+pub returns-clause-answer : goal.returns-clause-answer
+returns-clause-answer c = λ d g.
+    let r = c.args.self.now in
+    let i = c.args.place in
+    let e = c.index.result.now in
+    let got = c.index.ensures ∙ (ap (λ (v : Inside). slice_index_or v.goals.table i e) c.self-inside.view_is ∙ ap (λ (x : Evaluator). slice_index_or x.goals.table i e) c.self.view_is) in
+    let there = get-there r.goals.table i e c.requires got in
+    let cx = ap (λ (v : Inside). v.cx) c.self-inside.view_is ∙ ap (λ (x : Evaluator). x.context) c.self.view_is in
+    let key = key_seen r.context.trees e.key in
+    let start = c.in_ok-start.start in
+    let starts = subst (λ (x : Context). start.inference ≡ started (newest_of (key_seen x.trees e.key)) e.key.variables.items) cx c.in_ok-start.ensures.inference in
+    let says = subst (λ (x : Context). trait_goal x.trees start.param_env start.predicate ≡ (key_seen x.trees e.key).goal) cx c.in_ok-start.ensures.says in
+    let n = c.compute_here-answer.new.self in
+    let out = c.set_out-aside.ensures.out in
+    let computes = subst (λ (x : Evaluator). Computes fixed judge_of state probes (λ y. y.context) accounts x n (trait_goal x.context.trees start.param_env start.predicate) c.compute_here-answer.result) out c.compute_here-answer.ensures in
+    let aside = c.set_out-aside.ensures in
+    let back : c.come_back.new.self ≡ come_back r n = c.come_back.ensures ∙ (λ j. record n { mode = aside.mode j; inference = aside.inference j; marks = aside.probes j }) in
+    let q = sym (ap (λ (x : Entry Via). x.key) (key-get r i e d there g)) in
+    let u = sym (ap (λ (x : Evaluator). x.context.trees) back) in
+    let z = sym c.answered.ensures in
+    subst (λ (x : Result (Option (CanonicalResponse × Option Via)) Stop × Key × List Tree). IfOk x.0 (λ a. computing r (table_of r) x.1 (told x.2 a))) (λ j. (z j, q j, u j))
+    (answer-is r n start.inference key (trait_goal r.context.trees start.param_env start.predicate) starts says c.compute_here-answer.result computes)
+
+pub returns-clause-cause : goal.returns-clause-cause
+returns-clause-cause c = λ d g.
+    let r = c.args.self.now in
+    let i = c.args.place in
+    let e = c.index.result.now in
+    let got = c.index.ensures ∙ (ap (λ (v : Inside). slice_index_or v.goals.table i e) c.self-inside.view_is ∙ ap (λ (x : Evaluator). slice_index_or x.goals.table i e) c.self.view_is) in
+    let there = get-there r.goals.table i e c.requires got in
+    let cx = ap (λ (v : Inside). v.cx) c.self-inside.view_is ∙ ap (λ (x : Evaluator). x.context) c.self.view_is in
+    let key = key_seen r.context.trees e.key in
+    let start = c.in_ok-start.start in
+    let starts = subst (λ (x : Context). start.inference ≡ started (newest_of (key_seen x.trees e.key)) e.key.variables.items) cx c.in_ok-start.ensures.inference in
+    let says = subst (λ (x : Context). trait_goal x.trees start.param_env start.predicate ≡ (key_seen x.trees e.key).goal) cx c.in_ok-start.ensures.says in
+    let n = c.compute_here-answer.new.self in
+    let out = c.set_out-aside.ensures.out in
+    let computes = subst (λ (x : Evaluator). Computes fixed judge_of state probes (λ y. y.context) accounts x n (trait_goal x.context.trees start.param_env start.predicate) c.compute_here-answer.result) out c.compute_here-answer.ensures in
+    let aside = c.set_out-aside.ensures in
+    let q = sym (ap (λ (x : Entry Via). x.key) (key-get r i e d there g)) in
+    let z = sym c.answered.ensures in
+    subst (λ (x : Result (Option (CanonicalResponse × Option Via)) Stop × Key). IfErr x.0 (λ s. IsMakingStop s ⊎ IsComputingStop r (table_of r) x.1 s)) (λ j. (z j, q j))
+    (answer-stopped r n start.inference key (trait_goal r.context.trees start.param_env start.predicate) starts says c.compute_here-answer.result computes)

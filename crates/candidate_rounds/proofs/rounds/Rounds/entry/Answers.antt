@@ -1,0 +1,51 @@
+use Rattle.std.proofs.Common.{sym, ◌∙◌, ap, arith}
+use Rattle.candidate_assembly.proofs.Causes.{so-ok}
+use Rattle.candidate_assembly.specs.TraitGoals.{trait_goal}
+use Rattle.candidate_rounds.specs.Goals.{key_seen}
+use Rattle.candidate_rounds.specs.Known.{state, table_of}
+use Rattle.candidate_rounds.proofs.Rounding.{goes-stays, no-verdict, place-below, place-verdict}
+use Rattle.candidate_rounds.proofs.Running.{seen-length}
+use Rattle.rounds_judge.specs.GoalTable.{verdict_in}
+use Rattle.rounds_judge.specs.Keys.{Key, key_at}
+use Rattle.candidate_rounds.proofs.rounds.Rounds.entry.Goals as goal
+
+pub returns-in_err-key-clause-stays : goal.returns-in_err-key-clause-stays
+returns-in_err-key-clause-stays c = (goes-stays c.args.self.now c.key_for.new.self c.well_kept.ensures c.key_for.ensures.goes c.key_for.ensures.state).0
+
+pub returns-in_err-key-clause-table : goal.returns-in_err-key-clause-table
+returns-in_err-key-clause-table c = (goes-stays c.args.self.now c.key_for.new.self c.well_kept.ensures c.key_for.ensures.goes c.key_for.ensures.state).1
+
+pub copied_at-requires : goal.copied_at-requires
+copied_at-requires c =
+    let s = c.key_for.new.self in
+    let below = place-below (table_of s) (key_seen s.context.trees c.in_ok-key.key) c.in-Some.place c.in-Some.ensures in
+    let many = seen-length s in
+    omega (arith, below, many)
+
+pub returns-in-Some-clause-stays : goal.returns-in-Some-clause-stays
+returns-in-Some-clause-stays c = (goes-stays c.args.self.now c.key_for.new.self c.well_kept.ensures c.key_for.ensures.goes c.key_for.ensures.state).0
+
+pub returns-in-Some-clause-table : goal.returns-in-Some-clause-table
+returns-in-Some-clause-table c = (goes-stays c.args.self.now c.key_for.new.self c.well_kept.ensures c.key_for.ensures.goes c.key_for.ensures.state).1
+
+pub returns-in-Some-clause-is : goal.returns-in-Some-clause-is
+returns-in-Some-clause-is c =
+    let s = c.key_for.new.self in
+    let g = goes-stays c.args.self.now s c.well_kept.ensures c.key_for.ensures.goes c.key_for.ensures.state in
+    let key = c.in_ok-key.ensures.key in
+    let asked = key_at (state c.args.self.now) (trait_goal c.args.self.now.context.trees c.args.param_env c.args.predicate) in
+    let there = sym (place-verdict (table_of s) (key_seen s.context.trees c.in_ok-key.key) c.in-Some.place c.in-Some.ensures) ∙ (ap (verdict_in (table_of s)) key ∙ ap (λ T. verdict_in T asked) g.1) in
+    so-ok c.copied_at.result (λ o same. same ∙ there) c.copied_at.ensures.is
+
+pub returns-clause-stays : goal.returns-clause-stays
+returns-clause-stays c = (goes-stays c.args.self.now c.key_for.new.self c.well_kept.ensures c.key_for.ensures.goes c.key_for.ensures.state).0
+
+pub returns-clause-table : goal.returns-clause-table
+returns-clause-table c = (goes-stays c.args.self.now c.key_for.new.self c.well_kept.ensures c.key_for.ensures.goes c.key_for.ensures.state).1
+
+pub returns-clause-is : goal.returns-clause-is
+returns-clause-is c =
+    let s = c.key_for.new.self in
+    let g = goes-stays c.args.self.now s c.well_kept.ensures c.key_for.ensures.goes c.key_for.ensures.state in
+    let asked = key_at (state c.args.self.now) (trait_goal c.args.self.now.context.trees c.args.param_env c.args.predicate) in
+    sym (sym (ap (λ (k : Key). verdict_in (table_of s) k) c.in_ok-key.ensures.key ∙ ap (λ T. verdict_in T asked) g.1) ∙ no-verdict (table_of s) (key_seen s.context.trees c.in_ok-key.key) c.in-None.ensures)

@@ -1,0 +1,23 @@
+use Rattle.std.proofs.Common.{reverse, subst, ◌∙◌, ap}
+use Rattle.candidate_rounds.specs.Known.{Evaluator, GoesOn, state}
+use Rattle.candidate_rounds.proofs.Between.{parts}
+use Rattle.candidate_rounds.proofs.Going.{goes-context}
+use Rattle.candidate_rounds.proofs.Knowing.{state-stays}
+use Rattle.candidate_rounds.proofs.ResolvedValues.{evaluator-grown}
+use Rattle.candidate_rounds.proofs.rounds.Rounds.put_names.Goals as goal
+
+pub invariant_of-self : goal.invariant_of-self
+invariant_of-self g c =
+    let i = c.self.inside in
+    evaluator-grown i.cx.trees c.put.new.cx.trees i.inference (reverse i.probes.items) i.normal.items i.opaques.items i.goals c.put.ensures.grows.kept c.self.invariant
+
+pub returns-clause-state : goal.returns-clause-state
+returns-clause-state g c =
+    let i = c.self.inside in
+    state-stays i.cx.trees c.put.new.cx.trees i.mode i.inference c.put.ensures.grows.kept (parts c.self.invariant).consistent.known ∙ ap state c.self.view_is
+
+pub returns-clause-goes : goal.returns-clause-goes
+returns-clause-goes g c =
+    let i = c.self.inside in
+    let v : Evaluator = record { context = i.cx; mode = i.mode; normal = i.normal.items; opaques = i.opaques.items; goals = i.goals; inference = i.inference; marks = reverse i.probes.items } in
+    subst (λ (e : Evaluator). GoesOn e (record v { context = c.put.new.cx })) c.self.view_is (goes-context v c.put.new.cx c.put.ensures.grows)

@@ -1,0 +1,25 @@
+use Rattle.std.proofs.Common.{map}
+use Rattle.candidate_ir.specs.Words.{clause_tree}
+use Rattle.candidate_ir.proofs.Made.{IsClause-listed}
+use Rattle.candidate_rounds.specs.Giving.{AreConstraintsStop}
+use Rattle.candidate_rounds.proofs.Giving.{constraint-unput, one-recorded}
+use Rattle.candidate_rounds.proofs.Going.{goes-trans}
+use Rattle.candidate_rounds.proofs.Knowing.{is-clause-stays}
+use Rattle.candidate_rounds.proofs.ResponseStops.{passed-on}
+use Rattle.candidate_rounds.proofs.rounds.Rounds.record_given.Goals as goal
+
+pub record_put-requires : goal.record_put-requires
+record_put-requires c =
+    is-clause-stays c.args.self.now.context.trees c.loop-i.self.context.trees _ c.loop-i.invariant.goes.0.kept (IsClause-listed c.args.self.now.context.trees c.args.constraints.now c.loop-i.i _ c.loop-i-test.true c.requires)
+
+pub returns-in_err-record_put-clause-goes : goal.returns-in_err-record_put-clause-goes
+returns-in_err-record_put-clause-goes c = goes-trans c.args.self.now c.loop-i.self c.record_put.new.self c.loop-i.invariant.goes c.record_put.ensures.goes
+
+pub returns-in_err-record_put-clause-cause : goal.returns-in_err-record_put-clause-cause
+returns-in_err-record_put-clause-cause c =
+    passed-on (AreConstraintsStop c.record_put.new.self.context.trees c.args.names.now (map (clause_tree c.args.self.now.context.trees) c.args.constraints.now)) c.from_residual.result c.in_err-record_put.field-0.0 c.from_residual.ensures.1
+    (constraint-unput c.args.self.now c.loop-i.self c.record_put.new.self c.args.names.now c.args.constraints.now c.loop-i.i _ c.requires c.loop-i.invariant c.loop-i-test.true c.in_err-record_put.field-0.0 c.in_err-record_put.ensures.cause)
+
+pub loop-i-preserved : goal.loop-i-preserved
+loop-i-preserved c =
+    one-recorded c.args.self.now c.loop-i.self c.record_put.new.self c.args.names.now c.args.constraints.now c.loop-i.i _ c.requires c.loop-i.invariant c.loop-i-test.true c.record_put.ensures.goes c.in_ok-record_put.ensures.recorded

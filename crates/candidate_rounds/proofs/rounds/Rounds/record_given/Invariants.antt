@@ -1,0 +1,5 @@
+use Rattle.candidate_rounds.proofs.Giving.{RecordedSoFar}
+use Rattle.candidate_rounds.proofs.rounds.Rounds.record_given.Given as goal
+
+abbrev pub invariant-loop-i : goal.invariant-loop-i
+invariant-loop-i l = RecordedSoFar l.fn.self l.self l.names l.constraints l.i

@@ -1,0 +1,101 @@
+use Rattle.std.proofs.Common.{◌≡◌, ◌<◌, ◌++◌, Some, OnErr, OnOk, length, map, reverse, slice_get, sym, ◌∙◌, ap, subst, arith}
+use Rattle.candidate_rounds.specs.declared.rounds.Rounds.TheInside.{Inside}
+use Rattle.candidate_rounds.specs.Goals.{IsVerdict, table_seen, verdict_seen}
+use Rattle.candidate_rounds.specs.Known.{Evaluator, IsEvaluator, table_of}
+use Rattle.candidate_rounds.specs.Running.{AreWritten, IsRunStop, all_put_in, computing, has_one, new_entry, run_making, verdict_at}
+use Rattle.candidate_rounds.proofs.Between.{parts}
+use Rattle.candidate_rounds.proofs.ResponseStops.{passed-growth}
+use Rattle.candidate_rounds.proofs.Rounding.{place-written, round-written, written-either}
+use Rattle.candidate_rounds.proofs.Running.{same-length}
+use Rattle.rounds_judge.specs.Rounds.{IsRound}
+use Rattle.candidate_rounds.proofs.rounds.Rounds.round.Goals as goal
+
+pub copy_at-requires : goal.copy_at-requires
+copy_at-requires c =
+    let r = c.args.self.now in
+    let ws = c.in_ok-written.written.items in
+    let said = c.in_ok-written.ensures in
+    let many = same-length r c.all_written.new.self said.table in
+    let place = c.requires.place in
+    let below : c.args.place < length c.all_written.new.self.goals.table = omega (arith, many, place) in
+    let n = c.all_written.new.self in
+    let there = place-written n.context.trees (computing r) (table_of r) n.goals ws said.table said.written c.args.place below c.requires.open in
+    ap (λ xs. has_one (slice_get xs c.args.place)) c.as_slice.ensures.value ∙ ap has_one there.there
+
+pub returns-in_err-answer-clause-cause : goal.returns-in_err-answer-clause-cause
+returns-in_err-answer-clause-cause c =
+    passed-growth (IsRunStop c.args.self.now (table_of c.args.self.now)) c.from_residual-in_err-answer.result c.in_err-answer.field-0.0 c.from_residual-in_err-answer.ensures.1 c.in_err-answer.ensures.cause (run_making tt)
+
+pub returns-in_err-write-clause-cause : goal.returns-in_err-write-clause-cause
+returns-in_err-write-clause-cause c =
+    passed-growth (IsRunStop c.args.self.now (table_of c.args.self.now)) c.from_residual-in_err-write.result c.in_err-write.field-0.0 c.from_residual-in_err-write.ensures.1 c.in_err-write.ensures.cause (run_making tt)
+
+pub invariant_of-self : goal.invariant_of-self
+invariant_of-self c =
+    let r = c.args.self.now in
+    let ws = c.in_ok-written.written.items in
+    let said = c.in_ok-written.ensures in
+    let many = same-length r c.all_written.new.self said.table in
+    let place = c.requires.place in
+    let below : c.args.place < length c.all_written.new.self.goals.table = omega (arith, many, place) in
+    let s = c.self.inside in
+    let same = ap table_of c.self.view_is ∙ said.table in
+    let all = subst (λ (x : Evaluator). AreWritten x.context.trees (computing r) (table_of r) (table_of r) ws) (sym c.self.view_is) said.written in
+    let t = c.write.new.table.items in
+    let a = c.write.new.asked.items in
+    let put = subst (λ (v : Inside). OnOk c.write.result (t ≡ all_put_in v.goals.table ws ++ map new_entry v.goals.asked)) c.self-inside.view_is c.write.ensures.table in
+    let kept = subst (λ (v : Inside). OnErr c.write.result ((t ≡ v.goals.table) × (a ≡ v.goals.asked))) c.self-inside.view_is c.write.ensures.unchanged in
+    subst (λ (v : Inside). IsEvaluator v.cx.trees v.inference (reverse v.probes.items) v.normal.items v.opaques.items (record { table = t; asked = a })) (sym c.self-inside.view_is)
+    (written-either s.cx.trees (computing r) (table_of r) s.goals ws c.write.result t a s.inference (reverse s.probes.items) s.normal.items s.opaques.items same all put c.write.ensures.asked kept c.self.invariant)
+
+pub returns-clause-round : goal.returns-clause-round
+returns-clause-round c =
+    let r = c.args.self.now in
+    let ws = c.in_ok-written.written.items in
+    let said = c.in_ok-written.ensures in
+    let many = same-length r c.all_written.new.self said.table in
+    let place = c.requires.place in
+    let below : c.args.place < length c.all_written.new.self.goals.table = omega (arith, many, place) in
+    let s = c.self.inside in
+    let same = ap table_of c.self.view_is ∙ said.table in
+    let all = subst (λ (x : Evaluator). AreWritten x.context.trees (computing r) (table_of r) (table_of r) ws) (sym c.self.view_is) said.written in
+    let left = ap (table_seen c.self-inside.inside.0.0.trees) c.in_ok-write.ensures.table ∙ ap (λ (v : Inside). table_seen v.cx.trees (all_put_in v.goals.table ws ++ map new_entry v.goals.asked)) c.self-inside.view_is in
+    subst (IsRound (computing r) (table_of r)) (sym left) (round-written s.cx.trees (computing r) (table_of r) s.goals ws same all (parts c.self.invariant).tabled)
+
+pub returns-clause-sort : goal.returns-clause-sort
+returns-clause-sort c =
+    let r = c.args.self.now in
+    let ws = c.in_ok-written.written.items in
+    let said = c.in_ok-written.ensures in
+    let many = same-length r c.all_written.new.self said.table in
+    let place = c.requires.place in
+    let below : c.args.place < length c.all_written.new.self.goals.table = omega (arith, many, place) in
+    let s = c.self.inside in
+    let same = ap table_of c.self.view_is ∙ said.table in
+    let all = subst (λ (x : Evaluator). AreWritten x.context.trees (computing r) (table_of r) (table_of r) ws) (sym c.self.view_is) said.written in
+    let here = subst (λ (x : Evaluator). c.args.place < length x.goals.table) (sym c.self.view_is) below in
+    let there = place-written s.cx.trees (computing r) (table_of r) s.goals ws same all c.args.place here c.requires.open in
+    let got = ap (λ xs. slice_get xs c.args.place) c.as_slice.ensures.value ∙ there.there in
+    let w = there.written in
+    c.in_ok-answer.ensures.sort c.self-inside.inside.0.0.trees w got (subst (λ (v : Inside). IsVerdict v.cx.trees (Some w.verdict)) (sym c.self-inside.view_is) there.sort)
+
+pub returns-clause-answer : goal.returns-clause-answer
+returns-clause-answer c =
+    let r = c.args.self.now in
+    let ws = c.in_ok-written.written.items in
+    let said = c.in_ok-written.ensures in
+    let many = same-length r c.all_written.new.self said.table in
+    let place = c.requires.place in
+    let below : c.args.place < length c.all_written.new.self.goals.table = omega (arith, many, place) in
+    let s = c.self.inside in
+    let same = ap table_of c.self.view_is ∙ said.table in
+    let all = subst (λ (x : Evaluator). AreWritten x.context.trees (computing r) (table_of r) (table_of r) ws) (sym c.self.view_is) said.written in
+    let here = subst (λ (x : Evaluator). c.args.place < length x.goals.table) (sym c.self.view_is) below in
+    let there = place-written s.cx.trees (computing r) (table_of r) s.goals ws same all c.args.place here c.requires.open in
+    let got = ap (λ xs. slice_get xs c.args.place) c.as_slice.ensures.value ∙ there.there in
+    let left = ap (table_seen c.self-inside.inside.0.0.trees) c.in_ok-write.ensures.table ∙ ap (λ (v : Inside). table_seen v.cx.trees (all_put_in v.goals.table ws ++ map new_entry v.goals.asked)) c.self-inside.view_is in
+    let w = there.written in
+    ap (λ T. verdict_at T c.args.place) left
+    ∙ (there.verdict
+    ∙ (ap Some (sym (c.in_ok-answer.ensures.is s.cx.trees w got))
+    ∙ ap (λ (v : Inside). Some (verdict_seen v.cx.trees c.in_ok-answer.answer)) (sym c.self-inside.view_is)))

@@ -1,0 +1,100 @@
+use Rattle.std.proofs.Common.{◌≡◌, ◌+◌, suc, refl, sym, ◌∙◌, subst, arith}
+use Rattle.candidate_rounds.specs.Known.{table_of}
+use Rattle.candidate_rounds.specs.Running.{IsRunStop, run_making}
+use Rattle.candidate_rounds.proofs.ResponseStops.{passed-on}
+use Rattle.candidate_rounds.proofs.Rounding.{RoundsOn, err-table, if-err, longer, no-rounds, none-needed, ok-table, on-ok, one-more-on, ran-all, ran-final, stop-after, stopped-at-once, stopped-on, then-err}
+use Rattle.candidate_rounds.proofs.Running.{run-stop-before, stays-refl, stays-trans}
+use Rattle.candidate_rounds.proofs.rounds.Rounds.rounds.Goals as goal
+
+pub returns-then-is_final_at-clause-stays : goal.returns-then-is_final_at-clause-stays
+returns-then-is_final_at-clause-stays c = stays-refl c.args.self.now
+
+pub returns-then-is_final_at-clause-ran : goal.returns-then-is_final_at-clause-ran
+returns-then-is_final_at-clause-ran c = on-ok c.verdict_at.result (none-needed c.args.self.now c.args.place c.args.rounds (sym c.is_final_at.ensures ∙ c.if-is_final_at.true))
+
+pub returns-then-is_final_at-clause-stopped : goal.returns-then-is_final_at-clause-stopped
+returns-then-is_final_at-clause-stopped c = err-table c.verdict_at.result (stopped-at-once c.args.self.now c.args.self.now c.args.place c.args.rounds refl c.requires.some)
+
+pub returns-then-is_final_at-clause-cause : goal.returns-then-is_final_at-clause-cause
+returns-then-is_final_at-clause-cause c =
+    let r = c.args.self.now in
+    if-err c.verdict_at.result (λ s m. subst (IsRunStop r (table_of r)) (sym m) (run_making tt)) c.verdict_at.ensures.cause
+
+pub loop-next-init : goal.loop-next-init
+loop-next-init c =
+    let some = c.requires.some in
+    (no-rounds c.args.self.now c.args.place c.requires.place (sym c.is_final_at.ensures ∙ c.if-is_final_at.false), omega (arith, some))
+
+pub returns-in_err-verdict-clause-stays : goal.returns-in_err-verdict-clause-stays
+returns-in_err-verdict-clause-stays c = stays-trans c.loop-next.invariant.0.stays c.in_err-verdict.ensures.stays
+
+pub returns-in_err-verdict-clause-stopped : goal.returns-in_err-verdict-clause-stopped
+returns-in_err-verdict-clause-stopped c =
+    let most = c.loop-next.invariant.1 in
+    err-table c.from_residual.result (stopped-on c.round.new.self c.args.place c.loop-next._next c.args.rounds c.loop-next.invariant.0 c.in_err-verdict.ensures.stopped most)
+
+pub returns-in_err-verdict-clause-cause : goal.returns-in_err-verdict-clause-cause
+returns-in_err-verdict-clause-cause c =
+    let r = c.args.self.now in
+    let at = c.loop-next in
+    let on = at.invariant.0 in
+    let stop = c.in_err-verdict.field-0.0 in
+    passed-on (IsRunStop r (table_of c.round.new.self)) c.from_residual.result stop c.from_residual.ensures.1
+    (subst (λ T. IsRunStop r T stop) (sym c.in_err-verdict.ensures.stopped) (run-stop-before on.stays (table_of at.self) stop c.in_err-verdict.ensures.cause))
+
+pub is_final_at-requires-in-loop-next : goal.is_final_at-requires-in-loop-next
+is_final_at-requires-in-loop-next c =
+    let r = c.args.self.now in
+    let at = c.loop-next in
+    let on = at.invariant.0 in
+    let said = c.in_ok-verdict.ensures in
+    longer c.args.place at._next on said.stays said.round
+
+pub returns-then-is_final_at-2-clause-stays : goal.returns-then-is_final_at-2-clause-stays
+returns-then-is_final_at-2-clause-stays c = stays-trans c.loop-next.invariant.0.stays c.in_ok-verdict.ensures.stays
+
+pub returns-then-is_final_at-2-clause-ran : goal.returns-then-is_final_at-2-clause-ran
+returns-then-is_final_at-2-clause-ran c =
+    let r = c.args.self.now in
+    let at = c.loop-next in
+    let on = at.invariant.0 in
+    let said = c.in_ok-verdict.ensures in
+    ran-final c.args.place at._next on said.stays said.round c.args.rounds c.loop-next-test.true (sym c.is_final_at-in-loop-next.ensures ∙ c.if-is_final_at-2.true)
+
+pub loop-next-preserved : goal.loop-next-preserved
+loop-next-preserved c =
+    let r = c.args.self.now in
+    let at = c.loop-next in
+    let on = at.invariant.0 in
+    let said = c.in_ok-verdict.ensures in
+    let next : suc at._next ≡ at._next + 1 = omega arith in
+    let test = c.loop-next-test.true in (
+      subst (RoundsOn r c.round.new.self c.args.place) next (one-more-on c.args.place at._next on said.stays said.round (sym c.is_final_at-in-loop-next.ensures ∙ c.if-is_final_at-2.false)),
+      omega (arith, test),
+    )
+
+pub returns-clause-stays : goal.returns-clause-stays
+returns-clause-stays c = stays-trans c.loop-next.invariant.0.stays c.round-2.ensures.stays
+
+pub returns-clause-ran : goal.returns-clause-ran
+returns-clause-ran c =
+    let r = c.args.self.now in
+    let at = c.loop-next in
+    let on = at.invariant.0 in
+    let test = c.loop-next-test.false in
+    let most = at.invariant.1 in
+    ok-table c.round-2.result (λ w. ran-all c.args.place at._next on c.round-2.ensures.stays w c.args.rounds (omega (arith, test, most))) c.round-2.ensures.round
+
+pub returns-clause-stopped : goal.returns-clause-stopped
+returns-clause-stopped c =
+    let r = c.args.self.now in
+    let at = c.loop-next in
+    let on = at.invariant.0 in
+    then-err c.round-2.result (λ same. stopped-on c.round-2.new.self c.args.place at._next c.args.rounds on same at.invariant.1) c.round-2.ensures.stopped
+
+pub returns-clause-cause : goal.returns-clause-cause
+returns-clause-cause c =
+    let r = c.args.self.now in
+    let at = c.loop-next in
+    let on = at.invariant.0 in
+    stop-after c.round-2.result (λ s same h. subst (λ T. IsRunStop r T s) (sym same) (run-stop-before on.stays (table_of at.self) s h)) c.round-2.ensures.stopped c.round-2.ensures.cause

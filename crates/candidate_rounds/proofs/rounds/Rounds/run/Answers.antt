@@ -1,0 +1,161 @@
+use Rattle.std.proofs.Common.{Some, sym, ◌∙◌, ap, subst, arith}
+use Rattle.candidate_assembly.specs.TraitGoals.{trait_goal}
+use Rattle.candidate_rounds.specs.Goals.{verdict_seen}
+use Rattle.candidate_rounds.specs.Known.{Evaluator, state, table_of}
+use Rattle.candidate_rounds.specs.Running.{IsDoneBelow, IsPlaceOf, IsRunStop, after_rounds, computing, not_entered}
+use Rattle.candidate_rounds.proofs.ResponseStops.{passed-on}
+use Rattle.candidate_rounds.proofs.Rounding.{below-before, err-table, if-err, is-asking, ok-ok, ok-table, place-below, place-in-rounds, place-verdict, rounds-before, then-err}
+use Rattle.candidate_rounds.proofs.Running.{run-stop-before, seen-length, stays-trans}
+use Rattle.rounds_judge.specs.GoalTable.{entered_in, may_be_asked, verdict_in}
+use Rattle.rounds_judge.specs.Keys.{Key, key_at}
+use Rattle.rounds_judge.specs.Rounds.{Rounds}
+use Rattle.candidate_rounds.proofs.rounds.Rounds.run.Goals as goal
+
+pub enter_goal-requires-clause-asked : goal.enter_goal-requires-clause-asked
+enter_goal-requires-clause-asked c =
+    let r = c.args.self.now in
+    let one = is-asking r c.set_asking.new.self c.set_asking.ensures in
+    let key = ap (λ (x : Evaluator). key_at (state x) (trait_goal x.context.trees c.args.param_env c.args.predicate)) c.set_asking.ensures in
+    let k = key_at (state r) (trait_goal r.context.trees c.args.param_env c.args.predicate) in
+    ap may_be_asked key ∙ c.requires.asked
+
+pub returns-in_err-place-clause-stays : goal.returns-in_err-place-clause-stays
+returns-in_err-place-clause-stays c =
+    let r = c.args.self.now in
+    let one = is-asking r c.set_asking.new.self c.set_asking.ensures in
+    let key = ap (λ (x : Evaluator). key_at (state x) (trait_goal x.context.trees c.args.param_env c.args.predicate)) c.set_asking.ensures in
+    let k = key_at (state r) (trait_goal r.context.trees c.args.param_env c.args.predicate) in
+    stays-trans one.stays c.in_err-place.ensures.stays
+
+pub returns-in_err-place-clause-stopped : goal.returns-in_err-place-clause-stopped
+returns-in_err-place-clause-stopped c =
+    let r = c.args.self.now in
+    let one = is-asking r c.set_asking.new.self c.set_asking.ensures in
+    let key = ap (λ (x : Evaluator). key_at (state x) (trait_goal x.context.trees c.args.param_env c.args.predicate)) c.set_asking.ensures in
+    let k = key_at (state r) (trait_goal r.context.trees c.args.param_env c.args.predicate) in
+    err-table c.from_residual.result (not_entered (c.in_err-place.ensures.stopped ∙ one.table))
+
+pub returns-in_err-place-clause-cause : goal.returns-in_err-place-clause-cause
+returns-in_err-place-clause-cause c =
+    let r = c.args.self.now in
+    let one = is-asking r c.set_asking.new.self c.set_asking.ensures in
+    let key = ap (λ (x : Evaluator). key_at (state x) (trait_goal x.context.trees c.args.param_env c.args.predicate)) c.set_asking.ensures in
+    let k = key_at (state r) (trait_goal r.context.trees c.args.param_env c.args.predicate) in
+    let stop = c.in_err-place.field-0.0 in
+    passed-on (IsRunStop r (table_of c.enter_goal.new.self)) c.from_residual.result stop c.from_residual.ensures.1 (run-stop-before one.stays (table_of c.enter_goal.new.self) stop c.in_err-place.ensures.cause)
+
+pub rounds-answer-requires-clause-place : goal.rounds-answer-requires-clause-place
+rounds-answer-requires-clause-place c =
+    let r = c.args.self.now in
+    let one = is-asking r c.set_asking.new.self c.set_asking.ensures in
+    let key = ap (λ (x : Evaluator). key_at (state x) (trait_goal x.context.trees c.args.param_env c.args.predicate)) c.set_asking.ensures in
+    let k = key_at (state r) (trait_goal r.context.trees c.args.param_env c.args.predicate) in
+    let b = c.enter_goal.new.self in
+    let d = c.set_asking-2.new.self in
+    let two = is-asking b d c.set_asking-2.ensures in
+    let place = subst (λ (x : Key). IsPlaceOf (table_of b) x c.in_ok-place.place) key c.in_ok-place.ensures.place in
+    let here = subst (λ T. IsPlaceOf T k c.in_ok-place.place) (sym two.table) place in
+    let below = place-below (table_of d) k c.in_ok-place.place here in
+    let many = seen-length d in
+    omega (arith, below, many)
+
+pub returns-clause-stays : goal.returns-clause-stays
+returns-clause-stays c =
+    let r = c.args.self.now in
+    let one = is-asking r c.set_asking.new.self c.set_asking.ensures in
+    let key = ap (λ (x : Evaluator). key_at (state x) (trait_goal x.context.trees c.args.param_env c.args.predicate)) c.set_asking.ensures in
+    let k = key_at (state r) (trait_goal r.context.trees c.args.param_env c.args.predicate) in
+    let b = c.enter_goal.new.self in
+    let d = c.set_asking-2.new.self in
+    let two = is-asking b d c.set_asking-2.ensures in
+    let place = subst (λ (x : Key). IsPlaceOf (table_of b) x c.in_ok-place.place) key c.in_ok-place.ensures.place in
+    let e = c.rounds-answer.new.self in
+    let f = c.set_asking-3.new.self in
+    let three = is-asking e f c.set_asking-3.ensures in
+    let before = stays-trans one.stays (stays-trans c.in_ok-place.ensures.stays two.stays) in
+    let here = subst (λ T. IsPlaceOf T k c.in_ok-place.place) (sym two.table) place in
+    let entered = two.table ∙ (c.in_ok-place.ensures.entered ∙ (ap (entered_in (table_of c.set_asking.new.self)) key ∙ ap (λ T. entered_in T k) one.table)) in
+    stays-trans before (stays-trans c.rounds-answer.ensures.stays three.stays)
+
+pub returns-clause-ran : goal.returns-clause-ran
+returns-clause-ran c =
+    let r = c.args.self.now in
+    let one = is-asking r c.set_asking.new.self c.set_asking.ensures in
+    let key = ap (λ (x : Evaluator). key_at (state x) (trait_goal x.context.trees c.args.param_env c.args.predicate)) c.set_asking.ensures in
+    let k = key_at (state r) (trait_goal r.context.trees c.args.param_env c.args.predicate) in
+    let b = c.enter_goal.new.self in
+    let d = c.set_asking-2.new.self in
+    let two = is-asking b d c.set_asking-2.ensures in
+    let place = subst (λ (x : Key). IsPlaceOf (table_of b) x c.in_ok-place.place) key c.in_ok-place.ensures.place in
+    let e = c.rounds-answer.new.self in
+    let f = c.set_asking-3.new.self in
+    let three = is-asking e f c.set_asking-3.ensures in
+    let before = stays-trans one.stays (stays-trans c.in_ok-place.ensures.stays two.stays) in
+    let here = subst (λ T. IsPlaceOf T k c.in_ok-place.place) (sym two.table) place in
+    let entered = two.table ∙ (c.in_ok-place.ensures.entered ∙ (ap (entered_in (table_of c.set_asking.new.self)) key ∙ ap (λ T. entered_in T k) one.table)) in
+    ok-table c.rounds-answer.result
+    (λ ran. subst (λ U. Rounds (computing r) k c.args.rounds (entered_in (table_of r) k) U) (sym three.table)
+    (subst (λ T. Rounds (computing r) k c.args.rounds T (table_of e)) entered (rounds-before r d before k c.args.rounds (table_of d) (table_of e) (ran k here))))
+    c.rounds-answer.ensures.ran
+
+pub returns-clause-answer : goal.returns-clause-answer
+returns-clause-answer c =
+    let r = c.args.self.now in
+    let one = is-asking r c.set_asking.new.self c.set_asking.ensures in
+    let key = ap (λ (x : Evaluator). key_at (state x) (trait_goal x.context.trees c.args.param_env c.args.predicate)) c.set_asking.ensures in
+    let k = key_at (state r) (trait_goal r.context.trees c.args.param_env c.args.predicate) in
+    let b = c.enter_goal.new.self in
+    let d = c.set_asking-2.new.self in
+    let two = is-asking b d c.set_asking-2.ensures in
+    let place = subst (λ (x : Key). IsPlaceOf (table_of b) x c.in_ok-place.place) key c.in_ok-place.ensures.place in
+    let e = c.rounds-answer.new.self in
+    let f = c.set_asking-3.new.self in
+    let three = is-asking e f c.set_asking-3.ensures in
+    let before = stays-trans one.stays (stays-trans c.in_ok-place.ensures.stays two.stays) in
+    let here = subst (λ T. IsPlaceOf T k c.in_ok-place.place) (sym two.table) place in
+    let entered = two.table ∙ (c.in_ok-place.ensures.entered ∙ (ap (entered_in (table_of c.set_asking.new.self)) key ∙ ap (λ T. entered_in T k) one.table)) in
+    let trees = ap (λ (x : Evaluator). x.context.trees) c.set_asking-3.ensures in
+    ok-ok c.rounds-answer.result
+    (λ v ran is. ap (λ T. verdict_in T k) three.table
+    ∙ (place-verdict (table_of e) k c.in_ok-place.place (place-in-rounds (computing d) k c.args.rounds c.in_ok-place.place (table_of d) (table_of e) (ran k here) here)
+    ∙ (is ∙ ap (λ ts. Some (verdict_seen ts v)) (sym trees))))
+    c.rounds-answer.ensures.ran c.rounds-answer.ensures.answer
+
+pub returns-clause-stopped : goal.returns-clause-stopped
+returns-clause-stopped c =
+    let r = c.args.self.now in
+    let one = is-asking r c.set_asking.new.self c.set_asking.ensures in
+    let key = ap (λ (x : Evaluator). key_at (state x) (trait_goal x.context.trees c.args.param_env c.args.predicate)) c.set_asking.ensures in
+    let k = key_at (state r) (trait_goal r.context.trees c.args.param_env c.args.predicate) in
+    let b = c.enter_goal.new.self in
+    let d = c.set_asking-2.new.self in
+    let two = is-asking b d c.set_asking-2.ensures in
+    let place = subst (λ (x : Key). IsPlaceOf (table_of b) x c.in_ok-place.place) key c.in_ok-place.ensures.place in
+    let e = c.rounds-answer.new.self in
+    let f = c.set_asking-3.new.self in
+    let three = is-asking e f c.set_asking-3.ensures in
+    let before = stays-trans one.stays (stays-trans c.in_ok-place.ensures.stays two.stays) in
+    let here = subst (λ T. IsPlaceOf T k c.in_ok-place.place) (sym two.table) place in
+    let entered = two.table ∙ (c.in_ok-place.ensures.entered ∙ (ap (entered_in (table_of c.set_asking.new.self)) key ∙ ap (λ T. entered_in T k) one.table)) in
+    then-err c.rounds-answer.result
+    (λ left. after_rounds (subst (λ U. IsDoneBelow (computing r) k c.args.rounds (entered_in (table_of r) k) U) (sym three.table)
+    (subst (λ T. IsDoneBelow (computing r) k c.args.rounds T (table_of e)) entered (below-before r d before k c.args.rounds (table_of d) (table_of e) (left k here)))))
+    c.rounds-answer.ensures.stopped
+
+pub returns-clause-cause : goal.returns-clause-cause
+returns-clause-cause c =
+    let r = c.args.self.now in
+    let one = is-asking r c.set_asking.new.self c.set_asking.ensures in
+    let key = ap (λ (x : Evaluator). key_at (state x) (trait_goal x.context.trees c.args.param_env c.args.predicate)) c.set_asking.ensures in
+    let k = key_at (state r) (trait_goal r.context.trees c.args.param_env c.args.predicate) in
+    let b = c.enter_goal.new.self in
+    let d = c.set_asking-2.new.self in
+    let two = is-asking b d c.set_asking-2.ensures in
+    let place = subst (λ (x : Key). IsPlaceOf (table_of b) x c.in_ok-place.place) key c.in_ok-place.ensures.place in
+    let e = c.rounds-answer.new.self in
+    let f = c.set_asking-3.new.self in
+    let three = is-asking e f c.set_asking-3.ensures in
+    let before = stays-trans one.stays (stays-trans c.in_ok-place.ensures.stays two.stays) in
+    let here = subst (λ T. IsPlaceOf T k c.in_ok-place.place) (sym two.table) place in
+    let entered = two.table ∙ (c.in_ok-place.ensures.entered ∙ (ap (entered_in (table_of c.set_asking.new.self)) key ∙ ap (λ T. entered_in T k) one.table)) in
+    if-err c.rounds-answer.result (λ s h. subst (λ T. IsRunStop r T s) (sym three.table) (run-stop-before before (table_of e) s h)) c.rounds-answer.ensures.cause

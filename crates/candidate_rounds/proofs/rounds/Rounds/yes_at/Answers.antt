@@ -1,0 +1,40 @@
+use Rattle.std.proofs.Common.{Some, ap, slice_index_or, subst, sym, ◌∙◌}
+use Rattle.candidate_rounds.specs.declared.rounds.Rounds.TheInside.{Inside}
+use Rattle.candidate_rounds.specs.declared.rounds.goals.GoalEntry.{GoalEntry}
+use Rattle.candidate_rounds.specs.Goals.{IsEntryOf}
+use Rattle.candidate_rounds.specs.Known.{Evaluator, IsEvaluator}
+use Rattle.candidate_eval.specs.ResponseTrees.{IsCopy}
+use Rattle.rounds_judge.specs.Verdicts.{Yes}
+use Rattle.candidate_rounds.proofs.Between.{parts}
+use Rattle.candidate_rounds.proofs.Finding.{copy-is, copy-sees, get-same, yes-fits, yes-same}
+use Rattle.candidate_rounds.proofs.Knowing.{each-get}
+use Rattle.candidate_rounds.proofs.Tabled.{table-parts}
+use Rattle.candidate_rounds.proofs.rounds.Rounds.yes_at.Goals as goal
+
+pub returns-clause-sort : goal.returns-clause-sort
+returns-clause-sort c =
+    let ts = c.args.self.now.context.trees in
+    let es = c.args.self.now.goals.table in
+    let e = c.index.result.now in
+    let there = c.index.ensures ∙ (ap (λ (x : Inside). slice_index_or x.goals.table c.args.place e) c.self-inside.view_is ∙ ap (λ (x : Evaluator). slice_index_or x.goals.table c.args.place e) c.self.view_is) in
+    let whole = subst (λ (x : Evaluator). IsEvaluator x.context.trees x.inference x.marks x.normal x.opaques x.goals) c.self.view_is c.self.invariant in
+    let fits = yes-fits ts c.requires.entry c.requires.response c.requires.way (each-get (IsEntryOf ts) es c.args.place c.requires.entry (table-parts (parts whole).tabled).entries c.requires.there) c.requires.says in
+    let says = rw c.in-Some-Yes.is at c.in-Some-Yes.field-0-is in
+    let same = yes-same e.verdict c.in-Some-Yes.response c.requires.response c.in-Some-Yes.field-0-1 c.requires.way (c.in-Some-Yes.is ∙ ap Some says)
+    (ap (λ (x : GoalEntry). x.verdict) (get-same es c.args.place e c.requires.entry there c.requires.there) ∙ c.requires.says) in
+    copy-is ts c.requires.response c.in_ok-copied-in-Some-Yes.field-0 fits (subst (λ r. IsCopy r c.in_ok-copied-in-Some-Yes.field-0) same c.in_ok-copied-in-Some-Yes.ensures)
+
+pub returns-clause-read : goal.returns-clause-read
+returns-clause-read c =
+    let ts = c.args.self.now.context.trees in
+    let es = c.args.self.now.goals.table in
+    let e = c.index.result.now in
+    let there = c.index.ensures ∙ (ap (λ (x : Inside). slice_index_or x.goals.table c.args.place e) c.self-inside.view_is ∙ ap (λ (x : Evaluator). slice_index_or x.goals.table c.args.place e) c.self.view_is) in
+    let says = rw c.in-Some-Yes.is at c.in-Some-Yes.field-0-is in
+    let same = yes-same e.verdict c.in-Some-Yes.response c.requires.response c.in-Some-Yes.field-0-1 c.requires.way (c.in-Some-Yes.is ∙ ap Some says)
+    (ap (λ (x : GoalEntry). x.verdict) (get-same es c.args.place e c.requires.entry there c.requires.there) ∙ c.requires.says) in
+    let copy = subst (λ r. IsCopy r c.in_ok-copied-in-Some-Yes.field-0) same c.in_ok-copied-in-Some-Yes.ensures in
+    record {
+      way = c.requires.way;
+      read = c.requires.read ∙ ap (λ r. Some (Yes r c.requires.way)) (sym (copy-sees ts c.requires.response c.in_ok-copied-in-Some-Yes.field-0 copy));
+    }

@@ -1,0 +1,5 @@
+use Rattle.candidate_rounds.proofs.Naming.{OwnSoFar}
+use Rattle.candidate_rounds.proofs.rounds.giving.own_row.Given as goal
+
+abbrev pub invariant-loop-i : goal.invariant-loop-i
+invariant-loop-i l = OwnSoFar l.initial.cx l.cx l.variables l.numbers l.i l.list.items

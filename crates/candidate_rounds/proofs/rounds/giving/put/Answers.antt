@@ -1,0 +1,39 @@
+use Rattle.std.proofs.Common.{◌≡◌, length, refl, rules}
+use Rattle.candidate_ir.specs.Folds.{arg_tree}
+use Rattle.candidate_ir.specs.Folding.{IsSubstStop}
+use Rattle.candidate_ir.proofs.FoldLaws.{head-function, reached-keeps}
+use Rattle.candidate_ir.proofs.FoldStops.{fold-stop, subst-cause}
+use Rattle.candidate_rounds.specs.Giving.{IsPutStop}
+use Rattle.candidate_rounds.proofs.Naming.{said-of-put, unnamed}
+use Rattle.rounds_judge.specs.TableSettling.{by_numbers}
+use Rattle.candidate_rounds.proofs.rounds.giving.put.Goals as goal
+
+pub returns-clause-tree : goal.returns-clause-tree
+returns-clause-tree g c =
+    c.fold.ensures.answer (λ d t. by_numbers c.args.names.now t.head)
+    (head-function _ _ _ (λ d h. by_numbers c.args.names.now h) (λ z. z.0.now ≡ c.args.names.now) _ refl
+    (λ s x d r e n p. let k = n.called in let q = n.lends in let v = n.leaves in search rules)
+    (λ s x d r e n i l p. let k = n.called in let q = n.lends in let v = n.leaves in search rules)
+    (λ d h e. unnamed c.args.names.now h e))
+
+pub returns-clause-list : goal.returns-clause-list
+returns-clause-list g c = λ list.
+    c.fold.ensures.list list (λ d t. by_numbers c.args.names.now t.head)
+    (head-function _ _ _ (λ d h. by_numbers c.args.names.now h) (λ z. z.0.now ≡ c.args.names.now) _ refl
+    (λ s x d r e n p. let k = n.called in let q = n.lends in let v = n.leaves in search rules)
+    (λ s x d r e n i l p. let k = n.called in let q = n.lends in let v = n.leaves in search rules)
+    (λ d h e. unnamed c.args.names.now h e))
+
+pub returns-clause-cause : goal.returns-clause-cause
+returns-clause-cause g c =
+    fold-stop _ _ _ IsSubstStop subst-cause (λ d t. by_numbers c.args.names.now t.head) _ _ 0 _ c.fold.result
+    (head-function _ _ _ (λ d h. by_numbers c.args.names.now h) (λ z. z.0.now ≡ c.args.names.now) _ refl
+    (λ s x d r e n p. let k = n.called in let q = n.lends in let v = n.leaves in search rules)
+    (λ s x d r e n i l p. let k = n.called in let q = n.lends in let v = n.leaves in search rules)
+    (λ d h e. unnamed c.args.names.now h e))
+    (λ s y d x u n i l h.
+    let held = reached-keeps _ _ _ (λ z. z.0.now ≡ c.args.names.now) (λ s x d r e n p. let k = n.called in let q = n.lends in let v = n.leaves in search rules) _ s h refl in
+    let k = n.called in let q = n.lends in let v = n.leaves in
+    let z : IsPutStop (length u.1.trees) (by_numbers c.args.names.now (arg_tree s.1.trees y).head) x = search rules in
+    said-of-put (length u.1.trees) (by_numbers c.args.names.now (arg_tree s.1.trees y).head) x z)
+    c.fold.ensures.outcome.1.stopped

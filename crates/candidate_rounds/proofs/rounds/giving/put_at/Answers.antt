@@ -1,0 +1,20 @@
+use Rattle.std.proofs.Common.{◌≡◌, rules, length}
+use Rattle.candidate_ir.specs.Folds.{arg_tree}
+use Rattle.candidate_eval.specs.States.{variable}
+use Rattle.candidate_rounds.specs.Giving.{IsPutStop}
+use Rattle.candidate_rounds.proofs.Anew.{anew-kind}
+use Rattle.candidate_rounds.proofs.Naming.{put-unmade}
+use Rattle.candidate_rounds.proofs.ResponseStops.{passed-on}
+use Rattle.rounds_judge.specs.TableSettling.{by_numbers}
+use Rattle.candidate_rounds.proofs.rounds.giving.put_at.Goals as goal
+
+pub returns-clause-kind : goal.returns-clause-kind
+returns-clause-kind c =
+    let e : arg_tree c.args.cx.now.trees c.args.arg ≡ variable c.in-Some.kind c.in-Some.number = search rules in
+    anew-kind c.args.cx.now.trees c.variable.new.cx.trees c.args.arg c.in_ok-variable.field-0 c.in-Some.kind c.in-Some.number _ c.requires e c.in_ok-variable.ensures.sort c.in_ok-variable.ensures.tree
+
+pub returns-in_err-variable-clause-cause : goal.returns-in_err-variable-clause-cause
+returns-in_err-variable-clause-cause c =
+    let e : arg_tree c.args.cx.now.trees c.args.arg ≡ variable c.in-Some.kind c.in-Some.number = search rules in
+    passed-on (IsPutStop (length c.variable.new.cx.trees) (by_numbers c.args.names.now (arg_tree c.args.cx.now.trees c.args.arg).head)) c.from_residual.result c.in_err-variable.field-0.0 c.from_residual.ensures.1
+    (put-unmade c.args.names.now (length c.variable.new.cx.trees) (arg_tree c.args.cx.now.trees c.args.arg) c.in-Some.kind c.in-Some.number c.in_err-variable.field-0.0 e c.in_err-variable.ensures.cause)

@@ -1,0 +1,9 @@
+use Rattle.candidate_ir.specs.Nodes.{tree_at}
+use Rattle.candidate_rounds.proofs.Keying.{GreatestBelow}
+use Rattle.candidate_rounds.proofs.rounds.keys.+greatest_below.Given as goal
+
+abbrev pub decreases-greatest_below : goal.decreases-greatest_below
+decreases-greatest_below l = l.number
+
+abbrev pub invariant-loop-place : goal.invariant-loop-place
+invariant-loop-place l = GreatestBelow (tree_at l.cx.trees l.number).children l.place l.greatest

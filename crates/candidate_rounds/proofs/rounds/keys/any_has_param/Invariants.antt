@@ -1,0 +1,8 @@
+use Rattle.std.proofs.Common.{not}
+use Rattle.candidate_ir.specs.Words.{clause_tree}
+use Rattle.rounds_judge.specs.GoalTable.{has_parameter}
+use Rattle.candidate_rounds.proofs.Keying.{IsAllTo}
+use Rattle.candidate_rounds.proofs.rounds.keys.any_has_param.Given as goal
+
+abbrev pub invariant-loop-i : goal.invariant-loop-i
+invariant-loop-i l = IsAllTo (λ t. not (has_parameter t)) (clause_tree l.cx.trees) l.clauses l.i

@@ -1,0 +1,644 @@
+//! Rounds over the table of goals: a round computes each goal that isn't final, and then writes what they came to.
+
+ghost use Rattle.std.specs.Prelude.{List, ◌≡◌, ◌+◌, ◌<◌, ◌≤◌, ◌⊎◌, ◌++◌, ◌∷◌, [], vec_capacity, vec_len, true, false, map, reverse, length, slice_get, None, Some, IfErr, IfOk, OnOk, OnErr, MatchOption, option_map};
+ghost use Rattle.candidate_ir.specs.declared.ir.stop.Stop.{Stop};
+ghost use Rattle.candidate_ir.specs.Context.{Grows};
+ghost use Rattle.candidate_ir.specs.Trees.{Tree};
+ghost use Rattle.candidate_assembly.specs.Kinds.{IsGoal};
+ghost use Rattle.candidate_assembly.specs.Standing.{GoalStands};
+ghost use Rattle.candidate_assembly.specs.TraitAnswers.{Computes};
+ghost use Rattle.candidate_assembly.specs.TraitGoals.{arguments_held, trait_goal, types_held};
+ghost use Rattle.candidate_assembly.specs.TraitRules.{trait_rules};
+ghost use Rattle.candidate_eval.specs.Evaluators.{IsMakingStop};
+ghost use Rattle.candidate_rounds.specs.Goals.{Each, IsKeyOf, IsTraitGoal, IsVerdict, Via, goal_seen, key_seen, table_seen, verdict_seen};
+ghost use Rattle.candidate_rounds.specs.Known.{GoesOn, IsEvaluator, probes, state, table_of};
+ghost use Rattle.candidate_rounds.specs.Interface.{fixed, judge_of};
+ghost use Rattle.candidate_rounds.specs.Starting.{started};
+ghost use Rattle.candidate_rounds.specs.Stopping.{accounts};
+ghost use Rattle.candidate_rounds.specs.Running.{AreWritten, IsAnswer, answered_as, IsComputingStop, IsDoneBelow, IsLeftStopped, IsPlaceOf, IsRunStop, IsWrittenAt, IsWrittenFor, StaysBesideTable, has_one, all_put_in, computing, new_entry, put_in, told, verdict_at};
+ghost use Rattle.rounds_judge.specs.GoalTable.{Entry, entered_in, is_entered, may_be_asked, may_be_read, most_goals, verdict_in};
+ghost use Rattle.rounds_judge.specs.Keys.{Key, key_at, newest_of};
+ghost use Rattle.rounds_judge.specs.Rounds as several;
+ghost use Rattle.rounds_judge.specs.Rounds.{IsRound, IsRun};
+ghost use Rattle.rounds_judge.specs.Verdicts.{is_final, verdict_of};
+
+use crate::rounds::Rounds;
+use crate::rounds::goals::{GoalEntry, GoalKey, Verdict};
+use crate::rounds::inference::Inference;
+use crate::rounds::keys::{may_be_asked, may_be_read, newest_of};
+use crate::rounds::table::{MOST_GOALS, same_key};
+use candidate_assembly::trait_goals::compute::compute_trait_goal;
+use candidate_assembly::trait_goals::preference::TraitGoalProvenVia;
+use candidate_eval::eval::certainty::Certainty;
+use candidate_eval::eval::clauses::predicate_in;
+use candidate_eval::eval::mode::TypingMode;
+use candidate_eval::eval::refusal::NoSolutionOrStop;
+use candidate_eval::eval::response::CanonicalResponse;
+use candidate_ir::decl::context::Cx;
+use candidate_ir::decl::make::Build;
+use candidate_ir::ir::kinds::{Binder, Clause, ClauseKind, Goal, ParamEnv, TraitPredicate};
+use candidate_ir::ir::stop::Stop;
+use std::alloc::Global;
+
+/// What was known before a goal is computed, put aside meanwhile.
+#[derive(Drop)]
+struct Aside {
+    mode: TypingMode,
+    inference: Inference,
+    probes: Vec<usize>,
+}
+
+/// What a goal is computed from: what is known there, and the goal.
+#[derive(Drop)]
+struct Start {
+    inference: Inference,
+    param_env: ParamEnv,
+    predicate: TraitPredicate,
+}
+
+/// What a round has for a goal of the table.
+#[derive(Drop)]
+struct Written {
+    verdict: Verdict,
+    is_readable: bool,
+}
+
+/// What the goal of a key says of a trait.
+fn predicate_of(cx: &Cx, key: &GoalKey) -> TraitPredicate
+    requires { IsKeyOf cx.now.trees key.now }
+    ensures goal { IsGoal trait_rules arguments_held types_held trait_goal cx.now key.now.goal.param_env result }
+    ensures says { trait_goal cx.now.trees key.now.goal.param_env result ≡ (key_seen cx.now.trees key.now).goal }
+{
+    match predicate_in(cx, key.goal.predicate) {
+        Some(predicate) => predicate,
+        None => unreachable!(),
+    }
+}
+
+/// Where the goal of a key is computed: its variables are there, and nothing else is known. `Stop::Memory` comes where a growth was
+/// refused, `Stop::NodesFull` where a node has more children than can be counted.
+fn start_of(alloc: Global, cx: &Cx, key: &GoalKey) -> Result<Start, Stop>
+    requires { IsKeyOf cx.now.trees key.now }
+    ensures inference { IfOk result (λ s. s.inference ≡ started (newest_of (key_seen cx.now.trees key.now)) key.now.variables.items) }
+    ensures goal { IfOk result (λ s. IsGoal trait_rules arguments_held types_held trait_goal cx.now s.param_env s.predicate) }
+    ensures says { IfOk result (λ s. trait_goal cx.now.trees s.param_env s.predicate ≡ (key_seen cx.now.trees key.now).goal) }
+    ensures cause { IfErr result IsMakingStop }
+{
+    let newest = newest_of(cx, key)?;
+    let inference = Inference::at(alloc, newest, key.variables.as_slice())?;
+    Ok(Start {
+        inference,
+        param_env: key.goal.param_env,
+        predicate: predicate_of(cx, key),
+    })
+}
+
+/// A refusal is an answer, too.
+fn answered(
+    answer: Result<(CanonicalResponse, Option<TraitGoalProvenVia>), NoSolutionOrStop>,
+) -> Result<Option<(CanonicalResponse, Option<TraitGoalProvenVia>)>, Stop>
+    ensures { result ≡ answered_as answer }
+{
+    match answer {
+        Ok(answer) => Ok(Some(answer)),
+        Err(NoSolutionOrStop::NoSolution) => Ok(None),
+        Err(NoSolutionOrStop::Stop(stop)) => Err(stop),
+    }
+}
+
+/// The verdict of an answer.
+fn verdict_of(answer: Option<(CanonicalResponse, Option<TraitGoalProvenVia>)>) -> Verdict
+    ensures is { (ts : List Tree) → verdict_seen ts result ≡ verdict_of (told ts answer) }
+    ensures sort { (ts : List Tree) → IsAnswer ts answer → IsVerdict ts (Some result) }
+{
+    match answer {
+        Some((response, way)) => match response.certainty {
+            Certainty::Yes => Verdict::Yes(response, way),
+            Certainty::Maybe(_) => Verdict::Maybe(response, way),
+        },
+        None => Verdict::Refused,
+    }
+}
+
+/// Whether it stays for good.
+fn is_final(verdict: &Option<Verdict>) -> bool
+    ensures { (ts : List Tree) → result ≡ is_final (option_map (verdict_seen ts) verdict.now) }
+{
+    match verdict {
+        Some(Verdict::Yes(_, _) | Verdict::Refused) => true,
+        Some(Verdict::Maybe(_, _)) | None => false,
+    }
+}
+
+/// The verdict again. The error comes where a growth was refused.
+fn copied(verdict: &Verdict) -> Result<Verdict, Stop>
+    ensures is { (ts : List Tree) → IfOk result (λ v. verdict_seen ts v ≡ verdict_seen ts verdict.now) }
+    ensures sort { (ts : List Tree) → IsVerdict ts (Some verdict.now) → IfOk result (λ v. IsVerdict ts (Some v)) }
+    ensures cause { IfErr result (λ s. s ≡ Stop.Memory) }
+{
+    match verdict {
+        Verdict::Yes(response, way) => Ok(Verdict::Yes(response.copied()?, *way)),
+        Verdict::Maybe(response, way) => Ok(Verdict::Maybe(response.copied()?, *way)),
+        Verdict::Refused => Ok(Verdict::Refused),
+    }
+}
+
+/// The place of the first goal of the table with that key, if there is one.
+fn place_in(cx: &Cx, table: &[GoalEntry], key: &GoalKey) -> Option<usize>
+    requires table { Each (λ e. IsTraitGoal cx.now.trees e.key.goal) table.now }
+    requires key { IsTraitGoal cx.now.trees key.now.goal }
+    ensures { MatchOption result (is_entered (table_seen cx.now.trees table.now) (key_seen cx.now.trees key.now) ≡ false) (IsPlaceOf (table_seen cx.now.trees table.now) (key_seen cx.now.trees key.now)) }
+{
+    for i in 0..table.len() {
+        if same_key(cx, &table[i].key, key) {
+            return Some(i);
+        }
+    }
+    None
+}
+
+/// A copy of what a round has for that place.
+fn copy_at(written: &[Option<Written>], place: usize) -> Result<Verdict, Stop>
+    requires { has_one (slice_get written.now place) ≡ true }
+    ensures is { (ts : List Tree) (w : Written) → slice_get written.now place ≡ Some (Some w) → IfOk result (λ v. verdict_seen ts v ≡ verdict_seen ts w.verdict) }
+    ensures sort { (ts : List Tree) (w : Written) → slice_get written.now place ≡ Some (Some w) → IsVerdict ts (Some w.verdict) → IfOk result (λ v. IsVerdict ts (Some v)) }
+    ensures cause { IfErr result (λ s. s ≡ Stop.Memory) }
+{
+    match written.get(place) {
+        Some(Some(written)) => copied(&written.verdict),
+        _ => unreachable!(),
+    }
+}
+
+/// Puts what a round has for its place into an entry.
+fn put_in(entry: &mut GoalEntry, written: Option<Written>)
+    ensures { entry.new ≡ put_in entry.old written }
+{
+    if let Some(written) = written {
+        entry.verdict = Some(written.verdict);
+        entry.is_readable = written.is_readable;
+    }
+}
+
+/// Puts what a round has for them into all entries.
+fn put_all_in(table: &mut Vec<GoalEntry>, written: Vec<Option<Written>>)
+    ensures items { table.new.items ≡ all_put_in table.old.items written.items }
+    ensures capacity { vec_capacity table.new ≡ vec_capacity table.old }
+    ensures len { vec_len table.new ≡ vec_len table.old }
+{
+    let mut place = 0;
+    for written in written {
+        if place < table.len() {
+            put_in(&mut table[place], written);
+            place += 1;
+        }
+    }
+}
+
+/// Enters these goals after those of the table, for which there is room.
+fn enter_all(table: &mut Vec<GoalEntry>, keys: Vec<GoalKey>)
+    requires { vec_len table.old + length keys.items ≤ vec_capacity table.old }
+    ensures { table.new.items ≡ table.old.items ++ map new_entry keys.items }
+{
+    for key in keys {
+        table.push_reserved(GoalEntry {
+            key,
+            verdict: None,
+            is_readable: true,
+        });
+    }
+}
+
+/// Writes what a round has for the table, and enters what was asked for. Where there is no room, nothing is changed.
+fn write(
+    alloc: Global,
+    table: &mut Vec<GoalEntry>,
+    asked: &mut Vec<GoalKey>,
+    written: Vec<Option<Written>>,
+) -> Result<(), Stop>
+    ensures table { OnOk result (table.new.items ≡ all_put_in table.old.items written.items ++ map new_entry asked.old.items) }
+    ensures asked { OnOk result (asked.new.items ≡ []) }
+    ensures unchanged { OnErr result ((table.new.items ≡ table.old.items) × (asked.new.items ≡ asked.old.items)) }
+    ensures cause { IfErr result (λ s. s ≡ Stop.Memory) }
+{
+    table.reserve(asked.len())?;
+    put_all_in(table, written);
+    enter_all(table, std::mem::replace(asked, Vec::new(alloc)));
+    Ok(())
+}
+
+/// The goal of an environment and a predicate, which stands under a binder without variables.
+fn goal_in(
+    cx: &mut Cx,
+    param_env: ParamEnv,
+    predicate: TraitPredicate,
+) -> Result<Goal<Clause>, Stop>
+    requires { IsGoal trait_rules arguments_held types_held trait_goal cx.old param_env predicate }
+    ensures grows { Grows cx.old cx.new }
+    ensures sort { IfOk result (λ g. IsTraitGoal cx.new.trees g) }
+    ensures goal { IfOk result (λ g. goal_seen cx.new.trees g ≡ trait_goal cx.old.trees param_env predicate) }
+    ensures cause { IfErr result IsMakingStop }
+{
+    let vars = cx.mk_vars(&[])?;
+    let predicate = cx.mk_clause(Binder {
+        vars,
+        value: ClauseKind::Trait(predicate),
+    })?;
+    Ok(Goal {
+        param_env,
+        predicate,
+    })
+}
+
+impl Rounds {
+    /// What is known is put aside: that is known from now on, and no probe is open.
+    fn set_out(&mut self, alloc: Global, inference: Inference) -> Aside
+        requires { IsEvaluator self.old.context.trees inference [] self.old.normal self.old.opaques self.old.goals }
+        ensures out { self.new ≡ record self.old { inference = inference; marks = [] } }
+        ensures mode { result.mode ≡ self.old.mode }
+        ensures inference { result.inference ≡ self.old.inference }
+        ensures probes { reverse result.probes.items ≡ self.old.marks }
+    {
+        Aside {
+            mode: self.mode,
+            inference: std::mem::replace(&mut self.inference, inference),
+            probes: std::mem::replace(&mut self.probes, Vec::new(alloc)),
+        }
+    }
+
+    /// What was put aside is known again.
+    fn come_back(&mut self, aside: Aside)
+        requires { IsEvaluator self.old.context.trees aside.inference (reverse aside.probes.items) self.old.normal self.old.opaques self.old.goals }
+        ensures { self.new ≡ record self.old { mode = aside.mode; inference = aside.inference; marks = reverse aside.probes.items } }
+    {
+        self.mode = aside.mode;
+        self.inference = aside.inference;
+        self.probes = aside.probes;
+    }
+
+    /// What a goal of a trait comes to at what is known, by `compute_trait_goal`.
+    fn compute_here(
+        &mut self,
+        alloc: Global,
+        param_env: ParamEnv,
+        predicate: TraitPredicate,
+    ) -> Result<(CanonicalResponse, Option<TraitGoalProvenVia>), NoSolutionOrStop>
+        requires goal { IsGoal trait_rules arguments_held types_held trait_goal self.old.context param_env predicate }
+        requires stands { GoalStands trait_rules (state self.old) (trait_goal self.old.context.trees param_env predicate) }
+        ensures { Computes fixed judge_of state probes (λ r. r.context) accounts self.old self.new (trait_goal self.old.context.trees param_env predicate) result }
+    {
+        compute_trait_goal(alloc, self, param_env, predicate)
+    }
+
+    /// The goal of that place, computed where nothing else is known. What is known stays. It stops as `compute_trait_goal` does, or where
+    /// a growth was refused or a node has more children than can be counted.
+    fn compute(
+        &mut self,
+        alloc: Global,
+        place: usize,
+    ) -> Result<Option<(CanonicalResponse, Option<TraitGoalProvenVia>)>, Stop>
+        requires { place < length self.old.goals.table }
+        ensures stays { StaysBesideTable self.old self.new }
+        ensures table { table_of self.new ≡ table_of self.old }
+        ensures sort { IfOk result (λ a. IsAnswer self.new.context.trees a) }
+        ensures answer { (e : Entry Via) → slice_get (table_of self.old) place ≡ Some e → IfOk result (λ a. computing self.old (table_of self.old) e.key (told self.new.context.trees a)) }
+        ensures cause { (e : Entry Via) → slice_get (table_of self.old) place ≡ Some e → IfErr result (λ s. IsMakingStop s ⊎ IsComputingStop self.old (table_of self.old) e.key s) }
+    {
+        self.well_kept();
+        let start = start_of(alloc, &self.cx, &self.goals.table[place].key)?;
+        let aside = self.set_out(alloc, start.inference);
+        let answer = self.compute_here(alloc, start.param_env, start.predicate);
+        self.well_kept();
+        self.come_back(aside);
+        answered(answer)
+    }
+
+    /// Whether goals that ask may read the verdict of the goal of that place.
+    fn may_be_read(&self, place: usize, verdict: &Verdict) -> Result<bool, Stop>
+        requires place { place < length self.now.goals.table }
+        requires verdict { IsVerdict self.now.context.trees (Some verdict.now) }
+        ensures is { (e : Entry Via) → slice_get (table_of self.now) place ≡ Some e → IfOk result (λ b. b ≡ may_be_read e.key (Some (verdict_seen self.now.context.trees verdict.now))) }
+        ensures cause { IfErr result IsMakingStop }
+    {
+        self.well_kept();
+        may_be_read(&self.cx, &self.goals.table[place].key, verdict)
+    }
+
+    /// What a round has for the goal of that place, which is computed.
+    fn computed(&mut self, alloc: Global, place: usize) -> Result<Written, Stop>
+        requires { place < length self.old.goals.table }
+        ensures stays { StaysBesideTable self.old self.new }
+        ensures table { table_of self.new ≡ table_of self.old }
+        ensures written { (e : Entry Via) → slice_get (table_of self.old) place ≡ Some e → IfOk result (λ w. IsWrittenFor self.new.context.trees (computing self.old) (table_of self.old) e.key w) }
+        ensures cause { IfErr result (λ s. IsRunStop self.old (table_of self.old) s) }
+    {
+        let answer = self.compute(alloc, place)?;
+        let verdict = verdict_of(answer);
+        let is_readable = self.may_be_read(place, &verdict)?;
+        Ok(Written {
+            verdict,
+            is_readable,
+        })
+    }
+
+    /// Whether what is written for the goal of that place stays for good.
+    fn is_final_at(&self, place: usize) -> bool
+        requires { place < length self.now.goals.table }
+        ensures { result ≡ is_final (verdict_at (table_of self.now) place) }
+    {
+        is_final(&self.goals.table[place].verdict)
+    }
+
+    /// What a round has for that place: nothing where what is there stays for good.
+    fn written_at(&mut self, alloc: Global, place: usize) -> Result<Option<Written>, Stop>
+        requires { place < length self.old.goals.table }
+        ensures stays { StaysBesideTable self.old self.new }
+        ensures table { table_of self.new ≡ table_of self.old }
+        ensures written { (e : Entry Via) → slice_get (table_of self.old) place ≡ Some e → IfOk result (λ w. IsWrittenAt self.new.context.trees (computing self.old) (table_of self.old) e w) }
+        ensures cause { IfErr result (λ s. IsRunStop self.old (table_of self.old) s) }
+    {
+        if self.is_final_at(place) {
+            return Ok(None);
+        }
+        Ok(Some(self.computed(alloc, place)?))
+    }
+
+    /// What a round has for all places of the table.
+    fn all_written(&mut self, alloc: Global) -> Result<Vec<Option<Written>>, Stop>
+        ensures stays { StaysBesideTable self.old self.new }
+        ensures table { table_of self.new ≡ table_of self.old }
+        ensures written { IfOk result (λ v. AreWritten self.new.context.trees (computing self.old) (table_of self.old) (table_of self.old) v.items) }
+        ensures cause { IfErr result (λ s. IsRunStop self.old (table_of self.old) s) }
+    {
+        let mut list = Vec::new(alloc);
+        for place in 0..self.goals.table.len() {
+            list.push(self.written_at(alloc, place)?)?;
+        }
+        Ok(list)
+    }
+
+    /// One round: all goals that aren't final are computed, and then what they came to is written. It answers a copy of what is written
+    /// for the goal of that place, which isn't final. Where it stops the table stays as it was.
+    fn round(&mut self, alloc: Global, place: usize) -> Result<Verdict, Stop>
+        requires place { place < length self.old.goals.table }
+        requires open { is_final (verdict_at (table_of self.old) place) ≡ false }
+        ensures stays { StaysBesideTable self.old self.new }
+        ensures round { OnOk result (IsRound (computing self.old) (table_of self.old) (table_of self.new)) }
+        ensures sort { IfOk result (λ v. IsVerdict self.new.context.trees (Some v)) }
+        ensures answer { IfOk result (λ v. verdict_at (table_of self.new) place ≡ Some (verdict_seen self.new.context.trees v)) }
+        ensures stopped { OnErr result (table_of self.new ≡ table_of self.old) }
+        ensures cause { IfErr result (λ s. IsRunStop self.old (table_of self.old) s) }
+    {
+        self.well_kept();
+        let written = self.all_written(alloc)?;
+        let answer = copy_at(written.as_slice(), place)?;
+        write(alloc, &mut self.goals.table, &mut self.goals.asked, written)?;
+        Ok(answer)
+    }
+
+    /// The place of the first goal with that key, if there is one.
+    fn place_of(&self, key: &GoalKey) -> Option<usize>
+        requires { IsTraitGoal self.now.context.trees key.now.goal }
+        ensures { MatchOption result (is_entered (table_of self.now) (key_seen self.now.context.trees key.now) ≡ false) (IsPlaceOf (table_of self.now) (key_seen self.now.context.trees key.now)) }
+    {
+        self.well_kept();
+        place_in(&self.cx, self.goals.table.as_slice(), key)
+    }
+
+    /// Enters a goal that isn't there, after all others, and answers its place. `Stop::EvaluatorLimit` comes where there are 65,536 goals,
+    /// `Stop::Memory` where a growth was refused.
+    fn enter_key(&mut self, key: GoalKey) -> Result<usize, Stop>
+        requires key { IsKeyOf self.old.context.trees key }
+        requires asked { self.old.goals.asked ≡ [] }
+        ensures place { IfOk result (λ n. n ≡ length self.old.goals.table) }
+        ensures entered { OnOk result (self.new ≡ record self.old { goals = record { table = self.old.goals.table ++ new_entry key ∷ []; asked = [] } }) }
+        ensures stopped { OnErr result (self.new ≡ self.old) }
+        ensures cause { IfErr result (λ s. (s ≡ Stop.Memory) ⊎ ((s ≡ Stop.EvaluatorLimit) × (most_goals ≤ length self.old.goals.table))) }
+    {
+        self.well_kept();
+        let place = self.goals.table.len();
+        if place >= MOST_GOALS {
+            return Err(Stop::EvaluatorLimit);
+        }
+        self.goals.table.push(GoalEntry {
+            key,
+            verdict: None,
+            is_readable: true,
+        })?;
+        Ok(place)
+    }
+
+    /// The goal's key at what is known. It stops as `mk_clause` and `key_of` do.
+    fn key_for(
+        &mut self,
+        alloc: Global,
+        param_env: ParamEnv,
+        predicate: TraitPredicate,
+    ) -> Result<GoalKey, Stop>
+        requires { IsGoal trait_rules arguments_held types_held trait_goal self.old.context param_env predicate }
+        ensures goes { GoesOn self.old self.new }
+        ensures goals { self.new.goals ≡ self.old.goals }
+        ensures state { state self.new ≡ state self.old }
+        ensures sort { IfOk result (λ k. IsTraitGoal self.new.context.trees k.goal) }
+        ensures key { IfOk result (λ k. key_seen self.new.context.trees k ≡ key_at (state self.old) (trait_goal self.old.context.trees param_env predicate)) }
+        ensures cause { IfErr result IsMakingStop }
+    {
+        self.well_kept();
+        let goal = self.goal_in(param_env, predicate)?;
+        let asked = self.key_of(alloc, goal)?;
+        Ok(asked.key)
+    }
+
+    /// The goal of an environment and a predicate: nodes are made, and nothing else.
+    fn goal_in(
+        &mut self,
+        param_env: ParamEnv,
+        predicate: TraitPredicate,
+    ) -> Result<Goal<Clause>, Stop>
+        requires { IsGoal trait_rules arguments_held types_held trait_goal self.old.context param_env predicate }
+        ensures goes { GoesOn self.old self.new }
+        ensures goals { self.new.goals ≡ self.old.goals }
+        ensures state { state self.new ≡ state self.old }
+        ensures sort { IfOk result (λ g. IsTraitGoal self.new.context.trees g) }
+        ensures goal { IfOk result (λ g. goal_seen self.new.context.trees g ≡ trait_goal self.old.context.trees param_env predicate) }
+        ensures cause { IfErr result IsMakingStop }
+    {
+        goal_in(&mut self.cx, param_env, predicate)
+    }
+
+    /// The place of the goal in the table, in which it is entered if it isn't there.
+    fn enter_goal(
+        &mut self,
+        alloc: Global,
+        param_env: ParamEnv,
+        predicate: TraitPredicate,
+    ) -> Result<usize, Stop>
+        requires goal { IsGoal trait_rules arguments_held types_held trait_goal self.old.context param_env predicate }
+        requires asked { may_be_asked (key_at (state self.old) (trait_goal self.old.context.trees param_env predicate)) ≡ true }
+        requires none { self.old.goals.asked ≡ [] }
+        ensures stays { StaysBesideTable self.old self.new }
+        ensures none { self.new.goals.asked ≡ [] }
+        ensures entered { OnOk result (table_of self.new ≡ entered_in (table_of self.old) (key_at (state self.old) (trait_goal self.old.context.trees param_env predicate))) }
+        ensures place { IfOk result (IsPlaceOf (table_of self.new) (key_at (state self.old) (trait_goal self.old.context.trees param_env predicate))) }
+        ensures stopped { OnErr result (table_of self.new ≡ table_of self.old) }
+        ensures cause { IfErr result (λ s. IsRunStop self.old (table_of self.new) s) }
+    {
+        self.well_kept();
+        let key = self.key_for(alloc, param_env, predicate)?;
+        if let Some(place) = self.place_of(&key) {
+            return Ok(place);
+        }
+        self.enter_key(key)
+    }
+
+    /// Goals are asked for from now on, or aren't. None has been asked for.
+    fn set_asking(&mut self, asks: bool)
+        ensures { self.new ≡ record self.old { goals = record { table = self.old.goals.table; asked = [] } } }
+    {
+        self.goals.asked.clear();
+        self.goals.asks = asks;
+    }
+
+    /// A copy of what is written for that place, where something is.
+    fn verdict_at(&self, place: usize) -> Result<Verdict, Stop>
+        requires place { place < length self.now.goals.table }
+        requires is_final { is_final (verdict_at (table_of self.now) place) ≡ true }
+        ensures sort { IfOk result (λ v. IsVerdict self.now.context.trees (Some v)) }
+        ensures is { IfOk result (λ v. verdict_at (table_of self.now) place ≡ Some (verdict_seen self.now.context.trees v)) }
+        ensures cause { IfErr result (λ s. s ≡ Stop.Memory) }
+    {
+        self.well_kept();
+        match &self.goals.table[place].verdict {
+            Some(verdict) => copied(verdict),
+            None => unreachable!(),
+        }
+    }
+
+    /// Rounds until the goal of that place is final, or so many.
+    fn rounds(&mut self, alloc: Global, place: usize, rounds: u16) -> Result<Verdict, Stop>
+        requires place { place < length self.old.goals.table }
+        requires some { 0 < rounds }
+        ensures stays { StaysBesideTable self.old self.new }
+        ensures ran { OnOk result ((k : Key) → IsPlaceOf (table_of self.old) k place → several.Rounds (computing self.old) k rounds (table_of self.old) (table_of self.new)) }
+        ensures sort { IfOk result (λ v. IsVerdict self.new.context.trees (Some v)) }
+        ensures answer { IfOk result (λ v. verdict_at (table_of self.new) place ≡ Some (verdict_seen self.new.context.trees v)) }
+        ensures stopped { OnErr result ((k : Key) → IsPlaceOf (table_of self.old) k place → IsDoneBelow (computing self.old) k rounds (table_of self.old) (table_of self.new)) }
+        ensures cause { IfErr result (λ s. IsRunStop self.old (table_of self.new) s) }
+    {
+        if self.is_final_at(place) {
+            return self.verdict_at(place);
+        }
+        for _next in 1..rounds {
+            let verdict = self.round(alloc, place)?;
+            if self.is_final_at(place) {
+                return Ok(verdict);
+            }
+        }
+        self.round(alloc, place)
+    }
+
+    /// Rounds for a goal, which is entered in the table if it isn't there, until it is final, but so many at most. It answers what is
+    /// written for the goal then.
+    ///
+    /// A round computes all goals of the table that aren't final, each where nothing but its own variables is known, and as it reads the
+    /// table that the last round left; then it writes what they came to. Goals that were first asked for meanwhile come after them.
+    ///
+    /// Where it stops the table is that of the last whole round, with the goal, if it was entered. What is known, what is pending and the
+    /// open probes stay in each case. `Stop::EvaluatorLimit` comes where there are 65,536 goals already, or where computing a goal comes
+    /// to it; `Stop::Memory` where a growth was refused; `Stop::NodesFull` where no numbers are left, a tree would be higher than 1,024,
+    /// or the variables or the children of a node are too many; and others where the rules for a goal come to them.
+    pub fn run(
+        &mut self,
+        alloc: Global,
+        param_env: ParamEnv,
+        predicate: TraitPredicate,
+        rounds: u16,
+    ) -> Result<Verdict, Stop>
+        requires some { 0 < rounds }
+        requires goal { IsGoal trait_rules arguments_held types_held trait_goal self.old.context param_env predicate }
+        requires asked { may_be_asked (key_at (state self.old) (trait_goal self.old.context.trees param_env predicate)) ≡ true }
+        ensures stays { StaysBesideTable self.old self.new }
+        ensures ran { OnOk result (IsRun (computing self.old) (key_at (state self.old) (trait_goal self.old.context.trees param_env predicate)) rounds (table_of self.old) (table_of self.new)) }
+        ensures sort { IfOk result (λ v. IsVerdict self.new.context.trees (Some v)) }
+        ensures answer { IfOk result (λ v. verdict_in (table_of self.new) (key_at (state self.old) (trait_goal self.old.context.trees param_env predicate)) ≡ Some (verdict_seen self.new.context.trees v)) }
+        ensures stopped { OnErr result (IsLeftStopped (computing self.old) (key_at (state self.old) (trait_goal self.old.context.trees param_env predicate)) rounds (table_of self.old) (table_of self.new)) }
+        ensures asked { self.new.goals.asked ≡ [] }
+        ensures cause { IfErr result (λ s. IsRunStop self.old (table_of self.new) s) }
+    {
+        self.well_kept();
+        self.set_asking(false);
+        let place = self.enter_goal(alloc, param_env, predicate)?;
+        self.set_asking(true);
+        let answer = self.rounds(alloc, place, rounds);
+        self.set_asking(false);
+        answer
+    }
+
+    /// Whether the goal may be run: with all values put in its trees are closed trees of variables, without parameters. Each goal that
+    /// stands at what is known is such a goal. Nodes are made, and nothing else is changed; it stops as `entry` does.
+    pub fn may_be_run(
+        &mut self,
+        alloc: Global,
+        param_env: ParamEnv,
+        predicate: TraitPredicate,
+    ) -> Result<bool, Stop>
+        requires { IsGoal trait_rules arguments_held types_held trait_goal self.old.context param_env predicate }
+        ensures stays { StaysBesideTable self.old self.new }
+        ensures table { table_of self.new ≡ table_of self.old }
+        ensures goal { IsGoal trait_rules arguments_held types_held trait_goal self.new.context param_env predicate }
+        ensures is { IfOk result (λ b. b ≡ may_be_asked (key_at (state self.new) (trait_goal self.new.context.trees param_env predicate))) }
+        ensures standing { GoalStands trait_rules (state self.old) (trait_goal self.old.context.trees param_env predicate) → IfOk result (λ b. b ≡ true) }
+        ensures cause { IfErr result IsMakingStop }
+    {
+        self.well_kept();
+        let key = self.key_for(alloc, param_env, predicate)?;
+        self.may_be_asked(&key)
+    }
+
+    /// Whether the goal of that key may be asked for.
+    fn may_be_asked(&self, key: &GoalKey) -> Result<bool, Stop>
+        requires { IsTraitGoal self.now.context.trees key.now.goal }
+        ensures is { IfOk result (λ b. b ≡ may_be_asked (key_seen self.now.context.trees key.now)) }
+        ensures cause { IfErr result IsMakingStop }
+    {
+        may_be_asked(&self.cx, key)
+    }
+
+    /// What was last written for the goal, if anything was. Nodes are made, and nothing else is changed. `Stop::Memory` comes where a
+    /// growth was refused, `Stop::NodesFull` where no numbers are left, a tree would be higher than 1,024, or the variables or the
+    /// children of a node are too many.
+    pub fn entry(
+        &mut self,
+        alloc: Global,
+        param_env: ParamEnv,
+        predicate: TraitPredicate,
+    ) -> Result<Option<Verdict>, Stop>
+        requires { IsGoal trait_rules arguments_held types_held trait_goal self.old.context param_env predicate }
+        ensures stays { StaysBesideTable self.old self.new }
+        ensures table { table_of self.new ≡ table_of self.old }
+        ensures sort { IfOk result (λ o. IsVerdict self.new.context.trees o) }
+        ensures is { IfOk result (λ o. option_map (verdict_seen self.new.context.trees) o ≡ verdict_in (table_of self.old) (key_at (state self.old) (trait_goal self.old.context.trees param_env predicate))) }
+        ensures cause { IfErr result IsMakingStop }
+    {
+        self.well_kept();
+        let key = self.key_for(alloc, param_env, predicate)?;
+        match self.place_of(&key) {
+            Some(place) => self.copied_at(place),
+            None => Ok(None),
+        }
+    }
+
+    /// A copy of what is written for that place, if anything is.
+    fn copied_at(&self, place: usize) -> Result<Option<Verdict>, Stop>
+        requires { place < length self.now.goals.table }
+        ensures sort { IfOk result (λ o. IsVerdict self.now.context.trees o) }
+        ensures is { IfOk result (λ o. option_map (verdict_seen self.now.context.trees) o ≡ verdict_at (table_of self.now) place) }
+        ensures cause { IfErr result IsMakingStop }
+    {
+        self.well_kept();
+        match &self.goals.table[place].verdict {
+            Some(verdict) => Ok(Some(copied(verdict)?)),
+            None => Ok(None),
+        }
+    }
+}
