@@ -1,3 +1,4 @@
 pub mod Giving
+pub mod MayBeGiven
 mod Lacking
 mod Tables

@@ -1,6 +1,6 @@
 //! The commands that ask.
 
-ghost use Rattle.std.specs.Prelude.{◌≡◌, ◌≢◌, All, IfOk, IfSome};
+ghost use Rattle.std.specs.Prelude.{◌≡◌, ◌≢◌, ◌<◌, All, IfOk, IfSome};
 ghost use Rattle.candidate_ir.specs.Words.{IsTy, IsArgs};
 ghost use Rattle.candidate_ir.specs.References.{ArgumentsFit};
 ghost use Rattle.candidate_eval.specs.Answers.{AreAnswerTypes, AreErrorTypes, OutOfMemory, answer_of, knowledge_of};
@@ -10,15 +10,18 @@ ghost use Rattle.candidate_eval.specs.Calls.{plain_check_of, plain_knowledge_abo
 
 use crate::faults::Fault;
 use crate::given::Given;
+use crate::solving::solve;
 use crate::types::{DEEPEST, Scope};
 use crate::words::Words;
+use candidate_assembly::trait_goals::preference::TraitGoalProvenVia;
 use candidate_eval::coherence::{
     Conflict, InCrate, IsFirstInputType, NormalizeErr, OrphanCheckErr, OrphanCheckMode, OrphanStop,
     UncoveredTyParams, orphan_check_trait_ref, trait_ref_is_knowable,
 };
 use candidate_ir::decl::context::Cx;
-use candidate_ir::ir::kinds::{TraitRef, Ty};
+use candidate_ir::ir::kinds::{PredicatePolarity, TraitPredicate, TraitRef, Ty};
 use candidate_ir::ir::stop::Stop;
+use candidate_rounds::rounds::goals::Verdict;
 use std::convert::Infallible;
 
 /// A command that asks.
@@ -26,7 +29,11 @@ use std::convert::Infallible;
 pub enum Query {
     Orphan,
     Knowable,
+    Solve,
 }
+
+/// How many rounds may be asked for.
+const MOST_ROUNDS: u16 = 65_535;
 
 /// For which crate a reference is checked.
 const CRATES: [(&str, InCrate); 3] = [
@@ -73,24 +80,32 @@ impl<'a> Asking<'a> {
         &self.given
     }
 
-    /// The answer to the line, whose command was read; or why it can't be given.
+    /// The answer that was made last.
+    pub fn answer(&self) -> &str {
+        self.answer.as_str()
+    }
+
+    /// Makes the answer to the line, whose command was read, or says why it can't be made.
     ///
     /// What the query before made in the context is gone by then.
-    /// The error is a fault of the line.
+    /// The error is a fault of the line; nothing more is asked then.
     pub fn ask(
-        &mut self,
+        mut self,
         query: Query,
         mut words: Words<'a>,
-    ) -> Result<Result<&str, Stop>, Fault<'a>> {
+    ) -> Result<(Asking<'a>, Result<(), Stop>), Fault<'a>> {
         self.answer.clear();
         self.scope.maker.truncate(0);
-        let made = match query {
-            Query::Orphan => self.orphan(&mut words)?,
-            Query::Knowable => self.knowable(&mut words)?,
-        };
-        match made {
-            Ok(()) => Ok(Ok(self.answer.as_str())),
-            Err(stop) => Ok(Err(stop)),
+        match query {
+            Query::Orphan => {
+                let made = self.orphan(&mut words)?;
+                Ok((self, made))
+            }
+            Query::Knowable => {
+                let made = self.knowable(&mut words)?;
+                Ok((self, made))
+            }
+            Query::Solve => self.solve(&mut words),
         }
     }
 
@@ -139,6 +154,85 @@ impl<'a> Asking<'a> {
             Ok(Err(Conflict::Upstream)) => "upstream\n",
             Err(OrphanStop::Stop(stop)) => return Err(stop),
             Err(OrphanStop::Normalize(never)) => match never {},
+        };
+        self.answer.push_str(word)?;
+        Ok(())
+    }
+
+    /// How a goal's trait reference begins: with the word `-`, where the reference is not to hold.
+    fn polarity(words: &mut Words<'a>) -> PredicatePolarity {
+        let mut ahead = *words;
+        match ahead.next_word() {
+            Some("-") => {
+                *words = ahead;
+                PredicatePolarity::Negative
+            }
+            _ => PredicatePolarity::Positive,
+        }
+    }
+
+    /// `solve K TRAITREF` and `solve K - TRAITREF`.
+    fn solve(mut self, words: &mut Words<'a>) -> Result<(Asking<'a>, Result<(), Stop>), Fault<'a>> {
+        let count = words.count(MOST_ROUNDS)?;
+        let polarity = Self::polarity(words);
+        let trait_ref = self.last_trait_ref(words)?;
+        let predicate = TraitPredicate {
+            trait_ref,
+            polarity,
+        };
+        let (mut asking, verdict) = self.solved(predicate, count);
+        let made = asking.print_verdict(verdict);
+        Ok((asking, made))
+    }
+
+    /// What the goal comes to in so many rounds at most.
+    fn solved(
+        self,
+        predicate: TraitPredicate,
+        count: u16,
+    ) -> (Asking<'a>, Result<Option<Verdict>, Stop>)
+        requires some { 0 < count }
+        requires args { IsArgs self.scope.maker.trees predicate.trait_ref.args }
+        requires no_param { HasNoParam self.scope.maker predicate.trait_ref }
+        requires fit { ArgumentsFit self.scope.maker predicate.trait_ref }
+    {
+        let Asking {
+            scope,
+            answer,
+            given,
+            ..
+        } = self;
+        let Scope {
+            alloc,
+            names,
+            maker,
+        } = scope;
+        let (maker, verdict) = solve(alloc, maker, &given, predicate, count);
+        let scope = Scope {
+            alloc,
+            names,
+            maker,
+        };
+        let asking = Asking {
+            scope,
+            answer,
+            given,
+        };
+        (asking, verdict)
+    }
+
+    fn print_verdict(&mut self, verdict: Result<Option<Verdict>, Stop>) -> Result<(), Stop> {
+        let word = match verdict? {
+            Some(Verdict::Yes(_, via)) => {
+                self.answer.push_str("yes ")?;
+                word_of_way(via)
+            }
+            Some(Verdict::Maybe(_, via)) => {
+                self.answer.push_str("maybe ")?;
+                word_of_way(via)
+            }
+            Some(Verdict::Refused) => "refused\n",
+            None => "maybe none\n",
         };
         self.answer.push_str(word)?;
         Ok(())
@@ -232,6 +326,16 @@ impl<'a> Asking<'a> {
     {
         self.answer.push_str(before)?;
         self.scope.print_type(ty, DEEPEST, &mut self.answer)
+    }
+}
+
+/// The word for how a goal is proved.
+fn word_of_way(via: Option<TraitGoalProvenVia>) -> &'static str {
+    match via {
+        Some(TraitGoalProvenVia::Misc) => "misc\n",
+        Some(TraitGoalProvenVia::ParamEnv) => "param_env\n",
+        Some(TraitGoalProvenVia::AliasBound) => "alias_bound\n",
+        None => "none\n",
     }
 }
 

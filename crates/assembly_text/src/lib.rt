@@ -11,5 +11,6 @@ mod making;
 mod names;
 mod notation;
 pub mod run;
+mod solving;
 mod types;
 mod words;

@@ -8,6 +8,7 @@ use crate::declaring::{ClausePlace, Declaration, Declaring};
 use crate::faults::Fault;
 use crate::words::{Words, listed};
 use candidate_ir::decl::contents::{AliasBoundKind, Sizedness};
+use candidate_ir::ir::stop::Stop;
 use memchr::memchr;
 use std::alloc::Global;
 use std::io;
@@ -104,7 +105,7 @@ pub fn answer<'a, W: Write>(
 ) -> Result<(), Halt<'a>> {
     let mut declaring = Declaring::new(alloc)?;
     match declare_all(&mut declaring, lines)? {
-        Some((query, words)) => ask_all(&mut declaring.finish()?, query, words, lines, output),
+        Some((query, words)) => ask_all(declaring.finish()?, query, words, lines, output),
         None => Ok(()),
     }
 }
@@ -129,14 +130,16 @@ fn declare_all<'a>(
 
 /// Answers the query, and those that are left.
 fn ask_all<'a, W: Write>(
-    asking: &mut Asking<'a>,
+    mut asking: Asking<'a>,
     mut query: Query,
     mut words: Words<'a>,
     lines: &mut Lines<'a>,
     output: &mut W,
 ) -> Result<(), Halt<'a>> {
     for _ in 0..u64::MAX {
-        write_answer(asking, query, words, output)?;
+        let (asked, made) = asking.ask(query, words)?;
+        asking = asked;
+        write_answer(asking.answer(), made, output)?;
         match lines.next_command()? {
             Some((Command::Query(next), following)) => {
                 query = next;
@@ -149,14 +152,10 @@ fn ask_all<'a, W: Write>(
     Ok(())
 }
 
-fn write_answer<'a, W: Write>(
-    asking: &mut Asking<'a>,
-    query: Query,
-    words: Words<'a>,
-    output: &mut W,
-) -> Result<(), Halt<'a>> {
-    match asking.ask(query, words)? {
-        Ok(answer) => output.write_all(answer.as_bytes())?,
+/// Writes the answer, or in its place why it wasn't made.
+fn write_answer<W: Write>(answer: &str, made: Result<(), Stop>, output: &mut W) -> io::Result<()> {
+    match made {
+        Ok(()) => output.write_all(answer.as_bytes())?,
         Err(stop) => {
             let number = stop as u8;
             writeln!(output, "stop {number}")?;
@@ -165,7 +164,11 @@ fn write_answer<'a, W: Write>(
     Ok(())
 }
 
-const QUERIES: [(&str, Query); 2] = [("orphan", Query::Orphan), ("knowable", Query::Knowable)];
+const QUERIES: [(&str, Query); 3] = [
+    ("orphan", Query::Orphan),
+    ("knowable", Query::Knowable),
+    ("solve", Query::Solve),
+];
 
 const DECLARATIONS: [(&str, Declaration); 22] = [
     ("adt", Declaration::Adt),

@@ -330,7 +330,6 @@ mode x => line 10: bad flag x
 mode Coherence => line 10: bad flag Coherence
 mode coherence analysis => line 10: long line
 limit 1 => line 10: unknown word
-solve 1 T u8 => line 10: unknown word
 orphan local i u8 => line 10: unknown name i
 orphan local P u8 => line 10: unknown name P
 orphan local T i => line 10: unknown name i

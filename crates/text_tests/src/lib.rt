@@ -13,3 +13,5 @@ mod declarations;
 mod devices;
 #[cfg(test)]
 mod memory;
+#[cfg(test)]
+mod solving;

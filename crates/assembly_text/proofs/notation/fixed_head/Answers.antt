@@ -1,6 +1,6 @@
 use Rattle.std.proofs.Common.{◌≡◌, ℕ, List, [], ◌∷◌, Bool, true, false, refl, sym, subst}
 use Rattle.std.specs.Borrow.{Bor}
-use Rattle.std.specs.Prelude.{Option, Some, None, IfSome, nat_eq, ◌&&◌, if◌then◌else◌}
+use Rattle.std.specs.Prelude.{Option, Some, IfSome, nat_eq, ◌&&◌, if◌then◌else◌}
 use Rattle.std.specs.Cmp.Lexicographic.{pointwise}
 use Rattle.candidate_ir.specs.Kinds.{ty_children}
 use Rattle.assembly_text.specs.declared.notation.Head.{Head}

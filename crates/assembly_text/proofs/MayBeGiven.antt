@@ -1,0 +1,59 @@
+-- What an evaluator is given, pair after pair, and the goals that a text asks for.
+use Rattle.std.proofs.Common.{◌≡◌, true, false, ◌∙◌, Some, map, List, [], ◌∷◌, ◌++◌, All, refl, sym, ap, subst}
+use Rattle.std.proofs.lemmas.List.{map-append}
+use Rattle.std.proofs.lemmas.List.Elements.{All-head, All-nil, All-push, All-tail}
+use Rattle.candidate_ir.specs.declared.ir.kinds.Ty.{Ty}
+use Rattle.candidate_ir.specs.Trees.{Tree}
+use Rattle.candidate_ir.specs.declared.ir.kinds.Clause.{Clause}
+use Rattle.candidate_ir.specs.Binders.{escapes}
+use Rattle.candidate_ir.specs.Context.{Context, Grows}
+use Rattle.candidate_ir.specs.Kinds.{numbers}
+use Rattle.candidate_ir.specs.Nodes.{clause_child, kinds_at}
+use Rattle.candidate_ir.specs.References.{ArgumentsFit}
+use Rattle.candidate_ir.specs.Trees.{ClauseKind, TypeKind, holds, is_param}
+use Rattle.candidate_ir.specs.Words.{ClauseListFits, IsArgs, IsClause, IsParamEnv, IsTy, args_forest, ty_tree}
+use Rattle.candidate_ir.specs.Worlds.{World, TraitSort, joined, kinds_of, parameters}
+use Rattle.candidate_ir.proofs.Kept.{args-kept, world-kept}
+use Rattle.candidate_eval.specs.Calls.{HasNoParam}
+use Rattle.candidate_ir.specs.declared.ir.kinds.ParamEnv.{ParamEnv}
+use Rattle.candidate_ir.specs.declared.ir.kinds.TraitPredicate.{TraitPredicate}
+use Rattle.candidate_assembly.specs.Kinds.{IsGoal}
+use Rattle.candidate_assembly.specs.TraitGoals.{arguments_held, trait_goal, types_held}
+use Rattle.candidate_assembly.specs.TraitRules.{trait_rules}
+use Rattle.candidate_rounds.specs.Known.{AreTypes, IsGiven, listing_of}
+use Rattle.candidate_rounds.proofs.Given.{listed-pair}
+use Rattle.candidate_rounds.proofs.Knowing.{each-append}
+use Rattle.rounds_judge.specs.Standing.{IsListed, IsListing}
+use Rattle.rounds_judge.specs.WellListed.{may_be_listed}
+
+pub given-none : (ts : List Tree) (ps : List (Ty × Ty)) → ps ≡ [] → IsGiven ts ps []
+given-none ts ps e = subst (λ (qs : List (Ty × Ty)). IsGiven ts qs []) (sym e) (record { types = tt; listing = All-nil IsListed; opaques_fit = tt; opaques_are = tt; opaques_hidden = tt })
+
+pub given-more : (ts : List Tree) (ps qs : List (Ty × Ty)) (a t : Ty) → IsGiven ts ps [] → IsTy ts a → IsTy ts t → may_be_listed (ty_tree ts a, ty_tree ts t) ≡ true → qs ≡ ps ++ (a, t) ∷ [] → IsGiven ts qs []
+given-more ts ps qs a t g i j m e = subst (λ (rs : List (Ty × Ty)). IsGiven ts rs []) (sym e) (record {
+  types = each-append (AreTypes ts) ps (a, t) g.types (i, j);
+  listing = subst IsListing (sym (map-append (λ (p : Ty × Ty). (ty_tree ts p.0, ty_tree ts p.1)) ps ((a, t) ∷ []))) (All-push IsListed (listing_of ts ps) (ty_tree ts a, ty_tree ts t) g.listing (listed-pair _ m));
+  opaques_fit = tt;
+  opaques_are = tt;
+  opaques_hidden = tt;
+})
+
+-- clauses, each of the context, are a list of it
+pub clauses-fit : (ts : List Tree) (xs : List Clause) → All (IsClause ts) xs → ClauseListFits ts xs
+clauses-fit ts [] a = refl
+clauses-fit ts (x ∷ xs) a =
+    ap (λ k. k ∷ kinds_at ts (numbers (map clause_child xs))) (All-head (IsClause ts) x xs a) ∙ ap (λ ks. ClauseKind ∷ ks) (clauses-fit ts xs (All-tail (IsClause ts) x xs a))
+
+-- A reference that a text gives is a goal, in an environment.
+pub goal-of : (old new : Context) (env : ParamEnv) (p : TraitPredicate) → Grows old new → IsParamEnv new.trees env → IsArgs old.trees p.trait_ref.args → HasNoParam old p.trait_ref → ArgumentsFit old p.trait_ref
+    → escapes 0 (args_forest old.trees p.trait_ref.args) ≡ false → IsGoal trait_rules arguments_held types_held trait_goal new env p
+goal-of old new env p g e a n f c =
+    let k = args-kept old new p.trait_ref.args g a in
+    record {
+      env = e;
+      arguments = k.0;
+      types = refl;
+      fit = ap (λ (w : World). joined (Some (TypeKind ∷ [])) (parameters w TraitSort p.trait_ref.def_id.0)) (world-kept old new g).0 ∙ (f ∙ ap (λ ts. Some (kinds_of ts)) (sym k.1));
+      no_parameter = ap (holds is_param) k.1 ∙ n;
+      is_closed = ap (escapes 0) k.1 ∙ c;
+    }

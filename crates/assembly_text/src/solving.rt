@@ -1,0 +1,138 @@
+//! What a goal comes to under what is given.
+
+ghost use Rattle.std.specs.Prelude.{◌≡◌, ◌<◌, [], IfOk};
+ghost use Rattle.candidate_ir.specs.Context.{Grows};
+ghost use Rattle.candidate_ir.specs.References.{ArgumentsFit};
+ghost use Rattle.candidate_ir.specs.Words.{ClauseListFits, IsArgs};
+ghost use Rattle.candidate_assembly.specs.Kinds.{IsGoal};
+ghost use Rattle.candidate_assembly.specs.TraitGoals.{arguments_held, trait_goal, types_held};
+ghost use Rattle.candidate_assembly.specs.TraitRules.{trait_rules};
+ghost use Rattle.candidate_eval.specs.Calls.{HasNoParam};
+ghost use Rattle.candidate_rounds.specs.Known.{IsGiven};
+ghost use Rattle.assembly_text.specs.Given.{GivenFits};
+
+use crate::given::Given;
+use candidate_eval::eval::variable::VariableKind;
+use candidate_ir::decl::context::Cx;
+use candidate_ir::decl::make::{Build, Make};
+use candidate_ir::ir::heads::VariableSort;
+use candidate_ir::ir::kinds::{Args, Clause, ParamEnv, TraitPredicate, Ty};
+use candidate_ir::ir::marks::Unsolved;
+use candidate_ir::ir::stop::Stop;
+use candidate_ir::ir::trees::Trees;
+use candidate_rounds::rounds::Rounds;
+use candidate_rounds::rounds::given::may_be_listed;
+use candidate_rounds::rounds::goals::Verdict;
+use std::alloc::Global;
+
+/// As many variables as a text can spell.
+const VARIABLES: u16 = 256;
+
+/// The aliases of what is given that may be listed, each with its type. A text gives no others.
+fn normal_forms(alloc: Global, cx: &Cx, given: &Given) -> Result<Vec<(Ty, Ty)>, Stop>
+    requires { GivenFits cx.now.trees given.now }
+    ensures { IfOk result (λ v. IsGiven cx.now.trees v.items []) }
+{
+    let mut list = Vec::new(alloc);
+    for i in 0..given.normal_forms.len() {
+        let (alias, ty) = given.normal_forms[i];
+        if may_be_listed(cx, alias, ty) {
+            list.push((alias, ty))?;
+        }
+    }
+    Ok(list)
+}
+
+/// Root variables for all that a text can spell.
+fn add_variables(rounds: &mut Rounds) -> Result<(), Stop>
+    ensures { Grows rounds.old.context rounds.new.context }
+{
+    for _ in 0..VARIABLES {
+        rounds.new_root_var(VariableKind::Term(VariableSort::General))?;
+    }
+    Ok(())
+}
+
+/// Root variables, if a variable stands in the list.
+fn add_roots(rounds: &mut Rounds, args: Args) -> Result<(), Stop>
+    requires { IsArgs rounds.old.context.trees args }
+    ensures { Grows rounds.old.context rounds.new.context }
+{
+    if !rounds.cx().has_marked(args, &Unsolved) {
+        return Ok(());
+    }
+    add_variables(rounds)
+}
+
+/// What the goal comes to in so many rounds at most. Nothing is answered where it may not be run, as no goal of a text is.
+fn run(
+    alloc: Global,
+    rounds: &mut Rounds,
+    env: ParamEnv,
+    predicate: TraitPredicate,
+    count: u16,
+) -> Result<Option<Verdict>, Stop>
+    requires some { 0 < count }
+    requires goal { IsGoal trait_rules arguments_held types_held trait_goal rounds.old.context env predicate }
+    ensures { Grows rounds.old.context rounds.new.context }
+{
+    if !rounds.may_be_run(alloc, env, predicate)? {
+        return Ok(None);
+    }
+    Ok(Some(rounds.run(alloc, env, predicate, count)?))
+}
+
+/// The same under these clauses.
+fn ask(
+    alloc: Global,
+    rounds: &mut Rounds,
+    clauses: &[Clause],
+    predicate: TraitPredicate,
+    count: u16,
+) -> Result<Option<Verdict>, Stop>
+    requires some { 0 < count }
+    requires clauses { ClauseListFits rounds.old.context.trees clauses.now }
+    requires args { IsArgs rounds.old.context.trees predicate.trait_ref.args }
+    requires no_param { HasNoParam rounds.old.context predicate.trait_ref }
+    requires fit { ArgumentsFit rounds.old.context predicate.trait_ref }
+    ensures { Grows rounds.old.context rounds.new.context }
+{
+    if rounds
+        .cx()
+        .has_escaping_bound_vars(predicate.trait_ref.args)
+    {
+        return Ok(None);
+    }
+    let env = rounds.mk_param_env(clauses)?;
+    add_roots(rounds, predicate.trait_ref.args)?;
+    run(alloc, rounds, env, predicate, count)
+}
+
+/// What a goal comes to in a new evaluator, in so many rounds at most; and the context, with the nodes that were made meanwhile. Nothing
+/// is answered where the goal may not be run, as none of a text is. It stops as `Rounds::run` does.
+pub fn solve(
+    alloc: Global,
+    cx: Cx,
+    given: &Given,
+    predicate: TraitPredicate,
+    count: u16,
+) -> (Cx, Result<Option<Verdict>, Stop>)
+    requires some { 0 < count }
+    requires given { GivenFits cx.trees given.now }
+    requires args { IsArgs cx.trees predicate.trait_ref.args }
+    requires no_param { HasNoParam cx predicate.trait_ref }
+    requires fit { ArgumentsFit cx predicate.trait_ref }
+    ensures { Grows cx result.0 }
+{
+    match normal_forms(alloc, &cx, given) {
+        Ok(normal) => {
+            let opaques = Vec::new(alloc);
+            let mut rounds = Rounds::new(alloc, cx, given.mode, normal, opaques);
+            let clauses = given.clauses.as_slice();
+            let verdict = ask(alloc, &mut rounds, clauses, predicate, count);
+            let (cx, _, _) = rounds.into_parts();
+            (cx, verdict)
+        }
+        Err(stop) => (cx, Err(stop)),
+    }
+}

@@ -1,0 +1,51 @@
+//! Goals of traits: what they come to in so many rounds.
+
+use crate::cases::{DECLARATIONS, check_rows};
+use assembly_text::run::Status;
+
+/// Lines after the declarations, and their answers.
+const AMONG_DECLARED: &str = "\
+solve 1 Trait $0 => maybe misc
+solve 1 Trait u8|solve 65535 Trait u8|solve 1 - Trait u8 => refused|refused|refused
+impl 1 any 1 + Trait #0|env Trait !0|solve 1 Trait !0 => yes param_env
+impl 1 iu 0 + Trait u8|env Trait u8|solve 1 Trait u8 => yes misc
+trait 1 Super 0 fundamental|trait 1 Sub 0|super Sub Super #0|mode coherence|solve 1 Trait LocalType|solve 1 Trait Vec $0|solve 2 Sub Vec $0|solve 3 Sub Vec $0 => refused|maybe misc|maybe misc|refused
+nbound Out Trait Out Out #0|solve 1 Trait Out Out !0 => yes alias_bound
+impl 1 own 1 + Trait Vec #0|iwhere own Trait Vec #0|solve 5 Trait Vec u8 => maybe misc
+impl 0 i 1 + LocalTrait Vec #0|iwhere i Trait LocalType|mode coherence|solve 2 LocalTrait Vec u8|solve 3 LocalTrait Vec u8 => maybe misc|refused
+impl 1 a 1 + Trait Vec #0|iwhere a Trait1 Vec #0 #0|impl 1 b 1 + Trait1 Vec #0 #0|iwhere b Trait Vec #0|solve 9 Trait Vec u8|solve 9 Trait1 Vec u8 u8|solve 2 Trait1 Vec u8 bool => maybe misc|maybe misc|refused
+impl 1 n 0 - Trait u8|solve 1 Trait u8|solve 1 - Trait u8|solve 1 - Trait u16 => refused|yes misc|refused
+impl 1 iu 0 + Trait u8|impl 1 iv 1 + Trait Vec #0|iwhere iv Trait #0|solve 1 Trait Vec Vec u8|solve 3 Trait Vec u8|solve 4 Trait Vec Vec u8|solve 5 Trait Vec Vec u8 => maybe misc|yes misc|maybe misc|yes misc
+impl 1 iv 1 + Trait Vec #0|iwhere iv Trait #0|solve 2 Trait Vec u8|solve 3 Trait Vec u8|solve 5 Trait Vec Vec u8 => maybe misc|refused|refused
+trait 1 Gives 1|impl 1 g 0 + Gives u8 bool|impl 1 v 2 + Trait Vec #0|iwhere v Gives #0 #1|iwhere v Trait #1|impl 1 t 0 + Trait bool|solve 4 Trait Vec u8|solve 5 Trait Vec u8|solve 5 Trait Vec u16 => maybe misc|yes misc|refused
+trait 1 Gives 1|impl 1 g 0 + Gives u8 bool|impl 1 v 2 + Trait Vec #0|iwhere v Trait #1|iwhere v Gives #0 #1|impl 1 t 0 + Trait bool|solve 4 Trait Vec u8|solve 5 Trait Vec u8 => maybe misc|yes misc
+trait 1 Gives 1|impl 1 g 0 + Gives u8 bool|impl 1 v 1 + Trait2 Vec #0 u16 char|iwhere v Gives #0 u16|solve 3 Trait2 Vec u8 u16 char => refused
+norm Out u8 bool|impl 1 i 0 + Trait bool|solve 1 Trait Out u8|solve 1 Trait Vec Out u8|solve 1 Trait bool => yes misc|refused|yes misc
+norm Out u8 bool|impl 1 i 0 + Trait Vec Out u8|solve 1 Trait Vec bool|solve 1 Trait Vec Out u8|solve 1 Trait Vec char => yes misc|yes misc|refused
+norm Out u8 bool|impl 1 i 1 + Trait Vec #0|iwhere i Trait #0|impl 1 j 0 + Trait bool|solve 3 Trait Vec Out u8 => yes misc";
+
+/// Whole texts, and their answers.
+const WHOLE: &str = "\
+trait 1 Sized 0|lang Sized Sized|solve 1 Sized (2) u8 u16|solve 2 Sized (2) u8 u16|solve 3 Sized (2) u8 u16 => maybe misc|maybe misc|yes misc
+trait 1 Send 0 auto|adt 0 Foo 0|field Foo u8|solve 2 Send Foo|solve 3 Send Foo|solve 3 Send (2) u8 (1) u8|solve 4 Send (2) u8 (1) u8 => maybe misc|yes misc|maybe misc|yes misc
+trait 1 Send 0 auto|adt 0 Foo 0|field Foo u8|impl 0 neg 0 - Send Foo|solve 3 Send Foo|solve 1 - Send Foo => refused|yes misc
+trait 1 Unsize 1|lang Unsize Unsize|trait 1 B 1 dyn|assoc B Item|trait 1 A 0 dyn|super A B #0 u8|solve 1 Unsize [3] u8 [] u8|solve 1 Unsize dyn(3) A Item u8 bool Item $0 bool dyn(2) B u8 Item u8 bool|solve 1 Unsize dyn(3) A Item u8 bool Item $0 bool dyn(2) B u8 Item u8 char|solve 1 Unsize dyn(2) A Item u8 bool dyn(2) B u8 Item u8 bool => yes misc|maybe misc|refused|yes misc
+trait 1 Unsize 1|lang Unsize Unsize|adt 0 Foo 2|field Foo #0|field Foo #1|unsizing Foo 1|solve 2 Unsize Foo u8 [3] u16 Foo u8 [] u16|solve 3 Unsize Foo u8 [3] u16 Foo u8 [] u16|solve 1 Unsize Foo u8 [3] u16 Foo u16 [] u16 => maybe misc|yes misc|refused
+trait 1 Sized 0|lang Sized Sized|trait 1 FnOnce 1|lang FnOnce FnOnce|solve 2 FnOnce fn(1) u8 bool (1) u8|solve 3 FnOnce fn(1) u8 bool (1) u8|solve 1 FnOnce fn(1) u8 bool (1) u16 => maybe misc|yes misc|refused
+trait 0 T 0|impl 0 r 0 reservation T u8|mode coherence|solve 1 T u8 => maybe misc
+trait 0 T 0|impl 0 r 0 reservation T u8|mode analysis|solve 1 T u8 => refused
+trait 0 T 0|impl 0 r 0 reservation T u8|mode borrowck|solve 1 T u8 => refused
+trait 0 T 0|impl 0 r 0 reservation T u8|mode post_borrowck|solve 1 T u8 => refused
+trait 0 T 0|impl 0 r 0 reservation T u8|mode post_analysis|solve 1 T u8|solve 1 - T u8 => refused|refused
+adt 1 Box 1 fundamental|adt 0 Local 0|trait 1 Show 0|trait 1 From 1|mode coherence|orphan local From Box $0 Local|knowable From Local u8|solve 1 Show Local => uncovered $0 local Local|ok|refused
+trait 1 Show 0|adt 0 Local 0|adt 2 New 0|impl 2 i 0 + Show New|impl 2 j 1 + Show & #0|mode coherence|solve 1 Show Local|solve 1 Show New => refused|maybe misc";
+
+#[test]
+fn goals_among_declared(rt: HostRuntime) {
+    check_rows(&rt, rt.alloc(), DECLARATIONS, AMONG_DECLARED, Status::Done);
+}
+
+#[test]
+fn goals_of_whole_texts(rt: HostRuntime) {
+    check_rows(&rt, rt.alloc(), "", WHOLE, Status::Done);
+}
