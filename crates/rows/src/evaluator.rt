@@ -14,7 +14,7 @@ use crate::refusals::Refusal;
 use crate::rows::Row;
 use crate::tables::{UNNAMED, value_of, word_for};
 use crate::typed::{arg_at, args_at, clause_at, env_at, ty_at};
-use crate::{considering, objects};
+use crate::{considering, objects, tabling};
 use candidate_eval::eval::InferCtxtLike;
 use candidate_eval::eval::ambiguity::{bail_with_ambiguity, flounder};
 use candidate_eval::eval::certainty::Certainty;
@@ -267,6 +267,7 @@ pub(crate) fn answer(
         "consider" | "forced" | "characterize" | "about" | "passes" | "additional" => {
             considering::answer(reader, rounds, row, of)
         }
+        "run" | "entry" | "may_be_run" => tabling::answer(alloc, rounds, row, of),
         _ => objects::answer(reader, rounds, row, of),
     }
 }

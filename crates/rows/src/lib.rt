@@ -30,5 +30,6 @@ pub mod run;
 pub(crate) mod starting;
 pub(crate) mod structures;
 pub(crate) mod tables;
+pub(crate) mod tabling;
 pub(crate) mod typed;
 pub(crate) mod values;

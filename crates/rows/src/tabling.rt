@@ -1,0 +1,85 @@
+//! Rows that run goals of traits in rounds, and that read what the table has of them.
+
+ghost use Rattle.std.specs.Prelude.{◌≡◌, true};
+ghost use Rattle.candidate_assembly.specs.Kinds.{IsGoal};
+ghost use Rattle.candidate_assembly.specs.TraitGoals.{arguments_held, trait_goal, types_held};
+ghost use Rattle.candidate_assembly.specs.TraitRules.{trait_rules};
+ghost use Rattle.candidate_rounds.specs.Known.{probes};
+
+use crate::answers::{Answer, Item};
+use crate::considering::goal_at;
+use crate::eval::Operands;
+use crate::preferring::proved;
+use crate::refusals::Refusal;
+use crate::rows::Row;
+use candidate_ir::decl::make::Make;
+use candidate_ir::ir::kinds::{ParamEnv, TraitPredicate};
+use candidate_rounds::rounds::Rounds;
+use candidate_rounds::rounds::goals::Verdict;
+use std::alloc::Global;
+
+/// What is printed for a verdict: how the goal is proved, and its response.
+fn said(alloc: Global, verdict: &Verdict) -> Result<Answer, Refusal> {
+    match verdict {
+        Verdict::Yes(response, via) | Verdict::Maybe(response, via) => {
+            proved(alloc, response, *via)
+        }
+        Verdict::Refused => Err(Refusal::NoSolution),
+    }
+}
+
+/// Runs the goal for as many rounds as the row says. `Refusal::Condition` comes where that is no number above 0, and where the goal may
+/// not be run.
+fn run(
+    alloc: Global,
+    rounds: &mut Rounds,
+    row: Row<'_>,
+    env: ParamEnv,
+    predicate: TraitPredicate,
+) -> Result<Answer, Refusal>
+    requires { IsGoal trait_rules arguments_held types_held trait_goal rounds.old.context env predicate }
+    ensures { probes rounds.new ≡ probes rounds.old }
+{
+    let count = row.first.parse::<u16>().unwrap_or(0);
+    if count == 0 || !rounds.may_be_run(alloc, env, predicate)? {
+        return Err(Refusal::Condition);
+    }
+    let verdict = rounds.run(alloc, env, predicate, count)?;
+    said(alloc, &verdict)
+}
+
+/// What the table has of the goal.
+fn entry(
+    alloc: Global,
+    rounds: &mut Rounds,
+    env: ParamEnv,
+    predicate: TraitPredicate,
+) -> Result<Answer, Refusal>
+    requires { IsGoal trait_rules arguments_held types_held trait_goal rounds.old.context env predicate }
+    ensures { probes rounds.new ≡ probes rounds.old }
+{
+    match rounds.entry(alloc, env, predicate)? {
+        Some(verdict) => said(alloc, &verdict),
+        None => Ok(Answer::One(Item::Nothing)),
+    }
+}
+
+/// What the row asks, if it is one of these rows.
+pub(crate) fn answer(
+    alloc: Global,
+    rounds: &mut Rounds,
+    row: Row<'_>,
+    of: Operands,
+) -> Result<Answer, Refusal>
+    ensures { probes rounds.new ≡ probes rounds.old }
+{
+    let (env, predicate) = goal_at(rounds.cx(), of.left, of.right)?;
+    match row.verb {
+        "run" => run(alloc, rounds, row, env, predicate),
+        "entry" => entry(alloc, rounds, env, predicate),
+        _ => {
+            let may = rounds.may_be_run(alloc, env, predicate)?;
+            Ok(Answer::One(Item::Truth(may)))
+        }
+    }
+}
