@@ -112,6 +112,12 @@ knowable Trait LocalType
 knowable Trait2 Vec u8 Vec u16 Two str u8 u16
 orphan local Trait1 u8 LocalForeign
 orphan local Trait1 fn(2) u8 [7] LocalType ! Opaque $0
+solve 3 Trait u8
+solve 4 - Trait1 Vec u8 dyn(1) Trait1 u8
+solve 5 Trait Vec Opaque u8
+solve 5 LocalTrait Vec $0
+solve 2 Trait Out u8
+solve 3 Send (2) u8 Vec u8
 """
 
 STOP = "stop 1\n"
@@ -142,7 +148,7 @@ class Program:
     def queries_before(self, number):
         """How many of the lines before the one of that number ask something."""
         before = self.lines[: number - 1]
-        return sum(line.startswith(("orphan", "knowable")) for line in before)
+        return sum(line.startswith(("orphan", "knowable", "solve")) for line in before)
 
     def kind(self, answers, status, printed, most_stops):
         """How a run ended of which a growth was refused, or None where it may not end so."""
