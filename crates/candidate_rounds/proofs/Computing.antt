@@ -1,12 +1,14 @@
 -- A goal is computed where nothing else is known, and then all that was known is known again.
-use Rattle.std.proofs.Common.{◌≡◌, ◌⊎◌, inr, [], Option, Result, Ok, Err, IfOk, IfErr, refl, sym, ◌∙◌, ap, subst}
+use Rattle.std.proofs.Common.{◌≡◌, ◌⊎◌, inr, List, [], Option, Result, Ok, Err, IfOk, IfErr, refl, sym, ◌∙◌, ap, subst}
 use Rattle.candidate_ir.specs.Context.{Grows}
+use Rattle.candidate_ir.specs.Trees.{Tree}
 use Rattle.candidate_ir.proofs.Kept.{grows-refl}
 use Rattle.candidate_eval.specs.declared.eval.refusal.NoSolutionOrStop.{NoSolutionOrStop}
 use Rattle.candidate_eval.specs.declared.eval.refusal.NoSolutionOrStop.TheVariants as N
 use Rattle.candidate_eval.specs.declared.eval.response.CanonicalResponse.{CanonicalResponse}
-use Rattle.candidate_eval.specs.Evaluators.{IsMakingStop, Keeps}
+use Rattle.candidate_eval.specs.Evaluators.{Keeps}
 use Rattle.candidate_eval.specs.ImplRules.{TraitGoal}
+use Rattle.candidate_eval.specs.Noting.{IsNotingStop}
 use Rattle.candidate_eval.specs.ResponseTrees.{response_of}
 use Rattle.candidate_eval.specs.States.{State}
 use Rattle.candidate_assembly.specs.TraitAnswers.{Computes, IsTraitAnswer, TraitAnswer, Answered, Refused, Stopped}
@@ -90,11 +92,11 @@ module _ (r n : Evaluator) (s : Inference) (k : Key) (g : TraitGoal) (e : s ≡ 
   answer-fits (Err N.NoSolution) h = tt
   answer-fits (Err (N.Stop x)) h = tt
 
-  pub answer-stopped : (a : Result (CanonicalResponse × Option Via) NoSolutionOrStop) → Computes fixed judge_of state probes (λ x. x.context) accounts (set_out r s) n g a
-      → IfErr (answered_as a) (λ x. IsMakingStop x ⊎ IsComputingStop r (table_of r) k x)
-  answer-stopped (Ok p) h = tt
-  answer-stopped (Err N.NoSolution) h = tt
-  answer-stopped (Err (N.Stop x)) h = inr (record {
+  pub answer-stopped : (ts : List Tree) (a : Result (CanonicalResponse × Option Via) NoSolutionOrStop) → Computes fixed judge_of state probes (λ x. x.context) accounts (set_out r s) n g a
+      → IfErr (answered_as a) (λ x. IsNotingStop ts x ⊎ IsComputingStop r (table_of r) k x)
+  answer-stopped ts (Ok p) h = tt
+  answer-stopped ts (Err N.NoSolution) h = tt
+  answer-stopped ts (Err (N.Stop x)) h = inr (record {
     first = set_out r s;
     grows = grows-refl r.context;
     fixed_same = refl;

@@ -13,6 +13,7 @@ use Rattle.candidate_ir.specs.Trees.{Tree}
 use Rattle.candidate_ir.proofs.Elaboration.{forest_itself}
 use Rattle.candidate_eval.specs.contracts.eval.variable.CanonicalVarPartialEq.TheImpl as variable
 use Rattle.candidate_eval.specs.declared.eval.variable.CanonicalVar.{CanonicalVar}
+use Rattle.candidate_eval.specs.ImplRules.{TraitGoal}
 use Rattle.candidate_rounds.specs.declared.rounds.goals.GoalEntry.{GoalEntry}
 use Rattle.candidate_rounds.specs.declared.rounds.goals.GoalKey.{GoalKey}
 use Rattle.candidate_rounds.specs.declared.rounds.running.Written.{Written}
@@ -22,7 +23,8 @@ use Rattle.candidate_ir.proofs.Kept.{grows-refl}
 use Rattle.candidate_rounds.specs.Interface.{Fixed}
 use Rattle.candidate_rounds.specs.Known.{Each, Evaluator, GoesOn, IsEvaluator, state, table_of}
 use Rattle.candidate_rounds.proofs.Interface.{keeps-going}
-use Rattle.candidate_rounds.specs.Running.{AreDone, AreWritten, IsDoneBelow, IsPlaceOf, IsRunStop, StaysBesideTable, run_full, run_making, all_put_in, computing, new_entry, none_done, one_done, verdict_at, with_table}
+use Rattle.candidate_rounds.specs.Running.{AreDone, AreWritten, IsDoneBelow, IsPlaceOf, IsRunStop, StaysBesideTable, run_full, run_key, all_put_in, computing, new_entry, none_done, one_done, verdict_at, with_table}
+use Rattle.candidate_rounds.specs.Stopping.{key_memory, of_key_then}
 use Rattle.candidate_rounds.proofs.Between.{of-parts, parts}
 use Rattle.candidate_rounds.proofs.Running.{round-before, take-all, seen-length, stays-refl, stays-trans}
 use Rattle.candidate_rounds.proofs.Tabled.{of-table-parts, table-parts}
@@ -381,14 +383,14 @@ pub entered-stays : {X E : Type 0} (s t : Evaluator) (g : Goals) (q : Result X E
 entered-stays s t g (Ok x) p e = goals-stay s t g p
 entered-stays s t g (Err x) p e = goals-stay s t s.goals e
 
-pub entered-cause : {X : Type 0} (r s t : Evaluator) (q : Result X Stop) → OnErr q (t ≡ s) → IfErr q (λ x. (x ≡ K.Memory) ⊎ ((x ≡ K.EvaluatorLimit) × (most_goals ≤ length s.goals.table))) → IfErr q (λ x. IsRunStop r (table_of t) x)
-entered-cause r s t (Ok x) e c = tt
-entered-cause r s t (Err x) e (inl m) = subst (IsRunStop r (table_of t)) (sym m) (run_making tt)
-entered-cause r s t (Err x) e (inr l) =
+pub entered-cause : {X : Type 0} (ts : List Tree) (g : TraitGoal) (r s t : Evaluator) (q : Result X Stop) → OnErr q (t ≡ s) → IfErr q (λ x. (x ≡ K.Memory) ⊎ ((x ≡ K.EvaluatorLimit) × (most_goals ≤ length s.goals.table))) → IfErr q (λ x. IsRunStop ts r g (table_of t) x)
+entered-cause ts g r s t (Ok x) e c = tt
+entered-cause ts g r s t (Err x) e (inl m) = subst (IsRunStop ts r g (table_of t)) (sym m) (run_key (of_key_then key_memory))
+entered-cause ts g r s t (Err x) e (inr l) =
     let many = seen-length s in
     let full = l.1 in
     let most : most_goals ≤ length (table_of s) = omega (arith, many, full) in
-    subst (λ T. IsRunStop r T x) (sym (ap table_of e)) (subst (IsRunStop r (table_of s)) (sym l.0) (run_full most))
+    subst (λ T. IsRunStop ts r g T x) (sym (ap table_of e)) (subst (IsRunStop ts r g (table_of s)) (sym l.0) (run_full most))
 
 pub on-ok : {X E : Type 0} {P : Type 0} (q : Result X E) → P → OnOk q P
 on-ok (Ok x) p = p

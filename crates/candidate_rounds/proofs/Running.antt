@@ -7,7 +7,8 @@ use Rattle.candidate_ir.specs.Nodes.{Extends}
 use Rattle.candidate_ir.specs.Trees.{Tree}
 use Rattle.candidate_ir.proofs.Kept.{grows-refl, grows-trans}
 use Rattle.candidate_eval.specs.declared.eval.mode.TypingMode.{TypingMode}
-use Rattle.candidate_eval.specs.Evaluators.{IsMakingStop}
+use Rattle.candidate_eval.specs.ImplRules.{TraitGoal}
+use Rattle.candidate_eval.specs.Noting.{IsNotingStop}
 use Rattle.candidate_eval.specs.States.{State}
 use Rattle.candidate_assembly.specs.TraitAnswers.{IsTraitAnswer, Stopped}
 use Rattle.candidate_rounds.specs.declared.rounds.goals.GoalEntry.{GoalEntry}
@@ -21,7 +22,8 @@ use Rattle.candidate_rounds.specs.Inferences.{Inference}
 use Rattle.candidate_rounds.specs.Known.{Evaluator, IsEvaluator, table_of}
 use Rattle.candidate_rounds.proofs.Between.{of-parts, parts}
 use Rattle.candidate_rounds.specs.Running
-use Rattle.candidate_rounds.specs.Running.{AreWritten, IsComputingStop, IsRunStop, IsWrittenAt, IsWrittenFor, StaysBesideTable, computing, new_entry, said_by, verdict_at, with_table}
+use Rattle.candidate_rounds.specs.Stopping.{IsGoalKeyStop}
+use Rattle.candidate_rounds.specs.Running.{AreWritten, IsComputingStop, IsRoundStop, IsRunStop, IsWrittenAt, IsWrittenFor, StaysBesideTable, computing, new_entry, said_by, verdict_at, with_table}
 use Rattle.candidate_rounds.proofs.Knowing.{each-append, each-get}
 use Rattle.candidate_rounds.proofs.Tabled.{of-table-parts, table-parts, verdict-sees, verdict-stays}
 use Rattle.rounds_judge.specs.GoalTable.{Entry, GoalTable, may_be_read, most_goals}
@@ -75,10 +77,14 @@ computing-stop-before {r} {s} x T k e h =
       own = h.own;
     }
 
-pub run-stop-before : {r s : Evaluator} → StaysBesideTable r s → (T : GoalTable Via) (e : Stop) → IsRunStop s T e → IsRunStop r T e
-run-stop-before x T e (Running.run_making h) = Running.run_making h
-run-stop-before x T _ (Running.run_full l) = Running.run_full l
-run-stop-before x T e (Running.run_computing k h) = Running.run_computing k (computing-stop-before x T k e h)
+pub round-stop-before : {r s : Evaluator} → StaysBesideTable r s → (ts : List Tree) (T : GoalTable Via) (e : Stop) → IsRoundStop ts s T e → IsRoundStop ts r T e
+round-stop-before x ts T e (Running.round_looking h) = Running.round_looking h
+round-stop-before x ts T e (Running.round_computing p d g h) = Running.round_computing p d g (computing-stop-before x T d.key e h)
+
+pub run-stop-before : {r s : Evaluator} → StaysBesideTable r s → (ts : List Tree) (g h : TraitGoal) (T : GoalTable Via) (e : Stop) → h ≡ g → IsRunStop ts s h T e → IsRunStop ts r g T e
+run-stop-before x ts g h T e q (Running.run_key k) = Running.run_key (subst (λ (p : State × TraitGoal). IsGoalKeyStop ts p.0 p.1 e) (λ i. (x.state_same i, q i)) k)
+run-stop-before x ts g h T _ q (Running.run_full l) = Running.run_full l
+run-stop-before x ts g h T e q (Running.run_round k) = Running.run_round (round-stop-before x ts T e k)
 
 writes-before : {r s : Evaluator} → StaysBesideTable r s → (T : GoalTable Via) {es fs : GoalTable Via} → Writes (computing s) T es fs → Writes (computing r) T es fs
 writes-before x T R.nothing = R.nothing
@@ -247,14 +253,15 @@ evaluator-pushed ts s ks ns os g k es true none l i e h = subst (λ x. IsEvaluat
 evaluator-pushed ts s ks ns os g k es false none l i e h = subst (λ x. IsEvaluator ts s ks ns os (record { table = x; asked = g.asked })) (sym e) h
 
 -- Why a goal of a place wasn't computed.
-pub place-stopped : (r : Evaluator) (i : ℕ) (s : Stop) → i < length r.goals.table → ((e : Entry Via) → slice_get (table_of r) i ≡ Some e → IsMakingStop s ⊎ IsComputingStop r (table_of r) e.key s) → IsRunStop r (table_of r) s
-place-stopped r i s l h =
+pub place-stopped : (r : Evaluator) (ts : List Tree) (i : ℕ) (s : Stop) → i < length r.goals.table
+    → ((e : Entry Via) → slice_get (table_of r) i ≡ Some e → IsNotingStop ts s ⊎ IsComputingStop r (table_of r) e.key s) → IsRoundStop ts r (table_of r) s
+place-stopped r ts i s l h =
     let p = seen-at r.context.trees r.goals.table i l in
-    at (entry_seen r.context.trees p.0).key (h (entry_seen r.context.trees p.0) p.2)
+    at (entry_seen r.context.trees p.0) p.2 (h (entry_seen r.context.trees p.0) p.2)
   where
-    at : (k : Key) → IsMakingStop s ⊎ IsComputingStop r (table_of r) k s → IsRunStop r (table_of r) s
-    at k (inl m) = Running.run_making m
-    at k (inr c) = Running.run_computing k c
+    at : (e : Entry Via) → slice_get (table_of r) i ≡ Some e → IsNotingStop ts s ⊎ IsComputingStop r (table_of r) e.key s → IsRoundStop ts r (table_of r) s
+    at e g (inl m) = Running.round_looking m
+    at e g (inr c) = Running.round_computing i e g c
 
 pub verdict-slot : (T : GoalTable Via) (i : ℕ) (e : Entry Via) → slice_get T i ≡ Some e → verdict_at T i ≡ e.verdict
 verdict-slot [] i e g = absurd cc

@@ -1,5 +1,5 @@
 -- Rounds over the table of an evaluator, by its judge.
-use Rattle.std.specs.Prelude.{◌≡◌, ◌<◌, ◌≤◌, ℕ, zero, suc, true, false, Bool, Option, Some, None, List, [], ◌∷◌, length, Result, Ok, Err}
+use Rattle.std.specs.Prelude.{◌≡◌, ◌<◌, ◌≤◌, ℕ, zero, suc, true, false, Bool, Option, Some, None, List, [], ◌∷◌, length, slice_get, Result, Ok, Err}
 use Rattle.candidate_ir.specs.declared.ir.stop.Stop.{Stop}
 use Rattle.candidate_ir.specs.declared.ir.stop.Stop.TheVariants.{EvaluatorLimit}
 use Rattle.candidate_ir.specs.Context.{Context, Grows}
@@ -7,8 +7,9 @@ use Rattle.candidate_ir.specs.Trees.{Tree}
 use Rattle.candidate_eval.specs.declared.eval.refusal.NoSolutionOrStop.{NoSolutionOrStop}
 use Rattle.candidate_eval.specs.declared.eval.refusal.NoSolutionOrStop.TheVariants as N
 use Rattle.candidate_eval.specs.declared.eval.response.CanonicalResponse.{CanonicalResponse}
-use Rattle.candidate_eval.specs.Evaluators.{IsMakingStop}
+use Rattle.candidate_eval.specs.ImplRules.{TraitGoal}
 use Rattle.candidate_eval.specs.Knowing.{own_stop}
+use Rattle.candidate_eval.specs.Noting.{IsNotingStop}
 use Rattle.candidate_eval.specs.ResponseTrees.{IsResponse, response_of}
 use Rattle.candidate_eval.specs.States.{State}
 use Rattle.candidate_assembly.specs.Telling.{StopsOfItself}
@@ -19,12 +20,11 @@ use Rattle.candidate_rounds.specs.declared.rounds.running.Written.{Written}
 use Rattle.candidate_rounds.specs.Goals.{IsVerdict, Via, verdict_seen}
 use Rattle.candidate_rounds.specs.Interface.{Fixed, fixed, judge_of}
 use Rattle.candidate_rounds.specs.Known.{Evaluator, probes, state}
-use Rattle.candidate_rounds.specs.Stopping.{accounts}
-use Rattle.rounds_judge.specs.GoalTable.{Entry, GoalTable, entered_in, may_be_read, most_goals}
+use Rattle.candidate_rounds.specs.Stopping.{IsGoalKeyStop, accounts}
+use Rattle.rounds_judge.specs.GoalTable.{Entry, GoalTable, entered_in, may_be_read, most_goals, verdict_in}
 use Rattle.rounds_judge.specs.Keys.{Key, same_key, start_of}
 use Rattle.rounds_judge.specs.Rounds.{Answering, IsRound}
 use Rattle.rounds_judge.specs.Verdicts.{Answer, Verdict, is_final, verdict_of}
-use Rattle.rounds_judge.specs.GoalTable.{verdict_in}
 
 -- An answer by its trees, and as what a goal comes to.
 
@@ -144,9 +144,14 @@ pub record IsComputingStop (r : Evaluator) (T : GoalTable Via) (k : Key) (s : St
   pub comes : own_stop s ≡ false → IsTraitAnswer (judge_of (with_table (fixed r) T)) first.context (start_of r.mode k) k.goal left (Stopped s)
   pub own : StopsOfItself fixed (λ e. e.context) state accounts first s
 
--- Why a run stopped, which leaves that table: a growth was refused, or numbers or heights ran out; there was no room for the goal; or a goal
--- wasn't computed.
-pub data IsRunStop (r : Evaluator) (T : GoalTable Via) : Stop → Type 0 where
-  run_making : {s : Stop} → IsMakingStop s → IsRunStop r T s
-  run_full : most_goals ≤ length T → IsRunStop r T EvaluatorLimit
-  run_computing : {s : Stop} (k : Key) → IsComputingStop r T k s → IsRunStop r T s
+-- Why a round of that table stopped: a growth was refused, or a node has more children than can be counted; or the goal of a place wasn't
+-- computed.
+pub data IsRoundStop (ts : List Tree) (r : Evaluator) (T : GoalTable Via) (s : Stop) : Type 0 where
+  round_looking : IsNotingStop ts s → IsRoundStop ts r T s
+  round_computing : (place : ℕ) (e : Entry Via) → slice_get T place ≡ Some e → IsComputingStop r T e.key s → IsRoundStop ts r T s
+
+-- Why a run of a goal stopped, which leaves that table: the goal's key wasn't made; there was no room for it; or a round stopped.
+pub data IsRunStop (ts : List Tree) (r : Evaluator) (g : TraitGoal) (T : GoalTable Via) : Stop → Type 0 where
+  run_key : {s : Stop} → IsGoalKeyStop ts (state r) g s → IsRunStop ts r g T s
+  run_full : most_goals ≤ length T → IsRunStop ts r g T EvaluatorLimit
+  run_round : {s : Stop} → IsRoundStop ts r T s → IsRunStop ts r g T s

@@ -12,12 +12,13 @@ use Rattle.candidate_ir.specs.declared.ir.stop.Stop.{Stop}
 use Rattle.candidate_ir.specs.declared.ir.stop.Stop.TheVariants.{Memory, NodesFull, EvaluatorLimit}
 use Rattle.candidate_ir.specs.Folding.{IsSubstStop}
 use Rattle.candidate_ir.specs.Substitutions.{alone}
-use Rattle.candidate_ir.specs.Trees.{Forest, tree, Tree}
+use Rattle.candidate_ir.specs.Trees.{Forest, none, tree, Tree}
 use Rattle.candidate_eval.specs.declared.eval.certainty.Certainty.{Certainty}
 use Rattle.candidate_eval.specs.Accounts.{Question}
 use Rattle.candidate_eval.specs.Accounts as Q
 use Rattle.candidate_eval.specs.Characterization.{bound_kinds}
 use Rattle.candidate_eval.specs.Evaluators.{resolved_root}
+use Rattle.candidate_eval.specs.ImplRules.{TraitGoal}
 use Rattle.candidate_eval.specs.Noting.{HasWideNode, IsNotingStop}
 use Rattle.candidate_eval.specs.Soundness.{is_region}
 use Rattle.candidate_eval.specs.ObjectRequirements.{trait_said}
@@ -158,6 +159,19 @@ pub data IsKeyStop (ts : List Tree) (S : State) (e : Env) (c : Tree) : Stop → 
   of_goal_clause : {s : Stop} → IsTreeStop ts (resolved_tree S c) s → IsKeyStop ts S e c s
   of_noted : {s : Stop} → IsNotingStop ts s → IsKeyStop ts S e c s
   of_numbered : {s : Stop} → IsNumberedStop ts (numbers_at S (goal_said e c)) (resolved S e) (resolved_tree S c) s → IsKeyStop ts S e c s
+
+-- the clause that says a goal, under a binder without variables
+abbrev pub clause_saying : TraitGoal → Tree
+clause_saying g = record {
+  head = H.Part (P.Clause (Cl.Trait (record { 0 = g.reference.trait }) g.polarity));
+  children = tree (H.Part P.Vars) none g.reference.arguments;
+}
+
+-- Why the key of a goal wasn't made that is given by its environment and what it says of a trait: the clause wasn't made that says it, or
+-- then the key.
+pub data IsGoalKeyStop (ts : List Tree) (S : State) (g : TraitGoal) (s : Stop) : Type 0 where
+  of_saying : IsTreeStop ts (clause_saying g) s → IsGoalKeyStop ts S g s
+  of_key_then : IsKeyStop ts S g.env (clause_saying g) s → IsGoalKeyStop ts S g s
 
 -- what stands for the variables that a response leaves open, where these are the numbers of the key's
 abbrev pub named_for : State → Key → List ℕ → Response → State × List ℕ

@@ -19,7 +19,7 @@ use Rattle.candidate_eval.proofs.Holds.{holds_parts}
 use Rattle.rounds_judge.specs.Listed.{Listing, listed}
 use Rattle.rounds_judge.specs.Standing.{IsListing}
 use Rattle.rounds_judge.specs.Equating.{equated}
-use Rattle.rounds_judge.specs.Settling.{term_of, alias_of, last_or, with_facts, instance_of, recorded, projected, tried_as, before}
+use Rattle.rounds_judge.specs.Settling.{term_of, alias_of, last_or, with_facts, instance_of, recorded, projected, tried_as}
 use Rattle.rounds_judge.proofs.Marks.{whole}
 use Rattle.rounds_judge.proofs.Current.{listed_fixed, listed_known}
 use Rattle.rounds_judge.proofs.EquatingLaws.{no_goals}

@@ -38,7 +38,7 @@ use Rattle.rounds_judge.specs.Listed.{Listing}
 use Rattle.rounds_judge.specs.Keys.{Key, key_at, start_of}
 use Rattle.rounds_judge.specs.Verdicts.{Verdict, Yes, Maybe, Refused, Answer}
 use Rattle.rounds_judge.specs.GoalTable.{Entry, GoalTable, unanswered}
-use Rattle.rounds_judge.specs.TableSettling.{asked_for, settled_with, responded_with}
+use Rattle.rounds_judge.specs.TableSettling.{settled_with, responded_with}
 use Rattle.rounds_judge.specs.TableGranted.{IsGrantedWith}
 use Rattle.rounds_judge.specs.Rounds.{Answering, nothing, stays, computed, IsRound, used_up, enough, round, IsRun}
 use Rattle.rounds_judge.proofs.Marks.{whole}
@@ -234,10 +234,6 @@ reading = record {
 
 next_run : IsRun small (of_u8 1) 2 (unsure 1 ∷ unanswered (of_u8 0) ∷ []) (sure 1 ∷ sure 0 ∷ [])
 next_run = round refl taking_up (round refl reading (enough 0 refl))
-
--- what was asked is the key of the nested goal
-asked_is : asked_for (start [] []) (holds 0 (u8 ∷ [])) ≡ Some (of_u8 0)
-asked_is = refl
 
 -- Two goals that ask each other stay open: no round changes the table.
 

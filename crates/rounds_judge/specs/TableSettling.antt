@@ -95,17 +95,6 @@ tried_with T l S p =
     let f = instantiated S p.goal.clause in
     tried_as_with T l f.0 (instance_of p (bound_kinds p.goal.clause.children) f.1) f.1 p.goal.clause.head
 
--- The key that is asked for when a goal is tried: that of its instance, if it is a goal of a trait.
-
-abbrev pub asked_as : State → Pending → Forest → Head → Option Key
-asked_as S p ts (H.Part (P.Clause (Cl.Trait i q))) = Some (key_at S (trait_goal_of p.goal.env i q ts))
-asked_as S p ts _ = None
-
-abbrev pub asked_for : State → Pending → Option Key
-asked_for S p =
-    let f = instantiated S p.goal.clause in
-    asked_as f.0 p f.1 p.goal.clause.head
-
 -- All goals, by any way to try one: in order, each at the state that the one before it left; at most so many passes, another one while
 -- the last gave a variable a value.
 

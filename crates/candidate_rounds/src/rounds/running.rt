@@ -9,13 +9,13 @@ ghost use Rattle.candidate_assembly.specs.Standing.{GoalStands};
 ghost use Rattle.candidate_assembly.specs.TraitAnswers.{Computes};
 ghost use Rattle.candidate_assembly.specs.TraitGoals.{arguments_held, trait_goal, types_held};
 ghost use Rattle.candidate_assembly.specs.TraitRules.{trait_rules};
-ghost use Rattle.candidate_eval.specs.Evaluators.{IsMakingStop};
+ghost use Rattle.candidate_eval.specs.Noting.{IsNotingStop};
 ghost use Rattle.candidate_rounds.specs.Goals.{Each, IsKeyOf, IsTraitGoal, IsVerdict, Via, goal_seen, key_seen, table_seen, verdict_seen};
 ghost use Rattle.candidate_rounds.specs.Known.{GoesOn, IsEvaluator, probes, state, table_of};
 ghost use Rattle.candidate_rounds.specs.Interface.{fixed, judge_of};
 ghost use Rattle.candidate_rounds.specs.Starting.{started};
-ghost use Rattle.candidate_rounds.specs.Stopping.{accounts};
-ghost use Rattle.candidate_rounds.specs.Running.{AreWritten, IsAnswer, answered_as, IsComputingStop, IsDoneBelow, IsLeftStopped, IsPlaceOf, IsRunStop, IsWrittenAt, IsWrittenFor, StaysBesideTable, has_one, all_put_in, computing, new_entry, put_in, told, verdict_at};
+ghost use Rattle.candidate_rounds.specs.Stopping.{IsGoalKeyStop, IsTreeStop, accounts, clause_saying};
+ghost use Rattle.candidate_rounds.specs.Running.{AreWritten, IsAnswer, answered_as, IsComputingStop, IsDoneBelow, IsLeftStopped, IsPlaceOf, IsRoundStop, IsRunStop, IsWrittenAt, IsWrittenFor, StaysBesideTable, has_one, all_put_in, computing, new_entry, put_in, told, verdict_at};
 ghost use Rattle.rounds_judge.specs.GoalTable.{Entry, entered_in, is_entered, may_be_asked, may_be_read, most_goals, verdict_in};
 ghost use Rattle.rounds_judge.specs.Keys.{Key, key_at, newest_of};
 ghost use Rattle.rounds_judge.specs.Rounds as several;
@@ -82,7 +82,7 @@ fn start_of(alloc: Global, cx: &Cx, key: &GoalKey) -> Result<Start, Stop>
     ensures inference { IfOk result (λ s. s.inference ≡ started (newest_of (key_seen cx.now.trees key.now)) key.now.variables.items) }
     ensures goal { IfOk result (λ s. IsGoal trait_rules arguments_held types_held trait_goal cx.now s.param_env s.predicate) }
     ensures says { IfOk result (λ s. trait_goal cx.now.trees s.param_env s.predicate ≡ (key_seen cx.now.trees key.now).goal) }
-    ensures cause { IfErr result IsMakingStop }
+    ensures cause { IfErr result (λ s. IsNotingStop cx.now.trees s) }
 {
     let newest = newest_of(cx, key)?;
     let inference = Inference::at(alloc, newest, key.variables.as_slice())?;
@@ -237,7 +237,7 @@ fn goal_in(
     ensures grows { Grows cx.old cx.new }
     ensures sort { IfOk result (λ g. IsTraitGoal cx.new.trees g) }
     ensures goal { IfOk result (λ g. goal_seen cx.new.trees g ≡ trait_goal cx.old.trees param_env predicate) }
-    ensures cause { IfErr result IsMakingStop }
+    ensures cause { IfErr result (λ s. IsTreeStop cx.new.trees (clause_saying (trait_goal cx.old.trees param_env predicate)) s) }
 {
     let vars = cx.mk_vars(&[])?;
     let predicate = cx.mk_clause(Binder {
@@ -302,7 +302,7 @@ impl Rounds {
         ensures table { table_of self.new ≡ table_of self.old }
         ensures sort { IfOk result (λ a. IsAnswer self.new.context.trees a) }
         ensures answer { (e : Entry Via) → slice_get (table_of self.old) place ≡ Some e → IfOk result (λ a. computing self.old (table_of self.old) e.key (told self.new.context.trees a)) }
-        ensures cause { (e : Entry Via) → slice_get (table_of self.old) place ≡ Some e → IfErr result (λ s. IsMakingStop s ⊎ IsComputingStop self.old (table_of self.old) e.key s) }
+        ensures cause { (e : Entry Via) → slice_get (table_of self.old) place ≡ Some e → IfErr result (λ s. IsNotingStop self.new.context.trees s ⊎ IsComputingStop self.old (table_of self.old) e.key s) }
     {
         self.well_kept();
         let start = start_of(alloc, &self.cx, &self.goals.table[place].key)?;
@@ -318,7 +318,7 @@ impl Rounds {
         requires place { place < length self.now.goals.table }
         requires verdict { IsVerdict self.now.context.trees (Some verdict.now) }
         ensures is { (e : Entry Via) → slice_get (table_of self.now) place ≡ Some e → IfOk result (λ b. b ≡ may_be_read e.key (Some (verdict_seen self.now.context.trees verdict.now))) }
-        ensures cause { IfErr result IsMakingStop }
+        ensures cause { IfErr result (λ s. IsNotingStop self.now.context.trees s) }
     {
         self.well_kept();
         may_be_read(&self.cx, &self.goals.table[place].key, verdict)
@@ -330,7 +330,7 @@ impl Rounds {
         ensures stays { StaysBesideTable self.old self.new }
         ensures table { table_of self.new ≡ table_of self.old }
         ensures written { (e : Entry Via) → slice_get (table_of self.old) place ≡ Some e → IfOk result (λ w. IsWrittenFor self.new.context.trees (computing self.old) (table_of self.old) e.key w) }
-        ensures cause { IfErr result (λ s. IsRunStop self.old (table_of self.old) s) }
+        ensures cause { IfErr result (λ s. IsRoundStop self.new.context.trees self.old (table_of self.old) s) }
     {
         let answer = self.compute(alloc, place)?;
         let verdict = verdict_of(answer);
@@ -355,7 +355,7 @@ impl Rounds {
         ensures stays { StaysBesideTable self.old self.new }
         ensures table { table_of self.new ≡ table_of self.old }
         ensures written { (e : Entry Via) → slice_get (table_of self.old) place ≡ Some e → IfOk result (λ w. IsWrittenAt self.new.context.trees (computing self.old) (table_of self.old) e w) }
-        ensures cause { IfErr result (λ s. IsRunStop self.old (table_of self.old) s) }
+        ensures cause { IfErr result (λ s. IsRoundStop self.new.context.trees self.old (table_of self.old) s) }
     {
         if self.is_final_at(place) {
             return Ok(None);
@@ -368,7 +368,7 @@ impl Rounds {
         ensures stays { StaysBesideTable self.old self.new }
         ensures table { table_of self.new ≡ table_of self.old }
         ensures written { IfOk result (λ v. AreWritten self.new.context.trees (computing self.old) (table_of self.old) (table_of self.old) v.items) }
-        ensures cause { IfErr result (λ s. IsRunStop self.old (table_of self.old) s) }
+        ensures cause { IfErr result (λ s. IsRoundStop self.new.context.trees self.old (table_of self.old) s) }
     {
         let mut list = Vec::new(alloc);
         for place in 0..self.goals.table.len() {
@@ -387,7 +387,7 @@ impl Rounds {
         ensures sort { IfOk result (λ v. IsVerdict self.new.context.trees (Some v)) }
         ensures answer { IfOk result (λ v. verdict_at (table_of self.new) place ≡ Some (verdict_seen self.new.context.trees v)) }
         ensures stopped { OnErr result (table_of self.new ≡ table_of self.old) }
-        ensures cause { IfErr result (λ s. IsRunStop self.old (table_of self.old) s) }
+        ensures cause { IfErr result (λ s. IsRoundStop self.new.context.trees self.old (table_of self.old) s) }
     {
         self.well_kept();
         let written = self.all_written(alloc)?;
@@ -441,7 +441,7 @@ impl Rounds {
         ensures state { state self.new ≡ state self.old }
         ensures sort { IfOk result (λ k. IsTraitGoal self.new.context.trees k.goal) }
         ensures key { IfOk result (λ k. key_seen self.new.context.trees k ≡ key_at (state self.old) (trait_goal self.old.context.trees param_env predicate)) }
-        ensures cause { IfErr result IsMakingStop }
+        ensures cause { IfErr result (λ s. IsGoalKeyStop self.new.context.trees (state self.old) (trait_goal self.old.context.trees param_env predicate) s) }
     {
         self.well_kept();
         let goal = self.goal_in(param_env, predicate)?;
@@ -461,7 +461,7 @@ impl Rounds {
         ensures state { state self.new ≡ state self.old }
         ensures sort { IfOk result (λ g. IsTraitGoal self.new.context.trees g) }
         ensures goal { IfOk result (λ g. goal_seen self.new.context.trees g ≡ trait_goal self.old.context.trees param_env predicate) }
-        ensures cause { IfErr result IsMakingStop }
+        ensures cause { IfErr result (λ s. IsTreeStop self.new.context.trees (clause_saying (trait_goal self.old.context.trees param_env predicate)) s) }
     {
         goal_in(&mut self.cx, param_env, predicate)
     }
@@ -481,7 +481,7 @@ impl Rounds {
         ensures entered { OnOk result (table_of self.new ≡ entered_in (table_of self.old) (key_at (state self.old) (trait_goal self.old.context.trees param_env predicate))) }
         ensures place { IfOk result (IsPlaceOf (table_of self.new) (key_at (state self.old) (trait_goal self.old.context.trees param_env predicate))) }
         ensures stopped { OnErr result (table_of self.new ≡ table_of self.old) }
-        ensures cause { IfErr result (λ s. IsRunStop self.old (table_of self.new) s) }
+        ensures cause { IfErr result (λ s. IsRunStop self.new.context.trees self.old (trait_goal self.old.context.trees param_env predicate) (table_of self.new) s) }
     {
         self.well_kept();
         let key = self.key_for(alloc, param_env, predicate)?;
@@ -523,7 +523,7 @@ impl Rounds {
         ensures sort { IfOk result (λ v. IsVerdict self.new.context.trees (Some v)) }
         ensures answer { IfOk result (λ v. verdict_at (table_of self.new) place ≡ Some (verdict_seen self.new.context.trees v)) }
         ensures stopped { OnErr result ((k : Key) → IsPlaceOf (table_of self.old) k place → IsDoneBelow (computing self.old) k rounds (table_of self.old) (table_of self.new)) }
-        ensures cause { IfErr result (λ s. IsRunStop self.old (table_of self.new) s) }
+        ensures cause { IfErr result (λ s. IsRoundStop self.new.context.trees self.old (table_of self.new) s) }
     {
         if self.is_final_at(place) {
             return self.verdict_at(place);
@@ -563,7 +563,7 @@ impl Rounds {
         ensures answer { IfOk result (λ v. verdict_in (table_of self.new) (key_at (state self.old) (trait_goal self.old.context.trees param_env predicate)) ≡ Some (verdict_seen self.new.context.trees v)) }
         ensures stopped { OnErr result (IsLeftStopped (computing self.old) (key_at (state self.old) (trait_goal self.old.context.trees param_env predicate)) rounds (table_of self.old) (table_of self.new)) }
         ensures asked { self.new.goals.asked ≡ [] }
-        ensures cause { IfErr result (λ s. IsRunStop self.old (table_of self.new) s) }
+        ensures cause { IfErr result (λ s. IsRunStop self.new.context.trees self.old (trait_goal self.old.context.trees param_env predicate) (table_of self.new) s) }
     {
         self.well_kept();
         self.set_asking(false);
@@ -588,7 +588,7 @@ impl Rounds {
         ensures goal { IsGoal trait_rules arguments_held types_held trait_goal self.new.context param_env predicate }
         ensures is { IfOk result (λ b. b ≡ may_be_asked (key_at (state self.new) (trait_goal self.new.context.trees param_env predicate))) }
         ensures standing { GoalStands trait_rules (state self.old) (trait_goal self.old.context.trees param_env predicate) → IfOk result (λ b. b ≡ true) }
-        ensures cause { IfErr result IsMakingStop }
+        ensures cause { IfErr result (λ s. IsGoalKeyStop self.new.context.trees (state self.old) (trait_goal self.old.context.trees param_env predicate) s) }
     {
         self.well_kept();
         let key = self.key_for(alloc, param_env, predicate)?;
@@ -599,7 +599,7 @@ impl Rounds {
     fn may_be_asked(&self, key: &GoalKey) -> Result<bool, Stop>
         requires { IsTraitGoal self.now.context.trees key.now.goal }
         ensures is { IfOk result (λ b. b ≡ may_be_asked (key_seen self.now.context.trees key.now)) }
-        ensures cause { IfErr result IsMakingStop }
+        ensures cause { IfErr result (λ s. IsNotingStop self.now.context.trees s) }
     {
         may_be_asked(&self.cx, key)
     }
@@ -618,7 +618,7 @@ impl Rounds {
         ensures table { table_of self.new ≡ table_of self.old }
         ensures sort { IfOk result (λ o. IsVerdict self.new.context.trees o) }
         ensures is { IfOk result (λ o. option_map (verdict_seen self.new.context.trees) o ≡ verdict_in (table_of self.old) (key_at (state self.old) (trait_goal self.old.context.trees param_env predicate))) }
-        ensures cause { IfErr result IsMakingStop }
+        ensures cause { IfErr result (λ s. IsGoalKeyStop self.new.context.trees (state self.old) (trait_goal self.old.context.trees param_env predicate) s) }
     {
         self.well_kept();
         let key = self.key_for(alloc, param_env, predicate)?;
@@ -633,7 +633,7 @@ impl Rounds {
         requires { place < length self.now.goals.table }
         ensures sort { IfOk result (λ o. IsVerdict self.now.context.trees o) }
         ensures is { IfOk result (λ o. option_map (verdict_seen self.now.context.trees) o ≡ verdict_at (table_of self.now) place) }
-        ensures cause { IfErr result IsMakingStop }
+        ensures cause { IfErr result (λ s. s ≡ Stop.Memory) }
     {
         self.well_kept();
         match &self.goals.table[place].verdict {

@@ -198,8 +198,8 @@ impl Rounds {
         }
     }
 
-    /// An instance, under an empty binder, is evaluated under an environment; the answer is whether nothing stays of it. What is recorded of a region constraint is the clause
-    /// beside it.
+    /// An instance, under an empty binder, is evaluated under an environment; the answer is whether nothing stays of it. What is recorded
+    /// of a region constraint is the clause beside it.
     fn try_instance(
         &mut self,
         alloc: Global,

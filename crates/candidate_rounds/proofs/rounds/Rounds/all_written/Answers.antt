@@ -1,9 +1,10 @@
 use Rattle.std.proofs.Common.{◌≡◌, ◌<◌, ◌+◌, suc, length, rules, sym, subst, arith}
 use Rattle.candidate_ir.specs.declared.ir.stop.Stop.TheVariants.{Memory}
+use Rattle.candidate_eval.specs.Noting.{refused_note}
 use Rattle.candidate_rounds.specs.Known.{table_of}
-use Rattle.candidate_rounds.specs.Running.{IsRunStop, run_making}
+use Rattle.candidate_rounds.specs.Running.{IsRoundStop, round_looking}
 use Rattle.candidate_rounds.proofs.ResponseStops.{passed-on}
-use Rattle.candidate_rounds.proofs.Running.{WrittenSoFar, one-more-written, run-stop-before, same-length}
+use Rattle.candidate_rounds.proofs.Running.{WrittenSoFar, one-more-written, round-stop-before, same-length}
 use Rattle.candidate_rounds.proofs.rounds.Rounds.all_written.Goals as goal
 
 pub returns-in_err-written_at-clause-cause : goal.returns-in_err-written_at-clause-cause
@@ -11,13 +12,14 @@ returns-in_err-written_at-clause-cause c =
     let r = c.args.self.now in
     let on = c.loop-place.invariant in
     let stop = c.in_err-written_at.field-0.0 in
-    passed-on (IsRunStop r (table_of r)) c.from_residual.result stop c.from_residual.ensures.1
-    (run-stop-before on.stays (table_of r) stop (subst (λ T. IsRunStop c.loop-place.self T stop) on.table c.in_err-written_at.ensures.cause))
+    let ts = c.written_at.new.self.context.trees in
+    passed-on (IsRoundStop ts r (table_of r)) c.from_residual.result stop c.from_residual.ensures.1
+    (round-stop-before on.stays ts (table_of r) stop (subst (λ T. IsRoundStop ts c.loop-place.self T stop) on.table c.in_err-written_at.ensures.cause))
 
 pub returns-in_err-push-clause-cause : goal.returns-in_err-push-clause-cause
 returns-in_err-push-clause-cause c =
     let r = c.args.self.now in
-    passed-on (IsRunStop r (table_of r)) c.from_residual-in_err-push.result Memory c.from_residual-in_err-push.ensures.1 (run_making tt)
+    passed-on (IsRoundStop c.written_at.new.self.context.trees r (table_of r)) c.from_residual-in_err-push.result Memory c.from_residual-in_err-push.ensures.1 (round_looking refused_note)
 
 pub loop-place-preserved : goal.loop-place-preserved
 loop-place-preserved c =

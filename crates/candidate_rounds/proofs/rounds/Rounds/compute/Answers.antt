@@ -1,9 +1,9 @@
-use Rattle.std.proofs.Common.{◌≡◌, ◌⊎◌, List, IfErr, IfOk, Option, Result, reverse, slice_index_or, sym, ◌∙◌, ap, subst}
+use Rattle.std.proofs.Common.{◌≡◌, ◌⊎◌, inl, List, IfErr, IfOk, Option, Result, reverse, slice_index_or, sym, ◌∙◌, ap, subst}
 use Rattle.candidate_ir.specs.declared.ir.stop.Stop.{Stop}
 use Rattle.candidate_ir.specs.Context.{Context}
 use Rattle.candidate_ir.specs.Trees.{Tree}
 use Rattle.candidate_eval.specs.declared.eval.response.CanonicalResponse.{CanonicalResponse}
-use Rattle.candidate_eval.specs.Evaluators.{IsMakingStop}
+use Rattle.candidate_eval.specs.Noting.{IsNotingStop}
 use Rattle.candidate_assembly.specs.Standing.{GoalStands}
 use Rattle.candidate_assembly.specs.TraitAnswers.{Computes}
 use Rattle.candidate_assembly.specs.TraitGoals.{trait_goal}
@@ -16,6 +16,7 @@ use Rattle.candidate_rounds.specs.Running.{IsComputingStop, StaysBesideTable, co
 use Rattle.candidate_rounds.specs.Starting.{started}
 use Rattle.candidate_rounds.specs.Stopping.{accounts}
 use Rattle.candidate_rounds.proofs.Computing.{answer-is, answer-stopped, back-holds, back-stays, come_back, out-holds, out-state}
+use Rattle.candidate_rounds.proofs.ResponseStops.{passed-on}
 use Rattle.candidate_rounds.proofs.Running.{entry-at, get-there, key-get}
 use Rattle.candidate_rounds.proofs.Starting.{key-stands}
 use Rattle.rounds_judge.specs.GoalTable.{Entry}
@@ -31,6 +32,14 @@ start_of-requires c =
     let there = get-there r.goals.table i e c.requires got in
     let cx = ap (λ (v : Inside). v.cx) c.self-inside.view_is ∙ ap (λ (x : Evaluator). x.context) c.self.view_is in
     subst (λ (x : Context). IsKeyOf x.trees e.key) (sym cx) (entry-at r i e c.well_kept.ensures there).key
+
+pub returns-in_err-start-clause-cause : goal.returns-in_err-start-clause-cause
+returns-in_err-start-clause-cause c = λ d g.
+    let r = c.args.self.now in
+    let cx = ap (λ (v : Inside). v.cx) c.self-inside.view_is ∙ ap (λ (x : Evaluator). x.context) c.self.view_is in
+    let stop = c.in_err-start.field-0.0 in
+    passed-on (λ s. IsNotingStop r.context.trees s ⊎ IsComputingStop r (table_of r) d.key s) c.from_residual.result stop c.from_residual.ensures.1
+    (inl (subst (λ (x : Context). IsNotingStop x.trees stop) cx c.in_err-start.ensures.cause))
 
 pub set_out-aside-requires : goal.set_out-aside-requires
 set_out-aside-requires c =
@@ -141,5 +150,6 @@ returns-clause-cause c = λ d g.
     let aside = c.set_out-aside.ensures in
     let q = sym (ap (λ (x : Entry Via). x.key) (key-get r i e d there g)) in
     let z = sym c.answered.ensures in
-    subst (λ (x : Result (Option (CanonicalResponse × Option Via)) Stop × Key). IfErr x.0 (λ s. IsMakingStop s ⊎ IsComputingStop r (table_of r) x.1 s)) (λ j. (z j, q j))
-    (answer-stopped r n start.inference key (trait_goal r.context.trees start.param_env start.predicate) starts says c.compute_here-answer.result computes)
+    let ts = c.come_back.new.self.context.trees in
+    subst (λ (x : Result (Option (CanonicalResponse × Option Via)) Stop × Key). IfErr x.0 (λ s. IsNotingStop ts s ⊎ IsComputingStop r (table_of r) x.1 s)) (λ j. (z j, q j))
+    (answer-stopped r n start.inference key (trait_goal r.context.trees start.param_env start.predicate) starts says ts c.compute_here-answer.result computes)

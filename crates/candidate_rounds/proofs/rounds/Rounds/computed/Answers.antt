@@ -1,6 +1,6 @@
 use Rattle.std.proofs.Common.{slice_get, ◌∙◌, ap}
 use Rattle.candidate_rounds.specs.Known.{table_of}
-use Rattle.candidate_rounds.specs.Running.{IsRunStop, run_making, told}
+use Rattle.candidate_rounds.specs.Running.{IsRoundStop, round_looking, told}
 use Rattle.candidate_rounds.proofs.ResponseStops.{passed-on}
 use Rattle.candidate_rounds.proofs.Running.{place-stopped}
 use Rattle.candidate_rounds.proofs.rounds.Rounds.computed.Goals as goal
@@ -8,7 +8,8 @@ use Rattle.candidate_rounds.proofs.rounds.Rounds.computed.Goals as goal
 pub returns-in_err-answer-clause-cause : goal.returns-in_err-answer-clause-cause
 returns-in_err-answer-clause-cause c =
     let r = c.args.self.now in
-    passed-on (IsRunStop r (table_of r)) c.from_residual.result c.in_err-answer.field-0.0 c.from_residual.ensures.1 (place-stopped r c.args.place c.in_err-answer.field-0.0 c.requires c.in_err-answer.ensures.cause)
+    let ts = c.compute.new.self.context.trees in
+    passed-on (IsRoundStop ts r (table_of r)) c.from_residual.result c.in_err-answer.field-0.0 c.from_residual.ensures.1 (place-stopped r ts c.args.place c.in_err-answer.field-0.0 c.requires c.in_err-answer.ensures.cause)
 
 pub may_be_read-requires-clause-verdict : goal.may_be_read-requires-clause-verdict
 may_be_read-requires-clause-verdict c = c.verdict_of-verdict.ensures.sort c.compute.new.self.context.trees c.in_ok-answer.ensures.sort
@@ -16,7 +17,7 @@ may_be_read-requires-clause-verdict c = c.verdict_of-verdict.ensures.sort c.comp
 pub returns-in_err-is_readable-clause-cause : goal.returns-in_err-is_readable-clause-cause
 returns-in_err-is_readable-clause-cause c =
     let r = c.args.self.now in
-    passed-on (IsRunStop r (table_of r)) c.from_residual-in_err-is_readable.result c.in_err-is_readable.field-0.0 c.from_residual-in_err-is_readable.ensures.1 (run_making c.in_err-is_readable.ensures.cause)
+    passed-on (IsRoundStop c.compute.new.self.context.trees r (table_of r)) c.from_residual-in_err-is_readable.result c.in_err-is_readable.field-0.0 c.from_residual-in_err-is_readable.ensures.1 (round_looking c.in_err-is_readable.ensures.cause)
 
 pub returns-clause-written : goal.returns-clause-written
 returns-clause-written c = λ e g.

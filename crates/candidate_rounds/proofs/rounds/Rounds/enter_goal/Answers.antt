@@ -1,6 +1,7 @@
 use Rattle.std.proofs.Common.{◌∙◌, ap}
+use Rattle.candidate_assembly.specs.TraitGoals.{trait_goal}
 use Rattle.candidate_rounds.specs.Known.{table_of}
-use Rattle.candidate_rounds.specs.Running.{IsRunStop, run_making}
+use Rattle.candidate_rounds.specs.Running.{IsRunStop, run_key}
 use Rattle.candidate_rounds.proofs.ResponseStops.{passed-on}
 use Rattle.candidate_rounds.proofs.Rounding.{entered-cause, entered-place, entered-stays, entered-table, err-table, goes-stays, ok-place, ok-table, then-err, there-already}
 use Rattle.candidate_rounds.proofs.Running.{stays-trans}
@@ -13,7 +14,9 @@ pub returns-in_err-key-clause-stopped : goal.returns-in_err-key-clause-stopped
 returns-in_err-key-clause-stopped c = err-table c.from_residual.result (goes-stays c.args.self.now c.key_for.new.self c.well_kept.ensures c.key_for.ensures.goes c.key_for.ensures.state).1
 
 pub returns-in_err-key-clause-cause : goal.returns-in_err-key-clause-cause
-returns-in_err-key-clause-cause c = passed-on (IsRunStop c.args.self.now (table_of c.key_for.new.self)) c.from_residual.result c.in_err-key.field-0.0 c.from_residual.ensures.1 (run_making c.in_err-key.ensures.cause)
+returns-in_err-key-clause-cause c =
+    let new = c.key_for.new.self in
+    passed-on (IsRunStop new.context.trees c.args.self.now (trait_goal c.args.self.now.context.trees c.args.param_env c.args.predicate) (table_of new)) c.from_residual.result c.in_err-key.field-0.0 c.from_residual.ensures.1 (run_key c.in_err-key.ensures.cause)
 
 pub returns-in-Some-clause-stays : goal.returns-in-Some-clause-stays
 returns-in-Some-clause-stays c = (goes-stays c.args.self.now c.key_for.new.self c.well_kept.ensures c.key_for.ensures.goes c.key_for.ensures.state).0
@@ -49,4 +52,4 @@ returns-clause-stopped c =
     then-err c.enter_key.result (λ e. ap table_of e ∙ g.1) c.enter_key.ensures.stopped
 
 pub returns-clause-cause : goal.returns-clause-cause
-returns-clause-cause c = entered-cause c.args.self.now c.key_for.new.self c.enter_key.new.self c.enter_key.result c.enter_key.ensures.stopped c.enter_key.ensures.cause
+returns-clause-cause c = entered-cause c.enter_key.new.self.context.trees _ c.args.self.now c.key_for.new.self c.enter_key.new.self c.enter_key.result c.enter_key.ensures.stopped c.enter_key.ensures.cause

@@ -1,8 +1,9 @@
-use Rattle.std.proofs.Common.{sym, ◌∙◌, ap, arith}
-use Rattle.candidate_assembly.proofs.Causes.{so-ok}
+use Rattle.std.proofs.Common.{sym, ◌∙◌, ap, subst, arith}
+use Rattle.candidate_assembly.proofs.Causes.{so-err, so-ok}
 use Rattle.candidate_assembly.specs.TraitGoals.{trait_goal}
 use Rattle.candidate_rounds.specs.Goals.{key_seen}
 use Rattle.candidate_rounds.specs.Known.{state, table_of}
+use Rattle.candidate_rounds.specs.Stopping.{IsGoalKeyStop, key_memory, of_key_then}
 use Rattle.candidate_rounds.proofs.Rounding.{goes-stays, no-verdict, place-below, place-verdict}
 use Rattle.candidate_rounds.proofs.Running.{seen-length}
 use Rattle.rounds_judge.specs.GoalTable.{verdict_in}
@@ -49,3 +50,9 @@ returns-clause-is c =
     let g = goes-stays c.args.self.now s c.well_kept.ensures c.key_for.ensures.goes c.key_for.ensures.state in
     let asked = key_at (state c.args.self.now) (trait_goal c.args.self.now.context.trees c.args.param_env c.args.predicate) in
     sym (sym (ap (λ (k : Key). verdict_in (table_of s) k) c.in_ok-key.ensures.key ∙ ap (λ T. verdict_in T asked) g.1) ∙ no-verdict (table_of s) (key_seen s.context.trees c.in_ok-key.key) c.in-None.ensures)
+
+pub returns-in-Some-clause-cause : goal.returns-in-Some-clause-cause
+returns-in-Some-clause-cause c =
+    let r = c.args.self.now in
+    let g = trait_goal r.context.trees c.args.param_env c.args.predicate in
+    so-err c.copied_at.result (λ s m. subst (IsGoalKeyStop c.key_for.new.self.context.trees (state r) g) (sym m) (of_key_then key_memory)) c.copied_at.ensures.cause

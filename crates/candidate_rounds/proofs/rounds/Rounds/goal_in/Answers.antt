@@ -1,5 +1,7 @@
-use Rattle.std.proofs.Common.{ap, reverse, ◌∙◌}
-use Rattle.candidate_rounds.specs.Known.{state}
+use Rattle.std.proofs.Common.{IfErr, ap, reverse, subst, ◌∙◌}
+use Rattle.candidate_assembly.specs.TraitGoals.{trait_goal}
+use Rattle.candidate_rounds.specs.Known.{Evaluator, state}
+use Rattle.candidate_rounds.specs.Stopping.{IsTreeStop, clause_saying}
 use Rattle.candidate_rounds.proofs.Knowing.{state-stays}
 use Rattle.candidate_rounds.proofs.ResolvedValues.{evaluator-grown}
 use Rattle.candidate_rounds.proofs.Between.{parts}
@@ -14,3 +16,7 @@ pub returns-clause-state : goal.returns-clause-state
 returns-clause-state c =
     let i = c.self.inside in
     state-stays i.cx.trees c.goal_in.new.cx.trees i.mode i.inference c.goal_in.ensures.grows.kept (parts c.self.invariant).consistent.known ∙ ap state c.self.view_is
+
+pub returns-clause-cause : goal.returns-clause-cause
+returns-clause-cause c =
+    subst (λ (e : Evaluator). IfErr c.goal_in.result (λ s. IsTreeStop c.goal_in.new.cx.trees (clause_saying (trait_goal e.context.trees c.args.param_env c.args.predicate)) s)) c.self.view_is c.goal_in.ensures.cause

@@ -1,7 +1,6 @@
-use Rattle.std.proofs.Common.{List, IfOk, ◌≡◌, ap, subst}
+use Rattle.std.proofs.Common.{List, IfErr, IfOk, ◌≡◌, ap, subst}
 use Rattle.candidate_ir.specs.Trees.{Tree}
-use Rattle.candidate_eval.proofs.StopKinds.{noting_making}
-use Rattle.candidate_assembly.proofs.Causes.{so-err}
+use Rattle.candidate_eval.specs.Noting.{IsNotingStop}
 use Rattle.candidate_rounds.specs.Goals.{key_seen}
 use Rattle.candidate_rounds.specs.Known.{Evaluator}
 use Rattle.rounds_judge.specs.GoalTable.{may_be_asked}
@@ -13,4 +12,6 @@ returns-clause-is c =
     subst (λ (ts : List Tree). IfOk c.may_be_asked.result (λ b. b ≡ may_be_asked (key_seen ts c.args.key.now))) trees c.may_be_asked.ensures.is
 
 pub returns-clause-cause : goal.returns-clause-cause
-returns-clause-cause c = so-err c.may_be_asked.result (λ s i. noting_making _ s i) c.may_be_asked.ensures.cause
+returns-clause-cause c =
+    let trees = ap (λ (r : Evaluator). r.context.trees) c.self.view_is in
+    subst (λ (ts : List Tree). IfErr c.may_be_asked.result (λ s. IsNotingStop ts s)) trees c.may_be_asked.ensures.cause

@@ -1,6 +1,7 @@
-use Rattle.std.proofs.Common.{◌≡◌, List, IfOk, slice_index_or, Some, sym, subst, ap, ◌∙◌}
+use Rattle.std.proofs.Common.{◌≡◌, List, IfErr, IfOk, slice_index_or, Some, sym, subst, ap, ◌∙◌}
 use Rattle.candidate_rounds.specs.declared.rounds.Rounds.TheInside.{Inside}
 use Rattle.candidate_ir.specs.Trees.{Tree}
+use Rattle.candidate_eval.specs.Noting.{IsNotingStop}
 use Rattle.candidate_rounds.specs.Goals.{IsTraitGoal, Via, key_seen, verdict_seen}
 use Rattle.rounds_judge.specs.GoalTable.{Entry, may_be_read}
 use Rattle.rounds_judge.specs.Keys.{Key}
@@ -29,3 +30,8 @@ returns-clause-is c = λ e g.
     let trees = ap (λ (v : Inside). v.cx.trees) c.self-inside.view_is ∙ ap (λ (r : Evaluator). r.context.trees) c.self.view_is in
     let key = ap (λ ts. key_seen ts d.key) trees ∙ sym (ap (λ (x : Entry Via). x.key) q) in
     subst (λ (p : List Tree × Key). IfOk c.may_be_read.result (λ b. b ≡ may_be_read {W = Via} p.1 (Some (verdict_seen p.0 c.args.verdict.now)))) (λ i. (trees i, key i)) c.may_be_read.ensures.is
+
+pub returns-clause-cause : goal.returns-clause-cause
+returns-clause-cause c =
+    let trees = ap (λ (v : Inside). v.cx.trees) c.self-inside.view_is ∙ ap (λ (r : Evaluator). r.context.trees) c.self.view_is in
+    subst (λ (ts : List Tree). IfErr c.may_be_read.result (λ s. IsNotingStop ts s)) trees c.may_be_read.ensures.cause

@@ -1,8 +1,9 @@
 use Rattle.std.proofs.Common.{◌≡◌, ◌∙◌, sym, ap}
-use Rattle.candidate_assembly.proofs.Causes.{so-ok}
+use Rattle.candidate_assembly.proofs.Causes.{so-err, so-ok}
 use Rattle.candidate_assembly.proofs.Keeping.{trait-goal-kept}
 use Rattle.candidate_assembly.specs.TraitGoals.{trait_goal}
 use Rattle.candidate_rounds.specs.Known.{state}
+use Rattle.candidate_rounds.specs.Stopping.{of_key_then, of_noted}
 use Rattle.candidate_rounds.proofs.Asked.{may-be-asked}
 use Rattle.candidate_rounds.proofs.Rounding.{goes-stays}
 use Rattle.rounds_judge.specs.GoalTable.{may_be_asked}
@@ -41,3 +42,6 @@ pub returns-clause-standing : goal.returns-clause-standing
 returns-clause-standing c = λ stands.
     let old = c.args.self.now in
     so-ok c.may_be_asked.result (λ b is. is ∙ (ap may_be_asked c.in_ok-key.ensures.key ∙ may-be-asked (state old) (trait_goal old.context.trees c.args.param_env c.args.predicate) stands)) c.may_be_asked.ensures.is
+
+pub returns-clause-cause : goal.returns-clause-cause
+returns-clause-cause c = so-err c.may_be_asked.result (λ s k. of_key_then (of_noted k)) c.may_be_asked.ensures.cause

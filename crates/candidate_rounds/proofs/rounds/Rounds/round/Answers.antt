@@ -1,8 +1,9 @@
 use Rattle.std.proofs.Common.{◌≡◌, ◌<◌, ◌++◌, Some, OnErr, OnOk, length, map, reverse, slice_get, sym, ◌∙◌, ap, subst, arith}
+use Rattle.candidate_eval.specs.Noting.{refused_note}
 use Rattle.candidate_rounds.specs.declared.rounds.Rounds.TheInside.{Inside}
 use Rattle.candidate_rounds.specs.Goals.{IsVerdict, table_seen, verdict_seen}
 use Rattle.candidate_rounds.specs.Known.{Evaluator, IsEvaluator, table_of}
-use Rattle.candidate_rounds.specs.Running.{AreWritten, IsRunStop, all_put_in, computing, has_one, new_entry, run_making, verdict_at}
+use Rattle.candidate_rounds.specs.Running.{AreWritten, IsRoundStop, all_put_in, computing, has_one, new_entry, round_looking, verdict_at}
 use Rattle.candidate_rounds.proofs.Between.{parts}
 use Rattle.candidate_rounds.proofs.ResponseStops.{passed-growth}
 use Rattle.candidate_rounds.proofs.Rounding.{place-written, round-written, written-either}
@@ -24,11 +25,11 @@ copy_at-requires c =
 
 pub returns-in_err-answer-clause-cause : goal.returns-in_err-answer-clause-cause
 returns-in_err-answer-clause-cause c =
-    passed-growth (IsRunStop c.args.self.now (table_of c.args.self.now)) c.from_residual-in_err-answer.result c.in_err-answer.field-0.0 c.from_residual-in_err-answer.ensures.1 c.in_err-answer.ensures.cause (run_making tt)
+    passed-growth (IsRoundStop _ c.args.self.now (table_of c.args.self.now)) c.from_residual-in_err-answer.result c.in_err-answer.field-0.0 c.from_residual-in_err-answer.ensures.1 c.in_err-answer.ensures.cause (round_looking refused_note)
 
 pub returns-in_err-write-clause-cause : goal.returns-in_err-write-clause-cause
 returns-in_err-write-clause-cause c =
-    passed-growth (IsRunStop c.args.self.now (table_of c.args.self.now)) c.from_residual-in_err-write.result c.in_err-write.field-0.0 c.from_residual-in_err-write.ensures.1 c.in_err-write.ensures.cause (run_making tt)
+    passed-growth (IsRoundStop _ c.args.self.now (table_of c.args.self.now)) c.from_residual-in_err-write.result c.in_err-write.field-0.0 c.from_residual-in_err-write.ensures.1 c.in_err-write.ensures.cause (round_looking refused_note)
 
 pub invariant_of-self : goal.invariant_of-self
 invariant_of-self c =

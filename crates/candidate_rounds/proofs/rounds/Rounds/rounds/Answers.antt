@@ -1,9 +1,10 @@
 use Rattle.std.proofs.Common.{◌≡◌, ◌+◌, suc, refl, sym, ◌∙◌, subst, arith}
+use Rattle.candidate_eval.specs.Noting.{refused_note}
 use Rattle.candidate_rounds.specs.Known.{table_of}
-use Rattle.candidate_rounds.specs.Running.{IsRunStop, run_making}
+use Rattle.candidate_rounds.specs.Running.{IsRoundStop, round_looking}
 use Rattle.candidate_rounds.proofs.ResponseStops.{passed-on}
 use Rattle.candidate_rounds.proofs.Rounding.{RoundsOn, err-table, if-err, longer, no-rounds, none-needed, ok-table, on-ok, one-more-on, ran-all, ran-final, stop-after, stopped-at-once, stopped-on, then-err}
-use Rattle.candidate_rounds.proofs.Running.{run-stop-before, stays-refl, stays-trans}
+use Rattle.candidate_rounds.proofs.Running.{round-stop-before, stays-refl, stays-trans}
 use Rattle.candidate_rounds.proofs.rounds.Rounds.rounds.Goals as goal
 
 pub returns-then-is_final_at-clause-stays : goal.returns-then-is_final_at-clause-stays
@@ -18,7 +19,7 @@ returns-then-is_final_at-clause-stopped c = err-table c.verdict_at.result (stopp
 pub returns-then-is_final_at-clause-cause : goal.returns-then-is_final_at-clause-cause
 returns-then-is_final_at-clause-cause c =
     let r = c.args.self.now in
-    if-err c.verdict_at.result (λ s m. subst (IsRunStop r (table_of r)) (sym m) (run_making tt)) c.verdict_at.ensures.cause
+    if-err c.verdict_at.result (λ s m. subst (IsRoundStop r.context.trees r (table_of r)) (sym m) (round_looking refused_note)) c.verdict_at.ensures.cause
 
 pub loop-next-init : goal.loop-next-init
 loop-next-init c =
@@ -39,8 +40,9 @@ returns-in_err-verdict-clause-cause c =
     let at = c.loop-next in
     let on = at.invariant.0 in
     let stop = c.in_err-verdict.field-0.0 in
-    passed-on (IsRunStop r (table_of c.round.new.self)) c.from_residual.result stop c.from_residual.ensures.1
-    (subst (λ T. IsRunStop r T stop) (sym c.in_err-verdict.ensures.stopped) (run-stop-before on.stays (table_of at.self) stop c.in_err-verdict.ensures.cause))
+    let ts = c.round.new.self.context.trees in
+    passed-on (IsRoundStop ts r (table_of c.round.new.self)) c.from_residual.result stop c.from_residual.ensures.1
+    (subst (λ T. IsRoundStop ts r T stop) (sym c.in_err-verdict.ensures.stopped) (round-stop-before on.stays ts (table_of at.self) stop c.in_err-verdict.ensures.cause))
 
 pub is_final_at-requires-in-loop-next : goal.is_final_at-requires-in-loop-next
 is_final_at-requires-in-loop-next c =
@@ -97,4 +99,5 @@ returns-clause-cause c =
     let r = c.args.self.now in
     let at = c.loop-next in
     let on = at.invariant.0 in
-    stop-after c.round-2.result (λ s same h. subst (λ T. IsRunStop r T s) (sym same) (run-stop-before on.stays (table_of at.self) s h)) c.round-2.ensures.stopped c.round-2.ensures.cause
+    let ts = c.round-2.new.self.context.trees in
+    stop-after c.round-2.result (λ s same h. subst (λ T. IsRoundStop ts r T s) (sym same) (round-stop-before on.stays ts (table_of at.self) s h)) c.round-2.ensures.stopped c.round-2.ensures.cause

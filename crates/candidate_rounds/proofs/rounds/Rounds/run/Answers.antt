@@ -1,12 +1,13 @@
-use Rattle.std.proofs.Common.{Some, sym, ◌∙◌, ap, subst, arith}
+use Rattle.std.proofs.Common.{List, Some, sym, ◌∙◌, ap, subst, arith}
+use Rattle.candidate_ir.specs.Trees.{Tree}
 use Rattle.candidate_assembly.specs.TraitGoals.{trait_goal}
-use Rattle.candidate_rounds.specs.Goals.{verdict_seen}
+use Rattle.candidate_rounds.specs.Goals.{Via, verdict_seen}
 use Rattle.candidate_rounds.specs.Known.{Evaluator, state, table_of}
-use Rattle.candidate_rounds.specs.Running.{IsDoneBelow, IsPlaceOf, IsRunStop, after_rounds, computing, not_entered}
+use Rattle.candidate_rounds.specs.Running.{IsDoneBelow, IsPlaceOf, IsRunStop, after_rounds, computing, not_entered, run_round}
 use Rattle.candidate_rounds.proofs.ResponseStops.{passed-on}
 use Rattle.candidate_rounds.proofs.Rounding.{below-before, err-table, if-err, is-asking, ok-ok, ok-table, place-below, place-in-rounds, place-verdict, rounds-before, then-err}
-use Rattle.candidate_rounds.proofs.Running.{run-stop-before, seen-length, stays-trans}
-use Rattle.rounds_judge.specs.GoalTable.{entered_in, may_be_asked, verdict_in}
+use Rattle.candidate_rounds.proofs.Running.{round-stop-before, run-stop-before, seen-length, stays-trans}
+use Rattle.rounds_judge.specs.GoalTable.{GoalTable, entered_in, may_be_asked, verdict_in}
 use Rattle.rounds_judge.specs.Keys.{Key, key_at}
 use Rattle.rounds_judge.specs.Rounds.{Rounds}
 use Rattle.candidate_rounds.proofs.rounds.Rounds.run.Goals as goal
@@ -42,7 +43,10 @@ returns-in_err-place-clause-cause c =
     let key = ap (λ (x : Evaluator). key_at (state x) (trait_goal x.context.trees c.args.param_env c.args.predicate)) c.set_asking.ensures in
     let k = key_at (state r) (trait_goal r.context.trees c.args.param_env c.args.predicate) in
     let stop = c.in_err-place.field-0.0 in
-    passed-on (IsRunStop r (table_of c.enter_goal.new.self)) c.from_residual.result stop c.from_residual.ensures.1 (run-stop-before one.stays (table_of c.enter_goal.new.self) stop c.in_err-place.ensures.cause)
+    let new = c.enter_goal.new.self in
+    let goal = ap (λ (x : Evaluator). trait_goal x.context.trees c.args.param_env c.args.predicate) c.set_asking.ensures in
+    passed-on (IsRunStop new.context.trees r (trait_goal r.context.trees c.args.param_env c.args.predicate) (table_of new)) c.from_residual.result stop c.from_residual.ensures.1
+    (run-stop-before one.stays new.context.trees _ _ (table_of new) stop goal c.in_err-place.ensures.cause)
 
 pub rounds-answer-requires-clause-place : goal.rounds-answer-requires-clause-place
 rounds-answer-requires-clause-place c =
@@ -158,4 +162,8 @@ returns-clause-cause c =
     let before = stays-trans one.stays (stays-trans c.in_ok-place.ensures.stays two.stays) in
     let here = subst (λ T. IsPlaceOf T k c.in_ok-place.place) (sym two.table) place in
     let entered = two.table ∙ (c.in_ok-place.ensures.entered ∙ (ap (entered_in (table_of c.set_asking.new.self)) key ∙ ap (λ T. entered_in T k) one.table)) in
-    if-err c.rounds-answer.result (λ s h. subst (λ T. IsRunStop r T s) (sym three.table) (run-stop-before before (table_of e) s h)) c.rounds-answer.ensures.cause
+    let trees = sym (ap (λ (x : Evaluator). x.context.trees) c.set_asking-3.ensures) in
+    let same = sym three.table in
+    if-err c.rounds-answer.result
+    (λ s h. subst (λ (x : List Tree × GoalTable Via). IsRunStop x.0 r (trait_goal r.context.trees c.args.param_env c.args.predicate) x.1 s) (λ i. (trees i, same i)) (run_round (round-stop-before before e.context.trees (table_of e) s h)))
+    c.rounds-answer.ensures.cause
