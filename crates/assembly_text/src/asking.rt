@@ -88,22 +88,22 @@ impl<'a> Asking<'a> {
     /// Makes the answer to the line, whose command was read, or says why it can't be made.
     ///
     /// What the query before made in the context is gone by then.
-    /// The error is a fault of the line; nothing more is asked then.
+    /// The outer error is a fault of the line; nothing more is asked then.
     pub fn ask(
         mut self,
         query: Query,
         mut words: Words<'a>,
-    ) -> Result<(Asking<'a>, Result<(), Stop>), Fault<'a>> {
+    ) -> (Asking<'a>, Result<Result<(), Stop>, Fault<'a>>) {
         self.answer.clear();
         self.scope.maker.truncate(0);
         match query {
             Query::Orphan => {
-                let made = self.orphan(&mut words)?;
-                Ok((self, made))
+                let made = self.orphan(&mut words);
+                (self, made)
             }
             Query::Knowable => {
-                let made = self.knowable(&mut words)?;
-                Ok((self, made))
+                let made = self.knowable(&mut words);
+                (self, made)
             }
             Query::Solve => self.solve(&mut words),
         }
@@ -171,18 +171,32 @@ impl<'a> Asking<'a> {
         }
     }
 
-    /// `solve K TRAITREF` and `solve K - TRAITREF`.
-    fn solve(mut self, words: &mut Words<'a>) -> Result<(Asking<'a>, Result<(), Stop>), Fault<'a>> {
-        let count = words.count(MOST_ROUNDS)?;
+    /// What follows `solve`: in how many rounds, and the goal, `TRAITREF` or `- TRAITREF`.
+    fn goal(&mut self, words: &mut Words<'a>) -> Result<(u16, TraitPredicate), Fault<'a>>
+        ensures some { IfOk result (λ r. 0 < r.0) }
+        ensures sort { IfOk result (λ r. IsArgs self.new.scope.maker.trees r.1.trait_ref.args) }
+        ensures no_param { IfOk result (λ r. HasNoParam self.new.scope.maker r.1.trait_ref) }
+        ensures fit { IfOk result (λ r. ArgumentsFit self.new.scope.maker r.1.trait_ref) }
+    {
+        let count = words.number(1, MOST_ROUNDS)?;
         let polarity = Self::polarity(words);
         let trait_ref = self.last_trait_ref(words)?;
         let predicate = TraitPredicate {
             trait_ref,
             polarity,
         };
-        let (mut asking, verdict) = self.solved(predicate, count);
-        let made = asking.print_verdict(verdict);
-        Ok((asking, made))
+        Ok((count, predicate))
+    }
+
+    fn solve(mut self, words: &mut Words<'a>) -> (Asking<'a>, Result<Result<(), Stop>, Fault<'a>>) {
+        match self.goal(words) {
+            Ok((count, predicate)) => {
+                let (mut asking, verdict) = self.solved(predicate, count);
+                let made = asking.print_verdict(verdict);
+                (asking, Ok(made))
+            }
+            Err(fault) => (self, Err(fault)),
+        }
     }
 
     /// What the goal comes to in so many rounds at most.
@@ -222,19 +236,9 @@ impl<'a> Asking<'a> {
     }
 
     fn print_verdict(&mut self, verdict: Result<Option<Verdict>, Stop>) -> Result<(), Stop> {
-        let word = match verdict? {
-            Some(Verdict::Yes(_, via)) => {
-                self.answer.push_str("yes ")?;
-                word_of_way(via)
-            }
-            Some(Verdict::Maybe(_, via)) => {
-                self.answer.push_str("maybe ")?;
-                word_of_way(via)
-            }
-            Some(Verdict::Refused) => "refused\n",
-            None => "maybe none\n",
-        };
-        self.answer.push_str(word)?;
+        let (verdict, way) = words_of_verdict(verdict?);
+        self.answer.push_str(verdict)?;
+        self.answer.push_str(way)?;
         Ok(())
     }
 
@@ -326,6 +330,16 @@ impl<'a> Asking<'a> {
     {
         self.answer.push_str(before)?;
         self.scope.print_type(ty, DEEPEST, &mut self.answer)
+    }
+}
+
+/// The words for what a goal comes to, and for how it is proved.
+fn words_of_verdict(verdict: Option<Verdict>) -> (&'static str, &'static str) {
+    match verdict {
+        Some(Verdict::Yes(_, via)) => ("yes ", word_of_way(via)),
+        Some(Verdict::Maybe(_, via)) => ("maybe ", word_of_way(via)),
+        Some(Verdict::Refused) => ("refused\n", ""),
+        None => ("maybe ", "none\n"),
     }
 }
 

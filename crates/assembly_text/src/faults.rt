@@ -84,26 +84,47 @@ impl From<DeclFault> for Fault<'_> {
     }
 }
 
+/// What follows the reason.
+#[derive(Clone, Copy)]
+enum Detail<'a> {
+    Nothing,
+    Word(&'a str),
+    Number(u8),
+}
+
+impl<'a> Fault<'a> {
+    /// The reason, and what follows it.
+    fn reason(self) -> (&'static str, Detail<'a>) {
+        match self {
+            Fault::BadByte => ("bad byte", Detail::Nothing),
+            Fault::UnknownWord => ("unknown word", Detail::Nothing),
+            Fault::LateDeclaration => ("late declaration", Detail::Nothing),
+            Fault::ShortLine => ("short line", Detail::Nothing),
+            Fault::UnknownName(word) => ("unknown name ", Detail::Word(word)),
+            Fault::NameTwice(word) => ("name twice ", Detail::Word(word)),
+            Fault::BadName(word) => ("bad name ", Detail::Word(word)),
+            Fault::BadNumber(word) => ("bad number ", Detail::Word(word)),
+            Fault::BadFlag(word) => ("bad flag ", Detail::Word(word)),
+            Fault::Variable => ("variable", Detail::Nothing),
+            Fault::Parameter => ("parameter", Detail::Nothing),
+            Fault::NotAnAlias => ("not an alias", Detail::Nothing),
+            Fault::Alias => ("alias", Detail::Nothing),
+            Fault::TwoPrincipals => ("two principals", Detail::Nothing),
+            Fault::LongLine => ("long line", Detail::Nothing),
+            Fault::Stop(stop) => ("stop ", Detail::Number(stop as u8)),
+            Fault::Declarations(fault) => ("declaration fault ", Detail::Number(fault as u8)),
+        }
+    }
+}
+
 impl fmt::Display for Fault<'_> {
     fn fmt<W: fmt::Write>(&self, f: &mut fmt::Formatter<W>) -> fmt::Result {
-        match *self {
-            Fault::BadByte => f.write_str("bad byte"),
-            Fault::UnknownWord => f.write_str("unknown word"),
-            Fault::LateDeclaration => f.write_str("late declaration"),
-            Fault::ShortLine => f.write_str("short line"),
-            Fault::UnknownName(word) => write!(f, "unknown name {word}"),
-            Fault::NameTwice(word) => write!(f, "name twice {word}"),
-            Fault::BadName(word) => write!(f, "bad name {word}"),
-            Fault::BadNumber(word) => write!(f, "bad number {word}"),
-            Fault::BadFlag(word) => write!(f, "bad flag {word}"),
-            Fault::Variable => f.write_str("variable"),
-            Fault::Parameter => f.write_str("parameter"),
-            Fault::NotAnAlias => f.write_str("not an alias"),
-            Fault::Alias => f.write_str("alias"),
-            Fault::TwoPrincipals => f.write_str("two principals"),
-            Fault::LongLine => f.write_str("long line"),
-            Fault::Stop(stop) => write!(f, "stop {}", stop as u8),
-            Fault::Declarations(fault) => write!(f, "declaration fault {}", fault as u8),
+        let (reason, detail) = self.reason();
+        f.write_str(reason)?;
+        match detail {
+            Detail::Nothing => Ok(()),
+            Detail::Word(word) => f.write_str(word),
+            Detail::Number(number) => write!(f, "{number}"),
         }
     }
 }

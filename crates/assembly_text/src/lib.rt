@@ -10,6 +10,7 @@ mod lines;
 mod making;
 mod names;
 mod notation;
+mod reading;
 pub mod run;
 mod solving;
 mod types;

@@ -4,8 +4,9 @@ ghost use Rattle.std.specs.Prelude.{◌≡◌};
 ghost use Rattle.assembly_text.specs.declared.lines.Halt.TheVariants as halt;
 
 use crate::asking::{Asking, Query};
-use crate::declaring::{ClausePlace, Declaration, Declaring};
+use crate::declaring::{Declaration, Declaring, GivenPart};
 use crate::faults::Fault;
+use crate::reading::{ClausePlace, ContentKind, DefinitionKind, PlainKind};
 use crate::words::{Words, listed};
 use candidate_ir::decl::contents::{AliasBoundKind, Sizedness};
 use candidate_ir::ir::stop::Stop;
@@ -137,24 +138,41 @@ fn ask_all<'a, W: Write>(
     output: &mut W,
 ) -> Result<(), Halt<'a>> {
     for _ in 0..u64::MAX {
-        let (asked, made) = asking.ask(query, words)?;
+        let (asked, made) = asking.ask(query, words);
         asking = asked;
-        write_answer(asking.answer(), made, output)?;
-        match lines.next_command()? {
-            Some((Command::Query(next), following)) => {
+        match go_on(asking.answer(), made, lines, output)? {
+            Some((next, following)) => {
                 query = next;
                 words = following;
             }
-            Some((Command::Declaration(_), _)) => return Err(Halt::Line(Fault::LateDeclaration)),
             None => break,
         }
     }
     Ok(())
 }
 
-/// Writes the answer, or in its place why it wasn't made.
-fn write_answer<W: Write>(answer: &str, made: Result<(), Stop>, output: &mut W) -> io::Result<()> {
-    match made {
+/// Writes the answer, and reads the next query, with the words that follow it.
+fn go_on<'a, W: Write>(
+    answer: &str,
+    made: Result<Result<(), Stop>, Fault<'a>>,
+    lines: &mut Lines<'a>,
+    output: &mut W,
+) -> Result<Option<(Query, Words<'a>)>, Halt<'a>> {
+    write_answer(answer, made, output)?;
+    match lines.next_command()? {
+        Some((Command::Query(query), words)) => Ok(Some((query, words))),
+        Some((Command::Declaration(_), _)) => Err(Halt::Line(Fault::LateDeclaration)),
+        None => Ok(None),
+    }
+}
+
+/// Writes the answer, or in its place why it wasn't made. A fault of the line is left to the caller.
+fn write_answer<'a, W: Write>(
+    answer: &str,
+    made: Result<Result<(), Stop>, Fault<'a>>,
+    output: &mut W,
+) -> Result<(), Halt<'a>> {
+    match made? {
         Ok(()) => output.write_all(answer.as_bytes())?,
         Err(stop) => {
             let number = stop as u8;
@@ -171,34 +189,66 @@ const QUERIES: [(&str, Query); 3] = [
 ];
 
 const DECLARATIONS: [(&str, Declaration); 22] = [
-    ("adt", Declaration::Adt),
-    ("trait", Declaration::Trait),
-    ("impl", Declaration::Impl),
-    ("field", Declaration::Field),
+    ("adt", Declaration::Definition(DefinitionKind::Adt)),
+    ("trait", Declaration::Definition(DefinitionKind::Trait)),
+    ("impl", Declaration::Definition(DefinitionKind::Impl)),
+    ("field", Declaration::Content(ContentKind::Field)),
     ("assoc", Declaration::Assoc),
-    ("foreign", Declaration::Foreign),
-    ("opaque", Declaration::Opaque),
-    ("super", Declaration::Clause(ClausePlace::Super)),
-    ("where", Declaration::Clause(ClausePlace::Where)),
-    ("iwhere", Declaration::Clause(ClausePlace::ImplWhere)),
+    ("foreign", Declaration::Definition(DefinitionKind::Foreign)),
+    ("opaque", Declaration::Definition(DefinitionKind::Opaque)),
+    (
+        "super",
+        Declaration::Content(ContentKind::Clause(ClausePlace::Super)),
+    ),
+    (
+        "where",
+        Declaration::Content(ContentKind::Clause(ClausePlace::Where)),
+    ),
+    (
+        "iwhere",
+        Declaration::Content(ContentKind::Clause(ClausePlace::ImplWhere)),
+    ),
     (
         "bound",
-        Declaration::Clause(ClausePlace::Bound(AliasBoundKind::SelfBounds)),
+        Declaration::Content(ContentKind::Clause(ClausePlace::Bound(AliasBoundKind::SelfBounds))),
     ),
     (
         "nbound",
-        Declaration::Clause(ClausePlace::Bound(AliasBoundKind::NonSelfBounds)),
+        Declaration::Content(ContentKind::Clause(ClausePlace::Bound(
+            AliasBoundKind::NonSelfBounds,
+        ))),
     ),
-    ("env", Declaration::Clause(ClausePlace::Environment)),
-    ("norm", Declaration::Norm),
-    ("sized", Declaration::Constraint(Sizedness::Sized)),
-    ("metasized", Declaration::Constraint(Sizedness::MetaSized)),
-    ("unsizing", Declaration::Unsizing),
-    ("default", Declaration::Default),
-    ("specializes", Declaration::Specializes),
-    ("lang", Declaration::Lang),
-    ("local", Declaration::Local),
-    ("mode", Declaration::Mode),
+    ("env", Declaration::Given(GivenPart::Clause)),
+    ("norm", Declaration::Given(GivenPart::NormalForm)),
+    (
+        "sized",
+        Declaration::Content(ContentKind::Constraint(Sizedness::Sized)),
+    ),
+    (
+        "metasized",
+        Declaration::Content(ContentKind::Constraint(Sizedness::MetaSized)),
+    ),
+    (
+        "unsizing",
+        Declaration::Content(ContentKind::Plain(PlainKind::Unsizing)),
+    ),
+    (
+        "default",
+        Declaration::Content(ContentKind::Plain(PlainKind::Default)),
+    ),
+    (
+        "specializes",
+        Declaration::Content(ContentKind::Plain(PlainKind::Specializes)),
+    ),
+    (
+        "lang",
+        Declaration::Content(ContentKind::Plain(PlainKind::Lang)),
+    ),
+    (
+        "local",
+        Declaration::Content(ContentKind::Plain(PlainKind::Local)),
+    ),
+    ("mode", Declaration::Given(GivenPart::Mode)),
 ];
 
 /// The command of that name, else `Fault::UnknownWord`.

@@ -1,9 +1,11 @@
 //! The names that were declared.
 
 ghost use Rattle.std.specs.Prelude.{◌≡◌, ◌⊎◌, IfOk, IfErr};
+ghost use Rattle.assembly_text.specs.Names.{IsNoName};
 
 use crate::faults::Fault;
 use crate::notation::fixed_head;
+use crate::words::Words;
 use candidate_ir::decl::contents::ImplId;
 use candidate_ir::ir::kinds::{AdtId, AliasId, AssocId, ForeignId, TraitId};
 use std::alloc::{AllocError, Global};
@@ -36,6 +38,59 @@ pub enum Item {
     /// An opaque type, with how many arguments it takes.
     Opaque(AliasId, u16),
     Impl(ImplId),
+}
+
+/// A kind of what names stand for.
+pub trait Named: Sized {
+    /// The item, if it is of this kind.
+    fn of(item: Item) -> Option<Self>;
+}
+
+impl Named for NamedTrait {
+    fn of(item: Item) -> Option<Self> {
+        match item {
+            Item::Trait(found) => Some(found),
+            _ => None,
+        }
+    }
+}
+
+impl Named for TraitId {
+    fn of(item: Item) -> Option<Self> {
+        match item {
+            Item::Trait(found) => Some(found.id),
+            _ => None,
+        }
+    }
+}
+
+impl Named for AdtId {
+    fn of(item: Item) -> Option<Self> {
+        match item {
+            Item::Adt(id, _) => Some(id),
+            _ => None,
+        }
+    }
+}
+
+impl Named for ImplId {
+    fn of(item: Item) -> Option<Self> {
+        match item {
+            Item::Impl(id) => Some(id),
+            _ => None,
+        }
+    }
+}
+
+/// An associated type or opaque type.
+impl Named for AliasId {
+    fn of(item: Item) -> Option<Self> {
+        match item {
+            Item::Assoc(id, _) => Some(AliasId(id.0)),
+            Item::Opaque(id, _) => Some(id),
+            _ => None,
+        }
+    }
 }
 
 /// The names declared so far, which are words of the text.
@@ -90,55 +145,28 @@ impl<'a> Names<'a> {
         Err(Fault::UnknownName(word))
     }
 
-    /// The trait of that name, else `Fault::UnknownName`.
-    pub fn trait_named(&self, word: &'a str) -> Result<NamedTrait, Fault<'a>>
+    /// What of that kind the word is the name of, else `Fault::UnknownName`.
+    pub fn named<T: Named>(&self, word: &'a str) -> Result<T, Fault<'a>>
         ensures { IfErr result (λ e. e ≡ Fault.UnknownName word.entry) }
     {
-        match self.item(word)? {
-            Item::Trait(found) => Ok(found),
-            _ => Err(Fault::UnknownName(word)),
+        match T::of(self.item(word)?) {
+            Some(found) => Ok(found),
+            None => Err(Fault::UnknownName(word)),
         }
     }
 
-    /// The data type of that name, else `Fault::UnknownName`.
-    pub fn adt_named(&self, word: &'a str) -> Result<AdtId, Fault<'a>>
-        ensures { IfErr result (λ e. e ≡ Fault.UnknownName word.entry) }
+    /// What of that kind the next word is the name of. Its errors are `Fault::ShortLine` and `Fault::UnknownName`.
+    pub fn next_named<T: Named>(&self, words: &mut Words<'a>) -> Result<T, Fault<'a>>
+        ensures { IfErr result IsNoName }
     {
-        match self.item(word)? {
-            Item::Adt(id, _) => Ok(id),
-            _ => Err(Fault::UnknownName(word)),
+        self.named(words.word()?)
+    }
+
+    /// Lets the name stand for the item. It is the name of the next definition, except an impl's. The only error is `Fault::Stop`.
+    pub fn add(&mut self, name: &'a str, item: Item) -> Result<(), Fault<'a>> {
+        if !matches!(item, Item::Impl(_)) {
+            self.definitions.push(name)?;
         }
-    }
-
-    /// The associated type or opaque type of that name, else `Fault::UnknownName`.
-    pub fn alias_named(&self, word: &'a str) -> Result<AliasId, Fault<'a>>
-        ensures { IfErr result (λ e. e ≡ Fault.UnknownName word.entry) }
-    {
-        match self.item(word)? {
-            Item::Assoc(id, _) => Ok(AliasId(id.0)),
-            Item::Opaque(id, _) => Ok(id),
-            _ => Err(Fault::UnknownName(word)),
-        }
-    }
-
-    /// The impl of that name, else `Fault::UnknownName`.
-    pub fn impl_named(&self, word: &'a str) -> Result<ImplId, Fault<'a>>
-        ensures { IfErr result (λ e. e ≡ Fault.UnknownName word.entry) }
-    {
-        match self.item(word)? {
-            Item::Impl(id) => Ok(id),
-            _ => Err(Fault::UnknownName(word)),
-        }
-    }
-
-    /// Gives the name to the next definition.
-    pub fn add_definition(&mut self, name: &'a str, item: Item) -> Result<(), AllocError> {
-        self.definitions.push(name)?;
-        self.add(name, item)
-    }
-
-    /// Gives the name to what is no definition.
-    pub fn add(&mut self, name: &'a str, item: Item) -> Result<(), AllocError> {
         let number = number_of(name);
         if let Some(tree) = self.trees.get_mut((number % TREES) as usize) {
             tree.insert((number, name), item)?;

@@ -166,7 +166,7 @@ impl<'a, M: Maker> Scope<'a, M> {
         ensures fit { IfOk result (λ r. M.is_strict ≡ true → ArgumentsFit (M.context self.new.maker) r) }
     {
         let word = words.word()?;
-        let found = self.names.trait_named(word)?;
+        let found = self.names.named(word)?;
         self.read_arguments(words, found, word)
     }
 

@@ -1,6 +1,6 @@
 //! The words of a line, from left to right.
 
-ghost use Rattle.std.specs.Prelude.{◌≡◌, ◌<◌, ◌≤◌, ℕ, List, Some, IfOk, IfErr};
+ghost use Rattle.std.specs.Prelude.{◌≡◌, ◌≤◌, ℕ, List, Some, IfOk, IfErr};
 ghost use Rattle.assembly_text.specs.Tables.{table_value, IsNoFlag};
 
 use crate::faults::Fault;
@@ -53,28 +53,18 @@ impl<'a> Words<'a> {
         }
     }
 
-    /// The next word as a number of at most that size.
+    /// The next word as a number from the least to the greatest one.
     ///
     /// Its errors are `Fault::ShortLine` and `Fault::BadNumber`.
-    pub fn number(&mut self, most: u16) -> Result<u16, Fault<'a>>
-        ensures { IfOk result (λ n. n ≤ most) }
+    pub fn number(&mut self, least: u16, most: u16) -> Result<u16, Fault<'a>>
+        ensures { IfOk result (λ n. (least ≤ n) × (n ≤ most)) }
     {
         let word = self.word()?;
-        Ok(number_in(word, word, u64::from(most))? as u16)
-    }
-
-    /// The next word as a number from 1 to that size.
-    ///
-    /// Its errors are those of `number`; 0 is `Fault::BadNumber`, too.
-    pub fn count(&mut self, most: u16) -> Result<u16, Fault<'a>>
-        ensures { IfOk result (λ n. (0 < n) × (n ≤ most)) }
-    {
-        let word = self.word()?;
-        let number = number_in(word, word, u64::from(most))?;
-        if number == 0 {
+        let number = number_in(word, word, u64::from(most))? as u16;
+        if number < least {
             return Err(Fault::BadNumber(word));
         }
-        Ok(number as u16)
+        Ok(number)
     }
 
     /// What the next word says by the table.

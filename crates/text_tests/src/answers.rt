@@ -1,6 +1,6 @@
 //! Texts without a bad line.
 
-use crate::cases::{DECLARATIONS, check, check_rows, declared, joined, repeated};
+use crate::cases::{DECLARATIONS, Rows, check_rows};
 use assembly_text::run::Status;
 
 /// Lines after the declarations, and their answers.
@@ -33,91 +33,64 @@ local 2|adt 1 La 0|adt 2 Lb 0|adt 3 Pair 2 fundamental|trait 3 T 0|orphan local 
 local 2|adt 1 La 0|adt 2 Lb 0|adt 3 Pair 2 fundamental|trait 3 T 0|orphan local T Pair La $0|orphan local T Pair $0 Lb|orphan local T Pair Lb $0 => uncovered $0 local none|uncovered $0 local Lb|ok
 local 4|adt 1 La 0|adt 2 Lb 0|adt 3 Pair 2 fundamental|trait 3 T 0|adt 4 New 0|orphan local T Pair La New|knowable T Pair La $0 => ok|downstream";
 
-/// Types of other crates, as they are read and printed.
+/// Types of other crates, which are printed as they are read.
 const TYPES: &str = "\
-bool
-char
-str
-!
-i8
-i16
-i32
-i64
-i128
-isize
-u8
-u16
-u32
-u64
-u128
-usize
-f16
-f32
-f64
-f128
-Vec & u8
-Vec &mut u8
-*const u8
-*mut [] char
-(0)
-(2) Vec u8 (1) !65535
-Vec $255
-Vec error
-Vec Out $0
-Out Out u8
-dyn(0)
-Vec dyn(2) Trait2 $0 Out u8 Out !1
-[0] [] [3] u8
-[18446744073709551615] u8
-fn(0) u8
-fn(2) u8 fn(1) $0 ! Vec [1] u8
-Vec fn(1) dyn(1) Trait2 fn(0) u8 [2] bool (0)";
+orphan local Trait bool => nonlocal (bool, Yes)
+orphan local Trait char => nonlocal (char, Yes)
+orphan local Trait str => nonlocal (str, Yes)
+orphan local Trait ! => nonlocal (!, Yes)
+orphan local Trait i8 => nonlocal (i8, Yes)
+orphan local Trait i16 => nonlocal (i16, Yes)
+orphan local Trait i32 => nonlocal (i32, Yes)
+orphan local Trait i64 => nonlocal (i64, Yes)
+orphan local Trait i128 => nonlocal (i128, Yes)
+orphan local Trait isize => nonlocal (isize, Yes)
+orphan local Trait u8 => nonlocal (u8, Yes)
+orphan local Trait u16 => nonlocal (u16, Yes)
+orphan local Trait u32 => nonlocal (u32, Yes)
+orphan local Trait u64 => nonlocal (u64, Yes)
+orphan local Trait u128 => nonlocal (u128, Yes)
+orphan local Trait usize => nonlocal (usize, Yes)
+orphan local Trait f16 => nonlocal (f16, Yes)
+orphan local Trait f32 => nonlocal (f32, Yes)
+orphan local Trait f64 => nonlocal (f64, Yes)
+orphan local Trait f128 => nonlocal (f128, Yes)
+orphan local Trait Vec & u8 => nonlocal (Vec & u8, Yes)
+orphan local Trait Vec &mut u8 => nonlocal (Vec &mut u8, Yes)
+orphan local Trait *const u8 => nonlocal (*const u8, Yes)
+orphan local Trait *mut [] char => nonlocal (*mut [] char, Yes)
+orphan local Trait (0) => nonlocal ((0), Yes)
+orphan local Trait (2) Vec u8 (1) !65535 => nonlocal ((2) Vec u8 (1) !65535, Yes)
+orphan local Trait Vec $255 => nonlocal (Vec $255, Yes)
+orphan local Trait Vec error => nonlocal (Vec error, Yes)
+orphan local Trait Vec Out $0 => nonlocal (Vec Out $0, Yes)
+orphan local Trait Out Out u8 => nonlocal (Out Out u8, Yes)
+orphan local Trait dyn(0) => nonlocal (dyn(0), Yes)
+orphan local Trait Vec dyn(2) Trait2 $0 Out u8 Out !1 => nonlocal (Vec dyn(2) Trait2 $0 Out u8 Out !1, Yes)
+orphan local Trait [0] [] [3] u8 => nonlocal ([0] [] [3] u8, Yes)
+orphan local Trait [18446744073709551615] u8 => nonlocal ([18446744073709551615] u8, Yes)
+orphan local Trait fn(0) u8 => nonlocal (fn(0) u8, Yes)
+orphan local Trait fn(2) u8 fn(1) $0 ! Vec [1] u8 => nonlocal (fn(2) u8 fn(1) $0 ! Vec [1] u8, Yes)
+orphan local Trait Vec fn(1) dyn(1) Trait2 fn(0) u8 [2] bool (0) => nonlocal (Vec fn(1) dyn(1) Trait2 fn(0) u8 [2] bool (0), Yes)";
+
+/// A type that the check goes into, however deep it stands.
+const VISITED: &str = "\
+orphan local Trait &.. LocalType|orphan local Trait error| => ok|ok";
+
+/// A type that stands too deep for the check. What is asked then is answered.
+const STOPPED: &str = "\
+orphan local Trait &.. LocalType|orphan local Trait error| => stop 2|ok";
+
+const ROWS: &[Rows] = &[
+    (DECLARATIONS, 0, ANSWERS, Status::Done),
+    ("", 0, BY_CRATE, Status::Done),
+    (DECLARATIONS, 0, TYPES, Status::Done),
+    (DECLARATIONS, 255, VISITED, Status::Done),
+    (DECLARATIONS, 256, STOPPED, Status::Done),
+    (DECLARATIONS, 1023, STOPPED, Status::Done),
+];
 
 #[test]
-fn answers(rt: HostRuntime) {
-    check_rows(&rt, rt.alloc(), DECLARATIONS, ANSWERS, Status::Done);
-}
-
-#[test]
-fn answers_by_the_local_crate(rt: HostRuntime) {
-    check_rows(&rt, rt.alloc(), "", BY_CRATE, Status::Done);
-}
-
-#[test]
-fn passes_over_lines(rt: HostRuntime) {
-    check(&rt, rt.alloc(), "", Status::Done, "");
-    check(&rt, rt.alloc(), "\n  \n// anything\n//\n", Status::Done, "");
-    let spaced = "local 3\nlocal 002\n  trait  1 T 0 \nadt 2 L 0 enum enum\n\norphan local T L";
-    check(&rt, rt.alloc(), spaced, Status::Done, "ok\n");
-}
-
-#[test]
-fn prints_types_as_they_are_read(rt: HostRuntime) {
-    for name in TYPES.lines() {
-        let text = joined(
-            &rt,
-            rt.alloc(),
-            &[DECLARATIONS, "orphan local Trait ", name],
-        );
-        let want = joined(&rt, rt.alloc(), &["nonlocal (", name, ", Yes)\n"]);
-        check(&rt, rt.alloc(), text.as_str(), Status::Done, want.as_str());
-    }
-}
-
-#[test]
-fn goes_on_after_a_stop(rt: HostRuntime) {
-    for (references, want) in [
-        (255, "ok\nok\n"),
-        (256, "stop 2\nok\n"),
-        (1023, "stop 2\nok\n"),
-    ] {
-        let before = declared(&rt, rt.alloc(), "orphan local Trait");
-        let chain = repeated(&rt, rt.alloc(), before.as_str(), " &", references);
-        let text = joined(
-            &rt,
-            rt.alloc(),
-            &[chain.as_str(), " LocalType\norphan local Trait error\n"],
-        );
-        check(&rt, rt.alloc(), text.as_str(), Status::Done, want);
-    }
+fn answers_queries(rt: HostRuntime) {
+    check_rows(&rt, rt.alloc(), ROWS);
 }

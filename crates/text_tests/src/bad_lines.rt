@@ -1,9 +1,7 @@
 //! Texts with a bad line.
 
-use crate::cases::{DECLARATIONS, check, check_bytes, check_rows, declared, joined, repeated};
+use crate::cases::{DECLARATIONS, Rows, check_rows};
 use assembly_text::run::Status;
-use std::alloc::Global;
-use std::process::Abort;
 
 /// Whole texts, and what they print.
 const TEXTS: &str = "\
@@ -120,84 +118,26 @@ knowable Vec => line 13: unknown name Vec
 knowable Trait #0 => line 13: parameter
 knowable Trait u8 u8 => line 13: long line";
 
-#[test]
-fn says_which_bytes_are_bad(rt: HostRuntime) {
-    for (text, want) in [
-        (b"foo\x01 x".as_slice(), "line 1: bad byte\n"),
-        (b"local\t1".as_slice(), "line 1: bad byte\n"),
-        (
-            b"\n//\xff\n \nadt 1 V 0\x7f".as_slice(),
-            "line 4: bad byte\n",
-        ),
-        (b"local 1\n\xe2\x82\xac".as_slice(), "line 2: bad byte\n"),
-        (b"\xff".as_slice(), "line 1: bad byte\n"),
-        (b"local 1\r\n".as_slice(), "line 1: bad byte\n"),
-    ] {
-        check_bytes(&rt, rt.alloc(), text, Status::BadLine, want);
-    }
-}
+/// Such queries with a type that is nested as deep as may be.
+const DEEPEST: &str = "\
+orphan local Trait &.. Nope => line 13: unknown name Nope
+orphan local Trait &.. dyn(1) Trait1 u8 => line 13: stop 6
+orphan local Trait &.. Out u8 => line 13: stop 6";
+
+/// Such queries with a type that is nested deeper. Depth is looked at before the word.
+const TOO_DEEP: &str = "\
+orphan local Trait &..  => line 13: short line
+orphan local Trait &.. u8 => line 13: stop 6
+orphan local Trait &.. Nope => line 13: stop 6";
+
+const ROWS: &[Rows] = &[
+    ("", 0, TEXTS, Status::BadLine),
+    (DECLARATIONS, 0, QUERIES, Status::BadLine),
+    (DECLARATIONS, 1023, DEEPEST, Status::BadLine),
+    (DECLARATIONS, 1024, TOO_DEEP, Status::BadLine),
+];
 
 #[test]
 fn says_what_is_wrong(rt: HostRuntime) {
-    check_rows(&rt, rt.alloc(), "", TEXTS, Status::BadLine);
-}
-
-#[test]
-fn says_what_is_wrong_with_a_query(rt: HostRuntime) {
-    check_rows(&rt, rt.alloc(), DECLARATIONS, QUERIES, Status::BadLine);
-}
-
-/// A query on line 13 of so many words `&` and then the last words.
-fn check_depth(rt: &impl Abort, alloc: Global, references: usize, last: &str, want: &str) {
-    let before = declared(rt, alloc, "orphan local Trait");
-    let chain = repeated(rt, alloc, before.as_str(), " &", references);
-    let text = joined(rt, alloc, &[chain.as_str(), " ", last]);
-    check(rt, alloc, text.as_str(), Status::BadLine, want);
-}
-
-#[test]
-fn looks_at_depth_before_the_word(rt: HostRuntime) {
-    check_depth(&rt, rt.alloc(), 1024, "", "line 13: short line\n");
-    check_depth(&rt, rt.alloc(), 1024, "u8", "line 13: stop 6\n");
-    check_depth(&rt, rt.alloc(), 1024, "Nope", "line 13: stop 6\n");
-    check_depth(
-        &rt,
-        rt.alloc(),
-        1023,
-        "Nope",
-        "line 13: unknown name Nope\n",
-    );
-    check_depth(
-        &rt,
-        rt.alloc(),
-        1023,
-        "dyn(1) Trait1 u8",
-        "line 13: stop 6\n",
-    );
-    check_depth(&rt, rt.alloc(), 1023, "Out u8", "line 13: stop 6\n");
-}
-
-/// A declaration of a type with that name.
-fn check_name(rt: &impl Abort, alloc: Global, name: &str, status: Status, want: &str) {
-    let text = joined(rt, alloc, &["adt 1 ", name, " 0"]);
-    check(rt, alloc, text.as_str(), status, want);
-}
-
-#[test]
-fn limits_the_length_of_names(rt: HostRuntime) {
-    let longest = repeated(&rt, rt.alloc(), "", "n", 64);
-    check_name(&rt, rt.alloc(), longest.as_str(), Status::Done, "");
-    let longer = repeated(&rt, rt.alloc(), "", "n", 65);
-    let want = joined(
-        &rt,
-        rt.alloc(),
-        &["line 1: bad name ", longer.as_str(), "\n"],
-    );
-    check_name(
-        &rt,
-        rt.alloc(),
-        longer.as_str(),
-        Status::BadLine,
-        want.as_str(),
-    );
+    check_rows(&rt, rt.alloc(), ROWS);
 }

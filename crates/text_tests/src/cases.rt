@@ -1,6 +1,6 @@
 //! Texts with what a run over them is to print.
 
-use crate::memory::run_on;
+use crate::memory::run_with;
 use assembly_text::run::Status;
 use std::alloc::Global;
 use std::process::Abort;
@@ -20,47 +20,70 @@ trait 1 Tr 0
 assoc Tr Out
 ";
 
-/// The declarations, and then these lines.
-pub fn declared(rt: &impl Abort, alloc: Global, lines: &str) -> String {
-    joined(rt, alloc, &[DECLARATIONS, lines])
+/// How many calls devices take, and fail at the next one.
+#[derive(Clone, Copy)]
+pub struct Calls {
+    pub reads: usize,
+    pub writes: usize,
 }
+
+/// Devices that don't fail.
+pub const ALL_CALLS: Calls = Calls {
+    reads: usize::MAX,
+    writes: usize::MAX,
+};
+
+/// Rows: what each text begins with, how many words `&` stand for ` &..`, the rows, and how each run ends.
+pub type Rows = (&'static str, usize, &'static str, Status);
 
 /// One text after another.
 pub fn joined(rt: &impl Abort, alloc: Global, parts: &[&str]) -> String {
     parts.concat(alloc).expect(rt, "memory")
 }
 
-/// The first text, and then the second one so many times.
-pub fn repeated(rt: &impl Abort, alloc: Global, first: &str, second: &str, count: usize) -> String {
-    let many = second.repeat(alloc, count).expect(rt, "memory");
-    joined(rt, alloc, &[first, many.as_str()])
+/// Runs over the text with such devices, which has to end so and to write that.
+pub fn check(
+    rt: &impl Abort,
+    alloc: Global,
+    text: &[u8],
+    calls: Calls,
+    status: Status,
+    want: &[u8],
+) {
+    let Calls { reads, writes } = calls;
+    let (ended, written) = run_with(alloc, text, reads, writes);
+    assert_eq!(rt;
+        (ended, written.as_slice()),
+        (status, want),
+        "{text:?}, {reads} reads, {writes} writes"
+    );
 }
 
-/// Runs over the text, which has to end so and to print that.
-pub fn check(rt: &impl Abort, alloc: Global, text: &str, status: Status, want: &str) {
-    check_bytes(rt, alloc, text.as_bytes(), status, want);
-}
-
-/// The same, for any bytes.
-pub fn check_bytes(rt: &impl Abort, alloc: Global, text: &[u8], status: Status, want: &str) {
-    let (ended, written) = run_on(alloc, text);
-    assert_eq!(rt; ended, status, "{text:?}");
-    assert_eq!(rt; written.as_slice(), want.as_bytes(), "{text:?}");
-}
-
-/// Runs over each row: lines, ` => `, and the lines that they print after the text `before` and a last line end.
-/// `|` stands for the end of a line.
-pub fn check_rows(rt: &impl Abort, alloc: Global, before: &str, rows: &str, status: Status) {
-    for row in rows.lines() {
-        check_row(rt, alloc, before, row, status);
+/// Runs over each row of the tables.
+pub fn check_rows(rt: &impl Abort, alloc: Global, tables: &[Rows]) {
+    for (before, references, rows, status) in tables {
+        let chain = " &".repeat(alloc, *references).expect(rt, "memory");
+        for row in rows.lines() {
+            check_row(rt, alloc, before, chain.as_str(), row, *status);
+        }
     }
 }
 
-fn check_row(rt: &impl Abort, alloc: Global, before: &str, row: &str, status: Status) {
+/// Runs over a row: lines, ` => `, and the lines that they print after the text `before` and a last line end. `|` stands
+/// for the end of a line, and ` &..` for the chain.
+fn check_row(rt: &impl Abort, alloc: Global, before: &str, chain: &str, row: &str, status: Status) {
     let (lines, answers) = row.split_once(" => ").expect(rt, "a row without an answer");
     let lines = lines.replace(alloc, '|', "\n").expect(rt, "memory");
+    let lines = lines.replace(alloc, " &..", chain).expect(rt, "memory");
     let text = joined(rt, alloc, &[before, lines.as_str()]);
     let answers = answers.replace(alloc, '|', "\n").expect(rt, "memory");
     let want = joined(rt, alloc, &[answers.as_str(), "\n"]);
-    check(rt, alloc, text.as_str(), status, want.as_str());
+    check(
+        rt,
+        alloc,
+        text.as_bytes(),
+        ALL_CALLS,
+        status,
+        want.as_bytes(),
+    );
 }

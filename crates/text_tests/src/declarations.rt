@@ -1,13 +1,10 @@
 //! Texts that say what definitions hold, and what is wrong with that.
 
-use crate::cases::{DECLARATIONS, check, check_rows, joined, repeated};
-use crate::memory::run_on;
+use crate::cases::{DECLARATIONS, Rows, check_rows};
 use assembly_text::run::Status;
-use std::alloc::Global;
-use std::process::Abort;
 
 /// What most lines below are about: data types, traits, an associated and an opaque type, and impls.
-const BEFORE: &str = "\
+pub const BEFORE: &str = "\
 adt 1 V 1
 adt 1 W 2
 trait 1 T 0
@@ -21,63 +18,64 @@ foreign 1 F
 
 /// Each line in use, after the declarations.
 const CONTENTS: &str = "\
-field Vec #0
-field Vec fn(2) #0 [3] u8 dyn(2) Trait1 #0 Out Vec #0
-sized Vec #0
-sized Vec [18446744073709551615] #0
-metasized Vec [] #0
-unsizing Pair 1
-field Pair (2) #0 #1
-opaque 1 Op 2 Pair #1 Op1 #0
-opaque 0 Op0 0 u8
-super LocalTrait Trait #0
-super Trait1 Out #0 #1
-where Trait2 Trait1 #1 Vec #2
-where LocalTrait Out #0 (1) #0
-bound Out Trait1 Out #0 u8
-bound Op Out #0 #1
-nbound Out Trait #0
-nbound Op Trait Op #0 #1
-impl 1 plain 0 + Trait u8
-impl 0 Pos 1 + Trait1 Vec #0 Box #0
-impl 0 neg 2 - Trait2 #1 #0 Out #0
-impl 9 kept 0 reservation Trait dyn(0)
-iwhere Pos Trait #0
-iwhere Pos Out Vec #0 fn(0) !
-default Pos
-default Pos
-specializes Pos plain
-specializes plain Pos
-lang Sized Trait
-lang MetaSized Trait
-lang Copy Trait
-lang Clone Trait
-lang TrivialClone Trait
-lang Fn Trait1
-lang FnMut Trait1
-lang FnOnce Trait1
-lang FnPtrTrait Trait
-lang Tuple Trait
-lang PointeeTrait Trait
-lang DiscriminantKind Trait
-lang Destruct Trait
-lang Drop Trait
-lang BikeshedGuaranteedNoDrop Trait
-lang Unsize Trait1
-lang Sized Tr
-env Trait !0
-env Out Vec !1 Op !0 u8
-env Trait fn(1) !0 [3] dyn(1) Out u8
-norm Out !0 Vec u8
-norm Op !0 !1 dyn(1) Out u8
-mode coherence
-mode analysis
-mode borrowck
-mode post_borrowck
-mode post_analysis
-adt 0 Later 1
-field Later Later Later #0
-";
+opaque 1 Op1 1 #0|\
+field Vec #0|\
+field Vec fn(2) #0 [3] u8 dyn(2) Trait1 #0 Out Vec #0|\
+sized Vec #0|\
+sized Vec [18446744073709551615] #0|\
+metasized Vec [] #0|\
+unsizing Pair 1|\
+field Pair (2) #0 #1|\
+opaque 1 Op 2 Pair #1 Op1 #0|\
+opaque 0 Op0 0 u8|\
+super LocalTrait Trait #0|\
+super Trait1 Out #0 #1|\
+where Trait2 Trait1 #1 Vec #2|\
+where LocalTrait Out #0 (1) #0|\
+bound Out Trait1 Out #0 u8|\
+bound Op Out #0 #1|\
+nbound Out Trait #0|\
+nbound Op Trait Op #0 #1|\
+impl 1 plain 0 + Trait u8|\
+impl 0 Pos 1 + Trait1 Vec #0 Box #0|\
+impl 0 neg 2 - Trait2 #1 #0 Out #0|\
+impl 9 kept 0 reservation Trait dyn(0)|\
+iwhere Pos Trait #0|\
+iwhere Pos Out Vec #0 fn(0) !|\
+default Pos|\
+default Pos|\
+specializes Pos plain|\
+specializes plain Pos|\
+lang Sized Trait|\
+lang MetaSized Trait|\
+lang Copy Trait|\
+lang Clone Trait|\
+lang TrivialClone Trait|\
+lang Fn Trait1|\
+lang FnMut Trait1|\
+lang FnOnce Trait1|\
+lang FnPtrTrait Trait|\
+lang Tuple Trait|\
+lang PointeeTrait Trait|\
+lang DiscriminantKind Trait|\
+lang Destruct Trait|\
+lang Drop Trait|\
+lang BikeshedGuaranteedNoDrop Trait|\
+lang Unsize Trait1|\
+lang Sized Tr|\
+env Trait !0|\
+env Out Vec !1 Op !0 u8|\
+env Trait fn(1) !0 [3] dyn(1) Out u8|\
+norm Out !0 Vec u8|\
+norm Op !0 !1 dyn(1) Out u8|\
+mode coherence|\
+mode analysis|\
+mode borrowck|\
+mode post_borrowck|\
+mode post_analysis|\
+adt 0 Later 1|\
+field Later Later Later #0|\
+orphan local Trait Op u8 Later u8| => nonlocal (Op u8 Later u8, Yes)";
 
 /// Whole texts whose declarations have no fault, each beside one of those below.
 const FAULTLESS: &str = "\
@@ -347,96 +345,60 @@ orphan local T error|norm => ok|line 11: late declaration
 orphan local T error|mode => ok|line 11: late declaration
 orphan local T error|lang Nope => ok|line 11: late declaration";
 
-/// What begins a line of ten that a type ends.
-const TYPE_LINES: &str = "\
-field V
-sized V
-metasized V
-opaque 1 Q 0
-super T T
-super T O #0
-bound P T
-impl 1 k 0 + T
-iwhere i T
-env T
-env O u8
-norm
-norm O u8
-where T Over #0";
+/// Lines of ten that a type ends which is nested as deep as may be.
+const DEEPEST: &str = "\
+field V &.. Nope => line 10: unknown name Nope
+sized V &.. Nope => line 10: unknown name Nope
+metasized V &.. Nope => line 10: unknown name Nope
+opaque 1 Q 0 &.. Nope => line 10: unknown name Nope
+super T T &.. Nope => line 10: unknown name Nope
+super T O #0 &.. Nope => line 10: unknown name Nope
+bound P T &.. Nope => line 10: unknown name Nope
+impl 1 k 0 + T &.. Nope => line 10: unknown name Nope
+iwhere i T &.. Nope => line 10: unknown name Nope
+env T &.. Nope => line 10: unknown name Nope
+env O u8 &.. Nope => line 10: unknown name Nope
+norm &.. Nope => line 10: unknown name Nope
+norm O u8 &.. Nope => line 10: unknown name Nope
+where T Over #0 &.. Nope => line 10: unknown name Nope";
+
+/// Lines of ten that a type ends which is nested deeper. Depth is looked at before the word.
+const TOO_DEEP: &str = "\
+field V &.. Nope => line 10: stop 6
+sized V &.. Nope => line 10: stop 6
+metasized V &.. Nope => line 10: stop 6
+opaque 1 Q 0 &.. Nope => line 10: stop 6
+super T T &.. Nope => line 10: stop 6
+super T O #0 &.. Nope => line 10: stop 6
+bound P T &.. Nope => line 10: stop 6
+impl 1 k 0 + T &.. Nope => line 10: stop 6
+iwhere i T &.. Nope => line 10: stop 6
+env T &.. Nope => line 10: stop 6
+env O u8 &.. Nope => line 10: stop 6
+norm &.. Nope => line 10: stop 6
+norm O u8 &.. Nope => line 10: stop 6
+where T Over #0 &.. Nope => line 10: stop 6";
+
+const ROWS: &[Rows] = &[
+    (DECLARATIONS, 0, CONTENTS, Status::Done),
+    ("", 0, FAULTLESS, Status::Done),
+    ("", 0, FAULTS, Status::BadLine),
+];
+
+const BAD_LINES: &[Rows] = &[
+    (BEFORE, 0, BAD_TYPES, Status::BadLine),
+    (BEFORE, 0, BAD_CLAUSES, Status::BadLine),
+    (BEFORE, 0, BAD_OTHERS, Status::BadLine),
+    (BEFORE, 1023, DEEPEST, Status::BadLine),
+    (BEFORE, 1024, TOO_DEEP, Status::BadLine),
+];
 
 #[test]
-fn takes_all_lines(rt: HostRuntime) {
-    let text = joined(
-        &rt,
-        rt.alloc(),
-        &[
-            DECLARATIONS,
-            "opaque 1 Op1 1 #0\n",
-            CONTENTS,
-            "orphan local Trait Op u8 Later u8\n",
-        ],
-    );
-    let want = "nonlocal (Op u8 Later u8, Yes)\n";
-    check(&rt, rt.alloc(), text.as_str(), Status::Done, want);
-}
-
-#[test]
-fn finds_no_fault(rt: HostRuntime) {
-    check_rows(&rt, rt.alloc(), "", FAULTLESS, Status::Done);
-}
-
-#[test]
-fn finds_faults(rt: HostRuntime) {
-    check_rows(&rt, rt.alloc(), "", FAULTS, Status::BadLine);
-}
-
-#[test]
-fn says_what_is_wrong_with_contents(rt: HostRuntime) {
-    for rows in [BAD_TYPES, BAD_CLAUSES, BAD_OTHERS] {
-        check_rows(&rt, rt.alloc(), BEFORE, rows, Status::BadLine);
-    }
-}
-
-/// The line, then so many words `&`, and then the last words.
-fn check_depth(rt: &impl Abort, alloc: Global, line: &str, references: usize, want: &str) {
-    let before = joined(rt, alloc, &[BEFORE, line]);
-    let chain = repeated(rt, alloc, before.as_str(), " &", references);
-    let text = joined(rt, alloc, &[chain.as_str(), " Nope"]);
-    check(rt, alloc, text.as_str(), Status::BadLine, want);
+fn takes_declarations_and_finds_faults(rt: HostRuntime) {
+    check_rows(&rt, rt.alloc(), ROWS);
 }
 
 #[test]
-fn looks_at_depth_before_the_word(rt: HostRuntime) {
-    for line in TYPE_LINES.lines() {
-        check_depth(&rt, rt.alloc(), line, 1023, "line 10: unknown name Nope\n");
-        check_depth(&rt, rt.alloc(), line, 1024, "line 10: stop 6\n");
-    }
-}
-
-/// With this byte in the place of each other one, the text runs to an end that no device is blamed for.
-fn check_damage(rt: &impl Abort, alloc: Global, text: &str, byte: u8) {
-    for place in 0..text.len() {
-        let mut damaged = Vec::new(alloc);
-        damaged
-            .extend_from_slice(text.as_bytes())
-            .expect(rt, "memory");
-        damaged[place] = byte;
-        let (status, _) = run_on(alloc, damaged.as_slice());
-        assert!(rt; status != Status::DeviceFailed, "{place}");
-    }
-}
-
-#[test]
-fn ends_wherever_the_text_is_damaged(rt: HostRuntime) {
-    let text = joined(
-        &rt,
-        rt.alloc(),
-        &[
-            BEFORE,
-            "norm P u8 V u8\nmode analysis\norphan local T P u8\n",
-        ],
-    );
-    for byte in [b' ', b'\n', b'V', b'#', b'9', b'$'] {
-        check_damage(&rt, rt.alloc(), text.as_str(), byte);
-    }
+fn says_what_is_wrong(rt: HostRuntime) {
+    check_rows(&rt, rt.alloc(), BAD_LINES);
 }

@@ -15,3 +15,5 @@ mod devices;
 mod memory;
 #[cfg(test)]
 mod solving;
+#[cfg(test)]
+mod texts;

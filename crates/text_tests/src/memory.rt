@@ -68,8 +68,3 @@ pub fn run_with(alloc: Global, text: &[u8], reads: usize, writes: usize) -> (Sta
     let status = run_text(alloc, source, &mut sink);
     (status, sink.written)
 }
-
-/// The status of a run over the text, and what it writes.
-pub fn run_on(alloc: Global, text: &[u8]) -> (Status, Vec<u8>) {
-    run_with(alloc, text, usize::MAX, usize::MAX)
-}

@@ -1,6 +1,6 @@
 //! Goals of traits: what they come to in so many rounds.
 
-use crate::cases::{DECLARATIONS, check_rows};
+use crate::cases::{DECLARATIONS, Rows, check_rows};
 use assembly_text::run::Status;
 
 /// Lines after the declarations, and their answers.
@@ -40,12 +40,12 @@ trait 0 T 0|impl 0 r 0 reservation T u8|mode post_analysis|solve 1 T u8|solve 1 
 adt 1 Box 1 fundamental|adt 0 Local 0|trait 1 Show 0|trait 1 From 1|mode coherence|orphan local From Box $0 Local|knowable From Local u8|solve 1 Show Local => uncovered $0 local Local|ok|refused
 trait 1 Show 0|adt 0 Local 0|adt 2 New 0|impl 2 i 0 + Show New|impl 2 j 1 + Show & #0|mode coherence|solve 1 Show Local|solve 1 Show New => refused|maybe misc";
 
-#[test]
-fn goals_among_declared(rt: HostRuntime) {
-    check_rows(&rt, rt.alloc(), DECLARATIONS, AMONG_DECLARED, Status::Done);
-}
+const ROWS: &[Rows] = &[
+    (DECLARATIONS, 0, AMONG_DECLARED, Status::Done),
+    ("", 0, WHOLE, Status::Done),
+];
 
 #[test]
-fn goals_of_whole_texts(rt: HostRuntime) {
-    check_rows(&rt, rt.alloc(), "", WHOLE, Status::Done);
+fn answers_goals(rt: HostRuntime) {
+    check_rows(&rt, rt.alloc(), ROWS);
 }

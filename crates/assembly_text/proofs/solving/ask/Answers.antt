@@ -2,7 +2,7 @@ use Rattle.std.proofs.Common.{◌≡◌, false, refl, sym, subst, ◌∙◌}
 use Rattle.candidate_ir.specs.Binders.{escapes}
 use Rattle.candidate_ir.specs.Context.{Context}
 use Rattle.candidate_ir.specs.Words.{args_forest}
-use Rattle.candidate_ir.proofs.Kept.{args-kept}
+use Rattle.candidate_ir.proofs.Kept.{args-kept, grows-trans}
 use Rattle.candidate_assembly.proofs.Keeping.{trait-goal-kept}
 use Rattle.assembly_text.proofs.MayBeGiven.{goal-of}
 use Rattle.assembly_text.proofs.solving.ask.Goals as goal
@@ -17,3 +17,9 @@ run-requires-clause-goal c =
     let closed = subst (λ (x : Context). escapes 0 (args_forest x.trees c.args.predicate.trait_ref.args) ≡ false) c.cx.ensures (sym (c.has_escaping_bound_vars.ensures.list refl) ∙ c.if-has_escaping_bound_vars.false) in
     (trait-goal-kept mid c.add_roots.new.rounds.context c.in_ok-env.env c.args.predicate c.add_roots.ensures
     (goal-of old mid c.in_ok-env.env c.args.predicate c.in_ok-env.ensures.made.kept c.in_ok-env.ensures.made.sort c.requires.args c.requires.no_param c.requires.fit closed)).0
+
+pub returns-in_err-add_roots : goal.returns-in_err-add_roots
+returns-in_err-add_roots c = grows-trans _ _ _ c.in_ok-env.ensures.made.kept c.add_roots.ensures
+
+pub returns : goal.returns
+returns c = grows-trans _ _ _ (grows-trans _ _ _ c.in_ok-env.ensures.made.kept c.add_roots.ensures) c.run.ensures
