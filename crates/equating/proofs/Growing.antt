@@ -1,5 +1,4 @@
 -- Numbers stay what they are while a context grows.
-use Rattle.std.proofs.Common.{◌≡◌}
 use Rattle.candidate_ir.specs.declared.ir.kinds.GenericArg.{GenericArg}
 use Rattle.candidate_ir.specs.Context.{Context, Grows}
 use Rattle.candidate_ir.specs.Folds.{IsArg}

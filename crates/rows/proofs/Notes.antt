@@ -1,5 +1,5 @@
 -- Candidates are listed one after the other, and counted.
-use Rattle.std.proofs.Common.{◌≡◌, ◌+◌, List, [], ◌∷◌, ◌++◌, ap, refl, subst, sym, ◌∙◌, ℕ}
+use Rattle.std.proofs.Common.{◌≡◌, ◌+◌, List, [], ◌∷◌, ◌++◌, ap, refl, subst, sym, ◌∙◌}
 use Rattle.std.specs.Prelude.{cond, ◌≤◌}
 use Rattle.std.specs.List.{count_by}
 use Rattle.std.proofs.lemmas.List.Elements.{All-push}

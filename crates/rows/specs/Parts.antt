@@ -1,5 +1,5 @@
 -- Which numbers may stand in what is to be made.
-use Rattle.std.specs.Prelude.{◌≡◌, List, map}
+use Rattle.std.specs.Prelude.{List, map}
 use Rattle.candidate_ir.specs.References.{AllTake, Takes}
 use Rattle.candidate_ir.specs.Trees.{Kind, TypeKind, ConstantKind, RegionKind, ArgumentsKind, PredicatesKind, BinderKind, SignatureKind, ClauseKind, ClausesKind, VariableKind, PredicateKind, Tree}
 use Rattle.candidate_ir.specs.Words.{KindFits, ConstKindFits, ListFits, BoundsFit, AtMostOnePrincipal, SigFits, ClauseFits, ClauseListFits, clause_kind_tree, const_kind_tree, kind_tree, pred_kind_tree}

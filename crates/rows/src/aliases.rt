@@ -8,7 +8,6 @@ ghost use Rattle.candidate_ir.specs.Words.{args_forest, env_forest};
 ghost use Rattle.candidate_assembly.specs.Kinds.{IsGoal};
 ghost use Rattle.candidate_assembly.specs.TraitGoals.{arguments_held, trait_goal, types_held};
 ghost use Rattle.candidate_assembly.specs.TraitRules.{trait_rules};
-ghost use Rattle.candidate_rounds.specs.Known.{probes};
 ghost use Rattle.rows.specs.Started.{IsPlainAlias};
 
 use crate::answers::Answer;
@@ -17,6 +16,7 @@ use crate::eval::Operands;
 use crate::refusals::Refusal;
 use crate::typed::ty_at;
 use candidate_assembly::assembly::kind::GoalKind;
+use candidate_eval::eval::context::EvalCtxt;
 use candidate_ir::decl::context::Cx;
 use candidate_ir::decl::make::Make;
 use candidate_ir::ir::heads::Flag;
@@ -24,7 +24,6 @@ use candidate_ir::ir::kinds::{AliasTy, ParamEnv, TraitPredicate, TyKind};
 use candidate_ir::ir::marks::Unsolved;
 use candidate_ir::ir::numbered::Numbered;
 use candidate_ir::ir::trees::Trees;
-use candidate_rounds::rounds::Rounds;
 use std::alloc::Global;
 
 /// `Refusal::Condition` comes where a variable stands in the list.
@@ -67,17 +66,15 @@ fn solved_goal(cx: &Cx, of: Operands) -> Result<(ParamEnv, TraitPredicate), Refu
 }
 
 /// The candidates that goals of traits add at the alias that is the third operand. No variable stands in the goal and in the alias.
-pub(crate) fn additional(
+pub(crate) fn additional<E: EvalCtxt>(
     alloc: Global,
-    rounds: &mut Rounds,
+    ecx: &mut E,
     of: Operands,
 ) -> Result<Answer, Refusal>
-    ensures { probes rounds.new ≡ probes rounds.old }
+    ensures { E.probes ecx.new ≡ E.probes ecx.old }
 {
-    let (env, predicate) = solved_goal(rounds.cx(), of)?;
-    let alias = alias_at(rounds.cx(), of.third)?;
-    let list = GoalKind::consider_additional_alias_assumptions(
-        alloc, rounds, env, predicate, alias,
-    )?;
+    let (env, predicate) = solved_goal(ecx.cx(), of)?;
+    let alias = alias_at(ecx.cx(), of.third)?;
+    let list = GoalKind::consider_additional_alias_assumptions(alloc, ecx, env, predicate, alias)?;
     found_rows(alloc, list.as_slice())
 }

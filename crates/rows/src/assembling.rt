@@ -6,8 +6,7 @@ ghost use Rattle.candidate_assembly.specs.Kinds.{IsGoal};
 ghost use Rattle.candidate_assembly.specs.Standing.{GoalStands};
 ghost use Rattle.candidate_assembly.specs.TraitGoals.{arguments_held, trait_goal, types_held};
 ghost use Rattle.candidate_assembly.specs.TraitRules.{trait_rules};
-ghost use Rattle.candidate_rounds.specs.Interface.{fixed};
-ghost use Rattle.candidate_rounds.specs.Known.{IsGiven, probes, state};
+ghost use Rattle.candidate_rounds.specs.Known.{IsGiven, state};
 ghost use Rattle.rows.specs.Started.{MayBeGiven, started};
 
 use crate::answers::Answer;
@@ -110,20 +109,20 @@ fn standing_goal(
 
 /// The response to the goal, where the goal of its trait is proved as the row says. Beside assumptions too little is known if the row says
 /// `bails`; without such the answer is yes, or, if the row says `refuses`, a refusal.
-fn answered(
+fn answered<E: EvalCtxt>(
     alloc: Global,
-    rounds: &mut Rounds,
+    ecx: &mut E,
     row: Row<'_>,
     env: ParamEnv,
     predicate: TraitPredicate,
 ) -> Result<Answer, Refusal>
-    requires goal { IsGoal trait_rules arguments_held types_held trait_goal rounds.old.context env predicate }
-    requires stands { GoalStands trait_rules (state rounds.old) (trait_goal rounds.old.context.trees env predicate) }
+    requires goal { IsGoal trait_rules arguments_held types_held trait_goal (E.context ecx.old) env predicate }
+    requires stands { GoalStands trait_rules (E.state ecx.old) (trait_goal (E.context ecx.old).trees env predicate) }
 {
     let via = value_of(&VIAS, row.second).ok_or(Refusal::UnknownWord)?;
     let (bails, refuses) = (row.has("bails"), row.has("refuses"));
-    let ambiguity = |ecx: &mut Rounds| -> Option<Result<CanonicalResponse, NoSolutionOrStop>>
-        ensures { Keeps fixed probes (λ r. r.context) ecx.old ecx.new }
+    let ambiguity = |ecx: &mut E| -> Option<Result<CanonicalResponse, NoSolutionOrStop>>
+        ensures { Keeps E.fixed E.probes E.context ecx.old ecx.new }
     {
         if !bails {
             return None;
@@ -133,40 +132,38 @@ fn answered(
             Err(stop) => Some(Err(NoSolutionOrStop::Stop(stop))),
         }
     };
-    let rigid = |ecx: &mut Rounds| -> Result<CanonicalResponse, NoSolutionOrStop>
-        ensures { Keeps fixed probes (λ r. r.context) ecx.old ecx.new }
+    let rigid = |ecx: &mut E| -> Result<CanonicalResponse, NoSolutionOrStop>
+        ensures { Keeps E.fixed E.probes E.context ecx.old ecx.new }
     {
         if refuses {
             return Err(NoSolutionOrStop::NoSolution);
         }
         ecx.evaluate_added_goals_and_make_canonical_response(Certainty::Yes)
     };
-    let response = assemble_and_merge_candidates(
-        alloc, rounds, via, env, predicate, ambiguity, rigid,
-    )?;
-    responded(alloc, &response)
+    let outcome = assemble_and_merge_candidates(alloc, ecx, via, env, predicate, ambiguity, rigid);
+    responded(alloc, outcome)
 }
 
 /// All candidates for the goal, each with its source and its response; or what the goal comes to.
-fn of_goal(
+fn of_goal<E: EvalCtxt>(
     alloc: Global,
-    rounds: &mut Rounds,
+    ecx: &mut E,
     start: &Start,
     row: Row<'_>,
     of: Operands,
 ) -> Result<Answer, Refusal>
-    requires { state rounds.old ≡ started start.now.mode start.now.kinds.items }
+    requires { E.state ecx.old ≡ started start.now.mode start.now.kinds.items }
 {
-    let (env, predicate) = standing_goal(rounds.cx(), start, of)?;
+    let (env, predicate) = standing_goal(ecx.cx(), start, of)?;
     match row.verb {
         "prove" => {
-            let (response, via) = compute_trait_goal(alloc, rounds, env, predicate)?;
-            proved(alloc, &response, via)
+            let outcome = compute_trait_goal(alloc, ecx, env, predicate);
+            proved(alloc, outcome)
         }
-        "answer" => answered(alloc, rounds, row, env, predicate),
+        "answer" => answered(alloc, ecx, row, env, predicate),
         _ => {
             let from = value_of(&FROM, row.second).ok_or(Refusal::UnknownWord)?;
-            let (list, _) = assemble_and_evaluate_candidates(alloc, rounds, env, predicate, from)?;
+            let (list, _) = assemble_and_evaluate_candidates(alloc, ecx, env, predicate, from)?;
             found_rows(alloc, list.as_slice())
         }
     }

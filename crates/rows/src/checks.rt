@@ -4,7 +4,7 @@ ghost use Rattle.std.specs.Prelude.{◌≡◌, IfOk};
 ghost use Rattle.candidate_ir.specs.Context.{Grows};
 ghost use Rattle.candidate_ir.specs.Words.{IsArgs, IsTy};
 
-use crate::answers::{Answer, Item};
+use crate::answers::{Answer, Item, Items};
 use crate::refusals::Refusal;
 use crate::rows::Row;
 use crate::tables::value_of;
@@ -90,37 +90,37 @@ fn normal<M: Make>(maker: &mut M, ty: Ty, way: Way) -> Result<Ty, NormalizeErr<u
 
 /// The types that aren't local, in order, and which of them is the first input.
 fn not_local(alloc: Global, types: &[(Ty, IsFirstInputType)]) -> Result<Answer, Refusal> {
-    let mut items = Vec::new(alloc);
-    items.push(Item::Word("not_local"))?;
+    let mut items = Items::new(alloc);
+    items.push(Item::Word("not_local"));
     for (ty, is_first) in types {
-        items.push(Item::Node(ty.0))?;
+        items.push(Item::Node(ty.0));
         if *is_first == IsFirstInputType::Yes {
-            items.push(Item::Word("first"))?;
+            items.push(Item::Word("first"));
         }
     }
-    Ok(Answer::Row(items))
+    items.row()
 }
 
 /// What no type covers, and the first local type, if there is one.
 fn uncovered(alloc: Global, found: &UncoveredTyParams<Ty>) -> Result<Answer, Refusal> {
-    let mut items = Vec::new(alloc);
-    items.push(Item::Word("uncovered"))?;
-    items.push(Item::Node(found.uncovered.0))?;
+    let mut items = Items::new(alloc);
+    items.push(Item::Word("uncovered"));
+    items.push(Item::Node(found.uncovered.0));
     if let Some(local) = found.local_ty {
-        items.push(Item::Word("before"))?;
-        items.push(Item::Node(local.0))?;
+        items.push(Item::Word("before"));
+        items.push(Item::Node(local.0));
     }
-    Ok(Answer::Row(items))
+    items.row()
 }
 
 /// Why a check has no answer: its normaliser failed with a number, or it stopped.
 fn stopped(alloc: Global, stop: OrphanStop<u32>) -> Result<Answer, Refusal> {
     match stop {
         OrphanStop::Normalize(number) => {
-            let mut items = Vec::new(alloc);
-            items.push(Item::Word("failed"))?;
-            items.push(Item::Count(number as usize))?;
-            Ok(Answer::Row(items))
+            let mut items = Items::new(alloc);
+            items.push(Item::Word("failed"));
+            items.push(Item::Count(number as usize));
+            items.row()
         }
         OrphanStop::Stop(stop) => Err(Refusal::Stop(stop)),
     }
@@ -158,10 +158,11 @@ fn coherence<C: InferCtxtLike>(
     infcx: &mut C,
     trait_ref: TraitRef,
     in_crate: Option<InCrate>,
-    way: Way,
+    word: &str,
 ) -> Result<Answer, Refusal>
     requires { IsArgs (C.context infcx.old).trees trait_ref.args }
 {
+    let way = value_of(&WAYS, word).ok_or(Refusal::Condition)?;
     if infcx.cx().has_param(trait_ref) || !infcx.cx().trait_ref_args_fit(trait_ref) {
         return Err(Refusal::Condition);
     }
@@ -212,17 +213,11 @@ pub(crate) fn answer<C: InferCtxtLike>(
     let truth = match row.verb {
         "is_plain" => trait_ref_is_plain(infcx.cx(), trait_ref),
         "is_local_or_fundamental" => trait_ref_is_local_or_fundamental(infcx.cx(), trait_ref),
-        _ => {
-            let (in_crate, way) = match row.verb {
-                "check" => (value_of(&CRATES, row.first), value_of(&WAYS, row.second)),
-                _ => (None, value_of(&WAYS, row.first)),
-            };
-            if row.verb == "check" && in_crate.is_none() {
-                return Err(Refusal::Condition);
-            }
-            let way = way.ok_or(Refusal::Condition)?;
-            return coherence(alloc, infcx, trait_ref, in_crate, way);
+        "check" => {
+            let in_crate = value_of(&CRATES, row.first).ok_or(Refusal::Condition)?;
+            return coherence(alloc, infcx, trait_ref, Some(in_crate), row.second);
         }
+        _ => return coherence(alloc, infcx, trait_ref, None, row.first),
     };
     Ok(Answer::One(Item::Truth(truth)))
 }

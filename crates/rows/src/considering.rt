@@ -1,15 +1,14 @@
 //! Rows that ask the rules by which goals of traits are proved.
 
-ghost use Rattle.std.specs.Prelude.{◌≡◌, IfOk, false};
+ghost use Rattle.std.specs.Prelude.{◌≡◌, IfOk, OnOk, false};
 ghost use Rattle.candidate_ir.specs.Trees.{is_param, tree_holds};
 ghost use Rattle.candidate_ir.specs.Words.{IsClause, clause_tree};
 ghost use Rattle.candidate_assembly.specs.Kinds.{IsGoal, IsTyped};
 ghost use Rattle.candidate_assembly.specs.TraitGoals.{arguments_held, trait_goal, types_held};
 ghost use Rattle.candidate_assembly.specs.TraitRules.{trait_rules};
-ghost use Rattle.candidate_rounds.specs.Known.{probes};
 
 use crate::aliases;
-use crate::answers::{Answer, Item};
+use crate::answers::{Answer, Item, Items};
 use crate::eval::Operands;
 use crate::merging::{certainty, push_certainty, push_response};
 use crate::reader::Reader;
@@ -25,6 +24,7 @@ use candidate_assembly::assembly::matching::probe_and_consider_implied_clause;
 use candidate_assembly::assembly::steps::forced_ambiguity;
 use candidate_eval::eval::certainty::Certainty;
 use candidate_eval::eval::clauses::{predicate_in, self_ty};
+use candidate_eval::eval::context::EvalCtxt;
 use candidate_eval::eval::response::Candidate;
 use candidate_eval::eval::source::{BuiltinImplSource, CandidateSource, ParamEnvSource};
 use candidate_eval::structural::callable::has_callable_cell;
@@ -34,7 +34,6 @@ use candidate_ir::decl::make::Make;
 use candidate_ir::ir::heads::Flag;
 use candidate_ir::ir::kinds::{Clause, ClosureKind, GoalSource, ParamEnv, TraitPredicate};
 use candidate_ir::ir::trees::Trees;
-use candidate_rounds::rounds::Rounds;
 use std::alloc::{AllocError, Global};
 
 /// The words of rules.
@@ -97,11 +96,11 @@ pub(crate) fn source_of(reader: &Reader<'_>, row: Row<'_>) -> Option<CandidateSo
 }
 
 /// Adds what is printed for a source: an impl's name, or a word, behind which stands the number of a supertrait.
-fn push_source(items: &mut Vec<Item>, source: CandidateSource) -> Result<(), AllocError> {
+fn push_source(items: &mut Items, source: CandidateSource) {
     let (word, number) = match source {
         CandidateSource::Impl(id) => {
-            items.push(Item::Impl(id))?;
-            return Ok(());
+            items.push(Item::Impl(id));
+            return;
         }
         CandidateSource::BuiltinImpl(BuiltinImplSource::Object(number)) => ("object", number),
         CandidateSource::BuiltinImpl(BuiltinImplSource::TraitUpcasting(number)) => {
@@ -109,35 +108,40 @@ fn push_source(items: &mut Vec<Item>, source: CandidateSource) -> Result<(), All
         }
         source => {
             let word = word_for(&SOURCES, source).unwrap_or(UNNAMED);
-            items.push(Item::Word(word))?;
-            return Ok(());
+            items.push(Item::Word(word));
+            return;
         }
     };
-    items.push(Item::Word(word))?;
-    items.push(Item::Count(number))?;
-    Ok(())
+    items.push(Item::Word(word));
+    items.push(Item::Count(number));
 }
 
-/// The source of the candidate, and its response.
-fn found_items(alloc: Global, candidate: &Candidate) -> Result<Vec<Item>, Refusal> {
-    let mut items = Vec::new(alloc);
-    push_source(&mut items, candidate.source)?;
-    push_response(&mut items, &candidate.result)?;
-    Ok(items)
+/// Adds the source of the candidate, and its response.
+fn push_candidate(items: &mut Items, candidate: &Candidate) {
+    push_source(items, candidate.source);
+    push_response(items, &candidate.result);
 }
 
-/// The same as an answer.
-fn found(alloc: Global, candidate: &Candidate) -> Result<Answer, Refusal> {
-    Ok(Answer::Row(found_items(alloc, candidate)?))
+/// The candidate, if there is one.
+fn found<E>(alloc: Global, outcome: Result<Candidate, E>) -> Result<Answer, Refusal>
+where
+    Refusal: From<E>,
+{
+    let mut items = Items::new(alloc);
+    push_candidate(&mut items, &outcome?);
+    items.row()
 }
 
 /// The candidates, each with its source and its response.
 pub(crate) fn found_rows(alloc: Global, list: &[Candidate]) -> Result<Answer, Refusal> {
-    let mut rows = Vec::new(alloc);
-    for candidate in list {
-        rows.push(found_items(alloc, candidate)?)?;
+    let mut items = Items::new(alloc);
+    for (place, candidate) in list.iter().enumerate() {
+        if place > 0 {
+            items.push(Item::Next);
+        }
+        push_candidate(&mut items, candidate);
     }
-    Ok(Answer::Rows(rows))
+    items.rows()
 }
 
 /// The goal that the clause says, in the environment. `Refusal::Condition` comes where it says nothing of a trait, and where a parameter
@@ -155,16 +159,15 @@ pub(crate) fn goal_at(cx: &Cx, env: u32, clause: u32) -> Result<(ParamEnv, Trait
     Ok((env, predicate))
 }
 
-/// The same, of a goal whose self type is neither a general variable nor a bound type; that it is one is a `Refusal::Condition`, too.
-fn typed_goal_at(cx: &Cx, env: u32, clause: u32) -> Result<(ParamEnv, TraitPredicate), Refusal>
-    ensures goal { IfOk result (λ g. IsGoal trait_rules arguments_held types_held trait_goal cx.now g.0 g.1) }
-    ensures typed { IfOk result (λ g. IsTyped trait_rules cx.now (trait_goal cx.now.trees g.0 g.1)) }
+/// That the goal's self type is neither a general variable nor a bound type; that it is one is a `Refusal::Condition`.
+fn expect_typed(cx: &Cx, env: ParamEnv, predicate: TraitPredicate) -> Result<(), Refusal>
+    requires { IsGoal trait_rules arguments_held types_held trait_goal cx.now env predicate }
+    ensures { OnOk result (IsTyped trait_rules cx.now (trait_goal cx.now.trees env predicate)) }
 {
-    let (env, predicate) = goal_at(cx, env, clause)?;
     if !has_callable_cell(cx, self_ty(cx, predicate.trait_ref)) {
         return Err(Refusal::Condition);
     }
-    Ok((env, predicate))
+    Ok(())
 }
 
 /// The clause of that number, in which no parameter may stand.
@@ -179,165 +182,221 @@ fn plain_clause_at(cx: &Cx, number: u32) -> Result<Clause, Refusal>
 }
 
 /// The candidate by a clause of the environment.
-fn by_clause(alloc: Global, rounds: &mut Rounds, of: Operands) -> Result<Answer, Refusal>
-    ensures { probes rounds.new ≡ probes rounds.old }
+fn by_clause<E: EvalCtxt>(
+    alloc: Global,
+    ecx: &mut E,
+    env: ParamEnv,
+    predicate: TraitPredicate,
+    clause: u32,
+) -> Result<Answer, Refusal>
+    requires { IsGoal trait_rules arguments_held types_held trait_goal (E.context ecx.old) env predicate }
+    ensures { E.probes ecx.new ≡ E.probes ecx.old }
 {
-    let (env, predicate) = goal_at(rounds.cx(), of.left, of.right)?;
-    let clause = plain_clause_at(rounds.cx(), of.third)?;
+    let clause = plain_clause_at(ecx.cx(), clause)?;
     let outcome = TraitPredicate::probe_and_consider_param_env_candidate(
-        alloc, rounds, env, predicate, clause,
-    )?;
+        alloc, ecx, env, predicate, clause,
+    );
     match outcome {
-        Ok(candidate) => found(alloc, &candidate),
-        Err(_) => Err(Refusal::NoSolution),
+        Ok(outcome) => found(alloc, outcome),
+        Err(stop) => Err(Refusal::Stop(stop)),
     }
 }
 
 /// The candidate by a clause that implies the goal where another one holds, if the row names one.
-fn by_implied_clause(
+fn by_implied_clause<E: EvalCtxt>(
     alloc: Global,
-    rounds: &mut Rounds,
-    row: Row<'_>,
-    of: Operands,
-    required: u32,
+    ecx: &mut E,
+    env: ParamEnv,
+    predicate: TraitPredicate,
+    clause: u32,
+    required: Option<u32>,
 ) -> Result<Answer, Refusal>
-    ensures { probes rounds.new ≡ probes rounds.old }
+    requires { IsGoal trait_rules arguments_held types_held trait_goal (E.context ecx.old) env predicate }
+    ensures { E.probes ecx.new ≡ E.probes ecx.old }
 {
-    let (env, predicate) = goal_at(rounds.cx(), of.left, of.right)?;
-    let clause = plain_clause_at(rounds.cx(), of.third)?;
+    let clause = plain_clause_at(ecx.cx(), clause)?;
     let source = CandidateSource::BuiltinImpl(BuiltinImplSource::Misc);
-    if row.second.is_empty() {
-        let candidate = probe_and_consider_implied_clause(
-            alloc,
-            rounds,
-            source,
-            env,
-            predicate,
-            clause,
-            &[],
-        )?;
-        return found(alloc, &candidate);
-    }
-    let required = plain_clause_at(rounds.cx(), required)?;
-    let requirements = [(GoalSource::Misc, required)];
-    let candidate = probe_and_consider_implied_clause(
-        alloc,
-        rounds,
-        source,
-        env,
-        predicate,
-        clause,
-        &requirements,
-    )?;
-    found(alloc, &candidate)
+    let outcome = match required {
+        None => probe_and_consider_implied_clause(alloc, ecx, source, env, predicate, clause, &[]),
+        Some(required) => {
+            let required = plain_clause_at(ecx.cx(), required)?;
+            probe_and_consider_implied_clause(
+                alloc,
+                ecx,
+                source,
+                env,
+                predicate,
+                clause,
+                &[(GoalSource::Misc, required)],
+            )
+        }
+    };
+    found(alloc, outcome)
 }
 
-/// The candidate of the rule, or of the impl, that the row names.
-fn consider(
+/// The candidate of the language's rule of that word.
+fn by_rule<E: EvalCtxt>(
     alloc: Global,
-    rounds: &mut Rounds,
-    row: Row<'_>,
-    of: Operands,
-    named: u32,
+    ecx: &mut E,
+    env: ParamEnv,
+    predicate: TraitPredicate,
+    word: &str,
 ) -> Result<Answer, Refusal>
-    ensures { probes rounds.new ≡ probes rounds.old }
+    requires { IsGoal trait_rules arguments_held types_held trait_goal (E.context ecx.old) env predicate }
+    ensures { E.probes ecx.new ≡ E.probes ecx.old }
 {
-    if row.first == "where" {
-        return by_clause(alloc, rounds, of);
-    }
-    if row.first == "implied" {
-        return by_implied_clause(alloc, rounds, row, of, named);
-    }
-    if row.first == "impl" {
-        let (env, predicate) = goal_at(rounds.cx(), of.left, of.right)?;
-        let id = ImplId(named);
-        let candidate = consider_impl_and_respond(alloc, rounds, env, predicate, id)?;
-        return found(alloc, &candidate);
-    }
-    let rule = value_of(&RULES, row.first).ok_or(Refusal::Condition)?;
-    let (env, predicate) = typed_goal_at(rounds.cx(), of.left, of.right)?;
-    let candidate = consider_language_rule(alloc, rounds, env, predicate, rule)?;
-    found(alloc, &candidate)
+    let rule = value_of(&RULES, word).ok_or(Refusal::Condition)?;
+    expect_typed(ecx.cx(), env, predicate)?;
+    let outcome = consider_language_rule(alloc, ecx, env, predicate, rule);
+    found(alloc, outcome)
 }
 
 /// The candidate that is as sure as the row says, whatever the goal.
-fn forced(alloc: Global, rounds: &mut Rounds, row: Row<'_>, of: Operands) -> Result<Answer, Refusal>
-    ensures { probes rounds.new ≡ probes rounds.old }
+fn forced<E: EvalCtxt>(
+    alloc: Global,
+    ecx: &mut E,
+    row: Row<'_>,
+    env: u32,
+) -> Result<Answer, Refusal>
+    ensures { E.probes ecx.new ≡ E.probes ecx.old }
 {
-    let env = env_at(rounds.cx(), of.left)?;
+    let env = env_at(ecx.cx(), env)?;
     let (_, words) = row.words.split_once(' ').unwrap_or((row.words, ""));
     let Some(Certainty::Maybe(maybe)) = certainty(words) else {
         return Err(Refusal::Condition);
     };
-    let candidate = forced_ambiguity(alloc, rounds, env, maybe)?;
-    found(alloc, &candidate)
+    let outcome = forced_ambiguity(alloc, ecx, env, maybe);
+    found(alloc, outcome)
 }
 
 /// Whether the clause is global, and how sure its candidate is at most.
-fn characterized(alloc: Global, rounds: &mut Rounds, of: Operands) -> Result<Answer, Refusal>
-    ensures { probes rounds.new ≡ probes rounds.old }
+fn characterized<E: EvalCtxt>(
+    alloc: Global,
+    ecx: &mut E,
+    env: u32,
+    clause: u32,
+) -> Result<Answer, Refusal>
+    ensures { E.probes ecx.new ≡ E.probes ecx.old }
 {
-    let env = env_at(rounds.cx(), of.left)?;
-    let clause = clause_at(rounds.cx(), of.right)?;
-    let (source, certainty) = characterize_param_env_assumption(alloc, rounds, env, clause)?;
-    let mut items = Vec::new(alloc);
-    push_source(&mut items, CandidateSource::ParamEnv(source))?;
-    push_certainty(&mut items, certainty)?;
-    Ok(Answer::Row(items))
+    let env = env_at(ecx.cx(), env)?;
+    let clause = clause_at(ecx.cx(), clause)?;
+    let (source, certainty) = characterize_param_env_assumption(alloc, ecx, env, clause)?;
+    let mut items = Items::new(alloc);
+    push_source(&mut items, CandidateSource::ParamEnv(source));
+    push_certainty(&mut items, certainty);
+    items.row()
 }
 
-/// What the goal is about, whether it holds an error, or the goal with another self type or with all values put in.
-fn about(alloc: Global, rounds: &mut Rounds, row: Row<'_>, of: Operands) -> Result<Answer, Refusal>
-    ensures { probes rounds.new ≡ probes rounds.old }
+/// The goal's reference with all values put in, in the environment of that number.
+fn resolved<E: EvalCtxt>(
+    ecx: &mut E,
+    env: ParamEnv,
+    predicate: TraitPredicate,
+    resolved_env: u32,
+) -> Result<Answer, Refusal>
+    requires { IsGoal trait_rules arguments_held types_held trait_goal (E.context ecx.old) env predicate }
+    ensures { E.probes ecx.new ≡ E.probes ecx.old }
 {
-    let (env, predicate) = goal_at(rounds.cx(), of.left, of.right)?;
-    let cx = rounds.cx();
-    let item = match row.first {
-        "type" => Item::Node(GoalKind::<Rounds>::self_ty(cx, env, predicate).0),
-        "reference" => Item::Reference(GoalKind::<Rounds>::trait_ref(cx, env, predicate)),
-        "trait" => Item::Definition(GoalKind::<Rounds>::trait_def_id(cx, env, predicate).0),
-        "error" => Item::Truth(GoalKind::<Rounds>::holds_error(cx, env, predicate)),
-        "resolved" => {
-            let resolved = env_at(cx, of.third)?;
-            let goal = GoalKind::resolve_vars_if_possible(rounds, env, predicate, resolved)?;
-            Item::Reference(goal.trait_ref)
-        }
-        _ => {
-            let self_ty = ty_at(rounds.cx(), of.third)?;
-            let other = GoalKind::with_replaced_self_ty(alloc, rounds, env, predicate, self_ty)?;
-            Item::Reference(other.trait_ref)
-        }
+    let resolved_env = env_at(ecx.cx(), resolved_env)?;
+    let goal = GoalKind::resolve_vars_if_possible(ecx, env, predicate, resolved_env)?;
+    Ok(Answer::One(Item::Reference(goal.trait_ref)))
+}
+
+/// The goal's reference with the type of that number as its self type.
+fn with_self_type<E: EvalCtxt>(
+    alloc: Global,
+    ecx: &mut E,
+    env: ParamEnv,
+    predicate: TraitPredicate,
+    self_ty: u32,
+) -> Result<Answer, Refusal>
+    requires { IsGoal trait_rules arguments_held types_held trait_goal (E.context ecx.old) env predicate }
+    ensures { E.probes ecx.new ≡ E.probes ecx.old }
+{
+    let self_ty = ty_at(ecx.cx(), self_ty)?;
+    let goal = GoalKind::with_replaced_self_ty(alloc, ecx, env, predicate, self_ty)?;
+    Ok(Answer::One(Item::Reference(goal.trait_ref)))
+}
+
+/// What the goal is about, by the word, or whether it holds an error.
+fn about<E: EvalCtxt>(
+    cx: &Cx,
+    env: ParamEnv,
+    predicate: TraitPredicate,
+    word: &str,
+) -> Result<Answer, Refusal>
+    requires { IsGoal trait_rules arguments_held types_held trait_goal cx.now env predicate }
+{
+    let item = match word {
+        "type" => Item::Node(GoalKind::<E>::self_ty(cx, env, predicate).0),
+        "reference" => Item::Reference(GoalKind::<E>::trait_ref(cx, env, predicate)),
+        "trait" => Item::Definition(GoalKind::<E>::trait_def_id(cx, env, predicate).0),
+        _ => Item::Truth(GoalKind::<E>::holds_error(cx, env, predicate)),
     };
     Ok(Answer::One(item))
 }
 
-/// Whether the clause passes the goal's quick rejection.
-fn passes(rounds: &Rounds, of: Operands) -> Result<Answer, Refusal> {
-    let (env, predicate) = goal_at(rounds.cx(), of.left, of.right)?;
-    let clause = clause_at(rounds.cx(), of.third)?;
-    let answer = GoalKind::<Rounds>::fast_reject_assumption(rounds.cx(), env, predicate, clause);
+/// Whether the clause of that number passes the goal's quick rejection.
+fn passes<E: EvalCtxt>(
+    cx: &Cx,
+    env: ParamEnv,
+    predicate: TraitPredicate,
+    clause: u32,
+) -> Result<Answer, Refusal>
+    requires { IsGoal trait_rules arguments_held types_held trait_goal cx.now env predicate }
+{
+    let clause = clause_at(cx, clause)?;
+    let answer = GoalKind::<E>::fast_reject_assumption(cx, env, predicate, clause);
     Ok(Answer::One(Item::Truth(answer.is_ok())))
 }
 
+/// What the row asks of the goal of the first two operands; `named` is the number of what its second word names.
+fn of_goal<E: EvalCtxt>(
+    alloc: Global,
+    ecx: &mut E,
+    row: Row<'_>,
+    of: Operands,
+    named: u32,
+) -> Result<Answer, Refusal>
+    ensures { E.probes ecx.new ≡ E.probes ecx.old }
+{
+    let (env, predicate) = goal_at(ecx.cx(), of.left, of.right)?;
+    match row.verb {
+        "consider" => match row.first {
+            "where" => by_clause(alloc, ecx, env, predicate, of.third),
+            "implied" => {
+                let required = (!row.second.is_empty()).then_some(named);
+                by_implied_clause(alloc, ecx, env, predicate, of.third, required)
+            }
+            "impl" => {
+                let outcome = consider_impl_and_respond(alloc, ecx, env, predicate, ImplId(named));
+                found(alloc, outcome)
+            }
+            word => by_rule(alloc, ecx, env, predicate, word),
+        },
+        "about" => match row.first {
+            "resolved" => resolved(ecx, env, predicate, of.third),
+            "other" => with_self_type(alloc, ecx, env, predicate, of.third),
+            word => about::<E>(ecx.cx(), env, predicate, word),
+        },
+        _ => passes::<E>(ecx.cx(), env, predicate, of.third),
+    }
+}
+
 /// What the row asks, if it is one of these rows.
-pub(crate) fn answer(
+pub(crate) fn answer<E: EvalCtxt>(
     reader: &Reader<'_>,
-    rounds: &mut Rounds,
+    ecx: &mut E,
     row: Row<'_>,
     of: Operands,
 ) -> Result<Answer, Refusal>
-    ensures { probes rounds.new ≡ probes rounds.old }
+    ensures { E.probes ecx.new ≡ E.probes ecx.old }
 {
     let alloc = reader.alloc;
     match row.verb {
-        "consider" => {
-            let named = reader.number(row.second);
-            consider(alloc, rounds, row, of, named)
-        }
-        "forced" => forced(alloc, rounds, row, of),
-        "characterize" => characterized(alloc, rounds, of),
-        "about" => about(alloc, rounds, row, of),
-        "additional" => aliases::additional(alloc, rounds, of),
-        _ => passes(rounds, of),
+        "forced" => forced(alloc, ecx, row, of.left),
+        "characterize" => characterized(alloc, ecx, of.left, of.right),
+        "additional" => aliases::additional(alloc, ecx, of),
+        _ => of_goal(alloc, ecx, row, of, reader.number(row.second)),
     }
 }

@@ -22,10 +22,11 @@ pub(crate) fn made<'a, T: Table>(
     table: &mut T,
     row: Row<'a>,
 ) -> Result<Operands, Refusal> {
+    let [left, right, third] = reader.operands(table, row)?;
     Ok(Operands {
-        left: reader.operand(table, row.left)?.node(),
-        right: reader.operand(table, row.right)?.node(),
-        third: reader.operand(table, row.third)?.node(),
+        left: left.node(),
+        right: right.node(),
+        third: third.node(),
     })
 }
 

@@ -3,7 +3,7 @@
 ghost use Rattle.std.specs.Prelude.{◌≡◌, [], IfOk};
 ghost use Rattle.candidate_rounds.specs.Known.{IsGiven, probes};
 
-use crate::answers::{Answer, Item};
+use crate::answers::{Answer, Item, Items};
 use crate::checks;
 use crate::eval::{Operands, made};
 use crate::evaluator::{self, MODES};
@@ -90,12 +90,10 @@ impl<'a> Session<'a> {
     /// Ends the evaluator, and says how many pairs and opaque types it was given.
     pub(crate) fn leave(&mut self, rounds: Rounds) -> Cx {
         let (cx, normal, opaques) = rounds.into_parts();
-        let counts = [Item::Count(normal.len()), Item::Count(opaques.len())];
-        let outcome = match Vec::from_slice(self.reader.alloc, &counts) {
-            Ok(items) => Ok(Answer::List(items)),
-            Err(error) => Err(Refusal::from(error)),
-        };
-        self.print(None, outcome);
+        let mut counts = Items::new(self.reader.alloc);
+        counts.push(Item::Count(normal.len()));
+        counts.push(Item::Count(opaques.len()));
+        self.print(None, counts.list());
         cx
     }
 

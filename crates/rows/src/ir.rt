@@ -5,14 +5,16 @@ ghost use Rattle.candidate_ir.specs.Context.{Grows};
 ghost use Rattle.candidate_ir.specs.Folds.{IsArg, IsOfKind};
 ghost use Rattle.candidate_ir.specs.Words.{IsVars, IsPreds};
 
-use crate::answers::{Answer, Item};
+use crate::answers::{Answer, Item, Items, node};
 use crate::leaves::number_in;
-use crate::lookups::{held, listed, said_of};
+use crate::lookups::{held, listed_answer, said_of};
 use crate::parts::{NodeSort, Part, is_at, make, sort_at};
 use crate::reader::Reader;
 use crate::refusals::Refusal;
 use crate::rows::Row;
 use crate::tables::value_of;
+use crate::terms::{Term, term_at};
+use crate::typed::{args_at, ty_at};
 use crate::values::Value;
 use candidate_ir::decl::context::Cx;
 use candidate_ir::decl::elaborate::{elaborate, implied, supertrait_def_ids, supertraits};
@@ -27,7 +29,6 @@ use candidate_ir::ir::kinds::{
     Args, Binder, Clause, Const, ExistentialPredicate, FnId, GenericArg, ParamEnv, Preds, Region,
     Sig, TraitId, TraitRef, Ty, TyKind, UintTy, VarKind, Vars,
 };
-use candidate_ir::ir::numbered::Numbered;
 use candidate_ir::ir::stop::Stop;
 use candidate_ir::ir::trees::Trees;
 use candidate_ir::ir::unify::RightSide;
@@ -35,44 +36,22 @@ use std::alloc::{AllocError, Global};
 
 /// Whether two nodes of one sort are equal, or may be equal where the second is of that side.
 fn compared(cx: &Cx, right: Option<RightSide>, a: u32, b: u32) -> Option<bool> {
-    let sort = sort_at(cx, a)?;
-    if !is_at(cx, b, sort) {
+    if sort_at(cx, a)? != sort_at(cx, b)? {
         return None;
     }
-    match (sort, right) {
-        (NodeSort::Ty, None) => Some(cx.same(Ty(a), Ty(b))),
-        (NodeSort::Const, None) => Some(cx.same(Const(a), Const(b))),
-        (NodeSort::Region, None) => Some(cx.same(Region(a), Region(b))),
-        (NodeSort::Args, None) => Some(cx.same(Args(a), Args(b))),
-        (NodeSort::Clause, None) => Some(cx.same(Clause(a), Clause(b))),
-        (NodeSort::Env, None) => Some(cx.same(ParamEnv(a), ParamEnv(b))),
-        (NodeSort::Ty, Some(right)) => Some(cx.may_unify(Ty(a), Ty(b), right)),
-        (NodeSort::Const, Some(right)) => Some(cx.may_unify(Const(a), Const(b), right)),
-        (NodeSort::Args, Some(right)) => Some(cx.args_may_unify(Args(a), Args(b), right)),
+    match (term_at(cx, a)?, term_at(cx, b)?, right) {
+        (a, b, None) => Some(cx.same(a, b)),
+        (Term::Args(a), Term::Args(b), Some(right)) => Some(cx.args_may_unify(a, b, right)),
+        (Term::Ty(a), Term::Ty(b), Some(right)) => Some(cx.may_unify(a, b, right)),
+        (Term::Const(a), Term::Const(b), Some(right)) => Some(cx.may_unify(a, b, right)),
         _ => None,
     }
 }
 
 /// Whether each parameter of the value has an argument in the list.
 fn have_arguments(cx: &Cx, value: Value, list: u32) -> Option<bool> {
-    if !is_at(cx, list, NodeSort::Args) {
-        return None;
-    }
-    let (a, args) = (value.node(), Args(list));
-    if let Value::Reference(reference) = value {
-        if !is_at(cx, reference.args.0, NodeSort::Args) {
-            return None;
-        }
-        return Some(has_arguments(cx, reference.args, args));
-    }
-    match sort_at(cx, a)? {
-        NodeSort::Ty => Some(has_arguments(cx, Ty(a), args)),
-        NodeSort::Const => Some(has_arguments(cx, Const(a), args)),
-        NodeSort::Args => Some(has_arguments(cx, Args(a), args)),
-        NodeSort::Clause => Some(has_arguments(cx, Clause(a), args)),
-        NodeSort::Env => Some(has_arguments(cx, ParamEnv(a), args)),
-        _ => None,
-    }
+    let args = args_at(cx, list).ok()?;
+    Some(has_arguments(cx, value.term(cx)?, args))
 }
 
 /// The value with the list's arguments in the place of its parameters.
@@ -82,35 +61,13 @@ pub(crate) fn substituted<M: Make>(
     value: Value,
     list: u32,
 ) -> Result<Answer, Refusal> {
-    let cx = make.cx();
-    if !is_at(cx, list, NodeSort::Args) {
+    let args = args_at(make.cx(), list)?;
+    let term = value.term(make.cx()).ok_or(Refusal::Condition)?;
+    if !has_arguments(make.cx(), term, args) {
         return Err(Refusal::Condition);
     }
-    let (a, args) = (value.node(), Args(list));
-    let number = match (sort_at(cx, a), value) {
-        (Some(NodeSort::Ty), _) if has_arguments(cx, Ty(a), args) => {
-            subst(alloc, make, Ty(a), args)?.0
-        }
-        (Some(NodeSort::Const), _) if has_arguments(cx, Const(a), args) => {
-            subst(alloc, make, Const(a), args)?.0
-        }
-        (Some(NodeSort::Args), _) if has_arguments(cx, Args(a), args) => {
-            subst(alloc, make, Args(a), args)?.0
-        }
-        (Some(NodeSort::Clause), _) if has_arguments(cx, Clause(a), args) => {
-            subst(alloc, make, Clause(a), args)?.0
-        }
-        (Some(NodeSort::Env), _) if has_arguments(cx, ParamEnv(a), args) => {
-            subst(alloc, make, ParamEnv(a), args)?.0
-        }
-        (None, Value::Reference(of))
-            if is_at(cx, of.args.0, NodeSort::Args) && has_arguments(cx, of.args, args) => {
-            let made = subst(alloc, make, of.args, args)?;
-            return Ok(Answer::One(Item::Reference(TraitRef { args: made, ..of })));
-        }
-        _ => return Err(Refusal::Condition),
-    };
-    Ok(Answer::One(Item::Node(number)))
+    let made = subst(alloc, make, term, args)?;
+    Ok(Answer::One(value.remade(made)))
 }
 
 /// What a fold of that way puts in the place of an argument under so many binders. By `parameters` it is a byte for each parameter,
@@ -155,48 +112,45 @@ fn folded(
         ensures grows { Grows cx.old cx.new }
         ensures kind { IfOk result (λ o. IsOfKind cx.new.trees arg o) }
     { replaced(cx, arg, binders, way) };
-    if let Value::Reference(reference) = value {
-        if !is_at(cx, reference.args.0, NodeSort::Args) {
-            return Err(Refusal::Condition);
+    match value.term(cx).ok_or(Refusal::Condition)? {
+        Term::Ty(ty) if as_arg => node(fold(alloc, cx, GenericArg::Ty(ty), ask)),
+        term => {
+            let made = fold(alloc, cx, term, ask)?;
+            Ok(Answer::One(value.remade(made)))
         }
-        let made = fold(alloc, cx, reference.args, ask)?;
-        return Ok(Answer::One(Item::Reference(TraitRef {
-            args: made,
-            ..reference
-        })));
     }
-    let a = value.node();
-    let number = match sort_at(cx, a) {
-        Some(NodeSort::Ty) if as_arg => fold(alloc, cx, GenericArg::Ty(Ty(a)), ask)?.number(),
-        Some(NodeSort::Ty) => fold(alloc, cx, Ty(a), ask)?.0,
-        Some(NodeSort::Const) => fold(alloc, cx, Const(a), ask)?.0,
-        Some(NodeSort::Region) => fold(alloc, cx, Region(a), ask)?.0,
-        Some(NodeSort::Args) => fold(alloc, cx, Args(a), ask)?.0,
-        Some(NodeSort::Clause) => fold(alloc, cx, Clause(a), ask)?.0,
-        Some(NodeSort::Env) => fold(alloc, cx, ParamEnv(a), ask)?.0,
-        _ => return Err(Refusal::Condition),
-    };
-    Ok(Answer::One(Item::Node(number)))
 }
 
-/// The node as it is read, made again; of a list, where it is asked so, as one that the context keeps.
+/// The list as it is read.
+fn list_at(alloc: Global, cx: &Cx, a: u32) -> Result<Part, Refusal> {
+    Ok(match sort_at(cx, a) {
+        Some(NodeSort::Args) => Part::Args(cx.args(Args(a)).to_vec(alloc)?),
+        Some(NodeSort::Env) => Part::Env(cx.param_env(ParamEnv(a)).to_vec(alloc)?),
+        Some(NodeSort::Vars) => Part::Vars(kinds_of(alloc, cx, Vars(a))?),
+        Some(NodeSort::Preds) => Part::Preds(bounds_of(alloc, cx, Preds(a))?),
+        _ => return Err(Refusal::Condition),
+    })
+}
+
+/// The node as it is read.
+fn part_at(alloc: Global, cx: &Cx, a: u32) -> Result<Part, Refusal> {
+    match sort_at(cx, a) {
+        Some(NodeSort::Ty) => Ok(Part::Ty(cx.kind(Ty(a)))),
+        Some(NodeSort::Const) => Ok(Part::Const(cx.const_kind(Const(a)))),
+        Some(NodeSort::Region) => Ok(Part::Region(cx.region_kind(Region(a)))),
+        Some(NodeSort::Sig) => Ok(Part::Sig(cx.sig(Sig(a)))),
+        Some(NodeSort::Clause) => Ok(Part::Clause(cx.clause(Clause(a)))),
+        _ => list_at(alloc, cx, a),
+    }
+}
+
+/// The node as it is read, made again; of a list of arguments, where it is asked so, as one that the context keeps.
 fn again(alloc: Global, cx: &mut Cx, a: u32, whole: bool) -> Result<Answer, Refusal> {
-    let part = match sort_at(cx, a).ok_or(Refusal::Condition)? {
-        NodeSort::Ty => Part::Ty(cx.kind(Ty(a))),
-        NodeSort::Const => Part::Const(cx.const_kind(Const(a))),
-        NodeSort::Region => Part::Region(cx.region_kind(Region(a))),
-        NodeSort::Sig => Part::Sig(cx.sig(Sig(a))),
-        NodeSort::Clause => Part::Clause(cx.clause(Clause(a))),
-        NodeSort::Args if whole => {
-            let list = cx.args(Args(a)).to_vec(alloc)?;
-            return Ok(Answer::One(Item::Node(cx.mk_arg_list(list)?.0)));
-        }
-        NodeSort::Args => Part::Args(cx.args(Args(a)).to_vec(alloc)?),
-        NodeSort::Env => Part::Env(cx.param_env(ParamEnv(a)).to_vec(alloc)?),
-        NodeSort::Vars => Part::Vars(kinds_of(alloc, cx, Vars(a))?),
-        NodeSort::Preds => Part::Preds(bounds_of(alloc, cx, Preds(a))?),
-        NodeSort::Pred | NodeSort::Var => return Err(Refusal::Condition),
-    };
+    let part = part_at(alloc, cx, a)?;
+    if whole && is_at(cx, a, NodeSort::Args) {
+        let list = cx.args(Args(a)).to_vec(alloc)?;
+        return node(cx.mk_arg_list(list));
+    }
     Ok(Answer::One(Item::Node(make(cx, &part)?)))
 }
 
@@ -266,15 +220,7 @@ const TYPE_FLAGS: [(&str, TypeFlags); 14] = [
 
 /// Whether the flag of the word is in the node.
 fn has(cx: &Cx, a: u32, word: &str) -> Option<bool> {
-    let flag = value_of(&FLAGS, word)?;
-    match sort_at(cx, a)? {
-        NodeSort::Ty => Some(cx.has(Ty(a), flag)),
-        NodeSort::Const => Some(cx.has(Const(a), flag)),
-        NodeSort::Args => Some(cx.has(Args(a), flag)),
-        NodeSort::Clause => Some(cx.has(Clause(a), flag)),
-        NodeSort::Env => Some(cx.has(ParamEnv(a), flag)),
-        _ => None,
-    }
+    Some(cx.has(term_at(cx, a)?, value_of(&FLAGS, word)?))
 }
 
 /// The words of the type's flags, and those of all flags of a sort where it has them.
@@ -283,34 +229,33 @@ fn flags(alloc: Global, cx: &Cx, a: u32) -> Result<Answer, Refusal> {
         return Err(Refusal::Condition);
     }
     let flags = cx.flags(Ty(a)).0;
-    let mut items = Vec::new(alloc);
+    let mut items = Items::new(alloc);
     for (word, flag) in TYPE_FLAGS {
         if flags & flag.0 == flag.0 {
-            items.push(Item::Word(word))?;
+            items.push(Item::Word(word));
         }
     }
-    Ok(Answer::List(items))
+    items.list()
+}
+
+/// Whether a type is a variable, and whether it stays as it is whatever is known.
+fn sort_of(kind: TyKind) -> &'static str {
+    match (kind.is_ty_var(), kind.is_known_rigid()) {
+        (true, false) => "variable",
+        (false, true) => "rigid",
+        (false, false) => "neither",
+        (true, true) => "both",
+    }
 }
 
 /// What is said of a node by its sort.
 fn said_by_sort(cx: &Cx, verb: &str, a: u32) -> Option<Item> {
-    let item = match (verb, sort_at(cx, a)?) {
-        ("sort", NodeSort::Ty) => {
-            let kind = cx.kind(Ty(a));
-            match (kind.is_ty_var(), kind.is_known_rigid()) {
-                (true, false) => Item::Word("variable"),
-                (false, true) => Item::Word("rigid"),
-                (false, false) => Item::Word("neither"),
-                (true, true) => Item::Word("both"),
-            }
-        }
-        ("escapes", NodeSort::Ty) => Item::Truth(cx.has_escaping_bound_vars(Ty(a))),
-        ("escapes", NodeSort::Args) => Item::Truth(cx.has_escaping_bound_vars(Args(a))),
-        ("escapes", NodeSort::Clause) => Item::Truth(cx.has_escaping_bound_vars(Clause(a))),
-        ("principal", NodeSort::Preds) => Item::Definition(cx.principal(Preds(a))?.0),
-        _ => return None,
-    };
-    Some(item)
+    match (verb, sort_at(cx, a)?) {
+        ("sort", NodeSort::Ty) => Some(Item::Word(sort_of(cx.kind(Ty(a))))),
+        ("principal", NodeSort::Preds) => Some(Item::Definition(cx.principal(Preds(a))?.0)),
+        ("escapes", _) => Some(Item::Truth(cx.has_escaping_bound_vars(term_at(cx, a)?))),
+        _ => None,
+    }
 }
 
 /// What is said of a type, a constant or a region as an argument; the number is a variable's, or a universe.
@@ -380,9 +325,9 @@ fn following(alloc: Global, cx: &mut Cx, verb: &str, number: u32) -> Result<Answ
     }
     let clause = Clause(number);
     match verb {
-        "elaborate" => listed(alloc, elaborate(alloc, cx, &[clause])?.as_slice()),
-        "supertraits" => listed(alloc, supertraits(alloc, cx, clause)?.as_slice()),
-        "ids" => listed(alloc, supertrait_def_ids(alloc, cx, clause)?.as_slice()),
+        "elaborate" => listed_answer(alloc, elaborate(alloc, cx, &[clause])),
+        "supertraits" => listed_answer(alloc, supertraits(alloc, cx, clause)),
+        "ids" => listed_answer(alloc, supertrait_def_ids(alloc, cx, clause)),
         _ => {
             let kinds = binder_kinds(alloc, cx, clause)?;
             Ok(Answer::One(Item::Count(kinds.len())))
@@ -416,25 +361,21 @@ fn instance(
 
 /// The impls of the trait that may be for the type, or where no type is said, those that are for any.
 fn impls(alloc: Global, cx: &Cx, of: u32, ty: Value) -> Result<Answer, Refusal> {
-    let number = ty.node();
-    let impls = match ty {
-        Value::Nothing => cx.for_each_blanket_impl(TraitId(of))?,
-        _ if is_at(cx, number, NodeSort::Ty) => {
-            cx.for_each_relevant_impl(TraitId(of), Ty(number))?
-        }
-        _ => return Err(Refusal::Condition),
-    };
-    listed(alloc, impls.as_slice())
+    if let Value::Nothing = ty {
+        return listed_answer(alloc, cx.for_each_blanket_impl(TraitId(of)));
+    }
+    let ty = ty_at(cx, ty.node())?;
+    listed_answer(alloc, cx.for_each_relevant_impl(TraitId(of), ty))
 }
 
 /// The faults that were put off.
-pub(crate) fn bugs(alloc: Global, cx: &Cx) -> Result<String, AllocError> {
+pub(crate) fn bugs(alloc: Global, cx: &Cx) -> Result<Answer, Refusal> {
     let mut text = String::new(alloc);
     for bug in cx.delayed_bugs() {
         text.push_str(bug.as_str())?;
         text.push_str(";")?;
     }
-    Ok(text)
+    Ok(Answer::Text(text))
 }
 
 /// Whether what the row asks holds, if it is asked of nodes that it may be asked of.
@@ -475,28 +416,13 @@ fn changed(
     }
 }
 
-/// What the row asks of its first operand, and of the definition of that number.
-fn asked(
-    alloc: Global,
-    cx: &mut Cx,
-    row: Row<'_>,
-    of: u32,
-    left: Value,
-) -> Result<Answer, Refusal> {
-    let a = left.node();
-    match row.verb {
-        "show" => Ok(Answer::One(Item::Node(a))),
-        "flags" => flags(alloc, cx, a),
-        "impls" => impls(alloc, cx, of, left),
-        "elaborate" | "supertraits" | "ids" | "width" => following(alloc, cx, row.verb, a),
-        "count" | "take_back" | "delay" | "bugs" => asked_of_context(alloc, cx, row),
-        _ if row.left.is_empty() => asked_of_declarations(alloc, cx, row, of),
-        _ if (a as usize) < cx.node_count() => {
-            let item = said(cx, row.verb, a, number_in(row.first));
-            Ok(Answer::One(item.unwrap_or(Item::Nothing)))
-        }
-        _ => Ok(Answer::One(Item::Nothing)),
+/// What is said of the row's node, if there is one.
+fn asked_of_node(cx: &Cx, row: Row<'_>, a: u32) -> Answer {
+    if (a as usize) >= cx.node_count() {
+        return Answer::One(Item::Nothing);
     }
+    let item = said(cx, row.verb, a, number_in(row.first));
+    Answer::One(item.unwrap_or(Item::Nothing))
 }
 
 /// Nodes that are taken back, and how many there are then; a fault that is put off, and all of them.
@@ -507,7 +433,7 @@ fn asked_of_context(alloc: Global, cx: &mut Cx, row: Row<'_>) -> Result<Answer, 
             cx.delay_bug(row.first)?;
             return Ok(Answer::One(Item::Done));
         }
-        "bugs" => return Ok(Answer::Text(bugs(alloc, cx)?)),
+        "bugs" => return bugs(alloc, cx),
         _ => {}
     }
     Ok(Answer::One(Item::Count(cx.node_count())))
@@ -533,36 +459,74 @@ fn asked_of_declarations(
     Ok(Answer::One(said_of(cx, row, of).unwrap_or(Item::Nothing)))
 }
 
+/// What a row asks a context about.
+#[derive(Clone, Copy)]
+enum Subject {
+    Members,
+    Truth,
+    Change,
+    Following,
+    Counts,
+    Flags,
+    Impls,
+    Node,
+}
+
+/// The verbs, and what each asks about; others ask about declarations, or of a node.
+const SUBJECTS: [(&str, Subject); 27] = [
+    ("member", Subject::Members),
+    ("clear", Subject::Members),
+    ("each", Subject::Members),
+    ("same", Subject::Truth),
+    ("unify", Subject::Truth),
+    ("header", Subject::Truth),
+    ("has", Subject::Truth),
+    ("has_arguments", Subject::Truth),
+    ("compatible", Subject::Truth),
+    ("fits", Subject::Truth),
+    ("has_param", Subject::Truth),
+    ("subst", Subject::Change),
+    ("fold", Subject::Change),
+    ("open", Subject::Change),
+    ("implied", Subject::Change),
+    ("again", Subject::Change),
+    ("elaborate", Subject::Following),
+    ("supertraits", Subject::Following),
+    ("ids", Subject::Following),
+    ("width", Subject::Following),
+    ("count", Subject::Counts),
+    ("take_back", Subject::Counts),
+    ("delay", Subject::Counts),
+    ("bugs", Subject::Counts),
+    ("flags", Subject::Flags),
+    ("impls", Subject::Impls),
+    ("show", Subject::Node),
+];
+
 impl<'a> Reader<'a> {
     /// What the row answers in the context.
     pub(crate) fn answer(&mut self, cx: &mut Cx, row: Row<'a>) -> Result<Answer, Refusal> {
         if row.verb == "let" {
             return self.name_node(cx, row);
         }
-        let left = self.operand(cx, row.left)?;
-        let right = self.operand(cx, row.right)?;
-        let third = self.operand(cx, row.third)?;
-        let alloc = self.alloc;
-        match row.verb {
-            "member" | "clear" | "each" => self.answer_of_members(cx, row, left.node()),
-            "same"
-            | "unify"
-            | "header"
-            | "has"
-            | "has_arguments"
-            | "compatible"
-            | "fits"
-            | "has_param" => {
-                let truth = holds(cx, row, left, right).ok_or(Refusal::Condition)?;
-                Ok(Answer::One(Item::Truth(truth)))
+        let [left, right, third] = self.operands(cx, row)?;
+        let (alloc, a) = (self.alloc, left.node());
+        match value_of(&SUBJECTS, row.verb) {
+            Some(Subject::Members) => self.answer_of_members(cx, row, a),
+            Some(Subject::Truth) => match holds(cx, row, left, right) {
+                Some(truth) => Ok(Answer::One(Item::Truth(truth))),
+                None => Err(Refusal::Condition),
+            },
+            Some(Subject::Change) => changed(alloc, cx, row, left, (right.node(), third.node())),
+            Some(Subject::Following) => following(alloc, cx, row.verb, a),
+            Some(Subject::Counts) => asked_of_context(alloc, cx, row),
+            Some(Subject::Flags) => flags(alloc, cx, a),
+            Some(Subject::Impls) => impls(alloc, cx, self.number(row.first), left),
+            Some(Subject::Node) => Ok(Answer::One(Item::Node(a))),
+            None if row.left.is_empty() => {
+                asked_of_declarations(alloc, cx, row, self.number(row.first))
             }
-            "subst" | "fold" | "open" | "implied" | "again" => {
-                changed(alloc, cx, row, left, (right.node(), third.node()))
-            }
-            _ => {
-                let of = self.number(row.first);
-                asked(alloc, cx, row, of, left)
-            }
+            None => Ok(asked_of_node(cx, row, a)),
         }
     }
 

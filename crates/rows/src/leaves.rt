@@ -52,6 +52,68 @@ pub(crate) fn leaf(word: &str) -> Option<Part> {
     }
 }
 
+/// What stands behind a mark.
+#[derive(Clone, Copy)]
+enum Mark {
+    Param,
+    Bound,
+    Placeholder,
+    Infer,
+    Integer,
+    Floating,
+    ConstParam,
+    ConstBound,
+    ConstPlaceholder,
+    ConstInfer,
+    RegionBound,
+    RegionPlaceholder,
+    RegionInfer,
+}
+
+/// The marks, but that of a constant that is a number.
+const NAMED_MARKS: [(&str, Mark); 13] = [
+    ("p", Mark::Param),
+    ("^", Mark::Bound),
+    ("!", Mark::Placeholder),
+    ("?", Mark::Infer),
+    ("?i", Mark::Integer),
+    ("?f", Mark::Floating),
+    ("#p", Mark::ConstParam),
+    ("#^", Mark::ConstBound),
+    ("#!", Mark::ConstPlaceholder),
+    ("#?", Mark::ConstInfer),
+    ("'^", Mark::RegionBound),
+    ("'!", Mark::RegionPlaceholder),
+    ("'?", Mark::RegionInfer),
+];
+
+/// The leaf of that mark and of two numbers.
+fn numbered(mark: Mark, number: u32, index: u32) -> Part {
+    let bound = BoundVar {
+        depth: number,
+        index,
+    };
+    let placeholder = Placeholder {
+        universe: number,
+        index,
+    };
+    match mark {
+        Mark::Param => Part::Ty(TyKind::Param(number)),
+        Mark::Bound => Part::Ty(TyKind::Bound(bound)),
+        Mark::Placeholder => Part::Ty(TyKind::Placeholder(placeholder)),
+        Mark::Infer => Part::Ty(TyKind::Infer(InferTy::TyVar(number))),
+        Mark::Integer => Part::Ty(TyKind::Infer(InferTy::IntVar(number))),
+        Mark::Floating => Part::Ty(TyKind::Infer(InferTy::FloatVar(number))),
+        Mark::ConstParam => Part::Const(ConstKind::Param(number)),
+        Mark::ConstBound => Part::Const(ConstKind::Bound(bound)),
+        Mark::ConstPlaceholder => Part::Const(ConstKind::Placeholder(placeholder)),
+        Mark::ConstInfer => Part::Const(ConstKind::Infer(number)),
+        Mark::RegionBound => Part::Region(RegionKind::Bound(bound)),
+        Mark::RegionPlaceholder => Part::Region(RegionKind::Placeholder(placeholder)),
+        Mark::RegionInfer => Part::Region(RegionKind::Var(number)),
+    }
+}
+
 /// The leaf whose word is a mark and a number, or two numbers with a point between them.
 fn marked(word: &str) -> Option<Part> {
     let digits = word.trim_start_matches(MARKS);
@@ -62,30 +124,7 @@ fn marked(word: &str) -> Option<Part> {
     if mark == "#" {
         return Some(Part::Const(ConstKind::Value(digits.parse().ok()?)));
     }
+    let mark = value_of(&NAMED_MARKS, mark)?;
     let (first, second) = digits.split_once('.').unwrap_or((digits, "0"));
-    let (number, index) = (number_in(first), number_in(second));
-    let bound = BoundVar {
-        depth: number,
-        index,
-    };
-    let placeholder = Placeholder {
-        universe: number,
-        index,
-    };
-    match mark {
-        "p" => Some(Part::Ty(TyKind::Param(number))),
-        "^" => Some(Part::Ty(TyKind::Bound(bound))),
-        "!" => Some(Part::Ty(TyKind::Placeholder(placeholder))),
-        "?" => Some(Part::Ty(TyKind::Infer(InferTy::TyVar(number)))),
-        "?i" => Some(Part::Ty(TyKind::Infer(InferTy::IntVar(number)))),
-        "?f" => Some(Part::Ty(TyKind::Infer(InferTy::FloatVar(number)))),
-        "#p" => Some(Part::Const(ConstKind::Param(number))),
-        "#^" => Some(Part::Const(ConstKind::Bound(bound))),
-        "#!" => Some(Part::Const(ConstKind::Placeholder(placeholder))),
-        "#?" => Some(Part::Const(ConstKind::Infer(number))),
-        "'^" => Some(Part::Region(RegionKind::Bound(bound))),
-        "'!" => Some(Part::Region(RegionKind::Placeholder(placeholder))),
-        "'?" => Some(Part::Region(RegionKind::Var(number))),
-        _ => None,
-    }
+    Some(numbered(mark, number_in(first), number_in(second)))
 }

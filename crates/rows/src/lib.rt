@@ -31,5 +31,7 @@ pub(crate) mod starting;
 pub(crate) mod structures;
 pub(crate) mod tables;
 pub(crate) mod tabling;
+pub(crate) mod terms;
+pub(crate) mod transcript;
 pub(crate) mod typed;
 pub(crate) mod values;

@@ -1,14 +1,16 @@
 //! What contexts say of definitions.
 
-use crate::answers::{Answer, Item};
+use crate::answers::{Answer, Item, Items};
 use crate::declaring::{lang_item, sizedness};
 use crate::refusals::Refusal;
 use crate::rows::Row;
+use crate::tables::value_of;
 use candidate_ir::decl::contents::{Destructor, Impl, ImplId, ImplPolarity};
 use candidate_ir::decl::context::Cx;
-use candidate_ir::decl::definition::{AdtFlags, AdtShape, AssocKind, TraitFlags};
+use candidate_ir::decl::definition::{AdtShape, AssocKind};
 use candidate_ir::ir::kinds::{
-    AdtId, AliasId, AssocId, Clause, ClosureId, FnId, TraitId, Ty, VarKind,
+    AdtId, AliasId, AliasTy, AssocId, Clause, ClosureId, FnId, Goal, GoalSource, TraitId, TraitRef,
+    Ty, VarKind,
 };
 use std::alloc::Global;
 
@@ -57,6 +59,25 @@ impl Member for VarKind {
     }
 }
 
+impl Member for AliasTy {
+    fn item(self) -> Item {
+        Item::Definition(self.id.0)
+    }
+}
+
+/// The clause of a goal.
+impl Member for (GoalSource, Goal<Clause>) {
+    fn item(self) -> Item {
+        Item::Node(self.1.predicate.0)
+    }
+}
+
+impl Member for TraitRef {
+    fn item(self) -> Item {
+        Item::Reference(self)
+    }
+}
+
 impl Member for u32 {
     fn item(self) -> Item {
         Item::Count(self as usize)
@@ -65,11 +86,22 @@ impl Member for u32 {
 
 /// The list as it is answered.
 pub(crate) fn listed<M: Member>(alloc: Global, list: &[M]) -> Result<Answer, Refusal> {
-    let mut items = Vec::new(alloc);
+    let mut items = Items::new(alloc);
     for member in list {
-        items.push(member.item())?;
+        items.push(member.item());
     }
-    Ok(Answer::List(items))
+    items.list()
+}
+
+/// The list that a call answers, if it does.
+pub(crate) fn listed_answer<M: Member, E>(
+    alloc: Global,
+    outcome: Result<Vec<M>, E>,
+) -> Result<Answer, Refusal>
+where
+    Refusal: From<E>,
+{
+    listed(alloc, outcome?.as_slice())
 }
 
 /// The list of the impl that the verb asks for; what is no impl has none.
@@ -86,8 +118,7 @@ fn impl_list(alloc: Global, verb: &str, of: Option<&Impl>) -> Result<Answer, Ref
 
 /// The kinds of the impl's parameters.
 fn impl_parameters(alloc: Global, cx: &Cx, of: ImplId) -> Result<Answer, Refusal> {
-    let kinds = cx.impl_parameters(alloc, of)?;
-    listed(alloc, kinds.as_slice())
+    listed_answer(alloc, cx.impl_parameters(alloc, of))
 }
 
 /// The list that something holds that was declared, if the verb asks for one.
@@ -111,43 +142,38 @@ pub(crate) fn held(alloc: Global, cx: &Cx, verb: &str, of: u32) -> Option<Result
 
 /// Whether the definition has the flag of the word, if it is of the sort that the verb asks about.
 fn flag(cx: &Cx, row: Row<'_>, of: u32) -> Option<bool> {
-    match (row.verb, row.second) {
-        ("adt_flag", word) => {
-            let AdtFlags {
-                fundamental,
-                phantom_data,
-                manually_drop,
-                unsafe_fields,
-            } = cx.adt_flags(AdtId(of))?;
-            match word {
-                "fundamental" => Some(fundamental),
-                "phantom_data" => Some(phantom_data),
-                "manually_drop" => Some(manually_drop),
-                "unsafe_fields" => Some(unsafe_fields),
-                _ => None,
-            }
+    let word = row.second;
+    match row.verb {
+        "adt_flag" => {
+            let flags = cx.adt_flags(AdtId(of))?;
+            let list = [
+                ("fundamental", flags.fundamental),
+                ("phantom_data", flags.phantom_data),
+                ("manually_drop", flags.manually_drop),
+                ("unsafe_fields", flags.unsafe_fields),
+            ];
+            value_of(&list, word)
         }
-        ("trait_flag", word) => {
-            let TraitFlags {
-                auto,
-                alias,
-                unsafe_,
-                fundamental,
-                dyn_compatible,
-                default,
-            } = cx.trait_flags(TraitId(of))?;
-            match word {
-                "auto" => Some(auto),
-                "alias" => Some(alias),
-                "unsafe" => Some(unsafe_),
-                "fundamental" => Some(fundamental),
-                "dyn_compatible" => Some(dyn_compatible),
-                "default" => Some(default),
-                _ => None,
-            }
+        "trait_flag" => {
+            let flags = cx.trait_flags(TraitId(of))?;
+            let list = [
+                ("auto", flags.auto),
+                ("alias", flags.alias),
+                ("unsafe", flags.unsafe_),
+                ("fundamental", flags.fundamental),
+                ("dyn_compatible", flags.dyn_compatible),
+                ("default", flags.default),
+            ];
+            value_of(&list, word)
         }
-        ("fn_flag", "const") => Some(cx.fn_flags(FnId(of))?.is_const),
-        ("fn_flag", "target_features") => Some(cx.fn_flags(FnId(of))?.target_features),
+        "fn_flag" => {
+            let flags = cx.fn_flags(FnId(of))?;
+            let list = [
+                ("const", flags.is_const),
+                ("target_features", flags.target_features),
+            ];
+            value_of(&list, word)
+        }
         _ => None,
     }
 }

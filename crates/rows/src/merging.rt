@@ -3,7 +3,7 @@
 ghost use Rattle.std.specs.Prelude.{◌≡◌, [], IfOk};
 ghost use Rattle.candidate_eval.specs.ResponseTrees.{AreCandidates, IsResponse};
 
-use crate::answers::{Answer, Item};
+use crate::answers::{Answer, Item, Items};
 use crate::eval::Operands;
 use crate::evaluator::VARIABLES;
 use crate::refusals::Refusal;
@@ -18,7 +18,7 @@ use candidate_eval::eval::response::{
 use candidate_eval::eval::source::{BuiltinImplSource, CandidateSource};
 use candidate_ir::decl::context::Cx;
 use candidate_ir::ir::kinds::Args;
-use std::alloc::{AllocError, Global};
+use std::alloc::Global;
 
 /// How sure the words say that an answer is: `yes`, or `ambiguous` or `overflow` with what else is said of it.
 pub(crate) fn certainty(words: &str) -> Option<Certainty> {
@@ -44,13 +44,10 @@ pub(crate) fn certainty(words: &str) -> Option<Certainty> {
 }
 
 /// Adds these words.
-pub(crate) fn push_certainty(
-    items: &mut Vec<Item>,
-    certainty: Certainty,
-) -> Result<(), AllocError> {
+pub(crate) fn push_certainty(items: &mut Items, certainty: Certainty) {
     let Certainty::Maybe(info) = certainty else {
-        items.push(Item::Word("yes"))?;
-        return Ok(());
+        items.push(Item::Word("yes"));
+        return;
     };
     let (cause, suggests, keeps) = match info.cause {
         MaybeCause::Ambiguity => ("ambiguous", false, false),
@@ -59,54 +56,59 @@ pub(crate) fn push_certainty(
             keep_constraints,
         } => ("overflow", suggest_increasing_limit, keep_constraints),
     };
-    items.push(Item::Word(cause))?;
+    items.push(Item::Word(cause));
     let is_janky = info.opaque_types_jank == OpaqueTypesJank::ErrorIfRigidSelfTy;
     for (is_said, word) in [(suggests, "suggest"), (keeps, "keep"), (is_janky, "jank")] {
         if is_said {
-            items.push(Item::Word(word))?;
+            items.push(Item::Word(word));
         }
     }
-    Ok(())
 }
 
-/// How sure something is.
-pub(crate) fn sure(alloc: Global, certainty: Certainty) -> Result<Answer, Refusal> {
-    let mut items = Vec::new(alloc);
-    push_certainty(&mut items, certainty)?;
-    Ok(Answer::Row(items))
+/// How sure something is, if that is known.
+pub(crate) fn sure<E>(alloc: Global, outcome: Result<Certainty, E>) -> Result<Answer, Refusal>
+where
+    Refusal: From<E>,
+{
+    let mut items = Items::new(alloc);
+    push_certainty(&mut items, outcome?);
+    items.row()
 }
 
 /// How sure two answers are together.
 pub(crate) fn both(alloc: Global, row: Row<'_>) -> Result<Answer, Refusal> {
-    match (certainty(row.left), certainty(row.right)) {
-        (Some(left), Some(right)) => sure(alloc, left.and(right)),
+    let sum = match (certainty(row.left), certainty(row.right)) {
+        (Some(left), Some(right)) => Ok(left.and(right)),
         _ => Err(Refusal::Condition),
-    }
+    };
+    sure(alloc, sum)
 }
 
 /// Adds how sure the response is, the list of its values, the kinds and universes of the variables that it leaves open, and its regions.
-pub(crate) fn push_response(
-    items: &mut Vec<Item>,
-    response: &CanonicalResponse,
-) -> Result<(), AllocError> {
-    push_certainty(items, response.certainty)?;
-    items.push(Item::Node(response.values.0))?;
+pub(crate) fn push_response(items: &mut Items, response: &CanonicalResponse) {
+    push_certainty(items, response.certainty);
+    items.push(Item::Node(response.values.0));
     for var in &response.vars {
         let kind = word_for(&VARIABLES, var.kind).unwrap_or(UNNAMED);
-        items.push(Item::Word(kind))?;
-        items.push(Item::Count(var.universe as usize))?;
+        items.push(Item::Word(kind));
+        items.push(Item::Count(var.universe as usize));
     }
     for region in &response.regions {
-        items.push(Item::Node(region.0))?;
+        items.push(Item::Node(region.0));
     }
-    Ok(())
 }
 
-/// The same as an answer.
-pub(crate) fn responded(alloc: Global, response: &CanonicalResponse) -> Result<Answer, Refusal> {
-    let mut items = Vec::new(alloc);
-    push_response(&mut items, response)?;
-    Ok(Answer::Row(items))
+/// The response, if there is one.
+pub(crate) fn responded<E>(
+    alloc: Global,
+    outcome: Result<CanonicalResponse, E>,
+) -> Result<Answer, Refusal>
+where
+    Refusal: From<E>,
+{
+    let mut items = Items::new(alloc);
+    push_response(&mut items, &outcome?);
+    items.row()
 }
 
 /// A response with these values, for which nothing else is asked.
@@ -126,12 +128,12 @@ fn response(alloc: Global, values: Args, certainty: Certainty) -> CanonicalRespo
 fn constraints(alloc: Global, cx: &Cx, number: u32) -> Result<Answer, Refusal> {
     let values = args_at(cx, number)?;
     let response = response(alloc, values, Certainty::Yes);
-    let mut items = Vec::new(alloc);
+    let mut items = Items::new(alloc);
     let of_regions = has_only_region_constraints(cx, &response);
-    items.push(Item::Truth(of_regions))?;
+    items.push(Item::Truth(of_regions));
     let has_none = has_no_inference_or_external_constraints(cx, &response);
-    items.push(Item::Truth(has_none))?;
-    Ok(Answer::Row(items))
+    items.push(Item::Truth(has_none));
+    items.row()
 }
 
 /// A candidate with that response.
@@ -156,17 +158,17 @@ fn merge(alloc: Global, cx: &Cx, candidates: &[Candidate]) -> Result<Answer, Ref
     let Some((response, info)) = try_merge_candidates(cx, candidates)? else {
         return Ok(Answer::One(Item::Nothing));
     };
-    let mut items = Vec::new(alloc);
+    let mut items = Items::new(alloc);
     match info {
         MergeCandidateInfo::AlwaysApplicable(number) => {
-            items.push(Item::Word("applicable"))?;
-            items.push(Item::Count(number))?;
+            items.push(Item::Word("applicable"));
+            items.push(Item::Count(number));
         }
-        MergeCandidateInfo::EqualResponse => items.push(Item::Word("equal"))?,
+        MergeCandidateInfo::EqualResponse => items.push(Item::Word("equal")),
     }
-    push_certainty(&mut items, response.certainty)?;
-    items.push(Item::Node(response.values.0))?;
-    Ok(Answer::Row(items))
+    push_certainty(&mut items, response.certainty);
+    items.push(Item::Node(response.values.0));
+    items.row()
 }
 
 /// What the row asks of the lists of these numbers.

@@ -1,11 +1,14 @@
 //! Rows that ask an evaluator about objects and their bounds.
 
-ghost use Rattle.std.specs.Prelude.{◌≡◌};
-ghost use Rattle.candidate_rounds.specs.Known.{probes};
+ghost use Rattle.std.specs.Prelude.{◌≡◌, IfOk};
+ghost use Rattle.candidate_ir.specs.Context.{world};
+ghost use Rattle.candidate_ir.specs.References.{Takes};
+ghost use Rattle.candidate_ir.specs.Words.{ClauseFits, ClauseListFits, IsArgs, IsParamEnv, IsPreds, clause_kind_tree};
+ghost use Rattle.candidate_eval.specs.ObjectRequirements.{reference_clause};
 
-use crate::answers::{Answer, Item};
+use crate::answers::{Answer, Item, Items, node};
 use crate::eval::Operands;
-use crate::lookups::listed;
+use crate::lookups::listed_answer;
 use crate::parts::clause_fits;
 use crate::reader::Reader;
 use crate::refusals::Refusal;
@@ -14,142 +17,184 @@ use crate::typed::{args_at, clause_at, env_at, ty_at, vars_at};
 use candidate_eval::eval::binders::{
     enter_binder, enter_clause, instantiate_binder_with_infer, instantiate_clause_with_infer,
 };
+use candidate_eval::eval::context::EvalCtxt;
 use candidate_eval::structural::object::{bound_matches, matching_bounds, pick_bound};
 use candidate_eval::structural::object_candidate::predicates_for_object_candidate;
+use candidate_ir::decl::context::Cx;
 use candidate_ir::decl::make::Make;
 use candidate_ir::ir::kinds::{
-    AliasTerm, AssocId, Binder, ClauseKind, PredicatePolarity, TraitPredicate, TyKind,
+    AliasTerm, AssocId, Binder, Clause, ClauseKind, Goal, ParamEnv, PredicatePolarity, Preds,
+    TraitPredicate, TraitRef, TyKind,
 };
 use candidate_ir::ir::trees::Trees;
-use candidate_rounds::rounds::Rounds;
 use std::alloc::Global;
 
-/// What an object candidate asks for, for the reference that a clause says to hold: goals, each of a clause and its environment.
-fn asked(alloc: Global, rounds: &mut Rounds, of: Operands) -> Result<Answer, Refusal>
-    ensures { probes rounds.new ≡ probes rounds.old }
+/// The reference that the clause says to hold, behind its binder, with the arguments that it takes; else a `Refusal::Condition` comes.
+fn reference_at(cx: &Cx, clause: u32) -> Result<Binder<TraitRef>, Refusal>
+    ensures fits { IfOk result (λ r. ClauseFits cx.now.trees (reference_clause r)) }
+    ensures takes { IfOk result (λ r. Takes (world cx.now) (clause_kind_tree cx.now.trees (reference_clause r))) }
 {
-    let env = env_at(rounds.cx(), of.left)?;
-    let clause = clause_at(rounds.cx(), of.right)?;
-    let object = ty_at(rounds.cx(), of.third)?;
-    let clause = rounds.cx().clause(clause);
-    let (ClauseKind::Trait(predicate), TyKind::Dynamic(bounds, _)) = (
-        clause.value,
-        rounds.cx().kind(object),
-    ) else {
+    let Binder { vars, value } = cx.clause(clause_at(cx, clause)?);
+    let ClauseKind::Trait(TraitPredicate { trait_ref, .. }) = value else {
         return Err(Refusal::Condition);
     };
-    let (vars, trait_ref) = (clause.vars, predicate.trait_ref);
     let polarity = PredicatePolarity::Positive;
     let value = ClauseKind::Trait(TraitPredicate {
         trait_ref,
         polarity,
     });
     let holds = Binder { vars, value };
-    if !clause_fits(rounds.cx(), holds) || !rounds.cx().clause_args_fit(holds) {
+    if !clause_fits(cx, holds) || !cx.clause_args_fit(holds) {
         return Err(Refusal::Condition);
     }
     let value = trait_ref;
-    let goals = predicates_for_object_candidate(
-        alloc,
-        rounds,
-        env,
-        Binder { vars, value },
-        bounds,
-    )?;
-    let mut items = Vec::new(alloc);
-    for goal in goals {
-        items.push(Item::Node(goal.predicate.0))?;
-        items.push(Item::Node(goal.param_env.0))?;
+    Ok(Binder { vars, value })
+}
+
+/// The bounds of the object's type.
+fn bounds_at(cx: &Cx, object: u32) -> Result<Preds, Refusal>
+    ensures { IfOk result (λ b. IsPreds cx.now.trees b) }
+{
+    match cx.kind(ty_at(cx, object)?) {
+        TyKind::Dynamic(bounds, _) => Ok(bounds),
+        _ => Err(Refusal::Condition),
     }
-    Ok(Answer::List(items))
+}
+
+/// The goals, each of a clause and its environment.
+fn listed_goals(alloc: Global, goals: &[Goal<Clause>]) -> Result<Answer, Refusal> {
+    let mut items = Items::new(alloc);
+    for goal in goals {
+        items.push(Item::Node(goal.predicate.0));
+        items.push(Item::Node(goal.param_env.0));
+    }
+    items.list()
+}
+
+/// What an object candidate asks for, for the reference that a clause says to hold.
+fn asked<E: EvalCtxt>(alloc: Global, ecx: &mut E, of: Operands) -> Result<Answer, Refusal>
+    ensures { E.probes ecx.new ≡ E.probes ecx.old }
+{
+    let env = env_at(ecx.cx(), of.left)?;
+    let reference = reference_at(ecx.cx(), of.right)?;
+    let bounds = bounds_at(ecx.cx(), of.third)?;
+    let goals = predicates_for_object_candidate(alloc, ecx, env, reference, bounds)?;
+    listed_goals(alloc, goals.as_slice())
+}
+
+/// An environment, and the associated type of a list.
+fn projection_at(
+    cx: &Cx,
+    env: u32,
+    def_id: AssocId,
+    args: u32,
+) -> Result<(ParamEnv, AliasTerm), Refusal>
+    ensures env { IfOk result (λ p. IsParamEnv cx.now.trees p.0) }
+    ensures args { IfOk result (λ p. IsArgs cx.now.trees p.1.args) }
+{
+    let env = env_at(cx, env)?;
+    let args = args_at(cx, args)?;
+    Ok((env, AliasTerm { def_id, args }))
+}
+
+/// The clauses of the environment of that number.
+fn clauses_at(alloc: Global, cx: &Cx, env: u32) -> Result<Vec<Clause>, Refusal>
+    ensures { IfOk result (λ v. ClauseListFits cx.now.trees v.items) }
+{
+    Ok(Vec::from_slice(alloc, cx.param_env(env_at(cx, env)?))?)
 }
 
 /// Which of the bounds match the associated type of the list, or the term that the only one gives it.
-fn of_bounds(
+fn of_bounds<E: EvalCtxt>(
     alloc: Global,
-    rounds: &mut Rounds,
-    row: Row<'_>,
+    ecx: &mut E,
+    verb: &str,
     def_id: AssocId,
     of: Operands,
 ) -> Result<Answer, Refusal>
-    ensures { probes rounds.new ≡ probes rounds.old }
+    ensures { E.probes ecx.new ≡ E.probes ecx.old }
 {
-    let env = env_at(rounds.cx(), of.left)?;
-    let bounds = env_at(rounds.cx(), of.right)?;
-    let args = args_at(rounds.cx(), of.third)?;
-    let projection = AliasTerm { def_id, args };
-    let bounds = Vec::from_slice(alloc, rounds.cx().param_env(bounds))?;
-    if row.verb == "pick" {
-        let term = pick_bound(alloc, rounds, env, bounds.as_slice(), projection)?;
-        return Ok(Answer::One(Item::Node(term.0)));
+    let (env, projection) = projection_at(ecx.cx(), of.left, def_id, of.third)?;
+    let bounds = clauses_at(alloc, ecx.cx(), of.right)?;
+    if verb == "pick" {
+        return node(pick_bound(alloc, ecx, env, bounds.as_slice(), projection));
     }
-    let found = matching_bounds(alloc, rounds, env, bounds.as_slice(), projection)?;
-    listed(alloc, found.as_slice())
+    let found = matching_bounds(alloc, ecx, env, bounds.as_slice(), projection);
+    listed_answer(alloc, found)
 }
 
 /// Whether the bound matches the associated type of the list.
-fn matches(
+fn matches<E: EvalCtxt>(
     alloc: Global,
-    rounds: &mut Rounds,
+    ecx: &mut E,
     def_id: AssocId,
     of: Operands,
 ) -> Result<Answer, Refusal>
-    ensures { probes rounds.new ≡ probes rounds.old }
+    ensures { E.probes ecx.new ≡ E.probes ecx.old }
 {
-    let env = env_at(rounds.cx(), of.left)?;
-    let bound = clause_at(rounds.cx(), of.right)?;
-    let args = args_at(rounds.cx(), of.third)?;
-    let projection = AliasTerm { def_id, args };
-    let is_match = bound_matches(alloc, rounds, env, bound, projection)?;
+    let (env, projection) = projection_at(ecx.cx(), of.left, def_id, of.third)?;
+    let bound = clause_at(ecx.cx(), of.right)?;
+    let is_match = bound_matches(alloc, ecx, env, bound, projection)?;
     Ok(Answer::One(Item::Truth(is_match)))
 }
 
-/// What stands under a clause's own binder, or under the binder of the second operand where that is one, with fresh variables, or
-/// with placeholders where it is entered.
-fn opened(alloc: Global, rounds: &mut Rounds, row: Row<'_>, of: Operands) -> Result<Answer, Refusal>
-    ensures { probes rounds.new ≡ probes rounds.old }
+/// What stands under the clause's own binder, with fresh variables, or with placeholders where it is entered.
+fn opened_clause<E: EvalCtxt>(
+    alloc: Global,
+    ecx: &mut E,
+    enters: bool,
+    clause: u32,
+) -> Result<Answer, Refusal>
+    ensures { E.probes ecx.new ≡ E.probes ecx.old }
 {
-    let enters = row.verb == "enter";
-    if row.right.is_empty() {
-        let clause = clause_at(rounds.cx(), of.left)?;
-        let opened = if enters {
-            enter_clause(alloc, rounds, clause)?
-        } else {
-            instantiate_clause_with_infer(alloc, rounds, clause)?
-        };
-        return Ok(Answer::One(Item::Node(opened.0)));
-    }
-    let value = ty_at(rounds.cx(), of.left)?;
-    let vars = vars_at(rounds.cx(), of.right)?;
-    let binder = Binder { vars, value };
-    let opened = if enters {
-        enter_binder(alloc, rounds, binder)?
+    let clause = clause_at(ecx.cx(), clause)?;
+    if enters {
+        node(enter_clause(alloc, ecx, clause))
     } else {
-        instantiate_binder_with_infer(alloc, rounds, binder)?
-    };
-    Ok(Answer::One(Item::Node(opened.0)))
+        node(instantiate_clause_with_infer(alloc, ecx, clause))
+    }
+}
+
+/// The type under the binder, with fresh variables, or with placeholders where it is entered.
+fn opened_type<E: EvalCtxt>(
+    alloc: Global,
+    ecx: &mut E,
+    enters: bool,
+    ty: u32,
+    vars: u32,
+) -> Result<Answer, Refusal>
+    ensures { E.probes ecx.new ≡ E.probes ecx.old }
+{
+    let value = ty_at(ecx.cx(), ty)?;
+    let vars = vars_at(ecx.cx(), vars)?;
+    let binder = Binder { vars, value };
+    if enters {
+        node(enter_binder(alloc, ecx, binder))
+    } else {
+        node(instantiate_binder_with_infer(alloc, ecx, binder))
+    }
 }
 
 /// What the row asks, if it is one of these rows.
-pub(crate) fn answer(
+pub(crate) fn answer<E: EvalCtxt>(
     reader: &Reader<'_>,
-    rounds: &mut Rounds,
+    ecx: &mut E,
     row: Row<'_>,
     of: Operands,
 ) -> Result<Answer, Refusal>
-    ensures { probes rounds.new ≡ probes rounds.old }
+    ensures { E.probes ecx.new ≡ E.probes ecx.old }
 {
     let alloc = reader.alloc;
-    if row.verb == "object" {
-        return asked(alloc, rounds, of);
-    }
-    if row.verb == "instantiate" || row.verb == "enter" {
-        return opened(alloc, rounds, row, of);
-    }
     let def_id = AssocId(reader.number(row.first));
+    let enters = row.verb == "enter";
     match row.verb {
-        "matching" | "pick" => of_bounds(alloc, rounds, row, def_id, of),
-        "matches" => matches(alloc, rounds, def_id, of),
-        verb => Err(Refusal::Condition),
+        "object" => asked(alloc, ecx, of),
+        "instantiate" | "enter" if row.right.is_empty() => {
+            opened_clause(alloc, ecx, enters, of.left)
+        }
+        "instantiate" | "enter" => opened_type(alloc, ecx, enters, of.left, of.right),
+        "matching" | "pick" => of_bounds(alloc, ecx, row.verb, def_id, of),
+        "matches" => matches(alloc, ecx, def_id, of),
+        _ => Err(Refusal::Condition),
     }
 }

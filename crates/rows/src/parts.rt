@@ -17,6 +17,7 @@ use candidate_ir::ir::kinds::{
     Binder, Clause, ClauseKind, ClosureSig, ConstKind, ExistentialPredicate, GenericArg, Pattern,
     RegionKind, TyKind, VarKind,
 };
+use candidate_ir::ir::numbered::Numbered;
 use candidate_ir::ir::stop::Stop;
 use candidate_ir::ir::trees::Trees;
 
@@ -66,6 +67,14 @@ pub(crate) trait Table {
         requires { PartFits (trees self.old) part.now };
 }
 
+/// The number of the node that was made.
+fn number_of<N: Numbered>(outcome: Result<N, Stop>) -> Result<Option<u32>, Stop> {
+    match outcome {
+        Ok(made) => Ok(Some(made.number())),
+        Err(stop) => Err(stop),
+    }
+}
+
 impl Table for DeclsBuilder {
     ghost trees = { λ b. b.trees };
 
@@ -78,18 +87,17 @@ impl Table for DeclsBuilder {
     }
 
     fn make(&mut self, part: &Part) -> Result<Option<u32>, Stop> {
-        let number = match part {
-            Part::Ty(kind) => self.mk_ty(*kind)?.0,
-            Part::Const(kind) => self.mk_const(*kind)?.0,
-            Part::Region(kind) => self.mk_region(*kind)?.0,
-            Part::Args(list) => self.mk_args(list.as_slice())?.0,
-            Part::Vars(kinds) => self.mk_vars(kinds.as_slice())?.0,
-            Part::Preds(bounds) => self.mk_preds(bounds.as_slice())?.0,
-            Part::Sig(sig) => self.mk_sig(*sig)?.0,
-            Part::Clause(clause) => self.mk_clause(*clause)?.0,
-            Part::Env(clauses) => self.mk_param_env(clauses.as_slice())?.0,
-        };
-        Ok(Some(number))
+        match part {
+            Part::Ty(kind) => number_of(self.mk_ty(*kind)),
+            Part::Const(kind) => number_of(self.mk_const(*kind)),
+            Part::Region(kind) => number_of(self.mk_region(*kind)),
+            Part::Args(list) => number_of(self.mk_args(list.as_slice())),
+            Part::Vars(kinds) => Ok(Some(self.mk_vars(kinds.as_slice())?.0)),
+            Part::Preds(bounds) => Ok(Some(self.mk_preds(bounds.as_slice())?.0)),
+            Part::Sig(sig) => number_of(self.mk_sig(*sig)),
+            Part::Clause(clause) => number_of(self.mk_clause(*clause)),
+            Part::Env(clauses) => number_of(self.mk_param_env(clauses.as_slice())),
+        }
     }
 }
 
@@ -116,18 +124,17 @@ pub(crate) fn make_in<M: Make>(make: &mut M, part: &Part) -> Result<Option<u32>,
     if !takes(make.cx(), part) {
         return Ok(None);
     }
-    let number = match part {
-        Part::Ty(kind) => make.mk_ty(*kind)?.0,
-        Part::Const(kind) => make.mk_const(*kind)?.0,
-        Part::Region(kind) => make.mk_region(*kind)?.0,
-        Part::Args(list) => make.mk_args(list.as_slice())?.0,
-        Part::Vars(kinds) => make.mk_vars(kinds.as_slice())?.0,
-        Part::Preds(bounds) => make.mk_preds(bounds.as_slice())?.0,
-        Part::Sig(sig) => make.mk_sig(*sig)?.0,
-        Part::Clause(clause) => make.mk_clause(*clause)?.0,
-        Part::Env(clauses) => make.mk_param_env(clauses.as_slice())?.0,
-    };
-    Ok(Some(number))
+    match part {
+        Part::Ty(kind) => number_of(make.mk_ty(*kind)),
+        Part::Const(kind) => number_of(make.mk_const(*kind)),
+        Part::Region(kind) => number_of(make.mk_region(*kind)),
+        Part::Args(list) => number_of(make.mk_args(list.as_slice())),
+        Part::Vars(kinds) => Ok(Some(make.mk_vars(kinds.as_slice())?.0)),
+        Part::Preds(bounds) => Ok(Some(make.mk_preds(bounds.as_slice())?.0)),
+        Part::Sig(sig) => number_of(make.mk_sig(*sig)),
+        Part::Clause(clause) => number_of(make.mk_clause(*clause)),
+        Part::Env(clauses) => number_of(make.mk_param_env(clauses.as_slice())),
+    }
 }
 
 /// Whether the arguments in the node are those that it takes.

@@ -4,7 +4,7 @@ ghost use Rattle.std.specs.Prelude.{◌≤◌, IfOk, IsTrue, count_by};
 ghost use Rattle.candidate_eval.specs.ResponseTrees.{AreCandidates, IsResponse};
 ghost use Rattle.candidate_assembly.specs.Assembled.{is_trivial};
 
-use crate::answers::{Answer, Item};
+use crate::answers::{Answer, Item, Items};
 use crate::considering::{found_rows, source_of};
 use crate::merging::{certainty, push_response};
 use crate::reader::Reader;
@@ -21,13 +21,13 @@ use candidate_assembly::trait_goals::preference::{
     unsound_prefer_builtin_dyn_impl,
 };
 use candidate_eval::eval::certainty::Certainty;
+use candidate_eval::eval::context::EvalCtxt;
 use candidate_eval::eval::response::{Candidate, CandidateHeadUsages, CanonicalResponse};
 use candidate_eval::eval::source::{BuiltinImplSource, CandidateSource};
 use candidate_ir::decl::context::Cx;
 use candidate_ir::decl::make::Make;
 use candidate_ir::ir::kinds::TraitId;
 use candidate_ir::ir::trees::Trees;
-use candidate_rounds::rounds::Rounds;
 use std::alloc::Global;
 
 /// The words of preferences.
@@ -137,26 +137,29 @@ fn has_one_trivial(candidates: &[Candidate]) -> bool
     candidates.iter().filter(is_trivial).count() <= 1
 }
 
-/// How a goal of a trait is proved, if that is known, and its response.
-pub(crate) fn proved(
+/// How a goal of a trait is proved, if that is known, and its response, if there is one.
+pub(crate) fn proved<E>(
     alloc: Global,
-    response: &CanonicalResponse,
-    via: Option<TraitGoalProvenVia>,
-) -> Result<Answer, Refusal> {
-    let mut items = Vec::new(alloc);
-    items.push(Item::Word(word_for(&VIAS, via).unwrap_or(UNNAMED)))?;
-    push_response(&mut items, response)?;
-    Ok(Answer::Row(items))
+    outcome: Result<(CanonicalResponse, Option<TraitGoalProvenVia>), E>,
+) -> Result<Answer, Refusal>
+where
+    Refusal: From<E>,
+{
+    let (response, via) = outcome?;
+    let mut items = Items::new(alloc);
+    items.push(Item::Word(word_for(&VIAS, via).unwrap_or(UNNAMED)));
+    push_response(&mut items, &response);
+    items.row()
 }
 
 /// What the candidates come to, with the preference of that word. `Refusal::Condition` comes where more than one of them is trivial.
-fn merged(
+fn merged<E: EvalCtxt>(
     alloc: Global,
-    rounds: &mut Rounds,
+    ecx: &mut E,
     word: &str,
     candidates: Vec<Candidate>,
 ) -> Result<Answer, Refusal>
-    requires { AreCandidates rounds.old.context.trees candidates.items }
+    requires { AreCandidates (E.context ecx.old).trees candidates.items }
 {
     let mode = value_of(&PREFERENCES, word).ok_or(Refusal::UnknownWord)?;
     if !has_one_trivial(candidates.as_slice()) {
@@ -165,25 +168,25 @@ fn merged(
     let failed = FailedCandidateInfo {
         param_env_head_usages: Vec::new(alloc),
     };
-    let (response, via) = merge_trait_candidates(rounds, mode, candidates, failed)?;
-    proved(alloc, &response, via)
+    let outcome = merge_trait_candidates(ecx, mode, candidates, failed);
+    proved(alloc, outcome)
 }
 
 /// What the row asks of the candidates that are noted: which of them stay, or what they come to.
-pub(crate) fn answer(
+pub(crate) fn answer<E: EvalCtxt>(
     alloc: Global,
-    rounds: &mut Rounds,
+    ecx: &mut E,
     row: Row<'_>,
     notes: &[Note],
 ) -> Result<Answer, Refusal> {
-    let mut candidates = noted(alloc, rounds.cx(), notes)?;
+    let mut candidates = noted(alloc, ecx.cx(), notes)?;
     match row.verb {
         "unspecialized" => {
             let allow = value_of(&ALLOWED, row.second).ok_or(Refusal::UnknownWord)?;
-            filter_specialized_impls(rounds, allow, &mut candidates);
+            filter_specialized_impls(ecx, allow, &mut candidates);
         }
-        "objects" => unsound_prefer_builtin_dyn_impl(rounds, &mut candidates),
-        _ => return merged(alloc, rounds, row.second, candidates),
+        "objects" => unsound_prefer_builtin_dyn_impl(ecx, &mut candidates),
+        _ => return merged(alloc, ecx, row.second, candidates),
     }
     found_rows(alloc, candidates.as_slice())
 }

@@ -3,6 +3,7 @@
 ghost use Rattle.std.specs.Prelude.{◌<◌, length};
 
 use crate::names::{Name, word_of};
+use crate::transcript::Transcript;
 use candidate_ir::decl::context::Cx;
 use candidate_ir::ir::heads::{
     Builtin, ClauseHead, ConstHead, Head, ListHead, PartHead, PatternShape, PredHead, Signature,
@@ -13,7 +14,6 @@ use candidate_ir::ir::kinds::{
     VarKind,
 };
 use candidate_ir::ir::trees::Trees;
-use std::alloc::AllocError;
 
 /// What is printed for a head.
 #[derive(Clone, Copy)]
@@ -137,54 +137,45 @@ fn head_word(head: Head) -> Word {
 }
 
 /// Writes the name of the definition, or its number where it has none.
-pub(crate) fn write_definition(
-    out: &mut String,
-    names: &[Name<'_>],
-    number: u32,
-) -> Result<(), AllocError> {
+pub(crate) fn write_definition(out: &mut Transcript, names: &[Name<'_>], number: u32) {
     match word_of(names, number, false) {
-        Some(word) => out.push_str(word),
-        None => write!(out, "@{number}"),
+        Some(word) => out.write(word),
+        None => out.write_number("@", u64::from(number)),
     }
 }
 
 /// Writes what is printed for the head.
-pub(crate) fn write_head(
-    out: &mut String,
-    names: &[Name<'_>],
-    head: Head,
-) -> Result<(), AllocError> {
+pub(crate) fn write_head(out: &mut Transcript, names: &[Name<'_>], head: Head) {
     match head_word(head) {
-        Word::Plain(word) => out.push_str(word),
-        Word::Marked(mark, number) => write!(out, "{mark}{number}"),
-        Word::Pair(mark, first, second) => write!(out, "{mark}{first}.{second}"),
+        Word::Plain(word) => out.write(word),
+        Word::Marked(mark, number) => out.write_number(mark, number),
+        Word::Pair(mark, first, second) => {
+            out.write_number(mark, u64::from(first));
+            out.write_number(".", u64::from(second));
+        }
         Word::Of(mark, number) => {
-            out.push_str(mark)?;
-            write_definition(out, names, number)
+            out.write(mark);
+            write_definition(out, names, number);
         }
     }
 }
 
 /// Writes the tree of the number: its root, and behind it in parentheses what stands below.
-pub(crate) fn write_tree(
-    out: &mut String,
-    names: &[Name<'_>],
-    cx: &Cx,
-    number: u32,
-) -> Result<(), AllocError>
+pub(crate) fn write_tree(out: &mut Transcript, names: &[Name<'_>], cx: &Cx, number: u32)
     requires { number < length cx.now.trees }
 {
     if cx.child(number, 0).is_none() {
-        return write_head(out, names, cx.head(number));
+        write_head(out, names, cx.head(number));
+        return;
     }
-    out.push_str("(")?;
-    write_head(out, names, cx.head(number))?;
+    out.write("(");
+    write_head(out, names, cx.head(number));
     for place in 0..usize::MAX {
         let Some(child) = cx.child(number, place) else {
             break;
         };
-        out.push_str(" ")?;
-        write_tree(out, names, cx, child)?;
+        out.write(" ");
+        write_tree(out, names, cx, child);
     }
-    out.push_str(")")
+    out.write(")");
 }

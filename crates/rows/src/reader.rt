@@ -11,7 +11,8 @@ use crate::rows::Row;
 use crate::tables::value_of;
 use crate::values::{Last, Value};
 use candidate_ir::ir::kinds::{
-    Args, Clause, Const, GenericArg, Region, TraitId, TraitRef, Ty, VarKind,
+    Args, Binder, Clause, Const, ExistentialPredicate, GenericArg, Region, TraitId, TraitRef, Ty,
+    VarKind,
 };
 use std::alloc::{AllocError, Global};
 
@@ -119,6 +120,17 @@ impl<'a> Reader<'a> {
         }
     }
 
+    /// The values of the row's operands.
+    pub(crate) fn operands<T: Table>(
+        &mut self,
+        table: &mut T,
+        row: Row<'a>,
+    ) -> Result<[Value; 3], Refusal> {
+        let left = self.operand(table, row.left)?;
+        let right = self.operand(table, row.right)?;
+        Ok([left, right, self.operand(table, row.third)?])
+    }
+
     fn read<T: Table>(&mut self, table: &mut T, word: &'a str) -> Result<(), Refusal> {
         let last = self.last();
         match (word, last[0]) {
@@ -207,16 +219,18 @@ impl<'a> Reader<'a> {
 
     /// The last four values, or as many as there are.
     fn last(&self) -> Last {
-        let mut values = self.values.iter().rev().copied();
-        let first = values.next().unwrap_or(Value::Nothing);
-        let second = values.next().unwrap_or(Value::Nothing);
-        let third = values.next().unwrap_or(Value::Nothing);
         [
-            first,
-            second,
-            third,
-            values.next().unwrap_or(Value::Nothing),
+            self.before_last(0),
+            self.before_last(1),
+            self.before_last(2),
+            self.before_last(3),
         ]
+    }
+
+    /// The value with so many behind it, if there is one.
+    fn before_last(&self, others: usize) -> Value {
+        let value = self.values.iter().rev().nth(others);
+        *value.unwrap_or(&Value::Nothing)
     }
 
     /// The value stands in the place of the last ones, which are so many.
@@ -239,6 +253,54 @@ impl<'a> Reader<'a> {
     }
 }
 
+/// What stands in a list that is made.
+trait Listed: Copy {
+    /// What the value is, if it is such a member.
+    fn of<T: Table>(table: &T, value: Value) -> Option<Self>;
+}
+
+impl Listed for GenericArg {
+    fn of<T: Table>(table: &T, value: Value) -> Option<Self> {
+        let number = value.node();
+        match sort_at(table, number) {
+            Some(NodeSort::Ty) => Some(GenericArg::Ty(Ty(number))),
+            Some(NodeSort::Const) => Some(GenericArg::Const(Const(number))),
+            Some(NodeSort::Region) => Some(GenericArg::Region(Region(number))),
+            _ => None,
+        }
+    }
+}
+
+impl Listed for Clause {
+    fn of<T: Table>(table: &T, value: Value) -> Option<Self> {
+        let number = value.node();
+        is_at(table, number, NodeSort::Clause).then_some(Clause(number))
+    }
+}
+
+impl Listed for Binder<ExistentialPredicate> {
+    fn of<T: Table>(_: &T, value: Value) -> Option<Self> {
+        match value {
+            Value::Bound(bound) => Some(bound),
+            _ => None,
+        }
+    }
+}
+
+/// The list of what the values are; that one is no member is a `Refusal::Condition`.
+fn collected<M: Listed, T: Table>(
+    alloc: Global,
+    table: &T,
+    values: &[Value],
+) -> Result<Vec<M>, Refusal> {
+    let mut list = Vec::new(alloc);
+    for value in values {
+        let member = M::of(table, *value).ok_or(Refusal::Condition)?;
+        list.push(member)?;
+    }
+    Ok(list)
+}
+
 /// The list of the values that the word makes: of arguments, of clauses or of bounds.
 fn list_of<T: Table>(
     alloc: Global,
@@ -246,21 +308,9 @@ fn list_of<T: Table>(
     word: &str,
     values: &[Value],
 ) -> Result<Part, Refusal> {
-    let (mut args, mut clauses, mut bounds) = (Vec::new(alloc), Vec::new(alloc), Vec::new(alloc));
-    for value in values {
-        let number = value.node();
-        match (word, *value, sort_at(table, number)) {
-            ("preds", Value::Bound(bound), _) => bounds.push(bound)?,
-            ("env", _, Some(NodeSort::Clause)) => clauses.push(Clause(number))?,
-            ("args", _, Some(NodeSort::Ty)) => args.push(GenericArg::Ty(Ty(number)))?,
-            ("args", _, Some(NodeSort::Const)) => args.push(GenericArg::Const(Const(number)))?,
-            ("args", _, Some(NodeSort::Region)) => args.push(GenericArg::Region(Region(number)))?,
-            _ => return Err(Refusal::Condition),
-        }
+    match word {
+        "preds" => Ok(Part::Preds(collected(alloc, table, values)?)),
+        "env" => Ok(Part::Env(collected(alloc, table, values)?)),
+        _ => Ok(Part::Args(collected(alloc, table, values)?)),
     }
-    Ok(match word {
-        "preds" => Part::Preds(bounds),
-        "env" => Part::Env(clauses),
-        _ => Part::Args(args),
-    })
 }

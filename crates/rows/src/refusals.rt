@@ -1,6 +1,7 @@
 //! Why a row has no answer.
 
 use candidate_eval::eval::refusal::NoSolutionOrStop;
+use candidate_eval::eval::response::CandidateHeadUsages;
 use candidate_eval::structural::object::AmbiguousOrStop;
 use candidate_ir::decl::builder::DeclFault;
 use candidate_ir::ir::stop::Stop;
@@ -57,6 +58,13 @@ impl From<NoSolutionOrStop> for Refusal {
             NoSolutionOrStop::NoSolution => Refusal::NoSolution,
             NoSolutionOrStop::Stop(stop) => Refusal::Stop(stop),
         }
+    }
+}
+
+/// A candidate that doesn't hold.
+impl From<CandidateHeadUsages> for Refusal {
+    fn from(_: CandidateHeadUsages) -> Self {
+        Refusal::NoSolution
     }
 }
 

@@ -5,6 +5,7 @@ use crate::eval;
 use crate::reader::Reader;
 use crate::refusals::Refusal;
 use crate::rows::Row;
+use crate::transcript::Transcript;
 use candidate_ir::decl::builder::DeclsBuilder;
 use candidate_ir::decl::context::Cx;
 use candidate_ir::ir::stop::Stop;
@@ -25,9 +26,7 @@ pub(crate) enum Phase {
 #[derive(Drop)]
 pub(crate) struct Session<'a> {
     pub(crate) reader: Reader<'a>,
-    out: String,
-    /// Whether all was printed; what comes behind a growth that was refused is not.
-    written: Result<(), AllocError>,
+    out: Transcript,
     rest: &'a str,
     /// Rows that declare, to be read again.
     common: &'a str,
@@ -38,12 +37,9 @@ const TRANSCRIPT: usize = 2;
 
 /// What is printed for the rows of the text; an error where the transcript's memory was refused.
 pub fn run(alloc: Global, text: &str) -> Result<String, AllocError> {
-    let mut out = String::new(alloc);
-    out.reserve(text.len().saturating_mul(TRANSCRIPT))?;
     let mut session = Session {
         reader: Reader::new(alloc),
-        out,
-        written: Ok(()),
+        out: Transcript::new(alloc, text.len().saturating_mul(TRANSCRIPT))?,
         rest: text,
         common: "",
     };
@@ -54,8 +50,7 @@ pub fn run(alloc: Global, text: &str) -> Result<String, AllocError> {
         };
         phase = session.step(phase, row);
     }
-    session.written?;
-    Ok(session.out)
+    session.out.finish()
 }
 
 /// Whether memory was refused to the row.
@@ -72,29 +67,19 @@ impl<'a> Session<'a> {
             }
             let (line, rest) = self.rest.split_once('\n').unwrap_or((self.rest, ""));
             self.rest = rest;
-            self.write(line);
+            self.out.write(line);
             if !line.is_empty() && !line.starts_with("//") {
                 return Some(Row::new(line));
             }
-            self.write("\n");
+            self.out.write("\n");
         }
         None
     }
 
-    fn write(&mut self, text: &str) {
-        if self.written.is_ok() {
-            self.written = self.out.push_str(text);
-        }
-    }
-
     /// Prints the answer behind its row, and says whether memory was refused to it, so that it is to be asked again.
     pub(crate) fn print(&mut self, cx: Option<&Cx>, outcome: Result<Answer, Refusal>) -> bool {
-        let is_again = is_refused_growth(&outcome);
-        if self.written.is_ok() {
-            let names = self.reader.names.as_slice();
-            self.written = write_outcome(&mut self.out, names, cx, outcome);
-        }
-        is_again
+        write_outcome(&mut self.out, self.reader.names.as_slice(), cx, &outcome);
+        is_refused_growth(&outcome)
     }
 
     /// Prints that the row is done.

@@ -19,13 +19,12 @@ use candidate_rounds::rounds::goals::Verdict;
 use std::alloc::Global;
 
 /// What is printed for a verdict: how the goal is proved, and its response.
-fn said(alloc: Global, verdict: &Verdict) -> Result<Answer, Refusal> {
-    match verdict {
-        Verdict::Yes(response, via) | Verdict::Maybe(response, via) => {
-            proved(alloc, response, *via)
-        }
+fn said(alloc: Global, verdict: Verdict) -> Result<Answer, Refusal> {
+    let outcome = match verdict {
+        Verdict::Yes(response, via) | Verdict::Maybe(response, via) => Ok((response, via)),
         Verdict::Refused => Err(Refusal::NoSolution),
-    }
+    };
+    proved(alloc, outcome)
 }
 
 /// Runs the goal for as many rounds as the row says. `Refusal::Condition` comes where that is no number above 0, and where the goal may
@@ -44,8 +43,7 @@ fn run(
     if count == 0 || !rounds.may_be_run(alloc, env, predicate)? {
         return Err(Refusal::Condition);
     }
-    let verdict = rounds.run(alloc, env, predicate, count)?;
-    said(alloc, &verdict)
+    said(alloc, rounds.run(alloc, env, predicate, count)?)
 }
 
 /// What the table has of the goal.
@@ -58,9 +56,10 @@ fn entry(
     requires { IsGoal trait_rules arguments_held types_held trait_goal rounds.old.context env predicate }
     ensures { probes rounds.new ≡ probes rounds.old }
 {
-    match rounds.entry(alloc, env, predicate)? {
-        Some(verdict) => said(alloc, &verdict),
-        None => Ok(Answer::One(Item::Nothing)),
+    match rounds.entry(alloc, env, predicate) {
+        Ok(Some(verdict)) => said(alloc, verdict),
+        Ok(None) => Ok(Answer::One(Item::Nothing)),
+        Err(stop) => Err(Refusal::Stop(stop)),
     }
 }
 

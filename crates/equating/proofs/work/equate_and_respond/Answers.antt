@@ -1,7 +1,5 @@
 use Rattle.std.proofs.Common.{◌∙◌}
 use Rattle.candidate_ir.proofs.Kept.{grows-trans}
-use Rattle.candidate_ir.proofs.Made.{IsArgs-grows, IsParamEnv-grows}
-use Rattle.equating.proofs.Growing.{IsArg-grows}
 use Rattle.equating.proofs.work.equate_and_respond.Goals as goal
 
 pub returns-clause-grows : goal.returns-clause-grows

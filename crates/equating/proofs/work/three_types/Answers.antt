@@ -1,7 +1,4 @@
-use Rattle.std.proofs.Common.{◌∙◌}
 use Rattle.candidate_ir.proofs.Kept.{grows-trans}
-use Rattle.candidate_ir.proofs.Made.{IsArgs-grows, IsParamEnv-grows}
-use Rattle.equating.proofs.Growing.{IsArg-grows}
 use Rattle.equating.proofs.work.three_types.Goals as goal
 
 pub returns-in_err-b-clause-grows : goal.returns-in_err-b-clause-grows

@@ -2,9 +2,9 @@ use Rattle.rows.proofs.Solved.{alias-below, goal-below}
 use Rattle.rows.proofs.aliases.additional.Goals as goal
 
 pub consider_additional_alias_assumptions-requires-clause-below : goal.consider_additional_alias_assumptions-requires-clause-below
-consider_additional_alias_assumptions-requires-clause-below c =
-    goal-below _ c.args.rounds.now.context c.cx.result.now c.in_ok-env.env c.in_ok-env.predicate c.cx.ensures c.in_ok-env.ensures.env c.in_ok-env.ensures.args
+consider_additional_alias_assumptions-requires-clause-below g c =
+    goal-below _ (g.E.Build.context c.args.ecx.now) c.cx.result.now c.in_ok-env.env c.in_ok-env.predicate c.cx.ensures c.in_ok-env.ensures.env c.in_ok-env.ensures.args
 
 pub consider_additional_alias_assumptions-requires-clause-alias_below : goal.consider_additional_alias_assumptions-requires-clause-alias_below
-consider_additional_alias_assumptions-requires-clause-alias_below c =
-    alias-below _ c.args.rounds.now.context c.cx-2.result.now c.in_ok-alias.alias c.cx-2.ensures c.in_ok-alias.ensures
+consider_additional_alias_assumptions-requires-clause-alias_below g c =
+    alias-below _ (g.E.Build.context c.args.ecx.now) c.cx-2.result.now c.in_ok-alias.alias c.cx-2.ensures c.in_ok-alias.ensures

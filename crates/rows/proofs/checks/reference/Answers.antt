@@ -3,6 +3,7 @@ use Rattle.candidate_ir.specs.declared.ir.kinds.Mutability.TheVariants.{Not}
 use Rattle.candidate_ir.specs.declared.ir.kinds.TyKind.TheVariants as K
 use Rattle.candidate_ir.specs.Context.{world}
 use Rattle.candidate_ir.proofs.Arity.{plain-takes}
+use Rattle.candidate_ir.proofs.Kept.{grows-trans}
 use Rattle.candidate_ir.proofs.Made.{IsTy-grows}
 use Rattle.rows.proofs.checks.reference.Goals as goal
 
@@ -14,3 +15,6 @@ mk_ty-requires-clause-fits g c =
 
 pub mk_ty-requires-clause-takes : goal.mk_ty-requires-clause-takes
 mk_ty-requires-clause-takes g c = λ _. plain-takes (world (g.M.Build.context c.mk_region.new.self)) _ (K.Ref c.in_ok-region.region c.args.target Not) refl (mk_ty-requires-clause-fits g c)
+
+pub returns-clause-grows : goal.returns-clause-grows
+returns-clause-grows g c = grows-trans _ _ _ c.mk_region.ensures.made.kept c.mk_ty.ensures.made.kept
