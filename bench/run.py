@@ -7,7 +7,8 @@ clauses and fields. It prints queries a second, by processor time, the peak of
 memory, the time beside that of only reading the same input and writing the same output, and how
 time and memory grow from each text to the next larger one. Where `rustc` is there, time and peak of
 memory stand beside those of two programs in plain Rust (`bench/plain`): one with the same algorithm and
-data, and a lean one. Where `valgrind` is there, the instructions are counted too. It judges nothing.
+data, and a lean one. Where `valgrind` is there, the instructions are counted too. It judges nothing. `solve` is measured
+by `solving.py`.
 """
 
 import argparse

@@ -1,16 +1,25 @@
 #!/usr/bin/env python3
-"""How long the program `assembly` takes to answer `solve`.
+"""How long the program `assembly` takes to answer `solve`, and how much memory, beside plain Rust.
 
 `python3 bench/solving.py` builds the program with its proofs and lets it answer queries over made declarations: of impls of many
-traits, and of one trait; of chains of goals, each of which asks for the next; of a goal that asks for many at once. It prints the
-processor time of each size. It judges nothing.
+traits, and of one trait; of chains of goals, each of which asks for the next; of a goal that asks for many at once. Each is asked in two
+sizes, and it prints the processor time, the peak of memory, and how they grow. Where `rustc` is there, the same stands beside it of the
+program that `bench/plain.py` makes of the same sources, which has to answer the same. Where `valgrind` is there, the instructions are
+counted too, which takes some minutes. It judges nothing.
 """
 
-import resource
-import subprocess
+import argparse
+import filecmp
+import os
+import shutil
 import sys
+import tempfile
 
-from run import PROGRAM, build
+import plain
+from run import PROGRAM, build, instructions_of_run, memory_of_run, seconds_of_run
+
+# What is measured, in which unit it is printed, and how many of what a run takes are one of it.
+MEASURED = [("time", "%.3f s", 1), ("memory", "%.1f MiB", 1024), ("instructions", "%.0f million", 1e6)]
 
 
 def of_impls(count, traits):
@@ -36,26 +45,65 @@ def of_many(count):
     return lines + ["solve 3 U Root"]
 
 
-def timed(lines):
-    """The processor time of a run over these lines, in seconds, and its last answer."""
-    before = resource.getrusage(resource.RUSAGE_CHILDREN)
-    text = "local 0\n" + "\n".join(lines) + "\n"
-    done = subprocess.run([PROGRAM], input=text.encode(), capture_output=True)
-    after = resource.getrusage(resource.RUSAGE_CHILDREN)
-    if done.returncode != 0:
-        sys.exit("the program ended with status %d: %s" % (done.returncode, done.stdout[-200:].decode()))
-    return after.ru_utime - before.ru_utime, done.stdout.decode().splitlines()[-1]
+WORK = [
+    ("impls of a tenth as many traits, and as many queries", (10_000, 20_000), lambda size: of_impls(size, size // 10)),
+    ("impls of one trait, and as many queries", (1_000, 2_000), lambda size: of_impls(size, 1)),
+    ("goals in a chain", (50, 100), of_chain),
+    ("goals that one waits for", (500, 1_000), of_many),
+]
+
+
+def measure(folder, lines, programs, rounds):
+    """What each of the programs takes for these lines, by the order of what is measured."""
+    text = os.path.join(folder, "text")
+    with open(text, "w") as taken:
+        taken.write("\n".join(["local 0", *lines, ""]))
+    runs = [(text, os.path.join(folder, "answers %d" % each), program) for each, program in enumerate(programs)]
+    # One after the other, so that other work slows all of them down.
+    times = [[seconds_of_run(*each) for each in runs] for _ in range(rounds)]
+    if not all(filecmp.cmp(runs[0][1], answers, shallow=False) for _, answers, _ in runs):
+        sys.exit("plain Rust answers otherwise")
+    seconds = [min(each) for each in zip(*times)]
+    memory = [max(memory_of_run(*each) for _ in range(rounds)) for each in runs]
+    return list(zip(seconds, memory, [instructions_of_run(text, program) for program in programs]))
+
+
+def show(taken):
+    """Prints what the program took, and how many times what plain Rust did."""
+    for place, (name, unit, one) in enumerate(MEASURED):
+        ours, *others = [each[place] for each in taken]
+        if ours is None:
+            continue
+        beside = ["%.2f times plain Rust, which takes %s" % (ours / max(other, 1e-9), unit % (other / one)) for other in others]
+        print("    %-12s  %s" % (name, ", ".join([unit % (ours / one), *beside])))
+
+
+def show_growth(small, large):
+    """Prints how many times as much the larger size takes."""
+    for place, (name, _, _) in enumerate(MEASURED):
+        if small[0][place] is None:
+            continue
+        grown = ["%.1f times" % (more[place] / max(less[place], 1e-9)) for less, more in zip(small, large)]
+        print("    %-12s  %s" % (name, ", and in plain Rust ".join(grown)))
 
 
 def main():
+    options = argparse.ArgumentParser(description=__doc__.splitlines()[0])
+    options.add_argument("--rounds", type=int, default=5, help="of so many runs the fastest counts")
+    given = options.parse_args()
     build()
-    for name, sizes, made in (
-        ("impls of a tenth as many traits, and as many queries", (10_000, 20_000), lambda size: of_impls(size, size // 10)),
-        ("impls of one trait, and as many queries", (1_000, 2_000), lambda size: of_impls(size, 1)),
-        ("goals in a chain", (50, 100), of_chain),
-        ("goals that one waits for", (500, 1_000), of_many),
-    ):
-        print("%s: %s" % (name, ", ".join("%d in %.3f s (%s)" % (size, *timed(made(size))) for size in sizes)))
+    with tempfile.TemporaryDirectory() as folder:
+        programs = [PROGRAM]
+        if shutil.which("rustc") is not None:
+            programs.append(plain.build(os.path.join(folder, "plain")))
+        for name, sizes, made in WORK:
+            taken = [measure(folder, made(size), programs, given.rounds) for size in sizes]
+            print(name)
+            for size, each in zip(sizes, taken):
+                print("  %d" % size)
+                show(each)
+            print("  %.1f times as many" % (sizes[1] / sizes[0]))
+            show_growth(*taken)
 
 
 if __name__ == "__main__":

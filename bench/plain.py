@@ -1,0 +1,196 @@
+#!/usr/bin/env python3
+"""Plain Rust out of the sources of the program `assembly`, to be measured beside it.
+
+`python3 bench/plain.py FOLDER` takes all that is said of proofs away from the crates that the program is made of (`ghost` items and
+members, `requires` and `ensures`, `tactic` and `cycle`), writes what is left into the folder, and compiles it with `rustc` over
+`bench/plain/kit.rs`, which has by Rust's own std what they use of the kit's. The program is `FOLDER/assembly`. It then lets it answer the
+stored run and the rows of `text_tests`, and stops where an answer is another.
+
+The functions, the data and what is done in which order are those of the proved program, line by line. What differs: there is no contract
+and no proof; an index is checked where it is used, as Rust does it; the collections and the search for a byte are those of Rust's std; and
+where memory is refused, that ends the program, while the proved one answers a stop. The crates are optimised together, as the kit does it.
+"""
+
+import glob
+import os
+import re
+import subprocess
+import sys
+
+ROOT = os.path.dirname(os.path.dirname(os.path.abspath(__file__)))
+KIT = os.path.join(ROOT, "bench", "plain", "kit.rs")
+PROGRAM = "assembly"
+FLAGS = ["--edition", "2021", "-O", "-C", "codegen-units=1", "-A", "warnings"]
+TESTS = os.path.join(ROOT, "crates", "text_tests", "src")
+
+# Comments, texts and characters, in which no word is one of the language.
+QUIET = re.compile(r'//[^\n]*|"(?:\\.|[^"\\])*"|\'(?:\\[^\']*|[^\'\\\n])\'', re.DOTALL)
+
+# What ends by itself, and what a block in braces follows.
+WHOLE = re.compile(r"#!?\[(?:tactic|cycle)\b[^\]]*\]|\bghost\s+use\b[^;]*;")
+BEFORE_BLOCK = re.compile(r"(?:\bpub\s+)?\bghost\s+\w+\s*[:=]\s*(?=\{)|\b(?:requires|ensures)\*?\s+(?:\w+\s+)?(?=\{)")
+
+# What is written otherwise in plain Rust, with the reason.
+REPLACED = [
+    # A method of a trait that no impl may write anew is one with a body.
+    (r"\bfinal fn\b", "fn"),
+    # Each type has a size in the kit, also the one that a trait is for.
+    (r"\btrait (\w+) \{", r"trait \1: Sized {"),
+    # A comment may be left over from a member that was taken away, and so can't be one that documents.
+    (r"(?m)^(\s*)//[/!]", r"\1//"),
+    # Every type of Rust can be dropped.
+    (r"#\[derive\(Drop\)\]\n", ""),
+    (r"(#\[derive\([^)]*), Drop\b", r"\1"),
+    # `kit.rs` stands for the kit's std and its crates.
+    (r"(?<![:\w])std::", "kit::"),
+    (r"(?<![:\w])(?=(?:bitflags|memchr)::)", "kit::"),
+    # Rust's own methods of these names take no allocator, and would be called before any others.
+    (r"\.(to_vec|collect)\(", r".kit_\1("),
+    # A formatter of Rust's std hides what it writes to.
+    (r"fn fmt<W: fmt::Write>\(&self, f: &mut fmt::Formatter<W>\)", "fn fmt(&self, f: &mut fmt::Formatter<'_>)"),
+    # The kit's runtime is passed to `main`.
+    (r"fn main\(rt: HostRuntime\) -> ExitCode \{", "fn main() -> ExitCode {\n    let rt = HostRuntime;"),
+]
+
+# The tests of texts: a text, and a call that asks what stands in rows after such a text.
+CONSTANT = re.compile(r'const (\w+): &str = "((?:\\.|[^"\\])*)"', re.DOTALL)
+ROWS = re.compile(r'check_rows\(&rt, rt\.alloc\(\), (""|\w+), ([A-Z]\w*), Status::(\w+)\)')
+STATUSES = {"Done": 0, "BadLine": 2}
+
+# What stands in the scope of each file.
+PRELUDE = "use kit::{eprintln, prelude::*, vec};\n"
+
+
+def hushed(text):
+    """The text with nothing in its comments, texts and characters, each letter in its place."""
+    return QUIET.sub(lambda found: " " * len(found.group()), text)
+
+
+def end_of_block(quiet, at):
+    """Where the block ends that begins with a brace there."""
+    depth = 0
+    for brace in re.compile(r"[{}]").finditer(quiet, at):
+        depth += 1 if brace.group() == "{" else -1
+        if depth == 0:
+            return brace.end()
+    sys.exit("a block has no end")
+
+
+def spans(quiet):
+    """Where what is said of proofs stands, from the first to the last."""
+    found = [match.span() for match in WHOLE.finditer(quiet)]
+    for match in BEFORE_BLOCK.finditer(quiet):
+        end = end_of_block(quiet, match.end())
+        # A member ends with a mark of its own; that behind a clause ends the function.
+        if "ghost" in match.group():
+            end = re.compile(r"[;,]").search(quiet, end).end()
+        found.append((match.start(), end))
+    return sorted(found)
+
+
+def whole_lines(text, start, end):
+    """The span with the blanks before it and the end of its line, where nothing else stands in its lines."""
+    begin = text.rfind("\n", 0, start) + 1
+    if not text[begin:start].strip() and text[end : end + 1] == "\n":
+        return begin, end + 1
+    return start, end
+
+
+def plain(text):
+    """The plain Rust in a source."""
+    kept = []
+    at = 0
+    for start, end in spans(hushed(text)):
+        start, end = whole_lines(text, start, end)
+        kept.append(text[at:start])
+        at = end
+    text = "".join(kept) + text[at:]
+    for pattern, by in REPLACED:
+        text = re.sub(pattern, by, text)
+    return PRELUDE + text
+
+
+def libraries():
+    """The crates of the repository with those that each uses, as `crates.txt` names them."""
+    uses = {}
+    with open(os.path.join(ROOT, "crates.txt")) as lines:
+        for line in lines:
+            name, _, used = line.partition(":")
+            uses[name.strip()] = used.split()
+    return uses
+
+
+def in_order(name, uses, before):
+    """The crate and all below it, each after those that it uses."""
+    for used in uses.get(name, []):
+        if used in uses and used not in before:
+            in_order(used, uses, before)
+    before.append(name)
+    return before
+
+
+def write(name, to):
+    """Leaves the plain sources of a crate in the folder, and answers which of them is its root."""
+    source = os.path.join(ROOT, "crates", name, "src")
+    for below, _, files in os.walk(source):
+        folder = os.path.join(to, os.path.relpath(below, source))
+        os.makedirs(folder, exist_ok=True)
+        for file in files:
+            with open(os.path.join(below, file)) as given:
+                text = plain(given.read())
+            with open(os.path.join(folder, os.path.splitext(file)[0] + ".rs"), "w") as taken:
+                taken.write(text)
+    return os.path.join(to, "main.rs" if name == PROGRAM else "lib.rs")
+
+
+def compile_crate(name, root, below, folder):
+    """Compiles a crate, which may name those below it, which lie in the folder."""
+    command = ["rustc", *FLAGS, "--crate-name", name]
+    command += ["--crate-type", "bin", "-C", "lto"] if name == PROGRAM else ["--crate-type", "lib"]
+    for used in below:
+        command += ["--extern", "%s=%s" % (used, os.path.join(folder, "lib%s.rlib" % used))]
+    subprocess.run([*command, "-L", folder, "--out-dir", folder, root], check=True)
+
+
+def build(folder):
+    """The plain program, which is made in the folder."""
+    compile_crate("kit", KIT, [], folder)
+    below = ["kit"]
+    for name in in_order(PROGRAM, libraries(), []):
+        compile_crate(name, write(name, os.path.join(folder, "src", name)), below, folder)
+        below.append(name)
+    return os.path.join(folder, PROGRAM)
+
+
+def rows():
+    """The texts in rows of the tests of texts, each with the status and the answers that it has to end with."""
+    for source in sorted(glob.glob(os.path.join(TESTS, "*.rt"))):
+        with open(os.path.join(TESTS, "cases.rt")) as cases, open(source) as given:
+            tests = given.read()
+            named = {name: text.replace("\\\n", "") for name, text in CONSTANT.findall(cases.read() + tests)}
+        for before, name, status in ROWS.findall(tests):
+            for row in named[name].splitlines():
+                lines, answers = row.replace("|", "\n").split(" => ")
+                yield named.get(before, "") + lines, STATUSES[status], answers + "\n"
+
+
+def check(program):
+    """Stops where the program answers otherwise than the proved one does in its stored run and in the tests; answers how many texts."""
+    with open(os.path.join(ROOT, "crates", PROGRAM, "stdin")) as text, open(os.path.join(ROOT, "crates", PROGRAM, "stdout")) as answers:
+        texts = [(text.read(), 0, answers.read()), *rows()]
+    for text, status, answers in texts:
+        done = subprocess.run([program], input=text, capture_output=True, text=True)
+        if (done.returncode, done.stdout) != (status, answers):
+            sys.exit("the plain program ends with status %d and answers %r to %r" % (done.returncode, done.stdout, text))
+    return len(texts)
+
+
+def main():
+    if len(sys.argv) != 2:
+        sys.exit(__doc__)
+    program = build(sys.argv[1])
+    print("%s answers %d texts as the proved program does" % (program, check(program)))
+
+
+if __name__ == "__main__":
+    main()
