@@ -150,7 +150,8 @@ impl<'a> Declaring<'a> {
         let parameters = self.parameters.first(new.arity)?;
         let draft = &mut self.scope.maker;
         let item = add_new(&mut draft.builder, new, parameters)?;
-        self.scope.names.add(new.name, item)
+        self.scope.names.add(new.name, item)?;
+        Ok(())
     }
 
     fn content(&mut self, kind: ContentKind, mut words: Words<'a>) -> Result<(), Fault<'a>> {

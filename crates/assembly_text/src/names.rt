@@ -162,8 +162,9 @@ impl<'a> Names<'a> {
         self.named(words.word()?)
     }
 
-    /// Lets the name stand for the item. It is the name of the next definition, except an impl's. The only error is `Fault::Stop`.
-    pub fn add(&mut self, name: &'a str, item: Item) -> Result<(), Fault<'a>> {
+    /// Lets the name stand for the item. It is the name of the next definition, except an impl's. The error comes where a growth was
+    /// refused.
+    pub fn add(&mut self, name: &'a str, item: Item) -> Result<(), AllocError> {
         if !matches!(item, Item::Impl(_)) {
             self.definitions.push(name)?;
         }
