@@ -56,6 +56,7 @@ use Rattle.candidate_assembly.specs.KnownImpls.{Concerns, HasLeafyValues, ImplWa
 use Rattle.candidate_assembly.specs.Listing.{GoesOn, Listed, Lists, answers, lists, listed, stops, together}
 use Rattle.candidate_assembly.specs.Listing as Listing
 use Rattle.candidate_assembly.specs.Opaques.{is_default_impl, proper_impls}
+use Rattle.candidate_assembly.specs.Standing.{GoalStands}
 use Rattle.candidate_assembly.specs.SuperLaws.{arguments_fit}
 use Rattle.candidate_assembly.specs.TraitAnswers.{Computes, IsTraitAnswer, Refused as Rejected, answer_of}
 use Rattle.candidate_assembly.specs.TraitGoals.{arguments_held, impl_part, no_impl, trait_goal, types_held, with_self_type}
@@ -65,6 +66,7 @@ use Rattle.candidate_assembly.proofs.CoherentRefusals.{list-empty, none-answered
 use Rattle.candidate_assembly.proofs.KnownFresh.{fits-still, fresh-all, fresher, leaves-still, resolved-still, sound-still, trees-still, wider}
 use Rattle.candidate_assembly.proofs.KnownHeaders.{fits-leaves, header-bare, header-closed, header-known, header-leaves, header-new, header-no-alias, header-resolved, header-trees}
 use Rattle.candidate_assembly.proofs.KnownSolutions.{combined, combined-solves, new-apply, old-apply}
+use Rattle.candidate_assembly.proofs.PlainLeaves.{leafy}
 
 -- Lists that are empty.
 
@@ -367,7 +369,7 @@ module _ (J : Judge) (law : Lawful J) (c : Context) (table : IsWellFormedTable c
             refused = subst (λ (ps : List Pending). J.responded (with_pending q.1 ((ps ++ q.0) ++ impl_goals c S env i)) certainty ≡ None) kept refused;
           }
 
-  pub known-refused : (U : State) → IsTraitAnswer J c S g U Rejected → KnownWereRefused J c S g
+  pub known-refused : (U : State) → IsTraitAnswer J c S g U Rejected → HasLeafyValues S g → KnownWereRefused J c S g
   known-refused U a h n i certainty concerns =
       let steps = steps-refused n i certainty concerns (rule-refused n i certainty concerns (none-served U a)) in
       by-equation n i certainty concerns h (J.equated (with_fresh_variables S (kinds_of_impl i)) env g.reference.arguments (header_at c S i).arguments) refl (equation-refused n i certainty concerns steps)
@@ -375,8 +377,8 @@ module _ (J : Judge) (law : Lawful J) (c : Context) (table : IsWellFormedTable c
 -- So a call that computes what the goal comes to refuses it only where each was.
 pub computes-known : {E X : Type 0} {fixed : E → X} {judge : X → Judge} {state : E → State} {probes : E → List State} {context : E → Context} {stops : Account E} → ((f : X) → Lawful (judge f)) → (old new : E) (e : ParamEnv) (p : TraitPredicate)
     (r : Result (CanonicalResponse × Option TraitGoalProvenVia) NoSolutionOrStop) → IsWellFormedTable (context old) → IsGoal trait_rules arguments_held types_held trait_goal (context old) e p
-    → Computes fixed judge state probes context stops old new (trait_goal (context old).trees e p) r → RefusesImpls (judge (fixed old)) (context old) (state old) (trait_goal (context old).trees e p) r
-computes-known {fixed = fixed} {judge = judge} {state = state} {context = context} law old new e p r table goal h =
+    → GoalStands trait_rules (state old) (trait_goal (context old).trees e p) → Computes fixed judge state probes context stops old new (trait_goal (context old).trees e p) r → RefusesImpls (judge (fixed old)) (context old) (state old) (trait_goal (context old).trees e p) r
+computes-known {fixed = fixed} {judge = judge} {state = state} {context = context} law old new e p r table goal stands h =
     let c = context old in
     let there = is-reference c p.trait_ref (nodes_fit c table) goal.arguments goal.fit in
-    so-err r (λ x answer n plain. known-refused (judge (fixed old)) (law (fixed old)) c table (state old) (trait_goal c.trees e p) plain there goal.no_parameter (state new) (answer n)) h.refused
+    so-err r (λ x answer n plain. known-refused (judge (fixed old)) (law (fixed old)) c table (state old) (trait_goal c.trees e p) plain there goal.no_parameter (state new) (answer n) (leafy (state old) (trait_goal c.trees e p) stands plain.is_resolved)) h.refused

@@ -101,4 +101,5 @@ pub mod KnownInstances
 pub mod KnownFresh
 pub mod KnownHeaders
 pub mod KnownSolutions
+pub mod PlainLeaves
 pub mod KnownImpls

@@ -1,5 +1,5 @@
 -- What the merge of the candidates that win says, exit by exit.
-use Rattle.std.proofs.Common.{◌≡◌, ◌≢◌, Option, Some, None, List, [], ◌∷◌, Result, Ok, Err, refl, sym, ◌∙◌, ap, subst}
+use Rattle.std.proofs.Common.{◌≡◌, ◌≢◌, ◌⊎◌, inl, inr, Option, Some, None, List, [], ◌∷◌, Result, Ok, Err, refl, sym, ◌∙◌, ap, subst}
 use Rattle.std.specs.Prelude.{option_map}
 use Rattle.candidate_ir.specs.Context.{Context}
 use Rattle.candidate_ir.specs.Trees.{Tree}
@@ -12,10 +12,9 @@ use Rattle.candidate_eval.specs.declared.eval.response.Candidate.{Candidate as O
 use Rattle.candidate_eval.specs.declared.eval.response.CanonicalResponse.{CanonicalResponse}
 use Rattle.candidate_eval.specs.declared.eval.response.MergeCandidateInfo.{MergeCandidateInfo}
 use Rattle.candidate_eval.specs.Accounts.{Account, IsAccounted, by_stop}
-use Rattle.candidate_eval.specs.Accounts.StopsSomehow.{asking, making}
 use Rattle.candidate_eval.specs.Alike.{JudgesAlike}
 use Rattle.candidate_eval.specs.Certainties.{AMBIGUOUS}
-use Rattle.candidate_eval.specs.Evaluators.{IsMakingStop, Keeps}
+use Rattle.candidate_eval.specs.Evaluators.{Keeps}
 use Rattle.candidate_eval.specs.Merging.{Merge, merged}
 use Rattle.candidate_eval.specs.ResponseTrees.{IsResponse, candidates_of, merge_of, response_of}
 use Rattle.candidate_eval.specs.Responses.{Response}
@@ -49,7 +48,7 @@ module _ {E X : Type 0} {fixed : E → X} {judge : X → Judge} {state : E → S
     fits = tt;
     ok = tt;
     refused = λ n. absurd cc;
-    cause = making (subst IsMakingStop (sym memory) tt);
+    cause = inl memory;
   })
 
   -- The candidates that win merge.
@@ -92,5 +91,5 @@ module _ {E X : Type 0} {fixed : E → X} {judge : X → Judge} {state : E → S
     fits = tt;
     ok = tt;
     refused = λ n. ap (answer_by (judge (fixed old)) (state old)) class ∙ refuses (judge (fixed old)) (state old) (context old).trees xs via (none n);
-    cause = by-stop f (λ s a. asking a) why;
+    cause = by-stop f (λ s a. inr a) why;
   })

@@ -48,7 +48,7 @@ use Rattle.candidate_assembly.specs.Listing as Listing
 use Rattle.candidate_assembly.specs.ObjectBounds.{ObjectJudged, ObjectList, ObjectsAnswer, OwnClause, answer, has_own_clauses, nested_goals, none_left, nothing, one, own_clauses, rejected, required, stopped as object_stopped, unknown, unmatched}
 use Rattle.candidate_assembly.specs.OneTrivial.{EndsWithout, GivesNone, run_ends}
 use Rattle.candidate_assembly.specs.Opaques.{ambiguous_rule, bounds_said, by_opaques, hidden_behind, open_impl_rules, open_rule_of, opaque_rules, or_rigid, proper_impls}
-use Rattle.candidate_assembly.specs.SureAnswers.{AnswersGranted, IsOnChain, IsProved, IsProvedBy, IsRuleOf, RuleGrants, YesIsProved, by_bound, by_clause, by_impl, by_language, by_object, by_rule, by_unsizing, first, further}
+use Rattle.candidate_assembly.specs.SureAnswers.{AnswersGranted, IsOnChain, IsProved, IsProvedBy, IsRuleOf, RuleGrants, YesIsProved, asked_at, walked_to, by_bound, by_clause, by_impl, by_language, by_object, by_rule, by_unsizing, first, further}
 use Rattle.candidate_assembly.specs.Telling.{asking_rule}
 use Rattle.candidate_assembly.specs.TraitAnswers.{Answered, Computes, IsTraitAnswer, ListsOne}
 use Rattle.candidate_assembly.specs.TraitRules.{trait_bounds, trait_rules}
@@ -172,18 +172,18 @@ module _ (J : Judge) (law : Lawful J) where
   never-ambiguous S s x given sure = no-more (asked-sure S s AMBIGUOUS x given sure).1
 
   -- where the response was asked for
-  abbrev AskedAfter : State → Candidate → Type 0
-  AskedAfter S x = (last : State) × (last.pending ≡ S.pending) × AnswersGranted J last x.result
+  abbrev AskedAfter : Env → Ending → State → Candidate → Type 0
+  AskedAfter e end S x = (last : State) × (asked_at J e end S ≡ Some last) × (last.pending ≡ S.pending) × AnswersGranted J last x.result
 
-  concluded-sure : (e : Env) (end : Ending) (S : State) (x : Candidate) → concluded J e end S ≡ Gives x → x.result.certainty ≡ Yes → AskedAfter S x
-  concluded-sure e (ask s c) S x given sure = (S, refl, granted-at S s c x given sure)
-  concluded-sure e (characterise c) S x given sure = at (characterization J e S c) (characterized-leaves J law e S c) given
+  concluded-sure : (e : Env) (end : Ending) (S : State) (x : Candidate) → concluded J e end S ≡ Gives x → x.result.certainty ≡ Yes → AskedAfter e end S x
+  concluded-sure e (ask s c) S x given sure = (S, refl, refl, granted-at S s c x given sure)
+  concluded-sure e (characterise c) S x given sure = at (characterization J e S c) refl (characterized-leaves J law e S c) given
     where
-      at : (w : Walk) → Leaves S w → by_finding J w ≡ Gives x → AskedAfter S x
-      at (Goes T) kept g = (T, kept, granted-at T (Source.ParamEnv Global) Yes x g sure)
-      at (Finds T d) kept g = (T, kept, granted-at T (Source.ParamEnv NonGlobal) d x g sure)
-      at Refuses kept g = absurd cc
-      at (Walks.Stops s) kept g = absurd cc
+      at : (w : Walk) → characterization J e S c ≡ w → Leaves S w → by_finding J w ≡ Gives x → AskedAfter e (characterise c) S x
+      at (Goes T) is kept g = (T, ap walked_to is, kept, granted-at T (Source.ParamEnv Global) Yes x g sure)
+      at (Finds T d) is kept g = (T, ap walked_to is, kept, granted-at T (Source.ParamEnv NonGlobal) d x g sure)
+      at Refuses is kept g = absurd cc
+      at (Walks.Stops s) is kept g = absurd cc
 
   -- what a rule asks for that is sure
   ask-sure : (S : State) (r : Rule) (x : Candidate) (s : CandidateSource) (d : Certainty) → r.ending ≡ ask s d → judged J S r ≡ Gives x → x.result.certainty ≡ Yes → d ≡ Yes
@@ -204,7 +204,7 @@ module _ (J : Judge) (law : Lawful J) where
       steps : (o : Reached) → run J r.env (start S) r.steps ≡ o → EndsWithout o → r.applies ≡ true → continued J r.ending o (λ q. concluded J r.env r.ending q.state) ≡ Gives x → RuleGrants J S r x
       steps (At p) is ends applies g =
           let a = concluded-sure r.env r.ending p.state x g sure in
-          record { applies = applies; gives = given; place = p; reached = is; last = a.0; pending = a.1; granted = a.2 }
+          record { applies = applies; gives = given; place = p; reached = is; last = a.0; asked = a.1; pending = a.2; granted = a.3 }
       steps (Ambiguous T) is ends applies g = absurd (never-ambiguous T (source_of r.ending) x g sure)
       steps (Over j) is ends applies g = absurd (subst GivesNone g ends)
 

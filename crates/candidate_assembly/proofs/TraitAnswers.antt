@@ -1,9 +1,10 @@
 -- What a goal of a trait comes to, by its list and by what the candidates that win are merged to.
-use Rattle.std.proofs.Common.{◌≡◌, ◌&&◌, Option, Some, None, List, [], ◌∷◌, ◌++◌, Result, Err, length, refl, sym, ◌∙◌, ap, subst}
+use Rattle.std.proofs.Common.{◌≡◌, ◌&&◌, ◌⊎◌, inl, inr, Option, Some, None, List, [], ◌∷◌, ◌++◌, Result, Err, length, refl, sym, ◌∙◌, ap, subst}
 use Rattle.std.specs.Prelude.{◌||◌, option_map, if◌then◌else◌}
 use Rattle.std.specs.List.{list_any}
 use Rattle.candidate_ir.specs.declared.decl.contents.ImplId.{ImplId}
 use Rattle.candidate_ir.specs.declared.ir.stop.Stop.{Stop}
+use Rattle.candidate_ir.specs.declared.ir.stop.Stop.TheVariants.{Memory}
 use Rattle.candidate_ir.specs.Context.{Context, Grows}
 use Rattle.candidate_ir.specs.Trees.{none}
 use Rattle.candidate_eval.specs.declared.eval.mode.TypingMode.{TypingMode}
@@ -13,10 +14,11 @@ use Rattle.candidate_eval.specs.declared.eval.response.Candidate.{Candidate as O
 use Rattle.candidate_eval.specs.declared.eval.response.CanonicalResponse.{CanonicalResponse}
 use Rattle.candidate_eval.specs.declared.eval.source.CandidateSource.{CandidateSource}
 use Rattle.candidate_eval.specs.declared.eval.source.CandidateSource.TheVariants as Source
-use Rattle.candidate_eval.specs.Accounts.{Account, Question}
+use Rattle.candidate_eval.specs.Accounts.{Account, IsAccounted, Question, StopsSomehow}
+use Rattle.candidate_eval.specs.Accounts.StopsSomehow.{asking, making}
 use Rattle.candidate_eval.specs.Alike.{JudgesAlike}
 use Rattle.candidate_eval.specs.Certainties.{AMBIGUOUS}
-use Rattle.candidate_eval.specs.Evaluators.{IsEvaluatorStop, Keeps}
+use Rattle.candidate_eval.specs.Evaluators.{IsEvaluatorStop, IsMakingStop, Keeps}
 use Rattle.candidate_eval.specs.ImplRules.{TraitGoal}
 use Rattle.candidate_eval.specs.Judging.{Judged, Gives, Refused, Stopped, answered, start}
 use Rattle.candidate_eval.specs.Knowing.{own_stop}
@@ -133,6 +135,11 @@ left-alike : {G : Type 0} {K : KindRules G} {B : KindBounds G} {c : Context} {J 
 left-alike U (none_normal e) a = before a
 left-alike U (has_normal e f) a = normal e a
 
+-- A growth was refused, or the evaluator stopped.
+as-somehow : {E X : Type 0} {fixed : E → X} {context : E → Context} {state : E → State} {stops : Account E} {a : E} {s : Stop} → (s ≡ Memory) ⊎ IsAccounted fixed context state stops a s → StopsSomehow fixed context state stops a s
+as-somehow (inl e) = making (subst IsMakingStop (sym e) tt)
+as-somehow (inr a) = asking a
+
 module _ {E X : Type 0} {fixed : E → X} {judge : X → Judge} {state : E → State} {probes : E → List State} {context : E → Context} {stops : Account E} where
   -- The list stopped.
   pub computes-stopped : {A : Type 0} {items : A → List OfNumbers} (old new : E) (g : TraitGoal) (s : Stop) (r : Result (CanonicalResponse × Option TraitGoalProvenVia) NoSolutionOrStop) → r ≡ Err (N.Stop s)
@@ -158,9 +165,9 @@ module _ {E X : Type 0} {fixed : E → X} {judge : X → Judge} {state : E → S
       fits = h.fits;
       ok = so-ok r (λ a e. answered-by (Answered (response_of (context new).trees a.0, a.1)) (ap or_refused (sym e ∙ same))) h.ok;
       refused = so-err r (λ e f n. answered-by Rejected (ap or_refused (sym (f n) ∙ same))) h.refused;
-      stopped = caused r (λ s why own. absurd (not-both (own_stop s) (somehow-own itself s why) own)) h.cause;
+      stopped = caused r (λ s why own. absurd (not-both (own_stop s) (somehow-own itself s (as-somehow why)) own)) h.cause;
       left = left-alike (state new) list.assembled like;
-      cause = caused r (λ s why. later (reaches kept) (somehow-here why)) h.cause;
+      cause = caused r (λ s why. later (reaches kept) (somehow-here (as-somehow why))) h.cause;
     }
       where
         like : (judge (fixed old)).alike list.left (state new)

@@ -72,7 +72,7 @@ pub record HasLeafyValues (S : State) (g : TraitGoal) : Type 0 where
 
 -- That is so of each declared impl that overlaps the goal.
 abbrev pub KnownWereRefused : Judge → Context → State → TraitGoal → Type 0
-KnownWereRefused J c S g = HasLeafyValues S g → (n : ImplId) (i : Impl) (certainty : Certainty) → Concerns c S g n i certainty → ImplWasRefused J c S g i certainty
+KnownWereRefused J c S g = (n : ImplId) (i : Impl) (certainty : Certainty) → Concerns c S g n i certainty → ImplWasRefused J c S g i certainty
 
 -- And of each goal that leaves nothing open and is refused in coherence.
 abbrev pub RefusesImpls : Judge → Context → State → TraitGoal → Result (CanonicalResponse × Option TraitGoalProvenVia) NoSolutionOrStop → Type 0

@@ -1,14 +1,15 @@
 -- Which of the candidates for a goal of a trait win, and what these come to.
-use Rattle.std.specs.Prelude.{Bool, true, false, not, ◌&&◌, ◌||◌, Option, Some, None, List, [], ◌∷◌, Result, IfOk, IfErr, ◌≡◌, ℕ, option_map, slice_get, if◌then◌else◌}
+use Rattle.std.specs.Prelude.{Bool, true, false, not, ◌&&◌, ◌||◌, Option, Some, None, List, [], ◌∷◌, Result, IfOk, IfErr, ◌≡◌, ◌⊎◌, ℕ, option_map, slice_get, if◌then◌else◌}
 use Rattle.std.specs.List.{filter, list_all, list_any}
 use Rattle.candidate_ir.specs.declared.decl.contents.LangItem.TheVariants as L
+use Rattle.candidate_ir.specs.declared.ir.stop.Stop.TheVariants.{Memory}
 use Rattle.candidate_ir.specs.Context.{Context}
 use Rattle.candidate_eval.specs.declared.eval.mode.TypingMode.{TypingMode}
 use Rattle.candidate_eval.specs.declared.eval.refusal.NoSolutionOrStop.{NoSolutionOrStop}
 use Rattle.candidate_eval.specs.declared.eval.refusal.NoSolutionOrStop.TheVariants as N
 use Rattle.candidate_eval.specs.declared.eval.response.CanonicalResponse.{CanonicalResponse}
 use Rattle.candidate_eval.specs.declared.eval.source.CandidateSource.{CandidateSource}
-use Rattle.candidate_eval.specs.Accounts.{Account, StopsSomehow, by_stop}
+use Rattle.candidate_eval.specs.Accounts.{Account, IsAccounted, by_stop}
 use Rattle.candidate_eval.specs.Certainties.{AMBIGUOUS}
 use Rattle.candidate_eval.specs.Evaluators.{Keeps}
 use Rattle.candidate_eval.specs.Merging.{Merge, merged}
@@ -132,4 +133,4 @@ pub record Proves {E X : Type 0} (fixed : E → X) (judge : X → Judge) (state 
   pub fits : IfOk result (λ a. IsResponse (context new).trees a.0)
   pub ok : IfOk result (λ a. answer ≡ Some (response_of (context new).trees a.0, a.1))
   pub refused : IfErr result (λ e. e ≡ N.NoSolution → answer ≡ None)
-  pub cause : IfErr result (by_stop (StopsSomehow fixed context state stops old))
+  pub cause : IfErr result (by_stop (λ s. (s ≡ Memory) ⊎ IsAccounted fixed context state stops old s))

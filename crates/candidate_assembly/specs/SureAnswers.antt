@@ -1,5 +1,5 @@
 -- What a sure answer to a goal rests on: one rule of the goal, whose side condition holds and whose nested goals are granted.
-use Rattle.std.specs.Prelude.{◌≡◌, true, Option, Some, List, Result, IfOk}
+use Rattle.std.specs.Prelude.{◌≡◌, true, Option, Some, None, List, Result, IfOk}
 use Rattle.std.specs.List.{Contains}
 use Rattle.candidate_ir.specs.declared.decl.contents.AliasBoundKind.{AliasBoundKind}
 use Rattle.candidate_ir.specs.declared.decl.contents.AliasBoundKind.TheVariants.{NonSelfBounds, SelfBounds}
@@ -12,15 +12,16 @@ use Rattle.candidate_eval.specs.declared.eval.certainty.Certainty.TheVariants.{Y
 use Rattle.candidate_eval.specs.declared.eval.refusal.NoSolutionOrStop.{NoSolutionOrStop}
 use Rattle.candidate_eval.specs.declared.eval.response.CanonicalResponse.{CanonicalResponse}
 use Rattle.candidate_eval.specs.ImplRules.{TraitGoal}
+use Rattle.candidate_eval.specs.Characterization.{Walk, Goes, Finds, characterization}
 use Rattle.candidate_eval.specs.Judging.{Place, At, Gives, judged, run, start}
 use Rattle.candidate_eval.specs.Lawful.{AnswersYes}
 use Rattle.candidate_eval.specs.ObjectRequirements.{AreAsked, first_tree}
 use Rattle.candidate_eval.specs.Required.{each_of}
 use Rattle.candidate_eval.specs.Responses.{Candidate, Response}
 use Rattle.candidate_eval.specs.ResponseTrees.{response_of}
-use Rattle.candidate_eval.specs.Rules.{Rule}
+use Rattle.candidate_eval.specs.Rules.{Rule, Ending, ask, characterise}
 use Rattle.candidate_eval.specs.Soundness.{GoalsAreOf, IsSound, Live, ValuesFit}
-use Rattle.candidate_eval.specs.States.{Goal, Judge, State}
+use Rattle.candidate_eval.specs.States.{Env, Goal, Judge, State}
 use Rattle.candidate_assembly.specs.declared.trait_goals.preference.TraitGoalProvenVia.{TraitGoalProvenVia}
 use Rattle.candidate_assembly.specs.AliasBounds.{has_bounds, is_projection, link, link_rules}
 use Rattle.candidate_assembly.specs.Assembled.{impl_rule, resolved_goal, rule_name, trait_of, where_rule}
@@ -39,6 +40,17 @@ pub record AnswersGranted (J : Judge) (S : State) (r : Response) : Type 0 where
   pub responded : J.responded S Yes ≡ Some r
   pub granted : (L : Live) → IsSound S L → ValuesFit S L → GoalsAreOf S L S.pending → AnswersYes J S L r
 
+-- The state at which an ending asks for a response: the one that steps come to; or the one that characterising the clause does.
+
+abbrev pub walked_to : Walk → Option State
+walked_to (Goes S) = Some S
+walked_to (Finds S c) = Some S
+walked_to _ = None
+
+abbrev pub asked_at : Judge → Env → Ending → State → Option State
+asked_at J e (ask s c) S = Some S
+asked_at J e (characterise c) S = walked_to (characterization J e S c)
+
 -- The rule gives the candidate: its side condition holds, its steps come to a place, and what is pending there, the rule's nested goals among
 -- it, is granted. A clause is characterised in between, which leaves what is pending.
 pub record RuleGrants (J : Judge) (S : State) (r : Rule) (x : Candidate) : Type 0 where
@@ -47,6 +59,7 @@ pub record RuleGrants (J : Judge) (S : State) (r : Rule) (x : Candidate) : Type 
   pub place : Place
   pub reached : run J r.env (start S) r.steps ≡ At place
   pub last : State
+  pub asked : asked_at J r.env r.ending place.state ≡ Some last
   pub pending : last.pending ≡ place.state.pending
   pub granted : AnswersGranted J last x.result
 

@@ -2,7 +2,6 @@
 use Rattle.std.proofs.Common.{◌≡◌, ℕ, zero, suc, ◌+◌, ◌<◌, ◌≤◌, List, [], ◌∷◌, ◌++◌, length, get_or, take, true, sym, ◌∙◌, ap, subst, arith, append_assoc, length-append, ◌⊎◌, inl, inr}
 use Rattle.std.proofs.lemmas.List.{append-nil, map_push, map_more, take_at, take_all, length-map, length-take-le}
 use Rattle.std.specs.Prelude.{map}
-use Rattle.candidate_ir.specs.declared.ir.node.Row.{Row}
 use Rattle.candidate_ir.specs.declared.ir.node.Node.TheVariants as N
 use Rattle.candidate_ir.specs.declared.ir.heads.Head.TheVariants as H
 use Rattle.candidate_ir.specs.declared.ir.heads.PartHead.TheVariants as P
@@ -15,7 +14,7 @@ use Rattle.candidate_ir.specs.declared.ir.stop.Stop.{Stop}
 use Rattle.candidate_ir.specs.Trees.{Kind, VariableKind, PredicateKind, Tree, height, heights}
 use Rattle.candidate_ir.specs.Kinds.{Child, numbers, sorts}
 use Rattle.candidate_ir.specs.Nodes.{tree_at, kind_at, trees_at, kinds_at, rows, node_of, node_tree, tallest, pred_child, var_child, Extends}
-use Rattle.candidate_ir.specs.Table.{trees_after, AreRows, Below}
+use Rattle.candidate_ir.specs.Table.{Row, trees_after, AreRows, Below}
 use Rattle.candidate_ir.specs.Words.{IsVar, IsPred, PredFits, BoundsFit, var_tree, pred_tree, var_kind_tree, vars_kind_tree, binder_tree, pred_kind_tree, pred_list_forest, bounds_forest, IsMkStop, IsMkListStop}
 use Rattle.candidate_ir.proofs.Lists.{all_there, there-preds, there-vars, Below-there, kinds_at-append, trees_at-append, Fits-append, node_tree-append}
 use Rattle.candidate_ir.specs.Worlds.{World}
@@ -30,7 +29,7 @@ trees_after-take ts rs zero =
     sym (ap (take (length ts + 0)) e.is ∙ take_at ts e.added (length ts + 0) (omega arith))
 trees_after-take ts [] (suc n) = sym (take_all (length ts + suc n) ts (omega arith))
 trees_after-take ts (q ∷ rs) (suc n) =
-    let x = node_tree ts q.node in
+    let x = node_tree ts q.0 in
     let m : length (ts ++ x ∷ []) + n ≡ length ts + suc n = omega (arith, length-append ts (x ∷ [])) in
     trees_after-take (ts ++ x ∷ []) rs n ∙ ap (λ (k : ℕ). take k (trees_after (ts ++ x ∷ []) rs)) m
 
@@ -43,9 +42,9 @@ front-trees rs n =
 pub front-rows : (ts : List Tree) (rs : List Row) (n : ℕ) → AreRows ts rs → AreRows ts (take n rs)
 front-rows ts rs zero a = tt
 front-rows ts [] (suc n) a = tt
-front-rows ts (q ∷ rs) (suc n) a = (a.0, front-rows (ts ++ node_tree ts q.node ∷ []) rs n a.1)
+front-rows ts (q ∷ rs) (suc n) a = (a.0, front-rows (ts ++ node_tree ts q.0 ∷ []) rs n a.1)
 
-extends-refl : (ts : List Tree) → Extends ts ts
+pub extends-refl : (ts : List Tree) → Extends ts ts
 extends-refl ts = record { added = []; is = sym (append-nil ts) }
 
 pub extends-trans : (a b c : List Tree) → Extends a b → Extends b c → Extends a c
@@ -58,13 +57,13 @@ extends-trans a b c g h = record {
 pub record Made (P : World → Type 0) (old new : List Tree) (cs : List Child) (ts : List Tree) : Type 0 where
   pub kept : Extends old new
   pub fit : (w : World) → P w → AllFit w old → AllFit w new
-  pub count : length new ≡ length old + length cs
+  pub most : length new ≤ length old + length cs
   pub fits : kinds_at new (numbers cs) ≡ sorts cs
   pub trees : trees_at new (numbers cs) ≡ ts
 
 pub made-one : (P : World → Type 0) (old now new : List Tree) (cs : List Child) (ts : List Tree) (n : ℕ) (k : Kind) (t : Tree)
     → Made P old now cs ts → all_there (sorts cs) ≡ true
-    → Extends now new → ((w : World) → P w → AllFit w now → AllFit w new) → length new ≡ length now + 1 → kind_at new n ≡ k → tree_at new n ≡ t
+    → Extends now new → ((w : World) → P w → AllFit w now → AllFit w new) → length new ≤ length now + 1 → kind_at new n ≡ k → tree_at new n ≡ t
     → Made P old new (cs ++ (n, k) ∷ []) (ts ++ t ∷ [])
 made-one P old now new cs ts n k t m p e j l f g =
     let ks = numbers cs in
@@ -79,7 +78,7 @@ made-one P old now new cs ts n k t m p e j l f g =
     record {
       kept = extends-trans old now new m.kept e;
       fit = λ w q a. j w q (m.fit w q a);
-      count = omega (arith, m.count, length-append cs (c ∷ []));
+      most = omega (arith, m.most, l, length-append cs (c ∷ []));
       fits = ap (kinds_at new) nums ∙ (last-kind ∙ cc);
       trees = ap (trees_at new) nums ∙ (last-tree ∙ cc);
     }
@@ -104,7 +103,7 @@ BoundsTake ts bs w = AllTake w (map (pred_kind_tree ts) bs)
 -- one more variable
 pub made-var : (old now new : List Tree) (vs us : List Var) (ks : List VarKind) (i : ℕ) (d : VarKind) (v : Var)
     → Made Always old now (map var_child vs) (map var_kind_tree (take i ks)) → i < length ks
-    → Extends now new → ((w : World) → AllFit w now → AllFit w new) → length new ≡ length now + 1 → IsVar new v → var_tree new v ≡ var_kind_tree (get_or ks i d)
+    → Extends now new → ((w : World) → AllFit w now → AllFit w new) → length new ≤ length now + 1 → IsVar new v → var_tree new v ≡ var_kind_tree (get_or ks i d)
     → us ≡ vs ++ v ∷ []
     → Made Always old new (map var_child us) (map var_kind_tree (take (i + 1) ks))
 made-var old now new vs us ks i d v m h e j l f g u =
@@ -127,7 +126,7 @@ pred-tree-grown old new b e f =
 -- one more bound
 pub made-pred : (old now new : List Tree) (ps us : List Pred) (bs : List (Binder ExistentialPredicate)) (i : ℕ) (d : Binder ExistentialPredicate) (p : Pred)
     → Made (BoundsTake old bs) old now (map pred_child ps) (map (pred_kind_tree old) (take i bs)) → BoundsFit old bs → i < length bs
-    → Extends now new → ((w : World) → AllFit w now → Takes w (pred_kind_tree now (get_or bs i d)) → AllFit w new) → length new ≡ length now + 1 → IsPred new p → pred_tree new p ≡ pred_kind_tree now (get_or bs i d)
+    → Extends now new → ((w : World) → AllFit w now → Takes w (pred_kind_tree now (get_or bs i d)) → AllFit w new) → length new ≤ length now + 1 → IsPred new p → pred_tree new p ≡ pred_kind_tree now (get_or bs i d)
     → us ≡ ps ++ p ∷ []
     → Made (BoundsTake old bs) old new (map pred_child us) (map (pred_kind_tree old) (take (i + 1) bs))
 made-pred old now new ps us bs i d p m q h e j l f g u =
@@ -143,7 +142,7 @@ made-pred old now new ps us bs i d p m q h e j l f g u =
 -- a number is wanting where all are needed with one for the list
 no-room : (P : World → Type 0) (old now : List Tree) (cs : List Child) (ts : List Tree) (i n : ℕ)
     → Made P old now cs ts → length ts ≡ i → i ≤ n → length now ≡ 4294967295 → 4294967295 < length old + (n + 1)
-no-room P old now cs ts i n m k h e = let l = made-length P old now cs ts m in omega (arith, m.count, l, k, e)
+no-room P old now cs ts i n m k h e = let l = made-length P old now cs ts m in omega (arith, m.most, l, k, e)
 
 -- why a bound was not added
 pub pred-stop : (old now : List Tree) (ps : List Pred) (bs : List (Binder ExistentialPredicate)) (i : ℕ) (d : Binder ExistentialPredicate) (s : Stop)

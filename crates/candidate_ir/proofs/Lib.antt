@@ -3,6 +3,9 @@ pub mod Lists
 pub mod Tables
 pub mod Sorts
 pub mod Splits
+mod Shapes
+mod Distinct
+mod Marked
 pub mod Children
 pub mod Escapes
 pub mod Folding

@@ -5,6 +5,8 @@ pub mod Flags
 pub mod Binders
 pub mod Folding
 pub mod Nodes
+pub mod Shapes
+pub mod Marks
 pub mod Table
 pub mod Words
 pub mod Worlds

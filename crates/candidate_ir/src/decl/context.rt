@@ -25,6 +25,7 @@ use crate::decl::definition::{CrateId, Declaration, DefinitionSort};
 use crate::decl::make::Build;
 use crate::decl::misplaced::is_args;
 use crate::ir::at::at;
+use crate::ir::heads::Marks;
 use crate::ir::kinds::{
     Args, Binder, ClauseKind, ConstKind, ExistentialPredicate, GenericArg, TraitRef, TyKind,
 };
@@ -246,6 +247,14 @@ impl Build for Cx {
 
 impl Trees for Cx {
     ghost trees = { λ c. c.trees };
+
+    fn marks(&self, number: u32) -> Marks {
+        self.nodes.marks(number)
+    }
+
+    fn are_distinct(&self) {
+        self.nodes.are_distinct();
+    }
 
     fn node(&self, number: u32) -> &Node {
         self.nodes.node(number)

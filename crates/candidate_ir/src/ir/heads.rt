@@ -1,6 +1,8 @@
 //! What a tree has at its root besides its children.
 
-ghost use Rattle.std.specs.Prelude.{◌≡◌, ◌≤◌, ◌↔◌, IsTrue};
+ghost use Rattle.std.specs.Prelude.{◌≡◌, ◌≤◌, ◌↔◌, ◌||◌, IsTrue};
+ghost use Rattle.candidate_ir.specs.declared.ir.heads.Flag.{Flag};
+ghost use Rattle.candidate_ir.specs.Marks.{marked};
 ghost use Rattle.candidate_ir.specs.Flags.{mark};
 ghost use Rattle.candidate_ir.specs.Substitutions.{is_made, is_placeholder_above};
 ghost use Rattle.candidate_ir.specs.Trees.{binders_of, is_number, variable_number};
@@ -13,7 +15,7 @@ use crate::ir::kinds::{
 };
 
 /// What a function pointer has besides its types.
-#[derive(Clone, Copy, PartialEq, Eq)]
+#[derive(Clone, Copy, PartialEq, Eq, Hash)]
 pub struct Signature {
     pub safe: bool,
     pub rust_abi: bool,
@@ -21,14 +23,14 @@ pub struct Signature {
 }
 
 /// The shape of a pattern type.
-#[derive(Clone, Copy, PartialEq, Eq)]
+#[derive(Clone, Copy, PartialEq, Eq, Hash)]
 pub enum PatternShape {
     NotNull,
     Range,
 }
 
 /// The types that no definition makes.
-#[derive(Clone, Copy, PartialEq, Eq)]
+#[derive(Clone, Copy, PartialEq, Eq, Hash)]
 pub enum Builtin {
     Bool,
     Char,
@@ -47,7 +49,7 @@ pub enum Builtin {
 }
 
 /// What a variable to be solved stands for.
-#[derive(Clone, Copy, PartialEq, Eq)]
+#[derive(Clone, Copy, PartialEq, Eq, Hash)]
 pub enum VariableSort {
     General,
     Integer,
@@ -56,14 +58,14 @@ pub enum VariableSort {
 }
 
 /// A variable to be solved.
-#[derive(Clone, Copy, PartialEq, Eq)]
+#[derive(Clone, Copy, PartialEq, Eq, Hash)]
 pub struct Variable {
     pub sort: VariableSort,
     pub number: u32,
 }
 
 /// The heads of constants.
-#[derive(Clone, Copy, PartialEq, Eq)]
+#[derive(Clone, Copy, PartialEq, Eq, Hash)]
 pub enum ConstHead {
     Value(u64),
     Param(u32),
@@ -74,7 +76,7 @@ pub enum ConstHead {
 }
 
 /// The heads of the bounds of a `dyn` type.
-#[derive(Clone, Copy, PartialEq, Eq)]
+#[derive(Clone, Copy, PartialEq, Eq, Hash)]
 pub enum PredHead {
     Trait(TraitId),
     Projection(AssocId),
@@ -82,7 +84,7 @@ pub enum PredHead {
 }
 
 /// The heads of clauses.
-#[derive(Clone, Copy, PartialEq, Eq)]
+#[derive(Clone, Copy, PartialEq, Eq, Hash)]
 pub enum ClauseHead {
     Trait(TraitId, PredicatePolarity),
     Projection(AssocId),
@@ -92,7 +94,7 @@ pub enum ClauseHead {
 
 /// What is no type, constant, region or list: a bound of a `dyn` type, a clause, a closure's signature, a binder's
 /// variables.
-#[derive(Clone, Copy, PartialEq, Eq)]
+#[derive(Clone, Copy, PartialEq, Eq, Hash)]
 pub enum PartHead {
     Pred(PredHead),
     Clause(ClauseHead),
@@ -102,7 +104,7 @@ pub enum PartHead {
 }
 
 /// The heads of lists.
-#[derive(Clone, Copy, PartialEq, Eq)]
+#[derive(Clone, Copy, PartialEq, Eq, Hash)]
 pub enum ListHead {
     Args,
     Preds,
@@ -110,7 +112,7 @@ pub enum ListHead {
 }
 
 /// All of a node but its children. A list's members stand among the children of the node that has it.
-#[derive(Clone, Copy, PartialEq, Eq)]
+#[derive(Clone, Copy, PartialEq, Eq, Hash)]
 pub enum Head {
     Builtin(Builtin),
     Ref(Mutability),
@@ -148,7 +150,94 @@ pub enum Flag {
     Error,
 }
 
+/// Which flags' marks stand in a tree.
+#[derive(Clone, Copy)]
+pub struct Marks {
+    pub ty_infer: bool,
+    pub region_infer: bool,
+    pub const_infer: bool,
+    pub ty_placeholder: bool,
+    pub region_placeholder: bool,
+    pub const_placeholder: bool,
+    pub ty_bound: bool,
+    pub region_bound: bool,
+    pub const_bound: bool,
+    pub param: bool,
+    pub alias: bool,
+    pub error: bool,
+}
+
+/// Whether one of the two holds.
+#[inline(always)]
+fn either(a: bool, b: bool) -> bool
+    ensures { result ≡ a || b }
+{
+    a || b
+}
+
+impl Marks {
+    /// Whether the flag's mark stands there.
+    pub(crate) fn has(self, flag: Flag) -> bool
+        ensures { result ≡ marked self flag }
+    {
+        match flag {
+            Flag::TyInfer => self.ty_infer,
+            Flag::RegionInfer => self.region_infer,
+            Flag::ConstInfer => self.const_infer,
+            Flag::TyPlaceholder => self.ty_placeholder,
+            Flag::RegionPlaceholder => self.region_placeholder,
+            Flag::ConstPlaceholder => self.const_placeholder,
+            Flag::TyBound => self.ty_bound,
+            Flag::RegionBound => self.region_bound,
+            Flag::ConstBound => self.const_bound,
+            Flag::Param => self.param,
+            Flag::Alias => self.alias,
+            Flag::Error => self.error,
+        }
+    }
+
+    /// The marks of both.
+    pub(crate) fn joined(self, other: Marks) -> Marks
+        ensures { (f : Flag) → marked result f ≡ marked self f || marked other f }
+    {
+        Marks {
+            ty_infer: either(self.ty_infer, other.ty_infer),
+            region_infer: either(self.region_infer, other.region_infer),
+            const_infer: either(self.const_infer, other.const_infer),
+            ty_placeholder: either(self.ty_placeholder, other.ty_placeholder),
+            region_placeholder: either(self.region_placeholder, other.region_placeholder),
+            const_placeholder: either(self.const_placeholder, other.const_placeholder),
+            ty_bound: either(self.ty_bound, other.ty_bound),
+            region_bound: either(self.region_bound, other.region_bound),
+            const_bound: either(self.const_bound, other.const_bound),
+            param: either(self.param, other.param),
+            alias: either(self.alias, other.alias),
+            error: either(self.error, other.error),
+        }
+    }
+}
+
 impl Head {
+    /// Which flags' marks it has.
+    pub(crate) fn marks(self) -> Marks
+        ensures { (f : Flag) → marked result f ≡ mark f self }
+    {
+        Marks {
+            ty_infer: self.has(Flag::TyInfer),
+            region_infer: self.has(Flag::RegionInfer),
+            const_infer: self.has(Flag::ConstInfer),
+            ty_placeholder: self.has(Flag::TyPlaceholder),
+            region_placeholder: self.has(Flag::RegionPlaceholder),
+            const_placeholder: self.has(Flag::ConstPlaceholder),
+            ty_bound: self.has(Flag::TyBound),
+            region_bound: self.has(Flag::RegionBound),
+            const_bound: self.has(Flag::ConstBound),
+            param: self.has(Flag::Param),
+            alias: self.has(Flag::Alias),
+            error: self.has(Flag::Error),
+        }
+    }
+
     /// Whether the head has the flag's mark.
     pub(crate) fn has(self, flag: Flag) -> bool
         ensures { result ≡ mark flag self }

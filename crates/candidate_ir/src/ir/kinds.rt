@@ -62,35 +62,35 @@ pub enum GenericArg {
 }
 
 /// An algebraic data type.
-#[derive(Clone, Copy, PartialEq, Eq)]
+#[derive(Clone, Copy, PartialEq, Eq, Hash)]
 pub struct AdtId(pub u32);
 
 /// A foreign type.
-#[derive(Clone, Copy, PartialEq, Eq)]
+#[derive(Clone, Copy, PartialEq, Eq, Hash)]
 pub struct ForeignId(pub u32);
 
 /// A function.
-#[derive(Clone, Copy, PartialEq, Eq)]
+#[derive(Clone, Copy, PartialEq, Eq, Hash)]
 pub struct FnId(pub u32);
 
 /// A closure.
-#[derive(Clone, Copy, PartialEq, Eq)]
+#[derive(Clone, Copy, PartialEq, Eq, Hash)]
 pub struct ClosureId(pub u32);
 
 /// A trait.
-#[derive(Clone, Copy, Debug, PartialEq, Eq)]
+#[derive(Clone, Copy, Debug, PartialEq, Eq, Hash)]
 pub struct TraitId(pub u32);
 
 /// An associated item of a trait.
-#[derive(Clone, Copy, PartialEq, Eq)]
+#[derive(Clone, Copy, PartialEq, Eq, Hash)]
 pub struct AssocId(pub u32);
 
 /// What an alias stands for: of a projection its associated type.
-#[derive(Clone, Copy, PartialEq, Eq)]
+#[derive(Clone, Copy, PartialEq, Eq, Hash)]
 pub struct AliasId(pub u32);
 
 /// The signed integer types.
-#[derive(Clone, Copy, PartialEq, Eq)]
+#[derive(Clone, Copy, PartialEq, Eq, Hash)]
 pub enum IntTy {
     I8,
     I16,
@@ -101,7 +101,7 @@ pub enum IntTy {
 }
 
 /// The unsigned integer types.
-#[derive(Clone, Copy, PartialEq, Eq)]
+#[derive(Clone, Copy, PartialEq, Eq, Hash)]
 pub enum UintTy {
     U8,
     U16,
@@ -112,7 +112,7 @@ pub enum UintTy {
 }
 
 /// The floating-point types.
-#[derive(Clone, Copy, PartialEq, Eq)]
+#[derive(Clone, Copy, PartialEq, Eq, Hash)]
 pub enum FloatTy {
     F16,
     F32,
@@ -121,14 +121,14 @@ pub enum FloatTy {
 }
 
 /// Whether what is pointed to may be written.
-#[derive(Clone, Copy, PartialEq, Eq)]
+#[derive(Clone, Copy, PartialEq, Eq, Hash)]
 pub enum Mutability {
     Not,
     Mut,
 }
 
 /// The kinds of aliases.
-#[derive(Clone, Copy, PartialEq, Eq)]
+#[derive(Clone, Copy, PartialEq, Eq, Hash)]
 pub enum AliasKind {
     Projection,
     Opaque,
@@ -137,7 +137,7 @@ pub enum AliasKind {
 }
 
 /// How a closure may be called.
-#[derive(Clone, Copy, PartialEq, Eq)]
+#[derive(Clone, Copy, PartialEq, Eq, Hash)]
 pub enum ClosureKind {
     Fn,
     FnMut,
@@ -145,7 +145,7 @@ pub enum ClosureKind {
 }
 
 /// What a variable of a binder stands for.
-#[derive(Clone, Copy, PartialEq, Eq)]
+#[derive(Clone, Copy, PartialEq, Eq, Hash)]
 pub enum VarKind {
     Ty,
     Const,
@@ -161,14 +161,14 @@ pub enum InferTy {
 }
 
 /// A rigid variable of a universe.
-#[derive(Clone, Copy, PartialEq, Eq)]
+#[derive(Clone, Copy, PartialEq, Eq, Hash)]
 pub struct Placeholder {
     pub universe: u32,
     pub index: u32,
 }
 
 /// A variable bound by the binder that is `depth` binders out, counted from 0.
-#[derive(Clone, Copy, PartialEq, Eq)]
+#[derive(Clone, Copy, PartialEq, Eq, Hash)]
 pub struct BoundVar {
     pub depth: u32,
     pub index: u32,
@@ -282,7 +282,7 @@ pub struct AliasTerm {
 }
 
 /// Whether a trait is said to hold or not to hold.
-#[derive(Clone, Copy, PartialEq, Eq)]
+#[derive(Clone, Copy, PartialEq, Eq, Hash)]
 pub enum PredicatePolarity {
     Positive,
     Negative,
@@ -373,7 +373,7 @@ pub enum ConstKind {
 }
 
 /// A region.
-#[derive(Clone, Copy, PartialEq, Eq)]
+#[derive(Clone, Copy, PartialEq, Eq, Hash)]
 pub enum RegionKind {
     Static,
     Error,

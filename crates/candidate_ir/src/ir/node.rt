@@ -2,16 +2,18 @@
 
 ghost use Rattle.std.specs.Prelude.{◌≡◌, ◌<◌, Some, length, slice_get, IsTrue, ◌↔◌};
 ghost use Rattle.candidate_ir.specs.Kinds.{numbers};
+ghost use Rattle.candidate_ir.specs.Shapes.{child_numbers};
 ghost use Rattle.candidate_ir.specs.Names.{names_unknown};
 ghost use Rattle.candidate_ir.specs.Nodes.{head_of, children_of};
 ghost use Rattle.candidate_ir.specs.Trees.{is_list};
 
-use crate::ir::heads::{Head, ListHead, PartHead};
+use crate::ir::heads::{Head, ListHead, Marks, PartHead};
 use crate::ir::kinds::{
     Binder, Clause, ClauseKind, ClosureSig, ConstKind, ExistentialPredicate, GenericArg, Pred,
     RegionKind, TyKind, Var, VarKind, one_of_three,
 };
 use crate::ir::numbered::Numbered;
+use std::hash::{Hash, Hasher};
 
 #[derive(Drop)]
 pub enum Node {
@@ -28,11 +30,11 @@ pub enum Node {
     Var(VarKind),
 }
 
-/// A node, with the height of its tree.
-#[derive(Drop)]
-pub struct Row {
-    pub node: Node,
+/// What is kept of a node's tree.
+#[derive(Clone, Copy)]
+pub struct Kept {
     pub height: u32,
+    pub marks: Marks,
 }
 
 impl Node {
@@ -114,6 +116,19 @@ impl Node {
         }
     }
 
+    /// Whether two nodes, which have equally many children, have the same.
+    fn has_children_of(&self, other: &Node) -> bool
+        requires { length (child_numbers self.now) ≡ length (child_numbers other.now) }
+        ensures { IsTrue result ↔ (child_numbers self.now ≡ child_numbers other.now) }
+    {
+        for i in 0..self.child_count() {
+            if self.child(i) != other.child(i) {
+                return false;
+            }
+        }
+        true
+    }
+
     /// Whether two nodes have one head and equally many children.
     pub(crate) fn has_root_of(&self, other: &Node) -> bool
         ensures { IsTrue result ↔ (head_of self.now ≡ head_of other.now) × (length (children_of self.now) ≡ length (children_of other.now)) }
@@ -122,5 +137,41 @@ impl Node {
             return false;
         }
         self.child_count() == other.child_count()
+    }
+}
+
+/// Nodes are equal where their heads and the numbers of their children are: over one table, where their trees are.
+impl PartialEq for Node {
+    ghost use Rattle.candidate_ir.specs.Shapes.{same_shape, same_shape_per};
+
+    ghost eq = { same_shape };
+
+    ghost laws = { same_shape_per };
+
+    fn eq(&self, other: &Node) -> bool {
+        self.has_root_of(other) && self.has_children_of(other)
+    }
+}
+
+impl Eq for Node {
+    ghost use Rattle.candidate_ir.specs.Shapes.{same_shape_equiv};
+
+    ghost laws = { same_shape_equiv };
+}
+
+impl Hash for Node {
+    ghost use Rattle.candidate_ir.specs.Shapes.{shape_input, shape_alike};
+
+    ghost hash_input = { shape_input };
+
+    ghost respects_eq = { shape_alike };
+
+    fn hash<H: Hasher>(&self, state: &mut H) {
+        self.head().hash(state);
+        let count = self.child_count();
+        count.hash(state);
+        for i in 0..count {
+            self.child(i).hash(state);
+        }
     }
 }

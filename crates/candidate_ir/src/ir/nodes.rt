@@ -1,28 +1,32 @@
 //! The table of nodes, which contracts see as the list of their trees.
 
-ghost use Rattle.std.specs.Prelude.{◌≡◌, ◌++◌, ◌∷◌, [], ◌+◌, ◌<◌, ◌≤◌, length, take, map, IfOk, IfErr};
+ghost use Rattle.std.specs.Prelude.{◌≡◌, ◌++◌, ◌∷◌, [], ◌+◌, ◌<◌, ◌≤◌, length, take, map, IfOk, IfErr, MatchOption};
 ghost use Rattle.candidate_ir.specs.Trees.{height, heights, kind_of};
 ghost use Rattle.candidate_ir.specs.Nodes.{tree_at, kind_at, node_tree, head_of, Fits, Extends, AreLeaves};
-ghost use Rattle.candidate_ir.specs.Table.{IsNodeOf, IsRow, HasOnePrincipal};
+ghost use Rattle.candidate_ir.specs.Table.{IsNodeOf, IsRow, IsNew, HasOnePrincipal};
+ghost use Rattle.candidate_ir.specs.Marks.{AreMarks};
 ghost use Rattle.candidate_ir.specs.Names.{principals};
 ghost use Rattle.candidate_ir.specs.Worlds.{World};
 ghost use Rattle.candidate_ir.specs.Making.{Adds, a_list, a_binder, some_bounds, what};
 ghost use Rattle.candidate_ir.specs.References.{Takes, AllTake, AllFit};
 ghost use Rattle.candidate_ir.specs.Words.{IsTy, IsConst, IsRegion, IsArgs, IsPreds, IsSig, IsClause, IsParamEnv, IsVars, ty_tree, const_tree, region_tree, args_forest, preds_forest, sig_tree, clause_tree, env_forest, vars_tree, KindFits, ConstKindFits, ListFits, PredListFits, VarListFits, PredFits, SigFits, ClauseFits, ClauseListFits, kind_tree, const_kind_tree, region_kind_tree, list_forest, pred_list_forest, pred_kind_tree, sig_kind_tree, clause_kind_tree, clause_list_forest, vars_kind_tree, BoundsFit, AtMostOnePrincipal, bounds_forest, binder_tree, IsMkStop, IsMkListStop};
 
+use crate::ir::heads::Marks;
 use crate::ir::kinds::{
     Args, Binder, ExistentialPredicate, GenericArg, Pred, Preds, Var, VarKind, Vars,
 };
 use crate::ir::making::New;
-use crate::ir::node::{Node, Row};
+use crate::ir::node::{Kept, Node};
 use crate::ir::stop::Stop;
 use crate::ir::trees::Trees;
+use indexmap::IndexMap;
 use std::alloc::Global;
 use std::marker::Model;
 
 #[derive(Drop)]
 pub(crate) struct Nodes {
-    rows: Vec<Row>,
+    /// Each node once, in the order in which they were made.
+    rows: IndexMap<Node, Kept>,
 }
 
 impl Model for Nodes {
@@ -31,22 +35,36 @@ impl Model for Nodes {
     ghost use Rattle.candidate_ir.specs.Trees.{Tree};
     ghost use Rattle.candidate_ir.specs.TreeCode.{tree_code};
     ghost use Rattle.candidate_ir.specs.contracts.ir.heads.Head as head;
-    ghost use Rattle.candidate_ir.specs.Table.{trees_after, AreRows};
+    ghost use Rattle.candidate_ir.specs.Table.{trees_after, AreRows, AreDistinct};
 
     ghost Value = { List Tree };
 
     ghost coded = { coded_list (tree_code head.the_row.coded) };
 
-    ghost view = { λ a. trees_after [] a.rows.items };
+    ghost view = { λ a. trees_after [] a.rows.entries };
 
-    ghost invariant = { λ a. AreRows [] a.rows.items × (length a.rows.items ≤ 4294967295) };
+    ghost invariant = { λ a. AreRows [] a.rows.entries × (length a.rows.entries ≤ 4294967295) × AreDistinct (trees_after [] a.rows.entries) };
 }
 
 impl Trees for Nodes {
     ghost trees = { λ nodes. nodes };
 
+    fn marks(&self, number: u32) -> Marks {
+        match self.rows.get_index(number as usize) {
+            Some((_, kept)) => kept.marks,
+            None => unreachable!(),
+        }
+    }
+
+    fn are_distinct(&self) {
+        let _rows = self.rows.len();
+    }
+
     fn node(&self, number: u32) -> &Node {
-        &self.rows[number as usize].node
+        match self.rows.get_index(number as usize) {
+            Some((node, _)) => node,
+            None => unreachable!(),
+        }
     }
 }
 
@@ -62,7 +80,7 @@ impl Nodes {
         ensures { result ≡ [] }
     {
         Nodes {
-            rows: Vec::new(alloc),
+            rows: IndexMap::new(alloc),
         }
     }
 
@@ -71,7 +89,10 @@ impl Nodes {
         ensures is { result ≡ height (tree_at self.now number) }
         ensures low { result ≤ 1024 }
     {
-        self.rows[number as usize].height
+        match self.rows.get_index(number as usize) {
+            Some((_, kept)) => kept.height,
+            None => unreachable!(),
+        }
     }
 
     /// The height of the tree of a node, which may be too high for the table.
@@ -94,17 +115,42 @@ impl Nodes {
         }
     }
 
+    /// The number of the node, if there is one.
     #[inline(always)]
-    fn push(&mut self, row: Row) -> Result<u32, Stop>
-        requires row { IsRow self.old row }
+    fn find(&self, node: &Node) -> Option<u32>
+        requires { Fits self.now node.now }
+        ensures { MatchOption result (IsNew self.now (node_tree self.now node.now)) (λ n. (n < length self.now) × (tree_at self.now n ≡ node_tree self.now node.now)) }
+    {
+        match self.rows.get_index_of(node) {
+            Some(index) => Some(index as u32),
+            None => None,
+        }
+    }
+
+    /// Which marks stand in the tree of a node.
+    fn node_marks(&self, node: &Node) -> Marks
+        requires { Fits self.now node.now }
+        ensures { AreMarks result (node_tree self.now node.now) }
+    {
+        let mut marks = node.head().marks();
+        for i in 0..node.child_count() {
+            marks = marks.joined(self.marks(node.child(i)));
+        }
+        marks
+    }
+
+    #[inline(always)]
+    fn push(&mut self, node: Node, kept: Kept) -> Result<u32, Stop>
+        requires row { IsRow self.old (node, kept) }
         requires room { length self.old < 4294967295 }
+        requires new { IsNew self.old (node_tree self.old node) }
         ensures number { IfOk result (λ n. n ≡ length self.old) }
-        ensures added { IfOk result (λ _. self.new ≡ self.old ++ node_tree self.old row.node ∷ []) }
+        ensures added { IfOk result (λ _. self.new ≡ self.old ++ node_tree self.old node ∷ []) }
         ensures unchanged { IfErr result (λ _. self.new ≡ self.old) }
         ensures cause { IfErr result (λ s. s ≡ Stop.Memory) }
     {
         let number = self.rows.len();
-        self.rows.push(row)?;
+        self.rows.insert(node, kept)?;
         Ok(number as u32)
     }
 
@@ -136,17 +182,21 @@ impl Nodes {
         requires principal { HasOnePrincipal self.old node }
         ensures kept { Extends self.old self.new }
         ensures fit { (w : World) → AllFit w self.old → Takes w (node_tree self.old node) → AllFit w self.new }
-        ensures one { IfOk result (λ _. length self.new ≡ length self.old + 1) }
+        ensures most { IfOk result (λ _. length self.new ≤ length self.old + 1) }
         ensures sort { IfOk result (λ n. kind_at self.new n ≡ kind_of (head_of node)) }
         ensures tree { IfOk result (λ n. tree_at self.new n ≡ node_tree self.old node) }
         ensures unchanged { IfErr result (λ _. self.new ≡ self.old) }
         ensures cause { IfErr result (λ s. IsMkStop self.old (height (node_tree self.old node)) s) }
     {
+        if let Some(number) = self.find(&node) {
+            return Ok(number);
+        }
         let height = self.node_height(&node);
         if self.len() >= MAX_NODES || height > MAX_HEIGHT {
             return Err(Stop::NodesFull);
         }
-        self.push(Row { node, height })
+        let marks = self.node_marks(&node);
+        self.push(node, Kept { height, marks })
     }
 
     /// The number of what is made. It is inlined, too.

@@ -4,11 +4,12 @@ ghost use Rattle.std.specs.Prelude.{◌≡◌, ◌↔◌, ◌≤◌, ◌<◌, Is
 ghost use Rattle.candidate_ir.specs.Binders.{escapes, tree_escapes};
 ghost use Rattle.candidate_ir.specs.Flags.{mark};
 ghost use Rattle.candidate_ir.specs.Folds.{is_asked, IsArg, arg_tree};
+ghost use Rattle.candidate_ir.specs.Marks.{AreMarks};
 ghost use Rattle.candidate_ir.specs.Kinds.{arg_number, numbers, pred_children};
 ghost use Rattle.candidate_ir.specs.Names.{principal_of, principals};
 ghost use Rattle.candidate_ir.specs.Nodes.{tree_at, kind_at};
 ghost use Rattle.candidate_ir.specs.Substitutions.{alone, is_placeholder_above};
-ghost use Rattle.candidate_ir.specs.Table.{Below, IsNodeOf};
+ghost use Rattle.candidate_ir.specs.Table.{AreDistinct, Below, IsNodeOf};
 ghost use Rattle.candidate_ir.specs.Trees.{Tree, PredicateKind, holds, is_list_kind, is_number, is_param, none, skip, tree, tree_holds, variable_number};
 ghost use Rattle.candidate_ir.specs.TypeFlags.{type_flags};
 ghost use Rattle.candidate_ir.specs.Unify.{may_unify, trees_may_unify, NoCommonInstance};
@@ -16,7 +17,7 @@ ghost use Rattle.candidate_ir.specs.Words.{IsTy, IsConst, IsRegion, IsArgs, IsPr
 ghost use Rattle.candidate_ir.specs.Worlds.{all_of, kinds_of};
 
 use crate::ir::flags::{TypeFlags, bit_if};
-use crate::ir::heads::{Flag, Head};
+use crate::ir::heads::{Flag, Head, Marks};
 use crate::ir::kinds::{
     Args, Binder, Clause, ClauseKind, ClosureSig, Const, ConstKind, ExistentialPredicate,
     GenericArg, ParamEnv, Pred, Preds, Region, RegionKind, Sig, TraitId, TraitRef, Ty, TyKind, Var,
@@ -26,12 +27,21 @@ use crate::ir::marks::{Mark, PlaceholderAbove, VariableNumber, number_holds};
 use crate::ir::node::Node;
 use crate::ir::numbered::Numbered;
 use crate::ir::unify::{RightSide, numbers_may_unify};
-use crate::ir::walks::{number_escapes, part, same_number, width};
+use crate::ir::walks::{number_escapes, part, width};
 
 /// What has given numbers, each of which stands for one tree.
 pub trait Trees {
     /// The trees of the numbers given so far, from the first on.
     ghost trees: { Self → List Tree };
+
+    /// Which flags' marks stand in the tree of a number.
+    fn marks(&self, number: u32) -> Marks
+        requires { number < length (trees self.now) }
+        ensures { AreMarks result (tree_at (trees self.now) number) };
+
+    /// Equal trees have one number.
+    fn are_distinct(&self)
+        ensures { AreDistinct (trees self.now) };
 
     /// The node of a number.
     fn node(&self, number: u32) -> &Node
@@ -241,7 +251,8 @@ pub trait Trees {
         requires b { kind_at (trees self.now) (N.number_of b) ≡ N.kind b }
         ensures { IsTrue result ↔ (tree_at (trees self.now) (N.number_of a) ≡ tree_at (trees self.now) (N.number_of b)) }
     {
-        same_number(self, a.number(), b.number())
+        self.are_distinct();
+        a.number() == b.number()
     }
 
     /// Quick rejection: whether two could be made equal, by their heads.
@@ -284,7 +295,7 @@ pub trait Trees {
         ensures is { result ≡ tree_holds (mark flag) (tree_at (trees self.now) (N.number_of of)) }
         ensures list { is_list_kind (N.kind of) ≡ true → result ≡ holds (mark flag) (tree_at (trees self.now) (N.number_of of)).children }
     {
-        number_holds(self, of.number(), &flag)
+        self.marks(of.number()).has(flag)
     }
 
     /// Whether a head that the mark is on stands anywhere in it.
@@ -334,18 +345,19 @@ pub trait Trees {
         requires { IsTy (trees self.now) ty }
         ensures { result ≡ type_flags (ty_tree (trees self.now) ty) }
     {
-        let infer = bit_if(self.has(ty, Flag::TyInfer), 1)
-            + bit_if(self.has(ty, Flag::RegionInfer), 2)
-            + bit_if(self.has(ty, Flag::ConstInfer), 4);
-        let placeholder = bit_if(self.has(ty, Flag::TyPlaceholder), 8)
-            + bit_if(self.has(ty, Flag::RegionPlaceholder), 16)
-            + bit_if(self.has(ty, Flag::ConstPlaceholder), 32);
-        let bound = bit_if(self.has(ty, Flag::TyBound), 64)
-            + bit_if(self.has(ty, Flag::RegionBound), 128)
-            + bit_if(self.has(ty, Flag::ConstBound), 256);
-        let other = bit_if(self.has(ty, Flag::Param), 512)
-            + bit_if(self.has(ty, Flag::Alias), 1024)
-            + bit_if(self.has(ty, Flag::Error), 2048);
+        let marks = self.marks(ty.0);
+        let infer = bit_if(marks.ty_infer, 1)
+            + bit_if(marks.region_infer, 2)
+            + bit_if(marks.const_infer, 4);
+        let placeholder = bit_if(marks.ty_placeholder, 8)
+            + bit_if(marks.region_placeholder, 16)
+            + bit_if(marks.const_placeholder, 32);
+        let bound = bit_if(marks.ty_bound, 64)
+            + bit_if(marks.region_bound, 128)
+            + bit_if(marks.const_bound, 256);
+        let other = bit_if(marks.param, 512)
+            + bit_if(marks.alias, 1024)
+            + bit_if(marks.error, 2048);
         TypeFlags(infer + placeholder + bound + other)
     }
 

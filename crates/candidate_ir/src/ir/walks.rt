@@ -1,30 +1,11 @@
 //! Walks over the trees of numbers. A tree that stands in several places is walked in each.
 
-ghost use Rattle.std.specs.Prelude.{◌≡◌, ◌+◌, ◌<◌, length, IsTrue, ◌↔◌};
+ghost use Rattle.std.specs.Prelude.{◌≡◌, ◌+◌, ◌<◌, length};
 ghost use Rattle.candidate_ir.specs.Binders.{tree_escapes};
 ghost use Rattle.candidate_ir.specs.Nodes.{tree_at};
 ghost use Rattle.candidate_ir.specs.Places.{IsPart, width_at};
 
 use crate::ir::trees::Trees;
-
-/// Whether the trees of two numbers are equal.
-pub(crate) fn same_number<T: Trees>(trees: &T, a: u32, b: u32) -> bool
-    requires a { a < length (T.trees trees.now) }
-    requires b { b < length (T.trees trees.now) }
-    ensures { IsTrue result ↔ (tree_at (T.trees trees.now) a ≡ tree_at (T.trees trees.now) b) }
-{
-    let left = trees.node(a);
-    let right = trees.node(b);
-    if !left.has_root_of(right) {
-        return false;
-    }
-    for i in 0..left.child_count() {
-        if !same_number(trees, left.child(i), right.child(i)) {
-            return false;
-        }
-    }
-    true
-}
 
 /// Whether a bound variable stands in the tree that neither one of the binders in it binds nor one of the binders
 /// passed, which are so many.

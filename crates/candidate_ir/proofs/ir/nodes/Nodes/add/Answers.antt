@@ -1,7 +1,17 @@
+use Rattle.std.proofs.Common.{ap, ◌∙◌}
 use Rattle.candidate_ir.specs.Nodes.{node_tree}
-use Rattle.candidate_ir.proofs.Lists.{kind-pushed}
+use Rattle.candidate_ir.specs.Trees.{Tree, kind_of}
+use Rattle.candidate_ir.proofs.Lists.{kind-pushed, kind_of-tree_at}
+use Rattle.candidate_ir.proofs.Growing.{extends-refl}
 use Rattle.candidate_ir.proofs.References.{added-fits}
 use Rattle.candidate_ir.proofs.ir.nodes.Nodes.add.Goals as goal
+
+pub returns-in-Some-clause-kept : goal.returns-in-Some-clause-kept
+returns-in-Some-clause-kept c = extends-refl _
+
+pub returns-in-Some-clause-sort : goal.returns-in-Some-clause-sort
+returns-in-Some-clause-sort c =
+    kind_of-tree_at c.args.self.now c.in-Some.number c.in-Some.ensures.0 ∙ ap (λ (t : Tree). kind_of t.head) c.in-Some.ensures.1
 
 pub returns-clause-fit : goal.returns-clause-fit
 returns-clause-fit c = λ w f t. added-fits w c.args.self.now c.push.new.self c.args.node c.push.result c.push.ensures.added c.push.ensures.unchanged f t

@@ -28,7 +28,7 @@ returns-in_err-push-clause-kept c = extends-trans _ _ _ c.loop-bound.invariant.k
 pub loop-bound-preserved : goal.loop-bound-preserved
 loop-bound-preserved c =
     made-pred c.args.self.now c.loop-bound.self c.add.new.self c.loop-bound.list.items c.push.new.self.items c.args.bounds.now c.loop-bound.bound-index past (record { 0 = c.in_ok-number.number }) c.loop-bound.invariant c.requires.fit c.loop-bound-test.true
-    c.in_ok-number.ensures.kept c.in_ok-number.ensures.fit c.in_ok-number.ensures.one c.in_ok-number.ensures.sort c.in_ok-number.ensures.tree c.in_ok-push.ensures.items
+    c.in_ok-number.ensures.kept c.in_ok-number.ensures.fit c.in_ok-number.ensures.most c.in_ok-number.ensures.sort c.in_ok-number.ensures.tree c.in_ok-push.ensures.items
 
 pub returns-clause-fit : goal.returns-clause-fit
 returns-clause-fit c = if-ok c.mk_pred_list.result (λ w f t. c.mk_pred_list.ensures.fit w (c.loop-bound.invariant.fit w t f))

@@ -20,7 +20,7 @@ returns-in_err-push-clause-kept c = extends-trans _ _ _ c.loop-kind.invariant.ke
 pub loop-kind-preserved : goal.loop-kind-preserved
 loop-kind-preserved c =
     made-var c.args.self.now c.loop-kind.self c.add.new.self c.loop-kind.list.items c.push.new.self.items c.args.kinds.now c.loop-kind.kind-index _ (record { 0 = c.in_ok-number.number }) c.loop-kind.invariant c.loop-kind-test.true
-    c.in_ok-number.ensures.kept (λ w f. c.in_ok-number.ensures.fit w f (λ e. refl)) c.in_ok-number.ensures.one c.in_ok-number.ensures.sort c.in_ok-number.ensures.tree c.in_ok-push.ensures.items
+    c.in_ok-number.ensures.kept (λ w f. c.in_ok-number.ensures.fit w f (λ e. refl)) c.in_ok-number.ensures.most c.in_ok-number.ensures.sort c.in_ok-number.ensures.tree c.in_ok-push.ensures.items
 
 pub returns-clause-fit : goal.returns-clause-fit
 returns-clause-fit c =

@@ -4,8 +4,8 @@ use Rattle.candidate_ir.proofs.ir.nodes.Nodes.len.Goals as goal
 
 pub returns : goal.returns
 returns c =
-    let l = table_length c.args.self.now c.self.inside.rows.items c.self.view_is in
+    let l = table_length c.args.self.now c.self.inside.rows.entries c.self.view_is in
     record {
-      is = omega (arith, l, c.self.inside.rows.ok.0, c.len.ensures);
-      most = omega (arith, l, c.self.inside.rows.ok.0, c.len.ensures, c.self.invariant.1);
+      is = omega (arith, l, c.len.ensures.len);
+      most = omega (arith, l, c.len.ensures.len, c.self.invariant.1);
     }

@@ -2,4 +2,4 @@ use Rattle.candidate_ir.proofs.Tables.{leaves}
 use Rattle.candidate_ir.proofs.ir.nodes.Nodes.variables_are_leaves.Goals as goal
 
 pub returns : goal.returns
-returns c = leaves c.args.self.now c.self.inside.rows.items c.self.view_is c.self.invariant.0
+returns c = leaves c.args.self.now c.self.inside.rows.entries c.self.view_is c.self.invariant.0

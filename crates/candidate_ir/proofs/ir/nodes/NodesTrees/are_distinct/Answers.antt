@@ -1,0 +1,6 @@
+use Rattle.std.proofs.Common.{subst}
+use Rattle.candidate_ir.specs.Table.{AreDistinct}
+use Rattle.candidate_ir.proofs.ir.nodes.NodesTrees.are_distinct.Goals as goal
+
+pub returns : goal.returns
+returns c = subst AreDistinct c.self.view_is c.self.invariant.2

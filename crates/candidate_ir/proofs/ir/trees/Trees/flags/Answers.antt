@@ -1,0 +1,7 @@
+use Rattle.candidate_ir.specs.Trees.{TypeKind}
+use Rattle.std.proofs.Common.{refl}
+use Rattle.candidate_ir.proofs.Lists.{below_kind}
+use Rattle.candidate_ir.proofs.ir.trees.Trees.flags.Goals as goal
+
+pub marks-marks-requires : goal.marks-marks-requires
+marks-marks-requires g c = below_kind _ _ TypeKind refl c.requires
