@@ -6,13 +6,13 @@ use Rattle.std.proofs.lemmas.List.{take-take, take_all, take-append-drop}
 use Rattle.std.proofs.lemmas.List.Elements.{All-weaker, All-push}
 use Rattle.candidate_ir.specs.declared.ir.kinds.Ty.{Ty}
 use Rattle.candidate_ir.specs.declared.ir.kinds.Clause.{Clause}
-use Rattle.candidate_ir.specs.Trees.{Tree, Kind, is_alias}
-use Rattle.candidate_ir.specs.Nodes.{kind_at, Extends}
-use Rattle.candidate_ir.specs.Context.{Context, Grows}
-use Rattle.candidate_ir.specs.Words.{IsTy, IsClause}
-use Rattle.candidate_ir.proofs.Lists.{below_kind}
-use Rattle.candidate_ir.specs.Trees.{there}
-use Rattle.candidate_ir.proofs.Kept.{number-kept}
+use Rattle.candidate_ir.specs.Syntax.Trees.{Tree, Kind, is_alias}
+use Rattle.candidate_ir.specs.Syntax.Nodes.{kind_at, Extends}
+use Rattle.candidate_ir.specs.Declarations.Context.{Context, Grows}
+use Rattle.candidate_ir.specs.Syntax.Words.{IsTy, IsClause}
+use Rattle.candidate_ir.proofs.Syntax.Lists.{below_kind}
+use Rattle.candidate_ir.specs.Syntax.Trees.{there}
+use Rattle.candidate_ir.proofs.Growth.Kept.{number-kept}
 use Rattle.assembly_text.specs.declared.given.Given.{Given}
 use Rattle.assembly_text.specs.Given.{names_alias, IsNormalForm, GivenFits, GivenIsDeclared}
 

@@ -26,15 +26,15 @@ use Rattle.candidate_ir.specs.declared.ir.kinds.GenericArg.TheVariants as A
 use Rattle.candidate_ir.specs.declared.ir.heads.Flag.TheVariants as F
 use Rattle.candidate_ir.specs.declared.ir.node.Node.{Node}
 use Rattle.candidate_ir.specs.declared.ir.node.Node.TheVariants as N
-use Rattle.candidate_ir.specs.Trees.{Tree, Kind, ArgumentsKind, PredicatesKind, is_list, is_list_kind, holds, tree_holds, is_param}
-use Rattle.candidate_ir.specs.Kinds.{numbers, sorts, arg_child, ty_head}
-use Rattle.candidate_ir.specs.Nodes.{tree_at, kind_at, trees_at, rows, any_holds, head_of, children_of, node_tree}
-use Rattle.candidate_ir.specs.Context.{Context, Grows}
-use Rattle.candidate_ir.specs.Words.{IsArgs, IsPreds, ListFits, BoundsFit, PredFits, kind_tree, const_tree, const_kind_tree, pred_kind_tree, region_kind_tree, region_tree, vars_tree, binder_tree, ty_tree, args_forest, preds_forest, list_forest}
-use Rattle.candidate_ir.proofs.Lists.{all_there, tree_at-append, below_kind, kind_of-tree_at, trees_at-append, Below-there, node_tree-append}
-use Rattle.candidate_ir.specs.Trees.{there}
-use Rattle.candidate_ir.proofs.Splits.{list-head, rows-holds}
-use Rattle.candidate_ir.proofs.Children.{list-holds}
+use Rattle.candidate_ir.specs.Syntax.Trees.{Tree, Kind, ArgumentsKind, PredicatesKind, is_list, is_list_kind, holds, tree_holds, is_param}
+use Rattle.candidate_ir.specs.Syntax.Kinds.{numbers, sorts, arg_child, ty_head}
+use Rattle.candidate_ir.specs.Syntax.Nodes.{tree_at, kind_at, trees_at, rows, any_holds, head_of, children_of, node_tree}
+use Rattle.candidate_ir.specs.Declarations.Context.{Context, Grows}
+use Rattle.candidate_ir.specs.Syntax.Words.{IsArgs, IsPreds, ListFits, BoundsFit, PredFits, kind_tree, const_tree, const_kind_tree, pred_kind_tree, region_kind_tree, region_tree, vars_tree, binder_tree, ty_tree, args_forest, preds_forest, list_forest}
+use Rattle.candidate_ir.proofs.Syntax.Lists.{all_there, tree_at-append, below_kind, kind_of-tree_at, trees_at-append, Below-there, node_tree-append}
+use Rattle.candidate_ir.specs.Syntax.Trees.{there}
+use Rattle.candidate_ir.proofs.Syntax.Splits.{list-head, rows-holds}
+use Rattle.candidate_ir.proofs.Syntax.Children.{list-holds}
 use Rattle.assembly_text.specs.Notation.{IsLeaf}
 use Rattle.assembly_text.specs.Params.{LacksParam, ListLacksParam, BoundLacksParam, BoundsLackParam, Lacks}
 

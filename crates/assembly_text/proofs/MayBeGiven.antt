@@ -3,28 +3,28 @@ use Rattle.std.proofs.Common.{◌≡◌, true, false, ◌∙◌, Some, map, List
 use Rattle.std.proofs.lemmas.List.{map-append}
 use Rattle.std.proofs.lemmas.List.Elements.{All-head, All-nil, All-push, All-tail}
 use Rattle.candidate_ir.specs.declared.ir.kinds.Ty.{Ty}
-use Rattle.candidate_ir.specs.Trees.{Tree}
+use Rattle.candidate_ir.specs.Syntax.Trees.{Tree}
 use Rattle.candidate_ir.specs.declared.ir.kinds.Clause.{Clause}
-use Rattle.candidate_ir.specs.Binders.{escapes}
-use Rattle.candidate_ir.specs.Context.{Context, Grows}
-use Rattle.candidate_ir.specs.Kinds.{numbers}
-use Rattle.candidate_ir.specs.Nodes.{clause_child, kinds_at}
-use Rattle.candidate_ir.specs.References.{ArgumentsFit}
-use Rattle.candidate_ir.specs.Trees.{ClauseKind, TypeKind, holds, is_param}
-use Rattle.candidate_ir.specs.Words.{ClauseListFits, IsArgs, IsClause, IsParamEnv, IsTy, args_forest, ty_tree}
-use Rattle.candidate_ir.specs.Worlds.{World, TraitSort, joined, kinds_of, parameters}
-use Rattle.candidate_ir.proofs.Kept.{args-kept, world-kept}
-use Rattle.candidate_eval.specs.Calls.{HasNoParam}
+use Rattle.candidate_ir.specs.Syntax.Binders.{escapes}
+use Rattle.candidate_ir.specs.Declarations.Context.{Context, Grows}
+use Rattle.candidate_ir.specs.Syntax.Kinds.{numbers}
+use Rattle.candidate_ir.specs.Syntax.Nodes.{clause_child, kinds_at}
+use Rattle.candidate_ir.specs.Declarations.References.{ArgumentsFit}
+use Rattle.candidate_ir.specs.Syntax.Trees.{ClauseKind, TypeKind, holds, is_param}
+use Rattle.candidate_ir.specs.Syntax.Words.{ClauseListFits, IsArgs, IsClause, IsParamEnv, IsTy, args_forest, ty_tree}
+use Rattle.candidate_ir.specs.Declarations.Worlds.{World, TraitSort, joined, kinds_of, parameters}
+use Rattle.candidate_ir.proofs.Growth.Kept.{args-kept, world-kept}
+use Rattle.candidate_eval.specs.Knowability.Calls.{HasNoParam}
 use Rattle.candidate_ir.specs.declared.ir.kinds.ParamEnv.{ParamEnv}
 use Rattle.candidate_ir.specs.declared.ir.kinds.TraitPredicate.{TraitPredicate}
-use Rattle.candidate_assembly.specs.Kinds.{IsGoal}
-use Rattle.candidate_assembly.specs.TraitGoals.{arguments_held, trait_goal, types_held}
-use Rattle.candidate_assembly.specs.TraitRules.{trait_rules}
-use Rattle.candidate_rounds.specs.Known.{AreTypes, IsGiven, listing_of}
-use Rattle.candidate_rounds.proofs.Given.{listed-pair}
-use Rattle.candidate_rounds.proofs.Knowing.{each-append}
-use Rattle.rounds_judge.specs.Standing.{IsListed, IsListing}
-use Rattle.rounds_judge.specs.WellListed.{may_be_listed}
+use Rattle.candidate_assembly.specs.Goals.Kinds.{IsGoal}
+use Rattle.candidate_assembly.specs.Goals.TraitGoals.{arguments_held, trait_goal, types_held}
+use Rattle.candidate_assembly.specs.Goals.TraitRules.{trait_rules}
+use Rattle.candidate_rounds.specs.Evaluators.Known.{AreTypes, IsGiven, listing_of}
+use Rattle.candidate_rounds.proofs.Evaluators.Given.{listed-pair}
+use Rattle.candidate_rounds.proofs.Snapshots.Knowing.{each-append}
+use Rattle.rounds_judge.specs.Equations.Standing.{IsListed, IsListing}
+use Rattle.rounds_judge.specs.Aliases.WellListed.{may_be_listed}
 
 pub given-none : (ts : List Tree) (ps : List (Ty × Ty)) → ps ≡ [] → IsGiven ts ps []
 given-none ts ps e = subst (λ (qs : List (Ty × Ty)). IsGiven ts qs []) (sym e) (record { types = tt; listing = All-nil IsListed; opaques_fit = tt; opaques_are = tt; opaques_hidden = tt })

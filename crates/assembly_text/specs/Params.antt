@@ -1,8 +1,8 @@
 -- That no parameter stands in what was made.
 use Rattle.std.specs.Prelude.{◌≡◌, ℕ, Bool, true, false, List}
-use Rattle.candidate_ir.specs.Trees.{Tree, holds, tree_holds, is_param}
-use Rattle.candidate_ir.specs.Nodes.{tree_at}
-use Rattle.candidate_ir.specs.Words.{list_forest, pred_kind_tree, bounds_forest}
+use Rattle.candidate_ir.specs.Syntax.Trees.{Tree, holds, tree_holds, is_param}
+use Rattle.candidate_ir.specs.Syntax.Nodes.{tree_at}
+use Rattle.candidate_ir.specs.Syntax.Words.{list_forest, pred_kind_tree, bounds_forest}
 use Rattle.candidate_ir.specs.declared.ir.kinds.GenericArg.{GenericArg}
 use Rattle.candidate_ir.specs.declared.ir.kinds.Binder.{Binder}
 use Rattle.candidate_ir.specs.declared.ir.kinds.ExistentialPredicate.{ExistentialPredicate}

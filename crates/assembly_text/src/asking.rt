@@ -1,12 +1,12 @@
 //! The commands that ask.
 
 ghost use Rattle.std.specs.Prelude.{◌≡◌, ◌≢◌, ◌<◌, All, IfOk, IfSome};
-ghost use Rattle.candidate_ir.specs.Words.{IsTy, IsArgs};
-ghost use Rattle.candidate_ir.specs.References.{ArgumentsFit};
-ghost use Rattle.candidate_eval.specs.Answers.{AreAnswerTypes, AreErrorTypes, OutOfMemory, answer_of, knowledge_of};
-ghost use Rattle.candidate_eval.specs.Orphan.{bare_answer, bare_knowledge};
+ghost use Rattle.candidate_ir.specs.Syntax.Words.{IsTy, IsArgs};
+ghost use Rattle.candidate_ir.specs.Declarations.References.{ArgumentsFit};
+ghost use Rattle.candidate_eval.specs.Knowability.Answers.{AreAnswerTypes, AreErrorTypes, OutOfMemory, answer_of, knowledge_of};
+ghost use Rattle.candidate_eval.specs.Knowability.Orphan.{bare_answer, bare_knowledge};
 ghost use Rattle.assembly_text.specs.Given.{GivenFits, GivenIsDeclared};
-ghost use Rattle.candidate_eval.specs.Calls.{plain_check_of, plain_knowledge_about, HasNoParam, HasNoAlias, HasNoAliasOrError, IsOfForeignTrait, NoForeignHeaderHere, NoUnnamedHeaderHere, NoCoveredHeaderHere, IsDecidedByGeneralHere, HasDownstreamHere};
+ghost use Rattle.candidate_eval.specs.Knowability.Calls.{plain_check_of, plain_knowledge_about, HasNoParam, HasNoAlias, HasNoAliasOrError, IsOfForeignTrait, NoForeignHeaderHere, NoUnnamedHeaderHere, NoCoveredHeaderHere, IsDecidedByGeneralHere, HasDownstreamHere};
 
 use crate::faults::Fault;
 use crate::given::Given;

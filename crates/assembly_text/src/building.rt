@@ -4,8 +4,8 @@
 //! Each call stops as the calls of `Maker` that it makes, and has their faults.
 
 ghost use Rattle.std.specs.Prelude.{◌≡◌, false, IfOk};
-ghost use Rattle.candidate_ir.specs.Context.{Grows};
-ghost use Rattle.candidate_ir.specs.Words.{IsTy, IsArgs, IsClause, ListFits, PredFits, BoundsFit, AtMostOnePrincipal, names_trait};
+ghost use Rattle.candidate_ir.specs.Declarations.Context.{Grows};
+ghost use Rattle.candidate_ir.specs.Syntax.Words.{IsTy, IsArgs, IsClause, ListFits, PredFits, BoundsFit, AtMostOnePrincipal, names_trait};
 ghost use Rattle.assembly_text.specs.Given.{IsNoted};
 ghost use Rattle.assembly_text.specs.Notation.{IsLeaf};
 ghost use Rattle.assembly_text.specs.Params.{Lacks, ListLacks, BoundLacks, BoundsLack};

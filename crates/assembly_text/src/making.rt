@@ -1,12 +1,12 @@
 //! What the types of a text are made in: declarations that go on, or a context over them.
 
 ghost use Rattle.std.specs.Prelude.{◌≡◌, Bool, IsTrue, true, false, Option, Some, None, [], IfOk, IfNone};
-ghost use Rattle.candidate_ir.specs.Context.{Grows};
-ghost use Rattle.candidate_ir.specs.Kinds.{ty_head};
-ghost use Rattle.candidate_ir.specs.Making.{Makes, a_list};
-ghost use Rattle.candidate_ir.specs.References.{ArgumentsFit};
-ghost use Rattle.candidate_ir.specs.Trees.{is_param};
-ghost use Rattle.candidate_ir.specs.Words.{IsTy, IsArgs, IsPreds, ty_tree, kind_tree, preds_forest, bounds_forest, KindFits, ListFits, BoundsFit, AtMostOnePrincipal};
+ghost use Rattle.candidate_ir.specs.Declarations.Context.{Grows};
+ghost use Rattle.candidate_ir.specs.Syntax.Kinds.{ty_head};
+ghost use Rattle.candidate_ir.specs.Syntax.Making.{Makes, a_list};
+ghost use Rattle.candidate_ir.specs.Declarations.References.{ArgumentsFit};
+ghost use Rattle.candidate_ir.specs.Syntax.Trees.{is_param};
+ghost use Rattle.candidate_ir.specs.Syntax.Words.{IsTy, IsArgs, IsPreds, ty_tree, kind_tree, preds_forest, bounds_forest, KindFits, ListFits, BoundsFit, AtMostOnePrincipal};
 ghost use Rattle.assembly_text.specs.Given.{IsNoted, GivenFits};
 ghost use Rattle.assembly_text.specs.declared.given.Given.{Given};
 

@@ -1,12 +1,12 @@
 //! Reading and printing types.
 
 ghost use Rattle.std.specs.Prelude.{◌≡◌, ◌<◌, true, false, IfOk};
-ghost use Rattle.candidate_ir.specs.Context.{Grows};
-ghost use Rattle.candidate_ir.specs.References.{ArgumentsFit};
-ghost use Rattle.candidate_ir.specs.Words.{IsTy, IsArgs, IsPreds, IsConst, IsClause, KindFits, ListFits, PredFits, BoundsFit, AtMostOnePrincipal, names_trait};
+ghost use Rattle.candidate_ir.specs.Declarations.Context.{Grows};
+ghost use Rattle.candidate_ir.specs.Declarations.References.{ArgumentsFit};
+ghost use Rattle.candidate_ir.specs.Syntax.Words.{IsTy, IsArgs, IsPreds, IsConst, IsClause, KindFits, ListFits, PredFits, BoundsFit, AtMostOnePrincipal, names_trait};
 ghost use Rattle.assembly_text.specs.Given.{IsNoted};
 ghost use Rattle.assembly_text.specs.Types.{IsNoPrincipal};
-ghost use Rattle.candidate_eval.specs.Calls.{HasNoParam};
+ghost use Rattle.candidate_eval.specs.Knowability.Calls.{HasNoParam};
 ghost use Rattle.assembly_text.specs.Notation.{IsChildless};
 ghost use Rattle.assembly_text.specs.Params.{Lacks, ListLacks, BoundLacks, BoundsLack};
 

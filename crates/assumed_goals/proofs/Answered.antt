@@ -2,20 +2,20 @@
 use Rattle.std.proofs.Common.{Option, Some, None, List, Result}
 use Rattle.std.specs.Borrow.{MutBor}
 use Rattle.std.specs.Fn.{Once, FnOnceReturnsAtMut}
-use Rattle.candidate_ir.specs.Context.{Context}
+use Rattle.candidate_ir.specs.Declarations.Context.{Context}
 use Rattle.candidate_eval.specs.declared.eval.refusal.NoSolutionOrStop.{NoSolutionOrStop}
 use Rattle.candidate_eval.specs.declared.eval.response.CanonicalResponse.{CanonicalResponse}
-use Rattle.candidate_eval.specs.Accounts.{Account}
-use Rattle.candidate_eval.specs.Responses.{Candidate}
-use Rattle.candidate_eval.specs.States.{Judge, State}
+use Rattle.candidate_eval.specs.Interface.Accounts.{Account}
+use Rattle.candidate_eval.specs.Outcomes.Responses.{Candidate}
+use Rattle.candidate_eval.specs.Judges.States.{Judge, State}
 use Rattle.candidate_assembly.specs.declared.trait_goals.preference.TraitGoalProvenVia.{TraitGoalProvenVia}
-use Rattle.candidate_assembly.specs.KindBounds.{KindBounds}
-use Rattle.candidate_assembly.specs.Kinds.{KindRules}
+use Rattle.candidate_assembly.specs.Goals.KindBounds.{KindBounds}
+use Rattle.candidate_assembly.specs.Goals.Kinds.{KindRules}
 use Rattle.candidate_assembly.specs.declared.assembly.opaques.AssembleCandidatesFrom.TheVariants.{EnvAndBounds}
 use Rattle.candidate_assembly.specs.declared.trait_goals.preference.TraitGoalProvenVia.TheVariants as Via
-use Rattle.candidate_assembly.specs.MergedKinds.{AfterAssumptions, AfterList, IsAnsweredBy}
-use Rattle.candidate_assembly.specs.MergedKinds.AfterAssumptions.{is_rigid, is_ambiguous, are_merged}
-use Rattle.candidate_assembly.specs.MergedKinds.AfterList.{assembled, unassembled}
+use Rattle.candidate_assembly.specs.Answers.MergedKinds.{AfterAssumptions, AfterList, IsAnsweredBy}
+use Rattle.candidate_assembly.specs.Answers.MergedKinds.AfterAssumptions.{is_rigid, is_ambiguous, are_merged}
+use Rattle.candidate_assembly.specs.Answers.MergedKinds.AfterList.{assembled, unassembled}
 
 -- whatever the one closure returns, the other does
 abbrev pub Says : {E F D R : Type 0} → Once F (MutBor E × Unit {0}) (R × (MutBor E × Unit {0})) → F → Once D (MutBor E × Unit {0}) (R × (MutBor E × Unit {0})) → D → Type 0

@@ -6,37 +6,37 @@ use Rattle.candidate_ir.specs.declared.decl.contents.ImplId.{ImplId}
 use Rattle.candidate_ir.specs.declared.ir.heads.Head.{Head}
 use Rattle.candidate_ir.specs.declared.ir.heads.Head.TheVariants as H
 use Rattle.candidate_ir.specs.declared.ir.stop.Stop.{Stop}
-use Rattle.candidate_ir.specs.Context.{Context}
-use Rattle.candidate_ir.specs.Impls.{relevant_impls}
-use Rattle.candidate_ir.specs.Trees.{Forest, none, Tree}
+use Rattle.candidate_ir.specs.Declarations.Context.{Context}
+use Rattle.candidate_ir.specs.Unification.Impls.{relevant_impls}
+use Rattle.candidate_ir.specs.Syntax.Trees.{Forest, none, Tree}
 use Rattle.candidate_eval.specs.declared.eval.refusal.NoSolutionOrStop.{NoSolutionOrStop}
 use Rattle.candidate_eval.specs.declared.eval.refusal.NoSolutionOrStop.TheVariants as N
 use Rattle.candidate_eval.specs.declared.eval.response.CanonicalResponse.{CanonicalResponse}
-use Rattle.candidate_eval.specs.Accounts.{Account}
-use Rattle.candidate_eval.specs.ImplRules.{TraitGoal}
-use Rattle.candidate_eval.specs.Orphan.{is_general}
-use Rattle.candidate_eval.specs.Required.{each_of}
-use Rattle.candidate_eval.specs.Responses.{Candidate, Response}
-use Rattle.candidate_eval.specs.States.{Judge, State, resolved}
+use Rattle.candidate_eval.specs.Interface.Accounts.{Account}
+use Rattle.candidate_eval.specs.Derivations.ImplRules.{TraitGoal}
+use Rattle.candidate_eval.specs.Knowability.Orphan.{is_general}
+use Rattle.candidate_eval.specs.Dynamic.Required.{each_of}
+use Rattle.candidate_eval.specs.Outcomes.Responses.{Candidate, Response}
+use Rattle.candidate_eval.specs.Judges.States.{Judge, State, resolved}
 use Rattle.candidate_assembly.specs.declared.assembly.opaques.AssembleCandidatesFrom.{AssembleCandidatesFrom}
 use Rattle.candidate_assembly.specs.declared.assembly.opaques.AssembleCandidatesFrom.TheVariants.{All, EnvAndBounds}
 use Rattle.candidate_assembly.specs.declared.assembly.specialization.AllowInferenceConstraints.TheVariants as Allow
 use Rattle.candidate_assembly.specs.declared.trait_goals.preference.TraitGoalProvenVia.{TraitGoalProvenVia}
 use Rattle.candidate_assembly.specs.declared.trait_goals.preference.TraitGoalProvenVia.TheVariants as Via
-use Rattle.candidate_assembly.specs.AliasBounds.{Done, Comes, end_answers, end_at, has_bounds, is_opaque, is_projection, no_bounds, too_long, stopped, opaque, refused, projection}
-use Rattle.candidate_assembly.specs.Assembled.{Assembled, ForNormal, Further, IfUnsizing, IsAssembled, Known, WithImpls, WithUnsizing, alone, asked as was_asked, by_clauses, by_objects, everything, followed, impl_rule, impl_rules, is_coherence, knowable, left_out, named_rules, normal, not_asked, others, outside, refused as none_normal, resolved_goal, rule_name, stopped as impls_stopped, stops as unknowable_stops, variable, where_rule, where_rules}
-use Rattle.candidate_assembly.specs.AssembledCalls.{IsAssembledAt}
-use Rattle.candidate_assembly.specs.KindBounds.{UnsizingList, no_target, refused as none_unsized, rules as by_rules}
-use Rattle.candidate_assembly.specs.Kinds.{BuiltinRule, self_type}
-use Rattle.candidate_assembly.specs.Listing.{GoesOn, Listed, Lists, Stops, answers, lists, stops, together}
-use Rattle.candidate_assembly.specs.MergedKinds.{AfterAssumptions, AfterList, Answers, IsAnsweredBy, come_to, only_where_bounds}
-use Rattle.candidate_assembly.specs.MergedKinds.AfterAssumptions.{is_rigid, is_ambiguous, are_merged}
-use Rattle.candidate_assembly.specs.MergedKinds.AfterList.{assembled, unassembled}
-use Rattle.candidate_assembly.specs.ObjectBounds.{ObjectList, answer, has_own_clauses, nothing}
-use Rattle.candidate_assembly.specs.Opaques.{proper_impls}
-use Rattle.candidate_assembly.specs.Specialization.{unspecialized}
-use Rattle.candidate_assembly.specs.TraitGoals.{with_self_type}
-use Rattle.candidate_assembly.proofs.Considering.{not-both}
+use Rattle.candidate_assembly.specs.Rules.AliasBounds.{Done, Comes, end_answers, end_at, has_bounds, is_opaque, is_projection, no_bounds, too_long, stopped, opaque, refused, projection}
+use Rattle.candidate_assembly.specs.Answers.Assembled.{Assembled, ForNormal, Further, IfUnsizing, IsAssembled, Known, WithImpls, WithUnsizing, alone, asked as was_asked, by_clauses, by_objects, everything, followed, impl_rule, impl_rules, is_coherence, knowable, left_out, named_rules, normal, not_asked, others, outside, refused as none_normal, resolved_goal, rule_name, stopped as impls_stopped, stops as unknowable_stops, variable, where_rule, where_rules}
+use Rattle.candidate_assembly.specs.Calls.AssembledCalls.{IsAssembledAt}
+use Rattle.candidate_assembly.specs.Goals.KindBounds.{UnsizingList, no_target, refused as none_unsized, rules as by_rules}
+use Rattle.candidate_assembly.specs.Goals.Kinds.{BuiltinRule, self_type}
+use Rattle.candidate_assembly.specs.Answers.Listing.{GoesOn, Listed, Lists, Stops, answers, lists, stops, together}
+use Rattle.candidate_assembly.specs.Answers.MergedKinds.{AfterAssumptions, AfterList, Answers, IsAnsweredBy, come_to, only_where_bounds}
+use Rattle.candidate_assembly.specs.Answers.MergedKinds.AfterAssumptions.{is_rigid, is_ambiguous, are_merged}
+use Rattle.candidate_assembly.specs.Answers.MergedKinds.AfterList.{assembled, unassembled}
+use Rattle.candidate_assembly.specs.Rules.ObjectBounds.{ObjectList, answer, has_own_clauses, nothing}
+use Rattle.candidate_assembly.specs.Rules.Opaques.{proper_impls}
+use Rattle.candidate_assembly.specs.Answers.Specialization.{unspecialized}
+use Rattle.candidate_assembly.specs.Goals.TraitGoals.{with_self_type}
+use Rattle.candidate_assembly.proofs.Calls.Considering.{not-both}
 use Rattle.assumed_goals.specs.Always.{always}
 use Rattle.assumed_goals.specs.Assumed.{assumed_bounds, assumed_rules}
 use Rattle.assumed_goals.specs.Unassumed.{AssumesNothing, SaysNothing}

@@ -3,14 +3,14 @@ use Rattle.std.specs.Prelude.{false, None, List, []}
 use Rattle.candidate_ir.specs.declared.ir.kinds.Args.{Args}
 use Rattle.candidate_ir.specs.declared.ir.kinds.ParamEnv.{ParamEnv}
 use Rattle.candidate_ir.specs.declared.ir.kinds.Ty.{Ty}
-use Rattle.candidate_ir.specs.Trees.{Tree}
+use Rattle.candidate_ir.specs.Syntax.Trees.{Tree}
 use Rattle.candidate_eval.specs.declared.eval.certainty.Certainty.TheVariants.{Yes}
-use Rattle.candidate_eval.specs.ImplRules.{TraitGoal}
-use Rattle.candidate_assembly.specs.KindBounds.{KindBounds}
-use Rattle.candidate_assembly.specs.Kinds.{KindRules}
-use Rattle.candidate_assembly.specs.Telling.{asking_rule}
-use Rattle.candidate_assembly.specs.TraitGoals.{arguments_held, no_impl, trait_goal, types_held}
-use Rattle.candidate_assembly.specs.TraitRules.{trait_bounds, trait_rules}
+use Rattle.candidate_eval.specs.Derivations.ImplRules.{TraitGoal}
+use Rattle.candidate_assembly.specs.Goals.KindBounds.{KindBounds}
+use Rattle.candidate_assembly.specs.Goals.Kinds.{KindRules}
+use Rattle.candidate_assembly.specs.Answers.Telling.{asking_rule}
+use Rattle.candidate_assembly.specs.Goals.TraitGoals.{arguments_held, no_impl, trait_goal, types_held}
+use Rattle.candidate_assembly.specs.Goals.TraitRules.{trait_bounds, trait_rules}
 use Rattle.assumed_goals.specs.declared.kind.AssumedTrait.{AssumedTrait}
 
 -- the goal of an environment and a predicate, and the numbers that the predicate holds

@@ -2,14 +2,14 @@
 use Rattle.std.proofs.Common.{refl}
 use Rattle.std.proofs.lemmas.List.Elements.{All-nil}
 use Rattle.candidate_ir.specs.declared.ir.kinds.ParamEnv.{ParamEnv}
-use Rattle.candidate_ir.specs.Context.{Context, Grows}
-use Rattle.candidate_eval.specs.Mentions.{RuleBelow}
-use Rattle.candidate_assembly.specs.KindLaws.{KindLaws}
-use Rattle.candidate_assembly.specs.Kinds.{IsGoal, SaysTheSame}
-use Rattle.candidate_assembly.specs.Staying.{trait_goal_stays}
-use Rattle.candidate_assembly.specs.TraitGoals.{arguments_held, trait_goal, types_held}
-use Rattle.candidate_assembly.specs.TraitLaws.{trait_laws}
-use Rattle.candidate_assembly.specs.TraitRules.{trait_rules}
+use Rattle.candidate_ir.specs.Declarations.Context.{Context, Grows}
+use Rattle.candidate_eval.specs.Derivations.Mentions.{RuleBelow}
+use Rattle.candidate_assembly.specs.Goals.KindLaws.{KindLaws}
+use Rattle.candidate_assembly.specs.Goals.Kinds.{IsGoal, SaysTheSame}
+use Rattle.candidate_assembly.specs.Laws.Staying.{trait_goal_stays}
+use Rattle.candidate_assembly.specs.Goals.TraitGoals.{arguments_held, trait_goal, types_held}
+use Rattle.candidate_assembly.specs.Laws.TraitLaws.{trait_laws}
+use Rattle.candidate_assembly.specs.Goals.TraitRules.{trait_rules}
 use Rattle.assumed_goals.specs.declared.kind.AssumedTrait.{AssumedTrait}
 use Rattle.assumed_goals.specs.Assumed.{assumed_arguments, assumed_bounds, assumed_goal, assumed_rules, assumed_types}
 

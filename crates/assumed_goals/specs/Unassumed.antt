@@ -1,14 +1,14 @@
 -- Where nothing is assumed that could prove a goal.
 use Rattle.std.specs.Prelude.{◌≡◌, false, Some}
-use Rattle.candidate_ir.specs.Context.{Context}
-use Rattle.candidate_ir.specs.Trees.{none, Tree}
-use Rattle.candidate_eval.specs.ImplRules.{TraitGoal}
-use Rattle.candidate_eval.specs.Orphan.{is_general}
-use Rattle.candidate_eval.specs.States.{Judge, State, resolved_tree}
-use Rattle.candidate_assembly.specs.AliasBounds.{has_bounds}
-use Rattle.candidate_assembly.specs.Assembled.{is_coherence}
-use Rattle.candidate_assembly.specs.Kinds.{self_type}
-use Rattle.candidate_assembly.specs.ObjectBounds.{has_own_clauses}
+use Rattle.candidate_ir.specs.Declarations.Context.{Context}
+use Rattle.candidate_ir.specs.Syntax.Trees.{none, Tree}
+use Rattle.candidate_eval.specs.Derivations.ImplRules.{TraitGoal}
+use Rattle.candidate_eval.specs.Knowability.Orphan.{is_general}
+use Rattle.candidate_eval.specs.Judges.States.{Judge, State, resolved_tree}
+use Rattle.candidate_assembly.specs.Rules.AliasBounds.{has_bounds}
+use Rattle.candidate_assembly.specs.Answers.Assembled.{is_coherence}
+use Rattle.candidate_assembly.specs.Goals.Kinds.{self_type}
+use Rattle.candidate_assembly.specs.Rules.ObjectBounds.{has_own_clauses}
 use Rattle.assumed_goals.specs.Assumed.{assumed_rules}
 
 -- The normal form of a self type says nothing of the trait by itself: it is no variable, no alias that has bounds, and no object whose own

@@ -1,7 +1,7 @@
 //! Goals of traits that no impl and no rule of the language proves, as a kind of goals.
 
 ghost use Rattle.std.specs.Prelude.{◌≡◌, refl};
-ghost use Rattle.candidate_eval.specs.ImplRules.{TraitGoal};
+ghost use Rattle.candidate_eval.specs.Derivations.ImplRules.{TraitGoal};
 ghost use Rattle.assumed_goals.specs.Assumed.{assumed_arguments, assumed_bounds, assumed_goal, assumed_rules, assumed_types};
 ghost use Rattle.assumed_goals.specs.AssumedLaws.{assumed_goal_stays, assumed_laws};
 

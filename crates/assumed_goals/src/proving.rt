@@ -1,11 +1,11 @@
 //! Goals of this kind, proved.
 
 ghost use Rattle.std.specs.Prelude.{◌≢◌, None, Err, IfOk};
-ghost use Rattle.candidate_eval.specs.Evaluators.{Keeps};
+ghost use Rattle.candidate_eval.specs.Interface.Evaluators.{Keeps};
 ghost use Rattle.candidate_eval.specs.declared.eval.refusal.NoSolutionOrStop.TheVariants as N;
-ghost use Rattle.candidate_assembly.specs.Kinds.{IsGoal};
-ghost use Rattle.candidate_assembly.specs.MergedKinds.{IsAnsweredBy};
-ghost use Rattle.candidate_assembly.specs.Standing.{GoalStands};
+ghost use Rattle.candidate_assembly.specs.Goals.Kinds.{IsGoal};
+ghost use Rattle.candidate_assembly.specs.Answers.MergedKinds.{IsAnsweredBy};
+ghost use Rattle.candidate_assembly.specs.Goals.Standing.{GoalStands};
 ghost use Rattle.assumed_goals.specs.Always.{always};
 ghost use Rattle.assumed_goals.specs.Assumed.{assumed_arguments, assumed_bounds, assumed_goal, assumed_rules, assumed_types};
 ghost use Rattle.assumed_goals.specs.Unassumed.{AssumesNothing};

@@ -1,19 +1,19 @@
 //! The orphan check.
 
 ghost use Rattle.std.specs.Prelude.{◌≡◌, ◌≢◌, ◌||◌, ℕ, List, false, not, IfOk, IfSome, IsTrue};
-ghost use Rattle.candidate_ir.specs.Context.{Grows, world};
-ghost use Rattle.candidate_ir.specs.Flags.{mark};
-ghost use Rattle.candidate_ir.specs.References.{ArgumentsFit};
-ghost use Rattle.candidate_ir.specs.Trees.{Tree, holds, is_alias};
-ghost use Rattle.candidate_ir.specs.Words.{IsTy, IsArgs, args_forest};
-ghost use Rattle.candidate_eval.specs.Orphan.{view, Passes, Entry, NonLocalInput, local_or_fundamental};
-ghost use Rattle.candidate_eval.specs.Normalizer.{Description, IsUntold, IsTold, StopsWith, MayNormalize, KeepsNumbers, IsNormalizer, IsFunction, IsLeftByCalls, IsChangedByCalls};
-ghost use Rattle.candidate_eval.specs.Laws.{ProperThenCompat, RemoteLaw, FirstInputLaw, OnlyFirst, LinkSafety, IsPlainCall};
-ghost use Rattle.candidate_eval.specs.Calls.{depth_limit, IsChecked, IsKnown, check_of, check_where, knowledge_about, HasNoParam, HasNoAlias, HasNoAliasOrError, IsOfForeignTrait, NoForeignHeaderHere, NoUnnamedHeaderHere, NoCoveredHeaderHere, IsDecidedByGeneralHere, HasDownstreamHere};
-ghost use Rattle.candidate_eval.specs.Answers.{IsUncoveredResult, AreAnswerTypes, IsAnswer, IsKnowledge, answer_of, second_answer};
-ghost use Rattle.candidate_eval.specs.Walk.{setting};
-ghost use Rattle.candidate_eval.specs.Exits.{local_ty_of};
-ghost use Rattle.candidate_eval.specs.Second.{IsSecond};
+ghost use Rattle.candidate_ir.specs.Declarations.Context.{Grows, world};
+ghost use Rattle.candidate_ir.specs.Syntax.Flags.{mark};
+ghost use Rattle.candidate_ir.specs.Declarations.References.{ArgumentsFit};
+ghost use Rattle.candidate_ir.specs.Syntax.Trees.{Tree, holds, is_alias};
+ghost use Rattle.candidate_ir.specs.Syntax.Words.{IsTy, IsArgs, args_forest};
+ghost use Rattle.candidate_eval.specs.Knowability.Orphan.{view, Passes, Entry, NonLocalInput, local_or_fundamental};
+ghost use Rattle.candidate_eval.specs.Knowability.Normalizer.{Description, IsUntold, IsTold, StopsWith, MayNormalize, KeepsNumbers, IsNormalizer, IsFunction, IsLeftByCalls, IsChangedByCalls};
+ghost use Rattle.candidate_eval.specs.Knowability.Laws.{ProperThenCompat, RemoteLaw, FirstInputLaw, OnlyFirst, LinkSafety, IsPlainCall};
+ghost use Rattle.candidate_eval.specs.Knowability.Calls.{depth_limit, IsChecked, IsKnown, check_of, check_where, knowledge_about, HasNoParam, HasNoAlias, HasNoAliasOrError, IsOfForeignTrait, NoForeignHeaderHere, NoUnnamedHeaderHere, NoCoveredHeaderHere, IsDecidedByGeneralHere, HasDownstreamHere};
+ghost use Rattle.candidate_eval.specs.Knowability.Answers.{IsUncoveredResult, AreAnswerTypes, IsAnswer, IsKnowledge, answer_of, second_answer};
+ghost use Rattle.candidate_eval.specs.Calls.Walk.{setting};
+ghost use Rattle.candidate_eval.specs.Calls.Exits.{local_ty_of};
+ghost use Rattle.candidate_eval.specs.Calls.Second.{IsSecond};
 
 use crate::eval::InferCtxtLike;
 use crate::walk::{EarlyExit, Walk, visit_args};
@@ -52,7 +52,7 @@ pub enum IsFirstInputType {
 
 impl From<bool> for IsFirstInputType {
     ghost use Rattle.std.specs.Prelude.{◌≡◌};
-    ghost use Rattle.candidate_eval.specs.Answers.{is_first_input};
+    ghost use Rattle.candidate_eval.specs.Knowability.Answers.{is_first_input};
 
     ghost from_gives = { λ b y. is_first_input y ≡ b };
 

@@ -15,10 +15,10 @@ pub mod source;
 pub mod variable;
 
 ghost use Rattle.std.specs.Prelude.{◌≡◌, false, refl};
-ghost use Rattle.candidate_ir.specs.Context.{Context};
-ghost use Rattle.candidate_ir.specs.Trees.{Tree};
-ghost use Rattle.candidate_ir.specs.Words.{IsTy, ty_tree};
-ghost use Rattle.candidate_eval.specs.Orphan.{is_variable};
+ghost use Rattle.candidate_ir.specs.Declarations.Context.{Context};
+ghost use Rattle.candidate_ir.specs.Syntax.Trees.{Tree};
+ghost use Rattle.candidate_ir.specs.Syntax.Words.{IsTy, ty_tree};
+ghost use Rattle.candidate_eval.specs.Knowability.Orphan.{is_variable};
 
 use candidate_ir::decl::Cx;
 use candidate_ir::decl::make::Make;

@@ -1,13 +1,13 @@
 //! How the orphan check takes a view: as an item of a class, or by a walk below it.
 
 ghost use Rattle.std.specs.Prelude.{◌≡◌};
-ghost use Rattle.candidate_ir.specs.Context.{world};
-ghost use Rattle.candidate_ir.specs.Names.{is_local};
-ghost use Rattle.candidate_ir.specs.Trees.{tree_holds, is_loose};
-ghost use Rattle.candidate_ir.specs.Words.{IsTy, IsPreds, ty_tree, preds_forest, KindFits, kind_tree};
-ghost use Rattle.candidate_eval.specs.Orphan.{crate_test, principal_passes};
-ghost use Rattle.candidate_eval.specs.Table.{loose_in, loose_alias_in, owned_in};
-ghost use Rattle.candidate_eval.specs.Shapes.{IsShape};
+ghost use Rattle.candidate_ir.specs.Declarations.Context.{world};
+ghost use Rattle.candidate_ir.specs.Declarations.Names.{is_local};
+ghost use Rattle.candidate_ir.specs.Syntax.Trees.{tree_holds, is_loose};
+ghost use Rattle.candidate_ir.specs.Syntax.Words.{IsTy, IsPreds, ty_tree, preds_forest, KindFits, kind_tree};
+ghost use Rattle.candidate_eval.specs.Knowability.Orphan.{crate_test, principal_passes};
+ghost use Rattle.candidate_eval.specs.Calls.Table.{loose_in, loose_alias_in, owned_in};
+ghost use Rattle.candidate_eval.specs.Calls.Shapes.{IsShape};
 
 use crate::coherence::{InCrate, OrphanCheckMode};
 use candidate_ir::decl::Cx;

@@ -1,12 +1,12 @@
 //! The walk of the orphan check.
 
 ghost use Rattle.std.specs.Prelude.{◌≡◌, true, false, OnOk, IfOk};
-ghost use Rattle.candidate_ir.specs.Context.{Grows};
-ghost use Rattle.candidate_ir.specs.Words.{IsTy, IsArgs, ty_tree, args_forest};
-ghost use Rattle.candidate_eval.specs.Orphan.{view, is_general};
-ghost use Rattle.candidate_eval.specs.Normalizer.{Description, IsToldAnswer, IsNormalizer, IsFunction, Normalizes, IsViewed, shown};
-ghost use Rattle.candidate_eval.specs.Visits.{MayVisit, Visits, the_type, the_list};
-ghost use Rattle.candidate_eval.specs.Walk.{still, setting, type_steps};
+ghost use Rattle.candidate_ir.specs.Declarations.Context.{Grows};
+ghost use Rattle.candidate_ir.specs.Syntax.Words.{IsTy, IsArgs, ty_tree, args_forest};
+ghost use Rattle.candidate_eval.specs.Knowability.Orphan.{view, is_general};
+ghost use Rattle.candidate_eval.specs.Knowability.Normalizer.{Description, IsToldAnswer, IsNormalizer, IsFunction, Normalizes, IsViewed, shown};
+ghost use Rattle.candidate_eval.specs.Calls.Visits.{MayVisit, Visits, the_type, the_list};
+ghost use Rattle.candidate_eval.specs.Calls.Walk.{still, setting, type_steps};
 
 use crate::coherence::{InCrate, IsFirstInputType, NormalizeErr, OrphanStop};
 use crate::eval::InferCtxtLike;
@@ -39,7 +39,7 @@ pub enum EarlyExit<E> {
 
 impl<E> From<NormalizeErr<E>> for EarlyExit<E> {
     ghost use Rattle.std.specs.Prelude.{◌≡◌};
-    ghost use Rattle.candidate_eval.specs.Exits.{broken_by};
+    ghost use Rattle.candidate_eval.specs.Calls.Exits.{broken_by};
 
     ghost from_gives = { λ e x. x ≡ broken_by e };
 
@@ -98,8 +98,8 @@ where
 
 impl Walk {
     ghost use Rattle.std.specs.Prelude.{◌≡◌};
-    ghost use Rattle.candidate_eval.specs.Walk.{SameWalk};
-    ghost use Rattle.candidate_eval.specs.Exits.{IsTaken};
+    ghost use Rattle.candidate_eval.specs.Calls.Walk.{SameWalk};
+    ghost use Rattle.candidate_eval.specs.Calls.Exits.{IsTaken};
 
     /// Takes an item: records it, passes over it, or breaks the walk off.
     fn take<E>(&mut self, class: ViewClass, ty: Ty) -> Result<(), EarlyExit<E>>

@@ -45,8 +45,8 @@ impl Model for Rounds {
     ghost use Rattle.std.specs.Prelude.{reverse};
     ghost use Rattle.std.specs.Coded.{codes};
     ghost use Rattle.candidate_ir.specs.contracts.ir.heads.Head as head;
-    ghost use Rattle.candidate_ir.specs.TreeCode.{tree_code};
-    ghost use Rattle.candidate_rounds.specs.Known as seen;
+    ghost use Rattle.candidate_ir.specs.Laws.TreeCode.{tree_code};
+    ghost use Rattle.candidate_rounds.specs.Evaluators.Known as seen;
 
     ghost Value = { seen.Evaluator };
 

@@ -3,13 +3,13 @@
 #![tactic(auto)]
 
 ghost use Rattle.std.specs.Prelude.{◌≡◌, IfOk, Ok, Some, [], ◌∷◌, map, true};
-ghost use Rattle.candidate_ir.specs.Context.{Grows, world};
-ghost use Rattle.candidate_ir.specs.Kinds.{arg_child, sorts};
-ghost use Rattle.candidate_ir.specs.References.{ArgumentsFit};
-ghost use Rattle.candidate_ir.specs.Trees.{TypeKind};
-ghost use Rattle.candidate_ir.specs.Words.{IsTy, IsArgs, ListFits};
-ghost use Rattle.candidate_ir.specs.Worlds.{AdtSort, TraitSort, joined, parameters};
-ghost use Rattle.candidate_eval.specs.Calls.{NoForeignHeaderHere};
+ghost use Rattle.candidate_ir.specs.Declarations.Context.{Grows, world};
+ghost use Rattle.candidate_ir.specs.Syntax.Kinds.{arg_child, sorts};
+ghost use Rattle.candidate_ir.specs.Declarations.References.{ArgumentsFit};
+ghost use Rattle.candidate_ir.specs.Syntax.Trees.{TypeKind};
+ghost use Rattle.candidate_ir.specs.Syntax.Words.{IsTy, IsArgs, ListFits};
+ghost use Rattle.candidate_ir.specs.Declarations.Worlds.{AdtSort, TraitSort, joined, parameters};
+ghost use Rattle.candidate_eval.specs.Knowability.Calls.{NoForeignHeaderHere};
 
 use candidate_eval::coherence::{
     InCrate, NormalizeErr, OrphanCheckMode, OrphanStop, orphan_check_trait_ref, trait_ref_is_plain,

@@ -1,10 +1,10 @@
 //! Equations, probes and chains of variables.
 
 ghost use Rattle.std.specs.Prelude.{◌≡◌, IfOk};
-ghost use Rattle.candidate_ir.specs.Context.{Grows};
-ghost use Rattle.candidate_ir.specs.Folds.{IsArg};
-ghost use Rattle.candidate_ir.specs.Words.{IsArgs, IsParamEnv};
-ghost use Rattle.candidate_rounds.specs.Known.{probes};
+ghost use Rattle.candidate_ir.specs.Declarations.Context.{Grows};
+ghost use Rattle.candidate_ir.specs.Instantiation.Folds.{IsArg};
+ghost use Rattle.candidate_ir.specs.Syntax.Words.{IsArgs, IsParamEnv};
+ghost use Rattle.candidate_rounds.specs.Evaluators.Known.{probes};
 
 use candidate_eval::eval::certainty::Certainty;
 use candidate_eval::eval::context::{EvalCtxt, ProbeKind};

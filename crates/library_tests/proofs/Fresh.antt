@@ -1,11 +1,11 @@
 -- What is of an evaluator that knows nothing of variables stands at its state.
 use Rattle.std.proofs.Common.{◌≡◌, ℕ, Some}
-use Rattle.candidate_ir.specs.Trees.{Forest}
+use Rattle.candidate_ir.specs.Syntax.Trees.{Forest}
 use Rattle.candidate_eval.specs.declared.eval.mode.TypingMode.{TypingMode}
-use Rattle.candidate_eval.specs.Alike.{info}
-use Rattle.candidate_eval.specs.Soundness.{IsSound}
-use Rattle.candidate_eval.specs.States.{VariableInfo}
-use Rattle.candidate_assembly.specs.Standing.{StandsAt}
+use Rattle.candidate_eval.specs.Judges.Alike.{info}
+use Rattle.candidate_eval.specs.Judges.Soundness.{IsSound}
+use Rattle.candidate_eval.specs.Judges.States.{VariableInfo}
+use Rattle.candidate_assembly.specs.Goals.Standing.{StandsAt}
 use Rattle.library_tests.specs.Fresh.{AreOfFresh, every, fresh}
 
 no-variable : (m : TypingMode) (n : ℕ) (i : VariableInfo) {P : Type 0} → info (fresh m) n ≡ Some i → P

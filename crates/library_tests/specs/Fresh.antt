@@ -1,9 +1,9 @@
 -- An evaluator that knows nothing of variables yet.
 use Rattle.std.specs.Prelude.{◌≡◌, true, false, []}
-use Rattle.candidate_ir.specs.Trees.{Forest, holds, is_param}
+use Rattle.candidate_ir.specs.Syntax.Trees.{Forest, holds, is_param}
 use Rattle.candidate_eval.specs.declared.eval.mode.TypingMode.{TypingMode}
-use Rattle.candidate_eval.specs.Soundness.{AreTreesOf, Live}
-use Rattle.candidate_eval.specs.States.{State}
+use Rattle.candidate_eval.specs.Judges.Soundness.{AreTreesOf, Live}
+use Rattle.candidate_eval.specs.Judges.States.{State}
 
 abbrev pub fresh : TypingMode → State
 fresh m = record { newest_universe = 0; variables = []; regions = []; pending = []; mode = m }

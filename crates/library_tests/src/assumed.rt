@@ -1,16 +1,16 @@
 //! A kind of goals that a client has: what an impl proves of a trait, it doesn't prove of that kind.
 
 ghost use Rattle.std.specs.Prelude.{◌≡◌, IfOk, true, refl};
-ghost use Rattle.candidate_ir.specs.Context.{Grows};
-ghost use Rattle.candidate_ir.specs.Nodes.{kind_at, tree_at};
-ghost use Rattle.candidate_ir.specs.Trees.{is_list_kind};
-ghost use Rattle.candidate_ir.specs.Words.{IsClause, IsParamEnv};
-ghost use Rattle.candidate_eval.specs.Soundness.{is_strange};
-ghost use Rattle.candidate_assembly.specs.Kinds.{IsGoal};
-ghost use Rattle.candidate_assembly.specs.Standing.{GoalStands};
-ghost use Rattle.candidate_assembly.specs.TraitGoals.{arguments_held, trait_goal, types_held};
-ghost use Rattle.candidate_assembly.specs.TraitRules.{trait_rules};
-ghost use Rattle.candidate_rounds.specs.Known.{state};
+ghost use Rattle.candidate_ir.specs.Declarations.Context.{Grows};
+ghost use Rattle.candidate_ir.specs.Syntax.Nodes.{kind_at, tree_at};
+ghost use Rattle.candidate_ir.specs.Syntax.Trees.{is_list_kind};
+ghost use Rattle.candidate_ir.specs.Syntax.Words.{IsClause, IsParamEnv};
+ghost use Rattle.candidate_eval.specs.Judges.Soundness.{is_strange};
+ghost use Rattle.candidate_assembly.specs.Goals.Kinds.{IsGoal};
+ghost use Rattle.candidate_assembly.specs.Goals.Standing.{GoalStands};
+ghost use Rattle.candidate_assembly.specs.Goals.TraitGoals.{arguments_held, trait_goal, types_held};
+ghost use Rattle.candidate_assembly.specs.Goals.TraitRules.{trait_rules};
+ghost use Rattle.candidate_rounds.specs.Evaluators.Known.{state};
 ghost use Rattle.library_tests.specs.Fresh.{AreOfFresh, every, fresh};
 
 use crate::asserts::{equals, holds};

@@ -1,9 +1,9 @@
 //! What the client answers.
 
 ghost use Rattle.std.specs.Prelude.{◌≡◌, IfOk, Ok, true};
-ghost use Rattle.candidate_eval.specs.Calls.{NoUnnamedHeaderHere};
-ghost use Rattle.candidate_ir.specs.References.{ArgumentsFit};
-ghost use Rattle.candidate_ir.specs.Words.{IsArgs};
+ghost use Rattle.candidate_eval.specs.Knowability.Calls.{NoUnnamedHeaderHere};
+ghost use Rattle.candidate_ir.specs.Declarations.References.{ArgumentsFit};
+ghost use Rattle.candidate_ir.specs.Syntax.Words.{IsArgs};
 
 use crate::asserts::{equals, holds};
 use candidate_eval::coherence::{NormalizeErr, OrphanStop, trait_ref_is_knowable};

@@ -1,8 +1,8 @@
 //! Checks whose normalisers make nodes, or hold a type.
 
 ghost use Rattle.std.specs.Prelude.{◌≡◌, IfOk};
-ghost use Rattle.candidate_ir.specs.References.{ArgumentsFit};
-ghost use Rattle.candidate_ir.specs.Words.{IsArgs, IsTy};
+ghost use Rattle.candidate_ir.specs.Declarations.References.{ArgumentsFit};
+ghost use Rattle.candidate_ir.specs.Syntax.Words.{IsArgs, IsTy};
 
 use crate::asserts::holds;
 use candidate_eval::coherence::{InCrate, OrphanCheckMode, OrphanStop};

@@ -10,19 +10,19 @@ use Rattle.candidate_ir.specs.declared.ir.stop.Stop.{Stop}
 use Rattle.candidate_ir.specs.declared.ir.stop.Stop.TheVariants.{Memory, NodesFull}
 use Rattle.candidate_eval.specs.declared.coherence.OrphanStop.{OrphanStop}
 use Rattle.candidate_eval.specs.declared.coherence.OrphanStop.TheVariants as O
-use Rattle.candidate_ir.specs.Nodes.{tree_at}
-use Rattle.candidate_ir.specs.Trees.{TypeKind, RegionKind, Forest, none, tree, Tree, row}
-use Rattle.candidate_ir.specs.Words.{IsTy, IsRegion, ty_tree, region_tree, kind_tree, region_kind_tree, IsMkStop}
-use Rattle.candidate_ir.specs.Context.{Context, Grows}
+use Rattle.candidate_ir.specs.Syntax.Nodes.{tree_at}
+use Rattle.candidate_ir.specs.Syntax.Trees.{TypeKind, RegionKind, Forest, none, tree, Tree, row}
+use Rattle.candidate_ir.specs.Syntax.Words.{IsTy, IsRegion, ty_tree, region_tree, kind_tree, region_kind_tree, IsMkStop}
+use Rattle.candidate_ir.specs.Declarations.Context.{Context, Grows}
 use Rattle.candidate_ir.specs.declared.ir.kinds.Mutability.TheVariants as M
 use Rattle.candidate_ir.specs.declared.ir.kinds.RegionKind.TheVariants as R
-use Rattle.candidate_ir.proofs.Kept.{ty-kept, grows-refl}
+use Rattle.candidate_ir.proofs.Growth.Kept.{ty-kept, grows-refl}
 use Rattle.normaliser_examples.specs.Looks.{reference_to, refused_node}
-use Rattle.candidate_ir.proofs.Rows.{row-single}
+use Rattle.candidate_ir.proofs.Syntax.Rows.{row-single}
 use Rattle.candidate_eval.specs.declared.coherence.NormalizeErr.{NormalizeErr}
 use Rattle.candidate_eval.specs.declared.coherence.NormalizeErr.TheVariants as N
-use Rattle.candidate_eval.specs.Normalizer.{IsToldAnswer, IsTold, shown}
-use Rattle.candidate_eval.specs.Orphan.{Seen, Sees, Sight}
+use Rattle.candidate_eval.specs.Knowability.Normalizer.{IsToldAnswer, IsTold, shown}
+use Rattle.candidate_eval.specs.Knowability.Orphan.{Seen, Sees, Sight}
 
 pub reference-made : (ts : List Tree) (r : Region) (t : Ty) (m : Mutability) → IsRegion ts r → IsTy ts t
     → kind_tree ts (K.Ref r t m) ≡ record { head = H.Ref m; children = tree (region_tree ts r).head (region_tree ts r).children (tree (ty_tree ts t).head (ty_tree ts t).children none) }

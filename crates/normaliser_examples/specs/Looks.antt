@@ -8,14 +8,14 @@ use Rattle.candidate_ir.specs.declared.ir.kinds.RegionKind.TheVariants as R
 use Rattle.candidate_ir.specs.declared.ir.kinds.TraitRef.{TraitRef}
 use Rattle.candidate_ir.specs.declared.ir.kinds.UintTy.{UintTy}
 use Rattle.candidate_ir.specs.declared.ir.kinds.UintTy.TheVariants as U
-use Rattle.candidate_ir.specs.Context.{Context, world}
-use Rattle.candidate_ir.specs.Trees.{none, tree, Tree}
-use Rattle.candidate_ir.specs.Words.{args_forest}
+use Rattle.candidate_ir.specs.Declarations.Context.{Context, world}
+use Rattle.candidate_ir.specs.Syntax.Trees.{none, tree, Tree}
+use Rattle.candidate_ir.specs.Syntax.Words.{args_forest}
 use Rattle.candidate_ir.specs.declared.ir.stop.Stop.TheVariants.{Memory, NodesFull}
-use Rattle.candidate_eval.specs.Calls.{depth_limit}
-use Rattle.candidate_eval.specs.Normalizer.{Untold}
+use Rattle.candidate_eval.specs.Knowability.Calls.{depth_limit}
+use Rattle.candidate_eval.specs.Knowability.Normalizer.{Untold}
 use Rattle.candidate_eval.specs.declared.coherence.InCrate.{InCrate}
-use Rattle.candidate_eval.specs.Orphan.{Seen, Answer, view, stateless, orphan_answer}
+use Rattle.candidate_eval.specs.Knowability.Orphan.{Seen, Answer, view, stateless, orphan_answer}
 
 abbrev pub is_byte_width : UintTy → Bool
 is_byte_width U.U8 = true

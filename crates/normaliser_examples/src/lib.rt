@@ -2,12 +2,12 @@
 #![tactic(auto)]
 
 ghost use Rattle.std.specs.Prelude.{◌≡◌, ◌≢◌, true, IfOk, IfErr};
-ghost use Rattle.candidate_ir.specs.Context.{Grows};
-ghost use Rattle.candidate_ir.specs.References.{ArgumentsFit};
-ghost use Rattle.candidate_ir.specs.Words.{IsTy, IsArgs, ty_tree};
-ghost use Rattle.candidate_eval.specs.Answers.{OutOfMemory, answer_of};
-ghost use Rattle.candidate_eval.specs.Calls.{HasNoParam};
-ghost use Rattle.candidate_eval.specs.Orphan.{Sees};
+ghost use Rattle.candidate_ir.specs.Declarations.Context.{Grows};
+ghost use Rattle.candidate_ir.specs.Declarations.References.{ArgumentsFit};
+ghost use Rattle.candidate_ir.specs.Syntax.Words.{IsTy, IsArgs, ty_tree};
+ghost use Rattle.candidate_eval.specs.Knowability.Answers.{OutOfMemory, answer_of};
+ghost use Rattle.candidate_eval.specs.Knowability.Calls.{HasNoParam};
+ghost use Rattle.candidate_eval.specs.Knowability.Orphan.{Sees};
 ghost use Rattle.normaliser_examples.specs.Looks.{is_byte, reference_to, referenced, refused_node, check_by};
 
 use candidate_eval::coherence::{

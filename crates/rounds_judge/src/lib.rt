@@ -3,16 +3,16 @@
 #![tactic(auto)]
 
 ghost use Rattle.std.specs.Prelude.{ℕ, List};
-ghost use Rattle.candidate_ir.specs.Trees.{Tree};
-ghost use Rattle.candidate_ir.specs.Worlds.{World};
-ghost use Rattle.candidate_eval.specs.Lawful.{Lawful};
-ghost use Rattle.candidate_eval.specs.Soundness.{IsSolution, IsSound, Live};
-ghost use Rattle.candidate_eval.specs.States.{State};
-ghost use Rattle.candidate_ir.specs.Substitutions.{Substitution};
-ghost use Rattle.rounds_judge.specs.GoalTable.{GoalTable, well_entered};
-ghost use Rattle.rounds_judge.specs.Listed.{Listing};
-ghost use Rattle.rounds_judge.specs.TableJudge.{table_judge};
-ghost use Rattle.rounds_judge.specs.WellListed.{well_listed};
+ghost use Rattle.candidate_ir.specs.Syntax.Trees.{Tree};
+ghost use Rattle.candidate_ir.specs.Declarations.Worlds.{World};
+ghost use Rattle.candidate_eval.specs.Judges.Lawful.{Lawful};
+ghost use Rattle.candidate_eval.specs.Judges.Soundness.{IsSolution, IsSound, Live};
+ghost use Rattle.candidate_eval.specs.Judges.States.{State};
+ghost use Rattle.candidate_ir.specs.Unification.Substitutions.{Substitution};
+ghost use Rattle.rounds_judge.specs.Table.GoalTable.{GoalTable, well_entered};
+ghost use Rattle.rounds_judge.specs.Aliases.Listed.{Listing};
+ghost use Rattle.rounds_judge.specs.Table.TableJudge.{table_judge};
+ghost use Rattle.rounds_judge.specs.Aliases.WellListed.{well_listed};
 
 /// Whatever is declared, whatever pairs and opaque types it is given, and whatever table it reads, the judge keeps the laws of an
 /// evaluator. Of the pairs those count that may be listed, and of the table what may be read; in what words it tells how a goal is proved

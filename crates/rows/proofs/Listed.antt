@@ -2,12 +2,12 @@
 use Rattle.std.proofs.Common.{◌≡◌, true, List, [], ◌∷◌, sym, subst}
 use Rattle.std.proofs.lemmas.List.Elements.{All-nil, All-cons}
 use Rattle.candidate_ir.specs.declared.ir.kinds.Ty.{Ty}
-use Rattle.candidate_ir.specs.Trees.{Tree}
-use Rattle.candidate_ir.specs.Words.{IsTy, ty_tree}
-use Rattle.candidate_rounds.specs.Known.{IsGiven}
-use Rattle.candidate_rounds.proofs.Given.{listed-pair}
-use Rattle.rounds_judge.specs.Standing.{IsListed}
-use Rattle.rounds_judge.specs.WellListed.{may_be_listed}
+use Rattle.candidate_ir.specs.Syntax.Trees.{Tree}
+use Rattle.candidate_ir.specs.Syntax.Words.{IsTy, ty_tree}
+use Rattle.candidate_rounds.specs.Evaluators.Known.{IsGiven}
+use Rattle.candidate_rounds.proofs.Evaluators.Given.{listed-pair}
+use Rattle.rounds_judge.specs.Equations.Standing.{IsListed}
+use Rattle.rounds_judge.specs.Aliases.WellListed.{may_be_listed}
 
 pub are-given : (ts : List Tree) (a b t : Ty) (ps : List (Ty × Ty)) → IsTy ts a → IsTy ts b → IsTy ts t
     → may_be_listed (ty_tree ts a, ty_tree ts t) ≡ true → may_be_listed (ty_tree ts b, ty_tree ts t) ≡ true → ps ≡ (a, t) ∷ (b, t) ∷ [] → IsGiven ts ps []

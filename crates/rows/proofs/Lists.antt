@@ -3,9 +3,9 @@ use Rattle.std.proofs.Common.{List, [], ◌∷◌, All, refl}
 use Rattle.std.proofs.lemmas.List.Elements.{All-head, All-tail}
 use Rattle.candidate_ir.specs.declared.ir.kinds.Clause.{Clause}
 use Rattle.candidate_ir.specs.declared.ir.kinds.GenericArg.{GenericArg}
-use Rattle.candidate_ir.specs.Folds.{IsArg}
-use Rattle.candidate_ir.specs.Trees.{Tree}
-use Rattle.candidate_ir.specs.Words.{ClauseListFits, IsClause, ListFits}
+use Rattle.candidate_ir.specs.Instantiation.Folds.{IsArg}
+use Rattle.candidate_ir.specs.Syntax.Trees.{Tree}
+use Rattle.candidate_ir.specs.Syntax.Words.{ClauseListFits, IsClause, ListFits}
 
 pub args_listed : (ts : List Tree) (xs : List GenericArg) → All (IsArg ts) xs → ListFits ts xs
 args_listed ts [] _ = refl

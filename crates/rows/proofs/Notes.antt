@@ -4,12 +4,12 @@ use Rattle.std.specs.Prelude.{cond, ◌≤◌}
 use Rattle.std.specs.List.{count_by}
 use Rattle.std.proofs.lemmas.List.Elements.{All-push}
 use Rattle.std.proofs.lemmas.List.Sums.{sum_by-cons}
-use Rattle.candidate_ir.specs.Trees.{Tree}
+use Rattle.candidate_ir.specs.Syntax.Trees.{Tree}
 use Rattle.candidate_eval.specs.declared.eval.response.Candidate.{Candidate as OfNumbers}
-use Rattle.candidate_eval.specs.ResponseTrees.{AreCandidates, IsResponse, candidate_of, candidates_of}
-use Rattle.candidate_eval.specs.Responses.{Candidate}
-use Rattle.candidate_assembly.specs.Assembled.{HasOneTrivial, is_trivial}
-use Rattle.candidate_assembly.specs.Listing.{Lists}
+use Rattle.candidate_eval.specs.Outcomes.ResponseTrees.{AreCandidates, IsResponse, candidate_of, candidates_of}
+use Rattle.candidate_eval.specs.Outcomes.Responses.{Candidate}
+use Rattle.candidate_assembly.specs.Answers.Assembled.{HasOneTrivial, is_trivial}
+use Rattle.candidate_assembly.specs.Answers.Listing.{Lists}
 
 pub one-more : (ts : List Tree) (xs ys : List OfNumbers) (x : OfNumbers) → AreCandidates ts xs → IsResponse ts x.result → ys ≡ xs ++ x ∷ [] → AreCandidates ts ys
 one-more ts xs ys x h m e = subst (λ (zs : List OfNumbers). AreCandidates ts zs) (sym e) (All-push (λ (c : OfNumbers). IsResponse ts c.result) xs x h m)

@@ -9,17 +9,17 @@ use Rattle.candidate_ir.specs.declared.ir.kinds.AliasTy.{AliasTy}
 use Rattle.candidate_ir.specs.declared.ir.kinds.GenericArg.{GenericArg}
 use Rattle.candidate_ir.specs.declared.ir.kinds.Ty.{Ty}
 use Rattle.candidate_ir.specs.declared.ir.kinds.TyKind.TheVariants as K
-use Rattle.candidate_ir.specs.Folds.{IsArg}
-use Rattle.candidate_ir.specs.Trees.{Forest, Tree}
-use Rattle.candidate_ir.specs.Words.{KindFits, ListFits}
+use Rattle.candidate_ir.specs.Instantiation.Folds.{IsArg}
+use Rattle.candidate_ir.specs.Syntax.Trees.{Forest, Tree}
+use Rattle.candidate_ir.specs.Syntax.Words.{KindFits, ListFits}
 use Rattle.candidate_eval.specs.declared.eval.mode.TypingMode.{TypingMode}
 use Rattle.candidate_eval.specs.declared.eval.variable.VariableKind.{VariableKind}
-use Rattle.candidate_eval.specs.Alike.{info}
-use Rattle.candidate_eval.specs.Evaluators.{alias_trees}
-use Rattle.candidate_eval.specs.Soundness.{IsSound}
-use Rattle.candidate_eval.specs.States.{State, VariableInfo}
-use Rattle.candidate_assembly.specs.Standing.{StandsAt}
-use Rattle.candidate_rounds.specs.Known.{Each, IsGiven, IsType, MayBeHidden, with_root}
+use Rattle.candidate_eval.specs.Judges.Alike.{info}
+use Rattle.candidate_eval.specs.Interface.Evaluators.{alias_trees}
+use Rattle.candidate_eval.specs.Judges.Soundness.{IsSound}
+use Rattle.candidate_eval.specs.Judges.States.{State, VariableInfo}
+use Rattle.candidate_assembly.specs.Goals.Standing.{StandsAt}
+use Rattle.candidate_rounds.specs.Evaluators.Known.{Each, IsGiven, IsType, MayBeHidden, with_root}
 use Rattle.rows.specs.Started.{AreOfStart, MayBeGiven, every, root_of, started}
 
 abbrev with-variables : TypingMode → List VariableInfo → State

@@ -5,19 +5,19 @@ use Rattle.candidate_ir.specs.declared.ir.kinds.ParamEnv.{ParamEnv}
 use Rattle.candidate_ir.specs.declared.ir.kinds.TraitPredicate.{TraitPredicate}
 use Rattle.candidate_ir.specs.declared.ir.kinds.Ty.{Ty}
 use Rattle.candidate_ir.specs.declared.ir.kinds.TyKind.TheVariants as K
-use Rattle.candidate_ir.specs.Context.{Context}
-use Rattle.candidate_ir.specs.Nodes.{kind_at}
-use Rattle.candidate_ir.specs.Owned.{is_unsolved}
-use Rattle.candidate_ir.specs.References.{IsWellFormed}
-use Rattle.candidate_ir.specs.Trees.{ArgumentsKind, holds, is_param}
-use Rattle.candidate_ir.specs.Words.{IsTy, KindFits, args_forest, env_forest, kind_tree, ty_tree}
-use Rattle.candidate_ir.proofs.Declared.{alias_fits}
-use Rattle.candidate_eval.specs.Mentions.{IsBelow}
-use Rattle.candidate_eval.proofs.Cells.{kind_takes}
-use Rattle.candidate_eval.proofs.Declared.{unsolved-below}
-use Rattle.candidate_assembly.specs.Kinds.{GoalBelow}
-use Rattle.candidate_assembly.specs.TraitGoals.{trait_goal}
-use Rattle.candidate_assembly.specs.TraitRules.{trait_rules}
+use Rattle.candidate_ir.specs.Declarations.Context.{Context}
+use Rattle.candidate_ir.specs.Syntax.Nodes.{kind_at}
+use Rattle.candidate_ir.specs.Instantiation.Owned.{is_unsolved}
+use Rattle.candidate_ir.specs.Declarations.References.{IsWellFormed}
+use Rattle.candidate_ir.specs.Syntax.Trees.{ArgumentsKind, holds, is_param}
+use Rattle.candidate_ir.specs.Syntax.Words.{IsTy, KindFits, args_forest, env_forest, kind_tree, ty_tree}
+use Rattle.candidate_ir.proofs.Instantiation.Declared.{alias_fits}
+use Rattle.candidate_eval.specs.Derivations.Mentions.{IsBelow}
+use Rattle.candidate_eval.proofs.Builtins.Cells.{kind_takes}
+use Rattle.candidate_eval.proofs.Marks.Declared.{unsolved-below}
+use Rattle.candidate_assembly.specs.Goals.Kinds.{GoalBelow}
+use Rattle.candidate_assembly.specs.Goals.TraitGoals.{trait_goal}
+use Rattle.candidate_assembly.specs.Goals.TraitRules.{trait_rules}
 use Rattle.rows.specs.Started.{IsPlainAlias}
 
 pub goal-below : (n : ℕ) (c d : Context) (e : ParamEnv) (p : TraitPredicate) → d ≡ c → holds is_unsolved (env_forest d.trees e) ≡ false → holds is_unsolved (args_forest d.trees p.trait_ref.args) ≡ false

@@ -1,9 +1,9 @@
 -- What stands at a number, by its head.
 use Rattle.std.proofs.Common.{◌≡◌, ℕ, ◌<◌, List, length, ap, sym, ◌∙◌, arith}
-use Rattle.candidate_ir.specs.Trees.{Tree, kind_of}
-use Rattle.candidate_ir.specs.Nodes.{tree_at, kind_at}
+use Rattle.candidate_ir.specs.Syntax.Trees.{Tree, kind_of}
+use Rattle.candidate_ir.specs.Syntax.Nodes.{tree_at, kind_at}
 use Rattle.candidate_ir.specs.declared.ir.heads.Head.{Head}
-use Rattle.candidate_ir.proofs.Lists.{kind_of-tree_at}
+use Rattle.candidate_ir.proofs.Syntax.Lists.{kind_of-tree_at}
 
 pub kind-by-head : (ts : List Tree) (n m : ℕ) (h : Head)
     → m ≡ length ts → n < m → h ≡ (tree_at ts n).head → kind_of h ≡ kind_at ts n

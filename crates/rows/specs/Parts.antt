@@ -1,9 +1,9 @@
 -- Which numbers may stand in what is to be made.
 use Rattle.std.specs.Prelude.{List, map}
-use Rattle.candidate_ir.specs.References.{AllTake, Takes}
-use Rattle.candidate_ir.specs.Trees.{Kind, TypeKind, ConstantKind, RegionKind, ArgumentsKind, PredicatesKind, BinderKind, SignatureKind, ClauseKind, ClausesKind, VariableKind, PredicateKind, Tree}
-use Rattle.candidate_ir.specs.Words.{KindFits, ConstKindFits, ListFits, BoundsFit, AtMostOnePrincipal, SigFits, ClauseFits, ClauseListFits, clause_kind_tree, const_kind_tree, kind_tree, pred_kind_tree}
-use Rattle.candidate_ir.specs.Worlds.{World}
+use Rattle.candidate_ir.specs.Declarations.References.{AllTake, Takes}
+use Rattle.candidate_ir.specs.Syntax.Trees.{Kind, TypeKind, ConstantKind, RegionKind, ArgumentsKind, PredicatesKind, BinderKind, SignatureKind, ClauseKind, ClausesKind, VariableKind, PredicateKind, Tree}
+use Rattle.candidate_ir.specs.Syntax.Words.{KindFits, ConstKindFits, ListFits, BoundsFit, AtMostOnePrincipal, SigFits, ClauseFits, ClauseListFits, clause_kind_tree, const_kind_tree, kind_tree, pred_kind_tree}
+use Rattle.candidate_ir.specs.Declarations.Worlds.{World}
 use Rattle.rows.specs.declared.parts.NodeSort.{NodeSort}
 use Rattle.rows.specs.declared.parts.NodeSort.TheVariants as S
 use Rattle.rows.specs.declared.parts.Part.{Part}

@@ -2,15 +2,15 @@
 use Rattle.std.specs.Prelude.{◌≡◌, true, false, None, List, [], map}
 use Rattle.candidate_ir.specs.declared.ir.kinds.AliasTy.{AliasTy}
 use Rattle.candidate_ir.specs.declared.ir.kinds.TyKind.TheVariants as K
-use Rattle.candidate_ir.specs.Context.{Context}
-use Rattle.candidate_ir.specs.Owned.{AliasArgumentsFit, is_unsolved}
-use Rattle.candidate_ir.specs.Trees.{Forest, Tree, holds, is_param}
-use Rattle.candidate_ir.specs.Words.{IsArgs, KindFits, args_forest, kind_tree}
+use Rattle.candidate_ir.specs.Declarations.Context.{Context}
+use Rattle.candidate_ir.specs.Instantiation.Owned.{AliasArgumentsFit, is_unsolved}
+use Rattle.candidate_ir.specs.Syntax.Trees.{Forest, Tree, holds, is_param}
+use Rattle.candidate_ir.specs.Syntax.Words.{IsArgs, KindFits, args_forest, kind_tree}
 use Rattle.candidate_eval.specs.declared.eval.mode.TypingMode.{TypingMode}
 use Rattle.candidate_eval.specs.declared.eval.variable.VariableKind.{VariableKind}
-use Rattle.candidate_eval.specs.Soundness.{AreTreesOf, Live}
-use Rattle.candidate_eval.specs.States.{State, VariableInfo}
-use Rattle.candidate_rounds.specs.Known.{IsType, MayBeHidden}
+use Rattle.candidate_eval.specs.Judges.Soundness.{AreTreesOf, Live}
+use Rattle.candidate_eval.specs.Judges.States.{State, VariableInfo}
+use Rattle.candidate_rounds.specs.Evaluators.Known.{IsType, MayBeHidden}
 
 -- a variable that comes with a goal
 abbrev pub root_of : VariableKind → VariableInfo

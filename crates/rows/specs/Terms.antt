@@ -1,7 +1,7 @@
 -- Which number a term is, and what stands there.
 use Rattle.std.specs.Prelude.{◌≡◌, ℕ, true, false, refl, List}
-use Rattle.candidate_ir.specs.Nodes.{is_bound_kind, kind_at}
-use Rattle.candidate_ir.specs.Trees.{Kind, TypeKind, ConstantKind, RegionKind, ArgumentsKind, ClauseKind, ClausesKind, Tree, there}
+use Rattle.candidate_ir.specs.Syntax.Nodes.{is_bound_kind, kind_at}
+use Rattle.candidate_ir.specs.Syntax.Trees.{Kind, TypeKind, ConstantKind, RegionKind, ArgumentsKind, ClauseKind, ClausesKind, Tree, there}
 use Rattle.rows.specs.declared.terms.Term.{Term}
 use Rattle.rows.specs.declared.terms.Term.TheVariants as T
 

@@ -1,13 +1,13 @@
 //! Rows that ask what a kind of goals adds at an alias.
 
 ghost use Rattle.std.specs.Prelude.{◌≡◌, IfOk, OnOk, false, true};
-ghost use Rattle.candidate_ir.specs.Nodes.{kind_at, tree_at};
-ghost use Rattle.candidate_ir.specs.Owned.{is_unsolved};
-ghost use Rattle.candidate_ir.specs.Trees.{holds, is_list_kind};
-ghost use Rattle.candidate_ir.specs.Words.{args_forest, env_forest};
-ghost use Rattle.candidate_assembly.specs.Kinds.{IsGoal};
-ghost use Rattle.candidate_assembly.specs.TraitGoals.{arguments_held, trait_goal, types_held};
-ghost use Rattle.candidate_assembly.specs.TraitRules.{trait_rules};
+ghost use Rattle.candidate_ir.specs.Syntax.Nodes.{kind_at, tree_at};
+ghost use Rattle.candidate_ir.specs.Instantiation.Owned.{is_unsolved};
+ghost use Rattle.candidate_ir.specs.Syntax.Trees.{holds, is_list_kind};
+ghost use Rattle.candidate_ir.specs.Syntax.Words.{args_forest, env_forest};
+ghost use Rattle.candidate_assembly.specs.Goals.Kinds.{IsGoal};
+ghost use Rattle.candidate_assembly.specs.Goals.TraitGoals.{arguments_held, trait_goal, types_held};
+ghost use Rattle.candidate_assembly.specs.Goals.TraitRules.{trait_rules};
 ghost use Rattle.rows.specs.Started.{IsPlainAlias};
 
 use crate::answers::Answer;

@@ -1,12 +1,12 @@
 //! Rows that ask an evaluator that is made for the row: for all candidates of a goal, what it comes to, and which candidates win.
 
 ghost use Rattle.std.specs.Prelude.{◌≡◌, [], All, IfOk};
-ghost use Rattle.candidate_eval.specs.Evaluators.{Keeps};
-ghost use Rattle.candidate_assembly.specs.Kinds.{IsGoal};
-ghost use Rattle.candidate_assembly.specs.Standing.{GoalStands};
-ghost use Rattle.candidate_assembly.specs.TraitGoals.{arguments_held, trait_goal, types_held};
-ghost use Rattle.candidate_assembly.specs.TraitRules.{trait_rules};
-ghost use Rattle.candidate_rounds.specs.Known.{IsGiven, state};
+ghost use Rattle.candidate_eval.specs.Interface.Evaluators.{Keeps};
+ghost use Rattle.candidate_assembly.specs.Goals.Kinds.{IsGoal};
+ghost use Rattle.candidate_assembly.specs.Goals.Standing.{GoalStands};
+ghost use Rattle.candidate_assembly.specs.Goals.TraitGoals.{arguments_held, trait_goal, types_held};
+ghost use Rattle.candidate_assembly.specs.Goals.TraitRules.{trait_rules};
+ghost use Rattle.candidate_rounds.specs.Evaluators.Known.{IsGiven, state};
 ghost use Rattle.rows.specs.Started.{MayBeGiven, started};
 
 use crate::answers::Answer;

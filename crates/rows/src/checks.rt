@@ -1,8 +1,8 @@
 //! Rows that ask the orphan check, and what is known of impls.
 
 ghost use Rattle.std.specs.Prelude.{◌≡◌, IfOk};
-ghost use Rattle.candidate_ir.specs.Context.{Grows};
-ghost use Rattle.candidate_ir.specs.Words.{IsArgs, IsTy};
+ghost use Rattle.candidate_ir.specs.Declarations.Context.{Grows};
+ghost use Rattle.candidate_ir.specs.Syntax.Words.{IsArgs, IsTy};
 
 use crate::answers::{Answer, Item, Items};
 use crate::refusals::Refusal;

@@ -1,11 +1,11 @@
 //! Rows that ask the rules by which goals of traits are proved.
 
 ghost use Rattle.std.specs.Prelude.{◌≡◌, IfOk, OnOk, false};
-ghost use Rattle.candidate_ir.specs.Trees.{is_param, tree_holds};
-ghost use Rattle.candidate_ir.specs.Words.{IsClause, clause_tree};
-ghost use Rattle.candidate_assembly.specs.Kinds.{IsGoal, IsTyped};
-ghost use Rattle.candidate_assembly.specs.TraitGoals.{arguments_held, trait_goal, types_held};
-ghost use Rattle.candidate_assembly.specs.TraitRules.{trait_rules};
+ghost use Rattle.candidate_ir.specs.Syntax.Trees.{is_param, tree_holds};
+ghost use Rattle.candidate_ir.specs.Syntax.Words.{IsClause, clause_tree};
+ghost use Rattle.candidate_assembly.specs.Goals.Kinds.{IsGoal, IsTyped};
+ghost use Rattle.candidate_assembly.specs.Goals.TraitGoals.{arguments_held, trait_goal, types_held};
+ghost use Rattle.candidate_assembly.specs.Goals.TraitRules.{trait_rules};
 
 use crate::aliases;
 use crate::answers::{Answer, Item, Items};

@@ -1,7 +1,7 @@
 //! Rows that are asked of an evaluator, and probes.
 
 ghost use Rattle.std.specs.Prelude.{◌≡◌, [], IfOk};
-ghost use Rattle.candidate_rounds.specs.Known.{IsGiven, probes};
+ghost use Rattle.candidate_rounds.specs.Evaluators.Known.{IsGiven, probes};
 
 use crate::answers::{Answer, Item, Items};
 use crate::checks;

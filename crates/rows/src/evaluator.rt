@@ -1,10 +1,10 @@
 //! Rows that ask an evaluator.
 
 ghost use Rattle.std.specs.Prelude.{◌≡◌, IfOk};
-ghost use Rattle.candidate_ir.specs.Folds.{IsArg};
-ghost use Rattle.candidate_ir.specs.Words.{IsParamEnv};
-ghost use Rattle.candidate_eval.specs.Evaluators.{IsGoal};
-ghost use Rattle.candidate_rounds.specs.Known.{probes};
+ghost use Rattle.candidate_ir.specs.Instantiation.Folds.{IsArg};
+ghost use Rattle.candidate_ir.specs.Syntax.Words.{IsParamEnv};
+ghost use Rattle.candidate_eval.specs.Interface.Evaluators.{IsGoal};
+ghost use Rattle.candidate_rounds.specs.Evaluators.Known.{probes};
 
 use crate::answers::{Answer, Item, done, node};
 use crate::eval::Operands;

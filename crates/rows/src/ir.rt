@@ -1,9 +1,9 @@
 //! Rows that call what a context can.
 
 ghost use Rattle.std.specs.Prelude.{◌≡◌, ◌<◌, IfOk, length};
-ghost use Rattle.candidate_ir.specs.Context.{Grows};
-ghost use Rattle.candidate_ir.specs.Folds.{IsArg, IsOfKind};
-ghost use Rattle.candidate_ir.specs.Words.{IsVars, IsPreds};
+ghost use Rattle.candidate_ir.specs.Declarations.Context.{Grows};
+ghost use Rattle.candidate_ir.specs.Instantiation.Folds.{IsArg, IsOfKind};
+ghost use Rattle.candidate_ir.specs.Syntax.Words.{IsVars, IsPreds};
 
 use crate::answers::{Answer, Item, Items, node};
 use crate::leaves::number_in;

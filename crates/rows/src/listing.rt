@@ -1,9 +1,9 @@
 //! The pairs that an evaluator is given: the associated types of `u8` and of `usize`, each beside `u16`.
 
 ghost use Rattle.std.specs.Prelude.{[], IfOk};
-ghost use Rattle.candidate_ir.specs.Context.{Grows};
-ghost use Rattle.candidate_ir.specs.Words.{IsTy};
-ghost use Rattle.candidate_rounds.specs.Known.{IsGiven};
+ghost use Rattle.candidate_ir.specs.Declarations.Context.{Grows};
+ghost use Rattle.candidate_ir.specs.Syntax.Words.{IsTy};
+ghost use Rattle.candidate_rounds.specs.Evaluators.Known.{IsGiven};
 
 use crate::refusals::Refusal;
 use candidate_ir::decl::context::Cx;

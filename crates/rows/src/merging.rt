@@ -1,7 +1,7 @@
 //! Rows that ask how sure answers are, what a response asks for, and what candidates are merged to.
 
 ghost use Rattle.std.specs.Prelude.{◌≡◌, [], IfOk};
-ghost use Rattle.candidate_eval.specs.ResponseTrees.{AreCandidates, IsResponse};
+ghost use Rattle.candidate_eval.specs.Outcomes.ResponseTrees.{AreCandidates, IsResponse};
 
 use crate::answers::{Answer, Item, Items};
 use crate::eval::Operands;

@@ -1,10 +1,10 @@
 //! Rows that ask an evaluator about objects and their bounds.
 
 ghost use Rattle.std.specs.Prelude.{◌≡◌, IfOk};
-ghost use Rattle.candidate_ir.specs.Context.{world};
-ghost use Rattle.candidate_ir.specs.References.{Takes};
-ghost use Rattle.candidate_ir.specs.Words.{ClauseFits, ClauseListFits, IsArgs, IsParamEnv, IsPreds, clause_kind_tree};
-ghost use Rattle.candidate_eval.specs.ObjectRequirements.{reference_clause};
+ghost use Rattle.candidate_ir.specs.Declarations.Context.{world};
+ghost use Rattle.candidate_ir.specs.Declarations.References.{Takes};
+ghost use Rattle.candidate_ir.specs.Syntax.Words.{ClauseFits, ClauseListFits, IsArgs, IsParamEnv, IsPreds, clause_kind_tree};
+ghost use Rattle.candidate_eval.specs.Dynamic.ObjectRequirements.{reference_clause};
 
 use crate::answers::{Answer, Item, Items, node};
 use crate::eval::Operands;

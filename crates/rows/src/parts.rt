@@ -1,11 +1,11 @@
 //! What is to be made, and in what: while declarations are made a builder, then a context, or what is over one.
 
 ghost use Rattle.std.specs.Prelude.{◌≡◌, IsTrue, IfSome, List};
-ghost use Rattle.candidate_ir.specs.Context.{world};
-ghost use Rattle.candidate_ir.specs.Trees.{Tree, kind_of};
-ghost use Rattle.candidate_ir.specs.Nodes.{kind_at};
-ghost use Rattle.candidate_ir.specs.Folds.{IsArg};
-ghost use Rattle.candidate_ir.specs.Words.{KindFits, ClauseFits, PredFits, BoundsFit, AtMostOnePrincipal, ListFits, ClauseListFits};
+ghost use Rattle.candidate_ir.specs.Declarations.Context.{world};
+ghost use Rattle.candidate_ir.specs.Syntax.Trees.{Tree, kind_of};
+ghost use Rattle.candidate_ir.specs.Syntax.Nodes.{kind_at};
+ghost use Rattle.candidate_ir.specs.Instantiation.Folds.{IsArg};
+ghost use Rattle.candidate_ir.specs.Syntax.Words.{KindFits, ClauseFits, PredFits, BoundsFit, AtMostOnePrincipal, ListFits, ClauseListFits};
 ghost use Rattle.rows.specs.Parts.{kind_of_sort, PartFits, PartTakes};
 
 use crate::refusals::Refusal;

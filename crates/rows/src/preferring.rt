@@ -1,8 +1,8 @@
 //! Rows that note candidates, and ask which of them win and what they come to.
 
 ghost use Rattle.std.specs.Prelude.{◌≤◌, IfOk, IsTrue, count_by};
-ghost use Rattle.candidate_eval.specs.ResponseTrees.{AreCandidates, IsResponse};
-ghost use Rattle.candidate_assembly.specs.Assembled.{is_trivial};
+ghost use Rattle.candidate_eval.specs.Outcomes.ResponseTrees.{AreCandidates, IsResponse};
+ghost use Rattle.candidate_assembly.specs.Answers.Assembled.{is_trivial};
 
 use crate::answers::{Answer, Item, Items};
 use crate::considering::{found_rows, source_of};

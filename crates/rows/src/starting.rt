@@ -1,13 +1,13 @@
 //! What a new evaluator begins with: its mode, its root variables, and the opaque types that may be hidden behind a variable.
 
 ghost use Rattle.std.specs.Prelude.{◌≡◌, [], All, IfOk, OnOk, refl, true};
-ghost use Rattle.candidate_ir.specs.Folds.{IsArg};
-ghost use Rattle.candidate_ir.specs.Nodes.{kind_at, tree_at};
-ghost use Rattle.candidate_ir.specs.Trees.{is_list_kind};
-ghost use Rattle.candidate_eval.specs.Alike.{info};
-ghost use Rattle.candidate_eval.specs.Soundness.{is_strange};
-ghost use Rattle.candidate_eval.specs.States.{has_kind, same_kind};
-ghost use Rattle.candidate_rounds.specs.Known.{state};
+ghost use Rattle.candidate_ir.specs.Instantiation.Folds.{IsArg};
+ghost use Rattle.candidate_ir.specs.Syntax.Nodes.{kind_at, tree_at};
+ghost use Rattle.candidate_ir.specs.Syntax.Trees.{is_list_kind};
+ghost use Rattle.candidate_eval.specs.Judges.Alike.{info};
+ghost use Rattle.candidate_eval.specs.Judges.Soundness.{is_strange};
+ghost use Rattle.candidate_eval.specs.Judges.States.{has_kind, same_kind};
+ghost use Rattle.candidate_rounds.specs.Evaluators.Known.{state};
 ghost use Rattle.rows.specs.Started.{AreOfStart, MayBeGiven, every, started};
 
 use crate::refusals::Refusal;

@@ -1,8 +1,8 @@
 //! Rows that ask about the parts of types, what can be called, and what an object has to fulfil.
 
 ghost use Rattle.std.specs.Prelude.{◌≡◌, false};
-ghost use Rattle.candidate_ir.specs.Words.{IsTy, ty_tree};
-ghost use Rattle.candidate_eval.specs.Callable.{is_unknown};
+ghost use Rattle.candidate_ir.specs.Syntax.Words.{IsTy, ty_tree};
+ghost use Rattle.candidate_eval.specs.Builtins.Callable.{is_unknown};
 
 use crate::answers::{Answer, Item, Items};
 use crate::lookups::listed_answer;

@@ -1,8 +1,8 @@
 //! Numbers that are looked at: each stands for what is asked, or the call of the row may not be made.
 
 ghost use Rattle.std.specs.Prelude.{IfOk};
-ghost use Rattle.candidate_ir.specs.Folds.{IsArg};
-ghost use Rattle.candidate_ir.specs.Words.{IsArgs, IsClause, IsParamEnv, IsTy, IsVars};
+ghost use Rattle.candidate_ir.specs.Instantiation.Folds.{IsArg};
+ghost use Rattle.candidate_ir.specs.Syntax.Words.{IsArgs, IsClause, IsParamEnv, IsTy, IsVars};
 
 use crate::parts::{NodeSort, is_at, sort_at};
 use crate::refusals::Refusal;

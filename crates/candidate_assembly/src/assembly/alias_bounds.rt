@@ -1,20 +1,20 @@
 //! The bounds of an alias, as clauses that may prove what is asked of it.
 
 ghost use Rattle.std.specs.Prelude.{◌≡◌, All, [], false, length, map, IfOk, IfErr};
-ghost use Rattle.candidate_ir.specs.Context.{Grows};
+ghost use Rattle.candidate_ir.specs.Declarations.Context.{Grows};
 ghost use Rattle.candidate_ir.specs.declared.ir.kinds.TyKind.TheVariants as kinds;
-ghost use Rattle.candidate_ir.specs.Folding.{substituted_tree};
-ghost use Rattle.candidate_ir.specs.Owned.{AliasArgumentsFit, is_unsolved};
-ghost use Rattle.candidate_ir.specs.Trees.{holds, is_param, tree_holds};
-ghost use Rattle.candidate_ir.specs.Words.{ClauseListFits, IsArgs, IsClause, args_forest, clause_tree, kind_tree};
-ghost use Rattle.candidate_eval.specs.Evaluators.{IsMakingStop};
-ghost use Rattle.candidate_eval.specs.Mentions.{IsBelow};
-ghost use Rattle.candidate_eval.specs.ResponseTrees.{AreCandidates};
-ghost use Rattle.candidate_eval.specs.Rules.{ask};
-ghost use Rattle.candidate_assembly.specs.AliasBounds.{bound_rules, bounds_of_kind, variable_rule};
-ghost use Rattle.candidate_assembly.specs.Kinds.{GoalBelow, IsGoal, match_rule};
-ghost use Rattle.candidate_assembly.specs.Listing.{ConsidersAll, after_these, answers};
-ghost use Rattle.candidate_assembly.specs.Telling.{Considers};
+ghost use Rattle.candidate_ir.specs.Instantiation.Folding.{substituted_tree};
+ghost use Rattle.candidate_ir.specs.Instantiation.Owned.{AliasArgumentsFit, is_unsolved};
+ghost use Rattle.candidate_ir.specs.Syntax.Trees.{holds, is_param, tree_holds};
+ghost use Rattle.candidate_ir.specs.Syntax.Words.{ClauseListFits, IsArgs, IsClause, args_forest, clause_tree, kind_tree};
+ghost use Rattle.candidate_eval.specs.Interface.Evaluators.{IsMakingStop};
+ghost use Rattle.candidate_eval.specs.Derivations.Mentions.{IsBelow};
+ghost use Rattle.candidate_eval.specs.Outcomes.ResponseTrees.{AreCandidates};
+ghost use Rattle.candidate_eval.specs.Derivations.Rules.{ask};
+ghost use Rattle.candidate_assembly.specs.Rules.AliasBounds.{bound_rules, bounds_of_kind, variable_rule};
+ghost use Rattle.candidate_assembly.specs.Goals.Kinds.{GoalBelow, IsGoal, match_rule};
+ghost use Rattle.candidate_assembly.specs.Answers.Listing.{ConsidersAll, after_these, answers};
+ghost use Rattle.candidate_assembly.specs.Answers.Telling.{Considers};
 
 use crate::assembly::kind::GoalKind;
 use crate::assembly::listing::push_considered;

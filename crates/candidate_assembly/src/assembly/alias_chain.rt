@@ -1,19 +1,19 @@
 //! The chain of aliases that a goal's self type begins: the alias, what it is a projection of, and so on, whose bounds may prove the goal.
 
 ghost use Rattle.std.specs.Prelude.{◌≡◌, None, false, true, IfSome};
-ghost use Rattle.candidate_ir.specs.Words.{IsParamEnv, IsTy, env_forest, kind_tree, ty_tree};
+ghost use Rattle.candidate_ir.specs.Syntax.Words.{IsParamEnv, IsTy, env_forest, kind_tree, ty_tree};
 ghost use Rattle.candidate_ir.specs.declared.ir.heads.Head.TheVariants as head;
 ghost use Rattle.candidate_ir.specs.declared.ir.kinds.TyKind.TheVariants as kinds;
-ghost use Rattle.candidate_eval.specs.Asked.{first_ty};
-ghost use Rattle.candidate_eval.specs.ObjectRequirements.{first_tree};
-ghost use Rattle.candidate_eval.specs.States.{State};
-ghost use Rattle.candidate_eval.specs.ResponseTrees.{AreCandidates, candidates_of};
-ghost use Rattle.candidate_assembly.specs.AliasBounds.{end_answers, end_at, has_bounds, is_projection, link, link_rules};
-ghost use Rattle.candidate_assembly.specs.AliasChains.{ChainFollows, Continues, IsBoundedAlias, WalksChain, as_seen};
-ghost use Rattle.candidate_assembly.specs.Earlier.{AtEach};
-ghost use Rattle.candidate_assembly.specs.Kinds.{IsGoal};
-ghost use Rattle.candidate_assembly.specs.Listing.{ConsidersAll, after_these, answers_at};
-ghost use Rattle.candidate_assembly.specs.Standing.{GoalStands, StandsBeside};
+ghost use Rattle.candidate_eval.specs.Builtins.Asked.{first_ty};
+ghost use Rattle.candidate_eval.specs.Dynamic.ObjectRequirements.{first_tree};
+ghost use Rattle.candidate_eval.specs.Judges.States.{State};
+ghost use Rattle.candidate_eval.specs.Outcomes.ResponseTrees.{AreCandidates, candidates_of};
+ghost use Rattle.candidate_assembly.specs.Rules.AliasBounds.{end_answers, end_at, has_bounds, is_projection, link, link_rules};
+ghost use Rattle.candidate_assembly.specs.Calls.AliasChains.{ChainFollows, Continues, IsBoundedAlias, WalksChain, as_seen};
+ghost use Rattle.candidate_assembly.specs.Goals.Earlier.{AtEach};
+ghost use Rattle.candidate_assembly.specs.Goals.Kinds.{IsGoal};
+ghost use Rattle.candidate_assembly.specs.Answers.Listing.{ConsidersAll, after_these, answers_at};
+ghost use Rattle.candidate_assembly.specs.Goals.Standing.{GoalStands, StandsBeside};
 
 use crate::assembly::alias_bounds::{consider_alias_bounds, consider_behind_variable};
 use crate::assembly::kind::GoalKind;

@@ -1,13 +1,13 @@
 //! All candidates for a goal, in their order.
 
 ghost use Rattle.std.specs.Prelude.{◌≡◌, List};
-ghost use Rattle.candidate_eval.specs.ResponseTrees.{AreCandidates, IsResponse, candidate_of, candidates_of};
-ghost use Rattle.candidate_ir.specs.Trees.{Tree};
-ghost use Rattle.candidate_assembly.specs.Assembled.{Further, WithImpls, WithUnsizing, has_where_bound, is_local_assumption, is_of_environment, is_shadowed, leaves_out, shadows};
-ghost use Rattle.candidate_assembly.specs.Assembling.{ListsKnown, UnsizingFollows};
-ghost use Rattle.candidate_assembly.specs.Kinds.{IsGoal, IsTyped};
-ghost use Rattle.candidate_assembly.specs.Listing.{ConsidersAll};
-ghost use Rattle.candidate_assembly.specs.Standing.{GoalStands};
+ghost use Rattle.candidate_eval.specs.Outcomes.ResponseTrees.{AreCandidates, IsResponse, candidate_of, candidates_of};
+ghost use Rattle.candidate_ir.specs.Syntax.Trees.{Tree};
+ghost use Rattle.candidate_assembly.specs.Answers.Assembled.{Further, WithImpls, WithUnsizing, has_where_bound, is_local_assumption, is_of_environment, is_shadowed, leaves_out, shadows};
+ghost use Rattle.candidate_assembly.specs.Calls.Assembling.{ListsKnown, UnsizingFollows};
+ghost use Rattle.candidate_assembly.specs.Goals.Kinds.{IsGoal, IsTyped};
+ghost use Rattle.candidate_assembly.specs.Answers.Listing.{ConsidersAll};
+ghost use Rattle.candidate_assembly.specs.Goals.Standing.{GoalStands};
 
 use crate::assembly::alias_chain::assemble_alias_bound_candidates;
 use crate::assembly::kind::GoalKind;

@@ -2,14 +2,14 @@
 
 ghost use Rattle.std.specs.Prelude.{◌≡◌, ◌∷◌, [], IfErr, IfOk};
 ghost use Rattle.candidate_ir.specs.declared.ir.stop.Stop.TheVariants.{Memory};
-ghost use Rattle.candidate_ir.specs.Words.{IsTy, ty_tree};
-ghost use Rattle.candidate_assembly.specs.Assembled.{Assembled, ForNormal, is_coherence};
-ghost use Rattle.candidate_assembly.specs.AssembledCalls.{Assembles};
-ghost use Rattle.candidate_assembly.specs.Earlier.{AtEach};
-ghost use Rattle.candidate_assembly.specs.Kinds.{IsGoal, IsTyped};
-ghost use Rattle.candidate_assembly.specs.Listing.{ConsidersAll};
-ghost use Rattle.candidate_assembly.specs.OneTrivial.{AnswersOneTrivial};
-ghost use Rattle.candidate_assembly.specs.Standing.{GoalStands, StandsBeside};
+ghost use Rattle.candidate_ir.specs.Syntax.Words.{IsTy, ty_tree};
+ghost use Rattle.candidate_assembly.specs.Answers.Assembled.{Assembled, ForNormal, is_coherence};
+ghost use Rattle.candidate_assembly.specs.Calls.AssembledCalls.{Assembles};
+ghost use Rattle.candidate_assembly.specs.Goals.Earlier.{AtEach};
+ghost use Rattle.candidate_assembly.specs.Goals.Kinds.{IsGoal, IsTyped};
+ghost use Rattle.candidate_assembly.specs.Answers.Listing.{ConsidersAll};
+ghost use Rattle.candidate_assembly.specs.Laws.OneTrivial.{AnswersOneTrivial};
+ghost use Rattle.candidate_assembly.specs.Goals.Standing.{GoalStands, StandsBeside};
 
 use crate::assembly::assemble::assemble_known;
 use crate::assembly::kind::GoalKind;

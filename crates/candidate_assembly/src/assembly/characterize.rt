@@ -1,19 +1,19 @@
 //! Whether a clause of the environment is global: whether it says nothing of what is generic there.
 
 ghost use Rattle.std.specs.Prelude.{◌≡◌, ◌≤◌, ◌<◌, [], ◌∷◌, true, false, refl, None, Some, Err, IfOk, IfErr, MatchOption, length};
-ghost use Rattle.candidate_ir.specs.Context.{parameter_kind};
-ghost use Rattle.candidate_ir.specs.Folds.{IsArg, arg_tree};
-ghost use Rattle.candidate_ir.specs.Nodes.{tree_at};
-ghost use Rattle.candidate_ir.specs.Opening.{opened, opened_tree};
-ghost use Rattle.candidate_ir.specs.Supers.{after_first};
-ghost use Rattle.candidate_ir.specs.Trees.{Tree};
-ghost use Rattle.candidate_ir.specs.Words.{IsArgs, IsClause, IsParamEnv, args_forest, clause_tree, env_forest};
-ghost use Rattle.candidate_eval.specs.Accounts.{StopsSomehow, by_stop};
-ghost use Rattle.candidate_eval.specs.Characterization.{Walk, Refuses, Stops, bound_kinds, characterization, each, each_group, group_of, groups, is_any_bound, is_of_interest, looked, region_seen, under_binder, variable_of_binder};
-ghost use Rattle.candidate_eval.specs.Evaluators.{IsMakingStop, Keeps, kinds_listed};
-ghost use Rattle.candidate_eval.specs.Knowing.{own_stop};
-ghost use Rattle.candidate_eval.specs.States.{State};
-ghost use Rattle.candidate_assembly.specs.Characterizing.{Walks, answer_of, ends, found, group_visited, said_by_head, unless_said, visited_at};
+ghost use Rattle.candidate_ir.specs.Declarations.Context.{parameter_kind};
+ghost use Rattle.candidate_ir.specs.Instantiation.Folds.{IsArg, arg_tree};
+ghost use Rattle.candidate_ir.specs.Syntax.Nodes.{tree_at};
+ghost use Rattle.candidate_ir.specs.Instantiation.Opening.{opened, opened_tree};
+ghost use Rattle.candidate_ir.specs.Hierarchy.Supers.{after_first};
+ghost use Rattle.candidate_ir.specs.Syntax.Trees.{Tree};
+ghost use Rattle.candidate_ir.specs.Syntax.Words.{IsArgs, IsClause, IsParamEnv, args_forest, clause_tree, env_forest};
+ghost use Rattle.candidate_eval.specs.Interface.Accounts.{StopsSomehow, by_stop};
+ghost use Rattle.candidate_eval.specs.Derivations.Characterization.{Walk, Refuses, Stops, bound_kinds, characterization, each, each_group, group_of, groups, is_any_bound, is_of_interest, looked, region_seen, under_binder, variable_of_binder};
+ghost use Rattle.candidate_eval.specs.Interface.Evaluators.{IsMakingStop, Keeps, kinds_listed};
+ghost use Rattle.candidate_eval.specs.Interface.Knowing.{own_stop};
+ghost use Rattle.candidate_eval.specs.Judges.States.{State};
+ghost use Rattle.candidate_assembly.specs.Calls.Characterizing.{Walks, answer_of, ends, found, group_visited, said_by_head, unless_said, visited_at};
 
 use candidate_eval::eval::certainty::{Certainty, MaybeCause, MaybeInfo, OpaqueTypesJank};
 use candidate_eval::eval::context::EvalCtxt;

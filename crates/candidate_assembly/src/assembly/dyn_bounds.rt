@@ -1,13 +1,13 @@
 //! The bounds of `dyn` types, and what each says of a type.
 
 ghost use Rattle.std.specs.Prelude.{◌≡◌, IfErr, IfOk};
-ghost use Rattle.candidate_ir.specs.Context.{Grows};
-ghost use Rattle.candidate_ir.specs.Trees.{tree};
-ghost use Rattle.candidate_ir.specs.Words.{IsClause, IsPred, IsPreds, IsRegion, IsTy, ListFits, PredFits, clause_tree, list_forest, pred_tree, preds_forest, region_tree, ty_tree};
+ghost use Rattle.candidate_ir.specs.Declarations.Context.{Grows};
+ghost use Rattle.candidate_ir.specs.Syntax.Trees.{tree};
+ghost use Rattle.candidate_ir.specs.Syntax.Words.{IsClause, IsPred, IsPreds, IsRegion, IsTy, ListFits, PredFits, clause_tree, list_forest, pred_tree, preds_forest, region_tree, ty_tree};
 ghost use Rattle.candidate_ir.specs.declared.ir.heads.Head.TheVariants as H;
-ghost use Rattle.candidate_eval.specs.Evaluators.{IsMakingStop};
-ghost use Rattle.candidate_eval.specs.Required.{each_of};
-ghost use Rattle.candidate_assembly.specs.DynBounds.{bound_arguments, bound_said, bounds_in, is_compatible, kind_said, principal_in, region_in, trait_said};
+ghost use Rattle.candidate_eval.specs.Interface.Evaluators.{IsMakingStop};
+ghost use Rattle.candidate_eval.specs.Dynamic.Required.{each_of};
+ghost use Rattle.candidate_assembly.specs.Rules.DynBounds.{bound_arguments, bound_said, bounds_in, is_compatible, kind_said, principal_in, region_in, trait_said};
 
 use candidate_ir::decl::Cx;
 use candidate_ir::decl::make::{Build, Make};

@@ -1,13 +1,13 @@
 //! The rules that the language has for some traits, by name.
 
 ghost use Rattle.std.specs.Prelude.{◌≡◌};
-ghost use Rattle.candidate_ir.specs.Faults.{all_items};
-ghost use Rattle.candidate_eval.specs.ResponseTrees.{AreCandidates};
-ghost use Rattle.candidate_assembly.specs.Assembled.{language_rules, rule_among, rule_name, rule_of_item, rule_of_trait};
-ghost use Rattle.candidate_assembly.specs.Kinds.{IsGoal, IsTyped};
-ghost use Rattle.candidate_assembly.specs.Language.{if_named, rule_by_item, rule_named};
-ghost use Rattle.candidate_assembly.specs.Listing.{ConsidersAll, after_these, answers};
-ghost use Rattle.candidate_assembly.specs.Telling.{Considers};
+ghost use Rattle.candidate_ir.specs.Validity.Faults.{all_items};
+ghost use Rattle.candidate_eval.specs.Outcomes.ResponseTrees.{AreCandidates};
+ghost use Rattle.candidate_assembly.specs.Answers.Assembled.{language_rules, rule_among, rule_name, rule_of_item, rule_of_trait};
+ghost use Rattle.candidate_assembly.specs.Goals.Kinds.{IsGoal, IsTyped};
+ghost use Rattle.candidate_assembly.specs.Rules.Language.{if_named, rule_by_item, rule_named};
+ghost use Rattle.candidate_assembly.specs.Answers.Listing.{ConsidersAll, after_these, answers};
+ghost use Rattle.candidate_assembly.specs.Answers.Telling.{Considers};
 
 use crate::assembly::kind::GoalKind;
 use crate::assembly::listing::push_considered;

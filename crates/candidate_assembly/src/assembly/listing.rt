@@ -1,20 +1,20 @@
 //! Lists of candidates, by rules in their order.
 
 ghost use Rattle.std.specs.Prelude.{◌≡◌, false, length, IfErr, IfOk};
-ghost use Rattle.candidate_ir.specs.Impls.{relevant_impls};
-ghost use Rattle.candidate_ir.specs.Trees.{holds, is_param};
-ghost use Rattle.candidate_ir.specs.WellFormed.{IsWellFormedTable};
-ghost use Rattle.candidate_ir.specs.Words.{env_forest};
-ghost use Rattle.candidate_eval.specs.Accounts.{by_stop};
-ghost use Rattle.candidate_eval.specs.Evaluators.{Keeps};
-ghost use Rattle.candidate_eval.specs.ResponseTrees.{AreCandidates};
+ghost use Rattle.candidate_ir.specs.Unification.Impls.{relevant_impls};
+ghost use Rattle.candidate_ir.specs.Syntax.Trees.{holds, is_param};
+ghost use Rattle.candidate_ir.specs.Validity.WellFormed.{IsWellFormedTable};
+ghost use Rattle.candidate_ir.specs.Syntax.Words.{env_forest};
+ghost use Rattle.candidate_eval.specs.Interface.Accounts.{by_stop};
+ghost use Rattle.candidate_eval.specs.Interface.Evaluators.{Keeps};
+ghost use Rattle.candidate_eval.specs.Outcomes.ResponseTrees.{AreCandidates};
 ghost use Rattle.candidate_eval.specs.declared.eval.source.CandidateSource.TheVariants as source;
-ghost use Rattle.candidate_assembly.specs.Assembled.{impl_rules, trait_of, where_rules};
-ghost use Rattle.candidate_assembly.specs.Closures.{Responds};
-ghost use Rattle.candidate_assembly.specs.Kinds.{GoalBelow, IsGoal, rule_of_part, self_type};
-ghost use Rattle.candidate_assembly.specs.Listing.{Adds, ConsidersAll, after_these, answers};
-ghost use Rattle.candidate_assembly.specs.Opaques.{is_default_impl, proper_impls};
-ghost use Rattle.candidate_assembly.specs.Telling.{Considers, StopsOfItself, without_usages};
+ghost use Rattle.candidate_assembly.specs.Answers.Assembled.{impl_rules, trait_of, where_rules};
+ghost use Rattle.candidate_assembly.specs.Answers.Closures.{Responds};
+ghost use Rattle.candidate_assembly.specs.Goals.Kinds.{GoalBelow, IsGoal, rule_of_part, self_type};
+ghost use Rattle.candidate_assembly.specs.Answers.Listing.{Adds, ConsidersAll, after_these, answers};
+ghost use Rattle.candidate_assembly.specs.Rules.Opaques.{is_default_impl, proper_impls};
+ghost use Rattle.candidate_assembly.specs.Answers.Telling.{Considers, StopsOfItself, without_usages};
 
 use crate::assembly::kind::GoalKind;
 use candidate_eval::eval::certainty::Certainty;

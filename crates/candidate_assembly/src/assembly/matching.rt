@@ -1,16 +1,16 @@
 //! What follows where a clause is matched.
 
 ghost use Rattle.std.specs.Prelude.{◌≡◌, [], ◌∷◌, false, IfErr, OnOk};
-ghost use Rattle.candidate_ir.specs.Trees.{holds, is_param};
-ghost use Rattle.candidate_ir.specs.Words.{IsClause, IsParamEnv, clause_tree, env_forest};
-ghost use Rattle.candidate_eval.specs.Accounts.{StopsSomehow, by_stop};
-ghost use Rattle.candidate_eval.specs.Evaluators.{Keeps};
-ghost use Rattle.candidate_eval.specs.Judging.{comes_to, judged, start};
-ghost use Rattle.candidate_eval.specs.Rules.{ask, characterise, settle};
-ghost use Rattle.candidate_assembly.specs.Closures.{Responds};
-ghost use Rattle.candidate_assembly.specs.Kinds.{IsAssumption, IsGoal, match_rule};
-ghost use Rattle.candidate_assembly.specs.Requirements.{RequireNoParameter, RequirementsFit, requirement_steps, requiring_rule, with_requirements};
-ghost use Rattle.candidate_assembly.specs.Telling.{Considers, StopsOfItself, Told, without_usages};
+ghost use Rattle.candidate_ir.specs.Syntax.Trees.{holds, is_param};
+ghost use Rattle.candidate_ir.specs.Syntax.Words.{IsClause, IsParamEnv, clause_tree, env_forest};
+ghost use Rattle.candidate_eval.specs.Interface.Accounts.{StopsSomehow, by_stop};
+ghost use Rattle.candidate_eval.specs.Interface.Evaluators.{Keeps};
+ghost use Rattle.candidate_eval.specs.Derivations.Judging.{comes_to, judged, start};
+ghost use Rattle.candidate_eval.specs.Derivations.Rules.{ask, characterise, settle};
+ghost use Rattle.candidate_assembly.specs.Answers.Closures.{Responds};
+ghost use Rattle.candidate_assembly.specs.Goals.Kinds.{IsAssumption, IsGoal, match_rule};
+ghost use Rattle.candidate_assembly.specs.Rules.Requirements.{RequireNoParameter, RequirementsFit, requirement_steps, requiring_rule, with_requirements};
+ghost use Rattle.candidate_assembly.specs.Answers.Telling.{Considers, StopsOfItself, Told, without_usages};
 
 use crate::assembly::characterize::characterize_param_env_assumption;
 use crate::assembly::kind::GoalKind;

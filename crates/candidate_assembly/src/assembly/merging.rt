@@ -1,14 +1,14 @@
 //! How a goal that isn't of a trait is answered, once it is known how the goal of its trait was proved.
 
 ghost use Rattle.std.specs.Prelude.{◌≡◌, List};
-ghost use Rattle.candidate_ir.specs.Trees.{Tree};
-ghost use Rattle.candidate_ir.specs.Words.{IsParamEnv, env_forest};
-ghost use Rattle.candidate_eval.specs.Evaluators.{Keeps};
-ghost use Rattle.candidate_eval.specs.ResponseTrees.{AreCandidates, candidates_of};
-ghost use Rattle.candidate_assembly.specs.Kinds.{IsGoal};
-ghost use Rattle.candidate_assembly.specs.Standing.{GoalStands};
-ghost use Rattle.candidate_assembly.specs.MergedKinds.{AfterAll, AfterAssumptions, AfterList, Answers, IsAnsweredBy, IsUnproved, KeepsAll, come_to, only_where_bounds};
-ghost use Rattle.candidate_assembly.specs.Specialization.{unspecialized};
+ghost use Rattle.candidate_ir.specs.Syntax.Trees.{Tree};
+ghost use Rattle.candidate_ir.specs.Syntax.Words.{IsParamEnv, env_forest};
+ghost use Rattle.candidate_eval.specs.Interface.Evaluators.{Keeps};
+ghost use Rattle.candidate_eval.specs.Outcomes.ResponseTrees.{AreCandidates, candidates_of};
+ghost use Rattle.candidate_assembly.specs.Goals.Kinds.{IsGoal};
+ghost use Rattle.candidate_assembly.specs.Goals.Standing.{GoalStands};
+ghost use Rattle.candidate_assembly.specs.Answers.MergedKinds.{AfterAll, AfterAssumptions, AfterList, Answers, IsAnsweredBy, IsUnproved, KeepsAll, come_to, only_where_bounds};
+ghost use Rattle.candidate_assembly.specs.Answers.Specialization.{unspecialized};
 
 use crate::assembly::assemble::has_where_bound;
 use crate::assembly::candidates::assemble_and_evaluate_candidates;

@@ -2,20 +2,20 @@
 
 ghost use Rattle.std.specs.Prelude.{◌≡◌, ◌++◌, All, false, map, option_map, true, IfErr, IfOk, IfSome};
 ghost use Rattle.std.specs.List.{filter};
-ghost use Rattle.candidate_ir.specs.Context.{Grows, world};
-ghost use Rattle.candidate_ir.specs.References.{Takes};
-ghost use Rattle.candidate_ir.specs.Substitutions.{alone};
-ghost use Rattle.candidate_ir.specs.Words.{ClauseFits, ClauseListFits, IsClause, IsParamEnv, IsPred, IsPreds, IsTy, PredListFits, clause_kind_tree, clause_tree, env_forest, pred_tree, preds_forest, ty_tree};
-ghost use Rattle.candidate_eval.specs.Evaluators.{IsMakingStop};
-ghost use Rattle.candidate_eval.specs.ObjectRequirements.{reference_clause};
+ghost use Rattle.candidate_ir.specs.Declarations.Context.{Grows, world};
+ghost use Rattle.candidate_ir.specs.Declarations.References.{Takes};
+ghost use Rattle.candidate_ir.specs.Unification.Substitutions.{alone};
+ghost use Rattle.candidate_ir.specs.Syntax.Words.{ClauseFits, ClauseListFits, IsClause, IsParamEnv, IsPred, IsPreds, IsTy, PredListFits, clause_kind_tree, clause_tree, env_forest, pred_tree, preds_forest, ty_tree};
+ghost use Rattle.candidate_eval.specs.Interface.Evaluators.{IsMakingStop};
+ghost use Rattle.candidate_eval.specs.Dynamic.ObjectRequirements.{reference_clause};
 ghost use Rattle.candidate_ir.specs.declared.ir.heads.Head.TheVariants as H;
-ghost use Rattle.candidate_ir.specs.Trees.{holds, is_param};
-ghost use Rattle.candidate_eval.specs.ResponseTrees.{AreCandidates};
-ghost use Rattle.candidate_assembly.specs.Listing.{ConsidersAll};
-ghost use Rattle.candidate_assembly.specs.Kinds.{IsAssumption, IsGoal, self_type};
-ghost use Rattle.candidate_assembly.specs.ObjectBounds.{has_own_clauses, own_clause, speaks_of_trait};
-ghost use Rattle.candidate_assembly.specs.DynBounds.{ArePrincipalSupers, bounds_in, first_listed, is_principal};
-ghost use Rattle.candidate_assembly.specs.ObjectCalls.{AreOwnClauses, AsksOfObject, ConsidersObject, IsOwnClause, IsReferenceBy, ObjectFollows, ObjectsFollow, TellsObject, bound_clauses, numbered_from, own_clause_of};
+ghost use Rattle.candidate_ir.specs.Syntax.Trees.{holds, is_param};
+ghost use Rattle.candidate_eval.specs.Outcomes.ResponseTrees.{AreCandidates};
+ghost use Rattle.candidate_assembly.specs.Answers.Listing.{ConsidersAll};
+ghost use Rattle.candidate_assembly.specs.Goals.Kinds.{IsAssumption, IsGoal, self_type};
+ghost use Rattle.candidate_assembly.specs.Rules.ObjectBounds.{has_own_clauses, own_clause, speaks_of_trait};
+ghost use Rattle.candidate_assembly.specs.Rules.DynBounds.{ArePrincipalSupers, bounds_in, first_listed, is_principal};
+ghost use Rattle.candidate_assembly.specs.Calls.ObjectCalls.{AreOwnClauses, AsksOfObject, ConsidersObject, IsOwnClause, IsReferenceBy, ObjectFollows, ObjectsFollow, TellsObject, bound_clauses, numbered_from, own_clause_of};
 
 use crate::assembly::dyn_bounds::{bound_clause, dyn_parts, is_dyn_compatible};
 use crate::assembly::kind::GoalKind;

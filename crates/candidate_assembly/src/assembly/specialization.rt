@@ -1,8 +1,8 @@
 //! Impls that give way to others that specialise them.
 
 ghost use Rattle.std.specs.Prelude.{◌≡◌, ◌==◌, ◌<◌, length, slice_index_or};
-ghost use Rattle.candidate_eval.specs.ResponseTrees.{AreCandidates, IsResponse, candidate_of, candidates_of, response_of};
-ghost use Rattle.candidate_assembly.specs.Specialization.{IsStrictOrder, drives_out, is_driven_out, is_eligible, specializes, undriven, unspecialized};
+ghost use Rattle.candidate_eval.specs.Outcomes.ResponseTrees.{AreCandidates, IsResponse, candidate_of, candidates_of, response_of};
+ghost use Rattle.candidate_assembly.specs.Answers.Specialization.{IsStrictOrder, drives_out, is_driven_out, is_eligible, specializes, undriven, unspecialized};
 ghost use Rattle.std.specs.List.{list_any, remove};
 
 use crate::assembly::candidates::is_coherence;

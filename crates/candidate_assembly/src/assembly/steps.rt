@@ -1,13 +1,13 @@
 //! Steps of rules, by the calls of an evaluator.
 
 ghost use Rattle.std.specs.Prelude.{◌≡◌, Err, List, map, true, IfErr};
-ghost use Rattle.candidate_ir.specs.Trees.{Tree};
-ghost use Rattle.candidate_ir.specs.Words.{ClauseListFits, IsParamEnv, clause_tree, env_forest};
-ghost use Rattle.candidate_eval.specs.Accounts.{by_stop};
-ghost use Rattle.candidate_eval.specs.Evaluators.{Keeps, with_goals_of};
-ghost use Rattle.candidate_eval.specs.Judging.{Judged, asked};
-ghost use Rattle.candidate_eval.specs.ObjectRequirements.{goals_in};
-ghost use Rattle.candidate_assembly.specs.Telling.{Considers, HaveNoParameter, StopsOfItself, Told, ToldAs, asking_rule, flat_rule};
+ghost use Rattle.candidate_ir.specs.Syntax.Trees.{Tree};
+ghost use Rattle.candidate_ir.specs.Syntax.Words.{ClauseListFits, IsParamEnv, clause_tree, env_forest};
+ghost use Rattle.candidate_eval.specs.Interface.Accounts.{by_stop};
+ghost use Rattle.candidate_eval.specs.Interface.Evaluators.{Keeps, with_goals_of};
+ghost use Rattle.candidate_eval.specs.Derivations.Judging.{Judged, asked};
+ghost use Rattle.candidate_eval.specs.Dynamic.ObjectRequirements.{goals_in};
+ghost use Rattle.candidate_assembly.specs.Answers.Telling.{Considers, HaveNoParameter, StopsOfItself, Told, ToldAs, asking_rule, flat_rule};
 
 use candidate_eval::eval::certainty::{Certainty, MaybeInfo};
 use candidate_eval::eval::clauses::goals;

@@ -1,20 +1,20 @@
 //! Impls that other crates may write: in coherence a goal that one of them may prove is too little known.
 
 ghost use Rattle.std.specs.Prelude.{◌≡◌, [], ◌∷◌, false, map, IfErr, IfOk, OnOk};
-ghost use Rattle.candidate_ir.specs.Elaboration.{IsElaboration};
-ghost use Rattle.candidate_ir.specs.References.{ArgumentsFit, reference_of};
-ghost use Rattle.candidate_ir.specs.Trees.{holds, is_param};
-ghost use Rattle.candidate_ir.specs.WellFormed.{IsWellFormedTable};
-ghost use Rattle.candidate_ir.specs.Words.{ClauseListFits, IsArgs, IsParamEnv, args_forest, clause_tree, env_forest};
-ghost use Rattle.candidate_eval.specs.Accounts.{by_stop};
-ghost use Rattle.candidate_eval.specs.Evaluators.{IsMakingStop, Keeps};
-ghost use Rattle.candidate_eval.specs.Judging.{At, Over, Refused, Stopped, start, step};
-ghost use Rattle.candidate_eval.specs.Knowing.{own_stop};
-ghost use Rattle.candidate_eval.specs.Replacing.{without_first};
-ghost use Rattle.candidate_eval.specs.Rules.{unknowable};
-ghost use Rattle.candidate_assembly.specs.Kinds.{IsGoal};
-ghost use Rattle.candidate_assembly.specs.Telling.{ConsidersSome, HaveNoParameter, StopsOfItself, ToldSome};
-ghost use Rattle.candidate_assembly.specs.Unknowable.{UnknowableJudged, positive_clause};
+ghost use Rattle.candidate_ir.specs.Hierarchy.Elaboration.{IsElaboration};
+ghost use Rattle.candidate_ir.specs.Declarations.References.{ArgumentsFit, reference_of};
+ghost use Rattle.candidate_ir.specs.Syntax.Trees.{holds, is_param};
+ghost use Rattle.candidate_ir.specs.Validity.WellFormed.{IsWellFormedTable};
+ghost use Rattle.candidate_ir.specs.Syntax.Words.{ClauseListFits, IsArgs, IsParamEnv, args_forest, clause_tree, env_forest};
+ghost use Rattle.candidate_eval.specs.Interface.Accounts.{by_stop};
+ghost use Rattle.candidate_eval.specs.Interface.Evaluators.{IsMakingStop, Keeps};
+ghost use Rattle.candidate_eval.specs.Derivations.Judging.{At, Over, Refused, Stopped, start, step};
+ghost use Rattle.candidate_eval.specs.Interface.Knowing.{own_stop};
+ghost use Rattle.candidate_eval.specs.Dynamic.Replacing.{without_first};
+ghost use Rattle.candidate_eval.specs.Derivations.Rules.{unknowable};
+ghost use Rattle.candidate_assembly.specs.Goals.Kinds.{IsGoal};
+ghost use Rattle.candidate_assembly.specs.Answers.Telling.{ConsidersSome, HaveNoParameter, StopsOfItself, ToldSome};
+ghost use Rattle.candidate_assembly.specs.Rules.Unknowable.{UnknowableJudged, positive_clause};
 
 use crate::assembly::kind::GoalKind;
 use crate::assembly::listing::table_is_well_formed;

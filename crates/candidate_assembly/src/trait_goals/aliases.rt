@@ -1,18 +1,18 @@
 //! The rule of trait aliases: an alias holds where the where clauses of its trait do.
 
 ghost use Rattle.std.specs.Prelude.{◌≡◌, [], map, IfOk, IfErr};
-ghost use Rattle.candidate_ir.specs.Context.{Grows};
-ghost use Rattle.candidate_ir.specs.Declaring.{trait_at};
-ghost use Rattle.candidate_ir.specs.Folding.{substituted_tree};
-ghost use Rattle.candidate_ir.specs.Lookups.{maybe};
-ghost use Rattle.candidate_ir.specs.References.{ArgumentsFit};
-ghost use Rattle.candidate_ir.specs.Words.{ClauseListFits, IsArgs, args_forest, clause_tree};
-ghost use Rattle.candidate_eval.specs.Evaluators.{IsMakingStop};
-ghost use Rattle.candidate_assembly.specs.BuiltinRules.{trait_alias_rule};
-ghost use Rattle.candidate_assembly.specs.Kinds.{IsGoal};
-ghost use Rattle.candidate_assembly.specs.Telling.{Considers};
-ghost use Rattle.candidate_assembly.specs.TraitGoals.{arguments_held, trait_goal, types_held};
-ghost use Rattle.candidate_assembly.specs.TraitRules.{trait_rules};
+ghost use Rattle.candidate_ir.specs.Declarations.Context.{Grows};
+ghost use Rattle.candidate_ir.specs.Declarations.Declaring.{trait_at};
+ghost use Rattle.candidate_ir.specs.Instantiation.Folding.{substituted_tree};
+ghost use Rattle.candidate_ir.specs.Declarations.Lookups.{maybe};
+ghost use Rattle.candidate_ir.specs.Declarations.References.{ArgumentsFit};
+ghost use Rattle.candidate_ir.specs.Syntax.Words.{ClauseListFits, IsArgs, args_forest, clause_tree};
+ghost use Rattle.candidate_eval.specs.Interface.Evaluators.{IsMakingStop};
+ghost use Rattle.candidate_assembly.specs.Rules.BuiltinRules.{trait_alias_rule};
+ghost use Rattle.candidate_assembly.specs.Goals.Kinds.{IsGoal};
+ghost use Rattle.candidate_assembly.specs.Answers.Telling.{Considers};
+ghost use Rattle.candidate_assembly.specs.Goals.TraitGoals.{arguments_held, trait_goal, types_held};
+ghost use Rattle.candidate_assembly.specs.Goals.TraitRules.{trait_rules};
 
 use crate::assembly::steps::consider_flat;
 use crate::trait_goals::builtin::is_positive;

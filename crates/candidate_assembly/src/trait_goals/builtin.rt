@@ -1,11 +1,11 @@
 //! Side conditions of the rules that the language has for some traits.
 
 ghost use Rattle.std.specs.Prelude.{◌≡◌};
-ghost use Rattle.candidate_ir.specs.References.{ArgumentsFit};
-ghost use Rattle.candidate_ir.specs.Words.{IsArgs, args_forest};
-ghost use Rattle.candidate_eval.specs.ObjectRequirements.{first_tree};
-ghost use Rattle.candidate_assembly.specs.BuiltinRules.{fn_ptr_holds, is_fn_ptr, is_known_rigid, is_tuple};
-ghost use Rattle.candidate_assembly.specs.TraitGoals.{is_positive};
+ghost use Rattle.candidate_ir.specs.Declarations.References.{ArgumentsFit};
+ghost use Rattle.candidate_ir.specs.Syntax.Words.{IsArgs, args_forest};
+ghost use Rattle.candidate_eval.specs.Dynamic.ObjectRequirements.{first_tree};
+ghost use Rattle.candidate_assembly.specs.Rules.BuiltinRules.{fn_ptr_holds, is_fn_ptr, is_known_rigid, is_tuple};
+ghost use Rattle.candidate_assembly.specs.Goals.TraitGoals.{is_positive};
 
 use candidate_eval::eval::clauses::self_ty;
 use candidate_ir::decl::Cx;

@@ -1,26 +1,26 @@
 //! The rule for what can be called: a goal of `Fn`, `FnMut` or `FnOnce`.
 
 ghost use Rattle.std.specs.Prelude.{◌≡◌, [], None, Some, false, true, IfErr, IfOk, OnOk};
-ghost use Rattle.candidate_ir.specs.Context.{world};
-ghost use Rattle.candidate_ir.specs.Opening.{opened_tree};
-ghost use Rattle.candidate_ir.specs.References.{ArgumentsFit};
-ghost use Rattle.candidate_ir.specs.Trees.{is_param, tree_holds};
-ghost use Rattle.candidate_ir.specs.Words.{IsArgs, IsParamEnv, IsTy, args_forest, env_forest, ty_tree};
-ghost use Rattle.candidate_ir.specs.Worlds.{TraitSort, parameters};
-ghost use Rattle.candidate_eval.specs.Accounts.{StopsSomehow, by_stop};
-ghost use Rattle.candidate_eval.specs.Callable.{CalledWith, IsCallable, callable_of, is_unknown};
-ghost use Rattle.candidate_eval.specs.Characterization.{binder_kinds};
-ghost use Rattle.candidate_eval.specs.Evaluators.{Keeps};
-ghost use Rattle.candidate_eval.specs.Judging.{asked, judged};
-ghost use Rattle.candidate_eval.specs.ObjectRequirements.{first_tree};
-ghost use Rattle.candidate_eval.specs.States.{added, fresh_variables, with_fresh_variables};
+ghost use Rattle.candidate_ir.specs.Declarations.Context.{world};
+ghost use Rattle.candidate_ir.specs.Instantiation.Opening.{opened_tree};
+ghost use Rattle.candidate_ir.specs.Declarations.References.{ArgumentsFit};
+ghost use Rattle.candidate_ir.specs.Syntax.Trees.{is_param, tree_holds};
+ghost use Rattle.candidate_ir.specs.Syntax.Words.{IsArgs, IsParamEnv, IsTy, args_forest, env_forest, ty_tree};
+ghost use Rattle.candidate_ir.specs.Declarations.Worlds.{TraitSort, parameters};
+ghost use Rattle.candidate_eval.specs.Interface.Accounts.{StopsSomehow, by_stop};
+ghost use Rattle.candidate_eval.specs.Builtins.Callable.{CalledWith, IsCallable, callable_of, is_unknown};
+ghost use Rattle.candidate_eval.specs.Derivations.Characterization.{binder_kinds};
+ghost use Rattle.candidate_eval.specs.Interface.Evaluators.{Keeps};
+ghost use Rattle.candidate_eval.specs.Derivations.Judging.{asked, judged};
+ghost use Rattle.candidate_eval.specs.Dynamic.ObjectRequirements.{first_tree};
+ghost use Rattle.candidate_eval.specs.Judges.States.{added, fresh_variables, with_fresh_variables};
 ghost use Rattle.candidate_eval.specs.declared.eval.certainty.Certainty.TheVariants.{Yes};
-ghost use Rattle.candidate_assembly.specs.BuiltinRules.{call_rule, fn_rule, meets, misc, self_of};
-ghost use Rattle.candidate_assembly.specs.Calling.{matched_quickly, nested_goal, pair_of};
-ghost use Rattle.candidate_assembly.specs.Kinds.{IsGoal};
-ghost use Rattle.candidate_assembly.specs.Telling.{Considers, StopsOfItself, Told};
-ghost use Rattle.candidate_assembly.specs.TraitGoals.{arguments_held, is_positive, trait_goal, types_held};
-ghost use Rattle.candidate_assembly.specs.TraitRules.{trait_rules};
+ghost use Rattle.candidate_assembly.specs.Rules.BuiltinRules.{call_rule, fn_rule, meets, misc, self_of};
+ghost use Rattle.candidate_assembly.specs.Calls.Calling.{matched_quickly, nested_goal, pair_of};
+ghost use Rattle.candidate_assembly.specs.Goals.Kinds.{IsGoal};
+ghost use Rattle.candidate_assembly.specs.Answers.Telling.{Considers, StopsOfItself, Told};
+ghost use Rattle.candidate_assembly.specs.Goals.TraitGoals.{arguments_held, is_positive, trait_goal, types_held};
+ghost use Rattle.candidate_assembly.specs.Goals.TraitRules.{trait_rules};
 
 use crate::assembly::steps::{consider_plain, nest_and_respond};
 use crate::trait_goals::builtin::is_positive;

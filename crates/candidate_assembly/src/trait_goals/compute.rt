@@ -1,13 +1,13 @@
 //! What a goal of a trait comes to.
 
-ghost use Rattle.candidate_assembly.specs.CoherentRefusals.{RefusesCoherently};
-ghost use Rattle.candidate_assembly.specs.Kinds.{IsGoal};
-ghost use Rattle.candidate_assembly.specs.KnownImpls.{RefusesImpls};
-ghost use Rattle.candidate_assembly.specs.Standing.{GoalStands};
-ghost use Rattle.candidate_assembly.specs.SureAnswers.{YesIsProved};
-ghost use Rattle.candidate_assembly.specs.TraitAnswers.{Computes};
-ghost use Rattle.candidate_assembly.specs.TraitGoals.{arguments_held, trait_goal, types_held};
-ghost use Rattle.candidate_assembly.specs.TraitRules.{trait_rules};
+ghost use Rattle.candidate_assembly.specs.Answers.CoherentRefusals.{RefusesCoherently};
+ghost use Rattle.candidate_assembly.specs.Goals.Kinds.{IsGoal};
+ghost use Rattle.candidate_assembly.specs.Answers.KnownImpls.{RefusesImpls};
+ghost use Rattle.candidate_assembly.specs.Goals.Standing.{GoalStands};
+ghost use Rattle.candidate_assembly.specs.Answers.SureAnswers.{YesIsProved};
+ghost use Rattle.candidate_assembly.specs.Answers.TraitAnswers.{Computes};
+ghost use Rattle.candidate_assembly.specs.Goals.TraitGoals.{arguments_held, trait_goal, types_held};
+ghost use Rattle.candidate_assembly.specs.Goals.TraitRules.{trait_rules};
 
 use crate::assembly::candidates::assemble_and_evaluate_candidates;
 use crate::assembly::listing::table_is_well_formed;

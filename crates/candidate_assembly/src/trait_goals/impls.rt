@@ -1,28 +1,28 @@
 //! The rule of an impl: a goal of a trait holds by an impl of it.
 
 ghost use Rattle.std.specs.Prelude.{◌≡◌, ◌∷◌, false, true, None, Some, Option, map, IfErr, IfOk, IfSome, MatchOption, OnOk};
-ghost use Rattle.candidate_ir.specs.Declaring.{impl_at};
-ghost use Rattle.candidate_ir.specs.Folding.{lacks_argument};
-ghost use Rattle.candidate_ir.specs.Owned.{ClausesAreOwned};
-ghost use Rattle.candidate_ir.specs.Trees.{holds, is_param};
-ghost use Rattle.candidate_ir.specs.WellFormed.{ImplIsGiven};
-ghost use Rattle.candidate_ir.specs.Words.{IsArgs, IsParamEnv, args_forest, clause_tree, env_forest};
-ghost use Rattle.candidate_ir.specs.Worlds.{kinds_of};
-ghost use Rattle.candidate_eval.specs.Accounts.{StopsSomehow, by_stop};
-ghost use Rattle.candidate_eval.specs.Evaluators.{IsMakingStop, Keeps};
-ghost use Rattle.candidate_eval.specs.ImplRules as rules;
-ghost use Rattle.candidate_eval.specs.Judging.{At, Over, Refused, run, start, step};
-ghost use Rattle.candidate_eval.specs.Responses.{Response};
-ghost use Rattle.candidate_eval.specs.Rules.{add, equate};
-ghost use Rattle.candidate_eval.specs.States.{State, fresh_variables, with_fresh_variables};
+ghost use Rattle.candidate_ir.specs.Declarations.Declaring.{impl_at};
+ghost use Rattle.candidate_ir.specs.Instantiation.Folding.{lacks_argument};
+ghost use Rattle.candidate_ir.specs.Instantiation.Owned.{ClausesAreOwned};
+ghost use Rattle.candidate_ir.specs.Syntax.Trees.{holds, is_param};
+ghost use Rattle.candidate_ir.specs.Validity.WellFormed.{ImplIsGiven};
+ghost use Rattle.candidate_ir.specs.Syntax.Words.{IsArgs, IsParamEnv, args_forest, clause_tree, env_forest};
+ghost use Rattle.candidate_ir.specs.Declarations.Worlds.{kinds_of};
+ghost use Rattle.candidate_eval.specs.Interface.Accounts.{StopsSomehow, by_stop};
+ghost use Rattle.candidate_eval.specs.Interface.Evaluators.{IsMakingStop, Keeps};
+ghost use Rattle.candidate_eval.specs.Derivations.ImplRules as rules;
+ghost use Rattle.candidate_eval.specs.Derivations.Judging.{At, Over, Refused, run, start, step};
+ghost use Rattle.candidate_eval.specs.Outcomes.Responses.{Response};
+ghost use Rattle.candidate_eval.specs.Derivations.Rules.{add, equate};
+ghost use Rattle.candidate_eval.specs.Judges.States.{State, fresh_variables, with_fresh_variables};
 ghost use Rattle.candidate_eval.specs.declared.eval.source.CandidateSource.{CandidateSource};
 ghost use Rattle.candidate_eval.specs.declared.eval.source.CandidateSource.TheVariants as source;
-ghost use Rattle.candidate_assembly.specs.Closures.{IsCallableWith, TellsWith};
-ghost use Rattle.candidate_assembly.specs.Impls.{IsDeclared, IsNamed, declared_steps, impl_kinds, steps_at};
-ghost use Rattle.candidate_assembly.specs.Kinds.{IsGoal, part_judged, steps_judged};
-ghost use Rattle.candidate_assembly.specs.Telling.{StopsOfItself, Told, ToldAs, standing};
-ghost use Rattle.candidate_assembly.specs.TraitGoals.{arguments_held, impl_part_at, trait_goal, types_held};
-ghost use Rattle.candidate_assembly.specs.TraitRules.{trait_rules};
+ghost use Rattle.candidate_assembly.specs.Answers.Closures.{IsCallableWith, TellsWith};
+ghost use Rattle.candidate_assembly.specs.Rules.Impls.{IsDeclared, IsNamed, declared_steps, impl_kinds, steps_at};
+ghost use Rattle.candidate_assembly.specs.Goals.Kinds.{IsGoal, part_judged, steps_judged};
+ghost use Rattle.candidate_assembly.specs.Answers.Telling.{StopsOfItself, Told, ToldAs, standing};
+ghost use Rattle.candidate_assembly.specs.Goals.TraitGoals.{arguments_held, impl_part_at, trait_goal, types_held};
+ghost use Rattle.candidate_assembly.specs.Goals.TraitRules.{trait_rules};
 
 use candidate_eval::eval::certainty::Certainty;
 use candidate_eval::eval::clauses::put_in;

@@ -1,11 +1,11 @@
 //! Goals of traits as a kind of goals.
 
 ghost use Rattle.std.specs.Prelude.{◌≡◌, refl};
-ghost use Rattle.candidate_eval.specs.ImplRules.{TraitGoal};
-ghost use Rattle.candidate_assembly.specs.TraitGoals.{arguments_held, trait_goal, types_held};
-ghost use Rattle.candidate_assembly.specs.TraitRules.{trait_bounds, trait_rules};
-ghost use Rattle.candidate_assembly.specs.TraitLaws.{trait_laws};
-ghost use Rattle.candidate_assembly.specs.Staying.{trait_goal_stays};
+ghost use Rattle.candidate_eval.specs.Derivations.ImplRules.{TraitGoal};
+ghost use Rattle.candidate_assembly.specs.Goals.TraitGoals.{arguments_held, trait_goal, types_held};
+ghost use Rattle.candidate_assembly.specs.Goals.TraitRules.{trait_bounds, trait_rules};
+ghost use Rattle.candidate_assembly.specs.Laws.TraitLaws.{trait_laws};
+ghost use Rattle.candidate_assembly.specs.Laws.Staying.{trait_goal_stays};
 
 use crate::assembly::kind::{GoalKind, NoSolution};
 use crate::assembly::steps::consider_plain;

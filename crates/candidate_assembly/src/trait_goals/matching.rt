@@ -5,17 +5,17 @@ ghost use Rattle.candidate_ir.specs.declared.ir.heads.ClauseHead.TheVariants as 
 ghost use Rattle.candidate_ir.specs.declared.ir.heads.Head.TheVariants as H;
 ghost use Rattle.candidate_ir.specs.declared.ir.heads.PartHead.TheVariants as P;
 ghost use Rattle.candidate_ir.specs.declared.ir.kinds.ParamEnv.{ParamEnv as EnvNumber};
-ghost use Rattle.candidate_ir.specs.Words.{IsArgs, IsClause, clause_tree};
-ghost use Rattle.candidate_eval.specs.Accounts.{StopsSomehow, by_stop};
-ghost use Rattle.candidate_eval.specs.Characterization.{bound_kinds};
-ghost use Rattle.candidate_eval.specs.Evaluators.{Keeps};
-ghost use Rattle.candidate_eval.specs.Judging.{At, Over, Refused, run, start};
-ghost use Rattle.candidate_eval.specs.States.{fresh_variables};
-ghost use Rattle.candidate_assembly.specs.Closures.{After, IsCallable};
-ghost use Rattle.candidate_assembly.specs.Kinds.{IsAssumption, IsGoal, passes};
-ghost use Rattle.candidate_assembly.specs.Telling.{standing};
-ghost use Rattle.candidate_assembly.specs.TraitGoals.{arguments_held, fits, is_item, match_trait, trait_goal, types_held};
-ghost use Rattle.candidate_assembly.specs.TraitRules.{trait_rules};
+ghost use Rattle.candidate_ir.specs.Syntax.Words.{IsArgs, IsClause, clause_tree};
+ghost use Rattle.candidate_eval.specs.Interface.Accounts.{StopsSomehow, by_stop};
+ghost use Rattle.candidate_eval.specs.Derivations.Characterization.{bound_kinds};
+ghost use Rattle.candidate_eval.specs.Interface.Evaluators.{Keeps};
+ghost use Rattle.candidate_eval.specs.Derivations.Judging.{At, Over, Refused, run, start};
+ghost use Rattle.candidate_eval.specs.Judges.States.{fresh_variables};
+ghost use Rattle.candidate_assembly.specs.Answers.Closures.{After, IsCallable};
+ghost use Rattle.candidate_assembly.specs.Goals.Kinds.{IsAssumption, IsGoal, passes};
+ghost use Rattle.candidate_assembly.specs.Answers.Telling.{standing};
+ghost use Rattle.candidate_assembly.specs.Goals.TraitGoals.{arguments_held, fits, is_item, match_trait, trait_goal, types_held};
+ghost use Rattle.candidate_assembly.specs.Goals.TraitRules.{trait_rules};
 
 use crate::assembly::kind::NoSolution;
 use candidate_eval::eval::binders::instantiate_clause_with_infer;

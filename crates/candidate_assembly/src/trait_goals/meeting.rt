@@ -1,13 +1,13 @@
 //! Clauses that a trait without parameters holds of a type.
 
 ghost use Rattle.std.specs.Prelude.{◌≡◌, [], Some, false, IfErr, IfOk, IfSome};
-ghost use Rattle.candidate_ir.specs.Context.{Grows, world};
-ghost use Rattle.candidate_ir.specs.Declaring.{takes_a_type};
-ghost use Rattle.candidate_ir.specs.Words.{IsClause, IsTy, clause_tree, ty_tree};
-ghost use Rattle.candidate_ir.specs.Worlds.{TraitSort, parameters};
-ghost use Rattle.candidate_eval.specs.Evaluators.{IsMakingStop};
-ghost use Rattle.candidate_assembly.specs.BuiltinRules.{meets};
-ghost use Rattle.candidate_assembly.specs.TraitGoals.{item_trait};
+ghost use Rattle.candidate_ir.specs.Declarations.Context.{Grows, world};
+ghost use Rattle.candidate_ir.specs.Declarations.Declaring.{takes_a_type};
+ghost use Rattle.candidate_ir.specs.Syntax.Words.{IsClause, IsTy, clause_tree, ty_tree};
+ghost use Rattle.candidate_ir.specs.Declarations.Worlds.{TraitSort, parameters};
+ghost use Rattle.candidate_eval.specs.Interface.Evaluators.{IsMakingStop};
+ghost use Rattle.candidate_assembly.specs.Rules.BuiltinRules.{meets};
+ghost use Rattle.candidate_assembly.specs.Goals.TraitGoals.{item_trait};
 
 use candidate_ir::decl::Cx;
 use candidate_ir::decl::contents::LangItem;

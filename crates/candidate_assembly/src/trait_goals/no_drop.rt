@@ -1,12 +1,12 @@
 //! The rule of the trait that says that nothing is run where a value is dropped.
 
 ghost use Rattle.std.specs.Prelude.{◌≡◌, false};
-ghost use Rattle.candidate_eval.specs.Callable.{is_unknown};
-ghost use Rattle.candidate_assembly.specs.BuiltinRules.{copy_rule, no_drop_needs, no_drop_rule, self_of};
-ghost use Rattle.candidate_assembly.specs.Kinds.{IsGoal};
-ghost use Rattle.candidate_assembly.specs.Telling.{Considers};
-ghost use Rattle.candidate_assembly.specs.TraitGoals.{arguments_held, item_trait, trait_goal, types_held};
-ghost use Rattle.candidate_assembly.specs.TraitRules.{trait_rules};
+ghost use Rattle.candidate_eval.specs.Builtins.Callable.{is_unknown};
+ghost use Rattle.candidate_assembly.specs.Rules.BuiltinRules.{copy_rule, no_drop_needs, no_drop_rule, self_of};
+ghost use Rattle.candidate_assembly.specs.Goals.Kinds.{IsGoal};
+ghost use Rattle.candidate_assembly.specs.Answers.Telling.{Considers};
+ghost use Rattle.candidate_assembly.specs.Goals.TraitGoals.{arguments_held, item_trait, trait_goal, types_held};
+ghost use Rattle.candidate_assembly.specs.Goals.TraitRules.{trait_rules};
 ghost use Rattle.candidate_ir.specs.declared.decl.contents.LangItem.TheVariants as L;
 
 use crate::assembly::steps::{consider_flat, consider_plain};

@@ -1,22 +1,22 @@
 //! Rules over the structural tables: the parts of a type meet the goal's trait.
 
 ghost use Rattle.std.specs.Prelude.{◌≡◌, [], ◌∷◌, ◌++◌, All, false, true, map, IfOk, IfErr, IfSome, OnOk};
-ghost use Rattle.candidate_ir.specs.Context.{Grows};
-ghost use Rattle.candidate_ir.specs.References.{ArgumentsFit};
-ghost use Rattle.candidate_ir.specs.Trees.{is_param, tree_holds};
-ghost use Rattle.candidate_ir.specs.WellFormed.{TypesFit};
-ghost use Rattle.candidate_ir.specs.Words.{ClauseListFits, IsArgs, IsClause, IsTy, args_forest, clause_tree, ty_tree};
-ghost use Rattle.candidate_eval.specs.Accounts.{StopsSomehow, by_stop};
-ghost use Rattle.candidate_eval.specs.Asked.{IsUnder, variables};
-ghost use Rattle.candidate_eval.specs.Characterization.{binder_kinds};
-ghost use Rattle.candidate_eval.specs.Evaluators.{IsMakingStop, Keeps, kinds_listed, with_rigid};
-ghost use Rattle.candidate_eval.specs.Judging.{judged};
-ghost use Rattle.candidate_eval.specs.Tables.{cell, is_excluded, row_of};
-ghost use Rattle.candidate_assembly.specs.BuiltinRules.{entered_rule, entered_values, opened_by, parts_rule, said_of_type, self_of, values_at};
-ghost use Rattle.candidate_assembly.specs.Kinds.{IsGoal};
-ghost use Rattle.candidate_assembly.specs.Telling.{Considers, StopsOfItself, Told};
-ghost use Rattle.candidate_assembly.specs.TraitGoals.{arguments_held, trait_goal, types_held, with_first};
-ghost use Rattle.candidate_assembly.specs.TraitRules.{trait_rules};
+ghost use Rattle.candidate_ir.specs.Declarations.Context.{Grows};
+ghost use Rattle.candidate_ir.specs.Declarations.References.{ArgumentsFit};
+ghost use Rattle.candidate_ir.specs.Syntax.Trees.{is_param, tree_holds};
+ghost use Rattle.candidate_ir.specs.Validity.WellFormed.{TypesFit};
+ghost use Rattle.candidate_ir.specs.Syntax.Words.{ClauseListFits, IsArgs, IsClause, IsTy, args_forest, clause_tree, ty_tree};
+ghost use Rattle.candidate_eval.specs.Interface.Accounts.{StopsSomehow, by_stop};
+ghost use Rattle.candidate_eval.specs.Builtins.Asked.{IsUnder, variables};
+ghost use Rattle.candidate_eval.specs.Derivations.Characterization.{binder_kinds};
+ghost use Rattle.candidate_eval.specs.Interface.Evaluators.{IsMakingStop, Keeps, kinds_listed, with_rigid};
+ghost use Rattle.candidate_eval.specs.Derivations.Judging.{judged};
+ghost use Rattle.candidate_eval.specs.Builtins.Tables.{cell, is_excluded, row_of};
+ghost use Rattle.candidate_assembly.specs.Rules.BuiltinRules.{entered_rule, entered_values, opened_by, parts_rule, said_of_type, self_of, values_at};
+ghost use Rattle.candidate_assembly.specs.Goals.Kinds.{IsGoal};
+ghost use Rattle.candidate_assembly.specs.Answers.Telling.{Considers, StopsOfItself, Told};
+ghost use Rattle.candidate_assembly.specs.Goals.TraitGoals.{arguments_held, trait_goal, types_held, with_first};
+ghost use Rattle.candidate_assembly.specs.Goals.TraitRules.{trait_rules};
 
 use crate::assembly::steps::nest_and_respond;
 use candidate_eval::eval::certainty::Certainty;

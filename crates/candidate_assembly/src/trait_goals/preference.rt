@@ -3,16 +3,16 @@
 ghost use Rattle.std.specs.Prelude.{◌≡◌, ◌&&◌, ◌||◌, List, None, option_map};
 ghost use Rattle.std.specs.List.{list_any};
 ghost use Rattle.candidate_ir.specs.declared.decl.contents.LangItem.TheVariants as L;
-ghost use Rattle.candidate_ir.specs.Trees.{Tree};
-ghost use Rattle.candidate_eval.specs.Evaluators.{Keeps};
-ghost use Rattle.candidate_eval.specs.ResponseTrees.{AreCandidates, candidates_of};
-ghost use Rattle.candidate_assembly.specs.Assembled.{HasOneTrivial};
-ghost use Rattle.candidate_assembly.specs.BuiltinRules.{flag_of_trait};
-ghost use Rattle.candidate_assembly.specs.Listing.{Lists};
-ghost use Rattle.candidate_assembly.specs.Preference.{EnvironmentWins, Proves, TrivialWins, answer_by, assumed, class_of, is_marker, least_global, mode_of, object_wins, prefer_objects, preferred};
-ghost use Rattle.candidate_assembly.specs.Sources.{is_self_bound};
-ghost use Rattle.candidate_assembly.specs.Specialization.{unspecialized};
-ghost use Rattle.candidate_assembly.specs.TraitGoals.{is_item};
+ghost use Rattle.candidate_ir.specs.Syntax.Trees.{Tree};
+ghost use Rattle.candidate_eval.specs.Interface.Evaluators.{Keeps};
+ghost use Rattle.candidate_eval.specs.Outcomes.ResponseTrees.{AreCandidates, candidates_of};
+ghost use Rattle.candidate_assembly.specs.Answers.Assembled.{HasOneTrivial};
+ghost use Rattle.candidate_assembly.specs.Rules.BuiltinRules.{flag_of_trait};
+ghost use Rattle.candidate_assembly.specs.Answers.Listing.{Lists};
+ghost use Rattle.candidate_assembly.specs.Answers.Preference.{EnvironmentWins, Proves, TrivialWins, answer_by, assumed, class_of, is_marker, least_global, mode_of, object_wins, prefer_objects, preferred};
+ghost use Rattle.candidate_assembly.specs.Answers.Sources.{is_self_bound};
+ghost use Rattle.candidate_assembly.specs.Answers.Specialization.{unspecialized};
+ghost use Rattle.candidate_assembly.specs.Goals.TraitGoals.{is_item};
 
 use crate::assembly::candidates::{FailedCandidateInfo, is_coherence};
 use crate::assembly::specialization::{AllowInferenceConstraints, filter_specialized_impls};

@@ -2,7 +2,7 @@
 
 ghost use Rattle.std.specs.Prelude.{◌≡◌, not};
 ghost use Rattle.std.specs.List.{filter, list_all, list_any};
-ghost use Rattle.candidate_assembly.specs.Sources.{is_of};
+ghost use Rattle.candidate_assembly.specs.Answers.Sources.{is_of};
 
 use candidate_eval::eval::response::Candidate;
 use candidate_eval::eval::source::{BuiltinImplSource, CandidateSource, ParamEnvSource};

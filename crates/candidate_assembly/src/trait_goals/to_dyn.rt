@@ -1,27 +1,27 @@
 //! Any type to `dyn`: it meets the bounds, is sized and outlives the region.
 
 ghost use Rattle.std.specs.Prelude.{◌≡◌, [], Some, false, map, IfErr, IfOk};
-ghost use Rattle.candidate_ir.specs.Context.{Grows, world};
-ghost use Rattle.candidate_ir.specs.Trees.{is_param, tree_holds};
-ghost use Rattle.candidate_ir.specs.Words.{IsClause, IsPreds, IsRegion, IsTy, clause_tree, env_forest, preds_forest, region_tree, ty_tree};
-ghost use Rattle.candidate_ir.specs.Worlds.{TraitSort, parameters};
+ghost use Rattle.candidate_ir.specs.Declarations.Context.{Grows, world};
+ghost use Rattle.candidate_ir.specs.Syntax.Trees.{is_param, tree_holds};
+ghost use Rattle.candidate_ir.specs.Syntax.Words.{IsClause, IsPreds, IsRegion, IsTy, clause_tree, env_forest, preds_forest, region_tree, ty_tree};
+ghost use Rattle.candidate_ir.specs.Declarations.Worlds.{TraitSort, parameters};
 ghost use Rattle.candidate_ir.specs.declared.decl.contents.LangItem.TheVariants as item;
 ghost use Rattle.candidate_ir.specs.declared.ir.heads.ClauseHead.TheVariants as Cl;
 ghost use Rattle.candidate_ir.specs.declared.ir.heads.Head.TheVariants as H;
-ghost use Rattle.candidate_eval.specs.Evaluators.{IsMakingStop};
-ghost use Rattle.candidate_eval.specs.Required.{each_of};
-ghost use Rattle.candidate_eval.specs.ResponseTrees.{AreCandidates};
-ghost use Rattle.candidate_eval.specs.Rules.{nested};
-ghost use Rattle.candidate_assembly.specs.BuiltinRules.{self_of};
-ghost use Rattle.candidate_assembly.specs.DynBounds.{bound_said};
-ghost use Rattle.candidate_assembly.specs.Kinds.{IsGoal};
-ghost use Rattle.candidate_assembly.specs.Listing.{ConsidersAll, after_these, answers};
-ghost use Rattle.candidate_assembly.specs.Requirements.{RequirementsFit, requirement_steps, requiring_rule};
-ghost use Rattle.candidate_assembly.specs.Standing.{BothStand};
-ghost use Rattle.candidate_assembly.specs.Telling.{Considers};
-ghost use Rattle.candidate_assembly.specs.TraitGoals.{arguments_held, item_trait, trait_goal, types_held};
-ghost use Rattle.candidate_assembly.specs.TraitRules.{trait_rules};
-ghost use Rattle.candidate_assembly.specs.Unsizing.{any_to_dyn, dyn_steps, outlives};
+ghost use Rattle.candidate_eval.specs.Interface.Evaluators.{IsMakingStop};
+ghost use Rattle.candidate_eval.specs.Dynamic.Required.{each_of};
+ghost use Rattle.candidate_eval.specs.Outcomes.ResponseTrees.{AreCandidates};
+ghost use Rattle.candidate_eval.specs.Derivations.Rules.{nested};
+ghost use Rattle.candidate_assembly.specs.Rules.BuiltinRules.{self_of};
+ghost use Rattle.candidate_assembly.specs.Rules.DynBounds.{bound_said};
+ghost use Rattle.candidate_assembly.specs.Goals.Kinds.{IsGoal};
+ghost use Rattle.candidate_assembly.specs.Answers.Listing.{ConsidersAll, after_these, answers};
+ghost use Rattle.candidate_assembly.specs.Rules.Requirements.{RequirementsFit, requirement_steps, requiring_rule};
+ghost use Rattle.candidate_assembly.specs.Goals.Standing.{BothStand};
+ghost use Rattle.candidate_assembly.specs.Answers.Telling.{Considers};
+ghost use Rattle.candidate_assembly.specs.Goals.TraitGoals.{arguments_held, item_trait, trait_goal, types_held};
+ghost use Rattle.candidate_assembly.specs.Goals.TraitRules.{trait_rules};
+ghost use Rattle.candidate_assembly.specs.Rules.Unsizing.{any_to_dyn, dyn_steps, outlives};
 
 use crate::assembly::dyn_bounds::{bound_clause, dyn_parts, is_dyn_compatible};
 use crate::assembly::listing::push_considered;

@@ -1,13 +1,13 @@
 //! The answer where too little is known.
 
 ghost use Rattle.std.specs.Prelude.{◌≡◌, ◌≢◌, [], Some, IfOk, IfErr};
-ghost use Rattle.candidate_eval.specs.Accounts.{IsAccounted, by_stop};
-ghost use Rattle.candidate_eval.specs.Certainties.{AMBIGUOUS};
-ghost use Rattle.candidate_eval.specs.Evaluators.{Keeps};
-ghost use Rattle.candidate_eval.specs.Instances.{IsResponseOf};
-ghost use Rattle.candidate_eval.specs.ResponseTrees.{IsResponse, response_of};
-ghost use Rattle.candidate_eval.specs.Soundness.{Live};
-ghost use Rattle.candidate_eval.specs.States.{with_pending};
+ghost use Rattle.candidate_eval.specs.Interface.Accounts.{IsAccounted, by_stop};
+ghost use Rattle.candidate_eval.specs.Outcomes.Certainties.{AMBIGUOUS};
+ghost use Rattle.candidate_eval.specs.Interface.Evaluators.{Keeps};
+ghost use Rattle.candidate_eval.specs.Judges.Instances.{IsResponseOf};
+ghost use Rattle.candidate_eval.specs.Outcomes.ResponseTrees.{IsResponse, response_of};
+ghost use Rattle.candidate_eval.specs.Judges.Soundness.{Live};
+ghost use Rattle.candidate_eval.specs.Judges.States.{with_pending};
 
 use crate::eval::certainty::Certainty;
 use crate::eval::context::{EvalCtxt, ProbeKind};

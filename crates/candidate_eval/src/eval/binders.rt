@@ -1,17 +1,17 @@
 //! What stood under binders, with variables or placeholders in the place of theirs.
 
 ghost use Rattle.std.specs.Prelude.{◌≡◌, true, IfOk, IfErr, OnErr, OnOk};
-ghost use Rattle.candidate_ir.specs.Context.{Grows};
-ghost use Rattle.candidate_ir.specs.Nodes.{kind_at, tree_at};
-ghost use Rattle.candidate_ir.specs.Opening.{opened, opened_clause, opened_tree};
-ghost use Rattle.candidate_ir.specs.Substitutions.{alone};
-ghost use Rattle.candidate_ir.specs.Trees.{is_list_kind, none, row};
-ghost use Rattle.candidate_ir.specs.Words.{IsArgs, IsClause, IsParamEnv, IsTy, IsVars, args_forest, clause_tree, env_forest, ty_tree, vars_tree};
-ghost use Rattle.candidate_eval.specs.Accounts.{StopsBy};
-ghost use Rattle.candidate_eval.specs.Characterization.{binder_kinds, bound_kinds};
-ghost use Rattle.candidate_eval.specs.Evaluators.{IsMakingStop, Keeps, rigid, with_rigid};
-ghost use Rattle.candidate_eval.specs.Objects.{IsInstance, fresh_instance, with_instance};
-ghost use Rattle.candidate_eval.specs.States.{fresh_variables, resolved, with_fresh_variables};
+ghost use Rattle.candidate_ir.specs.Declarations.Context.{Grows};
+ghost use Rattle.candidate_ir.specs.Syntax.Nodes.{kind_at, tree_at};
+ghost use Rattle.candidate_ir.specs.Instantiation.Opening.{opened, opened_clause, opened_tree};
+ghost use Rattle.candidate_ir.specs.Unification.Substitutions.{alone};
+ghost use Rattle.candidate_ir.specs.Syntax.Trees.{is_list_kind, none, row};
+ghost use Rattle.candidate_ir.specs.Syntax.Words.{IsArgs, IsClause, IsParamEnv, IsTy, IsVars, args_forest, clause_tree, env_forest, ty_tree, vars_tree};
+ghost use Rattle.candidate_eval.specs.Interface.Accounts.{StopsBy};
+ghost use Rattle.candidate_eval.specs.Derivations.Characterization.{binder_kinds, bound_kinds};
+ghost use Rattle.candidate_eval.specs.Interface.Evaluators.{IsMakingStop, Keeps, rigid, with_rigid};
+ghost use Rattle.candidate_eval.specs.Dynamic.Objects.{IsInstance, fresh_instance, with_instance};
+ghost use Rattle.candidate_eval.specs.Judges.States.{fresh_variables, resolved, with_fresh_variables};
 
 use crate::eval::context::EvalCtxt;
 use candidate_ir::decl::make::Make;

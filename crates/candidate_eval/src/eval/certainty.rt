@@ -1,7 +1,7 @@
 //! How sure an answer is.
 
 ghost use Rattle.std.specs.Prelude.{◌≡◌};
-ghost use Rattle.candidate_eval.specs.Certainties.{cause_and, jank_and, info_and, certainty_and};
+ghost use Rattle.candidate_eval.specs.Outcomes.Certainties.{cause_and, jank_and, info_and, certainty_and};
 
 /// How sure an answer is: what was asked holds, or it may hold.
 #[derive(Clone, Copy, Debug, PartialEq, Eq)]

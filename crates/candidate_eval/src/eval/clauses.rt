@@ -1,15 +1,15 @@
 //! What is read of clauses, and clauses that are made.
 
 ghost use Rattle.std.specs.Prelude.{◌≡◌, ◌+◌, ◌≤◌, length, false, true, None, Some, MatchOption, IfOk, IfErr, IfSome};
-ghost use Rattle.candidate_ir.specs.Context.{world};
-ghost use Rattle.candidate_ir.specs.Folding.{IsSubstStop, lacks_argument, substituted, substituted_tree};
-ghost use Rattle.candidate_ir.specs.Nodes.{kind_at, tree_at};
-ghost use Rattle.candidate_ir.specs.References.{ArgumentsFit, Takes};
-ghost use Rattle.candidate_ir.specs.Substitutions.{row_of};
-ghost use Rattle.candidate_ir.specs.Trees.{Forest, height, heights, is_list_kind, is_param, tree_holds};
-ghost use Rattle.candidate_ir.specs.Words.{IsArgs, IsClause, IsTy, ClauseFits, args_forest, clause_kind_tree, clause_tree, ty_tree};
-ghost use Rattle.candidate_eval.specs.Evaluators.{IsMakingStop, Keeps};
-ghost use Rattle.candidate_eval.specs.ObjectRequirements.{arguments_of, first_tree, goals_in, trait_fact, trait_said};
+ghost use Rattle.candidate_ir.specs.Declarations.Context.{world};
+ghost use Rattle.candidate_ir.specs.Instantiation.Folding.{IsSubstStop, lacks_argument, substituted, substituted_tree};
+ghost use Rattle.candidate_ir.specs.Syntax.Nodes.{kind_at, tree_at};
+ghost use Rattle.candidate_ir.specs.Declarations.References.{ArgumentsFit, Takes};
+ghost use Rattle.candidate_ir.specs.Unification.Substitutions.{row_of};
+ghost use Rattle.candidate_ir.specs.Syntax.Trees.{Forest, height, heights, is_list_kind, is_param, tree_holds};
+ghost use Rattle.candidate_ir.specs.Syntax.Words.{IsArgs, IsClause, IsTy, ClauseFits, args_forest, clause_kind_tree, clause_tree, ty_tree};
+ghost use Rattle.candidate_eval.specs.Interface.Evaluators.{IsMakingStop, Keeps};
+ghost use Rattle.candidate_eval.specs.Dynamic.ObjectRequirements.{arguments_of, first_tree, goals_in, trait_fact, trait_said};
 
 use crate::eval::context::EvalCtxt;
 use crate::structural::making::first_type;

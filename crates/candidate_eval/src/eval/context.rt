@@ -2,20 +2,20 @@
 
 ghost use Rattle.std.specs.Prelude.{◌≡◌, ◌≢◌, List, [], ◌∷◌, ◌++◌, length, map, Some, None, All, IfOk, IfErr, OnOk, OnErr};
 ghost use Rattle.candidate_ir.specs.declared.ir.kinds.TyKind.TheVariants as K;
-ghost use Rattle.candidate_ir.specs.Context.{Context, Grows, world};
-ghost use Rattle.candidate_ir.specs.Folds.{IsArg, arg_tree};
-ghost use Rattle.candidate_ir.specs.Substitutions.{alone};
-ghost use Rattle.candidate_ir.specs.Trees.{Tree};
-ghost use Rattle.candidate_ir.specs.Words.{IsTy, IsConst, IsRegion, IsArgs, IsClause, IsParamEnv, KindFits, ty_tree, const_tree, region_tree, args_forest, clause_tree, env_forest};
-ghost use Rattle.candidate_eval.specs.Evaluators.{Keeps, IsGoal, IsHiddenOpaque, pending_of, pendings_of, with_goals_of, accepted, resolved_root, begun, kinds_listed, rigid, with_rigid, alias_trees, IsEvaluatorStop};
-ghost use Rattle.candidate_eval.specs.Accounts.{Question, by_stop};
-ghost use Rattle.candidate_eval.specs.Accounts as question;
+ghost use Rattle.candidate_ir.specs.Declarations.Context.{Context, Grows, world};
+ghost use Rattle.candidate_ir.specs.Instantiation.Folds.{IsArg, arg_tree};
+ghost use Rattle.candidate_ir.specs.Unification.Substitutions.{alone};
+ghost use Rattle.candidate_ir.specs.Syntax.Trees.{Tree};
+ghost use Rattle.candidate_ir.specs.Syntax.Words.{IsTy, IsConst, IsRegion, IsArgs, IsClause, IsParamEnv, KindFits, ty_tree, const_tree, region_tree, args_forest, clause_tree, env_forest};
+ghost use Rattle.candidate_eval.specs.Interface.Evaluators.{Keeps, IsGoal, IsHiddenOpaque, pending_of, pendings_of, with_goals_of, accepted, resolved_root, begun, kinds_listed, rigid, with_rigid, alias_trees, IsEvaluatorStop};
+ghost use Rattle.candidate_eval.specs.Interface.Accounts.{Question, by_stop};
+ghost use Rattle.candidate_eval.specs.Interface.Accounts as question;
 ghost use Rattle.candidate_ir.specs.declared.ir.stop.Stop.{Stop};
-ghost use Rattle.candidate_eval.specs.Lawful.{Lawful};
-ghost use Rattle.candidate_eval.specs.Limits.{declared_limits};
-ghost use Rattle.candidate_eval.specs.Knowing.{SeesStates};
-ghost use Rattle.candidate_eval.specs.ResponseTrees.{IsResponse, response_of};
-ghost use Rattle.candidate_eval.specs.States.{State, Judge, added, fresh_variables, with_fresh_variables, resolved, resolved_tree};
+ghost use Rattle.candidate_eval.specs.Judges.Lawful.{Lawful};
+ghost use Rattle.candidate_eval.specs.Judges.Limits.{declared_limits};
+ghost use Rattle.candidate_eval.specs.Interface.Knowing.{SeesStates};
+ghost use Rattle.candidate_eval.specs.Outcomes.ResponseTrees.{IsResponse, response_of};
+ghost use Rattle.candidate_eval.specs.Judges.States.{State, Judge, added, fresh_variables, with_fresh_variables, resolved, resolved_tree};
 
 use crate::eval::InferCtxtLike;
 use crate::eval::certainty::Certainty;

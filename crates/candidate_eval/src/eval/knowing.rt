@@ -1,13 +1,13 @@
 //! What an evaluator knows of the impls of a trait reference.
 
 ghost use Rattle.std.specs.Prelude.{◌≡◌};
-ghost use Rattle.candidate_ir.specs.References.{reference_of};
-ghost use Rattle.candidate_ir.specs.Words.{IsArgs, IsParamEnv, IsTy, env_forest};
-ghost use Rattle.candidate_eval.specs.Answers.{knowledge_of};
-ghost use Rattle.candidate_eval.specs.Evaluators.{Keeps};
-ghost use Rattle.candidate_eval.specs.Judging.{judge_knows};
-ghost use Rattle.candidate_eval.specs.Knowing.{NormalizesAsJudged, StopsKnowing, own_stop};
-ghost use Rattle.candidate_eval.specs.Normalizer.{IsTold};
+ghost use Rattle.candidate_ir.specs.Declarations.References.{reference_of};
+ghost use Rattle.candidate_ir.specs.Syntax.Words.{IsArgs, IsParamEnv, IsTy, env_forest};
+ghost use Rattle.candidate_eval.specs.Knowability.Answers.{knowledge_of};
+ghost use Rattle.candidate_eval.specs.Interface.Evaluators.{Keeps};
+ghost use Rattle.candidate_eval.specs.Derivations.Judging.{judge_knows};
+ghost use Rattle.candidate_eval.specs.Interface.Knowing.{NormalizesAsJudged, StopsKnowing, own_stop};
+ghost use Rattle.candidate_eval.specs.Knowability.Normalizer.{IsTold};
 
 use crate::coherence::{Conflict, NormalizeErr, OrphanStop, knowable};
 use crate::eval::context::EvalCtxt;

@@ -1,6 +1,6 @@
 //! Where the walks of an evaluator's rules end.
 
-ghost use Rattle.candidate_eval.specs.Limits.{AreLimitsOfTheCode};
+ghost use Rattle.candidate_eval.specs.Judges.Limits.{AreLimitsOfTheCode};
 
 /// How many aliases a chain may have.
 pub const ALIAS_CHAIN: u16 = 64;

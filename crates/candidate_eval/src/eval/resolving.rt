@@ -1,10 +1,10 @@
 //! Environments with all values put in.
 
 ghost use Rattle.std.specs.Prelude.{◌≡◌, IfOk, IfErr};
-ghost use Rattle.candidate_ir.specs.Words.{IsParamEnv, env_forest};
-ghost use Rattle.candidate_eval.specs.Accounts.{StopsSomehow};
-ghost use Rattle.candidate_eval.specs.Evaluators.{Keeps};
-ghost use Rattle.candidate_eval.specs.States.{resolved};
+ghost use Rattle.candidate_ir.specs.Syntax.Words.{IsParamEnv, env_forest};
+ghost use Rattle.candidate_eval.specs.Interface.Accounts.{StopsSomehow};
+ghost use Rattle.candidate_eval.specs.Interface.Evaluators.{Keeps};
+ghost use Rattle.candidate_eval.specs.Judges.States.{resolved};
 
 use crate::eval::context::EvalCtxt;
 use candidate_ir::decl::make::Make;

@@ -2,14 +2,14 @@
 
 ghost use Rattle.std.specs.Prelude.{◌≡◌, [], ◌↔◌, IsTrue, IfOk, IfErr, IfSome, Some, None, map, length, ◌<◌};
 ghost use Rattle.std.specs.List.{All};
-ghost use Rattle.candidate_ir.specs.Folds.{IsArg, arg_tree};
-ghost use Rattle.candidate_ir.specs.Trees.{is_number};
-ghost use Rattle.candidate_ir.specs.Words.{clause_tree, ClauseListFits};
-ghost use Rattle.candidate_eval.specs.ResponseTrees.{IsResponse, AreCandidates, response_of, candidates_of, merge_of, IsCopy, IsMergeTo};
-ghost use Rattle.candidate_eval.specs.Responses.{has_only_region_constraints, has_no_inference_or_external_constraints};
+ghost use Rattle.candidate_ir.specs.Instantiation.Folds.{IsArg, arg_tree};
+ghost use Rattle.candidate_ir.specs.Syntax.Trees.{is_number};
+ghost use Rattle.candidate_ir.specs.Syntax.Words.{clause_tree, ClauseListFits};
+ghost use Rattle.candidate_eval.specs.Outcomes.ResponseTrees.{IsResponse, AreCandidates, response_of, candidates_of, merge_of, IsCopy, IsMergeTo};
+ghost use Rattle.candidate_eval.specs.Outcomes.Responses.{has_only_region_constraints, has_no_inference_or_external_constraints};
 ghost use Rattle.std.specs.Cmp.Lexicographic.{pointwise};
-ghost use Rattle.candidate_ir.specs.Elaboration.{same_forest, same_tree};
-ghost use Rattle.candidate_eval.specs.Merging.{same_response, is_always_applicable, first_applicable, all_answer, Merge, merged};
+ghost use Rattle.candidate_ir.specs.Hierarchy.Elaboration.{same_forest, same_tree};
+ghost use Rattle.candidate_eval.specs.Outcomes.Merging.{same_response, is_always_applicable, first_applicable, all_answer, Merge, merged};
 
 use crate::eval::certainty::Certainty;
 use crate::eval::source::CandidateSource;

@@ -1,9 +1,9 @@
 //! What the cells of the tables are read from, kind by kind.
 
 ghost use Rattle.std.specs.Prelude.{◌≡◌, false};
-ghost use Rattle.candidate_ir.specs.Context.{world};
-ghost use Rattle.candidate_ir.specs.Lookups as lookup;
-ghost use Rattle.candidate_eval.specs.Asked.{owned_asked, alias_asked, auto_asked, unsized_asked, sizedness_asked, copy_asked, dropped_asked, destruct_asked, asked_for};
+ghost use Rattle.candidate_ir.specs.Declarations.Context.{world};
+ghost use Rattle.candidate_ir.specs.Declarations.Lookups as lookup;
+ghost use Rattle.candidate_eval.specs.Builtins.Asked.{owned_asked, alias_asked, auto_asked, unsized_asked, sizedness_asked, copy_asked, dropped_asked, destruct_asked, asked_for};
 
 use crate::structural::Column;
 use candidate_ir::decl::{Cx, Sizedness};

@@ -1,19 +1,19 @@
 //! What can be called: with which inputs, as one tuple, and to which output.
 
 ghost use Rattle.std.specs.Prelude.{◌≡◌, ◌↔◌, ◌∷◌, [], IsTrue, IfOk, IfErr, IfSome, Some, None, false, true, length};
-ghost use Rattle.candidate_ir.specs.Context.{Grows, world};
-ghost use Rattle.candidate_ir.specs.Folding.{IsSubstStop, lacks_argument, substituted_tree};
-ghost use Rattle.candidate_ir.specs.Lookups.{definition, fn_flags};
-ghost use Rattle.candidate_ir.specs.References.{Takes};
-ghost use Rattle.candidate_ir.specs.Signatures.{SignatureHas};
-ghost use Rattle.candidate_ir.specs.Substitutions.{alone};
-ghost use Rattle.candidate_ir.specs.Trees.{tree_holds};
-ghost use Rattle.candidate_ir.specs.WellFormed.{SignatureFits};
-ghost use Rattle.candidate_ir.specs.Words.{IsArgs, IsSig, IsTy, SigFits, KindFits, args_forest, kind_tree, sig_kind_tree, sig_tree, ty_tree};
-ghost use Rattle.candidate_ir.specs.Worlds.{FunctionSort, kinds_of, parameters};
-ghost use Rattle.candidate_eval.specs.Tables.{IsTypesStop};
-ghost use Rattle.candidate_eval.specs.Callable.{extends, closure_calls, signature_callable, pointer_callable, are_types, can_be_called, function_signature, declared_signature, function_calls, calls, makes, const_calls, const_makes, callable_of, IsCallable, calls_of, const_callable_of, pointer_calls, pointer_makes, function_makes, const_function_calls, const_function_makes, const_closure_calls, IsMadeStop, IsCallStop, IsConstCallStop, is_const_function, is_unknown, called_of, called_calls, called_makes, called_const_calls, called_const_makes, CalledFits};
-ghost use Rattle.candidate_eval.specs.Callable as seen;
+ghost use Rattle.candidate_ir.specs.Declarations.Context.{Grows, world};
+ghost use Rattle.candidate_ir.specs.Instantiation.Folding.{IsSubstStop, lacks_argument, substituted_tree};
+ghost use Rattle.candidate_ir.specs.Declarations.Lookups.{definition, fn_flags};
+ghost use Rattle.candidate_ir.specs.Declarations.References.{Takes};
+ghost use Rattle.candidate_ir.specs.Instantiation.Signatures.{SignatureHas};
+ghost use Rattle.candidate_ir.specs.Unification.Substitutions.{alone};
+ghost use Rattle.candidate_ir.specs.Syntax.Trees.{tree_holds};
+ghost use Rattle.candidate_ir.specs.Validity.WellFormed.{SignatureFits};
+ghost use Rattle.candidate_ir.specs.Syntax.Words.{IsArgs, IsSig, IsTy, SigFits, KindFits, args_forest, kind_tree, sig_kind_tree, sig_tree, ty_tree};
+ghost use Rattle.candidate_ir.specs.Declarations.Worlds.{FunctionSort, kinds_of, parameters};
+ghost use Rattle.candidate_eval.specs.Builtins.Tables.{IsTypesStop};
+ghost use Rattle.candidate_eval.specs.Builtins.Callable.{extends, closure_calls, signature_callable, pointer_callable, are_types, can_be_called, function_signature, declared_signature, function_calls, calls, makes, const_calls, const_makes, callable_of, IsCallable, calls_of, const_callable_of, pointer_calls, pointer_makes, function_makes, const_function_calls, const_function_makes, const_closure_calls, IsMadeStop, IsCallStop, IsConstCallStop, is_const_function, is_unknown, called_of, called_calls, called_makes, called_const_calls, called_const_makes, CalledFits};
+ghost use Rattle.candidate_eval.specs.Builtins.Callable as seen;
 
 use crate::eval::refusal::NoSolutionOrStop;
 use crate::structural::tables::{is_no_unknown, kind_of};

@@ -1,14 +1,14 @@
 //! What has to hold for a value of a type to be dropped where a constant is computed.
 
 ghost use Rattle.std.specs.Prelude.{◌≡◌, [], ◌∷◌, ◌++◌, None, Some, IfOk, IfErr, length, map, false, ◌⊎◌};
-ghost use Rattle.candidate_ir.specs.Context.{Grows};
-ghost use Rattle.candidate_ir.specs.Folding.{IsSubstStop};
-ghost use Rattle.candidate_ir.specs.Substitutions.{alone};
-ghost use Rattle.candidate_ir.specs.WellFormed.{TypesFit};
-ghost use Rattle.candidate_ir.specs.Words.{IsTy, ty_tree};
-ghost use Rattle.candidate_eval.specs.Tables.{row_of, is_excluded, IsTypesStop};
-ghost use Rattle.candidate_eval.specs.Destruct.{meets, references_of, AreReferences, own_destructor, own_conditions, kind_destructor, own_drop_of, own_references, all_references, destruct_conditions, IsConditionsStop};
-ghost use Rattle.candidate_eval.specs.Destruct as seen;
+ghost use Rattle.candidate_ir.specs.Declarations.Context.{Grows};
+ghost use Rattle.candidate_ir.specs.Instantiation.Folding.{IsSubstStop};
+ghost use Rattle.candidate_ir.specs.Unification.Substitutions.{alone};
+ghost use Rattle.candidate_ir.specs.Validity.WellFormed.{TypesFit};
+ghost use Rattle.candidate_ir.specs.Syntax.Words.{IsTy, ty_tree};
+ghost use Rattle.candidate_eval.specs.Builtins.Tables.{row_of, is_excluded, IsTypesStop};
+ghost use Rattle.candidate_eval.specs.Builtins.Destruct.{meets, references_of, AreReferences, own_destructor, own_conditions, kind_destructor, own_drop_of, own_references, all_references, destruct_conditions, IsConditionsStop};
+ghost use Rattle.candidate_eval.specs.Builtins.Destruct as seen;
 ghost use Rattle.std.specs.Prelude.{true};
 
 use crate::eval::refusal::NoSolutionOrStop;

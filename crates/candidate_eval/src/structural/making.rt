@@ -1,11 +1,11 @@
 //! The types that a cell asks about.
 
 ghost use Rattle.std.specs.Prelude.{◌≡◌, [], ◌∷◌, IfOk, IfErr, IfSome, length, map, true};
-ghost use Rattle.candidate_ir.specs.Context.{Grows};
-ghost use Rattle.candidate_ir.specs.WellFormed.{TypesFit};
-ghost use Rattle.candidate_ir.specs.Words.{IsArgs, args_forest, ty_tree};
-ghost use Rattle.candidate_eval.specs.Tables.{optional, last_of, with_args, bytes, IsTypesStop};
-ghost use Rattle.candidate_eval.specs.Asked.{ty_args, first_ty, AskedFits, HaveArguments, arguments_of, asked_types, is_listed, trees_with};
+ghost use Rattle.candidate_ir.specs.Declarations.Context.{Grows};
+ghost use Rattle.candidate_ir.specs.Validity.WellFormed.{TypesFit};
+ghost use Rattle.candidate_ir.specs.Syntax.Words.{IsArgs, args_forest, ty_tree};
+ghost use Rattle.candidate_eval.specs.Builtins.Tables.{optional, last_of, with_args, bytes, IsTypesStop};
+ghost use Rattle.candidate_eval.specs.Builtins.Asked.{ty_args, first_ty, AskedFits, HaveArguments, arguments_of, asked_types, is_listed, trees_with};
 
 use crate::structural::asked::Asked;
 use candidate_ir::decl::Cx;

@@ -1,16 +1,16 @@
 //! What an object candidate asks for, besides that its trait reference fits.
 
 ghost use Rattle.std.specs.Prelude.{◌≡◌, map, IfOk, IfErr, OnOk, All};
-ghost use Rattle.candidate_ir.specs.Context.{Grows, world};
-ghost use Rattle.candidate_ir.specs.References.{ArgumentsFit, Takes};
-ghost use Rattle.candidate_ir.specs.Words.{IsArgs, IsParamEnv, IsPreds, IsTy, ClauseFits, ClauseListFits, args_forest, clause_kind_tree, env_forest, preds_forest, ty_tree};
-ghost use Rattle.candidate_eval.specs.Accounts.{StopsSomehow};
-ghost use Rattle.candidate_eval.specs.Evaluators.{IsGoal, Keeps, goal_of};
-ghost use Rattle.candidate_eval.specs.Objects.{with_instance, by_object_stop};
-ghost use Rattle.candidate_eval.specs.ObjectRequirements.{AreAsked, AreUnknown, first_tree, fresh_arguments, reference_clause};
-ghost use Rattle.candidate_eval.specs.Replacing.{clauses_at};
-ghost use Rattle.candidate_eval.specs.Required.{AreRequirements};
-ghost use Rattle.candidate_eval.specs.Required as seen;
+ghost use Rattle.candidate_ir.specs.Declarations.Context.{Grows, world};
+ghost use Rattle.candidate_ir.specs.Declarations.References.{ArgumentsFit, Takes};
+ghost use Rattle.candidate_ir.specs.Syntax.Words.{IsArgs, IsParamEnv, IsPreds, IsTy, ClauseFits, ClauseListFits, args_forest, clause_kind_tree, env_forest, preds_forest, ty_tree};
+ghost use Rattle.candidate_eval.specs.Interface.Accounts.{StopsSomehow};
+ghost use Rattle.candidate_eval.specs.Interface.Evaluators.{IsGoal, Keeps, goal_of};
+ghost use Rattle.candidate_eval.specs.Dynamic.Objects.{with_instance, by_object_stop};
+ghost use Rattle.candidate_eval.specs.Dynamic.ObjectRequirements.{AreAsked, AreUnknown, first_tree, fresh_arguments, reference_clause};
+ghost use Rattle.candidate_eval.specs.Dynamic.Replacing.{clauses_at};
+ghost use Rattle.candidate_eval.specs.Dynamic.Required.{AreRequirements};
+ghost use Rattle.candidate_eval.specs.Dynamic.Required as seen;
 
 use crate::eval::binders::instantiate_clause_with_infer;
 use crate::eval::clauses::{goals, predicate_in, self_ty, trait_clause};

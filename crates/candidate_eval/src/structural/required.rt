@@ -1,13 +1,13 @@
 //! What a type has to fulfil so as to be an object of a trait, and what the bounds of the object's type say of it as clauses.
 
 ghost use Rattle.std.specs.Prelude.{◌≡◌, ◌++◌, map, IfErr, IfOk, true};
-ghost use Rattle.candidate_eval.specs.Evaluators.{IsMakingStop};
-ghost use Rattle.candidate_ir.specs.Context.{Grows, world};
-ghost use Rattle.candidate_ir.specs.References.{Takes};
-ghost use Rattle.candidate_ir.specs.Trees.{tree};
-ghost use Rattle.candidate_ir.specs.Words.{IsArgs, IsClause, IsPred, IsPreds, IsTy, ClauseListFits, ListFits, PredFits, args_forest, clause_tree, list_forest, pred_kind_tree, pred_tree, preds_forest, ty_tree};
-ghost use Rattle.candidate_eval.specs.Required.{AreRequirements, as_bound, declared_at, declared_trees, is_required, item_bounds, own_bound, own_bounds, required_bounds, said_of};
-ghost use Rattle.candidate_eval.specs.Required as seen;
+ghost use Rattle.candidate_eval.specs.Interface.Evaluators.{IsMakingStop};
+ghost use Rattle.candidate_ir.specs.Declarations.Context.{Grows, world};
+ghost use Rattle.candidate_ir.specs.Declarations.References.{Takes};
+ghost use Rattle.candidate_ir.specs.Syntax.Trees.{tree};
+ghost use Rattle.candidate_ir.specs.Syntax.Words.{IsArgs, IsClause, IsPred, IsPreds, IsTy, ClauseListFits, ListFits, PredFits, args_forest, clause_tree, list_forest, pred_kind_tree, pred_tree, preds_forest, ty_tree};
+ghost use Rattle.candidate_eval.specs.Dynamic.Required.{AreRequirements, as_bound, declared_at, declared_trees, is_required, item_bounds, own_bound, own_bounds, required_bounds, said_of};
+ghost use Rattle.candidate_eval.specs.Dynamic.Required as seen;
 
 use candidate_ir::decl::Cx;
 use candidate_ir::decl::definition::AssocKind;

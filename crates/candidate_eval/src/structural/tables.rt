@@ -1,12 +1,12 @@
 //! The columns of the tables as calls.
 
 ghost use Rattle.std.specs.Prelude.{◌≡◌, ◌↔◌, IsTrue, IfOk, IfErr, length, false, true};
-ghost use Rattle.candidate_ir.specs.Context.{Grows, world};
-ghost use Rattle.candidate_ir.specs.References.{Takes};
-ghost use Rattle.candidate_ir.specs.Words.{IsTy, KindFits, kind_tree, ty_tree};
-ghost use Rattle.candidate_eval.specs.Tables.{Asks, Refused, cell, row_of, is_excluded, IsCellStop};
-ghost use Rattle.candidate_eval.specs.Asked.{AskedFits, asked_cell, under_of, parts_of, ArePartsIn, auto_known, kind_known};
-ghost use Rattle.candidate_eval.specs.Asked as seen;
+ghost use Rattle.candidate_ir.specs.Declarations.Context.{Grows, world};
+ghost use Rattle.candidate_ir.specs.Declarations.References.{Takes};
+ghost use Rattle.candidate_ir.specs.Syntax.Words.{IsTy, KindFits, kind_tree, ty_tree};
+ghost use Rattle.candidate_eval.specs.Builtins.Tables.{Asks, Refused, cell, row_of, is_excluded, IsCellStop};
+ghost use Rattle.candidate_eval.specs.Builtins.Asked.{AskedFits, asked_cell, under_of, parts_of, ArePartsIn, auto_known, kind_known};
+ghost use Rattle.candidate_eval.specs.Builtins.Asked as seen;
 
 use crate::eval::refusal::NoSolutionOrStop;
 use crate::structural::asked::{Asked, asked_for};

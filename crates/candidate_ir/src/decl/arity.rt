@@ -1,16 +1,16 @@
 //! Whether the arguments of a node are those that its definition takes.
 
 ghost use Rattle.std.specs.Prelude.{◌≡◌, ◌↔◌, IsTrue, Some, map, ◌∷◌, []};
-ghost use Rattle.candidate_ir.specs.Context.{world_of};
-ghost use Rattle.candidate_ir.specs.Faults.{ImplFits, ImplsFit};
-ghost use Rattle.candidate_ir.specs.Kinds.{arg_kind};
+ghost use Rattle.candidate_ir.specs.Declarations.Context.{world_of};
+ghost use Rattle.candidate_ir.specs.Validity.Faults.{ImplFits, ImplsFit};
+ghost use Rattle.candidate_ir.specs.Syntax.Kinds.{arg_kind};
 ghost use Rattle.std.specs.List.{list_any};
-ghost use Rattle.candidate_ir.specs.Names.{names_unknown};
-ghost use Rattle.candidate_ir.specs.Nodes.{Fits, node_tree};
-ghost use Rattle.candidate_ir.specs.References.{AllFit, AllTake, Takes};
-ghost use Rattle.candidate_ir.specs.Trees.{TypeKind};
-ghost use Rattle.candidate_ir.specs.Words.{KindFits, ConstKindFits, PredFits, BoundsFit, ClauseFits, kind_tree, const_kind_tree, pred_kind_tree, clause_kind_tree};
-ghost use Rattle.candidate_ir.specs.Worlds.{parameters, joined, alias_kinds};
+ghost use Rattle.candidate_ir.specs.Declarations.Names.{names_unknown};
+ghost use Rattle.candidate_ir.specs.Syntax.Nodes.{Fits, node_tree};
+ghost use Rattle.candidate_ir.specs.Declarations.References.{AllFit, AllTake, Takes};
+ghost use Rattle.candidate_ir.specs.Syntax.Trees.{TypeKind};
+ghost use Rattle.candidate_ir.specs.Syntax.Words.{KindFits, ConstKindFits, PredFits, BoundsFit, ClauseFits, kind_tree, const_kind_tree, pred_kind_tree, clause_kind_tree};
+ghost use Rattle.candidate_ir.specs.Declarations.Worlds.{parameters, joined, alias_kinds};
 
 use crate::decl::contents::Impl;
 use crate::decl::definition::{Declaration, DefinitionSort, are_type_args};

@@ -1,16 +1,16 @@
 //! The builder of declarations.
 
 ghost use Rattle.std.specs.Prelude.{◌≡◌, ◌↔◌, ◌+◌, ◌<◌, ◌++◌, ◌∷◌, IsTrue, true, false, [], length, slice_get, slice_set, vec_len, vec_capacity, IfOk, IfErr, MatchResult, MatchOption, ◌⊎◌, Some};
-ghost use Rattle.candidate_ir.specs.Context.{declared, crate_of, parameters_of};
-ghost use Rattle.candidate_ir.specs.Parameters.{kinds_of};
-ghost use Rattle.candidate_ir.specs.Declaring.{nothing, declared_adt, declared_trait, declared_opaque, declared_assoc, declared_impl, with_adt, with_trait, with_bounds, with_impl, with_constraint, with_bound, item_number, entered};
-ghost use Rattle.candidate_ir.specs.Faults.{all_that_is_held, declarations_misname, contents_misname, has_unknown_id, has_wrong_parameters, AllArgumentsFit, has_wrong_kind, HasFault, IsFaultless, IsLowestFault};
-ghost use Rattle.candidate_ir.specs.Plain.{AllArePlain};
-ghost use Rattle.candidate_ir.specs.WellFormed.{IsWellFormedTable};
-ghost use Rattle.candidate_ir.specs.Supertraits.{HasSupertraitCycle, IsAcyclic};
-ghost use Rattle.candidate_ir.specs.Making.{Makes, a_list};
-ghost use Rattle.candidate_ir.specs.Nodes.{tree_at};
-ghost use Rattle.candidate_ir.specs.Words.{KindFits, ConstKindFits, ListFits, BoundsFit, SigFits, ClauseFits, ClauseListFits, AtMostOnePrincipal};
+ghost use Rattle.candidate_ir.specs.Declarations.Context.{declared, crate_of, parameters_of};
+ghost use Rattle.candidate_ir.specs.Declarations.Parameters.{kinds_of};
+ghost use Rattle.candidate_ir.specs.Declarations.Declaring.{nothing, declared_adt, declared_trait, declared_opaque, declared_assoc, declared_impl, with_adt, with_trait, with_bounds, with_impl, with_constraint, with_bound, item_number, entered};
+ghost use Rattle.candidate_ir.specs.Validity.Faults.{all_that_is_held, declarations_misname, contents_misname, has_unknown_id, has_wrong_parameters, AllArgumentsFit, has_wrong_kind, HasFault, IsFaultless, IsLowestFault};
+ghost use Rattle.candidate_ir.specs.Calls.Plain.{AllArePlain};
+ghost use Rattle.candidate_ir.specs.Validity.WellFormed.{IsWellFormedTable};
+ghost use Rattle.candidate_ir.specs.Hierarchy.Supertraits.{HasSupertraitCycle, IsAcyclic};
+ghost use Rattle.candidate_ir.specs.Syntax.Making.{Makes, a_list};
+ghost use Rattle.candidate_ir.specs.Syntax.Nodes.{tree_at};
+ghost use Rattle.candidate_ir.specs.Syntax.Words.{KindFits, ConstKindFits, ListFits, BoundsFit, SigFits, ClauseFits, ClauseListFits, AtMostOnePrincipal};
 ghost use Rattle.candidate_ir.specs.declared.decl.builder.DeclFault.TheVariants.{Memory};
 
 use crate::decl::arity::{any_names_unknown, impls_fit, nodes_fit};
@@ -119,9 +119,9 @@ impl Model for DeclsBuilder {
     ghost use Rattle.std.specs.Prelude.{[]};
     ghost use Rattle.std.specs.Coded.{codes};
     ghost use Rattle.candidate_ir.specs.contracts.ir.heads.Head as head;
-    ghost use Rattle.candidate_ir.specs.TreeCode.{tree_code};
-    ghost use Rattle.candidate_ir.specs.Context as seen;
-    ghost use Rattle.candidate_ir.specs.Declaring.{contents_of};
+    ghost use Rattle.candidate_ir.specs.Laws.TreeCode.{tree_code};
+    ghost use Rattle.candidate_ir.specs.Declarations.Context as seen;
+    ghost use Rattle.candidate_ir.specs.Declarations.Declaring.{contents_of};
 
     ghost Value = { seen.Context };
 
@@ -144,10 +144,10 @@ impl Model for Decls {
     ghost use Rattle.std.specs.Prelude.{[], length};
     ghost use Rattle.std.specs.Coded.{codes};
     ghost use Rattle.candidate_ir.specs.contracts.ir.heads.Head as head;
-    ghost use Rattle.candidate_ir.specs.TreeCode.{tree_code};
-    ghost use Rattle.candidate_ir.specs.Context as seen;
-    ghost use Rattle.candidate_ir.specs.Declaring.{contents_of};
-    ghost use Rattle.candidate_ir.specs.WellFormed.{IsWellFormedTable};
+    ghost use Rattle.candidate_ir.specs.Laws.TreeCode.{tree_code};
+    ghost use Rattle.candidate_ir.specs.Declarations.Context as seen;
+    ghost use Rattle.candidate_ir.specs.Declarations.Declaring.{contents_of};
+    ghost use Rattle.candidate_ir.specs.Validity.WellFormed.{IsWellFormedTable};
 
     ghost Value = { seen.Context };
 

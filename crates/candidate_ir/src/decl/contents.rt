@@ -1,9 +1,9 @@
 //! What definitions hold besides their parameters and flags, and the impls.
 
 ghost use Rattle.std.specs.Prelude.{◌≡◌, [], None, false};
-ghost use Rattle.candidate_ir.specs.Contents as seen;
-ghost use Rattle.candidate_ir.specs.Declaring.{place, adt_place, trait_place, bounds_place, no_bounds, nothing, contents_of, item_number, takes_a_type};
-ghost use Rattle.candidate_ir.specs.Parameters.{kinds_of};
+ghost use Rattle.candidate_ir.specs.Declarations.Contents as seen;
+ghost use Rattle.candidate_ir.specs.Declarations.Declaring.{place, adt_place, trait_place, bounds_place, no_bounds, nothing, contents_of, item_number, takes_a_type};
+ghost use Rattle.candidate_ir.specs.Declarations.Parameters.{kinds_of};
 
 use crate::decl::definition::{AssocKind, CrateId, Declaration, DefinitionKind, Parameters};
 use crate::ir::at::at;
@@ -125,7 +125,7 @@ pub(crate) struct AdtContents {
 }
 
 impl Model for AdtContents {
-    ghost use Rattle.candidate_ir.specs.Contents as seen;
+    ghost use Rattle.candidate_ir.specs.Declarations.Contents as seen;
 
     ghost Value = { seen.AdtContents };
 
@@ -142,7 +142,7 @@ pub(crate) struct TraitContents {
 }
 
 impl Model for TraitContents {
-    ghost use Rattle.candidate_ir.specs.Contents as seen;
+    ghost use Rattle.candidate_ir.specs.Declarations.Contents as seen;
 
     ghost Value = { seen.TraitContents };
 
@@ -157,7 +157,7 @@ pub(crate) struct Bounds {
 }
 
 impl Model for Bounds {
-    ghost use Rattle.candidate_ir.specs.Contents as seen;
+    ghost use Rattle.candidate_ir.specs.Declarations.Contents as seen;
 
     ghost Value = { seen.Bounds };
 
@@ -179,8 +179,8 @@ pub struct Impl {
 }
 
 impl Model for Impl {
-    ghost use Rattle.candidate_ir.specs.Contents as seen;
-    ghost use Rattle.candidate_ir.specs.Parameters.{kinds_of};
+    ghost use Rattle.candidate_ir.specs.Declarations.Contents as seen;
+    ghost use Rattle.candidate_ir.specs.Declarations.Parameters.{kinds_of};
 
     ghost Value = { seen.Impl };
 

@@ -1,22 +1,22 @@
 //! The context: declarations, and the table in which types are made.
 
 ghost use Rattle.std.specs.Prelude.{ℕ, List, ◌≡◌, ◌++◌, ◌∷◌, [], string_bytes, ◌+◌, ◌<◌, ◌≤◌, ◌↔◌, IsTrue, false, true, length, take, max, map, IfOk, IfErr, MatchOption, Some, None, suc};
-ghost use Rattle.candidate_ir.specs.Context.{world, Grows};
-ghost use Rattle.candidate_ir.specs.Making.{Makes, a_list};
-ghost use Rattle.candidate_ir.specs.Trees.{height, heights, tree_holds, holds, is_number, is_param, none, skip, tree, variable_number};
-ghost use Rattle.candidate_ir.specs.Flags.{mark};
-ghost use Rattle.candidate_ir.specs.Folds.{is_asked, IsArg, arg_tree};
-ghost use Rattle.candidate_ir.specs.Kinds.{arg_number, numbers, pred_children};
-ghost use Rattle.candidate_ir.specs.Nodes.{tree_at, AreLeaves};
-ghost use Rattle.candidate_ir.specs.Table.{Below, IsNodeOf};
-ghost use Rattle.candidate_ir.specs.Substitutions.{alone, is_placeholder_above};
-ghost use Rattle.candidate_ir.specs.WellFormed.{IsWellFormedTable};
-ghost use Rattle.candidate_ir.specs.Unify.{may_unify, trees_may_unify, NoCommonInstance};
-ghost use Rattle.candidate_ir.specs.References.{ArgumentsFit, IsWellFormed, Takes, AllTake};
-ghost use Rattle.candidate_ir.specs.TypeFlags.{type_flags};
-ghost use Rattle.candidate_ir.specs.Names.{is_local, is_fundamental, principal_of, principals};
-ghost use Rattle.candidate_ir.specs.Words.{IsTy, IsConst, IsRegion, IsArgs, IsPreds, IsPred, IsSig, IsClause, IsParamEnv, IsVars, IsVar, ty_tree, const_tree, region_tree, args_forest, preds_forest, pred_tree, sig_tree, clause_tree, env_forest, vars_tree, var_tree, KindFits, ConstKindFits, ListFits, PredListFits, PredFits, SigFits, ClauseFits, ClauseListFits, VarListFits, BoundsFit, AtMostOnePrincipal, kind_tree, const_kind_tree, region_kind_tree, list_forest, pred_list_forest, pred_kind_tree, sig_kind_tree, clause_kind_tree, clause_list_forest, vars_kind_tree, var_kind_tree, bounds_forest, binder_tree, IsMkStop, IsMkListStop};
-ghost use Rattle.candidate_ir.specs.Binders.{escapes, tree_escapes};
+ghost use Rattle.candidate_ir.specs.Declarations.Context.{world, Grows};
+ghost use Rattle.candidate_ir.specs.Syntax.Making.{Makes, a_list};
+ghost use Rattle.candidate_ir.specs.Syntax.Trees.{height, heights, tree_holds, holds, is_number, is_param, none, skip, tree, variable_number};
+ghost use Rattle.candidate_ir.specs.Syntax.Flags.{mark};
+ghost use Rattle.candidate_ir.specs.Instantiation.Folds.{is_asked, IsArg, arg_tree};
+ghost use Rattle.candidate_ir.specs.Syntax.Kinds.{arg_number, numbers, pred_children};
+ghost use Rattle.candidate_ir.specs.Syntax.Nodes.{tree_at, AreLeaves};
+ghost use Rattle.candidate_ir.specs.Syntax.Table.{Below, IsNodeOf};
+ghost use Rattle.candidate_ir.specs.Unification.Substitutions.{alone, is_placeholder_above};
+ghost use Rattle.candidate_ir.specs.Validity.WellFormed.{IsWellFormedTable};
+ghost use Rattle.candidate_ir.specs.Unification.Unify.{may_unify, trees_may_unify, NoCommonInstance};
+ghost use Rattle.candidate_ir.specs.Declarations.References.{ArgumentsFit, IsWellFormed, Takes, AllTake};
+ghost use Rattle.candidate_ir.specs.Syntax.TypeFlags.{type_flags};
+ghost use Rattle.candidate_ir.specs.Declarations.Names.{is_local, is_fundamental, principal_of, principals};
+ghost use Rattle.candidate_ir.specs.Syntax.Words.{IsTy, IsConst, IsRegion, IsArgs, IsPreds, IsPred, IsSig, IsClause, IsParamEnv, IsVars, IsVar, ty_tree, const_tree, region_tree, args_forest, preds_forest, pred_tree, sig_tree, clause_tree, env_forest, vars_tree, var_tree, KindFits, ConstKindFits, ListFits, PredListFits, PredFits, SigFits, ClauseFits, ClauseListFits, VarListFits, BoundsFit, AtMostOnePrincipal, kind_tree, const_kind_tree, region_kind_tree, list_forest, pred_list_forest, pred_kind_tree, sig_kind_tree, clause_kind_tree, clause_list_forest, vars_kind_tree, var_kind_tree, bounds_forest, binder_tree, IsMkStop, IsMkListStop};
+ghost use Rattle.candidate_ir.specs.Syntax.Binders.{escapes, tree_escapes};
 
 use crate::decl::arity::{bounds_fit, clause_fits, const_fits, takes_after_self, ty_fits};
 use crate::decl::builder::Decls;
@@ -54,10 +54,10 @@ impl Model for Cx {
     ghost use Rattle.std.specs.Prelude.{[], map, string_bytes};
     ghost use Rattle.std.specs.Coded.{codes};
     ghost use Rattle.candidate_ir.specs.contracts.ir.heads.Head as head;
-    ghost use Rattle.candidate_ir.specs.TreeCode.{tree_code};
-    ghost use Rattle.candidate_ir.specs.Context as seen;
-    ghost use Rattle.candidate_ir.specs.Declaring.{contents_of};
-    ghost use Rattle.candidate_ir.specs.WellFormed.{IsWellFormedContext};
+    ghost use Rattle.candidate_ir.specs.Laws.TreeCode.{tree_code};
+    ghost use Rattle.candidate_ir.specs.Declarations.Context as seen;
+    ghost use Rattle.candidate_ir.specs.Declarations.Declaring.{contents_of};
+    ghost use Rattle.candidate_ir.specs.Validity.WellFormed.{IsWellFormedContext};
 
     ghost Value = { seen.Context };
 

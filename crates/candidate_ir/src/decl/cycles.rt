@@ -1,9 +1,9 @@
 //! Whether a trait is its own supertrait.
 
 ghost use Rattle.std.specs.Prelude.{◌≡◌, ◌<◌, [], None, length, replicate, slice_get, IfOk, MatchOption};
-ghost use Rattle.candidate_ir.specs.Cycles.{Knows, Ends, Steps, framed, opened, closed, met, is_open, visit_of};
-ghost use Rattle.candidate_ir.specs.Declaring.{contents_of};
-ghost use Rattle.candidate_ir.specs.Supertraits.{clause_trait, clause_supertrait, declared_supers, named_supers, SaysCyclic};
+ghost use Rattle.candidate_ir.specs.Calls.Cycles.{Knows, Ends, Steps, framed, opened, closed, met, is_open, visit_of};
+ghost use Rattle.candidate_ir.specs.Declarations.Declaring.{contents_of};
+ghost use Rattle.candidate_ir.specs.Hierarchy.Supertraits.{clause_trait, clause_supertrait, declared_supers, named_supers, SaysCyclic};
 
 use crate::decl::contents::Contents;
 use crate::decl::definition::{Declaration, DefinitionKind};
@@ -41,7 +41,7 @@ struct Search {
 
 impl Model for Search {
     ghost use Rattle.std.specs.Prelude.{reverse};
-    ghost use Rattle.candidate_ir.specs.Cycles as seen;
+    ghost use Rattle.candidate_ir.specs.Calls.Cycles as seen;
 
     ghost Value = { seen.Search };
 

@@ -2,9 +2,9 @@
 
 ghost use Rattle.std.specs.Prelude.{◌≡◌, ◌↔◌, IsTrue, map};
 ghost use Rattle.std.specs.List.{list_all};
-ghost use Rattle.candidate_ir.specs.Context.{begins_with_type as begins, parameter_kind};
-ghost use Rattle.candidate_ir.specs.Kinds.{arg_kind};
-ghost use Rattle.candidate_ir.specs.Parameters.{is_type_kind, is_type_arg};
+ghost use Rattle.candidate_ir.specs.Declarations.Context.{begins_with_type as begins, parameter_kind};
+ghost use Rattle.candidate_ir.specs.Syntax.Kinds.{arg_kind};
+ghost use Rattle.candidate_ir.specs.Declarations.Parameters.{is_type_kind, is_type_arg};
 
 use crate::ir::at::at;
 use crate::ir::kinds::{Binder, FnSig, GenericArg, TraitId, Ty, VarKind};
@@ -18,7 +18,7 @@ pub struct CrateId(pub u32);
 
 impl CrateId {
     ghost use Rattle.std.specs.Prelude.{◌≡◌};
-    ghost use Rattle.candidate_ir.specs.Context.{is_unknown};
+    ghost use Rattle.candidate_ir.specs.Declarations.Context.{is_unknown};
 
     /// Whether it is none of the first so many crates.
     pub(crate) fn is_unknown(self, crates: u32) -> bool
@@ -125,7 +125,7 @@ pub enum DefinitionSort {
 
 impl DefinitionSort {
     ghost use Rattle.std.specs.Prelude.{◌≡◌};
-    ghost use Rattle.candidate_ir.specs.Worlds.{sort_number};
+    ghost use Rattle.candidate_ir.specs.Declarations.Worlds.{sort_number};
 
     fn number(self) -> u32
         ensures { result ≡ sort_number self }
@@ -146,7 +146,7 @@ impl DefinitionSort {
 
 impl DefinitionKind {
     ghost use Rattle.std.specs.Prelude.{◌≡◌};
-    ghost use Rattle.candidate_ir.specs.Context.{fundamental_of, sort_of};
+    ghost use Rattle.candidate_ir.specs.Declarations.Context.{fundamental_of, sort_of};
 
     pub(crate) fn is_fundamental(self) -> bool
         ensures { result ≡ fundamental_of self }
@@ -186,9 +186,9 @@ pub enum Parameters {
 
 impl Parameters {
     ghost use Rattle.std.specs.Prelude.{◌≡◌, ◌↔◌, IsTrue, [], IfOk, map, slice_get, length};
-    ghost use Rattle.candidate_ir.specs.Parameters.{kinds_of};
-    ghost use Rattle.candidate_ir.specs.Kinds.{arg_kind};
-    ghost use Rattle.candidate_ir.specs.Context.{begins_with_type, is_empty, parameter_kind};
+    ghost use Rattle.candidate_ir.specs.Declarations.Parameters.{kinds_of};
+    ghost use Rattle.candidate_ir.specs.Syntax.Kinds.{arg_kind};
+    ghost use Rattle.candidate_ir.specs.Declarations.Context.{begins_with_type, is_empty, parameter_kind};
 
     pub(crate) fn none() -> Self
         ensures { kinds_of result ≡ [] }
@@ -329,8 +329,8 @@ pub struct Declaration {
 }
 
 impl Model for Declaration {
-    ghost use Rattle.candidate_ir.specs.Declaration as seen;
-    ghost use Rattle.candidate_ir.specs.Parameters.{kinds_of};
+    ghost use Rattle.candidate_ir.specs.Declarations.Declaration as seen;
+    ghost use Rattle.candidate_ir.specs.Declarations.Parameters.{kinds_of};
 
     ghost Value = { seen.Declaration };
 
@@ -339,10 +339,10 @@ impl Model for Declaration {
 
 impl Declaration {
     ghost use Rattle.std.specs.Prelude.{◌≡◌};
-    ghost use Rattle.candidate_ir.specs.Context.{fundamental_of, has_wrong_arity, is_trait, lacks_trait, definition_of};
-    ghost use Rattle.candidate_ir.specs.Misplaced.{has_self};
-    ghost use Rattle.candidate_ir.specs.Worlds.{parameters_of};
-    ghost use Rattle.candidate_ir.specs.Kinds.{arg_kind};
+    ghost use Rattle.candidate_ir.specs.Declarations.Context.{fundamental_of, has_wrong_arity, is_trait, lacks_trait, definition_of};
+    ghost use Rattle.candidate_ir.specs.Validity.Misplaced.{has_self};
+    ghost use Rattle.candidate_ir.specs.Declarations.Worlds.{parameters_of};
+    ghost use Rattle.candidate_ir.specs.Syntax.Kinds.{arg_kind};
     ghost use Rattle.std.specs.Prelude.{◌↔◌, IsTrue, Some, map};
 
     pub(crate) fn kind(&self) -> DefinitionKind

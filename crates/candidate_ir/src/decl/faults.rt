@@ -2,10 +2,10 @@
 
 ghost use Rattle.std.specs.Prelude.{◌≡◌, ◌↔◌, IsTrue, length, slice_get, nat_le, option_copied};
 ghost use Rattle.std.specs.List.{list_any};
-ghost use Rattle.candidate_ir.specs.Context.{is_unknown, is_declared_trait, lacks_trait, has_wrong_arity};
-ghost use Rattle.candidate_ir.specs.Declaring.{contents_of};
-ghost use Rattle.candidate_ir.specs.Faults.{impl_misnames, item_misnames, unsizes_past, has_past_unsizing, unsizes_without_tail, lacks_tail, has_item_parameters, item_has_wrong_arity, all_items};
-ghost use Rattle.candidate_ir.specs.Parameters.{kinds_of};
+ghost use Rattle.candidate_ir.specs.Declarations.Context.{is_unknown, is_declared_trait, lacks_trait, has_wrong_arity};
+ghost use Rattle.candidate_ir.specs.Declarations.Declaring.{contents_of};
+ghost use Rattle.candidate_ir.specs.Validity.Faults.{impl_misnames, item_misnames, unsizes_past, has_past_unsizing, unsizes_without_tail, lacks_tail, has_item_parameters, item_has_wrong_arity, all_items};
+ghost use Rattle.candidate_ir.specs.Declarations.Parameters.{kinds_of};
 
 use crate::decl::contents::{AdtContents, Contents, Impl, ImplId, LangItem};
 use crate::decl::definition::{AdtShape, Declaration, DefinitionKind, Parameters};

@@ -1,17 +1,17 @@
 //! Folds by a closure.
 
 ghost use Rattle.std.specs.Prelude.{◌≡◌, ◌+◌, ◌<◌, ◌≤◌, ◌^◌, true, false, length, map, IfOk, IfErr};
-ghost use Rattle.candidate_ir.specs.Context.{Grows, world};
-ghost use Rattle.candidate_ir.specs.Folding.{Answers, fold as folded, fold_tree};
-ghost use Rattle.candidate_ir.specs.Folds.{IsArg, IsOfKind, MayFold, KeepsKinds, KeepsRest, Says, Said, IsFunction, Outcome, Renumbers, Relists};
-ghost use Rattle.candidate_ir.specs.Kinds.{arg_number, numbers, sorts};
-ghost use Rattle.candidate_ir.specs.Names.{principals};
-ghost use Rattle.candidate_ir.specs.Nodes.{tree_at, kind_at, node_tree, head_of, children_of, pred_child, Fits, is_rebuilt, is_bound_kind, have_bound};
-ghost use Rattle.candidate_ir.specs.References.{Takes};
-ghost use Rattle.candidate_ir.specs.Substitutions.{row_of};
-ghost use Rattle.candidate_ir.specs.Table.{Below};
-ghost use Rattle.candidate_ir.specs.Trees.{PredicatesKind, height, kind_of, binders_of, is_list_kind};
-ghost use Rattle.candidate_ir.specs.Words.{PredListFits, pred_list_forest, IsMkStop};
+ghost use Rattle.candidate_ir.specs.Declarations.Context.{Grows, world};
+ghost use Rattle.candidate_ir.specs.Instantiation.Folding.{Answers, fold as folded, fold_tree};
+ghost use Rattle.candidate_ir.specs.Instantiation.Folds.{IsArg, IsOfKind, MayFold, KeepsKinds, KeepsRest, Says, Said, IsFunction, Outcome, Renumbers, Relists};
+ghost use Rattle.candidate_ir.specs.Syntax.Kinds.{arg_number, numbers, sorts};
+ghost use Rattle.candidate_ir.specs.Declarations.Names.{principals};
+ghost use Rattle.candidate_ir.specs.Syntax.Nodes.{tree_at, kind_at, node_tree, head_of, children_of, pred_child, Fits, is_rebuilt, is_bound_kind, have_bound};
+ghost use Rattle.candidate_ir.specs.Declarations.References.{Takes};
+ghost use Rattle.candidate_ir.specs.Unification.Substitutions.{row_of};
+ghost use Rattle.candidate_ir.specs.Syntax.Table.{Below};
+ghost use Rattle.candidate_ir.specs.Syntax.Trees.{PredicatesKind, height, kind_of, binders_of, is_list_kind};
+ghost use Rattle.candidate_ir.specs.Syntax.Words.{PredListFits, pred_list_forest, IsMkStop};
 
 use crate::decl::make::Make;
 use crate::ir::kinds::{GenericArg, Pred};

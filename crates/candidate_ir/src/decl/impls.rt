@@ -1,9 +1,9 @@
 //! The impls of a trait that may apply to a type.
 
 ghost use Rattle.std.specs.Prelude.{◌≡◌, ◌↔◌, IsTrue, None, Some, MatchOption, IfOk, IfErr};
-ghost use Rattle.candidate_ir.specs.Declaring.{impl_at};
-ghost use Rattle.candidate_ir.specs.Impls.{self_type, may_be_for, is_for_parameter, is_relevant, is_blanket, relevant_impls, blanket_impls};
-ghost use Rattle.candidate_ir.specs.Words.{IsTy, ty_tree};
+ghost use Rattle.candidate_ir.specs.Declarations.Declaring.{impl_at};
+ghost use Rattle.candidate_ir.specs.Unification.Impls.{self_type, may_be_for, is_for_parameter, is_relevant, is_blanket, relevant_impls, blanket_impls};
+ghost use Rattle.candidate_ir.specs.Syntax.Words.{IsTy, ty_tree};
 
 use crate::decl::contents::ImplId;
 use crate::decl::context::Cx;

@@ -2,12 +2,12 @@
 //! nothing.
 
 ghost use Rattle.std.specs.Prelude.{◌≡◌, [], None, Some, false, slice_index_or, option_copied, IfOk, IfSome};
-ghost use Rattle.candidate_ir.specs.Declaring.{adt_at, trait_at, bounds_at, impl_at, item_number};
-ghost use Rattle.candidate_ir.specs.Held.{definition_held, adt_held, trait_held, bounds_held, if_there};
+ghost use Rattle.candidate_ir.specs.Declarations.Declaring.{adt_at, trait_at, bounds_at, impl_at, item_number};
+ghost use Rattle.candidate_ir.specs.Validity.Held.{definition_held, adt_held, trait_held, bounds_held, if_there};
 ghost use Rattle.candidate_ir.specs.declared.decl.held.Owner.TheVariants as O;
-ghost use Rattle.candidate_ir.specs.Words.{IsTy, IsArgs, ClauseListFits};
-ghost use Rattle.candidate_ir.specs.Lookups as lookup;
-ghost use Rattle.candidate_ir.specs.WellFormed.{TypesFit, SignatureFits, ImplIsGiven, AreGiven};
+ghost use Rattle.candidate_ir.specs.Syntax.Words.{IsTy, IsArgs, ClauseListFits};
+ghost use Rattle.candidate_ir.specs.Declarations.Lookups as lookup;
+ghost use Rattle.candidate_ir.specs.Validity.WellFormed.{TypesFit, SignatureFits, ImplIsGiven, AreGiven};
 
 use crate::decl::contents::{
     AdtContents, Bounds, Destructor, Impl, ImplId, LangItem, Sizedness, TraitContents, adt_place,

@@ -1,10 +1,10 @@
 //! What makes nodes.
 
 ghost use Rattle.std.specs.Prelude.{◌≡◌, Bool, true, map};
-ghost use Rattle.candidate_ir.specs.Context.{Context, world};
-ghost use Rattle.candidate_ir.specs.Making.{Makes, a_type, a_constant, a_region, a_list, a_binder, some_bounds, a_signature, a_clause, an_environment, what};
-ghost use Rattle.candidate_ir.specs.References.{Takes, AllTake};
-ghost use Rattle.candidate_ir.specs.Words.{KindFits, ConstKindFits, ListFits, SigFits, ClauseFits, ClauseListFits, BoundsFit, AtMostOnePrincipal, kind_tree, const_kind_tree, clause_kind_tree, pred_kind_tree};
+ghost use Rattle.candidate_ir.specs.Declarations.Context.{Context, world};
+ghost use Rattle.candidate_ir.specs.Syntax.Making.{Makes, a_type, a_constant, a_region, a_list, a_binder, some_bounds, a_signature, a_clause, an_environment, what};
+ghost use Rattle.candidate_ir.specs.Declarations.References.{Takes, AllTake};
+ghost use Rattle.candidate_ir.specs.Syntax.Words.{KindFits, ConstKindFits, ListFits, SigFits, ClauseFits, ClauseListFits, BoundsFit, AtMostOnePrincipal, kind_tree, const_kind_tree, clause_kind_tree, pred_kind_tree};
 
 use crate::decl::context::Cx;
 use crate::ir::kinds::{

@@ -2,11 +2,11 @@
 
 ghost use Rattle.std.specs.Prelude.{◌≡◌, ◌↔◌, IsTrue, ◌<◌, ◌+◌, false, length, slice_get, option_copied};
 ghost use Rattle.std.specs.List.{list_any};
-ghost use Rattle.candidate_ir.specs.Misplaced.{is_held_node, is_not_given, has_self, with_self, parameter_misplaced, is_stray, is_misplaced, tree_misplaces, kinds_of_declared, kinds_of_impl, held_misplaces, held_escapes};
-ghost use Rattle.candidate_ir.specs.Nodes.{tree_at};
-ghost use Rattle.candidate_ir.specs.Parameters.{kinds_of};
-ghost use Rattle.candidate_ir.specs.Trees.{tree_holds};
-ghost use Rattle.candidate_ir.specs.Words.{IsArgs, IsClause};
+ghost use Rattle.candidate_ir.specs.Validity.Misplaced.{is_held_node, is_not_given, has_self, with_self, parameter_misplaced, is_stray, is_misplaced, tree_misplaces, kinds_of_declared, kinds_of_impl, held_misplaces, held_escapes};
+ghost use Rattle.candidate_ir.specs.Syntax.Nodes.{tree_at};
+ghost use Rattle.candidate_ir.specs.Declarations.Parameters.{kinds_of};
+ghost use Rattle.candidate_ir.specs.Syntax.Trees.{tree_holds};
+ghost use Rattle.candidate_ir.specs.Syntax.Words.{IsArgs, IsClause};
 
 use crate::decl::contents::Impl;
 use crate::decl::definition::{Declaration, Parameters};

@@ -1,15 +1,15 @@
 //! Clauses out of their binders.
 
 ghost use Rattle.std.specs.Prelude.{◌≡◌, ◌-◌, length, true, false, MatchOption, IfOk, IfErr, IfSome, option_map};
-ghost use Rattle.candidate_ir.specs.Context.{Grows, parameter_kind};
-ghost use Rattle.candidate_ir.specs.Folding.{leaf, argument, shift_tree, fold_tree, IsSubstStop, IsAnswerStop};
-ghost use Rattle.candidate_ir.specs.Folds.{IsArg, IsOfKind, arg_tree};
-ghost use Rattle.candidate_ir.specs.Kinds.{arg_kind};
-ghost use Rattle.candidate_ir.specs.Opening.{bound_head, is_bound_variable, error_of, of_kind, opened, opened_clause, opened_head, opened_tree, opened_variable, under_variables};
-ghost use Rattle.candidate_ir.specs.Substitutions.{alone};
-ghost use Rattle.candidate_ir.specs.Nodes.{kind_at, tree_at};
-ghost use Rattle.candidate_ir.specs.Trees.{is_list_kind, none, row};
-ghost use Rattle.candidate_ir.specs.Words.{IsArgs, IsClause, IsVars, args_forest, binder_tree, clause_tree, vars_tree};
+ghost use Rattle.candidate_ir.specs.Declarations.Context.{Grows, parameter_kind};
+ghost use Rattle.candidate_ir.specs.Instantiation.Folding.{leaf, argument, shift_tree, fold_tree, IsSubstStop, IsAnswerStop};
+ghost use Rattle.candidate_ir.specs.Instantiation.Folds.{IsArg, IsOfKind, arg_tree};
+ghost use Rattle.candidate_ir.specs.Syntax.Kinds.{arg_kind};
+ghost use Rattle.candidate_ir.specs.Instantiation.Opening.{bound_head, is_bound_variable, error_of, of_kind, opened, opened_clause, opened_head, opened_tree, opened_variable, under_variables};
+ghost use Rattle.candidate_ir.specs.Unification.Substitutions.{alone};
+ghost use Rattle.candidate_ir.specs.Syntax.Nodes.{kind_at, tree_at};
+ghost use Rattle.candidate_ir.specs.Syntax.Trees.{is_list_kind, none, row};
+ghost use Rattle.candidate_ir.specs.Syntax.Words.{IsArgs, IsClause, IsVars, args_forest, binder_tree, clause_tree, vars_tree};
 
 use crate::decl::context::Cx;
 use crate::decl::elaborate::add_kinds;

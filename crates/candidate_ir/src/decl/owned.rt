@@ -1,17 +1,17 @@
 //! What a definition holds, where arguments are given for its parameters: each parameter has one of its kind.
 
 ghost use Rattle.std.specs.Prelude.{◌≡◌, [], None, Some, false, All, IfSome, map, option_copied};
-ghost use Rattle.candidate_ir.specs.Context.{parameter_kind, world};
-ghost use Rattle.candidate_ir.specs.Declaring.{adt_at, bounds_at, impl_at, trait_at};
-ghost use Rattle.candidate_ir.specs.Folding.{lacks_argument};
-ghost use Rattle.candidate_ir.specs.Lookups as lookup;
-ghost use Rattle.candidate_ir.specs.Owned.{AliasArgumentsFit, ClausesAreOwned, ImplIsOwned, bounds_among, is_unsolved};
-ghost use Rattle.candidate_ir.specs.References.{ArgumentsFit};
-ghost use Rattle.candidate_ir.specs.Trees.{tree_holds};
-ghost use Rattle.candidate_ir.specs.Signatures.{SignatureHas};
-ghost use Rattle.candidate_ir.specs.WellFormed.{ImplIsGiven, SignatureFits, TypesFit};
-ghost use Rattle.candidate_ir.specs.Words.{IsTy, args_forest, ty_tree};
-ghost use Rattle.candidate_ir.specs.Worlds.{AdtSort, FunctionSort, OpaqueSort, parameters, kinds_of};
+ghost use Rattle.candidate_ir.specs.Declarations.Context.{parameter_kind, world};
+ghost use Rattle.candidate_ir.specs.Declarations.Declaring.{adt_at, bounds_at, impl_at, trait_at};
+ghost use Rattle.candidate_ir.specs.Instantiation.Folding.{lacks_argument};
+ghost use Rattle.candidate_ir.specs.Declarations.Lookups as lookup;
+ghost use Rattle.candidate_ir.specs.Instantiation.Owned.{AliasArgumentsFit, ClausesAreOwned, ImplIsOwned, bounds_among, is_unsolved};
+ghost use Rattle.candidate_ir.specs.Declarations.References.{ArgumentsFit};
+ghost use Rattle.candidate_ir.specs.Syntax.Trees.{tree_holds};
+ghost use Rattle.candidate_ir.specs.Instantiation.Signatures.{SignatureHas};
+ghost use Rattle.candidate_ir.specs.Validity.WellFormed.{ImplIsGiven, SignatureFits, TypesFit};
+ghost use Rattle.candidate_ir.specs.Syntax.Words.{IsTy, args_forest, ty_tree};
+ghost use Rattle.candidate_ir.specs.Declarations.Worlds.{AdtSort, FunctionSort, OpaqueSort, parameters, kinds_of};
 
 use crate::decl::contents::{AliasBoundKind, Impl, ImplId, Sizedness};
 use crate::decl::context::Cx;

@@ -1,11 +1,11 @@
 //! Whether each parameter has an argument of its kind: the condition of a substitution.
 
 ghost use Rattle.std.specs.Prelude.{◌≡◌, ◌<◌, ◌↔◌, IsTrue, false, true, length, nat_lt};
-ghost use Rattle.candidate_ir.specs.Folding.{argument, lacks_argument};
-ghost use Rattle.candidate_ir.specs.Nodes.{tree_at, kind_at};
-ghost use Rattle.candidate_ir.specs.Context.{parameter_kind};
-ghost use Rattle.candidate_ir.specs.Trees.{count, holds, is_list_kind, kind_of, tree_holds};
-ghost use Rattle.candidate_ir.specs.Words.{IsArgs, args_forest};
+ghost use Rattle.candidate_ir.specs.Instantiation.Folding.{argument, lacks_argument};
+ghost use Rattle.candidate_ir.specs.Syntax.Nodes.{tree_at, kind_at};
+ghost use Rattle.candidate_ir.specs.Declarations.Context.{parameter_kind};
+ghost use Rattle.candidate_ir.specs.Syntax.Trees.{count, holds, is_list_kind, kind_of, tree_holds};
+ghost use Rattle.candidate_ir.specs.Syntax.Words.{IsArgs, args_forest};
 
 use crate::decl::context::Cx;
 use crate::ir::heads::{ConstHead, Head};

@@ -3,11 +3,11 @@
 
 ghost use Rattle.std.specs.Prelude.{◌≡◌, IsTrue, ◌<◌, false, length, slice_get, option_copied};
 ghost use Rattle.std.specs.List.{list_any};
-ghost use Rattle.candidate_ir.specs.Misplaced.{is_not_given, with_self, kinds_of_declared, kinds_of_impl};
-ghost use Rattle.candidate_ir.specs.Nodes.{tree_at};
-ghost use Rattle.candidate_ir.specs.Parameters.{kinds_of};
-ghost use Rattle.candidate_ir.specs.Plain.{is_doubtful, is_type, ty_is_plain, node_is_plain, TreeIsPlain, HeldIsPlain, AllArePlain};
-ghost use Rattle.candidate_ir.specs.Trees.{tree_holds};
+ghost use Rattle.candidate_ir.specs.Validity.Misplaced.{is_not_given, with_self, kinds_of_declared, kinds_of_impl};
+ghost use Rattle.candidate_ir.specs.Syntax.Nodes.{tree_at};
+ghost use Rattle.candidate_ir.specs.Declarations.Parameters.{kinds_of};
+ghost use Rattle.candidate_ir.specs.Calls.Plain.{is_doubtful, is_type, ty_is_plain, node_is_plain, TreeIsPlain, HeldIsPlain, AllArePlain};
+ghost use Rattle.candidate_ir.specs.Syntax.Trees.{tree_holds};
 
 use crate::decl::contents::Impl;
 use crate::decl::definition::{Declaration, Parameters};

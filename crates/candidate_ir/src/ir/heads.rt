@@ -2,12 +2,12 @@
 
 ghost use Rattle.std.specs.Prelude.{◌≡◌, ◌≤◌, ◌↔◌, ◌||◌, IsTrue};
 ghost use Rattle.candidate_ir.specs.declared.ir.heads.Flag.{Flag};
-ghost use Rattle.candidate_ir.specs.Marks.{marked};
-ghost use Rattle.candidate_ir.specs.Flags.{mark};
-ghost use Rattle.candidate_ir.specs.Substitutions.{is_made, is_placeholder_above};
-ghost use Rattle.candidate_ir.specs.Trees.{binders_of, is_number, variable_number};
-ghost use Rattle.candidate_ir.specs.Binders.{is_beyond};
-ghost use Rattle.candidate_ir.specs.Names.{named, names_unknown};
+ghost use Rattle.candidate_ir.specs.Syntax.Marks.{marked};
+ghost use Rattle.candidate_ir.specs.Syntax.Flags.{mark};
+ghost use Rattle.candidate_ir.specs.Unification.Substitutions.{is_made, is_placeholder_above};
+ghost use Rattle.candidate_ir.specs.Syntax.Trees.{binders_of, is_number, variable_number};
+ghost use Rattle.candidate_ir.specs.Syntax.Binders.{is_beyond};
+ghost use Rattle.candidate_ir.specs.Declarations.Names.{named, names_unknown};
 
 use crate::ir::kinds::{
     AdtId, AliasId, AliasKind, AssocId, BoundVar, ClosureId, ClosureKind, FloatTy, FnId, ForeignId,

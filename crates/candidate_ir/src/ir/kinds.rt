@@ -1,9 +1,9 @@
 //! Numbers of nodes, and the kinds of types, constants and regions over them.
 
 ghost use Rattle.std.specs.Prelude.{◌≡◌, ◌↔◌, IsTrue, ◌<◌, Some, [], ◌∷◌, length, slice_get};
-ghost use Rattle.candidate_ir.specs.Context.{parameter_kind};
-ghost use Rattle.candidate_ir.specs.Parameters.{is_type_arg};
-ghost use Rattle.candidate_ir.specs.Kinds.{arg_number, arg_kind, variable_of, ty_head, const_head, pred_head, clause_head, ty_children, pred_children, clause_children, numbers, is_fn_trait_compatible, is_general_variable, is_known_rigid};
+ghost use Rattle.candidate_ir.specs.Declarations.Context.{parameter_kind};
+ghost use Rattle.candidate_ir.specs.Declarations.Parameters.{is_type_arg};
+ghost use Rattle.candidate_ir.specs.Syntax.Kinds.{arg_number, arg_kind, variable_of, ty_head, const_head, pred_head, clause_head, ty_children, pred_children, clause_children, numbers, is_fn_trait_compatible, is_general_variable, is_known_rigid};
 
 use crate::ir::heads::{
     Builtin, ClauseHead, ConstHead, Head, PatternShape, PredHead, Signature, Variable, VariableSort,
@@ -383,7 +383,7 @@ pub enum RegionKind {
 }
 
 impl VarKind {
-    ghost use Rattle.candidate_ir.specs.Misplaced.{is_same_kind};
+    ghost use Rattle.candidate_ir.specs.Validity.Misplaced.{is_same_kind};
 
     pub(crate) fn is_same(self, other: VarKind) -> bool
         ensures { result ≡ is_same_kind self other }

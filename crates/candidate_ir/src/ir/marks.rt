@@ -1,11 +1,11 @@
 //! Whether something marked stands anywhere in a tree.
 
 ghost use Rattle.std.specs.Prelude.{◌≡◌, Bool, false, length, ◌<◌, refl};
-ghost use Rattle.candidate_ir.specs.Flags.{mark, mark_of_list};
-ghost use Rattle.candidate_ir.specs.Owned.{is_unsolved};
-ghost use Rattle.candidate_ir.specs.Nodes.{tree_at, head_of};
-ghost use Rattle.candidate_ir.specs.Substitutions.{is_made, is_placeholder_above};
-ghost use Rattle.candidate_ir.specs.Trees.{is_number, tree_holds};
+ghost use Rattle.candidate_ir.specs.Syntax.Flags.{mark, mark_of_list};
+ghost use Rattle.candidate_ir.specs.Instantiation.Owned.{is_unsolved};
+ghost use Rattle.candidate_ir.specs.Syntax.Nodes.{tree_at, head_of};
+ghost use Rattle.candidate_ir.specs.Unification.Substitutions.{is_made, is_placeholder_above};
+ghost use Rattle.candidate_ir.specs.Syntax.Trees.{is_number, tree_holds};
 ghost use Rattle.candidate_ir.specs.declared.ir.heads.Head.{Head as Heads};
 ghost use Rattle.candidate_ir.specs.declared.ir.heads.Head.TheVariants as H;
 ghost use Rattle.candidate_ir.specs.declared.ir.heads.ListHead.{ListHead};

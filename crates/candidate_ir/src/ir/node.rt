@@ -1,11 +1,11 @@
 //! One node of the table.
 
 ghost use Rattle.std.specs.Prelude.{◌≡◌, ◌<◌, Some, length, slice_get, IsTrue, ◌↔◌};
-ghost use Rattle.candidate_ir.specs.Kinds.{numbers};
-ghost use Rattle.candidate_ir.specs.Shapes.{child_numbers};
-ghost use Rattle.candidate_ir.specs.Names.{names_unknown};
-ghost use Rattle.candidate_ir.specs.Nodes.{head_of, children_of};
-ghost use Rattle.candidate_ir.specs.Trees.{is_list};
+ghost use Rattle.candidate_ir.specs.Syntax.Kinds.{numbers};
+ghost use Rattle.candidate_ir.specs.Syntax.Shapes.{child_numbers};
+ghost use Rattle.candidate_ir.specs.Declarations.Names.{names_unknown};
+ghost use Rattle.candidate_ir.specs.Syntax.Nodes.{head_of, children_of};
+ghost use Rattle.candidate_ir.specs.Syntax.Trees.{is_list};
 
 use crate::ir::heads::{Head, ListHead, Marks, PartHead};
 use crate::ir::kinds::{
@@ -142,7 +142,7 @@ impl Node {
 
 /// Nodes are equal where their heads and the numbers of their children are: over one table, where their trees are.
 impl PartialEq for Node {
-    ghost use Rattle.candidate_ir.specs.Shapes.{same_shape, same_shape_per};
+    ghost use Rattle.candidate_ir.specs.Syntax.Shapes.{same_shape, same_shape_per};
 
     ghost eq = { same_shape };
 
@@ -154,13 +154,13 @@ impl PartialEq for Node {
 }
 
 impl Eq for Node {
-    ghost use Rattle.candidate_ir.specs.Shapes.{same_shape_equiv};
+    ghost use Rattle.candidate_ir.specs.Syntax.Shapes.{same_shape_equiv};
 
     ghost laws = { same_shape_equiv };
 }
 
 impl Hash for Node {
-    ghost use Rattle.candidate_ir.specs.Shapes.{shape_input, shape_alike};
+    ghost use Rattle.candidate_ir.specs.Syntax.Shapes.{shape_input, shape_alike};
 
     ghost hash_input = { shape_input };
 

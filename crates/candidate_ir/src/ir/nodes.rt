@@ -1,15 +1,15 @@
 //! The table of nodes, which contracts see as the list of their trees.
 
 ghost use Rattle.std.specs.Prelude.{◌≡◌, ◌++◌, ◌∷◌, [], ◌+◌, ◌<◌, ◌≤◌, length, take, map, IfOk, IfErr, MatchOption};
-ghost use Rattle.candidate_ir.specs.Trees.{height, heights, kind_of};
-ghost use Rattle.candidate_ir.specs.Nodes.{tree_at, kind_at, node_tree, head_of, Fits, Extends, AreLeaves};
-ghost use Rattle.candidate_ir.specs.Table.{IsNodeOf, IsRow, IsNew, HasOnePrincipal};
-ghost use Rattle.candidate_ir.specs.Marks.{AreMarks};
-ghost use Rattle.candidate_ir.specs.Names.{principals};
-ghost use Rattle.candidate_ir.specs.Worlds.{World};
-ghost use Rattle.candidate_ir.specs.Making.{Adds, a_list, a_binder, some_bounds, what};
-ghost use Rattle.candidate_ir.specs.References.{Takes, AllTake, AllFit};
-ghost use Rattle.candidate_ir.specs.Words.{IsTy, IsConst, IsRegion, IsArgs, IsPreds, IsSig, IsClause, IsParamEnv, IsVars, ty_tree, const_tree, region_tree, args_forest, preds_forest, sig_tree, clause_tree, env_forest, vars_tree, KindFits, ConstKindFits, ListFits, PredListFits, VarListFits, PredFits, SigFits, ClauseFits, ClauseListFits, kind_tree, const_kind_tree, region_kind_tree, list_forest, pred_list_forest, pred_kind_tree, sig_kind_tree, clause_kind_tree, clause_list_forest, vars_kind_tree, BoundsFit, AtMostOnePrincipal, bounds_forest, binder_tree, IsMkStop, IsMkListStop};
+ghost use Rattle.candidate_ir.specs.Syntax.Trees.{height, heights, kind_of};
+ghost use Rattle.candidate_ir.specs.Syntax.Nodes.{tree_at, kind_at, node_tree, head_of, Fits, Extends, AreLeaves};
+ghost use Rattle.candidate_ir.specs.Syntax.Table.{IsNodeOf, IsRow, IsNew, HasOnePrincipal};
+ghost use Rattle.candidate_ir.specs.Syntax.Marks.{AreMarks};
+ghost use Rattle.candidate_ir.specs.Declarations.Names.{principals};
+ghost use Rattle.candidate_ir.specs.Declarations.Worlds.{World};
+ghost use Rattle.candidate_ir.specs.Syntax.Making.{Adds, a_list, a_binder, some_bounds, what};
+ghost use Rattle.candidate_ir.specs.Declarations.References.{Takes, AllTake, AllFit};
+ghost use Rattle.candidate_ir.specs.Syntax.Words.{IsTy, IsConst, IsRegion, IsArgs, IsPreds, IsSig, IsClause, IsParamEnv, IsVars, ty_tree, const_tree, region_tree, args_forest, preds_forest, sig_tree, clause_tree, env_forest, vars_tree, KindFits, ConstKindFits, ListFits, PredListFits, VarListFits, PredFits, SigFits, ClauseFits, ClauseListFits, kind_tree, const_kind_tree, region_kind_tree, list_forest, pred_list_forest, pred_kind_tree, sig_kind_tree, clause_kind_tree, clause_list_forest, vars_kind_tree, BoundsFit, AtMostOnePrincipal, bounds_forest, binder_tree, IsMkStop, IsMkListStop};
 
 use crate::ir::heads::Marks;
 use crate::ir::kinds::{
@@ -32,10 +32,10 @@ pub(crate) struct Nodes {
 impl Model for Nodes {
     ghost use Rattle.std.specs.Prelude.{List, [], length, ◌≤◌};
     ghost use Rattle.std.specs.Coded.{coded_list};
-    ghost use Rattle.candidate_ir.specs.Trees.{Tree};
-    ghost use Rattle.candidate_ir.specs.TreeCode.{tree_code};
+    ghost use Rattle.candidate_ir.specs.Syntax.Trees.{Tree};
+    ghost use Rattle.candidate_ir.specs.Laws.TreeCode.{tree_code};
     ghost use Rattle.candidate_ir.specs.contracts.ir.heads.Head as head;
-    ghost use Rattle.candidate_ir.specs.Table.{trees_after, AreRows, AreDistinct};
+    ghost use Rattle.candidate_ir.specs.Syntax.Table.{trees_after, AreRows, AreDistinct};
 
     ghost Value = { List Tree };
 

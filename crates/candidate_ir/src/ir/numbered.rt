@@ -1,9 +1,9 @@
 //! Numbers whose type says what stands there.
 
 ghost use Rattle.std.specs.Prelude.{◌≡◌, ℕ, true, false, refl};
-ghost use Rattle.candidate_ir.specs.Kinds.{arg_kind, arg_number, arg_there};
-ghost use Rattle.candidate_ir.specs.Nodes.{arg_unbound, is_bound_kind};
-ghost use Rattle.candidate_ir.specs.Trees.{Kind, TypeKind, ConstantKind, RegionKind, SignatureKind, ArgumentsKind, ClauseKind, ClausesKind, there};
+ghost use Rattle.candidate_ir.specs.Syntax.Kinds.{arg_kind, arg_number, arg_there};
+ghost use Rattle.candidate_ir.specs.Syntax.Nodes.{arg_unbound, is_bound_kind};
+ghost use Rattle.candidate_ir.specs.Syntax.Trees.{Kind, TypeKind, ConstantKind, RegionKind, SignatureKind, ArgumentsKind, ClauseKind, ClausesKind, there};
 
 use crate::ir::kinds::{Args, Clause, Const, GenericArg, ParamEnv, Region, Sig, Ty};
 

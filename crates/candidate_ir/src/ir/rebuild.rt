@@ -1,8 +1,8 @@
 //! Nodes like others, over other children.
 
 ghost use Rattle.std.specs.Prelude.{◌≡◌, true, length, IfOk, map};
-ghost use Rattle.candidate_ir.specs.Kinds.{numbers, numbers as child_numbers, sorts, arg_child, ty_head, ty_children, const_head, const_children, pred_head, pred_children, clause_head, clause_children, sig_children};
-ghost use Rattle.candidate_ir.specs.Nodes.{head_of, children_of, is_rebuilt, clause_child};
+ghost use Rattle.candidate_ir.specs.Syntax.Kinds.{numbers, numbers as child_numbers, sorts, arg_child, ty_head, ty_children, const_head, const_children, pred_head, pred_children, clause_head, clause_children, sig_children};
+ghost use Rattle.candidate_ir.specs.Syntax.Nodes.{head_of, children_of, is_rebuilt, clause_child};
 
 use crate::ir::kinds::{
     AliasTerm, AliasTy, Args, Binder, Clause, ClauseKind, ClosureArgs, ClosureSig, Const,

@@ -1,20 +1,20 @@
 //! What numbers stand for.
 
 ghost use Rattle.std.specs.Prelude.{◌≡◌, ◌↔◌, ◌≤◌, ◌<◌, IsTrue, List, MatchOption, false, true, length, suc};
-ghost use Rattle.candidate_ir.specs.Binders.{escapes, tree_escapes};
-ghost use Rattle.candidate_ir.specs.Flags.{mark};
-ghost use Rattle.candidate_ir.specs.Folds.{is_asked, IsArg, arg_tree};
-ghost use Rattle.candidate_ir.specs.Marks.{AreMarks};
-ghost use Rattle.candidate_ir.specs.Kinds.{arg_number, numbers, pred_children};
-ghost use Rattle.candidate_ir.specs.Names.{principal_of, principals};
-ghost use Rattle.candidate_ir.specs.Nodes.{tree_at, kind_at};
-ghost use Rattle.candidate_ir.specs.Substitutions.{alone, is_placeholder_above};
-ghost use Rattle.candidate_ir.specs.Table.{AreDistinct, Below, IsNodeOf};
-ghost use Rattle.candidate_ir.specs.Trees.{Tree, PredicateKind, holds, is_list_kind, is_number, is_param, none, skip, tree, tree_holds, variable_number};
-ghost use Rattle.candidate_ir.specs.TypeFlags.{type_flags};
-ghost use Rattle.candidate_ir.specs.Unify.{may_unify, trees_may_unify, NoCommonInstance};
-ghost use Rattle.candidate_ir.specs.Words.{IsTy, IsConst, IsRegion, IsArgs, IsPreds, IsPred, IsSig, IsClause, IsParamEnv, IsVars, IsVar, ty_tree, const_tree, region_tree, args_forest, preds_forest, pred_tree, sig_tree, clause_tree, env_forest, vars_tree, var_tree, KindFits, ConstKindFits, ListFits, PredListFits, PredFits, SigFits, ClauseFits, ClauseListFits, VarListFits, kind_tree, const_kind_tree, region_kind_tree, list_forest, pred_list_forest, pred_kind_tree, sig_kind_tree, clause_kind_tree, clause_list_forest, vars_kind_tree, var_kind_tree};
-ghost use Rattle.candidate_ir.specs.Worlds.{all_of, kinds_of};
+ghost use Rattle.candidate_ir.specs.Syntax.Binders.{escapes, tree_escapes};
+ghost use Rattle.candidate_ir.specs.Syntax.Flags.{mark};
+ghost use Rattle.candidate_ir.specs.Instantiation.Folds.{is_asked, IsArg, arg_tree};
+ghost use Rattle.candidate_ir.specs.Syntax.Marks.{AreMarks};
+ghost use Rattle.candidate_ir.specs.Syntax.Kinds.{arg_number, numbers, pred_children};
+ghost use Rattle.candidate_ir.specs.Declarations.Names.{principal_of, principals};
+ghost use Rattle.candidate_ir.specs.Syntax.Nodes.{tree_at, kind_at};
+ghost use Rattle.candidate_ir.specs.Unification.Substitutions.{alone, is_placeholder_above};
+ghost use Rattle.candidate_ir.specs.Syntax.Table.{AreDistinct, Below, IsNodeOf};
+ghost use Rattle.candidate_ir.specs.Syntax.Trees.{Tree, PredicateKind, holds, is_list_kind, is_number, is_param, none, skip, tree, tree_holds, variable_number};
+ghost use Rattle.candidate_ir.specs.Syntax.TypeFlags.{type_flags};
+ghost use Rattle.candidate_ir.specs.Unification.Unify.{may_unify, trees_may_unify, NoCommonInstance};
+ghost use Rattle.candidate_ir.specs.Syntax.Words.{IsTy, IsConst, IsRegion, IsArgs, IsPreds, IsPred, IsSig, IsClause, IsParamEnv, IsVars, IsVar, ty_tree, const_tree, region_tree, args_forest, preds_forest, pred_tree, sig_tree, clause_tree, env_forest, vars_tree, var_tree, KindFits, ConstKindFits, ListFits, PredListFits, PredFits, SigFits, ClauseFits, ClauseListFits, VarListFits, kind_tree, const_kind_tree, region_kind_tree, list_forest, pred_list_forest, pred_kind_tree, sig_kind_tree, clause_kind_tree, clause_list_forest, vars_kind_tree, var_kind_tree};
+ghost use Rattle.candidate_ir.specs.Declarations.Worlds.{all_of, kinds_of};
 
 use crate::ir::flags::{TypeFlags, bit_if};
 use crate::ir::heads::{Flag, Head, Marks};

@@ -2,9 +2,9 @@
 
 ghost use Rattle.std.specs.Prelude.{◌≡◌, ◌<◌, Bool, None, length};
 ghost use Rattle.std.specs.Option.{unwrap_or};
-ghost use Rattle.candidate_ir.specs.Nodes.{tree_at};
-ghost use Rattle.candidate_ir.specs.Substitutions.{is_integer, is_float};
-ghost use Rattle.candidate_ir.specs.Unify.{meets_any, meets_any_on_right, is_variable_of, pair_may, trees_may_unify};
+ghost use Rattle.candidate_ir.specs.Syntax.Nodes.{tree_at};
+ghost use Rattle.candidate_ir.specs.Unification.Substitutions.{is_integer, is_float};
+ghost use Rattle.candidate_ir.specs.Unification.Unify.{meets_any, meets_any_on_right, is_variable_of, pair_may, trees_may_unify};
 
 use crate::ir::heads::{Builtin, ConstHead, Flag, Head, VariableSort};
 use crate::ir::trees::Trees;

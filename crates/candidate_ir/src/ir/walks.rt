@@ -1,9 +1,9 @@
 //! Walks over the trees of numbers. A tree that stands in several places is walked in each.
 
 ghost use Rattle.std.specs.Prelude.{◌≡◌, ◌+◌, ◌<◌, length};
-ghost use Rattle.candidate_ir.specs.Binders.{tree_escapes};
-ghost use Rattle.candidate_ir.specs.Nodes.{tree_at};
-ghost use Rattle.candidate_ir.specs.Places.{IsPart, width_at};
+ghost use Rattle.candidate_ir.specs.Syntax.Binders.{tree_escapes};
+ghost use Rattle.candidate_ir.specs.Syntax.Nodes.{tree_at};
+ghost use Rattle.candidate_ir.specs.Calls.Places.{IsPart, width_at};
 
 use crate::ir::trees::Trees;
 

@@ -1,22 +1,22 @@
 //! Variables that get values.
 
 ghost use Rattle.std.specs.Prelude.{◌≡◌, ◌≤◌, true, false, [], None, Ok, IfOk, IfErr, OnOk, length, slice_get};
-ghost use Rattle.candidate_ir.specs.Context.{Grows};
-ghost use Rattle.candidate_ir.specs.Folds.{IsArg, arg_tree};
-ghost use Rattle.candidate_ir.specs.Substitutions.{alone, fits_sort, same_variable};
-ghost use Rattle.candidate_ir.specs.Trees.{is_number, tree_holds};
-ghost use Rattle.candidate_ir.specs.Unify.{same_head};
-ghost use Rattle.candidate_ir.specs.Words.{IsClause, IsRegion, clause_tree, region_tree};
-ghost use Rattle.candidate_eval.specs.Soundness.{IsResolved};
-ghost use Rattle.candidate_eval.specs.States.{value_of, valued_tree};
+ghost use Rattle.candidate_ir.specs.Declarations.Context.{Grows};
+ghost use Rattle.candidate_ir.specs.Instantiation.Folds.{IsArg, arg_tree};
+ghost use Rattle.candidate_ir.specs.Unification.Substitutions.{alone, fits_sort, same_variable};
+ghost use Rattle.candidate_ir.specs.Syntax.Trees.{is_number, tree_holds};
+ghost use Rattle.candidate_ir.specs.Unification.Unify.{same_head};
+ghost use Rattle.candidate_ir.specs.Syntax.Words.{IsClause, IsRegion, clause_tree, region_tree};
+ghost use Rattle.candidate_eval.specs.Judges.Soundness.{IsResolved};
+ghost use Rattle.candidate_eval.specs.Judges.States.{value_of, valued_tree};
 ghost use Rattle.candidate_eval.specs.declared.eval.mode.TypingMode.{TypingMode};
 ghost use Rattle.candidate_eval.specs.declared.eval.variable.VariableKind.TheVariants.{Term};
-ghost use Rattle.candidate_rounds.specs.Assigning.{IsRoom, allows, single_arg, with_info, with_its_value, with_its_universe, with_universes, with_values};
-ghost use Rattle.rounds_judge.specs.Binding.{may_take, bound, single};
-ghost use Rattle.rounds_judge.specs.Equating.{outlives, with_equal_regions};
-ghost use Rattle.candidate_rounds.specs.Inferences.{IsFullAt, IsFurther, is_of_kind, back_to, record_region};
-ghost use Rattle.candidate_rounds.specs.Stopping.{IsBindingStop, IsRegionsStop, IsRenewalStop, IsTreeStop};
-ghost use Rattle.candidate_rounds.specs.Known.{AreMarks, GoesOn, HasResolvedValues, IsConsistent, IsEvaluator, is_open, state, state_of};
+ghost use Rattle.candidate_rounds.specs.Calls.Assigning.{IsRoom, allows, single_arg, with_info, with_its_value, with_its_universe, with_universes, with_values};
+ghost use Rattle.rounds_judge.specs.Equations.Binding.{may_take, bound, single};
+ghost use Rattle.rounds_judge.specs.Equations.Equating.{outlives, with_equal_regions};
+ghost use Rattle.candidate_rounds.specs.Evaluators.Inferences.{IsFullAt, IsFurther, is_of_kind, back_to, record_region};
+ghost use Rattle.candidate_rounds.specs.Evaluators.Stopping.{IsBindingStop, IsRegionsStop, IsRenewalStop, IsTreeStop};
+ghost use Rattle.candidate_rounds.specs.Evaluators.Known.{AreMarks, GoesOn, HasResolvedValues, IsConsistent, IsEvaluator, is_open, state, state_of};
 
 use crate::rounds::Rounds;
 use crate::rounds::inference::Inference;

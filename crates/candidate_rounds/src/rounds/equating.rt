@@ -1,22 +1,22 @@
 //! Trees are made equal: what is first on both sides is looked at, and then what is left.
 
 ghost use Rattle.std.specs.Prelude.{◌≡◌, ◌<◌, ◌⊎◌, Some, None, List, [], ◌∷◌, ◌++◌, IfOk, IfErr, OnOk, OnErr, MatchOption, length, reverse, suc, ◌&&◌, false, true};
-ghost use Rattle.candidate_ir.specs.Folds.{IsArg, arg_tree};
-ghost use Rattle.candidate_ir.specs.Nodes.{tree_at};
-ghost use Rattle.candidate_ir.specs.Substitutions.{alone};
-ghost use Rattle.candidate_ir.specs.Trees.{none, skip, tree};
-ghost use Rattle.candidate_ir.specs.Unify.{same_head};
-ghost use Rattle.candidate_ir.specs.Words.{IsArgs, IsRegion, args_forest, region_tree};
-ghost use Rattle.candidate_eval.specs.Soundness.{is_region};
-ghost use Rattle.candidate_eval.specs.Evaluators.{resolved_root, root_value};
-ghost use Rattle.candidate_eval.specs.States.{resolved_tree};
-ghost use Rattle.rounds_judge.specs.Equating.{Pair, Left, Refused, equated, looks, matched, met, offered, unified, visited, with_equal_regions};
-ghost use Rattle.candidate_rounds.specs.Frames.{AreFrames, IsFrame, pair_of, pairs_of, taken_if, with_binder};
-ghost use Rattle.candidate_rounds.specs.Inferences.{IsFullAt};
-ghost use Rattle.candidate_rounds.specs.Known.{GoesOn, listing, state};
-ghost use Rattle.candidate_rounds.specs.Stopping.{IsEqualityStop, IsEquationStop, IsLookStop, IsMatchStop, IsMeetingStop, IsOfferStop, IsTreeStop, IsUnifyingStop, StopsAsBefore};
-ghost use Rattle.rounds_judge.specs.Listed.{current};
-ghost use Rattle.rounds_judge.specs.Scopes.{entered, has_binder, has_variables, placed_tree, scope_below};
+ghost use Rattle.candidate_ir.specs.Instantiation.Folds.{IsArg, arg_tree};
+ghost use Rattle.candidate_ir.specs.Syntax.Nodes.{tree_at};
+ghost use Rattle.candidate_ir.specs.Unification.Substitutions.{alone};
+ghost use Rattle.candidate_ir.specs.Syntax.Trees.{none, skip, tree};
+ghost use Rattle.candidate_ir.specs.Unification.Unify.{same_head};
+ghost use Rattle.candidate_ir.specs.Syntax.Words.{IsArgs, IsRegion, args_forest, region_tree};
+ghost use Rattle.candidate_eval.specs.Judges.Soundness.{is_region};
+ghost use Rattle.candidate_eval.specs.Interface.Evaluators.{resolved_root, root_value};
+ghost use Rattle.candidate_eval.specs.Judges.States.{resolved_tree};
+ghost use Rattle.rounds_judge.specs.Equations.Equating.{Pair, Left, Refused, equated, looks, matched, met, offered, unified, visited, with_equal_regions};
+ghost use Rattle.candidate_rounds.specs.Calls.Frames.{AreFrames, IsFrame, pair_of, pairs_of, taken_if, with_binder};
+ghost use Rattle.candidate_rounds.specs.Evaluators.Inferences.{IsFullAt};
+ghost use Rattle.candidate_rounds.specs.Evaluators.Known.{GoesOn, listing, state};
+ghost use Rattle.candidate_rounds.specs.Evaluators.Stopping.{IsEqualityStop, IsEquationStop, IsLookStop, IsMatchStop, IsMeetingStop, IsOfferStop, IsTreeStop, IsUnifyingStop, StopsAsBefore};
+ghost use Rattle.rounds_judge.specs.Aliases.Listed.{current};
+ghost use Rattle.rounds_judge.specs.Equations.Scopes.{entered, has_binder, has_variables, placed_tree, scope_below};
 
 use crate::rounds::Rounds;
 use crate::rounds::resolving::variable_at;

@@ -1,13 +1,13 @@
 //! Trees that stand for parameters and for what binders bind.
 
 ghost use Rattle.std.specs.Prelude.{◌≡◌, ◌+◌, ◌<◌, ◌^◌, IfErr, IfOk, length};
-ghost use Rattle.candidate_rounds.specs.Inferences.{IsFullAt};
-ghost use Rattle.candidate_ir.specs.Context.{Grows, parameter_kind};
-ghost use Rattle.candidate_ir.specs.Folds.{IsArg, arg_tree};
-ghost use Rattle.candidate_ir.specs.Nodes.{rows};
-ghost use Rattle.candidate_ir.specs.Words.{IsArgs, args_forest};
-ghost use Rattle.candidate_eval.specs.States.{variable, variable_kind};
-ghost use Rattle.candidate_rounds.specs.Leaves.{leaf_of, all_leaves, last_number};
+ghost use Rattle.candidate_rounds.specs.Evaluators.Inferences.{IsFullAt};
+ghost use Rattle.candidate_ir.specs.Declarations.Context.{Grows, parameter_kind};
+ghost use Rattle.candidate_ir.specs.Instantiation.Folds.{IsArg, arg_tree};
+ghost use Rattle.candidate_ir.specs.Syntax.Nodes.{rows};
+ghost use Rattle.candidate_ir.specs.Syntax.Words.{IsArgs, args_forest};
+ghost use Rattle.candidate_eval.specs.Judges.States.{variable, variable_kind};
+ghost use Rattle.candidate_rounds.specs.Calls.Leaves.{leaf_of, all_leaves, last_number};
 
 use candidate_eval::eval::variable::VariableKind;
 use candidate_ir::decl::context::Cx;

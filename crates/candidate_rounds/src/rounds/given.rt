@@ -2,9 +2,9 @@
 
 ghost use Rattle.std.specs.Prelude.{◌≡◌, ◌↔◌, IsTrue};
 ghost use Rattle.candidate_ir.specs.declared.ir.kinds.TyKind.TheVariants as K;
-ghost use Rattle.candidate_ir.specs.Words.{IsArgs, IsTy, kind_tree, ty_tree};
-ghost use Rattle.rounds_judge.specs.WellListed.{is_fixed, may_be_listed};
-ghost use Rattle.candidate_rounds.specs.Known.{MayBeHidden};
+ghost use Rattle.candidate_ir.specs.Syntax.Words.{IsArgs, IsTy, kind_tree, ty_tree};
+ghost use Rattle.rounds_judge.specs.Aliases.WellListed.{is_fixed, may_be_listed};
+ghost use Rattle.candidate_rounds.specs.Evaluators.Known.{MayBeHidden};
 
 use crate::rounds::values::is_alias;
 use candidate_ir::decl::context::Cx;

@@ -2,22 +2,22 @@
 
 ghost use Rattle.std.specs.Prelude.{◌≡◌, ◌+◌, true, map, None, Some, IfErr, IfOk, OnOk, option_map, length};
 ghost use Rattle.candidate_ir.specs.declared.ir.stop.Stop.{Stop};
-ghost use Rattle.candidate_ir.specs.Context.{Grows};
-ghost use Rattle.candidate_ir.specs.Folds.{IsArg, IsOfKind, arg_tree};
-ghost use Rattle.candidate_ir.specs.Folding.{IsSubstStop};
-ghost use Rattle.candidate_ir.specs.Nodes.{kind_at, tree_at};
-ghost use Rattle.candidate_ir.specs.Substitutions.{row_of};
-ghost use Rattle.candidate_ir.specs.Trees.{is_list_kind, is_number};
-ghost use Rattle.candidate_ir.specs.Words.{ClauseListFits, IsArgs, IsClause, ListFits, args_forest, clause_tree, list_forest};
-ghost use Rattle.candidate_eval.specs.ResponseTrees.{IsResponse, response_of};
-ghost use Rattle.candidate_eval.specs.States.{valued, valued_tree};
-ghost use Rattle.candidate_rounds.specs.Giving.{AreConstraintsStop, IsConstraintStop, IsNamingStop, IsPutStop, with_constraints};
-ghost use Rattle.candidate_rounds.specs.Goals.{IsTraitGoal, key_seen};
-ghost use Rattle.candidate_rounds.specs.Inferences.{IsFullAt};
-ghost use Rattle.candidate_rounds.specs.Known.{GoesOn, listing, state};
-ghost use Rattle.candidate_rounds.specs.Stopping.{IsGivingStop, named_for};
-ghost use Rattle.rounds_judge.specs.Settling.{recorded};
-ghost use Rattle.rounds_judge.specs.TableSettling.{by_numbers, given, own_variable, variables_row, with_open};
+ghost use Rattle.candidate_ir.specs.Declarations.Context.{Grows};
+ghost use Rattle.candidate_ir.specs.Instantiation.Folds.{IsArg, IsOfKind, arg_tree};
+ghost use Rattle.candidate_ir.specs.Instantiation.Folding.{IsSubstStop};
+ghost use Rattle.candidate_ir.specs.Syntax.Nodes.{kind_at, tree_at};
+ghost use Rattle.candidate_ir.specs.Unification.Substitutions.{row_of};
+ghost use Rattle.candidate_ir.specs.Syntax.Trees.{is_list_kind, is_number};
+ghost use Rattle.candidate_ir.specs.Syntax.Words.{ClauseListFits, IsArgs, IsClause, ListFits, args_forest, clause_tree, list_forest};
+ghost use Rattle.candidate_eval.specs.Outcomes.ResponseTrees.{IsResponse, response_of};
+ghost use Rattle.candidate_eval.specs.Judges.States.{valued, valued_tree};
+ghost use Rattle.candidate_rounds.specs.Calls.Giving.{AreConstraintsStop, IsConstraintStop, IsNamingStop, IsPutStop, with_constraints};
+ghost use Rattle.candidate_rounds.specs.Table.Goals.{IsTraitGoal, key_seen};
+ghost use Rattle.candidate_rounds.specs.Evaluators.Inferences.{IsFullAt};
+ghost use Rattle.candidate_rounds.specs.Evaluators.Known.{GoesOn, listing, state};
+ghost use Rattle.candidate_rounds.specs.Evaluators.Stopping.{IsGivingStop, named_for};
+ghost use Rattle.rounds_judge.specs.Obligations.Settling.{recorded};
+ghost use Rattle.rounds_judge.specs.Table.TableSettling.{by_numbers, given, own_variable, variables_row, with_open};
 
 use crate::rounds::Rounds;
 use crate::rounds::fresh::variable;

@@ -50,7 +50,7 @@ pub(crate) struct Goals {
 }
 
 impl Model for Goals {
-    ghost use Rattle.candidate_rounds.specs.Goals as seen;
+    ghost use Rattle.candidate_rounds.specs.Table.Goals as seen;
 
     ghost Value = { seen.Goals };
 

@@ -3,9 +3,9 @@
 
 ghost use Rattle.std.specs.Prelude.{◌≡◌, ◌+◌, ◌^◌, ◌++◌, ◌∷◌, [], ◌<◌, ◌≤◌, IfOk, IfErr, drop, length, slice_get, Some, None};
 ghost use Rattle.candidate_rounds.specs.declared.rounds.inference.Change.{Change};
-ghost use Rattle.candidate_rounds.specs.Giving.{with_open_variable};
-ghost use Rattle.candidate_rounds.specs.Starting.{started};
-ghost use Rattle.candidate_rounds.specs.Inferences.{Inference, with_variable, with_variables, assign, lower, enter, record_region, add, add_all, begin_pending, before, back_to, with_entry, with_value, with_universe, IsFullAt, IsOutOfRoom, widen};
+ghost use Rattle.candidate_rounds.specs.Calls.Giving.{with_open_variable};
+ghost use Rattle.candidate_rounds.specs.Calls.Starting.{started};
+ghost use Rattle.candidate_rounds.specs.Evaluators.Inferences.{Inference, with_variable, with_variables, assign, lower, enter, record_region, add, add_all, begin_pending, before, back_to, with_entry, with_value, with_universe, IsFullAt, IsOutOfRoom, widen};
 
 use crate::rounds::fresh::variable_kind;
 use candidate_eval::eval::variable::{CanonicalVar, VariableKind};
@@ -63,7 +63,7 @@ pub(crate) struct Inference {
 }
 
 impl Model for Inference {
-    ghost use Rattle.candidate_rounds.specs.Inferences as seen;
+    ghost use Rattle.candidate_rounds.specs.Evaluators.Inferences as seen;
 
     ghost Value = { seen.Inference };
 

@@ -1,9 +1,9 @@
 //! Normal forms.
 
 ghost use Rattle.std.specs.Prelude.{◌≡◌, Some};
-ghost use Rattle.candidate_ir.specs.Words.{IsTy, ty_tree};
-ghost use Rattle.candidate_rounds.specs.Known.{listing};
-ghost use Rattle.rounds_judge.specs.Normalizing.{type_or_itself};
+ghost use Rattle.candidate_ir.specs.Syntax.Words.{IsTy, ty_tree};
+ghost use Rattle.candidate_rounds.specs.Evaluators.Known.{listing};
+ghost use Rattle.rounds_judge.specs.Aliases.Normalizing.{type_or_itself};
 
 use crate::rounds::Rounds;
 use candidate_ir::ir::kinds::{Ty, TyKind};

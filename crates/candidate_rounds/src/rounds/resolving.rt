@@ -1,20 +1,20 @@
 //! What variables stand for.
 
 ghost use Rattle.std.specs.Prelude.{◌≡◌, ◌<◌, length, false, true, Some, None, Ok, MatchOption, IfOk, IfErr};
-ghost use Rattle.candidate_ir.specs.Context.{Grows};
-ghost use Rattle.candidate_ir.specs.Folding.{IsSubstStop};
-ghost use Rattle.candidate_ir.specs.Folds.{IsArg, arg_tree};
-ghost use Rattle.candidate_ir.specs.Kinds.{arg_kind, arg_number};
-ghost use Rattle.candidate_ir.specs.Nodes.{kind_at, tree_at};
-ghost use Rattle.candidate_ir.specs.Substitutions.{alone, row_of};
-ghost use Rattle.candidate_ir.specs.Trees.{RegionKind, TypeKind, is_list_kind};
-ghost use Rattle.candidate_eval.specs.Evaluators.{resolved_root};
-ghost use Rattle.candidate_eval.specs.Soundness.{fits_kind};
-ghost use Rattle.candidate_eval.specs.States.{resolved, resolved_tree, same_kind, value_as};
+ghost use Rattle.candidate_ir.specs.Declarations.Context.{Grows};
+ghost use Rattle.candidate_ir.specs.Instantiation.Folding.{IsSubstStop};
+ghost use Rattle.candidate_ir.specs.Instantiation.Folds.{IsArg, arg_tree};
+ghost use Rattle.candidate_ir.specs.Syntax.Kinds.{arg_kind, arg_number};
+ghost use Rattle.candidate_ir.specs.Syntax.Nodes.{kind_at, tree_at};
+ghost use Rattle.candidate_ir.specs.Unification.Substitutions.{alone, row_of};
+ghost use Rattle.candidate_ir.specs.Syntax.Trees.{RegionKind, TypeKind, is_list_kind};
+ghost use Rattle.candidate_eval.specs.Interface.Evaluators.{resolved_root};
+ghost use Rattle.candidate_eval.specs.Judges.Soundness.{fits_kind};
+ghost use Rattle.candidate_eval.specs.Judges.States.{resolved, resolved_tree, same_kind, value_as};
 ghost use Rattle.candidate_eval.specs.declared.eval.mode.TypingMode.{TypingMode};
-ghost use Rattle.candidate_rounds.specs.Inferences.{kept_at, kept_value};
-ghost use Rattle.candidate_rounds.specs.Known.{Each, IsKnown, SuitsKind, state, state_of};
-ghost use Rattle.candidate_rounds.specs.Lone.{IsLone, has_number, infer_at, is_lone, is_variable, lone_number, lone_value};
+ghost use Rattle.candidate_rounds.specs.Evaluators.Inferences.{kept_at, kept_value};
+ghost use Rattle.candidate_rounds.specs.Evaluators.Known.{Each, IsKnown, SuitsKind, state, state_of};
+ghost use Rattle.candidate_rounds.specs.Calls.Lone.{IsLone, has_number, infer_at, is_lone, is_variable, lone_number, lone_value};
 
 use crate::rounds::Rounds;
 use crate::rounds::inference::Inference;

@@ -2,22 +2,22 @@
 
 ghost use Rattle.std.specs.Prelude.{◌≡◌, ◌<◌, ◌++◌, [], true, Some, None, length, map, slice_get, option_map, IfErr, IfOk, IfSome, MatchOption};
 ghost use Rattle.std.specs.Option.{option_to_list};
-ghost use Rattle.candidate_ir.specs.Context.{Grows};
-ghost use Rattle.candidate_ir.specs.Folds.{IsArg, IsOfKind, arg_tree};
-ghost use Rattle.candidate_ir.specs.Nodes.{kind_at, tree_at};
-ghost use Rattle.candidate_ir.specs.Substitutions.{alone, row_of};
-ghost use Rattle.candidate_ir.specs.Trees.{is_list_kind, variable_number};
-ghost use Rattle.candidate_ir.specs.Words.{ClauseListFits, IsArgs, IsClause, args_forest, clause_tree};
-ghost use Rattle.candidate_eval.specs.ResponseTrees.{IsResponse, response_of};
-ghost use Rattle.candidate_eval.specs.States.{resolved_tree, variable};
+ghost use Rattle.candidate_ir.specs.Declarations.Context.{Grows};
+ghost use Rattle.candidate_ir.specs.Instantiation.Folds.{IsArg, IsOfKind, arg_tree};
+ghost use Rattle.candidate_ir.specs.Syntax.Nodes.{kind_at, tree_at};
+ghost use Rattle.candidate_ir.specs.Unification.Substitutions.{alone, row_of};
+ghost use Rattle.candidate_ir.specs.Syntax.Trees.{is_list_kind, variable_number};
+ghost use Rattle.candidate_ir.specs.Syntax.Words.{ClauseListFits, IsArgs, IsClause, args_forest, clause_tree};
+ghost use Rattle.candidate_eval.specs.Outcomes.ResponseTrees.{IsResponse, response_of};
+ghost use Rattle.candidate_eval.specs.Judges.States.{resolved_tree, variable};
 ghost use Rattle.candidate_eval.specs.declared.eval.mode.TypingMode.{TypingMode};
-ghost use Rattle.candidate_rounds.specs.Gathered.{open_entry, renumbered_at, root_at};
-ghost use Rattle.candidate_rounds.specs.Inferences.{IsFullAt};
-ghost use Rattle.candidate_rounds.specs.Known.{Each, GoesOn, IsKnown, KeepsGiven, SuitsKind, probes, state, state_of};
-ghost use Rattle.candidate_eval.specs.Noting.{IsNotingStop};
-ghost use Rattle.candidate_rounds.specs.Stopping.{AreRenumberingStops, IsNewNumberStop, IsRenumberingStop, IsResponseStop};
-ghost use Rattle.rounds_judge.specs.TableSettling.{are_bare, is_bare};
-ghost use Rattle.rounds_judge.specs.Responding.{constraints, is_seen, place_of, renumbered, renumbered_tree, response, root_values, with_number, with_numbers, with_numbers_of};
+ghost use Rattle.candidate_rounds.specs.Calls.Gathered.{open_entry, renumbered_at, root_at};
+ghost use Rattle.candidate_rounds.specs.Evaluators.Inferences.{IsFullAt};
+ghost use Rattle.candidate_rounds.specs.Evaluators.Known.{Each, GoesOn, IsKnown, KeepsGiven, SuitsKind, probes, state, state_of};
+ghost use Rattle.candidate_eval.specs.Calls.Noting.{IsNotingStop};
+ghost use Rattle.candidate_rounds.specs.Evaluators.Stopping.{AreRenumberingStops, IsNewNumberStop, IsRenumberingStop, IsResponseStop};
+ghost use Rattle.rounds_judge.specs.Table.TableSettling.{are_bare, is_bare};
+ghost use Rattle.rounds_judge.specs.Obligations.Responding.{constraints, is_seen, place_of, renumbered, renumbered_tree, response, root_values, with_number, with_numbers, with_numbers_of};
 
 use crate::rounds::Rounds;
 use crate::rounds::fresh::variable;

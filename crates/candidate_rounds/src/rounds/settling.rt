@@ -2,22 +2,22 @@
 
 ghost use Rattle.std.specs.Prelude.{◌≡◌, ◌++◌, [], IfErr, IfOk, IfSome, None, OnOk, Some};
 ghost use Rattle.std.specs.Option.{option_to_list};
-ghost use Rattle.candidate_ir.specs.Context.{world};
-ghost use Rattle.candidate_ir.specs.References.{Takes};
-ghost use Rattle.candidate_ir.specs.Supers.{after_first};
-ghost use Rattle.candidate_ir.specs.Trees.{none, tree};
-ghost use Rattle.candidate_ir.specs.Words.{IsClause, IsParamEnv, IsTy, KindFits, clause_tree, env_forest, kind_tree, ty_tree};
+ghost use Rattle.candidate_ir.specs.Declarations.Context.{world};
+ghost use Rattle.candidate_ir.specs.Declarations.References.{Takes};
+ghost use Rattle.candidate_ir.specs.Hierarchy.Supers.{after_first};
+ghost use Rattle.candidate_ir.specs.Syntax.Trees.{none, tree};
+ghost use Rattle.candidate_ir.specs.Syntax.Words.{IsClause, IsParamEnv, IsTy, KindFits, clause_tree, env_forest, kind_tree, ty_tree};
 ghost use Rattle.candidate_ir.specs.declared.ir.heads.Head.TheVariants as H;
 ghost use Rattle.candidate_ir.specs.declared.ir.heads.PartHead.TheVariants as P;
-ghost use Rattle.candidate_eval.specs.Characterization.{bound_kinds};
-ghost use Rattle.candidate_eval.specs.Evaluators.{IsGoal, kinds_listed, pending_of, pendings_of};
-ghost use Rattle.candidate_eval.specs.States.{added, with_pending};
-ghost use Rattle.candidate_rounds.specs.Goals.{IsTraitGoal, goal_seen};
-ghost use Rattle.candidate_rounds.specs.Known.{Each, GoesOn, listing, reads, state};
-ghost use Rattle.rounds_judge.specs.Settling.{certainty_of, instantiated, recorded, with_facts};
-ghost use Rattle.rounds_judge.specs.TableSettling.{all_by, pass_by, passes_by};
-ghost use Rattle.candidate_rounds.specs.Stopping.{AreGoalsStop, ArePassesStop, held, IsEvaluationStop, IsGoalStop, IsInstanceStop, IsPassStop, IsProjectionStop, IsTraitStop};
-ghost use Rattle.candidate_rounds.specs.Trying.{Says, answered, answered_trait, evaluated_as, left_of, projection_of, second_if_bound, try_of, got_one, entries_gave};
+ghost use Rattle.candidate_eval.specs.Derivations.Characterization.{bound_kinds};
+ghost use Rattle.candidate_eval.specs.Interface.Evaluators.{IsGoal, kinds_listed, pending_of, pendings_of};
+ghost use Rattle.candidate_eval.specs.Judges.States.{added, with_pending};
+ghost use Rattle.candidate_rounds.specs.Table.Goals.{IsTraitGoal, goal_seen};
+ghost use Rattle.candidate_rounds.specs.Evaluators.Known.{Each, GoesOn, listing, reads, state};
+ghost use Rattle.rounds_judge.specs.Obligations.Settling.{certainty_of, instantiated, recorded, with_facts};
+ghost use Rattle.rounds_judge.specs.Table.TableSettling.{all_by, pass_by, passes_by};
+ghost use Rattle.candidate_rounds.specs.Evaluators.Stopping.{AreGoalsStop, ArePassesStop, held, IsEvaluationStop, IsGoalStop, IsInstanceStop, IsPassStop, IsProjectionStop, IsTraitStop};
+ghost use Rattle.candidate_rounds.specs.Table.Trying.{Says, answered, answered_trait, evaluated_as, left_of, projection_of, second_if_bound, try_of, got_one, entries_gave};
 
 use crate::rounds::Rounds;
 use crate::rounds::inference::Entry;

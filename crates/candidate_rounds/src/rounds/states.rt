@@ -1,17 +1,17 @@
 //! The state: variables, goals, probes.
 
 ghost use Rattle.std.specs.Prelude.{◌⊎◌, ◌<◌, ◌^◌, length, IfErr, ◌≡◌, [], ◌∷◌, IfOk, OnOk, OnErr};
-ghost use Rattle.candidate_ir.specs.Context.{Grows};
-ghost use Rattle.candidate_ir.specs.Folds.{IsArg, arg_tree};
-ghost use Rattle.candidate_ir.specs.Nodes.{rows};
-ghost use Rattle.candidate_ir.specs.Words.{IsArgs, args_forest};
-ghost use Rattle.candidate_eval.specs.Evaluators.{begun, kinds_listed};
-ghost use Rattle.candidate_eval.specs.Soundness.{IsSound, Live, ValuesFit};
-ghost use Rattle.candidate_eval.specs.States.{variable, with_fresh_variables, with_universe};
+ghost use Rattle.candidate_ir.specs.Declarations.Context.{Grows};
+ghost use Rattle.candidate_ir.specs.Instantiation.Folds.{IsArg, arg_tree};
+ghost use Rattle.candidate_ir.specs.Syntax.Nodes.{rows};
+ghost use Rattle.candidate_ir.specs.Syntax.Words.{IsArgs, args_forest};
+ghost use Rattle.candidate_eval.specs.Interface.Evaluators.{begun, kinds_listed};
+ghost use Rattle.candidate_eval.specs.Judges.Soundness.{IsSound, Live, ValuesFit};
+ghost use Rattle.candidate_eval.specs.Judges.States.{variable, with_fresh_variables, with_universe};
 ghost use Rattle.candidate_eval.specs.declared.eval.context.ProbeKind.{ProbeKind};
-ghost use Rattle.candidate_rounds.specs.Inferences.{IsFullAt, IsOutOfRoom, with_variable};
-ghost use Rattle.candidate_rounds.specs.Leaves.{all_leaves, last_number};
-ghost use Rattle.candidate_rounds.specs.Known.{state, state_of, probes, with_root, GoesOn, IsGiven, KeepsGiven};
+ghost use Rattle.candidate_rounds.specs.Evaluators.Inferences.{IsFullAt, IsOutOfRoom, with_variable};
+ghost use Rattle.candidate_rounds.specs.Calls.Leaves.{all_leaves, last_number};
+ghost use Rattle.candidate_rounds.specs.Evaluators.Known.{state, state_of, probes, with_root, GoesOn, IsGiven, KeepsGiven};
 
 use crate::rounds::Rounds;
 use crate::rounds::fresh::{Leaves, leaf_args, variable};

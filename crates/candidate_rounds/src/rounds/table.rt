@@ -2,13 +2,13 @@
 
 ghost use Rattle.std.specs.Prelude.{◌≡◌, false, IfErr, IfOk};
 ghost use Rattle.std.specs.List.{list_any};
-ghost use Rattle.candidate_eval.specs.ResponseTrees.{IsResponse, response_of};
-ghost use Rattle.candidate_rounds.specs.Found.{IsFound, IsReadYes, IsYesAt, said};
-ghost use Rattle.candidate_rounds.specs.Goals.{Each, IsTraitGoal, key_seen, keys_seen};
-ghost use Rattle.candidate_rounds.specs.Known.{GoesOn, reading, state, table_of};
-ghost use Rattle.candidate_rounds.specs.Stopping.{IsAskingStop, held};
-ghost use Rattle.rounds_judge.specs.GoalTable.{is_entered};
-ghost use Rattle.rounds_judge.specs.Keys.{same_key};
+ghost use Rattle.candidate_eval.specs.Outcomes.ResponseTrees.{IsResponse, response_of};
+ghost use Rattle.candidate_rounds.specs.Calls.Found.{IsFound, IsReadYes, IsYesAt, said};
+ghost use Rattle.candidate_rounds.specs.Table.Goals.{Each, IsTraitGoal, key_seen, keys_seen};
+ghost use Rattle.candidate_rounds.specs.Evaluators.Known.{GoesOn, reading, state, table_of};
+ghost use Rattle.candidate_rounds.specs.Evaluators.Stopping.{IsAskingStop, held};
+ghost use Rattle.rounds_judge.specs.Table.GoalTable.{is_entered};
+ghost use Rattle.rounds_judge.specs.Table.Keys.{same_key};
 
 use crate::rounds::Rounds;
 use crate::rounds::goals::{GoalKey, Verdict};

@@ -2,20 +2,20 @@
 
 ghost use Rattle.std.specs.Prelude.{◌≡◌, ◌-◌, Some, None, IfOk, IfErr, IsOk, MatchOption, length, nat_le, option_map, reverse, slice_get, if◌then◌else◌};
 ghost use Rattle.candidate_ir.specs.declared.ir.heads.Head.TheVariants as H;
-ghost use Rattle.candidate_ir.specs.Context.{Grows};
-ghost use Rattle.candidate_ir.specs.Folding.{IsAnswerStop};
-ghost use Rattle.candidate_ir.specs.Folds.{IsArg, IsOfKind, arg_tree};
-ghost use Rattle.candidate_ir.specs.Kinds.{arg_kind};
-ghost use Rattle.candidate_ir.specs.Trees.{is_alias};
-ghost use Rattle.candidate_ir.specs.Words.{IsRegion, IsTy, region_kind_tree, region_tree, ty_tree};
+ghost use Rattle.candidate_ir.specs.Declarations.Context.{Grows};
+ghost use Rattle.candidate_ir.specs.Instantiation.Folding.{IsAnswerStop};
+ghost use Rattle.candidate_ir.specs.Instantiation.Folds.{IsArg, IsOfKind, arg_tree};
+ghost use Rattle.candidate_ir.specs.Syntax.Kinds.{arg_kind};
+ghost use Rattle.candidate_ir.specs.Syntax.Trees.{is_alias};
+ghost use Rattle.candidate_ir.specs.Syntax.Words.{IsRegion, IsTy, region_kind_tree, region_tree, ty_tree};
 ghost use Rattle.candidate_eval.specs.declared.eval.mode.TypingMode.{TypingMode};
-ghost use Rattle.candidate_eval.specs.Evaluators.{resolved_root};
-ghost use Rattle.candidate_eval.specs.States.{resolved_tree};
-ghost use Rattle.rounds_judge.specs.Equating.{value_for};
-ghost use Rattle.candidate_rounds.specs.Known.{AreTypes, Each, GoesOn, IsKnown, SuitsKind, listing, listing_of, state, state_of};
-ghost use Rattle.candidate_rounds.specs.Stopping.{IsTreeStop, IsValueStop};
-ghost use Rattle.rounds_judge.specs.Listed.{current, listed, listed_at, normalized_tree};
-ghost use Rattle.rounds_judge.specs.Scopes.{placed_head, placed_tree};
+ghost use Rattle.candidate_eval.specs.Interface.Evaluators.{resolved_root};
+ghost use Rattle.candidate_eval.specs.Judges.States.{resolved_tree};
+ghost use Rattle.rounds_judge.specs.Equations.Equating.{value_for};
+ghost use Rattle.candidate_rounds.specs.Evaluators.Known.{AreTypes, Each, GoesOn, IsKnown, SuitsKind, listing, listing_of, state, state_of};
+ghost use Rattle.candidate_rounds.specs.Evaluators.Stopping.{IsTreeStop, IsValueStop};
+ghost use Rattle.rounds_judge.specs.Aliases.Listed.{current, listed, listed_at, normalized_tree};
+ghost use Rattle.rounds_judge.specs.Equations.Scopes.{placed_head, placed_tree};
 
 use crate::rounds::Rounds;
 use crate::rounds::inference::Inference;

@@ -1,5 +1,5 @@
 use Rattle.std.proofs.Common.{rules, refl}
-use Rattle.candidate_eval.proofs.PlainCalls.{answers-its-input}
+use Rattle.candidate_eval.proofs.Knowability.PlainCalls.{answers-its-input}
 use Rattle.client.proofs.may_write.Goals as goal
 
 pub returns-in-Ok-Ok : goal.returns-in-Ok-Ok

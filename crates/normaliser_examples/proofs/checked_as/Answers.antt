@@ -1,10 +1,10 @@
 use Rattle.std.proofs.Common.{◌≡◌, rules, refl, sym, ◌∙◌}
-use Rattle.candidate_ir.specs.Context.{world}
-use Rattle.candidate_ir.specs.Words.{args_forest, ty_tree}
-use Rattle.candidate_eval.specs.Normalizer.{refused_growth}
-use Rattle.candidate_eval.specs.Orphan.{Sees, view, stateless}
-use Rattle.candidate_eval.proofs.Calls.{reached-keeps, told-unless-refused}
-use Rattle.candidate_eval.proofs.Simulation.{answer_seen}
+use Rattle.candidate_ir.specs.Declarations.Context.{world}
+use Rattle.candidate_ir.specs.Syntax.Words.{args_forest, ty_tree}
+use Rattle.candidate_eval.specs.Knowability.Normalizer.{refused_growth}
+use Rattle.candidate_eval.specs.Knowability.Orphan.{Sees, view, stateless}
+use Rattle.candidate_eval.proofs.Frontier.Calls.{reached-keeps, told-unless-refused}
+use Rattle.candidate_eval.proofs.Knowability.Simulation.{answer_seen}
 use Rattle.normaliser_examples.proofs.Made.{sees-held, sight-answer, keeps-held}
 use Rattle.normaliser_examples.proofs.checked_as.Goals as goal
 

@@ -1,8 +1,8 @@
 use Rattle.std.proofs.Common.{rules, refl, sym, ◌∙◌}
-use Rattle.candidate_ir.specs.Context.{world}
-use Rattle.candidate_ir.specs.Words.{args_forest}
-use Rattle.candidate_eval.specs.Orphan.{Sees, view, stateless}
-use Rattle.candidate_eval.proofs.Simulation.{answer_seen}
+use Rattle.candidate_ir.specs.Declarations.Context.{world}
+use Rattle.candidate_ir.specs.Syntax.Words.{args_forest}
+use Rattle.candidate_eval.specs.Knowability.Orphan.{Sees, view, stateless}
+use Rattle.candidate_eval.proofs.Knowability.Simulation.{answer_seen}
 use Rattle.normaliser_examples.specs.Looks.{referenced, refused_node}
 use Rattle.normaliser_examples.proofs.Made.{sees-answer, sight-answer, told-unless-full}
 use Rattle.normaliser_examples.proofs.checked_by_reference.Goals as goal

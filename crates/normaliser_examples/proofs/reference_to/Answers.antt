@@ -1,11 +1,11 @@
 use Rattle.std.proofs.Common.{refl}
-use Rattle.candidate_ir.specs.Context.{world}
-use Rattle.candidate_ir.specs.Words.{KindFits}
+use Rattle.candidate_ir.specs.Declarations.Context.{world}
+use Rattle.candidate_ir.specs.Syntax.Words.{KindFits}
 use Rattle.candidate_ir.specs.declared.ir.kinds.Mutability.TheVariants as M
 use Rattle.candidate_ir.specs.declared.ir.kinds.TyKind.{TyKind}
 use Rattle.candidate_ir.specs.declared.ir.kinds.TyKind.TheVariants as K
-use Rattle.candidate_ir.proofs.Arity.{plain-takes}
-use Rattle.candidate_ir.proofs.Kept.{ty-kept}
+use Rattle.candidate_ir.proofs.Kinding.Arity.{plain-takes}
+use Rattle.candidate_ir.proofs.Growth.Kept.{ty-kept}
 use Rattle.normaliser_examples.proofs.Made.{reference-is}
 use Rattle.normaliser_examples.proofs.reference_to.Goals as goal
 

@@ -1,5 +1,5 @@
-use Rattle.rounds_judge.proofs.Solutions.{has_solution}
-use Rattle.rounds_judge.proofs.TableLawful.{table_keeps_the_laws}
+use Rattle.rounds_judge.proofs.Unifiers.Solutions.{has_solution}
+use Rattle.rounds_judge.proofs.Lawfulness.TableLawful.{table_keeps_the_laws}
 use Rattle.rounds_judge.proofs.keeps_the_laws.Goals as goal
 
 pub returns-clause-solvable : goal.returns-clause-solvable

@@ -1,11 +1,11 @@
 use Rattle.std.proofs.Common.{◌∙◌, ap}
 use Rattle.candidate_ir.specs.declared.ir.kinds.AliasTy.{AliasTy}
 use Rattle.candidate_ir.specs.declared.ir.kinds.AliasKind.TheVariants as AliasKind
-use Rattle.candidate_ir.specs.Trees.{holds, tree_holds, is_param}
-use Rattle.candidate_ir.specs.Nodes.{tree_at}
+use Rattle.candidate_ir.specs.Syntax.Trees.{holds, tree_holds, is_param}
+use Rattle.candidate_ir.specs.Syntax.Nodes.{tree_at}
 use Rattle.assembly_text.specs.Params.{LacksParam}
 use Rattle.assembly_text.proofs.Lacking.{made-lacks, same-lacks, args-lacks, tuple-lacks, adt-lacks, alias-lacks}
-use Rattle.candidate_ir.proofs.Kept.{grows-trans}
+use Rattle.candidate_ir.proofs.Growth.Kept.{grows-trans}
 use Rattle.assembly_text.proofs.building.construct.Goals as goal
 use Rattle.assembly_text.proofs.building.construct.Goals.{in-Tuple, in-Adt, in-Projection, in-Opaque}
 

@@ -1,8 +1,8 @@
 use Rattle.std.proofs.Common.{refl, ◌∙◌, ap}
-use Rattle.candidate_ir.specs.Trees.{TypeKind, ArgumentsKind, holds, is_param}
-use Rattle.candidate_ir.proofs.Made.{IsTy-grows, IsArgs-grows}
+use Rattle.candidate_ir.specs.Syntax.Trees.{TypeKind, ArgumentsKind, holds, is_param}
+use Rattle.candidate_ir.proofs.Growth.Made.{IsTy-grows, IsArgs-grows}
 use Rattle.assembly_text.proofs.Lacking.{lacks-grows, made-lacks, args-lacks, vars-lack, fn-lacks}
-use Rattle.candidate_ir.proofs.Kept.{grows-trans}
+use Rattle.candidate_ir.proofs.Growth.Kept.{grows-trans}
 use Rattle.assembly_text.proofs.building.fn_pointer.Goals as goal
 
 pub ty-requires : goal.ty-requires

@@ -1,8 +1,8 @@
 use Rattle.std.proofs.Common.{refl}
-use Rattle.candidate_ir.specs.Trees.{TypeKind}
-use Rattle.candidate_ir.proofs.Made.{IsTy-grows}
+use Rattle.candidate_ir.specs.Syntax.Trees.{TypeKind}
+use Rattle.candidate_ir.proofs.Growth.Made.{IsTy-grows}
 use Rattle.assembly_text.proofs.Lacking.{lacks-grows, made-lacks, region-lacks, ref-lacks}
-use Rattle.candidate_ir.proofs.Kept.{grows-trans}
+use Rattle.candidate_ir.proofs.Growth.Kept.{grows-trans}
 use Rattle.assembly_text.proofs.building.reference.Goals as goal
 
 pub ty-requires : goal.ty-requires

@@ -1,8 +1,8 @@
 use Rattle.std.proofs.Common.{refl, ◌∙◌, ap}
-use Rattle.candidate_ir.specs.Trees.{ArgumentsKind, holds, is_param}
-use Rattle.candidate_ir.proofs.Made.{IsArgs-grows}
+use Rattle.candidate_ir.specs.Syntax.Trees.{ArgumentsKind, holds, is_param}
+use Rattle.candidate_ir.proofs.Growth.Made.{IsArgs-grows}
 use Rattle.assembly_text.proofs.Lacking.{lacks-grows, args-lacks, vars-lack, trait-lacks}
-use Rattle.candidate_ir.proofs.Kept.{grows-trans}
+use Rattle.candidate_ir.proofs.Growth.Kept.{grows-trans}
 use Rattle.assembly_text.proofs.building.trait_bound.Goals as goal
 
 pub returns-clause-fits : goal.returns-clause-fits

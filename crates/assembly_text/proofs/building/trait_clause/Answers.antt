@@ -1,4 +1,4 @@
-use Rattle.candidate_ir.proofs.Made.{IsArgs-grows}
+use Rattle.candidate_ir.proofs.Growth.Made.{IsArgs-grows}
 use Rattle.assembly_text.proofs.building.trait_clause.Goals as goal
 
 pub mk_clause-requires-clause-fits : goal.mk_clause-requires-clause-fits

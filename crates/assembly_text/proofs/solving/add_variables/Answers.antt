@@ -1,4 +1,4 @@
-use Rattle.candidate_ir.proofs.Kept.{grows-refl, grows-trans}
+use Rattle.candidate_ir.proofs.Growth.Kept.{grows-refl, grows-trans}
 use Rattle.assembly_text.proofs.solving.add_variables.Goals as goal
 
 pub loop-init : goal.loop-init

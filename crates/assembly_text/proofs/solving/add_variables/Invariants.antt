@@ -1,4 +1,4 @@
-use Rattle.candidate_ir.specs.Context.{Grows}
+use Rattle.candidate_ir.specs.Declarations.Context.{Grows}
 use Rattle.assembly_text.proofs.solving.add_variables.Given as goal
 
 -- variables were made, and nothing else

@@ -1,9 +1,9 @@
 use Rattle.std.proofs.Common.{◌≡◌, false, refl, sym, subst, ◌∙◌}
-use Rattle.candidate_ir.specs.Binders.{escapes}
-use Rattle.candidate_ir.specs.Context.{Context}
-use Rattle.candidate_ir.specs.Words.{args_forest}
-use Rattle.candidate_ir.proofs.Kept.{args-kept, grows-trans}
-use Rattle.candidate_assembly.proofs.Keeping.{trait-goal-kept}
+use Rattle.candidate_ir.specs.Syntax.Binders.{escapes}
+use Rattle.candidate_ir.specs.Declarations.Context.{Context}
+use Rattle.candidate_ir.specs.Syntax.Words.{args_forest}
+use Rattle.candidate_ir.proofs.Growth.Kept.{args-kept, grows-trans}
+use Rattle.candidate_assembly.proofs.Calls.Keeping.{trait-goal-kept}
 use Rattle.assembly_text.proofs.MayBeGiven.{goal-of}
 use Rattle.assembly_text.proofs.solving.ask.Goals as goal
 

@@ -1,6 +1,6 @@
 use Rattle.std.proofs.Common.{[], arith, sym, subst, ◌∙◌}
 use Rattle.std.proofs.lemmas.List.Elements.{All-get_or}
-use Rattle.candidate_rounds.specs.Known.{IsGiven}
+use Rattle.candidate_rounds.specs.Evaluators.Known.{IsGiven}
 use Rattle.assembly_text.specs.Given.{IsNormalForm}
 use Rattle.assembly_text.proofs.MayBeGiven.{given-more, given-none}
 use Rattle.assembly_text.proofs.solving.normal_forms.Goals as goal

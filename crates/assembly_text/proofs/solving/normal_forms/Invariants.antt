@@ -1,5 +1,5 @@
 use Rattle.std.proofs.Common.{[]}
-use Rattle.candidate_rounds.specs.Known.{IsGiven}
+use Rattle.candidate_rounds.specs.Evaluators.Known.{IsGiven}
 use Rattle.assembly_text.proofs.solving.normal_forms.Given as goal
 
 -- the pairs so far may be given

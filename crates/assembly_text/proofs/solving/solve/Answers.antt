@@ -1,6 +1,6 @@
 use Rattle.std.proofs.Common.{sym, subst}
-use Rattle.candidate_ir.specs.Context.{Context}
-use Rattle.candidate_ir.specs.Words.{ClauseListFits}
+use Rattle.candidate_ir.specs.Declarations.Context.{Context}
+use Rattle.candidate_ir.specs.Syntax.Words.{ClauseListFits}
 use Rattle.assembly_text.proofs.MayBeGiven.{clauses-fit}
 use Rattle.assembly_text.proofs.solving.solve.Goals as goal
 

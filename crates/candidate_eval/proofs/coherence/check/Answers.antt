@@ -1,14 +1,14 @@
 use Rattle.std.proofs.Common.{Ok, Err, refl}
-use Rattle.candidate_ir.specs.Trees.{Tree}
-use Rattle.candidate_ir.specs.Words.{args_forest}
-use Rattle.candidate_ir.proofs.Kept.{args-kept, ty-kept}
-use Rattle.candidate_eval.specs.Calls.{depth_limit}
+use Rattle.candidate_ir.specs.Syntax.Trees.{Tree}
+use Rattle.candidate_ir.specs.Syntax.Words.{args_forest}
+use Rattle.candidate_ir.proofs.Growth.Kept.{args-kept, ty-kept}
+use Rattle.candidate_eval.specs.Knowability.Calls.{depth_limit}
 use Rattle.candidate_eval.specs.declared.coherence.OrphanStop.TheVariants as O
-use Rattle.candidate_eval.specs.Answers.{second_answer}
-use Rattle.candidate_eval.specs.Orphan.{Answer, Checked, view}
-use Rattle.candidate_eval.proofs.Causes.{left-same, left-then, normalizer-left, function-left}
-use Rattle.candidate_eval.proofs.Stops.{walk-goes-on, local-ends, uncovered-ends, local-is-no-stop, uncovered-is-no-stop, broken-stops, walk-stops, stops-walk, second-ends, second-stops, stops-second, check-ends}
-use Rattle.candidate_eval.proofs.Checks.{passed-checked, local-checked, broken-checked, only-list, passes-no-list, uncovered-no-list, stop-no-list, uncovered-checked}
+use Rattle.candidate_eval.specs.Knowability.Answers.{second_answer}
+use Rattle.candidate_eval.specs.Knowability.Orphan.{Answer, Checked, view}
+use Rattle.candidate_eval.proofs.Frontier.Causes.{left-same, left-then, normalizer-left, function-left}
+use Rattle.candidate_eval.proofs.Interface.Stops.{walk-goes-on, local-ends, uncovered-ends, local-is-no-stop, uncovered-is-no-stop, broken-stops, walk-stops, stops-walk, second-ends, second-stops, stops-second, check-ends}
+use Rattle.candidate_eval.proofs.Frontier.Checks.{passed-checked, local-checked, broken-checked, only-list, passes-no-list, uncovered-no-list, stop-no-list, uncovered-checked}
 use Rattle.candidate_eval.proofs.coherence.check.Goals as goal
 
 pub first_local_ty-requires-clause-args : goal.first_local_ty-requires-clause-args

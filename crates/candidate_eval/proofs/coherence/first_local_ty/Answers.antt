@@ -1,11 +1,11 @@
 use Rattle.std.proofs.Common.{ap, refl}
-use Rattle.candidate_ir.specs.Words.{args_forest}
-use Rattle.candidate_eval.specs.Calls.{depth_limit}
-use Rattle.candidate_eval.specs.Exits.{local_ty_of}
-use Rattle.candidate_eval.specs.Orphan.{view}
-use Rattle.candidate_eval.specs.Walk.{setting}
-use Rattle.candidate_eval.proofs.Causes.{left-same}
-use Rattle.candidate_eval.proofs.Checks.{second-answered, stop-of-local, local-type}
+use Rattle.candidate_ir.specs.Syntax.Words.{args_forest}
+use Rattle.candidate_eval.specs.Knowability.Calls.{depth_limit}
+use Rattle.candidate_eval.specs.Calls.Exits.{local_ty_of}
+use Rattle.candidate_eval.specs.Knowability.Orphan.{view}
+use Rattle.candidate_eval.specs.Calls.Walk.{setting}
+use Rattle.candidate_eval.proofs.Frontier.Causes.{left-same}
+use Rattle.candidate_eval.proofs.Frontier.Checks.{second-answered, stop-of-local, local-type}
 use Rattle.candidate_eval.proofs.coherence.first_local_ty.Goals as goal
 
 pub returns-clause-calls : goal.returns-clause-calls

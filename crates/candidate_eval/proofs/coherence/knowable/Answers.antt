@@ -1,13 +1,13 @@
 use Rattle.std.proofs.Common.{◌≡◌, true, false, Ok, Err, sym, ◌∙◌, ap}
 use Rattle.std.proofs.lemmas.Result.{err_from_is_err_and}
-use Rattle.candidate_ir.specs.Context.{Context, world}
-use Rattle.candidate_ir.specs.References.{reference_of}
-use Rattle.candidate_ir.proofs.Kept.{args-kept}
-use Rattle.candidate_eval.specs.Calls.{depth_limit}
-use Rattle.candidate_eval.specs.Orphan.{view, local_or_fundamental}
-use Rattle.candidate_eval.proofs.Causes.{left-same, left-then, normalizer-left, function-left}
-use Rattle.candidate_eval.proofs.Stops.{check-ends, answers-alike, check-stops, stops-check}
-use Rattle.candidate_eval.proofs.Knows.{own-kept, knows-stop, knows-downstream, knows-own, knows-locally, local-passes, local-fails, local-stops}
+use Rattle.candidate_ir.specs.Declarations.Context.{Context, world}
+use Rattle.candidate_ir.specs.Declarations.References.{reference_of}
+use Rattle.candidate_ir.proofs.Growth.Kept.{args-kept}
+use Rattle.candidate_eval.specs.Knowability.Calls.{depth_limit}
+use Rattle.candidate_eval.specs.Knowability.Orphan.{view, local_or_fundamental}
+use Rattle.candidate_eval.proofs.Frontier.Causes.{left-same, left-then, normalizer-left, function-left}
+use Rattle.candidate_eval.proofs.Interface.Stops.{check-ends, answers-alike, check-stops, stops-check}
+use Rattle.candidate_eval.proofs.Knowability.Knows.{own-kept, knows-stop, knows-downstream, knows-own, knows-locally, local-passes, local-fails, local-stops}
 use Rattle.candidate_eval.proofs.coherence.knowable.Goals as goal
 
 pub check-requires-2-clause-args : goal.check-requires-2-clause-args

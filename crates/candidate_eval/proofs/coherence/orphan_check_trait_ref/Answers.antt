@@ -1,7 +1,7 @@
-use Rattle.candidate_ir.proofs.References.{is-reference}
-use Rattle.candidate_eval.proofs.CallLaws.{no-foreign-header-said, answer-said, proper-passes-compat-said, remote-said, changed-by-calls}
-use Rattle.candidate_eval.proofs.OrphanLaws.{proper_then_compat, remote_law, first_input_law}
-use Rattle.candidate_eval.proofs.Safety.{link_safety}
+use Rattle.candidate_ir.proofs.Kinding.References.{is-reference}
+use Rattle.candidate_eval.proofs.Knowability.CallLaws.{no-foreign-header-said, answer-said, proper-passes-compat-said, remote-said, changed-by-calls}
+use Rattle.candidate_eval.proofs.Knowability.OrphanLaws.{proper_then_compat, remote_law, first_input_law}
+use Rattle.candidate_eval.proofs.Knowability.Safety.{link_safety}
 use Rattle.candidate_eval.proofs.coherence.orphan_check_trait_ref.Goals as goal
 
 pub returns-clause-no_foreign_header : goal.returns-clause-no_foreign_header

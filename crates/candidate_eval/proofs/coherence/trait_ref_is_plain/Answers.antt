@@ -1,5 +1,5 @@
 use Rattle.std.proofs.Common.{refl}
-use Rattle.candidate_eval.proofs.Plain.{plain-unflagged}
+use Rattle.candidate_eval.proofs.Marks.Plain.{plain-unflagged}
 use Rattle.candidate_eval.proofs.coherence.trait_ref_is_plain.Goals as goal
 
 pub returns-then-not-has-clause-plain : goal.returns-then-not-has-clause-plain

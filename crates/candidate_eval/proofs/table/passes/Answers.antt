@@ -1,7 +1,7 @@
 use Rattle.std.specs.Prelude.{slice_get}
 use Rattle.std.proofs.Common.{sym}
-use Rattle.candidate_ir.specs.Context.{world}
-use Rattle.candidate_eval.proofs.Carry.{none_passes}
+use Rattle.candidate_ir.specs.Declarations.Context.{world}
+use Rattle.candidate_eval.proofs.Frontier.Carry.{none_passes}
 use Rattle.candidate_eval.proofs.table.passes.Goals as goal
 
 pub returns-in-Remote : goal.returns-in-Remote

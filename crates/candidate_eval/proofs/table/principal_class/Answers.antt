@@ -1,9 +1,9 @@
 use Rattle.std.proofs.Common.{sym, ◌∙◌, ap}
-use Rattle.candidate_ir.specs.Context.{world}
-use Rattle.candidate_ir.specs.Words.{preds_forest}
-use Rattle.candidate_eval.specs.Orphan.{crate_test}
-use Rattle.candidate_eval.specs.Table.{owned_in}
-use Rattle.candidate_eval.proofs.ShapeLemmas.{principal-some, principal-none}
+use Rattle.candidate_ir.specs.Declarations.Context.{world}
+use Rattle.candidate_ir.specs.Syntax.Words.{preds_forest}
+use Rattle.candidate_eval.specs.Knowability.Orphan.{crate_test}
+use Rattle.candidate_eval.specs.Calls.Table.{owned_in}
+use Rattle.candidate_eval.proofs.Frontier.ShapeLemmas.{principal-some, principal-none}
 use Rattle.candidate_eval.proofs.table.principal_class.Goals as goal
 
 pub returns-in-Some : goal.returns-in-Some

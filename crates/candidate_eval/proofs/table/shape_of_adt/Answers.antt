@@ -1,5 +1,5 @@
 use Rattle.std.proofs.Common.{sym, ◌∙◌}
-use Rattle.candidate_eval.proofs.ShapeLemmas.{fundamental-shape, foreign-shape}
+use Rattle.candidate_eval.proofs.Frontier.ShapeLemmas.{fundamental-shape, foreign-shape}
 use Rattle.candidate_eval.proofs.table.shape_of_adt.Goals as goal
 
 pub returns-then-is_fundamental : goal.returns-then-is_fundamental

@@ -1,12 +1,12 @@
 use Rattle.std.proofs.Common.{refl, sym, ◌∙◌, ap, subst}
 use Rattle.candidate_ir.specs.declared.ir.kinds.TyKind.{TyKind}
-use Rattle.candidate_ir.specs.Context.{world}
-use Rattle.candidate_ir.specs.Words.{KindFits, kind_tree}
+use Rattle.candidate_ir.specs.Declarations.Context.{world}
+use Rattle.candidate_ir.specs.Syntax.Words.{KindFits, kind_tree}
 use Rattle.candidate_eval.specs.declared.table.Shape.TheVariants as S
-use Rattle.candidate_eval.specs.Orphan.{crate_test}
-use Rattle.candidate_eval.specs.Shapes.{IsReference, IsShape}
-use Rattle.candidate_eval.specs.Table.{owned_in}
-use Rattle.candidate_eval.proofs.ShapeLemmas.{reference-shape, dynamic-principal}
+use Rattle.candidate_eval.specs.Knowability.Orphan.{crate_test}
+use Rattle.candidate_eval.specs.Calls.Shapes.{IsReference, IsShape}
+use Rattle.candidate_eval.specs.Calls.Table.{owned_in}
+use Rattle.candidate_eval.proofs.Frontier.ShapeLemmas.{reference-shape, dynamic-principal}
 use Rattle.candidate_eval.proofs.table.shape_of_kind.Goals as goal
 
 pub returns-in-Ref : goal.returns-in-Ref

@@ -1,18 +1,18 @@
 use Rattle.std.proofs.Common.{◌≡◌, Result, arith, refl, sym, ◌∙◌, ap, subst}
 use Rattle.std.proofs.lemmas.Result.{err_from_is_err_and}
-use Rattle.candidate_ir.specs.Context.{Context}
-use Rattle.candidate_ir.specs.Trees.{count}
-use Rattle.candidate_ir.specs.Words.{IsArgs, ty_tree, args_forest}
-use Rattle.candidate_ir.proofs.Members.{skip-all, count-members}
-use Rattle.candidate_ir.proofs.Kept.{args-kept}
+use Rattle.candidate_ir.specs.Declarations.Context.{Context}
+use Rattle.candidate_ir.specs.Syntax.Trees.{count}
+use Rattle.candidate_ir.specs.Syntax.Words.{IsArgs, ty_tree, args_forest}
+use Rattle.candidate_ir.proofs.Syntax.Members.{skip-all, count-members}
+use Rattle.candidate_ir.proofs.Growth.Kept.{args-kept}
 use Rattle.candidate_eval.specs.declared.walk.EarlyExit.{EarlyExit}
 use Rattle.candidate_eval.specs.declared.walk.Walk.{Walk}
-use Rattle.candidate_eval.specs.Visits.{Visits, the_type}
-use Rattle.candidate_eval.proofs.ListVisits.{none-visited, may-visit-next, visits-all, one-skipped, one-visited, one-breaks}
-use Rattle.candidate_eval.proofs.Lists.{type-at}
-use Rattle.candidate_eval.proofs.Loops.{index-below}
-use Rattle.candidate_eval.proofs.Stops.{on-answer, after-match}
-use Rattle.candidate_eval.proofs.TypeVisits.{ended, visits-deep, visits-nothing, may-visit, visits-item, visits-target, visits-arguments, goes-item, goes-target, goes-arguments}
+use Rattle.candidate_eval.specs.Calls.Visits.{Visits, the_type}
+use Rattle.candidate_eval.proofs.Frontier.ListVisits.{none-visited, may-visit-next, visits-all, one-skipped, one-visited, one-breaks}
+use Rattle.candidate_eval.proofs.Frontier.Lists.{type-at}
+use Rattle.candidate_eval.proofs.Frontier.Loops.{index-below}
+use Rattle.candidate_eval.proofs.Interface.Stops.{on-answer, after-match}
+use Rattle.candidate_eval.proofs.Frontier.TypeVisits.{ended, visits-deep, visits-nothing, may-visit, visits-item, visits-target, visits-arguments, goes-item, goes-target, goes-arguments}
 use Rattle.candidate_eval.proofs.walk.+walk.Goals as goal
 use Rattle.candidate_eval.proofs.walk.+walk.Goals.{visit_ty-in-Item, visit_ty-in-Target, visit_ty-in-Arguments, visit_args-in-Ty+in_ok-visit_ty, visit_args-in_default}
 

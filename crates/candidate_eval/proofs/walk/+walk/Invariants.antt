@@ -1,7 +1,7 @@
 use Rattle.std.proofs.Common.{◌≡◌, ◌+◌, ◌*◌}
-use Rattle.candidate_ir.specs.Trees.{count}
-use Rattle.candidate_ir.specs.Words.{args_forest}
-use Rattle.candidate_eval.proofs.ListVisits.{AreVisited}
+use Rattle.candidate_ir.specs.Syntax.Trees.{count}
+use Rattle.candidate_ir.specs.Syntax.Words.{args_forest}
+use Rattle.candidate_eval.proofs.Frontier.ListVisits.{AreVisited}
 use Rattle.candidate_eval.proofs.walk.+walk.Given as goal
 
 abbrev pub decreases-visit_ty : goal.decreases-visit_ty

@@ -1,5 +1,5 @@
 use Rattle.std.proofs.Common.{arith}
-use Rattle.candidate_eval.proofs.Calls.{call-keeps, call-shows, normalizes}
+use Rattle.candidate_eval.proofs.Frontier.Calls.{call-keeps, call-shows, normalizes}
 use Rattle.candidate_eval.proofs.walk.normalized.Goals as goal
 
 pub returns-clause-grows : goal.returns-clause-grows

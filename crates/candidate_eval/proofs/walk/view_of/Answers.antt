@@ -1,10 +1,10 @@
 use Rattle.std.proofs.Common.{true, false, Err, refl, sym, ◌∙◌, ap}
 use Rattle.std.proofs.lemmas.Result.{err_from_is_err_and}
-use Rattle.candidate_ir.proofs.Kept.{ty-kept}
-use Rattle.candidate_eval.proofs.Views.{view-general, view-other, sees-other, general-there}
-use Rattle.candidate_eval.proofs.Calls.{values-here}
-use Rattle.candidate_eval.proofs.Causes.{viewed-answer, viewed-itself}
-use Rattle.candidate_eval.proofs.Stops.{view-ends}
+use Rattle.candidate_ir.proofs.Growth.Kept.{ty-kept}
+use Rattle.candidate_eval.proofs.Frontier.Views.{view-general, view-other, sees-other, general-there}
+use Rattle.candidate_eval.proofs.Frontier.Calls.{values-here}
+use Rattle.candidate_eval.proofs.Frontier.Causes.{viewed-answer, viewed-itself}
+use Rattle.candidate_eval.proofs.Interface.Stops.{view-ends}
 use Rattle.candidate_eval.proofs.walk.view_of.Goals as goal
 
 pub returns-then-is_general_variable-clause-sort : goal.returns-then-is_general_variable-clause-sort

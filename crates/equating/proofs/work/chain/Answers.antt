@@ -1,5 +1,5 @@
-use Rattle.candidate_ir.proofs.Kept.{grows-trans}
-use Rattle.candidate_ir.proofs.Made.{IsParamEnv-grows}
+use Rattle.candidate_ir.proofs.Growth.Kept.{grows-trans}
+use Rattle.candidate_ir.proofs.Growth.Made.{IsParamEnv-grows}
 use Rattle.equating.proofs.work.chain.Goals as goal
 
 pub link-requires-clause-env : goal.link-requires-clause-env

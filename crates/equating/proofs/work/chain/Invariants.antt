@@ -1,7 +1,7 @@
 use Rattle.std.specs.Prelude.{◌≡◌}
-use Rattle.candidate_ir.specs.Context.{Grows}
-use Rattle.candidate_ir.specs.Folds.{IsArg}
-use Rattle.candidate_rounds.specs.Known.{probes}
+use Rattle.candidate_ir.specs.Declarations.Context.{Grows}
+use Rattle.candidate_ir.specs.Instantiation.Folds.{IsArg}
+use Rattle.candidate_rounds.specs.Evaluators.Known.{probes}
 use Rattle.equating.proofs.work.chain.Given as goal
 
 abbrev pub invariant-loop : goal.invariant-loop

@@ -1,4 +1,4 @@
-use Rattle.candidate_ir.specs.Words.{IsArgs, IsParamEnv}
+use Rattle.candidate_ir.specs.Syntax.Words.{IsArgs, IsParamEnv}
 use Rattle.equating.proofs.work.do_all.Given as goal
 
 abbrev pub invariant-loop : goal.invariant-loop

@@ -1,5 +1,5 @@
 use Rattle.std.proofs.Common.{◌∙◌}
-use Rattle.candidate_ir.proofs.Kept.{grows-trans}
+use Rattle.candidate_ir.proofs.Growth.Kept.{grows-trans}
 use Rattle.equating.proofs.work.equate_and_respond.Goals as goal
 
 pub returns-clause-grows : goal.returns-clause-grows

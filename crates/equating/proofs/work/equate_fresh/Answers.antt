@@ -1,6 +1,6 @@
 use Rattle.std.proofs.Common.{◌∙◌}
-use Rattle.candidate_ir.proofs.Kept.{grows-trans}
-use Rattle.candidate_ir.proofs.Made.{IsArgs-grows, IsParamEnv-grows}
+use Rattle.candidate_ir.proofs.Growth.Kept.{grows-trans}
+use Rattle.candidate_ir.proofs.Growth.Made.{IsArgs-grows, IsParamEnv-grows}
 use Rattle.equating.proofs.work.equate_fresh.Goals as goal
 
 pub equate-requires-clause-env : goal.equate-requires-clause-env

@@ -1,4 +1,4 @@
-use Rattle.candidate_ir.proofs.Kept.{grows-trans}
+use Rattle.candidate_ir.proofs.Growth.Kept.{grows-trans}
 use Rattle.equating.proofs.work.three_types.Goals as goal
 
 pub returns-in_err-b-clause-grows : goal.returns-in_err-b-clause-grows

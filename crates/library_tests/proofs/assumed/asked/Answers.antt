@@ -1,9 +1,9 @@
 use Rattle.std.proofs.Common.{sym, subst}
-use Rattle.candidate_ir.specs.Context.{Context}
-use Rattle.candidate_ir.specs.Words.{args_forest, env_forest}
-use Rattle.candidate_eval.specs.States.{State}
-use Rattle.candidate_assembly.specs.Standing.{StandsAt}
-use Rattle.candidate_rounds.specs.Known.{state}
+use Rattle.candidate_ir.specs.Declarations.Context.{Context}
+use Rattle.candidate_ir.specs.Syntax.Words.{args_forest, env_forest}
+use Rattle.candidate_eval.specs.Judges.States.{State}
+use Rattle.candidate_assembly.specs.Goals.Standing.{StandsAt}
+use Rattle.candidate_rounds.specs.Evaluators.Known.{state}
 use Rattle.library_tests.proofs.Fresh.{stands-fresh}
 use Rattle.library_tests.proofs.assumed.asked.Goals as goal
 

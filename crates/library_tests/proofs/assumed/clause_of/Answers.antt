@@ -1,5 +1,5 @@
-use Rattle.candidate_ir.specs.Words.{IsArgs, IsVars}
-use Rattle.candidate_ir.proofs.Made.{IsArgs-grows}
+use Rattle.candidate_ir.specs.Syntax.Words.{IsArgs, IsVars}
+use Rattle.candidate_ir.proofs.Growth.Made.{IsArgs-grows}
 use Rattle.library_tests.proofs.assumed.clause_of.Goals as goal
 
 pub clause_args_fit-requires : goal.clause_args_fit-requires

@@ -1,4 +1,4 @@
-use Rattle.candidate_ir.proofs.Made.{IsParamEnv-grows}
+use Rattle.candidate_ir.proofs.Growth.Made.{IsParamEnv-grows}
 use Rattle.library_tests.proofs.assumed.goal_of.Goals as goal
 
 pub returns-clause-env : goal.returns-clause-env

@@ -1,5 +1,5 @@
 use Rattle.std.proofs.Common.{rules, refl, sym, ◌∙◌}
-use Rattle.candidate_eval.proofs.PlainCalls.{answers-its-input}
+use Rattle.candidate_eval.proofs.Knowability.PlainCalls.{answers-its-input}
 use Rattle.library_tests.proofs.clients.all_known.Goals as goal
 
 pub returns-in-Ok-Ok : goal.returns-in-Ok-Ok

@@ -1,10 +1,10 @@
 use Rattle.std.proofs.Common.{refl}
 use Rattle.candidate_ir.specs.declared.ir.kinds.Mutability.TheVariants.{Not}
 use Rattle.candidate_ir.specs.declared.ir.kinds.TyKind.TheVariants as K
-use Rattle.candidate_ir.specs.Context.{world}
-use Rattle.candidate_ir.proofs.Arity.{plain-takes}
-use Rattle.candidate_ir.proofs.Kept.{grows-trans}
-use Rattle.candidate_ir.proofs.Made.{IsTy-grows}
+use Rattle.candidate_ir.specs.Declarations.Context.{world}
+use Rattle.candidate_ir.proofs.Kinding.Arity.{plain-takes}
+use Rattle.candidate_ir.proofs.Growth.Kept.{grows-trans}
+use Rattle.candidate_ir.proofs.Growth.Made.{IsTy-grows}
 use Rattle.rows.proofs.checks.reference.Goals as goal
 
 pub mk_ty-requires-clause-fits : goal.mk_ty-requires-clause-fits

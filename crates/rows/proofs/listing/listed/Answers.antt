@@ -1,5 +1,5 @@
 use Rattle.std.proofs.Common.{◌∙◌, sym}
-use Rattle.candidate_ir.proofs.Kept.{grows-trans, ty-kept}
+use Rattle.candidate_ir.proofs.Growth.Kept.{grows-trans, ty-kept}
 use Rattle.rows.proofs.Listed.{are-given}
 use Rattle.rows.proofs.listing.listed.Goals as goal
 

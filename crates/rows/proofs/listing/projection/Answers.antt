@@ -1,4 +1,4 @@
-use Rattle.candidate_ir.proofs.Kept.{grows-trans}
+use Rattle.candidate_ir.proofs.Growth.Kept.{grows-trans}
 use Rattle.rows.proofs.listing.projection.Goals as goal
 
 pub returns-in_err-made-clause-grows : goal.returns-in_err-made-clause-grows

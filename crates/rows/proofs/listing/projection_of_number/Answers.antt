@@ -1,4 +1,4 @@
-use Rattle.candidate_ir.proofs.Kept.{grows-trans}
+use Rattle.candidate_ir.proofs.Growth.Kept.{grows-trans}
 use Rattle.rows.proofs.listing.projection_of_number.Goals as goal
 
 pub returns-clause-grows : goal.returns-clause-grows

@@ -1,5 +1,5 @@
 use Rattle.std.specs.List.{AllWithin}
-use Rattle.candidate_ir.specs.Folds.{IsArg}
+use Rattle.candidate_ir.specs.Instantiation.Folds.{IsArg}
 use Rattle.rows.proofs.parts.args_fit.Given as goal
 
 abbrev pub invariant-loop-arg : goal.invariant-loop-arg

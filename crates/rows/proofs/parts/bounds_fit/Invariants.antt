@@ -1,5 +1,5 @@
 use Rattle.std.specs.List.{AllWithin}
-use Rattle.candidate_ir.specs.Words.{PredFits}
+use Rattle.candidate_ir.specs.Syntax.Words.{PredFits}
 use Rattle.rows.proofs.parts.bounds_fit.Given as goal
 
 abbrev pub invariant-loop-bound : goal.invariant-loop-bound

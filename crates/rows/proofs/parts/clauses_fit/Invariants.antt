@@ -1,5 +1,5 @@
 use Rattle.std.specs.List.{AllWithin}
-use Rattle.candidate_ir.specs.Words.{IsClause}
+use Rattle.candidate_ir.specs.Syntax.Words.{IsClause}
 use Rattle.rows.proofs.parts.clauses_fit.Given as goal
 
 abbrev pub invariant-loop-clause : goal.invariant-loop-clause

@@ -1,4 +1,4 @@
-use Rattle.candidate_eval.specs.ResponseTrees.{AreCandidates}
+use Rattle.candidate_eval.specs.Outcomes.ResponseTrees.{AreCandidates}
 use Rattle.rows.proofs.preferring.noted.Given as goal
 
 -- those before are of the context

@@ -1,5 +1,5 @@
 use Rattle.std.proofs.Common.{◌≡◌, take}
-use Rattle.candidate_rounds.specs.Known.{state}
+use Rattle.candidate_rounds.specs.Evaluators.Known.{state}
 use Rattle.rows.specs.Started.{started}
 use Rattle.rows.proofs.starting.add_roots.Given as goal
 

@@ -1,12 +1,12 @@
 use Rattle.std.proofs.Common.{rules}
 use Rattle.std.proofs.Common.{refl, sym, ◌∙◌, ap}
-use Rattle.candidate_ir.specs.Context.{world}
-use Rattle.candidate_ir.specs.Words.{args_forest}
-use Rattle.candidate_eval.specs.Orphan.{plain, bare_answer}
-use Rattle.candidate_eval.proofs.Lowering.{plain_answer}
-use Rattle.candidate_eval.specs.Normalizer.{exactly, refused_growth}
-use Rattle.candidate_eval.proofs.Resolved.{all-resolved}
-use Rattle.candidate_eval.proofs.Calls.{told-unless-refused}
+use Rattle.candidate_ir.specs.Declarations.Context.{world}
+use Rattle.candidate_ir.specs.Syntax.Words.{args_forest}
+use Rattle.candidate_eval.specs.Knowability.Orphan.{plain, bare_answer}
+use Rattle.candidate_eval.proofs.Knowability.Lowering.{plain_answer}
+use Rattle.candidate_eval.specs.Knowability.Normalizer.{exactly, refused_growth}
+use Rattle.candidate_eval.proofs.Knowability.Resolved.{all-resolved}
+use Rattle.candidate_eval.proofs.Frontier.Calls.{told-unless-refused}
 use Rattle.assembly_text.proofs.Giving.{declared_grows}
 use Rattle.assembly_text.proofs.asking.Asking.checked.Goals as goal
 

@@ -1,5 +1,5 @@
 use Rattle.std.proofs.Common.{All}
-use Rattle.candidate_ir.specs.Words.{IsTy}
+use Rattle.candidate_ir.specs.Syntax.Words.{IsTy}
 use Rattle.assembly_text.proofs.asking.Asking.print_nonlocal.Given as goal
 
 abbrev pub invariant-loop-ty : goal.invariant-loop-ty

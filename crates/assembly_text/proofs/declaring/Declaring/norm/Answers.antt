@@ -1,5 +1,5 @@
 use Rattle.std.proofs.Common.{refl, ◌∙◌}
-use Rattle.candidate_ir.proofs.Made.{IsTy-grows}
+use Rattle.candidate_ir.proofs.Growth.Made.{IsTy-grows}
 use Rattle.assembly_text.proofs.Giving.{alias_kept, form_given}
 use Rattle.assembly_text.proofs.declaring.Declaring.norm.Goals as goal
 

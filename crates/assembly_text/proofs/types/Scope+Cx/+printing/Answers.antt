@@ -1,6 +1,6 @@
 use Rattle.std.proofs.Common.{rules}
-use Rattle.candidate_ir.specs.Words.{IsTy}
-use Rattle.candidate_ir.proofs.Made.{IsTy-listed, IsPred-listed}
+use Rattle.candidate_ir.specs.Syntax.Words.{IsTy}
+use Rattle.candidate_ir.proofs.Growth.Made.{IsTy-listed, IsPred-listed}
 use Rattle.assembly_text.proofs.types.Scope+Cx.+printing.Goals as goal
 
 pub print_types-print_type-requires : goal.print_types-print_type-requires

@@ -1,5 +1,5 @@
 use Rattle.std.proofs.Common.{◌+◌, ◌*◌}
-use Rattle.candidate_ir.specs.Words.{ListFits, PredListFits}
+use Rattle.candidate_ir.specs.Syntax.Words.{ListFits, PredListFits}
 use Rattle.assembly_text.proofs.types.Scope+Cx.+printing.Given as goal
 
 abbrev pub decreases-print_type : goal.decreases-print_type

@@ -1,9 +1,9 @@
 use Rattle.std.proofs.Common.{◌≡◌, ℕ, ◌+◌, [], ◌∷◌, ◌++◌, ◌∙◌, ap, sym}
 use Rattle.std.specs.Prelude.{Bool, ◌||◌}
 use Rattle.candidate_ir.specs.declared.ir.kinds.GenericArg.TheVariants as A
-use Rattle.candidate_ir.proofs.Kept.{grows-trans}
-use Rattle.candidate_ir.proofs.Made.{ListFits-grows, ListFits-ty, BoundsFit-one, principals-one, one_if, one_if-or}
-use Rattle.candidate_ir.specs.Words.{names_trait}
+use Rattle.candidate_ir.proofs.Growth.Kept.{grows-trans}
+use Rattle.candidate_ir.proofs.Growth.Made.{ListFits-grows, ListFits-ty, BoundsFit-one, principals-one, one_if, one_if-or}
+use Rattle.candidate_ir.specs.Syntax.Words.{names_trait}
 use Rattle.assembly_text.proofs.Lacking.{list-lacks-ty, list-lacks-grows, bounds-lack-one}
 use Rattle.assembly_text.proofs.types.Scope.+types.Goals as goal
 

@@ -1,6 +1,6 @@
 use Rattle.std.proofs.Common.{refl}
-use Rattle.candidate_assembly.specs.KindBounds.{UnsizingList, no_target}
-use Rattle.candidate_assembly.proofs.UnsizedTargets.{nothing-listed}
+use Rattle.candidate_assembly.specs.Goals.KindBounds.{UnsizingList, no_target}
+use Rattle.candidate_assembly.proofs.Unsizing.UnsizedTargets.{nothing-listed}
 use Rattle.assumed_goals.specs.Assumed.{assumed_bounds, assumed_goal, assumed_rules}
 use Rattle.assumed_goals.proofs.kind.AssumedTraitGoalKind.consider_structural_builtin_unsize_candidates.Goals as goal
 

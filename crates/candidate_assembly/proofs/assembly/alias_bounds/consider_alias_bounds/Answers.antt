@@ -2,16 +2,16 @@ use Rattle.std.proofs.Common.{rules, ◌≤◌, Err, List, length, map, get_or, 
 use Rattle.std.proofs.lemmas.Result.{err_from_is_err_and}
 use Rattle.candidate_ir.specs.declared.ir.heads.Head.TheVariants as Head
 use Rattle.candidate_ir.specs.declared.ir.kinds.Clause.{Clause}
-use Rattle.candidate_ir.specs.Folding.{substituted_tree}
-use Rattle.candidate_ir.specs.Trees.{Tree, holds, is_param, none}
-use Rattle.candidate_ir.specs.Words.{ClauseListFits, args_forest, clause_tree}
-use Rattle.candidate_ir.proofs.Made.{IsClause-listed}
-use Rattle.candidate_eval.proofs.Probing.{made}
-use Rattle.candidate_eval.proofs.Responding.{clauses-kept}
-use Rattle.candidate_assembly.specs.AliasBounds.{bounds_of_kind}
-use Rattle.candidate_assembly.proofs.BoundRules.{as-few, as-many, bound-below, bound-free, bound-judged, bound-rules-read, bound_rule, in-place, none-listed-after, not-made-listed}
-use Rattle.candidate_assembly.proofs.Keeping.{goal-kept}
-use Rattle.candidate_assembly.proofs.Listing.{all-listed, listing-stops, next-listed}
+use Rattle.candidate_ir.specs.Instantiation.Folding.{substituted_tree}
+use Rattle.candidate_ir.specs.Syntax.Trees.{Tree, holds, is_param, none}
+use Rattle.candidate_ir.specs.Syntax.Words.{ClauseListFits, args_forest, clause_tree}
+use Rattle.candidate_ir.proofs.Growth.Made.{IsClause-listed}
+use Rattle.candidate_eval.proofs.Interface.Probing.{made}
+use Rattle.candidate_eval.proofs.Outcomes.Responding.{clauses-kept}
+use Rattle.candidate_assembly.specs.Rules.AliasBounds.{bounds_of_kind}
+use Rattle.candidate_assembly.proofs.Aliases.BoundRules.{as-few, as-many, bound-below, bound-free, bound-judged, bound-rules-read, bound_rule, in-place, none-listed-after, not-made-listed}
+use Rattle.candidate_assembly.proofs.Calls.Keeping.{goal-kept}
+use Rattle.candidate_assembly.proofs.Lists.Listing.{all-listed, listing-stops, next-listed}
 use Rattle.candidate_assembly.proofs.assembly.alias_bounds.consider_alias_bounds.Goals as goal
 
 pub returns-in_err-bounds : goal.returns-in_err-bounds

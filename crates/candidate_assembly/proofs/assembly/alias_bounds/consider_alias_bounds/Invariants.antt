@@ -1,11 +1,11 @@
 use Rattle.std.proofs.Common.{◌≡◌, List, map, take}
 use Rattle.candidate_ir.specs.declared.ir.kinds.Clause.{Clause}
-use Rattle.candidate_ir.specs.Folding.{substituted_tree}
-use Rattle.candidate_ir.specs.Trees.{Tree}
-use Rattle.candidate_ir.specs.Words.{ClauseListFits, args_forest, clause_tree}
-use Rattle.candidate_assembly.specs.AliasBounds.{bounds_of_kind}
-use Rattle.candidate_assembly.proofs.BoundRules.{bound_rule}
-use Rattle.candidate_assembly.proofs.Listing.{ListedSoFar}
+use Rattle.candidate_ir.specs.Instantiation.Folding.{substituted_tree}
+use Rattle.candidate_ir.specs.Syntax.Trees.{Tree}
+use Rattle.candidate_ir.specs.Syntax.Words.{ClauseListFits, args_forest, clause_tree}
+use Rattle.candidate_assembly.specs.Rules.AliasBounds.{bounds_of_kind}
+use Rattle.candidate_assembly.proofs.Aliases.BoundRules.{bound_rule}
+use Rattle.candidate_assembly.proofs.Lists.Listing.{ListedSoFar}
 use Rattle.candidate_assembly.proofs.assembly.alias_bounds.consider_alias_bounds.Given as goal
 
 -- the candidates by the bounds before were listed, and all are still the alias's

@@ -1,13 +1,13 @@
 use Rattle.std.proofs.Common.{ap, subst, sym, ◌∙◌, Err}
 use Rattle.std.proofs.lemmas.Result.{err_from_is_err_and}
-use Rattle.candidate_ir.specs.WellFormed.{IsWellFormedTable}
+use Rattle.candidate_ir.specs.Validity.WellFormed.{IsWellFormedTable}
 use Rattle.candidate_eval.specs.declared.eval.context.ProbeKind.TheVariants.{Kept}
-use Rattle.candidate_eval.specs.States.{State}
-use Rattle.candidate_eval.specs.Accounts as question
-use Rattle.candidate_assembly.specs.Standing.{GoalStands}
-use Rattle.candidate_assembly.proofs.AliasWalks.{chain-listed, list-not-begun}
-use Rattle.candidate_assembly.proofs.Keeping.{goal-kept}
-use Rattle.candidate_assembly.proofs.Listing.{candidates-kept}
+use Rattle.candidate_eval.specs.Judges.States.{State}
+use Rattle.candidate_eval.specs.Interface.Accounts as question
+use Rattle.candidate_assembly.specs.Goals.Standing.{GoalStands}
+use Rattle.candidate_assembly.proofs.Aliases.AliasWalks.{chain-listed, list-not-begun}
+use Rattle.candidate_assembly.proofs.Calls.Keeping.{goal-kept}
+use Rattle.candidate_assembly.proofs.Lists.Listing.{candidates-kept}
 use Rattle.candidate_assembly.proofs.assembly.alias_chain.assemble_alias_bound_candidates.Goals as goal
 
 pub returns-in_err-probe : goal.returns-in_err-probe

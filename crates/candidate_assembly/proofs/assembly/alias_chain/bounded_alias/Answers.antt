@@ -1,11 +1,11 @@
 use Rattle.std.proofs.Common.{◌≡◌}
 use Rattle.candidate_ir.specs.declared.ir.kinds.TyKind.TheVariants as K
-use Rattle.candidate_ir.specs.Nodes.{kind_at}
-use Rattle.candidate_ir.specs.Trees.{ArgumentsKind}
-use Rattle.candidate_ir.specs.Words.{KindFits}
-use Rattle.candidate_ir.proofs.Declared.{alias_fits}
-use Rattle.candidate_eval.proofs.Cells.{kind_takes}
-use Rattle.candidate_assembly.proofs.AliasChains.{has-one-of}
+use Rattle.candidate_ir.specs.Syntax.Nodes.{kind_at}
+use Rattle.candidate_ir.specs.Syntax.Trees.{ArgumentsKind}
+use Rattle.candidate_ir.specs.Syntax.Words.{KindFits}
+use Rattle.candidate_ir.proofs.Instantiation.Declared.{alias_fits}
+use Rattle.candidate_eval.proofs.Builtins.Cells.{kind_takes}
+use Rattle.candidate_assembly.proofs.Aliases.AliasChains.{has-one-of}
 use Rattle.candidate_assembly.proofs.assembly.alias_chain.bounded_alias.Goals as goal
 
 pub returns-in-Projection-clause-alias : goal.returns-in-Projection-clause-alias

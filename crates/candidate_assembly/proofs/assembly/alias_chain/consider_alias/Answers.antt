@@ -2,11 +2,11 @@ use Rattle.std.proofs.Common.{Err, subst, ap, ◌∙◌}
 use Rattle.std.proofs.lemmas.Result.{err_from_is_err_and}
 use Rattle.candidate_ir.specs.declared.ir.kinds.TyKind.TheVariants as K
 use Rattle.candidate_ir.specs.declared.ir.stop.Stop.TheVariants.{Memory}
-use Rattle.candidate_ir.specs.WellFormed.{IsWellFormedTable}
-use Rattle.candidate_ir.specs.Words.{kind_tree}
-use Rattle.candidate_assembly.specs.AliasBounds.{bound_rules}
-use Rattle.candidate_assembly.proofs.AliasChains.{additional-at, alias-kept, alias-parts, alias-parts-later, both-listed, first-stop, not-joined, second-stop}
-use Rattle.candidate_assembly.proofs.Keeping.{goal-kept}
+use Rattle.candidate_ir.specs.Validity.WellFormed.{IsWellFormedTable}
+use Rattle.candidate_ir.specs.Syntax.Words.{kind_tree}
+use Rattle.candidate_assembly.specs.Rules.AliasBounds.{bound_rules}
+use Rattle.candidate_assembly.proofs.Aliases.AliasChains.{additional-at, alias-kept, alias-parts, alias-parts-later, both-listed, first-stop, not-joined, second-stop}
+use Rattle.candidate_assembly.proofs.Calls.Keeping.{goal-kept}
 use Rattle.candidate_assembly.proofs.assembly.alias_chain.consider_alias.Goals as goal
 
 pub consider_alias_bounds-requires-clause-below : goal.consider_alias_bounds-requires-clause-below

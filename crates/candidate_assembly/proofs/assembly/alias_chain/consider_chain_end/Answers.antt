@@ -1,12 +1,12 @@
 use Rattle.std.proofs.Common.{◌≡◌, sym, ap, subst, ◌∙◌}
-use Rattle.candidate_ir.specs.Context.{Context}
-use Rattle.candidate_ir.specs.Words.{ty_tree}
-use Rattle.candidate_eval.specs.Accounts.Question.{delay}
-use Rattle.candidate_assembly.specs.AliasBounds.{ChainEnd, end_answers, end_at, variable_rule}
-use Rattle.candidate_assembly.specs.AliasChains.{as_seen}
-use Rattle.candidate_assembly.specs.Listing.{after_these}
-use Rattle.candidate_assembly.proofs.AliasChains.{delayed, told-as}
-use Rattle.candidate_assembly.proofs.Listing.{no-rule-listed, one-listed}
+use Rattle.candidate_ir.specs.Declarations.Context.{Context}
+use Rattle.candidate_ir.specs.Syntax.Words.{ty_tree}
+use Rattle.candidate_eval.specs.Interface.Accounts.Question.{delay}
+use Rattle.candidate_assembly.specs.Rules.AliasBounds.{ChainEnd, end_answers, end_at, variable_rule}
+use Rattle.candidate_assembly.specs.Calls.AliasChains.{as_seen}
+use Rattle.candidate_assembly.specs.Answers.Listing.{after_these}
+use Rattle.candidate_assembly.proofs.Aliases.AliasChains.{delayed, told-as}
+use Rattle.candidate_assembly.proofs.Lists.Listing.{no-rule-listed, one-listed}
 use Rattle.candidate_assembly.proofs.assembly.alias_chain.consider_chain_end.Goals as goal
 
 pub returns-in-Done : goal.returns-in-Done

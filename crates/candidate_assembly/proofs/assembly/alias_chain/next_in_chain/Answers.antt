@@ -2,14 +2,14 @@ use Rattle.std.proofs.Common.{◌≡◌, true, subst, ap}
 use Rattle.candidate_ir.specs.declared.ir.heads.Head.TheVariants as H
 use Rattle.candidate_ir.specs.declared.ir.kinds.AliasKind.{AliasKind}
 use Rattle.candidate_ir.specs.declared.ir.kinds.TyKind.TheVariants as K
-use Rattle.candidate_ir.specs.Context.{Context}
-use Rattle.candidate_ir.specs.Words.{env_forest, kind_tree, ty_tree}
-use Rattle.candidate_eval.specs.Accounts.{by_stop}
-use Rattle.candidate_eval.specs.Accounts.Question.{normalize}
-use Rattle.candidate_eval.specs.ObjectRequirements.{first_tree}
-use Rattle.candidate_assembly.specs.AliasBounds.{is_projection}
-use Rattle.candidate_assembly.proofs.AliasChains.{ends-here, goes-further, goes-nowhere, goes-stopped}
-use Rattle.candidate_assembly.proofs.Considering.{not-both}
+use Rattle.candidate_ir.specs.Declarations.Context.{Context}
+use Rattle.candidate_ir.specs.Syntax.Words.{env_forest, kind_tree, ty_tree}
+use Rattle.candidate_eval.specs.Interface.Accounts.{by_stop}
+use Rattle.candidate_eval.specs.Interface.Accounts.Question.{normalize}
+use Rattle.candidate_eval.specs.Dynamic.ObjectRequirements.{first_tree}
+use Rattle.candidate_assembly.specs.Rules.AliasBounds.{is_projection}
+use Rattle.candidate_assembly.proofs.Aliases.AliasChains.{ends-here, goes-further, goes-nowhere, goes-stopped}
+use Rattle.candidate_assembly.proofs.Calls.Considering.{not-both}
 use Rattle.candidate_assembly.proofs.assembly.alias_chain.next_in_chain.Goals.{in-Projection, in_default}
 use Rattle.candidate_assembly.proofs.assembly.alias_chain.next_in_chain.Goals as goal
 

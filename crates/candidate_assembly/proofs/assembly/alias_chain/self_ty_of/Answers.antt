@@ -1,9 +1,9 @@
 use Rattle.std.proofs.Common.{sym, ap, ◌∙◌}
-use Rattle.candidate_ir.specs.Trees.{Tree}
-use Rattle.candidate_eval.specs.ObjectRequirements.{first_tree}
-use Rattle.candidate_eval.proofs.ObjectCandidates.{first-is}
-use Rattle.candidate_eval.proofs.Replacing.{first-fits}
-use Rattle.candidate_assembly.proofs.AliasChains.{alias-tree, projection-first}
+use Rattle.candidate_ir.specs.Syntax.Trees.{Tree}
+use Rattle.candidate_eval.specs.Dynamic.ObjectRequirements.{first_tree}
+use Rattle.candidate_eval.proofs.Dynamic.ObjectCandidates.{first-is}
+use Rattle.candidate_eval.proofs.Dynamic.Replacing.{first-fits}
+use Rattle.candidate_assembly.proofs.Aliases.AliasChains.{alias-tree, projection-first}
 use Rattle.candidate_assembly.proofs.assembly.alias_chain.self_ty_of.Goals as goal
 
 pub unreachable-requires : goal.unreachable-requires

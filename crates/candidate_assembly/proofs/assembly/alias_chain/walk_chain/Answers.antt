@@ -2,19 +2,19 @@ use Rattle.std.proofs.Common.{◌≡◌, ◌-◌, arith, true, false, Option, Ok
 use Rattle.std.proofs.lemmas.Result.{err_from_is_err_and}
 use Rattle.candidate_ir.specs.declared.ir.kinds.Ty.{Ty}
 use Rattle.candidate_ir.specs.declared.ir.kinds.TyKind.TheVariants as TK
-use Rattle.candidate_ir.specs.Context.{Context}
-use Rattle.candidate_ir.specs.Trees.{Tree}
-use Rattle.candidate_ir.specs.Words.{IsTy, env_forest, kind_tree, ty_tree}
-use Rattle.candidate_ir.proofs.Kept.{grows-trans}
-use Rattle.candidate_eval.specs.Limits.{Limits}
-use Rattle.candidate_eval.proofs.Objects.{env-kept}
-use Rattle.candidate_assembly.specs.AliasBounds.{has_bounds}
-use Rattle.candidate_assembly.specs.AliasChains.{Continues, IsBoundedAlias}
-use Rattle.candidate_assembly.specs.Kinds.{self_type}
-use Rattle.candidate_assembly.specs.Standing.{StandsBeside}
-use Rattle.candidate_assembly.proofs.AliasChains.{alias-kept}
-use Rattle.candidate_assembly.proofs.AliasWalks.{chain-begins, ended-after, ended-there, goes-on, one-less, stopped-after, stopped-there, too-deep}
-use Rattle.candidate_assembly.proofs.Keeping.{goal-kept}
+use Rattle.candidate_ir.specs.Declarations.Context.{Context}
+use Rattle.candidate_ir.specs.Syntax.Trees.{Tree}
+use Rattle.candidate_ir.specs.Syntax.Words.{IsTy, env_forest, kind_tree, ty_tree}
+use Rattle.candidate_ir.proofs.Growth.Kept.{grows-trans}
+use Rattle.candidate_eval.specs.Judges.Limits.{Limits}
+use Rattle.candidate_eval.proofs.Dynamic.Objects.{env-kept}
+use Rattle.candidate_assembly.specs.Rules.AliasBounds.{has_bounds}
+use Rattle.candidate_assembly.specs.Calls.AliasChains.{Continues, IsBoundedAlias}
+use Rattle.candidate_assembly.specs.Goals.Kinds.{self_type}
+use Rattle.candidate_assembly.specs.Goals.Standing.{StandsBeside}
+use Rattle.candidate_assembly.proofs.Aliases.AliasChains.{alias-kept}
+use Rattle.candidate_assembly.proofs.Aliases.AliasWalks.{chain-begins, ended-after, ended-there, goes-on, one-less, stopped-after, stopped-there, too-deep}
+use Rattle.candidate_assembly.proofs.Calls.Keeping.{goal-kept}
 use Rattle.candidate_assembly.proofs.assembly.alias_chain.walk_chain.Goals as goal
 
 pub loop-alias-init : goal.loop-alias-init

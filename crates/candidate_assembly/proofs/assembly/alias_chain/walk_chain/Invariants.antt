@@ -1,4 +1,4 @@
-use Rattle.candidate_assembly.proofs.AliasWalks.{ChainSoFar}
+use Rattle.candidate_assembly.proofs.Aliases.AliasWalks.{ChainSoFar}
 use Rattle.candidate_assembly.proofs.assembly.alias_chain.walk_chain.Given as goal
 
 -- what is left of the chain comes to what the whole comes to

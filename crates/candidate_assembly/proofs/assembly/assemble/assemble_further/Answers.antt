@@ -1,10 +1,10 @@
 use Rattle.std.proofs.Common.{ap, subst, sym, ◌∙◌, Err}
 use Rattle.std.proofs.lemmas.Result.{err_from_is_err_and}
-use Rattle.candidate_ir.specs.WellFormed.{IsWellFormedTable}
-use Rattle.candidate_eval.specs.ResponseTrees.{candidates_of}
-use Rattle.candidate_assembly.specs.Assembled.{has_where_bound}
-use Rattle.candidate_assembly.proofs.AliasChains.{told-as}
-use Rattle.candidate_assembly.proofs.AssembledLists.{clause-serves, first-stops, goal-later, language-stops, list-goes-on, moves-on, nothing-added, objects-alone, stands-later, typed-later, unsizing-after}
+use Rattle.candidate_ir.specs.Validity.WellFormed.{IsWellFormedTable}
+use Rattle.candidate_eval.specs.Outcomes.ResponseTrees.{candidates_of}
+use Rattle.candidate_assembly.specs.Answers.Assembled.{has_where_bound}
+use Rattle.candidate_assembly.proofs.Aliases.AliasChains.{told-as}
+use Rattle.candidate_assembly.proofs.Lists.AssembledLists.{clause-serves, first-stops, goal-later, language-stops, list-goes-on, moves-on, nothing-added, objects-alone, stands-later, typed-later, unsizing-after}
 use Rattle.candidate_assembly.proofs.assembly.assemble.assemble_further.Goals as goal
 
 pub returns-in_err-assemble_language_candidates-in-All : goal.returns-in_err-assemble_language_candidates-in-All

@@ -1,9 +1,9 @@
 use Rattle.std.proofs.Common.{ap, subst, ◌∙◌, Err}
 use Rattle.std.proofs.lemmas.Result.{err_from_is_err_and}
-use Rattle.candidate_ir.specs.WellFormed.{IsWellFormedTable}
-use Rattle.candidate_eval.specs.ResponseTrees.{candidates_of}
-use Rattle.candidate_assembly.specs.Assembled.{left_out}
-use Rattle.candidate_assembly.proofs.AssembledLists.{below-here, first-stops, goal-later, impls-stop, left-out-said, list-goes-on, moves-on, nothing-added, objects-after}
+use Rattle.candidate_ir.specs.Validity.WellFormed.{IsWellFormedTable}
+use Rattle.candidate_eval.specs.Outcomes.ResponseTrees.{candidates_of}
+use Rattle.candidate_assembly.specs.Answers.Assembled.{left_out}
+use Rattle.candidate_assembly.proofs.Lists.AssembledLists.{below-here, first-stops, goal-later, impls-stop, left-out-said, list-goes-on, moves-on, nothing-added, objects-after}
 use Rattle.candidate_assembly.proofs.assembly.assemble.assemble_impls_and_objects.Goals as goal
 
 pub returns-then-leaves_out : goal.returns-then-leaves_out

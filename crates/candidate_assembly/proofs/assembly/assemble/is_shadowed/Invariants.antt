@@ -1,7 +1,7 @@
 use Rattle.std.proofs.Common.{◌≡◌, drop}
 use Rattle.std.specs.List.{list_any}
-use Rattle.candidate_eval.specs.ResponseTrees.{candidates_of}
-use Rattle.candidate_assembly.specs.Assembled.{shadows}
+use Rattle.candidate_eval.specs.Outcomes.ResponseTrees.{candidates_of}
+use Rattle.candidate_assembly.specs.Answers.Assembled.{shadows}
 use Rattle.candidate_assembly.proofs.assembly.assemble.is_shadowed.Given as goal
 
 -- none before shadows anything

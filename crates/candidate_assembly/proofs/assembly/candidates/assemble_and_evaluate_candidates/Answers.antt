@@ -1,16 +1,16 @@
 use Rattle.std.proofs.Common.{◌≡◌, refl, sym, ap, subst, ◌∙◌, None, Some, Err}
 use Rattle.std.proofs.lemmas.Result.{err_from_is_err_and}
-use Rattle.candidate_ir.specs.Context.{Context}
-use Rattle.candidate_ir.specs.WellFormed.{IsWellFormedTable}
-use Rattle.candidate_ir.specs.Trees.{Tree}
-use Rattle.candidate_ir.specs.Words.{env_forest, ty_tree}
-use Rattle.candidate_eval.specs.Accounts.{by_stop}
-use Rattle.candidate_eval.specs.States.{Env}
-use Rattle.candidate_assembly.specs.Kinds.{self_type}
-use Rattle.candidate_eval.specs.Accounts as question
-use Rattle.candidate_assembly.proofs.AssembledSteps.{held-in, normal-form-stands, normal-listed, normalizing-stopped, refused-listed, stop-handed}
-use Rattle.candidate_assembly.proofs.Keeping.{goal-kept}
-use Rattle.candidate_assembly.proofs.OneTrivial.{one-listed-of}
+use Rattle.candidate_ir.specs.Declarations.Context.{Context}
+use Rattle.candidate_ir.specs.Validity.WellFormed.{IsWellFormedTable}
+use Rattle.candidate_ir.specs.Syntax.Trees.{Tree}
+use Rattle.candidate_ir.specs.Syntax.Words.{env_forest, ty_tree}
+use Rattle.candidate_eval.specs.Interface.Accounts.{by_stop}
+use Rattle.candidate_eval.specs.Judges.States.{Env}
+use Rattle.candidate_assembly.specs.Goals.Kinds.{self_type}
+use Rattle.candidate_eval.specs.Interface.Accounts as question
+use Rattle.candidate_assembly.proofs.Lists.AssembledSteps.{held-in, normal-form-stands, normal-listed, normalizing-stopped, refused-listed, stop-handed}
+use Rattle.candidate_assembly.proofs.Calls.Keeping.{goal-kept}
+use Rattle.candidate_assembly.proofs.Lists.OneTrivial.{one-listed-of}
 use Rattle.candidate_assembly.proofs.assembly.candidates.assemble_and_evaluate_candidates.Goals as goal
 
 pub returns-in-Err-NoSolution-clause-assembled : goal.returns-in-Err-NoSolution-clause-assembled

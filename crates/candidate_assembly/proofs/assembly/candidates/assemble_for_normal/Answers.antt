@@ -1,15 +1,15 @@
 use Rattle.std.proofs.Common.{refl, sym, ap, subst, ◌∙◌, Err}
 use Rattle.std.proofs.lemmas.Result.{err_from_is_err_and}
-use Rattle.candidate_ir.specs.Context.{Context}
-use Rattle.candidate_ir.specs.Trees.{TypeKind}
-use Rattle.candidate_ir.specs.Words.{IsTy, ty_tree}
-use Rattle.candidate_ir.proofs.Kept.{grows-refl, ty-kept}
-use Rattle.candidate_ir.proofs.Rows.{kind-of}
-use Rattle.candidate_eval.specs.States.{State, resolved}
-use Rattle.candidate_eval.proofs.Objects.{env-kept}
-use Rattle.candidate_eval.proofs.Probing.{then as after}
-use Rattle.candidate_assembly.proofs.AssembledSteps.{general-told, list-not-reached, normal-below, normal-closed, normal-free, normal-stands, others-listed, resolved-is, resolved-stands, resolved-typed, variable-listed}
-use Rattle.candidate_assembly.proofs.Keeping.{goal-kept}
+use Rattle.candidate_ir.specs.Declarations.Context.{Context}
+use Rattle.candidate_ir.specs.Syntax.Trees.{TypeKind}
+use Rattle.candidate_ir.specs.Syntax.Words.{IsTy, ty_tree}
+use Rattle.candidate_ir.proofs.Growth.Kept.{grows-refl, ty-kept}
+use Rattle.candidate_ir.proofs.Syntax.Rows.{kind-of}
+use Rattle.candidate_eval.specs.Judges.States.{State, resolved}
+use Rattle.candidate_eval.proofs.Dynamic.Objects.{env-kept}
+use Rattle.candidate_eval.proofs.Interface.Probing.{then as after}
+use Rattle.candidate_assembly.proofs.Lists.AssembledSteps.{general-told, list-not-reached, normal-below, normal-closed, normal-free, normal-stands, others-listed, resolved-is, resolved-stands, resolved-typed, variable-listed}
+use Rattle.candidate_assembly.proofs.Calls.Keeping.{goal-kept}
 use Rattle.candidate_assembly.proofs.assembly.candidates.assemble_for_normal.Goals as goal
 
 pub returns-in_err-predicate : goal.returns-in_err-predicate

@@ -1,16 +1,16 @@
 use Rattle.std.proofs.Common.{refl, sym, ap, subst, ◌∙◌, Err}
-use Rattle.candidate_ir.specs.WellFormed.{IsWellFormedTable}
-use Rattle.candidate_ir.specs.Worlds.{Reference}
-use Rattle.candidate_eval.specs.Callable.{is_unknown}
-use Rattle.candidate_eval.specs.ObjectRequirements.{first_tree}
+use Rattle.candidate_ir.specs.Validity.WellFormed.{IsWellFormedTable}
+use Rattle.candidate_ir.specs.Declarations.Worlds.{Reference}
+use Rattle.candidate_eval.specs.Builtins.Callable.{is_unknown}
+use Rattle.candidate_eval.specs.Dynamic.ObjectRequirements.{first_tree}
 use Rattle.candidate_eval.specs.declared.eval.refusal.NoSolutionOrStop.{NoSolutionOrStop}
-use Rattle.candidate_assembly.specs.Assembled.{is_coherence}
-use Rattle.candidate_assembly.specs.Telling.{ConsidersSome}
-use Rattle.candidate_assembly.specs.Unknowable.{UnknowableJudged}
-use Rattle.candidate_assembly.specs.Standing.{GoalStands}
-use Rattle.candidate_assembly.proofs.AssembledSteps.{alone-listed, known-listed, outside-listed, unknowable-stopped}
-use Rattle.candidate_assembly.proofs.Keeping.{goal-kept}
-use Rattle.candidate_assembly.proofs.Standing.{stands-alike}
+use Rattle.candidate_assembly.specs.Answers.Assembled.{is_coherence}
+use Rattle.candidate_assembly.specs.Answers.Telling.{ConsidersSome}
+use Rattle.candidate_assembly.specs.Rules.Unknowable.{UnknowableJudged}
+use Rattle.candidate_assembly.specs.Goals.Standing.{GoalStands}
+use Rattle.candidate_assembly.proofs.Lists.AssembledSteps.{alone-listed, known-listed, outside-listed, unknowable-stopped}
+use Rattle.candidate_assembly.proofs.Calls.Keeping.{goal-kept}
+use Rattle.candidate_assembly.proofs.Goals.Standing.{stands-alike}
 use Rattle.candidate_assembly.proofs.assembly.candidates.assemble_resolved.Goals as goal
 
 pub returns-then-not-is_coherence : goal.returns-then-not-is_coherence

@@ -1,25 +1,25 @@
 use Rattle.std.proofs.Common.{◌≡◌, ◌<◌, ℕ, ◌∙◌, ap, subst, sym, refl, arith, false, nat_lt, ltb-false, ◌+◌}
 use Rattle.candidate_ir.specs.declared.ir.heads.Head.TheVariants as H
 use Rattle.candidate_ir.specs.declared.ir.stop.Stop.TheVariants.{NodesFull}
-use Rattle.candidate_ir.specs.Kinds.{arg_number}
-use Rattle.candidate_ir.specs.Context.{Context}
-use Rattle.candidate_ir.specs.Folds.{arg_tree, is_asked}
-use Rattle.candidate_ir.specs.Nodes.{tree_at}
-use Rattle.candidate_ir.specs.Opening.{opened_tree}
-use Rattle.candidate_ir.specs.Trees.{RegionKind, Tree, binders_of}
-use Rattle.candidate_ir.specs.Words.{args_forest, env_forest, region_tree}
-use Rattle.candidate_ir.proofs.Kept.{args-kept}
-use Rattle.candidate_ir.proofs.Lists.{below_kind}
+use Rattle.candidate_ir.specs.Syntax.Kinds.{arg_number}
+use Rattle.candidate_ir.specs.Declarations.Context.{Context}
+use Rattle.candidate_ir.specs.Instantiation.Folds.{arg_tree, is_asked}
+use Rattle.candidate_ir.specs.Syntax.Nodes.{tree_at}
+use Rattle.candidate_ir.specs.Instantiation.Opening.{opened_tree}
+use Rattle.candidate_ir.specs.Syntax.Trees.{RegionKind, Tree, binders_of}
+use Rattle.candidate_ir.specs.Syntax.Words.{args_forest, env_forest, region_tree}
+use Rattle.candidate_ir.proofs.Growth.Kept.{args-kept}
+use Rattle.candidate_ir.proofs.Syntax.Lists.{below_kind}
 use Rattle.candidate_assembly.specs.declared.assembly.characterize.Said.TheVariants.{Found, Nothing, Parts}
-use Rattle.candidate_eval.specs.Accounts.StopsSomehow.{making}
-use Rattle.candidate_eval.specs.Characterization.{bound_kinds, each_group, groups, looked, region_seen}
-use Rattle.candidate_eval.specs.Evaluators.{kinds_listed}
-use Rattle.candidate_eval.proofs.Objects.{env-kept}
-use Rattle.candidate_eval.proofs.Probing.{keeps-trans, made}
-use Rattle.candidate_eval.proofs.StopKinds.{subst_making}
-use Rattle.candidate_eval.specs.Accounts.{Question}
-use Rattle.candidate_assembly.specs.Characterizing.{unless_said, visited_at}
-use Rattle.candidate_assembly.proofs.Characterizing.{a-part, arg-below, asking-walk, constant-begins, constant-ends, depth-walk, env-later, found-here, last-step, later-visit, making-walk, many-groups, next-group, next-opened, next-step, no-group, no-part, none-opened, none-refused, normal-looked, normal-refused, nothing-done, number-later, one-group, opened-begins, own-walk, passed-on, region-begins, type-begins, unasked, unasked-opened, under-placeholders, walked-later}
+use Rattle.candidate_eval.specs.Interface.Accounts.StopsSomehow.{making}
+use Rattle.candidate_eval.specs.Derivations.Characterization.{bound_kinds, each_group, groups, looked, region_seen}
+use Rattle.candidate_eval.specs.Interface.Evaluators.{kinds_listed}
+use Rattle.candidate_eval.proofs.Dynamic.Objects.{env-kept}
+use Rattle.candidate_eval.proofs.Interface.Probing.{keeps-trans, made}
+use Rattle.candidate_eval.proofs.Interface.StopKinds.{subst_making}
+use Rattle.candidate_eval.specs.Interface.Accounts.{Question}
+use Rattle.candidate_assembly.specs.Calls.Characterizing.{unless_said, visited_at}
+use Rattle.candidate_assembly.proofs.Rules.Characterizing.{a-part, arg-below, asking-walk, constant-begins, constant-ends, depth-walk, env-later, found-here, last-step, later-visit, making-walk, many-groups, next-group, next-opened, next-step, no-group, no-part, none-opened, none-refused, normal-looked, normal-refused, nothing-done, number-later, one-group, opened-begins, own-walk, passed-on, region-begins, type-begins, unasked, unasked-opened, under-placeholders, walked-later}
 use Rattle.candidate_assembly.proofs.assembly.characterize.+visit.Goals as goal
 
 -- A part that stood under a binder.

@@ -1,12 +1,12 @@
 use Rattle.std.proofs.Common.{◌≡◌, ◌+◌, ◌*◌, ◌-◌}
-use Rattle.candidate_ir.specs.Nodes.{tree_at}
-use Rattle.candidate_ir.specs.Opening.{opened}
-use Rattle.candidate_ir.specs.Supers.{after_first}
-use Rattle.candidate_ir.specs.Trees.{skip}
-use Rattle.candidate_ir.specs.Words.{args_forest, env_forest}
-use Rattle.candidate_eval.specs.Characterization.{each, each_group, each_group_of, groups}
-use Rattle.candidate_eval.specs.Evaluators.{Keeps}
-use Rattle.candidate_assembly.specs.Characterizing.{visited_at}
+use Rattle.candidate_ir.specs.Syntax.Nodes.{tree_at}
+use Rattle.candidate_ir.specs.Instantiation.Opening.{opened}
+use Rattle.candidate_ir.specs.Hierarchy.Supers.{after_first}
+use Rattle.candidate_ir.specs.Syntax.Trees.{skip}
+use Rattle.candidate_ir.specs.Syntax.Words.{args_forest, env_forest}
+use Rattle.candidate_eval.specs.Derivations.Characterization.{each, each_group, each_group_of, groups}
+use Rattle.candidate_eval.specs.Interface.Evaluators.{Keeps}
+use Rattle.candidate_assembly.specs.Calls.Characterizing.{visited_at}
 use Rattle.candidate_assembly.proofs.assembly.characterize.+visit.Given as goal
 
 abbrev pub decreases-visit : goal.decreases-visit

@@ -1,8 +1,8 @@
 use Rattle.std.proofs.Common.{◌≡◌, ◌++◌}
-use Rattle.candidate_ir.specs.Nodes.{tree_at}
-use Rattle.candidate_ir.specs.Trees.{skip}
-use Rattle.candidate_eval.specs.Characterization.{binder_kinds}
-use Rattle.candidate_eval.specs.Evaluators.{kinds_listed}
+use Rattle.candidate_ir.specs.Syntax.Nodes.{tree_at}
+use Rattle.candidate_ir.specs.Syntax.Trees.{skip}
+use Rattle.candidate_eval.specs.Derivations.Characterization.{binder_kinds}
+use Rattle.candidate_eval.specs.Interface.Evaluators.{kinds_listed}
 use Rattle.candidate_assembly.proofs.assembly.characterize.bound_kinds.Given as goal
 
 -- the variables before have their kinds

@@ -1,5 +1,5 @@
 use Rattle.std.proofs.Common.{◌<◌, ℕ, length, subst, sym}
-use Rattle.candidate_assembly.proofs.Characterizing.{arg-below}
+use Rattle.candidate_assembly.proofs.Rules.Characterizing.{arg-below}
 use Rattle.candidate_assembly.proofs.assembly.characterize.said_by_itself.Goals as goal
 
 pub head-requires : goal.head-requires

@@ -1,10 +1,10 @@
 use Rattle.std.proofs.Common.{◌∙◌, ap}
-use Rattle.candidate_ir.specs.Context.{Context}
-use Rattle.candidate_ir.specs.Nodes.{tree_at}
-use Rattle.candidate_ir.specs.Trees.{tree_holds}
-use Rattle.candidate_ir.specs.Words.{clause_tree, env_forest}
-use Rattle.candidate_eval.specs.Characterization.{is_any_bound}
-use Rattle.candidate_assembly.proofs.Characterizing.{asking-walk, clause-there, env-later, found-here, nothing-done, number-later, walked-later, with-bound, with-none, without-bound}
+use Rattle.candidate_ir.specs.Declarations.Context.{Context}
+use Rattle.candidate_ir.specs.Syntax.Nodes.{tree_at}
+use Rattle.candidate_ir.specs.Syntax.Trees.{tree_holds}
+use Rattle.candidate_ir.specs.Syntax.Words.{clause_tree, env_forest}
+use Rattle.candidate_eval.specs.Derivations.Characterization.{is_any_bound}
+use Rattle.candidate_assembly.proofs.Rules.Characterizing.{asking-walk, clause-there, env-later, found-here, nothing-done, number-later, walked-later, with-bound, with-none, without-bound}
 use Rattle.candidate_assembly.proofs.assembly.characterize.walk.Goals as goal
 
 pub returns-then-has_marked : goal.returns-then-has_marked

@@ -1,4 +1,4 @@
-use Rattle.candidate_assembly.proofs.BoundClauses.{trait-args-there}
+use Rattle.candidate_assembly.proofs.Objects.BoundClauses.{trait-args-there}
 use Rattle.candidate_assembly.proofs.assembly.dyn_bounds.bound_args.Goals as goal
 
 pub args-requires : goal.args-requires

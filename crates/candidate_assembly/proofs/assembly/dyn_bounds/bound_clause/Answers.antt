@@ -1,12 +1,12 @@
 use Rattle.std.proofs.Common.{◌≡◌, sym, ◌∙◌, ap, subst}
 use Rattle.candidate_ir.specs.declared.ir.kinds.ClauseKind.{ClauseKind}
-use Rattle.candidate_ir.specs.Context.{Context, world}
-use Rattle.candidate_ir.specs.References.{IsWellFormed, Takes}
-use Rattle.candidate_ir.specs.Words.{ClauseFits, PredFits, clause_kind_tree, pred_kind_tree, pred_tree, ty_tree}
-use Rattle.candidate_ir.proofs.Kept.{grows-trans}
-use Rattle.candidate_assembly.specs.DynBounds.{bound_said}
-use Rattle.candidate_assembly.proofs.BoundClauses.{bound-takes, list-made, said-fits, said-takes, said-tree}
-use Rattle.candidate_assembly.proofs.Causes.{so-ok}
+use Rattle.candidate_ir.specs.Declarations.Context.{Context, world}
+use Rattle.candidate_ir.specs.Declarations.References.{IsWellFormed, Takes}
+use Rattle.candidate_ir.specs.Syntax.Words.{ClauseFits, PredFits, clause_kind_tree, pred_kind_tree, pred_tree, ty_tree}
+use Rattle.candidate_ir.proofs.Growth.Kept.{grows-trans}
+use Rattle.candidate_assembly.specs.Rules.DynBounds.{bound_said}
+use Rattle.candidate_assembly.proofs.Objects.BoundClauses.{bound-takes, list-made, said-fits, said-takes, said-tree}
+use Rattle.candidate_assembly.proofs.Calls.Causes.{so-ok}
 use Rattle.candidate_assembly.proofs.assembly.dyn_bounds.bound_clause.Goals as goal
 
 pub mk_clause-requires-clause-fits : goal.mk_clause-requires-clause-fits

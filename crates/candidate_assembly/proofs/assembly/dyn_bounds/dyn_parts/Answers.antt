@@ -1,5 +1,5 @@
-use Rattle.candidate_ir.specs.Words.{ty_tree}
-use Rattle.candidate_assembly.proofs.BoundClauses.{dyn-bounds, dyn-region}
+use Rattle.candidate_ir.specs.Syntax.Words.{ty_tree}
+use Rattle.candidate_assembly.proofs.Objects.BoundClauses.{dyn-bounds, dyn-region}
 use Rattle.candidate_assembly.proofs.assembly.dyn_bounds.dyn_parts.Goals as goal
 
 pub returns-clause-bounds : goal.returns-clause-bounds

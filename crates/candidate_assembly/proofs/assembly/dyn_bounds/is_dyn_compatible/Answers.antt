@@ -1,7 +1,7 @@
 use Rattle.std.proofs.Common.{ap, sym, ◌∙◌}
-use Rattle.candidate_ir.specs.Words.{ty_tree}
-use Rattle.candidate_assembly.specs.BuiltinRules.{is_set}
-use Rattle.candidate_assembly.proofs.BoundClauses.{compatible-is, compatible-with, no-principal}
+use Rattle.candidate_ir.specs.Syntax.Words.{ty_tree}
+use Rattle.candidate_assembly.specs.Rules.BuiltinRules.{is_set}
+use Rattle.candidate_assembly.proofs.Objects.BoundClauses.{compatible-is, compatible-with, no-principal}
 use Rattle.candidate_assembly.proofs.assembly.dyn_bounds.is_dyn_compatible.Goals as goal
 
 pub returns-in_default : goal.returns-in_default

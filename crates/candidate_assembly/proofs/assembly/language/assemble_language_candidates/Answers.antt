@@ -1,10 +1,10 @@
 use Rattle.std.proofs.Common.{◌≡◌, List, None, Some, Ok, ap, subst}
-use Rattle.candidate_ir.specs.Context.{Context}
-use Rattle.candidate_eval.specs.Rules.{Rule}
-use Rattle.candidate_assembly.specs.Assembled.{named_rules, rule_name}
-use Rattle.candidate_assembly.specs.Language.{rule_named}
-use Rattle.candidate_assembly.specs.Listing.{ConsidersAll}
-use Rattle.candidate_assembly.proofs.Listing.{no-rule-listed, one-listed, whole_list}
+use Rattle.candidate_ir.specs.Declarations.Context.{Context}
+use Rattle.candidate_eval.specs.Derivations.Rules.{Rule}
+use Rattle.candidate_assembly.specs.Answers.Assembled.{named_rules, rule_name}
+use Rattle.candidate_assembly.specs.Rules.Language.{rule_named}
+use Rattle.candidate_assembly.specs.Answers.Listing.{ConsidersAll}
+use Rattle.candidate_assembly.proofs.Lists.Listing.{no-rule-listed, one-listed, whole_list}
 use Rattle.candidate_assembly.proofs.assembly.language.assemble_language_candidates.Goals as goal
 
 pub returns-in_default : goal.returns-in_default

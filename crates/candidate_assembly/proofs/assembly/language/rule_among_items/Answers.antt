@@ -1,8 +1,8 @@
 use Rattle.candidate_ir.specs.declared.decl.contents.LangItem.TheVariants as L
-use Rattle.candidate_ir.specs.Faults.{all_items}
-use Rattle.candidate_assembly.specs.Assembled.{rule_among}
-use Rattle.candidate_assembly.specs.Language.{rule_named}
-use Rattle.candidate_assembly.proofs.LanguageRules.{item-found, item-passed, items-ended}
+use Rattle.candidate_ir.specs.Validity.Faults.{all_items}
+use Rattle.candidate_assembly.specs.Answers.Assembled.{rule_among}
+use Rattle.candidate_assembly.specs.Rules.Language.{rule_named}
+use Rattle.candidate_assembly.proofs.Rules.LanguageRules.{item-found, item-passed, items-ended}
 use Rattle.candidate_assembly.proofs.assembly.language.rule_among_items.Goals as goal
 
 pub loop-item-preserved : goal.loop-item-preserved

@@ -1,7 +1,7 @@
 use Rattle.std.proofs.Common.{◌≡◌}
 use Rattle.std.proofs.Math.ListN.{drop}
-use Rattle.candidate_ir.specs.Faults.{all_items}
-use Rattle.candidate_assembly.specs.Assembled.{rule_among}
+use Rattle.candidate_ir.specs.Validity.Faults.{all_items}
+use Rattle.candidate_assembly.specs.Answers.Assembled.{rule_among}
 use Rattle.candidate_assembly.proofs.assembly.language.rule_among_items.Given as goal
 
 -- those left say which rule the trait has

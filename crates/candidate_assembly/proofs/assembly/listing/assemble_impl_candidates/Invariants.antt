@@ -1,6 +1,6 @@
 use Rattle.std.proofs.Common.{map, take}
-use Rattle.candidate_assembly.specs.Assembled.{impl_rule}
-use Rattle.candidate_assembly.proofs.Listing.{ListedSoFar}
+use Rattle.candidate_assembly.specs.Answers.Assembled.{impl_rule}
+use Rattle.candidate_assembly.proofs.Lists.Listing.{ListedSoFar}
 use Rattle.candidate_assembly.proofs.assembly.listing.assemble_impl_candidates.Given as goal
 
 -- the candidates by the impls before were listed

@@ -3,18 +3,18 @@ use Rattle.std.specs.Prelude.{slice_index_or}
 use Rattle.std.proofs.lemmas.List.Elements.{All-get_or}
 use Rattle.std.proofs.lemmas.Result.{err_from_is_err_and}
 use Rattle.candidate_ir.specs.declared.ir.kinds.Clause.{Clause}
-use Rattle.candidate_ir.specs.Substitutions.{alone}
-use Rattle.candidate_ir.specs.Trees.{Tree, holds, is_param, none}
-use Rattle.candidate_ir.specs.Words.{clause_tree}
-use Rattle.candidate_ir.proofs.Joining.{clause-kept}
-use Rattle.candidate_ir.proofs.Made.{IsClause-listed}
-use Rattle.candidate_eval.specs.Mentions.{is_from}
-use Rattle.candidate_eval.proofs.Holds.{holds_parts}
-use Rattle.candidate_eval.proofs.Resolving.{read-env}
-use Rattle.candidate_assembly.specs.Assembled.{where_rule}
-use Rattle.candidate_assembly.proofs.EnvRules.{clauses-hold-none, where-judged, where-rules-read}
-use Rattle.candidate_assembly.proofs.Keeping.{goal-kept}
-use Rattle.candidate_assembly.proofs.Listing.{all-listed, listing-stops, next-listed, none-listed, not-listed}
+use Rattle.candidate_ir.specs.Unification.Substitutions.{alone}
+use Rattle.candidate_ir.specs.Syntax.Trees.{Tree, holds, is_param, none}
+use Rattle.candidate_ir.specs.Syntax.Words.{clause_tree}
+use Rattle.candidate_ir.proofs.Instantiation.Joining.{clause-kept}
+use Rattle.candidate_ir.proofs.Growth.Made.{IsClause-listed}
+use Rattle.candidate_eval.specs.Derivations.Mentions.{is_from}
+use Rattle.candidate_eval.proofs.Marks.Holds.{holds_parts}
+use Rattle.candidate_eval.proofs.Interface.Resolving.{read-env}
+use Rattle.candidate_assembly.specs.Answers.Assembled.{where_rule}
+use Rattle.candidate_assembly.proofs.Rules.EnvRules.{clauses-hold-none, where-judged, where-rules-read}
+use Rattle.candidate_assembly.proofs.Calls.Keeping.{goal-kept}
+use Rattle.candidate_assembly.proofs.Lists.Listing.{all-listed, listing-stops, next-listed, none-listed, not-listed}
 use Rattle.candidate_assembly.proofs.assembly.listing.assemble_param_env_candidates.Goals as goal
 
 pub returns-in_err-clauses : goal.returns-in_err-clauses

@@ -1,7 +1,7 @@
 use Rattle.std.proofs.Common.{map, take}
-use Rattle.candidate_ir.specs.Words.{clause_tree}
-use Rattle.candidate_assembly.specs.Assembled.{where_rule}
-use Rattle.candidate_assembly.proofs.Listing.{ListedSoFar}
+use Rattle.candidate_ir.specs.Syntax.Words.{clause_tree}
+use Rattle.candidate_assembly.specs.Answers.Assembled.{where_rule}
+use Rattle.candidate_assembly.proofs.Lists.Listing.{ListedSoFar}
 use Rattle.candidate_assembly.proofs.assembly.listing.assemble_param_env_candidates.Given as goal
 
 -- the candidates by the clauses before were listed

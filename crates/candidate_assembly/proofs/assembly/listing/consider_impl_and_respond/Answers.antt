@@ -1,4 +1,4 @@
-use Rattle.candidate_assembly.proofs.Keeping.{responds-at}
+use Rattle.candidate_assembly.proofs.Calls.Keeping.{responds-at}
 use Rattle.candidate_assembly.proofs.assembly.listing.consider_impl_and_respond.Goals as goal
 
 pub returns : goal.returns

@@ -2,14 +2,14 @@ use Rattle.std.proofs.Common.{refl, get_or}
 use Rattle.std.proofs.lemmas.Result.{err_from_is_err_and}
 use Rattle.candidate_ir.specs.declared.ir.kinds.Clause.{Clause}
 use Rattle.candidate_ir.specs.declared.ir.kinds.GoalSource.TheVariants.{Misc}
-use Rattle.candidate_ir.proofs.Joining.{clause-kept}
-use Rattle.candidate_ir.proofs.Kept.{grows-refl}
-use Rattle.candidate_eval.specs.Accounts.StopsSomehow.{asking}
-use Rattle.candidate_eval.proofs.Accounts.{accounted-here, reaches, somehow-later}
-use Rattle.candidate_eval.proofs.Objects.{env-kept}
-use Rattle.candidate_eval.proofs.Probing.{then}
-use Rattle.candidate_assembly.specs.Requirements.{Requirement}
-use Rattle.candidate_assembly.proofs.Requiring.{all-required, none-required, one-required}
+use Rattle.candidate_ir.proofs.Instantiation.Joining.{clause-kept}
+use Rattle.candidate_ir.proofs.Growth.Kept.{grows-refl}
+use Rattle.candidate_eval.specs.Interface.Accounts.StopsSomehow.{asking}
+use Rattle.candidate_eval.proofs.Interface.Accounts.{accounted-here, reaches, somehow-later}
+use Rattle.candidate_eval.proofs.Dynamic.Objects.{env-kept}
+use Rattle.candidate_eval.proofs.Interface.Probing.{then}
+use Rattle.candidate_assembly.specs.Rules.Requirements.{Requirement}
+use Rattle.candidate_assembly.proofs.Rules.Requiring.{all-required, none-required, one-required}
 use Rattle.candidate_assembly.proofs.assembly.matching.add_requirements.Goals as goal
 
 pub loop-requirement-init : goal.loop-requirement-init

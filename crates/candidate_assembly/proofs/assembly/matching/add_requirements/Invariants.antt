@@ -1,6 +1,6 @@
 use Rattle.std.proofs.Common.{◌≡◌, take}
-use Rattle.candidate_eval.specs.Evaluators.{Keeps}
-use Rattle.candidate_assembly.specs.Requirements.{with_requirements}
+use Rattle.candidate_eval.specs.Interface.Evaluators.{Keeps}
+use Rattle.candidate_assembly.specs.Rules.Requirements.{with_requirements}
 use Rattle.candidate_assembly.proofs.assembly.matching.add_requirements.Given as goal
 
 -- those before are pending

@@ -1,17 +1,17 @@
 use Rattle.std.proofs.lemmas.Result.{err_from_is_err_and}
-use Rattle.candidate_ir.specs.Words.{env_forest}
+use Rattle.candidate_ir.specs.Syntax.Words.{env_forest}
 use Rattle.candidate_eval.specs.declared.eval.context.ProbeKind.TheVariants.{Kept}
-use Rattle.candidate_eval.specs.Accounts as question
-use Rattle.candidate_eval.specs.Accounts.{by_stop}
-use Rattle.candidate_eval.specs.Judging.{judged}
-use Rattle.candidate_eval.proofs.Objects.{env-kept}
-use Rattle.candidate_assembly.specs.Requirements.{requirement_steps, requiring_rule}
-use Rattle.candidate_assembly.specs.Telling.{StopsOfItself}
-use Rattle.candidate_eval.proofs.Probing.{of-error}
-use Rattle.candidate_assembly.proofs.Causes.{answered-stop, so-err}
-use Rattle.candidate_assembly.proofs.Considering.{not-begun}
-use Rattle.candidate_assembly.proofs.Keeping.{in-probe}
-use Rattle.candidate_assembly.proofs.Requiring.{fits-kept, required-free, requiring-told, rule-kept}
+use Rattle.candidate_eval.specs.Interface.Accounts as question
+use Rattle.candidate_eval.specs.Interface.Accounts.{by_stop}
+use Rattle.candidate_eval.specs.Derivations.Judging.{judged}
+use Rattle.candidate_eval.proofs.Dynamic.Objects.{env-kept}
+use Rattle.candidate_assembly.specs.Rules.Requirements.{requirement_steps, requiring_rule}
+use Rattle.candidate_assembly.specs.Answers.Telling.{StopsOfItself}
+use Rattle.candidate_eval.proofs.Interface.Probing.{of-error}
+use Rattle.candidate_assembly.proofs.Calls.Causes.{answered-stop, so-err}
+use Rattle.candidate_assembly.proofs.Calls.Considering.{not-begun}
+use Rattle.candidate_assembly.proofs.Calls.Keeping.{in-probe}
+use Rattle.candidate_assembly.proofs.Rules.Requiring.{fits-kept, required-free, requiring-told, rule-kept}
 use Rattle.candidate_assembly.proofs.assembly.matching.consider_requirements.Goals as goal
 
 pub returns-in_err-probe : goal.returns-in_err-probe

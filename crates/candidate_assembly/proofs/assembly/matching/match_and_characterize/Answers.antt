@@ -1,13 +1,13 @@
 use Rattle.std.proofs.Common.{rules, [], ◌∷◌, subst, sym, ◌∙◌, IfErr}
-use Rattle.candidate_ir.specs.Words.{IsClause, IsParamEnv, clause_tree, env_forest}
-use Rattle.candidate_ir.proofs.Joining.{clause-kept}
-use Rattle.candidate_eval.specs.Accounts.{by_stop}
-use Rattle.candidate_eval.specs.Judging.{comes_to, run, start}
-use Rattle.candidate_eval.specs.Rules.{characterise, settle}
-use Rattle.candidate_eval.proofs.Objects.{env-kept}
-use Rattle.candidate_assembly.specs.Telling.{StopsOfItself, Told}
-use Rattle.candidate_assembly.proofs.Answering.{after-accounted, after-ruled, rule-comes}
-use Rattle.candidate_assembly.proofs.WhereBounds.{characterised-same, settled-same}
+use Rattle.candidate_ir.specs.Syntax.Words.{IsClause, IsParamEnv, clause_tree, env_forest}
+use Rattle.candidate_ir.proofs.Instantiation.Joining.{clause-kept}
+use Rattle.candidate_eval.specs.Interface.Accounts.{by_stop}
+use Rattle.candidate_eval.specs.Derivations.Judging.{comes_to, run, start}
+use Rattle.candidate_eval.specs.Derivations.Rules.{characterise, settle}
+use Rattle.candidate_eval.proofs.Dynamic.Objects.{env-kept}
+use Rattle.candidate_assembly.specs.Answers.Telling.{StopsOfItself, Told}
+use Rattle.candidate_assembly.proofs.Rules.Answering.{after-accounted, after-ruled, rule-comes}
+use Rattle.candidate_assembly.proofs.Rules.WhereBounds.{characterised-same, settled-same}
 use Rattle.candidate_assembly.proofs.assembly.matching.match_and_characterize.Goals as goal
 
 pub match_assumption-requires-clause-callable : goal.match_assumption-requires-clause-callable

@@ -1,16 +1,16 @@
 use Rattle.std.proofs.Common.{rules, Option, subst, sym, ap, ◌∙◌}
-use Rattle.candidate_ir.specs.Words.{IsParamEnv, clause_tree}
+use Rattle.candidate_ir.specs.Syntax.Words.{IsParamEnv, clause_tree}
 use Rattle.candidate_eval.specs.declared.eval.certainty.Certainty.TheVariants.{Yes}
-use Rattle.candidate_eval.specs.Judging.{comes_to}
-use Rattle.candidate_eval.specs.Responses.{Response}
-use Rattle.candidate_eval.specs.Rules.{ask}
-use Rattle.candidate_eval.specs.States.{State}
-use Rattle.candidate_eval.proofs.Objects.{env-kept}
-use Rattle.candidate_assembly.specs.Closures.{Responds}
-use Rattle.candidate_assembly.specs.Requirements.{RequirementsFit, requirement_steps, with_requirements}
-use Rattle.candidate_assembly.specs.Telling.{Told, standing}
-use Rattle.candidate_assembly.proofs.Answering.{closure-as-steps}
-use Rattle.candidate_assembly.proofs.Requiring.{fits-kept, requirements-come, requirements-kept}
+use Rattle.candidate_eval.specs.Derivations.Judging.{comes_to}
+use Rattle.candidate_eval.specs.Outcomes.Responses.{Response}
+use Rattle.candidate_eval.specs.Derivations.Rules.{ask}
+use Rattle.candidate_eval.specs.Judges.States.{State}
+use Rattle.candidate_eval.proofs.Dynamic.Objects.{env-kept}
+use Rattle.candidate_assembly.specs.Answers.Closures.{Responds}
+use Rattle.candidate_assembly.specs.Rules.Requirements.{RequirementsFit, requirement_steps, with_requirements}
+use Rattle.candidate_assembly.specs.Answers.Telling.{Told, standing}
+use Rattle.candidate_assembly.proofs.Rules.Answering.{closure-as-steps}
+use Rattle.candidate_assembly.proofs.Rules.Requiring.{fits-kept, requirements-come, requirements-kept}
 use Rattle.candidate_assembly.proofs.assembly.matching.probe_and_consider_implied_clause.Goals as goal
 
 pub probe_and_match_goal_against_assumption-requires-clause-callable : goal.probe_and_match_goal_against_assumption-requires-clause-callable

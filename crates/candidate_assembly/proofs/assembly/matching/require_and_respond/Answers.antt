@@ -1,12 +1,12 @@
 use Rattle.std.proofs.lemmas.Result.{err_from_is_err_and}
 use Rattle.candidate_eval.specs.declared.eval.certainty.Certainty.TheVariants.{Yes}
-use Rattle.candidate_eval.specs.Accounts.{Question}
-use Rattle.candidate_eval.proofs.Accounts.{reaches}
-use Rattle.candidate_eval.proofs.Probing.{then}
-use Rattle.candidate_assembly.specs.Requirements.{with_requirements}
-use Rattle.candidate_assembly.proofs.Answering.{responds-so, responds-stop}
-use Rattle.candidate_assembly.proofs.Causes.{answered-stop, asked-here, caused, later, somehow-here}
-use Rattle.candidate_assembly.proofs.Stepping.{evaluator-own, somehow-own}
+use Rattle.candidate_eval.specs.Interface.Accounts.{Question}
+use Rattle.candidate_eval.proofs.Interface.Accounts.{reaches}
+use Rattle.candidate_eval.proofs.Interface.Probing.{then}
+use Rattle.candidate_assembly.specs.Rules.Requirements.{with_requirements}
+use Rattle.candidate_assembly.proofs.Rules.Answering.{responds-so, responds-stop}
+use Rattle.candidate_assembly.proofs.Calls.Causes.{answered-stop, asked-here, caused, later, somehow-here}
+use Rattle.candidate_assembly.proofs.Calls.Stepping.{evaluator-own, somehow-own}
 use Rattle.candidate_assembly.proofs.assembly.matching.require_and_respond.Goals as goal
 
 pub returns-in_err-add_requirements-clause-responds : goal.returns-in_err-add_requirements-clause-responds

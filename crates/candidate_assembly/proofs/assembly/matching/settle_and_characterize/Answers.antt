@@ -1,16 +1,16 @@
 use Rattle.std.proofs.Common.{Err, ap, subst, sym, ◌∙◌}
 use Rattle.std.proofs.lemmas.Result.{err_from_is_err_and}
-use Rattle.candidate_ir.specs.Words.{clause_tree, env_forest}
-use Rattle.candidate_ir.proofs.Joining.{clause-kept}
-use Rattle.candidate_eval.specs.Accounts.{Question}
-use Rattle.candidate_eval.specs.Accounts.StopsSomehow.{asking}
-use Rattle.candidate_eval.specs.Characterization.{characterization}
-use Rattle.candidate_eval.proofs.Accounts.{accounted-here, by-stop, reaches}
-use Rattle.candidate_eval.proofs.Objects.{env-kept}
-use Rattle.candidate_eval.proofs.Probing.{then}
-use Rattle.candidate_assembly.specs.Telling.{Told}
-use Rattle.candidate_assembly.proofs.Causes.{answered-error, caused, later}
-use Rattle.candidate_assembly.proofs.WhereBounds.{asks-found, characterised-comes, told-uncharacterised}
+use Rattle.candidate_ir.specs.Syntax.Words.{clause_tree, env_forest}
+use Rattle.candidate_ir.proofs.Instantiation.Joining.{clause-kept}
+use Rattle.candidate_eval.specs.Interface.Accounts.{Question}
+use Rattle.candidate_eval.specs.Interface.Accounts.StopsSomehow.{asking}
+use Rattle.candidate_eval.specs.Derivations.Characterization.{characterization}
+use Rattle.candidate_eval.proofs.Interface.Accounts.{accounted-here, by-stop, reaches}
+use Rattle.candidate_eval.proofs.Dynamic.Objects.{env-kept}
+use Rattle.candidate_eval.proofs.Interface.Probing.{then}
+use Rattle.candidate_assembly.specs.Answers.Telling.{Told}
+use Rattle.candidate_assembly.proofs.Calls.Causes.{answered-error, caused, later}
+use Rattle.candidate_assembly.proofs.Rules.WhereBounds.{asks-found, characterised-comes, told-uncharacterised}
 use Rattle.candidate_assembly.proofs.assembly.matching.settle_and_characterize.Goals as goal
 
 pub returns-in_err-try_evaluate_added_goals-clause-cause : goal.returns-in_err-try_evaluate_added_goals-clause-cause

@@ -1,11 +1,11 @@
 use Rattle.std.proofs.lemmas.Result.{err_from_is_err_and}
-use Rattle.candidate_eval.specs.ResponseTrees.{candidates_of}
-use Rattle.candidate_eval.proofs.Probing.{then}
+use Rattle.candidate_eval.specs.Outcomes.ResponseTrees.{candidates_of}
+use Rattle.candidate_eval.proofs.Interface.Probing.{then}
 use Rattle.candidate_assembly.specs.declared.assembly.opaques.AssembleCandidatesFrom.TheVariants.{All}
-use Rattle.candidate_assembly.specs.MergedKinds.{AfterAll}
-use Rattle.candidate_assembly.specs.MergedKinds.AfterList.{assembled}
-use Rattle.candidate_assembly.proofs.Causes.{answered-stop}
-use Rattle.candidate_assembly.proofs.MergedKinds.{list-stopped}
+use Rattle.candidate_assembly.specs.Answers.MergedKinds.{AfterAll}
+use Rattle.candidate_assembly.specs.Answers.MergedKinds.AfterList.{assembled}
+use Rattle.candidate_assembly.proofs.Calls.Causes.{answered-stop}
+use Rattle.candidate_assembly.proofs.Answers.MergedKinds.{list-stopped}
 use Rattle.candidate_assembly.proofs.assembly.merging.answer_by_all.Goals as goal
 
 pub returns-in_err-candidates-clause-kept : goal.returns-in_err-candidates-clause-kept

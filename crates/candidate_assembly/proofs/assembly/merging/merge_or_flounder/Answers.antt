@@ -2,9 +2,9 @@ use Rattle.std.proofs.Common.{◌≡◌, Err, Option, ap, ◌∙◌, subst}
 use Rattle.std.proofs.lemmas.Result.{err_from_is_err_and}
 use Rattle.candidate_eval.specs.declared.eval.response.CanonicalResponse.{CanonicalResponse}
 use Rattle.candidate_eval.specs.declared.eval.response.MergeCandidateInfo.{MergeCandidateInfo}
-use Rattle.candidate_eval.specs.Merging.{merged}
-use Rattle.candidate_eval.specs.ResponseTrees.{candidates_of, merge_of}
-use Rattle.candidate_assembly.proofs.MergedKinds.{answers-floundered, not-answered}
+use Rattle.candidate_eval.specs.Outcomes.Merging.{merged}
+use Rattle.candidate_eval.specs.Outcomes.ResponseTrees.{candidates_of, merge_of}
+use Rattle.candidate_assembly.proofs.Answers.MergedKinds.{answers-floundered, not-answered}
 use Rattle.candidate_assembly.proofs.assembly.merging.merge_or_flounder.Goals as goal
 
 pub returns-in_err-response : goal.returns-in_err-response

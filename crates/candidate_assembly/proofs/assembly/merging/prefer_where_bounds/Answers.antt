@@ -1,6 +1,6 @@
-use Rattle.candidate_assembly.specs.Assembled.{is_of_environment}
-use Rattle.candidate_assembly.proofs.MergedKinds.{where-bounds-win}
-use Rattle.candidate_assembly.proofs.Preferring.{fit-kept}
+use Rattle.candidate_assembly.specs.Answers.Assembled.{is_of_environment}
+use Rattle.candidate_assembly.proofs.Answers.MergedKinds.{where-bounds-win}
+use Rattle.candidate_assembly.proofs.Answers.Preferring.{fit-kept}
 use Rattle.candidate_assembly.proofs.assembly.merging.prefer_where_bounds.Goals as goal
 
 pub returns-then-has_where_bound-clause-list : goal.returns-then-has_where_bound-clause-list

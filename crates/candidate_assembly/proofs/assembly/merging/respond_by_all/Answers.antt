@@ -1,10 +1,10 @@
 use Rattle.std.proofs.Common.{◌≡◌, List, ap, sym, subst, ◌∙◌}
 use Rattle.candidate_eval.specs.declared.eval.response.Candidate.{Candidate as OfNumbers}
-use Rattle.candidate_eval.specs.ResponseTrees.{AreCandidates, candidates_of}
-use Rattle.candidate_eval.specs.Responses.{Candidate}
+use Rattle.candidate_eval.specs.Outcomes.ResponseTrees.{AreCandidates, candidates_of}
+use Rattle.candidate_eval.specs.Outcomes.Responses.{Candidate}
 use Rattle.candidate_assembly.specs.declared.assembly.specialization.AllowInferenceConstraints.TheVariants as Allow
-use Rattle.candidate_assembly.specs.MergedKinds.{Answers, come_to, only_where_bounds}
-use Rattle.candidate_assembly.specs.Specialization.{unspecialized}
+use Rattle.candidate_assembly.specs.Answers.MergedKinds.{Answers, come_to, only_where_bounds}
+use Rattle.candidate_assembly.specs.Answers.Specialization.{unspecialized}
 use Rattle.candidate_assembly.proofs.assembly.merging.respond_by_all.Goals as goal
 
 pub filter_specialized_impls-requires : goal.filter_specialized_impls-requires

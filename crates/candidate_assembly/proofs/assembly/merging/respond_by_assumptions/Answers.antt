@@ -3,14 +3,14 @@ use Rattle.std.specs.Fn.{FnOnceReturnsAtMut}
 use Rattle.candidate_eval.specs.declared.eval.refusal.NoSolutionOrStop.{NoSolutionOrStop}
 use Rattle.candidate_eval.specs.declared.eval.response.Candidate.{Candidate as OfNumbers}
 use Rattle.candidate_eval.specs.declared.eval.response.CanonicalResponse.{CanonicalResponse}
-use Rattle.candidate_eval.specs.ResponseTrees.{AreCandidates, candidates_of}
-use Rattle.candidate_eval.specs.Responses.{Candidate}
-use Rattle.candidate_eval.proofs.Probing.{then}
-use Rattle.candidate_assembly.specs.MergedKinds.{Answers, come_to, only_where_bounds}
-use Rattle.candidate_assembly.specs.MergedKinds.AfterAssumptions.{is_rigid, is_ambiguous, are_merged}
-use Rattle.candidate_assembly.proofs.Listing.{candidates-kept}
-use Rattle.candidate_assembly.proofs.MergedKinds.{keeps-same, none-there, some-there}
-use Rattle.candidate_assembly.proofs.OpaqueAnswers.{empty-is, not-empty}
+use Rattle.candidate_eval.specs.Outcomes.ResponseTrees.{AreCandidates, candidates_of}
+use Rattle.candidate_eval.specs.Outcomes.Responses.{Candidate}
+use Rattle.candidate_eval.proofs.Interface.Probing.{then}
+use Rattle.candidate_assembly.specs.Answers.MergedKinds.{Answers, come_to, only_where_bounds}
+use Rattle.candidate_assembly.specs.Answers.MergedKinds.AfterAssumptions.{is_rigid, is_ambiguous, are_merged}
+use Rattle.candidate_assembly.proofs.Lists.Listing.{candidates-kept}
+use Rattle.candidate_assembly.proofs.Answers.MergedKinds.{keeps-same, none-there, some-there}
+use Rattle.candidate_assembly.proofs.Opaques.OpaqueAnswers.{empty-is, not-empty}
 use Rattle.candidate_assembly.proofs.assembly.merging.respond_by_assumptions.Goals as goal
 
 pub returns-then-is_empty-clause-kept : goal.returns-then-is_empty-clause-kept

@@ -1,5 +1,5 @@
 use Rattle.std.proofs.Common.{ap, sym}
-use Rattle.candidate_assembly.specs.MergedKinds.{response_in}
+use Rattle.candidate_assembly.specs.Answers.MergedKinds.{response_in}
 use Rattle.candidate_assembly.proofs.assembly.merging.respond_unproved.Goals as goal
 
 pub returns-in-Ok : goal.returns-in-Ok

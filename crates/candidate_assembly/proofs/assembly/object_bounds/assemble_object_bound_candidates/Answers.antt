@@ -1,19 +1,19 @@
 use Rattle.std.proofs.Common.{◌≡◌, true, Err, refl, subst, sym, ap, ◌∙◌}
 use Rattle.std.proofs.lemmas.Result.{err_from_is_err_and}
-use Rattle.candidate_ir.specs.Context.{Context}
-use Rattle.candidate_ir.specs.Substitutions.{alone}
-use Rattle.candidate_ir.specs.Trees.{Tree, holds, is_param}
-use Rattle.candidate_ir.specs.WellFormed.{IsWellFormedTable}
-use Rattle.candidate_ir.specs.Words.{ty_tree}
-use Rattle.candidate_eval.proofs.Probing.{made}
-use Rattle.candidate_assembly.specs.DynBounds.{is_dynamic}
-use Rattle.candidate_assembly.specs.Kinds.{self_type}
-use Rattle.candidate_assembly.specs.ObjectLaws.{has_dynamic}
-use Rattle.candidate_assembly.proofs.BoundRules.{not-made-listed}
-use Rattle.candidate_assembly.proofs.Keeping.{goal-kept}
-use Rattle.candidate_assembly.proofs.Listing.{candidates-kept}
-use Rattle.candidate_assembly.proofs.ObjectFollowing.{bounds-listed, dynamic-head, nothing-said}
-use Rattle.candidate_assembly.proofs.ObjectJudging.{has-as-read, self-kept}
+use Rattle.candidate_ir.specs.Declarations.Context.{Context}
+use Rattle.candidate_ir.specs.Unification.Substitutions.{alone}
+use Rattle.candidate_ir.specs.Syntax.Trees.{Tree, holds, is_param}
+use Rattle.candidate_ir.specs.Validity.WellFormed.{IsWellFormedTable}
+use Rattle.candidate_ir.specs.Syntax.Words.{ty_tree}
+use Rattle.candidate_eval.proofs.Interface.Probing.{made}
+use Rattle.candidate_assembly.specs.Rules.DynBounds.{is_dynamic}
+use Rattle.candidate_assembly.specs.Goals.Kinds.{self_type}
+use Rattle.candidate_assembly.specs.Laws.ObjectLaws.{has_dynamic}
+use Rattle.candidate_assembly.proofs.Aliases.BoundRules.{not-made-listed}
+use Rattle.candidate_assembly.proofs.Calls.Keeping.{goal-kept}
+use Rattle.candidate_assembly.proofs.Lists.Listing.{candidates-kept}
+use Rattle.candidate_assembly.proofs.Objects.ObjectFollowing.{bounds-listed, dynamic-head, nothing-said}
+use Rattle.candidate_assembly.proofs.Objects.ObjectJudging.{has-as-read, self-kept}
 use Rattle.candidate_assembly.proofs.assembly.object_bounds.assemble_object_bound_candidates.Goals as goal
 
 pub returns-then-not-has_own_clauses : goal.returns-then-not-has_own_clauses

@@ -1,12 +1,12 @@
 use Rattle.std.proofs.Common.{rules, ◌≡◌, ◌≤◌, length, get_or, map, refl, sym, ap, subst, ◌∙◌}
 use Rattle.candidate_ir.specs.declared.ir.kinds.Pred.{Pred}
-use Rattle.candidate_ir.specs.Context.{Context}
-use Rattle.candidate_ir.specs.Trees.{Tree}
-use Rattle.candidate_ir.specs.Words.{IsPred, clause_tree, pred_tree, ty_tree}
-use Rattle.candidate_ir.proofs.Kept.{grows-trans, ty-kept}
-use Rattle.candidate_ir.proofs.Made.{IsPred-listed}
-use Rattle.candidate_assembly.specs.DynBounds.{is_principal}
-use Rattle.candidate_assembly.proofs.ObjectClauses.{all-said, none-said, one-said, pred-kept, principal-passed, said-before}
+use Rattle.candidate_ir.specs.Declarations.Context.{Context}
+use Rattle.candidate_ir.specs.Syntax.Trees.{Tree}
+use Rattle.candidate_ir.specs.Syntax.Words.{IsPred, clause_tree, pred_tree, ty_tree}
+use Rattle.candidate_ir.proofs.Growth.Kept.{grows-trans, ty-kept}
+use Rattle.candidate_ir.proofs.Growth.Made.{IsPred-listed}
+use Rattle.candidate_assembly.specs.Rules.DynBounds.{is_principal}
+use Rattle.candidate_assembly.proofs.Objects.ObjectClauses.{all-said, none-said, one-said, pred-kept, principal-passed, said-before}
 use Rattle.candidate_assembly.proofs.assembly.object_bounds.bounds_said.Goals as goal
 use Rattle.candidate_assembly.proofs.assembly.object_bounds.bounds_said.Goals.{then-not-is_principal+in_ok-clause+in_ok-push, else-not-is_principal}
 

@@ -1,18 +1,18 @@
 use Rattle.std.proofs.Common.{rules, ◌≤◌, Err, length, map, get_or, subst, ap, ◌∙◌}
 use Rattle.std.proofs.lemmas.Result.{err_from_is_err_and}
 use Rattle.candidate_ir.specs.declared.ir.kinds.Clause.{Clause}
-use Rattle.candidate_ir.specs.Trees.{Tree, holds, is_param}
-use Rattle.candidate_ir.specs.WellFormed.{IsWellFormedTable}
-use Rattle.candidate_ir.specs.Words.{clause_tree}
-use Rattle.candidate_ir.proofs.Joining.{clause-kept}
+use Rattle.candidate_ir.specs.Syntax.Trees.{Tree, holds, is_param}
+use Rattle.candidate_ir.specs.Validity.WellFormed.{IsWellFormedTable}
+use Rattle.candidate_ir.specs.Syntax.Words.{clause_tree}
+use Rattle.candidate_ir.proofs.Instantiation.Joining.{clause-kept}
 use Rattle.candidate_eval.specs.declared.eval.source.CandidateSource.{CandidateSource}
 use Rattle.candidate_eval.specs.declared.eval.source.CandidateSource.TheVariants.{Impl}
-use Rattle.candidate_assembly.specs.ObjectBounds.{own_clause, speaks_of_trait}
-use Rattle.candidate_assembly.specs.ObjectCalls.{own_clause_of}
-use Rattle.candidate_assembly.specs.ObjectLaws.{clause_speaks}
-use Rattle.candidate_assembly.proofs.Keeping.{goal-kept}
-use Rattle.candidate_assembly.proofs.ObjectJudging.{self-kept}
-use Rattle.candidate_assembly.proofs.ObjectLists.{all-objects, judged-before, next-object, no-object-yet, objects-stop}
+use Rattle.candidate_assembly.specs.Rules.ObjectBounds.{own_clause, speaks_of_trait}
+use Rattle.candidate_assembly.specs.Calls.ObjectCalls.{own_clause_of}
+use Rattle.candidate_assembly.specs.Laws.ObjectLaws.{clause_speaks}
+use Rattle.candidate_assembly.proofs.Calls.Keeping.{goal-kept}
+use Rattle.candidate_assembly.proofs.Objects.ObjectJudging.{self-kept}
+use Rattle.candidate_assembly.proofs.Objects.ObjectLists.{all-objects, judged-before, next-object, no-object-yet, objects-stop}
 use Rattle.candidate_assembly.proofs.assembly.object_bounds.consider_own_clauses.Goals as goal
 
 pub loop-clause-init : goal.loop-clause-init

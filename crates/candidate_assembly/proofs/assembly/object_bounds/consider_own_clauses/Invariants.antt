@@ -1,6 +1,6 @@
 use Rattle.std.proofs.Common.{map}
-use Rattle.candidate_assembly.specs.ObjectCalls.{own_clause_of}
-use Rattle.candidate_assembly.proofs.ObjectLists.{ObjectsSoFar}
+use Rattle.candidate_assembly.specs.Calls.ObjectCalls.{own_clause_of}
+use Rattle.candidate_assembly.proofs.Objects.ObjectLists.{ObjectsSoFar}
 use Rattle.candidate_assembly.proofs.assembly.object_bounds.consider_own_clauses.Given as goal
 
 -- the candidates by the clauses before were listed

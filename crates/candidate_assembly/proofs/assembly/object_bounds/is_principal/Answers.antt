@@ -1,6 +1,6 @@
 use Rattle.std.proofs.Common.{refl}
-use Rattle.candidate_ir.specs.Trees.{PredicateKind}
-use Rattle.candidate_ir.proofs.Lists.{below_kind}
+use Rattle.candidate_ir.specs.Syntax.Trees.{PredicateKind}
+use Rattle.candidate_ir.proofs.Syntax.Lists.{below_kind}
 use Rattle.candidate_assembly.proofs.assembly.object_bounds.is_principal.Goals as goal
 
 pub head-requires : goal.head-requires

@@ -1,20 +1,20 @@
 use Rattle.std.proofs.Common.{rules, subst, sym, ap, ◌∙◌}
-use Rattle.candidate_ir.specs.Context.{Context}
-use Rattle.candidate_ir.specs.References.{Takes}
-use Rattle.candidate_ir.specs.Context.{world}
-use Rattle.candidate_ir.specs.WellFormed.{IsWellFormedTable}
-use Rattle.candidate_ir.specs.Words.{ClauseFits, IsParamEnv, IsPreds, clause_kind_tree, clause_tree, env_forest, preds_forest}
-use Rattle.candidate_eval.specs.Callable.{all_but_last}
-use Rattle.candidate_eval.specs.Judging.{run, start}
-use Rattle.candidate_eval.specs.ObjectRequirements.{reference_clause}
-use Rattle.candidate_eval.proofs.Objects.{env-kept}
-use Rattle.candidate_assembly.specs.Kinds.{self_type}
-use Rattle.candidate_assembly.specs.ObjectBounds.{own_clause, reference_by, trait_by}
-use Rattle.candidate_assembly.specs.ObjectCalls.{AsksOfObject, IsReferenceBy}
-use Rattle.candidate_assembly.specs.ObjectLaws.{clause_speaks}
-use Rattle.candidate_assembly.proofs.Answering.{after-accounted}
-use Rattle.candidate_assembly.proofs.ObjectJudging.{asked-before, told-after, told-more}
-use Rattle.candidate_assembly.proofs.ObjectReferences.{bounds-read, preds-kept, reference-there}
+use Rattle.candidate_ir.specs.Declarations.Context.{Context}
+use Rattle.candidate_ir.specs.Declarations.References.{Takes}
+use Rattle.candidate_ir.specs.Declarations.Context.{world}
+use Rattle.candidate_ir.specs.Validity.WellFormed.{IsWellFormedTable}
+use Rattle.candidate_ir.specs.Syntax.Words.{ClauseFits, IsParamEnv, IsPreds, clause_kind_tree, clause_tree, env_forest, preds_forest}
+use Rattle.candidate_eval.specs.Builtins.Callable.{all_but_last}
+use Rattle.candidate_eval.specs.Derivations.Judging.{run, start}
+use Rattle.candidate_eval.specs.Dynamic.ObjectRequirements.{reference_clause}
+use Rattle.candidate_eval.proofs.Dynamic.Objects.{env-kept}
+use Rattle.candidate_assembly.specs.Goals.Kinds.{self_type}
+use Rattle.candidate_assembly.specs.Rules.ObjectBounds.{own_clause, reference_by, trait_by}
+use Rattle.candidate_assembly.specs.Calls.ObjectCalls.{AsksOfObject, IsReferenceBy}
+use Rattle.candidate_assembly.specs.Laws.ObjectLaws.{clause_speaks}
+use Rattle.candidate_assembly.proofs.Rules.Answering.{after-accounted}
+use Rattle.candidate_assembly.proofs.Objects.ObjectJudging.{asked-before, told-after, told-more}
+use Rattle.candidate_assembly.proofs.Objects.ObjectReferences.{bounds-read, preds-kept, reference-there}
 use Rattle.candidate_assembly.proofs.assembly.object_bounds.match_and_require.Goals as goal
 
 pub match_assumption-requires-clause-callable : goal.match_assumption-requires-clause-callable

@@ -1,8 +1,8 @@
 use Rattle.std.proofs.Common.{subst, ◌∙◌}
-use Rattle.candidate_ir.specs.WellFormed.{IsWellFormedTable}
-use Rattle.candidate_ir.proofs.Kept.{grows-trans, ty-kept}
-use Rattle.candidate_assembly.proofs.ObjectClauses.{pred-list-kept}
-use Rattle.candidate_assembly.proofs.ObjectPlain.{bounds-of, own-clauses-are}
+use Rattle.candidate_ir.specs.Validity.WellFormed.{IsWellFormedTable}
+use Rattle.candidate_ir.proofs.Growth.Kept.{grows-trans, ty-kept}
+use Rattle.candidate_assembly.proofs.Objects.ObjectClauses.{pred-list-kept}
+use Rattle.candidate_assembly.proofs.Objects.ObjectPlain.{bounds-of, own-clauses-are}
 use Rattle.candidate_assembly.proofs.assembly.object_bounds.own_clauses.Goals as goal
 
 pub principal_supertraits-requires-clause-fit : goal.principal_supertraits-requires-clause-fit

@@ -1,7 +1,7 @@
 use Rattle.std.proofs.Common.{rules, ◌≤◌, length, refl, sym, ◌∙◌}
 use Rattle.candidate_ir.specs.declared.ir.kinds.Pred.{Pred}
-use Rattle.candidate_ir.proofs.Made.{IsPred-listed}
-use Rattle.candidate_assembly.proofs.ObjectClauses.{principal-found, principal-later, principal-missing}
+use Rattle.candidate_ir.proofs.Growth.Made.{IsPred-listed}
+use Rattle.candidate_assembly.proofs.Objects.ObjectClauses.{principal-found, principal-later, principal-missing}
 use Rattle.candidate_assembly.proofs.assembly.object_bounds.principal_among.Goals as goal
 
 pub loop-bound-init : goal.loop-bound-init

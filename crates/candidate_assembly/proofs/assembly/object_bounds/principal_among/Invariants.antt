@@ -1,7 +1,7 @@
 use Rattle.std.proofs.Common.{◌≡◌, map}
 use Rattle.std.proofs.Math.ListN.{drop}
-use Rattle.candidate_ir.specs.Words.{pred_tree}
-use Rattle.candidate_assembly.proofs.ObjectClauses.{principal-of}
+use Rattle.candidate_ir.specs.Syntax.Words.{pred_tree}
+use Rattle.candidate_assembly.proofs.Objects.ObjectClauses.{principal-of}
 use Rattle.candidate_assembly.proofs.assembly.object_bounds.principal_among.Given as goal
 
 -- no bound before is a principal

@@ -1,13 +1,13 @@
 use Rattle.std.proofs.Common.{◌≡◌, map, option_map, ap, subst}
 use Rattle.std.specs.List.{filter}
-use Rattle.candidate_ir.specs.Context.{Context}
-use Rattle.candidate_ir.specs.WellFormed.{IsWellFormedTable}
-use Rattle.candidate_ir.specs.Words.{clause_tree, pred_tree, ty_tree}
-use Rattle.candidate_ir.proofs.Kept.{grows-trans}
-use Rattle.candidate_eval.proofs.StopKinds.{elaboration_making}
-use Rattle.candidate_assembly.specs.DynBounds.{first_listed, is_principal}
-use Rattle.candidate_assembly.proofs.Causes.{so-ok, so-err}
-use Rattle.candidate_assembly.proofs.ObjectFollowing.{no-principal-supers, principal-supers}
+use Rattle.candidate_ir.specs.Declarations.Context.{Context}
+use Rattle.candidate_ir.specs.Validity.WellFormed.{IsWellFormedTable}
+use Rattle.candidate_ir.specs.Syntax.Words.{clause_tree, pred_tree, ty_tree}
+use Rattle.candidate_ir.proofs.Growth.Kept.{grows-trans}
+use Rattle.candidate_eval.proofs.Interface.StopKinds.{elaboration_making}
+use Rattle.candidate_assembly.specs.Rules.DynBounds.{first_listed, is_principal}
+use Rattle.candidate_assembly.proofs.Calls.Causes.{so-ok, so-err}
+use Rattle.candidate_assembly.proofs.Objects.ObjectFollowing.{no-principal-supers, principal-supers}
 use Rattle.candidate_assembly.proofs.assembly.object_bounds.principal_supertraits.Goals as goal
 
 pub returns-in_default-clause-supers : goal.returns-in_default-clause-supers

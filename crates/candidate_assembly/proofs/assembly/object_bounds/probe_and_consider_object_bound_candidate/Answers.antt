@@ -1,18 +1,18 @@
 use Rattle.std.proofs.Common.{rules, ◌≡◌, true, false, subst, ap, ◌∙◌}
 use Rattle.std.proofs.lemmas.Result.{err_from_is_err_and}
-use Rattle.candidate_ir.specs.Trees.{Tree, holds, is_param}
-use Rattle.candidate_ir.specs.WellFormed.{IsWellFormedTable}
-use Rattle.candidate_ir.specs.Words.{clause_tree}
-use Rattle.candidate_ir.proofs.Joining.{clause-kept}
+use Rattle.candidate_ir.specs.Syntax.Trees.{Tree, holds, is_param}
+use Rattle.candidate_ir.specs.Validity.WellFormed.{IsWellFormedTable}
+use Rattle.candidate_ir.specs.Syntax.Words.{clause_tree}
+use Rattle.candidate_ir.proofs.Instantiation.Joining.{clause-kept}
 use Rattle.candidate_eval.specs.declared.eval.context.ProbeKind.TheVariants.{Kept}
-use Rattle.candidate_eval.specs.Accounts.{Question}
-use Rattle.candidate_assembly.specs.Kinds.{passes}
-use Rattle.candidate_assembly.specs.ObjectBounds.{own_clause, speaks_of_trait}
-use Rattle.candidate_assembly.specs.ObjectLaws.{clause_speaks, judged_back}
-use Rattle.candidate_assembly.proofs.Answering.{passes-kept}
-use Rattle.candidate_assembly.proofs.Causes.{answered-stop}
-use Rattle.candidate_assembly.proofs.Keeping.{goal-kept}
-use Rattle.candidate_assembly.proofs.ObjectJudging.{object-in-probe, object-not-begun, object-rejected, self-kept}
+use Rattle.candidate_eval.specs.Interface.Accounts.{Question}
+use Rattle.candidate_assembly.specs.Goals.Kinds.{passes}
+use Rattle.candidate_assembly.specs.Rules.ObjectBounds.{own_clause, speaks_of_trait}
+use Rattle.candidate_assembly.specs.Laws.ObjectLaws.{clause_speaks, judged_back}
+use Rattle.candidate_assembly.proofs.Rules.Answering.{passes-kept}
+use Rattle.candidate_assembly.proofs.Calls.Causes.{answered-stop}
+use Rattle.candidate_assembly.proofs.Calls.Keeping.{goal-kept}
+use Rattle.candidate_assembly.proofs.Objects.ObjectJudging.{object-in-probe, object-not-begun, object-rejected, self-kept}
 use Rattle.candidate_assembly.proofs.assembly.object_bounds.probe_and_consider_object_bound_candidate.Goals as goal
 
 pub returns-then-is_err : goal.returns-then-is_err

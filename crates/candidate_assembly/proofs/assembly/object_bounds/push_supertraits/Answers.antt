@@ -1,7 +1,7 @@
 use Rattle.std.proofs.Common.{arith, ◌≤◌, ◌++◌, length, refl}
 use Rattle.candidate_ir.specs.declared.ir.kinds.Clause.{Clause}
-use Rattle.candidate_assembly.specs.ObjectCalls.{numbered_from}
-use Rattle.candidate_assembly.proofs.ObjectClauses.{all-numbered, one-numbered}
+use Rattle.candidate_assembly.specs.Calls.ObjectCalls.{numbered_from}
+use Rattle.candidate_assembly.proofs.Objects.ObjectClauses.{all-numbered, one-numbered}
 use Rattle.candidate_assembly.proofs.assembly.object_bounds.push_supertraits.Goals as goal
 
 pub loop-number-init : goal.loop-number-init

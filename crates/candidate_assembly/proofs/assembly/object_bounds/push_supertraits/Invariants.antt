@@ -1,6 +1,6 @@
 use Rattle.std.proofs.Common.{◌≡◌, ◌++◌}
 use Rattle.std.proofs.Math.ListN.{drop}
-use Rattle.candidate_assembly.specs.ObjectCalls.{numbered_from}
+use Rattle.candidate_assembly.specs.Calls.ObjectCalls.{numbered_from}
 use Rattle.candidate_assembly.proofs.assembly.object_bounds.push_supertraits.Given as goal
 
 -- with those that are left the list is the whole

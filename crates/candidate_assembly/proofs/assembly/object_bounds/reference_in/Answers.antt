@@ -1,4 +1,4 @@
-use Rattle.candidate_assembly.proofs.ObjectReferences.{item-has-trait, reference-of-item, reference-of-trait}
+use Rattle.candidate_assembly.proofs.Objects.ObjectReferences.{item-has-trait, reference-of-item, reference-of-trait}
 use Rattle.candidate_assembly.proofs.assembly.object_bounds.reference_in.Goals as goal
 use Rattle.candidate_assembly.proofs.assembly.object_bounds.reference_in.Goals.{in-Trait, in-Projection+in-Some}
 

@@ -1,17 +1,17 @@
 use Rattle.std.proofs.Common.{ap, subst, refl, ◌∙◌}
 use Rattle.std.proofs.lemmas.Result.{err_from_is_err_and}
 use Rattle.candidate_ir.specs.declared.ir.kinds.GoalSource.TheVariants.{ImplWhereBound}
-use Rattle.candidate_ir.specs.Words.{clause_kind_tree, env_forest, preds_forest}
-use Rattle.candidate_eval.specs.Accounts.{StopsSomehow}
-use Rattle.candidate_eval.specs.Evaluators.{with_goals_of}
-use Rattle.candidate_eval.specs.ObjectRequirements.{reference_clause}
-use Rattle.candidate_eval.specs.Objects.{by_object_stop}
-use Rattle.candidate_eval.proofs.Accounts.{reaches}
-use Rattle.candidate_eval.proofs.Probing.{then}
-use Rattle.candidate_assembly.specs.ObjectCalls.{IsAskedOfObject}
-use Rattle.candidate_assembly.proofs.Causes.{answered-stop, asked-here, caused, later, somehow-here}
-use Rattle.candidate_assembly.proofs.ObjectJudging.{told-known, told-of-own, told-vague}
-use Rattle.candidate_assembly.proofs.Stepping.{evaluator-own, somehow-own}
+use Rattle.candidate_ir.specs.Syntax.Words.{clause_kind_tree, env_forest, preds_forest}
+use Rattle.candidate_eval.specs.Interface.Accounts.{StopsSomehow}
+use Rattle.candidate_eval.specs.Interface.Evaluators.{with_goals_of}
+use Rattle.candidate_eval.specs.Dynamic.ObjectRequirements.{reference_clause}
+use Rattle.candidate_eval.specs.Dynamic.Objects.{by_object_stop}
+use Rattle.candidate_eval.proofs.Interface.Accounts.{reaches}
+use Rattle.candidate_eval.proofs.Interface.Probing.{then}
+use Rattle.candidate_assembly.specs.Calls.ObjectCalls.{IsAskedOfObject}
+use Rattle.candidate_assembly.proofs.Calls.Causes.{answered-stop, asked-here, caused, later, somehow-here}
+use Rattle.candidate_assembly.proofs.Objects.ObjectJudging.{told-known, told-of-own, told-vague}
+use Rattle.candidate_assembly.proofs.Calls.Stepping.{evaluator-own, somehow-own}
 use Rattle.candidate_assembly.proofs.assembly.object_bounds.require_of_object.Goals as goal
 
 pub returns-in_err-add_goals-in-Ok : goal.returns-in_err-add_goals-in-Ok

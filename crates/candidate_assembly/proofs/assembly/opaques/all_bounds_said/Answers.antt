@@ -3,13 +3,13 @@ use Rattle.std.proofs.lemmas.List.{take_all}
 use Rattle.std.proofs.lemmas.List.Elements.{All-nil}
 use Rattle.candidate_ir.specs.declared.ir.kinds.AliasKind.TheVariants as AK
 use Rattle.candidate_ir.specs.declared.ir.kinds.AliasTy.{AliasTy}
-use Rattle.candidate_ir.specs.Context.{Context}
-use Rattle.candidate_ir.specs.WellFormed.{IsWellFormedTable}
-use Rattle.candidate_ir.proofs.Kept.{grows-trans, ty-kept}
-use Rattle.candidate_eval.proofs.Required.{all_gathered, more_gathered, none_added}
-use Rattle.candidate_assembly.specs.Opaques.{AreClosedBounds}
-use Rattle.candidate_assembly.proofs.AliasChains.{alias-kept}
-use Rattle.candidate_assembly.proofs.SaidBounds.{all-said-of, appended-fit, appended-trees, closed-before, one-more-of, said-kept, said-of}
+use Rattle.candidate_ir.specs.Declarations.Context.{Context}
+use Rattle.candidate_ir.specs.Validity.WellFormed.{IsWellFormedTable}
+use Rattle.candidate_ir.proofs.Growth.Kept.{grows-trans, ty-kept}
+use Rattle.candidate_eval.proofs.Dynamic.Required.{all_gathered, more_gathered, none_added}
+use Rattle.candidate_assembly.specs.Rules.Opaques.{AreClosedBounds}
+use Rattle.candidate_assembly.proofs.Aliases.AliasChains.{alias-kept}
+use Rattle.candidate_assembly.proofs.Opaques.SaidBounds.{all-said-of, appended-fit, appended-trees, closed-before, one-more-of, said-kept, said-of}
 use Rattle.candidate_assembly.proofs.assembly.opaques.all_bounds_said.Goals as goal
 
 pub loop-opaque-init : goal.loop-opaque-init

@@ -1,8 +1,8 @@
 use Rattle.std.proofs.Common.{◌≡◌, All, [], take}
 use Rattle.std.specs.List.{flat_map}
-use Rattle.candidate_eval.proofs.Required.{AddedSoFar}
-use Rattle.candidate_assembly.specs.Opaques.{AreClosedBounds}
-use Rattle.candidate_assembly.proofs.SaidBounds.{said-of}
+use Rattle.candidate_eval.proofs.Dynamic.Required.{AddedSoFar}
+use Rattle.candidate_assembly.specs.Rules.Opaques.{AreClosedBounds}
+use Rattle.candidate_assembly.proofs.Opaques.SaidBounds.{said-of}
 use Rattle.candidate_assembly.proofs.assembly.opaques.all_bounds_said.Given as goal
 
 -- what the opaque types before say was added

@@ -2,13 +2,13 @@ use Rattle.std.proofs.Common.{rules, ◌≤◌, length, Err, ap, ◌∙◌, subs
 use Rattle.std.specs.Prelude.{slice_index_or}
 use Rattle.std.proofs.lemmas.Result.{err_from_is_err_and}
 use Rattle.candidate_ir.specs.declared.decl.contents.ImplId.{ImplId}
-use Rattle.candidate_ir.specs.Context.{Context}
-use Rattle.candidate_ir.specs.WellFormed.{IsWellFormedTable}
-use Rattle.candidate_eval.specs.Evaluators.{IsMakingStop}
-use Rattle.candidate_assembly.specs.Opaques.{open_rule_of}
-use Rattle.candidate_assembly.proofs.OpaqueRules.{open-judged, open-rules-read}
-use Rattle.candidate_assembly.proofs.Keeping.{goal-kept}
-use Rattle.candidate_assembly.proofs.Listing.{all-listed, listing-stops, next-listed, none-listed, not-listed}
+use Rattle.candidate_ir.specs.Declarations.Context.{Context}
+use Rattle.candidate_ir.specs.Validity.WellFormed.{IsWellFormedTable}
+use Rattle.candidate_eval.specs.Interface.Evaluators.{IsMakingStop}
+use Rattle.candidate_assembly.specs.Rules.Opaques.{open_rule_of}
+use Rattle.candidate_assembly.proofs.Opaques.OpaqueRules.{open-judged, open-rules-read}
+use Rattle.candidate_assembly.proofs.Calls.Keeping.{goal-kept}
+use Rattle.candidate_assembly.proofs.Lists.Listing.{all-listed, listing-stops, next-listed, none-listed, not-listed}
 use Rattle.candidate_assembly.proofs.assembly.opaques.assemble_blanket_impls.Goals as goal
 
 pub returns-in_err-impls : goal.returns-in_err-impls

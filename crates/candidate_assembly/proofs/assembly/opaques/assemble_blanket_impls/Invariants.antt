@@ -1,6 +1,6 @@
 use Rattle.std.proofs.Common.{map, take}
-use Rattle.candidate_assembly.specs.Opaques.{open_rule_of}
-use Rattle.candidate_assembly.proofs.Listing.{ListedSoFar}
+use Rattle.candidate_assembly.specs.Rules.Opaques.{open_rule_of}
+use Rattle.candidate_assembly.proofs.Lists.Listing.{ListedSoFar}
 use Rattle.candidate_assembly.proofs.assembly.opaques.assemble_blanket_impls.Given as goal
 
 -- the candidates by the impls before were listed

@@ -1,16 +1,16 @@
 use Rattle.std.proofs.Common.{◌≡◌, All, Err, List, ap, length, subst, sym, ◌∙◌}
 use Rattle.std.proofs.lemmas.Result.{err_from_is_err_and}
 use Rattle.candidate_ir.specs.declared.ir.kinds.AliasTy.{AliasTy}
-use Rattle.candidate_ir.specs.Context.{Context}
-use Rattle.candidate_ir.specs.Words.{IsTy, env_forest, ty_tree}
-use Rattle.candidate_eval.specs.Evaluators.{IsHiddenOpaque, alias_trees}
-use Rattle.candidate_eval.specs.States.{State}
-use Rattle.candidate_eval.proofs.Objects.{env-kept}
-use Rattle.candidate_assembly.specs.Kinds.{self_type}
-use Rattle.candidate_assembly.proofs.Keeping.{goal-kept}
-use Rattle.candidate_assembly.proofs.OpaqueAnswers.{asked-back, below-later, empty-is, none-found, not-empty, no-trees, not-found, said-nothing, said-something, said-stops, some-trees}
-use Rattle.candidate_assembly.proofs.OpaqueLists.{hidden-each, like-first, lists-so, said-each, stops-as}
-use Rattle.candidate_assembly.proofs.SaidBounds.{hidden-bounded}
+use Rattle.candidate_ir.specs.Declarations.Context.{Context}
+use Rattle.candidate_ir.specs.Syntax.Words.{IsTy, env_forest, ty_tree}
+use Rattle.candidate_eval.specs.Interface.Evaluators.{IsHiddenOpaque, alias_trees}
+use Rattle.candidate_eval.specs.Judges.States.{State}
+use Rattle.candidate_eval.proofs.Dynamic.Objects.{env-kept}
+use Rattle.candidate_assembly.specs.Goals.Kinds.{self_type}
+use Rattle.candidate_assembly.proofs.Calls.Keeping.{goal-kept}
+use Rattle.candidate_assembly.proofs.Opaques.OpaqueAnswers.{asked-back, below-later, empty-is, none-found, not-empty, no-trees, not-found, said-nothing, said-something, said-stops, some-trees}
+use Rattle.candidate_assembly.proofs.Opaques.OpaqueLists.{hidden-each, like-first, lists-so, said-each, stops-as}
+use Rattle.candidate_assembly.proofs.Opaques.SaidBounds.{hidden-bounded}
 use Rattle.candidate_assembly.proofs.assembly.opaques.assemble_opaque_candidates.Goals as goal
 
 pub opaques_behind-requires : goal.opaques_behind-requires

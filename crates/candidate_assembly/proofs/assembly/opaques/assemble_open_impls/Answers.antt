@@ -1,9 +1,9 @@
 use Rattle.std.proofs.Common.{sym, ap, ◌∙◌}
 use Rattle.candidate_assembly.specs.declared.assembly.opaques.AssembleCandidatesFrom.{AssembleCandidatesFrom}
-use Rattle.candidate_assembly.specs.Listing.{after_these, answers}
-use Rattle.candidate_assembly.specs.Opaques.{open_impl_rules}
-use Rattle.candidate_assembly.proofs.AliasChains.{told-as}
-use Rattle.candidate_assembly.proofs.Listing.{no-rule-listed}
+use Rattle.candidate_assembly.specs.Answers.Listing.{after_these, answers}
+use Rattle.candidate_assembly.specs.Rules.Opaques.{open_impl_rules}
+use Rattle.candidate_assembly.proofs.Aliases.AliasChains.{told-as}
+use Rattle.candidate_assembly.proofs.Lists.Listing.{no-rule-listed}
 use Rattle.candidate_assembly.proofs.assembly.opaques.assemble_open_impls.Goals as goal
 
 pub returns-in-All : goal.returns-in-All

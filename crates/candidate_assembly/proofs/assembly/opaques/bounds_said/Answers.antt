@@ -1,12 +1,12 @@
 use Rattle.std.proofs.Common.{◌∙◌, List, ap, map, subst, sym}
 use Rattle.candidate_ir.specs.declared.ir.kinds.Clause.{Clause}
-use Rattle.candidate_ir.specs.Words.{ClauseListFits, clause_tree, ty_tree}
-use Rattle.candidate_ir.proofs.Kept.{grows-trans, ty-kept}
-use Rattle.candidate_eval.proofs.Responding.{clauses-kept}
-use Rattle.candidate_assembly.specs.Opaques.{with_type_for}
-use Rattle.candidate_assembly.proofs.AliasChains.{alias-kept}
-use Rattle.candidate_assembly.proofs.Causes.{so-ok}
-use Rattle.candidate_assembly.proofs.SaidBounds.{alias-fits, alias-takes, said-is}
+use Rattle.candidate_ir.specs.Syntax.Words.{ClauseListFits, clause_tree, ty_tree}
+use Rattle.candidate_ir.proofs.Growth.Kept.{grows-trans, ty-kept}
+use Rattle.candidate_eval.proofs.Outcomes.Responding.{clauses-kept}
+use Rattle.candidate_assembly.specs.Rules.Opaques.{with_type_for}
+use Rattle.candidate_assembly.proofs.Aliases.AliasChains.{alias-kept}
+use Rattle.candidate_assembly.proofs.Calls.Causes.{so-ok}
+use Rattle.candidate_assembly.proofs.Opaques.SaidBounds.{alias-fits, alias-takes, said-is}
 use Rattle.candidate_assembly.proofs.assembly.opaques.bounds_said.Goals as goal
 
 pub bounds_with_arguments-requires-clause-args : goal.bounds_with_arguments-requires-clause-args

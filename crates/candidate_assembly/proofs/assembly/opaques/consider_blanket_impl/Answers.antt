@@ -1,15 +1,15 @@
 use Rattle.std.proofs.Common.{rules, ◌≡◌, false, refl, sym, ap, subst, ◌∙◌}
-use Rattle.candidate_ir.specs.Context.{Context}
-use Rattle.candidate_ir.specs.Trees.{Tree, is_param, tree_holds}
-use Rattle.candidate_ir.specs.Words.{IsTy, ty_tree}
-use Rattle.candidate_ir.proofs.Kept.{ty-kept}
+use Rattle.candidate_ir.specs.Declarations.Context.{Context}
+use Rattle.candidate_ir.specs.Syntax.Trees.{Tree, is_param, tree_holds}
+use Rattle.candidate_ir.specs.Syntax.Words.{IsTy, ty_tree}
+use Rattle.candidate_ir.proofs.Growth.Kept.{ty-kept}
 use Rattle.candidate_eval.specs.declared.eval.source.CandidateSource.TheVariants.{Impl}
-use Rattle.candidate_eval.specs.Certainties.{AMBIGUOUS, certainty_and}
-use Rattle.candidate_eval.specs.Judging.{judged}
-use Rattle.candidate_assembly.specs.Kinds.{self_type}
-use Rattle.candidate_assembly.specs.Opaques.{open_impl_rule, responded_if_general}
-use Rattle.candidate_assembly.specs.Telling.{Told}
-use Rattle.candidate_assembly.proofs.OpaqueRules.{general-as-step, general-at, tree-free}
+use Rattle.candidate_eval.specs.Outcomes.Certainties.{AMBIGUOUS, certainty_and}
+use Rattle.candidate_eval.specs.Derivations.Judging.{judged}
+use Rattle.candidate_assembly.specs.Goals.Kinds.{self_type}
+use Rattle.candidate_assembly.specs.Rules.Opaques.{open_impl_rule, responded_if_general}
+use Rattle.candidate_assembly.specs.Answers.Telling.{Told}
+use Rattle.candidate_assembly.proofs.Opaques.OpaqueRules.{general-as-step, general-at, tree-free}
 use Rattle.candidate_assembly.proofs.assembly.opaques.consider_blanket_impl.Goals as goal
 
 pub consider_impl_candidate-requires-clause-callable : goal.consider_impl_candidate-requires-clause-callable

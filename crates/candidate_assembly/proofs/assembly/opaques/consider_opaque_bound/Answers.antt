@@ -1,13 +1,13 @@
 use Rattle.std.proofs.Common.{[], Option, refl, subst}
 use Rattle.candidate_ir.specs.declared.decl.contents.AliasBoundKind.TheVariants.{SelfBounds}
-use Rattle.candidate_ir.specs.Words.{clause_tree}
+use Rattle.candidate_ir.specs.Syntax.Words.{clause_tree}
 use Rattle.candidate_eval.specs.declared.eval.source.CandidateSource.TheVariants.{AliasBound}
-use Rattle.candidate_eval.specs.Certainties.{AMBIGUOUS}
-use Rattle.candidate_eval.specs.Responses.{Response}
-use Rattle.candidate_eval.specs.States.{State}
-use Rattle.candidate_assembly.specs.Telling.{Told}
-use Rattle.candidate_assembly.proofs.Answering.{closure-as-steps}
-use Rattle.candidate_assembly.proofs.Keeping.{responds-at}
+use Rattle.candidate_eval.specs.Outcomes.Certainties.{AMBIGUOUS}
+use Rattle.candidate_eval.specs.Outcomes.Responses.{Response}
+use Rattle.candidate_eval.specs.Judges.States.{State}
+use Rattle.candidate_assembly.specs.Answers.Telling.{Told}
+use Rattle.candidate_assembly.proofs.Rules.Answering.{closure-as-steps}
+use Rattle.candidate_assembly.proofs.Calls.Keeping.{responds-at}
 use Rattle.candidate_assembly.proofs.assembly.opaques.consider_opaque_bound.Goals as goal
 
 pub returns : goal.returns

@@ -2,17 +2,17 @@ use Rattle.std.proofs.Common.{rules, ◌≤◌, Err, get_or, length, refl, ap, �
 use Rattle.std.proofs.lemmas.Result.{err_from_is_err_and}
 use Rattle.candidate_ir.specs.declared.decl.contents.AliasBoundKind.TheVariants.{SelfBounds}
 use Rattle.candidate_ir.specs.declared.ir.kinds.Clause.{Clause}
-use Rattle.candidate_ir.specs.Words.{clause_tree}
-use Rattle.candidate_ir.proofs.Made.{IsClause-listed}
+use Rattle.candidate_ir.specs.Syntax.Words.{clause_tree}
+use Rattle.candidate_ir.proofs.Growth.Made.{IsClause-listed}
 use Rattle.candidate_eval.specs.declared.eval.source.CandidateSource.TheVariants.{AliasBound}
-use Rattle.candidate_eval.specs.Certainties.{AMBIGUOUS}
-use Rattle.candidate_eval.specs.Rules.{Rule}
-use Rattle.candidate_eval.proofs.Responding.{clauses-kept}
-use Rattle.candidate_assembly.specs.Opaques.{ambiguous_rule}
-use Rattle.candidate_assembly.proofs.BoundRules.{matched-judged}
-use Rattle.candidate_assembly.proofs.Keeping.{goal-kept}
-use Rattle.candidate_assembly.proofs.Listing.{all-listed, listing-stops, next-listed, none-listed}
-use Rattle.candidate_assembly.proofs.OpaqueRules.{clause-at}
+use Rattle.candidate_eval.specs.Outcomes.Certainties.{AMBIGUOUS}
+use Rattle.candidate_eval.specs.Derivations.Rules.{Rule}
+use Rattle.candidate_eval.proofs.Outcomes.Responding.{clauses-kept}
+use Rattle.candidate_assembly.specs.Rules.Opaques.{ambiguous_rule}
+use Rattle.candidate_assembly.proofs.Aliases.BoundRules.{matched-judged}
+use Rattle.candidate_assembly.proofs.Calls.Keeping.{goal-kept}
+use Rattle.candidate_assembly.proofs.Lists.Listing.{all-listed, listing-stops, next-listed, none-listed}
+use Rattle.candidate_assembly.proofs.Opaques.OpaqueRules.{clause-at}
 use Rattle.candidate_assembly.proofs.assembly.opaques.consider_opaque_bounds.Goals as goal
 
 pub loop-clause-init : goal.loop-clause-init

@@ -2,23 +2,23 @@ use Rattle.std.proofs.Common.{◌≡◌, Err, ap, false, get_or, length, map, re
 use Rattle.std.specs.List.{flat_map}
 use Rattle.std.proofs.lemmas.Result.{err_from_is_err_and}
 use Rattle.candidate_ir.specs.declared.ir.kinds.Clause.{Clause}
-use Rattle.candidate_ir.specs.Context.{Context}
-use Rattle.candidate_ir.specs.Trees.{Tree, holds, is_param}
-use Rattle.candidate_ir.specs.WellFormed.{IsWellFormedTable}
-use Rattle.candidate_ir.specs.Substitutions.{alone}
-use Rattle.candidate_ir.specs.Words.{ClauseListFits, IsTy, clause_tree, ty_tree}
-use Rattle.candidate_eval.specs.Evaluators.{alias_trees}
-use Rattle.candidate_eval.specs.Mentions.{IsBelow, is_from}
-use Rattle.candidate_eval.specs.States.{State}
-use Rattle.candidate_eval.proofs.Probing.{made}
-use Rattle.candidate_assembly.specs.Kinds.{self_type}
-use Rattle.candidate_assembly.specs.Opaques.{AreBelow, ambiguous_rule, opaque_rules, open_impl_rules}
-use Rattle.candidate_assembly.proofs.BoundRules.{not-made-listed}
-use Rattle.candidate_assembly.proofs.Keeping.{goal-kept}
-use Rattle.candidate_assembly.proofs.OpaqueAnswers.{below-later, none-there}
-use Rattle.candidate_assembly.proofs.OpaqueLists.{added-behind, begun-with, gathered-rules, like-first, lists-as, open-answers, stops-as, stops-before}
-use Rattle.candidate_assembly.proofs.SaidBounds.{all-said-of, hidden-bounded}
-use Rattle.candidate_assembly.proofs.SaidFree.{all-said-below, all-said-free}
+use Rattle.candidate_ir.specs.Declarations.Context.{Context}
+use Rattle.candidate_ir.specs.Syntax.Trees.{Tree, holds, is_param}
+use Rattle.candidate_ir.specs.Validity.WellFormed.{IsWellFormedTable}
+use Rattle.candidate_ir.specs.Unification.Substitutions.{alone}
+use Rattle.candidate_ir.specs.Syntax.Words.{ClauseListFits, IsTy, clause_tree, ty_tree}
+use Rattle.candidate_eval.specs.Interface.Evaluators.{alias_trees}
+use Rattle.candidate_eval.specs.Derivations.Mentions.{IsBelow, is_from}
+use Rattle.candidate_eval.specs.Judges.States.{State}
+use Rattle.candidate_eval.proofs.Interface.Probing.{made}
+use Rattle.candidate_assembly.specs.Goals.Kinds.{self_type}
+use Rattle.candidate_assembly.specs.Rules.Opaques.{AreBelow, ambiguous_rule, opaque_rules, open_impl_rules}
+use Rattle.candidate_assembly.proofs.Aliases.BoundRules.{not-made-listed}
+use Rattle.candidate_assembly.proofs.Calls.Keeping.{goal-kept}
+use Rattle.candidate_assembly.proofs.Opaques.OpaqueAnswers.{below-later, none-there}
+use Rattle.candidate_assembly.proofs.Opaques.OpaqueLists.{added-behind, begun-with, gathered-rules, like-first, lists-as, open-answers, stops-as, stops-before}
+use Rattle.candidate_assembly.proofs.Opaques.SaidBounds.{all-said-of, hidden-bounded}
+use Rattle.candidate_assembly.proofs.Opaques.SaidFree.{all-said-below, all-said-free}
 use Rattle.candidate_assembly.proofs.assembly.opaques.consider_opaques.Goals as goal
 
 pub all_bounds_said-requires-clause-opaques : goal.all_bounds_said-requires-clause-opaques

@@ -2,13 +2,13 @@ use Rattle.std.proofs.Common.{rules, ◌≡◌, ◌≤◌, [], ◌∷◌, ◌++�
 use Rattle.std.specs.Prelude.{List}
 use Rattle.std.proofs.lemmas.Result.{err_from_is_err_and}
 use Rattle.candidate_ir.specs.declared.ir.kinds.Clause.{Clause}
-use Rattle.candidate_ir.specs.Trees.{Tree}
-use Rattle.candidate_ir.specs.Words.{clause_tree}
-use Rattle.candidate_ir.proofs.Joining.{clause-kept}
-use Rattle.candidate_ir.proofs.Kept.{grows-trans, ty-kept}
-use Rattle.candidate_ir.proofs.Made.{IsClause-listed}
-use Rattle.candidate_eval.proofs.Required.{all_gathered, more_gathered, none_added, pushed_fit, pushed_trees}
-use Rattle.candidate_assembly.proofs.SaidBounds.{all-with-type, one-with-type, with-type-kept}
+use Rattle.candidate_ir.specs.Syntax.Trees.{Tree}
+use Rattle.candidate_ir.specs.Syntax.Words.{clause_tree}
+use Rattle.candidate_ir.proofs.Instantiation.Joining.{clause-kept}
+use Rattle.candidate_ir.proofs.Growth.Kept.{grows-trans, ty-kept}
+use Rattle.candidate_ir.proofs.Growth.Made.{IsClause-listed}
+use Rattle.candidate_eval.proofs.Dynamic.Required.{all_gathered, more_gathered, none_added, pushed_fit, pushed_trees}
+use Rattle.candidate_assembly.proofs.Opaques.SaidBounds.{all-with-type, one-with-type, with-type-kept}
 use Rattle.candidate_assembly.proofs.assembly.opaques.each_with_type_for.Goals as goal
 
 pub loop-clause-init : goal.loop-clause-init

@@ -1,7 +1,7 @@
 use Rattle.std.proofs.Common.{◌≡◌, [], take}
 use Rattle.std.specs.List.{flat_map}
-use Rattle.candidate_eval.proofs.Required.{AddedSoFar}
-use Rattle.candidate_assembly.proofs.SaidBounds.{one-with-type}
+use Rattle.candidate_eval.proofs.Dynamic.Required.{AddedSoFar}
+use Rattle.candidate_assembly.proofs.Opaques.SaidBounds.{one-with-type}
 use Rattle.candidate_assembly.proofs.assembly.opaques.each_with_type_for.Given as goal
 
 -- the clauses before were added, with the one type in the place of the other

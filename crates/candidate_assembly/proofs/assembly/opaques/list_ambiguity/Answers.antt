@@ -1,12 +1,12 @@
 use Rattle.std.proofs.Common.{true, Err, ap, refl, ◌∙◌}
 use Rattle.std.proofs.lemmas.Result.{err_from_is_err_and}
-use Rattle.candidate_ir.specs.Words.{env_forest}
+use Rattle.candidate_ir.specs.Syntax.Words.{env_forest}
 use Rattle.candidate_eval.specs.declared.eval.certainty.Certainty.TheVariants.{Maybe}
-use Rattle.candidate_assembly.specs.Telling.{asking_rule}
-use Rattle.candidate_assembly.proofs.AliasChains.{told-as}
-use Rattle.candidate_assembly.proofs.Listing.{one-listed}
-use Rattle.candidate_assembly.proofs.OpaqueAnswers.{from-none, none-there}
-use Rattle.candidate_assembly.proofs.OpaqueLists.{lists-as, stops-as}
+use Rattle.candidate_assembly.specs.Answers.Telling.{asking_rule}
+use Rattle.candidate_assembly.proofs.Aliases.AliasChains.{told-as}
+use Rattle.candidate_assembly.proofs.Lists.Listing.{one-listed}
+use Rattle.candidate_assembly.proofs.Opaques.OpaqueAnswers.{from-none, none-there}
+use Rattle.candidate_assembly.proofs.Opaques.OpaqueLists.{lists-as, stops-as}
 use Rattle.candidate_assembly.proofs.assembly.opaques.list_ambiguity.Goals as goal
 
 pub returns-in_err-push_considered : goal.returns-in_err-push_considered

@@ -1,5 +1,5 @@
-use Rattle.candidate_assembly.proofs.Causes.{asked-here, so-err}
-use Rattle.candidate_assembly.proofs.Stepping.{evaluator-own}
+use Rattle.candidate_assembly.proofs.Calls.Causes.{asked-here, so-err}
+use Rattle.candidate_assembly.proofs.Calls.Stepping.{evaluator-own}
 use Rattle.candidate_assembly.proofs.assembly.opaques.opaques_behind.Goals as goal
 
 pub returns-in-Analysis-clause-own : goal.returns-in-Analysis-clause-own

@@ -1,13 +1,13 @@
 use Rattle.std.proofs.Common.{refl, ◌∙◌}
 use Rattle.std.proofs.lemmas.Result.{IfErr-weaker}
-use Rattle.candidate_ir.specs.Trees.{TypeKind}
-use Rattle.candidate_ir.specs.Words.{ty_tree}
-use Rattle.candidate_ir.proofs.Rows.{kind-of}
-use Rattle.candidate_eval.proofs.Accounts.{by-stop, reaches}
-use Rattle.candidate_assembly.proofs.Answering.{responds-so}
-use Rattle.candidate_assembly.proofs.Keeping.{itself-here}
-use Rattle.candidate_assembly.proofs.OpaqueRules.{general-refused, general-told, still-is}
-use Rattle.candidate_assembly.proofs.Stepping.{evaluator-own}
+use Rattle.candidate_ir.specs.Syntax.Trees.{TypeKind}
+use Rattle.candidate_ir.specs.Syntax.Words.{ty_tree}
+use Rattle.candidate_ir.proofs.Syntax.Rows.{kind-of}
+use Rattle.candidate_eval.proofs.Interface.Accounts.{by-stop, reaches}
+use Rattle.candidate_assembly.proofs.Rules.Answering.{responds-so}
+use Rattle.candidate_assembly.proofs.Calls.Keeping.{itself-here}
+use Rattle.candidate_assembly.proofs.Opaques.OpaqueRules.{general-refused, general-told, still-is}
+use Rattle.candidate_assembly.proofs.Calls.Stepping.{evaluator-own}
 use Rattle.candidate_assembly.proofs.assembly.opaques.respond_if_general.Goals as goal
 
 pub returns-then-not-is_ty_var-clause-told : goal.returns-then-not-is_ty_var-clause-told

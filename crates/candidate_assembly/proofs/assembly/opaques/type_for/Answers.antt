@@ -1,8 +1,8 @@
 use Rattle.std.proofs.Common.{true, false, sym, ap, ◌∙◌}
-use Rattle.candidate_ir.specs.Folds.{arg_tree}
-use Rattle.candidate_ir.specs.Words.{ty_tree}
-use Rattle.candidate_assembly.specs.Opaques.{type_for}
-use Rattle.candidate_assembly.proofs.TypesFor.{no-type-for, other-arg, type-for-tested}
+use Rattle.candidate_ir.specs.Instantiation.Folds.{arg_tree}
+use Rattle.candidate_ir.specs.Syntax.Words.{ty_tree}
+use Rattle.candidate_assembly.specs.Rules.Opaques.{type_for}
+use Rattle.candidate_assembly.proofs.Opaques.TypesFor.{no-type-for, other-arg, type-for-tested}
 use Rattle.candidate_assembly.proofs.assembly.opaques.type_for.Goals as goal
 
 pub returns-then-same-clause-answer : goal.returns-then-same-clause-answer

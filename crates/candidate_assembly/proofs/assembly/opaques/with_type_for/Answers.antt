@@ -1,15 +1,15 @@
 use Rattle.std.proofs.Common.{rules, ◌≡◌, refl, sym, ap, ◌∙◌}
 use Rattle.std.specs.Prelude.{option_map}
-use Rattle.candidate_ir.specs.Folds.{arg_tree}
-use Rattle.candidate_ir.specs.Trees.{TypeKind}
-use Rattle.candidate_ir.specs.Words.{ty_tree}
-use Rattle.candidate_ir.proofs.FoldLaws.{reached-keeps}
-use Rattle.candidate_ir.proofs.Kept.{ty-kept}
-use Rattle.candidate_ir.proofs.Rows.{kind-of}
-use Rattle.candidate_eval.proofs.Filling.{reached-grows}
-use Rattle.candidate_eval.proofs.StopKinds.{fold-making}
-use Rattle.candidate_assembly.specs.Opaques.{type_for}
-use Rattle.candidate_assembly.proofs.TypesFor.{type-for-before, unasked-for}
+use Rattle.candidate_ir.specs.Instantiation.Folds.{arg_tree}
+use Rattle.candidate_ir.specs.Syntax.Trees.{TypeKind}
+use Rattle.candidate_ir.specs.Syntax.Words.{ty_tree}
+use Rattle.candidate_ir.proofs.Traversal.FoldLaws.{reached-keeps}
+use Rattle.candidate_ir.proofs.Growth.Kept.{ty-kept}
+use Rattle.candidate_ir.proofs.Syntax.Rows.{kind-of}
+use Rattle.candidate_eval.proofs.Dynamic.Filling.{reached-grows}
+use Rattle.candidate_eval.proofs.Interface.StopKinds.{fold-making}
+use Rattle.candidate_assembly.specs.Rules.Opaques.{type_for}
+use Rattle.candidate_assembly.proofs.Opaques.TypesFor.{type-for-before, unasked-for}
 use Rattle.candidate_assembly.proofs.assembly.opaques.with_type_for.Goals as goal
 
 pub fold-requires-clause-callable : goal.fold-requires-clause-callable

@@ -1,8 +1,8 @@
 use Rattle.std.proofs.Common.{rules, arith, ◌<◌, ◌≤◌, length, ap, sym, ◌∙◌, subst}
-use Rattle.candidate_ir.specs.Context.{Context}
-use Rattle.candidate_eval.specs.ResponseTrees.{AreCandidates, candidates_of}
-use Rattle.candidate_assembly.specs.Assembled.{is_coherence}
-use Rattle.candidate_assembly.proofs.Specializing.{all-scanned, goes-on-with, goes-on-without, none-scanned, specialization_is_pairwise}
+use Rattle.candidate_ir.specs.Declarations.Context.{Context}
+use Rattle.candidate_eval.specs.Outcomes.ResponseTrees.{AreCandidates, candidates_of}
+use Rattle.candidate_assembly.specs.Answers.Assembled.{is_coherence}
+use Rattle.candidate_assembly.proofs.Answers.Specializing.{all-scanned, goes-on-with, goes-on-without, none-scanned, specialization_is_pairwise}
 use Rattle.candidate_assembly.proofs.assembly.specialization.filter_specialized_impls.Goals as goal
 
 pub loop-number-init : goal.loop-number-init

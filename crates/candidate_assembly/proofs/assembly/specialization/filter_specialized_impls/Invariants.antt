@@ -1,5 +1,5 @@
 use Rattle.std.proofs.Common.{◌-◌, length}
-use Rattle.candidate_assembly.proofs.Specializing.{ScannedSoFar}
+use Rattle.candidate_assembly.proofs.Answers.Specializing.{ScannedSoFar}
 use Rattle.candidate_assembly.proofs.assembly.specialization.filter_specialized_impls.Given as goal
 
 abbrev pub invariant-loop-number : goal.invariant-loop-number

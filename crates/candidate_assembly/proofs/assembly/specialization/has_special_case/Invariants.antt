@@ -1,7 +1,7 @@
 use Rattle.std.proofs.Common.{◌≡◌, drop}
 use Rattle.std.specs.List.{list_any}
-use Rattle.candidate_eval.specs.ResponseTrees.{candidates_of}
-use Rattle.candidate_assembly.specs.Specialization.{drives_out}
+use Rattle.candidate_eval.specs.Outcomes.ResponseTrees.{candidates_of}
+use Rattle.candidate_assembly.specs.Answers.Specialization.{drives_out}
 use Rattle.candidate_assembly.proofs.assembly.specialization.has_special_case.Given as goal
 
 -- none before drives the impl out

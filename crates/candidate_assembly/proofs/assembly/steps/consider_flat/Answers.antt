@@ -1,13 +1,13 @@
 use Rattle.std.proofs.Common.{◌≡◌, true, rules, map, refl}
-use Rattle.candidate_ir.specs.Words.{clause_tree, env_forest}
-use Rattle.candidate_assembly.specs.Telling.{flat_rule}
+use Rattle.candidate_ir.specs.Syntax.Words.{clause_tree, env_forest}
+use Rattle.candidate_assembly.specs.Answers.Telling.{flat_rule}
 use Rattle.std.proofs.lemmas.Result.{err_from_is_err_and}
-use Rattle.candidate_eval.proofs.Objects.{env-kept}
-use Rattle.candidate_eval.proofs.Responding.{clauses-kept}
-use Rattle.candidate_assembly.proofs.Causes.{answered-stop}
-use Rattle.candidate_assembly.proofs.Considering.{not-begun}
-use Rattle.candidate_assembly.proofs.Keeping.{in-probe}
-use Rattle.candidate_assembly.proofs.Flat.{flat-told}
+use Rattle.candidate_eval.proofs.Dynamic.Objects.{env-kept}
+use Rattle.candidate_eval.proofs.Outcomes.Responding.{clauses-kept}
+use Rattle.candidate_assembly.proofs.Calls.Causes.{answered-stop}
+use Rattle.candidate_assembly.proofs.Calls.Considering.{not-begun}
+use Rattle.candidate_assembly.proofs.Calls.Keeping.{in-probe}
+use Rattle.candidate_assembly.proofs.Rules.Flat.{flat-told}
 use Rattle.candidate_assembly.proofs.assembly.steps.consider_flat.Goals as goal
 
 pub returns-in_err-probe : goal.returns-in_err-probe

@@ -1,9 +1,9 @@
 use Rattle.std.proofs.Common.{subst, sym}
 use Rattle.std.proofs.lemmas.Result.{err_from_is_err_and}
-use Rattle.candidate_eval.specs.Evaluators.{IsMakingStop}
-use Rattle.candidate_eval.proofs.Accounts.{reaches}
-use Rattle.candidate_eval.proofs.ObjectCandidates.{goals-fit}
-use Rattle.candidate_assembly.proofs.Causes.{asked-here, caused, later, made-here}
+use Rattle.candidate_eval.specs.Interface.Evaluators.{IsMakingStop}
+use Rattle.candidate_eval.proofs.Interface.Accounts.{reaches}
+use Rattle.candidate_eval.proofs.Dynamic.ObjectCandidates.{goals-fit}
+use Rattle.candidate_assembly.proofs.Calls.Causes.{asked-here, caused, later, made-here}
 use Rattle.candidate_assembly.proofs.assembly.steps.nest_and_respond.Goals as goal
 
 pub returns-in_err-nested-clause-cause : goal.returns-in_err-nested-clause-cause

@@ -1,6 +1,6 @@
 use Rattle.std.proofs.lemmas.Result.{err_from_is_err_and}
-use Rattle.candidate_eval.proofs.Accounts.{accounted-here, by-stop, reaches}
-use Rattle.candidate_eval.specs.Accounts.StopsSomehow.{asking}
+use Rattle.candidate_eval.proofs.Interface.Accounts.{accounted-here, by-stop, reaches}
+use Rattle.candidate_eval.specs.Interface.Accounts.StopsSomehow.{asking}
 use Rattle.candidate_assembly.proofs.assembly.steps.respond_as.Goals as goal
 
 pub returns-in_err-result-clause-cause : goal.returns-in_err-result-clause-cause

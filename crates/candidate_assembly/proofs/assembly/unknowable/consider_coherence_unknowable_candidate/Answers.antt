@@ -1,19 +1,19 @@
 use Rattle.std.proofs.Common.{◌≡◌, ap, subst, sym, ◌∙◌}
 use Rattle.std.proofs.lemmas.Result.{err_from_is_err_and}
-use Rattle.candidate_ir.specs.Context.{Context}
-use Rattle.candidate_ir.specs.References.{reference_of}
-use Rattle.candidate_ir.specs.Trees.{holds, is_param}
-use Rattle.candidate_ir.specs.WellFormed.{IsWellFormedTable}
-use Rattle.candidate_ir.specs.Words.{IsArgs, env_forest}
-use Rattle.candidate_ir.proofs.Kept.{args-kept}
+use Rattle.candidate_ir.specs.Declarations.Context.{Context}
+use Rattle.candidate_ir.specs.Declarations.References.{reference_of}
+use Rattle.candidate_ir.specs.Syntax.Trees.{holds, is_param}
+use Rattle.candidate_ir.specs.Validity.WellFormed.{IsWellFormedTable}
+use Rattle.candidate_ir.specs.Syntax.Words.{IsArgs, env_forest}
+use Rattle.candidate_ir.proofs.Growth.Kept.{args-kept}
 use Rattle.candidate_eval.specs.declared.eval.context.ProbeKind.TheVariants.{Kept}
-use Rattle.candidate_eval.specs.Accounts as question
-use Rattle.candidate_eval.proofs.Objects.{env-kept}
-use Rattle.candidate_assembly.specs.Unknowable.{UnknowableJudged}
-use Rattle.candidate_assembly.proofs.Causes.{answered-stop}
-use Rattle.candidate_assembly.proofs.ToldSome.{some-in-probe, some-not-begun}
-use Rattle.candidate_assembly.proofs.TraitClauses.{fit-kept}
-use Rattle.candidate_assembly.proofs.Unknowing.{reference-fits, reference-free, unknowable-begun}
+use Rattle.candidate_eval.specs.Interface.Accounts as question
+use Rattle.candidate_eval.proofs.Dynamic.Objects.{env-kept}
+use Rattle.candidate_assembly.specs.Rules.Unknowable.{UnknowableJudged}
+use Rattle.candidate_assembly.proofs.Calls.Causes.{answered-stop}
+use Rattle.candidate_assembly.proofs.Calls.ToldSome.{some-in-probe, some-not-begun}
+use Rattle.candidate_assembly.proofs.Goals.TraitClauses.{fit-kept}
+use Rattle.candidate_assembly.proofs.Lists.Unknowing.{reference-fits, reference-free, unknowable-begun}
 use Rattle.candidate_assembly.proofs.assembly.unknowable.consider_coherence_unknowable_candidate.Goals as goal
 
 pub returns-in_err-probe : goal.returns-in_err-probe

@@ -2,21 +2,21 @@ use Rattle.std.proofs.Common.{[], ◌∷◌, List, map, subst, ◌∙◌}
 use Rattle.std.proofs.lemmas.Result.{err_from_is_err_and}
 use Rattle.candidate_ir.specs.declared.ir.kinds.PredicatePolarity.TheVariants.{Positive}
 use Rattle.candidate_ir.specs.declared.ir.kinds.TraitPredicate.{TraitPredicate}
-use Rattle.candidate_ir.specs.Elaboration.{IsElaboration, super_clauses}
-use Rattle.candidate_ir.specs.References.{reference_of}
-use Rattle.candidate_ir.specs.Trees.{Tree}
-use Rattle.candidate_ir.specs.WellFormed.{IsWellFormedTable}
-use Rattle.candidate_ir.specs.Words.{args_forest, clause_tree}
-use Rattle.candidate_ir.specs.Worlds.{kinds_of}
-use Rattle.candidate_ir.proofs.Kept.{args-kept}
-use Rattle.candidate_eval.proofs.Probing.{made, then}
-use Rattle.candidate_eval.proofs.StopKinds.{elaboration_making}
-use Rattle.candidate_assembly.specs.BuiltinLaws.{takes_declared}
-use Rattle.candidate_assembly.specs.SuperLaws.{elaboration_back}
-use Rattle.candidate_assembly.specs.Unknowable.{positive_clause}
-use Rattle.candidate_assembly.proofs.Elaborated.{clauses-free, elaborated-under}
-use Rattle.candidate_assembly.proofs.TraitClauses.{fact-fits, fact-takes, fit-kept}
-use Rattle.candidate_assembly.proofs.Unknowing.{positive-made}
+use Rattle.candidate_ir.specs.Hierarchy.Elaboration.{IsElaboration, super_clauses}
+use Rattle.candidate_ir.specs.Declarations.References.{reference_of}
+use Rattle.candidate_ir.specs.Syntax.Trees.{Tree}
+use Rattle.candidate_ir.specs.Validity.WellFormed.{IsWellFormedTable}
+use Rattle.candidate_ir.specs.Syntax.Words.{args_forest, clause_tree}
+use Rattle.candidate_ir.specs.Declarations.Worlds.{kinds_of}
+use Rattle.candidate_ir.proofs.Growth.Kept.{args-kept}
+use Rattle.candidate_eval.proofs.Interface.Probing.{made, then}
+use Rattle.candidate_eval.proofs.Interface.StopKinds.{elaboration_making}
+use Rattle.candidate_assembly.specs.Laws.BuiltinLaws.{takes_declared}
+use Rattle.candidate_assembly.specs.Laws.SuperLaws.{elaboration_back}
+use Rattle.candidate_assembly.specs.Rules.Unknowable.{positive_clause}
+use Rattle.candidate_assembly.proofs.Objects.Elaborated.{clauses-free, elaborated-under}
+use Rattle.candidate_assembly.proofs.Goals.TraitClauses.{fact-fits, fact-takes, fit-kept}
+use Rattle.candidate_assembly.proofs.Lists.Unknowing.{positive-made}
 use Rattle.candidate_assembly.proofs.assembly.unknowable.implied_by_reference.Goals as goal
 
 pub trait_clause-requires-clause-fits : goal.trait_clause-requires-clause-fits

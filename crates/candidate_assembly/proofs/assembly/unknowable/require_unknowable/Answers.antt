@@ -1,7 +1,7 @@
 use Rattle.std.proofs.Common.{Err, Ok, ap, ◌∙◌}
-use Rattle.candidate_ir.specs.References.{reference_of}
-use Rattle.candidate_ir.specs.Words.{env_forest}
-use Rattle.candidate_assembly.proofs.Unknowing.{conflict-reaches, failure-refuses, known-refuses, knowing-stops, stop-stops}
+use Rattle.candidate_ir.specs.Declarations.References.{reference_of}
+use Rattle.candidate_ir.specs.Syntax.Words.{env_forest}
+use Rattle.candidate_assembly.proofs.Lists.Unknowing.{conflict-reaches, failure-refuses, known-refuses, knowing-stops, stop-stops}
 use Rattle.candidate_assembly.proofs.assembly.unknowable.require_unknowable.Goals as goal
 
 pub returns-in-Ok-Err-clause-ok : goal.returns-in-Ok-Err-clause-ok

@@ -1,20 +1,20 @@
 use Rattle.std.proofs.Common.{ap, subst, sym, ◌∙◌}
 use Rattle.std.proofs.lemmas.Result.{err_from_is_err_and}
-use Rattle.candidate_ir.specs.References.{reference_of}
-use Rattle.candidate_ir.specs.Trees.{holds, is_param}
-use Rattle.candidate_ir.specs.WellFormed.{IsWellFormedTable}
-use Rattle.candidate_ir.specs.Words.{ClauseListFits, env_forest}
-use Rattle.candidate_ir.proofs.Kept.{args-kept}
-use Rattle.candidate_eval.specs.Replacing.{without_first}
-use Rattle.candidate_eval.proofs.Accounts.{reaches}
-use Rattle.candidate_eval.proofs.Objects.{env-kept}
-use Rattle.candidate_eval.proofs.Probing.{then}
-use Rattle.candidate_assembly.specs.Unknowable.{UnknowableJudged}
-use Rattle.candidate_assembly.proofs.Causes.{answered-error, answered-stop, caused, later, made-here}
-use Rattle.candidate_assembly.proofs.Stepping.{making-own}
-use Rattle.candidate_assembly.proofs.ToldSome.{some-own}
-use Rattle.candidate_assembly.proofs.TraitClauses.{fit-kept}
-use Rattle.candidate_assembly.proofs.Unknowing.{implied-back, others-fit, unknowable-over, unknowable-told}
+use Rattle.candidate_ir.specs.Declarations.References.{reference_of}
+use Rattle.candidate_ir.specs.Syntax.Trees.{holds, is_param}
+use Rattle.candidate_ir.specs.Validity.WellFormed.{IsWellFormedTable}
+use Rattle.candidate_ir.specs.Syntax.Words.{ClauseListFits, env_forest}
+use Rattle.candidate_ir.proofs.Growth.Kept.{args-kept}
+use Rattle.candidate_eval.specs.Dynamic.Replacing.{without_first}
+use Rattle.candidate_eval.proofs.Interface.Accounts.{reaches}
+use Rattle.candidate_eval.proofs.Dynamic.Objects.{env-kept}
+use Rattle.candidate_eval.proofs.Interface.Probing.{then}
+use Rattle.candidate_assembly.specs.Rules.Unknowable.{UnknowableJudged}
+use Rattle.candidate_assembly.proofs.Calls.Causes.{answered-error, answered-stop, caused, later, made-here}
+use Rattle.candidate_assembly.proofs.Calls.Stepping.{making-own}
+use Rattle.candidate_assembly.proofs.Calls.ToldSome.{some-own}
+use Rattle.candidate_assembly.proofs.Goals.TraitClauses.{fit-kept}
+use Rattle.candidate_assembly.proofs.Lists.Unknowing.{implied-back, others-fit, unknowable-over, unknowable-told}
 use Rattle.candidate_assembly.proofs.assembly.unknowable.try_unknowable.Goals as goal
 
 pub returns-in_err-require_unknowable-clause-told : goal.returns-in_err-require_unknowable-clause-told

@@ -2,21 +2,21 @@ use Rattle.std.proofs.Common.{[], map, ap, ◌∙◌}
 use Rattle.std.proofs.lemmas.Result.{err_from_is_err_and}
 use Rattle.candidate_ir.specs.declared.ir.kinds.Clause.{Clause}
 use Rattle.candidate_ir.specs.declared.ir.kinds.GoalSource.TheVariants.{Misc}
-use Rattle.candidate_ir.specs.Declaring.{trait_at}
-use Rattle.candidate_ir.specs.Folding.{substituted_tree}
-use Rattle.candidate_ir.specs.Lookups.{maybe}
-use Rattle.candidate_ir.specs.Words.{args_forest, clause_tree, env_forest}
+use Rattle.candidate_ir.specs.Declarations.Declaring.{trait_at}
+use Rattle.candidate_ir.specs.Instantiation.Folding.{substituted_tree}
+use Rattle.candidate_ir.specs.Declarations.Lookups.{maybe}
+use Rattle.candidate_ir.specs.Syntax.Words.{args_forest, clause_tree, env_forest}
 use Rattle.candidate_eval.specs.declared.eval.certainty.Certainty.TheVariants.{Yes}
-use Rattle.candidate_eval.proofs.Objects.{env-kept}
-use Rattle.candidate_eval.proofs.PartsFree.{put-parameterless}
-use Rattle.candidate_eval.proofs.Probing.{made}
-use Rattle.candidate_assembly.specs.BuiltinRules.{misc, trait_alias_rule}
-use Rattle.candidate_assembly.specs.Telling.{flat_rule}
-use Rattle.candidate_assembly.specs.TraitGoals.{trait_goal}
-use Rattle.candidate_assembly.proofs.Causes.{answered-stop, made-here}
-use Rattle.candidate_assembly.proofs.Considering.{considers-after, not-made}
-use Rattle.candidate_assembly.proofs.Stepping.{making-own}
-use Rattle.candidate_assembly.proofs.TraitAliases.{alias-rule-is, free-clauses}
+use Rattle.candidate_eval.proofs.Dynamic.Objects.{env-kept}
+use Rattle.candidate_eval.proofs.Builtins.PartsFree.{put-parameterless}
+use Rattle.candidate_eval.proofs.Interface.Probing.{made}
+use Rattle.candidate_assembly.specs.Rules.BuiltinRules.{misc, trait_alias_rule}
+use Rattle.candidate_assembly.specs.Answers.Telling.{flat_rule}
+use Rattle.candidate_assembly.specs.Goals.TraitGoals.{trait_goal}
+use Rattle.candidate_assembly.proofs.Calls.Causes.{answered-stop, made-here}
+use Rattle.candidate_assembly.proofs.Calls.Considering.{considers-after, not-made}
+use Rattle.candidate_assembly.proofs.Calls.Stepping.{making-own}
+use Rattle.candidate_assembly.proofs.Rules.TraitAliases.{alias-rule-is, free-clauses}
 use Rattle.candidate_assembly.proofs.trait_goals.aliases.consider_trait_alias.Goals as goal
 
 pub returns-in_err-clauses : goal.returns-in_err-clauses

@@ -3,17 +3,17 @@ use Rattle.std.specs.Prelude.{List, slice_index_or}
 use Rattle.std.proofs.lemmas.List.{get_or_default}
 use Rattle.std.proofs.lemmas.Result.{err_from_is_err_and}
 use Rattle.candidate_ir.specs.declared.ir.kinds.Clause.{Clause}
-use Rattle.candidate_ir.specs.Context.{Context}
-use Rattle.candidate_ir.specs.Declaring.{trait_at}
-use Rattle.candidate_ir.specs.Lookups.{maybe}
-use Rattle.candidate_ir.specs.Trees.{Tree}
-use Rattle.candidate_ir.specs.Words.{args_forest, clause_tree}
-use Rattle.candidate_ir.proofs.Joining.{clause-kept}
-use Rattle.candidate_ir.proofs.Kept.{args-kept, grows-trans}
-use Rattle.candidate_ir.proofs.Listing.{listed_clause}
-use Rattle.candidate_eval.proofs.Required.{all_gathered, more_gathered, none_added, pushed_fit, pushed_trees}
-use Rattle.candidate_eval.proofs.StopKinds.{subst_making}
-use Rattle.candidate_assembly.proofs.TraitAliases.{all-values, owned-read, put-still, there-still, with_values}
+use Rattle.candidate_ir.specs.Declarations.Context.{Context}
+use Rattle.candidate_ir.specs.Declarations.Declaring.{trait_at}
+use Rattle.candidate_ir.specs.Declarations.Lookups.{maybe}
+use Rattle.candidate_ir.specs.Syntax.Trees.{Tree}
+use Rattle.candidate_ir.specs.Syntax.Words.{args_forest, clause_tree}
+use Rattle.candidate_ir.proofs.Instantiation.Joining.{clause-kept}
+use Rattle.candidate_ir.proofs.Growth.Kept.{args-kept, grows-trans}
+use Rattle.candidate_ir.proofs.Hierarchy.Listing.{listed_clause}
+use Rattle.candidate_eval.proofs.Dynamic.Required.{all_gathered, more_gathered, none_added, pushed_fit, pushed_trees}
+use Rattle.candidate_eval.proofs.Interface.StopKinds.{subst_making}
+use Rattle.candidate_assembly.proofs.Rules.TraitAliases.{all-values, owned-read, put-still, there-still, with_values}
 use Rattle.candidate_assembly.proofs.trait_goals.aliases.where_clauses.Goals as goal
 
 pub loop-clause-init : goal.loop-clause-init

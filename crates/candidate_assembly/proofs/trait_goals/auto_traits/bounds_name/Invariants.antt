@@ -1,6 +1,6 @@
 use Rattle.std.proofs.Common.{◌≡◌, drop}
 use Rattle.std.specs.List.{list_any}
-use Rattle.candidate_assembly.proofs.AutoTraits.{speaks}
+use Rattle.candidate_assembly.proofs.Rules.AutoTraits.{speaks}
 use Rattle.candidate_assembly.proofs.trait_goals.auto_traits.bounds_name.Given as goal
 
 abbrev pub invariant-loop-bound : goal.invariant-loop-bound

@@ -1,18 +1,18 @@
 use Rattle.std.proofs.Common.{rules, ◌≡◌, true, false, ap, subst, sym, ◌∙◌}
 use Rattle.std.specs.Prelude.{◌&&◌, not}
 use Rattle.std.proofs.lemmas.Result.{err_from_is_err_and}
-use Rattle.candidate_ir.specs.Context.{Context}
-use Rattle.candidate_ir.specs.References.{reference_of}
-use Rattle.candidate_ir.specs.Words.{args_forest}
-use Rattle.candidate_eval.specs.ObjectRequirements.{first_tree}
-use Rattle.candidate_eval.specs.Tables.{cell, row_of}
+use Rattle.candidate_ir.specs.Declarations.Context.{Context}
+use Rattle.candidate_ir.specs.Declarations.References.{reference_of}
+use Rattle.candidate_ir.specs.Syntax.Words.{args_forest}
+use Rattle.candidate_eval.specs.Dynamic.ObjectRequirements.{first_tree}
+use Rattle.candidate_eval.specs.Builtins.Tables.{cell, row_of}
 use Rattle.candidate_eval.specs.declared.structural.Column.TheVariants as C
-use Rattle.candidate_assembly.specs.BuiltinRules.{ambiguous_rule, auto_refused, auto_rule, is_numeric_variable, misc, parts_rule, positive, self_of}
-use Rattle.candidate_assembly.specs.TraitGoals.{trait_goal}
-use Rattle.candidate_assembly.proofs.AutoTraits.{auto-ambiguous, auto-is, auto-known, not-refused}
-use Rattle.candidate_assembly.proofs.Causes.{answered-stop}
-use Rattle.candidate_assembly.proofs.Considering.{considers-same, not-made-here}
-use Rattle.candidate_assembly.proofs.SelfTypes.{first-is-type}
+use Rattle.candidate_assembly.specs.Rules.BuiltinRules.{ambiguous_rule, auto_refused, auto_rule, is_numeric_variable, misc, parts_rule, positive, self_of}
+use Rattle.candidate_assembly.specs.Goals.TraitGoals.{trait_goal}
+use Rattle.candidate_assembly.proofs.Rules.AutoTraits.{auto-ambiguous, auto-is, auto-known, not-refused}
+use Rattle.candidate_assembly.proofs.Calls.Causes.{answered-stop}
+use Rattle.candidate_assembly.proofs.Calls.Considering.{considers-same, not-made-here}
+use Rattle.candidate_assembly.proofs.Goals.SelfTypes.{first-is-type}
 use Rattle.candidate_assembly.proofs.trait_goals.auto_traits.consider_auto_trait.Goals as goal
 
 pub returns-then-matches : goal.returns-then-matches

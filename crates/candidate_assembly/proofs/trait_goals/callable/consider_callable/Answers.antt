@@ -1,26 +1,26 @@
 use Rattle.std.proofs.Common.{◌≡◌, true, false, Err, Some, None, length, ap, refl, subst, sym, ◌∙◌}
 use Rattle.std.proofs.lemmas.Result.{err_from_is_err_and}
 use Rattle.candidate_ir.specs.declared.decl.contents.LangItem.TheVariants as L
-use Rattle.candidate_ir.specs.Context.{Context}
-use Rattle.candidate_ir.specs.Trees.{Tree, is_param, tree_holds}
-use Rattle.candidate_ir.specs.Words.{args_forest, env_forest, ty_tree}
-use Rattle.candidate_ir.proofs.Kept.{grows-refl}
+use Rattle.candidate_ir.specs.Declarations.Context.{Context}
+use Rattle.candidate_ir.specs.Syntax.Trees.{Tree, is_param, tree_holds}
+use Rattle.candidate_ir.specs.Syntax.Words.{args_forest, env_forest, ty_tree}
+use Rattle.candidate_ir.proofs.Growth.Kept.{grows-refl}
 use Rattle.candidate_eval.specs.declared.eval.refusal.NoSolutionOrStop.TheVariants.{NoSolution}
-use Rattle.candidate_eval.specs.Callable.{CalledWith, Undetermined, callable_of, calls, calls_of}
-use Rattle.candidate_eval.specs.Certainties.{AMBIGUOUS}
-use Rattle.candidate_eval.specs.ObjectRequirements.{first_tree}
-use Rattle.candidate_eval.proofs.Objects.{env-kept}
-use Rattle.candidate_eval.proofs.Probing.{made}
-use Rattle.candidate_assembly.specs.BuiltinRules.{call_rule}
-use Rattle.candidate_assembly.specs.Telling.{asking_rule}
-use Rattle.candidate_assembly.specs.TraitGoals.{item_trait, trait_goal}
-use Rattle.candidate_assembly.proofs.CallFree.{call-free}
-use Rattle.candidate_assembly.proofs.CallRules.{refused-negative, refused-uncalled, refused-unsized, rule-called, rule-undetermined}
-use Rattle.candidate_assembly.proofs.CallSteps.{call-makes}
-use Rattle.candidate_assembly.proofs.Causes.{answered-error}
-use Rattle.candidate_assembly.proofs.Considering.{considers-after, not-given}
-use Rattle.candidate_assembly.proofs.Keeping.{trait-goal-kept}
-use Rattle.candidate_assembly.proofs.PartsTold.{first-parameterless}
+use Rattle.candidate_eval.specs.Builtins.Callable.{CalledWith, Undetermined, callable_of, calls, calls_of}
+use Rattle.candidate_eval.specs.Outcomes.Certainties.{AMBIGUOUS}
+use Rattle.candidate_eval.specs.Dynamic.ObjectRequirements.{first_tree}
+use Rattle.candidate_eval.proofs.Dynamic.Objects.{env-kept}
+use Rattle.candidate_eval.proofs.Interface.Probing.{made}
+use Rattle.candidate_assembly.specs.Rules.BuiltinRules.{call_rule}
+use Rattle.candidate_assembly.specs.Answers.Telling.{asking_rule}
+use Rattle.candidate_assembly.specs.Goals.TraitGoals.{item_trait, trait_goal}
+use Rattle.candidate_assembly.proofs.Rules.CallFree.{call-free}
+use Rattle.candidate_assembly.proofs.Rules.CallRules.{refused-negative, refused-uncalled, refused-unsized, rule-called, rule-undetermined}
+use Rattle.candidate_assembly.proofs.Rules.CallSteps.{call-makes}
+use Rattle.candidate_assembly.proofs.Calls.Causes.{answered-error}
+use Rattle.candidate_assembly.proofs.Calls.Considering.{considers-after, not-given}
+use Rattle.candidate_assembly.proofs.Calls.Keeping.{trait-goal-kept}
+use Rattle.candidate_assembly.proofs.Rules.PartsTold.{first-parameterless}
 use Rattle.candidate_assembly.proofs.trait_goals.callable.consider_callable.Goals as goal
 
 pub returns-then-not-is_positive : goal.returns-then-not-is_positive

@@ -1,21 +1,21 @@
 use Rattle.std.proofs.Common.{◌≡◌, true, false, Some, None, IfOk, IfErr, subst}
 use Rattle.std.proofs.lemmas.Result.{IfErr-weaker, IfOk-weaker, err_from_is_err_and}
 use Rattle.candidate_ir.specs.declared.ir.unify.RightSide.TheVariants.{Plain}
-use Rattle.candidate_ir.specs.Context.{Context}
-use Rattle.candidate_ir.specs.Unify.{may_unify}
-use Rattle.candidate_ir.specs.Words.{IsTy, args_forest, env_forest, ty_tree}
-use Rattle.candidate_ir.proofs.Kept.{args-kept}
+use Rattle.candidate_ir.specs.Declarations.Context.{Context}
+use Rattle.candidate_ir.specs.Unification.Unify.{may_unify}
+use Rattle.candidate_ir.specs.Syntax.Words.{IsTy, args_forest, env_forest, ty_tree}
+use Rattle.candidate_ir.proofs.Growth.Kept.{args-kept}
 use Rattle.candidate_eval.specs.declared.eval.refusal.NoSolutionOrStop.TheVariants.{NoSolution}
-use Rattle.candidate_eval.specs.Accounts as question
-use Rattle.candidate_eval.specs.Accounts.StopsSomehow.{asking, making}
-use Rattle.candidate_eval.specs.Evaluators.{accepted}
-use Rattle.candidate_eval.specs.ObjectRequirements.{first_tree}
-use Rattle.candidate_eval.proofs.Accounts.{accounted-here, accounted-later, by-stop, reaches}
-use Rattle.candidate_eval.proofs.Objects.{env-kept}
-use Rattle.candidate_eval.proofs.Probing.{made, then}
-use Rattle.candidate_eval.proofs.StopKinds.{mk_making}
-use Rattle.candidate_assembly.specs.Calling.{pair_of}
-use Rattle.candidate_assembly.proofs.CallSteps.{quickly-accepted, quickly-rejected, row-made, row-test}
+use Rattle.candidate_eval.specs.Interface.Accounts as question
+use Rattle.candidate_eval.specs.Interface.Accounts.StopsSomehow.{asking, making}
+use Rattle.candidate_eval.specs.Interface.Evaluators.{accepted}
+use Rattle.candidate_eval.specs.Dynamic.ObjectRequirements.{first_tree}
+use Rattle.candidate_eval.proofs.Interface.Accounts.{accounted-here, accounted-later, by-stop, reaches}
+use Rattle.candidate_eval.proofs.Dynamic.Objects.{env-kept}
+use Rattle.candidate_eval.proofs.Interface.Probing.{made, then}
+use Rattle.candidate_eval.proofs.Interface.StopKinds.{mk_making}
+use Rattle.candidate_assembly.specs.Calls.Calling.{pair_of}
+use Rattle.candidate_assembly.proofs.Rules.CallSteps.{quickly-accepted, quickly-rejected, row-made, row-test}
 use Rattle.candidate_assembly.proofs.trait_goals.callable.equate_inputs.Goals as goal
 
 pub returns-in_err-called-clause-cause : goal.returns-in_err-called-clause-cause

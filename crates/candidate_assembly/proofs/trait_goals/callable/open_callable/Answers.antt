@@ -1,16 +1,16 @@
 use Rattle.std.proofs.Common.{◌≡◌, length}
 use Rattle.std.proofs.lemmas.Result.{err_from_is_err_and}
-use Rattle.candidate_ir.specs.Opening.{opened, opened_tree}
-use Rattle.candidate_ir.specs.Trees.{Forest, none, row}
-use Rattle.candidate_ir.specs.Words.{args_forest, ty_tree, vars_tree}
-use Rattle.candidate_eval.specs.Characterization.{binder_kinds}
-use Rattle.candidate_eval.specs.States.{fresh_variables}
-use Rattle.candidate_ir.proofs.Kept.{args-kept, grows-trans, ty-kept}
-use Rattle.candidate_eval.specs.Accounts.StopsSomehow.{making}
-use Rattle.candidate_eval.proofs.Accounts.{somehow}
-use Rattle.candidate_eval.proofs.Probing.{made, then}
-use Rattle.candidate_eval.proofs.StopKinds.{subst_making}
-use Rattle.candidate_assembly.proofs.CallSteps.{opened-since, opened-still}
+use Rattle.candidate_ir.specs.Instantiation.Opening.{opened, opened_tree}
+use Rattle.candidate_ir.specs.Syntax.Trees.{Forest, none, row}
+use Rattle.candidate_ir.specs.Syntax.Words.{args_forest, ty_tree, vars_tree}
+use Rattle.candidate_eval.specs.Derivations.Characterization.{binder_kinds}
+use Rattle.candidate_eval.specs.Judges.States.{fresh_variables}
+use Rattle.candidate_ir.proofs.Growth.Kept.{args-kept, grows-trans, ty-kept}
+use Rattle.candidate_eval.specs.Interface.Accounts.StopsSomehow.{making}
+use Rattle.candidate_eval.proofs.Interface.Accounts.{somehow}
+use Rattle.candidate_eval.proofs.Interface.Probing.{made, then}
+use Rattle.candidate_eval.proofs.Interface.StopKinds.{subst_making}
+use Rattle.candidate_assembly.proofs.Rules.CallSteps.{opened-since, opened-still}
 use Rattle.candidate_assembly.proofs.trait_goals.callable.open_callable.Goals as goal
 
 pub returns-in_err-values-clause-cause : goal.returns-in_err-values-clause-cause

@@ -1,17 +1,17 @@
 use Rattle.std.proofs.Common.{◌≡◌, [], Some, ap, refl, subst, sym, ◌∙◌}
 use Rattle.std.proofs.lemmas.Result.{err_from_is_err_and}
-use Rattle.candidate_ir.specs.Trees.{is_param, tree_holds}
-use Rattle.candidate_ir.specs.Worlds.{World, TraitSort, parameters}
-use Rattle.candidate_ir.proofs.Kept.{ty-kept, world-kept}
+use Rattle.candidate_ir.specs.Syntax.Trees.{is_param, tree_holds}
+use Rattle.candidate_ir.specs.Declarations.Worlds.{World, TraitSort, parameters}
+use Rattle.candidate_ir.proofs.Growth.Kept.{ty-kept, world-kept}
 use Rattle.candidate_eval.specs.declared.eval.context.ProbeKind.TheVariants.{Kept}
-use Rattle.candidate_eval.specs.Accounts as question
-use Rattle.candidate_eval.specs.Callable.{CalledWith, callable_of}
-use Rattle.candidate_assembly.specs.BuiltinRules.{call_rule}
-use Rattle.candidate_assembly.specs.TraitGoals.{trait_goal}
-use Rattle.candidate_assembly.proofs.CallRules.{callable-kept, rule-called}
-use Rattle.candidate_assembly.proofs.Causes.{answered-stop}
-use Rattle.candidate_assembly.proofs.Considering.{not-begun}
-use Rattle.candidate_assembly.proofs.Keeping.{in-probe, trait-goal-kept}
+use Rattle.candidate_eval.specs.Interface.Accounts as question
+use Rattle.candidate_eval.specs.Builtins.Callable.{CalledWith, callable_of}
+use Rattle.candidate_assembly.specs.Rules.BuiltinRules.{call_rule}
+use Rattle.candidate_assembly.specs.Goals.TraitGoals.{trait_goal}
+use Rattle.candidate_assembly.proofs.Rules.CallRules.{callable-kept, rule-called}
+use Rattle.candidate_assembly.proofs.Calls.Causes.{answered-stop}
+use Rattle.candidate_assembly.proofs.Calls.Considering.{not-begun}
+use Rattle.candidate_assembly.proofs.Calls.Keeping.{in-probe, trait-goal-kept}
 use Rattle.candidate_assembly.proofs.trait_goals.callable.probe_call.Goals as goal
 
 pub returns-in_err-probe : goal.returns-in_err-probe

@@ -1,7 +1,7 @@
 use Rattle.std.proofs.lemmas.Result.{err_from_is_err_and}
-use Rattle.candidate_eval.proofs.Objects.{env-kept}
-use Rattle.candidate_eval.proofs.Probing.{made, then}
-use Rattle.candidate_assembly.proofs.Causes.{caused, later, made-here}
+use Rattle.candidate_eval.proofs.Dynamic.Objects.{env-kept}
+use Rattle.candidate_eval.proofs.Interface.Probing.{made, then}
+use Rattle.candidate_assembly.proofs.Calls.Causes.{caused, later, made-here}
 use Rattle.candidate_assembly.proofs.trait_goals.callable.respond_if_sized.Goals as goal
 
 pub returns-in_err-clause-clause-cause : goal.returns-in_err-clause-clause-cause

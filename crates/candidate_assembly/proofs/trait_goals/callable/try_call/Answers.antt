@@ -1,21 +1,21 @@
 use Rattle.std.proofs.Common.{◌≡◌, [], Some, subst, sym, ◌∙◌}
 use Rattle.std.proofs.lemmas.Result.{err_from_is_err_and}
-use Rattle.candidate_ir.specs.Worlds.{World, TraitSort, parameters}
-use Rattle.candidate_ir.proofs.Kept.{args-kept, grows-trans, ty-kept, world-kept}
-use Rattle.candidate_eval.specs.Callable.{CalledWith, callable_of}
-use Rattle.candidate_eval.specs.Characterization.{binder_kinds}
-use Rattle.candidate_eval.specs.Judging.{judged}
-use Rattle.candidate_eval.proofs.Accounts.{by-stop, reaches}
-use Rattle.candidate_eval.proofs.Objects.{env-kept}
-use Rattle.candidate_eval.proofs.Probing.{then}
-use Rattle.candidate_assembly.specs.BuiltinRules.{call_rule}
-use Rattle.candidate_assembly.specs.TraitGoals.{trait_goal}
-use Rattle.candidate_assembly.proofs.CallSteps.{call-judged, call-refused}
-use Rattle.candidate_assembly.proofs.Causes.{answered-error, answered-stop, caused, later, somehow-here}
-use Rattle.candidate_assembly.proofs.Considering.{told-own}
-use Rattle.candidate_assembly.proofs.Keeping.{somehow-is-own}
-use Rattle.candidate_assembly.proofs.Stepping.{somehow-own, told-error}
-use Rattle.candidate_assembly.proofs.TraitClauses.{fit-kept}
+use Rattle.candidate_ir.specs.Declarations.Worlds.{World, TraitSort, parameters}
+use Rattle.candidate_ir.proofs.Growth.Kept.{args-kept, grows-trans, ty-kept, world-kept}
+use Rattle.candidate_eval.specs.Builtins.Callable.{CalledWith, callable_of}
+use Rattle.candidate_eval.specs.Derivations.Characterization.{binder_kinds}
+use Rattle.candidate_eval.specs.Derivations.Judging.{judged}
+use Rattle.candidate_eval.proofs.Interface.Accounts.{by-stop, reaches}
+use Rattle.candidate_eval.proofs.Dynamic.Objects.{env-kept}
+use Rattle.candidate_eval.proofs.Interface.Probing.{then}
+use Rattle.candidate_assembly.specs.Rules.BuiltinRules.{call_rule}
+use Rattle.candidate_assembly.specs.Goals.TraitGoals.{trait_goal}
+use Rattle.candidate_assembly.proofs.Rules.CallSteps.{call-judged, call-refused}
+use Rattle.candidate_assembly.proofs.Calls.Causes.{answered-error, answered-stop, caused, later, somehow-here}
+use Rattle.candidate_assembly.proofs.Calls.Considering.{told-own}
+use Rattle.candidate_assembly.proofs.Calls.Keeping.{somehow-is-own}
+use Rattle.candidate_assembly.proofs.Calls.Stepping.{somehow-own, told-error}
+use Rattle.candidate_assembly.proofs.Goals.TraitClauses.{fit-kept}
 use Rattle.candidate_assembly.proofs.trait_goals.callable.try_call.Goals as goal
 
 pub returns-in_err-inputs-clause-told : goal.returns-in_err-inputs-clause-told

@@ -1,15 +1,15 @@
 use Rattle.std.proofs.Common.{ap, ◌∙◌, subst}
 use Rattle.std.proofs.lemmas.Result.{err_from_is_err_and}
-use Rattle.candidate_ir.specs.Context.{Context}
-use Rattle.candidate_ir.specs.WellFormed.{IsWellFormedTable}
-use Rattle.candidate_eval.specs.ResponseTrees.{candidates_of}
-use Rattle.candidate_assembly.specs.Preference.{mode_of}
-use Rattle.candidate_assembly.specs.TraitGoals.{trait_goal}
-use Rattle.candidate_assembly.proofs.SureAnswers.{computes-proved}
-use Rattle.candidate_assembly.proofs.CoherentRefusals.{computes-refused}
-use Rattle.candidate_assembly.proofs.KnownImpls.{computes-known}
-use Rattle.candidate_assembly.proofs.Causes.{answered-stop}
-use Rattle.candidate_assembly.proofs.TraitAnswers.{computes-merged, computes-stopped}
+use Rattle.candidate_ir.specs.Declarations.Context.{Context}
+use Rattle.candidate_ir.specs.Validity.WellFormed.{IsWellFormedTable}
+use Rattle.candidate_eval.specs.Outcomes.ResponseTrees.{candidates_of}
+use Rattle.candidate_assembly.specs.Answers.Preference.{mode_of}
+use Rattle.candidate_assembly.specs.Goals.TraitGoals.{trait_goal}
+use Rattle.candidate_assembly.proofs.Answers.SureAnswers.{computes-proved}
+use Rattle.candidate_assembly.proofs.Refusals.CoherentRefusals.{computes-refused}
+use Rattle.candidate_assembly.proofs.Refusals.KnownImpls.{computes-known}
+use Rattle.candidate_assembly.proofs.Calls.Causes.{answered-stop}
+use Rattle.candidate_assembly.proofs.Answers.TraitAnswers.{computes-merged, computes-stopped}
 use Rattle.candidate_assembly.proofs.trait_goals.compute.compute_trait_goal.Goals as goal
 
 pub returns-in_err-candidates-clause-computes : goal.returns-in_err-candidates-clause-computes

@@ -1,16 +1,16 @@
 use Rattle.std.proofs.Common.{◌≡◌, map}
 use Rattle.std.proofs.lemmas.Result.{err_from_is_err_and}
-use Rattle.candidate_ir.specs.Words.{args_forest, clause_tree, env_forest}
-use Rattle.candidate_ir.proofs.Kept.{args-kept}
-use Rattle.candidate_eval.specs.Judging.{At, run}
-use Rattle.candidate_eval.specs.Rules.{equate, nested, nested_misc}
-use Rattle.candidate_eval.proofs.Accounts.{reaches, somehow-later}
-use Rattle.candidate_eval.proofs.Objects.{env-kept}
-use Rattle.candidate_eval.proofs.Probing.{then}
-use Rattle.candidate_eval.proofs.Responding.{clauses-kept}
-use Rattle.candidate_assembly.specs.Telling.{standing}
-use Rattle.candidate_assembly.proofs.ImplSteps.{owned-still}
-use Rattle.candidate_assembly.proofs.Stepping.{run-three}
+use Rattle.candidate_ir.specs.Syntax.Words.{args_forest, clause_tree, env_forest}
+use Rattle.candidate_ir.proofs.Growth.Kept.{args-kept}
+use Rattle.candidate_eval.specs.Derivations.Judging.{At, run}
+use Rattle.candidate_eval.specs.Derivations.Rules.{equate, nested, nested_misc}
+use Rattle.candidate_eval.proofs.Interface.Accounts.{reaches, somehow-later}
+use Rattle.candidate_eval.proofs.Dynamic.Objects.{env-kept}
+use Rattle.candidate_eval.proofs.Interface.Probing.{then}
+use Rattle.candidate_eval.proofs.Outcomes.Responding.{clauses-kept}
+use Rattle.candidate_assembly.specs.Answers.Telling.{standing}
+use Rattle.candidate_assembly.proofs.Rules.ImplSteps.{owned-still}
+use Rattle.candidate_assembly.proofs.Calls.Stepping.{run-three}
 use Rattle.candidate_assembly.proofs.trait_goals.impls.equate_and_nest.Goals as goal
 
 pub nest_clauses-requires-clause-env : goal.nest_clauses-requires-clause-env

@@ -1,20 +1,20 @@
 use Rattle.std.proofs.Common.{◌≡◌, refl, Some, None, IfOk, IfErr}
 use Rattle.std.proofs.lemmas.Result.{IfErr-weaker, IfOk-weaker, err_from_is_err_and}
-use Rattle.candidate_ir.specs.Folding.{substituted}
-use Rattle.candidate_ir.specs.Trees.{ArgumentsKind}
-use Rattle.candidate_ir.specs.Words.{args_forest, env_forest}
-use Rattle.candidate_ir.proofs.Folding.{substituted-nothing}
-use Rattle.candidate_ir.proofs.Kept.{args-kept}
-use Rattle.candidate_ir.proofs.Substituting.{list-there}
+use Rattle.candidate_ir.specs.Instantiation.Folding.{substituted}
+use Rattle.candidate_ir.specs.Syntax.Trees.{ArgumentsKind}
+use Rattle.candidate_ir.specs.Syntax.Words.{args_forest, env_forest}
+use Rattle.candidate_ir.proofs.Instantiation.Folding.{substituted-nothing}
+use Rattle.candidate_ir.proofs.Growth.Kept.{args-kept}
+use Rattle.candidate_ir.proofs.Instantiation.Substituting.{list-there}
 use Rattle.candidate_eval.specs.declared.eval.refusal.NoSolutionOrStop.TheVariants.{NoSolution}
-use Rattle.candidate_eval.specs.Accounts.StopsSomehow.{asking, making}
-use Rattle.candidate_eval.specs.Evaluators.{accepted}
-use Rattle.candidate_eval.proofs.Accounts.{accounted-here, accounted-later, by-stop, reaches}
-use Rattle.candidate_eval.proofs.Objects.{env-kept}
-use Rattle.candidate_eval.proofs.Probing.{then}
-use Rattle.candidate_eval.proofs.StopKinds.{subst_making}
-use Rattle.candidate_assembly.specs.Telling.{standing}
-use Rattle.candidate_assembly.proofs.Stepping.{equation-reaches, equation-refuses}
+use Rattle.candidate_eval.specs.Interface.Accounts.StopsSomehow.{asking, making}
+use Rattle.candidate_eval.specs.Interface.Evaluators.{accepted}
+use Rattle.candidate_eval.proofs.Interface.Accounts.{accounted-here, accounted-later, by-stop, reaches}
+use Rattle.candidate_eval.proofs.Dynamic.Objects.{env-kept}
+use Rattle.candidate_eval.proofs.Interface.Probing.{then}
+use Rattle.candidate_eval.proofs.Interface.StopKinds.{subst_making}
+use Rattle.candidate_assembly.specs.Answers.Telling.{standing}
+use Rattle.candidate_assembly.proofs.Calls.Stepping.{equation-reaches, equation-refuses}
 use Rattle.candidate_assembly.proofs.trait_goals.impls.equate_header.Goals as goal
 
 pub put_in-requires-clause-there : goal.put_in-requires-clause-there

@@ -1,20 +1,20 @@
 use Rattle.std.proofs.Common.{rules, ◌≡◌, ap, subst, sym, ◌∙◌, map}
 use Rattle.std.specs.Prelude.{IfSome}
 use Rattle.std.proofs.lemmas.Result.{err_from_is_err_and}
-use Rattle.candidate_ir.specs.Context.{Context}
-use Rattle.candidate_ir.specs.Declaring.{impl_at}
-use Rattle.candidate_ir.specs.WellFormed.{ImplIsGiven}
-use Rattle.candidate_ir.specs.Words.{args_forest, clause_tree, env_forest}
-use Rattle.candidate_ir.specs.Worlds.{kinds_of}
-use Rattle.candidate_ir.proofs.Kept.{args-kept}
-use Rattle.candidate_eval.specs.Accounts.StopsSomehow.{making}
-use Rattle.candidate_eval.specs.Judging.{At, Over, Refused}
-use Rattle.candidate_eval.proofs.Accounts.{by-stop, reaches, somehow-later}
-use Rattle.candidate_eval.proofs.Objects.{env-kept}
-use Rattle.candidate_eval.proofs.Probing.{then}
-use Rattle.candidate_assembly.specs.Impls.{IsDeclared, impl_kinds}
-use Rattle.candidate_assembly.specs.Telling.{standing}
-use Rattle.candidate_assembly.proofs.ImplSteps.{declared-run, kinds-fit, moved-run}
+use Rattle.candidate_ir.specs.Declarations.Context.{Context}
+use Rattle.candidate_ir.specs.Declarations.Declaring.{impl_at}
+use Rattle.candidate_ir.specs.Validity.WellFormed.{ImplIsGiven}
+use Rattle.candidate_ir.specs.Syntax.Words.{args_forest, clause_tree, env_forest}
+use Rattle.candidate_ir.specs.Declarations.Worlds.{kinds_of}
+use Rattle.candidate_ir.proofs.Growth.Kept.{args-kept}
+use Rattle.candidate_eval.specs.Interface.Accounts.StopsSomehow.{making}
+use Rattle.candidate_eval.specs.Derivations.Judging.{At, Over, Refused}
+use Rattle.candidate_eval.proofs.Interface.Accounts.{by-stop, reaches, somehow-later}
+use Rattle.candidate_eval.proofs.Dynamic.Objects.{env-kept}
+use Rattle.candidate_eval.proofs.Interface.Probing.{then}
+use Rattle.candidate_assembly.specs.Rules.Impls.{IsDeclared, impl_kinds}
+use Rattle.candidate_assembly.specs.Answers.Telling.{standing}
+use Rattle.candidate_assembly.proofs.Rules.ImplSteps.{declared-run, kinds-fit, moved-run}
 use Rattle.candidate_assembly.proofs.trait_goals.impls.follow_impl.Goals as goal
 
 pub declared_by-requires : goal.declared_by-requires

@@ -1,14 +1,14 @@
 use Rattle.std.proofs.Common.{◌∙◌, Err, ap, refl, subst, sym}
 use Rattle.std.proofs.lemmas.Result.{err_from_is_err_and}
-use Rattle.candidate_eval.specs.Judging.{Reached, answered, continued}
-use Rattle.candidate_eval.specs.Certainties.{AMBIGUOUS}
-use Rattle.candidate_eval.specs.Rules.{ask}
-use Rattle.candidate_eval.proofs.Accounts.{reaches}
-use Rattle.candidate_eval.proofs.Probing.{then}
-use Rattle.candidate_assembly.specs.Closures.{ReturnsWith}
-use Rattle.candidate_assembly.specs.Telling.{ToldAs}
-use Rattle.candidate_assembly.proofs.Keeping.{itself-later, keeps-open, somehow-is-own, somehow-itself}
-use Rattle.candidate_assembly.proofs.Stepping.{responds-told, told-as-error}
+use Rattle.candidate_eval.specs.Derivations.Judging.{Reached, answered, continued}
+use Rattle.candidate_eval.specs.Outcomes.Certainties.{AMBIGUOUS}
+use Rattle.candidate_eval.specs.Derivations.Rules.{ask}
+use Rattle.candidate_eval.proofs.Interface.Accounts.{reaches}
+use Rattle.candidate_eval.proofs.Interface.Probing.{then}
+use Rattle.candidate_assembly.specs.Answers.Closures.{ReturnsWith}
+use Rattle.candidate_assembly.specs.Answers.Telling.{ToldAs}
+use Rattle.candidate_assembly.proofs.Calls.Keeping.{itself-later, keeps-open, somehow-is-own, somehow-itself}
+use Rattle.candidate_assembly.proofs.Calls.Stepping.{responds-told, told-as-error}
 use Rattle.candidate_assembly.proofs.trait_goals.impls.follow_impl_and_then.Goals as goal
 
 pub returns-in_err-follow_impl-clause-told : goal.returns-in_err-follow_impl-clause-told

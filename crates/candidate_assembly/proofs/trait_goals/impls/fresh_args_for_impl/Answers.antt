@@ -1,8 +1,8 @@
 use Rattle.std.proofs.Common.{sym, subst}
 use Rattle.std.proofs.lemmas.Result.{IfErr-weaker, err_from_is_err_and}
-use Rattle.candidate_eval.specs.Accounts.StopsSomehow.{asking, making}
-use Rattle.candidate_eval.specs.Evaluators.{IsMakingStop}
-use Rattle.candidate_eval.proofs.Accounts.{accounted-here, reaches}
+use Rattle.candidate_eval.specs.Interface.Accounts.StopsSomehow.{asking, making}
+use Rattle.candidate_eval.specs.Interface.Evaluators.{IsMakingStop}
+use Rattle.candidate_eval.proofs.Interface.Accounts.{accounted-here, reaches}
 use Rattle.candidate_assembly.proofs.trait_goals.impls.fresh_args_for_impl.Goals as goal
 
 pub returns-in_err-kinds-clause-cause : goal.returns-in_err-kinds-clause-cause

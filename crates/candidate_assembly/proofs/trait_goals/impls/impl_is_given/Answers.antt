@@ -1,4 +1,4 @@
-use Rattle.candidate_ir.proofs.Given.{impl_given}
+use Rattle.candidate_ir.proofs.Validity.Given.{impl_given}
 use Rattle.candidate_assembly.proofs.trait_goals.impls.impl_is_given.Goals as goal
 
 pub returns : goal.returns

@@ -1,18 +1,18 @@
 use Rattle.std.proofs.Common.{◌≡◌, add-one, drop, slice_index_or, ◌+◌, ◌∷◌}
 use Rattle.std.proofs.lemmas.Result.{err_from_is_err_and}
 use Rattle.std.proofs.Math.Seq.{drop-cons}
-use Rattle.candidate_ir.specs.Words.{args_forest, clause_tree, env_forest}
-use Rattle.candidate_ir.proofs.Joining.{clause-kept}
-use Rattle.candidate_ir.proofs.Kept.{args-kept}
-use Rattle.candidate_eval.specs.Accounts.StopsSomehow.{asking, making}
-use Rattle.candidate_eval.specs.Judging.{goal_at}
-use Rattle.candidate_eval.specs.States.{added}
-use Rattle.candidate_eval.proofs.Accounts.{accounted-here, accounted-later, reaches}
-use Rattle.candidate_eval.proofs.Objects.{env-kept}
-use Rattle.candidate_eval.proofs.Pairs.{clause_there}
-use Rattle.candidate_eval.proofs.Probing.{then}
-use Rattle.candidate_eval.proofs.StopKinds.{subst_making}
-use Rattle.candidate_assembly.specs.Telling.{standing}
+use Rattle.candidate_ir.specs.Syntax.Words.{args_forest, clause_tree, env_forest}
+use Rattle.candidate_ir.proofs.Instantiation.Joining.{clause-kept}
+use Rattle.candidate_ir.proofs.Growth.Kept.{args-kept}
+use Rattle.candidate_eval.specs.Interface.Accounts.StopsSomehow.{asking, making}
+use Rattle.candidate_eval.specs.Derivations.Judging.{goal_at}
+use Rattle.candidate_eval.specs.Judges.States.{added}
+use Rattle.candidate_eval.proofs.Interface.Accounts.{accounted-here, accounted-later, reaches}
+use Rattle.candidate_eval.proofs.Dynamic.Objects.{env-kept}
+use Rattle.candidate_eval.proofs.Outcomes.Pairs.{clause_there}
+use Rattle.candidate_eval.proofs.Interface.Probing.{then}
+use Rattle.candidate_eval.proofs.Interface.StopKinds.{subst_making}
+use Rattle.candidate_assembly.specs.Answers.Telling.{standing}
 use Rattle.candidate_assembly.proofs.trait_goals.impls.nest_clauses.Goals as goal
 
 pub put_in-requires-clause-value : goal.put_in-requires-clause-value

@@ -1,9 +1,9 @@
 use Rattle.std.proofs.Common.{◌≡◌, map, drop}
-use Rattle.candidate_ir.specs.Words.{args_forest, clause_tree, env_forest}
-use Rattle.candidate_eval.specs.Evaluators.{Keeps}
-use Rattle.candidate_eval.specs.Judging.{run}
-use Rattle.candidate_eval.specs.Rules.{add}
-use Rattle.candidate_assembly.specs.Telling.{standing}
+use Rattle.candidate_ir.specs.Syntax.Words.{args_forest, clause_tree, env_forest}
+use Rattle.candidate_eval.specs.Interface.Evaluators.{Keeps}
+use Rattle.candidate_eval.specs.Derivations.Judging.{run}
+use Rattle.candidate_eval.specs.Derivations.Rules.{add}
+use Rattle.candidate_assembly.specs.Answers.Telling.{standing}
 use Rattle.candidate_assembly.proofs.trait_goals.impls.nest_clauses.Given as goal
 
 -- what is left to be added from here comes to what all of it comes to from the start

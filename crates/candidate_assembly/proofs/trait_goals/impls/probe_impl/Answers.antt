@@ -1,23 +1,23 @@
 use Rattle.std.proofs.Common.{◌≡◌, ◌∙◌, Err, ap, subst}
 use Rattle.std.specs.Prelude.{IfSome}
 use Rattle.std.proofs.lemmas.Result.{err_from_is_err_and}
-use Rattle.candidate_ir.specs.Context.{Context}
-use Rattle.candidate_ir.specs.Declaring.{impl_at}
-use Rattle.candidate_ir.specs.WellFormed.{ImplIsGiven}
-use Rattle.candidate_ir.specs.Words.{args_forest, env_forest}
-use Rattle.candidate_ir.proofs.Kept.{args-kept}
+use Rattle.candidate_ir.specs.Declarations.Context.{Context}
+use Rattle.candidate_ir.specs.Declarations.Declaring.{impl_at}
+use Rattle.candidate_ir.specs.Validity.WellFormed.{ImplIsGiven}
+use Rattle.candidate_ir.specs.Syntax.Words.{args_forest, env_forest}
+use Rattle.candidate_ir.proofs.Growth.Kept.{args-kept}
 use Rattle.candidate_eval.specs.declared.eval.source.CandidateSource.TheVariants as source
-use Rattle.candidate_eval.specs.Accounts.{by_stop}
-use Rattle.candidate_eval.specs.Accounts.StopsSomehow.{asking}
-use Rattle.candidate_eval.proofs.Accounts.{accounted-here}
-use Rattle.candidate_eval.proofs.Objects.{env-kept}
-use Rattle.candidate_eval.proofs.Probing.{alike-probe, keeps-probe}
-use Rattle.candidate_assembly.specs.Closures.{TellsWith}
-use Rattle.candidate_assembly.specs.Impls.{steps_at}
-use Rattle.candidate_assembly.specs.Telling.{StopsOfItself, Told}
-use Rattle.candidate_assembly.proofs.ImplSteps.{judged-moved, named-error, named-told, steps-kept}
-use Rattle.candidate_assembly.proofs.Keeping.{itself-later, keeps-in}
-use Rattle.candidate_assembly.proofs.Stepping.{evaluator-own, told-error, told-kept}
+use Rattle.candidate_eval.specs.Interface.Accounts.{by_stop}
+use Rattle.candidate_eval.specs.Interface.Accounts.StopsSomehow.{asking}
+use Rattle.candidate_eval.proofs.Interface.Accounts.{accounted-here}
+use Rattle.candidate_eval.proofs.Dynamic.Objects.{env-kept}
+use Rattle.candidate_eval.proofs.Interface.Probing.{alike-probe, keeps-probe}
+use Rattle.candidate_assembly.specs.Answers.Closures.{TellsWith}
+use Rattle.candidate_assembly.specs.Rules.Impls.{steps_at}
+use Rattle.candidate_assembly.specs.Answers.Telling.{StopsOfItself, Told}
+use Rattle.candidate_assembly.proofs.Rules.ImplSteps.{judged-moved, named-error, named-told, steps-kept}
+use Rattle.candidate_assembly.proofs.Calls.Keeping.{itself-later, keeps-in}
+use Rattle.candidate_assembly.proofs.Calls.Stepping.{evaluator-own, told-error, told-kept}
 use Rattle.candidate_assembly.proofs.trait_goals.impls.probe_impl.Goals as goal
 
 pub returns-in_err-probe-clause-told : goal.returns-in_err-probe-clause-told

@@ -1,20 +1,20 @@
 use Rattle.std.proofs.Common.{◌≡◌, sym, ◌∙◌, ap, subst, Some, None, IfOk, IfErr}
 use Rattle.std.proofs.lemmas.Result.{err_from_is_err_and}
 use Rattle.candidate_eval.specs.declared.eval.refusal.NoSolutionOrStop.TheVariants.{NoSolution}
-use Rattle.candidate_ir.specs.Context.{Context}
-use Rattle.candidate_ir.specs.References.{ArgumentsFit}
-use Rattle.candidate_ir.specs.Words.{IsArgs, args_forest, clause_tree}
-use Rattle.candidate_ir.proofs.Kept.{args-kept}
-use Rattle.candidate_eval.specs.Accounts.StopsSomehow.{asking}
-use Rattle.candidate_eval.specs.Evaluators.{accepted}
-use Rattle.candidate_eval.specs.ObjectRequirements.{arguments_of}
-use Rattle.candidate_eval.specs.Objects.{fresh_instance, with_instance}
-use Rattle.candidate_eval.proofs.Accounts.{accounted-here, reaches, somehow, somehow-later}
-use Rattle.candidate_eval.proofs.Objects.{env-kept}
-use Rattle.candidate_eval.proofs.Probing.{then}
-use Rattle.candidate_assembly.specs.TraitGoals.{trait_goal}
-use Rattle.candidate_assembly.proofs.Causes.{caused, so-ok, so-err}
-use Rattle.candidate_assembly.proofs.Clauses.{matching-reaches, matching-refuses, passes-unified}
+use Rattle.candidate_ir.specs.Declarations.Context.{Context}
+use Rattle.candidate_ir.specs.Declarations.References.{ArgumentsFit}
+use Rattle.candidate_ir.specs.Syntax.Words.{IsArgs, args_forest, clause_tree}
+use Rattle.candidate_ir.proofs.Growth.Kept.{args-kept}
+use Rattle.candidate_eval.specs.Interface.Accounts.StopsSomehow.{asking}
+use Rattle.candidate_eval.specs.Interface.Evaluators.{accepted}
+use Rattle.candidate_eval.specs.Dynamic.ObjectRequirements.{arguments_of}
+use Rattle.candidate_eval.specs.Dynamic.Objects.{fresh_instance, with_instance}
+use Rattle.candidate_eval.proofs.Interface.Accounts.{accounted-here, reaches, somehow, somehow-later}
+use Rattle.candidate_eval.proofs.Dynamic.Objects.{env-kept}
+use Rattle.candidate_eval.proofs.Interface.Probing.{then}
+use Rattle.candidate_assembly.specs.Goals.TraitGoals.{trait_goal}
+use Rattle.candidate_assembly.proofs.Calls.Causes.{caused, so-ok, so-err}
+use Rattle.candidate_assembly.proofs.Goals.Clauses.{matching-reaches, matching-refuses, passes-unified}
 use Rattle.candidate_assembly.proofs.trait_goals.matching.equate_clause.Goals as goal
 
 pub returns-in_err-instance-clause-cause : goal.returns-in_err-instance-clause-cause

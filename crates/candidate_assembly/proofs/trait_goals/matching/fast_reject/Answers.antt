@@ -1,9 +1,9 @@
 use Rattle.std.proofs.Common.{◌∙◌, ap, sym, refl, true, false}
 use Rattle.candidate_ir.specs.declared.ir.unify.RightSide.TheVariants.{Plain}
-use Rattle.candidate_ir.specs.Unify.{may_unify}
-use Rattle.candidate_ir.specs.Words.{args_forest, clause_tree}
-use Rattle.candidate_assembly.specs.TraitGoals.{trait_goal}
-use Rattle.candidate_assembly.proofs.Clauses.{passes-said}
+use Rattle.candidate_ir.specs.Unification.Unify.{may_unify}
+use Rattle.candidate_ir.specs.Syntax.Words.{args_forest, clause_tree}
+use Rattle.candidate_assembly.specs.Goals.TraitGoals.{trait_goal}
+use Rattle.candidate_assembly.proofs.Goals.Clauses.{passes-said}
 use Rattle.candidate_assembly.proofs.trait_goals.matching.fast_reject.Goals as goal
 
 pub returns-in-Some-clause-passes : goal.returns-in-Some-clause-passes

@@ -1,16 +1,16 @@
 use Rattle.std.proofs.Common.{rules, refl}
 use Rattle.std.specs.Fn.{FnOnceReturnsAtMut}
 use Rattle.std.proofs.lemmas.Result.{err_from_is_err_and}
-use Rattle.candidate_ir.specs.Words.{clause_tree}
-use Rattle.candidate_eval.specs.Characterization.{bound_kinds}
-use Rattle.candidate_eval.specs.Judging.{run, start}
-use Rattle.candidate_eval.specs.States.{fresh_variables}
-use Rattle.candidate_eval.proofs.Probing.{then}
-use Rattle.candidate_assembly.specs.Closures.After.{called}
-use Rattle.candidate_assembly.specs.Telling.{standing}
-use Rattle.candidate_assembly.specs.TraitGoals.{match_trait, trait_goal}
-use Rattle.candidate_assembly.proofs.Answering.{error-after}
-use Rattle.candidate_assembly.proofs.Causes.{answered-error}
+use Rattle.candidate_ir.specs.Syntax.Words.{clause_tree}
+use Rattle.candidate_eval.specs.Derivations.Characterization.{bound_kinds}
+use Rattle.candidate_eval.specs.Derivations.Judging.{run, start}
+use Rattle.candidate_eval.specs.Judges.States.{fresh_variables}
+use Rattle.candidate_eval.proofs.Interface.Probing.{then}
+use Rattle.candidate_assembly.specs.Answers.Closures.After.{called}
+use Rattle.candidate_assembly.specs.Answers.Telling.{standing}
+use Rattle.candidate_assembly.specs.Goals.TraitGoals.{match_trait, trait_goal}
+use Rattle.candidate_assembly.proofs.Rules.Answering.{error-after}
+use Rattle.candidate_assembly.proofs.Calls.Causes.{answered-error}
 use Rattle.candidate_assembly.proofs.trait_goals.matching.match_clause.Goals as goal
 
 pub returns-clause-kept : goal.returns-clause-kept

@@ -1,4 +1,4 @@
-use Rattle.candidate_assembly.proofs.LangItems.{item-parameters}
+use Rattle.candidate_assembly.proofs.Rules.LangItems.{item-parameters}
 use Rattle.candidate_assembly.proofs.trait_goals.meeting.item_has_no_parameters.Goals as goal
 
 pub returns : goal.returns

@@ -1,11 +1,11 @@
 use Rattle.std.proofs.Common.{refl, ◌∙◌}
 use Rattle.candidate_ir.specs.declared.ir.kinds.PredicatePolarity.TheVariants.{Positive}
 use Rattle.candidate_ir.specs.declared.ir.kinds.TraitPredicate.{TraitPredicate}
-use Rattle.candidate_ir.specs.Words.{ty_tree}
-use Rattle.candidate_ir.proofs.Kept.{args-kept, grows-trans}
-use Rattle.candidate_assembly.proofs.Causes.{so-ok}
-use Rattle.candidate_assembly.proofs.MeetingClauses.{fits-alone, made-to-meet, one-type}
-use Rattle.candidate_assembly.proofs.TraitClauses.{fact-fits, fact-takes}
+use Rattle.candidate_ir.specs.Syntax.Words.{ty_tree}
+use Rattle.candidate_ir.proofs.Growth.Kept.{args-kept, grows-trans}
+use Rattle.candidate_assembly.proofs.Calls.Causes.{so-ok}
+use Rattle.candidate_assembly.proofs.Rules.MeetingClauses.{fits-alone, made-to-meet, one-type}
+use Rattle.candidate_assembly.proofs.Goals.TraitClauses.{fact-fits, fact-takes}
 use Rattle.candidate_assembly.proofs.trait_goals.meeting.meets_trait.Goals as goal
 
 pub mk_clause-requires-clause-fits : goal.mk_clause-requires-clause-fits

@@ -2,19 +2,19 @@ use Rattle.std.proofs.Common.{◌≡◌, Some, [], ◌∷◌, ap, subst, sym, �
 use Rattle.std.proofs.lemmas.Result.{err_from_is_err_and}
 use Rattle.candidate_ir.specs.declared.decl.contents.LangItem.TheVariants as L
 use Rattle.candidate_ir.specs.declared.ir.kinds.GoalSource.TheVariants.{ImplWhereBound}
-use Rattle.candidate_ir.specs.Context.{Context}
-use Rattle.candidate_ir.specs.Trees.{Tree}
-use Rattle.candidate_ir.specs.Words.{args_forest, clause_tree, env_forest, ty_tree}
+use Rattle.candidate_ir.specs.Declarations.Context.{Context}
+use Rattle.candidate_ir.specs.Syntax.Trees.{Tree}
+use Rattle.candidate_ir.specs.Syntax.Words.{args_forest, clause_tree, env_forest, ty_tree}
 use Rattle.candidate_eval.specs.declared.eval.certainty.Certainty.TheVariants.{Yes}
-use Rattle.candidate_eval.specs.ObjectRequirements.{first_tree}
-use Rattle.candidate_eval.proofs.Objects.{env-kept}
-use Rattle.candidate_eval.proofs.Probing.{made}
-use Rattle.candidate_assembly.specs.BuiltinRules.{copy_rule, meets, misc, positive}
-use Rattle.candidate_assembly.specs.Telling.{flat_rule}
-use Rattle.candidate_assembly.specs.TraitGoals.{item_trait, trait_goal}
-use Rattle.candidate_assembly.proofs.Causes.{answered-stop, made-here}
-use Rattle.candidate_assembly.proofs.Considering.{considers-after, not-made}
-use Rattle.candidate_assembly.proofs.Stepping.{making-own}
+use Rattle.candidate_eval.specs.Dynamic.ObjectRequirements.{first_tree}
+use Rattle.candidate_eval.proofs.Dynamic.Objects.{env-kept}
+use Rattle.candidate_eval.proofs.Interface.Probing.{made}
+use Rattle.candidate_assembly.specs.Rules.BuiltinRules.{copy_rule, meets, misc, positive}
+use Rattle.candidate_assembly.specs.Answers.Telling.{flat_rule}
+use Rattle.candidate_assembly.specs.Goals.TraitGoals.{item_trait, trait_goal}
+use Rattle.candidate_assembly.proofs.Calls.Causes.{answered-stop, made-here}
+use Rattle.candidate_assembly.proofs.Calls.Considering.{considers-after, not-made}
+use Rattle.candidate_assembly.proofs.Calls.Stepping.{making-own}
 use Rattle.candidate_assembly.proofs.trait_goals.no_drop.consider_copy.Goals as goal
 
 pub returns-in_err-clause : goal.returns-in_err-clause

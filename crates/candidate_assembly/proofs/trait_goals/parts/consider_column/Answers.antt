@@ -1,23 +1,23 @@
 use Rattle.std.proofs.Common.{rules, ◌≡◌, true, false, map, ap, subst, sym, ◌∙◌}
 use Rattle.std.proofs.lemmas.Result.{err_from_is_err_and}
-use Rattle.candidate_ir.specs.Context.{Context}
-use Rattle.candidate_ir.specs.Trees.{Tree, is_param, tree_holds}
-use Rattle.candidate_ir.specs.Words.{args_forest, ty_tree}
-use Rattle.candidate_eval.specs.Evaluators.{kinds_listed}
-use Rattle.candidate_eval.specs.Characterization.{binder_kinds}
-use Rattle.candidate_eval.specs.Asked.{variables}
-use Rattle.candidate_eval.specs.Judging.{judged}
-use Rattle.candidate_eval.specs.ObjectRequirements.{first_tree}
-use Rattle.candidate_eval.specs.Tables.{cell, row_of}
-use Rattle.candidate_eval.proofs.Probing.{made}
-use Rattle.candidate_assembly.specs.BuiltinRules.{entered_rule, parts_rule}
-use Rattle.candidate_assembly.specs.TraitGoals.{trait_goal}
-use Rattle.candidate_assembly.proofs.Causes.{answered-error, answered-stop, made-here}
-use Rattle.candidate_assembly.proofs.Considering.{considers-after, not-given, not-made}
-use Rattle.candidate_assembly.proofs.Keeping.{trait-goal-kept}
-use Rattle.candidate_assembly.proofs.PartsTold.{all-types, cell-makes, first-parameterless, rule-of-cell}
-use Rattle.candidate_assembly.proofs.Stepping.{making-own}
-use Rattle.candidate_eval.proofs.PartsFree.{parts-parameterless}
+use Rattle.candidate_ir.specs.Declarations.Context.{Context}
+use Rattle.candidate_ir.specs.Syntax.Trees.{Tree, is_param, tree_holds}
+use Rattle.candidate_ir.specs.Syntax.Words.{args_forest, ty_tree}
+use Rattle.candidate_eval.specs.Interface.Evaluators.{kinds_listed}
+use Rattle.candidate_eval.specs.Derivations.Characterization.{binder_kinds}
+use Rattle.candidate_eval.specs.Builtins.Asked.{variables}
+use Rattle.candidate_eval.specs.Derivations.Judging.{judged}
+use Rattle.candidate_eval.specs.Dynamic.ObjectRequirements.{first_tree}
+use Rattle.candidate_eval.specs.Builtins.Tables.{cell, row_of}
+use Rattle.candidate_eval.proofs.Interface.Probing.{made}
+use Rattle.candidate_assembly.specs.Rules.BuiltinRules.{entered_rule, parts_rule}
+use Rattle.candidate_assembly.specs.Goals.TraitGoals.{trait_goal}
+use Rattle.candidate_assembly.proofs.Calls.Causes.{answered-error, answered-stop, made-here}
+use Rattle.candidate_assembly.proofs.Calls.Considering.{considers-after, not-given, not-made}
+use Rattle.candidate_assembly.proofs.Calls.Keeping.{trait-goal-kept}
+use Rattle.candidate_assembly.proofs.Rules.PartsTold.{all-types, cell-makes, first-parameterless, rule-of-cell}
+use Rattle.candidate_assembly.proofs.Calls.Stepping.{making-own}
+use Rattle.candidate_eval.proofs.Builtins.PartsFree.{parts-parameterless}
 use Rattle.candidate_assembly.proofs.trait_goals.parts.consider_column.Goals as goal
 
 pub returns-in_err-parts : goal.returns-in_err-parts

@@ -1,6 +1,6 @@
 use Rattle.std.proofs.lemmas.Result.{err_from_is_err_and}
-use Rattle.candidate_eval.specs.Accounts.StopsSomehow.{asking}
-use Rattle.candidate_eval.proofs.Accounts.{accounted-here, reaches}
+use Rattle.candidate_eval.specs.Interface.Accounts.StopsSomehow.{asking}
+use Rattle.candidate_eval.proofs.Interface.Accounts.{accounted-here, reaches}
 use Rattle.candidate_assembly.proofs.trait_goals.parts.enter_kinds.Goals as goal
 
 pub returns-in_err-placeholder_args-clause-cause : goal.returns-in_err-placeholder_args-clause-cause

@@ -1,11 +1,11 @@
 use Rattle.std.proofs.Common.{rules, ◌≤◌, [], ◌++◌, List, length, refl, ◌∙◌, ap, map}
-use Rattle.candidate_ir.specs.Trees.{Tree}
-use Rattle.candidate_ir.specs.Words.{clause_tree}
-use Rattle.candidate_ir.proofs.Kept.{args-kept, grows-trans, ty-kept}
-use Rattle.candidate_eval.proofs.Required.{all_gathered, more_gathered, none_added}
-use Rattle.candidate_eval.proofs.Types.{ty_at}
-use Rattle.candidate_assembly.proofs.PartClauses.{part-kept, parts-said, said_of_part, under-kept}
-use Rattle.candidate_assembly.proofs.TraitClauses.{fit-kept}
+use Rattle.candidate_ir.specs.Syntax.Trees.{Tree}
+use Rattle.candidate_ir.specs.Syntax.Words.{clause_tree}
+use Rattle.candidate_ir.proofs.Growth.Kept.{args-kept, grows-trans, ty-kept}
+use Rattle.candidate_eval.proofs.Dynamic.Required.{all_gathered, more_gathered, none_added}
+use Rattle.candidate_eval.proofs.Builtins.Types.{ty_at}
+use Rattle.candidate_assembly.proofs.Rules.PartClauses.{part-kept, parts-said, said_of_part, under-kept}
+use Rattle.candidate_assembly.proofs.Goals.TraitClauses.{fit-kept}
 use Rattle.candidate_assembly.proofs.trait_goals.parts.for_parts.Goals as goal
 
 pub loop-ty-init : goal.loop-ty-init

@@ -1,7 +1,7 @@
 use Rattle.std.proofs.Common.{◌≡◌, [], take}
 use Rattle.std.specs.List.{flat_map}
-use Rattle.candidate_eval.proofs.Required.{AddedSoFar}
-use Rattle.candidate_assembly.proofs.PartClauses.{said_of_part}
+use Rattle.candidate_eval.proofs.Dynamic.Required.{AddedSoFar}
+use Rattle.candidate_assembly.proofs.Rules.PartClauses.{said_of_part}
 use Rattle.candidate_assembly.proofs.trait_goals.parts.for_parts.Given as goal
 
 -- what was said of the parts before was added

@@ -1,8 +1,8 @@
 use Rattle.std.proofs.Common.{◌∙◌}
-use Rattle.candidate_ir.specs.Words.{args_forest, ty_tree}
-use Rattle.candidate_ir.proofs.Kept.{args-kept}
-use Rattle.candidate_assembly.proofs.TraitClauses.{fact-fits, fact-takes, fit-kept, made-for-type}
-use Rattle.candidate_assembly.proofs.Causes.{so-ok}
+use Rattle.candidate_ir.specs.Syntax.Words.{args_forest, ty_tree}
+use Rattle.candidate_ir.proofs.Growth.Kept.{args-kept}
+use Rattle.candidate_assembly.proofs.Goals.TraitClauses.{fact-fits, fact-takes, fit-kept, made-for-type}
+use Rattle.candidate_assembly.proofs.Calls.Causes.{so-ok}
 use Rattle.candidate_assembly.proofs.trait_goals.parts.for_type.Goals as goal
 
 pub mk_clause-requires-clause-fits : goal.mk_clause-requires-clause-fits

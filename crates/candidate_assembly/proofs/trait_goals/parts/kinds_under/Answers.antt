@@ -1,8 +1,8 @@
 use Rattle.std.proofs.Common.{ap, sym, ◌∙◌}
-use Rattle.candidate_ir.specs.Words.{vars_tree}
-use Rattle.candidate_eval.specs.Asked.{variables}
-use Rattle.candidate_eval.specs.Characterization.{binder_kinds}
-use Rattle.candidate_eval.proofs.Objects.{variables-read}
+use Rattle.candidate_ir.specs.Syntax.Words.{vars_tree}
+use Rattle.candidate_eval.specs.Builtins.Asked.{variables}
+use Rattle.candidate_eval.specs.Derivations.Characterization.{binder_kinds}
+use Rattle.candidate_eval.proofs.Dynamic.Objects.{variables-read}
 use Rattle.candidate_assembly.proofs.trait_goals.parts.kinds_under.Goals as goal
 
 pub returns-in_ok-variable_kinds-in-Binder-clause-kinds : goal.returns-in_ok-variable_kinds-in-Binder-clause-kinds

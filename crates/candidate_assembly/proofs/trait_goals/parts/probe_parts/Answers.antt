@@ -1,14 +1,14 @@
 use Rattle.std.proofs.Common.{true, map}
 use Rattle.std.proofs.lemmas.Result.{err_from_is_err_and}
-use Rattle.candidate_ir.specs.Words.{ty_tree}
-use Rattle.candidate_eval.specs.Evaluators.{kinds_listed}
-use Rattle.candidate_eval.proofs.Types.{types_kept}
-use Rattle.candidate_assembly.specs.BuiltinRules.{entered_rule}
-use Rattle.candidate_assembly.specs.TraitGoals.{trait_goal}
-use Rattle.candidate_assembly.proofs.Causes.{answered-stop}
-use Rattle.candidate_assembly.proofs.Considering.{not-begun}
-use Rattle.candidate_assembly.proofs.Keeping.{in-probe, trait-goal-kept}
-use Rattle.candidate_assembly.proofs.PartsTold.{entered-moved, free-types}
+use Rattle.candidate_ir.specs.Syntax.Words.{ty_tree}
+use Rattle.candidate_eval.specs.Interface.Evaluators.{kinds_listed}
+use Rattle.candidate_eval.proofs.Builtins.Types.{types_kept}
+use Rattle.candidate_assembly.specs.Rules.BuiltinRules.{entered_rule}
+use Rattle.candidate_assembly.specs.Goals.TraitGoals.{trait_goal}
+use Rattle.candidate_assembly.proofs.Calls.Causes.{answered-stop}
+use Rattle.candidate_assembly.proofs.Calls.Considering.{not-begun}
+use Rattle.candidate_assembly.proofs.Calls.Keeping.{in-probe, trait-goal-kept}
+use Rattle.candidate_assembly.proofs.Rules.PartsTold.{entered-moved, free-types}
 use Rattle.candidate_assembly.proofs.trait_goals.parts.probe_parts.Goals as goal
 
 pub returns-in_err-probe : goal.returns-in_err-probe

@@ -1,10 +1,10 @@
 use Rattle.std.proofs.Common.{rules, ◌≡◌, ◌∷◌, [], ◌++◌, ap, ◌∙◌}
-use Rattle.candidate_ir.specs.Trees.{Forest}
-use Rattle.candidate_ir.specs.Words.{args_forest, ty_tree}
-use Rattle.candidate_ir.proofs.Kept.{args-kept, grows-trans}
-use Rattle.candidate_eval.proofs.Required.{pushed_fit, pushed_trees}
-use Rattle.candidate_assembly.specs.BuiltinRules.{opened_by, said_of_type, values_at}
-use Rattle.candidate_assembly.proofs.TraitClauses.{fit-kept}
+use Rattle.candidate_ir.specs.Syntax.Trees.{Forest}
+use Rattle.candidate_ir.specs.Syntax.Words.{args_forest, ty_tree}
+use Rattle.candidate_ir.proofs.Growth.Kept.{args-kept, grows-trans}
+use Rattle.candidate_eval.proofs.Dynamic.Required.{pushed_fit, pushed_trees}
+use Rattle.candidate_assembly.specs.Rules.BuiltinRules.{opened_by, said_of_type, values_at}
+use Rattle.candidate_assembly.proofs.Goals.TraitClauses.{fit-kept}
 use Rattle.candidate_assembly.proofs.trait_goals.parts.push_part.Goals as goal
 
 pub for_type-requires-clause-args : goal.for_type-requires-clause-args

@@ -1,13 +1,13 @@
 use Rattle.std.proofs.Common.{◌∙◌}
 use Rattle.std.proofs.lemmas.Result.{err_from_is_err_and}
-use Rattle.candidate_ir.proofs.Kept.{args-kept, grows-trans}
-use Rattle.candidate_eval.proofs.Accounts.{reaches}
-use Rattle.candidate_eval.proofs.Objects.{env-kept}
-use Rattle.candidate_eval.proofs.Probing.{made, then}
-use Rattle.candidate_eval.proofs.Types.{types_kept}
-use Rattle.candidate_assembly.proofs.Causes.{caused, later, made-here, somehow-here}
-use Rattle.candidate_assembly.proofs.PartsTold.{parts-told}
-use Rattle.candidate_assembly.proofs.TraitClauses.{fit-kept}
+use Rattle.candidate_ir.proofs.Growth.Kept.{args-kept, grows-trans}
+use Rattle.candidate_eval.proofs.Interface.Accounts.{reaches}
+use Rattle.candidate_eval.proofs.Dynamic.Objects.{env-kept}
+use Rattle.candidate_eval.proofs.Interface.Probing.{made, then}
+use Rattle.candidate_eval.proofs.Builtins.Types.{types_kept}
+use Rattle.candidate_assembly.proofs.Calls.Causes.{caused, later, made-here, somehow-here}
+use Rattle.candidate_assembly.proofs.Rules.PartsTold.{parts-told}
+use Rattle.candidate_assembly.proofs.Goals.TraitClauses.{fit-kept}
 use Rattle.candidate_assembly.proofs.trait_goals.parts.try_parts.Goals as goal
 
 pub returns-in_err-under-clause-cause : goal.returns-in_err-under-clause-cause

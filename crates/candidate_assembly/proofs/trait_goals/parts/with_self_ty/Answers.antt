@@ -1,8 +1,8 @@
 use Rattle.std.proofs.Common.{rules, ◌≡◌, slice_set, refl, subst, ◌∙◌}
 use Rattle.candidate_ir.specs.declared.ir.kinds.GenericArg.TheVariants as G
-use Rattle.candidate_ir.specs.Context.{Context}
-use Rattle.candidate_ir.specs.Words.{ListFits, args_forest, list_forest}
-use Rattle.candidate_assembly.proofs.SelfTypes.{first-set, fits-still}
+use Rattle.candidate_ir.specs.Declarations.Context.{Context}
+use Rattle.candidate_ir.specs.Syntax.Words.{ListFits, args_forest, list_forest}
+use Rattle.candidate_assembly.proofs.Goals.SelfTypes.{first-set, fits-still}
 use Rattle.candidate_assembly.proofs.trait_goals.parts.with_self_ty.Goals as goal
 
 pub returns-clause-arguments : goal.returns-clause-arguments

@@ -1,5 +1,5 @@
 use Rattle.std.proofs.Common.{◌≡◌}
-use Rattle.candidate_eval.specs.Evaluators.{Keeps}
+use Rattle.candidate_eval.specs.Interface.Evaluators.{Keeps}
 use Rattle.candidate_assembly.proofs.trait_goals.preference.ignore_failed.Given as goal
 
 -- those before were forgotten, and nothing else changed

@@ -1,5 +1,5 @@
 use Rattle.std.proofs.Common.{◌∙◌}
-use Rattle.candidate_eval.proofs.Probing.{keeps-trans}
+use Rattle.candidate_eval.proofs.Interface.Probing.{keeps-trans}
 use Rattle.candidate_assembly.proofs.trait_goals.preference.ignore_losers.Goals as goal
 
 pub returns-in-AlwaysApplicable-clause-kept : goal.returns-in-AlwaysApplicable-clause-kept

@@ -1,5 +1,5 @@
 use Rattle.std.proofs.Common.{◌∙◌}
-use Rattle.candidate_eval.proofs.Probing.{keeps-trans}
+use Rattle.candidate_eval.proofs.Interface.Probing.{keeps-trans}
 use Rattle.candidate_assembly.proofs.trait_goals.preference.ignore_others.Goals as goal
 
 pub loop-number-preserved-then-number-winner : goal.loop-number-preserved-then-number-winner

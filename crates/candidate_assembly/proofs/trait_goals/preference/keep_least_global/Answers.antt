@@ -1,7 +1,7 @@
 use Rattle.std.proofs.Common.{ap, not, ◌∙◌}
-use Rattle.candidate_assembly.specs.Preference.{prefer_objects}
-use Rattle.candidate_assembly.specs.Sources.{is_global}
-use Rattle.candidate_assembly.proofs.Preferring.{fit-kept, global-row, other-row, read-all}
+use Rattle.candidate_assembly.specs.Answers.Preference.{prefer_objects}
+use Rattle.candidate_assembly.specs.Answers.Sources.{is_global}
+use Rattle.candidate_assembly.proofs.Answers.Preferring.{fit-kept, global-row, other-row, read-all}
 use Rattle.candidate_assembly.proofs.trait_goals.preference.keep_least_global.Goals as goal
 
 pub returns-then-has_only-clause-class : goal.returns-then-has_only-clause-class

@@ -1,9 +1,9 @@
 use Rattle.std.proofs.Common.{ap, sym, ◌∙◌}
 use Rattle.std.specs.Prelude.{option_map}
-use Rattle.candidate_eval.specs.ResponseTrees.{candidates_of}
-use Rattle.candidate_assembly.specs.Assembled.{is_coherence}
-use Rattle.candidate_assembly.specs.Preference.{class_of}
-use Rattle.candidate_assembly.proofs.Preferring.{by-assumed, by-least, in-coherence, least-of}
+use Rattle.candidate_eval.specs.Outcomes.ResponseTrees.{candidates_of}
+use Rattle.candidate_assembly.specs.Answers.Assembled.{is_coherence}
+use Rattle.candidate_assembly.specs.Answers.Preference.{class_of}
+use Rattle.candidate_assembly.proofs.Answers.Preferring.{by-assumed, by-least, in-coherence, least-of}
 use Rattle.candidate_assembly.proofs.trait_goals.preference.keep_preferred.Goals as goal
 
 pub returns-then-is_coherence-clause-class : goal.returns-then-is_coherence-clause-class

@@ -3,10 +3,10 @@ use Rattle.std.proofs.lemmas.Result.{err_from_is_err_and}
 use Rattle.candidate_eval.specs.declared.eval.response.Candidate.{Candidate}
 use Rattle.candidate_eval.specs.declared.eval.response.CanonicalResponse.{CanonicalResponse}
 use Rattle.candidate_eval.specs.declared.eval.response.MergeCandidateInfo.{MergeCandidateInfo}
-use Rattle.candidate_eval.specs.Merging.{merged}
-use Rattle.candidate_eval.specs.ResponseTrees.{IsResponse, candidates_of, merge_of}
-use Rattle.candidate_assembly.proofs.PreferenceLaws.{environment-wins, trivial-wins}
-use Rattle.candidate_assembly.proofs.Proving.{not-merged, proves-merged, proves-nothing, proves-refused}
+use Rattle.candidate_eval.specs.Outcomes.Merging.{merged}
+use Rattle.candidate_eval.specs.Outcomes.ResponseTrees.{IsResponse, candidates_of, merge_of}
+use Rattle.candidate_assembly.proofs.Answers.PreferenceLaws.{environment-wins, trivial-wins}
+use Rattle.candidate_assembly.proofs.Answers.Proving.{not-merged, proves-merged, proves-nothing, proves-refused}
 use Rattle.candidate_assembly.proofs.trait_goals.preference.merge_trait_candidates.Goals as goal
 
 pub returns-in_err-response-clause-proves : goal.returns-in_err-response-clause-proves

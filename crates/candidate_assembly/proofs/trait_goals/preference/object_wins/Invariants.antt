@@ -1,6 +1,6 @@
 use Rattle.std.proofs.Common.{◌≡◌, drop}
-use Rattle.candidate_eval.specs.ResponseTrees.{candidates_of}
-use Rattle.candidate_assembly.specs.Preference.{object_wins}
+use Rattle.candidate_eval.specs.Outcomes.ResponseTrees.{candidates_of}
+use Rattle.candidate_assembly.specs.Answers.Preference.{object_wins}
 use Rattle.candidate_assembly.proofs.trait_goals.preference.object_wins.Given as goal
 
 -- none before is by a bound of an object

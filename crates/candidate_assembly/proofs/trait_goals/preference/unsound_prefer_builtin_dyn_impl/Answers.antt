@@ -1,11 +1,11 @@
 use Rattle.std.proofs.Common.{ap, sym, not, ◌∙◌, ◌≡◌, List, subst, true, false}
-use Rattle.candidate_ir.specs.Context.{Context}
+use Rattle.candidate_ir.specs.Declarations.Context.{Context}
 use Rattle.candidate_eval.specs.declared.eval.response.Candidate.{Candidate}
-use Rattle.candidate_eval.specs.ResponseTrees.{AreCandidates, candidates_of}
-use Rattle.candidate_assembly.specs.Assembled.{is_coherence}
-use Rattle.candidate_assembly.specs.Preference.{object_wins}
-use Rattle.candidate_assembly.specs.Sources.{is_impl}
-use Rattle.candidate_assembly.proofs.Preferring.{fit-kept, objects-lose, objects-stay, objects-win}
+use Rattle.candidate_eval.specs.Outcomes.ResponseTrees.{AreCandidates, candidates_of}
+use Rattle.candidate_assembly.specs.Answers.Assembled.{is_coherence}
+use Rattle.candidate_assembly.specs.Answers.Preference.{object_wins}
+use Rattle.candidate_assembly.specs.Answers.Sources.{is_impl}
+use Rattle.candidate_assembly.proofs.Answers.Preferring.{fit-kept, objects-lose, objects-stay, objects-win}
 use Rattle.candidate_assembly.proofs.trait_goals.preference.unsound_prefer_builtin_dyn_impl.Goals as goal
 
 pub returns-then-is_coherence-clause-list : goal.returns-then-is_coherence-clause-list

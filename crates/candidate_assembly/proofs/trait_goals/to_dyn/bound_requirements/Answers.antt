@@ -1,9 +1,9 @@
 use Rattle.std.proofs.Common.{rules, ◌≡◌, [], ◌∷◌, ◌++◌, ◌≤◌, length, refl, ◌∙◌}
 use Rattle.candidate_ir.specs.declared.ir.kinds.GoalSource.TheVariants.{ImplWhereBound}
-use Rattle.candidate_ir.proofs.Kept.{grows-trans, ty-kept}
-use Rattle.candidate_ir.proofs.Made.{IsPred-listed}
-use Rattle.candidate_eval.proofs.Required.{preds_read}
-use Rattle.candidate_assembly.proofs.DynRequirements.{all-required, next-said, none-yet, said-still}
+use Rattle.candidate_ir.proofs.Growth.Kept.{grows-trans, ty-kept}
+use Rattle.candidate_ir.proofs.Growth.Made.{IsPred-listed}
+use Rattle.candidate_eval.proofs.Dynamic.Required.{preds_read}
+use Rattle.candidate_assembly.proofs.Unsizing.DynRequirements.{all-required, next-said, none-yet, said-still}
 use Rattle.candidate_assembly.proofs.trait_goals.to_dyn.bound_requirements.Goals as goal
 
 pub loop-bound-init : goal.loop-bound-init

@@ -1,5 +1,5 @@
 use Rattle.std.proofs.Common.{◌≡◌, map, take}
-use Rattle.candidate_assembly.proofs.DynRequirements.{RequiredSoFar, said-step}
+use Rattle.candidate_assembly.proofs.Unsizing.DynRequirements.{RequiredSoFar, said-step}
 use Rattle.candidate_assembly.proofs.trait_goals.to_dyn.bound_requirements.Given as goal
 
 -- what the bounds before say was added

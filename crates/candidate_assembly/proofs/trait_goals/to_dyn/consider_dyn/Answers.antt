@@ -1,18 +1,18 @@
 use Rattle.std.proofs.Common.{◌≡◌, ap, subst, sym, ◌∙◌}
 use Rattle.std.proofs.lemmas.Result.{err_from_is_err_and}
-use Rattle.candidate_ir.specs.Context.{Context}
-use Rattle.candidate_ir.specs.Words.{args_forest, env_forest, ty_tree}
-use Rattle.candidate_eval.specs.ObjectRequirements.{first_tree}
-use Rattle.candidate_eval.proofs.Objects.{env-kept}
-use Rattle.candidate_eval.proofs.Probing.{made}
-use Rattle.candidate_assembly.specs.BuiltinRules.{self_of}
-use Rattle.candidate_assembly.specs.Requirements.{RequireNoParameter, RequirementsFit, requirement_steps, requiring_rule}
-use Rattle.candidate_assembly.specs.TraitGoals.{trait_goal}
-use Rattle.candidate_assembly.specs.Unsizing.{dyn_steps}
-use Rattle.candidate_assembly.proofs.Causes.{answered-stop, made-here}
-use Rattle.candidate_assembly.proofs.Considering.{considers-after, not-made}
-use Rattle.candidate_assembly.proofs.DynRequirements.{dyn-required-free, steps-read}
-use Rattle.candidate_assembly.proofs.Stepping.{making-own}
+use Rattle.candidate_ir.specs.Declarations.Context.{Context}
+use Rattle.candidate_ir.specs.Syntax.Words.{args_forest, env_forest, ty_tree}
+use Rattle.candidate_eval.specs.Dynamic.ObjectRequirements.{first_tree}
+use Rattle.candidate_eval.proofs.Dynamic.Objects.{env-kept}
+use Rattle.candidate_eval.proofs.Interface.Probing.{made}
+use Rattle.candidate_assembly.specs.Rules.BuiltinRules.{self_of}
+use Rattle.candidate_assembly.specs.Rules.Requirements.{RequireNoParameter, RequirementsFit, requirement_steps, requiring_rule}
+use Rattle.candidate_assembly.specs.Goals.TraitGoals.{trait_goal}
+use Rattle.candidate_assembly.specs.Rules.Unsizing.{dyn_steps}
+use Rattle.candidate_assembly.proofs.Calls.Causes.{answered-stop, made-here}
+use Rattle.candidate_assembly.proofs.Calls.Considering.{considers-after, not-made}
+use Rattle.candidate_assembly.proofs.Unsizing.DynRequirements.{dyn-required-free, steps-read}
+use Rattle.candidate_assembly.proofs.Calls.Stepping.{making-own}
 use Rattle.candidate_assembly.proofs.trait_goals.to_dyn.consider_dyn.Goals as goal
 
 pub returns-in_err-requirements : goal.returns-in_err-requirements

@@ -1,10 +1,10 @@
 use Rattle.std.proofs.Common.{rules, ◌≡◌, [], ◌∷◌, ◌++◌, ap, subst, ◌∙◌}
 use Rattle.candidate_ir.specs.declared.ir.kinds.GoalSource.TheVariants.{ImplWhereBound, Misc}
-use Rattle.candidate_ir.specs.Context.{Context}
-use Rattle.candidate_ir.specs.Words.{IsPreds, IsRegion}
-use Rattle.candidate_ir.specs.Worlds.{World, TraitSort, parameters}
-use Rattle.candidate_ir.proofs.Kept.{grows-trans, ty-kept, world-kept}
-use Rattle.candidate_assembly.proofs.DynRequirements.{ArePartsOf, dyn-required, region-still}
+use Rattle.candidate_ir.specs.Declarations.Context.{Context}
+use Rattle.candidate_ir.specs.Syntax.Words.{IsPreds, IsRegion}
+use Rattle.candidate_ir.specs.Declarations.Worlds.{World, TraitSort, parameters}
+use Rattle.candidate_ir.proofs.Growth.Kept.{grows-trans, ty-kept, world-kept}
+use Rattle.candidate_assembly.proofs.Unsizing.DynRequirements.{ArePartsOf, dyn-required, region-still}
 use Rattle.candidate_assembly.proofs.trait_goals.to_dyn.dyn_requirements.Goals as goal
 
 pub bound_requirements-requires-clause-bounds : goal.bound_requirements-requires-clause-bounds

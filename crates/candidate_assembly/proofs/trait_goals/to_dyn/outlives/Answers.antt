@@ -1,11 +1,11 @@
 use Rattle.std.proofs.Common.{◌∙◌, ap}
 use Rattle.candidate_ir.specs.declared.ir.heads.ClauseHead.TheVariants.{TypeOutlives}
-use Rattle.candidate_ir.specs.Trees.{Tree}
-use Rattle.candidate_ir.specs.Words.{region_tree, ty_tree}
-use Rattle.candidate_ir.proofs.Kept.{grows-trans, ty-kept}
-use Rattle.candidate_assembly.specs.Unsizing.{outlives}
-use Rattle.candidate_assembly.proofs.Causes.{so-ok}
-use Rattle.candidate_assembly.proofs.DynRequirements.{lives-fits, lives-is, lives-takes, region-still}
+use Rattle.candidate_ir.specs.Syntax.Trees.{Tree}
+use Rattle.candidate_ir.specs.Syntax.Words.{region_tree, ty_tree}
+use Rattle.candidate_ir.proofs.Growth.Kept.{grows-trans, ty-kept}
+use Rattle.candidate_assembly.specs.Rules.Unsizing.{outlives}
+use Rattle.candidate_assembly.proofs.Calls.Causes.{so-ok}
+use Rattle.candidate_assembly.proofs.Unsizing.DynRequirements.{lives-fits, lives-is, lives-takes, region-still}
 use Rattle.candidate_assembly.proofs.trait_goals.to_dyn.outlives.Goals as goal
 
 pub mk_clause-requires-clause-fits : goal.mk_clause-requires-clause-fits

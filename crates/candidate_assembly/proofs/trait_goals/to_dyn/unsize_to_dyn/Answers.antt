@@ -1,11 +1,11 @@
 use Rattle.std.proofs.Common.{true, false}
 use Rattle.candidate_ir.specs.declared.decl.contents.LangItem.TheVariants.{Sized}
-use Rattle.candidate_ir.specs.Words.{ty_tree}
-use Rattle.candidate_assembly.specs.BuiltinRules.{self_of}
-use Rattle.candidate_assembly.specs.TraitGoals.{item_trait, trait_goal}
-use Rattle.candidate_assembly.specs.Unsizing.{any_to_dyn}
-use Rattle.candidate_assembly.proofs.DynRequirements.{alone-free}
-use Rattle.candidate_assembly.proofs.ToDyn.{compatible-read, dyn-listed, no-parameters-read, no-sized-read, not-compatible, nothing-listed, sized-read, without-sized}
+use Rattle.candidate_ir.specs.Syntax.Words.{ty_tree}
+use Rattle.candidate_assembly.specs.Rules.BuiltinRules.{self_of}
+use Rattle.candidate_assembly.specs.Goals.TraitGoals.{item_trait, trait_goal}
+use Rattle.candidate_assembly.specs.Rules.Unsizing.{any_to_dyn}
+use Rattle.candidate_assembly.proofs.Unsizing.DynRequirements.{alone-free}
+use Rattle.candidate_assembly.proofs.Unsizing.ToDyn.{compatible-read, dyn-listed, no-parameters-read, no-sized-read, not-compatible, nothing-listed, sized-read, without-sized}
 use Rattle.candidate_assembly.proofs.trait_goals.to_dyn.unsize_to_dyn.Goals as goal
 
 pub returns-in_default : goal.returns-in_default

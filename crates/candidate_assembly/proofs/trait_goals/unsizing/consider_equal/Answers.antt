@@ -1,18 +1,18 @@
 use Rattle.std.proofs.Common.{ap, map, ◌∙◌}
 use Rattle.std.proofs.lemmas.Result.{err_from_is_err_and}
-use Rattle.candidate_ir.specs.Trees.{is_param, tree_holds}
-use Rattle.candidate_ir.specs.Words.{clause_tree, env_forest, ty_tree}
-use Rattle.candidate_ir.proofs.Kept.{ty-kept}
+use Rattle.candidate_ir.specs.Syntax.Trees.{is_param, tree_holds}
+use Rattle.candidate_ir.specs.Syntax.Words.{clause_tree, env_forest, ty_tree}
+use Rattle.candidate_ir.proofs.Growth.Kept.{ty-kept}
 use Rattle.candidate_eval.specs.declared.eval.context.ProbeKind.TheVariants.{Kept}
-use Rattle.candidate_eval.specs.Accounts as question
-use Rattle.candidate_eval.proofs.Objects.{env-kept}
-use Rattle.candidate_eval.proofs.Responding.{clauses-kept}
-use Rattle.candidate_assembly.specs.Unsizing.{equal_rule}
-use Rattle.candidate_assembly.proofs.Causes.{answered-stop}
-use Rattle.candidate_assembly.proofs.Considering.{not-begun}
-use Rattle.candidate_assembly.proofs.EqualTypes.{equal-same}
-use Rattle.candidate_assembly.proofs.Flat.{free-kept}
-use Rattle.candidate_assembly.proofs.Keeping.{in-probe}
+use Rattle.candidate_eval.specs.Interface.Accounts as question
+use Rattle.candidate_eval.proofs.Dynamic.Objects.{env-kept}
+use Rattle.candidate_eval.proofs.Outcomes.Responding.{clauses-kept}
+use Rattle.candidate_assembly.specs.Rules.Unsizing.{equal_rule}
+use Rattle.candidate_assembly.proofs.Calls.Causes.{answered-stop}
+use Rattle.candidate_assembly.proofs.Calls.Considering.{not-begun}
+use Rattle.candidate_assembly.proofs.Unsizing.EqualTypes.{equal-same}
+use Rattle.candidate_assembly.proofs.Rules.Flat.{free-kept}
+use Rattle.candidate_assembly.proofs.Calls.Keeping.{in-probe}
 use Rattle.candidate_assembly.proofs.trait_goals.unsizing.consider_equal.Goals as goal
 
 pub returns-in_err-probe : goal.returns-in_err-probe

@@ -1,6 +1,6 @@
 use Rattle.std.proofs.Common.{ap, ◌∙◌}
-use Rattle.candidate_eval.specs.Tables.{last_of}
-use Rattle.candidate_assembly.proofs.Tails.{last-at}
+use Rattle.candidate_eval.specs.Builtins.Tables.{last_of}
+use Rattle.candidate_assembly.proofs.Unsizing.Tails.{last-at}
 use Rattle.candidate_assembly.proofs.trait_goals.unsizing.last_field.Goals as goal
 
 pub returns-in-len1-up-clause-is : goal.returns-in-len1-up-clause-is

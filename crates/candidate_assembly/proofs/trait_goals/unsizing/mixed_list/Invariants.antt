@@ -1,4 +1,4 @@
-use Rattle.candidate_assembly.proofs.Mixing.{MixedSoFar}
+use Rattle.candidate_assembly.proofs.Unsizing.Mixing.{MixedSoFar}
 use Rattle.candidate_assembly.proofs.trait_goals.unsizing.mixed_list.Given as goal
 
 -- the arguments before were taken

@@ -2,14 +2,14 @@ use Rattle.std.proofs.Common.{◌≡◌, Some, List, sym, ap, subst, ◌∙◌}
 use Rattle.candidate_ir.specs.declared.ir.heads.Head.TheVariants as H
 use Rattle.candidate_ir.specs.declared.ir.kinds.Args.{Args}
 use Rattle.candidate_ir.specs.declared.ir.kinds.GenericArg.{GenericArg}
-use Rattle.candidate_ir.specs.Context.{Context, world}
-use Rattle.candidate_ir.specs.Trees.{Forest, Tree}
-use Rattle.candidate_ir.specs.Words.{ListFits, args_forest, list_forest}
-use Rattle.candidate_ir.specs.Worlds.{AdtSort, World, kinds_of, parameters}
-use Rattle.candidate_ir.proofs.Kept.{world-kept}
-use Rattle.candidate_assembly.specs.Unsizing.{unsizing_parameters}
-use Rattle.candidate_assembly.proofs.Causes.{so-ok}
-use Rattle.candidate_assembly.proofs.MixedForests.{args-length, args-row, mixed-row}
+use Rattle.candidate_ir.specs.Declarations.Context.{Context, world}
+use Rattle.candidate_ir.specs.Syntax.Trees.{Forest, Tree}
+use Rattle.candidate_ir.specs.Syntax.Words.{ListFits, args_forest, list_forest}
+use Rattle.candidate_ir.specs.Declarations.Worlds.{AdtSort, World, kinds_of, parameters}
+use Rattle.candidate_ir.proofs.Growth.Kept.{world-kept}
+use Rattle.candidate_assembly.specs.Rules.Unsizing.{unsizing_parameters}
+use Rattle.candidate_assembly.proofs.Calls.Causes.{so-ok}
+use Rattle.candidate_assembly.proofs.Unsizing.MixedForests.{args-length, args-row, mixed-row}
 use Rattle.candidate_assembly.proofs.trait_goals.unsizing.mixed_type.Goals as goal
 
 abbrev Lists : Args → List GenericArg → Context → Type 0

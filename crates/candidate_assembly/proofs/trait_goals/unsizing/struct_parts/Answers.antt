@@ -1,7 +1,7 @@
 use Rattle.std.proofs.Common.{◌∙◌}
-use Rattle.candidate_ir.proofs.Kept.{args-kept}
-use Rattle.candidate_assembly.proofs.StructParts.{clause-still, mixed-still}
-use Rattle.candidate_assembly.proofs.Tails.{adt-fits-still}
+use Rattle.candidate_ir.proofs.Growth.Kept.{args-kept}
+use Rattle.candidate_assembly.proofs.Unsizing.StructParts.{clause-still, mixed-still}
+use Rattle.candidate_assembly.proofs.Unsizing.Tails.{adt-fits-still}
 use Rattle.candidate_assembly.proofs.trait_goals.unsizing.struct_parts.Goals as goal
 
 pub mixed_type-requires-clause-first : goal.mixed_type-requires-clause-first

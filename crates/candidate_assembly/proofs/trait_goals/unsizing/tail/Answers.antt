@@ -1,15 +1,15 @@
 use Rattle.std.proofs.Common.{◌≡◌, [], None, Some, sym, subst, ◌∙◌}
 use Rattle.candidate_ir.specs.declared.ir.kinds.Ty.{Ty}
-use Rattle.candidate_ir.specs.Context.{Context}
-use Rattle.candidate_ir.specs.Contents.{AdtContents}
-use Rattle.candidate_ir.specs.Declaring.{adt_at}
-use Rattle.candidate_ir.specs.Folding.{substituted_tree}
-use Rattle.candidate_ir.specs.Lookups.{maybe}
-use Rattle.candidate_ir.specs.Trees.{Tree}
-use Rattle.candidate_ir.specs.Words.{args_forest, ty_tree}
-use Rattle.candidate_eval.specs.Tables.{last_of, optional}
-use Rattle.candidate_assembly.proofs.Causes.{so-ok}
-use Rattle.candidate_assembly.proofs.Tails.{no-tail, tail-there}
+use Rattle.candidate_ir.specs.Declarations.Context.{Context}
+use Rattle.candidate_ir.specs.Declarations.Contents.{AdtContents}
+use Rattle.candidate_ir.specs.Declarations.Declaring.{adt_at}
+use Rattle.candidate_ir.specs.Instantiation.Folding.{substituted_tree}
+use Rattle.candidate_ir.specs.Declarations.Lookups.{maybe}
+use Rattle.candidate_ir.specs.Syntax.Trees.{Tree}
+use Rattle.candidate_ir.specs.Syntax.Words.{args_forest, ty_tree}
+use Rattle.candidate_eval.specs.Builtins.Tables.{last_of, optional}
+use Rattle.candidate_assembly.proofs.Calls.Causes.{so-ok}
+use Rattle.candidate_assembly.proofs.Unsizing.Tails.{no-tail, tail-there}
 use Rattle.candidate_assembly.proofs.trait_goals.unsizing.tail.Goals as goal
 
 pub returns-in-Some-clause-tree : goal.returns-in-Some-clause-tree

@@ -1,14 +1,14 @@
 use Rattle.std.proofs.Common.{◌≡◌, ap, ◌∙◌}
 use Rattle.candidate_ir.specs.declared.ir.kinds.Clause.{Clause}
 use Rattle.candidate_ir.specs.declared.ir.kinds.PredicatePolarity.TheVariants as Pol
-use Rattle.candidate_ir.specs.Trees.{none, Tree}
-use Rattle.candidate_ir.specs.Words.{args_forest, clause_tree, ty_tree}
-use Rattle.candidate_ir.proofs.Kept.{args-kept, ty-kept}
-use Rattle.candidate_assembly.specs.BuiltinRules.{holds_of}
-use Rattle.candidate_assembly.specs.Calling.{pair_of}
-use Rattle.candidate_assembly.specs.Unsizing.{tail_of}
-use Rattle.candidate_assembly.proofs.Causes.{so-ok}
-use Rattle.candidate_assembly.proofs.Tails.{adt-fits-still, tail-kept}
+use Rattle.candidate_ir.specs.Syntax.Trees.{none, Tree}
+use Rattle.candidate_ir.specs.Syntax.Words.{args_forest, clause_tree, ty_tree}
+use Rattle.candidate_ir.proofs.Growth.Kept.{args-kept, ty-kept}
+use Rattle.candidate_assembly.specs.Rules.BuiltinRules.{holds_of}
+use Rattle.candidate_assembly.specs.Calls.Calling.{pair_of}
+use Rattle.candidate_assembly.specs.Rules.Unsizing.{tail_of}
+use Rattle.candidate_assembly.proofs.Calls.Causes.{so-ok}
+use Rattle.candidate_assembly.proofs.Unsizing.Tails.{adt-fits-still, tail-kept}
 use Rattle.candidate_assembly.proofs.trait_goals.unsizing.tails_unsize.Goals as goal
 
 pub tail-requires-2-clause-args : goal.tail-requires-2-clause-args

@@ -1,17 +1,17 @@
 use Rattle.std.proofs.lemmas.Result.{err_from_is_err_and}
 use Rattle.candidate_ir.specs.declared.ir.stop.Stop.{Stop}
-use Rattle.candidate_ir.specs.Substitutions.{alone}
-use Rattle.candidate_ir.specs.Words.{clause_tree, env_forest, ty_tree}
+use Rattle.candidate_ir.specs.Unification.Substitutions.{alone}
+use Rattle.candidate_ir.specs.Syntax.Words.{clause_tree, env_forest, ty_tree}
 use Rattle.std.proofs.Common.{map}
-use Rattle.candidate_eval.specs.Accounts as question
-use Rattle.candidate_eval.specs.Judging.{judged}
-use Rattle.candidate_eval.proofs.Accounts.{by-stop, reaches}
-use Rattle.candidate_eval.proofs.Objects.{env-kept}
-use Rattle.candidate_eval.proofs.Responding.{clauses-kept}
-use Rattle.candidate_assembly.specs.Unsizing.{equal_rule}
-use Rattle.candidate_assembly.proofs.Causes.{answered-error, asked-here, caused, later}
-use Rattle.candidate_assembly.proofs.EqualTypes.{equal-refused, equal-told}
-use Rattle.candidate_assembly.proofs.Stepping.{evaluator-own, told-error}
+use Rattle.candidate_eval.specs.Interface.Accounts as question
+use Rattle.candidate_eval.specs.Derivations.Judging.{judged}
+use Rattle.candidate_eval.proofs.Interface.Accounts.{by-stop, reaches}
+use Rattle.candidate_eval.proofs.Dynamic.Objects.{env-kept}
+use Rattle.candidate_eval.proofs.Outcomes.Responding.{clauses-kept}
+use Rattle.candidate_assembly.specs.Rules.Unsizing.{equal_rule}
+use Rattle.candidate_assembly.proofs.Calls.Causes.{answered-error, asked-here, caused, later}
+use Rattle.candidate_assembly.proofs.Unsizing.EqualTypes.{equal-refused, equal-told}
+use Rattle.candidate_assembly.proofs.Calls.Stepping.{evaluator-own, told-error}
 use Rattle.candidate_assembly.proofs.trait_goals.unsizing.try_equal.Goals as goal
 
 pub returns-in_err-eq-clause-told : goal.returns-in_err-eq-clause-told

@@ -2,20 +2,20 @@ use Rattle.std.proofs.Common.{◌≡◌, [], ◌∷◌, false, sym, ap, subst, �
 use Rattle.std.proofs.lemmas.List.Elements.{All-cons, All-nil}
 use Rattle.std.proofs.lemmas.Result.{err_from_is_err_and}
 use Rattle.candidate_ir.specs.declared.ir.kinds.Clause.{Clause}
-use Rattle.candidate_ir.specs.Context.{Context}
-use Rattle.candidate_ir.specs.Trees.{holds, is_param, tree_holds}
-use Rattle.candidate_ir.specs.Words.{args_forest, clause_tree, env_forest, ty_tree}
-use Rattle.candidate_ir.proofs.Kept.{ty-kept}
-use Rattle.candidate_eval.proofs.Objects.{env-kept}
-use Rattle.candidate_eval.proofs.Probing.{made}
-use Rattle.candidate_assembly.specs.BuiltinRules.{self_of}
-use Rattle.candidate_assembly.specs.TraitGoals.{trait_goal}
-use Rattle.candidate_assembly.specs.Unsizing.{equal_rule, struct_to_struct, tail_of, unsizing_parameters}
-use Rattle.candidate_assembly.proofs.Causes.{answered-stop, made-here}
-use Rattle.candidate_assembly.proofs.Considering.{considers-after, not-made}
-use Rattle.candidate_assembly.proofs.MixedForests.{mixed-free}
-use Rattle.candidate_assembly.proofs.Stepping.{making-own}
-use Rattle.candidate_assembly.proofs.StructParts.{first-free, pair-free, struct-same, tail-free}
+use Rattle.candidate_ir.specs.Declarations.Context.{Context}
+use Rattle.candidate_ir.specs.Syntax.Trees.{holds, is_param, tree_holds}
+use Rattle.candidate_ir.specs.Syntax.Words.{args_forest, clause_tree, env_forest, ty_tree}
+use Rattle.candidate_ir.proofs.Growth.Kept.{ty-kept}
+use Rattle.candidate_eval.proofs.Dynamic.Objects.{env-kept}
+use Rattle.candidate_eval.proofs.Interface.Probing.{made}
+use Rattle.candidate_assembly.specs.Rules.BuiltinRules.{self_of}
+use Rattle.candidate_assembly.specs.Goals.TraitGoals.{trait_goal}
+use Rattle.candidate_assembly.specs.Rules.Unsizing.{equal_rule, struct_to_struct, tail_of, unsizing_parameters}
+use Rattle.candidate_assembly.proofs.Calls.Causes.{answered-stop, made-here}
+use Rattle.candidate_assembly.proofs.Calls.Considering.{considers-after, not-made}
+use Rattle.candidate_assembly.proofs.Unsizing.MixedForests.{mixed-free}
+use Rattle.candidate_assembly.proofs.Calls.Stepping.{making-own}
+use Rattle.candidate_assembly.proofs.Unsizing.StructParts.{first-free, pair-free, struct-same, tail-free}
 use Rattle.candidate_assembly.proofs.trait_goals.unsizing.unsize_struct.Goals as goal
 
 pub returns-in_err-mixed : goal.returns-in_err-mixed

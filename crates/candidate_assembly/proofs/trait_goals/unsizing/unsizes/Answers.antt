@@ -1,13 +1,13 @@
 use Rattle.std.proofs.Common.{refl, ◌∙◌}
 use Rattle.candidate_ir.specs.declared.ir.kinds.PredicatePolarity.TheVariants.{Positive}
 use Rattle.candidate_ir.specs.declared.ir.kinds.TraitPredicate.{TraitPredicate}
-use Rattle.candidate_ir.specs.Words.{ty_tree}
-use Rattle.candidate_ir.proofs.Kept.{args-kept, grows-trans}
-use Rattle.candidate_assembly.specs.Calling.{pair_of}
-use Rattle.candidate_assembly.proofs.CallSteps.{two-types}
-use Rattle.candidate_assembly.proofs.Causes.{so-ok}
-use Rattle.candidate_assembly.proofs.TraitClauses.{fact-fits, fact-takes}
-use Rattle.candidate_assembly.proofs.UnsizingClauses.{fits-pair, made-to-hold}
+use Rattle.candidate_ir.specs.Syntax.Words.{ty_tree}
+use Rattle.candidate_ir.proofs.Growth.Kept.{args-kept, grows-trans}
+use Rattle.candidate_assembly.specs.Calls.Calling.{pair_of}
+use Rattle.candidate_assembly.proofs.Rules.CallSteps.{two-types}
+use Rattle.candidate_assembly.proofs.Calls.Causes.{so-ok}
+use Rattle.candidate_assembly.proofs.Goals.TraitClauses.{fact-fits, fact-takes}
+use Rattle.candidate_assembly.proofs.Unsizing.UnsizingClauses.{fits-pair, made-to-hold}
 use Rattle.candidate_assembly.proofs.trait_goals.unsizing.unsizes.Goals as goal
 
 pub mk_clause-requires-clause-fits : goal.mk_clause-requires-clause-fits

@@ -1,4 +1,4 @@
-use Rattle.candidate_assembly.proofs.AdtParts.{adt-args}
+use Rattle.candidate_assembly.proofs.Unsizing.AdtParts.{adt-args}
 use Rattle.candidate_assembly.proofs.trait_goals.unsizing_rows.adt_args.Goals as goal
 
 pub returns-clause-fit : goal.returns-clause-fit

@@ -1,23 +1,23 @@
 use Rattle.std.proofs.Common.{◌≡◌, Err, Some, ap, subst, sym, ◌∙◌}
 use Rattle.std.proofs.lemmas.Result.{err_from_is_err_and}
-use Rattle.candidate_ir.specs.Context.{Context}
-use Rattle.candidate_ir.specs.Supers.{after_first}
-use Rattle.candidate_ir.specs.WellFormed.{IsWellFormedTable}
-use Rattle.candidate_ir.specs.Words.{IsTy, args_forest, ty_tree}
-use Rattle.candidate_ir.proofs.Kept.{ty-kept}
+use Rattle.candidate_ir.specs.Declarations.Context.{Context}
+use Rattle.candidate_ir.specs.Hierarchy.Supers.{after_first}
+use Rattle.candidate_ir.specs.Validity.WellFormed.{IsWellFormedTable}
+use Rattle.candidate_ir.specs.Syntax.Words.{IsTy, args_forest, ty_tree}
+use Rattle.candidate_ir.proofs.Growth.Kept.{ty-kept}
 use Rattle.candidate_eval.specs.declared.eval.context.ProbeKind.TheVariants.{Kept}
-use Rattle.candidate_eval.specs.Accounts as question
-use Rattle.candidate_eval.specs.ObjectRequirements.{first_tree}
-use Rattle.candidate_eval.specs.States.{State}
-use Rattle.candidate_assembly.specs.KindBounds.{UnsizingList, no_target}
-use Rattle.candidate_assembly.specs.Standing.{GoalStands}
-use Rattle.candidate_assembly.specs.TraitGoals.{trait_goal}
-use Rattle.candidate_assembly.specs.TraitRules.{trait_bounds, trait_rules}
-use Rattle.candidate_assembly.specs.Unsizing.{unsizing_target}
-use Rattle.candidate_assembly.proofs.AliasChains.{list-as}
-use Rattle.candidate_assembly.proofs.AliasWalks.{list-not-begun}
-use Rattle.candidate_assembly.proofs.Keeping.{trait-goal-kept}
-use Rattle.candidate_assembly.proofs.UnsizedTargets.{listed-in-probe, nothing-listed, target-none, target-some, unsizing-list-back}
+use Rattle.candidate_eval.specs.Interface.Accounts as question
+use Rattle.candidate_eval.specs.Dynamic.ObjectRequirements.{first_tree}
+use Rattle.candidate_eval.specs.Judges.States.{State}
+use Rattle.candidate_assembly.specs.Goals.KindBounds.{UnsizingList, no_target}
+use Rattle.candidate_assembly.specs.Goals.Standing.{GoalStands}
+use Rattle.candidate_assembly.specs.Goals.TraitGoals.{trait_goal}
+use Rattle.candidate_assembly.specs.Goals.TraitRules.{trait_bounds, trait_rules}
+use Rattle.candidate_assembly.specs.Rules.Unsizing.{unsizing_target}
+use Rattle.candidate_assembly.proofs.Aliases.AliasChains.{list-as}
+use Rattle.candidate_assembly.proofs.Aliases.AliasWalks.{list-not-begun}
+use Rattle.candidate_assembly.proofs.Calls.Keeping.{trait-goal-kept}
+use Rattle.candidate_assembly.proofs.Unsizing.UnsizedTargets.{listed-in-probe, nothing-listed, target-none, target-some, unsizing-list-back}
 use Rattle.candidate_assembly.proofs.trait_goals.unsizing_rows.consider_unsizing.Goals as goal
 
 pub returns-then-not-is_positive : goal.returns-then-not-is_positive

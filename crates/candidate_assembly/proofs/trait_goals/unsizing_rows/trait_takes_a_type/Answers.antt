@@ -1,6 +1,6 @@
 use Rattle.std.proofs.Common.{refl}
 use Rattle.candidate_ir.specs.declared.decl.contents.LangItem.TheVariants as L
-use Rattle.candidate_assembly.proofs.LangItems.{item-takes-a-type}
+use Rattle.candidate_assembly.proofs.Rules.LangItems.{item-takes-a-type}
 use Rattle.candidate_assembly.proofs.trait_goals.unsizing_rows.trait_takes_a_type.Goals as goal
 
 pub returns : goal.returns

@@ -1,8 +1,8 @@
 use Rattle.std.proofs.Common.{refl}
-use Rattle.candidate_ir.specs.Words.{ty_tree}
-use Rattle.candidate_assembly.specs.TraitGoals.{trait_goal}
+use Rattle.candidate_ir.specs.Syntax.Words.{ty_tree}
+use Rattle.candidate_assembly.specs.Goals.TraitGoals.{trait_goal}
 use Rattle.candidate_assembly.specs.declared.trait_goals.unsizing_rows.UnsizingRow.TheVariants as R
-use Rattle.candidate_assembly.proofs.UnsizedRows.{by-row, listed-as, none-by-row, one-by-row, row-found}
+use Rattle.candidate_assembly.proofs.Unsizing.UnsizedRows.{by-row, listed-as, none-by-row, one-by-row, row-found}
 use Rattle.candidate_assembly.proofs.trait_goals.unsizing_rows.unsize_by_row.Goals as goal
 
 pub returns-in-Ambiguous : goal.returns-in-Ambiguous

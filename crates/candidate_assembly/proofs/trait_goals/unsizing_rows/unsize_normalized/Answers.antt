@@ -1,19 +1,19 @@
 use Rattle.std.proofs.Common.{[], subst, sym}
-use Rattle.candidate_ir.specs.WellFormed.{IsWellFormedTable}
-use Rattle.candidate_ir.specs.Words.{env_forest, ty_tree}
-use Rattle.candidate_eval.specs.Accounts as question
-use Rattle.candidate_eval.specs.Accounts.{by_stop}
-use Rattle.candidate_eval.proofs.Accounts.{reaches}
-use Rattle.candidate_eval.proofs.Probing.{keeps-trans}
-use Rattle.candidate_assembly.specs.KindBounds.{UnsizingList, refused}
-use Rattle.candidate_assembly.specs.Telling.{StopsOfItself}
-use Rattle.candidate_assembly.specs.TraitGoals.{trait_goal}
-use Rattle.candidate_assembly.specs.TraitRules.{trait_bounds, trait_rules}
-use Rattle.candidate_assembly.specs.Unsizing.{IsUnsizedTo}
-use Rattle.candidate_assembly.proofs.AliasChains.{list-as}
-use Rattle.candidate_assembly.proofs.Causes.{asked-here, later, so-err}
-use Rattle.candidate_assembly.proofs.Keeping.{trait-goal-kept}
-use Rattle.candidate_assembly.proofs.UnsizedTargets.{normal-target, nothing-told, target-is, unsized-there}
+use Rattle.candidate_ir.specs.Validity.WellFormed.{IsWellFormedTable}
+use Rattle.candidate_ir.specs.Syntax.Words.{env_forest, ty_tree}
+use Rattle.candidate_eval.specs.Interface.Accounts as question
+use Rattle.candidate_eval.specs.Interface.Accounts.{by_stop}
+use Rattle.candidate_eval.proofs.Interface.Accounts.{reaches}
+use Rattle.candidate_eval.proofs.Interface.Probing.{keeps-trans}
+use Rattle.candidate_assembly.specs.Goals.KindBounds.{UnsizingList, refused}
+use Rattle.candidate_assembly.specs.Answers.Telling.{StopsOfItself}
+use Rattle.candidate_assembly.specs.Goals.TraitGoals.{trait_goal}
+use Rattle.candidate_assembly.specs.Goals.TraitRules.{trait_bounds, trait_rules}
+use Rattle.candidate_assembly.specs.Rules.Unsizing.{IsUnsizedTo}
+use Rattle.candidate_assembly.proofs.Aliases.AliasChains.{list-as}
+use Rattle.candidate_assembly.proofs.Calls.Causes.{asked-here, later, so-err}
+use Rattle.candidate_assembly.proofs.Calls.Keeping.{trait-goal-kept}
+use Rattle.candidate_assembly.proofs.Unsizing.UnsizedTargets.{normal-target, nothing-told, target-is, unsized-there}
 use Rattle.candidate_assembly.proofs.trait_goals.unsizing_rows.unsize_normalized.Goals as goal
 
 pub unsize_to-requires-clause-goal : goal.unsize_to-requires-clause-goal

@@ -1,14 +1,14 @@
 use Rattle.std.proofs.Common.{◌≡◌, Bool, [], ◌∷◌, List, sym, ap, subst, ◌∙◌}
 use Rattle.std.specs.Prelude.{if◌then◌else◌}
-use Rattle.candidate_ir.specs.Context.{Context}
-use Rattle.candidate_ir.specs.Lookups.{adt_shape, definition}
-use Rattle.candidate_ir.specs.Words.{ty_tree}
-use Rattle.candidate_eval.specs.Rules.{Rule}
-use Rattle.candidate_assembly.specs.BuiltinRules.{self_of}
-use Rattle.candidate_assembly.specs.Listing.{ConsidersAll}
-use Rattle.candidate_assembly.specs.TraitGoals.{trait_goal}
-use Rattle.candidate_assembly.specs.Unsizing.{is_struct, struct_to_struct}
-use Rattle.candidate_assembly.proofs.Listing.{one-listed, whole_list}
+use Rattle.candidate_ir.specs.Declarations.Context.{Context}
+use Rattle.candidate_ir.specs.Declarations.Lookups.{adt_shape, definition}
+use Rattle.candidate_ir.specs.Syntax.Words.{ty_tree}
+use Rattle.candidate_eval.specs.Derivations.Rules.{Rule}
+use Rattle.candidate_assembly.specs.Rules.BuiltinRules.{self_of}
+use Rattle.candidate_assembly.specs.Answers.Listing.{ConsidersAll}
+use Rattle.candidate_assembly.specs.Goals.TraitGoals.{trait_goal}
+use Rattle.candidate_assembly.specs.Rules.Unsizing.{is_struct, struct_to_struct}
+use Rattle.candidate_assembly.proofs.Lists.Listing.{one-listed, whole_list}
 use Rattle.candidate_assembly.proofs.trait_goals.unsizing_rows.unsize_same.Goals as goal
 
 pub returns : goal.returns

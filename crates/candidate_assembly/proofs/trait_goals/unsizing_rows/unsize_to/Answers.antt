@@ -1,11 +1,11 @@
 use Rattle.std.proofs.Common.{[], List, Err, ap, subst, ◌∙◌, refl}
 use Rattle.std.proofs.lemmas.Result.{err_from_is_err_and}
-use Rattle.candidate_ir.specs.Words.{ty_tree}
+use Rattle.candidate_ir.specs.Syntax.Words.{ty_tree}
 use Rattle.candidate_eval.specs.declared.eval.response.Candidate.{Candidate}
-use Rattle.candidate_assembly.specs.TraitGoals.{trait_goal}
-use Rattle.candidate_assembly.specs.Unsizing.{IsUnsizedTo}
-use Rattle.candidate_assembly.proofs.UnsizedRows.{listed-as}
-use Rattle.candidate_assembly.proofs.UnsizedTargets.{handed-list, handed-stop}
+use Rattle.candidate_assembly.specs.Goals.TraitGoals.{trait_goal}
+use Rattle.candidate_assembly.specs.Rules.Unsizing.{IsUnsizedTo}
+use Rattle.candidate_assembly.proofs.Unsizing.UnsizedRows.{listed-as}
+use Rattle.candidate_assembly.proofs.Unsizing.UnsizedTargets.{handed-list, handed-stop}
 use Rattle.candidate_assembly.proofs.trait_goals.unsizing_rows.unsize_to.Goals as goal
 
 pub returns-in_err-unsize_by_row : goal.returns-in_err-unsize_by_row

@@ -1,4 +1,4 @@
-use Rattle.candidate_assembly.proofs.UpcastRows.{pred-kept, row-of-bound, row-of-kept}
+use Rattle.candidate_assembly.proofs.Upcasting.UpcastRows.{pred-kept, row-of-bound, row-of-kept}
 use Rattle.candidate_assembly.proofs.trait_goals.upcasting.bound_rows.Goals as goal
 
 pub bound_row-requires-2 : goal.bound_row-requires-2

@@ -1,17 +1,17 @@
 use Rattle.std.proofs.Common.{rules, ◌≡◌, None, Some, ap}
 use Rattle.std.proofs.lemmas.Result.{err_from_is_err_and}
-use Rattle.candidate_ir.specs.Words.{env_forest, pred_tree}
+use Rattle.candidate_ir.specs.Syntax.Words.{env_forest, pred_tree}
 use Rattle.candidate_eval.specs.declared.eval.context.ProbeKind.TheVariants.{Kept}
 use Rattle.candidate_eval.specs.declared.eval.refusal.NoSolutionOrStop.TheVariants.{NoSolution}
-use Rattle.candidate_eval.specs.Accounts as question
-use Rattle.candidate_eval.specs.States.{is_some}
-use Rattle.candidate_eval.proofs.Accounts.{at-stop, somehow-later}
-use Rattle.candidate_eval.proofs.Objects.{env-kept}
-use Rattle.candidate_eval.proofs.Probing.{alike-probe, keeps-probe, of-error}
-use Rattle.candidate_assembly.specs.Upcasting.{row_under}
-use Rattle.candidate_assembly.proofs.Causes.{asked-somehow}
-use Rattle.candidate_assembly.proofs.UpcastMatches.{met-then}
-use Rattle.candidate_assembly.proofs.UpcastRows.{pred-kept}
+use Rattle.candidate_eval.specs.Interface.Accounts as question
+use Rattle.candidate_eval.specs.Judges.States.{is_some}
+use Rattle.candidate_eval.proofs.Interface.Accounts.{at-stop, somehow-later}
+use Rattle.candidate_eval.proofs.Dynamic.Objects.{env-kept}
+use Rattle.candidate_eval.proofs.Interface.Probing.{alike-probe, keeps-probe, of-error}
+use Rattle.candidate_assembly.specs.Calls.Upcasting.{row_under}
+use Rattle.candidate_assembly.proofs.Calls.Causes.{asked-somehow}
+use Rattle.candidate_assembly.proofs.Upcasting.UpcastMatches.{met-then}
+use Rattle.candidate_assembly.proofs.Upcasting.UpcastRows.{pred-kept}
 use Rattle.candidate_assembly.proofs.trait_goals.upcasting.bounds_meet.Goals as goal
 
 pub returns-in_err-probe-clause-cause : goal.returns-in_err-probe-clause-cause

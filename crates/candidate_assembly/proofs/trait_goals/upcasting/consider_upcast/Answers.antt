@@ -1,16 +1,16 @@
 use Rattle.std.proofs.Common.{length}
 use Rattle.std.specs.Prelude.{option_map}
 use Rattle.std.proofs.lemmas.Result.{err_from_is_err_and}
-use Rattle.candidate_ir.specs.Words.{clause_tree, env_forest}
+use Rattle.candidate_ir.specs.Syntax.Words.{clause_tree, env_forest}
 use Rattle.candidate_eval.specs.declared.eval.context.ProbeKind.TheVariants.{Kept}
-use Rattle.candidate_eval.specs.Accounts as question
-use Rattle.candidate_eval.proofs.Objects.{env-kept}
-use Rattle.candidate_assembly.specs.Upcasting.{upcast_by}
-use Rattle.candidate_assembly.proofs.Causes.{answered-stop}
-use Rattle.candidate_assembly.proofs.Considering.{not-begun}
-use Rattle.candidate_assembly.proofs.Keeping.{in-probe}
-use Rattle.candidate_assembly.proofs.UpcastBounds.{env-later, rule-principal-later}
-use Rattle.candidate_assembly.proofs.UpcastRules.{as-many, upcast-later, upcast-stays}
+use Rattle.candidate_eval.specs.Interface.Accounts as question
+use Rattle.candidate_eval.proofs.Dynamic.Objects.{env-kept}
+use Rattle.candidate_assembly.specs.Calls.Upcasting.{upcast_by}
+use Rattle.candidate_assembly.proofs.Calls.Causes.{answered-stop}
+use Rattle.candidate_assembly.proofs.Calls.Considering.{not-begun}
+use Rattle.candidate_assembly.proofs.Calls.Keeping.{in-probe}
+use Rattle.candidate_assembly.proofs.Upcasting.UpcastBounds.{env-later, rule-principal-later}
+use Rattle.candidate_assembly.proofs.Upcasting.UpcastRules.{as-many, upcast-later, upcast-stays}
 use Rattle.candidate_assembly.proofs.trait_goals.upcasting.consider_upcast.Goals as goal
 
 pub returns-in_err-probe : goal.returns-in_err-probe

@@ -2,16 +2,16 @@ use Rattle.std.proofs.Common.{◌≤◌, ◌<◌, ◌-◌, ℕ, Some, Err, arith
 use Rattle.std.proofs.lemmas.List.Elements.{All-get_or}
 use Rattle.std.proofs.lemmas.Result.{err_from_is_err_and}
 use Rattle.candidate_ir.specs.declared.ir.kinds.Clause.{Clause}
-use Rattle.candidate_ir.specs.Words.{env_forest}
+use Rattle.candidate_ir.specs.Syntax.Words.{env_forest}
 use Rattle.candidate_eval.specs.declared.eval.source.BuiltinImplSource.TheVariants.{TraitUpcasting}
 use Rattle.candidate_eval.specs.declared.eval.source.CandidateSource.TheVariants.{BuiltinImpl}
-use Rattle.candidate_eval.specs.Judging.{judged}
-use Rattle.candidate_eval.proofs.Objects.{env-kept}
-use Rattle.candidate_assembly.specs.Upcasting.{IsRuleClause}
-use Rattle.candidate_assembly.proofs.Listing.{ListedSoFar, all-listed, listing-stops, next-listed, none-listed}
-use Rattle.candidate_assembly.proofs.UpcastBounds.{env-later, rule-clause-later}
-use Rattle.candidate_assembly.proofs.UpcastMet.{alike-longer}
-use Rattle.candidate_assembly.proofs.UpcastRules.{one-further, proper, proper-at, proper-past, proper-within, rule-by, upcast-judged, upcast-later, upcasts-proper}
+use Rattle.candidate_eval.specs.Derivations.Judging.{judged}
+use Rattle.candidate_eval.proofs.Dynamic.Objects.{env-kept}
+use Rattle.candidate_assembly.specs.Calls.Upcasting.{IsRuleClause}
+use Rattle.candidate_assembly.proofs.Lists.Listing.{ListedSoFar, all-listed, listing-stops, next-listed, none-listed}
+use Rattle.candidate_assembly.proofs.Upcasting.UpcastBounds.{env-later, rule-clause-later}
+use Rattle.candidate_assembly.proofs.Upcasting.UpcastMet.{alike-longer}
+use Rattle.candidate_assembly.proofs.Upcasting.UpcastRules.{one-further, proper, proper-at, proper-past, proper-within, rule-by, upcast-judged, upcast-later, upcasts-proper}
 use Rattle.candidate_assembly.proofs.trait_goals.upcasting.consider_upcasts.Goals as goal
 
 pub loop-number-init : goal.loop-number-init

@@ -1,7 +1,7 @@
 use Rattle.std.proofs.Common.{◌-◌, map, take}
-use Rattle.candidate_ir.specs.Words.{env_forest}
-use Rattle.candidate_assembly.proofs.Listing.{ListedSoFar}
-use Rattle.candidate_assembly.proofs.UpcastRules.{proper, rule-by}
+use Rattle.candidate_ir.specs.Syntax.Words.{env_forest}
+use Rattle.candidate_assembly.proofs.Lists.Listing.{ListedSoFar}
+use Rattle.candidate_assembly.proofs.Upcasting.UpcastRules.{proper, rule-by}
 use Rattle.candidate_assembly.proofs.trait_goals.upcasting.consider_upcasts.Given as goal
 
 -- the candidates by the supertraits before were listed

@@ -1,13 +1,13 @@
 use Rattle.std.proofs.Common.{None, Some}
 use Rattle.std.proofs.lemmas.Result.{err_from_is_err_and}
-use Rattle.candidate_ir.specs.Words.{env_forest, pred_tree}
-use Rattle.candidate_eval.proofs.Objects.{env-kept}
-use Rattle.candidate_eval.proofs.Probing.{made, then}
-use Rattle.candidate_eval.specs.Accounts.StopsSomehow.{making}
-use Rattle.candidate_eval.proofs.Accounts.{somehow-later}
-use Rattle.candidate_assembly.specs.Upcasting.{row_at, row_under}
-use Rattle.candidate_assembly.proofs.Causes.{answered-stop, caused, so-err, so-ok}
-use Rattle.candidate_assembly.proofs.UpcastMatches.{met-then}
+use Rattle.candidate_ir.specs.Syntax.Words.{env_forest, pred_tree}
+use Rattle.candidate_eval.proofs.Dynamic.Objects.{env-kept}
+use Rattle.candidate_eval.proofs.Interface.Probing.{made, then}
+use Rattle.candidate_eval.specs.Interface.Accounts.StopsSomehow.{making}
+use Rattle.candidate_eval.proofs.Interface.Accounts.{somehow-later}
+use Rattle.candidate_assembly.specs.Calls.Upcasting.{row_at, row_under}
+use Rattle.candidate_assembly.proofs.Calls.Causes.{answered-stop, caused, so-err, so-ok}
+use Rattle.candidate_assembly.proofs.Upcasting.UpcastMatches.{met-then}
 use Rattle.candidate_assembly.proofs.trait_goals.upcasting.equate_bounds.Goals as goal
 
 pub returns-in_err-source-clause-cause : goal.returns-in_err-source-clause-cause

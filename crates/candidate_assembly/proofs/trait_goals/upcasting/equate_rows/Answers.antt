@@ -1,14 +1,14 @@
 use Rattle.std.proofs.Common.{None, Some}
 use Rattle.std.proofs.lemmas.Result.{err_from_is_err_and}
 use Rattle.candidate_ir.specs.declared.ir.stop.Stop.{Stop}
-use Rattle.candidate_ir.specs.Words.{args_forest, env_forest}
-use Rattle.candidate_eval.specs.Accounts as question
-use Rattle.candidate_eval.proofs.Accounts.{by-stop, reaches, somehow-later}
-use Rattle.candidate_eval.proofs.Objects.{env-kept}
-use Rattle.candidate_eval.proofs.Probing.{then}
-use Rattle.candidate_assembly.specs.Upcasting.{row_at, rows_state, source_trees, target_trees}
-use Rattle.candidate_assembly.proofs.Causes.{answered-error, asked-somehow}
-use Rattle.candidate_assembly.proofs.UpcastMatches.{accepted-then, rows-apart, rows-refused, rows-settled, settled-then}
+use Rattle.candidate_ir.specs.Syntax.Words.{args_forest, env_forest}
+use Rattle.candidate_eval.specs.Interface.Accounts as question
+use Rattle.candidate_eval.proofs.Interface.Accounts.{by-stop, reaches, somehow-later}
+use Rattle.candidate_eval.proofs.Dynamic.Objects.{env-kept}
+use Rattle.candidate_eval.proofs.Interface.Probing.{then}
+use Rattle.candidate_assembly.specs.Calls.Upcasting.{row_at, rows_state, source_trees, target_trees}
+use Rattle.candidate_assembly.proofs.Calls.Causes.{answered-error, asked-somehow}
+use Rattle.candidate_assembly.proofs.Upcasting.UpcastMatches.{accepted-then, rows-apart, rows-refused, rows-settled, settled-then}
 use Rattle.candidate_assembly.proofs.trait_goals.upcasting.equate_rows.Goals as goal
 
 pub eq_args-requires-clause-env : goal.eq_args-requires-clause-env

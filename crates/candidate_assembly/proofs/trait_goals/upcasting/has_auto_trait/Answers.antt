@@ -1,5 +1,5 @@
 use Rattle.std.proofs.Common.{rules, ◌≡◌, ◌∙◌, false, sym}
-use Rattle.candidate_assembly.proofs.UpcastAutos.{autos-list, by-bound, by-none, by-supertrait}
+use Rattle.candidate_assembly.proofs.Upcasting.UpcastAutos.{autos-list, by-bound, by-none, by-supertrait}
 use Rattle.candidate_assembly.proofs.trait_goals.upcasting.has_auto_trait.Goals as goal
 
 pub returns-then-is_auto_bound : goal.returns-then-is_auto_bound

@@ -1,7 +1,7 @@
 use Rattle.std.proofs.Common.{◌≡◌, drop}
 use Rattle.std.specs.List.{list_any}
-use Rattle.candidate_ir.specs.Words.{pred_tree}
-use Rattle.candidate_assembly.specs.Upcasting.{names_auto}
+use Rattle.candidate_ir.specs.Syntax.Words.{pred_tree}
+use Rattle.candidate_assembly.specs.Calls.Upcasting.{names_auto}
 use Rattle.candidate_assembly.proofs.trait_goals.upcasting.is_auto_bound.Given as goal
 
 -- none of the bounds before names it

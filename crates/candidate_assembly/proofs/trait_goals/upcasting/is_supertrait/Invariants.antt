@@ -1,7 +1,7 @@
 use Rattle.std.proofs.Common.{◌≡◌, drop}
 use Rattle.std.specs.List.{list_any}
-use Rattle.candidate_ir.specs.Words.{clause_tree}
-use Rattle.candidate_assembly.specs.BuiltinRules.{is_of_trait}
+use Rattle.candidate_ir.specs.Syntax.Words.{clause_tree}
+use Rattle.candidate_assembly.specs.Rules.BuiltinRules.{is_of_trait}
 use Rattle.candidate_assembly.proofs.trait_goals.upcasting.is_supertrait.Given as goal
 
 -- none of the clauses before speaks of it

@@ -3,14 +3,14 @@ use Rattle.std.specs.Prelude.{slice_index_or}
 use Rattle.std.proofs.lemmas.List.Elements.{All-get_or}
 use Rattle.std.proofs.lemmas.Result.{err_from_is_err_and}
 use Rattle.candidate_ir.specs.declared.ir.kinds.Pred.{Pred}
-use Rattle.candidate_ir.specs.Words.{env_forest, pred_tree}
-use Rattle.candidate_eval.proofs.Accounts.{reaches, somehow-later}
-use Rattle.candidate_eval.proofs.Objects.{env-kept}
-use Rattle.candidate_eval.proofs.Probing.{then}
-use Rattle.candidate_eval.specs.Accounts.StopsSomehow.{making}
-use Rattle.candidate_assembly.specs.Upcasting.{IsRulePred, meets_projection}
-use Rattle.candidate_assembly.proofs.UpcastFinding.{both-so, meets-then, not-first, one-more-kept, one-more-left, projects-then}
-use Rattle.candidate_assembly.proofs.UpcastRows.{pred-kept}
+use Rattle.candidate_ir.specs.Syntax.Words.{env_forest, pred_tree}
+use Rattle.candidate_eval.proofs.Interface.Accounts.{reaches, somehow-later}
+use Rattle.candidate_eval.proofs.Dynamic.Objects.{env-kept}
+use Rattle.candidate_eval.proofs.Interface.Probing.{then}
+use Rattle.candidate_eval.specs.Interface.Accounts.StopsSomehow.{making}
+use Rattle.candidate_assembly.specs.Calls.Upcasting.{IsRulePred, meets_projection}
+use Rattle.candidate_assembly.proofs.Upcasting.UpcastFinding.{both-so, meets-then, not-first, one-more-kept, one-more-left, projects-then}
+use Rattle.candidate_assembly.proofs.Upcasting.UpcastRows.{pred-kept}
 use Rattle.candidate_assembly.proofs.trait_goals.upcasting.matching_bounds.Goals.{then-branch+in_ok-push, else-branch}
 use Rattle.candidate_assembly.proofs.trait_goals.upcasting.matching_bounds.Goals as goal
 

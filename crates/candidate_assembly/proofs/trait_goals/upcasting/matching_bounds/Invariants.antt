@@ -1,8 +1,8 @@
 use Rattle.std.proofs.Common.{◌≡◌, take}
 use Rattle.std.specs.List.{filter}
-use Rattle.candidate_ir.specs.Words.{env_forest, pred_tree}
-use Rattle.candidate_eval.specs.Evaluators.{Keeps}
-use Rattle.candidate_assembly.specs.Upcasting.{meets_projection}
+use Rattle.candidate_ir.specs.Syntax.Words.{env_forest, pred_tree}
+use Rattle.candidate_eval.specs.Interface.Evaluators.{Keeps}
+use Rattle.candidate_assembly.specs.Calls.Upcasting.{meets_projection}
 use Rattle.candidate_assembly.proofs.trait_goals.upcasting.matching_bounds.Given as goal
 
 -- the bounds before were tried, at states that are alike the first

@@ -1,11 +1,11 @@
 use Rattle.std.proofs.Common.{rules, ◌≡◌, ◌∙◌, false, map, subst, sym}
 use Rattle.std.specs.Prelude.{option_map}
 use Rattle.candidate_ir.specs.declared.ir.kinds.ExistentialPredicate.TheVariants.{AutoTrait, Projection, Trait}
-use Rattle.candidate_ir.specs.Context.{Context}
-use Rattle.candidate_ir.specs.Elaboration.{number_listed}
-use Rattle.candidate_ir.specs.Words.{clause_tree, env_forest, pred_kind_tree, pred_tree}
-use Rattle.candidate_assembly.specs.Unsizing.{autos}
-use Rattle.candidate_assembly.proofs.UpcastMet.{as-principal, as-projection, auto-met, auto-not-met, head-read}
+use Rattle.candidate_ir.specs.Declarations.Context.{Context}
+use Rattle.candidate_ir.specs.Hierarchy.Elaboration.{number_listed}
+use Rattle.candidate_ir.specs.Syntax.Words.{clause_tree, env_forest, pred_kind_tree, pred_tree}
+use Rattle.candidate_assembly.specs.Rules.Unsizing.{autos}
+use Rattle.candidate_assembly.proofs.Upcasting.UpcastMet.{as-principal, as-projection, auto-met, auto-not-met, head-read}
 use Rattle.candidate_assembly.proofs.trait_goals.upcasting.meet_bound.Goals as goal
 
 pub returns-in-Trait-clause-met : goal.returns-in-Trait-clause-met

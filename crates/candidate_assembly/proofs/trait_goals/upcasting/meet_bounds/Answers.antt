@@ -3,15 +3,15 @@ use Rattle.std.specs.Prelude.{option_map, slice_index_or}
 use Rattle.std.proofs.lemmas.List.Elements.{All-get_or}
 use Rattle.std.proofs.lemmas.Result.{err_from_is_err_and}
 use Rattle.candidate_ir.specs.declared.ir.kinds.Pred.{Pred}
-use Rattle.candidate_ir.specs.Words.{clause_tree, env_forest, pred_tree}
-use Rattle.candidate_ir.proofs.Kept.{grows-refl}
-use Rattle.candidate_eval.proofs.Accounts.{by-stop, reaches, somehow-later}
-use Rattle.candidate_eval.proofs.Objects.{env-kept}
-use Rattle.candidate_eval.proofs.Probing.{then}
-use Rattle.candidate_assembly.specs.Upcasting.{IsRulePred}
-use Rattle.candidate_assembly.proofs.Causes.{answered-error}
-use Rattle.candidate_assembly.proofs.UpcastBounds.{bounds-all-met, bounds-ambiguous, bounds-refused, clauses-later, env-later, meets-later, next-met, none-met-yet, rule-pred-later, rule-preds-later, rule-principal-later, rule-trees-each}
-use Rattle.candidate_assembly.proofs.UpcastMet.{principal-trees, rule-trees}
+use Rattle.candidate_ir.specs.Syntax.Words.{clause_tree, env_forest, pred_tree}
+use Rattle.candidate_ir.proofs.Growth.Kept.{grows-refl}
+use Rattle.candidate_eval.proofs.Interface.Accounts.{by-stop, reaches, somehow-later}
+use Rattle.candidate_eval.proofs.Dynamic.Objects.{env-kept}
+use Rattle.candidate_eval.proofs.Interface.Probing.{then}
+use Rattle.candidate_assembly.specs.Calls.Upcasting.{IsRulePred}
+use Rattle.candidate_assembly.proofs.Calls.Causes.{answered-error}
+use Rattle.candidate_assembly.proofs.Upcasting.UpcastBounds.{bounds-all-met, bounds-ambiguous, bounds-refused, clauses-later, env-later, meets-later, next-met, none-met-yet, rule-pred-later, rule-preds-later, rule-principal-later, rule-trees-each}
+use Rattle.candidate_assembly.proofs.Upcasting.UpcastMet.{principal-trees, rule-trees}
 use Rattle.candidate_assembly.proofs.trait_goals.upcasting.meet_bounds.Goals as goal
 
 pub loop-target-init : goal.loop-target-init

@@ -1,15 +1,15 @@
 use Rattle.std.proofs.Common.{None, Some, length}
 use Rattle.std.specs.Prelude.{option_map}
 use Rattle.std.proofs.lemmas.Result.{err_from_is_err_and}
-use Rattle.candidate_ir.specs.Words.{clause_tree, env_forest, pred_tree}
-use Rattle.candidate_eval.proofs.Accounts.{by-stop, somehow-later}
-use Rattle.candidate_eval.proofs.Objects.{env-kept}
-use Rattle.candidate_eval.proofs.Probing.{made, then}
-use Rattle.candidate_eval.specs.Accounts.StopsSomehow.{making}
-use Rattle.candidate_assembly.specs.Upcasting.{reference_row, rest_of, row_at, row_under}
-use Rattle.candidate_assembly.proofs.Causes.{answered-error, answered-stop}
-use Rattle.candidate_assembly.proofs.UpcastMatches.{met-then}
-use Rattle.candidate_assembly.proofs.UpcastMet.{own-met, own-refused, principal-trees}
+use Rattle.candidate_ir.specs.Syntax.Words.{clause_tree, env_forest, pred_tree}
+use Rattle.candidate_eval.proofs.Interface.Accounts.{by-stop, somehow-later}
+use Rattle.candidate_eval.proofs.Dynamic.Objects.{env-kept}
+use Rattle.candidate_eval.proofs.Interface.Probing.{made, then}
+use Rattle.candidate_eval.specs.Interface.Accounts.StopsSomehow.{making}
+use Rattle.candidate_assembly.specs.Calls.Upcasting.{reference_row, rest_of, row_at, row_under}
+use Rattle.candidate_assembly.proofs.Calls.Causes.{answered-error, answered-stop}
+use Rattle.candidate_assembly.proofs.Upcasting.UpcastMatches.{met-then}
+use Rattle.candidate_assembly.proofs.Upcasting.UpcastMet.{own-met, own-refused, principal-trees}
 use Rattle.candidate_assembly.proofs.trait_goals.upcasting.meet_principal.Goals as goal
 
 pub returns-in_err-source-clause-cause : goal.returns-in_err-source-clause-cause

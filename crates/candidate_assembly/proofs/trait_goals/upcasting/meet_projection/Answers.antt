@@ -2,15 +2,15 @@ use Rattle.std.proofs.Common.{None, Some, arith, length, refl, ap, ◌∙◌}
 use Rattle.std.specs.Prelude.{slice_index_or}
 use Rattle.std.proofs.lemmas.Result.{err_from_is_err_and}
 use Rattle.candidate_ir.specs.declared.ir.kinds.Pred.{Pred}
-use Rattle.candidate_ir.specs.Words.{env_forest, pred_tree}
-use Rattle.candidate_eval.proofs.Accounts.{by-stop, reaches, somehow-later}
-use Rattle.candidate_eval.proofs.Objects.{env-kept}
-use Rattle.candidate_eval.proofs.Probing.{then}
-use Rattle.candidate_assembly.specs.Upcasting.{IsRulePred, meets_projection, row_under}
-use Rattle.candidate_assembly.proofs.Causes.{answered-error}
-use Rattle.candidate_assembly.proofs.UpcastMatches.{met-then}
-use Rattle.candidate_assembly.proofs.UpcastMet.{found-one, none-met, only-met, only-refused, several-met}
-use Rattle.candidate_assembly.proofs.UpcastRows.{pred-kept}
+use Rattle.candidate_ir.specs.Syntax.Words.{env_forest, pred_tree}
+use Rattle.candidate_eval.proofs.Interface.Accounts.{by-stop, reaches, somehow-later}
+use Rattle.candidate_eval.proofs.Dynamic.Objects.{env-kept}
+use Rattle.candidate_eval.proofs.Interface.Probing.{then}
+use Rattle.candidate_assembly.specs.Calls.Upcasting.{IsRulePred, meets_projection, row_under}
+use Rattle.candidate_assembly.proofs.Calls.Causes.{answered-error}
+use Rattle.candidate_assembly.proofs.Upcasting.UpcastMatches.{met-then}
+use Rattle.candidate_assembly.proofs.Upcasting.UpcastMet.{found-one, none-met, only-met, only-refused, several-met}
+use Rattle.candidate_assembly.proofs.Upcasting.UpcastRows.{pred-kept}
 use Rattle.candidate_assembly.proofs.trait_goals.upcasting.meet_projection.Goals as goal
 
 pub returns-in-empty-clause-met : goal.returns-in-empty-clause-met

@@ -1,12 +1,12 @@
 use Rattle.std.proofs.Common.{refl, ap, ◌∙◌}
 use Rattle.std.proofs.lemmas.Result.{err_from_is_err_and}
-use Rattle.candidate_ir.specs.Opening.{opened}
-use Rattle.candidate_ir.proofs.Kept.{args-kept}
-use Rattle.candidate_eval.specs.States.{State, fresh_variables, with_fresh_variables}
-use Rattle.candidate_assembly.specs.Upcasting.{Row, row_at}
-use Rattle.candidate_eval.proofs.Accounts.{reaches, somehow, somehow-later}
-use Rattle.candidate_eval.proofs.Probing.{then}
-use Rattle.candidate_assembly.proofs.UpcastRows.{row-kept}
+use Rattle.candidate_ir.specs.Instantiation.Opening.{opened}
+use Rattle.candidate_ir.proofs.Growth.Kept.{args-kept}
+use Rattle.candidate_eval.specs.Judges.States.{State, fresh_variables, with_fresh_variables}
+use Rattle.candidate_assembly.specs.Calls.Upcasting.{Row, row_at}
+use Rattle.candidate_eval.proofs.Interface.Accounts.{reaches, somehow, somehow-later}
+use Rattle.candidate_eval.proofs.Interface.Probing.{then}
+use Rattle.candidate_assembly.proofs.Upcasting.UpcastRows.{row-kept}
 use Rattle.candidate_assembly.proofs.trait_goals.upcasting.open_rows.Goals as goal
 
 pub returns-in_err-entered-clause-cause : goal.returns-in_err-entered-clause-cause

@@ -1,7 +1,7 @@
 use Rattle.std.proofs.Common.{◌∙◌, sym}
 use Rattle.std.proofs.lemmas.List.Elements.{All-get_or}
-use Rattle.candidate_ir.specs.Words.{IsPred, pred_tree}
-use Rattle.candidate_assembly.proofs.UpcastParts.{no-principal-among, principal-here, principal-on}
+use Rattle.candidate_ir.specs.Syntax.Words.{IsPred, pred_tree}
+use Rattle.candidate_assembly.proofs.Upcasting.UpcastParts.{no-principal-among, principal-here, principal-on}
 use Rattle.candidate_assembly.proofs.trait_goals.upcasting.principal_bound.Goals as goal
 
 pub is_principal-requires : goal.is_principal-requires

@@ -1,6 +1,6 @@
 use Rattle.std.proofs.Common.{◌≡◌, drop, map}
-use Rattle.candidate_ir.specs.Words.{pred_tree}
-use Rattle.candidate_assembly.proofs.UpcastParts.{principal-among}
+use Rattle.candidate_ir.specs.Syntax.Words.{pred_tree}
+use Rattle.candidate_assembly.proofs.Upcasting.UpcastParts.{principal-among}
 use Rattle.candidate_assembly.proofs.trait_goals.upcasting.principal_bound.Given as goal
 
 -- none of the bounds before is the principal

@@ -1,4 +1,4 @@
-use Rattle.candidate_assembly.proofs.UpcastRows.{reference-read}
+use Rattle.candidate_assembly.proofs.Upcasting.UpcastRows.{reference-read}
 use Rattle.candidate_assembly.proofs.trait_goals.upcasting.principal_of.Goals as goal
 
 pub returns-in-Trait : goal.returns-in-Trait

@@ -1,4 +1,4 @@
-use Rattle.candidate_assembly.proofs.UpcastRows.{pred-kept, rest-made, row-of-bound, row-of-kept}
+use Rattle.candidate_assembly.proofs.Upcasting.UpcastRows.{pred-kept, rest-made, row-of-bound, row-of-kept}
 use Rattle.candidate_assembly.proofs.trait_goals.upcasting.principal_rows.Goals as goal
 
 pub bound_row-requires : goal.bound_row-requires

@@ -1,13 +1,13 @@
 use Rattle.std.proofs.Common.{None, Some, ap, map, subst}
 use Rattle.std.proofs.lemmas.Result.{err_from_is_err_and}
-use Rattle.candidate_ir.specs.Context.{Context}
-use Rattle.candidate_ir.specs.WellFormed.{IsWellFormedTable}
-use Rattle.candidate_ir.specs.Words.{clause_tree, pred_tree, ty_tree}
-use Rattle.candidate_ir.proofs.Kept.{grows-trans}
-use Rattle.candidate_ir.proofs.Made.{IsClause-listed}
-use Rattle.candidate_eval.proofs.StopKinds.{elaboration_making}
-use Rattle.candidate_assembly.proofs.ToDyn.{no-some}
-use Rattle.candidate_assembly.proofs.UpcastParts.{no-supers-are, principal-found, principal-stands, supers-are, supers-stand}
+use Rattle.candidate_ir.specs.Declarations.Context.{Context}
+use Rattle.candidate_ir.specs.Validity.WellFormed.{IsWellFormedTable}
+use Rattle.candidate_ir.specs.Syntax.Words.{clause_tree, pred_tree, ty_tree}
+use Rattle.candidate_ir.proofs.Growth.Kept.{grows-trans}
+use Rattle.candidate_ir.proofs.Growth.Made.{IsClause-listed}
+use Rattle.candidate_eval.proofs.Interface.StopKinds.{elaboration_making}
+use Rattle.candidate_assembly.proofs.Unsizing.ToDyn.{no-some}
+use Rattle.candidate_assembly.proofs.Upcasting.UpcastParts.{no-supers-are, principal-found, principal-stands, supers-are, supers-stand}
 use Rattle.candidate_assembly.proofs.trait_goals.upcasting.principal_supertraits.Goals as goal
 
 pub returns-in_default-clause-are : goal.returns-in_default-clause-are

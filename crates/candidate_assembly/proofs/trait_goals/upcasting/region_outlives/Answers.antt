@@ -1,12 +1,12 @@
 use Rattle.std.proofs.Common.{◌∙◌, ap}
 use Rattle.candidate_ir.specs.declared.ir.heads.ClauseHead.TheVariants.{RegionOutlives}
-use Rattle.candidate_ir.specs.Trees.{Tree}
-use Rattle.candidate_ir.specs.Words.{region_tree}
-use Rattle.candidate_ir.proofs.Kept.{grows-trans}
-use Rattle.candidate_assembly.specs.Unsizing.{outlives}
-use Rattle.candidate_assembly.proofs.Causes.{so-ok}
-use Rattle.candidate_assembly.proofs.DynRequirements.{region-still}
-use Rattle.candidate_assembly.proofs.UpcastParts.{regions-fits, regions-is, regions-takes}
+use Rattle.candidate_ir.specs.Syntax.Trees.{Tree}
+use Rattle.candidate_ir.specs.Syntax.Words.{region_tree}
+use Rattle.candidate_ir.proofs.Growth.Kept.{grows-trans}
+use Rattle.candidate_assembly.specs.Rules.Unsizing.{outlives}
+use Rattle.candidate_assembly.proofs.Calls.Causes.{so-ok}
+use Rattle.candidate_assembly.proofs.Unsizing.DynRequirements.{region-still}
+use Rattle.candidate_assembly.proofs.Upcasting.UpcastParts.{regions-fits, regions-is, regions-takes}
 use Rattle.candidate_assembly.proofs.trait_goals.upcasting.region_outlives.Goals as goal
 
 pub mk_clause-requires-clause-fits : goal.mk_clause-requires-clause-fits

@@ -1,20 +1,20 @@
 use Rattle.std.proofs.Common.{[], ◌∷◌, Ok, Err, map, sym, subst}
 use Rattle.std.specs.Prelude.{option_map}
 use Rattle.std.proofs.lemmas.Result.{err_from_is_err_and}
-use Rattle.candidate_ir.specs.Words.{clause_tree, env_forest, pred_tree}
+use Rattle.candidate_ir.specs.Syntax.Words.{clause_tree, env_forest, pred_tree}
 use Rattle.candidate_eval.specs.declared.eval.certainty.Certainty.TheVariants.{Yes}
-use Rattle.candidate_eval.specs.Judging.{judged}
-use Rattle.candidate_eval.specs.Rules.{ask, nested}
-use Rattle.candidate_eval.proofs.Accounts.{by-stop, reaches}
-use Rattle.candidate_eval.proofs.Objects.{env-kept}
-use Rattle.candidate_eval.proofs.Probing.{then}
-use Rattle.candidate_ir.proofs.Joining.{clause-kept}
-use Rattle.candidate_assembly.specs.Telling.{Told}
-use Rattle.candidate_assembly.specs.Unsizing.{bounds_met}
-use Rattle.candidate_assembly.specs.Upcasting.{upcast_by}
-use Rattle.candidate_assembly.proofs.Causes.{answered-error, caused, later, somehow-here}
-use Rattle.candidate_assembly.proofs.Stepping.{somehow-own, told-error}
-use Rattle.candidate_assembly.proofs.UpcastRules.{met-read, one-clause, upcast-told}
+use Rattle.candidate_eval.specs.Derivations.Judging.{judged}
+use Rattle.candidate_eval.specs.Derivations.Rules.{ask, nested}
+use Rattle.candidate_eval.proofs.Interface.Accounts.{by-stop, reaches}
+use Rattle.candidate_eval.proofs.Dynamic.Objects.{env-kept}
+use Rattle.candidate_eval.proofs.Interface.Probing.{then}
+use Rattle.candidate_ir.proofs.Instantiation.Joining.{clause-kept}
+use Rattle.candidate_assembly.specs.Answers.Telling.{Told}
+use Rattle.candidate_assembly.specs.Rules.Unsizing.{bounds_met}
+use Rattle.candidate_assembly.specs.Calls.Upcasting.{upcast_by}
+use Rattle.candidate_assembly.proofs.Calls.Causes.{answered-error, caused, later, somehow-here}
+use Rattle.candidate_assembly.proofs.Calls.Stepping.{somehow-own, told-error}
+use Rattle.candidate_assembly.proofs.Upcasting.UpcastRules.{met-read, one-clause, upcast-told}
 use Rattle.candidate_assembly.proofs.trait_goals.upcasting.try_upcast.Goals as goal
 
 pub returns-in_err-meet_bounds-clause-told : goal.returns-in_err-meet_bounds-clause-told

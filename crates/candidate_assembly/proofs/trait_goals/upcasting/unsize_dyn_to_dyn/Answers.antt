@@ -1,25 +1,25 @@
 use Rattle.std.proofs.Common.{rules, ◌≡◌, [], ◌∷◌, Err, length, map, false, true, subst, sym, ap, ◌∙◌}
 use Rattle.std.specs.Prelude.{IfSome, option_map}
 use Rattle.std.proofs.lemmas.Result.{err_from_is_err_and}
-use Rattle.candidate_ir.specs.Context.{Context}
-use Rattle.candidate_ir.specs.Trees.{Tree}
-use Rattle.candidate_ir.specs.Words.{args_forest, clause_tree, env_forest, ty_tree}
-use Rattle.candidate_eval.specs.Evaluators.{Keeps}
-use Rattle.candidate_eval.specs.Mentions.{IsBelow}
-use Rattle.candidate_eval.specs.ObjectRequirements.{first_tree}
-use Rattle.candidate_eval.specs.Replacing.{without_first}
-use Rattle.candidate_eval.specs.States.{Env}
-use Rattle.candidate_eval.proofs.Objects.{env-kept}
-use Rattle.candidate_eval.proofs.Probing.{made}
-use Rattle.candidate_assembly.specs.BuiltinRules.{misc, self_of}
-use Rattle.candidate_assembly.specs.DynBounds.{first_listed, principal_in}
-use Rattle.candidate_assembly.specs.TraitGoals.{trait_goal}
-use Rattle.candidate_assembly.specs.Unsizing.{keeps_principal, IsUnsizedTo}
-use Rattle.candidate_assembly.specs.Upcasting.{IsRuleClause, IsUpcast, IsUpcastOf, upcast_by, upcasts_by}
-use Rattle.candidate_assembly.proofs.Considering.{considers-after}
-use Rattle.candidate_assembly.proofs.Listing.{candidates-kept, one-listed, whole_list}
-use Rattle.candidate_assembly.proofs.UnsizedRows.{listed-as}
-use Rattle.candidate_assembly.proofs.UpcastLists.{as-many-there, env-low, first-there, first-tree, listed-later, not-made-list, rule-only, rules-proper, source-stands, target-stands, unsized-by}
+use Rattle.candidate_ir.specs.Declarations.Context.{Context}
+use Rattle.candidate_ir.specs.Syntax.Trees.{Tree}
+use Rattle.candidate_ir.specs.Syntax.Words.{args_forest, clause_tree, env_forest, ty_tree}
+use Rattle.candidate_eval.specs.Interface.Evaluators.{Keeps}
+use Rattle.candidate_eval.specs.Derivations.Mentions.{IsBelow}
+use Rattle.candidate_eval.specs.Dynamic.ObjectRequirements.{first_tree}
+use Rattle.candidate_eval.specs.Dynamic.Replacing.{without_first}
+use Rattle.candidate_eval.specs.Judges.States.{Env}
+use Rattle.candidate_eval.proofs.Dynamic.Objects.{env-kept}
+use Rattle.candidate_eval.proofs.Interface.Probing.{made}
+use Rattle.candidate_assembly.specs.Rules.BuiltinRules.{misc, self_of}
+use Rattle.candidate_assembly.specs.Rules.DynBounds.{first_listed, principal_in}
+use Rattle.candidate_assembly.specs.Goals.TraitGoals.{trait_goal}
+use Rattle.candidate_assembly.specs.Rules.Unsizing.{keeps_principal, IsUnsizedTo}
+use Rattle.candidate_assembly.specs.Calls.Upcasting.{IsRuleClause, IsUpcast, IsUpcastOf, upcast_by, upcasts_by}
+use Rattle.candidate_assembly.proofs.Calls.Considering.{considers-after}
+use Rattle.candidate_assembly.proofs.Lists.Listing.{candidates-kept, one-listed, whole_list}
+use Rattle.candidate_assembly.proofs.Unsizing.UnsizedRows.{listed-as}
+use Rattle.candidate_assembly.proofs.Upcasting.UpcastLists.{as-many-there, env-low, first-there, first-tree, listed-later, not-made-list, rule-only, rules-proper, source-stands, target-stands, unsized-by}
 use Rattle.candidate_assembly.proofs.trait_goals.upcasting.unsize_dyn_to_dyn.Goals as goal
 
 pub returns-in_err-upcast : goal.returns-in_err-upcast

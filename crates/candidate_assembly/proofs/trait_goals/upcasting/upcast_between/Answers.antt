@@ -1,9 +1,9 @@
 use Rattle.std.proofs.Common.{◌∙◌}
-use Rattle.candidate_ir.specs.Words.{clause_tree, ty_tree}
-use Rattle.candidate_ir.proofs.Kept.{grows-trans}
-use Rattle.candidate_eval.proofs.Required.{preds_read}
-use Rattle.candidate_assembly.proofs.DynRequirements.{region-still}
-use Rattle.candidate_assembly.proofs.UpcastParts.{between-is, listed-bounds, lives-read, parts-read}
+use Rattle.candidate_ir.specs.Syntax.Words.{clause_tree, ty_tree}
+use Rattle.candidate_ir.proofs.Growth.Kept.{grows-trans}
+use Rattle.candidate_eval.proofs.Dynamic.Required.{preds_read}
+use Rattle.candidate_assembly.proofs.Unsizing.DynRequirements.{region-still}
+use Rattle.candidate_assembly.proofs.Upcasting.UpcastParts.{between-is, listed-bounds, lives-read, parts-read}
 use Rattle.candidate_assembly.proofs.trait_goals.upcasting.upcast_between.Goals as goal
 
 pub principal_supertraits-requires-clause-bounds : goal.principal_supertraits-requires-clause-bounds

@@ -1,12 +1,12 @@
 use Rattle.std.proofs.Common.{◌≡◌, ◌++◌, ◌∷◌, [], List, ap, subst, ◌∙◌}
 use Rattle.candidate_ir.specs.declared.ir.kinds.GenericArg.{GenericArg}
 use Rattle.candidate_ir.specs.declared.ir.kinds.GenericArg.TheVariants.{Ty}
-use Rattle.candidate_ir.specs.Context.{Context}
-use Rattle.candidate_ir.specs.Substitutions.{alone}
-use Rattle.candidate_ir.specs.Trees.{Forest, join}
-use Rattle.candidate_ir.specs.Words.{ListFits, args_forest, list_forest, ty_tree}
-use Rattle.candidate_assembly.proofs.Causes.{so-ok}
-use Rattle.candidate_assembly.proofs.UpcastRows.{pushed-fits, pushed-trees}
+use Rattle.candidate_ir.specs.Declarations.Context.{Context}
+use Rattle.candidate_ir.specs.Unification.Substitutions.{alone}
+use Rattle.candidate_ir.specs.Syntax.Trees.{Forest, join}
+use Rattle.candidate_ir.specs.Syntax.Words.{ListFits, args_forest, list_forest, ty_tree}
+use Rattle.candidate_assembly.proofs.Calls.Causes.{so-ok}
+use Rattle.candidate_assembly.proofs.Upcasting.UpcastRows.{pushed-fits, pushed-trees}
 use Rattle.candidate_assembly.proofs.trait_goals.upcasting.with_term.Goals as goal
 
 -- the list that was copied, and the type after it

@@ -1,8 +1,8 @@
 use Rattle.std.proofs.Common.{◌≡◌, subst, ◌∙◌, ap, sym}
-use Rattle.candidate_ir.specs.Context.{Context}
-use Rattle.candidate_ir.specs.Words.{ListFits, args_forest, list_forest}
-use Rattle.candidate_assembly.proofs.Causes.{so-ok}
-use Rattle.candidate_assembly.proofs.UpcastRows.{rest-trees}
+use Rattle.candidate_ir.specs.Declarations.Context.{Context}
+use Rattle.candidate_ir.specs.Syntax.Words.{ListFits, args_forest, list_forest}
+use Rattle.candidate_assembly.proofs.Calls.Causes.{so-ok}
+use Rattle.candidate_assembly.proofs.Upcasting.UpcastRows.{rest-trees}
 use Rattle.candidate_assembly.proofs.trait_goals.upcasting.without_self.Goals as goal
 
 pub returns-in-len1-up-clause-trees : goal.returns-in-len1-up-clause-trees

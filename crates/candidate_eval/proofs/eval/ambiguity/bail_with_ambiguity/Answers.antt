@@ -1,10 +1,10 @@
 use Rattle.std.proofs.Common.{rules, ◌≡◌, ◌∙◌, ap, sym, [], Some}
 use Rattle.candidate_eval.specs.declared.eval.refusal.NoSolutionOrStop.TheVariants.{NoSolution}
-use Rattle.candidate_eval.specs.Certainties.{AMBIGUOUS}
-use Rattle.candidate_eval.specs.ResponseTrees.{response_of}
-use Rattle.candidate_eval.specs.States.{with_pending}
-use Rattle.candidate_eval.proofs.Probing.{alike-probe, keeps-probe, of-error}
-use Rattle.candidate_eval.proofs.Responding.{response-fits, response-kept, not-refused, as-asked, of-state}
+use Rattle.candidate_eval.specs.Outcomes.Certainties.{AMBIGUOUS}
+use Rattle.candidate_eval.specs.Outcomes.ResponseTrees.{response_of}
+use Rattle.candidate_eval.specs.Judges.States.{with_pending}
+use Rattle.candidate_eval.proofs.Interface.Probing.{alike-probe, keeps-probe, of-error}
+use Rattle.candidate_eval.proofs.Outcomes.Responding.{response-fits, response-kept, not-refused, as-asked, of-state}
 use Rattle.candidate_eval.proofs.eval.ambiguity.bail_with_ambiguity.Goals as goal
 
 pub returns-in-Ok-clause-kept : goal.returns-in-Ok-clause-kept

@@ -1,11 +1,11 @@
 use Rattle.std.proofs.Common.{◌∙◌, refl, sym}
 use Rattle.std.proofs.lemmas.Result.{IfOk-weaker, err_from_is_err_and}
-use Rattle.candidate_ir.specs.Nodes.{tree_at}
-use Rattle.candidate_ir.proofs.Kept.{number-kept}
-use Rattle.candidate_ir.proofs.Lists.{below_kind}
-use Rattle.candidate_eval.proofs.Declared.{opened-kept, opened-list-kept, opened-row-kept}
-use Rattle.candidate_eval.proofs.Probing.{made, on-ok, then}
-use Rattle.candidate_eval.proofs.Accounts.{reaches, stays-there, stops-later, unmade-result}
+use Rattle.candidate_ir.specs.Syntax.Nodes.{tree_at}
+use Rattle.candidate_ir.proofs.Growth.Kept.{number-kept}
+use Rattle.candidate_ir.proofs.Syntax.Lists.{below_kind}
+use Rattle.candidate_eval.proofs.Marks.Declared.{opened-kept, opened-list-kept, opened-row-kept}
+use Rattle.candidate_eval.proofs.Interface.Probing.{made, on-ok, then}
+use Rattle.candidate_eval.proofs.Interface.Accounts.{reaches, stays-there, stops-later, unmade-result}
 use Rattle.candidate_eval.proofs.eval.binders.enter_binder.Goals as goal
 
 pub replace_bound_vars-requires-clause-under : goal.replace_bound_vars-requires-clause-under

@@ -1,17 +1,17 @@
-use Rattle.candidate_eval.proofs.Probing.{made, on-ok, then}
+use Rattle.candidate_eval.proofs.Interface.Probing.{made, on-ok, then}
 use Rattle.std.proofs.Common.{◌≡◌, ◌∙◌, ap, refl, subst}
-use Rattle.candidate_ir.specs.Context.{Context}
-use Rattle.candidate_eval.specs.Characterization.{bound_kinds}
+use Rattle.candidate_ir.specs.Declarations.Context.{Context}
+use Rattle.candidate_eval.specs.Derivations.Characterization.{bound_kinds}
 use Rattle.std.proofs.lemmas.Result.{IfOk-weaker, err_from_is_err_and}
-use Rattle.candidate_ir.specs.Opening.{opened_clause}
-use Rattle.candidate_ir.specs.Trees.{Forest}
-use Rattle.candidate_ir.specs.Words.{clause_tree}
-use Rattle.candidate_ir.proofs.Joining.{clause-kept}
-use Rattle.candidate_eval.specs.Evaluators.{kinds_listed, rigid, with_rigid}
-use Rattle.candidate_eval.proofs.Objects.{kinds-read}
-use Rattle.candidate_ir.specs.Substitutions.{alone}
-use Rattle.candidate_eval.proofs.Accounts.{accounted-here, reaches, unmade-result}
-use Rattle.candidate_eval.specs.Accounts.StopsBy.{accounted, no_memory}
+use Rattle.candidate_ir.specs.Instantiation.Opening.{opened_clause}
+use Rattle.candidate_ir.specs.Syntax.Trees.{Forest}
+use Rattle.candidate_ir.specs.Syntax.Words.{clause_tree}
+use Rattle.candidate_ir.proofs.Instantiation.Joining.{clause-kept}
+use Rattle.candidate_eval.specs.Interface.Evaluators.{kinds_listed, rigid, with_rigid}
+use Rattle.candidate_eval.proofs.Dynamic.Objects.{kinds-read}
+use Rattle.candidate_ir.specs.Unification.Substitutions.{alone}
+use Rattle.candidate_eval.proofs.Interface.Accounts.{accounted-here, reaches, unmade-result}
+use Rattle.candidate_eval.specs.Interface.Accounts.StopsBy.{accounted, no_memory}
 use Rattle.candidate_eval.proofs.eval.binders.enter_clause.Goals as goal
 
 pub open_clause-requires-clause-clause : goal.open_clause-requires-clause-clause

@@ -1,13 +1,13 @@
 use Rattle.std.proofs.Common.{◌≡◌, ◌∙◌, ap, subst}
 use Rattle.std.proofs.lemmas.Result.{IfErr-weaker, IfOk-weaker, err_from_is_err_and, on_ok_weaker}
-use Rattle.candidate_ir.specs.Context.{Context}
-use Rattle.candidate_ir.specs.Words.{vars_tree}
-use Rattle.candidate_eval.specs.Characterization.{binder_kinds}
-use Rattle.candidate_eval.specs.Evaluators.{kinds_listed}
-use Rattle.candidate_eval.specs.States.{fresh_variables, with_fresh_variables}
-use Rattle.candidate_eval.proofs.Objects.{variables-read}
-use Rattle.candidate_eval.proofs.Accounts.{accounted-here, reaches}
-use Rattle.candidate_eval.specs.Accounts.StopsBy.{accounted, no_memory}
+use Rattle.candidate_ir.specs.Declarations.Context.{Context}
+use Rattle.candidate_ir.specs.Syntax.Words.{vars_tree}
+use Rattle.candidate_eval.specs.Derivations.Characterization.{binder_kinds}
+use Rattle.candidate_eval.specs.Interface.Evaluators.{kinds_listed}
+use Rattle.candidate_eval.specs.Judges.States.{fresh_variables, with_fresh_variables}
+use Rattle.candidate_eval.proofs.Dynamic.Objects.{variables-read}
+use Rattle.candidate_eval.proofs.Interface.Accounts.{accounted-here, reaches}
+use Rattle.candidate_eval.specs.Interface.Accounts.StopsBy.{accounted, no_memory}
 use Rattle.candidate_eval.proofs.eval.binders.fresh_args_for_binder.Goals as goal
 
 pub returns-clause-state : goal.returns-clause-state

@@ -1,9 +1,9 @@
 use Rattle.std.proofs.Common.{refl, ◌∙◌}
 use Rattle.std.proofs.lemmas.Result.{err_from_is_err_and}
-use Rattle.candidate_ir.specs.Words.{ty_tree}
-use Rattle.candidate_ir.proofs.Kept.{args-kept, grows-trans, ty-kept}
-use Rattle.candidate_eval.proofs.Declared.{opened-kept}
-use Rattle.candidate_eval.proofs.StopKinds.{subst_making}
+use Rattle.candidate_ir.specs.Syntax.Words.{ty_tree}
+use Rattle.candidate_ir.proofs.Growth.Kept.{args-kept, grows-trans, ty-kept}
+use Rattle.candidate_eval.proofs.Marks.Declared.{opened-kept}
+use Rattle.candidate_eval.proofs.Interface.StopKinds.{subst_making}
 use Rattle.candidate_eval.proofs.eval.binders.open_signature.Goals as goal
 
 pub returns-clause-grows : goal.returns-clause-grows

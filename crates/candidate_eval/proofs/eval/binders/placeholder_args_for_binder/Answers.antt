@@ -1,12 +1,12 @@
 use Rattle.std.proofs.Common.{◌≡◌, ◌∙◌, ap, subst}
 use Rattle.std.proofs.lemmas.Result.{IfErr-weaker, IfOk-weaker, err_from_is_err_and, on_ok_weaker}
-use Rattle.candidate_ir.specs.Context.{Context}
-use Rattle.candidate_ir.specs.Words.{vars_tree}
-use Rattle.candidate_eval.specs.Characterization.{binder_kinds}
-use Rattle.candidate_eval.specs.Evaluators.{kinds_listed, rigid, with_rigid}
-use Rattle.candidate_eval.proofs.Objects.{variables-read}
-use Rattle.candidate_eval.proofs.Accounts.{accounted-here, reaches}
-use Rattle.candidate_eval.specs.Accounts.StopsBy.{accounted, no_memory}
+use Rattle.candidate_ir.specs.Declarations.Context.{Context}
+use Rattle.candidate_ir.specs.Syntax.Words.{vars_tree}
+use Rattle.candidate_eval.specs.Derivations.Characterization.{binder_kinds}
+use Rattle.candidate_eval.specs.Interface.Evaluators.{kinds_listed, rigid, with_rigid}
+use Rattle.candidate_eval.proofs.Dynamic.Objects.{variables-read}
+use Rattle.candidate_eval.proofs.Interface.Accounts.{accounted-here, reaches}
+use Rattle.candidate_eval.specs.Interface.Accounts.StopsBy.{accounted, no_memory}
 use Rattle.candidate_eval.proofs.eval.binders.placeholder_args_for_binder.Goals as goal
 
 pub returns-clause-state : goal.returns-clause-state

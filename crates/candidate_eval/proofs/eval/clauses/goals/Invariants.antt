@@ -1,5 +1,5 @@
 use Rattle.std.proofs.Common.{◌≡◌, take}
-use Rattle.candidate_eval.specs.ObjectRequirements.{goals_in}
+use Rattle.candidate_eval.specs.Dynamic.ObjectRequirements.{goals_in}
 use Rattle.candidate_eval.proofs.eval.clauses.goals.Given as goal
 
 abbrev pub invariant-loop-clause : goal.invariant-loop-clause

@@ -1,4 +1,4 @@
-use Rattle.candidate_eval.proofs.ObjectCandidates.{predicate-read}
+use Rattle.candidate_eval.proofs.Dynamic.ObjectCandidates.{predicate-read}
 use Rattle.candidate_eval.proofs.eval.clauses.predicate_in.Goals as goal
 
 pub returns-in-Trait-clause-fits : goal.returns-in-Trait-clause-fits

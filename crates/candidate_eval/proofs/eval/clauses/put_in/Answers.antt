@@ -1,4 +1,4 @@
-use Rattle.candidate_eval.proofs.Probing.{made}
+use Rattle.candidate_eval.proofs.Interface.Probing.{made}
 use Rattle.candidate_eval.proofs.eval.clauses.put_in.Goals as goal
 
 pub returns-clause-kept : goal.returns-clause-kept

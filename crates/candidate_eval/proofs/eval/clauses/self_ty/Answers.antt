@@ -1,6 +1,6 @@
 use Rattle.std.proofs.Common.{sym, ◌∙◌}
-use Rattle.candidate_eval.proofs.ObjectCandidates.{first-is, first-there}
-use Rattle.candidate_eval.proofs.Replacing.{first-fits}
+use Rattle.candidate_eval.proofs.Dynamic.ObjectCandidates.{first-is, first-there}
+use Rattle.candidate_eval.proofs.Dynamic.Replacing.{first-fits}
 use Rattle.candidate_eval.proofs.eval.clauses.self_ty.Goals as goal
 
 pub unreachable-requires : goal.unreachable-requires

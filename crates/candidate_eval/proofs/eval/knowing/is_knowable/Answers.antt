@@ -1,7 +1,7 @@
 use Rattle.std.proofs.Common.{rules, ◌≡◌, refl}
-use Rattle.candidate_eval.specs.Knowing.{NormalizesAsJudged}
-use Rattle.candidate_eval.proofs.Objects.{env-kept}
-use Rattle.candidate_eval.proofs.Knowing.{lead-judged, left-stop, knows-as-judged}
+use Rattle.candidate_eval.specs.Interface.Knowing.{NormalizesAsJudged}
+use Rattle.candidate_eval.proofs.Dynamic.Objects.{env-kept}
+use Rattle.candidate_eval.proofs.Interface.Knowing.{lead-judged, left-stop, knows-as-judged}
 use Rattle.candidate_eval.proofs.eval.knowing.is_knowable.Goals as goal
 
 pub knowable-requires-clause-normaliser : goal.knowable-requires-clause-normaliser

@@ -1,6 +1,6 @@
-use Rattle.candidate_ir.specs.Words.{env_forest, ty_tree}
-use Rattle.candidate_eval.specs.Accounts.{Question}
-use Rattle.candidate_eval.proofs.Knowing.{stopped-as-judged}
+use Rattle.candidate_ir.specs.Syntax.Words.{env_forest, ty_tree}
+use Rattle.candidate_eval.specs.Interface.Accounts.{Question}
+use Rattle.candidate_eval.proofs.Interface.Knowing.{stopped-as-judged}
 use Rattle.candidate_eval.proofs.eval.knowing.normal_form.Goals as goal
 
 pub returns-in-Err-Stop : goal.returns-in-Err-Stop

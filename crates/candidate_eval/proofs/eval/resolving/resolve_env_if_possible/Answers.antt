@@ -1,17 +1,17 @@
 use Rattle.std.proofs.Common.{rules, ◌≡◌, ◌≤◌, ◌∷◌, [], ◌++◌, length, ◌∙◌, ap}
-use Rattle.candidate_ir.proofs.Joining.{clause-kept}
-use Rattle.candidate_ir.proofs.Made.{IsClause-listed}
+use Rattle.candidate_ir.proofs.Instantiation.Joining.{clause-kept}
+use Rattle.candidate_ir.proofs.Growth.Made.{IsClause-listed}
 use Rattle.std.proofs.lemmas.Result.{IfErr-weaker, IfOk-weaker, err_from_is_err_and}
 use Rattle.std.specs.Prelude.{slice_index_or}
 use Rattle.candidate_ir.specs.declared.ir.kinds.Clause.{Clause}
-use Rattle.candidate_ir.specs.Words.{clause_list_forest, clause_tree}
-use Rattle.candidate_eval.specs.States.{resolved}
-use Rattle.candidate_eval.proofs.Probing.{made, then}
-use Rattle.candidate_eval.proofs.Required.{all_gathered, more_gathered, pushed_fit, pushed_trees}
-use Rattle.candidate_eval.proofs.Resolving.{one-resolved, read-env, resolved-env, resolved_one}
-use Rattle.candidate_eval.proofs.StopKinds.{mk_making}
-use Rattle.candidate_eval.proofs.Accounts.{accounted-here, reaches, somehow-later}
-use Rattle.candidate_eval.specs.Accounts.StopsSomehow.{asking, making}
+use Rattle.candidate_ir.specs.Syntax.Words.{clause_list_forest, clause_tree}
+use Rattle.candidate_eval.specs.Judges.States.{resolved}
+use Rattle.candidate_eval.proofs.Interface.Probing.{made, then}
+use Rattle.candidate_eval.proofs.Dynamic.Required.{all_gathered, more_gathered, pushed_fit, pushed_trees}
+use Rattle.candidate_eval.proofs.Interface.Resolving.{one-resolved, read-env, resolved-env, resolved_one}
+use Rattle.candidate_eval.proofs.Interface.StopKinds.{mk_making}
+use Rattle.candidate_eval.proofs.Interface.Accounts.{accounted-here, reaches, somehow-later}
+use Rattle.candidate_eval.specs.Interface.Accounts.StopsSomehow.{asking, making}
 use Rattle.candidate_eval.proofs.eval.resolving.resolve_env_if_possible.Goals as goal
 
 pub resolve_clause_if_possible-requires : goal.resolve_clause_if_possible-requires

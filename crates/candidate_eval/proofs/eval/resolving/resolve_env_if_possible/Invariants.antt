@@ -1,8 +1,8 @@
 use Rattle.std.proofs.Common.{◌≡◌, [], take}
 use Rattle.std.specs.List.{flat_map}
-use Rattle.candidate_eval.specs.Evaluators.{Keeps}
-use Rattle.candidate_eval.proofs.Required.{AddedSoFar}
-use Rattle.candidate_eval.proofs.Resolving.{resolved_one}
+use Rattle.candidate_eval.specs.Interface.Evaluators.{Keeps}
+use Rattle.candidate_eval.proofs.Dynamic.Required.{AddedSoFar}
+use Rattle.candidate_eval.proofs.Interface.Resolving.{resolved_one}
 use Rattle.candidate_eval.proofs.eval.resolving.resolve_env_if_possible.Given as goal
 
 -- the clauses before were resolved

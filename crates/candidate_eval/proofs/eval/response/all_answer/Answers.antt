@@ -1,5 +1,5 @@
 use Rattle.std.proofs.Common.{sym, ◌∙◌}
-use Rattle.candidate_eval.proofs.Merging.{answer_out, answer_on}
+use Rattle.candidate_eval.proofs.Outcomes.Merging.{answer_out, answer_on}
 use Rattle.candidate_eval.proofs.eval.response.all_answer.Goals as goal
 
 pub returns-then-not-same_response : goal.returns-then-not-same_response

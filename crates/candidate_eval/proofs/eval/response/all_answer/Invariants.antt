@@ -1,6 +1,6 @@
 use Rattle.std.proofs.Common.{◌≡◌, drop}
-use Rattle.candidate_eval.specs.Merging.{all_answer}
-use Rattle.candidate_eval.specs.ResponseTrees.{response_of, candidates_of}
+use Rattle.candidate_eval.specs.Outcomes.Merging.{all_answer}
+use Rattle.candidate_eval.specs.Outcomes.ResponseTrees.{response_of, candidates_of}
 use Rattle.candidate_eval.proofs.eval.response.all_answer.Given as goal
 
 -- the candidates before have the response

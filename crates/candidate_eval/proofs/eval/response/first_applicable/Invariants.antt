@@ -1,6 +1,6 @@
 use Rattle.std.proofs.Common.{◌≡◌, drop}
-use Rattle.candidate_eval.specs.Merging.{first_applicable}
-use Rattle.candidate_eval.specs.ResponseTrees.{candidates_of}
+use Rattle.candidate_eval.specs.Outcomes.Merging.{first_applicable}
+use Rattle.candidate_eval.specs.Outcomes.ResponseTrees.{candidates_of}
 use Rattle.candidate_eval.proofs.eval.response.first_applicable.Given as goal
 
 -- none before is always applicable

@@ -1,7 +1,7 @@
 use Rattle.std.proofs.Common.{sym, ap, ◌∙◌}
-use Rattle.candidate_ir.proofs.Members.{member-kind}
-use Rattle.candidate_eval.specs.Responses.{are_open}
-use Rattle.candidate_eval.proofs.Merging.{open_out}
+use Rattle.candidate_ir.proofs.Syntax.Members.{member-kind}
+use Rattle.candidate_eval.specs.Outcomes.Responses.{are_open}
+use Rattle.candidate_eval.proofs.Outcomes.Merging.{open_out}
 use Rattle.candidate_eval.proofs.eval.response.has_only_region_constraints.Goals as goal
 
 pub is_number-requires : goal.is_number-requires

@@ -1,7 +1,7 @@
 use Rattle.std.proofs.Common.{◌<◌, length}
 use Rattle.candidate_ir.specs.declared.ir.kinds.Clause.{Clause}
-use Rattle.candidate_ir.specs.Words.{clause_tree}
-use Rattle.candidate_eval.proofs.Pairs.{clause_there, place_differs, all_places}
+use Rattle.candidate_ir.specs.Syntax.Words.{clause_tree}
+use Rattle.candidate_eval.proofs.Outcomes.Pairs.{clause_there, place_differs, all_places}
 use Rattle.candidate_eval.proofs.eval.response.same_clauses.Goals as goal
 
 pub same-requires-clause-a : goal.same-requires-clause-a

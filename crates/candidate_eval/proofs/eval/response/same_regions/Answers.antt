@@ -1,4 +1,4 @@
-use Rattle.candidate_eval.proofs.Equal.{row_says}
+use Rattle.candidate_eval.proofs.Outcomes.Equal.{row_says}
 use Rattle.candidate_eval.proofs.eval.response.same_regions.Goals as goal
 
 pub returns : goal.returns

@@ -1,4 +1,4 @@
-use Rattle.candidate_eval.proofs.Equal.{lists_say}
+use Rattle.candidate_eval.proofs.Outcomes.Equal.{lists_say}
 use Rattle.candidate_eval.proofs.eval.response.same_values.Goals as goal
 
 pub returns : goal.returns

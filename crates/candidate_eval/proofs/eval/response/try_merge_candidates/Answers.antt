@@ -1,4 +1,4 @@
-use Rattle.candidate_eval.proofs.Merging.{others_there}
+use Rattle.candidate_eval.proofs.Outcomes.Merging.{others_there}
 use Rattle.candidate_eval.proofs.eval.response.try_merge_candidates.Goals as goal
 
 pub all_answer-requires-clause-candidates : goal.all_answer-requires-clause-candidates

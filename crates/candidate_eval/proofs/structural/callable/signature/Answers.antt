@@ -1,5 +1,5 @@
 use Rattle.std.proofs.Common.{refl}
-use Rattle.candidate_eval.proofs.Callables.{signature_read}
+use Rattle.candidate_eval.proofs.Builtins.Callables.{signature_read}
 use Rattle.candidate_eval.proofs.structural.callable.signature.Goals as goal
 
 pub returns-clause-callable : goal.returns-clause-callable

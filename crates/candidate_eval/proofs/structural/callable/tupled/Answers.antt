@@ -1,4 +1,4 @@
-use Rattle.candidate_eval.proofs.Callables.{tupled_fits}
+use Rattle.candidate_eval.proofs.Builtins.Callables.{tupled_fits}
 use Rattle.candidate_eval.proofs.structural.callable.tupled.Goals as goal
 
 pub returns-clause-sort : goal.returns-clause-sort

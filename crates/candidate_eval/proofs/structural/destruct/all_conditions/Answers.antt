@@ -1,6 +1,6 @@
-use Rattle.candidate_ir.proofs.Kept.{grows-trans}
-use Rattle.candidate_ir.proofs.Made.{IsTy-grows}
-use Rattle.candidate_eval.proofs.Conditions.{own_kept}
+use Rattle.candidate_ir.proofs.Growth.Kept.{grows-trans}
+use Rattle.candidate_ir.proofs.Growth.Made.{IsTy-grows}
+use Rattle.candidate_eval.proofs.Builtins.Conditions.{own_kept}
 use Rattle.candidate_eval.proofs.structural.destruct.all_conditions.Goals as goal
 
 pub push_own-requires-clause-ty : goal.push_own-requires-clause-ty

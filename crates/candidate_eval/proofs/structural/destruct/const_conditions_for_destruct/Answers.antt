@@ -3,13 +3,13 @@ use Rattle.std.specs.Prelude.{map}
 use Rattle.std.proofs.lemmas.Result.{err_from_is_err_and}
 use Rattle.candidate_ir.specs.declared.decl.contents.LangItem.TheVariants as L
 use Rattle.candidate_ir.specs.declared.ir.stop.Stop.{Stop}
-use Rattle.candidate_ir.specs.Context.{Context}
-use Rattle.candidate_ir.specs.Words.{ty_tree}
-use Rattle.candidate_ir.proofs.Kept.{ty-kept, grows-trans}
-use Rattle.candidate_eval.specs.Tables.{row_of}
-use Rattle.candidate_eval.specs.Asked.{asked_cell}
-use Rattle.candidate_eval.specs.Destruct.{lang, own_conditions, own_destructor, own_references, destruct_conditions, IsConditionsStop}
-use Rattle.candidate_eval.proofs.Conditions.{all_are, all_stop, made_types_stop, stop_of}
+use Rattle.candidate_ir.specs.Declarations.Context.{Context}
+use Rattle.candidate_ir.specs.Syntax.Words.{ty_tree}
+use Rattle.candidate_ir.proofs.Growth.Kept.{ty-kept, grows-trans}
+use Rattle.candidate_eval.specs.Builtins.Tables.{row_of}
+use Rattle.candidate_eval.specs.Builtins.Asked.{asked_cell}
+use Rattle.candidate_eval.specs.Builtins.Destruct.{lang, own_conditions, own_destructor, own_references, destruct_conditions, IsConditionsStop}
+use Rattle.candidate_eval.proofs.Builtins.Conditions.{all_are, all_stop, made_types_stop, stop_of}
 use Rattle.candidate_eval.proofs.structural.destruct.const_conditions_for_destruct.Goals as goal
 
 pub returns-in_err-types-clause-cause : goal.returns-in_err-types-clause-cause

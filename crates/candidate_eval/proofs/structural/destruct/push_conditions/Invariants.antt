@@ -1,5 +1,5 @@
 use Rattle.std.proofs.Common.{◌≡◌}
-use Rattle.candidate_eval.proofs.Conditions.{ConditionsSoFar}
+use Rattle.candidate_eval.proofs.Builtins.Conditions.{ConditionsSoFar}
 use Rattle.candidate_eval.proofs.structural.destruct.push_conditions.Given as goal
 
 -- the conditions of the types before were added

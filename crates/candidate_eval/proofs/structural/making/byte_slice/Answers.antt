@@ -1,7 +1,7 @@
-use Rattle.candidate_ir.proofs.Kept.{grows-trans}
+use Rattle.candidate_ir.proofs.Growth.Kept.{grows-trans}
 use Rattle.std.proofs.Common.{arith}
 use Rattle.std.proofs.lemmas.Result.{err_from_is_err_and}
-use Rattle.candidate_eval.proofs.Types.{made_stop, slice_stop}
+use Rattle.candidate_eval.proofs.Builtins.Types.{made_stop, slice_stop}
 use Rattle.candidate_eval.proofs.structural.making.byte_slice.Goals as goal
 
 pub returns-in_err-byte-clause-cause : goal.returns-in_err-byte-clause-cause

@@ -1,4 +1,4 @@
-use Rattle.candidate_eval.proofs.Types.{another_last, same_last}
+use Rattle.candidate_eval.proofs.Builtins.Types.{another_last, same_last}
 use Rattle.candidate_eval.proofs.structural.making.last_type.Goals as goal
 
 pub loop-arg-preserved-in_default : goal.loop-arg-preserved-in_default

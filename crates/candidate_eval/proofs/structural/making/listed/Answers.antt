@@ -1,6 +1,6 @@
 use Rattle.std.proofs.Common.{◌∙◌, ap}
-use Rattle.candidate_eval.specs.Tables.{optional}
-use Rattle.candidate_eval.proofs.Types.{members_given, last_given, first_given, if_ok}
+use Rattle.candidate_eval.specs.Builtins.Tables.{optional}
+use Rattle.candidate_eval.proofs.Builtins.Types.{members_given, last_given, first_given, if_ok}
 use Rattle.candidate_eval.proofs.structural.making.listed.Goals as goal
 
 pub returns-in-Members-clause-sort : goal.returns-in-Members-clause-sort

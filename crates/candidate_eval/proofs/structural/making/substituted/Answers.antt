@@ -1,8 +1,8 @@
 use Rattle.std.proofs.Common.{rules, ◌≡◌, ◌∷◌, [], ◌++◌, ◌∙◌}
 use Rattle.std.proofs.lemmas.Result.{err_from_is_err_and}
-use Rattle.candidate_ir.proofs.Kept.{args-kept, grows-trans}
-use Rattle.candidate_ir.proofs.Made.{IsTy-grows}
-use Rattle.candidate_eval.proofs.Types.{ty_at, has_now, one_more_put, put_stop}
+use Rattle.candidate_ir.proofs.Growth.Kept.{args-kept, grows-trans}
+use Rattle.candidate_ir.proofs.Growth.Made.{IsTy-grows}
+use Rattle.candidate_eval.proofs.Builtins.Types.{ty_at, has_now, one_more_put, put_stop}
 use Rattle.candidate_eval.proofs.structural.making.substituted.Goals as goal
 
 pub subst-requires-clause-value : goal.subst-requires-clause-value

@@ -1,6 +1,6 @@
 use Rattle.std.proofs.Common.{◌≡◌}
-use Rattle.candidate_ir.specs.Words.{args_forest}
-use Rattle.candidate_eval.proofs.Types.{PutSoFar}
+use Rattle.candidate_ir.specs.Syntax.Words.{args_forest}
+use Rattle.candidate_eval.proofs.Builtins.Types.{PutSoFar}
 use Rattle.candidate_eval.proofs.structural.making.substituted.Given as goal
 
 -- arguments were put into the types before

@@ -1,5 +1,5 @@
 use Rattle.std.proofs.Common.{rules, ◌≡◌, ◌∷◌, [], ◌++◌}
-use Rattle.candidate_eval.proofs.Types.{another_type, no_type}
+use Rattle.candidate_eval.proofs.Builtins.Types.{another_type, no_type}
 use Rattle.candidate_eval.proofs.structural.making.types_among.Goals as goal
 
 pub loop-arg-preserved-in_default : goal.loop-arg-preserved-in_default

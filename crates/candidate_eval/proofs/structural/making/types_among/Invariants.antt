@@ -1,4 +1,4 @@
-use Rattle.candidate_eval.proofs.Types.{TypesSoFar}
+use Rattle.candidate_eval.proofs.Builtins.Types.{TypesSoFar}
 use Rattle.candidate_eval.proofs.structural.making.types_among.Given as goal
 
 abbrev pub invariant-loop-arg : goal.invariant-loop-arg

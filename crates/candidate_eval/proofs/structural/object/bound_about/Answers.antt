@@ -1,6 +1,6 @@
 use Rattle.std.proofs.Common.{rules, ◌≡◌}
 use Rattle.candidate_ir.specs.declared.ir.kinds.ClauseKind.TheVariants as K
-use Rattle.candidate_eval.proofs.Objects.{about_yes}
+use Rattle.candidate_eval.proofs.Dynamic.Objects.{about_yes}
 use Rattle.candidate_eval.proofs.structural.object.bound_about.Goals as goal
 
 pub returns-then-predicate-item : goal.returns-then-predicate-item

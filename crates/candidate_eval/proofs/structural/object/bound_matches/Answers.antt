@@ -1,14 +1,14 @@
 use Rattle.std.proofs.Common.{rules, ◌≡◌, true, false}
-use Rattle.candidate_ir.specs.Words.{args_forest, clause_tree, env_forest}
-use Rattle.candidate_ir.proofs.Joining.{clause-kept}
-use Rattle.candidate_ir.proofs.Kept.{args-kept}
+use Rattle.candidate_ir.specs.Syntax.Words.{args_forest, clause_tree, env_forest}
+use Rattle.candidate_ir.proofs.Instantiation.Joining.{clause-kept}
+use Rattle.candidate_ir.proofs.Growth.Kept.{args-kept}
 use Rattle.candidate_eval.specs.declared.eval.refusal.NoSolutionOrStop.TheVariants.{NoSolution}
-use Rattle.candidate_eval.specs.Objects.{is_about}
-use Rattle.candidate_eval.proofs.Objects.{env-kept, probe-answer}
-use Rattle.candidate_eval.proofs.Probing.{of-error, keeps-probe, alike-probe}
+use Rattle.candidate_eval.specs.Dynamic.Objects.{is_about}
+use Rattle.candidate_eval.proofs.Dynamic.Objects.{env-kept, probe-answer}
+use Rattle.candidate_eval.proofs.Interface.Probing.{of-error, keeps-probe, alike-probe}
 use Rattle.std.proofs.lemmas.Result.{err_from_is_err_and}
-use Rattle.candidate_eval.proofs.Accounts.{accounted-here, at-stop, same-bound, stops-later}
-use Rattle.candidate_eval.specs.Accounts.StopsBy.{accounted}
+use Rattle.candidate_eval.proofs.Interface.Accounts.{accounted-here, at-stop, same-bound, stops-later}
+use Rattle.candidate_eval.specs.Interface.Accounts.StopsBy.{accounted}
 use Rattle.candidate_eval.proofs.structural.object.bound_matches.Goals as goal
 
 pub equate_and_evaluate-answer-requires-clause-env : goal.equate_and_evaluate-answer-requires-clause-env

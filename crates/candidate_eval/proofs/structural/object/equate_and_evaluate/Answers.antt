@@ -1,7 +1,7 @@
-use Rattle.candidate_eval.proofs.Probing.{keeps-trans}
+use Rattle.candidate_eval.proofs.Interface.Probing.{keeps-trans}
 use Rattle.std.proofs.lemmas.Result.{err_from_is_err_and}
-use Rattle.candidate_eval.proofs.Accounts.{accounted-here, accounted-later, by-stop, reaches}
-use Rattle.candidate_eval.specs.Accounts.StopsBy.{accounted}
+use Rattle.candidate_eval.proofs.Interface.Accounts.{accounted-here, accounted-later, by-stop, reaches}
+use Rattle.candidate_eval.specs.Interface.Accounts.StopsBy.{accounted}
 use Rattle.candidate_eval.proofs.structural.object.equate_and_evaluate.Goals as goal
 
 pub returns-in_err-_certainty-clause-kept : goal.returns-in_err-_certainty-clause-kept

@@ -1,13 +1,13 @@
-use Rattle.candidate_eval.proofs.Probing.{then}
+use Rattle.candidate_eval.proofs.Interface.Probing.{then}
 use Rattle.std.proofs.Common.{sym, ◌∙◌, ap, subst}
 use Rattle.std.proofs.lemmas.Result.{err_from_is_err_and}
-use Rattle.candidate_ir.specs.Context.{Context}
-use Rattle.candidate_ir.specs.Words.{args_forest, clause_tree, env_forest}
-use Rattle.candidate_ir.proofs.Kept.{args-kept, ty-kept}
-use Rattle.candidate_eval.specs.Objects.{IsBound, term_in}
-use Rattle.candidate_eval.proofs.Objects.{env-kept, instance-accepted}
-use Rattle.candidate_eval.proofs.Accounts.{accounted-here, accounted-later, by-stop, reaches}
-use Rattle.candidate_eval.specs.Accounts.StopsBy.{accounted}
+use Rattle.candidate_ir.specs.Declarations.Context.{Context}
+use Rattle.candidate_ir.specs.Syntax.Words.{args_forest, clause_tree, env_forest}
+use Rattle.candidate_ir.proofs.Growth.Kept.{args-kept, ty-kept}
+use Rattle.candidate_eval.specs.Dynamic.Objects.{IsBound, term_in}
+use Rattle.candidate_eval.proofs.Dynamic.Objects.{env-kept, instance-accepted}
+use Rattle.candidate_eval.proofs.Interface.Accounts.{accounted-here, accounted-later, by-stop, reaches}
+use Rattle.candidate_eval.specs.Interface.Accounts.StopsBy.{accounted}
 use Rattle.candidate_eval.proofs.structural.object.equate_bound.Goals as goal
 
 pub eq_args-requires-clause-env : goal.eq_args-requires-clause-env

@@ -1,14 +1,14 @@
-use Rattle.candidate_eval.proofs.Probing.{keeps-trans}
+use Rattle.candidate_eval.proofs.Interface.Probing.{keeps-trans}
 use Rattle.std.proofs.Common.{rules, ◌≡◌, true, false, [], ◌∷◌, ◌++◌, refl, ◌∙◌, ap, subst}
-use Rattle.candidate_ir.specs.Trees.{Forest}
-use Rattle.candidate_ir.specs.Words.{env_forest, clause_tree}
-use Rattle.candidate_ir.proofs.Kept.{args-kept}
-use Rattle.candidate_eval.specs.Objects.{Projection, projection_at}
-use Rattle.candidate_eval.proofs.Objects.{env-kept}
-use Rattle.candidate_eval.proofs.Tries.{bound-listed, none-tried, one-found, one-passed, said-then}
+use Rattle.candidate_ir.specs.Syntax.Trees.{Forest}
+use Rattle.candidate_ir.specs.Syntax.Words.{env_forest, clause_tree}
+use Rattle.candidate_ir.proofs.Growth.Kept.{args-kept}
+use Rattle.candidate_eval.specs.Dynamic.Objects.{Projection, projection_at}
+use Rattle.candidate_eval.proofs.Dynamic.Objects.{env-kept}
+use Rattle.candidate_eval.proofs.Dynamic.Tries.{bound-listed, none-tried, one-found, one-passed, said-then}
 use Rattle.std.proofs.lemmas.Result.{err_from_is_err_and}
-use Rattle.candidate_eval.proofs.Accounts.{listed-bound, stops-later}
-use Rattle.candidate_eval.specs.Accounts.StopsBy.{no_memory}
+use Rattle.candidate_eval.proofs.Interface.Accounts.{listed-bound, stops-later}
+use Rattle.candidate_eval.specs.Interface.Accounts.StopsBy.{no_memory}
 use Rattle.candidate_eval.proofs.structural.object.matching_bounds.Goals.{then-branch+in_ok-push, else-branch}
 use Rattle.candidate_eval.proofs.structural.object.matching_bounds.Goals as goal
 

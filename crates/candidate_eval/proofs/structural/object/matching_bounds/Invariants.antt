@@ -1,7 +1,7 @@
 use Rattle.std.proofs.Common.{◌≡◌}
-use Rattle.candidate_ir.specs.Words.{env_forest}
-use Rattle.candidate_eval.specs.Objects.{projection_at}
-use Rattle.candidate_eval.proofs.Tries.{TriedSoFar}
+use Rattle.candidate_ir.specs.Syntax.Words.{env_forest}
+use Rattle.candidate_eval.specs.Dynamic.Objects.{projection_at}
+use Rattle.candidate_eval.proofs.Dynamic.Tries.{TriedSoFar}
 use Rattle.candidate_eval.proofs.structural.object.matching_bounds.Given as goal
 
 -- the bounds before were tried; what is fixed and the open probes are as they were

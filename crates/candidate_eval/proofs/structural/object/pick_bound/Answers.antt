@@ -1,17 +1,17 @@
 use Rattle.std.proofs.Common.{rules, ◌≡◌, true, false, length, refl, sym, ◌∙◌, ap, subst}
-use Rattle.candidate_ir.specs.Words.{args_forest, clause_tree, env_forest}
-use Rattle.candidate_ir.specs.Trees.{Tree}
-use Rattle.candidate_ir.proofs.Joining.{clause-kept}
-use Rattle.candidate_ir.proofs.Kept.{args-kept, grows-trans}
+use Rattle.candidate_ir.specs.Syntax.Words.{args_forest, clause_tree, env_forest}
+use Rattle.candidate_ir.specs.Syntax.Trees.{Tree}
+use Rattle.candidate_ir.proofs.Instantiation.Joining.{clause-kept}
+use Rattle.candidate_ir.proofs.Growth.Kept.{args-kept, grows-trans}
 use Rattle.std.specs.Prelude.{map}
 use Rattle.candidate_eval.specs.declared.eval.refusal.NoSolutionOrStop.TheVariants.{NoSolution}
-use Rattle.candidate_eval.specs.Objects.{IsAmbiguous, projection_at, fresh_instance, term_in}
-use Rattle.candidate_eval.specs.States.{is_some}
-use Rattle.candidate_eval.proofs.Objects.{about-kept, env-kept}
-use Rattle.candidate_eval.proofs.Probing.{of-error, then}
-use Rattle.candidate_eval.proofs.Tries.{equated-then, not-one, only-fits, only-tried, picked-at-once, refused-is}
+use Rattle.candidate_eval.specs.Dynamic.Objects.{IsAmbiguous, projection_at, fresh_instance, term_in}
+use Rattle.candidate_eval.specs.Judges.States.{is_some}
+use Rattle.candidate_eval.proofs.Dynamic.Objects.{about-kept, env-kept}
+use Rattle.candidate_eval.proofs.Interface.Probing.{of-error, then}
+use Rattle.candidate_eval.proofs.Dynamic.Tries.{equated-then, not-one, only-fits, only-tried, picked-at-once, refused-is}
 use Rattle.std.proofs.lemmas.Result.{err_from_is_err_and}
-use Rattle.candidate_eval.proofs.Accounts.{at-stop, only-listed, reaches, same-bound, stops-later}
+use Rattle.candidate_eval.proofs.Interface.Accounts.{at-stop, only-listed, reaches, same-bound, stops-later}
 use Rattle.candidate_eval.proofs.structural.object.pick_bound.Goals as goal
 
 pub returns-then-len-ne1-clause-ambiguous : goal.returns-then-len-ne1-clause-ambiguous

@@ -1,7 +1,7 @@
-use Rattle.candidate_eval.proofs.Probing.{keeps-trans}
+use Rattle.candidate_eval.proofs.Interface.Probing.{keeps-trans}
 use Rattle.std.proofs.lemmas.Result.{err_from_is_err_and}
-use Rattle.candidate_eval.specs.Accounts.StopsSomehow.{making}
-use Rattle.candidate_eval.proofs.Accounts.{reaches, somehow, somehow-later}
+use Rattle.candidate_eval.specs.Interface.Accounts.StopsSomehow.{making}
+use Rattle.candidate_eval.proofs.Interface.Accounts.{reaches, somehow, somehow-later}
 use Rattle.candidate_eval.proofs.structural.object_candidate.instance.Goals as goal
 
 pub returns-in_err-instance-clause-kept : goal.returns-in_err-instance-clause-kept

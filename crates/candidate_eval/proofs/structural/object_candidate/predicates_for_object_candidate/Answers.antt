@@ -1,19 +1,19 @@
-use Rattle.candidate_eval.proofs.Probing.{keeps-trans}
+use Rattle.candidate_eval.proofs.Interface.Probing.{keeps-trans}
 use Rattle.std.proofs.Common.{List, All, map, sym, ◌∙◌, ap, subst}
 use Rattle.std.proofs.lemmas.Result.{err_from_is_err_and}
 use Rattle.candidate_ir.specs.declared.ir.kinds.Clause.{Clause}
-use Rattle.candidate_ir.specs.Words.{ClauseListFits, clause_kind_tree, env_forest, preds_forest, ty_tree}
-use Rattle.candidate_ir.proofs.Kept.{grows-trans}
-use Rattle.candidate_eval.specs.Evaluators.{IsGoal, IsMakingStop, goal_of}
-use Rattle.candidate_eval.specs.Objects.{with_instance}
-use Rattle.candidate_eval.specs.ObjectRequirements.{first_tree, fresh_arguments, goal_in, reference_clause}
-use Rattle.candidate_eval.specs.Replacing.{AreReplaced, AreStuck, clauses_at}
-use Rattle.candidate_eval.specs.Required.{own_bounds}
-use Rattle.candidate_eval.proofs.ObjectCandidates.{are-replaced-at, are-stuck-at, goals-are, goals-fit}
-use Rattle.candidate_eval.proofs.Objects.{env-kept}
-use Rattle.candidate_eval.proofs.ObjectRules.{asked-by-rule, unknown-by-rule}
-use Rattle.candidate_eval.specs.Accounts.StopsSomehow.{making}
-use Rattle.candidate_eval.proofs.Accounts.{by-object-stop, reaches, somehow-later}
+use Rattle.candidate_ir.specs.Syntax.Words.{ClauseListFits, clause_kind_tree, env_forest, preds_forest, ty_tree}
+use Rattle.candidate_ir.proofs.Growth.Kept.{grows-trans}
+use Rattle.candidate_eval.specs.Interface.Evaluators.{IsGoal, IsMakingStop, goal_of}
+use Rattle.candidate_eval.specs.Dynamic.Objects.{with_instance}
+use Rattle.candidate_eval.specs.Dynamic.ObjectRequirements.{first_tree, fresh_arguments, goal_in, reference_clause}
+use Rattle.candidate_eval.specs.Dynamic.Replacing.{AreReplaced, AreStuck, clauses_at}
+use Rattle.candidate_eval.specs.Dynamic.Required.{own_bounds}
+use Rattle.candidate_eval.proofs.Dynamic.ObjectCandidates.{are-replaced-at, are-stuck-at, goals-are, goals-fit}
+use Rattle.candidate_eval.proofs.Dynamic.Objects.{env-kept}
+use Rattle.candidate_eval.proofs.Dynamic.ObjectRules.{asked-by-rule, unknown-by-rule}
+use Rattle.candidate_eval.specs.Interface.Accounts.StopsSomehow.{making}
+use Rattle.candidate_eval.proofs.Interface.Accounts.{by-object-stop, reaches, somehow-later}
 use Rattle.candidate_eval.proofs.structural.object_candidate.predicates_for_object_candidate.Goals as goal
 
 pub replaced-requires-clause-env : goal.replaced-requires-clause-env

@@ -1,19 +1,19 @@
-use Rattle.candidate_eval.proofs.Probing.{made, then}
+use Rattle.candidate_eval.proofs.Interface.Probing.{made, then}
 use Rattle.std.proofs.Common.{◌≡◌, ◌∙◌, ap, subst}
 use Rattle.candidate_ir.specs.declared.ir.kinds.TraitId.{TraitId}
-use Rattle.candidate_ir.specs.Context.{Context}
-use Rattle.candidate_ir.specs.References.{IsWellFormed}
-use Rattle.candidate_ir.specs.Trees.{Forest, Tree}
-use Rattle.candidate_ir.specs.WellFormed.{IsWellFormedTable}
-use Rattle.candidate_ir.specs.Words.{IsTy, args_forest, clause_kind_tree, preds_forest, ty_tree}
-use Rattle.candidate_ir.proofs.Kept.{args-kept, grows-trans, preds-kept, ty-kept}
-use Rattle.candidate_eval.specs.ObjectRequirements.{first_tree, fresh_arguments, reference_clause}
-use Rattle.candidate_eval.specs.Replacing.{clauses_at}
-use Rattle.candidate_eval.specs.Required.{AreRequirements, own_bounds}
-use Rattle.candidate_eval.proofs.Requiring.{declared-parameters, requirements-back}
-use Rattle.candidate_eval.proofs.Responding.{clauses-kept}
+use Rattle.candidate_ir.specs.Declarations.Context.{Context}
+use Rattle.candidate_ir.specs.Declarations.References.{IsWellFormed}
+use Rattle.candidate_ir.specs.Syntax.Trees.{Forest, Tree}
+use Rattle.candidate_ir.specs.Validity.WellFormed.{IsWellFormedTable}
+use Rattle.candidate_ir.specs.Syntax.Words.{IsTy, args_forest, clause_kind_tree, preds_forest, ty_tree}
+use Rattle.candidate_ir.proofs.Growth.Kept.{args-kept, grows-trans, preds-kept, ty-kept}
+use Rattle.candidate_eval.specs.Dynamic.ObjectRequirements.{first_tree, fresh_arguments, reference_clause}
+use Rattle.candidate_eval.specs.Dynamic.Replacing.{clauses_at}
+use Rattle.candidate_eval.specs.Dynamic.Required.{AreRequirements, own_bounds}
+use Rattle.candidate_eval.proofs.Dynamic.Requiring.{declared-parameters, requirements-back}
+use Rattle.candidate_eval.proofs.Outcomes.Responding.{clauses-kept}
 use Rattle.std.proofs.lemmas.Result.{err_from_is_err_and}
-use Rattle.candidate_eval.specs.Accounts.StopsSomehow.{making}
+use Rattle.candidate_eval.specs.Interface.Accounts.StopsSomehow.{making}
 use Rattle.candidate_eval.proofs.structural.object_candidate.prepare.Goals as goal
 
 pub own_bounds-requires-clause-bounds : goal.own_bounds-requires-clause-bounds

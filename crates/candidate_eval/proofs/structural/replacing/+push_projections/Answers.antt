@@ -1,9 +1,9 @@
 use Rattle.std.proofs.Common.{rules, ◌≡◌, ◌++◌, ◌∷◌, [], None, ◌∙◌, ap, arith, ◌+◌, ◌≤◌, suc, ℕ}
-use Rattle.candidate_ir.specs.Nodes.{tree_at}
-use Rattle.candidate_ir.specs.Trees.{count, skip, tree}
-use Rattle.candidate_eval.specs.Replacing.{AreProjections, finds_own, projections, projections_at}
-use Rattle.candidate_eval.proofs.Replacing.{one-below, one-found}
-use Rattle.candidate_eval.proofs.StopKinds.{child-beyond, growth_noted, wide-node}
+use Rattle.candidate_ir.specs.Syntax.Nodes.{tree_at}
+use Rattle.candidate_ir.specs.Syntax.Trees.{count, skip, tree}
+use Rattle.candidate_eval.specs.Dynamic.Replacing.{AreProjections, finds_own, projections, projections_at}
+use Rattle.candidate_eval.proofs.Dynamic.Replacing.{one-below, one-found}
+use Rattle.candidate_eval.proofs.Interface.StopKinds.{child-beyond, growth_noted, wide-node}
 use Rattle.candidate_eval.proofs.structural.replacing.+push_projections.Goals.{in-Some-own_projection_at+in_ok-push-in-Some-own_projection_at, in-None+in_ok-push_projections-in-None}
 use Rattle.candidate_eval.proofs.structural.replacing.+push_projections.Goals as goal
 

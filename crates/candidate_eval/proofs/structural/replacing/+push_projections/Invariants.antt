@@ -1,7 +1,7 @@
 use Rattle.std.proofs.Common.{◌≡◌, ◌≤◌, ◌++◌}
-use Rattle.candidate_ir.specs.Nodes.{tree_at}
-use Rattle.candidate_ir.specs.Trees.{count, skip}
-use Rattle.candidate_eval.specs.Replacing.{AreProjections, finds_own, projections, projections_at}
+use Rattle.candidate_ir.specs.Syntax.Nodes.{tree_at}
+use Rattle.candidate_ir.specs.Syntax.Trees.{count, skip}
+use Rattle.candidate_eval.specs.Dynamic.Replacing.{AreProjections, finds_own, projections, projections_at}
 use Rattle.candidate_eval.proofs.structural.replacing.+push_projections.Given as goal
 
 abbrev pub decreases-push_projections : goal.decreases-push_projections

@@ -2,9 +2,9 @@ use Rattle.std.proofs.Common.{sym, ◌∙◌}
 use Rattle.std.specs.Prelude.{slice_index_or}
 use Rattle.std.proofs.lemmas.List.{get_or_default}
 use Rattle.candidate_ir.specs.declared.ir.kinds.Clause.{Clause}
-use Rattle.candidate_ir.proofs.Listing.{listed_clause}
-use Rattle.candidate_ir.proofs.Misplacing.{any_in, any_on, any_past}
-use Rattle.candidate_eval.proofs.Replacing.{about, any-listed}
+use Rattle.candidate_ir.proofs.Hierarchy.Listing.{listed_clause}
+use Rattle.candidate_ir.proofs.Validity.Misplacing.{any_in, any_on, any_past}
+use Rattle.candidate_eval.proofs.Dynamic.Replacing.{about, any-listed}
 use Rattle.candidate_eval.proofs.structural.replacing.any_is_about.Goals as goal
 
 pub is_about-requires : goal.is_about-requires

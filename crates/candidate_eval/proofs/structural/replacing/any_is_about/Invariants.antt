@@ -1,6 +1,6 @@
 use Rattle.std.proofs.Common.{◌≡◌, drop}
 use Rattle.std.specs.List.{list_any}
-use Rattle.candidate_eval.proofs.Replacing.{about}
+use Rattle.candidate_eval.proofs.Dynamic.Replacing.{about}
 use Rattle.candidate_eval.proofs.structural.replacing.any_is_about.Given as goal
 
 abbrev pub invariant-loop-bound : goal.invariant-loop-bound

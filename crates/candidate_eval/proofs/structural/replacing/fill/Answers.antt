@@ -1,16 +1,16 @@
 use Rattle.std.proofs.Common.{rules, ◌≡◌, refl, sym, ◌∙◌, ap}
 use Rattle.std.specs.Prelude.{option_map}
-use Rattle.candidate_ir.specs.Folds.{arg_tree, here}
-use Rattle.candidate_ir.specs.WellFormed.{TypesFit}
-use Rattle.candidate_ir.specs.Words.{clause_tree, ty_tree}
-use Rattle.candidate_ir.proofs.FoldLaws.{reached-keeps}
-use Rattle.candidate_ir.proofs.Kept.{ty-kept}
-use Rattle.candidate_eval.specs.Replacing.{answered, finds_own, left_by, types_at, clauses_at}
-use Rattle.candidate_eval.proofs.Filling.{clause-fill, left-by-fit, ok-then, reached-grows, said-at-start}
-use Rattle.candidate_eval.proofs.Replacing.{clause-none, unasked-none}
-use Rattle.candidate_eval.proofs.Responding.{clauses-kept}
-use Rattle.candidate_eval.proofs.StopKinds.{fold-making}
-use Rattle.candidate_eval.proofs.Types.{types_kept}
+use Rattle.candidate_ir.specs.Instantiation.Folds.{arg_tree, here}
+use Rattle.candidate_ir.specs.Validity.WellFormed.{TypesFit}
+use Rattle.candidate_ir.specs.Syntax.Words.{clause_tree, ty_tree}
+use Rattle.candidate_ir.proofs.Traversal.FoldLaws.{reached-keeps}
+use Rattle.candidate_ir.proofs.Growth.Kept.{ty-kept}
+use Rattle.candidate_eval.specs.Dynamic.Replacing.{answered, finds_own, left_by, types_at, clauses_at}
+use Rattle.candidate_eval.proofs.Dynamic.Filling.{clause-fill, left-by-fit, ok-then, reached-grows, said-at-start}
+use Rattle.candidate_eval.proofs.Dynamic.Replacing.{clause-none, unasked-none}
+use Rattle.candidate_eval.proofs.Outcomes.Responding.{clauses-kept}
+use Rattle.candidate_eval.proofs.Interface.StopKinds.{fold-making}
+use Rattle.candidate_eval.proofs.Builtins.Types.{types_kept}
 use Rattle.candidate_eval.proofs.structural.replacing.fill.Goals as goal
 
 pub fold-requires-clause-callable : goal.fold-requires-clause-callable

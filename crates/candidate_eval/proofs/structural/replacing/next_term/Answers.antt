@@ -1,6 +1,6 @@
 use Rattle.std.proofs.Common.{rules, ◌≡◌, ◌∷◌, subst}
-use Rattle.candidate_ir.specs.WellFormed.{TypesFit}
-use Rattle.candidate_eval.proofs.Replacing.{first-type-fits, is-a-type}
+use Rattle.candidate_ir.specs.Validity.WellFormed.{TypesFit}
+use Rattle.candidate_eval.proofs.Dynamic.Replacing.{first-type-fits, is-a-type}
 use Rattle.candidate_eval.proofs.structural.replacing.next_term.Goals as goal
 
 pub returns-in-Some-clause-kind : goal.returns-in-Some-clause-kind

@@ -1,6 +1,6 @@
 use Rattle.std.proofs.Common.{refl}
-use Rattle.candidate_ir.specs.Trees.{ClauseKind}
-use Rattle.candidate_ir.proofs.Lists.{below_kind}
+use Rattle.candidate_ir.specs.Syntax.Trees.{ClauseKind}
+use Rattle.candidate_ir.proofs.Syntax.Lists.{below_kind}
 use Rattle.candidate_eval.proofs.structural.replacing.own_projections.Goals as goal
 
 pub push_projections-requires-clause-number : goal.push_projections-requires-clause-number

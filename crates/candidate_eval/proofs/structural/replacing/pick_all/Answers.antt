@@ -1,14 +1,14 @@
-use Rattle.candidate_eval.proofs.Probing.{keeps-trans}
+use Rattle.candidate_eval.proofs.Interface.Probing.{keeps-trans}
 use Rattle.std.proofs.Common.{refl, sym, ◌∙◌}
 use Rattle.std.proofs.lemmas.Result.{err_from_is_err_and}
-use Rattle.candidate_ir.specs.Words.{env_forest}
-use Rattle.candidate_ir.proofs.Kept.{grows-trans}
-use Rattle.candidate_eval.specs.Replacing.{clauses_at}
-use Rattle.candidate_eval.proofs.Objects.{env-kept}
-use Rattle.candidate_eval.proofs.Picking.{ambiguous-then, none-picked, one-picked, one-stuck, picked-then, projection-later}
-use Rattle.candidate_eval.proofs.Responding.{clauses-kept}
-use Rattle.candidate_eval.specs.Accounts.StopsSomehow.{making}
-use Rattle.candidate_eval.proofs.Accounts.{by-object-stop, somehow, somehow-later}
+use Rattle.candidate_ir.specs.Syntax.Words.{env_forest}
+use Rattle.candidate_ir.proofs.Growth.Kept.{grows-trans}
+use Rattle.candidate_eval.specs.Dynamic.Replacing.{clauses_at}
+use Rattle.candidate_eval.proofs.Dynamic.Objects.{env-kept}
+use Rattle.candidate_eval.proofs.Dynamic.Picking.{ambiguous-then, none-picked, one-picked, one-stuck, picked-then, projection-later}
+use Rattle.candidate_eval.proofs.Outcomes.Responding.{clauses-kept}
+use Rattle.candidate_eval.specs.Interface.Accounts.StopsSomehow.{making}
+use Rattle.candidate_eval.proofs.Interface.Accounts.{by-object-stop, somehow, somehow-later}
 use Rattle.candidate_eval.proofs.structural.replacing.pick_all.Goals as goal
 
 pub loop-projection-init : goal.loop-projection-init

@@ -1,7 +1,7 @@
 use Rattle.std.proofs.Common.{◌≡◌}
-use Rattle.candidate_ir.specs.Words.{env_forest}
-use Rattle.candidate_eval.specs.Replacing.{clauses_at}
-use Rattle.candidate_eval.proofs.Picking.{PickedSoFar}
+use Rattle.candidate_ir.specs.Syntax.Words.{env_forest}
+use Rattle.candidate_eval.specs.Dynamic.Replacing.{clauses_at}
+use Rattle.candidate_eval.proofs.Dynamic.Picking.{PickedSoFar}
 use Rattle.candidate_eval.proofs.structural.replacing.pick_all.Given as goal
 
 -- the projections before have their terms; what is fixed and the open probes are as they were

@@ -1,14 +1,14 @@
 use Rattle.std.proofs.Common.{refl, sym, ◌∙◌}
 use Rattle.std.proofs.lemmas.Result.{err_from_is_err_and}
-use Rattle.candidate_ir.specs.Words.{env_forest, ty_tree}
-use Rattle.candidate_ir.proofs.Kept.{grows-trans, ty-kept}
-use Rattle.candidate_eval.specs.Replacing.{clauses_at}
-use Rattle.candidate_eval.proofs.Objects.{env-kept}
-use Rattle.candidate_eval.proofs.Picking.{none-replaced, one-clause-stuck, one-replaced, replaced-then, stuck-at}
-use Rattle.candidate_eval.proofs.Responding.{clauses-kept}
-use Rattle.candidate_eval.proofs.Tries.{bound-listed}
-use Rattle.candidate_eval.specs.Accounts.StopsSomehow.{making}
-use Rattle.candidate_eval.proofs.Accounts.{by-object-stop, somehow-later}
+use Rattle.candidate_ir.specs.Syntax.Words.{env_forest, ty_tree}
+use Rattle.candidate_ir.proofs.Growth.Kept.{grows-trans, ty-kept}
+use Rattle.candidate_eval.specs.Dynamic.Replacing.{clauses_at}
+use Rattle.candidate_eval.proofs.Dynamic.Objects.{env-kept}
+use Rattle.candidate_eval.proofs.Dynamic.Picking.{none-replaced, one-clause-stuck, one-replaced, replaced-then, stuck-at}
+use Rattle.candidate_eval.proofs.Outcomes.Responding.{clauses-kept}
+use Rattle.candidate_eval.proofs.Dynamic.Tries.{bound-listed}
+use Rattle.candidate_eval.specs.Interface.Accounts.StopsSomehow.{making}
+use Rattle.candidate_eval.proofs.Interface.Accounts.{by-object-stop, somehow-later}
 use Rattle.candidate_eval.proofs.structural.replacing.replaced.Goals as goal
 
 pub loop-clause-init : goal.loop-clause-init

@@ -1,7 +1,7 @@
 use Rattle.std.proofs.Common.{◌≡◌}
-use Rattle.candidate_ir.specs.Words.{env_forest, ty_tree}
-use Rattle.candidate_eval.specs.Replacing.{clauses_at}
-use Rattle.candidate_eval.proofs.Picking.{ReplacedSoFar}
+use Rattle.candidate_ir.specs.Syntax.Words.{env_forest, ty_tree}
+use Rattle.candidate_eval.specs.Dynamic.Replacing.{clauses_at}
+use Rattle.candidate_eval.proofs.Dynamic.Picking.{ReplacedSoFar}
 use Rattle.candidate_eval.proofs.structural.replacing.replaced.Given as goal
 
 -- the clauses before are replaced; what is fixed and the open probes are as they were

@@ -1,16 +1,16 @@
-use Rattle.candidate_eval.proofs.Probing.{made, then}
+use Rattle.candidate_eval.proofs.Interface.Probing.{made, then}
 use Rattle.std.proofs.Common.{◌≡◌, List, sym, ◌∙◌, ap, subst}
 use Rattle.candidate_ir.specs.declared.ir.kinds.Ty.{Ty}
-use Rattle.candidate_ir.specs.Context.{Context}
-use Rattle.candidate_ir.specs.Words.{clause_tree, env_forest}
-use Rattle.candidate_ir.proofs.Joining.{clause-kept}
-use Rattle.candidate_ir.proofs.Kept.{ty-kept}
-use Rattle.candidate_eval.specs.Replacing.{Picks, clauses_at, finds_own, projections, projections_at, types_at}
-use Rattle.candidate_eval.proofs.Picking.{replaced-by}
-use Rattle.candidate_eval.proofs.Responding.{clauses-kept}
+use Rattle.candidate_ir.specs.Declarations.Context.{Context}
+use Rattle.candidate_ir.specs.Syntax.Words.{clause_tree, env_forest}
+use Rattle.candidate_ir.proofs.Instantiation.Joining.{clause-kept}
+use Rattle.candidate_ir.proofs.Growth.Kept.{ty-kept}
+use Rattle.candidate_eval.specs.Dynamic.Replacing.{Picks, clauses_at, finds_own, projections, projections_at, types_at}
+use Rattle.candidate_eval.proofs.Dynamic.Picking.{replaced-by}
+use Rattle.candidate_eval.proofs.Outcomes.Responding.{clauses-kept}
 use Rattle.std.proofs.lemmas.Result.{err_from_is_err_and}
-use Rattle.candidate_eval.specs.Accounts.StopsSomehow.{making}
-use Rattle.candidate_eval.proofs.StopKinds.{noting_making}
+use Rattle.candidate_eval.specs.Interface.Accounts.StopsSomehow.{making}
+use Rattle.candidate_eval.proofs.Interface.StopKinds.{noting_making}
 use Rattle.candidate_eval.proofs.structural.replacing.replaced_clause.Goals as goal
 
 pub fill-requires-clause-object : goal.fill-requires-clause-object

@@ -1,5 +1,5 @@
 use Rattle.std.proofs.Common.{sym, ◌∙◌}
-use Rattle.candidate_eval.proofs.Replacing.{first-fits, starts-other, starts-typed}
+use Rattle.candidate_eval.proofs.Dynamic.Replacing.{first-fits, starts-other, starts-typed}
 use Rattle.candidate_eval.proofs.structural.replacing.starts_with.Goals as goal
 
 pub same-requires-clause-a : goal.same-requires-clause-a

@@ -1,10 +1,10 @@
 use Rattle.std.proofs.Common.{rules, ◌≤◌, [], ◌++◌, List, length, refl, ◌∙◌, ap}
 use Rattle.std.specs.Prelude.{map}
-use Rattle.candidate_ir.specs.Trees.{Tree}
-use Rattle.candidate_ir.specs.Words.{clause_tree}
-use Rattle.candidate_ir.proofs.Kept.{ty-kept, grows-trans}
-use Rattle.candidate_ir.proofs.Made.{IsPred-listed}
-use Rattle.candidate_eval.proofs.Required.{all_gathered, all_said, bound_said, more_gathered, none_added, preds_read, said_stays}
+use Rattle.candidate_ir.specs.Syntax.Trees.{Tree}
+use Rattle.candidate_ir.specs.Syntax.Words.{clause_tree}
+use Rattle.candidate_ir.proofs.Growth.Kept.{ty-kept, grows-trans}
+use Rattle.candidate_ir.proofs.Growth.Made.{IsPred-listed}
+use Rattle.candidate_eval.proofs.Dynamic.Required.{all_gathered, all_said, bound_said, more_gathered, none_added, preds_read, said_stays}
 use Rattle.candidate_eval.proofs.structural.required.own_bounds.Goals as goal
 
 pub loop-bound-init : goal.loop-bound-init

@@ -1,6 +1,6 @@
 use Rattle.std.proofs.Common.{◌≡◌, [], take}
 use Rattle.std.specs.List.{flat_map}
-use Rattle.candidate_eval.proofs.Required.{AddedSoFar, bound_said}
+use Rattle.candidate_eval.proofs.Dynamic.Required.{AddedSoFar, bound_said}
 use Rattle.candidate_eval.proofs.structural.required.own_bounds.Given as goal
 
 -- what the bounds before say was added

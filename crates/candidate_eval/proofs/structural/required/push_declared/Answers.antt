@@ -1,12 +1,12 @@
 use Rattle.std.proofs.Common.{rules, ◌≡◌, ◌≤◌, ◌∷◌, [], ◌++◌, List, length, refl, ◌∙◌, ap}
 use Rattle.std.specs.Prelude.{map}
-use Rattle.candidate_ir.specs.Trees.{Tree}
-use Rattle.candidate_ir.specs.Words.{clause_tree}
-use Rattle.candidate_ir.proofs.Joining.{clause-kept}
-use Rattle.candidate_ir.proofs.Kept.{args-kept, grows-trans}
-use Rattle.candidate_ir.proofs.Made.{IsClause-listed}
-use Rattle.candidate_eval.proofs.Required.{all_gathered, more_gathered, none_added, pushed_fit, pushed_trees}
-use Rattle.candidate_eval.proofs.Requiring.{all_declared, clause_stays, clause_with, declared_read}
+use Rattle.candidate_ir.specs.Syntax.Trees.{Tree}
+use Rattle.candidate_ir.specs.Syntax.Words.{clause_tree}
+use Rattle.candidate_ir.proofs.Instantiation.Joining.{clause-kept}
+use Rattle.candidate_ir.proofs.Growth.Kept.{args-kept, grows-trans}
+use Rattle.candidate_ir.proofs.Growth.Made.{IsClause-listed}
+use Rattle.candidate_eval.proofs.Dynamic.Required.{all_gathered, more_gathered, none_added, pushed_fit, pushed_trees}
+use Rattle.candidate_eval.proofs.Dynamic.Requiring.{all_declared, clause_stays, clause_with, declared_read}
 use Rattle.candidate_eval.proofs.structural.required.push_declared.Goals as goal
 
 pub loop-clause-init : goal.loop-clause-init

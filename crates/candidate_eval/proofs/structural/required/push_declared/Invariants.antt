@@ -1,7 +1,7 @@
 use Rattle.std.proofs.Common.{◌≡◌, take}
 use Rattle.std.specs.List.{flat_map}
-use Rattle.candidate_eval.proofs.Required.{AddedSoFar}
-use Rattle.candidate_eval.proofs.Requiring.{clause_with}
+use Rattle.candidate_eval.proofs.Dynamic.Required.{AddedSoFar}
+use Rattle.candidate_eval.proofs.Dynamic.Requiring.{clause_with}
 use Rattle.candidate_eval.proofs.structural.required.push_declared.Given as goal
 
 -- the clauses before were added

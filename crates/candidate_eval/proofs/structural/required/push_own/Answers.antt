@@ -1,11 +1,11 @@
 use Rattle.std.proofs.Common.{rules, ◌≡◌, ◌∷◌, ◌++◌, [], List, ◌∙◌, ap, subst}
 use Rattle.std.specs.Prelude.{map}
-use Rattle.candidate_ir.specs.Context.{Context}
-use Rattle.candidate_ir.specs.References.{IsWellFormed}
-use Rattle.candidate_ir.specs.Trees.{Tree}
-use Rattle.candidate_ir.specs.Words.{clause_tree, pred_kind_tree, pred_tree, ty_tree}
-use Rattle.candidate_eval.specs.Required.{as_bound, said_of}
-use Rattle.candidate_eval.proofs.Required.{projection_said, projection_takes, pushed_fit, pushed_trees}
+use Rattle.candidate_ir.specs.Declarations.Context.{Context}
+use Rattle.candidate_ir.specs.Declarations.References.{IsWellFormed}
+use Rattle.candidate_ir.specs.Syntax.Trees.{Tree}
+use Rattle.candidate_ir.specs.Syntax.Words.{clause_tree, pred_kind_tree, pred_tree, ty_tree}
+use Rattle.candidate_eval.specs.Dynamic.Required.{as_bound, said_of}
+use Rattle.candidate_eval.proofs.Dynamic.Required.{projection_said, projection_takes, pushed_fit, pushed_trees}
 use Rattle.candidate_eval.proofs.structural.required.push_own.Goals as goal
 
 pub said-requires-clause-takes : goal.said-requires-clause-takes

@@ -1,8 +1,8 @@
 use Rattle.std.proofs.Common.{◌≡◌, take}
 use Rattle.std.specs.List.{flat_map}
-use Rattle.candidate_ir.specs.Words.{args_forest}
-use Rattle.candidate_eval.proofs.Required.{AddedSoFar}
-use Rattle.candidate_eval.proofs.Requiring.{item_with}
+use Rattle.candidate_ir.specs.Syntax.Words.{args_forest}
+use Rattle.candidate_eval.proofs.Dynamic.Required.{AddedSoFar}
+use Rattle.candidate_eval.proofs.Dynamic.Requiring.{item_with}
 use Rattle.candidate_eval.proofs.structural.required.push_required.Given as goal
 
 -- the bounds of the items before were added

@@ -1,11 +1,11 @@
-use Rattle.candidate_ir.proofs.Kept.{grows-trans}
+use Rattle.candidate_ir.proofs.Growth.Kept.{grows-trans}
 use Rattle.std.proofs.Common.{◌≡◌, List, ◌∙◌, ap, subst}
 use Rattle.std.specs.Prelude.{IfOk}
 use Rattle.candidate_ir.specs.declared.ir.kinds.GenericArg.{GenericArg}
-use Rattle.candidate_ir.specs.Context.{Context}
-use Rattle.candidate_ir.specs.Trees.{Tree, tree}
-use Rattle.candidate_ir.specs.Words.{args_forest, clause_tree, list_forest, ty_tree}
-use Rattle.candidate_eval.proofs.Required.{said_fits, said_takes, said_tree}
+use Rattle.candidate_ir.specs.Declarations.Context.{Context}
+use Rattle.candidate_ir.specs.Syntax.Trees.{Tree, tree}
+use Rattle.candidate_ir.specs.Syntax.Words.{args_forest, clause_tree, list_forest, ty_tree}
+use Rattle.candidate_eval.proofs.Dynamic.Required.{said_fits, said_takes, said_tree}
 use Rattle.candidate_eval.proofs.structural.required.said.Goals as goal
 
 pub mk_clause-requires-clause-fits : goal.mk_clause-requires-clause-fits

@@ -1,9 +1,9 @@
 use Rattle.std.proofs.Common.{rules, ◌≡◌, false, subst}
 use Rattle.std.specs.Prelude.{IfOk}
-use Rattle.candidate_ir.specs.Folding.{lacks_argument}
-use Rattle.candidate_ir.specs.Trees.{Tree, tree_holds}
-use Rattle.candidate_ir.specs.Words.{args_forest, clause_tree}
-use Rattle.candidate_eval.proofs.Requiring.{all_there}
+use Rattle.candidate_ir.specs.Instantiation.Folding.{lacks_argument}
+use Rattle.candidate_ir.specs.Syntax.Trees.{Tree, tree_holds}
+use Rattle.candidate_ir.specs.Syntax.Words.{args_forest, clause_tree}
+use Rattle.candidate_eval.proofs.Dynamic.Requiring.{all_there}
 use Rattle.candidate_eval.proofs.structural.required.with_arguments.Goals as goal
 
 pub returns-then-has_arguments-clause-tree : goal.returns-then-has_arguments-clause-tree

@@ -1,6 +1,6 @@
 use Rattle.std.proofs.Common.{rules, ◌≡◌, ◌∷◌}
 use Rattle.candidate_ir.specs.declared.ir.kinds.GenericArg.TheVariants as G
-use Rattle.candidate_eval.proofs.Required.{object_first}
+use Rattle.candidate_eval.proofs.Dynamic.Required.{object_first}
 use Rattle.candidate_eval.proofs.structural.required.with_object.Goals as goal
 
 pub returns-clause-forest : goal.returns-clause-forest

@@ -1,7 +1,7 @@
 use Rattle.std.proofs.Common.{arith, refl}
-use Rattle.candidate_ir.specs.Nodes.{head_of}
-use Rattle.candidate_ir.specs.Names.{names_unknown}
-use Rattle.candidate_ir.proofs.Fitting.{one-more-lacks, none-has, one-has, head-at}
+use Rattle.candidate_ir.specs.Syntax.Nodes.{head_of}
+use Rattle.candidate_ir.specs.Declarations.Names.{names_unknown}
+use Rattle.candidate_ir.proofs.Kinding.Fitting.{one-more-lacks, none-has, one-has, head-at}
 use Rattle.candidate_ir.proofs.decl.arity.any_names_unknown.Goals as goal
 
 pub loop-number-init : goal.loop-number-init

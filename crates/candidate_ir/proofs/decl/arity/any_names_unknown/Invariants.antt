@@ -1,6 +1,6 @@
 use Rattle.std.proofs.Common.{◌≡◌, ℕ, ◌<◌, false}
-use Rattle.candidate_ir.specs.Names.{names_unknown}
-use Rattle.candidate_ir.specs.Nodes.{tree_at}
+use Rattle.candidate_ir.specs.Declarations.Names.{names_unknown}
+use Rattle.candidate_ir.specs.Syntax.Nodes.{tree_at}
 use Rattle.candidate_ir.proofs.decl.arity.any_names_unknown.Given as goal
 
 -- none of the nodes before does

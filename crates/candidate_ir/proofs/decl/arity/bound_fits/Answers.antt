@@ -1,5 +1,5 @@
-use Rattle.candidate_ir.specs.Context.{world_of}
-use Rattle.candidate_ir.proofs.Arity.{trait-bound-tests, projection-bound-tests, auto-bound-tests}
+use Rattle.candidate_ir.specs.Declarations.Context.{world_of}
+use Rattle.candidate_ir.proofs.Kinding.Arity.{trait-bound-tests, projection-bound-tests, auto-bound-tests}
 use Rattle.candidate_ir.proofs.decl.arity.bound_fits.Goals as goal
 
 pub returns-in-Trait : goal.returns-in-Trait

@@ -1,6 +1,6 @@
 use Rattle.std.proofs.Common.{arith}
-use Rattle.candidate_ir.specs.Context.{world_of}
-use Rattle.candidate_ir.proofs.Arity.{one-more-takes, all-take, one-takes-not}
+use Rattle.candidate_ir.specs.Declarations.Context.{world_of}
+use Rattle.candidate_ir.proofs.Kinding.Arity.{one-more-takes, all-take, one-takes-not}
 use Rattle.candidate_ir.proofs.decl.arity.bounds_fit.Invariants.{past}
 use Rattle.candidate_ir.proofs.decl.arity.bounds_fit.Goals as goal
 

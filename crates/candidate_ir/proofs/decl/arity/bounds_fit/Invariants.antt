@@ -2,9 +2,9 @@ use Rattle.std.proofs.Common.{ℕ, ◌<◌, get_or}
 use Rattle.candidate_ir.specs.declared.ir.kinds.Binder.{Binder}
 use Rattle.candidate_ir.specs.declared.ir.kinds.ExistentialPredicate.{ExistentialPredicate}
 use Rattle.candidate_ir.specs.declared.ir.kinds.ExistentialPredicate.TheVariants as E
-use Rattle.candidate_ir.specs.Context.{world_of}
-use Rattle.candidate_ir.specs.References.{Takes}
-use Rattle.candidate_ir.specs.Words.{pred_kind_tree}
+use Rattle.candidate_ir.specs.Declarations.Context.{world_of}
+use Rattle.candidate_ir.specs.Declarations.References.{Takes}
+use Rattle.candidate_ir.specs.Syntax.Words.{pred_kind_tree}
 use Rattle.candidate_ir.proofs.decl.arity.bounds_fit.Given as goal
 
 abbrev pub past : Binder ExistentialPredicate

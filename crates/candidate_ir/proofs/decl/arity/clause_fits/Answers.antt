@@ -1,6 +1,6 @@
 use Rattle.std.proofs.Common.{refl}
-use Rattle.candidate_ir.specs.Context.{world_of}
-use Rattle.candidate_ir.proofs.Arity.{trait-clause-tests, projection-clause-tests, either-outlives, surely}
+use Rattle.candidate_ir.specs.Declarations.Context.{world_of}
+use Rattle.candidate_ir.proofs.Kinding.Arity.{trait-clause-tests, projection-clause-tests, either-outlives, surely}
 use Rattle.candidate_ir.proofs.decl.arity.clause_fits.Goals as goal
 
 pub returns-in-Trait : goal.returns-in-Trait

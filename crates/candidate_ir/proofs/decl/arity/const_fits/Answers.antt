@@ -1,6 +1,6 @@
 use Rattle.std.proofs.Common.{refl}
-use Rattle.candidate_ir.specs.Context.{world_of}
-use Rattle.candidate_ir.proofs.Arity.{unevaluated-tests, plain-constant-takes, surely}
+use Rattle.candidate_ir.specs.Declarations.Context.{world_of}
+use Rattle.candidate_ir.proofs.Kinding.Arity.{unevaluated-tests, plain-constant-takes, surely}
 use Rattle.candidate_ir.proofs.decl.arity.const_fits.Goals as goal
 
 pub returns-in-Unevaluated : goal.returns-in-Unevaluated

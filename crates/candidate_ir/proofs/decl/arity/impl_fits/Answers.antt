@@ -1,7 +1,7 @@
 use Rattle.std.proofs.Common.{ap}
-use Rattle.candidate_ir.specs.Contents.{Impl}
-use Rattle.candidate_ir.specs.Context.{world_of}
-use Rattle.candidate_ir.proofs.Headers.{header_fits, no_header_fits}
+use Rattle.candidate_ir.specs.Declarations.Contents.{Impl}
+use Rattle.candidate_ir.specs.Declarations.Context.{world_of}
+use Rattle.candidate_ir.proofs.Validity.Headers.{header_fits, no_header_fits}
 use Rattle.candidate_ir.proofs.decl.arity.impl_fits.Goals as goal
 
 pub returns-then-not-is_args : goal.returns-then-not-is_args

@@ -1,6 +1,6 @@
 use Rattle.std.proofs.Common.{arith, rules}
-use Rattle.candidate_ir.specs.Context.{world_of}
-use Rattle.candidate_ir.proofs.Headers.{one_more_fits, headers_fit, one_misfits}
+use Rattle.candidate_ir.specs.Declarations.Context.{world_of}
+use Rattle.candidate_ir.proofs.Validity.Headers.{one_more_fits, headers_fit, one_misfits}
 use Rattle.candidate_ir.proofs.decl.arity.impls_fit.Goals as goal
 
 pub loop-of-init : goal.loop-of-init

@@ -1,7 +1,7 @@
 use Rattle.std.proofs.Common.{◌≡◌, ℕ, ◌<◌, get_or}
-use Rattle.candidate_ir.specs.Contents.{Impl}
-use Rattle.candidate_ir.specs.Context.{world_of}
-use Rattle.candidate_ir.specs.Faults.{ImplFits}
+use Rattle.candidate_ir.specs.Declarations.Contents.{Impl}
+use Rattle.candidate_ir.specs.Declarations.Context.{world_of}
+use Rattle.candidate_ir.specs.Validity.Faults.{ImplFits}
 use Rattle.candidate_ir.proofs.decl.arity.impls_fit.Given as goal
 
 -- the headers before fit

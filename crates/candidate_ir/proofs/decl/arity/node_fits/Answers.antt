@@ -1,7 +1,7 @@
 use Rattle.std.proofs.Common.{refl}
-use Rattle.candidate_ir.specs.Context.{world_of}
-use Rattle.candidate_ir.proofs.Arity.{surely}
-use Rattle.candidate_ir.proofs.Fitting.{plain-node-takes}
+use Rattle.candidate_ir.specs.Declarations.Context.{world_of}
+use Rattle.candidate_ir.proofs.Kinding.Arity.{surely}
+use Rattle.candidate_ir.proofs.Kinding.Fitting.{plain-node-takes}
 use Rattle.candidate_ir.proofs.decl.arity.node_fits.Goals as goal
 
 pub returns-in_default : goal.returns-in_default

@@ -1,6 +1,6 @@
 use Rattle.std.proofs.Common.{arith}
-use Rattle.candidate_ir.specs.Context.{world_of}
-use Rattle.candidate_ir.proofs.Fitting.{one-fits, all-fit, one-misfits}
+use Rattle.candidate_ir.specs.Declarations.Context.{world_of}
+use Rattle.candidate_ir.proofs.Kinding.Fitting.{one-fits, all-fit, one-misfits}
 use Rattle.candidate_ir.proofs.decl.arity.nodes_fit.Goals as goal
 
 pub loop-number-init : goal.loop-number-init

@@ -1,7 +1,7 @@
 use Rattle.std.proofs.Common.{ℕ, ◌<◌}
-use Rattle.candidate_ir.specs.Context.{world_of}
-use Rattle.candidate_ir.specs.Nodes.{tree_at}
-use Rattle.candidate_ir.specs.References.{FitsAmong}
+use Rattle.candidate_ir.specs.Declarations.Context.{world_of}
+use Rattle.candidate_ir.specs.Syntax.Nodes.{tree_at}
+use Rattle.candidate_ir.specs.Declarations.References.{FitsAmong}
 use Rattle.candidate_ir.proofs.decl.arity.nodes_fit.Given as goal
 
 -- the nodes before fit

@@ -1,8 +1,8 @@
 use Rattle.std.proofs.Common.{◌≡◌, false, refl}
 use Rattle.candidate_ir.specs.declared.ir.kinds.TyKind.{TyKind}
 use Rattle.candidate_ir.specs.declared.ir.kinds.TyKind.TheVariants as K
-use Rattle.candidate_ir.specs.Context.{world_of}
-use Rattle.candidate_ir.proofs.Arity.{adt-tests, function-tests, alias-tests, closure-tests, tuple-tests, pointer-tests, bounds-take, asks, plain-takes, surely}
+use Rattle.candidate_ir.specs.Declarations.Context.{world_of}
+use Rattle.candidate_ir.proofs.Kinding.Arity.{adt-tests, function-tests, alias-tests, closure-tests, tuple-tests, pointer-tests, bounds-take, asks, plain-takes, surely}
 use Rattle.candidate_ir.proofs.decl.arity.ty_fits.Goals as goal
 
 pub returns-in-Adt : goal.returns-in-Adt

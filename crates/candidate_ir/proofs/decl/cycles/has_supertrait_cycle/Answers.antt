@@ -1,9 +1,9 @@
 use Rattle.std.proofs.Common.{None, length, sym, ◌∙◌, ap, subst, arith}
-use Rattle.candidate_ir.specs.Cycles.{Search, Knows, HasEnded}
-use Rattle.candidate_ir.specs.Declaring.{contents_of}
-use Rattle.candidate_ir.specs.Supertraits.{named_supers}
-use Rattle.candidate_ir.proofs.Cycles.{knows_start, none_seen_length, turn_knows, turn_seen, turn_length, ended, all_seen_ranked}
-use Rattle.candidate_ir.proofs.Supertraits.{no_names_past}
+use Rattle.candidate_ir.specs.Calls.Cycles.{Search, Knows, HasEnded}
+use Rattle.candidate_ir.specs.Declarations.Declaring.{contents_of}
+use Rattle.candidate_ir.specs.Hierarchy.Supertraits.{named_supers}
+use Rattle.candidate_ir.proofs.Hierarchy.Cycles.{knows_start, none_seen_length, turn_knows, turn_seen, turn_length, ended, all_seen_ranked}
+use Rattle.candidate_ir.proofs.Hierarchy.Supertraits.{no_names_past}
 use Rattle.candidate_ir.proofs.decl.cycles.has_supertrait_cycle.Goals as goal
 
 pub loop-number-init : goal.loop-number-init

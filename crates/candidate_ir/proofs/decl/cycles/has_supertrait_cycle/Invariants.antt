@@ -1,8 +1,8 @@
 use Rattle.std.proofs.Common.{◌≡◌, ℕ, ◌<◌, Some, None, [], length}
 use Rattle.candidate_ir.specs.declared.decl.cycles.Visit.TheVariants.{Unseen}
-use Rattle.candidate_ir.specs.Cycles.{Knows, visit_of}
-use Rattle.candidate_ir.specs.Declaring.{contents_of}
-use Rattle.candidate_ir.specs.Supertraits.{named_supers}
+use Rattle.candidate_ir.specs.Calls.Cycles.{Knows, visit_of}
+use Rattle.candidate_ir.specs.Declarations.Declaring.{contents_of}
+use Rattle.candidate_ir.specs.Hierarchy.Supertraits.{named_supers}
 use Rattle.candidate_ir.proofs.decl.cycles.has_supertrait_cycle.Given as goal
 
 -- the search is in no trait, and all before are seen

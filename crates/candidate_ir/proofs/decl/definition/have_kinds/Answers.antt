@@ -1,5 +1,5 @@
 use Rattle.std.proofs.Common.{arith}
-use Rattle.candidate_ir.proofs.Parameters.{lengths-differ, place-differs, one-more-place, all-places}
+use Rattle.candidate_ir.proofs.Kinding.Parameters.{lengths-differ, place-differs, one-more-place, all-places}
 use Rattle.candidate_ir.proofs.decl.definition.have_kinds.Goals as goal
 
 pub returns-then-list-kinds : goal.returns-then-list-kinds

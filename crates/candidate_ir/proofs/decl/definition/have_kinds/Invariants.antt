@@ -1,8 +1,8 @@
 use Rattle.std.proofs.Common.{◌≡◌, ℕ, ◌<◌, slice_index_or}
 use Rattle.candidate_ir.specs.declared.ir.kinds.VarKind.TheVariants as V
 use Rattle.candidate_ir.specs.declared.ir.kinds.GenericArg.TheVariants as A
-use Rattle.candidate_ir.specs.Context.{parameter_kind}
-use Rattle.candidate_ir.specs.Kinds.{arg_kind}
+use Rattle.candidate_ir.specs.Declarations.Context.{parameter_kind}
+use Rattle.candidate_ir.specs.Syntax.Kinds.{arg_kind}
 use Rattle.candidate_ir.proofs.decl.definition.have_kinds.Given as goal
 
 -- the arguments before are of the kinds in their places

@@ -1,5 +1,5 @@
-use Rattle.candidate_ir.proofs.Made.{IsVar-listed}
-use Rattle.candidate_ir.proofs.Joining.{no-kinds, one-more-kind, all-kinds}
+use Rattle.candidate_ir.proofs.Growth.Made.{IsVar-listed}
+use Rattle.candidate_ir.proofs.Instantiation.Joining.{no-kinds, one-more-kind, all-kinds}
 use Rattle.candidate_ir.proofs.decl.elaborate.add_kinds.Goals as goal
 
 pub loop-var-init : goal.loop-var-init

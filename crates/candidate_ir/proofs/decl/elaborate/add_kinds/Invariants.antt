@@ -1,4 +1,4 @@
-use Rattle.candidate_ir.proofs.Joining.{KindsSoFar}
+use Rattle.candidate_ir.proofs.Instantiation.Joining.{KindsSoFar}
 use Rattle.candidate_ir.proofs.decl.elaborate.add_kinds.Given as goal
 
 -- the kinds of those before are added

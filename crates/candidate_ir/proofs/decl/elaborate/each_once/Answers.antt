@@ -1,7 +1,7 @@
 use Rattle.std.specs.Prelude.{slice_index_or}
 use Rattle.std.proofs.lemmas.List.{get_or_default}
 use Rattle.candidate_ir.specs.declared.ir.kinds.Clause.{Clause}
-use Rattle.candidate_ir.proofs.Listing.{listed_clause, one_more_once}
+use Rattle.candidate_ir.proofs.Hierarchy.Listing.{listed_clause, one_more_once}
 use Rattle.candidate_ir.proofs.decl.elaborate.each_once.Goals as goal
 
 pub push_unlisted-requires-clause-clause : goal.push_unlisted-requires-clause-clause

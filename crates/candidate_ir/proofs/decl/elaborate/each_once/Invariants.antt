@@ -1,4 +1,4 @@
-use Rattle.candidate_ir.proofs.Listing.{EachOnce}
+use Rattle.candidate_ir.proofs.Hierarchy.Listing.{EachOnce}
 use Rattle.candidate_ir.proofs.decl.elaborate.each_once.Given as goal
 
 abbrev pub invariant-loop-clause : goal.invariant-loop-clause

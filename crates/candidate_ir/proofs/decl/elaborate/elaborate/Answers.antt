@@ -1,12 +1,12 @@
 use Rattle.std.proofs.Common.{rules, ◌≡◌, ◌<◌, ◌≤◌, length, get_or, refl, ◌∙◌, subst}
 use Rattle.std.specs.Prelude.{[], map}
 use Rattle.std.proofs.lemmas.Result.{err_from_is_err_and}
-use Rattle.candidate_ir.specs.Context.{Context}
-use Rattle.candidate_ir.specs.Elaboration.{unlisted}
-use Rattle.candidate_ir.specs.Words.{ClauseListFits, clause_tree}
-use Rattle.candidate_ir.proofs.Kept.{grows-refl, grows-trans}
-use Rattle.candidate_ir.proofs.Listing.{listed_clause}
-use Rattle.candidate_ir.proofs.Walking.{SupersFit, walk_begins, walk_goes_on, walk_ends, walk_stops, begins_without_memory}
+use Rattle.candidate_ir.specs.Declarations.Context.{Context}
+use Rattle.candidate_ir.specs.Hierarchy.Elaboration.{unlisted}
+use Rattle.candidate_ir.specs.Syntax.Words.{ClauseListFits, clause_tree}
+use Rattle.candidate_ir.proofs.Growth.Kept.{grows-refl, grows-trans}
+use Rattle.candidate_ir.proofs.Hierarchy.Listing.{listed_clause}
+use Rattle.candidate_ir.proofs.Hierarchy.Walking.{SupersFit, walk_begins, walk_goes_on, walk_ends, walk_stops, begins_without_memory}
 use Rattle.candidate_ir.proofs.decl.elaborate.elaborate.Goals as goal
 
 pub returns-in_err-list-clause-cause : goal.returns-in_err-list-clause-cause

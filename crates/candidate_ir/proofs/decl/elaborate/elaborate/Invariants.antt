@@ -1,5 +1,5 @@
 use Rattle.std.proofs.Common.{◌≡◌, ◌-◌}
-use Rattle.candidate_ir.proofs.Walking.{WalkSoFar}
+use Rattle.candidate_ir.proofs.Hierarchy.Walking.{WalkSoFar}
 use Rattle.candidate_ir.proofs.decl.elaborate.elaborate.Given as goal
 
 abbrev pub invariant-loop-walked : goal.invariant-loop-walked

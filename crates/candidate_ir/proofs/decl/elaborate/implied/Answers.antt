@@ -1,15 +1,15 @@
 use Rattle.std.proofs.Common.{◌≡◌, ◌∙◌, subst}
 use Rattle.std.specs.Prelude.{IfOk, length}
-use Rattle.candidate_ir.specs.Substitutions.{alone}
+use Rattle.candidate_ir.specs.Unification.Substitutions.{alone}
 use Rattle.std.proofs.lemmas.Result.{err_from_is_err_and}
-use Rattle.candidate_ir.specs.Trees.{Tree}
-use Rattle.candidate_ir.specs.Context.{world}
-use Rattle.candidate_ir.specs.References.{IsWellFormed}
-use Rattle.candidate_ir.specs.Words.{args_forest, clause_tree, vars_tree}
-use Rattle.candidate_ir.specs.Elaboration.{IsRenumberStop}
-use Rattle.candidate_ir.proofs.Kept.{args-kept, grows-trans}
-use Rattle.candidate_ir.proofs.References.{fit-at}
-use Rattle.candidate_ir.proofs.Joining.{below_binder, read-clause, read-fits, read-count, joint-variables, clause-kept, fold-kept, under-lacks, joint-fits, joint-cause, instance-cause, instance-tree, instance-takes, clause-stop}
+use Rattle.candidate_ir.specs.Syntax.Trees.{Tree}
+use Rattle.candidate_ir.specs.Declarations.Context.{world}
+use Rattle.candidate_ir.specs.Declarations.References.{IsWellFormed}
+use Rattle.candidate_ir.specs.Syntax.Words.{args_forest, clause_tree, vars_tree}
+use Rattle.candidate_ir.specs.Hierarchy.Elaboration.{IsRenumberStop}
+use Rattle.candidate_ir.proofs.Growth.Kept.{args-kept, grows-trans}
+use Rattle.candidate_ir.proofs.Kinding.References.{fit-at}
+use Rattle.candidate_ir.proofs.Instantiation.Joining.{below_binder, read-clause, read-fits, read-count, joint-variables, clause-kept, fold-kept, under-lacks, joint-fits, joint-cause, instance-cause, instance-tree, instance-takes, clause-stop}
 use Rattle.candidate_ir.proofs.decl.elaborate.implied.Goals as goal
 
 pub instantiated-requires-clause-clause : goal.instantiated-requires-clause-clause

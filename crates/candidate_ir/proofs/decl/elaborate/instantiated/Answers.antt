@@ -1,14 +1,14 @@
 use Rattle.std.proofs.Common.{◌≡◌, refl, rules}
 use Rattle.std.specs.Prelude.{◌-◌}
 use Rattle.std.proofs.lemmas.Result.{err_from_is_err_and}
-use Rattle.candidate_ir.specs.Trees.{ClauseKind}
-use Rattle.candidate_ir.specs.Words.{args_forest}
-use Rattle.candidate_ir.specs.Elaboration.{instance_head, IsRenumberStop}
-use Rattle.candidate_ir.proofs.Kept.{args-kept}
-use Rattle.candidate_ir.proofs.Lists.{below_kind}
-use Rattle.candidate_ir.proofs.FoldLaws.{head-number, reached-keeps}
-use Rattle.candidate_ir.proofs.FoldStops.{number-keeps-rest, head-stop}
-use Rattle.candidate_ir.proofs.Implying.{instance-only, renumber-cause, single-stop, heads}
+use Rattle.candidate_ir.specs.Syntax.Trees.{ClauseKind}
+use Rattle.candidate_ir.specs.Syntax.Words.{args_forest}
+use Rattle.candidate_ir.specs.Hierarchy.Elaboration.{instance_head, IsRenumberStop}
+use Rattle.candidate_ir.proofs.Growth.Kept.{args-kept}
+use Rattle.candidate_ir.proofs.Syntax.Lists.{below_kind}
+use Rattle.candidate_ir.proofs.Traversal.FoldLaws.{head-number, reached-keeps}
+use Rattle.candidate_ir.proofs.Traversal.FoldStops.{number-keeps-rest, head-stop}
+use Rattle.candidate_ir.proofs.Hierarchy.Implying.{instance-only, renumber-cause, single-stop, heads}
 use Rattle.candidate_ir.proofs.decl.elaborate.instantiated.Goals as goal
 
 pub fold_number-requires-clause-inside : goal.fold_number-requires-clause-inside

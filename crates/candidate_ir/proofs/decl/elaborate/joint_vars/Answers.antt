@@ -1,4 +1,4 @@
-use Rattle.candidate_ir.proofs.Joining.{both-kinds, joint-stop}
+use Rattle.candidate_ir.proofs.Instantiation.Joining.{both-kinds, joint-stop}
 use Rattle.candidate_ir.proofs.decl.elaborate.joint_vars.Goals as goal
 
 pub returns-clause-cause : goal.returns-clause-cause

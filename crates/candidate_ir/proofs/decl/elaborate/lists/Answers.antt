@@ -2,9 +2,9 @@ use Rattle.std.proofs.Common.{sym, ◌∙◌}
 use Rattle.std.specs.Prelude.{slice_index_or}
 use Rattle.std.proofs.lemmas.List.{get_or_default}
 use Rattle.candidate_ir.specs.declared.ir.kinds.Clause.{Clause}
-use Rattle.candidate_ir.specs.Elaboration.{is_same_clause}
-use Rattle.candidate_ir.proofs.Misplacing.{any_in, any_on}
-use Rattle.candidate_ir.proofs.Listing.{same_says, listed_clause}
+use Rattle.candidate_ir.specs.Hierarchy.Elaboration.{is_same_clause}
+use Rattle.candidate_ir.proofs.Validity.Misplacing.{any_in, any_on}
+use Rattle.candidate_ir.proofs.Hierarchy.Listing.{same_says, listed_clause}
 use Rattle.candidate_ir.proofs.decl.elaborate.lists.Goals as goal
 
 pub same-requires-clause-a : goal.same-requires-clause-a

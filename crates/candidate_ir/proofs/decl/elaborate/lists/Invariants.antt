@@ -1,6 +1,6 @@
 use Rattle.std.proofs.Common.{◌≡◌, drop}
 use Rattle.std.specs.List.{list_any}
-use Rattle.candidate_ir.specs.Elaboration.{is_same_clause}
+use Rattle.candidate_ir.specs.Hierarchy.Elaboration.{is_same_clause}
 use Rattle.candidate_ir.proofs.decl.elaborate.lists.Given as goal
 
 abbrev pub invariant-loop-other : goal.invariant-loop-other

@@ -1,11 +1,11 @@
 use Rattle.std.proofs.Common.{◌≡◌, sym, ◌∙◌, subst}
 use Rattle.std.specs.Prelude.{◌++◌, map, length, ◌⊎◌, IfOk, IfErr, List}
-use Rattle.candidate_ir.specs.Trees.{Tree}
-use Rattle.candidate_ir.specs.References.{IsWellFormed}
-use Rattle.candidate_ir.specs.Elaboration.{unlisted, IsUnmade}
+use Rattle.candidate_ir.specs.Syntax.Trees.{Tree}
+use Rattle.candidate_ir.specs.Declarations.References.{IsWellFormed}
+use Rattle.candidate_ir.specs.Hierarchy.Elaboration.{unlisted, IsUnmade}
 use Rattle.candidate_ir.specs.declared.ir.stop.Stop.TheVariants.{Memory}
-use Rattle.candidate_ir.specs.Words.{clause_tree}
-use Rattle.candidate_ir.proofs.Saying.{said_takes, said_implies}
+use Rattle.candidate_ir.specs.Syntax.Words.{clause_tree}
+use Rattle.candidate_ir.proofs.Hierarchy.Saying.{said_takes, said_implies}
 use Rattle.candidate_ir.proofs.decl.elaborate.push_implied.Goals as goal
 
 pub push_supers-requires-clause-fit : goal.push_supers-requires-clause-fit

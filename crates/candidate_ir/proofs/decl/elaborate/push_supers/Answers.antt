@@ -1,13 +1,13 @@
 use Rattle.std.proofs.Common.{◌≡◌, ◌≤◌, length, sym, ◌∙◌, ap, subst, inr, arith}
 use Rattle.std.proofs.lemmas.Result.{err_from_is_err_and}
 use Rattle.std.specs.Prelude.{◌++◌, ◌∷◌, [], map, Some, None, slice_get}
-use Rattle.candidate_ir.specs.Declaring.{trait_at}
-use Rattle.candidate_ir.specs.Supers.{supers_at}
-use Rattle.candidate_ir.specs.Context.{Context}
-use Rattle.candidate_ir.specs.Words.{ClauseListFits, clause_tree}
-use Rattle.candidate_ir.specs.Elaboration.{unlisted}
-use Rattle.candidate_ir.proofs.Kept.{args-kept, grows-trans, header-kept}
-use Rattle.candidate_ir.proofs.Listing.{all_supers, clauses_kept, no_more_supers, one_more_super, vars_kept, instance_kept, supers_read, super_unmade}
+use Rattle.candidate_ir.specs.Declarations.Declaring.{trait_at}
+use Rattle.candidate_ir.specs.Hierarchy.Supers.{supers_at}
+use Rattle.candidate_ir.specs.Declarations.Context.{Context}
+use Rattle.candidate_ir.specs.Syntax.Words.{ClauseListFits, clause_tree}
+use Rattle.candidate_ir.specs.Hierarchy.Elaboration.{unlisted}
+use Rattle.candidate_ir.proofs.Growth.Kept.{args-kept, grows-trans, header-kept}
+use Rattle.candidate_ir.proofs.Hierarchy.Listing.{all_supers, clauses_kept, no_more_supers, one_more_super, vars_kept, instance_kept, supers_read, super_unmade}
 use Rattle.candidate_ir.proofs.decl.elaborate.push_supers.Goals as goal
 use Rattle.candidate_ir.proofs.decl.elaborate.push_supers.Goals.{in-Some+in_ok-clause+in_ok-push_unlisted, in_default}
 

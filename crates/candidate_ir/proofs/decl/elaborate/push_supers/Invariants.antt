@@ -1,6 +1,6 @@
 use Rattle.std.proofs.Common.{◌≡◌}
-use Rattle.candidate_ir.specs.Words.{vars_tree, args_forest}
-use Rattle.candidate_ir.proofs.Listing.{SupersSoFar}
+use Rattle.candidate_ir.specs.Syntax.Words.{vars_tree, args_forest}
+use Rattle.candidate_ir.proofs.Hierarchy.Listing.{SupersSoFar}
 use Rattle.candidate_ir.proofs.decl.elaborate.push_supers.Given as goal
 
 -- the super clauses before that place were added

@@ -1,12 +1,12 @@
 use Rattle.std.proofs.Common.{◌≡◌, subst}
 use Rattle.std.specs.Prelude.{Option, IfOk, IfErr, option_map, length}
 use Rattle.std.proofs.lemmas.Result.{err_from_is_err_and}
-use Rattle.candidate_ir.specs.Trees.{Tree}
-use Rattle.candidate_ir.specs.Folds.{arg_tree}
-use Rattle.candidate_ir.specs.Elaboration.{IsHeadStop}
-use Rattle.candidate_ir.specs.Words.{args_forest}
-use Rattle.candidate_ir.proofs.Implying.{arg-kept, put-stop, passed}
-use Rattle.candidate_ir.proofs.Kept.{grows-trans}
+use Rattle.candidate_ir.specs.Syntax.Trees.{Tree}
+use Rattle.candidate_ir.specs.Instantiation.Folds.{arg_tree}
+use Rattle.candidate_ir.specs.Hierarchy.Elaboration.{IsHeadStop}
+use Rattle.candidate_ir.specs.Syntax.Words.{args_forest}
+use Rattle.candidate_ir.proofs.Hierarchy.Implying.{arg-kept, put-stop, passed}
+use Rattle.candidate_ir.proofs.Growth.Kept.{grows-trans}
 use Rattle.candidate_ir.proofs.decl.elaborate.put_or_renumber.Goals as goal
 
 pub returns-in_err-value-clause-cause : goal.returns-in_err-value-clause-cause

@@ -1,8 +1,8 @@
 use Rattle.std.proofs.Common.{sym, ◌∙◌}
 use Rattle.std.proofs.lemmas.Result.{err_from_is_err_and}
-use Rattle.candidate_ir.proofs.Asking.{arg-head, arg-head-is, arg-below}
-use Rattle.candidate_ir.proofs.Bound.{renumbers, renumbers-too-high, renumbers-unmade}
-use Rattle.candidate_ir.proofs.Opening.{bound-kind}
+use Rattle.candidate_ir.proofs.Traversal.Asking.{arg-head, arg-head-is, arg-below}
+use Rattle.candidate_ir.proofs.Instantiation.Bound.{renumbers, renumbers-too-high, renumbers-unmade}
+use Rattle.candidate_ir.proofs.Instantiation.Opening.{bound-kind}
 use Rattle.candidate_ir.proofs.decl.elaborate.renumbered.Goals as goal
 
 pub head-head-requires : goal.head-head-requires

@@ -2,8 +2,8 @@ use Rattle.std.proofs.Common.{sym, ◌∙◌}
 use Rattle.std.specs.Prelude.{slice_index_or}
 use Rattle.std.proofs.lemmas.List.{get_or_default}
 use Rattle.candidate_ir.specs.declared.ir.kinds.Clause.{Clause}
-use Rattle.candidate_ir.proofs.Listing.{listed_clause}
-use Rattle.candidate_ir.proofs.Choosing.{one_chosen, one_left}
+use Rattle.candidate_ir.proofs.Hierarchy.Listing.{listed_clause}
+use Rattle.candidate_ir.proofs.Hierarchy.Choosing.{one_chosen, one_left}
 use Rattle.candidate_ir.proofs.decl.elaborate.trait_clauses.Goals as goal
 use Rattle.candidate_ir.proofs.decl.elaborate.trait_clauses.Goals.{then-is_trait_clause+in_ok-push, else-is_trait_clause}
 

@@ -1,4 +1,4 @@
-use Rattle.candidate_ir.proofs.Choosing.{Chosen}
+use Rattle.candidate_ir.proofs.Hierarchy.Choosing.{Chosen}
 use Rattle.candidate_ir.proofs.decl.elaborate.trait_clauses.Given as goal
 
 abbrev pub invariant-loop-clause : goal.invariant-loop-clause

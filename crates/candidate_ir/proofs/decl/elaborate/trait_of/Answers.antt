@@ -1,6 +1,6 @@
 use Rattle.std.proofs.Common.{refl}
-use Rattle.candidate_ir.specs.Trees.{ClauseKind}
-use Rattle.candidate_ir.proofs.Lists.{below_kind}
+use Rattle.candidate_ir.specs.Syntax.Trees.{ClauseKind}
+use Rattle.candidate_ir.proofs.Syntax.Lists.{below_kind}
 use Rattle.candidate_ir.proofs.decl.elaborate.trait_of.Goals as goal
 
 pub head-requires : goal.head-requires

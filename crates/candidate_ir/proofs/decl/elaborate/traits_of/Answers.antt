@@ -3,10 +3,10 @@ use Rattle.std.specs.Prelude.{slice_index_or, option_map, Option, Some, None}
 use Rattle.std.proofs.lemmas.List.{get_or_default}
 use Rattle.candidate_ir.specs.declared.ir.kinds.Clause.{Clause}
 use Rattle.candidate_ir.specs.declared.ir.kinds.TraitId.{TraitId}
-use Rattle.candidate_ir.specs.Words.{clause_tree}
-use Rattle.candidate_ir.specs.Elaboration.{trait_of}
-use Rattle.candidate_ir.proofs.Listing.{listed_clause}
-use Rattle.candidate_ir.proofs.Numbering.{one_numbered}
+use Rattle.candidate_ir.specs.Syntax.Words.{clause_tree}
+use Rattle.candidate_ir.specs.Hierarchy.Elaboration.{trait_of}
+use Rattle.candidate_ir.proofs.Hierarchy.Listing.{listed_clause}
+use Rattle.candidate_ir.proofs.Hierarchy.Numbering.{one_numbered}
 use Rattle.candidate_ir.proofs.decl.elaborate.traits_of.Goals as goal
 use Rattle.candidate_ir.proofs.decl.elaborate.traits_of.Goals.{in-Some+in_ok-push_trait, in_default}
 

@@ -1,4 +1,4 @@
-use Rattle.candidate_ir.proofs.Numbering.{Numbered}
+use Rattle.candidate_ir.proofs.Hierarchy.Numbering.{Numbered}
 use Rattle.candidate_ir.proofs.decl.elaborate.traits_of.Given as goal
 
 abbrev pub invariant-loop-clause : goal.invariant-loop-clause

@@ -5,20 +5,20 @@ use Rattle.std.proofs.lemmas.Result.{err_from_is_err_and}
 use Rattle.candidate_ir.specs.declared.ir.kinds.Pred.{Pred}
 use Rattle.candidate_ir.specs.declared.ir.node.Node.{Node}
 use Rattle.candidate_ir.specs.declared.ir.node.Node.TheVariants as N
-use Rattle.candidate_ir.specs.Context.{Context}
-use Rattle.candidate_ir.specs.Kinds.{numbers, sorts}
-use Rattle.candidate_ir.specs.Nodes.{tree_at, children_of, kinds_at, pred_child, Fits}
-use Rattle.candidate_ir.specs.References.{IsWellFormed}
-use Rattle.candidate_ir.specs.Table.{Below}
-use Rattle.candidate_ir.specs.Trees.{PredicateKind, binders_of}
-use Rattle.candidate_ir.specs.Words.{PredFits, pred_kind_tree, bounds_forest}
-use Rattle.candidate_ir.proofs.Kept.{grows-trans, number-kept}
-use Rattle.candidate_ir.proofs.Lists.{Fits-below, Below-there, there-preds}
-use Rattle.candidate_ir.proofs.Children.{Below-get, length-numbers, length_preds, pred_at}
-use Rattle.candidate_ir.proofs.Made.{IsPred-listed, kind_at-grows}
-use Rattle.candidate_ir.proofs.FoldSteps.{children-begin, children-next, relisted, relisted-stop, relisted-memory, renumbers-at, reached-then, folds-reached, may-later, keeps-later, unchanged-makes, extends-length}
-use Rattle.candidate_ir.proofs.FoldBounds.{bounds-begin, bounds-next, bounds-stop, bounds-made, bounds-unmade, one-principal, outcome-memory}
-use Rattle.candidate_ir.proofs.FoldNodes.{no-bound-at, no-bound-pred, no-bound, is-rebuilt, same-count, said-nothing, said-reached, number-refused, number-answered, number-memory, number-leaf, number-variables, number-bounds, number-bound, number-stopped, number-again, number-takes, copy-fits, copy-below, copy-principal}
+use Rattle.candidate_ir.specs.Declarations.Context.{Context}
+use Rattle.candidate_ir.specs.Syntax.Kinds.{numbers, sorts}
+use Rattle.candidate_ir.specs.Syntax.Nodes.{tree_at, children_of, kinds_at, pred_child, Fits}
+use Rattle.candidate_ir.specs.Declarations.References.{IsWellFormed}
+use Rattle.candidate_ir.specs.Syntax.Table.{Below}
+use Rattle.candidate_ir.specs.Syntax.Trees.{PredicateKind, binders_of}
+use Rattle.candidate_ir.specs.Syntax.Words.{PredFits, pred_kind_tree, bounds_forest}
+use Rattle.candidate_ir.proofs.Growth.Kept.{grows-trans, number-kept}
+use Rattle.candidate_ir.proofs.Syntax.Lists.{Fits-below, Below-there, there-preds}
+use Rattle.candidate_ir.proofs.Syntax.Children.{Below-get, length-numbers, length_preds, pred_at}
+use Rattle.candidate_ir.proofs.Growth.Made.{IsPred-listed, kind_at-grows}
+use Rattle.candidate_ir.proofs.Traversal.FoldSteps.{children-begin, children-next, relisted, relisted-stop, relisted-memory, renumbers-at, reached-then, folds-reached, may-later, keeps-later, unchanged-makes, extends-length}
+use Rattle.candidate_ir.proofs.Traversal.FoldBounds.{bounds-begin, bounds-next, bounds-stop, bounds-made, bounds-unmade, one-principal, outcome-memory}
+use Rattle.candidate_ir.proofs.Traversal.FoldNodes.{no-bound-at, no-bound-pred, no-bound, is-rebuilt, same-count, said-nothing, said-reached, number-refused, number-answered, number-memory, number-leaf, number-variables, number-bounds, number-bound, number-stopped, number-again, number-takes, copy-fits, copy-below, copy-principal}
 use Rattle.candidate_ir.proofs.decl.fold.+fold.Goals as goal
 
 pub fold_children-loop-i-init : goal.fold_children-loop-i-init

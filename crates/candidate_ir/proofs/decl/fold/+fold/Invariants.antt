@@ -1,10 +1,10 @@
 use Rattle.std.proofs.Common.{◌+◌, ◌*◌}
 use Rattle.std.specs.Prelude.{map}
-use Rattle.candidate_ir.specs.Kinds.{numbers}
-use Rattle.candidate_ir.specs.Nodes.{children_of, head_of, pred_child}
-use Rattle.candidate_ir.specs.Trees.{binders_of}
-use Rattle.candidate_ir.proofs.FoldSteps.{ChildrenSoFar}
-use Rattle.candidate_ir.proofs.FoldBounds.{BoundsSoFar}
+use Rattle.candidate_ir.specs.Syntax.Kinds.{numbers}
+use Rattle.candidate_ir.specs.Syntax.Nodes.{children_of, head_of, pred_child}
+use Rattle.candidate_ir.specs.Syntax.Trees.{binders_of}
+use Rattle.candidate_ir.proofs.Traversal.FoldSteps.{ChildrenSoFar}
+use Rattle.candidate_ir.proofs.Traversal.FoldBounds.{BoundsSoFar}
 use Rattle.candidate_ir.proofs.decl.fold.+fold.Given as goal
 
 abbrev pub decreases-fold_children : goal.decreases-fold_children

@@ -1,11 +1,11 @@
 use Rattle.std.proofs.Common.{refl, sym, ◌∙◌, ap}
 use Rattle.std.specs.Prelude.{map}
 use Rattle.candidate_ir.specs.declared.ir.heads.ListHead.TheVariants as L
-use Rattle.candidate_ir.specs.Trees.{ArgumentsKind, ClausesKind}
-use Rattle.candidate_ir.specs.Kinds.{numbers, arg_child}
-use Rattle.candidate_ir.specs.Nodes.{trees_at, node_tree, clause_child}
-use Rattle.candidate_ir.specs.Words.{list_forest, clause_list_forest}
-use Rattle.candidate_ir.proofs.Rebuild.{list-tree}
+use Rattle.candidate_ir.specs.Syntax.Trees.{ArgumentsKind, ClausesKind}
+use Rattle.candidate_ir.specs.Syntax.Kinds.{numbers, arg_child}
+use Rattle.candidate_ir.specs.Syntax.Nodes.{trees_at, node_tree, clause_child}
+use Rattle.candidate_ir.specs.Syntax.Words.{list_forest, clause_list_forest}
+use Rattle.candidate_ir.proofs.Traversal.Rebuild.{list-tree}
 use Rattle.candidate_ir.proofs.decl.fold.add.Goals as goal
 
 pub returns-in_ok-mk_args-in-Args-clause-tree : goal.returns-in_ok-mk_args-in-Args-clause-tree

@@ -1,5 +1,5 @@
 use Rattle.std.proofs.Common.{arith, rules}
-use Rattle.candidate_ir.proofs.Folds.{call_may, call-keeps, call-says}
+use Rattle.candidate_ir.proofs.Traversal.Folds.{call_may, call-keeps, call-says}
 use Rattle.candidate_ir.proofs.decl.fold.call.Goals as goal
 
 pub returns : goal.returns

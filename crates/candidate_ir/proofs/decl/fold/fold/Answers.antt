@@ -1,9 +1,9 @@
 use Rattle.std.proofs.Common.{sym, ◌∙◌, ap, ℕ}
 use Rattle.std.proofs.lemmas.Result.{err_from_is_err_and}
-use Rattle.candidate_ir.specs.Nodes.{kind_at, tree_at, is_bound_kind}
-use Rattle.candidate_ir.proofs.Lists.{below_kind}
-use Rattle.candidate_ir.proofs.FoldLaws.{outcome-of, stop-of, number-by, members-by}
-use Rattle.candidate_ir.proofs.FoldStops.{number-rest}
+use Rattle.candidate_ir.specs.Syntax.Nodes.{kind_at, tree_at, is_bound_kind}
+use Rattle.candidate_ir.proofs.Syntax.Lists.{below_kind}
+use Rattle.candidate_ir.proofs.Traversal.FoldLaws.{outcome-of, stop-of, number-by, members-by}
+use Rattle.candidate_ir.proofs.Traversal.FoldStops.{number-rest}
 use Rattle.candidate_ir.proofs.decl.fold.fold.Goals as goal
 
 pub fold_number-requires-clause-inside : goal.fold_number-requires-clause-inside

@@ -1,5 +1,5 @@
 use Rattle.std.proofs.lemmas.Result.{err_from_is_err_and}
-use Rattle.candidate_ir.proofs.Folds.{said-stop}
+use Rattle.candidate_ir.proofs.Traversal.Folds.{said-stop}
 use Rattle.candidate_ir.proofs.decl.fold.said.Goals as goal
 
 pub returns-in_err-answer : goal.returns-in_err-answer

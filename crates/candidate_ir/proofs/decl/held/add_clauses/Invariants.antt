@@ -1,5 +1,5 @@
 use Rattle.std.proofs.Common.{◌≡◌, ◌++◌, take}
-use Rattle.candidate_ir.specs.Held.{held_clauses}
+use Rattle.candidate_ir.specs.Validity.Held.{held_clauses}
 use Rattle.candidate_ir.proofs.decl.held.add_clauses.Given as goal
 
 -- those before are added

@@ -1,6 +1,6 @@
 use Rattle.std.proofs.Common.{◌≡◌, ◌++◌, take}
 use Rattle.std.specs.Prelude.{map}
-use Rattle.candidate_ir.specs.Held.{held_type}
+use Rattle.candidate_ir.specs.Validity.Held.{held_type}
 use Rattle.candidate_ir.proofs.decl.held.add_types.Given as goal
 
 -- those before are added

@@ -1,8 +1,8 @@
 use Rattle.std.proofs.Common.{rules, ◌++◌, ◌∙◌, ap}
-use Rattle.candidate_ir.specs.Declaration.{Declaration}
-use Rattle.candidate_ir.specs.Declaring.{contents_of}
-use Rattle.candidate_ir.specs.Held.{definition_held, definitions_held}
-use Rattle.candidate_ir.proofs.Holding.{one_more_definition, one_more_impl}
+use Rattle.candidate_ir.specs.Declarations.Declaration.{Declaration}
+use Rattle.candidate_ir.specs.Declarations.Declaring.{contents_of}
+use Rattle.candidate_ir.specs.Validity.Held.{definition_held, definitions_held}
+use Rattle.candidate_ir.proofs.Validity.Holding.{one_more_definition, one_more_impl}
 use Rattle.candidate_ir.proofs.decl.held.all_held.Goals as goal
 
 pub loop-number-preserved : goal.loop-number-preserved

@@ -1,6 +1,6 @@
 use Rattle.std.proofs.Common.{◌≡◌, ◌++◌, take}
-use Rattle.candidate_ir.specs.Held.{definitions_held, impls_held}
-use Rattle.candidate_ir.specs.Declaring.{contents_of}
+use Rattle.candidate_ir.specs.Validity.Held.{definitions_held, impls_held}
+use Rattle.candidate_ir.specs.Declarations.Declaring.{contents_of}
 use Rattle.candidate_ir.proofs.decl.held.all_held.Given as goal
 
 -- what the definitions before hold is added

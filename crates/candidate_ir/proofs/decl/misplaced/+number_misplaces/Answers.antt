@@ -1,10 +1,10 @@
 use Rattle.std.proofs.Common.{arith, sym, ◌∙◌, ap}
-use Rattle.candidate_ir.specs.Misplaced.{is_misplaced, with_self}
-use Rattle.candidate_ir.specs.Parameters.{kinds_of}
-use Rattle.candidate_ir.specs.Kinds.{numbers}
-use Rattle.candidate_ir.specs.Nodes.{children_of}
-use Rattle.candidate_ir.proofs.Misplacing.{misplaced-list}
-use Rattle.candidate_ir.proofs.Children.{Below-get, any-found, any-on, any-none, walk_end}
+use Rattle.candidate_ir.specs.Validity.Misplaced.{is_misplaced, with_self}
+use Rattle.candidate_ir.specs.Declarations.Parameters.{kinds_of}
+use Rattle.candidate_ir.specs.Syntax.Kinds.{numbers}
+use Rattle.candidate_ir.specs.Syntax.Nodes.{children_of}
+use Rattle.candidate_ir.proofs.Validity.Misplacing.{misplaced-list}
+use Rattle.candidate_ir.proofs.Syntax.Children.{Below-get, any-found, any-on, any-none, walk_end}
 use Rattle.candidate_ir.proofs.decl.misplaced.+number_misplaces.Goals as goal
 
 pub number_misplaces-requires : goal.number_misplaces-requires

@@ -1,8 +1,8 @@
 use Rattle.std.proofs.Common.{◌≡◌, drop}
-use Rattle.candidate_ir.specs.Misplaced.{is_misplaced, with_self}
-use Rattle.candidate_ir.specs.Parameters.{kinds_of}
-use Rattle.candidate_ir.specs.Kinds.{numbers}
-use Rattle.candidate_ir.specs.Nodes.{any_holds, trees_at, children_of}
+use Rattle.candidate_ir.specs.Validity.Misplaced.{is_misplaced, with_self}
+use Rattle.candidate_ir.specs.Declarations.Parameters.{kinds_of}
+use Rattle.candidate_ir.specs.Syntax.Kinds.{numbers}
+use Rattle.candidate_ir.specs.Syntax.Nodes.{any_holds, trees_at, children_of}
 use Rattle.candidate_ir.proofs.decl.misplaced.+number_misplaces.Given as goal
 
 abbrev pub decreases-number_misplaces : goal.decreases-number_misplaces

@@ -1,6 +1,6 @@
 use Rattle.std.proofs.Common.{◌≡◌, drop}
 use Rattle.std.specs.List.{list_any}
-use Rattle.candidate_ir.specs.Misplaced.{held_misplaces}
+use Rattle.candidate_ir.specs.Validity.Misplaced.{held_misplaces}
 use Rattle.candidate_ir.proofs.decl.misplaced.any_misplaces.Given as goal
 
 abbrev pub invariant-loop-held : goal.invariant-loop-held

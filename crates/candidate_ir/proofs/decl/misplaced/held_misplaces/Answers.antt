@@ -1,4 +1,4 @@
-use Rattle.candidate_ir.proofs.Misplacing.{given_below}
+use Rattle.candidate_ir.proofs.Validity.Misplacing.{given_below}
 use Rattle.candidate_ir.proofs.decl.misplaced.held_misplaces.Goals as goal
 
 pub definition_misplaces-requires : goal.definition_misplaces-requires

@@ -1,10 +1,10 @@
 use Rattle.std.proofs.Common.{refl, ◌∙◌, ap}
 use Rattle.std.specs.Prelude.{map}
-use Rattle.candidate_ir.specs.Nodes.{rows}
-use Rattle.candidate_ir.specs.Trees.{join}
-use Rattle.candidate_ir.specs.Words.{var_kind_tree, vars_tree}
-use Rattle.candidate_ir.proofs.Joining.{read-clause}
-use Rattle.candidate_ir.proofs.Opening.{kinds-read}
+use Rattle.candidate_ir.specs.Syntax.Nodes.{rows}
+use Rattle.candidate_ir.specs.Syntax.Trees.{join}
+use Rattle.candidate_ir.specs.Syntax.Words.{var_kind_tree, vars_tree}
+use Rattle.candidate_ir.proofs.Instantiation.Joining.{read-clause}
+use Rattle.candidate_ir.proofs.Instantiation.Opening.{kinds-read}
 use Rattle.candidate_ir.proofs.decl.open.binder_kinds.Goals as goal
 
 pub returns : goal.returns

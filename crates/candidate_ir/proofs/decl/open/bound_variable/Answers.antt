@@ -1,6 +1,6 @@
 use Rattle.std.proofs.Common.{arith}
 use Rattle.std.proofs.lemmas.Result.{err_from_is_err_and}
-use Rattle.candidate_ir.proofs.FoldStops.{leaf-stop}
+use Rattle.candidate_ir.proofs.Traversal.FoldStops.{leaf-stop}
 use Rattle.candidate_ir.proofs.decl.open.bound_variable.Goals as goal
 
 pub returns-in_err-mk_ty-in-Ty-clause-cause : goal.returns-in_err-mk_ty-in-Ty-clause-cause

@@ -1,15 +1,15 @@
 use Rattle.std.proofs.Common.{◌≡◌, ◌∙◌, refl, sym, subst}
 use Rattle.std.proofs.lemmas.Result.{err_from_is_err_and}
 use Rattle.std.specs.Prelude.{IfOk}
-use Rattle.candidate_ir.specs.Context.{Context, world}
-use Rattle.candidate_ir.specs.References.{IsWellFormed}
-use Rattle.candidate_ir.specs.Trees.{ClauseKind, Tree}
-use Rattle.candidate_ir.specs.Words.{IsClause, args_forest, clause_tree}
-use Rattle.candidate_ir.proofs.Joining.{clause-kept, clause-unmade, read-clause, read-fits}
-use Rattle.candidate_ir.proofs.Opening.{binder-stop, opened-cause, opened-tree, opened-takes}
-use Rattle.candidate_ir.proofs.References.{fit-at}
-use Rattle.candidate_ir.proofs.Rows.{kind-of}
-use Rattle.candidate_ir.proofs.Kept.{grows-trans}
+use Rattle.candidate_ir.specs.Declarations.Context.{Context, world}
+use Rattle.candidate_ir.specs.Declarations.References.{IsWellFormed}
+use Rattle.candidate_ir.specs.Syntax.Trees.{ClauseKind, Tree}
+use Rattle.candidate_ir.specs.Syntax.Words.{IsClause, args_forest, clause_tree}
+use Rattle.candidate_ir.proofs.Instantiation.Joining.{clause-kept, clause-unmade, read-clause, read-fits}
+use Rattle.candidate_ir.proofs.Instantiation.Opening.{binder-stop, opened-cause, opened-tree, opened-takes}
+use Rattle.candidate_ir.proofs.Kinding.References.{fit-at}
+use Rattle.candidate_ir.proofs.Syntax.Rows.{kind-of}
+use Rattle.candidate_ir.proofs.Growth.Kept.{grows-trans}
 use Rattle.candidate_ir.proofs.decl.open.open_clause.Goals as goal
 
 pub clause-value-requires : goal.clause-value-requires

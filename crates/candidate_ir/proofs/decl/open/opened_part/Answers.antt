@@ -1,6 +1,6 @@
 use Rattle.std.proofs.Common.{sym, ◌∙◌}
-use Rattle.candidate_ir.proofs.Asking.{arg-head, arg-below}
-use Rattle.candidate_ir.proofs.Opening.{answer-kind, bound-kind}
+use Rattle.candidate_ir.proofs.Traversal.Asking.{arg-head, arg-below}
+use Rattle.candidate_ir.proofs.Instantiation.Opening.{answer-kind, bound-kind}
 use Rattle.candidate_ir.proofs.decl.open.opened_part.Goals as goal
 
 pub head-head-requires : goal.head-head-requires

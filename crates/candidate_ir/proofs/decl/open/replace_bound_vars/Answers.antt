@@ -1,13 +1,13 @@
 use Rattle.std.proofs.Common.{◌≡◌, ◌∙◌, ap, refl, rules, sym, ℕ}
 use Rattle.std.proofs.lemmas.Result.{err_from_is_err_and}
-use Rattle.candidate_ir.specs.Nodes.{is_bound_kind, kind_at, tree_at}
-use Rattle.candidate_ir.specs.Opening.{opened_head}
-use Rattle.candidate_ir.specs.Words.{args_forest}
-use Rattle.candidate_ir.proofs.Kept.{args-kept}
-use Rattle.candidate_ir.proofs.Lists.{below_kind}
-use Rattle.candidate_ir.proofs.FoldLaws.{reached-keeps}
-use Rattle.candidate_ir.proofs.FoldStops.{number-keeps-rest, head-cause}
-use Rattle.candidate_ir.proofs.Opening.{made-members, made-tree, opened-only}
+use Rattle.candidate_ir.specs.Syntax.Nodes.{is_bound_kind, kind_at, tree_at}
+use Rattle.candidate_ir.specs.Instantiation.Opening.{opened_head}
+use Rattle.candidate_ir.specs.Syntax.Words.{args_forest}
+use Rattle.candidate_ir.proofs.Growth.Kept.{args-kept}
+use Rattle.candidate_ir.proofs.Syntax.Lists.{below_kind}
+use Rattle.candidate_ir.proofs.Traversal.FoldLaws.{reached-keeps}
+use Rattle.candidate_ir.proofs.Traversal.FoldStops.{number-keeps-rest, head-cause}
+use Rattle.candidate_ir.proofs.Instantiation.Opening.{made-members, made-tree, opened-only}
 use Rattle.candidate_ir.proofs.decl.open.replace_bound_vars.Goals as goal
 
 pub fold_number-requires-clause-inside : goal.fold_number-requires-clause-inside

@@ -1,7 +1,7 @@
 use Rattle.std.proofs.Common.{sym}
-use Rattle.candidate_ir.specs.Words.{args_forest}
-use Rattle.candidate_ir.proofs.Opening.{value-missing, value-there, value-other}
-use Rattle.candidate_ir.proofs.Substituting.{not-both}
+use Rattle.candidate_ir.specs.Syntax.Words.{args_forest}
+use Rattle.candidate_ir.proofs.Instantiation.Opening.{value-missing, value-there, value-other}
+use Rattle.candidate_ir.proofs.Instantiation.Substituting.{not-both}
 use Rattle.candidate_ir.proofs.decl.open.value_of_kind.Goals as goal
 
 pub returns-in_err-value : goal.returns-in_err-value

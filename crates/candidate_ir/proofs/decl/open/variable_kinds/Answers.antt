@@ -1,8 +1,8 @@
 use Rattle.std.proofs.Common.{sym, ◌∙◌, ap}
 use Rattle.std.specs.Prelude.{map}
-use Rattle.candidate_ir.specs.Nodes.{rows}
-use Rattle.candidate_ir.specs.Trees.{join}
-use Rattle.candidate_ir.specs.Words.{var_kind_tree, vars_tree}
+use Rattle.candidate_ir.specs.Syntax.Nodes.{rows}
+use Rattle.candidate_ir.specs.Syntax.Trees.{join}
+use Rattle.candidate_ir.specs.Syntax.Words.{var_kind_tree, vars_tree}
 use Rattle.candidate_ir.proofs.decl.open.variable_kinds.Goals as goal
 
 pub returns : goal.returns

@@ -1,10 +1,10 @@
 use Rattle.std.proofs.Common.{arith, sym, ◌∙◌, ap}
-use Rattle.candidate_ir.specs.Folding.{lacks_argument}
-use Rattle.candidate_ir.specs.Kinds.{numbers}
-use Rattle.candidate_ir.specs.Nodes.{children_of}
-use Rattle.candidate_ir.specs.Words.{args_forest}
-use Rattle.candidate_ir.proofs.Arguments.{lacks-list}
-use Rattle.candidate_ir.proofs.Children.{Below-get, any-found, any-on, any-none, walk_end}
+use Rattle.candidate_ir.specs.Instantiation.Folding.{lacks_argument}
+use Rattle.candidate_ir.specs.Syntax.Kinds.{numbers}
+use Rattle.candidate_ir.specs.Syntax.Nodes.{children_of}
+use Rattle.candidate_ir.specs.Syntax.Words.{args_forest}
+use Rattle.candidate_ir.proofs.Instantiation.Arguments.{lacks-list}
+use Rattle.candidate_ir.proofs.Syntax.Children.{Below-get, any-found, any-on, any-none, walk_end}
 use Rattle.candidate_ir.proofs.decl.parameters.+number_lacks.Goals as goal
 
 pub number_lacks-requires : goal.number_lacks-requires

@@ -1,8 +1,8 @@
 use Rattle.std.proofs.Common.{◌≡◌, drop}
-use Rattle.candidate_ir.specs.Folding.{lacks_argument}
-use Rattle.candidate_ir.specs.Kinds.{numbers}
-use Rattle.candidate_ir.specs.Nodes.{any_holds, trees_at, children_of}
-use Rattle.candidate_ir.specs.Words.{args_forest}
+use Rattle.candidate_ir.specs.Instantiation.Folding.{lacks_argument}
+use Rattle.candidate_ir.specs.Syntax.Kinds.{numbers}
+use Rattle.candidate_ir.specs.Syntax.Nodes.{any_holds, trees_at, children_of}
+use Rattle.candidate_ir.specs.Syntax.Words.{args_forest}
 use Rattle.candidate_ir.proofs.decl.parameters.+number_lacks.Given as goal
 
 abbrev pub decreases-number_lacks : goal.decreases-number_lacks

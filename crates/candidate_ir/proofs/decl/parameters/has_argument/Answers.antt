@@ -1,8 +1,8 @@
 use Rattle.std.proofs.Common.{refl}
 use Rattle.candidate_ir.specs.declared.ir.kinds.GenericArg.TheVariants as A
-use Rattle.candidate_ir.specs.Context.{parameter_kind}
-use Rattle.candidate_ir.specs.Words.{args_forest}
-use Rattle.candidate_ir.proofs.Arguments.{has-kind, has-none}
+use Rattle.candidate_ir.specs.Declarations.Context.{parameter_kind}
+use Rattle.candidate_ir.specs.Syntax.Words.{args_forest}
+use Rattle.candidate_ir.proofs.Instantiation.Arguments.{has-kind, has-none}
 use Rattle.candidate_ir.proofs.decl.parameters.has_argument.Goals as goal
 
 pub returns-then-index-list : goal.returns-then-index-list

@@ -1,10 +1,10 @@
 use Rattle.std.proofs.Common.{subst, ◌≡◌, ℕ}
-use Rattle.candidate_ir.specs.Folding.{lacks_argument}
-use Rattle.candidate_ir.specs.Nodes.{tree_at}
-use Rattle.candidate_ir.specs.Trees.{tree_holds}
-use Rattle.candidate_ir.specs.Words.{args_forest}
-use Rattle.candidate_ir.proofs.Arguments.{nothing-lacks}
-use Rattle.candidate_ir.proofs.Lists.{below_kind}
+use Rattle.candidate_ir.specs.Instantiation.Folding.{lacks_argument}
+use Rattle.candidate_ir.specs.Syntax.Nodes.{tree_at}
+use Rattle.candidate_ir.specs.Syntax.Trees.{tree_holds}
+use Rattle.candidate_ir.specs.Syntax.Words.{args_forest}
+use Rattle.candidate_ir.proofs.Instantiation.Arguments.{nothing-lacks}
+use Rattle.candidate_ir.proofs.Syntax.Lists.{below_kind}
 use Rattle.candidate_ir.proofs.decl.parameters.has_arguments.Goals as goal
 
 pub number_lacks-requires-clause-inside : goal.number_lacks-requires-clause-inside

@@ -1,11 +1,11 @@
 use Rattle.std.proofs.Common.{arith, sym, ◌∙◌}
-use Rattle.candidate_ir.specs.Misplaced.{with_self}
-use Rattle.candidate_ir.specs.Plain.{is_doubtful}
-use Rattle.candidate_ir.specs.Parameters.{kinds_of}
-use Rattle.candidate_ir.specs.Kinds.{numbers}
-use Rattle.candidate_ir.specs.Nodes.{children_of}
-use Rattle.candidate_ir.proofs.Children.{Below-get, any-on, any-none, walk_end}
-use Rattle.candidate_ir.proofs.Plain.{plain-list, plain-node}
+use Rattle.candidate_ir.specs.Validity.Misplaced.{with_self}
+use Rattle.candidate_ir.specs.Calls.Plain.{is_doubtful}
+use Rattle.candidate_ir.specs.Declarations.Parameters.{kinds_of}
+use Rattle.candidate_ir.specs.Syntax.Kinds.{numbers}
+use Rattle.candidate_ir.specs.Syntax.Nodes.{children_of}
+use Rattle.candidate_ir.proofs.Syntax.Children.{Below-get, any-on, any-none, walk_end}
+use Rattle.candidate_ir.proofs.Validity.Plain.{plain-list, plain-node}
 use Rattle.candidate_ir.proofs.decl.plain.+number_is_plain.Goals as goal
 
 pub number_is_plain-requires : goal.number_is_plain-requires

@@ -1,9 +1,9 @@
 use Rattle.std.proofs.Common.{◌≡◌, drop}
-use Rattle.candidate_ir.specs.Misplaced.{with_self}
-use Rattle.candidate_ir.specs.Plain.{is_doubtful}
-use Rattle.candidate_ir.specs.Parameters.{kinds_of}
-use Rattle.candidate_ir.specs.Kinds.{numbers}
-use Rattle.candidate_ir.specs.Nodes.{any_holds, trees_at, children_of}
+use Rattle.candidate_ir.specs.Validity.Misplaced.{with_self}
+use Rattle.candidate_ir.specs.Calls.Plain.{is_doubtful}
+use Rattle.candidate_ir.specs.Declarations.Parameters.{kinds_of}
+use Rattle.candidate_ir.specs.Syntax.Kinds.{numbers}
+use Rattle.candidate_ir.specs.Syntax.Nodes.{any_holds, trees_at, children_of}
 use Rattle.candidate_ir.proofs.decl.plain.+number_is_plain.Given as goal
 
 abbrev pub decreases-number_is_plain : goal.decreases-number_is_plain

@@ -1,4 +1,4 @@
-use Rattle.candidate_ir.proofs.Plain.{NoneUpTo}
+use Rattle.candidate_ir.proofs.Validity.Plain.{NoneUpTo}
 use Rattle.candidate_ir.proofs.decl.plain.all_are_plain.Given as goal
 
 abbrev pub invariant-loop-held : goal.invariant-loop-held

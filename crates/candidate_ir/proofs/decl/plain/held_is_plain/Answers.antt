@@ -1,4 +1,4 @@
-use Rattle.candidate_ir.proofs.Misplacing.{given_below}
+use Rattle.candidate_ir.proofs.Validity.Misplacing.{given_below}
 use Rattle.candidate_ir.proofs.decl.plain.held_is_plain.Goals as goal
 
 pub definition_is_plain-requires : goal.definition_is_plain-requires

@@ -1,12 +1,12 @@
 use Rattle.std.proofs.Common.{◌≡◌, ℕ, refl, sym, ◌∙◌, ap}
 use Rattle.candidate_ir.specs.declared.ir.heads.Head.TheVariants as H
 use Rattle.candidate_ir.specs.declared.ir.heads.ConstHead.TheVariants as CH
-use Rattle.candidate_ir.specs.Folding.{put_if_there}
-use Rattle.candidate_ir.specs.Folds.{arg_tree}
-use Rattle.candidate_ir.specs.Nodes.{tree_at}
-use Rattle.candidate_ir.specs.Words.{args_forest}
-use Rattle.candidate_ir.proofs.Asking.{arg-head, arg-below}
-use Rattle.candidate_ir.proofs.Substituting.{type-there, constant-there, type-other, constant-other, not-both}
+use Rattle.candidate_ir.specs.Instantiation.Folding.{put_if_there}
+use Rattle.candidate_ir.specs.Instantiation.Folds.{arg_tree}
+use Rattle.candidate_ir.specs.Syntax.Nodes.{tree_at}
+use Rattle.candidate_ir.specs.Syntax.Words.{args_forest}
+use Rattle.candidate_ir.proofs.Traversal.Asking.{arg-head, arg-below}
+use Rattle.candidate_ir.proofs.Instantiation.Substituting.{type-there, constant-there, type-other, constant-other, not-both}
 use Rattle.candidate_ir.proofs.decl.subst.argument_for.Goals as goal
 
 pub head-requires : goal.head-requires

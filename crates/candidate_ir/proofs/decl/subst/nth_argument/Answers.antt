@@ -1,6 +1,6 @@
 use Rattle.std.proofs.Common.{refl}
 use Rattle.candidate_ir.specs.declared.ir.kinds.GenericArg.TheVariants as A
-use Rattle.candidate_ir.proofs.Substituting.{nth-there, nth-missing}
+use Rattle.candidate_ir.proofs.Instantiation.Substituting.{nth-there, nth-missing}
 use Rattle.candidate_ir.proofs.decl.subst.nth_argument.Goals as goal
 
 pub returns : goal.returns

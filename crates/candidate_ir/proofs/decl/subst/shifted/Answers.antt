@@ -1,12 +1,12 @@
 use Rattle.std.proofs.Common.{◌≡◌, refl, rules, ◌∙◌, ap}
 use Rattle.std.proofs.lemmas.Result.{err_from_is_err_and}
-use Rattle.candidate_ir.specs.Folding.{moved}
-use Rattle.candidate_ir.specs.Kinds.{arg_number, arg_kind}
-use Rattle.candidate_ir.specs.Nodes.{tree_at}
-use Rattle.candidate_ir.proofs.Asking.{arg-below}
-use Rattle.candidate_ir.proofs.FoldLaws.{head-number, moved-only}
-use Rattle.candidate_ir.proofs.FoldStops.{number-keeps-rest, single-cause, head-cause}
-use Rattle.candidate_ir.proofs.Members.{arg-there, arg-single}
+use Rattle.candidate_ir.specs.Instantiation.Folding.{moved}
+use Rattle.candidate_ir.specs.Syntax.Kinds.{arg_number, arg_kind}
+use Rattle.candidate_ir.specs.Syntax.Nodes.{tree_at}
+use Rattle.candidate_ir.proofs.Traversal.Asking.{arg-below}
+use Rattle.candidate_ir.proofs.Traversal.FoldLaws.{head-number, moved-only}
+use Rattle.candidate_ir.proofs.Traversal.FoldStops.{number-keeps-rest, single-cause, head-cause}
+use Rattle.candidate_ir.proofs.Syntax.Members.{arg-there, arg-single}
 use Rattle.candidate_ir.proofs.decl.subst.shifted.Goals as goal
 
 pub fold_number-requires-clause-inside : goal.fold_number-requires-clause-inside

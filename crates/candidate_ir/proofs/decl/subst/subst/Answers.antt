@@ -1,11 +1,11 @@
 use Rattle.std.proofs.Common.{sym, ◌∙◌, ap, ℕ}
 use Rattle.std.proofs.lemmas.Result.{err_from_is_err_and}
-use Rattle.candidate_ir.specs.Nodes.{kind_at, tree_at, is_bound_kind}
-use Rattle.candidate_ir.specs.Trees.{is_list_kind}
-use Rattle.candidate_ir.specs.Words.{args_forest}
-use Rattle.candidate_ir.proofs.Lists.{below_kind}
-use Rattle.candidate_ir.proofs.Substituting.{substituted-number, substituted-stop}
-use Rattle.candidate_ir.proofs.SubstLaws.{tree-unchanged, tree-twice, tree-height}
+use Rattle.candidate_ir.specs.Syntax.Nodes.{kind_at, tree_at, is_bound_kind}
+use Rattle.candidate_ir.specs.Syntax.Trees.{is_list_kind}
+use Rattle.candidate_ir.specs.Syntax.Words.{args_forest}
+use Rattle.candidate_ir.proofs.Syntax.Lists.{below_kind}
+use Rattle.candidate_ir.proofs.Instantiation.Substituting.{substituted-number, substituted-stop}
+use Rattle.candidate_ir.proofs.Instantiation.SubstLaws.{tree-unchanged, tree-twice, tree-height}
 use Rattle.candidate_ir.proofs.decl.subst.subst.Goals as goal
 
 pub substituted-requires-clause-inside : goal.substituted-requires-clause-inside

@@ -1,9 +1,9 @@
 use Rattle.std.proofs.Common.{◌≡◌, refl, rules}
-use Rattle.candidate_ir.specs.Words.{args_forest}
-use Rattle.candidate_ir.proofs.Kept.{args-kept}
-use Rattle.candidate_ir.proofs.FoldLaws.{reached-keeps}
-use Rattle.candidate_ir.proofs.FoldStops.{number-keeps-rest}
-use Rattle.candidate_ir.proofs.Substituting.{put-tree, put-list, put-tree-cause, put-list-cause}
+use Rattle.candidate_ir.specs.Syntax.Words.{args_forest}
+use Rattle.candidate_ir.proofs.Growth.Kept.{args-kept}
+use Rattle.candidate_ir.proofs.Traversal.FoldLaws.{reached-keeps}
+use Rattle.candidate_ir.proofs.Traversal.FoldStops.{number-keeps-rest}
+use Rattle.candidate_ir.proofs.Instantiation.Substituting.{put-tree, put-list, put-tree-cause, put-list-cause}
 use Rattle.candidate_ir.proofs.decl.subst.substituted.Goals as goal
 
 pub fold_number-requires-clause-callable : goal.fold_number-requires-clause-callable

@@ -1,5 +1,5 @@
 use Rattle.std.proofs.Common.{rules}
-use Rattle.candidate_ir.proofs.Supers.{first_is}
+use Rattle.candidate_ir.proofs.Hierarchy.Supers.{first_is}
 use Rattle.candidate_ir.proofs.decl.supers.first.Goals as goal
 
 pub returns : goal.returns

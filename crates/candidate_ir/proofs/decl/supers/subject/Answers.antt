@@ -1,4 +1,4 @@
-use Rattle.candidate_ir.proofs.Supers.{term_subject, type_subject, region_subject}
+use Rattle.candidate_ir.proofs.Hierarchy.Supers.{term_subject, type_subject, region_subject}
 use Rattle.candidate_ir.proofs.decl.supers.subject.Goals as goal
 
 pub returns-in-None-first : goal.returns-in-None-first

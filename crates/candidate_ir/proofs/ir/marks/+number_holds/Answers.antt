@@ -1,7 +1,7 @@
 use Rattle.std.proofs.Common.{arith, sym, ◌∙◌}
-use Rattle.candidate_ir.specs.Kinds.{numbers}
-use Rattle.candidate_ir.specs.Nodes.{children_of}
-use Rattle.candidate_ir.proofs.Children.{Below-get, any-found, any-on, any-none, walk_end}
+use Rattle.candidate_ir.specs.Syntax.Kinds.{numbers}
+use Rattle.candidate_ir.specs.Syntax.Nodes.{children_of}
+use Rattle.candidate_ir.proofs.Syntax.Children.{Below-get, any-found, any-on, any-none, walk_end}
 use Rattle.candidate_ir.proofs.ir.marks.+number_holds.Goals as goal
 
 pub number_holds-requires : goal.number_holds-requires

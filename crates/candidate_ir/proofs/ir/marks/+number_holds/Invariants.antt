@@ -1,6 +1,6 @@
 use Rattle.std.proofs.Common.{◌≡◌, drop}
-use Rattle.candidate_ir.specs.Kinds.{numbers}
-use Rattle.candidate_ir.specs.Nodes.{any_holds, trees_at, children_of}
+use Rattle.candidate_ir.specs.Syntax.Kinds.{numbers}
+use Rattle.candidate_ir.specs.Syntax.Nodes.{any_holds, trees_at, children_of}
 use Rattle.candidate_ir.proofs.ir.marks.+number_holds.Given as goal
 
 abbrev pub decreases-number_holds : goal.decreases-number_holds

@@ -1,7 +1,7 @@
 use Rattle.std.proofs.Common.{◌∙◌, arith, refl}
 use Rattle.std.proofs.lemmas.List.{take_all}
-use Rattle.candidate_ir.specs.Nodes.{clause_child}
-use Rattle.candidate_ir.proofs.Rebuild.{numbers-next}
+use Rattle.candidate_ir.specs.Syntax.Nodes.{clause_child}
+use Rattle.candidate_ir.proofs.Traversal.Rebuild.{numbers-next}
 use Rattle.candidate_ir.proofs.ir.rebuild.clauses_of.Goals as goal
 
 pub loop-i-preserved : goal.loop-i-preserved

@@ -1,7 +1,7 @@
 use Rattle.std.proofs.Common.{◌≡◌, take}
 use Rattle.std.specs.Prelude.{map}
-use Rattle.candidate_ir.specs.Kinds.{numbers}
-use Rattle.candidate_ir.specs.Nodes.{clause_child}
+use Rattle.candidate_ir.specs.Syntax.Kinds.{numbers}
+use Rattle.candidate_ir.specs.Syntax.Nodes.{clause_child}
 use Rattle.candidate_ir.proofs.ir.rebuild.clauses_of.Given as goal
 
 abbrev pub invariant-loop-i : goal.invariant-loop-i

@@ -1,7 +1,7 @@
 use Rattle.std.proofs.Common.{◌<◌, ◌∙◌, length, arith}
 use Rattle.std.proofs.lemmas.List.{take_all}
-use Rattle.candidate_ir.specs.Kinds.{arg_child}
-use Rattle.candidate_ir.proofs.Rebuild.{numbers-next, sorts-next, sorts-length}
+use Rattle.candidate_ir.specs.Syntax.Kinds.{arg_child}
+use Rattle.candidate_ir.proofs.Traversal.Rebuild.{numbers-next, sorts-next, sorts-length}
 use Rattle.candidate_ir.proofs.ir.rebuild.renumbered.Goals as goal
 
 pub loop-i-preserved : goal.loop-i-preserved

@@ -1,6 +1,6 @@
 use Rattle.std.proofs.Common.{◌≡◌, take}
 use Rattle.std.specs.Prelude.{map}
-use Rattle.candidate_ir.specs.Kinds.{numbers, sorts, arg_child}
+use Rattle.candidate_ir.specs.Syntax.Kinds.{numbers, sorts, arg_child}
 use Rattle.candidate_ir.proofs.ir.rebuild.renumbered.Given as goal
 
 abbrev pub invariant-loop-i : goal.invariant-loop-i

@@ -1,9 +1,9 @@
 use Rattle.std.proofs.Common.{arith, sym, ◌∙◌, ap, ℕ}
-use Rattle.candidate_ir.specs.Kinds.{numbers}
-use Rattle.candidate_ir.specs.Nodes.{tree_at, children_of, head_of}
-use Rattle.candidate_ir.specs.Unify.{trees_may_unify}
-use Rattle.candidate_ir.proofs.Children.{Below-get, walk_end}
-use Rattle.candidate_ir.proofs.Pairs.{tree_itself, is_left, not_as_many, all_did, one_not, next_may}
+use Rattle.candidate_ir.specs.Syntax.Kinds.{numbers}
+use Rattle.candidate_ir.specs.Syntax.Nodes.{tree_at, children_of, head_of}
+use Rattle.candidate_ir.specs.Unification.Unify.{trees_may_unify}
+use Rattle.candidate_ir.proofs.Syntax.Children.{Below-get, walk_end}
+use Rattle.candidate_ir.proofs.Unification.Pairs.{tree_itself, is_left, not_as_many, all_did, one_not, next_may}
 use Rattle.candidate_ir.proofs.ir.unify.+numbers_may_unify.Goals as goal
 
 pub returns-then-a-b : goal.returns-then-a-b

@@ -1,7 +1,7 @@
 use Rattle.std.proofs.Common.{◌≡◌, drop}
-use Rattle.candidate_ir.specs.Kinds.{numbers}
-use Rattle.candidate_ir.specs.Nodes.{trees_at, children_of}
-use Rattle.candidate_ir.proofs.Pairs.{all_may}
+use Rattle.candidate_ir.specs.Syntax.Kinds.{numbers}
+use Rattle.candidate_ir.specs.Syntax.Nodes.{trees_at, children_of}
+use Rattle.candidate_ir.proofs.Unification.Pairs.{all_may}
 use Rattle.candidate_ir.proofs.ir.unify.+numbers_may_unify.Given as goal
 
 abbrev pub decreases-numbers_may_unify : goal.decreases-numbers_may_unify

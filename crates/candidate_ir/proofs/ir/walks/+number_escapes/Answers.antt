@@ -1,10 +1,10 @@
 use Rattle.std.proofs.Common.{ℕ, ◌+◌, arith, sym, ◌∙◌, ap}
-use Rattle.candidate_ir.specs.Trees.{binders_of}
-use Rattle.candidate_ir.specs.Binders.{is_beyond}
-use Rattle.candidate_ir.specs.Kinds.{numbers}
-use Rattle.candidate_ir.specs.Nodes.{children_of}
-use Rattle.candidate_ir.proofs.Children.{Below-get, walk_end}
-use Rattle.candidate_ir.proofs.Escapes.{escape-found, escape-on, escape-none}
+use Rattle.candidate_ir.specs.Syntax.Trees.{binders_of}
+use Rattle.candidate_ir.specs.Syntax.Binders.{is_beyond}
+use Rattle.candidate_ir.specs.Syntax.Kinds.{numbers}
+use Rattle.candidate_ir.specs.Syntax.Nodes.{children_of}
+use Rattle.candidate_ir.proofs.Syntax.Children.{Below-get, walk_end}
+use Rattle.candidate_ir.proofs.Syntax.Escapes.{escape-found, escape-on, escape-none}
 use Rattle.candidate_ir.proofs.ir.walks.+number_escapes.Goals as goal
 
 pub number_escapes-requires : goal.number_escapes-requires

@@ -1,5 +1,5 @@
 use Rattle.std.proofs.Common.{◌+◌}
-use Rattle.candidate_ir.proofs.Escapes.{SameFrom}
+use Rattle.candidate_ir.proofs.Syntax.Escapes.{SameFrom}
 use Rattle.candidate_ir.proofs.ir.walks.+number_escapes.Given as goal
 
 abbrev pub decreases-number_escapes : goal.decreases-number_escapes

@@ -1,5 +1,5 @@
 use Rattle.std.proofs.Common.{sym, ◌∙◌, subst, ◌<◌, ℕ}
-use Rattle.candidate_ir.proofs.Places.{list_width, member_part, own_part}
+use Rattle.candidate_ir.proofs.Syntax.Places.{list_width, member_part, own_part}
 use Rattle.candidate_ir.proofs.ir.walks.part.Goals as goal
 
 pub child-requires : goal.child-requires

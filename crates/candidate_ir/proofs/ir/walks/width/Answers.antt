@@ -1,5 +1,5 @@
 use Rattle.std.proofs.Common.{sym, ◌∙◌}
-use Rattle.candidate_ir.proofs.Places.{list_width, other_width}
+use Rattle.candidate_ir.proofs.Syntax.Places.{list_width, other_width}
 use Rattle.candidate_ir.proofs.ir.walks.width.Goals as goal
 
 pub returns-then-is_list : goal.returns-then-is_list

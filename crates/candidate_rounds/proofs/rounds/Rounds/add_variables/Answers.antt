@@ -1,13 +1,13 @@
 use Rattle.std.proofs.Common.{reverse, ◌∙◌, ap}
-use Rattle.candidate_eval.specs.States.{with_fresh_variables}
-use Rattle.candidate_eval.specs.Evaluators.{kinds_listed}
-use Rattle.candidate_rounds.specs.Inferences.{with_variables}
-use Rattle.candidate_rounds.specs.Known.{Evaluator, state, probes}
-use Rattle.candidate_rounds.proofs.Knowing.{probes-stay}
-use Rattle.candidate_rounds.proofs.Holding.{holds-variables, undo-variables, state-variables, change-undone, change-state}
-use Rattle.candidate_rounds.proofs.ResolvedValues.{evaluator-changed, resolved-variables}
-use Rattle.candidate_rounds.proofs.Going.{further-variables}
-use Rattle.candidate_rounds.proofs.Between.{parts}
+use Rattle.candidate_eval.specs.Judges.States.{with_fresh_variables}
+use Rattle.candidate_eval.specs.Interface.Evaluators.{kinds_listed}
+use Rattle.candidate_rounds.specs.Evaluators.Inferences.{with_variables}
+use Rattle.candidate_rounds.specs.Evaluators.Known.{Evaluator, state, probes}
+use Rattle.candidate_rounds.proofs.Snapshots.Knowing.{probes-stay}
+use Rattle.candidate_rounds.proofs.Snapshots.Holding.{holds-variables, undo-variables, state-variables, change-undone, change-state}
+use Rattle.candidate_rounds.proofs.Snapshots.ResolvedValues.{evaluator-changed, resolved-variables}
+use Rattle.candidate_rounds.proofs.Evaluators.Going.{further-variables}
+use Rattle.candidate_rounds.proofs.Evaluators.Between.{parts}
 use Rattle.candidate_rounds.proofs.rounds.Rounds.add_variables.Goals as goal
 
 pub invariant_of-self : goal.invariant_of-self

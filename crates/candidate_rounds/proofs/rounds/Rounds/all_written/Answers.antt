@@ -1,10 +1,10 @@
 use Rattle.std.proofs.Common.{◌≡◌, ◌<◌, ◌+◌, suc, length, rules, sym, subst, arith}
 use Rattle.candidate_ir.specs.declared.ir.stop.Stop.TheVariants.{Memory}
-use Rattle.candidate_eval.specs.Noting.{refused_note}
-use Rattle.candidate_rounds.specs.Known.{table_of}
-use Rattle.candidate_rounds.specs.Running.{IsRoundStop, round_looking}
-use Rattle.candidate_rounds.proofs.ResponseStops.{passed-on}
-use Rattle.candidate_rounds.proofs.Running.{WrittenSoFar, one-more-written, round-stop-before, same-length}
+use Rattle.candidate_eval.specs.Calls.Noting.{refused_note}
+use Rattle.candidate_rounds.specs.Evaluators.Known.{table_of}
+use Rattle.candidate_rounds.specs.Table.Running.{IsRoundStop, round_looking}
+use Rattle.candidate_rounds.proofs.Stops.ResponseStops.{passed-on}
+use Rattle.candidate_rounds.proofs.Table.Running.{WrittenSoFar, one-more-written, round-stop-before, same-length}
 use Rattle.candidate_rounds.proofs.rounds.Rounds.all_written.Goals as goal
 
 pub returns-in_err-written_at-clause-cause : goal.returns-in_err-written_at-clause-cause

@@ -1,4 +1,4 @@
-use Rattle.candidate_rounds.proofs.Running.{WrittenSoFar}
+use Rattle.candidate_rounds.proofs.Table.Running.{WrittenSoFar}
 use Rattle.candidate_rounds.proofs.rounds.Rounds.all_written.Given as goal
 
 abbrev pub invariant-loop-place : goal.invariant-loop-place

@@ -1,15 +1,15 @@
 use Rattle.std.proofs.Common.{◌≡◌, ◌∷◌, [], length, reverse, sym, ◌∙◌, ap, subst, arith}
 use Rattle.std.proofs.lemmas.List.{reverse-append}
-use Rattle.candidate_eval.specs.States.{with_pending}
-use Rattle.candidate_rounds.specs.Inferences.{begin_pending}
-use Rattle.candidate_rounds.specs.Known.{Evaluator, state, probes, state_of, states_at}
-use Rattle.candidate_rounds.proofs.Undoing.{undo-pending}
-use Rattle.candidate_rounds.proofs.Probing.{probe-begins, none-pending}
-use Rattle.candidate_rounds.proofs.Holding.{holds-begun}
-use Rattle.candidate_rounds.proofs.ResolvedValues.{resolved-begun, resolved-further, resolved-pending}
-use Rattle.candidate_rounds.proofs.Going.{further-pending}
-use Rattle.candidate_rounds.specs.Known.{IsEvaluator}
-use Rattle.candidate_rounds.proofs.Between.{of-parts, parts}
+use Rattle.candidate_eval.specs.Judges.States.{with_pending}
+use Rattle.candidate_rounds.specs.Evaluators.Inferences.{begin_pending}
+use Rattle.candidate_rounds.specs.Evaluators.Known.{Evaluator, state, probes, state_of, states_at}
+use Rattle.candidate_rounds.proofs.Snapshots.Undoing.{undo-pending}
+use Rattle.candidate_rounds.proofs.Snapshots.Probing.{probe-begins, none-pending}
+use Rattle.candidate_rounds.proofs.Snapshots.Holding.{holds-begun}
+use Rattle.candidate_rounds.proofs.Snapshots.ResolvedValues.{resolved-begun, resolved-further, resolved-pending}
+use Rattle.candidate_rounds.proofs.Evaluators.Going.{further-pending}
+use Rattle.candidate_rounds.specs.Evaluators.Known.{IsEvaluator}
+use Rattle.candidate_rounds.proofs.Evaluators.Between.{of-parts, parts}
 use Rattle.candidate_rounds.proofs.rounds.Rounds.begin_aside.Goals as goal
 
 marks-are : (c : goal.In-Ok) → reverse c.push.new.self.items ≡ length c.self.inside.inference.trail ∷ reverse c.self.inside.probes.items

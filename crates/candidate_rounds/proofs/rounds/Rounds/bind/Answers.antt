@@ -1,18 +1,18 @@
 use Rattle.std.proofs.Common.{◌≡◌, true, None, OnOk, reverse, sym, subst}
-use Rattle.candidate_ir.specs.Folds.{arg_tree}
-use Rattle.candidate_ir.specs.Substitutions.{alone}
+use Rattle.candidate_ir.specs.Instantiation.Folds.{arg_tree}
+use Rattle.candidate_ir.specs.Unification.Substitutions.{alone}
 use Rattle.candidate_eval.specs.declared.eval.mode.TypingMode.{TypingMode}
-use Rattle.candidate_eval.specs.Soundness.{IsResolved}
-use Rattle.candidate_eval.specs.States.{value_of}
-use Rattle.rounds_judge.specs.Binding.{bound, may_take}
-use Rattle.candidate_rounds.specs.Known.{Evaluator, GoesOn, state, state_of}
-use Rattle.candidate_rounds.proofs.Assigning.{holds-marks}
-use Rattle.rounds_judge.proofs.Ending.{CanGet}
-use Rattle.candidate_rounds.proofs.Knowing.{given-grown}
-use Rattle.candidate_rounds.proofs.ResolvedValues.{can-get, resolved-bound, resolved-further, resolved-grown}
-use Rattle.candidate_rounds.proofs.Between.{of-parts, parts}
-use Rattle.candidate_rounds.proofs.Going.{goes-both}
-use Rattle.candidate_rounds.proofs.Tabled.{tabled-grown}
+use Rattle.candidate_eval.specs.Judges.Soundness.{IsResolved}
+use Rattle.candidate_eval.specs.Judges.States.{value_of}
+use Rattle.rounds_judge.specs.Equations.Binding.{bound, may_take}
+use Rattle.candidate_rounds.specs.Evaluators.Known.{Evaluator, GoesOn, state, state_of}
+use Rattle.candidate_rounds.proofs.Equations.Assigning.{holds-marks}
+use Rattle.rounds_judge.proofs.Equations.Ending.{CanGet}
+use Rattle.candidate_rounds.proofs.Snapshots.Knowing.{given-grown}
+use Rattle.candidate_rounds.proofs.Snapshots.ResolvedValues.{can-get, resolved-bound, resolved-further, resolved-grown}
+use Rattle.candidate_rounds.proofs.Evaluators.Between.{of-parts, parts}
+use Rattle.candidate_rounds.proofs.Evaluators.Going.{goes-both}
+use Rattle.candidate_rounds.proofs.Table.Tabled.{tabled-grown}
 use Rattle.candidate_rounds.proofs.rounds.Rounds.bind.Goals as goal
 
 pub invariant_of-self : goal.invariant_of-self

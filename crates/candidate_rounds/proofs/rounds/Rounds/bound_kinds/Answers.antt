@@ -1,9 +1,9 @@
 use Rattle.std.proofs.Common.{◌≡◌, sym, ◌∙◌, ap, subst}
-use Rattle.candidate_ir.specs.Words.{clause_tree}
-use Rattle.candidate_eval.specs.Characterization.{bound_kinds}
-use Rattle.candidate_eval.specs.Evaluators.{kinds_listed}
-use Rattle.candidate_rounds.specs.Known.{Evaluator}
-use Rattle.candidate_rounds.proofs.Evaluating.{kinds-of-variables}
+use Rattle.candidate_ir.specs.Syntax.Words.{clause_tree}
+use Rattle.candidate_eval.specs.Derivations.Characterization.{bound_kinds}
+use Rattle.candidate_eval.specs.Interface.Evaluators.{kinds_listed}
+use Rattle.candidate_rounds.specs.Evaluators.Known.{Evaluator}
+use Rattle.candidate_rounds.proofs.Obligations.Evaluating.{kinds-of-variables}
 use Rattle.candidate_rounds.proofs.rounds.Rounds.bound_kinds.Goals as goal
 
 pub returns-clause-kinds : goal.returns-clause-kinds

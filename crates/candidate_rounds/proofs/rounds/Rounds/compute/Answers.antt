@@ -1,26 +1,26 @@
 use Rattle.std.proofs.Common.{◌≡◌, ◌⊎◌, inl, List, IfErr, IfOk, Option, Result, reverse, slice_index_or, sym, ◌∙◌, ap, subst}
 use Rattle.candidate_ir.specs.declared.ir.stop.Stop.{Stop}
-use Rattle.candidate_ir.specs.Context.{Context}
-use Rattle.candidate_ir.specs.Trees.{Tree}
+use Rattle.candidate_ir.specs.Declarations.Context.{Context}
+use Rattle.candidate_ir.specs.Syntax.Trees.{Tree}
 use Rattle.candidate_eval.specs.declared.eval.response.CanonicalResponse.{CanonicalResponse}
-use Rattle.candidate_eval.specs.Noting.{IsNotingStop}
-use Rattle.candidate_assembly.specs.Standing.{GoalStands}
-use Rattle.candidate_assembly.specs.TraitAnswers.{Computes}
-use Rattle.candidate_assembly.specs.TraitGoals.{trait_goal}
-use Rattle.candidate_assembly.specs.TraitRules.{trait_rules}
+use Rattle.candidate_eval.specs.Calls.Noting.{IsNotingStop}
+use Rattle.candidate_assembly.specs.Goals.Standing.{GoalStands}
+use Rattle.candidate_assembly.specs.Answers.TraitAnswers.{Computes}
+use Rattle.candidate_assembly.specs.Goals.TraitGoals.{trait_goal}
+use Rattle.candidate_assembly.specs.Goals.TraitRules.{trait_rules}
 use Rattle.candidate_rounds.specs.declared.rounds.Rounds.TheInside.{Inside}
-use Rattle.candidate_rounds.specs.Goals.{IsKeyOf, Via, key_seen}
-use Rattle.candidate_rounds.specs.Interface.{fixed, judge_of}
-use Rattle.candidate_rounds.specs.Known.{Evaluator, IsEvaluator, probes, state, table_of}
-use Rattle.candidate_rounds.specs.Running.{IsComputingStop, StaysBesideTable, computing, told}
-use Rattle.candidate_rounds.specs.Starting.{started}
-use Rattle.candidate_rounds.specs.Stopping.{accounts}
-use Rattle.candidate_rounds.proofs.Computing.{answer-is, answer-stopped, back-holds, back-stays, come_back, out-holds, out-state}
-use Rattle.candidate_rounds.proofs.ResponseStops.{passed-on}
-use Rattle.candidate_rounds.proofs.Running.{entry-at, get-there, key-get}
-use Rattle.candidate_rounds.proofs.Starting.{key-stands}
-use Rattle.rounds_judge.specs.GoalTable.{Entry}
-use Rattle.rounds_judge.specs.Keys.{Key, newest_of}
+use Rattle.candidate_rounds.specs.Table.Goals.{IsKeyOf, Via, key_seen}
+use Rattle.candidate_rounds.specs.Evaluators.Interface.{fixed, judge_of}
+use Rattle.candidate_rounds.specs.Evaluators.Known.{Evaluator, IsEvaluator, probes, state, table_of}
+use Rattle.candidate_rounds.specs.Table.Running.{IsComputingStop, StaysBesideTable, computing, told}
+use Rattle.candidate_rounds.specs.Calls.Starting.{started}
+use Rattle.candidate_rounds.specs.Evaluators.Stopping.{accounts}
+use Rattle.candidate_rounds.proofs.Table.Computing.{answer-is, answer-stopped, back-holds, back-stays, come_back, out-holds, out-state}
+use Rattle.candidate_rounds.proofs.Stops.ResponseStops.{passed-on}
+use Rattle.candidate_rounds.proofs.Table.Running.{entry-at, get-there, key-get}
+use Rattle.candidate_rounds.proofs.Table.Starting.{key-stands}
+use Rattle.rounds_judge.specs.Table.GoalTable.{Entry}
+use Rattle.rounds_judge.specs.Table.Keys.{Key, newest_of}
 use Rattle.candidate_rounds.proofs.rounds.Rounds.compute.Goals as goal
 
 pub start_of-requires : goal.start_of-requires

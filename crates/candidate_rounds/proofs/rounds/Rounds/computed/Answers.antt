@@ -1,8 +1,8 @@
 use Rattle.std.proofs.Common.{slice_get, ◌∙◌, ap}
-use Rattle.candidate_rounds.specs.Known.{table_of}
-use Rattle.candidate_rounds.specs.Running.{IsRoundStop, round_looking, told}
-use Rattle.candidate_rounds.proofs.ResponseStops.{passed-on}
-use Rattle.candidate_rounds.proofs.Running.{place-stopped}
+use Rattle.candidate_rounds.specs.Evaluators.Known.{table_of}
+use Rattle.candidate_rounds.specs.Table.Running.{IsRoundStop, round_looking, told}
+use Rattle.candidate_rounds.proofs.Stops.ResponseStops.{passed-on}
+use Rattle.candidate_rounds.proofs.Table.Running.{place-stopped}
 use Rattle.candidate_rounds.proofs.rounds.Rounds.computed.Goals as goal
 
 pub returns-in_err-answer-clause-cause : goal.returns-in_err-answer-clause-cause

@@ -1,9 +1,9 @@
 use Rattle.std.proofs.Common.{Some, slice_index_or, sym, ◌∙◌, ap, subst}
 use Rattle.std.specs.Option.{option_map}
 use Rattle.candidate_rounds.specs.declared.rounds.Rounds.TheInside.{Inside}
-use Rattle.candidate_rounds.specs.Goals.{IsVerdict, verdict_seen}
-use Rattle.candidate_rounds.specs.Known.{Evaluator}
-use Rattle.candidate_rounds.proofs.Running.{entry-at, get-there, verdict-get}
+use Rattle.candidate_rounds.specs.Table.Goals.{IsVerdict, verdict_seen}
+use Rattle.candidate_rounds.specs.Evaluators.Known.{Evaluator}
+use Rattle.candidate_rounds.proofs.Table.Running.{entry-at, get-there, verdict-get}
 use Rattle.candidate_rounds.proofs.rounds.Rounds.copied_at.Goals as goal
 
 pub returns-in_ok-copied-in-Some-clause-sort : goal.returns-in_ok-copied-in-Some-clause-sort

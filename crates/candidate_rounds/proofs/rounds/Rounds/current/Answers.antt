@@ -1,15 +1,15 @@
 use Rattle.std.proofs.Common.{IfErr, IfOk, ap, reverse, subst, sym, ◌∙◌, ◌≡◌}
-use Rattle.candidate_ir.specs.Folds.{arg_tree}
-use Rattle.candidate_eval.specs.Evaluators.{resolved_root}
-use Rattle.candidate_eval.specs.States.{resolved_tree}
-use Rattle.rounds_judge.specs.Listed.{current, listed_at}
-use Rattle.candidate_rounds.specs.Known.{AreTypes, Each, Evaluator, listing, listing_of, state, state_of}
-use Rattle.candidate_rounds.specs.Stopping.{IsTreeStop}
-use Rattle.candidate_rounds.proofs.Between.{parts}
-use Rattle.candidate_rounds.proofs.Gathering.{if-ok-then}
-use Rattle.candidate_rounds.proofs.Holding.{kinds-now}
-use Rattle.candidate_rounds.proofs.Interface.{made-goes, made-same}
-use Rattle.candidate_rounds.proofs.ResolvedValues.{evaluator-grown}
+use Rattle.candidate_ir.specs.Instantiation.Folds.{arg_tree}
+use Rattle.candidate_eval.specs.Interface.Evaluators.{resolved_root}
+use Rattle.candidate_eval.specs.Judges.States.{resolved_tree}
+use Rattle.rounds_judge.specs.Aliases.Listed.{current, listed_at}
+use Rattle.candidate_rounds.specs.Evaluators.Known.{AreTypes, Each, Evaluator, listing, listing_of, state, state_of}
+use Rattle.candidate_rounds.specs.Evaluators.Stopping.{IsTreeStop}
+use Rattle.candidate_rounds.proofs.Evaluators.Between.{parts}
+use Rattle.candidate_rounds.proofs.Obligations.Gathering.{if-ok-then}
+use Rattle.candidate_rounds.proofs.Snapshots.Holding.{kinds-now}
+use Rattle.candidate_rounds.proofs.Evaluators.Interface.{made-goes, made-same}
+use Rattle.candidate_rounds.proofs.Snapshots.ResolvedValues.{evaluator-grown}
 use Rattle.candidate_rounds.proofs.rounds.Rounds.current.Goals as goal
 
 pub resolved_root-root-requires-clause-known : goal.resolved_root-root-requires-clause-known

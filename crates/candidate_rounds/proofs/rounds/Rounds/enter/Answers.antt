@@ -1,13 +1,13 @@
 use Rattle.std.proofs.Common.{reverse, ◌∙◌, ap, subst}
-use Rattle.candidate_eval.specs.States.{with_universe}
-use Rattle.candidate_rounds.specs.Inferences.{enter}
-use Rattle.candidate_rounds.specs.Known.{Evaluator, GoesOn, state, probes}
-use Rattle.candidate_rounds.proofs.Undoing.{undo-enter}
-use Rattle.candidate_rounds.proofs.Knowing.{probes-stay}
-use Rattle.candidate_rounds.proofs.Holding.{holds-enter, state-enter, change-undone, change-state}
-use Rattle.candidate_rounds.proofs.Going.{further-enter, further-call, goes-further}
-use Rattle.candidate_rounds.proofs.ResolvedValues.{evaluator-changed, resolved-enter}
-use Rattle.candidate_rounds.proofs.Between.{parts}
+use Rattle.candidate_eval.specs.Judges.States.{with_universe}
+use Rattle.candidate_rounds.specs.Evaluators.Inferences.{enter}
+use Rattle.candidate_rounds.specs.Evaluators.Known.{Evaluator, GoesOn, state, probes}
+use Rattle.candidate_rounds.proofs.Snapshots.Undoing.{undo-enter}
+use Rattle.candidate_rounds.proofs.Snapshots.Knowing.{probes-stay}
+use Rattle.candidate_rounds.proofs.Snapshots.Holding.{holds-enter, state-enter, change-undone, change-state}
+use Rattle.candidate_rounds.proofs.Evaluators.Going.{further-enter, further-call, goes-further}
+use Rattle.candidate_rounds.proofs.Snapshots.ResolvedValues.{evaluator-changed, resolved-enter}
+use Rattle.candidate_rounds.proofs.Evaluators.Between.{parts}
 use Rattle.candidate_rounds.proofs.rounds.Rounds.enter.Goals as goal
 
 pub invariant_of-self : goal.invariant_of-self

@@ -1,12 +1,12 @@
 use Rattle.std.proofs.Common.{◌≡◌, false, [], ◌∷◌, reverse, sym, ◌∙◌, ap}
 use Rattle.std.proofs.lemmas.Bool.{eq-eqb, ne_eqb}
 use Rattle.std.proofs.lemmas.List.{append-nil}
-use Rattle.candidate_ir.specs.Nodes.{tree_at}
-use Rattle.candidate_ir.specs.Trees.{binders_of}
+use Rattle.candidate_ir.specs.Syntax.Nodes.{tree_at}
+use Rattle.candidate_ir.specs.Syntax.Trees.{binders_of}
 use Rattle.candidate_rounds.specs.declared.rounds.equating.Frame.{Frame}
 use Rattle.candidate_rounds.specs.declared.rounds.equating.Rest.{Rest}
-use Rattle.candidate_rounds.specs.Known.{Evaluator, state}
-use Rattle.candidate_rounds.proofs.Framing.{below-frames, below-pairs, scope-else, scope-then}
+use Rattle.candidate_rounds.specs.Evaluators.Known.{Evaluator, state}
+use Rattle.candidate_rounds.proofs.Equations.Framing.{below-frames, below-pairs, scope-else, scope-then}
 use Rattle.candidate_rounds.proofs.rounds.Rounds.enter_below.Goals as goal
 use Rattle.candidate_rounds.proofs.rounds.Rounds.enter_below.Goals.{then-binders-eq1+in_ok-universe+in_ok-push, else-binders-eq1}
 

@@ -1,10 +1,10 @@
 use Rattle.std.proofs.Common.{◌∙◌, ap}
-use Rattle.candidate_assembly.specs.TraitGoals.{trait_goal}
-use Rattle.candidate_rounds.specs.Known.{table_of}
-use Rattle.candidate_rounds.specs.Running.{IsRunStop, run_key}
-use Rattle.candidate_rounds.proofs.ResponseStops.{passed-on}
-use Rattle.candidate_rounds.proofs.Rounding.{entered-cause, entered-place, entered-stays, entered-table, err-table, goes-stays, ok-place, ok-table, then-err, there-already}
-use Rattle.candidate_rounds.proofs.Running.{stays-trans}
+use Rattle.candidate_assembly.specs.Goals.TraitGoals.{trait_goal}
+use Rattle.candidate_rounds.specs.Evaluators.Known.{table_of}
+use Rattle.candidate_rounds.specs.Table.Running.{IsRunStop, run_key}
+use Rattle.candidate_rounds.proofs.Stops.ResponseStops.{passed-on}
+use Rattle.candidate_rounds.proofs.Table.Rounding.{entered-cause, entered-place, entered-stays, entered-table, err-table, goes-stays, ok-place, ok-table, then-err, there-already}
+use Rattle.candidate_rounds.proofs.Table.Running.{stays-trans}
 use Rattle.candidate_rounds.proofs.rounds.Rounds.enter_goal.Goals as goal
 
 pub returns-in_err-key-clause-stays : goal.returns-in_err-key-clause-stays

@@ -1,11 +1,11 @@
 use Rattle.std.proofs.Common.{◌<◌, ◌++◌, ◌∷◌, [], rules, if◌then◌else◌, length, reverse, sym, subst, ap, ◌∙◌}
 use Rattle.std.specs.Result.{is_ok}
 use Rattle.candidate_rounds.specs.declared.rounds.Rounds.TheInside.{Inside}
-use Rattle.candidate_rounds.specs.Goals.{IsKeyOf}
-use Rattle.candidate_rounds.specs.Known.{Evaluator, IsEvaluator}
-use Rattle.candidate_rounds.specs.Running.{new_entry}
-use Rattle.candidate_rounds.proofs.Running.{evaluator-pushed}
-use Rattle.rounds_judge.specs.GoalTable.{most_goals}
+use Rattle.candidate_rounds.specs.Table.Goals.{IsKeyOf}
+use Rattle.candidate_rounds.specs.Evaluators.Known.{Evaluator, IsEvaluator}
+use Rattle.candidate_rounds.specs.Table.Running.{new_entry}
+use Rattle.candidate_rounds.proofs.Table.Running.{evaluator-pushed}
+use Rattle.rounds_judge.specs.Table.GoalTable.{most_goals}
 use Rattle.candidate_rounds.proofs.rounds.Rounds.enter_key.Goals as goal
 
 pub invariant_of-self : goal.invariant_of-self

@@ -1,13 +1,13 @@
 use Rattle.std.proofs.Common.{sym, ◌∙◌, ap, subst, arith}
-use Rattle.candidate_assembly.proofs.Causes.{so-err, so-ok}
-use Rattle.candidate_assembly.specs.TraitGoals.{trait_goal}
-use Rattle.candidate_rounds.specs.Goals.{key_seen}
-use Rattle.candidate_rounds.specs.Known.{state, table_of}
-use Rattle.candidate_rounds.specs.Stopping.{IsGoalKeyStop, key_memory, of_key_then}
-use Rattle.candidate_rounds.proofs.Rounding.{goes-stays, no-verdict, place-below, place-verdict}
-use Rattle.candidate_rounds.proofs.Running.{seen-length}
-use Rattle.rounds_judge.specs.GoalTable.{verdict_in}
-use Rattle.rounds_judge.specs.Keys.{Key, key_at}
+use Rattle.candidate_assembly.proofs.Calls.Causes.{so-err, so-ok}
+use Rattle.candidate_assembly.specs.Goals.TraitGoals.{trait_goal}
+use Rattle.candidate_rounds.specs.Table.Goals.{key_seen}
+use Rattle.candidate_rounds.specs.Evaluators.Known.{state, table_of}
+use Rattle.candidate_rounds.specs.Evaluators.Stopping.{IsGoalKeyStop, key_memory, of_key_then}
+use Rattle.candidate_rounds.proofs.Table.Rounding.{goes-stays, no-verdict, place-below, place-verdict}
+use Rattle.candidate_rounds.proofs.Table.Running.{seen-length}
+use Rattle.rounds_judge.specs.Table.GoalTable.{verdict_in}
+use Rattle.rounds_judge.specs.Table.Keys.{Key, key_at}
 use Rattle.candidate_rounds.proofs.rounds.Rounds.entry.Goals as goal
 
 pub returns-in_err-key-clause-stays : goal.returns-in_err-key-clause-stays

@@ -1,12 +1,12 @@
 use Rattle.std.proofs.Common.{◌∙◌, ap, subst}
-use Rattle.candidate_ir.specs.Words.{region_tree}
-use Rattle.candidate_rounds.specs.Known.{state}
-use Rattle.rounds_judge.specs.Scopes.{placed_tree}
+use Rattle.candidate_ir.specs.Syntax.Words.{region_tree}
+use Rattle.candidate_rounds.specs.Evaluators.Known.{state}
+use Rattle.rounds_judge.specs.Equations.Scopes.{placed_tree}
 use Rattle.std.proofs.Common.{reverse, subst}
-use Rattle.candidate_rounds.proofs.Going.{goes-trans, region-kept}
-use Rattle.candidate_rounds.proofs.Offering.{regions-equal}
+use Rattle.candidate_rounds.proofs.Evaluators.Going.{goes-trans, region-kept}
+use Rattle.candidate_rounds.proofs.Equations.Offering.{regions-equal}
 use Rattle.std.proofs.lemmas.Result.{err_from_is_err_and, IfErr-weaker}
-use Rattle.candidate_rounds.specs.Stopping.{IsRegionsStop, IsTreeStop, of_left_region, of_right_region, of_regions}
+use Rattle.candidate_rounds.specs.Evaluators.Stopping.{IsRegionsStop, IsTreeStop, of_left_region, of_right_region, of_regions}
 use Rattle.candidate_rounds.proofs.rounds.Rounds.equal_regions.Goals as goal
 
 pub placed_region-requires-2 : goal.placed_region-requires-2

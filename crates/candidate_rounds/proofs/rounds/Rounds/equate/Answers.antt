@@ -1,13 +1,13 @@
 use Rattle.std.proofs.Common.{◌≡◌, sym, ◌∙◌, ap, subst}
-use Rattle.candidate_ir.proofs.Asking.{arg-below}
-use Rattle.candidate_rounds.specs.Inferences.{back_to}
-use Rattle.candidate_rounds.specs.Known.{HasResolvedValues}
-use Rattle.candidate_rounds.proofs.Going.{goes-back}
-use Rattle.candidate_rounds.proofs.ResolvedValues.{resolved-with}
-use Rattle.candidate_rounds.proofs.Between.{parts}
-use Rattle.candidate_rounds.proofs.Exits.{few-back, marks-back}
-use Rattle.candidate_rounds.proofs.Trying.{taken-back}
-use Rattle.candidate_rounds.specs.Known.{Evaluator}
+use Rattle.candidate_ir.proofs.Traversal.Asking.{arg-below}
+use Rattle.candidate_rounds.specs.Evaluators.Inferences.{back_to}
+use Rattle.candidate_rounds.specs.Evaluators.Known.{HasResolvedValues}
+use Rattle.candidate_rounds.proofs.Evaluators.Going.{goes-back}
+use Rattle.candidate_rounds.proofs.Snapshots.ResolvedValues.{resolved-with}
+use Rattle.candidate_rounds.proofs.Evaluators.Between.{parts}
+use Rattle.candidate_rounds.proofs.Evaluators.Exits.{few-back, marks-back}
+use Rattle.candidate_rounds.proofs.Obligations.Trying.{taken-back}
+use Rattle.candidate_rounds.specs.Evaluators.Known.{Evaluator}
 use Rattle.std.proofs.Common.{length}
 use Rattle.candidate_rounds.proofs.rounds.Rounds.equate.Goals as goal
 

@@ -1,19 +1,19 @@
 use Rattle.std.proofs.Common.{◌≡◌, ℕ, [], reverse, sym, ◌∙◌, ap, subst, ◌∷◌}
 use Rattle.std.proofs.lemmas.Result.{err_from_is_err_and}
-use Rattle.candidate_ir.specs.Nodes.{tree_at}
-use Rattle.candidate_ir.specs.Substitutions.{alone}
+use Rattle.candidate_ir.specs.Syntax.Nodes.{tree_at}
+use Rattle.candidate_ir.specs.Unification.Substitutions.{alone}
 use Rattle.candidate_rounds.specs.declared.rounds.equating.Rest.{Rest}
-use Rattle.rounds_judge.specs.Equating.{equated, met, unified}
-use Rattle.candidate_rounds.specs.Frames.{pairs_of}
-use Rattle.candidate_rounds.specs.Known.{Evaluator, listing, state}
-use Rattle.rounds_judge.specs.Listed.{current}
-use Rattle.candidate_rounds.proofs.Going.{goes-listing, goes-trans}
-use Rattle.rounds_judge.proofs.Stepping.{equated-left, equated-refused}
-use Rattle.candidate_rounds.proofs.Visiting.{ok-from, refused-from}
-use Rattle.candidate_ir.specs.Trees.{none}
-use Rattle.candidate_rounds.specs.Stopping.{IsLookStop, IsUnifyingStop, begun, later, at_once}
-use Rattle.candidate_rounds.proofs.EquatingStops.{each-stop, first-left, stops-onto, through}
-use Rattle.candidate_rounds.proofs.Between.{parts}
+use Rattle.rounds_judge.specs.Equations.Equating.{equated, met, unified}
+use Rattle.candidate_rounds.specs.Calls.Frames.{pairs_of}
+use Rattle.candidate_rounds.specs.Evaluators.Known.{Evaluator, listing, state}
+use Rattle.rounds_judge.specs.Aliases.Listed.{current}
+use Rattle.candidate_rounds.proofs.Evaluators.Going.{goes-listing, goes-trans}
+use Rattle.rounds_judge.proofs.Equations.Stepping.{equated-left, equated-refused}
+use Rattle.candidate_rounds.proofs.Equations.Visiting.{ok-from, refused-from}
+use Rattle.candidate_ir.specs.Syntax.Trees.{none}
+use Rattle.candidate_rounds.specs.Evaluators.Stopping.{IsLookStop, IsUnifyingStop, begun, later, at_once}
+use Rattle.candidate_rounds.proofs.Stops.EquatingStops.{each-stop, first-left, stops-onto, through}
+use Rattle.candidate_rounds.proofs.Evaluators.Between.{parts}
 use Rattle.candidate_rounds.proofs.rounds.Rounds.equate_numbers.Goals as goal
 
 -- nothing else is left at the beginning

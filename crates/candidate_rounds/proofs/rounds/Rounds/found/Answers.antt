@@ -1,11 +1,11 @@
 use Rattle.std.proofs.Common.{◌≡◌, ◌∙◌, ◌+◌, ◌<◌, ap, arith, length, slice_index_or, subst, sym}
 use Rattle.candidate_rounds.specs.declared.rounds.Rounds.TheInside.{Inside}
-use Rattle.candidate_rounds.specs.Found.{IsFound}
-use Rattle.candidate_rounds.specs.Goals.{IsTraitGoal, key_seen}
-use Rattle.candidate_rounds.specs.Known.{Evaluator}
-use Rattle.rounds_judge.specs.Keys.{same_key}
-use Rattle.candidate_rounds.proofs.Between.{parts}
-use Rattle.candidate_rounds.proofs.Finding.{FindsTo, entry-at, other-found, read-found, unread-found}
+use Rattle.candidate_rounds.specs.Calls.Found.{IsFound}
+use Rattle.candidate_rounds.specs.Table.Goals.{IsTraitGoal, key_seen}
+use Rattle.candidate_rounds.specs.Evaluators.Known.{Evaluator}
+use Rattle.rounds_judge.specs.Table.Keys.{same_key}
+use Rattle.candidate_rounds.proofs.Evaluators.Between.{parts}
+use Rattle.candidate_rounds.proofs.Table.Finding.{FindsTo, entry-at, other-found, read-found, unread-found}
 use Rattle.candidate_rounds.proofs.rounds.Rounds.found.Goals as goal
 use Rattle.candidate_rounds.proofs.rounds.Rounds.found.Goals.{then-same_key+else-entry, else-same_key}
 

@@ -1,5 +1,5 @@
-use Rattle.candidate_rounds.specs.Goals.{key_seen}
-use Rattle.candidate_rounds.proofs.Finding.{FindsTo}
+use Rattle.candidate_rounds.specs.Table.Goals.{key_seen}
+use Rattle.candidate_rounds.proofs.Table.Finding.{FindsTo}
 use Rattle.candidate_rounds.proofs.rounds.Rounds.found.Given as goal
 
 abbrev pub invariant-loop-i : goal.invariant-loop-i

@@ -1,6 +1,6 @@
 use Rattle.std.proofs.Common.{◌≡◌, ◌∙◌, ap, subst}
-use Rattle.candidate_rounds.specs.Known.{Evaluator}
-use Rattle.candidate_rounds.specs.Trying.{entries_gave}
+use Rattle.candidate_rounds.specs.Evaluators.Known.{Evaluator}
+use Rattle.candidate_rounds.specs.Table.Trying.{entries_gave}
 use Rattle.candidate_rounds.proofs.rounds.Rounds.gave_since.Goals as goal
 
 pub returns : goal.returns

@@ -1,20 +1,20 @@
 use Rattle.std.proofs.Common.{length, map, refl, sym, ap, subst, ◌∙◌}
 use Rattle.std.proofs.lemmas.Result.{err_from_is_err_and}
-use Rattle.candidate_ir.specs.Folding.{IsSubstStop}
-use Rattle.candidate_ir.specs.Words.{ClauseListFits, args_forest, clause_tree}
-use Rattle.candidate_ir.proofs.Kept.{args-kept}
-use Rattle.candidate_eval.specs.ResponseTrees.{response_of}
-use Rattle.candidate_eval.specs.States.{valued, valued_tree}
-use Rattle.candidate_rounds.specs.Giving.{AreConstraintsStop, with_constraints}
-use Rattle.candidate_rounds.specs.Goals.{key_seen}
-use Rattle.candidate_rounds.specs.Known.{listing, state}
-use Rattle.candidate_rounds.specs.Stopping.{IsEquationStop, IsGivingStop, of_row}
-use Rattle.candidate_rounds.proofs.Between.{parts}
-use Rattle.candidate_rounds.proofs.Giving.{all-given, no-constraints, no-values, none-given, not-named, unequal}
-use Rattle.candidate_rounds.proofs.Going.{goes-listing, goes-trans}
-use Rattle.candidate_rounds.proofs.SettlingStops.{refusal-passed, stop-becomes}
-use Rattle.candidate_rounds.proofs.Tabled.{response-stays, clauses-stay}
-use Rattle.rounds_judge.specs.TableSettling.{by_numbers}
+use Rattle.candidate_ir.specs.Instantiation.Folding.{IsSubstStop}
+use Rattle.candidate_ir.specs.Syntax.Words.{ClauseListFits, args_forest, clause_tree}
+use Rattle.candidate_ir.proofs.Growth.Kept.{args-kept}
+use Rattle.candidate_eval.specs.Outcomes.ResponseTrees.{response_of}
+use Rattle.candidate_eval.specs.Judges.States.{valued, valued_tree}
+use Rattle.candidate_rounds.specs.Calls.Giving.{AreConstraintsStop, with_constraints}
+use Rattle.candidate_rounds.specs.Table.Goals.{key_seen}
+use Rattle.candidate_rounds.specs.Evaluators.Known.{listing, state}
+use Rattle.candidate_rounds.specs.Evaluators.Stopping.{IsEquationStop, IsGivingStop, of_row}
+use Rattle.candidate_rounds.proofs.Evaluators.Between.{parts}
+use Rattle.candidate_rounds.proofs.Table.Giving.{all-given, no-constraints, no-values, none-given, not-named, unequal}
+use Rattle.candidate_rounds.proofs.Evaluators.Going.{goes-listing, goes-trans}
+use Rattle.candidate_rounds.proofs.Stops.SettlingStops.{refusal-passed, stop-becomes}
+use Rattle.candidate_rounds.proofs.Table.Tabled.{response-stays, clauses-stay}
+use Rattle.rounds_judge.specs.Table.TableSettling.{by_numbers}
 use Rattle.candidate_rounds.proofs.rounds.Rounds.give.Goals as goal
 
 -- What is required of each call.

@@ -1,10 +1,10 @@
 use Rattle.std.proofs.Common.{IfErr, ap, reverse, subst, ◌∙◌}
-use Rattle.candidate_assembly.specs.TraitGoals.{trait_goal}
-use Rattle.candidate_rounds.specs.Known.{Evaluator, state}
-use Rattle.candidate_rounds.specs.Stopping.{IsTreeStop, clause_saying}
-use Rattle.candidate_rounds.proofs.Knowing.{state-stays}
-use Rattle.candidate_rounds.proofs.ResolvedValues.{evaluator-grown}
-use Rattle.candidate_rounds.proofs.Between.{parts}
+use Rattle.candidate_assembly.specs.Goals.TraitGoals.{trait_goal}
+use Rattle.candidate_rounds.specs.Evaluators.Known.{Evaluator, state}
+use Rattle.candidate_rounds.specs.Evaluators.Stopping.{IsTreeStop, clause_saying}
+use Rattle.candidate_rounds.proofs.Snapshots.Knowing.{state-stays}
+use Rattle.candidate_rounds.proofs.Snapshots.ResolvedValues.{evaluator-grown}
+use Rattle.candidate_rounds.proofs.Evaluators.Between.{parts}
 use Rattle.candidate_rounds.proofs.rounds.Rounds.goal_in.Goals as goal
 
 pub invariant_of-self : goal.invariant_of-self

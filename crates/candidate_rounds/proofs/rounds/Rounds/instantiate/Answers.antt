@@ -1,20 +1,20 @@
 use Rattle.std.proofs.Common.{◌≡◌, IfOk, reverse, ◌∙◌, ap, subst}
-use Rattle.candidate_ir.specs.Opening.{opened_clause}
-use Rattle.candidate_ir.specs.Trees.{Forest, Tree}
-use Rattle.candidate_ir.specs.Words.{args_forest, clause_tree}
-use Rattle.candidate_ir.proofs.Joining.{clause-kept}
-use Rattle.candidate_eval.specs.Evaluators.{kinds_listed, rigid}
-use Rattle.candidate_rounds.specs.Known.{state}
-use Rattle.candidate_rounds.proofs.Trying.{instantiated-state, instantiated-tree, on-ok}
-use Rattle.candidate_rounds.proofs.SettlingStops.{instance-stop}
-use Rattle.candidate_rounds.proofs.Going.{goes-trans}
+use Rattle.candidate_ir.specs.Instantiation.Opening.{opened_clause}
+use Rattle.candidate_ir.specs.Syntax.Trees.{Forest, Tree}
+use Rattle.candidate_ir.specs.Syntax.Words.{args_forest, clause_tree}
+use Rattle.candidate_ir.proofs.Instantiation.Joining.{clause-kept}
+use Rattle.candidate_eval.specs.Interface.Evaluators.{kinds_listed, rigid}
+use Rattle.candidate_rounds.specs.Evaluators.Known.{state}
+use Rattle.candidate_rounds.proofs.Obligations.Trying.{instantiated-state, instantiated-tree, on-ok}
+use Rattle.candidate_rounds.proofs.Stops.SettlingStops.{instance-stop}
+use Rattle.candidate_rounds.proofs.Evaluators.Going.{goes-trans}
 use Rattle.std.proofs.Common.{sym}
 use Rattle.std.specs.Prelude.{IfErr}
-use Rattle.candidate_ir.specs.Words.{IsArgs, IsClause}
-use Rattle.candidate_rounds.specs.Known.{Evaluator}
-use Rattle.candidate_rounds.specs.Stopping.{IsTreeStop}
-use Rattle.candidate_rounds.proofs.Interface.{made-goes, made-same}
-use Rattle.candidate_rounds.proofs.ResolvedValues.{evaluator-grown}
+use Rattle.candidate_ir.specs.Syntax.Words.{IsArgs, IsClause}
+use Rattle.candidate_rounds.specs.Evaluators.Known.{Evaluator}
+use Rattle.candidate_rounds.specs.Evaluators.Stopping.{IsTreeStop}
+use Rattle.candidate_rounds.proofs.Evaluators.Interface.{made-goes, made-same}
+use Rattle.candidate_rounds.proofs.Snapshots.ResolvedValues.{evaluator-grown}
 use Rattle.candidate_rounds.proofs.rounds.Rounds.instantiate.Goals as goal
 
 pub open_clause-requires-clause-clause : goal.open_clause-requires-clause-clause

@@ -1,8 +1,8 @@
 use Rattle.std.proofs.Common.{slice_index_or, sym, ap, ◌∙◌}
 use Rattle.candidate_rounds.specs.declared.rounds.Rounds.TheInside.{Inside}
-use Rattle.candidate_rounds.specs.Known.{Evaluator}
-use Rattle.candidate_rounds.proofs.Running.{get-there, verdict-get}
-use Rattle.rounds_judge.specs.Verdicts.{is_final}
+use Rattle.candidate_rounds.specs.Evaluators.Known.{Evaluator}
+use Rattle.candidate_rounds.proofs.Table.Running.{get-there, verdict-get}
+use Rattle.rounds_judge.specs.Table.Verdicts.{is_final}
 use Rattle.candidate_rounds.proofs.rounds.Rounds.is_final_at.Goals as goal
 
 pub returns : goal.returns

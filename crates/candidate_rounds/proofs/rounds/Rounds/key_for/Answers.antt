@@ -1,11 +1,11 @@
 use Rattle.std.proofs.Common.{◌∙◌}
-use Rattle.candidate_assembly.specs.TraitGoals.{trait_goal}
-use Rattle.candidate_rounds.specs.Known.{state}
-use Rattle.candidate_rounds.specs.Stopping.{IsGoalKeyStop, of_saying}
-use Rattle.candidate_rounds.proofs.Entering.{key-unmade}
-use Rattle.candidate_rounds.proofs.Going.{goes-trans}
-use Rattle.candidate_rounds.proofs.ResponseStops.{passed-on}
-use Rattle.rounds_judge.specs.Keys.{key_at}
+use Rattle.candidate_assembly.specs.Goals.TraitGoals.{trait_goal}
+use Rattle.candidate_rounds.specs.Evaluators.Known.{state}
+use Rattle.candidate_rounds.specs.Evaluators.Stopping.{IsGoalKeyStop, of_saying}
+use Rattle.candidate_rounds.proofs.Table.Entering.{key-unmade}
+use Rattle.candidate_rounds.proofs.Evaluators.Going.{goes-trans}
+use Rattle.candidate_rounds.proofs.Stops.ResponseStops.{passed-on}
+use Rattle.rounds_judge.specs.Table.Keys.{key_at}
 use Rattle.candidate_rounds.proofs.rounds.Rounds.key_for.Goals as goal
 
 pub returns-in_err-asked-clause-cause : goal.returns-in_err-asked-clause-cause

@@ -1,17 +1,17 @@
 use Rattle.std.proofs.Common.{◌≡◌, true, reverse, IfOk, ◌∙◌, ap, subst}
 use Rattle.std.specs.Prelude.{IfErr}
-use Rattle.candidate_ir.specs.Words.{clause_tree, env_forest}
-use Rattle.candidate_eval.specs.States.{resolved}
-use Rattle.rounds_judge.specs.Keys.{goal_trees, key_at, numbers_at}
-use Rattle.rounds_judge.specs.TableSettling.{are_bare}
-use Rattle.candidate_rounds.specs.Goals.{goal_seen, key_seen}
-use Rattle.candidate_rounds.specs.Known.{Evaluator, GoesOn, state}
-use Rattle.candidate_rounds.specs.Stopping.{IsKeyStop}
-use Rattle.candidate_rounds.proofs.Between.{parts}
-use Rattle.candidate_rounds.proofs.Going.{goes-context}
-use Rattle.candidate_rounds.proofs.Holding.{kinds-now}
-use Rattle.candidate_rounds.proofs.Knowing.{state-stays}
-use Rattle.candidate_rounds.proofs.ResolvedValues.{evaluator-grown}
+use Rattle.candidate_ir.specs.Syntax.Words.{clause_tree, env_forest}
+use Rattle.candidate_eval.specs.Judges.States.{resolved}
+use Rattle.rounds_judge.specs.Table.Keys.{goal_trees, key_at, numbers_at}
+use Rattle.rounds_judge.specs.Table.TableSettling.{are_bare}
+use Rattle.candidate_rounds.specs.Table.Goals.{goal_seen, key_seen}
+use Rattle.candidate_rounds.specs.Evaluators.Known.{Evaluator, GoesOn, state}
+use Rattle.candidate_rounds.specs.Evaluators.Stopping.{IsKeyStop}
+use Rattle.candidate_rounds.proofs.Evaluators.Between.{parts}
+use Rattle.candidate_rounds.proofs.Evaluators.Going.{goes-context}
+use Rattle.candidate_rounds.proofs.Snapshots.Holding.{kinds-now}
+use Rattle.candidate_rounds.proofs.Snapshots.Knowing.{state-stays}
+use Rattle.candidate_rounds.proofs.Snapshots.ResolvedValues.{evaluator-grown}
 use Rattle.candidate_rounds.proofs.rounds.Rounds.key_of.Goals as goal
 
 pub key_at-requires-clause-known : goal.key_at-requires-clause-known

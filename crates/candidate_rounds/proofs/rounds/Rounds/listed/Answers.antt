@@ -1,5 +1,5 @@
-use Rattle.candidate_rounds.proofs.Between.{parts}
-use Rattle.candidate_rounds.specs.Known.{AreTypes, Each}
+use Rattle.candidate_rounds.proofs.Evaluators.Between.{parts}
+use Rattle.candidate_rounds.specs.Evaluators.Known.{AreTypes, Each}
 use Rattle.std.proofs.Common.{subst, sym}
 use Rattle.candidate_rounds.proofs.rounds.Rounds.listed.Goals as goal
 

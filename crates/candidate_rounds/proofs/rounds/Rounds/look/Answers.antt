@@ -1,12 +1,12 @@
 use Rattle.std.proofs.Common.{◌≡◌, ◌++◌, ◌∷◌, [], subst}
-use Rattle.candidate_rounds.specs.Frames.{pair_of, pairs_of}
-use Rattle.candidate_rounds.specs.Known.{listing, state}
-use Rattle.candidate_rounds.proofs.Going.{goes-listing}
-use Rattle.rounds_judge.proofs.Stepping.{look-less, look-on, look-refused}
-use Rattle.candidate_rounds.proofs.Visiting.{pairs-cut}
-use Rattle.candidate_rounds.specs.Stopping.{IsUnifyingStop}
-use Rattle.candidate_rounds.proofs.EquatingStops.{each-stop, look-later}
-use Rattle.candidate_rounds.proofs.Between.{parts}
+use Rattle.candidate_rounds.specs.Calls.Frames.{pair_of, pairs_of}
+use Rattle.candidate_rounds.specs.Evaluators.Known.{listing, state}
+use Rattle.candidate_rounds.proofs.Evaluators.Going.{goes-listing}
+use Rattle.rounds_judge.proofs.Equations.Stepping.{look-less, look-on, look-refused}
+use Rattle.candidate_rounds.proofs.Equations.Visiting.{pairs-cut}
+use Rattle.candidate_rounds.specs.Evaluators.Stopping.{IsUnifyingStop}
+use Rattle.candidate_rounds.proofs.Stops.EquatingStops.{each-stop, look-later}
+use Rattle.candidate_rounds.proofs.Evaluators.Between.{parts}
 use Rattle.candidate_rounds.proofs.rounds.Rounds.look.Goals as goal
 
 -- all that is left, from the frame on

@@ -1,14 +1,14 @@
 use Rattle.std.proofs.Common.{◌≡◌, reverse, IfOk, ◌∙◌, ap, subst}
 use Rattle.std.specs.Prelude.{IfErr}
-use Rattle.candidate_eval.specs.ResponseTrees.{response_of}
-use Rattle.candidate_rounds.specs.Known.{Evaluator, GoesOn, probes, state}
-use Rattle.candidate_rounds.specs.Stopping.{IsResponseStop}
-use Rattle.rounds_judge.specs.Responding.{response}
-use Rattle.candidate_rounds.proofs.Knowing.{probes-grow, state-stays}
-use Rattle.candidate_rounds.proofs.Holding.{kinds-now}
-use Rattle.candidate_rounds.proofs.ResolvedValues.{evaluator-grown}
-use Rattle.candidate_rounds.proofs.Between.{parts}
-use Rattle.candidate_rounds.proofs.Going.{goes-context}
+use Rattle.candidate_eval.specs.Outcomes.ResponseTrees.{response_of}
+use Rattle.candidate_rounds.specs.Evaluators.Known.{Evaluator, GoesOn, probes, state}
+use Rattle.candidate_rounds.specs.Evaluators.Stopping.{IsResponseStop}
+use Rattle.rounds_judge.specs.Obligations.Responding.{response}
+use Rattle.candidate_rounds.proofs.Snapshots.Knowing.{probes-grow, state-stays}
+use Rattle.candidate_rounds.proofs.Snapshots.Holding.{kinds-now}
+use Rattle.candidate_rounds.proofs.Snapshots.ResolvedValues.{evaluator-grown}
+use Rattle.candidate_rounds.proofs.Evaluators.Between.{parts}
+use Rattle.candidate_rounds.proofs.Evaluators.Going.{goes-context}
 use Rattle.candidate_rounds.proofs.rounds.Rounds.make_canonical_response.Goals as goal
 
 pub response-requires-clause-kinds : goal.response-requires-clause-kinds

@@ -1,12 +1,12 @@
 use Rattle.std.proofs.Common.{ap}
-use Rattle.candidate_ir.specs.Nodes.{tree_at}
-use Rattle.candidate_ir.specs.Words.{region_tree}
-use Rattle.candidate_rounds.specs.Frames.{pairs_of}
-use Rattle.candidate_rounds.specs.Known.{state}
-use Rattle.candidate_rounds.proofs.Framing.{frames-kept, pairs-kept}
-use Rattle.candidate_rounds.proofs.Offering.{regions-matched}
-use Rattle.candidate_rounds.proofs.EquatingStops.{below-unmatched, question, regions-unmatched}
-use Rattle.candidate_rounds.proofs.Exits.{not-refused}
+use Rattle.candidate_ir.specs.Syntax.Nodes.{tree_at}
+use Rattle.candidate_ir.specs.Syntax.Words.{region_tree}
+use Rattle.candidate_rounds.specs.Calls.Frames.{pairs_of}
+use Rattle.candidate_rounds.specs.Evaluators.Known.{state}
+use Rattle.candidate_rounds.proofs.Equations.Framing.{frames-kept, pairs-kept}
+use Rattle.candidate_rounds.proofs.Equations.Offering.{regions-matched}
+use Rattle.candidate_rounds.proofs.Stops.EquatingStops.{below-unmatched, question, regions-unmatched}
+use Rattle.candidate_rounds.proofs.Evaluators.Exits.{not-refused}
 use Rattle.candidate_rounds.proofs.rounds.Rounds.matched.Goals as goal
 
 pub returns-in-Some-clause-frames : goal.returns-in-Some-clause-frames

@@ -1,9 +1,9 @@
 use Rattle.std.proofs.Common.{List, IfErr, IfOk, ◌≡◌, ap, subst}
-use Rattle.candidate_ir.specs.Trees.{Tree}
-use Rattle.candidate_eval.specs.Noting.{IsNotingStop}
-use Rattle.candidate_rounds.specs.Goals.{key_seen}
-use Rattle.candidate_rounds.specs.Known.{Evaluator}
-use Rattle.rounds_judge.specs.GoalTable.{may_be_asked}
+use Rattle.candidate_ir.specs.Syntax.Trees.{Tree}
+use Rattle.candidate_eval.specs.Calls.Noting.{IsNotingStop}
+use Rattle.candidate_rounds.specs.Table.Goals.{key_seen}
+use Rattle.candidate_rounds.specs.Evaluators.Known.{Evaluator}
+use Rattle.rounds_judge.specs.Table.GoalTable.{may_be_asked}
 use Rattle.candidate_rounds.proofs.rounds.Rounds.may_be_asked.Goals as goal
 
 pub returns-clause-is : goal.returns-clause-is

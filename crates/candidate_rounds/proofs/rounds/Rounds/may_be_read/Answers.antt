@@ -1,12 +1,12 @@
 use Rattle.std.proofs.Common.{◌≡◌, List, IfErr, IfOk, slice_index_or, Some, sym, subst, ap, ◌∙◌}
 use Rattle.candidate_rounds.specs.declared.rounds.Rounds.TheInside.{Inside}
-use Rattle.candidate_ir.specs.Trees.{Tree}
-use Rattle.candidate_eval.specs.Noting.{IsNotingStop}
-use Rattle.candidate_rounds.specs.Goals.{IsTraitGoal, Via, key_seen, verdict_seen}
-use Rattle.rounds_judge.specs.GoalTable.{Entry, may_be_read}
-use Rattle.rounds_judge.specs.Keys.{Key}
-use Rattle.candidate_rounds.specs.Known.{Evaluator}
-use Rattle.candidate_rounds.proofs.Running.{entry-at, get-there, key-get}
+use Rattle.candidate_ir.specs.Syntax.Trees.{Tree}
+use Rattle.candidate_eval.specs.Calls.Noting.{IsNotingStop}
+use Rattle.candidate_rounds.specs.Table.Goals.{IsTraitGoal, Via, key_seen, verdict_seen}
+use Rattle.rounds_judge.specs.Table.GoalTable.{Entry, may_be_read}
+use Rattle.rounds_judge.specs.Table.Keys.{Key}
+use Rattle.candidate_rounds.specs.Evaluators.Known.{Evaluator}
+use Rattle.candidate_rounds.proofs.Table.Running.{entry-at, get-there, key-get}
 use Rattle.candidate_rounds.proofs.rounds.Rounds.may_be_read.Goals as goal
 
 pub may_be_read-requires-clause-key : goal.may_be_read-requires-clause-key

@@ -1,13 +1,13 @@
 use Rattle.std.proofs.Common.{◌≡◌, ◌∙◌, sym, ap}
-use Rattle.candidate_assembly.proofs.Causes.{so-err, so-ok}
-use Rattle.candidate_assembly.proofs.Keeping.{trait-goal-kept}
-use Rattle.candidate_assembly.specs.TraitGoals.{trait_goal}
-use Rattle.candidate_rounds.specs.Known.{state}
-use Rattle.candidate_rounds.specs.Stopping.{of_key_then, of_noted}
-use Rattle.candidate_rounds.proofs.Asked.{may-be-asked}
-use Rattle.candidate_rounds.proofs.Rounding.{goes-stays}
-use Rattle.rounds_judge.specs.GoalTable.{may_be_asked}
-use Rattle.rounds_judge.specs.Keys.{key_at}
+use Rattle.candidate_assembly.proofs.Calls.Causes.{so-err, so-ok}
+use Rattle.candidate_assembly.proofs.Calls.Keeping.{trait-goal-kept}
+use Rattle.candidate_assembly.specs.Goals.TraitGoals.{trait_goal}
+use Rattle.candidate_rounds.specs.Evaluators.Known.{state}
+use Rattle.candidate_rounds.specs.Evaluators.Stopping.{of_key_then, of_noted}
+use Rattle.candidate_rounds.proofs.Table.Asked.{may-be-asked}
+use Rattle.candidate_rounds.proofs.Table.Rounding.{goes-stays}
+use Rattle.rounds_judge.specs.Table.GoalTable.{may_be_asked}
+use Rattle.rounds_judge.specs.Table.Keys.{key_at}
 use Rattle.candidate_rounds.proofs.rounds.Rounds.may_be_run.Goals as goal
 
 pub returns-in_err-key-clause-stays : goal.returns-in_err-key-clause-stays

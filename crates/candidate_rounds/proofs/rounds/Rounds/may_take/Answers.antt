@@ -1,10 +1,10 @@
 use Rattle.std.proofs.Common.{◌&&◌, ap, sym, ◌∙◌}
-use Rattle.candidate_ir.specs.Folds.{arg_tree}
-use Rattle.candidate_ir.specs.Substitutions.{fits_sort}
-use Rattle.candidate_rounds.specs.Assigning.{allows}
-use Rattle.candidate_rounds.proofs.Assigning.{may-entry}
-use Rattle.rounds_judge.specs.Binding.{may_take}
-use Rattle.candidate_rounds.specs.Known.{Evaluator, state}
+use Rattle.candidate_ir.specs.Instantiation.Folds.{arg_tree}
+use Rattle.candidate_ir.specs.Unification.Substitutions.{fits_sort}
+use Rattle.candidate_rounds.specs.Calls.Assigning.{allows}
+use Rattle.candidate_rounds.proofs.Equations.Assigning.{may-entry}
+use Rattle.rounds_judge.specs.Equations.Binding.{may_take}
+use Rattle.candidate_rounds.specs.Evaluators.Known.{Evaluator, state}
 use Rattle.candidate_rounds.proofs.rounds.Rounds.may_take.Goals as goal
 
 pub returns-then-not-is_same_kind : goal.returns-then-not-is_same_kind

@@ -1,15 +1,15 @@
 use Rattle.std.proofs.Common.{◌≡◌, reverse, ◌∙◌, subst}
-use Rattle.candidate_ir.specs.Nodes.{tree_at}
-use Rattle.candidate_rounds.specs.Frames.{pairs_of}
-use Rattle.candidate_rounds.specs.Known.{listing, state}
-use Rattle.candidate_rounds.proofs.Framing.{frames-kept, pairs-kept}
-use Rattle.candidate_rounds.proofs.Going.{goes-trans}
-use Rattle.candidate_rounds.proofs.Visiting.{by-answer, left-takes, matched-on, neither-takes, offered-on, ok-from, refused-from, right-takes}
-use Rattle.rounds_judge.specs.Equating.{matched, met}
-use Rattle.candidate_rounds.specs.Stopping.{IsOfferStop, of_left_offer, of_right_offer, of_match}
-use Rattle.candidate_rounds.proofs.EquatingStops.{each-stop, match-before, offer-before, question}
-use Rattle.candidate_rounds.proofs.Between.{parts}
-use Rattle.candidate_rounds.proofs.Exits.{below-goes, free-goes, not-refused}
+use Rattle.candidate_ir.specs.Syntax.Nodes.{tree_at}
+use Rattle.candidate_rounds.specs.Calls.Frames.{pairs_of}
+use Rattle.candidate_rounds.specs.Evaluators.Known.{listing, state}
+use Rattle.candidate_rounds.proofs.Equations.Framing.{frames-kept, pairs-kept}
+use Rattle.candidate_rounds.proofs.Evaluators.Going.{goes-trans}
+use Rattle.candidate_rounds.proofs.Equations.Visiting.{by-answer, left-takes, matched-on, neither-takes, offered-on, ok-from, refused-from, right-takes}
+use Rattle.rounds_judge.specs.Equations.Equating.{matched, met}
+use Rattle.candidate_rounds.specs.Evaluators.Stopping.{IsOfferStop, of_left_offer, of_right_offer, of_match}
+use Rattle.candidate_rounds.proofs.Stops.EquatingStops.{each-stop, match-before, offer-before, question}
+use Rattle.candidate_rounds.proofs.Evaluators.Between.{parts}
+use Rattle.candidate_rounds.proofs.Evaluators.Exits.{below-goes, free-goes, not-refused}
 use Rattle.candidate_rounds.proofs.rounds.Rounds.meet.Goals as goal
 
 pub returns-then-branch-clause-frames : goal.returns-then-branch-clause-frames

@@ -1,21 +1,21 @@
 use Rattle.std.proofs.Common.{◌≡◌, refl, reverse, ◌∙◌, ap, subst}
-use Rattle.candidate_ir.specs.Nodes.{tree_at}
-use Rattle.candidate_ir.specs.Trees.{Tree}
-use Rattle.candidate_ir.proofs.Kept.{number-kept}
-use Rattle.candidate_eval.specs.Evaluators.{root_value, resolved_root}
-use Rattle.rounds_judge.specs.Equating.{met}
-use Rattle.candidate_rounds.specs.Frames.{pairs_of}
-use Rattle.candidate_rounds.specs.Known.{listing, state}
-use Rattle.rounds_judge.specs.Listed.{current}
-use Rattle.rounds_judge.proofs.Ending.{current_rests}
-use Rattle.candidate_rounds.proofs.Framing.{frames-kept, pairs-kept}
-use Rattle.candidate_rounds.proofs.Going.{goes-listing, goes-trans}
-use Rattle.candidate_rounds.proofs.Visiting.{current-on, met-same, number-on, ok-from, refused-from}
-use Rattle.candidate_eval.specs.States.{resolved_tree}
-use Rattle.candidate_rounds.specs.Stopping.{IsTreeStop, of_left, of_right, of_meeting}
-use Rattle.candidate_rounds.proofs.EquatingStops.{each-stop, meeting-same, question}
-use Rattle.candidate_rounds.proofs.Between.{parts}
-use Rattle.candidate_rounds.proofs.Exits.{below-goes, not-refused}
+use Rattle.candidate_ir.specs.Syntax.Nodes.{tree_at}
+use Rattle.candidate_ir.specs.Syntax.Trees.{Tree}
+use Rattle.candidate_ir.proofs.Growth.Kept.{number-kept}
+use Rattle.candidate_eval.specs.Interface.Evaluators.{root_value, resolved_root}
+use Rattle.rounds_judge.specs.Equations.Equating.{met}
+use Rattle.candidate_rounds.specs.Calls.Frames.{pairs_of}
+use Rattle.candidate_rounds.specs.Evaluators.Known.{listing, state}
+use Rattle.rounds_judge.specs.Aliases.Listed.{current}
+use Rattle.rounds_judge.proofs.Equations.Ending.{current_rests}
+use Rattle.candidate_rounds.proofs.Equations.Framing.{frames-kept, pairs-kept}
+use Rattle.candidate_rounds.proofs.Evaluators.Going.{goes-listing, goes-trans}
+use Rattle.candidate_rounds.proofs.Equations.Visiting.{current-on, met-same, number-on, ok-from, refused-from}
+use Rattle.candidate_eval.specs.Judges.States.{resolved_tree}
+use Rattle.candidate_rounds.specs.Evaluators.Stopping.{IsTreeStop, of_left, of_right, of_meeting}
+use Rattle.candidate_rounds.proofs.Stops.EquatingStops.{each-stop, meeting-same, question}
+use Rattle.candidate_rounds.proofs.Evaluators.Between.{parts}
+use Rattle.candidate_rounds.proofs.Evaluators.Exits.{below-goes, not-refused}
 use Rattle.candidate_rounds.proofs.rounds.Rounds.meet_current.Goals as goal
 
 pub meet-requires-clause-left_free : goal.meet-requires-clause-left_free

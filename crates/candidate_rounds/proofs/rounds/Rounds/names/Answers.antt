@@ -1,11 +1,11 @@
 use Rattle.std.proofs.Common.{◌+◌, ◌≤◌, ◌<◌, ◌∷◌, ◌++◌, [], arith, length, sym, subst, ap, ◌∙◌}
 use Rattle.candidate_ir.specs.declared.ir.stop.Stop.TheVariants.{Memory}
-use Rattle.candidate_ir.specs.Words.{args_forest}
-use Rattle.candidate_rounds.specs.Giving.{IsNamingStop, no_name}
-use Rattle.candidate_rounds.specs.Known.{Evaluator, state}
-use Rattle.candidate_rounds.proofs.Giving.{NamedSoFar, all-named, fresh-named, open-stop, own-named, own-said}
-use Rattle.candidate_rounds.proofs.ResponseStops.{passed-on}
-use Rattle.rounds_judge.specs.TableSettling.{own_variable, with_open}
+use Rattle.candidate_ir.specs.Syntax.Words.{args_forest}
+use Rattle.candidate_rounds.specs.Calls.Giving.{IsNamingStop, no_name}
+use Rattle.candidate_rounds.specs.Evaluators.Known.{Evaluator, state}
+use Rattle.candidate_rounds.proofs.Table.Giving.{NamedSoFar, all-named, fresh-named, open-stop, own-named, own-said}
+use Rattle.candidate_rounds.proofs.Stops.ResponseStops.{passed-on}
+use Rattle.rounds_judge.specs.Table.TableSettling.{own_variable, with_open}
 use Rattle.candidate_rounds.proofs.rounds.Rounds.names.Goals.{in-Some, in-None+in_ok-name-in-None}
 use Rattle.candidate_rounds.proofs.rounds.Rounds.names.Goals as goal
 

@@ -1,6 +1,6 @@
-use Rattle.candidate_ir.specs.Words.{args_forest}
-use Rattle.candidate_rounds.proofs.Giving.{NamedSoFar}
-use Rattle.rounds_judge.specs.TableSettling.{own_variable}
+use Rattle.candidate_ir.specs.Syntax.Words.{args_forest}
+use Rattle.candidate_rounds.proofs.Table.Giving.{NamedSoFar}
+use Rattle.rounds_judge.specs.Table.TableSettling.{own_variable}
 use Rattle.candidate_rounds.proofs.rounds.Rounds.names.Given as goal
 
 abbrev pub invariant-loop-place : goal.invariant-loop-place

@@ -1,8 +1,8 @@
 use Rattle.std.proofs.Common.{[], ap, map, reverse, subst, sym}
-use Rattle.candidate_rounds.specs.Inferences.{Inference}
-use Rattle.candidate_rounds.specs.Known.{IsEvaluator, info_of, state_of}
-use Rattle.candidate_rounds.proofs.ResolvedValues.{evaluator-begins, nothing_known}
-use Rattle.candidate_rounds.proofs.Following.{new-fits, new-is-sound}
+use Rattle.candidate_rounds.specs.Evaluators.Inferences.{Inference}
+use Rattle.candidate_rounds.specs.Evaluators.Known.{IsEvaluator, info_of, state_of}
+use Rattle.candidate_rounds.proofs.Snapshots.ResolvedValues.{evaluator-begins, nothing_known}
+use Rattle.candidate_rounds.proofs.Evaluators.Following.{new-fits, new-is-sound}
 use Rattle.candidate_rounds.proofs.rounds.Rounds.new.Goals as goal
 
 pub returns-clause-sound : goal.returns-clause-sound

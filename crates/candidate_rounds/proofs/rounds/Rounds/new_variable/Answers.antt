@@ -1,14 +1,14 @@
 use Rattle.std.proofs.Common.{reverse, sym, ◌∙◌, ap, subst}
-use Rattle.candidate_rounds.specs.Inferences.{with_variable}
-use Rattle.candidate_rounds.specs.Known.{states_at, probes}
-use Rattle.candidate_rounds.proofs.Undoing.{undo-variable}
-use Rattle.candidate_rounds.proofs.Knowing.{probes-stay, probes-grow}
-use Rattle.candidate_rounds.proofs.Holding.{holds-variable, before-grown}
-use Rattle.candidate_rounds.proofs.ResolvedValues.{evaluator-further, evaluator-grown, resolved-variable}
-use Rattle.candidate_rounds.proofs.Going.{further-variable}
-use Rattle.candidate_rounds.specs.Inferences.{with_variable}
-use Rattle.candidate_rounds.specs.Known.{IsEvaluator}
-use Rattle.candidate_rounds.proofs.Between.{parts}
+use Rattle.candidate_rounds.specs.Evaluators.Inferences.{with_variable}
+use Rattle.candidate_rounds.specs.Evaluators.Known.{states_at, probes}
+use Rattle.candidate_rounds.proofs.Snapshots.Undoing.{undo-variable}
+use Rattle.candidate_rounds.proofs.Snapshots.Knowing.{probes-stay, probes-grow}
+use Rattle.candidate_rounds.proofs.Snapshots.Holding.{holds-variable, before-grown}
+use Rattle.candidate_rounds.proofs.Snapshots.ResolvedValues.{evaluator-further, evaluator-grown, resolved-variable}
+use Rattle.candidate_rounds.proofs.Evaluators.Going.{further-variable}
+use Rattle.candidate_rounds.specs.Evaluators.Inferences.{with_variable}
+use Rattle.candidate_rounds.specs.Evaluators.Known.{IsEvaluator}
+use Rattle.candidate_rounds.proofs.Evaluators.Between.{parts}
 use Rattle.candidate_rounds.proofs.rounds.Rounds.new_variable.Goals as goal
 
 pub invariant_of-self : goal.invariant_of-self

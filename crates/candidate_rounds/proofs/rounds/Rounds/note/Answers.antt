@@ -1,18 +1,18 @@
 use Rattle.std.proofs.Common.{◌≡◌, ◌∙◌, ◌+◌, ◌<◌, ◌++◌, [], ◌∷◌, if◌then◌else◌, false, ap, arith, is_ok, length, reverse, subst, sym}
 use Rattle.std.specs.List.{list_any}
 use Rattle.candidate_ir.specs.declared.ir.stop.Stop.TheVariants.{Memory}
-use Rattle.candidate_eval.specs.Noting.{IsNotingStop, refused_note}
+use Rattle.candidate_eval.specs.Calls.Noting.{IsNotingStop, refused_note}
 use Rattle.candidate_rounds.specs.declared.rounds.Rounds.TheInside.{Inside}
-use Rattle.candidate_rounds.specs.Goals.{Each, IsKeyOf, IsTraitGoal, key_seen, keys_seen}
-use Rattle.candidate_rounds.specs.Known.{Evaluator, IsEvaluator, table_of}
-use Rattle.candidate_rounds.specs.Stopping.{IsAskingStop, held, many_goals, of_looking}
-use Rattle.rounds_judge.specs.GoalTable.{is_entered, may_be_asked, most_goals}
-use Rattle.rounds_judge.specs.Keys.{same_key}
-use Rattle.candidate_rounds.proofs.Between.{parts}
-use Rattle.candidate_rounds.proofs.Finding.{asked-pushed, other-goals}
-use Rattle.candidate_rounds.proofs.Knowing.{each-imply}
-use Rattle.candidate_rounds.proofs.ResponseStops.{passed-on}
-use Rattle.candidate_rounds.proofs.Tabled.{table-parts}
+use Rattle.candidate_rounds.specs.Table.Goals.{Each, IsKeyOf, IsTraitGoal, key_seen, keys_seen}
+use Rattle.candidate_rounds.specs.Evaluators.Known.{Evaluator, IsEvaluator, table_of}
+use Rattle.candidate_rounds.specs.Evaluators.Stopping.{IsAskingStop, held, many_goals, of_looking}
+use Rattle.rounds_judge.specs.Table.GoalTable.{is_entered, may_be_asked, most_goals}
+use Rattle.rounds_judge.specs.Table.Keys.{same_key}
+use Rattle.candidate_rounds.proofs.Evaluators.Between.{parts}
+use Rattle.candidate_rounds.proofs.Table.Finding.{asked-pushed, other-goals}
+use Rattle.candidate_rounds.proofs.Snapshots.Knowing.{each-imply}
+use Rattle.candidate_rounds.proofs.Stops.ResponseStops.{passed-on}
+use Rattle.candidate_rounds.proofs.Table.Tabled.{table-parts}
 use Rattle.candidate_rounds.proofs.rounds.Rounds.note.Goals as goal
 
 pub returns-in_err-may_be_asked-clause-cause : goal.returns-in_err-may_be_asked-clause-cause

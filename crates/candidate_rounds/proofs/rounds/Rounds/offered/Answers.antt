@@ -1,19 +1,19 @@
 use Rattle.std.proofs.Common.{◌≡◌, Some, None, reverse, sym, ◌∙◌, ap, subst}
-use Rattle.candidate_ir.specs.Folds.{arg_tree}
-use Rattle.candidate_ir.specs.Nodes.{tree_at}
-use Rattle.candidate_ir.specs.Substitutions.{alone}
-use Rattle.candidate_eval.specs.Soundness.{IsResolved}
-use Rattle.rounds_judge.specs.Binding.{bound, may_take}
-use Rattle.rounds_judge.specs.Equating.{Left, offered, value_for}
-use Rattle.candidate_rounds.specs.Known.{Evaluator, listing, state, state_of}
-use Rattle.rounds_judge.proofs.Ending.{value_resolved}
-use Rattle.candidate_rounds.proofs.Alone.{infer-is}
-use Rattle.candidate_rounds.proofs.Going.{goes-trans}
-use Rattle.candidate_rounds.proofs.Offering.{declined, none-asked, taken-by}
+use Rattle.candidate_ir.specs.Instantiation.Folds.{arg_tree}
+use Rattle.candidate_ir.specs.Syntax.Nodes.{tree_at}
+use Rattle.candidate_ir.specs.Unification.Substitutions.{alone}
+use Rattle.candidate_eval.specs.Judges.Soundness.{IsResolved}
+use Rattle.rounds_judge.specs.Equations.Binding.{bound, may_take}
+use Rattle.rounds_judge.specs.Equations.Equating.{Left, offered, value_for}
+use Rattle.candidate_rounds.specs.Evaluators.Known.{Evaluator, listing, state, state_of}
+use Rattle.rounds_judge.proofs.Equations.Ending.{value_resolved}
+use Rattle.candidate_rounds.proofs.Resolution.Alone.{infer-is}
+use Rattle.candidate_rounds.proofs.Evaluators.Going.{goes-trans}
+use Rattle.candidate_rounds.proofs.Equations.Offering.{declined, none-asked, taken-by}
 use Rattle.std.proofs.lemmas.Result.{err_from_is_err_and}
-use Rattle.candidate_rounds.specs.Stopping.{IsBindingStop, IsValueStop, of_offered, of_taken}
-use Rattle.candidate_rounds.proofs.Between.{parts}
-use Rattle.candidate_rounds.proofs.Exits.{free-value}
+use Rattle.candidate_rounds.specs.Evaluators.Stopping.{IsBindingStop, IsValueStop, of_offered, of_taken}
+use Rattle.candidate_rounds.proofs.Evaluators.Between.{parts}
+use Rattle.candidate_rounds.proofs.Evaluators.Exits.{free-value}
 use Rattle.candidate_rounds.proofs.rounds.Rounds.offered.Goals as goal
 
 pub returns-in_default-argument-clause-taken : goal.returns-in_default-argument-clause-taken

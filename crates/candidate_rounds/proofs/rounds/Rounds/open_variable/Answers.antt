@@ -1,12 +1,12 @@
 use Rattle.std.proofs.Common.{reverse, ◌∙◌, ap, subst}
-use Rattle.candidate_rounds.specs.Giving.{with_open_variable}
-use Rattle.candidate_rounds.specs.Known.{Evaluator, GoesOn, state}
-use Rattle.candidate_rounds.proofs.Between.{parts}
-use Rattle.candidate_rounds.proofs.Going.{further-call, goes-further}
-use Rattle.candidate_rounds.proofs.Holding.{change-state}
-use Rattle.candidate_rounds.proofs.Opening.{further-open, holds-open, resolved-open, state-open}
-use Rattle.candidate_rounds.proofs.ResolvedValues.{evaluator-changed}
-use Rattle.rounds_judge.specs.TableSettling.{with_open}
+use Rattle.candidate_rounds.specs.Calls.Giving.{with_open_variable}
+use Rattle.candidate_rounds.specs.Evaluators.Known.{Evaluator, GoesOn, state}
+use Rattle.candidate_rounds.proofs.Evaluators.Between.{parts}
+use Rattle.candidate_rounds.proofs.Evaluators.Going.{further-call, goes-further}
+use Rattle.candidate_rounds.proofs.Snapshots.Holding.{change-state}
+use Rattle.candidate_rounds.proofs.Table.Opening.{further-open, holds-open, resolved-open, state-open}
+use Rattle.candidate_rounds.proofs.Snapshots.ResolvedValues.{evaluator-changed}
+use Rattle.rounds_judge.specs.Table.TableSettling.{with_open}
 use Rattle.candidate_rounds.proofs.rounds.Rounds.open_variable.Goals as goal
 
 pub invariant_of-self : goal.invariant_of-self

@@ -1,9 +1,9 @@
 use Rattle.std.proofs.Common.{reverse, subst, ◌∙◌, ap}
-use Rattle.candidate_rounds.specs.Known.{Evaluator, GoesOn, state}
-use Rattle.candidate_rounds.proofs.Between.{parts}
-use Rattle.candidate_rounds.proofs.Going.{goes-context}
-use Rattle.candidate_rounds.proofs.Knowing.{state-stays}
-use Rattle.candidate_rounds.proofs.ResolvedValues.{evaluator-grown}
+use Rattle.candidate_rounds.specs.Evaluators.Known.{Evaluator, GoesOn, state}
+use Rattle.candidate_rounds.proofs.Evaluators.Between.{parts}
+use Rattle.candidate_rounds.proofs.Evaluators.Going.{goes-context}
+use Rattle.candidate_rounds.proofs.Snapshots.Knowing.{state-stays}
+use Rattle.candidate_rounds.proofs.Snapshots.ResolvedValues.{evaluator-grown}
 use Rattle.candidate_rounds.proofs.rounds.Rounds.own_variables.Goals as goal
 
 pub invariant_of-self : goal.invariant_of-self

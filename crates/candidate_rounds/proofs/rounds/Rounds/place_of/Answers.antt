@@ -1,11 +1,11 @@
 use Rattle.std.proofs.Common.{sym, subst}
 use Rattle.candidate_rounds.specs.declared.rounds.Rounds.TheInside.{Inside}
 use Rattle.candidate_rounds.specs.declared.rounds.goals.GoalEntry.{GoalEntry}
-use Rattle.candidate_rounds.specs.Goals.{Each, IsEntryOf, IsTraitGoal}
-use Rattle.candidate_rounds.specs.Known.{Evaluator}
-use Rattle.candidate_rounds.proofs.Between.{parts}
-use Rattle.candidate_rounds.proofs.Knowing.{each-imply}
-use Rattle.candidate_rounds.proofs.Tabled.{table-parts}
+use Rattle.candidate_rounds.specs.Table.Goals.{Each, IsEntryOf, IsTraitGoal}
+use Rattle.candidate_rounds.specs.Evaluators.Known.{Evaluator}
+use Rattle.candidate_rounds.proofs.Evaluators.Between.{parts}
+use Rattle.candidate_rounds.proofs.Snapshots.Knowing.{each-imply}
+use Rattle.candidate_rounds.proofs.Table.Tabled.{table-parts}
 use Rattle.candidate_rounds.proofs.rounds.Rounds.place_of.Goals as goal
 
 pub place_in-requires-clause-table : goal.place_in-requires-clause-table

@@ -1,11 +1,11 @@
 use Rattle.std.proofs.Common.{IfErr, reverse, subst}
-use Rattle.candidate_ir.specs.Words.{region_tree}
-use Rattle.rounds_judge.specs.Scopes.{placed_tree}
-use Rattle.candidate_rounds.specs.Known.{Evaluator}
-use Rattle.candidate_rounds.specs.Stopping.{IsTreeStop}
-use Rattle.candidate_rounds.proofs.Interface.{made-goes, made-same}
-use Rattle.candidate_rounds.proofs.ResolvedValues.{evaluator-grown}
-use Rattle.candidate_rounds.proofs.Stopping.{region-stop}
+use Rattle.candidate_ir.specs.Syntax.Words.{region_tree}
+use Rattle.rounds_judge.specs.Equations.Scopes.{placed_tree}
+use Rattle.candidate_rounds.specs.Evaluators.Known.{Evaluator}
+use Rattle.candidate_rounds.specs.Evaluators.Stopping.{IsTreeStop}
+use Rattle.candidate_rounds.proofs.Evaluators.Interface.{made-goes, made-same}
+use Rattle.candidate_rounds.proofs.Snapshots.ResolvedValues.{evaluator-grown}
+use Rattle.candidate_rounds.proofs.Stops.Stopping.{region-stop}
 use Rattle.candidate_rounds.proofs.rounds.Rounds.placed_region.Goals as goal
 
 pub invariant_of-self : goal.invariant_of-self

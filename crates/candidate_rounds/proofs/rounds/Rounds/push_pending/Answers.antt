@@ -1,12 +1,12 @@
 use Rattle.std.proofs.Common.{◌≡◌, OnOk, reverse, sym, subst}
-use Rattle.candidate_eval.specs.Evaluators.{IsGoal, pending_of}
-use Rattle.candidate_eval.specs.States.{added}
-use Rattle.candidate_rounds.specs.Inferences.{add}
-use Rattle.candidate_rounds.specs.Known.{Evaluator, GoesOn, state, state_of}
-use Rattle.candidate_rounds.proofs.Going.{further-call, further-goal, goes-further}
-use Rattle.candidate_rounds.proofs.Holding.{goal-state, holds-goal}
-use Rattle.candidate_rounds.proofs.ResolvedValues.{evaluator-changed, resolved-goal}
-use Rattle.candidate_rounds.proofs.Between.{parts}
+use Rattle.candidate_eval.specs.Interface.Evaluators.{IsGoal, pending_of}
+use Rattle.candidate_eval.specs.Judges.States.{added}
+use Rattle.candidate_rounds.specs.Evaluators.Inferences.{add}
+use Rattle.candidate_rounds.specs.Evaluators.Known.{Evaluator, GoesOn, state, state_of}
+use Rattle.candidate_rounds.proofs.Evaluators.Going.{further-call, further-goal, goes-further}
+use Rattle.candidate_rounds.proofs.Snapshots.Holding.{goal-state, holds-goal}
+use Rattle.candidate_rounds.proofs.Snapshots.ResolvedValues.{evaluator-changed, resolved-goal}
+use Rattle.candidate_rounds.proofs.Evaluators.Between.{parts}
 use Rattle.candidate_rounds.proofs.rounds.Rounds.push_pending.Goals as goal
 
 pub invariant_of-self : goal.invariant_of-self

@@ -1,15 +1,15 @@
 use Rattle.std.proofs.Common.{OnOk, reverse, sym, ◌∙◌, subst, ◌≡◌}
-use Rattle.candidate_ir.specs.Words.{region_tree}
-use Rattle.rounds_judge.specs.Equating.{with_equal_regions}
-use Rattle.candidate_rounds.specs.Known.{Evaluator, GoesOn, state, state_of}
-use Rattle.candidate_rounds.proofs.Going.{goes-both}
-use Rattle.candidate_rounds.proofs.Recording.{further-both, equal-recorded}
-use Rattle.candidate_rounds.proofs.ResolvedValues.{evaluator-changed, evaluator-grown, resolved-region}
-use Rattle.candidate_rounds.proofs.Going.{further-region, further-trans}
-use Rattle.candidate_rounds.proofs.Recording.{both, holds-region}
-use Rattle.candidate_rounds.specs.Inferences.{record_region}
-use Rattle.candidate_rounds.proofs.BindingStops.{unrecorded}
-use Rattle.candidate_rounds.proofs.Between.{parts}
+use Rattle.candidate_ir.specs.Syntax.Words.{region_tree}
+use Rattle.rounds_judge.specs.Equations.Equating.{with_equal_regions}
+use Rattle.candidate_rounds.specs.Evaluators.Known.{Evaluator, GoesOn, state, state_of}
+use Rattle.candidate_rounds.proofs.Evaluators.Going.{goes-both}
+use Rattle.candidate_rounds.proofs.Equations.Recording.{further-both, equal-recorded}
+use Rattle.candidate_rounds.proofs.Snapshots.ResolvedValues.{evaluator-changed, evaluator-grown, resolved-region}
+use Rattle.candidate_rounds.proofs.Evaluators.Going.{further-region, further-trans}
+use Rattle.candidate_rounds.proofs.Equations.Recording.{both, holds-region}
+use Rattle.candidate_rounds.specs.Evaluators.Inferences.{record_region}
+use Rattle.candidate_rounds.proofs.Stops.BindingStops.{unrecorded}
+use Rattle.candidate_rounds.proofs.Evaluators.Between.{parts}
 use Rattle.candidate_rounds.proofs.rounds.Rounds.record_equal_regions.Goals as goal
 
 pub invariant_of-self : goal.invariant_of-self

@@ -1,11 +1,11 @@
 use Rattle.std.proofs.Common.{map}
-use Rattle.candidate_ir.specs.Words.{clause_tree}
-use Rattle.candidate_ir.proofs.Made.{IsClause-listed}
-use Rattle.candidate_rounds.specs.Giving.{AreConstraintsStop}
-use Rattle.candidate_rounds.proofs.Giving.{constraint-unput, one-recorded}
-use Rattle.candidate_rounds.proofs.Going.{goes-trans}
-use Rattle.candidate_rounds.proofs.Knowing.{is-clause-stays}
-use Rattle.candidate_rounds.proofs.ResponseStops.{passed-on}
+use Rattle.candidate_ir.specs.Syntax.Words.{clause_tree}
+use Rattle.candidate_ir.proofs.Growth.Made.{IsClause-listed}
+use Rattle.candidate_rounds.specs.Calls.Giving.{AreConstraintsStop}
+use Rattle.candidate_rounds.proofs.Table.Giving.{constraint-unput, one-recorded}
+use Rattle.candidate_rounds.proofs.Evaluators.Going.{goes-trans}
+use Rattle.candidate_rounds.proofs.Snapshots.Knowing.{is-clause-stays}
+use Rattle.candidate_rounds.proofs.Stops.ResponseStops.{passed-on}
 use Rattle.candidate_rounds.proofs.rounds.Rounds.record_given.Goals as goal
 
 pub record_put-requires : goal.record_put-requires

@@ -1,4 +1,4 @@
-use Rattle.candidate_rounds.proofs.Giving.{RecordedSoFar}
+use Rattle.candidate_rounds.proofs.Table.Giving.{RecordedSoFar}
 use Rattle.candidate_rounds.proofs.rounds.Rounds.record_given.Given as goal
 
 abbrev pub invariant-loop-i : goal.invariant-loop-i

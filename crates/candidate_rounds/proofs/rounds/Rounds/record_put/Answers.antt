@@ -1,7 +1,7 @@
-use Rattle.candidate_ir.specs.Words.{clause_tree}
-use Rattle.candidate_rounds.specs.Giving.{IsConstraintStop, no_constraint, of_constraint_put}
-use Rattle.candidate_rounds.proofs.Going.{goes-trans}
-use Rattle.candidate_rounds.proofs.ResponseStops.{passed-on, refused-growth}
+use Rattle.candidate_ir.specs.Syntax.Words.{clause_tree}
+use Rattle.candidate_rounds.specs.Calls.Giving.{IsConstraintStop, no_constraint, of_constraint_put}
+use Rattle.candidate_rounds.proofs.Evaluators.Going.{goes-trans}
+use Rattle.candidate_rounds.proofs.Stops.ResponseStops.{passed-on, refused-growth}
 use Rattle.candidate_rounds.proofs.rounds.Rounds.record_put.Goals as goal
 
 pub returns-clause-goes : goal.returns-clause-goes

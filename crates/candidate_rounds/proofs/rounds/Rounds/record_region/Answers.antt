@@ -1,14 +1,14 @@
 use Rattle.std.proofs.Common.{reverse, sym, ◌∙◌, ap, subst}
-use Rattle.candidate_ir.specs.Words.{IsClause, clause_tree}
-use Rattle.candidate_rounds.specs.Inferences.{record_region}
-use Rattle.candidate_rounds.specs.Known.{Evaluator, GoesOn, state}
-use Rattle.rounds_judge.specs.Settling.{recorded}
-use Rattle.candidate_rounds.proofs.Going.{further-call, further-region, goes-further}
-use Rattle.candidate_rounds.proofs.Holding.{change-state}
-use Rattle.candidate_rounds.proofs.Recording.{holds-region}
-use Rattle.candidate_rounds.proofs.ResolvedValues.{evaluator-changed, resolved-region}
-use Rattle.candidate_rounds.proofs.Trying.{state-region}
-use Rattle.candidate_rounds.proofs.Between.{parts}
+use Rattle.candidate_ir.specs.Syntax.Words.{IsClause, clause_tree}
+use Rattle.candidate_rounds.specs.Evaluators.Inferences.{record_region}
+use Rattle.candidate_rounds.specs.Evaluators.Known.{Evaluator, GoesOn, state}
+use Rattle.rounds_judge.specs.Obligations.Settling.{recorded}
+use Rattle.candidate_rounds.proofs.Evaluators.Going.{further-call, further-region, goes-further}
+use Rattle.candidate_rounds.proofs.Snapshots.Holding.{change-state}
+use Rattle.candidate_rounds.proofs.Equations.Recording.{holds-region}
+use Rattle.candidate_rounds.proofs.Snapshots.ResolvedValues.{evaluator-changed, resolved-region}
+use Rattle.candidate_rounds.proofs.Obligations.Trying.{state-region}
+use Rattle.candidate_rounds.proofs.Evaluators.Between.{parts}
 use Rattle.candidate_rounds.proofs.rounds.Rounds.record_region.Goals as goal
 
 pub invariant_of-self : goal.invariant_of-self

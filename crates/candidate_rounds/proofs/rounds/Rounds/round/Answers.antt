@@ -1,14 +1,14 @@
 use Rattle.std.proofs.Common.{◌≡◌, ◌<◌, ◌++◌, Some, OnErr, OnOk, length, map, reverse, slice_get, sym, ◌∙◌, ap, subst, arith}
-use Rattle.candidate_eval.specs.Noting.{refused_note}
+use Rattle.candidate_eval.specs.Calls.Noting.{refused_note}
 use Rattle.candidate_rounds.specs.declared.rounds.Rounds.TheInside.{Inside}
-use Rattle.candidate_rounds.specs.Goals.{IsVerdict, table_seen, verdict_seen}
-use Rattle.candidate_rounds.specs.Known.{Evaluator, IsEvaluator, table_of}
-use Rattle.candidate_rounds.specs.Running.{AreWritten, IsRoundStop, all_put_in, computing, has_one, new_entry, round_looking, verdict_at}
-use Rattle.candidate_rounds.proofs.Between.{parts}
-use Rattle.candidate_rounds.proofs.ResponseStops.{passed-growth}
-use Rattle.candidate_rounds.proofs.Rounding.{place-written, round-written, written-either}
-use Rattle.candidate_rounds.proofs.Running.{same-length}
-use Rattle.rounds_judge.specs.Rounds.{IsRound}
+use Rattle.candidate_rounds.specs.Table.Goals.{IsVerdict, table_seen, verdict_seen}
+use Rattle.candidate_rounds.specs.Evaluators.Known.{Evaluator, IsEvaluator, table_of}
+use Rattle.candidate_rounds.specs.Table.Running.{AreWritten, IsRoundStop, all_put_in, computing, has_one, new_entry, round_looking, verdict_at}
+use Rattle.candidate_rounds.proofs.Evaluators.Between.{parts}
+use Rattle.candidate_rounds.proofs.Stops.ResponseStops.{passed-growth}
+use Rattle.candidate_rounds.proofs.Table.Rounding.{place-written, round-written, written-either}
+use Rattle.candidate_rounds.proofs.Table.Running.{same-length}
+use Rattle.rounds_judge.specs.Table.Rounds.{IsRound}
 use Rattle.candidate_rounds.proofs.rounds.Rounds.round.Goals as goal
 
 pub copy_at-requires : goal.copy_at-requires

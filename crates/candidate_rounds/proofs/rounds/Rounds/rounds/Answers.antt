@@ -1,10 +1,10 @@
 use Rattle.std.proofs.Common.{◌≡◌, ◌+◌, suc, refl, sym, ◌∙◌, subst, arith}
-use Rattle.candidate_eval.specs.Noting.{refused_note}
-use Rattle.candidate_rounds.specs.Known.{table_of}
-use Rattle.candidate_rounds.specs.Running.{IsRoundStop, round_looking}
-use Rattle.candidate_rounds.proofs.ResponseStops.{passed-on}
-use Rattle.candidate_rounds.proofs.Rounding.{RoundsOn, err-table, if-err, longer, no-rounds, none-needed, ok-table, on-ok, one-more-on, ran-all, ran-final, stop-after, stopped-at-once, stopped-on, then-err}
-use Rattle.candidate_rounds.proofs.Running.{round-stop-before, stays-refl, stays-trans}
+use Rattle.candidate_eval.specs.Calls.Noting.{refused_note}
+use Rattle.candidate_rounds.specs.Evaluators.Known.{table_of}
+use Rattle.candidate_rounds.specs.Table.Running.{IsRoundStop, round_looking}
+use Rattle.candidate_rounds.proofs.Stops.ResponseStops.{passed-on}
+use Rattle.candidate_rounds.proofs.Table.Rounding.{RoundsOn, err-table, if-err, longer, no-rounds, none-needed, ok-table, on-ok, one-more-on, ran-all, ran-final, stop-after, stopped-at-once, stopped-on, then-err}
+use Rattle.candidate_rounds.proofs.Table.Running.{round-stop-before, stays-refl, stays-trans}
 use Rattle.candidate_rounds.proofs.rounds.Rounds.rounds.Goals as goal
 
 pub returns-then-is_final_at-clause-stays : goal.returns-then-is_final_at-clause-stays

@@ -1,5 +1,5 @@
 use Rattle.std.proofs.Common.{◌≤◌}
-use Rattle.candidate_rounds.proofs.Rounding.{RoundsOn}
+use Rattle.candidate_rounds.proofs.Table.Rounding.{RoundsOn}
 use Rattle.candidate_rounds.proofs.rounds.Rounds.rounds.Given as goal
 
 abbrev pub invariant-loop-next : goal.invariant-loop-next

@@ -1,15 +1,15 @@
 use Rattle.std.proofs.Common.{List, Some, sym, ◌∙◌, ap, subst, arith}
-use Rattle.candidate_ir.specs.Trees.{Tree}
-use Rattle.candidate_assembly.specs.TraitGoals.{trait_goal}
-use Rattle.candidate_rounds.specs.Goals.{Via, verdict_seen}
-use Rattle.candidate_rounds.specs.Known.{Evaluator, state, table_of}
-use Rattle.candidate_rounds.specs.Running.{IsDoneBelow, IsPlaceOf, IsRunStop, after_rounds, computing, not_entered, run_round}
-use Rattle.candidate_rounds.proofs.ResponseStops.{passed-on}
-use Rattle.candidate_rounds.proofs.Rounding.{below-before, err-table, if-err, is-asking, ok-ok, ok-table, place-below, place-in-rounds, place-verdict, rounds-before, then-err}
-use Rattle.candidate_rounds.proofs.Running.{round-stop-before, run-stop-before, seen-length, stays-trans}
-use Rattle.rounds_judge.specs.GoalTable.{GoalTable, entered_in, may_be_asked, verdict_in}
-use Rattle.rounds_judge.specs.Keys.{Key, key_at}
-use Rattle.rounds_judge.specs.Rounds.{Rounds}
+use Rattle.candidate_ir.specs.Syntax.Trees.{Tree}
+use Rattle.candidate_assembly.specs.Goals.TraitGoals.{trait_goal}
+use Rattle.candidate_rounds.specs.Table.Goals.{Via, verdict_seen}
+use Rattle.candidate_rounds.specs.Evaluators.Known.{Evaluator, state, table_of}
+use Rattle.candidate_rounds.specs.Table.Running.{IsDoneBelow, IsPlaceOf, IsRunStop, after_rounds, computing, not_entered, run_round}
+use Rattle.candidate_rounds.proofs.Stops.ResponseStops.{passed-on}
+use Rattle.candidate_rounds.proofs.Table.Rounding.{below-before, err-table, if-err, is-asking, ok-ok, ok-table, place-below, place-in-rounds, place-verdict, rounds-before, then-err}
+use Rattle.candidate_rounds.proofs.Table.Running.{round-stop-before, run-stop-before, seen-length, stays-trans}
+use Rattle.rounds_judge.specs.Table.GoalTable.{GoalTable, entered_in, may_be_asked, verdict_in}
+use Rattle.rounds_judge.specs.Table.Keys.{Key, key_at}
+use Rattle.rounds_judge.specs.Table.Rounds.{Rounds}
 use Rattle.candidate_rounds.proofs.rounds.Rounds.run.Goals as goal
 
 pub enter_goal-requires-clause-asked : goal.enter_goal-requires-clause-asked

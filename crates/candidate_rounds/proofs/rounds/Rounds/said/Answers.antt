@@ -1,8 +1,8 @@
 use Rattle.std.proofs.Common.{subst}
-use Rattle.candidate_ir.specs.Words.{clause_tree}
-use Rattle.candidate_rounds.specs.Known.{Evaluator}
-use Rattle.candidate_rounds.specs.Trying.{Says}
-use Rattle.candidate_rounds.proofs.Projecting.{clause-read}
+use Rattle.candidate_ir.specs.Syntax.Words.{clause_tree}
+use Rattle.candidate_rounds.specs.Evaluators.Known.{Evaluator}
+use Rattle.candidate_rounds.specs.Table.Trying.{Says}
+use Rattle.candidate_rounds.proofs.Obligations.Projecting.{clause-read}
 use Rattle.candidate_rounds.proofs.rounds.Rounds.said.Goals as goal
 
 pub returns : goal.returns

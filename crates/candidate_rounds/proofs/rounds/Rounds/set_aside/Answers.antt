@@ -1,10 +1,10 @@
 use Rattle.std.proofs.Common.{length, reverse, subst}
-use Rattle.candidate_rounds.specs.Inferences.{begin_pending}
-use Rattle.candidate_rounds.specs.Known.{Evaluator, GoesOn}
-use Rattle.candidate_rounds.proofs.Evaluating.{holds-aside}
-use Rattle.candidate_rounds.proofs.Going.{further-call, further-pending, goes-further}
-use Rattle.candidate_rounds.proofs.ResolvedValues.{evaluator-changed, resolved-pending}
-use Rattle.candidate_rounds.proofs.Between.{parts}
+use Rattle.candidate_rounds.specs.Evaluators.Inferences.{begin_pending}
+use Rattle.candidate_rounds.specs.Evaluators.Known.{Evaluator, GoesOn}
+use Rattle.candidate_rounds.proofs.Obligations.Evaluating.{holds-aside}
+use Rattle.candidate_rounds.proofs.Evaluators.Going.{further-call, further-pending, goes-further}
+use Rattle.candidate_rounds.proofs.Snapshots.ResolvedValues.{evaluator-changed, resolved-pending}
+use Rattle.candidate_rounds.proofs.Evaluators.Between.{parts}
 use Rattle.candidate_rounds.proofs.rounds.Rounds.set_aside.Goals as goal
 
 pub invariant_of-self : goal.invariant_of-self

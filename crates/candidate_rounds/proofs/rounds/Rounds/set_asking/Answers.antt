@@ -1,7 +1,7 @@
 use Rattle.std.proofs.Common.{reverse, sym, subst}
 use Rattle.candidate_rounds.specs.declared.rounds.Rounds.TheInside.{Inside}
-use Rattle.candidate_rounds.specs.Known.{IsEvaluator}
-use Rattle.candidate_rounds.proofs.Running.{evaluator-unasked}
+use Rattle.candidate_rounds.specs.Evaluators.Known.{IsEvaluator}
+use Rattle.candidate_rounds.proofs.Table.Running.{evaluator-unasked}
 use Rattle.candidate_rounds.proofs.rounds.Rounds.set_asking.Goals as goal
 
 pub invariant_of-self : goal.invariant_of-self

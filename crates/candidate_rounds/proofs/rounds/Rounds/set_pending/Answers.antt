@@ -1,5 +1,5 @@
-use Rattle.candidate_rounds.proofs.Evaluating.{all-pending, one-more-pending}
-use Rattle.candidate_rounds.proofs.Going.{goes-trans}
+use Rattle.candidate_rounds.proofs.Obligations.Evaluating.{all-pending, one-more-pending}
+use Rattle.candidate_rounds.proofs.Evaluators.Going.{goes-trans}
 use Rattle.std.proofs.Common.{◌∙◌}
 use Rattle.candidate_rounds.proofs.rounds.Rounds.set_pending.Goals as goal
 

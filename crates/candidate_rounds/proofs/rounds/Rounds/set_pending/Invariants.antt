@@ -1,4 +1,4 @@
-use Rattle.candidate_rounds.proofs.Evaluating.{PendingSoFar}
+use Rattle.candidate_rounds.proofs.Obligations.Evaluating.{PendingSoFar}
 use Rattle.candidate_rounds.proofs.rounds.Rounds.set_pending.Given as goal
 
 abbrev pub invariant-loop-i : goal.invariant-loop-i

@@ -1,4 +1,4 @@
-use Rattle.candidate_rounds.proofs.SettlingStops.{PassesOn}
+use Rattle.candidate_rounds.proofs.Stops.SettlingStops.{PassesOn}
 use Rattle.candidate_rounds.proofs.rounds.Rounds.settle.Given as goal
 
 abbrev pub invariant-loop-pass : goal.invariant-loop-pass

@@ -1,10 +1,10 @@
 use Rattle.std.proofs.Common.{◌∙◌, ap}
-use Rattle.candidate_eval.specs.Evaluators.{pendings_of}
-use Rattle.candidate_rounds.specs.Stopping.{AreGoalsStop, IsPassStop, pass_memory, held}
-use Rattle.candidate_rounds.specs.Known.{reads, state}
-use Rattle.candidate_rounds.proofs.SettlingStops.{growth-becomes, pass-goals, refusal-passed}
-use Rattle.candidate_rounds.proofs.Going.{goes-refl, goes-trans}
-use Rattle.candidate_rounds.proofs.Exits.{not-refused}
+use Rattle.candidate_eval.specs.Interface.Evaluators.{pendings_of}
+use Rattle.candidate_rounds.specs.Evaluators.Stopping.{AreGoalsStop, IsPassStop, pass_memory, held}
+use Rattle.candidate_rounds.specs.Evaluators.Known.{reads, state}
+use Rattle.candidate_rounds.proofs.Stops.SettlingStops.{growth-becomes, pass-goals, refusal-passed}
+use Rattle.candidate_rounds.proofs.Evaluators.Going.{goes-refl, goes-trans}
+use Rattle.candidate_rounds.proofs.Evaluators.Exits.{not-refused}
 use Rattle.candidate_rounds.proofs.rounds.Rounds.settle_once.Goals as goal
 
 pub returns-in_err-goals-clause-cause : goal.returns-in_err-goals-clause-cause

@@ -1,15 +1,15 @@
 use Rattle.std.proofs.Common.{sym, ◌∙◌}
 use Rattle.std.proofs.lemmas.Result.{err_from_is_err_and}
-use Rattle.candidate_ir.specs.Words.{ty_tree}
-use Rattle.candidate_ir.specs.Substitutions.{alone}
-use Rattle.candidate_ir.proofs.Kept.{ty-kept}
-use Rattle.candidate_rounds.specs.Known.{listing, state}
-use Rattle.candidate_rounds.specs.Stopping.{IsEquationStop, IsProjectionStop, of_resolved_alias}
-use Rattle.candidate_rounds.proofs.Evaluating.{listed-equal, listed-refused, not-listed}
-use Rattle.candidate_rounds.proofs.Going.{goes-listing, goes-trans}
-use Rattle.candidate_rounds.proofs.SettlingStops.{alias-unequal, refusal-passed, stop-becomes}
-use Rattle.candidate_rounds.proofs.Between.{parts}
-use Rattle.candidate_rounds.proofs.Exits.{not-refused}
+use Rattle.candidate_ir.specs.Syntax.Words.{ty_tree}
+use Rattle.candidate_ir.specs.Unification.Substitutions.{alone}
+use Rattle.candidate_ir.proofs.Growth.Kept.{ty-kept}
+use Rattle.candidate_rounds.specs.Evaluators.Known.{listing, state}
+use Rattle.candidate_rounds.specs.Evaluators.Stopping.{IsEquationStop, IsProjectionStop, of_resolved_alias}
+use Rattle.candidate_rounds.proofs.Obligations.Evaluating.{listed-equal, listed-refused, not-listed}
+use Rattle.candidate_rounds.proofs.Evaluators.Going.{goes-listing, goes-trans}
+use Rattle.candidate_rounds.proofs.Stops.SettlingStops.{alias-unequal, refusal-passed, stop-becomes}
+use Rattle.candidate_rounds.proofs.Evaluators.Between.{parts}
+use Rattle.candidate_rounds.proofs.Evaluators.Exits.{not-refused}
 use Rattle.candidate_rounds.proofs.rounds.Rounds.try_alias.Goals as goal
 
 pub returns-in_default-clause-ok : goal.returns-in_default-clause-ok

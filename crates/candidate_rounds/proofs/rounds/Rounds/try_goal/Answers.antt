@@ -1,22 +1,22 @@
 use Rattle.std.proofs.Common.{◌≡◌, refl, sym, ◌∙◌, ap, subst}
 use Rattle.std.proofs.lemmas.Result.{err_from_is_err_and}
-use Rattle.candidate_ir.specs.Trees.{ClausesKind, none, tree, Tree}
+use Rattle.candidate_ir.specs.Syntax.Trees.{ClausesKind, none, tree, Tree}
 use Rattle.candidate_ir.specs.declared.ir.heads.Head.TheVariants as H
 use Rattle.candidate_ir.specs.declared.ir.heads.PartHead.TheVariants as P
-use Rattle.candidate_ir.specs.Words.{IsClause, clause_tree, env_forest}
-use Rattle.candidate_ir.specs.Supers.{after_first}
-use Rattle.candidate_ir.proofs.Joining.{clause-kept}
-use Rattle.candidate_ir.proofs.Kept.{grows-trans}
-use Rattle.candidate_ir.proofs.Made.{kind_at-grows}
-use Rattle.candidate_eval.specs.Characterization.{bound_kinds}
-use Rattle.candidate_eval.specs.Evaluators.{kinds_listed, pending_of}
-use Rattle.candidate_rounds.specs.Known.{reads, state}
-use Rattle.candidate_rounds.specs.Stopping.{IsEvaluationStop, IsGoalStop, goal_memory, held, of_clause}
-use Rattle.rounds_judge.specs.Settling.{instantiated}
-use Rattle.candidate_rounds.proofs.Evaluating.{env-kept, instance-made, second-holds, second-tree, tried-done, tried-refused, tried-stays}
-use Rattle.candidate_rounds.proofs.Going.{goes-reads, goes-refl, goes-trans}
-use Rattle.candidate_rounds.proofs.SettlingStops.{evaluation-stop, growth-becomes, refusal-passed, stop-becomes}
-use Rattle.candidate_rounds.proofs.Exits.{not-refused}
+use Rattle.candidate_ir.specs.Syntax.Words.{IsClause, clause_tree, env_forest}
+use Rattle.candidate_ir.specs.Hierarchy.Supers.{after_first}
+use Rattle.candidate_ir.proofs.Instantiation.Joining.{clause-kept}
+use Rattle.candidate_ir.proofs.Growth.Kept.{grows-trans}
+use Rattle.candidate_ir.proofs.Growth.Made.{kind_at-grows}
+use Rattle.candidate_eval.specs.Derivations.Characterization.{bound_kinds}
+use Rattle.candidate_eval.specs.Interface.Evaluators.{kinds_listed, pending_of}
+use Rattle.candidate_rounds.specs.Evaluators.Known.{reads, state}
+use Rattle.candidate_rounds.specs.Evaluators.Stopping.{IsEvaluationStop, IsGoalStop, goal_memory, held, of_clause}
+use Rattle.rounds_judge.specs.Obligations.Settling.{instantiated}
+use Rattle.candidate_rounds.proofs.Obligations.Evaluating.{env-kept, instance-made, second-holds, second-tree, tried-done, tried-refused, tried-stays}
+use Rattle.candidate_rounds.proofs.Evaluators.Going.{goes-reads, goes-refl, goes-trans}
+use Rattle.candidate_rounds.proofs.Stops.SettlingStops.{evaluation-stop, growth-becomes, refusal-passed, stop-becomes}
+use Rattle.candidate_rounds.proofs.Evaluators.Exits.{not-refused}
 use Rattle.candidate_rounds.proofs.rounds.Rounds.try_goal.Goals as goal
 
 pub try_instance-requires-clause-clause : goal.try_instance-requires-clause-clause

@@ -1,13 +1,13 @@
 use Rattle.std.proofs.Common.{sym, ◌∙◌}
 use Rattle.std.proofs.lemmas.Result.{err_from_is_err_and}
-use Rattle.candidate_eval.specs.Evaluators.{IsGoal, pendings_of}
-use Rattle.candidate_rounds.specs.Stopping.{AreGoalsStop, held}
-use Rattle.candidate_rounds.specs.Known.{reads, state}
-use Rattle.candidate_rounds.proofs.Evaluating.{Sourced, goal-kept, try-refused}
-use Rattle.candidate_rounds.proofs.Gathering.{each-index}
-use Rattle.candidate_rounds.proofs.Going.{goes-refl, goes-trans}
-use Rattle.candidate_rounds.proofs.SettlingStops.{begin-tries, goal-stops, growth-becomes, growth-stops, one-more-goal, refusal-passed}
-use Rattle.candidate_rounds.proofs.Exits.{not-refused}
+use Rattle.candidate_eval.specs.Interface.Evaluators.{IsGoal, pendings_of}
+use Rattle.candidate_rounds.specs.Evaluators.Stopping.{AreGoalsStop, held}
+use Rattle.candidate_rounds.specs.Evaluators.Known.{reads, state}
+use Rattle.candidate_rounds.proofs.Obligations.Evaluating.{Sourced, goal-kept, try-refused}
+use Rattle.candidate_rounds.proofs.Obligations.Gathering.{each-index}
+use Rattle.candidate_rounds.proofs.Evaluators.Going.{goes-refl, goes-trans}
+use Rattle.candidate_rounds.proofs.Stops.SettlingStops.{begin-tries, goal-stops, growth-becomes, growth-stops, one-more-goal, refusal-passed}
+use Rattle.candidate_rounds.proofs.Evaluators.Exits.{not-refused}
 use Rattle.candidate_rounds.proofs.rounds.Rounds.try_goals.Goals as goal
 
 pub try_goal-requires : goal.try_goal-requires

@@ -1,4 +1,4 @@
-use Rattle.candidate_rounds.proofs.SettlingStops.{TriesOn}
+use Rattle.candidate_rounds.proofs.Stops.SettlingStops.{TriesOn}
 use Rattle.candidate_rounds.proofs.rounds.Rounds.try_goals.Given as goal
 
 abbrev pub invariant-loop-i : goal.invariant-loop-i

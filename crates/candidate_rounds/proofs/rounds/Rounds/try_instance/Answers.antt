@@ -1,14 +1,14 @@
 use Rattle.std.proofs.Common.{◌≡◌, Bool, IfErr, IfOk, None, Option, Some, subst}
-use Rattle.candidate_ir.specs.Words.{clause_tree, env_forest, kind_tree, ty_tree}
-use Rattle.candidate_ir.specs.Supers.{after_first}
+use Rattle.candidate_ir.specs.Syntax.Words.{clause_tree, env_forest, kind_tree, ty_tree}
+use Rattle.candidate_ir.specs.Hierarchy.Supers.{after_first}
 use Rattle.candidate_eval.specs.declared.eval.refusal.NoSolutionOrStop.TheVariants.{NoSolution}
-use Rattle.candidate_eval.specs.States.{State}
-use Rattle.candidate_rounds.specs.Known.{listing, reads, state}
-use Rattle.candidate_rounds.specs.Stopping.{IsEvaluationStop, IsProjectionStop, IsTraitStop, held, not_recorded, of_trait}
-use Rattle.candidate_rounds.specs.Trying.{projection_of}
-use Rattle.candidate_rounds.proofs.Asking.{says-trait, trait-evaluated}
-use Rattle.candidate_rounds.proofs.Evaluating.{projection-evaluated}
-use Rattle.candidate_rounds.proofs.SettlingStops.{projection-evaluates, stops-then, growth-becomes}
+use Rattle.candidate_eval.specs.Judges.States.{State}
+use Rattle.candidate_rounds.specs.Evaluators.Known.{listing, reads, state}
+use Rattle.candidate_rounds.specs.Evaluators.Stopping.{IsEvaluationStop, IsProjectionStop, IsTraitStop, held, not_recorded, of_trait}
+use Rattle.candidate_rounds.specs.Table.Trying.{projection_of}
+use Rattle.candidate_rounds.proofs.Table.Asking.{says-trait, trait-evaluated}
+use Rattle.candidate_rounds.proofs.Obligations.Evaluating.{projection-evaluated}
+use Rattle.candidate_rounds.proofs.Stops.SettlingStops.{projection-evaluates, stops-then, growth-becomes}
 use Rattle.candidate_rounds.proofs.rounds.Rounds.try_instance.Goals as goal
 
 pub returns-in-Projection-clause-ok : goal.returns-in-Projection-clause-ok

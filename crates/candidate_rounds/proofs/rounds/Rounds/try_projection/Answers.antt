@@ -1,27 +1,27 @@
 use Rattle.std.proofs.Common.{◌≡◌, IfErr, IfOk, None, Option, Some, Bool, ◌∙◌, ap, subst}
 use Rattle.candidate_ir.specs.declared.ir.kinds.AliasTy.{AliasTy}
 use Rattle.candidate_ir.specs.declared.ir.kinds.TyKind.TheVariants as K
-use Rattle.candidate_ir.specs.Words.{kind_tree, ty_tree}
-use Rattle.candidate_ir.specs.Trees.{Tree}
-use Rattle.candidate_ir.proofs.Kept.{ty-kept}
+use Rattle.candidate_ir.specs.Syntax.Words.{kind_tree, ty_tree}
+use Rattle.candidate_ir.specs.Syntax.Trees.{Tree}
+use Rattle.candidate_ir.proofs.Growth.Kept.{ty-kept}
 use Rattle.candidate_eval.specs.declared.eval.refusal.NoSolutionOrStop.TheVariants.{NoSolution}
-use Rattle.candidate_eval.specs.States.{State}
-use Rattle.candidate_rounds.specs.Known.{listing, state}
-use Rattle.candidate_rounds.specs.Trying.{projection_of}
-use Rattle.candidate_rounds.specs.Stopping.{IsProjectionStop, IsTreeStop, of_alias}
-use Rattle.candidate_rounds.proofs.Evaluating.{answered-same}
-use Rattle.candidate_rounds.proofs.Going.{goes-listing, goes-trans}
-use Rattle.candidate_rounds.proofs.SettlingStops.{projection-same, stop-becomes, stops-then}
-use Rattle.candidate_rounds.proofs.Between.{parts}
-use Rattle.candidate_rounds.proofs.Exits.{not-refused}
+use Rattle.candidate_eval.specs.Judges.States.{State}
+use Rattle.candidate_rounds.specs.Evaluators.Known.{listing, state}
+use Rattle.candidate_rounds.specs.Table.Trying.{projection_of}
+use Rattle.candidate_rounds.specs.Evaluators.Stopping.{IsProjectionStop, IsTreeStop, of_alias}
+use Rattle.candidate_rounds.proofs.Obligations.Evaluating.{answered-same}
+use Rattle.candidate_rounds.proofs.Evaluators.Going.{goes-listing, goes-trans}
+use Rattle.candidate_rounds.proofs.Stops.SettlingStops.{projection-same, stop-becomes, stops-then}
+use Rattle.candidate_rounds.proofs.Evaluators.Between.{parts}
+use Rattle.candidate_rounds.proofs.Evaluators.Exits.{not-refused}
 use Rattle.std.proofs.Common.{reverse, sym}
-use Rattle.candidate_ir.specs.Context.{world}
-use Rattle.candidate_ir.specs.References.{Takes}
-use Rattle.candidate_ir.specs.Words.{KindFits}
-use Rattle.candidate_rounds.specs.Known.{Evaluator}
-use Rattle.candidate_rounds.proofs.Interface.{made-goes, made-same}
-use Rattle.candidate_rounds.proofs.ResolvedValues.{evaluator-grown}
-use Rattle.candidate_rounds.proofs.SettlingStops.{type-unmade}
+use Rattle.candidate_ir.specs.Declarations.Context.{world}
+use Rattle.candidate_ir.specs.Declarations.References.{Takes}
+use Rattle.candidate_ir.specs.Syntax.Words.{KindFits}
+use Rattle.candidate_rounds.specs.Evaluators.Known.{Evaluator}
+use Rattle.candidate_rounds.proofs.Evaluators.Interface.{made-goes, made-same}
+use Rattle.candidate_rounds.proofs.Snapshots.ResolvedValues.{evaluator-grown}
+use Rattle.candidate_rounds.proofs.Stops.SettlingStops.{type-unmade}
 use Rattle.candidate_rounds.proofs.rounds.Rounds.try_projection.Goals as goal
 
 pub try_alias-requires-clause-term : goal.try_alias-requires-clause-term

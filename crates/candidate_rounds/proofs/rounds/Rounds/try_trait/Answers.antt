@@ -1,14 +1,14 @@
 use Rattle.std.proofs.Common.{◌≡◌, None, Some, sym, ◌∙◌, subst}
 use Rattle.std.proofs.lemmas.Result.{err_from_is_err_and}
-use Rattle.candidate_ir.specs.Words.{clause_tree, env_forest}
-use Rattle.candidate_eval.specs.ResponseTrees.{response_of}
-use Rattle.candidate_rounds.specs.Goals.{goal_seen, key_seen}
-use Rattle.candidate_rounds.specs.Known.{listing, reads, state}
-use Rattle.candidate_rounds.specs.Stopping.{IsGivingStop, IsTraitStop, held, of_asking, of_key}
-use Rattle.candidate_rounds.proofs.Asking.{asked-given, asked-missing, asked-not-given, asked-open, asked-refused, giving-stop, not-entered, unread-stop}
-use Rattle.rounds_judge.specs.TableSettling.{given}
-use Rattle.candidate_rounds.proofs.Going.{goes-reads, goes-trans}
-use Rattle.candidate_rounds.proofs.SettlingStops.{refusal-passed, stop-becomes}
+use Rattle.candidate_ir.specs.Syntax.Words.{clause_tree, env_forest}
+use Rattle.candidate_eval.specs.Outcomes.ResponseTrees.{response_of}
+use Rattle.candidate_rounds.specs.Table.Goals.{goal_seen, key_seen}
+use Rattle.candidate_rounds.specs.Evaluators.Known.{listing, reads, state}
+use Rattle.candidate_rounds.specs.Evaluators.Stopping.{IsGivingStop, IsTraitStop, held, of_asking, of_key}
+use Rattle.candidate_rounds.proofs.Table.Asking.{asked-given, asked-missing, asked-not-given, asked-open, asked-refused, giving-stop, not-entered, unread-stop}
+use Rattle.rounds_judge.specs.Table.TableSettling.{given}
+use Rattle.candidate_rounds.proofs.Evaluators.Going.{goes-reads, goes-trans}
+use Rattle.candidate_rounds.proofs.Stops.SettlingStops.{refusal-passed, stop-becomes}
 use Rattle.candidate_rounds.proofs.rounds.Rounds.try_trait.Goals as goal
 
 pub returns-in_err-asked-clause-cause : goal.returns-in_err-asked-clause-cause

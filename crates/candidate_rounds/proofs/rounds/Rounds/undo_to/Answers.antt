@@ -1,10 +1,10 @@
 use Rattle.std.proofs.Common.{◌≤◌, length, reverse, sym, subst}
-use Rattle.candidate_rounds.specs.Known.{Evaluator, AreMarks}
-use Rattle.candidate_rounds.proofs.Assigning.{holds-back-to}
-use Rattle.candidate_rounds.proofs.ResolvedValues.{resolved-back}
-use Rattle.candidate_rounds.specs.Known.{HasResolvedValues, IsEvaluator}
-use Rattle.candidate_rounds.specs.Inferences.{back_to}
-use Rattle.candidate_rounds.proofs.Between.{of-parts, parts}
+use Rattle.candidate_rounds.specs.Evaluators.Known.{Evaluator, AreMarks}
+use Rattle.candidate_rounds.proofs.Equations.Assigning.{holds-back-to}
+use Rattle.candidate_rounds.proofs.Snapshots.ResolvedValues.{resolved-back}
+use Rattle.candidate_rounds.specs.Evaluators.Known.{HasResolvedValues, IsEvaluator}
+use Rattle.candidate_rounds.specs.Evaluators.Inferences.{back_to}
+use Rattle.candidate_rounds.proofs.Evaluators.Between.{of-parts, parts}
 use Rattle.candidate_rounds.proofs.rounds.Rounds.undo_to.Goals as goal
 
 pub invariant_of-self : goal.invariant_of-self

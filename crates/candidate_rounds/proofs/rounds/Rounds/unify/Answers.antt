@@ -1,10 +1,10 @@
 use Rattle.std.proofs.Common.{◌≡◌, ◌++◌, ◌∷◌, [], rules, sym, ◌∙◌, ap, subst}
-use Rattle.rounds_judge.specs.Equating.{unified}
-use Rattle.candidate_rounds.specs.Frames.{pairs_of}
-use Rattle.candidate_rounds.specs.Known.{listing, state}
-use Rattle.candidate_rounds.specs.Stopping.{IsUnifyingStop}
-use Rattle.candidate_rounds.proofs.EquatingStops.{nothing-left, through}
-use Rattle.candidate_rounds.proofs.Going.{goes-trans}
+use Rattle.rounds_judge.specs.Equations.Equating.{unified}
+use Rattle.candidate_rounds.specs.Calls.Frames.{pairs_of}
+use Rattle.candidate_rounds.specs.Evaluators.Known.{listing, state}
+use Rattle.candidate_rounds.specs.Evaluators.Stopping.{IsUnifyingStop}
+use Rattle.candidate_rounds.proofs.Stops.EquatingStops.{nothing-left, through}
+use Rattle.candidate_rounds.proofs.Evaluators.Going.{goes-trans}
 use Rattle.candidate_rounds.proofs.rounds.Rounds.unify.Goals as goal
 
 pub loop-frame-preserved : goal.loop-frame-preserved

@@ -1,8 +1,8 @@
 use Rattle.std.proofs.Common.{◌≡◌}
-use Rattle.rounds_judge.specs.Equating.{looks, unified}
-use Rattle.candidate_rounds.specs.Frames.{AreFrames, pairs_of}
-use Rattle.candidate_rounds.specs.Known.{GoesOn, listing, state}
-use Rattle.candidate_rounds.specs.Stopping.{StopsAsBefore}
+use Rattle.rounds_judge.specs.Equations.Equating.{looks, unified}
+use Rattle.candidate_rounds.specs.Calls.Frames.{AreFrames, pairs_of}
+use Rattle.candidate_rounds.specs.Evaluators.Known.{GoesOn, listing, state}
+use Rattle.candidate_rounds.specs.Evaluators.Stopping.{StopsAsBefore}
 use Rattle.candidate_rounds.proofs.rounds.Rounds.unify.Given as goal
 
 abbrev pub decreases-loop-frame : goal.decreases-loop-frame

@@ -1,8 +1,8 @@
 use Rattle.std.proofs.Common.{reverse, subst}
-use Rattle.candidate_rounds.specs.Known.{Evaluator}
-use Rattle.candidate_rounds.proofs.Values.{IsValueOf}
-use Rattle.candidate_rounds.proofs.Resolving.{own-value}
-use Rattle.candidate_rounds.proofs.Between.{parts}
+use Rattle.candidate_rounds.specs.Evaluators.Known.{Evaluator}
+use Rattle.candidate_rounds.proofs.Resolution.Values.{IsValueOf}
+use Rattle.candidate_rounds.proofs.Resolution.Resolving.{own-value}
+use Rattle.candidate_rounds.proofs.Evaluators.Between.{parts}
 use Rattle.candidate_rounds.proofs.rounds.Rounds.value.Goals as goal
 
 pub returns : goal.returns

@@ -1,13 +1,13 @@
 use Rattle.std.proofs.Common.{IfErr, IfOk, ap, reverse, subst, sym, ◌∙◌, ◌≡◌}
-use Rattle.candidate_ir.specs.Folds.{arg_tree}
-use Rattle.rounds_judge.specs.Equating.{value_for}
-use Rattle.candidate_rounds.specs.Known.{AreTypes, Each, Evaluator, GoesOn, listing, listing_of, state, state_of}
-use Rattle.candidate_rounds.proofs.Knowing.{state-stays}
-use Rattle.candidate_rounds.proofs.Holding.{kinds-now}
-use Rattle.candidate_rounds.proofs.ResolvedValues.{evaluator-grown}
-use Rattle.candidate_rounds.specs.Stopping.{IsValueStop}
-use Rattle.candidate_rounds.proofs.Between.{parts}
-use Rattle.candidate_rounds.proofs.Going.{goes-context}
+use Rattle.candidate_ir.specs.Instantiation.Folds.{arg_tree}
+use Rattle.rounds_judge.specs.Equations.Equating.{value_for}
+use Rattle.candidate_rounds.specs.Evaluators.Known.{AreTypes, Each, Evaluator, GoesOn, listing, listing_of, state, state_of}
+use Rattle.candidate_rounds.proofs.Snapshots.Knowing.{state-stays}
+use Rattle.candidate_rounds.proofs.Snapshots.Holding.{kinds-now}
+use Rattle.candidate_rounds.proofs.Snapshots.ResolvedValues.{evaluator-grown}
+use Rattle.candidate_rounds.specs.Evaluators.Stopping.{IsValueStop}
+use Rattle.candidate_rounds.proofs.Evaluators.Between.{parts}
+use Rattle.candidate_rounds.proofs.Evaluators.Going.{goes-context}
 use Rattle.candidate_rounds.proofs.rounds.Rounds.value_for.Goals as goal
 
 pub value_in-requires-clause-kinds : goal.value_in-requires-clause-kinds

@@ -1,11 +1,11 @@
 use Rattle.std.proofs.Common.{Some, slice_index_or, sym, ◌∙◌, ap, subst}
 use Rattle.std.specs.Option.{option_map}
 use Rattle.candidate_rounds.specs.declared.rounds.Rounds.TheInside.{Inside}
-use Rattle.candidate_rounds.specs.Goals.{IsVerdict, verdict_seen}
-use Rattle.candidate_rounds.specs.Known.{Evaluator}
-use Rattle.candidate_rounds.proofs.Running.{entry-at, get-there, verdict-get}
-use Rattle.candidate_assembly.proofs.Causes.{so-ok}
-use Rattle.rounds_judge.specs.Verdicts.{is_final}
+use Rattle.candidate_rounds.specs.Table.Goals.{IsVerdict, verdict_seen}
+use Rattle.candidate_rounds.specs.Evaluators.Known.{Evaluator}
+use Rattle.candidate_rounds.proofs.Table.Running.{entry-at, get-there, verdict-get}
+use Rattle.candidate_assembly.proofs.Calls.Causes.{so-ok}
+use Rattle.rounds_judge.specs.Table.Verdicts.{is_final}
 use Rattle.candidate_rounds.proofs.rounds.Rounds.verdict_at.Goals as goal
 
 pub unreachable-requires : goal.unreachable-requires

@@ -1,17 +1,17 @@
 use Rattle.std.proofs.Common.{◌≡◌, ◌∷◌, suc, reverse, refl, ◌∙◌, ap, subst, arith, ◌≤◌, sym}
-use Rattle.candidate_ir.specs.Nodes.{tree_at}
-use Rattle.candidate_ir.specs.Trees.{tree, skip}
-use Rattle.rounds_judge.specs.Equating.{met, visited}
-use Rattle.candidate_rounds.specs.Frames.{pair_of, pairs_of, scope_of}
-use Rattle.candidate_rounds.specs.Known.{Evaluator, listing, state}
-use Rattle.rounds_judge.specs.Listed.{current}
-use Rattle.candidate_rounds.proofs.Visiting.{child-row, frame-scope, met-same, next-pairs, ok-from, refused-from, rows-begin}
-use Rattle.candidate_eval.proofs.StopKinds.{child-beyond}
-use Rattle.candidate_rounds.proofs.EquatingStops.{question, child-of, each-stop, look-stops}
-use Rattle.candidate_eval.specs.Noting.{HasWideNode}
-use Rattle.candidate_rounds.specs.Stopping.{IsLookStop, IsUnifyingStop, refused_growth, wide_node}
+use Rattle.candidate_ir.specs.Syntax.Nodes.{tree_at}
+use Rattle.candidate_ir.specs.Syntax.Trees.{tree, skip}
+use Rattle.rounds_judge.specs.Equations.Equating.{met, visited}
+use Rattle.candidate_rounds.specs.Calls.Frames.{pair_of, pairs_of, scope_of}
+use Rattle.candidate_rounds.specs.Evaluators.Known.{Evaluator, listing, state}
+use Rattle.rounds_judge.specs.Aliases.Listed.{current}
+use Rattle.candidate_rounds.proofs.Equations.Visiting.{child-row, frame-scope, met-same, next-pairs, ok-from, refused-from, rows-begin}
+use Rattle.candidate_eval.proofs.Interface.StopKinds.{child-beyond}
+use Rattle.candidate_rounds.proofs.Stops.EquatingStops.{question, child-of, each-stop, look-stops}
+use Rattle.candidate_eval.specs.Calls.Noting.{HasWideNode}
+use Rattle.candidate_rounds.specs.Evaluators.Stopping.{IsLookStop, IsUnifyingStop, refused_growth, wide_node}
 use Rattle.candidate_ir.specs.declared.ir.stop.Stop.TheVariants.{NodesFull}
-use Rattle.candidate_rounds.proofs.Exits.{not-refused}
+use Rattle.candidate_rounds.proofs.Evaluators.Exits.{not-refused}
 use Rattle.candidate_rounds.proofs.rounds.Rounds.visit.Goals as goal
 
 -- both rows begin with trees, which meet

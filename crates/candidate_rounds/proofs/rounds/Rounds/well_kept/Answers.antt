@@ -1,5 +1,5 @@
 use Rattle.std.proofs.Common.{subst}
-use Rattle.candidate_rounds.specs.Known.{Evaluator, IsEvaluator}
+use Rattle.candidate_rounds.specs.Evaluators.Known.{Evaluator, IsEvaluator}
 use Rattle.candidate_rounds.proofs.rounds.Rounds.well_kept.Goals as goal
 
 pub returns : goal.returns

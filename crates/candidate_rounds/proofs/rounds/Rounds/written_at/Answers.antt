@@ -1,7 +1,7 @@
 use Rattle.std.proofs.Common.{sym, ◌∙◌, ap}
-use Rattle.candidate_rounds.specs.Known.{table_of}
-use Rattle.candidate_rounds.proofs.Running.{verdict-slot}
-use Rattle.rounds_judge.specs.Verdicts.{is_final}
+use Rattle.candidate_rounds.specs.Evaluators.Known.{table_of}
+use Rattle.candidate_rounds.proofs.Table.Running.{verdict-slot}
+use Rattle.rounds_judge.specs.Table.Verdicts.{is_final}
 use Rattle.candidate_rounds.proofs.rounds.Rounds.written_at.Goals as goal
 
 pub returns-then-is_final_at-clause-written : goal.returns-then-is_final_at-clause-written

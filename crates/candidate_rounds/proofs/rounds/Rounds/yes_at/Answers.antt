@@ -1,14 +1,14 @@
 use Rattle.std.proofs.Common.{Some, ap, slice_index_or, subst, sym, ◌∙◌}
 use Rattle.candidate_rounds.specs.declared.rounds.Rounds.TheInside.{Inside}
 use Rattle.candidate_rounds.specs.declared.rounds.goals.GoalEntry.{GoalEntry}
-use Rattle.candidate_rounds.specs.Goals.{IsEntryOf}
-use Rattle.candidate_rounds.specs.Known.{Evaluator, IsEvaluator}
-use Rattle.candidate_eval.specs.ResponseTrees.{IsCopy}
-use Rattle.rounds_judge.specs.Verdicts.{Yes}
-use Rattle.candidate_rounds.proofs.Between.{parts}
-use Rattle.candidate_rounds.proofs.Finding.{copy-is, copy-sees, get-same, yes-fits, yes-same}
-use Rattle.candidate_rounds.proofs.Knowing.{each-get}
-use Rattle.candidate_rounds.proofs.Tabled.{table-parts}
+use Rattle.candidate_rounds.specs.Table.Goals.{IsEntryOf}
+use Rattle.candidate_rounds.specs.Evaluators.Known.{Evaluator, IsEvaluator}
+use Rattle.candidate_eval.specs.Outcomes.ResponseTrees.{IsCopy}
+use Rattle.rounds_judge.specs.Table.Verdicts.{Yes}
+use Rattle.candidate_rounds.proofs.Evaluators.Between.{parts}
+use Rattle.candidate_rounds.proofs.Table.Finding.{copy-is, copy-sees, get-same, yes-fits, yes-same}
+use Rattle.candidate_rounds.proofs.Snapshots.Knowing.{each-get}
+use Rattle.candidate_rounds.proofs.Table.Tabled.{table-parts}
 use Rattle.candidate_rounds.proofs.rounds.Rounds.yes_at.Goals as goal
 
 pub returns-clause-sort : goal.returns-clause-sort

@@ -1,10 +1,10 @@
 use Rattle.std.proofs.Common.{◌≡◌, [], sym, ◌∙◌, ap, subst}
-use Rattle.candidate_ir.specs.Folds.{arg_tree}
-use Rattle.candidate_rounds.specs.Inferences.{back_to}
-use Rattle.candidate_rounds.specs.Known.{IsConsistent}
-use Rattle.candidate_rounds.proofs.Going.{back-to-before}
-use Rattle.candidate_rounds.proofs.Probing.{holds-grown}
-use Rattle.candidate_rounds.proofs.Renewing.{all-bound}
+use Rattle.candidate_ir.specs.Instantiation.Folds.{arg_tree}
+use Rattle.candidate_rounds.specs.Evaluators.Inferences.{back_to}
+use Rattle.candidate_rounds.specs.Evaluators.Known.{IsConsistent}
+use Rattle.candidate_rounds.proofs.Evaluators.Going.{back-to-before}
+use Rattle.candidate_rounds.proofs.Snapshots.Probing.{holds-grown}
+use Rattle.candidate_rounds.proofs.Equations.Renewing.{all-bound}
 use Rattle.candidate_rounds.proofs.rounds.binding.bind_in.Goals as goal
 
 pub returns-in-Err-clause-consistent : goal.returns-in-Err-clause-consistent

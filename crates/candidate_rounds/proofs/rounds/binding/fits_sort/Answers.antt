@@ -1,10 +1,10 @@
 use Rattle.std.proofs.Common.{ap, sym, ◌∙◌}
-use Rattle.candidate_ir.specs.Folds.{arg_tree}
-use Rattle.candidate_ir.specs.Kinds.{arg_kind}
-use Rattle.candidate_ir.specs.Substitutions.{fits_sort, is_constant_kind}
-use Rattle.candidate_ir.specs.Trees.{is_type_kind}
-use Rattle.candidate_ir.proofs.Asking.{arg-below}
-use Rattle.candidate_rounds.proofs.Assigning.{fits-constant, fits-general, not-constant, not-type}
+use Rattle.candidate_ir.specs.Instantiation.Folds.{arg_tree}
+use Rattle.candidate_ir.specs.Syntax.Kinds.{arg_kind}
+use Rattle.candidate_ir.specs.Unification.Substitutions.{fits_sort, is_constant_kind}
+use Rattle.candidate_ir.specs.Syntax.Trees.{is_type_kind}
+use Rattle.candidate_ir.proofs.Traversal.Asking.{arg-below}
+use Rattle.candidate_rounds.proofs.Equations.Assigning.{fits-constant, fits-general, not-constant, not-type}
 use Rattle.candidate_rounds.proofs.rounds.binding.fits_sort.Goals as goal
 
 pub head-head-requires : goal.head-head-requires

@@ -1,6 +1,6 @@
 use Rattle.std.proofs.Common.{sym, ◌∙◌}
-use Rattle.candidate_ir.specs.Folds.{arg_tree}
-use Rattle.candidate_rounds.proofs.Assigning.{held-refused, open-refused, else-allowed}
+use Rattle.candidate_ir.specs.Instantiation.Folds.{arg_tree}
+use Rattle.candidate_rounds.proofs.Equations.Assigning.{held-refused, open-refused, else-allowed}
 use Rattle.candidate_rounds.proofs.rounds.binding.is_allowed.Goals as goal
 
 pub returns-then-mentions : goal.returns-then-mentions

@@ -1,6 +1,6 @@
 use Rattle.std.proofs.Common.{sym, ◌∙◌}
-use Rattle.candidate_ir.specs.Folds.{arg_tree}
-use Rattle.candidate_rounds.proofs.Assigning.{no-variable}
+use Rattle.candidate_ir.specs.Instantiation.Folds.{arg_tree}
+use Rattle.candidate_rounds.proofs.Equations.Assigning.{no-variable}
 use Rattle.candidate_rounds.proofs.rounds.binding.is_open.Goals as goal
 
 pub returns-else-has : goal.returns-else-has

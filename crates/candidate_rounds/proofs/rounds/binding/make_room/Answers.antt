@@ -1,4 +1,4 @@
-use Rattle.candidate_rounds.proofs.Renewing.{widen-call}
+use Rattle.candidate_rounds.proofs.Equations.Renewing.{widen-call}
 use Rattle.candidate_rounds.proofs.rounds.binding.make_room.Goals as goal
 
 pub returns-clause-further : goal.returns-clause-further

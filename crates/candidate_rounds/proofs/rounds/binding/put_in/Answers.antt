@@ -1,12 +1,12 @@
 use Rattle.std.proofs.Common.{◌≡◌, refl, rules, sym, ◌∙◌, subst}
-use Rattle.candidate_ir.specs.Folds.{IsArg, arg_tree}
-use Rattle.candidate_ir.proofs.FoldLaws.{arg-outcome, reached-keeps, head-function}
-use Rattle.rounds_judge.specs.Binding.{single}
-use Rattle.candidate_rounds.proofs.Alone.{single-itself}
-use Rattle.candidate_rounds.proofs.Assigning.{put-keeps, put-answers, put-unasked}
-use Rattle.candidate_ir.proofs.FoldStops.{fold-cause}
-use Rattle.candidate_rounds.specs.Assigning.{single_arg}
-use Rattle.candidate_rounds.proofs.Resolving.{call-answered}
+use Rattle.candidate_ir.specs.Instantiation.Folds.{IsArg, arg_tree}
+use Rattle.candidate_ir.proofs.Traversal.FoldLaws.{arg-outcome, reached-keeps, head-function}
+use Rattle.rounds_judge.specs.Equations.Binding.{single}
+use Rattle.candidate_rounds.proofs.Resolution.Alone.{single-itself}
+use Rattle.candidate_rounds.proofs.Equations.Assigning.{put-keeps, put-answers, put-unasked}
+use Rattle.candidate_ir.proofs.Traversal.FoldStops.{fold-cause}
+use Rattle.candidate_rounds.specs.Calls.Assigning.{single_arg}
+use Rattle.candidate_rounds.proofs.Resolution.Resolving.{call-answered}
 use Rattle.candidate_rounds.proofs.rounds.binding.put_in.Goals as goal
 
 pub returns-in-Some-clause-sort : goal.returns-in-Some-clause-sort

@@ -1,5 +1,5 @@
 use Rattle.std.proofs.Common.{◌∙◌}
-use Rattle.candidate_rounds.proofs.Recording.{both-undone}
+use Rattle.candidate_rounds.proofs.Equations.Recording.{both-undone}
 use Rattle.candidate_rounds.proofs.rounds.binding.record_both.Goals as goal
 
 pub returns-in-Err-clause-unchanged : goal.returns-in-Err-clause-unchanged

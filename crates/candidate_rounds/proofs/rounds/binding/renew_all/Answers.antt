@@ -1,11 +1,11 @@
-use Rattle.candidate_ir.proofs.Implying.{arg-kept}
-use Rattle.candidate_rounds.proofs.Renewing.{lowered-after}
+use Rattle.candidate_ir.proofs.Hierarchy.Implying.{arg-kept}
+use Rattle.candidate_rounds.proofs.Equations.Renewing.{lowered-after}
 use Rattle.std.proofs.lemmas.Result.{err_from_is_err_and, IfErr-weaker}
 use Rattle.std.proofs.Common.{subst}
-use Rattle.candidate_ir.specs.Folds.{arg_tree}
-use Rattle.candidate_rounds.specs.Known.{state_of}
-use Rattle.candidate_rounds.specs.Stopping.{IsBindingStop}
-use Rattle.candidate_rounds.proofs.BindingStops.{as-many, full-binding, number-below}
+use Rattle.candidate_ir.specs.Instantiation.Folds.{arg_tree}
+use Rattle.candidate_rounds.specs.Evaluators.Known.{state_of}
+use Rattle.candidate_rounds.specs.Evaluators.Stopping.{IsBindingStop}
+use Rattle.candidate_rounds.proofs.Stops.BindingStops.{as-many, full-binding, number-below}
 use Rattle.candidate_rounds.proofs.rounds.binding.renew_all.Goals as goal
 
 pub renew_universes-requires-clause-value : goal.renew_universes-requires-clause-value

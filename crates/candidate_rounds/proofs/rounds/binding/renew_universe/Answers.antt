@@ -1,10 +1,10 @@
 use Rattle.std.proofs.Common.{◌≡◌, ◌≤◌, [], inl, inr, sym, subst, ◌∙◌, arith}
 use Rattle.candidate_rounds.specs.declared.rounds.inference.Entry.{Entry}
-use Rattle.candidate_rounds.specs.Inferences.{lower}
-use Rattle.candidate_ir.specs.Folds.{arg_tree}
-use Rattle.candidate_rounds.proofs.Assigning.{get-below, some-is, holds-lower, call-holds, universe-stays, universe-lowered, renewed-call}
-use Rattle.candidate_rounds.proofs.Going.{further-lower, further-call}
-use Rattle.candidate_rounds.proofs.Renewing.{universe-is}
+use Rattle.candidate_rounds.specs.Evaluators.Inferences.{lower}
+use Rattle.candidate_ir.specs.Instantiation.Folds.{arg_tree}
+use Rattle.candidate_rounds.proofs.Equations.Assigning.{get-below, some-is, holds-lower, call-holds, universe-stays, universe-lowered, renewed-call}
+use Rattle.candidate_rounds.proofs.Evaluators.Going.{further-lower, further-call}
+use Rattle.candidate_rounds.proofs.Equations.Renewing.{universe-is}
 use Rattle.candidate_rounds.proofs.rounds.binding.renew_universe.Goals as goal
 
 pub returns-in_default-clause-renewed : goal.returns-in_default-clause-renewed

@@ -1,8 +1,8 @@
 use Rattle.std.proofs.Common.{◌≡◌, ◌≤◌, [], length, sym, subst, arith}
-use Rattle.candidate_ir.specs.Folds.{arg_tree}
-use Rattle.candidate_rounds.proofs.Assigning.{universes-stay}
-use Rattle.candidate_rounds.proofs.Holding.{tidy-now}
-use Rattle.candidate_rounds.proofs.Renewing.{one-more-lowered, all-lowered}
+use Rattle.candidate_ir.specs.Instantiation.Folds.{arg_tree}
+use Rattle.candidate_rounds.proofs.Equations.Assigning.{universes-stay}
+use Rattle.candidate_rounds.proofs.Snapshots.Holding.{tidy-now}
+use Rattle.candidate_rounds.proofs.Equations.Renewing.{one-more-lowered, all-lowered}
 use Rattle.candidate_rounds.proofs.rounds.binding.renew_universes.Goals as goal
 
 pub returns-then-newest_universe-universe-clause-renewed : goal.returns-then-newest_universe-universe-clause-renewed

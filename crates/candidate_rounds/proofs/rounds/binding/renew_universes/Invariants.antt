@@ -1,5 +1,5 @@
-use Rattle.candidate_ir.specs.Folds.{arg_tree}
-use Rattle.candidate_rounds.proofs.Renewing.{UniversesSoFar}
+use Rattle.candidate_ir.specs.Instantiation.Folds.{arg_tree}
+use Rattle.candidate_rounds.proofs.Equations.Renewing.{UniversesSoFar}
 use Rattle.candidate_rounds.proofs.rounds.binding.renew_universes.Given as goal
 
 abbrev pub invariant-loop-number : goal.invariant-loop-number

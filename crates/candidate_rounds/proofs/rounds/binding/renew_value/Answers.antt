@@ -1,18 +1,18 @@
 use Rattle.std.proofs.Common.{◌≡◌, ◌∙◌, ap, sym}
 use Rattle.std.proofs.lemmas.Bool.{ne_eqb}
-use Rattle.candidate_ir.specs.Folds.{arg_tree}
-use Rattle.candidate_ir.specs.Trees.{tree_holds, is_number}
+use Rattle.candidate_ir.specs.Instantiation.Folds.{arg_tree}
+use Rattle.candidate_ir.specs.Syntax.Trees.{tree_holds, is_number}
 use Rattle.candidate_rounds.specs.declared.rounds.inference.Entry.{Entry}
-use Rattle.candidate_rounds.specs.Assigning.{with_its_value}
-use Rattle.candidate_rounds.specs.Inferences.{assign}
-use Rattle.candidate_rounds.proofs.Assigning.{get-below, some-is, value-stays, value-own, renewed-call}
-use Rattle.candidate_rounds.proofs.Going.{further-assign, further-call}
-use Rattle.candidate_rounds.proofs.Probing.{holds-grown}
-use Rattle.candidate_rounds.proofs.Renewing.{none-there, holds-own, value-is, holds-put, renewed-put}
+use Rattle.candidate_rounds.specs.Calls.Assigning.{with_its_value}
+use Rattle.candidate_rounds.specs.Evaluators.Inferences.{assign}
+use Rattle.candidate_rounds.proofs.Equations.Assigning.{get-below, some-is, value-stays, value-own, renewed-call}
+use Rattle.candidate_rounds.proofs.Evaluators.Going.{further-assign, further-call}
+use Rattle.candidate_rounds.proofs.Snapshots.Probing.{holds-grown}
+use Rattle.candidate_rounds.proofs.Equations.Renewing.{none-there, holds-own, value-is, holds-put, renewed-put}
 use Rattle.std.proofs.lemmas.Result.{err_from_is_err_and}
-use Rattle.candidate_rounds.specs.Stopping.{of_value}
-use Rattle.candidate_rounds.specs.Known.{state_of}
-use Rattle.candidate_rounds.proofs.BindingStops.{not-noted, value-there}
+use Rattle.candidate_rounds.specs.Evaluators.Stopping.{of_value}
+use Rattle.candidate_rounds.specs.Evaluators.Known.{state_of}
+use Rattle.candidate_rounds.proofs.Stops.BindingStops.{not-noted, value-there}
 use Rattle.candidate_rounds.proofs.rounds.binding.renew_value.Goals as goal
 
 pub returns-in_default-clause-renewed : goal.returns-in_default-clause-renewed

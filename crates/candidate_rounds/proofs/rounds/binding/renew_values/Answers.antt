@@ -1,7 +1,7 @@
 use Rattle.std.proofs.Common.{◌≡◌, ℕ, ap, arith}
-use Rattle.candidate_rounds.proofs.Renewing.{none-renewed, so-far-value, so-far-fits, so-far-kind, so-far-own-room, one-more-renewed, all-renewed-call}
+use Rattle.candidate_rounds.proofs.Equations.Renewing.{none-renewed, so-far-value, so-far-fits, so-far-kind, so-far-own-room, one-more-renewed, all-renewed-call}
 use Rattle.std.proofs.lemmas.Result.{err_from_is_err_and}
-use Rattle.candidate_rounds.proofs.BindingStops.{own-renewal, renewal-before}
+use Rattle.candidate_rounds.proofs.Stops.BindingStops.{own-renewal, renewal-before}
 use Rattle.candidate_rounds.proofs.rounds.binding.renew_values.Goals as goal
 
 pub loop-number-init : goal.loop-number-init

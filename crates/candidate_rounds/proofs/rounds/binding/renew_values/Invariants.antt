@@ -1,4 +1,4 @@
-use Rattle.candidate_rounds.proofs.Renewing.{ValuesSoFar}
+use Rattle.candidate_rounds.proofs.Equations.Renewing.{ValuesSoFar}
 use Rattle.candidate_rounds.proofs.rounds.binding.renew_values.Given as goal
 
 abbrev pub invariant-loop-number : goal.invariant-loop-number

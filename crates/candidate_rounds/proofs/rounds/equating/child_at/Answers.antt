@@ -1,4 +1,4 @@
-use Rattle.candidate_rounds.proofs.Noting.{member-at, members-end}
+use Rattle.candidate_rounds.proofs.Obligations.Noting.{member-at, members-end}
 use Rattle.candidate_rounds.proofs.rounds.equating.child_at.Goals as goal
 
 pub returns-then-place-list : goal.returns-then-place-list

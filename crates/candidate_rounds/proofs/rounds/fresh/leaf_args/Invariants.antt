@@ -1,4 +1,4 @@
-use Rattle.candidate_rounds.proofs.Leafing.{LeavesSoFar}
+use Rattle.candidate_rounds.proofs.Resolution.Leafing.{LeavesSoFar}
 use Rattle.candidate_rounds.proofs.rounds.fresh.leaf_args.Given as goal
 
 abbrev pub invariant-loop-i : goal.invariant-loop-i

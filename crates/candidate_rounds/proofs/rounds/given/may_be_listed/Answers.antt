@@ -1,6 +1,6 @@
 use Rattle.std.proofs.Common.{sym, ◌∙◌}
-use Rattle.candidate_ir.specs.Words.{ty_tree}
-use Rattle.candidate_rounds.proofs.Given.{listed-so, type-head}
+use Rattle.candidate_ir.specs.Syntax.Words.{ty_tree}
+use Rattle.candidate_rounds.proofs.Evaluators.Given.{listed-so, type-head}
 use Rattle.candidate_rounds.proofs.rounds.given.may_be_listed.Goals as goal
 
 pub returns-then-not-has : goal.returns-then-not-has

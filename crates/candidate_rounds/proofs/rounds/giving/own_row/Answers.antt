@@ -1,7 +1,7 @@
 use Rattle.std.proofs.Common.{◌∙◌, arith}
-use Rattle.candidate_ir.proofs.Kept.{grows-trans}
-use Rattle.candidate_rounds.proofs.Gathering.{if-ok-then}
-use Rattle.candidate_rounds.proofs.Naming.{all-own, one-more-own, own-stop}
+use Rattle.candidate_ir.proofs.Growth.Kept.{grows-trans}
+use Rattle.candidate_rounds.proofs.Obligations.Gathering.{if-ok-then}
+use Rattle.candidate_rounds.proofs.Table.Naming.{all-own, one-more-own, own-stop}
 use Rattle.candidate_rounds.proofs.rounds.giving.own_row.Goals as goal
 
 pub loop-i-preserved : goal.loop-i-preserved

@@ -1,4 +1,4 @@
-use Rattle.candidate_rounds.proofs.Naming.{OwnSoFar}
+use Rattle.candidate_rounds.proofs.Table.Naming.{OwnSoFar}
 use Rattle.candidate_rounds.proofs.rounds.giving.own_row.Given as goal
 
 abbrev pub invariant-loop-i : goal.invariant-loop-i

@@ -1,6 +1,6 @@
 use Rattle.std.proofs.Common.{arith, sym, ◌∙◌}
-use Rattle.candidate_rounds.proofs.Naming.{no-number-left, no-value-left, not-like, not-number}
-use Rattle.candidate_rounds.proofs.Noting.{arg-listed}
+use Rattle.candidate_rounds.proofs.Table.Naming.{no-number-left, no-value-left, not-like, not-number}
+use Rattle.candidate_rounds.proofs.Obligations.Noting.{arg-listed}
 use Rattle.candidate_rounds.proofs.rounds.giving.own_variable.Goals.{then-i-numbers-via-then-i-numbers, then-i-numbers-via-else-i-numbers+then-i-values, else-is_variable-via-then-is_variable+else-eq, else-is_variable-via-else-is_variable}
 use Rattle.candidate_rounds.proofs.rounds.giving.own_variable.Goals as goal
 

@@ -1,4 +1,4 @@
-use Rattle.candidate_rounds.proofs.Naming.{LookedAt}
+use Rattle.candidate_rounds.proofs.Table.Naming.{LookedAt}
 use Rattle.candidate_rounds.proofs.rounds.giving.own_variable.Given as goal
 
 abbrev pub invariant-loop-i : goal.invariant-loop-i

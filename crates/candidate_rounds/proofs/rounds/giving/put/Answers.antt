@@ -1,11 +1,11 @@
 use Rattle.std.proofs.Common.{◌≡◌, length, refl, rules}
-use Rattle.candidate_ir.specs.Folds.{arg_tree}
-use Rattle.candidate_ir.specs.Folding.{IsSubstStop}
-use Rattle.candidate_ir.proofs.FoldLaws.{head-function, reached-keeps}
-use Rattle.candidate_ir.proofs.FoldStops.{fold-stop, subst-cause}
-use Rattle.candidate_rounds.specs.Giving.{IsPutStop}
-use Rattle.candidate_rounds.proofs.Naming.{said-of-put, unnamed}
-use Rattle.rounds_judge.specs.TableSettling.{by_numbers}
+use Rattle.candidate_ir.specs.Instantiation.Folds.{arg_tree}
+use Rattle.candidate_ir.specs.Instantiation.Folding.{IsSubstStop}
+use Rattle.candidate_ir.proofs.Traversal.FoldLaws.{head-function, reached-keeps}
+use Rattle.candidate_ir.proofs.Traversal.FoldStops.{fold-stop, subst-cause}
+use Rattle.candidate_rounds.specs.Calls.Giving.{IsPutStop}
+use Rattle.candidate_rounds.proofs.Table.Naming.{said-of-put, unnamed}
+use Rattle.rounds_judge.specs.Table.TableSettling.{by_numbers}
 use Rattle.candidate_rounds.proofs.rounds.giving.put.Goals as goal
 
 pub returns-clause-tree : goal.returns-clause-tree

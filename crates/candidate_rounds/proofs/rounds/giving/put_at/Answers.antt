@@ -1,11 +1,11 @@
 use Rattle.std.proofs.Common.{◌≡◌, rules, length}
-use Rattle.candidate_ir.specs.Folds.{arg_tree}
-use Rattle.candidate_eval.specs.States.{variable}
-use Rattle.candidate_rounds.specs.Giving.{IsPutStop}
-use Rattle.candidate_rounds.proofs.Anew.{anew-kind}
-use Rattle.candidate_rounds.proofs.Naming.{put-unmade}
-use Rattle.candidate_rounds.proofs.ResponseStops.{passed-on}
-use Rattle.rounds_judge.specs.TableSettling.{by_numbers}
+use Rattle.candidate_ir.specs.Instantiation.Folds.{arg_tree}
+use Rattle.candidate_eval.specs.Judges.States.{variable}
+use Rattle.candidate_rounds.specs.Calls.Giving.{IsPutStop}
+use Rattle.candidate_rounds.proofs.Obligations.Anew.{anew-kind}
+use Rattle.candidate_rounds.proofs.Table.Naming.{put-unmade}
+use Rattle.candidate_rounds.proofs.Stops.ResponseStops.{passed-on}
+use Rattle.rounds_judge.specs.Table.TableSettling.{by_numbers}
 use Rattle.candidate_rounds.proofs.rounds.giving.put_at.Goals as goal
 
 pub returns-clause-kind : goal.returns-clause-kind

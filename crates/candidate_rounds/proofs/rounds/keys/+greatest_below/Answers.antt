@@ -1,7 +1,7 @@
 use Rattle.std.proofs.Common.{◌∙◌, ap, max}
-use Rattle.candidate_ir.specs.Nodes.{tree_at}
-use Rattle.candidate_eval.proofs.StopKinds.{wide-node}
-use Rattle.candidate_rounds.proofs.Keying.{greater-child}
+use Rattle.candidate_ir.specs.Syntax.Nodes.{tree_at}
+use Rattle.candidate_eval.proofs.Interface.StopKinds.{wide-node}
+use Rattle.candidate_rounds.proofs.Table.Keying.{greater-child}
 use Rattle.candidate_rounds.proofs.rounds.keys.+greatest_below.Goals as goal
 
 pub loop-place-preserved : goal.loop-place-preserved

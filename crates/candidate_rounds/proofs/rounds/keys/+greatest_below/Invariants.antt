@@ -1,5 +1,5 @@
-use Rattle.candidate_ir.specs.Nodes.{tree_at}
-use Rattle.candidate_rounds.proofs.Keying.{GreatestBelow}
+use Rattle.candidate_ir.specs.Syntax.Nodes.{tree_at}
+use Rattle.candidate_rounds.proofs.Table.Keying.{GreatestBelow}
 use Rattle.candidate_rounds.proofs.rounds.keys.+greatest_below.Given as goal
 
 abbrev pub decreases-greatest_below : goal.decreases-greatest_below

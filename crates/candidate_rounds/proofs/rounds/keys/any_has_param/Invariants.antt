@@ -1,7 +1,7 @@
 use Rattle.std.proofs.Common.{not}
-use Rattle.candidate_ir.specs.Words.{clause_tree}
-use Rattle.rounds_judge.specs.GoalTable.{has_parameter}
-use Rattle.candidate_rounds.proofs.Keying.{IsAllTo}
+use Rattle.candidate_ir.specs.Syntax.Words.{clause_tree}
+use Rattle.rounds_judge.specs.Table.GoalTable.{has_parameter}
+use Rattle.candidate_rounds.proofs.Table.Keying.{IsAllTo}
 use Rattle.candidate_rounds.proofs.rounds.keys.any_has_param.Given as goal
 
 abbrev pub invariant-loop-i : goal.invariant-loop-i

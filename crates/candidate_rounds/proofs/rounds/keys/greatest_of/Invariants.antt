@@ -1,4 +1,4 @@
-use Rattle.candidate_rounds.proofs.Keying.{IsGreatestTo}
+use Rattle.candidate_rounds.proofs.Table.Keying.{IsGreatestTo}
 use Rattle.candidate_rounds.proofs.rounds.keys.greatest_of.Given as goal
 
 abbrev pub invariant-loop-i : goal.invariant-loop-i

@@ -1,12 +1,12 @@
 use Rattle.std.proofs.Common.{◌∙◌, ap, map, refl, slice_get, sym}
-use Rattle.candidate_ir.specs.Words.{clause_tree, env_forest}
-use Rattle.candidate_ir.proofs.Kept.{grows-trans}
-use Rattle.candidate_rounds.specs.Gathered.{open_entry}
-use Rattle.candidate_rounds.specs.Goals.{goal_seen}
-use Rattle.candidate_rounds.specs.Known.{state_of}
-use Rattle.candidate_rounds.specs.Stopping.{IsKeyStop, key_memory, of_noted}
-use Rattle.candidate_rounds.proofs.KeyGoals.{bare-noted, key-made, numbers-noted, resolved-seen, unnumbered-key}
-use Rattle.candidate_rounds.proofs.ResponseStops.{passed-growth, passed-on}
+use Rattle.candidate_ir.specs.Syntax.Words.{clause_tree, env_forest}
+use Rattle.candidate_ir.proofs.Growth.Kept.{grows-trans}
+use Rattle.candidate_rounds.specs.Calls.Gathered.{open_entry}
+use Rattle.candidate_rounds.specs.Table.Goals.{goal_seen}
+use Rattle.candidate_rounds.specs.Evaluators.Known.{state_of}
+use Rattle.candidate_rounds.specs.Evaluators.Stopping.{IsKeyStop, key_memory, of_noted}
+use Rattle.candidate_rounds.proofs.Table.KeyGoals.{bare-noted, key-made, numbers-noted, resolved-seen, unnumbered-key}
+use Rattle.candidate_rounds.proofs.Stops.ResponseStops.{passed-growth, passed-on}
 use Rattle.candidate_rounds.proofs.rounds.keys.key_at.Goals as goal
 
 pub returns-in_err-numbers-clause-cause : goal.returns-in_err-numbers-clause-cause

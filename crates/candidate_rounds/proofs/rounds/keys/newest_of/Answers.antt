@@ -1,8 +1,8 @@
 use Rattle.std.proofs.Common.{refl}
-use Rattle.candidate_ir.proofs.Lists.{below_kind}
+use Rattle.candidate_ir.proofs.Syntax.Lists.{below_kind}
 use Rattle.std.proofs.Common.{◌∙◌, ap}
-use Rattle.rounds_judge.specs.Keys.{greatest_named, greatest_of}
-use Rattle.candidate_rounds.proofs.Keying.{newest-seen}
+use Rattle.rounds_judge.specs.Table.Keys.{greatest_named, greatest_of}
+use Rattle.candidate_rounds.proofs.Table.Keying.{newest-seen}
 use Rattle.candidate_rounds.proofs.rounds.keys.newest_of.Goals as goal
 
 pub greatest_below-requires : goal.greatest_below-requires

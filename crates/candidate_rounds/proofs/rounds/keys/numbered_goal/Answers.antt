@@ -1,13 +1,13 @@
 use Rattle.std.proofs.Common.{◌∙◌, ap, refl, subst, sym}
-use Rattle.candidate_ir.specs.Trees.{Tree}
-use Rattle.candidate_ir.specs.Words.{clause_tree, env_forest}
-use Rattle.candidate_ir.proofs.Kept.{grows-trans}
-use Rattle.rounds_judge.specs.Responding.{renumbered, renumbered_tree}
-use Rattle.candidate_rounds.specs.Goals.{SaysTrait, goal_seen}
-use Rattle.candidate_rounds.specs.Stopping.{IsNumberedStop, of_numbered_env}
-use Rattle.candidate_rounds.proofs.KeyGoals.{changed-says, clause-unnumbered-anew, goal-made, none-numbered, renumbered-clause, renumbered-seen}
-use Rattle.candidate_rounds.proofs.Knowing.{clause-stays, is-clause-stays, tree-stays}
-use Rattle.candidate_rounds.proofs.ResponseStops.{passed-on}
+use Rattle.candidate_ir.specs.Syntax.Trees.{Tree}
+use Rattle.candidate_ir.specs.Syntax.Words.{clause_tree, env_forest}
+use Rattle.candidate_ir.proofs.Growth.Kept.{grows-trans}
+use Rattle.rounds_judge.specs.Obligations.Responding.{renumbered, renumbered_tree}
+use Rattle.candidate_rounds.specs.Table.Goals.{SaysTrait, goal_seen}
+use Rattle.candidate_rounds.specs.Evaluators.Stopping.{IsNumberedStop, of_numbered_env}
+use Rattle.candidate_rounds.proofs.Table.KeyGoals.{changed-says, clause-unnumbered-anew, goal-made, none-numbered, renumbered-clause, renumbered-seen}
+use Rattle.candidate_rounds.proofs.Snapshots.Knowing.{clause-stays, is-clause-stays, tree-stays}
+use Rattle.candidate_rounds.proofs.Stops.ResponseStops.{passed-on}
 use Rattle.candidate_rounds.proofs.rounds.keys.numbered_goal.Goals as goal
 
 pub returns-then-is_empty-clause-goal : goal.returns-then-is_empty-clause-goal

@@ -1,6 +1,6 @@
 use Rattle.std.proofs.Common.{refl}
-use Rattle.candidate_ir.proofs.Lists.{below_kind}
-use Rattle.candidate_rounds.proofs.KeyGoals.{bare-seen, numbers-seen}
+use Rattle.candidate_ir.proofs.Syntax.Lists.{below_kind}
+use Rattle.candidate_rounds.proofs.Table.KeyGoals.{bare-seen, numbers-seen}
 use Rattle.candidate_rounds.proofs.rounds.keys.numbers_of_goal.Goals as goal
 
 pub note_below-requires : goal.note_below-requires

@@ -1,15 +1,15 @@
 use Rattle.std.proofs.Common.{◌∙◌, ap, refl, subst, sym}
-use Rattle.candidate_ir.specs.Trees.{Tree}
-use Rattle.candidate_ir.specs.Words.{clause_tree, env_forest}
-use Rattle.candidate_ir.proofs.Kept.{grows-trans}
+use Rattle.candidate_ir.specs.Syntax.Trees.{Tree}
+use Rattle.candidate_ir.specs.Syntax.Words.{clause_tree, env_forest}
+use Rattle.candidate_ir.proofs.Growth.Kept.{grows-trans}
 use Rattle.candidate_eval.specs.declared.eval.mode.TypingMode.TheVariants.{PostAnalysis}
-use Rattle.candidate_eval.specs.States.{resolved, resolved_tree}
-use Rattle.candidate_rounds.specs.Goals.{SaysTrait}
-use Rattle.candidate_rounds.specs.Known.{state_of}
-use Rattle.candidate_rounds.specs.Stopping.{IsKeyStop, of_env}
-use Rattle.candidate_rounds.proofs.KeyGoals.{changed-says, clause-unresolved, goal-made, put-in, resolved-clause}
-use Rattle.candidate_rounds.proofs.Knowing.{is-clause-stays, kinds-grown, known-stays, tree-stays}
-use Rattle.candidate_rounds.proofs.ResponseStops.{passed-on}
+use Rattle.candidate_eval.specs.Judges.States.{resolved, resolved_tree}
+use Rattle.candidate_rounds.specs.Table.Goals.{SaysTrait}
+use Rattle.candidate_rounds.specs.Evaluators.Known.{state_of}
+use Rattle.candidate_rounds.specs.Evaluators.Stopping.{IsKeyStop, of_env}
+use Rattle.candidate_rounds.proofs.Table.KeyGoals.{changed-says, clause-unresolved, goal-made, put-in, resolved-clause}
+use Rattle.candidate_rounds.proofs.Snapshots.Knowing.{is-clause-stays, kinds-grown, known-stays, tree-stays}
+use Rattle.candidate_rounds.proofs.Stops.ResponseStops.{passed-on}
 use Rattle.candidate_rounds.proofs.rounds.keys.resolved_goal.Goals as goal
 
 pub returns-in_err-param_env-clause-cause : goal.returns-in_err-param_env-clause-cause

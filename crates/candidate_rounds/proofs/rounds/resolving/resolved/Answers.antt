@@ -1,11 +1,11 @@
 use Rattle.std.proofs.Common.{◌≡◌, refl, rules}
-use Rattle.candidate_ir.specs.Folds.{arg_tree}
-use Rattle.candidate_eval.specs.States.{value_at}
-use Rattle.candidate_ir.proofs.FoldLaws.{reached-keeps, head-function}
-use Rattle.candidate_ir.proofs.FoldStops.{fold-cause}
-use Rattle.candidate_rounds.specs.Inferences.{kept_at}
-use Rattle.candidate_rounds.specs.Known.{state_of}
-use Rattle.candidate_rounds.proofs.Resolving.{call-keeps, call-answers, call-answered, unasked}
+use Rattle.candidate_ir.specs.Instantiation.Folds.{arg_tree}
+use Rattle.candidate_eval.specs.Judges.States.{value_at}
+use Rattle.candidate_ir.proofs.Traversal.FoldLaws.{reached-keeps, head-function}
+use Rattle.candidate_ir.proofs.Traversal.FoldStops.{fold-cause}
+use Rattle.candidate_rounds.specs.Evaluators.Inferences.{kept_at}
+use Rattle.candidate_rounds.specs.Evaluators.Known.{state_of}
+use Rattle.candidate_rounds.proofs.Resolution.Resolving.{call-keeps, call-answers, call-answered, unasked}
 use Rattle.candidate_rounds.proofs.rounds.resolving.resolved.Goals as goal
 
 pub fold-requires-clause-keeps : goal.fold-requires-clause-keeps

@@ -1,12 +1,12 @@
 use Rattle.std.proofs.Common.{◌∙◌, ap, length, subst}
 use Rattle.std.specs.Prelude.{IfErr}
-use Rattle.candidate_ir.specs.Folding.{IsSubstStop}
-use Rattle.candidate_ir.specs.Folds.{arg_tree}
-use Rattle.candidate_ir.specs.Trees.{Forest}
-use Rattle.candidate_ir.proofs.Members.{arg-row}
-use Rattle.candidate_eval.specs.States.{resolved}
-use Rattle.candidate_rounds.specs.Known.{state_of}
-use Rattle.candidate_rounds.proofs.Alone.{lone-resolved, lone-sort}
+use Rattle.candidate_ir.specs.Instantiation.Folding.{IsSubstStop}
+use Rattle.candidate_ir.specs.Instantiation.Folds.{arg_tree}
+use Rattle.candidate_ir.specs.Syntax.Trees.{Forest}
+use Rattle.candidate_ir.proofs.Syntax.Members.{arg-row}
+use Rattle.candidate_eval.specs.Judges.States.{resolved}
+use Rattle.candidate_rounds.specs.Evaluators.Known.{state_of}
+use Rattle.candidate_rounds.proofs.Resolution.Alone.{lone-resolved, lone-sort}
 use Rattle.candidate_rounds.proofs.rounds.resolving.resolved_arg.Goals as goal
 
 pub returns-in-Some-clause-sort : goal.returns-in-Some-clause-sort

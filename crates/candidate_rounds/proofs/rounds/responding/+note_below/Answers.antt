@@ -1,11 +1,11 @@
 use Rattle.std.proofs.Common.{◌∙◌, ap, sym}
-use Rattle.rounds_judge.specs.TableSettling.{are_bare}
-use Rattle.candidate_ir.specs.Nodes.{tree_at}
-use Rattle.candidate_ir.specs.Trees.{variable_number}
-use Rattle.candidate_eval.specs.Noting.{IsNotingStop, refused_note}
-use Rattle.rounds_judge.specs.Responding.{with_number}
-use Rattle.candidate_eval.proofs.StopKinds.{wide-node}
-use Rattle.candidate_rounds.proofs.ResponseStops.{one-more-noted-below, passed-growth}
+use Rattle.rounds_judge.specs.Table.TableSettling.{are_bare}
+use Rattle.candidate_ir.specs.Syntax.Nodes.{tree_at}
+use Rattle.candidate_ir.specs.Syntax.Trees.{variable_number}
+use Rattle.candidate_eval.specs.Calls.Noting.{IsNotingStop, refused_note}
+use Rattle.rounds_judge.specs.Obligations.Responding.{with_number}
+use Rattle.candidate_eval.proofs.Interface.StopKinds.{wide-node}
+use Rattle.candidate_rounds.proofs.Stops.ResponseStops.{one-more-noted-below, passed-growth}
 use Rattle.candidate_rounds.proofs.rounds.responding.+note_below.Goals as goal
 
 pub returns-in_err-note_number-clause-cause : goal.returns-in_err-note_number-clause-cause

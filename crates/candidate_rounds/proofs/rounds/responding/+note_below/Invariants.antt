@@ -1,5 +1,5 @@
-use Rattle.candidate_ir.specs.Nodes.{tree_at}
-use Rattle.candidate_rounds.proofs.ResponseStops.{NotesBelow}
+use Rattle.candidate_ir.specs.Syntax.Nodes.{tree_at}
+use Rattle.candidate_rounds.proofs.Stops.ResponseStops.{NotesBelow}
 use Rattle.candidate_rounds.proofs.rounds.responding.+note_below.Given as goal
 
 abbrev pub decreases-note_below : goal.decreases-note_below

@@ -1,7 +1,7 @@
 use Rattle.candidate_eval.specs.declared.eval.mode.TypingMode.{TypingMode}
-use Rattle.candidate_eval.specs.States.{resolved_tree}
-use Rattle.candidate_rounds.specs.Known.{state_of}
-use Rattle.candidate_rounds.proofs.Gathering.{ClausesSoFar}
+use Rattle.candidate_eval.specs.Judges.States.{resolved_tree}
+use Rattle.candidate_rounds.specs.Evaluators.Known.{state_of}
+use Rattle.candidate_rounds.proofs.Obligations.Gathering.{ClausesSoFar}
 use Rattle.candidate_rounds.proofs.rounds.responding.constraints.Given as goal
 
 abbrev pub invariant-loop-i : goal.invariant-loop-i

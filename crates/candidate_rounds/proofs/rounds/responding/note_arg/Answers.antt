@@ -1,6 +1,6 @@
-use Rattle.candidate_ir.proofs.Asking.{arg-below}
-use Rattle.candidate_eval.specs.Noting.{IsNotingStop, refused_note}
-use Rattle.candidate_rounds.proofs.ResponseStops.{passed-growth, refused-growth}
+use Rattle.candidate_ir.proofs.Traversal.Asking.{arg-below}
+use Rattle.candidate_eval.specs.Calls.Noting.{IsNotingStop, refused_note}
+use Rattle.candidate_rounds.proofs.Stops.ResponseStops.{passed-growth, refused-growth}
 use Rattle.candidate_rounds.proofs.rounds.responding.note_arg.Goals as goal
 
 pub note_below-requires : goal.note_below-requires

@@ -1,4 +1,4 @@
-use Rattle.candidate_rounds.proofs.Noting.{arg-listed, one-more-noted}
+use Rattle.candidate_rounds.proofs.Obligations.Noting.{arg-listed, one-more-noted}
 use Rattle.candidate_rounds.proofs.rounds.responding.note_args.Goals as goal
 
 pub note_arg-requires : goal.note_arg-requires

@@ -1,4 +1,4 @@
-use Rattle.candidate_rounds.proofs.Noting.{IsNotedTo}
+use Rattle.candidate_rounds.proofs.Obligations.Noting.{IsNotedTo}
 use Rattle.candidate_rounds.proofs.rounds.responding.note_args.Given as goal
 
 abbrev pub invariant-loop-i : goal.invariant-loop-i

@@ -1,8 +1,8 @@
 use Rattle.std.proofs.Common.{refl}
-use Rattle.candidate_ir.specs.Trees.{ClauseKind}
-use Rattle.candidate_ir.proofs.Lists.{below_kind}
-use Rattle.candidate_eval.specs.Noting.{IsNotingStop, refused_note}
-use Rattle.candidate_rounds.proofs.ResponseStops.{passed-growth}
+use Rattle.candidate_ir.specs.Syntax.Trees.{ClauseKind}
+use Rattle.candidate_ir.proofs.Syntax.Lists.{below_kind}
+use Rattle.candidate_eval.specs.Calls.Noting.{IsNotingStop, refused_note}
+use Rattle.candidate_rounds.proofs.Stops.ResponseStops.{passed-growth}
 use Rattle.candidate_rounds.proofs.rounds.responding.note_clause.Goals as goal
 
 pub head-requires : goal.head-requires

@@ -1,6 +1,6 @@
 use Rattle.std.proofs.Common.{refl, sym, ◌∙◌}
-use Rattle.candidate_ir.specs.Words.{args_forest}
-use Rattle.candidate_rounds.proofs.Noting.{none-anew}
+use Rattle.candidate_ir.specs.Syntax.Words.{args_forest}
+use Rattle.candidate_rounds.proofs.Obligations.Noting.{none-anew}
 use Rattle.candidate_rounds.proofs.rounds.responding.numbered_args.Goals as goal
 
 pub returns-clause-trees : goal.returns-clause-trees

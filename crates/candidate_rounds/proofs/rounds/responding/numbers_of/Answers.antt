@@ -1,4 +1,4 @@
-use Rattle.candidate_ir.proofs.Made.{IsClause-listed}
+use Rattle.candidate_ir.proofs.Growth.Made.{IsClause-listed}
 use Rattle.candidate_rounds.proofs.rounds.responding.numbers_of.Goals as goal
 
 pub note_clause-requires : goal.note_clause-requires

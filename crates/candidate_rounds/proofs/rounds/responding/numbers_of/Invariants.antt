@@ -1,7 +1,7 @@
 use Rattle.std.proofs.Common.{[]}
-use Rattle.candidate_ir.specs.Words.{args_forest}
-use Rattle.rounds_judge.specs.Responding.{with_numbers}
-use Rattle.candidate_rounds.proofs.Places.{IsNoted}
+use Rattle.candidate_ir.specs.Syntax.Words.{args_forest}
+use Rattle.rounds_judge.specs.Obligations.Responding.{with_numbers}
+use Rattle.candidate_rounds.proofs.Obligations.Places.{IsNoted}
 use Rattle.candidate_rounds.proofs.rounds.responding.numbers_of.Given as goal
 
 abbrev pub invariant-loop-i : goal.invariant-loop-i

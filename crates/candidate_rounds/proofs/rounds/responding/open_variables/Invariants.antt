@@ -1,6 +1,6 @@
 use Rattle.std.proofs.Common.{slice_get}
-use Rattle.candidate_rounds.specs.Gathered.{open_entry}
-use Rattle.candidate_rounds.proofs.Places.{IsMapped}
+use Rattle.candidate_rounds.specs.Calls.Gathered.{open_entry}
+use Rattle.candidate_rounds.proofs.Obligations.Places.{IsMapped}
 use Rattle.candidate_rounds.proofs.rounds.responding.open_variables.Given as goal
 
 abbrev pub invariant-loop-i : goal.invariant-loop-i

@@ -1,16 +1,16 @@
 use Rattle.std.proofs.Common.{◌≡◌, refl, rules, ◌∙◌, length, subst}
 use Rattle.std.specs.Prelude.{IfErr}
-use Rattle.candidate_ir.specs.Nodes.{tree_at}
-use Rattle.candidate_ir.specs.Trees.{Forest}
-use Rattle.candidate_ir.specs.Folds.{arg_tree}
-use Rattle.candidate_ir.specs.Substitutions.{row_of}
-use Rattle.candidate_ir.proofs.FoldStops.{fold-stop}
-use Rattle.candidate_ir.proofs.FoldLaws.{reached-keeps}
-use Rattle.candidate_rounds.specs.Gathered.{renumbered_at}
-use Rattle.candidate_rounds.specs.Stopping.{IsNewNumberStop, IsRenumberingStop}
-use Rattle.candidate_rounds.proofs.Anew.{fold-is, fold-tree-is, tree-function, unasked-stays}
-use Rattle.candidate_rounds.proofs.Gathering.{if-ok-then}
-use Rattle.candidate_rounds.proofs.ResponseStops.{renumbering-cause, said-of-number}
+use Rattle.candidate_ir.specs.Syntax.Nodes.{tree_at}
+use Rattle.candidate_ir.specs.Syntax.Trees.{Forest}
+use Rattle.candidate_ir.specs.Instantiation.Folds.{arg_tree}
+use Rattle.candidate_ir.specs.Unification.Substitutions.{row_of}
+use Rattle.candidate_ir.proofs.Traversal.FoldStops.{fold-stop}
+use Rattle.candidate_ir.proofs.Traversal.FoldLaws.{reached-keeps}
+use Rattle.candidate_rounds.specs.Calls.Gathered.{renumbered_at}
+use Rattle.candidate_rounds.specs.Evaluators.Stopping.{IsNewNumberStop, IsRenumberingStop}
+use Rattle.candidate_rounds.proofs.Obligations.Anew.{fold-is, fold-tree-is, tree-function, unasked-stays}
+use Rattle.candidate_rounds.proofs.Obligations.Gathering.{if-ok-then}
+use Rattle.candidate_rounds.proofs.Stops.ResponseStops.{renumbering-cause, said-of-number}
 use Rattle.candidate_rounds.proofs.rounds.responding.renumbered.Goals as goal
 
 pub returns-clause-tree : goal.returns-clause-tree

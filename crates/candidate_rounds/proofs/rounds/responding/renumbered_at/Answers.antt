@@ -1,10 +1,10 @@
 use Rattle.std.proofs.Common.{◌≡◌, rules, length}
-use Rattle.candidate_ir.specs.Folds.{arg_tree}
-use Rattle.candidate_eval.specs.States.{variable}
-use Rattle.candidate_rounds.specs.Stopping.{IsNewNumberStop}
-use Rattle.candidate_rounds.specs.Gathered.{renumbered_at}
-use Rattle.candidate_rounds.proofs.Anew.{anew-kind}
-use Rattle.candidate_rounds.proofs.ResponseStops.{number-too-large, number-unmade, passed-on}
+use Rattle.candidate_ir.specs.Instantiation.Folds.{arg_tree}
+use Rattle.candidate_eval.specs.Judges.States.{variable}
+use Rattle.candidate_rounds.specs.Evaluators.Stopping.{IsNewNumberStop}
+use Rattle.candidate_rounds.specs.Calls.Gathered.{renumbered_at}
+use Rattle.candidate_rounds.proofs.Obligations.Anew.{anew-kind}
+use Rattle.candidate_rounds.proofs.Stops.ResponseStops.{number-too-large, number-unmade, passed-on}
 use Rattle.candidate_rounds.proofs.rounds.responding.renumbered_at.Goals as goal
 
 pub returns-clause-kind : goal.returns-clause-kind

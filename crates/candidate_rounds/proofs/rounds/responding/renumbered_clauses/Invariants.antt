@@ -1,5 +1,5 @@
-use Rattle.rounds_judge.specs.Responding.{renumbered_tree}
-use Rattle.candidate_rounds.proofs.Gathering.{ClausesSoFar}
+use Rattle.rounds_judge.specs.Obligations.Responding.{renumbered_tree}
+use Rattle.candidate_rounds.proofs.Obligations.Gathering.{ClausesSoFar}
 use Rattle.candidate_rounds.proofs.rounds.responding.renumbered_clauses.Given as goal
 
 abbrev pub invariant-loop-i : goal.invariant-loop-i

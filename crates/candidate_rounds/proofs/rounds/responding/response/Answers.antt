@@ -1,13 +1,13 @@
 use Rattle.std.proofs.Common.{[], map, rules, ◌≡◌, length, ◌∙◌}
-use Rattle.candidate_ir.specs.Words.{args_forest, clause_tree}
-use Rattle.candidate_ir.proofs.Kept.{args-kept, grows-trans}
-use Rattle.candidate_rounds.specs.Stopping.{AreRenumberingStops, IsRenumberingStop, IsResponseStop, of_noting, response_memory}
-use Rattle.candidate_rounds.specs.Known.{state_of}
-use Rattle.rounds_judge.specs.Responding.{with_numbers, renumbered, with_numbers_of}
-use Rattle.candidate_rounds.proofs.Knowing.{kinds-grown, known-stays}
-use Rattle.candidate_rounds.proofs.Gathering.{clauses-kept, gathered}
-use Rattle.candidate_rounds.proofs.Noting.{numbers-of-from}
-use Rattle.candidate_rounds.proofs.ResponseStops.{gathered-before, passed-on, passed-growth, regions-stop, state-stops, values-stop}
+use Rattle.candidate_ir.specs.Syntax.Words.{args_forest, clause_tree}
+use Rattle.candidate_ir.proofs.Growth.Kept.{args-kept, grows-trans}
+use Rattle.candidate_rounds.specs.Evaluators.Stopping.{AreRenumberingStops, IsRenumberingStop, IsResponseStop, of_noting, response_memory}
+use Rattle.candidate_rounds.specs.Evaluators.Known.{state_of}
+use Rattle.rounds_judge.specs.Obligations.Responding.{with_numbers, renumbered, with_numbers_of}
+use Rattle.candidate_rounds.proofs.Snapshots.Knowing.{kinds-grown, known-stays}
+use Rattle.candidate_rounds.proofs.Obligations.Gathering.{clauses-kept, gathered}
+use Rattle.candidate_rounds.proofs.Obligations.Noting.{numbers-of-from}
+use Rattle.candidate_rounds.proofs.Stops.ResponseStops.{gathered-before, passed-on, passed-growth, regions-stop, state-stops, values-stop}
 use Rattle.candidate_rounds.proofs.rounds.responding.response.Goals as goal
 
 pub constraints-requires-clause-known : goal.constraints-requires-clause-known

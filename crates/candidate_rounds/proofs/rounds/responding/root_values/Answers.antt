@@ -1,15 +1,15 @@
 use Rattle.std.proofs.Common.{slice_get, ◌∙◌, ap, arith}
 use Rattle.std.specs.Option.{option_map}
-use Rattle.candidate_ir.specs.Words.{list_forest}
+use Rattle.candidate_ir.specs.Syntax.Words.{list_forest}
 use Rattle.candidate_eval.specs.declared.eval.mode.TypingMode.{TypingMode}
-use Rattle.candidate_eval.specs.States.{resolved_tree}
-use Rattle.candidate_rounds.specs.Gathered.{root_at}
-use Rattle.candidate_rounds.specs.Known.{state_of}
-use Rattle.candidate_rounds.specs.Stopping.{IsResponseStop, full_table, response_memory}
-use Rattle.candidate_rounds.proofs.Gathering.{all-roots, if-ok-then, more-roots, state-later}
-use Rattle.candidate_rounds.proofs.Knowing.{known-stays}
-use Rattle.candidate_rounds.proofs.ResponseStops.{many-variables, passed-on, passed-growth, roots-stop}
-use Rattle.candidate_ir.proofs.Kept.{grows-trans}
+use Rattle.candidate_eval.specs.Judges.States.{resolved_tree}
+use Rattle.candidate_rounds.specs.Calls.Gathered.{root_at}
+use Rattle.candidate_rounds.specs.Evaluators.Known.{state_of}
+use Rattle.candidate_rounds.specs.Evaluators.Stopping.{IsResponseStop, full_table, response_memory}
+use Rattle.candidate_rounds.proofs.Obligations.Gathering.{all-roots, if-ok-then, more-roots, state-later}
+use Rattle.candidate_rounds.proofs.Snapshots.Knowing.{known-stays}
+use Rattle.candidate_rounds.proofs.Stops.ResponseStops.{many-variables, passed-on, passed-growth, roots-stop}
+use Rattle.candidate_ir.proofs.Growth.Kept.{grows-trans}
 use Rattle.candidate_rounds.proofs.rounds.responding.root_values.Goals as goal
 
 pub root_value-requires : goal.root_value-requires

@@ -1,7 +1,7 @@
 use Rattle.candidate_eval.specs.declared.eval.mode.TypingMode.{TypingMode}
-use Rattle.candidate_eval.specs.States.{resolved_tree}
-use Rattle.candidate_rounds.specs.Known.{state_of}
-use Rattle.candidate_rounds.proofs.Gathering.{RootsSoFar}
+use Rattle.candidate_eval.specs.Judges.States.{resolved_tree}
+use Rattle.candidate_rounds.specs.Evaluators.Known.{state_of}
+use Rattle.candidate_rounds.proofs.Obligations.Gathering.{RootsSoFar}
 use Rattle.candidate_rounds.proofs.rounds.responding.root_values.Given as goal
 
 abbrev pub invariant-loop-number : goal.invariant-loop-number

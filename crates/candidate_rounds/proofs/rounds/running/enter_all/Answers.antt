@@ -1,7 +1,7 @@
 use Rattle.std.proofs.Common.{◌≡◌, ◌∷◌, ◌++◌, [], length, map, sym, ap, ◌∙◌, append-nil, arith}
 use Rattle.std.specs.Vec.Iter.{into_iter_items}
-use Rattle.candidate_rounds.specs.Running.{new_entry}
-use Rattle.candidate_rounds.proofs.Writing.{nothing-left, one-entered}
+use Rattle.candidate_rounds.specs.Table.Running.{new_entry}
+use Rattle.candidate_rounds.proofs.Table.Writing.{nothing-left, one-entered}
 use Rattle.candidate_rounds.proofs.rounds.running.enter_all.Goals as goal
 
 pub push_reserved-requires : goal.push_reserved-requires

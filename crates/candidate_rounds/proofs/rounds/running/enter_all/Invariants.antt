@@ -1,6 +1,6 @@
 use Rattle.std.proofs.Common.{◌≡◌, ◌++◌, ◌+◌, ◌≤◌, length, map, vec_capacity, vec_len}
 use Rattle.std.specs.Vec.Iter.{into_iter_items, into_iter_len}
-use Rattle.candidate_rounds.specs.Running.{new_entry}
+use Rattle.candidate_rounds.specs.Table.Running.{new_entry}
 use Rattle.candidate_rounds.proofs.rounds.running.enter_all.Given as goal
 
 abbrev pub invariant-loop-key : goal.invariant-loop-key

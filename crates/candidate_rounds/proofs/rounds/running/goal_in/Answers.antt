@@ -1,9 +1,9 @@
-use Rattle.candidate_ir.proofs.Kept.{args-kept}
-use Rattle.candidate_assembly.proofs.TraitClauses.{fact-fits, fact-takes, fit-kept}
-use Rattle.candidate_assembly.specs.TraitGoals.{trait_goal}
-use Rattle.candidate_rounds.specs.Stopping.{IsTreeStop, clause_saying}
-use Rattle.candidate_rounds.proofs.Entering.{binder-unmade, goal-made, goal-seen, saying-unmade}
-use Rattle.candidate_rounds.proofs.ResponseStops.{passed-on}
+use Rattle.candidate_ir.proofs.Growth.Kept.{args-kept}
+use Rattle.candidate_assembly.proofs.Goals.TraitClauses.{fact-fits, fact-takes, fit-kept}
+use Rattle.candidate_assembly.specs.Goals.TraitGoals.{trait_goal}
+use Rattle.candidate_rounds.specs.Evaluators.Stopping.{IsTreeStop, clause_saying}
+use Rattle.candidate_rounds.proofs.Table.Entering.{binder-unmade, goal-made, goal-seen, saying-unmade}
+use Rattle.candidate_rounds.proofs.Stops.ResponseStops.{passed-on}
 use Rattle.candidate_rounds.proofs.rounds.running.goal_in.Goals as goal
 
 pub mk_clause-requires-clause-fits : goal.mk_clause-requires-clause-fits

@@ -1,10 +1,10 @@
 use Rattle.std.proofs.Common.{◌≡◌, suc, ◌+◌, take, slice_index_or, sym, ◌∙◌, ap, arith}
 use Rattle.candidate_rounds.specs.declared.rounds.goals.GoalEntry.{GoalEntry}
-use Rattle.candidate_rounds.specs.Goals.{IsTraitGoal, entry_seen, key_seen, table_seen}
-use Rattle.candidate_rounds.proofs.Gathering.{each-index}
-use Rattle.candidate_rounds.proofs.Rounding.{found-there, not-there, not-yet}
-use Rattle.candidate_rounds.proofs.Running.{get-index, get-map, length-map}
-use Rattle.rounds_judge.specs.GoalTable.{is_entered}
+use Rattle.candidate_rounds.specs.Table.Goals.{IsTraitGoal, entry_seen, key_seen, table_seen}
+use Rattle.candidate_rounds.proofs.Obligations.Gathering.{each-index}
+use Rattle.candidate_rounds.proofs.Table.Rounding.{found-there, not-there, not-yet}
+use Rattle.candidate_rounds.proofs.Table.Running.{get-index, get-map, length-map}
+use Rattle.rounds_judge.specs.Table.GoalTable.{is_entered}
 use Rattle.candidate_rounds.proofs.rounds.running.place_in.Goals as goal
 
 pub same_key-requires-clause-a : goal.same_key-requires-clause-a

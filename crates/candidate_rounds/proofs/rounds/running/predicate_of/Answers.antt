@@ -1,5 +1,5 @@
 use Rattle.std.proofs.Common.{rules}
-use Rattle.candidate_rounds.proofs.Starting.{key-goal}
+use Rattle.candidate_rounds.proofs.Table.Starting.{key-goal}
 use Rattle.candidate_rounds.proofs.rounds.running.predicate_of.Goals as goal
 
 pub returns-clause-says : goal.returns-clause-says

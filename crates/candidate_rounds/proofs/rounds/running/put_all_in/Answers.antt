@@ -1,7 +1,7 @@
 use Rattle.std.proofs.Common.{◌≡◌, [], sym, ap, ◌∙◌}
 use Rattle.std.specs.Vec.Iter.{into_iter_items}
-use Rattle.candidate_rounds.specs.Running.{all_put_in}
-use Rattle.candidate_rounds.proofs.Writing.{all-put, nothing-left, put_so_far}
+use Rattle.candidate_rounds.specs.Table.Running.{all_put_in}
+use Rattle.candidate_rounds.proofs.Table.Writing.{all-put, nothing-left, put_so_far}
 use Rattle.candidate_rounds.proofs.rounds.running.put_all_in.Goals as goal
 
 pub returns-clause-items : goal.returns-clause-items

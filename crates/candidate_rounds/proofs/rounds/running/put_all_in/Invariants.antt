@@ -1,7 +1,7 @@
 use Rattle.std.proofs.Common.{◌≡◌, length, vec_capacity, vec_len}
 use Rattle.std.specs.Vec.Iter.{into_iter_items, into_iter_len}
-use Rattle.candidate_rounds.specs.Running.{all_put_in}
-use Rattle.candidate_rounds.proofs.Writing.{put_so_far}
+use Rattle.candidate_rounds.specs.Table.Running.{all_put_in}
+use Rattle.candidate_rounds.proofs.Table.Writing.{put_so_far}
 use Rattle.candidate_rounds.proofs.rounds.running.put_all_in.Given as goal
 
 abbrev pub invariant-loop-written : goal.invariant-loop-written

@@ -1,5 +1,5 @@
-use Rattle.candidate_eval.specs.Noting.{IsNotingStop, refused_note}
-use Rattle.candidate_rounds.proofs.ResponseStops.{passed-growth}
+use Rattle.candidate_eval.specs.Calls.Noting.{IsNotingStop, refused_note}
+use Rattle.candidate_rounds.proofs.Stops.ResponseStops.{passed-growth}
 use Rattle.candidate_rounds.proofs.rounds.running.start_of.Goals as goal
 
 pub returns-in_err-inference-clause-cause : goal.returns-in_err-inference-clause-cause

@@ -1,4 +1,4 @@
-use Rattle.candidate_rounds.proofs.Evaluating.{none-after}
+use Rattle.candidate_rounds.proofs.Obligations.Evaluating.{none-after}
 use Rattle.candidate_rounds.proofs.rounds.settling.gave_a_value.Goals as goal
 
 pub returns-then-i-after : goal.returns-then-i-after

@@ -1,4 +1,4 @@
-use Rattle.candidate_rounds.proofs.Evaluating.{GaveSoFar}
+use Rattle.candidate_rounds.proofs.Obligations.Evaluating.{GaveSoFar}
 use Rattle.candidate_rounds.proofs.rounds.settling.gave_a_value.Given as goal
 
 abbrev pub invariant-loop-i : goal.invariant-loop-i

@@ -1,8 +1,8 @@
 use Rattle.std.proofs.Common.{◌∙◌, sym, subst}
-use Rattle.rounds_judge.specs.Keys.{same_key}
-use Rattle.candidate_rounds.specs.Goals.{IsTraitGoal, key_seen}
-use Rattle.candidate_rounds.proofs.Finding.{one-is, one-more-any}
-use Rattle.candidate_rounds.proofs.Gathering.{each-index}
+use Rattle.rounds_judge.specs.Table.Keys.{same_key}
+use Rattle.candidate_rounds.specs.Table.Goals.{IsTraitGoal, key_seen}
+use Rattle.candidate_rounds.proofs.Table.Finding.{one-is, one-more-any}
+use Rattle.candidate_rounds.proofs.Obligations.Gathering.{each-index}
 use Rattle.candidate_rounds.proofs.rounds.table.is_listed.Goals as goal
 
 pub same_key-requires-clause-a : goal.same_key-requires-clause-a

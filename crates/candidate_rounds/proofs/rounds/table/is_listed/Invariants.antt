@@ -1,6 +1,6 @@
-use Rattle.rounds_judge.specs.Keys.{same_key}
-use Rattle.candidate_rounds.specs.Goals.{key_seen}
-use Rattle.candidate_rounds.proofs.Finding.{IsAnyTo}
+use Rattle.rounds_judge.specs.Table.Keys.{same_key}
+use Rattle.candidate_rounds.specs.Table.Goals.{key_seen}
+use Rattle.candidate_rounds.proofs.Table.Finding.{IsAnyTo}
 use Rattle.candidate_rounds.proofs.rounds.table.is_listed.Given as goal
 
 abbrev pub invariant-loop-i : goal.invariant-loop-i

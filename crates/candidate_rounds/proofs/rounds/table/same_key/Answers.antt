@@ -1,7 +1,7 @@
 use Rattle.std.proofs.Common.{◌∙◌, sym}
 use Rattle.std.specs.Cmp.Lexicographic.{pointwise}
 use Rattle.candidate_eval.specs.contracts.eval.variable.CanonicalVarPartialEq.TheImpl as variable
-use Rattle.candidate_rounds.proofs.Finding.{other-clause, same-by-env}
+use Rattle.candidate_rounds.proofs.Table.Finding.{other-clause, same-by-env}
 use Rattle.candidate_rounds.proofs.rounds.table.same_key.Goals as goal
 
 pub returns-then-same : goal.returns-then-same

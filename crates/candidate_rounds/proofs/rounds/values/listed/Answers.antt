@@ -1,6 +1,6 @@
 use Rattle.std.proofs.Common.{rules}
-use Rattle.candidate_ir.specs.Words.{ty_tree}
-use Rattle.candidate_rounds.proofs.Listing.{none-left, not-this, this-one}
+use Rattle.candidate_ir.specs.Syntax.Words.{ty_tree}
+use Rattle.candidate_rounds.proofs.Resolution.Listing.{none-left, not-this, this-one}
 use Rattle.candidate_rounds.proofs.rounds.values.listed.Goals as goal
 
 pub returns-then-same : goal.returns-then-same

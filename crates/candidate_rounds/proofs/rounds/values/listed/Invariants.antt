@@ -1,5 +1,5 @@
-use Rattle.candidate_ir.specs.Words.{ty_tree}
-use Rattle.candidate_rounds.proofs.Listing.{IsListedFrom}
+use Rattle.candidate_ir.specs.Syntax.Words.{ty_tree}
+use Rattle.candidate_rounds.proofs.Resolution.Listing.{IsListedFrom}
 use Rattle.candidate_rounds.proofs.rounds.values.listed.Given as goal
 
 abbrev pub invariant-loop-i : goal.invariant-loop-i

@@ -1,5 +1,5 @@
 use Rattle.std.proofs.Common.{sym}
-use Rattle.candidate_rounds.proofs.Listing.{other-unlisted}
+use Rattle.candidate_rounds.proofs.Resolution.Listing.{other-unlisted}
 use Rattle.candidate_rounds.proofs.rounds.values.listed_arg.Goals as goal
 
 pub returns-in-Const : goal.returns-in-Const

@@ -1,11 +1,11 @@
 use Rattle.std.proofs.Common.{◌≡◌, refl, rules, sym, ◌∙◌}
-use Rattle.candidate_ir.specs.Folds.{arg_tree}
-use Rattle.candidate_ir.proofs.FoldLaws.{arg-outcome, reached-keeps}
-use Rattle.candidate_rounds.specs.Known.{listing_of}
-use Rattle.rounds_judge.specs.Listed.{listed}
-use Rattle.candidate_rounds.proofs.Listing.{empty-listing, grown-function, listed-answer, listed-keeps, listed-unasked, types-kept}
-use Rattle.candidate_ir.proofs.FoldStops.{fold-cause}
-use Rattle.candidate_rounds.proofs.Stopping.{always-answers}
+use Rattle.candidate_ir.specs.Instantiation.Folds.{arg_tree}
+use Rattle.candidate_ir.proofs.Traversal.FoldLaws.{arg-outcome, reached-keeps}
+use Rattle.candidate_rounds.specs.Evaluators.Known.{listing_of}
+use Rattle.rounds_judge.specs.Aliases.Listed.{listed}
+use Rattle.candidate_rounds.proofs.Resolution.Listing.{empty-listing, grown-function, listed-answer, listed-keeps, listed-unasked, types-kept}
+use Rattle.candidate_ir.proofs.Traversal.FoldStops.{fold-cause}
+use Rattle.candidate_rounds.proofs.Stops.Stopping.{always-answers}
 use Rattle.candidate_rounds.proofs.rounds.values.normalized.Goals as goal
 
 pub fold-requires-clause-callable : goal.fold-requires-clause-callable

@@ -1,11 +1,11 @@
 use Rattle.std.proofs.Common.{◌≡◌, refl, reverse, rules, sym, ◌∙◌}
-use Rattle.candidate_ir.specs.Folds.{arg_tree}
-use Rattle.candidate_ir.proofs.FoldLaws.{arg-outcome, head-function, reached-keeps}
-use Rattle.rounds_judge.specs.Scopes.{placed_head}
-use Rattle.candidate_rounds.proofs.Placing.{empty-places, placed-only}
-use Rattle.candidate_ir.specs.Folding.{IsSubstStop}
-use Rattle.candidate_ir.proofs.FoldStops.{fold-stop, subst-cause}
-use Rattle.candidate_rounds.proofs.Stopping.{placed-stop}
+use Rattle.candidate_ir.specs.Instantiation.Folds.{arg_tree}
+use Rattle.candidate_ir.proofs.Traversal.FoldLaws.{arg-outcome, head-function, reached-keeps}
+use Rattle.rounds_judge.specs.Equations.Scopes.{placed_head}
+use Rattle.candidate_rounds.proofs.Resolution.Placing.{empty-places, placed-only}
+use Rattle.candidate_ir.specs.Instantiation.Folding.{IsSubstStop}
+use Rattle.candidate_ir.proofs.Traversal.FoldStops.{fold-stop, subst-cause}
+use Rattle.candidate_rounds.proofs.Stops.Stopping.{placed-stop}
 use Rattle.candidate_rounds.proofs.rounds.values.placed.Goals as goal
 
 pub returns-clause-tree : goal.returns-clause-tree

@@ -1,12 +1,12 @@
 use Rattle.std.proofs.Common.{refl, sym, ◌∙◌, ap, reverse}
-use Rattle.candidate_ir.specs.Trees.{kind_of}
-use Rattle.candidate_ir.proofs.Asking.{arg-below, arg-head}
+use Rattle.candidate_ir.specs.Syntax.Trees.{kind_of}
+use Rattle.candidate_ir.proofs.Traversal.Asking.{arg-below, arg-head}
 use Rattle.std.proofs.lemmas.Result.{err_from_is_err_and}
-use Rattle.candidate_rounds.proofs.Stopping.{region-unmade}
+use Rattle.candidate_rounds.proofs.Stops.Stopping.{region-unmade}
 use Rattle.std.specs.Prelude.{option_map}
-use Rattle.candidate_ir.specs.Nodes.{tree_at}
-use Rattle.candidate_ir.specs.Words.{region_kind_tree}
-use Rattle.rounds_judge.specs.Scopes.{placed_head}
+use Rattle.candidate_ir.specs.Syntax.Nodes.{tree_at}
+use Rattle.candidate_ir.specs.Syntax.Words.{region_kind_tree}
+use Rattle.rounds_judge.specs.Equations.Scopes.{placed_head}
 use Rattle.candidate_rounds.proofs.rounds.values.placed_arg.Goals as goal
 
 pub head-requires : goal.head-requires

@@ -1,14 +1,14 @@
 use Rattle.std.proofs.Common.{reverse, ◌∙◌, ap, subst}
-use Rattle.candidate_ir.specs.Folds.{arg_tree}
-use Rattle.candidate_rounds.specs.Known.{listing_of, state_of}
-use Rattle.rounds_judge.specs.Listed.{normalized_tree}
-use Rattle.rounds_judge.specs.Scopes.{placed_tree}
-use Rattle.candidate_rounds.proofs.Gathering.{if-ok-then}
-use Rattle.candidate_rounds.proofs.Listing.{listing-kept, types-kept}
+use Rattle.candidate_ir.specs.Instantiation.Folds.{arg_tree}
+use Rattle.candidate_rounds.specs.Evaluators.Known.{listing_of, state_of}
+use Rattle.rounds_judge.specs.Aliases.Listed.{normalized_tree}
+use Rattle.rounds_judge.specs.Equations.Scopes.{placed_tree}
+use Rattle.candidate_rounds.proofs.Obligations.Gathering.{if-ok-then}
+use Rattle.candidate_rounds.proofs.Resolution.Listing.{listing-kept, types-kept}
 use Rattle.std.proofs.lemmas.Result.{err_from_is_err_and, IfErr-weaker}
-use Rattle.candidate_rounds.proofs.Stopping.{normal-is}
-use Rattle.candidate_rounds.specs.Stopping.{IsTreeStop, of_resolved, of_listed, of_placed}
-use Rattle.candidate_ir.proofs.Kept.{grows-trans}
+use Rattle.candidate_rounds.proofs.Stops.Stopping.{normal-is}
+use Rattle.candidate_rounds.specs.Evaluators.Stopping.{IsTreeStop, of_resolved, of_listed, of_placed}
+use Rattle.candidate_ir.proofs.Growth.Kept.{grows-trans}
 use Rattle.candidate_rounds.proofs.rounds.values.value_in.Goals as goal
 
 pub normalized-requires-clause-types : goal.normalized-requires-clause-types

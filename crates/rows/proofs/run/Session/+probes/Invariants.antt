@@ -1,5 +1,5 @@
 use Rattle.std.proofs.Common.{◌≡◌, ◌+◌, ◌*◌}
-use Rattle.candidate_rounds.specs.Known.{probes}
+use Rattle.candidate_rounds.specs.Evaluators.Known.{probes}
 use Rattle.rows.proofs.run.Session.+probes.Given as goal
 
 abbrev pub decreases-probe : goal.decreases-probe

@@ -1,16 +1,16 @@
 use Rattle.std.proofs.Common.{rules, ◌≡◌, true, false, [], ◌∷◌, Err, subst, sym, ap, ◌∙◌}
 use Rattle.std.proofs.lemmas.Result.{err_from_is_err_and}
-use Rattle.candidate_ir.specs.Trees.{Tree, holds, is_param}
-use Rattle.candidate_ir.specs.Words.{clause_tree}
-use Rattle.candidate_ir.proofs.Joining.{clause-kept}
+use Rattle.candidate_ir.specs.Syntax.Trees.{Tree, holds, is_param}
+use Rattle.candidate_ir.specs.Syntax.Words.{clause_tree}
+use Rattle.candidate_ir.proofs.Instantiation.Joining.{clause-kept}
 use Rattle.candidate_eval.specs.declared.eval.context.ProbeKind.TheVariants.{Kept}
-use Rattle.candidate_eval.specs.Accounts.{Question}
-use Rattle.candidate_eval.specs.Rules.{characterise, settle}
-use Rattle.candidate_assembly.specs.Kinds.{match_rule, passes}
-use Rattle.candidate_assembly.specs.Telling.{Considers, without_usages}
-use Rattle.candidate_assembly.proofs.Answering.{passes-kept, rejected-at-once, rule-moved, rule-refused}
-use Rattle.candidate_assembly.proofs.Considering.{not-begun}
-use Rattle.candidate_assembly.proofs.Keeping.{goal-kept, in-probe}
+use Rattle.candidate_eval.specs.Interface.Accounts.{Question}
+use Rattle.candidate_eval.specs.Derivations.Rules.{characterise, settle}
+use Rattle.candidate_assembly.specs.Goals.Kinds.{match_rule, passes}
+use Rattle.candidate_assembly.specs.Answers.Telling.{Considers, without_usages}
+use Rattle.candidate_assembly.proofs.Rules.Answering.{passes-kept, rejected-at-once, rule-moved, rule-refused}
+use Rattle.candidate_assembly.proofs.Calls.Considering.{not-begun}
+use Rattle.candidate_assembly.proofs.Calls.Keeping.{goal-kept, in-probe}
 use Rattle.candidate_assembly.proofs.assembly.kind.GoalKind.probe_and_consider_param_env_candidate.Goals as goal
 
 pub returns-then-is_err : goal.returns-then-is_err

@@ -1,20 +1,20 @@
 use Rattle.std.proofs.Common.{rules, ◌≡◌, true, false, refl, subst, ap, ◌∙◌}
 use Rattle.std.proofs.lemmas.Result.{err_from_is_err_and}
-use Rattle.candidate_ir.specs.Trees.{Tree, holds, is_param}
-use Rattle.candidate_ir.specs.Words.{clause_tree}
-use Rattle.candidate_ir.proofs.Joining.{clause-kept}
-use Rattle.candidate_eval.specs.Judging.{run, start}
+use Rattle.candidate_ir.specs.Syntax.Trees.{Tree, holds, is_param}
+use Rattle.candidate_ir.specs.Syntax.Words.{clause_tree}
+use Rattle.candidate_ir.proofs.Instantiation.Joining.{clause-kept}
+use Rattle.candidate_eval.specs.Derivations.Judging.{run, start}
 use Rattle.candidate_eval.specs.declared.eval.context.ProbeKind.TheVariants.{Kept}
-use Rattle.candidate_eval.specs.Accounts.{Question, by_stop}
-use Rattle.candidate_eval.specs.Evaluators.{Keeps}
-use Rattle.candidate_eval.proofs.Probing.{alike-probe, keeps-probe, of-error}
-use Rattle.candidate_assembly.specs.Kinds.{clause_judged, passes}
-use Rattle.candidate_assembly.specs.Telling.{StopsOfItself, ToldAs}
-use Rattle.candidate_assembly.proofs.Answering.{after-caused-in, after-told-in, callable-in, clause-moved, clause-refused, passes-kept}
-use Rattle.candidate_assembly.proofs.Causes.{answered-stop, asked-here, so-err}
-use Rattle.candidate_assembly.proofs.Considering.{told-own, told-refused}
-use Rattle.candidate_assembly.proofs.Keeping.{goal-kept}
-use Rattle.candidate_assembly.proofs.Stepping.{evaluator-own, told-kept}
+use Rattle.candidate_eval.specs.Interface.Accounts.{Question, by_stop}
+use Rattle.candidate_eval.specs.Interface.Evaluators.{Keeps}
+use Rattle.candidate_eval.proofs.Interface.Probing.{alike-probe, keeps-probe, of-error}
+use Rattle.candidate_assembly.specs.Goals.Kinds.{clause_judged, passes}
+use Rattle.candidate_assembly.specs.Answers.Telling.{StopsOfItself, ToldAs}
+use Rattle.candidate_assembly.proofs.Rules.Answering.{after-caused-in, after-told-in, callable-in, clause-moved, clause-refused, passes-kept}
+use Rattle.candidate_assembly.proofs.Calls.Causes.{answered-stop, asked-here, so-err}
+use Rattle.candidate_assembly.proofs.Calls.Considering.{told-own, told-refused}
+use Rattle.candidate_assembly.proofs.Calls.Keeping.{goal-kept}
+use Rattle.candidate_assembly.proofs.Calls.Stepping.{evaluator-own, told-kept}
 use Rattle.candidate_assembly.proofs.assembly.kind.GoalKind.probe_and_match_goal_against_assumption.Goals as goal
 
 pub returns-then-is_err-clause-told : goal.returns-then-is_err-clause-told

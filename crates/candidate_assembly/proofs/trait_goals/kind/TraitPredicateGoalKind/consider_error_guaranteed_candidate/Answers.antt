@@ -1,12 +1,12 @@
 use Rattle.std.proofs.Common.{◌≡◌, refl, subst, ap}
-use Rattle.candidate_ir.specs.Context.{Context}
+use Rattle.candidate_ir.specs.Declarations.Context.{Context}
 use Rattle.candidate_ir.specs.declared.ir.heads.Flag.TheVariants as F
-use Rattle.candidate_ir.specs.Flags.{mark}
-use Rattle.candidate_ir.specs.Trees.{holds}
-use Rattle.candidate_ir.specs.Words.{args_forest}
-use Rattle.candidate_assembly.specs.BuiltinRules.{error_rule, plain_rule}
-use Rattle.candidate_assembly.specs.TraitGoals.{trait_goal}
-use Rattle.candidate_assembly.proofs.Considering.{considers-same}
+use Rattle.candidate_ir.specs.Syntax.Flags.{mark}
+use Rattle.candidate_ir.specs.Syntax.Trees.{holds}
+use Rattle.candidate_ir.specs.Syntax.Words.{args_forest}
+use Rattle.candidate_assembly.specs.Rules.BuiltinRules.{error_rule, plain_rule}
+use Rattle.candidate_assembly.specs.Goals.TraitGoals.{trait_goal}
+use Rattle.candidate_assembly.proofs.Calls.Considering.{considers-same}
 use Rattle.candidate_assembly.proofs.trait_goals.kind.TraitPredicateGoalKind.consider_error_guaranteed_candidate.Goals as goal
 
 pub returns : goal.returns

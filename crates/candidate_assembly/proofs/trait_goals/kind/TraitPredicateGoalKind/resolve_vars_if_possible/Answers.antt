@@ -1,12 +1,12 @@
 use Rattle.std.proofs.Common.{refl}
 use Rattle.std.proofs.lemmas.Result.{err_from_is_err_and}
-use Rattle.candidate_ir.specs.Words.{args_forest}
-use Rattle.candidate_eval.specs.Accounts.Question.{resolve}
-use Rattle.candidate_eval.specs.Accounts.StopsSomehow.{asking}
-use Rattle.candidate_eval.specs.States.{resolved}
-use Rattle.candidate_eval.proofs.Accounts.{accounted-here, reaches}
-use Rattle.candidate_eval.proofs.Objects.{env-kept}
-use Rattle.candidate_assembly.proofs.SelfTypes.{resolved-goal, resolved-trait-goal}
+use Rattle.candidate_ir.specs.Syntax.Words.{args_forest}
+use Rattle.candidate_eval.specs.Interface.Accounts.Question.{resolve}
+use Rattle.candidate_eval.specs.Interface.Accounts.StopsSomehow.{asking}
+use Rattle.candidate_eval.specs.Judges.States.{resolved}
+use Rattle.candidate_eval.proofs.Interface.Accounts.{accounted-here, reaches}
+use Rattle.candidate_eval.proofs.Dynamic.Objects.{env-kept}
+use Rattle.candidate_assembly.proofs.Goals.SelfTypes.{resolved-goal, resolved-trait-goal}
 use Rattle.candidate_assembly.proofs.trait_goals.kind.TraitPredicateGoalKind.resolve_vars_if_possible.Goals as goal
 
 pub returns-in_err-args-clause-cause : goal.returns-in_err-args-clause-cause

@@ -1,8 +1,8 @@
 use Rattle.std.proofs.lemmas.Result.{err_from_is_err_and}
-use Rattle.candidate_ir.specs.Words.{ty_tree}
-use Rattle.candidate_eval.specs.Accounts.StopsSomehow.{making}
-use Rattle.candidate_eval.proofs.Objects.{env-kept}
-use Rattle.candidate_assembly.proofs.SelfTypes.{other-goal, same-trait-goal}
+use Rattle.candidate_ir.specs.Syntax.Words.{ty_tree}
+use Rattle.candidate_eval.specs.Interface.Accounts.StopsSomehow.{making}
+use Rattle.candidate_eval.proofs.Dynamic.Objects.{env-kept}
+use Rattle.candidate_assembly.proofs.Goals.SelfTypes.{other-goal, same-trait-goal}
 use Rattle.candidate_assembly.proofs.trait_goals.kind.TraitPredicateGoalKind.with_replaced_self_ty.Goals as goal
 
 pub returns-in_err-other-clause-cause : goal.returns-in_err-other-clause-cause

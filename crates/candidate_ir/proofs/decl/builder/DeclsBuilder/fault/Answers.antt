@@ -1,6 +1,6 @@
 use Rattle.std.proofs.Common.{rules, inr}
-use Rattle.candidate_ir.proofs.Faults.{tail_lowest, item_lowest}
-use Rattle.candidate_ir.proofs.WellFormed.{nothing_wrong}
+use Rattle.candidate_ir.proofs.Validity.Faults.{tail_lowest, item_lowest}
+use Rattle.candidate_ir.proofs.Validity.WellFormed.{nothing_wrong}
 use Rattle.candidate_ir.proofs.decl.builder.DeclsBuilder.fault.Goals as goal
 
 pub returns-then-any_lacks_tail : goal.returns-then-any_lacks_tail

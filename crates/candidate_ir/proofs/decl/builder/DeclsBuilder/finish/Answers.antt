@@ -1,6 +1,6 @@
 use Rattle.std.proofs.Common.{subst, sym}
-use Rattle.candidate_ir.specs.WellFormed.{IsWellFormedTable}
-use Rattle.candidate_ir.proofs.WellFormed.{declared_all}
+use Rattle.candidate_ir.specs.Validity.WellFormed.{IsWellFormedTable}
+use Rattle.candidate_ir.proofs.Validity.WellFormed.{declared_all}
 use Rattle.candidate_ir.proofs.decl.builder.DeclsBuilder.finish.Goals as goal
 
 pub invariant_of-result : goal.invariant_of-result

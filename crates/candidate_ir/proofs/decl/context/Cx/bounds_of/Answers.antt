@@ -1,8 +1,8 @@
 use Rattle.std.proofs.Common.{◌≤◌, length, subst, arith}
 use Rattle.candidate_ir.specs.declared.decl.contents.AliasBoundKind.TheVariants as K
-use Rattle.candidate_ir.specs.Context.{Context}
-use Rattle.candidate_ir.specs.Declaring.{no_place}
-use Rattle.candidate_ir.proofs.Declared.{bounds_owned}
+use Rattle.candidate_ir.specs.Declarations.Context.{Context}
+use Rattle.candidate_ir.specs.Declarations.Declaring.{no_place}
+use Rattle.candidate_ir.proofs.Instantiation.Declared.{bounds_owned}
 use Rattle.candidate_ir.proofs.decl.context.Cx.bounds_of.Goals as goal
 
 pub returns-in-SelfBounds-clause-owned : goal.returns-in-SelfBounds-clause-owned

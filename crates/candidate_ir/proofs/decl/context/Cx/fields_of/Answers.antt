@@ -1,8 +1,8 @@
 use Rattle.std.proofs.Common.{◌≤◌, length, subst, arith}
-use Rattle.candidate_ir.specs.Context.{Context}
-use Rattle.candidate_ir.specs.Declaring.{no_place}
-use Rattle.candidate_ir.specs.Words.{args_forest}
-use Rattle.candidate_ir.proofs.Declared.{fields_closed}
+use Rattle.candidate_ir.specs.Declarations.Context.{Context}
+use Rattle.candidate_ir.specs.Declarations.Declaring.{no_place}
+use Rattle.candidate_ir.specs.Syntax.Words.{args_forest}
+use Rattle.candidate_ir.proofs.Instantiation.Declared.{fields_closed}
 use Rattle.candidate_ir.proofs.decl.context.Cx.fields_of.Goals as goal
 
 pub returns-clause-closed : goal.returns-clause-closed

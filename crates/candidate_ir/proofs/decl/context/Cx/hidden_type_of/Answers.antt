@@ -1,5 +1,5 @@
-use Rattle.candidate_ir.specs.Words.{args_forest}
-use Rattle.candidate_ir.proofs.Declared.{hidden_is_closed}
+use Rattle.candidate_ir.specs.Syntax.Words.{args_forest}
+use Rattle.candidate_ir.proofs.Instantiation.Declared.{hidden_is_closed}
 use Rattle.candidate_ir.proofs.decl.context.Cx.hidden_type_of.Goals as goal
 
 pub returns-clause-closed : goal.returns-clause-closed

@@ -1,6 +1,6 @@
 use Rattle.std.specs.Prelude.{option_copied}
-use Rattle.candidate_ir.specs.Words.{args_forest}
-use Rattle.candidate_ir.proofs.Declared.{impl_owned}
+use Rattle.candidate_ir.specs.Syntax.Words.{args_forest}
+use Rattle.candidate_ir.proofs.Instantiation.Declared.{impl_owned}
 use Rattle.candidate_ir.proofs.decl.context.Cx.impl_of.Goals as goal
 
 pub returns-clause-owned : goal.returns-clause-owned

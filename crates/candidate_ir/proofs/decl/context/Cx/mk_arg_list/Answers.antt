@@ -1,5 +1,5 @@
-use Rattle.candidate_ir.proofs.Making.{added-made}
-use Rattle.candidate_ir.proofs.WellFormed.{grown_context}
+use Rattle.candidate_ir.proofs.Growth.Making.{added-made}
+use Rattle.candidate_ir.proofs.Validity.WellFormed.{grown_context}
 use Rattle.candidate_ir.proofs.decl.context.Cx.mk_arg_list.Goals as goal
 
 pub returns : goal.returns

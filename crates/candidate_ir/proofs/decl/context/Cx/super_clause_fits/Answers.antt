@@ -1,7 +1,7 @@
 use Rattle.std.proofs.Common.{◌≤◌, length, subst, arith}
-use Rattle.candidate_ir.specs.Context.{Context}
-use Rattle.candidate_ir.specs.Declaring.{no_place}
-use Rattle.candidate_ir.proofs.Owned.{super_clause_fits}
+use Rattle.candidate_ir.specs.Declarations.Context.{Context}
+use Rattle.candidate_ir.specs.Declarations.Declaring.{no_place}
+use Rattle.candidate_ir.proofs.Instantiation.Owned.{super_clause_fits}
 use Rattle.candidate_ir.proofs.decl.context.Cx.super_clause_fits.Goals as goal
 
 pub returns : goal.returns

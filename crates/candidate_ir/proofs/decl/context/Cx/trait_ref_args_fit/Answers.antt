@@ -1,4 +1,4 @@
-use Rattle.candidate_ir.proofs.Arity.{reference-tests}
+use Rattle.candidate_ir.proofs.Kinding.Arity.{reference-tests}
 use Rattle.candidate_ir.proofs.decl.context.Cx.trait_ref_args_fit.Goals as goal
 
 pub returns : goal.returns

@@ -1,5 +1,5 @@
 use Rattle.std.proofs.Common.{arith}
-use Rattle.candidate_ir.proofs.WellFormed.{cut_context}
+use Rattle.candidate_ir.proofs.Validity.WellFormed.{cut_context}
 use Rattle.candidate_ir.proofs.decl.context.Cx.truncate.Goals as goal
 
 pub invariant_of-self : goal.invariant_of-self

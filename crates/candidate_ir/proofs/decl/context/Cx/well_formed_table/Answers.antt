@@ -1,6 +1,6 @@
 use Rattle.std.proofs.Common.{subst}
-use Rattle.candidate_ir.specs.WellFormed.{IsWellFormedTable}
-use Rattle.candidate_ir.proofs.WellFormed.{table_of}
+use Rattle.candidate_ir.specs.Validity.WellFormed.{IsWellFormedTable}
+use Rattle.candidate_ir.proofs.Validity.WellFormed.{table_of}
 use Rattle.candidate_ir.proofs.decl.context.Cx.well_formed_table.Goals as goal
 
 pub returns : goal.returns

@@ -1,8 +1,8 @@
 use Rattle.std.proofs.Common.{refl, subst, sym}
-use Rattle.candidate_ir.specs.Context.{Context, world}
-use Rattle.candidate_ir.specs.Making.{what}
-use Rattle.candidate_ir.proofs.Making.{added-made}
-use Rattle.candidate_ir.proofs.WellFormed.{grown_context}
+use Rattle.candidate_ir.specs.Declarations.Context.{Context, world}
+use Rattle.candidate_ir.specs.Syntax.Making.{what}
+use Rattle.candidate_ir.proofs.Growth.Making.{added-made}
+use Rattle.candidate_ir.proofs.Validity.WellFormed.{grown_context}
 use Rattle.candidate_ir.proofs.decl.context.CxBuild.make.Goals as goal
 
 pub returns-clause-made : goal.returns-clause-made

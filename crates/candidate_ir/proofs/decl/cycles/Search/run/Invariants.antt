@@ -1,7 +1,7 @@
 use Rattle.std.proofs.Common.{None}
-use Rattle.candidate_ir.specs.Cycles.{Knows, KeepsSeen, left}
-use Rattle.candidate_ir.specs.Declaring.{contents_of}
-use Rattle.candidate_ir.specs.Supertraits.{named_supers}
+use Rattle.candidate_ir.specs.Calls.Cycles.{Knows, KeepsSeen, left}
+use Rattle.candidate_ir.specs.Declarations.Declaring.{contents_of}
+use Rattle.candidate_ir.specs.Hierarchy.Supertraits.{named_supers}
 use Rattle.candidate_ir.proofs.decl.cycles.Search.run.Given as goal
 
 abbrev pub invariant-loop-frame : goal.invariant-loop-frame

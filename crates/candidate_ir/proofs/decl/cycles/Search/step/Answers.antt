@@ -2,11 +2,11 @@ use Rattle.std.proofs.Common.{refl, sym, ◌∙◌, ap, subst, Some, None}
 use Rattle.std.specs.Prelude.{slice_get, List}
 use Rattle.std.proofs.lemmas.Option.{slice_get_past, slice_get_read}
 use Rattle.candidate_ir.specs.declared.ir.kinds.Clause.{Clause}
-use Rattle.candidate_ir.specs.Cycles.{IsNearer, framed}
-use Rattle.candidate_ir.specs.Declaring.{contents_of}
-use Rattle.candidate_ir.specs.Supertraits.{named_supers}
-use Rattle.candidate_ir.proofs.Cycles.{step_closes, step_passes, step_by_meeting}
-use Rattle.candidate_ir.proofs.Supertraits.{named_at, named_none}
+use Rattle.candidate_ir.specs.Calls.Cycles.{IsNearer, framed}
+use Rattle.candidate_ir.specs.Declarations.Declaring.{contents_of}
+use Rattle.candidate_ir.specs.Hierarchy.Supertraits.{named_supers}
+use Rattle.candidate_ir.proofs.Hierarchy.Cycles.{step_closes, step_passes, step_by_meeting}
+use Rattle.candidate_ir.proofs.Hierarchy.Supertraits.{named_at, named_none}
 use Rattle.candidate_ir.proofs.decl.cycles.Search.step.Goals as goal
 
 pub returns-in_default : goal.returns-in_default

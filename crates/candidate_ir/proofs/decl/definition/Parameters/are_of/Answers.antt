@@ -1,4 +1,4 @@
-use Rattle.candidate_ir.proofs.Parameters.{types-iff}
+use Rattle.candidate_ir.proofs.Kinding.Parameters.{types-iff}
 use Rattle.candidate_ir.proofs.decl.definition.Parameters.are_of.Goals as goal
 
 pub returns-then-list-count : goal.returns-then-list-count

@@ -1,5 +1,5 @@
 use Rattle.std.proofs.lemmas.Result.{err_from_is_err_and}
-use Rattle.candidate_ir.proofs.Making.{made-number, made-nothing}
+use Rattle.candidate_ir.proofs.Growth.Making.{made-number, made-nothing}
 use Rattle.candidate_ir.proofs.decl.make.Build.mk_preds.Goals as goal
 
 pub make-requires-clause-fits : goal.make-requires-clause-fits

@@ -1,8 +1,8 @@
 use Rattle.std.proofs.Common.{sym, ◌∙◌, ap}
 use Rattle.std.specs.Prelude.{Bool, ◌&&◌}
-use Rattle.candidate_ir.specs.Substitutions.{is_integer}
-use Rattle.candidate_ir.proofs.Equal.{clash}
-use Rattle.candidate_ir.proofs.Pairs.{left_meets, right_meets, integers, one_of, other_of, heads_agree, heads_differ, was_said}
+use Rattle.candidate_ir.specs.Unification.Substitutions.{is_integer}
+use Rattle.candidate_ir.proofs.Syntax.Equal.{clash}
+use Rattle.candidate_ir.proofs.Unification.Pairs.{left_meets, right_meets, integers, one_of, other_of, heads_agree, heads_differ, was_said}
 use Rattle.candidate_ir.proofs.ir.heads.Head.may_unify.Goals as goal
 use Rattle.candidate_ir.proofs.ir.heads.Head.may_unify.Goals.{then-meets_any-via-then-meets_any, then-meets_any-via-else-meets_any+then-meets_any_on_right, then-is_variable_of-via-then-is_variable_of, then-is_variable_of-via-else-is_variable_of+then-is_variable_of-2}
 

@@ -1,5 +1,5 @@
 use Rattle.std.proofs.Common.{sym, ap}
-use Rattle.candidate_ir.specs.Kinds.{ty_head}
+use Rattle.candidate_ir.specs.Syntax.Kinds.{ty_head}
 use Rattle.candidate_ir.proofs.ir.kinds.TyKind.head.Goals as goal
 
 pub returns-in-Bool : goal.returns-in-Bool

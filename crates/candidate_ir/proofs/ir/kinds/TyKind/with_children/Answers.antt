@@ -1,7 +1,7 @@
 use Rattle.std.proofs.Common.{refl, sym, ap}
 use Rattle.candidate_ir.specs.declared.ir.kinds.TyKind.{TyKind}
-use Rattle.candidate_ir.specs.Kinds.{ty_head, ty_children, sorts}
-use Rattle.candidate_ir.proofs.Rebuild.{count-of, inside, one-number, two-numbers, three-numbers}
+use Rattle.candidate_ir.specs.Syntax.Kinds.{ty_head, ty_children, sorts}
+use Rattle.candidate_ir.proofs.Traversal.Rebuild.{count-of, inside, one-number, two-numbers, three-numbers}
 use Rattle.candidate_ir.proofs.ir.kinds.TyKind.with_children.Goals as goal
 
 pub bounds-children-0 : goal.bounds-children-0

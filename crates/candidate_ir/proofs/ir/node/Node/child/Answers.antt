@@ -1,8 +1,8 @@
 use Rattle.std.proofs.Common.{◌<◌, ◌∙◌, length, ap, subst, Some, slice_get, sym, arith}
-use Rattle.candidate_ir.specs.Kinds.{numbers}
-use Rattle.candidate_ir.specs.Nodes.{children_of}
+use Rattle.candidate_ir.specs.Syntax.Kinds.{numbers}
+use Rattle.candidate_ir.specs.Syntax.Nodes.{children_of}
 use Rattle.candidate_ir.specs.declared.ir.node.Node.{Node}
-use Rattle.candidate_ir.proofs.Children.{arg_at, length_args, pred_at, length_preds, clause_at, length_clauses, var_at, length_vars}
+use Rattle.candidate_ir.proofs.Syntax.Children.{arg_at, length_args, pred_at, length_preds, clause_at, length_clauses, var_at, length_vars}
 use Rattle.candidate_ir.proofs.ir.node.Node.child.Goals as goal
 
 pub returns-in-Args : goal.returns-in-Args

@@ -1,6 +1,6 @@
 use Rattle.std.proofs.Common.{sym, ap}
-use Rattle.candidate_ir.specs.Nodes.{head_of, children_of}
-use Rattle.candidate_ir.proofs.References.{no-result}
+use Rattle.candidate_ir.specs.Syntax.Nodes.{head_of, children_of}
+use Rattle.candidate_ir.proofs.Kinding.References.{no-result}
 use Rattle.candidate_ir.proofs.ir.node.Node.copy.Goals as goal
 
 pub returns-in_err-to_vec-in-Args-clause-head : goal.returns-in_err-to_vec-in-Args-clause-head

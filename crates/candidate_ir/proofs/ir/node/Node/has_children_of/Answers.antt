@@ -1,5 +1,5 @@
 use Rattle.std.proofs.Common.{Some, ap, sym, ◌∙◌}
-use Rattle.candidate_ir.proofs.Shapes.{agree-more}
+use Rattle.candidate_ir.proofs.Syntax.Shapes.{agree-more}
 use Rattle.candidate_ir.proofs.ir.node.Node.has_children_of.Goals as goal
 
 pub loop-i-preserved : goal.loop-i-preserved

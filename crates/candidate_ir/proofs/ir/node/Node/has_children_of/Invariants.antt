@@ -1,5 +1,5 @@
 use Rattle.std.proofs.Common.{◌≡◌, take}
-use Rattle.candidate_ir.specs.Shapes.{child_numbers}
+use Rattle.candidate_ir.specs.Syntax.Shapes.{child_numbers}
 use Rattle.candidate_ir.proofs.ir.node.Node.has_children_of.Given as goal
 
 abbrev pub invariant-loop-i : goal.invariant-loop-i

@@ -1,6 +1,6 @@
 use Rattle.std.proofs.Common.{ap}
-use Rattle.candidate_ir.specs.Nodes.{children_of}
-use Rattle.candidate_ir.proofs.Rebuild.{clauses-again}
+use Rattle.candidate_ir.specs.Syntax.Nodes.{children_of}
+use Rattle.candidate_ir.proofs.Traversal.Rebuild.{clauses-again}
 use Rattle.candidate_ir.proofs.ir.node.Node.rebuilt.Goals as goal
 
 pub returns-in_ok-clauses_of-in-Clauses-clause-sorts : goal.returns-in_ok-clauses_of-in-Clauses-clause-sorts

@@ -1,8 +1,8 @@
 use Rattle.std.proofs.Common.{length}
 use Rattle.std.specs.Hash.{usize}
-use Rattle.candidate_ir.specs.Nodes.{head_of}
-use Rattle.candidate_ir.specs.Shapes.{child_numbers, head_input}
-use Rattle.candidate_ir.proofs.Shapes.{fed-more}
+use Rattle.candidate_ir.specs.Syntax.Nodes.{head_of}
+use Rattle.candidate_ir.specs.Syntax.Shapes.{child_numbers, head_input}
+use Rattle.candidate_ir.proofs.Syntax.Shapes.{fed-more}
 use Rattle.candidate_ir.proofs.ir.node.NodeHash.hash.Goals as goal
 
 pub loop-i-preserved : goal.loop-i-preserved

@@ -2,8 +2,8 @@ use Rattle.std.proofs.Common.{◌≡◌, ◌++◌, take, length}
 use Rattle.std.specs.Prelude.{fold}
 use Rattle.std.specs.List.{flat_map}
 use Rattle.std.specs.Hash.{usize, u32}
-use Rattle.candidate_ir.specs.Nodes.{head_of}
-use Rattle.candidate_ir.specs.Shapes.{child_numbers, head_input}
+use Rattle.candidate_ir.specs.Syntax.Nodes.{head_of}
+use Rattle.candidate_ir.specs.Syntax.Shapes.{child_numbers, head_input}
 use Rattle.candidate_ir.proofs.ir.node.NodeHash.hash.Given as goal
 
 abbrev pub invariant-loop-i : goal.invariant-loop-i

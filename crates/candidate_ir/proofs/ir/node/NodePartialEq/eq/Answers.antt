@@ -1,5 +1,5 @@
-use Rattle.candidate_ir.proofs.Equal.{clash}
-use Rattle.candidate_ir.proofs.Shapes.{shape-is, shape-answer, same-length, child-count}
+use Rattle.candidate_ir.proofs.Syntax.Equal.{clash}
+use Rattle.candidate_ir.proofs.Syntax.Shapes.{shape-is, shape-answer, same-length, child-count}
 use Rattle.candidate_ir.proofs.ir.node.NodePartialEq.eq.Goals as goal
 
 pub has_children_of-requires : goal.has_children_of-requires

@@ -1,9 +1,9 @@
 use Rattle.std.proofs.Common.{ap, ◌∙◌}
-use Rattle.candidate_ir.specs.Nodes.{node_tree}
-use Rattle.candidate_ir.specs.Trees.{Tree, kind_of}
-use Rattle.candidate_ir.proofs.Lists.{kind-pushed, kind_of-tree_at}
-use Rattle.candidate_ir.proofs.Growing.{extends-refl}
-use Rattle.candidate_ir.proofs.References.{added-fits}
+use Rattle.candidate_ir.specs.Syntax.Nodes.{node_tree}
+use Rattle.candidate_ir.specs.Syntax.Trees.{Tree, kind_of}
+use Rattle.candidate_ir.proofs.Syntax.Lists.{kind-pushed, kind_of-tree_at}
+use Rattle.candidate_ir.proofs.Growth.Growing.{extends-refl}
+use Rattle.candidate_ir.proofs.Kinding.References.{added-fits}
 use Rattle.candidate_ir.proofs.ir.nodes.Nodes.add.Goals as goal
 
 pub returns-in-Some-clause-kept : goal.returns-in-Some-clause-kept

@@ -3,9 +3,9 @@ use Rattle.std.proofs.lemmas.Result.{err_from_is_err_and, IfErr-weaker}
 use Rattle.candidate_ir.specs.declared.ir.kinds.Binder.{Binder}
 use Rattle.candidate_ir.specs.declared.ir.kinds.ExistentialPredicate.{ExistentialPredicate}
 use Rattle.candidate_ir.specs.declared.ir.kinds.ExistentialPredicate.TheVariants as E
-use Rattle.candidate_ir.proofs.Growing.{extends-trans, made-pred, pred-fits-grown, pred-stop, preds-stop}
-use Rattle.candidate_ir.proofs.Principals.{list-principal}
-use Rattle.candidate_ir.proofs.References.{if-ok, no-result}
+use Rattle.candidate_ir.proofs.Growth.Growing.{extends-trans, made-pred, pred-fits-grown, pred-stop, preds-stop}
+use Rattle.candidate_ir.proofs.Syntax.Principals.{list-principal}
+use Rattle.candidate_ir.proofs.Kinding.References.{if-ok, no-result}
 use Rattle.candidate_ir.proofs.ir.nodes.Nodes.add_preds.Goals as goal
 
 -- what a read past the end of the bounds would give

@@ -1,8 +1,8 @@
 use Rattle.std.proofs.Common.{take}
 use Rattle.std.specs.Prelude.{map}
-use Rattle.candidate_ir.specs.Nodes.{pred_child}
-use Rattle.candidate_ir.specs.Words.{pred_kind_tree}
-use Rattle.candidate_ir.proofs.Growing.{Made, BoundsTake}
+use Rattle.candidate_ir.specs.Syntax.Nodes.{pred_child}
+use Rattle.candidate_ir.specs.Syntax.Words.{pred_kind_tree}
+use Rattle.candidate_ir.proofs.Growth.Growing.{Made, BoundsTake}
 use Rattle.candidate_ir.proofs.ir.nodes.Nodes.add_preds.Given as goal
 
 abbrev pub invariant-loop-bound : goal.invariant-loop-bound

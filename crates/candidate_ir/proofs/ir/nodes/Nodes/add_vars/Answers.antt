@@ -2,11 +2,11 @@ use Rattle.std.proofs.Common.{refl, take, arith}
 use Rattle.std.specs.Prelude.{map}
 use Rattle.candidate_ir.specs.declared.ir.heads.Head.TheVariants as H
 use Rattle.candidate_ir.specs.declared.ir.heads.PartHead.TheVariants as P
-use Rattle.candidate_ir.specs.Kinds.{numbers}
-use Rattle.candidate_ir.specs.Nodes.{trees_at, var_child}
+use Rattle.candidate_ir.specs.Syntax.Kinds.{numbers}
+use Rattle.candidate_ir.specs.Syntax.Nodes.{trees_at, var_child}
 use Rattle.std.proofs.lemmas.Result.{err_from_is_err_and, IfErr-weaker}
-use Rattle.candidate_ir.proofs.Growing.{extends-trans, made-var, var-stop, vars-stop}
-use Rattle.candidate_ir.proofs.References.{if-ok, no-result, variables-take}
+use Rattle.candidate_ir.proofs.Growth.Growing.{extends-trans, made-var, var-stop, vars-stop}
+use Rattle.candidate_ir.proofs.Kinding.References.{if-ok, no-result, variables-take}
 use Rattle.candidate_ir.proofs.ir.nodes.Nodes.add_vars.Goals as goal
 
 pub returns-in_err-number-clause-cause : goal.returns-in_err-number-clause-cause

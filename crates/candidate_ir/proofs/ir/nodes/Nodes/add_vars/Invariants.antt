@@ -1,8 +1,8 @@
 use Rattle.std.proofs.Common.{take}
 use Rattle.std.specs.Prelude.{map}
-use Rattle.candidate_ir.specs.Nodes.{var_child}
-use Rattle.candidate_ir.specs.Words.{var_kind_tree}
-use Rattle.candidate_ir.proofs.Growing.{Made, Always}
+use Rattle.candidate_ir.specs.Syntax.Nodes.{var_child}
+use Rattle.candidate_ir.specs.Syntax.Words.{var_kind_tree}
+use Rattle.candidate_ir.proofs.Growth.Growing.{Made, Always}
 use Rattle.candidate_ir.proofs.ir.nodes.Nodes.add_vars.Given as goal
 
 abbrev pub invariant-loop-kind : goal.invariant-loop-kind

@@ -1,6 +1,6 @@
 use Rattle.std.proofs.Common.{subst}
-use Rattle.candidate_ir.specs.Table.{AreDistinct}
-use Rattle.candidate_ir.proofs.Distinct.{found, absent}
+use Rattle.candidate_ir.specs.Syntax.Table.{AreDistinct}
+use Rattle.candidate_ir.proofs.Growth.Distinct.{found, absent}
 use Rattle.candidate_ir.proofs.ir.nodes.Nodes.find.Goals as goal
 
 pub returns-in-Some : goal.returns-in-Some

@@ -1,6 +1,6 @@
 use Rattle.std.proofs.Common.{arith, sym}
 use Rattle.std.proofs.lemmas.Option.{get_or_from_slice_get}
-use Rattle.candidate_ir.proofs.Tables.{table_length, table_row}
+use Rattle.candidate_ir.proofs.Growth.Tables.{table_length, table_row}
 use Rattle.candidate_ir.proofs.ir.nodes.Nodes.height.Goals as goal
 
 pub unreachable-requires : goal.unreachable-requires

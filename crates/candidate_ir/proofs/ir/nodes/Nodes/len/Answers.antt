@@ -1,5 +1,5 @@
 use Rattle.std.proofs.Common.{arith}
-use Rattle.candidate_ir.proofs.Tables.{table_length}
+use Rattle.candidate_ir.proofs.Growth.Tables.{table_length}
 use Rattle.candidate_ir.proofs.ir.nodes.Nodes.len.Goals as goal
 
 pub returns : goal.returns

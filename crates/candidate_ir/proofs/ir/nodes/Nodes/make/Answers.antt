@@ -2,10 +2,10 @@ use Rattle.std.proofs.Common.{◌≡◌, Ok, rules, refl, subst, sym}
 use Rattle.std.proofs.lemmas.Result.{err_from_is_err_and}
 use Rattle.candidate_ir.specs.declared.ir.kinds.Vars.{Vars}
 use Rattle.candidate_ir.specs.declared.ir.kinds.Preds.{Preds}
-use Rattle.candidate_ir.specs.Making.{Adds, what, numbered, a_list, an_environment}
-use Rattle.candidate_ir.proofs.Making.{added-number, added-nothing}
-use Rattle.candidate_ir.proofs.References.{signature-takes}
-use Rattle.candidate_ir.proofs.Sorts.{ty_is_type}
+use Rattle.candidate_ir.specs.Syntax.Making.{Adds, what, numbered, a_list, an_environment}
+use Rattle.candidate_ir.proofs.Growth.Making.{added-number, added-nothing}
+use Rattle.candidate_ir.proofs.Kinding.References.{signature-takes}
+use Rattle.candidate_ir.proofs.Growth.Sorts.{ty_is_type}
 use Rattle.candidate_ir.proofs.ir.nodes.Nodes.make.Goals as goal
 
 pub add-requires-clause-fits : goal.add-requires-clause-fits

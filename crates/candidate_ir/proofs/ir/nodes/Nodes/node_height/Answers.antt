@@ -1,9 +1,9 @@
 use Rattle.std.proofs.Common.{arith}
-use Rattle.candidate_ir.specs.Kinds.{numbers}
-use Rattle.candidate_ir.specs.Nodes.{children_of}
-use Rattle.candidate_ir.proofs.Lists.{Fits-below}
-use Rattle.candidate_ir.proofs.Children.{Below-get, highest-step, height_end, walk_end}
-use Rattle.candidate_ir.proofs.Sorts.{ty_weight, const_weight, other_weight}
+use Rattle.candidate_ir.specs.Syntax.Kinds.{numbers}
+use Rattle.candidate_ir.specs.Syntax.Nodes.{children_of}
+use Rattle.candidate_ir.proofs.Syntax.Lists.{Fits-below}
+use Rattle.candidate_ir.proofs.Syntax.Children.{Below-get, highest-step, height_end, walk_end}
+use Rattle.candidate_ir.proofs.Growth.Sorts.{ty_weight, const_weight, other_weight}
 use Rattle.candidate_ir.proofs.ir.nodes.Nodes.node_height.Goals as goal
 use Rattle.candidate_ir.proofs.ir.nodes.Nodes.node_height.Goals.{then-highest-child, else-highest-child}
 

@@ -1,6 +1,6 @@
 use Rattle.std.proofs.Common.{◌≡◌, ◌≤◌, max, drop}
-use Rattle.candidate_ir.specs.Kinds.{numbers}
-use Rattle.candidate_ir.specs.Nodes.{tallest, trees_at, children_of}
+use Rattle.candidate_ir.specs.Syntax.Kinds.{numbers}
+use Rattle.candidate_ir.specs.Syntax.Nodes.{tallest, trees_at, children_of}
 use Rattle.candidate_ir.proofs.ir.nodes.Nodes.node_height.Given as goal
 
 abbrev pub invariant-loop-i : goal.invariant-loop-i

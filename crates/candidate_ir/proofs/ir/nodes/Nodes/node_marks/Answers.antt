@@ -1,10 +1,10 @@
 use Rattle.std.proofs.Common.{ap, ◌∙◌}
-use Rattle.candidate_ir.specs.Flags.{mark}
-use Rattle.candidate_ir.specs.Kinds.{numbers}
-use Rattle.candidate_ir.specs.Nodes.{children_of}
-use Rattle.candidate_ir.proofs.Lists.{Fits-below}
-use Rattle.candidate_ir.proofs.Children.{Below-get, walk_end}
-use Rattle.candidate_ir.proofs.Marked.{marks-begin, marks-step, marks-end}
+use Rattle.candidate_ir.specs.Syntax.Flags.{mark}
+use Rattle.candidate_ir.specs.Syntax.Kinds.{numbers}
+use Rattle.candidate_ir.specs.Syntax.Nodes.{children_of}
+use Rattle.candidate_ir.proofs.Syntax.Lists.{Fits-below}
+use Rattle.candidate_ir.proofs.Syntax.Children.{Below-get, walk_end}
+use Rattle.candidate_ir.proofs.Syntax.Marked.{marks-begin, marks-step, marks-end}
 use Rattle.candidate_ir.proofs.ir.nodes.Nodes.node_marks.Goals as goal
 
 pub loop-i-init : goal.loop-i-init

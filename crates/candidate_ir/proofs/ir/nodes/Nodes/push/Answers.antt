@@ -1,9 +1,9 @@
 use Rattle.std.proofs.Common.{arith, subst, ◌∙◌}
 use Rattle.indexmap.proofs.CallerLemmas.{insert_entry-new}
-use Rattle.candidate_ir.specs.Shapes.{same_shape}
-use Rattle.candidate_ir.specs.Table.{AreDistinct}
-use Rattle.candidate_ir.proofs.Distinct.{distinct-more, missing}
-use Rattle.candidate_ir.proofs.Tables.{pushed, table_length}
+use Rattle.candidate_ir.specs.Syntax.Shapes.{same_shape}
+use Rattle.candidate_ir.specs.Syntax.Table.{AreDistinct}
+use Rattle.candidate_ir.proofs.Growth.Distinct.{distinct-more, missing}
+use Rattle.candidate_ir.proofs.Growth.Tables.{pushed, table_length}
 use Rattle.candidate_ir.proofs.ir.nodes.Nodes.push.Goals as goal
 
 pub invariant_of-self-2 : goal.invariant_of-self-2

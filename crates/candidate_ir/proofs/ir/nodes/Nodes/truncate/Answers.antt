@@ -1,7 +1,7 @@
 use Rattle.std.proofs.Common.{◌∙◌, [], List, take, ap, subst, sym, arith}
-use Rattle.candidate_ir.specs.Table.{Row, trees_after, AreRows, AreDistinct}
-use Rattle.candidate_ir.proofs.Distinct.{distinct-front}
-use Rattle.candidate_ir.proofs.Growing.{front-trees, front-rows}
+use Rattle.candidate_ir.specs.Syntax.Table.{Row, trees_after, AreRows, AreDistinct}
+use Rattle.candidate_ir.proofs.Growth.Distinct.{distinct-front}
+use Rattle.candidate_ir.proofs.Growth.Growing.{front-trees, front-rows}
 use Rattle.candidate_ir.proofs.ir.nodes.Nodes.truncate.Goals as goal
 
 pub returns : goal.returns

@@ -1,4 +1,4 @@
-use Rattle.candidate_ir.proofs.Tables.{leaves}
+use Rattle.candidate_ir.proofs.Growth.Tables.{leaves}
 use Rattle.candidate_ir.proofs.ir.nodes.Nodes.variables_are_leaves.Goals as goal
 
 pub returns : goal.returns

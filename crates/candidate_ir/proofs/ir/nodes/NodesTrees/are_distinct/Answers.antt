@@ -1,5 +1,5 @@
 use Rattle.std.proofs.Common.{subst}
-use Rattle.candidate_ir.specs.Table.{AreDistinct}
+use Rattle.candidate_ir.specs.Syntax.Table.{AreDistinct}
 use Rattle.candidate_ir.proofs.ir.nodes.NodesTrees.are_distinct.Goals as goal
 
 pub returns : goal.returns

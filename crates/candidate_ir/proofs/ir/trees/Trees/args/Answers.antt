@@ -1,6 +1,6 @@
-use Rattle.candidate_ir.proofs.Sorts.{args_node}
-use Rattle.candidate_ir.proofs.Lists.{below_kind}
-use Rattle.candidate_ir.specs.Trees.{ArgumentsKind}
+use Rattle.candidate_ir.proofs.Growth.Sorts.{args_node}
+use Rattle.candidate_ir.proofs.Syntax.Lists.{below_kind}
+use Rattle.candidate_ir.specs.Syntax.Trees.{ArgumentsKind}
 use Rattle.std.proofs.Common.{refl}
 use Rattle.candidate_ir.proofs.ir.trees.Trees.args.Goals as goal
 

@@ -1,8 +1,8 @@
 use Rattle.std.proofs.Common.{refl, ◌∙◌}
-use Rattle.candidate_ir.specs.Trees.{ArgumentsKind}
-use Rattle.candidate_ir.proofs.Lists.{below_kind}
-use Rattle.candidate_ir.proofs.MayUnify.{list_rejected}
-use Rattle.candidate_ir.proofs.Pairs.{list_answer}
+use Rattle.candidate_ir.specs.Syntax.Trees.{ArgumentsKind}
+use Rattle.candidate_ir.proofs.Syntax.Lists.{below_kind}
+use Rattle.candidate_ir.proofs.Unification.MayUnify.{list_rejected}
+use Rattle.candidate_ir.proofs.Unification.Pairs.{list_answer}
 use Rattle.candidate_ir.proofs.ir.trees.Trees.args_may_unify.Goals as goal
 
 pub numbers_may_unify-requires : goal.numbers_may_unify-requires

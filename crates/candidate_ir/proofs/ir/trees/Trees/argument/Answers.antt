@@ -1,6 +1,6 @@
 use Rattle.std.proofs.Common.{refl}
-use Rattle.candidate_ir.proofs.Asking.{asked-node}
-use Rattle.candidate_ir.proofs.Sorts.{ty_is_type, const_is_constant}
+use Rattle.candidate_ir.proofs.Traversal.Asking.{asked-node}
+use Rattle.candidate_ir.proofs.Growth.Sorts.{ty_is_type, const_is_constant}
 use Rattle.candidate_ir.proofs.ir.trees.Trees.argument.Goals as goal
 
 pub returns-in-Ty : goal.returns-in-Ty

@@ -1,8 +1,8 @@
 use Rattle.std.proofs.Common.{arith, ap, ◌∙◌, ◌+◌, ◌-◌, ◌≤◌, ◌≡◌, ℕ}
-use Rattle.candidate_ir.specs.Kinds.{numbers}
-use Rattle.candidate_ir.specs.Nodes.{children_of}
-use Rattle.candidate_ir.proofs.Children.{Below-get, walk_end}
-use Rattle.candidate_ir.proofs.Places.{passed_over, found_there, none_there}
+use Rattle.candidate_ir.specs.Syntax.Kinds.{numbers}
+use Rattle.candidate_ir.specs.Syntax.Nodes.{children_of}
+use Rattle.candidate_ir.proofs.Syntax.Children.{Below-get, walk_end}
+use Rattle.candidate_ir.proofs.Syntax.Places.{passed_over, found_there, none_there}
 use Rattle.candidate_ir.proofs.ir.trees.Trees.child.Goals as goal
 
 pub width-width-requires : goal.width-width-requires

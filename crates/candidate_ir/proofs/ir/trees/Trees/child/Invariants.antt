@@ -1,4 +1,4 @@
-use Rattle.candidate_ir.proofs.Places.{IsAt}
+use Rattle.candidate_ir.proofs.Syntax.Places.{IsAt}
 use Rattle.candidate_ir.proofs.ir.trees.Trees.child.Given as goal
 
 abbrev pub invariant-loop-i : goal.invariant-loop-i

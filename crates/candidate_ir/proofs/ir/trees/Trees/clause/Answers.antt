@@ -1,6 +1,6 @@
-use Rattle.candidate_ir.proofs.Sorts.{clause_node}
-use Rattle.candidate_ir.proofs.Lists.{below_kind}
-use Rattle.candidate_ir.specs.Trees.{ClauseKind}
+use Rattle.candidate_ir.proofs.Growth.Sorts.{clause_node}
+use Rattle.candidate_ir.proofs.Syntax.Lists.{below_kind}
+use Rattle.candidate_ir.specs.Syntax.Trees.{ClauseKind}
 use Rattle.std.proofs.Common.{refl}
 use Rattle.candidate_ir.proofs.ir.trees.Trees.clause.Goals as goal
 

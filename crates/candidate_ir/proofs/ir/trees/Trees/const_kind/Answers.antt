@@ -1,6 +1,6 @@
-use Rattle.candidate_ir.proofs.Sorts.{const_node}
-use Rattle.candidate_ir.proofs.Lists.{below_kind}
-use Rattle.candidate_ir.specs.Trees.{ConstantKind}
+use Rattle.candidate_ir.proofs.Growth.Sorts.{const_node}
+use Rattle.candidate_ir.proofs.Syntax.Lists.{below_kind}
+use Rattle.candidate_ir.specs.Syntax.Trees.{ConstantKind}
 use Rattle.std.proofs.Common.{refl}
 use Rattle.candidate_ir.proofs.ir.trees.Trees.const_kind.Goals as goal
 

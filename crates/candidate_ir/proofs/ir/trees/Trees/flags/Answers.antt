@@ -1,6 +1,6 @@
-use Rattle.candidate_ir.specs.Trees.{TypeKind}
+use Rattle.candidate_ir.specs.Syntax.Trees.{TypeKind}
 use Rattle.std.proofs.Common.{refl}
-use Rattle.candidate_ir.proofs.Lists.{below_kind}
+use Rattle.candidate_ir.proofs.Syntax.Lists.{below_kind}
 use Rattle.candidate_ir.proofs.ir.trees.Trees.flags.Goals as goal
 
 pub marks-marks-requires : goal.marks-marks-requires

@@ -1,10 +1,10 @@
 use Rattle.std.proofs.Common.{subst, ◌≡◌, ◌∙◌, ℕ}
-use Rattle.candidate_ir.specs.Flags.{mark}
-use Rattle.candidate_ir.specs.Marks.{marked}
-use Rattle.candidate_ir.specs.Nodes.{tree_at}
-use Rattle.candidate_ir.specs.Trees.{tree_holds}
-use Rattle.candidate_ir.proofs.Children.{list-holds}
-use Rattle.candidate_ir.proofs.Lists.{below_kind}
+use Rattle.candidate_ir.specs.Syntax.Flags.{mark}
+use Rattle.candidate_ir.specs.Syntax.Marks.{marked}
+use Rattle.candidate_ir.specs.Syntax.Nodes.{tree_at}
+use Rattle.candidate_ir.specs.Syntax.Trees.{tree_holds}
+use Rattle.candidate_ir.proofs.Syntax.Children.{list-holds}
+use Rattle.candidate_ir.proofs.Syntax.Lists.{below_kind}
 use Rattle.candidate_ir.proofs.ir.trees.Trees.has.Goals as goal
 
 pub marks-requires : goal.marks-requires

@@ -1,8 +1,8 @@
 use Rattle.std.proofs.Common.{subst, ◌≡◌, ◌∙◌, ℕ, arith}
-use Rattle.candidate_ir.specs.Binders.{tree_escapes}
-use Rattle.candidate_ir.specs.Nodes.{tree_at}
-use Rattle.candidate_ir.proofs.Escapes.{members-escape}
-use Rattle.candidate_ir.proofs.Lists.{below_kind}
+use Rattle.candidate_ir.specs.Syntax.Binders.{tree_escapes}
+use Rattle.candidate_ir.specs.Syntax.Nodes.{tree_at}
+use Rattle.candidate_ir.proofs.Syntax.Escapes.{members-escape}
+use Rattle.candidate_ir.proofs.Syntax.Lists.{below_kind}
 use Rattle.candidate_ir.proofs.ir.trees.Trees.has_escaping_bound_vars.Goals as goal
 
 pub number_escapes-requires : goal.number_escapes-requires

@@ -1,8 +1,8 @@
 use Rattle.std.proofs.Common.{subst, ◌≡◌, ◌∙◌, ℕ}
-use Rattle.candidate_ir.specs.Nodes.{tree_at}
-use Rattle.candidate_ir.specs.Trees.{tree_holds}
-use Rattle.candidate_ir.proofs.Children.{list-marked}
-use Rattle.candidate_ir.proofs.Lists.{below_kind}
+use Rattle.candidate_ir.specs.Syntax.Nodes.{tree_at}
+use Rattle.candidate_ir.specs.Syntax.Trees.{tree_holds}
+use Rattle.candidate_ir.proofs.Syntax.Children.{list-marked}
+use Rattle.candidate_ir.proofs.Syntax.Lists.{below_kind}
 use Rattle.candidate_ir.proofs.ir.trees.Trees.has_marked.Goals as goal
 
 pub number_holds-requires : goal.number_holds-requires

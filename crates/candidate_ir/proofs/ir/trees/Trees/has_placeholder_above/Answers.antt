@@ -1,4 +1,4 @@
-use Rattle.candidate_ir.proofs.Asking.{arg-below}
+use Rattle.candidate_ir.proofs.Traversal.Asking.{arg-below}
 use Rattle.candidate_ir.proofs.ir.trees.Trees.has_placeholder_above.Goals as goal
 
 pub number_holds-requires : goal.number_holds-requires

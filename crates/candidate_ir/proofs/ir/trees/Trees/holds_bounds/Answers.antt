@@ -1,4 +1,4 @@
-use Rattle.candidate_ir.proofs.Arity.{list-of-bounds}
+use Rattle.candidate_ir.proofs.Kinding.Arity.{list-of-bounds}
 use Rattle.candidate_ir.proofs.ir.trees.Trees.holds_bounds.Goals as goal
 
 pub returns-clause-kinds : goal.returns-clause-kinds

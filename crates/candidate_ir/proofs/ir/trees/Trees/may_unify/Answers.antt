@@ -1,4 +1,4 @@
-use Rattle.candidate_ir.proofs.Lists.{below_kind}
+use Rattle.candidate_ir.proofs.Syntax.Lists.{below_kind}
 use Rattle.candidate_ir.proofs.ir.trees.Trees.may_unify.Goals as goal
 
 pub numbers_may_unify-requires-clause-a : goal.numbers_may_unify-requires-clause-a

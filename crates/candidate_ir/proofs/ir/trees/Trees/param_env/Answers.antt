@@ -1,6 +1,6 @@
-use Rattle.candidate_ir.proofs.Sorts.{env_node}
-use Rattle.candidate_ir.proofs.Lists.{below_kind}
-use Rattle.candidate_ir.specs.Trees.{ClausesKind}
+use Rattle.candidate_ir.proofs.Growth.Sorts.{env_node}
+use Rattle.candidate_ir.proofs.Syntax.Lists.{below_kind}
+use Rattle.candidate_ir.specs.Syntax.Trees.{ClausesKind}
 use Rattle.std.proofs.Common.{refl}
 use Rattle.candidate_ir.proofs.ir.trees.Trees.param_env.Goals as goal
 

@@ -1,6 +1,6 @@
-use Rattle.candidate_ir.proofs.Sorts.{pred_node}
-use Rattle.candidate_ir.proofs.Lists.{below_kind}
-use Rattle.candidate_ir.specs.Trees.{PredicateKind}
+use Rattle.candidate_ir.proofs.Growth.Sorts.{pred_node}
+use Rattle.candidate_ir.proofs.Syntax.Lists.{below_kind}
+use Rattle.candidate_ir.specs.Syntax.Trees.{PredicateKind}
 use Rattle.std.proofs.Common.{refl}
 use Rattle.candidate_ir.proofs.ir.trees.Trees.pred.Goals as goal
 

@@ -1,6 +1,6 @@
-use Rattle.candidate_ir.proofs.Sorts.{preds_node}
-use Rattle.candidate_ir.proofs.Lists.{below_kind}
-use Rattle.candidate_ir.specs.Trees.{PredicatesKind}
+use Rattle.candidate_ir.proofs.Growth.Sorts.{preds_node}
+use Rattle.candidate_ir.proofs.Syntax.Lists.{below_kind}
+use Rattle.candidate_ir.specs.Syntax.Trees.{PredicatesKind}
 use Rattle.std.proofs.Common.{refl}
 use Rattle.candidate_ir.proofs.ir.trees.Trees.preds.Goals as goal
 

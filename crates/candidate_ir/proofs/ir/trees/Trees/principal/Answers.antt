@@ -1,4 +1,4 @@
-use Rattle.candidate_ir.proofs.Principals.{pred-get}
+use Rattle.candidate_ir.proofs.Syntax.Principals.{pred-get}
 use Rattle.candidate_ir.proofs.ir.trees.Trees.principal.Goals as goal
 
 pub pred-requires : goal.pred-requires

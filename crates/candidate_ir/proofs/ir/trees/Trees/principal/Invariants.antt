@@ -1,6 +1,6 @@
 use Rattle.std.proofs.Common.{◌≡◌, drop}
-use Rattle.candidate_ir.specs.Names.{principal_of}
-use Rattle.candidate_ir.specs.Words.{pred_list_forest}
+use Rattle.candidate_ir.specs.Declarations.Names.{principal_of}
+use Rattle.candidate_ir.specs.Syntax.Words.{pred_list_forest}
 use Rattle.candidate_ir.proofs.ir.trees.Trees.principal.Given as goal
 
 abbrev pub invariant-loop-i : goal.invariant-loop-i

@@ -1,6 +1,6 @@
-use Rattle.candidate_ir.proofs.Sorts.{region_node}
-use Rattle.candidate_ir.proofs.Lists.{below_kind}
-use Rattle.candidate_ir.specs.Trees.{RegionKind}
+use Rattle.candidate_ir.proofs.Growth.Sorts.{region_node}
+use Rattle.candidate_ir.proofs.Syntax.Lists.{below_kind}
+use Rattle.candidate_ir.specs.Syntax.Trees.{RegionKind}
 use Rattle.std.proofs.Common.{refl}
 use Rattle.candidate_ir.proofs.ir.trees.Trees.region_kind.Goals as goal
 

@@ -1,5 +1,5 @@
-use Rattle.candidate_ir.proofs.Distinct.{same-by-number}
-use Rattle.candidate_ir.proofs.Lists.{below_kind}
+use Rattle.candidate_ir.proofs.Growth.Distinct.{same-by-number}
+use Rattle.candidate_ir.proofs.Syntax.Lists.{below_kind}
 use Rattle.candidate_ir.proofs.ir.trees.Trees.same.Goals as goal
 
 pub returns : goal.returns

@@ -1,6 +1,6 @@
-use Rattle.candidate_ir.proofs.Sorts.{sig_node}
-use Rattle.candidate_ir.proofs.Lists.{below_kind}
-use Rattle.candidate_ir.specs.Trees.{SignatureKind}
+use Rattle.candidate_ir.proofs.Growth.Sorts.{sig_node}
+use Rattle.candidate_ir.proofs.Syntax.Lists.{below_kind}
+use Rattle.candidate_ir.specs.Syntax.Trees.{SignatureKind}
 use Rattle.std.proofs.Common.{refl}
 use Rattle.candidate_ir.proofs.ir.trees.Trees.sig.Goals as goal
 

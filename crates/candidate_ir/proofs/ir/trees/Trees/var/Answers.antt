@@ -1,6 +1,6 @@
-use Rattle.candidate_ir.proofs.Sorts.{var_node}
-use Rattle.candidate_ir.proofs.Lists.{below_kind}
-use Rattle.candidate_ir.specs.Trees.{VariableKind}
+use Rattle.candidate_ir.proofs.Growth.Sorts.{var_node}
+use Rattle.candidate_ir.proofs.Syntax.Lists.{below_kind}
+use Rattle.candidate_ir.specs.Syntax.Trees.{VariableKind}
 use Rattle.std.proofs.Common.{refl}
 use Rattle.candidate_ir.proofs.ir.trees.Trees.var.Goals as goal
 

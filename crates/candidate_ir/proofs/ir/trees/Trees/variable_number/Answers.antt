@@ -1,4 +1,4 @@
-use Rattle.candidate_ir.proofs.Asking.{arg-below}
+use Rattle.candidate_ir.proofs.Traversal.Asking.{arg-below}
 use Rattle.candidate_ir.proofs.ir.trees.Trees.variable_number.Goals as goal
 
 pub head-requires : goal.head-requires

@@ -1,6 +1,6 @@
-use Rattle.candidate_ir.proofs.Sorts.{vars_node}
-use Rattle.candidate_ir.proofs.Lists.{below_kind}
-use Rattle.candidate_ir.specs.Trees.{BinderKind}
+use Rattle.candidate_ir.proofs.Growth.Sorts.{vars_node}
+use Rattle.candidate_ir.proofs.Syntax.Lists.{below_kind}
+use Rattle.candidate_ir.specs.Syntax.Trees.{BinderKind}
 use Rattle.std.proofs.Common.{refl}
 use Rattle.candidate_ir.proofs.ir.trees.Trees.vars.Goals as goal
 

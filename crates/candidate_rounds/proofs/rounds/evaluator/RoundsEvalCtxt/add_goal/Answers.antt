@@ -1,18 +1,18 @@
 use Rattle.std.proofs.Common.{◌≡◌, OnOk, reverse, sym, subst}
-use Rattle.candidate_eval.specs.Evaluators.{IsGoal, pending_of}
-use Rattle.candidate_eval.specs.States.{added}
-use Rattle.candidate_rounds.specs.Known.{Evaluator, state, state_of, probes}
-use Rattle.candidate_rounds.proofs.Knowing.{probes-stay}
-use Rattle.candidate_rounds.proofs.Holding.{goal-undone, goal-state}
-use Rattle.candidate_rounds.proofs.ResolvedValues.{evaluator-changed, resolved-goal}
-use Rattle.candidate_rounds.proofs.Going.{further-goal}
-use Rattle.candidate_rounds.proofs.Holding.{holds-goal}
-use Rattle.candidate_rounds.specs.Inferences.{add}
-use Rattle.candidate_rounds.proofs.Between.{parts}
+use Rattle.candidate_eval.specs.Interface.Evaluators.{IsGoal, pending_of}
+use Rattle.candidate_eval.specs.Judges.States.{added}
+use Rattle.candidate_rounds.specs.Evaluators.Known.{Evaluator, state, state_of, probes}
+use Rattle.candidate_rounds.proofs.Snapshots.Knowing.{probes-stay}
+use Rattle.candidate_rounds.proofs.Snapshots.Holding.{goal-undone, goal-state}
+use Rattle.candidate_rounds.proofs.Snapshots.ResolvedValues.{evaluator-changed, resolved-goal}
+use Rattle.candidate_rounds.proofs.Evaluators.Going.{further-goal}
+use Rattle.candidate_rounds.proofs.Snapshots.Holding.{holds-goal}
+use Rattle.candidate_rounds.specs.Evaluators.Inferences.{add}
+use Rattle.candidate_rounds.proofs.Evaluators.Between.{parts}
 use Rattle.std.proofs.Common.{refl}
-use Rattle.candidate_rounds.proofs.Interface.{keeps-same}
-use Rattle.candidate_eval.specs.Evaluators.{Keeps}
-use Rattle.candidate_rounds.specs.Interface.{fixed}
+use Rattle.candidate_rounds.proofs.Evaluators.Interface.{keeps-same}
+use Rattle.candidate_eval.specs.Interface.Evaluators.{Keeps}
+use Rattle.candidate_rounds.specs.Evaluators.Interface.{fixed}
 use Rattle.candidate_rounds.proofs.rounds.evaluator.RoundsEvalCtxt.add_goal.Goals as goal
 
 pub invariant_of-self : goal.invariant_of-self

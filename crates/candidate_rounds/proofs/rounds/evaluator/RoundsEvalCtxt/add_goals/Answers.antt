@@ -1,17 +1,17 @@
 use Rattle.std.proofs.Common.{◌≡◌, All, OnOk, reverse, sym, subst}
-use Rattle.candidate_eval.specs.Evaluators.{IsGoal, with_goals_of}
-use Rattle.candidate_rounds.specs.Known.{Evaluator, state, state_of, probes}
-use Rattle.candidate_rounds.proofs.Knowing.{probes-stay, each-of-all}
-use Rattle.candidate_rounds.proofs.Holding.{goals-undone, goals-state}
-use Rattle.candidate_rounds.proofs.ResolvedValues.{evaluator-changed, resolved-goals}
-use Rattle.candidate_rounds.proofs.Going.{further-goals}
-use Rattle.candidate_rounds.proofs.Holding.{holds-goals}
-use Rattle.candidate_rounds.specs.Inferences.{add_all}
-use Rattle.candidate_rounds.proofs.Between.{parts}
+use Rattle.candidate_eval.specs.Interface.Evaluators.{IsGoal, with_goals_of}
+use Rattle.candidate_rounds.specs.Evaluators.Known.{Evaluator, state, state_of, probes}
+use Rattle.candidate_rounds.proofs.Snapshots.Knowing.{probes-stay, each-of-all}
+use Rattle.candidate_rounds.proofs.Snapshots.Holding.{goals-undone, goals-state}
+use Rattle.candidate_rounds.proofs.Snapshots.ResolvedValues.{evaluator-changed, resolved-goals}
+use Rattle.candidate_rounds.proofs.Evaluators.Going.{further-goals}
+use Rattle.candidate_rounds.proofs.Snapshots.Holding.{holds-goals}
+use Rattle.candidate_rounds.specs.Evaluators.Inferences.{add_all}
+use Rattle.candidate_rounds.proofs.Evaluators.Between.{parts}
 use Rattle.std.proofs.Common.{refl}
-use Rattle.candidate_rounds.proofs.Interface.{keeps-same}
-use Rattle.candidate_eval.specs.Evaluators.{Keeps}
-use Rattle.candidate_rounds.specs.Interface.{fixed}
+use Rattle.candidate_rounds.proofs.Evaluators.Interface.{keeps-same}
+use Rattle.candidate_eval.specs.Interface.Evaluators.{Keeps}
+use Rattle.candidate_rounds.specs.Evaluators.Interface.{fixed}
 use Rattle.candidate_rounds.proofs.rounds.evaluator.RoundsEvalCtxt.add_goals.Goals as goal
 
 pub invariant_of-self : goal.invariant_of-self

@@ -1,9 +1,9 @@
 use Rattle.std.proofs.Common.{◌≡◌, ◌∷◌, [], length, reverse, sym, ◌∙◌, ap, subst}
 use Rattle.std.proofs.lemmas.List.{reverse-append}
-use Rattle.candidate_rounds.specs.Known.{IsEvaluator}
-use Rattle.candidate_rounds.proofs.Holding.{holds-kept}
-use Rattle.candidate_rounds.proofs.ResolvedValues.{resolved-begun}
-use Rattle.candidate_rounds.proofs.Between.{of-parts, parts}
+use Rattle.candidate_rounds.specs.Evaluators.Known.{IsEvaluator}
+use Rattle.candidate_rounds.proofs.Snapshots.Holding.{holds-kept}
+use Rattle.candidate_rounds.proofs.Snapshots.ResolvedValues.{resolved-begun}
+use Rattle.candidate_rounds.proofs.Evaluators.Between.{of-parts, parts}
 use Rattle.candidate_rounds.proofs.rounds.evaluator.RoundsEvalCtxt.begin_probe.Goals as goal
 
 pub invariant_of-self-in-Kept : goal.invariant_of-self-in-Kept

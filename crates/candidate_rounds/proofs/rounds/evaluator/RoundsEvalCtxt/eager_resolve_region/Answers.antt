@@ -1,6 +1,6 @@
 use Rattle.std.proofs.Common.{◌∙◌, ap}
-use Rattle.candidate_ir.specs.Nodes.{kind_at}
-use Rattle.candidate_rounds.proofs.Values.{region-value}
+use Rattle.candidate_ir.specs.Syntax.Nodes.{kind_at}
+use Rattle.candidate_rounds.proofs.Resolution.Values.{region-value}
 use Rattle.candidate_rounds.proofs.rounds.evaluator.RoundsEvalCtxt.eager_resolve_region.Goals as goal
 
 pub region_of-requires : goal.region_of-requires

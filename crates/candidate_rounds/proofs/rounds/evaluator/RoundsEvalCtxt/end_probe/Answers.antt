@@ -1,11 +1,11 @@
 use Rattle.std.proofs.Common.{◌≡◌, ◌∷◌, [], length, reverse, sym, ◌∙◌, ap, subst}
 use Rattle.std.proofs.lemmas.List.{reverse-append}
-use Rattle.candidate_rounds.specs.Inferences.{back_to}
-use Rattle.candidate_rounds.specs.Known.{probes, state_of, states_at, AreMarks, IsConsistent}
-use Rattle.candidate_rounds.proofs.Probing.{others-stay, holds-back}
-use Rattle.candidate_rounds.proofs.ResolvedValues.{resolved-back}
-use Rattle.candidate_rounds.specs.Known.{IsEvaluator, StaysResolved}
-use Rattle.candidate_rounds.proofs.Between.{of-parts, parts}
+use Rattle.candidate_rounds.specs.Evaluators.Inferences.{back_to}
+use Rattle.candidate_rounds.specs.Evaluators.Known.{probes, state_of, states_at, AreMarks, IsConsistent}
+use Rattle.candidate_rounds.proofs.Snapshots.Probing.{others-stay, holds-back}
+use Rattle.candidate_rounds.proofs.Snapshots.ResolvedValues.{resolved-back}
+use Rattle.candidate_rounds.specs.Evaluators.Known.{IsEvaluator, StaysResolved}
+use Rattle.candidate_rounds.proofs.Evaluators.Between.{of-parts, parts}
 use Rattle.candidate_rounds.proofs.rounds.evaluator.RoundsEvalCtxt.end_probe.Goals as goal
 
 marks-were : (c : goal.After-new-2) → reverse c.self.inside.probes.items ≡ c.in-Some.changes ∷ reverse c.pop.new.self.items

@@ -1,14 +1,14 @@
 use Rattle.std.proofs.lemmas.Result.{on_ok_weaker}
-use Rattle.candidate_ir.specs.Trees.{none}
-use Rattle.candidate_ir.specs.Substitutions.{alone}
-use Rattle.candidate_ir.specs.Folds.{arg_tree}
-use Rattle.candidate_rounds.specs.Known.{state, listing}
-use Rattle.candidate_rounds.proofs.Interface.{eq-ok, eq-refused, eq-stopped, keeps-going}
-use Rattle.candidate_rounds.proofs.Following.{equation-follows}
-use Rattle.candidate_rounds.proofs.Between.{parts}
-use Rattle.candidate_rounds.proofs.Accounting.{listed-stop}
-use Rattle.candidate_rounds.proofs.Going.{goes-listing}
-use Rattle.candidate_rounds.specs.Stopping.{IsEquationStop}
+use Rattle.candidate_ir.specs.Syntax.Trees.{none}
+use Rattle.candidate_ir.specs.Unification.Substitutions.{alone}
+use Rattle.candidate_ir.specs.Instantiation.Folds.{arg_tree}
+use Rattle.candidate_rounds.specs.Evaluators.Known.{state, listing}
+use Rattle.candidate_rounds.proofs.Evaluators.Interface.{eq-ok, eq-refused, eq-stopped, keeps-going}
+use Rattle.candidate_rounds.proofs.Evaluators.Following.{equation-follows}
+use Rattle.candidate_rounds.proofs.Evaluators.Between.{parts}
+use Rattle.candidate_rounds.proofs.Stops.Accounting.{listed-stop}
+use Rattle.candidate_rounds.proofs.Evaluators.Going.{goes-listing}
+use Rattle.candidate_rounds.specs.Evaluators.Stopping.{IsEquationStop}
 use Rattle.candidate_rounds.proofs.rounds.evaluator.RoundsEvalCtxt.eq.Goals as goal
 
 pub returns-clause-kept : goal.returns-clause-kept

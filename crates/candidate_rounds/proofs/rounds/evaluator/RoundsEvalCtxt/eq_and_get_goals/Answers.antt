@@ -1,16 +1,16 @@
 use Rattle.std.proofs.Common.{Some, sym, ◌∙◌, ap}
 use Rattle.std.proofs.lemmas.Result.{err_from_is_err_and}
-use Rattle.candidate_ir.specs.Folds.{arg_tree}
-use Rattle.candidate_ir.specs.Substitutions.{alone}
-use Rattle.candidate_eval.specs.Evaluators.{pendings_of}
-use Rattle.candidate_rounds.specs.Known.{state, listing}
-use Rattle.candidate_rounds.proofs.Going.{goes-same}
-use Rattle.candidate_rounds.proofs.Interface.{equated-none, equated-some, keeps-going}
-use Rattle.candidate_rounds.proofs.Following.{equation-follows}
-use Rattle.candidate_rounds.proofs.Between.{parts}
-use Rattle.candidate_rounds.proofs.Accounting.{listed-error}
-use Rattle.candidate_rounds.proofs.Going.{goes-listing}
-use Rattle.candidate_rounds.specs.Stopping.{IsEquationStop}
+use Rattle.candidate_ir.specs.Instantiation.Folds.{arg_tree}
+use Rattle.candidate_ir.specs.Unification.Substitutions.{alone}
+use Rattle.candidate_eval.specs.Interface.Evaluators.{pendings_of}
+use Rattle.candidate_rounds.specs.Evaluators.Known.{state, listing}
+use Rattle.candidate_rounds.proofs.Evaluators.Going.{goes-same}
+use Rattle.candidate_rounds.proofs.Evaluators.Interface.{equated-none, equated-some, keeps-going}
+use Rattle.candidate_rounds.proofs.Evaluators.Following.{equation-follows}
+use Rattle.candidate_rounds.proofs.Evaluators.Between.{parts}
+use Rattle.candidate_rounds.proofs.Stops.Accounting.{listed-error}
+use Rattle.candidate_rounds.proofs.Evaluators.Going.{goes-listing}
+use Rattle.candidate_rounds.specs.Evaluators.Stopping.{IsEquationStop}
 use Rattle.candidate_rounds.proofs.rounds.evaluator.RoundsEvalCtxt.eq_and_get_goals.Goals as goal
 
 pub returns-in_err-equate-clause-kept : goal.returns-in_err-equate-clause-kept

@@ -1,18 +1,18 @@
 use Rattle.std.proofs.Common.{ap, ◌∙◌}
-use Rattle.candidate_rounds.specs.Known.{Evaluator, reads, state}
-use Rattle.candidate_rounds.proofs.Going.{goes-same, goes-trans}
-use Rattle.candidate_rounds.proofs.Trying.{resolved-again, taken-back}
-use Rattle.candidate_rounds.proofs.Going.{goes-reads}
-use Rattle.candidate_rounds.proofs.SettlingStops.{response-stop}
-use Rattle.candidate_rounds.proofs.Between.{parts}
-use Rattle.candidate_rounds.proofs.Exits.{few-back, marks-back}
-use Rattle.candidate_rounds.proofs.Interface.{keeps-going}
+use Rattle.candidate_rounds.specs.Evaluators.Known.{Evaluator, reads, state}
+use Rattle.candidate_rounds.proofs.Evaluators.Going.{goes-same, goes-trans}
+use Rattle.candidate_rounds.proofs.Obligations.Trying.{resolved-again, taken-back}
+use Rattle.candidate_rounds.proofs.Evaluators.Going.{goes-reads}
+use Rattle.candidate_rounds.proofs.Stops.SettlingStops.{response-stop}
+use Rattle.candidate_rounds.proofs.Evaluators.Between.{parts}
+use Rattle.candidate_rounds.proofs.Evaluators.Exits.{few-back, marks-back}
+use Rattle.candidate_rounds.proofs.Evaluators.Interface.{keeps-going}
 use Rattle.std.proofs.Common.{length}
 use Rattle.std.proofs.lemmas.Result.{err_from_is_err_and}
-use Rattle.candidate_rounds.proofs.Accounting.{read-error}
-use Rattle.candidate_rounds.specs.Stopping.{IsAnsweringStop, held}
-use Rattle.candidate_rounds.specs.Stopping.IsAnsweringStop.{of_settling}
-use Rattle.candidate_eval.proofs.Accounts.{by-stop}
+use Rattle.candidate_rounds.proofs.Stops.Accounting.{read-error}
+use Rattle.candidate_rounds.specs.Evaluators.Stopping.{IsAnsweringStop, held}
+use Rattle.candidate_rounds.specs.Evaluators.Stopping.IsAnsweringStop.{of_settling}
+use Rattle.candidate_eval.proofs.Interface.Accounts.{by-stop}
 use Rattle.candidate_eval.specs.declared.eval.refusal.NoSolutionOrStop.TheVariants as NoSolutionOrStop
 use Rattle.candidate_rounds.proofs.rounds.evaluator.RoundsEvalCtxt.evaluate_added_goals_and_make_canonical_response.Goals as goal
 

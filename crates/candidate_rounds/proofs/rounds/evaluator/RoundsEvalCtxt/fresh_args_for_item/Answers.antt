@@ -1,13 +1,13 @@
 use Rattle.std.proofs.Common.{ap, arith, inl, inr, length, subst, sym, ◌∙◌}
 use Rattle.std.proofs.lemmas.Result.{err_from_is_err_and}
 use Rattle.std.proofs.lemmas.List.{length-map}
-use Rattle.candidate_ir.specs.Context.{Context, Grows, parameter_kind}
-use Rattle.candidate_ir.specs.Words.{IsArgs, args_forest}
-use Rattle.candidate_rounds.specs.Known.{Evaluator, state, info_of}
-use Rattle.candidate_rounds.proofs.Leafing.{variables-are}
-use Rattle.candidate_rounds.proofs.Exits.{given-trans}
-use Rattle.candidate_rounds.proofs.Interface.{keeps-all, keeps-going, keeps-refl}
-use Rattle.candidate_rounds.proofs.Between.{parts}
+use Rattle.candidate_ir.specs.Declarations.Context.{Context, Grows, parameter_kind}
+use Rattle.candidate_ir.specs.Syntax.Words.{IsArgs, args_forest}
+use Rattle.candidate_rounds.specs.Evaluators.Known.{Evaluator, state, info_of}
+use Rattle.candidate_rounds.proofs.Resolution.Leafing.{variables-are}
+use Rattle.candidate_rounds.proofs.Evaluators.Exits.{given-trans}
+use Rattle.candidate_rounds.proofs.Evaluators.Interface.{keeps-all, keeps-going, keeps-refl}
+use Rattle.candidate_rounds.proofs.Evaluators.Between.{parts}
 use Rattle.candidate_rounds.proofs.rounds.evaluator.RoundsEvalCtxt.fresh_args_for_item.Goals as goal
 
 pub returns-clause-trees : goal.returns-clause-trees

@@ -1,15 +1,15 @@
 use Rattle.std.proofs.Common.{◌≡◌, Bool, [], refl, sym, ◌∙◌, ap, subst, if◌then◌else◌}
 use Rattle.std.specs.Prelude.{All, length}
 use Rattle.std.proofs.lemmas.List.Elements.{All-nil}
-use Rattle.candidate_ir.specs.References.{IsWellFormed}
-use Rattle.candidate_ir.specs.Trees.{TypeKind, is_type_kind}
-use Rattle.candidate_ir.specs.Words.{ty_tree, kind_tree}
-use Rattle.candidate_ir.proofs.Rows.{kind-of}
-use Rattle.candidate_eval.specs.Evaluators.{IsHiddenOpaque, alias_trees}
-use Rattle.candidate_rounds.specs.Known.{Evaluator, state}
-use Rattle.candidate_rounds.proofs.HiddenOpaques.{all-hidden}
-use Rattle.candidate_rounds.proofs.Between.{parts}
-use Rattle.candidate_rounds.proofs.Values.{general-read}
+use Rattle.candidate_ir.specs.Declarations.References.{IsWellFormed}
+use Rattle.candidate_ir.specs.Syntax.Trees.{TypeKind, is_type_kind}
+use Rattle.candidate_ir.specs.Syntax.Words.{ty_tree, kind_tree}
+use Rattle.candidate_ir.proofs.Syntax.Rows.{kind-of}
+use Rattle.candidate_eval.specs.Interface.Evaluators.{IsHiddenOpaque, alias_trees}
+use Rattle.candidate_rounds.specs.Evaluators.Known.{Evaluator, state}
+use Rattle.candidate_rounds.proofs.Evaluators.HiddenOpaques.{all-hidden}
+use Rattle.candidate_rounds.proofs.Evaluators.Between.{parts}
+use Rattle.candidate_rounds.proofs.Resolution.Values.{general-read}
 use Rattle.candidate_rounds.proofs.rounds.evaluator.RoundsEvalCtxt.opaques_with_sub_unified_hidden_type.Goals as goal
 
 pub returns-then-not-is_ty_var-clause-ok : goal.returns-then-not-is_ty_var-clause-ok

@@ -1,12 +1,12 @@
 use Rattle.std.proofs.Common.{ap, arith, subst, sym, ◌∙◌}
-use Rattle.candidate_ir.specs.Context.{Context}
-use Rattle.candidate_ir.specs.Words.{IsArgs, args_forest}
-use Rattle.candidate_eval.specs.States.{placeholders}
-use Rattle.candidate_eval.specs.Evaluators.{kinds_listed}
-use Rattle.candidate_rounds.specs.Known.{Evaluator}
-use Rattle.candidate_rounds.proofs.Leafing.{placeholders-are}
-use Rattle.candidate_rounds.proofs.Going.{goes-refl, goes-trans}
-use Rattle.candidate_rounds.proofs.Interface.{keeps-going, keeps-refl}
+use Rattle.candidate_ir.specs.Declarations.Context.{Context}
+use Rattle.candidate_ir.specs.Syntax.Words.{IsArgs, args_forest}
+use Rattle.candidate_eval.specs.Judges.States.{placeholders}
+use Rattle.candidate_eval.specs.Interface.Evaluators.{kinds_listed}
+use Rattle.candidate_rounds.specs.Evaluators.Known.{Evaluator}
+use Rattle.candidate_rounds.proofs.Resolution.Leafing.{placeholders-are}
+use Rattle.candidate_rounds.proofs.Evaluators.Going.{goes-refl, goes-trans}
+use Rattle.candidate_rounds.proofs.Evaluators.Interface.{keeps-going, keeps-refl}
 use Rattle.candidate_rounds.proofs.rounds.evaluator.RoundsEvalCtxt.placeholder_args.Goals as goal
 
 pub returns-in_ok-enter-clause-trees : goal.returns-in_ok-enter-clause-trees

@@ -1,14 +1,14 @@
 use Rattle.std.proofs.Common.{◌≡◌, length, reverse, IfOk, subst}
 use Rattle.std.specs.Prelude.{IfErr}
-use Rattle.candidate_ir.specs.Folding.{IsSubstStop}
-use Rattle.candidate_ir.specs.Substitutions.{alone}
-use Rattle.candidate_ir.specs.Words.{clause_tree}
-use Rattle.candidate_eval.specs.States.{resolved_tree}
-use Rattle.candidate_rounds.specs.Known.{Evaluator, state}
-use Rattle.candidate_rounds.proofs.Between.{parts}
-use Rattle.candidate_rounds.proofs.Holding.{kinds-now}
-use Rattle.candidate_rounds.proofs.Interface.{made-goes, made-kept, made-same}
-use Rattle.candidate_rounds.proofs.ResolvedValues.{evaluator-grown}
+use Rattle.candidate_ir.specs.Instantiation.Folding.{IsSubstStop}
+use Rattle.candidate_ir.specs.Unification.Substitutions.{alone}
+use Rattle.candidate_ir.specs.Syntax.Words.{clause_tree}
+use Rattle.candidate_eval.specs.Judges.States.{resolved_tree}
+use Rattle.candidate_rounds.specs.Evaluators.Known.{Evaluator, state}
+use Rattle.candidate_rounds.proofs.Evaluators.Between.{parts}
+use Rattle.candidate_rounds.proofs.Snapshots.Holding.{kinds-now}
+use Rattle.candidate_rounds.proofs.Evaluators.Interface.{made-goes, made-kept, made-same}
+use Rattle.candidate_rounds.proofs.Snapshots.ResolvedValues.{evaluator-grown}
 use Rattle.candidate_rounds.proofs.rounds.evaluator.RoundsEvalCtxt.resolve_clause_if_possible.Goals as goal
 
 pub resolved-requires-clause-known : goal.resolved-requires-clause-known

@@ -1,11 +1,11 @@
-use Rattle.candidate_rounds.proofs.Normals.{type-normalized}
-use Rattle.candidate_rounds.proofs.Between.{parts}
+use Rattle.candidate_rounds.proofs.Resolution.Normals.{type-normalized}
+use Rattle.candidate_rounds.proofs.Evaluators.Between.{parts}
 use Rattle.std.proofs.Common.{◌∙◌, ap}
-use Rattle.candidate_ir.specs.Trees.{none}
-use Rattle.candidate_ir.specs.Words.{ty_tree}
-use Rattle.rounds_judge.specs.Normalizing.{normalized}
-use Rattle.rounds_judge.proofs.WellListed.{all-listed}
-use Rattle.candidate_rounds.specs.Known.{listing, state}
+use Rattle.candidate_ir.specs.Syntax.Trees.{none}
+use Rattle.candidate_ir.specs.Syntax.Words.{ty_tree}
+use Rattle.rounds_judge.specs.Aliases.Normalizing.{normalized}
+use Rattle.rounds_judge.proofs.Aliases.WellListed.{all-listed}
+use Rattle.candidate_rounds.specs.Evaluators.Known.{listing, state}
 use Rattle.std.proofs.lemmas.Result.{err_from_is_err_and}
 use Rattle.candidate_rounds.proofs.rounds.evaluator.RoundsEvalCtxt.structurally_normalize_ty.Goals as goal
 

@@ -1,20 +1,20 @@
-use Rattle.candidate_rounds.proofs.Going.{goes-same}
-use Rattle.candidate_rounds.proofs.Trying.{resolved-again, taken-back}
-use Rattle.candidate_rounds.proofs.Going.{goes-reads}
-use Rattle.candidate_rounds.proofs.Following.{settling-follows}
-use Rattle.candidate_rounds.proofs.Between.{parts}
-use Rattle.candidate_rounds.proofs.Exits.{few-back, marks-back}
-use Rattle.candidate_rounds.proofs.Interface.{keeps-going}
+use Rattle.candidate_rounds.proofs.Evaluators.Going.{goes-same}
+use Rattle.candidate_rounds.proofs.Obligations.Trying.{resolved-again, taken-back}
+use Rattle.candidate_rounds.proofs.Evaluators.Going.{goes-reads}
+use Rattle.candidate_rounds.proofs.Evaluators.Following.{settling-follows}
+use Rattle.candidate_rounds.proofs.Evaluators.Between.{parts}
+use Rattle.candidate_rounds.proofs.Evaluators.Exits.{few-back, marks-back}
+use Rattle.candidate_rounds.proofs.Evaluators.Interface.{keeps-going}
 use Rattle.std.proofs.Common.{Option, Some, ◌∙◌, ap, sym, subst}
-use Rattle.rounds_judge.specs.TableSettling.{settled_with}
-use Rattle.rounds_judge.proofs.WellListed.{all-listed}
-use Rattle.candidate_rounds.specs.Known.{listing, reading, reads, state}
-use Rattle.candidate_eval.specs.States.{State, next}
-use Rattle.rounds_judge.specs.Settling.{certainty_of}
-use Rattle.candidate_rounds.specs.Known.{Evaluator}
+use Rattle.rounds_judge.specs.Table.TableSettling.{settled_with}
+use Rattle.rounds_judge.proofs.Aliases.WellListed.{all-listed}
+use Rattle.candidate_rounds.specs.Evaluators.Known.{listing, reading, reads, state}
+use Rattle.candidate_eval.specs.Judges.States.{State, next}
+use Rattle.rounds_judge.specs.Obligations.Settling.{certainty_of}
+use Rattle.candidate_rounds.specs.Evaluators.Known.{Evaluator}
 use Rattle.std.proofs.Common.{length}
-use Rattle.candidate_rounds.proofs.Accounting.{read-error}
-use Rattle.candidate_rounds.specs.Stopping.{Held, IsSettlingStop, held}
+use Rattle.candidate_rounds.proofs.Stops.Accounting.{read-error}
+use Rattle.candidate_rounds.specs.Evaluators.Stopping.{Held, IsSettlingStop, held}
 use Rattle.candidate_rounds.proofs.rounds.evaluator.RoundsEvalCtxt.try_evaluate_added_goals.Goals as goal
 
 pub undo_to-requires-clause-resolved : goal.undo_to-requires-clause-resolved

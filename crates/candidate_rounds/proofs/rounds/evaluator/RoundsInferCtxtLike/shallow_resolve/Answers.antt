@@ -1,6 +1,6 @@
 use Rattle.std.proofs.Common.{reverse}
-use Rattle.candidate_rounds.proofs.Between.{parts}
-use Rattle.candidate_rounds.proofs.Holding.{kinds-now}
+use Rattle.candidate_rounds.proofs.Evaluators.Between.{parts}
+use Rattle.candidate_rounds.proofs.Snapshots.Holding.{kinds-now}
 use Rattle.candidate_rounds.proofs.rounds.evaluator.RoundsInferCtxtLike.shallow_resolve.Goals as goal
 
 pub resolved_root-requires-clause-known : goal.resolved_root-requires-clause-known

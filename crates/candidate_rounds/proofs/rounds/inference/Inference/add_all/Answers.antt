@@ -1,4 +1,4 @@
-use Rattle.candidate_rounds.proofs.Undoing.{one-more-add}
+use Rattle.candidate_rounds.proofs.Snapshots.Undoing.{one-more-add}
 use Rattle.candidate_rounds.proofs.rounds.inference.Inference.add_all.Goals as goal
 
 pub loop-i-preserved : goal.loop-i-preserved

@@ -1,4 +1,4 @@
-use Rattle.candidate_rounds.proofs.Undoing.{AddsSoFar}
+use Rattle.candidate_rounds.proofs.Snapshots.Undoing.{AddsSoFar}
 use Rattle.candidate_rounds.proofs.rounds.inference.Inference.add_all.Given as goal
 
 abbrev pub invariant-loop-i : goal.invariant-loop-i

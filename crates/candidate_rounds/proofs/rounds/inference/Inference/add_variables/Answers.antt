@@ -1,7 +1,7 @@
 use Rattle.std.proofs.Common.{false, ◌∙◌, ap}
-use Rattle.candidate_rounds.specs.Inferences.{with_variable}
-use Rattle.candidate_rounds.proofs.Rooms.{out-of-room}
-use Rattle.candidate_rounds.proofs.Undoing.{one-more-variable}
+use Rattle.candidate_rounds.specs.Evaluators.Inferences.{with_variable}
+use Rattle.candidate_rounds.proofs.Stops.Rooms.{out-of-room}
+use Rattle.candidate_rounds.proofs.Snapshots.Undoing.{one-more-variable}
 use Rattle.candidate_rounds.proofs.rounds.inference.Inference.add_variables.Goals as goal
 
 pub loop-i-preserved : goal.loop-i-preserved

@@ -1,5 +1,5 @@
 use Rattle.std.proofs.Common.{◌≡◌, map, take}
-use Rattle.candidate_rounds.specs.Starting.{root_variable}
+use Rattle.candidate_rounds.specs.Calls.Starting.{root_variable}
 use Rattle.candidate_rounds.proofs.rounds.inference.Inference.at.Given as goal
 
 abbrev pub invariant-loop-i : goal.invariant-loop-i

@@ -1,6 +1,6 @@
 use Rattle.std.proofs.Common.{◌<◌, ◌≤◌, length, refl, sym, arith}
-use Rattle.candidate_rounds.specs.Inferences.{with_value}
-use Rattle.candidate_rounds.proofs.Undoing.{set-with_entry, with_entry-none}
+use Rattle.candidate_rounds.specs.Evaluators.Inferences.{with_value}
+use Rattle.candidate_rounds.proofs.Snapshots.Undoing.{set-with_entry, with_entry-none}
 use Rattle.candidate_rounds.proofs.rounds.inference.Inference.set_value.Goals as goal
 
 pub returns-then-number-len : goal.returns-then-number-len

@@ -1,5 +1,5 @@
 use Rattle.std.proofs.Common.{refl, sym}
-use Rattle.candidate_rounds.proofs.Undoing.{popped}
+use Rattle.candidate_rounds.proofs.Snapshots.Undoing.{popped}
 use Rattle.candidate_rounds.proofs.rounds.inference.Inference.undo.Goals as goal
 
 pub returns-in-Variable : goal.returns-in-Variable

@@ -1,7 +1,7 @@
 use Rattle.std.proofs.Common.{◌≡◌, ◌∷◌, [], ◌≤◌, length, sym, ◌∙◌, ap, arith}
 use Rattle.std.proofs.lemmas.List.{length-append}
-use Rattle.candidate_rounds.specs.Inferences.{Inference, noted, before, back_to}
-use Rattle.candidate_rounds.proofs.Undoing.{back-before}
+use Rattle.candidate_rounds.specs.Evaluators.Inferences.{Inference, noted, before, back_to}
+use Rattle.candidate_rounds.proofs.Snapshots.Undoing.{back-before}
 use Rattle.candidate_rounds.proofs.rounds.inference.Inference.undo_to.Goals as goal
 
 pub loop-self-preserved-in-Some : goal.loop-self-preserved-in-Some

@@ -1,5 +1,5 @@
 use Rattle.std.proofs.Common.{◌≡◌, length}
-use Rattle.candidate_rounds.specs.Inferences.{back_to}
+use Rattle.candidate_rounds.specs.Evaluators.Inferences.{back_to}
 use Rattle.candidate_rounds.proofs.rounds.inference.Inference.undo_to.Given as goal
 
 abbrev pub invariant-loop-self : goal.invariant-loop-self

@@ -1,4 +1,4 @@
-use Rattle.candidate_rounds.proofs.Alone.{region-is-not}
+use Rattle.candidate_rounds.proofs.Resolution.Alone.{region-is-not}
 use Rattle.candidate_rounds.proofs.rounds.resolving.Lone.of.Goals as goal
 
 pub returns-in-Region : goal.returns-in-Region

@@ -1,7 +1,7 @@
 use Rattle.std.proofs.lemmas.Result.{IfErr-weaker}
-use Rattle.candidate_eval.proofs.Accounts.{by-stop, reaches}
-use Rattle.candidate_assembly.proofs.Keeping.{itself-here}
-use Rattle.candidate_assembly.proofs.Stepping.{evaluator-own}
+use Rattle.candidate_eval.proofs.Interface.Accounts.{by-stop, reaches}
+use Rattle.candidate_assembly.proofs.Calls.Keeping.{itself-here}
+use Rattle.candidate_assembly.proofs.Calls.Stepping.{evaluator-own}
 use Rattle.candidate_assembly.proofs.assembly.listing.fn.consider_impl_and_respond.consider_impl_candidate.Goals as goal
 
 pub returns : goal.returns

@@ -1,0 +1,4 @@
+pub mod Chains
+pub mod BoundRules
+pub mod AliasChains
+pub mod AliasWalks

@@ -1,0 +1,5 @@
+pub mod Causes
+pub mod Stepping
+pub mod Considering
+pub mod Keeping
+pub mod ToldSome

@@ -1,0 +1,51 @@
+-- Why calls stopped, from one call to the next.
+use Rattle.std.proofs.Common.{◌≡◌, List, Result, Ok, Err, IfOk, IfErr, ap, ◌∙◌}
+use Rattle.candidate_ir.specs.declared.ir.stop.Stop.{Stop}
+use Rattle.candidate_ir.specs.Declarations.Context.{Context}
+use Rattle.candidate_eval.specs.declared.eval.refusal.NoSolutionOrStop.{NoSolutionOrStop}
+use Rattle.candidate_eval.specs.declared.eval.refusal.NoSolutionOrStop.TheVariants as N
+use Rattle.candidate_eval.specs.Interface.Accounts.{Account, Question, Reaches, StopsSomehow, by_stop}
+use Rattle.candidate_eval.specs.Interface.Accounts.StopsSomehow.{asking, making}
+use Rattle.candidate_eval.specs.Interface.Evaluators.{IsMakingStop, Keeps}
+use Rattle.candidate_eval.specs.Judges.States.{State}
+use Rattle.candidate_eval.proofs.Interface.Accounts.{accounted-here, by-stop, reaches, somehow-later}
+use Rattle.candidate_assembly.specs.Answers.Telling.{StopsOfItself}
+
+module _ {E X : Type 0} {fixed : E → X} {context : E → Context} {state : E → State} {stops : Account E} where
+  pub made-here : {a : E} {s : Stop} → IsMakingStop s → StopsOfItself fixed context state stops a s
+  made-here m = λ own. making m
+
+  pub asked-here : {probes : E → List State} {a b : E} {s : Stop} (q : Question) → Keeps fixed probes context a b → stops b (state a) q s → StopsOfItself fixed context state stops a s
+  asked-here q k x = λ own. asking (accounted-here q (reaches k) x)
+
+  pub asked-somehow : {probes : E → List State} {a b : E} {s : Stop} (q : Question) → Keeps fixed probes context a b → stops b (state a) q s → StopsSomehow fixed context state stops a s
+  asked-somehow q k x = asking (accounted-here q (reaches k) x)
+
+  pub somehow-here : {a : E} {s : Stop} → StopsSomehow fixed context state stops a s → StopsOfItself fixed context state stops a s
+  somehow-here x = λ own. x
+
+  pub later : {a b : E} {s : Stop} → Reaches fixed context a b → StopsOfItself fixed context state stops b s → StopsOfItself fixed context state stops a s
+  later r f = λ own. somehow-later r (f own)
+
+-- what is said of the stop that a call answers
+pub caused : {A : Type 0} {P Q : Stop → Type 0} (r : Result A NoSolutionOrStop) → ((s : Stop) → P s → Q s) → IfErr r (by_stop P) → IfErr r (by_stop Q)
+caused (Ok x) f h = tt
+caused (Err e) f h = by-stop e f h
+
+-- the stop that a call answers by a `?`
+pub answered-stop : {A : Type 0} (r : Result A NoSolutionOrStop) (s : Stop) → (y : NoSolutionOrStop) × (r ≡ Err y) × (y ≡ N.Stop s) → r ≡ Err (N.Stop s)
+answered-stop r s p = p.1 ∙ ap Err p.2
+
+-- What holds of an answer, by what held of it.
+
+pub so-ok : {A E : Type 0} (r : Result A E) {P Q : A → Type 0} → ((a : A) → P a → Q a) → IfOk r P → IfOk r Q
+so-ok (Ok a) f h = f a h
+so-ok (Err e) f h = tt
+
+pub so-err : {A E : Type 0} (r : Result A E) {P Q : E → Type 0} → ((e : E) → P e → Q e) → IfErr r P → IfErr r Q
+so-err (Ok a) f h = tt
+so-err (Err e) f h = f e h
+
+-- the error that a call answers by a `?`
+pub answered-error : {A : Type 0} (r : Result A NoSolutionOrStop) (e : NoSolutionOrStop) → (y : NoSolutionOrStop) × (r ≡ Err y) × (y ≡ e) → r ≡ Err e
+answered-error r e p = p.1 ∙ ap Err p.2

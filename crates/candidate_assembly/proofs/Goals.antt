@@ -1,0 +1,5 @@
+pub mod SelfTypes
+pub mod TraitClauses
+pub mod Clauses
+pub mod Standing
+pub mod ResolvedTypes

@@ -1,0 +1,7 @@
+pub mod Listing
+pub mod AssembledSteps
+pub mod Unknowing
+pub mod AssembledBack
+pub mod AssembledLists
+pub mod KnownLists
+pub mod OneTrivial

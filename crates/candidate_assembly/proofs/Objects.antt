@@ -1,0 +1,10 @@
+pub mod ObjectReferences
+pub mod ObjectJudging
+pub mod ObjectLists
+pub mod ObjectClauses
+pub mod ObjectPlain
+pub mod ObjectFollowing
+pub mod BoundClauses
+pub mod NamesWithin
+pub mod ElaboratedBelow
+pub mod Elaborated

@@ -1,0 +1,9 @@
+pub mod ResolvedViews
+pub mod ImpliedFree
+pub mod CoherentRefusals
+pub mod KnownInstances
+pub mod KnownFresh
+pub mod KnownHeaders
+pub mod KnownSolutions
+pub mod PlainLeaves
+pub mod KnownImpls

@@ -1,0 +1,144 @@
+-- What is read of an impl, where the context has grown, and the steps of its rule.
+use Rattle.std.proofs.Common.{◌≡◌, false, ap, refl, sym, subst, ◌∙◌, List, [], ◌∷◌, map, Option, Some, None, Result, Ok, Err, IfErr, slice_index_or}
+use Rattle.std.specs.Prelude.{IfSome}
+use Rattle.candidate_ir.specs.declared.decl.contents.ImplId.{ImplId}
+use Rattle.candidate_ir.specs.declared.ir.kinds.Args.{Args}
+use Rattle.candidate_ir.specs.declared.ir.kinds.Clause.{Clause}
+use Rattle.candidate_ir.specs.Declarations.Context.{Context, Grows, parameter_kind}
+use Rattle.candidate_ir.specs.Declarations.Contents.{Impl}
+use Rattle.candidate_ir.specs.Declarations.Declaring.{impl_at}
+use Rattle.candidate_ir.specs.Instantiation.Folding.{lacks_argument}
+use Rattle.candidate_ir.specs.Declarations.Lookups.{maybe}
+use Rattle.candidate_ir.specs.Instantiation.Owned.{ClausesAreOwned, is_unsolved}
+use Rattle.candidate_ir.specs.Syntax.Trees.{Forest, Tree, tree_holds}
+use Rattle.candidate_ir.specs.Validity.WellFormed.{ImplIsGiven}
+use Rattle.candidate_ir.specs.Syntax.Words.{IsArgs, args_forest, clause_tree}
+use Rattle.candidate_ir.specs.Declarations.Worlds.{kinds_of}
+use Rattle.candidate_ir.proofs.Instantiation.Joining.{clause-kept}
+use Rattle.candidate_ir.proofs.Growth.Kept.{args-kept}
+use Rattle.candidate_eval.specs.declared.eval.refusal.NoSolutionOrStop.{NoSolutionOrStop}
+use Rattle.candidate_eval.specs.declared.eval.response.Candidate.{Candidate}
+use Rattle.candidate_eval.specs.declared.eval.response.CanonicalResponse.{CanonicalResponse}
+use Rattle.candidate_eval.specs.declared.eval.source.CandidateSource.{CandidateSource}
+use Rattle.candidate_eval.specs.Interface.Accounts.{by_stop}
+use Rattle.candidate_eval.specs.Derivations.Judging.{Place, Reached, Judged, Gives, Stopped, run, start}
+use Rattle.candidate_eval.specs.Interface.Knowing.{own_stop}
+use Rattle.candidate_eval.specs.Outcomes.ResponseTrees.{IsResponse, response_of}
+use Rattle.candidate_eval.specs.Outcomes.Responses.{Response}
+use Rattle.candidate_eval.specs.Derivations.Rules.{Step, fresh}
+use Rattle.candidate_eval.specs.Judges.States.{Env, Judge, State, fresh_variables, with_fresh_variables}
+use Rattle.candidate_eval.proofs.Outcomes.Pairs.{clause_there}
+use Rattle.candidate_eval.proofs.Outcomes.Responding.{clauses-kept}
+use Rattle.candidate_assembly.specs.declared.trait_goals.impls.Declared.{Declared}
+use Rattle.candidate_assembly.specs.Rules.Impls.{IsDeclared, IsNamed, declared_steps, impl_kinds, steps_at, steps_of}
+use Rattle.candidate_assembly.specs.Goals.Kinds.{steps_judged}
+use Rattle.candidate_assembly.specs.Answers.Telling.{Told, ToldAs, standing}
+use Rattle.candidate_assembly.proofs.Calls.Stepping.{fresh-kinds}
+
+-- Clauses
+
+pub owned-kept : (old new : Context) (args : Forest) (xs : List Clause) → Grows old new → ClausesAreOwned old.trees args xs → ClausesAreOwned new.trees args xs
+owned-kept old new args xs g h = record {
+  fit = (clauses-kept old new xs g h.fit).0;
+  have = λ k d l. ap (tree_holds (lacks_argument args)) (clause-kept old new (slice_index_or xs k d) g (clause_there old.trees xs d k h.fit l)).1 ∙ h.have k d l;
+  closed = λ k d l. ap (tree_holds is_unsolved) (clause-kept old new (slice_index_or xs k d) g (clause_there old.trees xs d k h.fit l)).1 ∙ h.closed k d l;
+}
+
+-- the same, by the numbers of the arguments
+pub owned-still : (old new : Context) (a : Args) (xs : List Clause) → Grows old new → IsArgs old.trees a → ClausesAreOwned old.trees (args_forest old.trees a) xs
+    → ClausesAreOwned new.trees (args_forest new.trees a) xs
+owned-still old new a xs g i h = rw (args-kept old new a g i).1 (owned-kept old new (args_forest old.trees a) xs g h)
+
+-- The impl of a number
+
+pub impl-same : (old new : Context) (n : ImplId) → Grows old new → impl_at new n ≡ impl_at old n
+impl-same old new n g = ap (λ (c : Context). impl_at c n) g.same
+
+-- fresh variables are of the kinds of its parameters, as the grown context declares them
+pub kinds-fit : (old new : Context) (n : ImplId) (S : State) (args : Forest) → Grows old new → args ≡ fresh_variables S (impl_kinds old n) → kinds_of args ≡ impl_kinds new n
+kinds-fit old new n S args g e =
+    ap kinds_of e
+    ∙ (fresh-kinds S (maybe [] (λ (i : Impl). i.parameters) (impl_at old n)) ∙ ap (λ (o : Option Impl). map parameter_kind (maybe [] (λ (i : Impl). i.parameters) o)) (sym (impl-same old new n g)))
+
+-- Runs of the steps of its rule
+
+-- after the variables
+pub impl-run : (J : Judge) (e : Env) (S T : State) (c : Context) (a ls : Forest) (n : ImplId) (i : Impl) (r : Reached) → impl_at c n ≡ Some i → T ≡ with_fresh_variables S (impl_kinds c n)
+    → ls ≡ fresh_variables S (impl_kinds c n)
+    → run J e (standing T ls) (declared_steps a (args_forest c.trees i.trait_ref.args) (map (clause_tree c.trees) i.wheres) (map (clause_tree c.trees) i.super_outlives)) ≡ r
+    → run J e (start S) (steps_at c a n) ≡ r
+impl-run J e S T c a ls n i r is t l h =
+    let rest = declared_steps a (args_forest c.trees i.trait_ref.args) (map (clause_tree c.trees) i.wheres) (map (clause_tree c.trees) i.super_outlives) in
+    let same = t ∙ ap (λ (o : Option Impl). with_fresh_variables S (map parameter_kind (maybe [] (λ (x : Impl). x.parameters) o))) is in
+    let those = l ∙ ap (λ (o : Option Impl). fresh_variables S (map parameter_kind (maybe [] (λ (x : Impl). x.parameters) o))) is in
+    ap (λ (o : Option Impl). run J e (start S) (maybe [] (steps_of c.trees a) o)) is
+    ∙ (ap (λ U. run J e (standing U (fresh_variables S (map parameter_kind i.parameters))) rest) (sym same)
+    ∙ (ap (λ fs. run J e (standing T fs) rest) (sym those) ∙ h))
+
+-- the same run in other words
+pub moved-run : {X : Type 0} (judge : X → Judge) (f h : X) (e d : Env) (p : Place) (a b header : Forest) (ws os : List Tree) (r : Reached) → h ≡ f → d ≡ e → b ≡ a
+    → run (judge h) d p (declared_steps b header ws os) ≡ r → run (judge f) e p (declared_steps a header ws os) ≡ r
+moved-run judge f h e d p a b header ws os r x y z k =
+    ap (λ q. run (judge q) e p (declared_steps a header ws os)) (sym x) ∙ (ap (λ q. run (judge h) q p (declared_steps a header ws os)) (sym y) ∙ (ap (λ q. run (judge h) d p (declared_steps q header ws os)) (sym z) ∙ k))
+
+-- by what is read of it later
+module _ (old new : Context) (n : ImplId) (args : Forest) (d : Declared) (g : Grows old new) (is : IsDeclared new n args d) where
+  pub declared-run : IfSome (impl_at old n) (ImplIsGiven old) → (J : Judge) (e : Env) (S T : State) (a : Forest) (ws os : List Clause) (r : Reached) → ws ≡ d.wheres.items → os ≡ d.super_outlives.items
+      → T ≡ with_fresh_variables S (impl_kinds old n) → args ≡ fresh_variables S (impl_kinds old n)
+      → run J e (standing T args) (declared_steps a (args_forest new.trees d.header) (map (clause_tree new.trees) ws) (map (clause_tree new.trees) os)) ≡ r
+      → run J e (start S) (steps_at old a n) ≡ r
+  declared-run given J e S T a ws os r w o t l h =
+      let here : impl_at old n ≡ Some is.by = sym (impl-same old new n g) ∙ is.is in
+      let early : ImplIsGiven old is.by = subst (λ (x : Option Impl). IfSome x (ImplIsGiven old)) here given in
+      let header : args_forest old.trees is.by.trait_ref.args ≡ args_forest new.trees d.header
+      = sym (args-kept old new is.by.trait_ref.args g early.header.list).1 ∙ ap (args_forest new.trees) (sym is.header) in
+      let wheres : map (clause_tree old.trees) is.by.wheres ≡ map (clause_tree new.trees) ws
+      = sym (clauses-kept old new is.by.wheres g early.wheres).1 ∙ ap (map (clause_tree new.trees)) (sym (w ∙ is.wheres)) in
+      let outlives : map (clause_tree old.trees) is.by.super_outlives ≡ map (clause_tree new.trees) os
+      = sym (clauses-kept old new is.by.super_outlives g early.super_outlives).1 ∙ ap (map (clause_tree new.trees)) (sym (o ∙ is.super_outlives)) in
+      impl-run J e S T old a args n is.by r here t l
+      (ap (λ x. run J e (standing T args) (declared_steps a x (map (clause_tree old.trees) is.by.wheres) (map (clause_tree old.trees) is.by.super_outlives))) header
+      ∙ (ap (λ (x : List Tree). run J e (standing T args) (declared_steps a (args_forest new.trees d.header) x (map (clause_tree old.trees) is.by.super_outlives))) wheres
+      ∙ (ap (λ (x : List Tree). run J e (standing T args) (declared_steps a (args_forest new.trees d.header) (map (clause_tree new.trees) ws) x)) outlives ∙ h)))
+
+-- The steps stay where the context grows.
+pub steps-kept : (old new : Context) (a : Forest) (n : ImplId) → Grows old new → IfSome (impl_at old n) (ImplIsGiven old) → steps_at new a n ≡ steps_at old a n
+steps-kept old new a n g given = ap (maybe [] (steps_of new.trees a)) (impl-same old new n g) ∙ of (impl_at old n) given
+  where
+    of : (o : Option Impl) → IfSome o (ImplIsGiven old) → maybe [] (steps_of new.trees a) o ≡ maybe [] (steps_of old.trees a) o
+    of None t = refl
+    of (Some i) t =
+        let with : Forest → List Tree → List Tree → List Step = λ h ws os. fresh (map parameter_kind i.parameters) ∷ declared_steps a h ws os in
+        ap (λ x. with x (map (clause_tree new.trees) i.wheres) (map (clause_tree new.trees) i.super_outlives)) (args-kept old new i.trait_ref.args g t.header.list).1
+        ∙ (ap (λ (x : List Tree). with (args_forest old.trees i.trait_ref.args) x (map (clause_tree new.trees) i.super_outlives)) (clauses-kept old new i.wheres g t.wheres).1
+        ∙ ap (λ (x : List Tree). with (args_forest old.trees i.trait_ref.args) (map (clause_tree old.trees) i.wheres) x) (clauses-kept old new i.super_outlives g t.super_outlives).1)
+
+-- What is judged of them is the same in other words.
+pub judged-moved : {X : Type 0} (judge : X → Judge) (f h : X) (e d : Env) (S T : State) (s : CandidateSource) (xs ys : List Step) (k : State → Option Response) → h ≡ f → d ≡ e → T ≡ S → ys ≡ xs
+    → steps_judged (judge h) d T s ys k ≡ steps_judged (judge f) e S s xs k
+judged-moved judge f h e d S T s xs ys k p q r t =
+    ap (λ z. steps_judged (judge z) d T s ys k) p ∙ (ap (λ z. steps_judged (judge f) z T s ys k) q ∙ (ap (λ z. steps_judged (judge f) e z s ys k) r ∙ ap (λ z. steps_judged (judge f) e S s z k) t))
+
+-- Answers that get their source.
+
+pub named-told : (ts : List Tree) (s : CandidateSource) (r : Result CanonicalResponse NoSolutionOrStop) (x : Result Candidate NoSolutionOrStop) (j : Judged) → ToldAs ts s r j → IsNamed s r x → Told ts x j
+named-told ts s (Ok v) (Ok c) j h n = record {
+  ok = h.ok ∙ (ap (λ y. Gives (record { source = y; result = response_of ts v })) (sym n.0) ∙ ap (λ y. Gives (record { source = c.source; result = response_of ts y })) (sym n.1));
+  fits = subst (IsResponse ts) (sym n.1) h.fits;
+  refused = tt;
+  stopped = tt;
+}
+named-told ts s (Err e) (Err f) j h n = record {
+  ok = tt;
+  fits = tt;
+  refused = λ q. h.refused (sym n ∙ q);
+  stopped = subst (by_stop (λ z. own_stop z ≡ false → j ≡ Stopped z)) (sym n) h.stopped;
+}
+named-told ts s (Ok v) (Err f) j h n = absurd n
+named-told ts s (Err e) (Ok c) j h n = absurd n
+
+pub named-error : (P : NoSolutionOrStop → Type 0) (s : CandidateSource) (r : Result CanonicalResponse NoSolutionOrStop) (x : Result Candidate NoSolutionOrStop) → IsNamed s r x → IfErr r P → IfErr x P
+named-error P s (Ok v) (Ok c) n h = tt
+named-error P s (Err e) (Err f) n h = subst P (sym n) h
+named-error P s (Ok v) (Err f) n h = absurd n
+named-error P s (Err e) (Ok c) n h = absurd n

@@ -1,0 +1,13 @@
+pub mod EqualTypes
+pub mod Elements
+pub mod UnsizingClauses
+pub mod Tails
+pub mod Mixing
+pub mod MixedForests
+pub mod StructParts
+pub mod DynRequirements
+pub mod ToDyn
+pub mod AdtParts
+pub mod TwoTypes
+pub mod UnsizedRows
+pub mod UnsizedTargets

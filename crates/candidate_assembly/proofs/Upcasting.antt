@@ -1,0 +1,10 @@
+pub mod UpcastRows
+pub mod UpcastMatches
+pub mod UpcastMeetings
+pub mod UpcastFinding
+pub mod UpcastMet
+pub mod UpcastAutos
+pub mod UpcastBounds
+pub mod UpcastRules
+pub mod UpcastParts
+pub mod UpcastLists

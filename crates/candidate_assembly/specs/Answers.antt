@@ -1,0 +1,12 @@
+pub mod Telling
+pub mod Closures
+pub mod Listing
+pub mod Assembled
+pub mod Specialization
+pub mod Sources
+pub mod Preference
+pub mod TraitAnswers
+pub mod MergedKinds
+pub mod SureAnswers
+pub mod CoherentRefusals
+pub mod KnownImpls

@@ -1,0 +1,70 @@
+-- What calls say that walk a chain of aliases.
+use Rattle.std.specs.Prelude.{◌≡◌, true, Option, Some, None, Result, IfErr, IfOk, IfSome, List, option_map}
+use Rattle.candidate_ir.specs.declared.ir.heads.Head.TheVariants as H
+use Rattle.candidate_ir.specs.declared.ir.kinds.AliasTy.{AliasTy}
+use Rattle.candidate_ir.specs.declared.ir.kinds.ParamEnv.{ParamEnv}
+use Rattle.candidate_ir.specs.declared.ir.kinds.Ty.{Ty}
+use Rattle.candidate_ir.specs.declared.ir.stop.Stop.{Stop}
+use Rattle.candidate_ir.specs.Declarations.Context.{Context}
+use Rattle.candidate_ir.specs.Instantiation.Owned.{AliasArgumentsFit}
+use Rattle.candidate_ir.specs.Syntax.Trees.{Tree}
+use Rattle.candidate_ir.specs.Syntax.Words.{IsArgs, IsTy, ty_tree}
+use Rattle.candidate_eval.specs.declared.eval.response.Candidate.{Candidate as OfNumbers}
+use Rattle.candidate_eval.specs.Interface.Accounts.{Account}
+use Rattle.candidate_eval.specs.Interface.Evaluators.{Keeps}
+use Rattle.candidate_eval.specs.Interface.Knowing.{own_stop}
+use Rattle.candidate_eval.specs.Dynamic.ObjectRequirements.{first_tree}
+use Rattle.candidate_eval.specs.Outcomes.ResponseTrees.{candidates_of}
+use Rattle.candidate_eval.specs.Outcomes.Responses.{Candidate}
+use Rattle.candidate_eval.specs.Judges.States.{Env, State, Judge}
+use Rattle.candidate_assembly.specs.declared.assembly.alias_chain.ChainEnd.{ChainEnd as Found}
+use Rattle.candidate_assembly.specs.declared.assembly.alias_chain.ChainEnd.TheVariants as F
+use Rattle.candidate_assembly.specs.Rules.AliasBounds.{ChainComes, ChainEnd, AtVariable, Done, Misplaced, has_bounds, is_opaque, is_projection}
+use Rattle.candidate_assembly.specs.Goals.KindBounds.{Additional, KindBounds}
+use Rattle.candidate_assembly.specs.Goals.Kinds.{KindRules}
+use Rattle.candidate_assembly.specs.Goals.Earlier.{IsEarlier}
+use Rattle.candidate_assembly.specs.Answers.Listing.{Listed, Lists, ToldList, together}
+use Rattle.candidate_assembly.specs.Answers.Telling.{StopsOfItself}
+
+-- An alias of the context that has bounds, with the arguments that it takes.
+pub record IsBoundedAlias (c : Context) (a : AliasTy) : Type 0 where
+  pub args : IsArgs c.trees a.args
+  pub fit : AliasArgumentsFit c a
+  pub has : has_bounds (H.Alias a.kind a.id) ≡ true
+
+-- Where a chain goes on after an alias, at the state that it leaves: nowhere from an opaque type, and where the normal form of a projection's
+-- self type is refused; else at that normal form.
+pub data GoesTo (J : Judge) (e : Env) (S : State) (t : Tree) : Option Tree → State → Type 0 where
+  ends : {T : State} → is_opaque t.head ≡ true → GoesTo J e S t None T
+  nowhere : {T : State} → is_projection t.head ≡ true → J.normalized S e (first_tree t.children) ≡ None → GoesTo J e S t None T
+  further : {u : Tree} {T : State} → is_projection t.head ≡ true → J.normalized S e (first_tree t.children) ≡ Some (u, T) → GoesTo J e S t (Some u) T
+
+-- A call that answers where it goes on; it stops of itself alone.
+pub record Continues {E X : Type 0} (fixed : E → X) (judge : X → Judge) (state : E → State) (probes : E → List State) (context : E → Context) (stops : Account E)
+    (old new : E) (e : Env) (t : Tree) (answer : Result (Option Ty) Stop) : Type 0 where
+  pub kept : Keeps fixed probes context old new
+  pub sort : IfOk answer (λ o. IfSome o (IsTy (context new).trees))
+  pub goes : IfOk answer (λ o. GoesTo (judge (fixed old)) e (state old) t (option_map (ty_tree (context new).trees) o) (state new))
+  pub own : IfErr answer (λ s. own_stop s ≡ true)
+  pub cause : IfErr answer (StopsOfItself fixed context state stops old)
+
+-- A list that the candidates by the chain follow.
+pub record ChainFollows {G : Type 0} (K : KindRules G) (more : Additional G) (J : Judge) (c : Context) (g : G) (S : State) (xs : List Candidate) (l : Listed) : Type 0 where
+  pub by_aliases : Listed
+  pub chain : ChainComes K more J c g S by_aliases
+  pub is : l ≡ together (Lists xs) by_aliases
+
+-- A call in a probe that adds the candidates by a chain: as each earlier context has it. Of the state that it leaves nothing is said.
+pub record WalksChain {E X G P A : Type 0} (fixed : E → X) (judge : X → Judge) (state : E → State) (probes : E → List State) (context : E → Context) (stops : Account E)
+    (K : KindRules G) (B : KindBounds G) (see : List Tree → ParamEnv → P → G)
+    (old new : E) (env : ParamEnv) (p : P) (before after : List OfNumbers) (answer : Result A Stop) : Type 0 where
+  pub kept : Keeps fixed probes context old new
+  pub told : (c : Context) → IsEarlier c (context old)
+      → ToldList (λ _. after) (context new).trees (ChainFollows K B.additional (judge (fixed old)) c (see (context old).trees env p) (state old) (candidates_of (context old).trees before)) answer
+  pub cause : IfErr answer (StopsOfItself fixed context state stops old)
+
+-- how a chain ends that the code finds to end so at the state
+abbrev pub as_seen : State → Found → ChainEnd
+as_seen S F.Done = Done
+as_seen S F.Misplaced = Misplaced
+as_seen S F.AtVariable = AtVariable S

@@ -1,0 +1,41 @@
+-- What calls say that go on from a list of candidates.
+use Rattle.std.specs.Prelude.{◌≡◌, List, IfErr, Result, length}
+use Rattle.candidate_ir.specs.declared.ir.kinds.ParamEnv.{ParamEnv}
+use Rattle.candidate_ir.specs.declared.ir.stop.Stop.{Stop}
+use Rattle.candidate_ir.specs.Declarations.Context.{Context}
+use Rattle.candidate_ir.specs.Syntax.Trees.{Tree}
+use Rattle.candidate_eval.specs.declared.eval.response.Candidate.{Candidate as OfNumbers}
+use Rattle.candidate_eval.specs.Interface.Accounts.{Account}
+use Rattle.candidate_eval.specs.Interface.Evaluators.{Keeps}
+use Rattle.candidate_eval.specs.Outcomes.Responses.{Candidate}
+use Rattle.candidate_eval.specs.Judges.States.{Judge, State}
+use Rattle.candidate_assembly.specs.declared.assembly.opaques.AssembleCandidatesFrom.{AssembleCandidatesFrom}
+use Rattle.candidate_assembly.specs.Answers.Assembled.{IfUnsizing, Known}
+use Rattle.candidate_assembly.specs.Goals.Earlier.{IsEarlier}
+use Rattle.candidate_assembly.specs.Goals.KindBounds.{KindBounds}
+use Rattle.candidate_assembly.specs.Goals.Kinds.{GoalBelow, KindRules}
+use Rattle.candidate_assembly.specs.Answers.Listing.{Listed, Lists, ToldList, together}
+use Rattle.candidate_assembly.specs.Answers.Telling.{StopsOfItself}
+
+-- A list that the candidates by unsizing follow, for goals of its trait.
+pub record UnsizingFollows {G : Type 0} (K : KindRules G) (B : KindBounds G) (c : Context) (J : Judge) (S : State) (g : G) (xs : List Candidate) (l : Listed) : Type 0 where
+  pub unsized : Listed
+  pub by_unsizing : IfUnsizing K B c J S g unsized
+  pub is : l ≡ together (Lists xs) unsized
+
+-- An earlier context, and a state alike the one that is there now, of which the goal mentions no other variables.
+pub record WasAsked {G : Type 0} (K : KindRules G) (J : Judge) (c now : Context) (S T : State) (g : G) : Type 0 where
+  pub earlier : IsEarlier c now
+  pub alike : J.alike S T
+  pub below : GoalBelow K (length S.variables) g
+
+-- A call that answers all candidates but for what is unknowable: as each such context has them, at each such state. It leaves a state alike
+-- the one before.
+pub record ListsKnown {E X G P A : Type 0} (fixed : E → X) (judge : X → Judge) (state : E → State) (probes : E → List State) (context : E → Context) (stops : Account E)
+    (K : KindRules G) (B : KindBounds G) (see : List Tree → ParamEnv → P → G)
+    (old new : E) (env : ParamEnv) (p : P) (from : AssembleCandidatesFrom) (items : A → List OfNumbers) (answer : Result A Stop) : Type 0 where
+  pub kept : Keeps fixed probes context old new
+  pub alike : (judge (fixed old)).alike (state old) (state new)
+  pub told : (c : Context) (S : State) → WasAsked K (judge (fixed old)) c (context old) S (state old) (see (context old).trees env p)
+      → ToldList items (context new).trees (Known K B c (judge (fixed old)) S (see (context old).trees env p) from) answer
+  pub cause : IfErr answer (StopsOfItself fixed context state stops old)

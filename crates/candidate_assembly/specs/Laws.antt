@@ -1,0 +1,13 @@
+pub mod Staying
+pub mod Given
+pub mod Matching
+pub mod BuiltinLaws
+pub mod ImplLaws
+pub mod CallMarks
+pub mod DeclaredClosed
+pub mod BuiltinsBelow
+pub mod UnsizingLaws
+pub mod TraitLaws
+pub mod SuperLaws
+pub mod ObjectLaws
+pub mod OneTrivial

@@ -1,0 +1,10 @@
+pub mod BuiltinRules
+pub mod Impls
+pub mod Requirements
+pub mod DynBounds
+pub mod Unsizing
+pub mod ObjectBounds
+pub mod AliasBounds
+pub mod Opaques
+pub mod Unknowable
+pub mod Language

@@ -1,0 +1,173 @@
+-- Candidates by an object's own bounds: what the bounds of a `dyn` type say of it, and the rule that each gives.
+use Rattle.std.specs.Prelude.{◌≡◌, ℕ, suc, Bool, true, false, not, ◌&&◌, ◌||◌, ◌+◌, ◌==◌, nat_lt, Option, Some, None, List, [], ◌∷◌, ◌++◌, length, map, slice_get, if◌then◌else◌}
+use Rattle.std.specs.List.{filter}
+use Rattle.candidate_ir.specs.declared.decl.contents.LangItem.TheVariants as L
+use Rattle.candidate_ir.specs.declared.ir.heads.ClauseHead.TheVariants as Cl
+use Rattle.candidate_ir.specs.declared.ir.heads.ConstHead.TheVariants as C
+use Rattle.candidate_ir.specs.declared.ir.heads.Head.{Head}
+use Rattle.candidate_ir.specs.declared.ir.heads.Head.TheVariants as H
+use Rattle.candidate_ir.specs.declared.ir.heads.PartHead.TheVariants as P
+use Rattle.candidate_ir.specs.declared.ir.kinds.BoundVar.{BoundVar}
+use Rattle.candidate_ir.specs.declared.ir.kinds.GoalSource.TheVariants.{ImplWhereBound}
+use Rattle.candidate_ir.specs.declared.ir.kinds.PredicatePolarity.TheVariants as Pol
+use Rattle.candidate_ir.specs.declared.ir.kinds.RegionKind.TheVariants as R
+use Rattle.candidate_ir.specs.declared.ir.kinds.VarKind.{VarKind}
+use Rattle.candidate_ir.specs.declared.ir.kinds.VarKind.TheVariants as V
+use Rattle.candidate_ir.specs.declared.ir.stop.Stop.{Stop}
+use Rattle.candidate_ir.specs.Declarations.Context.{Context, world}
+use Rattle.candidate_ir.specs.Hierarchy.Elaboration.{first_children}
+use Rattle.candidate_ir.specs.Instantiation.Folding.{fold, leaf}
+use Rattle.candidate_ir.specs.Declarations.Lookups.{assoc_trait, definition}
+use Rattle.candidate_ir.specs.Instantiation.Opening.{bound_head, error_of, is_of, nearer}
+use Rattle.candidate_ir.specs.Hierarchy.Supers.{after_first}
+use Rattle.candidate_ir.specs.Syntax.Trees.{Kind, TypeKind, Forest, tree, Tree}
+use Rattle.candidate_ir.specs.Declarations.Worlds.{TraitSort, joined, kinds_of, parameters}
+use Rattle.candidate_eval.specs.declared.eval.certainty.Certainty.TheVariants.{Yes}
+use Rattle.candidate_eval.specs.declared.eval.source.BuiltinImplSource.TheVariants.{Misc, Object}
+use Rattle.candidate_eval.specs.declared.eval.source.CandidateSource.{CandidateSource}
+use Rattle.candidate_eval.specs.declared.eval.source.CandidateSource.TheVariants.{BuiltinImpl}
+use Rattle.candidate_eval.specs.Outcomes.Certainties.{AMBIGUOUS}
+use Rattle.candidate_eval.specs.Builtins.Callable.{all_but_last}
+use Rattle.candidate_eval.specs.Derivations.Characterization.{bound_kinds}
+use Rattle.candidate_eval.specs.Derivations.Judging.{Place, Judged, Refused, Stopped, Reached, At, Over, asked, run, start}
+use Rattle.candidate_eval.specs.Dynamic.ObjectRequirements.{AreAsked, AreUnknown}
+use Rattle.candidate_eval.specs.Dynamic.ObjectRules.{named_clauses, picks_of, projections_in}
+use Rattle.candidate_eval.specs.Dynamic.Replacing.{Finds, own_projection}
+use Rattle.candidate_eval.specs.Dynamic.Required.{AreRequirements, own_bounds}
+use Rattle.candidate_eval.specs.Derivations.Rules.{Step, fresh, nested, Rule, ask}
+use Rattle.candidate_eval.specs.Judges.States.{State, Goal, Judge, with_pending}
+use Rattle.candidate_assembly.specs.Rules.DynBounds.{ArePrincipalSupers, bound_said, bounds_in, is_compatible, is_dynamic, is_principal, principal_in}
+use Rattle.candidate_assembly.specs.Goals.Kinds.{KindRules, arguments_by, compared_arguments, match_rule, passes, self_type}
+use Rattle.candidate_assembly.specs.Answers.Listing.{Listed, Lists, Stops, listed, together}
+use Rattle.candidate_assembly.specs.Goals.Projections.{trait_number}
+use Rattle.candidate_assembly.specs.Goals.TraitGoals.{is_item}
+
+-- A clause of a `dyn` type, and the source of the candidate that it gives.
+pub record OwnClause : Type 0 where
+  pub source : CandidateSource
+  pub clause : Tree
+
+abbrev pub own_clause : CandidateSource → Tree → OwnClause
+own_clause s t = record { source = s; clause = t }
+
+abbrev pub numbered : ℕ → List Tree → List OwnClause
+numbered n [] = []
+numbered n (t ∷ ts) = own_clause (BuiltinImpl (Object n)) t ∷ numbered (suc n) ts
+
+-- What its projection bounds and auto traits say, in their order; then the supertraits of its principal, each by its number.
+abbrev pub own_clauses : Tree → List Tree → List OwnClause
+own_clauses t supers = map (λ b. own_clause (BuiltinImpl Misc) (bound_said t b)) (filter (λ b. not (is_principal b.head)) (bounds_in t)) ++ numbered 0 supers
+
+-- Sizedness isn't had by a bound; and objects of a trait of which none may be made meet nothing.
+
+abbrev pub is_sizedness : Context → ℕ → Bool
+is_sizedness c n = is_item c L.Sized n || is_item c L.MetaSized n
+
+abbrev pub has_own_clauses : Context → ℕ → Tree → Bool
+has_own_clauses c of t = not (is_sizedness c of) && (is_dynamic t.head && is_compatible c (principal_in t))
+
+-- An instance of a clause's arguments, whose names say what they stand for: the name of a constant is one. So they can stand for the
+-- parameters of what is declared.
+
+abbrev pub name_as : VarKind → ℕ → Tree
+name_as V.Const n = leaf (H.Const (C.Param n))
+name_as k n = leaf (H.Param n)
+
+abbrev pub name_if : VarKind → ℕ → Option Kind → Tree
+name_if k n None = leaf (error_of k)
+name_if k n (Some j) = if is_of k j then name_as k n else leaf (error_of k)
+
+abbrev pub argument_variable : ℕ → List Kind → ℕ → VarKind → BoundVar → Option Tree
+argument_variable first ks d k v =
+    if v.depth == d then Some (name_if k (first + v.index) (slice_get ks v.index))
+    else (if nat_lt d v.depth then Some (leaf (bound_head k (nearer v))) else None)
+
+abbrev pub argument_head : ℕ → List Kind → ℕ → Head → Option Tree
+argument_head first ks d (H.Bound v) = argument_variable first ks d V.Ty v
+argument_head first ks d (H.Const (C.Bound v)) = argument_variable first ks d V.Const v
+argument_head first ks d (H.Region (R.Bound v)) = argument_variable first ks d V.Region v
+argument_head first ks d _ = None
+
+abbrev pub named_arguments : ℕ → Tree → Forest
+named_arguments first c = fold (λ d t. argument_head first (bound_kinds c.children) d t.head) 0 (arguments_by c.head (after_first c.children))
+
+-- the trait that a clause speaks of, be it the one whose associated type it names
+abbrev pub trait_by : Context → Head → ℕ
+trait_by c (H.Part (P.Clause (Cl.Trait i p))) = i.0
+trait_by c (H.Part (P.Clause (Cl.Projection i))) = trait_number (assoc_trait (definition c i.0))
+trait_by c _ = 0
+
+-- that a trait holds, or doesn't, or what an associated type of one is
+abbrev pub speaks_of_trait : Head → Bool
+speaks_of_trait (H.Part (P.Clause (Cl.Trait i p))) = true
+speaks_of_trait (H.Part (P.Clause (Cl.Projection i))) = true
+speaks_of_trait _ = false
+
+-- The clause's arguments are those that this trait takes.
+abbrev pub HasArguments : Context → Tree → Type 0
+HasArguments c t = joined (Some (TypeKind ∷ [])) (parameters (world c) TraitSort (trait_by c t.head)) ≡ Some (kinds_of (compared_arguments t))
+
+-- The rule of a clause as data: it is matched, and then instantiated once more; what is required of an object of that instance's trait is
+-- asked of this one, where each projection of the object's own is the term that one of its bounds picks. Where that is too little known, so
+-- is the answer.
+
+abbrev pub finds_of : Tree → Finds
+finds_of object = own_projection object (own_bounds object (all_but_last object.children))
+
+abbrev pub required_steps : Tree → ℕ → List Tree → List Step
+required_steps object n required =
+    picks_of n (own_bounds object (all_but_last object.children)) (projections_in (finds_of object) required) ++ nested (named_clauses (finds_of object) n required)
+
+-- how many variables an instance of the clause has
+abbrev pub width : Tree → ℕ
+width t = length (bound_kinds t.children)
+
+abbrev pub object_rule : {G : Type 0} → KindRules G → Context → G → OwnClause → List Tree → Rule
+object_rule K c g o required =
+    match_rule K c g o.clause (fresh (bound_kinds o.clause.children) ∷ required_steps (self_type K c g) (width o.clause + width o.clause) required) (ask o.source Yes)
+
+-- what is required of an instance whose variables follow those of the match
+abbrev pub AreRequired : Context → Tree → List Tree → Type 0
+AreRequired c t required = AreRequirements c (trait_by c t.head) (named_arguments (width t) t) required
+
+-- That the clause's trait holds, with the clause's arguments under its binder. What an object of that trait has to fulfil is asked of this
+-- one.
+abbrev pub reference_by : Context → Tree → Tree
+reference_by c t = record {
+  head = H.Part (P.Clause (Cl.Trait (record { 0 = trait_by c t.head }) Pol.Positive));
+  children = tree (H.Part P.Vars) (first_children t.children) (arguments_by t.head (after_first t.children));
+}
+
+abbrev pub nested_goals : State → List Goal → State
+nested_goals S gs = with_pending S (S.pending ++ map (λ (x : Goal). record { source = ImplWhereBound; goal = x }) gs)
+
+-- What is answered to a clause, tried in a probe at a state alike this one: nothing where it isn't matched; else what is required of an
+-- instance becomes pending. The projections of the object's own are its bounds' terms; where that is too little known, so is the answer.
+module _ {G : Type 0} (K : KindRules G) (J : Judge) (c : Context) (S : State) (g : G) where
+  abbrev pub match_at : State → OwnClause → Reached
+  match_at T o = run J (K.env_of g) (start T) (K.match_steps g o.clause)
+
+  abbrev pub bounds_of_object : Forest
+  bounds_of_object = all_but_last (self_type K c g).children
+
+  pub data ObjectJudged (o : OwnClause) : Judged → Type 0 where
+    rejected : passes K c g o.clause ≡ false → ObjectJudged o Refused
+    unmatched : {j : Judged} (T : State) → J.alike S T → passes K c g o.clause ≡ true → match_at T o ≡ Over j → ObjectJudged o j
+    required : (T U : State) (p : Place) (goals : List Goal) → J.alike S T → passes K c g o.clause ≡ true → match_at T o ≡ At p
+        → AreAsked J (K.env_of g) c p.state (trait_by c o.clause.head) (reference_by c o.clause) bounds_of_object goals U
+        → ObjectJudged o (asked J (nested_goals U goals) o.source Yes)
+    unknown : (T U : State) (p : Place) → J.alike S T → passes K c g o.clause ≡ true → match_at T o ≡ At p
+        → AreUnknown J (K.env_of g) c p.state (trait_by c o.clause.head) (reference_by c o.clause) bounds_of_object U
+        → ObjectJudged o (asked J U o.source AMBIGUOUS)
+
+  -- of clauses, one after the other
+  pub data ObjectsAnswer : List OwnClause → Listed → Type 0 where
+    none_left : ObjectsAnswer [] (Lists [])
+    one : {o : OwnClause} {j : Judged} {os : List OwnClause} {l : Listed} → ObjectJudged o j → ObjectsAnswer os l → ObjectsAnswer (o ∷ os) (together (listed j) l)
+    stopped : {o : OwnClause} {s : Stop} {os : List OwnClause} → ObjectJudged o (Stopped s) → ObjectsAnswer (o ∷ os) (Stops s)
+
+  -- All that the object's own bounds give, if they give anything for the goal's trait.
+  pub data ObjectList : Listed → Type 0 where
+    nothing : has_own_clauses c (K.reference_of c g).trait (self_type K c g) ≡ false → ObjectList (Lists [])
+    answer : {l : Listed} (supers : List Tree) → has_own_clauses c (K.reference_of c g).trait (self_type K c g) ≡ true
+        → ArePrincipalSupers c (self_type K c g) supers → ObjectsAnswer (own_clauses (self_type K c g) supers) l → ObjectList l

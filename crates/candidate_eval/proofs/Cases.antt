@@ -1,0 +1,4 @@
+pub mod Examples
+pub mod Premises
+pub mod RuleToy
+pub mod RuleCases

@@ -1,0 +1,3 @@
+pub mod RuleRuns
+pub mod Naming
+pub mod NamedTerms

@@ -1,0 +1,9 @@
+pub mod Objects
+pub mod Replacing
+pub mod Filling
+pub mod Picking
+pub mod ObjectCandidates
+pub mod Tries
+pub mod Required
+pub mod Requiring
+pub mod ObjectRules

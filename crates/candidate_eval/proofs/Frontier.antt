@@ -1,0 +1,15 @@
+pub mod Walks
+pub mod Carry
+pub mod ShapeLemmas
+pub mod Calls
+pub mod Causes
+pub mod Recorded
+pub mod Views
+pub mod Steps
+pub mod Walking
+pub mod Visits
+pub mod TypeVisits
+pub mod Lists
+pub mod Loops
+pub mod ListVisits
+pub mod Checks

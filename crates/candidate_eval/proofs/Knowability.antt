@@ -1,0 +1,15 @@
+pub mod Fitting
+pub mod Resolved
+pub mod PlainCalls
+pub mod Agree
+pub mod Answers
+pub mod Worlds
+pub mod Newcomer
+pub mod Covered
+pub mod OrphanLaws
+pub mod Safety
+pub mod Lowering
+pub mod CallLaws
+pub mod Knows
+pub mod CheckLaws
+pub mod Simulation

@@ -1,0 +1,4 @@
+pub mod Merging
+pub mod Responding
+pub mod Pairs
+pub mod Equal

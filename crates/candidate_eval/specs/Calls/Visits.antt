@@ -1,0 +1,48 @@
+-- What a visit of a walk asks, and what it comes to: said once, for a type and for the types of a list.
+use Rattle.std.specs.Prelude.{◌≡◌, ◌≢◌, ℕ, Result, Err, List, OnOk, IfErr}
+use Rattle.std.specs.Fn.{Mut}
+use Rattle.std.specs.Borrow.{MutBor}
+use Rattle.candidate_ir.specs.declared.ir.kinds.Ty.{Ty}
+use Rattle.candidate_ir.specs.Declarations.Context.{Context}
+use Rattle.candidate_ir.specs.Syntax.Trees.{Forest, Tree}
+use Rattle.candidate_eval.specs.declared.coherence.NormalizeErr.{NormalizeErr}
+use Rattle.candidate_eval.specs.declared.coherence.OrphanStop.TheVariants as O
+use Rattle.candidate_eval.specs.declared.walk.EarlyExit.{EarlyExit}
+use Rattle.candidate_eval.specs.declared.walk.EarlyExit.TheVariants as X
+use Rattle.candidate_eval.specs.declared.walk.Walk.{Walk}
+use Rattle.candidate_eval.specs.Knowability.Normalizer.{Description, IsNormalizer, IsFunction, IsLeftByCalls}
+use Rattle.candidate_eval.specs.Knowability.Orphan.{Remote, View, view, Step}
+use Rattle.candidate_eval.specs.Calls.Walk.{Setting, setting, classes, type_steps, list_steps, AreTypes, IsExit, Outcome, FirstOnce, SameWalk}
+
+-- What is visited, by the steps of a frontier that a visit of it goes over.
+abbrev pub Visited : Type 0 → Type 0 → Type 0
+Visited S E = Setting → View S E → ℕ → S → List (Step S E)
+
+abbrev pub the_type : {S E : Type 0} → Tree → Visited S E
+the_type t p see n s = type_steps p see n s t
+
+abbrev pub the_list : {S E : Type 0} → Forest → Visited S E
+the_list a p see n s = list_steps p see n s a
+
+module _ {C F E : Type 0} (context : C → Context) (g : Mut F (MutBor C × (Ty × Unit {0})) (Result Ty (NormalizeErr E) × (MutBor C × Unit {0}))) where
+  -- Before a visit the normaliser can be used, and what was recorded are types of the context; before the first one has
+  -- ended nothing was, and later at most the first entry is the first input.
+  pub record MayVisit (f : F) (c : C) (walk : Walk) : Type 0 where
+    pub normaliser : IsNormalizer context g f c
+    pub recorded : AreTypes (context c).trees walk.non_local.items
+    pub firsts : FirstOnce walk.is_first walk.non_local.items
+
+module _ {C F V E : Type 0} (context : C → Context) (shows : C → V) (resolve : V → Tree → Tree) (g : Mut F (MutBor C × (Ty × Unit {0})) (Result Ty (NormalizeErr E) × (MutBor C × Unit {0}))) where
+  -- The visit leaves what its calls leave, and keeps how the walk goes on. What it recorded and what broke it off are types
+  -- of the context; in `Remote` that is no uncovered one. For a normaliser that is a function but for what is left open, it
+  -- went over the steps of what is visited.
+  pub record Visits (visited : Visited (F × V) E) (levels : ℕ) (f : F) (c : C) (walk : Walk) (f' : F) (c' : C) (walk' : Walk) (result : Result (Unit {0}) (EarlyExit E)) : Type 0 where
+    pub calls : IsLeftByCalls context g levels f c f' c' (λ s. result ≡ Err (X.Broken (O.Stop s)))
+    pub same : SameWalk walk walk'
+    pub recorded : AreTypes (context c').trees walk'.non_local.items
+    pub firsts : OnOk result (FirstOnce walk'.is_first walk'.non_local.items)
+    pub exit : IfErr result (λ x. IsExit (context c').trees x)
+    pub covers : (t : Ty) → walk.in_crate ≡ Remote → result ≢ Err (X.Uncovered t)
+    pub outcome : (d : Description F C V E) → IsFunction context g shows resolve d f c
+        → Outcome d.untold (context c').trees (classes (setting (context c) walk.in_crate)) walk walk' (d.stands (f, c)) (d.stands (f', c'))
+        (visited (setting (context c) walk.in_crate) (view (λ s t. resolve s.1 t) d.normal) levels (d.stands (f, c))) result

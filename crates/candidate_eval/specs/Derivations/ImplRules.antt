@@ -1,0 +1,59 @@
+-- The rule of an impl: a goal of a trait holds by an impl of it.
+use Rattle.std.specs.Prelude.{Option, Some, None, List, ◌∷◌, ◌++◌, ◌&&◌, map}
+use Rattle.candidate_ir.specs.declared.ir.kinds.PredicatePolarity.{PredicatePolarity}
+use Rattle.candidate_ir.specs.declared.ir.kinds.PredicatePolarity.TheVariants as P
+use Rattle.candidate_ir.specs.declared.ir.unify.RightSide.TheVariants as S
+use Rattle.candidate_ir.specs.declared.decl.contents.ImplId.{ImplId}
+use Rattle.candidate_ir.specs.declared.decl.contents.ImplPolarity.{ImplPolarity}
+use Rattle.candidate_ir.specs.declared.decl.contents.ImplPolarity.TheVariants as I
+use Rattle.candidate_ir.specs.Syntax.Trees.{Tree}
+use Rattle.candidate_ir.specs.Declarations.Context.{parameter_kind}
+use Rattle.candidate_ir.specs.Declarations.Contents.{Impl}
+use Rattle.candidate_ir.specs.Unification.Unify.{may_unify}
+use Rattle.candidate_ir.specs.Syntax.Words.{args_forest, clause_tree}
+use Rattle.candidate_ir.specs.Declarations.Worlds.{Reference}
+use Rattle.candidate_eval.specs.declared.eval.mode.TypingMode.{TypingMode}
+use Rattle.candidate_eval.specs.declared.eval.mode.TypingMode.TheVariants.{Coherence}
+use Rattle.candidate_eval.specs.declared.eval.source.CandidateSource.TheVariants as Source
+use Rattle.candidate_eval.specs.Outcomes.Certainties.{Certainty, Yes, AMBIGUOUS}
+use Rattle.candidate_eval.specs.Judges.States.{Env, is_some}
+use Rattle.candidate_eval.specs.Derivations.Rules.{Step, fresh, equate, Rule, ask, nested, nested_misc}
+
+-- A trait is to hold of some trees, or not to hold.
+pub record TraitGoal : Type 0 where
+  pub env : Env
+  pub reference : Reference
+  pub polarity : PredicatePolarity
+
+-- How sure an impl makes a goal. A reservation leaves open in coherence whether there is an impl, and is none outside of it.
+-- Others serve goals of their own polarity.
+abbrev pub impl_certainty : TypingMode → PredicatePolarity → ImplPolarity → Option Certainty
+impl_certainty Coherence p I.Reservation = Some AMBIGUOUS
+impl_certainty m p I.Reservation = None
+impl_certainty m P.Positive I.Positive = Some Yes
+impl_certainty m P.Negative I.Negative = Some Yes
+impl_certainty m p i = None
+
+-- What an impl's rule does before it asks: fresh variables stand for the parameters, the references are equated, and the
+-- clauses of the impl become pending.
+abbrev pub impl_steps : List Tree → TraitGoal → Impl → List Step
+impl_steps ts g i =
+    fresh (map parameter_kind i.parameters)
+    ∷ equate g.reference.arguments (args_forest ts i.trait_ref.args)
+    ∷ (nested (map (clause_tree ts) i.wheres) ++ nested_misc (map (clause_tree ts) i.super_outlives))
+
+abbrev pub or_yes : Option Certainty → Certainty
+or_yes None = Yes
+or_yes (Some c) = c
+
+-- It applies where quick rejection passes the arguments and the polarity serves. The trees are those of the numbers by which
+-- the impl is declared.
+abbrev pub impl_rule : List Tree → TypingMode → TraitGoal → ImplId → Impl → Rule
+impl_rule ts m g n i =
+    let certainty = impl_certainty m g.polarity i.polarity in
+    record {
+      env = g.env;
+      applies = may_unify S.Header g.reference.arguments (args_forest ts i.trait_ref.args) && is_some certainty;
+      steps = impl_steps ts g i;
+      ending = ask (Source.Impl n) (or_yes certainty);
+    }

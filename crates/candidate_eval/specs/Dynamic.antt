@@ -1,0 +1,5 @@
+pub mod Objects
+pub mod Required
+pub mod Replacing
+pub mod ObjectRequirements
+pub mod ObjectRules

@@ -1,0 +1,6 @@
+pub mod Limits
+pub mod States
+pub mod Alike
+pub mod Soundness
+pub mod Instances
+pub mod Lawful

@@ -1,0 +1,82 @@
+-- What a call says by the definitions, and what holds of its reference.
+use Rattle.std.specs.Prelude.{◌≡◌, ℕ, false, Result}
+use Rattle.std.specs.Fn.{Mut}
+use Rattle.std.specs.Borrow.{MutBor}
+use Rattle.candidate_ir.specs.declared.ir.kinds.Ty.{Ty}
+use Rattle.candidate_ir.specs.declared.ir.kinds.TraitRef.{TraitRef}
+use Rattle.candidate_eval.specs.declared.coherence.NormalizeErr.{NormalizeErr}
+use Rattle.candidate_eval.specs.Knowability.Answers.{CheckResult, KnownResult, IsKnowledge, answer_of}
+use Rattle.candidate_eval.specs.Knowability.Normalizer.{IsTold, Description, IsFunction}
+use Rattle.candidate_ir.specs.Syntax.Trees.{Tree, holds, is_alias, is_param}
+use Rattle.candidate_ir.specs.Declarations.Context.{Context, world}
+use Rattle.candidate_ir.specs.Syntax.Words.{args_forest}
+use Rattle.candidate_ir.specs.Declarations.References.{reference_of}
+use Rattle.candidate_eval.specs.Knowability.Orphan.{InCrate, view, Checked, Answer, orphan_answer, Knowability, knowability, plain_check, plain_knowability, local_or_fundamental, IsPlainForest}
+use Rattle.candidate_eval.specs.Judges.Limits.{declared_limits}
+use Rattle.candidate_eval.specs.Knowability.Laws.{NoForeignHeader, NoUnnamedHeader, NoCoveredHeader, IsDecidedByGeneral, HasDownstream}
+
+-- Visits may be nested so deep.
+abbrev pub depth_limit : ℕ
+depth_limit = declared_limits.orphan_walk
+
+module _ {C F V E : Type 0} (context : C → Context) (shows : C → V) (resolve : V → Tree → Tree) (d : Description F C V E) where
+  -- The check of a reference of the context, where this crate is local.
+  abbrev pub check_where : ℕ → InCrate → F × C → TraitRef → Checked (F × V) (Answer E)
+  check_where local m s r =
+      orphan_answer (world (context s.1)) local m (view (λ x t. resolve x.1 t) d.normal) depth_limit (d.stands s) (args_forest (context s.1).trees r.args)
+
+  -- The same, for the context's own local crate.
+  abbrev pub check_of : InCrate → F × C → TraitRef → Checked (F × V) (Answer E)
+  check_of m s r = check_where (context s.1).local.0 m s r
+
+  -- What may be known of a reference of the context.
+  abbrev pub knowledge_about : F × C → TraitRef → Checked (F × V) (Knowability E)
+  knowledge_about s r =
+      knowability (world (context s.1)) (context s.1).local.0 (view (λ x t. resolve x.1 t) d.normal) depth_limit (d.stands s) (reference_of (context s.1).trees r)
+
+-- The same by the plain normaliser, where nothing has a value.
+abbrev pub plain_check_of : Context → InCrate → TraitRef → Answer (Unit {0})
+plain_check_of c m r = plain_check (world c) c.local.0 m depth_limit (args_forest c.trees r.args)
+
+abbrev pub plain_knowledge_about : Context → TraitRef → Knowability (Unit {0})
+plain_knowledge_about c r = plain_knowability (world c) c.local.0 depth_limit (reference_of c.trees r)
+
+-- For each normaliser that is a function but for what is left open, what a call says and leaves is what the definition
+-- says, unless its result is left open.
+module _ {C F V E : Type 0} (context : C → Context) (shows : C → V) (resolve : V → Tree → Tree) (g : Mut F (MutBor C × (Ty × Unit {0})) (Result Ty (NormalizeErr E) × (MutBor C × Unit {0}))) where
+  pub record IsChecked (f : F) (c : C) (m : InCrate) (r : TraitRef) (result : CheckResult E) (f' : F) (c' : C) : Type 0 where
+    pub at : (d : Description F C V E) → IsFunction context g shows resolve d f c → IsTold d.untold result
+        → check_of context shows resolve d m (f, c) r ≡ record { answer = answer_of (context c').trees result; after = d.stands (f', c') }
+
+  pub record IsKnown (f : F) (c : C) (r : TraitRef) (result : KnownResult E) (f' : F) (c' : C) : Type 0 where
+    pub at : (d : Description F C V E) → IsFunction context g shows resolve d f c → IsTold d.untold result
+        → IsKnowledge d.stands result c' (knowledge_about context shows resolve d (f, c) r)
+
+-- What holds of a reference of a context.
+abbrev pub HasNoParam : Context → TraitRef → Type 0
+HasNoParam c r = holds is_param (args_forest c.trees r.args) ≡ false
+
+abbrev pub HasNoAlias : Context → TraitRef → Type 0
+HasNoAlias c r = holds is_alias (args_forest c.trees r.args) ≡ false
+
+abbrev pub HasNoAliasOrError : Context → TraitRef → Type 0
+HasNoAliasOrError c r = IsPlainForest (args_forest c.trees r.args)
+
+-- Its trait is neither of the local crate nor fundamental.
+abbrev pub IsOfForeignTrait : Context → TraitRef → Type 0
+IsOfForeignTrait c r = local_or_fundamental (world c) c.local.0 r.def_id.0 ≡ false
+
+abbrev pub NoForeignHeaderHere : Context → TraitRef → Type 0
+NoForeignHeaderHere c r = NoForeignHeader (world c) c.local.0 (reference_of c.trees r)
+
+abbrev pub NoUnnamedHeaderHere : Context → TraitRef → Type 0
+NoUnnamedHeaderHere c r = NoUnnamedHeader (world c) (reference_of c.trees r)
+
+abbrev pub NoCoveredHeaderHere : Context → TraitRef → Type 0
+NoCoveredHeaderHere c r = NoCoveredHeader (world c) c.local.0 depth_limit (reference_of c.trees r)
+
+abbrev pub IsDecidedByGeneralHere : Context → TraitRef → Type 0
+IsDecidedByGeneralHere c r = IsDecidedByGeneral (world c) depth_limit (reference_of c.trees r)
+
+abbrev pub HasDownstreamHere : Context → TraitRef → Type 0
+HasDownstreamHere c r = HasDownstream (world c) (reference_of c.trees r)

@@ -1,0 +1,4 @@
+pub mod Certainties
+pub mod Responses
+pub mod ResponseTrees
+pub mod Merging

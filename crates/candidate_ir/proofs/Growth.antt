@@ -1,0 +1,7 @@
+pub mod Tables
+pub mod Sorts
+mod Distinct
+pub mod Kept
+pub mod Making
+pub mod Made
+pub mod Growing

@@ -1,0 +1,13 @@
+pub mod Supers
+pub mod Supertraits
+pub mod Cycles
+pub mod Implying
+pub mod Elaboration
+pub mod ElaborationCases
+pub mod ElaborationLaws
+pub mod Ranks
+pub mod Listing
+pub mod Saying
+pub mod Walking
+pub mod Choosing
+pub mod Numbering

@@ -1,0 +1,4 @@
+pub mod References
+pub mod Parameters
+pub mod Arity
+pub mod Fitting

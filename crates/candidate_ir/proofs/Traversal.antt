@@ -1,0 +1,10 @@
+pub mod Rebuild
+pub mod Asking
+pub mod Folds
+pub mod FoldRows
+pub mod FoldSteps
+pub mod FoldNodes
+pub mod FoldKinds
+pub mod FoldBounds
+pub mod FoldLaws
+pub mod FoldStops

@@ -1,0 +1,314 @@
+-- What a fold leaves, and why it stopped.
+use Rattle.std.proofs.Common.{◌≡◌, ℕ, ◌+◌, ◌<◌, ◌≤◌, List, Bool, true, false, Option, Some, None, Result, Ok, Err, refl, sym, ◌∙◌, ap, subst, arith, inl, inr}
+use Rattle.std.specs.Prelude.{IfOk, IfErr, option_map, ◌||◌, ◌&&◌, length, nat_le, nat_lt, if◌then◌else◌}
+use Rattle.std.specs.Option.{unwrap_or}
+use Rattle.std.specs.Fn.{Mut}
+use Rattle.std.specs.Borrow.{MutBor}
+use Rattle.candidate_ir.specs.declared.ir.kinds.GenericArg.{GenericArg}
+use Rattle.candidate_ir.specs.declared.ir.kinds.BoundVar.{BoundVar}
+use Rattle.candidate_ir.specs.declared.ir.heads.Head.{Head}
+use Rattle.candidate_ir.specs.declared.ir.heads.Head.TheVariants as H
+use Rattle.candidate_ir.specs.declared.ir.heads.ConstHead.TheVariants as C
+use Rattle.candidate_ir.specs.declared.ir.kinds.RegionKind.TheVariants as R
+use Rattle.candidate_ir.specs.declared.ir.stop.Stop.{Stop}
+use Rattle.candidate_ir.specs.declared.ir.stop.Stop.TheVariants.{Memory, NodesFull}
+use Rattle.candidate_ir.specs.Syntax.Trees.{Kind, Forest, none, tree, Tree, kind_of, is_list_kind, join, count, heights, holds, binders_of, row}
+use Rattle.candidate_ir.specs.Syntax.Nodes.{tree_at, kind_at, is_bound_kind}
+use Rattle.candidate_ir.specs.Unification.Substitutions.{alone}
+use Rattle.candidate_ir.specs.Syntax.Words.{IsMkStop}
+use Rattle.candidate_ir.specs.Declarations.Context.{Context, Grows}
+use Rattle.candidate_ir.specs.Instantiation.Folding.{Answers, fold, fold_tree, leaf, further, moved, moved_leaf, is_too_far, bounds_in, most_bounds, IsSubstStop, no_memory, few_numbers, high_tree, far_variable, IsAnswerStop}
+use Rattle.candidate_ir.specs.Instantiation.Folds.{is_asked, node, IsArg, arg_tree, are_bounds, numbers_given, Says, Refuses, OnlyMakes, FoldsBy, StopsBy, memory, refused, too_high, full, too_few, after, below_asked, below_passed, later, IsReached, here, by_call, by_nodes, IsFunction, KeepsRest, Renumbers}
+use Rattle.candidate_ir.proofs.Growth.Kept.{grows-refl, grows-trans}
+use Rattle.candidate_ir.specs.Syntax.Trees.{there}
+use Rattle.candidate_ir.proofs.Syntax.Rows.{row-single}
+use Rattle.candidate_ir.proofs.Syntax.Splits.{heights-join}
+use Rattle.candidate_ir.proofs.Instantiation.Folding.{begin}
+use Rattle.candidate_ir.proofs.Traversal.FoldLaws.{head-function, reached-keeps, folds-by, opened-row}
+use Rattle.candidate_ir.proofs.Traversal.FoldSteps.{folds-reached, reached-then}
+
+or-true : (b : Bool) → b || true ≡ true
+or-true true = refl
+or-true false = refl
+
+-- what stops a part stops the whole
+below-cause : (given : ℕ) (h : Head) (below rest : Forest) (x : Stop) → IsSubstStop given below x → IsSubstStop given (tree h below rest) x
+below-cause given h below rest x no_memory = no_memory
+below-cause given h below rest x (few_numbers l) = few_numbers (omega (arith, l))
+below-cause given h below rest x (high_tree l) = high_tree (omega (arith, l))
+below-cause given h below rest x (far_variable e) =
+    far_variable (ap (λ (b : Bool). is_too_far h || (b || holds is_too_far rest)) e ∙ or-true (is_too_far h))
+
+rest-cause : (given : ℕ) (h : Head) (below rest : Forest) (x : Stop) → IsSubstStop given rest x → IsSubstStop given (tree h below rest) x
+rest-cause given h below rest x no_memory = no_memory
+rest-cause given h below rest x (few_numbers l) = few_numbers (omega (arith, l))
+rest-cause given h below rest x (high_tree l) = high_tree (omega (arith, l))
+rest-cause given h below rest x (far_variable e) =
+    far_variable (ap (λ (b : Bool). is_too_far h || (holds is_too_far below || b)) e ∙ (ap (λ (b : Bool). is_too_far h || b) (or-true (holds is_too_far below)) ∙ or-true (is_too_far h)))
+
+first-cause : (given : ℕ) (h : Head) (below rest : Forest) (x : Stop) → IsSubstStop given (tree h below none) x → IsSubstStop given (tree h below rest) x
+first-cause given h below rest x no_memory = no_memory
+first-cause given h below rest x (few_numbers l) = few_numbers (omega (arith, l))
+first-cause given h below rest x (high_tree l) = high_tree (omega (arith, l))
+first-cause given h below rest x (far_variable e) = far_variable (more (is_too_far h) (holds is_too_far below) (holds is_too_far rest) e)
+  where
+    more : (a b c : Bool) → a || (b || false) ≡ true → a || (b || c) ≡ true
+    more true b c e = refl
+    more false true c e = refl
+    more false false c e = absurd cc
+
+-- What may be said of why trees were not made: of memory, of too few numbers, of trees that are too high; and what is said of
+-- a part is said of the whole.
+pub record IsCause (C : ℕ → Forest → Stop → Type 0) : Type 0 where
+  pub of_memory : (given : ℕ) (made : Forest) → C given made Memory
+  pub of_numbers : (given : ℕ) (made : Forest) → 4294967295 < given + (most_bounds made + 1) → C given made NodesFull
+  pub of_height : (given : ℕ) (made : Forest) → 1024 < heights made → C given made NodesFull
+  pub of_below : (given : ℕ) (h : Head) (below rest : Forest) (x : Stop) → C given below x → C given (tree h below rest) x
+  pub of_rest : (given : ℕ) (h : Head) (below rest : Forest) (x : Stop) → C given rest x → C given (tree h below rest) x
+  pub of_first : (given : ℕ) (h : Head) (below rest : Forest) (x : Stop) → C given (tree h below none) x → C given (tree h below rest) x
+
+pub subst-cause : IsCause IsSubstStop
+subst-cause = record {
+  of_memory = λ given made. no_memory;
+  of_numbers = λ given made l. few_numbers l;
+  of_height = λ given made l. high_tree l;
+  of_below = below-cause;
+  of_rest = rest-cause;
+  of_first = first-cause;
+}
+
+-- it is said of an answer, if there is one
+abbrev pub SaidOfAnswer : (ℕ → Forest → Stop → Type 0) → ℕ → Option Tree → Stop → Type 0
+SaidOfAnswer C given None s = ⊥
+SaidOfAnswer C given (Some t) s = C given (alone t) s
+
+answer-cause : (C : ℕ → Forest → Stop → Type 0) → IsCause C → (given : ℕ) (o : Option Tree) (kept : Tree) (rest : Forest) (x : Stop) → SaidOfAnswer C given o x
+    → C given (begin (unwrap_or o kept) rest) x
+answer-cause C i given None kept rest x c = absurd c
+answer-cause C i given (Some t) kept rest x c = i.of_first given t.head t.children rest x c
+
+said-of-answer : (given : ℕ) (o : Option Tree) (x : Stop) → IsAnswerStop given o x → SaidOfAnswer IsSubstStop given o x
+said-of-answer given None x c = c
+said-of-answer given (Some t) x c = c
+
+-- of a number that stands for one tree
+pub single-cause : (a : Answers) (given : ℕ) (ts : List Tree) (n : ℕ) (kind : Kind) (x : Stop) → there kind ≡ true → is_list_kind kind ≡ false → kind_at ts n ≡ kind
+    → IsSubstStop given (fold a 0 (row (tree_at ts n) none)) x → IsSubstStop given (alone (fold_tree a 0 (tree_at ts n))) x
+single-cause a given ts n kind x th single is c = let P : Forest → Type 0 = λ us. IsSubstStop given (fold a 0 us) x in subst P (row-single ts n kind none th single is) c
+
+-- rows, one after the other
+fold-join : (a : Answers) (d : ℕ) (ts us : Forest) → fold a d (join ts us) ≡ join (fold a d ts) (fold a d us)
+fold-join a d none us = refl
+fold-join a d (tree h below rest) us = ap (begin (unwrap_or (a d (node h below)) (node h (fold a (d + binders_of h) below)))) (fold-join a d rest us)
+
+bounds-join : (ts us : Forest) → bounds_in (join ts us) ≡ bounds_in ts + bounds_in us
+bounds-join none us = omega arith
+bounds-join (tree h below rest) us = omega (arith, bounds-join rest us)
+
+most-join : (ts us : Forest) → most_bounds ts ≤ most_bounds (join ts us)
+most-join none us = omega arith
+most-join (tree h below rest) us = omega (arith, bounds-join rest us, most-join rest us)
+
+pub row-bounds : (ts : Forest) → bounds_in ts ≤ most_bounds ts
+row-bounds none = omega arith
+row-bounds (tree h below rest) = omega arith
+
+count-bounds : (ts : Forest) → are_bounds ts ≡ true → count ts ≤ bounds_in ts
+count-bounds none e = omega arith
+count-bounds (tree h below rest) e = at (is_bound_kind (kind_of h)) refl e (λ k. count-bounds rest k)
+  where
+    at : (b : Bool) → is_bound_kind (kind_of h) ≡ b → b && are_bounds rest ≡ true → (are_bounds rest ≡ true → count rest ≤ bounds_in rest) → count (tree h below rest) ≤ bounds_in (tree h below rest)
+    at true k e more =
+        let one_of : Bool → ℕ = λ b. if b then 1 else 0 in
+        let one : one_of (is_bound_kind (kind_of h)) ≡ 1 = ap one_of k in
+        omega (arith, one, more e)
+    at false k e more = absurd cc
+
+-- a bound variable that can't be moved
+pub leaf-stop : (old new : Context) (high : ℕ) (made : Forest) (x : Stop) → new ≡ old → high ≤ 1 → IsMkStop old.trees high x → IsSubstStop (length new.trees) made x
+leaf-stop old new high made x e l (inl z) = let P : Stop → Type 0 = λ y. IsSubstStop (length new.trees) made y in subst P (sym z) no_memory
+leaf-stop old new high made x e l (inr (z, inl few)) =
+    let P : Stop → Type 0 = λ y. IsSubstStop (length new.trees) made y in
+    let same = ap (λ (c : Context). length c.trees) e in
+    subst P (sym z) (few_numbers (omega (arith, few, same)))
+leaf-stop old new high made x e l (inr (z, inr tall)) = absurd (omega (arith, l, tall))
+
+-- a head that is a bound variable
+pub record IsVariable (h : Head) (v : BoundVar) : Type 0 where
+  pub head : BoundVar → Head
+  pub is : h ≡ head v
+  pub moves : (n d : ℕ) → moved n d (head v) ≡ moved_leaf n d v head
+  pub far : (w : BoundVar) → is_too_far (head w) ≡ nat_lt 4294967295 w.depth
+
+pub type-variable : (h : Head) (v : BoundVar) → h ≡ H.Bound v → IsVariable h v
+type-variable h v e = record { head = H.Bound; is = e; moves = λ n d. refl; far = λ w. refl }
+
+pub constant-variable : (h : Head) (v : BoundVar) → h ≡ H.Const (C.Bound v) → IsVariable h v
+constant-variable h v e = record { head = λ w. H.Const (C.Bound w); is = e; moves = λ n d. refl; far = λ w. refl }
+
+pub region-variable : (h : Head) (v : BoundVar) → h ≡ H.Region (R.Bound v) → IsVariable h v
+region-variable h v e = record { head = λ w. H.Region (R.Bound w); is = e; moves = λ n d. refl; far = λ w. refl }
+
+pub variable-unmade : (given n d : ℕ) (h : Head) (v w : BoundVar) (x : Stop) → IsVariable h v → Some w ≡ (if nat_le d v.depth then Some (further n v) else None)
+    → ((made : Forest) → IsSubstStop given made x) → IsAnswerStop given (moved n d h) x
+variable-unmade given n d h v w x i e c =
+    let P : Option Tree → Type 0 = λ o. IsAnswerStop given o x in
+    subst P (sym (ap (moved n d) i.is ∙ i.moves n d)) (at (nat_le d v.depth) e)
+  where
+    at : (b : Bool) → Some w ≡ (if b then Some (further n v) else None) → IsAnswerStop given (if b then Some (leaf (i.head (further n v))) else None) x
+    at true e = c (alone (leaf (i.head (further n v))))
+    at false e = absurd cc
+
+lt-true : (i n : ℕ) → i < n → nat_lt i n ≡ true
+lt-true i n h = grind (arith, h)
+
+pub variable-too-far : (given n d : ℕ) (h : Head) (v : BoundVar) (x : Stop) → IsVariable h v → (x ≡ NodesFull) × (nat_le d v.depth ≡ true) × (4294967295 < v.depth + n)
+    → IsAnswerStop given (moved n d h) x
+variable-too-far given n d h v x i (is, deep, far) =
+    let P : Option Tree → Type 0 = λ o. IsAnswerStop given o x in
+    let Q : Stop → Type 0 = λ y. IsSubstStop given (alone (leaf (i.head (further n v)))) y in
+    let here = ap (λ (b : Bool). b || false) (i.far (further n v) ∙ lt-true 4294967295 (v.depth + n) far) in
+    subst P (sym (ap (moved n d) i.is ∙ (i.moves n d ∙ ap (λ (b : Bool). if b then Some (leaf (i.head (further n v))) else None) deep))) (subst Q (sym is) (far_variable here))
+
+module _ {M Rest F : Type 0} (context : M → Context) (others : M → Rest)
+    (g : Mut F (MutBor M × (GenericArg × (ℕ × Unit {0}))) (Result (Option GenericArg) Stop × (MutBor M × Unit {0}))) where
+  -- What each call keeps beside the context, a fold keeps: `Q` is what the calls need of the closure for it.
+  module _ (Q : F → Type 0) (s0 : F × M)
+      (call : (t : F × M) (x : GenericArg) (d : ℕ) (r : Result (Option GenericArg) Stop) (u : F × M) → Says context others g t x d r u → IsArg (context t.1).trees x
+      → IsReached context others g s0 t → Grows (context s0.1) (context t.1) → Q t.0 → Q u.0 × (others u.1 ≡ others t.1)) where
+    record Keeps (e : F × M) : Type 0 where
+      reached : IsReached context others g s0 e
+      grows : Grows (context s0.1) (context e.1)
+      held : Q e.0
+      rest : others e.1 ≡ others s0.1
+
+    made-keeps : (s e : F × M) → OnlyMakes context others g s e → Keeps s → Keeps e
+    made-keeps s e o k = record {
+      reached = by_nodes k.reached o;
+      grows = grows-trans (context s0.1) (context s.1) (context e.1) k.grows o.grows;
+      held = subst Q (sym o.same) k.held;
+      rest = o.rest ∙ k.rest;
+    }
+
+    reached-keeps-rest : (s e : F × M) → IsReached context others g s e → Keeps s → Keeps e
+    reached-keeps-rest s e here k = k
+    reached-keeps-rest s e (by_call {m = m} {d = d} l a) k =
+        let p = reached-keeps-rest s m l k in
+        let q = call m a.of d (Ok a.answer) e a.says a.is p.reached p.grows p.held in
+        record {
+          reached = by_call p.reached a;
+          grows = grows-trans (context s0.1) (context m.1) (context e.1) p.grows a.grows;
+          held = q.0;
+          rest = q.1 ∙ p.rest;
+        }
+    reached-keeps-rest s e (by_nodes {m = m} l o) k = made-keeps m e o (reached-keeps-rest s m l k)
+
+    folds-keep-rest : {s e : F × M} {d : ℕ} {ts us : Forest} → FoldsBy context others g s d ts us e → Keeps s → Keeps e
+    folds-keep-rest {s} {e} p k = reached-keeps-rest s e (folds-reached context others g p) k
+
+    stops-keep-rest : {s e : F × M} {d : ℕ} {ts : Forest} {x : Stop} → StopsBy context others g s d ts x e → Keeps s → others e.1 ≡ others s0.1
+    stops-keep-rest {s} {e} (memory l) k = (reached-keeps-rest s e l k).rest
+    stops-keep-rest {s} {e} {d = d} {x = x} (refused h a) k = (call s a.of d (Err x) e a.says a.is k.reached k.grows k.held).1 ∙ k.rest
+    stops-keep-rest (too_high rest i p h) k = (folds-keep-rest p k).rest
+    stops-keep-rest {s} {e} (full l h) k = (reached-keeps-rest s e l k).rest
+    stops-keep-rest (too_few rest i p b h) k = (folds-keep-rest p k).rest
+    stops-keep-rest {s} (after {m = m} o p) k = stops-keep-rest p (made-keeps s m o k)
+    stops-keep-rest {s} (below_asked {m = m} h a p) k = stops-keep-rest p (reached-keeps-rest s m (by_call here a) k)
+    stops-keep-rest (below_passed h p) k = stops-keep-rest p k
+    stops-keep-rest (later p q) k = stops-keep-rest q (folds-keep-rest p k)
+
+    begin-keeps : Q s0.0 → Keeps s0
+    begin-keeps q = record { reached = here; grows = grows-refl (context s0.1); held = q; rest = refl }
+
+    -- so a fold of a number does
+    pub number-keeps-rest : (e : F × M) (d n : ℕ) (r : Result ℕ Stop) → Q s0.0 → Renumbers context others g s0 d n r e → others e.1 ≡ others s0.1
+    number-keeps-rest e d n (Ok k) q r = (folds-keep-rest r.folded (begin-keeps q)).rest
+    number-keeps-rest e d n (Err x) q r = stops-keep-rest r.stopped (begin-keeps q)
+
+  pub number-rest : (s e : F × M) (d n : ℕ) (r : Result ℕ Stop) → Renumbers context others g s d n r e → KeepsRest context others g s → others e.1 ≡ others s.1
+  number-rest s e d n r h k = number-keeps-rest (λ f. Unit {0}) s (λ t x d r u n i l grown q. (tt, k.at t x d r u l grown i n)) e d n r tt h
+
+  reached-grows : (s e : F × M) → IsReached context others g s e → Grows (context s.1) (context e.1)
+  reached-grows s e here = grows-refl (context s.1)
+  reached-grows s e (by_call {m = m} l k) = grows-trans (context s.1) (context m.1) (context e.1) (reached-grows s m l) k.grows
+  reached-grows s e (by_nodes {m = m} l k) = grows-trans (context s.1) (context m.1) (context e.1) (reached-grows s m l) k.grows
+
+  -- A fold by a function, whose calls stop where their answers can't be made, stops where its trees can't be.
+  module _ (C : ℕ → Forest → Stop → Type 0) (cause : IsCause C) (a : Answers) (s0 : F × M) (f : IsFunction context others g a s0)
+      (refusal : (t u : F × M) (d : ℕ) (w : Tree) (x : Stop) → IsReached context others g s0 t → Refuses context others g t d w x u
+      → SaidOfAnswer C (numbers_given context u) (a d w) x) where
+    stops-cause : {s e : F × M} {d : ℕ} {ts : Forest} {x : Stop} → IsReached context others g s0 s → StopsBy context others g s d ts x e
+        → C (numbers_given context e) (fold a d ts) x
+    stops-cause {s} {e} {d = d} {ts = ts} l (memory k) = cause.of_memory (numbers_given context e) (fold a d ts)
+    stops-cause {s} {e} {d = d} {x = x} l (refused {h = h} {below = below} {rest = rest} i r) =
+        answer-cause C cause (numbers_given context e) (a d (node h below)) (node h (fold a (d + binders_of h) below)) (fold a d rest) x (refusal s e d (node h below) x l r)
+    stops-cause {s} {e} {d = d} {ts = all} l (too_high {first = ts} {made = us} rest i p h) =
+        let same = ap (fold a d) i ∙ (fold-join a d ts rest ∙ ap (λ (y : Forest). join y (fold a d rest)) (sym (folds-by context others g a s0 f l p))) in
+        cause.of_height (numbers_given context e) (fold a d all) (omega (arith, h, heights-join us (fold a d rest), ap heights same))
+    stops-cause {s} {e} {d = d} {ts = ts} l (full k few) = cause.of_numbers (numbers_given context e) (fold a d ts) (omega (arith, few))
+    stops-cause {s} {e} {d = d} {ts = all} l (too_few {first = ts} {made = us} rest i p b h) =
+        let same = ap (fold a d) i ∙ (fold-join a d ts rest ∙ ap (λ (y : Forest). join y (fold a d rest)) (sym (folds-by context others g a s0 f l p))) in
+        cause.of_numbers (numbers_given context e) (fold a d all) (omega (arith, h, count-bounds us b, row-bounds us, most-join us (fold a d rest), ap most_bounds same))
+    stops-cause l (after o p) = stops-cause (by_nodes l o) p
+    stops-cause {s} {e} {d = d} {x = x} l (below_asked {m = m} {h = h} {below = below} {rest = rest} i k p) =
+        let P : Forest → Type 0 = λ ts. C (numbers_given context e) ts x in
+        let inner = fold a (d + binders_of h) below in
+        subst P (opened-row context others g a d h below inner rest (fold a d rest) (f.at s d (node h below) None m l k) refl refl)
+        (cause.of_below (numbers_given context e) h inner (fold a d rest) x (stops-cause (by_call l k) p))
+    stops-cause {s} {e} {d = d} {x = x} l (below_passed {h = h} {below = below} {rest = rest} i p) =
+        let P : Forest → Type 0 = λ ts. C (numbers_given context e) ts x in
+        let inner = fold a (d + binders_of h) below in
+        subst P (opened-row context others g a d h below inner rest (fold a d rest) (f.only d (node h below) i) refl refl)
+        (cause.of_below (numbers_given context e) h inner (fold a d rest) x (stops-cause l p))
+    stops-cause {s} {e} {d = d} {x = x} l (later {h = h} {below = below} {rest = rest} p q) =
+        let t = unwrap_or (a d (node h below)) (node h (fold a (d + binders_of h) below)) in
+        cause.of_rest (numbers_given context e) t.head t.children (fold a d rest) x (stops-cause (reached-then context others g l (folds-reached context others g p)) q)
+
+  -- So a fold of a row has the causes of the trees that would have come, where calls that stop have those of their answers.
+  pub fold-stop : {A : Type 0} (C : ℕ → Forest → Stop → Type 0) → IsCause C → (a : Answers) (s e : F × M) (d : ℕ) (ts : Forest) (r : Result A Stop) → IsFunction context others g a s
+      → ((t : F × M) (y : GenericArg) (n : ℕ) (x : Stop) (u : F × M) → Says context others g t y n (Err x) u → IsArg (context t.1).trees y → Grows (context s.1) (context t.1)
+      → IsReached context others g s t → SaidOfAnswer C (numbers_given context u) (a n (arg_tree (context t.1).trees y)) x)
+      → IfErr r (λ x. StopsBy context others g s d ts x e) → IfErr r (λ x. C (numbers_given context e) (fold a d ts) x)
+  fold-stop C cause a s e d ts (Ok v) f stops p = tt
+  fold-stop C cause a s e d ts (Err x) f stops p =
+      stops-cause C cause a s f
+      (λ t u n w z l k. let A : Tree → Type 0 = λ v. SaidOfAnswer C (numbers_given context u) (a n v) z in
+      subst A k.tree (stops t k.of n z u k.says k.is (reached-grows s t l) l))
+      here p
+
+  -- where no call stops, those of the trees alone
+  pub fold-cause : {A : Type 0} (a : Answers) (s e : F × M) (d : ℕ) (ts : Forest) (r : Result A Stop) → IsFunction context others g a s
+      → ((t : F × M) (y : GenericArg) (n : ℕ) (q : Result (Option GenericArg) Stop) (u : F × M) → Says context others g t y n q u → IsArg (context t.1).trees y → Grows (context s.1) (context t.1)
+      → IfErr q (λ _. ⊥))
+      → IfErr r (λ x. StopsBy context others g s d ts x e) → IfErr r (λ x. IsSubstStop (numbers_given context e) (fold a d ts) x)
+  fold-cause a s e d ts r f never p = fold-stop IsSubstStop subst-cause a s e d ts r f (λ t y n x u k i l h. absurd (never t y n (Err x) u k i l)) p
+
+  -- so a fold of a number by answers that look at the head alone
+  pub head-stop : (C : ℕ → Forest → Stop → Type 0) → IsCause C → (a : ℕ → Head → Option Tree) (P : F → Type 0) (s e : F × M) (n : ℕ) (x : Stop) → P s.0
+      → ((t : F × M) (y : GenericArg) (d : ℕ) (r : Result (Option GenericArg) Stop) (u : F × M) → Says context others g t y d r u → P t.0 → P u.0)
+      → ((t : F × M) (y : GenericArg) (d : ℕ) (r : Result (Option GenericArg) Stop) (u : F × M) → Says context others g t y d r u → IsArg (context t.1).trees y → Grows (context s.1) (context t.1) → P t.0
+      → IfOk r (λ o. option_map (arg_tree (context u.1).trees) o ≡ a d (arg_tree (context t.1).trees y).head))
+      → ((t : F × M) (y : GenericArg) (d : ℕ) (r : Result (Option GenericArg) Stop) (u : F × M) → Says context others g t y d r u → IsArg (context t.1).trees y → Grows (context s.1) (context t.1) → P t.0
+      → IfErr r (λ z. SaidOfAnswer C (numbers_given context u) (a d (arg_tree (context t.1).trees y).head) z))
+      → ((d : ℕ) (h : Head) → is_asked h ≡ false → a d h ≡ None) → Renumbers context others g s 0 n (Err x) e
+      → C (numbers_given context e) (fold (λ d t. a d t.head) 0 (row (tree_at (context s.1).trees n) none)) x
+  head-stop C cause a P s e n x p keeps answers stops only r =
+      stops-cause C cause (λ d t. a d t.head) s (head-function context others g a P s p keeps answers only)
+      (λ t u d w z l k. let A : Tree → Type 0 = λ v. SaidOfAnswer C (numbers_given context u) (a d v.head) z in
+      subst A k.tree (stops t k.of d (Err z) u k.says k.is (reached-grows s t l) (reached-keeps context others g P keeps s t l p)))
+      here r.stopped
+
+  pub head-cause : (a : ℕ → Head → Option Tree) (P : F → Type 0) (s e : F × M) (n : ℕ) (x : Stop) → P s.0
+      → ((t : F × M) (y : GenericArg) (d : ℕ) (r : Result (Option GenericArg) Stop) (u : F × M) → Says context others g t y d r u → P t.0 → P u.0)
+      → ((t : F × M) (y : GenericArg) (d : ℕ) (r : Result (Option GenericArg) Stop) (u : F × M) → Says context others g t y d r u → IsArg (context t.1).trees y → Grows (context s.1) (context t.1) → P t.0
+      → IfOk r (λ o. option_map (arg_tree (context u.1).trees) o ≡ a d (arg_tree (context t.1).trees y).head))
+      → ((t : F × M) (y : GenericArg) (d : ℕ) (r : Result (Option GenericArg) Stop) (u : F × M) → Says context others g t y d r u → IsArg (context t.1).trees y → Grows (context s.1) (context t.1) → P t.0
+      → IfErr r (λ z. IsAnswerStop (numbers_given context u) (a d (arg_tree (context t.1).trees y).head) z))
+      → ((d : ℕ) (h : Head) → is_asked h ≡ false → a d h ≡ None) → Renumbers context others g s 0 n (Err x) e
+      → IsSubstStop (numbers_given context e) (fold (λ d t. a d t.head) 0 (row (tree_at (context s.1).trees n) none)) x
+  head-cause a P s e n x p keeps answers stops only r =
+      head-stop IsSubstStop subst-cause a P s e n x p keeps answers (λ t y d q u k i l h. said q (numbers_given context u) (a d (arg_tree (context t.1).trees y).head) (stops t y d q u k i l h)) only r
+    where
+      said : (q : Result (Option GenericArg) Stop) (given : ℕ) (o : Option Tree) → IfErr q (λ z. IsAnswerStop given o z) → IfErr q (λ z. SaidOfAnswer IsSubstStop given o z)
+      said (Ok v) given o k = tt
+      said (Err z) given o k = said-of-answer given o z k

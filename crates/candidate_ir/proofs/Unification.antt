@@ -1,0 +1,5 @@
+pub mod Impls
+pub mod Instances
+pub mod Pairs
+pub mod MayUnify
+pub mod UnifyCases

@@ -1,0 +1,3 @@
+pub mod Plain
+pub mod Cycles
+pub mod Places

@@ -1,0 +1,9 @@
+pub mod Worlds
+pub mod Declaration
+pub mod Contents
+pub mod Context
+pub mod Declaring
+pub mod Lookups
+pub mod References
+pub mod Names
+pub mod Parameters

@@ -1,0 +1,3 @@
+pub mod Supers
+pub mod Supertraits
+pub mod Elaboration

@@ -1,0 +1,5 @@
+pub mod Folding
+pub mod Owned
+pub mod Folds
+pub mod Opening
+pub mod Signatures

@@ -1,0 +1,11 @@
+pub mod Trees
+pub mod Kinds
+pub mod Flags
+pub mod Binders
+pub mod Nodes
+pub mod Shapes
+pub mod Marks
+pub mod Table
+pub mod Words
+pub mod Making
+pub mod TypeFlags

@@ -1,0 +1,3 @@
+pub mod Impls
+pub mod Substitutions
+pub mod Unify

@@ -1,0 +1,4 @@
+pub mod Held
+pub mod Misplaced
+pub mod Faults
+pub mod WellFormed

@@ -1,0 +1,169 @@
+-- What is wrong with declarations.
+use Rattle.std.specs.Prelude.{◌≡◌, ℕ, ◌<◌, Bool, true, false, not, ◌||◌, ◌&&◌, IsTrue, length, ◌⊎◌, List, [], ◌∷◌, Option, Some, None, slice_get, nat_le, ◌==◌, slice_index_or, if◌then◌else◌}
+use Rattle.std.specs.List.{list_any}
+use Rattle.candidate_ir.specs.declared.ir.kinds.VarKind.{VarKind}
+use Rattle.candidate_ir.specs.declared.ir.kinds.TraitId.{TraitId}
+use Rattle.candidate_ir.specs.declared.decl.builder.DeclFault.{DeclFault}
+use Rattle.candidate_ir.specs.declared.decl.builder.DeclFault.TheVariants as F
+use Rattle.candidate_ir.specs.declared.decl.definition.AdtShape.{AdtShape}
+use Rattle.candidate_ir.specs.declared.decl.definition.AdtShape.TheVariants as Shape
+use Rattle.candidate_ir.specs.declared.decl.definition.DefinitionKind.{DefinitionKind}
+use Rattle.candidate_ir.specs.declared.decl.definition.DefinitionKind.TheVariants as D
+use Rattle.candidate_ir.specs.declared.decl.contents.ImplId.{ImplId}
+use Rattle.candidate_ir.specs.declared.decl.contents.LangItem.{LangItem}
+use Rattle.candidate_ir.specs.declared.decl.contents.LangItem.TheVariants as L
+use Rattle.candidate_ir.specs.Declarations.Declaring.{item_number, takes_a_type}
+use Rattle.candidate_ir.specs.declared.decl.held.Held.{Held}
+use Rattle.candidate_ir.specs.declared.decl.misplaced.Misplaced.TheVariants as M
+use Rattle.candidate_ir.specs.Declarations.Declaration.{Declaration}
+use Rattle.candidate_ir.specs.Declarations.Contents.{AdtContents, Impl, Contents}
+use Rattle.candidate_ir.specs.Declarations.Context.{Context, world, is_unknown, is_declared_trait, lacks_trait, has_wrong_arity, begins_with_type, is_empty}
+use Rattle.candidate_ir.specs.Validity.Held.{all_held}
+use Rattle.candidate_ir.specs.Validity.Misplaced.{is_not_given, held_misplaces, held_escapes}
+use Rattle.candidate_ir.specs.Hierarchy.Supers.{has_wrong_super}
+use Rattle.candidate_ir.specs.Hierarchy.Supertraits.{HasSupertraitCycle}
+use Rattle.candidate_ir.specs.Declarations.Names.{names_unknown}
+use Rattle.candidate_ir.specs.Declarations.References.{IsWellFormed}
+use Rattle.candidate_ir.specs.Syntax.Trees.{TypeKind, Tree}
+use Rattle.candidate_ir.specs.Syntax.Words.{IsArgs, args_forest}
+use Rattle.candidate_ir.specs.Declarations.Worlds.{World, TraitSort, joined, parameters, kinds_of}
+
+-- all that declarations hold
+abbrev pub all_that_is_held : Context → List Held
+all_that_is_held c = all_held c.declarations c.contents
+
+-- An impl is of a crate that wasn't added, of what is no trait, or it specialises what is no impl.
+abbrev pub impl_misnames : ℕ → List Declaration → ℕ → Impl → Bool
+impl_misnames crates ds count i =
+    is_unknown crates i.crate || (not (is_declared_trait (slice_get ds i.trait_ref.def_id.0)) || list_any (λ (j : ImplId). nat_le count j.0) i.specializes)
+
+-- a lang item that is no trait
+abbrev pub item_misnames : List Declaration → Option TraitId → Bool
+item_misnames ds None = false
+item_misnames ds (Some t) = not (is_declared_trait (slice_get ds t.0))
+
+-- A call names what was never given; or a crate was never added; or an associated item is of no trait.
+abbrev pub declarations_misname : Context → Bool
+declarations_misname c =
+    c.contents.misnamed
+    || (is_unknown c.crates c.local
+    || (list_any (λ d. is_unknown c.crates d.crate) c.declarations
+    || list_any (λ d. lacks_trait c.declarations d.kind) c.declarations))
+
+-- A declaration holds a number that was never given; or a node names a definition that wasn't.
+abbrev pub nodes_misname : Context → Bool
+nodes_misname c = list_any (is_not_given c.trees) (all_that_is_held c) || list_any (λ t. names_unknown (length c.declarations) t.head) c.trees
+
+abbrev pub contents_misname : Context → Bool
+contents_misname c =
+    list_any (impl_misnames c.crates c.declarations (length c.contents.impls)) c.contents.impls
+    || list_any (item_misnames c.declarations) c.contents.lang_items
+
+abbrev pub has_unknown_id : Context → Bool
+has_unknown_id c = declarations_misname c || (contents_misname c || nodes_misname c)
+
+-- a parameter that changes where it is unsized, and that it doesn't have
+abbrev pub has_past_unsizing : List VarKind → Option AdtContents → Bool
+has_past_unsizing ks None = false
+has_past_unsizing ks (Some a) = list_any (λ i. nat_le (length ks) i) a.unsizing
+
+abbrev pub kind_unsizes_past : Contents → List VarKind → DefinitionKind → Bool
+kind_unsizes_past c ks (D.Adt shape flags n) = has_past_unsizing ks (slice_get c.adts n)
+kind_unsizes_past c ks _ = false
+
+abbrev pub unsizes_past : Contents → Declaration → Bool
+unsizes_past c d = kind_unsizes_past c d.parameters d.kind
+
+-- A definition has parameters that its flags don't allow, or what is declared names one that isn't there.
+abbrev pub has_wrong_parameters : Context → Bool
+has_wrong_parameters c =
+    list_any (λ d. has_wrong_arity d.kind d.parameters) c.declarations
+    || (list_any (unsizes_past c.contents) c.declarations
+    || list_any (held_misplaces M.Past c.trees c.declarations c.contents.impls) (all_that_is_held c))
+
+-- The arguments of the impl's header are those that its trait takes: a type, and then one of the kind of each parameter.
+pub record ImplFits (w : World) (ts : List Tree) (i : Impl) : Type 0 where
+  pub given : IsArgs ts i.trait_ref.args
+  pub takes : joined (Some (TypeKind ∷ [])) (parameters w TraitSort i.trait_ref.def_id.0) ≡ Some (kinds_of (args_forest ts i.trait_ref.args))
+
+abbrev pub ImplsFit : World → List Tree → List Impl → Type 0
+ImplsFit w ts [] = Unit {0}
+ImplsFit w ts (i ∷ is) = ImplFits w ts i × ImplsFit w ts is
+
+-- The arguments of all nodes fit, whether or not they are used, and so do those of all impls.
+pub record AllArgumentsFit (c : Context) : Type 0 where
+  pub nodes : IsWellFormed c
+  pub impls : ImplsFit (world c) c.trees c.contents.impls
+
+-- A parameter is of another kind than it stands for; or a variable, a placeholder or a bound variable that nothing binds
+-- stands in what is declared; or a super clause doesn't say of `Self` what one may say.
+abbrev pub has_wrong_kind : Context → Bool
+has_wrong_kind c =
+    list_any (held_misplaces M.Stray c.trees c.declarations c.contents.impls) (all_that_is_held c)
+    || (list_any (held_escapes c.trees) (all_that_is_held c)
+    || list_any (λ d. has_wrong_super c.trees c.contents d.kind) c.declarations)
+
+abbrev pub is_struct : AdtShape → Bool
+is_struct Shape.Struct = true
+is_struct _ = false
+
+abbrev pub is_nothing : {X : Type 0} → List X → Bool
+is_nothing [] = true
+is_nothing (x ∷ xs) = false
+
+-- It changes where it is unsized, and isn't a struct with a field.
+abbrev pub unsizes_without_tail : AdtShape → Option AdtContents → Bool
+unsizes_without_tail shape None = false
+unsizes_without_tail shape (Some a) = not (is_nothing a.unsizing) && (not (is_struct shape) || is_nothing a.fields)
+
+abbrev pub lacks_tail : Contents → DefinitionKind → Bool
+lacks_tail c (D.Adt shape flags n) = unsizes_without_tail shape (slice_get c.adts n)
+lacks_tail c _ = false
+
+abbrev pub all_items : List LangItem
+all_items =
+    L.Sized ∷ L.MetaSized ∷ L.Copy ∷ L.Clone ∷ L.TrivialClone ∷ L.Fn ∷ L.FnMut ∷ L.FnOnce ∷ L.FnPtrTrait ∷ L.Tuple ∷ L.PointeeTrait ∷ L.DiscriminantKind ∷ L.Destruct
+    ∷ L.Drop ∷ L.BikeshedGuaranteedNoDrop ∷ L.Unsize ∷ []
+
+-- a type, or nothing
+abbrev pub has_item_parameters : LangItem → List VarKind → Bool
+has_item_parameters item ks = if takes_a_type item then length ks == 1 && begins_with_type ks else is_empty ks
+
+abbrev pub lacks_item_parameters : LangItem → Option Declaration → Bool
+lacks_item_parameters item None = false
+lacks_item_parameters item (Some d) = not (has_item_parameters item d.parameters)
+
+abbrev pub trait_lacks_item_parameters : LangItem → List Declaration → Option TraitId → Bool
+trait_lacks_item_parameters item ds None = false
+trait_lacks_item_parameters item ds (Some t) = lacks_item_parameters item (slice_get ds t.0)
+
+-- The trait that is the lang item has other parameters than the item has.
+abbrev pub item_has_wrong_arity : List Declaration → List (Option TraitId) → LangItem → Bool
+item_has_wrong_arity ds items item = trait_lacks_item_parameters item ds (slice_index_or items (item_number item) None)
+
+-- When a fault is there. Contents that a later call replaced don't count.
+abbrev pub HasFault : Context → DeclFault → Type 0
+HasFault c F.UnknownId = IsTrue (has_unknown_id c)
+HasFault c F.WrongArity = IsTrue (has_wrong_parameters c) ⊎ (AllArgumentsFit c → ⊥)
+HasFault c F.WrongKind = IsTrue (has_wrong_kind c)
+HasFault c F.SupertraitCycle = HasSupertraitCycle c
+HasFault c F.NoTail = IsTrue (list_any (λ d. lacks_tail c.contents d.kind) c.declarations)
+HasFault c F.LangArity = IsTrue (list_any (item_has_wrong_arity c.declarations c.contents.lang_items) all_items)
+HasFault c _ = ⊥
+
+abbrev pub fault_number : DeclFault → ℕ
+fault_number F.UnknownId = 1
+fault_number F.WrongArity = 2
+fault_number F.WrongKind = 3
+fault_number F.SupertraitCycle = 4
+fault_number F.NoTail = 5
+fault_number F.LangArity = 6
+fault_number F.Memory = 7
+
+-- It is there, and none of a lower number is.
+pub record IsLowestFault (c : Context) (f : DeclFault) : Type 0 where
+  pub there : HasFault c f
+  pub lowest : (g : DeclFault) → fault_number g < fault_number f → HasFault c g → ⊥
+
+abbrev pub IsFaultless : Context → Type 0
+IsFaultless c = (f : DeclFault) → HasFault c f → ⊥

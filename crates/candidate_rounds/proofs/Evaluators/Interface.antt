@@ -1,0 +1,127 @@
+-- What an evaluator of rounds is to generic code stays so.
+use Rattle.std.proofs.Common.{◌≡◌, ◌≢◌, List, [], Option, Some, None, Result, Ok, Err, IfErr, IfOk, OnErr, OnOk, refl, sym, ◌∙◌, ap, subst}
+use Rattle.std.proofs.lemmas.List.{append-nil}
+use Rattle.candidate_ir.specs.declared.ir.kinds.AliasTy.{AliasTy}
+use Rattle.candidate_ir.specs.declared.ir.kinds.TyKind.TheVariants as K
+use Rattle.candidate_ir.specs.Declarations.Context.{Context, Grows, world, world_of}
+use Rattle.candidate_ir.specs.Syntax.Nodes.{Extends}
+use Rattle.candidate_ir.specs.Syntax.Trees.{Forest, Tree}
+use Rattle.candidate_ir.specs.Syntax.Words.{KindFits, kind_tree}
+use Rattle.candidate_ir.proofs.Growth.Kept.{grows-refl}
+use Rattle.candidate_eval.specs.Interface.Evaluators.{Keeps, accepted, alias_trees, with_left}
+use Rattle.candidate_eval.specs.declared.eval.refusal.NoSolutionOrStop.{NoSolutionOrStop}
+use Rattle.candidate_eval.specs.Judges.States.{Env, State, next}
+use Rattle.rounds_judge.specs.Equations.Equating.{equated, without_goals}
+use Rattle.rounds_judge.specs.Aliases.WellListed.{well_listed}
+use Rattle.rounds_judge.proofs.Aliases.WellListed.{all-listed}
+use Rattle.candidate_rounds.specs.Table.Goals.{IsTabled, table_seen}
+use Rattle.candidate_rounds.proofs.Table.Tabled.{tabled-sees}
+use Rattle.candidate_rounds.specs.Evaluators.Interface.{fixed, judge_of, rest}
+use Rattle.candidate_rounds.specs.Evaluators.Known.{Each, Evaluator, GoesOn, IsEvaluator, IsGiven, KeepsGiven, listing, listing_of, probes, state, table_of}
+use Rattle.candidate_rounds.proofs.Evaluators.Between.{parts}
+use Rattle.candidate_rounds.proofs.Evaluators.Going.{goes-context, goes-probes, goes-same}
+use Rattle.candidate_rounds.proofs.Snapshots.Knowing.{alias-stays, each-map}
+use Rattle.candidate_rounds.proofs.Resolution.Listing.{listing-kept}
+
+-- What is fixed stays so as nodes are made and more is known.
+
+pub opaques-kept : (ts us : List Tree) (xs : List AliasTy) → Extends ts us → Each (λ a. KindFits ts (K.Alias a)) xs → alias_trees us xs ≡ alias_trees ts xs
+opaques-kept ts us xs e k = each-map (λ a. KindFits ts (K.Alias a)) (λ a. kind_tree us (K.Alias a)) (λ a. kind_tree ts (K.Alias a)) xs (λ a i. alias-stays ts us a e i) k
+
+pub table-kept : (old new : Evaluator) → Grows old.context new.context → KeepsGiven old new → IsTabled old.context.trees old.goals → table_of new ≡ table_of old
+table-kept old new g k tabled = ap (table_seen new.context.trees) k.2 ∙ tabled-sees old.context.trees new.context.trees g.kept old.goals tabled
+
+pub fixed-kept : (old new : Evaluator) → Grows old.context new.context → KeepsGiven old new → IsGiven old.context.trees old.normal old.opaques → IsTabled old.context.trees old.goals → fixed new ≡ fixed old
+fixed-kept old new g k given tabled =
+    let declared : world new.context ≡ world old.context = ap world g.same in
+    let local : new.context.local.0 ≡ old.context.local.0 = ap (λ (c : Context). c.local.0) g.same in
+    let listed : listing new ≡ listing old = ap (listing_of new.context.trees) k.0 ∙ listing-kept old.context new.context old.normal g given.types in
+    let hidden : alias_trees new.context.trees new.opaques ≡ alias_trees old.context.trees old.opaques = ap (alias_trees new.context.trees) k.1 ∙ opaques-kept old.context.trees new.context.trees old.opaques g.kept given.opaques_fit in
+    let read = table-kept old new g k tabled in
+    λ i. record { world = declared i; local_crate = local i; listing = listed i; opaques = hidden i; table = read i }
+
+-- where no node is made
+pub fixed-same : (old new : Evaluator) → KeepsGiven old new → new.context.declarations ≡ old.context.declarations → new.context.local ≡ old.context.local → new.context.trees ≡ old.context.trees → fixed new ≡ fixed old
+fixed-same old new k d n t =
+    let listed : listing new ≡ listing old = ap (listing_of new.context.trees) k.0 ∙ ap (λ ts. listing_of ts old.normal) t in
+    let hidden : alias_trees new.context.trees new.opaques ≡ alias_trees old.context.trees old.opaques = ap (alias_trees new.context.trees) k.1 ∙ ap (λ ts. alias_trees ts old.opaques) t in
+    let read : table_of new ≡ table_of old = ap (table_seen new.context.trees) k.2 ∙ ap (λ ts. table_seen ts old.goals.table) t in
+    λ i. record { world = world_of (d i); local_crate = (n i).0; listing = listed i; opaques = hidden i; table = read i }
+
+pub keeps-all : (old new : Evaluator) → Grows old.context new.context → KeepsGiven old new → IsGiven old.context.trees old.normal old.opaques → IsTabled old.context.trees old.goals → probes new ≡ probes old
+    → Keeps fixed probes (λ r. r.context) old new
+keeps-all old new g k given tabled p = record { fixed_same = fixed-kept old new g k given tabled; probes_same = p; grows = g }
+
+pub keeps-going : (old new : Evaluator) → GoesOn old new → IsEvaluator old.context.trees old.inference old.marks old.normal old.opaques old.goals → Keeps fixed probes (λ r. r.context) old new
+keeps-going old new g h = keeps-all old new g.0 g.1 (parts h).given (parts h).tabled (goes-probes old new g (parts h).consistent.known (parts h).consistent.marks)
+
+-- All that nodes leave is what it was.
+pub rest-kept : (old new : Evaluator) → fixed new ≡ fixed old → state new ≡ state old → probes new ≡ probes old → new.context.delayed_bugs ≡ old.context.delayed_bugs → rest new ≡ rest old
+rest-kept old new f s p d = λ i. record { fixed = f i; state = s i; probes = p i; faults = d i }
+
+-- An equation's answer, as the judge of the interface has it.
+
+pub as-judged : (r : Evaluator) (S : State) (a b : Forest) → IsGiven r.context.trees r.normal r.opaques → equated (well_listed (listing r)) S a b ≡ equated (listing r) S a b
+as-judged r S a b given = ap (λ l. equated l S a b) (all-listed (listing r) given.listing)
+
+pub accepted-some : (r : Evaluator) (e : Env) (a b : Forest) (T : State) → IsGiven r.context.trees r.normal r.opaques → equated (listing r) (state r) a b ≡ Some T → accepted (judge_of (fixed r)) (state r) e a b ≡ Some T
+accepted-some r e a b T given q =
+    ap (λ (o : Option State). next (without_goals o) (λ q. Some (with_left q))) (as-judged r (state r) a b given ∙ q)
+    ∙ ap (λ ps. Some (record T { pending = ps })) (append-nil T.pending)
+
+pub accepted-none : (r : Evaluator) (e : Env) (a b : Forest) → IsGiven r.context.trees r.normal r.opaques → equated (listing r) (state r) a b ≡ None → accepted (judge_of (fixed r)) (state r) e a b ≡ None
+accepted-none r e a b given q = ap (λ (o : Option State). next (without_goals o) (λ q. Some (with_left q))) (as-judged r (state r) a b given ∙ q)
+
+pub equated-some : (r : Evaluator) (a b : Forest) (T : State) → IsGiven r.context.trees r.normal r.opaques → equated (listing r) (state r) a b ≡ Some T → without_goals (equated (well_listed (listing r)) (state r) a b) ≡ Some ([], T)
+equated-some r a b T given q = ap without_goals (as-judged r (state r) a b given ∙ q)
+
+pub equated-none : (r : Evaluator) (a b : Forest) → IsGiven r.context.trees r.normal r.opaques → equated (listing r) (state r) a b ≡ None → without_goals (equated (well_listed (listing r)) (state r) a b) ≡ None
+equated-none r a b given q = ap without_goals (as-judged r (state r) a b given ∙ q)
+
+-- Nodes are made, and nothing else.
+pub made-rest : (r : Evaluator) (x : Context) → Grows r.context x → x.delayed_bugs ≡ r.context.delayed_bugs → IsEvaluator r.context.trees r.inference r.marks r.normal r.opaques r.goals
+    → rest (record r { context = x }) ≡ rest r
+made-rest r x g d h =
+    let goes = goes-context r x g in
+    rest-kept r (record r { context = x }) (fixed-kept r (record r { context = x }) g (refl, refl, refl) (parts h).given (parts h).tabled) (goes-same r (record r { context = x }) goes refl (parts h).consistent.known)
+    (goes-probes r (record r { context = x }) goes (parts h).consistent.known (parts h).consistent.marks) d
+
+-- A call that makes nodes, and nothing else, of an evaluator that is as its fields say.
+
+pub made-goes : {old v : Evaluator} {x : Context} → v ≡ old → Grows v.context x → GoesOn old (record v { context = x })
+made-goes {old} {v} {x} e g = subst (λ (r : Evaluator). GoesOn r (record v { context = x })) e (goes-context v x g)
+
+pub made-kept : {old v : Evaluator} {x : Context} → v ≡ old → Grows v.context x → IsEvaluator v.context.trees v.inference v.marks v.normal v.opaques v.goals → Keeps fixed probes (λ r. r.context) old (record v { context = x })
+made-kept {old} {v} {x} e g h = subst (λ (r : Evaluator). Keeps fixed probes (λ s. s.context) r (record v { context = x })) e (keeps-going v (record v { context = x }) (goes-context v x g) h)
+
+pub made-same : {old v : Evaluator} {x : Context} → v ≡ old → Grows v.context x → IsEvaluator v.context.trees v.inference v.marks v.normal v.opaques v.goals → state (record v { context = x }) ≡ state old
+made-same {old} {v} {x} e g h = goes-same v (record v { context = x }) (goes-context v x g) refl (parts h).consistent.known ∙ ap state e
+
+-- nothing happens
+pub keeps-refl : (r : Evaluator) → Keeps fixed probes (λ s. s.context) r r
+keeps-refl r = record { fixed_same = refl; probes_same = refl; grows = grows-refl r.context }
+
+-- a call that changes what is known, and makes no node
+pub keeps-same : (old new : Evaluator) → new.context ≡ old.context → KeepsGiven old new → probes new ≡ probes old → Keeps fixed probes (λ r. r.context) old new
+keeps-same old new e k p = record {
+  fixed_same = fixed-same old new k (ap (λ (c : Context). c.declarations) e) (ap (λ (c : Context). c.local) e) (ap (λ (c : Context). c.trees) e);
+  probes_same = p;
+  grows = subst (Grows old.context) (sym e) (grows-refl old.context);
+}
+
+-- An answer of a call by its result.
+
+pub eq-ok : {A : Type 0} (q : Result A NoSolutionOrStop) (r : Evaluator) (e : Env) (a b : Forest) (T : State) → IsGiven r.context.trees r.normal r.opaques → OnOk q (equated (listing r) (state r) a b ≡ Some T)
+    → IfOk q (λ _. accepted (judge_of (fixed r)) (state r) e a b ≡ Some T)
+eq-ok (Ok x) r e a b T given h = accepted-some r e a b T given h
+eq-ok (Err x) r e a b T given h = tt
+
+pub eq-refused : {A : Type 0} (q : Result A NoSolutionOrStop) (r : Evaluator) (e : Env) (a b : Forest) → IsGiven r.context.trees r.normal r.opaques → IfErr q (λ f. f ≡ NoSolutionOrStop.NoSolution → equated (listing r) (state r) a b ≡ None)
+    → IfErr q (λ f. f ≡ NoSolutionOrStop.NoSolution → accepted (judge_of (fixed r)) (state r) e a b ≡ None)
+eq-refused (Ok x) r e a b given h = tt
+eq-refused (Err x) r e a b given h = λ n. accepted-none r e a b given (h n)
+
+pub eq-stopped : {A : Type 0} (q : Result A NoSolutionOrStop) (old new : Evaluator) → GoesOn old new → IsEvaluator old.context.trees old.inference old.marks old.normal old.opaques old.goals → OnErr q (new.inference ≡ old.inference)
+    → IfErr q (λ f. f ≢ NoSolutionOrStop.NoSolution → state new ≡ state old)
+eq-stopped (Ok x) old new g h u = tt
+eq-stopped (Err x) old new g h u = λ n. goes-same old new g u (parts h).consistent.known

@@ -1,0 +1,186 @@
+-- The type that pairs list for a tree, and folds that put such types in.
+use Rattle.std.proofs.Common.{◌≡◌, ◌↔◌, ℕ, suc, ◌<◌, ◌≤◌, ◌+◌, ◌==◌, ◌||◌, Bool, true, false, IsTrue, List, [], ◌∷◌, length, drop, slice_index_or, Option, Some, None, Result, Ok, ◌⊎◌, inl, inr, refl, sym, ◌∙◌, ap, subst, arith, if◌then◌else◌}
+use Rattle.std.specs.Prelude.{IfOk}
+use Rattle.std.specs.Option.{option_map, unwrap_or}
+use Rattle.std.specs.Fn.{Mut}
+use Rattle.std.specs.Borrow.{MutBor}
+use Rattle.std.proofs.lemmas.Bool.{eqb-true}
+use Rattle.candidate_ir.specs.declared.ir.kinds.Const.{Const}
+use Rattle.candidate_ir.specs.declared.ir.kinds.GenericArg.{GenericArg}
+use Rattle.candidate_ir.specs.declared.ir.kinds.GenericArg.TheVariants as A
+use Rattle.candidate_ir.specs.declared.ir.kinds.Region.{Region}
+use Rattle.candidate_ir.specs.declared.ir.kinds.Ty.{Ty}
+use Rattle.candidate_ir.specs.declared.ir.stop.Stop.{Stop}
+use Rattle.candidate_ir.specs.Declarations.Context.{Context, Grows}
+use Rattle.candidate_ir.specs.Hierarchy.Elaboration.{same_tree}
+use Rattle.candidate_ir.specs.Instantiation.Folds.{IsArg, IsFunction, IsOfKind, IsReached, Says, arg_tree, here, by_call, by_nodes, is_asked, is_asked_kind}
+use Rattle.candidate_ir.specs.Syntax.Kinds.{arg_kind, arg_number}
+use Rattle.candidate_ir.specs.Syntax.Trees.{TypeKind, Tree, Forest, none, tree, binders_of, holds, is_alias, kind_of}
+use Rattle.candidate_ir.specs.Syntax.Words.{IsTy, ty_tree}
+use Rattle.candidate_ir.proofs.Hierarchy.Elaboration.{tree_is, tree_itself}
+use Rattle.candidate_ir.proofs.Traversal.FoldLaws.{reached-keeps}
+use Rattle.candidate_ir.proofs.Instantiation.Folding.{fold-nothing}
+use Rattle.candidate_ir.proofs.Hierarchy.Implying.{arg-kept}
+use Rattle.candidate_ir.proofs.Growth.Kept.{grows-refl, grows-trans, ty-kept}
+use Rattle.candidate_ir.proofs.Syntax.Rows.{kind-of}
+use Rattle.candidate_eval.specs.Judges.States.{State, resolved_tree}
+use Rattle.candidate_rounds.specs.Evaluators.Known.{AreTypes, Each, listing_of}
+use Rattle.rounds_judge.specs.Aliases.Listed.{listed, listed_at, normalized_tree}
+use Rattle.candidate_rounds.proofs.Obligations.Gathering.{each-index}
+use Rattle.candidate_rounds.proofs.Snapshots.Knowing.{each-imply, each-map, there-arg}
+use Rattle.candidate_rounds.proofs.Snapshots.Undoing.{drop-one, drop-beyond}
+
+-- One pair after the other.
+
+abbrev pub IsListedFrom : List Tree → List (Ty × Ty) → Tree → ℕ → Type 0
+IsListedFrom ts ps t i = listed (listing_of ts ps) t ≡ listed (listing_of ts (drop i ps)) t
+
+same-says : (t u : Tree) (b : Bool) → IsTrue b ↔ (t ≡ u) → same_tree t u ≡ b
+same-says t u true e = ap (same_tree t) (sym (e.0 refl)) ∙ tree_itself t
+same-says t u false e = of (same_tree t u) refl
+  where
+    of : (b : Bool) → same_tree t u ≡ b → b ≡ false
+    of true q = let f : IsTrue false = e.1 (tree_is t u q) in absurd cc
+    of false q = refl
+
+module _ (ts : List Tree) (ps : List (Ty × Ty)) (t : Tree) (i : ℕ) (d : Ty × Ty) (a : IsListedFrom ts ps t i) (l : i < length ps) where
+  this : (b c : Bool) → same_tree (ty_tree ts (slice_index_or ps i d).0) t ≡ b → b ≡ c
+      → listed (listing_of ts ps) t ≡ (if c then Some (ty_tree ts (slice_index_or ps i d).1) else listed (listing_of ts (drop (suc i) ps)) t)
+  this b c e f =
+      a ∙ (ap (λ qs. listed (listing_of ts qs) t) (drop-one ps i d l)
+      ∙ ap (λ x. if x then Some (ty_tree ts (slice_index_or ps i d).1) else listed (listing_of ts (drop (suc i) ps)) t) (e ∙ f))
+
+  pub not-this : (b : Bool) → IsTrue b ↔ (ty_tree ts (slice_index_or ps i d).0 ≡ t) → b ≡ false → IsListedFrom ts ps t (i + 1)
+  not-this b s f =
+      let j : suc i ≡ i + 1 = omega arith in
+      this b false (same-says (ty_tree ts (slice_index_or ps i d).0) t b s) f ∙ ap (λ k. listed (listing_of ts (drop k ps)) t) j
+
+  pub this-one : (b : Bool) → Each (AreTypes ts) ps → IsTrue b ↔ (ty_tree ts (slice_index_or ps i d).0 ≡ t) → b ≡ true
+      → IsTy ts (slice_index_or ps i d).1 × (listed (listing_of ts ps) t ≡ Some (ty_tree ts (slice_index_or ps i d).1))
+  this-one b k s f = ((each-index (AreTypes ts) ps i d k l).1, this b true (same-says (ty_tree ts (slice_index_or ps i d).0) t b s) f)
+
+pub none-left : (ts : List Tree) (ps : List (Ty × Ty)) (t : Tree) (i : ℕ) → IsListedFrom ts ps t i → length ps ≤ i → listed (listing_of ts ps) t ≡ None
+none-left ts ps t i a l = a ∙ ap (λ qs. listed (listing_of ts qs) t) (drop-beyond ps i l)
+
+-- Nothing but types is listed.
+
+pub type-head : (ts : List Tree) (t : Ty) → IsTy ts t → kind_of (ty_tree ts t).head ≡ TypeKind
+type-head ts t i = kind-of ts t.0 TypeKind refl i
+
+pub listed-types : (ts : List Tree) (ps : List (Ty × Ty)) (t : Tree) → Each (AreTypes ts) ps → (kind_of t.head ≡ TypeKind → ⊥) → listed (listing_of ts ps) t ≡ None
+listed-types ts [] t k n = refl
+listed-types ts (p ∷ ps) t k n = at (same_tree (ty_tree ts p.0) t) refl (listed-types ts ps t k.1 n)
+  where
+    at : (b : Bool) → same_tree (ty_tree ts p.0) t ≡ b → listed (listing_of ts ps) t ≡ None → (if b then Some (ty_tree ts p.1) else listed (listing_of ts ps) t) ≡ None
+    at true e r = absurd (n (ap (λ (x : Tree). kind_of x.head) (sym (tree_is (ty_tree ts p.0) t e)) ∙ type-head ts p.0 k.0.0))
+    at false e r = r
+
+pub listed-unasked : (ts : List Tree) (ps : List (Ty × Ty)) (t : Tree) → Each (AreTypes ts) ps → is_asked t.head ≡ false → listed (listing_of ts ps) t ≡ None
+listed-unasked ts ps t k e = listed-types ts ps t k (λ q. let f = sym e ∙ ap is_asked_kind q in absurd cc)
+
+-- As more numbers are given.
+
+pub types-kept : (a b : Context) (ps : List (Ty × Ty)) → Grows a b → Each (AreTypes a.trees) ps → Each (AreTypes b.trees) ps
+types-kept a b ps g k = each-imply (AreTypes a.trees) (AreTypes b.trees) ps (λ p i. ((ty-kept a b p.0 g i.0).0, (ty-kept a b p.1 g i.1).0)) k
+
+pub listing-kept : (a b : Context) (ps : List (Ty × Ty)) → Grows a b → Each (AreTypes a.trees) ps → listing_of b.trees ps ≡ listing_of a.trees ps
+listing-kept a b ps g k = each-map (AreTypes a.trees) (pair b.trees) (pair a.trees) ps stays k
+  where
+    pair : List Tree → Ty × Ty → Tree × Tree
+    pair ts p = (ty_tree ts p.0, ty_tree ts p.1)
+
+    stays : (p : Ty × Ty) → AreTypes a.trees p → pair b.trees p ≡ pair a.trees p
+    stays p i =
+        let x = (ty-kept a b p.0 g i.0).1 in
+        let y = (ty-kept a b p.1 g i.1).1 in
+        λ j. (x j, y j)
+
+-- What is no type has none listed.
+pub other-unlisted : (ts : List Tree) (ps : List (Ty × Ty)) (x : GenericArg) → IsArg ts x → Each (AreTypes ts) ps → ((c : Const) × (x ≡ A.Const c)) ⊎ ((r : Region) × (x ≡ A.Region r))
+    → listed (listing_of ts ps) (arg_tree ts x) ≡ None
+other-unlisted ts ps x i k s = listed-types ts ps (arg_tree ts x) k (λ q. other s (sym (kind-of ts (arg_number x) (arg_kind x) (there-arg x) i) ∙ q))
+  where
+    other : ((c : Const) × (x ≡ A.Const c)) ⊎ ((r : Region) × (x ≡ A.Region r)) → arg_kind x ≡ TypeKind → ⊥
+    other (inl e) q = let f = sym (ap arg_kind e.1) ∙ q in absurd cc
+    other (inr e) q = let f = sym (ap arg_kind e.1) ∙ q in absurd cc
+
+-- What stands for an alias, where this is listed for it with all values put in.
+
+pub or-itself : (ts : List Tree) (o : Option GenericArg) (x : GenericArg) → arg_tree ts (unwrap_or o x) ≡ unwrap_or (option_map (arg_tree ts) o) (arg_tree ts x)
+or-itself ts None x = refl
+or-itself ts (Some y) x = refl
+
+pub or-of-kind : (ts : List Tree) (o : Option GenericArg) (x y : GenericArg) → IsArg ts x → arg_kind y ≡ arg_kind x → IsOfKind ts y o → IsArg ts (unwrap_or o x) × (arg_kind (unwrap_or o x) ≡ arg_kind x)
+or-of-kind ts None x y i e k = (i, refl)
+or-of-kind ts (Some v) x y i e k = (k.0, k.1 ∙ e)
+
+module _ (a b : Context) (S : State) (ps : List (Ty × Ty)) (x : GenericArg) where
+  pub listed-root : (y : GenericArg) (o : Option GenericArg) → Grows a b → IsArg a.trees x → Each (AreTypes a.trees) ps → is_alias (arg_tree a.trees x).head ≡ true
+      → arg_tree b.trees y ≡ resolved_tree S (arg_tree a.trees x) → option_map (arg_tree b.trees) o ≡ listed (listing_of b.trees ps) (arg_tree b.trees y)
+      → arg_tree b.trees (unwrap_or o x) ≡ listed_at (listing_of a.trees ps) S (arg_tree a.trees x)
+  listed-root y o g i k q e f =
+      or-itself b.trees o x
+      ∙ (ap (λ u. unwrap_or u (arg_tree b.trees x)) f
+      ∙ (ap (λ t. unwrap_or (listed (listing_of b.trees ps) (arg_tree b.trees y)) t) (arg-kept a b x g i).1
+      ∙ (ap (λ l. unwrap_or (listed l (arg_tree b.trees y)) (arg_tree a.trees x)) (listing-kept a b ps g k)
+      ∙ (ap (λ t. unwrap_or (listed (listing_of a.trees ps) t) (arg_tree a.trees x)) e
+      ∙ sym (ap (λ c. if c then unwrap_or (listed (listing_of a.trees ps) (resolved_tree S (arg_tree a.trees x))) (arg_tree a.trees x) else arg_tree a.trees x) q)))))
+
+  pub other-root : is_alias (arg_tree a.trees x).head ≡ false → arg_tree a.trees x ≡ listed_at (listing_of a.trees ps) S (arg_tree a.trees x)
+  other-root q = sym (ap (λ c. if c then unwrap_or (listed (listing_of a.trees ps) (resolved_tree S (arg_tree a.trees x))) (arg_tree a.trees x) else arg_tree a.trees x) q)
+
+-- Where nothing is listed it stays.
+pub empty-root : (ts : List Tree) (ps : List (Ty × Ty)) (S : State) (t : Tree) → (length ps == 0) ≡ true → t ≡ listed_at (listing_of ts ps) S t
+empty-root ts [] S t e = at (is_alias t.head)
+  where
+    at : (b : Bool) → t ≡ (if b then t else t)
+    at true = refl
+    at false = refl
+empty-root ts (p ∷ ps) S t e = let z = eqb-true (suc (length ps)) 0 e in absurd (omega (arith, z))
+
+-- A call that answers what is listed.
+pub listed-answer : (c s e : Context) (ps : List (Ty × Ty)) (x : GenericArg) (r : Result (Option GenericArg) Stop) → Grows c s → Each (AreTypes c.trees) ps → e ≡ s
+    → IfOk r (λ o. option_map (arg_tree s.trees) o ≡ listed (listing_of s.trees ps) (arg_tree s.trees x)) → IfOk r (λ o. option_map (arg_tree e.trees) o ≡ listed (listing_of c.trees ps) (arg_tree s.trees x))
+listed-answer c s e ps x r g k same q =
+    subst (λ (u : Context). IfOk r (λ o. option_map (arg_tree u.trees) o ≡ listed (listing_of c.trees ps) (arg_tree s.trees x))) (sym same)
+    (subst (λ m. IfOk r (λ o. option_map (arg_tree s.trees) o ≡ listed m (arg_tree s.trees x))) (listing-kept c s ps g k) q)
+
+-- and keeps numbers and kinds
+pub listed-keeps : (s e : Context) (x : GenericArg) (r : Result (Option GenericArg) Stop) → e ≡ s → IfOk r (λ o. IsOfKind s.trees x o) → Grows s e × IfOk r (λ o. IsOfKind e.trees x o)
+listed-keeps s e x r same q = subst (λ (u : Context). Grows s u × IfOk r (λ o. IsOfKind u.trees x o)) (sym same) (grows-refl s, q)
+
+-- Answers by binders and trees, in contexts that have grown, where each call keeps what they are by.
+module _ {M Rest F : Type 0} (context : M → Context) (others : M → Rest)
+    (g : Mut F (MutBor M × (GenericArg × (ℕ × Unit {0}))) (Result (Option GenericArg) Stop × (MutBor M × Unit {0}))) where
+  reached-grows : (s0 s : F × M) → IsReached context others g s0 s → Grows (context s0.1) (context s.1)
+  reached-grows s0 s here = grows-refl (context s0.1)
+  reached-grows s0 s (by_call {m = m} l k) = grows-trans (context s0.1) (context m.1) (context s.1) (reached-grows s0 m l) k.grows
+  reached-grows s0 s (by_nodes {m = m} l k) = grows-trans (context s0.1) (context m.1) (context s.1) (reached-grows s0 m l) k.grows
+
+  pub grown-function : (a : Tree → Option Tree) (P : F → Type 0) (s0 : F × M) → P s0.0
+      → ((s : F × M) (x : GenericArg) (d : ℕ) (r : Result (Option GenericArg) Stop) (e : F × M) → Says context others g s x d r e → P s.0 → P e.0)
+      → ((s : F × M) (x : GenericArg) (d : ℕ) (r : Result (Option GenericArg) Stop) (e : F × M) → Says context others g s x d r e → IsArg (context s.1).trees x → Grows (context s0.1) (context s.1) → P s.0
+      → IfOk r (λ o. option_map (arg_tree (context e.1).trees) o ≡ a (arg_tree (context s.1).trees x)))
+      → ((t : Tree) → is_asked t.head ≡ false → a t ≡ None) → IsFunction context others g (λ d t. a t) s0
+  grown-function a P s0 p keeps answers only = record {
+    at = λ s d t o e l k.
+        let held = reached-keeps context others g P keeps s0 s l p in
+        let q = answers s k.of d (Ok k.answer) e k.says k.is (reached-grows s0 s l) held in
+        ap a (sym k.tree) ∙ (sym q ∙ k.seen);
+    only = λ d t x. only t x;
+  }
+
+-- Where nothing is listed, a tree is as it stands.
+
+unmarked : (ts : Forest) → holds (λ h. false) ts ≡ false
+unmarked none = refl
+unmarked (tree h below rest) = ap (λ b. b || holds (λ h. false) rest) (unmarked below) ∙ unmarked rest
+
+nothing-listed : (t : Tree) → normalized_tree [] t ≡ t
+nothing-listed t =
+    ap (λ (b : Forest). let u : Tree = record { head = t.head; children = b } in u)
+    (fold-nothing (λ d u. listed [] u) (λ h. false) (λ d u e. refl) (0 + binders_of t.head) t.children (unmarked t.children))
+
+pub empty-listing : (ts : List Tree) (ps : List (Ty × Ty)) (t : Tree) → (length ps == 0) ≡ true → t ≡ normalized_tree (listing_of ts ps) t
+empty-listing ts [] t e = sym (nothing-listed t)
+empty-listing ts (p ∷ ps) t e = let z = eqb-true (suc (length ps)) 0 e in absurd (omega (arith, z))

@@ -1,0 +1,5 @@
+pub mod Undoing
+pub mod Knowing
+pub mod Probing
+pub mod Holding
+pub mod ResolvedValues

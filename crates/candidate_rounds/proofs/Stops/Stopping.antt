@@ -1,0 +1,53 @@
+-- Why calls of an evaluator that works in rounds stop.
+use Rattle.std.proofs.Common.{◌≡◌, ℕ, ◌≤◌, List, reverse, Option, Some, None, Result, Ok, Err, ◌∙◌, ap, subst, arith}
+use Rattle.std.specs.Prelude.{IfErr, IsOk, length}
+use Rattle.candidate_ir.specs.declared.ir.heads.Head.{Head}
+use Rattle.candidate_ir.specs.declared.ir.kinds.RegionKind.{RegionKind}
+use Rattle.candidate_ir.specs.declared.ir.stop.Stop.{Stop}
+use Rattle.candidate_ir.specs.declared.ir.kinds.GenericArg.{GenericArg}
+use Rattle.candidate_ir.specs.declared.ir.kinds.Ty.{Ty}
+use Rattle.candidate_ir.specs.Declarations.Context.{Context, Grows}
+use Rattle.candidate_ir.specs.Instantiation.Folds.{arg_tree}
+use Rattle.candidate_ir.specs.Instantiation.Folding.{IsSubstStop, IsAnswerStop}
+use Rattle.candidate_ir.specs.Syntax.Trees.{Tree, height}
+use Rattle.candidate_ir.specs.Syntax.Words.{IsMkStop, region_kind_tree}
+use Rattle.candidate_ir.proofs.Traversal.FoldStops.{SaidOfAnswer, leaf-stop}
+use Rattle.candidate_rounds.specs.Evaluators.Stopping.{IsTreeStop}
+use Rattle.candidate_eval.specs.Judges.States.{State, resolved_tree}
+use Rattle.candidate_rounds.specs.Evaluators.Known.{AreTypes, Each, listing_of}
+use Rattle.rounds_judge.specs.Aliases.Listed.{normalized_tree}
+use Rattle.rounds_judge.specs.Equations.Scopes.{placed_head}
+use Rattle.candidate_rounds.proofs.Resolution.Listing.{listing-kept}
+
+-- A call that always answers stops nothing.
+pub always-answers : {A : Type 0} (r : Result A Stop) → IsOk r → IfErr r (λ _. ⊥)
+always-answers (Ok a) k = tt
+always-answers (Err s) k = absurd cc
+
+-- Why an answer isn't made, as folds say it.
+pub of-answer : (given : ℕ) (o : Option Tree) (s : Stop) → IsAnswerStop given o s → SaidOfAnswer IsSubstStop given o s
+of-answer given None s k = k
+of-answer given (Some t) s k = k
+
+-- A placeholder for a region, which has no children.
+
+low-region : (k : RegionKind) → height (region_kind_tree k) ≤ 1
+low-region k = omega arith
+
+pub region-unmade : (old new : Context) (k : RegionKind) (o : Option Tree) (s : Stop) → Some (region_kind_tree k) ≡ o → new ≡ old → IsMkStop old.trees (height (region_kind_tree k)) s → IsAnswerStop (length new.trees) o s
+region-unmade old new k o s e same c =
+    subst (λ a. IsAnswerStop (length new.trees) a s) e (leaf-stop old new _ _ s same (low-region k) c)
+
+-- where the binders that were entered are those
+pub placed-stop : (us vs : List ℕ) (given d : ℕ) (h : Head) (s : Stop) → vs ≡ us → IsAnswerStop given (placed_head (reverse vs) d h) s → SaidOfAnswer IsSubstStop given (placed_head (reverse us) d h) s
+placed-stop us vs given d h s e k = of-answer given (placed_head (reverse us) d h) s (subst (λ ws. IsAnswerStop given (placed_head (reverse ws) d h) s) e k)
+
+pub region-stop : {A : Type 0} (old new : Context) (k : RegionKind) (made : Tree) (r : Result A Stop) → IfErr r (λ _. new ≡ old) → IfErr r (λ s. IsMkStop old.trees (height (region_kind_tree k)) s)
+    → IfErr r (λ s. IsTreeStop new.trees made s)
+region-stop old new k made (Ok a) same c = tt
+region-stop old new k made (Err s) same c = leaf-stop old new _ _ s same (low-region k) c
+
+-- What a tree with all values put in is, once listed types stand in the place of their aliases.
+pub normal-is : (a b : Context) (ps : List (Ty × Ty)) (S : State) (x y : GenericArg) → Grows a b → Each (AreTypes a.trees) ps → arg_tree b.trees y ≡ resolved_tree S (arg_tree a.trees x)
+    → normalized_tree (listing_of b.trees ps) (arg_tree b.trees y) ≡ normalized_tree (listing_of a.trees ps) (resolved_tree S (arg_tree a.trees x))
+normal-is a b ps S x y g k e = ap (λ l. normalized_tree l (arg_tree b.trees y)) (listing-kept a b ps g k) ∙ ap (normalized_tree (listing_of a.trees ps)) e

@@ -1,0 +1,15 @@
+pub mod Tabled
+pub mod Opening
+pub mod Naming
+pub mod Giving
+pub mod Asking
+pub mod Writing
+pub mod Rounding
+pub mod Entering
+pub mod Computing
+pub mod Asked
+pub mod Running
+pub mod Starting
+pub mod Keying
+pub mod KeyGoals
+pub mod Finding

@@ -1,0 +1,107 @@
+-- A goal is computed where nothing else is known, and then all that was known is known again.
+use Rattle.std.proofs.Common.{◌≡◌, ◌⊎◌, inr, List, [], Option, Result, Ok, Err, IfOk, IfErr, refl, sym, ◌∙◌, ap, subst}
+use Rattle.candidate_ir.specs.Declarations.Context.{Grows}
+use Rattle.candidate_ir.specs.Syntax.Trees.{Tree}
+use Rattle.candidate_ir.proofs.Growth.Kept.{grows-refl}
+use Rattle.candidate_eval.specs.declared.eval.refusal.NoSolutionOrStop.{NoSolutionOrStop}
+use Rattle.candidate_eval.specs.declared.eval.refusal.NoSolutionOrStop.TheVariants as N
+use Rattle.candidate_eval.specs.declared.eval.response.CanonicalResponse.{CanonicalResponse}
+use Rattle.candidate_eval.specs.Interface.Evaluators.{Keeps}
+use Rattle.candidate_eval.specs.Derivations.ImplRules.{TraitGoal}
+use Rattle.candidate_eval.specs.Calls.Noting.{IsNotingStop}
+use Rattle.candidate_eval.specs.Outcomes.ResponseTrees.{response_of}
+use Rattle.candidate_eval.specs.Judges.States.{State}
+use Rattle.candidate_assembly.specs.Answers.TraitAnswers.{Computes, IsTraitAnswer, TraitAnswer, Answered, Refused, Stopped}
+use Rattle.candidate_rounds.specs.Table.Goals.{Via}
+use Rattle.candidate_rounds.specs.Evaluators.Inferences.{Inference}
+use Rattle.candidate_rounds.specs.Evaluators.Interface.{Fixed, fixed, judge_of}
+use Rattle.candidate_rounds.specs.Evaluators.Known.{Evaluator, IsEvaluator, probes, state, state_of, table_of}
+use Rattle.candidate_rounds.specs.Table.Running.{IsAnswer, IsComputingStop, StaysBesideTable, answered_as, computing, told, with_table}
+use Rattle.candidate_rounds.specs.Calls.Starting.{started}
+use Rattle.candidate_rounds.specs.Evaluators.Stopping.{accounts}
+use Rattle.candidate_rounds.proofs.Evaluators.Between.{of-parts, parts}
+use Rattle.candidate_rounds.proofs.Snapshots.Knowing.{probes-grow, state-stays}
+use Rattle.candidate_rounds.proofs.Snapshots.Probing.{holds-grown}
+use Rattle.candidate_rounds.proofs.Snapshots.ResolvedValues.{resolved-grown}
+use Rattle.candidate_rounds.proofs.Table.Starting.{greatest-below, started-at, started-consistent, started-resolved}
+use Rattle.rounds_judge.specs.Table.Keys.{Key, newest_of, start_of}
+
+-- the evaluator of which that is known, and no probe is open
+abbrev pub set_out : Evaluator → Inference → Evaluator
+set_out r s = record r { inference = s; marks = [] }
+
+-- the evaluator of which that is known again which was of the first
+abbrev pub come_back : Evaluator → Evaluator → Evaluator
+come_back r n = record n { mode = r.mode; inference = r.inference; marks = r.marks }
+
+pub out-holds : (r : Evaluator) (k : Key) (s : Inference) → IsEvaluator r.context.trees r.inference r.marks r.normal r.opaques r.goals → s ≡ started (newest_of k) k.variables
+    → IsEvaluator r.context.trees s [] r.normal r.opaques r.goals
+out-holds r k s h e =
+    let ts = r.context.trees in
+    let u = newest_of k in
+    subst (λ x. IsEvaluator ts x [] r.normal r.opaques r.goals) (sym e) (of-parts (record {
+      consistent = started-consistent ts u k.variables (greatest-below k);
+      resolved = started-resolved ts u k.variables;
+      given = (parts h).given;
+      tabled = (parts h).tabled;
+    }))
+
+pub out-state : (r : Evaluator) (k : Key) (s : Inference) → s ≡ started (newest_of k) k.variables → state (set_out r s) ≡ start_of r.mode k
+out-state r k s e = ap (λ x. state_of r.context.trees r.mode x) e ∙ started-at r.context.trees r.mode (newest_of k) k.variables
+
+pub back-holds : (r n : Evaluator) → IsEvaluator r.context.trees r.inference r.marks r.normal r.opaques r.goals → Grows r.context n.context → IsEvaluator n.context.trees n.inference n.marks n.normal n.opaques n.goals
+    → IsEvaluator n.context.trees r.inference r.marks n.normal n.opaques n.goals
+back-holds r n h g i =
+    let p = parts h in
+    of-parts (record {
+      consistent = holds-grown r.context.trees n.context.trees r.inference r.marks g.kept p.consistent;
+      resolved = resolved-grown r.context.trees n.context.trees r.inference r.marks g.kept p.consistent.known p.resolved;
+      given = (parts i).given;
+      tabled = (parts i).tabled;
+    })
+
+pub back-stays : (r n : Evaluator) (s : Inference) → IsEvaluator r.context.trees r.inference r.marks r.normal r.opaques r.goals → Keeps fixed probes (λ x. x.context) (set_out r s) n → StaysBesideTable r (come_back r n)
+back-stays r n s h k =
+    let known = (parts h).consistent.known in
+    record {
+      grows = k.grows;
+      fixed_same = ap (λ f. with_table f []) k.fixed_same;
+      state_same = state-stays r.context.trees n.context.trees r.mode r.inference k.grows.kept known;
+      probes_same = probes-grow r.context.trees n.context.trees r.mode r.inference r.marks k.grows.kept known;
+    }
+
+pub back-table : (r n : Evaluator) (s : Inference) → Keeps fixed probes (λ x. x.context) (set_out r s) n → table_of (come_back r n) ≡ table_of r
+back-table r n s k = ap (λ (f : Fixed). f.table) k.fixed_same
+
+-- What a goal comes to there.
+
+module _ (r n : Evaluator) (s : Inference) (k : Key) (g : TraitGoal) (e : s ≡ started (newest_of k) k.variables) (q : g ≡ k.goal) where
+  at-start : (a : TraitAnswer) → IsTraitAnswer (judge_of (fixed (set_out r s))) r.context (state (set_out r s)) g (state n) a → IsTraitAnswer (judge_of (with_table (fixed r) (table_of r))) r.context (start_of r.mode k) k.goal (state n) a
+  at-start a h =
+      let p = out-state r k s e in
+      subst (λ (x : State × TraitGoal). IsTraitAnswer (judge_of (with_table (fixed r) (table_of r))) r.context x.0 x.1 (state n) a) (λ i. (p i, q i)) h
+
+  pub answer-is : (a : Result (CanonicalResponse × Option Via) NoSolutionOrStop) → Computes fixed judge_of state probes (λ x. x.context) accounts (set_out r s) n g a
+      → IfOk (answered_as a) (λ x. computing r (table_of r) k (told n.context.trees x))
+  answer-is (Ok p) h = record { context = r.context; grows = grows-refl r.context; left = state n; comes = at-start (Answered (response_of n.context.trees p.0, p.1)) h.ok }
+  answer-is (Err N.NoSolution) h = record { context = r.context; grows = grows-refl r.context; left = state n; comes = at-start Refused (h.refused refl) }
+  answer-is (Err (N.Stop x)) h = tt
+
+  pub answer-fits : (a : Result (CanonicalResponse × Option Via) NoSolutionOrStop) → Computes fixed judge_of state probes (λ x. x.context) accounts (set_out r s) n g a → IfOk (answered_as a) (λ x. IsAnswer n.context.trees x)
+  answer-fits (Ok p) h = h.fits
+  answer-fits (Err N.NoSolution) h = tt
+  answer-fits (Err (N.Stop x)) h = tt
+
+  pub answer-stopped : (ts : List Tree) (a : Result (CanonicalResponse × Option Via) NoSolutionOrStop) → Computes fixed judge_of state probes (λ x. x.context) accounts (set_out r s) n g a
+      → IfErr (answered_as a) (λ x. IsNotingStop ts x ⊎ IsComputingStop r (table_of r) k x)
+  answer-stopped ts (Ok p) h = tt
+  answer-stopped ts (Err N.NoSolution) h = tt
+  answer-stopped ts (Err (N.Stop x)) h = inr (record {
+    first = set_out r s;
+    grows = grows-refl r.context;
+    fixed_same = refl;
+    begins = out-state r k s e;
+    left = state n;
+    comes = λ o. at-start (Stopped x) (h.stopped o);
+    own = h.cause;
+  })

@@ -1,0 +1,46 @@
+-- What a round has is put into the table, one place after another, and goals are entered after it.
+use Rattle.std.proofs.Common.{◌≡◌, ◌<◌, ◌≤◌, ◌+◌, ℕ, zero, suc, List, [], ◌∷◌, ◌++◌, append_assoc, length, map, take, drop, slice_set, slice_index_or, Option, refl, ◌∙◌, ap, arith}
+use Rattle.candidate_rounds.specs.declared.rounds.goals.GoalEntry.{GoalEntry}
+use Rattle.candidate_rounds.specs.declared.rounds.goals.GoalKey.{GoalKey}
+use Rattle.candidate_rounds.specs.declared.rounds.running.Written.{Written}
+use Rattle.candidate_rounds.specs.Table.Running.{all_put_in, new_entry, put_in}
+
+pub nothing-left : {A : Type 0} (xs : List A) → length xs ≡ 0 → xs ≡ []
+nothing-left [] e = refl
+nothing-left (x ∷ xs) e = absurd (omega (arith, e))
+
+-- What is put into so many places, with what is left for the others.
+abbrev pub put_so_far : List GoalEntry → ℕ → List (Option Written) → List GoalEntry
+put_so_far es i ws = take i es ++ all_put_in (drop i es) ws
+
+pub none-put : (es : List GoalEntry) (ws : List (Option Written)) → put_so_far es 0 ws ≡ all_put_in es ws
+none-put es ws = refl
+
+pub one-put : (es : List GoalEntry) (i : ℕ) (w : Option Written) (ws : List (Option Written)) (d e : GoalEntry) → i < length es → e ≡ put_in (slice_index_or es i d) w
+    → put_so_far (slice_set es i e) (i + 1) ws ≡ put_so_far es i (w ∷ ws)
+one-put [] i w ws d e l q = absurd (omega (arith, l))
+one-put (x ∷ es) zero w ws d e l q = ap (λ y. y ∷ all_put_in es ws) q
+one-put (x ∷ es) (suc i) w ws d e l q =
+    let n : suc i + 1 ≡ suc (i + 1) = omega arith in
+    ap (λ j. put_so_far (x ∷ slice_set es i e) j ws) n ∙ ap (λ ys. x ∷ ys) (one-put es i w ws d e (omega (arith, l)) q)
+
+all-none : (es : List GoalEntry) → all_put_in es [] ≡ es
+all-none [] = refl
+all-none (e ∷ es) = refl
+
+pub all-put : (es : List GoalEntry) (i : ℕ) → put_so_far es i [] ≡ es
+all-put [] zero = refl
+all-put [] (suc i) = refl
+all-put (e ∷ es) zero = refl
+all-put (e ∷ es) (suc i) = ap (λ ys. e ∷ ys) (all-put es i)
+
+-- past the end nothing is put
+pub past-end : (es : List GoalEntry) (i : ℕ) (w : Option Written) (ws : List (Option Written)) → length es ≤ i → put_so_far es i (w ∷ ws) ≡ put_so_far es i ws
+past-end [] zero w ws l = refl
+past-end [] (suc i) w ws l = refl
+past-end (e ∷ es) zero w ws l = absurd (omega (arith, l))
+past-end (e ∷ es) (suc i) w ws l = ap (λ ys. e ∷ ys) (past-end es i w ws (omega (arith, l)))
+
+-- goals entered one after another
+pub one-entered : (es : List GoalEntry) (k : GoalKey) (ks : List GoalKey) → (es ++ new_entry k ∷ []) ++ map new_entry ks ≡ es ++ map new_entry (k ∷ ks)
+one-entered es k ks = append_assoc es (new_entry k ∷ []) (map new_entry ks)

@@ -1,0 +1,5 @@
+pub mod Inferences
+pub mod Known
+pub mod Interface
+pub mod Stopping
+pub mod Following

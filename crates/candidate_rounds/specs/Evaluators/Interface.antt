@@ -1,0 +1,64 @@
+-- What an evaluator of rounds is to generic code.
+use Rattle.std.specs.Prelude.{◌≡◌, ℕ, false, List, Option, None, unwrap_or, refl}
+use Rattle.std.proofs.Common.{ap}
+use Rattle.candidate_ir.specs.declared.ir.heads.Head.{Head}
+use Rattle.candidate_ir.specs.declared.ir.heads.Head.TheVariants as H
+use Rattle.candidate_ir.specs.Declarations.Context.{world}
+use Rattle.candidate_ir.specs.Unification.Substitutions.{is_variable}
+use Rattle.candidate_ir.specs.Syntax.Trees.{Tree}
+use Rattle.candidate_ir.specs.Declarations.Worlds.{World}
+use Rattle.candidate_eval.specs.Interface.Evaluators.{alias_trees, resolved_root, root_value}
+use Rattle.candidate_eval.specs.Interface.Knowing.{SeesStates}
+use Rattle.candidate_eval.specs.Judges.States.{Judge, State}
+use Rattle.rounds_judge.specs.Aliases.Listed.{Listing}
+use Rattle.rounds_judge.specs.Table.GoalTable.{GoalTable, well_entered}
+use Rattle.rounds_judge.specs.Table.TableJudge.{table_judge}
+use Rattle.rounds_judge.specs.Aliases.WellListed.{well_listed}
+use Rattle.candidate_rounds.specs.Table.Goals.{Via}
+use Rattle.candidate_rounds.specs.Evaluators.Known.{Evaluator, listing, probes, state, table_of}
+
+-- What stays fixed while goals are computed: what is declared, the crate, what it was given, and the table that the last round left, by trees.
+pub record Fixed : Type 0 where
+  pub world : World
+  pub local_crate : ℕ
+  pub listing : Listing
+  pub opaques : List Tree
+  pub table : GoalTable Via
+
+abbrev pub fixed : Evaluator → Fixed
+fixed r = record { world = world r.context; local_crate = r.context.local.0; listing = listing r; opaques = alias_trees r.context.trees r.opaques; table = table_of r }
+
+-- The laws speak of all that could be given; an evaluator's listed pairs all may be listed, and of the table it reads what may be read.
+abbrev pub judge_of : Fixed → Judge
+judge_of f = table_judge f.world f.local_crate (well_listed f.listing) f.opaques (well_entered f.table)
+
+-- What making nodes leaves as it is.
+pub record Rest : Type 0 where
+  pub fixed : Fixed
+  pub state : State
+  pub probes : List State
+  pub faults : List (List ℕ)
+
+abbrev pub rest : Evaluator → Rest
+rest r = record { fixed = fixed r; state = state r; probes = probes r; faults = r.context.delayed_bugs }
+
+-- Three laws of the interface.
+
+pub rest_parts : (r s : Evaluator) → rest s ≡ rest r → (fixed s ≡ fixed r) × (state s ≡ state r) × (probes s ≡ probes r)
+rest_parts r s e = (ap (λ (x : Rest). x.fixed) e, ap (λ (x : Rest). x.state) e, ap (λ (x : Rest). x.probes) e)
+
+pub root_stays : (S : State) (t : Tree) → is_variable t.head ≡ false → resolved_root S t ≡ t
+root_stays S t e = ap (λ (o : Option Tree). unwrap_or o t) (at t.head e)
+  where
+    at : (h : Head) → is_variable h ≡ false → root_value S h ≡ None
+    at (H.Infer v) e = cc
+    at _ e = refl
+
+pub state_seen : SeesStates state resolved_root fixed state
+state_seen = record {
+  seen_at = λ f S. S;
+  state_of = λ S. S;
+  sees = λ r. refl;
+  shows = λ f S. refl;
+  resolves = λ S t. refl;
+}

@@ -1,0 +1,157 @@
+-- Rounds over the table of an evaluator, by its judge.
+use Rattle.std.specs.Prelude.{◌≡◌, ◌<◌, ◌≤◌, ℕ, zero, suc, true, false, Bool, Option, Some, None, List, [], ◌∷◌, length, slice_get, Result, Ok, Err}
+use Rattle.candidate_ir.specs.declared.ir.stop.Stop.{Stop}
+use Rattle.candidate_ir.specs.declared.ir.stop.Stop.TheVariants.{EvaluatorLimit}
+use Rattle.candidate_ir.specs.Declarations.Context.{Context, Grows}
+use Rattle.candidate_ir.specs.Syntax.Trees.{Tree}
+use Rattle.candidate_eval.specs.declared.eval.refusal.NoSolutionOrStop.{NoSolutionOrStop}
+use Rattle.candidate_eval.specs.declared.eval.refusal.NoSolutionOrStop.TheVariants as N
+use Rattle.candidate_eval.specs.declared.eval.response.CanonicalResponse.{CanonicalResponse}
+use Rattle.candidate_eval.specs.Derivations.ImplRules.{TraitGoal}
+use Rattle.candidate_eval.specs.Interface.Knowing.{own_stop}
+use Rattle.candidate_eval.specs.Calls.Noting.{IsNotingStop}
+use Rattle.candidate_eval.specs.Outcomes.ResponseTrees.{IsResponse, response_of}
+use Rattle.candidate_eval.specs.Judges.States.{State}
+use Rattle.candidate_assembly.specs.Answers.Telling.{StopsOfItself}
+use Rattle.candidate_assembly.specs.Answers.TraitAnswers.{IsTraitAnswer, TraitAnswer, Answered, Refused, Stopped}
+use Rattle.candidate_rounds.specs.declared.rounds.goals.GoalEntry.{GoalEntry}
+use Rattle.candidate_rounds.specs.declared.rounds.goals.GoalKey.{GoalKey}
+use Rattle.candidate_rounds.specs.declared.rounds.running.Written.{Written}
+use Rattle.candidate_rounds.specs.Table.Goals.{IsVerdict, Via, verdict_seen}
+use Rattle.candidate_rounds.specs.Evaluators.Interface.{Fixed, fixed, judge_of}
+use Rattle.candidate_rounds.specs.Evaluators.Known.{Evaluator, probes, state}
+use Rattle.candidate_rounds.specs.Evaluators.Stopping.{IsGoalKeyStop, accounts}
+use Rattle.rounds_judge.specs.Table.GoalTable.{Entry, GoalTable, entered_in, may_be_read, most_goals, verdict_in}
+use Rattle.rounds_judge.specs.Table.Keys.{Key, same_key, start_of}
+use Rattle.rounds_judge.specs.Table.Rounds.{Answering, IsRound}
+use Rattle.rounds_judge.specs.Table.Verdicts.{Answer, Verdict, is_final, verdict_of}
+
+-- An answer by its trees, and as what a goal comes to.
+
+abbrev pub told : List Tree → Option (CanonicalResponse × Option Via) → Answer Via
+told ts None = None
+told ts (Some a) = Some (response_of ts a.0, a.1)
+
+abbrev pub said_by : Answer Via → TraitAnswer
+said_by None = Refused
+said_by (Some a) = Answered a
+
+-- a refusal is an answer, too, and a stop isn't
+abbrev pub answered_as : Result (CanonicalResponse × Option Via) NoSolutionOrStop → Result (Option (CanonicalResponse × Option Via)) Stop
+answered_as (Ok a) = Ok (Some a)
+answered_as (Err N.NoSolution) = Ok None
+answered_as (Err (N.Stop s)) = Err s
+
+abbrev pub IsAnswer : List Tree → Option (CanonicalResponse × Option Via) → Type 0
+IsAnswer ts None = Unit {0}
+IsAnswer ts (Some a) = IsResponse ts a.0
+
+-- what stays fixed, with another table
+abbrev pub with_table : Fixed → GoalTable Via → Fixed
+with_table f T = record f { table = T }
+
+-- What the goal of a key comes to at its start, for an evaluator's judge that reads the table. The context is one to which the evaluator's
+-- grew.
+pub record IsComputed (r : Evaluator) (T : GoalTable Via) (k : Key) (a : Answer Via) : Type 0 where
+  pub context : Context
+  pub grows : Grows r.context context
+  pub left : State
+  pub comes : IsTraitAnswer (judge_of (with_table (fixed r) T)) context (start_of r.mode k) k.goal left (said_by a)
+
+abbrev pub computing : Evaluator → Answering Via
+computing r = IsComputed r
+
+-- Of an evaluator all is as it was but the table: what is known, the open probes, and what is declared and given, by trees.
+pub record StaysBesideTable (old new : Evaluator) : Type 0 where
+  pub grows : Grows old.context new.context
+  pub fixed_same : with_table (fixed new) [] ≡ with_table (fixed old) []
+  pub state_same : state new ≡ state old
+  pub probes_same : probes new ≡ probes old
+
+-- What a round has for a place of the table: nothing where what is there is final, and else the verdict of what the goal comes to.
+
+pub record IsWrittenFor (ts : List Tree) (A : Answering Via) (T : GoalTable Via) (k : Key) (w : Written) : Type 0 where
+  pub answer : Answer Via
+  pub computed : A T k answer
+  pub says : verdict_seen ts w.verdict ≡ verdict_of answer
+  pub sort : IsVerdict ts (Some w.verdict)
+  pub readable : w.is_readable ≡ may_be_read k (Some (verdict_seen ts w.verdict))
+
+abbrev pub IsWrittenAt : List Tree → Answering Via → GoalTable Via → Entry Via → Option Written → Type 0
+IsWrittenAt ts A T e None = is_final e.verdict ≡ true
+IsWrittenAt ts A T e (Some w) = (is_final e.verdict ≡ false) × IsWrittenFor ts A T e.key w
+
+abbrev pub AreWritten : List Tree → Answering Via → GoalTable Via → GoalTable Via → List (Option Written) → Type 0
+AreWritten ts A T [] [] = Unit {0}
+AreWritten ts A T (e ∷ es) (w ∷ ws) = IsWrittenAt ts A T e w × AreWritten ts A T es ws
+AreWritten ts A T _ _ = ⊥
+
+-- The table with what a round has for its places, and goals that come after it.
+
+abbrev pub put_in : GoalEntry → Option Written → GoalEntry
+put_in e None = e
+put_in e (Some w) = record { key = e.key; verdict = Some w.verdict; is_readable = w.is_readable }
+
+abbrev pub all_put_in : List GoalEntry → List (Option Written) → List GoalEntry
+all_put_in [] ws = []
+all_put_in (e ∷ es) [] = e ∷ es
+all_put_in (e ∷ es) (w ∷ ws) = put_in e w ∷ all_put_in es ws
+
+abbrev pub new_entry : GoalKey → GoalEntry
+new_entry k = record { key = k; verdict = None; is_readable = true }
+
+-- whether a round has something for a place
+abbrev pub has_one : Option (Option Written) → Bool
+has_one (Some (Some w)) = true
+has_one _ = false
+
+-- the first goal with that key has that place
+abbrev pub IsPlaceOf : GoalTable Via → Key → ℕ → Type 0
+IsPlaceOf [] k n = ⊥
+IsPlaceOf (e ∷ es) k zero = same_key e.key k ≡ true
+IsPlaceOf (e ∷ es) k (suc n) = (same_key e.key k ≡ false) × IsPlaceOf es k n
+
+-- what is written at a place
+abbrev pub verdict_at : GoalTable Via → ℕ → Option (Verdict Via)
+verdict_at [] n = None
+verdict_at (e ∷ es) zero = e.verdict
+verdict_at (e ∷ es) (suc n) = verdict_at es n
+
+-- So many rounds were done, each while the goal wasn't final.
+pub data AreDone (A : Answering Via) (k : Key) : ℕ → GoalTable Via → GoalTable Via → Type 0 where
+  none_done : {T : GoalTable Via} → AreDone A k zero T T
+  one_done : {n : ℕ} {T U V : GoalTable Via} → is_final (verdict_in T k) ≡ false → IsRound A T U → AreDone A k n U V → AreDone A k (suc n) T V
+
+-- The table of the last whole round, of which there were fewer than that.
+pub record IsDoneBelow (A : Answering Via) (k : Key) (rounds : ℕ) (T U : GoalTable Via) : Type 0 where
+  pub count : ℕ
+  pub fewer : count < rounds
+  pub done : AreDone A k count T U
+
+-- The table that a run leaves where it stops: the first one, or with the goal entered that of the last whole round.
+pub data IsLeftStopped (A : Answering Via) (k : Key) (rounds : ℕ) (T U : GoalTable Via) : Type 0 where
+  not_entered : U ≡ T → IsLeftStopped A k rounds T U
+  after_rounds : IsDoneBelow A k rounds (entered_in T k) U → IsLeftStopped A k rounds T U
+
+-- Why the goal of a key wasn't computed at its start, by a judge that reads the table: it comes to the stop of a rule, or the evaluator
+-- stopped of itself and accounts for it.
+pub record IsComputingStop (r : Evaluator) (T : GoalTable Via) (k : Key) (s : Stop) : Type 0 where
+  pub first : Evaluator
+  pub grows : Grows r.context first.context
+  pub fixed_same : fixed first ≡ with_table (fixed r) T
+  pub begins : state first ≡ start_of r.mode k
+  pub left : State
+  pub comes : own_stop s ≡ false → IsTraitAnswer (judge_of (with_table (fixed r) T)) first.context (start_of r.mode k) k.goal left (Stopped s)
+  pub own : StopsOfItself fixed (λ e. e.context) state accounts first s
+
+-- Why a round of that table stopped: a growth was refused, or a node has more children than can be counted; or the goal of a place wasn't
+-- computed.
+pub data IsRoundStop (ts : List Tree) (r : Evaluator) (T : GoalTable Via) (s : Stop) : Type 0 where
+  round_looking : IsNotingStop ts s → IsRoundStop ts r T s
+  round_computing : (place : ℕ) (e : Entry Via) → slice_get T place ≡ Some e → IsComputingStop r T e.key s → IsRoundStop ts r T s
+
+-- Why a run of a goal stopped, which leaves that table: the goal's key wasn't made; there was no room for it; or a round stopped.
+pub data IsRunStop (ts : List Tree) (r : Evaluator) (g : TraitGoal) (T : GoalTable Via) : Stop → Type 0 where
+  run_key : {s : Stop} → IsGoalKeyStop ts (state r) g s → IsRunStop ts r g T s
+  run_full : most_goals ≤ length T → IsRunStop ts r g T EvaluatorLimit
+  run_round : {s : Stop} → IsRoundStop ts r T s → IsRunStop ts r g T s

@@ -1,0 +1,108 @@
+-- What the parts of an evaluated goal come to.
+use Rattle.std.specs.Prelude.{◌≡◌, ℕ, Bool, ◌||◌, true, false, Option, Some, None, List, [], ◌∷◌, if◌then◌else◌}
+use Rattle.candidate_ir.specs.declared.ir.heads.Head.{Head}
+use Rattle.candidate_ir.specs.declared.ir.heads.Head.TheVariants as H
+use Rattle.candidate_ir.specs.declared.ir.heads.PartHead.TheVariants as P
+use Rattle.candidate_ir.specs.declared.ir.heads.ClauseHead.TheVariants as Cl
+use Rattle.candidate_ir.specs.declared.ir.kinds.AliasKind.TheVariants as A
+use Rattle.candidate_ir.specs.declared.ir.kinds.Clause.{Clause}
+use Rattle.candidate_ir.specs.declared.ir.kinds.ClauseKind.{ClauseKind}
+use Rattle.candidate_ir.specs.declared.ir.kinds.ClauseKind.TheVariants as CK
+use Rattle.candidate_ir.specs.declared.ir.kinds.GenericArg.{GenericArg}
+use Rattle.candidate_ir.specs.declared.ir.kinds.Goal.{Goal}
+use Rattle.candidate_ir.specs.declared.ir.kinds.GoalSource.{GoalSource}
+use Rattle.candidate_ir.specs.declared.ir.kinds.ProjectionPredicate.{ProjectionPredicate}
+use Rattle.candidate_ir.specs.declared.ir.kinds.TyKind.{TyKind}
+use Rattle.candidate_ir.specs.declared.ir.kinds.TyKind.TheVariants as K
+use Rattle.candidate_ir.specs.declared.ir.kinds.VarKind.{VarKind}
+use Rattle.candidate_ir.specs.Declarations.Context.{Context, world}
+use Rattle.candidate_ir.specs.Declarations.References.{Takes}
+use Rattle.candidate_ir.specs.Unification.Substitutions.{alone}
+use Rattle.candidate_ir.specs.Hierarchy.Supers.{after_first}
+use Rattle.candidate_ir.specs.Syntax.Trees.{Forest, Tree, join}
+use Rattle.candidate_ir.specs.Syntax.Words.{IsArgs, IsTy, args_forest, kind_tree, ty_tree}
+use Rattle.candidate_eval.specs.Interface.Evaluators.{pending_of}
+use Rattle.candidate_eval.specs.Derivations.ImplRules.{TraitGoal}
+use Rattle.candidate_eval.specs.Judges.States.{Env, State, Pending, resolved, resolved_tree, next}
+use Rattle.candidate_rounds.specs.declared.rounds.inference.Entry.{Entry}
+use Rattle.candidate_rounds.specs.Table.Goals.{Reads, Via}
+use Rattle.rounds_judge.specs.Equations.Equating.{equated}
+use Rattle.rounds_judge.specs.Aliases.Listed.{Listing, listed}
+use Rattle.rounds_judge.specs.Table.GoalTable.{verdict_in}
+use Rattle.rounds_judge.specs.Table.Keys.{Key, goal_trees, key_at, numbers_at, trait_goal_of}
+use Rattle.rounds_judge.specs.Obligations.Settling.{alias_of, recorded, term_of}
+use Rattle.rounds_judge.specs.Table.TableSettling.{Try, are_bare, given, tried_with}
+use Rattle.rounds_judge.specs.Table.Verdicts.{Verdict, Yes, Refused}
+
+-- the goal that stays, if one does
+abbrev pub left_of : List Tree → Option (GoalSource × Goal Clause) → List Pending
+left_of ts None = []
+left_of ts (Some g) = pending_of ts g.0 g.1 ∷ []
+
+-- An alias of which all values were put in, by the type that is listed for it: that is made equal to the term. The answer says
+-- whether one is listed.
+
+abbrev pub answered_by : Listing → State → Tree → Option Tree → Option (Bool × State)
+answered_by l S t None = Some (false, S)
+answered_by l S t (Some u) = next (equated l S (alone u) (alone t)) (λ T. Some (true, T))
+
+abbrev pub answered : Listing → State → Tree → Tree → Option (Bool × State)
+answered l S a t = answered_by l S t (listed l (resolved_tree S a))
+
+-- the alias of a projection
+abbrev pub projection_of : ProjectionPredicate → TyKind
+projection_of p = K.Alias (record { kind = A.Projection; id = record { 0 = p.projection_term.def_id.0 }; args = p.projection_term.args })
+
+-- A goal of a trait by what the table says of its key: a refusal refuses it, a Yes gives what it says, and nothing stays of the goal.
+
+abbrev pub answered_verdict : Listing → State → Key → List ℕ → Option (Verdict Via) → Option (Bool × State)
+answered_verdict l S k ns (Some Refused) = None
+answered_verdict l S k ns (Some (Yes r w)) = next (given l S k ns r) (λ T. Some (true, T))
+answered_verdict l S k ns _ = Some (false, S)
+
+abbrev pub answered_trait : Reads → State → TraitGoal → Option (Bool × State)
+answered_trait q S g =
+    if are_bare (resolved S (goal_trees g)) then answered_verdict q.listing S (key_at S g) (numbers_at S g) (verdict_in q.table (key_at S g)) else Some (false, S)
+
+-- An instance with these facts, under an environment, by the head of its clause: whether nothing stays of it, and the state then.
+abbrev pub evaluated_as : Reads → State → Env → Tree → Forest → Head → Option (Bool × State)
+evaluated_as q S e c ts (H.Part (P.Clause (Cl.Trait i p))) = answered_trait q S (trait_goal_of e i p ts)
+evaluated_as q S e c ts (H.Part (P.Clause (Cl.Projection i))) = answered q.listing S (alias_of i ts) (term_of ts)
+evaluated_as q S e c ts (H.Part (P.Clause Cl.TypeOutlives)) = Some (true, recorded S c)
+evaluated_as q S e c ts (H.Part (P.Clause Cl.RegionOutlives)) = Some (true, recorded S c)
+evaluated_as q S e c ts _ = Some (false, S)
+
+-- one goal, by what is read
+abbrev pub try_of : Reads → Try
+try_of q = tried_with q.table q.listing
+
+-- What is read of a clause, by what it says: its head, and of a projection its alias and its term.
+
+pub record IsProjection (c : Context) (x : Tree) (p : ProjectionPredicate) : Type 0 where
+  pub arguments : IsArgs c.trees p.projection_term.args
+  pub term : IsTy c.trees p.term
+  pub head : x.head ≡ H.Part (P.Clause (Cl.Projection p.projection_term.def_id))
+  pub facts : after_first x.children ≡ join (args_forest c.trees p.projection_term.args) (alone (ty_tree c.trees p.term))
+  pub takes : Takes (world c) (kind_tree c.trees (projection_of p))
+
+abbrev pub Says : Context → Tree → ClauseKind → Type 0
+Says c x (CK.Trait p) = x.head ≡ H.Part (P.Clause (Cl.Trait p.trait_ref.def_id p.polarity))
+Says c x (CK.Projection p) = IsProjection c x p
+Says c x (CK.TypeOutlives t r) = x.head ≡ H.Part (P.Clause Cl.TypeOutlives)
+Says c x (CK.RegionOutlives s r) = x.head ≡ H.Part (P.Clause Cl.RegionOutlives)
+
+-- the second, where there are variables
+abbrev pub second_if_bound : {A : Type 0} → List VarKind → A → A → A
+second_if_bound [] a b = a
+second_if_bound (k ∷ ks) a b = b
+
+-- whether a variable that had no value has one now
+
+abbrev pub got_one : Option GenericArg → Option GenericArg → Bool
+got_one None (Some v) = true
+got_one _ _ = false
+
+abbrev pub entries_gave : List Entry → List Entry → Bool
+entries_gave [] fs = false
+entries_gave (e ∷ es) [] = false
+entries_gave (e ∷ es) (f ∷ fs) = got_one e.value f.value || entries_gave es fs

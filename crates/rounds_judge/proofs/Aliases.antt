@@ -1,0 +1,4 @@
+pub mod Congruent
+pub mod Equated
+pub mod Faithful
+pub mod WellListed

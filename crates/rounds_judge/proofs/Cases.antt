@@ -1,0 +1,4 @@
+pub mod EquatingCases
+pub mod EquationPremises
+pub mod SettlingCases
+pub mod TableCases

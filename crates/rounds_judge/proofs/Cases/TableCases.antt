@@ -1,0 +1,400 @@
+-- Worked cases of a table of goals, by computation.
+use Rattle.std.proofs.Common.{◌≡◌, ℕ, ◌==◌, Bool, true, false, refl, subst, arith, List, [], ◌∷◌, Option, Some, None, if◌then◌else◌}
+use Rattle.candidate_ir.specs.declared.ir.heads.Head.{Head}
+use Rattle.candidate_ir.specs.declared.ir.heads.Head.TheVariants as H
+use Rattle.candidate_ir.specs.declared.ir.heads.Builtin.TheVariants as B
+use Rattle.candidate_ir.specs.declared.ir.heads.PartHead.TheVariants as P
+use Rattle.candidate_ir.specs.declared.ir.heads.ClauseHead.{ClauseHead}
+use Rattle.candidate_ir.specs.declared.ir.heads.ClauseHead.TheVariants as Cl
+use Rattle.candidate_ir.specs.declared.ir.heads.ConstHead.TheVariants as Co
+use Rattle.candidate_ir.specs.declared.ir.heads.Variable.{Variable}
+use Rattle.candidate_ir.specs.declared.ir.heads.VariableSort.{VariableSort}
+use Rattle.candidate_ir.specs.declared.ir.heads.VariableSort.TheVariants as V
+use Rattle.candidate_ir.specs.declared.ir.kinds.FloatTy.TheVariants as F
+use Rattle.candidate_ir.specs.declared.ir.kinds.AliasKind.TheVariants as A
+use Rattle.candidate_ir.specs.declared.ir.kinds.GoalSource.TheVariants.{Misc}
+use Rattle.candidate_ir.specs.declared.ir.kinds.PredicatePolarity.TheVariants.{Positive}
+use Rattle.candidate_ir.specs.declared.ir.kinds.RegionKind.TheVariants as R
+use Rattle.candidate_ir.specs.declared.ir.kinds.UintTy.TheVariants as U
+use Rattle.candidate_ir.specs.declared.ir.kinds.VarKind.TheVariants as K
+use Rattle.candidate_ir.specs.Syntax.Binders.{escapes}
+use Rattle.candidate_ir.specs.Syntax.Trees as Trees
+use Rattle.candidate_ir.specs.Syntax.Trees.{Forest, none, tree, Tree}
+use Rattle.candidate_ir.specs.Instantiation.Folding.{leaf}
+use Rattle.candidate_ir.specs.Unification.Substitutions.{alone, fits_sort}
+use Rattle.candidate_eval.specs.declared.eval.certainty.Certainty.{Certainty}
+use Rattle.candidate_eval.specs.declared.eval.certainty.Certainty.TheVariants as C
+use Rattle.candidate_eval.specs.declared.eval.mode.TypingMode.TheVariants.{PostAnalysis}
+use Rattle.candidate_eval.specs.declared.eval.variable.CanonicalVar.{CanonicalVar}
+use Rattle.candidate_eval.specs.declared.eval.variable.VariableKind.TheVariants.{Term, Region}
+use Rattle.candidate_eval.specs.Outcomes.Certainties.{AMBIGUOUS}
+use Rattle.candidate_eval.specs.Derivations.ImplRules.{TraitGoal}
+use Rattle.candidate_eval.specs.Judges.Instances.{is_of_universe}
+use Rattle.candidate_eval.specs.Outcomes.Responses.{Response}
+use Rattle.candidate_eval.specs.Judges.Soundness.{universes}
+use Rattle.candidate_eval.specs.Judges.States.{State, VariableInfo, Pending, with_pending, next}
+use Rattle.rounds_judge.specs.Aliases.Congruence.{same}
+use Rattle.rounds_judge.specs.Aliases.Listed.{Listing}
+use Rattle.rounds_judge.specs.Table.Keys.{Key, key_at, start_of}
+use Rattle.rounds_judge.specs.Table.Verdicts.{Verdict, Yes, Maybe, Refused, Answer}
+use Rattle.rounds_judge.specs.Table.GoalTable.{Entry, GoalTable, unanswered}
+use Rattle.rounds_judge.specs.Table.TableSettling.{settled_with, responded_with}
+use Rattle.rounds_judge.specs.Table.TableGranted.{IsGrantedWith}
+use Rattle.rounds_judge.specs.Table.Rounds.{Answering, nothing, stays, computed, IsRound, used_up, enough, round, IsRun}
+use Rattle.rounds_judge.proofs.States.Marks.{whole}
+
+-- Trees and states
+
+abbrev open_in : ℕ → CanonicalVar
+open_in u = record { kind = Term V.General; universe = u }
+
+abbrev root : Option Tree → VariableInfo
+root v = record { kind = Term V.General; universe = 0; value = v; is_root = true }
+
+abbrev other : Option Tree → VariableInfo
+other v = record { kind = Term V.General; universe = 0; value = v; is_root = false }
+
+abbrev start : List VariableInfo → List Pending → State
+start is ps = record { newest_universe = 0; variables = is; regions = []; pending = ps; mode = PostAnalysis }
+
+abbrev var : ℕ → Tree
+var n = leaf (H.Infer (record { sort = V.General; number = n }))
+
+abbrev u8 : Tree
+u8 = leaf (H.Builtin (B.Uint U.U8))
+
+abbrev u16 : Tree
+u16 = leaf (H.Builtin (B.Uint U.U16))
+
+abbrev placed : ℕ → Tree
+placed u = leaf (H.Placeholder (record { universe = u; index = 0 }))
+
+abbrev over : Head → List Tree → Tree
+over h ts = record { head = h; children = go ts }
+  where
+    go : List Tree → Forest
+    go [] = none
+    go (t ∷ ts) = tree t.head t.children (go ts)
+
+abbrev row : List Tree → Forest
+row ts = (over H.Error ts).children
+
+abbrev pair : Tree → Tree → Tree
+pair t u = over (H.Builtin B.Tuple) (t ∷ u ∷ [])
+
+abbrev clause : ClauseHead → List Tree → List Tree → Tree
+clause h vars ts = over (H.Part (P.Clause h)) (over (H.Part P.Vars) vars ∷ ts)
+
+abbrev wanted : Tree → Pending
+wanted c = record { source = Misc; goal = record { env = none; clause = c } }
+
+abbrev holds : ℕ → List Tree → Pending
+holds n ts = wanted (clause (Cl.Trait (record { 0 = n }) Positive) [] ts)
+
+abbrev projects : Tree → Tree → Pending
+projects t u = wanted (clause (Cl.Projection (record { 0 = 0 })) [] (t ∷ u ∷ []))
+
+abbrev listing : Listing
+listing = (over (H.Alias A.Projection (record { 0 = 0 })) (u8 ∷ []), u16) ∷ []
+
+-- Keys, responses, entries
+
+abbrev Way : Type 0
+Way = Unit {0}
+
+abbrev key : ℕ → List Tree → List CanonicalVar → Key
+key n ts vs = record { goal = record { env = none; reference = record { trait = n; arguments = row ts }; polarity = Positive }; variables = vs }
+
+abbrev says : List CanonicalVar → List Tree → Certainty → Response
+says vs ts c = record { vars = vs; values = row ts; regions = []; certainty = c }
+
+abbrev entry : Key → Verdict Way → Entry Way
+entry k v = record { key = k; verdict = Some v }
+
+abbrev yes : List CanonicalVar → List Tree → Verdict Way
+yes vs ts = Yes (says vs ts C.Yes) None
+
+abbrev maybe : List CanonicalVar → List Tree → Verdict Way
+maybe vs ts = Maybe (says vs ts AMBIGUOUS) None
+
+-- The key of a goal at a state: values are put in, and variables and what they are go by first occurrence.
+
+key_of_goal : key_at (record (start (root (Some u8) ∷ root None ∷ record (other None) { universe = 2 } ∷ []) []) { newest_universe = 2 })
+    (record { env = none; reference = record { trait = 0; arguments = row (var 2 ∷ var 0 ∷ var 1 ∷ var 2 ∷ []) }; polarity = Positive })
+    ≡ key 0 (var 0 ∷ u8 ∷ var 1 ∷ var 0 ∷ []) (open_in 2 ∷ open_in 0 ∷ [])
+key_of_goal = refl
+
+-- its newest universe is the greatest of its variables and placeholders
+start_of_key : start_of PostAnalysis (key 0 (var 0 ∷ placed 3 ∷ []) (open_in 2 ∷ []))
+    ≡ record (start (record (root None) { universe = 2 } ∷ []) []) { newest_universe = 3 }
+start_of_key = refl
+
+-- Rounds over small declarations: trait 0 holds of all types; trait n holds where trait n - 1 does; traits 3 and 4 ask each other; trait 5
+-- holds of the type for which an alias is listed.
+
+abbrev nested : ℕ → List Tree → List Pending
+nested n ts =
+    if n == 0 then [] else (if n == 1 then holds 0 ts ∷ [] else (if n == 2 then holds 1 ts ∷ [] else (if n == 3 then holds 4 ts ∷ [] else holds 3 ts ∷ [])))
+
+abbrev first_of : Forest → List Tree
+first_of none = []
+first_of (tree h below rest) = record { head = h; children = below } ∷ []
+
+abbrev asks : TraitGoal → List Pending
+asks g =
+    let ts = first_of g.reference.arguments in
+    if g.reference.trait == 5 then alias_of ts else nested g.reference.trait ts
+  where
+    alias_of : List Tree → List Pending
+    alias_of [] = []
+    alias_of (t ∷ ts) = projects u8 t ∷ []
+
+abbrev with_no_way : Option Response → Answer Way
+with_no_way o = next o (λ r. Some (r, None))
+
+abbrev small : Answering Way
+small T k a = with_no_way (responded_with T listing (with_pending (start_of PostAnalysis k) (asks k.goal)) C.Yes) ≡ a
+
+abbrev of_u8 : ℕ → Key
+of_u8 n = key n (u8 ∷ []) []
+
+abbrev sure : ℕ → Entry Way
+sure n = entry (of_u8 n) (yes [] [])
+
+abbrev unsure : ℕ → Entry Way
+unsure n = entry (of_u8 n) (maybe [] [])
+
+abbrev left : Certainty → Answer Way
+left c = Some (says [] [] c, None)
+
+-- Goals that are final in the first, the second and the third round.
+
+abbrev three : GoalTable Way
+three = unanswered (of_u8 0) ∷ unanswered (of_u8 1) ∷ unanswered (of_u8 2) ∷ []
+
+first_round : IsRound small three (sure 0 ∷ unsure 1 ∷ unsure 2 ∷ [])
+first_round = record {
+  written = sure 0 ∷ unsure 1 ∷ unsure 2 ∷ [];
+  writes = computed (unanswered (of_u8 0)) (left C.Yes) refl refl (computed (unanswered (of_u8 1)) (left AMBIGUOUS) refl refl (computed (unanswered (of_u8 2)) (left AMBIGUOUS) refl refl nothing));
+  asked = [];
+  are_new = tt;
+  is = refl;
+}
+
+second_round : IsRound small (sure 0 ∷ unsure 1 ∷ unsure 2 ∷ []) (sure 0 ∷ sure 1 ∷ unsure 2 ∷ [])
+second_round = record {
+  written = sure 0 ∷ sure 1 ∷ unsure 2 ∷ [];
+  writes = stays (sure 0) refl (computed (unsure 1) (left C.Yes) refl refl (computed (unsure 2) (left AMBIGUOUS) refl refl nothing));
+  asked = [];
+  are_new = tt;
+  is = refl;
+}
+
+third_round : IsRound small (sure 0 ∷ sure 1 ∷ unsure 2 ∷ []) (sure 0 ∷ sure 1 ∷ sure 2 ∷ [])
+third_round = record {
+  written = sure 0 ∷ sure 1 ∷ sure 2 ∷ [];
+  writes = stays (sure 0) refl (stays (sure 1) refl (computed (unsure 2) (left C.Yes) refl refl nothing));
+  asked = [];
+  are_new = tt;
+  is = refl;
+}
+
+-- a run ends when its goal is final, be there rounds left or not
+three_rounds : IsRun small (of_u8 2) 5 three (sure 0 ∷ sure 1 ∷ sure 2 ∷ [])
+three_rounds = round refl first_round (round refl second_round (round refl third_round (enough 2 refl)))
+
+one_round : IsRun small (of_u8 0) 5 three (sure 0 ∷ unsure 1 ∷ unsure 2 ∷ [])
+one_round = round refl first_round (enough 4 refl)
+
+-- A goal first asked in the last round of a run has no verdict then; the next run takes it up.
+
+asking : IsRound small (unanswered (of_u8 1) ∷ []) (unsure 1 ∷ unanswered (of_u8 0) ∷ [])
+asking = record { written = unsure 1 ∷ []; writes = computed (unanswered (of_u8 1)) (left AMBIGUOUS) refl refl nothing; asked = of_u8 0 ∷ []; are_new = (refl, tt); is = refl }
+
+first_run : IsRun small (of_u8 1) 1 [] (unsure 1 ∷ unanswered (of_u8 0) ∷ [])
+first_run = round refl asking (used_up refl)
+
+taking_up : IsRound small (unsure 1 ∷ unanswered (of_u8 0) ∷ []) (unsure 1 ∷ sure 0 ∷ [])
+taking_up = record {
+  written = unsure 1 ∷ sure 0 ∷ [];
+  writes = computed (unsure 1) (left AMBIGUOUS) refl refl (computed (unanswered (of_u8 0)) (left C.Yes) refl refl nothing);
+  asked = [];
+  are_new = tt;
+  is = refl;
+}
+
+reading : IsRound small (unsure 1 ∷ sure 0 ∷ []) (sure 1 ∷ sure 0 ∷ [])
+reading = record {
+  written = sure 1 ∷ sure 0 ∷ [];
+  writes = computed (unsure 1) (left C.Yes) refl refl (stays (sure 0) refl nothing);
+  asked = [];
+  are_new = tt;
+  is = refl;
+}
+
+next_run : IsRun small (of_u8 1) 2 (unsure 1 ∷ unanswered (of_u8 0) ∷ []) (sure 1 ∷ sure 0 ∷ [])
+next_run = round refl taking_up (round refl reading (enough 0 refl))
+
+-- Two goals that ask each other stay open: no round changes the table.
+
+each_other : IsRound small (unanswered (of_u8 3) ∷ unanswered (of_u8 4) ∷ []) (unsure 3 ∷ unsure 4 ∷ [])
+each_other = record {
+  written = unsure 3 ∷ unsure 4 ∷ [];
+  writes = computed (unanswered (of_u8 3)) (left AMBIGUOUS) refl refl (computed (unanswered (of_u8 4)) (left AMBIGUOUS) refl refl nothing);
+  asked = [];
+  are_new = tt;
+  is = refl;
+}
+
+still : IsRound small (unsure 3 ∷ unsure 4 ∷ []) (unsure 3 ∷ unsure 4 ∷ [])
+still = record {
+  written = unsure 3 ∷ unsure 4 ∷ [];
+  writes = computed (unsure 3) (left AMBIGUOUS) refl refl (computed (unsure 4) (left AMBIGUOUS) refl refl nothing);
+  asked = [];
+  are_new = tt;
+  is = refl;
+}
+
+-- A refusal is final, and so is a value.
+
+abbrev five : List Tree → List CanonicalVar → Key
+five ts vs = key 5 ts vs
+
+refuses_and_gives : IsRound small (unanswered (of_u8 5) ∷ unanswered (five (var 0 ∷ []) (open_in 0 ∷ [])) ∷ [])
+    (entry (of_u8 5) Refused ∷ entry (five (var 0 ∷ []) (open_in 0 ∷ [])) (yes [] (u16 ∷ [])) ∷ [])
+refuses_and_gives = record {
+  written = entry (of_u8 5) Refused ∷ entry (five (var 0 ∷ []) (open_in 0 ∷ [])) (yes [] (u16 ∷ [])) ∷ [];
+  writes = computed (unanswered (of_u8 5)) None refl refl (computed (unanswered (five (var 0 ∷ []) (open_in 0 ∷ []))) (Some (says [] (u16 ∷ []) C.Yes, None)) refl refl nothing);
+  asked = [];
+  are_new = tt;
+  is = refl;
+}
+
+-- Pending goals with a table.
+
+abbrev table : GoalTable Way
+table =
+    entry (key 0 (u16 ∷ []) []) (yes [] [])
+    ∷ entry (of_u8 5) Refused
+    ∷ entry (five (var 0 ∷ []) (open_in 0 ∷ [])) (yes [] (u16 ∷ []))
+    ∷ unsure 1
+    ∷ entry (key 6 (var 0 ∷ []) (open_in 0 ∷ [])) (yes (open_in 0 ∷ []) (pair (var 0) u8 ∷ []))
+    ∷ entry (key 7 (var 0 ∷ var 1 ∷ []) (open_in 0 ∷ open_in 0 ∷ [])) (yes (open_in 0 ∷ []) (var 0 ∷ var 0 ∷ []))
+    ∷ entry (key 8 (var 0 ∷ []) (open_in 1 ∷ [])) (yes (open_in 0 ∷ []) (var 0 ∷ []))
+    ∷ entry (key 9 (placed 1 ∷ []) []) (yes [] [])
+    ∷ []
+
+-- a value that a Yes gives lets a goal before it be done in the next pass
+value_given : settled_with table listing (start (root (Some u8) ∷ root None ∷ []) (holds 0 (var 1 ∷ []) ∷ holds 5 (var 1 ∷ []) ∷ []))
+    ≡ Some (C.Yes, start (root (Some u8) ∷ root (Some u16) ∷ []) [])
+value_given = refl
+
+-- or be refused
+value_refuses : settled_with table listing (start (root None ∷ []) (holds 5 (u8 ∷ []) ∷ holds 5 (var 0 ∷ []) ∷ [])) ≡ None
+value_refuses = refl
+
+-- what isn't there, and what may be, stays
+stays_open : settled_with table listing (start [] (holds 0 (u8 ∷ []) ∷ holds 1 (u8 ∷ []) ∷ [])) ≡ Some (AMBIGUOUS, start [] (holds 0 (u8 ∷ []) ∷ holds 1 (u8 ∷ []) ∷ []))
+stays_open = refl
+
+-- a variable that stands in a value is made anew
+value_with_variable : settled_with table listing (start (root None ∷ []) (holds 6 (var 0 ∷ []) ∷ []))
+    ≡ Some (C.Yes, start (root (Some (pair (var 1) u8)) ∷ other None ∷ []) [])
+value_with_variable = refl
+
+-- two variables become one, and none is made
+become_one : settled_with table listing (start (root None ∷ root None ∷ []) (holds 7 (var 1 ∷ var 0 ∷ []) ∷ []))
+    ≡ Some (C.Yes, start (root (Some (var 1)) ∷ root None ∷ []) [])
+become_one = refl
+
+-- one whose universe has fallen gets a variable of the lower universe
+lower_universe : settled_with table listing (record (start (record (root None) { universe = 1 } ∷ []) (holds 8 (var 0 ∷ []) ∷ [])) { newest_universe = 1 })
+    ≡ Some (C.Yes, record (start (record (root (Some (var 1))) { universe = 1 } ∷ other None ∷ []) []) { newest_universe = 1 })
+lower_universe = refl
+
+-- a goal under a binder goes by its instance
+under_binder : settled_with table listing (start [] (wanted (clause (Cl.Trait (record { 0 = 9 }) Positive) (leaf (H.Part (P.Var K.Ty)) ∷ []) (leaf (H.Bound (record { depth = 0; index = 0 })) ∷ [])) ∷ []))
+    ≡ Some (C.Yes, record (start [] []) { newest_universe = 1 })
+under_binder = refl
+
+-- Constraints of a Yes are recorded, of the goal's own regions; a variable that stands in constraints alone is made anew.
+
+abbrev region : ℕ → Tree
+region n = leaf (H.Region (R.Var n))
+
+abbrev region_info : VariableInfo
+region_info = record { kind = Region; universe = 0; value = None; is_root = false }
+
+abbrev outlives : ℕ → ℕ → Tree
+outlives m n = clause Cl.RegionOutlives [] (region m ∷ region n ∷ [])
+
+abbrev open_region : CanonicalVar
+open_region = record { kind = Region; universe = 0 }
+
+abbrev constrained : GoalTable Way
+constrained =
+    entry (key 0 (region 0 ∷ []) (open_region ∷ []))
+    (Yes (record (says (open_region ∷ open_region ∷ []) (region 0 ∷ []) C.Yes) { regions = outlives 0 1 ∷ [] }) None)
+    ∷ []
+
+constraints_given : settled_with constrained [] (start (root None ∷ region_info ∷ []) (holds 0 (region 1 ∷ []) ∷ []))
+    ≡ Some (C.Yes, record (start (root None ∷ region_info ∷ region_info ∷ []) []) { regions = outlives 1 2 ∷ [] })
+constraints_given = refl
+
+-- An instance of a Yes is granted: of one that leaves its variable open, with a type in its place. Another variable than that is given some
+-- tree of its sort.
+
+abbrev stand_in : VariableSort → Tree
+stand_in V.Floating = leaf (H.Builtin (B.Float F.F32))
+stand_in V.Constant = leaf (H.Const Co.Error)
+stand_in _ = u8
+
+abbrev instance_of : Variable → Tree
+instance_of v = stand_in v.sort
+
+fits_in : (s : VariableSort) → fits_sort s (stand_in s).head ≡ true
+fits_in V.General = refl
+fits_in V.Integer = refl
+fits_in V.Floating = refl
+fits_in V.Constant = refl
+
+closed_in : (s : VariableSort) → escapes 0 (alone (stand_in s)) ≡ false
+closed_in V.Floating = refl
+closed_in V.Constant = refl
+closed_in _ = refl
+
+marked_in : (mark : Head → Bool) → mark (H.Builtin (B.Uint U.U8)) ≡ false → mark (H.Builtin (B.Float F.F32)) ≡ false → mark (H.Const Co.Error) ≡ false
+    → (s : VariableSort) → Trees.holds mark (alone (stand_in s)) ≡ false
+marked_in mark a b c V.Floating = whole mark (H.Builtin (B.Float F.F32)) none none b refl refl
+marked_in mark a b c V.Constant = whole mark (H.Const Co.Error) none none c refl refl
+marked_in mark a b c _ = whole mark (H.Builtin (B.Uint U.U8)) none none a refl refl
+
+of_sort : (P : Tree → Type 0) (v : Variable) (t : Tree) → Some (instance_of v) ≡ Some t → P (instance_of v) → P t
+of_sort P v t e x = subst P (let is : instance_of v ≡ t = cc in is) x
+
+abbrev open_yes : GoalTable Way
+open_yes = entry (key 0 (var 0 ∷ []) (open_in 0 ∷ [])) (yes (open_in 0 ∷ []) (var 0 ∷ [])) ∷ []
+
+instance_granted : (S : State) → IsGrantedWith open_yes [] S (holds 0 (u8 ∷ [])).goal
+instance_granted S = record {
+  universe = 0;
+  is_fresh = tt;
+  facts = record {
+    entry = entry (key 0 (var 0 ∷ []) (open_in 0 ∷ [])) (yes (open_in 0 ∷ []) (var 0 ∷ []));
+    entered = (0, omega arith, refl);
+    response = says (open_in 0 ∷ []) (var 0 ∷ []) C.Yes;
+    way = None;
+    is_yes = refl;
+    values = instance_of;
+    allowed = record {
+      fits = λ v t e. of_sort (λ t. fits_sort v.sort t.head ≡ true) v t e (fits_in v.sort);
+      is_closed = λ v t e. of_sort (λ t. escapes 0 (alone t) ≡ false) v t e (closed_in v.sort);
+      in_universe = λ v t n e h. of_sort (λ t. Trees.holds (is_of_universe (universes S) n) (alone t) ≡ false) v t e (marked_in (is_of_universe (universes S) n) refl refl refl v.sort);
+      stays = λ v e. absurd (let clash : Some (instance_of v) ≡ None = e in cc);
+    };
+    same_trait = refl;
+    same_polarity = refl;
+    env = same none;
+    arguments = same (alone u8);
+  };
+}

@@ -1,0 +1,10 @@
+pub mod Meeting
+pub mod Sides
+pub mod Offered
+pub mod Current
+pub mod Looks
+pub mod Staying
+pub mod Sizes
+pub mod Ends
+pub mod Ending
+pub mod Stepping

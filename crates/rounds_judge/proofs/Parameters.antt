@@ -1,0 +1,4 @@
+pub mod Parameterless
+pub mod ParameterlessGoals
+pub mod ParameterlessResponses
+pub mod TableParameterless

@@ -1,0 +1,11 @@
+pub mod RoundLaws
+pub mod TableGranting
+pub mod TableFresh
+pub mod TableKeys
+pub mod TableGiving
+pub mod TableSettled
+pub mod TableVariables
+pub mod TableAnswers
+pub mod TableYes
+pub mod TableDropped
+pub mod TableResponding

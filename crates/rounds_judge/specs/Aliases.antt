@@ -1,0 +1,4 @@
+pub mod Listed
+pub mod Normalizing
+pub mod Congruence
+pub mod WellListed

@@ -1,0 +1,30 @@
+-- Aliases that are listed with the types that they are normalised to.
+use Rattle.std.specs.Prelude.{Option, Some, None, List, [], ◌∷◌, if◌then◌else◌}
+use Rattle.std.specs.Option.{unwrap_or}
+use Rattle.candidate_ir.specs.Syntax.Trees.{Tree, is_alias}
+use Rattle.candidate_ir.specs.Instantiation.Folding.{fold_tree}
+use Rattle.candidate_ir.specs.Hierarchy.Elaboration.{same_tree}
+use Rattle.candidate_eval.specs.Judges.States.{State, resolved_tree}
+use Rattle.candidate_eval.specs.Interface.Evaluators.{resolved_root}
+
+-- Pairs of an alias and its type, in their order.
+abbrev pub Listing : Type 0
+Listing = List (Tree × Tree)
+
+-- the type of the first pair that lists the tree
+abbrev pub listed : Listing → Tree → Option Tree
+listed [] t = None
+listed (p ∷ ps) t = if same_tree p.0 t then Some p.1 else listed ps t
+
+-- The tree with each listed alias replaced by its type, from the top.
+abbrev pub normalized_tree : Listing → Tree → Tree
+normalized_tree l t = fold_tree (λ d u. listed l u) 0 t
+
+-- What the tree is at a state, so far as its root says: a variable is its value, and a listed alias is its type. Whether an
+-- alias is listed is asked of the alias with all values put in.
+
+abbrev pub listed_at : Listing → State → Tree → Tree
+listed_at l S t = if is_alias t.head then unwrap_or (listed l (resolved_tree S t)) t else t
+
+abbrev pub current : Listing → State → Tree → Tree
+current l S t = listed_at l S (resolved_root S t)

@@ -1,0 +1,4 @@
+pub mod Scopes
+pub mod Binding
+pub mod Equating
+pub mod Standing

@@ -1,0 +1,7 @@
+pub mod Keys
+pub mod Verdicts
+pub mod GoalTable
+pub mod TableSettling
+pub mod TableGranted
+pub mod TableJudge
+pub mod Rounds
